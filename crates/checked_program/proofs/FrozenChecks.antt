@@ -17,7 +17,7 @@ use Rattle.jvm_types.specs.declared.program.Program.{Program}
 use Rattle.checked_program.specs.LockTags.{TagShape, is_this, entry_tags}
 use Rattle.checked_program.specs.Tagging.{tags_after, catchers, tags_at_handler}
 use Rattle.checked_program.specs.TaggedCode.{Tagged, IsAt, Goes, onward, caught, row_of}
-use Rattle.checked_program.specs.FrozenPlaces.{may_take, KeepThis, KeepsThis, is_final_of, PutsOnThis, KeepsInside, IsFrozenClass, locks_this, PutsGuarded}
+use Rattle.checked_program.specs.FrozenPlaces.{may_take, KeepThis, KeepsThis, is_final_of, PutsOnThis, KeepsInside, IsFrozenClass, locks_this, PutsGuarded, writes_class, PutsStatic}
 use Rattle.checked_program.specs.declared.tag.Tag.{Tag}
 use Rattle.checked_program.specs.declared.tag.Tag.TheVariants.{Untagged, This, At}
 use Rattle.checked_program.proofs.EachReached.{Test, all_in, in_method}
@@ -114,6 +114,14 @@ guarded_is_put fi m (ops.Putfield i) (targets.Field other) f e = λ h.
     (that_is_this _ w.0, w.1)
 guarded_is_put fi m op target f e = tt
 
+abbrev pub puts_static : (fi class : ℕ) → MethodInfo → Op → Target → Bool
+puts_static fi class m (ops.Putstatic i) (targets.Field other) = not (other == fi) || writes_class class m
+puts_static fi class m op target = true
+
+pub static_is_put : (fi class : ℕ) (m : MethodInfo) (op : Op) (target : Target) → puts_static fi class m op target ≡ true → PutsStatic fi class m op target
+static_is_put fi class m (ops.Putstatic i) (targets.Field other) e = λ h. implied (other == fi) (writes_class class m) e (eq-eqb other fi h)
+static_is_put fi class m op target e = tt
+
 -- ---- each method of a program
 
 abbrev pub all_methods : (ℕ → MethodInfo → Bool) → ℕ → List MethodInfo → Bool
@@ -181,3 +189,11 @@ all_guarded fi p tags = all_methods (λ mi m. all_in (λ n insn target f. puts_g
 pub is_written_guarded : (fi : ℕ) (p : Program) (tags : Tagged) → all_guarded fi p tags ≡ true → (mi i : ℕ) (m : MethodInfo) (insn : Insn) (target : Target) (f : TagShape) → IsAt p tags mi i m insn target f → PutsGuarded fi m insn.op target f
 is_written_guarded fi p tags e mi i m insn target f at = guarded_is_put fi m insn.op target f
     (in_method (λ n insn target f. puts_guarded fi n insn.op target f) p tags mi (of_program (λ mi m. all_in (λ n insn target f. puts_guarded fi n insn.op target f) p tags mi) p.methods mi m e at.in_program) i m insn target f at)
+
+-- a static field is written as a guarded one of a class
+abbrev pub all_static : (fi class : ℕ) → Program → Tagged → Bool
+all_static fi class p tags = all_methods (λ mi m. all_in (λ n insn target f. puts_static fi class n insn.op target) p tags mi) 0 p.methods
+
+pub is_written_static : (fi class : ℕ) (p : Program) (tags : Tagged) → all_static fi class p tags ≡ true → (mi i : ℕ) (m : MethodInfo) (insn : Insn) (target : Target) (f : TagShape) → IsAt p tags mi i m insn target f → PutsStatic fi class m insn.op target
+is_written_static fi class p tags e mi i m insn target f at = static_is_put fi class m insn.op target
+    (in_method (λ n insn target f. puts_static fi class n insn.op target) p tags mi (of_program (λ mi m. all_in (λ n insn target f. puts_static fi class n insn.op target) p tags mi) p.methods mi m e at.in_program) i m insn target f at)

@@ -9,11 +9,13 @@ pub mod FrozenChecks
 mod MarkChecks
 mod UseTries
 mod MarkTries
+mod ClassTries
 pub mod CheckedPlaces
 mod OwnTries
 mod ReachTries
 pub mod EdgesAdded
 pub mod CalledMethods
+pub mod NamedFields
 mod MethodEdges
 mod ReachedMethods
 pub mod SumsOfSome

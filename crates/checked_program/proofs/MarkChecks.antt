@@ -4,10 +4,9 @@ use Rattle.std.proofs.lemmas.Bool.Decides.{nat_tests}
 use Rattle.std.specs.Prelude.{◌==◌, ◌&&◌, ◌||◌, nat_le, nat_lt, if◌then◌else◌}
 use Rattle.jvm_types.specs.declared.program.Program.{Program}
 use Rattle.checked_program.specs.TaggedCode.{Tagged}
-use Rattle.checked_program.specs.Sections.{Section}
-use Rattle.checked_program.specs.Marks.{Callee, callee, called_method, receiver_tag, is_own_object, mode_if, Calls, CallsThrough, IsCalledBy, section_fault, BreaksAt, CalleeBreaks, CalleeRecurs, Applies, elsewhere, itself, called, recurring, IsOnThis, turn}
+use Rattle.checked_program.specs.Sections.{Section, section_mode}
+use Rattle.checked_program.specs.Marks.{Callee, callee, called_method, receiver_tag, called_mode, Calls, CallsThrough, IsCalledBy, section_fault, BreaksAt, CalleeBreaks, CalleeRecurs, Applies, elsewhere, itself, called, recurring, IsOnOwn, turn}
 use Rattle.checked_program.specs.declared.section.Mode.{Mode}
-use Rattle.checked_program.specs.declared.section.Mode.TheVariants.{OnThis}
 use Rattle.checked_program.specs.declared.section.FieldUse.{FieldUse}
 use Rattle.checked_program.proofs.EachReached.{Test, all_in, in_method}
 
@@ -33,10 +32,10 @@ pub beyond_seven : (n k : ℕ) → k ≡ 7 → turn k < n → 7 < n
 beyond_seven n k e lt = subst (λ (j : ℕ). turn j < n) e lt
 
 -- no rule before n applies, if through calls none of M1 to M5 is broken where n is 7
-pub first_is : (p : Program) (tags : Tagged) (uses : List FieldUse) (s : Section) (n : ℕ) → n ≤ 7 → IsOnThis p tags s.method s.spot → all_in (breaks_from n p uses OnThis) p tags s.method ≡ true
+pub first_is : (p : Program) (tags : Tagged) (uses : List FieldUse) (s : Section) (n : ℕ) → n ≤ 7 → IsOnOwn p tags s.method s.spot → all_in (breaks_from n p uses (section_mode p s)) p tags s.method ≡ true
     → (6 < n → CalleeBreaks p tags uses s → ⊥) → (k : ℕ) → turn k < n → Applies p tags uses s k → ⊥
 first_is p tags uses s n few on all through k lt (elsewhere e off) = off on
-first_is p tags uses s n few on all through k lt (itself b) = not_earlier n k _ (in_method (breaks_from n p uses OnThis) p tags s.method all b.i b.breaks.m b.breaks.insn b.breaks.target b.breaks.f b.breaks.at) b.breaks.fault_is b.breaks.some lt
+first_is p tags uses s n few on all through k lt (itself b) = not_earlier n k _ (in_method (breaks_from n p uses (section_mode p s)) p tags s.method all b.i b.breaks.m b.breaks.insn b.breaks.target b.breaks.f b.breaks.at) b.breaks.fault_is b.breaks.some lt
 first_is p tags uses s n few on all through k lt (called e c) = through (beyond_six n k e lt) c
 first_is p tags uses s n few on all through k lt (recurring e c) = let h : 7 < n = beyond_seven n k e lt in grind arith
 
@@ -51,10 +50,10 @@ breaks_none n t k h some = grind (arith, nat_tests)
 pub none_broken : (p : Program) (tags : Tagged) (uses : List FieldUse) (a : Callee) (i n : ℕ) → all_in (breaks_from 8 p uses a.mode) p tags a.method ≡ true → BreaksAt p tags uses a i n → ⊥
 none_broken p tags uses a i n all b = breaks_none _ (in_method (breaks_from 8 p uses a.mode) p tags a.method all i b.m b.insn b.target b.f b.at) n b.fault_is b.some
 
-pub none_applies : (p : Program) (tags : Tagged) (uses : List FieldUse) (s : Section) → IsOnThis p tags s.method s.spot → all_in (breaks_from 8 p uses OnThis) p tags s.method ≡ true
+pub none_applies : (p : Program) (tags : Tagged) (uses : List FieldUse) (s : Section) → IsOnOwn p tags s.method s.spot → all_in (breaks_from 8 p uses (section_mode p s)) p tags s.method ≡ true
     → (CalleeBreaks p tags uses s → ⊥) → (CalleeRecurs p tags s → ⊥) → (k : ℕ) → Applies p tags uses s k → ⊥
 none_applies p tags uses s on all through back k (elsewhere e off) = off on
-none_applies p tags uses s on all through back k (itself b) = none_broken p tags uses (callee s.method OnThis) b.i k all b.breaks
+none_applies p tags uses s on all through back k (itself b) = none_broken p tags uses (callee s.method (section_mode p s)) b.i k all b.breaks
 none_applies p tags uses s on all through back k (called e c) = through c
 none_applies p tags uses s on all through back k (recurring e c) = back c
 
@@ -65,12 +64,12 @@ to_some ok None mode = true
 to_some ok (Some u) mode = ok (callee u mode)
 
 abbrev pub calls_to : (Callee → Bool) → Program → Mode → Test
-calls_to ok p mode m insn target f = to_some ok (called_method insn.op target) (mode_if (is_own_object mode (receiver_tag p insn.op target f.stack)))
+calls_to ok p mode m insn target f = to_some ok (called_method insn.op target) (called_mode mode (receiver_tag p insn.op target f.stack))
 
 pub call_is_ok : (p : Program) (tags : Tagged) (ok : Callee → Bool) (a b : Callee) (i : ℕ) → all_in (calls_to ok p a.mode) p tags a.method ≡ true → Calls p tags a i b → ok b ≡ true
 call_is_ok p tags ok a b i all c =
-    let t : to_some ok (called_method c.insn.op c.target) (mode_if (is_own_object a.mode (receiver_tag p c.insn.op c.target c.f.stack))) ≡ true = in_method (calls_to ok p a.mode) p tags a.method all i c.m c.insn c.target c.f c.at in
-    let u : to_some ok (Some b.method) (mode_if (is_own_object a.mode (receiver_tag p c.insn.op c.target c.f.stack))) ≡ true = subst (λ (o : Option ℕ). to_some ok o (mode_if (is_own_object a.mode (receiver_tag p c.insn.op c.target c.f.stack))) ≡ true) c.called t in
+    let t : to_some ok (called_method c.insn.op c.target) (called_mode a.mode (receiver_tag p c.insn.op c.target c.f.stack)) ≡ true = in_method (calls_to ok p a.mode) p tags a.method all i c.m c.insn c.target c.f c.at in
+    let u : to_some ok (Some b.method) (called_mode a.mode (receiver_tag p c.insn.op c.target c.f.stack)) ≡ true = subst (λ (o : Option ℕ). to_some ok o (called_mode a.mode (receiver_tag p c.insn.op c.target c.f.stack)) ≡ true) c.called t in
     rw c.mode_is u
 
 abbrev pub IsClosed : Program → Tagged → (Callee → Bool) → Type 0
@@ -80,13 +79,13 @@ pub all_are_ok : (p : Program) (tags : Tagged) (ok : Callee → Bool) → IsClos
 all_are_ok p tags ok closed [] a b e t = subst (λ (c : Callee). ok c ≡ true) t e
 all_are_ok p tags ok closed (c ∷ cs) a b e t = all_are_ok p tags ok closed cs c b (call_is_ok p tags ok a c t.0.0 (closed a e) t.0.1) t.1
 
-pub called_is_ok : (p : Program) (tags : Tagged) (s : Section) (ok : Callee → Bool) (b : Callee) → IsClosed p tags ok → all_in (calls_to ok p OnThis) p tags s.method ≡ true → IsCalledBy p tags s b → ok b ≡ true
-called_is_ok p tags s ok b closed all c = all_are_ok p tags ok closed c.over c.first b (call_is_ok p tags ok (callee s.method OnThis) c.first c.i all c.calls) c.through
+pub called_is_ok : (p : Program) (tags : Tagged) (s : Section) (ok : Callee → Bool) (b : Callee) → IsClosed p tags ok → all_in (calls_to ok p (section_mode p s)) p tags s.method ≡ true → IsCalledBy p tags s b → ok b ≡ true
+called_is_ok p tags s ok b closed all c = all_are_ok p tags ok closed c.over c.first b (call_is_ok p tags ok (callee s.method (section_mode p s)) c.first c.i all c.calls) c.through
 
 abbrev pub none_ok : Callee → Bool
 none_ok a = false
 
-pub none_is_called : (p : Program) (tags : Tagged) (s : Section) (b : Callee) → all_in (calls_to none_ok p OnThis) p tags s.method ≡ true → IsCalledBy p tags s b → ⊥
+pub none_is_called : (p : Program) (tags : Tagged) (s : Section) (b : Callee) → all_in (calls_to none_ok p (section_mode p s)) p tags s.method ≡ true → IsCalledBy p tags s b → ⊥
 none_is_called p tags s b all c = let e : false ≡ true = called_is_ok p tags s none_ok b (λ a e. absurd (by_false e)) all c in by_false e
   where
     by_false : false ≡ true → ⊥

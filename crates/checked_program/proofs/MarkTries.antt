@@ -8,15 +8,15 @@ use Rattle.jvm_types.specs.declared.program.Target.{Target}
 use Rattle.jvm_types.specs.declared.program.MethodInfo.{MethodInfo}
 use Rattle.checked_program.specs.LockTags.{TagShape, is_this}
 use Rattle.checked_program.specs.TaggedCode.{Tagged, IsAt}
-use Rattle.checked_program.specs.Sections.{Section, sections}
-use Rattle.checked_program.specs.Marks.{Callee, callee, called_method, receiver_tag, is_own_object, mode_if, section_fault, IsCalledBy, CallsItself, Applies, elsewhere, itself, called, recurring, IsOnThis, turn, HasMark, IsMarkOf, AreMarks}
+use Rattle.checked_program.specs.Sections.{Section, sections, section_mode}
+use Rattle.checked_program.specs.Marks.{Callee, callee, called_method, receiver_tag, called_mode, section_fault, IsCalledBy, CallsItself, Applies, elsewhere, itself, called, recurring, IsOnOwn, turn, HasMark, IsMarkOf, AreMarks}
 use Rattle.checked_program.specs.declared.tag.Tag.{Tag}
 use Rattle.checked_program.specs.declared.tag.Tag.TheVariants.{Untagged, This, At}
 use Rattle.checked_program.specs.declared.section.Spot.{Spot}
 use Rattle.checked_program.specs.declared.section.Spot.TheVariants.{Method, Block}
 use Rattle.checked_program.specs.declared.section.SectionMark.{SectionMark}
 use Rattle.checked_program.specs.declared.section.Mode.{Mode}
-use Rattle.checked_program.specs.declared.section.Mode.TheVariants.{OnThis, OffThis}
+use Rattle.checked_program.specs.declared.section.Mode.TheVariants.{OnThis, OffThis, OnClass}
 use Rattle.checked_program.specs.declared.section.FieldUse.{FieldUse}
 use Rattle.checked_program.specs.declared.section.FieldUse.TheVariants.{Frozen, Guarded, Open}
 use Rattle.checked_program.proofs.EachReached.{Test, all_in, in_method}
@@ -42,7 +42,7 @@ all_sections = refl
 abbrev OfMethod : ℕ → ℕ → Type 0
 OfMethod mi n = HasMark many tags uses (section mi Method) n
 
-breaks_own : (mi i n : ℕ) (m : MethodInfo) (insn : Insn) (target : Target) (f : TagShape) → IsAt many tags mi i m insn target f → section_fault many uses OnThis insn.op target f.stack ≡ n → 0 < n → Applies many tags uses (section mi Method) n
+breaks_own : (mi i n : ℕ) (m : MethodInfo) (insn : Insn) (target : Target) (f : TagShape) → IsAt many tags mi i m insn target f → section_fault many uses (section_mode many (section mi Method)) insn.op target f.stack ≡ n → 0 < n → Applies many tags uses (section mi Method) n
 breaks_own mi i n m insn target f at e some = itself (record { i = i; own = record { m = m; insn = insn; target = target; f = f; at = at }; breaks = record { m = m; insn = insn; target = target; f = f; at = at; fault_is = e; some = some } })
 
 writes : OfMethod 1 1
@@ -63,7 +63,7 @@ reads_static = (breaks_own 6 0 5 _ _ _ _ (record { in_program = refl; in_code = 
 -- ---- through calls
 
 called_by : (mi i : ℕ) (first : Callee) (m : MethodInfo) (insn : Insn) (target : Target) (f : TagShape) → IsAt many tags mi i m insn target f → called_method insn.op target ≡ Some first.method
-    → first.mode ≡ mode_if (is_own_object OnThis (receiver_tag many insn.op target f.stack)) → IsCalledBy many tags (section mi Method) first
+    → first.mode ≡ called_mode (section_mode many (section mi Method)) (receiver_tag many insn.op target f.stack) → IsCalledBy many tags (section mi Method) first
 called_by mi i first m insn target f at e mode = record {
   i = i;
   first = first;
@@ -106,6 +106,7 @@ is_again a = a.method == 9
 again_in_modes : (mode : Mode) → (all_in (calls_to is_again many mode) many tags 9 ≡ true) × (all_in (breaks_from 8 many uses mode) many tags 9 ≡ true)
 again_in_modes OnThis = (refl, refl)
 again_in_modes OffThis = (refl, refl)
+again_in_modes (OnClass class) = (refl, refl)
 
 again_is_closed : IsClosed many tags is_again
 again_is_closed a e = subst (λ (u : ℕ). all_in (calls_to is_again many a.mode) many tags u ≡ true) (sym (eqb-true a.method 9 e)) (again_in_modes a.mode).0
@@ -141,7 +142,7 @@ none_before_eight k lt = grind arith
 locks_a_field : HasMark many tags uses (section 11 (Block 6)) 8
 locks_a_field = (elsewhere refl (λ on. is_not_this _ _ (in_method other_at_six many tags 11 refl on.0 on.2.m on.2.insn on.2.target on.1 on.2.at) on.2.pc_is on.3), λ k lt a. none_before_eight k lt)
 
-sums_on_this : IsOnThis many tags 2 (Block 3)
+sums_on_this : IsOnOwn many tags 2 (Block 3)
 sums_on_this = (3, _, record { m = _; insn = _; target = _; at = record { in_program = refl; in_code = refl; names = refl; frames = _; of_method = refl; frame = refl }; pc_is = refl; enters = refl }, refl)
 
 sums : HasMark many tags uses (section 2 (Block 3)) 0
@@ -151,7 +152,7 @@ sums = none_applies many tags uses (section 2 (Block 3)) sums_on_this refl (λ c
 
 abbrev is_on : Mode → Bool
 is_on OnThis = true
-is_on OffThis = false
+is_on mode = false
 
 abbrev is_sum : Callee → Bool
 is_sum a = (a.method == 2) && is_on a.mode
@@ -162,10 +163,12 @@ is_sum_method a e = eqb-true a.method 2 (and_parts (a.method == 2) (is_on a.mode
 sum_calls_none : (mode : Mode) → (all_in (calls_to is_sum many mode) many tags 2 ≡ true) × (all_in (calls_to none_ok many mode) many tags 2 ≡ true)
 sum_calls_none OnThis = (refl, refl)
 sum_calls_none OffThis = (refl, refl)
+sum_calls_none (OnClass class) = (refl, refl)
 
 sum_keeps : (mode : Mode) → is_on mode ≡ true → all_in (breaks_from 8 many uses mode) many tags 2 ≡ true
 sum_keeps OnThis e = refl
 sum_keeps OffThis e = cc
+sum_keeps (OnClass class) e = cc
 
 sum_is_closed : IsClosed many tags is_sum
 sum_is_closed a e = subst (λ (u : ℕ). all_in (calls_to is_sum many a.mode) many tags u ≡ true) (sym (is_sum_method a e)) (sum_calls_none a.mode).0

@@ -1,9 +1,9 @@
--- Frozen classes and frozen fields, and fields that are guarded by the monitor of their object.
-use Rattle.std.specs.Prelude.{◌≡◌, ◌<◌, ℕ, Bool, true, false, not, ◌&&◌, ◌||◌, ◌==◌, List, length, Option, Some, None, slice_get, slice_index_or}
+-- Frozen classes and frozen fields, and fields that are guarded by the monitor of their object or of their class.
+use Rattle.std.specs.Prelude.{◌≡◌, ◌<◌, ◌⊎◌, ℕ, Bool, true, false, not, ◌&&◌, ◌||◌, ◌==◌, List, length, Option, Some, None, slice_get, slice_index_or}
 use Rattle.std.specs.List.{list_any}
 use Rattle.jvm_types.specs.declared.class_numbers.TheConstants.{OBJECT_CLASS}
 use Rattle.jvm_types.specs.CodeTable.{is_init}
-use Rattle.jvm_types.specs.Members.{is_private, is_static, is_final, is_synchronized}
+use Rattle.jvm_types.specs.Members.{is_private, is_static, is_final, is_synchronized, is_class_init_name}
 use Rattle.jvm_types.specs.declared.code.Insn.{Insn}
 use Rattle.jvm_types.specs.declared.code.Op.{Op}
 use Rattle.jvm_types.specs.declared.code.Op.TheVariants as ops
@@ -81,6 +81,13 @@ pub record IsFrozenField (p : Program) (tags : Tagged) (fi : ℕ) : Type 0 where
   pub instance : is_static field.flags ≡ false
   pub frozen : IsFrozenClass p tags field.class
 
+-- a final static field: the `<clinit>` of its class alone writes it (JVMS 6.5, `putstatic`)
+pub record IsFrozenStatic (p : Program) (fi : ℕ) : Type 0 where
+  pub field : FieldInfo
+  pub is : slice_get p.fields fi ≡ Some field
+  pub final : is_final field.flags ≡ true
+  pub static : is_static field.flags ≡ true
+
 -- a method whose frames hold the monitor of their receiver, or that of their class (JVMS 2.11.10)
 abbrev pub locks_this : MethodInfo → Bool
 locks_this m = is_synchronized m.flags && not (is_static m.flags)
@@ -106,10 +113,34 @@ pub record IsGuardedField (p : Program) (tags : Tagged) (fi : ℕ) : Type 0 wher
   pub frozen : IsFrozenClass p tags field.class
   pub written : (mi i : ℕ) (m : MethodInfo) (insn : Insn) (target : Target) (f : TagShape) → IsAt p tags mi i m insn target f → PutsGuarded fi m insn.op target f
 
+-- where a static field of a class may be written: in its `<clinit>`, or in a static synchronized method of it
+abbrev pub writes_class : (class : ℕ) → MethodInfo → Bool
+writes_class class m = (m.class == class) && (is_class_init_name m.name || locks_class m)
+
+abbrev pub PutsStatic : (fi class : ℕ) → MethodInfo → Op → Target → Type 0
+PutsStatic fi class m (ops.Putstatic i) (targets.Field other) = other ≡ fi → writes_class class m ≡ true
+PutsStatic fi class m op target = Unit {0}
+
+-- a private static field, not final, with such writes alone
+pub record IsGuardedStatic (p : Program) (tags : Tagged) (fi : ℕ) : Type 0 where
+  pub field : FieldInfo
+  pub is : slice_get p.fields fi ≡ Some field
+  pub private : is_private field.flags ≡ true
+  pub changes : is_final field.flags ≡ false
+  pub static : is_static field.flags ≡ true
+  pub written : (mi i : ℕ) (m : MethodInfo) (insn : Insn) (target : Target) (f : TagShape) → IsAt p tags mi i m insn target f → PutsStatic fi field.class m insn.op target
+
+-- what a section may read of every object and class, and what of its own alone
+abbrev pub IsFrozenUse : Program → Tagged → ℕ → Type 0
+IsFrozenUse p tags fi = IsFrozenField p tags fi ⊎ IsFrozenStatic p fi
+
+abbrev pub IsGuardedUse : Program → Tagged → ℕ → Type 0
+IsGuardedUse p tags fi = IsGuardedField p tags fi ⊎ IsGuardedStatic p tags fi
+
 abbrev pub IsUse : Program → Tagged → ℕ → FieldUse → Type 0
-IsUse p tags fi Frozen = IsFrozenField p tags fi
-IsUse p tags fi Guarded = IsGuardedField p tags fi
-IsUse p tags fi Open = (IsFrozenField p tags fi → ⊥) × (IsGuardedField p tags fi → ⊥)
+IsUse p tags fi Frozen = IsFrozenUse p tags fi
+IsUse p tags fi Guarded = IsGuardedUse p tags fi
+IsUse p tags fi Open = (IsFrozenUse p tags fi → ⊥) × (IsGuardedUse p tags fi → ⊥)
 
 -- how each field of the program may be read
 pub record AreUses (p : Program) (tags : Tagged) (uses : List FieldUse) : Type 0 where

@@ -6,19 +6,20 @@ use Rattle.jvm_types.specs.declared.code.Op.{Op}
 use Rattle.jvm_types.specs.declared.code.Op.TheVariants as ops
 use Rattle.jvm_types.specs.declared.program.Target.{Target}
 use Rattle.jvm_types.specs.declared.program.Target.TheVariants as targets
+use Rattle.jvm_types.specs.declared.program.FieldInfo.{FieldInfo}
 use Rattle.jvm_types.specs.declared.program.MethodInfo.{MethodInfo}
 use Rattle.jvm_types.specs.declared.program.Program.{Program}
 use Rattle.checked_program.specs.LockTags.{TagShape, is_this}
 use Rattle.checked_program.specs.TaggedCode.{Tagged, IsAt}
 use Rattle.checked_program.specs.FrozenPlaces.{locks_this, locks_class, AreUses}
-use Rattle.checked_program.specs.Sections.{Section, sections, BeginsAt, IsOwn}
+use Rattle.checked_program.specs.Sections.{Section, sections, section_mode, BeginsAt, IsOwn}
 use Rattle.checked_program.specs.declared.tag.Tag.{Tag}
 use Rattle.checked_program.specs.declared.tag.Tag.TheVariants.{Untagged, This}
 use Rattle.checked_program.specs.declared.section.Spot.{Spot}
 use Rattle.checked_program.specs.declared.section.Spot.TheVariants.{Method, Block}
 use Rattle.checked_program.specs.declared.section.SectionMark.{SectionMark}
 use Rattle.checked_program.specs.declared.section.Mode.{Mode}
-use Rattle.checked_program.specs.declared.section.Mode.TheVariants.{OnThis, OffThis}
+use Rattle.checked_program.specs.declared.section.Mode.TheVariants.{OnThis, OffThis, OnClass}
 use Rattle.checked_program.specs.declared.section.FieldUse.{FieldUse}
 use Rattle.checked_program.specs.declared.section.FieldUse.TheVariants.{Frozen, Guarded, Open}
 
@@ -44,11 +45,21 @@ receiver_tag p op target stack = Untagged
 -- a value is the object of the section's monitor: `this`, in a method that is called on that object
 abbrev pub is_own_object : Mode → Tag → Bool
 is_own_object OnThis t = is_this t
-is_own_object OffThis t = false
+is_own_object mode t = false
+
+-- a class is that of the section's monitor
+abbrev pub is_own_class : Mode → (class : ℕ) → Bool
+is_own_class (OnClass c) class = class == c
+is_own_class mode class = false
 
 abbrev pub mode_if : Bool → Mode
 mode_if true = OnThis
 mode_if false = OffThis
+
+-- how a method is called, by how its caller is, and the tag of the receiver
+abbrev pub called_mode : Mode → Tag → Mode
+called_mode (OnClass c) t = OnClass c
+called_mode mode t = mode_if (is_own_object mode t)
 
 -- a method as a section calls it
 pub record Callee : Type 0 where
@@ -66,7 +77,7 @@ pub record Calls (p : Program) (tags : Tagged) (a : Callee) (i : ℕ) (b : Calle
   pub f : TagShape
   pub at : IsAt p tags a.method i m insn target f
   pub called : called_method insn.op target ≡ Some b.method
-  pub mode_is : b.mode ≡ mode_if (is_own_object a.mode (receiver_tag p insn.op target f.stack))
+  pub mode_is : b.mode ≡ called_mode a.mode (receiver_tag p insn.op target f.stack)
 
 -- by some instruction
 abbrev pub Invokes : Program → Tagged → Callee → Callee → Type 0
@@ -82,7 +93,7 @@ pub record IsCalledBy (p : Program) (tags : Tagged) (s : Section) (b : Callee) :
   pub i : ℕ
   pub first : Callee
   pub own : IsOwn p tags s.method s.spot i
-  pub calls : Calls p tags (callee s.method OnThis) i first
+  pub calls : Calls p tags (callee s.method (section_mode p s)) i first
   pub over : List Callee
   pub through : CallsThrough p tags first over b
 
@@ -118,9 +129,18 @@ use_fault Guarded true = 0
 use_fault Guarded false = 5
 use_fault Open own = 5
 
--- The rule that an instruction breaks, in a method called on this or off it; 0 for none. M1: it writes a field, a static or
--- an element. M2: it allocates. M3: it enters a monitor that is not the section's. M4: it prints, waits or notifies. M5: it
--- reads a place that is neither frozen nor a guarded one of the section's own object.
+-- the class of a field, or of a method; 0 is none
+abbrev pub class_of_field : Option FieldInfo → ℕ
+class_of_field None = 0
+class_of_field (Some field) = field.class
+
+abbrev pub class_of_method : Option MethodInfo → ℕ
+class_of_method None = 0
+class_of_method (Some m) = m.class
+
+-- The rule that an instruction breaks, in a method that a section runs so; 0 for none. M1: it writes a field, a static or an
+-- element. M2: it allocates. M3: it enters a monitor that is not the section's. M4: it prints, waits or notifies. M5: it reads a
+-- place that is neither frozen nor a guarded one of the section's own object or class.
 abbrev pub section_fault : Program → List FieldUse → Mode → Op → Target → List Tag → ℕ
 section_fault p uses mode (ops.Putfield i) target stack = 1
 section_fault p uses mode (ops.Putstatic i) target stack = 1
@@ -130,12 +150,12 @@ section_fault p uses mode ops.Newarray target stack = 2
 section_fault p uses mode ops.Monitorenter target stack = enter_fault (is_own_object mode (slice_index_or stack 0 Untagged))
 section_fault p uses mode (ops.Invokevirtual i) (targets.Method u) stack = call_fault (is_locking (slice_get p.methods u)) (is_own_object mode (receiver_tag p (ops.Invokevirtual i) (targets.Method u) stack))
 section_fault p uses mode (ops.Invokespecial i) (targets.Method u) stack = call_fault (is_locking (slice_get p.methods u)) (is_own_object mode (receiver_tag p (ops.Invokespecial i) (targets.Method u) stack))
-section_fault p uses mode (ops.Invokestatic i) (targets.Method u) stack = call_fault (is_class_locking (slice_get p.methods u)) false
+section_fault p uses mode (ops.Invokestatic i) (targets.Method u) stack = call_fault (is_class_locking (slice_get p.methods u)) (is_own_class mode (class_of_method (slice_get p.methods u)))
 section_fault p uses mode (ops.Invokevirtual i) targets.Println stack = 4
 section_fault p uses mode (ops.Invokevirtual i) targets.Wait stack = 4
 section_fault p uses mode (ops.Invokevirtual i) targets.Notify stack = 4
 section_fault p uses mode (ops.Invokevirtual i) targets.NotifyAll stack = 4
-section_fault p uses mode (ops.Getstatic i) (targets.Field fi) stack = 5
+section_fault p uses mode (ops.Getstatic i) (targets.Field fi) stack = use_fault (slice_index_or uses fi Open) (is_own_class mode (class_of_field (slice_get p.fields fi)))
 section_fault p uses mode ops.Iaload target stack = 5
 section_fault p uses mode (ops.Getfield i) (targets.Field fi) stack = use_fault (slice_index_or uses fi Open) (is_own_object mode (slice_index_or stack 0 Untagged))
 section_fault p uses mode op target stack = 0
@@ -152,16 +172,16 @@ pub record BreaksAt (p : Program) (tags : Tagged) (uses : List FieldUse) (a : Ca
 
 -- ---- the rules of a section
 
--- M8: a section is not on `this`
-abbrev pub IsOnThis : Program → Tagged → ℕ → Spot → Type 0
-IsOnThis p tags mi Method = Unit {0}
-IsOnThis p tags mi (Block pc) = (enter : ℕ) × (f : TagShape) × (BeginsAt p tags mi pc enter f) × (slice_index_or f.stack 0 Untagged ≡ This)
+-- M8: a section is neither on `this` nor on its class
+abbrev pub IsOnOwn : Program → Tagged → ℕ → Spot → Type 0
+IsOnOwn p tags mi Method = Unit {0}
+IsOnOwn p tags mi (Block pc) = (enter : ℕ) × (f : TagShape) × (BeginsAt p tags mi pc enter f) × (slice_index_or f.stack 0 Untagged ≡ This)
 
 -- M1 to M5: an own instruction breaks it
 pub record OwnBreaks (p : Program) (tags : Tagged) (uses : List FieldUse) (s : Section) (n : ℕ) : Type 0 where
   pub i : ℕ
   pub own : IsOwn p tags s.method s.spot i
-  pub breaks : BreaksAt p tags uses (callee s.method OnThis) i n
+  pub breaks : BreaksAt p tags uses (callee s.method (section_mode p s)) i n
 
 -- M6: a method that it calls breaks one of these
 pub record CalleeBreaks (p : Program) (tags : Tagged) (uses : List FieldUse) (s : Section) : Type 0 where
@@ -179,7 +199,7 @@ pub record CalleeRecurs (p : Program) (tags : Tagged) (s : Section) : Type 0 whe
 
 -- the rule n forbids that the section runs without its lock
 pub data Applies (p : Program) (tags : Tagged) (uses : List FieldUse) (s : Section) (n : ℕ) : Type 0 where
-  elsewhere : n ≡ 8 → (IsOnThis p tags s.method s.spot → ⊥) → Applies p tags uses s n
+  elsewhere : n ≡ 8 → (IsOnOwn p tags s.method s.spot → ⊥) → Applies p tags uses s n
   itself : OwnBreaks p tags uses s n → Applies p tags uses s n
   called : n ≡ 6 → CalleeBreaks p tags uses s → Applies p tags uses s n
   recurring : n ≡ 7 → CalleeRecurs p tags s → Applies p tags uses s n

@@ -1,8 +1,9 @@
 -- Laws of sections that run without their lock, and of the fields that they read, over every program and its tags. The running
 -- machine rests on these and not on how marks are found.
-use Rattle.std.specs.Prelude.{◌≡◌, ◌≢◌, ◌⊎◌, ℕ, suc, true, false, List, [], ◌∷◌, length, Option, Some, slice_get, slice_index, slice_index_or}
+use Rattle.std.specs.Prelude.{◌≡◌, ◌≢◌, ◌⊎◌, ℕ, suc, true, List, [], ◌∷◌, length, Option, Some, slice_get, slice_index, slice_index_or}
 use Rattle.std.specs.List.{list_any}
 use Rattle.jvm_types.specs.CodeTable.{is_init}
+use Rattle.jvm_types.specs.Members.{is_class_init_name}
 use Rattle.jvm_types.specs.ProgramInvariant.{IsProgram}
 use Rattle.jvm_types.specs.declared.code.Insn.{Insn}
 use Rattle.jvm_types.specs.declared.code.Op.{Op}
@@ -14,15 +15,15 @@ use Rattle.jvm_types.specs.declared.program.Program.{Program}
 use Rattle.checked_program.specs.LockTags.{TagShape, is_this}
 use Rattle.checked_program.specs.TaggedCode.{Tagged, IsAt, Goes}
 use Rattle.checked_program.specs.Tagging.{HasTagging}
-use Rattle.checked_program.specs.FrozenPlaces.{AreUses, IsFrozenField, IsGuardedField, locks_this}
-use Rattle.checked_program.specs.Sections.{Section, BeginsAt, IsOwn}
-use Rattle.checked_program.specs.Marks.{callee, Calls, args_of, is_locking, is_class_locking, HasMark}
+use Rattle.checked_program.specs.FrozenPlaces.{AreUses, IsFrozenField, IsFrozenStatic, IsGuardedField, IsGuardedStatic, locks_this, locks_class}
+use Rattle.checked_program.specs.Sections.{Section, section_mode, BeginsAt, IsOwn}
+use Rattle.checked_program.specs.Marks.{callee, Calls, args_of, is_locking, is_class_locking, class_of_method, HasMark}
 use Rattle.checked_program.specs.declared.tag.Tag.{Tag}
 use Rattle.checked_program.specs.declared.tag.Tag.TheVariants.{Untagged, This}
 use Rattle.checked_program.specs.declared.section.Spot.{Spot}
 use Rattle.checked_program.specs.declared.section.Spot.TheVariants.{Method, Block}
 use Rattle.checked_program.specs.declared.section.Mode.{Mode}
-use Rattle.checked_program.specs.declared.section.Mode.TheVariants.{OnThis}
+use Rattle.checked_program.specs.declared.section.Mode.TheVariants.{OnThis, OnClass}
 use Rattle.checked_program.specs.declared.section.FieldUse.{FieldUse}
 
 -- ---- the frames of a section
@@ -38,10 +39,10 @@ pub record IsSectionPart (p : Program) (tags : Tagged) (s : Section) (o : ℕ) (
   pub method : a.method ≡ s.method
   pub receiver : a.receiver ≡ o
   pub own : IsOwn p tags s.method s.spot a.at
-  pub mode_is : mode ≡ OnThis
+  pub mode_is : mode ≡ section_mode p s
 
--- The frames of a section on the object o, from the top one down to that of the section; mode says how the top one's method
--- is called. Each frame above the last is of a method that the one below calls; where it is called on this, on the same object.
+-- The frames of a section whose own frame has the receiver o, from the top one down to that; mode says how the top one's method is
+-- called. Each frame above the last is of a method that the one below calls; where it is called on this, on the same object.
 abbrev pub AreParts : Program → Tagged → Section → ℕ → List Part → Mode → Type 0
 AreParts p tags s o [] mode = ⊥
 AreParts p tags s o (a ∷ []) mode = IsSectionPart p tags s o a mode
@@ -90,36 +91,42 @@ ApartLaw = (p : Program) (tags : Tagged) (uses : List FieldUse) (s : Section) (o
 abbrev pub HasThis : ℕ → List Tag → List ℕ → Type 0
 HasThis receiver tags values = (k : ℕ) → slice_index_or tags k Untagged ≡ This → slice_index values k ≡ receiver
 
--- What an instruction of a marked section on the object o may do. It writes no place, allocates nothing, prints nothing, neither
--- waits nor notifies; it enters no monitor but that of o, and reads no place but a frozen one, or a guarded one of o.
-abbrev pub ReadsOnly : Program → Tagged → ℕ → Op → Target → List ℕ → Type 0
-ReadsOnly p tags o (ops.Putfield i) target stack = ⊥
-ReadsOnly p tags o (ops.Putstatic i) target stack = ⊥
-ReadsOnly p tags o ops.Iastore target stack = ⊥
-ReadsOnly p tags o (ops.New i) target stack = ⊥
-ReadsOnly p tags o ops.Newarray target stack = ⊥
-ReadsOnly p tags o ops.Iaload target stack = ⊥
-ReadsOnly p tags o (ops.Invokevirtual i) targets.Println stack = ⊥
-ReadsOnly p tags o (ops.Invokevirtual i) targets.Wait stack = ⊥
-ReadsOnly p tags o (ops.Invokevirtual i) targets.Notify stack = ⊥
-ReadsOnly p tags o (ops.Invokevirtual i) targets.NotifyAll stack = ⊥
-ReadsOnly p tags o (ops.Getstatic i) (targets.Field fi) stack = ⊥
-ReadsOnly p tags o ops.Monitorenter target stack = slice_index stack 0 ≡ o
-ReadsOnly p tags o (ops.Invokevirtual i) (targets.Method u) stack = is_locking (slice_get p.methods u) ≡ true → slice_index stack (args_of (slice_get p.methods u)) ≡ o
-ReadsOnly p tags o (ops.Invokespecial i) (targets.Method u) stack = is_locking (slice_get p.methods u) ≡ true → slice_index stack (args_of (slice_get p.methods u)) ≡ o
-ReadsOnly p tags o (ops.Invokestatic i) (targets.Method u) stack = is_class_locking (slice_get p.methods u) ≡ false
-ReadsOnly p tags o (ops.Getfield i) (targets.Field fi) stack = IsFrozenField p tags fi ⊎ (IsGuardedField p tags fi × (slice_index stack 0 ≡ o))
-ReadsOnly p tags o op target stack = Unit {0}
+-- the field of a class is guarded by its monitor
+pub record IsOwnStatic (p : Program) (tags : Tagged) (mode : Mode) (fi : ℕ) : Type 0 where
+  pub guarded : IsGuardedStatic p tags fi
+  pub own : mode ≡ OnClass guarded.field.class
 
-abbrev pub ReadLaw : Type 0
-ReadLaw = (p : Program) (tags : Tagged) (uses : List FieldUse) (s : Section) (o : ℕ) (a : Part) (parts : List Part) (mode : Mode) (m : MethodInfo) (insn : Insn) (target : Target) (f : TagShape) (stack : List ℕ)
-    → AreUses p tags uses → HasMark p tags uses s 0 → AreParts p tags s o (a ∷ parts) mode → IsAt p tags a.method a.at m insn target f → HasThis a.receiver f.stack stack → ReadsOnly p tags o insn.op target stack
-
--- ---- the exit law: a marked section leaves no monitor but its own, and none where it is called off this
+-- What an instruction of a marked section may do, in a frame that is run so; o is the receiver of the section's own frame, and so
+-- the section's object where it is on `this`. It writes no place, allocates nothing, prints nothing, neither waits nor notifies; it enters no monitor but the section's own, and
+-- reads no place but a frozen one, or a guarded one of the section's own object or class.
+abbrev pub ReadsOnly : Program → Tagged → Mode → (o : ℕ) → Op → Target → List ℕ → Type 0
+ReadsOnly p tags mode o (ops.Putfield i) target stack = ⊥
+ReadsOnly p tags mode o (ops.Putstatic i) target stack = ⊥
+ReadsOnly p tags mode o ops.Iastore target stack = ⊥
+ReadsOnly p tags mode o (ops.New i) target stack = ⊥
+ReadsOnly p tags mode o ops.Newarray target stack = ⊥
+ReadsOnly p tags mode o (ops.Invokevirtual i) targets.Println stack = ⊥
+ReadsOnly p tags mode o (ops.Invokevirtual i) targets.Wait stack = ⊥
+ReadsOnly p tags mode o (ops.Invokevirtual i) targets.Notify stack = ⊥
+ReadsOnly p tags mode o (ops.Invokevirtual i) targets.NotifyAll stack = ⊥
+ReadsOnly p tags mode o (ops.Getstatic i) (targets.Field fi) stack = IsFrozenStatic p fi ⊎ IsOwnStatic p tags mode fi
+ReadsOnly p tags mode o ops.Iaload target stack = ⊥
+ReadsOnly p tags mode o ops.Monitorenter target stack = (mode ≡ OnThis) × (slice_index stack 0 ≡ o)
+ReadsOnly p tags mode o (ops.Invokevirtual i) (targets.Method u) stack = is_locking (slice_get p.methods u) ≡ true → (mode ≡ OnThis) × (slice_index stack (args_of (slice_get p.methods u)) ≡ o)
+ReadsOnly p tags mode o (ops.Invokespecial i) (targets.Method u) stack = is_locking (slice_get p.methods u) ≡ true → (mode ≡ OnThis) × (slice_index stack (args_of (slice_get p.methods u)) ≡ o)
+ReadsOnly p tags mode o (ops.Invokestatic i) (targets.Method u) stack = is_class_locking (slice_get p.methods u) ≡ true → mode ≡ OnClass (class_of_method (slice_get p.methods u))
+ReadsOnly p tags mode o (ops.Getfield i) (targets.Field fi) stack = IsFrozenField p tags fi ⊎ (IsGuardedField p tags fi × (mode ≡ OnThis) × (slice_index stack 0 ≡ o))
+ReadsOnly p tags mode o op target stack = Unit {0}
 
 -- each method has a tagging
 abbrev pub AreTagged : Program → Tagged → Type 0
 AreTagged p tags = (mi : ℕ) (m : MethodInfo) → slice_get p.methods mi ≡ Some m → (frames : List (Option TagShape)) × (slice_get tags mi ≡ Some frames) × HasTagging p m frames
+
+abbrev pub ReadLaw : Type 0
+ReadLaw = (p : Program) (tags : Tagged) (uses : List FieldUse) (s : Section) (o : ℕ) (a : Part) (parts : List Part) (mode : Mode) (m : MethodInfo) (insn : Insn) (target : Target) (f : TagShape) (stack : List ℕ)
+    → IsProgram p → AreUses p tags uses → HasMark p tags uses s 0 → AreParts p tags s o (a ∷ parts) mode → IsAt p tags a.method a.at m insn target f → HasThis a.receiver f.stack stack → ReadsOnly p tags mode o insn.op target stack
+
+-- ---- the exit law: a marked section leaves no monitor but its own, and none where it is called off this
 
 abbrev pub ExitLaw : Type 0
 ExitLaw = (p : Program) (tags : Tagged) (uses : List FieldUse) (s : Section) (o : ℕ) (a : Part) (parts : List Part) (mode : Mode) (m : MethodInfo) (insn : Insn) (target : Target) (f : TagShape)
@@ -133,8 +140,18 @@ WriteLaw = (p : Program) (tags : Tagged) (fi mi i index receiver : ℕ) (m : Met
     → insn.op ≡ ops.Putfield index → target ≡ targets.Field fi → HasThis receiver f.stack stack
     → (slice_index stack 1 ≡ receiver) × ((is_init m ≡ true) ⊎ (list_any is_this f.held ≡ true) ⊎ (locks_this m ≡ true))
 
--- ---- the final law: a final field of a frozen class is written on the receiver of an `<init>`
+-- a guarded static field is written in the `<clinit>` of its class, or where the monitor of that is entered
+abbrev pub StaticWriteLaw : Type 0
+StaticWriteLaw = (p : Program) (tags : Tagged) (fi mi i index : ℕ) (m : MethodInfo) (insn : Insn) (target : Target) (f : TagShape) (k : IsGuardedStatic p tags fi) → IsAt p tags mi i m insn target f
+    → insn.op ≡ ops.Putstatic index → target ≡ targets.Field fi → (m.class ≡ k.field.class) × ((is_class_init_name m.name ≡ true) ⊎ (locks_class m ≡ true))
+
+-- ---- the final laws: a final field of a frozen class is written on the receiver of an `<init>`
 
 abbrev pub FinalLaw : Type 0
 FinalLaw = (p : Program) (tags : Tagged) (fi mi i index receiver : ℕ) (m : MethodInfo) (insn : Insn) (target : Target) (f : TagShape) (stack : List ℕ) → IsProgram p → IsFrozenField p tags fi → IsAt p tags mi i m insn target f
     → insn.op ≡ ops.Putfield index → target ≡ targets.Field fi → HasThis receiver f.stack stack → (is_init m ≡ true) × (slice_index stack 1 ≡ receiver)
+
+-- a final static field is written in the `<clinit>` of its class
+abbrev pub FinalStaticLaw : Type 0
+FinalStaticLaw = (p : Program) (tags : Tagged) (fi mi i index : ℕ) (m : MethodInfo) (insn : Insn) (target : Target) (f : TagShape) (k : IsFrozenStatic p fi) → IsProgram p → IsAt p tags mi i m insn target f
+    → insn.op ≡ ops.Putstatic index → target ≡ targets.Field fi → (m.class ≡ k.field.class) × (is_class_init_name m.name ≡ true)

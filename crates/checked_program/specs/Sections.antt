@@ -1,6 +1,7 @@
 -- The synchronized sections of a program, and the instructions that are a section's own.
-use Rattle.std.specs.Prelude.{◌≡◌, ◌<◌, ℕ, suc, List, [], ◌∷◌, ◌++◌, length, map, Option, Some, None, if◌then◌else◌}
+use Rattle.std.specs.Prelude.{◌≡◌, ◌<◌, ℕ, suc, List, [], ◌∷◌, ◌++◌, length, map, Option, Some, None, slice_get, if◌then◌else◌}
 use Rattle.std.specs.List.{filter_map}
+use Rattle.jvm_types.specs.Members.{is_static, is_synchronized}
 use Rattle.jvm_types.specs.declared.code.Insn.{Insn}
 use Rattle.jvm_types.specs.declared.code.Op.{Op}
 use Rattle.jvm_types.specs.declared.code.Op.TheVariants as ops
@@ -9,9 +10,10 @@ use Rattle.jvm_types.specs.declared.program.MethodInfo.{MethodInfo}
 use Rattle.jvm_types.specs.declared.program.Program.{Program}
 use Rattle.checked_program.specs.LockTags.{TagShape}
 use Rattle.checked_program.specs.TaggedCode.{Tagged, IsAt, IsInstructionReached, IsReachedEdge}
-use Rattle.checked_program.specs.FrozenPlaces.{locks_this}
 use Rattle.checked_program.specs.declared.section.Spot.{Spot}
 use Rattle.checked_program.specs.declared.section.Spot.TheVariants.{Method, Block}
+use Rattle.checked_program.specs.declared.section.Mode.{Mode}
+use Rattle.checked_program.specs.declared.section.Mode.TheVariants.{OnThis, OnClass}
 
 -- ---- all sections
 
@@ -25,7 +27,7 @@ block_at pc op = None
 
 -- a synchronized method's own section, then its blocks by pc; a block begins at each `monitorenter`, reached or not
 abbrev pub spots_of : MethodInfo → List Spot
-spots_of m = (if locks_this m then Method ∷ [] else []) ++ filter_map (λ insn. block_at insn.pc insn.op) m.code
+spots_of m = (if is_synchronized m.flags then Method ∷ [] else []) ++ filter_map (λ insn. block_at insn.pc insn.op) m.code
 
 -- of the methods from a number on
 abbrev pub sections_from : ℕ → List MethodInfo → List Section
@@ -34,6 +36,18 @@ sections_from mi (m ∷ ms) = map (λ spot. record { method = mi; spot = spot })
 
 abbrev pub sections : Program → List Section
 sections p = sections_from 0 p.methods
+
+-- a block is on `this`, where it may run without its lock at all; a synchronized method's section on `this` or on its class
+abbrev pub mode_of_method : Option MethodInfo → Mode
+mode_of_method None = OnThis
+mode_of_method (Some m) = if is_static m.flags then OnClass m.class else OnThis
+
+abbrev pub mode_of_spot : Option MethodInfo → Spot → Mode
+mode_of_spot m Method = mode_of_method m
+mode_of_spot m (Block pc) = OnThis
+
+abbrev pub section_mode : Program → Section → Mode
+section_mode p s = mode_of_spot (slice_get p.methods s.method) s.spot
 
 -- ---- own instructions
 

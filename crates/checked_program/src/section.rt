@@ -17,20 +17,25 @@ pub struct SectionMark {
     pub mark: u8,
 }
 
-/// How a section calls a method: on the object of its monitor all the way, or not.
+/// How a section runs a method, its own among them.
 #[derive(Clone, Copy, Debug, PartialEq, Eq)]
 pub enum Mode {
+    /// A section on `this`: on the object of its monitor all the way.
     OnThis,
+    /// A section on `this`: on some object.
     OffThis,
+    /// A section on the class of this number.
+    OnClass(u16),
 }
 
 /// How a field may be read by a section that runs without its lock.
 #[derive(Clone, Copy, Debug, PartialEq, Eq)]
 pub enum FieldUse {
-    /// Of every object: it is final, and not written after its object was made.
+    /// Of every object, or of every class: it is final, and not written after its object or its
+    /// class was made.
     Frozen,
-    /// Of the section's own object: it is written under the object's monitor alone, or while the
-    /// object is made.
+    /// Of the section's own object or class: it is written under that monitor alone, or while the
+    /// object or the class is made.
     Guarded,
     Open,
 }

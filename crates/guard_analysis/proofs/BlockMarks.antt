@@ -22,10 +22,11 @@ use Rattle.checked_program.specs.LockTags.{TagShape, is_this}
 use Rattle.checked_program.specs.Tagging.{catches_all, until_all, catchers, tags_after, tags_at_handler}
 use Rattle.checked_program.specs.TaggedCode.{tagged_by, IsAt, IsReachedEdge, Goes, onward, caught, row_of}
 use Rattle.checked_program.specs.Sections.{IsDeep, StaysDeep, BeginsAt, IsOwn}
-use Rattle.checked_program.specs.Marks.{IsOnThis, HasMark, IsMarkOf}
+use Rattle.checked_program.specs.Marks.{IsOnOwn, HasMark, IsMarkOf}
 use Rattle.checked_program.specs.declared.tag.Tag.{Tag}
 use Rattle.checked_program.specs.declared.tag.Tag.TheVariants.{Untagged, This, At}
 use Rattle.checked_program.specs.declared.tag.Tags.{Tags}
+use Rattle.checked_program.specs.declared.section.Mode.TheVariants.{OnThis}
 use Rattle.checked_program.specs.declared.section.Spot.TheVariants.{Block}
 use Rattle.checked_program.specs.declared.section.FieldUse.{FieldUse}
 use Rattle.graph_closure.specs.Chains.{IsIn}
@@ -253,10 +254,10 @@ module _ (p : Program) (tags : List Tags) (is : IsProgram p) (mi : ℕ) (m : Met
             stays = stays_of depth o.first o.over i (subst (λ n. StaysDeep p (tagged_by tags) mi n o.first o.over i) held o.stays);
           }
 
-      on_this : IsOnThis p (tagged_by tags) mi (Block insn.pc)
+      on_this : IsOnOwn p (tagged_by tags) mi (Block insn.pc)
       on_this = (enter, f, begins, tag)
 
-    pub off_this : entry_depth_at m t.frames enter ≡ None → IsOnThis p (tagged_by tags) mi (Block insn.pc) → ⊥
+    pub off_this : entry_depth_at m t.frames enter ≡ None → IsOnOwn p (tagged_by tags) mi (Block insn.pc) → ⊥
     off_this none o =
         let here : o.0 ≡ enter = only o.0 o.1 o.2 in
         let frame : slice_get t.frames enter ≡ Some (Some o.1) = subst (λ e. slice_get t.frames e ≡ Some (Some o.1)) here (frame_is o.0 o.2.m o.2.insn o.2.target o.1 o.2.at) in
@@ -265,7 +266,7 @@ module _ (p : Program) (tags : List Tags) (is : IsProgram p) (mi : ℕ) (m : Met
         let bad : None ≡ Some (length o.1.held) = sym none ∙ is_some in
         cc
 
-    module _ (uses : List FieldUse) (grades : List ℕ) (are : AreGrades p (tagged_by tags) uses mi m grades) where
+    module _ (uses : List FieldUse) (grades : List ℕ) (are : AreGrades p (tagged_by tags) uses OnThis mi m grades) where
       block_has : (o : Option ℕ) (n : ℕ) → entry_depth_at m t.frames enter ≡ o → IsBlockMark m t.frames grades enter o n → HasMark p (tagged_by tags) uses (section_in mi (Block insn.pc)) n
       block_has None n e b = subst (λ k. HasMark p (tagged_by tags) uses (section_in mi (Block insn.pc)) k) (sym b) (has_elsewhere p (tagged_by tags) uses (section_in mi (Block insn.pc)) (off_this e))
       block_has (Some depth) n e b =

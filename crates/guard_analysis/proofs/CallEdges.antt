@@ -6,38 +6,68 @@ use Rattle.std.proofs.lemmas.Bool.Decides.{nat_tests}
 use Rattle.std.proofs.lemmas.Option.{slice_get-map, slice_get_within, same_Some}
 use Rattle.jvm_types.specs.ProgramInvariant.{IsProgram, IsTargetOf, site_in}
 use Rattle.jvm_types.specs.declared.code.Insn.{Insn}
+use Rattle.jvm_types.specs.declared.code.Op.{Op}
 use Rattle.jvm_types.specs.declared.program.Target.{Target}
 use Rattle.jvm_types.specs.declared.program.Program.{Program}
 use Rattle.laws_programs.proofs.CodeOrder.{have_targets}
 use Rattle.checked_program.specs.LockTags.{TagShape}
 use Rattle.checked_program.specs.TaggedCode.{Tagged, tagged_by}
-use Rattle.checked_program.specs.Marks.{Callee, callee, Calls, called_method, receiver_tag, is_own_object, mode_if}
+use Rattle.checked_program.specs.Marks.{Callee, callee, Calls, called_method, receiver_tag, called_mode}
+use Rattle.checked_program.specs.declared.tag.Tag.{Tag}
 use Rattle.checked_program.specs.declared.tag.Tags.{Tags}
 use Rattle.checked_program.specs.declared.section.Mode.{Mode}
-use Rattle.checked_program.specs.declared.section.Mode.TheVariants.{OnThis, OffThis}
+use Rattle.checked_program.specs.declared.section.Mode.TheVariants.{OnThis, OffThis, OnClass}
 use Rattle.guard_analysis.specs.CallGraph.{mode_number, node_of, mode_at, AreCalls, node_in, call_node, call_at, call_graph}
+use Rattle.guard_analysis.specs.Faults.{IsModeFor}
 use Rattle.checked_program.proofs.CalledMethods.{named}
 use Rattle.guard_analysis.proofs.GraphEdges.{CallAt, graph_added, graph_old}
 
 -- ---- nodes
 
-pub half_of : (u : ℕ) (mode : Mode) → (2 * u + mode_number mode) / 2 ≡ u
+pub half_of : (u : ℕ) (mode : Mode) → (3 * u + mode_number mode) / 3 ≡ u
 half_of u OnThis = omega arith
 half_of u OffThis = omega arith
+half_of u (OnClass class) = omega arith
 
-pub mode_back : (u : ℕ) (mode : Mode) → mode_at (2 * u + mode_number mode) ≡ mode
-mode_back u OnThis = let even : (2 * u + 0) % 2 ≡ 0 = omega arith in rw even refl
-mode_back u OffThis = let odd : (2 * u + 1) % 2 ≡ 1 = omega arith in rw odd refl
+pub mode_back : (class u : ℕ) (mode : Mode) → IsModeFor class mode → mode_at class (3 * u + mode_number mode) ≡ mode
+mode_back class u OnThis fits = let rest : (3 * u + 0) % 3 ≡ 0 = omega arith in rw rest refl
+mode_back class u OffThis fits = let rest : (3 * u + 1) % 3 ≡ 1 = omega arith in rw rest refl
+mode_back class u (OnClass c) fits = let rest : (3 * u + 2) % 3 ≡ 2 = omega arith in rw rest (ap (λ (x : ℕ). OnClass x) (sym fits))
 
-pub node_again : (y : ℕ) → node_of (callee (y / 2) (mode_at y)) ≡ y
-node_again y = ⊎_elim (λ (e : y % 2 ≡ 0). rw e (omega arith)) (λ (e : y % 2 ≡ 1). rw e (omega arith)) (halves y)
-  where
-    halves : (y : ℕ) → (y % 2 ≡ 0) ⊎ (y % 2 ≡ 1)
-    halves y = grind arith
-
-pub node_low : (n u : ℕ) (mode : Mode) → u < n → 2 * u + mode_number mode < 2 * n
+pub node_low : (n u : ℕ) (mode : Mode) → u < n → 3 * u + mode_number mode < 3 * n
 node_low n u OnThis h = omega (arith, h)
 node_low n u OffThis h = omega (arith, h)
+node_low n u (OnClass class) h = omega (arith, h)
+
+-- a call from a method that a section on a class runs is the same for each class
+abbrev pub any_class : Mode → Mode
+any_class (OnClass class) = OnClass 0
+any_class mode = mode
+
+any_class_fits : (mode : Mode) → IsModeFor 0 (any_class mode)
+any_class_fits OnThis = tt
+any_class_fits OffThis = tt
+any_class_fits (OnClass class) = refl
+
+any_class_number : (mode : Mode) → mode_number (any_class mode) ≡ mode_number mode
+any_class_number OnThis = refl
+any_class_number OffThis = refl
+any_class_number (OnClass class) = refl
+
+pub mode_of_node : (u : ℕ) (mode : Mode) → mode_at 0 (3 * u + mode_number mode) ≡ any_class mode
+mode_of_node u mode = ap (λ (n : ℕ). mode_at 0 (3 * u + n)) (sym (any_class_number mode)) ∙ mode_back 0 u (any_class mode) (any_class_fits mode)
+
+node_of_any : (n : ℕ) (o : Option ℕ) (mode other : Mode) → mode_number mode ≡ mode_number other → node_in n o mode ≡ node_in n o other
+node_of_any n None mode other e = refl
+node_of_any n (Some u) mode other e = ap (λ (k : ℕ). if nat_lt u n then Some (3 * u + k) else None) e
+
+called_any : (mode : Mode) (t : Tag) → mode_number (called_mode (any_class mode) t) ≡ mode_number (called_mode mode t)
+called_any OnThis t = refl
+called_any OffThis t = refl
+called_any (OnClass class) t = refl
+
+pub call_of_any : (p : Program) (mode : Mode) (op : Op) (target : Target) (stack : List Tag) → call_node p (any_class mode) op target stack ≡ call_node p mode op target stack
+call_of_any p mode op target stack = node_of_any (length p.methods) (called_method op target) (called_mode (any_class mode) (receiver_tag p op target stack)) (called_mode mode (receiver_tag p op target stack)) (called_any mode (receiver_tag p op target stack))
 
 -- ---- one instruction
 
@@ -58,15 +88,15 @@ call_parts p mode (Some insn) (Some target) None y e = absurd (cc)
 call_parts p mode (Some insn) None of y e = absurd (cc)
 call_parts p mode None ot of y e = absurd (cc)
 
-pub node_parts : (n : ℕ) (o : Option ℕ) (mode : Mode) (y : ℕ) → node_in n o mode ≡ Some y → (u : ℕ) × (o ≡ Some u) × (u < n) × (2 * u + mode_number mode ≡ y)
+pub node_parts : (n : ℕ) (o : Option ℕ) (mode : Mode) (y : ℕ) → node_in n o mode ≡ Some y → (u : ℕ) × (o ≡ Some u) × (u < n) × (3 * u + mode_number mode ≡ y)
 node_parts n None mode y e = absurd (cc)
 node_parts n (Some u) mode y e = by_test (nat_lt u n) refl e
   where
-    by_test : (t : Bool) → nat_lt u n ≡ t → (if t then Some (2 * u + mode_number mode) else None) ≡ Some y → (v : ℕ) × (Some u ≡ Some v) × (v < n) × (2 * v + mode_number mode ≡ y)
-    by_test true w k = (u, refl, grind (arith, nat_tests), same_Some (2 * u + mode_number mode) y k)
+    by_test : (t : Bool) → nat_lt u n ≡ t → (if t then Some (3 * u + mode_number mode) else None) ≡ Some y → (v : ℕ) × (Some u ≡ Some v) × (v < n) × (3 * v + mode_number mode ≡ y)
+    by_test true w k = (u, refl, grind (arith, nat_tests), same_Some (3 * u + mode_number mode) y k)
     by_test false w k = absurd (let bad : None ≡ Some y = k in cc)
 
-pub node_there : (n u : ℕ) (o : Option ℕ) (mode : Mode) → o ≡ Some u → u < n → node_in n o mode ≡ Some (2 * u + mode_number mode)
+pub node_there : (n u : ℕ) (o : Option ℕ) (mode : Mode) → o ≡ Some u → u < n → node_in n o mode ≡ Some (3 * u + mode_number mode)
 node_there n u o mode e h = let test : nat_lt u n ≡ true = grind (arith, nat_tests) in rw (e, test) refl
 
 -- ---- a call names a method of the program
@@ -91,13 +121,13 @@ module _ (p : Program) (tags : List Tags) (is : IsProgram p) where
   pub frames_there : (mi : ℕ) (t : Tags) → slice_get tags mi ≡ Some t → slice_get (tagged_by tags) mi ≡ Some t.frames
   frames_there mi t e = slice_get-map (λ (t : Tags). t.frames) tags mi ∙ ap (option_map (λ (t : Tags). t.frames)) e
 
-  call_there : (a b : Callee) (i : ℕ) → Calls p (tagged_by tags) a i b → CallAt p (slice_get p.methods (node_of a / 2)) (slice_get tags (node_of a / 2)) (node_of a) (node_of b)
+  call_there : (a b : Callee) (i : ℕ) → Calls p (tagged_by tags) a i b → CallAt p (slice_get p.methods (node_of a / 3)) (slice_get tags (node_of a / 3)) (node_of a) (node_of b)
   call_there a b i c =
       let has = with_tags a.method c.at.frames c.at.of_method in
       let at_frame : slice_get has.0.frames i ≡ Some (Some c.f) = subst (λ l. slice_get l i ≡ Some (Some c.f)) (sym has.2) c.at.frame in
       let node : call_node p a.mode c.insn.op c.target c.f.stack ≡ Some (node_of b) =
-      node_there (length p.methods) b.method (called_method c.insn.op c.target) (mode_if (is_own_object a.mode (receiver_tag p c.insn.op c.target c.f.stack))) c.called (called_inside p (tagged_by tags) is a b i c)
-      ∙ ap (λ (mode : Mode). Some (2 * b.method + mode_number mode)) (sym c.mode_is) in
+      node_there (length p.methods) b.method (called_method c.insn.op c.target) (called_mode a.mode (receiver_tag p c.insn.op c.target c.f.stack)) c.called (called_inside p (tagged_by tags) is a b i c)
+      ∙ ap (λ (mode : Mode). Some (3 * b.method + mode_number mode)) (sym c.mode_is) in
       record {
         m = c.m;
         is_m = ap (λ u. slice_get p.methods u) (half_of a.method a.mode) ∙ c.at.in_program;
@@ -105,14 +135,15 @@ module _ (p : Program) (tags : List Tags) (is : IsProgram p) where
         is_t = ap (λ u. slice_get tags u) (half_of a.method a.mode) ∙ has.1;
         i = i;
         inside = slice_get_within c.m.code i c.insn c.at.in_code;
-        call = rw (mode_back a.method a.mode, c.at.in_code, c.at.names, at_frame) node;
+        call = rw (mode_of_node a.method a.mode, c.at.in_code, c.at.names, at_frame) (call_of_any p a.mode c.insn.op c.target c.f.stack ∙ node);
       }
 
-  call_back : (a : Callee) (y : ℕ) → CallAt p (slice_get p.methods (node_of a / 2)) (slice_get tags (node_of a / 2)) (node_of a) y → (b : Callee) × (node_of b ≡ y) × ((i : ℕ) × Calls p (tagged_by tags) a i b)
+  call_back : (a : Callee) (y : ℕ) → CallAt p (slice_get p.methods (node_of a / 3)) (slice_get tags (node_of a / 3)) (node_of a) y → (b : Callee) × (node_of b ≡ y) × ((i : ℕ) × Calls p (tagged_by tags) a i b)
   call_back a y c =
-      let parts = call_parts p (mode_at (node_of a)) (slice_get c.m.code c.i) (slice_get c.m.targets c.i) (slice_get c.t.frames c.i) y c.call in
-      let mode : Mode = mode_if (is_own_object a.mode (receiver_tag p parts.insn.op parts.target parts.f.stack)) in
-      let call : call_node p a.mode parts.insn.op parts.target parts.f.stack ≡ Some y = subst (λ (mode : Mode). call_node p mode parts.insn.op parts.target parts.f.stack ≡ Some y) (mode_back a.method a.mode) parts.call in
+      let parts = call_parts p (mode_at 0 (node_of a)) (slice_get c.m.code c.i) (slice_get c.m.targets c.i) (slice_get c.t.frames c.i) y c.call in
+      let mode : Mode = called_mode a.mode (receiver_tag p parts.insn.op parts.target parts.f.stack) in
+      let call : call_node p a.mode parts.insn.op parts.target parts.f.stack ≡ Some y =
+      sym (call_of_any p a.mode parts.insn.op parts.target parts.f.stack) ∙ subst (λ (mode : Mode). call_node p mode parts.insn.op parts.target parts.f.stack ≡ Some y) (mode_of_node a.method a.mode) parts.call in
       let named = node_parts (length p.methods) (called_method parts.insn.op parts.target) mode y call in (
         callee named.0 mode,
         named.3,
@@ -139,6 +170,6 @@ module _ (p : Program) (tags : List Tags) (is : IsProgram p) where
 
   pub edges_are_calls : AreCalls p (tagged_by tags) (call_graph p tags).from (call_graph p tags).to
   edges_are_calls = record {
-    there = λ a b i c. graph_added p tags (2 * length p.methods) (node_of a) (node_of b) (node_low (length p.methods) a.method a.mode (slice_get_within p.methods a.method c.m c.at.in_program)) (call_there a b i c);
-    only = λ a y e. call_back a y (graph_old p tags (2 * length p.methods) (node_of a) y e).1;
+    there = λ a b i c. graph_added p tags (3 * length p.methods) (node_of a) (node_of b) (node_low (length p.methods) a.method a.mode (slice_get_within p.methods a.method c.m c.at.in_program)) (call_there a b i c);
+    only = λ a y e. call_back a y (graph_old p tags (3 * length p.methods) (node_of a) y e).1;
   }

@@ -1,10 +1,11 @@
 -- What the graph of calls finds: which nodes lead to a method that breaks a rule, and which to one that calls itself.
 use Rattle.std.proofs.Common.{◌≡◌, ℕ, zero, suc, ◌+◌, ◌*◌, ◌/◌, ◌<◌, ◌≢◌, Bool, true, false, List, [], ◌∷◌, length, Option, Some, None, refl, sym, ap, subst, ◌∙◌, arith, ⊎_elim, ◌||◌}
-use Rattle.std.specs.Prelude.{nat_lt, slice_get, slice_index_or}
+use Rattle.std.specs.Prelude.{nat_lt, if◌then◌else◌, slice_get, slice_index_or}
 use Rattle.std.proofs.lemmas.Bool.{cases_eq}
 use Rattle.std.proofs.lemmas.Bool.Decides.{nat_tests}
 use Rattle.std.proofs.lemmas.List.{length-append, get_or_append_left, get_or_push}
 use Rattle.std.proofs.lemmas.Option.{slice_get_within}
+use Rattle.jvm_types.specs.Members.{is_static, is_synchronized}
 use Rattle.jvm_types.specs.ProgramInvariant.{IsProgram}
 use Rattle.jvm_types.specs.declared.code.Insn.{Insn}
 use Rattle.jvm_types.specs.declared.program.Target.{Target}
@@ -12,33 +13,35 @@ use Rattle.jvm_types.specs.declared.program.MethodInfo.{MethodInfo}
 use Rattle.jvm_types.specs.declared.program.Program.{Program}
 use Rattle.checked_program.specs.LockTags.{TagShape}
 use Rattle.checked_program.specs.TaggedCode.{Tagged, tagged_by}
-use Rattle.checked_program.specs.Marks.{Callee, callee, Calls, Invokes, CallsThrough, CallsItself, BreaksAt, section_fault, receiver_tag, is_own_object, mode_if}
+use Rattle.checked_program.specs.FrozenPlaces.{locks_class}
+use Rattle.checked_program.specs.Marks.{Callee, callee, Calls, Invokes, CallsThrough, CallsItself, BreaksAt, section_fault, receiver_tag, is_own_object, mode_if, called_mode}
+use Rattle.checked_program.specs.declared.tag.Tag.{Tag}
 use Rattle.checked_program.specs.declared.tag.Tags.{Tags}
 use Rattle.checked_program.specs.declared.section.Mode.{Mode}
-use Rattle.checked_program.specs.declared.section.Mode.TheVariants.{OnThis, OffThis}
+use Rattle.checked_program.specs.declared.section.Mode.TheVariants.{OnThis, OffThis, OnClass}
 use Rattle.checked_program.specs.declared.section.FieldUse.{FieldUse}
 use Rattle.graph_closure.specs.Walks.{IsEdge, Walks, Leads, AreLeading, AreRecurring}
 use Rattle.graph_closure.specs.LeastSet.{IsGraph}
 use Rattle.checked_program.specs.declared.call_edges.Graph.{Graph}
 use Rattle.guard_analysis.specs.CallGraph.{node_of, mode_at, AreCalls, call_graph}
-use Rattle.guard_analysis.specs.Faults.{fault_at, breaks_before, node_breaks, breaking_nodes, LeadsToBreak, LeadsToItself, AreCallees}
+use Rattle.guard_analysis.specs.Faults.{fault_at, breaks_before, node_breaks, breaking_nodes, LeadsToBreak, LeadsToItself, IsModeFor, FitsMethod, AreCallees}
 use Rattle.guard_analysis.proofs.CallEdges.{half_of, mode_back, node_low, with_tags, frames_there, edges_are_calls}
 
 -- ---- the methods that break a rule
 
-pub breaking_long : (p : Program) (uses : List FieldUse) (tags : List Tags) (n : ℕ) → length (breaking_nodes p uses tags n) ≡ n
-breaking_long p uses tags zero = refl
-breaking_long p uses tags (suc a) = length-append (breaking_nodes p uses tags a) _ ∙ ap (λ n. n + 1) (breaking_long p uses tags a) ∙ omega arith
+pub breaking_long : (p : Program) (uses : List FieldUse) (tags : List Tags) (class n : ℕ) → length (breaking_nodes p uses tags class n) ≡ n
+breaking_long p uses tags class zero = refl
+breaking_long p uses tags class (suc a) = length-append (breaking_nodes p uses tags class a) _ ∙ ap (λ n. n + 1) (breaking_long p uses tags class a) ∙ omega arith
 
-abbrev node_flag : Program → List FieldUse → List Tags → ℕ → Bool
-node_flag p uses tags a = node_breaks p uses (slice_get p.methods (a / 2)) (slice_get tags (a / 2)) (mode_at a)
+abbrev node_flag : Program → List FieldUse → List Tags → (class : ℕ) → ℕ → Bool
+node_flag p uses tags class a = node_breaks p uses (slice_get p.methods (a / 3)) (slice_get tags (a / 3)) (mode_at class a)
 
-breaking_at : (p : Program) (uses : List FieldUse) (tags : List Tags) (n a : ℕ) → a < n → slice_index_or (breaking_nodes p uses tags n) a false ≡ node_flag p uses tags a
-breaking_at p uses tags zero a l = absurd (omega (arith, l))
-breaking_at p uses tags (suc n) a l = ⊎_elim
-    (λ (q : a ≡ n). get_or_push (breaking_nodes p uses tags n) (node_flag p uses tags n) false a (breaking_long p uses tags n ∙ sym q) ∙ ap (node_flag p uses tags) (sym q))
+breaking_at : (p : Program) (uses : List FieldUse) (tags : List Tags) (class n a : ℕ) → a < n → slice_index_or (breaking_nodes p uses tags class n) a false ≡ node_flag p uses tags class a
+breaking_at p uses tags class zero a l = absurd (omega (arith, l))
+breaking_at p uses tags class (suc n) a l = ⊎_elim
+    (λ (q : a ≡ n). get_or_push (breaking_nodes p uses tags class n) (node_flag p uses tags class n) false a (breaking_long p uses tags class n ∙ sym q) ∙ ap (node_flag p uses tags class) (sym q))
     (λ (q : a ≢ n). let low : a < n = omega (arith, l, q) in
-    get_or_append_left (breaking_nodes p uses tags n) _ false a (subst (λ m. a < m) (sym (breaking_long p uses tags n)) low) ∙ breaking_at p uses tags n a low)
+    get_or_append_left (breaking_nodes p uses tags class n) _ false a (subst (λ m. a < m) (sym (breaking_long p uses tags class n)) low) ∙ breaking_at p uses tags class n a low)
     (cases_eq a n)
 
 abbrev the_fault : Program → List FieldUse → Mode → MethodInfo → List (Option TagShape) → ℕ → ℕ
@@ -107,10 +110,10 @@ module _ (p : Program) (uses : List FieldUse) (tags : List Tags) (is : IsProgram
       let is_fault : the_fault p uses b.mode k.m has.0.frames i ≡ n = rw (k.at.in_code, k.at.names, at_frame) k.fault_is in
       rw (k.at.in_program, has.1) (broken_in p uses k.m has.0.frames b.mode (length k.m.code) i (slice_get_within k.m.code i k.insn k.at.in_code) (omega (arith, is_fault, k.some)))
 
-  flag_of : (b : Callee) → b.method < length p.methods → slice_index_or (breaking_nodes p uses tags (2 * length p.methods)) (node_of b) false ≡ node_breaks p uses (slice_get p.methods b.method) (slice_get tags b.method) b.mode
-  flag_of b l = breaking_at p uses tags (2 * length p.methods) (node_of b) (node_low (length p.methods) b.method b.mode l)
-      ∙ ap (λ u. node_breaks p uses (slice_get p.methods u) (slice_get tags u) (mode_at (node_of b))) (half_of b.method b.mode)
-      ∙ ap (λ (mode : Mode). node_breaks p uses (slice_get p.methods b.method) (slice_get tags b.method) mode) (mode_back b.method b.mode)
+  flag_of : (class : ℕ) (b : Callee) → IsModeFor class b.mode → b.method < length p.methods → slice_index_or (breaking_nodes p uses tags class (3 * length p.methods)) (node_of b) false ≡ node_breaks p uses (slice_get p.methods b.method) (slice_get tags b.method) b.mode
+  flag_of class b fits l = breaking_at p uses tags class (3 * length p.methods) (node_of b) (node_low (length p.methods) b.method b.mode l)
+      ∙ ap (λ u. node_breaks p uses (slice_get p.methods u) (slice_get tags u) (mode_at class (node_of b))) (half_of b.method b.mode)
+      ∙ ap (λ (mode : Mode). node_breaks p uses (slice_get p.methods b.method) (slice_get tags b.method) mode) (mode_back class b.method b.mode fits)
 
 -- ---- chains of calls and walks
 
@@ -127,17 +130,41 @@ module _ (p : Program) (tags : Tagged) (from to : List ℕ) (c : AreCalls p tags
       (r.0, r.1, (one.0 ∷ r.2.0, (one.2, r.2.1)))
 
 same_method : (a b : Callee) → node_of a ≡ node_of b → a.method ≡ b.method
-same_method a b e = sym (half_of a.method a.mode) ∙ ap (λ n. n / 2) e ∙ half_of b.method b.mode
+same_method a b e = sym (half_of a.method a.mode) ∙ ap (λ n. n / 3) e ∙ half_of b.method b.mode
 
-pub same_callee : (a b : Callee) → node_of a ≡ node_of b → a ≡ b
-same_callee a b e = let m : a.method ≡ b.method = same_method a b e in
-    let q : a.mode ≡ b.mode = sym (mode_back a.method a.mode) ∙ ap mode_at e ∙ mode_back b.method b.mode in
+pub same_callee : (class : ℕ) (a b : Callee) → IsModeFor class a.mode → IsModeFor class b.mode → node_of a ≡ node_of b → a ≡ b
+same_callee class a b fits also e = let m : a.method ≡ b.method = same_method a b e in
+    let q : a.mode ≡ b.mode = sym (mode_back class a.method a.mode fits) ∙ ap (mode_at class) e ∙ mode_back class b.method b.mode also in
     λ i. record { method = m i; mode = q i }
+
+-- a section on a class runs all that it calls as that
+pub fits_called : (class : ℕ) (mode : Mode) (t : Tag) → IsModeFor class mode → IsModeFor class (called_mode mode t)
+fits_called class OnThis t fits = fits_if (is_own_object OnThis t)
+  where
+    fits_if : (own : Bool) → IsModeFor class (mode_if own)
+    fits_if true = tt
+    fits_if false = tt
+fits_called class OffThis t fits = tt
+fits_called class (OnClass c) t fits = fits
+
+pub no_class_lock : (m : MethodInfo) (b : Bool) → b ≡ locks_class m → b ≡ false → is_synchronized m.flags ≡ true → is_static m.flags ≡ true → ⊥
+no_class_lock m b is none locks static =
+    let both : locks_class m ≡ true = rw (locks, static) refl in
+    let bad : true ≡ false = sym both ∙ sym is ∙ none in
+    cc
+
+-- the nodes of a class stand for what the section of a method runs that locks that class, or none
+pub fits_method : (class : ℕ) (m : MethodInfo) → (is_synchronized m.flags ≡ true → is_static m.flags ≡ true → m.class ≡ class) → FitsMethod class m
+fits_method class m own locks = by_static (is_static m.flags) (own locks)
+  where
+    by_static : (b : Bool) → (b ≡ true → m.class ≡ class) → IsModeFor class (if b then OnClass m.class else OnThis)
+    by_static true h = h refl
+    by_static false h = tt
 
 module _ (p : Program) (tags : Tagged) where
   -- a call in one mode is one in each
   in_mode : (a : Callee) (i : ℕ) (b : Callee) (mode : Mode) → Calls p tags a i b → (to : Mode) × Calls p tags (callee a.method mode) i (callee b.method to)
-  in_mode a i b mode c = (mode_if (is_own_object mode (receiver_tag p c.insn.op c.target c.f.stack)), record { m = c.m; insn = c.insn; target = c.target; f = c.f; at = c.at; called = c.called; mode_is = refl })
+  in_mode a i b mode c = (called_mode mode (receiver_tag p c.insn.op c.target c.f.stack), record { m = c.m; insn = c.insn; target = c.target; f = c.f; at = c.at; called = c.called; mode_is = refl })
 
   through_in : (a : Callee) (ns : List Callee) (b : Callee) (mode : Mode) → CallsThrough p tags a ns b → (to : Mode) × ((over : List Callee) × CallsThrough p tags (callee a.method mode) over (callee b.method to))
   through_in a [] b mode w = (mode, ([], ap (λ (x : Callee). callee x.method mode) w))
@@ -148,11 +175,25 @@ module _ (p : Program) (tags : Tagged) where
 
   -- off this, all are
   off_one : (a : Callee) (i : ℕ) (b : Callee) → a.mode ≡ OffThis → Calls p tags a i b → b.mode ≡ OffThis
-  off_one a i b e c = c.mode_is ∙ ap (λ (mode : Mode). mode_if (is_own_object mode (receiver_tag p c.insn.op c.target c.f.stack))) e
+  off_one a i b e c = c.mode_is ∙ ap (λ (mode : Mode). called_mode mode (receiver_tag p c.insn.op c.target c.f.stack)) e
 
   off_all : (a : Callee) (ns : List Callee) (b : Callee) → a.mode ≡ OffThis → CallsThrough p tags a ns b → b.mode ≡ OffThis
   off_all a [] b e w = sym (ap (λ (x : Callee). x.mode) w) ∙ e
   off_all a (n ∷ ns) b e w = off_all n ns b (off_one a w.0.0 n e w.0.1) w.1
+
+  -- and on a class, all are
+  pub class_one : (class : ℕ) (a : Callee) (i : ℕ) (b : Callee) → a.mode ≡ OnClass class → Calls p tags a i b → b.mode ≡ OnClass class
+  class_one class a i b e c = c.mode_is ∙ ap (λ (mode : Mode). called_mode mode (receiver_tag p c.insn.op c.target c.f.stack)) e
+
+  class_all : (class : ℕ) (a : Callee) (ns : List Callee) (b : Callee) → a.mode ≡ OnClass class → CallsThrough p tags a ns b → b.mode ≡ OnClass class
+  class_all class a [] b e w = sym (ap (λ (x : Callee). x.mode) w) ∙ e
+  class_all class a (n ∷ ns) b e w = class_all class n ns b (class_one class a w.0.0 n e w.0.1) w.1
+
+  fits_all : (class : ℕ) (a : Callee) (ns : List Callee) (b : Callee) → IsModeFor class a.mode → CallsThrough p tags a ns b → IsModeFor class b.mode
+  fits_all class a [] b fits w = subst (λ (x : Callee). IsModeFor class x.mode) w fits
+  fits_all class a (n ∷ ns) b fits w =
+      let c = w.0.1 in
+      fits_all class n ns b (subst (IsModeFor class) (sym c.mode_is) (fits_called class a.mode (receiver_tag p c.insn.op c.target c.f.stack) fits)) w.1
 
   more_calls : (a : Callee) (ns : List Callee) (b : Callee) (ms : List Callee) (c : Callee) → CallsThrough p tags a ns b → CallsThrough p tags b ms c → (over : List Callee) × CallsThrough p tags a over c
   more_calls a [] b ms c w v = (ms, subst (λ (x : Callee). CallsThrough p tags x ms c) (sym w) v)
@@ -161,6 +202,14 @@ module _ (p : Program) (tags : Tagged) where
   -- a cycle off this at a method that calls itself
   cycle_off : (u : ℕ) → CallsItself p tags u → (first : Callee) × (Invokes p tags (callee u OffThis) first) × ((over : List Callee) × CallsThrough p tags first over (callee u OffThis))
   cycle_off u k = (k.first, k.calls, (k.over, subst (λ (mode : Mode). CallsThrough p tags k.first k.over (callee u mode)) (off_all k.first k.over (callee u k.mode) (off_one (callee u OffThis) k.calls.0 k.first refl k.calls.1) k.through) k.through))
+
+  cycle_class : (class u : ℕ) → CallsItself p tags u → (first : Callee) × (Invokes p tags (callee u (OnClass class)) first) × ((over : List Callee) × CallsThrough p tags first over (callee u (OnClass class)))
+  cycle_class class u k =
+      let step = in_mode (callee u OffThis) k.calls.0 k.first (OnClass class) k.calls.1 in
+      let r = through_in k.first k.over (callee u k.mode) step.0 k.through in
+      let on : step.0 ≡ OnClass class = class_one class (callee u (OnClass class)) k.calls.0 (callee k.first.method step.0) refl step.1 in
+      let back : r.0 ≡ OnClass class = class_all class (callee k.first.method step.0) r.1.0 (callee u r.0) on r.1.1 in
+      (callee k.first.method step.0, (k.calls.0, step.1), (r.1.0, subst (λ (mode : Mode). CallsThrough p tags (callee k.first.method step.0) r.1.0 (callee u mode)) back r.1.1))
 
   -- a chain that ends at it leads to a cycle, in the one mode or the other
   pub record HasCycle (b : Callee) : Type 0 where
@@ -174,6 +223,7 @@ module _ (p : Program) (tags : Tagged) where
 
   cycle_from : (b : Callee) (over : List Callee) (u : ℕ) (mode : Mode) → CallsThrough p tags b over (callee u mode) → CallsItself p tags u → HasCycle b
   cycle_from b over u OffThis w k = let r = cycle_off u k in record { at = callee u OffThis; over = over; through = w; first = r.0; calls = r.1; round = r.2.0; back = r.2.1 }
+  cycle_from b over u (OnClass class) w k = let r = cycle_class class u k in record { at = callee u (OnClass class); over = over; through = w; first = r.0; calls = r.1; round = r.2.0; back = r.2.1 }
   cycle_from b over u OnThis w k =
       let step = in_mode (callee u OffThis) k.calls.0 k.first OnThis k.calls.1 in
       let r = through_in k.first k.over (callee u k.mode) step.0 k.through in
@@ -181,12 +231,16 @@ module _ (p : Program) (tags : Tagged) where
     where
       by_mode : (to : Mode) (first : Callee) → Invokes p tags (callee u OnThis) first → (round : List Callee) → CallsThrough p tags first round (callee u to) → HasCycle b
       by_mode OnThis first calls round back = record { at = callee u OnThis; over = over; through = w; first = first; calls = calls; round = round; back = back }
+      by_mode (OnClass class) first calls round back =
+          let way = more_calls b over (callee u OnThis) (first ∷ round) (callee u (OnClass class)) w (calls, back) in
+          let r = cycle_class class u k in
+          record { at = callee u (OnClass class); over = way.0; through = way.1; first = r.0; calls = r.1; round = r.2.0; back = r.2.1 }
       by_mode OffThis first calls round back =
           let way = more_calls b over (callee u OnThis) (first ∷ round) (callee u OffThis) w (calls, back) in
           let r = cycle_off u k in
           record { at = callee u OffThis; over = way.0; through = way.1; first = r.0; calls = r.1; round = r.2.0; back = r.2.1 }
 
-module _ (p : Program) (tags : List Tags) (is : IsProgram p) (recurs : List Bool) (cycles : AreRecurring (call_graph p tags).from (call_graph p tags).to (2 * length p.methods) recurs) where
+module _ (p : Program) (tags : List Tags) (is : IsProgram p) (recurs : List Bool) (cycles : AreRecurring (call_graph p tags).from (call_graph p tags).to (3 * length p.methods) recurs) where
   -- a node that leads to a method which calls itself is flagged
   pub itself_flagged : (b : Callee) → b.method < length p.methods → LeadsToItself p (tagged_by tags) b → slice_index_or recurs (node_of b) false ≡ true
   itself_flagged b l k =
@@ -198,35 +252,35 @@ module _ (p : Program) (tags : List Tags) (is : IsProgram p) (recurs : List Bool
         (node_of cycle.first, edges.there cycle.at cycle.first cycle.calls.0 cycle.calls.1, walked p (tagged_by tags) (call_graph p tags).from (call_graph p tags).to edges cycle.first cycle.round cycle.at cycle.back),
       )
 
-module _ (p : Program) (uses : List FieldUse) (tags : List Tags) (is : IsProgram p) (breaks recurs : List Bool) (leads : AreLeading (call_graph p tags).from (call_graph p tags).to (breaking_nodes p uses tags (2 * length p.methods)) breaks)
-    (cycles : AreRecurring (call_graph p tags).from (call_graph p tags).to (2 * length p.methods) recurs) where
+module _ (p : Program) (uses : List FieldUse) (tags : List Tags) (class : ℕ) (is : IsProgram p) (breaks recurs : List Bool) (leads : AreLeading (call_graph p tags).from (call_graph p tags).to (breaking_nodes p uses tags class (3 * length p.methods)) breaks)
+    (cycles : AreRecurring (call_graph p tags).from (call_graph p tags).to (3 * length p.methods) recurs) where
   edges : AreCalls p (tagged_by tags) (call_graph p tags).from (call_graph p tags).to
   edges = edges_are_calls p tags is
 
-  low_node : (b : Callee) → b.method < length p.methods → node_of b < 2 * length p.methods
+  low_node : (b : Callee) → b.method < length p.methods → node_of b < 3 * length p.methods
   low_node b l = node_low (length p.methods) b.method b.mode l
 
-  inside : (b : Callee) → b.method < length p.methods → node_of b < length (breaking_nodes p uses tags (2 * length p.methods))
-  inside b l = subst (λ n. node_of b < n) (sym (breaking_long p uses tags (2 * length p.methods))) (low_node b l)
+  inside : (b : Callee) → b.method < length p.methods → node_of b < length (breaking_nodes p uses tags class (3 * length p.methods))
+  inside b l = subst (λ n. node_of b < n) (sym (breaking_long p uses tags class (3 * length p.methods))) (low_node b l)
 
-  to_break : (b : Callee) → b.method < length p.methods → slice_index_or breaks (node_of b) false ≡ true → LeadsToBreak p (tagged_by tags) uses b
-  to_break b l e =
+  to_break : (b : Callee) → IsModeFor class b.mode → b.method < length p.methods → slice_index_or breaks (node_of b) false ≡ true → LeadsToBreak p (tagged_by tags) uses b
+  to_break b fits l e =
       let found = (leads.each (node_of b) (inside b l)).0 e in
       let end = called p (tagged_by tags) (call_graph p tags).from (call_graph p tags).to edges b found.2.0 found.0 found.2.1 in
-      let flag : slice_index_or (breaking_nodes p uses tags (2 * length p.methods)) (node_of end.0) false ≡ true = subst (λ y. slice_index_or (breaking_nodes p uses tags (2 * length p.methods)) y false ≡ true) (sym end.1) found.3 in
-      let low : node_of end.0 < 2 * length p.methods = subst (λ y. y < 2 * length p.methods) (sym end.1) (subst (λ n. found.0 < n) (breaking_long p uses tags (2 * length p.methods)) found.1) in
+      let flag : slice_index_or (breaking_nodes p uses tags class (3 * length p.methods)) (node_of end.0) false ≡ true = subst (λ y. slice_index_or (breaking_nodes p uses tags class (3 * length p.methods)) y false ≡ true) (sym end.1) found.3 in
+      let low : node_of end.0 < 3 * length p.methods = subst (λ y. y < 3 * length p.methods) (sym end.1) (subst (λ n. found.0 < n) (breaking_long p uses tags class (3 * length p.methods)) found.1) in
       let method_low : end.0.method < length p.methods = omega (arith, low) in
-      let broken = flag_broken p uses tags is end.0 (slice_get p.methods end.0.method) (slice_get tags end.0.method) refl refl (sym (flag_of p uses tags is end.0 method_low) ∙ flag) in
+      let broken = flag_broken p uses tags is end.0 (slice_get p.methods end.0.method) (slice_get tags end.0.method) refl refl (sym (flag_of p uses tags is class end.0 (fits_all p (tagged_by tags) class b end.2.0 end.0 fits end.2.1) method_low) ∙ flag) in
       record { called = end.0; over = end.2.0; through = end.2.1; i = broken.0; n = broken.1; breaks = broken.2 }
 
-  from_break : (b : Callee) → b.method < length p.methods → LeadsToBreak p (tagged_by tags) uses b → slice_index_or breaks (node_of b) false ≡ true
-  from_break b l k =
+  from_break : (b : Callee) → IsModeFor class b.mode → b.method < length p.methods → LeadsToBreak p (tagged_by tags) uses b → slice_index_or breaks (node_of b) false ≡ true
+  from_break b fits l k =
       let low : k.called.method < length p.methods = slice_get_within p.methods k.called.method k.breaks.m k.breaks.at.in_program in
       (leads.each (node_of b) (inside b l)).1 (
         node_of k.called,
         inside k.called low,
         walked p (tagged_by tags) (call_graph p tags).from (call_graph p tags).to edges b k.over k.called k.through,
-        flag_of p uses tags is k.called low ∙ broken_flag p uses tags is k.called k.i k.n k.breaks,
+        flag_of p uses tags is class k.called (fits_all p (tagged_by tags) class b k.over k.called fits k.through) low ∙ broken_flag p uses tags is k.called k.i k.n k.breaks,
       )
 
   to_itself : (b : Callee) → b.method < length p.methods → slice_index_or recurs (node_of b) false ≡ true → LeadsToItself p (tagged_by tags) b
@@ -251,9 +305,9 @@ module _ (p : Program) (uses : List FieldUse) (tags : List Tags) (is : IsProgram
         };
       }
 
-  pub callees_are : AreCallees p (tagged_by tags) uses breaks recurs
+  pub callees_are : AreCallees p (tagged_by tags) uses class breaks recurs
   callees_are = record {
-    broken = λ b l. (to_break b l, from_break b l);
+    broken = λ b fits l. (to_break b fits l, from_break b fits l);
     again = λ b l. (to_itself b l, itself_flagged p tags is recurs cycles b l);
   }
 
@@ -263,10 +317,10 @@ pub graph_shown : (n m : ℕ) (g h : Graph) (from to : List ℕ) → g ≡ h →
 graph_shown n m g h from to q e f l is = subst (λ k. IsGraph k from to) (sym l)
     (subst (λ xs. IsGraph n xs to) (sym (e ∙ ap (λ (x : Graph). x.from) q)) (subst (λ xs. IsGraph n h.from xs) (sym (f ∙ ap (λ (x : Graph). x.to) q)) is))
 
-pub callees_shown : (p : Program) (uses : List FieldUse) (tags : List Tags) (n : ℕ) (g : Graph) (from to from' to' : List ℕ) (items shown breaks recurs : List Bool) → IsProgram p → g ≡ call_graph p tags → from ≡ g.from → to ≡ g.to → from' ≡ g.from → to' ≡ g.to → n ≡ length p.methods
-    → items ≡ breaking_nodes p uses tags (2 * length p.methods) → shown ≡ items → AreLeading from to shown breaks → AreRecurring from' to' (2 * n) recurs → AreCallees p (tagged_by tags) uses breaks recurs
-callees_shown p uses tags n g from to from' to' items shown breaks recurs is q e f e' f' l i s leads cycles = callees_are p uses tags is breaks recurs
-    (subst (λ xs. AreLeading xs (call_graph p tags).to (breaking_nodes p uses tags (2 * length p.methods)) breaks) (e ∙ ap (λ (x : Graph). x.from) q)
-    (subst (λ xs. AreLeading from xs (breaking_nodes p uses tags (2 * length p.methods)) breaks) (f ∙ ap (λ (x : Graph). x.to) q) (subst (λ xs. AreLeading from to xs breaks) (s ∙ i) leads)))
-    (subst (λ xs. AreRecurring xs (call_graph p tags).to (2 * length p.methods) recurs) (e' ∙ ap (λ (x : Graph). x.from) q)
-    (subst (λ xs. AreRecurring from' xs (2 * length p.methods) recurs) (f' ∙ ap (λ (x : Graph). x.to) q) (subst (λ k. AreRecurring from' to' (2 * k) recurs) l cycles)))
+pub callees_shown : (p : Program) (uses : List FieldUse) (tags : List Tags) (class n : ℕ) (g : Graph) (from to from' to' : List ℕ) (items shown breaks recurs : List Bool) → IsProgram p → g ≡ call_graph p tags → from ≡ g.from → to ≡ g.to → from' ≡ g.from → to' ≡ g.to → n ≡ length p.methods
+    → items ≡ breaking_nodes p uses tags class (3 * length p.methods) → shown ≡ items → AreLeading from to shown breaks → AreRecurring from' to' (3 * n) recurs → AreCallees p (tagged_by tags) uses class breaks recurs
+callees_shown p uses tags class n g from to from' to' items shown breaks recurs is q e f e' f' l i s leads cycles = callees_are p uses tags class is breaks recurs
+    (subst (λ xs. AreLeading xs (call_graph p tags).to (breaking_nodes p uses tags class (3 * length p.methods)) breaks) (e ∙ ap (λ (x : Graph). x.from) q)
+    (subst (λ xs. AreLeading from xs (breaking_nodes p uses tags class (3 * length p.methods)) breaks) (f ∙ ap (λ (x : Graph). x.to) q) (subst (λ xs. AreLeading from to xs breaks) (s ∙ i) leads)))
+    (subst (λ xs. AreRecurring xs (call_graph p tags).to (3 * length p.methods) recurs) (e' ∙ ap (λ (x : Graph). x.from) q)
+    (subst (λ xs. AreRecurring from' xs (3 * length p.methods) recurs) (f' ∙ ap (λ (x : Graph). x.to) q) (subst (λ k. AreRecurring from' to' (3 * k) recurs) l cycles)))

@@ -7,21 +7,24 @@ use Rattle.std.proofs.lemmas.Bool.Decides.{nat_tests}
 use Rattle.std.proofs.lemmas.List.{length-replicate, length-set}
 use Rattle.std.proofs.lemmas.Option.{slice_get_within, same_Some}
 use Rattle.jvm_types.specs.CodeTable.{is_init}
-use Rattle.jvm_types.specs.ProgramInvariant.{IsProgram}
+use Rattle.jvm_types.specs.Members.{is_static}
+use Rattle.jvm_types.specs.ProgramInvariant.{IsProgram, IsTargetOf, site_in}
 use Rattle.jvm_types.specs.declared.code.Insn.{Insn}
 use Rattle.jvm_types.specs.declared.code.Op.{Op}
 use Rattle.jvm_types.specs.declared.code.Op.TheVariants as ops
 use Rattle.jvm_types.specs.declared.program.Target.{Target}
 use Rattle.jvm_types.specs.declared.program.Target.TheVariants as targets
+use Rattle.jvm_types.specs.declared.program.FieldInfo.{FieldInfo}
 use Rattle.jvm_types.specs.declared.program.MethodInfo.{MethodInfo}
 use Rattle.jvm_types.specs.declared.program.Program.{Program}
 use Rattle.checked_program.specs.LockTags.{TagShape, is_this}
 use Rattle.checked_program.specs.TaggedCode.{Tagged, IsAt, tagged_by}
-use Rattle.checked_program.specs.FrozenPlaces.{PutsGuarded, WritesGuarded, locks_this}
+use Rattle.checked_program.specs.FrozenPlaces.{PutsGuarded, PutsStatic, WritesGuarded, locks_this, writes_class}
 use Rattle.checked_program.specs.declared.tag.Tag.{Tag}
 use Rattle.checked_program.specs.declared.tag.Tag.TheVariants.{Untagged, This, At}
 use Rattle.checked_program.specs.declared.tag.Tags.{Tags}
-use Rattle.guard_analysis.specs.FieldUses.{writes_guarded, unless_guarded, unguarded_write, unguarded_at, field_noted, noted_before, noted_in, unguarded_before}
+use Rattle.guard_analysis.specs.FieldUses.{writes_guarded, writes_class_of, unless_guarded, unguarded_write, unguarded_at, field_noted, noted_before, noted_in, unguarded_before}
+use Rattle.checked_program.proofs.NamedFields.{sort_written, sort_written_static, target_named}
 use Rattle.guard_analysis.proofs.CallEdges.{with_tags, frames_there}
 
 -- ---- flags
@@ -82,44 +85,44 @@ noted_here flags o fi l e = let test : nat_lt fi (length flags) ≡ true = grind
 
 -- ---- one method
 
-abbrev write_at : MethodInfo → List (Option TagShape) → ℕ → Option ℕ
-write_at m frames i = unguarded_at m (slice_get m.code i) (slice_get m.targets i) (slice_get frames i)
+abbrev write_at : Program → MethodInfo → List (Option TagShape) → ℕ → Option ℕ
+write_at p m frames i = unguarded_at p m (slice_get m.code i) (slice_get m.targets i) (slice_get frames i)
 
-module _ (m : MethodInfo) (frames : List (Option TagShape)) (flags : List Bool) where
-  before_long : (k : ℕ) → length (noted_before m frames flags k) ≡ length flags
+module _ (p : Program) (m : MethodInfo) (frames : List (Option TagShape)) (flags : List Bool) where
+  before_long : (k : ℕ) → length (noted_before p m frames flags k) ≡ length flags
   before_long zero = refl
-  before_long (suc k) = noted_long (noted_before m frames flags k) (write_at m frames k) ∙ before_long k
+  before_long (suc k) = noted_long (noted_before p m frames flags k) (write_at p m frames k) ∙ before_long k
 
-  before_true : (k fi : ℕ) → flag (noted_before m frames flags k) fi ≡ true → (flag flags fi ≡ true) ⊎ ((i : ℕ) × (write_at m frames i ≡ Some fi))
+  before_true : (k fi : ℕ) → flag (noted_before p m frames flags k) fi ≡ true → (flag flags fi ≡ true) ⊎ ((i : ℕ) × (write_at p m frames i ≡ Some fi))
   before_true zero fi h = inl h
-  before_true (suc k) fi h = ⊎_elim (λ e. before_true k fi e) (λ e. inr (k, e)) (noted_true (noted_before m frames flags k) (write_at m frames k) fi h)
+  before_true (suc k) fi h = ⊎_elim (λ e. before_true k fi e) (λ e. inr (k, e)) (noted_true (noted_before p m frames flags k) (write_at p m frames k) fi h)
 
-  before_keeps : (k fi : ℕ) → flag flags fi ≡ true → flag (noted_before m frames flags k) fi ≡ true
+  before_keeps : (k fi : ℕ) → flag flags fi ≡ true → flag (noted_before p m frames flags k) fi ≡ true
   before_keeps zero fi h = h
-  before_keeps (suc k) fi h = noted_keeps (noted_before m frames flags k) (write_at m frames k) fi (before_keeps k fi h)
+  before_keeps (suc k) fi h = noted_keeps (noted_before p m frames flags k) (write_at p m frames k) fi (before_keeps k fi h)
 
-  before_here : (k i fi : ℕ) → fi < length flags → i < k → write_at m frames i ≡ Some fi → flag (noted_before m frames flags k) fi ≡ true
+  before_here : (k i fi : ℕ) → fi < length flags → i < k → write_at p m frames i ≡ Some fi → flag (noted_before p m frames flags k) fi ≡ true
   before_here zero i fi l h e = absurd (omega (arith, h))
   before_here (suc k) i fi l h e = ⊎_elim
-      (λ (q : i ≡ k). noted_here (noted_before m frames flags k) (write_at m frames k) fi (subst (λ n. fi < n) (sym (before_long k)) l) (subst (λ j. write_at m frames j ≡ Some fi) q e))
-      (λ (q : i ≢ k). noted_keeps (noted_before m frames flags k) (write_at m frames k) fi (before_here k i fi l (omega (arith, h, q)) e)) (cases_eq i k)
+      (λ (q : i ≡ k). noted_here (noted_before p m frames flags k) (write_at p m frames k) fi (subst (λ n. fi < n) (sym (before_long k)) l) (subst (λ j. write_at p m frames j ≡ Some fi) q e))
+      (λ (q : i ≢ k). noted_keeps (noted_before p m frames flags k) (write_at p m frames k) fi (before_here k i fi l (omega (arith, h, q)) e)) (cases_eq i k)
 
 -- the three that stand at an instruction that writes so
-pub record AtWrite (oi : Option Insn) (ot : Option Target) (of : Option (Option TagShape)) (m : MethodInfo) (fi : ℕ) : Type 0 where
+pub record AtWrite (oi : Option Insn) (ot : Option Target) (of : Option (Option TagShape)) (p : Program) (m : MethodInfo) (fi : ℕ) : Type 0 where
   pub insn : Insn
   pub target : Target
   pub f : TagShape
   pub is_insn : oi ≡ Some insn
   pub is_target : ot ≡ Some target
   pub is_frame : of ≡ Some (Some f)
-  pub writes : unguarded_write m insn.op target f ≡ Some fi
+  pub writes : unguarded_write p m insn.op target f ≡ Some fi
 
-pub write_parts : (m : MethodInfo) (oi : Option Insn) (ot : Option Target) (of : Option (Option TagShape)) (fi : ℕ) → unguarded_at m oi ot of ≡ Some fi → AtWrite oi ot of m fi
-write_parts m (Some insn) (Some target) (Some (Some f)) fi e = record { insn = insn; target = target; f = f; is_insn = refl; is_target = refl; is_frame = refl; writes = e }
-write_parts m (Some insn) (Some target) (Some None) fi e = absurd (cc)
-write_parts m (Some insn) (Some target) None fi e = absurd (cc)
-write_parts m (Some insn) None of fi e = absurd (cc)
-write_parts m None ot of fi e = absurd (cc)
+pub write_parts : (p : Program) (m : MethodInfo) (oi : Option Insn) (ot : Option Target) (of : Option (Option TagShape)) (fi : ℕ) → unguarded_at p m oi ot of ≡ Some fi → AtWrite oi ot of p m fi
+write_parts p m (Some insn) (Some target) (Some (Some f)) fi e = record { insn = insn; target = target; f = f; is_insn = refl; is_target = refl; is_frame = refl; writes = e }
+write_parts p m (Some insn) (Some target) (Some None) fi e = absurd (cc)
+write_parts p m (Some insn) (Some target) None fi e = absurd (cc)
+write_parts p m (Some insn) None of fi e = absurd (cc)
+write_parts p m None ot of fi e = absurd (cc)
 
 -- ---- guards
 
@@ -134,25 +137,59 @@ guard_whole t b e h = rw (e, h) refl
 abbrev may_write : MethodInfo → TagShape → Bool
 may_write m f = is_init m || (list_any is_this f.held || locks_this m)
 
-pub guarded_if : (fi : ℕ) (m : MethodInfo) (op : Op) (target : Target) (f : TagShape) → (unguarded_write m op target f ≡ Some fi → ⊥) → PutsGuarded fi m op target f
-guarded_if fi m (ops.Putfield i) (targets.Field x) f h = λ (e : x ≡ fi). by_test (writes_guarded m f) refl (λ k. h (k ∙ ap (λ (y : ℕ). Some y) e))
-  where
-    by_test : (t : Bool) → writes_guarded m f ≡ t → (unless_guarded t x ≡ Some x → ⊥) → WritesGuarded m f
-    by_test true w k = guard_parts (slice_index_or f.stack 1 Untagged) (may_write m f) w
-    by_test false w k = absurd (k refl)
-guarded_if fi m op target f h = tt
+-- where a field may be written, by its sort
+abbrev pub PutsWell : ℕ → FieldInfo → MethodInfo → Op → Target → TagShape → Type 0
+PutsWell fi field m op target f = PutsGuarded fi m op target f × PutsStatic fi field.class m op target
 
-pub guarded_not : (fi : ℕ) (m : MethodInfo) (op : Op) (target : Target) (f : TagShape) → unguarded_write m op target f ≡ Some fi → PutsGuarded fi m op target f → ⊥
-guarded_not fi m (ops.Putfield i) (targets.Field x) f e g = by_test (writes_guarded m f) refl e
-  where
-    by_test : (t : Bool) → writes_guarded m f ≡ t → unless_guarded t x ≡ Some fi → ⊥
-    by_test true w k = let bad : None ≡ Some fi = k in cc
-    by_test false w k =
-        let guard = g (same_Some x fi k) in
-        let whole : writes_guarded m f ≡ true = guard_whole (slice_index_or f.stack 1 Untagged) (may_write m f) guard.0 guard.1 in
-        let bad : false ≡ true = sym w ∙ whole in
-        cc
-guarded_not fi m op target f e g = cc
+module _ (p : Program) (fi : ℕ) (field : FieldInfo) (is : slice_get p.fields fi ≡ Some field) (m : MethodInfo) where
+  class_writes : (x : ℕ) → x ≡ fi → writes_class_of (slice_get p.fields x) m ≡ writes_class field.class m
+  class_writes x e = ap (λ (n : ℕ). writes_class_of (slice_get p.fields n) m) e ∙ ap (λ (o : Option FieldInfo). writes_class_of o m) is
+
+  pub guarded_if : (op : Op) (target : Target) (f : TagShape) → (unguarded_write p m op target f ≡ Some fi → ⊥) → PutsWell fi field m op target f
+  guarded_if (ops.Putfield i) (targets.Field x) f h = ((λ (e : x ≡ fi). by_test (writes_guarded m f) refl (λ k. h (k ∙ ap (λ (y : ℕ). Some y) e))), tt)
+    where
+      by_test : (t : Bool) → writes_guarded m f ≡ t → (unless_guarded t x ≡ Some x → ⊥) → WritesGuarded m f
+      by_test true w k = guard_parts (slice_index_or f.stack 1 Untagged) (may_write m f) w
+      by_test false w k = absurd (k refl)
+  guarded_if (ops.Putstatic i) (targets.Field x) f h = (tt, λ (e : x ≡ fi). by_test (writes_class_of (slice_get p.fields x) m) refl e (λ k. h (k ∙ ap (λ (y : ℕ). Some y) e)))
+    where
+      by_test : (t : Bool) → writes_class_of (slice_get p.fields x) m ≡ t → x ≡ fi → (unless_guarded t x ≡ Some x → ⊥) → writes_class field.class m ≡ true
+      by_test true w e k = sym (class_writes x e) ∙ w
+      by_test false w e k = absurd (k refl)
+  guarded_if op target f h = (tt, tt)
+
+  pub guarded_not : (op : Op) (target : Target) (f : TagShape) → unguarded_write p m op target f ≡ Some fi → PutsWell fi field m op target f → ⊥
+  guarded_not (ops.Putfield i) (targets.Field x) f e g = by_test (writes_guarded m f) refl e
+    where
+      by_test : (t : Bool) → writes_guarded m f ≡ t → unless_guarded t x ≡ Some fi → ⊥
+      by_test true w k = let bad : None ≡ Some fi = k in cc
+      by_test false w k =
+          let guard = g.0 (same_Some x fi k) in
+          let whole : writes_guarded m f ≡ true = guard_whole (slice_index_or f.stack 1 Untagged) (may_write m f) guard.0 guard.1 in
+          let bad : false ≡ true = sym w ∙ whole in
+          cc
+  guarded_not (ops.Putstatic i) (targets.Field x) f e g = by_test (writes_class_of (slice_get p.fields x) m) refl e
+    where
+      by_test : (t : Bool) → writes_class_of (slice_get p.fields x) m ≡ t → unless_guarded t x ≡ Some fi → ⊥
+      by_test true w k = let bad : None ≡ Some fi = k in cc
+      by_test false w k =
+          let same : x ≡ fi = same_Some x fi k in
+          let bad : false ≡ true = sym w ∙ class_writes x same ∙ g.1 same in
+          cc
+  guarded_not op target f e g = cc
+
+  -- no instruction for instance fields writes a static one, nor the reverse
+  pub static_puts : is_static field.flags ≡ true → (op : Op) (target : Target) (f : TagShape) → IsTargetOf p (site_in m) op target → PutsGuarded fi m op target f
+  static_puts static (ops.Putfield i) (targets.Field x) f named = λ (e : x ≡ fi).
+      let instance : is_static field.flags ≡ false = sort_written p m i x named field (ap (slice_get p.fields) e ∙ is) in
+      absurd (let bad : true ≡ false = sym static ∙ instance in cc)
+  static_puts static op target f named = tt
+
+  pub instance_puts : is_static field.flags ≡ false → (op : Op) (target : Target) → IsTargetOf p (site_in m) op target → PutsStatic fi field.class m op target
+  instance_puts instance (ops.Putstatic i) (targets.Field x) named = λ (e : x ≡ fi).
+      let static : is_static field.flags ≡ true = sort_written_static p m i x named field (ap (slice_get p.fields) e ∙ is) in
+      absurd (let bad : true ≡ false = sym static ∙ instance in cc)
+  instance_puts instance op target named = tt
 
 -- ---- all methods
 
@@ -164,29 +201,29 @@ record WritesField (p : Program) (tags : Tagged) (fi mi : ℕ) : Type 0 where
   pub target : Target
   pub f : TagShape
   pub at : IsAt p tags mi i m insn target f
-  pub writes : unguarded_write m insn.op target f ≡ Some fi
+  pub writes : unguarded_write p m insn.op target f ≡ Some fi
 
-noted_in_long : (om : Option MethodInfo) (ot : Option Tags) (flags : List Bool) → length (noted_in om ot flags) ≡ length flags
-noted_in_long (Some m) (Some t) flags = before_long m t.frames flags (length m.code)
-noted_in_long (Some m) None flags = refl
-noted_in_long None ot flags = refl
+noted_in_long : (p : Program) (om : Option MethodInfo) (ot : Option Tags) (flags : List Bool) → length (noted_in p om ot flags) ≡ length flags
+noted_in_long p (Some m) (Some t) flags = before_long p m t.frames flags (length m.code)
+noted_in_long p (Some m) None flags = refl
+noted_in_long p None ot flags = refl
 
-noted_in_keeps : (om : Option MethodInfo) (ot : Option Tags) (flags : List Bool) (fi : ℕ) → flag flags fi ≡ true → flag (noted_in om ot flags) fi ≡ true
-noted_in_keeps (Some m) (Some t) flags fi h = before_keeps m t.frames flags (length m.code) fi h
-noted_in_keeps (Some m) None flags fi h = h
-noted_in_keeps None ot flags fi h = h
+noted_in_keeps : (p : Program) (om : Option MethodInfo) (ot : Option Tags) (flags : List Bool) (fi : ℕ) → flag flags fi ≡ true → flag (noted_in p om ot flags) fi ≡ true
+noted_in_keeps p (Some m) (Some t) flags fi h = before_keeps p m t.frames flags (length m.code) fi h
+noted_in_keeps p (Some m) None flags fi h = h
+noted_in_keeps p None ot flags fi h = h
 
 module _ (p : Program) (tags : List Tags) (is : IsProgram p) where
   all_long : (u : ℕ) → length (unguarded_before p tags u) ≡ length p.fields
   all_long zero = length-replicate (length p.fields) false
-  all_long (suc u) = noted_in_long (slice_get p.methods u) (slice_get tags u) (unguarded_before p tags u) ∙ all_long u
+  all_long (suc u) = noted_in_long p (slice_get p.methods u) (slice_get tags u) (unguarded_before p tags u) ∙ all_long u
 
-  in_true : (mi fi : ℕ) (om : Option MethodInfo) (ot : Option Tags) (flags : List Bool) → slice_get p.methods mi ≡ om → slice_get tags mi ≡ ot → flag (noted_in om ot flags) fi ≡ true → (flag flags fi ≡ true) ⊎ WritesField p (tagged_by tags) fi mi
-  in_true mi fi (Some m) (Some t) flags e g h = ⊎_elim (λ k. inl k) (λ k. inr (written k.0 k.1)) (before_true m t.frames flags (length m.code) fi h)
+  in_true : (mi fi : ℕ) (om : Option MethodInfo) (ot : Option Tags) (flags : List Bool) → slice_get p.methods mi ≡ om → slice_get tags mi ≡ ot → flag (noted_in p om ot flags) fi ≡ true → (flag flags fi ≡ true) ⊎ WritesField p (tagged_by tags) fi mi
+  in_true mi fi (Some m) (Some t) flags e g h = ⊎_elim (λ k. inl k) (λ k. inr (written k.0 k.1)) (before_true p m t.frames flags (length m.code) fi h)
     where
-      written : (i : ℕ) → write_at m t.frames i ≡ Some fi → WritesField p (tagged_by tags) fi mi
+      written : (i : ℕ) → write_at p m t.frames i ≡ Some fi → WritesField p (tagged_by tags) fi mi
       written i k =
-          let parts = write_parts m (slice_get m.code i) (slice_get m.targets i) (slice_get t.frames i) fi k in
+          let parts = write_parts p m (slice_get m.code i) (slice_get m.targets i) (slice_get t.frames i) fi k in
           record {
             i = i;
             m = m;
@@ -203,30 +240,40 @@ module _ (p : Program) (tags : List Tags) (is : IsProgram p) where
   all_true zero fi h = absurd (none_set (length p.fields) fi h)
   all_true (suc u) fi h = ⊎_elim (λ k. all_true u fi k) (λ w. (u, w)) (in_true u fi (slice_get p.methods u) (slice_get tags u) (unguarded_before p tags u) refl refl h)
 
-  in_here : (mi fi : ℕ) (flags : List Bool) → fi < length flags → WritesField p (tagged_by tags) fi mi → flag (noted_in (slice_get p.methods mi) (slice_get tags mi) flags) fi ≡ true
+  in_here : (mi fi : ℕ) (flags : List Bool) → fi < length flags → WritesField p (tagged_by tags) fi mi → flag (noted_in p (slice_get p.methods mi) (slice_get tags mi) flags) fi ≡ true
   in_here mi fi flags l w =
       let has = with_tags p tags is mi w.at.frames w.at.of_method in
       let at_frame : slice_get has.0.frames w.i ≡ Some (Some w.f) = subst (λ l. slice_get l w.i ≡ Some (Some w.f)) (sym has.2) w.at.frame in
-      let here : write_at w.m has.0.frames w.i ≡ Some fi = rw (w.at.in_code, w.at.names, at_frame) w.writes in
-      rw (w.at.in_program, has.1) (before_here w.m has.0.frames flags (length w.m.code) w.i fi l (slice_get_within w.m.code w.i w.insn w.at.in_code) here)
+      let here : write_at p w.m has.0.frames w.i ≡ Some fi = rw (w.at.in_code, w.at.names, at_frame) w.writes in
+      rw (w.at.in_program, has.1) (before_here p w.m has.0.frames flags (length w.m.code) w.i fi l (slice_get_within w.m.code w.i w.insn w.at.in_code) here)
 
   all_here : (u mi fi : ℕ) → mi < u → fi < length p.fields → WritesField p (tagged_by tags) fi mi → flag (unguarded_before p tags u) fi ≡ true
   all_here zero mi fi h l w = absurd (omega (arith, h))
   all_here (suc u) mi fi h l w = ⊎_elim
       (λ (q : mi ≡ u). in_here u fi (unguarded_before p tags u) (subst (λ n. fi < n) (sym (all_long u)) l) (subst (λ n. WritesField p (tagged_by tags) fi n) q w))
-      (λ (q : mi ≢ u). noted_in_keeps (slice_get p.methods u) (slice_get tags u) (unguarded_before p tags u) fi (all_here u mi fi (omega (arith, h, q)) l w)) (cases_eq mi u)
+      (λ (q : mi ≢ u). noted_in_keeps p (slice_get p.methods u) (slice_get tags u) (unguarded_before p tags u) fi (all_here u mi fi (omega (arith, h, q)) l w)) (cases_eq mi u)
 
   abbrev pub unguarded : List Bool
   unguarded = unguarded_before p tags (length p.methods)
 
-  abbrev pub AllGuarded : ℕ → Type 0
-  AllGuarded fi = (mi i : ℕ) (m : MethodInfo) (insn : Insn) (target : Target) (f : TagShape) → IsAt p (tagged_by tags) mi i m insn target f → PutsGuarded fi m insn.op target f
+  module _ (fi : ℕ) (field : FieldInfo) (there : slice_get p.fields fi ≡ Some field) where
+    abbrev pub AllGuarded : Type 0
+    AllGuarded = (mi i : ℕ) (m : MethodInfo) (insn : Insn) (target : Target) (f : TagShape) → IsAt p (tagged_by tags) mi i m insn target f → PutsWell fi field m insn.op target f
 
-  pub all_guarded : (fi : ℕ) → fi < length p.fields → flag unguarded fi ≡ false → AllGuarded fi
-  all_guarded fi l h mi i m insn target f at = guarded_if fi m insn.op target f (λ e.
-      let here = all_here (length p.methods) mi fi (slice_get_within p.methods mi m at.in_program) l (record { i = i; m = m; insn = insn; target = target; f = f; at = at; writes = e }) in
-      let bad : false ≡ true = sym h ∙ here in
-      cc)
+    pub all_guarded : flag unguarded fi ≡ false → AllGuarded
+    all_guarded h mi i m insn target f at = guarded_if p fi field there m insn.op target f (λ e.
+        let here = all_here (length p.methods) mi fi (slice_get_within p.methods mi m at.in_program) (slice_get_within p.fields fi field there) (record { i = i; m = m; insn = insn; target = target; f = f; at = at; writes = e }) in
+        let bad : false ≡ true = sym h ∙ here in
+        cc)
 
-  pub some_unguarded : (fi : ℕ) → flag unguarded fi ≡ true → AllGuarded fi → ⊥
-  some_unguarded fi h g = let w = all_true (length p.methods) fi h in guarded_not fi w.1.m w.1.insn.op w.1.target w.1.f w.1.writes (g w.0 w.1.i w.1.m w.1.insn w.1.target w.1.f w.1.at)
+    some_unguarded : flag unguarded fi ≡ true → AllGuarded → ⊥
+    some_unguarded h g = let w = all_true (length p.methods) fi h in guarded_not p fi field there w.1.m w.1.insn.op w.1.target w.1.f w.1.writes (g w.0 w.1.i w.1.m w.1.insn w.1.target w.1.f w.1.at)
+
+    -- an instance field, and a static one
+    pub some_on_another : is_static field.flags ≡ false → flag unguarded fi ≡ true
+        → ((mi i : ℕ) (m : MethodInfo) (insn : Insn) (target : Target) (f : TagShape) → IsAt p (tagged_by tags) mi i m insn target f → PutsGuarded fi m insn.op target f) → ⊥
+    some_on_another instance h g = some_unguarded h (λ mi i m insn target f at. (g mi i m insn target f at, instance_puts p fi field there m instance insn.op target (target_named p (tagged_by tags) mi i m insn target f is at)))
+
+    pub some_elsewhere : is_static field.flags ≡ true → flag unguarded fi ≡ true
+        → ((mi i : ℕ) (m : MethodInfo) (insn : Insn) (target : Target) (f : TagShape) → IsAt p (tagged_by tags) mi i m insn target f → PutsStatic fi field.class m insn.op target) → ⊥
+    some_elsewhere static h g = some_unguarded h (λ mi i m insn target f at. (static_puts p fi field there m static insn.op target f (target_named p (tagged_by tags) mi i m insn target f is at), g mi i m insn target f at))

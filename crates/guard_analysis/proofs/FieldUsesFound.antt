@@ -1,5 +1,5 @@
 -- How each field may be read, from what its class, its flags and all writes say.
-use Rattle.std.proofs.Common.{◌≡◌, ◌≢◌, ℕ, zero, suc, ◌+◌, ◌-◌, ◌<◌, ◌≤◌, Bool, true, false, not, ◌&&◌, ◌||◌, List, [], ◌∷◌, length, Option, Some, None, refl, sym, ap, subst, ◌∙◌, arith, ⊎_elim}
+use Rattle.std.proofs.Common.{◌≡◌, ◌≢◌, ℕ, zero, suc, ◌+◌, ◌-◌, ◌<◌, ◌≤◌, Bool, true, false, not, ◌&&◌, ◌||◌, List, [], ◌∷◌, length, Option, Some, None, refl, sym, ap, subst, ◌∙◌, arith, ⊎_elim, inl, inr, ◌⊎◌}
 use Rattle.std.specs.Prelude.{nat_lt, if◌then◌else◌, slice_get, slice_index_or}
 use Rattle.std.proofs.lemmas.Bool.{cases_eq}
 use Rattle.std.proofs.lemmas.Bool.Decides.{nat_tests}
@@ -11,13 +11,13 @@ use Rattle.jvm_types.specs.ProgramInvariant.{IsProgram, IsFileClass}
 use Rattle.jvm_types.specs.declared.program.FieldInfo.{FieldInfo}
 use Rattle.jvm_types.specs.declared.program.Program.{Program}
 use Rattle.checked_program.specs.TaggedCode.{tagged_by}
-use Rattle.checked_program.specs.FrozenPlaces.{IsFrozenClass, IsFrozenField, IsGuardedField, IsUse, AreUses}
+use Rattle.checked_program.specs.FrozenPlaces.{IsFrozenClass, IsFrozenField, IsFrozenStatic, IsFrozenUse, IsGuardedField, IsGuardedStatic, IsGuardedUse, PutsStatic, IsUse, AreUses}
 use Rattle.checked_program.specs.declared.tag.Tags.{Tags}
 use Rattle.checked_program.specs.declared.section.FieldUse.{FieldUse}
 use Rattle.checked_program.specs.declared.section.FieldUse.TheVariants.{Frozen, Guarded, Open}
 use Rattle.guard_analysis.specs.FieldUses.{unguarded_before, use_by, class_flag, use_at, uses_before}
 use Rattle.frozen_classes.specs.FrozenClasses.{AreFrozenClasses, TellsFrozen}
-use Rattle.guard_analysis.proofs.FieldUseLaws.{all_guarded, some_unguarded}
+use Rattle.guard_analysis.proofs.FieldUseLaws.{all_guarded, some_on_another, some_elsewhere}
 
 -- ---- one by one
 
@@ -67,35 +67,50 @@ module _ (p : Program) (tags : List Tags) (is : IsProgram p) (frozen : List Bool
     not_frozen : class_flag frozen field.class ≡ false → IsFrozenClass p (tagged_by tags) field.class → ⊥
     not_frozen h = subst (λ b. TellsFrozen p (tagged_by tags) field.class b) h told
 
-    the_frozen : (r : IsFrozenField p (tagged_by tags) fi) → r.field ≡ field
-    the_frozen r = same_Some r.field field (sym r.is ∙ e)
-
-    the_guarded : (r : IsGuardedField p (tagged_by tags) fi) → r.field ≡ field
-    the_guarded r = same_Some r.field field (sym r.is ∙ e)
-
     not_both : (b : Bool) → b ≡ true → b ≡ false → ⊥
     not_both b h k = cc
 
+    same_field : (other : FieldInfo) → slice_get p.fields fi ≡ Some other → other ≡ field
+    same_field other k = same_Some other field (sym k ∙ e)
+
+    -- a frozen field is final; of an instance field its class is frozen
+    no_frozen : is_final field.flags ≡ false → IsFrozenUse p (tagged_by tags) fi → ⊥
+    no_frozen ef (inl r) = not_both (is_final field.flags) (subst (λ (x : FieldInfo). is_final x.flags ≡ true) (same_field r.field r.is) r.final) ef
+    no_frozen ef (inr r) = not_both (is_final field.flags) (subst (λ (x : FieldInfo). is_final x.flags ≡ true) (same_field r.field r.is) r.final) ef
+
+    no_frozen_class : is_static field.flags ≡ false → class_flag frozen field.class ≡ false → IsFrozenUse p (tagged_by tags) fi → ⊥
+    no_frozen_class es ea (inl r) = not_frozen ea (subst (λ (x : FieldInfo). IsFrozenClass p (tagged_by tags) x.class) (same_field r.field r.is) r.frozen)
+    no_frozen_class es ea (inr r) = not_both (is_static field.flags) (subst (λ (x : FieldInfo). is_static x.flags ≡ true) (same_field r.field r.is) r.static) es
+
+    no_guarded_class : is_static field.flags ≡ false → class_flag frozen field.class ≡ false → IsGuardedUse p (tagged_by tags) fi → ⊥
+    no_guarded_class es ea (inl r) = not_frozen ea (subst (λ (x : FieldInfo). IsFrozenClass p (tagged_by tags) x.class) (same_field r.field r.is) r.frozen)
+    no_guarded_class es ea (inr r) = not_both (is_static field.flags) (subst (λ (x : FieldInfo). is_static x.flags ≡ true) (same_field r.field r.is) r.static) es
+
+    -- a guarded field is private, and written under its guard alone
+    no_guarded_shared : is_private field.flags ≡ false → IsGuardedUse p (tagged_by tags) fi → ⊥
+    no_guarded_shared ep (inl r) = not_both (is_private field.flags) (subst (λ (x : FieldInfo). is_private x.flags ≡ true) (same_field r.field r.is) r.private) ep
+    no_guarded_shared ep (inr r) = not_both (is_private field.flags) (subst (λ (x : FieldInfo). is_private x.flags ≡ true) (same_field r.field r.is) r.private) ep
+
+    no_guarded_written : slice_index_or unguarded fi false ≡ true → IsGuardedUse p (tagged_by tags) fi → ⊥
+    no_guarded_written eb (inl r) = some_on_another p tags is fi field e (subst (λ (x : FieldInfo). is_static x.flags ≡ false) (same_field r.field r.is) r.instance) eb r.written
+    no_guarded_written eb (inr r) =
+        let same = same_field r.field r.is in
+        some_elsewhere p tags is fi field e (subst (λ (x : FieldInfo). is_static x.flags ≡ true) same r.static) eb
+        (λ mi i m insn target f at. subst (λ (x : FieldInfo). PutsStatic fi x.class m insn.op target) same (r.written mi i m insn target f at))
+
     by_flags : (s a final private bad : Bool) → is_static field.flags ≡ s → class_flag frozen field.class ≡ a → is_final field.flags ≡ final → is_private field.flags ≡ private → slice_index_or unguarded fi false ≡ bad
-        → IsUse p (tagged_by tags) fi (if s || not a then Open else if final then Frozen else if private && not bad then Guarded else Open)
-    by_flags true a final private bad es ea ef ep eb = (
-      λ r. not_both (is_static field.flags) es (subst (λ (x : FieldInfo). is_static x.flags ≡ false) (the_frozen r) r.instance),
-      λ r. not_both (is_static field.flags) es (subst (λ (x : FieldInfo). is_static x.flags ≡ false) (the_guarded r) r.instance),
-    )
-    by_flags false false final private bad es ea ef ep eb = (
-      λ r. not_frozen ea (subst (λ (x : FieldInfo). IsFrozenClass p (tagged_by tags) x.class) (the_frozen r) r.frozen),
-      λ r. not_frozen ea (subst (λ (x : FieldInfo). IsFrozenClass p (tagged_by tags) x.class) (the_guarded r) r.frozen),
-    )
-    by_flags false true true private bad es ea ef ep eb = record { field = field; is = e; final = ef; instance = es; frozen = is_frozen ea }
-    by_flags false true false true false es ea ef ep eb = record { field = field; is = e; private = ep; changes = ef; instance = es; frozen = is_frozen ea; written = all_guarded p tags is fi (slice_get_within p.fields fi field e) eb }
-    by_flags false true false true true es ea ef ep eb = (
-      λ r. not_both (is_final field.flags) (subst (λ (x : FieldInfo). is_final x.flags ≡ true) (the_frozen r) r.final) ef,
-      λ r. some_unguarded p tags is fi eb r.written,
-    )
-    by_flags false true false false bad es ea ef ep eb = (
-      λ r. not_both (is_final field.flags) (subst (λ (x : FieldInfo). is_final x.flags ≡ true) (the_frozen r) r.final) ef,
-      λ r. not_both (is_private field.flags) (subst (λ (x : FieldInfo). is_private x.flags ≡ true) (the_guarded r) r.private) ep,
-    )
+        → IsUse p (tagged_by tags) fi (if not s && not a then Open else if final then Frozen else if private && not bad then Guarded else Open)
+    by_flags false false final private bad es ea ef ep eb = (no_frozen_class es ea, no_guarded_class es ea)
+    by_flags false true true private bad es ea ef ep eb = inl (record { field = field; is = e; final = ef; instance = es; frozen = is_frozen ea })
+    by_flags false true false true false es ea ef ep eb =
+        inl (record { field = field; is = e; private = ep; changes = ef; instance = es; frozen = is_frozen ea; written = λ mi i m insn target f at. (all_guarded p tags is fi field e eb mi i m insn target f at).0 })
+    by_flags true a true private bad es ea ef ep eb = inr (record { field = field; is = e; final = ef; static = es })
+    by_flags true a false true false es ea ef ep eb =
+        inr (record { field = field; is = e; private = ep; changes = ef; static = es; written = λ mi i m insn target f at. (all_guarded p tags is fi field e eb mi i m insn target f at).1 })
+    by_flags false true false true true es ea ef ep eb = (no_frozen ef, no_guarded_written eb)
+    by_flags true a false true true es ea ef ep eb = (no_frozen ef, no_guarded_written eb)
+    by_flags false true false false bad es ea ef ep eb = (no_frozen ef, no_guarded_shared ep)
+    by_flags true a false false bad es ea ef ep eb = (no_frozen ef, no_guarded_shared ep)
 
     is_use : IsUse p (tagged_by tags) fi (use_by field (class_flag frozen field.class) (slice_index_or unguarded fi false))
     is_use = by_flags (is_static field.flags) (class_flag frozen field.class) (is_final field.flags) (is_private field.flags) (slice_index_or unguarded fi false) refl refl refl refl refl

@@ -1,4 +1,4 @@
--- The grade of an instruction is the first rule by which it forbids the section of its method.
+-- The grade of an instruction is the first rule by which it forbids a section of its method, which runs that so.
 use Rattle.std.proofs.Common.{◌≡◌, ℕ, zero, suc, ◌+◌, ◌*◌, ◌<◌, ◌≤◌, ◌≢◌, Bool, true, false, List, length, Option, Some, None, refl, sym, ap, subst, ◌∙◌, arith, ⊎_elim}
 use Rattle.std.specs.Prelude.{if◌then◌else◌, slice_get, slice_index, slice_index_or}
 use Rattle.std.proofs.lemmas.Bool.{cases_eq}
@@ -13,18 +13,17 @@ use Rattle.jvm_types.specs.declared.program.MethodInfo.{MethodInfo}
 use Rattle.jvm_types.specs.declared.program.Program.{Program}
 use Rattle.checked_program.specs.LockTags.{TagShape}
 use Rattle.checked_program.specs.TaggedCode.{Tagged, tagged_by}
-use Rattle.checked_program.specs.Marks.{Callee, callee, Calls, BreaksAt, section_fault, enter_fault, call_fault, use_fault, receiver_tag, is_own_object, mode_if, called_method}
+use Rattle.checked_program.specs.Marks.{Callee, callee, Calls, BreaksAt, section_fault, enter_fault, call_fault, use_fault, receiver_tag, called_mode, called_method}
 use Rattle.checked_program.specs.declared.tag.Tag.{Tag}
 use Rattle.checked_program.specs.declared.tag.Tags.{Tags}
 use Rattle.checked_program.specs.declared.section.Mode.{Mode}
-use Rattle.checked_program.specs.declared.section.Mode.TheVariants.{OnThis}
 use Rattle.checked_program.specs.declared.section.FieldUse.{FieldUse}
 use Rattle.checked_program.specs.declared.section.FieldUse.TheVariants.{Frozen, Guarded, Open}
 use Rattle.guard_analysis.specs.CallGraph.{mode_number, node_of, call_at, call_node}
-use Rattle.guard_analysis.specs.Faults.{fault_at, grade_of, grade_at, grades_before, AreCallees, LeadsToBreak, LeadsToItself}
+use Rattle.guard_analysis.specs.Faults.{fault_at, grade_of, grade_at, grades_before, IsModeFor, AreCallees, LeadsToBreak, LeadsToItself}
 use Rattle.guard_analysis.specs.SectionGrades.{Forbids, breaks, calls, recurs, IsGrade, AreGrades}
 use Rattle.guard_analysis.proofs.CallEdges.{with_tags, frames_there, called_inside, call_parts, node_parts, node_there}
-use Rattle.guard_analysis.proofs.CalleesFound.{breaks_one, same_callee}
+use Rattle.guard_analysis.proofs.CalleesFound.{breaks_one, same_callee, fits_called}
 
 -- ---- no instruction breaks a rule beyond M5
 
@@ -48,13 +47,13 @@ fault_low p uses mode (ops.Invokevirtual i) (targets.Method u) stack = call_low 
 fault_low p uses mode (ops.Invokespecial i) (targets.Method u) stack = call_low _ _
 fault_low p uses mode (ops.Invokestatic i) (targets.Method u) stack = call_low _ _
 fault_low p uses mode (ops.Getfield i) (targets.Field fi) stack = read_low _ _
-fault_low p uses mode (ops.Getstatic i) (targets.Field fi) stack = omega arith
+fault_low p uses mode (ops.Getstatic i) (targets.Field fi) stack = read_low _ _
 fault_low p uses mode op target stack = omega arith
 
-pub forbids_low : (p : Program) (tags : Tagged) (uses : List FieldUse) (mi i k : ℕ) → Forbids p tags uses mi i k → (0 < k) × (k ≤ 7)
-forbids_low p tags uses mi i k (breaks n b) = let low : n ≤ 5 = subst (λ x. x ≤ 5) b.fault_is (fault_low p uses OnThis b.insn.op b.target b.f.stack) in (b.some, omega (arith, low))
-forbids_low p tags uses mi i k (calls first c l) = (omega arith, omega arith)
-forbids_low p tags uses mi i k (recurs first c l) = (omega arith, omega arith)
+pub forbids_low : (p : Program) (tags : Tagged) (uses : List FieldUse) (mode : Mode) (mi i k : ℕ) → Forbids p tags uses mode mi i k → (0 < k) × (k ≤ 7)
+forbids_low p tags uses mode mi i k (breaks n b) = let low : n ≤ 5 = subst (λ x. x ≤ 5) b.fault_is (fault_low p uses mode b.insn.op b.target b.f.stack) in (b.some, omega (arith, low))
+forbids_low p tags uses mode mi i k (calls first c l) = (omega arith, omega arith)
+forbids_low p tags uses mode mi i k (recurs first c l) = (omega arith, omega arith)
 
 -- ---- of a method with its frames
 
@@ -88,14 +87,14 @@ module _ (p : Program) (uses : List FieldUse) (tags : List Tags) (is : IsProgram
       let target : slice_get m.targets i ≡ Some k.target = subst (λ (x : MethodInfo). slice_get x.targets i ≡ Some k.target) (method_is k.m k.at.in_program) k.at.names in
       let frame : slice_get t.frames i ≡ Some (Some k.f) = frame_is i k.at.frames k.f k.at.of_method k.at.frame in
       let node : call_node p mode k.insn.op k.target k.f.stack ≡ Some (node_of b) =
-      node_there (length p.methods) b.method (called_method k.insn.op k.target) (mode_if (is_own_object mode (receiver_tag p k.insn.op k.target k.f.stack))) k.called (called_inside p (tagged_by tags) is (callee mi mode) b i k)
-      ∙ ap (λ (x : Mode). Some (2 * b.method + mode_number x)) (sym k.mode_is) in
+      node_there (length p.methods) b.method (called_method k.insn.op k.target) (called_mode mode (receiver_tag p k.insn.op k.target k.f.stack)) k.called (called_inside p (tagged_by tags) is (callee mi mode) b i k)
+      ∙ ap (λ (x : Mode). Some (3 * b.method + mode_number x)) (sym k.mode_is) in
       rw (code, target, frame) node
 
   pub call_found : (mode : Mode) (i y : ℕ) → call_in mode i ≡ Some y → (b : Callee) × (node_of b ≡ y) × (b.method < length p.methods) × Calls p (tagged_by tags) (callee mi mode) i b
   call_found mode i y e =
       let parts = call_parts p mode (slice_get m.code i) (slice_get m.targets i) (slice_get t.frames i) y e in
-      let to : Mode = mode_if (is_own_object mode (receiver_tag p parts.insn.op parts.target parts.f.stack)) in
+      let to : Mode = called_mode mode (receiver_tag p parts.insn.op parts.target parts.f.stack) in
       let named = node_parts (length p.methods) (called_method parts.insn.op parts.target) to y parts.call in (
         callee named.0 to,
         named.3,
@@ -111,31 +110,32 @@ module _ (p : Program) (uses : List FieldUse) (tags : List Tags) (is : IsProgram
         },
       )
 
-  abbrev on_this : Callee
-  on_this = callee mi OnThis
+  -- of a section that runs it so, where sections on a class are on this one
+  module _ (class : ℕ) (mode : Mode) (fits : IsModeFor class mode) (broken again : List Bool) (are : AreCallees p (tagged_by tags) uses class broken again) where
+    abbrev run_so : Callee
+    run_so = callee mi mode
 
-  abbrev own_fault : ℕ → ℕ
-  own_fault i = fault_in OnThis i
+    abbrev own_fault : ℕ → ℕ
+    own_fault i = fault_in mode i
 
-  abbrev own_call : ℕ → Option ℕ
-  own_call i = call_in OnThis i
+    abbrev own_call : ℕ → Option ℕ
+    own_call i = call_in mode i
 
-  module _ (broken again : List Bool) (are : AreCallees p (tagged_by tags) uses broken again) where
     abbrev Grade : ℕ → ℕ → Type 0
-    Grade i n = IsGrade p (tagged_by tags) uses mi i n
+    Grade i n = IsGrade p (tagged_by tags) uses mode mi i n
 
     -- where the instruction breaks a rule by itself
     by_fault : (i n : ℕ) → own_fault i ≡ suc n → Grade i (suc n)
     by_fault i n e = record {
-      forbids = λ h. breaks (suc n) (subst (λ x. BreaksAt p (tagged_by tags) uses on_this i x) e (breaks_one p uses tags is on_this m t i at_m at_t (omega (arith, e))));
+      forbids = λ h. breaks (suc n) (subst (λ x. BreaksAt p (tagged_by tags) uses run_so i x) e (breaks_one p uses tags is run_so m t i at_m at_t (omega (arith, e))));
       first = λ k f. (omega arith, least k f);
     }
       where
         low : suc n ≤ 5
-        low = let b = breaks_one p uses tags is on_this m t i at_m at_t (omega (arith, e)) in let most : own_fault i ≤ 5 = subst (λ x. x ≤ 5) b.fault_is (fault_low p uses OnThis b.insn.op b.target b.f.stack) in omega (arith, most, e)
+        low = let b = breaks_one p uses tags is run_so m t i at_m at_t (omega (arith, e)) in let most : own_fault i ≤ 5 = subst (λ x. x ≤ 5) b.fault_is (fault_low p uses mode b.insn.op b.target b.f.stack) in omega (arith, most, e)
 
-        least : (k : ℕ) → Forbids p (tagged_by tags) uses mi i k → suc n ≤ k
-        least k (breaks x b) = omega (arith, fault_known OnThis i x b, e)
+        least : (k : ℕ) → Forbids p (tagged_by tags) uses mode mi i k → suc n ≤ k
+        least k (breaks x b) = omega (arith, fault_known mode i x b, e)
         least k (calls first c l) = omega (arith, low)
         least k (recurs first c l) = omega (arith, low)
 
@@ -143,48 +143,51 @@ module _ (p : Program) (uses : List FieldUse) (tags : List Tags) (is : IsProgram
     by_none : (i : ℕ) → own_fault i ≡ 0 → own_call i ≡ None → Grade i 0
     by_none i e c = record { forbids = λ h. absurd (omega (arith, h)); first = λ k f. absurd (none k f) }
       where
-        none : (k : ℕ) → Forbids p (tagged_by tags) uses mi i k → ⊥
-        none k (breaks x b) = omega (arith, fault_known OnThis i x b, e, b.some)
-        none k (calls first d l) = let bad : None ≡ Some (node_of first) = sym c ∙ call_known OnThis i first d in cc
-        none k (recurs first d l) = let bad : None ≡ Some (node_of first) = sym c ∙ call_known OnThis i first d in cc
+        none : (k : ℕ) → Forbids p (tagged_by tags) uses mode mi i k → ⊥
+        none k (breaks x b) = omega (arith, fault_known mode i x b, e, b.some)
+        none k (calls first d l) = let bad : None ≡ Some (node_of first) = sym c ∙ call_known mode i first d in cc
+        none k (recurs first d l) = let bad : None ≡ Some (node_of first) = sym c ∙ call_known mode i first d in cc
 
     -- where it breaks none and calls a node
     by_call : (i y : ℕ) → own_fault i ≡ 0 → own_call i ≡ Some y → (s r : Bool) → slice_index_or broken y false ≡ s → slice_index_or again y false ≡ r → Grade i (if s then 6 else if r then 7 else 0)
     by_call i y e c s r f g = by_flags s r f g
       where
-        found : (b : Callee) × (node_of b ≡ y) × (b.method < length p.methods) × Calls p (tagged_by tags) on_this i b
-        found = call_found OnThis i y c
+        found : (b : Callee) × (node_of b ≡ y) × (b.method < length p.methods) × Calls p (tagged_by tags) run_so i b
+        found = call_found mode i y c
 
-        same : (b : Callee) → Calls p (tagged_by tags) on_this i b → b ≡ found.0
-        same b k = same_callee b found.0 (same_Some (node_of b) y (sym (call_known OnThis i b k) ∙ c) ∙ sym found.1)
+        called_fits : (b : Callee) → Calls p (tagged_by tags) run_so i b → IsModeFor class b.mode
+        called_fits b k = subst (IsModeFor class) (sym k.mode_is) (fits_called class mode (receiver_tag p k.insn.op k.target k.f.stack) fits)
 
-        no_break : (x : ℕ) → BreaksAt p (tagged_by tags) uses on_this i x → ⊥
-        no_break x b = omega (arith, fault_known OnThis i x b, e, b.some)
+        same : (b : Callee) → Calls p (tagged_by tags) run_so i b → b ≡ found.0
+        same b k = same_callee class b found.0 (called_fits b k) (called_fits found.0 found.3) (same_Some (node_of b) y (sym (call_known mode i b k) ∙ c) ∙ sym found.1)
 
-        flag_broken : (b : Callee) → Calls p (tagged_by tags) on_this i b → LeadsToBreak p (tagged_by tags) uses b → slice_index_or broken y false ≡ true
-        flag_broken b k l = subst (λ x. slice_index_or broken x false ≡ true) found.1 ((are.broken found.0 found.2).1 (subst (LeadsToBreak p (tagged_by tags) uses) (same b k) l))
+        no_break : (x : ℕ) → BreaksAt p (tagged_by tags) uses run_so i x → ⊥
+        no_break x b = omega (arith, fault_known mode i x b, e, b.some)
 
-        flag_again : (b : Callee) → Calls p (tagged_by tags) on_this i b → LeadsToItself p (tagged_by tags) b → slice_index_or again y false ≡ true
+        flag_broken : (b : Callee) → Calls p (tagged_by tags) run_so i b → LeadsToBreak p (tagged_by tags) uses b → slice_index_or broken y false ≡ true
+        flag_broken b k l = subst (λ x. slice_index_or broken x false ≡ true) found.1 ((are.broken found.0 (called_fits found.0 found.3) found.2).1 (subst (LeadsToBreak p (tagged_by tags) uses) (same b k) l))
+
+        flag_again : (b : Callee) → Calls p (tagged_by tags) run_so i b → LeadsToItself p (tagged_by tags) b → slice_index_or again y false ≡ true
         flag_again b k l = subst (λ x. slice_index_or again x false ≡ true) found.1 ((are.again found.0 found.2).1 (subst (LeadsToItself p (tagged_by tags)) (same b k) l))
 
-        at_least_six : (k : ℕ) → Forbids p (tagged_by tags) uses mi i k → 6 ≤ k
+        at_least_six : (k : ℕ) → Forbids p (tagged_by tags) uses mode mi i k → 6 ≤ k
         at_least_six k (breaks x b) = absurd (no_break x b)
         at_least_six k (calls first d l) = omega arith
         at_least_six k (recurs first d l) = omega arith
 
-        at_least_seven : slice_index_or broken y false ≡ false → (k : ℕ) → Forbids p (tagged_by tags) uses mi i k → 7 ≤ k
+        at_least_seven : slice_index_or broken y false ≡ false → (k : ℕ) → Forbids p (tagged_by tags) uses mode mi i k → 7 ≤ k
         at_least_seven w k (breaks x b) = absurd (no_break x b)
         at_least_seven w k (calls first d l) = absurd (let bad : true ≡ false = sym (flag_broken first d l) ∙ w in cc)
         at_least_seven w k (recurs first d l) = omega arith
 
-        none_at_all : slice_index_or broken y false ≡ false → slice_index_or again y false ≡ false → (k : ℕ) → Forbids p (tagged_by tags) uses mi i k → ⊥
+        none_at_all : slice_index_or broken y false ≡ false → slice_index_or again y false ≡ false → (k : ℕ) → Forbids p (tagged_by tags) uses mode mi i k → ⊥
         none_at_all w v k (breaks x b) = no_break x b
         none_at_all w v k (calls first d l) = let bad : true ≡ false = sym (flag_broken first d l) ∙ w in cc
         none_at_all w v k (recurs first d l) = let bad : true ≡ false = sym (flag_again first d l) ∙ v in cc
 
         by_flags : (s r : Bool) → slice_index_or broken y false ≡ s → slice_index_or again y false ≡ r → Grade i (if s then 6 else if r then 7 else 0)
         by_flags true r w v = record {
-          forbids = λ h. calls found.0 found.3 ((are.broken found.0 found.2).0 (subst (λ x. slice_index_or broken x false ≡ true) (sym found.1) w));
+          forbids = λ h. calls found.0 found.3 ((are.broken found.0 (called_fits found.0 found.3) found.2).0 (subst (λ x. slice_index_or broken x false ≡ true) (sym found.1) w));
           first = λ k q. (omega arith, at_least_six k q);
         }
         by_flags false true w v = record {
@@ -193,7 +196,7 @@ module _ (p : Program) (uses : List FieldUse) (tags : List Tags) (is : IsProgram
         }
         by_flags false false w v = record { forbids = λ h. absurd (omega (arith, h)); first = λ k q. absurd (none_at_all w v k q) }
 
-    grade_is : (i : ℕ) → Grade i (grade_at p uses broken again m t.frames i)
+    grade_is : (i : ℕ) → Grade i (grade_at p uses broken again mode m t.frames i)
     grade_is i = by_parts (own_fault i) (own_call i) refl refl
       where
         by_parts : (n : ℕ) (o : Option ℕ) → own_fault i ≡ n → own_call i ≡ o → Grade i (grade_of n o broken again)
@@ -201,18 +204,18 @@ module _ (p : Program) (uses : List FieldUse) (tags : List Tags) (is : IsProgram
         by_parts zero (Some y) e c = by_call i y e c (slice_index_or broken y false) (slice_index_or again y false) refl refl
         by_parts (suc n) o e c = by_fault i n e
 
-    grades_long : (n : ℕ) → length (grades_before p uses broken again m t.frames n) ≡ n
+    grades_long : (n : ℕ) → length (grades_before p uses broken again mode m t.frames n) ≡ n
     grades_long zero = refl
-    grades_long (suc n) = length-append (grades_before p uses broken again m t.frames n) _ ∙ ap (λ k. k + 1) (grades_long n) ∙ omega arith
+    grades_long (suc n) = length-append (grades_before p uses broken again mode m t.frames n) _ ∙ ap (λ k. k + 1) (grades_long n) ∙ omega arith
 
-    grades_at : (n i : ℕ) → i < n → slice_index (grades_before p uses broken again m t.frames n) i ≡ grade_at p uses broken again m t.frames i
+    grades_at : (n i : ℕ) → i < n → slice_index (grades_before p uses broken again mode m t.frames n) i ≡ grade_at p uses broken again mode m t.frames i
     grades_at zero i l = absurd (omega (arith, l))
     grades_at (suc n) i l = ⊎_elim
-        (λ (q : i ≡ n). get_or_push (grades_before p uses broken again m t.frames n) (grade_at p uses broken again m t.frames n) 0 i (grades_long n ∙ sym q) ∙ ap (grade_at p uses broken again m t.frames) (sym q))
+        (λ (q : i ≡ n). get_or_push (grades_before p uses broken again mode m t.frames n) (grade_at p uses broken again mode m t.frames n) 0 i (grades_long n ∙ sym q) ∙ ap (grade_at p uses broken again mode m t.frames) (sym q))
         (λ (q : i ≢ n). let low : i < n = omega (arith, l, q) in
-        get_or_append_left (grades_before p uses broken again m t.frames n) _ 0 i (subst (λ k. i < k) (sym (grades_long n)) low) ∙ grades_at n i low)
+        get_or_append_left (grades_before p uses broken again mode m t.frames n) _ 0 i (subst (λ k. i < k) (sym (grades_long n)) low) ∙ grades_at n i low)
         (cases_eq i n)
 
-    pub are_grades : (grades : List ℕ) → grades ≡ grades_before p uses broken again m t.frames (length m.code) → AreGrades p (tagged_by tags) uses mi m grades
-    are_grades grades e = subst (AreGrades p (tagged_by tags) uses mi m) (sym e)
+    pub are_grades : (grades : List ℕ) → grades ≡ grades_before p uses broken again mode m t.frames (length m.code) → AreGrades p (tagged_by tags) uses mode mi m grades
+    are_grades grades e = subst (AreGrades p (tagged_by tags) uses mode mi m) (sym e)
         (record { long = grades_long (length m.code); each = λ i l. subst (Grade i) (sym (grades_at (length m.code) i l)) (grade_is i) })

@@ -16,7 +16,7 @@ use Rattle.guard_analysis.specs.CallGraph.{mode_at, call_at, edges_before, node_
 -- ---- the calls of one node
 
 abbrev pub the_call : Program → MethodInfo → List (Option TagShape) → ℕ → ℕ → Option ℕ
-the_call p m frames a i = call_at p (mode_at a) (slice_get m.code i) (slice_get m.targets i) (slice_get frames i)
+the_call p m frames a i = call_at p (mode_at 0 a) (slice_get m.code i) (slice_get m.targets i) (slice_get frames i)
 
 module _ (p : Program) (m : MethodInfo) (frames : List (Option TagShape)) (a : ℕ) (g : Graph) (l : IsAlike g) where
   before_alike : (i : ℕ) → IsAlike (edges_before p m frames a g i)
@@ -53,7 +53,7 @@ pub record CallAt (p : Program) (om : Option MethodInfo) (ot : Option Tags) (a y
 pub the_call_past : (p : Program) (m : MethodInfo) (frames : List (Option TagShape)) (a i y : ℕ) → the_call p m frames a i ≡ Some y → i < length m.code
 the_call_past p m frames a i y c = by_insn (slice_get m.code i) refl c
   where
-    by_insn : (o : Option Insn) → slice_get m.code i ≡ o → call_at p (mode_at a) o (slice_get m.targets i) (slice_get frames i) ≡ Some y → i < length m.code
+    by_insn : (o : Option Insn) → slice_get m.code i ≡ o → call_at p (mode_at 0 a) o (slice_get m.targets i) (slice_get frames i) ≡ Some y → i < length m.code
     by_insn (Some insn) e k = slice_get_within m.code i insn e
     by_insn None e k = absurd (let bad : None ≡ Some y = k in cc)
 
@@ -79,17 +79,17 @@ node_old p None ot a g x y l e = inl e
 
 module _ (p : Program) (tags : List Tags) where
   abbrev CallFrom : ℕ → ℕ → Type 0
-  CallFrom a y = CallAt p (slice_get p.methods (a / 2)) (slice_get tags (a / 2)) a y
+  CallFrom a y = CallAt p (slice_get p.methods (a / 3)) (slice_get tags (a / 3)) a y
 
   pub graph_alike : (n : ℕ) → IsAlike (graph_before p tags n)
   graph_alike zero = refl
-  graph_alike (suc a) = node_alike p (slice_get p.methods (a / 2)) (slice_get tags (a / 2)) a (graph_before p tags a) (graph_alike a)
+  graph_alike (suc a) = node_alike p (slice_get p.methods (a / 3)) (slice_get tags (a / 3)) a (graph_before p tags a) (graph_alike a)
 
   pub graph_added : (n a y : ℕ) → a < n → CallFrom a y → IsEdge (graph_before p tags n).from (graph_before p tags n).to a y
   graph_added zero a y h c = absurd (omega (arith, h))
   graph_added (suc n) a y h c = ⊎_elim
-      (λ (q : a ≡ n). subst (λ k. IsEdge (graph_before p tags (suc k)).from (graph_before p tags (suc k)).to a y) q (node_added p (slice_get p.methods (a / 2)) (slice_get tags (a / 2)) a (graph_before p tags a) y (graph_alike a) c))
-      (λ (q : a ≢ n). node_kept p (slice_get p.methods (n / 2)) (slice_get tags (n / 2)) n (graph_before p tags n) a y (graph_alike n) (graph_added n a y (omega (arith, h, q)) c))
+      (λ (q : a ≡ n). subst (λ k. IsEdge (graph_before p tags (suc k)).from (graph_before p tags (suc k)).to a y) q (node_added p (slice_get p.methods (a / 3)) (slice_get tags (a / 3)) a (graph_before p tags a) y (graph_alike a) c))
+      (λ (q : a ≢ n). node_kept p (slice_get p.methods (n / 3)) (slice_get tags (n / 3)) n (graph_before p tags n) a y (graph_alike n) (graph_added n a y (omega (arith, h, q)) c))
       (cases_eq a n)
 
   pub graph_old : (n x y : ℕ) → IsEdge (graph_before p tags n).from (graph_before p tags n).to x y → (x < n) × CallFrom x y
@@ -97,4 +97,4 @@ module _ (p : Program) (tags : List Tags) where
   graph_old (suc n) x y e = ⊎_elim
       (λ k. let r = graph_old n x y k in let low : x < n = r.0 in (omega (arith, low), r.1))
       (λ k. (let same : x ≡ n = k.0 in omega (arith, same), subst (λ z. CallFrom z y) (sym k.0) k.1))
-      (node_old p (slice_get p.methods (n / 2)) (slice_get tags (n / 2)) n (graph_before p tags n) x y (graph_alike n) e)
+      (node_old p (slice_get p.methods (n / 3)) (slice_get tags (n / 3)) n (graph_before p tags n) x y (graph_alike n) e)

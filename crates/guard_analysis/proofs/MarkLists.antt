@@ -4,6 +4,7 @@ use Rattle.std.specs.Prelude.{if◌then◌else◌, slice_get, slice_index}
 use Rattle.std.specs.List.{AllZip, filter_map, cons_option}
 use Rattle.std.specs.Option.{option_to_list}
 use Rattle.std.proofs.lemmas.List.{map-append}
+use Rattle.jvm_types.specs.Members.{is_synchronized}
 use Rattle.jvm_types.specs.declared.code.Insn.{Insn}
 use Rattle.jvm_types.specs.declared.code.Op.{Op}
 use Rattle.jvm_types.specs.declared.code.Op.TheVariants as ops
@@ -13,7 +14,6 @@ use Rattle.checked_program.specs.LockTags.{TagShape}
 use Rattle.checked_program.specs.TaggedCode.{Tagged}
 use Rattle.checked_program.specs.MarkedProgram.{AreTaggings}
 use Rattle.checked_program.specs.declared.tag.Tags.{Tags}
-use Rattle.checked_program.specs.FrozenPlaces.{locks_this}
 use Rattle.checked_program.specs.Sections.{Section, block_at, spots_of, sections, sections_from}
 use Rattle.checked_program.specs.Marks.{IsMarkOf}
 use Rattle.checked_program.specs.declared.section.Spot.{Spot}
@@ -40,7 +40,7 @@ module _ (p : Program) (tags : Tagged) (uses : List FieldUse) (mi : ℕ) where
       subst (λ l. Continues p tags uses all rest l) (sym g)
       (adds_one p tags uses (section_in mi (Block insn.pc)) (record { method = mi; spot = Block insn.pc; mark = n }) all rest old is (subst (λ l. Continues p tags uses all (l ++ rest) old) one c))
 
-  pub marks_whole : (m : MethodInfo) (old new : List SectionMark) (n : ℕ) → locks_this m ≡ true → new ≡ old ++ record { method = mi; spot = Method; mark = n } ∷ []
+  pub marks_whole : (m : MethodInfo) (old new : List SectionMark) (n : ℕ) → is_synchronized m.flags ≡ true → new ≡ old ++ record { method = mi; spot = Method; mark = n } ∷ []
       → IsMarkOf p tags uses (section_in mi Method) (record { method = mi; spot = Method; mark = n }) → Marks p tags uses (map (section_in mi) (whole_of m)) old new
   marks_whole m old new n e g is all rest c =
       let one : whole_of m ≡ Method ∷ [] = ap (λ b. if b then Method ∷ [] else []) e in

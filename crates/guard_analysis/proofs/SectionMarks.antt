@@ -1,5 +1,5 @@
 -- The first rule that forbids an own instruction is the mark of the section.
-use Rattle.std.proofs.Common.{◌≡◌, ℕ, zero, suc, ◌<◌, ◌≤◌, false, List, [], ◌∷◌, ◌++◌, length, Some, refl, sym, subst, ◌∙◌, arith, append_assoc}
+use Rattle.std.proofs.Common.{◌≡◌, ℕ, zero, suc, ◌<◌, ◌≤◌, false, List, [], ◌∷◌, ◌++◌, length, Some, refl, sym, ap, subst, ◌∙◌, arith, append_assoc}
 use Rattle.std.specs.Prelude.{◌==◌, slice_get, slice_index}
 use Rattle.std.specs.List.{AllZip}
 use Rattle.std.proofs.lemmas.Bool.Decides.{nat_tests}
@@ -7,10 +7,11 @@ use Rattle.std.proofs.lemmas.Option.{slice_get_within, same_Some}
 use Rattle.jvm_types.specs.declared.program.MethodInfo.{MethodInfo}
 use Rattle.jvm_types.specs.declared.program.Program.{Program}
 use Rattle.checked_program.specs.TaggedCode.{Tagged, IsInstructionReached}
-use Rattle.checked_program.specs.Sections.{Section, IsOwn}
-use Rattle.checked_program.specs.Marks.{Applies, elsewhere, itself, called, recurring, IsOnThis, turn, HasMark, IsMarkOf}
+use Rattle.checked_program.specs.Sections.{Section, mode_of_method, section_mode, IsOwn}
+use Rattle.checked_program.specs.Marks.{Applies, elsewhere, itself, called, recurring, IsOnOwn, turn, HasMark, IsMarkOf}
 use Rattle.checked_program.specs.declared.section.Spot.TheVariants.{Method}
 use Rattle.checked_program.specs.declared.section.SectionMark.{SectionMark}
+use Rattle.checked_program.specs.declared.section.Mode.{Mode}
 use Rattle.checked_program.specs.declared.section.FieldUse.{FieldUse}
 use Rattle.guard_analysis.specs.SectionGrades.{earliest_before, Forbids, breaks, calls, recurs, IsGrade, AreGrades, section_in, Continues}
 use Rattle.guard_analysis.proofs.Earliest.{IsEarliest, earliest_is}
@@ -19,50 +20,50 @@ use Rattle.guard_analysis.proofs.Grading.{forbids_low}
 -- ---- one section
 
 module _ (p : Program) (tags : Tagged) (uses : List FieldUse) (s : Section) where
-  applies_of : (i n : ℕ) → IsOwn p tags s.method s.spot i → Forbids p tags uses s.method i n → Applies p tags uses s n
+  applies_of : (i n : ℕ) → IsOwn p tags s.method s.spot i → Forbids p tags uses (section_mode p s) s.method i n → Applies p tags uses s n
   applies_of i n o (breaks k b) = itself (record { i = i; own = o; breaks = b })
   applies_of i n o (calls first c l) = called refl (record { called = l.called; is_called = record { i = i; first = first; own = o; calls = c; over = l.over; through = l.through }; i = l.i; n = l.n; breaks = l.breaks })
   applies_of i n o (recurs first c l) = recurring refl (record { called = l.called; is_called = record { i = i; first = first; own = o; calls = c; over = l.over; through = l.through }; recurs = l.recurs })
 
-  forbids_of : IsOnThis p tags s.method s.spot → (n : ℕ) → Applies p tags uses s n → (i : ℕ) × (IsOwn p tags s.method s.spot i) × Forbids p tags uses s.method i n
+  forbids_of : IsOnOwn p tags s.method s.spot → (n : ℕ) → Applies p tags uses s n → (i : ℕ) × (IsOwn p tags s.method s.spot i) × Forbids p tags uses (section_mode p s) s.method i n
   forbids_of on n (elsewhere e f) = absurd (f on)
   forbids_of on n (itself b) = (b.i, b.own, breaks n b.breaks)
   forbids_of on n (called e b) = (
     b.is_called.i,
     b.is_called.own,
-    subst (λ x. Forbids p tags uses s.method b.is_called.i x) (sym e)
+    subst (λ x. Forbids p tags uses (section_mode p s) s.method b.is_called.i x) (sym e)
         (calls b.is_called.first b.is_called.calls (record { called = b.called; over = b.is_called.over; through = b.is_called.through; i = b.i; n = b.n; breaks = b.breaks })),
   )
   forbids_of on n (recurring e b) = (
     b.is_called.i,
     b.is_called.own,
-    subst (λ x. Forbids p tags uses s.method b.is_called.i x) (sym e)
+    subst (λ x. Forbids p tags uses (section_mode p s) s.method b.is_called.i x) (sym e)
         (recurs b.is_called.first b.is_called.calls (record { called = b.called; over = b.is_called.over; through = b.is_called.through; recurs = b.recurs })),
   )
 
   turn_is : (n : ℕ) → n ≤ 7 → turn n ≡ n
   turn_is n l = let test : (n == 8) ≡ false = grind (arith, nat_tests) in rw test refl
 
-  module _ (on : IsOnThis p tags s.method s.spot) (k : ℕ) (index rule : ℕ → ℕ) (grades : (t : ℕ) → t < k → IsGrade p tags uses s.method (index t) (rule t)) (own : (t : ℕ) → t < k → 0 < rule t → IsOwn p tags s.method s.spot (index t))
+  module _ (on : IsOnOwn p tags s.method s.spot) (k : ℕ) (index rule : ℕ → ℕ) (grades : (t : ℕ) → t < k → IsGrade p tags uses (section_mode p s) s.method (index t) (rule t)) (own : (t : ℕ) → t < k → 0 < rule t → IsOwn p tags s.method s.spot (index t))
       (all : (i : ℕ) → IsOwn p tags s.method s.spot i → (t : ℕ) × (t < k) × (index t ≡ i)) where
     least : (n x : ℕ) → IsEarliest rule k n → Applies p tags uses s x → (0 < n) × (n ≤ x) × (x ≤ 7)
     least n x e a =
         let f = forbids_of on x a in
         let t = all f.0 f.1 in
-        let forbids : Forbids p tags uses s.method (index t.0) x = subst (λ i. Forbids p tags uses s.method i x) (sym t.2) f.2 in
+        let forbids : Forbids p tags uses (section_mode p s) s.method (index t.0) x = subst (λ i. Forbids p tags uses (section_mode p s) s.method i x) (sym t.2) f.2 in
         let g = (grades t.0 t.1).first x forbids in
         let r = e.first t.0 t.1 g.0 in
         let under : n ≤ rule t.0 = r.1 in
         let below : rule t.0 ≤ x = g.1 in
-        (r.0, omega (arith, under, below), (forbids_low p tags uses s.method (index t.0) x forbids).1)
+        (r.0, omega (arith, under, below), (forbids_low p tags uses (section_mode p s) s.method (index t.0) x forbids).1)
 
     has : (n : ℕ) → IsEarliest rule k n → HasMark p tags uses s n
     has zero e = λ x a. let some : 0 < 0 = (least 0 x e a).0 in omega (arith, some)
     has (suc n) e =
         let t = e.some (omega arith) in
         let some : 0 < rule t.0 = omega (arith, t.2) in
-        let forbids : Forbids p tags uses s.method (index t.0) (suc n) = subst (λ x. Forbids p tags uses s.method (index t.0) x) t.2 ((grades t.0 t.1).forbids some) in
-        let low : suc n ≤ 7 = (forbids_low p tags uses s.method (index t.0) (suc n) forbids).1 in (
+        let forbids : Forbids p tags uses (section_mode p s) s.method (index t.0) (suc n) = subst (λ x. Forbids p tags uses (section_mode p s) s.method (index t.0) x) t.2 ((grades t.0 t.1).forbids some) in
+        let low : suc n ≤ 7 = (forbids_low p tags uses (section_mode p s) s.method (index t.0) (suc n) forbids).1 in (
           applies_of (index t.0) (suc n) (own t.0 t.1 some) forbids,
           λ x l a. let r = least (suc n) x e a in let under : suc n ≤ x = r.1 in let small : x ≤ 7 = r.2 in omega (arith, l, under, turn_is (suc n) low, turn_is x small),
         )
@@ -71,29 +72,32 @@ module _ (p : Program) (tags : Tagged) (uses : List FieldUse) (s : Section) wher
     has_earliest = has (earliest_before rule k) (earliest_is rule k)
 
   -- a block that is not on this
-  pub has_elsewhere : (IsOnThis p tags s.method s.spot → ⊥) → HasMark p tags uses s 8
+  pub has_elsewhere : (IsOnOwn p tags s.method s.spot → ⊥) → HasMark p tags uses s 8
   has_elsewhere off = (elsewhere refl off, λ x l a. let bad : turn x < 0 = l in absurd (omega (arith, bad)))
 
 -- ---- a method's own section
 
-module _ (p : Program) (tags : Tagged) (uses : List FieldUse) (mi : ℕ) (m : MethodInfo) (at_m : slice_get p.methods mi ≡ Some m) (grades : List ℕ) (are : AreGrades p tags uses mi m grades) where
-  pub reached_of : (i n : ℕ) → Forbids p tags uses mi i n → IsInstructionReached p tags mi i
-  reached_of i n (breaks k b) = record { m = b.m; insn = b.insn; target = b.target; f = b.f; at = b.at }
-  reached_of i n (calls first c l) = record { m = c.m; insn = c.insn; target = c.target; f = c.f; at = c.at }
-  reached_of i n (recurs first c l) = record { m = c.m; insn = c.insn; target = c.target; f = c.f; at = c.at }
+module _ (p : Program) (tags : Tagged) (uses : List FieldUse) (mi : ℕ) (m : MethodInfo) (at_m : slice_get p.methods mi ≡ Some m) where
+  pub reached_of : (mode : Mode) (i n : ℕ) → Forbids p tags uses mode mi i n → IsInstructionReached p tags mi i
+  reached_of mode i n (breaks k b) = record { m = b.m; insn = b.insn; target = b.target; f = b.f; at = b.at }
+  reached_of mode i n (calls first c l) = record { m = c.m; insn = c.insn; target = c.target; f = c.f; at = c.at }
+  reached_of mode i n (recurs first c l) = record { m = c.m; insn = c.insn; target = c.target; f = c.f; at = c.at }
 
   inside_of : (i : ℕ) → IsInstructionReached p tags mi i → i < length m.code
   inside_of i r = let same : r.m ≡ m = same_Some r.m m (sym r.at.in_program ∙ at_m) in subst (λ (x : MethodInfo). i < length x.code) same (slice_get_within r.m.code i r.insn r.at.in_code)
 
-  pub whole_marked : IsMarkOf p tags uses (section_in mi Method) (record { method = mi; spot = Method; mark = earliest_before (λ i. slice_index grades i) (length grades) })
-  whole_marked = record {
-    method = refl;
-    spot = refl;
-    mark_is = has_earliest p tags uses (section_in mi Method) tt (length grades) (λ i. i) (λ i. slice_index grades i)
-        (λ t l. are.each t (omega (arith, l, are.long)))
-        (λ t l h. reached_of t (slice_index grades t) ((are.each t (omega (arith, l, are.long))).forbids h))
-        (λ i r. let low : i < length m.code = inside_of i r in (i, omega (arith, low, are.long), refl));
-  }
+  pub whole_marked : (grades : List ℕ) → AreGrades p tags uses (mode_of_method (Some m)) mi m grades → IsMarkOf p tags uses (section_in mi Method) (record { method = mi; spot = Method; mark = earliest_before (λ i. slice_index grades i) (length grades) })
+  whole_marked grades given =
+      let mode : mode_of_method (Some m) ≡ section_mode p (section_in mi Method) = ap mode_of_method (sym at_m) in
+      let are : AreGrades p tags uses (section_mode p (section_in mi Method)) mi m grades = subst (λ x. AreGrades p tags uses x mi m grades) mode given in
+      record {
+        method = refl;
+        spot = refl;
+        mark_is = has_earliest p tags uses (section_in mi Method) tt (length grades) (λ i. i) (λ i. slice_index grades i)
+            (λ t l. are.each t (omega (arith, l, are.long)))
+            (λ t l h. reached_of (section_mode p (section_in mi Method)) t (slice_index grades t) ((are.each t (omega (arith, l, are.long))).forbids h))
+            (λ i r. let low : i < length m.code = inside_of i r in (i, omega (arith, low, are.long), refl));
+      }
 
 -- ---- marks one behind the other
 

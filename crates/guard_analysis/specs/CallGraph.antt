@@ -1,5 +1,5 @@
--- The graph of calls. Its nodes are the methods, each once as it is called on the section's object and once as it is called
--- off it; its edges are the calls of reached instructions.
+-- The graph of calls. Its nodes are the methods, each three times: as it is called on the section's object, as it is called off
+-- it, and as sections on a class call it, whichever class that is; its edges are the calls of reached instructions.
 use Rattle.std.specs.Prelude.{◌≡◌, ◌+◌, ◌*◌, ◌/◌, ◌%◌, ℕ, zero, suc, ◌==◌, nat_lt, if◌then◌else◌, List, length, Option, Some, None, slice_get}
 use Rattle.jvm_types.specs.declared.code.Insn.{Insn}
 use Rattle.jvm_types.specs.declared.code.Op.{Op}
@@ -8,11 +8,11 @@ use Rattle.jvm_types.specs.declared.program.MethodInfo.{MethodInfo}
 use Rattle.jvm_types.specs.declared.program.Program.{Program}
 use Rattle.checked_program.specs.LockTags.{TagShape}
 use Rattle.checked_program.specs.TaggedCode.{Tagged}
-use Rattle.checked_program.specs.Marks.{Callee, Calls, called_method, receiver_tag, is_own_object, mode_if}
+use Rattle.checked_program.specs.Marks.{Callee, Calls, called_method, receiver_tag, called_mode}
 use Rattle.checked_program.specs.declared.tag.Tag.{Tag}
 use Rattle.checked_program.specs.declared.tag.Tags.{Tags}
 use Rattle.checked_program.specs.declared.section.Mode.{Mode}
-use Rattle.checked_program.specs.declared.section.Mode.TheVariants.{OnThis, OffThis}
+use Rattle.checked_program.specs.declared.section.Mode.TheVariants.{OnThis, OffThis, OnClass}
 use Rattle.graph_closure.specs.Walks.{IsEdge}
 use Rattle.checked_program.specs.CallEdges.{no_edges, with_edge}
 use Rattle.checked_program.specs.declared.call_edges.Graph.{Graph}
@@ -22,12 +22,17 @@ use Rattle.checked_program.specs.declared.call_edges.Graph.{Graph}
 abbrev pub mode_number : Mode → ℕ
 mode_number OnThis = 0
 mode_number OffThis = 1
+mode_number (OnClass class) = 2
 
 abbrev pub node_of : Callee → ℕ
-node_of a = 2 * a.method + mode_number a.mode
+node_of a = 3 * a.method + mode_number a.mode
 
-abbrev pub mode_at : ℕ → Mode
-mode_at a = mode_if (a % 2 == 0)
+-- how the method of a node is called, where sections on a class are on this one
+abbrev pub mode_by : (class rest : ℕ) → Mode
+mode_by class rest = if rest == 0 then OnThis else if rest == 1 then OffThis else OnClass class
+
+abbrev pub mode_at : (class node : ℕ) → Mode
+mode_at class a = mode_by class (a % 3)
 
 -- the edges are the calls
 pub record AreCalls (p : Program) (tags : Tagged) (from to : List ℕ) : Type 0 where
@@ -38,10 +43,10 @@ pub record AreCalls (p : Program) (tags : Tagged) (from to : List ℕ) : Type 0 
 
 abbrev pub node_in : ℕ → Option ℕ → Mode → Option ℕ
 node_in methods None mode = None
-node_in methods (Some u) mode = if nat_lt u methods then Some (2 * u + mode_number mode) else None
+node_in methods (Some u) mode = if nat_lt u methods then Some (3 * u + mode_number mode) else None
 
 abbrev pub call_node : Program → Mode → Op → Target → List Tag → Option ℕ
-call_node p mode op target stack = node_in (length p.methods) (called_method op target) (mode_if (is_own_object mode (receiver_tag p op target stack)))
+call_node p mode op target stack = node_in (length p.methods) (called_method op target) (called_mode mode (receiver_tag p op target stack))
 
 -- the call of the instruction of a number, with its target and its tags
 abbrev pub call_at : Program → Mode → Option Insn → Option Target → Option (Option TagShape) → Option ℕ
@@ -51,7 +56,7 @@ call_at p mode insn target f = None
 -- with the calls of the first instructions of the method of a node
 abbrev pub edges_before : Program → MethodInfo → List (Option TagShape) → ℕ → Graph → ℕ → Graph
 edges_before p m frames a g zero = g
-edges_before p m frames a g (suc i) = with_edge a (edges_before p m frames a g i) (call_at p (mode_at a) (slice_get m.code i) (slice_get m.targets i) (slice_get frames i))
+edges_before p m frames a g (suc i) = with_edge a (edges_before p m frames a g i) (call_at p (mode_at 0 a) (slice_get m.code i) (slice_get m.targets i) (slice_get frames i))
 
 abbrev pub node_edges : Program → Option MethodInfo → Option Tags → ℕ → Graph → Graph
 node_edges p (Some m) (Some t) a g = edges_before p m t.frames a g (length m.code)
@@ -60,7 +65,7 @@ node_edges p m t a g = g
 -- the calls of the first nodes
 abbrev pub graph_before : Program → List Tags → ℕ → Graph
 graph_before p tags zero = no_edges
-graph_before p tags (suc a) = node_edges p (slice_get p.methods (a / 2)) (slice_get tags (a / 2)) a (graph_before p tags a)
+graph_before p tags (suc a) = node_edges p (slice_get p.methods (a / 3)) (slice_get tags (a / 3)) a (graph_before p tags a)
 
 abbrev pub call_graph : Program → List Tags → Graph
-call_graph p tags = graph_before p tags (2 * length p.methods)
+call_graph p tags = graph_before p tags (3 * length p.methods)

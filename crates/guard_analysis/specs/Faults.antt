@@ -1,15 +1,17 @@
 -- What the instructions of a method break, one after the other, and what the methods break that they call.
 use Rattle.std.specs.Prelude.{◌≡◌, ◌<◌, ◌↔◌, ◌/◌, ℕ, zero, suc, Bool, true, false, ◌||◌, nat_lt, if◌then◌else◌, List, [], ◌∷◌, ◌++◌, length, Option, Some, None, slice_get, slice_index_or}
+use Rattle.jvm_types.specs.Members.{is_synchronized}
 use Rattle.jvm_types.specs.declared.code.Insn.{Insn}
 use Rattle.jvm_types.specs.declared.program.Target.{Target}
 use Rattle.jvm_types.specs.declared.program.MethodInfo.{MethodInfo}
 use Rattle.jvm_types.specs.declared.program.Program.{Program}
 use Rattle.checked_program.specs.LockTags.{TagShape}
 use Rattle.checked_program.specs.TaggedCode.{Tagged}
+use Rattle.checked_program.specs.Sections.{mode_of_method}
 use Rattle.checked_program.specs.Marks.{Callee, CallsThrough, CallsItself, BreaksAt, section_fault}
 use Rattle.checked_program.specs.declared.tag.Tags.{Tags}
 use Rattle.checked_program.specs.declared.section.Mode.{Mode}
-use Rattle.checked_program.specs.declared.section.Mode.TheVariants.{OnThis}
+use Rattle.checked_program.specs.declared.section.Mode.TheVariants.{OnClass}
 use Rattle.checked_program.specs.declared.section.FieldUse.{FieldUse}
 use Rattle.guard_analysis.specs.CallGraph.{node_of, mode_at, call_at}
 
@@ -27,9 +29,9 @@ abbrev pub node_breaks : Program → List FieldUse → Option MethodInfo → Opt
 node_breaks p uses (Some m) (Some t) mode = breaks_before p uses m t.frames mode (length m.code)
 node_breaks p uses m t mode = false
 
-abbrev pub breaking_nodes : Program → List FieldUse → List Tags → ℕ → List Bool
-breaking_nodes p uses tags zero = []
-breaking_nodes p uses tags (suc a) = breaking_nodes p uses tags a ++ node_breaks p uses (slice_get p.methods (a / 2)) (slice_get tags (a / 2)) (mode_at a) ∷ []
+abbrev pub breaking_nodes : Program → List FieldUse → List Tags → (class : ℕ) → ℕ → List Bool
+breaking_nodes p uses tags class zero = []
+breaking_nodes p uses tags class (suc a) = breaking_nodes p uses tags class a ++ node_breaks p uses (slice_get p.methods (a / 3)) (slice_get tags (a / 3)) (mode_at class a) ∷ []
 
 -- ---- what calls lead to
 
@@ -49,10 +51,19 @@ pub record LeadsToItself (p : Program) (tags : Tagged) (first : Callee) : Type 0
   pub through : CallsThrough p tags first over called
   pub recurs : CallsItself p tags called.method
 
+-- a node stands for the methods that sections on this class call
+abbrev pub IsModeFor : (class : ℕ) → Mode → Type 0
+IsModeFor class (OnClass c) = c ≡ class
+IsModeFor class mode = Unit {0}
+
 -- of each node, by its number
-pub record AreCallees (p : Program) (tags : Tagged) (uses : List FieldUse) (breaks recurs : List Bool) : Type 0 where
-  pub broken : (b : Callee) → b.method < length p.methods → (slice_index_or breaks (node_of b) false ≡ true) ↔ LeadsToBreak p tags uses b
+pub record AreCallees (p : Program) (tags : Tagged) (uses : List FieldUse) (class : ℕ) (breaks recurs : List Bool) : Type 0 where
+  pub broken : (b : Callee) → IsModeFor class b.mode → b.method < length p.methods → (slice_index_or breaks (node_of b) false ≡ true) ↔ LeadsToBreak p tags uses b
   pub again : (b : Callee) → b.method < length p.methods → (slice_index_or recurs (node_of b) false ≡ true) ↔ LeadsToItself p tags b
+
+-- the section of a synchronized method runs it as the nodes stand for
+abbrev pub FitsMethod : (class : ℕ) → MethodInfo → Type 0
+FitsMethod class m = is_synchronized m.flags ≡ true → IsModeFor class (mode_of_method (Some m))
 
 -- ---- the first rule that forbids an instruction of a section, or 0
 
@@ -61,10 +72,10 @@ grade_of zero None breaks recurs = 0
 grade_of zero (Some b) breaks recurs = if slice_index_or breaks b false then 6 else if slice_index_or recurs b false then 7 else 0
 grade_of (suc n) call breaks recurs = suc n
 
-abbrev pub grade_at : Program → List FieldUse → List Bool → List Bool → MethodInfo → List (Option TagShape) → ℕ → ℕ
-grade_at p uses breaks recurs m frames i =
-    grade_of (fault_at p uses OnThis (slice_get m.code i) (slice_get m.targets i) (slice_get frames i)) (call_at p OnThis (slice_get m.code i) (slice_get m.targets i) (slice_get frames i)) breaks recurs
+abbrev pub grade_at : Program → List FieldUse → List Bool → List Bool → Mode → MethodInfo → List (Option TagShape) → ℕ → ℕ
+grade_at p uses breaks recurs mode m frames i =
+    grade_of (fault_at p uses mode (slice_get m.code i) (slice_get m.targets i) (slice_get frames i)) (call_at p mode (slice_get m.code i) (slice_get m.targets i) (slice_get frames i)) breaks recurs
 
-abbrev pub grades_before : Program → List FieldUse → List Bool → List Bool → MethodInfo → List (Option TagShape) → ℕ → List ℕ
-grades_before p uses breaks recurs m frames zero = []
-grades_before p uses breaks recurs m frames (suc i) = grades_before p uses breaks recurs m frames i ++ grade_at p uses breaks recurs m frames i ∷ []
+abbrev pub grades_before : Program → List FieldUse → List Bool → List Bool → Mode → MethodInfo → List (Option TagShape) → ℕ → List ℕ
+grades_before p uses breaks recurs mode m frames zero = []
+grades_before p uses breaks recurs mode m frames (suc i) = grades_before p uses breaks recurs mode m frames i ++ grade_at p uses breaks recurs mode m frames i ∷ []

@@ -13,7 +13,7 @@ use Rattle.jvm_types.specs.declared.program.FieldInfo.{FieldInfo}
 use Rattle.jvm_types.specs.declared.program.MethodInfo.{MethodInfo}
 use Rattle.jvm_types.specs.declared.program.Program.{Program}
 use Rattle.checked_program.specs.LockTags.{TagShape, is_this}
-use Rattle.checked_program.specs.FrozenPlaces.{locks_this}
+use Rattle.checked_program.specs.FrozenPlaces.{locks_this, writes_class}
 use Rattle.checked_program.specs.declared.tag.Tag.TheVariants.{Untagged}
 use Rattle.checked_program.specs.declared.tag.Tags.{Tags}
 use Rattle.checked_program.specs.declared.section.FieldUse.{FieldUse}
@@ -24,19 +24,25 @@ use Rattle.checked_program.specs.declared.section.FieldUse.TheVariants.{Frozen, 
 abbrev pub writes_guarded : MethodInfo → TagShape → Bool
 writes_guarded m f = is_this (slice_index_or f.stack 1 Untagged) && (is_init m || (list_any is_this f.held || locks_this m))
 
+-- a static field of a class; none of none
+abbrev pub writes_class_of : Option FieldInfo → MethodInfo → Bool
+writes_class_of None m = false
+writes_class_of (Some field) m = writes_class field.class m
+
 abbrev pub unless_guarded : Bool → ℕ → Option ℕ
 unless_guarded true fi = None
 unless_guarded false fi = Some fi
 
 -- the field that an instruction writes without its guard
-abbrev pub unguarded_write : MethodInfo → Op → Target → TagShape → Option ℕ
-unguarded_write m (ops.Putfield i) (targets.Field fi) f = unless_guarded (writes_guarded m f) fi
-unguarded_write m op target f = None
+abbrev pub unguarded_write : Program → MethodInfo → Op → Target → TagShape → Option ℕ
+unguarded_write p m (ops.Putfield i) (targets.Field fi) f = unless_guarded (writes_guarded m f) fi
+unguarded_write p m (ops.Putstatic i) (targets.Field fi) f = unless_guarded (writes_class_of (slice_get p.fields fi) m) fi
+unguarded_write p m op target f = None
 
 -- the same of an instruction with its target and its tags
-abbrev pub unguarded_at : MethodInfo → Option Insn → Option Target → Option (Option TagShape) → Option ℕ
-unguarded_at m (Some insn) (Some target) (Some (Some f)) = unguarded_write m insn.op target f
-unguarded_at m insn target f = None
+abbrev pub unguarded_at : Program → MethodInfo → Option Insn → Option Target → Option (Option TagShape) → Option ℕ
+unguarded_at p m (Some insn) (Some target) (Some (Some f)) = unguarded_write p m insn.op target f
+unguarded_at p m insn target f = None
 
 -- a field noted among all
 abbrev pub field_noted : List Bool → Option ℕ → List Bool
@@ -44,23 +50,23 @@ field_noted flags None = flags
 field_noted flags (Some fi) = if nat_lt fi (length flags) then slice_set flags fi true else flags
 
 -- with the fields that the first instructions of a method write so
-abbrev pub noted_before : MethodInfo → List (Option TagShape) → List Bool → ℕ → List Bool
-noted_before m frames flags zero = flags
-noted_before m frames flags (suc i) = field_noted (noted_before m frames flags i) (unguarded_at m (slice_get m.code i) (slice_get m.targets i) (slice_get frames i))
+abbrev pub noted_before : Program → MethodInfo → List (Option TagShape) → List Bool → ℕ → List Bool
+noted_before p m frames flags zero = flags
+noted_before p m frames flags (suc i) = field_noted (noted_before p m frames flags i) (unguarded_at p m (slice_get m.code i) (slice_get m.targets i) (slice_get frames i))
 
-abbrev pub noted_in : Option MethodInfo → Option Tags → List Bool → List Bool
-noted_in (Some m) (Some t) flags = noted_before m t.frames flags (length m.code)
-noted_in m t flags = flags
+abbrev pub noted_in : Program → Option MethodInfo → Option Tags → List Bool → List Bool
+noted_in p (Some m) (Some t) flags = noted_before p m t.frames flags (length m.code)
+noted_in p m t flags = flags
 
 -- those that the first methods write so
 abbrev pub unguarded_before : Program → List Tags → ℕ → List Bool
 unguarded_before p tags zero = replicate (length p.fields) false
-unguarded_before p tags (suc u) = noted_in (slice_get p.methods u) (slice_get tags u) (unguarded_before p tags u)
+unguarded_before p tags (suc u) = noted_in p (slice_get p.methods u) (slice_get tags u) (unguarded_before p tags u)
 
 -- ---- uses
 
 abbrev pub use_by : FieldInfo → (frozen unguarded : Bool) → FieldUse
-use_by field frozen unguarded = if is_static field.flags || not frozen then Open else if is_final field.flags then Frozen else if is_private field.flags && not unguarded then Guarded else Open
+use_by field frozen unguarded = if not (is_static field.flags) && not frozen then Open else if is_final field.flags then Frozen else if is_private field.flags && not unguarded then Guarded else Open
 
 -- whether a class is one of the flagged files
 abbrev pub class_flag : List Bool → ℕ → Bool

@@ -9,11 +9,11 @@ use Rattle.checked_program.specs.TaggedCode.{Tagged}
 use Rattle.checked_program.specs.Sections.{Section, block_at}
 use Rattle.checked_program.specs.Marks.{Callee, callee, Calls, BreaksAt, IsMarkOf}
 use Rattle.checked_program.specs.declared.tag.Tag.TheVariants.{Untagged}
-use Rattle.checked_program.specs.FrozenPlaces.{locks_this}
+use Rattle.jvm_types.specs.Members.{is_synchronized}
 use Rattle.checked_program.specs.declared.section.Spot.{Spot}
 use Rattle.checked_program.specs.declared.section.Spot.TheVariants.{Method}
 use Rattle.checked_program.specs.declared.section.SectionMark.{SectionMark}
-use Rattle.checked_program.specs.declared.section.Mode.TheVariants.{OnThis}
+use Rattle.checked_program.specs.declared.section.Mode.{Mode}
 use Rattle.checked_program.specs.declared.section.FieldUse.{FieldUse}
 use Rattle.std.specs.List.{AllZip, filter_map}
 use Rattle.std.specs.Option.{option_to_list}
@@ -35,20 +35,20 @@ abbrev pub depth_on_this : Option Insn → Option Target → Option (Option TagS
 depth_on_this (Some insn) (Some target) (Some (Some f)) = if is_this (slice_index_or f.stack 0 Untagged) then Some (length f.held) else None
 depth_on_this insn target f = None
 
--- a rule forbids the section of a method on this by one instruction: it breaks the rule, or it calls what does or recurs
-pub data Forbids (p : Program) (tags : Tagged) (uses : List FieldUse) (mi i : ℕ) : ℕ → Type 0 where
-  breaks : (n : ℕ) → BreaksAt p tags uses (callee mi OnThis) i n → Forbids p tags uses mi i n
-  calls : (first : Callee) → Calls p tags (callee mi OnThis) i first → LeadsToBreak p tags uses first → Forbids p tags uses mi i 6
-  recurs : (first : Callee) → Calls p tags (callee mi OnThis) i first → LeadsToItself p tags first → Forbids p tags uses mi i 7
+-- a rule forbids the section of a method that runs it so by one instruction: it breaks the rule, or it calls what does or recurs
+pub data Forbids (p : Program) (tags : Tagged) (uses : List FieldUse) (mode : Mode) (mi i : ℕ) : ℕ → Type 0 where
+  breaks : (n : ℕ) → BreaksAt p tags uses (callee mi mode) i n → Forbids p tags uses mode mi i n
+  calls : (first : Callee) → Calls p tags (callee mi mode) i first → LeadsToBreak p tags uses first → Forbids p tags uses mode mi i 6
+  recurs : (first : Callee) → Calls p tags (callee mi mode) i first → LeadsToItself p tags first → Forbids p tags uses mode mi i 7
 
 -- the first such rule; 0 where there is none
-pub record IsGrade (p : Program) (tags : Tagged) (uses : List FieldUse) (mi i n : ℕ) : Type 0 where
-  pub forbids : 0 < n → Forbids p tags uses mi i n
-  pub first : (k : ℕ) → Forbids p tags uses mi i k → (0 < n) × (n ≤ k)
+pub record IsGrade (p : Program) (tags : Tagged) (uses : List FieldUse) (mode : Mode) (mi i n : ℕ) : Type 0 where
+  pub forbids : 0 < n → Forbids p tags uses mode mi i n
+  pub first : (k : ℕ) → Forbids p tags uses mode mi i k → (0 < n) × (n ≤ k)
 
-pub record AreGrades (p : Program) (tags : Tagged) (uses : List FieldUse) (mi : ℕ) (m : MethodInfo) (grades : List ℕ) : Type 0 where
+pub record AreGrades (p : Program) (tags : Tagged) (uses : List FieldUse) (mode : Mode) (mi : ℕ) (m : MethodInfo) (grades : List ℕ) : Type 0 where
   pub long : length grades ≡ length m.code
-  pub each : (i : ℕ) → i < length m.code → IsGrade p tags uses mi i (slice_index grades i)
+  pub each : (i : ℕ) → i < length m.code → IsGrade p tags uses mode mi i (slice_index grades i)
 
 -- a section of a method
 abbrev pub section_in : ℕ → Spot → Section
@@ -86,7 +86,7 @@ sections_at mi None = []
 sections_at mi (Some insn) = map (section_in mi) (option_to_list (block_at insn.pc insn.op))
 
 abbrev pub whole_of : MethodInfo → List Spot
-whole_of m = if locks_this m then Method ∷ [] else []
+whole_of m = if is_synchronized m.flags then Method ∷ [] else []
 
 -- the blocks that begin at the first instructions of a code are marked
 abbrev pub MarksUpTo : Program → Tagged → List FieldUse → ℕ → List Insn → ℕ → (old new : List SectionMark) → Type 0

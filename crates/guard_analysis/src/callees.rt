@@ -18,10 +18,11 @@ use graph_closure::{leading, recurring};
 use jvm_types::{MethodInfo, Program, Rows};
 use std::alloc::{AllocError, Global};
 
-/// Of each node of the graph of calls: whether calls lead from it to a method that breaks a rule,
-/// and whether they lead to one that calls itself.
+/// Of each node of the graph of calls, where sections on a class are on one class: whether calls
+/// lead from it to a method that breaks a rule, and whether they lead to one that calls itself.
 #[derive(Debug, Drop)]
 pub(crate) struct Callees {
+    pub(crate) class: u16,
     pub(crate) breaks: Vec<bool>,
     pub(crate) recurs: Vec<bool>,
 }
@@ -31,14 +32,15 @@ fn breaking_nodes(
     p: &Program,
     uses: &Rows<FieldUse>,
     tags: &Rows<Tags>,
+    class: u16,
 ) -> Result<Vec<bool>, AllocError>
     requires few { length p.now.methods ≤ most }
     ensures { IfOk result
-        (λ v. v.items ≡ breaking_nodes p.now uses.now tags.now (2 * length p.now.methods)) }
+        (λ v. v.items ≡ breaking_nodes p.now uses.now tags.now class (3 * length p.now.methods)) }
 {
     let mut breaking = Vec::new(alloc);
-    for a in 0..2 * p.methods.len() {
-        breaking.push(node_breaks(p, uses, tags, a / 2, mode_at(a)))?;
+    for a in 0..3 * p.methods.len() {
+        breaking.push(node_breaks(p, uses, tags, a / 3, mode_at(class, a)))?;
     }
     Ok(breaking)
 }
@@ -56,16 +58,18 @@ impl Callees {
         p: &Program,
         uses: &Rows<FieldUse>,
         tags: &Rows<Tags>,
+        class: u16,
     ) -> Result<Callees, AllocError>
         requires program { IsProgram p.now }
         requires few { length p.now.methods ≤ most }
-        requires graph { IsGraph (2 * length p.now.methods) (call_graph p.now tags.now).from
+        requires graph { IsGraph (3 * length p.now.methods) (call_graph p.now tags.now).from
             (call_graph p.now tags.now).to }
-        ensures { IfOk result
-            (λ c. AreCallees p.now (tagged_by tags.now) uses.now c.breaks.items c.recurs.items) }
+        ensures are { IfOk result (λ c.
+            AreCallees p.now (tagged_by tags.now) uses.now c.class c.breaks.items c.recurs.items) }
+        ensures class { IfOk result (λ c. c.class ≡ class) }
     {
         let graph = call_graph(alloc, p, tags)?;
-        let breaking = breaking_nodes(alloc, p, uses, tags)?;
+        let breaking = breaking_nodes(alloc, p, uses, tags, class)?;
         let breaks = leading(
             alloc,
             graph.from.as_slice(),
@@ -76,9 +80,13 @@ impl Callees {
             alloc,
             graph.from.as_slice(),
             graph.to.as_slice(),
-            2 * p.methods.len(),
+            3 * p.methods.len(),
         )?;
-        Ok(Callees { breaks, recurs })
+        Ok(Callees {
+            class,
+            breaks,
+            recurs,
+        })
     }
 
     /// The first rule that forbids a section an instruction which breaks this rule itself and calls
@@ -103,24 +111,26 @@ impl Callees {
         }
     }
 
-    /// The first rule that forbids a section of this method each of its instructions; 0 for none.
+    /// The first rule that forbids a section of this method, which runs it so, each of its
+    /// instructions; 0 for none.
     pub(crate) fn grades(
         &self,
         alloc: Global,
         p: &Program,
         uses: &Rows<FieldUse>,
+        mode: Mode,
         m: &MethodInfo,
         tags: &Tags,
     ) -> Result<Vec<u8>, AllocError>
         requires few { length p.now.methods ≤ most }
         ensures { IfOk result (λ v.
             v.items ≡ grades_before p.now uses.now self.now.breaks.items self.now.recurs.items
-            m.now tags.now.frames (length m.now.code)) }
+            mode m.now tags.now.frames (length m.now.code)) }
     {
         let mut grades = Vec::new(alloc);
         for i in 0..m.code.len() {
-            let fault = fault_at(p, uses, Mode::OnThis, m, tags, i);
-            let call = call_at(p, Mode::OnThis, m, tags, i);
+            let fault = fault_at(p, uses, mode, m, tags, i);
+            let call = call_at(p, mode, m, tags, i);
             grades.push(self.grade_of(fault, call))?;
         }
         Ok(grades)

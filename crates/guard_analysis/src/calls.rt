@@ -2,7 +2,8 @@
 
 ghost use Rattle.std.specs.Prelude.{◌≡◌, ◌≤◌, length, slice_get};
 ghost use Rattle.jvm_types.specs.declared.limits.TheConstants.{MOST_INSTRUCTIONS as most};
-ghost use Rattle.checked_program.specs.Marks.{args_of, is_own_object, mode_if, receiver_tag};
+ghost use Rattle.checked_program.specs.Marks.{args_of, called_mode, is_own_class, is_own_object};
+ghost use Rattle.checked_program.specs.Marks.{mode_if, receiver_tag};
 ghost use Rattle.guard_analysis.specs.CallGraph.{call_at, call_node, mode_number};
 
 use crate::tag_reading::{is_this, stack_tag};
@@ -39,6 +40,17 @@ pub(crate) fn is_own_object(mode: Mode, tag: Tag) -> bool
     match mode {
         Mode::OnThis => is_this(tag),
         Mode::OffThis => false,
+        Mode::OnClass(_) => false,
+    }
+}
+
+/// Whether a class is that of the section's monitor.
+pub fn is_own_class(mode: Mode, class: u16) -> bool
+    ensures { result ≡ is_own_class mode class }
+{
+    match mode {
+        Mode::OnClass(own) => class == own,
+        _ => false,
     }
 }
 
@@ -48,12 +60,23 @@ pub(crate) fn mode_if(own: bool) -> Mode
     if own { Mode::OnThis } else { Mode::OffThis }
 }
 
+/// How a method is called, by how its caller is, and the tag of the receiver.
+pub(crate) fn called_mode(mode: Mode, tag: Tag) -> Mode
+    ensures { result ≡ called_mode mode tag }
+{
+    match mode {
+        Mode::OnClass(class) => Mode::OnClass(class),
+        _ => mode_if(is_own_object(mode, tag)),
+    }
+}
+
 fn mode_number(mode: Mode) -> u32
     ensures { result ≡ mode_number mode }
 {
     match mode {
         Mode::OnThis => 0,
         Mode::OffThis => 1,
+        Mode::OnClass(_) => 2,
     }
 }
 
@@ -62,11 +85,11 @@ fn call_node(p: &Program, mode: Mode, op: &Op, target: Target, frame: &TagFrame)
     requires few { length p.now.methods ≤ most }
     ensures { result ≡ call_node p.now mode op.now target frame.now.stack }
 {
-    let called_mode = mode_if(is_own_object(mode, receiver_tag(p, op, target, frame)));
+    let called = called_mode(mode, receiver_tag(p, op, target, frame));
     match called_method(op, target) {
         Some(u) => {
             if (u as usize) < p.methods.len() {
-                Some(2 * u + mode_number(called_mode))
+                Some(3 * u + mode_number(called))
             } else {
                 None
             }

@@ -2,12 +2,13 @@
 
 ghost use Rattle.std.specs.Prelude.{◌≡◌, length, slice_get, slice_index_or};
 ghost use Rattle.checked_program.specs.FrozenPlaces.{locks_class, locks_this};
-ghost use Rattle.checked_program.specs.Marks.{call_fault, enter_fault, section_fault};
-ghost use Rattle.checked_program.specs.Marks.{is_class_locking, is_locking, use_fault};
+ghost use Rattle.checked_program.specs.Marks.{call_fault, class_of_field, class_of_method};
+ghost use Rattle.checked_program.specs.Marks.{enter_fault, is_class_locking, is_locking};
+ghost use Rattle.checked_program.specs.Marks.{section_fault, use_fault};
 ghost use Rattle.checked_program.specs.declared.section.FieldUse.TheVariants.{Open as open_use};
 ghost use Rattle.guard_analysis.specs.Faults.{breaks_before, fault_at, node_breaks};
 
-use crate::calls::{is_own_object, receiver_tag};
+use crate::calls::{is_own_class, is_own_object, receiver_tag};
 use crate::tag_reading::stack_tag;
 use checked_program::{FieldUse, Mode, TagFrame, Tags};
 use jvm_types::flags::{is_static, is_synchronized};
@@ -34,13 +35,6 @@ pub fn locks_this(m: &MethodInfo) -> bool
     is_synchronized(m.flags) && !is_static(m.flags)
 }
 
-/// Whether the frames of a method hold the monitor of their class (JVMS 2.11.10).
-fn locks_class(m: &MethodInfo) -> bool
-    ensures { result ≡ locks_class m.now }
-{
-    is_synchronized(m.flags) && is_static(m.flags)
-}
-
 fn is_locking(p: &Program, u: u32) -> bool
     ensures { result ≡ is_locking (slice_get p.now.methods u) }
 {
@@ -50,12 +44,39 @@ fn is_locking(p: &Program, u: u32) -> bool
     }
 }
 
+/// Whether the frames of a method hold the monitor of its class (JVMS 2.11.10).
+pub fn locks_class(m: &MethodInfo) -> bool
+    ensures { result ≡ locks_class m.now }
+{
+    is_synchronized(m.flags) && is_static(m.flags)
+}
+
 fn is_class_locking(p: &Program, u: u32) -> bool
     ensures { result ≡ is_class_locking (slice_get p.now.methods u) }
 {
     match p.methods.get(u as usize) {
         Some(m) => locks_class(m),
         None => false,
+    }
+}
+
+/// The class of a method; 0 where there is none.
+fn class_of_method(p: &Program, u: u32) -> u16
+    ensures { result ≡ class_of_method (slice_get p.now.methods u) }
+{
+    match p.methods.get(u as usize) {
+        Some(m) => m.class,
+        None => 0,
+    }
+}
+
+/// The class of a field; 0 where there is none.
+pub fn class_of_field(p: &Program, field: u32) -> u16
+    ensures { result ≡ class_of_field (slice_get p.now.fields field) }
+{
+    match p.fields.get(field as usize) {
+        Some(info) => info.class,
+        None => 0,
     }
 }
 
@@ -81,8 +102,8 @@ fn read_fault(field_use: FieldUse, own: bool) -> u8
     }
 }
 
-/// The number of the rule that an instruction breaks in a method called on the section's object, or
-/// off it; 0 for none.
+/// The number of the rule that an instruction breaks in a method that a section runs so; 0 for
+/// none.
 fn fault(
     p: &Program,
     uses: &Rows<FieldUse>,
@@ -119,11 +140,17 @@ fn fault(
             _ => 0,
         },
         Op::Invokestatic(_) => match target {
-            Target::Method(u) => call_fault(is_class_locking(p, u), false),
+            Target::Method(u) => call_fault(
+                is_class_locking(p, u),
+                is_own_class(mode, class_of_method(p, u)),
+            ),
             _ => 0,
         },
         Op::Getstatic(_) => match target {
-            Target::Field(_) => 5,
+            Target::Field(f) => read_fault(
+                use_of(uses, f),
+                is_own_class(mode, class_of_field(p, f)),
+            ),
             _ => 0,
         },
         Op::Iaload => 5,

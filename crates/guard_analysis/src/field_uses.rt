@@ -7,14 +7,16 @@ ghost use Rattle.jvm_types.specs.ProgramInvariant.{IsProgram};
 ghost use Rattle.checked_program.specs.LockTags.{is_this};
 ghost use Rattle.checked_program.specs.declared.tag.Tag.TheVariants.{Untagged as untagged};
 ghost use Rattle.checked_program.specs.TaggedCode.{tagged_by};
+ghost use Rattle.jvm_types.specs.Members.{is_class_init_name};
 ghost use Rattle.checked_program.specs.FrozenPlaces.{AreUses};
 ghost use Rattle.frozen_classes.specs.FrozenClasses.{AreFrozenClasses};
 ghost use Rattle.guard_analysis.specs.FieldUses.{class_flag, field_noted, noted_before, noted_in};
 ghost use Rattle.guard_analysis.specs.FieldUses.{unguarded_at, unguarded_before, unguarded_write};
-ghost use Rattle.guard_analysis.specs.FieldUses.{use_at, use_by, uses_before, writes_guarded};
+ghost use Rattle.guard_analysis.specs.FieldUses.{use_at, use_by, uses_before, writes_class_of};
+ghost use Rattle.guard_analysis.specs.FieldUses.{writes_guarded};
 
 use crate::callees::flag_at;
-use crate::faults::locks_this;
+use crate::faults::{locks_class, locks_this};
 use crate::tag_reading::{is_this, stack_tag};
 use checked_program::{FieldUse, Tag, TagFrame, Tags};
 use code_table::is_init;
@@ -52,11 +54,45 @@ fn writes_guarded(m: &MethodInfo, frame: &TagFrame) -> bool
     is_this(stack_tag(frame, 1)) && (is_init(m) || (holds_this(frame.held()) || locks_this(m)))
 }
 
+/// Whether a method may write a guarded static field: the `<clinit>` of its class, and the static
+/// synchronized methods of that.
+fn writes_class(p: &Program, field: u32, m: &MethodInfo) -> bool
+    ensures { result ≡ writes_class_of (slice_get p.now.fields field) m.now }
+{
+    match p.fields.get(field as usize) {
+        Some(info) => m.class == info.class && (is_class_init(m) || locks_class(m)),
+        None => false,
+    }
+}
+
+/// Whether a method begins a class (JVMS 2.9).
+fn is_class_init(m: &MethodInfo) -> bool
+    ensures { result ≡ is_class_init_name m.now.name }
+{
+    m.name.as_slice() == b"<clinit>".as_slice()
+}
+
 /// The field that an instruction writes without its guard.
-fn unguarded_write(m: &MethodInfo, op: &Op, target: Target, frame: &TagFrame) -> Option<u32>
-    ensures { result ≡ unguarded_write m.now op.now target frame.now }
+fn unguarded_write(
+    p: &Program,
+    m: &MethodInfo,
+    op: &Op,
+    target: Target,
+    frame: &TagFrame,
+) -> Option<u32>
+    ensures { result ≡ unguarded_write p.now m.now op.now target frame.now }
 {
     match op {
+        Op::Putstatic(_) => match target {
+            Target::Field(field) => {
+                if writes_class(p, field, m) {
+                    None
+                } else {
+                    Some(field)
+                }
+            }
+            _ => None,
+        },
         Op::Putfield(_) => match target {
             Target::Field(field) => {
                 if writes_guarded(m, frame) {
@@ -72,14 +108,14 @@ fn unguarded_write(m: &MethodInfo, op: &Op, target: Target, frame: &TagFrame) ->
 }
 
 /// The same of the instruction of a number, where it is reached.
-pub fn unguarded_at(m: &MethodInfo, tags: &Tags, i: usize) -> Option<u32>
-    ensures { result ≡ unguarded_at m.now (slice_get m.now.code i) (slice_get m.now.targets i)
+pub fn unguarded_at(p: &Program, m: &MethodInfo, tags: &Tags, i: usize) -> Option<u32>
+    ensures { result ≡ unguarded_at p.now m.now (slice_get m.now.code i) (slice_get m.now.targets i)
         (slice_get tags.now.frames i) }
 {
     match m.code.get(i) {
         Some(insn) => match m.targets.get(i) {
             Some(target) => match tags.frames.get(i) {
-                Some(Some(f)) => unguarded_write(m, &insn.op, *target, f),
+                Some(Some(f)) => unguarded_write(p, m, &insn.op, *target, f),
                 Some(None) => None,
                 None => None,
             },
@@ -103,22 +139,22 @@ fn note(flags: &mut Rows<bool>, found: Option<u32>)
 }
 
 /// Notes each field that a method writes without its guard.
-fn note_writes(m: &MethodInfo, tags: &Tags, flags: &mut Rows<bool>)
-    ensures { flags.new ≡ noted_before m.now tags.now.frames flags.old (length m.now.code) }
+fn note_writes(p: &Program, m: &MethodInfo, tags: &Tags, flags: &mut Rows<bool>)
+    ensures { flags.new ≡ noted_before p.now m.now tags.now.frames flags.old (length m.now.code) }
 {
     for i in 0..m.code.len() {
-        note(flags, unguarded_at(m, tags, i));
+        note(flags, unguarded_at(p, m, tags, i));
     }
 }
 
 /// Notes those of the method of a number.
 fn note_method(p: &Program, tags: &Rows<Tags>, method: usize, flags: &mut Rows<bool>)
     ensures { flags.new
-        ≡ noted_in (slice_get p.now.methods method) (slice_get tags.now method) flags.old }
+        ≡ noted_in p.now (slice_get p.now.methods method) (slice_get tags.now method) flags.old }
 {
     match p.methods.get(method) {
         Some(m) => match tags.get(method) {
-            Some(t) => note_writes(m, t, flags),
+            Some(t) => note_writes(p, m, t, flags),
             None => {}
         },
         None => {}
@@ -146,7 +182,7 @@ fn unguarded_fields(alloc: Global, p: &Program, tags: &Rows<Tags>) -> Result<Row
 fn use_by(field: &FieldInfo, frozen: bool, unguarded: bool) -> FieldUse
     ensures { result ≡ use_by field.now frozen unguarded }
 {
-    if is_static(field.flags) || !frozen {
+    if !is_static(field.flags) && !frozen {
         FieldUse::Open
     } else if is_final(field.flags) {
         FieldUse::Frozen

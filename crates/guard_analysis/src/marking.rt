@@ -1,8 +1,8 @@
 //! The mark of each section, from the rules that forbid the instructions that it covers.
 
-ghost use Rattle.std.specs.Prelude.{◌≡◌, ◌<◌, ◌*◌, replicate, ◌≤◌, ◌+◌, ℕ, Some, None};
-ghost use Rattle.std.specs.Prelude.{if◌then◌else◌, length, map, slice_get, slice_index};
-ghost use Rattle.std.specs.Prelude.{slice_index_or, IfOk, OnOk};
+ghost use Rattle.std.specs.Prelude.{◌≡◌, ◌<◌, ◌*◌, replicate, ◌≤◌, ◌+◌, Some, None, if◌then◌else◌};
+ghost use Rattle.std.specs.Prelude.{length, map, slice_get, slice_index, slice_index_or, IfOk};
+ghost use Rattle.std.specs.Prelude.{OnOk};
 ghost use Rattle.checked_program.specs.LockTags.{is_this};
 ghost use Rattle.checked_program.specs.declared.tag.Tag.TheVariants.{Untagged as untagged};
 ghost use Rattle.std.specs.List.{AllZip, filter_map};
@@ -10,25 +10,28 @@ ghost use Rattle.jvm_types.specs.ProgramInvariant.{IsProgram};
 ghost use Rattle.jvm_types.specs.declared.limits.TheConstants.{MOST_INSTRUCTIONS as most};
 ghost use Rattle.checked_program.specs.MarkedProgram.{AreTaggings};
 ghost use Rattle.checked_program.specs.TaggedCode.{tagged_by};
-ghost use Rattle.checked_program.specs.Sections.{block_at, sections, spots_of};
+ghost use Rattle.checked_program.specs.Sections.{block_at, mode_of_method, mode_of_spot, sections};
+ghost use Rattle.checked_program.specs.Sections.{spots_of};
+ghost use Rattle.checked_program.specs.declared.section.Mode.TheVariants.{OnThis as on_this};
 ghost use Rattle.checked_program.specs.Marks.{AreMarks, IsMarkOf};
 ghost use Rattle.jvm_types.specs.Verifying.{IsLaidOut};
 ghost use Rattle.graph_closure.specs.LeastSet.{IsGraph};
 ghost use Rattle.guard_analysis.specs.CallGraph.{call_graph};
 ghost use Rattle.guard_analysis.specs.BlockWalks.{IsExplored};
-ghost use Rattle.guard_analysis.specs.Faults.{AreCallees, grades_before};
+ghost use Rattle.guard_analysis.specs.Faults.{AreCallees, FitsMethod, grades_before};
 ghost use Rattle.guard_analysis.specs.SectionGrades.{entry_depth_at, earlier, whole_of};
 ghost use Rattle.guard_analysis.specs.SectionGrades.{earliest_before, section_in, sections_at};
 ghost use Rattle.guard_analysis.specs.SectionGrades.{AreGrades, IsBlockMark, IsFreshWalk, Marks};
 
 use crate::block_walk::{Walk, explore};
 use crate::callees::Callees;
-use crate::faults::locks_this;
+use crate::faults::locks_class;
 use crate::field_uses::uses;
 use crate::tag_reading::{is_this, stack_tag};
-use checked_program::{FieldUse, SectionMark, Spot, TagFrame, Tags};
+use checked_program::{FieldUse, Mode, SectionMark, Spot, TagFrame, Tags};
 use code_table::IndexedMethod;
 use frozen_classes::frozen_classes;
+use jvm_types::flags::{is_static, is_synchronized};
 use jvm_types::{MethodInfo, Op, Program, Rows};
 use std::alloc::{AllocError, Global};
 
@@ -147,7 +150,8 @@ fn mark_at(
     requires program { IsProgram p.now }
     requires there { slice_get p.now.methods method ≡ Some m.now }
     requires tagged { slice_get tags.now method ≡ Some t.now }
-    requires grades { AreGrades p.now (tagged_by tags.now) uses.now method m.now grades.now }
+    requires grades { AreGrades p.now (tagged_by tags.now) uses.now on_this method m.now
+        grades.now }
     requires stamp { stamp ≡ i + 1 }
     requires fresh { IsFreshWalk m.now i walk.old }
     ensures marks { OnOk result (Marks p.now (tagged_by tags.now) uses.now
@@ -196,7 +200,8 @@ fn mark_blocks(
     requires program { IsProgram p.now }
     requires there { slice_get p.now.methods method ≡ Some m.now }
     requires tagged { slice_get tags.now method ≡ Some t.now }
-    requires grades { AreGrades p.now (tagged_by tags.now) uses.now method m.now grades.now }
+    requires grades { AreGrades p.now (tagged_by tags.now) uses.now on_this method m.now
+        grades.now }
     ensures { OnOk result (Marks p.now (tagged_by tags.now) uses.now
         (map (section_in method) (filter_map (λ insn. block_at insn.pc insn.op) m.now.code))
         marks.old marks.new) }
@@ -222,28 +227,57 @@ fn mark_blocks(
     Ok(())
 }
 
+/// How the section of a synchronized method runs it.
+pub fn method_mode(m: &MethodInfo) -> Mode
+    ensures { result ≡ mode_of_method (Some m.now) }
+{
+    if is_static(m.flags) {
+        Mode::OnClass(m.class)
+    } else {
+        Mode::OnThis
+    }
+}
+
+/// How a section of a method runs it. A block is on `this`, where it may run without its lock at
+/// all.
+pub fn section_mode(m: &MethodInfo, spot: Spot) -> Mode
+    ensures { result ≡ mode_of_spot (Some m.now) spot }
+{
+    match spot {
+        Spot::Method => method_mode(m),
+        Spot::Block(_) => Mode::OnThis,
+    }
+}
+
 /// Adds the mark of a method's own section, where it has one.
 fn mark_whole(
+    alloc: Global,
     p: &Program,
     uses: &Rows<FieldUse>,
+    callees: &Callees,
     method: u32,
     m: &MethodInfo,
     tags: &Rows<Tags>,
     t: &Tags,
-    grades: &[u8],
     marks: &mut Rows<SectionMark>,
 ) -> Result<(), AllocError>
+    requires program { IsProgram p.now }
+    requires few { length p.now.methods ≤ most }
     requires there { slice_get p.now.methods method ≡ Some m.now }
     requires tagged { slice_get tags.now method ≡ Some t.now }
-    requires grades { AreGrades p.now (tagged_by tags.now) uses.now method m.now grades.now }
+    requires callees { AreCallees p.now (tagged_by tags.now) uses.now callees.now.class
+        callees.now.breaks.items callees.now.recurs.items }
+    requires fits { FitsMethod callees.now.class m.now }
     ensures { OnOk result (Marks p.now (tagged_by tags.now) uses.now
         (map (section_in method) (whole_of m.now)) marks.old marks.new) }
 {
-    if locks_this(m) {
+    if is_synchronized(m.flags) {
+        let grades = callees.grades(alloc, p, uses, method_mode(m), m, t)?;
+        let mark = earliest(grades.as_slice());
         marks.push(SectionMark {
             method,
             spot: Spot::Method,
-            mark: earliest(grades),
+            mark,
         })?;
     }
     Ok(())
@@ -266,14 +300,15 @@ fn mark_method(
     requires there { slice_get p.now.methods method ≡ Some m.now }
     requires laid { IsLaidOut m.now }
     requires tagged { slice_get tags.now method ≡ Some t.now }
-    requires callees { AreCallees p.now (tagged_by tags.now) uses.now callees.now.breaks.items
-        callees.now.recurs.items }
+    requires callees { AreCallees p.now (tagged_by tags.now) uses.now callees.now.class
+        callees.now.breaks.items callees.now.recurs.items }
+    requires fits { FitsMethod callees.now.class m.now }
     ensures { OnOk result (Marks p.now (tagged_by tags.now) uses.now
         (map (section_in method) (spots_of m.now)) marks.old marks.new) }
 {
-    let grades = callees.grades(alloc, p, uses, m, t)?;
+    mark_whole(alloc, p, uses, callees, method, m, tags, t, marks)?;
     let indexed = IndexedMethod::of(alloc, m)?;
-    mark_whole(p, uses, method, m, tags, t, grades.as_slice(), marks)?;
+    let grades = callees.grades(alloc, p, uses, Mode::OnThis, m, t)?;
     mark_blocks(
         alloc,
         p,
@@ -287,6 +322,33 @@ fn mark_method(
     )
 }
 
+/// What calls lead to, for the sections of a method: what is there, or, where the method locks
+/// another class, the same for that.
+fn callees_for(
+    alloc: Global,
+    p: &Program,
+    uses: &Rows<FieldUse>,
+    tags: &Rows<Tags>,
+    m: &MethodInfo,
+    callees: Callees,
+) -> Result<Callees, AllocError>
+    requires program { IsProgram p.now }
+    requires few { length p.now.methods ≤ most }
+    requires graph { IsGraph (3 * length p.now.methods) (call_graph p.now tags.now).from
+        (call_graph p.now tags.now).to }
+    requires callees { AreCallees p.now (tagged_by tags.now) uses.now callees.class
+        callees.breaks.items callees.recurs.items }
+    ensures are { IfOk result (λ c.
+        AreCallees p.now (tagged_by tags.now) uses.now c.class c.breaks.items c.recurs.items) }
+    ensures fits { IfOk result (λ c. FitsMethod c.class m.now) }
+{
+    if locks_class(m) && m.class != callees.class {
+        Callees::of(alloc, p, uses, tags, m.class)
+    } else {
+        Ok(callees)
+    }
+}
+
 fn mark_all(
     alloc: Global,
     p: &Program,
@@ -295,16 +357,17 @@ fn mark_all(
 ) -> Result<Rows<SectionMark>, AllocError>
     requires program { IsProgram p.now }
     requires few { length p.now.methods ≤ most }
-    requires graph { IsGraph (2 * length p.now.methods) (call_graph p.now tags.now).from
+    requires graph { IsGraph (3 * length p.now.methods) (call_graph p.now tags.now).from
         (call_graph p.now tags.now).to }
     requires tags { length p.now.methods ≤ length tags.now }
     ensures { IfOk result (AllZip (IsMarkOf p.now (tagged_by tags.now) uses.now) (sections p.now)) }
 {
-    let callees = Callees::of(alloc, p, uses, tags)?;
+    let mut callees = Callees::of(alloc, p, uses, tags, 0)?;
     let mut marks = Rows::new(alloc);
     for u in 0..p.methods.len() {
         let m = &p.methods.as_slice()[u];
         let t = &tags.as_slice()[u];
+        callees = callees_for(alloc, p, uses, tags, m, callees)?;
         mark_method(alloc, p, uses, &callees, u as u32, m, tags, t, &mut marks)?;
     }
     Ok(marks)

@@ -13,7 +13,7 @@ use machine_types::Act;
 use std::alloc::AllocError;
 use std::process::Abort;
 use std::test::*;
-use test_classes::{CLASS_LOCKS, DIVIDES_AT_REST, INDEXES_AND_THROWS, SHARED, WAITS};
+use test_classes::{CLASS_LOCKS, CLASS_PAIR, DIVIDES_AT_REST, INDEXES_AND_THROWS, SHARED, WAITS};
 
 /// A part, a thread, and how that part of it ended.
 type Ended = (usize, u8, End);
@@ -205,6 +205,26 @@ const CLASS_MONITOR: [Steps; 38] = [
     (0, Act::Do, 4, true),
 ];
 
+/// An attempt on a class, which reads one static field before it is set and the other behind it,
+/// leaves no step; the section stands as a whole behind the thread that set both.
+const CLASS_TORN: [Steps; 14] = [
+    (1, Act::Begin, 1, true),
+    (1, Act::Do, 5, true),
+    (2, Act::Begin, 1, true),
+    (2, Act::Do, 5, true),
+    (2, Act::Enter, 1, true),
+    // the monitor is held
+    (1, Act::Enter, 1, false),
+    (2, Act::Do, 5, true),
+    (2, Act::Exit, 1, true),
+    (2, Act::Do, 1, true),
+    (1, Act::Enter, 1, true),
+    (1, Act::Do, 4, true),
+    (1, Act::Exit, 1, true),
+    (1, Act::Do, 3, true),
+    (0, Act::Begin, 1, false),
+];
+
 /// Reads how a part of a thread ended.
 fn check_end(rt: &(impl Abort + AllocGlobal), plain: &Plain, ended: &Ended) {
     let (part, thread, end) = *ended;
@@ -280,5 +300,6 @@ fn shadows_with_the_monitor_of_a_class_do_too(rt: HostRuntime) -> Result<(), Fil
         &CLASS_MONITOR,
         &[(0, 4), (0, 3)],
         &RETURNED,
-    )
+    )?;
+    play(&rt, CLASS_PAIR, 2, &CLASS_TORN, &[(1, 8)], &RETURNED)
 }

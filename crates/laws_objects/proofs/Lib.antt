@@ -27,7 +27,9 @@ pub mod LostObjects
 pub mod PartBegins
 pub mod Events
 pub mod WrittenFields
+pub mod PlaceWriters
 pub mod FieldWriters
+pub mod StaticWriters
 pub mod ShownMonitors
 pub mod GuardsKept
 mod FrameChanges

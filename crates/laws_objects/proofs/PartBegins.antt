@@ -1,5 +1,5 @@
 -- Where a part of the run begins, no object is made or finished.
-use Rattle.std.proofs.Common.{◌≡◌, ◌⊎◌, inl, inr, ℕ, Bool, true, false, List, [], Some, refl, ap, sym, subst}
+use Rattle.std.proofs.Common.{◌≡◌, ◌⊎◌, inl, inr, ℕ, Bool, true, false, List, Some, refl, ap, sym, subst}
 use Rattle.std.specs.Prelude.{Contains, slice_get, slice_index, if◌then◌else◌}
 use Rattle.jvm_types.specs.declared.fixed_words.TheConstants.{NEXT_FREE_WORD}
 use Rattle.jvm_types.specs.declared.outcome.End.TheVariants as ends

@@ -1,5 +1,5 @@
 -- Where an instruction begins outside attempts, the thread holds each monitor that its top frame shows: that of its receiver where
--- a tag of `this` is held, and where the method is synchronized on it.
+-- a tag of `this` is held, and where the method is synchronized on it, and that of its class where it is synchronized on that.
 use Rattle.std.proofs.Common.{◌≡◌, ◌⊎◌, inl, inr, ℕ, ◌+◌, ◌<◌, Bool, true, false, not, List, [], ◌∷◌, ◌++◌, map, Option, Some, None, refl, sym, subst, arith}
 use Rattle.std.specs.Prelude.{◌==◌, ◌&&◌, if◌then◌else◌}
 use Rattle.std.specs.List.{list_any}
@@ -7,7 +7,7 @@ use Rattle.jvm_types.specs.ClassNames.{file_of_class}
 use Rattle.jvm_types.specs.Members.{is_static, is_synchronized}
 use Rattle.jvm_types.specs.declared.program.MethodInfo.{MethodInfo}
 use Rattle.jvm_types.specs.declared.program.Program.{Program}
-use Rattle.checked_program.specs.FrozenPlaces.{locks_this}
+use Rattle.checked_program.specs.FrozenPlaces.{locks_this, locks_class}
 use Rattle.checked_program.specs.LockTags.{TagShape, is_this}
 use Rattle.checked_program.specs.MarkedProgram.{MarkedProgram, IsMarked}
 use Rattle.checked_program.specs.declared.tag.Tag.{Tag}
@@ -57,6 +57,16 @@ method_counted p m f e = by_flags (is_synchronized m.flags) (is_static m.flags) 
     by_flags true true e = absurd (cc)
     by_flags false s e = absurd (cc)
 
+-- ---- what it shows of its class
+
+class_counted : (p : Program) (m : MethodInfo) (f : Frame) → locks_class m ≡ true → 0 < count_in (class_object p (file_of_class m.class)) (own_entry p m f)
+class_counted p m f e = by_flags (is_synchronized m.flags) (is_static m.flags) e
+  where
+    by_flags : (b s : Bool) → (b && s) ≡ true → 0 < count_in (class_object p (file_of_class m.class)) (if b then (if s then class_object p (file_of_class m.class) else f.receiver) ∷ [] else [])
+    by_flags true true e = once_in (class_object p (file_of_class m.class)) []
+    by_flags true false e = absurd (cc)
+    by_flags false s e = absurd (cc)
+
 pub entries_counted : (p : Program) (choice : ℕ → ℕ) (m : MethodInfo) (tags : TagShape) (f : Frame) → (list_any is_this tags.held ≡ true) ⊎ (locks_this m ≡ true) → 0 < count_in f.receiver (shown_entries p choice m tags f)
 entries_counted p choice m tags f (inl e) = front_counted f.receiver (map (tag_value choice f.receiver) tags.held) (own_entry p m f) (tag_counted choice f.receiver tags.held e)
 entries_counted p choice m tags f (inr e) = back_counted f.receiver (map (tag_value choice f.receiver) tags.held) (own_entry p m f) (method_counted p m f e)
@@ -71,9 +81,15 @@ held_of m held l = by_held (held_at held m) refl
     by_held (Some h) e = (h, e)
 
 module _ (c : MarkedProgram) (marked : IsMarked c) where
+  shown_held : (m : ℕ) (f : Frame) (fs : List Frame) (held : List Held) (stands : Stands c phases.Run (f ∷ fs) held None) → 0 < count_in m stands.show.0 → (h : Held) × (held_at held m ≡ Some h)
+  shown_held m f fs held stands own = held_of m held (omega (arith, stands.depths m, counted))
+    where
+      counted : 0 < count_in m stands.shown
+      counted = subst (λ (ns : List ℕ). 0 < count_in m ns) (sym stands.show.2) (front_counted m stands.show.0 stands.show.1 own)
+
   pub holds_receiver : (f : Frame) (fs : List Frame) (held : List Held) (k : Standing c f) → Stands c phases.Run (f ∷ fs) held None → (list_any is_this k.tags.held ≡ true) ⊎ (locks_this k.method ≡ true)
       → (h : Held) × (held_at held f.receiver ≡ Some h)
-  holds_receiver f fs held k stands shows = held_of f.receiver held (omega (arith, stands.depths f.receiver, counted))
+  holds_receiver f fs held k stands shows = shown_held f.receiver f fs held stands (subst (λ (ns : List ℕ). 0 < count_in f.receiver ns) (sym top.shown_are) (entries_counted c.program top.choice top.stands.method top.stands.tags f shows_there))
     where
       top : Shows c Whole f stands.show.0
       top = stands.show.3
@@ -84,8 +100,15 @@ module _ (c : MarkedProgram) (marked : IsMarked c) where
           subst (λ (m : MethodInfo). (list_any is_this top.stands.tags.held ≡ true) ⊎ (locks_this m ≡ true)) one.method
           (subst (λ (tags : TagShape). (list_any is_this tags.held ≡ true) ⊎ (locks_this k.method ≡ true)) one.tags shows)
 
-      own : 0 < count_in f.receiver stands.show.0
-      own = subst (λ (ns : List ℕ). 0 < count_in f.receiver ns) (sym top.shown_are) (entries_counted c.program top.choice top.stands.method top.stands.tags f shows_there)
+  abbrev class_monitor : MethodInfo → ℕ
+  class_monitor m = class_object c.program (file_of_class m.class)
 
-      counted : 0 < count_in f.receiver stands.shown
-      counted = subst (λ (ns : List ℕ). 0 < count_in f.receiver ns) (sym stands.show.2) (front_counted f.receiver stands.show.0 stands.show.1 own)
+  pub holds_class : (f : Frame) (fs : List Frame) (held : List Held) (k : Standing c f) → Stands c phases.Run (f ∷ fs) held None → locks_class k.method ≡ true → (h : Held) × (held_at held (class_monitor k.method) ≡ Some h)
+  holds_class f fs held k stands locks = shown_held (class_monitor k.method) f fs held stands
+      (subst (λ (ns : List ℕ). 0 < count_in (class_monitor k.method) ns) (sym top.shown_are) (back_counted (class_monitor k.method) (map (tag_value top.choice f.receiver) top.stands.tags.held) (own_entry c.program top.stands.method f) own))
+    where
+      top : Shows c Whole f stands.show.0
+      top = stands.show.3
+
+      own : 0 < count_in (class_monitor k.method) (own_entry c.program top.stands.method f)
+      own = subst (λ (m : MethodInfo). 0 < count_in (class_monitor k.method) (own_entry c.program m f)) (one_standing c marked f k top.stands).method (class_counted c.program k.method f locks)

@@ -1,4 +1,5 @@
--- An instruction that writes an instance field is a `putfield`, on the object below the value on its stack.
+-- An instruction that writes an instance field is a `putfield`, on the object below the value on its stack, and one that writes a
+-- static field is a `putstatic`.
 use Rattle.std.proofs.Common.{◌≡◌, ◌⊎◌, inl, inr, ℕ, Bool, true, false, List, [], ◌∷◌, Option, Some, None, refl, sym, ap, ◌∙◌}
 use Rattle.std.specs.Prelude.{slice_get, slice_index, ◌==◌, if◌then◌else◌}
 use Rattle.jvm_types.specs.Members.{MethodSite}
@@ -18,6 +19,12 @@ pub record Puts (op : Op) (f : FieldInfo) (stack : List ℕ) (v : Variable) : Ty
   pub index : ℕ
   pub is : op ≡ ops.Putfield index
   pub variable : v ≡ variable_of f (slice_index stack 1)
+
+-- it writes the variable of a static field
+pub record PutsOnClass (op : Op) (f : FieldInfo) (v : Variable) : Type 0 where
+  pub index : ℕ
+  pub is : op ≡ ops.Putstatic index
+  pub variable : v ≡ variable_of f 0
 
 same_variable : (v u : Variable) (a b : ℕ) → Writes v a ≡ Writes u b → u ≡ v
 same_variable v u a b e = cc
@@ -50,11 +57,11 @@ puts_of i f (n ∷ a ∷ stack) v word e = by_test (a == 0) e
 
 -- an instruction that names the field, and writes a variable
 module _ (p : Program) (site : MethodSite) (number next : ℕ) (f : FieldInfo) (v : Variable) (word : ℕ) (there : slice_get p.fields number ≡ Some f) where
-  pub field_put : (op : Op) (locals stack : List ℕ) → IsTargetOf p site op (targets.Field number) → effect p next (targets.Field number) op locals stack ≡ Writes v word → (v ≡ variable_of f 0) ⊎ Puts op f stack v
+  pub field_put : (op : Op) (locals stack : List ℕ) → IsTargetOf p site op (targets.Field number) → effect p next (targets.Field number) op locals stack ≡ Writes v word → PutsOnClass op f v ⊎ Puts op f stack v
   field_put (ops.Ldc i) locals stack h e = absurd h
   field_put (ops.LdcW i) locals stack h e = absurd h
   field_put (ops.Getstatic i) locals stack h e = absurd (no_static_read (slice_get p.fields number) v word e)
-  field_put (ops.Putstatic i) locals stack h e = inl (puts_static_of f stack v word (ap (λ (o : Option FieldInfo). puts_static o stack) (sym there) ∙ e))
+  field_put (ops.Putstatic i) locals stack h e = inl (record { index = i; is = refl; variable = puts_static_of f stack v word (ap (λ (o : Option FieldInfo). puts_static o stack) (sym there) ∙ e) })
   field_put (ops.Getfield i) locals stack h e = absurd (no_read (slice_get p.fields number) stack v word e)
   field_put (ops.Putfield i) locals stack h e = inr (puts_of i f stack v word (ap (λ (o : Option FieldInfo). puts o stack) (sym there) ∙ e))
   field_put (ops.Invokevirtual i) locals stack h e = absurd h

@@ -1,6 +1,6 @@
--- An event of a thread outside attempts changes a guarded field only where the thread holds the monitor of the field's object, or
--- runs an `<init>` on that object, and a final field of a frozen class only in such an `<init>` (PLDI 2010 publication, of read-only
--- sections without their lock).
+-- An event of a thread outside attempts changes a guarded place only where the thread holds the monitor of the place's object or
+-- class, or makes that: in an `<init>` on the object, or in the `<clinit>` of the class, while no worker has begun; and a final field
+-- of a frozen class, or a final static one, only in such a method (PLDI 2010 publication, of read-only sections without their lock).
 use Rattle.std.specs.Prelude.{◌≡◌, ℕ, Bool, List, Some, None, slice_get}
 use Rattle.checked_program.specs.MarkedProgram.{MarkedProgram, IsMarked}
 use Rattle.machine_types.specs.Construction.{Construction}

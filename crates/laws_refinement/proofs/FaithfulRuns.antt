@@ -351,6 +351,7 @@ module _ (given : GivenIsKept) (memory : InstructionsChangeMemory) (laws : AreEv
     };
     agrees = l.beside.agrees;
     objects = l.beside.known;
+    statics = l.beside.apart.there;
   }
 
   stands : (hs : List Happening) → RunStands c cfg hs

@@ -1,5 +1,5 @@
 -- A place that stays while an attempt goes on has in the plain machine the value that stands in its word.
-use Rattle.std.proofs.Common.{◌≡◌, ℕ, ◌<◌, false, List, length, Some, refl, sym, ap, ◌∙◌, subst, arith}
+use Rattle.std.proofs.Common.{◌≡◌, ℕ, ◌<◌, true, false, List, length, Some, refl, sym, ap, ◌∙◌, subst, arith}
 use Rattle.std.specs.Prelude.{slice_get, slice_index}
 use Rattle.lists.proofs.ListLaws.{same_some}
 use Rattle.jvm_types.specs.Members.{is_static}
@@ -7,7 +7,7 @@ use Rattle.jvm_types.specs.ProgramInvariant.{IsProgram, instances_among}
 use Rattle.jvm_types.specs.declared.program.FieldInfo.{FieldInfo}
 use Rattle.laws_programs.proofs.FieldOrder.{instances_inside}
 use Rattle.checked_program.specs.MarkedProgram.{MarkedProgram, IsMarked}
-use Rattle.machine_types.specs.Attempts.{IsFieldAt, Stays, header, frozen, guarded}
+use Rattle.machine_types.specs.Attempts.{IsFieldAt, Stays, header, frozen, guarded, frozen_static, guarded_static}
 use Rattle.machine_types.specs.Core.{Core}
 use Rattle.machine_types.specs.PlainMemory.{Object}
 use Rattle.machine_types.specs.PlainState.{Plain, value_at}
@@ -15,7 +15,7 @@ use Rattle.machine_types.specs.Words.{value_word}
 use Rattle.machine_types.specs.Worlds.{World}
 use Rattle.laws_states.specs.HeapFacts.{HeapFacts}
 use Rattle.laws_states.specs.SiteLaws.{SitesDiffer}
-use Rattle.laws_states.specs.Sites.{HeaderOf, ValueOf}
+use Rattle.laws_states.specs.Sites.{HeaderOf, ValueOf, StaticAt}
 use Rattle.laws_states.proofs.Lists.{contained_got}
 use Rattle.laws_simulation.specs.StandsBeside.{StandsBeside}
 use Rattle.laws_simulation.proofs.PlainValues.{value_found}
@@ -34,8 +34,13 @@ module _ (differ : SitesDiffer) (c : MarkedProgram) (objects : List Object) (s :
       let below : f.index < length o.values = subst (λ (n : ℕ). f.index < n) (ap (λ (n : ℕ). instances_among n c.program.fields) (sym class) ∙ sym sized) (instances_inside c.program fi f is_program get instance) in
       subst (λ (n : ℕ). value_at q n ≡ Some (slice_index s.words n)) (sym place) (value_found differ c objects s q marked heap beside (ValueOf o.reference f.index) tt (o, at.there, refl, below))
 
+  static_value : (fi x : ℕ) (f : FieldInfo) → slice_get c.program.fields fi ≡ Some f → is_static f.flags ≡ true → x ≡ f.index → value_at q x ≡ Some (slice_index s.words x)
+  static_value fi x f get static place = subst (λ (n : ℕ). value_at q n ≡ Some (slice_index s.words n)) (sym place) (value_found differ c objects s q marked heap beside (StaticAt f.index) tt (heap.apart.there fi f get static))
+
   pub staying_value : (m x : ℕ) → Stays c objects w next t m x → value_at q x ≡ Some (slice_index s.words x)
   staying_value m x (header o there place) =
       subst (λ (n : ℕ). value_at q n ≡ Some (slice_index s.words n)) (sym place) (value_found differ c objects s q marked heap beside (HeaderOf o.reference) tt (o, there, refl))
   staying_value m x (frozen fi o field at) = field_value fi x o field.field field.is field.instance at
   staying_value m x (guarded fi o field on at) = field_value fi x o field.field field.is field.instance at
+  staying_value m x (frozen_static fi field place) = static_value fi x field.field field.is field.static place
+  staying_value m x (guarded_static fi field on place) = static_value fi x field.field field.is field.static place

@@ -52,6 +52,8 @@ module _ (c : MarkedProgram) (objects : List Object) (w later : World) (next mor
   still_stays n (attempts.header o there place) = attempts.header o there place
   still_stays n (attempts.frozen fi o frozen k) = attempts.frozen fi o frozen (stays_field fi n o k)
   still_stays n (attempts.guarded fi o guarded same k) = attempts.guarded fi o guarded same (stays_field fi n o k)
+  still_stays n (attempts.frozen_static fi frozen place) = attempts.frozen_static fi frozen place
+  still_stays n (attempts.guarded_static fi guarded same place) = attempts.guarded_static fi guarded same place
 
 -- ---- the law
 

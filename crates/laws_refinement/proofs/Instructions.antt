@@ -147,7 +147,7 @@ module _ (fit : HeapWordsFit) (allowed : EffectsAreAllowed) (c : MarkedProgram) 
         moves = refl;
         step = refl;
         act = refl;
-        reads = λ memory knows. (slice_index s.words (variable_word v), knows (variable_word v) (variable_stays c marked frozen w was objects s built t x here a counted at at_top v named.1 marks f named.2), refl);
+        reads = λ memory knows. (slice_index s.words (variable_word v), knows (variable_word v) (variable_stays c marked frozen w was objects s built t x here a counted at at_top v named.1 marks f k named.2), refl);
       }
   does (Measures v) f k =
       let named = does_at (Measures v) f in

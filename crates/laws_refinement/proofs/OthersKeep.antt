@@ -31,7 +31,7 @@ others_keep_attempts may_do no_element differ inside reach c cfg objects was fro
         noted_before c cfg objects was s t x turns.facts turns.thread u y there a e differ inside reach turns.marked (subst (λ (words : List ℕ). IsAsNoted words a) (event_words c cfg objects was frozen w later s t x turns) noted) in
         let agrees_then : (z : ℕ) → Stays c objects w (next_free s) u a.monitor z → memory z ≡ Some (slice_index s.words z) =
         λ z stays. agrees z (still_stays c cfg objects was frozen w later s t x turns u other a.monitor z stays)
-        ∙ ap Some (still_word c cfg objects was frozen w later s t x turns u other may_do no_element differ inside reach a.monitor a.noted z noted_then stays) in
+        ∙ ap Some (still_word c cfg objects was frozen w later s t x turns u other may_do no_element differ inside reach y there a e a.monitor a.noted z noted_then stays) in
         subst (λ (phase : Phase). replayed c.program a.monitor memory d.due (at_entry y a ended) ≡ Some (at_present y a phase d.pending ended)) (sym (same_phase c was s t u other)) (before noted_then memory agrees_then ended)
 
     by_attempt : (o : Option Attempt) → y.attempt ≡ o → Owes c objects w s u (was u) y o d → Owes c (objects_after c.program s t objects) later (event c s t) u (counted_after c was s t u) y o d

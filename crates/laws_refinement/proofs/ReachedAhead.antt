@@ -102,10 +102,10 @@ frames_few c (f ∷ fs) (q ∷ parts) zip =
 module _ (apart : ApartLaw) (c : MarkedProgram) (n : ℕ) (a : Attempt) (reach : IsReach c.program a.entry.method n) where
   in_section : (phase : Phase) (fs : List Frame) (held : List Held) → AttemptStands c phase fs held a → RunsSection c a (frames_inside a fs) → sum_by (ahead c.program) (frames_inside a fs) ≤ n
   in_section phase fs held k run =
-      let distinct : HaveOwnMethods run.0 = apart c.program (tags_of c) k.uses (section_of a) a.monitor run.0 run.1 k.marked run.3 in
+      let distinct : HaveOwnMethods run.0 = apart c.program (tags_of c) k.uses (section_of a) a.entry.receiver run.0 run.1 k.marked run.3 in
       let within : sum_by (λ (q : Part). size_at c.program q.method) run.0 ≤ sum_by (size_at c.program) reach.methods =
       sum_within (size_at c.program) run.0 reach.methods distinct
-      (λ u among. let calls = each_reached c.program (tags_of c) (section_of a) a.monitor run.0 run.1 run.3 among.0 among.1 among.2 in reach.all u calls.0 (subst (λ (v : ℕ). HasCalls c.program a.entry.method calls.0 v) among.3 calls.1)) in
+      (λ u among. let calls = each_reached c.program (tags_of c) (section_of a) a.entry.receiver run.0 run.1 run.3 among.0 among.1 among.2 in reach.all u calls.0 (subst (λ (v : ℕ). HasCalls c.program a.entry.method calls.0 v) among.3 calls.1)) in
       let count = reach.count in
       omega (arith, frames_few c (frames_inside a fs) run.0 run.2, within, count)
 

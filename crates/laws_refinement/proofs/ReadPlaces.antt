@@ -1,9 +1,9 @@
--- The field that an instruction reads inside an attempt is one that stays: frozen, or guarded and of the section's object; and
--- its object is built by no other thread.
+-- The field of an object that an instruction reads inside an attempt is one that stays: frozen, or guarded and of the section's
+-- object; and its object is built by no other thread.
 use Rattle.std.proofs.Common.{◌≡◌, ◌≢◌, ◌⊎◌, inl, inr, ℕ, ◌<◌, Bool, true, false, List, Option, Some, None, refl, sym, ap, ◌∙◌, subst, arith, ⊎_elim}
 use Rattle.std.specs.Prelude.{slice_get, slice_index}
 use Rattle.lists.proofs.ListLaws.{same_some}
-use Rattle.jvm_types.specs.CodeTable.{get_row}
+use Rattle.jvm_types.specs.CodeTable.{get_row, get_static_row}
 use Rattle.jvm_types.specs.Members.{MethodSite, is_static}
 use Rattle.jvm_types.specs.Types.{is_below}
 use Rattle.jvm_types.specs.declared.code.Op.{Op}
@@ -14,10 +14,12 @@ use Rattle.jvm_types.specs.declared.program.Program.{Program}
 use Rattle.jvm_types.specs.declared.program.Target.TheVariants as targets
 use Rattle.jvm_types.specs.declared.typing.VType.{VType}
 use Rattle.jvm_types.specs.declared.typing.VType.TheVariants as types
-use Rattle.laws_programs.specs.TargetLaws.{HasRow}
+use Rattle.laws_programs.specs.TargetLaws.{HasRow, NamesField}
 use Rattle.checked_program.specs.FrozenPlaces.{IsFrozenField, IsGuardedField}
 use Rattle.checked_program.specs.SectionLaws.{ReadsOnly}
 use Rattle.checked_program.specs.TaggedCode.{Tagged}
+use Rattle.checked_program.specs.declared.section.Mode.{Mode}
+use Rattle.checked_program.specs.declared.section.Mode.TheVariants.{OnThis}
 use Rattle.checked_program.specs.declared.tag.Tag.{Tag}
 use Rattle.checked_program.specs.declared.tag.Tag.TheVariants.{This}
 use Rattle.machine_types.specs.Construction.{SlotByType, OwnSlot, SlotIs}
@@ -27,26 +29,33 @@ use Rattle.laws_states.proofs.Lists.{same_or_not}
 
 -- ---- which field
 
--- a frozen field, or a guarded one of the object m
-abbrev pub MayStay : Program → Tagged → (number reference m : ℕ) → Type 0
-MayStay p tags number reference m = IsFrozenField p tags number ⊎ (IsGuardedField p tags number × (reference ≡ m))
+-- a frozen field, or a guarded one of the section's object o, where the section is on `this`
+abbrev pub MayStay : Program → Tagged → Mode → (number reference o : ℕ) → Type 0
+MayStay p tags mode number reference o = IsFrozenField p tags number ⊎ (IsGuardedField p tags number × (mode ≡ OnThis) × (reference ≡ o))
 
--- the only instruction of a section that names a field is a read of it
-pub record GetsField (p : Program) (tags : Tagged) (m number : ℕ) (op : Op) (r : OpRow) (stack : List ℕ) : Type 0 where
+-- the only instruction of a section that names a field of an object is a read of it
+pub record GetsField (p : Program) (tags : Tagged) (mode : Mode) (o number : ℕ) (op : Op) (r : OpRow) (stack : List ℕ) : Type 0 where
   pub field : FieldInfo
   pub is : slice_get p.fields number ≡ Some field
   pub instance : is_static field.flags ≡ false
   pub constant : ℕ
   pub gets : op ≡ ops.Getfield constant
   pub row : r ≡ get_row (Some field)
-  pub stays : MayStay p tags number (slice_index stack 0) m
+  pub stays : MayStay p tags mode number (slice_index stack 0) o
 
-pub gets_field : (p : Program) (tags : Tagged) (site : MethodSite) (pc m number : ℕ) (op : Op) (r : OpRow) (stack : List ℕ) → HasRow p site pc (targets.Field number) op r → ReadsOnly p tags m op (targets.Field number) stack → GetsField p tags m number op r stack
-gets_field p tags site pc m number (ops.Getfield i) r stack k h = record { field = k.field; is = k.there; instance = k.sort; constant = i; gets = refl; row = k.its; stays = h }
-gets_field p tags site pc m number (ops.Getstatic i) r stack k h = absurd h
-gets_field p tags site pc m number (ops.Putstatic i) r stack k h = absurd h
-gets_field p tags site pc m number (ops.Putfield i) r stack k h = absurd h
-gets_field p tags site pc m number op r stack k h = absurd k
+no_static : (p : Program) (number : ℕ) (row_of : Option FieldInfo → OpRow) (r : OpRow) (f : FieldInfo) → slice_get p.fields number ≡ Some f → is_static f.flags ≡ false → NamesField p number true row_of r → ⊥
+no_static p number row_of r f there instance k =
+    let static : is_static f.flags ≡ true = ap (λ (g : FieldInfo). is_static g.flags) (same_some (sym there ∙ k.there)) ∙ k.sort in
+    let bad : true ≡ false = sym static ∙ instance in
+    cc
+
+pub gets_field : (p : Program) (tags : Tagged) (site : MethodSite) (pc : ℕ) (mode : Mode) (o number : ℕ) (f : FieldInfo) (op : Op) (r : OpRow) (stack : List ℕ) → slice_get p.fields number ≡ Some f → is_static f.flags ≡ false
+    → HasRow p site pc (targets.Field number) op r → ReadsOnly p tags mode o op (targets.Field number) stack → GetsField p tags mode o number op r stack
+gets_field p tags site pc mode o number f (ops.Getfield i) r stack there instance k h = record { field = k.field; is = k.there; instance = k.sort; constant = i; gets = refl; row = k.its; stays = h }
+gets_field p tags site pc mode o number f (ops.Getstatic i) r stack there instance k h = absurd (no_static p number get_static_row r f there instance k)
+gets_field p tags site pc mode o number f (ops.Putstatic i) r stack there instance k h = absurd h
+gets_field p tags site pc mode o number f (ops.Putfield i) r stack there instance k h = absurd h
+gets_field p tags site pc mode o number f op r stack there instance k h = absurd k
 
 -- ---- who builds its object
 

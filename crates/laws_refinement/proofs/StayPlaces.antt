@@ -5,6 +5,7 @@ use Rattle.std.proofs.lemmas.Bool.{or_parts}
 use Rattle.std.proofs.lemmas.Bool.Decides.{nat_tests}
 use Rattle.lists.proofs.ListLaws.{same_some}
 use Rattle.lists.proofs.TestLaws.{is_true}
+use Rattle.jvm_types.specs.ClassNames.{file_of_class}
 use Rattle.jvm_types.specs.CodeTable.{get_row}
 use Rattle.jvm_types.specs.Members.{is_static}
 use Rattle.jvm_types.specs.ProgramInvariant.{IsProgram, site_in}
@@ -24,9 +25,12 @@ use Rattle.jvm_types.specs.declared.typing.VType.{VType}
 use Rattle.jvm_types.specs.declared.typing.VType.TheVariants as types
 use Rattle.laws_programs.proofs.ClassTreeLaws.{files_alone}
 use Rattle.laws_programs.specs.TargetLaws.{HasRow}
+use Rattle.checked_program.specs.FrozenPlaces.{IsFrozenStatic, IsGuardedStatic}
 use Rattle.checked_program.specs.LockTags.{TagShape}
 use Rattle.checked_program.specs.MarkedProgram.{MarkedProgram, IsMarked}
 use Rattle.checked_program.specs.SectionLaws.{ReadsOnly}
+use Rattle.checked_program.specs.declared.section.Mode.{Mode}
+use Rattle.checked_program.specs.declared.section.Mode.TheVariants.{OnThis}
 use Rattle.checked_program.specs.declared.tag.Tag.{Tag}
 use Rattle.machine_types.specs.Attempts.{IsFieldAt, Stays}
 use Rattle.machine_types.specs.Attempts as attempts
@@ -39,7 +43,7 @@ use Rattle.machine_types.specs.Standing.{Whole, tags_of}
 use Rattle.machine_types.specs.Structure.{Stands, AttemptStands, frames_inside}
 use Rattle.machine_types.specs.Threads.{Frame, Attempt, Thread}
 use Rattle.machine_types.specs.Typed.{HasClass}
-use Rattle.machine_types.specs.Words.{header_word, value_word, variable_word}
+use Rattle.machine_types.specs.Words.{class_object, header_word, value_word, variable_word}
 use Rattle.machine_types.specs.Worlds.{Begun, World, IsFinished, IsOwnOrFinished, builder}
 use Rattle.machine_types.specs.declared.effect.Effect.TheVariants.{Reads, Throws}
 use Rattle.machine_types.specs.declared.effect.Variable.{Variable}
@@ -48,17 +52,22 @@ use Rattle.machine_types.specs.declared.lock.Held.{Held}
 use Rattle.machine_types.specs.declared.phase.Phase.{Phase}
 use Rattle.machine_types.specs.declared.phase.Phase.TheVariants as phases
 use Rattle.laws_threads.specs.Allowed as allowed
+use Rattle.laws_threads.specs.InsideEffects.{IsStayingStatic, MayRead}
 use Rattle.laws_threads.proofs.Landing.{rules_at, stand_top}
 use Rattle.laws_threads.proofs.Inside.{runs_inside, not_finished, top_shows, stack_this}
-use Rattle.laws_threads.proofs.SectionFrames.{reads, row_stands}
+use Rattle.laws_threads.proofs.SectionFrames.{on_object, reads, row_stands}
 use Rattle.laws_threads.proofs.Standings.{top_here, top_at_standing}
 use Rattle.laws_refinement.proofs.ReadPlaces.{MayStay, GetsField, gets_field, IsOwnIn, own_in_all, of_object, slot}
 
 -- ---- what the marks say of the instruction at which the top frame stands
 
+-- in a section with the monitor m, whose own frame has the receiver o
 pub record TopReads (c : MarkedProgram) (m : ℕ) (at : Top) : Type 0 where
   pub row : HasRow c.program (site_in at.method) at.insn.pc at.target at.insn.op (top_row c.program at)
-  pub only : ReadsOnly c.program (tags_of c) m at.insn.op at.target at.frame.stack
+  pub mode : Mode
+  pub o : ℕ
+  pub on : mode ≡ OnThis → o ≡ m
+  pub only : ReadsOnly c.program (tags_of c) mode o at.insn.op at.target at.frame.stack
 
 pub top_reads : (c : MarkedProgram) (fs : List Frame) (held : List Held) (a : Attempt) (at : Top) → IsMarked c → AttemptStands c phases.Run fs held a → Stands c phases.Run fs held (Some a) → top_of c.program fs ≡ Some at → TopReads c a.monitor at
 top_reads c [] held a at marked k s e = absurd (cc)
@@ -69,6 +78,9 @@ top_reads c (f ∷ below) held a at marked k s e =
     let l = r.stands in
     let one : TopReads c a.monitor (top_here c f below l) = record {
       row = row_stands c marked f.method l.number l.method l.insn l.target l.tags l.at;
+      mode = r.mode;
+      o = a.entry.receiver;
+      on = on_object c marked a k.monitor f (frames_inside a below) r;
       only = reads c marked a k.uses k.are_uses k.marked f (frames_inside a below) r f.stack this;
     } in
     subst (λ (top : Top). TopReads c a.monitor top) (top_at_standing c marked f below l at e) one
@@ -181,59 +193,78 @@ module _ (c : MarkedProgram) (marked : IsMarked c) (frozen : ℕ → Bool) (w : 
       let below = top_suits at.method (top_row c.program at) field slots.types first.type first.more row first.first slots.suit in
       known v (slot (IsFinished keeps.now next) (IsFresh keeps.now t slots.height Runs) (makes_frozen frozen at.method) at.frame.receiver v some (builds frozen at.method) first.type first.tag (of_object first.type field.class below) first.is)
 
+  -- a static field
+  static_stays : (word : ℕ) → IsStayingStatic c a.monitor word → Stays c objects w next t a.monitor word
+  static_stays word k = by_stay k.stays
+    where
+      at_word : (f : FieldInfo) → slice_get c.program.fields k.number ≡ Some f → word ≡ f.index
+      at_word f is = sym k.place ∙ ap (λ (g : FieldInfo). g.index) (same_some (sym k.is ∙ is))
+
+      by_stay : IsFrozenStatic c.program k.number ⊎ (IsGuardedStatic c.program (tags_of c) k.number × (class_object c.program (file_of_class k.field.class) ≡ a.monitor)) → Stays c objects w next t a.monitor word
+      by_stay (inl h) = attempts.frozen_static k.number h (at_word h.field h.is)
+      by_stay (inr (h, on)) = attempts.guarded_static k.number h (ap (λ (g : FieldInfo). class_object c.program (file_of_class g.class)) (same_some (sym h.is ∙ k.is)) ∙ on) (at_word h.field h.is)
+
   -- the variable that is read
-  module _ (v : Variable) (f : FieldInfo) (marks : TopReads c a.monitor at) (e : effect_at c.program at ≡ Reads v) (named : allowed.IsNamedField c.program (HasClass objects) at.target v f) where
-    abbrev names : GetsField c.program (tags_of c) a.monitor named.number at.insn.op (top_row c.program at) at.frame.stack
-    names = gets_field c.program (tags_of c) (site_in at.method) at.insn.pc a.monitor named.number at.insn.op (top_row c.program at) at.frame.stack
-        (subst (λ (target : Target). HasRow c.program (site_in at.method) at.insn.pc target at.insn.op (top_row c.program at)) named.named marks.row)
-        (subst (λ (target : Target). ReadsOnly c.program (tags_of c) a.monitor at.insn.op target at.frame.stack) named.named marks.only)
+  module _ (v : Variable) (f : FieldInfo) (marks : TopReads c a.monitor at) (e : effect_at c.program at ≡ Reads v) (may : MayRead c a.monitor v) (named : allowed.IsNamedField c.program (HasClass objects) at.target v f) where
+    -- a field of an object
+    module _ (instance : is_static f.flags ≡ false) where
+      abbrev names : GetsField c.program (tags_of c) marks.mode marks.o named.number at.insn.op (top_row c.program at) at.frame.stack
+      names = gets_field c.program (tags_of c) (site_in at.method) at.insn.pc marks.mode marks.o named.number f at.insn.op (top_row c.program at) at.frame.stack named.there instance
+          (subst (λ (target : Target). HasRow c.program (site_in at.method) at.insn.pc target at.insn.op (top_row c.program at)) named.named marks.row)
+          (subst (λ (target : Target). ReadsOnly c.program (tags_of c) marks.mode marks.o at.insn.op target at.frame.stack) named.named marks.only)
 
-    abbrev read : ReadObject c.program names.field at.frame.stack v
-    read = read_object c.program at named.number names.constant names.field v named.named names.gets names.is e
+      abbrev read : ReadObject c.program names.field at.frame.stack v
+      read = read_object c.program at named.number names.constant names.field v named.named names.gets names.is e
 
-    one_field : f ≡ names.field
-    one_field = same_some (sym named.there ∙ names.is)
+      one_field : f ≡ names.field
+      one_field = same_some (sym named.there ∙ names.is)
 
-    instance : is_static f.flags ≡ false
-    instance = ap (λ (g : FieldInfo). is_static g.flags) one_field ∙ names.instance
+      is_variable : v ≡ Instance read.value names.field.index
+      is_variable = read.variable ∙ instance_of names.field read.value names.instance
 
-    is_variable : v ≡ Instance read.value names.field.index
-    is_variable = read.variable ∙ instance_of names.field read.value names.instance
+      one_object : named.reference ≡ read.value
+      one_object = same_instance named.reference read.value f.index names.field.index (sym (instance_of f named.reference instance) ∙ sym named.variable ∙ is_variable)
 
-    one_object : named.reference ≡ read.value
-    one_object = same_instance named.reference read.value f.index names.field.index (sym (instance_of f named.reference instance) ∙ sym named.variable ∙ is_variable)
+      holder : allowed.IsOf (HasClass objects) f.class named.reference
+      holder = named.holder instance
 
-    holder : allowed.IsOf (HasClass objects) f.class named.reference
-    holder = named.holder instance
+      program : IsProgram c.program
+      program = marked.checked.program
 
-    program : IsProgram c.program
-    program = marked.checked.program
+      abbrev object : Object
+      object = holder.2.0
 
-    abbrev object : Object
-    object = holder.2.0
+      is_object : object.reference ≡ read.value
+      is_object = holder.2.2 ∙ one_object
 
-    is_object : object.reference ≡ read.value
-    is_object = holder.2.2 ∙ one_object
+      of_class : object.class ≡ names.field.class
+      of_class = holder.2.3 ∙ files_alone holder.1 f.class (program.fields named.number f named.there).class.0 holder.3 ∙ ap (λ (g : FieldInfo). g.class) one_field
 
-    of_class : object.class ≡ names.field.class
-    of_class = holder.2.3 ∙ files_alone holder.1 f.class (program.fields named.number f named.there).class.0 holder.3 ∙ ap (λ (g : FieldInfo). g.class) one_field
+      field_at : IsFieldAt c objects w next t named.number (variable_word v) object
+      field_at = record {
+        there = holder.2.1;
+        field = names.field;
+        is = names.is;
+        of_class = of_class;
+        known = subst (IsOwnOrFinished w next t) (sym is_object) (top_known names.field read.value read.rest names.row read.top read.some);
+        place = ap (λ (u : Variable). variable_word u) is_variable ∙ ap (λ (r : ℕ). value_word r names.field.index) (sym is_object);
+      }
 
-    field_at : IsFieldAt c objects w next t named.number (variable_word v) object
-    field_at = record {
-      there = holder.2.1;
-      field = names.field;
-      is = names.is;
-      of_class = of_class;
-      known = subst (IsOwnOrFinished w next t) (sym is_object) (top_known names.field read.value read.rest names.row read.top read.some);
-      place = ap (λ (u : Variable). variable_word u) is_variable ∙ ap (λ (r : ℕ). value_word r names.field.index) (sym is_object);
-    }
+      by_stay : MayStay c.program (tags_of c) marks.mode named.number (slice_index at.frame.stack 0) marks.o → Stays c objects w next t a.monitor (variable_word v)
+      by_stay (inl k) = attempts.frozen named.number object k field_at
+      by_stay (inr k) = attempts.guarded named.number object k.0 (is_object ∙ sym (ap (λ (vs : List ℕ). slice_index vs 0) read.top) ∙ k.2 ∙ marks.on k.1) field_at
 
-    by_stay : MayStay c.program (tags_of c) named.number (slice_index at.frame.stack 0) a.monitor → Stays c objects w next t a.monitor (variable_word v)
-    by_stay (inl k) = attempts.frozen named.number object k field_at
-    by_stay (inr k) = attempts.guarded named.number object k.0 (is_object ∙ sym (ap (λ (vs : List ℕ). slice_index vs 0) read.top) ∙ k.1) field_at
+      field_stays : Stays c objects w next t a.monitor (variable_word v)
+      field_stays = by_stay names.stays
 
     pub variable_stays : Stays c objects w next t a.monitor (variable_word v)
-    variable_stays = by_stay names.stays
+    variable_stays = by_sort (is_static f.flags) refl
+      where
+        by_sort : (b : Bool) → is_static f.flags ≡ b → Stays c objects w next t a.monitor (variable_word v)
+        by_sort false sort = field_stays sort
+        by_sort true sort =
+            let static : v ≡ Static f.index = named.variable ∙ ap (λ (b : Bool). if b then Static f.index else Instance named.reference f.index) sort in
+            subst (λ (u : Variable). Stays c objects w next t a.monitor (variable_word u)) (sym static) (static_stays f.index (subst (MayRead c a.monitor) static may))
 
   -- the header of an object
   pub header_stays : (class v : ℕ) → allowed.IsOf (HasClass objects) class v → Stays c objects w next t a.monitor (header_word v)

@@ -1,21 +1,23 @@
 -- The places that stay for a thread stay so after an event of another thread, and keep their words.
-use Rattle.std.proofs.Common.{◌≡◌, ◌≢◌, ◌⊎◌, inl, inr, ℕ, Bool, true, false, List, Option, Some, None, refl, sym, ap, ◌∙◌, subst, arith}
+use Rattle.std.proofs.Common.{◌≡◌, ◌≢◌, ◌⊎◌, inl, inr, ℕ, zero, suc, Bool, true, false, List, Option, Some, None, refl, sym, ap, ◌∙◌, subst, arith}
 use Rattle.std.specs.Prelude.{Contains, slice_get, slice_index}
 use Rattle.lists.proofs.ListLaws.{same_some}
+use Rattle.jvm_types.specs.ClassNames.{file_of_class}
 use Rattle.jvm_types.specs.Members.{is_final, is_private, is_static}
 use Rattle.jvm_types.specs.declared.program.FieldInfo.{FieldInfo}
 use Rattle.jvm_types.specs.declared.program.Program.{Program}
 use Rattle.checked_program.specs.MarkedProgram.{MarkedProgram}
 use Rattle.machine_types.specs.Accesses.{words_after}
-use Rattle.machine_types.specs.Attempts.{IsFieldAt, Stays, header, frozen, guarded}
+use Rattle.machine_types.specs.Attempts.{IsFieldAt, Stays, header, frozen, guarded, frozen_static, guarded_static}
 use Rattle.machine_types.specs.Core.{Core, event, event_of}
 use Rattle.machine_types.specs.Events.{wanted}
-use Rattle.machine_types.specs.Guards.{Changes, HoldsMonitor, KeepsGuards, MakesObject}
+use Rattle.machine_types.specs.Guards.{Changes, ChangesWord, HoldsMonitor, IsOfClassInit, KeepsGuards, MakesClass, MakesObject}
 use Rattle.machine_types.specs.LockWords.{word_of_lock}
 use Rattle.machine_types.specs.NewObjects.{size_by}
 use Rattle.machine_types.specs.PlainMemory.{Object, new_object}
+use Rattle.machine_types.specs.Structure.{AttemptStands, AttemptStandsIn, IsAs, IsPhaseInside, IsStructured, Stands}
 use Rattle.machine_types.specs.Threads.{Attempt, Thread}
-use Rattle.machine_types.specs.Words.{value_word}
+use Rattle.machine_types.specs.Words.{class_object, value_word}
 use Rattle.machine_types.specs.Worlds.{Builder, World, IsOwnOrFinished}
 use Rattle.machine_types.specs.declared.config.Config.{Config}
 use Rattle.machine_types.specs.declared.lock.LockWord.TheVariants as locks
@@ -73,10 +75,31 @@ module _ (c : MarkedProgram) (cfg : Config) (objects : List Object) (was : ℕ �
     still_stays m z (header o there at) = header o (still_object o there) at
     still_stays m z (frozen fi o is k) = frozen fi o is (still_field fi z o k)
     still_stays m z (guarded fi o is at k) = guarded fi o is at (still_field fi z o k)
+    still_stays m z (frozen_static fi is at) = frozen_static fi is at
+    still_stays m z (guarded_static fi is on at) = guarded_static fi is on at
+
+    -- ---- a thread that has not begun
+
+    not_idle_inside : (y : Thread) → slice_get s.threads u ≡ Some y → (a : Attempt) → y.attempt ≡ Some a → y.phase ≡ phases.Idle → ⊥
+    not_idle_inside y there a tries idle =
+        let st : IsStructured c (was u) y = turns.facts.structure u y there in
+        let is : was u ≡ phases.Idle = subst (λ (phase : Phase). IsAs phase (was u)) idle st.is_as in
+        let inside : AttemptStands c (was u) y.frames y.held a = subst (AttemptStandsIn c (was u) y.frames y.held) tries st.attempt in
+        subst (IsPhaseInside a.monitor) is inside.inside
+
+    no_frame : (class : ℕ) → x.phase ≡ phases.Idle → IsOfClassInit c class x.frames → ⊥
+    no_frame class idle runs =
+        let st : IsStructured c (was t) x = turns.facts.structure t x turns.thread in
+        let is : was t ≡ phases.Idle = subst (λ (phase : Phase). IsAs phase (was t)) idle st.is_as in
+        let stands : Stands c phases.Idle x.frames x.held x.attempt = subst (λ (phase : Phase). Stands c phase x.frames x.held x.attempt) is st.stands in
+        subst (IsOfClassInit c class) stands.phase_shows runs
 
     -- ---- their words stay
 
     module _ (may_do : InsideMayDo) (no_element : NoElementInside) (differ : SitesDiffer) (inside : SitesLieInside) (reach : EventsReachSites) where
+      inside_still : (a : Attempt) → x.attempt ≡ Some a → (place : ℕ) → slice_index after place ≡ slice_index s.words place
+      inside_still a e place = ap (λ (words : List ℕ). slice_index words place) (silent may_do no_element c turns.marked x a (was t) s.words (turns.facts.structure t x turns.thread) e)
+
       -- no `<init>` that another thread runs is on an object that this one knows
       not_made : (v class : ℕ) → IsOwnOrFinished w (next_free s) u v → is_frozen class ≡ true → x.attempt ≡ None → MakesObject c v x.frames → TopIsOf c.program class x.frames → ⊥
       not_made v class known is outside makes top =
@@ -111,25 +134,52 @@ module _ (c : MarkedProgram) (cfg : Config) (objects : List Object) (was : ℕ �
 
             by_attempt : (a : Option Attempt) → x.attempt ≡ a → IsStill
             by_attempt None e = by_test e (same_or_not _ _)
-            by_attempt (Some a) e = ap (λ (words : List ℕ). slice_index words place) (silent may_do no_element c turns.marked x a (was t) s.words (turns.facts.structure t x turns.thread) e)
+            by_attempt (Some a) e = inside_still a e place
 
       same_word : (z y : ℕ) → z ≡ y → slice_index after y ≡ slice_index s.words y → slice_index (event c s t).words z ≡ slice_index s.words z
       same_word z y at e = ap (λ (words : List ℕ). slice_index words z) event_words ∙ subst (λ (n : ℕ). slice_index after n ≡ slice_index s.words n) (sym at) e
+
+      -- a static field that changes only where its class is made: then no worker has begun, so none is in an attempt, and none moves
+      module _ (y : Thread) (there : slice_get s.threads u ≡ Some y) (mine : Attempt) (tries : y.attempt ≡ Some mine) (place class : ℕ) where
+        static_stays : (KeepsGuards c objects s (event c s t) x → ChangesWord place s (event c s t) → MakesClass c class s x) → slice_index (event c s t).words place ≡ slice_index s.words place
+        static_stays guards = by_attempt x.attempt refl
+          where
+            by_test : x.attempt ≡ None → (slice_index (event c s t).words place ≡ slice_index s.words place) ⊎ ChangesWord place s (event c s t) → slice_index (event c s t).words place ≡ slice_index s.words place
+            by_test e (inl same) = same
+            by_test e (inr changes) = absurd (not_clinit (guards (turns.guards e) changes))
+              where
+                -- one of the two is a worker
+                not_clinit : MakesClass c class s x → ⊥
+                not_clinit makes = by_number u t refl refl
+                  where
+                    by_number : (i j : ℕ) → u ≡ i → t ≡ j → ⊥
+                    by_number zero zero f g = other (f ∙ sym g)
+                    by_number (suc i) j f g = not_idle_inside y there mine tries (makes.no_worker i y (subst (λ (n : ℕ). slice_get s.threads n ≡ Some y) f there))
+                    by_number zero (suc j) f g = no_frame class (makes.no_worker j x (subst (λ (n : ℕ). slice_get s.threads n ≡ Some x) g turns.thread)) makes.runs
+
+            by_attempt : (a : Option Attempt) → x.attempt ≡ a → slice_index (event c s t).words place ≡ slice_index s.words place
+            by_attempt None e = by_test e (same_or_not _ _)
+            by_attempt (Some a) e = ap (λ (words : List ℕ). slice_index words place) event_words ∙ inside_still a e place
 
       -- one number names one field
       same_field : (fi : ℕ) (f g : FieldInfo) → slice_get c.program.fields fi ≡ Some f → slice_get c.program.fields fi ≡ Some g → f ≡ g
       same_field fi f g e h = same_some (sym e ∙ h)
 
-      pub still_word : (m n z : ℕ) → slice_index s.words m ≡ word_of_lock (locks.Free n) → Stays c objects w (next_free s) u m z → slice_index (event c s t).words z ≡ slice_index s.words z
-      still_word m n z free (header o there at) =
-          ap (slice_index (event c s t).words) at ∙ turns.facts_after.heap.typed.places.headers o (still_object o there) ∙ sym (ap (slice_index s.words) at ∙ turns.facts.heap.typed.places.headers o there)
-      still_word m n z free (frozen fi o is k) =
+      -- the thread that moves does not hold a free monitor
+      not_free : (m n o : ℕ) → slice_index s.words m ≡ word_of_lock (locks.Free n) → o ≡ m → HoldsMonitor o x → ⊥
+      not_free m n o free at holds = held_not c cfg objects was s t x turns.facts turns.thread m n free (subst (λ (r : ℕ). HoldsMonitor r x) at holds)
+
+      -- for a thread in an attempt
+      pub still_word : (y : Thread) → slice_get s.threads u ≡ Some y → (a : Attempt) → y.attempt ≡ Some a → (m n z : ℕ) → slice_index s.words m ≡ word_of_lock (locks.Free n) → Stays c objects w (next_free s) u m z → slice_index (event c s t).words z ≡ slice_index s.words z
+      still_word y there a tries m n z free (header o known at) =
+          ap (slice_index (event c s t).words) at ∙ turns.facts_after.heap.typed.places.headers o (still_object o known) ∙ sym (ap (slice_index s.words) at ∙ turns.facts.heap.typed.places.headers o known)
+      still_word y there a tries m n z free (frozen fi o is k) =
           let one : is.field ≡ k.field = same_field fi is.field k.field is.is k.is in
           same_word z (value_word o.reference k.field.index) k.place
           (field_stays fi z o k (subst (λ (f : FieldInfo). is_static f.flags ≡ false) one is.instance) (inr (subst (λ (f : FieldInfo). is_final f.flags ≡ true) one is.final))
           (subst (λ (f : FieldInfo). is_frozen f.class ≡ true) one (turns.built.frozen_are.with_frozen fi is))
           (λ guards changes. guards.frozen fi o k.there is changes))
-      still_word m n z free (guarded fi o is at k) =
+      still_word y there a tries m n z free (guarded fi o is at k) =
           let one : is.field ≡ k.field = same_field fi is.field k.field is.is k.is in
           same_word z (value_word o.reference k.field.index) k.place
           (field_stays fi z o k (subst (λ (f : FieldInfo). is_static f.flags ≡ false) one is.instance) (inl (subst (λ (f : FieldInfo). is_private f.flags ≡ true) one is.private))
@@ -137,5 +187,13 @@ module _ (c : MarkedProgram) (cfg : Config) (objects : List Object) (was : ℕ �
           (λ guards changes. by_guard (guards.guarded fi o k.there is changes)))
         where
           by_guard : HoldsMonitor o.reference x ⊎ MakesObject c o.reference x.frames → MakesObject c o.reference x.frames
-          by_guard (inl holds) = absurd (held_not c cfg objects was s t x turns.facts turns.thread m n free (subst (λ (r : ℕ). HoldsMonitor r x) at holds))
+          by_guard (inl holds) = absurd (not_free m n o.reference free at holds)
+          by_guard (inr makes) = makes
+      still_word y there a tries m n z free (frozen_static fi is at) =
+          subst (λ (n : ℕ). slice_index (event c s t).words n ≡ slice_index s.words n) (sym at) (static_stays y there a tries is.field.index is.field.class (λ guards changes. guards.frozen_statics fi is changes))
+      still_word y there a tries m n z free (guarded_static fi is on at) =
+          subst (λ (n : ℕ). slice_index (event c s t).words n ≡ slice_index s.words n) (sym at) (static_stays y there a tries is.field.index is.field.class (λ guards changes. by_guard (guards.statics fi is changes)))
+        where
+          by_guard : HoldsMonitor (class_object c.program (file_of_class is.field.class)) x ⊎ MakesClass c is.field.class s x → MakesClass c is.field.class s x
+          by_guard (inl holds) = absurd (not_free m n (class_object c.program (file_of_class is.field.class)) free on holds)
           by_guard (inr makes) = makes

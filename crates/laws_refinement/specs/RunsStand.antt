@@ -57,7 +57,7 @@ pub record RunStands (c : MarkedProgram) (cfg : Config) (hs : List Happening) : 
   pub prints : PrintsFit (outcome (core c cfg hs)) state
   -- only thread 0 keeps how an earlier part ended
   pub keep_none : WorkersKeepNone (core c cfg hs).threads
-  -- the next event of a thread changes guarded and frozen fields as it may outside attempts, and no word inside one
+  -- the next event of a thread changes guarded and frozen places as it may outside attempts, and no word inside one
   pub guards : (t : ℕ) (x : Thread) → slice_get (core c cfg hs).threads t ≡ Some x → x.attempt ≡ None → KeepsGuards c objects (core c cfg hs) (event c (core c cfg hs) t) x
   pub silent : (t : ℕ) → IsSilent c (core c cfg hs) t
 

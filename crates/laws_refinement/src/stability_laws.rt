@@ -7,8 +7,9 @@ use laws_threads::{inside_may_do, no_element_inside};
 
 /// What is due of an attempt leads from its entry to where its thread is also after an event of
 /// another thread. Where the lock word is as the attempt noted it, it was so before, and then the
-/// event has changed no place that the attempt may read: a guarded field changes under its monitor,
-/// which nobody held, or as its object is made, and a frozen one as its object is made.
+/// event has changed no place that the attempt may read: a guarded place changes under the monitor
+/// of its object or class, which nobody held, or as that is made, and a frozen one as it is made.
+/// No thread is in an attempt as a class is made, but the one that makes it.
 pub fn others_keep_attempts()
     ensures { OthersKeepAttempts }
 {

@@ -1,23 +1,30 @@
--- Where guarded fields, and final fields of frozen classes, are written.
+-- Where guarded fields, final fields of frozen classes, and final static fields are written.
 use Rattle.std.proofs.Common.{◌≡◌, ℕ, Bool, true, false, not, ◌&&◌, ◌||◌, [], ◌∷◌, Some, None, refl, sym, ◌∙◌, subst, inl, inr, ◌⊎◌, arith}
 use Rattle.std.specs.Prelude.{◌==◌, slice_get, IsSomeAnd}
 use Rattle.std.specs.List.{list_any}
-use Rattle.std.proofs.lemmas.Bool.{and_parts}
+use Rattle.std.proofs.lemmas.Bool.{and_parts, eqb-true}
 use Rattle.std.proofs.lemmas.Bool.Decides.{nat_tests}
 use Rattle.jvm_types.specs.CodeTable.{is_init}
-use Rattle.jvm_types.specs.Members.{is_final, is_static, is_hidden, first_rule, field_rule}
+use Rattle.jvm_types.specs.Members.{is_final, is_hidden, is_other_sort, is_class_init_name, initializes, first_rule, field_rule}
 use Rattle.jvm_types.specs.declared.refusal.LRule.TheVariants.{L2, L3, L7}
-use Rattle.jvm_types.specs.ProgramInvariant.{IsTargetOf, site_in}
+use Rattle.jvm_types.specs.ProgramInvariant.{IsProgram, IsTargetOf, site_in}
+use Rattle.jvm_types.specs.declared.code.Insn.{Insn}
+use Rattle.jvm_types.specs.declared.code.Op.{Op}
 use Rattle.jvm_types.specs.declared.code.Op.TheVariants as ops
 use Rattle.jvm_types.specs.declared.program.FieldInfo.{FieldInfo}
 use Rattle.jvm_types.specs.declared.program.Target.{Target}
 use Rattle.jvm_types.specs.declared.program.Target.TheVariants as targets
 use Rattle.jvm_types.specs.declared.program.MethodInfo.{MethodInfo}
 use Rattle.jvm_types.specs.declared.program.Program.{Program}
-use Rattle.checked_program.specs.LockTags.{is_this}
-use Rattle.checked_program.specs.FrozenPlaces.{locks_this, PutsGuarded, WritesGuarded, PutsOnThis, is_final_of}
-use Rattle.checked_program.specs.SectionLaws.{WriteLaw, FinalLaw}
-use Rattle.laws_programs.proofs.CodeOrder.{have_targets}
+use Rattle.checked_program.specs.LockTags.{TagShape, is_this}
+use Rattle.checked_program.specs.TaggedCode.{Tagged, IsAt}
+use Rattle.checked_program.specs.FrozenPlaces.{locks_this, locks_class, PutsGuarded, PutsStatic, WritesGuarded, PutsOnThis, is_final_of}
+use Rattle.checked_program.specs.SectionLaws.{WriteLaw, StaticWriteLaw, FinalLaw, FinalStaticLaw}
+use Rattle.checked_program.proofs.NamedFields.{target_named}
+
+or_two : (x y : Bool) → (x || y) ≡ true → (x ≡ true) ⊎ (y ≡ true)
+or_two true y e = inl refl
+or_two false y e = inr e
 
 or_three : (x y z : Bool) → (x || (y || z)) ≡ true → (x ≡ true) ⊎ (y ≡ true) ⊎ (z ≡ true)
 or_three true y z e = inl refl
@@ -30,7 +37,14 @@ write_law p tags fi mi i index receiver m insn target f stack g at is names_fiel
     let written : WritesGuarded m f = here refl in
     (this 1 written.0, or_three (is_init m) (list_any is_this f.held) (locks_this m) written.1)
 
--- ---- a final field is written in an `<init>` of its class
+pub static_write_law : StaticWriteLaw
+static_write_law p tags fi mi i index m insn target f g at is names_field =
+    let here : PutsStatic fi g.field.class m (ops.Putstatic index) (targets.Field fi) =
+    subst (λ t. PutsStatic fi g.field.class m (ops.Putstatic index) t) names_field (subst (λ op. PutsStatic fi g.field.class m op target) is (g.written mi i m insn target f at)) in
+    let both = and_parts (m.class == g.field.class) (is_class_init_name m.name || locks_class m) (here refl) in
+    (eqb-true m.class g.field.class both.0, or_two (is_class_init_name m.name) (locks_class m) both.1)
+
+-- ---- a final field is written in an `<init>` of its class, a static one in the `<clinit>`
 
 -- only a rule that does not stand lets the others be tested
 last_rule : (a b c : Bool) → first_rule ((a, L2) ∷ (b, L3) ∷ (c, L7) ∷ []) ≡ None → c ≡ false
@@ -44,14 +58,24 @@ in_init true true e f = refl
 in_init true false e f = absurd (cc)
 in_init false initializes e f = absurd (cc)
 
+initializing : (static : Bool) (class flags : ℕ) (m : MethodInfo) → field_rule static true (site_in m) class flags ≡ None → is_final flags ≡ true → initializes (site_in m) static class ≡ true
+initializing static class flags m rule final =
+    let last = last_rule (is_other_sort static flags) (is_hidden (site_in m) class flags) (is_final flags && not (initializes (site_in m) static class)) rule in
+    in_init (is_final flags) (initializes (site_in m) static class) last final
+
 may_write : (class flags : ℕ) (m : MethodInfo) → field_rule false true (site_in m) class flags ≡ None → is_final flags ≡ true → (class ≡ m.class) × (is_init m ≡ true)
 may_write class flags m rule final =
-    let last = last_rule (is_static flags) (is_hidden (site_in m) class flags) (is_final flags && not ((class == m.class) && is_init m)) rule in
-    let both = and_parts (class == m.class) (is_init m) (in_init (is_final flags) ((class == m.class) && is_init m) last final) in
+    let both = and_parts (class == m.class) (is_init m) (initializing false class flags m rule final) in
     (grind (arith, nat_tests, both.0), both.1)
 
-of_field : (p : Program) (fi : ℕ) (field : FieldInfo) (m : MethodInfo) → IsSomeAnd (slice_get p.fields fi) (λ f. field_rule false true (site_in m) f.class f.flags ≡ None) → slice_get p.fields fi ≡ Some field → field_rule false true (site_in m) field.class field.flags ≡ None
-of_field p fi field m h e = subst (λ o. IsSomeAnd o (λ (f : FieldInfo). field_rule false true (site_in m) f.class f.flags ≡ None)) e h
+may_write_static : (class flags : ℕ) (m : MethodInfo) → field_rule true true (site_in m) class flags ≡ None → is_final flags ≡ true → (m.class ≡ class) × (is_class_init_name m.name ≡ true)
+may_write_static class flags m rule final =
+    let both = and_parts (class == m.class) (is_class_init_name m.name) (initializing true class flags m rule final) in
+    (grind (arith, nat_tests, both.0), both.1)
+
+of_field : (p : Program) (static : Bool) (fi : ℕ) (field : FieldInfo) (m : MethodInfo) → IsSomeAnd (slice_get p.fields fi) (λ f. field_rule static true (site_in m) f.class f.flags ≡ None) → slice_get p.fields fi ≡ Some field
+    → field_rule static true (site_in m) field.class field.flags ≡ None
+of_field p static fi field m h e = subst (λ o. IsSomeAnd o (λ (f : FieldInfo). field_rule static true (site_in m) f.class f.flags ≡ None)) e h
 
 is_final_field : (class : ℕ) (field : FieldInfo) → field.class ≡ class → is_final field.flags ≡ true → is_final_of class (Some field) ≡ true
 is_final_field class field same final = both (field.class == class) (is_final field.flags) (grind (arith, nat_tests, same)) final
@@ -60,14 +84,21 @@ is_final_field class field same final = both (field.class == class) (is_final fi
     both true u e f = f
     both false u e f = e
 
+field_named : (p : Program) (tags : Tagged) (fi mi i : ℕ) (m : MethodInfo) (insn : Insn) (target : Target) (f : TagShape) (op : Op) → IsProgram p → IsAt p tags mi i m insn target f → insn.op ≡ op → target ≡ targets.Field fi
+    → IsTargetOf p (site_in m) op (targets.Field fi)
+field_named p tags fi mi i m insn target f op program at is names_field =
+    subst (λ t. IsTargetOf p (site_in m) op t) names_field (subst (λ o. IsTargetOf p (site_in m) o target) is (target_named p tags mi i m insn target f program at))
+
 pub final_law : FinalLaw
 final_law p tags fi mi i index receiver m insn target f stack program g at is names_field this =
-    let fits : (t : Target) × (slice_get m.targets i ≡ Some t) × IsTargetOf p (site_in m) insn.op t = have_targets p mi i m insn program at.in_program at.in_code in
-    let same : fits.0 ≡ targets.Field fi = (let e : Some fits.0 ≡ Some target = sym fits.1 ∙ at.names in let k : fits.0 ≡ target = cc in k ∙ names_field) in
-    let named : IsTargetOf p (site_in m) (ops.Putfield index) (targets.Field fi) = subst (λ t. IsTargetOf p (site_in m) (ops.Putfield index) t) same (subst (λ op. IsTargetOf p (site_in m) op fits.0) is fits.2) in
-    let allowed = may_write g.field.class g.field.flags m (of_field p fi g.field m named g.is) g.final in
+    let named : IsTargetOf p (site_in m) (ops.Putfield index) (targets.Field fi) = field_named p tags fi mi i m insn target f (ops.Putfield index) program at is names_field in
+    let allowed = may_write g.field.class g.field.flags m (of_field p false fi g.field m named g.is) g.final in
     let inside = g.frozen mi m at.in_program (sym allowed.0) allowed.1 in
     let here : PutsOnThis p m insn.op target f = inside.finals i insn target f at in
     let here : PutsOnThis p m (ops.Putfield index) (targets.Field fi) f = subst (λ t. PutsOnThis p m (ops.Putfield index) t f) names_field (subst (λ op. PutsOnThis p m op target f) is here) in
     let final : is_final_of m.class (slice_get p.fields fi) ≡ true = subst (λ o. is_final_of m.class o ≡ true) (sym g.is) (is_final_field m.class g.field allowed.0 g.final) in
     (allowed.1, this 1 (here final))
+
+pub final_static_law : FinalStaticLaw
+final_static_law p tags fi mi i index m insn target f g program at is names_field =
+    may_write_static g.field.class g.field.flags m (of_field p true fi g.field m (field_named p tags fi mi i m insn target f (ops.Putstatic index) program at is names_field) g.is) g.final

@@ -3,6 +3,7 @@
 use Rattle.std.proofs.Common.{◌≡◌, ℕ, zero, suc, Bool, true, false, List, [], ◌∷◌, map, Option, Some, None, Result, Ok, Err, ◌⊎◌, refl, subst}
 use Rattle.std.specs.Prelude.{slice_get, slice_index}
 use Rattle.std.specs.List.{AllByRecursion}
+use Rattle.jvm_types.specs.ProgramInvariant.{IsProgram}
 use Rattle.jvm_types.specs.declared.program.MethodInfo.{MethodInfo}
 use Rattle.jvm_types.specs.declared.program.Program.{Program}
 use Rattle.jvm_types.specs.declared.refusal.SRule.{SRule}
@@ -89,10 +90,10 @@ called_at_start = invoke_law many tags section 7 (part 2 0) (part 12 1) [] OnThi
 called_at : (i : ℕ) → AreParts many tags section 7 (part 2 i ∷ part 12 1 ∷ []) OnThis
 called_at i = (called_at_start.0, called_at_start.1, called_at_start.2, called_at_start.3)
 
-module _ (u : AreUses many tags uses) (mark : HasMark many tags uses section 0) where
+module _ (program : IsProgram many) (u : AreUses many tags uses) (mark : HasMark many tags uses section 0) where
   -- it reads a guarded field of the object
-  reads : IsFrozenField many tags 0 ⊎ (IsGuardedField many tags 0 × (slice_index (7 ∷ []) 0 ≡ 7))
-  reads = read_law many tags uses section 7 (part 2 5) (part 12 1 ∷ []) OnThis _ _ _ _ (7 ∷ []) u mark (called_at 5) (record { in_program = refl; in_code = refl; names = refl; frames = _; of_method = refl; frame = refl }) on_receiver
+  reads : IsFrozenField many tags 0 ⊎ (IsGuardedField many tags 0 × (OnThis ≡ OnThis) × (slice_index (7 ∷ []) 0 ≡ 7))
+  reads = read_law many tags uses section 7 (part 2 5) (part 12 1 ∷ []) OnThis _ _ _ _ (7 ∷ []) program u mark (called_at 5) (record { in_program = refl; in_code = refl; names = refl; frames = _; of_method = refl; frame = refl }) on_receiver
 
   -- and its `monitorexit` is of `this`, which the computed tags say too
   leaves : (OnThis ≡ OnThis) × (This ≡ This)

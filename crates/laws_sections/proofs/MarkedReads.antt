@@ -1,33 +1,47 @@
--- What a marked section reads: an instruction that breaks no rule reads frozen places and those of the section's object.
-use Rattle.std.proofs.Common.{◌≡◌, ℕ, zero, suc, ◌≢◌, Bool, true, false, List, [], ◌∷◌, Some, refl, sym, ap, ◌∙◌, subst, arith, ⊎_elim, inl, inr, ◌⊎◌}
-use Rattle.std.specs.Prelude.{slice_get, slice_index, slice_index_or}
-use Rattle.std.proofs.lemmas.Bool.{cases_eq}
+-- What a marked section reads: an instruction that breaks no rule reads frozen places and those of the section's object or class.
+use Rattle.std.proofs.Common.{◌≡◌, ℕ, zero, suc, ◌≢◌, Bool, true, false, List, [], ◌∷◌, Option, Some, refl, sym, ap, ◌∙◌, subst, arith, ⊎_elim, inl, inr, ◌⊎◌}
+use Rattle.std.specs.Prelude.{◌==◌, slice_get, slice_index, slice_index_or}
+use Rattle.std.proofs.lemmas.Bool.{cases_eq, eqb-true}
+use Rattle.jvm_types.specs.Members.{is_static}
+use Rattle.jvm_types.specs.ProgramInvariant.{IsProgram, IsTargetOf, site_in}
 use Rattle.jvm_types.specs.declared.code.Insn.{Insn}
 use Rattle.jvm_types.specs.declared.code.Op.{Op}
 use Rattle.jvm_types.specs.declared.code.Op.TheVariants as ops
 use Rattle.jvm_types.specs.declared.program.Target.{Target}
 use Rattle.jvm_types.specs.declared.program.Target.TheVariants as targets
+use Rattle.jvm_types.specs.declared.program.FieldInfo.{FieldInfo}
 use Rattle.jvm_types.specs.declared.program.MethodInfo.{MethodInfo}
 use Rattle.jvm_types.specs.declared.program.Program.{Program}
 use Rattle.checked_program.specs.LockTags.{TagShape}
 use Rattle.checked_program.specs.TaggedCode.{Tagged, IsAt}
-use Rattle.checked_program.specs.FrozenPlaces.{AreUses, IsUse, IsFrozenField, IsGuardedField}
-use Rattle.checked_program.specs.Sections.{Section, IsOwn}
-use Rattle.checked_program.specs.Marks.{Callee, callee, Calls, CallsThrough, IsCalledBy, HasMark, section_fault, call_fault, enter_fault, use_fault, args_of, is_locking, is_class_locking, is_own_object, BreaksAt, OwnBreaks, itself, called}
-use Rattle.checked_program.specs.SectionLaws.{Part, IsSectionPart, AreParts, HasThis, ReadsOnly, ReadLaw}
+use Rattle.checked_program.specs.FrozenPlaces.{AreUses, IsUse, IsFrozenField, IsFrozenStatic, IsFrozenUse, IsGuardedField, IsGuardedUse}
+use Rattle.checked_program.specs.Sections.{Section, section_mode, IsOwn}
+use Rattle.checked_program.specs.Marks.{Callee, callee, Calls, CallsThrough, IsCalledBy, HasMark, section_fault, call_fault, enter_fault, use_fault, args_of, is_locking, is_class_locking, is_own_object, is_own_class, class_of_field, class_of_method, BreaksAt, OwnBreaks, itself, called}
+use Rattle.checked_program.specs.SectionLaws.{Part, IsSectionPart, AreParts, HasThis, IsOwnStatic, ReadsOnly, ReadLaw}
 use Rattle.checked_program.specs.declared.tag.Tag.{Tag}
 use Rattle.checked_program.specs.declared.tag.Tag.TheVariants.{Untagged, This}
 use Rattle.checked_program.specs.declared.section.Mode.{Mode}
-use Rattle.checked_program.specs.declared.section.Mode.TheVariants.{OnThis, OffThis}
+use Rattle.checked_program.specs.declared.section.Mode.TheVariants.{OnThis, OffThis, OnClass}
 use Rattle.checked_program.specs.declared.section.FieldUse.{FieldUse}
 use Rattle.checked_program.specs.declared.section.FieldUse.TheVariants.{Frozen, Guarded, Open}
 use Rattle.checked_program.proofs.FrozenChecks.{that_is_this}
+use Rattle.checked_program.proofs.NamedFields.{HasSort, sort_read, sort_read_static, target_named}
 
 -- ---- the object of the section
 
 pub own_object : (mode : Mode) (t : Tag) → is_own_object mode t ≡ true → (mode ≡ OnThis) × (t ≡ This)
 own_object OnThis t e = (refl, that_is_this t e)
 own_object OffThis t e = absurd (let bad : false ≡ true = e in cc)
+own_object (OnClass class) t e = absurd (let bad : false ≡ true = e in cc)
+
+-- ---- the class of the section
+
+pub own_class : (mode : Mode) (class : ℕ) → is_own_class mode class ≡ true → mode ≡ OnClass class
+own_class OnThis class e = absurd (let bad : false ≡ true = e in cc)
+own_class OffThis class e = absurd (let bad : false ≡ true = e in cc)
+own_class (OnClass c) class e = ap (λ (x : ℕ). OnClass x) (sym (eqb-true class c e))
+
+-- ---- uses
 
 use_at : (p : Program) (tags : Tagged) (uses : List FieldUse) (fi : ℕ) → AreUses p tags uses → (x : FieldUse) → slice_index_or uses fi Open ≡ x → x ≢ Open → IsUse p tags fi x
 use_at p tags uses fi a x e n = a.each fi x (got uses fi e)
@@ -40,46 +54,62 @@ use_at p tags uses fi a x e n = a.each fi x (got uses fi e)
 -- ---- what an instruction that breaks no rule does
 
 module _ (p : Program) (tags : Tagged) (uses : List FieldUse) (a : AreUses p tags uses) (o receiver : ℕ) (mode : Mode) (is : mode ≡ OnThis → receiver ≡ o) (ts : List Tag) (vs : List ℕ) (names : HasThis receiver ts vs) where
-  own_place : (k : ℕ) → is_own_object mode (slice_index_or ts k Untagged) ≡ true → slice_index vs k ≡ o
-  own_place k e = let h = own_object mode (slice_index_or ts k Untagged) e in names k h.1 ∙ is h.0
+  own_place : (k : ℕ) → is_own_object mode (slice_index_or ts k Untagged) ≡ true → (mode ≡ OnThis) × (slice_index vs k ≡ o)
+  own_place k e = let h = own_object mode (slice_index_or ts k Untagged) e in (h.0, names k h.1 ∙ is h.0)
 
-  entered : (t : Bool) → is_own_object mode (slice_index_or ts 0 Untagged) ≡ t → enter_fault t ≡ 0 → slice_index vs 0 ≡ o
+  entered : (t : Bool) → is_own_object mode (slice_index_or ts 0 Untagged) ≡ t → enter_fault t ≡ 0 → (mode ≡ OnThis) × (slice_index vs 0 ≡ o)
   entered true e z = own_place 0 e
   entered false e z = absurd (omega (arith, z))
 
-  is_called : (k : ℕ) (locking t : Bool) → is_own_object mode (slice_index_or ts k Untagged) ≡ t → call_fault locking t ≡ 0 → locking ≡ true → slice_index vs k ≡ o
+  is_called : (k : ℕ) (locking t : Bool) → is_own_object mode (slice_index_or ts k Untagged) ≡ t → call_fault locking t ≡ 0 → locking ≡ true → (mode ≡ OnThis) × (slice_index vs k ≡ o)
   is_called k true true e z g = own_place k e
   is_called k true false e z g = absurd (omega (arith, z))
   is_called k false t e z g = absurd (let bad : false ≡ true = g in cc)
 
-  calls_no_class : (locking : Bool) → call_fault locking false ≡ 0 → locking ≡ false
-  calls_no_class true z = absurd (omega (arith, z))
-  calls_no_class false z = refl
+  calls_class : (class : ℕ) (locking t : Bool) → is_own_class mode class ≡ t → call_fault locking t ≡ 0 → locking ≡ true → mode ≡ OnClass class
+  calls_class class true true e z g = own_class mode class e
+  calls_class class true false e z g = absurd (omega (arith, z))
+  calls_class class false t e z g = absurd (let bad : false ≡ true = g in cc)
 
-  read : (fi : ℕ) (x : FieldUse) (t : Bool) → slice_index_or uses fi Open ≡ x → is_own_object mode (slice_index_or ts 0 Untagged) ≡ t → use_fault x t ≡ 0 → IsFrozenField p tags fi ⊎ (IsGuardedField p tags fi × (slice_index vs 0 ≡ o))
-  read fi Frozen t e w z = inl (use_at p tags uses fi a Frozen e (λ q. cc))
-  read fi Guarded true e w z = inr (use_at p tags uses fi a Guarded e (λ q. cc), own_place 0 w)
-  read fi Guarded false e w z = absurd (omega (arith, z))
-  read fi Open t e w z = absurd (omega (arith, z))
+  -- a frozen place, or a guarded one of the section's own
+  read : (fi : ℕ) (x : FieldUse) (own : Bool) → slice_index_or uses fi Open ≡ x → use_fault x own ≡ 0 → IsFrozenUse p tags fi ⊎ (IsGuardedUse p tags fi × (own ≡ true))
+  read fi Frozen own e z = inl (use_at p tags uses fi a Frozen e (λ q. cc))
+  read fi Guarded true e z = inr (use_at p tags uses fi a Guarded e (λ q. cc), refl)
+  read fi Guarded false e z = absurd (omega (arith, z))
+  read fi Open own e z = absurd (omega (arith, z))
 
-  reads_only : (op : Op) (target : Target) → section_fault p uses mode op target ts ≡ 0 → ReadsOnly p tags o op target vs
-  reads_only (ops.Putfield i) target z = omega (arith, z)
-  reads_only (ops.Putstatic i) target z = omega (arith, z)
-  reads_only ops.Iastore target z = omega (arith, z)
-  reads_only (ops.New i) target z = omega (arith, z)
-  reads_only ops.Newarray target z = omega (arith, z)
-  reads_only ops.Iaload target z = omega (arith, z)
-  reads_only (ops.Invokevirtual i) targets.Println z = omega (arith, z)
-  reads_only (ops.Invokevirtual i) targets.Wait z = omega (arith, z)
-  reads_only (ops.Invokevirtual i) targets.Notify z = omega (arith, z)
-  reads_only (ops.Invokevirtual i) targets.NotifyAll z = omega (arith, z)
-  reads_only (ops.Getstatic i) (targets.Field fi) z = omega (arith, z)
-  reads_only ops.Monitorenter target z = entered (is_own_object mode (slice_index_or ts 0 Untagged)) refl z
-  reads_only (ops.Invokevirtual i) (targets.Method u) z = is_called (args_of (slice_get p.methods u)) (is_locking (slice_get p.methods u)) (is_own_object mode (slice_index_or ts (args_of (slice_get p.methods u)) Untagged)) refl z
-  reads_only (ops.Invokespecial i) (targets.Method u) z = is_called (args_of (slice_get p.methods u)) (is_locking (slice_get p.methods u)) (is_own_object mode (slice_index_or ts (args_of (slice_get p.methods u)) Untagged)) refl z
-  reads_only (ops.Invokestatic i) (targets.Method u) z = calls_no_class (is_class_locking (slice_get p.methods u)) z
-  reads_only (ops.Getfield i) (targets.Field fi) z = read fi (slice_index_or uses fi Open) (is_own_object mode (slice_index_or ts 0 Untagged)) refl refl z
-  reads_only op target z = tt
+  read_field : (fi : ℕ) → HasSort p fi false → IsFrozenUse p tags fi ⊎ (IsGuardedUse p tags fi × (is_own_object mode (slice_index_or ts 0 Untagged) ≡ true))
+      → IsFrozenField p tags fi ⊎ (IsGuardedField p tags fi × (mode ≡ OnThis) × (slice_index vs 0 ≡ o))
+  read_field fi sort (inl (inl f)) = inl f
+  read_field fi sort (inl (inr s)) = absurd (let bad : true ≡ false = sym s.static ∙ sort s.field s.is in cc)
+  read_field fi sort (inr (inl g, own)) = let place = own_place 0 own in inr (g, place.0, place.1)
+  read_field fi sort (inr (inr s, own)) = absurd (let bad : true ≡ false = sym s.static ∙ sort s.field s.is in cc)
+
+  read_static : (fi : ℕ) → HasSort p fi true → IsFrozenUse p tags fi ⊎ (IsGuardedUse p tags fi × (is_own_class mode (class_of_field (slice_get p.fields fi)) ≡ true)) → IsFrozenStatic p fi ⊎ IsOwnStatic p tags mode fi
+  read_static fi sort (inl (inl f)) = absurd (let bad : true ≡ false = sym (sort f.field f.is) ∙ f.instance in cc)
+  read_static fi sort (inl (inr s)) = inl s
+  read_static fi sort (inr (inl g, own)) = absurd (let bad : true ≡ false = sym (sort g.field g.is) ∙ g.instance in cc)
+  read_static fi sort (inr (inr s, own)) = inr (record { guarded = s; own = own_class mode s.field.class (subst (λ (x : Option FieldInfo). is_own_class mode (class_of_field x) ≡ true) s.is own) })
+
+  reads_only : (m : MethodInfo) (op : Op) (target : Target) → IsTargetOf p (site_in m) op target → section_fault p uses mode op target ts ≡ 0 → ReadsOnly p tags mode o op target vs
+  reads_only m (ops.Putfield i) target named z = omega (arith, z)
+  reads_only m (ops.Putstatic i) target named z = omega (arith, z)
+  reads_only m ops.Iastore target named z = omega (arith, z)
+  reads_only m (ops.New i) target named z = omega (arith, z)
+  reads_only m ops.Newarray target named z = omega (arith, z)
+  reads_only m ops.Iaload target named z = omega (arith, z)
+  reads_only m (ops.Invokevirtual i) targets.Println named z = omega (arith, z)
+  reads_only m (ops.Invokevirtual i) targets.Wait named z = omega (arith, z)
+  reads_only m (ops.Invokevirtual i) targets.Notify named z = omega (arith, z)
+  reads_only m (ops.Invokevirtual i) targets.NotifyAll named z = omega (arith, z)
+  reads_only m (ops.Getstatic i) (targets.Field fi) named z =
+      read_static fi (sort_read_static p m i fi named) (read fi (slice_index_or uses fi Open) (is_own_class mode (class_of_field (slice_get p.fields fi))) refl z)
+  reads_only m ops.Monitorenter target named z = entered (is_own_object mode (slice_index_or ts 0 Untagged)) refl z
+  reads_only m (ops.Invokevirtual i) (targets.Method u) named z = is_called (args_of (slice_get p.methods u)) (is_locking (slice_get p.methods u)) (is_own_object mode (slice_index_or ts (args_of (slice_get p.methods u)) Untagged)) refl z
+  reads_only m (ops.Invokespecial i) (targets.Method u) named z = is_called (args_of (slice_get p.methods u)) (is_locking (slice_get p.methods u)) (is_own_object mode (slice_index_or ts (args_of (slice_get p.methods u)) Untagged)) refl z
+  reads_only m (ops.Invokestatic i) (targets.Method u) named z = calls_class (class_of_method (slice_get p.methods u)) (is_class_locking (slice_get p.methods u)) (is_own_class mode (class_of_method (slice_get p.methods u))) refl z
+  reads_only m (ops.Getfield i) (targets.Field fi) named z = read_field fi (sort_read p m i fi named) (read fi (slice_index_or uses fi Open) (is_own_object mode (slice_index_or ts 0 Untagged)) refl z)
+  reads_only m op target named z = tt
 
 -- ---- the frames of a section
 
@@ -95,7 +125,7 @@ part_called p tags s o a b [] mode h =
       i = b.at;
       first = callee a.method mode;
       own = last.own;
-      calls = subst (λ x. Calls p tags x b.at (callee a.method mode)) (ap (λ was. callee b.method was) last.mode_is ∙ ap (λ t. callee t OnThis) last.method) h.2;
+      calls = subst (λ x. Calls p tags x b.at (callee a.method mode)) (ap (λ was. callee b.method was) last.mode_is ∙ ap (λ t. callee t (section_mode p s)) last.method) h.2;
       over = [];
       through = refl;
     }
@@ -110,14 +140,14 @@ on_receiver p tags s o a (b ∷ parts) mode h e = h.3 e
 
 -- a marked section breaks no rule
 pub own_no_fault : (p : Program) (tags : Tagged) (uses : List FieldUse) (s : Section) (i : ℕ) (m : MethodInfo) (insn : Insn) (target : Target) (f : TagShape)
-    → HasMark p tags uses s 0 → IsOwn p tags s.method s.spot i → IsAt p tags s.method i m insn target f → section_fault p uses OnThis insn.op target f.stack ≡ 0
+    → HasMark p tags uses s 0 → IsOwn p tags s.method s.spot i → IsAt p tags s.method i m insn target f → section_fault p uses (section_mode p s) insn.op target f.stack ≡ 0
 own_no_fault p tags uses s i m insn target f k own at = ⊎_elim (λ q. q)
-    (λ (q : section_fault p uses OnThis insn.op target f.stack ≢ 0).
-    let n : ℕ = section_fault p uses OnThis insn.op target f.stack in
-    let breaks : BreaksAt p tags uses (callee s.method OnThis) i n = record { m = m; insn = insn; target = target; f = f; at = at; fault_is = refl; some = omega (arith, q) } in
+    (λ (q : section_fault p uses (section_mode p s) insn.op target f.stack ≢ 0).
+    let n : ℕ = section_fault p uses (section_mode p s) insn.op target f.stack in
+    let breaks : BreaksAt p tags uses (callee s.method (section_mode p s)) i n = record { m = m; insn = insn; target = target; f = f; at = at; fault_is = refl; some = omega (arith, q) } in
     let breaks : OwnBreaks p tags uses s n = record { i = i; own = own; breaks = breaks } in
     absurd (k n (itself breaks)))
-    (cases_eq (section_fault p uses OnThis insn.op target f.stack) 0)
+    (cases_eq (section_fault p uses (section_mode p s) insn.op target f.stack) 0)
 
 -- nor does a method that it calls
 pub called_no_fault : (p : Program) (tags : Tagged) (uses : List FieldUse) (s : Section) (o i : ℕ) (a b : Part) (parts : List Part) (mode : Mode) (m : MethodInfo) (insn : Insn) (target : Target) (f : TagShape)
@@ -137,5 +167,5 @@ no_fault p tags uses s o a [] mode m insn target f k h at =
 no_fault p tags uses s o a (b ∷ parts) mode m insn target f k h at = called_no_fault p tags uses s o a.at a b parts mode m insn target f k h at
 
 pub read_law : ReadLaw
-read_law p tags uses s o a parts mode m insn target f stack u k h at names =
-    reads_only p tags uses u o a.receiver mode (on_receiver p tags s o a parts mode h) f.stack stack names insn.op target (no_fault p tags uses s o a parts mode m insn target f k h at)
+read_law p tags uses s o a parts mode m insn target f stack program u k h at names =
+    reads_only p tags uses u o a.receiver mode (on_receiver p tags s o a parts mode h) f.stack stack names m insn.op target (target_named p tags a.method a.at m insn target f program at) (no_fault p tags uses s o a parts mode m insn target f k h at)

@@ -10,8 +10,8 @@ use Rattle.jvm_types.specs.declared.program.Program.{Program}
 use Rattle.checked_program.specs.LockTags.{TagShape, same_tag}
 use Rattle.checked_program.specs.TaggedCode.{Tagged, IsAt, IsReachedEdge, Goes}
 use Rattle.checked_program.specs.Tagging.{is_innermost, exits_other, HasTagging}
-use Rattle.checked_program.specs.Sections.{Section, IsDeep, StaysDeep, BeginsAt, IsInBlock, IsOwn}
-use Rattle.checked_program.specs.Marks.{section_fault, enter_fault, is_own_object, HasMark, IsOnThis, elsewhere}
+use Rattle.checked_program.specs.Sections.{Section, section_mode, mode_of_spot, IsDeep, StaysDeep, BeginsAt, IsInBlock, IsOwn}
+use Rattle.checked_program.specs.Marks.{section_fault, enter_fault, is_own_object, HasMark, IsOnOwn, elsewhere}
 use Rattle.checked_program.specs.SectionLaws.{IsSectionPart, AreTagged, ExitLaw}
 use Rattle.checked_program.specs.declared.tag.Tag.{Tag}
 use Rattle.checked_program.specs.declared.tag.Tag.TheVariants.{Untagged, This, At}
@@ -110,7 +110,8 @@ module _ (p : Program) (tags : Tagged) (tagged : AreTagged p tags) where
         → is_own_object OnThis (slice_index_or f.stack 0 Untagged) ≡ true
     enters_inside i inside m insn target f at e =
         let own : IsOwn p tags s.method s.spot i = subst (λ spot. IsOwn p tags s.method spot i) (sym is_block) inside in
-        fault_own p uses OnThis insn target f.stack e (own_no_fault p tags uses s i m insn target f mark own at)
+        let on_this : section_mode p s ≡ OnThis = ap (mode_of_spot (slice_get p.methods s.method)) is_block in
+        fault_own p uses OnThis insn target f.stack e (subst (λ (x : Mode). section_fault p uses x insn.op target f.stack ≡ 0) on_this (own_no_fault p tags uses s i m insn target f mark own at))
 
     first_deep : (depth i : ℕ) (over : List ℕ) (j : ℕ) → StaysDeep p tags s.method depth i over j → IsDeep p tags s.method depth i
     first_deep depth i [] j stays = stays.1
@@ -142,14 +143,14 @@ module _ (p : Program) (tags : Tagged) (tagged : AreTagged p tags) where
         (exits_innermost OnThis f.stack f.held (subst (λ op. exits_other op f.stack f.held ≡ false) exits (exit_at s.method i m insn target f at)) (λ l. own 0 (omega (arith, deep)))).1
 
     -- the block that the section begins with is the one of that pc
-    starts_on_this : (i : ℕ) (m : MethodInfo) (insn : Insn) (target : Target) (f : TagShape) → IsAt p tags s.method i m insn target f → insn.pc ≡ pc → IsOnThis p tags s.method (Block pc) → slice_index_or f.stack 0 Untagged ≡ This
+    starts_on_this : (i : ℕ) (m : MethodInfo) (insn : Insn) (target : Target) (f : TagShape) → IsAt p tags s.method i m insn target f → insn.pc ≡ pc → IsOnOwn p tags s.method (Block pc) → slice_index_or f.stack 0 Untagged ≡ This
     starts_on_this i m insn target f at pc_is on =
         let a : BeginsAt p tags s.method pc on.0 on.1 = on.2 in
         let place : on.0 ≡ i = one_start s.method on.0 i a.m m a.insn insn a.target target on.1 f a.at at (a.pc_is ∙ sym pc_is) in
         let same : on.1 ≡ f = one_frame p tags s.method i a.m m a.insn insn a.target target on.1 f (subst (λ n. IsAt p tags s.method n a.m a.insn a.target on.1) place a.at) at in
         subst (λ (x : TagShape). slice_index_or x.stack 0 Untagged ≡ This) same on.3
 
-    on_this : (i : ℕ) (inside : IsInBlock p tags s.method pc i) → IsOnThis p tags s.method (Block pc) → slice_index_or inside.f.stack 0 Untagged ≡ This
+    on_this : (i : ℕ) (inside : IsInBlock p tags s.method pc i) → IsOnOwn p tags s.method (Block pc) → slice_index_or inside.f.stack 0 Untagged ≡ This
     on_this i inside on = let b : BeginsAt p tags s.method pc inside.enter inside.f = inside.begins in starts_on_this inside.enter b.m b.insn b.target inside.f b.at b.pc_is on
 
     -- a tag is `this` or not, so that it is `this` where it can't but be
@@ -159,8 +160,8 @@ module _ (p : Program) (tags : Tagged) (tagged : AreTagged p tags) where
     is_this_or (At n) = inr (λ e. cc)
 
     -- a marked block is on `this`, so what follows from that holds
-    by_mark : (t : Tag) → (IsOnThis p tags s.method (Block pc) → t ≡ This) → t ≡ This
-    by_mark t h = ⊎_elim (λ e. e) (λ (no : t ≡ This → ⊥). absurd (mark 8 (elsewhere refl (λ on. no (h (subst (IsOnThis p tags s.method) is_block on)))))) (is_this_or t)
+    by_mark : (t : Tag) → (IsOnOwn p tags s.method (Block pc) → t ≡ This) → t ≡ This
+    by_mark t h = ⊎_elim (λ e. e) (λ (no : t ≡ This → ⊥). absurd (mark 8 (elsewhere refl (λ on. no (h (subst (IsOnOwn p tags s.method) is_block on)))))) (is_this_or t)
 
     exits_inside : (i : ℕ) (m : MethodInfo) (insn : Insn) (target : Target) (f : TagShape) → IsInBlock p tags s.method pc i → IsAt p tags s.method i m insn target f → insn.op ≡ ops.Monitorexit → slice_index_or f.stack 0 Untagged ≡ This
     exits_inside i m insn target f inside at exits = by_mark (slice_index_or f.stack 0 Untagged) (λ on. exits_block i m insn target f inside (on_this i inside on) at exits)
@@ -181,10 +182,11 @@ exit_law p tags uses s o a (b ∷ parts) mode m insn target f u tagged k h at ex
     exits_whole p tags tagged mode a.method a.at m insn target f (λ i n x t g at e. fault_own p uses mode x t g.stack e (called_no_fault p tags uses s o i a b parts mode n x t g k h at)) at exits
 exit_law p tags uses s o a [] mode m insn target f u tagged k h at exits =
     let last : IsSectionPart p tags s o a mode = h in
-    (last.mode_is, by_spot last s.spot refl (subst (λ mi. IsAt p tags mi a.at m insn target f) last.method at))
+    let left = by_spot s.spot refl last.own (subst (λ mi. IsAt p tags mi a.at m insn target f) last.method at) in
+    (last.mode_is ∙ left.0, left.1)
   where
-    by_spot : IsSectionPart p tags s o a mode → (spot : Spot) → s.spot ≡ spot → IsAt p tags s.method a.at m insn target f → slice_index_or f.stack 0 Untagged ≡ This
-    by_spot last Method e at =
-        (exits_whole p tags tagged OnThis s.method a.at m insn target f
-        (λ i n x t g at e'. fault_own p uses OnThis x t g.stack e' (own_no_fault p tags uses s i n x t g k (subst (λ spot. IsOwn p tags s.method spot i) (sym e) (record { m = n; insn = x; target = t; f = g; at = at })) at)) at exits).1
-    by_spot last (Block pc) e at = exits_inside p tags tagged uses s k pc e a.at m insn target f (subst (λ spot. IsOwn p tags s.method spot a.at) e last.own) at exits
+    by_spot : (spot : Spot) → s.spot ≡ spot → IsOwn p tags s.method s.spot a.at → IsAt p tags s.method a.at m insn target f → (section_mode p s ≡ OnThis) × (slice_index_or f.stack 0 Untagged ≡ This)
+    by_spot Method e own at =
+        exits_whole p tags tagged (section_mode p s) s.method a.at m insn target f
+        (λ i n x t g at e'. fault_own p uses (section_mode p s) x t g.stack e' (own_no_fault p tags uses s i n x t g k (subst (λ spot. IsOwn p tags s.method spot i) (sym e) (record { m = n; insn = x; target = t; f = g; at = at })) at)) at exits
+    by_spot (Block pc) e own at = (ap (mode_of_spot (slice_get p.methods s.method)) e, exits_inside p tags tagged uses s k pc e a.at m insn target f (subst (λ spot. IsOwn p tags s.method spot a.at) e own) at exits)

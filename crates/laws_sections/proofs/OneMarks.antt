@@ -1,14 +1,15 @@
 -- Each field has one use, and each section one mark.
-use Rattle.std.proofs.Common.{◌≡◌, ℕ, zero, suc, ◌<◌, ⊎_elim, Bool, true, false, cond, List, [], ◌∷◌, length, Some, refl, sym, ap, ◌∙◌, subst, arith}
+use Rattle.std.proofs.Common.{◌≡◌, ℕ, zero, suc, ◌<◌, ⊎_elim, Bool, true, false, cond, List, [], ◌∷◌, length, Some, refl, sym, ap, ◌∙◌, subst, arith, inl, inr, ◌⊎◌}
 use Rattle.std.specs.Prelude.{◌==◌, slice_get}
 use Rattle.std.specs.List.{AllZip}
 use Rattle.std.proofs.lemmas.Bool.{cases_order}
+use Rattle.std.proofs.lemmas.Option.{same_Some}
 use Rattle.std.proofs.lemmas.Bool.Decides.{nat_tests}
 use Rattle.jvm_types.specs.declared.program.FieldInfo.{FieldInfo}
 use Rattle.jvm_types.specs.declared.program.Program.{Program}
 use Rattle.jvm_types.specs.Members.{is_final}
 use Rattle.checked_program.specs.TaggedCode.{Tagged}
-use Rattle.checked_program.specs.FrozenPlaces.{IsFrozenField, IsGuardedField, IsUse}
+use Rattle.checked_program.specs.FrozenPlaces.{IsFrozenUse, IsGuardedUse, IsUse}
 use Rattle.checked_program.specs.Sections.{Section, sections}
 use Rattle.checked_program.specs.Marks.{turn, HasMark, IsMarkOf}
 use Rattle.checked_program.specs.declared.section.SectionMark.{SectionMark}
@@ -19,10 +20,20 @@ use Rattle.laws_sections.specs.MarkLaws.{OneUse, OneMark}
 -- ---- uses
 
 -- a frozen field is final, and a guarded one is not
-not_both : (p : Program) (tags : Tagged) (fi : ℕ) → IsFrozenField p tags fi → IsGuardedField p tags fi → ⊥
+frozen_is_final : (p : Program) (tags : Tagged) (fi : ℕ) → IsFrozenUse p tags fi → (field : FieldInfo) × (slice_get p.fields fi ≡ Some field) × (is_final field.flags ≡ true)
+frozen_is_final p tags fi (inl f) = (f.field, f.is, f.final)
+frozen_is_final p tags fi (inr f) = (f.field, f.is, f.final)
+
+guarded_changes : (p : Program) (tags : Tagged) (fi : ℕ) → IsGuardedUse p tags fi → (field : FieldInfo) × (slice_get p.fields fi ≡ Some field) × (is_final field.flags ≡ false)
+guarded_changes p tags fi (inl g) = (g.field, g.is, g.changes)
+guarded_changes p tags fi (inr g) = (g.field, g.is, g.changes)
+
+not_both : (p : Program) (tags : Tagged) (fi : ℕ) → IsFrozenUse p tags fi → IsGuardedUse p tags fi → ⊥
 not_both p tags fi frozen guarded =
-    let same : frozen.field ≡ guarded.field = (let e : Some frozen.field ≡ Some guarded.field = sym frozen.is ∙ guarded.is in cc) in
-    let bad : true ≡ false = sym frozen.final ∙ ap (λ (f : FieldInfo). is_final f.flags) same ∙ guarded.changes in
+    let a = frozen_is_final p tags fi frozen in
+    let b = guarded_changes p tags fi guarded in
+    let same : a.0 ≡ b.0 = same_Some a.0 b.0 (sym a.1 ∙ b.1) in
+    let bad : true ≡ false = sym a.2 ∙ ap (λ (f : FieldInfo). is_final f.flags) same ∙ b.2 in
     cc
 
 one_use_at : (p : Program) (tags : Tagged) (fi : ℕ) (u v : FieldUse) → IsUse p tags fi u → IsUse p tags fi v → u ≡ v

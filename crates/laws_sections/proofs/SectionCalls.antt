@@ -1,6 +1,6 @@
 -- The frames of a section along calls: a section begins, a method is invoked or returns, and none is called twice.
 use Rattle.std.proofs.Common.{◌≡◌, ℕ, ◌<◌, Bool, true, false, List, [], ◌∷◌, length, Some, refl, sym, ap, ◌∙◌, subst, arith, ⊎_elim}
-use Rattle.std.specs.Prelude.{slice_get, slice_index, slice_index_or}
+use Rattle.std.specs.Prelude.{◌↔◌, slice_get, slice_index, slice_index_or}
 use Rattle.jvm_types.specs.declared.code.Insn.{Insn}
 use Rattle.jvm_types.specs.declared.code.Op.{Op}
 use Rattle.jvm_types.specs.declared.code.Op.TheVariants as ops
@@ -12,14 +12,14 @@ use Rattle.jvm_types.specs.declared.program.Program.{Program}
 use Rattle.checked_program.specs.LockTags.{TagShape}
 use Rattle.checked_program.specs.Tagging.{tags_after, tags_by_op}
 use Rattle.checked_program.specs.TaggedCode.{Tagged, IsAt, onward, row_of}
-use Rattle.checked_program.specs.Sections.{Section, BeginsAt}
-use Rattle.checked_program.specs.Marks.{Callee, callee, Calls, Invokes, CallsThrough, CallsItself, recurring, called_method, args_of, receiver_tag, is_own_object, mode_if}
-use Rattle.checked_program.specs.SectionLaws.{Part, AreParts, IsExit, HasNone, ApartLaw}
+use Rattle.checked_program.specs.Sections.{Section, section_mode, BeginsAt}
+use Rattle.checked_program.specs.Marks.{Callee, callee, Calls, Invokes, CallsThrough, CallsItself, recurring, called_method, args_of, receiver_tag, is_own_object, mode_if, called_mode}
+use Rattle.checked_program.specs.SectionLaws.{Part, IsSectionPart, AreParts, IsExit, HasNone, ApartLaw}
 use Rattle.checked_program.specs.declared.tag.Tag.{Tag}
 use Rattle.checked_program.specs.declared.tag.Tag.TheVariants.{Untagged, This}
 use Rattle.checked_program.specs.declared.section.Mode.{Mode}
-use Rattle.checked_program.specs.declared.section.Mode.TheVariants.{OnThis, OffThis}
-use Rattle.laws_sections.specs.FrameLaws.{BeginLaw, IsReceiver, mode_of_call, InvokeLaw, ReturnLaw, ResumeLaw}
+use Rattle.checked_program.specs.declared.section.Mode.TheVariants.{OnThis, OffThis, OnClass}
+use Rattle.laws_sections.specs.FrameLaws.{BeginLaw, IsReceiver, mode_of_call, InvokeLaw, ModeLaw, ReturnLaw, ResumeLaw}
 use Rattle.laws_sections.proofs.MarkedReads.{own_object, on_receiver, part_called}
 use Rattle.laws_sections.proofs.SectionMoves.{move_law}
 
@@ -51,6 +51,12 @@ own_mode : (t : Bool) → mode_if t ≡ OnThis → t ≡ true
 own_mode true e = refl
 own_mode false e = absurd (cc)
 
+-- only a method that is called on this calls one so, on `this`
+called_on_this : (mode : Mode) (t : Tag) → called_mode mode t ≡ OnThis → (mode ≡ OnThis) × (t ≡ This)
+called_on_this OnThis t e = own_object OnThis t (own_mode (is_own_object OnThis t) e)
+called_on_this OffThis t e = absurd (let bad : OffThis ≡ OnThis = e in cc)
+called_on_this (OnClass class) t e = absurd (let bad : OnClass class ≡ OnThis = e in cc)
+
 -- a receiver that is known to be `this` is the value below the arguments
 is_receiver : (p : Program) (op : Op) (target : Target) (u receiver : ℕ) (tags : List Tag) (stack : List ℕ) → called_method op target ≡ Some u → IsReceiver p op u stack receiver → receiver_tag p op target tags ≡ This
     → (receiver ≡ slice_index stack (args_of (slice_get p.methods u))) × (slice_index_or tags (args_of (slice_get p.methods u)) Untagged ≡ This)
@@ -63,9 +69,35 @@ invoke_law p tags s o a b parts mode m insn target f stack below at this call is
   where
     receives : mode_of_call p mode insn.op target f.stack ≡ OnThis → a.receiver ≡ o
     receives e =
-        let own = own_object mode (receiver_tag p insn.op target f.stack) (own_mode (is_own_object mode (receiver_tag p insn.op target f.stack)) e) in
+        let own = called_on_this mode (receiver_tag p insn.op target f.stack) e in
         let from = is_receiver p insn.op target a.method a.receiver f.stack stack call is own.1 in
         from.0 ∙ this (args_of (slice_get p.methods a.method)) from.1 ∙ on_receiver p tags s o b parts mode below own.0
+
+-- how a frame is run follows from how the one below is
+called_on_class : (class : ℕ) (mode : Mode) (t : Tag) → (called_mode mode t ≡ OnClass class) ↔ (mode ≡ OnClass class)
+called_on_class class OnThis t = ((λ e. absurd (not_class (is_own_object OnThis t) e)), λ e. absurd (let bad : OnThis ≡ OnClass class = e in cc))
+  where
+    not_class : (own : Bool) → mode_if own ≡ OnClass class → ⊥
+    not_class true e = cc
+    not_class false e = cc
+called_on_class class OffThis t = ((λ e. absurd (let bad : OffThis ≡ OnClass class = e in cc)), λ e. absurd (let bad : OffThis ≡ OnClass class = e in cc))
+called_on_class class (OnClass c) t = ((λ e. e), λ e. e)
+
+pub mode_law : ModeLaw
+mode_law p tags s o [] mode all = absurd all
+mode_law p tags s o (a ∷ []) mode all =
+    let last : IsSectionPart p tags s o a mode = all in
+    ((λ e. sym last.mode_is ∙ e), λ class. ((λ e. sym last.mode_is ∙ e), λ e. last.mode_is ∙ e))
+mode_law p tags s o (a ∷ b ∷ parts) mode all =
+    let below = mode_law p tags s o (b ∷ parts) all.0 all.1 in
+    let call : Calls p tags (callee b.method all.0) b.at (callee a.method mode) = all.2 in
+    let tag : Tag = receiver_tag p call.insn.op call.target call.f.stack in (
+      λ e. below.0 (called_on_this all.0 tag (sym call.mode_is ∙ e)).0,
+      λ class. (
+        λ e. (below.1 class).0 ((called_on_class class all.0 tag).0 (sym call.mode_is ∙ e)),
+        λ e. call.mode_is ∙ (called_on_class class all.0 tag).1 ((below.1 class).1 e),
+      ),
+    )
 
 pub return_law : ReturnLaw
 return_law p tags s o a b parts mode all = (all.0, all.1)

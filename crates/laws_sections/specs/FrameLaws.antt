@@ -1,6 +1,6 @@
 -- Laws of the frames of a section that runs without its lock, as the machine moves them. `MoveLaw` has the moves within a
 -- method; here are a section's start, invocations and returns (JVMS 2.6).
-use Rattle.std.specs.Prelude.{◌≡◌, ℕ, true, List, ◌∷◌, Some, slice_get, slice_index}
+use Rattle.std.specs.Prelude.{◌≡◌, ◌↔◌, ℕ, true, List, ◌∷◌, Some, slice_get, slice_index}
 use Rattle.jvm_types.specs.Numbers.{has_number}
 use Rattle.jvm_types.specs.Verifying.{edges}
 use Rattle.jvm_types.specs.declared.code.Insn.{Insn}
@@ -12,12 +12,13 @@ use Rattle.jvm_types.specs.declared.program.Program.{Program}
 use Rattle.checked_program.specs.LockTags.{TagShape}
 use Rattle.checked_program.specs.Tagging.{tags_after}
 use Rattle.checked_program.specs.TaggedCode.{Tagged, IsAt, Goes, row_of}
-use Rattle.checked_program.specs.Sections.{Section, IsOwn}
-use Rattle.checked_program.specs.Marks.{called_method, args_of, receiver_tag, is_own_object, mode_if, HasMark}
+use Rattle.checked_program.specs.Sections.{Section, section_mode, IsOwn}
+use Rattle.checked_program.specs.Marks.{called_method, args_of, receiver_tag, called_mode, HasMark}
 use Rattle.checked_program.specs.SectionLaws.{Part, AreParts, AreTagged, HasThis}
 use Rattle.checked_program.specs.declared.tag.Tag.{Tag}
 use Rattle.checked_program.specs.declared.section.FieldUse.{FieldUse}
 use Rattle.checked_program.specs.declared.section.Mode.{Mode}
+use Rattle.checked_program.specs.declared.section.Mode.TheVariants.{OnThis, OnClass}
 use Rattle.checked_program.specs.declared.section.Spot.TheVariants.{Block}
 
 -- ---- an edge between two instructions brings the held list of its target, as the laws of moves ask for
@@ -46,12 +47,17 @@ IsReceiver p op u stack receiver = receiver ≡ slice_index stack (args_of (slic
 
 -- how an instruction of a method that is called so calls another
 abbrev pub mode_of_call : Program → Mode → Op → Target → List Tag → Mode
-mode_of_call p mode op target stack = mode_if (is_own_object mode (receiver_tag p op target stack))
+mode_of_call p mode op target stack = called_mode mode (receiver_tag p op target stack)
 
 abbrev pub InvokeLaw : Type 0
 InvokeLaw = (p : Program) (tags : Tagged) (s : Section) (o : ℕ) (a b : Part) (parts : List Part) (mode : Mode) (m : MethodInfo) (insn : Insn) (target : Target) (f : TagShape) (stack : List ℕ)
     → AreParts p tags s o (b ∷ parts) mode → IsAt p tags b.method b.at m insn target f → HasThis b.receiver f.stack stack → called_method insn.op target ≡ Some a.method → IsReceiver p insn.op a.method stack a.receiver
     → AreParts p tags s o (a ∷ b ∷ parts) (mode_of_call p mode insn.op target f.stack)
+
+-- ---- how a frame is run: on this only in a section on `this`, and on a class only in a section on that
+
+abbrev pub ModeLaw : Type 0
+ModeLaw = (p : Program) (tags : Tagged) (s : Section) (o : ℕ) (parts : List Part) (mode : Mode) → AreParts p tags s o parts mode → (mode ≡ OnThis → section_mode p s ≡ OnThis) × ((class : ℕ) → (mode ≡ OnClass class) ↔ (section_mode p s ≡ OnClass class))
 
 -- ---- return: the frames below stay such, and the calling one goes on at an edge of its call, also to a handler
 

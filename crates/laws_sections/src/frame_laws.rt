@@ -2,10 +2,10 @@
 
 ghost use Rattle.checked_program.specs.SectionLaws.{ApartLaw, ExitLaw, MoveLaw, OwnLaw, ReadLaw};
 ghost use Rattle.laws_sections.specs.FrameLaws.{BeginLaw, BlockLaw, HeldLaw, InvokeLaw, ResumeLaw};
-ghost use Rattle.laws_sections.specs.FrameLaws.{ReturnLaw};
+ghost use Rattle.laws_sections.specs.FrameLaws.{ModeLaw, ReturnLaw};
 
 /// What an instruction of such a section may do: it writes nothing, and reads no place but a frozen
-/// one, or a guarded one of the section's object.
+/// one, or a guarded one of the section's object or class.
 pub fn sections_read()
     ensures { ReadLaw }
 {}
@@ -51,6 +51,11 @@ pub fn blocks_are_on_this()
 /// 2.6).
 pub fn frames_invoke()
     ensures { InvokeLaw }
+{}
+
+/// A frame is run on this only in a section on `this`, and on a class only in a section on that.
+pub fn frames_are_run()
+    ensures { ModeLaw }
 {}
 
 /// Where the top frame of a section is left, by a return or an exception, those below stay frames

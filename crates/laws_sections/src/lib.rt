@@ -10,10 +10,14 @@ pub mod object_laws;
 pub mod reach_laws;
 pub mod visit_laws;
 
-pub use field_laws::{finals_written_inside, guarded_written_locked};
+pub use field_laws::{
+    final_statics_written_inside, finals_written_inside, guarded_written_locked,
+    statics_written_locked,
+};
 pub use frame_laws::{
-    blocks_are_on_this, blocks_begin, callers_go_on, edges_bring_held, frames_invoke, frames_move,
-    frames_return, methods_are_apart, own_goes_on, own_monitor_is_left, sections_read,
+    blocks_are_on_this, blocks_begin, callers_go_on, edges_bring_held, frames_are_run,
+    frames_invoke, frames_move, frames_return, methods_are_apart, own_goes_on, own_monitor_is_left,
+    sections_read,
 };
 pub use local_laws::tagging_is_local;
 pub use mark_laws::{one_mark, one_use};

@@ -1,5 +1,5 @@
 -- A run with one happening more, and that its states keep their sizes.
-use Rattle.std.proofs.Common.{◌≡◌, ℕ, zero, suc, ◌+◌, Bool, true, false, cond, List, [], ◌∷◌, ◌++◌, length, length-set, map, Option, Some, None, refl, ap, ◌∙◌}
+use Rattle.std.proofs.Common.{◌≡◌, ℕ, zero, suc, ◌+◌, Bool, true, false, cond, List, [], ◌∷◌, ◌++◌, length, length-set, Option, Some, None, refl, ap, ◌∙◌}
 use Rattle.std.specs.Prelude.{slice_get, slice_set}
 use Rattle.std.proofs.lemmas.List.{length-map}
 use Rattle.std.proofs.lemmas.List.FromFn.{length-map-range_with_len}
@@ -12,8 +12,7 @@ use Rattle.machine_types.specs.Core.{Core, Happening, Of, NextPart, all_happened
 use Rattle.machine_types.specs.Events.{wanted}
 use Rattle.machine_types.specs.Parts.{run_roots}
 use Rattle.machine_types.specs.Threads.{Thread}
-use Rattle.machine_types.specs.declared.config.Config.{Config}
-use Rattle.laws_states.specs.GrowingRuns.{OneMoreHappens, RunsKeepSizes, HasSizes, IsOfRun, behind, ThreadsStayOfRuns}
+use Rattle.laws_states.specs.GrowingRuns.{OneMoreHappens, RunsKeepSizes, behind, ThreadsStayOfRuns}
 use Rattle.machine_types.proofs.Lists.{got_when_set}
 
 -- ---- one happening more

@@ -1,16 +1,14 @@
 -- An instruction leaves its thread the settings and the roots, no more turns, and one frame more at most.
-use Rattle.std.proofs.Common.{◌≡◌, ℕ, suc, ◌+◌, ◌-◌, ◌≤◌, nat_lt, nat_le, Bool, true, false, List, [], ◌∷◌, drop, length, Option, Some, None, refl, sym, ap, arith}
+use Rattle.std.proofs.Common.{◌≡◌, ℕ, suc, ◌+◌, ◌-◌, ◌≤◌, nat_lt, nat_le, Bool, true, false, List, [], ◌∷◌, drop, length, Option, Some, None, refl, ap, arith}
 use Rattle.std.specs.Prelude.{option_map, slice_get, if◌then◌else◌}
 use Rattle.std.proofs.lemmas.List.{length-drop}
 use Rattle.jvm_types.specs.Members.{is_synchronized}
-use Rattle.jvm_types.specs.declared.code.Insn.{Insn}
 use Rattle.jvm_types.specs.declared.outcome.Thrown.{Thrown}
 use Rattle.jvm_types.specs.declared.outcome.Thrown.TheVariants.{ArrayIndexOutOfBoundsException, OutOfMemoryError, IllegalMonitorStateException, StackOverflowError}
 use Rattle.jvm_types.specs.declared.program.MethodInfo.{MethodInfo}
 use Rattle.jvm_types.specs.declared.program.Program.{Program}
-use Rattle.jvm_types.specs.declared.program.Target.{Target}
 use Rattle.machine_types.specs.Elision.{is_checked, is_same, fails, if_same, put_back}
-use Rattle.machine_types.specs.Frames.{Top, at_pc, top_at, top_in, top_of, frames_of, effect_at, given, given_back, has_room, entry_frame, arguments_of, monitor_of, returned, waiting, went, went_on}
+use Rattle.machine_types.specs.Frames.{Top, top_of, frames_of, effect_at, given, given_back, has_room, entry_frame, arguments_of, monitor_of, returned, waiting, went, went_on}
 use Rattle.machine_types.specs.Going.{goes_on, goes_on_if}
 use Rattle.machine_types.specs.HeldMonitors.{held_at}
 use Rattle.machine_types.specs.Instructions.{begun, has_print_left, if_held, waits, notifies, did, instructed, ran}
@@ -28,7 +26,7 @@ use Rattle.machine_types.specs.declared.phase.After.TheVariants.{Next, Return}
 use Rattle.machine_types.specs.declared.phase.Phase.{Phase}
 use Rattle.machine_types.specs.declared.phase.Phase.TheVariants as phases
 use Rattle.laws_threads.specs.EntryFrames.{frames_in}
-use Rattle.machine_types.proofs.PlainPartLaws.{of_top, of_method, frames_are}
+use Rattle.machine_types.proofs.PlainPartLaws.{frames_are}
 
 -- ---- a return and a failure leave no more frames
 

@@ -19,7 +19,7 @@ use Rattle.machine_types.specs.Events.{wanted, moved}
 use Rattle.machine_types.specs.FoundWords.{IsHeader}
 use Rattle.machine_types.specs.Frames.{Top, top_of, effect_at, making}
 use Rattle.machine_types.specs.Going.{with_phase}
-use Rattle.machine_types.specs.Instructions.{effect_wants, run_wants, begun, made, waits}
+use Rattle.machine_types.specs.Instructions.{effect_wants, run_wants, begun}
 use Rattle.machine_types.specs.Ints.{low}
 use Rattle.machine_types.specs.NewObjects.{size_by}
 use Rattle.machine_types.specs.PlainMemory.{Object}

@@ -56,6 +56,8 @@ mod NoAttempts
 pub mod StartThreads
 mod PartLawful
 pub mod NextThreads
+mod ClassInitMoves
+mod ClassInitsFirst
 mod States
 pub mod EventBits
 mod EventCounts

@@ -68,10 +68,10 @@ module _ (c : MarkedProgram) (s : Thread) (part : ℕ) (first : Option End) wher
         attempt = none_stands (part_phase roots) s.attempt (no_attempt c was s.held s.attempt attempt);
       }
 
-  between_frames : (was : Phase) → IsBetween s.phase → IsStructured c was s → s.frames ≡ []
+  pub between_frames : (was : Phase) → IsBetween s.phase → IsStructured c was s → s.frames ≡ []
   between_frames was b h = no_frames c s.phase was s.frames s.held s.attempt b (was_itself s.phase was b h.is_as) h.stands
 
-  between_attempt : (was : Phase) → IsBetween s.phase → IsStructured c was s → s.attempt ≡ None
+  pub between_attempt : (was : Phase) → IsBetween s.phase → IsStructured c was s → s.attempt ≡ None
   between_attempt was b h = no_attempt c was s.held s.attempt (subst (λ (fs : List Frame). AttemptStandsIn c was fs s.held s.attempt) (between_frames was b h) h.attempt)
 
   -- without frames and attempt, which it has none of

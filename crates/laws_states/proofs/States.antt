@@ -15,7 +15,7 @@ use Rattle.laws_states.specs.RunFacts.{HaveWidth, RunFacts}
 use Rattle.laws_states.specs.RunLaws.{StartHasRunFacts, EventsKeepFacts, EventsKeepThreads, PartsKeepThreads}
 use Rattle.laws_states.specs.OwnersLaws.{EventsKeepOwners, NextKeepsOwners}
 use Rattle.laws_states.specs.WaitingLaws.{EventsKeepWaiting, NextKeepsWaiting}
-use Rattle.laws_states.specs.PartsLaws.{StartStandsInParts, EventsKeepParts, NextKeepsParts, HaveNoAttempts, StartHasNoAttempts, EventsMakeNoAttempts, NextMakesNoAttempts, NoAttempts}
+use Rattle.laws_states.specs.PartsLaws.{StartStandsInParts, EventsKeepParts, NextKeepsParts, StartPutsInitsFirst, EventsPutInitsFirst, NextPutsInitsFirst, HaveNoAttempts, StartHasNoAttempts, EventsMakeNoAttempts, NextMakesNoAttempts, NoAttempts}
 use Rattle.laws_states.specs.StateLaws.{StatesHaveFacts, StartHasState, EventsKeepState, NextKeepsState, IsInState, RunsHaveState}
 
 pub states_have_facts : StatesHaveFacts
@@ -23,10 +23,11 @@ states_have_facts c cfg objects was s f = record { objects = objects; heap = f.h
 
 -- ---- the start
 
-pub start_has_state : StartHasRunFacts → StartStandsInParts → StartHasHeap → StartLocksFit → StartRecordsFit → StartCountersFit → StartIsStructured → StartOwns → StartWaits → StartHasState
-start_has_state facts parts heap locks records counters structure owners waiting c cfg marked keep = record {
+pub start_has_state : StartHasRunFacts → StartStandsInParts → StartPutsInitsFirst → StartHasHeap → StartLocksFit → StartRecordsFit → StartCountersFit → StartIsStructured → StartOwns → StartWaits → StartHasState
+start_has_state facts parts inits heap locks records counters structure owners waiting c cfg marked keep = record {
   threads = keep.begin;
   parts = parts c cfg;
+  class_inits = inits c cfg;
   heap = heap c cfg marked;
   locks = locks c cfg;
   records = records c cfg;
@@ -39,12 +40,13 @@ start_has_state facts parts heap locks records counters structure owners waiting
 
 -- ---- an event
 
-pub events_keep_state : EventsKeepFacts → EventsKeepThreads → EventsKeepParts → EventsKeepHeap → EventsKeepLocks → EventsKeepRecords → EventsKeepCounters → EventsKeepStructure → EventsKeepOwners → EventsKeepWaiting → EventsKeepState
-events_keep_state facts threads parts heap locks records counters structure owners waiting c cfg objects was s t marked width f =
+pub events_keep_state : EventsKeepFacts → EventsKeepThreads → EventsKeepParts → EventsPutInitsFirst → EventsKeepHeap → EventsKeepLocks → EventsKeepRecords → EventsKeepCounters → EventsKeepStructure → EventsKeepOwners → EventsKeepWaiting → EventsKeepState
+events_keep_state facts threads parts inits heap locks records counters structure owners waiting c cfg objects was s t marked width f =
     let old : RunFacts c cfg s = states_have_facts c cfg objects was s f in
     record {
       threads = threads c cfg s t marked width f.threads old;
       parts = parts c cfg s t marked f.threads f.parts;
+      class_inits = inits c cfg s t marked f.threads f.class_inits;
       heap = heap c objects s t marked f.heap (f.threads.lawful t);
       locks = locks c cfg objects s t marked f.heap f.threads f.locks;
       records = records c cfg objects s t marked f.heap f.threads f.records;
@@ -57,10 +59,11 @@ events_keep_state facts threads parts heap locks records counters structure owne
 
 -- ---- where a part begins
 
-pub next_keeps_state : NextKeepsParts → NextKeepsHeap → NextKeepsCounters → NextKeepsStructure → NextKeepsOwners → NextKeepsWaiting → NextKeepsState
-next_keeps_state parts heap counters structure owners waiting c cfg objects was s marked keep f = record {
+pub next_keeps_state : NextKeepsParts → NextPutsInitsFirst → NextKeepsHeap → NextKeepsCounters → NextKeepsStructure → NextKeepsOwners → NextKeepsWaiting → NextKeepsState
+next_keeps_state parts inits heap counters structure owners waiting c cfg objects was s marked keep f = record {
   threads = keep.go_on s f.threads;
   parts = parts c s f.parts;
+  class_inits = inits c cfg s f.threads f.class_inits;
   heap = heap c objects (counted_next c was s) s f.heap (structure c was s f.threads.parts f.structure);
   locks = f.locks;
   records = f.records;

@@ -12,6 +12,7 @@ pub mod RunLaws
 pub mod OwnersLaws
 pub mod WaitingLaws
 pub mod PartsStand
+pub mod ClassInits
 pub mod StateFacts
 pub mod StateLaws
 pub mod PartsLaws

@@ -1,13 +1,16 @@
--- How far the parts of a run have come is so at the start, and whatever event happens or part begins; and where no section may
--- be tried, no thread is in an attempt.
+-- How far the parts of a run have come is so at the start, and whatever event happens or part begins, and no `<clinit>` runs
+-- beside a worker; and where no section may be tried, no thread is in an attempt.
 use Rattle.std.specs.Prelude.{◌≡◌, ℕ, false, List, Some, None, slice_get}
 use Rattle.checked_program.specs.MarkedProgram.{MarkedProgram, IsMarked}
 use Rattle.machine_types.specs.Core.{Core, Happening, core, start, event, next}
+use Rattle.machine_types.specs.Guards.{IsOfClassInit, MakesClass}
 use Rattle.machine_types.specs.Threads.{Thread}
 use Rattle.machine_types.specs.declared.config.Config.{Config}
+use Rattle.machine_types.specs.declared.phase.Phase.TheVariants as phases
 use Rattle.laws_states.specs.RunFacts.{HaveWidth, AreThreads}
 use Rattle.laws_states.specs.RunLaws.{PartsKeepThreads}
 use Rattle.laws_states.specs.PartsStand.{PartsStand}
+use Rattle.laws_states.specs.ClassInits.{ClassInitsComeFirst}
 
 -- ---- parts
 
@@ -20,6 +23,22 @@ EventsKeepParts = (c : MarkedProgram) (cfg : Config) (s : Core) (t : ℕ) → Is
 
 abbrev pub NextKeepsParts : Type 0
 NextKeepsParts = (c : MarkedProgram) (s : Core) → PartsStand c.program s.threads → PartsStand c.program (next c s).threads
+
+-- ---- each `<clinit>` comes first
+
+abbrev pub StartPutsInitsFirst : Type 0
+StartPutsInitsFirst = (c : MarkedProgram) (cfg : Config) → ClassInitsComeFirst c.program (start c cfg).threads
+
+abbrev pub EventsPutInitsFirst : Type 0
+EventsPutInitsFirst = (c : MarkedProgram) (cfg : Config) (s : Core) (t : ℕ) → IsMarked c → AreThreads c cfg s → ClassInitsComeFirst c.program s.threads → ClassInitsComeFirst c.program (event c s t).threads
+
+abbrev pub NextPutsInitsFirst : Type 0
+NextPutsInitsFirst = (c : MarkedProgram) (cfg : Config) (s : Core) → AreThreads c cfg s → ClassInitsComeFirst c.program s.threads → ClassInitsComeFirst c.program (next c s).threads
+
+-- where an instruction of one begins, no worker has begun
+abbrev pub ClassInitsRunAlone : Type 0
+ClassInitsRunAlone = (c : MarkedProgram) (cfg : Config) (s : Core) (t class : ℕ) (x : Thread) → AreThreads c cfg s → ClassInitsComeFirst c.program s.threads → slice_get s.threads t ≡ Some x → x.phase ≡ phases.Run
+    → IsOfClassInit c class x.frames → MakesClass c class s x
 
 -- ---- attempts
 

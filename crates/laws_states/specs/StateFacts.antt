@@ -14,11 +14,13 @@ use Rattle.laws_states.specs.Counters.{CountersFit}
 use Rattle.laws_states.specs.RunFacts.{AreThreads}
 use Rattle.laws_states.specs.SharedWords.{LocksFit, RecordsFit}
 use Rattle.laws_states.specs.PartsStand.{PartsStand}
+use Rattle.laws_states.specs.ClassInits.{ClassInitsComeFirst}
 
 -- with the objects whose header is stored, and of each thread the phase that counts
 pub record StateFacts (c : MarkedProgram) (cfg : Config) (objects : List Object) (was : ℕ → Phase) (s : Core) : Type 0 where
   pub threads : AreThreads c cfg s
   pub parts : PartsStand c.program s.threads
+  pub class_inits : ClassInitsComeFirst c.program s.threads
   pub heap : HeapFacts c objects s
   pub locks : LocksFit cfg.range objects s.words
   pub records : RecordsFit s.words

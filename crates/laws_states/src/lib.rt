@@ -34,7 +34,8 @@ pub use owner_laws::{
     events_keep_owners, events_keep_waiting, next_keeps_owners, next_keeps_waiting,
 };
 pub use part_laws::{
-    events_keep_parts, next_keeps_parts, parts_keep_threads, start_stands_in_parts,
+    class_inits_run_alone, events_keep_parts, events_put_inits_first, next_keeps_parts,
+    next_puts_inits_first, parts_keep_threads, start_puts_inits_first, start_stands_in_parts,
 };
 pub use reached_laws::{
     events_keep_state, next_keeps_state, runs_have_state, start_has_state, states_have_facts,

@@ -1,6 +1,8 @@
 //! How far the parts of a run have come.
 
-ghost use Rattle.laws_states.specs.PartsLaws.{EventsKeepParts, NextKeepsParts, StartStandsInParts};
+ghost use Rattle.laws_states.specs.PartsLaws.{ClassInitsRunAlone, EventsKeepParts};
+ghost use Rattle.laws_states.specs.PartsLaws.{EventsPutInitsFirst, NextKeepsParts, NextPutsInitsFirst};
+ghost use Rattle.laws_states.specs.PartsLaws.{StartPutsInitsFirst, StartStandsInParts};
 ghost use Rattle.laws_states.specs.StateLaws.{ProgramsKeepThreads};
 
 use laws_programs::one_method;
@@ -29,4 +31,27 @@ pub fn events_keep_parts()
 /// So it is where a part begins: behind `init` thread 0 keeps that it returned.
 pub fn next_keeps_parts()
     ensures { NextKeepsParts }
+{}
+
+/// At the start no thread has a frame.
+pub fn start_puts_inits_first()
+    ensures { StartPutsInitsFirst }
+{}
+
+/// Whatever an event does, no worker has a frame of a `<clinit>`, and thread 0 has none in `done`:
+/// no instruction calls one (JVMS 2.9).
+pub fn events_put_inits_first()
+    ensures { EventsPutInitsFirst }
+{
+    given_is_kept();
+}
+
+/// So it is where a part begins.
+pub fn next_puts_inits_first()
+    ensures { NextPutsInitsFirst }
+{}
+
+/// So while an instruction of a `<clinit>` begins, no worker has begun.
+pub fn class_inits_run_alone()
+    ensures { ClassInitsRunAlone }
 {}

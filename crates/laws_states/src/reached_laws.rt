@@ -3,7 +3,10 @@
 ghost use Rattle.laws_states.specs.StateLaws.{EventsKeepState, NextKeepsState, RunsHaveState};
 ghost use Rattle.laws_states.specs.StateLaws.{StartHasState, StatesHaveFacts};
 
-use crate::part_laws::{events_keep_parts, next_keeps_parts, start_stands_in_parts};
+use crate::part_laws::{
+    events_keep_parts, events_put_inits_first, next_keeps_parts, next_puts_inits_first,
+    start_puts_inits_first, start_stands_in_parts,
+};
 use crate::{
     counters_are_kept, events_keep_heap, events_keep_owners, events_keep_waiting, locks_are_kept,
     next_keeps_counters, next_keeps_heap, next_keeps_owners, next_keeps_waiting, records_are_kept,
@@ -25,6 +28,7 @@ pub fn start_has_state()
 {
     run_facts_start();
     start_stands_in_parts();
+    start_puts_inits_first();
     start_has_heap();
     start_locks_fit();
     start_records_fit();
@@ -41,6 +45,7 @@ pub fn events_keep_state()
     run_facts_event();
     threads_are_kept();
     events_keep_parts();
+    events_put_inits_first();
     events_keep_heap();
     locks_are_kept();
     records_are_kept();
@@ -55,6 +60,7 @@ pub fn next_keeps_state()
     ensures { NextKeepsState }
 {
     next_keeps_parts();
+    next_puts_inits_first();
     next_keeps_heap();
     next_keeps_counters();
     next_keeps_structure();

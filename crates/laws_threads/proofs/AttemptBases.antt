@@ -22,7 +22,7 @@ further : (count method : ℕ) (f : Frame) (fs : List Frame) → IsBehind count 
 further count method f fs b = record { frame = b.frame; below = b.below; there = b.there; is_method = b.is_method }
 
 module _ (c : MarkedProgram) (a : Attempt) where
-  in_section : (count : ℕ) (fs : List Frame) (parts : List Part) (mode : Mode) → count < length fs → AllZip (IsPart c) (take (suc count) fs) parts → AreParts c.program (tags_of c) (section_of a) a.monitor parts mode → IsBehind count a.entry.method fs
+  in_section : (count : ℕ) (fs : List Frame) (parts : List Part) (mode : Mode) → count < length fs → AllZip (IsPart c) (take (suc count) fs) parts → AreParts c.program (tags_of c) (section_of a) a.entry.receiver parts mode → IsBehind count a.entry.method fs
   in_section count [] parts mode l z p = absurd (omega (arith, l))
   in_section zero (f ∷ fs) [] mode l z p = absurd p
   in_section zero (f ∷ fs) (x ∷ []) mode l z p = record { frame = f; below = fs; there = refl; is_method = sym p.method ∙ ap (λ (y : Part). y.method) z.0.1 }

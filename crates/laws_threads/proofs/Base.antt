@@ -30,10 +30,10 @@ use Rattle.laws_threads.proofs.ShownLengths.{own_count, shown_length, none_inner
 use Rattle.laws_threads.proofs.Standings.{laid, one_method, one_tags}
 
 -- the only frame inside is the section's own
-pub own_part : (c : MarkedProgram) (a : Attempt) (f : Frame) (r : Runs c a f []) → IsSectionPart c.program (tags_of c) (section_of a) a.monitor (part_of f r.stands.number) r.mode
+pub own_part : (c : MarkedProgram) (a : Attempt) (f : Frame) (r : Runs c a f []) → IsSectionPart c.program (tags_of c) (section_of a) a.entry.receiver (part_of f r.stands.number) r.mode
 own_part c a f r = only r.parts r.others r.are
   where
-    only : (parts : List Part) → AllZip (IsPart c) [] parts → AreParts c.program (tags_of c) (section_of a) a.monitor (part_of f r.stands.number ∷ parts) r.mode → IsSectionPart c.program (tags_of c) (section_of a) a.monitor (part_of f r.stands.number) r.mode
+    only : (parts : List Part) → AllZip (IsPart c) [] parts → AreParts c.program (tags_of c) (section_of a) a.entry.receiver (part_of f r.stands.number ∷ parts) r.mode → IsSectionPart c.program (tags_of c) (section_of a) a.entry.receiver (part_of f r.stands.number) r.mode
     only [] zip are = are
     only (b ∷ parts) zip are = absurd zip
 
@@ -42,7 +42,6 @@ module _ (c : MarkedProgram) (marked : IsMarked c) (a : Attempt) where
   pub record Entry : Type 0 where
     pub stands : Standing c a.entry
     pub how : ((a.entry.pc ≡ 0) × (is_synchronized stands.method.flags ≡ true) × (monitor_of c.program stands.method a.entry ≡ a.monitor)) ⊎ Entered c a.entry stands
-    pub receiver : a.entry.receiver ≡ a.monitor
 
   pub entry_of : (phase : Phase) (fs : List Frame) (held : List Held) → AttemptStands c phase fs held a → Entry
   entry_of phase fs held k =
@@ -53,7 +52,6 @@ module _ (c : MarkedProgram) (marked : IsMarked c) (a : Attempt) where
             (λ (h : (a.entry.pc ≡ 0) × (is_synchronized enters.0.method.flags ≡ true) × (monitor_of c.program enters.0.method a.entry ≡ a.monitor)). inl h)
             (λ (h : IsBehindEntry enters.0.method.code a.entry.pc × (enters.0.tags.held ≢ [])). inr (entered_before c marked a.entry enters.0 h.0))
             enters.1;
-        receiver = k.receiver;
       }
 
   -- behind a `monitorenter` the pc is not 0
@@ -63,7 +61,7 @@ module _ (c : MarkedProgram) (marked : IsMarked c) (a : Attempt) where
   -- ---- with no held tag the section is the method's
 
   module _ (f : Frame) (r : Runs c a f []) (entry : Entry) where
-    last : IsSectionPart c.program (tags_of c) (section_of a) a.monitor (part_of f r.stands.number) r.mode
+    last : IsSectionPart c.program (tags_of c) (section_of a) a.entry.receiver (part_of f r.stands.number) r.mode
     last = own_part c a f r
 
     same_method : r.stands.method ≡ entry.stands.method
@@ -93,7 +91,7 @@ module _ (c : MarkedProgram) (marked : IsMarked c) (a : Attempt) where
     pub of_monitor : r.stands.tags.held ≡ [] → monitor_of c.program r.stands.method f ≡ a.monitor
     of_monitor none = ⊎_elim
         (λ (h : (a.entry.pc ≡ 0) × (is_synchronized entry.stands.method.flags ≡ true) × (monitor_of c.program entry.stands.method a.entry ≡ a.monitor)).
-        ap (λ (m : MethodInfo). monitor_by c.program m f.receiver) same_method ∙ ap (monitor_by c.program entry.stands.method) (last.receiver ∙ sym entry.receiver) ∙ h.2)
+        ap (λ (m : MethodInfo). monitor_by c.program m f.receiver) same_method ∙ ap (monitor_by c.program entry.stands.method) last.receiver ∙ h.2)
         (λ (x : Entered c a.entry entry.stands). absurd (not_first entry.stands x (at_method none)))
         entry.how
 

@@ -1,33 +1,31 @@
 -- An attempt stands as it begins: its frame is at the first own instruction of a marked section, on its receiver.
 use Rattle.std.proofs.Common.{◌≡◌, ◌≢◌, ◌⊎◌, inl, inr, ⊎_elim, ℕ, zero, suc, Bool, true, false, not, cond, ◌-◌, List, [], ◌∷◌, ◌++◌, length, map, take, Option, Some, None, refl, sym, ap, ◌∙◌, subst, arith}
-use Rattle.std.specs.Prelude.{slice_get, slice_index_or}
-use Rattle.std.proofs.lemmas.Bool.{cases_eq, not-true}
+use Rattle.std.specs.Prelude.{slice_get, slice_index_or, if◌then◌else◌}
+use Rattle.std.proofs.lemmas.Bool.{cases_eq}
 use Rattle.lists.proofs.ListLaws.{same_some}
-use Rattle.lists.proofs.TestLaws.{both_are_true}
 use Rattle.jvm_types.specs.ClassNames.{file_of_class}
 use Rattle.jvm_types.specs.Members.{is_static, is_synchronized}
 use Rattle.jvm_types.specs.declared.code.Insn.{Insn}
 use Rattle.jvm_types.specs.declared.program.MethodInfo.{MethodInfo}
 use Rattle.laws_programs.proofs.CodeOrder.{have_targets}
-use Rattle.checked_program.specs.FrozenPlaces.{locks_this}
 use Rattle.checked_program.specs.LockTags.{TagShape}
 use Rattle.checked_program.specs.MarkedProgram.{MarkedProgram, IsMarked}
-use Rattle.checked_program.specs.Marks.{HasMark, IsOnThis, elsewhere}
-use Rattle.checked_program.specs.Sections.{BeginsAt, IsOwn, IsInBlock}
+use Rattle.checked_program.specs.Marks.{HasMark, IsOnOwn, elsewhere}
+use Rattle.checked_program.specs.Sections.{section_mode, mode_of_method, mode_of_spot, BeginsAt, IsOwn, IsInBlock}
 use Rattle.checked_program.specs.SectionLaws.{IsSectionPart}
 use Rattle.checked_program.specs.TaggedCode.{IsAt, IsInstructionReached}
 use Rattle.checked_program.specs.declared.section.FieldUse.{FieldUse}
-use Rattle.checked_program.specs.declared.section.Mode.TheVariants.{OnThis}
-use Rattle.checked_program.specs.declared.section.Spot.TheVariants.{Block}
+use Rattle.checked_program.specs.declared.section.Mode.TheVariants.{OnThis, OnClass}
+use Rattle.checked_program.specs.declared.section.Spot.TheVariants.{Method, Block}
 use Rattle.checked_program.specs.declared.tag.Tag.{Tag}
 use Rattle.checked_program.specs.declared.tag.Tag.TheVariants.{Untagged, This, At}
 use Rattle.laws_sections.proofs.SectionCalls.{begin_law}
 use Rattle.machine_types.specs.Frames.{monitor_of}
-use Rattle.machine_types.specs.MarkLaws.{MarkedHasMark, MarkedLocksThis}
-use Rattle.machine_types.specs.Sections.{entered_at, is_marked}
+use Rattle.machine_types.specs.MarkLaws.{MarkedHasMark}
+use Rattle.machine_types.specs.Sections.{entered_at}
 use Rattle.machine_types.specs.Shown.{tag_value, own_entry, Shows}
 use Rattle.machine_types.specs.Standing.{Standing, Whole, tags_of}
-use Rattle.machine_types.specs.Structure.{IsBehindEntry, Stands, RunsSection, section_of, frames_inside}
+use Rattle.machine_types.specs.Structure.{IsBehindEntry, Stands, RunsSection, mode_monitor, section_monitor, section_of, frames_inside}
 use Rattle.machine_types.specs.Threads.{Frame, Attempt}
 use Rattle.machine_types.specs.Words.{class_object}
 use Rattle.machine_types.specs.declared.phase.Phase.TheVariants as phases
@@ -68,7 +66,7 @@ module _ (c : MarkedProgram) (marked : IsMarked c) (f : Frame) (k : Standing c f
       (λ (p : e.insn.pc ≢ pc). inr (λ x. p x.pc_is))
       (cases_eq e.insn.pc pc)
 
-  on_receiver : (pc : ℕ) → suc pc ≡ f.pc → IsOnThis c.program (tags_of c) f.method (Block pc) → IsOnReceiver pc
+  on_receiver : (pc : ℕ) → suc pc ≡ f.pc → IsOnOwn c.program (tags_of c) f.method (Block pc) → IsOnReceiver pc
   on_receiver pc before (enter, g, b, this) = record { pc_is = ap (λ (x : Insn). x.pc) same_insn ∙ begins.pc_is; tags = g; there = ap (λ fs. slice_get fs e.at) same_frames ∙ ap (λ n. slice_get begins.at.frames n) (sym same) ∙ begins.at.frame; this = this }
     where
       begins : BeginsAt c.program (tags_of c) f.method pc enter g
@@ -124,17 +122,17 @@ innermost c marked f k own rest outer m held s h e =
 
 -- ---- the law
 
-pub begins : MarkedHasMark → MarkedLocksThis → BeginsAttempt
-begins marked_mark marked_locks c m tried noted number f below held marked stands not_held enters = record {
+pub begins : MarkedHasMark → BeginsAttempt
+begins marked_mark c m tried noted number f below held marked stands not_held enters = record {
   inside = tt;
   not_held = not_held;
   based = omega arith;
   goes_back = subst (λ fs. Stands c (phases.Enter m number) fs held None) (sym (put_back_alone a f below refl)) back;
-  receiver = found.0;
+  monitor = found.0;
   uses = marked.marks.uses;
   are_uses = marked.marks.are_uses;
   marked = mark;
-  frames = inr (subst (RunsSection c a) (sym inside) ((part_of f k.number ∷ []), OnThis, ((k, refl), tt), found.1));
+  frames = inr (subst (RunsSection c a) (sym inside) ((part_of f k.number ∷ []), section_mode c.program (section_of a), ((k, refl), tt), found.1));
 }
   where
     a : Attempt
@@ -155,8 +153,12 @@ begins marked_mark marked_locks c m tried noted number f below held marked stand
     inside : frames_inside a (f ∷ below) ≡ f ∷ []
     inside = one_more a f below (omega arith) ∙ ap (λ fs. f ∷ fs) (none_more (length below - length below) (omega arith))
 
-    part : IsOwn c.program (tags_of c) f.method (section_of a).spot k.number → f.receiver ≡ m → IsSectionPart c.program (tags_of c) (section_of a) m (part_of f k.number) OnThis
-    part own receiver = record { method = refl; receiver = receiver; own = own; mode_is = refl }
+    part : IsOwn c.program (tags_of c) f.method (section_of a).spot k.number → IsSectionPart c.program (tags_of c) (section_of a) f.receiver (part_of f k.number) (section_mode c.program (section_of a))
+    part own = record { method = refl; receiver = refl; own = own; mode_is = refl }
+
+    -- its monitor is that of the section, and its frame the section's
+    Begins : Type 0
+    Begins = (m ≡ section_monitor c.program (section_of a) f.receiver) × IsSectionPart c.program (tags_of c) (section_of a) f.receiver (part_of f k.number) (section_mode c.program (section_of a))
 
     reached : IsInstructionReached c.program (tags_of c) f.method k.number
     reached = record { m = k.method; insn = k.insn; target = k.target; f = k.tags; at = k.at }
@@ -164,24 +166,29 @@ begins marked_mark marked_locks c m tried noted number f below held marked stand
     receiver_of : (held : List Tag) → k.tags.held ≡ This ∷ held → f.receiver ≡ m
     receiver_of held e = let shows = stands.show in innermost c marked f k shows.0 shows.1 stands.phase_shows.outer m held shows.3 e (sym shows.2 ∙ stands.phase_shows.innermost)
 
-    behind : (e : Entered c f k) (n : ℕ) → f.pc ≡ n → (f.receiver ≡ m) × IsSectionPart c.program (tags_of c) (section_of a) m (part_of f k.number) OnThis
+    behind : (e : Entered c f k) (n : ℕ) → f.pc ≡ n → Begins
     behind e zero q = absurd (let up = next_later k.method e.at e.insn (laid c marked f k) e.there in omega (arith, up, q, e.next))
     behind e (suc pc) q =
         let spot : (section_of a).spot ≡ Block pc = ap entered_at q in
         let x = by_mark c marked f k e pc marked.marks.uses (sym q) (subst (λ s. HasMark c.program (tags_of c) marked.marks.uses (record { method = f.method; spot = s }) 0) spot mark) in
         let b = block_begins c marked f k e pc x in
-        let receiver = receiver_of b.outer b.held in
-        (receiver, part (subst (λ s. IsOwn c.program (tags_of c) f.method s k.number) (sym spot) b.own) receiver)
+        let receiver : f.receiver ≡ m = receiver_of b.outer b.held in
+        let on_this : section_monitor c.program (section_of a) f.receiver ≡ f.receiver = ap (λ s. mode_monitor c.program f.receiver (mode_of_spot (slice_get c.program.methods f.method) s)) spot in
+        (sym (on_this ∙ receiver), part (subst (λ s. IsOwn c.program (tags_of c) f.method s k.number) (sym spot) b.own))
 
-    -- a method that runs so is not static, so its monitor is the receiver's
-    receiver_locked : f.pc ≡ 0 → monitor_of c.program k.method f ≡ m → f.receiver ≡ m
-    receiver_locked first on =
-        let locks : locks_this k.method ≡ true = marked_locks c f.method k.method marked.marks (subst (λ s. is_marked c.marks f.method s ≡ true) (ap entered_at first) enters) k.at.in_program in
-        let instance : is_static k.method.flags ≡ false = not-true (is_static k.method.flags) (both_are_true (is_synchronized k.method.flags) (not (is_static k.method.flags)) locks).1 in
-        sym (ap (λ (b : Bool). cond b (class_object c.program (file_of_class k.method.class)) f.receiver) instance) ∙ on
+    -- the monitor of a whole method's section is that of its frame
+    of_method : f.pc ≡ 0 → monitor_of c.program k.method f ≡ m → m ≡ section_monitor c.program (section_of a) f.receiver
+    of_method first on =
+        let spot : (section_of a).spot ≡ Method = ap entered_at first in
+        let mode : section_mode c.program (section_of a) ≡ mode_of_method (Some k.method) = ap (mode_of_spot (slice_get c.program.methods f.method)) spot ∙ ap mode_of_method k.at.in_program in
+        sym on ∙ by_static (is_static k.method.flags) ∙ ap (mode_monitor c.program f.receiver) (sym mode)
+      where
+        by_static : (b : Bool) → cond b (class_object c.program (file_of_class k.method.class)) f.receiver ≡ mode_monitor c.program f.receiver (if b then OnClass k.method.class else OnThis)
+        by_static true = refl
+        by_static false = refl
 
-    found : (f.receiver ≡ m) × IsSectionPart c.program (tags_of c) (section_of a) m (part_of f k.number) OnThis
+    found : Begins
     found = ⊎_elim
-        (λ (h : (f.pc ≡ 0) × (is_synchronized k.method.flags ≡ true) × (monitor_of c.program k.method f ≡ m)). let receiver = receiver_locked h.0 h.2 in (receiver, part (subst (λ s. IsOwn c.program (tags_of c) f.method s k.number) (sym (ap entered_at h.0)) reached) receiver))
+        (λ (h : (f.pc ≡ 0) × (is_synchronized k.method.flags ≡ true) × (monitor_of c.program k.method f ≡ m)). (of_method h.0 h.2, part (subst (λ s. IsOwn c.program (tags_of c) f.method s k.number) (sym (ap entered_at h.0)) reached)))
         (λ (h : IsBehindEntry k.method.code f.pc × (k.tags.held ≢ [])). behind (entered_before c marked f k h.0) f.pc refl)
         stands.phase_shows.enters.1

@@ -1,6 +1,8 @@
 -- What an instruction does that breaks no rule of a section, by its effect.
-use Rattle.std.proofs.Common.{◌≡◌, ◌⊎◌, ℕ, Bool, true, false, List, [], ◌∷◌, length, Option, Some, None, refl, sym, ap, ◌∙◌, subst}
+use Rattle.std.proofs.Common.{◌≡◌, ◌⊎◌, inl, inr, ℕ, Bool, true, false, List, [], ◌∷◌, length, Option, Some, None, refl, sym, ap, ◌∙◌, subst}
 use Rattle.std.specs.Prelude.{◌==◌, nat_lt, slice_get, slice_index, if◌then◌else◌}
+use Rattle.lists.proofs.ListLaws.{same_some}
+use Rattle.jvm_types.specs.ClassNames.{file_of_class}
 use Rattle.jvm_types.specs.CodeTable.{falls_through}
 use Rattle.jvm_types.specs.Members.{is_static}
 use Rattle.jvm_types.specs.ProgramInvariant.{site_in}
@@ -15,17 +17,20 @@ use Rattle.jvm_types.specs.declared.program.Program.{Program}
 use Rattle.jvm_types.specs.declared.program.Target.{Target}
 use Rattle.jvm_types.specs.declared.program.Target.TheVariants as targets
 use Rattle.laws_programs.specs.TargetLaws.{HasRow}
-use Rattle.checked_program.specs.FrozenPlaces.{IsFrozenField, IsGuardedField}
+use Rattle.checked_program.specs.FrozenPlaces.{IsFrozenField, IsFrozenStatic, IsGuardedField}
 use Rattle.checked_program.specs.MarkedProgram.{MarkedProgram}
 use Rattle.checked_program.specs.Marks.{called_method}
-use Rattle.checked_program.specs.SectionLaws.{ReadsOnly}
-use Rattle.machine_types.specs.Effects.{at_local, unless_null, unless_zero, variable_of, gets, calls_on, calls_instance, calls_static, named, effect}
+use Rattle.checked_program.specs.SectionLaws.{IsOwnStatic, ReadsOnly}
+use Rattle.checked_program.specs.declared.section.Mode.{Mode}
+use Rattle.checked_program.specs.declared.section.Mode.TheVariants.{OnThis, OnClass}
+use Rattle.machine_types.specs.Effects.{at_local, unless_null, unless_zero, variable_of, gets, gets_static, calls_on, calls_instance, calls_static, named, effect}
 use Rattle.machine_types.specs.Ints.{low, divided, remaining}
 use Rattle.machine_types.specs.Standing.{tags_of}
+use Rattle.machine_types.specs.Words.{class_object}
 use Rattle.machine_types.specs.declared.effect.Variable.TheVariants.{Instance, Static}
 use Rattle.machine_types.specs.declared.effect.Effect.{Effect}
 use Rattle.machine_types.specs.declared.effect.Effect.TheVariants.{Goes, Throws, Reads, Writes, Indexes, Measures, Makes, Prints, Calls, Returns, Enters, Leaves, Waits, Notifies, NotifiesAll, Stuck}
-use Rattle.laws_threads.specs.InsideEffects.{MayRead}
+use Rattle.laws_threads.specs.InsideEffects.{IsStayingStatic, MayRead}
 
 -- a call of an instance method finds its receiver below the arguments
 abbrev pub HasReceiver : Program → Op → (number : ℕ) → List ℕ → Type 0
@@ -108,100 +113,134 @@ module _ (c : MarkedProgram) (m : ℕ) where
         by_test true = tt
         by_test false = h
 
-  -- ---- what a constant names
+  -- ---- what a constant names, in a frame that is run so, of a section whose own frame has the receiver o
 
-  named_does : (mi : MethodInfo) (pc next : ℕ) (r : OpRow) (target : Target) (op : Op) (s : List ℕ) → HasRow c.program (site_in mi) pc target op r → ReadsOnly c.program (tags_of c) m op target s → Does c m op target s (named c.program next target op s)
-  named_does mi pc next r (targets.Value n) (ops.Ldc i) s k h = tt
-  named_does mi pc next r (targets.Value n) (ops.LdcW i) s k h = tt
-  named_does mi pc next r (targets.Class class) (ops.New i) s k h = h
-  named_does mi pc next r (targets.Field fi) (ops.Getstatic i) s k h = absurd h
-  named_does mi pc next r (targets.Field fi) (ops.Putstatic i) s k h = absurd h
-  named_does mi pc next r (targets.Field fi) (ops.Putfield i) s k h = absurd h
-  named_does mi pc next r (targets.Field fi) (ops.Getfield i) s k h =
-      gets_field (ops.Getfield i) (targets.Field fi) s fi (slice_get c.program.fields fi) s refl (λ field e. let same : Some k.field ≡ Some field = sym k.there ∙ e in ap (λ (x : FieldInfo). is_static x.flags) (one same) ∙ k.sort) h
-    where
-      one : {x y : FieldInfo} → Some x ≡ Some y → y ≡ x
-      one q = cc
-  named_does mi pc next r (targets.Method number) (ops.Invokevirtual i) s k h = calls_method (ops.Invokevirtual i) (targets.Method number) s (slice_get c.program.methods number) number s (λ called receiver e v. (refl, (called, receiver, e, v)))
-  named_does mi pc next r (targets.Method number) (ops.Invokespecial i) s k h = calls_method (ops.Invokespecial i) (targets.Method number) s (slice_get c.program.methods number) number s (λ called receiver e v. (refl, (called, receiver, e, v)))
-  named_does mi pc next r (targets.Method number) (ops.Invokestatic i) s k h = calls_fixed (ops.Invokestatic i) (targets.Method number) s (slice_get c.program.methods number) number s (refl, tt)
-  named_does mi pc next r (targets.Init class) (ops.Invokespecial i) (a ∷ s) k h = tt
-  named_does mi pc next r (targets.Init class) (ops.Invokespecial i) [] k h = tt
-  named_does mi pc next r targets.Out (ops.Getstatic i) s k h = tt
-  named_does mi pc next r targets.Println (ops.Invokevirtual i) s k h = absurd h
-  named_does mi pc next r targets.Wait (ops.Invokevirtual i) s k h = absurd h
-  named_does mi pc next r targets.Notify (ops.Invokevirtual i) s k h = absurd h
-  named_does mi pc next r targets.NotifyAll (ops.Invokevirtual i) s k h = absurd h
-  named_does mi pc next r targets.Nothing op s k h = tt
-  named_does mi pc next r target op s k h = absurd k
+  module _ (mode : Mode) (o : ℕ) (on : mode ≡ OnThis → o ≡ m) (in_class : (class : ℕ) → mode ≡ OnClass class → class_object c.program (file_of_class class) ≡ m) where
+    own_stays : (fi a : ℕ) → IsFrozenField c.program (tags_of c) fi ⊎ (IsGuardedField c.program (tags_of c) fi × (mode ≡ OnThis) × (a ≡ o)) → IsFrozenField c.program (tags_of c) fi ⊎ (IsGuardedField c.program (tags_of c) fi × (a ≡ m))
+    own_stays fi a (inl f) = inl f
+    own_stays fi a (inr g) = inr (g.0, g.2 ∙ on g.1)
 
-  -- ---- all instructions
+    own_sort : (fi : ℕ) (field : FieldInfo) → slice_get c.program.fields fi ≡ Some field → IsFrozenStatic c.program fi ⊎ IsOwnStatic c.program (tags_of c) mode fi → is_static field.flags ≡ true
+    own_sort fi field e (inl s) = subst (λ (x : FieldInfo). is_static x.flags ≡ true) (same_some (sym s.is ∙ e)) s.static
+    own_sort fi field e (inr s) = let g = s.guarded in subst (λ (x : FieldInfo). is_static x.flags ≡ true) (same_some (sym g.is ∙ e)) g.static
 
-  pub does : (mi : MethodInfo) (pc next : ℕ) (r : OpRow) (target : Target) (op : Op) (l s : List ℕ) → HasRow c.program (site_in mi) pc target op r → ReadsOnly c.program (tags_of c) m op target s
-      → Does c m op target s (effect c.program next target op l s)
-  does mi pc next r target ops.Nop l s k h = tt
-  does mi pc next r target ops.AconstNull l s k h = tt
-  does mi pc next r target (ops.Iconst i) l s k h = tt
-  does mi pc next r target (ops.Bipush i) l s k h = tt
-  does mi pc next r target (ops.Sipush i) l s k h = tt
-  does mi pc next r target (ops.Iload i) l s k h = local_or (ops.Iload i) target s i l (Goes next 0) tt
-  does mi pc next r target (ops.Aload i) l s k h = local_or (ops.Aload i) target s i l (Goes next 0) tt
-  does mi pc next r target (ops.Istore i) l (a ∷ s) k h = local_or (ops.Istore i) target (a ∷ s) i l (Goes next 0) tt
-  does mi pc next r target (ops.Astore i) l (a ∷ s) k h = local_or (ops.Astore i) target (a ∷ s) i l (Goes next 0) tt
-  does mi pc next r target ops.Iaload l s k h = absurd h
-  does mi pc next r target ops.Iastore l s k h = absurd h
-  does mi pc next r target ops.Pop l (a ∷ s) k h = tt
-  does mi pc next r target ops.Pop2 l (b ∷ a ∷ s) k h = tt
-  does mi pc next r target ops.Dup l (a ∷ s) k h = tt
-  does mi pc next r target ops.DupX1 l (b ∷ a ∷ s) k h = tt
-  does mi pc next r target ops.DupX2 l (d ∷ b ∷ a ∷ s) k h = tt
-  does mi pc next r target ops.Dup2 l (b ∷ a ∷ s) k h = tt
-  does mi pc next r target ops.Swap l (b ∷ a ∷ s) k h = tt
-  does mi pc next r target ops.Iadd l (b ∷ a ∷ s) k h = tt
-  does mi pc next r target ops.Isub l (b ∷ a ∷ s) k h = tt
-  does mi pc next r target ops.Imul l (b ∷ a ∷ s) k h = tt
-  does mi pc next r target ops.Idiv l (b ∷ a ∷ s) k h = zero_or ops.Idiv target (b ∷ a ∷ s) b (Goes next (divided a b)) tt
-  does mi pc next r target ops.Irem l (b ∷ a ∷ s) k h = zero_or ops.Irem target (b ∷ a ∷ s) b (Goes next (remaining a b)) tt
-  does mi pc next r target ops.Ineg l (a ∷ s) k h = tt
-  does mi pc next r target ops.Ishl l (b ∷ a ∷ s) k h = tt
-  does mi pc next r target ops.Ishr l (b ∷ a ∷ s) k h = tt
-  does mi pc next r target ops.Iushr l (b ∷ a ∷ s) k h = tt
-  does mi pc next r target ops.Iand l (b ∷ a ∷ s) k h = tt
-  does mi pc next r target ops.Ior l (b ∷ a ∷ s) k h = tt
-  does mi pc next r target ops.Ixor l (b ∷ a ∷ s) k h = tt
-  does mi pc next r target (ops.Iinc i d) l s k h = local_or (ops.Iinc i d) target s i l _ tt
-  does mi pc next r target ops.I2b l (a ∷ s) k h = tt
-  does mi pc next r target ops.I2c l (a ∷ s) k h = tt
-  does mi pc next r target ops.I2s l (a ∷ s) k h = tt
-  does mi pc next r target (ops.If q to) l (a ∷ s) k h = tt
-  does mi pc next r target (ops.IfIcmp q to) l (b ∷ a ∷ s) k h = tt
-  does mi pc next r target (ops.IfAcmpeq to) l (b ∷ a ∷ s) k h = tt
-  does mi pc next r target (ops.IfAcmpne to) l (b ∷ a ∷ s) k h = tt
-  does mi pc next r target (ops.Ifnull to) l (a ∷ s) k h = tt
-  does mi pc next r target (ops.Ifnonnull to) l (a ∷ s) k h = tt
-  does mi pc next r target (ops.Goto to) l s k h = tt
-  does mi pc next r target (ops.GotoW to) l s k h = tt
-  does mi pc next r target (ops.Tableswitch otherwise lowest tos) l (a ∷ s) k h = tt
-  does mi pc next r target (ops.Lookupswitch otherwise cases) l (a ∷ s) k h = tt
-  does mi pc next r target ops.Ireturn l (a ∷ s) k h = refl
-  does mi pc next r target ops.Areturn l (a ∷ s) k h = refl
-  does mi pc next r target ops.Return l s k h = refl
-  does mi pc next r target ops.Newarray l s k h = absurd h
-  does mi pc next r target ops.Arraylength l (a ∷ s) k h = null_or ops.Arraylength target (a ∷ s) a _ tt
-  does mi pc next r target ops.Athrow l (a ∷ s) k h = null_or ops.Athrow target (a ∷ s) a _ tt
-  does mi pc next r target ops.Monitorenter l (a ∷ s) k h = null_or ops.Monitorenter target (a ∷ s) a (Enters a) h
-  does mi pc next r target ops.Monitorexit l (a ∷ s) k h = (refl, refl)
-  does mi pc next r target (ops.Ldc i) l s k h = named_does mi pc next r target (ops.Ldc i) s k h
-  does mi pc next r target (ops.LdcW i) l s k h = named_does mi pc next r target (ops.LdcW i) s k h
-  does mi pc next r target (ops.Getstatic i) l s k h = named_does mi pc next r target (ops.Getstatic i) s k h
-  does mi pc next r target (ops.Putstatic i) l s k h = named_does mi pc next r target (ops.Putstatic i) s k h
-  does mi pc next r target (ops.Getfield i) l s k h = named_does mi pc next r target (ops.Getfield i) s k h
-  does mi pc next r target (ops.Putfield i) l s k h = named_does mi pc next r target (ops.Putfield i) s k h
-  does mi pc next r target (ops.Invokevirtual i) l s k h = named_does mi pc next r target (ops.Invokevirtual i) s k h
-  does mi pc next r target (ops.Invokespecial i) l s k h = named_does mi pc next r target (ops.Invokespecial i) s k h
-  does mi pc next r target (ops.Invokestatic i) l s k h = named_does mi pc next r target (ops.Invokestatic i) s k h
-  does mi pc next r target (ops.New i) l s k h = named_does mi pc next r target (ops.New i) s k h
-  does mi pc next r target op l s k h = tt
+    own_static : (fi : ℕ) (field : FieldInfo) → slice_get c.program.fields fi ≡ Some field → IsFrozenStatic c.program fi ⊎ IsOwnStatic c.program (tags_of c) mode fi → IsStayingStatic c m field.index
+    own_static fi field e (inl s) = record { number = fi; field = field; is = e; static = own_sort fi field e (inl s); place = refl; stays = inl s }
+    own_static fi field e (inr s) =
+        let g = s.guarded in
+        let same : g.field ≡ field = same_some (sym g.is ∙ e) in
+        record {
+          number = fi;
+          field = field;
+          is = e;
+          static = own_sort fi field e (inr s);
+          place = refl;
+          stays = inr (g, ap (λ (x : FieldInfo). class_object c.program (file_of_class x.class)) (sym same) ∙ in_class g.field.class s.own);
+        }
+
+    gets_own : (op : Op) (target : Target) (s : List ℕ) (fi : ℕ) (field : Option FieldInfo) → slice_get c.program.fields fi ≡ field → IsFrozenStatic c.program fi ⊎ IsOwnStatic c.program (tags_of c) mode fi → Does c m op target s (gets_static field)
+    gets_own op target s fi None e h = tt
+    gets_own op target s fi (Some field) e h = by_test (is_static field.flags) (own_sort fi field e h)
+      where
+        stays : IsStayingStatic c m field.index
+        stays = own_static fi field e h
+
+        by_test : (b : Bool) → b ≡ true → Does c m op target s (Reads (if b then Static field.index else Instance 0 field.index))
+        by_test true q = stays
+        by_test false q = absurd (cc)
+
+    named_does : (mi : MethodInfo) (pc next : ℕ) (r : OpRow) (target : Target) (op : Op) (s : List ℕ) → HasRow c.program (site_in mi) pc target op r → ReadsOnly c.program (tags_of c) mode o op target s → Does c m op target s (named c.program next target op s)
+    named_does mi pc next r (targets.Value n) (ops.Ldc i) s k h = tt
+    named_does mi pc next r (targets.Value n) (ops.LdcW i) s k h = tt
+    named_does mi pc next r (targets.Class class) (ops.New i) s k h = h
+    named_does mi pc next r (targets.Field fi) (ops.Getstatic i) s k h = gets_own (ops.Getstatic i) (targets.Field fi) s fi (slice_get c.program.fields fi) refl h
+    named_does mi pc next r (targets.Field fi) (ops.Putstatic i) s k h = absurd h
+    named_does mi pc next r (targets.Field fi) (ops.Putfield i) s k h = absurd h
+    named_does mi pc next r (targets.Field fi) (ops.Getfield i) s k h =
+        gets_field (ops.Getfield i) (targets.Field fi) s fi (slice_get c.program.fields fi) s refl (λ field e. let same : Some k.field ≡ Some field = sym k.there ∙ e in ap (λ (x : FieldInfo). is_static x.flags) (one same) ∙ k.sort) (own_stays fi (slice_index s 0) h)
+      where
+        one : {x y : FieldInfo} → Some x ≡ Some y → y ≡ x
+        one q = cc
+    named_does mi pc next r (targets.Method number) (ops.Invokevirtual i) s k h = calls_method (ops.Invokevirtual i) (targets.Method number) s (slice_get c.program.methods number) number s (λ called receiver e v. (refl, (called, receiver, e, v)))
+    named_does mi pc next r (targets.Method number) (ops.Invokespecial i) s k h = calls_method (ops.Invokespecial i) (targets.Method number) s (slice_get c.program.methods number) number s (λ called receiver e v. (refl, (called, receiver, e, v)))
+    named_does mi pc next r (targets.Method number) (ops.Invokestatic i) s k h = calls_fixed (ops.Invokestatic i) (targets.Method number) s (slice_get c.program.methods number) number s (refl, tt)
+    named_does mi pc next r (targets.Init class) (ops.Invokespecial i) (a ∷ s) k h = tt
+    named_does mi pc next r (targets.Init class) (ops.Invokespecial i) [] k h = tt
+    named_does mi pc next r targets.Out (ops.Getstatic i) s k h = tt
+    named_does mi pc next r targets.Println (ops.Invokevirtual i) s k h = absurd h
+    named_does mi pc next r targets.Wait (ops.Invokevirtual i) s k h = absurd h
+    named_does mi pc next r targets.Notify (ops.Invokevirtual i) s k h = absurd h
+    named_does mi pc next r targets.NotifyAll (ops.Invokevirtual i) s k h = absurd h
+    named_does mi pc next r targets.Nothing op s k h = tt
+    named_does mi pc next r target op s k h = absurd k
+
+    -- ---- all instructions
+
+    pub does : (mi : MethodInfo) (pc next : ℕ) (r : OpRow) (target : Target) (op : Op) (l s : List ℕ) → HasRow c.program (site_in mi) pc target op r → ReadsOnly c.program (tags_of c) mode o op target s
+        → Does c m op target s (effect c.program next target op l s)
+    does mi pc next r target ops.Nop l s k h = tt
+    does mi pc next r target ops.AconstNull l s k h = tt
+    does mi pc next r target (ops.Iconst i) l s k h = tt
+    does mi pc next r target (ops.Bipush i) l s k h = tt
+    does mi pc next r target (ops.Sipush i) l s k h = tt
+    does mi pc next r target (ops.Iload i) l s k h = local_or (ops.Iload i) target s i l (Goes next 0) tt
+    does mi pc next r target (ops.Aload i) l s k h = local_or (ops.Aload i) target s i l (Goes next 0) tt
+    does mi pc next r target (ops.Istore i) l (a ∷ s) k h = local_or (ops.Istore i) target (a ∷ s) i l (Goes next 0) tt
+    does mi pc next r target (ops.Astore i) l (a ∷ s) k h = local_or (ops.Astore i) target (a ∷ s) i l (Goes next 0) tt
+    does mi pc next r target ops.Iaload l s k h = absurd h
+    does mi pc next r target ops.Iastore l s k h = absurd h
+    does mi pc next r target ops.Pop l (a ∷ s) k h = tt
+    does mi pc next r target ops.Pop2 l (b ∷ a ∷ s) k h = tt
+    does mi pc next r target ops.Dup l (a ∷ s) k h = tt
+    does mi pc next r target ops.DupX1 l (b ∷ a ∷ s) k h = tt
+    does mi pc next r target ops.DupX2 l (d ∷ b ∷ a ∷ s) k h = tt
+    does mi pc next r target ops.Dup2 l (b ∷ a ∷ s) k h = tt
+    does mi pc next r target ops.Swap l (b ∷ a ∷ s) k h = tt
+    does mi pc next r target ops.Iadd l (b ∷ a ∷ s) k h = tt
+    does mi pc next r target ops.Isub l (b ∷ a ∷ s) k h = tt
+    does mi pc next r target ops.Imul l (b ∷ a ∷ s) k h = tt
+    does mi pc next r target ops.Idiv l (b ∷ a ∷ s) k h = zero_or ops.Idiv target (b ∷ a ∷ s) b (Goes next (divided a b)) tt
+    does mi pc next r target ops.Irem l (b ∷ a ∷ s) k h = zero_or ops.Irem target (b ∷ a ∷ s) b (Goes next (remaining a b)) tt
+    does mi pc next r target ops.Ineg l (a ∷ s) k h = tt
+    does mi pc next r target ops.Ishl l (b ∷ a ∷ s) k h = tt
+    does mi pc next r target ops.Ishr l (b ∷ a ∷ s) k h = tt
+    does mi pc next r target ops.Iushr l (b ∷ a ∷ s) k h = tt
+    does mi pc next r target ops.Iand l (b ∷ a ∷ s) k h = tt
+    does mi pc next r target ops.Ior l (b ∷ a ∷ s) k h = tt
+    does mi pc next r target ops.Ixor l (b ∷ a ∷ s) k h = tt
+    does mi pc next r target (ops.Iinc i d) l s k h = local_or (ops.Iinc i d) target s i l _ tt
+    does mi pc next r target ops.I2b l (a ∷ s) k h = tt
+    does mi pc next r target ops.I2c l (a ∷ s) k h = tt
+    does mi pc next r target ops.I2s l (a ∷ s) k h = tt
+    does mi pc next r target (ops.If q to) l (a ∷ s) k h = tt
+    does mi pc next r target (ops.IfIcmp q to) l (b ∷ a ∷ s) k h = tt
+    does mi pc next r target (ops.IfAcmpeq to) l (b ∷ a ∷ s) k h = tt
+    does mi pc next r target (ops.IfAcmpne to) l (b ∷ a ∷ s) k h = tt
+    does mi pc next r target (ops.Ifnull to) l (a ∷ s) k h = tt
+    does mi pc next r target (ops.Ifnonnull to) l (a ∷ s) k h = tt
+    does mi pc next r target (ops.Goto to) l s k h = tt
+    does mi pc next r target (ops.GotoW to) l s k h = tt
+    does mi pc next r target (ops.Tableswitch otherwise lowest tos) l (a ∷ s) k h = tt
+    does mi pc next r target (ops.Lookupswitch otherwise cases) l (a ∷ s) k h = tt
+    does mi pc next r target ops.Ireturn l (a ∷ s) k h = refl
+    does mi pc next r target ops.Areturn l (a ∷ s) k h = refl
+    does mi pc next r target ops.Return l s k h = refl
+    does mi pc next r target ops.Newarray l s k h = absurd h
+    does mi pc next r target ops.Arraylength l (a ∷ s) k h = null_or ops.Arraylength target (a ∷ s) a _ tt
+    does mi pc next r target ops.Athrow l (a ∷ s) k h = null_or ops.Athrow target (a ∷ s) a _ tt
+    does mi pc next r target ops.Monitorenter l (a ∷ s) k h = null_or ops.Monitorenter target (a ∷ s) a (Enters a) (h.1 ∙ on h.0)
+    does mi pc next r target ops.Monitorexit l (a ∷ s) k h = (refl, refl)
+    does mi pc next r target (ops.Ldc i) l s k h = named_does mi pc next r target (ops.Ldc i) s k h
+    does mi pc next r target (ops.LdcW i) l s k h = named_does mi pc next r target (ops.LdcW i) s k h
+    does mi pc next r target (ops.Getstatic i) l s k h = named_does mi pc next r target (ops.Getstatic i) s k h
+    does mi pc next r target (ops.Putstatic i) l s k h = named_does mi pc next r target (ops.Putstatic i) s k h
+    does mi pc next r target (ops.Getfield i) l s k h = named_does mi pc next r target (ops.Getfield i) s k h
+    does mi pc next r target (ops.Putfield i) l s k h = named_does mi pc next r target (ops.Putfield i) s k h
+    does mi pc next r target (ops.Invokevirtual i) l s k h = named_does mi pc next r target (ops.Invokevirtual i) s k h
+    does mi pc next r target (ops.Invokespecial i) l s k h = named_does mi pc next r target (ops.Invokespecial i) s k h
+    does mi pc next r target (ops.Invokestatic i) l s k h = named_does mi pc next r target (ops.Invokestatic i) s k h
+    does mi pc next r target (ops.New i) l s k h = named_does mi pc next r target (ops.New i) s k h
+    does mi pc next r target op l s k h = tt
 
 -- ---- where an instruction does not go on behind itself
 

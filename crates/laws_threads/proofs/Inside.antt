@@ -24,7 +24,7 @@ use Rattle.laws_threads.proofs.CallOps.{called_on}
 use Rattle.laws_threads.proofs.EffectOps.{Does, does}
 use Rattle.laws_threads.proofs.FrameReturns.{leaves_none}
 use Rattle.laws_threads.proofs.FramesInside.{one_more}
-use Rattle.laws_threads.proofs.SectionFrames.{have_this, Runs, runs_of, row_stands, reads, exits, locking_on}
+use Rattle.laws_threads.proofs.SectionFrames.{have_this, Runs, runs_of, row_stands, on_object, on_class, reads, exits, locking_on}
 use Rattle.laws_threads.proofs.Standings.{top_here, top_at_standing, one_tags}
 
 -- ---- the top frame of an attempt
@@ -43,7 +43,7 @@ stands_on c phase other fs gs held a k inside based same frames = record {
   not_held = k.not_held;
   based = based;
   goes_back = subst (λ hs. Stands c (phases.Enter a.monitor a.number) hs held None) (sym same) k.goes_back;
-  receiver = k.receiver;
+  monitor = k.monitor;
   uses = k.uses;
   are_uses = k.are_uses;
   marked = k.marked;
@@ -68,7 +68,7 @@ module _ (c : MarkedProgram) (marked : IsMarked c) where
   pub locking : (phase : Phase) (f : Frame) (below : List Frame) (held : List Held) (a : Attempt) → AttemptStands c phase (f ∷ below) held a → (rest : List Frame) (r : Runs c a f rest) → r.stands.tags.held ≡ []
       → is_synchronized r.stands.method.flags ≡ true → monitor_of c.program r.stands.method f ≡ a.monitor
   locking phase f below held a k [] r none synchronized = of_monitor c marked a f r (entry_of c marked a phase (f ∷ below) held k) none
-  locking phase f below held a k (b ∷ rest) r none synchronized = locking_on c marked a k.uses k.are_uses k.marked f b rest r synchronized
+  locking phase f below held a k (b ∷ rest) r none synchronized = locking_on c marked a k.uses k.are_uses k.marked k.monitor f b rest r synchronized
 
   module _ (phase : Phase) (f : Frame) (below : List Frame) (held : List Held) (a : Attempt) (k : AttemptStands c phase (f ∷ below) held a) (r : Runs c a f (frames_inside a below)) (this : HasThis f.receiver r.stands.tags.stack f.stack) where
     abbrev top : Top
@@ -77,17 +77,17 @@ module _ (c : MarkedProgram) (marked : IsMarked c) where
     pub top_does : Does c a.monitor r.stands.insn.op r.stands.target f.stack (effect_at c.program top)
     top_does =
         let s = r.stands in
-        does c a.monitor s.method s.insn.pc s.insn.next (top_row c.program top) s.target s.insn.op f.locals f.stack (row_stands c marked f.method s.number s.method s.insn s.target s.tags s.at)
+        does c a.monitor r.mode a.entry.receiver (on_object c marked a k.monitor f (frames_inside a below) r) (on_class c marked a k.monitor f (frames_inside a below) r) s.method s.insn.pc s.insn.next (top_row c.program top) s.target s.insn.op f.locals f.stack (row_stands c marked f.method s.number s.method s.insn s.target s.tags s.at)
         (reads c marked a k.uses k.are_uses k.marked f (frames_inside a below) r f.stack this)
 
     pub calls_on : (number : ℕ) → Does c a.monitor r.stands.insn.op r.stands.target f.stack (Calls number) → MayDo c a.monitor top (Calls number)
     calls_on number d called there synchronized =
         let s = r.stands in
-        called_on c.program number called there f.stack (tags_of c) a.monitor (site_in s.method) s.insn.pc s.insn.op s.target (top_row c.program top) (row_stands c marked f.method s.number s.method s.insn s.target s.tags s.at) d.0 d.1
+        called_on c.program number called there f.stack (tags_of c) r.mode a.entry.receiver a.monitor (on_object c marked a k.monitor f (frames_inside a below) r) (on_class c marked a k.monitor f (frames_inside a below) r) (site_in s.method) s.insn.pc s.insn.op s.target (top_row c.program top) (row_stands c marked f.method s.number s.method s.insn s.target s.tags s.at) d.0 d.1
         (reads c marked a k.uses k.are_uses k.marked f (frames_inside a below) r f.stack this) synchronized
 
     pub leaves_on : (n : ℕ) → Does c a.monitor r.stands.insn.op r.stands.target f.stack (Leaves n) → n ≡ a.monitor
-    leaves_on n d = sym d.1 ∙ exits c marked a k.uses k.are_uses k.marked f (frames_inside a below) r f.stack this d.0
+    leaves_on n d = sym d.1 ∙ exits c marked a k.uses k.are_uses k.marked k.monitor f (frames_inside a below) r f.stack this d.0
 
     may : (e : Effect) → Does c a.monitor r.stands.insn.op r.stands.target f.stack e → MayDo c a.monitor top e
     may (Goes to made) d = tt

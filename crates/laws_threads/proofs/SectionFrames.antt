@@ -22,23 +22,23 @@ use Rattle.laws_programs.proofs.TargetRows.{targets_rows}
 use Rattle.checked_program.specs.FrozenPlaces.{AreUses}
 use Rattle.checked_program.specs.LockTags.{TagShape}
 use Rattle.checked_program.specs.MarkedProgram.{MarkedProgram, IsMarked}
-use Rattle.checked_program.specs.Marks.{HasMark, Calls, callee, called_method, is_locking, is_class_locking, is_own_object, receiver_tag, mode_if, section_fault, call_fault, enter_fault}
+use Rattle.checked_program.specs.Marks.{HasMark, Calls, callee, called_method, is_locking, is_class_locking, is_own_object, is_own_class, class_of_method, receiver_tag, called_mode, section_fault, call_fault, enter_fault}
 use Rattle.checked_program.specs.SectionLaws.{Part, AreParts, IsSectionPart, IsExit, HasThis, ReadsOnly}
 use Rattle.checked_program.specs.TaggedCode.{IsAt, Goes, row_of}
 use Rattle.checked_program.specs.declared.section.FieldUse.{FieldUse}
 use Rattle.checked_program.specs.declared.section.Mode.{Mode}
-use Rattle.checked_program.specs.declared.section.Mode.TheVariants.{OnThis}
+use Rattle.checked_program.specs.declared.section.Mode.TheVariants.{OnThis, OnClass}
 use Rattle.checked_program.specs.declared.tag.Tag.{Tag}
 use Rattle.checked_program.specs.declared.tag.Tag.TheVariants.{Untagged, This}
-use Rattle.laws_sections.proofs.MarkedReads.{own_no_fault, called_no_fault, read_law}
+use Rattle.laws_sections.proofs.MarkedReads.{own_object, own_class, own_no_fault, called_no_fault, read_law}
 use Rattle.laws_sections.proofs.MonitorExits.{held_law, exit_law}
-use Rattle.laws_sections.proofs.SectionCalls.{invoke_law}
+use Rattle.laws_sections.proofs.SectionCalls.{invoke_law, mode_law}
 use Rattle.laws_sections.proofs.SectionMoves.{move_law}
 use Rattle.laws_sections.specs.FrameLaws.{IsReceiver, mode_of_call}
 use Rattle.machine_types.specs.Frames.{monitor_of}
 use Rattle.machine_types.specs.Shown.{HasValue, HaveValues}
 use Rattle.machine_types.specs.Standing.{Standing, tags_of}
-use Rattle.machine_types.specs.Structure.{IsPart, RunsSection, section_of}
+use Rattle.machine_types.specs.Structure.{IsPart, RunsSection, mode_monitor, section_monitor, section_of}
 use Rattle.machine_types.specs.Threads.{Frame, Attempt}
 use Rattle.machine_types.specs.Words.{class_object}
 use Rattle.laws_threads.proofs.Standings.{are_tagged, at_of}
@@ -76,14 +76,14 @@ pub record Runs (c : MarkedProgram) (a : Attempt) (f : Frame) (rest : List Frame
   pub parts : List Part
   pub others : AllZip (IsPart c) rest parts
   pub mode : Mode
-  pub are : AreParts c.program (tags_of c) (section_of a) a.monitor (part_of f stands.number ∷ parts) mode
+  pub are : AreParts c.program (tags_of c) (section_of a) a.entry.receiver (part_of f stands.number ∷ parts) mode
 
 pub runs_of : (c : MarkedProgram) (a : Attempt) (f : Frame) (rest : List Frame) → RunsSection c a (f ∷ rest) → Runs c a f rest
 runs_of c a f rest (parts, mode, zip, are) = by_parts parts zip are
   where
-    by_parts : (parts : List Part) → AllZip (IsPart c) (f ∷ rest) parts → AreParts c.program (tags_of c) (section_of a) a.monitor parts mode → Runs c a f rest
+    by_parts : (parts : List Part) → AllZip (IsPart c) (f ∷ rest) parts → AreParts c.program (tags_of c) (section_of a) a.entry.receiver parts mode → Runs c a f rest
     by_parts [] zip are = absurd zip
-    by_parts (b ∷ bs) zip are = record { stands = zip.0.0; parts = bs; others = zip.1; mode = mode; are = subst (λ x. AreParts c.program (tags_of c) (section_of a) a.monitor (x ∷ bs) mode) zip.0.1 are }
+    by_parts (b ∷ bs) zip are = record { stands = zip.0.0; parts = bs; others = zip.1; mode = mode; are = subst (λ x. AreParts c.program (tags_of c) (section_of a) a.entry.receiver (x ∷ bs) mode) zip.0.1 are }
 
 pub section_of_runs : (c : MarkedProgram) (a : Attempt) (f : Frame) (rest : List Frame) → Runs c a f rest → RunsSection c a (f ∷ rest)
 section_of_runs c a f rest r = (part_of f r.stands.number ∷ r.parts, r.mode, ((r.stands, refl), r.others), r.are)
@@ -107,9 +107,9 @@ module _ (c : MarkedProgram) (marked : IsMarked c) (a : Attempt) where
       let to = at_of c marked f g k l (sym same_method) in
       let held = held_law c.program (tags_of c) f.method k.number l.number k.method k.insn l.insn k.target l.target k.tags l.tags h (are_tagged c marked) k.at to goes in
       ⊎_elim
-      (λ (are : AreParts c.program (tags_of c) (section_of a) a.monitor (part_of f l.number ∷ r.parts) r.mode). inl (part_of f l.number ∷ r.parts, r.mode, ((l, λ i. record { method = sym same_method i; at = l.number; receiver = sym same_receiver i }), r.others), are))
+      (λ (are : AreParts c.program (tags_of c) (section_of a) a.entry.receiver (part_of f l.number ∷ r.parts) r.mode). inl (part_of f l.number ∷ r.parts, r.mode, ((l, λ i. record { method = sym same_method i; at = l.number; receiver = sym same_receiver i }), r.others), are))
       (λ (x : (r.parts ≡ []) × IsExit c.program (tags_of c) a.entry.method (section_of a).spot k.insn k.tags). inr (none_left c rest r.parts r.others x.0, x.1))
-      (move_law c.program (tags_of c) (section_of a) a.monitor l.number (part_of f k.number) r.parts r.mode k.method k.insn l.insn k.target l.target k.tags l.tags h r.are k.at to goes held)
+      (move_law c.program (tags_of c) (section_of a) a.entry.receiver l.number (part_of f k.number) r.parts r.mode k.method k.insn l.insn k.target l.target k.tags l.tags h r.are k.at to goes held)
 
   -- ---- calls and returns
 
@@ -118,7 +118,7 @@ module _ (c : MarkedProgram) (marked : IsMarked c) (a : Attempt) where
   invoked f b g rest r lower l stack same_method same_receiver same_number this call is =
       let k = r.stands in
       let mode = mode_of_call c.program r.mode k.insn.op k.target k.tags.stack in
-      let are = invoke_law c.program (tags_of c) (section_of a) a.monitor (part_of g l.number) (part_of f k.number) r.parts r.mode k.method k.insn k.target k.tags stack r.are k.at this call is in (
+      let are = invoke_law c.program (tags_of c) (section_of a) a.entry.receiver (part_of g l.number) (part_of f k.number) r.parts r.mode k.method k.insn k.target k.tags stack r.are k.at this call is in (
         part_of g l.number ∷ part_of f k.number ∷ r.parts,
         mode,
         ((l, refl), ((lower, λ i. record { method = sym same_method i; at = sym same_number i; receiver = sym same_receiver i }), r.others)),
@@ -129,16 +129,28 @@ module _ (c : MarkedProgram) (marked : IsMarked c) (a : Attempt) where
   pub record Caller (f b : Frame) (rest : List Frame) (upper : Runs c a f (b ∷ rest)) : Type 0 where
     pub runs : Runs c a b rest
     pub call : Calls c.program (tags_of c) (callee b.method runs.mode) runs.stands.number (callee f.method upper.mode)
-    pub on : upper.mode ≡ OnThis → f.receiver ≡ a.monitor
+    pub on : upper.mode ≡ OnThis → f.receiver ≡ a.entry.receiver
 
   pub caller : (f b : Frame) (rest : List Frame) (r : Runs c a f (b ∷ rest)) → Caller f b rest r
   caller f b rest r = by_parts r.parts r.others r.are
     where
-      by_parts : (parts : List Part) → AllZip (IsPart c) (b ∷ rest) parts → AreParts c.program (tags_of c) (section_of a) a.monitor (part_of f r.stands.number ∷ parts) r.mode → Caller f b rest r
+      by_parts : (parts : List Part) → AllZip (IsPart c) (b ∷ rest) parts → AreParts c.program (tags_of c) (section_of a) a.entry.receiver (part_of f r.stands.number ∷ parts) r.mode → Caller f b rest r
       by_parts [] zip are = absurd zip
       by_parts (x ∷ parts) zip are =
-          let all = subst (λ y. AreParts c.program (tags_of c) (section_of a) a.monitor (part_of f r.stands.number ∷ y ∷ parts) r.mode) zip.0.1 are in
+          let all = subst (λ y. AreParts c.program (tags_of c) (section_of a) a.entry.receiver (part_of f r.stands.number ∷ y ∷ parts) r.mode) zip.0.1 are in
           record { runs = record { stands = zip.0.0; parts = parts; others = zip.1; mode = all.0; are = all.1 }; call = all.2; on = all.3 }
+
+  -- ---- the monitor, by how the top frame is run
+
+  pub on_object : a.monitor ≡ section_monitor c.program (section_of a) a.entry.receiver → (f : Frame) (rest : List Frame) (r : Runs c a f rest) → r.mode ≡ OnThis → a.entry.receiver ≡ a.monitor
+  on_object on f rest r e =
+      let mode = (mode_law c.program (tags_of c) (section_of a) a.entry.receiver (part_of f r.stands.number ∷ r.parts) r.mode r.are).0 e in
+      sym (on ∙ ap (mode_monitor c.program a.entry.receiver) mode)
+
+  pub on_class : a.monitor ≡ section_monitor c.program (section_of a) a.entry.receiver → (f : Frame) (rest : List Frame) (r : Runs c a f rest) (class : ℕ) → r.mode ≡ OnClass class → class_object c.program (file_of_class class) ≡ a.monitor
+  on_class on f rest r class e =
+      let mode = ((mode_law c.program (tags_of c) (section_of a) a.entry.receiver (part_of f r.stands.number ∷ r.parts) r.mode r.are).1 class).0 e in
+      sym (on ∙ ap (mode_monitor c.program a.entry.receiver) mode)
 
   -- ---- marks
 
@@ -146,31 +158,31 @@ module _ (c : MarkedProgram) (marked : IsMarked c) (a : Attempt) where
     no_fault : (f : Frame) (rest : List Frame) (r : Runs c a f rest) (m : MethodInfo) (insn : Insn) (target : Target) (u : TagShape) → IsAt c.program (tags_of c) f.method r.stands.number m insn target u → section_fault c.program uses r.mode insn.op target u.stack ≡ 0
     no_fault f rest r m insn target u at = by_parts r.parts r.are
       where
-        by_parts : (parts : List Part) → AreParts c.program (tags_of c) (section_of a) a.monitor (part_of f r.stands.number ∷ parts) r.mode → section_fault c.program uses r.mode insn.op target u.stack ≡ 0
+        by_parts : (parts : List Part) → AreParts c.program (tags_of c) (section_of a) a.entry.receiver (part_of f r.stands.number ∷ parts) r.mode → section_fault c.program uses r.mode insn.op target u.stack ≡ 0
         by_parts [] are =
-            let last : IsSectionPart c.program (tags_of c) (section_of a) a.monitor (part_of f r.stands.number) r.mode = are in
+            let last : IsSectionPart c.program (tags_of c) (section_of a) a.entry.receiver (part_of f r.stands.number) r.mode = are in
             subst (λ was. section_fault c.program uses was insn.op target u.stack ≡ 0) (sym last.mode_is)
             (own_no_fault c.program (tags_of c) uses (section_of a) r.stands.number m insn target u mark last.own (subst (λ mi. IsAt c.program (tags_of c) mi r.stands.number m insn target u) last.method at))
-        by_parts (b ∷ parts) are = called_no_fault c.program (tags_of c) uses (section_of a) a.monitor r.stands.number (part_of f r.stands.number) b parts r.mode m insn target u mark are at
+        by_parts (b ∷ parts) are = called_no_fault c.program (tags_of c) uses (section_of a) a.entry.receiver r.stands.number (part_of f r.stands.number) b parts r.mode m insn target u mark are at
 
-    pub reads : (f : Frame) (rest : List Frame) (r : Runs c a f rest) (stack : List ℕ) → HasThis f.receiver r.stands.tags.stack stack → ReadsOnly c.program (tags_of c) a.monitor r.stands.insn.op r.stands.target stack
+    pub reads : (f : Frame) (rest : List Frame) (r : Runs c a f rest) (stack : List ℕ) → HasThis f.receiver r.stands.tags.stack stack → ReadsOnly c.program (tags_of c) r.mode a.entry.receiver r.stands.insn.op r.stands.target stack
     reads f rest r stack this =
         let k = r.stands in
-        read_law c.program (tags_of c) uses (section_of a) a.monitor (part_of f k.number) r.parts r.mode k.method k.insn k.target k.tags stack are_uses mark r.are k.at this
+        read_law c.program (tags_of c) uses (section_of a) a.entry.receiver (part_of f k.number) r.parts r.mode k.method k.insn k.target k.tags stack marked.checked.program are_uses mark r.are k.at this
 
-    on_mode : (f : Frame) (rest : List Frame) (r : Runs c a f rest) → r.mode ≡ OnThis → f.receiver ≡ a.monitor
+    on_mode : (f : Frame) (rest : List Frame) (r : Runs c a f rest) → r.mode ≡ OnThis → f.receiver ≡ a.entry.receiver
     on_mode f rest r e = by_parts r.parts r.are
       where
-        by_parts : (parts : List Part) → AreParts c.program (tags_of c) (section_of a) a.monitor (part_of f r.stands.number ∷ parts) r.mode → f.receiver ≡ a.monitor
-        by_parts [] are = let last : IsSectionPart c.program (tags_of c) (section_of a) a.monitor (part_of f r.stands.number) r.mode = are in last.receiver
+        by_parts : (parts : List Part) → AreParts c.program (tags_of c) (section_of a) a.entry.receiver (part_of f r.stands.number ∷ parts) r.mode → f.receiver ≡ a.entry.receiver
+        by_parts [] are = let last : IsSectionPart c.program (tags_of c) (section_of a) a.entry.receiver (part_of f r.stands.number) r.mode = are in last.receiver
         by_parts (b ∷ parts) are = are.3 e
 
     -- a `monitorexit` leaves the section's monitor
-    pub exits : (f : Frame) (rest : List Frame) (r : Runs c a f rest) (stack : List ℕ) → HasThis f.receiver r.stands.tags.stack stack → r.stands.insn.op ≡ ops.Monitorexit → slice_index stack 0 ≡ a.monitor
-    exits f rest r stack this e =
+    pub exits : a.monitor ≡ section_monitor c.program (section_of a) a.entry.receiver → (f : Frame) (rest : List Frame) (r : Runs c a f rest) (stack : List ℕ) → HasThis f.receiver r.stands.tags.stack stack → r.stands.insn.op ≡ ops.Monitorexit → slice_index stack 0 ≡ a.monitor
+    exits on f rest r stack this e =
         let k = r.stands in
-        let x = exit_law c.program (tags_of c) uses (section_of a) a.monitor (part_of f k.number) r.parts r.mode k.method k.insn k.target k.tags are_uses (are_tagged c marked) mark r.are k.at e in
-        this 0 x.1 ∙ on_mode f rest r x.0
+        let x = exit_law c.program (tags_of c) uses (section_of a) a.entry.receiver (part_of f k.number) r.parts r.mode k.method k.insn k.target k.tags are_uses (are_tagged c marked) mark r.are k.at e in
+        this 0 x.1 ∙ on_mode f rest r x.0 ∙ on_object on f rest r x.0
 
     own_true : (b : Bool) → enter_fault b ≡ 0 → b ≡ true
     own_true true e = refl
@@ -180,30 +192,40 @@ module _ (c : MarkedProgram) (marked : IsMarked c) (a : Attempt) where
     called_own true b e z = own_true b z
     called_own false b e z = absurd (cc)
 
-    -- a synchronized method is called on the section's object, and none is static
-    record IsOwnCall (called : MethodInfo) (mode : Mode) (op : Op) (target : Target) (ts : List Tag) : Type 0 where
-      own : is_own_object mode (receiver_tag c.program op target ts) ≡ true
-      instance : is_static called.flags ≡ false
+    -- a synchronized method is called on the section's object, or it is a static one of the section's class
+    data IsOwnCall (called : MethodInfo) (mode : Mode) (op : Op) (target : Target) (ts : List Tag) : Type 0 where
+      on_this : is_static called.flags ≡ false → is_own_object mode (receiver_tag c.program op target ts) ≡ true → IsOwnCall called mode op target ts
+      in_class : is_static called.flags ≡ true → mode ≡ OnClass called.class → IsOwnCall called mode op target ts
 
     own_call : (u : ℕ) (called : MethodInfo) (mi : MethodInfo) (pc : ℕ) (op : Op) (target : Target) (row : OpRow) (mode : Mode) (ts : List Tag) → slice_get c.program.methods u ≡ Some called → is_synchronized called.flags ≡ true
         → called_method op target ≡ Some u → HasRow c.program (site_in mi) pc target op row → section_fault c.program uses mode op target ts ≡ 0 → IsOwnCall called mode op target ts
     own_call u called mi pc (ops.Invokevirtual i) (targets.Method v) row mode ts there synchronized call k z =
         let instance : is_static called.flags ≡ false = subst (λ (m : MethodInfo). is_static m.flags ≡ false) (same_some (sym k.there ∙ ap (λ x. slice_get c.program.methods x) (same_some call) ∙ there)) k.sort in
-        record { own = called_own (is_locking (slice_get c.program.methods v)) _ (ap (λ x. is_locking (slice_get c.program.methods x)) (same_some call) ∙ is_locked c.program u called there synchronized instance) z; instance = instance }
+        on_this instance (called_own (is_locking (slice_get c.program.methods v)) _ (ap (λ x. is_locking (slice_get c.program.methods x)) (same_some call) ∙ is_locked c.program u called there synchronized instance) z)
     own_call u called mi pc (ops.Invokespecial i) (targets.Method v) row mode ts there synchronized call k z =
         let instance : is_static called.flags ≡ false = subst (λ (m : MethodInfo). is_static m.flags ≡ false) (same_some (sym k.there ∙ ap (λ x. slice_get c.program.methods x) (same_some call) ∙ there)) k.sort in
-        record { own = called_own (is_locking (slice_get c.program.methods v)) _ (ap (λ x. is_locking (slice_get c.program.methods x)) (same_some call) ∙ is_locked c.program u called there synchronized instance) z; instance = instance }
+        on_this instance (called_own (is_locking (slice_get c.program.methods v)) _ (ap (λ x. is_locking (slice_get c.program.methods x)) (same_some call) ∙ is_locked c.program u called there synchronized instance) z)
     own_call u called mi pc (ops.Invokestatic i) (targets.Method v) row mode ts there synchronized call k z =
         let static : is_static called.flags ≡ true = subst (λ (m : MethodInfo). is_static m.flags ≡ true) (same_some (sym k.there ∙ ap (λ x. slice_get c.program.methods x) (same_some call) ∙ there)) k.sort in
-        let bad : false ≡ true = called_own (is_class_locking (slice_get c.program.methods v)) false (ap (λ x. is_class_locking (slice_get c.program.methods x)) (same_some call) ∙ is_class_locked c.program u called there synchronized static) z in
-        absurd (cc)
+        let own : is_own_class mode (class_of_method (slice_get c.program.methods v)) ≡ true =
+        called_own (is_class_locking (slice_get c.program.methods v)) _ (ap (λ x. is_class_locking (slice_get c.program.methods x)) (same_some call) ∙ is_class_locked c.program u called there synchronized static) z in
+        let same : class_of_method (slice_get c.program.methods v) ≡ called.class = ap (λ x. class_of_method (slice_get c.program.methods x)) (same_some call) ∙ ap class_of_method there in
+        in_class static (own_class mode (class_of_method (slice_get c.program.methods v)) own ∙ ap (λ (x : ℕ). OnClass x) same)
     own_call u called mi pc op target row mode ts there synchronized call k z = absurd (cc)
 
     -- the frame of a synchronized method that is called has the section's monitor
-    pub locking_on : (f b : Frame) (rest : List Frame) (r : Runs c a f (b ∷ rest)) → is_synchronized r.stands.method.flags ≡ true → monitor_of c.program r.stands.method f ≡ a.monitor
-    locking_on f b rest r synchronized =
+    pub locking_on : a.monitor ≡ section_monitor c.program (section_of a) a.entry.receiver → (f b : Frame) (rest : List Frame) (r : Runs c a f (b ∷ rest)) → is_synchronized r.stands.method.flags ≡ true → monitor_of c.program r.stands.method f ≡ a.monitor
+    locking_on on f b rest r synchronized =
         let x = caller f b rest r in
         let z = no_fault b rest x.runs x.call.m x.call.insn x.call.target x.call.f x.call.at in
         let own = own_call f.method r.stands.method x.call.m x.call.insn.pc x.call.insn.op x.call.target (row_of c.program x.call.m x.call.insn x.call.target) x.runs.mode x.call.f.stack r.stands.at.in_program synchronized x.call.called
         (row_stands c marked b.method x.runs.stands.number x.call.m x.call.insn x.call.target x.call.f x.call.at) z in
-        ap (λ (s : Bool). cond s (class_object c.program (file_of_class r.stands.method.class)) f.receiver) own.instance ∙ x.on (x.call.mode_is ∙ ap mode_if own.own)
+        by_call x own
+      where
+        by_call : (x : Caller f b rest r) → IsOwnCall r.stands.method x.runs.mode x.call.insn.op x.call.target x.call.f.stack → monitor_of c.program r.stands.method f ≡ a.monitor
+        by_call x (on_this instance own) =
+            let own_mode = own_object x.runs.mode (receiver_tag c.program x.call.insn.op x.call.target x.call.f.stack) own in
+            let mode : r.mode ≡ OnThis = x.call.mode_is ∙ ap (λ (m : Mode). called_mode m (receiver_tag c.program x.call.insn.op x.call.target x.call.f.stack)) own_mode.0 ∙ ap (called_mode OnThis) own_mode.1 in
+            ap (λ (s : Bool). cond s (class_object c.program (file_of_class r.stands.method.class)) f.receiver) instance ∙ x.on mode ∙ on_object on f (b ∷ rest) r mode
+        by_call x (in_class static mode) =
+            ap (λ (s : Bool). cond s (class_object c.program (file_of_class r.stands.method.class)) f.receiver) static ∙ on_class on b rest x.runs r.stands.method.class mode

@@ -19,6 +19,7 @@ use Rattle.checked_program.specs.MarkedProgram.{MarkedProgram, IsMarked}
 use Rattle.checked_program.specs.SectionLaws.{HasThis, ReadsOnly}
 use Rattle.checked_program.specs.Tagging.{tags_after}
 use Rattle.checked_program.specs.TaggedCode.{onward, row_of}
+use Rattle.checked_program.specs.declared.section.Mode.{Mode}
 use Rattle.machine_types.specs.Frames.{Top, effect_at, top_row, frame_on, went, went_on, waiting, taken_from, frames_of, has_room, entry_frame, arguments_of, monitor_of, given_back, returned}
 use Rattle.machine_types.specs.Onward.{Onward, Running, Throwing, Entering, Leaving, threw, entered, called, back, returns, done}
 use Rattle.machine_types.specs.ReadyObjects.{ready, thrown_of}
@@ -204,10 +205,10 @@ steps_inside c (f ∷ below) held a at got result marked k s t edge e l =
 
 -- ---- elements
 
-no_element : (c : MarkedProgram) (m : ℕ) (stored : Option ℕ) (op : Op) (target : Target) (vs : List ℕ) → is_element_op stored op ≡ true → ReadsOnly c.program (tags_of c) m op target vs → ⊥
-no_element c m None ops.Iaload target vs e h = h
-no_element c m (Some v) ops.Iastore target vs e h = h
-no_element c m stored op target vs e h = cc
+no_element : (c : MarkedProgram) (mode : Mode) (o : ℕ) (stored : Option ℕ) (op : Op) (target : Target) (vs : List ℕ) → is_element_op stored op ≡ true → ReadsOnly c.program (tags_of c) mode o op target vs → ⊥
+no_element c mode o None ops.Iaload target vs e h = h
+no_element c mode o (Some v) ops.Iastore target vs e h = h
+no_element c mode o stored op target vs e h = cc
 
 no_element_finish : (a : Attempt) (word : ℕ) (stored : Option ℕ) (fs : List Frame) → Finishes a (phases.Element word stored) fs → ⊥
 no_element_finish a word stored fs x = let bad = x.leaves in cc
@@ -219,4 +220,4 @@ no_element_inside c word stored (f ∷ below) held a marked k s =
     let shows = top_shows c marked Whole f below s.shown s.show in
     let h = reads c marked a k.uses k.are_uses k.marked f (frames_inside a below) r' f.stack (stack_this c marked f r'.stands shows.0 shows.1) in
     let is = ap (λ (i : Insn). is_element_op stored i.op) (one_insn c marked f r'.stands s.phase_shows.0) ∙ s.phase_shows.1 in
-    no_element c a.monitor stored r'.stands.insn.op r'.stands.target f.stack is h
+    no_element c r'.mode a.entry.receiver stored r'.stands.insn.op r'.stands.target f.stack is h

@@ -1,13 +1,15 @@
 -- What an instruction may do inside an attempt: it writes nothing, reads no place but those that stay while the monitor of the
 -- section is free, and enters and leaves no monitor but that one.
 use Rattle.std.specs.Prelude.{◌≡◌, ℕ, ◌⊎◌, true, List, Some, slice_get}
-use Rattle.jvm_types.specs.Members.{is_synchronized}
+use Rattle.jvm_types.specs.ClassNames.{file_of_class}
+use Rattle.jvm_types.specs.Members.{is_static, is_synchronized}
 use Rattle.jvm_types.specs.declared.program.FieldInfo.{FieldInfo}
 use Rattle.jvm_types.specs.declared.program.MethodInfo.{MethodInfo}
-use Rattle.checked_program.specs.FrozenPlaces.{IsFrozenField, IsGuardedField}
+use Rattle.checked_program.specs.FrozenPlaces.{IsFrozenField, IsFrozenStatic, IsGuardedField, IsGuardedStatic}
 use Rattle.checked_program.specs.MarkedProgram.{MarkedProgram, IsMarked}
 use Rattle.machine_types.specs.Frames.{Top, top_of, effect_at, entry_frame, arguments_of, monitor_of}
 use Rattle.machine_types.specs.Standing.{tags_of}
+use Rattle.machine_types.specs.Words.{class_object}
 use Rattle.machine_types.specs.Structure.{Stands, AttemptStands}
 use Rattle.machine_types.specs.Threads.{Frame, Attempt}
 use Rattle.machine_types.specs.declared.effect.Variable.{Variable}
@@ -25,9 +27,18 @@ pub record IsStayingField (c : MarkedProgram) (m reference index : ℕ) : Type 0
   pub place : field.index ≡ index
   pub stays : IsFrozenField c.program (tags_of c) number ⊎ (IsGuardedField c.program (tags_of c) number × (reference ≡ m))
 
+-- a final static field, or a guarded one of the class whose monitor is m
+pub record IsStayingStatic (c : MarkedProgram) (m word : ℕ) : Type 0 where
+  pub number : ℕ
+  pub field : FieldInfo
+  pub is : slice_get c.program.fields number ≡ Some field
+  pub static : is_static field.flags ≡ true
+  pub place : field.index ≡ word
+  pub stays : IsFrozenStatic c.program number ⊎ (IsGuardedStatic c.program (tags_of c) number × (class_object c.program (file_of_class field.class) ≡ m))
+
 abbrev pub MayRead : MarkedProgram → (m : ℕ) → Variable → Type 0
 MayRead c m (Instance reference index) = IsStayingField c m reference index
-MayRead c m (Static word) = ⊥
+MayRead c m (Static word) = IsStayingStatic c m word
 
 -- a synchronized method that is called, or that returns, has the monitor m (JVMS 2.11.10)
 abbrev pub MayDo : MarkedProgram → (m : ℕ) → Top → Effect → Type 0

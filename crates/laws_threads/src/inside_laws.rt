@@ -4,7 +4,7 @@ ghost use Rattle.laws_threads.specs.InsideEffects.{InsideMayDo};
 ghost use Rattle.laws_threads.specs.InsideMoves.{BeginsAttempt, EntersInside, LeavesInside};
 ghost use Rattle.laws_threads.specs.InsideMoves.{NoElementInside, StepsInside, ThrowsInside};
 
-use machine_types::{marked_has_mark, marked_locks_this};
+use machine_types::marked_has_mark;
 
 /// An instruction inside writes nothing, reads what stays while the monitor is free, and enters and
 /// leaves that monitor alone.
@@ -42,5 +42,4 @@ pub fn attempt_begins()
     ensures { BeginsAttempt }
 {
     marked_has_mark();
-    marked_locks_this();
 }

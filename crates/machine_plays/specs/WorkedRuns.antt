@@ -13,7 +13,7 @@ use Rattle.jvm_types.specs.declared.fixed_words.TheConstants.{NEXT_RECORD_WORD}
 use Rattle.machine_plays.specs.Writing.{handler_row, thread_turns, usual, report, print_of, printed_by}
 use Rattle.machine_plays.specs.WorkedAlone.{add_and_print, add_and_print_twice, all_parts, call_itself, catch_by_class, compute, divide_by_zero, index_and_throw, init_only, leaves_by_exception, low_bit, make_array, measure_null, moves, return_only}
 use Rattle.machine_plays.specs.WorkedPairs.{synchronized_pair, counts_up, divides, make_and_set, make_shared, shared, shared_and_done, twice, unlocked}
-use Rattle.machine_plays.specs.WorkedClasses.{leaves_class_by_exception, static_pair}
+use Rattle.machine_plays.specs.WorkedClasses.{leaves_class_by_exception, shared_statics, static_pair}
 use Rattle.machine_plays.specs.WorkedWaits.{locks_out, spins, waiting_program, waits_deep}
 
 -- its outcome, the prints of the plain machine in their order, how many events and parts it has, and for how many plain steps
@@ -266,16 +266,32 @@ abbrev pub section_is_left_locked : Run
 section_is_left_locked = run leaves_by_exception (record usual { elide = false }) []
     (comes_to (report (ends.Uncaught thrown.ArithmeticException) [] 10 0 0 1 0 ∷ []) ends.NotRun [] 18 15)
 
--- ---- static synchronized methods, none of which is marked
+-- ---- static synchronized methods, which are sections on their class
 
--- Both take the lock of their class.
+-- The setter takes the lock of the class, and the reader's section is elided.
+abbrev pub class_is_elided : Run
+class_is_elided = run static_pair usual []
+    (comes_to (report ends.Returned (print_of 0 (pos 8) ∷ []) 15 1 0 1 0 ∷ []) ends.Returned (printed_by 0 (pos 8) ∷ []) 24 20)
+
+-- Both take the lock.
 abbrev pub class_is_locked : Run
-class_is_locked = run static_pair usual []
+class_is_locked = run static_pair (record usual { elide = false }) []
     (comes_to (report ends.Returned (print_of 0 (pos 8) ∷ []) 15 0 0 2 0 ∷ []) ends.Returned (printed_by 0 (pos 8) ∷ []) 25 20)
 
--- An exception leaves one, and its lock.
-abbrev pub class_is_left : Run
-class_is_left = run leaves_class_by_exception usual []
+-- One field is read before it is set and the other behind it: the attempt fails at its end, and the second one sees both set.
+abbrev pub class_is_torn : Run
+class_is_torn = run (shared_statics 2) usual (thread_turns 8 1 ++ thread_turns 14 2)
+    (comes_to (report ends.Returned [] 0 0 0 0 0 ∷ report ends.Returned (print_of 0 (pos 8) ∷ []) 16 1 1 0 0 ∷ report ends.Returned [] 11 0 0 1 0 ∷ [])
+    ends.Returned (printed_by 1 (pos 8) ∷ []) 40 29)
+
+-- An exception leaves a section that has no lock.
+abbrev pub class_is_left_elided : Run
+class_is_left_elided = run leaves_class_by_exception usual []
+    (comes_to (report (ends.Uncaught thrown.ArithmeticException) [] 4 1 0 0 0 ∷ []) ends.NotRun [] 10 9)
+
+-- The same with the lock.
+abbrev pub class_is_left_locked : Run
+class_is_left_locked = run leaves_class_by_exception (record usual { elide = false }) []
     (comes_to (report (ends.Uncaught thrown.ArithmeticException) [] 4 0 0 1 0 ∷ []) ends.NotRun [] 11 9)
 
 -- ---- limits of instructions, failed turns and prints

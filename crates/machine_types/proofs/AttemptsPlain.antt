@@ -7,22 +7,22 @@ use Rattle.lists.proofs.ListLaws.{same_some}
 use Rattle.jvm_types.specs.declared.class_numbers.TheConstants.{INT_ARRAY_CLASS}
 use Rattle.jvm_types.specs.Members.{is_static}
 use Rattle.jvm_types.specs.Numbers.{has_number}
-use Rattle.jvm_types.specs.ProgramInvariant.{IsProgram, instances_among}
+use Rattle.jvm_types.specs.ProgramInvariant.{IsProgram, instances_among, words_of}
 use Rattle.jvm_types.specs.declared.outcome.End.{End}
 use Rattle.jvm_types.specs.declared.program.FieldInfo.{FieldInfo}
 use Rattle.jvm_types.specs.declared.program.Program.{Program}
-use Rattle.laws_programs.proofs.FieldOrder.{instances_inside}
+use Rattle.laws_programs.proofs.FieldOrder.{instances_inside, statics_inside}
 use Rattle.checked_program.specs.MarkedProgram.{MarkedProgram}
 use Rattle.machine_types.specs.Agreement.{IsPending, AttemptFits, ThreadFits, has_wait_bit, depth_for, depth_of}
 use Rattle.machine_types.specs.AttemptLaws.{ReachesPresent, AttemptsArePlain}
-use Rattle.machine_types.specs.Attempts.{IsFieldAt, Stays, header, frozen, guarded, IsAsNoted, Owes}
+use Rattle.machine_types.specs.Attempts.{IsFieldAt, Stays, header, frozen, guarded, frozen_static, guarded_static, IsAsNoted, Owes}
 use Rattle.machine_types.specs.Facts.{Facts, FactsBeside}
 use Rattle.machine_types.specs.HeldMonitors.{held_at}
 use Rattle.machine_types.specs.History.{Told, past_at, steps_of}
 use Rattle.machine_types.specs.LockWords.{lock_of, lock_by}
 use Rattle.machine_types.specs.NewObjects.{IsNewObject, size_by}
 use Rattle.machine_types.specs.Owners.{lock_at, NotHeld, hold_by_word, hold_by_list, hold_by_kept, owner_at, references_of}
-use Rattle.machine_types.specs.PlainMemory.{Object, object_end, value_in, object_value, static_value, has_value, header_of, first_value}
+use Rattle.machine_types.specs.PlainMemory.{Object, StaticValue, object_end, value_in, object_value, static_value, has_value, header_of, first_value}
 use Rattle.machine_types.specs.PlainState.{Plain, PlainThread, Holding, value_at, holding_at}
 use Rattle.machine_types.specs.PlainState as plain
 use Rattle.machine_types.specs.PlainSteps.{plain_run, plain_step, step_of, step_at, plain_entered}
@@ -86,6 +86,15 @@ has_field o index lt =
     within : (r i n : ℕ) → i < n → (nat_le (r + 2 + 0) (r + 2 + i) && nat_lt (r + 2 + i) (r + 2 + 0 + n)) ≡ true
     within r i n h = grind (arith, nat_tests, h)
 
+statics_have : (ss : List StaticValue) (i : ℕ) (s : StaticValue) → slice_get ss i ≡ Some s → HasValue (static_value ss s.word)
+statics_have [] i s e = cc
+statics_have (r ∷ ss) zero s e = subst (λ (z : StaticValue). HasValue (static_value (r ∷ ss) z.word)) (same_some e) (r.value, ap (λ (b : Bool). cond b (Some r.value) (static_value ss r.word)) (is_same r.word))
+statics_have (r ∷ ss) (suc i) s e = by_test (r.word == s.word) (statics_have ss i s e)
+  where
+    by_test : (b : Bool) → HasValue (static_value ss s.word) → HasValue (cond b (Some r.value) (static_value ss s.word))
+    by_test true h = (r.value, refl)
+    by_test false h = h
+
 -- ---- no new object has them
 
 pub size_two : (p : Program) (word : ℕ) → 2 ≤ size_by p word
@@ -133,12 +142,30 @@ module _ (c : MarkedProgram) (cfg : Config) (told : Told) (q : Plain) (k : Facts
       (omega arith)
       (omega (arith, below)))
 
+  -- a static field, which lies before all new objects
+  static_not_pending : (fi : ℕ) (f : FieldInfo) → slice_get c.program.fields fi ≡ Some f → is_static f.flags ≡ true → IsPending told.core.threads f.index → ⊥
+  static_not_pending fi f get static h =
+      let new : IsNewObject c.program k.facts.objects told.core h.2 (size_by c.program h.3) = k.facts.new_objects.each h.0 h.1 h.2 h.3 h.4 h.5 in
+      let place : f.index ≡ h.2 + 1 = h.6 in
+      let low : f.index < words_of c.program = (statics_inside c.program fi f is get static).1 in
+      omega (arith, place, low, new.begins)
+
+  static_there : (fi x : ℕ) (f : FieldInfo) → slice_get c.program.fields fi ≡ Some f → is_static f.flags ≡ true → x ≡ f.index → value_at q x ≡ Some (slice_index told.core.words x)
+  static_there fi x f get static place =
+      let s = k.statics fi f get static in
+      let there : slice_get q.statics s.1.0 ≡ Some s.0 = got_contained q.statics s.1.0 s.0 s.1.1 s.1.2 in
+      let v : HasValue (value_at q f.index) = second_has (object_value q.objects f.index) (static_value q.statics f.index) (subst (λ (n : ℕ). HasValue (static_value q.statics n)) s.2 (statics_have q.statics s.1.0 s.0 there)) in
+      let same : slice_index told.core.words f.index ≡ v.0 = k.agrees.places f.index v.0 v.1 (static_not_pending fi f get static) in
+      subst (λ (n : ℕ). value_at q n ≡ Some (slice_index told.core.words n)) (sym place) (v.1 ∙ ap Some (sym same))
+
   stays : (t m x : ℕ) → Stays c k.facts.objects k.facts.world next_free t m x → value_at q x ≡ Some (slice_index told.core.words x)
   stays t m x (header o there place) =
       subst (λ (n : ℕ). value_at q n ≡ Some (slice_index told.core.words n)) (sym place)
       (plain_has o (header_word o.reference) there (λ e r l. subst (λ (n : ℕ). HasValue (value_in e (header_word n))) r (has_header e)) (omega arith) (omega arith))
   stays t m x (frozen fi o field at) = field_there t fi x o field.field field.is field.instance at
   stays t m x (guarded fi o field on at) = field_there t fi x o field.field field.is field.instance at
+  stays t m x (frozen_static fi field place) = static_there fi x field.field field.is field.static place
+  stays t m x (guarded_static fi field on place) = static_there fi x field.field field.is field.static place
 
   -- ---- the monitor
 

@@ -1,10 +1,11 @@
 -- The classes of which a field may be read without a lock are frozen, and a test tells them.
-use Rattle.std.proofs.Common.{◌≡◌, ℕ, zero, suc, Bool, true, false, List, [], ◌∷◌, length, Some, refl, sym, ap, ◌∙◌, subst, arith}
-use Rattle.std.specs.Prelude.{◌==◌, ◌&&◌, ◌||◌, slice_get}
-use Rattle.std.proofs.lemmas.Bool.{eqb-true}
+use Rattle.std.proofs.Common.{◌≡◌, ℕ, zero, suc, Bool, true, false, List, [], ◌∷◌, length, Some, refl, sym, ap, ◌∙◌, subst, arith, inl, inr, ◌⊎◌}
+use Rattle.std.specs.Prelude.{◌==◌, ◌&&◌, ◌||◌, not, slice_get}
+use Rattle.std.proofs.lemmas.Bool.{and_parts, eqb-true}
+use Rattle.jvm_types.specs.Members.{is_static}
 use Rattle.jvm_types.specs.declared.program.FieldInfo.{FieldInfo}
 use Rattle.jvm_types.specs.declared.program.Program.{Program}
-use Rattle.checked_program.specs.FrozenPlaces.{IsFrozenClass, IsFrozenField, IsGuardedField, IsUse, AreUses}
+use Rattle.checked_program.specs.FrozenPlaces.{IsFrozenClass, IsFrozenField, IsFrozenStatic, IsGuardedField, IsGuardedStatic, IsUse, AreUses}
 use Rattle.checked_program.specs.TaggedCode.{Tagged}
 use Rattle.checked_program.specs.declared.section.FieldUse.{FieldUse}
 use Rattle.checked_program.specs.declared.section.FieldUse.TheVariants.{Frozen, Guarded, Open}
@@ -16,9 +17,12 @@ abbrev is_closed : FieldUse → Bool
 is_closed Open = false
 is_closed used = true
 
--- a class counts where one of its fields is frozen or guarded
+-- a class counts where one of its instance fields is frozen or guarded
 abbrev counts : FieldInfo → FieldUse → (class : ℕ) → Bool
-counts field used class = is_closed used && (field.class == class)
+counts field used class = (is_closed used && not (is_static field.flags)) && (field.class == class)
+
+counts_instance : (field : FieldInfo) (used : FieldUse) → is_closed used ≡ true → is_static field.flags ≡ false → counts field used field.class ≡ true
+counts_instance field used closed instance = rw (closed, instance) (is_same field.class)
 
 abbrev is_told : List FieldInfo → List FieldUse → (class : ℕ) → Bool
 is_told (field ∷ fields) (used ∷ uses) class = counts field used class || is_told fields uses class
@@ -65,26 +69,33 @@ use_at (x ∷ fields) (used ∷ uses) (suc fi) field l e = use_at fields uses fi
 -- ---- of the fields of a program
 
 module _ (p : Program) (tags : Tagged) (uses : List FieldUse) (are : AreUses p tags uses) where
+  -- an instance field of the class, by its own record
+  of_instance : (class fi : ℕ) (field other : FieldInfo) → slice_get p.fields fi ≡ Some field → slice_get p.fields fi ≡ Some other → (not (is_static field.flags) && (field.class == class)) ≡ true → (other.class ≡ class) × (not (is_static other.flags) ≡ true)
+  of_instance class fi field other e k t =
+      let same : field ≡ other = (let s : Some field ≡ Some other = sym e ∙ k in cc) in
+      let parts = and_parts (not (is_static field.flags)) (field.class == class) t in
+      (ap (λ (z : FieldInfo). z.class) (sym same) ∙ eqb-true field.class class parts.1, subst (λ (z : FieldInfo). not (is_static z.flags) ≡ true) same parts.0)
+
+  no_static : (b : Bool) → not b ≡ true → b ≡ true → ⊥
+  no_static true e f = cc
+  no_static false e f = cc
+
   frozen_class : (class fi : ℕ) (field : FieldInfo) (used : FieldUse) → slice_get p.fields fi ≡ Some field → IsUse p tags fi used → counts field used class ≡ true → IsFrozenClass p tags class
   frozen_class class fi field Open e k t = absurd (let bad : false ≡ true = t in cc)
-  frozen_class class fi field Frozen e k t =
-      let same : k.field ≡ field = (let s : Some k.field ≡ Some field = sym k.is ∙ e in cc) in
-      let of_class : field.class ≡ class = eqb-true field.class class t in
-      subst (IsFrozenClass p tags) (ap (λ (z : FieldInfo). z.class) same ∙ of_class) k.frozen
-  frozen_class class fi field Guarded e k t =
-      let same : k.field ≡ field = (let s : Some k.field ≡ Some field = sym k.is ∙ e in cc) in
-      let of_class : field.class ≡ class = eqb-true field.class class t in
-      subst (IsFrozenClass p tags) (ap (λ (z : FieldInfo). z.class) same ∙ of_class) k.frozen
+  frozen_class class fi field Frozen e (inl k) t = let r = of_instance class fi field k.field e k.is t in subst (IsFrozenClass p tags) r.0 k.frozen
+  frozen_class class fi field Frozen e (inr k) t = let r = of_instance class fi field k.field e k.is t in absurd (no_static (is_static k.field.flags) r.1 k.static)
+  frozen_class class fi field Guarded e (inl k) t = let r = of_instance class fi field k.field e k.is t in subst (IsFrozenClass p tags) r.0 k.frozen
+  frozen_class class fi field Guarded e (inr k) t = let r = of_instance class fi field k.field e k.is t in absurd (no_static (is_static k.field.flags) r.1 k.static)
 
   told_frozen : (fi : ℕ) (k : IsFrozenField p tags fi) (used : FieldUse) → slice_get uses fi ≡ Some used → IsUse p tags fi used → is_told p.fields uses k.field.class ≡ true
-  told_frozen fi k Open e u = absurd (u.0 k)
-  told_frozen fi k Frozen e u = told_by p.fields uses k.field.class fi k.field Frozen k.is e (is_same k.field.class)
-  told_frozen fi k Guarded e u = told_by p.fields uses k.field.class fi k.field Guarded k.is e (is_same k.field.class)
+  told_frozen fi k Open e u = absurd (u.0 (inl k))
+  told_frozen fi k Frozen e u = told_by p.fields uses k.field.class fi k.field Frozen k.is e (counts_instance k.field Frozen refl k.instance)
+  told_frozen fi k Guarded e u = told_by p.fields uses k.field.class fi k.field Guarded k.is e (counts_instance k.field Guarded refl k.instance)
 
   told_guarded : (fi : ℕ) (k : IsGuardedField p tags fi) (used : FieldUse) → slice_get uses fi ≡ Some used → IsUse p tags fi used → is_told p.fields uses k.field.class ≡ true
-  told_guarded fi k Open e u = absurd (u.1 k)
-  told_guarded fi k Frozen e u = told_by p.fields uses k.field.class fi k.field Frozen k.is e (is_same k.field.class)
-  told_guarded fi k Guarded e u = told_by p.fields uses k.field.class fi k.field Guarded k.is e (is_same k.field.class)
+  told_guarded fi k Open e u = absurd (u.1 (inl k))
+  told_guarded fi k Frozen e u = told_by p.fields uses k.field.class fi k.field Frozen k.is e (counts_instance k.field Frozen refl k.instance)
+  told_guarded fi k Guarded e u = told_by p.fields uses k.field.class fi k.field Guarded k.is e (counts_instance k.field Guarded refl k.instance)
 
   those : (class : ℕ) → is_told p.fields uses class ≡ true → IsFrozenClass p tags class
   those class e = let k = closed_by p.fields uses class e in frozen_class class k.fi k.field k.used k.is (are.each k.fi k.used k.used_is) k.counted

@@ -11,7 +11,6 @@ use Rattle.jvm_types.specs.declared.code.Op.{Op}
 use Rattle.jvm_types.specs.declared.code.Op.TheVariants as ops
 use Rattle.jvm_types.specs.declared.program.MethodInfo.{MethodInfo}
 use Rattle.jvm_types.specs.declared.program.Program.{Program}
-use Rattle.checked_program.specs.FrozenPlaces.{locks_this}
 use Rattle.checked_program.specs.Marks.{HasMark, IsMarkOf}
 use Rattle.checked_program.specs.Sections.{Section, block_at, sections, sections_from}
 use Rattle.checked_program.specs.TaggedCode.{Tagged}
@@ -19,7 +18,7 @@ use Rattle.checked_program.specs.declared.section.FieldUse.{FieldUse}
 use Rattle.checked_program.specs.declared.section.SectionMark.{SectionMark}
 use Rattle.checked_program.specs.declared.section.Spot.{Spot}
 use Rattle.checked_program.specs.declared.section.Spot.TheVariants.{Method, Block}
-use Rattle.machine_types.specs.MarkLaws.{MarkedHasMark, MarkedLocksThis}
+use Rattle.machine_types.specs.MarkLaws.{MarkedHasMark}
 use Rattle.machine_types.specs.Sections.{is_same_spot, is_marked}
 use Rattle.machine_types.specs.Standing.{tags_of}
 use Rattle.machine_types.proofs.Lists.{first_or_more}
@@ -57,60 +56,3 @@ module _ (p : Program) (tags : Tagged) (uses : List FieldUse) (method : ℕ) (sp
 
 pub marked_has_mark : MarkedHasMark
 marked_has_mark c method spot k e = (has_mark c.program (tags_of c) k.uses method spot (sections c.program) c.marks k.each e).1
-
--- ---- a section that is a whole method
-
-no_method : (pc : ℕ) (op : Op) (spot : Spot) → block_at pc op ≡ Some spot → spot ≡ Method → ⊥
-no_method pc ops.Monitorenter spot e m = cc
-no_method pc op spot e m = cc
-
-abbrev section_in : (mi : ℕ) → Spot → Section
-section_in mi spot = record { method = mi; spot = spot }
-
--- a whole method is none of the blocks
-behind_blocks : (mi : ℕ) (code : List Insn) (rest : List Section) (s : Section) → s.spot ≡ Method → Contains (map (section_in mi) (filter_map (λ insn. block_at insn.pc insn.op) code) ++ rest) s → Contains rest s
-behind_blocks mi [] rest s whole k = k
-behind_blocks mi (x ∷ code) rest s whole k = by_block (block_at x.pc x.op) refl k (behind_blocks mi code rest s whole)
-  where
-    more : List Section
-    more = map (section_in mi) (filter_map (λ insn. block_at insn.pc insn.op) code) ++ rest
-
-    by_block : (o : Option Spot) → block_at x.pc x.op ≡ o → Contains (map (section_in mi) (cons_option o (filter_map (λ insn. block_at insn.pc insn.op) code)) ++ rest) s → (Contains more s → Contains rest s) → Contains rest s
-    by_block None e k next = next k
-    by_block (Some spot) e k next = ⊎_elim
-        (λ (is : s ≡ section_in mi spot). absurd (no_method x.pc x.op spot e (sym (ap (λ (y : Section). y.spot) is) ∙ whole)))
-        next
-        (first_or_more (section_in mi spot) more s k)
-
--- its method, by the number among those from one on
-record IsLocking (mi : ℕ) (ms : List MethodInfo) (s : Section) : Type 0 where
-  number : ℕ
-  method : MethodInfo
-  is : slice_get ms number ≡ Some method
-  place : s.method ≡ mi + number
-  locks : locks_this method ≡ true
-
-locking : (mi : ℕ) (ms : List MethodInfo) (s : Section) → s.spot ≡ Method → Contains (sections_from mi ms) s → IsLocking mi ms s
-locking mi [] s whole k = absurd (let below : k.0 < 0 = k.1 in omega (arith, below))
-locking mi (m ∷ ms) s whole k = by_flag (locks_this m) refl k (λ k. locking (suc mi) ms s whole (behind_blocks mi m.code (sections_from (suc mi) ms) s whole k))
-  where
-    blocks : List Spot
-    blocks = filter_map (λ insn. block_at insn.pc insn.op) m.code
-
-    later : IsLocking (suc mi) ms s → IsLocking mi (m ∷ ms) s
-    later r = record { number = suc r.number; method = r.method; is = r.is; place = omega (arith, r.place); locks = r.locks }
-
-    by_flag : (b : Bool) → locks_this m ≡ b → Contains (map (section_in mi) (cond b (Method ∷ []) [] ++ blocks) ++ sections_from (suc mi) ms) s
-        → (Contains (map (section_in mi) blocks ++ sections_from (suc mi) ms) s → IsLocking (suc mi) ms s) → IsLocking mi (m ∷ ms) s
-    by_flag true e k next = ⊎_elim
-        (λ (is : s ≡ section_in mi Method). record { number = 0; method = m; is = refl; place = ap (λ (x : Section). x.method) is ∙ omega arith; locks = e })
-        (λ (k : Contains (map (section_in mi) blocks ++ sections_from (suc mi) ms) s). later (next k))
-        (first_or_more (section_in mi Method) (map (section_in mi) blocks ++ sections_from (suc mi) ms) s k)
-    by_flag false e k next = later (next k)
-
-pub marked_locks_this : MarkedLocksThis
-marked_locks_this c method m k e there =
-    let s : Section = record { method = method; spot = Method } in
-    let r : IsLocking 0 c.program.methods s = locking 0 c.program.methods s refl (has_mark c.program (tags_of c) k.uses method Method (sections c.program) c.marks k.each e).0 in
-    let at : method ≡ r.number = omega (arith, r.place) in
-    ap locks_this (same_some (sym there ∙ ap (slice_get c.program.methods) at ∙ r.is)) ∙ r.locks

@@ -23,7 +23,7 @@ use Rattle.machine_types.specs.Threads.{Thread, Config, fresh}
 use Rattle.machine_types.specs.Words.{header_word}
 use Rattle.machine_types.proofs.AtStart.{thread_in, is_start_thread}
 use Rattle.machine_types.proofs.FactsAtStart.{facts, objects_are}
-use Rattle.machine_types.proofs.PlacesAtStart.{object_placed, stands, IsValueOf, value_at as value_of_field}
+use Rattle.machine_types.proofs.PlacesAtStart.{lies_apart, object_placed, stands, IsValueOf, value_at as value_of_field}
 use Rattle.machine_types.proofs.WordsAtStart.{header_is, static_is}
 
 -- ---- places: a header, or a static field
@@ -126,4 +126,5 @@ stands_beside c cfg frozen is are = record {
   facts = facts c cfg frozen is are;
   agrees = agrees c cfg is;
   objects = subst (λ (os : List Object). ArePlainObjects os (plain_start c.program)) (sym (objects_are c cfg frozen is are)) (plain_objects c.program);
+  statics = (lies_apart c.program is).there;
 }

@@ -1,9 +1,10 @@
 -- Attempts: while the lock word is as an attempt noted it, what is due of the attempt leads from its entry to where its thread
 -- is now; a limit is no exception. So at the finish the section can stand in the plain run as a whole.
 use Rattle.std.specs.Prelude.{◌≡◌, ℕ, List, [], Contains, Option, Some, None, slice_get, slice_index}
+use Rattle.jvm_types.specs.ClassNames.{file_of_class}
 use Rattle.jvm_types.specs.declared.outcome.End.{End}
 use Rattle.jvm_types.specs.declared.program.FieldInfo.{FieldInfo}
-use Rattle.checked_program.specs.FrozenPlaces.{IsFrozenField, IsGuardedField}
+use Rattle.checked_program.specs.FrozenPlaces.{IsFrozenField, IsFrozenStatic, IsGuardedField, IsGuardedStatic}
 use Rattle.checked_program.specs.MarkedProgram.{MarkedProgram}
 use Rattle.machine_types.specs.Core.{Core}
 use Rattle.machine_types.specs.History.{Past, Told, past_at}
@@ -12,7 +13,7 @@ use Rattle.machine_types.specs.declared.lock.LockWord.TheVariants as locks
 use Rattle.machine_types.specs.PlainMemory.{Object}
 use Rattle.machine_types.specs.Threads.{Attempt, Thread}
 use Rattle.machine_types.specs.declared.phase.Phase.{Phase}
-use Rattle.machine_types.specs.Words.{header_word, value_word}
+use Rattle.machine_types.specs.Words.{class_object, header_word, value_word}
 use Rattle.jvm_types.specs.declared.fixed_words.TheConstants.{NEXT_FREE_WORD}
 use Rattle.machine_types.specs.Replay.{replayed, at_entry, at_present}
 use Rattle.machine_types.specs.Standing.{tags_of}
@@ -33,6 +34,8 @@ pub data Stays (c : MarkedProgram) (objects : List Object) (w : World) (next t m
   header : (o : Object) → Contains objects o → x ≡ header_word o.reference → Stays c objects w next t m x
   frozen : (fi : ℕ) (o : Object) → IsFrozenField c.program (tags_of c) fi → IsFieldAt c objects w next t fi x o → Stays c objects w next t m x
   guarded : (fi : ℕ) (o : Object) → IsGuardedField c.program (tags_of c) fi → o.reference ≡ m → IsFieldAt c objects w next t fi x o → Stays c objects w next t m x
+  frozen_static : (fi : ℕ) (k : IsFrozenStatic c.program fi) → x ≡ k.field.index → Stays c objects w next t m x
+  guarded_static : (fi : ℕ) (k : IsGuardedStatic c.program (tags_of c) fi) → class_object c.program (file_of_class k.field.class) ≡ m → x ≡ k.field.index → Stays c objects w next t m x
 
 -- ---- the fact
 

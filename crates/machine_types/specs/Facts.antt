@@ -1,10 +1,13 @@
 -- All that holds in every state that is reached: what holds of one state, with what the facts share; and the same beside the
 -- plain state that the run stands for.
-use Rattle.std.specs.Prelude.{◌≡◌, ◌≢◌, ℕ, Bool, List, length, Contains, Some, slice_get, slice_index}
+use Rattle.std.specs.Prelude.{◌≡◌, ◌≢◌, ℕ, Bool, true, List, length, Contains, Some, slice_get, slice_index}
+use Rattle.jvm_types.specs.Members.{is_static}
+use Rattle.jvm_types.specs.declared.program.FieldInfo.{FieldInfo}
+use Rattle.jvm_types.specs.declared.program.Program.{Program}
 use Rattle.checked_program.specs.MarkedProgram.{MarkedProgram}
 use Rattle.machine_types.specs.Agreement.{Agrees}
 use Rattle.machine_types.specs.History.{Told}
-use Rattle.machine_types.specs.PlainMemory.{Object, start_objects, start_statics}
+use Rattle.machine_types.specs.PlainMemory.{Object, StaticValue, start_objects, start_statics}
 use Rattle.machine_types.specs.PlainState.{Plain}
 use Rattle.machine_types.specs.Threads.{Thread, Config}
 use Rattle.jvm_types.specs.declared.fixed_words.TheConstants.{NEXT_FREE_WORD}
@@ -55,7 +58,12 @@ pub record Facts (c : MarkedProgram) (cfg : Config) (told : Told) : Type 0 where
 abbrev pub ArePlainObjects : List Object → Plain → Type 0
 ArePlainObjects objects q = (o : Object) → Contains objects o → (e : Object) × Contains q.objects e × (e.reference ≡ o.reference) × (e.class ≡ o.class) × (length e.values ≡ length o.values)
 
+-- each static field has its word there
+abbrev pub HavePlainStatics : Program → Plain → Type 0
+HavePlainStatics p q = (number : ℕ) (f : FieldInfo) → slice_get p.fields number ≡ Some f → is_static f.flags ≡ true → (s : StaticValue) × Contains q.statics s × (s.word ≡ f.index)
+
 pub record FactsBeside (c : MarkedProgram) (cfg : Config) (told : Told) (q : Plain) : Type 0 where
   pub facts : Facts c cfg told
   pub agrees : Agrees c.program told.core q
   pub objects : ArePlainObjects facts.objects q
+  pub statics : HavePlainStatics c.program q

@@ -1,11 +1,8 @@
 -- What the marks of a program tell the running machine: which classes are frozen, and that a section marked 0 breaks no rule.
 use Rattle.std.specs.Prelude.{◌≡◌, ℕ, Bool, true, Some, slice_get}
-use Rattle.jvm_types.specs.declared.program.MethodInfo.{MethodInfo}
-use Rattle.checked_program.specs.FrozenPlaces.{locks_this}
 use Rattle.checked_program.specs.Marks.{HasMark, AreMarks}
 use Rattle.checked_program.specs.MarkedProgram.{MarkedProgram}
 use Rattle.checked_program.specs.declared.section.Spot.{Spot}
-use Rattle.checked_program.specs.declared.section.Spot.TheVariants.{Method}
 use Rattle.machine_types.specs.Construction.{AreFrozen}
 use Rattle.machine_types.specs.Sections.{is_marked}
 use Rattle.machine_types.specs.Standing.{tags_of}
@@ -13,10 +10,6 @@ use Rattle.machine_types.specs.Standing.{tags_of}
 -- a test tells some frozen classes, among them each with a frozen or a guarded field
 abbrev pub HasFrozenTest : Type 0
 HasFrozenTest = (c : MarkedProgram) → AreMarks c.program (tags_of c) c.marks → (frozen : ℕ → Bool) × AreFrozen c frozen
-
--- a method whose own section the machine takes as marked locks its receiver
-abbrev pub MarkedLocksThis : Type 0
-MarkedLocksThis = (c : MarkedProgram) (method : ℕ) (m : MethodInfo) → AreMarks c.program (tags_of c) c.marks → is_marked c.marks method Method ≡ true → slice_get c.program.methods method ≡ Some m → locks_this m ≡ true
 
 -- a section that the machine takes as marked has the mark 0
 abbrev pub MarkedHasMark : Type 0

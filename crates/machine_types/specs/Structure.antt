@@ -1,6 +1,7 @@
 -- How what a thread holds, its phase and its attempt agree with what its frames show: its locking is structured (JVMS 2.11.10).
 use Rattle.std.specs.Prelude.{◌≡◌, ◌≢◌, ℕ, ◌⊎◌, ◌+◌, ◌-◌, ◌<◌, ◌==◌, Bool, true, false, List, [], ◌∷◌, length, take, unwrap_or, slice_get, Option, Some, None, if◌then◌else◌}
 use Rattle.std.specs.List.{AllZip, Contains}
+use Rattle.jvm_types.specs.ClassNames.{file_of_class}
 use Rattle.jvm_types.specs.CodeTable.{can_throw}
 use Rattle.jvm_types.specs.Members.{is_synchronized}
 use Rattle.jvm_types.specs.Verifying.{is_return}
@@ -10,11 +11,12 @@ use Rattle.jvm_types.specs.declared.code.Op.TheVariants as ops
 use Rattle.jvm_types.specs.declared.outcome.End.{End}
 use Rattle.jvm_types.specs.declared.outcome.End.TheVariants as ends
 use Rattle.checked_program.specs.FrozenPlaces.{AreUses}
-use Rattle.checked_program.specs.Sections.{Section}
+use Rattle.checked_program.specs.Sections.{Section, section_mode}
 use Rattle.checked_program.specs.SectionLaws.{Part, AreParts}
 use Rattle.checked_program.specs.Marks.{HasMark}
 use Rattle.checked_program.specs.MarkedProgram.{MarkedProgram}
 use Rattle.checked_program.specs.declared.section.Mode.{Mode}
+use Rattle.checked_program.specs.declared.section.Mode.TheVariants.{OnClass}
 use Rattle.checked_program.specs.declared.section.FieldUse.{FieldUse}
 use Rattle.machine_types.specs.Elision.{put_back}
 use Rattle.machine_types.specs.Frames.{monitor_of}
@@ -31,6 +33,8 @@ use Rattle.machine_types.specs.declared.phase.After.TheVariants as afters
 use Rattle.machine_types.specs.declared.phase.Toward.{Toward}
 use Rattle.machine_types.specs.declared.phase.Toward.TheVariants as towards
 use Rattle.machine_types.specs.declared.phase.Phase.TheVariants as phases
+use Rattle.machine_types.specs.Words.{class_object}
+use Rattle.jvm_types.specs.declared.program.Program.{Program}
 
 -- ---- how often a monitor is entered
 
@@ -238,6 +242,14 @@ IsPhaseInside m phase = ⊥
 abbrev pub section_of : Attempt → Section
 section_of a = record { method = a.entry.method; spot = entered_at a.entry.pc }
 
+-- the monitor of a section: of its class, or of the receiver of its frame
+abbrev pub mode_monitor : Program → (receiver : ℕ) → Mode → ℕ
+mode_monitor p receiver (OnClass class) = class_object p (file_of_class class)
+mode_monitor p receiver mode = receiver
+
+abbrev pub section_monitor : Program → Section → (receiver : ℕ) → ℕ
+section_monitor p s receiver = mode_monitor p receiver (section_mode p s)
+
 -- its frames, from the top one down to the one that entered the section
 abbrev pub frames_inside : Attempt → List Frame → List Frame
 frames_inside a frames = take (length frames - a.base) frames
@@ -247,7 +259,7 @@ IsPart c f part = (k : Standing c f) × (part ≡ record { method = f.method; at
 
 -- they are parts of the section
 abbrev pub RunsSection : MarkedProgram → Attempt → List Frame → Type 0
-RunsSection c a fs = (parts : List Part) × (mode : Mode) × AllZip (IsPart c) fs parts × AreParts c.program (tags_of c) (section_of a) a.monitor parts mode
+RunsSection c a fs = (parts : List Part) × (mode : Mode) × AllZip (IsPart c) fs parts × AreParts c.program (tags_of c) (section_of a) a.entry.receiver parts mode
 
 -- the section is done but for its last look at the lock word
 pub record Finishes (a : Attempt) (phase : Phase) (fs : List Frame) : Type 0 where
@@ -256,7 +268,7 @@ pub record Finishes (a : Attempt) (phase : Phase) (fs : List Frame) : Type 0 whe
   pub frame : Frame
   pub alone : fs ≡ frame ∷ []
   pub method : frame.method ≡ a.entry.method
-  pub receiver : frame.receiver ≡ a.monitor
+  pub receiver : frame.receiver ≡ a.entry.receiver
 
 pub record AttemptStands (c : MarkedProgram) (phase : Phase) (fs : List Frame) (held : List Held) (a : Attempt) : Type 0 where
   pub inside : IsPhaseInside a.monitor phase
@@ -264,7 +276,7 @@ pub record AttemptStands (c : MarkedProgram) (phase : Phase) (fs : List Frame) (
   pub based : a.base < length fs
   -- with the frame of the entry put back, the thread stands as it did then
   pub goes_back : Stands c (phases.Enter a.monitor a.number) (put_back a fs) held None
-  pub receiver : a.entry.receiver ≡ a.monitor
+  pub monitor : a.monitor ≡ section_monitor c.program (section_of a) a.entry.receiver
   pub uses : List FieldUse
   pub are_uses : AreUses c.program (tags_of c) uses
   pub marked : HasMark c.program (tags_of c) uses (section_of a) 0

@@ -1,6 +1,6 @@
 //! Laws of the marks of a program, each the contract of a function that does nothing.
 
-ghost use Rattle.machine_types.specs.MarkLaws.{HasFrozenTest, MarkedHasMark, MarkedLocksThis};
+ghost use Rattle.machine_types.specs.MarkLaws.{HasFrozenTest, MarkedHasMark};
 
 /// A test tells some frozen classes, among them each with a frozen or a guarded field.
 pub fn frozen_classes_are_told()
@@ -11,9 +11,4 @@ pub fn frozen_classes_are_told()
 /// its lock.
 pub fn marked_has_mark()
     ensures { MarkedHasMark }
-{}
-
-/// A method whose own section the machine takes as marked locks its receiver, and not its class.
-pub fn marked_locks_this()
-    ensures { MarkedLocksThis }
 {}

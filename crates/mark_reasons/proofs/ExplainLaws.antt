@@ -14,11 +14,10 @@ use Rattle.checked_program.proofs.CalledMethods.{methods_few}
 use Rattle.checked_program.specs.MarkedProgram.{MarkedProgram, IsMarked}
 use Rattle.checked_program.specs.TaggedCode.{Tagged, tagged_by}
 use Rattle.checked_program.specs.FrozenPlaces.{AreUses}
-use Rattle.checked_program.specs.Sections.{Section, sections, IsOwn}
+use Rattle.checked_program.specs.Sections.{Section, sections, section_mode, IsOwn}
 use Rattle.checked_program.specs.Marks.{BreaksAt, OwnBreaks, HasMark, IsMarkOf, AreMarks}
 use Rattle.checked_program.specs.declared.tag.Tags.{Tags}
 use Rattle.checked_program.specs.declared.section.SectionMark.{SectionMark}
-use Rattle.checked_program.specs.declared.section.Mode.TheVariants.{OnThis}
 use Rattle.checked_program.specs.declared.section.FieldUse.{FieldUse}
 use Rattle.laws_sections.proofs.OneMarks.{one_use}
 use Rattle.guard_analysis.proofs.CalleesFound.{breaks_one}
@@ -36,27 +35,27 @@ use Rattle.mark_reasons.proofs.SearchLaws.{last_got}
 module _ (p : Program) (uses : List FieldUse) (tags : List Tags) (is : IsProgram p) (s : Section) (m : MethodInfo) (t : Tags) (own : List Bool)
     (at_m : slice_get p.methods s.method ≡ Some m) (at_t : slice_get tags s.method ≡ Some t) (are : AreOwn p (tagged_by tags) s.method s.spot own) where
   -- one that breaks a rule passes the test
-  own_here : (rule i : ℕ) → IsOwn p (tagged_by tags) s.method s.spot i → BreaksAt p (tagged_by tags) uses (own_callee s) i rule → own_breaks p uses m t own rule i ≡ true
+  own_here : (rule i : ℕ) → IsOwn p (tagged_by tags) s.method s.spot i → BreaksAt p (tagged_by tags) uses (own_callee p s) i rule → own_breaks p uses (section_mode p s) m t own rule i ≡ true
   own_here rule i o b =
-      let fault : node_fault p uses (Some m) (Some t) OnThis i ≡ rule = fault_known p uses tags is s.method m t at_m at_t OnThis i rule b in
-      let test : (node_fault p uses (Some m) (Some t) OnThis i == rule) ≡ true = grind (arith, nat_tests) in
+      let fault : node_fault p uses (Some m) (Some t) (section_mode p s) i ≡ rule = fault_known p uses tags is s.method m t at_m at_t (section_mode p s) i rule b in
+      let test : (node_fault p uses (Some m) (Some t) (section_mode p s) i == rule) ≡ true = grind (arith, nat_tests) in
       let flag : slice_index_or own i false ≡ true = are.all i o in
       rw (flag, test) refl
 
-  own_before : (rule i : ℕ) → ((j : ℕ) → j < i → own_breaks p uses m t own rule j ≡ false) → (j : ℕ) → j < i → IsOwn p (tagged_by tags) s.method s.spot j → BreaksAt p (tagged_by tags) uses (own_callee s) j rule → ⊥
+  own_before : (rule i : ℕ) → ((j : ℕ) → j < i → own_breaks p uses (section_mode p s) m t own rule j ≡ false) → (j : ℕ) → j < i → IsOwn p (tagged_by tags) s.method s.spot j → BreaksAt p (tagged_by tags) uses (own_callee p s) j rule → ⊥
   own_before rule i none j l o b = let bad : true ≡ false = sym (own_here rule j o b) ∙ none j l in cc
 
-  pub own_is_fault : (rule i : ℕ) → 0 < rule → own_breaks p uses m t own rule i ≡ true → ((j : ℕ) → j < i → own_breaks p uses m t own rule j ≡ false) → LeadsToFault p (tagged_by tags) uses s [] (own_site s.method i) rule
+  pub own_is_fault : (rule i : ℕ) → 0 < rule → own_breaks p uses (section_mode p s) m t own rule i ≡ true → ((j : ℕ) → j < i → own_breaks p uses (section_mode p s) m t own rule j ≡ false) → LeadsToFault p (tagged_by tags) uses s [] (own_site (section_mode p s) s.method i) rule
   own_is_fault rule i l e none =
-      let both = and_parts (slice_index_or own i false) (node_fault p uses (Some m) (Some t) OnThis i == rule) e in
-      let test : (node_fault p uses (Some m) (Some t) OnThis i == rule) ≡ true = both.1 in
-      let same : node_fault p uses (Some m) (Some t) OnThis i ≡ rule = grind (arith, nat_tests) in
-      let some : 0 < node_fault p uses (Some m) (Some t) OnThis i = omega (arith, l, same) in
-      record { leads = refl; own = are.only i both.0; breaks = subst (λ r. BreaksAt p (tagged_by tags) uses (own_callee s) i r) same (breaks_one p uses tags is (own_callee s) m t i at_m at_t some); first = own_before rule i none; shortest = λ x xs site r leads o breaks. let less : 0 ≤ suc (length xs) = omega arith in less }
+      let both = and_parts (slice_index_or own i false) (node_fault p uses (Some m) (Some t) (section_mode p s) i == rule) e in
+      let test : (node_fault p uses (Some m) (Some t) (section_mode p s) i == rule) ≡ true = both.1 in
+      let same : node_fault p uses (Some m) (Some t) (section_mode p s) i ≡ rule = grind (arith, nat_tests) in
+      let some : 0 < node_fault p uses (Some m) (Some t) (section_mode p s) i = omega (arith, l, same) in
+      record { leads = refl; own = are.only i both.0; breaks = subst (λ r. BreaksAt p (tagged_by tags) uses (own_callee p s) i r) same (breaks_one p uses tags is (own_callee p s) m t i at_m at_t some); first = own_before rule i none; shortest = λ x xs site r leads o breaks. let less : 0 ≤ suc (length xs) = omega arith in less }
 
-  pub own_none : (rule : ℕ) → OwnBreaks p (tagged_by tags) uses s rule → IsFirst (λ i. own_breaks p uses m t own rule i) (length m.code) None → ⊥
+  pub own_none : (rule : ℕ) → OwnBreaks p (tagged_by tags) uses s rule → IsFirst (λ i. own_breaks p uses (section_mode p s) m t own rule i) (length m.code) None → ⊥
   own_none rule o none =
-      let bad : true ≡ false = sym (own_here rule o.i o.own o.breaks) ∙ none o.i (inside_breaks p uses tags is s.method m t at_m at_t OnThis o.i rule o.breaks) in
+      let bad : true ≡ false = sym (own_here rule o.i o.own o.breaks) ∙ none o.i (inside_breaks p uses tags is s.method m t at_m at_t (section_mode p s) o.i rule o.breaks) in
       cc
 
 -- ---- all marks

@@ -6,10 +6,9 @@ use Rattle.jvm_types.specs.ProgramInvariant.{IsProgram}
 use Rattle.jvm_types.specs.declared.program.MethodInfo.{MethodInfo}
 use Rattle.jvm_types.specs.declared.program.Program.{Program}
 use Rattle.checked_program.specs.TaggedCode.{Tagged, tagged_by}
-use Rattle.checked_program.specs.Sections.{Section}
-use Rattle.checked_program.specs.Marks.{callee, IsOnThis, OwnBreaks, CalleeBreaks, CalleeRecurs, Applies, elsewhere, itself, called, recurring, HasMark, turn}
+use Rattle.checked_program.specs.Sections.{Section, section_mode}
+use Rattle.checked_program.specs.Marks.{callee, IsOnOwn, OwnBreaks, CalleeBreaks, CalleeRecurs, Applies, elsewhere, itself, called, recurring, HasMark, turn}
 use Rattle.checked_program.specs.declared.tag.Tags.{Tags}
-use Rattle.checked_program.specs.declared.section.Mode.TheVariants.{OnThis}
 use Rattle.checked_program.specs.declared.section.FieldUse.{FieldUse}
 use Rattle.graph_closure.specs.Walks.{AreRecurring}
 use Rattle.guard_analysis.specs.CallGraph.{node_of, call_graph}
@@ -26,7 +25,7 @@ use Rattle.mark_reasons.proofs.Nodes.{calls_known, inside_calls}
 
 module _ (p : Program) (tags : Tagged) (uses : List FieldUse) (s : Section) where
   own_low : (n : ℕ) → OwnBreaks p tags uses s n → n ≤ 5
-  own_low n o = subst (λ x. x ≤ 5) o.breaks.fault_is (fault_low p uses OnThis o.breaks.insn.op o.breaks.target o.breaks.f.stack)
+  own_low n o = subst (λ x. x ≤ 5) o.breaks.fault_is (fault_low p uses (section_mode p s) o.breaks.insn.op o.breaks.target o.breaks.f.stack)
 
   -- M1 to M5
   pub own_breaks : (n : ℕ) → n ≤ 5 → Applies p tags uses s n → OwnBreaks p tags uses s n
@@ -50,7 +49,7 @@ module _ (p : Program) (tags : Tagged) (uses : List FieldUse) (s : Section) wher
   callee_recurs n q (recurring e c) = c
 
   -- M8
-  pub is_elsewhere : (n : ℕ) → n ≡ 8 → Applies p tags uses s n → IsOnThis p tags s.method s.spot → ⊥
+  pub is_elsewhere : (n : ℕ) → n ≡ 8 → Applies p tags uses s n → IsOnOwn p tags s.method s.spot → ⊥
   is_elsewhere n q (elsewhere e off) = off
   is_elsewhere n q (itself o) = absurd (omega (arith, q, own_low n o))
   is_elsewhere n q (called e c) = absurd (omega (arith, q, e))
@@ -76,7 +75,7 @@ module _ (p : Program) (tags : Tagged) (uses : List FieldUse) (s : Section) wher
   applies (suc n) l h = h.0
 
   -- a section of another mark is on this
-  pub not_off : (n : ℕ) → 0 < n → n < 8 → HasMark p tags uses s n → (IsOnThis p tags s.method s.spot → ⊥) → ⊥
+  pub not_off : (n : ℕ) → 0 < n → n < 8 → HasMark p tags uses s n → (IsOnOwn p tags s.method s.spot → ⊥) → ⊥
   not_off zero l low h off = omega (arith, l)
   not_off (suc n) l low h off = h.1 8 (let first : turn 8 < turn (suc n) = before n low in first) (elsewhere refl off)
     where
@@ -91,14 +90,14 @@ module _ (p : Program) (tags : Tagged) (uses : List FieldUse) (s : Section) wher
   method_there n l (recurring e c) = (c.is_called.calls.m, c.is_called.calls.at.in_program)
 
 -- an own instruction calls a node that leads to a cycle
-module _ (p : Program) (tags : List Tags) (is : IsProgram p) (recurs : List Bool) (are : AreRecurring (call_graph p tags).from (call_graph p tags).to (2 * length p.methods) recurs) (s : Section)
+module _ (p : Program) (tags : List Tags) (is : IsProgram p) (recurs : List Bool) (are : AreRecurring (call_graph p tags).from (call_graph p tags).to (3 * length p.methods) recurs) (s : Section)
     (m : MethodInfo) (t : Tags) (own : List Bool) (at_m : slice_get p.methods s.method ≡ Some m) (at_t : slice_get tags s.method ≡ Some t) (flags : AreOwn p (tagged_by tags) s.method s.spot own) where
-  pub own_turns : CalleeRecurs p (tagged_by tags) s → IsFirst (λ i. turns recurs (own_call p m t.frames own i)) (length m.code) None → ⊥
+  pub own_turns : CalleeRecurs p (tagged_by tags) s → IsFirst (λ i. turns recurs (own_call p (section_mode p s) m t.frames own i)) (length m.code) None → ⊥
   own_turns c none =
       let k = c.is_called in
       let leads : LeadsToItself p (tagged_by tags) k.first = record { called = c.called; over = k.over; through = k.through; recurs = c.recurs } in
-      let flag : slice_index_or recurs (node_of k.first) false ≡ true = itself_flagged p tags is recurs are k.first (called_inside p (tagged_by tags) is (callee s.method OnThis) k.first k.i k.calls) leads in
+      let flag : slice_index_or recurs (node_of k.first) false ≡ true = itself_flagged p tags is recurs are k.first (called_inside p (tagged_by tags) is (callee s.method (section_mode p s)) k.first k.i k.calls) leads in
       let own_flag : slice_index_or own k.i false ≡ true = flags.all k.i k.own in
-      let call : own_call p m t.frames own k.i ≡ Some (node_of k.first) = rw own_flag (calls_known p [] tags is s.method m t at_m at_t OnThis k.i k.first k.calls) in
-      let bad : true ≡ false = sym (ap (λ o. turns recurs o) call ∙ flag) ∙ none k.i (inside_calls p [] tags is s.method m t at_m at_t OnThis k.i k.first k.calls) in
+      let call : own_call p (section_mode p s) m t.frames own k.i ≡ Some (node_of k.first) = rw own_flag (calls_known p [] tags is s.method m t at_m at_t (section_mode p s) k.i k.first k.calls) in
+      let bad : true ≡ false = sym (ap (λ o. turns recurs o) call ∙ flag) ∙ none k.i (inside_calls p [] tags is s.method m t at_m at_t (section_mode p s) k.i k.first k.calls) in
       cc

@@ -17,7 +17,7 @@ use Rattle.code_table.proofs.NumbersExact.{exact}
 use Rattle.laws_programs.proofs.CodeOrder.{methods_laid_out}
 use Rattle.checked_program.specs.LockTags.{TagShape}
 use Rattle.checked_program.specs.TaggedCode.{tagged_by, IsInstructionReached, IsAt}
-use Rattle.checked_program.specs.Marks.{IsOnThis}
+use Rattle.checked_program.specs.Marks.{IsOnOwn}
 use Rattle.checked_program.specs.declared.tag.Tags.{Tags}
 use Rattle.checked_program.specs.declared.section.Spot.TheVariants.{Method, Block}
 use Rattle.guard_analysis.specs.BlockWalks.{deep_at, is_deep, IsPathInBlock, IsInside, Has, IsExplored}
@@ -152,21 +152,21 @@ module _ (p : Program) (tags : List Tags) (is : IsProgram p) (mi : ℕ) (m : Met
           ∙ (let target : slice_get m.targets i ≡ Some r.target = target_is i r.m r.insn r.target r.f r.at in let frame : slice_get t.frames i ≡ Some (Some r.f) = frame_is i r.m r.insn r.target r.f r.at in rw (code, target, frame) refl)
 
   -- a block on this begins at the instruction of its pc
-  on_number : (pc : ℕ) → (on : IsOnThis p (tagged_by tags) mi (Block pc)) → number_at m.code pc ≡ Some on.0
+  on_number : (pc : ℕ) → (on : IsOnOwn p (tagged_by tags) mi (Block pc)) → number_at m.code pc ≡ Some on.0
   on_number pc on = (exact m pc on.0 (methods_laid_out p mi m is at_m)).1 (rw (code_is on.0 on.2.m on.2.insn on.2.target on.1 on.2.at) on.2.pc_is)
 
-  pub no_number : (pc : ℕ) → number_at m.code pc ≡ None → IsOnThis p (tagged_by tags) mi (Block pc) → ⊥
+  pub no_number : (pc : ℕ) → number_at m.code pc ≡ None → IsOnOwn p (tagged_by tags) mi (Block pc) → ⊥
   no_number pc e on = let bad : None ≡ Some on.0 = sym e ∙ on_number pc on in cc
 
   module _ (pc enter : ℕ) (at_pc : number_at m.code pc ≡ Some enter) where
-    on_insn : (on : IsOnThis p (tagged_by tags) mi (Block pc)) → slice_get m.code enter ≡ Some on.2.insn
+    on_insn : (on : IsOnOwn p (tagged_by tags) mi (Block pc)) → slice_get m.code enter ≡ Some on.2.insn
     on_insn on = let same : enter ≡ on.0 = same_Some enter on.0 (sym at_pc ∙ on_number pc on) in ap (λ i. slice_get m.code i) same ∙ code_is on.0 on.2.m on.2.insn on.2.target on.1 on.2.at
 
-    not_enter : (insn : Insn) → slice_get m.code enter ≡ Some insn → (insn.op ≡ ops.Monitorenter → ⊥) → IsOnThis p (tagged_by tags) mi (Block pc) → ⊥
+    not_enter : (insn : Insn) → slice_get m.code enter ≡ Some insn → (insn.op ≡ ops.Monitorenter → ⊥) → IsOnOwn p (tagged_by tags) mi (Block pc) → ⊥
     not_enter insn e other on = other (ap (λ (x : Insn). x.op) (same_Some insn on.2.insn (sym e ∙ on_insn on)) ∙ on.2.enters)
 
     entered : (insn : Insn) → slice_get m.code enter ≡ Some insn → insn.pc ≡ pc → insn.op ≡ ops.Monitorenter → (o : Option ℕ) (found : Option (List Bool)) → entry_depth_at m t.frames enter ≡ o → IsDepthAnswer m t.frames enter o found → OwnOrElsewhere p (tagged_by tags) mi (Block pc) found
-    entered insn e pc_is op None found d h = subst (OwnOrElsewhere p (tagged_by tags) mi (Block pc)) (sym h) (subst (λ x. IsOnThis p (tagged_by tags) mi (Block x) → ⊥) pc_is (off_this p tags is mi m t at_m at_t enter insn e op d))
+    entered insn e pc_is op None found d h = subst (OwnOrElsewhere p (tagged_by tags) mi (Block pc)) (sym h) (subst (λ x. IsOnOwn p (tagged_by tags) mi (Block x) → ⊥) pc_is (off_this p tags is mi m t at_m at_t enter insn e op d))
     entered insn e pc_is op (Some depth) None d h = absurd h
     entered insn e pc_is op (Some depth) (Some flags) d h = subst (λ x. AreOwn p (tagged_by tags) mi (Block x) flags) pc_is
         (let x = entry_parts (slice_get m.code enter) (slice_get m.targets enter) (slice_get t.frames enter) depth d in

@@ -9,14 +9,15 @@ use Rattle.std.proofs.lemmas.Option.{same_Some, slice_get_within}
 use Rattle.jvm_types.specs.declared.program.Program.{Program}
 use Rattle.checked_program.specs.TaggedCode.{Tagged}
 use Rattle.checked_program.specs.Sections.{Section, IsOwn}
-use Rattle.checked_program.specs.Marks.{Callee, callee, Calls, CallsThrough, BreaksAt, CalleeBreaks}
-use Rattle.checked_program.specs.declared.section.Mode.TheVariants.{OnThis}
+use Rattle.checked_program.specs.Marks.{Callee, Calls, CallsThrough, BreaksAt, CalleeBreaks}
 use Rattle.checked_program.specs.declared.section.FieldUse.{FieldUse}
 use Rattle.guard_analysis.specs.CallGraph.{node_of}
-use Rattle.mark_reasons.specs.Searches.{callee_at, search_visited, visits, HasNode, HasNodeBy, IsCalled, IsOrdered, IsSearchSound, Searching, unseen, left_of}
+use Rattle.guard_analysis.specs.Faults.{IsModeFor}
+use Rattle.mark_reasons.specs.Reasons.{own_callee}
+use Rattle.mark_reasons.specs.Searches.{callee_at, class_of_section, search_visited, visits, HasNode, HasNodeBy, IsCalled, IsOrdered, IsSearchSound, Searching, unseen, left_of}
 use Rattle.mark_reasons.specs.declared.search.Entry.{Entry}
 use Rattle.mark_reasons.specs.declared.search.Search.{Search}
-use Rattle.mark_reasons.proofs.Nodes.{callee_back}
+use Rattle.mark_reasons.proofs.Nodes.{callee_back, fits_call, fits_through, section_fits}
 
 -- ---- lists with one more behind
 
@@ -206,7 +207,7 @@ module _ (p : Program) (tags : Tagged) (uses : List FieldUse) (s : Section) (n :
 
   pub begins : (calls : ℕ → Option ℕ) (count : ℕ) (w : Search) → IsSearchSound p tags s n w → IsOrdered w.queue 0
       → ((i j : ℕ) → calls i ≡ Some j → (j < n) × IsCalled p tags s w.queue (length w.queue) 0 i j)
-      → ((i : ℕ) (b : Callee) → IsOwn p tags s.method s.spot i → Calls p tags (callee s.method OnThis) i b → (i < count) × (calls i ≡ Some (node_of b)))
+      → ((i : ℕ) (b : Callee) → IsOwn p tags s.method s.spot i → Calls p tags (own_callee p s) i b → (i < count) × (calls i ≡ Some (node_of b)))
       → Searching p tags uses s n 0 (visits calls w 0 count)
   begins calls count w h d c all =
       let r = visits_after p tags s n calls w 0 count h d c in
@@ -219,14 +220,14 @@ module _ (p : Program) (tags : Tagged) (uses : List FieldUse) (s : Section) (n :
       }
 
   module _ (k : ℕ) (w : Search) (e : Entry) (calls : ℕ → Option ℕ) (count : ℕ) (h : Searching p tags uses s n k w) (here : slice_get w.queue k ≡ Some e)
-      (c : (i j : ℕ) → calls i ≡ Some j → (j < n) × Calls p tags (callee_at e.node) i (callee_at j)) where
+      (c : (i j : ℕ) → calls i ≡ Some j → (j < n) × Calls p tags (callee_at (class_of_section p s) e.node) i (callee_at (class_of_section p s) j)) where
     abbrev onward : Search
     onward = visits calls w (suc k) count
 
     after : AfterAll p tags s n calls (suc k) count w onward
     after = visits_after p tags s n calls w (suc k) count h.sound (ordered_more w.queue k h.ordered) (λ i j q. let r = c i j q in (r.0, (slice_get_within w.queue k e here, e, here, r.1)))
 
-    pub goes_on : ((i : ℕ) (b : Callee) → Calls p tags (callee_at e.node) i b → (i < count) × (calls i ≡ Some (node_of b))) → ((i r : ℕ) → BreaksAt p tags uses (callee_at e.node) i r → ⊥) → Searching p tags uses s n (k + 1) onward
+    pub goes_on : ((i : ℕ) (b : Callee) → Calls p tags (callee_at (class_of_section p s) e.node) i b → (i < count) × (calls i ≡ Some (node_of b))) → ((i r : ℕ) → BreaksAt p tags uses (callee_at (class_of_section p s) e.node) i r → ⊥) → Searching p tags uses s n (k + 1) onward
     goes_on all none = record {
       sound = after.sound;
       ordered = subst (λ x. IsOrdered onward.queue x) (let one : suc k ≡ k + 1 = omega arith in one) after.ordered;
@@ -234,13 +235,13 @@ module _ (p : Program) (tags : Tagged) (uses : List FieldUse) (s : Section) (n :
       closed = λ t i x b l g q.
           let low : t < length w.queue = (let inside : k < length w.queue = slice_get_within w.queue k e here in omega (arith, l, inside)) in
           let was : slice_get w.queue t ≡ Some x = was_there w onward t x after.grows low g in
-          ⊎_elim (λ (z : t ≡ k). let same : x ≡ e = same_Some x e (sym was ∙ ap (λ y. slice_get w.queue y) z ∙ here) in let r = all i b (subst (λ (y : Entry). Calls p tags (callee_at y.node) i b) same q) in
+          ⊎_elim (λ (z : t ≡ k). let same : x ≡ e = same_Some x e (sym was ∙ ap (λ y. slice_get w.queue y) z ∙ here) in let r = all i b (subst (λ (y : Entry). Calls p tags (callee_at (class_of_section p s) y.node) i b) same q) in
           subst (λ y. HasNodeBy onward.queue (node_of b) (suc y)) (sym z) (after.found i (node_of b) r.0 r.1))
           (λ (z : t ≢ k). grown_by w onward (node_of b) (suc t) after.grows (h.closed t i x b (omega (arith, l, z)) was q)) (cases_eq t k);
       sane = λ t i r x l g q.
           let low : t < length w.queue = (let inside : k < length w.queue = slice_get_within w.queue k e here in omega (arith, l, inside)) in
           let was : slice_get w.queue t ≡ Some x = was_there w onward t x after.grows low g in
-          ⊎_elim (λ (z : t ≡ k). let same : x ≡ e = same_Some x e (sym was ∙ ap (λ y. slice_get w.queue y) z ∙ here) in none i r (subst (λ (y : Entry). BreaksAt p tags uses (callee_at y.node) i r) same q))
+          ⊎_elim (λ (z : t ≡ k). let same : x ≡ e = same_Some x e (sym was ∙ ap (λ y. slice_get w.queue y) z ∙ here) in none i r (subst (λ (y : Entry). BreaksAt p tags uses (callee_at (class_of_section p s) y.node) i r) same q))
           (λ (z : t ≢ k). h.sane t i r x (omega (arith, l, z)) was q) (cases_eq t k);
     }
 
@@ -250,10 +251,12 @@ module _ (p : Program) (tags : Tagged) (uses : List FieldUse) (s : Section) (n :
   -- where nothing is left, nothing that the section calls breaks a rule
   pub found_none : (k : ℕ) (w : Search) → Searching p tags uses s n k w → length w.queue ≤ k → CalleeBreaks p tags uses s → ⊥
   found_none k w h l b =
-      let r = come b.is_called.first b.is_called.over b.called (has_node w.queue (node_of b.is_called.first) 0 (h.begun b.is_called.i b.is_called.first b.is_called.own b.is_called.calls)) b.is_called.through in
-      h.sane r.0 b.i b.n r.1 (let low : r.0 < length w.queue = slice_get_within w.queue r.0 r.1 r.2 in omega (arith, low, l)) r.2 (subst (λ (x : Callee). BreaksAt p tags uses x b.i b.n) (sym (ap callee_at r.3 ∙ callee_back b.called)) b.breaks)
+      let first_fits : IsModeFor (class_of_section p s) b.is_called.first.mode = fits_call p tags (class_of_section p s) (own_callee p s) b.is_called.i b.is_called.first (section_fits p s) b.is_called.calls in
+      let last_fits : IsModeFor (class_of_section p s) b.called.mode = fits_through p tags (class_of_section p s) b.is_called.first b.is_called.over b.called first_fits b.is_called.through in
+      let r = come b.is_called.first b.is_called.over b.called (has_node w.queue (node_of b.is_called.first) 0 (h.begun b.is_called.i b.is_called.first b.is_called.own b.is_called.calls)) first_fits b.is_called.through in
+      h.sane r.0 b.i b.n r.1 (let low : r.0 < length w.queue = slice_get_within w.queue r.0 r.1 r.2 in omega (arith, low, l)) r.2 (subst (λ (x : Callee). BreaksAt p tags uses x b.i b.n) (sym (ap (callee_at (class_of_section p s)) r.3 ∙ callee_back (class_of_section p s) b.called last_fits)) b.breaks)
     where
-      come : (a : Callee) (over : List Callee) (b : Callee) → HasNode w.queue (node_of a) → CallsThrough p tags a over b → HasNode w.queue (node_of b)
-      come a [] b i c = subst (λ (x : Callee). HasNode w.queue (node_of x)) c i
-      come a (x ∷ xs) b i c =
-          come x xs b (has_node w.queue (node_of x) (suc i.0) (h.closed i.0 c.0.0 i.1 x (let low : i.0 < length w.queue = slice_get_within w.queue i.0 i.1 i.2 in omega (arith, low, l)) i.2 (subst (λ (y : Callee). Calls p tags y c.0.0 x) (sym (ap callee_at i.3 ∙ callee_back a)) c.0.1))) c.1
+      come : (a : Callee) (over : List Callee) (b : Callee) → HasNode w.queue (node_of a) → IsModeFor (class_of_section p s) a.mode → CallsThrough p tags a over b → HasNode w.queue (node_of b)
+      come a [] b i fits c = subst (λ (x : Callee). HasNode w.queue (node_of x)) c i
+      come a (x ∷ xs) b i fits c =
+          come x xs b (has_node w.queue (node_of x) (suc i.0) (h.closed i.0 c.0.0 i.1 x (let low : i.0 < length w.queue = slice_get_within w.queue i.0 i.1 i.2 in omega (arith, low, l)) i.2 (subst (λ (y : Callee). Calls p tags y c.0.0 x) (sym (ap (callee_at (class_of_section p s)) i.3 ∙ callee_back (class_of_section p s) a fits)) c.0.1))) (fits_call p tags (class_of_section p s) a c.0.0 x fits c.0.1) c.1

@@ -8,14 +8,16 @@ use Rattle.jvm_types.specs.declared.program.Program.{Program}
 use Rattle.checked_program.specs.TaggedCode.{Tagged}
 use Rattle.checked_program.specs.Sections.{Section}
 use Rattle.checked_program.specs.Marks.{Callee, Calls, BreaksAt}
+use Rattle.checked_program.specs.declared.section.Mode.{Mode}
 use Rattle.checked_program.specs.declared.section.FieldUse.{FieldUse}
 use Rattle.guard_analysis.specs.CallGraph.{node_of}
+use Rattle.guard_analysis.specs.Faults.{IsModeFor}
 use Rattle.mark_reasons.specs.Reasons.{callee_of, own_callee, IsShortest, IsWay}
-use Rattle.mark_reasons.specs.Searches.{callee_at, site_at, HasNodeBy, IsBack, from_section, from_entry, IsCalled, Searching}
+use Rattle.mark_reasons.specs.Searches.{callee_at, class_of_section, site_at, HasNodeBy, IsBack, from_section, from_entry, IsCalled, Searching}
 use Rattle.mark_reasons.specs.declared.search.Entry.{Entry}
 use Rattle.mark_reasons.specs.declared.search.Search.{Search}
 use Rattle.mark_reasons.specs.declared.reason.Site.{Site}
-use Rattle.mark_reasons.proofs.Nodes.{callee_back}
+use Rattle.mark_reasons.proofs.Nodes.{callee_back, fits_call, section_fits}
 
 -- so many calls led to an entry
 pub data HasCalls (queue : List Entry) : ℕ → ℕ → Type 0 where
@@ -26,13 +28,20 @@ some_calls : (queue : List Entry) (t n : ℕ) → HasCalls queue t n → 0 < n
 some_calls queue _ _ (by_section t e g q) = omega arith
 some_calls queue _ _ (by_entry t c n e g q b) = omega arith
 
-pub back_calls : (method : ℕ) (queue : List Entry) (t : ℕ) (way : List Site) → IsBack method queue t way → HasCalls queue t (length way)
-back_calls method queue _ _ (from_section t e g q) = by_section t e g q
-back_calls method queue _ _ (from_entry t c e b front g q got back) =
-    subst (λ n. HasCalls queue t n) (let long : suc (length front) ≡ length (front ++ site_at b.node e.at ∷ []) = omega (arith, length-append front (site_at b.node e.at ∷ [])) in long)
-    (by_entry t c (length front) e g q (back_calls method queue c front back))
+pub back_calls : (class : ℕ) (own : Mode) (method : ℕ) (queue : List Entry) (t : ℕ) (way : List Site) → IsBack class own method queue t way → HasCalls queue t (length way)
+back_calls class own method queue _ _ (from_section t e g q) = by_section t e g q
+back_calls class own method queue _ _ (from_entry t c e b front g q got back) =
+    subst (λ n. HasCalls queue t n) (let long : suc (length front) ≡ length (front ++ site_at class b.node e.at ∷ []) = omega (arith, length-append front (site_at class b.node e.at ∷ [])) in long)
+    (by_entry t c (length front) e g q (back_calls class own method queue c front back))
 
 module _ (p : Program) (tags : Tagged) (uses : List FieldUse) (s : Section) (n k : ℕ) (w : Search) (h : Searching p tags uses s n k w) where
+  abbrev class : ℕ
+  class = class_of_section p s
+
+  fits_way : (a : Callee) (xs : List Site) (b : Callee) → IsWay p tags a xs b → IsModeFor class a.mode → IsModeFor class b.mode
+  fits_way a [] b way fits = subst (λ (x : Callee). IsModeFor class x.mode) way fits
+  fits_way a (x ∷ xs) b way fits = fits_way way.1 xs b way.3 (fits_call p tags class a x.at way.1 fits way.2)
+
   -- an entry behind another one has no fewer
   no_fewer : (t u m l : ℕ) → t ≤ u → HasCalls w.queue t m → HasCalls w.queue u l → m ≤ l
   no_fewer _ u _ l q (by_section t e g z) b = let some : 0 < l = some_calls w.queue u l b in omega (arith, some)
@@ -92,28 +101,30 @@ module _ (p : Program) (tags : Tagged) (uses : List FieldUse) (s : Section) (n k
     far t m most l a q = let less : found ≤ m = no_fewer k t found m l at_k a in omega (arith, less, q)
 
     -- along a way from a method that has an entry
-    along : (xs : List Site) (a b : Callee) (t m : ℕ) (e : Entry) → IsWay p tags a xs b → slice_get w.queue t ≡ Some e → e.node ≡ node_of a → HasCalls w.queue t m → (found ≤ m + length xs) ⊎ IsNear b (m + length xs)
-    along [] a b t m e way g q calls = ⊎_elim
+    along : (xs : List Site) (a b : Callee) (t m : ℕ) (e : Entry) → IsWay p tags a xs b → IsModeFor class a.mode → slice_get w.queue t ≡ Some e → e.node ≡ node_of a → HasCalls w.queue t m → (found ≤ m + length xs) ⊎ IsNear b (m + length xs)
+    along [] a b t m e way fits g q calls = ⊎_elim
         (λ (l : t < k). inr (record { t = t; e = e; is = g; node = q ∙ ap node_of way; done = l; calls = m; has = calls; few = (let same : m ≤ m + 0 = omega arith in same) }))
         (λ (l : k ≤ t). inl (far t m (m + 0) l calls (let same : m ≤ m + 0 = omega arith in same))) (less_or t)
-    along (x ∷ xs) a b t m e way g q calls = ⊎_elim
+    along (x ∷ xs) a b t m e way fits g q calls = ⊎_elim
         (λ (l : t < k).
-        let r = h.closed t x.at e way.1 l g (subst (λ (y : Callee). Calls p tags y x.at way.1) (sym (ap callee_at q ∙ callee_back a)) way.2) in
+        let r = h.closed t x.at e way.1 l g (subst (λ (y : Callee). Calls p tags y x.at way.1) (sym (ap (callee_at class) q ∙ callee_back class a fits)) way.2) in
         let c = calls_below (suc r.0) r.0 r.1 (let self : r.0 < suc r.0 = omega arith in self) r.2 in
         let more : c.0 ≤ suc m = one_more t m calls r.0 c.0 r.1 r.2 r.4 c.1 in
         let total : c.0 + length xs ≤ m + suc (length xs) = omega (arith, more) in
         ⊎_elim (λ (z : found ≤ c.0 + length xs). inl (let less : found ≤ m + suc (length xs) = omega (arith, z, total) in less))
         (λ (z : IsNear b (c.0 + length xs)). inr (record { t = z.t; e = z.e; is = z.is; node = z.node; done = z.done; calls = z.calls; has = z.has; few = (let few : z.calls ≤ c.0 + length xs = z.few in let less : z.calls ≤ m + suc (length xs) = omega (arith, few, total) in less) }))
-        (along xs way.1 b r.0 c.0 r.1 way.3 r.2 r.3 c.1))
+        (along xs way.1 b r.0 c.0 r.1 way.3 (fits_call p tags class a x.at way.1 fits way.2) r.2 r.3 c.1))
         (λ (l : k ≤ t). inl (far t m (m + suc (length xs)) l calls (let more : m ≤ m + suc (length xs) = omega arith in more))) (less_or t)
 
     -- any way to an instruction that breaks a rule has as many calls as the entry at hand
     pub no_shorter : (way : List Site) → found ≡ length way → IsShortest p tags uses s way
     no_shorter way long x xs site rule leads own breaks =
+        let fits : IsModeFor class leads.1.mode = fits_call p tags class (own_callee p s) x.at leads.1 (section_fits p s) leads.2 in
+        let last_fits : IsModeFor class site.mode = fits_way leads.1 xs (callee_of site) leads.3 fits in
         let r = h.begun x.at leads.1 own leads.2 in
         let c = calls_below (suc r.0) r.0 r.1 (let self : r.0 < suc r.0 = omega arith in self) r.2 in
         let one : c.0 ≡ 1 = only_one r.0 c.0 r.1 r.2 r.4 c.1 in
         ⊎_elim (λ (z : found ≤ c.0 + length xs). let less : length way ≤ suc (length xs) = omega (arith, z, one, long) in less)
         (λ (z : IsNear (callee_of site) (c.0 + length xs)). absurd (h.sane z.t site.at rule z.e z.done z.is
-        (subst (λ (y : Callee). BreaksAt p tags uses y site.at rule) (sym (ap callee_at z.node ∙ callee_back (callee_of site))) breaks)))
-        (along xs leads.1 (callee_of site) r.0 c.0 r.1 leads.3 r.2 r.3 c.1)
+        (subst (λ (y : Callee). BreaksAt p tags uses y site.at rule) (sym (ap (callee_at class) z.node ∙ callee_back class (callee_of site) last_fits)) breaks)))
+        (along xs leads.1 (callee_of site) r.0 c.0 r.1 leads.3 fits r.2 r.3 c.1)

@@ -1,5 +1,5 @@
 -- What keeps a section from a place that an instruction reads, where that breaks M5.
-use Rattle.std.specs.Prelude.{◌≡◌, ◌<◌, ℕ, Bool, true, false, ◌==◌, List, length, Option, Some, None, slice_get, slice_index_or}
+use Rattle.std.specs.Prelude.{◌≡◌, ◌<◌, ◌⊎◌, ℕ, Bool, true, false, ◌==◌, List, length, Option, Some, None, slice_get, slice_index_or}
 use Rattle.jvm_types.specs.Members.{is_private, is_static, is_final}
 use Rattle.jvm_types.specs.declared.code.Insn.{Insn}
 use Rattle.jvm_types.specs.declared.code.Op.{Op}
@@ -9,12 +9,14 @@ use Rattle.jvm_types.specs.declared.program.MethodInfo.{MethodInfo}
 use Rattle.jvm_types.specs.declared.program.Program.{Program}
 use Rattle.jvm_types.specs.declared.program.Target.{Target}
 use Rattle.jvm_types.specs.declared.program.Target.TheVariants as targets
-use Rattle.checked_program.specs.FrozenPlaces.{IsFrozenClass, IsGuardedField, PutsGuarded}
+use Rattle.checked_program.specs.FrozenPlaces.{IsFrozenClass, IsGuardedUse, PutsGuarded, PutsStatic}
 use Rattle.checked_program.specs.LockTags.{TagShape}
-use Rattle.checked_program.specs.Marks.{Callee, is_own_object}
+use Rattle.checked_program.specs.Marks.{Callee, is_own_object, is_own_class, class_of_field}
 use Rattle.checked_program.specs.TaggedCode.{Tagged, IsAt}
+use Rattle.checked_program.specs.declared.tag.Tag.{Tag}
 use Rattle.checked_program.specs.declared.tag.Tag.TheVariants.{Untagged}
 use Rattle.checked_program.specs.declared.tag.Tags.{Tags}
+use Rattle.checked_program.specs.declared.section.Mode.{Mode}
 use Rattle.frozen_classes.specs.FrozenClasses.{IsFirstOut}
 use Rattle.guard_analysis.specs.FieldUses.{unguarded_at}
 use Rattle.mark_reasons.specs.Firsts.{IsFirst}
@@ -27,7 +29,7 @@ use Rattle.mark_reasons.specs.declared.cause.Place.TheVariants as places
 
 abbrev pub place_read : Op → Target → Option Place
 place_read ops.Iaload target = Some places.Element
-place_read (ops.Getstatic i) (targets.Field fi) = Some places.Static
+place_read (ops.Getstatic i) (targets.Field fi) = Some (places.Static fi)
 place_read (ops.Getfield i) (targets.Field fi) = Some (places.Field fi)
 place_read op target = None
 
@@ -43,12 +45,14 @@ site_place (Some m) i = place_at (slice_get m.code i) (slice_get m.targets i)
 
 -- a reached instruction writes a field where it may not be written
 pub record WritesUnguarded (p : Program) (tags : Tagged) (fi mi i : ℕ) : Type 0 where
+  pub field : FieldInfo
+  pub is : slice_get p.fields fi ≡ Some field
   pub m : MethodInfo
   pub insn : Insn
   pub target : Target
   pub f : TagShape
   pub at : IsAt p tags mi i m insn target f
-  pub unguarded : PutsGuarded fi m insn.op target f → ⊥
+  pub unguarded : PutsGuarded fi m insn.op target f × PutsStatic fi field.class m insn.op target → ⊥
 
 -- the first such write, by the numbers of methods and of instructions
 pub record IsFirstWrite (p : Program) (tags : Tagged) (fi mi at : ℕ) : Type 0 where
@@ -64,12 +68,19 @@ pub record IsMutableField (p : Program) (tags : Tagged) (field : FieldInfo) : Ty
   pub frozen : IsFrozenClass p tags field.class
   pub changes : is_final field.flags ≡ false
 
--- a field is read of no object: the first of these that holds of it
+-- and a static field
+pub record IsMutableStatic (field : FieldInfo) : Type 0 where
+  pub static : is_static field.flags ≡ true
+  pub changes : is_final field.flags ≡ false
+
+abbrev pub IsMutable : Program → Tagged → FieldInfo → Type 0
+IsMutable p tags field = IsMutableField p tags field ⊎ IsMutableStatic field
+
+-- a field is read of no object and of no class: the first of these that holds of it
 abbrev pub BarsField : Program → Tagged → ℕ → FieldInfo → Cause → Type 0
-BarsField p tags fi field causes.Static = is_static field.flags ≡ true
 BarsField p tags fi field (causes.Constructor mi) = (is_static field.flags ≡ false) × IsFirstOut p tags field.class (Some mi)
-BarsField p tags fi field causes.Shared = IsMutableField p tags field × (is_private field.flags ≡ false)
-BarsField p tags fi field (causes.Write mi at) = IsMutableField p tags field × (is_private field.flags ≡ true) × IsFirstWrite p tags fi mi at
+BarsField p tags fi field causes.Shared = IsMutable p tags field × (is_private field.flags ≡ false)
+BarsField p tags fi field (causes.Write mi at) = IsMutable p tags field × (is_private field.flags ≡ true) × IsFirstWrite p tags fi mi at
 BarsField p tags fi field cause = ⊥
 
 abbrev pub Bars : Program → Tagged → ℕ → Cause → Type 0
@@ -77,14 +88,20 @@ Bars p tags fi cause = (field : FieldInfo) × (slice_get p.fields fi ≡ Some fi
 
 -- of the section's own object or of another one, where it is guarded
 abbrev pub KeepsField : Program → Tagged → ℕ → (own : Bool) → Cause → Type 0
-KeepsField p tags fi own causes.Other = (own ≡ false) × IsGuardedField p tags fi
+KeepsField p tags fi own causes.Other = (own ≡ false) × IsGuardedUse p tags fi
 KeepsField p tags fi own cause = Bars p tags fi cause
 
-abbrev pub KeepsPlace : Program → Tagged → (own : Bool) → Option Place → Cause → Type 0
-KeepsPlace p tags own (Some places.Element) cause = cause ≡ causes.Element
-KeepsPlace p tags own (Some places.Static) cause = cause ≡ causes.Static
-KeepsPlace p tags own (Some (places.Field fi)) cause = KeepsField p tags fi own cause
-KeepsPlace p tags own None cause = ⊥
+-- a static field, of the section's own class or not
+abbrev pub KeepsStatic : Program → Tagged → ℕ → (own : Bool) → Cause → Type 0
+KeepsStatic p tags fi own causes.Static = own ≡ false
+KeepsStatic p tags fi own cause = (own ≡ true) × Bars p tags fi cause
+
+-- in a method that is called so, with these tags of its stack
+abbrev pub KeepsPlace : Program → Tagged → Mode → List Tag → Option Place → Cause → Type 0
+KeepsPlace p tags mode stack (Some places.Element) cause = cause ≡ causes.Element
+KeepsPlace p tags mode stack (Some (places.Static fi)) cause = KeepsStatic p tags fi (is_own_class mode (class_of_field (slice_get p.fields fi))) cause
+KeepsPlace p tags mode stack (Some (places.Field fi)) cause = KeepsField p tags fi (is_own_object mode (slice_index_or stack 0 Untagged)) cause
+KeepsPlace p tags mode stack None cause = ⊥
 
 -- what the instruction i of a method reads is kept from being read by this
 pub record IsCause (p : Program) (tags : Tagged) (a : Callee) (i : ℕ) (cause : Cause) : Type 0 where
@@ -93,7 +110,7 @@ pub record IsCause (p : Program) (tags : Tagged) (a : Callee) (i : ℕ) (cause :
   pub target : Target
   pub f : TagShape
   pub at : IsAt p tags a.method i m insn target f
-  pub keeps : KeepsPlace p tags (is_own_object a.mode (slice_index_or f.stack 0 Untagged)) (place_read insn.op target) cause
+  pub keeps : KeepsPlace p tags a.mode f.stack (place_read insn.op target) cause
 
 -- ---- how it is found
 
@@ -102,13 +119,13 @@ is_number None n = false
 is_number (Some k) n = k == n
 
 -- an instruction writes a field without its guard
-abbrev pub writes_at : MethodInfo → List (Option TagShape) → (fi i : ℕ) → Bool
-writes_at m frames fi i = is_number (unguarded_at m (slice_get m.code i) (slice_get m.targets i) (slice_get frames i)) fi
+abbrev pub writes_at : Program → MethodInfo → List (Option TagShape) → (fi i : ℕ) → Bool
+writes_at p m frames fi i = is_number (unguarded_at p m (slice_get m.code i) (slice_get m.targets i) (slice_get frames i)) fi
 
 -- the first such instruction of a method with its tags
-abbrev pub IsFirstWriteOf : ℕ → Option MethodInfo → Option Tags → Option ℕ → Type 0
-IsFirstWriteOf fi (Some m) (Some t) found = IsFirst (writes_at m t.frames fi) (length m.code) found
-IsFirstWriteOf fi m t found = found ≡ None
+abbrev pub IsFirstWriteOf : Program → ℕ → Option MethodInfo → Option Tags → Option ℕ → Type 0
+IsFirstWriteOf p fi (Some m) (Some t) found = IsFirst (writes_at p m t.frames fi) (length m.code) found
+IsFirstWriteOf p fi m t found = found ≡ None
 
 -- of all methods
 abbrev pub IsWriteFound : Program → Tagged → ℕ → Option Cause → Type 0

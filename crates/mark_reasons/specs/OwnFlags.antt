@@ -7,7 +7,7 @@ use Rattle.jvm_types.specs.declared.program.Program.{Program}
 use Rattle.checked_program.specs.LockTags.{TagShape}
 use Rattle.checked_program.specs.TaggedCode.{Tagged}
 use Rattle.checked_program.specs.Sections.{IsOwn}
-use Rattle.checked_program.specs.Marks.{IsOnThis}
+use Rattle.checked_program.specs.Marks.{IsOnOwn}
 use Rattle.checked_program.specs.declared.section.Spot.{Spot}
 use Rattle.jvm_types.specs.declared.code.Op.{Op}
 use Rattle.jvm_types.specs.declared.code.Op.TheVariants as ops
@@ -20,7 +20,7 @@ pub record AreOwn (p : Program) (tags : Tagged) (mi : ℕ) (spot : Spot) (flags 
 
 -- None: the section is not on this
 abbrev pub OwnOrElsewhere : Program → Tagged → ℕ → Spot → Option (List Bool) → Type 0
-OwnOrElsewhere p tags mi spot None = IsOnThis p tags mi spot → ⊥
+OwnOrElsewhere p tags mi spot None = IsOnOwn p tags mi spot → ⊥
 OwnOrElsewhere p tags mi spot (Some flags) = AreOwn p tags mi spot flags
 
 -- ---- reached instructions

@@ -60,7 +60,7 @@ fault_line p x rule = line (codes "  " ++ site_text p x ++ codes " M" ++ decimal
 -- what keeps the place of M5 from being read
 abbrev pub cause_words : Program → Cause → List ℕ
 cause_words p causes.Element = codes "it is an element of an array"
-cause_words p causes.Static = codes "it is a static field"
+cause_words p causes.Static = codes "it is a static field, and the section is not on its class"
 cause_words p causes.Shared = codes "the field is not private"
 cause_words p causes.Other = codes "it is the field of another object"
 cause_words p (causes.Constructor u) = method_words p.names (slice_get p.methods u) ++ codes " lets its object out"

@@ -5,12 +5,11 @@ use Rattle.jvm_types.specs.declared.program.Program.{Program}
 use Rattle.checked_program.specs.LockTags.{TagShape}
 use Rattle.checked_program.specs.TaggedCode.{Tagged}
 use Rattle.checked_program.specs.FrozenPlaces.{AreUses}
-use Rattle.checked_program.specs.Sections.{Section, BeginsAt, IsOwn}
-use Rattle.checked_program.specs.Marks.{Callee, callee, Calls, BreaksAt, HasMark, IsOnThis}
+use Rattle.checked_program.specs.Sections.{Section, section_mode, BeginsAt, IsOwn}
+use Rattle.checked_program.specs.Marks.{Callee, callee, Calls, BreaksAt, HasMark, IsOnOwn}
 use Rattle.checked_program.specs.declared.section.SectionMark.{SectionMark}
 use Rattle.checked_program.specs.declared.section.Spot.{Spot}
 use Rattle.checked_program.specs.declared.section.Spot.TheVariants.{Method, Block}
-use Rattle.checked_program.specs.declared.section.Mode.TheVariants.{OnThis}
 use Rattle.checked_program.specs.declared.section.FieldUse.{FieldUse}
 use Rattle.mark_reasons.specs.Causes.{IsCause}
 use Rattle.mark_reasons.specs.declared.cause.Cause.{Cause}
@@ -22,8 +21,8 @@ use Rattle.mark_reasons.specs.declared.reason.Reason.TheVariants.{Elsewhere, Unr
 abbrev pub marked_section : SectionMark → Section
 marked_section mark = record { method = mark.method; spot = mark.spot }
 
-abbrev pub own_callee : Section → Callee
-own_callee s = callee s.method OnThis
+abbrev pub own_callee : Program → Section → Callee
+own_callee p s = callee s.method (section_mode p s)
 
 -- ---- the way that leads from a section to an instruction
 
@@ -61,11 +60,11 @@ IsFirstSectionFault p tags uses s (x ∷ xs) site rule = (j r : ℕ) → j < sit
 
 -- no way of fewer calls leads from the section to a method in which an instruction breaks a rule
 abbrev pub IsShortest : Program → Tagged → List FieldUse → Section → List Site → Type 0
-IsShortest p tags uses s way = (x : Site) (xs : List Site) (site : Site) (rule : ℕ) → IsWay p tags (own_callee s) (x ∷ xs) (callee_of site) → IsOwn p tags s.method s.spot x.at → BreaksAt p tags uses (callee_of site) site.at rule → length way ≤ length (x ∷ xs)
+IsShortest p tags uses s way = (x : Site) (xs : List Site) (site : Site) (rule : ℕ) → IsWay p tags (own_callee p s) (x ∷ xs) (callee_of site) → IsOwn p tags s.method s.spot x.at → BreaksAt p tags uses (callee_of site) site.at rule → length way ≤ length (x ∷ xs)
 
 -- the way leads to an instruction that breaks a rule
 pub record LeadsToFault (p : Program) (tags : Tagged) (uses : List FieldUse) (s : Section) (way : List Site) (site : Site) (rule : ℕ) : Type 0 where
-  pub leads : IsWay p tags (own_callee s) way (callee_of site)
+  pub leads : IsWay p tags (own_callee p s) way (callee_of site)
   pub own : BeginsOwn p tags s (way ++ site ∷ [])
   pub breaks : BreaksAt p tags uses (callee_of site) site.at rule
   pub first : IsFirstSectionFault p tags uses s way site rule
@@ -79,14 +78,14 @@ HasCause p tags site rule (Some cause) = (rule ≡ 5) × IsCause p tags (callee_
 -- the way comes back to the method of one of its instructions, which so calls itself
 pub record ComesBack (p : Program) (tags : Tagged) (s : Section) (way : List Site) (again : ℕ) : Type 0 where
   pub to : Callee
-  pub leads : IsWay p tags (own_callee s) way to
+  pub leads : IsWay p tags (own_callee p s) way to
   pub own : BeginsOwn p tags s way
   pub from : Site
   pub there : slice_get way again ≡ Some from
   pub same : callee_of from ≡ to
 
 abbrev pub IsReason : Program → Tagged → List FieldUse → Section → (mark : ℕ) → Reason → Type 0
-IsReason p tags uses s mark Elsewhere = (mark ≡ 8) × IsSpotReached p tags s.method s.spot × (IsOnThis p tags s.method s.spot → ⊥)
+IsReason p tags uses s mark Elsewhere = (mark ≡ 8) × IsSpotReached p tags s.method s.spot × (IsOnOwn p tags s.method s.spot → ⊥)
 IsReason p tags uses s mark Unreached = (mark ≡ 8) × (IsSpotReached p tags s.method s.spot → ⊥)
 IsReason p tags uses s mark (Breaks way site rule cause) = (mark ≡ mark_by way rule) × LeadsToFault p tags uses s way site rule × HasCause p tags site rule cause
 IsReason p tags uses s mark (Recurs way again) = (mark ≡ 7) × ComesBack p tags s way again

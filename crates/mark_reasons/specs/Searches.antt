@@ -6,10 +6,9 @@ use Rattle.jvm_types.specs.declared.program.Program.{Program}
 use Rattle.checked_program.specs.LockTags.{TagShape}
 use Rattle.checked_program.specs.TaggedCode.{Tagged}
 use Rattle.checked_program.specs.Sections.{Section, IsOwn}
-use Rattle.checked_program.specs.Marks.{Callee, callee, Calls, BreaksAt, CalleeBreaks}
+use Rattle.checked_program.specs.Marks.{Callee, callee, Calls, BreaksAt, CalleeBreaks, class_of_method}
 use Rattle.checked_program.specs.declared.tag.Tags.{Tags}
 use Rattle.checked_program.specs.declared.section.Mode.{Mode}
-use Rattle.checked_program.specs.declared.section.Mode.TheVariants.{OnThis}
 use Rattle.checked_program.specs.declared.section.FieldUse.{FieldUse}
 use Rattle.guard_analysis.specs.CallGraph.{node_of, mode_at, call_at}
 use Rattle.guard_analysis.specs.Faults.{fault_at}
@@ -22,8 +21,13 @@ use Rattle.mark_reasons.specs.declared.reason.Site.{Site}
 
 -- ---- the nodes of the graph of calls
 
-abbrev pub callee_at : ℕ → Callee
-callee_at a = callee (a / 2) (mode_at a)
+-- where sections on a class are on this one
+abbrev pub callee_at : (class node : ℕ) → Callee
+callee_at class a = callee (a / 3) (mode_at class a)
+
+-- the class of a section's method
+abbrev pub class_of_section : Program → Section → ℕ
+class_of_section p s = class_of_method (slice_get p.methods s.method)
 
 -- ---- the search
 
@@ -62,15 +66,15 @@ abbrev pub IsFirstFaultOf : Program → List FieldUse → Option MethodInfo → 
 IsFirstFaultOf p uses (Some m) (Some t) mode found = IsFirst (λ i. nat_lt 0 (node_fault p uses (Some m) (Some t) mode i)) (length m.code) found
 IsFirstFaultOf p uses m t mode found = found ≡ None
 
--- of an own instruction
-abbrev pub own_call : Program → MethodInfo → List (Option TagShape) → List Bool → ℕ → Option ℕ
-own_call p m frames own i = if slice_index_or own i false then call_at p OnThis (slice_get m.code i) (slice_get m.targets i) (slice_get frames i) else None
+-- of an own instruction of a section that runs its method so
+abbrev pub own_call : Program → Mode → MethodInfo → List (Option TagShape) → List Bool → ℕ → Option ℕ
+own_call p mode m frames own i = if slice_index_or own i false then call_at p mode (slice_get m.code i) (slice_get m.targets i) (slice_get frames i) else None
 
-abbrev pub calls_of : Program → List Tags → ℕ → ℕ → Option ℕ
-calls_of p tags a i = node_call p (slice_get p.methods (a / 2)) (slice_get tags (a / 2)) (mode_at a) i
+abbrev pub calls_of : Program → List Tags → (class node : ℕ) → ℕ → Option ℕ
+calls_of p tags class a i = node_call p (slice_get p.methods (a / 3)) (slice_get tags (a / 3)) (mode_at class a) i
 
-abbrev pub node_fault_of : Program → List FieldUse → List Tags → ℕ → ℕ → ℕ
-node_fault_of p uses tags a i = node_fault p uses (slice_get p.methods (a / 2)) (slice_get tags (a / 2)) (mode_at a) i
+abbrev pub node_fault_of : Program → List FieldUse → List Tags → (class node : ℕ) → ℕ → ℕ
+node_fault_of p uses tags class a i = node_fault p uses (slice_get p.methods (a / 3)) (slice_get tags (a / 3)) (mode_at class a) i
 
 -- ---- its course
 
@@ -88,8 +92,8 @@ pub record IsOrdered (queue : List Entry) (count : ℕ) : Type 0 where
 
 -- a node is called by an own instruction, or by one of the method of an entry among the first
 abbrev pub IsCalled : Program → Tagged → Section → List Entry → (count caller at node : ℕ) → Type 0
-IsCalled p tags s queue count zero at node = IsOwn p tags s.method s.spot at × Calls p tags (callee s.method OnThis) at (callee_at node)
-IsCalled p tags s queue count (suc c) at node = (c < count) × (b : Entry) × (slice_get queue c ≡ Some b) × Calls p tags (callee_at b.node) at (callee_at node)
+IsCalled p tags s queue count zero at node = IsOwn p tags s.method s.spot at × Calls p tags (own_callee p s) at (callee_at (class_of_section p s) node)
+IsCalled p tags s queue count (suc c) at node = (c < count) × (b : Entry) × (slice_get queue c ≡ Some b) × Calls p tags (callee_at (class_of_section p s) b.node) at (callee_at (class_of_section p s) node)
 
 pub record IsSearchSound (p : Program) (tags : Tagged) (s : Section) (n : ℕ) (w : Search) : Type 0 where
   pub long : length w.seen ≡ n
@@ -100,22 +104,22 @@ pub record IsSearchSound (p : Program) (tags : Tagged) (s : Section) (n : ℕ) (
 pub record Searching (p : Program) (tags : Tagged) (uses : List FieldUse) (s : Section) (n k : ℕ) (w : Search) : Type 0 where
   pub sound : IsSearchSound p tags s n w
   pub ordered : IsOrdered w.queue k
-  pub begun : (i : ℕ) (b : Callee) → IsOwn p tags s.method s.spot i → Calls p tags (callee s.method OnThis) i b → HasNodeBy w.queue (node_of b) 0
-  pub closed : (t i : ℕ) (e : Entry) (b : Callee) → t < k → slice_get w.queue t ≡ Some e → Calls p tags (callee_at e.node) i b → HasNodeBy w.queue (node_of b) (suc t)
-  pub sane : (t i r : ℕ) (e : Entry) → t < k → slice_get w.queue t ≡ Some e → BreaksAt p tags uses (callee_at e.node) i r → ⊥
+  pub begun : (i : ℕ) (b : Callee) → IsOwn p tags s.method s.spot i → Calls p tags (own_callee p s) i b → HasNodeBy w.queue (node_of b) 0
+  pub closed : (t i : ℕ) (e : Entry) (b : Callee) → t < k → slice_get w.queue t ≡ Some e → Calls p tags (callee_at (class_of_section p s) e.node) i b → HasNodeBy w.queue (node_of b) (suc t)
+  pub sane : (t i r : ℕ) (e : Entry) → t < k → slice_get w.queue t ≡ Some e → BreaksAt p tags uses (callee_at (class_of_section p s) e.node) i r → ⊥
 
 -- ---- the way to an entry
 
-abbrev pub site_at : (node at : ℕ) → Site
-site_at node at = record { method = node / 2; mode = mode_at node; at = at }
+abbrev pub site_at : (class node at : ℕ) → Site
+site_at class node at = record { method = node / 3; mode = mode_at class node; at = at }
 
-abbrev pub own_site : (method at : ℕ) → Site
-own_site method at = record { method = method; mode = OnThis; at = at }
+abbrev pub own_site : Mode → (method at : ℕ) → Site
+own_site mode method at = record { method = method; mode = mode; at = at }
 
 -- the instructions by which the search came to an entry, from the section's own on
-pub data IsBack (method : ℕ) (queue : List Entry) : ℕ → List Site → Type 0 where
-  from_section : (t : ℕ) (e : Entry) → slice_get queue t ≡ Some e → e.caller ≡ 0 → IsBack method queue t (own_site method e.at ∷ [])
-  from_entry : (t c : ℕ) (e b : Entry) (front : List Site) → slice_get queue t ≡ Some e → e.caller ≡ suc c → slice_get queue c ≡ Some b → IsBack method queue c front → IsBack method queue t (front ++ site_at b.node e.at ∷ [])
+pub data IsBack (class : ℕ) (own : Mode) (method : ℕ) (queue : List Entry) : ℕ → List Site → Type 0 where
+  from_section : (t : ℕ) (e : Entry) → slice_get queue t ≡ Some e → e.caller ≡ 0 → IsBack class own method queue t (own_site own method e.at ∷ [])
+  from_entry : (t c : ℕ) (e b : Entry) (front : List Site) → slice_get queue t ≡ Some e → e.caller ≡ suc c → slice_get queue c ≡ Some b → IsBack class own method queue c front → IsBack class own method queue t (front ++ site_at class b.node e.at ∷ [])
 
 -- each entry was called by one before it
 abbrev pub AreCalledBefore : List Entry → Type 0
@@ -146,17 +150,17 @@ IsFirstTurn p recurs (Some m) (Some t) mode found = IsFirst (λ i. turns recurs 
 IsFirstTurn p recurs m t mode found = found ≡ None
 
 -- of each node that the way came to, one more than the number of its instruction
-abbrev pub ArePlaces : List Site → List ℕ → Type 0
-ArePlaces way places = (j : ℕ) → 0 < slice_index places j → (x : Site) × (slice_get way (slice_index places j - 1) ≡ Some x) × (callee_of x ≡ callee_at j)
+abbrev pub ArePlaces : (class : ℕ) → List Site → List ℕ → Type 0
+ArePlaces class way places = (j : ℕ) → 0 < slice_index places j → (x : Site) × (slice_get way (slice_index places j - 1) ≡ Some x) × (callee_of x ≡ callee_at class j)
 
 -- the way leads to a node that leads to a cycle
 pub record Walking (p : Program) (tags : Tagged) (s : Section) (recurs : List Bool) (n node : ℕ) (way : List Site) (places : List ℕ) : Type 0 where
-  pub leads : IsWay p tags (own_callee s) way (callee_at node)
+  pub leads : IsWay p tags (own_callee p s) way (callee_at (class_of_section p s) node)
   pub own : BeginsOwn p tags s way
   pub flagged : slice_index_or recurs node false ≡ true
   pub inside : node < n
   pub long : length places ≡ n
-  pub noted : ArePlaces way places
+  pub noted : ArePlaces (class_of_section p s) way places
 
 abbrev pub unplaced : List ℕ → ℕ
 unplaced places = count_by (λ n. n == 0) places
@@ -164,5 +168,5 @@ unplaced places = count_by (λ n. n == 0) places
 -- ---- own instructions
 
 -- an own instruction breaks the rule
-abbrev pub own_breaks : Program → List FieldUse → MethodInfo → Tags → List Bool → (rule : ℕ) → ℕ → Bool
-own_breaks p uses m t own rule i = slice_index_or own i false && (node_fault p uses (Some m) (Some t) OnThis i == rule)
+abbrev pub own_breaks : Program → List FieldUse → Mode → MethodInfo → Tags → List Bool → (rule : ℕ) → ℕ → Bool
+own_breaks p uses mode m t own rule i = slice_index_or own i false && (node_fault p uses (Some m) (Some t) mode i == rule)

@@ -1,26 +1,25 @@
 //! What keeps a section from a place that it reads (M5).
 
-ghost use Rattle.std.specs.Prelude.{◌≡◌, ◌<◌, ◌≤◌, Bool, false, Some, length, slice_get};
-ghost use Rattle.std.specs.Prelude.{slice_index_or, IfOk};
+ghost use Rattle.std.specs.Prelude.{◌≡◌, ◌<◌, ◌≤◌, Bool, Some, length, slice_get, slice_index_or};
+ghost use Rattle.std.specs.Prelude.{IfOk};
 ghost use Rattle.jvm_types.specs.ProgramInvariant.{IsProgram};
-ghost use Rattle.jvm_types.specs.Members.{is_static};
 ghost use Rattle.jvm_types.specs.declared.limits.TheConstants.{MOST_INSTRUCTIONS as most};
-ghost use Rattle.checked_program.specs.FrozenPlaces.{AreUses, IsFrozenClass, IsFrozenField};
-ghost use Rattle.checked_program.specs.FrozenPlaces.{IsGuardedField};
+ghost use Rattle.checked_program.specs.FrozenPlaces.{AreUses, IsFrozenUse, IsGuardedUse};
 ghost use Rattle.checked_program.specs.MarkedProgram.{AreTaggings};
-ghost use Rattle.checked_program.specs.Marks.{use_fault, BreaksAt};
+ghost use Rattle.checked_program.specs.Marks.{class_of_field, is_own_class, use_fault, BreaksAt};
 ghost use Rattle.checked_program.specs.TaggedCode.{tagged_by};
 ghost use Rattle.checked_program.specs.declared.section.FieldUse.TheVariants.{Open as open_use};
 ghost use Rattle.mark_reasons.specs.Causes.{is_number, place_at, place_read, site_place, writes_at};
-ghost use Rattle.mark_reasons.specs.Causes.{Bars, IsCause, IsFirstWriteOf, IsWriteFound};
-ghost use Rattle.mark_reasons.specs.Causes.{KeepsField};
+ghost use Rattle.mark_reasons.specs.Causes.{Bars, IsCause, IsFirstWriteOf, IsMutable, IsWriteFound};
+ghost use Rattle.mark_reasons.specs.Causes.{KeepsField, KeepsStatic};
 ghost use Rattle.mark_reasons.specs.Reasons.{callee_of};
 ghost use Rattle.mark_reasons.specs.Firsts.{IsFirst};
 
 use crate::reason::Site;
-use checked_program::{FieldUse, Tags};
+use checked_program::{FieldUse, Mode, Tags};
 use frozen_classes::first_out;
-use guard_analysis::faults::use_of;
+use guard_analysis::calls::is_own_class;
+use guard_analysis::faults::{class_of_field, use_of};
 use guard_analysis::field_uses::unguarded_at;
 use jvm_types::flags::{is_private, is_static};
 use jvm_types::{FieldInfo, MethodInfo, Op, Program, Rows, Target};
@@ -31,7 +30,7 @@ use std::alloc::{AllocError, Global};
 pub enum Cause {
     /// It is an element of an array.
     Element,
-    /// It is a static field.
+    /// It is a static field of another class than the section's.
     Static,
     /// The field is neither private nor final.
     Shared,
@@ -39,8 +38,8 @@ pub enum Cause {
     Other,
     /// The `<init>` of that number, of the field's class, lets its object out.
     Constructor(u32),
-    /// An instruction of a method writes the field on another object than `this`, or without its
-    /// lock.
+    /// An instruction of a method writes the field on another object than `this` or in another
+    /// class, or without its lock.
     Write { method: u32, at: usize },
 }
 
@@ -49,8 +48,8 @@ pub enum Cause {
 pub enum Place {
     /// An element of an array.
     Element,
-    /// A static field.
-    Static,
+    /// The static field of that number.
+    Static(u32),
     /// The field of that number of an object.
     Field(u32),
 }
@@ -61,7 +60,7 @@ fn place_read(op: &Op, target: Target) -> Option<Place>
     match op {
         Op::Iaload => Some(Place::Element),
         Op::Getstatic(_) => match target {
-            Target::Field(_) => Some(Place::Static),
+            Target::Field(field) => Some(Place::Static(field)),
             _ => None,
         },
         Op::Getfield(_) => match target {
@@ -107,18 +106,18 @@ fn is_number(found: Option<u32>, field: u32) -> bool
 }
 
 /// Whether an instruction writes a field without its guard.
-fn writes_at(m: &MethodInfo, t: &Tags, field: u32, i: usize) -> bool
-    ensures { result ≡ writes_at m.now t.now.frames field i }
+fn writes_at(p: &Program, m: &MethodInfo, t: &Tags, field: u32, i: usize) -> bool
+    ensures { result ≡ writes_at p.now m.now t.now.frames field i }
 {
-    is_number(unguarded_at(m, t, i), field)
+    is_number(unguarded_at(p, m, t, i), field)
 }
 
 /// The first instruction of a method that writes a field without its guard.
-fn first_write_at(m: &MethodInfo, t: &Tags, field: u32) -> Option<usize>
-    ensures { IsFirst (writes_at m.now t.now.frames field) (length m.now.code) result }
+fn first_write_at(p: &Program, m: &MethodInfo, t: &Tags, field: u32) -> Option<usize>
+    ensures { IsFirst (writes_at p.now m.now t.now.frames field) (length m.now.code) result }
 {
     for i in 0..m.code.len() {
-        if writes_at(m, t, field, i) {
+        if writes_at(p, m, t, field, i) {
             return Some(i);
         }
     }
@@ -127,12 +126,12 @@ fn first_write_at(m: &MethodInfo, t: &Tags, field: u32) -> Option<usize>
 
 /// The same of the method of a number.
 fn first_write_in(p: &Program, tags: &Rows<Tags>, method: usize, field: u32) -> Option<usize>
-    ensures { IsFirstWriteOf field (slice_get p.now.methods method) (slice_get tags.now method)
-        result }
+    ensures { IsFirstWriteOf p.now field (slice_get p.now.methods method)
+        (slice_get tags.now method) result }
 {
     match p.methods.get(method) {
         Some(m) => match tags.get(method) {
-            Some(t) => first_write_at(m, t, field),
+            Some(t) => first_write_at(p, m, t, field),
             None => None,
         },
         None => None,
@@ -143,6 +142,7 @@ fn first_write_in(p: &Program, tags: &Rows<Tags>, method: usize, field: u32) -> 
 fn first_write(p: &Program, tags: &Rows<Tags>, field: u32) -> Option<Cause>
     requires program { IsProgram p.now }
     requires few { length p.now.methods ≤ most }
+    requires there { field < length p.now.fields }
     ensures { IsWriteFound p.now (tagged_by tags.now) field result }
 {
     for method in 0..p.methods.len() {
@@ -158,16 +158,14 @@ fn first_write(p: &Program, tags: &Rows<Tags>, field: u32) -> Option<Cause>
 
 // ---- fields
 
-/// What keeps an instance field of a frozen class from being read that is neither frozen nor
-/// guarded.
+/// What keeps a static field, or a field of a frozen class, from being read that is neither frozen
+/// nor guarded.
 fn loose_cause(p: &Program, tags: &Rows<Tags>, field: u32, info: &FieldInfo) -> Cause
     requires program { IsProgram p.now }
     requires few { length p.now.methods ≤ most }
     requires there { slice_get p.now.fields field ≡ Some info.now }
-    requires instance { is_static info.now.flags ≡ false }
-    requires frozen { IsFrozenClass p.now (tagged_by tags.now) info.now.class }
-    requires changes { ¬ IsFrozenField p.now (tagged_by tags.now) field }
-    requires loose { ¬ IsGuardedField p.now (tagged_by tags.now) field }
+    requires mutable { IsMutable p.now (tagged_by tags.now) info.now }
+    requires loose { ¬ IsGuardedUse p.now (tagged_by tags.now) field }
     ensures { Bars p.now (tagged_by tags.now) field result }
 {
     if is_private(info.flags) {
@@ -191,13 +189,13 @@ fn open_cause(
     requires few { length p.now.methods ≤ most }
     requires tagged { AreTaggings p.now p.now.methods tags.now }
     requires there { field < length p.now.fields }
-    requires changes { ¬ IsFrozenField p.now (tagged_by tags.now) field }
-    requires loose { ¬ IsGuardedField p.now (tagged_by tags.now) field }
+    requires changes { ¬ IsFrozenUse p.now (tagged_by tags.now) field }
+    requires loose { ¬ IsGuardedUse p.now (tagged_by tags.now) field }
     ensures { IfOk result (Bars p.now (tagged_by tags.now) field) }
 {
     let info = &p.fields.as_slice()[field as usize];
     if is_static(info.flags) {
-        Ok(Cause::Static)
+        Ok(loose_cause(p, tags, field, info))
     } else {
         match first_out(alloc, p, tags, info.class)? {
             Some(init) => Ok(Cause::Constructor(init)),
@@ -230,6 +228,32 @@ fn field_cause(
     }
 }
 
+/// What keeps a static field from being read where that breaks M5.
+fn static_cause(
+    alloc: Global,
+    p: &Program,
+    uses: &Rows<FieldUse>,
+    tags: &Rows<Tags>,
+    mode: Mode,
+    field: u32,
+) -> Result<Cause, AllocError>
+    requires program { IsProgram p.now }
+    requires few { length p.now.methods ≤ most }
+    requires tagged { AreTaggings p.now p.now.methods tags.now }
+    requires uses { AreUses p.now (tagged_by tags.now) uses.now }
+    requires there { field < length p.now.fields }
+    requires breaks { use_fault (slice_index_or uses.now field open_use)
+        (is_own_class mode (class_of_field (slice_get p.now.fields field))) ≡ 5 }
+    ensures { IfOk result (KeepsStatic p.now (tagged_by tags.now) field
+        (is_own_class mode (class_of_field (slice_get p.now.fields field)))) }
+{
+    if is_own_class(mode, class_of_field(p, field)) {
+        open_cause(alloc, p, tags, field)
+    } else {
+        Ok(Cause::Static)
+    }
+}
+
 /// What keeps a place from being read, which an instruction reads that breaks M5.
 fn place_cause(
     alloc: Global,
@@ -249,7 +273,7 @@ fn place_cause(
 {
     match place {
         Place::Element => Ok(Cause::Element),
-        Place::Static => Ok(Cause::Static),
+        Place::Static(field) => static_cause(alloc, p, uses, tags, site.mode, field),
         Place::Field(field) => field_cause(alloc, p, uses, tags, field),
     }
 }

@@ -30,6 +30,7 @@ use guard_analysis::call_graph::call_graph;
 use guard_analysis::faults::fault_at;
 use guard_analysis::field_uses::uses;
 use guard_analysis::flag_at;
+use guard_analysis::marking::section_mode;
 use jvm_types::{MethodInfo, Program, Rows};
 use std::alloc::{AllocError, Global};
 
@@ -37,31 +38,34 @@ use std::alloc::{AllocError, Global};
 fn own_breaks(
     p: &Program,
     uses: &Rows<FieldUse>,
+    mode: Mode,
     m: &MethodInfo,
     t: &Tags,
     own: &[bool],
     rule: u8,
     i: usize,
 ) -> bool
-    ensures { result ≡ own_breaks p.now uses.now m.now t.now own.now rule i }
+    ensures { result ≡ own_breaks p.now uses.now mode m.now t.now own.now rule i }
 {
-    flag_at(own, i) && fault_at(p, uses, Mode::OnThis, m, t, i) == rule
+    flag_at(own, i) && fault_at(p, uses, mode, m, t, i) == rule
 }
 
 /// The first own instruction that breaks a rule.
 fn first_own(
     p: &Program,
     uses: &Rows<FieldUse>,
+    mode: Mode,
     m: &MethodInfo,
     t: &Tags,
     own: &[bool],
     rule: u8,
 ) -> Option<usize>
-    ensures { IsFirst (λ i. own_breaks p.now uses.now m.now t.now own.now rule i)
-        (length m.now.code) result }
+    ensures { IsFirst (λ i.
+        own_breaks p.now uses.now mode m.now t.now
+        own.now rule i) (length m.now.code) result }
 {
     for i in 0..m.code.len() {
-        if own_breaks(p, uses, m, t, own, rule, i) {
+        if own_breaks(p, uses, mode, m, t, own, rule, i) {
             return Some(i);
         }
     }
@@ -72,16 +76,17 @@ fn first_own(
 fn first_own_turn(
     p: &Program,
     recurs: &[bool],
+    mode: Mode,
     m: &MethodInfo,
     t: &Tags,
     own: &[bool],
 ) -> Option<usize>
     requires { length p.now.methods ≤ most }
-    ensures { IsFirst (λ i. turns recurs.now (own_call p.now m.now t.now.frames own.now i))
+    ensures { IsFirst (λ i. turns recurs.now (own_call p.now mode m.now t.now.frames own.now i))
         (length m.now.code) result }
 {
     for i in 0..m.code.len() {
-        if turns(recurs, own_call(p, m, t, own, i)) {
+        if turns(recurs, own_call(p, mode, m, t, own, i)) {
             return Some(i);
         }
     }
@@ -135,12 +140,13 @@ fn own_reason(
     ensures { IfOk result
         (IsReason p.now (tagged_by tags.now) uses.now (marked_section mark) mark.mark) }
 {
-    let Some(at) = first_own(p, uses, m, t, own, mark.mark) else {
+    let mode = section_mode(m, mark.spot);
+    let Some(at) = first_own(p, uses, mode, m, t, own, mark.mark) else {
         unreachable!()
     };
     let site = Site {
         method: mark.method,
-        mode: Mode::OnThis,
+        mode,
         at,
     };
     let cause = cause_if(alloc, p, uses, tags, site, mark.mark)?;
@@ -200,20 +206,21 @@ fn recurring_reason(
     requires program { IsProgram p.now }
     requires few { length p.now.methods ≤ most }
     requires recurs { AreRecurring (call_graph p.now tags.now).from (call_graph p.now tags.now).to
-        (2 * length p.now.methods) recurs.now }
+        (3 * length p.now.methods) recurs.now }
     requires there { slice_get p.now.methods mark.method ≡ Some m.now }
     requires tagged { slice_get tags.now mark.method ≡ Some t.now }
     requires own { AreOwn p.now (tagged_by tags.now) mark.method mark.spot own.now }
     requires returns { CalleeRecurs p.now (tagged_by tags.now) (marked_section mark) }
     ensures { IfOk result (IsReason p.now (tagged_by tags.now) uses.now (marked_section mark) 7) }
 {
-    let Some(at) = first_own_turn(p, recurs, m, t, own) else {
+    let mode = section_mode(m, mark.spot);
+    let Some(at) = first_own_turn(p, recurs, mode, m, t, own) else {
         unreachable!()
     };
-    let Some(first) = own_call(p, m, t, own, at) else {
+    let Some(first) = own_call(p, mode, m, t, own, at) else {
         unreachable!()
     };
-    let round = come_back(alloc, p, tags, recurs, mark, at, first)?;
+    let round = come_back(alloc, p, tags, recurs, mark, m, at, first)?;
     Ok(Reason::Recurs {
         way: round.way,
         again: round.again,
@@ -236,7 +243,7 @@ fn rule_reason(
     requires uses { AreUses p.now (tagged_by tags.now) uses.now }
     requires few { length p.now.methods ≤ most }
     requires recurs { AreRecurring (call_graph p.now tags.now).from (call_graph p.now tags.now).to
-        (2 * length p.now.methods) recurs.now }
+        (3 * length p.now.methods) recurs.now }
     requires there { slice_get p.now.methods mark.method ≡ Some m.now }
     requires tagged { slice_get tags.now mark.method ≡ Some t.now }
     requires some { 0 < mark.mark }
@@ -271,7 +278,7 @@ fn reason_of(
     requires taggings { AreTaggings p.now p.now.methods tags.now }
     requires uses { AreUses p.now (tagged_by tags.now) uses.now }
     requires recurs { AreRecurring (call_graph p.now tags.now).from (call_graph p.now tags.now).to
-        (2 * length p.now.methods) recurs.now }
+        (3 * length p.now.methods) recurs.now }
     requires marked { HasMark p.now (tagged_by tags.now) uses.now (marked_section mark) mark.mark }
     ensures { IfOk result (IsExplained p.now (tagged_by tags.now) uses.now mark) }
 {
@@ -307,7 +314,7 @@ fn reasons_of(
     requires taggings { AreTaggings p.now p.now.methods tags.now }
     requires uses { AreUses p.now (tagged_by tags.now) uses.now }
     requires recurs { AreRecurring (call_graph p.now tags.now).from (call_graph p.now tags.now).to
-        (2 * length p.now.methods) recurs.now }
+        (3 * length p.now.methods) recurs.now }
     requires marked { AreMarked p.now (tagged_by tags.now) uses.now marks.now }
     ensures { IfOk result (AllZip (IsExplained p.now (tagged_by tags.now) uses.now) marks.now) }
 {
@@ -324,14 +331,14 @@ fn recurring_nodes(alloc: Global, p: &Program, tags: &Rows<Tags>) -> Result<Vec<
     requires few { length p.now.methods ≤ most }
     ensures { IfOk result (λ v.
         AreRecurring (call_graph p.now tags.now).from (call_graph p.now tags.now).to
-        (2 * length p.now.methods) v.items) }
+        (3 * length p.now.methods) v.items) }
 {
     let graph = call_graph(alloc, p, tags)?;
     recurring(
         alloc,
         graph.from.as_slice(),
         graph.to.as_slice(),
-        2 * p.methods.len(),
+        3 * p.methods.len(),
     )
 }
 

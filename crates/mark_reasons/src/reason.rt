@@ -9,7 +9,7 @@ use jvm_types::Rows;
 pub struct Site {
     /// The number of the method.
     pub method: u32,
-    /// Whether the method is called on the section's object all the way.
+    /// How the section runs the method.
     pub mode: Mode,
     /// The number of the instruction in the code of the method.
     pub at: usize,
@@ -19,7 +19,7 @@ pub struct Site {
 /// instruction of it calls the method of the next one.
 #[derive(Debug, Drop)]
 pub enum Reason {
-    /// The section is not on `this` (M8), and some path reaches it.
+    /// The section is neither on `this` nor on its class (M8), and some path reaches it.
     Elsewhere,
     /// No path reaches the `monitorenter` of the block, and so none enters it (M8).
     Unreached,

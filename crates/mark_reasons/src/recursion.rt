@@ -19,6 +19,7 @@ use checked_program::{Mode, SectionMark, Tags};
 use guard_analysis::call_graph::mode_at;
 use guard_analysis::calls::call_at;
 use guard_analysis::flag_at;
+use guard_analysis::marking::section_mode;
 use jvm_types::{MethodInfo, Program, Rows};
 use std::alloc::{AllocError, Global};
 
@@ -54,15 +55,21 @@ fn first_turn(p: &Program, recurs: &[bool], m: &MethodInfo, t: &Tags, mode: Mode
 }
 
 /// The same of the method of a node.
-fn node_turn(p: &Program, recurs: &[bool], tags: &Rows<Tags>, node: u32) -> Option<usize>
+fn node_turn(
+    p: &Program,
+    recurs: &[bool],
+    tags: &Rows<Tags>,
+    class: u16,
+    node: u32,
+) -> Option<usize>
     requires { length p.now.methods ≤ most }
-    ensures { IsFirstTurn p.now recurs.now (slice_get p.now.methods (node / 2))
-        (slice_get tags.now (node / 2)) (mode_at node) result }
+    ensures { IsFirstTurn p.now recurs.now (slice_get p.now.methods (node / 3))
+        (slice_get tags.now (node / 3)) (mode_at class node) result }
 {
-    let place = node as usize / 2;
+    let place = node as usize / 3;
     match p.methods.get(place) {
         Some(m) => match tags.get(place) {
-            Some(t) => first_turn(p, recurs, m, t, mode_at(node as usize)),
+            Some(t) => first_turn(p, recurs, m, t, mode_at(class, node as usize)),
             None => None,
         },
         None => None,
@@ -70,15 +77,15 @@ fn node_turn(p: &Program, recurs: &[bool], tags: &Rows<Tags>, node: u32) -> Opti
 }
 
 /// What the instruction of a number calls in the method of a node.
-fn called_at(p: &Program, tags: &Rows<Tags>, node: u32, i: usize) -> Option<u32>
+fn called_at(p: &Program, tags: &Rows<Tags>, class: u16, node: u32, i: usize) -> Option<u32>
     requires { length p.now.methods ≤ most }
-    ensures { result ≡ node_call p.now (slice_get p.now.methods (node / 2))
-        (slice_get tags.now (node / 2)) (mode_at node) i }
+    ensures { result ≡ node_call p.now (slice_get p.now.methods (node / 3))
+        (slice_get tags.now (node / 3)) (mode_at class node) i }
 {
-    let place = node as usize / 2;
+    let place = node as usize / 3;
     match p.methods.get(place) {
         Some(m) => match tags.get(place) {
-            Some(t) => call_at(p, mode_at(node as usize), m, t, i),
+            Some(t) => call_at(p, mode_at(class, node as usize), m, t, i),
             None => None,
         },
         None => None,
@@ -109,37 +116,40 @@ pub fn come_back(
     tags: &Rows<Tags>,
     recurs: &[bool],
     mark: SectionMark,
+    m: &MethodInfo,
     at: usize,
     first: u32,
 ) -> Result<Round, AllocError>
     requires program { IsProgram p.now }
     requires few { length p.now.methods ≤ most }
     requires recurs { AreRecurring (call_graph p.now tags.now).from (call_graph p.now tags.now).to
-        (2 * length p.now.methods) recurs.now }
+        (3 * length p.now.methods) recurs.now }
+    requires there { slice_get p.now.methods mark.method ≡ Some m.now }
     requires own { IsOwn p.now (tagged_by tags.now) mark.method mark.spot at }
-    requires calls { Calls p.now (tagged_by tags.now) (own_callee (marked_section mark)) at
-        (callee_at first) }
-    requires inside { first < 2 * length p.now.methods }
+    requires calls { Calls p.now (tagged_by tags.now) (own_callee p.now (marked_section mark)) at
+        (callee_at m.now.class first) }
+    requires inside { first < 3 * length p.now.methods }
     requires flagged { slice_index_or recurs.now first false ≡ true }
     ensures { IfOk result (λ round.
         ComesBack p.now (tagged_by tags.now) (marked_section mark) round.way round.again) }
 {
-    let mut places = no_places(alloc, 2 * p.methods.len())?;
+    let class = m.class;
+    let mut places = no_places(alloc, 3 * p.methods.len())?;
     let mut way = Rows::new(alloc);
     way.push(Site {
         method: mark.method,
-        mode: Mode::OnThis,
+        mode: section_mode(m, mark.spot),
         at,
     })?;
     let mut node = first;
     while place_of(&places, node) == 0 {
-        let Some(i) = node_turn(p, recurs, tags, node) else {
+        let Some(i) = node_turn(p, recurs, tags, class, node) else {
             unreachable!()
         };
-        let Some(next) = called_at(p, tags, node, i) else {
+        let Some(next) = called_at(p, tags, class, node, i) else {
             unreachable!()
         };
-        way.push(site_at(node, i))?;
+        way.push(site_at(class, node, i))?;
         places.set(node as usize, way.len());
         node = next;
     }

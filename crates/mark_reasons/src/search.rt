@@ -20,6 +20,7 @@ use guard_analysis::call_graph::mode_at;
 use guard_analysis::calls::call_at;
 use guard_analysis::faults::fault_at;
 use guard_analysis::flag_at;
+use guard_analysis::marking::section_mode;
 use jvm_types::{MethodInfo, Program, Rows};
 use std::alloc::{AllocError, Global};
 
@@ -90,30 +91,38 @@ fn visit_node(
     search: &mut Search,
     p: &Program,
     tags: &Rows<Tags>,
+    class: u16,
     node: u32,
     caller: usize,
 ) -> Result<(), AllocError>
     requires { length p.now.methods ≤ most }
-    ensures { OnOk result (search.new ≡ node_visits p.now (slice_get p.now.methods (node / 2))
-        (slice_get tags.now (node / 2)) (mode_at node) search.old caller) }
+    ensures { OnOk result (search.new ≡ node_visits p.now (slice_get p.now.methods (node / 3))
+        (slice_get tags.now (node / 3)) (mode_at class node) search.old caller) }
 {
-    let place = node as usize / 2;
+    let place = node as usize / 3;
     match p.methods.get(place) {
         Some(m) => match tags.get(place) {
-            Some(t) => visit_calls(search, p, m, t, mode_at(node as usize), caller),
+            Some(t) => visit_calls(search, p, m, t, mode_at(class, node as usize), caller),
             None => Ok(()),
         },
         None => Ok(()),
     }
 }
 
-/// What an own instruction calls.
-pub fn own_call(p: &Program, m: &MethodInfo, t: &Tags, own: &[bool], i: usize) -> Option<u32>
+/// What an own instruction calls of a section that runs its method so.
+pub fn own_call(
+    p: &Program,
+    mode: Mode,
+    m: &MethodInfo,
+    t: &Tags,
+    own: &[bool],
+    i: usize,
+) -> Option<u32>
     requires { length p.now.methods ≤ most }
-    ensures { result ≡ own_call p.now m.now t.now.frames own.now i }
+    ensures { result ≡ own_call p.now mode m.now t.now.frames own.now i }
 {
     if flag_at(own, i) {
-        call_at(p, Mode::OnThis, m, t, i)
+        call_at(p, mode, m, t, i)
     } else {
         None
     }
@@ -123,16 +132,17 @@ pub fn own_call(p: &Program, m: &MethodInfo, t: &Tags, own: &[bool], i: usize) -
 fn visit_own(
     search: &mut Search,
     p: &Program,
+    mode: Mode,
     m: &MethodInfo,
     t: &Tags,
     own: &[bool],
 ) -> Result<(), AllocError>
     requires { length p.now.methods ≤ most }
-    ensures { OnOk result (search.new
-        ≡ visits (own_call p.now m.now t.now.frames own.now) search.old 0 (length m.now.code)) }
+    ensures { OnOk result (search.new ≡ visits (own_call p.now mode m.now t.now.frames own.now)
+        search.old 0 (length m.now.code)) }
 {
     for i in 0..m.code.len() {
-        visit(search, own_call(p, m, t, own, i), 0, i)?;
+        visit(search, own_call(p, mode, m, t, own, i), 0, i)?;
     }
     Ok(())
 }
@@ -141,9 +151,9 @@ fn visit_own(
 fn first_fault(
     p: &Program,
     uses: &Rows<FieldUse>,
+    mode: Mode,
     m: &MethodInfo,
     t: &Tags,
-    mode: Mode,
 ) -> Option<usize>
     ensures { IsFirst (λ i. nat_lt 0 (rule_at p.now uses.now (Some m.now) (Some t.now) mode i))
         (length m.now.code) result }
@@ -157,14 +167,21 @@ fn first_fault(
 }
 
 /// The same of the method of a node.
-fn node_fault(p: &Program, uses: &Rows<FieldUse>, tags: &Rows<Tags>, node: u32) -> Option<usize>
-    ensures { IsFirstFaultOf p.now uses.now (slice_get p.now.methods (node / 2))
-        (slice_get tags.now (node / 2)) (mode_at node) result }
+fn node_fault(
+    p: &Program,
+    uses: &Rows<FieldUse>,
+    tags: &Rows<Tags>,
+    class: u16,
+    node: u32,
+) -> Option<usize>
+    ensures { IsFirstFaultOf p.now uses.now
+        (slice_get p.now.methods (node / 3)) (slice_get tags.now (node / 3)) (mode_at class node)
+        result }
 {
-    let place = node as usize / 2;
+    let place = node as usize / 3;
     match p.methods.get(place) {
         Some(m) => match tags.get(place) {
-            Some(t) => first_fault(p, uses, m, t, mode_at(node as usize)),
+            Some(t) => first_fault(p, uses, mode_at(class, node as usize), m, t),
             None => None,
         },
         None => None,
@@ -182,12 +199,12 @@ fn entry_at(queue: &Rows<Entry>, k: usize) -> Entry
 }
 
 /// The instruction of a number in the method of a node.
-pub fn site_at(node: u32, at: usize) -> Site
-    ensures { result ≡ site_at node at }
+pub fn site_at(class: u16, node: u32, at: usize) -> Site
+    ensures { result ≡ site_at class node at }
 {
     Site {
-        method: node / 2,
-        mode: mode_at(node as usize),
+        method: node / 3,
+        mode: mode_at(class, node as usize),
         at,
     }
 }
@@ -197,12 +214,14 @@ pub fn site_at(node: u32, at: usize) -> Site
 fn way_to(
     alloc: Global,
     queue: &Rows<Entry>,
+    class: u16,
+    own: Mode,
     method: u32,
     entry: usize,
 ) -> Result<Rows<Site>, AllocError>
     requires before { AreCalledBefore queue.now }
     requires inside { entry < length queue.now }
-    ensures { IfOk result (IsBack method queue.now entry) }
+    ensures { IfOk result (IsBack class own method queue.now entry) }
 {
     let mut way = Vec::new(alloc);
     let mut k = entry;
@@ -210,12 +229,12 @@ fn way_to(
     while e.caller > 0 {
         k = e.caller - 1;
         let caller = entry_at(queue, k);
-        way.push(site_at(caller.node, e.at))?;
+        way.push(site_at(class, caller.node, e.at))?;
         e = caller;
     }
     way.push(Site {
         method,
-        mode: Mode::OnThis,
+        mode: own,
         at: e.at,
     })?;
     way.reverse();
@@ -240,14 +259,21 @@ pub struct Fault {
 }
 
 /// The rule that an instruction of the method of a node breaks; 0 for none.
-fn rule_at(p: &Program, uses: &Rows<FieldUse>, tags: &Rows<Tags>, node: u32, at: usize) -> u8
-    ensures { result ≡ rule_at p.now uses.now (slice_get p.now.methods (node / 2))
-        (slice_get tags.now (node / 2)) (mode_at node) at }
+fn rule_at(
+    p: &Program,
+    uses: &Rows<FieldUse>,
+    tags: &Rows<Tags>,
+    class: u16,
+    node: u32,
+    at: usize,
+) -> u8
+    ensures { result ≡ rule_at p.now uses.now (slice_get p.now.methods (node / 3))
+        (slice_get tags.now (node / 3)) (mode_at class node) at }
 {
-    let place = node as usize / 2;
+    let place = node as usize / 3;
     match p.methods.get(place) {
         Some(m) => match tags.get(place) {
-            Some(t) => fault_at(p, uses, mode_at(node as usize), m, t, at),
+            Some(t) => fault_at(p, uses, mode_at(class, node as usize), m, t, at),
             None => 0,
         },
         None => 0,
@@ -274,21 +300,23 @@ pub fn find_fault(
     requires own { AreOwn p.now (tagged_by tags.now) mark.method mark.spot own.now }
     ensures { IfOk result (IsFaultFound p.now (tagged_by tags.now) uses.now (marked_section mark)) }
 {
-    let mut w = nothing_yet(alloc, 2 * p.methods.len())?;
-    visit_own(&mut w, p, m, t, own)?;
+    let class = m.class;
+    let mode = section_mode(m, mark.spot);
+    let mut w = nothing_yet(alloc, 3 * p.methods.len())?;
+    visit_own(&mut w, p, mode, m, t, own)?;
     let mut k = 0;
     while k < w.queue.len() {
         let e = entry_at(&w.queue, k);
-        if let Some(at) = node_fault(p, uses, tags, e.node) {
-            let way = way_to(alloc, &w.queue, mark.method, k)?;
-            let rule = rule_at(p, uses, tags, e.node, at);
+        if let Some(at) = node_fault(p, uses, tags, class, e.node) {
+            let way = way_to(alloc, &w.queue, class, mode, mark.method, k)?;
+            let rule = rule_at(p, uses, tags, class, e.node, at);
             return Ok(Some(Fault {
                 way,
-                site: site_at(e.node, at),
+                site: site_at(class, e.node, at),
                 rule,
             }));
         }
-        visit_node(&mut w, p, tags, e.node, k + 1)?;
+        visit_node(&mut w, p, tags, class, e.node, k + 1)?;
         k += 1;
     }
     Ok(None)

@@ -114,7 +114,9 @@ fn write_cause_words(
 {
     match cause {
         Cause::Element => text.extend_from_slice(b"it is an element of an array"),
-        Cause::Static => text.extend_from_slice(b"it is a static field"),
+        Cause::Static => {
+            text.extend_from_slice(b"it is a static field, and the section is not on its class")
+        }
         Cause::Shared => text.extend_from_slice(b"the field is not private"),
         Cause::Other => text.extend_from_slice(b"it is the field of another object"),
         Cause::Constructor(init) => {
@@ -240,10 +242,10 @@ fn lines(
 }
 
 /// The marks of a program with their reasons: for each section its line as `run_texts::mark_text`
-/// has it, and where the mark isn't M0 the calls that lead to what breaks its rule, a line `
-/// CLASS.NAMEDESCRIPTOR at PC MNEMONIC calls` for each of them, and then the instruction with the
-/// rule that it breaks, and for M5 what keeps the place from being read, or the method that is
-/// called again (M7), or that the monitor is not `this`, or that no path reaches the block (M8).
+/// has it, and where the mark isn't M0 the calls that lead to what breaks its rule, for each of
+/// them a line `CLASS.NAMEDESCRIPTOR at PC MNEMONIC calls`, and then the instruction with the rule
+/// that it breaks, and for M5 what keeps the place from being read, or the method that is called
+/// again (M7), or that the monitor is not `this`, or that no path reaches the block (M8).
 pub fn marks_explained(alloc: Global, c: &Checked) -> Result<Bytes, AllocError>
     ensures { IfOk result (IsMarksExplained c.now) }
 {

@@ -1,6 +1,7 @@
 //! Runs of worked classes, each with its whole text and its status. The counts follow from the
 //! instructions of the classes, event by event.
 
+mod class_sections;
 mod ints;
 mod limits;
 mod meetings;
@@ -124,6 +125,7 @@ fn one_thread_runs(rt: HostRuntime) -> Result<(), Fail> {
 #[test]
 fn sections_run_without_their_lock(rt: HostRuntime) -> Result<(), Fail> {
     check_all(&rt, &sections::SECTIONS)?;
+    check_all(&rt, &class_sections::CLASS_SECTIONS)?;
     Ok(())
 }
 

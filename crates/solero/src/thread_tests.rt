@@ -9,7 +9,7 @@ use std::sync::atomic::{AtomicU64, Ordering};
 use std::test::Fail;
 use std::thread::Threads;
 use test_classes::{
-    ADDS, ADDS_TWICE, BANK, LOCKS_OUT, ROUNDS, SHARED_AND_DONE, SPINS, WAITS, bytes_of,
+    ADDS, ADDS_TWICE, BANK, CLASS_PAIR, LOCKS_OUT, ROUNDS, SHARED_AND_DONE, SPINS, WAITS, bytes_of,
 };
 
 /// A status, and how the report begins that goes with it: all that stands before its counts.
@@ -23,7 +23,7 @@ struct ThreadRun {
     ends: &'static [End],
 }
 
-const RUNS: [ThreadRun; 11] = [
+const RUNS: [ThreadRun; 12] = [
     // No worker.
     ThreadRun {
         options: &[],
@@ -72,6 +72,21 @@ const RUNS: [ThreadRun; 11] = [
             (
                 0,
                 "8\n8\ninit returned\nthread 1 returned\nthread 2 returned\ndone returned\n",
+            ),
+        ],
+    },
+    // So does a section on a class.
+    ThreadRun {
+        options: &["--threads", "2"],
+        class: CLASS_PAIR,
+        ends: &[
+            (
+                0,
+                "0\ninit returned\nthread 1 returned\nthread 2 returned\ndone returned\n",
+            ),
+            (
+                0,
+                "8\ninit returned\nthread 1 returned\nthread 2 returned\ndone returned\n",
             ),
         ],
     },

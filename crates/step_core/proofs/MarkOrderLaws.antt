@@ -9,12 +9,12 @@ use Rattle.std.proofs.lemmas.Bool.Decides.{nat_tests}
 use Rattle.std.proofs.lemmas.List.{length-drop}
 use Rattle.std.proofs.lemmas.Option.{slice_get-get_or}
 use Rattle.jvm_types.specs.CodeGrammar.{SpellsInsns}
+use Rattle.jvm_types.specs.Members.{is_synchronized}
 use Rattle.jvm_types.specs.declared.code.Insn.{Insn}
 use Rattle.jvm_types.specs.declared.code.Op.{Op}
 use Rattle.jvm_types.specs.declared.code.Op.TheVariants as ops
 use Rattle.jvm_types.specs.declared.program.MethodInfo.{MethodInfo}
 use Rattle.jvm_types.specs.declared.program.Program.{Program}
-use Rattle.checked_program.specs.FrozenPlaces.{locks_this}
 use Rattle.checked_program.specs.MarkedProgram.{MarkedProgram, IsMarked}
 use Rattle.checked_program.specs.Marks.{IsMarkOf}
 use Rattle.checked_program.specs.Sections.{Section, block_at, sections_from}
@@ -111,7 +111,7 @@ module _ (p : Program) (tags : Tagged) (uses : List FieldUse) where
   sections_ascend mi [] (mark ∷ marks) spelled all = absurd all
   sections_ascend mi (m ∷ ms) marks spelled all =
       let own = spelled 0 m refl in
-      whole_ascends mi (locks_this m) (filter_map (λ insn. block_at insn.pc insn.op) m.code) (sections_from (suc mi) ms) marks all
+      whole_ascends mi (is_synchronized m.flags) (filter_map (λ insn. block_at insn.pc insn.op) m.code) (sections_from (suc mi) ms) marks all
       (λ others zipped. blocks_ascend mi 0 m.code own.0 (sections_from (suc mi) ms) others own.1 zipped (λ rest more. sections_ascend (suc mi) ms rest (λ i. spelled (suc i)) more))
 
 pub marks_ascend : (c : MarkedProgram) → IsMarked c → AscendFrom 0 0 c.marks

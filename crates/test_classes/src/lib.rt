@@ -2,6 +2,7 @@
 #![tactic(auto)]
 
 mod bytes;
+mod class_sections;
 mod ints;
 mod meetings;
 mod objects;
@@ -14,6 +15,7 @@ mod texts;
 mod torn;
 
 pub use bytes::{bytes_of, changed};
+pub use class_sections::{CLASS_MARKS, CLASS_PAIR, CLASS_READS};
 pub use ints::{
     BRANCHES, EDGES, LOADS_CONSTANTS, LOCALS, NARROWS, QUOTIENTS, SHIFTS, STACK_MOVES, SUMS,
     SWITCHES,

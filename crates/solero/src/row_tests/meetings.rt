@@ -6,8 +6,8 @@ use test_classes::{
 };
 
 pub const MEETINGS: [Run; 16] = [
-    // The monitor of a class: left by an exception, entered again, and flagged by thread 1, so that
-    // thread 2 makes it fat as it returns.
+    // The monitor of a class: two sections without it, one of which an exception leaves; then thread
+    // 1 flags it, so that thread 2 makes it fat as it returns.
     Run {
         options: &["--threads", "2"],
         order: &[('2', 6), ('1', 80)],
@@ -21,7 +21,7 @@ pub const MEETINGS: [Run; 16] = [
             thread 1 returned\n\
             thread 2 returned\n\
             done returned\n\
-            counts 0 instructions 32 elided 0 failed 0 locked 2 inflated 0\n\
+            counts 0 instructions 32 elided 2 failed 0 locked 0 inflated 0\n\
             counts 1 instructions 8 elided 0 failed 0 locked 1 inflated 0\n\
             counts 2 instructions 8 elided 0 failed 0 locked 1 inflated 1\n\
         ",

@@ -1,25 +1,9 @@
 //! Sections that run without their lock, alone and beside a thread that sets what they read.
 
 use super::Run;
-use test_classes::{
-    COUNTS, DIVIDES, DIVIDES_AT_REST, LEAVES_BY_EXCEPTION, PAIR, SETS_AND_SUMS, SHARED, TWICE,
-};
+use test_classes::{COUNTS, DIVIDES, DIVIDES_AT_REST, LEAVES_BY_EXCEPTION, PAIR, SHARED, TWICE};
 
-pub const SECTIONS: [Run; 16] = [
-    // Static synchronized methods take the lock of their class.
-    Run {
-        options: &[],
-        order: &[],
-        class: SETS_AND_SUMS,
-        changes: &[],
-        status: 0,
-        text: "\
-            8\n\
-            init returned\n\
-            done returned\n\
-            counts 0 instructions 15 elided 0 failed 0 locked 2 inflated 0\n\
-        ",
-    },
+pub const SECTIONS: [Run; 15] = [
     // The setter takes the lock, and three sections are elided.
     Run {
         options: &[],

@@ -24,9 +24,12 @@ loop-u-preserved c =
     let inside : c.loop-u.u < length c.args.p.now.methods = omega (arith, c.loop-u-test.true, c.len-u-end.ensures) in
     let at : slice_get c.args.p.now.methods c.loop-u.u ≡ Some c.index-as_slice-u.result = slice_get_read c.args.p.now.methods (length c.args.p.now.methods) c.loop-u.u c.index-as_slice-u.result refl inside
     (c.index-as_slice-u.is ∙ ap (λ l. get_or l c.loop-u.u c.index-as_slice-u.result) c.as_slice.ensures) in
-    methods_go_on c.args.p.now (tagged_by c.args.tags.now) c.args.uses.now c.loop-u.u c.index-as_slice-u.result c.loop-u.marks c.mark_method.new.marks at c.loop-u.invariant c.in_ok-mark_method.ensures
+    record {
+      callees = c.in_ok-callees-2.ensures.are;
+      marks = methods_go_on c.args.p.now (tagged_by c.args.tags.now) c.args.uses.now c.loop-u.u c.index-as_slice-u.result c.loop-u.marks c.mark_method.new.marks at c.loop-u.invariant.marks c.in_ok-mark_method.ensures;
+    }
 
 pub returns : goal.returns
 returns c =
     let all : length c.args.p.now.methods ≤ c.loop-u.u = omega (arith, c.loop-u-test.false, c.len-u-end.ensures) in
-    methods_end c.args.p.now (tagged_by c.args.tags.now) c.args.uses.now c.loop-u.u c.loop-u.marks all c.loop-u.invariant
+    methods_end c.args.p.now (tagged_by c.args.tags.now) c.args.uses.now c.loop-u.u c.loop-u.marks all c.loop-u.invariant.marks

@@ -1,8 +1,12 @@
 use Rattle.std.proofs.Common.{drop}
 use Rattle.checked_program.specs.TaggedCode.{tagged_by}
 use Rattle.checked_program.specs.Sections.{sections, sections_from}
+use Rattle.guard_analysis.specs.Faults.{AreCallees}
 use Rattle.guard_analysis.specs.SectionGrades.{Continues}
 use Rattle.guard_analysis.proofs.marking.mark_all.Given as goal
 
 abbrev pub invariant-loop-u : goal.invariant-loop-u
-invariant-loop-u l = Continues l.p (tagged_by l.tags) l.uses (sections l.p) (sections_from l.u (drop l.u l.p.methods)) l.marks
+invariant-loop-u l = record {
+  callees : AreCallees l.p (tagged_by l.tags) l.uses l.callees.class l.callees.breaks.items l.callees.recurs.items;
+  marks : Continues l.p (tagged_by l.tags) l.uses (sections l.p) (sections_from l.u (drop l.u l.p.methods)) l.marks;
+}

@@ -1,19 +1,16 @@
 use Rattle.std.proofs.Common.{◌∙◌, sym, subst}
 use Rattle.std.proofs.lemmas.Result.{on_ok_weaker}
 use Rattle.checked_program.specs.TaggedCode.{tagged_by}
+use Rattle.checked_program.specs.declared.section.Mode.TheVariants.{OnThis}
 use Rattle.guard_analysis.specs.SectionGrades.{AreGrades}
 use Rattle.guard_analysis.proofs.Grading.{are_grades}
 use Rattle.guard_analysis.proofs.MarkLists.{both_marked_in}
 use Rattle.guard_analysis.proofs.marking.mark_method.Goals as goal
 
-pub mark_whole-requires-clause-grades : goal.mark_whole-requires-clause-grades
-mark_whole-requires-clause-grades c = are_grades c.args.p.now c.args.uses.now c.args.tags.now c.requires.program c.args.method c.args.m.now c.args.t.now c.requires.there c.requires.tagged c.args.callees.now.breaks.items c.args.callees.now.recurs.items
-    c.requires.callees c.as_slice.result.now (c.as_slice.ensures.value ∙ c.in_ok-grades.ensures)
-
 pub mark_blocks-requires-clause-grades : goal.mark_blocks-requires-clause-grades
-mark_blocks-requires-clause-grades c = subst (λ m. AreGrades c.args.p.now (tagged_by c.args.tags.now) c.args.uses.now c.args.method m c.as_slice-2.result.now) (sym c.in_ok-indexed.ensures)
-    (are_grades c.args.p.now c.args.uses.now c.args.tags.now c.requires.program c.args.method c.args.m.now c.args.t.now c.requires.there c.requires.tagged c.args.callees.now.breaks.items c.args.callees.now.recurs.items
-    c.requires.callees c.as_slice-2.result.now (c.as_slice-2.ensures.value ∙ c.in_ok-grades.ensures))
+mark_blocks-requires-clause-grades c = subst (λ m. AreGrades c.args.p.now (tagged_by c.args.tags.now) c.args.uses.now OnThis c.args.method m c.as_slice.result.now) (sym c.in_ok-indexed.ensures)
+    (are_grades c.args.p.now c.args.uses.now c.args.tags.now c.requires.program c.args.method c.args.m.now c.args.t.now c.requires.there c.requires.tagged c.args.callees.now.class OnThis tt c.args.callees.now.breaks.items c.args.callees.now.recurs.items
+    c.requires.callees c.as_slice.result.now (c.as_slice.ensures.value ∙ c.in_ok-grades.ensures))
 
 pub returns : goal.returns
 returns c = on_ok_weaker c.mark_blocks.result

@@ -3,14 +3,20 @@ use Rattle.std.proofs.lemmas.Result.{IfOk-weaker}
 use Rattle.checked_program.specs.TaggedCode.{tagged_by}
 use Rattle.mark_reasons.specs.Reasons.{callee_of}
 use Rattle.mark_reasons.specs.declared.cause.Place.{Place}
-use Rattle.mark_reasons.proofs.CauseLaws.{element_cause, field_cause, field_there, static_cause}
+use Rattle.mark_reasons.proofs.CauseLaws.{element_cause, field_cause, field_there, static_breaks, static_cause, static_there}
 use Rattle.mark_reasons.proofs.cause.place_cause.Goals as goal
 
 pub returns-in-Element : goal.returns-in-Element
 returns-in-Element c = element_cause c.args.p.now (tagged_by c.args.tags.now) c.args.uses.now (callee_of c.args.site) c.args.site.at c.requires.breaks (c.requires.read ∙ ap (λ (x : Place). Some x) c.in-Element.is)
 
+pub static_cause-requires-clause-there : goal.static_cause-requires-clause-there
+static_cause-requires-clause-there c = static_there c.args.p.now (tagged_by c.args.tags.now) c.args.uses.now (callee_of c.args.site) c.args.site.at c.requires.breaks c.in-Static.field (c.requires.read ∙ ap (λ (x : Place). Some x) c.in-Static.is) c.requires.program
+
+pub static_cause-requires-clause-breaks : goal.static_cause-requires-clause-breaks
+static_cause-requires-clause-breaks c = static_breaks c.args.p.now (tagged_by c.args.tags.now) c.args.uses.now (callee_of c.args.site) c.args.site.at c.requires.breaks c.in-Static.field (c.requires.read ∙ ap (λ (x : Place). Some x) c.in-Static.is)
+
 pub returns-in-Static : goal.returns-in-Static
-returns-in-Static c = static_cause c.args.p.now (tagged_by c.args.tags.now) c.args.uses.now (callee_of c.args.site) c.args.site.at c.requires.breaks (c.requires.read ∙ ap (λ (x : Place). Some x) c.in-Static.is)
+returns-in-Static c = IfOk-weaker c.static_cause.result _ _ (λ cause h. static_cause c.args.p.now (tagged_by c.args.tags.now) c.args.uses.now (callee_of c.args.site) c.args.site.at c.requires.breaks c.in-Static.field (c.requires.read ∙ ap (λ (x : Place). Some x) c.in-Static.is) cause h) c.static_cause.ensures
 
 pub field_cause-requires-clause-there : goal.field_cause-requires-clause-there
 field_cause-requires-clause-there c = field_there c.args.p.now (tagged_by c.args.tags.now) c.args.uses.now (callee_of c.args.site) c.args.site.at c.requires.breaks c.in-Field.field (c.requires.read ∙ ap (λ (x : Place). Some x) c.in-Field.is) c.requires.program

@@ -4,7 +4,7 @@ use Rattle.std.proofs.lemmas.Result.{IfOk-weaker}
 use Rattle.jvm_types.specs.declared.program.MethodInfo.{MethodInfo}
 use Rattle.code_table.specs.PcTables.{number_at}
 use Rattle.checked_program.specs.TaggedCode.{tagged_by}
-use Rattle.checked_program.specs.Marks.{IsOnThis}
+use Rattle.checked_program.specs.Marks.{IsOnOwn}
 use Rattle.checked_program.specs.declared.section.Spot.{Spot}
 use Rattle.mark_reasons.specs.OwnFlags.{AreOwn, OwnOrElsewhere, IsBlockAnswer}
 use Rattle.mark_reasons.proofs.OwnLaws.{method_own, no_number, block_answer}
@@ -23,6 +23,6 @@ returns-in-Some c = IfOk-weaker c.block_at.result _ _ (λ found h.
     (subst (λ (x : MethodInfo). IsBlockAnswer x c.args.t.now.frames c.in-Some.enter (slice_get x.code c.in-Some.enter) found) c.in_ok-indexed-in-Block.ensures h))) c.block_at.ensures
 
 pub returns : goal.returns
-returns c = subst (λ (s : Spot). IsOnThis c.args.p.now (tagged_by c.args.tags.now) c.args.method s → ⊥) (sym c.in-Block.is)
+returns c = subst (λ (s : Spot). IsOnOwn c.args.p.now (tagged_by c.args.tags.now) c.args.method s → ⊥) (sym c.in-Block.is)
     (no_number c.args.p.now c.args.tags.now c.requires.program c.args.method c.args.m.now c.args.t.now c.requires.there c.requires.tagged c.in-Block.pc
     (ap (λ (x : MethodInfo). number_at x.code c.in-Block.pc) (sym c.in_ok-indexed-in-Block.ensures) ∙ sym c.in-None.ensures))

@@ -5,7 +5,7 @@ use Rattle.mark_reasons.specs.Searches.{Searching, left_of}
 use Rattle.mark_reasons.proofs.search.find_fault.Given as goal
 
 abbrev pub invariant-loop-k : goal.invariant-loop-k
-invariant-loop-k l = Searching l.p (tagged_by l.tags) l.uses (marked_section l.mark) (2 * length l.p.methods) l.k l.w
+invariant-loop-k l = Searching l.p (tagged_by l.tags) l.uses (marked_section l.mark) (3 * length l.p.methods) l.k l.w
 
 abbrev pub decreases-loop-k : goal.decreases-loop-k
 decreases-loop-k l = left_of l.w l.k
