@@ -12,7 +12,8 @@ use Rattle.machine_types.proofs.OnlyLive.{only_live_change}
 use Rattle.laws_threads.specs.GivenThread.{Given, GivenIsKept}
 use Rattle.laws_states.specs.StateLaws.{EventsKeepState}
 use Rattle.laws_states.specs.WorkLeft.{EventsLessenAllWork, all_work}
-use Rattle.replay_runner.specs.Running.{Running, AreRunning, events, parts_left, run_on}
+use Rattle.replay_runner.specs.Running.{Running, events, parts_left, run_on}
+use Rattle.replay_runner.specs.RunningStates.{AreRunning}
 use Rattle.replay_runner.proofs.MachineEvents.{event_runs}
 
 -- ---- an event of a live thread leaves less

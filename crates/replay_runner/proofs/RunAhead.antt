@@ -21,7 +21,8 @@ use Rattle.laws_states.specs.WorkLeft.{EventsLessenWork, work_left}
 use Rattle.laws_states.proofs.LockViews.{not_held}
 use Rattle.laws_states.proofs.WordViews.{lock_of_word}
 use Rattle.step_core.specs.Alone.{ThreadWithWords, IsFine, alone, stepped_by}
-use Rattle.replay_runner.specs.Running.{Running, IsThreadOf, events, run_on}
+use Rattle.replay_runner.specs.Running.{Running, events, run_on}
+use Rattle.replay_runner.specs.RunningStates.{IsThreadOf}
 use Rattle.replay_runner.proofs.ManyEvents.{is_lawful, reached, stays_thread}
 
 stays_by : (m : Running) (p : MarkedProgram) (t : ℕ) (s : Thread) (words : List ℕ)

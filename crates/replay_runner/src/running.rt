@@ -8,7 +8,8 @@ ghost use Rattle.machine_types.specs.Settings.{AreSettings};
 ghost use Rattle.jvm_types.specs.declared.limits.TheConstants.{MOST_WORKERS};
 ghost use Rattle.laws_states.specs.WorkLeft.{all_work, work_left};
 ghost use Rattle.run_parts.specs.Parts.{own_begun};
-ghost use Rattle.replay_runner.specs.Running.{AreRunning, IsThreadOf, Running, run_on, turns_of};
+ghost use Rattle.replay_runner.specs.Running.{Running, run_on, turns_of};
+ghost use Rattle.replay_runner.specs.RunningStates.{AreRunning, IsThreadOf};
 
 use checked_program::Checked;
 use frames::ThreadState;
@@ -40,7 +41,8 @@ pub struct Machine {
 
 impl Model for Machine {
     ghost use Rattle.std.specs.Prelude.{◌≡◌, ◌≤◌, [], length};
-    ghost use Rattle.replay_runner.specs.Running.{AreRunning, Running};
+    ghost use Rattle.replay_runner.specs.Running.{Running};
+    ghost use Rattle.replay_runner.specs.RunningStates.{AreRunning};
 
     ghost Value = { Running };
 

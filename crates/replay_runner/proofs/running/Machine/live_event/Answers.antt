@@ -1,7 +1,8 @@
 use Rattle.std.proofs.Common.{◌≡◌, true, refl, sym, ap, subst, ◌∙◌, arith}
 use Rattle.std.proofs.lemmas.List.{length-set}
 use Rattle.machine_types.specs.Core.{event, lives}
-use Rattle.replay_runner.specs.Running.{Running, AreRunning, IsThreadOf}
+use Rattle.replay_runner.specs.Running.{Running}
+use Rattle.replay_runner.specs.RunningStates.{AreRunning, IsThreadOf}
 use Rattle.replay_runner.proofs.MachineEvents.{live_there, live_thread}
 use Rattle.replay_runner.proofs.LessWork.{event_lessens}
 use Rattle.replay_runner.proofs.ManyEvents.{put_back}
