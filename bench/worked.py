@@ -5,7 +5,7 @@ import re
 
 from measure import TOP
 
-TEXT = r'pub const {}: &str = "\\\n(.*?)";'
+TEXT = r'pub (?:const {0}: &str = |fn {0}\(\) -> &\'static str {{\n    )"\\\n(.*?)"'
 
 
 def worked(name):

@@ -1,12 +1,8 @@
 pub mod ListedCode
 pub mod WordLaws
 pub mod LineLaws
-pub mod TextLaws
 pub mod BuildLaws
 pub mod EncodeLaws
 pub mod CodeBuildLaws
 pub mod ClassBuildLaws
 pub mod FitLaws
-pub mod ListingLaws
-pub mod AssembleLaws
-pub mod CutLaws

@@ -66,8 +66,11 @@ member_line name m = record { name = name; values = Number m.flags ∷ Number m.
 abbrev pub member_lines : List ℕ → Member → List Line
 member_lines name m = member_line name m ∷ (flat_map member_attr_lines m.attrs ++ end_line ∷ [])
 
+abbrev pub head_line : (minor major flags class super : ℕ) → Line
+head_line minor major flags class super = record { name = codes "file"; values = Number minor ∷ Number major ∷ Number flags ∷ Number class ∷ Number super ∷ [] }
+
 abbrev pub file_line : ClassFile → Line
-file_line c = record { name = codes "file"; values = Number c.minor ∷ Number c.major ∷ Number c.flags ∷ Number c.this_class ∷ Number c.super_class ∷ [] }
+file_line c = head_line c.minor c.major c.flags c.this_class c.super_class
 
 -- a class file (JVMS 4.1); of the constants those from index 1 on
 abbrev pub class_lines : ClassFile → List Line

@@ -9,7 +9,7 @@ use Rattle.mnemonics.specs.Mnemonics.{mnemonic}
 use Rattle.asm_text.specs.Lines.{Number, Signed, Line, text_of}
 use Rattle.asm_text.specs.CodeLines.{name_or_empty, bytes_line}
 use Rattle.asm_text.specs.Operands.{shape_at, operands_fit}
-use Rattle.asm_text.specs.ClassLines.{constant_line, interface_line, attr_line, row_line, end_line, constant_value_line}
+use Rattle.asm_text.specs.ClassLines.{constant_line, head_line, interface_line, attr_line, row_line, end_line, constant_value_line}
 use Rattle.asm_text.specs.declared.items.MemberKind.{MemberKind}
 use Rattle.asm_text.specs.declared.items.MemberKind.TheVariants as kinds
 use Rattle.asm_text.specs.declared.items.Item.{Item}
@@ -23,7 +23,7 @@ member_keyword kinds.Method = codes "mmember"
 
 -- the line that says this
 abbrev pub item_line : Item → Line
-item_line (FileHead minor major flags class super) = record { name = codes "file"; values = Number minor ∷ Number major ∷ Number flags ∷ Number class ∷ Number super ∷ [] }
+item_line (FileHead minor major flags class super) = head_line minor major flags class super
 item_line (Entry c) = constant_line c
 item_line (Interface class) = interface_line class
 item_line (MemberHead kind flags name descriptor) = record { name = member_keyword kind; values = Number flags ∷ Number name ∷ Number descriptor ∷ [] }

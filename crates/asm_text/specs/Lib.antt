@@ -5,10 +5,8 @@ pub mod Steps
 pub mod Operands
 pub mod Items
 pub mod Places
-pub mod Assembling
 pub mod Words
 pub mod LineNames
 pub mod Reading
 pub mod Encoding
 pub mod Drafting
-pub mod Drafted

@@ -6,12 +6,12 @@ ghost use Rattle.std.specs.List.{flat_map};
 ghost use Rattle.jvm_types.specs.ClassGrammar.{IsClass};
 ghost use Rattle.asm_text.specs.Lines.{line_text, text_of};
 ghost use Rattle.asm_text.specs.ClassLines.{attr_line, class_lines, code_attr_lines, code_line};
-ghost use Rattle.asm_text.specs.ClassLines.{constant_line, end_line, file_line, interface_line};
-ghost use Rattle.asm_text.specs.ClassLines.{Lists, member_attr_lines, member_line, member_lines};
-ghost use Rattle.asm_text.specs.ClassLines.{row_line};
+ghost use Rattle.asm_text.specs.ClassLines.{constant_line, end_line, file_line, head_line};
+ghost use Rattle.asm_text.specs.ClassLines.{interface_line, Lists, member_attr_lines};
+ghost use Rattle.asm_text.specs.ClassLines.{member_line, member_lines, row_line};
 
 use crate::code_lines::write_code;
-use crate::lines::write_hex;
+use crate::lines::{write_hex, write_one, write_three, write_two};
 use crate::pool_lines::write_constants;
 use jvm_types::{Attr, Bytes, ClassFile, Code, Constant, Handler, Member, MemberAttr};
 use std::alloc::{AllocError, Global};
@@ -66,7 +66,7 @@ fn write_code_attr(text: &mut String, alloc: Global, code: &Code) -> Result<(), 
     let name = code.name;
     let stack = code.max_stack;
     let locals = code.max_locals;
-    writeln!(text, "code {name} {stack} {locals}")?;
+    write_three(text, "code", name, stack, locals)?;
     write_code(text, alloc, &code.bytes)?;
     write_rows(text, code.rows.as_slice())?;
     write_attrs(text, code.attrs.as_slice())?;
@@ -79,7 +79,7 @@ fn write_member_attr(text: &mut String, alloc: Global, attr: &MemberAttr) -> Res
 {
     match attr {
         MemberAttr::Code(code) => write_code_attr(text, alloc, code),
-        MemberAttr::ConstantValue { name, constant } => writeln!(text, "value {name} {constant}"),
+        MemberAttr::ConstantValue { name, constant } => write_two(text, "value", *name, *constant),
         MemberAttr::Other(attr) => write_attr(text, attr),
     }
 }
@@ -111,7 +111,7 @@ fn write_member(
     let flags = member.flags;
     let name = member.name;
     let descriptor = member.descriptor;
-    writeln!(text, "{kind} {flags} {name} {descriptor}")?;
+    write_three(text, kind, flags, name, descriptor)?;
     write_member_attrs(text, alloc, member.attrs.as_slice())?;
     text.push_str("end\n")
 }
@@ -136,32 +136,31 @@ fn write_interfaces(text: &mut String, interfaces: &[u16]) -> Result<(), AllocEr
         ≡ string_bytes text.old ++ text_of (map interface_line interfaces.now)) }
 {
     for interface in interfaces {
-        let class = *interface;
-        writeln!(text, "interface {class}")?;
+        write_one(text, "interface", u64::from(*interface))?;
     }
     Ok(())
 }
 
-fn write_file(text: &mut String, c: &ClassFile) -> Result<(), AllocError>
-    ensures { OnOk result
-        (string_bytes text.new ≡ string_bytes text.old ++ line_text (file_line c.now)) }
+/// The first line, by the numbers that it has.
+pub fn write_head(
+    text: &mut String,
+    minor: u16,
+    major: u16,
+    flags: u16,
+    class: u16,
+    superclass: u16,
+) -> Result<(), AllocError>
+    ensures { OnOk result (string_bytes text.new ≡ string_bytes text.old
+        ++ line_text (head_line minor major flags class superclass)) }
 {
-    let minor = c.minor;
-    let major = c.major;
-    let flags = c.flags;
-    let this_class = c.this_class;
-    let super_class = c.super_class;
-    writeln!(
-        text,
-        "file {minor} {major} {flags} {this_class} {super_class}"
-    )
+    writeln!(text, "file {minor} {major} {flags} {class} {superclass}")
 }
 
 fn write_class(text: &mut String, alloc: Global, c: &ClassFile) -> Result<(), AllocError>
     ensures { OnOk result
         (string_bytes text.new ≡ string_bytes text.old ++ text_of (class_lines c.now)) }
 {
-    write_file(text, c)?;
+    write_head(text, c.minor, c.major, c.flags, c.this_class, c.super_class)?;
     write_entries(text, c.constants.as_slice())?;
     write_interfaces(text, c.interfaces.as_slice())?;
     write_members(text, alloc, "fmember", c.fields.as_slice())?;

@@ -8,8 +8,8 @@ ghost use Rattle.jvm_types.specs.declared.code.Op.TheVariants.{Iinc, Tableswitch
 ghost use Rattle.mnemonics.specs.Mnemonics.{mnemonic};
 ghost use Rattle.asm_text.specs.Lines.{Number, line_text, text_of, values_text};
 ghost use Rattle.asm_text.specs.CodeLines.{are_zeros, bytes_line, case_values, code_lines};
-ghost use Rattle.asm_text.specs.CodeLines.{insn_line, is_padded, name_or_empty, names_local};
-ghost use Rattle.asm_text.specs.CodeLines.{op_line, operands, values_of};
+ghost use Rattle.asm_text.specs.CodeLines.{high_of, insn_line, is_padded, name_or_empty};
+ghost use Rattle.asm_text.specs.CodeLines.{names_local, op_line, operands, values_of};
 ghost use Rattle.asm_text.specs.Steps.{AreInsns};
 
 use crate::lines::{write_hex, write_number, write_signed};
@@ -80,6 +80,13 @@ fn write_targets(text: &mut String, targets: &[u32]) -> Result<(), AllocError>
     Ok(())
 }
 
+/// The highest key of a `tableswitch`.
+fn high_of(low: i32, targets: &[u32]) -> i64
+    ensures { result ≡ high_of low targets.now }
+{
+    i64::from(low) + targets.len() as i64 - 1
+}
+
 /// The default target of a `tableswitch`, low and high, and the targets.
 fn write_table(
     text: &mut String,
@@ -90,10 +97,9 @@ fn write_table(
     ensures { OnOk result (string_bytes text.new ≡ string_bytes text.old
         ++ values_text (operands (Tableswitch otherwise low targets.now))) }
 {
-    let high = i64::from(low) + targets.len() as i64 - 1;
     write_number(text, otherwise)?;
     write_signed(text, i64::from(low))?;
-    write_signed(text, high)?;
+    write_signed(text, high_of(low, targets))?;
     write_targets(text, targets)
 }
 

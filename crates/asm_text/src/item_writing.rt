@@ -5,10 +5,10 @@ ghost use Rattle.asm_text.specs.Lines.{Signed, line_text, values_text};
 ghost use Rattle.asm_text.specs.CodeLines.{bytes_line, name_or_empty};
 ghost use Rattle.asm_text.specs.Items.{item_line, member_keyword};
 
-use crate::class_lines::{write_attr, write_row};
+use crate::class_lines::{write_attr, write_head, write_row};
 use crate::code_lines::{name_of, write_bytes};
 use crate::items::{Item, MemberKind};
-use crate::lines::write_signed;
+use crate::lines::{write_one, write_signed, write_three, write_two};
 use crate::pool_lines::write_constant;
 use std::alloc::AllocError;
 
@@ -19,20 +19,6 @@ fn member_name(kind: MemberKind) -> &'static str
         MemberKind::Field => "fmember",
         MemberKind::Method => "mmember",
     }
-}
-
-fn write_member_head(
-    text: &mut String,
-    kind: MemberKind,
-    flags: u16,
-    name: u16,
-    descriptor: u16,
-) -> Result<(), AllocError>
-    ensures { OnOk result (string_bytes text.new ≡ string_bytes text.old
-        ++ line_text (item_line (Item.MemberHead kind flags name descriptor))) }
-{
-    let kind = member_name(kind);
-    writeln!(text, "{kind} {flags} {name} {descriptor}")
 }
 
 fn write_operands(text: &mut String, operands: &[i64]) -> Result<(), AllocError>
@@ -61,16 +47,16 @@ pub fn write_item(text: &mut String, item: &Item) -> Result<(), AllocError>
 {
     match item {
         Item::FileHead(minor, major, flags, class, superclass) => {
-            writeln!(text, "file {minor} {major} {flags} {class} {superclass}")
+            write_head(text, *minor, *major, *flags, *class, *superclass)
         }
         Item::Entry(constant) => write_constant(text, constant),
-        Item::Interface(class) => writeln!(text, "interface {class}"),
+        Item::Interface(class) => write_one(text, "interface", u64::from(*class)),
         Item::MemberHead(kind, flags, name, descriptor) => {
-            write_member_head(text, *kind, *flags, *name, *descriptor)
+            write_three(text, member_name(*kind), *flags, *name, *descriptor)
         }
         Item::Attribute(attr) => write_attr(text, attr),
-        Item::InitialValue(name, constant) => writeln!(text, "value {name} {constant}"),
-        Item::CodeHead(name, stack, locals) => writeln!(text, "code {name} {stack} {locals}"),
+        Item::InitialValue(name, constant) => write_two(text, "value", *name, *constant),
+        Item::CodeHead(name, stack, locals) => write_three(text, "code", *name, *stack, *locals),
         Item::CodeBytes(bytes) => write_bytes(text, bytes.as_slice()),
         Item::Instruction(opcode, operands) => {
             write_instruction(text, *opcode, operands.as_slice())

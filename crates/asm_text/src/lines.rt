@@ -1,42 +1,33 @@
-//! The values of a line, each behind one space.
+//! The values of a line, each behind one space, and lines of a name and numbers.
 
 ghost use Rattle.std.specs.Prelude.{◌≡◌, ◌++◌, ◌∷◌, ◌<◌, [], codes, OnOk, string_bytes};
 ghost use Rattle.std.specs.List.{flat_map};
 ghost use Rattle.std.specs.Fmt.{decimal, signed_decimal};
-ghost use Rattle.asm_text.specs.Lines.{hex_digit, hex_byte, hex_text};
+ghost use Rattle.asm_text.specs.Lines.{Number, hex_digit, hex_byte, hex_text, line_text};
 
 use std::alloc::AllocError;
 
 /// A digit of base 16, of a number below 16.
-fn hex_digit(n: u8) -> &'static str
+fn hex_digit(n: u8) -> u8
     requires { n < 16 }
-    ensures { result.now ≡ hex_digit n ∷ [] }
+    ensures is { result ≡ hex_digit n }
+    ensures ascii { result < 128 }
 {
-    match n {
-        0 => "0",
-        1 => "1",
-        2 => "2",
-        3 => "3",
-        4 => "4",
-        5 => "5",
-        6 => "6",
-        7 => "7",
-        8 => "8",
-        9 => "9",
-        10 => "a",
-        11 => "b",
-        12 => "c",
-        13 => "d",
-        14 => "e",
-        _ => "f",
-    }
+    if n < 10 { 48 + n } else { 87 + n }
+}
+
+fn write_hex_digit(text: &mut String, n: u8) -> Result<(), AllocError>
+    requires { n < 16 }
+    ensures { OnOk result (string_bytes text.new ≡ string_bytes text.old ++ hex_digit n ∷ []) }
+{
+    text.push(char::from(hex_digit(n)))
 }
 
 fn write_hex_byte(text: &mut String, byte: u8) -> Result<(), AllocError>
     ensures { OnOk result (string_bytes text.new ≡ string_bytes text.old ++ hex_byte byte) }
 {
-    text.push_str(hex_digit(byte / 16))?;
-    text.push_str(hex_digit(byte % 16))
+    write_hex_digit(text, byte / 16)?;
+    write_hex_digit(text, byte % 16)
 }
 
 fn write_hex_bytes(text: &mut String, bytes: &[u8]) -> Result<(), AllocError>
@@ -74,4 +65,28 @@ pub fn write_signed(text: &mut String, n: i64) -> Result<(), AllocError>
         (string_bytes text.new ≡ string_bytes text.old ++ (codes " " ++ signed_decimal n)) }
 {
     write!(text, " {n}")
+}
+
+/// A line of a name and a number.
+pub fn write_one(text: &mut String, name: &str, n: u64) -> Result<(), AllocError>
+    ensures { OnOk result (string_bytes text.new
+        ≡ string_bytes text.old ++ line_text (record { name = name.now; values = Number n ∷ [] })) }
+{
+    writeln!(text, "{name} {n}")
+}
+
+/// A line of a name and two numbers.
+pub fn write_two(text: &mut String, name: &str, a: u16, b: u16) -> Result<(), AllocError>
+    ensures { OnOk result (string_bytes text.new ≡ string_bytes text.old
+        ++ line_text (record { name = name.now; values = Number a ∷ Number b ∷ [] })) }
+{
+    writeln!(text, "{name} {a} {b}")
+}
+
+/// A line of a name and three numbers.
+pub fn write_three(text: &mut String, name: &str, a: u16, b: u16, c: u16) -> Result<(), AllocError>
+    ensures { OnOk result (string_bytes text.new ≡ string_bytes text.old
+        ++ line_text (record { name = name.now; values = Number a ∷ Number b ∷ Number c ∷ [] })) }
+{
+    writeln!(text, "{name} {a} {b} {c}")
 }

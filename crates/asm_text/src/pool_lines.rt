@@ -5,7 +5,7 @@ ghost use Rattle.asm_text.specs.Lines.{line_text, text_of};
 ghost use Rattle.asm_text.specs.ClassLines.{constant_line};
 ghost use Rattle.jvm_types.specs.declared.class_file.Constant.TheVariants.{Utf8};
 
-use crate::lines::write_hex;
+use crate::lines::{write_hex, write_one, write_two};
 use jvm_types::Constant;
 use std::alloc::AllocError;
 
@@ -27,15 +27,15 @@ pub fn write_constant(text: &mut String, constant: &Constant) -> Result<(), Allo
         Constant::Gap => text.push_str("gap\n"),
         Constant::Utf8(bytes) => write_utf8(text, bytes.as_slice()),
         Constant::Integer(n) => writeln!(text, "integer {n}"),
-        Constant::Float(n) => writeln!(text, "float {n}"),
-        Constant::Long(n) => writeln!(text, "long {n}"),
-        Constant::Double(n) => writeln!(text, "double {n}"),
-        Constant::Class(name) => writeln!(text, "class {name}"),
-        Constant::Text(string) => writeln!(text, "string {string}"),
-        Constant::Field(class, member) => writeln!(text, "field {class} {member}"),
-        Constant::Method(class, member) => writeln!(text, "method {class} {member}"),
-        Constant::InterfaceMethod(class, member) => writeln!(text, "imethod {class} {member}"),
-        Constant::NameAndType(name, descriptor) => writeln!(text, "nametype {name} {descriptor}"),
+        Constant::Float(n) => write_one(text, "float", u64::from(*n)),
+        Constant::Long(n) => write_one(text, "long", *n),
+        Constant::Double(n) => write_one(text, "double", *n),
+        Constant::Class(name) => write_one(text, "class", u64::from(*name)),
+        Constant::Text(string) => write_one(text, "string", u64::from(*string)),
+        Constant::Field(class, member) => write_two(text, "field", *class, *member),
+        Constant::Method(class, member) => write_two(text, "method", *class, *member),
+        Constant::InterfaceMethod(class, member) => write_two(text, "imethod", *class, *member),
+        Constant::NameAndType(name, descriptor) => write_two(text, "nametype", *name, *descriptor),
     }
 }
 

@@ -13,12 +13,3 @@ pub fn one(alloc: Global, file: Bytes) -> Result<Rows<Bytes>, AllocError>
     files.push(file)?;
     Ok(files)
 }
-
-/// Two files, in this order. Errors: where memory runs out.
-pub fn two(alloc: Global, first: Bytes, second: Bytes) -> Result<Rows<Bytes>, AllocError>
-    ensures { IfOk result (λ files. files ≡ first ∷ second ∷ []) }
-{
-    let mut files = one(alloc, first)?;
-    files.push(second)?;
-    Ok(files)
-}

@@ -4,20 +4,14 @@
 
 mod files;
 
-pub use files::{one, two};
+pub use files::one;
 
 #[cfg(test)]
 mod graphs;
 #[cfg(test)]
-mod loading;
-#[cfg(test)]
-mod marking;
-#[cfg(test)]
 mod reaches;
 #[cfg(test)]
 mod reading;
-#[cfg(test)]
-mod refusals;
 #[cfg(test)]
 mod reports;
 #[cfg(test)]

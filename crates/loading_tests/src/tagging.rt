@@ -1,12 +1,30 @@
 //! The lock tags of compiled classes. Methods and their instructions go by their numbers.
 
+ghost use Rattle.std.specs.Prelude.{◌<◌, ◌≤◌, length};
+
 use crate::files::one;
-use crate::marking::load;
 use checked_program::{Checked, Tag};
-use class_runner::FileError;
+use class_runner::{FileError, link_files, read_files, tag_files, verify_files};
+use guard_analysis::mark;
+use jvm_types::Bytes;
+use jvm_types::limits::LEAST_HEAP;
+use std::alloc::Global;
 use std::process::Abort;
 use std::test::*;
 use test_classes::{changed, marks, pair};
+
+/// The checked program of some files.
+fn load(alloc: Global, files: &[Bytes]) -> Result<Checked, FileError>
+    requires some { 0 < length files.now }
+    requires few { length files.now ≤ 64 }
+{
+    let classes = read_files(alloc, files)?;
+    let program = link_files(alloc, &classes, LEAST_HEAP, 0)?;
+    let typings = verify_files(alloc, classes.as_slice(), &program)?;
+    let tags = tag_files(alloc, classes.as_slice(), &program)?;
+    let marks = mark(alloc, &program, &tags)?;
+    Ok(Checked::of(program, typings, tags, marks))
+}
 
 /// The tag of the innermost monitor before an instruction; `None` where none is held, or the
 /// instruction is not reached.

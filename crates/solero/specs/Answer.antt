@@ -2,9 +2,9 @@
 use Rattle.std.specs.Prelude.{◌≡◌, ℕ, ◌+◌, ◌<◌, ◌≤◌, nat_lt, Bool, List, [], ◌∷◌, ◌++◌, length, map, take, codes, Option, Some, None, IfSome, Err, if◌then◌else◌}
 use Rattle.std.specs.Fmt.{decimal, signed_decimal}
 use Rattle.std.specs.List.{AllByRecursion, AllZip, flat_map, position_from}
-use Rattle.asm_text.specs.Assembling.{Assembles, ListsNone}
+use Rattle.assembler.specs.Assembling.{Assembles, ListsNone}
 use Rattle.asm_text.specs.ClassLines.{Lists}
-use Rattle.asm_text.specs.declared.asm_error.AsmError.TheVariants.{Refused}
+use Rattle.assembler.specs.declared.asm_error.AsmError.TheVariants.{Refused}
 use Rattle.cell_runner.specs.CellRuns.{IsCellRun}
 use Rattle.cell_runner.specs.declared.report.CellReport.{CellReport}
 use Rattle.checked_program.specs.MarkedProgram.{MarkedProgram}

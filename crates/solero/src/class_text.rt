@@ -8,7 +8,8 @@ ghost use Rattle.host_io.specs.Reading.{first_long};
 ghost use Rattle.solero.specs.Answer.{IsAssembled, IsListed};
 ghost use Rattle.solero.specs.Parts.{IsNotAssembled};
 
-use asm_text::{AsmError, assemble, listing};
+use asm_text::listing;
+use assembler::{AsmError, assemble};
 use class_runner::{FileError, read_files};
 use class_writer::{WriteError, write_class};
 use jvm_types::limits::MOST_FILE_BYTES;

@@ -1,5 +1,0 @@
-use Rattle.std.proofs.Common.{sym, ◌∙◌}
-use Rattle.asm_text.proofs.listing_laws.one_listing.Goals as goal
-
-pub returns : goal.returns
-returns c text other d h k = h.listed ∙ sym k.listed

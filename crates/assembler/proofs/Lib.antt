@@ -1,0 +1,4 @@
+pub mod TextLaws
+pub mod ListingLaws
+pub mod AssembleLaws
+pub mod CutLaws
