@@ -71,7 +71,7 @@ can_in c s (phases.WaitLook m r depth) got k = k.turns
 can_in c s (phases.Retake m r depth) got k = (k.turns, λ none. k.room tt)
 can_in c s phase got k = tt
 
-made_by_steps : (phase : Phase) (instructions most : ℕ) → StepsFit phase instructions most → instructions ≤ most
+pub made_by_steps : (phase : Phase) (instructions most : ℕ) → StepsFit phase instructions most → instructions ≤ most
 made_by_steps phases.Run instructions most fit = omega arith
 made_by_steps phase instructions most fit = fit
 
