@@ -1,26 +1,12 @@
 -- The lines of a class make that class.
-use Rattle.std.proofs.Common.{◌≡◌, ℕ, ◌≤◌, Bool, false, List, [], ◌∷◌, ◌++◌, map, Option, Some, None, refl, sym, ap, subst, ◌∙◌, arith, append_assoc}
-use Rattle.std.specs.Prelude.{nat_lt, if◌then◌else◌}
-use Rattle.std.proofs.lemmas.Bool.Decides.{nat_tests}
-use Rattle.std.proofs.lemmas.List.{append-nil}
-use Rattle.jvm_types.specs.declared.class_file.Constant.{Constant}
-use Rattle.jvm_types.specs.declared.class_file.Attr.{Attr}
-use Rattle.jvm_types.specs.declared.class_file.Handler.{Handler}
-use Rattle.jvm_types.specs.declared.class_file.Code.{Code}
-use Rattle.jvm_types.specs.declared.class_file.Member.{Member}
-use Rattle.jvm_types.specs.declared.class_file.ClassFile.{ClassFile}
-use Rattle.asm_text.specs.Places.{place_after, place_behind, behind_next, class_rank, code_rank}
-use Rattle.asm_text.specs.Drafting.{line_added, drafted, draft, no_member, no_code, place_or}
-use Rattle.asm_text.specs.declared.items.MemberKind.{MemberKind}
-use Rattle.asm_text.specs.declared.items.Item.{Item}
-use Rattle.asm_text.specs.declared.items.Item.TheVariants.{Entry, Interface, Attribute, Row}
-use Rattle.asm_text.specs.declared.places.ClassPart.{ClassPart}
+use Rattle.std.proofs.Common.{◌≡◌, ℕ, ◌≤◌, Bool, false, List, [], ◌∷◌, ◌++◌, map, Option, Some, None, refl, sym, ap, subst, ◌∙◌, arith, append_assoc, nat_lt, if◌then◌else◌}
+use Rattle.std.proofs.lemmas.{Bool.Decides.nat_tests, List.append-nil}
+use Rattle.jvm_types.specs.declared.class_file.{Attr.Attr, ClassFile.ClassFile, Code.Code, Constant.Constant, Handler.Handler, Member.Member}
+use Rattle.asm_text.specs.{Drafting.{line_added, drafted, draft, no_member, no_code, place_or}, Places.{place_after, place_behind, behind_next, class_rank, code_rank}, declared.drafts.Draft.Draft}
+use Rattle.asm_text.specs.declared.{items.{Item.{Item, TheVariants.{Entry, Interface, Attribute, Row}}, MemberKind.MemberKind}, places.{ClassPart.ClassPart, CodePart.CodePart, Place.Place}}
 use Rattle.asm_text.specs.declared.places.ClassPart.TheVariants as parts
-use Rattle.asm_text.specs.declared.places.CodePart.{CodePart}
 use Rattle.asm_text.specs.declared.places.CodePart.TheVariants as code_parts
-use Rattle.asm_text.specs.declared.places.Place.{Place}
 use Rattle.asm_text.specs.declared.places.Place.TheVariants as places
-use Rattle.asm_text.specs.declared.drafts.Draft.{Draft}
 
 -- ---- lines lead from a place and a draft to others
 

@@ -1,28 +1,17 @@
 -- The lines of a class make that class.
-use Rattle.std.proofs.Common.{◌≡◌, true, List, [], ◌∷◌, ◌++◌, map, drop, refl, sym, ap, arith}
-use Rattle.std.specs.List.{AllByRecursion, flat_map}
-use Rattle.std.proofs.lemmas.List.{append-nil}
-use Rattle.jvm_types.specs.ClassGrammar.{IsByte, IsClass, IsFieldAttr, IsMethodAttr, IsField, IsMethod, GapsFit, is_gap}
-use Rattle.jvm_types.specs.declared.class_file.Constant.{Constant}
-use Rattle.jvm_types.specs.declared.class_file.Constant.TheVariants.{Gap}
-use Rattle.jvm_types.specs.declared.class_file.Code.{Code}
-use Rattle.jvm_types.specs.declared.class_file.MemberAttr.{MemberAttr}
-use Rattle.jvm_types.specs.declared.class_file.MemberAttr.TheVariants as member_attrs
-use Rattle.jvm_types.specs.declared.class_file.Member.{Member}
-use Rattle.jvm_types.specs.declared.class_file.ClassFile.{ClassFile}
-use Rattle.asm_text.specs.Places.{part_of, class_rank}
-use Rattle.asm_text.specs.Drafting.{draft, new_draft, no_class, no_member, no_code, member_of, started_code, with_member, with_member_attr, with_bytes}
-use Rattle.asm_text.specs.declared.items.MemberKind.{MemberKind}
-use Rattle.asm_text.specs.declared.items.MemberKind.TheVariants as kinds
-use Rattle.asm_text.specs.declared.items.Item.{Item}
-use Rattle.asm_text.specs.declared.items.Item.TheVariants.{FileHead, Entry, Interface, MemberHead, Attribute, InitialValue, CodeHead, Row, End}
+use Rattle.std.{proofs.{Common.{◌≡◌, true, List, [], ◌∷◌, ◌++◌, map, drop, refl, sym, ap, arith}, lemmas.List.append-nil}, specs.List.{AllByRecursion, flat_map}}
+use Rattle.jvm_types.specs.{ClassGrammar.{IsByte, IsClass, IsFieldAttr, IsMethodAttr, IsField, IsMethod, GapsFit, is_gap}, declared.class_file.{ClassFile.ClassFile, Code.Code, Constant.Constant}}
+use Rattle.jvm_types.{specs.declared.class_file.{Constant.TheVariants.Gap, Member.Member, MemberAttr.MemberAttr}, proofs.EachAfter.all_weaker}
+use Rattle.asm_text.specs.{Drafting.{draft, new_draft, no_class, no_member, no_code, member_of, started_code, with_member, with_member_attr, with_bytes}, Places.{part_of, class_rank}}
+use Rattle.asm_text.specs.declared.items.{Item.{Item, TheVariants.{FileHead, Entry, Interface, MemberHead, Attribute, InitialValue, CodeHead, Row, End}}, MemberKind.MemberKind}
 use Rattle.asm_text.specs.declared.places.ClassPart.{ClassPart}
+use Rattle.asm_text.proofs.BuildLaws.{Leads, first_line, both_lead, leads_as, stays, entered, UpTo, up_more, LeadsUpTo, code_up_more, one_behind, constants_lead, interfaces_lead, attrs_lead, rows_lead, code_attrs_lead}
+use Rattle.asm_text.proofs.CodeBuildLaws.{code_items, code_leads}
+use Rattle.jvm_types.specs.declared.class_file.MemberAttr.TheVariants as member_attrs
+use Rattle.asm_text.specs.declared.items.MemberKind.TheVariants as kinds
 use Rattle.asm_text.specs.declared.places.ClassPart.TheVariants as parts
 use Rattle.asm_text.specs.declared.places.CodePart.TheVariants as code_parts
 use Rattle.asm_text.specs.declared.places.Place.TheVariants as places
-use Rattle.asm_text.proofs.BuildLaws.{Leads, first_line, both_lead, leads_as, stays, entered, UpTo, up_more, LeadsUpTo, code_up_more, one_behind, constants_lead, interfaces_lead, attrs_lead, rows_lead, code_attrs_lead}
-use Rattle.asm_text.proofs.CodeBuildLaws.{code_items, code_leads}
-use Rattle.jvm_types.proofs.EachAfter.{all_weaker}
 
 -- ---- the lines of a class
 

@@ -1,35 +1,14 @@
 -- The lines of a code make that code.
-use Rattle.std.proofs.Common.{◌≡◌, ℕ, zero, suc, ◌+◌, ◌<◌, ◌≤◌, Bool, true, false, List, [], ◌∷◌, ◌++◌, length, map, Option, Some, None, refl, sym, ap, subst, ◌∙◌, arith, append_assoc, length-append}
-use Rattle.std.specs.Prelude.{◌==◌, not, is_some, IsSomeAnd, slice_index_or}
-use Rattle.std.specs.List.{AllByRecursion, list_all}
-use Rattle.std.specs.Option.{option_map}
-use Rattle.std.proofs.lemmas.Bool.Decides.{nat_tests}
-use Rattle.std.proofs.lemmas.List.{append-nil}
-use Rattle.std.proofs.lemmas.Bool.{and_parts}
-use Rattle.jvm_types.specs.ClassGrammar.{IsByte}
-use Rattle.jvm_types.specs.CodeTable.{Form, Table, Lookup, form_of}
-use Rattle.jvm_types.specs.CodeGrammar.{padding_size, SpellsOperands, SpellsInsns, IsCode}
-use Rattle.jvm_types.specs.CodeFault.{code_fault}
-use Rattle.jvm_types.specs.ReadCode.{insns_of}
-use Rattle.jvm_types.specs.declared.code.Insn.{Insn}
-use Rattle.jvm_types.specs.declared.code.Op.{Op}
-use Rattle.jvm_types.specs.declared.class_file.Code.{Code}
-use Rattle.jvm_types.specs.declared.class_file.Member.{Member}
-use Rattle.jvm_types.specs.declared.class_file.ClassFile.{ClassFile}
-use Rattle.jvm_types.proofs.CodeExact.{read_is_code}
-use Rattle.asm_text.specs.CodeLines.{are_zeros, is_padded, are_insns}
-use Rattle.asm_text.specs.Operands.{shape_of, shape_at}
-use Rattle.asm_text.specs.Encoding.{zero_bytes, shape_bytes, encoded}
-use Rattle.asm_text.specs.Drafting.{draft, with_bytes}
-use Rattle.asm_text.specs.declared.items.MemberKind.{MemberKind}
-use Rattle.asm_text.specs.declared.items.Item.{Item}
-use Rattle.asm_text.specs.declared.items.Item.TheVariants.{CodeBytes, Instruction}
-use Rattle.asm_text.specs.declared.places.CodePart.{CodePart}
+use Rattle.std.proofs.Common.{◌≡◌, ℕ, zero, suc, ◌+◌, ◌<◌, ◌≤◌, Bool, true, false, List, [], ◌∷◌, ◌++◌, length, map, Option, Some, None, refl, sym, ap, subst, ◌∙◌, arith, append_assoc, length-append, ◌==◌, not, is_some, IsSomeAnd, slice_index_or}
+use Rattle.std.{specs.{List.{AllByRecursion, list_all}, Option.option_map}, proofs.lemmas.{Bool.{and_parts, Decides.nat_tests}, List.append-nil}}
+use Rattle.jvm_types.specs.{ClassGrammar.IsByte, CodeFault.code_fault, CodeGrammar.{padding_size, SpellsOperands, SpellsInsns, IsCode}, CodeTable.{Form, Table, Lookup, form_of}, ReadCode.insns_of}
+use Rattle.jvm_types.{specs.declared.{class_file.{ClassFile.ClassFile, Code.Code, Member.Member}, code.{Insn.Insn, Op.Op}}, proofs.CodeExact.read_is_code}
+use Rattle.asm_text.specs.{CodeLines.{are_zeros, is_padded, are_insns}, Drafting.{draft, with_bytes}, Encoding.{zero_bytes, shape_bytes, encoded}, Operands.{shape_of, shape_at}}
+use Rattle.asm_text.specs.declared.{items.{Item.{Item, TheVariants.{CodeBytes, Instruction}}, MemberKind.MemberKind}, places.CodePart.CodePart}
+use Rattle.asm_text.proofs.{BuildLaws.{Leads, first_line, leads_as, stays, entered, CodeUpTo, LeadsInCode, code_up_more}, EncodeLaws.{insn_operands, LineHolds, line_holds, IsPadded, operands_spelled}}
+use Rattle.asm_text.proofs.WordLaws.{small_back}
 use Rattle.asm_text.specs.declared.places.CodePart.TheVariants as code_parts
 use Rattle.asm_text.specs.declared.places.Place.TheVariants as places
-use Rattle.asm_text.proofs.WordLaws.{small_back}
-use Rattle.asm_text.proofs.EncodeLaws.{insn_operands, LineHolds, line_holds, IsPadded, operands_spelled}
-use Rattle.asm_text.proofs.BuildLaws.{Leads, first_line, leads_as, stays, entered, CodeUpTo, LeadsInCode, code_up_more}
 
 -- ---- padding
 

@@ -1,22 +1,13 @@
 -- The bytes of an instruction by its line are those that spell it.
-use Rattle.std.proofs.Common.{◌≡◌, ℕ, ◌-◌, ◌*◌, ◌/◌, ◌%◌, ◌^◌, ◌<◌, ℤ, pos, Bool, true, false, List, [], ◌∷◌, ◌++◌, length, map, Option, Some, None, refl, sym, ap, subst, ◌∙◌, arith}
-use lib.IntN.{negsuc}
-use Rattle.std.specs.Prelude.{◌==◌, ◌-ℤ◌, ◌+ℤ◌, nat_lt, FitsSigned, if◌then◌else◌}
-use Rattle.std.specs.List.{AllByRecursion, flat_map}
-use Rattle.std.specs.Int.{w8, w16, w32, is_in_range}
-use Rattle.std.proofs.lemmas.Bool.Decides.{nat_tests}
-use Rattle.std.proofs.lemmas.Int.{ints}
-use Rattle.jvm_types.specs.Numbers.{u1, u2, u4, s4}
-use Rattle.jvm_types.specs.CodeTable.{Form, Plain, Byte, Short, SignedByte, SignedShort, Branch, WideBranch, LocalAndStep, IntArray, Table, Lookup, FormRows, first_row, form_of, constants, loads, stores, stack_moves, arithmetic, control, references}
+use Rattle.std.proofs.Common.{◌≡◌, ℕ, ◌-◌, ◌*◌, ◌/◌, ◌%◌, ◌^◌, ◌<◌, ℤ, pos, Bool, true, false, List, [], ◌∷◌, ◌++◌, length, map, Option, Some, None, refl, sym, ap, subst, ◌∙◌, arith, ◌==◌, ◌-ℤ◌, ◌+ℤ◌, nat_lt, FitsSigned, if◌then◌else◌}
+use Rattle.std.{specs.{Int.{w8, w16, w32, is_in_range}, List.{AllByRecursion, flat_map}}, proofs.lemmas.{Bool.Decides.nat_tests, Int.ints}}
 use Rattle.jvm_types.specs.CodeGrammar.{s1, s2, offset, padding_size, spelled_case, SpellsOperands}
-use Rattle.jvm_types.specs.declared.code.Case.{Case}
-use Rattle.jvm_types.specs.declared.code.Op.{Op}
-use Rattle.jvm_types.specs.declared.code.Cmp.TheVariants.{Eq, Ne, Lt, Ge, Gt, Le}
+use Rattle.jvm_types.specs.CodeTable.{Form, Plain, Byte, Short, SignedByte, SignedShort, Branch, WideBranch, LocalAndStep, IntArray, Table, Lookup, FormRows, first_row, form_of, constants, loads, stores, stack_moves, arithmetic, control, references}
+use Rattle.jvm_types.specs.{Numbers.{u1, u2, u4, s4}, declared.code.{Case.Case, Cmp.TheVariants.{Eq, Ne, Lt, Ge, Gt, Le}, Op.Op}}
 use Rattle.jvm_types.specs.declared.code.Op.TheVariants.{Nop, AconstNull, Bipush, Sipush, Ldc, LdcW, Iload, Aload, Istore, Astore, Iaload, Iastore, Pop, Pop2, Dup, DupX1, DupX2, Dup2, Swap, Iadd, Isub, Imul, Idiv, Irem, Ineg, Ishl, Ishr, Iushr, Iand, Ior, Ixor, Iinc, I2b, I2c, I2s, If, IfIcmp, IfAcmpeq, IfAcmpne, Ifnull, Ifnonnull, Goto, GotoW, Tableswitch, Lookupswitch, Ireturn, Areturn, Return, Getstatic, Putstatic, Getfield, Putfield, Invokevirtual, Invokespecial, Invokestatic, New, Newarray, Arraylength, Athrow, Monitorenter, Monitorexit}
-use Rattle.asm_text.specs.Lines.{Value, Number, Signed, Hex}
-use Rattle.asm_text.specs.CodeLines.{high_of, case_values, operands, names_local, values_of}
-use Rattle.asm_text.specs.Operands.{shape_of, is_target}
-use Rattle.asm_text.specs.Encoding.{low1, low2, low4, way, zero_bytes, ways, pair_ways, operand_bytes}
+use Rattle.asm_text.specs.{CodeLines.{high_of, case_values, operands, names_local, values_of}, Encoding.{low1, low2, low4, way, zero_bytes, ways, pair_ways, operand_bytes}}
+use Rattle.asm_text.specs.{Lines.{Value, Number, Signed, Hex}, Operands.{shape_of, is_target}}
+use lib.IntN.{negsuc}
 use Rattle.asm_text.specs.declared.shapes.Shape.TheVariants as shapes
 
 -- ---- the numbers of a line

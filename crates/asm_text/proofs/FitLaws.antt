@@ -1,41 +1,21 @@
 -- The numbers of the lines of a class are in their fields.
-use Rattle.std.proofs.Common.{◌≡◌, ℕ, ◌^◌, ◌<◌, ◌≤◌, ℤ, pos, Bool, true, false, List, [], ◌∷◌, ◌++◌, length, map, drop, Option, Some, None, refl, sym, ap, subst, ◌∙◌, arith, append_assoc, length-append}
-use lib.IntN.{negsuc}
-use Rattle.std.specs.Prelude.{FitsSigned, IsSomeAnd, slice_index_or}
-use Rattle.std.specs.List.{AllByRecursion, flat_map, list_all}
-use Rattle.std.specs.Int.{w8, w16, w32}
-use Rattle.std.specs.Option.{option_map}
-use Rattle.std.proofs.lemmas.Bool.Decides.{nat_tests}
-use Rattle.std.proofs.lemmas.Int.{ints}
-use Rattle.std.proofs.lemmas.Bool.{and_from}
-use Rattle.jvm_types.specs.CodeTable.{Form, Plain, Byte, Short, SignedByte, SignedShort, Branch, WideBranch, LocalAndStep, IntArray, Table, Lookup, form_of}
-use Rattle.jvm_types.specs.CodeGrammar.{offset, SpellsOperands, SpellsInsns}
+use Rattle.std.proofs.Common.{◌≡◌, ℕ, ◌^◌, ◌<◌, ◌≤◌, ℤ, pos, Bool, true, false, List, [], ◌∷◌, ◌++◌, length, map, drop, Option, Some, None, refl, sym, ap, subst, ◌∙◌, arith, append_assoc, length-append, FitsSigned, IsSomeAnd, slice_index_or}
+use Rattle.std.{specs.{Int.{w8, w16, w32}, List.{AllByRecursion, flat_map, list_all}, Option.option_map}, proofs.lemmas.{Bool.{and_from, Decides.nat_tests}, Int.ints}}
 use Rattle.jvm_types.specs.ClassGrammar.{IsByte, IsUtf8Byte, FieldsFit, IsClass, IsIndex, IsAttr, IsHandler, IsCodeAttr, IsFieldAttr, IsMethodAttr, IsField, IsMethod}
-use Rattle.jvm_types.specs.ReadCode.{insns_of}
+use Rattle.jvm_types.specs.CodeGrammar.{offset, SpellsOperands, SpellsInsns}
+use Rattle.jvm_types.specs.{CodeTable.{Form, Plain, Byte, Short, SignedByte, SignedShort, Branch, WideBranch, LocalAndStep, IntArray, Table, Lookup, form_of}, ReadCode.insns_of}
+use Rattle.jvm_types.specs.declared.{class_file.{Attr.Attr, ClassFile.ClassFile, Code.Code, Constant.Constant, Handler.Handler, Member.Member, MemberAttr.MemberAttr}, code.{Case.Case, Insn.Insn}}
+use Rattle.jvm_types.{specs.declared.code.Op.Op, proofs.EachAfter.{all_append, all_weaker}}
+use Rattle.asm_text.specs.{CodeLines.are_insns, Items.ItemFits, Operands.{is_between, is_target, is_s1, is_s2, is_s4, are_pairs, operands_fit, shape_of, shape_at}, declared.items.Item.Item}
+use Rattle.asm_text.{specs.declared.items.Item.TheVariants.{Entry, Interface, Attribute, Row}, proofs.ClassBuildLaws.{code_attr_items, member_attr_items, member_items, class_items}}
+use Rattle.asm_text.proofs.CodeBuildLaws.{insn_item, code_items, code_items_by, code_read, at_end}
+use Rattle.asm_text.proofs.EncodeLaws.{insn_operands, case_numbers, LineLaw, LineHolds, line_holds, high_is, target_fits, near_far}
+use lib.IntN.{negsuc}
 use Rattle.jvm_types.specs.declared.index_kind.IndexKind.TheVariants as index_kinds
-use Rattle.jvm_types.specs.declared.code.Case.{Case}
-use Rattle.jvm_types.specs.declared.code.Insn.{Insn}
-use Rattle.jvm_types.specs.declared.code.Op.{Op}
-use Rattle.jvm_types.specs.declared.class_file.Constant.{Constant}
 use Rattle.jvm_types.specs.declared.class_file.Constant.TheVariants as constants
-use Rattle.jvm_types.specs.declared.class_file.Attr.{Attr}
-use Rattle.jvm_types.specs.declared.class_file.Handler.{Handler}
-use Rattle.jvm_types.specs.declared.class_file.Code.{Code}
-use Rattle.jvm_types.specs.declared.class_file.MemberAttr.{MemberAttr}
 use Rattle.jvm_types.specs.declared.class_file.MemberAttr.TheVariants as member_attrs
-use Rattle.jvm_types.specs.declared.class_file.Member.{Member}
-use Rattle.jvm_types.specs.declared.class_file.ClassFile.{ClassFile}
-use Rattle.asm_text.specs.CodeLines.{are_insns}
-use Rattle.asm_text.specs.Operands.{is_between, is_target, is_s1, is_s2, is_s4, are_pairs, operands_fit, shape_of, shape_at}
-use Rattle.asm_text.specs.Items.{ItemFits}
 use Rattle.asm_text.specs.declared.shapes.Shape.TheVariants as shapes
 use Rattle.asm_text.specs.declared.items.MemberKind.TheVariants as kinds
-use Rattle.asm_text.specs.declared.items.Item.{Item}
-use Rattle.asm_text.specs.declared.items.Item.TheVariants.{Entry, Interface, Attribute, Row}
-use Rattle.asm_text.proofs.EncodeLaws.{insn_operands, case_numbers, LineLaw, LineHolds, line_holds, high_is, target_fits, near_far}
-use Rattle.asm_text.proofs.CodeBuildLaws.{insn_item, code_items, code_items_by, code_read, at_end}
-use Rattle.asm_text.proofs.ClassBuildLaws.{code_attr_items, member_attr_items, member_items, class_items}
-use Rattle.jvm_types.proofs.EachAfter.{all_append, all_weaker}
 
 -- ---- operands
 

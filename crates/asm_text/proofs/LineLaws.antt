@@ -1,35 +1,20 @@
 -- The line that says something is read as that, and as nothing else.
-use Rattle.std.proofs.Common.{◌≡◌, ℕ, zero, suc, ◌%◌, ◌^◌, ◌<◌, ◌≤◌, ℤ, pos, Bool, true, false, List, [], ◌∷◌, ◌++◌, map, Option, Some, None, refl, sym, ap, subst, ◌∙◌, arith}
-use Rattle.std.specs.Prelude.{◌==◌, ◌&&◌, ◌||◌, ◌-ℤ◌, nat_lt, not, if◌then◌else◌, is_some, IsSomeAnd, FitsSigned, bytes_eq}
-use Rattle.std.proofs.lemmas.Slice.Eq.{bytes_eq-Decides}
-use Rattle.std.specs.List.{AllByRecursion, list_all}
-use Rattle.std.specs.Int.{w32}
-use lib.IntN.{negsuc}
-use Rattle.std.proofs.lemmas.Bool.Decides.{nat_tests}
-use Rattle.std.proofs.lemmas.Int.{ints}
-use Rattle.std.proofs.lemmas.Bool.{ltb-true, and_parts, and_from}
-use Rattle.jvm_types.specs.ClassGrammar.{IsByte}
-use Rattle.jvm_types.specs.declared.class_file.Constant.{Constant}
-use Rattle.jvm_types.specs.declared.class_file.Constant.TheVariants as constants
-use Rattle.mnemonics.specs.Mnemonics.{mnemonic, opcode_of}
-use Rattle.mnemonics.proofs.OpcodeLaws.{opcode_back, opcode_fits, mnemonic_back}
-use Rattle.asm_text.specs.Lines.{Signed, Line, value_text, values_text, line_text}
-use Rattle.asm_text.specs.CodeLines.{name_or_empty}
+use Rattle.std.proofs.Common.{◌≡◌, ℕ, zero, suc, ◌%◌, ◌^◌, ◌<◌, ◌≤◌, ℤ, pos, Bool, true, false, List, [], ◌∷◌, ◌++◌, map, Option, Some, None, refl, sym, ap, subst, ◌∙◌, arith, ◌==◌, ◌&&◌, ◌||◌, ◌-ℤ◌, nat_lt, not, if◌then◌else◌, is_some, IsSomeAnd, FitsSigned, bytes_eq}
+use Rattle.std.{specs.{Int.w32, List.{AllByRecursion, list_all}}, proofs.lemmas.{Bool.{ltb-true, and_parts, and_from, Decides.nat_tests}, Int.ints, Slice.Eq.bytes_eq-Decides}}
+use Rattle.jvm_types.specs.{ClassGrammar.IsByte, declared.class_file.Constant.Constant}
+use Rattle.mnemonics.{specs.Mnemonics.{mnemonic, opcode_of}, proofs.OpcodeLaws.{opcode_back, opcode_fits, mnemonic_back}}
+use Rattle.asm_text.specs.{CodeLines.name_or_empty, Items.{item_line, ItemFits, ConstantFits}, LineNames.line_name_of, Lines.{Signed, Line, value_text, values_text, line_text}}
 use Rattle.asm_text.specs.Operands.{is_between, is_target, is_s4, are_pairs, bounds_fit, operands_fit, shape_at}
-use Rattle.asm_text.specs.Items.{item_line, ItemFits, ConstantFits}
-use Rattle.asm_text.specs.Words.{words, word_at, read_on, unsigned, small, signed, u2_word, u4_word, u8_word, hex_word, operand_words}
-use Rattle.asm_text.specs.LineNames.{line_name_of}
 use Rattle.asm_text.specs.Reading.{item_in, item_by, rough_item, insn_fits, shape_fits, named_item, IsLineRead}
-use Rattle.asm_text.specs.declared.items.MemberKind.TheVariants as kinds
-use Rattle.asm_text.specs.declared.items.Item.{Item}
-use Rattle.asm_text.specs.declared.items.Item.TheVariants as items
-use Rattle.asm_text.specs.declared.line_names.LineName.{LineName}
-use Rattle.asm_text.specs.declared.line_names.LineName.TheVariants as names
-use Rattle.asm_text.specs.declared.shapes.Shape.{Shape}
-use Rattle.asm_text.specs.declared.shapes.Shape.TheVariants as shapes
+use Rattle.asm_text.specs.{Words.{words, word_at, read_on, unsigned, small, signed, u2_word, u4_word, u8_word, hex_word, operand_words}, declared.{items.Item.Item, line_names.LineName.LineName}}
+use Rattle.asm_text.{specs.declared.shapes.Shape.Shape, proofs.{CodeBuildLaws.no_fault, EncodeLaws.same_number}}
 use Rattle.asm_text.proofs.WordLaws.{unsigned_back, u2_back, u4_back, IsSigned, signed_back, hex_back, hex_fits, small_fits, are_plain, IsWritten, words_back, HasNoNewline, no_newline}
-use Rattle.asm_text.proofs.CodeBuildLaws.{no_fault}
-use Rattle.asm_text.proofs.EncodeLaws.{same_number}
+use lib.IntN.{negsuc}
+use Rattle.jvm_types.specs.declared.class_file.Constant.TheVariants as constants
+use Rattle.asm_text.specs.declared.items.MemberKind.TheVariants as kinds
+use Rattle.asm_text.specs.declared.items.Item.TheVariants as items
+use Rattle.asm_text.specs.declared.line_names.LineName.TheVariants as names
+use Rattle.asm_text.specs.declared.shapes.Shape.TheVariants as shapes
 
 -- ---- operands
 

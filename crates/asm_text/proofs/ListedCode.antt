@@ -1,20 +1,9 @@
 -- Which codes are listed by their instructions.
-use Rattle.std.proofs.Common.{◌≡◌, ℕ, ◌<◌, ◌^◌, Bool, false, List, [], map, Some, None, refl, subst}
-use Rattle.std.specs.Prelude.{slice_index_or}
-use Rattle.std.specs.List.{list_all}
-use Rattle.jvm_types.specs.CodeFault.{code_fault}
-use Rattle.jvm_types.specs.CodeGrammar.{IsCode}
-use Rattle.jvm_types.specs.ReadCode.{insns_of}
-use Rattle.jvm_types.specs.declared.code.Insn.{Insn}
-use Rattle.jvm_types.specs.declared.refusal.KRule.{KRule}
-use Rattle.jvm_types.proofs.CodeExact.{read_is_code}
-use Rattle.jvm_types.proofs.CodeLaws.{faultless}
+use Rattle.std.{proofs.{Common.{◌≡◌, ℕ, ◌<◌, ◌^◌, Bool, false, List, [], map, Some, None, refl, subst, slice_index_or}, lemmas.List.append-nil}, specs.List.list_all}
+use Rattle.jvm_types.{specs.{CodeFault.code_fault, CodeGrammar.IsCode, ReadCode.insns_of, declared.{code.Insn.Insn, refusal.KRule.KRule}}, proofs.{CodeExact.read_is_code, CodeLaws.faultless}}
 use Rattle.jvm_types.proofs.CodeOnce.{once}
 use Rattle.code_decode.proofs.Deciding.{are_bytes}
-use Rattle.std.proofs.lemmas.List.{append-nil}
-use Rattle.asm_text.specs.Lines.{line_text, text_of}
-use Rattle.asm_text.specs.CodeLines.{are_insns, bytes_line, code_lines, insn_line, is_padded}
-use Rattle.asm_text.specs.Steps.{AreInsns}
+use Rattle.asm_text.specs.{CodeLines.{are_insns, bytes_line, code_lines, insn_line, is_padded}, Lines.{line_text, text_of}, Steps.AreInsns}
 
 -- code has the instructions that are read off it
 pub are_read : (bytes : List ℕ) (insns : List Insn) → ((i : ℕ) → slice_index_or bytes i 0 < 2 ^ 8) → IsCode bytes [] insns → insns ≡ insns_of 0 0 bytes

@@ -1,25 +1,12 @@
 -- What was written of a number or of bytes is read as that, and a line has the words that were written.
-use Rattle.std.proofs.Common.{◌≡◌, ◌≢◌, ℕ, suc, ◌+◌, ◌-◌, ◌*◌, ◌%◌, ◌/◌, ◌^◌, ◌<◌, ◌≤◌, ℤ, pos, Bool, true, false, List, [], ◌∷◌, ◌++◌, length, get_or, map, drop, refl, sym, ap, subst, ◌∙◌, arith, rules, add-one}
-use Rattle.std.proofs.Math.Seq.{drop-cons}
-use Rattle.std.specs.Prelude.{◌==◌, ◌&&◌, ◌-ℤ◌, nat_lt, Option, None, slice_get, if◌then◌else◌}
-use Rattle.std.specs.Option.{unwrap_or}
-use Rattle.std.proofs.lemmas.Option.{unwrap_or-slice_get}
-use Rattle.std.specs.List.{AllByRecursion, list_all, flat_map}
-use Rattle.std.specs.Fmt.{decimal, signed_decimal}
-use Rattle.std.specs.Str.{all_ascii_digits}
-use lib.IntN.{negsuc}
-use Rattle.std.proofs.lemmas.Bool.Decides.{nat_tests}
-use Rattle.std.proofs.lemmas.Int.{ints}
-use Rattle.std.proofs.lemmas.Fmt.{digits_value-decimal, digits_decimal, decimal_by_steps, decimal_nonempty}
+use Rattle.std.proofs.Common.{◌≡◌, ◌≢◌, ℕ, suc, ◌+◌, ◌-◌, ◌*◌, ◌%◌, ◌/◌, ◌^◌, ◌<◌, ◌≤◌, ℤ, pos, Bool, true, false, List, [], ◌∷◌, ◌++◌, length, get_or, map, drop, refl, sym, ap, subst, ◌∙◌, arith, rules, add-one, ◌==◌, ◌&&◌, ◌-ℤ◌, nat_lt, Option, None, slice_get, if◌then◌else◌}
+use Rattle.std.{specs.{Fmt.{decimal, signed_decimal}, List.{AllByRecursion, list_all, flat_map}, Option.unwrap_or, Str.all_ascii_digits}, proofs.Math.Seq.drop-cons}
+use Rattle.std.proofs.lemmas.{Bool.{lt-ltb, and_parts, and_from, Decides.nat_tests}, Fmt.{digits_value-decimal, digits_decimal, decimal_by_steps, decimal_nonempty}, Int.ints, List.append-nil}
+use Rattle.std.proofs.lemmas.{List.{Elements.All-from_recursion, Folds.list_all-append, Splits.{slice_split_at, slice_split_none}}, Option.unwrap_or-slice_get}
 use Rattle.std.proofs.lemmas.Str.Parse.{IsNumeralModel, numerals_by_fold, not_in_digits}
-use Rattle.std.proofs.lemmas.List.Splits.{slice_split_at, slice_split_none}
-use Rattle.std.proofs.lemmas.List.Elements.{All-from_recursion}
-use Rattle.std.proofs.lemmas.List.Folds.{list_all-append}
-use Rattle.std.proofs.lemmas.List.{append-nil}
-use Rattle.std.proofs.lemmas.Bool.{lt-ltb, and_parts, and_from}
 use Rattle.jvm_types.specs.ClassGrammar.{IsByte}
-use Rattle.asm_text.specs.Lines.{Value, Number, Signed, Hex, hex_digit, hex_byte, hex_text, value_text, values_text}
-use Rattle.asm_text.specs.Words.{words, read_on, unsigned, small, signed, hex_digit_of, hex_bytes}
+use Rattle.asm_text.specs.{Lines.{Value, Number, Signed, Hex, hex_digit, hex_byte, hex_text, value_text, values_text}, Words.{words, read_on, unsigned, small, signed, hex_digit_of, hex_bytes}}
+use lib.IntN.{negsuc}
 
 -- ---- numbers
 

@@ -1,22 +1,11 @@
 -- What assembling a text answers, by its draft.
-use Rattle.std.proofs.Common.{◌≡◌, ℕ, Bool, true, false, List, Result, Ok, Err, refl, sym, subst, ◌∙◌}
-use Rattle.std.specs.Prelude.{bytes_eq, Decides, IfOk}
-use Rattle.std.proofs.lemmas.Slice.Eq.{bytes_eq-Decides}
-use Rattle.jvm_types.specs.ClassGrammar.{IsClass}
-use Rattle.jvm_types.specs.Spelling.{class_file}
-use Rattle.class_writer.specs.Writing.{Answers}
-use Rattle.class_writer.specs.declared.error.WriteError.{WriteError}
-use Rattle.class_writer.specs.declared.error.WriteError.TheVariants as write_errors
-use Rattle.jvm_types.proofs.CountLaws.{classes_fit}
-use Rattle.jvm_types.specs.declared.class_file.ClassFile.{ClassFile}
-use Rattle.jvm_types.specs.declared.refusal.ARule.TheVariants.{A1, A2}
-use Rattle.asm_text.specs.ClassLines.{Lists}
-use Rattle.assembler.specs.Assembling.{Assembles, ListsNone}
-use Rattle.assembler.specs.Drafted.{IsDrafted, IsWholeDraft, IsVerdict}
-use Rattle.asm_text.specs.declared.drafts.Draft.{Draft}
-use Rattle.assembler.specs.declared.asm_error.AsmError.{AsmError}
-use Rattle.assembler.specs.declared.asm_error.AsmError.TheVariants.{Memory, Refused}
+use Rattle.std.proofs.{Common.{◌≡◌, ℕ, Bool, true, false, List, Result, Ok, Err, refl, sym, subst, ◌∙◌, bytes_eq, Decides, IfOk}, lemmas.Slice.Eq.bytes_eq-Decides}
+use Rattle.jvm_types.{specs.{ClassGrammar.IsClass, Spelling.class_file, declared.{class_file.ClassFile.ClassFile, refusal.ARule.TheVariants.{A1, A2}}}, proofs.CountLaws.classes_fit}
+use Rattle.class_writer.specs.{Writing.Answers, declared.error.WriteError.WriteError}
+use Rattle.asm_text.specs.{ClassLines.Lists, declared.drafts.Draft.Draft}
+use Rattle.assembler.specs.{Assembling.{Assembles, ListsNone}, Drafted.{IsDrafted, IsWholeDraft, IsVerdict}, declared.asm_error.AsmError.{AsmError, TheVariants.{Memory, Refused}}}
 use Rattle.assembler.proofs.ListingLaws.{draft_is, listings_formed}
+use Rattle.class_writer.specs.declared.error.WriteError.TheVariants as write_errors
 
 pub drafted_error : (text : List ℕ) (e : AsmError) → IsDrafted text (Err e) → Assembles text (Err e)
 drafted_error text Memory h = tt

@@ -1,16 +1,9 @@
 -- Where a line ends.
-use Rattle.std.proofs.Common.{◌≡◌, ℕ, ◌+◌, ◌<◌, ◌≤◌, Bool, true, false, List, [], ◌∷◌, ◌++◌, length, get_or, take, drop, Some, None, refl, sym, ap, ◌∙◌, arith, add-one}
-use Rattle.std.specs.Prelude.{◌==◌, nat_lt, cond}
-use Rattle.std.specs.List.{position, position_or_len}
-use Rattle.std.proofs.Math.Seq.{drop-cons, take-suc}
-use Rattle.std.proofs.lemmas.Bool.Decides.{nat_tests}
-use Rattle.std.proofs.lemmas.List.{take-append-drop, length-take-le, get_or-take}
-use Rattle.std.proofs.lemmas.List.Elements.{recursion_from_All}
-use Rattle.std.proofs.lemmas.List.Quantifiers.{position-Some}
-use Rattle.std.proofs.lemmas.List.Sums.{fails_before_first}
-use Rattle.std.proofs.lemmas.Bool.{ltb-false}
-use Rattle.assembler.proofs.TextLaws.{IsCut}
+use Rattle.std.proofs.Common.{◌≡◌, ℕ, ◌+◌, ◌<◌, ◌≤◌, Bool, true, false, List, [], ◌∷◌, ◌++◌, length, get_or, take, drop, Some, None, refl, sym, ap, ◌∙◌, arith, add-one, ◌==◌, nat_lt, cond}
+use Rattle.std.{specs.List.{position, position_or_len}, proofs.{Math.Seq.{drop-cons, take-suc}, lemmas.{Bool.{ltb-false, Decides.nat_tests}, List.{take-append-drop, length-take-le, get_or-take}}}}
+use Rattle.std.proofs.lemmas.List.{Elements.recursion_from_All, Quantifiers.position-Some, Sums.fails_before_first}
 use Rattle.asm_text.proofs.WordLaws.{HasNoNewline}
+use Rattle.assembler.proofs.TextLaws.{IsCut}
 
 is_ten : (b : ℕ) → (b == 10) ≡ true → b ≡ 10
 is_ten b h = grind (arith, nat_tests)

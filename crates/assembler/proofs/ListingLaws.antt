@@ -1,42 +1,19 @@
 -- A text lists at most one class, and the one that its lines make.
-use Rattle.std.proofs.Common.{◌≡◌, ℕ, Bool, true, false, List, [], ◌∷◌, ◌++◌, map, drop, Option, Some, None, refl, sym, ap, subst, ◌∙◌, append_assoc}
-use Rattle.std.specs.Prelude.{codes, slice_index_or, if◌then◌else◌}
-use Rattle.std.specs.List.{AllByRecursion, flat_map}
-use Rattle.std.specs.Fmt.{decimal, signed_decimal}
-use Rattle.std.proofs.lemmas.List.{append-nil}
-use Rattle.jvm_types.specs.ReadCode.{insns_of}
-use Rattle.jvm_types.specs.declared.code.Case.{Case}
-use Rattle.jvm_types.specs.declared.code.Insn.{Insn}
-use Rattle.jvm_types.specs.declared.code.Op.{Op}
+use Rattle.std.proofs.Common.{◌≡◌, ℕ, Bool, true, false, List, [], ◌∷◌, ◌++◌, map, drop, Option, Some, None, refl, sym, ap, subst, ◌∙◌, append_assoc, codes, slice_index_or, if◌then◌else◌}
+use Rattle.std.{specs.{Fmt.{decimal, signed_decimal}, List.{AllByRecursion, flat_map}}, proofs.lemmas.List.append-nil}
+use Rattle.jvm_types.specs.{ReadCode.insns_of, declared.{class_file.{ClassFile.ClassFile, Code.Code, Member.Member, MemberAttr.MemberAttr}, code.{Case.Case, Insn.Insn, Op.Op}}}
 use Rattle.jvm_types.specs.declared.code.Op.TheVariants.{Tableswitch, Lookupswitch}
-use Rattle.jvm_types.specs.declared.class_file.Code.{Code}
-use Rattle.jvm_types.specs.declared.class_file.MemberAttr.{MemberAttr}
-use Rattle.jvm_types.specs.declared.class_file.MemberAttr.TheVariants as member_attrs
-use Rattle.jvm_types.specs.declared.class_file.Member.{Member}
-use Rattle.jvm_types.specs.declared.class_file.ClassFile.{ClassFile}
-use Rattle.asm_text.specs.Lines.{Number, Signed, Line, line_text, text_of, values_text}
-use Rattle.asm_text.specs.CodeLines.{high_of, case_values, operands, names_local, insn_line, are_insns, code_lines, bytes_line}
 use Rattle.asm_text.specs.ClassLines.{constant_line, interface_line, attr_line, row_line, end_line, code_line, member_line, file_line, code_attr_lines, member_attr_lines, member_lines, class_lines, Lists}
-use Rattle.asm_text.specs.Items.{item_line, items_text, ItemFits, member_keyword}
-use Rattle.asm_text.specs.Places.{place_behind, behind_next, place_after, is_end}
-use Rattle.asm_text.specs.Drafting.{drafted, new_draft}
-use Rattle.assembler.specs.Drafted.{IsWholeDraft}
-use Rattle.assembler.specs.Assembling.{HasFirstLines, IsFormed, ListsAtMostOneClass, ListingsAreFormed}
-use Rattle.asm_text.specs.declared.items.MemberKind.{MemberKind}
+use Rattle.asm_text.specs.{CodeLines.{high_of, case_values, operands, names_local, insn_line, are_insns, code_lines, bytes_line}, Drafting.{drafted, new_draft}}
+use Rattle.asm_text.specs.{Items.{item_line, items_text, ItemFits, member_keyword}, Lines.{Number, Signed, Line, line_text, text_of, values_text}}
+use Rattle.asm_text.specs.{Places.{place_behind, behind_next, place_after, is_end}, Reading.rough_item, declared.{drafts.Draft.Draft, items.Item.Item}}
+use Rattle.asm_text.specs.declared.{items.{Item.TheVariants.{Entry, Interface, Attribute, Row}, MemberKind.MemberKind}, places.Place.Place}
+use Rattle.asm_text.proofs.{ClassBuildLaws.{code_attr_items, member_attr_items, member_items, class_items, class_leads}, CodeBuildLaws.{insn_item, code_items, code_items_by}, EncodeLaws.number_of}
+use Rattle.asm_text.proofs.{FitLaws.class_fits, LineLaws.{line_body, read_back, body_has_no_newline}, WordLaws.same_line}
+use Rattle.assembler.{specs.{Assembling.{HasFirstLines, IsFormed, ListsAtMostOneClass, ListingsAreFormed}, Drafted.IsWholeDraft}, proofs.TextLaws.items_append}
+use Rattle.jvm_types.specs.declared.class_file.MemberAttr.TheVariants as member_attrs
 use Rattle.asm_text.specs.declared.items.MemberKind.TheVariants as kinds
-use Rattle.asm_text.specs.declared.items.Item.{Item}
-use Rattle.asm_text.specs.declared.items.Item.TheVariants.{Entry, Interface, Attribute, Row}
-use Rattle.asm_text.specs.declared.places.Place.{Place}
 use Rattle.asm_text.specs.declared.places.Place.TheVariants as places
-use Rattle.asm_text.specs.declared.drafts.Draft.{Draft}
-use Rattle.asm_text.proofs.WordLaws.{same_line}
-use Rattle.asm_text.proofs.LineLaws.{line_body, read_back, body_has_no_newline}
-use Rattle.assembler.proofs.TextLaws.{items_append}
-use Rattle.asm_text.proofs.EncodeLaws.{number_of}
-use Rattle.asm_text.proofs.CodeBuildLaws.{insn_item, code_items, code_items_by}
-use Rattle.asm_text.proofs.ClassBuildLaws.{code_attr_items, member_attr_items, member_items, class_items, class_leads}
-use Rattle.asm_text.proofs.FitLaws.{class_fits}
-use Rattle.asm_text.specs.Reading.{rough_item}
 
 -- ---- the text of a class is that of its lines one by one
 

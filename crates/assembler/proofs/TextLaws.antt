@@ -1,20 +1,11 @@
 -- A text is read line by line.
 use Rattle.std.proofs.Common.{◌≡◌, ℕ, ◌+◌, ◌≤◌, true, false, List, [], ◌∷◌, ◌++◌, length, Option, Some, None, refl, sym, ap, subst, ◌∙◌, arith, append_assoc, length-append}
-use Rattle.std.specs.List.{AllByRecursion}
-use Rattle.std.proofs.lemmas.List.{append-nil}
-use Rattle.asm_text.specs.Lines.{line_text}
-use Rattle.asm_text.specs.Items.{item_line, items_text, ItemFits}
-use Rattle.asm_text.specs.Places.{place_after, place_behind, behind_next, is_end}
-use Rattle.asm_text.specs.Drafting.{line_added, drafted, new_draft, place_or}
-use Rattle.assembler.specs.Drafted.{IsLine, IsNextPlace, AreDrafted, IsWholeDraft, is_whole}
-use Rattle.assembler.specs.Assembling.{HasFirstLines, IsFirstUnformed}
-use Rattle.asm_text.specs.declared.items.Item.{Item}
-use Rattle.asm_text.specs.declared.places.Place.{Place}
-use Rattle.asm_text.specs.declared.places.Place.TheVariants as places
-use Rattle.asm_text.specs.declared.drafts.Draft.{Draft}
-use Rattle.asm_text.proofs.WordLaws.{HasNoNewline, same_line}
-use Rattle.asm_text.proofs.LineLaws.{line_body, body_has_no_newline}
+use Rattle.std.{specs.List.AllByRecursion, proofs.lemmas.List.append-nil}
 use Rattle.jvm_types.proofs.EachAfter.{all_append}
+use Rattle.asm_text.specs.{Drafting.{line_added, drafted, new_draft, place_or}, Items.{item_line, items_text, ItemFits}, Lines.line_text, Places.{place_after, place_behind, behind_next, is_end}}
+use Rattle.asm_text.{specs.declared.{drafts.Draft.Draft, items.Item.Item, places.Place.Place}, proofs.{LineLaws.{line_body, body_has_no_newline}, WordLaws.{HasNoNewline, same_line}}}
+use Rattle.assembler.specs.{Assembling.{HasFirstLines, IsFirstUnformed}, Drafted.{IsLine, IsNextPlace, AreDrafted, IsWholeDraft, is_whole}}
+use Rattle.asm_text.specs.declared.places.Place.TheVariants as places
 
 -- ---- one more line
 

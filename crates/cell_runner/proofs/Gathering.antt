@@ -1,17 +1,9 @@
 -- Hands that take in those of the workers.
-use Rattle.std.proofs.Common.{◌≡◌, ℕ, ◌+◌, ◌*◌, ◌-◌, ◌^◌, ◌<◌, ◌≤◌, Bool, true, false, List, [], ◌∷◌, ◌++◌, length, length-append, refl, sym, ap, subst, ◌∙◌, arith}
-use Rattle.std.specs.Prelude.{◌||◌, slice_index_or}
-use Rattle.std.proofs.lemmas.Nat.{pow-add}
-use Rattle.std.proofs.lemmas.List.{get_or_append_left}
-use Rattle.std.proofs.Math.Seq.{get_or-append_seam}
+use Rattle.std.proofs.Common.{◌≡◌, ℕ, ◌+◌, ◌*◌, ◌-◌, ◌^◌, ◌<◌, ◌≤◌, Bool, true, false, List, [], ◌∷◌, ◌++◌, length, length-append, refl, sym, ap, subst, ◌∙◌, arith, ◌||◌, slice_index_or}
+use Rattle.std.proofs.{Math.Seq.get_or-append_seam, lemmas.{List.get_or_append_left, Nat.pow-add}}
 use Rattle.atomic_table.specs.Seated.{TableId}
-use Rattle.solero_cell.specs.declared.views.Record.{Record}
-use Rattle.solero_cell.specs.declared.views.Share.{Share}
-use Rattle.solero_cell.specs.CellViews.{share, sum_of}
-use Rattle.cell_runner.specs.declared.hands.Hand.{Hand}
-use Rattle.solero_cell.specs.Calls.{Seated}
-use Rattle.solero_cell.specs.CellViews.{halved, newcomer}
-use Rattle.cell_runner.specs.HandsOfCell.{AreReady, HasFew, HasGathered, HasJoined, HasWorked, HaveWorked, IsFreshSeat, IsShareLeft, AreRoundsOver, IsReady}
+use Rattle.solero_cell.specs.{Calls.Seated, CellViews.{share, sum_of, halved, newcomer}, declared.views.{Record.Record, Share.Share}}
+use Rattle.cell_runner.specs.{HandsOfCell.{AreReady, HasFew, HasGathered, HasJoined, HasWorked, HaveWorked, IsFreshSeat, IsShareLeft, AreRoundsOver, IsReady}, declared.hands.Hand.Hand}
 use mathlib.Core.Logic.{dite}
 use native.Mathlib.Decide.{ℕ_discrete}
 

@@ -1,19 +1,11 @@
 -- The report of a cell that has ended, by the seat that has taken in all others.
-use Rattle.std.proofs.Common.{◌≡◌, ℕ, zero, suc, ◌+◌, ◌*◌, ◌-◌, ◌^◌, ◌≤◌, inl, inr, Bool, true, false, List, [], ◌∷◌, length, Some, None, refl, sym, ap, subst, ◌∙◌, arith}
-use Rattle.std.specs.List.{sum_by}
-use Rattle.std.specs.Prelude.{IfSome}
+use Rattle.std.{proofs.Common.{◌≡◌, ℕ, zero, suc, ◌+◌, ◌*◌, ◌-◌, ◌^◌, ◌≤◌, inl, inr, Bool, true, false, List, [], ◌∷◌, length, Some, None, refl, sym, ap, subst, ◌∙◌, arith, IfSome}, specs.List.sum_by}
 use Rattle.std.proofs.lemmas.List.Sums.{sum_by-cons}
-use mathlib.Core.Option.{some, some-injective, some-ne-none}
-use lib.ListN.{get_elem?}
 use Rattle.atomic_table.specs.Seated.{TableId}
-use Rattle.solero_cell.specs.declared.views.Record.{Record}
-use Rattle.solero_cell.specs.declared.views.View.{View}
-use Rattle.solero_cell.specs.Calls.{IsOnlySeat, IsAtEnd, IsWhole}
-use Rattle.solero_cell.specs.CellRules.{ViewFits, HasOneHistory, is_in_span, one_if, written_count}
-use Rattle.solero_cell.specs.CellViews.{spent}
-use Rattle.cell_runner.specs.declared.hands.Hand.{Hand}
-use Rattle.cell_runner.specs.CellRuns.{IsCellRun, all_zero}
-use Rattle.cell_runner.specs.HandsOfCell.{HasGathered}
+use Rattle.solero_cell.specs.{Calls.{IsOnlySeat, IsAtEnd, IsWhole}, CellRules.{ViewFits, HasOneHistory, is_in_span, one_if, written_count}, CellViews.spent, declared.views.{Record.Record, View.View}}
+use Rattle.cell_runner.specs.{CellRuns.{IsCellRun, all_zero}, HandsOfCell.HasGathered, declared.hands.Hand.Hand}
+use lib.ListN.{get_elem?}
+use mathlib.Core.Option.{some, some-injective, some-ne-none}
 
 -- ---- what one view has, where all others are spent
 

@@ -1,7 +1,6 @@
 -- What one worker came to.
 use Rattle.std.proofs.Common.{◌≡◌, ℕ, ◌-◌, ◌*◌, ◌≤◌, arith}
-use Rattle.cell_runner.specs.declared.hands.Hand.{Hand}
-use Rattle.cell_runner.specs.HandsOfCell.{HasEnded, HasNotEnded, AreRoundsOver}
+use Rattle.cell_runner.specs.{HandsOfCell.{HasEnded, HasNotEnded, AreRoundsOver}, declared.hands.Hand.Hand}
 
 none_left : (s rounds n : ℕ) → s ≡ 1 → (1 - s) * rounds ≤ n
 none_left s rounds n e = rw e (omega arith)

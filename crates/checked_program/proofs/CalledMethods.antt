@@ -1,20 +1,12 @@
 -- The methods that instructions call are some of the program, and these are few.
-use Rattle.std.proofs.Common.{◌≡◌, ℕ, zero, suc, ◌<◌, ◌≤◌, List, [], ◌∷◌, length, Some, refl, subst, arith}
-use Rattle.std.specs.Prelude.{slice_get, IsSomeAnd}
-use Rattle.std.specs.List.{sum_by}
-use Rattle.std.proofs.lemmas.List.Sums.{sum_by-cons}
+use Rattle.std.{proofs.{Common.{◌≡◌, ℕ, zero, suc, ◌<◌, ◌≤◌, List, [], ◌∷◌, length, Some, refl, subst, arith, slice_get, IsSomeAnd}, lemmas.List.Sums.sum_by-cons}, specs.List.sum_by}
 use Rattle.std.proofs.lemmas.Option.{slice_get_within, same_Some}
-use Rattle.jvm_types.specs.ProgramInvariant.{IsProgram, IsTargetOf}
-use Rattle.jvm_types.specs.Members.{MethodSite}
-use Rattle.jvm_types.specs.declared.code.Op.{Op}
-use Rattle.jvm_types.specs.declared.code.Op.TheVariants as ops
-use Rattle.jvm_types.specs.declared.limits.TheConstants.{MOST_INSTRUCTIONS}
-use Rattle.jvm_types.specs.declared.program.Target.{Target}
-use Rattle.jvm_types.specs.declared.program.Target.TheVariants as targets
-use Rattle.jvm_types.specs.declared.program.MethodInfo.{MethodInfo}
-use Rattle.jvm_types.specs.declared.program.Program.{Program}
+use Rattle.jvm_types.specs.{Members.MethodSite, ProgramInvariant.{IsProgram, IsTargetOf}, declared.{code.Op.Op, limits.TheConstants.MOST_INSTRUCTIONS, program.MethodInfo.MethodInfo}}
+use Rattle.jvm_types.specs.declared.program.{Program.Program, Target.Target}
 use Rattle.laws_programs.proofs.CodeOrder.{methods_laid_out, starts}
 use Rattle.checked_program.specs.Marks.{called_method}
+use Rattle.jvm_types.specs.declared.code.Op.TheVariants as ops
+use Rattle.jvm_types.specs.declared.program.Target.TheVariants as targets
 
 -- ---- each method has an instruction
 

@@ -1,39 +1,15 @@
 -- What holds at each instruction of a checked program.
-use Rattle.std.proofs.Common.{◌≡◌, ℕ, zero, suc, Bool, true, false, cond, not, ◌&&◌, ◌||◌, List, [], ◌∷◌, ◌++◌, take, Option, Some, None, refl, sym, ap, ◌∙◌, subst, append-nil}
-use Rattle.std.specs.Prelude.{slice_get}
+use Rattle.std.proofs.Common.{◌≡◌, ℕ, zero, suc, Bool, true, false, cond, not, ◌&&◌, ◌||◌, List, [], ◌∷◌, ◌++◌, take, Option, Some, None, refl, sym, ap, ◌∙◌, subst, append-nil, slice_get}
 use Rattle.std.specs.List.{find, filter}
-use Rattle.jvm_types.specs.ClassTree.{is_subclass}
-use Rattle.jvm_types.specs.CodeTable.{arguments, is_init, row, virtual_row, special_row, static_row}
-use Rattle.jvm_types.specs.declared.op_row.Want.{Want}
-use Rattle.jvm_types.specs.declared.op_row.Want.TheVariants.{AnObject, ToStart}
-use Rattle.jvm_types.specs.declared.op_row.OpRow.{OpRow}
-use Rattle.jvm_types.specs.Members.{MethodSite, is_static, is_init_name, is_class_init_name}
-use Rattle.jvm_types.specs.ProgramInvariant.{IsTargetOf, site_in}
-use Rattle.jvm_types.specs.Types.{TypeFrame}
-use Rattle.jvm_types.specs.Verifying.{IsLaidOut, IsTypingOf, covers}
-use Rattle.jvm_types.specs.declared.code.Insn.{Insn}
-use Rattle.jvm_types.specs.declared.code.Op.{Op}
-use Rattle.jvm_types.specs.declared.code.Op.TheVariants as ops
-use Rattle.jvm_types.specs.declared.program.MethodInfo.{MethodInfo}
-use Rattle.jvm_types.specs.declared.program.Program.{Program}
-use Rattle.jvm_types.specs.declared.program.Row.{Row}
-use Rattle.jvm_types.specs.declared.program.Target.{Target}
-use Rattle.jvm_types.specs.declared.program.Target.TheVariants as targets
-use Rattle.jvm_types.specs.declared.typing.Typing.{Typing}
-use Rattle.laws_programs.specs.TargetLaws.{HasRow}
-use Rattle.laws_programs.proofs.CodeOrder.{laid_out, have_targets}
-use Rattle.laws_programs.proofs.TargetRows.{rows_stand}
-use Rattle.laws_programs.specs.EdgeLaws.{FrameStandsAt}
-use Rattle.laws_programs.proofs.EdgeTargets.{found}
-use Rattle.laws_programs.proofs.EntryFrame.{arguments_fit_all}
-use Rattle.laws_programs.proofs.FrameLast.{frame_law}
-use Rattle.laws_programs.proofs.LocalGoing.{local_law}
-use Rattle.laws_programs.proofs.NewVisits.{new_behind}
-use Rattle.laws_programs.proofs.RuleUses.{hold, arguments_suit_all, receiver_good}
-use Rattle.checked_program.specs.CheckedProgram.{CheckedProgram, IsChecked, AreTypings}
-use Rattle.checked_program.specs.Marks.{called_method}
-use Rattle.checked_program.specs.Tagging.{catches_all, until_all}
+use Rattle.jvm_types.specs.{ClassTree.is_subclass, CodeTable.{arguments, is_init, row, virtual_row, special_row, static_row}, Members.{MethodSite, is_static, is_init_name, is_class_init_name}}
+use Rattle.jvm_types.specs.{ProgramInvariant.{IsTargetOf, site_in}, Types.TypeFrame, Verifying.{IsLaidOut, IsTypingOf, covers}, declared.{code.{Insn.Insn, Op.Op}, op_row.{OpRow.OpRow, Want.Want}}}
+use Rattle.jvm_types.specs.declared.{op_row.Want.TheVariants.{AnObject, ToStart}, program.{MethodInfo.MethodInfo, Program.Program, Row.Row, Target.Target}, typing.Typing.Typing}
+use Rattle.laws_programs.{specs.{EdgeLaws.FrameStandsAt, TargetLaws.HasRow}, proofs.{CodeOrder.{laid_out, have_targets}, EdgeTargets.found, EntryFrame.arguments_fit_all, FrameLast.frame_law}}
+use Rattle.laws_programs.proofs.{LocalGoing.local_law, NewVisits.new_behind, RuleUses.{hold, arguments_suit_all, receiver_good}, TargetRows.rows_stand}
 use Rattle.checked_program.specs.CheckedLaws.{AreFramesOf, CheckedIsSound, CalledFit, IsPlace, FramesHavePlaces, HoldsAtInstruction, CheckedPlacesHold, receiver_want, CallsSuit, CatchersAreAmong}
+use Rattle.checked_program.specs.{CheckedProgram.{CheckedProgram, IsChecked, AreTypings}, Marks.called_method, Tagging.{catches_all, until_all}}
+use Rattle.jvm_types.specs.declared.code.Op.TheVariants as ops
+use Rattle.jvm_types.specs.declared.program.Target.TheVariants as targets
 
 -- ---- typings at their numbers
 

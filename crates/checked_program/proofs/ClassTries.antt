@@ -1,28 +1,14 @@
 -- Sections on a class, tried: two private static fields that static synchronized methods write and read, and the same with one
 -- of them for all to write.
-use Rattle.std.proofs.Common.{◌≡◌, ◌<◌, ◌⊎◌, inl, inr, ℕ, zero, suc, pos, true, false, List, [], ◌∷◌, Some, None, refl, sym, subst, arith}
-use Rattle.std.specs.Prelude.{codes, slice_get}
-use Rattle.jvm_types.specs.Members.{is_private, is_static, is_final}
-use Rattle.jvm_types.specs.declared.code.Insn.{Insn}
+use Rattle.std.proofs.Common.{◌≡◌, ◌<◌, ◌⊎◌, inl, inr, ℕ, zero, suc, pos, true, false, List, [], ◌∷◌, Some, None, refl, sym, subst, arith, codes, slice_get}
+use Rattle.jvm_types.specs.{Members.{is_private, is_static, is_final}, declared.{code.Insn.Insn, program.{FieldInfo.FieldInfo, MethodInfo.MethodInfo, Program.Program, Target.Target}}}
+use Rattle.checked_program.specs.{FrozenPlaces.{IsFrozenUse, IsGuardedStatic, IsGuardedUse, IsUse, AreUses}, LockTags.TagShape, Marks.{section_fault, Applies, itself, HasMark}}
+use Rattle.checked_program.specs.{Sections.{Section, sections, section_mode}, TaggedCode.{Tagged, IsAt}, declared.section.{FieldUse.{FieldUse, TheVariants.{Guarded, Open}}, Mode.TheVariants.OnClass}}
+use Rattle.checked_program.{specs.declared.section.Spot.TheVariants.Method, proofs.{FrozenChecks.is_written_static, MarkChecks.{first_is, none_applies, not_beyond, none_is_called}}}
+use Rattle.checked_program.proofs.TriedPrograms.{method, op, names, program, tags_of}
 use Rattle.jvm_types.specs.declared.code.Op.TheVariants as ops
 use Rattle.jvm_types.specs.declared.program.Kind.TheVariants as kinds
-use Rattle.jvm_types.specs.declared.program.FieldInfo.{FieldInfo}
-use Rattle.jvm_types.specs.declared.program.Target.{Target}
 use Rattle.jvm_types.specs.declared.program.Target.TheVariants as targets
-use Rattle.jvm_types.specs.declared.program.MethodInfo.{MethodInfo}
-use Rattle.jvm_types.specs.declared.program.Program.{Program}
-use Rattle.checked_program.specs.LockTags.{TagShape}
-use Rattle.checked_program.specs.TaggedCode.{Tagged, IsAt}
-use Rattle.checked_program.specs.FrozenPlaces.{IsFrozenUse, IsGuardedStatic, IsGuardedUse, IsUse, AreUses}
-use Rattle.checked_program.specs.Sections.{Section, sections, section_mode}
-use Rattle.checked_program.specs.Marks.{section_fault, Applies, itself, HasMark}
-use Rattle.checked_program.specs.declared.section.Spot.TheVariants.{Method}
-use Rattle.checked_program.specs.declared.section.Mode.TheVariants.{OnClass}
-use Rattle.checked_program.specs.declared.section.FieldUse.{FieldUse}
-use Rattle.checked_program.specs.declared.section.FieldUse.TheVariants.{Guarded, Open}
-use Rattle.checked_program.proofs.FrozenChecks.{is_written_static}
-use Rattle.checked_program.proofs.MarkChecks.{first_is, none_applies, not_beyond, none_is_called}
-use Rattle.checked_program.proofs.TriedPrograms.{method, op, names, program, tags_of}
 
 -- ---- the program
 

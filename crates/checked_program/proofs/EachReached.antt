@@ -1,13 +1,7 @@
 -- A test that each reached instruction of a method passes, for programs that are written out, by computing.
-use Rattle.std.proofs.Common.{◌≡◌, ℕ, zero, suc, Bool, true, false, List, [], ◌∷◌, Option, Some, None, subst, refl}
-use Rattle.std.specs.Prelude.{◌&&◌, slice_get}
-use Rattle.std.proofs.lemmas.Bool.{and_parts}
-use Rattle.jvm_types.specs.declared.code.Insn.{Insn}
-use Rattle.jvm_types.specs.declared.program.Target.{Target}
-use Rattle.jvm_types.specs.declared.program.MethodInfo.{MethodInfo}
-use Rattle.jvm_types.specs.declared.program.Program.{Program}
-use Rattle.checked_program.specs.LockTags.{TagShape}
-use Rattle.checked_program.specs.TaggedCode.{Tagged, IsAt}
+use Rattle.std.proofs.{Common.{◌≡◌, ℕ, zero, suc, Bool, true, false, List, [], ◌∷◌, Option, Some, None, subst, refl, ◌&&◌, slice_get}, lemmas.Bool.and_parts}
+use Rattle.jvm_types.specs.declared.{code.Insn.Insn, program.{MethodInfo.MethodInfo, Program.Program, Target.Target}}
+use Rattle.checked_program.specs.{LockTags.TagShape, TaggedCode.{Tagged, IsAt}}
 
 abbrev pub Test : Type 0
 Test = MethodInfo → Insn → Target → TagShape → Bool

@@ -1,10 +1,8 @@
 -- One edge more of a graph of calls.
-use Rattle.std.proofs.Common.{◌≡◌, ℕ, ◌+◌, ◌<◌, ◌≤◌, ◌≢◌, List, [], ◌∷◌, ◌++◌, length, Option, Some, None, refl, sym, ap, ◌∙◌, arith, ⊎_elim, inl, inr, ◌⊎◌}
-use Rattle.std.proofs.lemmas.Bool.{cases_eq}
+use Rattle.std.proofs.{Common.{◌≡◌, ℕ, ◌+◌, ◌<◌, ◌≤◌, ◌≢◌, List, [], ◌∷◌, ◌++◌, length, Option, Some, None, refl, sym, ap, ◌∙◌, arith, ⊎_elim, inl, inr, ◌⊎◌}, lemmas.Bool.cases_eq}
 use Rattle.std.proofs.lemmas.List.{length-append, get_or_append_left, get_or_push}
 use Rattle.graph_closure.specs.Walks.{IsEdge}
-use Rattle.checked_program.specs.CallEdges.{with_edge}
-use Rattle.checked_program.specs.declared.call_edges.Graph.{Graph}
+use Rattle.checked_program.specs.{CallEdges.with_edge, declared.call_edges.Graph.Graph}
 
 module _ (from to : List ℕ) (alike : length from ≡ length to) (a b : ℕ) where
   edge_kept : (x y : ℕ) → IsEdge from to x y → IsEdge (from ++ a ∷ []) (to ++ b ∷ []) x y

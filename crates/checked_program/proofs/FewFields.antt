@@ -1,13 +1,7 @@
 -- The objects of a class have few fields.
-use Rattle.std.proofs.Common.{◌≡◌, ℕ, suc, ◌+◌, ◌-◌, ◌<◌, ◌≤◌, Bool, true, false, cond, not, ◌&&◌, List, [], ◌∷◌, take, Some, refl, ap, ◌∙◌, subst, arith}
-use Rattle.std.specs.Prelude.{◌==◌, slice_get}
-use Rattle.std.specs.List.{count_by}
+use Rattle.std.{proofs.Common.{◌≡◌, ℕ, suc, ◌+◌, ◌-◌, ◌<◌, ◌≤◌, Bool, true, false, cond, not, ◌&&◌, List, [], ◌∷◌, take, Some, refl, ap, ◌∙◌, subst, arith, ◌==◌, slice_get}, specs.List.count_by}
 use Rattle.std.proofs.lemmas.Bool.Decides.{nat_tests}
-use Rattle.jvm_types.specs.Members.{is_static}
-use Rattle.jvm_types.specs.ProgramInvariant.{IsProgram, instances_among}
-use Rattle.jvm_types.specs.declared.program.FieldInfo.{FieldInfo}
-use Rattle.jvm_types.specs.declared.program.Program.{Program}
-use Rattle.jvm_types.proofs.EachAfter.{sum_first}
+use Rattle.jvm_types.{specs.{Members.is_static, ProgramInvariant.{IsProgram, instances_among}, declared.program.{FieldInfo.FieldInfo, Program.Program}}, proofs.EachAfter.sum_first}
 
 module _ {X : Type 0} (test : X → Bool) where
   counts_first : (b : Bool) (x : X) (xs : List X) → test x ≡ b → count_by test (x ∷ xs) ≡ cond b 1 0 + count_by test xs

@@ -1,11 +1,6 @@
 -- A program has few static fields.
-use Rattle.std.proofs.Common.{ℕ, ◌≤◌, Bool, true, false, cond, ◌&&◌, List, [], ◌∷◌, arith}
-use Rattle.std.specs.Prelude.{nat_lt}
-use Rattle.jvm_types.specs.Members.{is_static}
-use Rattle.jvm_types.specs.ProgramInvariant.{IsProgram, statics_among}
-use Rattle.jvm_types.specs.declared.limits.TheConstants.{MOST_HEAP}
-use Rattle.jvm_types.specs.declared.program.FieldInfo.{FieldInfo}
-use Rattle.jvm_types.specs.declared.program.Program.{Program}
+use Rattle.std.proofs.Common.{ℕ, ◌≤◌, Bool, true, false, cond, ◌&&◌, List, [], ◌∷◌, arith, nat_lt}
+use Rattle.jvm_types.specs.{Members.is_static, ProgramInvariant.{IsProgram, statics_among}, declared.{limits.TheConstants.MOST_HEAP, program.{FieldInfo.FieldInfo, Program.Program}}}
 use Rattle.jvm_types.proofs.EachAfter.{sum_first}
 use Rattle.checked_program.specs.CodeIndex.{statics_below}
 

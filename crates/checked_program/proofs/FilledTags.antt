@@ -1,12 +1,8 @@
 -- Tags of locals, of which only the first are kept.
-use Rattle.std.proofs.Common.{◌≡◌, ℕ, zero, suc, ◌+◌, ◌-◌, ◌<◌, ◌≤◌, max, min, Bool, true, false, not, List, [], ◌∷◌, ◌++◌, length, replicate, take, drop, Some, refl, sym, ap, ◌∙◌, append_assoc, arith}
-use Rattle.std.specs.Prelude.{◌||◌, ◌&&◌, nat_lt, if◌then◌else◌, slice_get, slice_set}
-use Rattle.std.proofs.lemmas.Bool.Decides.{nat_tests}
-use Rattle.std.proofs.lemmas.List.{length-append, length-replicate, length-map, length-set, set-append_left, map-append, replicate-append-replicate}
-use Rattle.checked_program.specs.LockTags.{filled_tags, same_tag, same_tags, meet_tags, without}
-use Rattle.checked_program.specs.declared.tag.Tag.{Tag}
-use Rattle.checked_program.specs.declared.tag.Tag.TheVariants.{Untagged, At}
+use Rattle.std.proofs.Common.{◌≡◌, ℕ, zero, suc, ◌+◌, ◌-◌, ◌<◌, ◌≤◌, max, min, Bool, true, false, not, List, [], ◌∷◌, ◌++◌, length, replicate, take, drop, Some, refl, sym, ap, ◌∙◌, append_assoc, arith, ◌||◌, ◌&&◌, nat_lt, if◌then◌else◌, slice_get, slice_set}
+use Rattle.std.proofs.lemmas.{Bool.Decides.nat_tests, List.{length-append, length-replicate, length-map, length-set, set-append_left, map-append, replicate-append-replicate}}
 use Rattle.graph_closure.proofs.SpreadLaws.{none_below}
+use Rattle.checked_program.specs.{LockTags.{filled_tags, same_tag, same_tags, meet_tags, without}, declared.tag.Tag.{Tag, TheVariants.{Untagged, At}}}
 
 pub length_filled : (n : ℕ) (ts : List Tag) → length (filled_tags n ts) ≡ max n (length ts)
 length_filled n ts = length-append ts (replicate (n - length ts) Untagged) ∙ ap (λ k. length ts + k) (length-replicate (n - length ts) Untagged) ∙ omega arith

@@ -1,26 +1,12 @@
 -- Tests of a program that is written out, from which it follows that a class is frozen and a field guarded.
-use Rattle.std.proofs.Common.{◌≡◌, ◌<◌, ℕ, zero, suc, Bool, true, false, List, [], ◌∷◌, length, Option, Some, None, refl, sym, subst, arith}
-use Rattle.std.proofs.lemmas.Bool.{eqb-true, eq-eqb, and_parts}
-use Rattle.std.proofs.lemmas.Bool.Decides.{nat_tests}
-use Rattle.std.specs.Prelude.{◌==◌, ◌+◌, ◌&&◌, ◌||◌, not, drop, slice_get, slice_index_or}
-use Rattle.std.specs.List.{list_any}
-use Rattle.jvm_types.specs.Numbers.{has_number}
-use Rattle.jvm_types.specs.CodeTable.{is_init}
-use Rattle.jvm_types.specs.Verifying.{edges}
-use Rattle.jvm_types.specs.declared.code.Insn.{Insn}
-use Rattle.jvm_types.specs.declared.code.Op.{Op}
-use Rattle.jvm_types.specs.declared.code.Op.TheVariants as ops
-use Rattle.jvm_types.specs.declared.program.Target.{Target}
-use Rattle.jvm_types.specs.declared.program.Target.TheVariants as targets
-use Rattle.jvm_types.specs.declared.program.MethodInfo.{MethodInfo}
-use Rattle.jvm_types.specs.declared.program.Program.{Program}
-use Rattle.checked_program.specs.LockTags.{TagShape, is_this, entry_tags}
-use Rattle.checked_program.specs.Tagging.{tags_after, catchers, tags_at_handler}
-use Rattle.checked_program.specs.TaggedCode.{Tagged, IsAt, Goes, onward, caught, row_of}
+use Rattle.std.proofs.Common.{◌≡◌, ◌<◌, ℕ, zero, suc, Bool, true, false, List, [], ◌∷◌, length, Option, Some, None, refl, sym, subst, arith, ◌==◌, ◌+◌, ◌&&◌, ◌||◌, not, drop, slice_get, slice_index_or}
+use Rattle.std.{specs.List.list_any, proofs.lemmas.Bool.{eqb-true, eq-eqb, and_parts, Decides.nat_tests}}
+use Rattle.jvm_types.specs.{CodeTable.is_init, Numbers.has_number, Verifying.edges, declared.{code.{Insn.Insn, Op.Op}, program.{MethodInfo.MethodInfo, Program.Program, Target.Target}}}
 use Rattle.checked_program.specs.FrozenPlaces.{may_take, KeepThis, KeepsThis, is_final_of, PutsOnThis, KeepsInside, IsFrozenClass, locks_this, PutsGuarded, writes_class, PutsStatic}
-use Rattle.checked_program.specs.declared.tag.Tag.{Tag}
-use Rattle.checked_program.specs.declared.tag.Tag.TheVariants.{Untagged, This, At}
-use Rattle.checked_program.proofs.EachReached.{Test, all_in, in_method}
+use Rattle.checked_program.specs.{LockTags.{TagShape, is_this, entry_tags}, TaggedCode.{Tagged, IsAt, Goes, onward, caught, row_of}, Tagging.{tags_after, catchers, tags_at_handler}}
+use Rattle.checked_program.{specs.declared.tag.Tag.{Tag, TheVariants.{Untagged, This, At}}, proofs.EachReached.{Test, all_in, in_method}}
+use Rattle.jvm_types.specs.declared.code.Op.TheVariants as ops
+use Rattle.jvm_types.specs.declared.program.Target.TheVariants as targets
 
 -- ---- tests of a tag
 

@@ -1,14 +1,9 @@
 -- What the tables of a program rest on: the pcs of its methods ascend, and its classes have few fields.
-use Rattle.std.proofs.Common.{◌≡◌, ◌⊎◌, inl, inr, ℕ, zero, suc, List, [], ◌∷◌, ◌++◌, length, Option, Some, None, refl, ap, arith}
-use Rattle.std.specs.Prelude.{slice_get, slice_index_or}
-use Rattle.jvm_types.specs.ProgramInvariant.{IsProgram}
-use Rattle.jvm_types.specs.declared.program.FieldInfo.{FieldInfo}
-use Rattle.jvm_types.specs.declared.program.MethodInfo.{MethodInfo}
-use Rattle.jvm_types.specs.declared.program.Program.{Program}
-use Rattle.code_table.proofs.LaidOut.{ascend}
+use Rattle.std.proofs.Common.{◌≡◌, ◌⊎◌, inl, inr, ℕ, zero, suc, List, [], ◌∷◌, ◌++◌, length, Option, Some, None, refl, ap, arith, slice_get, slice_index_or}
+use Rattle.jvm_types.specs.{ProgramInvariant.IsProgram, declared.program.{FieldInfo.FieldInfo, MethodInfo.MethodInfo, Program.Program}}
 use Rattle.laws_programs.proofs.CodeOrder.{methods_laid_out}
-use Rattle.checked_program.specs.CodeIndex.{number_in, words_of_object, AllAscend, ArePcTables, AreSizes, FewInstances}
-use Rattle.checked_program.proofs.FewFields.{few_fields}
+use Rattle.code_table.proofs.LaidOut.{ascend}
+use Rattle.checked_program.{specs.CodeIndex.{number_in, words_of_object, AllAscend, ArePcTables, AreSizes, FewInstances}, proofs.FewFields.few_fields}
 
 pub all_ascend : (p : Program) → IsProgram p → AllAscend p.methods
 all_ascend p is = λ number m at. ascend m (methods_laid_out p number m is at)

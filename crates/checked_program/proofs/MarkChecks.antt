@@ -1,14 +1,9 @@
 -- Tests of a program that is written out, from which its marks follow.
-use Rattle.std.proofs.Common.{◌≡◌, ◌<◌, ◌≤◌, ℕ, Bool, true, false, List, [], ◌∷◌, Option, Some, None, refl, subst, arith}
+use Rattle.std.proofs.Common.{◌≡◌, ◌<◌, ◌≤◌, ℕ, Bool, true, false, List, [], ◌∷◌, Option, Some, None, refl, subst, arith, ◌==◌, ◌&&◌, ◌||◌, nat_le, nat_lt, if◌then◌else◌}
 use Rattle.std.proofs.lemmas.Bool.Decides.{nat_tests}
-use Rattle.std.specs.Prelude.{◌==◌, ◌&&◌, ◌||◌, nat_le, nat_lt, if◌then◌else◌}
 use Rattle.jvm_types.specs.declared.program.Program.{Program}
-use Rattle.checked_program.specs.TaggedCode.{Tagged}
-use Rattle.checked_program.specs.Sections.{Section, section_mode}
 use Rattle.checked_program.specs.Marks.{Callee, callee, called_method, receiver_tag, called_mode, Calls, CallsThrough, IsCalledBy, section_fault, BreaksAt, CalleeBreaks, CalleeRecurs, Applies, elsewhere, itself, called, recurring, IsOnOwn, turn}
-use Rattle.checked_program.specs.declared.section.Mode.{Mode}
-use Rattle.checked_program.specs.declared.section.FieldUse.{FieldUse}
-use Rattle.checked_program.proofs.EachReached.{Test, all_in, in_method}
+use Rattle.checked_program.{specs.{Sections.{Section, section_mode}, TaggedCode.Tagged, declared.section.{FieldUse.FieldUse, Mode.Mode}}, proofs.EachReached.{Test, all_in, in_method}}
 
 -- ---- an earlier rule is broken by no instruction
 

@@ -1,28 +1,14 @@
 -- Marks of small programs: each mark, with the rules that go before it refuted.
-use Rattle.std.proofs.Common.{◌≡◌, ◌<◌, ℕ, Bool, true, false, List, [], ◌∷◌, Some, refl, sym, subst, arith}
-use Rattle.std.proofs.lemmas.Bool.{eqb-true, and_parts}
+use Rattle.std.proofs.{Common.{◌≡◌, ◌<◌, ℕ, Bool, true, false, List, [], ◌∷◌, Some, refl, sym, subst, arith, ◌==◌, ◌&&◌, ◌||◌, not, slice_index_or}, lemmas.Bool.{eqb-true, and_parts}}
 use Rattle.std.proofs.lemmas.Bool.Decides.{nat_tests}
-use Rattle.std.specs.Prelude.{◌==◌, ◌&&◌, ◌||◌, not, slice_index_or}
-use Rattle.jvm_types.specs.declared.code.Insn.{Insn}
-use Rattle.jvm_types.specs.declared.program.Target.{Target}
-use Rattle.jvm_types.specs.declared.program.MethodInfo.{MethodInfo}
+use Rattle.jvm_types.specs.declared.{code.Insn.Insn, program.{MethodInfo.MethodInfo, Target.Target}}
 use Rattle.checked_program.specs.LockTags.{TagShape, is_this}
-use Rattle.checked_program.specs.TaggedCode.{Tagged, IsAt}
-use Rattle.checked_program.specs.Sections.{Section, sections, section_mode}
 use Rattle.checked_program.specs.Marks.{Callee, callee, called_method, receiver_tag, called_mode, section_fault, IsCalledBy, CallsItself, Applies, elsewhere, itself, called, recurring, IsOnOwn, turn, HasMark, IsMarkOf, AreMarks}
-use Rattle.checked_program.specs.declared.tag.Tag.{Tag}
-use Rattle.checked_program.specs.declared.tag.Tag.TheVariants.{Untagged, This, At}
-use Rattle.checked_program.specs.declared.section.Spot.{Spot}
-use Rattle.checked_program.specs.declared.section.Spot.TheVariants.{Method, Block}
-use Rattle.checked_program.specs.declared.section.SectionMark.{SectionMark}
-use Rattle.checked_program.specs.declared.section.Mode.{Mode}
-use Rattle.checked_program.specs.declared.section.Mode.TheVariants.{OnThis, OffThis, OnClass}
-use Rattle.checked_program.specs.declared.section.FieldUse.{FieldUse}
-use Rattle.checked_program.specs.declared.section.FieldUse.TheVariants.{Frozen, Guarded, Open}
-use Rattle.checked_program.proofs.EachReached.{Test, all_in, in_method}
+use Rattle.checked_program.specs.{Sections.{Section, sections, section_mode}, TaggedCode.{Tagged, IsAt}, declared.section.{FieldUse.{FieldUse, TheVariants.{Frozen, Guarded, Open}}, Mode.Mode}}
+use Rattle.checked_program.specs.declared.{section.{Mode.TheVariants.{OnThis, OffThis, OnClass}, SectionMark.SectionMark, Spot.{Spot, TheVariants.{Method, Block}}}, tag.Tag.Tag}
+use Rattle.checked_program.{specs.declared.tag.Tag.TheVariants.{Untagged, This, At}, proofs.EachReached.{Test, all_in, in_method}}
 use Rattle.checked_program.proofs.MarkChecks.{first_is, none_applies, none_broken, not_beyond, call_is_ok, called_is_ok, none_ok, none_is_called, IsClosed, calls_to, breaks_from}
-use Rattle.checked_program.proofs.UseTries.{uses_of_many}
-use Rattle.checked_program.proofs.TriedPrograms.{many, tags_of}
+use Rattle.checked_program.proofs.{TriedPrograms.{many, tags_of}, UseTries.uses_of_many}
 
 abbrev tags : Tagged
 tags = tags_of many

@@ -1,25 +1,11 @@
 -- The edges of the graph of all calls are the calls, and they are few.
-use Rattle.std.proofs.Common.{◌≡◌, ℕ, zero, suc, ◌+◌, ◌<◌, ◌≤◌, ◌≢◌, Bool, true, false, List, [], ◌∷◌, length, Option, Some, None, refl, sym, subst, ◌∙◌, arith, ⊎_elim, inl, inr, ◌⊎◌}
-use Rattle.std.specs.Prelude.{nat_lt, if◌then◌else◌, slice_get, slice_index}
-use Rattle.std.specs.List.{sum_by}
-use Rattle.std.proofs.lemmas.Bool.{cases_eq}
-use Rattle.std.proofs.lemmas.Bool.Decides.{nat_tests}
-use Rattle.std.proofs.lemmas.List.Sums.{sum_by-cons}
-use Rattle.std.proofs.lemmas.Option.{slice_get_within, same_Some}
-use Rattle.jvm_types.specs.ProgramInvariant.{IsProgram, IsTargetOf, site_in}
-use Rattle.jvm_types.specs.declared.code.Insn.{Insn}
-use Rattle.jvm_types.specs.declared.program.Target.{Target}
-use Rattle.jvm_types.specs.declared.program.MethodInfo.{MethodInfo}
-use Rattle.jvm_types.specs.declared.program.Program.{Program}
+use Rattle.std.proofs.Common.{◌≡◌, ℕ, zero, suc, ◌+◌, ◌<◌, ◌≤◌, ◌≢◌, Bool, true, false, List, [], ◌∷◌, length, Option, Some, None, refl, sym, subst, ◌∙◌, arith, ⊎_elim, inl, inr, ◌⊎◌, nat_lt, if◌then◌else◌, slice_get, slice_index}
+use Rattle.std.{specs.List.sum_by, proofs.lemmas.{Bool.{cases_eq, Decides.nat_tests}, List.Sums.sum_by-cons, Option.{slice_get_within, same_Some}}}
+use Rattle.jvm_types.specs.{ProgramInvariant.{IsProgram, IsTargetOf, site_in}, declared.{code.Insn.Insn, program.{MethodInfo.MethodInfo, Program.Program, Target.Target}}}
 use Rattle.laws_programs.proofs.CodeOrder.{have_targets}
-use Rattle.checked_program.specs.Marks.{called_method}
-use Rattle.checked_program.specs.Reach.{HasCall, size_of}
-use Rattle.graph_closure.specs.LeastSet.{IsGraph}
-use Rattle.graph_closure.specs.Walks.{IsEdge}
-use Rattle.checked_program.specs.MethodCalls.{called_by, among, method_call, calls_before, calls_from, method_calls}
-use Rattle.checked_program.specs.declared.call_edges.Graph.{Graph}
-use Rattle.checked_program.proofs.CalledMethods.{named}
-use Rattle.checked_program.proofs.EdgesAdded.{IsAlike, with_alike, with_kept, with_added, with_old, with_few}
+use Rattle.graph_closure.specs.{LeastSet.IsGraph, Walks.IsEdge}
+use Rattle.checked_program.specs.{Marks.called_method, MethodCalls.{called_by, among, method_call, calls_before, calls_from, method_calls}, Reach.{HasCall, size_of}, declared.call_edges.Graph.Graph}
+use Rattle.checked_program.proofs.{CalledMethods.named, EdgesAdded.{IsAlike, with_alike, with_kept, with_added, with_old, with_few}}
 
 -- ---- the calls of one method
 

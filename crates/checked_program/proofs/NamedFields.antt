@@ -1,23 +1,11 @@
 -- The fields that instructions of a program name: one for static fields names such a field, one for instance fields does not.
-use Rattle.std.proofs.Common.{◌≡◌, ℕ, Bool, true, false, Option, Some, sym, ◌∙◌, subst}
-use Rattle.std.specs.Prelude.{slice_get}
-use Rattle.std.proofs.lemmas.Option.{same_Some}
-use Rattle.jvm_types.specs.CodeTable.{get_row, get_static_row, put_row, put_static_row}
-use Rattle.jvm_types.specs.Members.{is_static}
-use Rattle.jvm_types.specs.ProgramInvariant.{IsProgram, IsTargetOf, site_in}
-use Rattle.jvm_types.specs.declared.code.Insn.{Insn}
+use Rattle.std.proofs.{Common.{◌≡◌, ℕ, Bool, true, false, Option, Some, sym, ◌∙◌, subst, slice_get}, lemmas.Option.same_Some}
+use Rattle.jvm_types.specs.{CodeTable.{get_row, get_static_row, put_row, put_static_row}, Members.is_static, ProgramInvariant.{IsProgram, IsTargetOf, site_in}, declared.code.Insn.Insn}
+use Rattle.jvm_types.specs.declared.{op_row.OpRow.OpRow, program.{FieldInfo.FieldInfo, MethodInfo.MethodInfo, Program.Program, Target.Target}}
+use Rattle.laws_programs.{specs.TargetLaws.NamesField, proofs.{CodeOrder.have_targets, TargetRows.targets_rows}}
+use Rattle.checked_program.specs.{LockTags.TagShape, TaggedCode.{Tagged, IsAt}}
 use Rattle.jvm_types.specs.declared.code.Op.TheVariants as ops
-use Rattle.jvm_types.specs.declared.op_row.OpRow.{OpRow}
-use Rattle.jvm_types.specs.declared.program.FieldInfo.{FieldInfo}
-use Rattle.jvm_types.specs.declared.program.MethodInfo.{MethodInfo}
-use Rattle.jvm_types.specs.declared.program.Program.{Program}
-use Rattle.jvm_types.specs.declared.program.Target.{Target}
 use Rattle.jvm_types.specs.declared.program.Target.TheVariants as targets
-use Rattle.laws_programs.specs.TargetLaws.{NamesField}
-use Rattle.laws_programs.proofs.CodeOrder.{have_targets}
-use Rattle.laws_programs.proofs.TargetRows.{targets_rows}
-use Rattle.checked_program.specs.LockTags.{TagShape}
-use Rattle.checked_program.specs.TaggedCode.{Tagged, IsAt}
 
 pub target_named : (p : Program) (tags : Tagged) (mi i : ℕ) (m : MethodInfo) (insn : Insn) (target : Target) (f : TagShape) → IsProgram p → IsAt p tags mi i m insn target f → IsTargetOf p (site_in m) insn.op target
 target_named p tags mi i m insn target f program at =

@@ -1,11 +1,7 @@
 -- What a method reaches is one number.
-use Rattle.std.proofs.Common.{◌≤◌, ℕ, arith}
-use Rattle.std.specs.Prelude.{slice_get}
-use Rattle.std.specs.List.{sum_by}
+use Rattle.std.{proofs.Common.{◌≤◌, ℕ, arith, slice_get}, specs.List.sum_by}
 use Rattle.jvm_types.specs.declared.program.Program.{Program}
-use Rattle.checked_program.specs.CheckedLaws.{ReachIsOne}
-use Rattle.checked_program.specs.Reach.{IsReach, size_of}
-use Rattle.checked_program.proofs.SumsOfSome.{sum_of_some}
+use Rattle.checked_program.{specs.{CheckedLaws.ReachIsOne, Reach.{IsReach, size_of}}, proofs.SumsOfSome.sum_of_some}
 
 no_more : (p : Program) (mi n k : ℕ) → IsReach p mi n → IsReach p mi k → n ≤ k
 no_more p mi n k a b =

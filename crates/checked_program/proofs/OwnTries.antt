@@ -1,11 +1,6 @@
 -- Own instructions of a block, and the reach of a method, of small programs.
-use Rattle.std.proofs.Common.{◌≡◌, ◌<◌, ℕ, List, [], ◌∷◌, length, Option, Some, None, refl, sym, ap, subst, arith}
-use Rattle.std.specs.Prelude.{slice_get}
-use Rattle.checked_program.specs.TaggedCode.{Tagged, onward}
-use Rattle.checked_program.specs.Sections.{IsDeep, StaysDeep, IsOwn}
-use Rattle.checked_program.specs.LockTags.{TagShape}
-use Rattle.checked_program.specs.declared.tag.Tag.{Tag}
-use Rattle.checked_program.specs.declared.section.Spot.TheVariants.{Block}
+use Rattle.std.proofs.Common.{◌≡◌, ◌<◌, ℕ, List, [], ◌∷◌, length, Option, Some, None, refl, sym, ap, subst, arith, slice_get}
+use Rattle.checked_program.specs.{LockTags.TagShape, Sections.{IsDeep, StaysDeep, IsOwn}, TaggedCode.{Tagged, onward}, declared.{section.Spot.TheVariants.Block, tag.Tag.Tag}}
 use Rattle.checked_program.proofs.TriedPrograms.{many, tags_of}
 
 abbrev tags : Tagged

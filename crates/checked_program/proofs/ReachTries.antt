@@ -1,14 +1,8 @@
 -- The reach of a method of a small program: that of `twice` is its own code and that of `sum`.
-use Rattle.std.proofs.Common.{◌≡◌, ℕ, zero, suc, Bool, true, false, List, [], ◌∷◌, Option, Some, None, refl, sym, subst, arith}
+use Rattle.std.{proofs.Common.{◌≡◌, ℕ, zero, suc, Bool, true, false, List, [], ◌∷◌, Option, Some, None, refl, sym, subst, arith, ◌==◌, ◌&&◌, slice_get, Contains}, specs.List.IsDistinct}
 use Rattle.std.proofs.lemmas.Bool.{eqb-true, and_parts}
-use Rattle.std.specs.Prelude.{◌==◌, ◌&&◌, slice_get, Contains}
-use Rattle.std.specs.List.{IsDistinct}
-use Rattle.jvm_types.specs.declared.code.Insn.{Insn}
-use Rattle.jvm_types.specs.declared.program.Target.{Target}
-use Rattle.jvm_types.specs.declared.program.MethodInfo.{MethodInfo}
-use Rattle.checked_program.specs.Marks.{called_method}
-use Rattle.checked_program.specs.Reach.{HasCall, HasCalls, IsReach}
-use Rattle.checked_program.proofs.TriedPrograms.{many}
+use Rattle.jvm_types.specs.declared.{code.Insn.Insn, program.{MethodInfo.MethodInfo, Target.Target}}
+use Rattle.checked_program.{specs.{Marks.called_method, Reach.{HasCall, HasCalls, IsReach}}, proofs.TriedPrograms.many}
 
 -- each call in a method's code passes a test
 abbrev passes : (ℕ → Bool) → Option ℕ → Bool

@@ -1,20 +1,9 @@
 -- The methods that a method reaches through calls, and how many instructions these have.
-use Rattle.std.proofs.Common.{◌≡◌, ℕ, zero, suc, ◌+◌, ◌<◌, ◌≤◌, ◌≢◌, Bool, true, false, List, [], ◌∷◌, length, refl, sym, ap, subst, ◌∙◌, arith, ⊎_elim, get_or-set_same, get_or-set_other}
-use Rattle.std.specs.Prelude.{◌==◌, Contains, replicate, slice_get, slice_index_or}
-use Rattle.std.specs.List.{AllByRecursion, IsDistinct, sum_by}
-use Rattle.std.proofs.lemmas.Bool.{cases_eq}
-use Rattle.std.proofs.lemmas.Bool.Decides.{nat_tests}
-use Rattle.std.proofs.lemmas.List.{length-replicate, length-set, get_or-replicate}
-use Rattle.std.proofs.lemmas.List.Sums.{sum_by-cons}
-use Rattle.jvm_types.specs.ProgramInvariant.{IsProgram}
-use Rattle.jvm_types.specs.declared.program.MethodInfo.{MethodInfo}
-use Rattle.jvm_types.specs.declared.program.Program.{Program}
-use Rattle.checked_program.specs.Reach.{HasCall, HasCalls, IsReach, size_of}
-use Rattle.graph_closure.specs.LeastSet.{IsGraph}
-use Rattle.graph_closure.specs.Walks.{Walks, Leads, AreLeading}
-use Rattle.graph_closure.proofs.WalkLaws.{leads_more}
-use Rattle.checked_program.specs.MethodCalls.{method_calls, only_one, size_found, size_if, AreReached}
-use Rattle.checked_program.specs.declared.call_edges.Graph.{Graph}
+use Rattle.std.proofs.Common.{◌≡◌, ℕ, zero, suc, ◌+◌, ◌<◌, ◌≤◌, ◌≢◌, Bool, true, false, List, [], ◌∷◌, length, refl, sym, ap, subst, ◌∙◌, arith, ⊎_elim, get_or-set_same, get_or-set_other, ◌==◌, Contains, replicate, slice_get, slice_index_or}
+use Rattle.std.{specs.List.{AllByRecursion, IsDistinct, sum_by}, proofs.lemmas.{Bool.{cases_eq, Decides.nat_tests}, List.{length-replicate, length-set, get_or-replicate, Sums.sum_by-cons}}}
+use Rattle.jvm_types.specs.{ProgramInvariant.IsProgram, declared.program.{MethodInfo.MethodInfo, Program.Program}}
+use Rattle.graph_closure.{specs.{LeastSet.IsGraph, Walks.{Walks, Leads, AreLeading}}, proofs.WalkLaws.leads_more}
+use Rattle.checked_program.specs.{MethodCalls.{method_calls, only_one, size_found, size_if, AreReached}, Reach.{HasCall, HasCalls, IsReach, size_of}, declared.call_edges.Graph.Graph}
 use Rattle.checked_program.proofs.MethodEdges.{size_before, size_before-le, turned_is_graph, call_inside, edge_of, call_of}
 
 -- ---- chains of calls and walks back along them

@@ -1,16 +1,12 @@
 -- What the definitions of lock tagging say of small methods, by computing.
-use Rattle.std.proofs.Common.{◌≡◌, pos, List, [], ◌∷◌, Option, Some, None, refl}
-use Rattle.std.specs.Prelude.{codes}
+use Rattle.std.proofs.Common.{◌≡◌, pos, List, [], ◌∷◌, Option, Some, None, refl, codes}
+use Rattle.jvm_types.specs.declared.{program.Row.Row, refusal.SRule.TheVariants.{S1, S2, S3, S4}}
+use Rattle.checked_program.specs.{LockTags.TagShape, declared.tag.Tag.{Tag, TheVariants.{Untagged, This, At}}}
+use Rattle.checked_program.proofs.TriedPrograms.{Answer, Accepted, Refused, tagged, method, op, names, to_handler, pair, sum}
 use Rattle.jvm_types.specs.declared.code.Op.TheVariants as ops
 use Rattle.jvm_types.specs.declared.code.Cmp.TheVariants as cmps
 use Rattle.jvm_types.specs.declared.program.Kind.TheVariants as kinds
-use Rattle.jvm_types.specs.declared.program.Row.{Row}
 use Rattle.jvm_types.specs.declared.program.Target.TheVariants as targets
-use Rattle.jvm_types.specs.declared.refusal.SRule.TheVariants.{S1, S2, S3, S4}
-use Rattle.checked_program.specs.LockTags.{TagShape}
-use Rattle.checked_program.specs.declared.tag.Tag.{Tag}
-use Rattle.checked_program.specs.declared.tag.Tag.TheVariants.{Untagged, This, At}
-use Rattle.checked_program.proofs.TriedPrograms.{Answer, Accepted, Refused, tagged, method, op, names, to_handler, pair, sum}
 
 abbrev shape : List Tag → List Tag → List Tag → Option TagShape
 shape stack locals held = Some (record { stack = stack; locals = locals; held = held })

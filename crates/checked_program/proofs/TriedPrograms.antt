@@ -1,22 +1,10 @@
 -- Small programs that the definitions of this crate are tried on, and the visits that tag a method, computed.
-use Rattle.std.proofs.Common.{ℕ, zero, suc, pos, List, [], ◌∷◌, Option, Some, None, Result, Ok, Err}
-use Rattle.std.specs.Prelude.{map, codes}
-use Rattle.jvm_types.specs.declared.code.Insn.{Insn}
-use Rattle.jvm_types.specs.declared.code.Op.{Op}
+use Rattle.std.proofs.Common.{ℕ, zero, suc, pos, List, [], ◌∷◌, Option, Some, None, Result, Ok, Err, map, codes}
+use Rattle.jvm_types.specs.declared.{code.{Insn.Insn, Op.Op}, program.{FieldInfo.FieldInfo, Kind.Kind, MethodInfo.MethodInfo, Program.Program, Row.Row, Target.Target}, refusal.SRule.SRule}
+use Rattle.checked_program.specs.{LockTags.TagShape, TaggedCode.Tagged, Tagging.tag_plan, Visits.{PlanNode, plan_nodes, next_waiting, plan_visited}}
 use Rattle.jvm_types.specs.declared.code.Op.TheVariants as ops
-use Rattle.jvm_types.specs.declared.program.Kind.{Kind}
 use Rattle.jvm_types.specs.declared.program.Kind.TheVariants as kinds
-use Rattle.jvm_types.specs.declared.program.FieldInfo.{FieldInfo}
-use Rattle.jvm_types.specs.declared.program.Target.{Target}
 use Rattle.jvm_types.specs.declared.program.Target.TheVariants as targets
-use Rattle.jvm_types.specs.declared.program.Row.{Row}
-use Rattle.jvm_types.specs.declared.program.MethodInfo.{MethodInfo}
-use Rattle.jvm_types.specs.declared.program.Program.{Program}
-use Rattle.jvm_types.specs.declared.refusal.SRule.{SRule}
-use Rattle.checked_program.specs.Visits.{PlanNode, plan_nodes, next_waiting, plan_visited}
-use Rattle.checked_program.specs.LockTags.{TagShape}
-use Rattle.checked_program.specs.Tagging.{tag_plan}
-use Rattle.checked_program.specs.TaggedCode.{Tagged}
 
 -- ---- the visits, computed
 

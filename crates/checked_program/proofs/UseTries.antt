@@ -1,14 +1,8 @@
 -- How the fields of small programs may be read: frozen, guarded, or neither.
-use Rattle.std.proofs.Common.{◌≡◌, ◌⊎◌, inl, inr, ℕ, zero, suc, true, false, List, [], ◌∷◌, Some, refl, sym, subst, arith}
-use Rattle.std.specs.Prelude.{slice_get}
-use Rattle.jvm_types.specs.Members.{is_private, is_static, is_final}
-use Rattle.jvm_types.specs.declared.program.FieldInfo.{FieldInfo}
-use Rattle.jvm_types.specs.declared.program.Program.{Program}
-use Rattle.checked_program.specs.FrozenPlaces.{IsFrozenClass, IsFrozenField, IsFrozenUse, IsGuardedField, IsGuardedUse, IsUse, AreUses}
-use Rattle.checked_program.specs.declared.tag.Tag.TheVariants.{Untagged, This}
-use Rattle.checked_program.specs.declared.section.FieldUse.{FieldUse}
-use Rattle.checked_program.specs.declared.section.FieldUse.TheVariants.{Frozen, Guarded, Open}
-use Rattle.checked_program.proofs.FrozenChecks.{is_frozen, is_written_guarded}
+use Rattle.std.proofs.Common.{◌≡◌, ◌⊎◌, inl, inr, ℕ, zero, suc, true, false, List, [], ◌∷◌, Some, refl, sym, subst, arith, slice_get}
+use Rattle.jvm_types.specs.{Members.{is_private, is_static, is_final}, declared.program.{FieldInfo.FieldInfo, Program.Program}}
+use Rattle.checked_program.specs.{FrozenPlaces.{IsFrozenClass, IsFrozenField, IsFrozenUse, IsGuardedField, IsGuardedUse, IsUse, AreUses}, declared.section.FieldUse.FieldUse}
+use Rattle.checked_program.{specs.declared.{section.FieldUse.TheVariants.{Frozen, Guarded, Open}, tag.Tag.TheVariants.{Untagged, This}}, proofs.FrozenChecks.{is_frozen, is_written_guarded}}
 use Rattle.checked_program.proofs.TriedPrograms.{many, many_fields, static_object, private_int, one_field, leaking, unlocked, on_another, tags_of}
 
 false_true : false ≡ true → ⊥

@@ -1,20 +1,10 @@
 -- The places of faults lie in the bytes that were read, so offsets are numbers of the machine.
-use Rattle.std.proofs.Common.{◌≡◌, ℕ, suc, ◌+◌, ◌^◌, ◌<◌, ◌≤◌, List, [], ◌∷◌, length, get_or, Result, Err, arith}
-use Rattle.std.proofs.lemmas.Result.{IfErr-at_err}
-use Rattle.jvm_types.specs.Numbers.{u2}
-use Rattle.jvm_types.specs.Spelling.{code_body}
+use Rattle.std.proofs.{Common.{◌≡◌, ℕ, suc, ◌+◌, ◌^◌, ◌<◌, ◌≤◌, List, [], ◌∷◌, length, get_or, Result, Err, arith}, lemmas.Result.IfErr-at_err}
+use Rattle.jvm_types.specs.{ClassGrammar.IsIndex, Numbers.u2, ReadingClass.code_at, ReadingPool.index_at, ReadingSteps.{Fault, whole}, Spelling.code_body, declared.class_file.Constant.Constant}
+use Rattle.jvm_types.proofs.{AttrLaws.AreParts, FaultPlaces.{Near, index_placed, code_placed, filled_near}, StepLaws.IsBytes}
+use Rattle.class_reader.specs.{Giving.{Fails, HasPlaceInFile}, declared.items.Stop.Stop}
 use Rattle.jvm_types.specs.declared.index_kind.IndexKind.TheVariants as kinds
-use Rattle.jvm_types.specs.declared.class_file.Constant.{Constant}
-use Rattle.jvm_types.specs.ClassGrammar.{IsIndex}
-use Rattle.jvm_types.specs.ReadingSteps.{Fault, whole}
-use Rattle.jvm_types.specs.ReadingPool.{index_at}
-use Rattle.jvm_types.specs.ReadingClass.{code_at}
-use Rattle.jvm_types.proofs.StepLaws.{IsBytes}
-use Rattle.jvm_types.proofs.AttrLaws.{AreParts}
-use Rattle.jvm_types.proofs.FaultPlaces.{Near, index_placed, code_placed, filled_near}
-use Rattle.class_reader.specs.declared.items.Stop.{Stop}
 use Rattle.class_reader.specs.declared.items.Stop.TheVariants as stops
-use Rattle.class_reader.specs.Giving.{Fails, HasPlaceInFile}
 
 pub bytes_fit : (bytes : List ℕ) → ((i : ℕ) → get_or bytes i 0 < 256) → IsBytes bytes
 bytes_fit [] h = tt

@@ -1,13 +1,7 @@
 -- What the public clauses say of a reader that gives what reading gives.
-use Rattle.std.proofs.Common.{◌≡◌, ℕ, ◌-◌, ◌^◌, ◌<◌, ◌≤◌, Bool, true, false, cond, ltb, List, length, get_or, Some, None, Result, Ok, Err, refl, ap, arith}
-use Rattle.std.proofs.lemmas.Bool.{ltb-true, ltb-false}
-use Rattle.jvm_types.specs.declared.refusal.CRule.{CRule}
-use Rattle.jvm_types.specs.declared.refusal.CRule.TheVariants.{C10}
-use Rattle.jvm_types.specs.declared.class_file.ClassFile.{ClassFile}
-use Rattle.jvm_types.specs.ClassGrammar.{Spells}
-use Rattle.jvm_types.specs.ReadingSteps.{Fault, fault, whole}
-use Rattle.jvm_types.specs.ReadingClass.{class_at, read_class, fault_of, class_fault}
-use Rattle.jvm_types.proofs.ClassLawProofs.{faults_inside, spelled_if_read, read_if_spelled}
+use Rattle.std.proofs.{Common.{◌≡◌, ℕ, ◌-◌, ◌^◌, ◌<◌, ◌≤◌, Bool, true, false, cond, ltb, List, length, get_or, Some, None, Result, Ok, Err, refl, ap, arith}, lemmas.Bool.{ltb-true, ltb-false}}
+use Rattle.jvm_types.specs.{ClassGrammar.Spells, ReadingClass.{class_at, read_class, fault_of, class_fault}, ReadingSteps.{Fault, fault, whole}, declared.class_file.ClassFile.ClassFile}
+use Rattle.jvm_types.{specs.declared.refusal.CRule.{CRule, TheVariants.C10}, proofs.ClassLawProofs.{faults_inside, spelled_if_read, read_if_spelled}}
 use Rattle.class_reader.proofs.PlacesInside.{bytes_fit}
 
 pub is_spelled : (bytes : List ℕ) (c : ClassFile) → ((i : ℕ) → get_or bytes i 0 < 256) → read_class bytes ≡ Ok c → Spells bytes c

@@ -1,16 +1,9 @@
 -- Reading in a loop: one more item, and the exit by a fault.
-use Rattle.std.proofs.Common.{◌≡◌, ℕ, ◌+◌, ◌-◌, ◌<◌, Bool, true, false, List, [], ◌∷◌, ◌++◌, ◌≤◌, length, get_or, drop, Some, Result, Ok, refl, subst}
-use Rattle.std.specs.Prelude.{slice_get, ◌==◌}
-use Rattle.std.proofs.lemmas.Option.{slice_get_read}
-use Rattle.jvm_types.specs.declared.class_file.Constant.{Constant}
-use Rattle.jvm_types.specs.declared.class_file.Constant.TheVariants.{Gap}
-use Rattle.jvm_types.specs.ClassGrammar.{is_wide}
-use Rattle.jvm_types.specs.ReadingSteps.{Fault, many_at}
-use Rattle.jvm_types.specs.ReadingPool.{entries_at, entry_wanted, entries_wanted}
+use Rattle.std.proofs.{Common.{◌≡◌, ℕ, ◌+◌, ◌-◌, ◌<◌, Bool, true, false, List, [], ◌∷◌, ◌++◌, ◌≤◌, length, get_or, drop, Some, Result, Ok, refl, subst, slice_get, ◌==◌}, lemmas.Option.slice_get_read}
+use Rattle.jvm_types.specs.{ClassGrammar.is_wide, ReadingPool.{entries_at, entry_wanted, entries_wanted}, ReadingSteps.{Fault, many_at}, declared.class_file.Constant.{Constant, TheVariants.Gap}}
 use Rattle.jvm_types.proofs.LoopLaws.{with_front, many_stops, entries_gap, entries_more, entries_stop, checks_stop}
-use Rattle.class_reader.specs.declared.items.Stop.{Stop}
+use Rattle.class_reader.specs.{Giving.{Fails, entry_at}, declared.items.Stop.Stop}
 use Rattle.class_reader.specs.declared.items.Stop.TheVariants as stops
-use Rattle.class_reader.specs.Giving.{Fails, entry_at}
 
 pub many_fails : {A : Type 0} (e : Stop) (item_at : List ℕ → Result (A × List ℕ) Fault) (front : List A) (count i : ℕ) (bytes : List ℕ) (total : Result (List A × List ℕ) Fault) → i < count → Fails e (item_at bytes)
     → with_front front (many_at item_at (count - i) bytes) ≡ total → Fails e total

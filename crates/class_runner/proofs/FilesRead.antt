@@ -1,19 +1,8 @@
 -- Reading goes over the files in order.
-use Rattle.std.proofs.Common.{◌≡◌, ℕ, ◌+◌, ◌<◌, ◌≤◌, List, [], ◌∷◌, ◌++◌, length, get_or, drop, Option, None, refl, sym, subst, ap, ◌∙◌, append_assoc, append-nil}
-use Rattle.std.specs.List.{AllZip}
-use Rattle.std.specs.Option.{option_map, option_or}
-use Rattle.std.proofs.lemmas.List.{drop_more, drop_all}
-use Rattle.jvm_types.specs.ClassGrammar.{Spells}
-use Rattle.jvm_types.specs.ReadingClass.{class_fault}
-use Rattle.jvm_types.specs.declared.class_file.ClassFile.{ClassFile}
-use Rattle.jvm_types.specs.declared.refusal.CRule.{CRule}
-use Rattle.jvm_types.specs.declared.refusal.Rule.{Rule}
-use Rattle.jvm_types.specs.declared.refusal.Rule.TheVariants.{C, K, L, V, S, A}
-use Rattle.jvm_types.specs.declared.refusal.Place.{Place}
-use Rattle.class_runner.specs.Loading.{read_fault}
-use Rattle.class_runner.specs.Stages.{file_fault, IsClassUnread, AreReadSoFar}
-use Rattle.class_runner.specs.declared.loading.FileError.{FileError}
-use Rattle.class_runner.specs.declared.loading.FileError.TheVariants.{Memory, Refused}
+use Rattle.std.{proofs.Common.{◌≡◌, ℕ, ◌+◌, ◌<◌, ◌≤◌, List, [], ◌∷◌, ◌++◌, length, get_or, drop, Option, None, refl, sym, subst, ap, ◌∙◌, append_assoc, append-nil}, specs.List.AllZip}
+use Rattle.std.{specs.Option.{option_map, option_or}, proofs.lemmas.List.{drop_more, drop_all}}
+use Rattle.jvm_types.specs.{ClassGrammar.Spells, ReadingClass.class_fault, declared.{class_file.ClassFile.ClassFile, refusal.{CRule.CRule, Place.Place, Rule.{Rule, TheVariants.{C, K, L, V, S, A}}}}}
+use Rattle.class_runner.specs.{Loading.read_fault, Stages.{file_fault, IsClassUnread, AreReadSoFar}, declared.loading.FileError.{FileError, TheVariants.{Memory, Refused}}}
 
 pub begins : (files : List (List ℕ)) → AreReadSoFar files 0 []
 begins files = record { whole = λ rest h. h; fault = refl }

@@ -1,43 +1,17 @@
 -- Some files are loaded to one program, and no such files are refused.
 use Rattle.std.proofs.Common.{◌≡◌, ℕ, suc, ◌+◌, inl, inr, List, [], ◌∷◌, length, Option, Some, None, Result, Ok, Err, IfOk, IfErr, refl, sym, subst, ap, ◌∙◌}
-use Rattle.std.specs.List.{AllZip, AllByRecursion, zip}
-use Rattle.std.proofs.lemmas.Slice.Zip.{AllZip-long}
-use Rattle.jvm_types.specs.ClassGrammar.{IsClass, Spells}
-use Rattle.jvm_types.specs.ReadingClass.{fault_of, class_fault}
-use Rattle.jvm_types.specs.Members.{Declared, declared_methods}
-use Rattle.jvm_types.specs.Targets.{Scope}
-use Rattle.jvm_types.specs.Linked.{code_of, scope_of, linked_methods, program_of}
-use Rattle.jvm_types.specs.Linkable.{IsDecoded}
-use Rattle.jvm_types.specs.LinkFaults.{LinkFault, link_fault, IsLinked}
-use Rattle.jvm_types.specs.Verifying.{IsTypingOf, IsRefused}
-use Rattle.checked_program.specs.CheckedProgram.{AreTypings}
-use Rattle.checked_program.specs.MarkedProgram.{MarkedProgram, AreTaggings}
-use Rattle.checked_program.specs.Marks.{AreMarks}
-use Rattle.checked_program.specs.TaggedCode.{tagged_by}
-use Rattle.checked_program.specs.Tagging.{IsTaggingOf, IsTagRefused}
-use Rattle.checked_program.specs.declared.section.SectionMark.{SectionMark}
-use Rattle.checked_program.specs.declared.tag.Tags.{Tags}
-use Rattle.jvm_types.specs.declared.class_file.ClassFile.{ClassFile}
-use Rattle.jvm_types.specs.declared.code.Insn.{Insn}
-use Rattle.jvm_types.specs.declared.program.MethodInfo.{MethodInfo}
-use Rattle.jvm_types.specs.declared.program.Program.{Program}
-use Rattle.jvm_types.specs.declared.typing.Typing.{Typing}
-use Rattle.jvm_types.specs.declared.refusal.Rule.TheVariants.{C, K, L, V, S, A}
-use Rattle.jvm_types.specs.declared.refusal.VRule.{VRule}
-use Rattle.jvm_types.specs.declared.refusal.SRule.{SRule}
-use Rattle.jvm_types.specs.declared.refusal.Place.{Place}
-use Rattle.jvm_types.proofs.ClassLawProofs.{one_class, read_if_spelled}
-use Rattle.jvm_types.proofs.CodeLaws.{faultless}
-use Rattle.jvm_types.proofs.CodeOnce.{once}
+use Rattle.std.{specs.List.{AllZip, AllByRecursion, zip}, proofs.lemmas.Slice.Zip.AllZip-long}
+use Rattle.jvm_types.specs.{ClassGrammar.{IsClass, Spells}, LinkFaults.{LinkFault, link_fault, IsLinked}, Linkable.IsDecoded, Linked.{code_of, scope_of, linked_methods, program_of}}
+use Rattle.jvm_types.specs.{Members.{Declared, declared_methods}, ReadingClass.{fault_of, class_fault}, Targets.Scope, Verifying.{IsTypingOf, IsRefused}, declared.class_file.ClassFile.ClassFile}
+use Rattle.jvm_types.specs.declared.{code.Insn.Insn, program.{MethodInfo.MethodInfo, Program.Program}, refusal.{Place.Place, Rule.TheVariants.{C, K, L, V, S, A}, SRule.SRule, VRule.VRule}}
+use Rattle.jvm_types.{specs.declared.typing.Typing.Typing, proofs.{ClassLawProofs.{one_class, read_if_spelled}, CodeLaws.faultless, CodeOnce.once}}
 use Rattle.laws_programs.proofs.OneTyping.{one_typing, no_refusal}
-use Rattle.laws_sections.proofs.TagAnswers.{no_refusal as no_tag_refusal}
-use Rattle.laws_sections.proofs.OneMarks.{one_mark}
-use Rattle.class_runner.specs.Loading.{AreRead, IsLoaded, IsAccepted, IsFirstRefused, IsFirstUntyped, IsFirstUntagged, IsUntyped, IsUntagged, IsNotLoaded, read_fault, decode_fault}
-use Rattle.class_runner.specs.LoadingLaws.{LoadedAccepted, AcceptedNotRefused}
-use Rattle.class_runner.specs.Stages.{IsLinkedFrom}
-use Rattle.class_runner.specs.declared.loading.FileError.{FileError}
-use Rattle.class_runner.specs.declared.loading.FileError.TheVariants.{Memory, Refused}
+use Rattle.checked_program.specs.{CheckedProgram.AreTypings, MarkedProgram.{MarkedProgram, AreTaggings}, Marks.AreMarks, TaggedCode.tagged_by, Tagging.{IsTaggingOf, IsTagRefused}}
+use Rattle.checked_program.specs.declared.{section.SectionMark.SectionMark, tag.Tags.Tags}
+use Rattle.laws_sections.proofs.{OneMarks.one_mark, TagAnswers.{no_refusal as no_tag_refusal}}
 use Rattle.monitor_tags.proofs.OneAnswer.{one_of}
+use Rattle.class_runner.specs.Loading.{AreRead, IsLoaded, IsAccepted, IsFirstRefused, IsFirstUntyped, IsFirstUntagged, IsUntyped, IsUntagged, IsNotLoaded, read_fault, decode_fault}
+use Rattle.class_runner.specs.{LoadingLaws.{LoadedAccepted, AcceptedNotRefused}, Stages.IsLinkedFrom, declared.loading.FileError.{FileError, TheVariants.{Memory, Refused}}}
 
 -- ---- each stage answers one thing
 

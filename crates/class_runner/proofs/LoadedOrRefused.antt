@@ -1,48 +1,18 @@
 -- Every list of files is accepted, or a rule refuses it: stage by stage.
-use Rattle.std.proofs.Common.{◌≡◌, ℕ, suc, ◌+◌, ◌<◌, ◌≤◌, inl, inr, Bool, true, false, Decides, List, [], ◌∷◌, ◌++◌, length, map, take, Option, Some, None, refl, sym, subst, ap, ◌∙◌, arith}
-use Rattle.std.specs.Prelude.{◌⊎◌, slice_get}
+use Rattle.std.proofs.Common.{◌≡◌, ℕ, suc, ◌+◌, ◌<◌, ◌≤◌, inl, inr, Bool, true, false, Decides, List, [], ◌∷◌, ◌++◌, length, map, take, Option, Some, None, refl, sym, subst, ap, ◌∙◌, arith, ◌⊎◌, slice_get}
 use Rattle.std.specs.List.{AllZip, AllByRecursion}
-use Rattle.jvm_types.specs.ClassGrammar.{IsByte, IsClass, IsMethod, IsMethodAttr, Spells}
-use Rattle.jvm_types.specs.CodeFault.{code_fault}
-use Rattle.jvm_types.specs.Linkable.{IsDecoded, IsLinkable}
-use Rattle.jvm_types.specs.LinkFaults.{LinkFault, link_fault, in_file, in_method, IsLinked}
-use Rattle.jvm_types.specs.Linked.{code_of, program_of}
-use Rattle.jvm_types.specs.Members.{Declared, declared_from, declared_by, declared_methods}
-use Rattle.jvm_types.specs.ProgramInvariant.{IsProgram}
-use Rattle.jvm_types.specs.ReadingClass.{class_fault}
-use Rattle.jvm_types.specs.Types.{TypeFrame}
-use Rattle.jvm_types.specs.Verifying.{IsLaidOut, IsRefused, IsTypingOf, HasTyping}
-use Rattle.checked_program.specs.CheckedProgram.{AreTypings}
-use Rattle.checked_program.specs.LockTags.{TagShape}
-use Rattle.checked_program.specs.Tagging.{IsTaggingOf, IsTagRefused}
-use Rattle.checked_program.specs.declared.tag.Tags.{Tags}
-use Rattle.jvm_types.specs.declared.class_file.Constant.{Constant}
-use Rattle.jvm_types.specs.declared.class_file.ClassFile.{ClassFile}
-use Rattle.jvm_types.specs.declared.class_file.Member.{Member}
-use Rattle.jvm_types.specs.declared.class_file.MemberAttr.{MemberAttr}
-use Rattle.jvm_types.specs.declared.class_file.MemberAttr.TheVariants as member_attrs
-use Rattle.jvm_types.specs.declared.code.Insn.{Insn}
-use Rattle.jvm_types.specs.declared.program.MethodInfo.{MethodInfo}
-use Rattle.jvm_types.specs.declared.program.Program.{Program}
-use Rattle.jvm_types.specs.declared.typing.Typing.{Typing}
-use Rattle.jvm_types.specs.declared.refusal.CRule.{CRule}
-use Rattle.jvm_types.specs.declared.refusal.KRule.{KRule}
-use Rattle.jvm_types.specs.declared.refusal.LRule.{LRule}
-use Rattle.jvm_types.specs.declared.refusal.VRule.{VRule}
-use Rattle.jvm_types.specs.declared.refusal.SRule.{SRule}
-use Rattle.jvm_types.specs.declared.refusal.Rule.{Rule}
-use Rattle.jvm_types.specs.declared.refusal.Rule.TheVariants.{C, K, L, V, S, A}
-use Rattle.jvm_types.specs.declared.refusal.Place.{Place}
-use Rattle.jvm_types.proofs.ClassLawProofs.{spelled_or_faulty}
-use Rattle.jvm_types.proofs.CodeExact.{exact}
-use Rattle.jvm_types.proofs.LinkedLaws.{linked_is_program}
-use Rattle.laws_programs.proofs.VisitsEndAnswer.{typed_or_refused}
+use Rattle.jvm_types.specs.{ClassGrammar.{IsByte, IsClass, IsMethod, IsMethodAttr, Spells}, CodeFault.code_fault, LinkFaults.{LinkFault, link_fault, in_file, in_method, IsLinked}}
+use Rattle.jvm_types.specs.{Linkable.{IsDecoded, IsLinkable}, Linked.{code_of, program_of}, Members.{Declared, declared_from, declared_by, declared_methods}, ProgramInvariant.IsProgram}
+use Rattle.jvm_types.specs.{ReadingClass.class_fault, Types.TypeFrame, Verifying.{IsLaidOut, IsRefused, IsTypingOf, HasTyping}, declared.class_file.{ClassFile.ClassFile, Constant.Constant}}
+use Rattle.jvm_types.specs.declared.{class_file.{Member.Member, MemberAttr.MemberAttr}, code.Insn.Insn, program.{MethodInfo.MethodInfo, Program.Program}, refusal.{CRule.CRule, KRule.KRule}}
+use Rattle.jvm_types.specs.declared.{refusal.{LRule.LRule, Place.Place, Rule.{Rule, TheVariants.{C, K, L, V, S, A}}, SRule.SRule, VRule.VRule}, typing.Typing.Typing}
+use Rattle.jvm_types.proofs.{ClassLawProofs.spelled_or_faulty, CodeExact.exact, EachAfter.all_append, LinkedLaws.linked_is_program}
+use Rattle.laws_programs.proofs.{CodeOrder.laid_out, VisitsEndAnswer.typed_or_refused}
+use Rattle.checked_program.specs.{CheckedProgram.AreTypings, LockTags.TagShape, Tagging.{IsTaggingOf, IsTagRefused}, declared.tag.Tags.Tags}
 use Rattle.laws_sections.proofs.TagAnswers.{tagged_or_refused_all as tagged_or_refused}
-use Rattle.laws_programs.proofs.CodeOrder.{laid_out}
 use Rattle.class_runner.specs.Loading.{AreRead, ArePassed, IsAccepted, IsFirstRefused, IsUnlinked, IsUntyped, IsUntagged, IsRefusedBy, read_fault, decode_fault}
-use Rattle.class_runner.specs.LoadingLaws.{IsLoadable, AcceptedOrRefused}
-use Rattle.class_runner.proofs.LoadedOnce.{spelled_long, spelled_classes, linked_long}
-use Rattle.jvm_types.proofs.EachAfter.{all_append}
+use Rattle.class_runner.{specs.LoadingLaws.{IsLoadable, AcceptedOrRefused}, proofs.LoadedOnce.{spelled_long, spelled_classes, linked_long}}
+use Rattle.jvm_types.specs.declared.class_file.MemberAttr.TheVariants as member_attrs
 
 -- ---- C: reading
 

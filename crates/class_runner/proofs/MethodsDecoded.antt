@@ -1,29 +1,11 @@
 -- Decoding goes over the methods in order of files and methods.
 use Rattle.std.proofs.Common.{◌≡◌, ℕ, zero, suc, ◌+◌, ◌<◌, ◌≤◌, List, [], ◌∷◌, ◌++◌, length, get_or, drop, Option, None, refl, sym, subst, ap, ◌∙◌, append_assoc, append-nil, arith}
-use Rattle.std.specs.List.{AllZip, AllByRecursion}
-use Rattle.std.specs.Option.{option_map, option_or}
-use Rattle.std.proofs.lemmas.List.{drop_more, drop_all}
-use Rattle.jvm_types.specs.ClassGrammar.{IsClass, IsMethod, IsMethodAttr}
-use Rattle.jvm_types.specs.CodeFault.{code_fault}
-use Rattle.jvm_types.specs.CodeGrammar.{IsCode}
-use Rattle.jvm_types.specs.Members.{Declared, declared_from, declared_by}
-use Rattle.jvm_types.specs.Linked.{code_of}
-use Rattle.jvm_types.specs.Linkable.{IsDecoded}
-use Rattle.jvm_types.specs.declared.class_file.Constant.{Constant}
-use Rattle.jvm_types.specs.declared.class_file.ClassFile.{ClassFile}
-use Rattle.jvm_types.specs.declared.class_file.Member.{Member}
-use Rattle.jvm_types.specs.declared.class_file.MemberAttr.{MemberAttr}
+use Rattle.std.{specs.{List.{AllZip, AllByRecursion}, Option.{option_map, option_or}}, proofs.lemmas.List.{drop_more, drop_all}}
+use Rattle.jvm_types.specs.{ClassGrammar.{IsClass, IsMethod, IsMethodAttr}, CodeFault.code_fault, CodeGrammar.IsCode, Linkable.IsDecoded, Linked.code_of}
+use Rattle.jvm_types.specs.{Members.{Declared, declared_from, declared_by}, declared.{class_file.{ClassFile.ClassFile, Constant.Constant, Member.Member, MemberAttr.MemberAttr}, code.Insn.Insn}}
+use Rattle.jvm_types.{specs.declared.refusal.{KRule.KRule, Place.Place, Rule.{Rule, TheVariants.{C, K, L, V, S, A}}}, proofs.CodeLaws.faultless}
+use Rattle.class_runner.specs.{Loading.decode_fault, Stages.{own_methods, method_code_fault, IsUndecoded, AreDecodedSoFar}, declared.loading.FileError.{FileError, TheVariants.{Memory, Refused}}}
 use Rattle.jvm_types.specs.declared.class_file.MemberAttr.TheVariants as member_attrs
-use Rattle.jvm_types.specs.declared.code.Insn.{Insn}
-use Rattle.jvm_types.specs.declared.refusal.KRule.{KRule}
-use Rattle.jvm_types.specs.declared.refusal.Rule.{Rule}
-use Rattle.jvm_types.specs.declared.refusal.Rule.TheVariants.{C, K, L, V, S, A}
-use Rattle.jvm_types.specs.declared.refusal.Place.{Place}
-use Rattle.jvm_types.proofs.CodeLaws.{faultless}
-use Rattle.class_runner.specs.Loading.{decode_fault}
-use Rattle.class_runner.specs.Stages.{own_methods, method_code_fault, IsUndecoded, AreDecodedSoFar}
-use Rattle.class_runner.specs.declared.loading.FileError.{FileError}
-use Rattle.class_runner.specs.declared.loading.FileError.TheVariants.{Memory, Refused}
 
 -- ---- a fact of each item
 

@@ -1,19 +1,9 @@
 -- A check goes over the methods in order of files and methods, and over those of the program in step.
-use Rattle.std.proofs.Common.{◌≡◌, ℕ, zero, suc, inl, inr, ◌+◌, ◌*◌, ◌<◌, ◌≤◌, List, [], ◌∷◌, ◌++◌, length, get_or, drop, Option, Some, None, refl, subst, ap, append_assoc, append-nil, length-append, add-one, arith, slice_get}
-use Rattle.std.specs.Prelude.{IsSomeAnd}
-use Rattle.std.specs.List.{AllZip, AllByRecursion}
-use Rattle.std.proofs.lemmas.List.{drop_all, length_push}
-use Rattle.jvm_types.specs.ClassGrammar.{IsClass}
-use Rattle.jvm_types.specs.LinkFaults.{in_method}
-use Rattle.jvm_types.specs.Members.{Declared, declared_from, declared_by}
-use Rattle.jvm_types.specs.declared.class_file.Constant.{Constant}
-use Rattle.jvm_types.specs.declared.class_file.ClassFile.{ClassFile}
-use Rattle.jvm_types.specs.declared.class_file.Member.{Member}
-use Rattle.jvm_types.specs.declared.program.MethodInfo.{MethodInfo}
-use Rattle.jvm_types.specs.declared.refusal.Place.{Place}
-use Rattle.class_runner.specs.Loading.{IsFirstRefused}
-use Rattle.class_runner.specs.Stages.{own_methods, AreFoundSoFar}
-use Rattle.class_runner.proofs.MethodsDecoded.{declared, files_at}
+use Rattle.std.proofs.Common.{◌≡◌, ℕ, zero, suc, inl, inr, ◌+◌, ◌*◌, ◌<◌, ◌≤◌, List, [], ◌∷◌, ◌++◌, length, get_or, drop, Option, Some, None, refl, subst, ap, append_assoc, append-nil, length-append, add-one, arith, slice_get, IsSomeAnd}
+use Rattle.std.{specs.List.{AllZip, AllByRecursion}, proofs.lemmas.List.{drop_all, length_push}}
+use Rattle.jvm_types.specs.{ClassGrammar.IsClass, LinkFaults.in_method, Members.{Declared, declared_from, declared_by}, declared.class_file.{ClassFile.ClassFile, Constant.Constant, Member.Member}}
+use Rattle.jvm_types.specs.declared.{program.MethodInfo.MethodInfo, refusal.Place.Place}
+use Rattle.class_runner.{specs.{Loading.IsFirstRefused, Stages.{own_methods, AreFoundSoFar}}, proofs.MethodsDecoded.{declared, files_at}}
 
 -- ---- the method of a number
 

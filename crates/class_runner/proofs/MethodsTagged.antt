@@ -1,16 +1,8 @@
 -- Tagging stops at the first method that has no lock tags.
 use Rattle.std.proofs.Common.{ℕ, ◌+◌, ◌<◌, List, ◌++◌, length, drop, slice_get}
-use Rattle.jvm_types.specs.Members.{Declared, declared_from}
-use Rattle.checked_program.specs.Tagging.{IsTaggingOf, IsTagRefused}
-use Rattle.jvm_types.specs.declared.class_file.Constant.{Constant}
-use Rattle.jvm_types.specs.declared.class_file.Member.{Member}
-use Rattle.jvm_types.specs.declared.program.Program.{Program}
-use Rattle.checked_program.specs.declared.tag.Tags.{Tags}
-use Rattle.jvm_types.specs.declared.refusal.Rule.TheVariants.{C, K, L, V, S, A}
-use Rattle.class_runner.specs.Stages.{IsUntaggedAt, IsNotTagged, AreTaggedSoFar}
-use Rattle.class_runner.specs.declared.loading.FileError.{FileError}
-use Rattle.class_runner.specs.declared.loading.FileError.TheVariants.{Memory, Refused}
-use Rattle.class_runner.proofs.MethodsFound.{method_stops}
+use Rattle.jvm_types.specs.{Members.{Declared, declared_from}, declared.{class_file.{Constant.Constant, Member.Member}, program.Program.Program, refusal.Rule.TheVariants.{C, K, L, V, S, A}}}
+use Rattle.checked_program.specs.{Tagging.{IsTaggingOf, IsTagRefused}, declared.tag.Tags.Tags}
+use Rattle.class_runner.{specs.{Stages.{IsUntaggedAt, IsNotTagged, AreTaggedSoFar}, declared.loading.FileError.{FileError, TheVariants.{Memory, Refused}}}, proofs.MethodsFound.method_stops}
 
 pub stops : (p : Program) (file : ℕ) (pool : List Constant) (i : ℕ) (ms : List Member) (left all : List Declared) (tags : List Tags) (e : FileError) → i < length ms
     → IsUntaggedAt p (slice_get p.methods (length tags)) file i e → AreTaggedSoFar p (declared_from file pool i (drop i ms) ++ left) all tags → IsNotTagged p all p.methods e

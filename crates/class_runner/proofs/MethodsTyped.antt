@@ -1,16 +1,8 @@
 -- Verifying stops at the first method that has no typing.
 use Rattle.std.proofs.Common.{ℕ, ◌+◌, ◌<◌, List, ◌++◌, length, drop, slice_get}
-use Rattle.jvm_types.specs.Members.{Declared, declared_from}
-use Rattle.jvm_types.specs.Verifying.{IsTypingOf, IsRefused}
-use Rattle.jvm_types.specs.declared.class_file.Constant.{Constant}
-use Rattle.jvm_types.specs.declared.class_file.Member.{Member}
-use Rattle.jvm_types.specs.declared.program.Program.{Program}
-use Rattle.jvm_types.specs.declared.typing.Typing.{Typing}
-use Rattle.jvm_types.specs.declared.refusal.Rule.TheVariants.{C, K, L, V, S, A}
-use Rattle.class_runner.specs.Stages.{IsUntypedAt, IsUnverified, AreTypedSoFar}
-use Rattle.class_runner.specs.declared.loading.FileError.{FileError}
-use Rattle.class_runner.specs.declared.loading.FileError.TheVariants.{Memory, Refused}
-use Rattle.class_runner.proofs.MethodsFound.{method_stops}
+use Rattle.jvm_types.specs.{Members.{Declared, declared_from}, Verifying.{IsTypingOf, IsRefused}, declared.{class_file.{Constant.Constant, Member.Member}, program.Program.Program}}
+use Rattle.jvm_types.specs.declared.{refusal.Rule.TheVariants.{C, K, L, V, S, A}, typing.Typing.Typing}
+use Rattle.class_runner.{specs.{Stages.{IsUntypedAt, IsUnverified, AreTypedSoFar}, declared.loading.FileError.{FileError, TheVariants.{Memory, Refused}}}, proofs.MethodsFound.method_stops}
 
 pub stops : (p : Program) (file : ℕ) (pool : List Constant) (i : ℕ) (ms : List Member) (left all : List Declared) (typings : List Typing) (e : FileError) → i < length ms
     → IsUntypedAt p (slice_get p.methods (length typings)) file i e → AreTypedSoFar p (declared_from file pool i (drop i ms) ++ left) all typings → IsUnverified p all p.methods e

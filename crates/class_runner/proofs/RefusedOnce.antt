@@ -1,29 +1,13 @@
 -- One rule refuses some files, at one place.
-use Rattle.std.proofs.Common.{◌≡◌, ℕ, inl, inr, List, [], ◌∷◌, Option, Some, None, refl, sym, subst, ap, ◌∙◌}
-use Rattle.std.specs.List.{AllZip}
-use Rattle.jvm_types.specs.ClassGrammar.{Spells}
-use Rattle.jvm_types.specs.Members.{Declared, declared_methods}
-use Rattle.jvm_types.specs.LinkFaults.{LinkFault, link_fault, in_file, in_method, IsLinked}
-use Rattle.jvm_types.specs.Verifying.{IsTypingOf, IsRefused}
-use Rattle.jvm_types.specs.declared.class_file.ClassFile.{ClassFile}
-use Rattle.jvm_types.specs.declared.code.Insn.{Insn}
-use Rattle.jvm_types.specs.declared.program.MethodInfo.{MethodInfo}
-use Rattle.jvm_types.specs.declared.program.Program.{Program}
-use Rattle.checked_program.specs.CheckedProgram.{AreTypings}
-use Rattle.checked_program.specs.Tagging.{IsTaggingOf, IsTagRefused}
-use Rattle.jvm_types.specs.declared.refusal.CRule.{CRule}
-use Rattle.jvm_types.specs.declared.refusal.KRule.{KRule}
-use Rattle.jvm_types.specs.declared.refusal.LRule.{LRule}
-use Rattle.jvm_types.specs.declared.refusal.VRule.{VRule}
-use Rattle.jvm_types.specs.declared.refusal.SRule.{SRule}
-use Rattle.jvm_types.specs.declared.refusal.Rule.{Rule}
-use Rattle.jvm_types.specs.declared.refusal.Rule.TheVariants.{C, K, L, V, S, A}
-use Rattle.jvm_types.specs.declared.refusal.Place.{Place}
+use Rattle.std.{proofs.Common.{◌≡◌, ℕ, inl, inr, List, [], ◌∷◌, Option, Some, None, refl, sym, subst, ap, ◌∙◌}, specs.List.AllZip}
+use Rattle.jvm_types.specs.{ClassGrammar.Spells, LinkFaults.{LinkFault, link_fault, in_file, in_method, IsLinked}, Members.{Declared, declared_methods}, Verifying.{IsTypingOf, IsRefused}}
+use Rattle.jvm_types.specs.declared.{class_file.ClassFile.ClassFile, code.Insn.Insn, program.{MethodInfo.MethodInfo, Program.Program}, refusal.{CRule.CRule, KRule.KRule, LRule.LRule, Place.Place}}
+use Rattle.jvm_types.specs.declared.refusal.{Rule.{Rule, TheVariants.{C, K, L, V, S, A}}, SRule.SRule, VRule.VRule}
 use Rattle.laws_programs.proofs.OneTyping.{no_refusal, one_refusal}
+use Rattle.checked_program.specs.{CheckedProgram.AreTypings, Tagging.{IsTaggingOf, IsTagRefused}}
 use Rattle.laws_sections.proofs.TagAnswers.{no_refusal as no_tag_refusal, one_refusal_all}
 use Rattle.class_runner.specs.Loading.{AreRead, IsFirstRefused, IsFirstUntyped, IsFirstUntagged, IsUnlinked, IsUntyped, IsUntagged, IsRefusedBy, read_fault, decode_fault}
-use Rattle.class_runner.specs.LoadingLaws.{FilesHaveOneRefusal}
-use Rattle.class_runner.proofs.LoadedOnce.{classes_once, read_once, same_program, never_both, no_read_fault, no_decode_fault, none_untyped}
+use Rattle.class_runner.{specs.LoadingLaws.FilesHaveOneRefusal, proofs.LoadedOnce.{classes_once, read_once, same_program, never_both, no_read_fault, no_decode_fault, none_untyped}}
 
 abbrev Same : Rule → Rule → Place → Place → Type 0
 Same rule other place at = (rule ≡ other) × (place ≡ at)

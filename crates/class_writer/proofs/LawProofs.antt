@@ -1,13 +1,7 @@
 -- Reading and writing undo each other.
 use Rattle.std.proofs.Common.{◌≡◌, ◌⊎◌, inl, inr, ℕ, List, Result, Ok, Err, refl, sym, ap, ◌∙◌}
-use Rattle.jvm_types.specs.ClassGrammar.{Spells}
-use Rattle.jvm_types.specs.declared.class_file.ClassFile.{ClassFile}
-use Rattle.jvm_types.proofs.ClassLawProofs.{spelled_if_read, read_if_spelled}
-use Rattle.jvm_types.proofs.CountLaws.{classes_fit}
-use Rattle.class_writer.specs.declared.error.WriteError.{WriteError}
-use Rattle.class_writer.specs.declared.error.WriteError.TheVariants.{Memory, TooLarge, NoSpelling}
-use Rattle.class_writer.specs.Writing.{Answers}
-use Rattle.class_writer.specs.Laws.{ReadsWhatWasWritten, WritesWhatWasRead}
+use Rattle.jvm_types.{specs.{ClassGrammar.Spells, declared.class_file.ClassFile.ClassFile}, proofs.{ClassLawProofs.{spelled_if_read, read_if_spelled}, CountLaws.classes_fit}}
+use Rattle.class_writer.specs.{Laws.{ReadsWhatWasWritten, WritesWhatWasRead}, Writing.Answers, declared.error.WriteError.{WriteError, TheVariants.{Memory, TooLarge, NoSpelling}}}
 
 pub reads_back : ReadsWhatWasWritten
 reads_back bytes c spells = read_if_spelled bytes c spells

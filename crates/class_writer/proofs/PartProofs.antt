@@ -1,13 +1,8 @@
 -- Writing a Code attribute, whose body was written by itself.
 use Rattle.std.proofs.Common.{◌≡◌, ◌<◌, ◌^◌, ℕ, List, ◌++◌, length, Result, Ok, Err, ◌∙◌, subst, append_assoc}
-use Rattle.jvm_types.specs.Numbers.{u2, u4}
-use Rattle.jvm_types.specs.Spelling.{code_body, member_attr}
-use Rattle.jvm_types.specs.Counts.{CodeFits}
-use Rattle.jvm_types.specs.declared.class_file.Code.{Code}
+use Rattle.jvm_types.specs.{Counts.CodeFits, Numbers.{u2, u4}, Spelling.{code_body, member_attr}, declared.class_file.Code.Code}
+use Rattle.class_writer.specs.{Writing.{Writes, CodePartsFit}, declared.error.WriteError.{WriteError, TheVariants.{Memory, TooLarge, NoSpelling}}}
 use Rattle.jvm_types.specs.declared.class_file.MemberAttr.TheVariants as member_attrs
-use Rattle.class_writer.specs.declared.error.WriteError.{WriteError}
-use Rattle.class_writer.specs.declared.error.WriteError.TheVariants.{Memory, TooLarge, NoSpelling}
-use Rattle.class_writer.specs.Writing.{Writes, CodePartsFit}
 
 -- the body that was written by itself is the body of the attribute
 written_whole : {A : Type 0} (c : Code) (old mid new : List ℕ) (r : Result A WriteError) → CodePartsFit c → mid ≡ old ++ u2 c.name

@@ -1,31 +1,17 @@
 -- The tests of the rules are met exactly by the classes of the class grammar. That numbers fit their fields is told by the
 -- bytes that spell them: the first byte of a number is one.
-use Rattle.std.proofs.Common.{◌≡◌, ℕ, suc, ◌+◌, ◌/◌, ◌<◌, ◌≤◌, ◌^◌, Bool, true, false, not, ◌&&◌, ◌==◌, List, [], ◌∷◌, ◌++◌, length, codes, refl, sym, subst, ◌∙◌, arith, get_or, nat_lt, nat_le, cond}
-use Rattle.std.specs.Prelude.{Decides, count_by}
-use Rattle.std.specs.List.{AllByRecursion, flat_map, list_all}
-use Rattle.std.proofs.lemmas.Bool.{leb-true, ltb-true, lt-ltb, and_parts, and_from}
-use Rattle.std.proofs.lemmas.Bool.Decides.{nat_tests, Decides-eqb}
-use Rattle.jvm_types.specs.Numbers.{u2, u4, has_flag}
-use Rattle.jvm_types.specs.Spelling.{counted, constant, handler, attr, code_body, member_attr, member, class_file}
-use Rattle.jvm_types.specs.Counts.{BodyFits, CodeFits, MemberAttrFits, MemberFits}
+use Rattle.std.proofs.Common.{◌≡◌, ℕ, suc, ◌+◌, ◌/◌, ◌<◌, ◌≤◌, ◌^◌, Bool, true, false, not, ◌&&◌, ◌==◌, List, [], ◌∷◌, ◌++◌, length, codes, refl, sym, subst, ◌∙◌, arith, get_or, nat_lt, nat_le, cond, Decides, count_by}
+use Rattle.std.{specs.List.{AllByRecursion, flat_map, list_all}, proofs.lemmas.Bool.{leb-true, ltb-true, lt-ltb, and_parts, and_from, Decides.{nat_tests, Decides-eqb}}}
 use Rattle.jvm_types.specs.ClassGrammar.{IsCounted, Names, IsIndex, is_wide, is_gap, GapsFit, IsUtf8Byte, FieldsFit, IndicesFit, IsPool, IsAttr, IsNamed, IsHandler, IsCodeAttr, IsFieldAttr, IsMethodAttr, IsMember, IsField, codes_of, HasBody, IsMethod, IsClass}
-use Rattle.jvm_types.specs.ReadingPool.{names}
-use Rattle.jvm_types.specs.declared.index_kind.IndexKind.{IndexKind}
-use Rattle.jvm_types.specs.declared.index_kind.IndexKind.TheVariants as kinds
-use Rattle.jvm_types.specs.declared.class_file.Constant.{Constant}
-use Rattle.jvm_types.specs.declared.class_file.Constant.TheVariants.{Gap, Utf8, Integer, Float, Long, Double, Class, Text, Field, Method, InterfaceMethod, NameAndType}
-use Rattle.jvm_types.specs.declared.class_file.Attr.{Attr}
-use Rattle.jvm_types.specs.declared.class_file.Handler.{Handler}
-use Rattle.jvm_types.specs.declared.class_file.Code.{Code}
-use Rattle.jvm_types.specs.declared.class_file.MemberAttr.{MemberAttr}
-use Rattle.jvm_types.specs.declared.class_file.MemberAttr.TheVariants as member_attrs
-use Rattle.jvm_types.specs.declared.class_file.Member.{Member}
-use Rattle.jvm_types.specs.declared.class_file.ClassFile.{ClassFile}
-use Rattle.jvm_types.proofs.IndexLaws.{Names-from_test, test_from_Names, IsTextAt-from_test, test_from_IsTextAt, no_IsTextAt, no_test}
-use Rattle.jvm_types.proofs.StepLaws.{IsBytes}
-use Rattle.jvm_types.proofs.EachAfter.{sum_first}
+use Rattle.jvm_types.specs.{Counts.{BodyFits, CodeFits, MemberAttrFits, MemberFits}, Numbers.{u2, u4, has_flag}, ReadingPool.names}
+use Rattle.jvm_types.specs.{Spelling.{counted, constant, handler, attr, code_body, member_attr, member, class_file}, declared.class_file.{Attr.Attr, ClassFile.ClassFile, Code.Code, Constant.Constant}}
+use Rattle.jvm_types.specs.declared.class_file.{Constant.TheVariants.{Gap, Utf8, Integer, Float, Long, Double, Class, Text, Field, Method, InterfaceMethod, NameAndType}, Handler.Handler}
+use Rattle.jvm_types.{specs.declared.{class_file.{Member.Member, MemberAttr.MemberAttr}, index_kind.IndexKind.IndexKind}, proofs.EachAfter.sum_first}
+use Rattle.jvm_types.proofs.{IndexLaws.{Names-from_test, test_from_Names, IsTextAt-from_test, test_from_IsTextAt, no_IsTextAt, no_test}, StepLaws.IsBytes}
 use Rattle.class_writer.specs.Testing.{has_due_gaps, is_utf8_byte, is_constant, is_pool, is_attr, is_handler, is_text_at, is_pool_code, is_field_attr, is_method_attr, has_names, is_field, is_code_attr, has_body, is_method, has_version, has_classes, has_members, keeps_rules}
 use Rattle.class_writer.specs.Writing.{IsKnown, IsClassWritten}
+use Rattle.jvm_types.specs.declared.index_kind.IndexKind.TheVariants as kinds
+use Rattle.jvm_types.specs.declared.class_file.MemberAttr.TheVariants as member_attrs
 
 -- ---- tests and lists
 

@@ -1,23 +1,10 @@
 -- The first fault by marks is the first fault of the code.
-use Rattle.std.proofs.Common.{◌≡◌, ℕ, suc, ◌+◌, ◌<◌, ◌≤◌, ◌^◌, ℤ, Bool, true, false, List, [], ◌∷◌, length, map, Some, None, Result, Ok, Err, refl, sym, ap, subst, arith}
-use Rattle.std.specs.Prelude.{slice_index_or, nat_lt, nat_abs, IfOk, IfErr, ◌==◌, ◌||◌}
-use Rattle.std.specs.List.{AllByRecursion}
-use Rattle.std.proofs.lemmas.Bool.Decides.{nat_tests}
-use Rattle.jvm_types.specs.CodeFault.{Outline, outlines, all_at, branch_fault, row_fits, handler_fault, or_else, code_fault}
-use Rattle.jvm_types.specs.CodeGrammar.{IsCode}
-use Rattle.jvm_types.specs.declared.code.Insn.{Insn}
-use Rattle.jvm_types.specs.declared.class_file.Handler.{Handler}
-use Rattle.jvm_types.specs.declared.refusal.KRule.{KRule}
-use Rattle.jvm_types.specs.declared.refusal.KRule.TheVariants.{K5}
-use Rattle.code_decode.specs.declared.sweep.Branching.{Branching}
-use Rattle.code_decode.specs.Decoding.{outline, AreMarkedAt, branch_starts}
-use Rattle.code_decode.specs.Marking.{all_marked, unmarked_branch, marked_row, unmarked_row, IsCodeDecoded, IsWantOfMemory}
-use Rattle.code_decode.specs.declared.error.CodeError.{CodeError}
-use Rattle.code_decode.specs.declared.error.CodeError.TheVariants.{Memory, Refused}
-use Rattle.jvm_types.specs.ReadCode.{insns_of}
-use Rattle.jvm_types.proofs.CodeOnce.{once}
-use Rattle.jvm_types.proofs.CodeExact.{read_is_code}
-use Rattle.jvm_types.proofs.CodeLaws.{faultless}
+use Rattle.std.proofs.Common.{◌≡◌, ℕ, suc, ◌+◌, ◌<◌, ◌≤◌, ◌^◌, ℤ, Bool, true, false, List, [], ◌∷◌, length, map, Some, None, Result, Ok, Err, refl, sym, ap, subst, arith, slice_index_or, nat_lt, nat_abs, IfOk, IfErr, ◌==◌, ◌||◌}
+use Rattle.std.{specs.List.AllByRecursion, proofs.lemmas.Bool.Decides.nat_tests}
+use Rattle.jvm_types.specs.{CodeFault.{Outline, outlines, all_at, branch_fault, row_fits, handler_fault, or_else, code_fault}, CodeGrammar.IsCode, ReadCode.insns_of}
+use Rattle.jvm_types.{specs.declared.{class_file.Handler.Handler, code.Insn.Insn, refusal.KRule.{KRule, TheVariants.K5}}, proofs.{CodeExact.read_is_code, CodeLaws.faultless, CodeOnce.once}}
+use Rattle.code_decode.specs.{Decoding.{outline, AreMarkedAt, branch_starts}, Marking.{all_marked, unmarked_branch, marked_row, unmarked_row, IsCodeDecoded, IsWantOfMemory}}
+use Rattle.code_decode.specs.declared.{error.CodeError.{CodeError, TheVariants.{Memory, Refused}}, sweep.Branching.Branching}
 
 all_same : (marks : List Bool) (starts : List ℕ) (tos : List ℤ) → AreMarkedAt marks starts → all_marked marks tos ≡ all_at starts tos
 all_same marks starts [] h = refl

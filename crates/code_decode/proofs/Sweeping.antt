@@ -1,24 +1,12 @@
 -- The sweep goes on by one byte: what was found, and what is found behind it, are the whole.
-use Rattle.std.proofs.Common.{◌≡◌, ℕ, zero, suc, ◌+◌, ◌-◌, ◌*◌, ◌<◌, ◌≤◌, ℤ, pos, Bool, true, false, List, [], ◌∷◌, ◌++◌, length, map, drop, Option, Some, None, Result, Ok, Err, refl, sym, ap, subst, ◌∙◌, arith, append_assoc, add-one, drop-cons, length-drop, length-append}
-use Rattle.std.specs.Prelude.{slice_index_or, int_lt, nat_lt, not, nat_abs, ◌==◌, ◌||◌, if◌then◌else◌, ◌-ℤ◌, ◌+ℤ◌}
-use Rattle.std.proofs.lemmas.Bool.Decides.{nat_tests}
-use Rattle.std.proofs.lemmas.Bool.{ltb-false}
-use Rattle.lists.proofs.ListLaws.{one_more}
-use Rattle.lists.proofs.TestLaws.{or_assoc, or_false}
-use Rattle.jvm_types.specs.Numbers.{has_number}
-use Rattle.jvm_types.specs.CodeTable.{Form, Plain, Byte, Short, SignedByte, SignedShort, Branch, WideBranch, LocalAndStep, IntArray, Table, Lookup, form_of}
-use Rattle.jvm_types.specs.CodeGrammar.{padding_size}
+use Rattle.std.proofs.Common.{◌≡◌, ℕ, zero, suc, ◌+◌, ◌-◌, ◌*◌, ◌<◌, ◌≤◌, ℤ, pos, Bool, true, false, List, [], ◌∷◌, ◌++◌, length, map, drop, Option, Some, None, Result, Ok, Err, refl, sym, ap, subst, ◌∙◌, arith, append_assoc, add-one, drop-cons, length-drop, length-append, slice_index_or, int_lt, nat_lt, not, nat_abs, ◌==◌, ◌||◌, if◌then◌else◌, ◌-ℤ◌, ◌+ℤ◌}
+use Rattle.std.proofs.lemmas.Bool.{ltb-false, Decides.nat_tests}
+use Rattle.lists.proofs.{ListLaws.one_more, TestLaws.{or_assoc, or_false}}
 use Rattle.jvm_types.specs.CodeFault.{Extent, Outline, s4_of, landing, sized, case_offsets, ascend, array_extent, table_of, table_extent, lookup_of, lookup_extent, extent_of, known_extent, outline_followed, outlines}
-use Rattle.jvm_types.specs.declared.code.Insn.{Insn}
-use Rattle.jvm_types.specs.declared.code.Op.{Op}
-use Rattle.jvm_types.specs.declared.refusal.KRule.{KRule}
-use Rattle.jvm_types.specs.declared.refusal.KRule.TheVariants.{K1, K2, K6}
-use Rattle.jvm_types.specs.ReadCode.{with_insn, insns_of}
+use Rattle.jvm_types.specs.{CodeGrammar.padding_size, CodeTable.{Form, Plain, Byte, Short, SignedByte, SignedShort, Branch, WideBranch, LocalAndStep, IntArray, Table, Lookup, form_of}}
+use Rattle.jvm_types.{specs.{Numbers.has_number, ReadCode.{with_insn, insns_of}, declared.{code.{Insn.Insn, Op.Op}, refusal.KRule.{KRule, TheVariants.{K1, K2, K6}}}}, proofs.SampleMethods.insn}
+use Rattle.code_decode.specs.{Decoding.{OutlinesRead, extent, IsDecodeStep, with_front, outline, AreMarkedAt, branch_starts, Swept}, declared.{operands.Found.Found, sweep.Branching.Branching}}
 use Rattle.code_decode.specs.declared.sweep.Sweep.{Sweep}
-use Rattle.code_decode.specs.declared.sweep.Branching.{Branching}
-use Rattle.code_decode.specs.declared.operands.Found.{Found}
-use Rattle.code_decode.specs.Decoding.{OutlinesRead, extent, IsDecodeStep, with_front, outline, AreMarkedAt, branch_starts, Swept}
-use Rattle.jvm_types.proofs.SampleMethods.{insn}
 
 -- ---- operands lie inside the code
 

@@ -1,10 +1,7 @@
 -- The loops over the offsets and pairs of a switch: what was read, and what is still to be read, are the whole.
-use Rattle.std.proofs.Common.{◌≡◌, ℕ, suc, ◌+◌, ◌-◌, ◌*◌, ◌<◌, ◌≤◌, ℤ, Bool, true, List, [], ◌∷◌, ◌++◌, length, map, drop, nat_abs, refl, sym, ap, ◌∙◌, arith, length-drop}
-use Rattle.std.specs.Prelude.{int_lt, ◌&&◌}
+use Rattle.std.proofs.Common.{◌≡◌, ℕ, suc, ◌+◌, ◌-◌, ◌*◌, ◌<◌, ◌≤◌, ℤ, Bool, true, List, [], ◌∷◌, ◌++◌, length, map, drop, nat_abs, refl, sym, ap, ◌∙◌, arith, length-drop, int_lt, ◌&&◌}
 use Rattle.lists.proofs.ListLaws.{one_more}
-use Rattle.jvm_types.specs.CodeFault.{s4_of, landing, offsets, case_offsets, ascend}
-use Rattle.jvm_types.specs.declared.code.Case.{Case}
-use Rattle.jvm_types.specs.ReadCode.{cases_of}
+use Rattle.jvm_types.specs.{CodeFault.{s4_of, landing, offsets, case_offsets, ascend}, ReadCode.cases_of, declared.code.Case.Case}
 
 pub offsets_more : (pc n i : ℕ) (front : List ℤ) (rest : List ℕ) (all : List ℤ) → i < n → front ++ offsets pc (n - i) rest ≡ all
     → (front ++ landing pc (s4_of rest) ∷ []) ++ offsets pc (n - (i + 1)) (drop 4 rest) ≡ all

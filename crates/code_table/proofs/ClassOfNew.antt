@@ -1,15 +1,8 @@
 -- The class that the `new` at a pc names, by the number of the instruction there.
-use Rattle.std.proofs.Common.{◌≡◌, ℕ, suc, ◌<◌, Bool, true, false, List, [], ◌∷◌, Option, Some, None, refl, sym, ◌∙◌, arith}
-use Rattle.std.specs.Prelude.{◌==◌, if◌then◌else◌}
-use Rattle.std.specs.Option.{option_map}
+use Rattle.std.{proofs.{Common.{◌≡◌, ℕ, suc, ◌<◌, Bool, true, false, List, [], ◌∷◌, Option, Some, None, refl, sym, ◌∙◌, arith, ◌==◌, if◌then◌else◌}, lemmas.Bool.ne_eqb}, specs.Option.option_map}
 use Rattle.std.proofs.lemmas.Bool.Decides.{nat_tests}
-use Rattle.std.proofs.lemmas.Bool.{ne_eqb}
-use Rattle.jvm_types.specs.Verifying.{new_class}
-use Rattle.jvm_types.specs.declared.code.Insn.{Insn}
-use Rattle.jvm_types.specs.declared.program.Target.{Target}
-use Rattle.jvm_types.specs.declared.program.Target.TheVariants.{Class}
-use Rattle.code_table.specs.PcTables.{number_at, Ascend}
-use Rattle.code_table.specs.NewClasses.{class_named, class_at_target}
+use Rattle.jvm_types.specs.{Verifying.new_class, declared.{code.Insn.Insn, program.Target.{Target, TheVariants.Class}}}
+use Rattle.code_table.specs.{NewClasses.{class_named, class_at_target}, PcTables.{number_at, Ascend}}
 
 -- behind the pc there is none
 none_behind : (low : ℕ) (code : List Insn) (targets : List Target) (pc : ℕ) → Ascend low code → pc < low → new_class code targets pc ≡ None

@@ -1,9 +1,6 @@
 -- A code that is laid out has pcs that ascend.
 use Rattle.std.proofs.Common.{ℕ, suc, ◌<◌, ◌≤◌, List, [], ◌∷◌, length, ap, arith}
-use Rattle.jvm_types.specs.CodeGrammar.{SpellsInsns, SpellsOp}
-use Rattle.jvm_types.specs.Verifying.{IsLaidOut}
-use Rattle.jvm_types.specs.declared.code.Insn.{Insn}
-use Rattle.jvm_types.specs.declared.program.MethodInfo.{MethodInfo}
+use Rattle.jvm_types.specs.{CodeGrammar.{SpellsInsns, SpellsOp}, Verifying.IsLaidOut, declared.{code.Insn.Insn, program.MethodInfo.MethodInfo}}
 use Rattle.code_table.specs.PcTables.{Ascend}
 
 front_some : (pc : ℕ) (insn : Insn) (front : List ℕ) → SpellsOp pc insn.op front → 0 < length front

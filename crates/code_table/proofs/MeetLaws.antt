@@ -1,7 +1,6 @@
 -- A class meets itself in itself.
 use Rattle.std.proofs.Common.{◌≡◌, ℕ, refl}
-use Rattle.jvm_types.specs.ClassTree.{common_ancestor}
-use Rattle.jvm_types.proofs.TypeOrder.{subclass_self}
+use Rattle.jvm_types.{specs.ClassTree.common_ancestor, proofs.TypeOrder.subclass_self}
 
 pub meet_same_class : (class : ℕ) → common_ancestor class class ≡ class
 unfolding common_ancestor

@@ -1,14 +1,8 @@
 -- The number of the instruction at a pc, and the instruction of that number.
-use Rattle.std.proofs.Common.{◌≡◌, ℕ, zero, suc, ◌≤◌, Bool, true, false, List, [], ◌∷◌, Option, Some, None, refl, subst, arith}
-use Rattle.std.specs.Prelude.{◌==◌, if◌then◌else◌, slice_get, IsSomeAnd}
-use Rattle.std.specs.Option.{option_map}
-use Rattle.std.proofs.lemmas.Bool.Decides.{nat_tests}
-use Rattle.std.proofs.lemmas.Bool.{eq-eqb, ne_eqb}
+use Rattle.std.{proofs.Common.{◌≡◌, ℕ, zero, suc, ◌≤◌, Bool, true, false, List, [], ◌∷◌, Option, Some, None, refl, subst, arith, ◌==◌, if◌then◌else◌, slice_get, IsSomeAnd}, specs.Option.option_map}
+use Rattle.std.proofs.lemmas.Bool.{eq-eqb, ne_eqb, Decides.nat_tests}
 use Rattle.jvm_types.specs.declared.code.Insn.{Insn}
-use Rattle.code_table.specs.PcTables.{number_at, Ascend}
-use Rattle.code_table.specs.NumberLaws.{NumbersAreExact}
-use Rattle.code_table.proofs.PcLaws.{ascend_at}
-use Rattle.code_table.proofs.LaidOut.{ascend}
+use Rattle.code_table.{specs.{NumberLaws.NumbersAreExact, PcTables.{number_at, Ascend}}, proofs.{LaidOut.ascend, PcLaws.ascend_at}}
 
 abbrev StandsAt : List Insn → ℕ → ℕ → Type 0
 StandsAt code pc i = IsSomeAnd (slice_get code i) (λ insn. insn.pc ≡ pc)

@@ -1,11 +1,6 @@
 -- Numbers of instructions by their pcs.
-use Rattle.std.proofs.Common.{◌≡◌, ◌≢◌, ℕ, zero, suc, ◌+◌, ◌-◌, ◌<◌, ◌≤◌, ◌⊎◌, inl, inr, Bool, true, false, List, [], ◌∷◌, length, take, replicate, Option, Some, None, refl, sym, ◌∙◌, subst, arith}
-use Rattle.std.specs.Prelude.{◌==◌, ◌||◌, if◌then◌else◌, slice_get, slice_set, slice_index_or}
-use Rattle.std.specs.Option.{option_map, is_some}
-use Rattle.std.specs.List.{list_any, AllByRecursion}
-use Rattle.std.proofs.lemmas.Bool.{cases_eq, eq-eqb, ne_eqb}
-use Rattle.std.proofs.lemmas.Bool.Decides.{nat_tests}
-use Rattle.std.proofs.lemmas.List.{get_or-set_same, get_or-set_other}
+use Rattle.std.proofs.Common.{◌≡◌, ◌≢◌, ℕ, zero, suc, ◌+◌, ◌-◌, ◌<◌, ◌≤◌, ◌⊎◌, inl, inr, Bool, true, false, List, [], ◌∷◌, length, take, replicate, Option, Some, None, refl, sym, ◌∙◌, subst, arith, ◌==◌, ◌||◌, if◌then◌else◌, slice_get, slice_set, slice_index_or}
+use Rattle.std.{specs.{List.{list_any, AllByRecursion}, Option.{option_map, is_some}}, proofs.lemmas.{Bool.{cases_eq, eq-eqb, ne_eqb, Decides.nat_tests}, List.{get_or-set_same, get_or-set_other}}}
 use Rattle.jvm_types.specs.declared.code.Insn.{Insn}
 use Rattle.code_table.specs.PcTables.{number_at, Ascend, IsPcTable}
 

@@ -1,16 +1,9 @@
 -- Frames by the first of their locals, with nothing known of the others.
-use Rattle.std.proofs.Common.{◌≡◌, ℕ, zero, suc, ◌+◌, ◌-◌, ◌≤◌, min, Bool, true, false, not, List, [], ◌∷◌, ◌++◌, length, map, reverse, drop, replicate, Option, Some, refl, sym, ap, ◌∙◌, arith}
-use Rattle.std.specs.Prelude.{◌||◌, ◌&&◌, if◌then◌else◌, slice_set, slice_index_or}
-use Rattle.std.specs.List.{list_any}
-use Rattle.std.proofs.lemmas.List.{reverse-append, map-append, length-map, length-set, replicate-append-replicate}
-use Rattle.jvm_types.specs.Types.{TypeFrame, filled, is_uninitialised, is_new, same_type, same_ready, same_frame, all_pairs, meet, meets, meet_frames}
+use Rattle.std.proofs.Common.{◌≡◌, ℕ, zero, suc, ◌+◌, ◌-◌, ◌≤◌, min, Bool, true, false, not, List, [], ◌∷◌, ◌++◌, length, map, reverse, drop, replicate, Option, Some, refl, sym, ap, ◌∙◌, arith, ◌||◌, ◌&&◌, if◌then◌else◌, slice_set, slice_index_or}
+use Rattle.std.{specs.List.list_any, proofs.lemmas.List.{reverse-append, map-append, length-map, length-set, replicate-append-replicate}}
 use Rattle.jvm_types.specs.CodeTable.{value_of, stack_after, locals_after}
-use Rattle.jvm_types.specs.Verifying.{initialised, after_start}
-use Rattle.jvm_types.specs.declared.op_row.Given.{Given}
-use Rattle.jvm_types.specs.declared.op_row.Given.TheVariants.{Fresh, Taken, Local}
-use Rattle.jvm_types.specs.declared.op_row.OpRow.{OpRow}
-use Rattle.jvm_types.specs.declared.typing.VType.{VType}
-use Rattle.jvm_types.specs.declared.typing.VType.TheVariants.{Int, Null, Ref, This, New, Top}
+use Rattle.jvm_types.specs.{Types.{TypeFrame, filled, is_uninitialised, is_new, same_type, same_ready, same_frame, all_pairs, meet, meets, meet_frames}, Verifying.{initialised, after_start}}
+use Rattle.jvm_types.specs.declared.{op_row.{Given.{Given, TheVariants.{Fresh, Taken, Local}}, OpRow.OpRow}, typing.VType.{VType, TheVariants.{Int, Null, Ref, This, New, Top}}}
 use Rattle.jvm_types.proofs.FilledLaws.{length_filled}
 use Rattle.code_visits.proofs.StayLaws.{or_none}
 

@@ -1,22 +1,10 @@
 -- A method has one answer.
-use Rattle.std.proofs.Common.{◌≡◌, Result, refl}
-use Rattle.std.specs.Prelude.{IfOk, IfErr}
-use Rattle.std.proofs.lemmas.Result.{IfOk-weaker, IfErr-weaker}
-use Rattle.jvm_types.specs.Verifying.{IsTypingOf}
-use Rattle.jvm_types.specs.declared.typing.Typing.{Typing}
-use Rattle.jvm_types.specs.declared.program.MethodInfo.{MethodInfo}
-use Rattle.jvm_types.specs.declared.program.Program.{Program}
-use Rattle.jvm_types.specs.declared.refusal.VRule.{VRule}
-use Rattle.laws_programs.proofs.KnownTyping.{typing_of_one}
-use Rattle.laws_programs.proofs.OneTyping.{no_refusal}
-use Rattle.code_visits.specs.Analyses.{IsStopped}
-use Rattle.code_visits.specs.declared.stop.Stop.{Stop}
+use Rattle.std.proofs.{Common.{◌≡◌, Result, refl, IfOk, IfErr}, lemmas.Result.{IfOk-weaker, IfErr-weaker}}
+use Rattle.jvm_types.specs.{Verifying.IsTypingOf, declared.{program.{MethodInfo.MethodInfo, Program.Program}, refusal.VRule.VRule, typing.Typing.Typing}}
+use Rattle.laws_programs.proofs.{KnownTyping.typing_of_one, OneTyping.no_refusal}
+use Rattle.code_visits.{specs.{Analyses.IsStopped, TypePlan.type_plan, declared.stop.Stop.Stop}, proofs.TypeVisits.is_refused}
+use Rattle.code_verifier.specs.{Visiting.{verify_error_of, IsRefusal}, declared.error.VerifyError.{VerifyError, TheVariants.{Memory, Refused}}}
 use Rattle.code_visits.specs.declared.stop.Stop.TheVariants as stops
-use Rattle.code_verifier.specs.declared.error.VerifyError.{VerifyError}
-use Rattle.code_verifier.specs.declared.error.VerifyError.TheVariants.{Memory, Refused}
-use Rattle.code_verifier.specs.Visiting.{verify_error_of, IsRefusal}
-use Rattle.code_visits.specs.TypePlan.{type_plan}
-use Rattle.code_visits.proofs.TypeVisits.{is_refused}
 
 pub only_by : (p : Program) (m : MethodInfo) (result : Result Typing VerifyError) → IfOk result (IsTypingOf p m) → (t : Typing) → IsTypingOf p m t → IfOk result (λ found. found ≡ t)
 only_by p m result ok t is = IfOk-weaker result (IsTypingOf p m) (λ found. found ≡ t) (λ found h. typing_of_one p m found t h is) ok

@@ -1,13 +1,9 @@
 -- Frames of the same types are one, and a frame meets itself in itself.
-use Rattle.std.proofs.Common.{◌≡◌, ◌≢◌, ℕ, Bool, true, false, not, List, [], ◌∷◌, length, reverse, refl, sym, ap, ◌∙◌}
-use mathlib.Core.Bool.{beq}
-use Rattle.std.specs.Prelude.{◌&&◌, ◌==◌}
-use Rattle.jvm_types.specs.Types.{TypeFrame, filled, same_type, all_pairs, if_same_place, meet, meets, meet_frames}
-use Rattle.jvm_types.specs.declared.typing.VType.{VType}
-use Rattle.jvm_types.specs.declared.typing.VType.TheVariants.{Ref, New}
+use Rattle.std.proofs.{Common.{◌≡◌, ◌≢◌, ℕ, Bool, true, false, not, List, [], ◌∷◌, length, reverse, refl, sym, ap, ◌∙◌, ◌&&◌, ◌==◌}, lemmas.Bool.eq-eqb}
+use Rattle.jvm_types.specs.{Types.{TypeFrame, filled, same_type, all_pairs, if_same_place, meet, meets, meet_frames}, declared.typing.VType.{VType, TheVariants.{Ref, New}}}
 use Rattle.laws_programs.proofs.LocalRisen.{same_lists}
 use Rattle.code_table.proofs.MeetLaws.{meet_same_class}
-use Rattle.std.proofs.lemmas.Bool.{eq-eqb}
+use mathlib.Core.Bool.{beq}
 
 -- ---- the same types
 

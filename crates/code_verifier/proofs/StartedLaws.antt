@@ -1,17 +1,9 @@
 -- The object that an `<init>` is called on, looked for among the values that are taken.
-use Rattle.std.proofs.Common.{◌≡◌, ℕ, zero, suc, ◌<◌, Bool, true, false, not, List, [], ◌∷◌, length, drop, Option, Some, None, refl, sym, ap, ◌∙◌, arith}
-use Rattle.std.specs.Prelude.{◌||◌, slice_get, slice_index_or}
-use Rattle.jvm_types.specs.CodeFault.{or_else}
-use Rattle.jvm_types.specs.declared.op_row.Want.{Want}
-use Rattle.jvm_types.specs.declared.op_row.Want.TheVariants.{ToStart}
-use Rattle.jvm_types.specs.CodeTable.{stack_after, locals_after}
-use Rattle.jvm_types.specs.Types.{TypeFrame, filled, is_uninitialised}
-use Rattle.jvm_types.specs.Verifying.{started, suits, some_taken, some_read, mistypes, after_start, frame_after}
-use Rattle.jvm_types.specs.declared.op_row.OpRow.{OpRow}
-use Rattle.jvm_types.specs.declared.program.MethodInfo.{MethodInfo}
+use Rattle.std.proofs.Common.{◌≡◌, ℕ, zero, suc, ◌<◌, Bool, true, false, not, List, [], ◌∷◌, length, drop, Option, Some, None, refl, sym, ap, ◌∙◌, arith, ◌||◌, slice_get, slice_index_or}
 use Rattle.std.specs.Option.{IfSome}
-use Rattle.jvm_types.specs.declared.typing.VType.{VType}
-use Rattle.jvm_types.specs.declared.typing.VType.TheVariants.{This, New, Top}
+use Rattle.jvm_types.specs.{CodeFault.or_else, CodeTable.{stack_after, locals_after}, Types.{TypeFrame, filled, is_uninitialised}}
+use Rattle.jvm_types.specs.{Verifying.{started, suits, some_taken, some_read, mistypes, after_start, frame_after}, declared.op_row.{OpRow.OpRow, Want.{Want, TheVariants.ToStart}}}
+use Rattle.jvm_types.specs.declared.{program.MethodInfo.MethodInfo, typing.VType.{VType, TheVariants.{This, New, Top}}}
 
 started_first : (own : ℕ) (want : Want) (t : VType) (wants : List Want) (ts : List VType) → started own (want ∷ wants) (t ∷ ts) ≡ or_else (started own (want ∷ []) (t ∷ [])) (started own wants ts)
 started_first own (ToStart class) This wants ts = refl

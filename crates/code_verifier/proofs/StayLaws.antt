@@ -1,25 +1,14 @@
 -- Frames that stay as they are where they meet others.
-use Rattle.std.proofs.Common.{◌≡◌, ℕ, zero, suc, ◌+◌, Bool, true, false, not, List, [], ◌∷◌, drop, length, Option, Some, None, Ok, refl, sym, subst, ap, ◌∙◌, add-one, arith}
-use Rattle.std.specs.Prelude.{◌&&◌, ◌||◌, if◌then◌else◌, slice_get}
+use Rattle.std.proofs.Common.{◌≡◌, ℕ, zero, suc, ◌+◌, Bool, true, false, not, List, [], ◌∷◌, drop, length, Option, Some, None, Ok, refl, sym, subst, ap, ◌∙◌, add-one, arith, ◌&&◌, ◌||◌, if◌then◌else◌, slice_get}
 use Rattle.std.specs.Option.{IfSome}
-use Rattle.jvm_types.specs.Types.{TypeFrame, filled, same_type, meet, all_pairs, meets, meet_frames, same_frame}
-use Rattle.jvm_types.specs.declared.program.MethodInfo.{MethodInfo}
-use Rattle.jvm_types.specs.declared.refusal.VRule.TheVariants.{V5}
-use Rattle.jvm_types.specs.declared.typing.VType.{VType}
-use Rattle.jvm_types.specs.declared.typing.VType.TheVariants.{Ref}
+use Rattle.jvm_types.specs.{Types.{TypeFrame, filled, same_type, meet, all_pairs, meets, meet_frames, same_frame}, declared.{program.MethodInfo.MethodInfo, refusal.VRule.TheVariants.V5}}
+use Rattle.jvm_types.specs.declared.typing.VType.{VType, TheVariants.Ref}
 use Rattle.laws_programs.proofs.LocalRisen.{same_frames}
 use Rattle.code_table.specs.PcTables.{number_at, Ascend}
 use Rattle.checked_program.specs.Visits.{PlanNode, edge_brought, clashes_with, meeting_clash, unless_meeting_clash}
-use Rattle.code_visits.specs.Waiting.{plan_node_at}
-use Rattle.code_visits.specs.Analyses.{clash_place}
-use Rattle.code_visits.proofs.BroughtLaws.{at_place, brought_at}
-use Rattle.code_visits.proofs.ClashLaws.{clash_at}
-use Rattle.code_visits.proofs.StayLaws.{stays_there}
-use Rattle.code_visits.specs.TypePlan.{type_meeting, goes_typed}
-use Rattle.code_visits.specs.TypePlan.{type_local_count}
-use Rattle.code_verifier.specs.Visiting.{HasLocals, HaveLocals, type_acts_done, with_object_stack}
-use Rattle.code_verifier.proofs.FrameLaws.{frames_told}
-use Rattle.code_visits.proofs.TypeVisits.{not_other, types_meet}
+use Rattle.code_visits.{specs.{Analyses.clash_place, TypePlan.{type_meeting, goes_typed, type_local_count}, Waiting.plan_node_at}, proofs.{BroughtLaws.{at_place, brought_at}, ClashLaws.clash_at}}
+use Rattle.code_visits.proofs.{StayLaws.stays_there, TypeVisits.{not_other, types_meet}}
+use Rattle.code_verifier.{specs.Visiting.{HasLocals, HaveLocals, type_acts_done, with_object_stack}, proofs.FrameLaws.frames_told}
 
 -- ---- types
 

@@ -1,9 +1,6 @@
 -- Faults of the values that are taken, one by one.
-use Rattle.std.proofs.Common.{◌≡◌, ℕ, zero, suc, ◌<◌, Bool, true, false, List, [], ◌∷◌, length, drop, Some, None, refl, sym, ap, ◌∙◌, arith}
-use Rattle.std.specs.Prelude.{◌||◌, slice_get, slice_index_or}
-use Rattle.jvm_types.specs.declared.op_row.Want.{Want}
-use Rattle.jvm_types.specs.Verifying.{some_taken}
-use Rattle.jvm_types.specs.declared.typing.VType.{VType}
+use Rattle.std.proofs.Common.{◌≡◌, ℕ, zero, suc, ◌<◌, Bool, true, false, List, [], ◌∷◌, length, drop, Some, None, refl, sym, ap, ◌∙◌, arith, ◌||◌, slice_get, slice_index_or}
+use Rattle.jvm_types.specs.{Verifying.some_taken, declared.{op_row.Want.Want, typing.VType.VType}}
 
 pub taken_at : (fault : Want → VType → Bool) (takes : List Want) (stack : List VType) (i : ℕ) (d : Want) (t : VType) → i < length takes → slice_get stack i ≡ Some t
     → some_taken fault (drop i takes) (drop i stack) ≡ (fault (slice_index_or takes i d) t || some_taken fault (drop (suc i) takes) (drop (suc i) stack))

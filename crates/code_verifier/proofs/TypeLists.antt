@@ -1,10 +1,6 @@
 -- Lists of types, place by place and from their other end.
-use Rattle.std.proofs.Common.{◌≡◌, ℕ, zero, suc, Bool, true, false, not, List, [], ◌∷◌, ◌++◌, take, drop, Some, refl, ap}
-use Rattle.std.specs.Prelude.{◌||◌, ◌&&◌, if◌then◌else◌, slice_get, slice_set}
-use Rattle.jvm_types.specs.Types.{same_type, meet, all_pairs, meets}
-use Rattle.jvm_types.specs.Verifying.{initialised}
-use Rattle.jvm_types.specs.declared.typing.VType.{VType}
-use Rattle.jvm_types.specs.declared.typing.VType.TheVariants.{Ref}
+use Rattle.std.proofs.Common.{◌≡◌, ℕ, zero, suc, Bool, true, false, not, List, [], ◌∷◌, ◌++◌, take, drop, Some, refl, ap, ◌||◌, ◌&&◌, if◌then◌else◌, slice_get, slice_set}
+use Rattle.jvm_types.specs.{Types.{same_type, meet, all_pairs, meets}, Verifying.initialised, declared.typing.VType.{VType, TheVariants.Ref}}
 
 pub initialise_more : (object : VType) (class : ℕ) (ts : List VType) (i : ℕ) (t : VType) → slice_get ts i ≡ Some t
     → take (suc i) (slice_set ts i (if same_type object t then Ref class else t)) ++ initialised object class (drop (suc i) (slice_set ts i (if same_type object t then Ref class else t)))

@@ -1,32 +1,15 @@
 -- One visit, step by step.
-use Rattle.std.proofs.Common.{◌≡◌, ℕ, false, List, [], ◌∷◌, length, Option, Some, None, Result, Ok, Err, refl, sym, subst, ap, ◌∙◌}
-use Rattle.std.specs.Prelude.{slice_get}
-use Rattle.std.specs.Option.{IfSome}
-use Rattle.std.proofs.lemmas.List.{length-map}
-use Rattle.jvm_types.specs.CodeTable.{row}
-use Rattle.jvm_types.specs.Types.{TypeFrame, entry_type_frame}
+use Rattle.std.{proofs.{Common.{◌≡◌, ℕ, false, List, [], ◌∷◌, length, Option, Some, None, Result, Ok, Err, refl, sym, subst, ap, ◌∙◌, slice_get}, lemmas.List.length-map}, specs.Option.IfSome}
+use Rattle.jvm_types.specs.{CodeTable.row, Types.{TypeFrame, entry_type_frame}}
 use Rattle.jvm_types.specs.Verifying.{started, after_start, frame_after, mistypes, broken_before, broken_after, catch_fault, covering, edges, takes_too_many, gives_too_many, lacks_locals, misuses_object}
-use Rattle.jvm_types.specs.declared.code.Insn.{Insn}
-use Rattle.jvm_types.specs.declared.op_row.OpRow.{OpRow}
-use Rattle.jvm_types.specs.declared.program.Row.{Row}
-use Rattle.jvm_types.specs.declared.program.Target.{Target}
-use Rattle.jvm_types.specs.declared.program.MethodInfo.{MethodInfo}
-use Rattle.jvm_types.specs.declared.program.Program.{Program}
-use Rattle.jvm_types.specs.declared.refusal.VRule.{VRule}
-use Rattle.jvm_types.specs.declared.refusal.VRule.TheVariants.{V1, V2, V3, V4, V7}
-use Rattle.jvm_types.specs.declared.typing.VType.{VType}
+use Rattle.jvm_types.specs.declared.{code.Insn.Insn, op_row.OpRow.OpRow, program.{MethodInfo.MethodInfo, Program.Program, Row.Row, Target.Target}, refusal.VRule.VRule}
+use Rattle.jvm_types.specs.declared.{refusal.VRule.TheVariants.{V1, V2, V3, V4, V7}, typing.VType.VType}
 use Rattle.laws_programs.proofs.FrameBounds.{unbroken, locals_kept}
 use Rattle.checked_program.specs.Visits.{PlanNode, acts_on}
-use Rattle.code_visits.specs.Waiting.{plan_node_at}
-use Rattle.code_visits.specs.Level.{AreLevel}
-use Rattle.code_visits.specs.Analyses.{Leaves}
-use Rattle.code_visits.specs.declared.stop.Stop.{Stop}
-use Rattle.code_visits.specs.declared.stop.Stop.TheVariants as stops
-use Rattle.code_visits.proofs.ActLaws.{then_acted, leaves_first}
-use Rattle.code_visits.proofs.ClashLaws.{wide_at}
-use Rattle.code_visits.specs.TypePlan.{type_meeting, goes_typed, caught_acts, handled_acts, later_acts, gone_acts, type_acts, type_plan}
-use Rattle.code_visits.specs.TypePlan.{type_local_count}
+use Rattle.code_visits.specs.{Analyses.Leaves, Level.AreLevel, TypePlan.{type_meeting, goes_typed, caught_acts, handled_acts, later_acts, gone_acts, type_acts, type_plan, type_local_count}}
+use Rattle.code_visits.{specs.{Waiting.plan_node_at, declared.stop.Stop.Stop}, proofs.{ActLaws.{then_acted, leaves_first}, ClashLaws.wide_at}}
 use Rattle.code_verifier.specs.Visiting.{HasLocals, HaveLocals, KeptTypeFrame, IsPrepared, Prepares, type_acts_done}
+use Rattle.code_visits.specs.declared.stop.Stop.TheVariants as stops
 
 -- ---- before the edges
 

@@ -1,16 +1,9 @@
 -- One visit, act by act, and the visit of nodes of which the one that is visited waits no more.
-use Rattle.std.proofs.Common.{◌≡◌, ℕ, zero, suc, false, List, [], ◌∷◌, ◌++◌, Option, Some, None, Result, Ok, Err, refl, sym, ap, ◌∙◌}
-use Rattle.std.specs.Prelude.{slice_get, slice_set}
-use Rattle.std.specs.Option.{IfSome}
-use Rattle.std.specs.List.{AllByRecursion}
-use Rattle.std.proofs.lemmas.List.{length-set}
+use Rattle.std.{proofs.Common.{◌≡◌, ℕ, zero, suc, false, List, [], ◌∷◌, ◌++◌, Option, Some, None, Result, Ok, Err, refl, sym, ap, ◌∙◌, slice_get, slice_set}, specs.List.AllByRecursion}
+use Rattle.std.{specs.Option.IfSome, proofs.lemmas.List.length-set}
 use Rattle.jvm_types.specs.declared.code.Insn.{Insn}
 use Rattle.checked_program.specs.Visits.{Meeting, PlanNode, Act, Break, Bring, Plan, acted, acts_on, edges_brought, meeting_clash, unless_meeting_clash, plan_visited, visited_node}
-use Rattle.code_visits.specs.Waiting.{plan_node_at, node_or_none}
-use Rattle.code_visits.specs.Level.{AreLevel}
-use Rattle.code_visits.specs.Analyses.{Leaves}
-use Rattle.code_visits.specs.declared.stop.Stop.{Stop}
-use Rattle.code_visits.specs.declared.stop.Stop.TheVariants.{Memory, Refused}
+use Rattle.code_visits.specs.{Analyses.Leaves, Level.AreLevel, Waiting.{plan_node_at, node_or_none}, declared.stop.Stop.{Stop, TheVariants.{Memory, Refused}}}
 
 -- ---- some acts, then others
 

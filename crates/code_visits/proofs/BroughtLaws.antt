@@ -1,13 +1,10 @@
 -- Edges: what one leaves of the nodes, by the number of the instruction that it leads to.
-use Rattle.std.proofs.Common.{◌≡◌, ℕ, suc, ◌<◌, Bool, true, false, List, [], ◌∷◌, ◌++◌, length, Option, Some, None, refl, sym, ap, ◌∙◌, arith}
-use Rattle.std.specs.Prelude.{◌==◌, if◌then◌else◌, slice_set}
-use Rattle.std.specs.Option.{option_map, IfSome}
-use Rattle.std.specs.List.{AllByRecursion}
+use Rattle.std.proofs.Common.{◌≡◌, ℕ, suc, ◌<◌, Bool, true, false, List, [], ◌∷◌, ◌++◌, length, Option, Some, None, refl, sym, ap, ◌∙◌, arith, ◌==◌, if◌then◌else◌, slice_set}
+use Rattle.std.specs.{List.AllByRecursion, Option.{option_map, IfSome}}
 use Rattle.jvm_types.specs.declared.code.Insn.{Insn}
-use Rattle.checked_program.specs.Visits.{Meeting, PlanNode, joined, edge_brought, edges_brought}
 use Rattle.code_table.specs.PcTables.{number_at}
-use Rattle.code_visits.specs.Waiting.{plan_node_at}
-use Rattle.code_visits.specs.Level.{IsLawfulMeeting, AreLevel}
+use Rattle.checked_program.specs.Visits.{Meeting, PlanNode, joined, edge_brought, edges_brought}
+use Rattle.code_visits.specs.{Level.{IsLawfulMeeting, AreLevel}, Waiting.plan_node_at}
 
 -- ---- an edge, by the number of the instruction
 

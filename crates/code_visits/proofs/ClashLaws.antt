@@ -1,16 +1,10 @@
 -- Which edges bring a frame that may not meet the one at their target, edge by edge.
-use Rattle.std.proofs.Common.{◌≡◌, ◌≢◌, ℕ, zero, suc, ◌<◌, ◌≤◌, ◌⊎◌, inl, inr, min, Bool, true, false, List, [], ◌∷◌, ◌++◌, Option, Some, None, refl, sym, ap, ◌∙◌, arith}
-use Rattle.std.specs.Prelude.{◌==◌, ◌||◌, ◌&&◌, if◌then◌else◌}
-use Rattle.std.specs.Option.{option_map, IfSome}
-use Rattle.std.specs.List.{AllByRecursion}
-use Rattle.std.proofs.lemmas.Bool.{cases_eq, eq-eqb, ne_eqb}
-use Rattle.jvm_types.specs.Numbers.{has_number}
-use Rattle.jvm_types.specs.declared.code.Insn.{Insn}
-use Rattle.checked_program.specs.Visits.{Meeting, PlanNode, joined, edge_brought, meeting_clash, clashes_with}
+use Rattle.std.proofs.Common.{◌≡◌, ◌≢◌, ℕ, zero, suc, ◌<◌, ◌≤◌, ◌⊎◌, inl, inr, min, Bool, true, false, List, [], ◌∷◌, ◌++◌, Option, Some, None, refl, sym, ap, ◌∙◌, arith, ◌==◌, ◌||◌, ◌&&◌, if◌then◌else◌}
+use Rattle.std.{specs.{List.AllByRecursion, Option.{option_map, IfSome}}, proofs.lemmas.Bool.{cases_eq, eq-eqb, ne_eqb}}
+use Rattle.jvm_types.specs.{Numbers.has_number, declared.code.Insn.Insn}
 use Rattle.code_table.specs.PcTables.{number_at, Ascend}
-use Rattle.code_visits.specs.Waiting.{plan_node_at}
-use Rattle.code_visits.specs.Level.{IsLawfulMeeting, IsAsWide, AreLevel}
-use Rattle.code_visits.specs.Analyses.{lesser, clash_place}
+use Rattle.checked_program.specs.Visits.{Meeting, PlanNode, joined, edge_brought, meeting_clash, clashes_with}
+use Rattle.code_visits.specs.{Analyses.{lesser, clash_place}, Level.{IsLawfulMeeting, IsAsWide, AreLevel}, Waiting.plan_node_at}
 
 -- ---- the least pc of several
 

@@ -1,12 +1,8 @@
 -- The nodes of a method at the start.
-use Rattle.std.proofs.Common.{◌≡◌, ℕ, suc, ◌<◌, true, List, [], ◌∷◌, length, map, replicate, Some, refl, sym, ap, ◌∙◌, arith}
-use Rattle.std.specs.Prelude.{slice_set}
-use Rattle.std.specs.Option.{IfSome}
-use Rattle.std.specs.List.{AllByRecursion}
+use Rattle.std.{proofs.Common.{◌≡◌, ℕ, suc, ◌<◌, true, List, [], ◌∷◌, length, map, replicate, Some, refl, sym, ap, ◌∙◌, arith, slice_set}, specs.{List.AllByRecursion, Option.IfSome}}
 use Rattle.jvm_types.specs.declared.code.Insn.{Insn}
 use Rattle.checked_program.specs.Visits.{Meeting, PlanNode, unreached, joined, nodes_for}
-use Rattle.code_visits.specs.Waiting.{plan_node_at}
-use Rattle.code_visits.specs.Level.{AreLevel}
+use Rattle.code_visits.specs.{Level.AreLevel, Waiting.plan_node_at}
 
 others_unreached : (A : Type 0) (insns : List Insn) → map (λ (other : Insn). unreached {A = A}) insns ≡ replicate (length insns) unreached
 others_unreached A [] = refl

@@ -1,6 +1,5 @@
 -- The method at an index that lies within those of a program.
-use Rattle.std.proofs.Common.{◌≡◌, ℕ, zero, suc, ◌<◌, List, [], ◌∷◌, length, Option, Some, None, subst, arith}
-use Rattle.std.specs.Prelude.{slice_get, IsSomeAnd}
+use Rattle.std.proofs.Common.{◌≡◌, ℕ, zero, suc, ◌<◌, List, [], ◌∷◌, length, Option, Some, None, subst, arith, slice_get, IsSomeAnd}
 use Rattle.jvm_types.specs.declared.program.MethodInfo.{MethodInfo}
 
 pub is_there : (methods : List MethodInfo) (i : ℕ) → i < length methods → None ≡ slice_get methods i → ⊥

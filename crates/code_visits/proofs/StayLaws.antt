@@ -1,9 +1,7 @@
 -- Nodes that stay as they are where an edge brings a frame.
-use Rattle.std.proofs.Common.{◌≡◌, ℕ, zero, suc, Bool, true, false, not, List, [], ◌∷◌, Some, refl, sym, ap, ◌∙◌}
-use Rattle.std.specs.Prelude.{◌||◌, slice_set}
+use Rattle.std.proofs.Common.{◌≡◌, ℕ, zero, suc, Bool, true, false, not, List, [], ◌∷◌, Some, refl, sym, ap, ◌∙◌, ◌||◌, slice_set}
 use Rattle.checked_program.specs.Visits.{Meeting, PlanNode, joined}
-use Rattle.code_visits.specs.Waiting.{plan_node_at}
-use Rattle.code_visits.specs.Level.{IsLawfulMeeting}
+use Rattle.code_visits.specs.{Level.IsLawfulMeeting, Waiting.plan_node_at}
 
 pub or_none : (b : Bool) → (b || false) ≡ b
 or_none true = refl

@@ -1,28 +1,13 @@
 -- Verification's own definitions of visits say what those for frames of any kind say of its plan.
-use Rattle.std.proofs.Common.{◌≡◌, ◌≢◌, ◌⊎◌, inl, inr, ℕ, zero, suc, Bool, true, false, not, List, [], ◌∷◌, ◌++◌, length, map, Option, Some, None, Result, Ok, Err, refl, sym, ap, ◌∙◌, subst, arith}
-use Rattle.std.specs.Prelude.{◌==◌, ◌&&◌, if◌then◌else◌, slice_get, slice_set}
-use Rattle.std.specs.Option.{option_map}
-use Rattle.std.proofs.lemmas.List.{map-set}
-use Rattle.std.proofs.lemmas.Option.{slice_get-map}
-use Rattle.std.proofs.lemmas.Bool.{cases_eq, eq-eqb, ne_eqb}
-use Rattle.jvm_types.specs.Numbers.{has_number}
-use Rattle.jvm_types.specs.CodeTable.{row}
-use Rattle.jvm_types.specs.Types.{TypeFrame, same_type, same_ready, same_frame, all_pairs, meets, entry_type_frame}
-use Rattle.jvm_types.specs.Verifying.{edges, covering, broken_before, broken_after, frame_after, frame_at_handler, catch_fault, IsRefused, HasTyping}
-use Rattle.jvm_types.specs.Verifying as typing
-use Rattle.jvm_types.specs.declared.code.Insn.{Insn}
-use Rattle.jvm_types.specs.declared.op_row.OpRow.{OpRow}
-use Rattle.jvm_types.specs.declared.program.Row.{Row}
-use Rattle.jvm_types.specs.declared.program.Target.{Target}
-use Rattle.jvm_types.specs.declared.program.MethodInfo.{MethodInfo}
-use Rattle.jvm_types.specs.declared.program.Program.{Program}
-use Rattle.jvm_types.specs.declared.refusal.VRule.{VRule}
-use Rattle.jvm_types.specs.declared.refusal.VRule.TheVariants.{V5}
-use Rattle.jvm_types.specs.declared.typing.VType.{VType}
-use Rattle.jvm_types.specs.declared.typing.VType.TheVariants.{Ref, New}
+use Rattle.std.proofs.Common.{◌≡◌, ◌≢◌, ◌⊎◌, inl, inr, ℕ, zero, suc, Bool, true, false, not, List, [], ◌∷◌, ◌++◌, length, map, Option, Some, None, Result, Ok, Err, refl, sym, ap, ◌∙◌, subst, arith, ◌==◌, ◌&&◌, if◌then◌else◌, slice_get, slice_set}
+use Rattle.std.{specs.Option.option_map, proofs.lemmas.{Bool.{cases_eq, eq-eqb, ne_eqb}, List.map-set, Option.slice_get-map}}
+use Rattle.jvm_types.specs.{CodeTable.row, Numbers.has_number, Types.{TypeFrame, same_type, same_ready, same_frame, all_pairs, meets, entry_type_frame}}
+use Rattle.jvm_types.specs.{Verifying.{edges, covering, broken_before, broken_after, frame_after, frame_at_handler, catch_fault, IsRefused, HasTyping}, declared.{code.Insn.Insn, op_row.OpRow.OpRow}}
+use Rattle.jvm_types.specs.declared.{program.{MethodInfo.MethodInfo, Program.Program, Row.Row, Target.Target}, refusal.VRule.{VRule, TheVariants.V5}, typing.VType.{VType, TheVariants.{Ref, New}}}
 use Rattle.checked_program.specs.Visits.{Act, PlanNode, unreached, joined, edge_brought, edges_brought, clashes_with, meeting_clash, unless_meeting_clash, acted, acts_on, plan_visited, visited_node, first_waiting, next_waiting, nodes_for, plan_nodes, PlanVisits, PlanBreaks, HasFrames, IsBroken}
 use Rattle.code_visits.specs.Level.{IsLawfulMeeting}
 use Rattle.code_visits.specs.TypePlan.{type_local_count, type_meeting, break_at, break_by, goes_typed, handled_acts, later_acts, gone_acts, type_acts, type_acts_at, type_plan, typed_node, typed}
+use Rattle.jvm_types.specs.Verifying as typing
 
 -- ---- how frames meet
 

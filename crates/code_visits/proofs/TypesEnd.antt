@@ -1,15 +1,10 @@
 -- The visits of verification end, as those of its plan.
 use Rattle.std.proofs.Common.{◌≡◌, ◌<◌, ℕ, List, Ok, Some, sym, subst}
-use Rattle.jvm_types.specs.Types.{TypeFrame}
-use Rattle.jvm_types.specs.Verifying.{IsLaidOut}
-use Rattle.jvm_types.specs.Verifying as typing
-use Rattle.jvm_types.specs.declared.program.MethodInfo.{MethodInfo}
-use Rattle.jvm_types.specs.declared.program.Program.{Program}
+use Rattle.jvm_types.specs.{Types.TypeFrame, Verifying.IsLaidOut, declared.program.{MethodInfo.MethodInfo, Program.Program}}
 use Rattle.laws_programs.proofs.VisitsEnd.{IsKept, first_kept, visit_keeps, visit_works}
 use Rattle.checked_program.specs.Visits.{PlanNode}
-use Rattle.code_visits.specs.Analyses.{Ends}
-use Rattle.code_visits.specs.TypePlan.{type_plan, typed, TypesKept, types_work}
-use Rattle.code_visits.proofs.TypeVisits.{visited_typed, next_typed, first_typed}
+use Rattle.code_visits.{specs.{Analyses.Ends, TypePlan.{type_plan, typed, TypesKept, types_work}}, proofs.TypeVisits.{visited_typed, next_typed, first_typed}}
+use Rattle.jvm_types.specs.Verifying as typing
 
 pub types_end : (p : Program) (m : MethodInfo) → IsLaidOut m → Ends (type_plan p m) (λ nodes. TypesKept m nodes) (λ nodes. types_work m nodes)
 types_end p m laid = record {

@@ -1,14 +1,8 @@
 -- The numbers of the nodes that wait, when one of them changes.
-use Rattle.std.proofs.Common.{◌≡◌, ℕ, zero, suc, ◌+◌, ◌<◌, Bool, true, false, List, [], ◌∷◌, length, map, Some, None, refl, sym, ap, ◌∙◌, add-zero, arith}
-use Rattle.std.specs.Cmp.{nat_cmp_is}
-use Rattle.std.specs.Prelude.{if◌then◌else◌, replicate, slice_get, slice_set, slice_index_or}
-use Rattle.std.proofs.lemmas.List.{length-map, map-set}
-use Rattle.std.specs.Ordering.{nat_cmp}
-use Rattle.std.specs.BTreeSet.{insert_key}
-use Rattle.std.specs.declared.cmp.Ordering.TheVariants.{Less, Equal, Greater}
+use Rattle.std.proofs.Common.{◌≡◌, ℕ, zero, suc, ◌+◌, ◌<◌, Bool, true, false, List, [], ◌∷◌, length, map, Some, None, refl, sym, ap, ◌∙◌, add-zero, arith, if◌then◌else◌, replicate, slice_get, slice_set, slice_index_or}
+use Rattle.std.{specs.{BTreeSet.insert_key, Cmp.nat_cmp_is, Ordering.nat_cmp, declared.cmp.Ordering.TheVariants.{Less, Equal, Greater}}, proofs.lemmas.List.{length-map, map-set}}
 use Rattle.checked_program.specs.Visits.{PlanNode, first_waiting, next_waiting, unreached}
-use Rattle.code_visits.specs.declared.nodes.StoredNode.{StoredNode}
-use Rattle.code_visits.specs.Waiting.{node_is, waiting_numbers, plan_node_at}
+use Rattle.code_visits.specs.{Waiting.{node_is, waiting_numbers, plan_node_at}, declared.nodes.StoredNode.StoredNode}
 
 pub node_at_get : {A : Type 0} (nodes : List (PlanNode A)) (i : ℕ) (node : PlanNode A) → slice_get nodes i ≡ Some node → plan_node_at nodes i ≡ node
 node_at_get nodes i node e = rw e refl

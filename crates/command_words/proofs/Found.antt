@@ -1,11 +1,6 @@
 -- What clap finds in the words.
-use Rattle.std.proofs.Common.{◌≡◌, false, length, List, [], ◌∷◌, Some, None, if◌then◌else◌, refl, ap, ◌∙◌, arith}
-use Rattle.std.proofs.lemmas.Bool.{ne_eqb}
-use Rattle.clap.specs.Walk.{Row, Text, is_empty}
-use Rattle.clap.specs.Simple.{App, matches_of}
-use Rattle.clap.specs.Kinds.{IsAmong, Kinds}
-use Rattle.clap.specs.Faults.{fault_of}
-use Rattle.clap.specs.declared.error.kind.ErrorKind.{ErrorKind}
+use Rattle.std.proofs.{Common.{◌≡◌, false, length, List, [], ◌∷◌, Some, None, if◌then◌else◌, refl, ap, ◌∙◌, arith}, lemmas.Bool.ne_eqb}
+use Rattle.clap.specs.{Faults.fault_of, Kinds.{IsAmong, Kinds}, Simple.{App, matches_of}, Walk.{Row, Text, is_empty}, declared.error.kind.ErrorKind.ErrorKind}
 use Rattle.command_words.specs.Words.{found_in_words}
 
 calm : (faults : Kinds) (rows : List Row) → faults ≡ [] → Some rows ≡ (if is_empty faults then Some rows else None)

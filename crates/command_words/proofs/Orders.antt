@@ -1,7 +1,5 @@
 -- Orders.
-use Rattle.std.proofs.Common.{◌≡◌, ℕ, ◌≤◌, Bool, ◌&&◌, refl}
-use Rattle.std.proofs.lemmas.Bool.{lt-ltb, le-leb}
-use Rattle.std.specs.Prelude.{nat_lt, nat_le}
+use Rattle.std.proofs.{Common.{◌≡◌, ℕ, ◌≤◌, Bool, ◌&&◌, refl, nat_lt, nat_le}, lemmas.Bool.{lt-ltb, le-leb}}
 use Rattle.command_words.specs.declared.values.TheConstants.{LONGEST_ORDER}
 
 -- of a length that an order may have, the digits decide

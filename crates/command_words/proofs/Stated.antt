@@ -1,9 +1,6 @@
 -- The constants of the code are the numbers that are stated.
-use Rattle.std.proofs.Common.{length, refl}
-use Rattle.std.proofs.lemmas.Bool.{lt-ltb, le-leb}
-use Rattle.command_words.specs.Command.{asked}
-use Rattle.command_words.specs.RunValues.{settings_of}
-use Rattle.command_words.specs.Limits.{AreOptionsStated, FilesAskForUsual}
+use Rattle.std.proofs.{Common.{length, refl}, lemmas.Bool.{lt-ltb, le-leb}}
+use Rattle.command_words.specs.{Command.asked, Limits.{AreOptionsStated, FilesAskForUsual}, RunValues.settings_of}
 
 files_ask : FilesAskForUsual
 unfolding asked settings_of

@@ -1,15 +1,10 @@
 -- What a text begins with, and what it says: a type, the name of a class, the types of arguments.
-use Rattle.std.proofs.Common.{◌≡◌, ℕ, suc, ◌<◌, true, false, cond, List, [], ◌∷◌, ◌++◌, length, Option, Some, None, refl, sym, ap, subst, ◌∙◌, arith, length-append, append_assoc, append-nil}
-use Rattle.std.specs.Prelude.{◌==◌}
-use Rattle.std.specs.Option.{option_and_then, option_map}
-use Rattle.std.specs.List.{list_any}
-use Rattle.std.proofs.lemmas.Bool.{cond_both, eqb-true, or_parts}
+use Rattle.std.proofs.Common.{◌≡◌, ℕ, suc, ◌<◌, true, false, cond, List, [], ◌∷◌, ◌++◌, length, Option, Some, None, refl, sym, ap, subst, ◌∙◌, arith, length-append, append_assoc, append-nil, ◌==◌}
+use Rattle.std.{specs.{List.list_any, Option.{option_and_then, option_map}}, proofs.lemmas.Bool.{cond_both, eqb-true, or_parts}}
 use Rattle.jvm_types.specs.Descriptors.{Types, Reading, followed, array_of, class_kind, types_from, read_from, only_kind, field_kind, Signature, result_kind, signature_returned}
 use Rattle.jvm_types.specs.declared.program.Kind.{Kind}
+use Rattle.descriptors.specs.{Signatures.{IsCut, IsFront, IsArgs, ends_args}, declared.reading.{Cut.Cut, Front.Front}}
 use Rattle.jvm_types.specs.declared.program.Kind.TheVariants as kinds
-use Rattle.descriptors.specs.Signatures.{IsCut, IsFront, IsArgs, ends_args}
-use Rattle.descriptors.specs.declared.reading.Front.{Front}
-use Rattle.descriptors.specs.declared.reading.Cut.{Cut}
 
 module _ (names : List (List ℕ)) where
   -- ---- the name of a class

@@ -1,9 +1,5 @@
 -- Tables of numbers by names.
-use Rattle.std.proofs.Common.{◌≡◌, ℕ, Bool, cond, List, Option, ap, ◌∙◌}
-use Rattle.std.specs.Prelude.{bytes_eq}
-use Rattle.std.specs.Ordering.{nat_cmp}
-use Rattle.std.specs.Cmp.Lexicographic.{slice_cmp, nat_list_eq_equiv}
-use Rattle.std.specs.BTreeMap.{BTreeMap, UpdatesBy}
+use Rattle.std.{proofs.Common.{◌≡◌, ℕ, Bool, cond, List, Option, ap, ◌∙◌, bytes_eq}, specs.{BTreeMap.{BTreeMap, UpdatesBy}, Cmp.Lexicographic.{slice_cmp, nat_list_eq_equiv}, Ordering.nat_cmp}}
 use Rattle.std.proofs.lemmas.Map.Text.{btree_map_updates_str}
 use Rattle.descriptors.specs.NameTables.{find}
 use denote.Ref.{Bor}

@@ -1,14 +1,9 @@
 -- The class of each file is told by its name: no class before it stands at the same word.
-use Rattle.std.proofs.Common.{◌≡◌, ◌≢◌, ℕ, zero, suc, ◌+◌, ◌-◌, ◌<◌, ◌≤◌, Bool, true, false, cond, List, length, Some, refl, sym, ap, subst, ◌∙◌, arith}
-use Rattle.std.specs.Prelude.{◌==◌}
-use Rattle.std.specs.List.{find, range_with_len}
+use Rattle.std.{proofs.Common.{◌≡◌, ◌≢◌, ℕ, zero, suc, ◌+◌, ◌-◌, ◌<◌, ◌≤◌, Bool, true, false, cond, List, length, Some, refl, sym, ap, subst, ◌∙◌, arith, ◌==◌}, specs.List.{find, range_with_len}}
 use Rattle.std.proofs.lemmas.Bool.{eq-eqb, ne_eqb}
-use Rattle.jvm_types.specs.ClassNames.{file_class}
-use Rattle.jvm_types.specs.declared.class_numbers.TheConstants.{FIRST_FILE_CLASS}
-use Rattle.jvm_types.specs.declared.program.Program.{Program}
+use Rattle.jvm_types.specs.{ClassNames.file_class, declared.{class_numbers.TheConstants.FIRST_FILE_CLASS, program.Program.Program}}
 use Rattle.checked_program.specs.CodeIndex.{statics_below}
-use Rattle.machine_types.specs.Words.{class_object}
-use Rattle.machine_types.proofs.PlacesAtStart.{rises}
+use Rattle.machine_types.{specs.Words.class_object, proofs.PlacesAtStart.rises}
 use Rattle.event_texts.specs.MonitorTexts.{ClassesAreTold, monitor_as_text}
 
 -- the first number of a range that passes a test

@@ -1,20 +1,12 @@
 -- What an event stands for, by what the instruction does at which its thread stands.
-use Rattle.std.proofs.Common.{◌≡◌, ◌<◌, ℕ, Option, Some, None, refl, subst, arith}
-use Rattle.std.specs.Option.{option_map}
-use Rattle.checked_program.specs.MarkedProgram.{MarkedProgram, IsMarked}
+use Rattle.std.{proofs.Common.{◌≡◌, ◌<◌, ℕ, Option, Some, None, refl, subst, arith}, specs.Option.option_map}
 use Rattle.jvm_types.specs.declared.program.Program.{Program}
+use Rattle.checked_program.specs.MarkedProgram.{MarkedProgram, IsMarked}
+use Rattle.machine_types.specs.{Frames.{Top, effect_at, top_of}, History.run_acts, Lawful.{IsLawful, within}, Threads.Thread, Typed.{FramesHold, PhaseHolds}, declared.effect.Effect.Effect}
+use Rattle.machine_types.specs.declared.{effect.Effect.TheVariants.{Notifies, NotifiesAll}, phase.Phase.Phase}
 use Rattle.laws_threads.specs.TopFrames.{EffectsAreAllowed, IsAllowed}
-use Rattle.machine_types.specs.Frames.{Top, effect_at, top_of}
-use Rattle.machine_types.specs.History.{run_acts}
-use Rattle.machine_types.specs.Lawful.{IsLawful, within}
-use Rattle.machine_types.specs.Threads.{Thread}
-use Rattle.machine_types.specs.Typed.{FramesHold, PhaseHolds}
-use Rattle.machine_types.specs.declared.effect.Effect.{Effect}
-use Rattle.machine_types.specs.declared.effect.Effect.TheVariants.{Notifies, NotifiesAll}
-use Rattle.machine_types.specs.declared.phase.Phase.{Phase}
+use Rattle.event_texts.specs.{Acts.{DoingFits, MonitorFits, doing_acts}, Doings.doing_at}
 use Rattle.machine_types.specs.declared.phase.Phase.TheVariants as phases
-use Rattle.event_texts.specs.Acts.{DoingFits, MonitorFits, doing_acts}
-use Rattle.event_texts.specs.Doings.{doing_at}
 
 pub acts_by_doing : (c : MarkedProgram) (s : Thread) (top : Option Top) (got : ℕ) → doing_acts s (option_map (doing_at c.program) top) got ≡ run_acts c s top got
 acts_by_doing c s None got = refl

@@ -1,40 +1,20 @@
 -- A thread that is about to read or store an element stands at the instruction that led there, in each state of a run.
-use Rattle.std.proofs.Common.{◌≡◌, ◌≢◌, ℕ, zero, suc, ◌+◌, Bool, true, false, List, [], ◌∷◌, Option, Some, None, refl, sym, ◌∙◌, subst}
-use Rattle.std.specs.Prelude.{slice_get, slice_set, if◌then◌else◌}
-use Rattle.std.specs.List.{range_with_len}
-use Rattle.std.specs.Option.{option_map}
-use mathlib.Core.Logic.{dite}
-use native.Mathlib.Decide.{ℕ_discrete}
+use Rattle.std.proofs.Common.{◌≡◌, ◌≢◌, ℕ, zero, suc, ◌+◌, Bool, true, false, List, [], ◌∷◌, Option, Some, None, refl, sym, ◌∙◌, subst, slice_get, slice_set, if◌then◌else◌}
+use Rattle.std.specs.{List.range_with_len, Option.option_map}
 use Rattle.checked_program.specs.MarkedProgram.{MarkedProgram}
-use Rattle.machine_types.proofs.Lists.{got_when_set, got_other}
 use Rattle.machine_types.specs.Accesses.{found_by}
 use Rattle.machine_types.specs.Core.{Core, Happening, Of, NextPart, all_happened, core, event_of, happened, how_ended, may_begin, next_threads, part_begins, part_phase, start, start_thread, with_roots}
-use Rattle.machine_types.specs.Elision.{elided}
-use Rattle.machine_types.specs.Events.{moved, wanted}
-use Rattle.machine_types.specs.Frames.{Top, effect_at, top_of, went_on}
-use Rattle.machine_types.specs.Going.{goes_on, goes_on_if, runs}
-use Rattle.machine_types.specs.HeldMonitors.{deeper, shallower, with_held, without_held}
-use Rattle.machine_types.specs.Instructions.{printed}
-use Rattle.machine_types.specs.Ints.{low}
-use Rattle.machine_types.specs.Monitors.{grown}
-use Rattle.machine_types.specs.Onward.{Onward, Running, after, rooted}
-use Rattle.machine_types.specs.Parts.{done_roots, init_roots, run_roots}
-use Rattle.machine_types.specs.Threads.{Thread}
-use Rattle.machine_types.specs.Words.{value_word}
-use Rattle.machine_types.specs.declared.config.Config.{Config}
-use Rattle.machine_types.specs.declared.effect.Effect.{Effect}
-use Rattle.machine_types.specs.declared.effect.Effect.TheVariants.{Indexes}
-use Rattle.machine_types.specs.declared.lock.Kept.{Kept}
+use Rattle.machine_types.specs.{Elision.elided, Events.{moved, wanted}, Frames.{Top, effect_at, top_of, went_on}, Going.{goes_on, goes_on_if, runs}}
+use Rattle.machine_types.specs.{HeldMonitors.{deeper, shallower, with_held, without_held}, Instructions.printed, Ints.low, Monitors.grown, Onward.{Onward, Running, after, rooted}}
+use Rattle.machine_types.specs.{Parts.{done_roots, init_roots, run_roots}, Threads.Thread, Words.value_word, declared.{config.Config.Config, effect.Effect.{Effect, TheVariants.Indexes}}}
+use Rattle.machine_types.{specs.declared.{lock.Kept.Kept, phase.{Phase.Phase, Toward.Toward}}, proofs.Lists.{got_when_set, got_other}}
+use Rattle.laws_threads.proofs.{Lists.mapped_at, ThreadMove.{Asks, IsOnward, LeadsTo, Move, TurnsTo, WaitsFrom, any_move, becomes, begun_attempt, counting, onward_to, runs_to, turns_to}}
+use Rattle.event_texts.specs.{Doings.doing_at, NamedWords.doing_of, declared.doing.Doing.Doing}
+use mathlib.Core.Logic.{dite}
+use native.Mathlib.Decide.{ℕ_discrete}
 use Rattle.machine_types.specs.declared.lock.Kept.TheVariants as keeps
-use Rattle.machine_types.specs.declared.phase.Phase.{Phase}
 use Rattle.machine_types.specs.declared.phase.Phase.TheVariants as phases
-use Rattle.machine_types.specs.declared.phase.Toward.{Toward}
 use Rattle.machine_types.specs.declared.phase.Toward.TheVariants as towards
-use Rattle.laws_threads.proofs.Lists.{mapped_at}
-use Rattle.laws_threads.proofs.ThreadMove.{Asks, IsOnward, LeadsTo, Move, TurnsTo, WaitsFrom, any_move, becomes, begun_attempt, counting, onward_to, runs_to, turns_to}
-use Rattle.event_texts.specs.Doings.{doing_at}
-use Rattle.event_texts.specs.NamedWords.{doing_of}
-use Rattle.event_texts.specs.declared.doing.Doing.{Doing}
 
 -- the word is that of the element which an instruction reads or stores
 abbrev pub IsElementBy : (word : ℕ) → Effect → Type 0

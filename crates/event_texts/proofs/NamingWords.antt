@@ -1,44 +1,24 @@
 -- The word that is told of an event, by the access that the event wants.
-use Rattle.std.proofs.Common.{◌≡◌, ℕ, zero, suc, Bool, true, false, List, [], ◌∷◌, length, Option, Some, None, refl, subst}
-use Rattle.std.specs.Prelude.{◌==◌, nat_lt, slice_get, if◌then◌else◌, int_lt, pos}
+use Rattle.std.proofs.Common.{◌≡◌, ℕ, zero, suc, Bool, true, false, List, [], ◌∷◌, length, Option, Some, None, refl, subst, ◌==◌, nat_lt, slice_get, if◌then◌else◌, int_lt, pos}
 use Rattle.std.specs.Option.{option_map}
-use Rattle.jvm_types.specs.Members.{is_static}
-use Rattle.jvm_types.specs.declared.class_numbers.TheConstants.{INT_ARRAY_CLASS}
-use Rattle.jvm_types.specs.declared.code.Op.{Op}
-use Rattle.jvm_types.specs.declared.code.Op.TheVariants as ops
-use Rattle.jvm_types.specs.declared.outcome.Thrown.TheVariants as thrown
-use Rattle.jvm_types.specs.declared.program.FieldInfo.{FieldInfo}
-use Rattle.jvm_types.specs.declared.program.MethodInfo.{MethodInfo}
-use Rattle.jvm_types.specs.declared.program.Program.{Program}
-use Rattle.jvm_types.specs.declared.program.Target.{Target}
-use Rattle.jvm_types.specs.declared.program.Target.TheVariants as targets
+use Rattle.jvm_types.specs.{Members.is_static, declared.{class_numbers.TheConstants.INT_ARRAY_CLASS, code.Op.Op, program.{FieldInfo.FieldInfo, MethodInfo.MethodInfo, Program.Program, Target.Target}}}
 use Rattle.checked_program.specs.MarkedProgram.{MarkedProgram}
 use Rattle.machine_types.specs.Accesses.{accessed}
 use Rattle.machine_types.specs.Effects.{at_local, unless_null, unless_zero, variable_of, kept, gets_static, puts_static, gets, puts, calls_on, calls_instance, calls_static, makes_array, named, effect}
-use Rattle.machine_types.specs.Elision.{is_checked, looks}
-use Rattle.machine_types.specs.Events.{wanted, element_wants}
-use Rattle.machine_types.specs.Frames.{Top, top_of, effect_at}
-use Rattle.machine_types.specs.HeldMonitors.{held_at}
-use Rattle.machine_types.specs.Instructions.{effect_wants, has_print_left, run_wants}
-use Rattle.machine_types.specs.Ints.{low, int_of, divided, remaining}
-use Rattle.machine_types.specs.Monitors.{Claim, Has, Tries, HasNot, claim, claim_by, enter_wants, leave_wants, finish_wants, release}
-use Rattle.machine_types.specs.Threads.{Attempt, Thread, head_of}
-use Rattle.machine_types.specs.Words.{header, array_size, variable_word}
-use Rattle.machine_types.specs.declared.access.Access.{Access}
-use Rattle.machine_types.specs.declared.access.Access.TheVariants.{Add}
-use Rattle.machine_types.specs.declared.effect.Variable.TheVariants.{Instance, Static}
-use Rattle.machine_types.specs.declared.effect.Effect.{Effect}
+use Rattle.machine_types.specs.{Elision.{is_checked, looks}, Events.{wanted, element_wants}, Frames.{Top, top_of, effect_at}, HeldMonitors.held_at}
+use Rattle.machine_types.specs.{Instructions.{effect_wants, has_print_left, run_wants}, Ints.{low, int_of, divided, remaining}}
+use Rattle.machine_types.specs.{Monitors.{Claim, Has, Tries, HasNot, claim, claim_by, enter_wants, leave_wants, finish_wants, release}, Threads.{Attempt, Thread, head_of}}
+use Rattle.machine_types.specs.{Words.{header, array_size, variable_word}, declared.{access.Access.{Access, TheVariants.Add}, effect.Effect.Effect}}
 use Rattle.machine_types.specs.declared.effect.Effect.TheVariants.{Goes, Throws, Reads, Writes, Indexes, Measures, Raises, Makes, Prints, Calls, Enters, Waits, Notifies, NotifiesAll, Stuck}
-use Rattle.machine_types.specs.declared.lock.Held.{Held}
-use Rattle.machine_types.specs.declared.lock.Kept.{Kept}
-use Rattle.machine_types.specs.declared.lock.Kept.TheVariants as keeps
-use Rattle.machine_types.specs.declared.phase.Phase.{Phase}
-use Rattle.machine_types.specs.declared.phase.Phase.TheVariants as phases
-use Rattle.event_texts.specs.Doings.{doing_at}
-use Rattle.event_texts.specs.NamedWords.{NamesAccessedWords, shared_word_number, doing_of}
+use Rattle.machine_types.specs.declared.{effect.Variable.TheVariants.{Instance, Static}, lock.{Held.Held, Kept.Kept}, phase.Phase.Phase}
+use Rattle.event_texts.specs.{Doings.doing_at, NamedWords.{NamesAccessedWords, shared_word_number, doing_of}}
+use Rattle.event_texts.specs.{SharedWords.{effect_word, element_by, element_of, leave_word, run_word, shared_word_of, tried_lock, variable_named}, declared.doing.Doing.Doing}
 use Rattle.event_texts.proofs.ElementStands.{IsElementBy, IsElementOf, StandsAtElement, run_stands}
-use Rattle.event_texts.specs.SharedWords.{effect_word, element_by, element_of, leave_word, run_word, shared_word_of, tried_lock, variable_named}
-use Rattle.event_texts.specs.declared.doing.Doing.{Doing}
+use Rattle.jvm_types.specs.declared.code.Op.TheVariants as ops
+use Rattle.jvm_types.specs.declared.outcome.Thrown.TheVariants as thrown
+use Rattle.jvm_types.specs.declared.program.Target.TheVariants as targets
+use Rattle.machine_types.specs.declared.lock.Kept.TheVariants as keeps
+use Rattle.machine_types.specs.declared.phase.Phase.TheVariants as phases
 
 -- ---- the field that an instruction reads or writes is the one that its constant names
 

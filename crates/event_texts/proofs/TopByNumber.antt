@@ -1,15 +1,9 @@
 -- The top frame by the number of the instruction at its pc.
-use Rattle.std.proofs.Common.{◌≡◌, ◌<◌, ℕ, suc, Bool, true, false, List, [], ◌∷◌, length, Option, Some, None, refl, sym, ap, ◌∙◌, arith}
-use Rattle.std.specs.Prelude.{slice_get, ◌==◌, if◌then◌else◌}
-use Rattle.std.specs.Option.{option_map}
-use Rattle.jvm_types.specs.declared.code.Insn.{Insn}
-use Rattle.jvm_types.specs.declared.program.MethodInfo.{MethodInfo}
-use Rattle.jvm_types.specs.declared.program.Program.{Program}
-use Rattle.jvm_types.specs.declared.program.Target.{Target}
+use Rattle.std.{proofs.Common.{◌≡◌, ◌<◌, ℕ, suc, Bool, true, false, List, [], ◌∷◌, length, Option, Some, None, refl, sym, ap, ◌∙◌, arith, slice_get, ◌==◌, if◌then◌else◌}, specs.Option.option_map}
+use Rattle.jvm_types.specs.declared.{code.Insn.Insn, program.{MethodInfo.MethodInfo, Program.Program, Target.Target}}
 use Rattle.code_table.specs.PcTables.{number_at}
 use Rattle.checked_program.specs.CodeIndex.{number_in}
-use Rattle.machine_types.specs.Frames.{at_pc, top_at, top_in, top_of}
-use Rattle.machine_types.specs.Threads.{Frame}
+use Rattle.machine_types.specs.{Frames.{at_pc, top_at, top_in, top_of}, Threads.Frame}
 use Rattle.frames.specs.FrameLists.{top, below}
 
 abbrev by_number : {A : Type 0} → List A → Option ℕ → Option A

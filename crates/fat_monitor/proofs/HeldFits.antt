@@ -1,11 +1,6 @@
 -- The entry of a monitor that a thread holds: it is of that monitor, and what it keeps is within its bounds.
-use Rattle.std.proofs.Common.{◌≡◌, ℕ, Bool, true, false, List, [], ◌∷◌, Option, Some, refl, subst, arith}
-use Rattle.std.specs.Prelude.{◌==◌, if◌then◌else◌}
-use Rattle.std.specs.List.{AllByRecursion}
-use Rattle.std.proofs.lemmas.Bool.Decides.{nat_tests}
-use Rattle.machine_types.specs.Bounds.{KeptFits}
-use Rattle.machine_types.specs.HeldMonitors.{held_at}
-use Rattle.machine_types.specs.declared.lock.Held.{Held}
+use Rattle.std.{proofs.{Common.{◌≡◌, ℕ, Bool, true, false, List, [], ◌∷◌, Option, Some, refl, subst, arith, ◌==◌, if◌then◌else◌}, lemmas.Bool.Decides.nat_tests}, specs.List.AllByRecursion}
+use Rattle.machine_types.specs.{Bounds.KeptFits, HeldMonitors.held_at, declared.lock.Held.Held}
 
 abbrev pub AllFit : List Held → Type 0
 AllFit hs = AllByRecursion (λ h. KeptFits h.kept) hs

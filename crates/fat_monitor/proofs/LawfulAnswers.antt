@@ -1,22 +1,13 @@
 -- A lawful thread has what an event at a monitor needs of it.
-use Rattle.std.proofs.Common.{◌≡◌, ℕ, ◌+◌, ◌<◌, ◌≤◌, Bool, true, false, List, [], ◌∷◌, length, Option, Some, None, subst, arith}
-use Rattle.std.specs.Prelude.{◌==◌, if◌then◌else◌}
-use Rattle.checked_program.specs.MarkedProgram.{MarkedProgram}
-use Rattle.machine_types.specs.Bounds.{PhaseFits, StepsFit, TurnsFit, flat_held, under_way}
-use Rattle.machine_types.specs.FoundWords.{Fits, WordFits, content_at}
+use Rattle.std.proofs.Common.{◌≡◌, ℕ, ◌+◌, ◌<◌, ◌≤◌, Bool, true, false, List, [], ◌∷◌, length, Option, Some, None, subst, arith, ◌==◌, if◌then◌else◌}
 use Rattle.jvm_types.specs.declared.limits.TheConstants.{MOST_FRAMES}
-use Rattle.machine_types.specs.HeldMonitors.{held_at, places_of}
-use Rattle.machine_types.specs.Lawful.{IsLawful, within}
-use Rattle.machine_types.specs.Structure.{IsAs, IsFlat, PhaseShows}
-use Rattle.machine_types.specs.Threads.{Attempt, Thread}
-use Rattle.machine_types.specs.Typed.{PhaseHolds}
-use Rattle.machine_types.specs.declared.lock.Held.{Held}
-use Rattle.machine_types.specs.declared.lock.Kept.TheVariants as keeps
-use Rattle.machine_types.specs.declared.phase.Phase.{Phase}
-use Rattle.machine_types.specs.declared.phase.Phase.TheVariants as phases
-use Rattle.machine_types.specs.declared.phase.Toward.{Toward}
+use Rattle.checked_program.specs.MarkedProgram.{MarkedProgram}
+use Rattle.machine_types.specs.{Bounds.{PhaseFits, StepsFit, TurnsFit, flat_held, under_way}, FoundWords.{Fits, WordFits, content_at}, HeldMonitors.{held_at, places_of}, Lawful.{IsLawful, within}}
+use Rattle.machine_types.specs.{Structure.{IsAs, IsFlat, PhaseShows}, Threads.{Attempt, Thread}, Typed.PhaseHolds, declared.{lock.Held.Held, phase.{Phase.Phase, Toward.Toward}}}
 use Rattle.laws_threads.specs.HeldLaws.{AddsHeld, HeldHasRoom}
 use Rattle.fat_monitor.specs.Answering.{CanAnswer}
+use Rattle.machine_types.specs.declared.lock.Kept.TheVariants as keeps
+use Rattle.machine_types.specs.declared.phase.Phase.TheVariants as phases
 
 -- what is known of a lawful thread in a phase
 record Known (c : MarkedProgram) (s : Thread) (phase : Phase) (got : ℕ) : Type 0 where

@@ -1,15 +1,7 @@
 -- The fields of a linked program, and the names of fields, are those of the files in their order.
-use Rattle.std.proofs.Common.{◌≡◌, ℕ, ◌+◌, List, [], ◌∷◌, ◌++◌, cond, map, refl, sym, subst, ◌∙◌}
-use Rattle.std.proofs.lemmas.List.{map-append}
-use Rattle.std.specs.List.{AllZip}
-use Rattle.jvm_types.specs.ClassNames.{text_at}
-use Rattle.jvm_types.specs.Layout.{class_word_count, fields_from, fields_of}
-use Rattle.jvm_types.specs.Members.{Declared, declared_by, declared_from, is_static, name_of}
-use Rattle.jvm_types.specs.declared.class_file.ClassFile.{ClassFile}
-use Rattle.jvm_types.specs.declared.class_file.Constant.{Constant}
-use Rattle.jvm_types.specs.declared.class_file.Member.{Member as ClassMember}
-use Rattle.jvm_types.specs.declared.program.FieldInfo.{FieldInfo}
-use Rattle.jvm_types.specs.declared.program.Program.{Program}
+use Rattle.std.{proofs.{Common.{◌≡◌, ℕ, ◌+◌, List, [], ◌∷◌, ◌++◌, cond, map, refl, sym, subst, ◌∙◌}, lemmas.List.map-append}, specs.List.AllZip}
+use Rattle.jvm_types.specs.{ClassNames.text_at, Layout.{class_word_count, fields_from, fields_of}, Members.{Declared, declared_by, declared_from, is_static, name_of}}
+use Rattle.jvm_types.specs.declared.{class_file.{ClassFile.ClassFile, Constant.Constant, Member.{Member as ClassMember}}, program.{FieldInfo.FieldInfo, Program.Program}}
 use Rattle.field_names.specs.FieldNames.{all_field_names, IsDeclaredBy, NameFields, NamesAreInOrder}
 
 zip_append : (xs us : List Declared) (ys vs : List FieldInfo) → AllZip IsDeclaredBy xs ys → AllZip IsDeclaredBy us vs → AllZip IsDeclaredBy (xs ++ us) (ys ++ vs)

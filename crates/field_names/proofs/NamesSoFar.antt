@@ -1,10 +1,7 @@
 -- The names of the files so far.
-use Rattle.std.proofs.Common.{◌≡◌, ◌<◌, ◌≤◌, ℕ, zero, suc, ◌+◌, List, [], ◌∷◌, ◌++◌, length, drop, refl, sym, ap, subst, ◌∙◌, append_assoc, arith}
+use Rattle.std.{proofs.Common.{◌≡◌, ◌<◌, ◌≤◌, ℕ, zero, suc, ◌+◌, List, [], ◌∷◌, ◌++◌, length, drop, refl, sym, ap, subst, ◌∙◌, append_assoc, arith, slice_index_or}, specs.List.AllZip}
 use Rattle.std.proofs.lemmas.List.{append-nil}
-use Rattle.std.specs.List.{AllZip}
-use Rattle.std.specs.Prelude.{slice_index_or}
-use Rattle.jvm_types.specs.ClassGrammar.{Spells}
-use Rattle.jvm_types.specs.declared.class_file.ClassFile.{ClassFile}
+use Rattle.jvm_types.specs.{ClassGrammar.Spells, declared.class_file.ClassFile.ClassFile}
 use Rattle.field_names.specs.FieldNames.{field_names_in, all_field_names}
 
 -- the names of the files before a number, where those of the others complete them

@@ -1,11 +1,6 @@
 -- How many methods a program has.
-use Rattle.std.proofs.Common.{◌≡◌, ℕ, ◌<◌, ◌≤◌, length, Some, arith}
-use Rattle.std.specs.Prelude.{slice_get}
-use Rattle.std.specs.List.{sum_by}
-use Rattle.std.proofs.lemmas.Option.{slice_get_within}
-use Rattle.jvm_types.specs.ProgramInvariant.{IsProgram}
-use Rattle.jvm_types.specs.declared.program.MethodInfo.{MethodInfo}
-use Rattle.jvm_types.specs.declared.program.Program.{Program}
+use Rattle.std.{proofs.{Common.{◌≡◌, ℕ, ◌<◌, ◌≤◌, length, Some, arith, slice_get}, lemmas.Option.slice_get_within}, specs.List.sum_by}
+use Rattle.jvm_types.specs.{ProgramInvariant.IsProgram, declared.program.{MethodInfo.MethodInfo, Program.Program}}
 use Rattle.laws_programs.proofs.CodeOrder.{methods_laid_out, starts}
 use Rattle.checked_program.proofs.CalledMethods.{some_each}
 

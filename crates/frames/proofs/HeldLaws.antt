@@ -1,13 +1,7 @@
 -- The list of held monitors, in memory.
-use Rattle.std.proofs.Common.{◌≡◌, ℕ, zero, suc, ◌+◌, ◌<◌, ◌≤◌, Bool, true, false, List, [], ◌∷◌, ◌++◌, length, take, drop, set, get_or, Some, None, refl, sym, ap, subst, ◌∙◌, arith, add-one}
-use Rattle.std.specs.Prelude.{◌==◌, if◌then◌else◌, slice_get}
-use Rattle.std.specs.List.{AllByRecursion, IsDistinct, remove}
-use Rattle.std.proofs.lemmas.Bool.Decides.{nat_tests}
-use Rattle.std.proofs.lemmas.List.{drop_more, set_split}
-use Rattle.std.proofs.lemmas.Bool.{eq-eqb}
-use Rattle.std.proofs.lemmas.Map.Keys.{IsDistinct-tail, apart_from_distinct}
-use Rattle.machine_types.specs.HeldMonitors.{held_at, with_held, without_held}
-use Rattle.machine_types.specs.declared.lock.Held.{Held}
+use Rattle.std.proofs.Common.{◌≡◌, ℕ, zero, suc, ◌+◌, ◌<◌, ◌≤◌, Bool, true, false, List, [], ◌∷◌, ◌++◌, length, take, drop, set, get_or, Some, None, refl, sym, ap, subst, ◌∙◌, arith, add-one, ◌==◌, if◌then◌else◌, slice_get}
+use Rattle.std.{specs.List.{AllByRecursion, IsDistinct, remove}, proofs.lemmas.{Bool.{eq-eqb, Decides.nat_tests}, List.{drop_more, set_split}, Map.Keys.{IsDistinct-tail, apart_from_distinct}}}
+use Rattle.machine_types.specs.{HeldMonitors.{held_at, with_held, without_held}, declared.lock.Held.Held}
 use Rattle.frames.specs.HeldLists.{AreOfOtherMonitors, has_same_monitor}
 
 put_after : (e h : Held) (hs : List Held) (b : Bool) → (held_at hs e.monitor ≡ None → with_held e hs ≡ hs ++ e ∷ [])

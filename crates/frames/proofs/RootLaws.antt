@@ -1,8 +1,6 @@
 -- Lists of numbers of methods.
-use Rattle.std.proofs.Common.{◌≡◌, ℕ, zero, suc, ◌+◌, ◌-◌, ◌<◌, ◌≤◌, Bool, true, false, List, [], ◌∷◌, ◌++◌, length, take, drop, Some, None, refl, sym, ap, ◌∙◌, arith, add-one, append_assoc, length-append, length-drop}
-use Rattle.std.specs.Prelude.{slice_get, if◌then◌else◌}
-use Rattle.std.proofs.lemmas.List.{drop_more, drop-drop, drop-take, take_all}
-use Rattle.std.proofs.lemmas.Option.{slice_get_within, get_or_from_slice_get}
+use Rattle.std.proofs.Common.{◌≡◌, ℕ, zero, suc, ◌+◌, ◌-◌, ◌<◌, ◌≤◌, Bool, true, false, List, [], ◌∷◌, ◌++◌, length, take, drop, Some, None, refl, sym, ap, ◌∙◌, arith, add-one, append_assoc, length-append, length-drop, slice_get, if◌then◌else◌}
+use Rattle.std.proofs.lemmas.{List.{drop_more, drop-drop, drop-take, take_all}, Option.{slice_get_within, get_or_from_slice_get}}
 use Rattle.jvm_types.specs.declared.program.MethodInfo.{MethodInfo}
 use Rattle.machine_types.specs.Parts.{numbers_of}
 

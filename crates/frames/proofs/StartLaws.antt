@@ -1,18 +1,9 @@
 -- The thread at the start of a run.
 use Rattle.std.proofs.Common.{◌≡◌, ℕ, zero, suc, List, [], None, refl}
-use Rattle.jvm_types.specs.declared.outcome.Print.{Print}
-use Rattle.jvm_types.specs.declared.typing.Typing.{Typing}
-use Rattle.checked_program.specs.MarkedProgram.{MarkedProgram}
-use Rattle.checked_program.specs.declared.section.SectionMark.{SectionMark}
-use Rattle.checked_program.specs.declared.tag.Tags.{Tags}
-use Rattle.machine_types.specs.Core.{start_thread}
-use Rattle.machine_types.specs.Threads.{Thread, no_counts, fresh}
-use Rattle.machine_types.specs.declared.config.Config.{Config}
-use Rattle.machine_types.specs.declared.lock.Held.{Held}
-use Rattle.machine_types.specs.declared.phase.Phase.{Phase}
-use Rattle.frames.specs.FrameLists.{Frames}
-use Rattle.frames.specs.RootLists.{RootLists, first_roots, later_roots}
-use Rattle.frames.specs.ThreadParts.{start_phase}
+use Rattle.jvm_types.specs.declared.{outcome.Print.Print, typing.Typing.Typing}
+use Rattle.checked_program.specs.{MarkedProgram.MarkedProgram, declared.{section.SectionMark.SectionMark, tag.Tags.Tags}}
+use Rattle.machine_types.specs.{Core.start_thread, Threads.{Thread, no_counts, fresh}, declared.{config.Config.Config, lock.Held.Held, phase.Phase.Phase}}
+use Rattle.frames.specs.{FrameLists.Frames, RootLists.{RootLists, first_roots, later_roots}, ThreadParts.start_phase}
 
 start_is : (c : MarkedProgram) (cfg : Config) (number : ℕ)
     → fresh c cfg number (start_phase number (first_roots c.program number)) (first_roots c.program number) ≡ start_thread c cfg number

@@ -1,23 +1,12 @@
 -- The flags of classes, from what the methods let out.
-use Rattle.std.proofs.Common.{◌≡◌, ◌≢◌, ℕ, zero, suc, ◌-◌, ◌<◌, ◌≤◌, Bool, true, false, not, ◌&&◌, List, [], ◌∷◌, length, replicate, Option, Some, None, refl, sym, ap, subst, ◌∙◌, arith, ⊎_elim, inl, inr, ◌⊎◌}
-use Rattle.std.specs.Prelude.{◌==◌, nat_lt, nat_le, if◌then◌else◌, slice_get, slice_set, slice_index_or}
-use Rattle.std.specs.Option.{option_map, is_some}
-use Rattle.std.proofs.lemmas.Bool.{cases_eq, ltb-true, ltb-false, leb-true}
-use Rattle.std.proofs.lemmas.Bool.Decides.{nat_tests}
+use Rattle.std.proofs.Common.{◌≡◌, ◌≢◌, ℕ, zero, suc, ◌-◌, ◌<◌, ◌≤◌, Bool, true, false, not, ◌&&◌, List, [], ◌∷◌, length, replicate, Option, Some, None, refl, sym, ap, subst, ◌∙◌, arith, ⊎_elim, inl, inr, ◌⊎◌, ◌==◌, nat_lt, nat_le, if◌then◌else◌, slice_get, slice_set, slice_index_or}
+use Rattle.std.{specs.Option.{option_map, is_some}, proofs.lemmas.Bool.{cases_eq, ltb-true, ltb-false, leb-true, Decides.nat_tests}}
 use Rattle.std.proofs.lemmas.List.{length-set, length-replicate, get_or-replicate, get_or-set_same, get_or-set_other, get_or_past}
 use Rattle.std.proofs.lemmas.Option.{slice_get_within, slice_get-map, get_or_from_slice_get, same_Some}
-use Rattle.jvm_types.specs.ClassNames.{file_class}
-use Rattle.jvm_types.specs.CodeTable.{is_init}
-use Rattle.jvm_types.specs.ProgramInvariant.{IsProgram}
-use Rattle.jvm_types.specs.declared.program.MethodInfo.{MethodInfo}
-use Rattle.jvm_types.specs.declared.program.Program.{Program}
+use Rattle.jvm_types.specs.{ClassNames.file_class, CodeTable.is_init, ProgramInvariant.IsProgram, declared.program.{MethodInfo.MethodInfo, Program.Program}}
 use Rattle.laws_programs.proofs.CodeOrder.{methods_laid_out}
-use Rattle.checked_program.specs.MarkedProgram.{AreTaggings}
-use Rattle.checked_program.specs.TaggedCode.{Tagged, tagged_by}
-use Rattle.checked_program.specs.FrozenPlaces.{KeepsInside, IsFrozenClass}
-use Rattle.checked_program.specs.declared.tag.Tags.{Tags}
-use Rattle.frozen_classes.specs.FrozenClasses.{TellsFrozen, AreFrozenClasses, LetsOut, KeepsIfInit, TellsOut}
-use Rattle.frozen_classes.specs.KeptThis.{is_method_of, keeps_all, leak_of, class_noted, frozen_upto}
+use Rattle.checked_program.specs.{FrozenPlaces.{KeepsInside, IsFrozenClass}, MarkedProgram.AreTaggings, TaggedCode.{Tagged, tagged_by}, declared.tag.Tags.Tags}
+use Rattle.frozen_classes.specs.{FrozenClasses.{TellsFrozen, AreFrozenClasses, LetsOut, KeepsIfInit, TellsOut}, KeptThis.{is_method_of, keeps_all, leak_of, class_noted, frozen_upto}}
 use Rattle.frozen_classes.proofs.KeptInside.{is_inside, passes_all}
 
 not_le : (a b : ℕ) → nat_le a b ≡ false → b < a

@@ -1,34 +1,16 @@
 -- A method passes the tests exactly where it keeps `this` inside.
-use Rattle.std.proofs.Common.{◌≡◌, ℕ, zero, suc, ◌-◌, Bool, true, false, not, ◌&&◌, ◌||◌, cond, List, [], ◌∷◌, length, map, replicate, Option, Some, None, refl, sym, ap, subst, ◌∙◌, arith, ⊎_elim, inl, inr, ◌⊎◌}
-use Rattle.std.specs.Prelude.{◌==◌, if◌then◌else◌, slice_get, slice_index_or, IsSomeAnd}
-use Rattle.std.specs.List.{list_any, filter}
-use Rattle.std.proofs.lemmas.Bool.{and_from, or_left, or_right, eq-eqb, eqb-true, and_parts, or_cases}
-use Rattle.std.proofs.lemmas.Bool.Decides.{nat_tests}
-use Rattle.std.proofs.lemmas.Option.{slice_get_within, same_Some}
-use Rattle.jvm_types.specs.Numbers.{has_number}
-use Rattle.jvm_types.specs.CodeTable.{can_throw}
-use Rattle.jvm_types.specs.Members.{is_static}
-use Rattle.jvm_types.specs.Verifying.{edges, covers, covering, IsLaidOut}
-use Rattle.jvm_types.specs.declared.code.Insn.{Insn}
-use Rattle.jvm_types.specs.declared.code.Op.{Op}
-use Rattle.jvm_types.specs.declared.code.Op.TheVariants as ops
-use Rattle.jvm_types.specs.declared.op_row.OpRow.{OpRow}
-use Rattle.jvm_types.specs.declared.program.Row.{Row}
-use Rattle.jvm_types.specs.declared.program.Target.{Target}
-use Rattle.jvm_types.specs.declared.program.Target.TheVariants as targets
-use Rattle.jvm_types.specs.declared.program.MethodInfo.{MethodInfo}
-use Rattle.jvm_types.specs.declared.program.Program.{Program}
-use Rattle.code_table.specs.PcTables.{number_at}
-use Rattle.code_table.proofs.NumbersExact.{exact}
-use Rattle.checked_program.specs.LockTags.{TagShape, is_this, entry_tags}
-use Rattle.checked_program.specs.Tagging.{catches_all, until_all, catchers, tags_after, tags_at_handler}
-use Rattle.checked_program.specs.TaggedCode.{Tagged, IsAt, Goes, onward, caught, row_of}
-use Rattle.checked_program.specs.FrozenPlaces.{may_take, KeepThis, KeepsThis, is_final_of, PutsOnThis, KeepsInside}
-use Rattle.checked_program.specs.declared.tag.Tag.{Tag}
-use Rattle.checked_program.specs.declared.tag.Tag.TheVariants.{Untagged, This}
+use Rattle.std.proofs.Common.{◌≡◌, ℕ, zero, suc, ◌-◌, Bool, true, false, not, ◌&&◌, ◌||◌, cond, List, [], ◌∷◌, length, map, replicate, Option, Some, None, refl, sym, ap, subst, ◌∙◌, arith, ⊎_elim, inl, inr, ◌⊎◌, ◌==◌, if◌then◌else◌, slice_get, slice_index_or, IsSomeAnd}
+use Rattle.std.{specs.List.{list_any, filter}, proofs.lemmas.{Bool.{and_from, or_left, or_right, eq-eqb, eqb-true, and_parts, or_cases, Decides.nat_tests}, Option.{slice_get_within, same_Some}}}
+use Rattle.jvm_types.specs.{CodeTable.can_throw, Members.is_static, Numbers.has_number, Verifying.{edges, covers, covering, IsLaidOut}, declared.{code.{Insn.Insn, Op.Op}, op_row.OpRow.OpRow}}
+use Rattle.jvm_types.specs.declared.program.{MethodInfo.MethodInfo, Program.Program, Row.Row, Target.Target}
+use Rattle.code_table.{specs.PcTables.number_at, proofs.NumbersExact.exact}
+use Rattle.checked_program.specs.{FrozenPlaces.{may_take, KeepThis, KeepsThis, is_final_of, PutsOnThis, KeepsInside}, LockTags.{TagShape, is_this, entry_tags}}
+use Rattle.checked_program.specs.{TaggedCode.{Tagged, IsAt, Goes, onward, caught, row_of}, Tagging.{catches_all, until_all, catchers, tags_after, tags_at_handler}, declared.tag.Tag.Tag}
+use Rattle.checked_program.{specs.declared.tag.Tag.TheVariants.{Untagged, This}, proofs.FrozenChecks.{that_is_this, implied}}
 use Rattle.frozen_classes.specs.KeptThis.{all_before, this_at, keeps_after, keeps_caught, reached_frame, reached_frame_at, passes_test, passes_at, joins_all, catches_well, caught_well, takes_well, puts_well, keeps_here, keeps_at, begins_well, keeps_all}
 use Rattle.frozen_classes.proofs.KeptPlaces.{implies, all_each, all_from, after_from, after_to, caught_from, caught_to}
-use Rattle.checked_program.proofs.FrozenChecks.{that_is_this, implied}
+use Rattle.jvm_types.specs.declared.code.Op.TheVariants as ops
+use Rattle.jvm_types.specs.declared.program.Target.TheVariants as targets
 
 -- ---- the pcs of a list
 

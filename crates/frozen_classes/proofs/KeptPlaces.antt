@@ -1,28 +1,13 @@
 -- Where a place has `this`, before an instruction and after it.
-use Rattle.std.proofs.Common.{◌≡◌, ◌≢◌, ℕ, zero, suc, ◌+◌, ◌-◌, ◌<◌, ◌≤◌, Bool, true, false, not, ◌&&◌, ◌||◌, List, [], ◌∷◌, ◌++◌, length, map, drop, Option, Some, None, refl, sym, ap, subst, ◌∙◌, arith, ⊎_elim}
-use Rattle.std.specs.Prelude.{◌==◌, nat_lt, if◌then◌else◌, slice_get, slice_set, slice_index_or}
-use Rattle.std.proofs.lemmas.Bool.{cases_eq, and_from, eq-eqb, ltb-true, ltb-false, ne_eqb, and_parts}
-use Rattle.std.proofs.lemmas.Bool.Decides.{nat_tests}
-use Rattle.std.proofs.lemmas.List.{length-map, length-set, get_or_append_left, get_or-append-add, get_or-map, get_or-drop, get_or-set_same, get_or-set_other, get_or_past}
-use Rattle.std.proofs.lemmas.Option.{slice_get-get_or}
-use Rattle.jvm_types.specs.CodeTable.{row, value_of, stack_after, locals_after}
-use Rattle.jvm_types.specs.declared.op_row.OpRow.{OpRow}
-use Rattle.jvm_types.specs.declared.op_row.Given.{Given}
-use Rattle.jvm_types.specs.declared.op_row.Given.TheVariants.{Fresh, Taken, Local}
-use Rattle.jvm_types.specs.declared.code.Insn.{Insn}
-use Rattle.jvm_types.specs.declared.code.Op.{Op}
-use Rattle.jvm_types.specs.declared.code.Op.TheVariants as ops
-use Rattle.jvm_types.specs.declared.program.Target.{Target}
-use Rattle.jvm_types.specs.declared.program.MethodInfo.{MethodInfo}
-use Rattle.jvm_types.specs.declared.program.Program.{Program}
-use Rattle.checked_program.specs.LockTags.{TagShape, is_this, same_tag, without}
-use Rattle.checked_program.specs.Tagging.{moved_tags, tags_by_op, tags_after, tags_at_handler}
-use Rattle.checked_program.specs.TaggedCode.{row_of}
-use Rattle.checked_program.specs.FrozenPlaces.{KeepThis, KeepsThis}
-use Rattle.checked_program.specs.declared.tag.Tag.{Tag}
-use Rattle.checked_program.specs.declared.tag.Tag.TheVariants.{Untagged, This, At}
+use Rattle.std.proofs.Common.{◌≡◌, ◌≢◌, ℕ, zero, suc, ◌+◌, ◌-◌, ◌<◌, ◌≤◌, Bool, true, false, not, ◌&&◌, ◌||◌, List, [], ◌∷◌, ◌++◌, length, map, drop, Option, Some, None, refl, sym, ap, subst, ◌∙◌, arith, ⊎_elim, ◌==◌, nat_lt, if◌then◌else◌, slice_get, slice_set, slice_index_or}
+use Rattle.std.proofs.lemmas.Bool.{cases_eq, and_from, eq-eqb, ltb-true, ltb-false, ne_eqb, and_parts, Decides.nat_tests}
+use Rattle.std.proofs.lemmas.{List.{length-map, length-set, get_or_append_left, get_or-append-add, get_or-map, get_or-drop, get_or-set_same, get_or-set_other, get_or_past}, Option.slice_get-get_or}
+use Rattle.jvm_types.specs.{CodeTable.{row, value_of, stack_after, locals_after}, declared.{code.{Insn.Insn, Op.Op}, op_row.{Given.{Given, TheVariants.{Fresh, Taken, Local}}, OpRow.OpRow}}}
+use Rattle.jvm_types.specs.declared.program.{MethodInfo.MethodInfo, Program.Program, Target.Target}
+use Rattle.checked_program.specs.{FrozenPlaces.{KeepThis, KeepsThis}, LockTags.{TagShape, is_this, same_tag, without}, TaggedCode.row_of, Tagging.{moved_tags, tags_by_op, tags_after, tags_at_handler}}
+use Rattle.checked_program.{specs.declared.tag.Tag.{Tag, TheVariants.{Untagged, This, At}}, proofs.FrozenChecks.{that_is_this, implied}}
 use Rattle.frozen_classes.specs.KeptThis.{all_before, this_at, given_this, some_given_this, stack_this_after, local_this_after, keeps_before, keeps_after, keeps_caught}
-use Rattle.checked_program.proofs.FrozenChecks.{that_is_this, implied}
+use Rattle.jvm_types.specs.declared.code.Op.TheVariants as ops
 
 -- ---- tests
 

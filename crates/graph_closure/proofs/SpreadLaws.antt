@@ -1,11 +1,7 @@
 -- Laws of the least closed set, and of the state in the course of its computation.
-use Rattle.std.proofs.Common.{◌≡◌, ℕ, zero, suc, ◌+◌, ◌-◌, ◌<◌, ◌≤◌, ◌≢◌, Bool, true, false, not, ◌&&◌, List, [], ◌∷◌, ◌++◌, length, refl, sym, ap, ◌∙◌, subst, arith, ⊎_elim, inl, inr, ◌⊎◌, get_or-set_same, get_or-set_other}
-use Rattle.std.specs.Prelude.{replicate, ◌==◌, nat_lt, if◌then◌else◌, slice_index, slice_index_or, slice_set}
-use Rattle.std.proofs.lemmas.Bool.{cases_eq, cases_lt, eq-eqb, lt-ltb, eqb-true, ne_eqb, le-ltb}
-use Rattle.std.proofs.lemmas.List.{length-set, length-append}
-use Rattle.std.proofs.lemmas.Bool.Decides.{nat_tests}
-use Rattle.graph_closure.specs.LeastSet.{one_if, chosen, Settles, settle, IsSpread, IsGraph}
-use Rattle.graph_closure.specs.Chains.{IsIn, is_edge_counted, Going, IsChained, weight, zeros, latest}
+use Rattle.std.proofs.Common.{◌≡◌, ℕ, zero, suc, ◌+◌, ◌-◌, ◌<◌, ◌≤◌, ◌≢◌, Bool, true, false, not, ◌&&◌, List, [], ◌∷◌, ◌++◌, length, refl, sym, ap, ◌∙◌, subst, arith, ⊎_elim, inl, inr, ◌⊎◌, get_or-set_same, get_or-set_other, replicate, ◌==◌, nat_lt, if◌then◌else◌, slice_index, slice_index_or, slice_set}
+use Rattle.std.proofs.lemmas.{Bool.{cases_eq, cases_lt, eq-eqb, lt-ltb, eqb-true, ne_eqb, le-ltb, Decides.nat_tests}, List.{length-set, length-append}}
+use Rattle.graph_closure.specs.{Chains.{IsIn, is_edge_counted, Going, IsChained, weight, zeros, latest}, LeastSet.{one_if, chosen, Settles, settle, IsSpread, IsGraph}}
 
 -- ---- tests
 

@@ -1,11 +1,7 @@
 -- What the least closed set is for two rules: the nodes that lead into a set, and those that lead to no cycle.
-use Rattle.std.proofs.Common.{◌≡◌, ℕ, zero, suc, ◌+◌, ◌<◌, ◌≤◌, ◌≢◌, Bool, true, false, eqb, List, [], ◌∷◌, length, refl, sym, subst, arith, ⊎_elim, ◌||◌, ◌&&◌, not, map, ◌∙◌, get_or-set_same, get_or-set_other, ap, take, drop, ◌++◌}
-use Rattle.std.specs.Prelude.{◌==◌, ◌↔◌, slice_index, slice_index_or, slice_set}
-use Rattle.std.proofs.lemmas.List.{length-map, get_or-map, get_or_past, take-append-le}
-use Rattle.std.proofs.Math.Seq.{take-length}
-use Rattle.std.specs.List.{AllByRecursion, list_any, IsDistinct}
-use Rattle.std.proofs.lemmas.Bool.{cases_eq, cases_lt, eq-eqb, eqb-true}
-use Rattle.std.proofs.lemmas.Map.Steps.{length-le_from_distinct_below}
+use Rattle.std.proofs.Common.{◌≡◌, ℕ, zero, suc, ◌+◌, ◌<◌, ◌≤◌, ◌≢◌, Bool, true, false, eqb, List, [], ◌∷◌, length, refl, sym, subst, arith, ⊎_elim, ◌||◌, ◌&&◌, not, map, ◌∙◌, get_or-set_same, get_or-set_other, ap, take, drop, ◌++◌, ◌==◌, ◌↔◌, slice_index, slice_index_or, slice_set}
+use Rattle.std.{specs.List.{AllByRecursion, list_any, IsDistinct}, proofs.{Math.Seq.take-length, lemmas.Bool.{cases_eq, cases_lt, eq-eqb, eqb-true}}}
+use Rattle.std.proofs.lemmas.{List.{length-map, get_or-map, get_or_past, take-append-le}, Map.Steps.length-le_from_distinct_below}
 use Rattle.graph_closure.specs.LeastSet.{one_if, chosen, Settles, settle, IsSpread, IsGraph}
 use Rattle.graph_closure.specs.Walks.{IsEdge, Walks, Leads, LeadsOn, Recurs, FindsLeading, FindsRecurring, AreLeading, AreRecurring, AreDegrees, need_unless}
 use Rattle.graph_closure.proofs.SpreadLaws.{differ_from, chosen-le}

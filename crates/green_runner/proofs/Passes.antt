@@ -1,22 +1,14 @@
 -- Turns of the threads of hands.
-use Rattle.std.proofs.Common.{◌≡◌, ◌≢◌, ℕ, zero, suc, ◌+◌, ◌<◌, ◌≤◌, Bool, true, false, List, [], ◌∷◌, ◌++◌, is_some, Some, None, refl, sym, ap, subst, ◌∙◌, arith}
-use Rattle.std.specs.Prelude.{nat_lt, slice_set, ◌||◌}
-use Rattle.std.specs.List.{range_with_len}
-use Rattle.std.proofs.lemmas.Bool.Decides.{nat_tests}
-use mathlib.Core.Logic.{dite}
-use native.Mathlib.Decide.{ℕ_discrete}
+use Rattle.std.proofs.Common.{◌≡◌, ◌≢◌, ℕ, zero, suc, ◌+◌, ◌<◌, ◌≤◌, Bool, true, false, List, [], ◌∷◌, ◌++◌, is_some, Some, None, refl, sym, ap, subst, ◌∙◌, arith, nat_lt, slice_set, ◌||◌}
+use Rattle.std.{specs.List.range_with_len, proofs.lemmas.Bool.Decides.nat_tests}
 use Rattle.atomic_table.specs.Seated.{TableId}
 use Rattle.checked_program.specs.MarkedProgram.{MarkedProgram}
-use Rattle.machine_types.specs.Core.{is_live_thread}
-use Rattle.machine_types.specs.Threads.{Thread}
-use Rattle.machine_types.specs.declared.config.Config.{Config}
-use Rattle.table_rule.specs.Views.{held_in}
-use Rattle.table_rule.proofs.Entries.{held_else, held_here}
-use Rattle.table_runner.specs.Accessing.{made_by_event}
-use Rattle.table_runner.specs.Handed.{Handed, IsEventOf, IsTableOf, event_at}
-use Rattle.table_runner.specs.Running.{AreSame}
+use Rattle.machine_types.specs.{Core.is_live_thread, Threads.Thread, declared.config.Config.Config}
+use Rattle.table_rule.{specs.Views.held_in, proofs.Entries.{held_else, held_here}}
+use Rattle.table_runner.{specs.{Accessing.made_by_event, Handed.{Handed, IsEventOf, IsTableOf, event_at}, Running.AreSame}, proofs.SameHands.same_itself}
 use Rattle.green_runner.specs.Passes.{HasTakenTurn, HaveTurns, MakeEvents}
-use Rattle.table_runner.proofs.SameHands.{same_itself}
+use mathlib.Core.Logic.{dite}
+use native.Mathlib.Decide.{ℕ_discrete}
 
 -- ---- one event
 

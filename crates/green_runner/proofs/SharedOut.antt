@@ -1,22 +1,15 @@
 -- Hands that are given to workers, and taken in again.
-use Rattle.std.proofs.Common.{◌≡◌, ℕ, zero, suc, ◌+◌, ◌<◌, Bool, true, false, List, [], ◌∷◌, ◌++◌, length, take, length-append, Option, Some, None, is_some, refl, sym, ap, subst, ◌∙◌, arith}
-use Rattle.std.specs.Prelude.{IsSome, ◌||◌, slice_index_or, slice_set}
-use Rattle.std.specs.List.{All, list_any}
-use Rattle.std.specs.Option.{option_or}
-use Rattle.std.proofs.lemmas.List.Folds.{list_any-append}
+use Rattle.std.proofs.Common.{◌≡◌, ℕ, zero, suc, ◌+◌, ◌<◌, Bool, true, false, List, [], ◌∷◌, ◌++◌, length, take, length-append, Option, Some, None, is_some, refl, sym, ap, subst, ◌∙◌, arith, IsSome, ◌||◌, slice_index_or, slice_set}
+use Rattle.std.{specs.{List.{All, list_any}, Option.option_or}, proofs.lemmas.List.Folds.list_any-append}
+use Rattle.atomic_table.specs.Seated.{TableId}
+use Rattle.lists.proofs.TestLaws.{first_true, or_false, second_true}
+use Rattle.checked_program.specs.MarkedProgram.{MarkedProgram}
+use Rattle.machine_types.specs.{Threads.Thread, declared.config.Config.Config}
+use Rattle.table_rule.specs.Views.{HoldsAll, held_in}
+use Rattle.table_runner.{specs.{Handed.{Handed, IsTableOf}, Running.{AreSame, RestOf}, Sharing.AreJoined}, proofs.SameHands.of_still}
+use Rattle.green_runner.specs.Shares.{AreShared, AreTogether, holds}
 use mathlib.Core.Logic.{dite}
 use native.Mathlib.Decide.{ℕ_discrete}
-use Rattle.atomic_table.specs.Seated.{TableId}
-use Rattle.checked_program.specs.MarkedProgram.{MarkedProgram}
-use Rattle.lists.proofs.TestLaws.{first_true, or_false, second_true}
-use Rattle.machine_types.specs.Threads.{Thread}
-use Rattle.machine_types.specs.declared.config.Config.{Config}
-use Rattle.table_rule.specs.Views.{HoldsAll, held_in}
-use Rattle.table_runner.specs.Handed.{Handed, IsTableOf}
-use Rattle.table_runner.specs.Running.{AreSame, RestOf}
-use Rattle.table_runner.specs.Sharing.{AreJoined}
-use Rattle.green_runner.specs.Shares.{AreShared, AreTogether, holds}
-use Rattle.table_runner.proofs.SameHands.{of_still}
 
 -- ---- two hands that are joined
 

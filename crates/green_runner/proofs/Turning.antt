@@ -1,25 +1,18 @@
 -- How events of a machine, and the begin of a part, lead a run on.
-use Rattle.std.proofs.Common.{◌≡◌, ℕ, zero, suc, ◌+◌, ◌-◌, ◌<◌, ◌≤◌, Bool, true, false, List, [], ◌∷◌, ◌++◌, length, Some, None, Result, Ok, Err, refl, sym, ap, subst, ◌∙◌, append_assoc, append-nil, arith}
-use Rattle.std.specs.Prelude.{nat_lt, nat_le, ◌&&◌, ◌||◌, if◌then◌else◌, find, replicate, slice_get, IfOk}
-use Rattle.std.specs.List.{flat_map, range_with_len}
-use Rattle.std.specs.Option.{option_or}
-use Rattle.std.proofs.lemmas.Bool.Decides.{nat_tests}
-use mathlib.Core.Logic.{dite}
-use native.Mathlib.Decide.{ℕ_discrete}
-use Rattle.checked_program.specs.MarkedProgram.{MarkedProgram}
+use Rattle.std.proofs.Common.{◌≡◌, ℕ, zero, suc, ◌+◌, ◌-◌, ◌<◌, ◌≤◌, Bool, true, false, List, [], ◌∷◌, ◌++◌, length, Some, None, Result, Ok, Err, refl, sym, ap, subst, ◌∙◌, append_assoc, append-nil, arith, nat_lt, nat_le, ◌&&◌, ◌||◌, if◌then◌else◌, find, replicate, slice_get, IfOk}
+use Rattle.std.{specs.{List.{flat_map, range_with_len}, Option.option_or}, proofs.lemmas.Bool.Decides.nat_tests}
 use Rattle.jvm_types.specs.declared.outcome.Outcome.{Outcome}
+use Rattle.checked_program.specs.MarkedProgram.{MarkedProgram}
 use Rattle.machine_types.specs.Core.{Core, Happening, Of, NextPart, all_happened, core, event, happened, is_live_thread, lives, may_begin, next, outcome, start}
-use Rattle.machine_types.specs.Schedules.{IsSchedule, Stage, First, Ordered, Last, turn_of, turn_at, part_turn, ordered, round_turn, is_live_worker, live_from}
-use Rattle.machine_types.specs.Threads.{Thread}
-use Rattle.machine_types.specs.declared.config.Config.{Config}
-use Rattle.machine_types.proofs.OnlyLive.{only_live_change}
+use Rattle.machine_types.specs.{Schedules.{IsSchedule, Stage, First, Ordered, Last, turn_of, turn_at, part_turn, ordered, round_turn, is_live_worker, live_from}, Threads.Thread}
+use Rattle.machine_types.{specs.declared.config.Config.Config, proofs.OnlyLive.only_live_change}
+use Rattle.laws_states.{specs.WorkLeft.all_work, proofs.GrowingRuns.all_append}
 use Rattle.laws_refinement.specs.ScheduleOver.{SchedulesEndOver}
-use Rattle.laws_states.specs.WorkLeft.{all_work}
 use Rattle.run_parts.specs.Ended.{IsEndOfRun}
 use Rattle.replay_runner.specs.Running.{Running, events, run_on}
-use Rattle.green_runner.specs.Turning.{Comes, IsRunFinished, IsLedByOrder, IsSameRun, NoWorkerLives}
-use Rattle.green_runner.specs.Turns.{IsRunInTurns, one_round, rounds}
-use Rattle.laws_states.proofs.GrowingRuns.{all_append}
+use Rattle.green_runner.specs.{Turning.{Comes, IsRunFinished, IsLedByOrder, IsSameRun, NoWorkerLives}, Turns.{IsRunInTurns, one_round, rounds}}
+use mathlib.Core.Logic.{dite}
+use native.Mathlib.Decide.{ℕ_discrete}
 
 -- ---- lists of happenings
 

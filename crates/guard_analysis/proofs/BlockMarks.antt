@@ -1,40 +1,19 @@
 -- What a walk finds are the own instructions of a block, and so its mark is the one that a block has.
-use Rattle.std.proofs.Common.{◌≡◌, ℕ, ◌<◌, Bool, true, false, ◌||◌, cond, List, [], ◌∷◌, ◌++◌, length, map, Option, Some, None, refl, sym, ap, subst, ◌∙◌, arith, ⊎_elim, inl, inr, ◌⊎◌}
-use Rattle.std.specs.Prelude.{◌==◌, nat_lt, if◌then◌else◌, slice_get, slice_index, slice_index_or, IsSomeAnd}
-use Rattle.std.specs.List.{list_any, filter, filter_map, cons_option}
-use Rattle.std.proofs.lemmas.Bool.Decides.{nat_tests}
-use Rattle.std.proofs.lemmas.Option.{slice_get_within, same_Some}
-use Rattle.std.proofs.lemmas.Bool.{eq-eqb, lt-ltb, eqb-true, or_right, or_cases}
-use Rattle.jvm_types.specs.Numbers.{has_number}
-use Rattle.jvm_types.specs.CodeTable.{can_throw}
-use Rattle.jvm_types.specs.Verifying.{edges, covers, covering, IsLaidOut}
-use Rattle.jvm_types.specs.ProgramInvariant.{IsProgram}
-use Rattle.jvm_types.specs.declared.code.Insn.{Insn}
-use Rattle.jvm_types.specs.declared.code.Op.TheVariants as ops
-use Rattle.jvm_types.specs.declared.program.Row.{Row}
-use Rattle.jvm_types.specs.declared.program.Target.{Target}
-use Rattle.jvm_types.specs.declared.program.MethodInfo.{MethodInfo}
-use Rattle.jvm_types.specs.declared.program.Program.{Program}
-use Rattle.code_table.specs.PcTables.{number_at}
-use Rattle.code_table.proofs.NumbersExact.{exact}
+use Rattle.std.proofs.Common.{◌≡◌, ℕ, ◌<◌, Bool, true, false, ◌||◌, cond, List, [], ◌∷◌, ◌++◌, length, map, Option, Some, None, refl, sym, ap, subst, ◌∙◌, arith, ⊎_elim, inl, inr, ◌⊎◌, ◌==◌, nat_lt, if◌then◌else◌, slice_get, slice_index, slice_index_or, IsSomeAnd}
+use Rattle.std.{specs.List.{list_any, filter, filter_map, cons_option}, proofs.lemmas.{Bool.{eq-eqb, lt-ltb, eqb-true, or_right, or_cases, Decides.nat_tests}, Option.{slice_get_within, same_Some}}}
+use Rattle.jvm_types.specs.{CodeTable.can_throw, Numbers.has_number, ProgramInvariant.IsProgram, Verifying.{edges, covers, covering, IsLaidOut}, declared.code.Insn.Insn}
+use Rattle.jvm_types.specs.declared.program.{MethodInfo.MethodInfo, Program.Program, Row.Row, Target.Target}
 use Rattle.laws_programs.proofs.CodeOrder.{methods_laid_out, one_number}
-use Rattle.checked_program.specs.LockTags.{TagShape, is_this}
-use Rattle.checked_program.specs.Tagging.{catches_all, until_all, catchers, tags_after, tags_at_handler}
-use Rattle.checked_program.specs.TaggedCode.{tagged_by, IsAt, IsReachedEdge, Goes, onward, caught, row_of}
-use Rattle.checked_program.specs.Sections.{IsDeep, StaysDeep, BeginsAt, IsOwn}
-use Rattle.checked_program.specs.Marks.{IsOnOwn, HasMark, IsMarkOf}
-use Rattle.checked_program.specs.declared.tag.Tag.{Tag}
-use Rattle.checked_program.specs.declared.tag.Tag.TheVariants.{Untagged, This, At}
-use Rattle.checked_program.specs.declared.tag.Tags.{Tags}
-use Rattle.checked_program.specs.declared.section.Mode.TheVariants.{OnThis}
-use Rattle.checked_program.specs.declared.section.Spot.TheVariants.{Block}
-use Rattle.checked_program.specs.declared.section.FieldUse.{FieldUse}
+use Rattle.code_table.{specs.PcTables.number_at, proofs.NumbersExact.exact}
 use Rattle.graph_closure.specs.Chains.{IsIn}
-use Rattle.guard_analysis.specs.BlockWalks.{handler_pcs, catch_pcs, way_pcs, ways_from, ways_at, deep_at, is_deep, IsPathInBlock, IsInside}
-use Rattle.guard_analysis.specs.SectionGrades.{depth_on_this, entry_depth_at, AreGrades, IsBlockMark, section_in}
-use Rattle.guard_analysis.proofs.CallEdges.{with_tags, frames_there}
-use Rattle.guard_analysis.proofs.SectionMarks.{has_earliest, has_elsewhere}
+use Rattle.checked_program.specs.{LockTags.{TagShape, is_this}, Marks.{IsOnOwn, HasMark, IsMarkOf}, Sections.{IsDeep, StaysDeep, BeginsAt, IsOwn}}
+use Rattle.checked_program.specs.{TaggedCode.{tagged_by, IsAt, IsReachedEdge, Goes, onward, caught, row_of}, Tagging.{catches_all, until_all, catchers, tags_after, tags_at_handler}}
+use Rattle.checked_program.specs.declared.{section.{FieldUse.FieldUse, Mode.TheVariants.OnThis, Spot.TheVariants.Block}, tag.{Tag.{Tag, TheVariants.{Untagged, This, At}}, Tags.Tags}}
 use Rattle.frozen_classes.proofs.KeptInside.{stands_to}
+use Rattle.guard_analysis.specs.BlockWalks.{handler_pcs, catch_pcs, way_pcs, ways_from, ways_at, deep_at, is_deep, IsPathInBlock, IsInside}
+use Rattle.guard_analysis.{specs.SectionGrades.{depth_on_this, entry_depth_at, AreGrades, IsBlockMark, section_in}, proofs.CallEdges.{with_tags, frames_there}}
+use Rattle.guard_analysis.proofs.SectionMarks.{has_earliest, has_elsewhere}
+use Rattle.jvm_types.specs.declared.code.Op.TheVariants as ops
 
 -- ---- lists
 

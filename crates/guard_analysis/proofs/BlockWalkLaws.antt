@@ -1,15 +1,9 @@
 -- A walk finds exactly the own instructions of a block.
-use Rattle.std.proofs.Common.{◌≡◌, ℕ, ◌+◌, ◌*◌, ◌<◌, ◌≤◌, ◌≢◌, Bool, true, false, not, ◌&&◌, List, [], ◌∷◌, ◌++◌, length, Option, Some, None, refl, sym, ap, subst, ◌∙◌, arith, ⊎_elim, inl, inr, get_or-set_same, get_or-set_other, cond}
-use Rattle.std.specs.Prelude.{◌==◌, nat_lt, if◌then◌else◌, slice_get, slice_set, slice_index}
-use Rattle.std.proofs.lemmas.Bool.{cases_eq, eqb-true, ltb-true}
-use Rattle.std.proofs.lemmas.Bool.Decides.{nat_tests}
-use Rattle.std.proofs.lemmas.List.{length-append, length-set, get_or_append_left, get_or_push}
-use Rattle.std.proofs.lemmas.List.Sums.{sum_by-set}
-use Rattle.std.proofs.lemmas.Option.{slice_get_within}
-use Rattle.jvm_types.specs.declared.code.Insn.{Insn}
-use Rattle.jvm_types.specs.declared.program.MethodInfo.{MethodInfo}
-use Rattle.checked_program.specs.LockTags.{TagShape}
+use Rattle.std.proofs.Common.{◌≡◌, ℕ, ◌+◌, ◌*◌, ◌<◌, ◌≤◌, ◌≢◌, Bool, true, false, not, ◌&&◌, List, [], ◌∷◌, ◌++◌, length, Option, Some, None, refl, sym, ap, subst, ◌∙◌, arith, ⊎_elim, inl, inr, get_or-set_same, get_or-set_other, cond, ◌==◌, nat_lt, if◌then◌else◌, slice_get, slice_set, slice_index}
+use Rattle.std.proofs.lemmas.{Bool.{cases_eq, eqb-true, ltb-true, Decides.nat_tests}, List.{length-append, length-set, get_or_append_left, get_or_push, Sums.sum_by-set}, Option.slice_get_within}
+use Rattle.jvm_types.specs.declared.{code.Insn.Insn, program.MethodInfo.MethodInfo}
 use Rattle.graph_closure.specs.Chains.{IsIn}
+use Rattle.checked_program.specs.LockTags.{TagShape}
 use Rattle.guard_analysis.specs.BlockWalks.{ways_from, deep_at, is_deep, walk_visited, all_visited, IsPathInBlock, IsInside, Has, Walked, unstamped, walk_left, IsExplored}
 use Rattle.guard_analysis.specs.declared.block_walk.Walk.{Walk}
 

@@ -1,26 +1,11 @@
 -- The edges of the graph are the calls of reached instructions.
-use Rattle.std.proofs.Common.{◌≡◌, ℕ, ◌+◌, ◌*◌, ◌/◌, ◌%◌, ◌<◌, Bool, true, false, List, length, Option, Some, None, refl, sym, ap, subst, ◌∙◌, arith, ⊎_elim, ◌⊎◌}
-use Rattle.std.specs.Prelude.{nat_lt, if◌then◌else◌, slice_get}
-use Rattle.std.specs.Option.{option_map}
-use Rattle.std.proofs.lemmas.Bool.Decides.{nat_tests}
-use Rattle.std.proofs.lemmas.Option.{slice_get-map, slice_get_within, same_Some}
-use Rattle.jvm_types.specs.ProgramInvariant.{IsProgram, IsTargetOf, site_in}
-use Rattle.jvm_types.specs.declared.code.Insn.{Insn}
-use Rattle.jvm_types.specs.declared.code.Op.{Op}
-use Rattle.jvm_types.specs.declared.program.Target.{Target}
-use Rattle.jvm_types.specs.declared.program.Program.{Program}
+use Rattle.std.proofs.Common.{◌≡◌, ℕ, ◌+◌, ◌*◌, ◌/◌, ◌%◌, ◌<◌, Bool, true, false, List, length, Option, Some, None, refl, sym, ap, subst, ◌∙◌, arith, ⊎_elim, ◌⊎◌, nat_lt, if◌then◌else◌, slice_get}
+use Rattle.std.{specs.Option.option_map, proofs.lemmas.{Bool.Decides.nat_tests, Option.{slice_get-map, slice_get_within, same_Some}}}
+use Rattle.jvm_types.specs.{ProgramInvariant.{IsProgram, IsTargetOf, site_in}, declared.{code.{Insn.Insn, Op.Op}, program.{Program.Program, Target.Target}}}
 use Rattle.laws_programs.proofs.CodeOrder.{have_targets}
-use Rattle.checked_program.specs.LockTags.{TagShape}
-use Rattle.checked_program.specs.TaggedCode.{Tagged, tagged_by}
-use Rattle.checked_program.specs.Marks.{Callee, callee, Calls, called_method, receiver_tag, called_mode}
-use Rattle.checked_program.specs.declared.tag.Tag.{Tag}
-use Rattle.checked_program.specs.declared.tag.Tags.{Tags}
-use Rattle.checked_program.specs.declared.section.Mode.{Mode}
-use Rattle.checked_program.specs.declared.section.Mode.TheVariants.{OnThis, OffThis, OnClass}
-use Rattle.guard_analysis.specs.CallGraph.{mode_number, node_of, mode_at, AreCalls, node_in, call_node, call_at, call_graph}
-use Rattle.guard_analysis.specs.Faults.{IsModeFor}
-use Rattle.checked_program.proofs.CalledMethods.{named}
-use Rattle.guard_analysis.proofs.GraphEdges.{CallAt, graph_added, graph_old}
+use Rattle.checked_program.specs.{LockTags.TagShape, Marks.{Callee, callee, Calls, called_method, receiver_tag, called_mode}, TaggedCode.{Tagged, tagged_by}, declared.section.Mode.Mode}
+use Rattle.checked_program.{specs.declared.{section.Mode.TheVariants.{OnThis, OffThis, OnClass}, tag.{Tag.Tag, Tags.Tags}}, proofs.CalledMethods.named}
+use Rattle.guard_analysis.{specs.{CallGraph.{mode_number, node_of, mode_at, AreCalls, node_in, call_node, call_at, call_graph}, Faults.IsModeFor}, proofs.GraphEdges.{CallAt, graph_added, graph_old}}
 
 -- ---- nodes
 

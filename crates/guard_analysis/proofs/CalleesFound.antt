@@ -1,28 +1,12 @@
 -- What the graph of calls finds: which nodes lead to a method that breaks a rule, and which to one that calls itself.
-use Rattle.std.proofs.Common.{◌≡◌, ℕ, zero, suc, ◌+◌, ◌*◌, ◌/◌, ◌<◌, ◌≢◌, Bool, true, false, List, [], ◌∷◌, length, Option, Some, None, refl, sym, ap, subst, ◌∙◌, arith, ⊎_elim, ◌||◌}
-use Rattle.std.specs.Prelude.{nat_lt, if◌then◌else◌, slice_get, slice_index_or}
-use Rattle.std.proofs.lemmas.Bool.{cases_eq}
-use Rattle.std.proofs.lemmas.Bool.Decides.{nat_tests}
-use Rattle.std.proofs.lemmas.List.{length-append, get_or_append_left, get_or_push}
-use Rattle.std.proofs.lemmas.Option.{slice_get_within}
-use Rattle.jvm_types.specs.Members.{is_static, is_synchronized}
-use Rattle.jvm_types.specs.ProgramInvariant.{IsProgram}
-use Rattle.jvm_types.specs.declared.code.Insn.{Insn}
-use Rattle.jvm_types.specs.declared.program.Target.{Target}
-use Rattle.jvm_types.specs.declared.program.MethodInfo.{MethodInfo}
-use Rattle.jvm_types.specs.declared.program.Program.{Program}
-use Rattle.checked_program.specs.LockTags.{TagShape}
-use Rattle.checked_program.specs.TaggedCode.{Tagged, tagged_by}
-use Rattle.checked_program.specs.FrozenPlaces.{locks_class}
+use Rattle.std.proofs.Common.{◌≡◌, ℕ, zero, suc, ◌+◌, ◌*◌, ◌/◌, ◌<◌, ◌≢◌, Bool, true, false, List, [], ◌∷◌, length, Option, Some, None, refl, sym, ap, subst, ◌∙◌, arith, ⊎_elim, ◌||◌, nat_lt, if◌then◌else◌, slice_get, slice_index_or}
+use Rattle.std.proofs.lemmas.{Bool.{cases_eq, Decides.nat_tests}, List.{length-append, get_or_append_left, get_or_push}, Option.slice_get_within}
+use Rattle.jvm_types.specs.{Members.{is_static, is_synchronized}, ProgramInvariant.IsProgram, declared.{code.Insn.Insn, program.{MethodInfo.MethodInfo, Program.Program, Target.Target}}}
+use Rattle.graph_closure.specs.{LeastSet.IsGraph, Walks.{IsEdge, Walks, Leads, AreLeading, AreRecurring}}
+use Rattle.checked_program.specs.{FrozenPlaces.locks_class, LockTags.TagShape}
 use Rattle.checked_program.specs.Marks.{Callee, callee, Calls, Invokes, CallsThrough, CallsItself, BreaksAt, section_fault, receiver_tag, is_own_object, mode_if, called_mode}
-use Rattle.checked_program.specs.declared.tag.Tag.{Tag}
+use Rattle.checked_program.specs.{TaggedCode.{Tagged, tagged_by}, declared.{call_edges.Graph.Graph, section.{FieldUse.FieldUse, Mode.{Mode, TheVariants.{OnThis, OffThis, OnClass}}}, tag.Tag.Tag}}
 use Rattle.checked_program.specs.declared.tag.Tags.{Tags}
-use Rattle.checked_program.specs.declared.section.Mode.{Mode}
-use Rattle.checked_program.specs.declared.section.Mode.TheVariants.{OnThis, OffThis, OnClass}
-use Rattle.checked_program.specs.declared.section.FieldUse.{FieldUse}
-use Rattle.graph_closure.specs.Walks.{IsEdge, Walks, Leads, AreLeading, AreRecurring}
-use Rattle.graph_closure.specs.LeastSet.{IsGraph}
-use Rattle.checked_program.specs.declared.call_edges.Graph.{Graph}
 use Rattle.guard_analysis.specs.CallGraph.{node_of, mode_at, AreCalls, call_graph}
 use Rattle.guard_analysis.specs.Faults.{fault_at, breaks_before, node_breaks, breaking_nodes, LeadsToBreak, LeadsToItself, IsModeFor, FitsMethod, AreCallees}
 use Rattle.guard_analysis.proofs.CallEdges.{half_of, mode_back, node_low, with_tags, frames_there, edges_are_calls}

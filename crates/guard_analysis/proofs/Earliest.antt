@@ -1,8 +1,5 @@
 -- The first of some rules.
-use Rattle.std.proofs.Common.{◌≡◌, ℕ, zero, suc, ◌<◌, ◌≤◌, ◌≢◌, Bool, true, false, refl, sym, subst, arith, ⊎_elim, ◌∙◌}
-use Rattle.std.specs.Prelude.{◌==◌, nat_lt, if◌then◌else◌}
-use Rattle.std.proofs.lemmas.Bool.{cases_eq}
-use Rattle.std.proofs.lemmas.Bool.Decides.{nat_tests}
+use Rattle.std.proofs.{Common.{◌≡◌, ℕ, zero, suc, ◌<◌, ◌≤◌, ◌≢◌, Bool, true, false, refl, sym, subst, arith, ⊎_elim, ◌∙◌, ◌==◌, nat_lt, if◌then◌else◌}, lemmas.Bool.{cases_eq, Decides.nat_tests}}
 use Rattle.guard_analysis.specs.SectionGrades.{earlier, earliest_before}
 
 -- one of the two, and before each of them that is a rule

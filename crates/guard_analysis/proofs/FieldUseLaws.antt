@@ -1,31 +1,14 @@
 -- Which fields are written without their guard, and how each may be read.
-use Rattle.std.proofs.Common.{◌≡◌, ◌≢◌, ℕ, zero, suc, ◌<◌, Bool, true, false, ◌&&◌, ◌||◌, List, [], ◌∷◌, length, replicate, Option, Some, None, refl, sym, ap, subst, ◌∙◌, arith, ⊎_elim, ◌⊎◌, inl, inr}
-use Rattle.std.specs.Prelude.{nat_lt, if◌then◌else◌, slice_get, slice_set, slice_index_or}
-use Rattle.std.specs.List.{list_any}
-use Rattle.std.proofs.lemmas.Bool.{cases_eq}
-use Rattle.std.proofs.lemmas.Bool.Decides.{nat_tests}
-use Rattle.std.proofs.lemmas.List.{length-replicate, length-set}
-use Rattle.std.proofs.lemmas.Option.{slice_get_within, same_Some}
-use Rattle.jvm_types.specs.CodeTable.{is_init}
-use Rattle.jvm_types.specs.Members.{is_static}
-use Rattle.jvm_types.specs.ProgramInvariant.{IsProgram, IsTargetOf, site_in}
-use Rattle.jvm_types.specs.declared.code.Insn.{Insn}
-use Rattle.jvm_types.specs.declared.code.Op.{Op}
-use Rattle.jvm_types.specs.declared.code.Op.TheVariants as ops
-use Rattle.jvm_types.specs.declared.program.Target.{Target}
-use Rattle.jvm_types.specs.declared.program.Target.TheVariants as targets
-use Rattle.jvm_types.specs.declared.program.FieldInfo.{FieldInfo}
-use Rattle.jvm_types.specs.declared.program.MethodInfo.{MethodInfo}
-use Rattle.jvm_types.specs.declared.program.Program.{Program}
-use Rattle.checked_program.specs.LockTags.{TagShape, is_this}
-use Rattle.checked_program.specs.TaggedCode.{Tagged, IsAt, tagged_by}
-use Rattle.checked_program.specs.FrozenPlaces.{PutsGuarded, PutsStatic, WritesGuarded, locks_this, writes_class}
-use Rattle.checked_program.specs.declared.tag.Tag.{Tag}
-use Rattle.checked_program.specs.declared.tag.Tag.TheVariants.{Untagged, This, At}
-use Rattle.checked_program.specs.declared.tag.Tags.{Tags}
+use Rattle.std.proofs.Common.{◌≡◌, ◌≢◌, ℕ, zero, suc, ◌<◌, Bool, true, false, ◌&&◌, ◌||◌, List, [], ◌∷◌, length, replicate, Option, Some, None, refl, sym, ap, subst, ◌∙◌, arith, ⊎_elim, ◌⊎◌, inl, inr, nat_lt, if◌then◌else◌, slice_get, slice_set, slice_index_or}
+use Rattle.std.{specs.List.list_any, proofs.lemmas.{Bool.{cases_eq, Decides.nat_tests}, List.{length-replicate, length-set}, Option.{slice_get_within, same_Some}}}
+use Rattle.jvm_types.specs.{CodeTable.is_init, Members.is_static, ProgramInvariant.{IsProgram, IsTargetOf, site_in}, declared.{code.{Insn.Insn, Op.Op}, program.FieldInfo.FieldInfo}}
+use Rattle.jvm_types.specs.declared.program.{MethodInfo.MethodInfo, Program.Program, Target.Target}
+use Rattle.checked_program.specs.{FrozenPlaces.{PutsGuarded, PutsStatic, WritesGuarded, locks_this, writes_class}, LockTags.{TagShape, is_this}, TaggedCode.{Tagged, IsAt, tagged_by}}
+use Rattle.checked_program.{specs.declared.tag.{Tag.{Tag, TheVariants.{Untagged, This, At}}, Tags.Tags}, proofs.NamedFields.{sort_written, sort_written_static, target_named}}
 use Rattle.guard_analysis.specs.FieldUses.{writes_guarded, writes_class_of, unless_guarded, unguarded_write, unguarded_at, field_noted, noted_before, noted_in, unguarded_before}
-use Rattle.checked_program.proofs.NamedFields.{sort_written, sort_written_static, target_named}
 use Rattle.guard_analysis.proofs.CallEdges.{with_tags, frames_there}
+use Rattle.jvm_types.specs.declared.code.Op.TheVariants as ops
+use Rattle.jvm_types.specs.declared.program.Target.TheVariants as targets
 
 -- ---- flags
 

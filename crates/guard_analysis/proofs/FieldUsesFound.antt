@@ -1,23 +1,11 @@
 -- How each field may be read, from what its class, its flags and all writes say.
-use Rattle.std.proofs.Common.{◌≡◌, ◌≢◌, ℕ, zero, suc, ◌+◌, ◌-◌, ◌<◌, ◌≤◌, Bool, true, false, not, ◌&&◌, ◌||◌, List, [], ◌∷◌, length, Option, Some, None, refl, sym, ap, subst, ◌∙◌, arith, ⊎_elim, inl, inr, ◌⊎◌}
-use Rattle.std.specs.Prelude.{nat_lt, if◌then◌else◌, slice_get, slice_index_or}
-use Rattle.std.proofs.lemmas.Bool.{cases_eq}
-use Rattle.std.proofs.lemmas.Bool.Decides.{nat_tests}
-use Rattle.std.proofs.lemmas.List.{length-append, get_or_append_left, get_or_push}
-use Rattle.std.proofs.lemmas.Option.{slice_get_within, get_or_from_slice_get, same_Some, slice_get-get_or}
-use Rattle.jvm_types.specs.ClassNames.{file_class}
-use Rattle.jvm_types.specs.Members.{is_private, is_static, is_final}
-use Rattle.jvm_types.specs.ProgramInvariant.{IsProgram, IsFileClass}
-use Rattle.jvm_types.specs.declared.program.FieldInfo.{FieldInfo}
-use Rattle.jvm_types.specs.declared.program.Program.{Program}
-use Rattle.checked_program.specs.TaggedCode.{tagged_by}
+use Rattle.std.proofs.Common.{◌≡◌, ◌≢◌, ℕ, zero, suc, ◌+◌, ◌-◌, ◌<◌, ◌≤◌, Bool, true, false, not, ◌&&◌, ◌||◌, List, [], ◌∷◌, length, Option, Some, None, refl, sym, ap, subst, ◌∙◌, arith, ⊎_elim, inl, inr, ◌⊎◌, nat_lt, if◌then◌else◌, slice_get, slice_index_or}
+use Rattle.std.proofs.lemmas.{Bool.{cases_eq, Decides.nat_tests}, List.{length-append, get_or_append_left, get_or_push}, Option.{slice_get_within, get_or_from_slice_get, same_Some, slice_get-get_or}}
+use Rattle.jvm_types.specs.{ClassNames.file_class, Members.{is_private, is_static, is_final}, ProgramInvariant.{IsProgram, IsFileClass}, declared.program.{FieldInfo.FieldInfo, Program.Program}}
 use Rattle.checked_program.specs.FrozenPlaces.{IsFrozenClass, IsFrozenField, IsFrozenStatic, IsFrozenUse, IsGuardedField, IsGuardedStatic, IsGuardedUse, PutsStatic, IsUse, AreUses}
-use Rattle.checked_program.specs.declared.tag.Tags.{Tags}
-use Rattle.checked_program.specs.declared.section.FieldUse.{FieldUse}
-use Rattle.checked_program.specs.declared.section.FieldUse.TheVariants.{Frozen, Guarded, Open}
-use Rattle.guard_analysis.specs.FieldUses.{unguarded_before, use_by, class_flag, use_at, uses_before}
+use Rattle.checked_program.specs.{TaggedCode.tagged_by, declared.{section.FieldUse.{FieldUse, TheVariants.{Frozen, Guarded, Open}}, tag.Tags.Tags}}
 use Rattle.frozen_classes.specs.FrozenClasses.{AreFrozenClasses, TellsFrozen}
-use Rattle.guard_analysis.proofs.FieldUseLaws.{all_guarded, some_on_another, some_elsewhere}
+use Rattle.guard_analysis.{specs.FieldUses.{unguarded_before, use_by, class_flag, use_at, uses_before}, proofs.FieldUseLaws.{all_guarded, some_on_another, some_elsewhere}}
 
 -- ---- one by one
 

@@ -1,29 +1,14 @@
 -- The grade of an instruction is the first rule by which it forbids a section of its method, which runs that so.
-use Rattle.std.proofs.Common.{◌≡◌, ℕ, zero, suc, ◌+◌, ◌*◌, ◌<◌, ◌≤◌, ◌≢◌, Bool, true, false, List, length, Option, Some, None, refl, sym, ap, subst, ◌∙◌, arith, ⊎_elim}
-use Rattle.std.specs.Prelude.{if◌then◌else◌, slice_get, slice_index, slice_index_or}
-use Rattle.std.proofs.lemmas.Bool.{cases_eq}
-use Rattle.std.proofs.lemmas.List.{length-append, get_or_append_left, get_or_push}
-use Rattle.std.proofs.lemmas.Option.{same_Some}
-use Rattle.jvm_types.specs.ProgramInvariant.{IsProgram}
-use Rattle.jvm_types.specs.declared.code.Op.{Op}
-use Rattle.jvm_types.specs.declared.code.Op.TheVariants as ops
-use Rattle.jvm_types.specs.declared.program.Target.{Target}
-use Rattle.jvm_types.specs.declared.program.Target.TheVariants as targets
-use Rattle.jvm_types.specs.declared.program.MethodInfo.{MethodInfo}
-use Rattle.jvm_types.specs.declared.program.Program.{Program}
-use Rattle.checked_program.specs.LockTags.{TagShape}
-use Rattle.checked_program.specs.TaggedCode.{Tagged, tagged_by}
-use Rattle.checked_program.specs.Marks.{Callee, callee, Calls, BreaksAt, section_fault, enter_fault, call_fault, use_fault, receiver_tag, called_mode, called_method}
-use Rattle.checked_program.specs.declared.tag.Tag.{Tag}
-use Rattle.checked_program.specs.declared.tag.Tags.{Tags}
-use Rattle.checked_program.specs.declared.section.Mode.{Mode}
-use Rattle.checked_program.specs.declared.section.FieldUse.{FieldUse}
-use Rattle.checked_program.specs.declared.section.FieldUse.TheVariants.{Frozen, Guarded, Open}
-use Rattle.guard_analysis.specs.CallGraph.{mode_number, node_of, call_at, call_node}
-use Rattle.guard_analysis.specs.Faults.{fault_at, grade_of, grade_at, grades_before, IsModeFor, AreCallees, LeadsToBreak, LeadsToItself}
-use Rattle.guard_analysis.specs.SectionGrades.{Forbids, breaks, calls, recurs, IsGrade, AreGrades}
-use Rattle.guard_analysis.proofs.CallEdges.{with_tags, frames_there, called_inside, call_parts, node_parts, node_there}
+use Rattle.std.proofs.Common.{◌≡◌, ℕ, zero, suc, ◌+◌, ◌*◌, ◌<◌, ◌≤◌, ◌≢◌, Bool, true, false, List, length, Option, Some, None, refl, sym, ap, subst, ◌∙◌, arith, ⊎_elim, if◌then◌else◌, slice_get, slice_index, slice_index_or}
+use Rattle.std.proofs.lemmas.{Bool.cases_eq, List.{length-append, get_or_append_left, get_or_push}, Option.same_Some}
+use Rattle.jvm_types.specs.{ProgramInvariant.IsProgram, declared.{code.Op.Op, program.{MethodInfo.MethodInfo, Program.Program, Target.Target}}}
+use Rattle.checked_program.specs.{LockTags.TagShape, Marks.{Callee, callee, Calls, BreaksAt, section_fault, enter_fault, call_fault, use_fault, receiver_tag, called_mode, called_method}}
+use Rattle.checked_program.specs.{TaggedCode.{Tagged, tagged_by}, declared.{section.{FieldUse.{FieldUse, TheVariants.{Frozen, Guarded, Open}}, Mode.Mode}, tag.{Tag.Tag, Tags.Tags}}}
+use Rattle.guard_analysis.specs.{CallGraph.{mode_number, node_of, call_at, call_node}, Faults.{fault_at, grade_of, grade_at, grades_before, IsModeFor, AreCallees, LeadsToBreak, LeadsToItself}}
+use Rattle.guard_analysis.{specs.SectionGrades.{Forbids, breaks, calls, recurs, IsGrade, AreGrades}, proofs.CallEdges.{with_tags, frames_there, called_inside, call_parts, node_parts, node_there}}
 use Rattle.guard_analysis.proofs.CalleesFound.{breaks_one, same_callee, fits_called}
+use Rattle.jvm_types.specs.declared.code.Op.TheVariants as ops
+use Rattle.jvm_types.specs.declared.program.Target.TheVariants as targets
 
 -- ---- no instruction breaks a rule beyond M5
 

@@ -1,20 +1,10 @@
 -- The graph of calls is one of few edges.
-use Rattle.std.proofs.Common.{◌≡◌, ℕ, zero, suc, ◌+◌, ◌*◌, ◌/◌, ◌<◌, ◌≤◌, List, [], ◌∷◌, length, Option, Some, None, refl, subst, ◌∙◌, arith}
-use Rattle.std.specs.Prelude.{slice_get, slice_index}
-use Rattle.std.specs.List.{sum_by}
+use Rattle.std.{proofs.Common.{◌≡◌, ℕ, zero, suc, ◌+◌, ◌*◌, ◌/◌, ◌<◌, ◌≤◌, List, [], ◌∷◌, length, Option, Some, None, refl, subst, ◌∙◌, arith, slice_get, slice_index}, specs.List.sum_by}
 use Rattle.std.proofs.lemmas.List.Sums.{sum_by-cons}
-use Rattle.jvm_types.specs.ProgramInvariant.{IsProgram}
-use Rattle.jvm_types.specs.declared.program.MethodInfo.{MethodInfo}
-use Rattle.jvm_types.specs.declared.program.Program.{Program}
-use Rattle.checked_program.specs.LockTags.{TagShape}
-use Rattle.checked_program.specs.Reach.{size_of}
-use Rattle.checked_program.specs.declared.tag.Tags.{Tags}
+use Rattle.jvm_types.specs.{ProgramInvariant.IsProgram, declared.program.{MethodInfo.MethodInfo, Program.Program}}
 use Rattle.graph_closure.specs.LeastSet.{IsGraph}
-use Rattle.checked_program.specs.declared.call_edges.Graph.{Graph}
-use Rattle.checked_program.proofs.EdgesAdded.{with_few}
-use Rattle.guard_analysis.specs.CallGraph.{edges_before, node_edges, graph_before, call_graph}
-use Rattle.guard_analysis.proofs.GraphEdges.{graph_alike, graph_old, the_call}
-use Rattle.guard_analysis.proofs.CallEdges.{call_parts, node_parts, node_low}
+use Rattle.checked_program.{specs.{LockTags.TagShape, Reach.size_of, declared.{call_edges.Graph.Graph, tag.Tags.Tags}}, proofs.EdgesAdded.with_few}
+use Rattle.guard_analysis.{specs.CallGraph.{edges_before, node_edges, graph_before, call_graph}, proofs.{CallEdges.{call_parts, node_parts, node_low}, GraphEdges.{graph_alike, graph_old, the_call}}}
 
 edges_few : (p : Program) (m : MethodInfo) (frames : List (Option TagShape)) (a : ℕ) (g : Graph) (i : ℕ) → length (edges_before p m frames a g i).from ≤ length g.from + i
 edges_few p m frames a g zero = omega arith

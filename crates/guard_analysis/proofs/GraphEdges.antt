@@ -1,16 +1,9 @@
 -- The edges of the graph of calls are the calls.
-use Rattle.std.proofs.Common.{◌≡◌, ℕ, zero, suc, ◌/◌, ◌<◌, ◌≢◌, List, length, Option, Some, None, refl, sym, subst, arith, ⊎_elim, inl, inr, ◌⊎◌}
-use Rattle.std.specs.Prelude.{slice_get}
-use Rattle.std.proofs.lemmas.Bool.{cases_eq}
+use Rattle.std.proofs.{Common.{◌≡◌, ℕ, zero, suc, ◌/◌, ◌<◌, ◌≢◌, List, length, Option, Some, None, refl, sym, subst, arith, ⊎_elim, inl, inr, ◌⊎◌, slice_get}, lemmas.Bool.cases_eq}
 use Rattle.std.proofs.lemmas.Option.{slice_get_within}
-use Rattle.jvm_types.specs.declared.code.Insn.{Insn}
-use Rattle.jvm_types.specs.declared.program.MethodInfo.{MethodInfo}
-use Rattle.jvm_types.specs.declared.program.Program.{Program}
-use Rattle.checked_program.specs.LockTags.{TagShape}
-use Rattle.checked_program.specs.declared.tag.Tags.{Tags}
+use Rattle.jvm_types.specs.declared.{code.Insn.Insn, program.{MethodInfo.MethodInfo, Program.Program}}
 use Rattle.graph_closure.specs.Walks.{IsEdge}
-use Rattle.checked_program.specs.declared.call_edges.Graph.{Graph}
-use Rattle.checked_program.proofs.EdgesAdded.{IsAlike, with_alike, with_kept, with_added, with_old}
+use Rattle.checked_program.{specs.{LockTags.TagShape, declared.{call_edges.Graph.Graph, tag.Tags.Tags}}, proofs.EdgesAdded.{IsAlike, with_alike, with_kept, with_added, with_old}}
 use Rattle.guard_analysis.specs.CallGraph.{mode_at, call_at, edges_before, node_edges, graph_before}
 
 -- ---- the calls of one node

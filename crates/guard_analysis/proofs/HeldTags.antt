@@ -1,10 +1,6 @@
 -- Whether the monitor of `this` is among the held ones, one after the other.
-use Rattle.std.proofs.Common.{◌≡◌, ℕ, zero, suc, ◌+◌, ◌<◌, true, false, List, [], ◌∷◌, length, drop, refl, sym, ◌∙◌, arith, ◌||◌}
-use Rattle.std.specs.Prelude.{slice_index_or}
-use Rattle.std.specs.List.{list_any}
-use Rattle.checked_program.specs.LockTags.{is_this}
-use Rattle.checked_program.specs.declared.tag.Tag.{Tag}
-use Rattle.checked_program.specs.declared.tag.Tag.TheVariants.{Untagged}
+use Rattle.std.{proofs.Common.{◌≡◌, ℕ, zero, suc, ◌+◌, ◌<◌, true, false, List, [], ◌∷◌, length, drop, refl, sym, ◌∙◌, arith, ◌||◌, slice_index_or}, specs.List.list_any}
+use Rattle.checked_program.specs.{LockTags.is_this, declared.tag.Tag.{Tag, TheVariants.Untagged}}
 
 any_next : (held : List Tag) (i : ℕ) → i < length held → list_any is_this (drop i held) ≡ (is_this (slice_index_or held i Untagged) || list_any is_this (drop (suc i) held))
 any_next [] i l = absurd (omega (arith, l))

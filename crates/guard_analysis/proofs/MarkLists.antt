@@ -1,29 +1,12 @@
 -- Marks one behind the other complete the marks of all sections.
-use Rattle.std.proofs.Common.{◌≡◌, ℕ, zero, suc, ◌+◌, ◌<◌, ◌≤◌, true, List, [], ◌∷◌, ◌++◌, length, map, drop, Option, Some, None, refl, sym, ap, subst, ◌∙◌, arith, append_assoc}
-use Rattle.std.specs.Prelude.{if◌then◌else◌, slice_get, slice_index}
-use Rattle.std.specs.List.{AllZip, filter_map, cons_option}
-use Rattle.std.specs.Option.{option_to_list}
-use Rattle.std.proofs.lemmas.List.{map-append}
-use Rattle.jvm_types.specs.Members.{is_synchronized}
-use Rattle.jvm_types.specs.declared.code.Insn.{Insn}
-use Rattle.jvm_types.specs.declared.code.Op.{Op}
-use Rattle.jvm_types.specs.declared.code.Op.TheVariants as ops
-use Rattle.jvm_types.specs.declared.program.MethodInfo.{MethodInfo}
-use Rattle.jvm_types.specs.declared.program.Program.{Program}
-use Rattle.checked_program.specs.LockTags.{TagShape}
-use Rattle.checked_program.specs.TaggedCode.{Tagged}
-use Rattle.checked_program.specs.MarkedProgram.{AreTaggings}
-use Rattle.checked_program.specs.declared.tag.Tags.{Tags}
-use Rattle.checked_program.specs.Sections.{Section, block_at, spots_of, sections, sections_from}
-use Rattle.checked_program.specs.Marks.{IsMarkOf}
-use Rattle.checked_program.specs.declared.section.Spot.{Spot}
-use Rattle.checked_program.specs.declared.section.Spot.TheVariants.{Method, Block}
-use Rattle.checked_program.specs.declared.section.SectionMark.{SectionMark}
-use Rattle.checked_program.specs.declared.section.FieldUse.{FieldUse}
-use Rattle.guard_analysis.specs.BlockWalks.{IsExplored}
-use Rattle.guard_analysis.specs.SectionGrades.{earliest_before, IsBlockMark, section_in, sections_at, whole_of, Continues, Marks, MarksUpTo}
-use Rattle.guard_analysis.specs.declared.block_walk.Walk.{Walk}
+use Rattle.std.proofs.Common.{◌≡◌, ℕ, zero, suc, ◌+◌, ◌<◌, ◌≤◌, true, List, [], ◌∷◌, ◌++◌, length, map, drop, Option, Some, None, refl, sym, ap, subst, ◌∙◌, arith, append_assoc, if◌then◌else◌, slice_get, slice_index}
+use Rattle.std.{specs.{List.{AllZip, filter_map, cons_option}, Option.option_to_list}, proofs.lemmas.List.map-append}
+use Rattle.jvm_types.specs.{Members.is_synchronized, declared.{code.{Insn.Insn, Op.Op}, program.{MethodInfo.MethodInfo, Program.Program}}}
+use Rattle.checked_program.specs.{LockTags.TagShape, MarkedProgram.AreTaggings, Marks.IsMarkOf, Sections.{Section, block_at, spots_of, sections, sections_from}, TaggedCode.Tagged}
+use Rattle.checked_program.specs.declared.{section.{FieldUse.FieldUse, SectionMark.SectionMark, Spot.{Spot, TheVariants.{Method, Block}}}, tag.Tags.Tags}
+use Rattle.guard_analysis.specs.{BlockWalks.IsExplored, SectionGrades.{earliest_before, IsBlockMark, section_in, sections_at, whole_of, Continues, Marks, MarksUpTo}, declared.block_walk.Walk.Walk}
 use Rattle.guard_analysis.proofs.SectionMarks.{adds_one}
+use Rattle.jvm_types.specs.declared.code.Op.TheVariants as ops
 
 -- ---- one mark
 

@@ -1,20 +1,10 @@
 -- The first rule that forbids an own instruction is the mark of the section.
-use Rattle.std.proofs.Common.{◌≡◌, ℕ, zero, suc, ◌<◌, ◌≤◌, false, List, [], ◌∷◌, ◌++◌, length, Some, refl, sym, ap, subst, ◌∙◌, arith, append_assoc}
-use Rattle.std.specs.Prelude.{◌==◌, slice_get, slice_index}
-use Rattle.std.specs.List.{AllZip}
-use Rattle.std.proofs.lemmas.Bool.Decides.{nat_tests}
-use Rattle.std.proofs.lemmas.Option.{slice_get_within, same_Some}
-use Rattle.jvm_types.specs.declared.program.MethodInfo.{MethodInfo}
-use Rattle.jvm_types.specs.declared.program.Program.{Program}
-use Rattle.checked_program.specs.TaggedCode.{Tagged, IsInstructionReached}
-use Rattle.checked_program.specs.Sections.{Section, mode_of_method, section_mode, IsOwn}
-use Rattle.checked_program.specs.Marks.{Applies, elsewhere, itself, called, recurring, IsOnOwn, turn, HasMark, IsMarkOf}
-use Rattle.checked_program.specs.declared.section.Spot.TheVariants.{Method}
-use Rattle.checked_program.specs.declared.section.SectionMark.{SectionMark}
-use Rattle.checked_program.specs.declared.section.Mode.{Mode}
-use Rattle.checked_program.specs.declared.section.FieldUse.{FieldUse}
-use Rattle.guard_analysis.specs.SectionGrades.{earliest_before, Forbids, breaks, calls, recurs, IsGrade, AreGrades, section_in, Continues}
-use Rattle.guard_analysis.proofs.Earliest.{IsEarliest, earliest_is}
+use Rattle.std.{proofs.Common.{◌≡◌, ℕ, zero, suc, ◌<◌, ◌≤◌, false, List, [], ◌∷◌, ◌++◌, length, Some, refl, sym, ap, subst, ◌∙◌, arith, append_assoc, ◌==◌, slice_get, slice_index}, specs.List.AllZip}
+use Rattle.std.proofs.lemmas.{Bool.Decides.nat_tests, Option.{slice_get_within, same_Some}}
+use Rattle.jvm_types.specs.declared.program.{MethodInfo.MethodInfo, Program.Program}
+use Rattle.checked_program.specs.{Marks.{Applies, elsewhere, itself, called, recurring, IsOnOwn, turn, HasMark, IsMarkOf}, Sections.{Section, mode_of_method, section_mode, IsOwn}}
+use Rattle.checked_program.specs.{TaggedCode.{Tagged, IsInstructionReached}, declared.section.{FieldUse.FieldUse, Mode.Mode, SectionMark.SectionMark, Spot.TheVariants.Method}}
+use Rattle.guard_analysis.{specs.SectionGrades.{earliest_before, Forbids, breaks, calls, recurs, IsGrade, AreGrades, section_in, Continues}, proofs.Earliest.{IsEarliest, earliest_is}}
 use Rattle.guard_analysis.proofs.Grading.{forbids_low}
 
 -- ---- one section

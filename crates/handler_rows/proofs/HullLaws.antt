@@ -1,12 +1,8 @@
 -- Bounds on rows.
-use Rattle.std.proofs.Common.{◌≡◌, ℕ, zero, suc, ◌<◌, ◌≤◌, Bool, false, List, [], ◌∷◌, length, take, drop, Some, refl, ap, ◌∙◌, ◌+◌, add-one, subst, arith}
-use Rattle.std.specs.Prelude.{if◌then◌else◌, slice_get, slice_index_or}
-use Rattle.std.specs.List.{AllByRecursion}
-use Rattle.std.proofs.lemmas.Bool.Decides.{nat_tests}
+use Rattle.std.proofs.Common.{◌≡◌, ℕ, zero, suc, ◌<◌, ◌≤◌, Bool, false, List, [], ◌∷◌, length, take, drop, Some, refl, ap, ◌∙◌, ◌+◌, add-one, subst, arith, if◌then◌else◌, slice_get, slice_index_or}
+use Rattle.std.{specs.List.AllByRecursion, proofs.lemmas.Bool.Decides.nat_tests}
 use Rattle.jvm_types.specs.declared.program.Row.{Row}
-use Rattle.handler_rows.specs.declared.hull.Hull.{Hull}
-use Rattle.handler_rows.specs.HandlerRows.{is_picked, picked, AreRowsPassed}
-use Rattle.handler_rows.specs.Hulls.{IsWithin, IsWider, IsHull, AreHulls, may_have}
+use Rattle.handler_rows.specs.{HandlerRows.{is_picked, picked, AreRowsPassed}, Hulls.{IsWithin, IsWider, IsHull, AreHulls, may_have}, declared.hull.Hull.Hull}
 
 -- ---- one hull
 

@@ -1,12 +1,7 @@
 -- Rows that are picked.
-use Rattle.std.proofs.Common.{◌≡◌, ℕ, zero, suc, ◌+◌, ◌<◌, length, Bool, true, false, List, [], ◌∷◌, drop, Option, Some, None, refl, sym, ap, ◌∙◌, add-one, subst, arith}
-use Rattle.std.specs.Prelude.{◌&&◌, ◌||◌, nat_le, if◌then◌else◌, slice_index_or}
-use Rattle.std.specs.List.{list_any, filter}
-use Rattle.std.specs.Option.{is_some, IfSome, IfNone}
-use Rattle.std.proofs.lemmas.Bool.Decides.{nat_tests}
-use Rattle.std.proofs.lemmas.List.{drop_all}
-use Rattle.jvm_types.specs.Verifying.{covers}
-use Rattle.jvm_types.specs.declared.program.Row.{Row}
+use Rattle.std.proofs.Common.{◌≡◌, ℕ, zero, suc, ◌+◌, ◌<◌, length, Bool, true, false, List, [], ◌∷◌, drop, Option, Some, None, refl, sym, ap, ◌∙◌, add-one, subst, arith, ◌&&◌, ◌||◌, nat_le, if◌then◌else◌, slice_index_or}
+use Rattle.std.{specs.{List.{list_any, filter}, Option.{is_some, IfSome, IfNone}}, proofs.lemmas.{Bool.Decides.nat_tests, List.drop_all}}
+use Rattle.jvm_types.specs.{Verifying.covers, declared.program.Row.Row}
 use Rattle.handler_rows.specs.HandlerRows.{is_picked, picked, IsNextPicked, AreRowsPassed}
 
 -- from 0 on every row that covers is picked

@@ -1,11 +1,8 @@
 -- Runs, step by step.
-use Rattle.std.proofs.Common.{◌≡◌, ℕ, zero, suc, ◌+◌, ◌<◌, List, [], ◌∷◌, length, take, drop, get_or, Option, Some, None, ap, subst, ◌∙◌, arith}
-use Rattle.std.specs.Option.{option_and_then}
+use Rattle.std.{proofs.Common.{◌≡◌, ℕ, zero, suc, ◌+◌, ◌<◌, List, [], ◌∷◌, length, take, drop, get_or, Option, Some, None, ap, subst, ◌∙◌, arith}, specs.Option.option_and_then}
 use Rattle.jvm_types.specs.declared.program.Program.{Program}
 use Rattle.checked_program.specs.MarkedProgram.{MarkedProgram}
-use Rattle.machine_types.specs.PlainState.{Plain}
-use Rattle.machine_types.specs.PlainSteps.{plain_run, plain_step}
-use Rattle.machine_types.specs.declared.plain.PlainStep.{PlainStep}
+use Rattle.machine_types.specs.{PlainState.Plain, PlainSteps.{plain_run, plain_step}, declared.plain.PlainStep.PlainStep}
 use Rattle.history_rule.specs.Steps.{IsPlayedOn, Played}
 
 -- one step more of a run that was made

@@ -1,25 +1,16 @@
 -- No instruction makes an object that is larger than the heap.
-use Rattle.std.proofs.Common.{◌≡◌, ◌≤◌, ℕ, Bool, true, false, List, [], ◌∷◌, length, Option, Some, None, refl, arith}
-use Rattle.std.specs.Prelude.{pos, ◌==◌, nat_lt, int_lt, slice_get, slice_index, if◌then◌else◌}
+use Rattle.std.proofs.Common.{◌≡◌, ◌≤◌, ℕ, Bool, true, false, List, [], ◌∷◌, length, Option, Some, None, refl, arith, pos, ◌==◌, nat_lt, int_lt, slice_get, slice_index, if◌then◌else◌}
 use Rattle.std.proofs.lemmas.Bool.Decides.{nat_tests}
-use Rattle.jvm_types.specs.ProgramInvariant.{IsProgram}
-use Rattle.jvm_types.specs.declared.class_numbers.TheConstants.{INT_ARRAY_CLASS}
-use Rattle.jvm_types.specs.declared.code.Op.{Op}
+use Rattle.jvm_types.specs.{ProgramInvariant.IsProgram, declared.{class_numbers.TheConstants.INT_ARRAY_CLASS, code.Op.Op, program.{FieldInfo.FieldInfo, MethodInfo.MethodInfo, Program.Program}}}
+use Rattle.jvm_types.specs.declared.program.Target.{Target}
+use Rattle.checked_program.proofs.FewFields.{few_fields}
+use Rattle.machine_types.specs.Effects.{at_local, unless_null, unless_zero, variable_of, kept, gets_static, puts_static, gets, puts, calls_on, calls_instance, calls_static, makes_array, named, effect}
+use Rattle.machine_types.specs.{Frames.{Top, effect_at}, Ints.{low, int_of, word_of, added, divided, remaining}, Words.{header, array_size}, declared.effect.Effect.Effect}
+use Rattle.machine_types.specs.declared.effect.Effect.TheVariants.{Goes, Throws, Reads, Writes, Indexes, Measures, Raises, Makes, Prints, Calls, Enters, Waits, Notifies, NotifiesAll, Stuck}
+use Rattle.history_rule.specs.Small.{MakesSmall}
 use Rattle.jvm_types.specs.declared.code.Op.TheVariants as ops
 use Rattle.jvm_types.specs.declared.outcome.Thrown.TheVariants as thrown
-use Rattle.jvm_types.specs.declared.program.FieldInfo.{FieldInfo}
-use Rattle.jvm_types.specs.declared.program.MethodInfo.{MethodInfo}
-use Rattle.jvm_types.specs.declared.program.Program.{Program}
-use Rattle.jvm_types.specs.declared.program.Target.{Target}
 use Rattle.jvm_types.specs.declared.program.Target.TheVariants as targets
-use Rattle.checked_program.proofs.FewFields.{few_fields}
-use Rattle.machine_types.specs.declared.effect.Effect.{Effect}
-use Rattle.machine_types.specs.declared.effect.Effect.TheVariants.{Goes, Throws, Reads, Writes, Indexes, Measures, Raises, Makes, Prints, Calls, Enters, Waits, Notifies, NotifiesAll, Stuck}
-use Rattle.machine_types.specs.Effects.{at_local, unless_null, unless_zero, variable_of, kept, gets_static, puts_static, gets, puts, calls_on, calls_instance, calls_static, makes_array, named, effect}
-use Rattle.machine_types.specs.Frames.{Top, effect_at}
-use Rattle.machine_types.specs.Ints.{low, int_of, word_of, added, divided, remaining}
-use Rattle.machine_types.specs.Words.{header, array_size}
-use Rattle.history_rule.specs.Small.{MakesSmall}
 
 -- ---- by a test that comes first
 

@@ -1,33 +1,23 @@
 -- A step of the plain machine leaves its numbers small.
-use Rattle.std.proofs.Common.{◌≡◌, ◌<◌, ◌≤◌, ◌+◌, ◌*◌, ◌^◌, ℕ, zero, suc, Bool, true, false, List, [], ◌∷◌, ◌++◌, map, Option, Some, None, refl, subst, arith}
-use Rattle.std.specs.Prelude.{◌==◌, nat_lt, nat_le, not, filter, option_map, option_and_then, slice_get, slice_set, if◌then◌else◌}
+use Rattle.std.proofs.Common.{◌≡◌, ◌<◌, ◌≤◌, ◌+◌, ◌*◌, ◌^◌, ℕ, zero, suc, Bool, true, false, List, [], ◌∷◌, ◌++◌, map, Option, Some, None, refl, subst, arith, ◌==◌, nat_lt, nat_le, not, filter, option_map, option_and_then, slice_get, slice_set, if◌then◌else◌}
 use Rattle.std.specs.List.{AllByRecursion, list_any, range_with_len}
 use Rattle.lists.proofs.ListLaws.{all_weaker, same_some}
-use Rattle.jvm_types.specs.ProgramInvariant.{IsProgram}
-use Rattle.jvm_types.specs.declared.outcome.End.TheVariants as ends
-use Rattle.jvm_types.specs.declared.outcome.Thrown.TheVariants.{ArrayIndexOutOfBoundsException, IllegalMonitorStateException, NullPointerException, OutOfMemoryError}
-use Rattle.jvm_types.specs.declared.program.MethodInfo.{MethodInfo}
-use Rattle.jvm_types.specs.declared.program.Program.{Program}
-use Rattle.machine_types.specs.declared.effect.Effect.{Effect}
-use Rattle.machine_types.specs.declared.effect.Effect.TheVariants.{Writes, Indexes, Makes, Prints, Returns, Leaves, Waits, Notifies, NotifiesAll}
-use Rattle.machine_types.specs.Effects.{read_by}
-use Rattle.machine_types.specs.Frames.{Top, effect_at, making, pushed, top_of, went_on}
-use Rattle.machine_types.specs.Ints.{int_of, low}
-use Rattle.machine_types.specs.declared.phase.After.{After}
-use Rattle.machine_types.specs.declared.phase.After.TheVariants as afters
-use Rattle.machine_types.specs.Onward.{Onward, Running, after, dispatched, done, returns, rooted, threw}
-use Rattle.machine_types.specs.Onward as onward
-use Rattle.machine_types.specs.Parts.{done_roots, init_roots}
+use Rattle.jvm_types.specs.{ProgramInvariant.IsProgram, declared.outcome.Thrown.TheVariants.{ArrayIndexOutOfBoundsException, IllegalMonitorStateException, NullPointerException, OutOfMemoryError}}
+use Rattle.jvm_types.specs.declared.program.{MethodInfo.MethodInfo, Program.Program}
+use Rattle.machine_types.specs.{Effects.read_by, Frames.{Top, effect_at, making, pushed, top_of, went_on}, Ints.{int_of, low}}
+use Rattle.machine_types.specs.{Onward.{Onward, Running, after, dispatched, done, returns, rooted, threw}, Parts.{done_roots, init_roots}}
 use Rattle.machine_types.specs.PlainInstructions.{plain_did, got_by, if_plain_held, if_left, plain_indexed, indexed_in, plain_instructed, plain_leaves, plain_leaving, plain_made}
 use Rattle.machine_types.specs.PlainMemory.{new_object}
 use Rattle.machine_types.specs.PlainState.{Holding, Plain, PlainThread, Status, Ready, Run, Throw, Enter, Leave, Wait, Notify, NotifyAll, Waiting, Woken, Ended, first_thread, plain_goes_on, held_by, holding_at, is_holder, let_go, plain_start, plain_root_over, plain_start_thread, value_at, with_holding, with_status, with_thread, written}
 use Rattle.machine_types.specs.PlainSteps.{all_notified, plain_begins, plain_begun, plain_entered, exited, is_due, left, may_do_done, notified, plain_step, retaken, step_at, step_of, waited, waits_on, wakes, wakes_one, woken}
-use Rattle.machine_types.specs.Words.{header_length, value_word, variable_word}
-use Rattle.machine_types.specs.declared.plain.Act.{Act}
-use Rattle.machine_types.specs.declared.plain.Act.TheVariants as acts
+use Rattle.machine_types.specs.{Words.{header_length, value_word, variable_word}, declared.effect.Effect.Effect}
+use Rattle.machine_types.specs.declared.{effect.Effect.TheVariants.{Writes, Indexes, Makes, Prints, Returns, Leaves, Waits, Notifies, NotifiesAll}, phase.After.After, plain.Act.Act}
 use Rattle.machine_types.specs.declared.plain.PlainStep.{PlainStep}
-use Rattle.history_rule.specs.Small.{IsSmall, HasRoomForStep, MakesSmall, waiting_depth}
-use Rattle.history_rule.proofs.SmallEffects.{top_small}
+use Rattle.history_rule.{specs.Small.{IsSmall, HasRoomForStep, MakesSmall, waiting_depth}, proofs.SmallEffects.top_small}
+use Rattle.jvm_types.specs.declared.outcome.End.TheVariants as ends
+use Rattle.machine_types.specs.declared.phase.After.TheVariants as afters
+use Rattle.machine_types.specs.Onward as onward
+use Rattle.machine_types.specs.declared.plain.Act.TheVariants as acts
 
 -- ---- lists
 

@@ -1,15 +1,8 @@
 -- Files that are read from a shelf, name by name.
-use Rattle.std.proofs.Common.{◌≡◌, ℕ, ◌+◌, ◌<◌, ◌≤◌, Bool, true, false, cond, List, [], ◌∷◌, ◌++◌, length, map, take, replicate, Option, Some, None, refl, sym, ap, ◌∙◌, arith}
-use Rattle.std.proofs.lemmas.Bool.{le-ltb, lt-ltb}
-use Rattle.std.proofs.lemmas.List.{length-map, length-append, length-replicate, take_at}
-use Rattle.std.specs.Global.{Global}
-use Rattle.std.specs.Prelude.{IfSome, Ok, Err, String, string_bytes}
-use Rattle.std.specs.List.{AllByRecursion, position_from}
-use Rattle.host_io.specs.Shelf.{FailsBy, IsRead, content_of}
+use Rattle.std.proofs.Common.{◌≡◌, ℕ, ◌+◌, ◌<◌, ◌≤◌, Bool, true, false, cond, List, [], ◌∷◌, ◌++◌, length, map, take, replicate, Option, Some, None, refl, sym, ap, ◌∙◌, arith, IfSome, Ok, Err, String, string_bytes}
+use Rattle.std.{specs.{Global.Global, List.{AllByRecursion, position_from}}, proofs.lemmas.{Bool.{le-ltb, lt-ltb}, List.{length-map, length-append, length-replicate, take_at}}}
 use Rattle.jvm_types.specs.declared.limits.TheConstants.{MOST_FILE_BYTES}
-use Rattle.host_io.specs.Reading.{FailsWhereTold, IsLong, IsUnread, contents_of, first_long}
-use Rattle.host_io.specs.declared.shelf.NamedFile.{NamedFile}
-use Rattle.host_io.specs.declared.shelf.ShelfError.{ShelfError}
+use Rattle.host_io.specs.{Reading.{FailsWhereTold, IsLong, IsUnread, contents_of, first_long}, Shelf.{FailsBy, IsRead, content_of}, declared.shelf.{NamedFile.NamedFile, ShelfError.ShelfError}}
 use Rattle.host_io.specs.declared.shelf.ShelfError.TheVariants.{Memory, Failed, TooLong}
 
 abbrev pub texts : List (String Global) → List (List ℕ)

@@ -1,7 +1,6 @@
 -- A text that is written piece by piece.
-use Rattle.std.proofs.Common.{◌≡◌, ℕ, ◌+◌, ◌≤◌, List, ◌++◌, length, take, drop, Option, Some, None, refl, sym, ap, ◌∙◌, append_assoc, length-drop, arith}
+use Rattle.std.{proofs.Common.{◌≡◌, ℕ, ◌+◌, ◌≤◌, List, ◌++◌, length, take, drop, Option, Some, None, refl, sym, ap, ◌∙◌, append_assoc, length-drop, arith}, specs.Option.option_map}
 use Rattle.std.proofs.Math.Seq.{take-add}
-use Rattle.std.specs.Option.{option_map}
 
 -- behind the front that was written stands the piece that comes next
 written_more : (told : Option (List ℕ)) (text : List ℕ) (written n : ℕ) → option_map (λ t. t ++ take n (drop written text)) (option_map (λ t. t ++ take written text) told) ≡ option_map (λ t. t ++ take (written + n) text) told

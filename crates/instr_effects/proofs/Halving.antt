@@ -1,17 +1,9 @@
 -- Where keys ascend, a half of the pairs tells the target.
-use Rattle.std.proofs.Common.{◌≡◌, ℕ, zero, suc, ◌<◌, ◌-◌, ◌^◌, ◌%◌, ℤ, Bool, true, false, List, [], ◌∷◌, length, take, drop, Some, refl, sym, ap, ◌∙◌, subst, arith}
-use Rattle.std.specs.Prelude.{◌==◌, ◌<ℤ◌, ◌≤ℤ◌, int_le, slice_get, slice_index_or, FitsSigned, if◌then◌else◌}
-use Rattle.std.specs.List.{AllByRecursion}
-use Rattle.std.specs.Int.{w32, cast_unsigned, cast_signed}
-use Rattle.std.proofs.Math.Seq.{take-length}
-use Rattle.std.proofs.lemmas.Bool.{ne_eqb}
-use Rattle.std.proofs.lemmas.Int.{ints, to_z-of_z}
-use Rattle.std.proofs.lemmas.List.{length-drop}
+use Rattle.std.proofs.Common.{◌≡◌, ℕ, zero, suc, ◌<◌, ◌-◌, ◌^◌, ◌%◌, ℤ, Bool, true, false, List, [], ◌∷◌, length, take, drop, Some, refl, sym, ap, ◌∙◌, subst, arith, ◌==◌, ◌<ℤ◌, ◌≤ℤ◌, int_le, slice_get, slice_index_or, FitsSigned, if◌then◌else◌}
+use Rattle.std.{specs.{Int.{w32, cast_unsigned, cast_signed}, List.AllByRecursion}, proofs.{Math.Seq.take-length, lemmas.{Bool.ne_eqb, Int.{ints, to_z-of_z}, List.length-drop}}}
 use Rattle.std.proofs.lemmas.Option.{slice_get-get_or}
-use Rattle.jvm_types.specs.CodeGrammar.{KeysAscend}
-use Rattle.jvm_types.specs.declared.code.Case.{Case}
-use Rattle.machine_types.specs.Effects.{case_target}
-use Rattle.machine_types.specs.Ints.{low, word_of, int_of}
+use Rattle.jvm_types.specs.{CodeGrammar.KeysAscend, declared.code.Case.Case}
+use Rattle.machine_types.specs.{Effects.case_target, Ints.{low, word_of, int_of}}
 use Rattle.instr_effects.specs.SwitchKeys.{AreKeys}
 
 abbrev AreInts : List Case → Type 0

@@ -1,21 +1,12 @@
 -- What a lawful thread gives the phases that follow an instruction.
-use Rattle.std.proofs.Common.{◌≡◌, ◌<◌, ℕ, List, [], ◌∷◌, length, Option, Some, None, refl, sym, ◌∙◌, subst, arith}
-use Rattle.std.specs.Prelude.{IsSome}
+use Rattle.std.proofs.Common.{◌≡◌, ◌<◌, ℕ, List, [], ◌∷◌, length, Option, Some, None, refl, sym, ◌∙◌, subst, arith, IsSome}
 use Rattle.lists.proofs.ListLaws.{same_some}
-use Rattle.jvm_types.specs.declared.outcome.Thrown.{Thrown}
-use Rattle.jvm_types.specs.declared.program.Row.{Row}
+use Rattle.jvm_types.specs.declared.{outcome.Thrown.Thrown, program.Row.Row}
 use Rattle.checked_program.specs.MarkedProgram.{MarkedProgram, IsMarked}
-use Rattle.machine_types.specs.Bounds.{FramesFit}
-use Rattle.machine_types.specs.Frames.{Top, handler_at, top_of}
-use Rattle.machine_types.specs.Lawful.{IsLawful, within}
-use Rattle.machine_types.specs.Threads.{Frame, Thread}
-use Rattle.machine_types.specs.Typed.{FramesHold, FramesThrown, PhaseHolds}
-use Rattle.machine_types.specs.declared.phase.Phase.{Phase}
-use Rattle.machine_types.specs.declared.phase.Phase.TheVariants.{Element, Made, Throw}
+use Rattle.machine_types.specs.{Bounds.FramesFit, Frames.{Top, handler_at, top_of}, Lawful.{IsLawful, within}, Threads.{Frame, Thread}, Typed.{FramesHold, FramesThrown, PhaseHolds}}
+use Rattle.machine_types.specs.declared.phase.Phase.{Phase, TheVariants.{Element, Made, Throw}}
+use Rattle.laws_threads.{specs.TopFrames.StandsAt, proofs.{Callers.handlers_fit, TopStand.{made_stand, thrown_stand}}}
 use Rattle.frames.specs.FrameLists.{top, max_stack}
-use Rattle.laws_threads.specs.TopFrames.{StandsAt}
-use Rattle.laws_threads.proofs.Callers.{handlers_fit}
-use Rattle.laws_threads.proofs.TopStand.{made_stand, thrown_stand}
 use Rattle.instr_steps.specs.Places.{IsTopAt, Place, at_place}
 
 some_frame_in : (phase : Phase) (frames : List Frame) (roots : List ℕ) → (FramesFit phase [] roots → ⊥) → FramesFit phase frames roots → 0 < length frames

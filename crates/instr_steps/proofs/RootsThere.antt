@@ -1,18 +1,9 @@
 -- The roots of a part are methods of the program.
-use Rattle.std.proofs.Common.{◌≡◌, ◌<◌, ℕ, zero, suc, ◌+◌, Bool, true, false, List, [], ◌∷◌, ◌++◌, length, refl, subst, arith}
-use Rattle.std.specs.Prelude.{◌==◌, ◌||◌, IfSome, IsTrue, slice_get, if◌then◌else◌, codes}
-use Rattle.std.specs.List.{AllByRecursion}
-use Rattle.std.proofs.lemmas.Bool.Decides.{nat_tests}
-use Rattle.std.proofs.lemmas.Bool.{eqb-true}
+use Rattle.std.proofs.Common.{◌≡◌, ◌<◌, ℕ, zero, suc, ◌+◌, Bool, true, false, List, [], ◌∷◌, ◌++◌, length, refl, subst, arith, ◌==◌, ◌||◌, IfSome, IsTrue, slice_get, if◌then◌else◌, codes}
+use Rattle.std.{specs.List.AllByRecursion, proofs.lemmas.Bool.{eqb-true, Decides.nat_tests}}
 use Rattle.lists.proofs.ListLaws.{all_weaker}
-use Rattle.jvm_types.specs.Members.{is_class_init_name}
-use Rattle.jvm_types.specs.Numbers.{has_number}
-use Rattle.jvm_types.specs.declared.program.MethodInfo.{MethodInfo}
-use Rattle.jvm_types.specs.declared.program.Program.{Program}
-use Rattle.machine_types.specs.Bounds.{FramesFit, part_roots}
-use Rattle.machine_types.specs.Parts.{numbers_of, is_entry_named, init_roots}
-use Rattle.machine_types.specs.Threads.{Frame}
-use Rattle.machine_types.specs.declared.phase.Phase.TheVariants.{Start}
+use Rattle.jvm_types.specs.{Members.is_class_init_name, Numbers.has_number, declared.program.{MethodInfo.MethodInfo, Program.Program}}
+use Rattle.machine_types.specs.{Bounds.{FramesFit, part_roots}, Parts.{numbers_of, is_entry_named, init_roots}, Threads.Frame, declared.phase.Phase.TheVariants.Start}
 
 all_of : (P : ℕ → Type 0) (xs ys : List ℕ) → AllByRecursion P xs → AllByRecursion P ys → AllByRecursion P (xs ++ ys)
 all_of P [] ys a b = b

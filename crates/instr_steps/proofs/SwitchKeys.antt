@@ -1,17 +1,8 @@
 -- The keys of each `lookupswitch` of a program ascend, since its code is spelled so.
-use Rattle.std.proofs.Common.{◌≡◌, ℕ, zero, suc, List, [], ◌∷◌, Option, Some, None, sym, ap, ◌∙◌, subst}
-use Rattle.std.specs.Prelude.{slice_get, IsSomeAnd, FitsSigned}
-use Rattle.std.specs.Int.{w32}
-use Rattle.jvm_types.specs.CodeTable.{Form, Plain, Byte, Short, SignedByte, SignedShort, Branch, WideBranch, LocalAndStep, IntArray, Table, Lookup, form_of, branches_to}
+use Rattle.std.{proofs.Common.{◌≡◌, ℕ, zero, suc, List, [], ◌∷◌, Option, Some, None, sym, ap, ◌∙◌, subst, slice_get, IsSomeAnd, FitsSigned}, specs.Int.w32}
 use Rattle.jvm_types.specs.CodeGrammar.{SpellsInsns, SpellsOperands, offset}
-use Rattle.jvm_types.specs.Verifying.{IsLaidOut}
-use Rattle.jvm_types.specs.declared.code.Case.{Case}
-use Rattle.jvm_types.specs.declared.code.Insn.{Insn}
-use Rattle.jvm_types.specs.declared.code.Op.{Op}
-use Rattle.jvm_types.specs.declared.code.Op.TheVariants.{Lookupswitch}
-use Rattle.jvm_types.specs.declared.program.MethodInfo.{MethodInfo}
-use Rattle.jvm_types.proofs.CodeLaws.{FormHolds, form_holds}
-use Rattle.jvm_types.proofs.CodeReading.{FormLaw}
+use Rattle.jvm_types.specs.{CodeTable.{Form, Plain, Byte, Short, SignedByte, SignedShort, Branch, WideBranch, LocalAndStep, IntArray, Table, Lookup, form_of, branches_to}, Verifying.IsLaidOut}
+use Rattle.jvm_types.{specs.declared.{code.{Case.Case, Insn.Insn, Op.{Op, TheVariants.Lookupswitch}}, program.MethodInfo.MethodInfo}, proofs.{CodeLaws.{FormHolds, form_holds}, CodeReading.FormLaw}}
 use Rattle.jvm_types.proofs.EachAfter.{all_weaker}
 use Rattle.instr_effects.specs.SwitchKeys.{AreKeys}
 

@@ -1,23 +1,14 @@
 -- An attribute that is read is spelled so and keeps its rules, and what is spelled so is read again.
-use Rattle.std.proofs.Common.{◌≡◌, ℕ, ◌+◌, ◌^◌, ◌<◌, Bool, true, false, cond, List, [], ◌∷◌, ◌++◌, length, Result, Ok, Err, refl, sym, ap, subst, ◌∙◌, append_assoc}
-use Rattle.std.specs.Prelude.{slice_get, codes}
+use Rattle.std.proofs.Common.{◌≡◌, ℕ, ◌+◌, ◌^◌, ◌<◌, Bool, true, false, cond, List, [], ◌∷◌, ◌++◌, length, Result, Ok, Err, refl, sym, ap, subst, ◌∙◌, append_assoc, slice_get, codes}
 use Rattle.std.proofs.lemmas.List.{append-nil}
-use Rattle.jvm_types.specs.Numbers.{u2, u4}
-use Rattle.jvm_types.specs.Spelling.{counted, attr, handler, code_body, member_attr}
-use Rattle.jvm_types.specs.Pool.{IsTextAt}
-use Rattle.jvm_types.specs.declared.index_kind.IndexKind.TheVariants as kinds
-use Rattle.jvm_types.specs.declared.class_file.Constant.{Constant}
-use Rattle.jvm_types.specs.declared.class_file.Attr.{Attr}
-use Rattle.jvm_types.specs.declared.class_file.Handler.{Handler}
-use Rattle.jvm_types.specs.declared.class_file.Code.{Code}
-use Rattle.jvm_types.specs.declared.class_file.MemberAttr.{MemberAttr}
-use Rattle.jvm_types.specs.declared.class_file.MemberAttr.TheVariants as member_attrs
-use Rattle.jvm_types.specs.ClassGrammar.{IsCounted, IsIndex, IsAttr, IsNamed, IsHandler, IsCodeAttr, IsFieldAttr, IsMethodAttr}
-use Rattle.jvm_types.specs.ReadingSteps.{◌>>=◌, Fault, ended, whole, in_body}
-use Rattle.jvm_types.specs.ReadingPool.{is_text, index_at}
-use Rattle.jvm_types.specs.ReadingClass.{attr_at, table_row_at, code_at, code_attr, value_attr, field_attr_at, method_attr_at}
-use Rattle.jvm_types.proofs.StepLaws.{IsBytes, Finds, on_bind, Took, Reads, on_step, u2_reads, u2_again, u4_reads, u4_again, run_reads, run_again, counted_reads}
+use Rattle.jvm_types.specs.{ClassGrammar.{IsCounted, IsIndex, IsAttr, IsNamed, IsHandler, IsCodeAttr, IsFieldAttr, IsMethodAttr}, Numbers.{u2, u4}, Pool.IsTextAt}
+use Rattle.jvm_types.specs.{ReadingClass.{attr_at, table_row_at, code_at, code_attr, value_attr, field_attr_at, method_attr_at}, ReadingPool.{is_text, index_at}}
+use Rattle.jvm_types.specs.{ReadingSteps.{◌>>=◌, Fault, ended, whole, in_body}, Spelling.{counted, attr, handler, code_body, member_attr}, declared.class_file.{Attr.Attr, Code.Code}}
+use Rattle.jvm_types.specs.declared.class_file.{Constant.Constant, Handler.Handler, MemberAttr.MemberAttr}
 use Rattle.jvm_types.proofs.IndexLaws.{index_reads, IsTextAt-from_test, test_from_IsTextAt, no_IsTextAt, no_test}
+use Rattle.jvm_types.proofs.StepLaws.{IsBytes, Finds, on_bind, Took, Reads, on_step, u2_reads, u2_again, u4_reads, u4_again, run_reads, run_again, counted_reads}
+use Rattle.jvm_types.specs.declared.index_kind.IndexKind.TheVariants as kinds
+use Rattle.jvm_types.specs.declared.class_file.MemberAttr.TheVariants as member_attrs
 
 -- ---- attributes that are kept unread
 

@@ -1,6 +1,5 @@
 -- Numbers of a class file: what their bytes, the high one first, make of them, and the other way round.
-use Rattle.std.proofs.Common.{◌≡◌, ℕ, ◌+◌, ◌*◌, ◌/◌, ◌%◌, ◌^◌, ◌<◌, List, [], ◌∷◌, ◌++◌, refl, ap, ◌∙◌, arith}
-use Rattle.std.specs.Int.{w16, w32, w64, to_be_bytes, from_be_bytes}
+use Rattle.std.{proofs.Common.{◌≡◌, ℕ, ◌+◌, ◌*◌, ◌/◌, ◌%◌, ◌^◌, ◌<◌, List, [], ◌∷◌, ◌++◌, refl, ap, ◌∙◌, arith}, specs.Int.{w16, w32, w64, to_be_bytes, from_be_bytes}}
 use Rattle.jvm_types.specs.Numbers.{u2, u4, u8}
 
 -- ---- the number that the bytes of a number make

@@ -1,14 +1,8 @@
 -- The laws of the class grammar.
-use Rattle.std.proofs.Common.{◌≡◌, ℕ, ◌≤◌, List, length, None, Result, Ok, Err, sym, ap, ◌∙◌}
-use Rattle.std.proofs.lemmas.Result.{IfOk-at_ok, IfErr-at_err}
-use Rattle.jvm_types.specs.declared.class_file.ClassFile.{ClassFile}
-use Rattle.jvm_types.specs.ClassGrammar.{Spells}
-use Rattle.jvm_types.specs.ReadingSteps.{Fault}
-use Rattle.jvm_types.specs.ReadingClass.{read_class, fault_of, class_fault}
-use Rattle.jvm_types.specs.ClassLaws.{HasAtMostOneSpelling, SpellsAtMostOneClass, IsSpelledOrFaulty, ReadsWhatIsSpelled, FaultsLieInside}
-use Rattle.jvm_types.proofs.StepLaws.{IsBytes, Finds}
-use Rattle.jvm_types.proofs.ClassReads.{read_takes, read_again}
-use Rattle.jvm_types.proofs.FaultPlaces.{read_near}
+use Rattle.std.proofs.{Common.{◌≡◌, ℕ, ◌≤◌, List, length, None, Result, Ok, Err, sym, ap, ◌∙◌}, lemmas.Result.{IfOk-at_ok, IfErr-at_err}}
+use Rattle.jvm_types.specs.{ClassGrammar.Spells, ClassLaws.{HasAtMostOneSpelling, SpellsAtMostOneClass, IsSpelledOrFaulty, ReadsWhatIsSpelled, FaultsLieInside}}
+use Rattle.jvm_types.{specs.{ReadingClass.{read_class, fault_of, class_fault}, ReadingSteps.Fault, declared.class_file.ClassFile.ClassFile}, proofs.ClassReads.{read_takes, read_again}}
+use Rattle.jvm_types.proofs.{FaultPlaces.read_near, StepLaws.{IsBytes, Finds}}
 
 pub one_spelling : HasAtMostOneSpelling
 one_spelling a b c p q = p.spelled ∙ sym q.spelled

@@ -1,25 +1,13 @@
 -- A class that is read is spelled so and keeps its rules, and what is spelled so is read again.
-use Rattle.std.proofs.Common.{◌≡◌, ℕ, ◌-◌, ◌≤◌, Bool, true, false, cond, eqb, ltb, leb, List, [], ◌++◌, length, Some, Result, Ok, refl, sym, ap, subst, ◌∙◌, append_assoc, inl, inr}
-use Rattle.std.specs.Prelude.{◌&&◌, slice_get}
-use Rattle.std.proofs.lemmas.List.{append-nil}
-use Rattle.std.proofs.lemmas.Bool.{and_parts, and_from, eqb-true, eq-eqb, not-true, not_from_false, leb-true, le-leb, ltb-false, le-ltb}
-use Rattle.jvm_types.specs.Numbers.{u2, u4}
-use Rattle.jvm_types.specs.Spelling.{counted, constant, attr, member_attr, member, class_file}
-use Rattle.jvm_types.specs.declared.refusal.CRule.TheVariants.{C1, C2, C9, C10}
-use Rattle.jvm_types.specs.declared.index_kind.IndexKind.TheVariants as kinds
-use Rattle.jvm_types.specs.declared.class_file.Constant.{Constant}
-use Rattle.jvm_types.specs.declared.class_file.Constant.TheVariants.{Class}
-use Rattle.jvm_types.specs.declared.class_file.MemberAttr.{MemberAttr}
-use Rattle.jvm_types.specs.declared.class_file.Member.{Member}
-use Rattle.jvm_types.specs.declared.class_file.ClassFile.{ClassFile}
-use Rattle.jvm_types.specs.ClassGrammar.{Names, IsIndex, IsPool, IsAttr, IsFieldAttr, IsMethodAttr, IsMember, IsField, HasBody, IsMethod, IsClass, Spells}
-use Rattle.jvm_types.specs.ReadingSteps.{Fault, fault, whole}
-use Rattle.jvm_types.specs.ReadingPool.{index_at}
-use Rattle.jvm_types.specs.ReadingClass.{attr_at, field_attr_at, method_attr_at, member_at, field_at, has_body, method_at, class_at, read_class}
+use Rattle.std.proofs.Common.{◌≡◌, ℕ, ◌-◌, ◌≤◌, Bool, true, false, cond, eqb, ltb, leb, List, [], ◌++◌, length, Some, Result, Ok, refl, sym, ap, subst, ◌∙◌, append_assoc, inl, inr, ◌&&◌, slice_get}
+use Rattle.std.proofs.lemmas.{Bool.{and_parts, and_from, eqb-true, eq-eqb, not-true, not_from_false, leb-true, le-leb, ltb-false, le-ltb}, List.append-nil}
+use Rattle.jvm_types.specs.{ClassGrammar.{Names, IsIndex, IsPool, IsAttr, IsFieldAttr, IsMethodAttr, IsMember, IsField, HasBody, IsMethod, IsClass, Spells}, Numbers.{u2, u4}}
+use Rattle.jvm_types.specs.{ReadingClass.{attr_at, field_attr_at, method_attr_at, member_at, field_at, has_body, method_at, class_at, read_class}, ReadingPool.index_at}
+use Rattle.jvm_types.specs.{ReadingSteps.{Fault, fault, whole}, Spelling.{counted, constant, attr, member_attr, member, class_file}, declared.class_file.{ClassFile.ClassFile, Constant.Constant}}
+use Rattle.jvm_types.specs.declared.{class_file.{Constant.TheVariants.Class, Member.Member, MemberAttr.MemberAttr}, refusal.CRule.TheVariants.{C1, C2, C9, C10}}
+use Rattle.jvm_types.proofs.{AttrLaws.{attr_reads, field_attr_reads, method_attr_reads, whole_takes}, IndexLaws.index_reads, PoolLaws.{IsPoolOrNone, pool_reads}}
 use Rattle.jvm_types.proofs.StepLaws.{IsBytes, Finds, weaker, on_wanted, Took, Reads, on_step, u2_reads, u2_again, u4_reads, u4_again, counted_reads}
-use Rattle.jvm_types.proofs.IndexLaws.{index_reads}
-use Rattle.jvm_types.proofs.PoolLaws.{IsPoolOrNone, pool_reads}
-use Rattle.jvm_types.proofs.AttrLaws.{attr_reads, field_attr_reads, method_attr_reads, whole_takes}
+use Rattle.jvm_types.specs.declared.index_kind.IndexKind.TheVariants as kinds
 
 -- ---- fields and methods
 

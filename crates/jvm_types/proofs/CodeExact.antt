@@ -1,19 +1,9 @@
 -- Bytes that break no rule are code: the instructions that are read off them are spelled by them.
-use Rattle.std.proofs.Common.{◌≡◌, ℕ, zero, suc, ◌+◌, ◌<◌, ◌≤◌, ℤ, pos, Bool, true, false, List, [], ◌∷◌, length, map, Option, Some, None, Result, Ok, Err, refl, ap, sym, subst, inl, inr, ◌∙◌, arith}
-use Rattle.std.specs.Prelude.{◌⊎◌, take, drop, nat_abs, int_lt, nat_lt, not, ◌&&◌, ◌||◌, ◌==◌, if◌then◌else◌, IsSomeAnd}
-use Rattle.std.specs.List.{AllByRecursion}
-use Rattle.std.proofs.lemmas.Bool.Decides.{nat_tests}
-use Rattle.std.proofs.lemmas.List.{take-append-drop, length-take-le}
-use Rattle.jvm_types.specs.Numbers.{has_number}
-use Rattle.jvm_types.specs.CodeTable.{Form, form_of, branches_to}
-use Rattle.jvm_types.specs.CodeGrammar.{SpellsOperands, SpellsInsns, IsStart, RowFits, IsCode}
+use Rattle.std.proofs.Common.{◌≡◌, ℕ, zero, suc, ◌+◌, ◌<◌, ◌≤◌, ℤ, pos, Bool, true, false, List, [], ◌∷◌, length, map, Option, Some, None, Result, Ok, Err, refl, ap, sym, subst, inl, inr, ◌∙◌, arith, ◌⊎◌, take, drop, nat_abs, int_lt, nat_lt, not, ◌&&◌, ◌||◌, ◌==◌, if◌then◌else◌, IsSomeAnd}
+use Rattle.std.{specs.List.AllByRecursion, proofs.lemmas.{Bool.Decides.nat_tests, List.{take-append-drop, length-take-le}}}
 use Rattle.jvm_types.specs.CodeFault.{Extent, Outline, known_extent, outline_followed, with_rest, outlines, is_at, all_at, branch_fault, row_fits, handler_fault, or_else, outline_fault, code_fault, FaultlessIsCode}
-use Rattle.jvm_types.specs.declared.class_file.Handler.{Handler}
-use Rattle.jvm_types.specs.declared.code.Insn.{Insn}
-use Rattle.jvm_types.specs.declared.refusal.KRule.{KRule}
-use Rattle.jvm_types.specs.declared.refusal.KRule.TheVariants.{K3, K4, K5}
-use Rattle.jvm_types.proofs.CodeLaws.{outline_of, outlines_back, starts_of}
-use Rattle.jvm_types.specs.ReadCode.{op_of, with_insn, insns_of}
+use Rattle.jvm_types.specs.{CodeGrammar.{SpellsOperands, SpellsInsns, IsStart, RowFits, IsCode}, CodeTable.{Form, form_of, branches_to}, Numbers.has_number, ReadCode.{op_of, with_insn, insns_of}}
+use Rattle.jvm_types.{specs.declared.{class_file.Handler.Handler, code.Insn.Insn, refusal.KRule.{KRule, TheVariants.{K3, K4, K5}}}, proofs.CodeLaws.{outline_of, outlines_back, starts_of}}
 use Rattle.jvm_types.proofs.CodeWhole.{Lands, AreBytes, IsWhole, whole, both_are, count_is_whole}
 
 -- ---- the instructions

@@ -1,16 +1,10 @@
 -- Code breaks no rule, and spells one list of instructions.
-use Rattle.std.proofs.Common.{◌≡◌, ℕ, ◌+◌, ◌<◌, ◌≤◌, pos, Bool, true, false, List, [], ◌∷◌, ◌++◌, length, map, Option, Some, None, Ok, refl, ap, inl, inr, ◌∙◌, arith}
-use Rattle.std.specs.Prelude.{◌⊎◌, ◌&&◌, ◌||◌, ◌==◌, nat_lt, if◌then◌else◌, IsSomeAnd}
-use Rattle.std.specs.List.{AllByRecursion}
-use Rattle.std.proofs.lemmas.Bool.Decides.{nat_tests}
-use Rattle.jvm_types.specs.Numbers.{has_number}
-use Rattle.jvm_types.specs.CodeTable.{Form, constants, loads, stores, stack_moves, arithmetic, control, references, form_of, branches_to, FormRows, first_row}
-use Rattle.jvm_types.specs.CodeGrammar.{SpellsOperands, SpellsOp, SpellsInsns, is_start, IsStart, RowFits}
+use Rattle.std.proofs.Common.{◌≡◌, ℕ, ◌+◌, ◌<◌, ◌≤◌, pos, Bool, true, false, List, [], ◌∷◌, ◌++◌, length, map, Option, Some, None, Ok, refl, ap, inl, inr, ◌∙◌, arith, ◌⊎◌, ◌&&◌, ◌||◌, ◌==◌, nat_lt, if◌then◌else◌, IsSomeAnd}
+use Rattle.std.{specs.List.AllByRecursion, proofs.lemmas.Bool.Decides.nat_tests}
 use Rattle.jvm_types.specs.CodeFault.{Outline, known_extent, outlines, all_at, branch_fault, row_fits, handler_fault, CodeIsFaultless}
-use Rattle.jvm_types.specs.declared.class_file.Handler.{Handler}
-use Rattle.jvm_types.specs.declared.code.Insn.{Insn}
-use Rattle.jvm_types.specs.declared.code.Op.{Op}
-use Rattle.jvm_types.proofs.CodeReading.{not_negative, FormLaw, extent_with, extent_back}
+use Rattle.jvm_types.specs.CodeGrammar.{SpellsOperands, SpellsOp, SpellsInsns, is_start, IsStart, RowFits}
+use Rattle.jvm_types.specs.{CodeTable.{Form, constants, loads, stores, stack_moves, arithmetic, control, references, form_of, branches_to, FormRows, first_row}, Numbers.has_number}
+use Rattle.jvm_types.{specs.declared.{class_file.Handler.Handler, code.{Insn.Insn, Op.Op}}, proofs.CodeReading.{not_negative, FormLaw, extent_with, extent_back}}
 
 -- ---- the forms of the table
 

@@ -1,20 +1,10 @@
 -- The instructions that bytes spell, read off them: so code spells one list.
-use Rattle.std.proofs.Common.{◌≡◌, ℕ, ◌+◌, ℤ, pos, List, [], ◌∷◌, ◌++◌, length, map, Option, Some, None, refl, ap, sym, ◌∙◌, arith}
-use Rattle.std.specs.Prelude.{drop, nat_abs, IsSomeAnd, ◌-ℤ◌, ◌+ℤ◌, FitsSigned}
-use Rattle.std.specs.List.{AllByRecursion, flat_map}
-use Rattle.std.specs.Int.{w8, w32}
-use Rattle.std.proofs.lemmas.Int.{to_z-of_z}
-use Rattle.jvm_types.specs.Numbers.{s4}
-use Rattle.jvm_types.specs.CodeTable.{Form, Plain, Byte, Short, SignedByte, SignedShort, Branch, WideBranch, LocalAndStep, IntArray, Table, Lookup, form_of}
-use Rattle.jvm_types.specs.CodeGrammar.{offset, padding_size, spelled_case, SpellsTable, SpellsLookup, SpellsOperands, SpellsInsns}
-use Rattle.jvm_types.specs.CodeFault.{s4_of, landing, offsets, known_extent, SpellsOnce}
-use Rattle.jvm_types.specs.declared.code.Case.{Case}
-use Rattle.jvm_types.specs.declared.code.Insn.{Insn}
-use Rattle.jvm_types.specs.declared.code.Op.{Op}
-use Rattle.jvm_types.specs.declared.code.Op.TheVariants.{Tableswitch, Lookupswitch}
-use Rattle.jvm_types.specs.ReadCode.{table_op, cases_of, lookup_op, op_of, with_insn, insns_of}
-use Rattle.jvm_types.proofs.CodeReading.{u2_back, s2_back, s4_back, landed_near, landed_at, offsets_back, body_back, same_cons, fits_signed, count_is}
-use Rattle.jvm_types.proofs.CodeLaws.{FormHolds, form_holds, known_back}
+use Rattle.std.proofs.Common.{◌≡◌, ℕ, ◌+◌, ℤ, pos, List, [], ◌∷◌, ◌++◌, length, map, Option, Some, None, refl, ap, sym, ◌∙◌, arith, drop, nat_abs, IsSomeAnd, ◌-ℤ◌, ◌+ℤ◌, FitsSigned}
+use Rattle.std.{specs.{Int.{w8, w32}, List.{AllByRecursion, flat_map}}, proofs.lemmas.Int.to_z-of_z}
+use Rattle.jvm_types.specs.{CodeFault.{s4_of, landing, offsets, known_extent, SpellsOnce}, CodeGrammar.{offset, padding_size, spelled_case, SpellsTable, SpellsLookup, SpellsOperands, SpellsInsns}}
+use Rattle.jvm_types.specs.{CodeTable.{Form, Plain, Byte, Short, SignedByte, SignedShort, Branch, WideBranch, LocalAndStep, IntArray, Table, Lookup, form_of}, Numbers.s4}
+use Rattle.jvm_types.specs.{ReadCode.{table_op, cases_of, lookup_op, op_of, with_insn, insns_of}, declared.code.{Case.Case, Insn.Insn, Op.{Op, TheVariants.{Tableswitch, Lookupswitch}}}}
+use Rattle.jvm_types.proofs.{CodeLaws.{FormHolds, form_holds, known_back}, CodeReading.{u2_back, s2_back, s4_back, landed_near, landed_at, offsets_back, body_back, same_cons, fits_signed, count_is}}
 
 -- ---- one instruction
 

@@ -1,19 +1,10 @@
 -- Reading back what instructions spell: so code spells one list of them, and breaks no rule.
-use Rattle.std.proofs.Common.{◌≡◌, ℕ, ◌+◌, ◌*◌, ◌<◌, ◌≤◌, ℤ, pos, Bool, true, false, List, [], ◌∷◌, ◌++◌, length, map, Result, Ok, refl, ap, ◌∙◌, arith, append_assoc}
-use Rattle.std.specs.Prelude.{◌^◌, ◌-ℤ◌, ◌+ℤ◌, ◌<ℤ◌, ◌&&◌, FitsSigned, take, drop, nat_abs, int_lt, nat_lt}
-use Rattle.std.specs.List.{AllByRecursion, flat_map}
-use Rattle.std.specs.Int.{w16, w32, cast_signed, cast_unsigned, from_be_bytes}
-use Rattle.std.proofs.lemmas.Int.{to_z-of_z}
-use Rattle.std.proofs.lemmas.Bool.Decides.{nat_tests}
-use Rattle.std.proofs.Math.Seq.{drop-append_seam}
-use Rattle.std.proofs.Common.{length-append}
-use Rattle.jvm_types.specs.Numbers.{u1, u2, u4, s4}
-use Rattle.jvm_types.specs.CodeTable.{Form, Plain, Byte, Short, SignedByte, SignedShort, Branch, WideBranch, LocalAndStep, IntArray, Table, Lookup, branches_to}
-use Rattle.jvm_types.specs.CodeGrammar.{s1, s2, offset, padding_size, spelled_case, KeysAscend, SpellsOperands}
+use Rattle.std.proofs.Common.{◌≡◌, ℕ, ◌+◌, ◌*◌, ◌<◌, ◌≤◌, ℤ, pos, Bool, true, false, List, [], ◌∷◌, ◌++◌, length, map, Result, Ok, refl, ap, ◌∙◌, arith, append_assoc, ◌^◌, ◌-ℤ◌, ◌+ℤ◌, ◌<ℤ◌, ◌&&◌, FitsSigned, take, drop, nat_abs, int_lt, nat_lt, length-append}
+use Rattle.std.{specs.{Int.{w16, w32, cast_signed, cast_unsigned, from_be_bytes}, List.{AllByRecursion, flat_map}}, proofs.{Math.Seq.drop-append_seam, lemmas.{Bool.Decides.nat_tests, Int.to_z-of_z}}}
 use Rattle.jvm_types.specs.CodeFault.{Extent, s2_of, s4_of, landing, sized, offsets, case_offsets, ascend, table_extent, lookup_extent, extent_of}
-use Rattle.jvm_types.specs.declared.code.Case.{Case}
-use Rattle.jvm_types.specs.declared.code.Op.{Op}
-use Rattle.jvm_types.specs.declared.refusal.KRule.{KRule}
+use Rattle.jvm_types.specs.CodeGrammar.{s1, s2, offset, padding_size, spelled_case, KeysAscend, SpellsOperands}
+use Rattle.jvm_types.specs.{CodeTable.{Form, Plain, Byte, Short, SignedByte, SignedShort, Branch, WideBranch, LocalAndStep, IntArray, Table, Lookup, branches_to}, Numbers.{u1, u2, u4, s4}}
+use Rattle.jvm_types.specs.declared.{code.{Case.Case, Op.Op}, refusal.KRule.KRule}
 
 -- ---- numbers
 

@@ -1,9 +1,6 @@
 -- What the definitions of code say of small codes, by computing.
-use Rattle.std.proofs.Common.{◌≡◌, [], ◌∷◌, Some, None, refl}
-use Rattle.std.specs.Prelude.{ℕ, List, filter, is_some, zero, suc}
-use Rattle.jvm_types.specs.CodeTable.{form_of}
-use Rattle.jvm_types.specs.CodeFault.{code_fault}
-use Rattle.jvm_types.specs.declared.refusal.KRule.TheVariants.{K1, K2, K3, K4, K5, K6}
+use Rattle.std.proofs.Common.{◌≡◌, [], ◌∷◌, Some, None, refl, ℕ, List, filter, is_some, zero, suc}
+use Rattle.jvm_types.specs.{CodeFault.code_fault, CodeTable.form_of, declared.refusal.KRule.TheVariants.{K1, K2, K3, K4, K5, K6}}
 
 no_bytes : code_fault [] [] ≡ Some (K5, 0)
 no_bytes = refl

@@ -1,23 +1,11 @@
 -- Bytes that break no rule are code: each form of operands is spelled by what was read of it.
-use Rattle.std.proofs.Common.{◌≡◌, ℕ, zero, suc, ◌+◌, ◌*◌, ◌<◌, ◌≤◌, ℤ, pos, Bool, true, false, List, [], ◌∷◌, ◌++◌, length, map, Result, Ok, Err, refl, ap, sym, subst, ◌∙◌, arith}
-use Rattle.std.specs.Prelude.{◌^◌, ◌-ℤ◌, ◌+ℤ◌, ◌<ℤ◌, FitsSigned, take, drop, nat_abs, int_lt, nat_lt, ◌==◌, not, ◌&&◌, if◌then◌else◌}
-use Rattle.std.specs.List.{AllByRecursion, flat_map}
-use Rattle.std.specs.Int.{w8, w16, w32, cast_signed}
-use Rattle.std.proofs.lemmas.Int.{of_z-to_z}
-use Rattle.std.proofs.Math.Facts.{sfits_to_z}
-use Rattle.std.proofs.Math.Seq.{take-add}
-use Rattle.std.proofs.Common.{length-drop}
+use Rattle.std.proofs.Common.{◌≡◌, ℕ, zero, suc, ◌+◌, ◌*◌, ◌<◌, ◌≤◌, ℤ, pos, Bool, true, false, List, [], ◌∷◌, ◌++◌, length, map, Result, Ok, Err, refl, ap, sym, subst, ◌∙◌, arith, ◌^◌, ◌-ℤ◌, ◌+ℤ◌, ◌<ℤ◌, FitsSigned, take, drop, nat_abs, int_lt, nat_lt, ◌==◌, not, ◌&&◌, if◌then◌else◌, length-drop}
+use Rattle.std.{specs.{Int.{w8, w16, w32, cast_signed}, List.{AllByRecursion, flat_map}}, proofs.{Math.{Facts.sfits_to_z, Seq.take-add}, lemmas.{Bool.Decides.nat_tests, Int.of_z-to_z}}}
 use Rattle.std.proofs.lemmas.List.{length-take-le}
-use Rattle.std.proofs.lemmas.Bool.Decides.{nat_tests}
-use Rattle.jvm_types.specs.Numbers.{u1, u2, u4, s4}
-use Rattle.jvm_types.specs.CodeTable.{Form, Plain, Byte, Short, SignedByte, SignedShort, Branch, WideBranch, LocalAndStep, IntArray, Table, Lookup}
-use Rattle.jvm_types.specs.CodeGrammar.{s1, s2, offset, padding_size, spelled_case, KeysAscend, SpellsTable, SpellsLookup, SpellsOperands}
 use Rattle.jvm_types.specs.CodeFault.{Extent, s2_of, s4_of, landing, sized, offsets, case_offsets, ascend, array_extent, table_of, table_extent, lookup_of, lookup_extent, extent_of}
-use Rattle.jvm_types.specs.declared.code.Op.{Op}
-use Rattle.jvm_types.specs.declared.refusal.KRule.{KRule}
-use Rattle.jvm_types.specs.declared.refusal.KRule.TheVariants.{K1, K2, K6}
-use Rattle.jvm_types.proofs.CodeReading.{same_cons}
-use Rattle.jvm_types.specs.ReadCode.{op_of, table_op, lookup_op, cases_of}
+use Rattle.jvm_types.specs.CodeGrammar.{s1, s2, offset, padding_size, spelled_case, KeysAscend, SpellsTable, SpellsLookup, SpellsOperands}
+use Rattle.jvm_types.specs.{CodeTable.{Form, Plain, Byte, Short, SignedByte, SignedShort, Branch, WideBranch, LocalAndStep, IntArray, Table, Lookup}, Numbers.{u1, u2, u4, s4}}
+use Rattle.jvm_types.{specs.{ReadCode.{op_of, table_op, lookup_op, cases_of}, declared.{code.Op.Op, refusal.KRule.{KRule, TheVariants.{K1, K2, K6}}}}, proofs.CodeReading.same_cons}
 
 -- ---- numbers
 

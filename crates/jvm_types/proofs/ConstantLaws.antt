@@ -1,19 +1,10 @@
 -- An entry of the constant pool that is read is spelled so, and what is spelled so is read again.
-use Rattle.std.proofs.Common.{◌≡◌, ℕ, ℤ, ◌+◌, ◌*◌, ◌/◌, ◌%◌, ◌^◌, ◌<◌, Bool, true, false, cond, eqb, ltb, List, [], ◌∷◌, ◌++◌, length, Result, Ok, refl, sym, ap, subst, ◌∙◌, arith}
-use Rattle.std.specs.Prelude.{◌&&◌}
-use Rattle.std.specs.List.{AllByRecursion}
-use Rattle.std.specs.Int.{w32, cast_signed, cast_unsigned}
-use Rattle.std.proofs.Math.Facts.{sfits_to_z}
+use Rattle.std.proofs.Common.{◌≡◌, ℕ, ℤ, ◌+◌, ◌*◌, ◌/◌, ◌%◌, ◌^◌, ◌<◌, Bool, true, false, cond, eqb, ltb, List, [], ◌∷◌, ◌++◌, length, Result, Ok, refl, sym, ap, subst, ◌∙◌, arith, ◌&&◌}
+use Rattle.std.{specs.{Int.{w32, cast_signed, cast_unsigned}, List.AllByRecursion}, proofs.{Math.Facts.sfits_to_z, lemmas.Bool.{eqb-true, and_parts, and_from, ltb-true, lt-ltb}}}
 use Rattle.std.proofs.lemmas.Int.{of_z-to_z, to_z-of_z}
-use Rattle.std.proofs.lemmas.Bool.{eqb-true, and_parts, and_from, ltb-true, lt-ltb}
-use Rattle.jvm_types.specs.Numbers.{u2, u4, u8, s4}
-use Rattle.jvm_types.specs.Spelling.{constant}
-use Rattle.jvm_types.specs.declared.refusal.CRule.TheVariants.{C6}
-use Rattle.jvm_types.specs.declared.class_file.Constant.{Constant}
-use Rattle.jvm_types.specs.declared.class_file.Constant.TheVariants.{Gap, Utf8, Integer, Float, Long, Double, Class, Text, Field, Method, InterfaceMethod, NameAndType}
-use Rattle.jvm_types.specs.ClassGrammar.{IsUtf8Byte, FieldsFit, is_gap}
-use Rattle.jvm_types.specs.ReadingSteps.{Fault}
-use Rattle.jvm_types.specs.ReadingPool.{text_wanted, utf8_at, one_at, two_at, word_entry_at, wide_at, tagged_at, constant_at}
+use Rattle.jvm_types.specs.{ClassGrammar.{IsUtf8Byte, FieldsFit, is_gap}, Numbers.{u2, u4, u8, s4}, ReadingPool.{text_wanted, utf8_at, one_at, two_at, word_entry_at, wide_at, tagged_at, constant_at}}
+use Rattle.jvm_types.specs.{ReadingSteps.Fault, Spelling.constant, declared.class_file.Constant.Constant}
+use Rattle.jvm_types.specs.declared.{class_file.Constant.TheVariants.{Gap, Utf8, Integer, Float, Long, Double, Class, Text, Field, Method, InterfaceMethod, NameAndType}, refusal.CRule.TheVariants.C6}
 use Rattle.jvm_types.proofs.ByteOrder.{eight_back, u8_spelled}
 use Rattle.jvm_types.proofs.StepLaws.{IsBytes, Finds, on_bind, weaker, on_wanted, Took, Reads, on_step, u1_reads, u1_again, u2_reads, u2_again, u4_reads, u4_again, run_reads, run_again}
 

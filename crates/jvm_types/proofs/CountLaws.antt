@@ -1,15 +1,10 @@
 -- The lengths of a class that keeps the grammar fit their fields.
-use Rattle.std.proofs.Common.{List, [], ◌∷◌}
-use Rattle.std.specs.List.{AllByRecursion}
-use Rattle.jvm_types.specs.ClassGrammar.{IsCounted, FieldsFit, IsCodeAttr, IsFieldAttr, IsMethodAttr, IsField, IsMethod}
-use Rattle.jvm_types.specs.Counts.{TextFits, CodeFits, MemberAttrFits, MemberFits}
-use Rattle.jvm_types.specs.ClassLaws.{ClassesFit}
-use Rattle.jvm_types.specs.declared.class_file.Constant.{Constant}
-use Rattle.jvm_types.specs.declared.class_file.Constant.TheVariants.{Gap, Utf8, Integer, Float, Long, Double, Class, Text, Field, Method, InterfaceMethod, NameAndType}
-use Rattle.jvm_types.specs.declared.class_file.Code.{Code}
+use Rattle.std.{proofs.Common.{List, [], ◌∷◌}, specs.List.AllByRecursion}
+use Rattle.jvm_types.specs.{ClassGrammar.{IsCounted, FieldsFit, IsCodeAttr, IsFieldAttr, IsMethodAttr, IsField, IsMethod}, ClassLaws.ClassesFit}
+use Rattle.jvm_types.specs.{Counts.{TextFits, CodeFits, MemberAttrFits, MemberFits}, declared.class_file.{Code.Code, Constant.Constant}}
+use Rattle.jvm_types.specs.declared.class_file.{Constant.TheVariants.{Gap, Utf8, Integer, Float, Long, Double, Class, Text, Field, Method, InterfaceMethod, NameAndType}, Member.Member}
 use Rattle.jvm_types.specs.declared.class_file.MemberAttr.{MemberAttr}
 use Rattle.jvm_types.specs.declared.class_file.MemberAttr.TheVariants as member_attrs
-use Rattle.jvm_types.specs.declared.class_file.Member.{Member}
 
 each : {A : Type 0} {P Q : A → Type 0} → ((x : A) → P x → Q x) → (xs : List A) → AllByRecursion P xs → AllByRecursion Q xs
 each f [] all = tt

@@ -1,13 +1,8 @@
 -- A descriptor has a meaning exactly where it is the text of that meaning.
-use Rattle.std.proofs.Common.{◌≡◌, ℕ, Bool, true, false, cond, ◌||◌, List, [], ◌∷◌, ◌++◌, Option, Some, None, refl, sym, ap, ◌∙◌, subst, inl, inr, append_assoc, append-nil}
-use Rattle.std.specs.Prelude.{◌==◌, bytes_eq, codes}
-use Rattle.std.specs.Option.{option_map, option_and_then}
-use Rattle.std.specs.List.{list_any}
-use Rattle.std.proofs.lemmas.Bool.{cond_both, eqb-true, or_parts}
-use Rattle.std.proofs.lemmas.Slice.Eq.{bytes_eq-Decides}
-use Rattle.jvm_types.specs.ClassNames.{class_number}
+use Rattle.std.proofs.Common.{◌≡◌, ℕ, Bool, true, false, cond, ◌||◌, List, [], ◌∷◌, ◌++◌, Option, Some, None, refl, sym, ap, ◌∙◌, subst, inl, inr, append_assoc, append-nil, ◌==◌, bytes_eq, codes}
+use Rattle.std.{specs.{List.list_any, Option.{option_map, option_and_then}}, proofs.lemmas.{Bool.{cond_both, eqb-true, or_parts}, Slice.Eq.bytes_eq-Decides}}
+use Rattle.jvm_types.specs.{ClassNames.class_number, DescriptorLaws.{SpellsKind, SpellsKinds, SpellsResult, SpellsSignature, FieldsAreSpelled, MethodsAreSpelled}}
 use Rattle.jvm_types.specs.Descriptors.{Types, Reading, followed, array_of, class_kind, types_from, read_from, only_kind, field_kind, Signature, result_kind, signature_returned, method_signature}
-use Rattle.jvm_types.specs.DescriptorLaws.{SpellsKind, SpellsKinds, SpellsResult, SpellsSignature, FieldsAreSpelled, MethodsAreSpelled}
 use Rattle.jvm_types.specs.declared.program.Kind.{Kind}
 use Rattle.jvm_types.specs.declared.program.Kind.TheVariants as kinds
 

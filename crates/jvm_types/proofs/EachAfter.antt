@@ -1,7 +1,5 @@
 -- What holds of each item of a list and of those before it.
-use Rattle.std.proofs.Common.{◌≡◌, ℕ, zero, suc, ◌+◌, List, [], ◌∷◌, ◌++◌, take, Some, sym, subst, append_assoc, append-nil, arith}
-use Rattle.std.specs.Prelude.{slice_get}
-use Rattle.std.specs.List.{AllByRecursion, sum_by}
+use Rattle.std.{proofs.Common.{◌≡◌, ℕ, zero, suc, ◌+◌, List, [], ◌∷◌, ◌++◌, take, Some, sym, subst, append_assoc, append-nil, arith, slice_get}, specs.List.{AllByRecursion, sum_by}}
 use Rattle.std.proofs.lemmas.List.Sums.{sum_by-append}
 
 module _ {X : Type 0} (P : List X → X → Type 0) where

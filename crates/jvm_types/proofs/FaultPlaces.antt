@@ -1,30 +1,18 @@
 -- The place of a fault lies in the bytes that were read, or at their end.
-use Rattle.std.proofs.Common.{ℕ, zero, suc, ◌+◌, ◌-◌, ◌^◌, ◌<◌, ◌≤◌, Bool, true, false, cond, eqb, ltb, leb, List, [], ◌∷◌, length, take, drop, Result, Ok, Err, ap, arith}
-use Rattle.std.specs.Prelude.{◌&&◌, ◌==◌, not, IfErr, slice_get, codes}
-use Rattle.std.specs.Int.{w32, cast_signed}
-use Rattle.std.proofs.lemmas.List.{length-append}
-use Rattle.std.proofs.lemmas.Result.{IfErr-weaker}
-use Rattle.jvm_types.specs.Numbers.{u1, u2, u4}
-use Rattle.jvm_types.specs.Spelling.{counted, constant, attr, handler, code_body, member_attr, member, class_file}
-use Rattle.jvm_types.specs.declared.refusal.CRule.{CRule}
-use Rattle.jvm_types.specs.declared.refusal.CRule.TheVariants.{C1, C2, C3, C5, C6, C8, C9, C10}
-use Rattle.jvm_types.specs.declared.index_kind.IndexKind.{IndexKind}
-use Rattle.jvm_types.specs.declared.index_kind.IndexKind.TheVariants as kinds
-use Rattle.jvm_types.specs.declared.class_file.Constant.{Constant}
-use Rattle.jvm_types.specs.declared.class_file.Constant.TheVariants.{Integer, Float, Long, Double, Class, Text, Field, Method, InterfaceMethod, NameAndType}
-use Rattle.jvm_types.specs.declared.class_file.Attr.{Attr}
-use Rattle.jvm_types.specs.declared.class_file.MemberAttr.{MemberAttr}
-use Rattle.jvm_types.specs.declared.class_file.MemberAttr.TheVariants as member_attrs
-use Rattle.jvm_types.specs.ClassGrammar.{is_wide, IsIndex, IsCounted, IsAttr, IsHandler, IsFieldAttr, IsMethodAttr, IsMember, IsField, IsMethod, IsClass}
-use Rattle.jvm_types.specs.ReadingSteps.{Fault, fault, ◌>>=◌, fault_unless, u1_at, u2_at, u4_at, byte_run_at, many_at, counted_at, ended, whole, fault_moved, in_body}
+use Rattle.std.proofs.Common.{ℕ, zero, suc, ◌+◌, ◌-◌, ◌^◌, ◌<◌, ◌≤◌, Bool, true, false, cond, eqb, ltb, leb, List, [], ◌∷◌, length, take, drop, Result, Ok, Err, ap, arith, ◌&&◌, ◌==◌, not, IfErr, slice_get, codes}
+use Rattle.std.{specs.Int.{w32, cast_signed}, proofs.lemmas.{List.length-append, Result.IfErr-weaker}}
+use Rattle.jvm_types.specs.{ClassGrammar.{is_wide, IsIndex, IsCounted, IsAttr, IsHandler, IsFieldAttr, IsMethodAttr, IsMember, IsField, IsMethod, IsClass}, Numbers.{u1, u2, u4}}
 use Rattle.jvm_types.specs.ReadingClass.{attr_at, table_row_at, code_at, code_attr, value_attr, field_attr_at, method_attr_at, member_at, field_at, has_body, method_at, class_at, read_class}
 use Rattle.jvm_types.specs.ReadingPool.{names, is_text, index_at, text_wanted, utf8_at, one_at, two_at, word_entry_at, wide_at, tagged_at, constant_at, entries_at, both_wanted, entry_wanted, entries_wanted, pool_at}
+use Rattle.jvm_types.specs.ReadingSteps.{Fault, fault, ◌>>=◌, fault_unless, u1_at, u2_at, u4_at, byte_run_at, many_at, counted_at, ended, whole, fault_moved, in_body}
+use Rattle.jvm_types.specs.{Spelling.{counted, constant, attr, handler, code_body, member_attr, member, class_file}, declared.class_file.{Attr.Attr, Constant.Constant}}
+use Rattle.jvm_types.specs.declared.class_file.{Constant.TheVariants.{Integer, Float, Long, Double, Class, Text, Field, Method, InterfaceMethod, NameAndType}, MemberAttr.MemberAttr}
+use Rattle.jvm_types.specs.declared.{index_kind.IndexKind.IndexKind, refusal.CRule.{CRule, TheVariants.{C1, C2, C3, C5, C6, C8, C9, C10}}}
+use Rattle.jvm_types.proofs.{AttrLaws.{attr_reads, handler_reads, AreParts, code_reads, field_attr_reads, method_attr_reads}, ClassReads.{member_reads, method_reads, class_takes}}
+use Rattle.jvm_types.proofs.{ConstantLaws.{IsEntry, constant_reads}, IndexLaws.index_reads, PoolLaws.{IsPoolOrNone, pool_reads}}
 use Rattle.jvm_types.proofs.StepLaws.{IsBytes, Finds, Took, Reads, u1_reads, u2_reads, u4_reads, IsRun, run_reads, counted_reads}
-use Rattle.jvm_types.proofs.IndexLaws.{index_reads}
-use Rattle.jvm_types.proofs.ConstantLaws.{IsEntry, constant_reads}
-use Rattle.jvm_types.proofs.PoolLaws.{IsPoolOrNone, pool_reads}
-use Rattle.jvm_types.proofs.AttrLaws.{attr_reads, handler_reads, AreParts, code_reads, field_attr_reads, method_attr_reads}
-use Rattle.jvm_types.proofs.ClassReads.{member_reads, method_reads, class_takes}
+use Rattle.jvm_types.specs.declared.index_kind.IndexKind.TheVariants as kinds
+use Rattle.jvm_types.specs.declared.class_file.MemberAttr.TheVariants as member_attrs
 
 -- so many bytes are left at most, where there is a fault
 pub record Near {A : Type 0} (n : ℕ) (r : Result A Fault) : Type 0 where

@@ -1,10 +1,7 @@
 -- Locals of which only the first are kept.
-use Rattle.std.proofs.Common.{◌≡◌, ℕ, zero, suc, ◌+◌, ◌-◌, ◌<◌, ◌≤◌, max, List, [], ◌∷◌, ◌++◌, length, replicate, Some, None, refl, ap, ◌∙◌, arith}
-use Rattle.std.specs.Prelude.{slice_get}
+use Rattle.std.proofs.Common.{◌≡◌, ℕ, zero, suc, ◌+◌, ◌-◌, ◌<◌, ◌≤◌, max, List, [], ◌∷◌, ◌++◌, length, replicate, Some, None, refl, ap, ◌∙◌, arith, slice_get}
 use Rattle.std.proofs.lemmas.List.{length-append, length-replicate}
-use Rattle.jvm_types.specs.Types.{filled}
-use Rattle.jvm_types.specs.declared.typing.VType.{VType}
-use Rattle.jvm_types.specs.declared.typing.VType.TheVariants.{Top}
+use Rattle.jvm_types.specs.{Types.filled, declared.typing.VType.{VType, TheVariants.Top}}
 
 pub length_filled : (n : ℕ) (ts : List VType) → length (filled n ts) ≡ max n (length ts)
 length_filled n ts = length-append ts (replicate (n - length ts) Top) ∙ ap (λ k. length ts + k) (length-replicate (n - length ts) Top) ∙ omega arith

@@ -1,8 +1,6 @@
 -- The order of frames: it is one, and where two are of one depth their meet is the least that both are below.
-use Rattle.std.proofs.Common.{◌≡◌, suc, Bool, true, false, List, [], ◌∷◌, length, refl, ap, arith}
-use Rattle.std.specs.Prelude.{◌||◌, ◌&&◌, not}
-use Rattle.jvm_types.specs.Types.{TypeFrame, is_below, meet, all_pairs, meets, frame_below, meet_frames}
-use Rattle.jvm_types.specs.declared.typing.VType.{VType}
+use Rattle.std.proofs.Common.{◌≡◌, suc, Bool, true, false, List, [], ◌∷◌, length, refl, ap, arith, ◌||◌, ◌&&◌, not}
+use Rattle.jvm_types.specs.{Types.{TypeFrame, is_below, meet, all_pairs, meets, frame_below, meet_frames}, declared.typing.VType.VType}
 use Rattle.jvm_types.proofs.TypeOrder.{below_self, below_trans, meet_left, meet_right, meet_least}
 
 -- ---- tests

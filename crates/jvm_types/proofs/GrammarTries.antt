@@ -1,7 +1,6 @@
 -- Small codes and the instructions that they spell, each step by computing.
 use Rattle.std.proofs.Common.{pos, negsuc, [], ◌∷◌, refl, arith}
-use Rattle.jvm_types.specs.CodeGrammar.{IsCode, SpellsOp, SpellsInsns}
-use Rattle.jvm_types.specs.declared.code.Op.TheVariants.{Iconst, Iadd, Iload, Goto, Getstatic, Invokevirtual, Return, Tableswitch, Lookupswitch}
+use Rattle.jvm_types.specs.{CodeGrammar.{IsCode, SpellsOp, SpellsInsns}, declared.code.Op.TheVariants.{Iconst, Iadd, Iload, Goto, Getstatic, Invokevirtual, Return, Tableswitch, Lookupswitch}}
 
 -- getstatic, iconst_2, iconst_3, iadd, invokevirtual, return
 prints_a_sum : IsCode (0xb2 ∷ 0 ∷ 0x0d ∷ 5 ∷ 6 ∷ 0x60 ∷ 0xb6 ∷ 0 ∷ 0x13 ∷ 0xb1 ∷ []) []

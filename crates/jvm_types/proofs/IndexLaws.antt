@@ -1,18 +1,10 @@
 -- The tests on an index of the constant pool say what they are called.
-use Rattle.std.proofs.Common.{◌≡◌, ℕ, Bool, true, false, cond, List, length, Option, Some, refl, ap, ◌∙◌, inl, inr}
-use Rattle.std.specs.Prelude.{slice_get, ◌==◌}
-use Rattle.std.proofs.lemmas.Bool.{eqb-true, eqb-false, cases_Bool}
+use Rattle.std.proofs.{Common.{◌≡◌, ℕ, Bool, true, false, cond, List, length, Option, Some, refl, ap, ◌∙◌, inl, inr, slice_get, ◌==◌}, lemmas.Bool.{eqb-true, eqb-false, cases_Bool}}
 use Rattle.std.proofs.lemmas.Slice.Eq.{bytes_eq-Decides}
-use Rattle.jvm_types.specs.Numbers.{u2}
-use Rattle.jvm_types.specs.Pool.{IsTextAt}
-use Rattle.jvm_types.specs.declared.refusal.CRule.TheVariants.{C5}
-use Rattle.jvm_types.specs.declared.index_kind.IndexKind.{IndexKind}
-use Rattle.jvm_types.specs.declared.index_kind.IndexKind.TheVariants as kinds
-use Rattle.jvm_types.specs.declared.class_file.Constant.{Constant}
-use Rattle.jvm_types.specs.declared.class_file.Constant.TheVariants.{Utf8, Integer, Float, Long, Double, Class, Text, NameAndType}
-use Rattle.jvm_types.specs.ClassGrammar.{IsValue, Names, IsIndex}
-use Rattle.jvm_types.specs.ReadingPool.{is_of, names, is_text, index_at}
+use Rattle.jvm_types.specs.{ClassGrammar.{IsValue, Names, IsIndex}, Numbers.u2, Pool.IsTextAt, ReadingPool.{is_of, names, is_text, index_at}, declared.class_file.Constant.Constant}
+use Rattle.jvm_types.specs.declared.{class_file.Constant.TheVariants.{Utf8, Integer, Float, Long, Double, Class, Text, NameAndType}, index_kind.IndexKind.IndexKind, refusal.CRule.TheVariants.C5}
 use Rattle.jvm_types.proofs.StepLaws.{on_wanted, Reads, on_step, u2_reads, u2_again}
+use Rattle.jvm_types.specs.declared.index_kind.IndexKind.TheVariants as kinds
 
 -- ---- entries of a kind
 

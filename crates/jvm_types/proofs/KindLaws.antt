@@ -1,16 +1,10 @@
 -- Every class number that a name has, and every type that a descriptor names, is one of the program.
-use Rattle.std.proofs.Common.{◌≡◌, ℕ, suc, ◌+◌, ◌<◌, ◌≤◌, Bool, true, false, cond, List, [], ◌∷◌, length, Option, Some, None, IfSome, refl, subst, arith}
-use Rattle.std.specs.Prelude.{◌==◌, bytes_eq, codes}
-use Rattle.std.specs.Option.{option_or, option_map, option_and_then}
-use Rattle.std.specs.List.{AllByRecursion, position_from}
-use Rattle.std.proofs.lemmas.Bool.{cond_both}
-use Rattle.std.proofs.lemmas.Bool.Decides.{nat_tests}
+use Rattle.std.proofs.Common.{◌≡◌, ℕ, suc, ◌+◌, ◌<◌, ◌≤◌, Bool, true, false, cond, List, [], ◌∷◌, length, Option, Some, None, IfSome, refl, subst, arith, ◌==◌, bytes_eq, codes}
+use Rattle.std.{specs.{List.{AllByRecursion, position_from}, Option.{option_or, option_map, option_and_then}}, proofs.lemmas.Bool.{cond_both, Decides.nat_tests}}
 use Rattle.jvm_types.specs.ClassNames.{numbered_names, class_number, is_class}
 use Rattle.jvm_types.specs.Descriptors.{Types, Reading, followed, array_of, class_kind, types_from, read_from, only_kind, field_kind, Signature, result_kind, signature_returned, method_signature}
-use Rattle.jvm_types.specs.ProgramInvariant.{IsKindOf}
-use Rattle.jvm_types.specs.declared.program.Kind.{Kind}
+use Rattle.jvm_types.specs.{ProgramInvariant.IsKindOf, declared.program.{Kind.Kind, Program.Program}}
 use Rattle.jvm_types.specs.declared.program.Kind.TheVariants as kinds
-use Rattle.jvm_types.specs.declared.program.Program.{Program}
 
 -- ---- class numbers
 

@@ -1,28 +1,12 @@
 -- The fields that are laid out file by file stand at the places and words that the invariant of a program counts.
-use Rattle.std.proofs.Common.{◌≡◌, ℕ, zero, suc, ◌+◌, ◌%◌, ◌*◌, ◌<◌, ◌≤◌, ℤ, pos, Bool, true, false, cond, not, ◌&&◌, List, [], ◌∷◌, ◌++◌, length, Option, Some, None, IfSome, refl, sym, ap, ◌∙◌, subst, arith}
-use Rattle.std.specs.Prelude.{◌==◌, FitsSigned, slice_get}
-use Rattle.std.specs.Int.{w32, cast_unsigned}
-use Rattle.std.specs.Option.{option_and_then, unwrap_or}
-use Rattle.std.specs.List.{AllByRecursion, sum_by}
-use Rattle.std.proofs.lemmas.Bool.{eq-eqb, ne_eqb}
-use Rattle.std.proofs.lemmas.List.Sums.{sum_by-append}
-use Rattle.jvm_types.proofs.EachAfter.{EachAfter, each_append, all_append, all_weaker, sum_first, sum_last}
-use Rattle.jvm_types.proofs.KindLaws.{field_kind_in}
-use Rattle.jvm_types.specs.ClassNames.{text_at, file_class}
-use Rattle.jvm_types.specs.ClassGrammar.{FieldsFit}
-use Rattle.jvm_types.specs.Descriptors.{field_kind}
-use Rattle.jvm_types.specs.Members.{is_static}
+use Rattle.std.proofs.Common.{◌≡◌, ℕ, zero, suc, ◌+◌, ◌%◌, ◌*◌, ◌<◌, ◌≤◌, ℤ, pos, Bool, true, false, cond, not, ◌&&◌, List, [], ◌∷◌, ◌++◌, length, Option, Some, None, IfSome, refl, sym, ap, ◌∙◌, subst, arith, ◌==◌, FitsSigned, slice_get}
+use Rattle.std.{specs.{Int.{w32, cast_unsigned}, List.{AllByRecursion, sum_by}, Option.{option_and_then, unwrap_or}}, proofs.lemmas.{Bool.{eq-eqb, ne_eqb}, List.Sums.sum_by-append}}
+use Rattle.jvm_types.specs.{ClassGrammar.FieldsFit, ClassNames.{text_at, file_class}, Descriptors.field_kind}
 use Rattle.jvm_types.specs.Layout.{static_count, class_word_count, first_constant, kept_int, start_of_constant, static_start, kind_of, field_info, fields_of, fields_from, laid_out_fields, fixed_words}
-use Rattle.jvm_types.specs.ProgramInvariant.{IsKindOf, statics_among, instances_among, IsFieldOf}
-use Rattle.jvm_types.specs.declared.class_file.Constant.{Constant}
-use Rattle.jvm_types.specs.declared.class_file.Constant.TheVariants.{Integer}
-use Rattle.jvm_types.specs.declared.class_file.Member.{Member as ClassMember}
-use Rattle.jvm_types.specs.declared.class_file.ClassFile.{ClassFile}
-use Rattle.jvm_types.specs.declared.program.Kind.{Kind}
+use Rattle.jvm_types.specs.{Members.is_static, ProgramInvariant.{IsKindOf, statics_among, instances_among, IsFieldOf}, declared.class_file.{ClassFile.ClassFile, Constant.Constant}}
+use Rattle.jvm_types.specs.declared.{class_file.{Constant.TheVariants.Integer, Member.{Member as ClassMember}}, fixed_words.TheConstants.FIRST_CLASS_WORD, program.{FieldInfo.FieldInfo, Kind.Kind}}
+use Rattle.jvm_types.{specs.declared.program.Program.Program, proofs.{EachAfter.{EachAfter, each_append, all_append, all_weaker, sum_first, sum_last}, KindLaws.field_kind_in}}
 use Rattle.jvm_types.specs.declared.program.Kind.TheVariants as kinds
-use Rattle.jvm_types.specs.declared.program.FieldInfo.{FieldInfo}
-use Rattle.jvm_types.specs.declared.program.Program.{Program}
-use Rattle.jvm_types.specs.declared.fixed_words.TheConstants.{FIRST_CLASS_WORD}
 
 -- ---- numbers
 

@@ -1,21 +1,11 @@
 -- What the definitions of linking say of small programs, by computing.
-use Rattle.std.proofs.Common.{◌≡◌, ℕ, ◌+◌, pos, List, [], ◌∷◌, Option, Some, None, refl}
-use Rattle.std.specs.Prelude.{replicate, codes, map}
-use Rattle.jvm_types.specs.LinkFaults.{LinkFault, link_fault, in_file, in_method, word_pass}
-use Rattle.jvm_types.specs.Linked.{program_of}
-use Rattle.jvm_types.specs.declared.class_file.Constant.{Constant}
-use Rattle.jvm_types.specs.declared.class_file.Constant.TheVariants.{Gap, Utf8, Integer, Float, Class, Field, Method, InterfaceMethod, NameAndType}
-use Rattle.jvm_types.specs.declared.class_file.Handler.{Handler}
-use Rattle.jvm_types.specs.declared.class_file.MemberAttr.TheVariants.{Code}
-use Rattle.jvm_types.specs.declared.class_file.Member.{Member as ClassMember}
-use Rattle.jvm_types.specs.declared.class_file.ClassFile.{ClassFile}
-use Rattle.jvm_types.specs.declared.code.Insn.{Insn}
-use Rattle.jvm_types.specs.declared.code.Op.{Op}
+use Rattle.std.proofs.Common.{◌≡◌, ℕ, ◌+◌, pos, List, [], ◌∷◌, Option, Some, None, refl, replicate, codes, map}
+use Rattle.jvm_types.specs.{LinkFaults.{LinkFault, link_fault, in_file, in_method, word_pass}, Linked.program_of, declared.class_file.{ClassFile.ClassFile, Constant.Constant}}
+use Rattle.jvm_types.specs.declared.class_file.{Constant.TheVariants.{Gap, Utf8, Integer, Float, Class, Field, Method, InterfaceMethod, NameAndType}, Handler.Handler, Member.{Member as ClassMember}}
+use Rattle.jvm_types.specs.declared.{class_file.MemberAttr.TheVariants.Code, code.{Insn.Insn, Op.Op}}
 use Rattle.jvm_types.specs.declared.code.Op.TheVariants.{Nop, Iconst, Ldc, Iadd, Return, Getstatic, Putstatic, Getfield, Putfield, Invokevirtual, Invokespecial, Invokestatic, New}
-use Rattle.jvm_types.specs.declared.program.MethodInfo.{MethodInfo}
-use Rattle.jvm_types.specs.declared.program.Target.{Target}
+use Rattle.jvm_types.specs.declared.{program.{MethodInfo.MethodInfo, Target.Target}, refusal.LRule.TheVariants.{L1, L2, L3, L4, L5, L6, L7, L8, L9}}
 use Rattle.jvm_types.specs.declared.program.Target.TheVariants as targets
-use Rattle.jvm_types.specs.declared.refusal.LRule.TheVariants.{L1, L2, L3, L4, L5, L6, L7, L8, L9}
 
 -- ---- a pool for all of them
 

@@ -1,37 +1,17 @@
 -- What files are linked to keeps the invariant of a program.
-use Rattle.std.proofs.Common.{◌<◌, ◌≡◌, ℕ, ◌+◌, ◌*◌, ◌≤◌, Bool, true, false, not, ◌&&◌, ◌||◌, ltb, List, [], ◌∷◌, ◌++◌, map, length, Option, Some, None, is_none, refl, sym, ap, ◌∙◌, subst, arith}
-use Rattle.std.specs.Prelude.{◌==◌}
-use Rattle.std.specs.Option.{unwrap_or}
-use Rattle.std.specs.List.{AllByRecursion, AllZip, zip, list_any}
-use Rattle.std.proofs.lemmas.List.{length-map, map_push}
-use Rattle.std.proofs.lemmas.Bool.{or_parts, ltb-false, lt-ltb}
-use Rattle.jvm_types.proofs.EachAfter.{EachAfter, at_number, all_append, all_weaker}
-use Rattle.jvm_types.proofs.KindLaws.{KnownSignature, signature_in}
-use Rattle.jvm_types.proofs.LayoutLaws.{fields_placed, words_counted}
-use Rattle.jvm_types.proofs.PassLaws.{neither, no_rule, untested, two_untested, nowhere, names_distinct, is_same_declared, DeclaredFits, methods_declared}
-use Rattle.jvm_types.proofs.TargetLaws.{ScopeFits, target_fits, catch_fits}
-use Rattle.jvm_types.proofs.ScopeLaws.{scope_fits}
-use Rattle.jvm_types.proofs.SizeLaws.{program_within}
-use Rattle.jvm_types.specs.ClassNames.{class_name, class_names, file_class}
-use Rattle.jvm_types.specs.ClassGrammar.{FieldsFit, IsClass}
-use Rattle.jvm_types.specs.Descriptors.{Signature, method_signature}
-use Rattle.jvm_types.specs.Members.{Declared, class_of_declared, descriptor_of, declared_from, declared_by, declared_methods}
-use Rattle.jvm_types.specs.Targets.{Scope}
-use Rattle.jvm_types.specs.Layout.{laid_out_fields, fixed_words}
-use Rattle.jvm_types.specs.Linked.{scope_of, coded_methods, code_of, site_of, resolved_target, resolved_row, resolved_signature, linked_method, linked_methods, program_of}
+use Rattle.std.proofs.Common.{◌<◌, ◌≡◌, ℕ, ◌+◌, ◌*◌, ◌≤◌, Bool, true, false, not, ◌&&◌, ◌||◌, ltb, List, [], ◌∷◌, ◌++◌, map, length, Option, Some, None, is_none, refl, sym, ap, ◌∙◌, subst, arith, ◌==◌}
+use Rattle.std.{specs.{List.{AllByRecursion, AllZip, zip, list_any}, Option.unwrap_or}, proofs.lemmas.{Bool.{or_parts, ltb-false, lt-ltb}, List.{length-map, map_push}}}
+use Rattle.jvm_types.specs.{ClassGrammar.{FieldsFit, IsClass}, ClassNames.{class_name, class_names, file_class}, Descriptors.{Signature, method_signature}, Layout.{laid_out_fields, fixed_words}}
 use Rattle.jvm_types.specs.LinkFaults.{first_fault, in_file, in_method, insn_fault, row_fault, uses_fault, class_pass, member_pass, use_pass, root_pass, word_pass, is_run, is_wrong_method, is_run_method}
-use Rattle.jvm_types.specs.Linkable.{IsDecoded, IsLinkable}
-use Rattle.jvm_types.specs.LinkLaws.{LinksToProgram}
-use Rattle.jvm_types.specs.ProgramInvariant.{IsFieldOf, IsTargetOf, IsRowOf, IsCaught, is_same_method, IsMethodOf, statics_among, IsProgram}
-use Rattle.jvm_types.specs.declared.class_file.Constant.{Constant}
-use Rattle.jvm_types.specs.declared.class_file.Handler.{Handler}
-use Rattle.jvm_types.specs.declared.class_file.Member.{Member as ClassMember}
-use Rattle.jvm_types.specs.declared.class_file.ClassFile.{ClassFile}
-use Rattle.jvm_types.specs.declared.code.Insn.{Insn}
-use Rattle.jvm_types.specs.declared.program.MethodInfo.{MethodInfo}
-use Rattle.jvm_types.specs.declared.program.Program.{Program}
-use Rattle.jvm_types.specs.declared.refusal.LRule.TheVariants.{L4, L8}
-use Rattle.jvm_types.specs.declared.fixed_words.TheConstants.{FIRST_CLASS_WORD}
+use Rattle.jvm_types.specs.{LinkLaws.LinksToProgram, Linkable.{IsDecoded, IsLinkable}}
+use Rattle.jvm_types.specs.Linked.{scope_of, coded_methods, code_of, site_of, resolved_target, resolved_row, resolved_signature, linked_method, linked_methods, program_of}
+use Rattle.jvm_types.specs.Members.{Declared, class_of_declared, descriptor_of, declared_from, declared_by, declared_methods}
+use Rattle.jvm_types.specs.{ProgramInvariant.{IsFieldOf, IsTargetOf, IsRowOf, IsCaught, is_same_method, IsMethodOf, statics_among, IsProgram}, Targets.Scope, declared.class_file.ClassFile.ClassFile}
+use Rattle.jvm_types.specs.declared.{class_file.{Constant.Constant, Handler.Handler, Member.{Member as ClassMember}}, code.Insn.Insn, fixed_words.TheConstants.FIRST_CLASS_WORD}
+use Rattle.jvm_types.{specs.declared.{program.{MethodInfo.MethodInfo, Program.Program}, refusal.LRule.TheVariants.{L4, L8}}, proofs.EachAfter.{EachAfter, at_number, all_append, all_weaker}}
+use Rattle.jvm_types.proofs.{KindLaws.{KnownSignature, signature_in}, LayoutLaws.{fields_placed, words_counted}}
+use Rattle.jvm_types.proofs.{PassLaws.{neither, no_rule, untested, two_untested, nowhere, names_distinct, is_same_declared, DeclaredFits, methods_declared}, ScopeLaws.scope_fits}
+use Rattle.jvm_types.proofs.{SizeLaws.program_within, TargetLaws.{ScopeFits, target_fits, catch_fits}}
 
 -- ---- one method
 

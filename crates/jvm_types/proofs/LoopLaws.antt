@@ -1,18 +1,8 @@
 -- Reading in a loop: what was read before, and what is still to be read, give what reading gives from the start.
-use Rattle.std.proofs.Common.{◌≡◌, ℕ, zero, suc, ◌+◌, ◌-◌, ◌<◌, ◌≤◌, Bool, true, false, ltb, List, [], ◌∷◌, ◌++◌, length, get_or, drop, Some, Result, Ok, Err, refl, sym, ap, ◌∙◌, append_assoc, add-one, arith}
-use Rattle.std.specs.Prelude.{◌&&◌, ◌==◌, slice_get}
-use Rattle.std.proofs.lemmas.List.{append-nil, length-drop}
-use Rattle.std.proofs.lemmas.Bool.{and_from, and_parts, lt-ltb, ltb-true, false_from_ne_true}
-use Rattle.std.proofs.lemmas.Bool.Decides.{nat_tests}
-use Rattle.std.proofs.Math.Seq.{drop-cons}
-use Rattle.std.proofs.Math.ListN.{drop_of_length-le}
-use Rattle.jvm_types.specs.Spelling.{constant}
-use Rattle.jvm_types.specs.declared.refusal.CRule.TheVariants.{C6}
-use Rattle.jvm_types.specs.declared.class_file.Constant.{Constant}
-use Rattle.jvm_types.specs.declared.class_file.Constant.TheVariants.{Gap}
-use Rattle.jvm_types.specs.ClassGrammar.{IsUtf8Byte, is_wide}
-use Rattle.jvm_types.specs.ReadingSteps.{Fault, fault, ◌>>=◌, many_at}
-use Rattle.jvm_types.specs.ReadingPool.{text_wanted, constant_at, entries_at, entry_wanted, entries_wanted}
+use Rattle.std.proofs.Common.{◌≡◌, ℕ, zero, suc, ◌+◌, ◌-◌, ◌<◌, ◌≤◌, Bool, true, false, ltb, List, [], ◌∷◌, ◌++◌, length, get_or, drop, Some, Result, Ok, Err, refl, sym, ap, ◌∙◌, append_assoc, add-one, arith, ◌&&◌, ◌==◌, slice_get}
+use Rattle.std.proofs.{Math.{ListN.drop_of_length-le, Seq.drop-cons}, lemmas.{Bool.{and_from, and_parts, lt-ltb, ltb-true, false_from_ne_true, Decides.nat_tests}, List.{append-nil, length-drop}}}
+use Rattle.jvm_types.specs.{ClassGrammar.{IsUtf8Byte, is_wide}, ReadingPool.{text_wanted, constant_at, entries_at, entry_wanted, entries_wanted}, ReadingSteps.{Fault, fault, ◌>>=◌, many_at}}
+use Rattle.jvm_types.specs.{Spelling.constant, declared.{class_file.Constant.{Constant, TheVariants.Gap}, refusal.CRule.TheVariants.C6}}
 
 -- what was read before, and what is still read
 abbrev pub with_front : {A : Type 0} → List A → Result (List A × List ℕ) Fault → Result (List A × List ℕ) Fault

@@ -1,18 +1,10 @@
 -- What the definitions of class names, descriptors, members and the layout say of small cases, by computing.
-use Rattle.std.proofs.Common.{◌≡◌, ℕ, pos, negsuc, true, false, List, [], ◌∷◌, Some, None, refl}
-use Rattle.std.specs.Prelude.{replicate, codes}
-use Rattle.jvm_types.specs.ClassNames.{class_number, named_class, can_be_made}
-use Rattle.jvm_types.specs.Descriptors.{field_kind, method_signature}
-use Rattle.jvm_types.specs.Members.{built_in_methods, look_up, field_rule, call_rule}
-use Rattle.jvm_types.specs.declared.call.Call.TheVariants.{Virtual, Special, Static}
-use Rattle.jvm_types.specs.Layout.{fixed_words, laid_out_fields}
-use Rattle.jvm_types.specs.declared.class_file.Constant.{Constant}
-use Rattle.jvm_types.specs.declared.class_file.Constant.TheVariants.{Gap, Utf8, Integer, Float, Class}
-use Rattle.jvm_types.specs.declared.class_file.MemberAttr.TheVariants.{ConstantValue}
-use Rattle.jvm_types.specs.declared.class_file.Member.{Member as ClassMember}
-use Rattle.jvm_types.specs.declared.class_file.ClassFile.{ClassFile}
-use Rattle.jvm_types.specs.declared.program.Kind.TheVariants as kinds
+use Rattle.std.proofs.Common.{◌≡◌, ℕ, pos, negsuc, true, false, List, [], ◌∷◌, Some, None, refl, replicate, codes}
+use Rattle.jvm_types.specs.{ClassNames.{class_number, named_class, can_be_made}, Descriptors.{field_kind, method_signature}, Layout.{fixed_words, laid_out_fields}}
+use Rattle.jvm_types.specs.{Members.{built_in_methods, look_up, field_rule, call_rule}, declared.{call.Call.TheVariants.{Virtual, Special, Static}, class_file.ClassFile.ClassFile}}
+use Rattle.jvm_types.specs.declared.class_file.{Constant.{Constant, TheVariants.{Gap, Utf8, Integer, Float, Class}}, Member.{Member as ClassMember}, MemberAttr.TheVariants.ConstantValue}
 use Rattle.jvm_types.specs.declared.refusal.LRule.TheVariants.{L2, L3, L7}
+use Rattle.jvm_types.specs.declared.program.Kind.TheVariants as kinds
 
 -- two classes, A and B
 abbrev names : List (List ℕ)

@@ -1,21 +1,11 @@
 -- Where no pass finds a fault, no rule stands anywhere.
-use Rattle.std.proofs.Common.{◌≡◌, ℕ, zero, suc, ◌+◌, ◌<◌, ◌≤◌, Bool, true, false, ◌&&◌, List, [], ◌∷◌, ◌++◌, map, take, length, Option, Some, None, is_none, refl, sym, ap, ◌∙◌, subst, append_assoc, append-nil, arith}
-use Rattle.std.specs.Prelude.{◌==◌, bytes_eq, slice_get}
-use Rattle.std.specs.Option.{option_or, option_map}
-use Rattle.std.specs.List.{AllByRecursion}
-use Rattle.std.proofs.lemmas.List.{take_at, length_push, length-map}
-use Rattle.std.proofs.lemmas.Bool.{or_parts, ne_eqb, and_left}
-use Rattle.jvm_types.proofs.EachAfter.{EachAfter, each_append, all_append, all_weaker}
-use Rattle.jvm_types.specs.ClassNames.{text_at, class_name, class_names, file_class}
-use Rattle.jvm_types.specs.Descriptors.{method_signature}
-use Rattle.jvm_types.specs.Members.{Declared, class_of_declared, name_of, descriptor_of, declared_from, declared_by, declared_methods, first_rule}
+use Rattle.std.proofs.Common.{◌≡◌, ℕ, zero, suc, ◌+◌, ◌<◌, ◌≤◌, Bool, true, false, ◌&&◌, List, [], ◌∷◌, ◌++◌, map, take, length, Option, Some, None, is_none, refl, sym, ap, ◌∙◌, subst, append_assoc, append-nil, arith, ◌==◌, bytes_eq, slice_get}
+use Rattle.std.{specs.{List.AllByRecursion, Option.{option_or, option_map}}, proofs.lemmas.{Bool.{or_parts, ne_eqb, and_left}, List.{take_at, length_push, length-map}}}
+use Rattle.jvm_types.specs.{ClassNames.{text_at, class_name, class_names, file_class}, Descriptors.method_signature}
 use Rattle.jvm_types.specs.LinkFaults.{LinkFault, first_fault, first_from, rule_at_place, in_file, in_method, is_outside, is_taken, class_link_fault, class_pass, is_repeated, is_synchronized_root, field_fault, method_fault, members_fault, member_pass}
-use Rattle.jvm_types.specs.declared.class_file.Constant.{Constant}
-use Rattle.jvm_types.specs.declared.class_file.Member.{Member as ClassMember}
-use Rattle.jvm_types.specs.declared.class_file.ClassFile.{ClassFile}
-use Rattle.jvm_types.specs.declared.refusal.LRule.{LRule}
-use Rattle.jvm_types.specs.declared.refusal.LRule.TheVariants.{L1, L5, L6, L9}
-use Rattle.jvm_types.specs.declared.refusal.Place.{Place}
+use Rattle.jvm_types.specs.{Members.{Declared, class_of_declared, name_of, descriptor_of, declared_from, declared_by, declared_methods, first_rule}, declared.class_file.ClassFile.ClassFile}
+use Rattle.jvm_types.specs.declared.{class_file.{Constant.Constant, Member.{Member as ClassMember}}, refusal.{LRule.{LRule, TheVariants.{L1, L5, L6, L9}}, Place.Place}}
+use Rattle.jvm_types.proofs.EachAfter.{EachAfter, each_append, all_append, all_weaker}
 
 -- ---- no fault
 

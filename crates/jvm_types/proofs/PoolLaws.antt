@@ -1,21 +1,12 @@
 -- The constant pool that is read is spelled so and keeps its rules, and what is spelled so is read again.
-use Rattle.std.proofs.Common.{◌≡◌, ℕ, zero, suc, ◌-◌, ◌^◌, ◌<◌, Bool, true, false, List, [], ◌∷◌, ◌++◌, length, Ok, refl, sym, ap, subst, ◌∙◌, append_assoc, arith, inl, inr}
-use Rattle.std.specs.Prelude.{◌&&◌, ◌==◌, ◌⊎◌, not}
-use Rattle.std.specs.List.{flat_map, AllByRecursion}
-use Rattle.std.proofs.lemmas.Bool.{not-true, ne_eqb}
-use Rattle.jvm_types.specs.Numbers.{u2}
-use Rattle.jvm_types.specs.Spelling.{counted, constant}
-use Rattle.jvm_types.specs.declared.refusal.CRule.TheVariants.{C5}
-use Rattle.jvm_types.specs.declared.index_kind.IndexKind.{IndexKind}
-use Rattle.jvm_types.specs.declared.index_kind.IndexKind.TheVariants as kinds
-use Rattle.jvm_types.specs.declared.class_file.Constant.{Constant}
-use Rattle.jvm_types.specs.declared.class_file.Constant.TheVariants.{Gap, Class, Text, Field, Method, InterfaceMethod, NameAndType}
-use Rattle.jvm_types.specs.ClassGrammar.{Names, is_wide, is_gap, GapsFit, FieldsFit, IndicesFit, IsPool}
-use Rattle.jvm_types.specs.ReadingSteps.{fault_unless}
-use Rattle.jvm_types.specs.ReadingPool.{names, entries_at, both_wanted, entry_wanted, entries_wanted, pool_at}
+use Rattle.std.proofs.Common.{◌≡◌, ℕ, zero, suc, ◌-◌, ◌^◌, ◌<◌, Bool, true, false, List, [], ◌∷◌, ◌++◌, length, Ok, refl, sym, ap, subst, ◌∙◌, append_assoc, arith, inl, inr, ◌&&◌, ◌==◌, ◌⊎◌, not}
+use Rattle.std.{specs.List.{flat_map, AllByRecursion}, proofs.lemmas.Bool.{not-true, ne_eqb}}
+use Rattle.jvm_types.specs.{ClassGrammar.{Names, is_wide, is_gap, GapsFit, FieldsFit, IndicesFit, IsPool}, Numbers.u2}
+use Rattle.jvm_types.specs.{ReadingPool.{names, entries_at, both_wanted, entry_wanted, entries_wanted, pool_at}, ReadingSteps.fault_unless, Spelling.{counted, constant}}
+use Rattle.jvm_types.specs.declared.{class_file.Constant.{Constant, TheVariants.{Gap, Class, Text, Field, Method, InterfaceMethod, NameAndType}}, index_kind.IndexKind.IndexKind}
+use Rattle.jvm_types.{specs.declared.refusal.CRule.TheVariants.C5, proofs.{ConstantLaws.constant_reads, IndexLaws.{Names-from_test, test_from_Names}}}
 use Rattle.jvm_types.proofs.StepLaws.{IsBytes, Finds, on_bind, weaker, on_wanted, Took, Reads, on_step, u2_reads, u2_again}
-use Rattle.jvm_types.proofs.IndexLaws.{Names-from_test, test_from_Names}
-use Rattle.jvm_types.proofs.ConstantLaws.{constant_reads}
+use Rattle.jvm_types.specs.declared.index_kind.IndexKind.TheVariants as kinds
 
 -- ---- entries
 

@@ -1,11 +1,6 @@
 -- Small methods, of which plays and tests speak.
-use Rattle.std.proofs.Common.{ℕ, List, [], None}
-use Rattle.std.specs.Prelude.{codes}
-use Rattle.jvm_types.specs.declared.code.Insn.{Insn}
-use Rattle.jvm_types.specs.declared.code.Op.{Op}
-use Rattle.jvm_types.specs.declared.program.Target.{Target}
-use Rattle.jvm_types.specs.declared.program.Row.{Row}
-use Rattle.jvm_types.specs.declared.program.MethodInfo.{MethodInfo}
+use Rattle.std.proofs.Common.{ℕ, List, [], None, codes}
+use Rattle.jvm_types.specs.declared.{code.{Insn.Insn, Op.Op}, program.{MethodInfo.MethodInfo, Row.Row, Target.Target}}
 
 abbrev pub insn : ℕ → ℕ → Op → Insn
 insn pc next op = record { pc = pc; next = next; op = op }

@@ -1,27 +1,13 @@
 -- Everything that may be named stands for something of the program.
-use Rattle.std.proofs.Common.{◌≡◌, ℕ, suc, ◌+◌, Bool, true, false, cond, not, ◌&&◌, List, [], ◌∷◌, ◌++◌, Option, Some, None, IsSomeAnd, refl, ap, ◌∙◌, subst, arith}
-use Rattle.std.specs.Prelude.{◌==◌, slice_get, codes}
-use Rattle.std.specs.List.{AllByRecursion, AllZip, zip}
-use Rattle.std.proofs.lemmas.Bool.{ne_eqb}
-use Rattle.jvm_types.proofs.EachAfter.{all_append}
-use Rattle.jvm_types.proofs.TargetLaws.{FieldFits, MethodFits, ScopeFits}
-use Rattle.jvm_types.specs.ClassNames.{class_names, has_built_in_init}
-use Rattle.jvm_types.specs.Members.{MethodSite, is_class_init_name, field_rule, call_rule, built_in_methods, init_of, Declared, class_of_declared, name_of, descriptor_of, declared_from, declared_by, declared_fields, declared_methods, entries_from, is_static}
-use Rattle.jvm_types.specs.declared.call.Call.TheVariants.{Virtual, Special, Static}
-use Rattle.jvm_types.specs.Targets.{Scope}
-use Rattle.jvm_types.specs.Layout.{fields_of, fields_from, laid_out_fields, class_word_count}
+use Rattle.std.proofs.Common.{◌≡◌, ℕ, suc, ◌+◌, Bool, true, false, cond, not, ◌&&◌, List, [], ◌∷◌, ◌++◌, Option, Some, None, IsSomeAnd, refl, ap, ◌∙◌, subst, arith, ◌==◌, slice_get, codes}
+use Rattle.std.{specs.List.{AllByRecursion, AllZip, zip}, proofs.lemmas.Bool.ne_eqb}
+use Rattle.jvm_types.specs.{ClassNames.{class_names, has_built_in_init}, Layout.{fields_of, fields_from, laid_out_fields, class_word_count}, Linkable.IsDecoded}
 use Rattle.jvm_types.specs.Linked.{scope_of, coded_methods, linked_methods, program_of}
-use Rattle.jvm_types.specs.Linkable.{IsDecoded}
-use Rattle.jvm_types.specs.declared.class_file.Constant.{Constant}
-use Rattle.jvm_types.specs.declared.class_file.Member.{Member as ClassMember}
-use Rattle.jvm_types.specs.declared.class_file.ClassFile.{ClassFile}
-use Rattle.jvm_types.specs.declared.code.Insn.{Insn}
-use Rattle.jvm_types.specs.declared.program.FieldInfo.{FieldInfo}
-use Rattle.jvm_types.specs.declared.program.MethodInfo.{MethodInfo}
+use Rattle.jvm_types.specs.Members.{MethodSite, is_class_init_name, field_rule, call_rule, built_in_methods, init_of, Declared, class_of_declared, name_of, descriptor_of, declared_from, declared_by, declared_fields, declared_methods, entries_from, is_static}
+use Rattle.jvm_types.specs.{Targets.Scope, declared.{call.Call.TheVariants.{Virtual, Special, Static}, class_file.{ClassFile.ClassFile, Constant.Constant, Member.{Member as ClassMember}}}}
+use Rattle.jvm_types.specs.declared.{code.Insn.Insn, fixed_words.TheConstants.FIRST_CLASS_WORD, program.{FieldInfo.FieldInfo, MethodInfo.MethodInfo, Program.Program}, refusal.LRule.TheVariants.L7}
+use Rattle.jvm_types.proofs.{EachAfter.all_append, TargetLaws.{FieldFits, MethodFits, ScopeFits}}
 use Rattle.jvm_types.specs.declared.program.Target.TheVariants as targets
-use Rattle.jvm_types.specs.declared.program.Program.{Program}
-use Rattle.jvm_types.specs.declared.refusal.LRule.TheVariants.{L7}
-use Rattle.jvm_types.specs.declared.fixed_words.TheConstants.{FIRST_CLASS_WORD}
 
 -- ---- built-in members
 

@@ -1,24 +1,11 @@
 -- A program has no more instructions than its files have bytes.
-use Rattle.std.proofs.Common.{◌≡◌, ℕ, suc, ◌+◌, ◌*◌, ◌≤◌, List, [], ◌∷◌, ◌++◌, length, refl, sym, ap, ◌∙◌, length-append, arith}
-use Rattle.std.specs.List.{AllByRecursion, AllZip, flat_map, sum_by, zip}
+use Rattle.std.{proofs.Common.{◌≡◌, ℕ, suc, ◌+◌, ◌*◌, ◌≤◌, List, [], ◌∷◌, ◌++◌, length, refl, sym, ap, ◌∙◌, length-append, arith}, specs.List.{AllByRecursion, AllZip, flat_map, sum_by, zip}}
 use Rattle.std.proofs.lemmas.List.Sums.{sum_by-append}
-use Rattle.jvm_types.proofs.EachAfter.{sum_first}
-use Rattle.jvm_types.specs.Numbers.{u2, u4}
-use Rattle.jvm_types.specs.Spelling.{counted, constant, handler, attr, code_body, member_attr, member, class_file}
-use Rattle.jvm_types.specs.ClassGrammar.{IsClass}
-use Rattle.jvm_types.specs.CodeGrammar.{SpellsInsns}
-use Rattle.jvm_types.specs.Members.{Declared, declared_from, declared_by, declared_methods}
-use Rattle.jvm_types.specs.Targets.{Scope}
-use Rattle.jvm_types.specs.Linked.{code_of, linked_method, linked_methods}
-use Rattle.jvm_types.specs.Linkable.{IsDecoded}
-use Rattle.jvm_types.specs.declared.class_file.Constant.{Constant}
-use Rattle.jvm_types.specs.declared.class_file.Code.{Code}
-use Rattle.jvm_types.specs.declared.class_file.MemberAttr.{MemberAttr}
+use Rattle.jvm_types.specs.{ClassGrammar.IsClass, CodeGrammar.SpellsInsns, Linkable.IsDecoded, Linked.{code_of, linked_method, linked_methods}}
+use Rattle.jvm_types.specs.{Members.{Declared, declared_from, declared_by, declared_methods}, Numbers.{u2, u4}, Spelling.{counted, constant, handler, attr, code_body, member_attr, member, class_file}}
+use Rattle.jvm_types.specs.{Targets.Scope, declared.{class_file.{ClassFile.ClassFile, Code.Code, Constant.Constant, Member.{Member as ClassMember}, MemberAttr.MemberAttr}, code.Insn.Insn}}
+use Rattle.jvm_types.{specs.declared.program.MethodInfo.MethodInfo, proofs.EachAfter.sum_first}
 use Rattle.jvm_types.specs.declared.class_file.MemberAttr.TheVariants as member_attrs
-use Rattle.jvm_types.specs.declared.class_file.Member.{Member as ClassMember}
-use Rattle.jvm_types.specs.declared.class_file.ClassFile.{ClassFile}
-use Rattle.jvm_types.specs.declared.code.Insn.{Insn}
-use Rattle.jvm_types.specs.declared.program.MethodInfo.{MethodInfo}
 
 -- ---- parts of lists
 

@@ -1,17 +1,8 @@
 -- What a step reads is spelled so, and what is spelled so is read again, whatever follows.
-use Rattle.std.proofs.Common.{◌≡◌, ℕ, zero, suc, ◌^◌, ◌<◌, ◌≤◌, Bool, true, false, cond, ltb, List, [], ◌∷◌, ◌++◌, length, take, drop, Result, Ok, Err, refl, sym, ap, ◌∙◌, append_assoc, arith}
-use Rattle.std.specs.Prelude.{IfOk}
-use Rattle.std.specs.List.{flat_map, AllByRecursion}
-use Rattle.std.proofs.lemmas.Bool.{ltb-false, le-ltb}
-use Rattle.std.proofs.lemmas.Result.{IfOk-weaker}
-use Rattle.std.proofs.lemmas.List.{take_at, drop_at, take-append-drop, length-append, length-take}
-use Rattle.jvm_types.specs.declared.refusal.CRule.{CRule}
-use Rattle.jvm_types.specs.declared.refusal.CRule.TheVariants.{C3}
-use Rattle.jvm_types.specs.Numbers.{u1, u2, u4}
-use Rattle.jvm_types.specs.Spelling.{counted}
-use Rattle.jvm_types.specs.ClassGrammar.{IsByte, IsCounted}
-use Rattle.jvm_types.specs.ReadingSteps.{Fault, fault, ◌>>=◌, fault_unless, u1_at, u2_at, u4_at, byte_run_at, many_at, counted_at}
-use Rattle.jvm_types.proofs.ByteOrder.{two_back, u2_spelled, four_back, u4_spelled}
+use Rattle.std.proofs.Common.{◌≡◌, ℕ, zero, suc, ◌^◌, ◌<◌, ◌≤◌, Bool, true, false, cond, ltb, List, [], ◌∷◌, ◌++◌, length, take, drop, Result, Ok, Err, refl, sym, ap, ◌∙◌, append_assoc, arith, IfOk}
+use Rattle.std.{specs.List.{flat_map, AllByRecursion}, proofs.lemmas.{Bool.{ltb-false, le-ltb}, List.{take_at, drop_at, take-append-drop, length-append, length-take}, Result.IfOk-weaker}}
+use Rattle.jvm_types.specs.{ClassGrammar.{IsByte, IsCounted}, Numbers.{u1, u2, u4}, ReadingSteps.{Fault, fault, ◌>>=◌, fault_unless, u1_at, u2_at, u4_at, byte_run_at, many_at, counted_at}}
+use Rattle.jvm_types.{specs.{Spelling.counted, declared.refusal.CRule.{CRule, TheVariants.C3}}, proofs.ByteOrder.{two_back, u2_spelled, four_back, u4_spelled}}
 
 -- ---- results
 

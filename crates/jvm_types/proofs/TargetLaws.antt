@@ -1,31 +1,15 @@
 -- A name that no rule refuses names something of the program that may stand there.
-use Rattle.std.proofs.Common.{◌≡◌, ℕ, zero, suc, ◌<◌, Bool, true, false, cond, List, [], ◌∷◌, length, Option, Some, None, IfSome, refl, sym, subst, inl, inr}
-use Rattle.std.specs.Prelude.{bytes_eq, slice_get}
-use Rattle.std.specs.Option.{option_or}
-use Rattle.std.specs.Result.{result_err, result_unwrap_or}
-use Rattle.std.specs.declared.result.Result.{Result}
-use Rattle.std.specs.declared.result.Result.TheVariants.{Ok, Err}
-use Rattle.std.specs.List.{AllByRecursion, find}
-use Rattle.std.proofs.lemmas.Bool.{cond_both}
-use Rattle.jvm_types.proofs.KindLaws.{numbered}
-use Rattle.jvm_types.proofs.LayoutLaws.{entry_fits}
-use Rattle.jvm_types.specs.ClassNames.{class_number, named_class, class_text_at, text_at, is_class, can_be_made, system_name}
-use Rattle.jvm_types.specs.declared.class_numbers.TheConstants.{OBJECT_CLASS}
-use Rattle.jvm_types.specs.ClassGrammar.{FieldsFit}
+use Rattle.std.proofs.Common.{◌≡◌, ℕ, zero, suc, ◌<◌, Bool, true, false, cond, List, [], ◌∷◌, length, Option, Some, None, IfSome, refl, sym, subst, inl, inr, bytes_eq, slice_get}
+use Rattle.std.{specs.{List.{AllByRecursion, find}, Option.option_or, Result.{result_err, result_unwrap_or}, declared.result.Result.{Result, TheVariants.{Ok, Err}}}, proofs.lemmas.Bool.cond_both}
+use Rattle.jvm_types.specs.{ClassGrammar.FieldsFit, ClassNames.{class_number, named_class, class_text_at, text_at, is_class, can_be_made, system_name}}
 use Rattle.jvm_types.specs.Members.{Entry, MethodSite, member_in, look_up, is_init_name, field_rule, call_rule}
-use Rattle.jvm_types.specs.declared.call.Call.{Call}
-use Rattle.jvm_types.specs.declared.call.Call.TheVariants.{Virtual, Special, Static}
-use Rattle.jvm_types.specs.Targets.{Scope, unless_refused, found_target, member_target, class_at_index, field_target, method_target, loaded_target, made_target, new_target, target_of, class_or_fault, catch_class}
 use Rattle.jvm_types.specs.ProgramInvariant.{IsClassOf, IsFieldTarget, IsMethodTarget, IsValueTarget, IsNewTarget, IsTargetOf, IsCaught}
-use Rattle.jvm_types.specs.declared.class_file.Constant.{Constant}
+use Rattle.jvm_types.specs.Targets.{Scope, unless_refused, found_target, member_target, class_at_index, field_target, method_target, loaded_target, made_target, new_target, target_of, class_or_fault, catch_class}
+use Rattle.jvm_types.specs.declared.{call.Call.{Call, TheVariants.{Virtual, Special, Static}}, class_file.Constant.Constant, class_numbers.TheConstants.OBJECT_CLASS, code.Op.Op}
+use Rattle.jvm_types.specs.declared.{code.Op.TheVariants.{Ldc, LdcW, Getstatic, Putstatic, Getfield, Putfield, Invokevirtual, Invokespecial, Invokestatic, New}, program.Program.Program}
+use Rattle.jvm_types.{specs.declared.{program.Target.Target, refusal.LRule.{LRule, TheVariants.{L1, L2}}}, proofs.{KindLaws.numbered, LayoutLaws.entry_fits}}
 use Rattle.jvm_types.specs.declared.class_file.Constant.TheVariants as constants
-use Rattle.jvm_types.specs.declared.code.Op.{Op}
-use Rattle.jvm_types.specs.declared.code.Op.TheVariants.{Ldc, LdcW, Getstatic, Putstatic, Getfield, Putfield, Invokevirtual, Invokespecial, Invokestatic, New}
-use Rattle.jvm_types.specs.declared.program.Target.{Target}
 use Rattle.jvm_types.specs.declared.program.Target.TheVariants as targets
-use Rattle.jvm_types.specs.declared.program.Program.{Program}
-use Rattle.jvm_types.specs.declared.refusal.LRule.{LRule}
-use Rattle.jvm_types.specs.declared.refusal.LRule.TheVariants.{L1, L2}
 
 -- what resolves to a target that fits, or to a rule
 abbrev Fits : (Target → Type 0) → Result Target LRule → Type 0

@@ -1,15 +1,7 @@
 -- The order of types: it is one, and a meet is the least type that both are below.
-use Rattle.std.proofs.Common.{◌≡◌, ℕ, Bool, true, false, List, [], ◌∷◌, refl, ap, sym, subst, ◌∙◌, arith}
-use Rattle.std.specs.Prelude.{◌||◌, ◌==◌, if◌then◌else◌}
-use Rattle.std.specs.List.{AllByRecursion}
-use Rattle.std.proofs.lemmas.Bool.Decides.{nat_tests}
-use Rattle.jvm_types.specs.Numbers.{has_number}
-use Rattle.jvm_types.specs.ClassTree.{super_class, ancestors, is_subclass, first_above, common_ancestor}
-use Rattle.jvm_types.specs.Types.{is_below, meet, if_same_place}
-use Rattle.jvm_types.specs.declared.typing.VType.{VType}
-use Rattle.jvm_types.specs.declared.typing.VType.TheVariants.{Int, Null, Ref, This, New, Top}
-use Rattle.jvm_types.proofs.ClassCases.{by_class}
-use Rattle.jvm_types.specs.declared.class_numbers.TheConstants.{OBJECT_CLASS}
+use Rattle.std.{proofs.{Common.{◌≡◌, ℕ, Bool, true, false, List, [], ◌∷◌, refl, ap, sym, subst, ◌∙◌, arith, ◌||◌, ◌==◌, if◌then◌else◌}, lemmas.Bool.Decides.nat_tests}, specs.List.AllByRecursion}
+use Rattle.jvm_types.specs.{ClassTree.{super_class, ancestors, is_subclass, first_above, common_ancestor}, Numbers.has_number, Types.{is_below, meet, if_same_place}}
+use Rattle.jvm_types.{specs.declared.{class_numbers.TheConstants.OBJECT_CLASS, typing.VType.{VType, TheVariants.{Int, Null, Ref, This, New, Top}}}, proofs.ClassCases.by_class}
 
 -- ---- lists of numbers
 

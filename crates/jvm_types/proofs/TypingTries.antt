@@ -1,24 +1,12 @@
 -- What the definitions of verification say of small methods, by computing.
-use Rattle.std.proofs.Common.{◌≡◌, ℕ, zero, suc, pos, true, false, List, [], ◌∷◌, Option, Some, None, Result, Ok, Err, refl}
-use Rattle.std.specs.Prelude.{map, codes}
-use Rattle.jvm_types.specs.ClassTree.{is_subclass, common_ancestor}
-use Rattle.jvm_types.specs.Types.{TypeFrame, meet}
-use Rattle.jvm_types.specs.Verifying.{Node, first_nodes, next_visit, visited}
-use Rattle.jvm_types.specs.declared.code.Insn.{Insn}
+use Rattle.std.proofs.Common.{◌≡◌, ℕ, zero, suc, pos, true, false, List, [], ◌∷◌, Option, Some, None, Result, Ok, Err, refl, map, codes}
+use Rattle.jvm_types.specs.{ClassTree.{is_subclass, common_ancestor}, Types.{TypeFrame, meet}, Verifying.{Node, first_nodes, next_visit, visited}, declared.code.Insn.Insn}
+use Rattle.jvm_types.specs.declared.{program.{FieldInfo.FieldInfo, MethodInfo.MethodInfo, Program.Program, Row.Row, Target.Target}, refusal.VRule.{VRule, TheVariants.{V1, V2, V3, V4, V5, V6, V7, V8}}}
+use Rattle.jvm_types.{specs.declared.typing.VType.{VType, TheVariants.{Int, Null, Ref, This, New, Top}}, proofs.SampleMethods.{insn, method}}
 use Rattle.jvm_types.specs.declared.code.Op.TheVariants as ops
 use Rattle.jvm_types.specs.declared.code.Cmp.TheVariants as cmps
-use Rattle.jvm_types.specs.declared.typing.VType.{VType}
-use Rattle.jvm_types.specs.declared.typing.VType.TheVariants.{Int, Null, Ref, This, New, Top}
 use Rattle.jvm_types.specs.declared.program.Kind.TheVariants as kinds
-use Rattle.jvm_types.specs.declared.program.FieldInfo.{FieldInfo}
-use Rattle.jvm_types.specs.declared.program.Target.{Target}
 use Rattle.jvm_types.specs.declared.program.Target.TheVariants as targets
-use Rattle.jvm_types.specs.declared.program.Row.{Row}
-use Rattle.jvm_types.specs.declared.program.MethodInfo.{MethodInfo}
-use Rattle.jvm_types.specs.declared.program.Program.{Program}
-use Rattle.jvm_types.specs.declared.refusal.VRule.{VRule}
-use Rattle.jvm_types.specs.declared.refusal.VRule.TheVariants.{V1, V2, V3, V4, V5, V6, V7, V8}
-use Rattle.jvm_types.proofs.SampleMethods.{insn, method}
 
 -- ---- the visits, computed
 

@@ -1,12 +1,9 @@
 -- Worked files: what the definitions give, computed. A class that adds and prints has no fault, nor has one with fields, two
 -- methods and a table of handlers; then come the first faults of changed files.
-use Rattle.std.proofs.Common.{◌≡◌, ℕ, List, [], ◌∷◌, ◌++◌, ◌+◌, take, Option, Some, None, refl}
-use Rattle.std.specs.Prelude.{map, slice_set}
-use Rattle.jvm_types.specs.declared.refusal.CRule.{CRule}
-use Rattle.jvm_types.specs.declared.refusal.CRule.TheVariants.{C1, C2, C3, C4, C5, C6, C7, C8, C9}
-use Rattle.jvm_types.specs.ReadingSteps.{u1_at, u2_at, u4_at, byte_run_at, many_at, counted_at, whole, in_body}
-use Rattle.jvm_types.specs.ReadingPool.{index_at, text_wanted, utf8_at, one_at, two_at, word_entry_at, wide_at, tagged_at, constant_at, entries_at, both_wanted, entry_wanted, entries_wanted, pool_at}
+use Rattle.std.proofs.Common.{◌≡◌, ℕ, List, [], ◌∷◌, ◌++◌, ◌+◌, take, Option, Some, None, refl, map, slice_set}
 use Rattle.jvm_types.specs.ReadingClass.{attr_at, table_row_at, code_at, code_attr, value_attr, field_attr_at, method_attr_at, member_at, field_at, method_at, class_at, read_class, class_fault}
+use Rattle.jvm_types.specs.ReadingPool.{index_at, text_wanted, utf8_at, one_at, two_at, word_entry_at, wide_at, tagged_at, constant_at, entries_at, both_wanted, entry_wanted, entries_wanted, pool_at}
+use Rattle.jvm_types.specs.{ReadingSteps.{u1_at, u2_at, u4_at, byte_run_at, many_at, counted_at, whole, in_body}, declared.refusal.CRule.{CRule, TheVariants.{C1, C2, C3, C4, C5, C6, C7, C8, C9}}}
 
 adds : List ℕ
 adds = 202 ∷ 254 ∷ 186 ∷ 190 ∷ 0 ∷ 0 ∷ 0 ∷ 50 ∷ 0 ∷ 20 ∷ 1 ∷ 0 ∷ 1 ∷ 65 ∷ 7 ∷ 0 ∷ 1 ∷ 1 ∷ 0 ∷ 16 ∷ 106 ∷ 97 ∷ 118 ∷

@@ -1,21 +1,12 @@
 -- At the start of a run every object is finished, and what places hold is one of them or null.
-use Rattle.std.proofs.Common.{ℕ, inl, inr, refl, arith}
-use Rattle.std.specs.Prelude.{slice_index}
-use Rattle.jvm_types.specs.declared.fixed_words.TheConstants.{NEXT_FREE_WORD}
-use Rattle.jvm_types.specs.declared.program.Kind.{Kind}
-use Rattle.jvm_types.specs.declared.program.Kind.TheVariants as kinds
+use Rattle.std.proofs.Common.{ℕ, inl, inr, refl, arith, slice_index}
+use Rattle.jvm_types.specs.declared.{fixed_words.TheConstants.NEXT_FREE_WORD, program.Kind.Kind}
 use Rattle.checked_program.specs.MarkedProgram.{MarkedProgram, IsMarked}
-use Rattle.machine_types.specs.Construction.{KindKeeps}
-use Rattle.machine_types.specs.Core.{start}
-use Rattle.machine_types.specs.PlainMemory.{start_objects}
-use Rattle.machine_types.specs.Typed.{HasClass, KindHolds}
-use Rattle.machine_types.specs.declared.config.Config.{Config}
-use Rattle.machine_types.proofs.AtStart.{keeps}
-use Rattle.laws_states.specs.HeapFacts.{HeapFacts}
-use Rattle.laws_states.specs.HeapLaws.{StartHasHeap}
-use Rattle.laws_states.proofs.Lists.{contained_got}
-use Rattle.laws_objects.specs.ConstructionLaws.{no_builders, StartHasConstruction}
+use Rattle.machine_types.{specs.{Construction.KindKeeps, Core.start, PlainMemory.start_objects, Typed.{HasClass, KindHolds}, declared.config.Config.Config}, proofs.AtStart.keeps}
 use Rattle.machine_types.proofs.FactsAtStart.{none_built}
+use Rattle.laws_states.{specs.{HeapFacts.HeapFacts, HeapLaws.StartHasHeap}, proofs.Lists.contained_got}
+use Rattle.laws_objects.specs.ConstructionLaws.{no_builders, StartHasConstruction}
+use Rattle.jvm_types.specs.declared.program.Kind.TheVariants as kinds
 
 module _ (c : MarkedProgram) (cfg : Config) (marked : IsMarked c) (heap : HeapFacts c (start_objects c.program) (start c cfg)) where
   kind_keeps : (kind : Kind) (v : ℕ) → KindHolds (HasClass (start_objects c.program)) kind v → KindKeeps no_builders (slice_index (start c cfg).words NEXT_FREE_WORD) kind v

@@ -1,34 +1,19 @@
 -- What an effect makes, stores, throws or locks is finished, where what its instruction takes is.
-use Rattle.std.proofs.Common.{◌≡◌, ℕ, Bool, true, false, List, [], ◌∷◌, length, Option, Some, None, refl, ap, sym, subst, ◌∙◌}
-use Rattle.std.specs.Prelude.{◌==◌, nat_lt, int_lt, pos, slice_get, slice_index, if◌then◌else◌}
+use Rattle.std.proofs.Common.{◌≡◌, ℕ, Bool, true, false, List, [], ◌∷◌, length, Option, Some, None, refl, ap, sym, subst, ◌∙◌, ◌==◌, nat_lt, int_lt, pos, slice_get, slice_index, if◌then◌else◌}
 use Rattle.std.specs.List.{AllByRecursion}
-use Rattle.jvm_types.specs.CodeTable.{type_of, want_of, row, constant_row, get_static_row, put_static_row, get_row, put_row}
-use Rattle.jvm_types.specs.declared.class_numbers.TheConstants.{INT_ARRAY_CLASS}
-use Rattle.jvm_types.specs.declared.code.Op.{Op}
-use Rattle.jvm_types.specs.declared.code.Op.TheVariants as ops
-use Rattle.jvm_types.specs.declared.op_row.Given.{Given}
-use Rattle.jvm_types.specs.declared.op_row.Given.TheVariants.{Fresh}
-use Rattle.jvm_types.specs.declared.op_row.OpRow.{OpRow}
-use Rattle.jvm_types.specs.declared.op_row.Want.{Want}
-use Rattle.jvm_types.specs.declared.op_row.Want.TheVariants.{ToStart}
-use Rattle.jvm_types.specs.declared.outcome.Thrown.TheVariants as thrown
-use Rattle.jvm_types.specs.declared.program.FieldInfo.{FieldInfo}
-use Rattle.jvm_types.specs.declared.program.Kind.{Kind}
-use Rattle.jvm_types.specs.declared.program.Kind.TheVariants as kinds
-use Rattle.jvm_types.specs.declared.program.MethodInfo.{MethodInfo}
-use Rattle.jvm_types.specs.declared.program.Program.{Program}
-use Rattle.jvm_types.specs.declared.program.Target.{Target}
-use Rattle.jvm_types.specs.declared.program.Target.TheVariants as targets
-use Rattle.jvm_types.specs.declared.typing.VType.{VType}
-use Rattle.jvm_types.specs.declared.typing.VType.TheVariants as types
 use Rattle.lists.proofs.ListLaws.{same_some}
-use Rattle.machine_types.specs.declared.effect.Effect.{Effect}
-use Rattle.machine_types.specs.declared.effect.Effect.TheVariants.{Goes, Throws, Reads, Writes, Indexes, Measures, Raises, Makes, Prints, Calls, Returns, Enters, Leaves, Waits, Notifies, NotifiesAll, Stuck}
+use Rattle.jvm_types.specs.{CodeTable.{type_of, want_of, row, constant_row, get_static_row, put_static_row, get_row, put_row}, declared.{class_numbers.TheConstants.INT_ARRAY_CLASS, code.Op.Op}}
+use Rattle.jvm_types.specs.declared.{op_row.{Given.{Given, TheVariants.Fresh}, OpRow.OpRow, Want.{Want, TheVariants.ToStart}}, program.{FieldInfo.FieldInfo, Kind.Kind, MethodInfo.MethodInfo}}
+use Rattle.jvm_types.specs.declared.{program.{Program.Program, Target.Target}, typing.VType.VType}
 use Rattle.machine_types.specs.Effects.{effect, named, kept, unless_null, unless_zero, at_local, gets_static, puts_static, gets, puts, calls_instance, calls_static, calls_on, variable_of}
-use Rattle.machine_types.specs.Ints.{low, int_of, added, divided, remaining, word_of}
-use Rattle.machine_types.specs.ReadyObjects.{out_object}
-use Rattle.machine_types.specs.Words.{header, array_size}
+use Rattle.machine_types.specs.{Ints.{low, int_of, added, divided, remaining, word_of}, ReadyObjects.out_object, Words.{header, array_size}, declared.effect.Effect.Effect}
+use Rattle.machine_types.specs.declared.effect.Effect.TheVariants.{Goes, Throws, Reads, Writes, Indexes, Measures, Raises, Makes, Prints, Calls, Returns, Enters, Leaves, Waits, Notifies, NotifiesAll, Stuck}
 use Rattle.laws_objects.proofs.Operands.{TakenOld, WantOld, is_getfield}
+use Rattle.jvm_types.specs.declared.code.Op.TheVariants as ops
+use Rattle.jvm_types.specs.declared.outcome.Thrown.TheVariants as thrown
+use Rattle.jvm_types.specs.declared.program.Kind.TheVariants as kinds
+use Rattle.jvm_types.specs.declared.program.Target.TheVariants as targets
+use Rattle.jvm_types.specs.declared.typing.VType.TheVariants as types
 
 -- ---- values that are made
 

@@ -1,41 +1,18 @@
 -- Every state that a run reaches is as construction says, and an object that is lost in one is so in all that follow.
-use Rattle.std.proofs.Common.{◌≡◌, ℕ, inl, Bool, true, false, List, [], ◌∷◌, ◌++◌, length, Option, Some, None, refl, sym, ap, ◌∙◌, subst}
-use Rattle.std.specs.Prelude.{◌==◌, if◌then◌else◌, slice_get, slice_index}
+use Rattle.std.proofs.Common.{◌≡◌, ℕ, inl, Bool, true, false, List, [], ◌∷◌, ◌++◌, length, Option, Some, None, refl, sym, ap, ◌∙◌, subst, ◌==◌, if◌then◌else◌, slice_get, slice_index}
 use Rattle.std.proofs.lemmas.Bool.{eq-eqb, eqb-true}
 use Rattle.jvm_types.specs.declared.fixed_words.TheConstants.{NEXT_FREE_WORD}
-use Rattle.checked_program.specs.FrozenPlaces.{IsFrozenClass}
-use Rattle.checked_program.specs.MarkedProgram.{MarkedProgram, IsMarked}
-use Rattle.machine_types.specs.Accesses.{found_by, words_after}
-use Rattle.machine_types.specs.Construction.{AreFrozen, Construction, ThreadKeeps}
-use Rattle.machine_types.specs.Core.{Core, Happening, Of, NextPart, start, event, event_of, next, all_happened, core}
-use Rattle.machine_types.specs.Events.{wanted, moved}
-use Rattle.machine_types.specs.MarkLaws.{HasFrozenTest}
-use Rattle.machine_types.specs.PlainMemory.{Object, start_objects}
-use Rattle.machine_types.specs.Settings.{AreSettings}
-use Rattle.machine_types.specs.Standing.{tags_of}
-use Rattle.machine_types.specs.StartLaws.{StartLiesApart, phase_at_start}
-use Rattle.machine_types.specs.Threads.{Thread}
-use Rattle.machine_types.specs.Worlds.{Begun, Builder, builder, World}
-use Rattle.machine_types.specs.declared.config.Config.{Config}
-use Rattle.machine_types.specs.declared.phase.Phase.{Phase}
-use Rattle.laws_threads.specs.PartLaws.{NextKeepsStructure, counted_next}
-use Rattle.laws_threads.specs.StateLaws.{counted_phase_at, counted_after}
-use Rattle.laws_threads.specs.StructureLaws.{StructureIsKept}
-use Rattle.laws_states.specs.ChangeLaws.{EventsLeaveOthers, all_objects, run_objects}
-use Rattle.laws_states.specs.HeapFacts.{objects_of, objects_after}
-use Rattle.laws_states.specs.RunFacts.{HaveWidth}
-use Rattle.laws_states.specs.StateFacts.{StateFacts}
-use Rattle.laws_states.specs.StateLaws.{ProgramsKeepThreads, StartHasState, EventsKeepState, NextKeepsState}
-use Rattle.laws_objects.specs.ConstructionLaws.{no_builders, StartHasConstruction}
-use Rattle.laws_objects.specs.UnfinishedObjects.{IsInitOn, NobodyHas}
-use Rattle.laws_objects.proofs.Events.{BuildsFor, builds_for, built, loses, grows}
-use Rattle.laws_objects.proofs.FrameChanges.{IsUnwound}
-use Rattle.laws_objects.proofs.LosingInits.{losing_here, leaves_lost}
-use Rattle.laws_objects.proofs.LostObjects.{LostIn}
-use Rattle.laws_objects.proofs.PartBegins.{next_builds}
-use Rattle.laws_objects.proofs.Unused.{lost_strange, uses_not, places_have_not}
+use Rattle.checked_program.specs.{FrozenPlaces.IsFrozenClass, MarkedProgram.{MarkedProgram, IsMarked}}
+use Rattle.machine_types.specs.{Accesses.{found_by, words_after}, Construction.{AreFrozen, Construction, ThreadKeeps}}
+use Rattle.machine_types.specs.{Core.{Core, Happening, Of, NextPart, start, event, event_of, next, all_happened, core}, Events.{wanted, moved}, MarkLaws.HasFrozenTest}
+use Rattle.machine_types.specs.{PlainMemory.{Object, start_objects}, Settings.AreSettings, Standing.tags_of, StartLaws.{StartLiesApart, phase_at_start}, Threads.Thread}
+use Rattle.machine_types.specs.{Worlds.{Begun, Builder, builder, World}, declared.{config.Config.Config, phase.Phase.Phase}}
+use Rattle.laws_threads.specs.{PartLaws.{NextKeepsStructure, counted_next}, StateLaws.{counted_phase_at, counted_after}, StructureLaws.StructureIsKept}
+use Rattle.laws_states.specs.{ChangeLaws.{EventsLeaveOthers, all_objects, run_objects}, HeapFacts.{objects_of, objects_after}, RunFacts.HaveWidth, StateFacts.StateFacts}
+use Rattle.laws_states.{specs.StateLaws.{ProgramsKeepThreads, StartHasState, EventsKeepState, NextKeepsState}, proofs.GrowingRuns.all_append}
+use Rattle.laws_objects.{specs.{ConstructionLaws.{no_builders, StartHasConstruction}, UnfinishedObjects.{IsInitOn, NobodyHas}}, proofs.Events.{BuildsFor, builds_for, built, loses, grows}}
+use Rattle.laws_objects.proofs.{FrameChanges.IsUnwound, LosingInits.{losing_here, leaves_lost}, LostObjects.LostIn, PartBegins.next_builds, Unused.{lost_strange, uses_not, places_have_not}}
 use Rattle.laws_objects.proofs.WorldChanges.{lost}
-use Rattle.laws_states.proofs.GrowingRuns.{all_append}
 
 -- ---- a test that tells a frozen class
 

@@ -1,33 +1,17 @@
 -- A call: the caller waits, and the called frame has what the caller gave it. An `<init>` of a frozen class begins on what a
 -- `new` of the caller made.
-use Rattle.std.proofs.Common.{◌≡◌, ◌≢◌, ℕ, suc, ◌<◌, Bool, true, false, not, List, [], ◌∷◌, ◌++◌, length, map, drop, Option, Some, None, refl, sym, ap, ◌∙◌, subst, arith}
-use Rattle.std.specs.Prelude.{◌==◌, slice_get, slice_index_or, reverse}
-use Rattle.std.specs.List.{AllByRecursion}
-use Rattle.std.proofs.lemmas.Bool.{or_parts, eqb-false}
-use Rattle.std.proofs.lemmas.Bool.Decides.{Decides-eqb}
+use Rattle.std.proofs.Common.{◌≡◌, ◌≢◌, ℕ, suc, ◌<◌, Bool, true, false, not, List, [], ◌∷◌, ◌++◌, length, map, drop, Option, Some, None, refl, sym, ap, ◌∙◌, subst, arith, ◌==◌, slice_get, slice_index_or, reverse}
+use Rattle.std.{specs.List.AllByRecursion, proofs.lemmas.Bool.{or_parts, eqb-false, Decides.Decides-eqb}}
 use Rattle.lists.proofs.TestLaws.{is_true}
-use Rattle.jvm_types.specs.CodeTable.{arguments, want_of}
-use Rattle.jvm_types.specs.Verifying.{suits, some_taken, started}
-use Rattle.jvm_types.specs.declared.op_row.Want.{Want}
-use Rattle.jvm_types.specs.declared.op_row.Want.TheVariants.{AnyValue, AnInt, AnObject, AnyReference, AHolder, ToStart}
-use Rattle.jvm_types.specs.declared.program.Kind.{Kind}
-use Rattle.jvm_types.specs.declared.program.Kind.TheVariants as kinds
-use Rattle.jvm_types.specs.declared.program.MethodInfo.{MethodInfo}
-use Rattle.jvm_types.specs.declared.typing.VType.{VType}
-use Rattle.jvm_types.specs.declared.typing.VType.TheVariants as types
-use Rattle.checked_program.specs.MarkedProgram.{MarkedProgram}
-use Rattle.checked_program.specs.Marks.{called_method}
-use Rattle.checked_program.specs.declared.tag.Tag.{Tag}
-use Rattle.checked_program.specs.declared.tag.Tag.TheVariants.{Untagged}
+use Rattle.jvm_types.specs.{CodeTable.{arguments, want_of}, Verifying.{suits, some_taken, started}, declared.op_row.Want.Want}
+use Rattle.jvm_types.specs.declared.{op_row.Want.TheVariants.{AnyValue, AnInt, AnObject, AnyReference, AHolder, ToStart}, program.{Kind.Kind, MethodInfo.MethodInfo}, typing.VType.VType}
+use Rattle.checked_program.specs.{MarkedProgram.MarkedProgram, Marks.called_method, declared.tag.Tag.{Tag, TheVariants.Untagged}}
 use Rattle.machine_types.specs.Construction.{builds, makes_frozen, if_so, SlotsAre, Runs, WaitsFor, FreshAtCall, IsFresh, ReceiverIs, SlotOf, FrameKeeps, WaitKeeps, KeepBelow}
-use Rattle.machine_types.specs.Standing.{Standing, row_at}
-use Rattle.machine_types.specs.Threads.{Frame}
-use Rattle.machine_types.specs.Worlds.{Made, Begun, Lost, Builder, builder, World, IsFinished, with_builder}
-use Rattle.laws_objects.proofs.BuiltEffects.{StartsNone}
-use Rattle.laws_objects.proofs.KeptFrames.{KeepsUnder, below_kept}
-use Rattle.laws_objects.proofs.Moves.{StartsOld, Suit, suits_later}
-use Rattle.laws_objects.proofs.Slots.{slots_map, slots_drop, slot_later}
+use Rattle.machine_types.specs.{Standing.{Standing, row_at}, Threads.Frame, Worlds.{Made, Begun, Lost, Builder, builder, World, IsFinished, with_builder}}
+use Rattle.laws_objects.proofs.{BuiltEffects.StartsNone, KeptFrames.{KeepsUnder, below_kept}, Moves.{StartsOld, Suit, suits_later}, Slots.{slots_map, slots_drop, slot_later}}
 use Rattle.laws_objects.proofs.WorldChanges.{item_is, none_some, given_keeps, given_none}
+use Rattle.jvm_types.specs.declared.program.Kind.TheVariants as kinds
+use Rattle.jvm_types.specs.declared.typing.VType.TheVariants as types
 
 -- ---- below a frame it counts which method it is of, and its receiver
 

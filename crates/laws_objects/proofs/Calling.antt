@@ -1,52 +1,24 @@
 -- A method is called: the caller waits below the frame of the called method.
-use Rattle.std.proofs.Common.{◌≡◌, ◌≢◌, ℕ, zero, suc, ◌+◌, ◌<◌, ◌≤◌, ◌⊎◌, inl, inr, Bool, true, false, not, ◌&&◌, ◌||◌, List, [], ◌∷◌, ◌++◌, length, Option, Some, None, refl, sym, ap, ◌∙◌, subst, arith}
-use Rattle.std.specs.Prelude.{◌==◌, nat_lt, slice_get, slice_index_or, reverse, take, if◌then◌else◌}
-use Rattle.std.specs.List.{AllByRecursion}
-use Rattle.std.proofs.lemmas.Bool.Decides.{nat_tests}
-use Rattle.std.proofs.lemmas.List.{length-append}
+use Rattle.std.proofs.Common.{◌≡◌, ◌≢◌, ℕ, zero, suc, ◌+◌, ◌<◌, ◌≤◌, ◌⊎◌, inl, inr, Bool, true, false, not, ◌&&◌, ◌||◌, List, [], ◌∷◌, ◌++◌, length, Option, Some, None, refl, sym, ap, ◌∙◌, subst, arith, ◌==◌, nat_lt, slice_get, slice_index_or, reverse, take, if◌then◌else◌}
+use Rattle.std.{specs.List.AllByRecursion, proofs.lemmas.{Bool.Decides.nat_tests, List.length-append}}
 use Rattle.lists.proofs.ListLaws.{same_some}
-use Rattle.jvm_types.specs.CodeTable.{arguments, is_init}
-use Rattle.jvm_types.specs.Members.{MethodSite, is_static, is_init_name, is_class_init_name}
-use Rattle.jvm_types.specs.ProgramInvariant.{site_in}
-use Rattle.jvm_types.specs.Verifying.{suits, new_class, is_class_of, started}
-use Rattle.jvm_types.specs.declared.class_numbers.TheConstants.{OBJECT_CLASS}
-use Rattle.jvm_types.specs.declared.code.Op.{Op}
-use Rattle.jvm_types.specs.declared.code.Op.TheVariants as ops
-use Rattle.jvm_types.specs.declared.op_row.OpRow.{OpRow}
-use Rattle.jvm_types.specs.declared.op_row.Want.{Want}
-use Rattle.jvm_types.specs.declared.op_row.Want.TheVariants.{AnObject, ToStart}
-use Rattle.jvm_types.specs.declared.program.MethodInfo.{MethodInfo}
-use Rattle.jvm_types.specs.declared.program.Program.{Program}
-use Rattle.jvm_types.specs.declared.program.Target.{Target}
-use Rattle.jvm_types.specs.declared.program.Target.TheVariants as targets
-use Rattle.jvm_types.specs.declared.typing.VType.{VType}
-use Rattle.jvm_types.specs.declared.typing.VType.TheVariants as types
-use Rattle.laws_programs.specs.TargetLaws.{HasRow}
-use Rattle.laws_programs.specs.EntryLaws.{receiver_count}
-use Rattle.checked_program.specs.CheckedLaws.{receiver_want}
-use Rattle.checked_program.specs.FrozenPlaces.{may_take}
-use Rattle.checked_program.specs.MarkedProgram.{MarkedProgram, IsMarked, checked_part}
-use Rattle.checked_program.specs.Marks.{called_method}
-use Rattle.checked_program.specs.declared.tag.Tag.{Tag}
-use Rattle.checked_program.specs.declared.tag.Tag.TheVariants.{Untagged, This}
-use Rattle.checked_program.proofs.CheckedPlaces.{called_fit_all}
+use Rattle.jvm_types.specs.{CodeTable.{arguments, is_init}, Members.{MethodSite, is_static, is_init_name, is_class_init_name}, ProgramInvariant.site_in}
+use Rattle.jvm_types.specs.{Verifying.{suits, new_class, is_class_of, started}, declared.{class_numbers.TheConstants.OBJECT_CLASS, code.Op.Op, op_row.{OpRow.OpRow, Want.Want}}}
+use Rattle.jvm_types.specs.declared.{op_row.Want.TheVariants.{AnObject, ToStart}, program.{MethodInfo.MethodInfo, Program.Program, Target.Target}, typing.VType.VType}
+use Rattle.laws_programs.{specs.{EntryLaws.receiver_count, TargetLaws.HasRow}, proofs.LocalGoing.at_index}
+use Rattle.checked_program.specs.{CheckedLaws.receiver_want, FrozenPlaces.may_take, MarkedProgram.{MarkedProgram, IsMarked, checked_part}, Marks.called_method, declared.tag.Tag.Tag}
+use Rattle.checked_program.{specs.declared.tag.Tag.TheVariants.{Untagged, This}, proofs.CheckedPlaces.called_fit_all}
 use Rattle.machine_types.specs.Construction.{AreFrozen, is_frozen_class, builds, makes_frozen, if_so, SlotByType, SlotIs, SlotsAre, Runs, IsFresh, ReceiverIs, SlotOf, FrameKeeps, WaitKeeps, KeepBelow, FramesKeep}
-use Rattle.machine_types.specs.Frames.{entry_frame, first_or_null}
-use Rattle.machine_types.specs.Standing.{row_at}
-use Rattle.machine_types.specs.Threads.{Frame}
-use Rattle.machine_types.specs.Worlds.{Made, Begun, Builder, builder, World, IsFinished, IsOwnOrFinished, IsWorld, with_builder}
-use Rattle.laws_threads.proofs.Callers.{row_of_call}
-use Rattle.laws_threads.proofs.Calls.{CallRow, deepest_first}
-use Rattle.laws_threads.proofs.Landing.{rules_at}
+use Rattle.machine_types.specs.{Frames.{entry_frame, first_or_null}, Standing.row_at, Threads.Frame, Worlds.{Made, Begun, Builder, builder, World, IsFinished, IsOwnOrFinished, IsWorld, with_builder}}
+use Rattle.laws_threads.proofs.{Callers.row_of_call, Calls.{CallRow, deepest_first}, Landing.rules_at}
 use Rattle.laws_objects.proofs.BuiltEffects.{StartsNone}
 use Rattle.laws_objects.proofs.CalledFrames.{below_moved, waits_on, caller_waits, begun_world, old_begun, young_waits, below_begun, ReceiverAt, start_slot, arguments_start, none_started, none_append}
-use Rattle.laws_objects.proofs.EnteredFrames.{ArgsOld, args_map, static_args, instance_args, static_enters, instance_enters}
-use Rattle.laws_objects.proofs.Landing.{inside_at, no_this_at}
-use Rattle.laws_objects.proofs.Moves.{Steps, stays, StartsOld, Suit, suit_at}
-use Rattle.laws_objects.proofs.Operands.{TakenOld, is_getfield, takes_old}
-use Rattle.laws_objects.proofs.Slots.{plainly}
+use Rattle.laws_objects.proofs.{EnteredFrames.{ArgsOld, args_map, static_args, instance_args, static_enters, instance_enters}, Landing.{inside_at, no_this_at}}
+use Rattle.laws_objects.proofs.{Moves.{Steps, stays, StartsOld, Suit, suit_at}, Operands.{TakenOld, is_getfield, takes_old}, Slots.plainly}
 use Rattle.laws_objects.proofs.WorldChanges.{none_some, given_here, world_given, goes_given, lost_given, not_lost}
-use Rattle.laws_programs.proofs.LocalGoing.{at_index}
+use Rattle.jvm_types.specs.declared.code.Op.TheVariants as ops
+use Rattle.jvm_types.specs.declared.program.Target.TheVariants as targets
+use Rattle.jvm_types.specs.declared.typing.VType.TheVariants as types
 
 -- ---- calls
 

@@ -1,15 +1,11 @@
 -- What a phase says of the frames and of what it carries, the phase that counts says too.
 use Rattle.std.proofs.Common.{ℕ, Bool, List, subst}
 use Rattle.jvm_types.specs.declared.outcome.End.{End}
-use Rattle.jvm_types.specs.declared.outcome.End.TheVariants as ends
 use Rattle.checked_program.specs.MarkedProgram.{MarkedProgram}
-use Rattle.machine_types.specs.Construction.{PhaseKeepsFrames, PhaseKeeps}
-use Rattle.machine_types.specs.Structure.{IsLimitAt, IsAs, CountsTurns}
-use Rattle.machine_types.specs.Threads.{Frame}
-use Rattle.machine_types.specs.Worlds.{World}
-use Rattle.machine_types.specs.declared.phase.Phase.{Phase}
-use Rattle.machine_types.specs.declared.phase.Phase.TheVariants as phases
+use Rattle.machine_types.specs.{Construction.{PhaseKeepsFrames, PhaseKeeps}, Structure.{IsLimitAt, IsAs, CountsTurns}, Threads.Frame, Worlds.World, declared.phase.Phase.Phase}
 use Rattle.laws_threads.specs.StructureLaws.{counted_by, turned_from}
+use Rattle.jvm_types.specs.declared.outcome.End.TheVariants as ends
+use Rattle.machine_types.specs.declared.phase.Phase.TheVariants as phases
 
 -- of frames in a world
 abbrev pub PhaseFits : MarkedProgram → (frozen : ℕ → Bool) → World → (next t : ℕ) → List Frame → Phase → Type 0

@@ -1,35 +1,18 @@
 -- The frame of a method that is called, and that of a root.
-use Rattle.std.proofs.Common.{◌≡◌, ℕ, zero, suc, ◌+◌, ◌-◌, ◌≤◌, Bool, true, false, List, [], ◌∷◌, ◌++◌, length, map, replicate, Some, refl, sym, ap, ◌∙◌, subst, arith}
-use Rattle.std.specs.Prelude.{slice_get, reverse, take, if◌then◌else◌}
-use Rattle.std.specs.List.{AllZip}
-use Rattle.std.proofs.lemmas.List.{length-map, reverse-append}
-use Rattle.jvm_types.specs.CodeTable.{type_of, want_of, arguments, is_init}
-use Rattle.jvm_types.specs.Members.{is_static}
-use Rattle.jvm_types.specs.Types as types
-use Rattle.jvm_types.specs.declared.code.Insn.{Insn}
-use Rattle.jvm_types.specs.declared.op_row.Want.{Want}
-use Rattle.jvm_types.specs.declared.program.Kind.{Kind}
-use Rattle.jvm_types.specs.declared.program.Kind.TheVariants as kinds
-use Rattle.jvm_types.specs.declared.program.MethodInfo.{MethodInfo}
-use Rattle.jvm_types.specs.declared.typing.VType.{VType}
-use Rattle.jvm_types.specs.declared.typing.VType.TheVariants as vtypes
-use Rattle.laws_programs.proofs.CodeOrder.{one_number}
-use Rattle.laws_programs.proofs.LocalGoing.{begins}
-use Rattle.checked_program.specs.LockTags.{entry_tags}
-use Rattle.checked_program.specs.MarkedProgram.{MarkedProgram, IsMarked}
-use Rattle.checked_program.specs.TaggedCode.{IsAt}
-use Rattle.checked_program.specs.declared.tag.Tag.{Tag}
-use Rattle.checked_program.specs.declared.tag.Tag.TheVariants.{Untagged, This}
-use Rattle.machine_types.specs.Construction.{AreFrozen, builds, makes_frozen, SlotIs, SlotsAre, Runs, IsFresh, ReceiverIs, SlotOf, FrameKeeps}
-use Rattle.machine_types.specs.Frames.{entry_frame, first_or_null}
-use Rattle.machine_types.specs.Standing.{tags_of}
-use Rattle.machine_types.specs.Worlds.{World, IsFinished}
-use Rattle.laws_threads.proofs.MarkedMethods.{method_at}
-use Rattle.laws_threads.proofs.Lists.{zip_reverse, reverse_map}
-use Rattle.laws_objects.proofs.Landing.{IsJoined, land}
-use Rattle.laws_objects.proofs.Operands.{WantOld, TakenOld}
-use Rattle.laws_objects.proofs.Slots.{top_slot, ref_slot}
+use Rattle.std.proofs.Common.{◌≡◌, ℕ, zero, suc, ◌+◌, ◌-◌, ◌≤◌, Bool, true, false, List, [], ◌∷◌, ◌++◌, length, map, replicate, Some, refl, sym, ap, ◌∙◌, subst, arith, slice_get, reverse, take, if◌then◌else◌}
+use Rattle.std.{specs.List.AllZip, proofs.lemmas.List.{length-map, reverse-append}}
 use Rattle.lists.proofs.TestLaws.{both_are_true}
+use Rattle.jvm_types.specs.{CodeTable.{type_of, want_of, arguments, is_init}, Members.is_static, declared.{code.Insn.Insn, op_row.Want.Want, program.{Kind.Kind, MethodInfo.MethodInfo}}}
+use Rattle.jvm_types.specs.declared.typing.VType.{VType}
+use Rattle.laws_programs.proofs.{CodeOrder.one_number, LocalGoing.begins}
+use Rattle.checked_program.specs.{LockTags.entry_tags, MarkedProgram.{MarkedProgram, IsMarked}, TaggedCode.IsAt, declared.tag.Tag.{Tag, TheVariants.{Untagged, This}}}
+use Rattle.machine_types.specs.{Construction.{AreFrozen, builds, makes_frozen, SlotIs, SlotsAre, Runs, IsFresh, ReceiverIs, SlotOf, FrameKeeps}, Frames.{entry_frame, first_or_null}, Standing.tags_of}
+use Rattle.machine_types.specs.Worlds.{World, IsFinished}
+use Rattle.laws_threads.proofs.{Lists.{zip_reverse, reverse_map}, MarkedMethods.method_at}
+use Rattle.laws_objects.proofs.{Landing.{IsJoined, land}, Operands.{WantOld, TakenOld}, Slots.{top_slot, ref_slot}}
+use Rattle.jvm_types.specs.Types as types
+use Rattle.jvm_types.specs.declared.program.Kind.TheVariants as kinds
+use Rattle.jvm_types.specs.declared.typing.VType.TheVariants as vtypes
 
 -- ---- arguments
 

@@ -1,50 +1,19 @@
 -- An event leaves a world in that construction stands again.
-use Rattle.std.proofs.Common.{◌≡◌, ◌≢◌, ℕ, ◌≤◌, ◌⊎◌, inl, inr, Bool, true, false, List, [], ◌∷◌, Option, Some, None, refl, sym, ap, ◌∙◌, subst, arith}
-use Rattle.std.specs.Prelude.{◌==◌, slice_get, slice_set, slice_index, if◌then◌else◌}
+use Rattle.std.proofs.Common.{◌≡◌, ◌≢◌, ℕ, ◌≤◌, ◌⊎◌, inl, inr, Bool, true, false, List, [], ◌∷◌, Option, Some, None, refl, sym, ap, ◌∙◌, subst, arith, ◌==◌, slice_get, slice_set, slice_index, if◌then◌else◌}
 use Rattle.std.proofs.lemmas.Bool.{eqb-true, eqb-false}
 use Rattle.jvm_types.specs.declared.fixed_words.TheConstants.{NEXT_FREE_WORD}
 use Rattle.checked_program.specs.MarkedProgram.{MarkedProgram, IsMarked}
-use Rattle.machine_types.specs.Accesses.{found_by, words_after}
-use Rattle.machine_types.specs.Construction.{Runs, FramesKeep, ThreadKeeps, PlacesKeep, Construction}
-use Rattle.machine_types.specs.Core.{Core, event_of}
-use Rattle.machine_types.specs.Events.{wanted, moved}
-use Rattle.machine_types.specs.FoundWords.{content_at}
-use Rattle.machine_types.specs.Frames.{Top, top_of, effect_at}
-use Rattle.machine_types.specs.Instructions.{run_wants}
-use Rattle.machine_types.specs.Lawful.{IsLawful}
-use Rattle.machine_types.specs.Monitors.{claim}
-use Rattle.machine_types.specs.PlainMemory.{Object}
-use Rattle.machine_types.specs.StartLaws.{StartLiesApart}
-use Rattle.machine_types.specs.Standing.{row_at}
-use Rattle.machine_types.specs.Structure.{IsStructured, IsAs, Stands, AttemptStandsIn}
-use Rattle.machine_types.specs.Threads.{Frame, Thread}
-use Rattle.machine_types.specs.Typed.{FramesHold, PhaseHolds, HasClass}
-use Rattle.machine_types.specs.Worlds.{Lost, Builder, World, GoesOn}
-use Rattle.machine_types.specs.declared.phase.Phase.{Phase}
+use Rattle.machine_types.specs.{Accesses.{found_by, words_after}, Construction.{Runs, FramesKeep, ThreadKeeps, PlacesKeep, Construction}, Core.{Core, event_of}, Events.{wanted, moved}}
+use Rattle.machine_types.specs.{FoundWords.content_at, Frames.{Top, top_of, effect_at}, Instructions.run_wants, Lawful.IsLawful, Monitors.claim, PlainMemory.Object, Standing.row_at}
+use Rattle.machine_types.specs.{StartLaws.StartLiesApart, Structure.{IsStructured, IsAs, Stands, AttemptStandsIn}, Threads.{Frame, Thread}, Typed.{FramesHold, PhaseHolds, HasClass}}
+use Rattle.machine_types.specs.{Worlds.{Lost, Builder, World, GoesOn}, declared.{config.Config.Config, phase.Phase.Phase}}
+use Rattle.laws_threads.{specs.{StateLaws.{counted_of, counted_phase_at}, StructureLaws.{StaysStructured, StructureIsKept, counted_by}}, proofs.{Landing.stand_top, Standings.top_here}}
+use Rattle.laws_states.{specs.{HeapFacts.{objects_by, objects_of}, Sites.ReachesIf, StateFacts.StateFacts}, proofs.{Accesses.element_site, Assembled.got_set, NewHeader.behind_new}}
+use Rattle.laws_states.proofs.{Phases.{IsOldPhase, old_fits, events_reach}, WordSteps.words_go_on}
+use Rattle.laws_objects.{specs.ConstructionLaws.{BuildsOn, EventsKeepConstruction}, proofs.{InstructionMoves.{none_outside, KnownTop}, LostObjects.{SeenByAll, LostIn}, MonitorMoves.fits}}
+use Rattle.laws_objects.proofs.{Onwards.built_here, PhaseMoves.{moves_keep, allowed, run_known}, Places.{leave_plain, same_words, plain, element, effect_places, made_places}}
+use Rattle.laws_objects.proofs.{ThreadMoves.{Moved, now_world}, Views.{other_keeps, other_lost}, WorldChanges.{none_some, goes_same}}
 use Rattle.machine_types.specs.declared.phase.Phase.TheVariants as phases
-use Rattle.laws_threads.specs.StateLaws.{counted_of, counted_phase_at}
-use Rattle.laws_threads.specs.StructureLaws.{StaysStructured, StructureIsKept, counted_by}
-use Rattle.laws_states.specs.HeapFacts.{objects_by, objects_of}
-use Rattle.laws_states.specs.Sites.{ReachesIf}
-use Rattle.laws_states.proofs.Accesses.{element_site}
-use Rattle.laws_states.proofs.Assembled.{got_set}
-use Rattle.laws_states.proofs.NewHeader.{behind_new}
-use Rattle.laws_states.proofs.Phases.{IsOldPhase, old_fits, events_reach}
-use Rattle.laws_states.proofs.WordSteps.{words_go_on}
-use Rattle.laws_threads.proofs.Landing.{stand_top}
-use Rattle.laws_threads.proofs.Standings.{top_here}
-use Rattle.laws_states.specs.StateFacts.{StateFacts}
-use Rattle.laws_objects.specs.ConstructionLaws.{BuildsOn, EventsKeepConstruction}
-use Rattle.laws_objects.proofs.InstructionMoves.{none_outside, KnownTop}
-use Rattle.laws_objects.proofs.LostObjects.{SeenByAll, LostIn}
-use Rattle.laws_objects.proofs.MonitorMoves.{fits}
-use Rattle.laws_objects.proofs.Onwards.{built_here}
-use Rattle.laws_objects.proofs.PhaseMoves.{moves_keep, allowed, run_known}
-use Rattle.laws_objects.proofs.Places.{leave_plain, same_words, plain, element, effect_places, made_places}
-use Rattle.laws_objects.proofs.ThreadMoves.{Moved, now_world}
-use Rattle.laws_objects.proofs.Views.{other_keeps, other_lost}
-use Rattle.laws_objects.proofs.WorldChanges.{none_some, goes_same}
-use Rattle.machine_types.specs.declared.config.Config.{Config}
 
 module _ (lies : StartLiesApart) (structure : StructureIsKept) (c : MarkedProgram) (cfg : Config) (marked : IsMarked c) (frozen : ℕ → Bool) (w : World) (objects : List Object) (was : ℕ → Phase) (s : Core) (t : ℕ) (facts : StateFacts c cfg objects was s)
     (con : Construction c frozen w was objects s) where

@@ -1,47 +1,19 @@
 -- An event that changes a field of an object is a `putfield` of that field on that object.
-use Rattle.std.proofs.Common.{◌≡◌, ◌⊎◌, inl, inr, ℕ, Bool, true, false, List, [], ◌∷◌, Some, refl, sym, ap, ◌∙◌, arith}
-use Rattle.std.specs.Prelude.{Contains, slice_get, slice_index, if◌then◌else◌}
-use Rattle.jvm_types.specs.CodeTable.{row}
-use Rattle.jvm_types.specs.Members.{is_static}
-use Rattle.jvm_types.specs.ProgramInvariant.{IsProgram, site_in}
-use Rattle.jvm_types.specs.declared.class_numbers.TheConstants.{INT_ARRAY_CLASS}
-use Rattle.jvm_types.specs.declared.code.Op.{Op}
-use Rattle.jvm_types.specs.declared.code.Op.TheVariants as ops
-use Rattle.jvm_types.specs.declared.program.FieldInfo.{FieldInfo}
-use Rattle.jvm_types.specs.declared.program.MethodInfo.{MethodInfo}
-use Rattle.jvm_types.specs.declared.program.Target.{Target}
-use Rattle.jvm_types.specs.declared.program.Target.TheVariants as targets
-use Rattle.laws_programs.proofs.ClassTreeLaws.{leaves_alone}
-use Rattle.laws_programs.proofs.FieldOrder.{one_instance_field}
+use Rattle.std.proofs.Common.{◌≡◌, ◌⊎◌, inl, inr, ℕ, Bool, true, false, List, [], ◌∷◌, Some, refl, sym, ap, ◌∙◌, arith, Contains, slice_get, slice_index, if◌then◌else◌}
+use Rattle.jvm_types.specs.{CodeTable.row, Members.is_static, ProgramInvariant.{IsProgram, site_in}, declared.{class_numbers.TheConstants.INT_ARRAY_CLASS, code.Op.Op, program.FieldInfo.FieldInfo}}
+use Rattle.jvm_types.specs.declared.program.{MethodInfo.MethodInfo, Target.Target}
+use Rattle.laws_programs.proofs.{ClassTreeLaws.leaves_alone, FieldOrder.one_instance_field}
 use Rattle.checked_program.specs.MarkedProgram.{MarkedProgram, IsMarked}
-use Rattle.machine_types.specs.Accesses.{words_after}
-use Rattle.machine_types.specs.Core.{Core}
-use Rattle.machine_types.specs.Effects.{variable_of, effect}
-use Rattle.machine_types.specs.Events.{wanted}
-use Rattle.machine_types.specs.FoundWords.{leave_content}
-use Rattle.machine_types.specs.Lawful.{IsLawful}
-use Rattle.machine_types.specs.Monitors.{Claim}
-use Rattle.machine_types.specs.PlainMemory.{Object}
-use Rattle.machine_types.specs.Standing.{Standing}
-use Rattle.machine_types.specs.Structure.{IsStructured, TopIs, is_element_op}
-use Rattle.machine_types.specs.Threads.{Frame, Thread}
-use Rattle.machine_types.specs.Typed.{IsNullOr, FramesHold, HasClass, HasElementIn, ElementStands, IsElementOn, HasElementOn}
-use Rattle.machine_types.specs.Words.{value_word, variable_word}
-use Rattle.machine_types.specs.declared.effect.Effect.TheVariants.{Writes}
-use Rattle.machine_types.specs.declared.effect.Variable.{Variable}
-use Rattle.machine_types.specs.declared.effect.Variable.TheVariants.{Instance, Static}
-use Rattle.machine_types.specs.declared.phase.Phase.{Phase}
-use Rattle.laws_threads.specs.Allowed.{IsNamedField, TakenHold}
-use Rattle.laws_threads.proofs.Onwards.{same_op}
-use Rattle.laws_threads.proofs.TopEffects.{taken_here}
-use Rattle.laws_states.specs.HeapFacts.{HeapFacts}
-use Rattle.laws_states.specs.SiteLaws.{EventsReachSites, SitesDiffer, SitesLieInside}
-use Rattle.laws_states.specs.Sites.{Site, ValueOf, StaticAt, IsThere, Suits}
-use Rattle.laws_states.proofs.Accesses.{out_there}
-use Rattle.laws_states.proofs.Lists.{contained_got}
-use Rattle.laws_states.proofs.Places.{same_object}
-use Rattle.laws_objects.proofs.PlaceWriters.{IsWriter, holder_of, has_field, leave_of_none, names_field, place_suits, place_writer}
-use Rattle.laws_objects.proofs.WrittenFields.{Puts, PutsOnClass, field_put}
+use Rattle.machine_types.specs.{Accesses.words_after, Core.Core, Effects.{variable_of, effect}, Events.wanted, FoundWords.leave_content, Lawful.IsLawful, Monitors.Claim, PlainMemory.Object}
+use Rattle.machine_types.specs.{Standing.Standing, Structure.{IsStructured, TopIs, is_element_op}, Threads.{Frame, Thread}}
+use Rattle.machine_types.specs.{Typed.{IsNullOr, FramesHold, HasClass, HasElementIn, ElementStands, IsElementOn, HasElementOn}, Words.{value_word, variable_word}}
+use Rattle.machine_types.specs.declared.{effect.{Effect.TheVariants.Writes, Variable.{Variable, TheVariants.{Instance, Static}}}, phase.Phase.Phase}
+use Rattle.laws_threads.{specs.Allowed.{IsNamedField, TakenHold}, proofs.{Onwards.same_op, TopEffects.taken_here}}
+use Rattle.laws_states.{specs.{HeapFacts.HeapFacts, SiteLaws.{EventsReachSites, SitesDiffer, SitesLieInside}, Sites.{Site, ValueOf, StaticAt, IsThere, Suits}}, proofs.Accesses.out_there}
+use Rattle.laws_states.proofs.{Lists.contained_got, Places.same_object}
+use Rattle.laws_objects.proofs.{PlaceWriters.{IsWriter, holder_of, has_field, leave_of_none, names_field, place_suits, place_writer}, WrittenFields.{Puts, PutsOnClass, field_put}}
+use Rattle.jvm_types.specs.declared.code.Op.TheVariants as ops
+use Rattle.jvm_types.specs.declared.program.Target.TheVariants as targets
 
 -- ---- a frame that writes the field of an object
 

@@ -1,41 +1,22 @@
 -- In every run an object is finished by the return of its own `<init>` alone: until then no place and no other thread has it.
-use Rattle.std.proofs.Common.{◌≡◌, ◌≢◌, ℕ, zero, suc, ◌<◌, ◌⊎◌, inl, inr, Bool, true, false, List, [], ◌∷◌, ◌++◌, length, map, Option, Some, None, refl, sym, ap, ◌∙◌, subst, arith}
-use Rattle.std.specs.Prelude.{◌==◌, if◌then◌else◌, slice_get, slice_index}
+use Rattle.std.proofs.Common.{◌≡◌, ◌≢◌, ℕ, zero, suc, ◌<◌, ◌⊎◌, inl, inr, Bool, true, false, List, [], ◌∷◌, ◌++◌, length, map, Option, Some, None, refl, sym, ap, ◌∙◌, subst, arith, ◌==◌, if◌then◌else◌, slice_get, slice_index}
 use Rattle.std.proofs.lemmas.Bool.{eqb-true, eqb-false}
 use Rattle.lists.proofs.ListLaws.{same_some}
-use Rattle.jvm_types.specs.declared.fixed_words.TheConstants.{NEXT_FREE_WORD}
-use Rattle.jvm_types.specs.declared.program.Program.{Program}
+use Rattle.jvm_types.specs.declared.{fixed_words.TheConstants.NEXT_FREE_WORD, program.Program.Program}
 use Rattle.checked_program.specs.MarkedProgram.{MarkedProgram, IsMarked}
-use Rattle.machine_types.specs.Accesses.{found_by}
-use Rattle.machine_types.specs.Construction.{AreFrozen, PhaseKeepsFrames, ThreadKeeps}
-use Rattle.machine_types.specs.Core.{Core, Happening, Of, NextPart, how_ended, with_roots, part_begins, next_threads, may_begin, event, event_of, next, all_happened, core}
-use Rattle.machine_types.specs.Events.{wanted, moved}
-use Rattle.machine_types.specs.Frames.{Top, top_of, frames_of, given, given_back, returned}
-use Rattle.machine_types.specs.Parts.{run_roots, done_roots}
-use Rattle.machine_types.specs.PlainMemory.{Object}
-use Rattle.machine_types.specs.Standing.{Standing}
-use Rattle.machine_types.specs.Structure.{IsStructured}
-use Rattle.machine_types.specs.Settings.{AreSettings}
-use Rattle.machine_types.specs.Threads.{Frame, Attempt, Thread}
-use Rattle.machine_types.specs.Worlds.{Begun, Builder, builder, World}
-use Rattle.machine_types.specs.declared.config.Config.{Config}
-use Rattle.machine_types.specs.declared.phase.Phase.{Phase}
-use Rattle.machine_types.specs.declared.phase.Phase.TheVariants as phases
-use Rattle.laws_threads.specs.PartLaws.{counted_next}
-use Rattle.laws_threads.specs.StateLaws.{counted_after}
-use Rattle.laws_threads.proofs.Landing.{stand_top}
-use Rattle.laws_states.proofs.Lists.{contained_got}
-use Rattle.laws_states.specs.ChangeLaws.{all_objects, run_objects}
-use Rattle.laws_states.specs.HeapFacts.{objects_after}
-use Rattle.laws_states.specs.RunFacts.{HaveWidth}
+use Rattle.machine_types.specs.{Accesses.found_by, Construction.{AreFrozen, PhaseKeepsFrames, ThreadKeeps}}
+use Rattle.machine_types.specs.{Core.{Core, Happening, Of, NextPart, how_ended, with_roots, part_begins, next_threads, may_begin, event, event_of, next, all_happened, core}, Events.{wanted, moved}}
+use Rattle.machine_types.specs.{Frames.{Top, top_of, frames_of, given, given_back, returned}, Parts.{run_roots, done_roots}, PlainMemory.Object, Settings.AreSettings, Standing.Standing}
+use Rattle.machine_types.specs.{Structure.IsStructured, Threads.{Frame, Attempt, Thread}, Worlds.{Begun, Builder, builder, World}, declared.{config.Config.Config, phase.Phase.Phase}}
+use Rattle.machine_types.proofs.{Lists.got_when_set, PlainPartLaws.frames_are}
+use Rattle.laws_threads.{specs.{PartLaws.counted_next, StateLaws.counted_after}, proofs.Landing.stand_top}
+use Rattle.laws_states.{specs.{ChangeLaws.{all_objects, run_objects}, HeapFacts.objects_after, RunFacts.HaveWidth}, proofs.Lists.contained_got}
 use Rattle.laws_objects.specs.UnfinishedObjects.{ReturnsFrom, NeverReturns, NoOtherHas, FinishedByOwnReturn}
 use Rattle.laws_objects.proofs.BuiltRuns.{TellsClass, tells_class, AreBuiltLaws, BuiltThere, LostThere, BuiltIn, event_there, next_there, event_lost, next_lost, nobody_has, reached, lost_behind, core_more, objects_more}
-use Rattle.laws_objects.proofs.FrameChanges.{frame_at, under, top_here, in_place, TriesGo, IsUnwound, FramesGo, frames_go}
-use Rattle.laws_objects.proofs.ThreadMoves.{BasedIn}
+use Rattle.laws_objects.proofs.{FrameChanges.{frame_at, under, top_here, in_place, TriesGo, IsUnwound, FramesGo, frames_go}, ThreadMoves.BasedIn}
 use Rattle.laws_objects.proofs.UnreturnedInits.{IsYoung, HasInit, init_stays, init_splits, Splits, HasBack, IsInside, world_begun, put_back_low, based_of, has_back_on, back_frames, away_frames}
 use Rattle.laws_objects.proofs.Unused.{others_strange, uses_not, places_have_not}
-use Rattle.machine_types.proofs.Lists.{got_when_set}
-use Rattle.machine_types.proofs.PlainPartLaws.{frames_are}
+use Rattle.machine_types.specs.declared.phase.Phase.TheVariants as phases
 
 -- ---- the thread behind an event of its own
 

@@ -1,44 +1,25 @@
 -- What an event makes of the frames of its thread: each stays at its height, of its method and on its receiver, or the top one has
 -- returned, or an exception has left it, or an attempt has failed.
-use Rattle.std.proofs.Common.{◌≡◌, ℕ, suc, ◌+◌, ◌-◌, ◌<◌, ◌⊎◌, inl, inr, Bool, true, false, List, [], ◌∷◌, length, drop, Option, Some, None, refl, sym, ap, ◌∙◌, subst, arith}
-use Rattle.std.specs.Prelude.{◌==◌, option_map, slice_get, if◌then◌else◌}
+use Rattle.std.proofs.Common.{◌≡◌, ℕ, suc, ◌+◌, ◌-◌, ◌<◌, ◌⊎◌, inl, inr, Bool, true, false, List, [], ◌∷◌, length, drop, Option, Some, None, refl, sym, ap, ◌∙◌, subst, arith, ◌==◌, option_map, slice_get, if◌then◌else◌}
 use Rattle.std.proofs.lemmas.Bool.{eq-eqb, eqb-true, ne_eqb}
 use Rattle.lists.proofs.ListLaws.{same_some}
-use Rattle.jvm_types.specs.Members.{is_synchronized}
-use Rattle.jvm_types.specs.declared.outcome.Thrown.{Thrown}
-use Rattle.jvm_types.specs.declared.outcome.Thrown.TheVariants as thrown
-use Rattle.jvm_types.specs.declared.program.MethodInfo.{MethodInfo}
-use Rattle.jvm_types.specs.declared.program.Program.{Program}
-use Rattle.jvm_types.specs.declared.program.Row.{Row}
+use Rattle.jvm_types.specs.{Members.is_synchronized, declared.{outcome.Thrown.Thrown, program.{MethodInfo.MethodInfo, Program.Program, Row.Row}}}
 use Rattle.checked_program.specs.MarkedProgram.{MarkedProgram}
-use Rattle.machine_types.specs.Construction.{Throws as Loose, FramesKeep, PhaseKeepsFrames, PhaseKeeps}
-use Rattle.machine_types.specs.Elision.{put_back, fails, elided}
-use Rattle.machine_types.specs.Events.{element_made, moved}
+use Rattle.machine_types.specs.{Construction.{Throws as Loose, FramesKeep, PhaseKeepsFrames, PhaseKeeps}, Elision.{put_back, fails, elided}, Events.{element_made, moved}}
 use Rattle.machine_types.specs.Frames.{Top, top_of, frames_of, went, went_on, waiting, taken_from, making, pushed, has_room, entry_frame, arguments_of, monitor_of, returned, handler_at}
-use Rattle.machine_types.specs.Going.{runs, goes_on, goes_on_if}
-use Rattle.machine_types.specs.HeldMonitors.{held_at, with_held, without_held, shallower}
-use Rattle.machine_types.specs.Instructions.{made, printed}
-use Rattle.machine_types.specs.Onward.{Onward, Running, Throwing, Entering, Leaving, threw, entered, called, rooted, back, unwound, handed, after, done}
-use Rattle.machine_types.specs.ReadyObjects.{class_of, thrown_of}
-use Rattle.machine_types.specs.Structure.{IsStructured, IsAs, Stands, AttemptStandsIn}
-use Rattle.machine_types.specs.Threads.{Frame, Attempt, Thread}
-use Rattle.machine_types.specs.Words.{header_class, header_length}
-use Rattle.machine_types.specs.Worlds.{World, IsFinished}
+use Rattle.machine_types.specs.{Going.{runs, goes_on, goes_on_if}, HeldMonitors.{held_at, with_held, without_held, shallower}, Instructions.{made, printed}}
+use Rattle.machine_types.specs.{Onward.{Onward, Running, Throwing, Entering, Leaving, threw, entered, called, rooted, back, unwound, handed, after, done}, ReadyObjects.{class_of, thrown_of}}
+use Rattle.machine_types.specs.{Structure.{IsStructured, IsAs, Stands, AttemptStandsIn}, Threads.{Frame, Attempt, Thread}, Words.{header_class, header_length}, Worlds.{World, IsFinished}}
 use Rattle.machine_types.specs.declared.effect.Effect.{Effect}
 use Rattle.machine_types.specs.declared.effect.Effect.TheVariants.{Goes, Throws, Reads, Writes, Indexes, Measures, Raises, Makes, Prints, Calls, Returns, Enters, Leaves, Waits, Notifies, NotifiesAll, Stuck}
-use Rattle.machine_types.specs.declared.phase.After.{After}
-use Rattle.machine_types.specs.declared.phase.After.TheVariants as afters
-use Rattle.machine_types.specs.declared.phase.Phase.{Phase}
-use Rattle.machine_types.specs.declared.phase.Phase.TheVariants as phases
-use Rattle.laws_threads.specs.EntryFrames.{frames_in, KeepsEntry}
-use Rattle.laws_threads.proofs.AttemptMoves.{put_back_top}
-use Rattle.laws_threads.proofs.Inside.{base_below}
-use Rattle.laws_threads.proofs.EntryKept.{steps_kept, throws_kept, leaves_kept}
+use Rattle.machine_types.{specs.declared.phase.{After.After, Phase.Phase}, proofs.PlainPartLaws.frames_are}
+use Rattle.laws_threads.{specs.EntryFrames.{frames_in, KeepsEntry}, proofs.{AttemptMoves.put_back_top, EntryKept.{steps_kept, throws_kept, leaves_kept}, Inside.base_below, MonitorEntries.none_tried}}
 use Rattle.laws_threads.proofs.ThreadMove.{GoesBy, Move, becomes, begun_attempt, counting, any_move, gives_up_in, tried_attempt, goes_attempt}
-use Rattle.laws_threads.proofs.ThreadMove as moves
 use Rattle.laws_objects.proofs.ThreadMoves.{AreKnown, AttemptFrom, from_same, known_at, known_with, known_without, goes_frames}
-use Rattle.machine_types.proofs.PlainPartLaws.{frames_are}
-use Rattle.laws_threads.proofs.MonitorEntries.{none_tried}
+use Rattle.jvm_types.specs.declared.outcome.Thrown.TheVariants as thrown
+use Rattle.machine_types.specs.declared.phase.After.TheVariants as afters
+use Rattle.machine_types.specs.declared.phase.Phase.TheVariants as phases
+use Rattle.laws_threads.proofs.ThreadMove as moves
 
 -- ---- the frame that has so many below it
 

@@ -1,41 +1,17 @@
 -- What an event changes of guarded fields, of final fields of frozen classes, and of static fields that are guarded or final.
-use Rattle.std.proofs.Common.{◌≡◌, ◌⊎◌, inl, inr, ℕ, true, false, List, [], ◌∷◌, Option, Some, None, sym, ap, ◌∙◌, subst}
-use Rattle.std.specs.Prelude.{Contains, slice_get, slice_index}
-use Rattle.std.specs.List.{list_any}
+use Rattle.std.{proofs.Common.{◌≡◌, ◌⊎◌, inl, inr, ℕ, true, false, List, [], ◌∷◌, Option, Some, None, sym, ap, ◌∙◌, subst, Contains, slice_get, slice_index}, specs.List.list_any}
 use Rattle.lists.proofs.ListLaws.{same_some}
-use Rattle.jvm_types.specs.ClassNames.{file_of_class}
-use Rattle.jvm_types.specs.CodeTable.{is_init}
-use Rattle.jvm_types.specs.Members.{is_static, is_class_init_name}
-use Rattle.jvm_types.specs.declared.program.FieldInfo.{FieldInfo}
-use Rattle.checked_program.specs.FrozenPlaces.{IsFrozenField, IsFrozenStatic, IsGuardedField, IsGuardedStatic, locks_this, locks_class}
-use Rattle.checked_program.specs.LockTags.{is_this}
-use Rattle.checked_program.specs.MarkedProgram.{MarkedProgram, IsMarked}
+use Rattle.jvm_types.specs.{ClassNames.file_of_class, CodeTable.is_init, Members.{is_static, is_class_init_name}, declared.program.FieldInfo.FieldInfo}
+use Rattle.checked_program.specs.{FrozenPlaces.{IsFrozenField, IsFrozenStatic, IsGuardedField, IsGuardedStatic, locks_this, locks_class}, LockTags.is_this, MarkedProgram.{MarkedProgram, IsMarked}}
 use Rattle.checked_program.specs.SectionLaws.{HasThis, FinalLaw, FinalStaticLaw, StaticWriteLaw, WriteLaw}
-use Rattle.machine_types.specs.Core.{Core, event, event_of}
-use Rattle.machine_types.specs.Accesses.{words_after}
-use Rattle.machine_types.specs.Events.{wanted}
-use Rattle.machine_types.specs.Guards.{MakesObject, IsOfClassInit, MakesClass, HoldsMonitor, ChangesWord, Changes, KeepsGuards}
-use Rattle.machine_types.specs.HeldMonitors.{held_at}
-use Rattle.machine_types.specs.Lawful.{IsLawful}
-use Rattle.machine_types.specs.PlainMemory.{Object}
-use Rattle.machine_types.specs.Standing.{tags_of}
-use Rattle.machine_types.specs.Structure.{IsStructured, Stands}
-use Rattle.machine_types.specs.Threads.{Attempt, Frame, Thread}
-use Rattle.machine_types.specs.Words.{class_object, value_word}
-use Rattle.machine_types.specs.declared.config.Config.{Config}
-use Rattle.machine_types.specs.declared.lock.Held.{Held}
-use Rattle.machine_types.specs.declared.phase.Phase.{Phase}
-use Rattle.machine_types.specs.declared.phase.Phase.TheVariants as phases
+use Rattle.machine_types.specs.{Accesses.words_after, Core.{Core, event, event_of}, Events.wanted, Guards.{MakesObject, IsOfClassInit, MakesClass, HoldsMonitor, ChangesWord, Changes, KeepsGuards}}
+use Rattle.machine_types.specs.{HeldMonitors.held_at, Lawful.IsLawful, PlainMemory.Object, Standing.tags_of, Structure.{IsStructured, Stands}, Threads.{Attempt, Frame, Thread}}
+use Rattle.machine_types.specs.{Words.{class_object, value_word}, declared.{config.Config.Config, lock.Held.Held, phase.Phase.Phase}}
 use Rattle.laws_threads.proofs.Inside.{stack_this}
-use Rattle.laws_states.specs.HeapFacts.{HeapFacts}
-use Rattle.laws_states.specs.PartsLaws.{ClassInitsRunAlone}
-use Rattle.laws_states.specs.SiteLaws.{EventsReachSites, SitesDiffer, SitesLieInside}
-use Rattle.laws_states.specs.StateFacts.{StateFacts}
-use Rattle.laws_objects.specs.GuardLaws.{EventsKeepGuards}
-use Rattle.laws_objects.proofs.FieldWriters.{Writer, field_writer}
-use Rattle.laws_objects.proofs.PlaceWriters.{TopWrites, IsWriter}
-use Rattle.laws_objects.proofs.ShownMonitors.{holds_receiver, holds_class}
+use Rattle.laws_states.specs.{HeapFacts.HeapFacts, PartsLaws.ClassInitsRunAlone, SiteLaws.{EventsReachSites, SitesDiffer, SitesLieInside}, StateFacts.StateFacts}
+use Rattle.laws_objects.{specs.GuardLaws.EventsKeepGuards, proofs.{FieldWriters.{Writer, field_writer}, PlaceWriters.{TopWrites, IsWriter}, ShownMonitors.{holds_receiver, holds_class}}}
 use Rattle.laws_objects.proofs.StaticWriters.{StaticWriter, static_writer}
+use Rattle.machine_types.specs.declared.phase.Phase.TheVariants as phases
 
 abbrev IsHeld : (m : ℕ) → List Held → Type 0
 IsHeld m held = (h : Held) × (held_at held m ≡ Some h)

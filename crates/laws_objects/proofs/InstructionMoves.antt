@@ -1,44 +1,20 @@
 -- The event that begins an instruction keeps what construction says of its thread.
 use Rattle.std.proofs.Common.{◌≡◌, ℕ, ◌+◌, ◌-◌, ◌<◌, ◌≤◌, Bool, List, ◌∷◌, length, Option, Some, None, refl, sym, ap, ◌∙◌, subst, arith}
-use Rattle.jvm_types.specs.ProgramInvariant.{words_of}
+use Rattle.lists.proofs.ListLaws.{same_some}
+use Rattle.jvm_types.specs.{ProgramInvariant.words_of, Verifying.edges, declared.outcome.Thrown.Thrown}
 use Rattle.checked_program.specs.MarkedProgram.{MarkedProgram, IsMarked}
-use Rattle.machine_types.specs.Construction.{AreFrozen, Runs, KeepBelow, FrameKeeps, FramesKeep, MadeKeeps, ThreadKeeps}
-use Rattle.machine_types.specs.Frames.{Top, top_of, effect_at, went_on, making}
-use Rattle.machine_types.specs.Going.{goes_on}
-use Rattle.machine_types.specs.Instructions.{printed}
-use Rattle.machine_types.specs.Onward.{Onward, Running, threw, done}
-use Rattle.machine_types.specs.Standing.{row_at}
-use Rattle.machine_types.specs.Structure.{IsStructured, Stands, AttemptStandsIn}
-use Rattle.machine_types.specs.Threads.{Frame, Attempt, Thread}
-use Rattle.machine_types.specs.Typed.{Classes}
-use Rattle.machine_types.specs.Worlds.{Header, builder, World, IsFinished, IsOwnOrFinished, IsWorld, with_builder, GoesOn}
-use Rattle.machine_types.specs.declared.effect.Effect.{Effect}
-use Rattle.machine_types.specs.declared.effect.Effect.TheVariants.{Writes, Indexes, Makes, Prints, Waits, Notifies, NotifiesAll}
-use Rattle.machine_types.specs.declared.lock.Kept.{Kept}
-use Rattle.machine_types.specs.declared.phase.Phase.{Phase}
+use Rattle.machine_types.specs.{Construction.{AreFrozen, Runs, KeepBelow, FrameKeeps, FramesKeep, MadeKeeps, ThreadKeeps}, Frames.{Top, top_of, effect_at, went_on, making}, Going.goes_on}
+use Rattle.machine_types.specs.{Instructions.printed, Onward.{Onward, Running, threw, done}, Standing.row_at, Structure.{IsStructured, Stands, AttemptStandsIn}, Threads.{Frame, Attempt, Thread}}
+use Rattle.machine_types.specs.{Typed.Classes, Worlds.{Header, builder, World, IsFinished, IsOwnOrFinished, IsWorld, with_builder, GoesOn}, declared.effect.Effect.Effect}
+use Rattle.machine_types.specs.declared.{effect.Effect.TheVariants.{Writes, Indexes, Makes, Prints, Waits, Notifies, NotifiesAll}, lock.Kept.Kept, phase.Phase.Phase}
+use Rattle.laws_threads.{specs.{Allowed.{Allowed, OneOf, IsByMachine}, EntryFrames.KeepsEntry, InsideEffects.MayDo, StructureLaws.{StaysStructured, counted_by}}, proofs.EntryKept.steps_kept}
+use Rattle.laws_threads.proofs.{Inside.inside_may, Landing.stand_top, Standings.top_here, ThreadMove.{Refuses, IsNotify, Asks, WaitsFrom, counting}, TopEffects.made_size}
+use Rattle.laws_objects.proofs.{BuiltEffects.{Built, RowOld}, CountedPhases.PhaseFits, Moves.{Steps, stays}, NewFrames.makes_it}
+use Rattle.laws_objects.proofs.Onwards.{OnwardKeeps, IfKeeps, FoundOld, null, throws_it, runs_on, does_it, built_here, finished_known}
+use Rattle.laws_objects.proofs.{ThreadMoves.{Moved, AreKnown, AttemptFrom, from_same, now_world, held_known, outside, onward_moves, moved_more}, Views.finished_on}
+use Rattle.laws_objects.proofs.WorldChanges.{goes_given, world_given, lost_given}
 use Rattle.machine_types.specs.declared.phase.Phase.TheVariants as phases
 use Rattle.machine_types.specs.declared.phase.Toward.TheVariants as towards
-use Rattle.laws_threads.specs.EntryFrames.{KeepsEntry}
-use Rattle.laws_threads.specs.InsideEffects.{MayDo}
-use Rattle.laws_threads.proofs.EntryKept.{steps_kept}
-use Rattle.laws_threads.proofs.Inside.{inside_may}
-use Rattle.laws_threads.specs.StructureLaws.{StaysStructured, counted_by}
-use Rattle.laws_threads.specs.Allowed.{Allowed, OneOf, IsByMachine}
-use Rattle.laws_threads.proofs.Landing.{stand_top}
-use Rattle.laws_threads.proofs.TopEffects.{made_size}
-use Rattle.laws_threads.proofs.Standings.{top_here}
-use Rattle.laws_objects.proofs.BuiltEffects.{Built, RowOld}
-use Rattle.laws_objects.proofs.CountedPhases.{PhaseFits}
-use Rattle.laws_objects.proofs.Moves.{Steps, stays}
-use Rattle.laws_objects.proofs.NewFrames.{makes_it}
-use Rattle.laws_objects.proofs.Onwards.{OnwardKeeps, IfKeeps, FoundOld, null, throws_it, runs_on, does_it, built_here, finished_known}
-use Rattle.laws_objects.proofs.ThreadMoves.{Moved, AreKnown, AttemptFrom, from_same, now_world, held_known, outside, onward_moves, moved_more}
-use Rattle.laws_objects.proofs.Views.{finished_on}
-use Rattle.laws_objects.proofs.WorldChanges.{goes_given, world_given, lost_given}
-use Rattle.lists.proofs.ListLaws.{same_some}
-use Rattle.jvm_types.specs.Verifying.{edges}
-use Rattle.jvm_types.specs.declared.outcome.Thrown.{Thrown}
-use Rattle.laws_threads.proofs.ThreadMove.{Refuses, IsNotify, Asks, WaitsFrom, counting}
 use Rattle.laws_threads.proofs.ThreadMove as moves
 
 -- an effect that no attempt has

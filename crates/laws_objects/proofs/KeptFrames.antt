@@ -1,26 +1,15 @@
 -- Frames and threads that an event does not touch stand as they did in the world that it leaves.
-use Rattle.std.proofs.Common.{◌≡◌, ℕ, ◌-◌, ◌<◌, ◌≤◌, inl, inr, Bool, true, false, List, [], ◌∷◌, length, drop, Option, Some, None, refl, sym, ap, ◌∙◌, subst, arith}
-use Rattle.std.specs.Prelude.{◌==◌, if◌then◌else◌}
-use Rattle.jvm_types.specs.declared.program.MethodInfo.{MethodInfo}
-use Rattle.jvm_types.specs.declared.typing.VType.{VType}
-use Rattle.jvm_types.specs.declared.typing.VType.TheVariants as types
-use Rattle.checked_program.specs.MarkedProgram.{MarkedProgram}
-use Rattle.checked_program.specs.declared.tag.Tag.{Tag}
+use Rattle.std.proofs.Common.{◌≡◌, ℕ, ◌-◌, ◌<◌, ◌≤◌, inl, inr, Bool, true, false, List, [], ◌∷◌, length, drop, Option, Some, None, refl, sym, ap, ◌∙◌, subst, arith, ◌==◌, if◌then◌else◌}
+use Rattle.jvm_types.specs.declared.{program.MethodInfo.MethodInfo, typing.VType.VType}
+use Rattle.checked_program.specs.{MarkedProgram.MarkedProgram, declared.tag.Tag.Tag}
 use Rattle.machine_types.specs.Construction.{if_so, builds, makes_frozen, SlotsAre, BuilderTurn, Runs, WaitsFor, Throws, FreshAtCall, IsFresh, ReceiverIs, SlotOf, StackIs, FrameKeeps, WaitKeeps, KeepBelow, FramesKeep, made_world, MadeKeeps, PhaseKeepsFrames, turn_by, AfterKeeps, TowardKeeps, PhaseKeeps, AttemptKeepsIn}
-use Rattle.machine_types.specs.Elision.{put_back}
-use Rattle.machine_types.specs.Frames.{pushed}
-use Rattle.machine_types.specs.Standing.{row_at}
-use Rattle.machine_types.specs.Structure.{operands_in}
-use Rattle.machine_types.specs.Threads.{Frame, Attempt}
-use Rattle.machine_types.specs.Worlds.{Item, Header, Made, Begun, Builder, builder, World, IsFinished, IsOwnOrFinished, with_builder}
-use Rattle.machine_types.specs.declared.phase.After.{After}
+use Rattle.machine_types.specs.{Elision.put_back, Frames.pushed, Standing.row_at, Structure.operands_in, Threads.{Frame, Attempt}}
+use Rattle.machine_types.specs.{Worlds.{Item, Header, Made, Begun, Builder, builder, World, IsFinished, IsOwnOrFinished, with_builder}, declared.phase.{After.After, Phase.Phase, Toward.Toward}}
+use Rattle.laws_objects.proofs.{Slots.{slots_map, slot_later}, WorldChanges.{given_here, given_keeps, given_none, given_gone, given_back, given_none_back, GivenBack}}
+use Rattle.jvm_types.specs.declared.typing.VType.TheVariants as types
 use Rattle.machine_types.specs.declared.phase.After.TheVariants as afters
-use Rattle.machine_types.specs.declared.phase.Phase.{Phase}
 use Rattle.machine_types.specs.declared.phase.Phase.TheVariants as phases
-use Rattle.machine_types.specs.declared.phase.Toward.{Toward}
 use Rattle.machine_types.specs.declared.phase.Toward.TheVariants as towards
-use Rattle.laws_objects.proofs.Slots.{slots_map, slot_later}
-use Rattle.laws_objects.proofs.WorldChanges.{given_here, given_keeps, given_none, given_gone, given_back, given_none_back, GivenBack}
 
 -- what the thread t builds at a height
 abbrev pub KeepsAt : World → World → (t h : ℕ) → Type 0

@@ -1,35 +1,18 @@
 -- Where a frame lands it has what the edge brought; what holds at the instruction of a frame that stands.
-use Rattle.std.proofs.Common.{◌≡◌, ℕ, Bool, true, false, List, Option, Some, refl, sym, subst, ◌∙◌}
-use Rattle.std.specs.Prelude.{slice_get, map}
-use Rattle.jvm_types.specs.CodeTable.{is_init}
-use Rattle.jvm_types.specs.Numbers.{has_number}
-use Rattle.jvm_types.specs.Types.{TypeFrame}
-use Rattle.jvm_types.specs.Verifying.{edges}
-use Rattle.jvm_types.specs.Verifying as types
-use Rattle.jvm_types.specs.declared.code.Insn.{Insn}
-use Rattle.jvm_types.specs.declared.program.MethodInfo.{MethodInfo}
-use Rattle.jvm_types.specs.declared.program.Target.{Target}
-use Rattle.jvm_types.proofs.FrameOrder.{stack_below, locals_below}
-use Rattle.laws_programs.proofs.CodeOrder.{one_number, have_targets}
-use Rattle.laws_programs.proofs.EdgeTargets.{lands}
-use Rattle.laws_programs.proofs.EntryFrame.{entry_fits_all}
-use Rattle.checked_program.specs.FrozenPlaces.{KeepsThis, KeepsInside}
-use Rattle.checked_program.specs.LockTags.{TagShape, IsShapeBelow}
-use Rattle.checked_program.specs.MarkedProgram.{MarkedProgram, IsMarked}
-use Rattle.checked_program.specs.TaggedCode.{IsAt, onward, row_of}
-use Rattle.checked_program.specs.Tagging.{tags_after}
-use Rattle.checked_program.specs.Visits as visits
-use Rattle.laws_sections.proofs.VisitsLocal.{landing}
-use Rattle.machine_types.specs.Construction.{AreFrozen, builds, makes_frozen, SlotsAre, Runs, IsFresh, ReceiverIs, SlotOf, FrameKeeps}
-use Rattle.machine_types.specs.Standing.{Standing, tags_of}
-use Rattle.machine_types.specs.Threads.{Frame}
-use Rattle.machine_types.specs.Worlds.{World, IsFinished}
-use Rattle.laws_threads.proofs.FramePlaces.{of_standing}
-use Rattle.laws_threads.proofs.MarkedMethods.{IsMethod, method_with}
-use Rattle.laws_objects.proofs.Slots.{slots_edge}
-use Rattle.laws_objects.proofs.TaggedTypes.{AreAsMany, tags_many}
-use Rattle.laws_objects.proofs.NoThis.{HaveNoThis, no_this}
+use Rattle.std.proofs.Common.{◌≡◌, ℕ, Bool, true, false, List, Option, Some, refl, sym, subst, ◌∙◌, slice_get, map}
 use Rattle.lists.proofs.TestLaws.{both_are_true}
+use Rattle.jvm_types.specs.{CodeTable.is_init, Numbers.has_number, Types.TypeFrame, Verifying.edges, declared.{code.Insn.Insn, program.{MethodInfo.MethodInfo, Target.Target}}}
+use Rattle.jvm_types.proofs.FrameOrder.{stack_below, locals_below}
+use Rattle.laws_programs.proofs.{CodeOrder.{one_number, have_targets}, EdgeTargets.lands, EntryFrame.entry_fits_all}
+use Rattle.checked_program.specs.{FrozenPlaces.{KeepsThis, KeepsInside}, LockTags.{TagShape, IsShapeBelow}, MarkedProgram.{MarkedProgram, IsMarked}, TaggedCode.{IsAt, onward, row_of}}
+use Rattle.checked_program.specs.Tagging.{tags_after}
+use Rattle.laws_sections.proofs.VisitsLocal.{landing}
+use Rattle.machine_types.specs.{Construction.{AreFrozen, builds, makes_frozen, SlotsAre, Runs, IsFresh, ReceiverIs, SlotOf, FrameKeeps}, Standing.{Standing, tags_of}, Threads.Frame}
+use Rattle.machine_types.specs.Worlds.{World, IsFinished}
+use Rattle.laws_threads.proofs.{FramePlaces.of_standing, MarkedMethods.{IsMethod, method_with}}
+use Rattle.laws_objects.proofs.{NoThis.{HaveNoThis, no_this}, Slots.slots_edge, TaggedTypes.{AreAsMany, tags_many}}
+use Rattle.jvm_types.specs.Verifying as types
+use Rattle.checked_program.specs.Visits as visits
 
 module _ (c : MarkedProgram) (marked : IsMarked c) (frozen : ℕ → Bool) (are : AreFrozen c frozen) where
   -- ---- where a frame stands

@@ -1,31 +1,16 @@
 -- An object whose `<init>` an exception has left is lost from then on.
-use Rattle.std.proofs.Common.{◌≡◌, ◌≢◌, ℕ, ◌<◌, ◌≤◌, Bool, true, false, List, [], ◌∷◌, length, Some, None, refl, sym, ap, ◌∙◌, subst, arith}
-use Rattle.std.specs.Prelude.{◌==◌, if◌then◌else◌}
+use Rattle.std.proofs.Common.{◌≡◌, ◌≢◌, ℕ, ◌<◌, ◌≤◌, Bool, true, false, List, [], ◌∷◌, length, Some, None, refl, sym, ap, ◌∙◌, subst, arith, ◌==◌, if◌then◌else◌}
 use Rattle.std.proofs.lemmas.Bool.{eq-eqb, eqb-true, ne_eqb}
-use Rattle.lists.proofs.ListLaws.{same_some}
-use Rattle.lists.proofs.TestLaws.{both_true}
-use Rattle.jvm_types.specs.CodeTable.{is_init}
-use Rattle.jvm_types.specs.ProgramInvariant.{words_of}
-use Rattle.jvm_types.specs.declared.outcome.Thrown.{Thrown}
-use Rattle.jvm_types.specs.declared.program.MethodInfo.{MethodInfo}
+use Rattle.lists.proofs.{ListLaws.same_some, TestLaws.both_true}
+use Rattle.jvm_types.specs.{CodeTable.is_init, ProgramInvariant.words_of, declared.{outcome.Thrown.Thrown, program.MethodInfo.MethodInfo}}
 use Rattle.checked_program.specs.MarkedProgram.{MarkedProgram}
-use Rattle.machine_types.specs.Construction.{builds, Throws as Loose, BuilderTurn, ReceiverIs, FrameKeeps, KeepBelow, FramesKeep, ThreadKeeps}
-use Rattle.machine_types.specs.Going.{goes_on}
-use Rattle.machine_types.specs.Onward.{unwound}
-use Rattle.machine_types.specs.Threads.{Frame, Thread}
-use Rattle.machine_types.specs.Worlds.{Lost, Begun, Builder, builder, World, IsFinished, IsWorld, GoesOn}
-use Rattle.machine_types.specs.declared.phase.Phase.{Phase}
+use Rattle.machine_types.specs.{Construction.{builds, Throws as Loose, BuilderTurn, ReceiverIs, FrameKeeps, KeepBelow, FramesKeep, ThreadKeeps}, Going.goes_on, Onward.unwound, Threads.{Frame, Thread}}
+use Rattle.machine_types.specs.{Worlds.{Lost, Begun, Builder, builder, World, IsFinished, IsWorld, GoesOn}, declared.phase.Phase.Phase}
+use Rattle.laws_threads.{specs.StructureLaws.counted_by, proofs.ThreadMove.goes_held}
+use Rattle.laws_objects.{specs.UnfinishedObjects.IsInitOn, proofs.{FrameChanges.IsUnwound, KeptFrames.{KeepsUnder, frames_kept}, Onwards.OnwardKeeps}}
+use Rattle.laws_objects.proofs.{ThreadMoves.{MovedTo, AreKnown, held_known, in_none, moved_more_to}, ThrowingFrames.frames_unwound, WorldChanges.{none_some, lost, KeepsLost}}
 use Rattle.machine_types.specs.declared.phase.Phase.TheVariants as phases
 use Rattle.jvm_types.specs.declared.outcome.End.TheVariants as ends
-use Rattle.laws_threads.specs.StructureLaws.{counted_by}
-use Rattle.laws_objects.specs.UnfinishedObjects.{IsInitOn}
-use Rattle.laws_objects.proofs.FrameChanges.{IsUnwound}
-use Rattle.laws_objects.proofs.KeptFrames.{KeepsUnder, frames_kept}
-use Rattle.laws_objects.proofs.Onwards.{OnwardKeeps}
-use Rattle.laws_objects.proofs.ThrowingFrames.{frames_unwound}
-use Rattle.laws_objects.proofs.ThreadMoves.{MovedTo, AreKnown, held_known, in_none, moved_more_to}
-use Rattle.laws_objects.proofs.WorldChanges.{none_some, lost, KeepsLost}
-use Rattle.laws_threads.proofs.ThreadMove.{goes_held}
 
 -- ---- the world in which it is lost
 

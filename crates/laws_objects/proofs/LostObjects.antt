@@ -1,13 +1,7 @@
 -- An object that was never finished, and whose frame is gone: each thread sees it so.
-use Rattle.std.proofs.Common.{◌≡◌, ℕ, Bool, List, Some}
-use Rattle.std.specs.Prelude.{slice_get}
+use Rattle.std.proofs.Common.{◌≡◌, ℕ, Bool, List, Some, slice_get}
 use Rattle.checked_program.specs.MarkedProgram.{MarkedProgram}
-use Rattle.machine_types.specs.Construction.{Construction}
-use Rattle.machine_types.specs.Core.{Core}
-use Rattle.machine_types.specs.PlainMemory.{Object}
-use Rattle.machine_types.specs.Threads.{Thread}
-use Rattle.machine_types.specs.Worlds.{Lost, Builder, World}
-use Rattle.machine_types.specs.declared.phase.Phase.{Phase}
+use Rattle.machine_types.specs.{Construction.Construction, Core.Core, PlainMemory.Object, Threads.Thread, Worlds.{Lost, Builder, World}, declared.phase.Phase.Phase}
 
 module _ (c : MarkedProgram) (frozen : ℕ → Bool) (w : World) (was : ℕ → Phase) (objects : List Object) (s : Core) (con : Construction c frozen w was objects s) where
   -- as each thread sees the world

@@ -1,54 +1,27 @@
 -- The moves of a thread, but those of an instruction and of a root, keep what construction says of it.
-use Rattle.std.proofs.Common.{◌≡◌, ℕ, ◌+◌, ◌-◌, ◌≤◌, inl, Bool, true, false, List, [], ◌∷◌, ◌++◌, length, Option, Some, None, refl, sym, ap, ◌∙◌, subst, arith}
-use Rattle.std.specs.Prelude.{◌==◌, nat_lt, option_map, if◌then◌else◌}
+use Rattle.std.proofs.Common.{◌≡◌, ℕ, ◌+◌, ◌-◌, ◌≤◌, inl, Bool, true, false, List, [], ◌∷◌, ◌++◌, length, Option, Some, None, refl, sym, ap, ◌∙◌, subst, arith, ◌==◌, nat_lt, option_map, if◌then◌else◌}
 use Rattle.std.proofs.lemmas.Bool.{eqb-true, eqb-false}
-use Rattle.jvm_types.specs.CodeTable.{row, branches_to, falls_through}
-use Rattle.jvm_types.specs.ProgramInvariant.{words_of}
-use Rattle.jvm_types.specs.declared.code.Op.{Op}
-use Rattle.jvm_types.specs.declared.code.Op.TheVariants as ops
-use Rattle.jvm_types.specs.declared.outcome.End.{End}
-use Rattle.jvm_types.specs.declared.outcome.End.TheVariants as ends
-use Rattle.jvm_types.specs.declared.outcome.Thrown as outcomes
-use Rattle.jvm_types.specs.declared.program.MethodInfo.{MethodInfo}
-use Rattle.jvm_types.specs.declared.program.Program.{Program}
+use Rattle.jvm_types.specs.{CodeTable.{row, branches_to, falls_through}, ProgramInvariant.words_of, declared.{code.Op.Op, outcome.End.End, program.{MethodInfo.MethodInfo, Program.Program}}}
 use Rattle.jvm_types.specs.declared.program.Target.{Target}
 use Rattle.checked_program.specs.MarkedProgram.{MarkedProgram, IsMarked}
-use Rattle.machine_types.specs.Construction.{AreFrozen, Runs, FramesKeep, MadeKeeps, ThreadKeeps, made_world}
-use Rattle.machine_types.specs.Elision.{fails, elided}
-use Rattle.machine_types.specs.Frames.{went_on, top_of, pushed, Top, handler_at}
-use Rattle.machine_types.specs.Going.{with_phase, runs, failed_turn, goes_on, goes_on_if, goes_after}
-use Rattle.machine_types.specs.HeldMonitors.{held_at, with_held, without_held, deeper, shallower}
-use Rattle.machine_types.specs.Monitors.{HasNot, claim, takes, lets_go, fattens, goes_to_wait, retakes, lowest_of}
-use Rattle.machine_types.specs.Onward.{Onward, Running, after, handed}
-use Rattle.machine_types.specs.Structure.{IsStructured, Stands, AttemptStandsIn, IsPhaseInside, IsLimitAt, TopIs, AfterShows, is_element_op, IsAs}
-use Rattle.machine_types.specs.Threads.{Frame, Attempt, Thread}
-use Rattle.machine_types.specs.Worlds.{Header, Made, Builder, builder, World, IsFinished, IsOwnOrFinished, IsWorld, IsViewOf, with_builder, finished}
-use Rattle.machine_types.specs.declared.lock.Held.{Held}
-use Rattle.machine_types.specs.declared.lock.Kept.{Kept}
-use Rattle.machine_types.specs.declared.lock.Kept.TheVariants as keeps
-use Rattle.machine_types.specs.declared.phase.After.{After}
-use Rattle.machine_types.specs.declared.phase.Phase.{Phase}
-use Rattle.machine_types.specs.declared.phase.Phase.TheVariants as phases
-use Rattle.machine_types.specs.declared.phase.Toward.{Toward}
-use Rattle.machine_types.specs.declared.phase.Toward.TheVariants as towards
-use Rattle.laws_threads.specs.EntryFrames.{KeepsEntry}
-use Rattle.laws_threads.proofs.EntryKept.{throws_kept, leaves_kept}
-use Rattle.laws_threads.specs.StructureLaws.{StaysStructured, counted_by, turned_from}
-use Rattle.laws_threads.proofs.Turns.{outside as none_outside}
-use Rattle.laws_threads.specs.Allowed.{OneOf}
-use Rattle.laws_threads.proofs.Landing.{stand_top}
-use Rattle.laws_objects.proofs.BuiltEffects.{RowOld}
-use Rattle.laws_objects.proofs.CountedPhases.{PhaseFits, counted_fits}
-use Rattle.laws_objects.proofs.Moves.{Steps}
-use Rattle.laws_objects.proofs.Onwards.{OnwardKeeps, IfKeeps, runs_on, dispatches, goes_after_it, same_op}
+use Rattle.machine_types.specs.{Construction.{AreFrozen, Runs, FramesKeep, MadeKeeps, ThreadKeeps, made_world}, Elision.{fails, elided}, Frames.{went_on, top_of, pushed, Top, handler_at}}
+use Rattle.machine_types.specs.{Going.{with_phase, runs, failed_turn, goes_on, goes_on_if, goes_after}, HeldMonitors.{held_at, with_held, without_held, deeper, shallower}, Ints.low}
+use Rattle.machine_types.specs.{Monitors.{HasNot, claim, takes, lets_go, fattens, goes_to_wait, retakes, lowest_of}, Onward.{Onward, Running, after, handed}, ReadyObjects.class_of}
+use Rattle.machine_types.specs.{Structure.{IsStructured, Stands, AttemptStandsIn, IsPhaseInside, IsLimitAt, TopIs, AfterShows, is_element_op, IsAs}, Threads.{Frame, Attempt, Thread}, Words.value_word}
+use Rattle.machine_types.specs.{Worlds.{Header, Made, Builder, builder, World, IsFinished, IsOwnOrFinished, IsWorld, IsViewOf, with_builder, finished}, declared.lock.{Held.Held, Kept.Kept}}
+use Rattle.machine_types.specs.declared.phase.{After.After, Phase.Phase, Toward.Toward}
+use Rattle.laws_threads.{specs.{Allowed.OneOf, EntryFrames.KeepsEntry, StructureLaws.{StaysStructured, counted_by, turned_from}}, proofs.{EntryKept.{throws_kept, leaves_kept}, Landing.stand_top}}
+use Rattle.laws_threads.proofs.{MonitorEntries.none_tried, ThreadMove.{Looks, LeadsTo, TurnsTo, Takes, GivesUp, begun_attempt, counting, takes_in, gives_up_in}, Turns.{outside as none_outside}}
+use Rattle.laws_objects.proofs.{BuiltEffects.RowOld, CountedPhases.{PhaseFits, counted_fits}, Moves.Steps, Onwards.{OnwardKeeps, IfKeeps, runs_on, dispatches, goes_after_it, same_op}}
 use Rattle.laws_objects.proofs.ThreadMoves.{Moved, AreKnown, AttemptFrom, EntryKept, from_same, entry_same, now_world, held_known, moved_on, failed, begun, onward_moves, moved_more, known_at, known_with, known_without}
 use Rattle.laws_objects.proofs.WorldChanges.{none_some, goes_same, goes_given, goes_finished, world_given, world_finished, lost_given, lost_finished, lost_same, not_lost}
-use Rattle.machine_types.specs.ReadyObjects.{class_of}
-use Rattle.machine_types.specs.Ints.{low}
-use Rattle.machine_types.specs.Words.{value_word}
-use Rattle.laws_threads.proofs.ThreadMove.{Looks, LeadsTo, TurnsTo, Takes, GivesUp, begun_attempt, counting, takes_in, gives_up_in}
+use Rattle.jvm_types.specs.declared.code.Op.TheVariants as ops
+use Rattle.jvm_types.specs.declared.outcome.End.TheVariants as ends
+use Rattle.jvm_types.specs.declared.outcome.Thrown as outcomes
+use Rattle.machine_types.specs.declared.lock.Kept.TheVariants as keeps
+use Rattle.machine_types.specs.declared.phase.Phase.TheVariants as phases
+use Rattle.machine_types.specs.declared.phase.Toward.TheVariants as towards
 use Rattle.laws_threads.proofs.ThreadMove as moves
-use Rattle.laws_threads.proofs.MonitorEntries.{none_tried}
 
 -- ---- an element
 

@@ -1,43 +1,20 @@
 -- A frame that goes on behind its instruction. An `<init>` of a class that no file has, as that of Object, finishes its object.
-use Rattle.std.proofs.Common.{◌≡◌, ◌≢◌, ℕ, ◌<◌, ◌⊎◌, inl, inr, Bool, true, false, not, List, [], ◌∷◌, Option, Some, None, refl, sym, ap, ◌∙◌, subst, arith}
-use Rattle.std.specs.Prelude.{◌==◌, if◌then◌else◌}
-use Rattle.std.specs.List.{AllByRecursion}
-use Rattle.std.proofs.lemmas.Bool.{or_parts, eqb-true, eqb-false}
-use Rattle.jvm_types.specs.CodeTable.{row, stack_after, locals_after}
-use Rattle.jvm_types.specs.Numbers.{has_number}
-use Rattle.jvm_types.specs.Types.{TypeFrame, same_type}
-use Rattle.jvm_types.specs.Verifying.{suits, some_taken, some_read, new_class, is_class_of, started, initialised, after_start, frame_after, edges}
-use Rattle.jvm_types.specs.declared.code.Op.{Op}
-use Rattle.jvm_types.specs.declared.code.Op.TheVariants as ops
-use Rattle.jvm_types.specs.declared.op_row.OpRow.{OpRow}
-use Rattle.jvm_types.specs.declared.op_row.Want.{Want}
-use Rattle.jvm_types.specs.declared.op_row.Want.TheVariants.{AnyValue, AnInt, AnObject, AnyReference, AHolder, ToStart}
-use Rattle.jvm_types.specs.declared.program.MethodInfo.{MethodInfo}
-use Rattle.jvm_types.specs.declared.program.Program.{Program}
-use Rattle.jvm_types.specs.declared.program.Target.{Target}
-use Rattle.jvm_types.specs.declared.typing.VType.{VType}
-use Rattle.jvm_types.specs.declared.typing.VType.TheVariants as types
+use Rattle.std.proofs.Common.{◌≡◌, ◌≢◌, ℕ, ◌<◌, ◌⊎◌, inl, inr, Bool, true, false, not, List, [], ◌∷◌, Option, Some, None, refl, sym, ap, ◌∙◌, subst, arith, ◌==◌, if◌then◌else◌}
+use Rattle.std.{specs.List.AllByRecursion, proofs.lemmas.Bool.{or_parts, eqb-true, eqb-false}}
 use Rattle.lists.proofs.TestLaws.{is_true}
-use Rattle.checked_program.specs.LockTags.{TagShape}
-use Rattle.checked_program.specs.MarkedProgram.{MarkedProgram, IsMarked}
-use Rattle.checked_program.specs.Tagging.{moved_tags, tags_by_op, tags_after}
-use Rattle.checked_program.specs.declared.tag.Tag.{Tag}
-use Rattle.checked_program.specs.declared.tag.Tag.TheVariants.{Untagged, This, At}
-use Rattle.machine_types.specs.Construction.{AreFrozen, builds, makes_frozen, if_so, SlotByType, OwnSlot, SlotIs, SlotsAre, Runs, IsFresh, ReceiverIs, SlotOf, FrameKeeps}
-use Rattle.machine_types.specs.Frames.{frame_on}
-use Rattle.machine_types.specs.Standing.{Standing, row_at}
-use Rattle.machine_types.specs.Threads.{Frame}
-use Rattle.machine_types.specs.Worlds.{Made, Begun, Builder, builder, World, IsFinished, IsWorld, GoesOn}
-use Rattle.laws_threads.proofs.FrameMoves.{edge_fits}
-use Rattle.laws_threads.specs.Allowed.{OneOf}
-use Rattle.laws_threads.proofs.Landing.{rules_at}
-use Rattle.laws_threads.proofs.Typing.{edge_at}
-use Rattle.machine_types.specs.Lawful.{within}
-use Rattle.laws_objects.proofs.KeptFrames.{KeepsUnder}
-use Rattle.laws_objects.proofs.Landing.{land, joined_onward}
+use Rattle.jvm_types.specs.{CodeTable.{row, stack_after, locals_after}, Numbers.has_number, Types.{TypeFrame, same_type}}
+use Rattle.jvm_types.specs.{Verifying.{suits, some_taken, some_read, new_class, is_class_of, started, initialised, after_start, frame_after, edges}, declared.{code.Op.Op, op_row.OpRow.OpRow}}
+use Rattle.jvm_types.specs.declared.{op_row.Want.{Want, TheVariants.{AnyValue, AnInt, AnObject, AnyReference, AHolder, ToStart}}, program.{MethodInfo.MethodInfo, Program.Program, Target.Target}}
+use Rattle.jvm_types.specs.declared.typing.VType.{VType}
+use Rattle.checked_program.specs.{LockTags.TagShape, MarkedProgram.{MarkedProgram, IsMarked}, Tagging.{moved_tags, tags_by_op, tags_after}, declared.tag.Tag.{Tag, TheVariants.{Untagged, This, At}}}
+use Rattle.machine_types.specs.{Construction.{AreFrozen, builds, makes_frozen, if_so, SlotByType, OwnSlot, SlotIs, SlotsAre, Runs, IsFresh, ReceiverIs, SlotOf, FrameKeeps}, Frames.frame_on}
+use Rattle.machine_types.specs.{Lawful.within, Standing.{Standing, row_at}, Threads.Frame, Worlds.{Made, Begun, Builder, builder, World, IsFinished, IsWorld, GoesOn}}
+use Rattle.laws_threads.{specs.Allowed.OneOf, proofs.{FrameMoves.edge_fits, Landing.rules_at, TopEffects.number_in, Typing.edge_at}}
+use Rattle.laws_objects.proofs.{KeptFrames.KeepsUnder, Landing.{land, joined_onward}}
 use Rattle.laws_objects.proofs.Slots.{IsMade, IsWriteMade, stack_moves, local_moves, top_slot, plainly, plain_slot, not_this, slots_started, slot_retag, slots_without, StartOk}
 use Rattle.laws_objects.proofs.WorldChanges.{without, without_gone, without_keeps, without_none, world_without, goes_without, goes_same, KeepsLost, lost_same, lost_without}
-use Rattle.laws_threads.proofs.TopEffects.{number_in}
+use Rattle.jvm_types.specs.declared.code.Op.TheVariants as ops
+use Rattle.jvm_types.specs.declared.typing.VType.TheVariants as types
 
 -- ---- the object that is started
 

@@ -1,32 +1,17 @@
 -- A new object: its frame lacks it until its header is stored, and then has it.
-use Rattle.std.proofs.Common.{◌≡◌, ◌≢◌, ℕ, ◌<◌, Bool, true, false, List, [], ◌∷◌, ◌++◌, length, map, drop, Option, Some, None, refl, sym, ap, ◌∙◌, subst, arith}
-use Rattle.std.specs.Prelude.{if◌then◌else◌}
+use Rattle.std.proofs.Common.{◌≡◌, ◌≢◌, ℕ, ◌<◌, Bool, true, false, List, [], ◌∷◌, ◌++◌, length, map, drop, Option, Some, None, refl, sym, ap, ◌∙◌, subst, arith, if◌then◌else◌}
 use Rattle.std.specs.List.{AllByRecursion}
-use Rattle.jvm_types.specs.CodeTable.{value_of, stack_after, locals_after}
-use Rattle.jvm_types.specs.Verifying.{edges}
-use Rattle.jvm_types.specs.declared.op_row.Given.{Given}
-use Rattle.jvm_types.specs.declared.op_row.Given.TheVariants.{Fresh as Anew}
-use Rattle.jvm_types.specs.declared.typing.VType.{VType}
-use Rattle.jvm_types.specs.declared.typing.VType.TheVariants as types
-use Rattle.laws_programs.specs.NewLaws.{IsNewBefore, AreBehind}
-use Rattle.laws_programs.proofs.RowsKeep.{IsFine, row_fine}
-use Rattle.checked_program.specs.MarkedProgram.{MarkedProgram, IsMarked}
-use Rattle.checked_program.specs.declared.tag.Tag.{Tag}
-use Rattle.checked_program.specs.declared.tag.Tag.TheVariants.{Untagged, This, At}
+use Rattle.jvm_types.specs.{CodeTable.{value_of, stack_after, locals_after}, Verifying.edges, declared.{op_row.Given.{Given, TheVariants.{Fresh as Anew}}, typing.VType.VType}}
+use Rattle.laws_programs.{specs.NewLaws.{IsNewBefore, AreBehind}, proofs.RowsKeep.{IsFine, row_fine}}
+use Rattle.checked_program.specs.{MarkedProgram.{MarkedProgram, IsMarked}, declared.tag.Tag.{Tag, TheVariants.{Untagged, This, At}}}
 use Rattle.machine_types.specs.Construction.{AreFrozen, builds, makes_frozen, if_so, SlotByType, OwnSlot, SlotIs, SlotsAre, Runs, IsFresh, ReceiverIs, SlotOf, FrameKeeps, KeepBelow, FramesKeep, made_world, MadeKeeps}
-use Rattle.machine_types.specs.Frames.{frame_on, making, pushed}
-use Rattle.machine_types.specs.Standing.{Standing, row_at}
-use Rattle.machine_types.specs.Threads.{Frame}
+use Rattle.machine_types.specs.{Frames.{frame_on, making, pushed}, Standing.{Standing, row_at}, Threads.Frame}
 use Rattle.machine_types.specs.Worlds.{Item, Header, Made, Begun, Builder, builder, World, IsFinished, IsWorld, with_builder}
-use Rattle.laws_threads.specs.Allowed.{OneOf, MadeAs}
-use Rattle.laws_threads.proofs.Landing.{rules_at}
-use Rattle.laws_threads.proofs.Standings.{top_here}
-use Rattle.laws_objects.proofs.BuiltEffects.{StartsNone}
-use Rattle.laws_objects.proofs.CalledFrames.{below_moved, none_started}
-use Rattle.laws_objects.proofs.KeptFrames.{below_kept}
-use Rattle.laws_objects.proofs.Moves.{StartsOld, goes_old}
+use Rattle.laws_threads.{specs.Allowed.{OneOf, MadeAs}, proofs.{Landing.rules_at, Standings.top_here}}
+use Rattle.laws_objects.proofs.{BuiltEffects.StartsNone, CalledFrames.{below_moved, none_started}, KeptFrames.below_kept, Moves.{StartsOld, goes_old}}
 use Rattle.laws_objects.proofs.Slots.{slots_map_if, IsMade, IsWriteMade, made_slot}
 use Rattle.laws_objects.proofs.WorldChanges.{none_some, given_here, given_keeps, given_none, finished_here, finished_there, world_given, world_finished}
+use Rattle.jvm_types.specs.declared.typing.VType.TheVariants as types
 
 -- ---- slots whose `new` stands before this pc
 

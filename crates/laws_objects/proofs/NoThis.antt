@@ -1,25 +1,12 @@
 -- Outside an `<init>` no value has the type of an uninitialised `this`.
-use Rattle.std.proofs.Common.{◌≡◌, ◌≢◌, ℕ, zero, suc, ◌-◌, Bool, true, false, cond, ◌&&◌, List, [], ◌∷◌, ◌++◌, length, map, replicate, Option, Some, refl}
-use Rattle.std.specs.Prelude.{slice_get}
-use Rattle.std.specs.List.{AllByRecursion}
-use Rattle.jvm_types.specs.CodeTable.{row, is_init, type_of}
-use Rattle.jvm_types.specs.Members.{is_static}
-use Rattle.jvm_types.specs.Types.{TypeFrame, is_below, all_pairs, entry_type_frame, receiver_types}
-use Rattle.jvm_types.specs.Verifying.{frame_after, HasTyping, IsLaidOut}
-use Rattle.jvm_types.specs.declared.code.Insn.{Insn}
-use Rattle.jvm_types.specs.declared.program.Kind.{Kind}
-use Rattle.jvm_types.specs.declared.program.Kind.TheVariants as kinds
-use Rattle.jvm_types.specs.declared.program.MethodInfo.{MethodInfo}
-use Rattle.jvm_types.specs.declared.program.Program.{Program}
-use Rattle.jvm_types.specs.declared.program.Target.{Target}
-use Rattle.jvm_types.specs.declared.typing.VType.{VType}
-use Rattle.jvm_types.specs.declared.typing.VType.TheVariants.{Int, Null, Ref, This, New, Top}
-use Rattle.jvm_types.proofs.EachAfter.{all_append}
-use Rattle.jvm_types.proofs.FrameOrder.{stack_below, locals_below}
+use Rattle.std.{proofs.Common.{◌≡◌, ◌≢◌, ℕ, zero, suc, ◌-◌, Bool, true, false, cond, ◌&&◌, List, [], ◌∷◌, ◌++◌, length, map, replicate, Option, Some, refl, slice_get}, specs.List.AllByRecursion}
+use Rattle.jvm_types.specs.{CodeTable.{row, is_init, type_of}, Members.is_static, Types.{TypeFrame, is_below, all_pairs, entry_type_frame, receiver_types}}
+use Rattle.jvm_types.specs.{Verifying.{frame_after, HasTyping, IsLaidOut}, declared.{code.Insn.Insn, program.{Kind.Kind, MethodInfo.MethodInfo, Program.Program, Target.Target}, typing.VType.VType}}
+use Rattle.jvm_types.{specs.declared.typing.VType.TheVariants.{Int, Null, Ref, This, New, Top}, proofs.{EachAfter.all_append, FrameOrder.{stack_below, locals_below}}}
 use Rattle.laws_programs.proofs.RowsKeep.{types_fine, row_fine}
-use Rattle.checked_program.specs.LockTags.{TagShape}
-use Rattle.checked_program.specs.Tagging.{HasTagging}
+use Rattle.checked_program.specs.{LockTags.TagShape, Tagging.HasTagging}
 use Rattle.laws_objects.proofs.TaggedTypes.{all_have}
+use Rattle.jvm_types.specs.declared.program.Kind.TheVariants as kinds
 
 abbrev pub IsOther : VType → Type 0
 IsOther t = t ≢ This

@@ -1,61 +1,27 @@
 -- How a thread goes on keeps what construction says of its frames and of what it carries.
-use Rattle.std.proofs.Common.{◌≡◌, ◌≢◌, ℕ, ◌<◌, Bool, true, false, List, [], ◌∷◌, length, Option, Some, None, refl, sym, ap, ◌∙◌, subst, arith}
-use Rattle.std.specs.Prelude.{slice_get, option_map, reverse, take, if◌then◌else◌}
+use Rattle.std.proofs.Common.{◌≡◌, ◌≢◌, ℕ, ◌<◌, Bool, true, false, List, [], ◌∷◌, length, Option, Some, None, refl, sym, ap, ◌∙◌, subst, arith, slice_get, option_map, reverse, take, if◌then◌else◌}
 use Rattle.std.specs.List.{AllByRecursion}
 use Rattle.lists.proofs.ListLaws.{same_some}
-use Rattle.jvm_types.specs.ClassNames.{file_of_class}
-use Rattle.jvm_types.specs.CodeTable.{can_throw, row}
-use Rattle.jvm_types.specs.Members.{MethodSite, is_static, is_synchronized}
-use Rattle.jvm_types.specs.ProgramInvariant.{words_of, site_in}
-use Rattle.jvm_types.specs.Verifying.{edges, is_return}
-use Rattle.jvm_types.specs.declared.code.Op.{Op}
-use Rattle.jvm_types.specs.declared.code.Op.TheVariants as ops
-use Rattle.jvm_types.specs.declared.op_row.Given.{Given}
-use Rattle.jvm_types.specs.declared.op_row.Given.TheVariants.{Fresh as Anew, Taken, Local}
-use Rattle.jvm_types.specs.declared.op_row.OpRow.{OpRow}
-use Rattle.jvm_types.specs.declared.outcome.Thrown.{Thrown}
-use Rattle.jvm_types.specs.declared.outcome.Thrown.TheVariants as thrown
-use Rattle.jvm_types.specs.declared.program.FieldInfo.{FieldInfo}
-use Rattle.jvm_types.specs.declared.program.MethodInfo.{MethodInfo}
-use Rattle.jvm_types.specs.declared.program.Program.{Program}
-use Rattle.jvm_types.specs.declared.program.Row.{Row}
-use Rattle.jvm_types.specs.declared.program.Target.{Target}
-use Rattle.jvm_types.specs.declared.program.Target.TheVariants as targets
-use Rattle.jvm_types.specs.declared.typing.VType.{VType}
-use Rattle.jvm_types.specs.declared.typing.VType.TheVariants as types
+use Rattle.jvm_types.specs.{ClassNames.file_of_class, CodeTable.{can_throw, row}, Members.{MethodSite, is_static, is_synchronized}, ProgramInvariant.{words_of, site_in}, Verifying.{edges, is_return}}
+use Rattle.jvm_types.specs.declared.{code.Op.Op, op_row.{Given.{Given, TheVariants.{Fresh as Anew, Taken, Local}}, OpRow.OpRow}, outcome.Thrown.Thrown, program.FieldInfo.FieldInfo}
+use Rattle.jvm_types.specs.declared.{program.{MethodInfo.MethodInfo, Program.Program, Row.Row, Target.Target}, typing.VType.VType}
 use Rattle.laws_programs.specs.TargetLaws.{HasRow}
-use Rattle.checked_program.specs.MarkedProgram.{MarkedProgram, IsMarked}
-use Rattle.checked_program.specs.Marks.{called_method}
-use Rattle.checked_program.specs.declared.tag.Tag.TheVariants.{Untagged}
+use Rattle.checked_program.specs.{MarkedProgram.{MarkedProgram, IsMarked}, Marks.called_method, declared.tag.Tag.TheVariants.Untagged}
 use Rattle.machine_types.specs.Construction.{AreFrozen, builds, makes_frozen, SlotByType, Runs, Throws as Loose, IsFresh, ReceiverIs, SlotOf, FrameKeeps, KeepBelow, FramesKeep, turn_by, AfterKeeps}
-use Rattle.machine_types.specs.declared.effect.Effect.{Effect}
-use Rattle.machine_types.specs.declared.effect.Effect.TheVariants.{Goes, Throws, Reads, Writes, Indexes, Measures, Raises, Makes, Prints, Calls, Returns, Enters, Leaves, Waits, Notifies, NotifiesAll, Stuck}
 use Rattle.machine_types.specs.Frames.{Top, effect_at, frame_on, went, went_on, waiting, has_room, entry_frame, arguments_of, monitor_of, given_back, given, returned, handler_of, handler_at}
 use Rattle.machine_types.specs.Onward.{Onward, Running, Throwing, Entering, Leaving, RootReturned, Uncaught, threw, entered, called, returns, back, unwound, handed, dispatched, after, done}
-use Rattle.machine_types.specs.ReadyObjects.{ready, class_of, thrown_of, out_object}
-use Rattle.machine_types.specs.Standing.{Standing, row_at}
-use Rattle.machine_types.specs.Structure.{TopIs, AfterShows, operands_after}
-use Rattle.machine_types.specs.Threads.{Frame}
-use Rattle.machine_types.specs.Typed.{Classes}
-use Rattle.machine_types.specs.Words.{header_class, header_length, class_object}
-use Rattle.machine_types.specs.Worlds.{Begun, Builder, builder, World, IsFinished, IsOwnOrFinished, IsWorld, GoesOn}
-use Rattle.machine_types.specs.declared.phase.After.{After}
-use Rattle.machine_types.specs.declared.phase.After.TheVariants.{Next, Return, Unwind}
-use Rattle.machine_types.proofs.ClassObjects.{class_object_below}
-use Rattle.laws_threads.specs.Allowed.{OneOf, IsNamedField, IsByMachine, Allowed}
-use Rattle.laws_threads.proofs.Landing.{stand_top, rules_at}
-use Rattle.laws_threads.proofs.Standings.{top_here}
-use Rattle.laws_objects.proofs.BuiltEffects.{KindOld, TypeOld, GivenOld, RowOld, Built, effect_built, NamesField}
-use Rattle.laws_objects.proofs.CalledFrames.{below_moved}
-use Rattle.laws_objects.proofs.Calling.{CallKeeps, calls_it}
-use Rattle.laws_objects.proofs.KeptFrames.{KeepsUnder, below_kept}
-use Rattle.laws_objects.proofs.Moves.{RowMakes, Steps, stays, steps_map, goes}
-use Rattle.laws_objects.proofs.Operands.{is_getfield, takes_old}
-use Rattle.laws_objects.proofs.ReturnedFrames.{result_old, resumes}
-use Rattle.laws_objects.proofs.Slots.{IsMade, made_slot}
-use Rattle.laws_objects.proofs.ThrowingFrames.{frames_throw, frames_unwound, handled}
-use Rattle.laws_objects.proofs.Views.{finished_on}
-use Rattle.laws_objects.proofs.WorldChanges.{none_some}
+use Rattle.machine_types.specs.{ReadyObjects.{ready, class_of, thrown_of, out_object}, Standing.{Standing, row_at}, Structure.{TopIs, AfterShows, operands_after}, Threads.Frame, Typed.Classes}
+use Rattle.machine_types.specs.{Words.{header_class, header_length, class_object}, Worlds.{Begun, Builder, builder, World, IsFinished, IsOwnOrFinished, IsWorld, GoesOn}, declared.effect.Effect.Effect}
+use Rattle.machine_types.specs.declared.effect.Effect.TheVariants.{Goes, Throws, Reads, Writes, Indexes, Measures, Raises, Makes, Prints, Calls, Returns, Enters, Leaves, Waits, Notifies, NotifiesAll, Stuck}
+use Rattle.machine_types.{specs.declared.phase.After.{After, TheVariants.{Next, Return, Unwind}}, proofs.ClassObjects.class_object_below}
+use Rattle.laws_threads.{specs.Allowed.{OneOf, IsNamedField, IsByMachine, Allowed}, proofs.{Landing.{stand_top, rules_at}, Standings.top_here}}
+use Rattle.laws_objects.proofs.{BuiltEffects.{KindOld, TypeOld, GivenOld, RowOld, Built, effect_built, NamesField}, CalledFrames.below_moved, Calling.{CallKeeps, calls_it}}
+use Rattle.laws_objects.proofs.{KeptFrames.{KeepsUnder, below_kept}, Moves.{RowMakes, Steps, stays, steps_map, goes}, Operands.{is_getfield, takes_old}, ReturnedFrames.{result_old, resumes}}
+use Rattle.laws_objects.proofs.{Slots.{IsMade, made_slot}, ThrowingFrames.{frames_throw, frames_unwound, handled}, Views.finished_on, WorldChanges.none_some}
+use Rattle.jvm_types.specs.declared.code.Op.TheVariants as ops
+use Rattle.jvm_types.specs.declared.outcome.Thrown.TheVariants as thrown
+use Rattle.jvm_types.specs.declared.program.Target.TheVariants as targets
+use Rattle.jvm_types.specs.declared.typing.VType.TheVariants as types
 
 -- ---- what is kept
 

@@ -1,33 +1,17 @@
 -- Values that an instruction takes as references to objects are finished: an `<init>` of a frozen class gives its `this` to none.
-use Rattle.std.proofs.Common.{◌≡◌, ◌≢◌, ℕ, zero, suc, ◌<◌, Bool, true, false, not, ◌&&◌, List, [], ◌∷◌, length, Option, Some, None, refl, subst, sym, arith}
-use Rattle.std.specs.Prelude.{◌==◌, slice_get, slice_index_or}
+use Rattle.std.proofs.Common.{◌≡◌, ◌≢◌, ℕ, zero, suc, ◌<◌, Bool, true, false, not, ◌&&◌, List, [], ◌∷◌, length, Option, Some, None, refl, subst, sym, arith, ◌==◌, slice_get, slice_index_or}
 use Rattle.std.proofs.lemmas.Bool.{or_parts}
 use Rattle.lists.proofs.TestLaws.{is_true}
-use Rattle.jvm_types.specs.CodeTable.{put_row, row}
-use Rattle.jvm_types.specs.Types.{is_below}
-use Rattle.jvm_types.specs.Verifying.{suits, some_taken}
-use Rattle.jvm_types.specs.declared.code.Op.{Op}
-use Rattle.jvm_types.specs.declared.code.Op.TheVariants as ops
-use Rattle.jvm_types.specs.declared.op_row.Want.{Want}
-use Rattle.jvm_types.specs.declared.op_row.Want.TheVariants.{AnyValue, AnInt, AnObject, AnyReference, AHolder, ToStart}
-use Rattle.jvm_types.specs.declared.program.FieldInfo.{FieldInfo}
-use Rattle.jvm_types.specs.declared.program.MethodInfo.{MethodInfo}
-use Rattle.jvm_types.specs.declared.program.Program.{Program}
-use Rattle.jvm_types.specs.declared.program.Target.{Target}
-use Rattle.jvm_types.specs.declared.program.Target.TheVariants as targets
-use Rattle.jvm_types.specs.declared.typing.VType.{VType}
-use Rattle.jvm_types.specs.declared.typing.VType.TheVariants as types
-use Rattle.checked_program.specs.FrozenPlaces.{may_take}
-use Rattle.checked_program.specs.MarkedProgram.{MarkedProgram, IsMarked}
-use Rattle.checked_program.specs.declared.tag.Tag.{Tag}
-use Rattle.checked_program.specs.declared.tag.Tag.TheVariants.{Untagged, This}
-use Rattle.machine_types.specs.Construction.{AreFrozen, builds, makes_frozen, SlotByType, SlotIs, SlotsAre, Runs, IsFresh, FrameKeeps}
-use Rattle.machine_types.specs.Standing.{Standing, row_at}
-use Rattle.machine_types.specs.Threads.{Frame}
+use Rattle.jvm_types.specs.{CodeTable.{put_row, row}, Types.is_below, Verifying.{suits, some_taken}, declared.{code.Op.Op, op_row.Want.Want}}
+use Rattle.jvm_types.specs.declared.{op_row.Want.TheVariants.{AnyValue, AnInt, AnObject, AnyReference, AHolder, ToStart}, program.{FieldInfo.FieldInfo, MethodInfo.MethodInfo, Program.Program}}
+use Rattle.jvm_types.specs.declared.{program.Target.Target, typing.VType.VType}
+use Rattle.checked_program.specs.{FrozenPlaces.may_take, MarkedProgram.{MarkedProgram, IsMarked}, declared.tag.Tag.{Tag, TheVariants.{Untagged, This}}}
+use Rattle.machine_types.specs.{Construction.{AreFrozen, builds, makes_frozen, SlotByType, SlotIs, SlotsAre, Runs, IsFresh, FrameKeeps}, Standing.{Standing, row_at}, Threads.Frame}
 use Rattle.machine_types.specs.Worlds.{World, IsFinished}
-use Rattle.laws_objects.proofs.Landing.{inside_at}
-use Rattle.laws_objects.proofs.Moves.{Suit, suit_at}
-use Rattle.laws_objects.proofs.Slots.{plainly}
+use Rattle.laws_objects.proofs.{Landing.inside_at, Moves.{Suit, suit_at}, Slots.plainly}
+use Rattle.jvm_types.specs.declared.code.Op.TheVariants as ops
+use Rattle.jvm_types.specs.declared.program.Target.TheVariants as targets
+use Rattle.jvm_types.specs.declared.typing.VType.TheVariants as types
 
 -- ---- what is taken
 

@@ -1,27 +1,14 @@
 -- Where a part of the run begins, no object is made or finished.
-use Rattle.std.proofs.Common.{◌≡◌, ◌⊎◌, inl, inr, ℕ, Bool, true, false, List, Some, refl, ap, sym, subst}
-use Rattle.std.specs.Prelude.{Contains, slice_get, slice_index, if◌then◌else◌}
+use Rattle.std.proofs.Common.{◌≡◌, ◌⊎◌, inl, inr, ℕ, Bool, true, false, List, Some, refl, ap, sym, subst, Contains, slice_get, slice_index, if◌then◌else◌}
 use Rattle.jvm_types.specs.declared.fixed_words.TheConstants.{NEXT_FREE_WORD}
-use Rattle.jvm_types.specs.declared.outcome.End.TheVariants as ends
 use Rattle.checked_program.specs.MarkedProgram.{MarkedProgram}
-use Rattle.machine_types.specs.Construction.{ThreadKeeps, AttemptKeepsIn, Construction}
-use Rattle.machine_types.specs.Core.{Core, may_begin, next}
-use Rattle.machine_types.specs.Structure.{IsAs, IsStructured, Structure}
-use Rattle.machine_types.specs.Threads.{Frame, Thread}
-use Rattle.machine_types.specs.PlainMemory.{Object}
-use Rattle.machine_types.specs.Worlds.{Builder, World, IsViewOf, IsOwnOrFinished}
-use Rattle.machine_types.specs.declared.config.Config.{Config}
-use Rattle.machine_types.specs.declared.lock.Held.{Held}
-use Rattle.machine_types.specs.declared.phase.Phase.{Phase}
+use Rattle.machine_types.specs.{Construction.{ThreadKeeps, AttemptKeepsIn, Construction}, Core.{Core, may_begin, next}, PlainMemory.Object, Structure.{IsAs, IsStructured, Structure}}
+use Rattle.machine_types.specs.{Threads.{Frame, Thread}, Worlds.{Builder, World, IsViewOf, IsOwnOrFinished}, declared.{config.Config.Config, lock.Held.Held, phase.Phase.Phase}}
+use Rattle.laws_threads.specs.{PartLaws.{NextKeepsStructure, counted_next}, StateLaws.counted_of, StructureLaws.counted_by}
+use Rattle.laws_states.{specs.StateFacts.StateFacts, proofs.BegunThreads.{StartsOrEnded, Begins, begun}}
+use Rattle.laws_objects.{specs.ConstructionLaws.NextKeepsConstruction, proofs.{CountedPhases.{PhaseFits, counted_fits}, LostObjects.{SeenByAll, LostIn}}}
+use Rattle.jvm_types.specs.declared.outcome.End.TheVariants as ends
 use Rattle.machine_types.specs.declared.phase.Phase.TheVariants as phases
-use Rattle.laws_threads.specs.PartLaws.{NextKeepsStructure, counted_next}
-use Rattle.laws_threads.specs.StateLaws.{counted_of}
-use Rattle.laws_threads.specs.StructureLaws.{counted_by}
-use Rattle.laws_states.specs.StateFacts.{StateFacts}
-use Rattle.laws_objects.specs.ConstructionLaws.{NextKeepsConstruction}
-use Rattle.laws_objects.proofs.CountedPhases.{PhaseFits, counted_fits}
-use Rattle.laws_objects.proofs.LostObjects.{SeenByAll, LostIn}
-use Rattle.laws_states.proofs.BegunThreads.{StartsOrEnded, Begins, begun}
 
 -- ---- one thread
 

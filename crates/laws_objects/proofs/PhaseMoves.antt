@@ -1,60 +1,24 @@
 -- Each event of a thread keeps what construction says of it.
-use Rattle.std.proofs.Common.{◌≡◌, ℕ, ◌+◌, ◌≤◌, Bool, true, false, List, [], ◌∷◌, length, Option, Some, None, refl, sym, ap, ◌∙◌, subst, arith}
-use Rattle.std.specs.Prelude.{drop, slice_index, if◌then◌else◌, IsTrue}
+use Rattle.std.proofs.Common.{◌≡◌, ℕ, ◌+◌, ◌≤◌, Bool, true, false, List, [], ◌∷◌, length, Option, Some, None, refl, sym, ap, ◌∙◌, subst, arith, drop, slice_index, if◌then◌else◌, IsTrue}
 use Rattle.std.specs.List.{AllZip, AllByRecursion}
-use Rattle.jvm_types.specs.Members.{is_static}
-use Rattle.jvm_types.specs.Numbers.{has_number}
-use Rattle.jvm_types.specs.ProgramInvariant.{words_of}
-use Rattle.jvm_types.specs.Types.{TypeFrame}
-use Rattle.jvm_types.specs.declared.fixed_words.TheConstants.{NEXT_FREE_WORD}
-use Rattle.jvm_types.specs.declared.program.FieldInfo.{FieldInfo}
-use Rattle.jvm_types.specs.declared.program.Kind.{Kind}
-use Rattle.jvm_types.specs.declared.program.Kind.TheVariants as kinds
-use Rattle.jvm_types.specs.declared.program.MethodInfo.{MethodInfo}
-use Rattle.jvm_types.specs.declared.program.Target.{Target}
+use Rattle.jvm_types.specs.{Members.is_static, Numbers.has_number, ProgramInvariant.words_of, Types.TypeFrame, declared.{fixed_words.TheConstants.NEXT_FREE_WORD, program.FieldInfo.FieldInfo}}
+use Rattle.jvm_types.specs.declared.program.{Kind.Kind, MethodInfo.MethodInfo, Target.Target}
 use Rattle.laws_programs.proofs.ClassTreeLaws.{files_alone}
 use Rattle.checked_program.specs.MarkedProgram.{MarkedProgram, IsMarked}
-use Rattle.machine_types.specs.Accesses.{found_by, words_after}
-use Rattle.machine_types.specs.Bounds.{IsRooted, part_roots}
-use Rattle.machine_types.specs.Construction.{AreFrozen, Runs, FrameKeeps, KeepBelow, FramesKeep, ThreadKeeps, KindKeeps, PlacesKeep}
-use Rattle.machine_types.specs.Core.{Core}
-use Rattle.machine_types.specs.Events.{element_made, moved}
-use Rattle.machine_types.specs.Frames.{Top, top_of, effect_at, went_on, making}
-use Rattle.machine_types.specs.Instructions.{effect_wants, run_wants, printed}
-use Rattle.machine_types.specs.PlainMemory.{Object}
-use Rattle.machine_types.specs.Standing.{Standing, row_at}
-use Rattle.machine_types.specs.Structure.{IsStructured, IsAs, Stands, AttemptStandsIn}
-use Rattle.machine_types.specs.Threads.{Frame, Attempt, Thread}
-use Rattle.machine_types.specs.Typed.{Classes, Holds, FrameHolds, FramesHold, HasClass}
-use Rattle.machine_types.specs.Words.{value_word, variable_word}
-use Rattle.machine_types.specs.Worlds.{World, IsFinished, IsWorld}
-use Rattle.machine_types.specs.declared.effect.Effect.{Effect}
-use Rattle.machine_types.specs.declared.effect.Effect.TheVariants.{Reads, Makes, Prints, Waits}
-use Rattle.machine_types.specs.declared.effect.Variable.{Variable}
-use Rattle.machine_types.specs.declared.effect.Variable.TheVariants.{Instance, Static}
-use Rattle.machine_types.specs.declared.phase.Phase.{Phase}
-use Rattle.machine_types.specs.declared.phase.Phase.TheVariants as phases
-use Rattle.laws_threads.proofs.FramePlaces.{one_standing_law}
-use Rattle.laws_threads.proofs.Steps.{no_element_inside}
-use Rattle.laws_threads.specs.StructureLaws.{StaysStructured, counted_by}
-use Rattle.laws_states.specs.HeapFacts.{HeapFacts}
-use Rattle.laws_states.proofs.Accesses.{out_there}
-use Rattle.laws_states.proofs.Lists.{set_here}
-use Rattle.laws_threads.specs.Allowed.{IsNamedField, Allowed}
-use Rattle.laws_threads.proofs.Landing.{stand_top}
-use Rattle.laws_threads.proofs.TopEffects.{allowed_here}
-use Rattle.laws_threads.proofs.Standings.{top_here}
-use Rattle.laws_objects.proofs.BuiltEffects.{KindOld}
-use Rattle.laws_objects.proofs.InstructionMoves.{Gets, KnownTop, known_top, by_top, does_as, refuses_as, nobody_as, prints_as, makes_as, waits_as, asks_as}
+use Rattle.machine_types.specs.{Accesses.{found_by, words_after}, Bounds.{IsRooted, part_roots}, Construction.{AreFrozen, Runs, FrameKeeps, KeepBelow, FramesKeep, ThreadKeeps, KindKeeps, PlacesKeep}}
+use Rattle.machine_types.specs.{Core.Core, Events.{element_made, moved}, Frames.{Top, top_of, effect_at, went_on, making}, Going.goes_on, HeldMonitors.held_at}
+use Rattle.machine_types.specs.{Instructions.{effect_wants, run_wants, printed}, Onward.{Onward, Running, threw, done}, PlainMemory.Object, Standing.{Standing, row_at}}
+use Rattle.machine_types.specs.{Structure.{IsStructured, IsAs, Stands, AttemptStandsIn}, Threads.{Frame, Attempt, Thread}, Typed.{Classes, Holds, FrameHolds, FramesHold, HasClass}}
+use Rattle.machine_types.specs.{Words.{value_word, variable_word}, Worlds.{World, IsFinished, IsWorld}, declared.effect.{Effect.{Effect, TheVariants.{Reads, Makes, Prints, Waits}}, Variable.Variable}}
+use Rattle.machine_types.specs.declared.{effect.Variable.TheVariants.{Instance, Static}, phase.Phase.Phase}
+use Rattle.laws_threads.{specs.{Allowed.{IsNamedField, Allowed}, StructureLaws.{StaysStructured, counted_by}}, proofs.{FramePlaces.one_standing_law, Landing.stand_top, Standings.top_here}}
+use Rattle.laws_threads.proofs.{Steps.no_element_inside, ThreadMove.{GoesBy, Refuses, IsNotify, Move, becomes, counting, any_move, tried_attempt}, TopEffects.allowed_here}
+use Rattle.laws_states.{specs.HeapFacts.HeapFacts, proofs.{Accesses.out_there, Lists.set_here}}
+use Rattle.laws_objects.proofs.{BuiltEffects.KindOld, InstructionMoves.{Gets, KnownTop, known_top, by_top, does_as, refuses_as, nobody_as, prints_as, makes_as, waits_as, asks_as}}
 use Rattle.laws_objects.proofs.MonitorMoves.{fits, stays_as, fails_as, throws_as, element_as, made_as, notified_as, leads_as, turned_as, again_as, inside_as, begins_as, takes_as, gives_up_as, outer_as, inner_as, elided_as, fattens_as, waits_as as waits_in, retakes_as}
-use Rattle.laws_objects.proofs.Onwards.{FoundOld}
-use Rattle.laws_objects.proofs.RootMoves.{starts_as}
-use Rattle.laws_objects.proofs.ThreadMoves.{Moved, now_world}
-use Rattle.laws_objects.proofs.WorldChanges.{none_some}
-use Rattle.machine_types.specs.Going.{goes_on}
-use Rattle.machine_types.specs.HeldMonitors.{held_at}
-use Rattle.machine_types.specs.Onward.{Onward, Running, threw, done}
-use Rattle.laws_threads.proofs.ThreadMove.{GoesBy, Refuses, IsNotify, Move, becomes, counting, any_move, tried_attempt}
+use Rattle.laws_objects.proofs.{Onwards.FoundOld, RootMoves.starts_as, ThreadMoves.{Moved, now_world}, WorldChanges.none_some}
+use Rattle.jvm_types.specs.declared.program.Kind.TheVariants as kinds
+use Rattle.machine_types.specs.declared.phase.Phase.TheVariants as phases
 use Rattle.laws_threads.proofs.ThreadMove as moves
 
 -- ---- all moves

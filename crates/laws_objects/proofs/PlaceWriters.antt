@@ -1,51 +1,21 @@
 -- An event that changes the word of a place is an instruction that writes this place.
-use Rattle.std.proofs.Common.{◌≡◌, ◌⊎◌, inl, inr, ℕ, ◌<◌, List, [], ◌∷◌, false, length, Option, Some, None, refl, sym, ap, ◌∙◌, subst, arith}
-use Rattle.std.specs.Prelude.{Contains, slice_get, slice_index}
+use Rattle.std.proofs.Common.{◌≡◌, ◌⊎◌, inl, inr, ℕ, ◌<◌, List, [], ◌∷◌, false, length, Option, Some, None, refl, sym, ap, ◌∙◌, subst, arith, Contains, slice_get, slice_index}
 use Rattle.lists.proofs.ListLaws.{same_some}
-use Rattle.jvm_types.specs.Members.{is_static}
-use Rattle.jvm_types.specs.ProgramInvariant.{IsTargetOf, instances_among, site_in}
-use Rattle.jvm_types.specs.declared.program.FieldInfo.{FieldInfo}
-use Rattle.jvm_types.specs.declared.program.Target.TheVariants as targets
-use Rattle.laws_programs.proofs.ClassTreeLaws.{files_alone}
-use Rattle.laws_programs.proofs.CodeOrder.{have_targets}
-use Rattle.laws_programs.proofs.FieldOrder.{instances_inside}
-use Rattle.checked_program.specs.MarkedProgram.{MarkedProgram, IsMarked}
-use Rattle.checked_program.specs.TaggedCode.{row_of}
-use Rattle.machine_types.specs.Accesses.{accessed, left_by, words_after}
-use Rattle.machine_types.specs.Core.{Core}
-use Rattle.machine_types.specs.Effects.{effect}
-use Rattle.machine_types.specs.Events.{wanted}
-use Rattle.machine_types.specs.FoundWords.{Content, IntPlace, ReferencePlace, effect_content, run_content, leave_content, content_at}
-use Rattle.machine_types.specs.Frames.{Top, top_of, effect_at}
-use Rattle.machine_types.specs.Instructions.{effect_wants, run_wants}
-use Rattle.machine_types.specs.Lawful.{IsLawful}
-use Rattle.machine_types.specs.Monitors.{Claim, Has, Tries, HasNot, claim}
-use Rattle.machine_types.specs.PlainMemory.{Object}
-use Rattle.machine_types.specs.Standing.{Standing}
-use Rattle.machine_types.specs.Structure.{IsStructured, Stands, TopIs, is_element_op}
-use Rattle.machine_types.specs.Threads.{Frame, Thread}
-use Rattle.machine_types.specs.Typed.{FramesHold, HasClass, HasElementIn, ElementStands, PhaseHolds}
-use Rattle.machine_types.specs.Words.{variable_word}
-use Rattle.machine_types.specs.declared.access.Access.{Access}
-use Rattle.machine_types.specs.declared.access.Access.TheVariants.{Store}
-use Rattle.machine_types.specs.declared.effect.Effect.{Effect}
-use Rattle.machine_types.specs.declared.effect.Effect.TheVariants.{Reads, Writes}
-use Rattle.machine_types.specs.declared.effect.Variable.{Variable}
-use Rattle.machine_types.specs.declared.lock.Kept.{Kept}
-use Rattle.machine_types.specs.declared.lock.Kept.TheVariants as keeps
+use Rattle.jvm_types.specs.{Members.is_static, ProgramInvariant.{IsTargetOf, instances_among, site_in}, declared.program.FieldInfo.FieldInfo}
+use Rattle.laws_programs.proofs.{ClassTreeLaws.files_alone, CodeOrder.have_targets, FieldOrder.instances_inside}
+use Rattle.checked_program.specs.{MarkedProgram.{MarkedProgram, IsMarked}, TaggedCode.row_of}
+use Rattle.machine_types.specs.{Accesses.{accessed, left_by, words_after}, Core.Core, Effects.effect, Events.wanted}
+use Rattle.machine_types.specs.{FoundWords.{Content, IntPlace, ReferencePlace, effect_content, run_content, leave_content, content_at}, Frames.{Top, top_of, effect_at}}
+use Rattle.machine_types.specs.{Instructions.{effect_wants, run_wants}, Lawful.IsLawful, Monitors.{Claim, Has, Tries, HasNot, claim}, PlainMemory.Object, Standing.Standing}
+use Rattle.machine_types.specs.{Structure.{IsStructured, Stands, TopIs, is_element_op}, Threads.{Frame, Thread}, Typed.{FramesHold, HasClass, HasElementIn, ElementStands, PhaseHolds}}
+use Rattle.machine_types.specs.{Words.variable_word, declared.{access.Access.{Access, TheVariants.Store}, effect.{Effect.{Effect, TheVariants.{Reads, Writes}}, Variable.Variable}, lock.Kept.Kept}}
 use Rattle.machine_types.specs.declared.phase.Phase.{Phase}
+use Rattle.laws_threads.{specs.Allowed.{IsOf, IsNamedField, Allowed}, proofs.{Landing.stand_top, Standings.top_here, TopEffects.allowed_here}}
+use Rattle.laws_states.{specs.{HeapFacts.HeapFacts, SiteLaws.{EventsReachSites, SitesDiffer, SitesLieInside}, Sites.{Site, ValueOf, StaticAt, site_word, IsThere, Suits}}, proofs.Accesses.out_there}
+use Rattle.laws_states.proofs.{EventWords.{IsLeft, word_at}, LeftStands.loaded, Lists.contained_got}
+use Rattle.jvm_types.specs.declared.program.Target.TheVariants as targets
+use Rattle.machine_types.specs.declared.lock.Kept.TheVariants as keeps
 use Rattle.machine_types.specs.declared.phase.Phase.TheVariants as phases
-use Rattle.laws_threads.specs.Allowed.{IsOf, IsNamedField, Allowed}
-use Rattle.laws_threads.proofs.Landing.{stand_top}
-use Rattle.laws_threads.proofs.Standings.{top_here}
-use Rattle.laws_threads.proofs.TopEffects.{allowed_here}
-use Rattle.laws_states.specs.HeapFacts.{HeapFacts}
-use Rattle.laws_states.specs.SiteLaws.{EventsReachSites, SitesDiffer, SitesLieInside}
-use Rattle.laws_states.specs.Sites.{Site, ValueOf, StaticAt, site_word, IsThere, Suits}
-use Rattle.laws_states.proofs.Accesses.{out_there}
-use Rattle.laws_states.proofs.Lists.{contained_got}
-use Rattle.laws_states.proofs.EventWords.{IsLeft, word_at}
-use Rattle.laws_states.proofs.LeftStands.{loaded}
 
 -- ---- places: fields, elements and static fields
 

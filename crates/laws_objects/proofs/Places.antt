@@ -1,61 +1,26 @@
 -- No place has an unfinished object after an event.
-use Rattle.std.proofs.Common.{◌≡◌, ◌≢◌, ℕ, zero, suc, ◌+◌, ◌<◌, ◌⊎◌, inl, inr, Bool, true, false, List, ◌∷◌, length, Option, Some, None, refl, sym, ap, ◌∙◌, subst, arith}
-use Rattle.std.specs.Prelude.{◌==◌, nat_le, bit_or, bit_and, Contains, slice_get, slice_set, slice_index, if◌then◌else◌}
+use Rattle.std.proofs.Common.{◌≡◌, ◌≢◌, ℕ, zero, suc, ◌+◌, ◌<◌, ◌⊎◌, inl, inr, Bool, true, false, List, ◌∷◌, length, Option, Some, None, refl, sym, ap, ◌∙◌, subst, arith, ◌==◌, nat_le, bit_or, bit_and, Contains, slice_get, slice_set, slice_index, if◌then◌else◌}
 use Rattle.std.proofs.lemmas.Bool.{ne_eqb}
 use Rattle.lists.proofs.ListLaws.{same_some}
-use Rattle.jvm_types.specs.Members.{is_static}
-use Rattle.jvm_types.specs.ProgramInvariant.{IsProgram, words_of, instances_among}
-use Rattle.jvm_types.specs.declared.class_numbers.TheConstants.{INT_ARRAY_CLASS}
-use Rattle.jvm_types.specs.declared.code.Insn.{Insn}
-use Rattle.jvm_types.specs.declared.fixed_words.TheConstants.{NEXT_FREE_WORD, NEXT_TICKET_WORD}
-use Rattle.jvm_types.specs.declared.op_row.OpRow.{OpRow}
-use Rattle.jvm_types.specs.declared.program.FieldInfo.{FieldInfo}
-use Rattle.jvm_types.specs.declared.program.Kind.{Kind}
-use Rattle.jvm_types.specs.declared.program.Kind.TheVariants as kinds
-use Rattle.jvm_types.specs.declared.program.MethodInfo.{MethodInfo}
-use Rattle.jvm_types.specs.declared.program.Target.{Target}
-use Rattle.laws_programs.proofs.ClassTreeLaws.{files_alone}
-use Rattle.laws_programs.proofs.FieldOrder.{instances_inside, one_instance_field, one_static_field}
+use Rattle.jvm_types.specs.{Members.is_static, ProgramInvariant.{IsProgram, words_of, instances_among}, declared.{class_numbers.TheConstants.INT_ARRAY_CLASS, code.Insn.Insn}}
+use Rattle.jvm_types.specs.declared.{fixed_words.TheConstants.{NEXT_FREE_WORD, NEXT_TICKET_WORD}, op_row.OpRow.OpRow, program.{FieldInfo.FieldInfo, Kind.Kind, MethodInfo.MethodInfo, Target.Target}}
+use Rattle.laws_programs.proofs.{ClassTreeLaws.files_alone, FieldOrder.{instances_inside, one_instance_field, one_static_field}}
 use Rattle.checked_program.specs.MarkedProgram.{MarkedProgram, IsMarked}
-use Rattle.machine_types.specs.Accesses.{words_after}
-use Rattle.machine_types.specs.Construction.{ThreadKeeps, KindKeeps, PlacesKeep}
-use Rattle.machine_types.specs.Core.{Core}
-use Rattle.machine_types.specs.Elision.{looks}
-use Rattle.machine_types.specs.Events.{element_wants}
-use Rattle.machine_types.specs.FoundWords.{Content, IntPlace, ReferencePlace, leave_content}
-use Rattle.machine_types.specs.Instructions.{has_print_left, effect_wants}
-use Rattle.machine_types.specs.Monitors.{Claim, Has, Tries, HasNot}
-use Rattle.machine_types.specs.NewObjects.{size_by}
-use Rattle.machine_types.specs.PlainMemory.{Object, new_object}
-use Rattle.machine_types.specs.StartLaws.{StartLiesApart}
-use Rattle.machine_types.specs.Threads.{Attempt, Thread}
-use Rattle.machine_types.specs.Typed.{HasClass}
-use Rattle.machine_types.specs.Words.{header_word, header_class, value_word, variable_word, object_size, array_size}
+use Rattle.machine_types.specs.{Accesses.words_after, Construction.{ThreadKeeps, KindKeeps, PlacesKeep}, Core.Core, Elision.looks, Events.element_wants}
+use Rattle.machine_types.specs.{FoundWords.{Content, IntPlace, ReferencePlace, leave_content}, Instructions.{has_print_left, effect_wants}, Monitors.{Claim, Has, Tries, HasNot}, NewObjects.size_by}
+use Rattle.machine_types.specs.{PlainMemory.{Object, new_object}, StartLaws.StartLiesApart, Threads.{Attempt, Thread}, Typed.HasClass}
+use Rattle.machine_types.specs.{Words.{header_word, header_class, value_word, variable_word, object_size, array_size}, Worlds.{World, IsFinished, IsWorld, GoesOn}, declared.access.Access.Access}
+use Rattle.machine_types.specs.declared.{access.Access.TheVariants.{Load, Store, Cas, Add, Or, And, Rest}, effect.Effect.Effect}
+use Rattle.machine_types.specs.declared.effect.{Effect.TheVariants.{Goes, Reads, Writes, Indexes, Measures, Raises, Makes, Prints, Calls}, Variable.{Variable, TheVariants.{Instance, Static}}}
+use Rattle.machine_types.specs.declared.{lock.Kept.Kept, phase.Phase.Phase}
+use Rattle.laws_threads.{specs.Allowed.{IsNamedField, Allowed}, proofs.MonitorMoves.contains_got}
+use Rattle.laws_states.specs.{HeapFacts.HeapFacts, Sites.{Site, Counter, OwnerOf, BitsOf, LockOf, HeaderOf, ValueOf, NewHeaderOf, StaticAt, site_word, IsThere, Suits, ReachesIf}}
+use Rattle.laws_states.proofs.{Accesses.ElementSite, Lists.{contained_got, same_or_not, set_here, set_there}, Places.same_object, Sites.{sites_apart, sites_inside}, WordViews.set_self}
+use Rattle.laws_objects.proofs.{BuiltEffects.{KindOld, Built}, InstructionMoves.IsOutside, Onwards.first_finished, Views.finished_on}
+use Rattle.jvm_types.specs.declared.program.Kind.TheVariants as kinds
 use Rattle.machine_types.specs.Words as words
-use Rattle.machine_types.specs.Worlds.{World, IsFinished, IsWorld, GoesOn}
-use Rattle.machine_types.specs.declared.access.Access.{Access}
-use Rattle.machine_types.specs.declared.access.Access.TheVariants.{Load, Store, Cas, Add, Or, And, Rest}
-use Rattle.machine_types.specs.declared.effect.Effect.{Effect}
-use Rattle.machine_types.specs.declared.effect.Effect.TheVariants.{Goes, Reads, Writes, Indexes, Measures, Raises, Makes, Prints, Calls}
-use Rattle.machine_types.specs.declared.effect.Variable.{Variable}
-use Rattle.machine_types.specs.declared.effect.Variable.TheVariants.{Instance, Static}
-use Rattle.machine_types.specs.declared.lock.Kept.{Kept}
 use Rattle.machine_types.specs.declared.lock.Kept.TheVariants as keeps
-use Rattle.machine_types.specs.declared.phase.Phase.{Phase}
 use Rattle.machine_types.specs.declared.phase.Phase.TheVariants as phases
-use Rattle.laws_states.specs.HeapFacts.{HeapFacts}
-use Rattle.laws_states.specs.Sites.{Site, Counter, OwnerOf, BitsOf, LockOf, HeaderOf, ValueOf, NewHeaderOf, StaticAt, site_word, IsThere, Suits, ReachesIf}
-use Rattle.laws_states.proofs.Accesses.{ElementSite}
-use Rattle.laws_states.proofs.Lists.{contained_got, same_or_not, set_here, set_there}
-use Rattle.laws_states.proofs.Places.{same_object}
-use Rattle.laws_states.proofs.Sites.{sites_apart, sites_inside}
-use Rattle.laws_states.proofs.WordViews.{set_self}
-use Rattle.laws_threads.specs.Allowed.{IsNamedField, Allowed}
-use Rattle.laws_objects.proofs.BuiltEffects.{KindOld, Built}
-use Rattle.laws_objects.proofs.InstructionMoves.{IsOutside}
-use Rattle.laws_objects.proofs.Onwards.{first_finished}
-use Rattle.laws_objects.proofs.Views.{finished_on}
-use Rattle.laws_threads.proofs.MonitorMoves.{contains_got}
 
 -- what is neither a field nor an element
 abbrev pub IsPlain : Content → Type 0

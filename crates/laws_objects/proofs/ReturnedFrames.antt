@@ -1,56 +1,22 @@
 -- A return: the caller goes on behind its call. Where an `<init>` of a frozen class returns, its object is finished.
-use Rattle.std.proofs.Common.{◌≡◌, ◌≢◌, ℕ, suc, ◌<◌, ◌⊎◌, inl, inr, Bool, true, false, not, ◌&&◌, List, [], ◌∷◌, ◌++◌, length, map, drop, Option, Some, None, refl, sym, ap, ◌∙◌, subst, arith}
-use Rattle.std.specs.Prelude.{◌==◌, slice_get}
-use Rattle.std.specs.List.{AllByRecursion}
-use Rattle.std.specs.Option.{option_map, option_to_list}
-use Rattle.std.proofs.lemmas.Bool.{or_parts, eq-eqb, eqb-true, ne_eqb}
-use Rattle.std.proofs.lemmas.Bool.Decides.{nat_tests}
-use Rattle.lists.proofs.ListLaws.{same_some}
-use Rattle.lists.proofs.TestLaws.{is_true}
-use Rattle.jvm_types.specs.CodeTable.{type_of, arguments, is_init, result_of, value_of, stack_after, locals_after, row}
-use Rattle.jvm_types.specs.Members.{is_static}
-use Rattle.jvm_types.specs.Numbers.{has_number}
-use Rattle.jvm_types.specs.Types.{TypeFrame, is_below}
-use Rattle.jvm_types.specs.Verifying.{suits, some_taken, new_class, is_class_of, started, initialised, after_start, frame_after, edges, is_return}
-use Rattle.jvm_types.specs.declared.code.Op.{Op}
-use Rattle.jvm_types.specs.declared.code.Op.TheVariants as ops
-use Rattle.jvm_types.specs.declared.op_row.Given.{Given}
-use Rattle.jvm_types.specs.declared.op_row.Given.TheVariants.{Fresh as Anew}
-use Rattle.jvm_types.specs.declared.op_row.OpRow.{OpRow}
-use Rattle.jvm_types.specs.declared.op_row.Want.{Want}
-use Rattle.jvm_types.specs.declared.op_row.Want.TheVariants.{AnyValue, AnInt, AnObject, AnyReference, AHolder, ToStart}
-use Rattle.jvm_types.specs.declared.program.Kind.{Kind}
-use Rattle.jvm_types.specs.declared.program.Kind.TheVariants as kinds
-use Rattle.jvm_types.specs.declared.program.MethodInfo.{MethodInfo}
-use Rattle.jvm_types.specs.declared.typing.VType.{VType}
-use Rattle.jvm_types.specs.declared.typing.VType.TheVariants as types
-use Rattle.laws_programs.specs.RuleLaws.{ReturnsWell, ReturnsTop}
-use Rattle.laws_programs.proofs.RuleUses.{returns_suit_all}
-use Rattle.checked_program.specs.CheckedLaws.{receiver_want}
-use Rattle.checked_program.specs.MarkedProgram.{MarkedProgram, IsMarked}
-use Rattle.checked_program.specs.Tagging.{moved_tags, tags_after}
-use Rattle.checked_program.specs.declared.tag.Tag.{Tag}
-use Rattle.checked_program.specs.declared.tag.Tag.TheVariants.{Untagged}
+use Rattle.std.proofs.Common.{◌≡◌, ◌≢◌, ℕ, suc, ◌<◌, ◌⊎◌, inl, inr, Bool, true, false, not, ◌&&◌, List, [], ◌∷◌, ◌++◌, length, map, drop, Option, Some, None, refl, sym, ap, ◌∙◌, subst, arith, ◌==◌, slice_get}
+use Rattle.std.{specs.{List.AllByRecursion, Option.{option_map, option_to_list}}, proofs.lemmas.Bool.{or_parts, eq-eqb, eqb-true, ne_eqb, Decides.nat_tests}}
+use Rattle.lists.proofs.{ListLaws.same_some, TestLaws.is_true}
+use Rattle.jvm_types.specs.{CodeTable.{type_of, arguments, is_init, result_of, value_of, stack_after, locals_after, row}, Members.is_static, Numbers.has_number, Types.{TypeFrame, is_below}}
+use Rattle.jvm_types.specs.{Verifying.{suits, some_taken, new_class, is_class_of, started, initialised, after_start, frame_after, edges, is_return}, declared.{code.Op.Op, op_row.Given.Given}}
+use Rattle.jvm_types.specs.declared.{op_row.{Given.TheVariants.{Fresh as Anew}, OpRow.OpRow, Want.{Want, TheVariants.{AnyValue, AnInt, AnObject, AnyReference, AHolder, ToStart}}}, program.Kind.Kind}
+use Rattle.jvm_types.specs.declared.{program.MethodInfo.MethodInfo, typing.VType.VType}
+use Rattle.laws_programs.{specs.RuleLaws.{ReturnsWell, ReturnsTop}, proofs.RuleUses.returns_suit_all}
+use Rattle.checked_program.specs.{CheckedLaws.receiver_want, MarkedProgram.{MarkedProgram, IsMarked}, Tagging.{moved_tags, tags_after}, declared.tag.Tag.{Tag, TheVariants.Untagged}}
 use Rattle.machine_types.specs.Construction.{AreFrozen, is_frozen_class, builds, makes_frozen, if_so, SlotsAre, Runs, WaitsFor, FreshAtCall, IsFresh, ReceiverIs, SlotOf, FrameKeeps, WaitKeeps, KeepBelow, FramesKeep}
-use Rattle.machine_types.specs.Frames.{given_back}
-use Rattle.machine_types.specs.Lawful.{within}
-use Rattle.machine_types.specs.Standing.{Standing, row_at}
-use Rattle.machine_types.specs.Threads.{Frame}
-use Rattle.machine_types.specs.Worlds.{Made, Begun, Builder, builder, World, IsFinished}
-use Rattle.laws_threads.proofs.FrameMoves.{edge_fits}
-use Rattle.laws_threads.specs.Allowed.{OneOf}
-use Rattle.laws_threads.proofs.Callers.{call_edge, row_of_call}
-use Rattle.laws_threads.proofs.Calls.{CallRow}
-use Rattle.laws_threads.proofs.Landing.{rules_at}
-use Rattle.laws_threads.proofs.Typing.{edge_at}
-use Rattle.laws_objects.proofs.BuiltEffects.{KindOld, StartsNone}
-use Rattle.laws_objects.proofs.CalledFrames.{below_moved, arguments_start, none_started, none_append}
-use Rattle.laws_objects.proofs.KeptFrames.{below_kept}
-use Rattle.laws_objects.proofs.Landing.{land, joined_onward}
-use Rattle.laws_objects.proofs.Moves.{Steps, stays, StartsOld, StartsYoung, Starts, starts, Suit, suit_at, tags_fine, old_started, slots_finished}
-use Rattle.laws_objects.proofs.Operands.{TakenOld, is_getfield, takes_old}
-use Rattle.laws_objects.proofs.Slots.{slots_map, slot_later, made_slot}
-use Rattle.laws_objects.proofs.WorldChanges.{without, without_gone, without_keeps, without_none, world_without, goes_without, lost_without}
+use Rattle.machine_types.specs.{Frames.given_back, Lawful.within, Standing.{Standing, row_at}, Threads.Frame, Worlds.{Made, Begun, Builder, builder, World, IsFinished}}
+use Rattle.laws_threads.{specs.Allowed.OneOf, proofs.{Callers.{call_edge, row_of_call}, Calls.CallRow, FrameMoves.edge_fits, Landing.rules_at, Typing.edge_at}}
+use Rattle.laws_objects.proofs.{BuiltEffects.{KindOld, StartsNone}, CalledFrames.{below_moved, arguments_start, none_started, none_append}, KeptFrames.below_kept, Landing.{land, joined_onward}}
+use Rattle.laws_objects.proofs.{Moves.{Steps, stays, StartsOld, StartsYoung, Starts, starts, Suit, suit_at, tags_fine, old_started, slots_finished}, Operands.{TakenOld, is_getfield, takes_old}}
+use Rattle.laws_objects.proofs.{Slots.{slots_map, slot_later, made_slot}, WorldChanges.{without, without_gone, without_keeps, without_none, world_without, goes_without, lost_without}}
+use Rattle.jvm_types.specs.declared.code.Op.TheVariants as ops
+use Rattle.jvm_types.specs.declared.program.Kind.TheVariants as kinds
+use Rattle.jvm_types.specs.declared.typing.VType.TheVariants as types
 
 -- ---- results
 

@@ -1,42 +1,17 @@
 -- The frame of a root keeps what construction says: it is a static method, no `<init>`, and takes nothing or an int.
-use Rattle.std.proofs.Common.{◌≡◌, ℕ, zero, suc, ◌+◌, ◌≤◌, inl, inr, Bool, true, false, ◌&&◌, ◌||◌, List, [], ◌∷◌, ◌++◌, length, Option, Some, None, refl, ap, sym, subst, ◌∙◌, arith}
-use Rattle.std.specs.Prelude.{◌==◌, nat_lt, codes, bytes_eq, slice_get, option_map, if◌then◌else◌, IsTrue}
-use Rattle.std.specs.List.{AllByRecursion}
-use Rattle.std.proofs.lemmas.Slice.Eq.{bytes_eq-Decides}
-use Rattle.lists.proofs.ListLaws.{same_some}
-use Rattle.lists.proofs.TestLaws.{both_are_true, second_true, first_true}
-use Rattle.jvm_types.specs.ClassNames.{file_class}
-use Rattle.jvm_types.specs.CodeTable.{is_init}
-use Rattle.jvm_types.specs.Members.{is_static, is_class_init_name}
-use Rattle.jvm_types.specs.Numbers.{has_number}
-use Rattle.jvm_types.specs.ProgramInvariant.{words_of}
-use Rattle.jvm_types.specs.declared.outcome.Thrown.TheVariants.{StackOverflowError}
-use Rattle.jvm_types.specs.declared.program.Kind.{Kind}
-use Rattle.jvm_types.specs.declared.program.MethodInfo.{MethodInfo}
-use Rattle.jvm_types.specs.declared.program.Program.{Program}
-use Rattle.checked_program.proofs.CheckedPlaces.{called_fit_all}
-use Rattle.checked_program.specs.MarkedProgram.{MarkedProgram, IsMarked, checked_part}
-use Rattle.machine_types.specs.Bounds.{part_roots}
-use Rattle.machine_types.specs.Construction.{AreFrozen, ThreadKeeps}
-use Rattle.machine_types.specs.Events.{thread_started}
-use Rattle.machine_types.specs.Frames.{has_room, entry_frame}
-use Rattle.machine_types.specs.Onward.{Running, Uncaught, root_arguments, rooted}
-use Rattle.machine_types.specs.Parts.{numbers_of, is_entry_named, entries_named, init_roots}
-use Rattle.machine_types.specs.Structure.{IsStructured}
-use Rattle.machine_types.specs.Threads.{Thread}
-use Rattle.machine_types.specs.Worlds.{World, IsFinished, IsWorld}
-use Rattle.machine_types.specs.declared.phase.Phase.{Phase}
-use Rattle.machine_types.specs.declared.phase.Phase.TheVariants as phases
-use Rattle.laws_threads.specs.StructureLaws.{StaysStructured}
+use Rattle.std.proofs.Common.{◌≡◌, ℕ, zero, suc, ◌+◌, ◌≤◌, inl, inr, Bool, true, false, ◌&&◌, ◌||◌, List, [], ◌∷◌, ◌++◌, length, Option, Some, None, refl, ap, sym, subst, ◌∙◌, arith, ◌==◌, nat_lt, codes, bytes_eq, slice_get, option_map, if◌then◌else◌, IsTrue}
+use Rattle.std.{specs.List.AllByRecursion, proofs.lemmas.Slice.Eq.bytes_eq-Decides}
+use Rattle.lists.proofs.{ListLaws.same_some, TestLaws.{both_are_true, second_true, first_true}}
+use Rattle.jvm_types.specs.{ClassNames.file_class, CodeTable.is_init, Members.{is_static, is_class_init_name}, Numbers.has_number, ProgramInvariant.words_of}
+use Rattle.jvm_types.specs.declared.{outcome.Thrown.TheVariants.StackOverflowError, program.{Kind.Kind, MethodInfo.MethodInfo, Program.Program}}
 use Rattle.laws_programs.specs.EntryLaws.{receiver_count}
-use Rattle.laws_threads.proofs.ThreadMove.{counting}
-use Rattle.laws_threads.proofs.Roots.{IsSomeRoot, part_root, numbered}
-use Rattle.laws_objects.proofs.Calling.{not_built}
-use Rattle.laws_objects.proofs.EnteredFrames.{ArgsOld, static_enters}
-use Rattle.laws_objects.proofs.MonitorMoves.{Goal, none_in, held, goes_if, never}
-use Rattle.laws_objects.proofs.Moves.{stays}
-use Rattle.laws_objects.proofs.Onwards.{OnwardKeeps, IfKeeps, null}
+use Rattle.checked_program.{specs.MarkedProgram.{MarkedProgram, IsMarked, checked_part}, proofs.CheckedPlaces.called_fit_all}
+use Rattle.machine_types.specs.{Bounds.part_roots, Construction.{AreFrozen, ThreadKeeps}, Events.thread_started, Frames.{has_room, entry_frame}, Onward.{Running, Uncaught, root_arguments, rooted}}
+use Rattle.machine_types.specs.{Parts.{numbers_of, is_entry_named, entries_named, init_roots}, Structure.IsStructured, Threads.Thread, Worlds.{World, IsFinished, IsWorld}, declared.phase.Phase.Phase}
+use Rattle.laws_threads.{specs.StructureLaws.StaysStructured, proofs.{Roots.{IsSomeRoot, part_root, numbered}, ThreadMove.counting}}
+use Rattle.laws_objects.proofs.{Calling.not_built, EnteredFrames.{ArgsOld, static_enters}, MonitorMoves.{Goal, none_in, held, goes_if, never}, Moves.stays, Onwards.{OnwardKeeps, IfKeeps, null}}
 use Rattle.laws_objects.proofs.ThreadMoves.{from_same, now_world}
+use Rattle.machine_types.specs.declared.phase.Phase.TheVariants as phases
 
 -- ---- the methods with these numbers
 

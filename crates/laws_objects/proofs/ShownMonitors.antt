@@ -1,28 +1,14 @@
 -- Where an instruction begins outside attempts, the thread holds each monitor that its top frame shows: that of its receiver where
 -- a tag of `this` is held, and where the method is synchronized on it, and that of its class where it is synchronized on that.
-use Rattle.std.proofs.Common.{◌≡◌, ◌⊎◌, inl, inr, ℕ, ◌+◌, ◌<◌, Bool, true, false, not, List, [], ◌∷◌, ◌++◌, map, Option, Some, None, refl, sym, subst, arith}
-use Rattle.std.specs.Prelude.{◌==◌, ◌&&◌, if◌then◌else◌}
+use Rattle.std.proofs.Common.{◌≡◌, ◌⊎◌, inl, inr, ℕ, ◌+◌, ◌<◌, Bool, true, false, not, List, [], ◌∷◌, ◌++◌, map, Option, Some, None, refl, sym, subst, arith, ◌==◌, ◌&&◌, if◌then◌else◌}
 use Rattle.std.specs.List.{list_any}
-use Rattle.jvm_types.specs.ClassNames.{file_of_class}
-use Rattle.jvm_types.specs.Members.{is_static, is_synchronized}
-use Rattle.jvm_types.specs.declared.program.MethodInfo.{MethodInfo}
-use Rattle.jvm_types.specs.declared.program.Program.{Program}
-use Rattle.checked_program.specs.FrozenPlaces.{locks_this, locks_class}
-use Rattle.checked_program.specs.LockTags.{TagShape, is_this}
-use Rattle.checked_program.specs.MarkedProgram.{MarkedProgram, IsMarked}
-use Rattle.checked_program.specs.declared.tag.Tag.{Tag}
+use Rattle.jvm_types.specs.{ClassNames.file_of_class, Members.{is_static, is_synchronized}, declared.program.{MethodInfo.MethodInfo, Program.Program}}
+use Rattle.checked_program.specs.{FrozenPlaces.{locks_this, locks_class}, LockTags.{TagShape, is_this}, MarkedProgram.{MarkedProgram, IsMarked}, declared.tag.Tag.Tag}
 use Rattle.checked_program.specs.declared.tag.Tag.TheVariants.{Untagged, This, At}
-use Rattle.machine_types.specs.HeldMonitors.{held_at}
-use Rattle.machine_types.specs.Shown.{tag_value, own_entry, shown_entries, Shows}
-use Rattle.machine_types.specs.Standing.{Standing, Whole}
-use Rattle.machine_types.specs.Structure.{Stands, count_in, held_depth}
-use Rattle.machine_types.specs.Threads.{Frame}
-use Rattle.machine_types.specs.Words.{class_object}
-use Rattle.machine_types.specs.declared.lock.Held.{Held}
+use Rattle.machine_types.specs.{HeldMonitors.held_at, Shown.{tag_value, own_entry, shown_entries, Shows}, Standing.{Standing, Whole}, Structure.{Stands, count_in, held_depth}, Threads.Frame}
+use Rattle.machine_types.specs.{Words.class_object, declared.lock.Held.Held}
+use Rattle.laws_threads.proofs.{Counts.once_in, FramePlaces.one_standing, HeldLists.depth_none}
 use Rattle.machine_types.specs.declared.phase.Phase.TheVariants as phases
-use Rattle.laws_threads.proofs.HeldLists.{depth_none}
-use Rattle.laws_threads.proofs.FramePlaces.{one_standing}
-use Rattle.laws_threads.proofs.Counts.{once_in}
 
 -- ---- counts
 

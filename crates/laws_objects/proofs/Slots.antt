@@ -1,22 +1,12 @@
 -- What slots are along moves, starts and edges.
-use Rattle.std.proofs.Common.{◌≡◌, ◌≢◌, ℕ, zero, suc, ◌⊎◌, inl, inr, Bool, true, false, ◌&&◌, List, [], ◌∷◌, ◌++◌, length, map, drop, Option, Some, None, refl, sym, ap, ◌∙◌, subst, arith}
-use Rattle.std.specs.Prelude.{◌==◌, if◌then◌else◌, slice_set, slice_index_or}
-use Rattle.std.specs.List.{AllByRecursion}
-use Rattle.std.proofs.lemmas.Bool.Decides.{nat_tests}
-use Rattle.jvm_types.specs.CodeTable.{value_of, stack_after, locals_after}
-use Rattle.jvm_types.specs.Types.{is_below, same_type, all_pairs}
-use Rattle.jvm_types.specs.Verifying.{initialised}
-use Rattle.jvm_types.specs.declared.op_row.Given.{Given}
-use Rattle.jvm_types.specs.declared.op_row.Given.TheVariants.{Fresh as Anew, Taken, Local}
-use Rattle.jvm_types.specs.declared.op_row.OpRow.{OpRow}
-use Rattle.jvm_types.specs.declared.typing.VType.{VType}
-use Rattle.jvm_types.specs.declared.typing.VType.TheVariants as types
-use Rattle.checked_program.specs.FrozenPlaces.{KeepThis}
-use Rattle.checked_program.specs.LockTags.{same_tag, without, IsTagBelow, AreTagsBelow}
-use Rattle.checked_program.specs.declared.tag.Tag.{Tag}
-use Rattle.checked_program.specs.declared.tag.Tag.TheVariants.{Untagged, This, At}
+use Rattle.std.proofs.Common.{◌≡◌, ◌≢◌, ℕ, zero, suc, ◌⊎◌, inl, inr, Bool, true, false, ◌&&◌, List, [], ◌∷◌, ◌++◌, length, map, drop, Option, Some, None, refl, sym, ap, ◌∙◌, subst, arith, ◌==◌, if◌then◌else◌, slice_set, slice_index_or}
+use Rattle.std.{specs.List.AllByRecursion, proofs.lemmas.Bool.Decides.nat_tests}
+use Rattle.jvm_types.specs.{CodeTable.{value_of, stack_after, locals_after}, Types.{is_below, same_type, all_pairs}, Verifying.initialised, declared.op_row.Given.Given}
+use Rattle.jvm_types.specs.declared.{op_row.{Given.TheVariants.{Fresh as Anew, Taken, Local}, OpRow.OpRow}, typing.VType.VType}
+use Rattle.checked_program.specs.{FrozenPlaces.KeepThis, LockTags.{same_tag, without, IsTagBelow, AreTagsBelow}, declared.tag.Tag.{Tag, TheVariants.{Untagged, This, At}}}
 use Rattle.machine_types.specs.Construction.{if_so, SlotByType, OwnSlot, SlotIs, SlotsAre}
 use Rattle.laws_objects.proofs.NoThis.{other_above}
+use Rattle.jvm_types.specs.declared.typing.VType.TheVariants as types
 
 -- ---- lists of slots
 

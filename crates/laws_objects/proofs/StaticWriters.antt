@@ -1,41 +1,17 @@
 -- An event that changes a static field is a `putstatic` of that field.
-use Rattle.std.proofs.Common.{◌≡◌, ◌⊎◌, inl, inr, ℕ, Bool, true, false, List, [], ◌∷◌, Some, refl, sym, ap, ◌∙◌, subst}
-use Rattle.std.specs.Prelude.{slice_get, slice_index, if◌then◌else◌}
+use Rattle.std.proofs.Common.{◌≡◌, ◌⊎◌, inl, inr, ℕ, Bool, true, false, List, [], ◌∷◌, Some, refl, sym, ap, ◌∙◌, subst, slice_get, slice_index, if◌then◌else◌}
 use Rattle.lists.proofs.ListLaws.{same_some}
-use Rattle.jvm_types.specs.CodeTable.{put_row}
-use Rattle.jvm_types.specs.Members.{is_static}
-use Rattle.jvm_types.specs.ProgramInvariant.{site_in}
-use Rattle.jvm_types.specs.declared.code.Op.{Op}
+use Rattle.jvm_types.specs.{CodeTable.put_row, Members.is_static, ProgramInvariant.site_in, declared.{code.Op.Op, program.{FieldInfo.FieldInfo, Target.Target}}}
+use Rattle.laws_programs.{specs.TargetLaws.{HasRow, NamesField}, proofs.FieldOrder.one_static_field}
+use Rattle.checked_program.specs.{MarkedProgram.{MarkedProgram, IsMarked}, TaggedCode.row_of}
+use Rattle.machine_types.specs.{Accesses.words_after, Core.Core, Effects.effect, Events.wanted, Lawful.IsLawful, PlainMemory.Object, Standing.Standing, Structure.{IsStructured, TopIs, is_element_op}}
+use Rattle.machine_types.specs.{Threads.{Frame, Thread}, Typed.{FramesHold, HasClass, HasElementIn, HasElementOn, ElementStands, IsElementOn}, Words.variable_word}
+use Rattle.machine_types.specs.declared.{effect.{Effect.TheVariants.Writes, Variable.{Variable, TheVariants.{Instance, Static}}}, phase.Phase.Phase}
+use Rattle.laws_threads.{specs.Allowed.IsNamedField, proofs.Landing.rules_at}
+use Rattle.laws_states.specs.{HeapFacts.HeapFacts, SiteLaws.{EventsReachSites, SitesDiffer, SitesLieInside}, Sites.{ValueOf, StaticAt, IsThere}}
+use Rattle.laws_objects.proofs.{PlaceWriters.{IsWriter, holder_of, names_field, place_writer}, WrittenFields.{Puts, PutsOnClass, field_put}}
 use Rattle.jvm_types.specs.declared.code.Op.TheVariants as ops
-use Rattle.jvm_types.specs.declared.program.FieldInfo.{FieldInfo}
-use Rattle.jvm_types.specs.declared.program.Target.{Target}
 use Rattle.jvm_types.specs.declared.program.Target.TheVariants as targets
-use Rattle.laws_programs.specs.TargetLaws.{HasRow, NamesField}
-use Rattle.laws_programs.proofs.FieldOrder.{one_static_field}
-use Rattle.checked_program.specs.MarkedProgram.{MarkedProgram, IsMarked}
-use Rattle.checked_program.specs.TaggedCode.{row_of}
-use Rattle.machine_types.specs.Accesses.{words_after}
-use Rattle.machine_types.specs.Core.{Core}
-use Rattle.machine_types.specs.Effects.{effect}
-use Rattle.machine_types.specs.Events.{wanted}
-use Rattle.machine_types.specs.Lawful.{IsLawful}
-use Rattle.machine_types.specs.PlainMemory.{Object}
-use Rattle.machine_types.specs.Standing.{Standing}
-use Rattle.machine_types.specs.Structure.{IsStructured, TopIs, is_element_op}
-use Rattle.machine_types.specs.Threads.{Frame, Thread}
-use Rattle.machine_types.specs.Typed.{FramesHold, HasClass, HasElementIn, HasElementOn, ElementStands, IsElementOn}
-use Rattle.machine_types.specs.Words.{variable_word}
-use Rattle.machine_types.specs.declared.effect.Effect.TheVariants.{Writes}
-use Rattle.machine_types.specs.declared.effect.Variable.{Variable}
-use Rattle.machine_types.specs.declared.effect.Variable.TheVariants.{Instance, Static}
-use Rattle.machine_types.specs.declared.phase.Phase.{Phase}
-use Rattle.laws_threads.specs.Allowed.{IsNamedField}
-use Rattle.laws_threads.proofs.Landing.{rules_at}
-use Rattle.laws_states.specs.HeapFacts.{HeapFacts}
-use Rattle.laws_states.specs.SiteLaws.{EventsReachSites, SitesDiffer, SitesLieInside}
-use Rattle.laws_states.specs.Sites.{ValueOf, StaticAt, IsThere}
-use Rattle.laws_objects.proofs.PlaceWriters.{IsWriter, holder_of, names_field, place_writer}
-use Rattle.laws_objects.proofs.WrittenFields.{Puts, PutsOnClass, field_put}
 
 -- a frame that writes the field
 pub record StaticWriter (c : MarkedProgram) (fi : ℕ) (f : Frame) : Type 0 where

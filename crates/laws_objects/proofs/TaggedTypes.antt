@@ -1,39 +1,19 @@
 -- What holds of the types and the tags at pc 0 together, and along each edge, holds wherever tagging reaches: so there are as
 -- many tags as types, and outside an `<init>` no value has the type of an uninitialised `this`.
-use Rattle.std.proofs.Common.{◌≡◌, ℕ, suc, ◌+◌, ◌-◌, Bool, true, false, cond, List, [], ◌∷◌, ◌++◌, length, map, drop, replicate, Option, Some, None, refl, sym, ap, ◌∙◌, subst, arith}
-use Rattle.std.specs.Prelude.{if◌then◌else◌, slice_get}
-use Rattle.std.specs.List.{AllByRecursion}
-use Rattle.std.proofs.lemmas.List.{length-append, length-map, length-drop, length-set, length-replicate}
-use Rattle.jvm_types.specs.CodeGrammar.{is_start}
-use Rattle.jvm_types.specs.CodeTable.{row, is_init, type_of, value_of, stack_after, locals_after}
-use Rattle.jvm_types.specs.Members.{is_static}
+use Rattle.std.proofs.Common.{◌≡◌, ℕ, suc, ◌+◌, ◌-◌, Bool, true, false, cond, List, [], ◌∷◌, ◌++◌, length, map, drop, replicate, Option, Some, None, refl, sym, ap, ◌∙◌, subst, arith, if◌then◌else◌, slice_get}
+use Rattle.std.{specs.List.AllByRecursion, proofs.lemmas.List.{length-append, length-map, length-drop, length-set, length-replicate}}
+use Rattle.jvm_types.specs.{CodeGrammar.is_start, CodeTable.{row, is_init, type_of, value_of, stack_after, locals_after}, Members.is_static}
 use Rattle.jvm_types.specs.Types.{TypeFrame, frame_below, entry_type_frame, receiver_types}
-use Rattle.jvm_types.specs.Verifying.{edges, covering, started, after_start, initialised, frame_after, frame_at_handler, HasTyping, IsLaidOut}
-use Rattle.jvm_types.specs.Verifying as types
-use Rattle.jvm_types.specs.declared.code.Insn.{Insn}
-use Rattle.jvm_types.specs.declared.code.Op.{Op}
-use Rattle.jvm_types.specs.declared.code.Op.TheVariants as ops
-use Rattle.jvm_types.specs.declared.op_row.Given.{Given}
-use Rattle.jvm_types.specs.declared.op_row.OpRow.{OpRow}
-use Rattle.jvm_types.specs.declared.program.MethodInfo.{MethodInfo}
-use Rattle.jvm_types.specs.declared.program.Program.{Program}
-use Rattle.jvm_types.specs.declared.program.Row.{Row}
-use Rattle.jvm_types.specs.declared.program.Target.{Target}
-use Rattle.jvm_types.specs.declared.typing.VType.{VType}
-use Rattle.jvm_types.specs.declared.typing.VType.TheVariants.{Ref, This, Top}
-use Rattle.jvm_types.proofs.EachAfter.{all_weaker}
-use Rattle.jvm_types.proofs.FrameOrder.{stack_below, locals_below, pairs_length}
-use Rattle.laws_programs.proofs.CodeOrder.{one_number}
-use Rattle.laws_programs.proofs.EdgeTargets.{lands}
-use Rattle.laws_programs.proofs.LocalGoing.{begins, local_law}
+use Rattle.jvm_types.specs.{Verifying.{edges, covering, started, after_start, initialised, frame_after, frame_at_handler, HasTyping, IsLaidOut}, declared.{code.{Insn.Insn, Op.Op}, op_row.Given.Given}}
+use Rattle.jvm_types.specs.declared.{op_row.OpRow.OpRow, program.{MethodInfo.MethodInfo, Program.Program, Row.Row, Target.Target}, typing.VType.{VType, TheVariants.{Ref, This, Top}}}
+use Rattle.jvm_types.proofs.{EachAfter.all_weaker, FrameOrder.{stack_below, locals_below, pairs_length}}
+use Rattle.laws_programs.proofs.{CodeOrder.one_number, EdgeTargets.lands, LocalGoing.{begins, local_law}, VisitsEnd.initialised_length}
 use Rattle.checked_program.specs.LockTags.{TagShape, entry_tags, meet_tags, without, IsShapeBelow}
-use Rattle.checked_program.specs.Tagging.{moved_tags, tags_by_op, tags_after, catches_all, until_all, catchers, tags_at_handler, acts_at, tag_plan, tag_meeting, HasTagging}
-use Rattle.checked_program.specs.declared.tag.Tag.{Tag}
+use Rattle.checked_program.specs.{Tagging.{moved_tags, tags_by_op, tags_after, catches_all, until_all, catchers, tags_at_handler, acts_at, tag_plan, tag_meeting, HasTagging}, declared.tag.Tag.Tag}
 use Rattle.checked_program.specs.declared.tag.Tag.TheVariants.{Untagged, This as Own, At}
-use Rattle.laws_sections.proofs.TagLocal.{acts_land, start_at}
-use Rattle.laws_sections.proofs.TagOrder.{tag_order}
-use Rattle.laws_sections.proofs.VisitsLocal.{Lands, ActLands, IsClosed, local}
-use Rattle.laws_programs.proofs.VisitsEnd.{initialised_length}
+use Rattle.laws_sections.proofs.{TagLocal.{acts_land, start_at}, TagOrder.tag_order, VisitsLocal.{Lands, ActLands, IsClosed, local}}
+use Rattle.jvm_types.specs.Verifying as types
+use Rattle.jvm_types.specs.declared.code.Op.TheVariants as ops
 
 -- ---- any such fact
 

@@ -1,33 +1,19 @@
 -- A thread that has moved keeps what construction says of it, in and outside of an attempt.
-use Rattle.std.proofs.Common.{◌≡◌, ◌≢◌, ℕ, ◌-◌, ◌<◌, ◌≤◌, ◌⊎◌, inl, inr, Bool, true, false, cond, List, [], ◌∷◌, length, drop, Option, Some, None, refl, sym, ap, ◌∙◌, subst, arith}
-use Rattle.std.specs.Prelude.{◌==◌, nat_lt, Contains}
-use Rattle.std.specs.List.{AllByRecursion}
-use Rattle.std.proofs.lemmas.Bool.{eqb-true, eqb-false}
+use Rattle.std.proofs.Common.{◌≡◌, ◌≢◌, ℕ, ◌-◌, ◌<◌, ◌≤◌, ◌⊎◌, inl, inr, Bool, true, false, cond, List, [], ◌∷◌, length, drop, Option, Some, None, refl, sym, ap, ◌∙◌, subst, arith, ◌==◌, nat_lt, Contains}
+use Rattle.std.{specs.List.AllByRecursion, proofs.lemmas.Bool.{eqb-true, eqb-false}}
 use Rattle.jvm_types.specs.ProgramInvariant.{words_of}
-use Rattle.jvm_types.specs.declared.outcome.End.TheVariants as ends
-use Rattle.checked_program.specs.MarkedProgram.{MarkedProgram}
-use Rattle.machine_types.specs.Construction.{Runs, FramesKeep, PhaseKeepsFrames, PhaseKeeps, AttemptKeeps, AttemptKeepsIn, ThreadKeeps}
-use Rattle.machine_types.specs.Elision.{put_back}
-use Rattle.machine_types.specs.Going.{root_over, runs, goes_on}
-use Rattle.machine_types.specs.HeldMonitors.{held_at, with_held, without_held}
-use Rattle.machine_types.specs.Onward.{Onward, Running, Throwing, Entering, Leaving, RootReturned, Uncaught}
-use Rattle.machine_types.specs.Structure.{IsStructured, AttemptStandsIn}
-use Rattle.machine_types.specs.Threads.{Frame, Attempt, Thread}
-use Rattle.machine_types.specs.Worlds.{Lost, Builder, World, IsFinished, IsOwnOrFinished, IsWorld, IsViewOf, GoesOn}
-use Rattle.machine_types.specs.declared.lock.Held.{Held}
-use Rattle.machine_types.specs.declared.phase.Phase.{Phase}
-use Rattle.machine_types.specs.declared.phase.Phase.TheVariants as phases
-use Rattle.laws_threads.specs.EntryFrames.{frames_in, KeepsEntry}
-use Rattle.laws_threads.specs.StructureLaws.{counted_by}
-use Rattle.laws_states.proofs.Lists.{contained_got, contains_first, contains_more}
-use Rattle.laws_objects.proofs.CountedPhases.{PhaseFits}
-use Rattle.laws_objects.proofs.KeptFrames.{KeepsAt, phase_frames_kept, phase_kept, attempt_kept}
-use Rattle.laws_objects.proofs.Moves.{Steps}
-use Rattle.laws_objects.proofs.Onwards.{OnwardKeeps}
-use Rattle.laws_objects.proofs.Views.{IsOwnIn, IsNoneOf, own_or_not, known_on}
-use Rattle.laws_objects.proofs.WorldChanges.{none_some, goes_same, goes_both, world_same, KeepsLost, lost_same}
 use Rattle.laws_programs.proofs.LocalGoing.{at_index}
-use Rattle.laws_threads.proofs.ThreadMove.{goes_held, goes_attempt}
+use Rattle.checked_program.specs.MarkedProgram.{MarkedProgram}
+use Rattle.machine_types.specs.{Construction.{Runs, FramesKeep, PhaseKeepsFrames, PhaseKeeps, AttemptKeeps, AttemptKeepsIn, ThreadKeeps}, Elision.put_back, Going.{root_over, runs, goes_on}}
+use Rattle.machine_types.specs.{HeldMonitors.{held_at, with_held, without_held}, Onward.{Onward, Running, Throwing, Entering, Leaving, RootReturned, Uncaught}}
+use Rattle.machine_types.specs.{Structure.{IsStructured, AttemptStandsIn}, Threads.{Frame, Attempt, Thread}, Worlds.{Lost, Builder, World, IsFinished, IsOwnOrFinished, IsWorld, IsViewOf, GoesOn}}
+use Rattle.machine_types.specs.declared.{lock.Held.Held, phase.Phase.Phase}
+use Rattle.laws_threads.{specs.{EntryFrames.{frames_in, KeepsEntry}, StructureLaws.counted_by}, proofs.ThreadMove.{goes_held, goes_attempt}}
+use Rattle.laws_states.proofs.Lists.{contained_got, contains_first, contains_more}
+use Rattle.laws_objects.proofs.{CountedPhases.PhaseFits, KeptFrames.{KeepsAt, phase_frames_kept, phase_kept, attempt_kept}, Moves.Steps, Onwards.OnwardKeeps}
+use Rattle.laws_objects.proofs.{Views.{IsOwnIn, IsNoneOf, own_or_not, known_on}, WorldChanges.{none_some, goes_same, goes_both, world_same, KeepsLost, lost_same}}
+use Rattle.jvm_types.specs.declared.outcome.End.TheVariants as ends
+use Rattle.machine_types.specs.declared.phase.Phase.TheVariants as phases
 
 -- ---- what is kept of a thread, in a world that it leaves
 

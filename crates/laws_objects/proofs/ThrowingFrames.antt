@@ -1,42 +1,20 @@
 -- Exceptions: a frame that throws, the frame below it, and a handler.
-use Rattle.std.proofs.Common.{◌≡◌, ℕ, zero, suc, Bool, true, false, ◌||◌, ◌&&◌, not, List, [], ◌∷◌, length, Some, refl, sym, ◌∙◌, subst, arith}
-use Rattle.std.specs.Prelude.{◌==◌, slice_get, if◌then◌else◌}
-use Rattle.std.specs.List.{AllByRecursion, list_any}
-use Rattle.std.proofs.lemmas.Bool.{or_parts}
-use Rattle.std.proofs.lemmas.Bool.Decides.{nat_tests}
-use Rattle.lists.proofs.ListLaws.{same_some}
-use Rattle.lists.proofs.TestLaws.{first_true, second_true}
-use Rattle.jvm_types.specs.ClassTree.{is_subclass}
-use Rattle.jvm_types.specs.CodeTable.{can_throw, row}
-use Rattle.jvm_types.specs.Types.{is_new, is_uninitialised}
-use Rattle.jvm_types.specs.Verifying.{some_operand, misuses, frame_at_handler, caught_class, covers, covering, is_return}
+use Rattle.std.proofs.Common.{◌≡◌, ℕ, zero, suc, Bool, true, false, ◌||◌, ◌&&◌, not, List, [], ◌∷◌, length, Some, refl, sym, ◌∙◌, subst, arith, ◌==◌, slice_get, if◌then◌else◌}
+use Rattle.std.{specs.List.{AllByRecursion, list_any}, proofs.lemmas.Bool.{or_parts, Decides.nat_tests}}
+use Rattle.lists.proofs.{ListLaws.same_some, TestLaws.{first_true, second_true}}
+use Rattle.jvm_types.specs.{ClassTree.is_subclass, CodeTable.{can_throw, row}, Types.{is_new, is_uninitialised}}
+use Rattle.jvm_types.specs.{Verifying.{some_operand, misuses, frame_at_handler, caught_class, covers, covering, is_return}, declared.{op_row.OpRow.OpRow, program.Row.Row, typing.VType.VType}}
+use Rattle.laws_programs.proofs.{LocalEdges.second_false, LocalGoing.at_index, NewEdges.none_of}
+use Rattle.checked_program.specs.{LockTags.IsShapeBelow, MarkedProgram.{MarkedProgram, IsMarked}, TaggedCode.caught, Tagging.{until_all, catchers, tags_at_handler}, declared.tag.Tag.Tag}
+use Rattle.checked_program.{specs.declared.tag.Tag.TheVariants.{Untagged, This, At}, proofs.CheckedPlaces.catchers_among}
+use Rattle.machine_types.specs.Construction.{AreFrozen, builds, makes_frozen, SlotByType, OwnSlot, SlotIs, BuilderTurn, Runs, WaitsFor, Throws, IsFresh, SlotOf, FrameKeeps, KeepBelow, FramesKeep}
+use Rattle.machine_types.specs.{Frames.handler_of, Standing.{Standing, row_at}, Threads.Frame, Worlds.{World, IsFinished}}
+use Rattle.laws_threads.proofs.{Callers.handler_in, Landing.{rules_at, tag_rules_at}, TypedMoves.handler_found}
+use Rattle.laws_objects.proofs.{Landing.{inside_at, IsJoined, land}, Slots.{slots_map, slots_map_if, slot_later, ref_slot}}
 use Rattle.jvm_types.specs.Verifying as types
 use Rattle.jvm_types.specs.CodeTable as table
-use Rattle.jvm_types.specs.declared.op_row.OpRow.{OpRow}
-use Rattle.jvm_types.specs.declared.program.Row.{Row}
-use Rattle.jvm_types.specs.declared.typing.VType.{VType}
 use Rattle.jvm_types.specs.declared.typing.VType.TheVariants as vtypes
-use Rattle.checked_program.specs.LockTags.{IsShapeBelow}
-use Rattle.checked_program.specs.MarkedProgram.{MarkedProgram, IsMarked}
-use Rattle.checked_program.specs.TaggedCode.{caught}
-use Rattle.checked_program.specs.Tagging.{until_all, catchers, tags_at_handler}
 use Rattle.checked_program.specs.Visits as visits
-use Rattle.checked_program.specs.declared.tag.Tag.{Tag}
-use Rattle.checked_program.specs.declared.tag.Tag.TheVariants.{Untagged, This, At}
-use Rattle.checked_program.proofs.CheckedPlaces.{catchers_among}
-use Rattle.machine_types.specs.Construction.{AreFrozen, builds, makes_frozen, SlotByType, OwnSlot, SlotIs, BuilderTurn, Runs, WaitsFor, Throws, IsFresh, SlotOf, FrameKeeps, KeepBelow, FramesKeep}
-use Rattle.machine_types.specs.Frames.{handler_of}
-use Rattle.machine_types.specs.Standing.{Standing, row_at}
-use Rattle.machine_types.specs.Threads.{Frame}
-use Rattle.machine_types.specs.Worlds.{World, IsFinished}
-use Rattle.laws_threads.proofs.Callers.{handler_in}
-use Rattle.laws_threads.proofs.Landing.{rules_at, tag_rules_at}
-use Rattle.laws_threads.proofs.TypedMoves.{handler_found}
-use Rattle.laws_objects.proofs.Landing.{inside_at, IsJoined, land}
-use Rattle.laws_objects.proofs.Slots.{slots_map, slots_map_if, slot_later, ref_slot}
-use Rattle.laws_programs.proofs.LocalGoing.{at_index}
-use Rattle.laws_programs.proofs.LocalEdges.{second_false}
-use Rattle.laws_programs.proofs.NewEdges.{none_of}
 
 -- whatever the frame was about to do, its stack says nothing more, nor do its slots with what a `new` made
 pub loosened : (c : MarkedProgram) (frozen : ℕ → Bool) (w : World) (next t h : ℕ) (turn : BuilderTurn) (f : Frame) → FrameKeeps c frozen w next t h turn f → FrameKeeps c frozen w next t h Throws f

@@ -1,36 +1,18 @@
 -- Once the `<init>` of a frozen class has thrown, nobody has its object.
-use Rattle.std.proofs.Common.{◌≡◌, ℕ, inl, inr, Bool, true, false, List, [], ◌∷◌, ◌++◌, length, Option, Some, None, refl, sym, ap, ◌∙◌, subst, arith}
-use Rattle.std.specs.Prelude.{nat_lt, if◌then◌else◌, slice_get, slice_index}
+use Rattle.std.proofs.Common.{◌≡◌, ℕ, inl, inr, Bool, true, false, List, [], ◌∷◌, ◌++◌, length, Option, Some, None, refl, sym, ap, ◌∙◌, subst, arith, nat_lt, if◌then◌else◌, slice_get, slice_index}
 use Rattle.lists.proofs.ListLaws.{same_some}
-use Rattle.jvm_types.specs.declared.fixed_words.TheConstants.{NEXT_FREE_WORD}
-use Rattle.jvm_types.specs.declared.outcome.End.TheVariants as ends
-use Rattle.jvm_types.specs.declared.outcome.Thrown.{Thrown}
+use Rattle.jvm_types.specs.declared.{fixed_words.TheConstants.NEXT_FREE_WORD, outcome.Thrown.Thrown, program.MethodInfo.MethodInfo}
 use Rattle.checked_program.specs.MarkedProgram.{MarkedProgram, IsMarked}
-use Rattle.machine_types.specs.Accesses.{found_by}
-use Rattle.machine_types.specs.Construction.{Throws as Loose, FramesKeep, ThreadKeeps}
-use Rattle.machine_types.specs.Core.{Core, Happening, Of, event, event_of, all_happened, core}
-use Rattle.machine_types.specs.Events.{wanted, moved}
-use Rattle.machine_types.specs.Frames.{returned}
-use Rattle.machine_types.specs.Going.{root_over, goes_on}
-use Rattle.machine_types.specs.Onward.{back}
-use Rattle.machine_types.specs.PlainMemory.{Object}
-use Rattle.machine_types.specs.Threads.{Frame, Attempt, Thread}
-use Rattle.machine_types.specs.Worlds.{Begun, builder}
-use Rattle.machine_types.specs.declared.config.Config.{Config}
-use Rattle.machine_types.specs.declared.phase.Phase.{Phase}
-use Rattle.machine_types.specs.declared.phase.Phase.TheVariants as phases
-use Rattle.jvm_types.specs.declared.program.MethodInfo.{MethodInfo}
+use Rattle.machine_types.specs.{Accesses.found_by, Construction.{Throws as Loose, FramesKeep, ThreadKeeps}, Core.{Core, Happening, Of, event, event_of, all_happened, core}, Events.{wanted, moved}}
+use Rattle.machine_types.specs.{Frames.returned, Going.{root_over, goes_on}, Onward.back, PlainMemory.Object, Settings.AreSettings, Threads.{Frame, Attempt, Thread}, Worlds.{Begun, builder}}
+use Rattle.machine_types.{specs.declared.{config.Config.Config, phase.Phase.Phase}, proofs.Lists.got_when_set}
 use Rattle.laws_threads.specs.StateLaws.{counted_after}
-use Rattle.machine_types.specs.Settings.{AreSettings}
-use Rattle.laws_states.specs.RunFacts.{HaveWidth}
-use Rattle.laws_states.specs.HeapFacts.{objects_after}
-use Rattle.laws_states.specs.ChangeLaws.{run_objects}
+use Rattle.laws_states.specs.{ChangeLaws.run_objects, HeapFacts.objects_after, RunFacts.HaveWidth}
 use Rattle.laws_objects.specs.UnfinishedObjects.{IsInitOn, ThrowsOut, NobodyHas, ThrownInitsLeaveNoUse}
 use Rattle.laws_objects.proofs.BuiltRuns.{TellsClass, tells_class, AreBuiltLaws, BuiltThere, LostThere, BuiltIn, reached, all_lost, lost_behind, core_more, objects_more}
-use Rattle.laws_objects.proofs.FrameChanges.{frame_at, counted_below, top_here, Stay, TriesGo, IsUnwound, FramesGo, frames_go}
-use Rattle.laws_objects.proofs.LosingInits.{init_begun}
-use Rattle.laws_objects.proofs.WorldChanges.{none_some}
-use Rattle.machine_types.proofs.Lists.{got_when_set}
+use Rattle.laws_objects.proofs.{FrameChanges.{frame_at, counted_below, top_here, Stay, TriesGo, IsUnwound, FramesGo, frames_go}, LosingInits.init_begun, WorldChanges.none_some}
+use Rattle.jvm_types.specs.declared.outcome.End.TheVariants as ends
+use Rattle.machine_types.specs.declared.phase.Phase.TheVariants as phases
 
 -- ---- the thread behind its event
 

@@ -1,24 +1,14 @@
 -- As long as the `<init>` of a frozen class has not returned, no place and no other thread has its object.
-use Rattle.std.proofs.Common.{◌≡◌, ℕ, suc, ◌-◌, ◌<◌, ◌⊎◌, inl, inr, Bool, true, false, List, [], ◌∷◌, length, drop, Option, Some, None, refl, sym, ap, ◌∙◌, subst, arith}
-use Rattle.std.specs.Prelude.{slice_get}
+use Rattle.std.proofs.Common.{◌≡◌, ℕ, suc, ◌-◌, ◌<◌, ◌⊎◌, inl, inr, Bool, true, false, List, [], ◌∷◌, length, drop, Option, Some, None, refl, sym, ap, ◌∙◌, subst, arith, slice_get}
 use Rattle.std.proofs.lemmas.List.{length-drop}
-use Rattle.checked_program.specs.MarkedProgram.{MarkedProgram}
-use Rattle.machine_types.specs.Construction.{BuilderTurn, Runs, WaitsFor, KeepBelow, FramesKeep, PhaseKeepsFrames, made_world, turn_by, AttemptKeeps, AttemptKeepsIn, ThreadKeeps}
-use Rattle.machine_types.specs.Core.{next}
-use Rattle.machine_types.specs.Elision.{put_back}
-use Rattle.machine_types.specs.Going.{goes_on}
-use Rattle.machine_types.specs.Onward.{back, unwound}
-use Rattle.machine_types.specs.Structure.{operands_in, IsStructured}
-use Rattle.machine_types.specs.Threads.{Frame, Attempt, Thread}
-use Rattle.machine_types.specs.Worlds.{Made, Begun, Lost, Builder, builder, World}
-use Rattle.machine_types.specs.declared.phase.Phase.{Phase}
 use Rattle.jvm_types.specs.declared.outcome.Thrown.{Thrown}
-use Rattle.machine_types.specs.declared.phase.Phase.TheVariants as phases
-use Rattle.laws_objects.specs.UnfinishedObjects.{IsInitOn}
-use Rattle.laws_objects.proofs.FrameChanges.{frame_at, counted_below, top_or, in_place, Stay, TriesGo}
-use Rattle.laws_objects.proofs.LosingInits.{init_begun}
-use Rattle.laws_objects.proofs.ThreadMoves.{BasedIn, based_in}
+use Rattle.checked_program.specs.MarkedProgram.{MarkedProgram}
+use Rattle.machine_types.specs.{Construction.{BuilderTurn, Runs, WaitsFor, KeepBelow, FramesKeep, PhaseKeepsFrames, made_world, turn_by, AttemptKeeps, AttemptKeepsIn, ThreadKeeps}, Core.next}
+use Rattle.machine_types.specs.{Elision.put_back, Going.goes_on, Onward.{back, unwound}, Structure.{operands_in, IsStructured}, Threads.{Frame, Attempt, Thread}}
+use Rattle.machine_types.specs.{Worlds.{Made, Begun, Lost, Builder, builder, World}, declared.phase.Phase.Phase}
+use Rattle.laws_objects.{specs.UnfinishedObjects.IsInitOn, proofs.{FrameChanges.{frame_at, counted_below, top_or, in_place, Stay, TriesGo}, LosingInits.init_begun, ThreadMoves.{BasedIn, based_in}}}
 use Rattle.laws_objects.proofs.WorldChanges.{GivenBack, given_back, finished_back}
+use Rattle.machine_types.specs.declared.phase.Phase.TheVariants as phases
 
 -- ---- some frame at a height is an `<init>` of a class that the test tells, on the object v
 

@@ -1,27 +1,15 @@
 -- What is lost, or built by another thread, is in no slot of a thread that an instruction may use, and in no place.
-use Rattle.std.proofs.Common.{◌≡◌, ◌≢◌, ℕ, Bool, true, false, List, [], ◌∷◌, length, Some, None, refl, sym, ap, ◌∙◌, subst, arith}
-use Rattle.std.specs.List.{AllZip}
-use Rattle.jvm_types.specs.ProgramInvariant.{words_of}
-use Rattle.jvm_types.specs.Types.{TypeFrame}
-use Rattle.jvm_types.specs.declared.program.Kind.{Kind}
-use Rattle.jvm_types.specs.declared.program.Kind.TheVariants as kinds
-use Rattle.jvm_types.specs.declared.typing.VType.{VType}
-use Rattle.jvm_types.specs.declared.typing.VType.TheVariants as types
-use Rattle.checked_program.specs.MarkedProgram.{MarkedProgram, IsMarked}
-use Rattle.checked_program.specs.declared.tag.Tag.{Tag}
-use Rattle.checked_program.specs.declared.tag.Tag.TheVariants.{Untagged, This, At}
+use Rattle.std.{proofs.Common.{◌≡◌, ◌≢◌, ℕ, Bool, true, false, List, [], ◌∷◌, length, Some, None, refl, sym, ap, ◌∙◌, subst, arith}, specs.List.AllZip}
+use Rattle.jvm_types.specs.{ProgramInvariant.words_of, Types.TypeFrame, declared.{program.Kind.Kind, typing.VType.VType}}
+use Rattle.checked_program.specs.{MarkedProgram.{MarkedProgram, IsMarked}, declared.tag.Tag.{Tag, TheVariants.{Untagged, This, At}}}
 use Rattle.machine_types.specs.Construction.{if_so, builds, makes_frozen, SlotByType, OwnSlot, SlotIs, SlotsAre, Runs, IsFresh, ReceiverIs, FrameKeeps, FramesKeep, PhaseKeepsFrames, ThreadKeeps, KindKeeps, PlacesKeep}
-use Rattle.machine_types.specs.PlainMemory.{Object}
-use Rattle.machine_types.specs.Standing.{Standing}
-use Rattle.machine_types.specs.Structure.{IsAs}
-use Rattle.machine_types.specs.Threads.{Frame, Thread}
-use Rattle.machine_types.specs.Worlds.{Item, Lost, Made, Begun, Builder, builder, World, IsFinished, IsWorld}
+use Rattle.machine_types.specs.{PlainMemory.Object, Standing.Standing, Structure.IsAs, Threads.{Frame, Thread}, Worlds.{Item, Lost, Made, Begun, Builder, builder, World, IsFinished, IsWorld}}
 use Rattle.machine_types.specs.declared.phase.Phase.{Phase}
-use Rattle.machine_types.specs.declared.phase.Phase.TheVariants as phases
 use Rattle.laws_threads.proofs.FramePlaces.{one_standing_law}
-use Rattle.laws_objects.specs.UnfinishedObjects.{IsOther, UsesNot, KindHasNot, PlacesHaveNot}
-use Rattle.laws_objects.proofs.Onwards.{first_finished}
-use Rattle.laws_objects.proofs.WorldChanges.{none_some}
+use Rattle.laws_objects.{specs.UnfinishedObjects.{IsOther, UsesNot, KindHasNot, PlacesHaveNot}, proofs.{Onwards.first_finished, WorldChanges.none_some}}
+use Rattle.jvm_types.specs.declared.program.Kind.TheVariants as kinds
+use Rattle.jvm_types.specs.declared.typing.VType.TheVariants as types
+use Rattle.machine_types.specs.declared.phase.Phase.TheVariants as phases
 
 -- the thread doesn't build it, as it sees the world, and it is not finished
 pub record IsStrange (now : World) (t v : ℕ) : Type 0 where

@@ -1,15 +1,11 @@
 -- What a thread sees of the world, as another thread's event or one of its own changes it.
-use Rattle.std.proofs.Common.{◌≡◌, ◌≢◌, ℕ, ◌≤◌, ◌<◌, ◌⊎◌, inl, inr, Bool, true, false, Option, Some, None, refl, sym, ap, ◌∙◌, arith}
-use Rattle.std.specs.Prelude.{◌==◌, if◌then◌else◌}
+use Rattle.std.proofs.Common.{◌≡◌, ◌≢◌, ℕ, ◌≤◌, ◌<◌, ◌⊎◌, inl, inr, Bool, true, false, Option, Some, None, refl, sym, ap, ◌∙◌, arith, ◌==◌, if◌then◌else◌}
 use Rattle.std.proofs.lemmas.Bool.{eq-eqb, eqb-true, ne_eqb, eqb-false}
 use Rattle.jvm_types.specs.ProgramInvariant.{words_of}
 use Rattle.checked_program.specs.MarkedProgram.{MarkedProgram}
-use Rattle.machine_types.specs.Construction.{ThreadKeeps}
-use Rattle.machine_types.specs.Threads.{Attempt, Thread}
-use Rattle.machine_types.specs.Worlds.{Lost, Builder, builder, World, IsFinished, IsOwnOrFinished, IsWorld, IsViewOf, GoesOn}
+use Rattle.machine_types.specs.{Construction.ThreadKeeps, Threads.{Attempt, Thread}, Worlds.{Lost, Builder, builder, World, IsFinished, IsOwnOrFinished, IsWorld, IsViewOf, GoesOn}}
 use Rattle.machine_types.specs.declared.phase.Phase.{Phase}
-use Rattle.laws_objects.proofs.KeptFrames.{KeepsAt, phase_frames_kept, phase_kept, attempt_kept}
-use Rattle.laws_objects.proofs.WorldChanges.{none_some}
+use Rattle.laws_objects.proofs.{KeptFrames.{KeepsAt, phase_frames_kept, phase_kept, attempt_kept}, WorldChanges.none_some}
 
 -- ---- whether a thread builds an object
 

@@ -1,18 +1,11 @@
 -- An instruction that writes an instance field is a `putfield`, on the object below the value on its stack, and one that writes a
 -- static field is a `putstatic`.
-use Rattle.std.proofs.Common.{◌≡◌, ◌⊎◌, inl, inr, ℕ, Bool, true, false, List, [], ◌∷◌, Option, Some, None, refl, sym, ap, ◌∙◌}
-use Rattle.std.specs.Prelude.{slice_get, slice_index, ◌==◌, if◌then◌else◌}
-use Rattle.jvm_types.specs.Members.{MethodSite}
-use Rattle.jvm_types.specs.ProgramInvariant.{IsTargetOf}
-use Rattle.jvm_types.specs.declared.code.Op.{Op}
+use Rattle.std.proofs.Common.{◌≡◌, ◌⊎◌, inl, inr, ℕ, Bool, true, false, List, [], ◌∷◌, Option, Some, None, refl, sym, ap, ◌∙◌, slice_get, slice_index, ◌==◌, if◌then◌else◌}
+use Rattle.jvm_types.specs.{Members.MethodSite, ProgramInvariant.IsTargetOf, declared.{code.Op.Op, program.{FieldInfo.FieldInfo, Program.Program}}}
+use Rattle.machine_types.specs.{Effects.{variable_of, kept, gets_static, puts_static, gets, puts, effect}, declared.effect.{Effect.TheVariants.{Reads, Throws, Writes}, Variable.Variable}}
 use Rattle.jvm_types.specs.declared.code.Op.TheVariants as ops
 use Rattle.jvm_types.specs.declared.outcome.Thrown.TheVariants as thrown
-use Rattle.jvm_types.specs.declared.program.FieldInfo.{FieldInfo}
-use Rattle.jvm_types.specs.declared.program.Program.{Program}
 use Rattle.jvm_types.specs.declared.program.Target.TheVariants as targets
-use Rattle.machine_types.specs.Effects.{variable_of, kept, gets_static, puts_static, gets, puts, effect}
-use Rattle.machine_types.specs.declared.effect.Effect.TheVariants.{Reads, Throws, Writes}
-use Rattle.machine_types.specs.declared.effect.Variable.{Variable}
 
 -- it writes the variable on the object that stands below the value
 pub record Puts (op : Op) (f : FieldInfo) (stack : List ℕ) (v : Variable) : Type 0 where

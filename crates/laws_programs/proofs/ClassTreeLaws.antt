@@ -1,13 +1,8 @@
 -- The tree of classes, class by class.
-use Rattle.std.proofs.Common.{◌≡◌, ℕ, ◌≤◌, Bool, true, false, ◌&&◌, ◌||◌, refl, sym, subst, arith}
-use Rattle.std.specs.Prelude.{◌==◌, nat_le, nat_lt}
-use Rattle.std.proofs.lemmas.Bool.Decides.{nat_tests}
-use Rattle.jvm_types.specs.Numbers.{has_number}
-use Rattle.jvm_types.specs.ClassTree.{super_class, ancestors, is_subclass, built_in_supers}
-use Rattle.jvm_types.proofs.ClassCases.{behind, by_class}
-use Rattle.jvm_types.proofs.TypeOrder.{pick}
+use Rattle.std.proofs.{Common.{◌≡◌, ℕ, ◌≤◌, Bool, true, false, ◌&&◌, ◌||◌, refl, sym, subst, arith, ◌==◌, nat_le, nat_lt}, lemmas.Bool.Decides.nat_tests}
+use Rattle.jvm_types.specs.{ClassTree.{super_class, ancestors, is_subclass, built_in_supers}, Numbers.has_number, declared.class_numbers.TheConstants.THROWABLE_CLASS}
+use Rattle.jvm_types.proofs.{ClassCases.{behind, by_class}, TypeOrder.pick}
 use Rattle.laws_programs.specs.ClassLaws.{LeavesStandAlone, FileClassesStandAlone, ThrowablesAreBelow}
-use Rattle.jvm_types.specs.declared.class_numbers.TheConstants.{THROWABLE_CLASS}
 
 -- ---- classes that are just above none
 

@@ -1,25 +1,12 @@
 -- Instructions follow one another, so that their pcs ascend.
-use Rattle.std.proofs.Common.{◌≡◌, ℕ, zero, suc, ◌+◌, ◌<◌, ◌≤◌, ◌⊎◌, inl, inr, ⊎_elim, Bool, true, false, cond, ◌||◌, List, [], ◌∷◌, length, take, Some, refl, sym, ap, ◌∙◌, subst, arith, length-append}
-use Rattle.std.specs.Prelude.{◌==◌, slice_get}
-use Rattle.std.specs.List.{AllByRecursion, AllZip}
-use Rattle.std.proofs.lemmas.Bool.{cases_order, eq-eqb, ne_eqb}
-use Rattle.std.proofs.lemmas.Bool.Decides.{nat_tests}
-use Rattle.std.proofs.lemmas.Slice.Zip.{AllZip-long}
-use Rattle.jvm_types.specs.CodeTable.{branches_to}
-use Rattle.jvm_types.specs.CodeGrammar.{SpellsInsns, SpellsOp, is_start, IsStart, RowFits}
-use Rattle.jvm_types.specs.Verifying.{IsLaidOut, new_class}
-use Rattle.jvm_types.specs.ProgramInvariant.{IsMethodOf, IsRowOf, IsTargetOf, site_in}
-use Rattle.jvm_types.specs.declared.class_file.Handler.{Handler}
-use Rattle.jvm_types.specs.declared.code.Insn.{Insn}
-use Rattle.jvm_types.specs.declared.code.Op.{Op}
-use Rattle.jvm_types.specs.declared.program.MethodInfo.{MethodInfo}
-use Rattle.jvm_types.specs.declared.program.Program.{Program}
-use Rattle.jvm_types.specs.declared.program.Row.{Row}
-use Rattle.jvm_types.specs.declared.program.Target.{Target}
-use Rattle.jvm_types.specs.declared.program.Target.TheVariants as targets
+use Rattle.std.proofs.Common.{◌≡◌, ℕ, zero, suc, ◌+◌, ◌<◌, ◌≤◌, ◌⊎◌, inl, inr, ⊎_elim, Bool, true, false, cond, ◌||◌, List, [], ◌∷◌, length, take, Some, refl, sym, ap, ◌∙◌, subst, arith, length-append, ◌==◌, slice_get}
+use Rattle.std.{specs.List.{AllByRecursion, AllZip}, proofs.lemmas.{Bool.{cases_order, eq-eqb, ne_eqb, Decides.nat_tests}, Slice.Zip.AllZip-long}}
+use Rattle.jvm_types.specs.{CodeGrammar.{SpellsInsns, SpellsOp, is_start, IsStart, RowFits}, CodeTable.branches_to, ProgramInvariant.{IsMethodOf, IsRowOf, IsTargetOf, site_in}}
+use Rattle.jvm_types.specs.{Verifying.{IsLaidOut, new_class}, declared.{class_file.Handler.Handler, code.{Insn.Insn, Op.Op}, program.{MethodInfo.MethodInfo, Program.Program, Row.Row, Target.Target}}}
 use Rattle.jvm_types.proofs.EachAfter.{all_weaker}
 use Rattle.laws_programs.specs.CodeLaws.{MethodsAreLaidOut, PcsAscend, OneInsn, PcsAreShort, CodeStarts, NextFollows, Begins, StartsBegin, BranchesBegin, HandlersBegin, InsnsHaveTargets, ClassOfNew}
 use Rattle.laws_programs.proofs.LocalGoing.{at_index}
+use Rattle.jvm_types.specs.declared.program.Target.TheVariants as targets
 
 -- ---- a method of a program is laid out
 

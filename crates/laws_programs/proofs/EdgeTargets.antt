@@ -1,14 +1,8 @@
 -- An edge that fits leads to an instruction with a frame, and the frame at its pc is that of its number.
-use Rattle.std.proofs.Common.{◌≡◌, ℕ, zero, suc, Bool, true, false, cond, List, [], ◌∷◌, Option, Some, None, refl, sym, ap, ◌∙◌, subst, arith}
-use Rattle.std.specs.Prelude.{◌==◌, slice_get, IsSomeAnd, IsTrue}
-use Rattle.std.proofs.lemmas.Bool.{or_parts}
-use Rattle.std.proofs.lemmas.Bool.Decides.{nat_tests}
-use Rattle.jvm_types.specs.CodeGrammar.{is_start}
-use Rattle.jvm_types.specs.Types.{TypeFrame, frame_below}
-use Rattle.jvm_types.specs.Verifying.{frame_at, FrameFits}
-use Rattle.jvm_types.specs.declared.code.Insn.{Insn}
-use Rattle.laws_programs.proofs.LeastFrames.{AreDistinct, distinct}
-use Rattle.laws_programs.specs.EdgeLaws.{EdgesLand, FramesAreNumbered, FramesAreFound}
+use Rattle.std.proofs.Common.{◌≡◌, ℕ, zero, suc, Bool, true, false, cond, List, [], ◌∷◌, Option, Some, None, refl, sym, ap, ◌∙◌, subst, arith, ◌==◌, slice_get, IsSomeAnd, IsTrue}
+use Rattle.std.proofs.lemmas.Bool.{or_parts, Decides.nat_tests}
+use Rattle.jvm_types.specs.{CodeGrammar.is_start, Types.{TypeFrame, frame_below}, Verifying.{frame_at, FrameFits}, declared.code.Insn.Insn}
+use Rattle.laws_programs.{specs.EdgeLaws.{EdgesLand, FramesAreNumbered, FramesAreFound}, proofs.LeastFrames.{AreDistinct, distinct}}
 
 -- ---- an edge
 

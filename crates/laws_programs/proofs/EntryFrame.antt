@@ -1,15 +1,8 @@
 -- The locals of the frame that a method begins with, place by place.
-use Rattle.std.proofs.Common.{◌≡◌, ℕ, zero, suc, ◌+◌, ◌-◌, ◌<◌, ◌≤◌, Bool, true, false, cond, List, [], ◌∷◌, ◌++◌, length, map, replicate, Some, refl, ap, ◌∙◌, arith, length-append}
-use Rattle.std.specs.Prelude.{slice_get}
+use Rattle.std.proofs.Common.{◌≡◌, ℕ, zero, suc, ◌+◌, ◌-◌, ◌<◌, ◌≤◌, Bool, true, false, cond, List, [], ◌∷◌, ◌++◌, length, map, replicate, Some, refl, ap, ◌∙◌, arith, length-append, slice_get}
 use Rattle.std.proofs.lemmas.List.{length-map}
-use Rattle.jvm_types.specs.CodeTable.{type_of}
-use Rattle.jvm_types.specs.Members.{is_static}
-use Rattle.jvm_types.specs.Types.{receiver_types}
-use Rattle.jvm_types.specs.declared.program.MethodInfo.{MethodInfo}
-use Rattle.jvm_types.specs.declared.typing.VType.{VType}
-use Rattle.jvm_types.specs.declared.typing.VType.TheVariants.{Top}
-use Rattle.laws_programs.proofs.FrameLast.{entry_locals}
-use Rattle.laws_programs.specs.EntryLaws.{receiver_count, ArgumentsFit, EntryFramesFit, EntryHasReceiver, EntryHasArguments, EntryHasNoMore}
+use Rattle.jvm_types.specs.{CodeTable.type_of, Members.is_static, Types.receiver_types, declared.{program.MethodInfo.MethodInfo, typing.VType.{VType, TheVariants.Top}}}
+use Rattle.laws_programs.{specs.EntryLaws.{receiver_count, ArgumentsFit, EntryFramesFit, EntryHasReceiver, EntryHasArguments, EntryHasNoMore}, proofs.FrameLast.entry_locals}
 
 -- ---- lists
 

@@ -1,15 +1,8 @@
 -- The places of fields: each field is behind those before it.
-use Rattle.std.proofs.Common.{◌≡◌, ℕ, zero, suc, ◌+◌, ◌-◌, ◌*◌, ◌<◌, ◌≤◌, ◌⊎◌, ⊎_elim, Bool, true, false, cond, not, ◌&&◌, List, [], ◌∷◌, take, Some, refl, sym, ap, ◌∙◌, subst, arith}
-use Rattle.std.specs.Prelude.{◌==◌, slice_get}
-use Rattle.std.specs.List.{AllByRecursion, sum_by}
-use Rattle.std.proofs.lemmas.Bool.{cases_order}
-use Rattle.std.proofs.lemmas.Bool.Decides.{nat_tests}
-use Rattle.jvm_types.specs.ClassNames.{file_class}
-use Rattle.jvm_types.specs.Members.{is_static}
-use Rattle.jvm_types.specs.declared.fixed_words.TheConstants.{FIRST_CLASS_WORD}
-use Rattle.jvm_types.specs.ProgramInvariant.{IsFieldOf, statics_among, instances_among, index_after}
-use Rattle.jvm_types.specs.declared.program.FieldInfo.{FieldInfo}
-use Rattle.jvm_types.proofs.EachAfter.{sum_first}
+use Rattle.std.proofs.Common.{◌≡◌, ℕ, zero, suc, ◌+◌, ◌-◌, ◌*◌, ◌<◌, ◌≤◌, ◌⊎◌, ⊎_elim, Bool, true, false, cond, not, ◌&&◌, List, [], ◌∷◌, take, Some, refl, sym, ap, ◌∙◌, subst, arith, ◌==◌, slice_get}
+use Rattle.std.{specs.List.{AllByRecursion, sum_by}, proofs.lemmas.Bool.{cases_order, Decides.nat_tests}}
+use Rattle.jvm_types.specs.{ClassNames.file_class, Members.is_static, ProgramInvariant.{IsFieldOf, statics_among, instances_among, index_after}, declared.fixed_words.TheConstants.FIRST_CLASS_WORD}
+use Rattle.jvm_types.{specs.declared.program.FieldInfo.FieldInfo, proofs.EachAfter.sum_first}
 use Rattle.laws_programs.specs.FieldLaws.{StaticsLieInside, InstancesLieInside, StaticsAreApart, InstancesAreApart, OneStatic, OneInstance}
 
 -- ---- sums

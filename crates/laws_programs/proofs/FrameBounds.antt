@@ -1,24 +1,11 @@
 -- What every frame has in the course of the visits: as many locals as the entry frame, a stack within max_stack,
 -- and outside an `<init>` its `this` initialised.
-use Rattle.std.proofs.Common.{◌≡◌, ℕ, suc, ◌+◌, ◌-◌, ◌≤◌, Bool, true, false, cond, not, ◌&&◌, ◌||◌, List, [], ◌∷◌, length, Option, Some, None, refl, ap, ◌∙◌, arith, length-append, length-drop, length-set}
-use Rattle.std.specs.Prelude.{◌==◌}
-use Rattle.std.proofs.lemmas.List.{length-map}
-use Rattle.std.proofs.lemmas.Bool.{ltb-false, and_from, or_left}
-use Rattle.std.proofs.lemmas.Bool.Decides.{nat_tests}
-use Rattle.jvm_types.specs.ClassTree.{is_subclass}
-use Rattle.jvm_types.specs.CodeTable.{stack_after, locals_after, is_init}
-use Rattle.jvm_types.specs.declared.op_row.Given.{Given}
-use Rattle.jvm_types.specs.declared.op_row.OpRow.{OpRow}
-use Rattle.jvm_types.specs.Types.{TypeFrame, meets, meet_frames, entry_type_frame, same_type}
+use Rattle.std.proofs.Common.{◌≡◌, ℕ, suc, ◌+◌, ◌-◌, ◌≤◌, Bool, true, false, cond, not, ◌&&◌, ◌||◌, List, [], ◌∷◌, length, Option, Some, None, refl, ap, ◌∙◌, arith, length-append, length-drop, length-set, ◌==◌}
+use Rattle.std.proofs.lemmas.{Bool.{ltb-false, and_from, or_left, Decides.nat_tests}, List.length-map}
+use Rattle.jvm_types.specs.{ClassTree.is_subclass, CodeTable.{stack_after, locals_after, is_init}, Types.{TypeFrame, meets, meet_frames, entry_type_frame, same_type}}
 use Rattle.jvm_types.specs.Verifying.{first_broken, takes_too_many, gives_too_many, lacks_locals, misuses_object, mistypes, broken_before, started, after_start, frame_after, catch_fault, caught_class, frame_at_handler}
-use Rattle.jvm_types.specs.declared.code.Insn.{Insn}
-use Rattle.jvm_types.specs.declared.typing.VType.{VType}
-use Rattle.jvm_types.specs.declared.typing.VType.TheVariants.{This, Top}
-use Rattle.jvm_types.specs.declared.program.MethodInfo.{MethodInfo}
-use Rattle.jvm_types.specs.declared.program.Row.{Row}
-use Rattle.jvm_types.specs.declared.refusal.VRule.{VRule}
-use Rattle.jvm_types.specs.declared.refusal.VRule.TheVariants.{V1, V2, V3, V4, V7}
-use Rattle.jvm_types.specs.declared.class_numbers.TheConstants.{THROWABLE_CLASS}
+use Rattle.jvm_types.specs.declared.{class_numbers.TheConstants.THROWABLE_CLASS, code.Insn.Insn, op_row.{Given.Given, OpRow.OpRow}, program.{MethodInfo.MethodInfo, Row.Row}, refusal.VRule.VRule}
+use Rattle.jvm_types.specs.declared.{refusal.VRule.TheVariants.{V1, V2, V3, V4, V7}, typing.VType.{VType, TheVariants.{This, Top}}}
 use Rattle.laws_programs.proofs.VisitsEndRanks.{meets_short}
 
 pub record IsBounded (m : MethodInfo) (f : TypeFrame) : Type 0 where

@@ -1,23 +1,10 @@
 -- The bounds of the frames of a typing: as many locals as max_locals, since the visit of pc 0 passed V3.
-use Rattle.std.proofs.Common.{◌≡◌, ℕ, suc, ◌-◌, ◌≤◌, Bool, true, false, cond, ◌||◌, ltb, List, [], ◌∷◌, length, replicate, Option, Some, None, refl, sym, ap, ◌∙◌, subst, length-append, arith}
-use Rattle.std.specs.Prelude.{◌==◌, slice_get}
-use Rattle.std.specs.List.{AllByRecursion}
-use Rattle.std.proofs.lemmas.List.{length-replicate}
-use Rattle.std.proofs.lemmas.Bool.{or_parts, ltb-false}
-use Rattle.std.proofs.lemmas.Bool.Decides.{nat_tests}
-use Rattle.jvm_types.specs.CodeTable.{row}
-use Rattle.jvm_types.specs.declared.op_row.OpRow.{OpRow}
-use Rattle.jvm_types.specs.Types.{TypeFrame, filled, entry_type_frame}
-use Rattle.jvm_types.specs.Verifying.{names_no_local, lacks_locals, first_nodes, frame_at, FrameFits, IsFrameBelow, HasTyping, IsAssignment, IsLaidOut, FrameLaw}
-use Rattle.jvm_types.specs.declared.code.Insn.{Insn}
-use Rattle.jvm_types.specs.declared.typing.VType.{VType}
-use Rattle.jvm_types.specs.declared.typing.VType.TheVariants.{Top}
-use Rattle.jvm_types.specs.declared.program.MethodInfo.{MethodInfo}
-use Rattle.jvm_types.specs.declared.program.Program.{Program}
-use Rattle.jvm_types.specs.declared.program.Target.{Target}
-use Rattle.laws_programs.proofs.FrameBounds.{IsBounded, within_locals}
-use Rattle.laws_programs.proofs.LocalBrought.{IsFrameBounded}
-use Rattle.laws_programs.proofs.LocalGoing.{at_index, begins, first_going, all_go, local_law}
+use Rattle.std.proofs.Common.{◌≡◌, ℕ, suc, ◌-◌, ◌≤◌, Bool, true, false, cond, ◌||◌, ltb, List, [], ◌∷◌, length, replicate, Option, Some, None, refl, sym, ap, ◌∙◌, subst, length-append, arith, ◌==◌, slice_get}
+use Rattle.std.{specs.List.AllByRecursion, proofs.lemmas.{Bool.{or_parts, ltb-false, Decides.nat_tests}, List.length-replicate}}
+use Rattle.jvm_types.specs.{CodeTable.row, Types.{TypeFrame, filled, entry_type_frame}}
+use Rattle.jvm_types.specs.{Verifying.{names_no_local, lacks_locals, first_nodes, frame_at, FrameFits, IsFrameBelow, HasTyping, IsAssignment, IsLaidOut, FrameLaw}, declared.code.Insn.Insn}
+use Rattle.jvm_types.specs.declared.{op_row.OpRow.OpRow, program.{MethodInfo.MethodInfo, Program.Program, Target.Target}, typing.VType.{VType, TheVariants.Top}}
+use Rattle.laws_programs.proofs.{FrameBounds.{IsBounded, within_locals}, LocalBrought.IsFrameBounded, LocalGoing.{at_index, begins, first_going, all_go, local_law}}
 
 filled_length : (n : ℕ) (ts : List VType) → n ≤ length (filled n ts)
 filled_length n ts = omega (arith, length-append ts (replicate (n - length ts) Top), length-replicate (n - length ts) Top)

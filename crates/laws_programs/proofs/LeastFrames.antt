@@ -1,14 +1,8 @@
 -- What edges bring to nodes whose frames are at or below those of an assignment.
-use Rattle.std.proofs.Common.{◌≡◌, ℕ, zero, suc, ◌<◌, Bool, true, false, not, ◌&&◌, ◌||◌, List, [], ◌∷◌, length, map, Option, Some, None, refl, ap, sym, subst, ◌∙◌, arith, eqb-true, eq-eqb, ne_eqb}
-use Rattle.std.specs.Prelude.{◌==◌, if◌then◌else◌, IsSomeAnd, IsTrue, slice_get, slice_set}
-use Rattle.std.specs.List.{AllByRecursion, AllZip}
-use Rattle.std.proofs.lemmas.Bool.{or_from, or_left, or_right}
-use Rattle.jvm_types.specs.Numbers.{has_number}
-use Rattle.jvm_types.specs.CodeGrammar.{SpellsInsns, SpellsOp, is_start}
-use Rattle.jvm_types.specs.Types.{TypeFrame, frame_below}
-use Rattle.jvm_types.specs.Verifying.{Node, node_at, node_met, brought, all_brought, has_other_depth, clash, frame_at, FrameFits, IsFrameBelow}
-use Rattle.jvm_types.specs.declared.code.Insn.{Insn}
-use Rattle.jvm_types.specs.declared.code.Op.{Op}
+use Rattle.std.proofs.Common.{◌≡◌, ℕ, zero, suc, ◌<◌, Bool, true, false, not, ◌&&◌, ◌||◌, List, [], ◌∷◌, length, map, Option, Some, None, refl, ap, sym, subst, ◌∙◌, arith, eqb-true, eq-eqb, ne_eqb, ◌==◌, if◌then◌else◌, IsSomeAnd, IsTrue, slice_get, slice_set}
+use Rattle.std.{specs.List.{AllByRecursion, AllZip}, proofs.lemmas.Bool.{or_from, or_left, or_right}}
+use Rattle.jvm_types.specs.{CodeGrammar.{SpellsInsns, SpellsOp, is_start}, Numbers.has_number, Types.{TypeFrame, frame_below}}
+use Rattle.jvm_types.specs.{Verifying.{Node, node_at, node_met, brought, all_brought, has_other_depth, clash, frame_at, FrameFits, IsFrameBelow}, declared.code.{Insn.Insn, Op.Op}}
 use Rattle.jvm_types.proofs.FrameOrder.{pairs_length, stack_below, types_trans, types_meet_least}
 
 -- ---- frames that may be missing

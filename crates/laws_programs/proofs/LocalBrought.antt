@@ -1,16 +1,9 @@
 -- What the nodes are after a frame was brought along edges.
-use Rattle.std.proofs.Common.{◌≡◌, ℕ, Bool, true, false, cond, not, ◌||◌, List, [], ◌∷◌, length, Option, Some, None, refl, sym, ap, ◌∙◌, subst, arith}
-use Rattle.std.specs.Prelude.{◌==◌}
-use Rattle.std.specs.List.{AllByRecursion}
+use Rattle.std.{proofs.Common.{◌≡◌, ℕ, Bool, true, false, cond, not, ◌||◌, List, [], ◌∷◌, length, Option, Some, None, refl, sym, ap, ◌∙◌, subst, arith, ◌==◌}, specs.List.AllByRecursion}
 use Rattle.std.proofs.lemmas.Bool.{or_parts}
-use Rattle.jvm_types.specs.CodeGrammar.{is_start}
-use Rattle.jvm_types.specs.Types.{TypeFrame, meet_frames, same_frame}
-use Rattle.jvm_types.specs.Verifying.{Node, node_met, brought, frame_at, FrameFits, IsFrameBelow}
-use Rattle.jvm_types.specs.declared.code.Insn.{Insn}
-use Rattle.jvm_types.specs.declared.program.MethodInfo.{MethodInfo}
-use Rattle.jvm_types.proofs.FrameOrder.{types_self, types_meet_left, types_meet_right}
-use Rattle.laws_programs.proofs.FrameBounds.{IsBounded, meets_length, meet_bounded}
-use Rattle.laws_programs.proofs.LocalRisen.{IsRisen, AreRisen, all_risen_self, frames_of, same_frames}
+use Rattle.jvm_types.specs.{CodeGrammar.is_start, Types.{TypeFrame, meet_frames, same_frame}, Verifying.{Node, node_met, brought, frame_at, FrameFits, IsFrameBelow}, declared.code.Insn.Insn}
+use Rattle.jvm_types.{specs.declared.program.MethodInfo.MethodInfo, proofs.FrameOrder.{types_self, types_meet_left, types_meet_right}}
+use Rattle.laws_programs.proofs.{FrameBounds.{IsBounded, meets_length, meet_bounded}, LocalRisen.{IsRisen, AreRisen, all_risen_self, frames_of, same_frames}}
 
 abbrev pub IsFrameBounded : MethodInfo → Option TypeFrame → Type 0
 IsFrameBounded m None = Unit {0}

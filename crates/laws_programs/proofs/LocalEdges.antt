@@ -1,19 +1,11 @@
 -- What the nodes are after the normal edges of an instruction, and after those to its handlers.
-use Rattle.std.proofs.Common.{◌≡◌, ℕ, Bool, true, false, cond, not, ◌&&◌, ◌||◌, List, [], ◌∷◌, length, Option, Some, None, Result, Ok, refl, sym, ◌∙◌, subst, arith}
-use Rattle.std.specs.Prelude.{◌==◌}
-use Rattle.std.specs.List.{AllByRecursion}
+use Rattle.std.{proofs.Common.{◌≡◌, ℕ, Bool, true, false, cond, not, ◌&&◌, ◌||◌, List, [], ◌∷◌, length, Option, Some, None, Result, Ok, refl, sym, ◌∙◌, subst, arith, ◌==◌}, specs.List.AllByRecursion}
 use Rattle.std.proofs.lemmas.Bool.Decides.{nat_tests}
-use Rattle.jvm_types.specs.Numbers.{has_number}
-use Rattle.jvm_types.specs.CodeGrammar.{is_start}
-use Rattle.jvm_types.specs.Types.{TypeFrame}
-use Rattle.jvm_types.specs.Verifying.{Node, brought, all_brought, has_other_depth, clash, unless_caught, catch_fault, frame_at_handler, handled, frame_at, FrameFits}
-use Rattle.jvm_types.specs.declared.code.Insn.{Insn}
-use Rattle.jvm_types.specs.declared.program.MethodInfo.{MethodInfo}
-use Rattle.jvm_types.specs.declared.program.Row.{Row}
-use Rattle.jvm_types.specs.declared.refusal.VRule.{VRule}
-use Rattle.laws_programs.proofs.FrameBounds.{IsBounded, handler_bounded}
+use Rattle.jvm_types.specs.{CodeGrammar.is_start, Numbers.has_number, Types.TypeFrame}
+use Rattle.jvm_types.specs.{Verifying.{Node, brought, all_brought, has_other_depth, clash, unless_caught, catch_fault, frame_at_handler, handled, frame_at, FrameFits}, declared.code.Insn.Insn}
+use Rattle.jvm_types.specs.declared.{program.{MethodInfo.MethodInfo, Row.Row}, refusal.VRule.VRule}
+use Rattle.laws_programs.proofs.{FrameBounds.{IsBounded, handler_bounded}, LocalBrought.{AreBounded, IsDeep, brought_risen, brought_bounded, brought_deep, brought_fits}}
 use Rattle.laws_programs.proofs.LocalRisen.{AreRisen, all_risen_self, all_risen_trans, risen_length, frames_of, fits_risen}
-use Rattle.laws_programs.proofs.LocalBrought.{AreBounded, IsDeep, brought_risen, brought_bounded, brought_deep, brought_fits}
 
 -- ---- several edges
 

@@ -1,24 +1,10 @@
 -- What holds in the course of the visits of a method: each instruction that has a frame and does not wait is sound.
-use Rattle.std.proofs.Common.{◌≡◌, ℕ, zero, suc, ◌<◌, Bool, true, false, cond, List, [], ◌∷◌, map, length, Option, Some, None, Ok, ◌⊎◌, inl, inr, refl, sym, ap, ◌∙◌, subst, length-set, arith}
-use Rattle.std.specs.Prelude.{◌==◌, slice_get, slice_set}
-use Rattle.std.specs.List.{filter, AllByRecursion, AllZip}
-use Rattle.std.proofs.lemmas.List.{length-map}
-use Rattle.std.proofs.lemmas.Bool.{cond_both}
-use Rattle.std.proofs.lemmas.Bool.Decides.{nat_tests}
-use Rattle.jvm_types.specs.CodeTable.{row, branches_to}
-use Rattle.jvm_types.specs.CodeGrammar.{is_start, IsStart, SpellsInsns, RowFits}
-use Rattle.jvm_types.specs.Types.{TypeFrame, entry_type_frame}
+use Rattle.std.proofs.Common.{◌≡◌, ℕ, zero, suc, ◌<◌, Bool, true, false, cond, List, [], ◌∷◌, map, length, Option, Some, None, Ok, ◌⊎◌, inl, inr, refl, sym, ap, ◌∙◌, subst, length-set, arith, ◌==◌, slice_get, slice_set}
+use Rattle.std.{specs.List.{filter, AllByRecursion, AllZip}, proofs.lemmas.{Bool.{cond_both, Decides.nat_tests}, List.length-map}}
+use Rattle.jvm_types.specs.{CodeGrammar.{is_start, IsStart, SpellsInsns, RowFits}, CodeTable.{row, branches_to}, Types.{TypeFrame, entry_type_frame}}
 use Rattle.jvm_types.specs.Verifying.{Node, node_at, covers, first_nodes, visited, waiting_from, next_visit, Visits, frame_at, FrameFits, IsFrameBelow, IsSound, IsAssignment, IsLaidOut, LocalLaw}
-use Rattle.jvm_types.specs.declared.class_file.Handler.{Handler}
-use Rattle.jvm_types.specs.declared.code.Insn.{Insn}
-use Rattle.jvm_types.specs.declared.program.MethodInfo.{MethodInfo}
-use Rattle.jvm_types.specs.declared.program.Program.{Program}
-use Rattle.jvm_types.specs.declared.program.Row.{Row}
-use Rattle.jvm_types.specs.declared.program.Target.{Target}
-use Rattle.laws_programs.proofs.FrameBounds.{entry_bounded}
-use Rattle.laws_programs.proofs.LocalRisen.{frame_self, IsRisen, risen_at, risen_length, frames_of, fits_risen}
-use Rattle.laws_programs.proofs.LocalBrought.{AreBounded}
-use Rattle.laws_programs.proofs.LocalEdges.{Carries, unclashed}
+use Rattle.jvm_types.specs.declared.{class_file.Handler.Handler, code.Insn.Insn, program.{MethodInfo.MethodInfo, Program.Program, Row.Row, Target.Target}}
+use Rattle.laws_programs.proofs.{FrameBounds.entry_bounded, LocalBrought.AreBounded, LocalEdges.{Carries, unclashed}, LocalRisen.{frame_self, IsRisen, risen_at, risen_length, frames_of, fits_risen}}
 use Rattle.laws_programs.proofs.LocalVisit.{Leads, sound_risen, cleared, cleared_frames, visit_carries, visit_sound}
 
 -- ---- a method that is laid out

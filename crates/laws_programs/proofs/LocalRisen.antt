@@ -1,15 +1,8 @@
 -- In the course of the visits frames only rise, and one that has changed waits.
-use Rattle.std.proofs.Common.{◌≡◌, ℕ, zero, suc, Bool, true, false, cond, ◌&&◌, List, [], ◌∷◌, map, length, Option, Some, None, refl, ap, ◌∙◌, subst, arith}
-use Rattle.std.specs.Prelude.{◌==◌, slice_get}
-use Rattle.std.specs.List.{AllZip}
-use Rattle.std.proofs.lemmas.Bool.{and_parts}
-use Rattle.std.proofs.lemmas.Bool.Decides.{nat_tests}
-use Rattle.jvm_types.specs.Types.{TypeFrame, same_type, all_pairs, same_ready, same_frame}
-use Rattle.jvm_types.specs.Verifying.{Node, frame_at, FrameFits, IsFrameBelow}
-use Rattle.jvm_types.specs.declared.code.Insn.{Insn}
-use Rattle.jvm_types.specs.declared.typing.VType.{VType}
-use Rattle.jvm_types.specs.declared.typing.VType.TheVariants.{Int, Null, Ref, This, New, Top}
-use Rattle.jvm_types.proofs.FrameOrder.{types_self, types_trans}
+use Rattle.std.{proofs.Common.{◌≡◌, ℕ, zero, suc, Bool, true, false, cond, ◌&&◌, List, [], ◌∷◌, map, length, Option, Some, None, refl, ap, ◌∙◌, subst, arith, ◌==◌, slice_get}, specs.List.AllZip}
+use Rattle.std.proofs.lemmas.Bool.{and_parts, Decides.nat_tests}
+use Rattle.jvm_types.specs.{Types.{TypeFrame, same_type, all_pairs, same_ready, same_frame}, Verifying.{Node, frame_at, FrameFits, IsFrameBelow}, declared.{code.Insn.Insn, typing.VType.VType}}
+use Rattle.jvm_types.{specs.declared.typing.VType.TheVariants.{Int, Null, Ref, This, New, Top}, proofs.FrameOrder.{types_self, types_trans}}
 
 -- ---- frames
 

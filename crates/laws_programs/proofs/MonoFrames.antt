@@ -1,20 +1,10 @@
 -- What a row does to two frames of which one is below the other, where its `<init>` is called on what it may be.
-use Rattle.std.proofs.Common.{◌≡◌, ℕ, zero, suc, Bool, true, false, not, ◌||◌, List, [], ◌∷◌, ◌++◌, length, map, drop, Option, Some, None, refl, ap, sym, subst, ◌∙◌}
-use Rattle.std.specs.Prelude.{slice_set, slice_index_or, if◌then◌else◌}
+use Rattle.std.proofs.Common.{◌≡◌, ℕ, zero, suc, Bool, true, false, not, ◌||◌, List, [], ◌∷◌, ◌++◌, length, map, drop, Option, Some, None, refl, ap, sym, subst, ◌∙◌, slice_set, slice_index_or, if◌then◌else◌}
 use Rattle.std.proofs.lemmas.Bool.{and_parts, and_from, or_parts}
-use Rattle.jvm_types.specs.CodeTable.{value_of, stack_after, locals_after}
-use Rattle.jvm_types.specs.declared.op_row.Want.{Want}
-use Rattle.jvm_types.specs.declared.op_row.Want.TheVariants.{AnyValue, AnInt, AnObject, AnyReference, AHolder, ToStart}
-use Rattle.jvm_types.specs.declared.op_row.Given.{Given}
-use Rattle.jvm_types.specs.declared.op_row.Given.TheVariants.{Fresh, Taken, Local}
-use Rattle.jvm_types.specs.declared.op_row.OpRow.{OpRow}
-use Rattle.jvm_types.specs.Types.{TypeFrame, is_below, is_uninitialised, same_type, all_pairs, frame_below}
-use Rattle.jvm_types.specs.Verifying.{suits, some_taken, started, initialised, after_start, frame_after}
-use Rattle.jvm_types.specs.declared.program.MethodInfo.{MethodInfo}
-use Rattle.jvm_types.specs.declared.typing.VType.{VType}
-use Rattle.jvm_types.specs.declared.typing.VType.TheVariants.{Ref, This, Top}
-use Rattle.jvm_types.proofs.TypeOrder.{below_self}
-use Rattle.jvm_types.proofs.FrameOrder.{parts_below, stack_below, locals_below, ready_below}
+use Rattle.jvm_types.specs.{CodeTable.{value_of, stack_after, locals_after}, Types.{TypeFrame, is_below, is_uninitialised, same_type, all_pairs, frame_below}}
+use Rattle.jvm_types.specs.{Verifying.{suits, some_taken, started, initialised, after_start, frame_after}, declared.op_row.{Given.{Given, TheVariants.{Fresh, Taken, Local}}, OpRow.OpRow, Want.Want}}
+use Rattle.jvm_types.specs.declared.{op_row.Want.TheVariants.{AnyValue, AnInt, AnObject, AnyReference, AHolder, ToStart}, program.MethodInfo.MethodInfo, typing.VType.VType}
+use Rattle.jvm_types.{specs.declared.typing.VType.TheVariants.{Ref, This, Top}, proofs.{FrameOrder.{parts_below, stack_below, locals_below, ready_below}, TypeOrder.below_self}}
 use Rattle.laws_programs.proofs.MonoTypes.{below_object, one_initialised, suits_start}
 
 -- ---- places

@@ -1,27 +1,13 @@
 -- A value that a `new` made and no `<init>` was called on stays behind its `new` along each edge.
-use Rattle.std.proofs.Common.{◌≡◌, ℕ, suc, ◌<◌, ◌≤◌, Bool, true, false, not, ◌&&◌, ◌||◌, List, [], ◌∷◌, None, refl, arith, ⊎_elim}
-use Rattle.std.specs.Prelude.{◌==◌, nat_le, if◌then◌else◌}
-use Rattle.std.specs.List.{AllByRecursion, list_any, filter}
-use Rattle.std.proofs.lemmas.Bool.{and_parts, cases_lt, eqb-true, le-leb, or_left, or_parts, or_right}
-use Rattle.jvm_types.specs.Numbers.{has_number}
-use Rattle.jvm_types.specs.CodeTable.{row, branches_to, falls_through}
-use Rattle.jvm_types.specs.Types.{TypeFrame, is_below, all_pairs, is_new, is_uninitialised}
-use Rattle.jvm_types.specs.Verifying.{broken_before, some_operand, misuses, is_return, frame_after, frame_at_handler, covers}
-use Rattle.jvm_types.specs.declared.code.Insn.{Insn}
-use Rattle.jvm_types.specs.declared.code.Op.{Op}
-use Rattle.jvm_types.specs.declared.code.Op.TheVariants as ops
-use Rattle.jvm_types.specs.declared.typing.VType.{VType}
-use Rattle.jvm_types.specs.declared.typing.VType.TheVariants.{Int, Null, Ref, This, New, Top}
-use Rattle.jvm_types.specs.declared.program.Target.{Target}
-use Rattle.jvm_types.specs.declared.program.Row.{Row}
-use Rattle.jvm_types.specs.declared.program.MethodInfo.{MethodInfo}
-use Rattle.jvm_types.specs.declared.program.Program.{Program}
-use Rattle.jvm_types.proofs.EachAfter.{all_append}
+use Rattle.std.proofs.Common.{◌≡◌, ℕ, suc, ◌<◌, ◌≤◌, Bool, true, false, not, ◌&&◌, ◌||◌, List, [], ◌∷◌, None, refl, arith, ⊎_elim, ◌==◌, nat_le, if◌then◌else◌}
+use Rattle.std.{specs.List.{AllByRecursion, list_any, filter}, proofs.lemmas.Bool.{and_parts, cases_lt, eqb-true, le-leb, or_left, or_parts, or_right}}
+use Rattle.jvm_types.specs.{CodeTable.{row, branches_to, falls_through}, Numbers.has_number, Types.{TypeFrame, is_below, all_pairs, is_new, is_uninitialised}}
+use Rattle.jvm_types.specs.{Verifying.{broken_before, some_operand, misuses, is_return, frame_after, frame_at_handler, covers}, declared.{code.{Insn.Insn, Op.Op}, program.MethodInfo.MethodInfo}}
+use Rattle.jvm_types.{specs.declared.{program.{Program.Program, Row.Row, Target.Target}, typing.VType.{VType, TheVariants.{Int, Null, Ref, This, New, Top}}}, proofs.EachAfter.all_append}
 use Rattle.jvm_types.proofs.FrameOrder.{stack_below, locals_below}
-use Rattle.laws_programs.proofs.LocalEdges.{picks, second_false}
-use Rattle.laws_programs.proofs.RowsKeep.{IsFine, IsFineWrite, types_fine, row_fine}
+use Rattle.laws_programs.{specs.NewLaws.{IsNewBefore, AreBehind, NewStaysBehind, BehindRises}, proofs.{LocalEdges.{picks, second_false}, RowsKeep.{IsFine, IsFineWrite, types_fine, row_fine}}}
 use Rattle.laws_programs.proofs.RuleUses.{hold}
-use Rattle.laws_programs.specs.NewLaws.{IsNewBefore, AreBehind, NewStaysBehind, BehindRises}
+use Rattle.jvm_types.specs.declared.code.Op.TheVariants as ops
 
 -- ---- behind their `new`
 

@@ -1,31 +1,13 @@
 -- In the course of the visits each value that a `new` made and no `<init>` was called on is behind its `new`.
-use Rattle.std.proofs.Common.{◌≡◌, ℕ, zero, suc, ◌-◌, ◌<◌, Bool, true, false, cond, List, [], ◌∷◌, ◌++◌, length, map, replicate, Option, Some, None, Ok, refl, sym, ap, subst, arith}
-use Rattle.std.specs.Prelude.{◌==◌, slice_get}
-use Rattle.std.specs.List.{AllByRecursion}
-use Rattle.std.proofs.lemmas.Bool.{eqb-true}
-use Rattle.jvm_types.specs.CodeGrammar.{SpellsInsns}
-use Rattle.jvm_types.specs.CodeTable.{row, type_of, is_init}
-use Rattle.jvm_types.specs.declared.op_row.OpRow.{OpRow}
-use Rattle.jvm_types.specs.Members.{is_static}
-use Rattle.jvm_types.specs.Types.{TypeFrame, if_same_place, meet, meets, receiver_types, entry_type_frame}
+use Rattle.std.proofs.Common.{◌≡◌, ℕ, zero, suc, ◌-◌, ◌<◌, Bool, true, false, cond, List, [], ◌∷◌, ◌++◌, length, map, replicate, Option, Some, None, Ok, refl, sym, ap, subst, arith, ◌==◌, slice_get}
+use Rattle.std.{specs.List.AllByRecursion, proofs.lemmas.Bool.eqb-true}
+use Rattle.jvm_types.specs.{CodeGrammar.SpellsInsns, CodeTable.{row, type_of, is_init}, Members.is_static, Types.{TypeFrame, if_same_place, meet, meets, receiver_types, entry_type_frame}}
 use Rattle.jvm_types.specs.Verifying.{Node, node_at, first_nodes, node_met, brought, all_brought, handled, covering, frame_at_handler, frame_after, edges, clash, catch_fault, broken_before, broken_after, gone_on, visited_row, visited_insn, visited, Visits}
-use Rattle.jvm_types.specs.declared.code.Insn.{Insn}
-use Rattle.jvm_types.specs.declared.program.Kind.{Kind}
+use Rattle.jvm_types.specs.declared.{code.Insn.Insn, op_row.OpRow.OpRow, program.{Kind.Kind, MethodInfo.MethodInfo, Program.Program, Row.Row, Target.Target}, typing.VType.VType}
+use Rattle.jvm_types.{specs.declared.typing.VType.TheVariants.{Int, Null, Ref, This, New, Top}, proofs.EachAfter.all_append}
+use Rattle.laws_programs.{specs.NewLaws.{IsNewBefore, AreBehind, NewIsBehind}, proofs.{LeastFrames.behind, LocalEdges.uncaught, LocalRisen.frames_of, LocalVisit.{unclashed, cleared, cleared_frames}}}
+use Rattle.laws_programs.proofs.{NewEdges.stays_behind, VisitsEnd.unless_broken_ok}
 use Rattle.jvm_types.specs.declared.program.Kind.TheVariants as kinds
-use Rattle.jvm_types.specs.declared.program.MethodInfo.{MethodInfo}
-use Rattle.jvm_types.specs.declared.program.Program.{Program}
-use Rattle.jvm_types.specs.declared.program.Row.{Row}
-use Rattle.jvm_types.specs.declared.program.Target.{Target}
-use Rattle.jvm_types.specs.declared.typing.VType.{VType}
-use Rattle.jvm_types.specs.declared.typing.VType.TheVariants.{Int, Null, Ref, This, New, Top}
-use Rattle.jvm_types.proofs.EachAfter.{all_append}
-use Rattle.laws_programs.proofs.LeastFrames.{behind}
-use Rattle.laws_programs.proofs.LocalRisen.{frames_of}
-use Rattle.laws_programs.proofs.LocalEdges.{uncaught}
-use Rattle.laws_programs.proofs.LocalVisit.{unclashed, cleared, cleared_frames}
-use Rattle.laws_programs.proofs.NewEdges.{stays_behind}
-use Rattle.laws_programs.specs.NewLaws.{IsNewBefore, AreBehind, NewIsBehind}
-use Rattle.laws_programs.proofs.VisitsEnd.{unless_broken_ok}
 
 -- ---- the frame at the start has none
 

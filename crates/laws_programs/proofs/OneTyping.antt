@@ -1,9 +1,6 @@
 -- Visits are determined: from some nodes on they end in one list of nodes, or at one refusal.
 use Rattle.std.proofs.Common.{◌≡◌, ℕ, List, [], ◌∷◌, map, Option, Some, None, Result, Ok, Err, sym, ap, ◌∙◌, subst}
-use Rattle.jvm_types.specs.Types.{TypeFrame}
-use Rattle.jvm_types.specs.Verifying.{Node, visited, next_visit, Visits, Breaks, HasTyping, IsRefused}
-use Rattle.jvm_types.specs.declared.program.MethodInfo.{MethodInfo}
-use Rattle.jvm_types.specs.declared.program.Program.{Program}
+use Rattle.jvm_types.specs.{Types.TypeFrame, Verifying.{Node, visited, next_visit, Visits, Breaks, HasTyping, IsRefused}, declared.program.{MethodInfo.MethodInfo, Program.Program}}
 use Rattle.jvm_types.specs.declared.refusal.VRule.{VRule}
 
 -- ---- what is equal to one thing

@@ -1,18 +1,11 @@
 -- The orders of classes, types and frames are orders.
-use Rattle.std.proofs.Common.{◌≡◌, ℕ, ◌⊎◌, inl, inr, Bool, true, false, not, ◌&&◌, ◌||◌, List, [], ◌∷◌, refl, sym, ap, subst, arith}
-use Rattle.std.specs.Prelude.{◌==◌}
-use Rattle.std.specs.List.{AllByRecursion}
-use Rattle.std.proofs.lemmas.Bool.{and_from, and_parts, eqb-true}
-use Rattle.std.proofs.lemmas.Bool.Decides.{nat_tests}
-use Rattle.jvm_types.specs.Numbers.{has_number}
-use Rattle.jvm_types.specs.ClassTree.{super_class, ancestors, is_subclass, built_in_supers}
-use Rattle.jvm_types.specs.Types.{TypeFrame, is_below, all_pairs, frame_below}
-use Rattle.jvm_types.specs.declared.typing.VType.{VType}
+use Rattle.std.{proofs.Common.{◌≡◌, ℕ, ◌⊎◌, inl, inr, Bool, true, false, not, ◌&&◌, ◌||◌, List, [], ◌∷◌, refl, sym, ap, subst, arith, ◌==◌}, specs.List.AllByRecursion}
+use Rattle.std.proofs.lemmas.Bool.{and_from, and_parts, eqb-true, Decides.nat_tests}
+use Rattle.jvm_types.specs.{ClassTree.{super_class, ancestors, is_subclass, built_in_supers}, Numbers.has_number, Types.{TypeFrame, is_below, all_pairs, frame_below}, declared.typing.VType.VType}
 use Rattle.jvm_types.specs.declared.typing.VType.TheVariants.{Int, Null, Ref, This, New, Top}
-use Rattle.jvm_types.proofs.TypeOrder.{pick, subclass_self, subclass_trans, common_left, common_right, common_least, below_self, below_trans, meet_left, meet_right, meet_least}
 use Rattle.jvm_types.proofs.FrameOrder.{stack_below, locals_below, ready_below, types_self, types_trans, types_meet_left, types_meet_right, types_meet_least}
-use Rattle.laws_programs.proofs.ClassTreeLaws.{super_in}
-use Rattle.laws_programs.specs.OrderLaws.{ClassesAreOrdered, CommonAncestorIsLeast, TypesAreOrdered, MeetIsLeast, FramesAreOrdered, FramesMeet}
+use Rattle.jvm_types.proofs.TypeOrder.{pick, subclass_self, subclass_trans, common_left, common_right, common_least, below_self, below_trans, meet_left, meet_right, meet_least}
+use Rattle.laws_programs.{specs.OrderLaws.{ClassesAreOrdered, CommonAncestorIsLeast, TypesAreOrdered, MeetIsLeast, FramesAreOrdered, FramesMeet}, proofs.ClassTreeLaws.super_in}
 
 -- ---- classes
 

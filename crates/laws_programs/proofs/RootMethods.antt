@@ -1,21 +1,9 @@
 -- The roots of a program are static, and their descriptors say what they take.
-use Rattle.std.proofs.Common.{◌≡◌, ℕ, suc, ◌<◌, ◌⊎◌, ⊎_elim, Bool, true, false, not, ◌&&◌, ◌||◌, List, [], ◌∷◌, take, Some, None, refl, sym, ap, ◌∙◌}
-use Rattle.std.specs.Prelude.{◌==◌, bytes_eq, codes, slice_get}
-use Rattle.std.specs.List.{list_any}
-use Rattle.std.proofs.lemmas.Bool.{and_from, and_parts, cases_order, eq-eqb, eqb-true, not-false, or_left, or_right, or_parts}
-use Rattle.std.proofs.lemmas.Slice.Eq.{bytes_eq-Decides}
-use Rattle.jvm_types.specs.ClassNames.{file_class}
-use Rattle.jvm_types.specs.Descriptors.{Signature, method_signature}
-use Rattle.jvm_types.specs.Members.{is_static, is_synchronized, is_class_init_name}
-use Rattle.jvm_types.specs.LinkFaults.{is_run, is_entry}
-use Rattle.jvm_types.specs.ProgramInvariant.{IsProgram, IsMethodOf, is_same_method}
-use Rattle.jvm_types.specs.declared.program.Kind.{Kind}
-use Rattle.jvm_types.specs.declared.program.Kind.TheVariants.{Int}
-use Rattle.jvm_types.specs.declared.program.MethodInfo.{MethodInfo}
-use Rattle.jvm_types.specs.declared.program.Program.{Program}
-use Rattle.laws_programs.proofs.FieldOrder.{before_at}
-use Rattle.laws_programs.specs.RootLaws.{IsRoot, ClassInitsAreRoots, EntriesAreRoots, RunIsRoot, RunIsThere, OneMethod}
-use Rattle.laws_programs.proofs.LocalEdges.{second_false}
+use Rattle.std.proofs.Common.{◌≡◌, ℕ, suc, ◌<◌, ◌⊎◌, ⊎_elim, Bool, true, false, not, ◌&&◌, ◌||◌, List, [], ◌∷◌, take, Some, None, refl, sym, ap, ◌∙◌, ◌==◌, bytes_eq, codes, slice_get}
+use Rattle.std.{specs.List.list_any, proofs.lemmas.{Bool.{and_from, and_parts, cases_order, eq-eqb, eqb-true, not-false, or_left, or_right, or_parts}, Slice.Eq.bytes_eq-Decides}}
+use Rattle.jvm_types.specs.{ClassNames.file_class, Descriptors.{Signature, method_signature}, LinkFaults.{is_run, is_entry}, Members.{is_static, is_synchronized, is_class_init_name}}
+use Rattle.jvm_types.specs.{ProgramInvariant.{IsProgram, IsMethodOf, is_same_method}, declared.program.{Kind.{Kind, TheVariants.Int}, MethodInfo.MethodInfo, Program.Program}}
+use Rattle.laws_programs.{specs.RootLaws.{IsRoot, ClassInitsAreRoots, EntriesAreRoots, RunIsRoot, RunIsThere, OneMethod}, proofs.{FieldOrder.before_at, LocalEdges.second_false}}
 
 -- ---- tests
 

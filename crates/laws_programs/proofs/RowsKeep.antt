@@ -1,26 +1,13 @@
 -- A property of types that every row keeps: what a row makes has it, and so what is there afterwards.
-use Rattle.std.proofs.Common.{ℕ, zero, suc, Bool, true, false, List, [], ◌∷◌, ◌++◌, map, Option, Some, None, drop, length}
-use Rattle.std.specs.Prelude.{if◌then◌else◌, slice_get, slice_set, slice_index_or}
-use Rattle.std.specs.List.{AllByRecursion}
-use Rattle.std.specs.Option.{option_map, option_to_list}
-use Rattle.jvm_types.specs.declared.class_numbers.TheConstants.{INT_ARRAY_CLASS, PRINT_STREAM_CLASS}
+use Rattle.std.proofs.Common.{ℕ, zero, suc, Bool, true, false, List, [], ◌∷◌, ◌++◌, map, Option, Some, None, drop, length, if◌then◌else◌, slice_get, slice_set, slice_index_or}
+use Rattle.std.specs.{List.AllByRecursion, Option.{option_map, option_to_list}}
 use Rattle.jvm_types.specs.CodeTable.{type_of, row, constant_row, get_static_row, get_row, put_row, put_static_row, virtual_row, special_row, static_row, value_of, stack_after, locals_after}
-use Rattle.jvm_types.specs.declared.op_row.Given.{Given}
-use Rattle.jvm_types.specs.declared.op_row.Given.TheVariants.{Fresh, Taken, Local}
-use Rattle.jvm_types.specs.declared.op_row.OpRow.{OpRow}
-use Rattle.jvm_types.specs.Types.{TypeFrame, same_type}
-use Rattle.jvm_types.specs.Verifying.{frame_after, after_start, started, initialised}
-use Rattle.jvm_types.specs.declared.code.Op.{Op}
+use Rattle.jvm_types.specs.{Types.{TypeFrame, same_type}, Verifying.{frame_after, after_start, started, initialised}, declared.class_numbers.TheConstants.{INT_ARRAY_CLASS, PRINT_STREAM_CLASS}}
+use Rattle.jvm_types.specs.declared.{code.Op.Op, op_row.{Given.{Given, TheVariants.{Fresh, Taken, Local}}, OpRow.OpRow}, program.{FieldInfo.FieldInfo, Kind.Kind, MethodInfo.MethodInfo}}
+use Rattle.jvm_types.specs.declared.{program.{Program.Program, Target.Target}, typing.VType.{VType, TheVariants.{Int, Null, Ref, New, Top}}}
 use Rattle.jvm_types.specs.declared.code.Op.TheVariants as ops
-use Rattle.jvm_types.specs.declared.program.FieldInfo.{FieldInfo}
-use Rattle.jvm_types.specs.declared.program.Kind.{Kind}
 use Rattle.jvm_types.specs.declared.program.Kind.TheVariants as kinds
-use Rattle.jvm_types.specs.declared.program.MethodInfo.{MethodInfo}
-use Rattle.jvm_types.specs.declared.program.Program.{Program}
-use Rattle.jvm_types.specs.declared.program.Target.{Target}
 use Rattle.jvm_types.specs.declared.program.Target.TheVariants as targets
-use Rattle.jvm_types.specs.declared.typing.VType.{VType}
-use Rattle.jvm_types.specs.declared.typing.VType.TheVariants.{Int, Null, Ref, New, Top}
 
 module _ (P : VType → Type 0) (top : P Top) where
   at_all : (ts : List VType) (k : ℕ) → AllByRecursion P ts → P (slice_index_or ts k Top)

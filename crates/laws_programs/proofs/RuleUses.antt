@@ -1,27 +1,13 @@
 -- What the rules say where none is broken.
-use Rattle.std.proofs.Common.{◌≡◌, ℕ, zero, suc, ◌+◌, ◌<◌, ◌≤◌, Bool, true, false, not, ◌||◌, List, [], ◌∷◌, ◌++◌, length, map, reverse, take, Option, Some, None, refl, sym, ap, ◌∙◌, subst, arith, length-append}
-use Rattle.std.specs.Prelude.{nat_lt, nat_le, slice_get}
-use Rattle.std.proofs.lemmas.Bool.{and_from, not-false, or_parts}
-use Rattle.std.proofs.lemmas.Bool.Decides.{nat_tests}
-use Rattle.std.proofs.lemmas.List.{length-map, length-reverse}
-use Rattle.jvm_types.specs.CodeTable.{type_of, want_of, arguments, returned_want, row}
-use Rattle.jvm_types.specs.declared.op_row.Want.{Want}
-use Rattle.jvm_types.specs.declared.op_row.Want.TheVariants.{AnInt}
-use Rattle.jvm_types.specs.declared.op_row.OpRow.{OpRow}
-use Rattle.jvm_types.specs.Types.{TypeFrame, is_below, all_pairs}
+use Rattle.std.proofs.Common.{◌≡◌, ℕ, zero, suc, ◌+◌, ◌<◌, ◌≤◌, Bool, true, false, not, ◌||◌, List, [], ◌∷◌, ◌++◌, length, map, reverse, take, Option, Some, None, refl, sym, ap, ◌∙◌, subst, arith, length-append, nat_lt, nat_le, slice_get}
+use Rattle.std.proofs.lemmas.{Bool.{and_from, not-false, or_parts, Decides.nat_tests}, List.{length-map, length-reverse}}
+use Rattle.jvm_types.specs.{CodeTable.{type_of, want_of, arguments, returned_want, row}, Types.{TypeFrame, is_below, all_pairs}}
 use Rattle.jvm_types.specs.Verifying.{takes_too_many, gives_too_many, lacks_locals, misuses_object, mistypes, misuses, suits, some_taken, some_read, is_fault_at_local, some_operand, names_no_local, returns_wrongly, falls_off}
-use Rattle.jvm_types.specs.declared.code.Insn.{Insn}
-use Rattle.jvm_types.specs.declared.code.Op.{Op}
+use Rattle.jvm_types.specs.declared.{code.{Insn.Insn, Op.Op}, op_row.{OpRow.OpRow, Want.{Want, TheVariants.AnInt}}, program.{Kind.Kind, MethodInfo.MethodInfo, Program.Program, Target.Target}}
+use Rattle.jvm_types.specs.declared.{refusal.VRule.TheVariants.{V1, V2, V3, V4, V6, V7, V8}, typing.VType.VType}
+use Rattle.laws_programs.{specs.RuleLaws.{RulesHold, UnbrokenHold, TakenAreGood, ReadIsGood, ArgumentsSuit, ReceiverIsGood, ReturnsTop, ReturnsWell, ReturnsSuit}, proofs.FrameBounds.unbroken}
 use Rattle.jvm_types.specs.declared.code.Op.TheVariants as ops
-use Rattle.jvm_types.specs.declared.program.Kind.{Kind}
 use Rattle.jvm_types.specs.declared.program.Kind.TheVariants as kinds
-use Rattle.jvm_types.specs.declared.program.MethodInfo.{MethodInfo}
-use Rattle.jvm_types.specs.declared.program.Program.{Program}
-use Rattle.jvm_types.specs.declared.program.Target.{Target}
-use Rattle.jvm_types.specs.declared.refusal.VRule.TheVariants.{V1, V2, V3, V4, V6, V7, V8}
-use Rattle.jvm_types.specs.declared.typing.VType.{VType}
-use Rattle.laws_programs.proofs.FrameBounds.{unbroken}
-use Rattle.laws_programs.specs.RuleLaws.{RulesHold, UnbrokenHold, TakenAreGood, ReadIsGood, ArgumentsSuit, ReceiverIsGood, ReturnsTop, ReturnsWell, ReturnsSuit}
 
 -- ---- the rules
 

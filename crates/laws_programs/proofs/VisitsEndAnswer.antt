@@ -1,11 +1,7 @@
 -- From any nodes whose frames keep to the bounds the visits end, or one of them breaks a rule: by the work that is left.
-use Rattle.std.proofs.Common.{◌≡◌, ℕ, zero, suc, ◌<◌, List, [], ◌∷◌, map, Option, Some, None, Result, Ok, Err, refl, inl, inr, arith}
-use Rattle.std.specs.Prelude.{◌⊎◌}
-use Rattle.jvm_types.specs.Types.{TypeFrame}
-use Rattle.jvm_types.specs.Verifying.{Node, first_nodes, visited, next_visit, Visits, Breaks, HasTyping, IsRefused, IsLaidOut}
-use Rattle.jvm_types.specs.declared.program.MethodInfo.{MethodInfo}
-use Rattle.jvm_types.specs.declared.program.Program.{Program}
-use Rattle.jvm_types.specs.declared.refusal.VRule.{VRule}
+use Rattle.std.proofs.Common.{◌≡◌, ℕ, zero, suc, ◌<◌, List, [], ◌∷◌, map, Option, Some, None, Result, Ok, Err, refl, inl, inr, arith, ◌⊎◌}
+use Rattle.jvm_types.specs.{Types.TypeFrame, Verifying.{Node, first_nodes, visited, next_visit, Visits, Breaks, HasTyping, IsRefused, IsLaidOut}, declared.program.MethodInfo.MethodInfo}
+use Rattle.jvm_types.specs.declared.{program.Program.Program, refusal.VRule.VRule}
 use Rattle.laws_programs.proofs.VisitsEnd.{IsKept, first_kept, visit_keeps, work, visit_works}
 
 -- how the visits from some nodes on end

@@ -1,16 +1,10 @@
 -- A meet goes down: each type has a rank of at least 1, which falls where a meet with another changes the type. So the
 -- rank of a frame, the sum over its places, falls where an edge changes the frame, whatever the depths.
-use Rattle.std.proofs.Common.{◌≡◌, ℕ, zero, suc, ◌+◌, ◌-◌, ◌*◌, ◌<◌, ◌≤◌, Bool, true, false, List, [], ◌∷◌, length, refl, sym, subst, inl, inr, arith}
-use Rattle.std.specs.Prelude.{◌⊎◌, ◌&&◌, ◌==◌, if◌then◌else◌, slice_index_or}
-use Rattle.std.specs.List.{AllByRecursion}
-use Rattle.std.proofs.lemmas.Bool.Decides.{nat_tests}
+use Rattle.std.proofs.Common.{◌≡◌, ℕ, zero, suc, ◌+◌, ◌-◌, ◌*◌, ◌<◌, ◌≤◌, Bool, true, false, List, [], ◌∷◌, length, refl, sym, subst, inl, inr, arith, ◌⊎◌, ◌&&◌, ◌==◌, if◌then◌else◌, slice_index_or}
+use Rattle.std.{specs.List.AllByRecursion, proofs.lemmas.Bool.Decides.nat_tests}
 use Rattle.jvm_types.specs.ClassTree.{super_class, is_subclass, first_above, common_ancestor}
-use Rattle.jvm_types.specs.Types.{TypeFrame, meet, if_same_place, same_type, all_pairs, meets, same_ready, same_frame, meet_frames}
-use Rattle.jvm_types.specs.declared.typing.VType.{VType}
-use Rattle.jvm_types.specs.declared.typing.VType.TheVariants.{Int, Null, Ref, This, New, Top}
-use Rattle.jvm_types.proofs.ClassCases.{by_class}
-use Rattle.jvm_types.proofs.TypeOrder.{subclass_object}
-use Rattle.jvm_types.specs.declared.class_numbers.TheConstants.{OBJECT_CLASS}
+use Rattle.jvm_types.specs.{Types.{TypeFrame, meet, if_same_place, same_type, all_pairs, meets, same_ready, same_frame, meet_frames}, declared.class_numbers.TheConstants.OBJECT_CLASS}
+use Rattle.jvm_types.{specs.declared.typing.VType.{VType, TheVariants.{Int, Null, Ref, This, New, Top}}, proofs.{ClassCases.by_class, TypeOrder.subclass_object}}
 
 -- ---- classes
 

@@ -1,42 +1,21 @@
 -- In every run an attempt begins where it is due, and nowhere else; then it stays the same one until it ends, and its events only
 -- look.
-use Rattle.std.proofs.Common.{◌≡◌, ℕ, zero, suc, ◌+◌, ◌*◌, ◌/◌, ◌%◌, ◌<◌, nat_lt, Bool, true, false, cond, List, [], ◌∷◌, length, Option, Some, None, refl, sym, ap, ◌∙◌, subst, arith}
-use Rattle.std.specs.Prelude.{◌&&◌, slice_get, slice_index}
-use Rattle.std.proofs.lemmas.Bool.Decides.{nat_tests}
-use Rattle.std.proofs.lemmas.Bool.{lt-ltb, ltb-true}
-use Rattle.lists.proofs.ListLaws.{same_some}
-use Rattle.lists.proofs.TestLaws.{both_true, both_are_true}
+use Rattle.std.proofs.Common.{◌≡◌, ℕ, zero, suc, ◌+◌, ◌*◌, ◌/◌, ◌%◌, ◌<◌, nat_lt, Bool, true, false, cond, List, [], ◌∷◌, length, Option, Some, None, refl, sym, ap, ◌∙◌, subst, arith, ◌&&◌, slice_get, slice_index}
+use Rattle.std.proofs.lemmas.Bool.{lt-ltb, ltb-true, Decides.nat_tests}
+use Rattle.lists.proofs.{ListLaws.same_some, TestLaws.{both_true, both_are_true}}
 use Rattle.checked_program.specs.MarkedProgram.{MarkedProgram, IsMarked}
-use Rattle.machine_types.specs.Accesses.{found_by}
-use Rattle.machine_types.specs.Core.{Core, Happening, core, event, event_of}
-use Rattle.machine_types.specs.Elision.{begins, tries, may_try, enters_marked}
-use Rattle.machine_types.specs.Events.{wanted, moved}
-use Rattle.machine_types.specs.Going.{with_phase}
-use Rattle.machine_types.specs.HeldMonitors.{held_at}
-use Rattle.machine_types.specs.History.{Fate, GoesOn, Fails, Finishes, fate}
-use Rattle.machine_types.specs.LockWords.{word_of_lock, lock_by, lock_of}
-use Rattle.machine_types.specs.Monitors.{Claim, HasNot, claim, claim_by, enter_wants, enter_moves}
-use Rattle.machine_types.specs.Settings.{AreSettings}
-use Rattle.machine_types.specs.Threads.{Attempt, Frame, Thread}
-use Rattle.machine_types.specs.declared.access.Access.TheVariants.{Load}
-use Rattle.machine_types.specs.declared.config.Config.{Config}
-use Rattle.machine_types.specs.declared.lock.Held.{Held}
-use Rattle.machine_types.specs.declared.lock.LockWord.TheVariants as locks
-use Rattle.machine_types.specs.declared.phase.Phase.{Phase}
-use Rattle.machine_types.specs.declared.phase.Phase.TheVariants as phases
-use Rattle.laws_threads.specs.InsideEffects.{InsideMayDo}
-use Rattle.laws_threads.specs.InsideMoves.{NoElementInside}
-use Rattle.laws_states.specs.RunFacts.{HaveWidth}
-use Rattle.laws_states.proofs.WordViews.{lock_of_word}
-use Rattle.laws_states.specs.StateLaws.{ProgramsKeepThreads, RunsHaveState, IsInState}
-use Rattle.laws_refinement.proofs.Inside.{Inside, is_inside}
-use Rattle.laws_refinement.specs.Entries.{failed_here, KeepsCount}
-use Rattle.laws_refinement.specs.EntryLaws.{ThreadsKeepCount, FewFail, IsAttemptDue, HasBegunAttempt, DueBegin, BegunAreDue, AttemptsStay, AttemptsOnlyLook}
-use Rattle.laws_refinement.proofs.MarkedEntries.{at_mark, enters_by_mark}
-use Rattle.laws_refinement.proofs.Looks.{only_looks}
-use Rattle.laws_refinement.proofs.OutsideEntries.{Begins, MovesTo, outside_moves}
-use Rattle.laws_refinement.proofs.Within.{HasFate, inside_moves}
+use Rattle.machine_types.specs.{Accesses.found_by, Core.{Core, Happening, core, event, event_of}, Elision.{begins, tries, may_try, enters_marked}, Events.{wanted, moved}, Going.with_phase}
+use Rattle.machine_types.specs.{HeldMonitors.held_at, History.{Fate, GoesOn, Fails, Finishes, fate}, LockWords.{word_of_lock, lock_by, lock_of}}
+use Rattle.machine_types.specs.{Monitors.{Claim, HasNot, claim, claim_by, enter_wants, enter_moves}, Settings.AreSettings, Threads.{Attempt, Frame, Thread}, declared.access.Access.TheVariants.Load}
+use Rattle.machine_types.specs.declared.{config.Config.Config, lock.Held.Held, phase.Phase.Phase}
+use Rattle.laws_threads.specs.{InsideEffects.InsideMayDo, InsideMoves.NoElementInside}
+use Rattle.laws_states.{specs.{RunFacts.HaveWidth, StateLaws.{ProgramsKeepThreads, RunsHaveState, IsInState}}, proofs.WordViews.lock_of_word}
 use Rattle.laws_objects.proofs.ThrownInits.{moved_is}
+use Rattle.laws_refinement.specs.{Entries.{failed_here, KeepsCount}, EntryLaws.{ThreadsKeepCount, FewFail, IsAttemptDue, HasBegunAttempt, DueBegin, BegunAreDue, AttemptsStay, AttemptsOnlyLook}}
+use Rattle.laws_refinement.proofs.{Inside.{Inside, is_inside}, Looks.only_looks, MarkedEntries.{at_mark, enters_by_mark}, OutsideEntries.{Begins, MovesTo, outside_moves}}
+use Rattle.laws_refinement.proofs.Within.{HasFate, inside_moves}
+use Rattle.machine_types.specs.declared.lock.LockWord.TheVariants as locks
+use Rattle.machine_types.specs.declared.phase.Phase.TheVariants as phases
 
 pub few_fail : ThreadsKeepCount → FewFail
 few_fail counted c cfg hs t marked width settings = (counted c cfg hs t marked width settings).few

@@ -2,22 +2,12 @@
 use Rattle.std.proofs.Common.{◌≡◌, ℕ, Bool, true, false, cond, List, Option, Some, None, refl, sym, ap, ◌∙◌, subst}
 use Rattle.jvm_types.specs.declared.program.Program.{Program}
 use Rattle.checked_program.specs.MarkedProgram.{MarkedProgram}
-use Rattle.machine_types.specs.Accesses.{found_by}
-use Rattle.machine_types.specs.Core.{Core, core}
-use Rattle.machine_types.specs.Elision.{is_same, is_checked, if_same, fails}
-use Rattle.machine_types.specs.Events.{wanted, moved}
-use Rattle.machine_types.specs.Frames.{Top, top_of, effect_at, went_on}
-use Rattle.machine_types.specs.Going.{goes_on, goes_on_if}
-use Rattle.machine_types.specs.History.{GoesOn, Fails, fate, fate_by, run_fate}
-use Rattle.machine_types.specs.Instructions.{begun, did, instructed, ran}
-use Rattle.machine_types.specs.Onward.{Running, Entering, done}
-use Rattle.machine_types.specs.Threads.{Attempt, Frame, Thread}
-use Rattle.machine_types.specs.declared.effect.Effect.{Effect}
-use Rattle.machine_types.specs.declared.effect.Effect.TheVariants.{Indexes, Makes, Prints, Waits, Notifies, NotifiesAll}
-use Rattle.machine_types.specs.declared.phase.Phase.{Phase}
-use Rattle.machine_types.specs.declared.phase.Phase.TheVariants as phases
-use Rattle.laws_refinement.specs.EntryLaws.{IsToEnter, InstructionsEnter}
+use Rattle.machine_types.specs.{Accesses.found_by, Core.{Core, core}, Elision.{is_same, is_checked, if_same, fails}, Events.{wanted, moved}, Frames.{Top, top_of, effect_at, went_on}}
+use Rattle.machine_types.specs.{Going.{goes_on, goes_on_if}, History.{GoesOn, Fails, fate, fate_by, run_fate}, Instructions.{begun, did, instructed, ran}, Onward.{Running, Entering, done}}
+use Rattle.machine_types.specs.{Threads.{Attempt, Frame, Thread}, declared.{effect.Effect.{Effect, TheVariants.{Indexes, Makes, Prints, Waits, Notifies, NotifiesAll}}, phase.Phase.Phase}}
 use Rattle.laws_objects.proofs.ThrownInits.{moved_is}
+use Rattle.laws_refinement.specs.EntryLaws.{IsToEnter, InstructionsEnter}
+use Rattle.machine_types.specs.declared.phase.Phase.TheVariants as phases
 
 -- behind a check that fails no attempt
 if_same_goes : (z y : Thread) (o : Option Attempt) (got : ℕ) → ((a : Attempt) → o ≡ Some a → fate_by (is_same a got) GoesOn ≡ Fails → ⊥) → if_same z o got y ≡ y

@@ -1,24 +1,14 @@
 -- What one act of a replay counts in the plain machine: an instruction that it begins, and no monitor that it takes.
-use Rattle.std.proofs.Common.{◌≡◌, ◌≢◌, ℕ, zero, suc, ◌+◌, Bool, true, false, cond, [], ◌∷◌, Option, Some, None, refl, sym, ap, ◌∙◌, arith}
-use Rattle.std.specs.Prelude.{◌==◌, option_and_then}
-use Rattle.std.proofs.lemmas.Bool.Decides.{Decides-eqb}
+use Rattle.std.proofs.{Common.{◌≡◌, ◌≢◌, ℕ, zero, suc, ◌+◌, Bool, true, false, cond, [], ◌∷◌, Option, Some, None, refl, sym, ap, ◌∙◌, arith, ◌==◌, option_and_then}, lemmas.Bool.Decides.Decides-eqb}
 use Rattle.lists.proofs.ListLaws.{same_some}
 use Rattle.jvm_types.specs.declared.program.Program.{Program}
-use Rattle.machine_types.specs.Counting.{is_free, one_if, run_at, take_at}
-use Rattle.machine_types.specs.Effects.{read_by}
-use Rattle.machine_types.specs.Frames.{Top, top_of, effect_at}
-use Rattle.machine_types.specs.Onward.{Onward, after, dispatched}
-use Rattle.machine_types.specs.PlainInstructions.{got_by}
-use Rattle.machine_types.specs.PlainState.{Plain, Holding, Status, value_at, holding_at}
-use Rattle.machine_types.specs.PlainState as plain
-use Rattle.machine_types.specs.PlainSteps.{plain_run, plain_step}
-use Rattle.machine_types.specs.Replay.{Alone, only_on, reads_only, goes, instructs, enters, leaves, replay_act, replayed}
-use Rattle.machine_types.specs.declared.phase.After.{After}
-use Rattle.machine_types.specs.declared.plain.Act.{Act}
-use Rattle.machine_types.specs.declared.plain.Act.TheVariants as acts
-use Rattle.machine_types.specs.declared.plain.PlainStep.{PlainStep}
+use Rattle.machine_types.specs.{Counting.{is_free, one_if, run_at, take_at}, Effects.read_by, Frames.{Top, top_of, effect_at}, Onward.{Onward, after, dispatched}, PlainInstructions.got_by}
+use Rattle.machine_types.specs.{PlainState.{Plain, Holding, Status, value_at, holding_at}, PlainSteps.{plain_run, plain_step}}
+use Rattle.machine_types.specs.{Replay.{Alone, only_on, reads_only, goes, instructs, enters, leaves, replay_act, replayed}, declared.{phase.After.After, plain.{Act.Act, PlainStep.PlainStep}}}
 use Rattle.machine_types.proofs.AttemptReplay.{stands_as, Stands, played}
 use Rattle.laws_simulation.proofs.PlainCounts.{did_run, did_throw, did_enter, not_run, not_taken}
+use Rattle.machine_types.specs.PlainState as plain
+use Rattle.machine_types.specs.declared.plain.Act.TheVariants as acts
 
 -- ---- instructions that an act begins
 

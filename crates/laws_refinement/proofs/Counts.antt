@@ -1,20 +1,11 @@
 -- What a thread keeps of how many of its attempts failed at an entry agrees with what its events tell, whatever its next event is.
-use Rattle.std.proofs.Common.{◌≡◌, ℕ, ◌+◌, ◌<◌, ◌≤◌, nat_lt, Bool, true, false, Option, Some, None, refl, sym, ap, ◌∙◌, subst, arith}
-use Rattle.std.specs.Prelude.{◌&&◌, if◌then◌else◌}
-use Rattle.std.proofs.lemmas.Bool.Decides.{nat_tests}
-use Rattle.std.proofs.lemmas.Bool.{ltb-true}
+use Rattle.std.proofs.{Common.{◌≡◌, ℕ, ◌+◌, ◌<◌, ◌≤◌, nat_lt, Bool, true, false, Option, Some, None, refl, sym, ap, ◌∙◌, subst, arith, ◌&&◌, if◌then◌else◌}, lemmas.Bool.{ltb-true, Decides.nat_tests}}
 use Rattle.lists.proofs.TestLaws.{both_are_true}
 use Rattle.checked_program.specs.MarkedProgram.{MarkedProgram}
-use Rattle.machine_types.specs.Elision.{enters_marked}
-use Rattle.machine_types.specs.Events.{moved}
-use Rattle.machine_types.specs.History.{Fate, GoesOn, Fails, Finishes, fate}
-use Rattle.machine_types.specs.Threads.{Attempt, Thread}
-use Rattle.machine_types.specs.declared.phase.Phase.{Phase}
-use Rattle.machine_types.specs.declared.phase.Phase.TheVariants as phases
-use Rattle.laws_refinement.proofs.Inside.{Inside}
-use Rattle.laws_refinement.specs.Entries.{comes_to_enter, fails_more, failed_after, KeepsCount}
-use Rattle.laws_refinement.proofs.OutsideEntries.{is_entering, ComesNew, Begins, MovesTo, outside_moves}
+use Rattle.machine_types.specs.{Elision.enters_marked, Events.moved, History.{Fate, GoesOn, Fails, Finishes, fate}, Threads.{Attempt, Thread}, declared.phase.Phase.Phase}
+use Rattle.laws_refinement.{specs.Entries.{comes_to_enter, fails_more, failed_after, KeepsCount}, proofs.{Inside.Inside, OutsideEntries.{is_entering, ComesNew, Begins, MovesTo, outside_moves}}}
 use Rattle.laws_refinement.proofs.Within.{HasFate, inside_moves}
+use Rattle.machine_types.specs.declared.phase.Phase.TheVariants as phases
 
 -- of a thread that is y so many have failed
 pub record Counts (y : Thread) (failed : ℕ) : Type 0 where

@@ -1,28 +1,14 @@
 -- When an attempt has done its section: its thread leaves the monitor for the last time, and finds the lock word as it was noted.
-use Rattle.std.proofs.Common.{◌≡◌, ℕ, Bool, true, false, cond, Option, Some, None, refl, sym, ap, ◌∙◌, subst, arith}
-use Rattle.std.specs.Prelude.{◌==◌, nat_lt, slice_get, slice_index, slice_set}
+use Rattle.std.proofs.Common.{◌≡◌, ℕ, Bool, true, false, cond, Option, Some, None, refl, sym, ap, ◌∙◌, subst, arith, ◌==◌, nat_lt, slice_get, slice_index, slice_set}
 use Rattle.std.proofs.lemmas.Bool.Decides.{nat_tests, Decides-eqb}
 use Rattle.checked_program.specs.MarkedProgram.{MarkedProgram}
-use Rattle.machine_types.specs.Accesses.{found_by, words_after}
-use Rattle.machine_types.specs.Attempts.{IsAsNoted}
-use Rattle.machine_types.specs.Core.{Core, event, event_of}
-use Rattle.machine_types.specs.Elision.{elided, fails, is_checked, is_same}
-use Rattle.machine_types.specs.Events.{wanted, moved}
-use Rattle.machine_types.specs.Frames.{Top, top_of, effect_at}
-use Rattle.machine_types.specs.Going.{goes_after, goes_on, goes_on_if}
-use Rattle.machine_types.specs.HeldMonitors.{held_at}
-use Rattle.machine_types.specs.History.{GoesOn, Finishes, fate, fate_by, leave_fate, run_fate}
-use Rattle.machine_types.specs.LockWords.{word_of_lock}
-use Rattle.machine_types.specs.Monitors.{Claim, HasNot, Tries, claim, claim_by, finish_wants, finishes, leave_moves, leave_wants}
-use Rattle.machine_types.specs.Onward.{Onward, after}
-use Rattle.machine_types.specs.Threads.{Attempt, Thread}
-use Rattle.machine_types.specs.declared.access.Access.TheVariants.{Load}
-use Rattle.machine_types.specs.declared.lock.Held.{Held}
-use Rattle.machine_types.specs.declared.lock.LockWord.TheVariants as locks
-use Rattle.machine_types.specs.declared.phase.After.{After}
-use Rattle.machine_types.specs.declared.phase.Phase.{Phase}
-use Rattle.machine_types.specs.declared.phase.Phase.TheVariants as phases
+use Rattle.machine_types.specs.{Accesses.{found_by, words_after}, Attempts.IsAsNoted, Core.{Core, event, event_of}, Elision.{elided, fails, is_checked, is_same}, Events.{wanted, moved}}
+use Rattle.machine_types.specs.{Frames.{Top, top_of, effect_at}, Going.{goes_after, goes_on, goes_on_if}, HeldMonitors.held_at, History.{GoesOn, Finishes, fate, fate_by, leave_fate, run_fate}}
+use Rattle.machine_types.specs.{LockWords.word_of_lock, Monitors.{Claim, HasNot, Tries, claim, claim_by, finish_wants, finishes, leave_moves, leave_wants}, Onward.{Onward, after}}
+use Rattle.machine_types.specs.{Threads.{Attempt, Thread}, declared.{access.Access.TheVariants.Load, lock.Held.Held, phase.{After.After, Phase.Phase}}}
 use Rattle.laws_states.proofs.WordViews.{set_self}
+use Rattle.machine_types.specs.declared.lock.LockWord.TheVariants as locks
+use Rattle.machine_types.specs.declared.phase.Phase.TheVariants as phases
 
 -- ---- what the fate says
 

@@ -2,31 +2,13 @@
 -- is done, which then stands there as a whole.
 use Rattle.std.proofs.Common.{◌≡◌, ℕ, ◌+◌, Bool, List, [], Option, Some, None, refl, sym, ap, ◌∙◌, subst, arith}
 use Rattle.checked_program.specs.MarkedProgram.{MarkedProgram}
-use Rattle.machine_types.specs.Attempts.{Owes}
-use Rattle.machine_types.specs.Core.{Core, event, outcome}
-use Rattle.machine_types.specs.Counting.{run_at, take_at, count_along, CountsFit}
-use Rattle.machine_types.specs.Events.{moved}
-use Rattle.machine_types.specs.Faithful.{PrintsFit}
-use Rattle.machine_types.specs.History.{Past, Fate, GoesOn, Fails, Finishes, fate, past_after, shown_by, shown_at, steps_of}
-use Rattle.machine_types.specs.PlainLaws.{InstructionsChangeMemory}
-use Rattle.machine_types.specs.PlainMemory.{Object}
-use Rattle.machine_types.specs.PlainState.{Plain}
-use Rattle.machine_types.specs.PlainSteps.{plain_run}
-use Rattle.machine_types.specs.Threads.{Attempt, Thread}
-use Rattle.machine_types.specs.Worlds.{World}
-use Rattle.machine_types.specs.declared.config.Config.{Config}
-use Rattle.machine_types.specs.declared.phase.Phase.{Phase}
-use Rattle.machine_types.specs.declared.plain.PlainStep.{PlainStep}
+use Rattle.machine_types.specs.{Attempts.Owes, Core.{Core, event, outcome}, Counting.{run_at, take_at, count_along, CountsFit}, Events.moved, Faithful.PrintsFit}
+use Rattle.machine_types.specs.{History.{Past, Fate, GoesOn, Fails, Finishes, fate, past_after, shown_by, shown_at, steps_of}, PlainLaws.InstructionsChangeMemory, PlainMemory.Object, PlainState.Plain}
+use Rattle.machine_types.specs.{PlainSteps.plain_run, Threads.{Attempt, Thread}, Worlds.World, declared.{config.Config.Config, phase.Phase.Phase, plain.PlainStep.PlainStep}}
 use Rattle.laws_states.specs.HeapFacts.{objects_after}
-use Rattle.laws_simulation.specs.StandsBeside.{StandsBeside}
-use Rattle.laws_simulation.specs.StepsBeside.{StepsBeside}
-use Rattle.laws_simulation.specs.OutcomeLaws.{StandsToMove}
-use Rattle.laws_simulation.proofs.EventCounts.{events_are_counted}
-use Rattle.laws_simulation.proofs.EventPrints.{prints_are_kept}
-use Rattle.laws_refinement.specs.ElidedSteps.{EventStands, found_of, IsNotFinished, FinishesBeside}
-use Rattle.laws_refinement.proofs.EventSteps.{steps_beside}
+use Rattle.laws_simulation.{specs.{OutcomeLaws.StandsToMove, StandsBeside.StandsBeside, StepsBeside.StepsBeside}, proofs.{EventCounts.events_are_counted, EventPrints.prints_are_kept}}
+use Rattle.laws_refinement.{specs.{ElidedSteps.{EventStands, found_of, IsNotFinished, FinishesBeside}, FaithfulRuns.{AreEventLaws, AreElidedLaws}}, proofs.EventSteps.steps_beside}
 use Rattle.laws_refinement.proofs.MoreSteps.{recounted}
-use Rattle.laws_refinement.specs.FaithfulRuns.{AreEventLaws, AreElidedLaws}
 
 -- the steps of the event of thread t, which is x with the past d, are a plain run to a state that stands beside the next one;
 -- and its counts and prints are those of the thread then, with its past then

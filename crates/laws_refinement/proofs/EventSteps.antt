@@ -1,27 +1,13 @@
 -- Each event of a thread in no attempt is of one of the kinds whose steps are known.
-use Rattle.std.proofs.Common.{◌≡◌, ◌⊎◌, inl, inr, ℕ, ◌<◌, List, [], ◌∷◌, length, Some, None, refl, sym, subst, arith}
-use Rattle.std.specs.Prelude.{slice_get}
+use Rattle.std.proofs.Common.{◌≡◌, ◌⊎◌, inl, inr, ℕ, ◌<◌, List, [], ◌∷◌, length, Some, None, refl, sym, subst, arith, slice_get}
 use Rattle.checked_program.specs.MarkedProgram.{MarkedProgram, IsMarked}
-use Rattle.machine_types.specs.Bounds.{FramesFit}
-use Rattle.machine_types.specs.Core.{Core}
-use Rattle.machine_types.specs.Frames.{effect_at}
-use Rattle.machine_types.specs.Lawful.{within}
-use Rattle.machine_types.specs.PlainMemory.{Object}
-use Rattle.machine_types.specs.PlainState.{Plain}
-use Rattle.machine_types.specs.Threads.{Frame, Thread}
-use Rattle.machine_types.specs.Typed.{PhaseHolds}
-use Rattle.machine_types.specs.declared.config.Config.{Config}
-use Rattle.machine_types.specs.declared.effect.Effect.{Effect}
-use Rattle.machine_types.specs.declared.effect.Effect.TheVariants.{Writes, Indexes, Makes, Waits, Notifies, NotifiesAll}
-use Rattle.machine_types.specs.declared.phase.Phase.{Phase}
-use Rattle.machine_types.specs.declared.phase.Phase.TheVariants as phases
-use Rattle.laws_threads.specs.TopFrames.{Begun}
-use Rattle.laws_threads.proofs.TopStand.{frames_stand}
-use Rattle.laws_states.specs.RunFacts.{HaveWidth}
-use Rattle.laws_states.specs.StateFacts.{StateFacts}
-use Rattle.laws_simulation.specs.StandsBeside.{StandsBeside}
-use Rattle.laws_simulation.specs.StepsBeside.{StepsBeside, IsOfFrames, IsOfMemory, IsOfWaiting, GoesOnPhase, LocksPhase, WaitsPhase}
+use Rattle.machine_types.specs.{Bounds.FramesFit, Core.Core, Frames.effect_at, Lawful.within, PlainMemory.Object, PlainState.Plain, Threads.{Frame, Thread}, Typed.PhaseHolds}
+use Rattle.machine_types.specs.declared.{config.Config.Config, effect.Effect.{Effect, TheVariants.{Writes, Indexes, Makes, Waits, Notifies, NotifiesAll}}, phase.Phase.Phase}
+use Rattle.laws_threads.{specs.TopFrames.Begun, proofs.TopStand.frames_stand}
+use Rattle.laws_states.specs.{RunFacts.HaveWidth, StateFacts.StateFacts}
+use Rattle.laws_simulation.specs.{StandsBeside.StandsBeside, StepsBeside.{StepsBeside, IsOfFrames, IsOfMemory, IsOfWaiting, GoesOnPhase, LocksPhase, WaitsPhase}}
 use Rattle.laws_refinement.specs.FaithfulRuns.{AreEventLaws}
+use Rattle.machine_types.specs.declared.phase.Phase.TheVariants as phases
 
 -- ---- the kind of an instruction
 

@@ -1,16 +1,10 @@
 -- An event brings no thread to life, and leaves the part of thread 0.
-use Rattle.std.proofs.Common.{◌≡◌, ◌≢◌, ℕ, zero, suc, Bool, true, false, List, [], ◌∷◌, Option, Some, None, refl, sym, ap, subst, ◌∙◌, arith}
-use Rattle.std.specs.Prelude.{◌==◌, slice_get, slice_set}
+use Rattle.std.proofs.Common.{◌≡◌, ◌≢◌, ℕ, zero, suc, Bool, true, false, List, [], ◌∷◌, Option, Some, None, refl, sym, ap, subst, ◌∙◌, arith, ◌==◌, slice_get, slice_set}
 use Rattle.std.proofs.lemmas.Bool.Decides.{nat_tests}
 use Rattle.checked_program.specs.MarkedProgram.{MarkedProgram}
-use Rattle.machine_types.specs.Accesses.{found_by}
-use Rattle.machine_types.specs.Core.{Core, event, event_of, is_live_thread, lives}
-use Rattle.machine_types.specs.Events.{moved, wanted}
-use Rattle.machine_types.specs.Threads.{Thread}
-use Rattle.machine_types.proofs.OnlyLive.{only_live_change}
+use Rattle.machine_types.{specs.{Accesses.found_by, Core.{Core, event, event_of, is_live_thread, lives}, Events.{moved, wanted}, Threads.Thread}, proofs.{Lists.got_other, OnlyLive.only_live_change}}
 use Rattle.laws_threads.specs.GivenThread.{Given, GivenIsKept}
 use Rattle.laws_refinement.proofs.StageFits.{PartIs}
-use Rattle.machine_types.proofs.Lists.{got_other}
 
 abbrev now : MarkedProgram → Core → Thread → Thread
 now c s x = moved c x x.phase (found_by s.words (wanted c x x.phase))

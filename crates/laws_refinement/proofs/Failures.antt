@@ -1,22 +1,13 @@
 -- How an attempt ends, what a failure leaves, and that nothing else is counted as one.
 use Rattle.std.proofs.Common.{◌≡◌, ℕ, true, false, Option, Some, None, refl, sym, ap, ◌∙◌, subst}
 use Rattle.checked_program.specs.MarkedProgram.{MarkedProgram}
-use Rattle.machine_types.specs.Accesses.{found_by}
-use Rattle.machine_types.specs.Core.{Core, core, event_of}
-use Rattle.machine_types.specs.Events.{wanted, moved}
-use Rattle.machine_types.specs.History.{Fate, GoesOn, Fails, Finishes, fate}
-use Rattle.machine_types.specs.Threads.{Attempt, Thread}
-use Rattle.machine_types.specs.declared.phase.Phase.TheVariants as phases
-use Rattle.laws_threads.specs.InsideEffects.{InsideMayDo}
-use Rattle.laws_threads.specs.InsideMoves.{NoElementInside}
+use Rattle.machine_types.specs.{Accesses.found_by, Core.{Core, core, event_of}, Events.{wanted, moved}, History.{Fate, GoesOn, Fails, Finishes, fate}, Threads.{Attempt, Thread}}
+use Rattle.laws_threads.specs.{InsideEffects.InsideMayDo, InsideMoves.NoElementInside}
 use Rattle.laws_states.specs.StateLaws.{ProgramsKeepThreads, RunsHaveState}
-use Rattle.laws_refinement.proofs.Inside.{Inside}
-use Rattle.laws_refinement.proofs.InsideWords.{words_stay}
-use Rattle.laws_refinement.specs.EntryLaws.{EndsBy, HasFailed, AttemptsEnd, FailuresPutBack, OnlyFailuresCount}
-use Rattle.laws_refinement.proofs.Beginnings.{in_attempt}
-use Rattle.laws_refinement.proofs.OutsideEntries.{is_entering, MovesTo, outside_moves}
-use Rattle.laws_refinement.proofs.Within.{HasFate, inside_moves}
 use Rattle.laws_objects.proofs.ThrownInits.{moved_is}
+use Rattle.laws_refinement.{specs.EntryLaws.{EndsBy, HasFailed, AttemptsEnd, FailuresPutBack, OnlyFailuresCount}, proofs.{Beginnings.in_attempt, Inside.Inside, InsideWords.words_stay}}
+use Rattle.laws_refinement.proofs.{OutsideEntries.{is_entering, MovesTo, outside_moves}, Within.{HasFate, inside_moves}}
+use Rattle.machine_types.specs.declared.phase.Phase.TheVariants as phases
 
 module _ (c : MarkedProgram) (x y : Thread) (got : ℕ) where
   outside_counts : (o : Option Attempt) → MovesTo c x y got o → y.counts.failed ≡ x.counts.failed

@@ -1,55 +1,25 @@
 -- A run stands for a plain run, event by event, with the objects that are under construction and with what is due of attempts.
-use Rattle.std.proofs.Common.{◌≡◌, ◌≢◌, ℕ, ◌+◌, Bool, true, false, List, [], ◌∷◌, ◌++◌, length, Option, Some, None, refl, sym, ap, ◌∙◌, subst, arith, append_assoc}
-use Rattle.std.specs.Prelude.{◌==◌, replicate, slice_get, slice_set, slice_index, slice_index_or, if◌then◌else◌}
-use Rattle.std.specs.List.{range_with_len}
-use Rattle.std.proofs.lemmas.List.{append-nil, length-replicate}
-use Rattle.std.proofs.lemmas.Bool.Decides.{nat_tests, Decides-eqb}
-use Rattle.std.proofs.lemmas.Option.{slice_get_within}
+use Rattle.std.proofs.Common.{◌≡◌, ◌≢◌, ℕ, ◌+◌, Bool, true, false, List, [], ◌∷◌, ◌++◌, length, Option, Some, None, refl, sym, ap, ◌∙◌, subst, arith, append_assoc, ◌==◌, replicate, slice_get, slice_set, slice_index, slice_index_or, if◌then◌else◌}
+use Rattle.std.{specs.List.range_with_len, proofs.lemmas.{Bool.Decides.{nat_tests, Decides-eqb}, List.{append-nil, length-replicate}, Option.slice_get_within}}
 use Rattle.lists.proofs.ListLaws.{same_some}
 use Rattle.jvm_types.specs.declared.fixed_words.TheConstants.{NEXT_FREE_WORD}
 use Rattle.checked_program.specs.MarkedProgram.{MarkedProgram, IsMarked}
-use Rattle.machine_types.specs.Attempts.{Stays, IsLedToPresent, OwesNothing, Owes, Attempts}
-use Rattle.machine_types.specs.Construction.{AreFrozen, Construction}
+use Rattle.machine_types.specs.{Attempts.{Stays, IsLedToPresent, OwesNothing, Owes, Attempts}, Construction.{AreFrozen, Construction}}
 use Rattle.machine_types.specs.Core.{Core, Happening, Of, NextPart, start, event, event_of, may_begin, next, all_happened, core, outcome}
-use Rattle.machine_types.specs.Counting.{run_at, take_at, count_along, CountsFit, AreCounted}
-use Rattle.machine_types.specs.Events.{moved}
-use Rattle.machine_types.specs.Facts.{FactsBeside}
+use Rattle.machine_types.specs.{Counting.{run_at, take_at, count_along, CountsFit, AreCounted}, Events.moved, Facts.FactsBeside}
 use Rattle.machine_types.specs.Faithful.{EndsFit, PrintsFit, IsPlainRun, IsSilent, IsOver, IsFaithful}
 use Rattle.machine_types.specs.History.{Past, no_past, Told, told_start, past_after, pasts_after, told, all_told, shown_at, steps_of, shown_of, shown, shadow_from, shadow, past}
-use Rattle.machine_types.specs.PlainLaws.{InstructionsChangeMemory}
-use Rattle.machine_types.specs.PlainMemory.{Object, start_objects}
-use Rattle.machine_types.specs.PlainState.{Plain, plain_start}
-use Rattle.machine_types.specs.PlainSteps.{plain_run}
-use Rattle.machine_types.specs.Settings.{AreSettings}
-use Rattle.machine_types.specs.StartLaws.{phase_at_start}
-use Rattle.machine_types.specs.Threads.{Attempt, Thread}
-use Rattle.machine_types.specs.Worlds.{World}
-use Rattle.machine_types.specs.declared.config.Config.{Config}
-use Rattle.machine_types.specs.declared.phase.Phase.{Phase}
-use Rattle.machine_types.specs.declared.plain.PlainStep.{PlainStep}
-use Rattle.laws_threads.specs.PartLaws.{counted_next}
-use Rattle.laws_threads.specs.StateLaws.{counted_of, counted_after}
-use Rattle.laws_threads.specs.GivenThread.{GivenIsKept}
-use Rattle.laws_states.specs.HeapFacts.{objects_after}
-use Rattle.laws_states.specs.RunFacts.{HaveWidth}
-use Rattle.laws_states.specs.StateFacts.{StateFacts}
-use Rattle.laws_threads.proofs.StateSteps.{set_other as got_other}
-use Rattle.laws_objects.specs.ConstructionLaws.{no_builders, BuildsOn}
-use Rattle.laws_simulation.specs.StandsBeside.{StandsBeside}
-use Rattle.laws_simulation.specs.OutcomeLaws.{WorkersKeepNone}
-use Rattle.laws_simulation.proofs.WorkerEnds.{events_keep_none, next_keeps_none, start_keeps_none}
-use Rattle.laws_simulation.proofs.EndedParts.{ends_are_those}
-use Rattle.laws_simulation.proofs.OutcomePrints.{next_keeps_prints, start_has_prints}
-use Rattle.laws_simulation.proofs.PlainCounts.{others_are_not_counted}
-use Rattle.laws_refinement.specs.ElidedSteps.{EventStands, found_of}
-use Rattle.laws_refinement.proofs.MoreSteps.{run_on, count_on, all_one, recounted, counted_at_start}
-use Rattle.laws_refinement.proofs.SameCounts.{came_from, counted_same}
-use Rattle.laws_refinement.specs.FaithfulRuns.{AreEventLaws, AreElidedLaws, RunsFollow}
-use Rattle.laws_refinement.specs.RunsStand.{told_after, RunStands, RunsStand}
-use Rattle.laws_refinement.proofs.Pasts.{set_there, set_other, set_many}
-use Rattle.laws_refinement.proofs.NextUntried.{none_tries, same_threads}
-use Rattle.laws_refinement.proofs.EventMoves.{MovesIn, event_moves}
+use Rattle.machine_types.specs.{PlainLaws.InstructionsChangeMemory, PlainMemory.{Object, start_objects}, PlainState.{Plain, plain_start}, PlainSteps.plain_run, Settings.AreSettings}
+use Rattle.machine_types.specs.{StartLaws.phase_at_start, Threads.{Attempt, Thread}, Worlds.World, declared.{config.Config.Config, phase.Phase.Phase, plain.PlainStep.PlainStep}}
 use Rattle.machine_types.proofs.Lists.{got_when_set}
+use Rattle.laws_threads.{specs.{GivenThread.GivenIsKept, PartLaws.counted_next, StateLaws.{counted_of, counted_after}}, proofs.StateSteps.{set_other as got_other}}
+use Rattle.laws_states.specs.{HeapFacts.objects_after, RunFacts.HaveWidth, StateFacts.StateFacts}
+use Rattle.laws_objects.specs.ConstructionLaws.{no_builders, BuildsOn}
+use Rattle.laws_simulation.{specs.{OutcomeLaws.WorkersKeepNone, StandsBeside.StandsBeside}, proofs.{EndedParts.ends_are_those, OutcomePrints.{next_keeps_prints, start_has_prints}}}
+use Rattle.laws_simulation.proofs.{PlainCounts.others_are_not_counted, WorkerEnds.{events_keep_none, next_keeps_none, start_keeps_none}}
+use Rattle.laws_refinement.specs.{ElidedSteps.{EventStands, found_of}, FaithfulRuns.{AreEventLaws, AreElidedLaws, RunsFollow}, RunsStand.{told_after, RunStands, RunsStand}}
+use Rattle.laws_refinement.proofs.{EventMoves.{MovesIn, event_moves}, MoreSteps.{run_on, count_on, all_one, recounted, counted_at_start}, NextUntried.{none_tries, same_threads}}
+use Rattle.laws_refinement.proofs.{Pasts.{set_there, set_other, set_many}, SameCounts.{came_from, counted_same}}
 
 -- ---- what holds after a list of events, with its plain steps
 

@@ -1,23 +1,14 @@
 -- A private field, and a final one, is written by a method of its own class alone.
-use Rattle.std.proofs.Common.{◌≡◌, ℕ, Bool, true, false, not, ◌&&◌, List, [], ◌∷◌, Option, Some, None, refl, sym, ap, ◌∙◌, subst, inl, inr, ◌⊎◌}
-use Rattle.std.specs.Prelude.{◌==◌, slice_get, IsSomeAnd, if◌then◌else◌}
-use Rattle.std.proofs.lemmas.Bool.{and_parts}
-use Rattle.std.proofs.lemmas.Bool.Decides.{Decides-eqb}
+use Rattle.std.proofs.Common.{◌≡◌, ℕ, Bool, true, false, not, ◌&&◌, List, [], ◌∷◌, Option, Some, None, refl, sym, ap, ◌∙◌, subst, inl, inr, ◌⊎◌, ◌==◌, slice_get, IsSomeAnd, if◌then◌else◌}
+use Rattle.std.proofs.lemmas.Bool.{and_parts, Decides.Decides-eqb}
 use Rattle.jvm_types.specs.Members.{MethodSite, is_final, is_private, is_hidden, is_other_sort, first_rule, field_rule, initializes, is_init_name, is_class_init_name}
-use Rattle.jvm_types.specs.ProgramInvariant.{IsTargetOf, site_in}
-use Rattle.jvm_types.specs.declared.code.Op.{Op}
-use Rattle.jvm_types.specs.declared.code.Op.TheVariants as ops
-use Rattle.jvm_types.specs.declared.program.FieldInfo.{FieldInfo}
-use Rattle.jvm_types.specs.declared.program.MethodInfo.{MethodInfo}
-use Rattle.jvm_types.specs.declared.program.Program.{Program}
-use Rattle.jvm_types.specs.declared.program.Target.{Target}
-use Rattle.jvm_types.specs.declared.program.Target.TheVariants as targets
+use Rattle.jvm_types.specs.{ProgramInvariant.{IsTargetOf, site_in}, declared.{code.Op.Op, program.{FieldInfo.FieldInfo, MethodInfo.MethodInfo, Program.Program, Target.Target}}}
 use Rattle.jvm_types.specs.declared.refusal.LRule.TheVariants.{L2, L3, L7}
-use Rattle.machine_types.specs.Effects.{effect}
-use Rattle.machine_types.specs.declared.effect.Variable.{Variable}
-use Rattle.machine_types.specs.declared.effect.Effect.TheVariants.{Writes}
-use Rattle.laws_objects.proofs.WrittenFields.{no_static_read, no_read}
 use Rattle.laws_sections.proofs.FieldWrites.{in_init}
+use Rattle.machine_types.specs.{Effects.effect, declared.effect.{Effect.TheVariants.Writes, Variable.Variable}}
+use Rattle.laws_objects.proofs.WrittenFields.{no_static_read, no_read}
+use Rattle.jvm_types.specs.declared.code.Op.TheVariants as ops
+use Rattle.jvm_types.specs.declared.program.Target.TheVariants as targets
 
 -- ---- the rule of an instruction that writes a field
 

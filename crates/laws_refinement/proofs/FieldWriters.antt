@@ -1,59 +1,22 @@
 -- An event that changes a private or final field of an object is an instruction of a method of the object's class.
-use Rattle.std.proofs.Common.{◌≡◌, ◌⊎◌, inl, inr, ℕ, ◌<◌, Bool, true, false, List, [], ◌∷◌, length, Option, Some, None, refl, sym, ap, ◌∙◌, subst, arith}
-use Rattle.std.specs.Prelude.{Contains, slice_get, slice_index, if◌then◌else◌}
+use Rattle.std.proofs.Common.{◌≡◌, ◌⊎◌, inl, inr, ℕ, ◌<◌, Bool, true, false, List, [], ◌∷◌, length, Option, Some, None, refl, sym, ap, ◌∙◌, subst, arith, Contains, slice_get, slice_index, if◌then◌else◌}
 use Rattle.lists.proofs.ListLaws.{same_some}
-use Rattle.jvm_types.specs.CodeTable.{row}
-use Rattle.jvm_types.specs.Members.{is_final, is_private, is_static}
-use Rattle.jvm_types.specs.ProgramInvariant.{IsProgram, IsTargetOf, instances_among, site_in}
-use Rattle.jvm_types.specs.declared.class_numbers.TheConstants.{INT_ARRAY_CLASS}
-use Rattle.jvm_types.specs.declared.code.Op.{Op}
-use Rattle.jvm_types.specs.declared.code.Op.TheVariants as ops
-use Rattle.jvm_types.specs.declared.program.FieldInfo.{FieldInfo}
-use Rattle.jvm_types.specs.declared.program.MethodInfo.{MethodInfo}
-use Rattle.jvm_types.specs.declared.program.Program.{Program}
-use Rattle.jvm_types.specs.declared.program.Target.{Target}
-use Rattle.checked_program.specs.MarkedProgram.{MarkedProgram, IsMarked}
-use Rattle.checked_program.specs.TaggedCode.{row_of}
-use Rattle.laws_programs.proofs.ClassTreeLaws.{files_alone, leaves_alone}
-use Rattle.laws_programs.proofs.CodeOrder.{have_targets}
-use Rattle.laws_programs.proofs.FieldOrder.{instances_inside, one_instance_field}
-use Rattle.machine_types.specs.Accesses.{accessed, left_by, words_after}
-use Rattle.machine_types.specs.declared.access.Access.{Access}
-use Rattle.machine_types.specs.declared.access.Access.TheVariants.{Store}
-use Rattle.machine_types.specs.Core.{Core}
-use Rattle.machine_types.specs.Events.{wanted}
-use Rattle.machine_types.specs.FoundWords.{effect_content, run_content, content_at}
-use Rattle.machine_types.specs.Frames.{Top, top_of, effect_at}
-use Rattle.machine_types.specs.Instructions.{effect_wants, run_wants}
-use Rattle.machine_types.specs.Lawful.{IsLawful}
-use Rattle.machine_types.specs.Monitors.{claim}
-use Rattle.machine_types.specs.PlainMemory.{Object}
-use Rattle.machine_types.specs.Standing.{Standing}
-use Rattle.machine_types.specs.Structure.{IsStructured, Stands, TopIs, is_element_op}
-use Rattle.machine_types.specs.Threads.{Frame, Thread}
-use Rattle.machine_types.specs.Typed.{IsNullOr, FramesHold, HasClass, HasElementIn, ElementStands, IsElementOn, HasElementOn, PhaseHolds}
-use Rattle.machine_types.specs.Words.{value_word, variable_word}
-use Rattle.machine_types.specs.declared.effect.Variable.{Variable}
-use Rattle.machine_types.specs.declared.effect.Variable.TheVariants.{Instance, Static}
-use Rattle.machine_types.specs.declared.effect.Effect.{Effect}
-use Rattle.machine_types.specs.declared.effect.Effect.TheVariants.{Reads, Writes}
+use Rattle.jvm_types.specs.{CodeTable.row, Members.{is_final, is_private, is_static}, ProgramInvariant.{IsProgram, IsTargetOf, instances_among, site_in}}
+use Rattle.jvm_types.specs.declared.{class_numbers.TheConstants.INT_ARRAY_CLASS, code.Op.Op, program.{FieldInfo.FieldInfo, MethodInfo.MethodInfo, Program.Program, Target.Target}}
+use Rattle.laws_programs.proofs.{ClassTreeLaws.{files_alone, leaves_alone}, CodeOrder.have_targets, FieldOrder.{instances_inside, one_instance_field}}
+use Rattle.checked_program.specs.{MarkedProgram.{MarkedProgram, IsMarked}, TaggedCode.row_of}
+use Rattle.machine_types.specs.{Accesses.{accessed, left_by, words_after}, Core.Core, Events.wanted, FoundWords.{effect_content, run_content, content_at}, Frames.{Top, top_of, effect_at}}
+use Rattle.machine_types.specs.{Instructions.{effect_wants, run_wants}, Lawful.IsLawful, Monitors.claim, PlainMemory.Object, Standing.Standing, Structure.{IsStructured, Stands, TopIs, is_element_op}}
+use Rattle.machine_types.specs.{Threads.{Frame, Thread}, Typed.{IsNullOr, FramesHold, HasClass, HasElementIn, ElementStands, IsElementOn, HasElementOn, PhaseHolds}, Words.{value_word, variable_word}}
+use Rattle.machine_types.specs.declared.{access.Access.{Access, TheVariants.Store}, effect.{Effect.{Effect, TheVariants.{Reads, Writes}}, Variable.{Variable, TheVariants.{Instance, Static}}}}
 use Rattle.machine_types.specs.declared.phase.Phase.{Phase}
-use Rattle.machine_types.specs.declared.phase.Phase.TheVariants as phases
-use Rattle.laws_threads.specs.Allowed.{IsNamedField, TakenHold, Allowed}
-use Rattle.laws_threads.proofs.Landing.{stand_top}
-use Rattle.laws_threads.proofs.Onwards.{same_op}
-use Rattle.laws_threads.proofs.Standings.{top_here}
-use Rattle.laws_threads.proofs.TopEffects.{taken_here, allowed_here}
-use Rattle.laws_states.specs.HeapFacts.{HeapFacts}
-use Rattle.laws_states.specs.SiteLaws.{EventsReachSites, SitesDiffer, SitesLieInside}
-use Rattle.laws_states.specs.Sites.{Site, ValueOf, StaticAt, site_word, Suits}
-use Rattle.laws_states.proofs.Accesses.{out_there}
-use Rattle.laws_states.proofs.Lists.{contained_got}
-use Rattle.laws_states.proofs.Places.{same_object}
-use Rattle.laws_states.proofs.EventWords.{IsLeft, word_at}
-use Rattle.laws_states.proofs.LeftStands.{loaded}
-use Rattle.laws_refinement.proofs.FieldRules.{written_by}
+use Rattle.laws_threads.{specs.Allowed.{IsNamedField, TakenHold, Allowed}, proofs.{Landing.stand_top, Onwards.same_op, Standings.top_here, TopEffects.{taken_here, allowed_here}}}
+use Rattle.laws_states.{specs.{HeapFacts.HeapFacts, SiteLaws.{EventsReachSites, SitesDiffer, SitesLieInside}, Sites.{Site, ValueOf, StaticAt, site_word, Suits}}, proofs.Accesses.out_there}
+use Rattle.laws_states.proofs.{EventWords.{IsLeft, word_at}, LeftStands.loaded, Lists.contained_got, Places.same_object}
 use Rattle.laws_objects.proofs.FieldWriters.{leave_suits_none}
+use Rattle.laws_refinement.proofs.FieldRules.{written_by}
+use Rattle.jvm_types.specs.declared.code.Op.TheVariants as ops
+use Rattle.machine_types.specs.declared.phase.Phase.TheVariants as phases
 
 -- the top frame is that of a method of the class
 abbrev pub TopIsOf : Program → (class : ℕ) → List Frame → Type 0

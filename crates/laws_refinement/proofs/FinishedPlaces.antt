@@ -1,24 +1,13 @@
 -- A place that stays while an attempt goes on has in the plain machine the value that stands in its word.
-use Rattle.std.proofs.Common.{◌≡◌, ℕ, ◌<◌, true, false, List, length, Some, refl, sym, ap, ◌∙◌, subst, arith}
-use Rattle.std.specs.Prelude.{slice_get, slice_index}
+use Rattle.std.proofs.Common.{◌≡◌, ℕ, ◌<◌, true, false, List, length, Some, refl, sym, ap, ◌∙◌, subst, arith, slice_get, slice_index}
 use Rattle.lists.proofs.ListLaws.{same_some}
-use Rattle.jvm_types.specs.Members.{is_static}
-use Rattle.jvm_types.specs.ProgramInvariant.{IsProgram, instances_among}
-use Rattle.jvm_types.specs.declared.program.FieldInfo.{FieldInfo}
+use Rattle.jvm_types.specs.{Members.is_static, ProgramInvariant.{IsProgram, instances_among}, declared.program.FieldInfo.FieldInfo}
 use Rattle.laws_programs.proofs.FieldOrder.{instances_inside}
 use Rattle.checked_program.specs.MarkedProgram.{MarkedProgram, IsMarked}
-use Rattle.machine_types.specs.Attempts.{IsFieldAt, Stays, header, frozen, guarded, frozen_static, guarded_static}
-use Rattle.machine_types.specs.Core.{Core}
-use Rattle.machine_types.specs.PlainMemory.{Object}
-use Rattle.machine_types.specs.PlainState.{Plain, value_at}
-use Rattle.machine_types.specs.Words.{value_word}
+use Rattle.machine_types.specs.{Attempts.{IsFieldAt, Stays, header, frozen, guarded, frozen_static, guarded_static}, Core.Core, PlainMemory.Object, PlainState.{Plain, value_at}, Words.value_word}
 use Rattle.machine_types.specs.Worlds.{World}
-use Rattle.laws_states.specs.HeapFacts.{HeapFacts}
-use Rattle.laws_states.specs.SiteLaws.{SitesDiffer}
-use Rattle.laws_states.specs.Sites.{HeaderOf, ValueOf, StaticAt}
-use Rattle.laws_states.proofs.Lists.{contained_got}
-use Rattle.laws_simulation.specs.StandsBeside.{StandsBeside}
-use Rattle.laws_simulation.proofs.PlainValues.{value_found}
+use Rattle.laws_states.{specs.{HeapFacts.HeapFacts, SiteLaws.SitesDiffer, Sites.{HeaderOf, ValueOf, StaticAt}}, proofs.Lists.contained_got}
+use Rattle.laws_simulation.{specs.StandsBeside.StandsBeside, proofs.PlainValues.value_found}
 
 module _ (differ : SitesDiffer) (c : MarkedProgram) (objects : List Object) (s : Core) (q : Plain) (marked : IsMarked c) (heap : HeapFacts c objects s) (beside : StandsBeside c.program objects s q) (w : World) (next t : ℕ) where
   is_program : IsProgram c.program

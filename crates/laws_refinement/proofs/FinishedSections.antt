@@ -1,64 +1,26 @@
 -- Where a section is done that ran without its lock, its entry, what it did and its exit are a run of the plain machine, to a state
 -- that the new one stands beside.
-use Rattle.std.proofs.Common.{◌≡◌, ◌≢◌, ◌⊎◌, inl, inr, ℕ, suc, ◌≤◌, false, cond, List, [], ◌∷◌, Option, Some, None, refl, sym, ap, ◌∙◌, subst, arith}
-use Rattle.std.specs.Prelude.{slice_get, slice_index, slice_set}
+use Rattle.std.proofs.Common.{◌≡◌, ◌≢◌, ◌⊎◌, inl, inr, ℕ, suc, ◌≤◌, false, cond, List, [], ◌∷◌, Option, Some, None, refl, sym, ap, ◌∙◌, subst, arith, slice_get, slice_index, slice_set}
 use Rattle.jvm_types.specs.declared.fixed_words.TheConstants.{FIRST_READY_WORD, NEXT_FREE_WORD}
-use Rattle.jvm_types.specs.declared.outcome.End.TheVariants as ends
 use Rattle.checked_program.specs.MarkedProgram.{MarkedProgram, IsMarked}
-use Rattle.machine_types.specs.Accesses.{found_by}
-use Rattle.machine_types.specs.Agreement.{AttemptFits, ThreadFits, depth_for, has_wait_bit}
-use Rattle.machine_types.specs.Attempts.{Owes}
-use Rattle.machine_types.specs.Core.{Core, event}
-use Rattle.machine_types.specs.Counting.{run_at, take_at, count_along}
-use Rattle.machine_types.specs.Elision.{elided}
-use Rattle.machine_types.specs.Events.{wanted}
-use Rattle.machine_types.specs.Going.{goes_on}
-use Rattle.machine_types.specs.HeldMonitors.{depth_at, held_at}
-use Rattle.machine_types.specs.History.{Fate, Finishes, Past, fate, shown_at, shown_by, steps_of}
-use Rattle.machine_types.specs.LockWords.{lock_of}
-use Rattle.machine_types.specs.Onward.{Onward, after}
-use Rattle.machine_types.specs.Owners.{hold_by_word, lock_at, owner_at, references_of}
-use Rattle.machine_types.specs.PlainMemory.{Object}
-use Rattle.machine_types.specs.PlainState.{Plain, PlainThread, Holding, value_at, holding_at}
-use Rattle.machine_types.specs.PlainState as plain
-use Rattle.machine_types.specs.PlainSteps.{plain_run}
-use Rattle.machine_types.specs.Replay.{replayed, at_entry, at_present}
-use Rattle.machine_types.specs.Structure.{IsAs, Stands}
-use Rattle.machine_types.specs.Threads.{Attempt, Thread}
-use Rattle.machine_types.specs.Typed.{AttemptHolds, HasClass, PhaseHolds}
-use Rattle.machine_types.specs.Worlds.{World}
-use Rattle.machine_types.specs.declared.config.Config.{Config}
-use Rattle.machine_types.specs.declared.lock.Held.{Held}
-use Rattle.machine_types.specs.declared.lock.LockWord.{LockWord}
-use Rattle.machine_types.specs.declared.lock.LockWord.TheVariants as locks
-use Rattle.machine_types.specs.declared.phase.Phase.{Phase}
-use Rattle.machine_types.specs.declared.phase.Phase.TheVariants as phases
-use Rattle.machine_types.specs.declared.plain.Act.{Act}
-use Rattle.machine_types.proofs.AttemptReplay.{hold}
-use Rattle.laws_threads.proofs.Releases.{goes_behind}
-use Rattle.laws_states.specs.HeapFacts.{objects_after, objects_by, objects_of}
-use Rattle.laws_states.specs.SiteLaws.{SitesDiffer}
-use Rattle.laws_states.specs.Sites.{HasObject}
-use Rattle.laws_states.proofs.Lists.{contained_got, same_or_not}
-use Rattle.laws_states.proofs.Phases.{IsOldPhase}
-use Rattle.laws_states.proofs.LockViews.{not_held}
-use Rattle.laws_states.proofs.WordViews.{lock_of_word, object_has}
-use Rattle.laws_states.specs.StateFacts.{StateFacts}
-use Rattle.laws_simulation.specs.StandsBeside.{StandsBeside, end_of_done}
-use Rattle.laws_simulation.proofs.Assembled.{got_same_length, moved_beside}
-use Rattle.laws_simulation.proofs.GoingOnAlike.{IsUnderWay, OwnFits, going_alike, none_ends}
-use Rattle.laws_simulation.proofs.HoldingsAlike.{depth_is_held, free_then, put_else, without_else}
-use Rattle.laws_simulation.proofs.OwnBits.{IsAwake, no_own_bit}
-use Rattle.laws_simulation.proofs.WaitBits.{same_wait_bit}
-use Rattle.laws_simulation.proofs.Moving.{goes_old, goes_part}
-use Rattle.laws_simulation.proofs.Landing.{never_made}
-use Rattle.laws_refinement.specs.ElidedSteps.{FinishesBeside, SectionsFinish, found_of}
-use Rattle.laws_refinement.proofs.DoneSections.{IsDone, is_done, as_noted, event_is}
-use Rattle.laws_refinement.proofs.PartsUnderWay.{part_runs}
-use Rattle.laws_refinement.proofs.FinishedPlaces.{staying_value}
-use Rattle.laws_refinement.proofs.WholeSections.{IsWhole, whole, holdings_behind, at_end, behind_section, section_acts}
+use Rattle.machine_types.specs.{Accesses.found_by, Agreement.{AttemptFits, ThreadFits, depth_for, has_wait_bit}, Attempts.Owes, Core.{Core, event}, Counting.{run_at, take_at, count_along}}
+use Rattle.machine_types.specs.{Elision.elided, Events.wanted, Going.goes_on, HeldMonitors.{depth_at, held_at}, History.{Fate, Finishes, Past, fate, shown_at, shown_by, steps_of}, LockWords.lock_of}
+use Rattle.machine_types.specs.{Onward.{Onward, after}, Owners.{hold_by_word, lock_at, owner_at, references_of}, PlainMemory.Object, PlainState.{Plain, PlainThread, Holding, value_at, holding_at}}
+use Rattle.machine_types.specs.{PlainSteps.plain_run, Replay.{replayed, at_entry, at_present}, Structure.{IsAs, Stands}, Threads.{Attempt, Thread}, Typed.{AttemptHolds, HasClass, PhaseHolds}}
+use Rattle.machine_types.{specs.{Worlds.World, declared.{config.Config.Config, lock.{Held.Held, LockWord.LockWord}, phase.Phase.Phase, plain.Act.Act}}, proofs.AttemptReplay.hold}
 use Rattle.machine_types.proofs.PlainStepLaws.{none_left}
-use Rattle.laws_threads.proofs.ThreadMove.{goes_held, goes_attempt}
+use Rattle.laws_threads.proofs.{Releases.goes_behind, ThreadMove.{goes_held, goes_attempt}}
+use Rattle.laws_states.{specs.{HeapFacts.{objects_after, objects_by, objects_of}, SiteLaws.SitesDiffer, Sites.HasObject, StateFacts.StateFacts}, proofs.Lists.{contained_got, same_or_not}}
+use Rattle.laws_states.proofs.{LockViews.not_held, Phases.IsOldPhase, WordViews.{lock_of_word, object_has}}
+use Rattle.laws_simulation.{specs.StandsBeside.{StandsBeside, end_of_done}, proofs.{Assembled.{got_same_length, moved_beside}, GoingOnAlike.{IsUnderWay, OwnFits, going_alike, none_ends}}}
+use Rattle.laws_simulation.proofs.{HoldingsAlike.{depth_is_held, free_then, put_else, without_else}, Landing.never_made, Moving.{goes_old, goes_part}, OwnBits.{IsAwake, no_own_bit}}
+use Rattle.laws_simulation.proofs.WaitBits.{same_wait_bit}
+use Rattle.laws_refinement.{specs.ElidedSteps.{FinishesBeside, SectionsFinish, found_of}, proofs.{DoneSections.{IsDone, is_done, as_noted, event_is}, FinishedPlaces.staying_value}}
+use Rattle.laws_refinement.proofs.{PartsUnderWay.part_runs, WholeSections.{IsWhole, whole, holdings_behind, at_end, behind_section, section_acts}}
+use Rattle.jvm_types.specs.declared.outcome.End.TheVariants as ends
+use Rattle.machine_types.specs.PlainState as plain
+use Rattle.machine_types.specs.declared.lock.LockWord.TheVariants as locks
+use Rattle.machine_types.specs.declared.phase.Phase.TheVariants as phases
 
 -- ---- holdings: the monitor is free before and behind, and the others are as they were
 

@@ -1,35 +1,18 @@
 -- An event never leaves the word of a free lock with the count that an attempt noted, unless it stood there before: a release
 -- raises the count.
-use Rattle.std.proofs.Common.{◌≡◌, ◌≢◌, ℕ, zero, suc, ◌+◌, ◌<◌, ◌≤◌, nat_lt, nat_le, Bool, true, false, Option, Some, None, refl, sym, ap, ◌∙◌, subst, arith}
-use Rattle.std.specs.Prelude.{◌==◌, slice_get, if◌then◌else◌}
-use Rattle.jvm_types.specs.declared.program.FieldInfo.{FieldInfo}
-use Rattle.jvm_types.specs.declared.program.Kind.{Kind}
-use Rattle.jvm_types.specs.declared.program.Kind.TheVariants as kinds
-use Rattle.jvm_types.specs.declared.program.Program.{Program}
-use Rattle.jvm_types.specs.declared.program.Target.{Target}
-use Rattle.jvm_types.specs.declared.program.Target.TheVariants as targets
+use Rattle.std.proofs.Common.{◌≡◌, ◌≢◌, ℕ, zero, suc, ◌+◌, ◌<◌, ◌≤◌, nat_lt, nat_le, Bool, true, false, Option, Some, None, refl, sym, ap, ◌∙◌, subst, arith, ◌==◌, slice_get, if◌then◌else◌}
+use Rattle.jvm_types.specs.declared.program.{FieldInfo.FieldInfo, Kind.Kind, Program.Program, Target.Target}
 use Rattle.checked_program.specs.MarkedProgram.{MarkedProgram}
-use Rattle.machine_types.specs.Accesses.{accessed, left_by}
-use Rattle.machine_types.specs.declared.access.Access.{Access}
-use Rattle.machine_types.specs.Events.{wanted}
-use Rattle.machine_types.specs.FoundWords.{kind_content, field_content, variable_content, effect_content, run_content, leave_content, content_at}
-use Rattle.machine_types.specs.Frames.{Top, top_of, effect_at}
-use Rattle.machine_types.specs.HeldMonitors.{held_at}
-use Rattle.machine_types.specs.Instructions.{effect_wants, run_wants}
-use Rattle.machine_types.specs.LockWords.{word_of_lock}
-use Rattle.machine_types.specs.Monitors.{Claim, Has, Tries, HasNot, claim_by, count_kept, enter_wants, finish_wants, freed, leave_wants, release}
-use Rattle.machine_types.specs.Structure.{IsFlat}
-use Rattle.machine_types.specs.Threads.{Attempt, Thread}
-use Rattle.machine_types.specs.declared.effect.Effect.{Effect}
-use Rattle.machine_types.specs.declared.effect.Effect.TheVariants.{Goes, Calls, Reads, Writes}
-use Rattle.machine_types.specs.declared.lock.Held.{Held}
-use Rattle.machine_types.specs.declared.lock.Kept.{Kept}
+use Rattle.machine_types.specs.{Accesses.{accessed, left_by}, Events.wanted, FoundWords.{kind_content, field_content, variable_content, effect_content, run_content, leave_content, content_at}}
+use Rattle.machine_types.specs.{Frames.{Top, top_of, effect_at}, HeldMonitors.held_at, Instructions.{effect_wants, run_wants}, LockWords.word_of_lock}
+use Rattle.machine_types.specs.{Monitors.{Claim, Has, Tries, HasNot, claim_by, count_kept, enter_wants, finish_wants, freed, leave_wants, release}, Structure.IsFlat, Threads.{Attempt, Thread}}
+use Rattle.machine_types.specs.declared.{access.Access.Access, effect.Effect.{Effect, TheVariants.{Goes, Calls, Reads, Writes}}, lock.{Held.Held, Kept.Kept}, phase.Phase.Phase}
+use Rattle.laws_states.{specs.Sites.{LockOf, Suits}, proofs.LeftStands.{leaves, no_access, loaded, looked, checked}}
+use Rattle.jvm_types.specs.declared.program.Kind.TheVariants as kinds
+use Rattle.jvm_types.specs.declared.program.Target.TheVariants as targets
 use Rattle.machine_types.specs.declared.lock.Kept.TheVariants as keeps
 use Rattle.machine_types.specs.declared.lock.LockWord.TheVariants as locks
-use Rattle.machine_types.specs.declared.phase.Phase.{Phase}
 use Rattle.machine_types.specs.declared.phase.Phase.TheVariants as phases
-use Rattle.laws_states.specs.Sites.{LockOf, Suits}
-use Rattle.laws_states.proofs.LeftStands.{leaves, no_access, loaded, looked, checked}
 
 -- ---- a field is no lock word
 

@@ -1,25 +1,16 @@
 -- A thread inside an attempt goes on as its replay does.
-use Rattle.std.proofs.Common.{◌≡◌, ℕ, ◌<◌, Bool, true, false, cond, List, [], ◌∷◌, ◌++◌, length, Option, Some, None, refl, sym, ap, ◌∙◌, subst, arith}
-use Rattle.std.specs.Prelude.{◌==◌, nat_lt, option_and_then, slice_index}
-use Rattle.jvm_types.specs.declared.outcome.End.{End}
-use Rattle.jvm_types.specs.declared.outcome.End.TheVariants as ends
-use Rattle.jvm_types.specs.declared.program.Program.{Program}
+use Rattle.std.proofs.Common.{◌≡◌, ℕ, ◌<◌, Bool, true, false, cond, List, [], ◌∷◌, ◌++◌, length, Option, Some, None, refl, sym, ap, ◌∙◌, subst, arith, ◌==◌, nat_lt, option_and_then, slice_index}
+use Rattle.lists.proofs.TestLaws.{same_number}
+use Rattle.jvm_types.specs.declared.{outcome.End.End, program.Program.Program}
 use Rattle.checked_program.specs.MarkedProgram.{MarkedProgram}
-use Rattle.machine_types.specs.Elision.{put_back}
-use Rattle.machine_types.specs.Going.{goes_on}
-use Rattle.machine_types.specs.History.{with_begun}
-use Rattle.machine_types.specs.Onward.{Onward, Running, Throwing, Entering, Leaving, RootReturned, Uncaught}
-use Rattle.machine_types.specs.PlainState.{PlainThread, Status}
-use Rattle.machine_types.specs.PlainState as plain
-use Rattle.machine_types.specs.Replay.{Alone, only_on, replay_act, replayed, status_inside, at_entry, at_present}
-use Rattle.machine_types.specs.Structure.{IsAs, IsStructured, IsPhaseInside, AttemptStands, AttemptStandsIn}
-use Rattle.machine_types.specs.Threads.{Attempt, Thread}
-use Rattle.machine_types.specs.declared.phase.Phase.{Phase}
-use Rattle.machine_types.specs.declared.phase.Phase.TheVariants as phases
-use Rattle.machine_types.specs.declared.plain.Act.{Act}
+use Rattle.machine_types.specs.{Elision.put_back, Going.goes_on, History.with_begun, Onward.{Onward, Running, Throwing, Entering, Leaving, RootReturned, Uncaught}, PlainState.{PlainThread, Status}}
+use Rattle.machine_types.specs.{Replay.{Alone, only_on, replay_act, replayed, status_inside, at_entry, at_present}, Structure.{IsAs, IsStructured, IsPhaseInside, AttemptStands, AttemptStandsIn}}
+use Rattle.machine_types.specs.{Threads.{Attempt, Thread}, declared.{phase.Phase.Phase, plain.Act.Act}}
 use Rattle.laws_threads.specs.EntryFrames.{KeepsEntry}
 use Rattle.laws_states.proofs.PlainMoves.{goes_attempt}
-use Rattle.lists.proofs.TestLaws.{same_number}
+use Rattle.jvm_types.specs.declared.outcome.End.TheVariants as ends
+use Rattle.machine_types.specs.PlainState as plain
+use Rattle.machine_types.specs.declared.phase.Phase.TheVariants as phases
 
 -- ---- the same attempt, with so many entries inside
 

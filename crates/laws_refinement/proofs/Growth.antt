@@ -1,36 +1,19 @@
 -- An event keeps the fact on the attempt of its own thread.
-use Rattle.std.proofs.Common.{◌≡◌, ◌⊎◌, inl, inr, ℕ, suc, Bool, List, [], ◌++◌, Option, Some, None, refl, sym, ap, ◌∙◌, subst, arith}
-use Rattle.std.specs.Prelude.{slice_get, slice_index}
+use Rattle.std.proofs.Common.{◌≡◌, ◌⊎◌, inl, inr, ℕ, suc, Bool, List, [], ◌++◌, Option, Some, None, refl, sym, ap, ◌∙◌, subst, arith, slice_get, slice_index}
 use Rattle.checked_program.specs.MarkedProgram.{MarkedProgram}
-use Rattle.machine_types.specs.Attempts.{IsFieldAt, Stays, IsAsNoted, Owes, OwesNothing}
+use Rattle.machine_types.specs.{Attempts.{IsFieldAt, Stays, IsAsNoted, Owes, OwesNothing}, Core.{Core, accessed_by, event_of, event}, Events.{wanted, moved}}
+use Rattle.machine_types.specs.{History.{Fate, GoesOn, Fails, Finishes, Past, fate, acts_of, past_by, past_after}, LockWords.word_of_lock, PlainMemory.Object}
+use Rattle.machine_types.specs.{Replay.{Alone, replayed, status_inside, at_entry, at_present}, Structure.{IsAs, IsStructured}, Threads.{Attempt, Thread}, Worlds.{Builder, World, IsOwnOrFinished}}
+use Rattle.machine_types.{specs.declared.{config.Config.Config, phase.Phase.Phase, plain.Act.Act}, proofs.Lists.got_when_set}
+use Rattle.laws_threads.specs.{StateLaws.counted_after, TopFrames.EffectsAreAllowed}
+use Rattle.laws_states.{specs.{FoundLaws.HeapWordsFit, HeapFacts.{objects_after, objects_of}}, proofs.Lists.same_or_not}
+use Rattle.laws_refinement.{specs.ElidedSteps.{OwnKeepsAttempt, EventStands, found_of, next_free}, proofs.{GoingOn.{Grows, Knows, inner_as, replayed_more}, Instructions.ByFate}}
+use Rattle.laws_refinement.proofs.{OutsideAttempts.{BeginsIf, IsAtInstruction, outside_moves}, Phases.{EventInside, event_inside}}
 use Rattle.machine_types.specs.Attempts as attempts
-use Rattle.machine_types.specs.Core.{Core, accessed_by, event_of, event}
-use Rattle.machine_types.specs.Events.{wanted, moved}
-use Rattle.machine_types.specs.History.{Fate, GoesOn, Fails, Finishes, Past, fate, acts_of, past_by, past_after}
-use Rattle.machine_types.specs.LockWords.{word_of_lock}
-use Rattle.machine_types.specs.PlainMemory.{Object}
 use Rattle.machine_types.specs.PlainState as plain
-use Rattle.machine_types.specs.Replay.{Alone, replayed, status_inside, at_entry, at_present}
-use Rattle.machine_types.specs.Structure.{IsAs, IsStructured}
-use Rattle.machine_types.specs.Threads.{Attempt, Thread}
-use Rattle.machine_types.specs.Worlds.{Builder, World, IsOwnOrFinished}
 use Rattle.machine_types.specs.Worlds as worlds
-use Rattle.machine_types.specs.declared.config.Config.{Config}
 use Rattle.machine_types.specs.declared.lock.LockWord.TheVariants as locks
-use Rattle.machine_types.specs.declared.phase.Phase.{Phase}
 use Rattle.machine_types.specs.declared.phase.Phase.TheVariants as phases
-use Rattle.machine_types.specs.declared.plain.Act.{Act}
-use Rattle.laws_threads.specs.TopFrames.{EffectsAreAllowed}
-use Rattle.laws_threads.specs.StateLaws.{counted_after}
-use Rattle.laws_states.specs.FoundLaws.{HeapWordsFit}
-use Rattle.laws_states.specs.HeapFacts.{objects_after, objects_of}
-use Rattle.laws_states.proofs.Lists.{same_or_not}
-use Rattle.laws_refinement.specs.ElidedSteps.{OwnKeepsAttempt, EventStands, found_of, next_free}
-use Rattle.laws_refinement.proofs.GoingOn.{Grows, Knows, inner_as, replayed_more}
-use Rattle.laws_refinement.proofs.Instructions.{ByFate}
-use Rattle.laws_refinement.proofs.OutsideAttempts.{BeginsIf, IsAtInstruction, outside_moves}
-use Rattle.laws_refinement.proofs.Phases.{EventInside, event_inside}
-use Rattle.machine_types.proofs.Lists.{got_when_set}
 
 -- ---- places that stay go on to stay
 

@@ -2,23 +2,13 @@
 -- the instruction of its top frame may do.
 use Rattle.std.proofs.Common.{◌≡◌, ℕ, ◌<◌, Bool, false, cond, List, [], ◌∷◌, length, Option, Some, None, refl, ap, ◌∙◌, subst, arith}
 use Rattle.jvm_types.specs.declared.outcome.End.{End}
-use Rattle.jvm_types.specs.declared.outcome.End.TheVariants as ends
 use Rattle.checked_program.specs.MarkedProgram.{MarkedProgram, IsMarked}
-use Rattle.machine_types.specs.Frames.{Top, top_of, effect_at}
-use Rattle.machine_types.specs.HeldMonitors.{held_at}
-use Rattle.machine_types.specs.Monitors.{Tries, HasNot, claim, claim_by}
-use Rattle.machine_types.specs.Parts.{has_finished}
-use Rattle.machine_types.specs.Shown.{Show}
-use Rattle.machine_types.specs.Standing.{Whole}
-use Rattle.machine_types.specs.Structure.{AttemptStands, AttemptStandsIn, IsAs, IsLimitAt, IsStructured, Stands}
-use Rattle.machine_types.specs.Threads.{Attempt, Frame, Thread}
-use Rattle.machine_types.specs.declared.lock.Held.{Held}
-use Rattle.machine_types.specs.declared.phase.Phase.{Phase}
-use Rattle.machine_types.specs.declared.phase.Phase.TheVariants as phases
-use Rattle.laws_threads.proofs.FramePlaces.{has_top}
-use Rattle.laws_threads.specs.InsideEffects.{InsideMayDo, MayDo}
-use Rattle.laws_threads.specs.InsideMoves.{NoElementInside}
+use Rattle.machine_types.specs.{Frames.{Top, top_of, effect_at}, HeldMonitors.held_at, Monitors.{Tries, HasNot, claim, claim_by}, Parts.has_finished, Shown.Show, Standing.Whole}
+use Rattle.machine_types.specs.{Structure.{AttemptStands, AttemptStandsIn, IsAs, IsLimitAt, IsStructured, Stands}, Threads.{Attempt, Frame, Thread}, declared.{lock.Held.Held, phase.Phase.Phase}}
 use Rattle.machine_types.proofs.PlainStepLaws.{is_same}
+use Rattle.laws_threads.{specs.{InsideEffects.{InsideMayDo, MayDo}, InsideMoves.NoElementInside}, proofs.FramePlaces.has_top}
+use Rattle.jvm_types.specs.declared.outcome.End.TheVariants as ends
+use Rattle.machine_types.specs.declared.phase.Phase.TheVariants as phases
 
 -- ---- what is known
 

@@ -1,38 +1,19 @@
 -- While a section that was entered without its lock is not done, its thread stands for one that is still about to enter: the same
 -- plain state stands beside.
-use Rattle.std.proofs.Common.{◌≡◌, ℕ, zero, suc, ◌<◌, Bool, true, false, List, [], ◌∷◌, length, Option, Some, refl, sym, ap, ◌∙◌, subst}
-use Rattle.std.specs.Prelude.{slice_get, slice_set, if◌then◌else◌}
-use Rattle.jvm_types.specs.declared.outcome.End.{End}
-use Rattle.jvm_types.specs.declared.outcome.End.TheVariants as ends
-use Rattle.jvm_types.specs.declared.program.Program.{Program}
+use Rattle.std.proofs.Common.{◌≡◌, ℕ, zero, suc, ◌<◌, Bool, true, false, List, [], ◌∷◌, length, Option, Some, refl, sym, ap, ◌∙◌, subst, slice_get, slice_set, if◌then◌else◌}
+use Rattle.jvm_types.specs.declared.{outcome.End.End, program.Program.Program}
 use Rattle.checked_program.specs.MarkedProgram.{MarkedProgram}
-use Rattle.machine_types.specs.Agreement.{AttemptFits, StatusFits, ThreadFits, depth_of, frames_shown, has_wait_bit, roots_shown}
-use Rattle.machine_types.specs.Core.{Core, event, event_of}
-use Rattle.machine_types.specs.Events.{moved}
-use Rattle.machine_types.specs.HeldMonitors.{depth_at}
-use Rattle.machine_types.specs.History.{Fate, GoesOn, Fails, Finishes, fate}
-use Rattle.machine_types.specs.Owners.{references_of}
-use Rattle.machine_types.specs.Parts.{done_roots, has_finished}
-use Rattle.machine_types.specs.PlainMemory.{Object}
-use Rattle.machine_types.specs.PlainState.{Plain, PlainThread}
-use Rattle.machine_types.specs.PlainState as plain
-use Rattle.machine_types.specs.Threads.{Attempt, Thread}
-use Rattle.machine_types.specs.declared.lock.Held.{Held}
-use Rattle.machine_types.specs.declared.phase.Phase.{Phase}
-use Rattle.machine_types.specs.declared.phase.Phase.TheVariants as phases
-use Rattle.laws_threads.specs.EntryFrames.{StepsKeepEntry, ThrowsKeepEntry, LeavesKeepEntry}
-use Rattle.laws_threads.specs.InsideEffects.{InsideMayDo}
-use Rattle.laws_threads.specs.InsideMoves.{NoElementInside}
-use Rattle.laws_threads.specs.StateLaws.{counted_after}
-use Rattle.laws_states.specs.HeapFacts.{objects_by, objects_of}
-use Rattle.laws_states.specs.StateLaws.{EventsKeepState}
-use Rattle.laws_simulation.specs.StandsBeside.{StandsBeside, end_of_done, ends_shown, own_end}
-use Rattle.laws_simulation.proofs.Assembled.{got_same_length, moved_beside}
-use Rattle.laws_refinement.specs.ElidedSteps.{AttemptsStandBeside, IsNotFinished, found_of}
-use Rattle.laws_refinement.proofs.Inside.{Inside, KnownInside, is_inside}
-use Rattle.laws_refinement.proofs.InsideMoves.{Moves, moves_inside}
+use Rattle.machine_types.specs.{Agreement.{AttemptFits, StatusFits, ThreadFits, depth_of, frames_shown, has_wait_bit, roots_shown}, Core.{Core, event, event_of}, Events.moved, HeldMonitors.depth_at}
+use Rattle.machine_types.specs.{History.{Fate, GoesOn, Fails, Finishes, fate}, Owners.references_of, Parts.{done_roots, has_finished}, PlainMemory.Object, PlainState.{Plain, PlainThread}}
+use Rattle.machine_types.{specs.{Threads.{Attempt, Thread}, declared.{lock.Held.Held, phase.Phase.Phase}}, proofs.Lists.{set_as_it_is, got_when_set}}
+use Rattle.laws_threads.specs.{EntryFrames.{StepsKeepEntry, ThrowsKeepEntry, LeavesKeepEntry}, InsideEffects.InsideMayDo, InsideMoves.NoElementInside, StateLaws.counted_after}
+use Rattle.laws_states.specs.{HeapFacts.{objects_by, objects_of}, StateLaws.EventsKeepState}
+use Rattle.laws_simulation.{specs.StandsBeside.{StandsBeside, end_of_done, ends_shown, own_end}, proofs.Assembled.{got_same_length, moved_beside}}
+use Rattle.laws_refinement.{specs.ElidedSteps.{AttemptsStandBeside, IsNotFinished, found_of}, proofs.{Inside.{Inside, KnownInside, is_inside}, InsideMoves.{Moves, moves_inside}}}
 use Rattle.laws_refinement.proofs.InsideWords.{words_stay}
-use Rattle.machine_types.proofs.Lists.{set_as_it_is, got_when_set}
+use Rattle.jvm_types.specs.declared.outcome.End.TheVariants as ends
+use Rattle.machine_types.specs.PlainState as plain
+use Rattle.machine_types.specs.declared.phase.Phase.TheVariants as phases
 
 -- ---- inside an attempt a part neither ends by itself nor makes an object
 

@@ -1,26 +1,15 @@
 -- What a thread becomes by an event inside an attempt: it goes on in frames that are those of the entry but for what the section
 -- added, or the attempt fails, or the section is done.
-use Rattle.std.proofs.Common.{◌≡◌, ℕ, zero, suc, ◌+◌, ◌<◌, nat_lt, Bool, true, false, cond, length, Option, Some, None, refl, sym, ap, ◌∙◌, subst, arith}
-use Rattle.std.proofs.lemmas.Bool.Decides.{nat_tests}
-use Rattle.checked_program.specs.MarkedProgram.{MarkedProgram}
-use Rattle.machine_types.specs.Elision.{may_try, put_back, is_same, is_checked, if_same, fails, elided}
-use Rattle.machine_types.specs.Events.{moved}
-use Rattle.machine_types.specs.Frames.{Top, top_of, effect_at}
-use Rattle.machine_types.specs.Going.{with_phase, goes_on, goes_on_if, goes_after}
-use Rattle.machine_types.specs.History.{Fate, GoesOn, Fails, Finishes, fate, fate_by, run_fate, leave_fate, with_begun}
-use Rattle.machine_types.specs.Instructions.{begun, did, instructed, ran}
-use Rattle.machine_types.specs.Monitors.{Claim, finishes, enter_moves, leave_moves}
-use Rattle.machine_types.specs.Onward.{Onward, Running, Throwing, Entering, Leaving, RootReturned, Uncaught, dispatched, after, done}
-use Rattle.machine_types.specs.Threads.{Attempt, Thread}
-use Rattle.machine_types.specs.declared.effect.Effect.{Effect}
-use Rattle.machine_types.specs.declared.effect.Effect.TheVariants.{Writes, Indexes, Makes, Prints, Waits, Notifies, NotifiesAll}
-use Rattle.machine_types.specs.declared.phase.After.{After}
-use Rattle.machine_types.specs.declared.phase.Phase.{Phase}
-use Rattle.machine_types.specs.declared.phase.Phase.TheVariants as phases
-use Rattle.laws_threads.specs.EntryFrames.{KeepsEntry, StepsKeepEntry, ThrowsKeepEntry, LeavesKeepEntry}
-use Rattle.laws_threads.specs.InsideEffects.{MayDo}
+use Rattle.std.proofs.{Common.{◌≡◌, ℕ, zero, suc, ◌+◌, ◌<◌, nat_lt, Bool, true, false, cond, length, Option, Some, None, refl, sym, ap, ◌∙◌, subst, arith}, lemmas.Bool.Decides.nat_tests}
+use Rattle.checked_program.{specs.MarkedProgram.MarkedProgram, proofs.FilledTags.some_fewer}
+use Rattle.machine_types.specs.{Elision.{may_try, put_back, is_same, is_checked, if_same, fails, elided}, Events.moved, Frames.{Top, top_of, effect_at}}
+use Rattle.machine_types.specs.{Going.{with_phase, goes_on, goes_on_if, goes_after}, History.{Fate, GoesOn, Fails, Finishes, fate, fate_by, run_fate, leave_fate, with_begun}}
+use Rattle.machine_types.specs.{Instructions.{begun, did, instructed, ran}, Monitors.{Claim, finishes, enter_moves, leave_moves}}
+use Rattle.machine_types.specs.{Onward.{Onward, Running, Throwing, Entering, Leaving, RootReturned, Uncaught, dispatched, after, done}, Threads.{Attempt, Thread}, declared.effect.Effect.Effect}
+use Rattle.machine_types.specs.declared.{effect.Effect.TheVariants.{Writes, Indexes, Makes, Prints, Waits, Notifies, NotifiesAll}, phase.{After.After, Phase.Phase}}
+use Rattle.laws_threads.specs.{EntryFrames.{KeepsEntry, StepsKeepEntry, ThrowsKeepEntry, LeavesKeepEntry}, InsideEffects.MayDo}
 use Rattle.laws_refinement.proofs.Inside.{Inside, KnownInside}
-use Rattle.checked_program.proofs.FilledTags.{some_fewer}
+use Rattle.machine_types.specs.declared.phase.Phase.TheVariants as phases
 
 -- ---- what a thread x is when it has become y
 

@@ -1,27 +1,14 @@
 -- What an event inside an attempt counts, and that it prints nothing.
 use Rattle.std.proofs.Common.{◌≡◌, ℕ, ◌+◌, Bool, true, false, cond, List, Option, Some, None, refl, sym, ap, ◌∙◌, subst, arith}
 use Rattle.checked_program.specs.MarkedProgram.{MarkedProgram}
-use Rattle.machine_types.specs.Core.{Core, event_of, event_by, outcome}
-use Rattle.machine_types.specs.Counting.{CountsFit, extra_of}
-use Rattle.machine_types.specs.Elision.{elided}
-use Rattle.machine_types.specs.Events.{moved, wanted}
-use Rattle.machine_types.specs.Faithful.{PrintsFit}
-use Rattle.machine_types.specs.Frames.{top_of}
-use Rattle.machine_types.specs.History.{Fate, GoesOn, Fails, Finishes, Past, acts_of, fate, fate_by, past_after, past_by, with_begun}
-use Rattle.machine_types.specs.Onward.{after}
-use Rattle.machine_types.specs.Threads.{Attempt, Thread}
-use Rattle.machine_types.specs.declared.phase.Phase.{Phase}
-use Rattle.machine_types.specs.declared.phase.Phase.TheVariants as phases
-use Rattle.machine_types.specs.declared.plain.Act.{Act}
-use Rattle.laws_threads.specs.EntryFrames.{StepsKeepEntry, ThrowsKeepEntry, LeavesKeepEntry}
-use Rattle.laws_threads.specs.InsideEffects.{InsideMayDo}
-use Rattle.laws_threads.specs.InsideMoves.{NoElementInside}
-use Rattle.laws_simulation.proofs.CalmEvents.{IsCalm, goes_if, no_extra}
-use Rattle.laws_simulation.proofs.OutcomePrints.{fit_of, prints_of, printed_none}
-use Rattle.laws_refinement.specs.ElidedSteps.{AttemptsAreCounted, AttemptsPrintNothing, FinishesAreCounted, IsNotFinished, found_of}
-use Rattle.laws_refinement.proofs.Inside.{is_inside}
+use Rattle.machine_types.specs.{Core.{Core, event_of, event_by, outcome}, Counting.{CountsFit, extra_of}, Elision.elided, Events.{moved, wanted}, Faithful.PrintsFit, Frames.top_of}
+use Rattle.machine_types.specs.{History.{Fate, GoesOn, Fails, Finishes, Past, acts_of, fate, fate_by, past_after, past_by, with_begun}, Onward.after, Threads.{Attempt, Thread}}
+use Rattle.machine_types.specs.declared.{phase.Phase.Phase, plain.Act.Act}
+use Rattle.laws_threads.specs.{EntryFrames.{StepsKeepEntry, ThrowsKeepEntry, LeavesKeepEntry}, InsideEffects.InsideMayDo, InsideMoves.NoElementInside}
+use Rattle.laws_simulation.proofs.{CalmEvents.{IsCalm, goes_if, no_extra}, OutcomePrints.{fit_of, prints_of, printed_none}}
+use Rattle.laws_refinement.{specs.ElidedSteps.{AttemptsAreCounted, AttemptsPrintNothing, FinishesAreCounted, IsNotFinished, found_of}, proofs.{DoneSections.never_runs, Inside.is_inside}}
 use Rattle.laws_refinement.proofs.InsideMoves.{Moves, moves_inside}
-use Rattle.laws_refinement.proofs.DoneSections.{never_runs}
+use Rattle.machine_types.specs.declared.phase.Phase.TheVariants as phases
 
 more_begun : (n : ℕ) (phase : Phase) → with_begun n phase ≡ n + with_begun 0 phase
 more_begun n phases.Run = omega arith

@@ -1,23 +1,13 @@
 -- An event inside an attempt at most loads a word.
 use Rattle.std.proofs.Common.{ℕ, zero, suc, Bool, true, false, cond, List, Option, Some, None, refl, sym, ap, ◌∙◌, subst}
 use Rattle.checked_program.specs.MarkedProgram.{MarkedProgram}
-use Rattle.machine_types.specs.Core.{event_of}
-use Rattle.machine_types.specs.Elision.{looks, is_checked}
-use Rattle.machine_types.specs.Events.{wanted}
-use Rattle.machine_types.specs.Frames.{Top, effect_at}
-use Rattle.machine_types.specs.Instructions.{effect_wants, run_wants}
-use Rattle.machine_types.specs.Monitors.{Claim, enter_wants, leave_wants, finish_wants}
-use Rattle.machine_types.specs.Threads.{Attempt, Thread}
-use Rattle.machine_types.specs.declared.access.Access.{Access}
-use Rattle.machine_types.specs.declared.effect.Effect.{Effect}
-use Rattle.machine_types.specs.declared.effect.Effect.TheVariants.{Goes, Reads, Writes, Indexes, Measures, Raises, Makes, Prints, Calls}
-use Rattle.machine_types.specs.declared.phase.Phase.{Phase}
-use Rattle.machine_types.specs.declared.phase.Phase.TheVariants as phases
-use Rattle.laws_threads.specs.InsideEffects.{InsideMayDo, MayDo}
-use Rattle.laws_threads.specs.InsideMoves.{NoElementInside}
+use Rattle.machine_types.specs.{Core.event_of, Elision.{looks, is_checked}, Events.wanted, Frames.{Top, effect_at}, Instructions.{effect_wants, run_wants}}
+use Rattle.machine_types.specs.{Monitors.{Claim, enter_wants, leave_wants, finish_wants}, Threads.{Attempt, Thread}, declared.{access.Access.Access, effect.Effect.Effect}}
+use Rattle.machine_types.specs.declared.{effect.Effect.TheVariants.{Goes, Reads, Writes, Indexes, Measures, Raises, Makes, Prints, Calls}, phase.Phase.Phase}
+use Rattle.laws_threads.specs.{InsideEffects.{InsideMayDo, MayDo}, InsideMoves.NoElementInside}
 use Rattle.laws_simulation.proofs.EventSteps.{LeavesWords, load_leaves}
-use Rattle.laws_refinement.specs.ElidedSteps.{AttemptsAreSilent}
-use Rattle.laws_refinement.proofs.Inside.{KnownInside, Inside, is_inside}
+use Rattle.laws_refinement.{specs.ElidedSteps.AttemptsAreSilent, proofs.Inside.{KnownInside, Inside, is_inside}}
+use Rattle.machine_types.specs.declared.phase.Phase.TheVariants as phases
 
 module _ (words : List ℕ) where
   look_leaves : (o : Option Attempt) → LeavesWords words (looks o)

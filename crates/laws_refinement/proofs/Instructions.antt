@@ -1,59 +1,26 @@
 -- An instruction inside an attempt: it leaves the words, and it is one more act of the replay, which finds in every memory that
 -- has the places that stay what the thread found.
-use Rattle.std.proofs.Common.{◌≡◌, ℕ, suc, ◌+◌, nat_le, Bool, true, false, cond, List, [], ◌∷◌, Option, Some, None, refl, sym, ap, ◌∙◌, subst}
-use Rattle.std.specs.Prelude.{IsSome, slice_get, slice_index, option_map, option_and_then, if◌then◌else◌}
-use Rattle.jvm_types.specs.declared.fixed_words.TheConstants.{NEXT_FREE_WORD}
-use Rattle.jvm_types.specs.declared.outcome.End.{End}
-use Rattle.jvm_types.specs.declared.outcome.Thrown.{Thrown}
-use Rattle.jvm_types.specs.declared.program.MethodInfo.{MethodInfo}
-use Rattle.jvm_types.specs.declared.program.Program.{Program}
+use Rattle.std.proofs.Common.{◌≡◌, ℕ, suc, ◌+◌, nat_le, Bool, true, false, cond, List, [], ◌∷◌, Option, Some, None, refl, sym, ap, ◌∙◌, subst, IsSome, slice_get, slice_index, option_map, option_and_then, if◌then◌else◌}
+use Rattle.jvm_types.specs.declared.{fixed_words.TheConstants.NEXT_FREE_WORD, outcome.{End.End, Thrown.Thrown}, program.{MethodInfo.MethodInfo, Program.Program}}
 use Rattle.checked_program.specs.MarkedProgram.{MarkedProgram, IsMarked}
-use Rattle.machine_types.specs.Accesses.{found_by}
-use Rattle.machine_types.specs.Attempts.{Stays}
-use Rattle.machine_types.specs.Construction.{Construction}
-use Rattle.machine_types.specs.Core.{Core}
-use Rattle.machine_types.specs.Effects.{read_by}
-use Rattle.machine_types.specs.Elision.{is_checked, is_same, looks, if_same, fails}
-use Rattle.machine_types.specs.Events.{wanted}
-use Rattle.machine_types.specs.FoundWords.{WordFits, effect_content, run_content, content_at}
-use Rattle.machine_types.specs.Frames.{Top, frames_of, top_of, effect_at, went, went_on}
-use Rattle.machine_types.specs.Going.{goes_on, goes_on_if}
-use Rattle.machine_types.specs.History.{Fate, GoesOn, Fails, Finishes, fate_by, run_fate, instruction_acts, run_acts}
-use Rattle.machine_types.specs.Instructions.{effect_wants, run_wants, begun, did, instructed, ran}
-use Rattle.machine_types.specs.Lawful.{within}
-use Rattle.machine_types.specs.Onward.{Onward, Running, Throwing, Entering, Leaving, threw, called, returns, done}
-use Rattle.machine_types.specs.PlainInstructions.{got_by}
-use Rattle.machine_types.specs.PlainMemory.{Object}
-use Rattle.machine_types.specs.PlainState.{PlainThread, Status}
-use Rattle.machine_types.specs.PlainState as plain
-use Rattle.machine_types.specs.ReadyObjects.{thrown_of}
-use Rattle.machine_types.specs.Replay.{Alone, only_on, reads_only, goes, instructs, replay_act, status_inside, at_present}
-use Rattle.machine_types.specs.Structure.{IsAs, IsStructured, Stands, AttemptStands, AttemptStandsIn}
-use Rattle.machine_types.specs.Threads.{Attempt, Thread}
-use Rattle.machine_types.specs.Typed.{FramesHold, PhaseHolds, HasClass}
-use Rattle.machine_types.specs.Words.{header_class, header_length, header_word, variable_word}
-use Rattle.machine_types.specs.Worlds.{World}
-use Rattle.machine_types.specs.declared.config.Config.{Config}
-use Rattle.machine_types.specs.declared.effect.Effect.{Effect}
+use Rattle.machine_types.specs.{Accesses.found_by, Attempts.Stays, Construction.Construction, Core.Core, Effects.read_by, Elision.{is_checked, is_same, looks, if_same, fails}, Events.wanted}
+use Rattle.machine_types.specs.{FoundWords.{WordFits, effect_content, run_content, content_at}, Frames.{Top, frames_of, top_of, effect_at, went, went_on}, Going.{goes_on, goes_on_if}}
+use Rattle.machine_types.specs.{History.{Fate, GoesOn, Fails, Finishes, fate_by, run_fate, instruction_acts, run_acts}, Instructions.{effect_wants, run_wants, begun, did, instructed, ran}}
+use Rattle.machine_types.specs.{Lawful.within, Onward.{Onward, Running, Throwing, Entering, Leaving, threw, called, returns, done}, PlainInstructions.got_by, PlainMemory.Object}
+use Rattle.machine_types.specs.{PlainState.{PlainThread, Status}, ReadyObjects.thrown_of, Replay.{Alone, only_on, reads_only, goes, instructs, replay_act, status_inside, at_present}}
+use Rattle.machine_types.specs.{Structure.{IsAs, IsStructured, Stands, AttemptStands, AttemptStandsIn}, Threads.{Attempt, Thread}, Typed.{FramesHold, PhaseHolds, HasClass}}
+use Rattle.machine_types.specs.{Words.{header_class, header_length, header_word, variable_word}, Worlds.World, declared.{config.Config.Config, effect.Effect.Effect}}
 use Rattle.machine_types.specs.declared.effect.Effect.TheVariants.{Goes, Throws, Reads, Writes, Indexes, Measures, Raises, Makes, Prints, Calls, Returns, Enters, Leaves, Waits, Notifies, NotifiesAll, Stuck}
+use Rattle.machine_types.specs.declared.{phase.Phase.Phase, plain.Act.Act}
+use Rattle.laws_threads.{specs.{Allowed.Allowed, InsideEffects.MayDo, TopFrames.{IsAllowed, EffectsAreAllowed}}, proofs.{EntryKept.steps_kept, Inside.inside_may}}
+use Rattle.laws_states.{specs.{FoundLaws.{IsOfHeap, HeapWordsFit}, StateFacts.StateFacts}, proofs.PlainMoves.goes_attempt}
+use Rattle.laws_simulation.proofs.{EventSteps.{LeavesWords, load_leaves}, FrameEffects.is_some_thrown}
+use Rattle.laws_refinement.proofs.{GoingOn.{Grows, GoesAlike, Knows, going_alike, one_act}, StayPlaces.{TopReads, top_reads, variable_stays, header_stays}}
+use Rattle.machine_types.specs.PlainState as plain
 use Rattle.machine_types.specs.declared.phase.After.TheVariants as afters
-use Rattle.machine_types.specs.declared.phase.Phase.{Phase}
 use Rattle.machine_types.specs.declared.phase.Phase.TheVariants as phases
-use Rattle.machine_types.specs.declared.plain.Act.{Act}
 use Rattle.machine_types.specs.declared.plain.Act.TheVariants as acts
-use Rattle.laws_threads.specs.Allowed.{Allowed}
-use Rattle.laws_threads.specs.TopFrames.{IsAllowed, EffectsAreAllowed}
-use Rattle.laws_threads.specs.InsideEffects.{MayDo}
-use Rattle.laws_threads.proofs.EntryKept.{steps_kept}
-use Rattle.laws_threads.proofs.Inside.{inside_may}
-use Rattle.laws_states.specs.FoundLaws.{IsOfHeap, HeapWordsFit}
-use Rattle.laws_states.proofs.PlainMoves.{goes_attempt}
-use Rattle.laws_states.specs.StateFacts.{StateFacts}
-use Rattle.laws_simulation.proofs.EventSteps.{LeavesWords, load_leaves}
 use Rattle.laws_simulation.proofs.TopPlaces as agreement
-use Rattle.laws_refinement.proofs.GoingOn.{Grows, GoesAlike, Knows, going_alike, one_act}
-use Rattle.laws_refinement.proofs.StayPlaces.{TopReads, top_reads, variable_stays, header_stays}
-use Rattle.laws_simulation.proofs.FrameEffects.{is_some_thrown}
 
 -- ---- what an event makes of the attempt: it goes on with it, or ends it
 

@@ -1,16 +1,11 @@
 -- How many instructions stand at and behind the pcs of the frames of an attempt: each instruction that goes on takes one away.
-use Rattle.std.proofs.Common.{◌≡◌, ℕ, suc, ◌+◌, ◌<◌, ◌≤◌, nat_le, Bool, true, false, List, [], ◌∷◌, ◌++◌, length, Option, Some, None, refl, sym, ap, subst, ◌∙◌, arith}
-use Rattle.std.specs.Prelude.{◌==◌, slice_get, if◌then◌else◌}
+use Rattle.std.proofs.Common.{◌≡◌, ℕ, suc, ◌+◌, ◌<◌, ◌≤◌, nat_le, Bool, true, false, List, [], ◌∷◌, ◌++◌, length, Option, Some, None, refl, sym, ap, subst, ◌∙◌, arith, ◌==◌, slice_get, if◌then◌else◌}
 use Rattle.std.proofs.lemmas.Bool.Decides.{nat_tests}
 use Rattle.lists.proofs.ListLaws.{same_some}
-use Rattle.jvm_types.specs.declared.code.Insn.{Insn}
-use Rattle.jvm_types.specs.declared.program.MethodInfo.{MethodInfo}
-use Rattle.jvm_types.specs.declared.program.Program.{Program}
-use Rattle.jvm_types.specs.declared.program.Target.{Target}
+use Rattle.jvm_types.specs.declared.{code.Insn.Insn, program.{MethodInfo.MethodInfo, Program.Program, Target.Target}}
 use Rattle.laws_programs.proofs.CodeOrder.{methods_laid_out}
 use Rattle.checked_program.specs.MarkedProgram.{MarkedProgram, IsMarked}
-use Rattle.machine_types.specs.Frames.{Top, at_pc, top_at, top_in, top_of, given, given_back, returned}
-use Rattle.machine_types.specs.Threads.{Frame}
+use Rattle.machine_types.specs.{Frames.{Top, at_pc, top_at, top_in, top_of, given, given_back, returned}, Threads.Frame}
 use Rattle.laws_threads.proofs.SectionEntries.{next_later}
 
 -- ---- in one method

@@ -1,43 +1,24 @@
 -- An event inside an attempt whose lock word is no longer as it was noted: the attempt fails by it, or it goes on with fewer
 -- instructions ahead.
-use Rattle.std.proofs.Common.{◌≡◌, ℕ, zero, suc, ◌+◌, ◌<◌, ◌≤◌, nat_lt, Bool, true, false, List, [], ◌∷◌, drop, length, Option, Some, None, refl, sym, ap, subst, ◌∙◌, arith}
-use Rattle.std.specs.Prelude.{IsSome, option_map, if◌then◌else◌}
+use Rattle.std.proofs.Common.{◌≡◌, ℕ, zero, suc, ◌+◌, ◌<◌, ◌≤◌, nat_lt, Bool, true, false, List, [], ◌∷◌, drop, length, Option, Some, None, refl, sym, ap, subst, ◌∙◌, arith, IsSome, option_map, if◌then◌else◌}
 use Rattle.std.proofs.lemmas.Bool.Decides.{nat_tests}
 use Rattle.lists.proofs.ListLaws.{same_some}
-use Rattle.jvm_types.specs.Members.{is_synchronized}
-use Rattle.jvm_types.specs.declared.outcome.End.TheVariants as ends
-use Rattle.jvm_types.specs.declared.outcome.Thrown.{Thrown}
-use Rattle.jvm_types.specs.declared.program.Program.{Program}
+use Rattle.jvm_types.specs.{Members.is_synchronized, declared.{outcome.Thrown.Thrown, program.Program.Program}}
 use Rattle.checked_program.specs.MarkedProgram.{MarkedProgram, IsMarked}
-use Rattle.machine_types.specs.Core.{is_live}
-use Rattle.machine_types.specs.declared.access.Access.TheVariants.{Load}
-use Rattle.machine_types.specs.Elision.{is_checked, is_same, elided, fails, if_same, looks, may_try}
-use Rattle.machine_types.specs.Events.{wanted, moved}
-use Rattle.machine_types.specs.FoundWords.{WordFits, content_at, effect_content, run_content}
-use Rattle.machine_types.specs.Frames.{Top, top_of, frames_of, top_row, frame_on, effect_at, monitor_of, returned, went, went_on}
-use Rattle.machine_types.specs.Going.{with_phase, runs, root_over, goes_on, goes_on_if, goes_after}
-use Rattle.machine_types.specs.HeldMonitors.{held_at}
-use Rattle.machine_types.specs.Instructions.{begun, did, effect_wants, instructed, ran, run_wants}
+use Rattle.machine_types.specs.{Core.is_live, Elision.{is_checked, is_same, elided, fails, if_same, looks, may_try}, Events.{wanted, moved}}
+use Rattle.machine_types.specs.{FoundWords.{WordFits, content_at, effect_content, run_content}, Frames.{Top, top_of, frames_of, top_row, frame_on, effect_at, monitor_of, returned, went, went_on}}
+use Rattle.machine_types.specs.{Going.{with_phase, runs, root_over, goes_on, goes_on_if, goes_after}, HeldMonitors.held_at, Instructions.{begun, did, effect_wants, instructed, ran, run_wants}}
 use Rattle.machine_types.specs.Monitors.{Claim, Tries, claim, enter_moves, finishes, leave_moves, finish_wants, leave_wants}
-use Rattle.machine_types.specs.Onward.{Onward, Running, Throwing, Entering, Leaving, RootReturned, Uncaught, threw, back, unwound}
-use Rattle.machine_types.specs.ReadyObjects.{thrown_of}
-use Rattle.machine_types.specs.Threads.{Attempt, Frame, Thread}
-use Rattle.machine_types.specs.Words.{header_class, header_length}
-use Rattle.machine_types.specs.declared.effect.Effect.{Effect}
+use Rattle.machine_types.specs.{Onward.{Onward, Running, Throwing, Entering, Leaving, RootReturned, Uncaught, threw, back, unwound}, ReadyObjects.thrown_of, Threads.{Attempt, Frame, Thread}}
+use Rattle.machine_types.specs.{Words.{header_class, header_length}, declared.{access.Access.TheVariants.Load, effect.Effect.Effect}}
 use Rattle.machine_types.specs.declared.effect.Effect.TheVariants.{Goes, Throws, Reads, Writes, Indexes, Measures, Raises, Makes, Prints, Calls, Returns, Enters, Leaves, Waits, Notifies, NotifiesAll, Stuck}
-use Rattle.machine_types.specs.declared.phase.After.{After}
-use Rattle.machine_types.specs.declared.phase.After.TheVariants.{Next, Return}
+use Rattle.machine_types.{specs.declared.phase.{After.{After, TheVariants.{Next, Return}}, Phase.Phase}, proofs.PlainPartLaws.frames_are}
+use Rattle.laws_threads.specs.{InsideEffects.MayDo, TopFrames.IsAllowed}
+use Rattle.laws_states.{specs.RunSafety.{GoesOnBy, HasAfter, HasEvent, HasInstruction}, proofs.HeldOrTried.tried_at}
+use Rattle.laws_refinement.{specs.TornRuns.begun_in, proofs.{Inside.{AtInstruction, KnownInside}, InstructionsAhead.{IsTop, all_ahead, is_top, next_is_later, returned_on, top_goes_on, top_is_left}}}
+use Rattle.jvm_types.specs.declared.outcome.End.TheVariants as ends
 use Rattle.machine_types.specs.declared.phase.After.TheVariants as afters
-use Rattle.machine_types.specs.declared.phase.Phase.{Phase}
 use Rattle.machine_types.specs.declared.phase.Phase.TheVariants as phases
-use Rattle.laws_threads.specs.InsideEffects.{MayDo}
-use Rattle.laws_threads.specs.TopFrames.{IsAllowed}
-use Rattle.laws_states.specs.RunSafety.{GoesOnBy, HasAfter, HasEvent, HasInstruction}
-use Rattle.laws_states.proofs.HeldOrTried.{tried_at}
-use Rattle.laws_refinement.proofs.Inside.{AtInstruction, KnownInside}
-use Rattle.laws_refinement.specs.TornRuns.{begun_in}
-use Rattle.laws_refinement.proofs.InstructionsAhead.{IsTop, all_ahead, is_top, next_is_later, returned_on, top_goes_on, top_is_left}
-use Rattle.machine_types.proofs.PlainPartLaws.{frames_are}
 
 -- ---- what is left to begin: nothing of a frame that is about to be left, and nothing where the next check is sure to come first
 

@@ -1,37 +1,18 @@
 -- Where the lock word of an attempt's monitor is as the attempt noted it after an event of another thread, it was so before; and
 -- where it is so, no thread holds the monitor.
-use Rattle.std.proofs.Common.{◌≡◌, ◌⊎◌, inl, inr, ℕ, ◌<◌, ◌≤◌, Bool, true, false, List, Option, Some, None, refl, sym, ap, ◌∙◌, subst, arith}
-use Rattle.std.specs.Prelude.{slice_get, slice_index, if◌then◌else◌}
+use Rattle.std.proofs.Common.{◌≡◌, ◌⊎◌, inl, inr, ℕ, ◌<◌, ◌≤◌, Bool, true, false, List, Option, Some, None, refl, sym, ap, ◌∙◌, subst, arith, slice_get, slice_index, if◌then◌else◌}
 use Rattle.jvm_types.specs.Numbers.{has_number}
 use Rattle.checked_program.specs.MarkedProgram.{MarkedProgram, IsMarked}
-use Rattle.machine_types.specs.Accesses.{words_after}
-use Rattle.machine_types.specs.Attempts.{IsAsNoted}
-use Rattle.machine_types.specs.Core.{Core}
-use Rattle.machine_types.specs.Events.{wanted}
-use Rattle.machine_types.specs.Guards.{HoldsMonitor}
-use Rattle.machine_types.specs.HeldMonitors.{held_at}
-use Rattle.machine_types.specs.LockWords.{word_of_lock, lock_of}
-use Rattle.machine_types.specs.Owners.{Locks, NotHeld, HeldFlat, hold_by_word, hold_by_kept, hold_by_list, AttemptSawIn, IsKeptCount, IsKeptIn, lock_at, locks_in, references_of}
-use Rattle.machine_types.specs.PlainMemory.{Object}
-use Rattle.machine_types.specs.Structure.{IsFlat, IsStructured, Stands}
-use Rattle.machine_types.specs.Threads.{Attempt, Thread}
-use Rattle.machine_types.specs.Typed.{HasClass, AttemptHolds, IsObject}
-use Rattle.machine_types.specs.declared.config.Config.{Config}
-use Rattle.machine_types.specs.declared.lock.Held.{Held}
-use Rattle.machine_types.specs.declared.lock.Kept.{Kept}
-use Rattle.machine_types.specs.declared.lock.Kept.TheVariants as keeps
-use Rattle.machine_types.specs.declared.lock.LockWord.{LockWord}
-use Rattle.machine_types.specs.declared.lock.LockWord.TheVariants as locks
-use Rattle.machine_types.specs.declared.phase.Phase.{Phase}
-use Rattle.machine_types.specs.declared.phase.Phase.TheVariants as phases
-use Rattle.laws_states.specs.SiteLaws.{EventsReachSites, SitesDiffer, SitesLieInside}
-use Rattle.laws_states.specs.Sites.{LockOf, HasObject}
-use Rattle.laws_states.proofs.EventWords.{IsLeft, word_at}
-use Rattle.laws_states.specs.StateFacts.{StateFacts}
-use Rattle.laws_states.proofs.LockViews.{not_held, thin_if_flat}
-use Rattle.laws_states.proofs.WordViews.{lock_of_word}
-use Rattle.laws_states.proofs.LockWritten.{thin_seen}
+use Rattle.machine_types.specs.{Accesses.words_after, Attempts.IsAsNoted, Core.Core, Events.wanted, Guards.HoldsMonitor, HeldMonitors.held_at, LockWords.{word_of_lock, lock_of}}
+use Rattle.machine_types.specs.{Owners.{Locks, NotHeld, HeldFlat, hold_by_word, hold_by_kept, hold_by_list, AttemptSawIn, IsKeptCount, IsKeptIn, lock_at, locks_in, references_of}, PlainMemory.Object}
+use Rattle.machine_types.specs.{Structure.{IsFlat, IsStructured, Stands}, Threads.{Attempt, Thread}, Typed.{HasClass, AttemptHolds, IsObject}, declared.{config.Config.Config, lock.Held.Held}}
+use Rattle.machine_types.specs.declared.{lock.{Kept.Kept, LockWord.LockWord}, phase.Phase.Phase}
+use Rattle.laws_states.{specs.{SiteLaws.{EventsReachSites, SitesDiffer, SitesLieInside}, Sites.{LockOf, HasObject}, StateFacts.StateFacts}, proofs.EventWords.{IsLeft, word_at}}
+use Rattle.laws_states.proofs.{LockViews.{not_held, thin_if_flat}, LockWritten.thin_seen, WordViews.lock_of_word}
 use Rattle.laws_refinement.proofs.FreeLocks.{phase_leaves}
+use Rattle.machine_types.specs.declared.lock.Kept.TheVariants as keeps
+use Rattle.machine_types.specs.declared.lock.LockWord.TheVariants as locks
+use Rattle.machine_types.specs.declared.phase.Phase.TheVariants as phases
 
 -- ---- nobody holds a free lock
 

@@ -1,20 +1,12 @@
 -- An event inside an attempt wants a load or no word at all, or rests where a limit has ended its thread.
 use Rattle.std.proofs.Common.{ℕ, zero, suc, Bool, true, false, cond, Option, Some, None, refl, sym, subst}
 use Rattle.checked_program.specs.MarkedProgram.{MarkedProgram}
-use Rattle.machine_types.specs.Elision.{looks, is_checked}
-use Rattle.machine_types.specs.Events.{wanted}
-use Rattle.machine_types.specs.Frames.{Top, effect_at}
-use Rattle.machine_types.specs.Instructions.{effect_wants, run_wants}
-use Rattle.machine_types.specs.Monitors.{Claim, enter_wants, leave_wants, finish_wants}
-use Rattle.machine_types.specs.Threads.{Attempt, Thread}
-use Rattle.machine_types.specs.declared.access.Access.{Access}
-use Rattle.machine_types.specs.declared.effect.Effect.{Effect}
-use Rattle.machine_types.specs.declared.effect.Effect.TheVariants.{Goes, Reads, Writes, Indexes, Measures, Raises, Makes, Prints, Calls}
+use Rattle.machine_types.specs.{Elision.{looks, is_checked}, Events.wanted, Frames.{Top, effect_at}, Instructions.{effect_wants, run_wants}, Monitors.{Claim, enter_wants, leave_wants, finish_wants}}
+use Rattle.machine_types.specs.{Threads.{Attempt, Thread}, declared.{access.Access.Access, effect.Effect.{Effect, TheVariants.{Goes, Reads, Writes, Indexes, Measures, Raises, Makes, Prints, Calls}}}}
 use Rattle.machine_types.specs.declared.phase.Phase.{Phase}
-use Rattle.machine_types.specs.declared.phase.Phase.TheVariants as phases
 use Rattle.laws_threads.specs.InsideEffects.{MayDo}
-use Rattle.laws_refinement.proofs.Inside.{KnownInside}
-use Rattle.laws_refinement.specs.Entries.{IsLook, OnlyLooks}
+use Rattle.laws_refinement.{specs.Entries.{IsLook, OnlyLooks}, proofs.Inside.KnownInside}
+use Rattle.machine_types.specs.declared.phase.Phase.TheVariants as phases
 
 attempt_look : (o : Option Attempt) → IsLook (looks o)
 attempt_look None = tt

@@ -1,22 +1,11 @@
 -- The test by which a thread tries a section finds the mark 0 of the section that its top frame enters, and nothing else.
-use Rattle.std.proofs.Common.{◌≡◌, ℕ, zero, suc, ◌<◌, Bool, true, false, cond, List, [], ◌∷◌, length, refl, sym, ap, ◌∙◌, subst, arith}
-use Rattle.std.specs.Prelude.{◌==◌, ◌&&◌, Contains, slice_index_or}
-use Rattle.std.specs.List.{AllZip}
+use Rattle.std.{proofs.Common.{◌≡◌, ℕ, zero, suc, ◌<◌, Bool, true, false, cond, List, [], ◌∷◌, length, refl, sym, ap, ◌∙◌, subst, arith, ◌==◌, ◌&&◌, Contains, slice_index_or}, specs.List.AllZip}
 use Rattle.std.proofs.lemmas.Bool.Decides.{Decides-eqb}
 use Rattle.lists.proofs.TestLaws.{both_true, both_are_true, same_number}
 use Rattle.jvm_types.specs.declared.program.Program.{Program}
-use Rattle.checked_program.specs.MarkedProgram.{MarkedProgram, IsMarked}
-use Rattle.checked_program.specs.Marks.{HasMark, IsMarkOf}
-use Rattle.checked_program.specs.Sections.{Section, sections}
-use Rattle.checked_program.specs.TaggedCode.{Tagged}
-use Rattle.checked_program.specs.declared.section.FieldUse.{FieldUse}
-use Rattle.checked_program.specs.declared.section.SectionMark.{SectionMark}
-use Rattle.checked_program.specs.declared.section.Spot.{Spot}
-use Rattle.checked_program.specs.declared.section.Spot.TheVariants.{Method, Block}
-use Rattle.machine_types.specs.Elision.{enters_marked}
-use Rattle.machine_types.specs.Sections.{entered_at, is_same_spot, is_marked}
-use Rattle.machine_types.specs.Standing.{tags_of}
-use Rattle.machine_types.specs.Threads.{Frame}
+use Rattle.checked_program.specs.{MarkedProgram.{MarkedProgram, IsMarked}, Marks.{HasMark, IsMarkOf}, Sections.{Section, sections}, TaggedCode.Tagged, declared.section.FieldUse.FieldUse}
+use Rattle.checked_program.specs.declared.section.{SectionMark.SectionMark, Spot.{Spot, TheVariants.{Method, Block}}}
+use Rattle.machine_types.specs.{Elision.enters_marked, Sections.{entered_at, is_same_spot, is_marked}, Standing.tags_of, Threads.Frame}
 use Rattle.laws_refinement.specs.EntryLaws.{BeginsBehind, IsAtMarked}
 
 -- ---- a spot and the pc at which its section begins

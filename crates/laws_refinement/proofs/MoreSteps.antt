@@ -1,18 +1,10 @@
 -- What behind some steps of the plain machine, or at the start, is known of steps and counts.
-use Rattle.std.proofs.Common.{◌≡◌, ℕ, zero, suc, ◌+◌, List, [], ◌∷◌, ◌++◌, map, Option, Some, None, refl, ap, subst, arith}
-use Rattle.std.specs.Prelude.{replicate, option_and_then, slice_get, slice_index_or}
+use Rattle.std.proofs.Common.{◌≡◌, ℕ, zero, suc, ◌+◌, List, [], ◌∷◌, ◌++◌, map, Option, Some, None, refl, ap, subst, arith, replicate, option_and_then, slice_get, slice_index_or}
 use Rattle.lists.proofs.ListLaws.{same_some}
 use Rattle.jvm_types.specs.declared.program.Program.{Program}
 use Rattle.checked_program.specs.MarkedProgram.{MarkedProgram}
-use Rattle.machine_types.specs.Core.{start_thread}
-use Rattle.machine_types.specs.Counting.{count_from, count_along, CountsFit}
-use Rattle.machine_types.specs.History.{Past, no_past}
-use Rattle.machine_types.specs.Parts.{init_roots}
-use Rattle.machine_types.specs.PlainState.{Plain}
-use Rattle.machine_types.specs.PlainSteps.{plain_step, plain_run}
-use Rattle.machine_types.specs.Threads.{Thread}
-use Rattle.machine_types.specs.declared.config.Config.{Config}
-use Rattle.machine_types.specs.declared.plain.PlainStep.{PlainStep}
+use Rattle.machine_types.specs.{Core.start_thread, Counting.{count_from, count_along, CountsFit}, History.{Past, no_past}, Parts.init_roots, PlainState.Plain, PlainSteps.{plain_step, plain_run}}
+use Rattle.machine_types.specs.{Threads.Thread, declared.{config.Config.Config, plain.PlainStep.PlainStep}}
 use Rattle.laws_simulation.proofs.PlainCounts.{counts_append}
 use Rattle.laws_refinement.proofs.SameCounts.{part_extra}
 

@@ -1,19 +1,11 @@
 -- Where the lock word of an attempt's monitor is as it was noted behind an event or the begin of a part, it was so before; so once it
 -- is other, it stays so.
-use Rattle.std.proofs.Common.{◌≡◌, ℕ, List, Option, Some, None, refl}
-use Rattle.std.specs.Prelude.{slice_get}
+use Rattle.std.proofs.Common.{◌≡◌, ℕ, List, Option, Some, None, refl, slice_get}
 use Rattle.checked_program.specs.MarkedProgram.{MarkedProgram, IsMarked}
-use Rattle.machine_types.specs.Attempts.{IsAsNoted}
-use Rattle.machine_types.specs.Core.{Core, Happening, Of, NextPart, core, event_of, happened}
-use Rattle.machine_types.specs.PlainMemory.{Object}
-use Rattle.machine_types.specs.Threads.{Attempt, Thread}
-use Rattle.machine_types.specs.declared.config.Config.{Config}
+use Rattle.machine_types.specs.{Attempts.IsAsNoted, Core.{Core, Happening, Of, NextPart, core, event_of, happened}, PlainMemory.Object, Threads.{Attempt, Thread}, declared.config.Config.Config}
 use Rattle.machine_types.specs.declared.phase.Phase.{Phase}
-use Rattle.laws_states.specs.SiteLaws.{EventsReachSites, SitesDiffer, SitesLieInside}
-use Rattle.laws_states.specs.StateFacts.{StateFacts}
-use Rattle.laws_states.specs.StateLaws.{IsInState, ProgramsKeepThreads, RunsHaveState}
-use Rattle.laws_refinement.proofs.LockNoted.{noted_before}
-use Rattle.laws_refinement.specs.TornRuns.{NotedNeverReturns}
+use Rattle.laws_states.specs.{SiteLaws.{EventsReachSites, SitesDiffer, SitesLieInside}, StateFacts.StateFacts, StateLaws.{IsInState, ProgramsKeepThreads, RunsHaveState}}
+use Rattle.laws_refinement.{specs.TornRuns.NotedNeverReturns, proofs.LockNoted.noted_before}
 
 module _ (differ : SitesDiffer) (inside : SitesLieInside) (reach : EventsReachSites) (c : MarkedProgram) (marked : IsMarked c) (cfg : Config) (s : Core) (t : ℕ) (x : Thread) (a : Attempt) (there : slice_get s.threads t ≡ Some x) (tries : x.attempt ≡ Some a) where
   by_event : (objects : List Object) (was : ℕ → Phase) (facts : StateFacts c cfg objects was s) (u : ℕ) (o : Option Thread) → slice_get s.threads u ≡ o → IsAsNoted (event_of c s u o).words a → IsAsNoted s.words a

@@ -1,21 +1,14 @@
 -- Where a part of the run may begin, no thread is in an attempt.
-use Rattle.std.proofs.Common.{◌≡◌, ℕ, zero, suc, Bool, true, false, cond, List, [], ◌∷◌, Some, None, refl, ap, subst}
-use Rattle.std.specs.Prelude.{slice_get}
-use Rattle.std.specs.List.{AllByRecursion, list_all}
-use Rattle.lists.proofs.ListLaws.{same_some}
-use Rattle.lists.proofs.TestLaws.{both_are_true}
-use Rattle.jvm_types.specs.declared.outcome.End.TheVariants as ends
+use Rattle.std.{proofs.Common.{◌≡◌, ℕ, zero, suc, Bool, true, false, cond, List, [], ◌∷◌, Some, None, refl, ap, subst, slice_get}, specs.List.{AllByRecursion, list_all}}
+use Rattle.lists.proofs.{ListLaws.same_some, TestLaws.both_are_true}
 use Rattle.jvm_types.specs.declared.program.Program.{Program}
 use Rattle.checked_program.specs.MarkedProgram.{MarkedProgram}
-use Rattle.machine_types.specs.Core.{ended_by, may_begin_by, may_begin, part_begins, next_threads}
-use Rattle.machine_types.specs.Parts.{has_returned, has_finished}
-use Rattle.machine_types.specs.Structure.{IsStructured, Structure}
-use Rattle.machine_types.specs.Threads.{Thread}
+use Rattle.machine_types.specs.{Core.{ended_by, may_begin_by, may_begin, part_begins, next_threads}, Parts.{has_returned, has_finished}, Structure.{IsStructured, Structure}, Threads.Thread}
 use Rattle.machine_types.specs.declared.phase.Phase.{Phase}
-use Rattle.machine_types.specs.declared.phase.Phase.TheVariants as phases
 use Rattle.laws_threads.specs.PartLaws.{PartFits, PartsFit}
-use Rattle.laws_simulation.proofs.PartsDue.{no_attempt}
-use Rattle.laws_simulation.proofs.NextBeside.{idle_attempt}
+use Rattle.laws_simulation.proofs.{NextBeside.idle_attempt, PartsDue.no_attempt}
+use Rattle.jvm_types.specs.declared.outcome.End.TheVariants as ends
+use Rattle.machine_types.specs.declared.phase.Phase.TheVariants as phases
 
 -- ---- one thread
 

@@ -1,21 +1,10 @@
 -- An event of one thread keeps what is known of the attempts of the others.
-use Rattle.std.proofs.Common.{◌≡◌, ◌≢◌, ℕ, Bool, List, Option, Some, None, refl, sym, ap, ◌∙◌, subst}
-use Rattle.std.specs.Prelude.{slice_get, slice_index, if◌then◌else◌}
-use Rattle.std.proofs.lemmas.Bool.{ne_eqb}
+use Rattle.std.proofs.{Common.{◌≡◌, ◌≢◌, ℕ, Bool, List, Option, Some, None, refl, sym, ap, ◌∙◌, subst, slice_get, slice_index, if◌then◌else◌}, lemmas.Bool.ne_eqb}
 use Rattle.checked_program.specs.MarkedProgram.{MarkedProgram}
-use Rattle.machine_types.specs.Attempts.{IsAsNoted, IsLedToPresent, Owes, Stays}
-use Rattle.machine_types.specs.Core.{Core, event}
-use Rattle.machine_types.specs.Replay.{replayed, at_entry, at_present}
-use Rattle.machine_types.specs.Threads.{Attempt}
-use Rattle.machine_types.specs.declared.phase.Phase.{Phase}
-use Rattle.laws_threads.specs.InsideEffects.{InsideMayDo}
-use Rattle.laws_threads.specs.InsideMoves.{NoElementInside}
-use Rattle.laws_threads.specs.StateLaws.{counted_of, counted_after}
-use Rattle.laws_states.specs.HeapFacts.{objects_after}
-use Rattle.laws_states.specs.SiteLaws.{EventsReachSites, SitesDiffer, SitesLieInside}
-use Rattle.laws_refinement.specs.ElidedSteps.{OthersKeepAttempts, next_free}
-use Rattle.laws_refinement.proofs.LockNoted.{noted_before}
-use Rattle.laws_refinement.proofs.StayingPlaces.{event_words, still_stays, still_word}
+use Rattle.machine_types.specs.{Attempts.{IsAsNoted, IsLedToPresent, Owes, Stays}, Core.{Core, event}, Replay.{replayed, at_entry, at_present}, Threads.Attempt, declared.phase.Phase.Phase}
+use Rattle.laws_threads.specs.{InsideEffects.InsideMayDo, InsideMoves.NoElementInside, StateLaws.{counted_of, counted_after}}
+use Rattle.laws_states.specs.{HeapFacts.objects_after, SiteLaws.{EventsReachSites, SitesDiffer, SitesLieInside}}
+use Rattle.laws_refinement.{specs.ElidedSteps.{OthersKeepAttempts, next_free}, proofs.{LockNoted.noted_before, StayingPlaces.{event_words, still_stays, still_word}}}
 
 -- the phase that counts of another thread is as it was
 same_phase : (c : MarkedProgram) (was : ℕ → Phase) (s : Core) (t u : ℕ) → u ≢ t → counted_after c was s t u ≡ was u

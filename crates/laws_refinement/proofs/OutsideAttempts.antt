@@ -1,21 +1,12 @@
 -- An event of a thread in no attempt leaves it in none, or begins one at the entry of a section.
-use Rattle.std.proofs.Common.{◌≡◌, ℕ, suc, ◌+◌, ◌-◌, Bool, true, false, cond, List, ◌∷◌, length, Option, Some, None, ◌⊎◌, inl, inr, refl, sym, ◌∙◌, subst, arith}
-use Rattle.std.specs.Prelude.{option_map, slice_get}
-use Rattle.jvm_types.specs.declared.outcome.End.TheVariants as ends
+use Rattle.std.proofs.Common.{◌≡◌, ℕ, suc, ◌+◌, ◌-◌, Bool, true, false, cond, List, ◌∷◌, length, Option, Some, None, ◌⊎◌, inl, inr, refl, sym, ◌∙◌, subst, arith, option_map, slice_get}
 use Rattle.checked_program.specs.MarkedProgram.{MarkedProgram}
-use Rattle.machine_types.specs.Elision.{put_back, fails}
-use Rattle.machine_types.specs.Events.{moved}
-use Rattle.machine_types.specs.Frames.{went_on}
-use Rattle.machine_types.specs.Going.{goes_on_if}
-use Rattle.machine_types.specs.HeldMonitors.{held_at}
-use Rattle.machine_types.specs.Onward.{Running, rooted, after, Onward}
-use Rattle.machine_types.specs.Threads.{Frame, Attempt, Thread}
-use Rattle.machine_types.specs.declared.phase.Phase.{Phase}
-use Rattle.machine_types.specs.declared.phase.Phase.TheVariants as phases
+use Rattle.machine_types.specs.{Elision.{put_back, fails}, Events.moved, Frames.went_on, Going.goes_on_if, HeldMonitors.held_at, Instructions.printed, Monitors.{Tries, claim}}
+use Rattle.machine_types.specs.{Onward.{Running, rooted, after, Onward}, Threads.{Frame, Attempt, Thread}, declared.phase.Phase.Phase}
 use Rattle.laws_threads.proofs.ThreadMove.{Move, begun_attempt, becomes, tried_attempt, counting, any_move, runs_to, same_onward}
+use Rattle.jvm_types.specs.declared.outcome.End.TheVariants as ends
+use Rattle.machine_types.specs.declared.phase.Phase.TheVariants as phases
 use Rattle.laws_threads.proofs.ThreadMove as moves
-use Rattle.machine_types.specs.Monitors.{Tries, claim}
-use Rattle.machine_types.specs.Instructions.{printed}
 
 -- ---- an attempt that begins
 

@@ -1,35 +1,19 @@
 -- What an event outside an attempt leaves: the thread in no attempt, and at an entry only where an instruction brings it to a new
 -- one; or in the attempt that it begins at the entry where it is. No attempt has failed by it.
-use Rattle.std.proofs.Common.{◌≡◌, ℕ, ◌+◌, nat_lt, Bool, true, false, cond, drop, List, [], ◌∷◌, Option, Some, None, refl, sym, subst, ◌∙◌}
-use Rattle.std.specs.Prelude.{option_map, slice_get, if◌then◌else◌}
-use Rattle.jvm_types.specs.declared.outcome.End.TheVariants as ends
-use Rattle.jvm_types.specs.declared.outcome.Thrown.{Thrown}
-use Rattle.jvm_types.specs.declared.outcome.Thrown.TheVariants.{StackOverflowError}
-use Rattle.jvm_types.specs.declared.program.MethodInfo.{MethodInfo}
-use Rattle.jvm_types.specs.declared.program.Row.{Row}
-use Rattle.jvm_types.specs.Members.{is_synchronized}
-use Rattle.jvm_types.specs.declared.program.Program.{Program}
+use Rattle.std.proofs.Common.{◌≡◌, ℕ, ◌+◌, nat_lt, Bool, true, false, cond, drop, List, [], ◌∷◌, Option, Some, None, refl, sym, subst, ◌∙◌, option_map, slice_get, if◌then◌else◌}
+use Rattle.jvm_types.specs.{Members.is_synchronized, declared.{outcome.Thrown.{Thrown, TheVariants.StackOverflowError}, program.{MethodInfo.MethodInfo, Program.Program, Row.Row}}}
 use Rattle.checked_program.specs.MarkedProgram.{MarkedProgram}
-use Rattle.machine_types.specs.Elision.{may_try}
-use Rattle.machine_types.specs.Events.{moved}
-use Rattle.machine_types.specs.Frames.{Top, frames_of, top_of, went_on, has_room, entry_frame, monitor_of, returned, handler_at}
-use Rattle.machine_types.specs.Going.{with_phase, runs, failed_turn, goes_on, goes_on_if, goes_after}
-use Rattle.machine_types.specs.HeldMonitors.{held_at, with_held, without_held, shallower, deeper}
-use Rattle.machine_types.specs.Instructions.{printed}
-use Rattle.machine_types.specs.LockWords.{lock_of}
-use Rattle.machine_types.specs.Monitors.{takes, retakes, Tries, claim, grown}
-use Rattle.machine_types.specs.Onward.{Onward, Running, Throwing, Entering, Leaving, RootReturned, Uncaught, root_arguments, rooted, back, unwound, handed, after}
-use Rattle.machine_types.specs.ReadyObjects.{class_of}
-use Rattle.machine_types.specs.Threads.{Frame, Attempt, Thread}
-use Rattle.machine_types.specs.declared.lock.Kept.{Kept}
-use Rattle.machine_types.specs.declared.lock.LockWord.TheVariants as locks
-use Rattle.machine_types.specs.declared.phase.After.{After}
-use Rattle.machine_types.specs.declared.phase.After.TheVariants as afters
-use Rattle.machine_types.specs.declared.phase.Phase.{Phase}
-use Rattle.machine_types.specs.declared.phase.Phase.TheVariants as phases
-use Rattle.machine_types.specs.declared.phase.Toward.{Toward}
-use Rattle.machine_types.specs.declared.phase.Toward.TheVariants as towards
+use Rattle.machine_types.specs.{Elision.may_try, Events.moved, Frames.{Top, frames_of, top_of, went_on, has_room, entry_frame, monitor_of, returned, handler_at}}
+use Rattle.machine_types.specs.{Going.{with_phase, runs, failed_turn, goes_on, goes_on_if, goes_after}, HeldMonitors.{held_at, with_held, without_held, shallower, deeper}, Instructions.printed}
+use Rattle.machine_types.specs.{LockWords.lock_of, Monitors.{takes, retakes, Tries, claim, grown}}
+use Rattle.machine_types.specs.{Onward.{Onward, Running, Throwing, Entering, Leaving, RootReturned, Uncaught, root_arguments, rooted, back, unwound, handed, after}, ReadyObjects.class_of}
+use Rattle.machine_types.specs.{Threads.{Frame, Attempt, Thread}, declared.{lock.Kept.Kept, phase.{After.After, Phase.Phase, Toward.Toward}}}
 use Rattle.laws_threads.proofs.ThreadMove.{Lacks, GoesBy, LeadsTo, TurnsTo, GivesUp, Asks, WaitsFrom, Move, becomes, tried_attempt, counting, any_move, runs_to, turns_to, over_to, same_onward}
+use Rattle.jvm_types.specs.declared.outcome.End.TheVariants as ends
+use Rattle.machine_types.specs.declared.lock.LockWord.TheVariants as locks
+use Rattle.machine_types.specs.declared.phase.After.TheVariants as afters
+use Rattle.machine_types.specs.declared.phase.Phase.TheVariants as phases
+use Rattle.machine_types.specs.declared.phase.Toward.TheVariants as towards
 use Rattle.laws_threads.proofs.ThreadMove as moves
 
 -- a thread is to enter a monitor

@@ -1,20 +1,12 @@
 -- The object that an `<init>` of a frozen class is on is built by the thread that runs it.
-use Rattle.std.proofs.Common.{◌≡◌, ℕ, ◌-◌, Bool, true, false, List, [], ◌∷◌, length, Option, Some, None, refl, sym, ap, ◌∙◌, subst}
-use Rattle.std.specs.Prelude.{◌==◌, ◌&&◌, if◌then◌else◌}
-use Rattle.std.proofs.lemmas.Bool.Decides.{Decides-eqb}
+use Rattle.std.proofs.{Common.{◌≡◌, ℕ, ◌-◌, Bool, true, false, List, [], ◌∷◌, length, Option, Some, None, refl, sym, ap, ◌∙◌, subst, ◌==◌, ◌&&◌, if◌then◌else◌}, lemmas.Bool.Decides.Decides-eqb}
 use Rattle.lists.proofs.ListLaws.{same_some}
-use Rattle.jvm_types.specs.CodeTable.{is_init}
-use Rattle.jvm_types.specs.declared.program.MethodInfo.{MethodInfo}
+use Rattle.jvm_types.specs.{CodeTable.is_init, declared.program.MethodInfo.MethodInfo}
 use Rattle.checked_program.specs.MarkedProgram.{MarkedProgram}
-use Rattle.machine_types.specs.Construction.{builds, ReceiverIs, FramesKeep, PhaseKeepsFrames, ThreadKeeps, BuilderTurn, Runs, turn_by, made_world}
-use Rattle.machine_types.specs.Frames.{pushed}
-use Rattle.machine_types.specs.Guards.{MakesObject}
-use Rattle.machine_types.specs.Structure.{operands_in}
-use Rattle.machine_types.specs.Threads.{Frame, Thread}
-use Rattle.machine_types.specs.Worlds.{Builder, Header, Made, Begun, Lost, World, builder, lost_if, same_builder}
-use Rattle.machine_types.specs.declared.phase.Phase.{Phase}
-use Rattle.machine_types.specs.declared.phase.Phase.TheVariants as phases
+use Rattle.machine_types.specs.{Construction.{builds, ReceiverIs, FramesKeep, PhaseKeepsFrames, ThreadKeeps, BuilderTurn, Runs, turn_by, made_world}, Frames.pushed, Guards.MakesObject}
+use Rattle.machine_types.specs.{Structure.operands_in, Threads.{Frame, Thread}, Worlds.{Builder, Header, Made, Begun, Lost, World, builder, lost_if, same_builder}, declared.phase.Phase.Phase}
 use Rattle.laws_refinement.proofs.FieldWriters.{TopIsOf}
+use Rattle.machine_types.specs.declared.phase.Phase.TheVariants as phases
 
 -- the thread builds the object
 abbrev pub IsOwn : World → (t r : ℕ) → Type 0

@@ -1,22 +1,11 @@
 -- The part of a thread in an attempt is under way.
-use Rattle.std.proofs.Common.{◌≡◌, ◌≢◌, ◌⊎◌, inl, inr, ℕ, zero, suc, List, Some, refl, sym, ap, ◌∙◌, subst, arith}
-use Rattle.std.specs.Prelude.{slice_get}
+use Rattle.std.proofs.Common.{◌≡◌, ◌≢◌, ◌⊎◌, inl, inr, ℕ, zero, suc, List, Some, refl, sym, ap, ◌∙◌, subst, arith, slice_get}
 use Rattle.checked_program.specs.MarkedProgram.{MarkedProgram}
+use Rattle.machine_types.specs.{Core.Core, PlainMemory.Object, PlainState.Plain, Threads.Thread, declared.{config.Config.Config, phase.{After.After, Phase.Phase}}}
+use Rattle.laws_states.{specs.{PartsStand.DoneRoots, StateFacts.StateFacts}, proofs.Lists.same_or_not}
+use Rattle.laws_simulation.{specs.StandsBeside.StandsBeside, proofs.{GoingOnAlike.PartRuns, PartsDue.rests_between}}
 use Rattle.jvm_types.specs.declared.outcome.End.TheVariants as ends
-use Rattle.machine_types.specs.Core.{Core}
-use Rattle.machine_types.specs.PlainMemory.{Object}
-use Rattle.machine_types.specs.PlainState.{Plain}
-use Rattle.machine_types.specs.Threads.{Thread}
-use Rattle.machine_types.specs.declared.config.Config.{Config}
-use Rattle.machine_types.specs.declared.phase.After.{After}
-use Rattle.machine_types.specs.declared.phase.Phase.{Phase}
 use Rattle.machine_types.specs.declared.phase.Phase.TheVariants as phases
-use Rattle.laws_states.proofs.Lists.{same_or_not}
-use Rattle.laws_states.specs.PartsStand.{DoneRoots}
-use Rattle.laws_states.specs.StateFacts.{StateFacts}
-use Rattle.laws_simulation.specs.StandsBeside.{StandsBeside}
-use Rattle.laws_simulation.proofs.GoingOnAlike.{PartRuns}
-use Rattle.laws_simulation.proofs.PartsDue.{rests_between}
 
 module _ (c : MarkedProgram) (cfg : Config) (objects : List Object) (was : ℕ → Phase) (s : Core) (t : ℕ) (x : Thread) (q : Plain) (facts : StateFacts c cfg objects was s) (beside : StandsBeside c.program objects s q)
     (there : slice_get s.threads t ≡ Some x) (m : ℕ) (a : After) (leaves : x.phase ≡ phases.Leave m a) where

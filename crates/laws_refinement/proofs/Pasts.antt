@@ -1,7 +1,5 @@
 -- The pasts of threads, of which an event changes one.
-use Rattle.std.proofs.Common.{◌≡◌, ℕ, zero, suc, ◌<◌, false, List, [], ◌∷◌, length, refl, arith}
-use Rattle.std.specs.Prelude.{◌==◌, slice_set, slice_index_or}
-use Rattle.std.proofs.lemmas.Bool.Decides.{nat_tests}
+use Rattle.std.proofs.{Common.{◌≡◌, ℕ, zero, suc, ◌<◌, false, List, [], ◌∷◌, length, refl, arith, ◌==◌, slice_set, slice_index_or}, lemmas.Bool.Decides.nat_tests}
 
 pub set_there : {X : Type 0} (xs : List X) (t : ℕ) (v d : X) → t < length xs → slice_index_or (slice_set xs t v) t d ≡ v
 set_there [] t v d k = absurd (omega (arith, k))

@@ -1,57 +1,29 @@
 -- An event inside an attempt, by its phase: it leaves the words and the objects as they are, and goes on with the attempt or
 -- ends it.
-use Rattle.std.proofs.Common.{◌≡◌, ℕ, zero, suc, ◌+◌, ◌<◌, Bool, true, false, cond, List, [], ◌∷◌, length, Option, Some, None, refl, sym, ap, ◌∙◌, subst, arith}
+use Rattle.std.proofs.Common.{◌≡◌, ℕ, zero, suc, ◌+◌, ◌<◌, Bool, true, false, cond, List, [], ◌∷◌, length, Option, Some, None, refl, sym, ap, ◌∙◌, subst, arith, nat_lt, drop, slice_get, slice_index, option_map, option_and_then}
 use Rattle.std.proofs.lemmas.Bool.Decides.{nat_tests}
-use Rattle.std.specs.Prelude.{nat_lt, drop, slice_get, slice_index, option_map, option_and_then}
 use Rattle.lists.proofs.TestLaws.{same_number}
-use Rattle.jvm_types.specs.declared.fixed_words.TheConstants.{NEXT_FREE_WORD}
-use Rattle.jvm_types.specs.declared.outcome.End.{End}
-use Rattle.jvm_types.specs.declared.outcome.End.TheVariants as ends
-use Rattle.jvm_types.specs.declared.outcome.Thrown.{Thrown}
+use Rattle.jvm_types.specs.declared.{fixed_words.TheConstants.NEXT_FREE_WORD, outcome.{End.End, Thrown.Thrown}}
 use Rattle.checked_program.specs.MarkedProgram.{MarkedProgram, IsMarked}
-use Rattle.machine_types.specs.Accesses.{found_by, words_after}
-use Rattle.machine_types.specs.Attempts.{Stays}
-use Rattle.machine_types.specs.Construction.{Construction}
-use Rattle.machine_types.specs.Core.{Core}
-use Rattle.machine_types.specs.Elision.{is_same, if_same, fails, elided, may_try}
-use Rattle.machine_types.specs.Events.{wanted, moved}
-use Rattle.machine_types.specs.Frames.{Top, top_of, handler_at, returned}
-use Rattle.machine_types.specs.Going.{goes_on, goes_on_if, goes_after, runs}
-use Rattle.machine_types.specs.HeldMonitors.{held_at}
+use Rattle.machine_types.specs.{Accesses.{found_by, words_after}, Attempts.Stays, Construction.Construction, Core.Core, Elision.{is_same, if_same, fails, elided, may_try}, Events.{wanted, moved}}
+use Rattle.machine_types.specs.{Frames.{Top, top_of, handler_at, returned}, Going.{goes_on, goes_on_if, goes_after, runs}, HeldMonitors.held_at}
 use Rattle.machine_types.specs.History.{Fate, GoesOn, Finishes, fate, fate_by, leave_fate, acts_of, enter_acts, leave_acts, act_if}
 use Rattle.machine_types.specs.Monitors.{Claim, Tries, HasNot, claim, claim_by, enter_wants, enter_moves, finish_wants, leave_wants, leave_moves, finishes}
-use Rattle.machine_types.specs.Onward.{Onward, Running, handed, back, unwound, dispatched, after}
-use Rattle.machine_types.specs.PlainMemory.{Object}
-use Rattle.machine_types.specs.PlainState.{PlainThread, Status}
-use Rattle.machine_types.specs.PlainState as plain
-use Rattle.machine_types.specs.ReadyObjects.{class_of}
+use Rattle.machine_types.specs.{Onward.{Onward, Running, handed, back, unwound, dispatched, after}, PlainMemory.Object, PlainState.{PlainThread, Status}, ReadyObjects.class_of}
 use Rattle.machine_types.specs.Replay.{Alone, only_on, goes, enters, leaves, replay_act, status_inside, at_present}
 use Rattle.machine_types.specs.Structure.{IsAs, IsLimitAt, CountsTurns, DrawsToWait, IsStructured, IsPhaseInside, Stands, AttemptStands, AttemptStandsIn, AfterShows, PhaseShows}
-use Rattle.machine_types.specs.Threads.{Attempt, Frame, Thread}
-use Rattle.machine_types.specs.Typed.{FramesHold, PhaseHolds, HasClass}
-use Rattle.machine_types.specs.Worlds.{World}
-use Rattle.machine_types.specs.declared.config.Config.{Config}
-use Rattle.machine_types.specs.declared.lock.Held.{Held}
-use Rattle.machine_types.specs.declared.phase.After.{After}
-use Rattle.machine_types.specs.declared.phase.After.TheVariants as afters
-use Rattle.machine_types.specs.declared.phase.Phase.{Phase}
-use Rattle.machine_types.specs.declared.phase.Phase.TheVariants as phases
-use Rattle.machine_types.specs.declared.plain.Act.{Act}
-use Rattle.machine_types.specs.declared.plain.Act.TheVariants as acts
-use Rattle.laws_threads.specs.TopFrames.{EffectsAreAllowed}
-use Rattle.laws_threads.proofs.Landing.{stand_top}
-use Rattle.laws_threads.specs.InsideMoves.{TopStands}
-use Rattle.laws_threads.proofs.EntryKept.{throws_kept, leaves_kept}
-use Rattle.laws_threads.proofs.Standings.{top_here}
-use Rattle.laws_threads.proofs.Steps.{no_element_inside}
-use Rattle.laws_states.specs.FoundLaws.{HeapWordsFit}
-use Rattle.laws_states.specs.HeapFacts.{objects_by}
-use Rattle.laws_states.proofs.PlainMoves.{goes_attempt}
-use Rattle.laws_states.specs.StateFacts.{StateFacts}
+use Rattle.machine_types.specs.{Threads.{Attempt, Frame, Thread}, Typed.{FramesHold, PhaseHolds, HasClass}, Worlds.World, declared.{config.Config.Config, lock.Held.Held, phase.After.After}}
+use Rattle.machine_types.specs.declared.{phase.Phase.Phase, plain.Act.Act}
+use Rattle.laws_threads.{specs.{InsideMoves.TopStands, TopFrames.EffectsAreAllowed}, proofs.{EntryKept.{throws_kept, leaves_kept}, Landing.stand_top, Standings.top_here, Steps.no_element_inside}}
+use Rattle.laws_states.{specs.{FoundLaws.HeapWordsFit, HeapFacts.objects_by, StateFacts.StateFacts}, proofs.PlainMoves.goes_attempt}
 use Rattle.laws_simulation.proofs.EventSteps.{LeavesWords, load_leaves}
-use Rattle.laws_refinement.proofs.GoingOn.{Grows, GoesAlike, Knows, inner_as, plain_as, running_now, going_alike, one_act}
+use Rattle.laws_refinement.proofs.{GoingOn.{Grows, GoesAlike, Knows, inner_as, plain_as, running_now, going_alike, one_act}, Instructions.{ByFate, look_leaves, leaves_words, runs_by_fate}}
+use Rattle.jvm_types.specs.declared.outcome.End.TheVariants as ends
+use Rattle.machine_types.specs.PlainState as plain
+use Rattle.machine_types.specs.declared.phase.After.TheVariants as afters
+use Rattle.machine_types.specs.declared.phase.Phase.TheVariants as phases
+use Rattle.machine_types.specs.declared.plain.Act.TheVariants as acts
 use Rattle.laws_refinement.proofs.GoingOn as going
-use Rattle.laws_refinement.proofs.Instructions.{ByFate, look_leaves, leaves_words, runs_by_fate}
 
 -- ---- the top frame is there
 

@@ -1,17 +1,11 @@
 -- What is due of an attempt as a run of the plain machine, with more steps behind it.
-use Rattle.std.proofs.Common.{◌≡◌, ◌≢◌, ℕ, ◌+◌, List, [], ◌∷◌, ◌++◌, Option, Some, None, refl, ap, ◌∙◌, arith}
-use Rattle.std.specs.Prelude.{option_and_then}
+use Rattle.std.proofs.Common.{◌≡◌, ◌≢◌, ℕ, ◌+◌, List, [], ◌∷◌, ◌++◌, Option, Some, None, refl, ap, ◌∙◌, arith, option_and_then}
 use Rattle.lists.proofs.ListLaws.{same_some}
 use Rattle.jvm_types.specs.declared.program.Program.{Program}
-use Rattle.machine_types.specs.Counting.{run_at, take_at, count_from, count_along}
-use Rattle.machine_types.specs.History.{steps_of}
-use Rattle.machine_types.specs.PlainState.{Plain, value_at}
-use Rattle.machine_types.specs.PlainSteps.{plain_run, plain_step}
-use Rattle.machine_types.specs.Replay.{Alone, replay_act, replayed}
-use Rattle.machine_types.specs.declared.plain.Act.{Act}
-use Rattle.machine_types.proofs.AttemptReplay as replay
-use Rattle.machine_types.proofs.AttemptReplay.{stands_as, Stands, stands_after, stands_twice}
+use Rattle.machine_types.specs.{Counting.{run_at, take_at, count_from, count_along}, History.steps_of, PlainState.{Plain, value_at}, PlainSteps.{plain_run, plain_step}}
+use Rattle.machine_types.{specs.{Replay.{Alone, replay_act, replayed}, declared.plain.Act.Act}, proofs.AttemptReplay.{stands_as, Stands, stands_after, stands_twice}}
 use Rattle.laws_refinement.proofs.CountedActs.{Does, does}
+use Rattle.machine_types.proofs.AttemptReplay as replay
 
 -- where x has come to y, with more acts behind
 pub record Played (p : Program) (q : Plain) (t m : ℕ) (due more : List Act) (x y : Alone) : Type 0 where

@@ -1,24 +1,11 @@
 -- The frames of an attempt are of different methods, which its section's method is or calls; so no more instructions stand ahead of
 -- them than these methods have.
-use Rattle.std.proofs.Common.{◌≡◌, ◌≢◌, ◌⊎◌, inl, inr, ℕ, zero, suc, ◌+◌, ◌-◌, ◌≤◌, nat_le, Bool, true, false, List, [], ◌∷◌, ◌++◌, length, take, Option, Some, None, refl, sym, ap, subst, ◌∙◌, arith}
-use Rattle.std.specs.Prelude.{slice_get, if◌then◌else◌}
-use Rattle.std.specs.List.{AllZip, Contains, sum_by}
-use Rattle.std.proofs.lemmas.Bool.Decides.{nat_tests}
-use Rattle.std.proofs.lemmas.List.Sums.{sum_by-cons}
-use Rattle.jvm_types.specs.declared.program.MethodInfo.{MethodInfo}
-use Rattle.jvm_types.specs.declared.program.Program.{Program}
-use Rattle.checked_program.specs.MarkedProgram.{MarkedProgram}
-use Rattle.checked_program.specs.Marks.{Calls, callee}
-use Rattle.checked_program.specs.Reach.{HasCall, HasCalls, IsReach, size_of}
-use Rattle.checked_program.specs.SectionLaws.{ApartLaw, HaveOwnMethods, AreParts, HasNone, Part}
-use Rattle.checked_program.specs.Sections.{Section}
-use Rattle.checked_program.specs.TaggedCode.{Tagged}
-use Rattle.checked_program.specs.declared.section.Mode.{Mode}
-use Rattle.checked_program.proofs.SumsOfSome.{IsWithout, without}
-use Rattle.machine_types.specs.Standing.{tags_of}
-use Rattle.machine_types.specs.Structure.{AttemptStands, Finishes, IsPart, RunsSection, frames_inside, section_of}
-use Rattle.machine_types.specs.Threads.{Attempt, Frame}
-use Rattle.machine_types.specs.declared.lock.Held.{Held}
+use Rattle.std.proofs.Common.{◌≡◌, ◌≢◌, ◌⊎◌, inl, inr, ℕ, zero, suc, ◌+◌, ◌-◌, ◌≤◌, nat_le, Bool, true, false, List, [], ◌∷◌, ◌++◌, length, take, Option, Some, None, refl, sym, ap, subst, ◌∙◌, arith, slice_get, if◌then◌else◌}
+use Rattle.std.{specs.List.{AllZip, Contains, sum_by}, proofs.lemmas.{Bool.Decides.nat_tests, List.Sums.sum_by-cons}}
+use Rattle.jvm_types.specs.declared.program.{MethodInfo.MethodInfo, Program.Program}
+use Rattle.checked_program.specs.{MarkedProgram.MarkedProgram, Marks.{Calls, callee}, Reach.{HasCall, HasCalls, IsReach, size_of}, SectionLaws.{ApartLaw, HaveOwnMethods, AreParts, HasNone, Part}}
+use Rattle.checked_program.{specs.{Sections.Section, TaggedCode.Tagged, declared.section.Mode.Mode}, proofs.SumsOfSome.{IsWithout, without}}
+use Rattle.machine_types.specs.{Standing.tags_of, Structure.{AttemptStands, Finishes, IsPart, RunsSection, frames_inside, section_of}, Threads.{Attempt, Frame}, declared.lock.Held.Held}
 use Rattle.machine_types.specs.declared.phase.Phase.{Phase}
 use Rattle.laws_refinement.proofs.InstructionsAhead.{ahead, ahead_in, all_ahead, no_more_than}
 

@@ -1,31 +1,17 @@
 -- The field of an object that an instruction reads inside an attempt is one that stays: frozen, or guarded and of the section's
 -- object; and its object is built by no other thread.
-use Rattle.std.proofs.Common.{◌≡◌, ◌≢◌, ◌⊎◌, inl, inr, ℕ, ◌<◌, Bool, true, false, List, Option, Some, None, refl, sym, ap, ◌∙◌, subst, arith, ⊎_elim}
-use Rattle.std.specs.Prelude.{slice_get, slice_index}
+use Rattle.std.proofs.Common.{◌≡◌, ◌≢◌, ◌⊎◌, inl, inr, ℕ, ◌<◌, Bool, true, false, List, Option, Some, None, refl, sym, ap, ◌∙◌, subst, arith, ⊎_elim, slice_get, slice_index}
 use Rattle.lists.proofs.ListLaws.{same_some}
-use Rattle.jvm_types.specs.CodeTable.{get_row, get_static_row}
-use Rattle.jvm_types.specs.Members.{MethodSite, is_static}
-use Rattle.jvm_types.specs.Types.{is_below}
-use Rattle.jvm_types.specs.declared.code.Op.{Op}
-use Rattle.jvm_types.specs.declared.code.Op.TheVariants as ops
-use Rattle.jvm_types.specs.declared.op_row.OpRow.{OpRow}
-use Rattle.jvm_types.specs.declared.program.FieldInfo.{FieldInfo}
-use Rattle.jvm_types.specs.declared.program.Program.{Program}
-use Rattle.jvm_types.specs.declared.program.Target.TheVariants as targets
-use Rattle.jvm_types.specs.declared.typing.VType.{VType}
-use Rattle.jvm_types.specs.declared.typing.VType.TheVariants as types
+use Rattle.jvm_types.specs.{CodeTable.{get_row, get_static_row}, Members.{MethodSite, is_static}, Types.is_below, declared.{code.Op.Op, op_row.OpRow.OpRow, program.FieldInfo.FieldInfo}}
+use Rattle.jvm_types.specs.declared.{program.Program.Program, typing.VType.VType}
 use Rattle.laws_programs.specs.TargetLaws.{HasRow, NamesField}
-use Rattle.checked_program.specs.FrozenPlaces.{IsFrozenField, IsGuardedField}
-use Rattle.checked_program.specs.SectionLaws.{ReadsOnly}
-use Rattle.checked_program.specs.TaggedCode.{Tagged}
-use Rattle.checked_program.specs.declared.section.Mode.{Mode}
-use Rattle.checked_program.specs.declared.section.Mode.TheVariants.{OnThis}
-use Rattle.checked_program.specs.declared.tag.Tag.{Tag}
+use Rattle.checked_program.specs.{FrozenPlaces.{IsFrozenField, IsGuardedField}, SectionLaws.ReadsOnly, TaggedCode.Tagged, declared.{section.Mode.{Mode, TheVariants.OnThis}, tag.Tag.Tag}}
 use Rattle.checked_program.specs.declared.tag.Tag.TheVariants.{This}
-use Rattle.machine_types.specs.Construction.{SlotByType, OwnSlot, SlotIs}
-use Rattle.machine_types.specs.Threads.{Attempt}
-use Rattle.machine_types.specs.Worlds.{Builder, World, IsOwnOrFinished, IsViewOf}
+use Rattle.machine_types.specs.{Construction.{SlotByType, OwnSlot, SlotIs}, Threads.Attempt, Worlds.{Builder, World, IsOwnOrFinished, IsViewOf}}
 use Rattle.laws_states.proofs.Lists.{same_or_not}
+use Rattle.jvm_types.specs.declared.code.Op.TheVariants as ops
+use Rattle.jvm_types.specs.declared.program.Target.TheVariants as targets
+use Rattle.jvm_types.specs.declared.typing.VType.TheVariants as types
 
 -- ---- which field
 

@@ -1,33 +1,18 @@
 -- In every state that a run reaches, what each thread keeps of its attempts at an entry is what its events tell.
-use Rattle.std.proofs.Common.{◌≡◌, ◌≢◌, ℕ, zero, suc, Bool, true, false, List, [], ◌∷◌, ◌++◌, Option, Some, None, refl, sym, ◌∙◌, subst, arith}
-use Rattle.std.specs.Prelude.{slice_get, ◌==◌, if◌then◌else◌}
+use Rattle.std.proofs.{Common.{◌≡◌, ◌≢◌, ℕ, zero, suc, Bool, true, false, List, [], ◌∷◌, ◌++◌, Option, Some, None, refl, sym, ◌∙◌, subst, arith, slice_get, ◌==◌, if◌then◌else◌}, lemmas.Bool.eqb-false}
 use Rattle.std.proofs.lemmas.Bool.Decides.{Decides-eqb}
-use Rattle.std.proofs.lemmas.Bool.{eqb-false}
 use Rattle.lists.proofs.ListLaws.{same_some}
 use Rattle.jvm_types.specs.declared.program.Program.{Program}
 use Rattle.checked_program.specs.MarkedProgram.{MarkedProgram, IsMarked}
 use Rattle.machine_types.specs.Accesses.{found_by}
 use Rattle.machine_types.specs.Core.{Core, Happening, Of, NextPart, start, start_thread, event, event_of, happened, all_happened, core, part_phase, with_roots, how_ended, may_begin, part_begins, next_threads}
-use Rattle.machine_types.specs.Events.{wanted, moved}
-use Rattle.machine_types.specs.Parts.{init_roots, run_roots, done_roots}
-use Rattle.machine_types.specs.Structure.{Structure}
-use Rattle.machine_types.specs.Threads.{Attempt, Thread}
-use Rattle.machine_types.specs.declared.config.Config.{Config}
-use Rattle.machine_types.specs.declared.phase.Phase.{Phase}
-use Rattle.machine_types.specs.declared.phase.Phase.TheVariants as phases
-use Rattle.machine_types.proofs.AtStart.{is_start_thread}
-use Rattle.laws_threads.proofs.Lists.{mapped_at}
-use Rattle.laws_states.specs.RunFacts.{HaveWidth}
-use Rattle.laws_states.specs.RunLaws.{PartsKeepThreads}
-use Rattle.laws_states.specs.StateLaws.{ProgramsKeepThreads, RunsHaveState, IsInState}
-use Rattle.laws_threads.specs.InsideEffects.{InsideMayDo}
-use Rattle.laws_threads.specs.InsideMoves.{NoElementInside}
-use Rattle.laws_states.proofs.GrowingRuns.{one_more}
+use Rattle.machine_types.specs.{Events.{wanted, moved}, Parts.{init_roots, run_roots, done_roots}, Structure.Structure, Threads.{Attempt, Thread}, declared.{config.Config.Config, phase.Phase.Phase}}
+use Rattle.machine_types.proofs.{AtStart.is_start_thread, Lists.{got_when_set, got_other}}
+use Rattle.laws_threads.{specs.{InsideEffects.InsideMayDo, InsideMoves.NoElementInside}, proofs.Lists.mapped_at}
+use Rattle.laws_states.{specs.{RunFacts.HaveWidth, RunLaws.PartsKeepThreads, StateLaws.{ProgramsKeepThreads, RunsHaveState, IsInState}}, proofs.GrowingRuns.one_more}
+use Rattle.laws_refinement.{specs.{Entries.{failed_of, failed_with, failed_from, failed_here, KeepsCount, HasFailedCount}, EntryLaws.ThreadsKeepCount}, proofs.Counts.{Counts, event_counted}}
 use Rattle.laws_refinement.proofs.Inside.{is_inside}
-use Rattle.laws_refinement.specs.Entries.{failed_of, failed_with, failed_from, failed_here, KeepsCount, HasFailedCount}
-use Rattle.laws_refinement.specs.EntryLaws.{ThreadsKeepCount}
-use Rattle.laws_refinement.proofs.Counts.{Counts, event_counted}
-use Rattle.machine_types.proofs.Lists.{got_when_set, got_other}
+use Rattle.machine_types.specs.declared.phase.Phase.TheVariants as phases
 
 -- ---- an event
 

@@ -1,17 +1,11 @@
 -- Where a part of the run begins, no thread counts, tries or prints anything.
-use Rattle.std.proofs.Common.{◌≡◌, ℕ, zero, suc, Bool, true, false, cond, List, [], ◌∷◌, map, Option, Some, None, refl, sym, ap, ◌∙◌, subst, arith}
-use Rattle.std.specs.Prelude.{slice_get}
-use Rattle.std.specs.List.{AllByRecursion}
+use Rattle.std.{proofs.Common.{◌≡◌, ℕ, zero, suc, Bool, true, false, cond, List, [], ◌∷◌, map, Option, Some, None, refl, sym, ap, ◌∙◌, subst, arith, slice_get}, specs.List.AllByRecursion}
 use Rattle.lists.proofs.ListLaws.{same_some}
-use Rattle.jvm_types.specs.declared.outcome.Counts.{Counts}
-use Rattle.jvm_types.specs.declared.program.Program.{Program}
-use Rattle.machine_types.specs.Core.{part_phase, may_begin, may_begin_by, with_roots, part_begins, next_threads}
-use Rattle.machine_types.specs.Counting.{CountsFit, extra_of}
-use Rattle.machine_types.specs.History.{Past}
-use Rattle.machine_types.specs.Parts.{run_roots, done_roots}
+use Rattle.jvm_types.specs.declared.{outcome.Counts.Counts, program.Program.Program}
+use Rattle.machine_types.specs.{Core.{part_phase, may_begin, may_begin_by, with_roots, part_begins, next_threads}, Counting.{CountsFit, extra_of}, History.Past, Parts.{run_roots, done_roots}}
 use Rattle.machine_types.specs.Threads.{Attempt, Thread}
-use Rattle.machine_types.specs.declared.phase.Phase.TheVariants as phases
 use Rattle.laws_threads.specs.PartLaws.{PartFits, PartsFit}
+use Rattle.machine_types.specs.declared.phase.Phase.TheVariants as phases
 
 pub record SameCounts (x z : Thread) : Type 0 where
   pub counts : z.counts ≡ x.counts

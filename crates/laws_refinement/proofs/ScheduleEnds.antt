@@ -1,17 +1,10 @@
 -- Along the list of events that an order stands for what holds of its stage is kept, up to the end of the run.
-use Rattle.std.proofs.Common.{◌≡◌, ℕ, suc, false, List, [], ◌∷◌, Option, Some, None, refl, sym, ap, subst}
-use Rattle.std.specs.Prelude.{slice_get}
+use Rattle.std.proofs.Common.{◌≡◌, ℕ, suc, false, List, [], ◌∷◌, Option, Some, None, refl, sym, ap, subst, slice_get}
 use Rattle.checked_program.specs.MarkedProgram.{MarkedProgram}
-use Rattle.machine_types.specs.Core.{Core, Happening, all_happened, core, happened, is_live_thread, start}
-use Rattle.machine_types.specs.Faithful.{IsOver}
-use Rattle.machine_types.specs.Schedules.{IsSchedule, Stage, First}
-use Rattle.machine_types.specs.Threads.{Thread}
-use Rattle.machine_types.specs.declared.config.Config.{Config}
-use Rattle.machine_types.proofs.AtStart.{is_start_thread}
+use Rattle.machine_types.specs.{Core.{Core, Happening, all_happened, core, happened, is_live_thread, start}, Faithful.IsOver, Schedules.{IsSchedule, Stage, First}, Threads.Thread}
+use Rattle.machine_types.{specs.declared.config.Config.Config, proofs.AtStart.is_start_thread}
 use Rattle.laws_threads.specs.GivenThread.{GivenIsKept}
-use Rattle.laws_refinement.specs.ScheduleOver.{SchedulesEndOver}
-use Rattle.laws_refinement.proofs.StageFits.{IsAlone, StageFits, TurnFits}
-use Rattle.laws_refinement.proofs.TurnsKeep.{turn_fits}
+use Rattle.laws_refinement.{specs.ScheduleOver.SchedulesEndOver, proofs.{StageFits.{IsAlone, StageFits, TurnFits}, TurnsKeep.turn_fits}}
 
 -- ---- the start
 

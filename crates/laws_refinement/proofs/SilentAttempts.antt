@@ -1,27 +1,13 @@
 -- An event of a thread inside an attempt loads a word, or accesses none: it changes no word.
-use Rattle.std.proofs.Common.{◌≡◌, ℕ, zero, suc, nat_le, Bool, true, false, List, Option, Some, None, refl, ap, ◌∙◌, subst}
-use Rattle.std.specs.Prelude.{◌==◌, option_map, if◌then◌else◌}
+use Rattle.std.proofs.Common.{◌≡◌, ℕ, zero, suc, nat_le, Bool, true, false, List, Option, Some, None, refl, ap, ◌∙◌, subst, ◌==◌, option_map, if◌then◌else◌}
 use Rattle.checked_program.specs.MarkedProgram.{MarkedProgram, IsMarked}
-use Rattle.machine_types.specs.Accesses.{words_after}
-use Rattle.machine_types.specs.declared.access.Access.{Access}
-use Rattle.machine_types.specs.declared.access.Access.TheVariants.{Load, Rest}
-use Rattle.machine_types.specs.Elision.{looks}
-use Rattle.machine_types.specs.Events.{wanted}
-use Rattle.machine_types.specs.Effects.{read_by}
-use Rattle.machine_types.specs.Frames.{Top, top_of, effect_at}
-use Rattle.machine_types.specs.HeldMonitors.{held_at}
-use Rattle.machine_types.specs.Instructions.{effect_wants, run_wants}
+use Rattle.machine_types.specs.{Accesses.words_after, Effects.read_by, Elision.looks, Events.wanted, Frames.{Top, top_of, effect_at}, HeldMonitors.held_at, Instructions.{effect_wants, run_wants}}
 use Rattle.machine_types.specs.Monitors.{Claim, Has, Tries, HasNot, claim, claim_by, enter_wants, finish_wants, leave_wants}
-use Rattle.machine_types.specs.Structure.{Stands, AttemptStands, AttemptStandsIn, IsAs, IsPhaseInside, IsStructured}
-use Rattle.machine_types.specs.Threads.{Attempt, Thread}
-use Rattle.machine_types.specs.declared.effect.Effect.{Effect}
-use Rattle.machine_types.specs.declared.effect.Effect.TheVariants.{Goes, Writes, Makes, Prints, Calls}
-use Rattle.machine_types.specs.declared.lock.Held.{Held}
-use Rattle.machine_types.specs.declared.phase.Phase.{Phase}
-use Rattle.machine_types.specs.declared.phase.Phase.TheVariants as phases
-use Rattle.laws_threads.specs.InsideEffects.{MayDo, InsideMayDo}
-use Rattle.laws_threads.specs.InsideMoves.{NoElementInside}
+use Rattle.machine_types.specs.{Structure.{Stands, AttemptStands, AttemptStandsIn, IsAs, IsPhaseInside, IsStructured}, Threads.{Attempt, Thread}, declared.access.Access.Access}
+use Rattle.machine_types.specs.declared.{access.Access.TheVariants.{Load, Rest}, effect.Effect.{Effect, TheVariants.{Goes, Writes, Makes, Prints, Calls}}, lock.Held.Held, phase.Phase.Phase}
+use Rattle.laws_threads.specs.{InsideEffects.{MayDo, InsideMayDo}, InsideMoves.NoElementInside}
 use Rattle.laws_states.proofs.WordViews.{set_self}
+use Rattle.machine_types.specs.declared.phase.Phase.TheVariants as phases
 
 -- ---- accesses that change nothing
 

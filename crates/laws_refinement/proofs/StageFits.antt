@@ -1,11 +1,7 @@
 -- What holds at each stage of a schedule.
-use Rattle.std.proofs.Common.{◌≡◌, ◌≤◌, ℕ, suc, false, Option, Some, None}
-use Rattle.std.specs.Prelude.{slice_get}
+use Rattle.std.proofs.Common.{◌≡◌, ◌≤◌, ℕ, suc, false, Option, Some, None, slice_get}
 use Rattle.checked_program.specs.MarkedProgram.{MarkedProgram}
-use Rattle.machine_types.specs.Core.{Core, happened, lives}
-use Rattle.machine_types.specs.Faithful.{IsOver}
-use Rattle.machine_types.specs.Schedules.{Stage, First, Ordered, Rounds, Last, Turn}
-use Rattle.machine_types.specs.Threads.{Thread}
+use Rattle.machine_types.specs.{Core.{Core, happened, lives}, Faithful.IsOver, Schedules.{Stage, First, Ordered, Rounds, Last, Turn}, Threads.Thread}
 
 -- the part of thread 0
 abbrev pub PartIs : (P : ℕ → Type 0) → Core → Type 0

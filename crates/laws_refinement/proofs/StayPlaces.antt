@@ -1,63 +1,28 @@
 -- Where a thread reads inside an attempt, the place stays as long as the monitor of the section is free.
-use Rattle.std.proofs.Common.{◌≡◌, ◌⊎◌, inl, inr, ℕ, ◌<◌, Bool, true, false, not, List, [], ◌∷◌, length, Option, Some, refl, sym, ap, ◌∙◌, subst, arith}
-use Rattle.std.specs.Prelude.{◌==◌, slice_get, slice_index, if◌then◌else◌}
-use Rattle.std.proofs.lemmas.Bool.{or_parts}
-use Rattle.std.proofs.lemmas.Bool.Decides.{nat_tests}
-use Rattle.lists.proofs.ListLaws.{same_some}
-use Rattle.lists.proofs.TestLaws.{is_true}
-use Rattle.jvm_types.specs.ClassNames.{file_of_class}
-use Rattle.jvm_types.specs.CodeTable.{get_row}
-use Rattle.jvm_types.specs.Members.{is_static}
-use Rattle.jvm_types.specs.ProgramInvariant.{IsProgram, site_in}
-use Rattle.jvm_types.specs.Types.{TypeFrame, is_below}
-use Rattle.jvm_types.specs.Verifying.{suits, some_taken, some_read, mistypes}
-use Rattle.jvm_types.specs.declared.code.Op.{Op}
+use Rattle.std.proofs.Common.{◌≡◌, ◌⊎◌, inl, inr, ℕ, ◌<◌, Bool, true, false, not, List, [], ◌∷◌, length, Option, Some, refl, sym, ap, ◌∙◌, subst, arith, ◌==◌, slice_get, slice_index, if◌then◌else◌}
+use Rattle.std.proofs.lemmas.Bool.{or_parts, Decides.nat_tests}
+use Rattle.lists.proofs.{ListLaws.same_some, TestLaws.is_true}
+use Rattle.jvm_types.specs.{ClassNames.file_of_class, CodeTable.get_row, Members.is_static, ProgramInvariant.{IsProgram, site_in}, Types.{TypeFrame, is_below}}
+use Rattle.jvm_types.specs.{Verifying.{suits, some_taken, some_read, mistypes}, declared.{code.Op.Op, fixed_words.TheConstants.NEXT_FREE_WORD, op_row.OpRow.OpRow, program.FieldInfo.FieldInfo}}
+use Rattle.jvm_types.specs.declared.{program.{MethodInfo.MethodInfo, Program.Program, Target.Target}, typing.VType.VType}
+use Rattle.laws_programs.{specs.TargetLaws.HasRow, proofs.ClassTreeLaws.files_alone}
+use Rattle.checked_program.specs.{FrozenPlaces.{IsFrozenStatic, IsGuardedStatic}, LockTags.TagShape, MarkedProgram.{MarkedProgram, IsMarked}, SectionLaws.ReadsOnly, declared.section.Mode.Mode}
+use Rattle.checked_program.specs.declared.{section.Mode.TheVariants.OnThis, tag.Tag.Tag}
+use Rattle.machine_types.specs.{Attempts.{IsFieldAt, Stays}, Construction.{Construction, FramesKeep, PhaseKeepsFrames, ReceiverIs, Runs, SlotOf, SlotsAre, IsFresh, ThreadKeeps, builds, makes_frozen}}
+use Rattle.machine_types.specs.{Core.Core, Effects.{gets, effect, variable_of}, Frames.{Top, top_of, effect_at, top_row}, PlainMemory.Object, Standing.{Whole, tags_of}}
+use Rattle.machine_types.specs.{Structure.{Stands, AttemptStands, frames_inside}, Threads.{Frame, Attempt, Thread}, Typed.HasClass, Words.{class_object, header_word, value_word, variable_word}}
+use Rattle.machine_types.specs.{Worlds.{Begun, World, IsFinished, IsOwnOrFinished, builder}, declared.effect.{Effect.TheVariants.{Reads, Throws}, Variable.{Variable, TheVariants.{Instance, Static}}}}
+use Rattle.machine_types.specs.declared.{lock.Held.Held, phase.Phase.Phase}
+use Rattle.laws_threads.{specs.InsideEffects.{IsStayingStatic, MayRead}, proofs.{Inside.{runs_inside, not_finished, top_shows, stack_this}, Landing.{rules_at, stand_top}}}
+use Rattle.laws_threads.proofs.{SectionFrames.{on_object, reads, row_stands}, Standings.{top_here, top_at_standing}}
+use Rattle.laws_refinement.proofs.ReadPlaces.{MayStay, GetsField, gets_field, IsOwnIn, own_in_all, of_object, slot}
 use Rattle.jvm_types.specs.declared.code.Op.TheVariants as ops
-use Rattle.jvm_types.specs.declared.fixed_words.TheConstants.{NEXT_FREE_WORD}
-use Rattle.jvm_types.specs.declared.op_row.OpRow.{OpRow}
 use Rattle.jvm_types.specs.declared.outcome.Thrown.TheVariants as thrown
-use Rattle.jvm_types.specs.declared.program.FieldInfo.{FieldInfo}
-use Rattle.jvm_types.specs.declared.program.MethodInfo.{MethodInfo}
-use Rattle.jvm_types.specs.declared.program.Program.{Program}
-use Rattle.jvm_types.specs.declared.program.Target.{Target}
 use Rattle.jvm_types.specs.declared.program.Target.TheVariants as targets
-use Rattle.jvm_types.specs.declared.typing.VType.{VType}
 use Rattle.jvm_types.specs.declared.typing.VType.TheVariants as types
-use Rattle.laws_programs.proofs.ClassTreeLaws.{files_alone}
-use Rattle.laws_programs.specs.TargetLaws.{HasRow}
-use Rattle.checked_program.specs.FrozenPlaces.{IsFrozenStatic, IsGuardedStatic}
-use Rattle.checked_program.specs.LockTags.{TagShape}
-use Rattle.checked_program.specs.MarkedProgram.{MarkedProgram, IsMarked}
-use Rattle.checked_program.specs.SectionLaws.{ReadsOnly}
-use Rattle.checked_program.specs.declared.section.Mode.{Mode}
-use Rattle.checked_program.specs.declared.section.Mode.TheVariants.{OnThis}
-use Rattle.checked_program.specs.declared.tag.Tag.{Tag}
-use Rattle.machine_types.specs.Attempts.{IsFieldAt, Stays}
 use Rattle.machine_types.specs.Attempts as attempts
-use Rattle.machine_types.specs.Construction.{Construction, FramesKeep, PhaseKeepsFrames, ReceiverIs, Runs, SlotOf, SlotsAre, IsFresh, ThreadKeeps, builds, makes_frozen}
-use Rattle.machine_types.specs.Core.{Core}
-use Rattle.machine_types.specs.Effects.{gets, effect, variable_of}
-use Rattle.machine_types.specs.Frames.{Top, top_of, effect_at, top_row}
-use Rattle.machine_types.specs.PlainMemory.{Object}
-use Rattle.machine_types.specs.Standing.{Whole, tags_of}
-use Rattle.machine_types.specs.Structure.{Stands, AttemptStands, frames_inside}
-use Rattle.machine_types.specs.Threads.{Frame, Attempt, Thread}
-use Rattle.machine_types.specs.Typed.{HasClass}
-use Rattle.machine_types.specs.Words.{class_object, header_word, value_word, variable_word}
-use Rattle.machine_types.specs.Worlds.{Begun, World, IsFinished, IsOwnOrFinished, builder}
-use Rattle.machine_types.specs.declared.effect.Effect.TheVariants.{Reads, Throws}
-use Rattle.machine_types.specs.declared.effect.Variable.{Variable}
-use Rattle.machine_types.specs.declared.effect.Variable.TheVariants.{Instance, Static}
-use Rattle.machine_types.specs.declared.lock.Held.{Held}
-use Rattle.machine_types.specs.declared.phase.Phase.{Phase}
 use Rattle.machine_types.specs.declared.phase.Phase.TheVariants as phases
 use Rattle.laws_threads.specs.Allowed as allowed
-use Rattle.laws_threads.specs.InsideEffects.{IsStayingStatic, MayRead}
-use Rattle.laws_threads.proofs.Landing.{rules_at, stand_top}
-use Rattle.laws_threads.proofs.Inside.{runs_inside, not_finished, top_shows, stack_this}
-use Rattle.laws_threads.proofs.SectionFrames.{on_object, reads, row_stands}
-use Rattle.laws_threads.proofs.Standings.{top_here, top_at_standing}
-use Rattle.laws_refinement.proofs.ReadPlaces.{MayStay, GetsField, gets_field, IsOwnIn, own_in_all, of_object, slot}
 
 -- ---- what the marks say of the instruction at which the top frame stands
 

@@ -1,38 +1,17 @@
 -- The places that stay for a thread stay so after an event of another thread, and keep their words.
-use Rattle.std.proofs.Common.{◌≡◌, ◌≢◌, ◌⊎◌, inl, inr, ℕ, zero, suc, Bool, true, false, List, Option, Some, None, refl, sym, ap, ◌∙◌, subst, arith}
-use Rattle.std.specs.Prelude.{Contains, slice_get, slice_index}
+use Rattle.std.proofs.Common.{◌≡◌, ◌≢◌, ◌⊎◌, inl, inr, ℕ, zero, suc, Bool, true, false, List, Option, Some, None, refl, sym, ap, ◌∙◌, subst, arith, Contains, slice_get, slice_index}
 use Rattle.lists.proofs.ListLaws.{same_some}
-use Rattle.jvm_types.specs.ClassNames.{file_of_class}
-use Rattle.jvm_types.specs.Members.{is_final, is_private, is_static}
-use Rattle.jvm_types.specs.declared.program.FieldInfo.{FieldInfo}
-use Rattle.jvm_types.specs.declared.program.Program.{Program}
+use Rattle.jvm_types.specs.{ClassNames.file_of_class, Members.{is_final, is_private, is_static}, declared.program.{FieldInfo.FieldInfo, Program.Program}}
 use Rattle.checked_program.specs.MarkedProgram.{MarkedProgram}
-use Rattle.machine_types.specs.Accesses.{words_after}
-use Rattle.machine_types.specs.Attempts.{IsFieldAt, Stays, header, frozen, guarded, frozen_static, guarded_static}
-use Rattle.machine_types.specs.Core.{Core, event, event_of}
-use Rattle.machine_types.specs.Events.{wanted}
-use Rattle.machine_types.specs.Guards.{Changes, ChangesWord, HoldsMonitor, IsOfClassInit, KeepsGuards, MakesClass, MakesObject}
-use Rattle.machine_types.specs.LockWords.{word_of_lock}
-use Rattle.machine_types.specs.NewObjects.{size_by}
-use Rattle.machine_types.specs.PlainMemory.{Object, new_object}
-use Rattle.machine_types.specs.Structure.{AttemptStands, AttemptStandsIn, IsAs, IsPhaseInside, IsStructured, Stands}
-use Rattle.machine_types.specs.Threads.{Attempt, Thread}
-use Rattle.machine_types.specs.Words.{class_object, value_word}
-use Rattle.machine_types.specs.Worlds.{Builder, World, IsOwnOrFinished}
-use Rattle.machine_types.specs.declared.config.Config.{Config}
+use Rattle.machine_types.specs.{Accesses.words_after, Attempts.{IsFieldAt, Stays, header, frozen, guarded, frozen_static, guarded_static}, Core.{Core, event, event_of}, Events.wanted}
+use Rattle.machine_types.specs.{Guards.{Changes, ChangesWord, HoldsMonitor, IsOfClassInit, KeepsGuards, MakesClass, MakesObject}, LockWords.word_of_lock, NewObjects.size_by}
+use Rattle.machine_types.specs.{PlainMemory.{Object, new_object}, Structure.{AttemptStands, AttemptStandsIn, IsAs, IsPhaseInside, IsStructured, Stands}, Threads.{Attempt, Thread}}
+use Rattle.machine_types.specs.{Words.{class_object, value_word}, Worlds.{Builder, World, IsOwnOrFinished}, declared.{config.Config.Config, phase.Phase.Phase}}
+use Rattle.laws_threads.specs.{InsideEffects.InsideMayDo, InsideMoves.NoElementInside}
+use Rattle.laws_states.{specs.{HeapFacts.{objects_after, objects_by, objects_of}, SiteLaws.{EventsReachSites, SitesDiffer, SitesLieInside}}, proofs.Lists.{contains_more, same_or_not}}
+use Rattle.laws_refinement.{specs.ElidedSteps.{EventStands, next_free}, proofs.{FieldWriters.{TopIsOf, field_writer}, LockNoted.held_not, OwnBuilders.{IsOwn, makes_own}, SilentAttempts.silent}}
 use Rattle.machine_types.specs.declared.lock.LockWord.TheVariants as locks
-use Rattle.machine_types.specs.declared.phase.Phase.{Phase}
 use Rattle.machine_types.specs.declared.phase.Phase.TheVariants as phases
-use Rattle.laws_threads.specs.InsideEffects.{InsideMayDo}
-use Rattle.laws_threads.specs.InsideMoves.{NoElementInside}
-use Rattle.laws_states.specs.HeapFacts.{objects_after, objects_by, objects_of}
-use Rattle.laws_states.specs.SiteLaws.{EventsReachSites, SitesDiffer, SitesLieInside}
-use Rattle.laws_states.proofs.Lists.{contains_more, same_or_not}
-use Rattle.laws_refinement.specs.ElidedSteps.{EventStands, next_free}
-use Rattle.laws_refinement.proofs.FieldWriters.{TopIsOf, field_writer}
-use Rattle.laws_refinement.proofs.LockNoted.{held_not}
-use Rattle.laws_refinement.proofs.OwnBuilders.{IsOwn, makes_own}
-use Rattle.laws_refinement.proofs.SilentAttempts.{silent}
 
 -- ---- objects stay
 

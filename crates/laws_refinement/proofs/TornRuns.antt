@@ -1,39 +1,21 @@
 -- Once the lock word of an attempt is no longer as it was noted, each instruction that it begins takes one away of those ahead of its
 -- frames, whatever happens.
-use Rattle.std.proofs.Common.{◌≡◌, ◌≢◌, ◌⊎◌, inl, inr, ℕ, zero, suc, ◌+◌, ◌≤◌, Bool, true, false, List, [], ◌∷◌, ◌++◌, map, drop, Option, Some, None, refl, sym, ap, subst, ◌∙◌, arith}
-use Rattle.std.specs.Prelude.{◌==◌, slice_get, slice_index, if◌then◌else◌}
-use Rattle.std.proofs.lemmas.Bool.Decides.{Decides-eqb}
-use Rattle.std.proofs.lemmas.Bool.{eqb-false}
+use Rattle.std.proofs.Common.{◌≡◌, ◌≢◌, ◌⊎◌, inl, inr, ℕ, zero, suc, ◌+◌, ◌≤◌, Bool, true, false, List, [], ◌∷◌, ◌++◌, map, drop, Option, Some, None, refl, sym, ap, subst, ◌∙◌, arith, ◌==◌, slice_get, slice_index, if◌then◌else◌}
+use Rattle.std.proofs.lemmas.Bool.{eqb-false, Decides.Decides-eqb}
 use Rattle.lists.proofs.ListLaws.{same_some}
 use Rattle.jvm_types.specs.declared.program.Program.{Program}
-use Rattle.checked_program.specs.MarkedProgram.{MarkedProgram, IsMarked}
-use Rattle.checked_program.specs.SectionLaws.{ApartLaw}
-use Rattle.machine_types.specs.Accesses.{found_by}
-use Rattle.machine_types.specs.Core.{Core, Happening, Of, NextPart, core, event_of, happened, how_ended, may_begin, next_threads, part_begins, part_phase, with_roots}
-use Rattle.machine_types.specs.Elision.{is_same}
-use Rattle.machine_types.specs.Events.{wanted, moved}
-use Rattle.machine_types.specs.LockWords.{word_of_lock}
-use Rattle.machine_types.specs.Parts.{run_roots, done_roots}
-use Rattle.machine_types.specs.Settings.{AreSettings}
-use Rattle.machine_types.specs.Structure.{AttemptStands, AttemptStandsIn, IsStructured}
-use Rattle.machine_types.specs.Threads.{Attempt, Frame, Thread}
-use Rattle.machine_types.specs.declared.access.Access.TheVariants.{Load}
-use Rattle.machine_types.specs.declared.config.Config.{Config}
+use Rattle.checked_program.specs.{MarkedProgram.{MarkedProgram, IsMarked}, SectionLaws.ApartLaw}
+use Rattle.machine_types.specs.{Accesses.found_by, Core.{Core, Happening, Of, NextPart, core, event_of, happened, how_ended, may_begin, next_threads, part_begins, part_phase, with_roots}}
+use Rattle.machine_types.specs.{Elision.is_same, Events.{wanted, moved}, LockWords.word_of_lock, Parts.{run_roots, done_roots}, Settings.AreSettings}
+use Rattle.machine_types.specs.{Structure.{AttemptStands, AttemptStandsIn, IsStructured}, Threads.{Attempt, Frame, Thread}, declared.{access.Access.TheVariants.Load, config.Config.Config}}
+use Rattle.machine_types.{specs.declared.phase.Phase.Phase, proofs.Lists.{got_when_set, got_other}}
+use Rattle.laws_threads.specs.{InsideEffects.InsideMayDo, InsideMoves.NoElementInside}
+use Rattle.laws_states.{specs.{RunFacts.HaveWidth, RunSafety.{IsSafe, RunsAreSafe}}, proofs.GrowingRuns.one_more}
+use Rattle.laws_refinement.{specs.TornRuns.{attempt_in, begun_in, begun_of, begun_by, begun_inside, if_open, IsTorn, NotedNeverReturns, TornRunsAreShort}, proofs.Inside.{Inside, is_inside}}
+use Rattle.laws_refinement.proofs.{InstructionsAhead.all_ahead, LateEvents.{Falls, goes_on_with, late, left_in}, ReachedAhead.reached_ahead}
 use Rattle.machine_types.specs.declared.lock.LockWord.TheVariants as locks
 use Rattle.machine_types.specs.declared.phase.After.TheVariants as afters
-use Rattle.machine_types.specs.declared.phase.Phase.{Phase}
 use Rattle.machine_types.specs.declared.phase.Phase.TheVariants as phases
-use Rattle.laws_threads.specs.InsideEffects.{InsideMayDo}
-use Rattle.laws_threads.specs.InsideMoves.{NoElementInside}
-use Rattle.laws_states.specs.RunFacts.{HaveWidth}
-use Rattle.laws_states.specs.RunSafety.{IsSafe, RunsAreSafe}
-use Rattle.laws_refinement.proofs.Inside.{Inside, is_inside}
-use Rattle.laws_refinement.specs.TornRuns.{attempt_in, begun_in, begun_of, begun_by, begun_inside, if_open, IsTorn, NotedNeverReturns, TornRunsAreShort}
-use Rattle.laws_refinement.proofs.InstructionsAhead.{all_ahead}
-use Rattle.laws_refinement.proofs.LateEvents.{Falls, goes_on_with, late, left_in}
-use Rattle.laws_refinement.proofs.ReachedAhead.{reached_ahead}
-use Rattle.laws_states.proofs.GrowingRuns.{one_more}
-use Rattle.machine_types.proofs.Lists.{got_when_set, got_other}
 
 -- ---- an attempt that is over begins nothing
 

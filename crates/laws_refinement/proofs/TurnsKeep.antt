@@ -1,19 +1,12 @@
 -- Each turn of a stage keeps what holds there, or comes to the next stage; and where no turn comes, the run is over.
-use Rattle.std.proofs.Common.{◌≡◌, ◌≤◌, ◌<◌, ℕ, zero, suc, ◌+◌, Bool, true, false, List, [], ◌∷◌, length, Option, Some, None, refl, sym, ap, subst, ◌∙◌, arith}
-use Rattle.std.specs.Prelude.{nat_le, nat_lt, ◌&&◌, if◌then◌else◌, find, slice_get}
-use Rattle.std.specs.List.{range_with_len}
-use Rattle.std.specs.Option.{option_or}
-use Rattle.std.proofs.lemmas.Bool.Decides.{nat_tests}
+use Rattle.std.proofs.Common.{◌≡◌, ◌≤◌, ◌<◌, ℕ, zero, suc, ◌+◌, Bool, true, false, List, [], ◌∷◌, length, Option, Some, None, refl, sym, ap, subst, ◌∙◌, arith, nat_le, nat_lt, ◌&&◌, if◌then◌else◌, find, slice_get}
+use Rattle.std.{specs.{List.range_with_len, Option.option_or}, proofs.lemmas.{Bool.Decides.nat_tests, Option.slice_get_past}}
 use Rattle.jvm_types.specs.declared.program.Program.{Program}
 use Rattle.checked_program.specs.MarkedProgram.{MarkedProgram}
-use Rattle.machine_types.specs.Core.{Core, Of, NextPart, event, is_live_thread, lives, may_begin, may_begin_by, next, next_threads, part_begins}
-use Rattle.machine_types.specs.Faithful.{IsOver}
-use Rattle.machine_types.specs.Schedules.{Stage, First, Ordered, Rounds, Last, turn_of, turn_at, part_turn, ordered, round_turn_from, round_turn, is_live_worker, live_from}
-use Rattle.machine_types.specs.Threads.{Thread}
+use Rattle.machine_types.specs.{Core.{Core, Of, NextPart, event, is_live_thread, lives, may_begin, may_begin_by, next, next_threads, part_begins}, Faithful.IsOver}
+use Rattle.machine_types.specs.{Schedules.{Stage, First, Ordered, Rounds, Last, turn_of, turn_at, part_turn, ordered, round_turn_from, round_turn, is_live_worker, live_from}, Threads.Thread}
 use Rattle.laws_threads.specs.GivenThread.{GivenIsKept}
-use Rattle.laws_refinement.proofs.EventsKeep.{none_wakes, keeps_part}
-use Rattle.laws_refinement.proofs.StageFits.{PartIs, NoWorkerLives, IsAlone, IsWaiting, StageFits, TurnFits}
-use Rattle.std.proofs.lemmas.Option.{slice_get_past}
+use Rattle.laws_refinement.proofs.{EventsKeep.{none_wakes, keeps_part}, StageFits.{PartIs, NoWorkerLives, IsAlone, IsWaiting, StageFits, TurnFits}}
 
 -- ---- an event
 

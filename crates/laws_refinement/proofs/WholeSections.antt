@@ -1,27 +1,15 @@
 -- A section that an attempt has done, as a run of the plain machine: its entry, what is due and its exit; and what they count.
-use Rattle.std.proofs.Common.{◌≡◌, ◌≢◌, ℕ, suc, ◌+◌, List, [], ◌∷◌, ◌++◌, Option, Some, None, refl, ap, ◌∙◌, arith}
-use Rattle.std.specs.Prelude.{option_and_then, slice_get, slice_set}
-use Rattle.std.proofs.lemmas.List.{set-set}
-use Rattle.jvm_types.specs.declared.outcome.End.{End}
-use Rattle.jvm_types.specs.declared.program.Program.{Program}
-use Rattle.machine_types.specs.Agreement.{AttemptFits}
-use Rattle.machine_types.specs.Counting.{is_free, one_if, run_at, take_at, count_from, count_along}
-use Rattle.machine_types.specs.History.{Past, steps_of}
-use Rattle.machine_types.specs.Onward.{Onward, after}
+use Rattle.std.proofs.{Common.{◌≡◌, ◌≢◌, ℕ, suc, ◌+◌, List, [], ◌∷◌, ◌++◌, Option, Some, None, refl, ap, ◌∙◌, arith, option_and_then, slice_get, slice_set}, lemmas.List.set-set}
+use Rattle.jvm_types.specs.declared.{outcome.End.End, program.Program.Program}
+use Rattle.machine_types.specs.{Agreement.AttemptFits, Counting.{is_free, one_if, run_at, take_at, count_from, count_along}, History.{Past, steps_of}, Onward.{Onward, after}}
 use Rattle.machine_types.specs.PlainState.{Plain, PlainThread, Holding, value_at, holding_at, with_holding, without_holding, let_go, with_thread}
-use Rattle.machine_types.specs.PlainState as plain
-use Rattle.machine_types.specs.PlainSteps.{plain_entered, plain_run, plain_step, step_at, step_of}
-use Rattle.machine_types.specs.Replay.{Alone, replayed, at_entry, at_present, status_inside}
-use Rattle.machine_types.specs.Threads.{Attempt, Thread}
-use Rattle.machine_types.specs.declared.phase.After.{After}
-use Rattle.machine_types.specs.declared.phase.Phase.{Phase}
-use Rattle.machine_types.specs.declared.phase.Phase.TheVariants as phases
-use Rattle.machine_types.specs.declared.plain.Act.{Act}
-use Rattle.machine_types.specs.declared.plain.Act.TheVariants as acts
-use Rattle.machine_types.proofs.AttemptReplay.{hold, stands_as, Stands, stands_after}
-use Rattle.laws_simulation.proofs.PlainCounts.{none_along, did_enter, not_run, not_taken}
-use Rattle.laws_simulation.proofs.LockPlain.{exits}
+use Rattle.machine_types.specs.{PlainSteps.{plain_entered, plain_run, plain_step, step_at, step_of}, Replay.{Alone, replayed, at_entry, at_present, status_inside}, Threads.{Attempt, Thread}}
+use Rattle.machine_types.{specs.declared.{phase.{After.After, Phase.Phase}, plain.Act.Act}, proofs.AttemptReplay.{hold, stands_as, Stands, stands_after}}
+use Rattle.laws_simulation.proofs.{LockPlain.exits, PlainCounts.{none_along, did_enter, not_run, not_taken}}
 use Rattle.laws_refinement.proofs.PlayedDue.{Played, played}
+use Rattle.machine_types.specs.PlainState as plain
+use Rattle.machine_types.specs.declared.phase.Phase.TheVariants as phases
+use Rattle.machine_types.specs.declared.plain.Act.TheVariants as acts
 
 -- the monitor is held at its entry, and inside, and then let go
 abbrev pub holdings_behind : List Holding → (m t inner : ℕ) → List Holding

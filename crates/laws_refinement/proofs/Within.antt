@@ -1,32 +1,18 @@
 -- What an event inside an attempt makes of it: the thread goes on in the same one, or is about to enter again, or goes on behind
 -- the section, and is then at no entry.
-use Rattle.std.proofs.Common.{◌≡◌, ℕ, zero, suc, ◌+◌, nat_lt, Bool, true, false, cond, drop, List, [], ◌∷◌, Option, Some, None, refl, sym, ap, ◌∙◌, subst}
-use Rattle.std.specs.Prelude.{option_map}
-use Rattle.jvm_types.specs.declared.outcome.Thrown.{Thrown}
-use Rattle.jvm_types.specs.declared.program.Program.{Program}
-use Rattle.checked_program.specs.MarkedProgram.{MarkedProgram}
-use Rattle.machine_types.specs.Elision.{may_try, is_same, is_checked, if_same, put_back, fails, elided}
-use Rattle.machine_types.specs.Events.{moved}
-use Rattle.machine_types.specs.Frames.{Top, top_of, effect_at, returned}
-use Rattle.machine_types.specs.Going.{with_phase, goes_on, goes_on_if, goes_after, root_over}
-use Rattle.machine_types.specs.History.{Fate, GoesOn, Fails, Finishes, fate, fate_by, run_fate, leave_fate}
-use Rattle.machine_types.specs.Instructions.{begun, did, instructed, ran}
-use Rattle.machine_types.specs.Monitors.{Claim, finishes, enter_moves, leave_moves}
-use Rattle.machine_types.specs.Onward.{Onward, back, unwound, dispatched, after, done}
-use Rattle.machine_types.specs.Threads.{Attempt, Frame, Thread}
-use Rattle.machine_types.specs.declared.effect.Effect.{Effect}
-use Rattle.machine_types.specs.declared.effect.Effect.TheVariants.{Writes, Indexes, Makes, Prints, Waits, Notifies, NotifiesAll}
-use Rattle.machine_types.specs.declared.phase.After.{After}
-use Rattle.machine_types.specs.declared.phase.After.TheVariants as afters
+use Rattle.std.proofs.Common.{◌≡◌, ℕ, zero, suc, ◌+◌, nat_lt, Bool, true, false, cond, drop, List, [], ◌∷◌, Option, Some, None, refl, sym, ap, ◌∙◌, subst, option_map}
+use Rattle.jvm_types.specs.declared.{outcome.Thrown.Thrown, program.Program.Program}
+use Rattle.checked_program.{specs.MarkedProgram.MarkedProgram, proofs.FilledTags.some_fewer}
+use Rattle.machine_types.specs.{Elision.{may_try, is_same, is_checked, if_same, put_back, fails, elided}, Events.moved, Frames.{Top, top_of, effect_at, returned}}
+use Rattle.machine_types.specs.{Going.{with_phase, goes_on, goes_on_if, goes_after, root_over}, History.{Fate, GoesOn, Fails, Finishes, fate, fate_by, run_fate, leave_fate}}
+use Rattle.machine_types.specs.{Instructions.{begun, did, instructed, ran}, Monitors.{Claim, finishes, enter_moves, leave_moves}, Onward.{Onward, back, unwound, dispatched, after, done}}
+use Rattle.machine_types.specs.{Threads.{Attempt, Frame, Thread}, declared.{effect.Effect.{Effect, TheVariants.{Writes, Indexes, Makes, Prints, Waits, Notifies, NotifiesAll}}, phase.After.After}}
 use Rattle.machine_types.specs.declared.phase.Phase.{Phase}
-use Rattle.machine_types.specs.declared.phase.Phase.TheVariants as phases
-use Rattle.laws_threads.specs.InsideEffects.{MayDo}
-use Rattle.laws_threads.proofs.ThreadMove.{same_onward}
+use Rattle.laws_threads.{specs.InsideEffects.MayDo, proofs.ThreadMove.same_onward}
 use Rattle.laws_states.proofs.PlainMoves.{goes_attempt}
-use Rattle.laws_refinement.proofs.Inside.{Inside, KnownInside}
-use Rattle.laws_refinement.specs.EntryLaws.{HasFailed}
-use Rattle.laws_refinement.proofs.OutsideEntries.{is_entering, in_run}
-use Rattle.checked_program.proofs.FilledTags.{some_fewer}
+use Rattle.laws_refinement.{specs.EntryLaws.HasFailed, proofs.{Inside.{Inside, KnownInside}, OutsideEntries.{is_entering, in_run}}}
+use Rattle.machine_types.specs.declared.phase.After.TheVariants as afters
+use Rattle.machine_types.specs.declared.phase.Phase.TheVariants as phases
 
 -- x is the thread before
 abbrev pub HasFate : (x y : Thread) → Attempt → Fate → Type 0

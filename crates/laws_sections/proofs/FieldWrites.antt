@@ -1,26 +1,12 @@
 -- Where guarded fields, final fields of frozen classes, and final static fields are written.
-use Rattle.std.proofs.Common.{◌≡◌, ℕ, Bool, true, false, not, ◌&&◌, ◌||◌, [], ◌∷◌, Some, None, refl, sym, ◌∙◌, subst, inl, inr, ◌⊎◌, arith}
-use Rattle.std.specs.Prelude.{◌==◌, slice_get, IsSomeAnd}
-use Rattle.std.specs.List.{list_any}
-use Rattle.std.proofs.lemmas.Bool.{and_parts, eqb-true}
-use Rattle.std.proofs.lemmas.Bool.Decides.{nat_tests}
-use Rattle.jvm_types.specs.CodeTable.{is_init}
-use Rattle.jvm_types.specs.Members.{is_final, is_hidden, is_other_sort, is_class_init_name, initializes, first_rule, field_rule}
-use Rattle.jvm_types.specs.declared.refusal.LRule.TheVariants.{L2, L3, L7}
-use Rattle.jvm_types.specs.ProgramInvariant.{IsProgram, IsTargetOf, site_in}
-use Rattle.jvm_types.specs.declared.code.Insn.{Insn}
-use Rattle.jvm_types.specs.declared.code.Op.{Op}
+use Rattle.std.{proofs.Common.{◌≡◌, ℕ, Bool, true, false, not, ◌&&◌, ◌||◌, [], ◌∷◌, Some, None, refl, sym, ◌∙◌, subst, inl, inr, ◌⊎◌, arith, ◌==◌, slice_get, IsSomeAnd}, specs.List.list_any}
+use Rattle.std.proofs.lemmas.Bool.{and_parts, eqb-true, Decides.nat_tests}
+use Rattle.jvm_types.specs.{CodeTable.is_init, Members.{is_final, is_hidden, is_other_sort, is_class_init_name, initializes, first_rule, field_rule}, ProgramInvariant.{IsProgram, IsTargetOf, site_in}}
+use Rattle.jvm_types.specs.declared.{code.{Insn.Insn, Op.Op}, program.{FieldInfo.FieldInfo, MethodInfo.MethodInfo, Program.Program, Target.Target}, refusal.LRule.TheVariants.{L2, L3, L7}}
+use Rattle.checked_program.specs.{FrozenPlaces.{locks_this, locks_class, PutsGuarded, PutsStatic, WritesGuarded, PutsOnThis, is_final_of}, LockTags.{TagShape, is_this}}
+use Rattle.checked_program.{specs.{SectionLaws.{WriteLaw, StaticWriteLaw, FinalLaw, FinalStaticLaw}, TaggedCode.{Tagged, IsAt}}, proofs.NamedFields.target_named}
 use Rattle.jvm_types.specs.declared.code.Op.TheVariants as ops
-use Rattle.jvm_types.specs.declared.program.FieldInfo.{FieldInfo}
-use Rattle.jvm_types.specs.declared.program.Target.{Target}
 use Rattle.jvm_types.specs.declared.program.Target.TheVariants as targets
-use Rattle.jvm_types.specs.declared.program.MethodInfo.{MethodInfo}
-use Rattle.jvm_types.specs.declared.program.Program.{Program}
-use Rattle.checked_program.specs.LockTags.{TagShape, is_this}
-use Rattle.checked_program.specs.TaggedCode.{Tagged, IsAt}
-use Rattle.checked_program.specs.FrozenPlaces.{locks_this, locks_class, PutsGuarded, PutsStatic, WritesGuarded, PutsOnThis, is_final_of}
-use Rattle.checked_program.specs.SectionLaws.{WriteLaw, StaticWriteLaw, FinalLaw, FinalStaticLaw}
-use Rattle.checked_program.proofs.NamedFields.{target_named}
 
 or_two : (x y : Bool) → (x || y) ≡ true → (x ≡ true) ⊎ (y ≡ true)
 or_two true y e = inl refl

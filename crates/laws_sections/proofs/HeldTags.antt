@@ -1,34 +1,16 @@
 -- The held lists of a method that has a tagging: each edge brings the one at its target, and where every monitor is entered
 -- on the object of a section, all held tags are of that object.
-use Rattle.std.proofs.Common.{◌≡◌, ℕ, zero, suc, ◌+◌, ◌<◌, Bool, true, false, List, [], ◌∷◌, length, drop, Option, Some, None, refl, sym, ap, ◌∙◌, subst, arith}
-use Rattle.std.specs.Prelude.{◌==◌, ◌||◌, slice_get, slice_index_or}
-use Rattle.std.specs.List.{AllByRecursion, list_any}
-use Rattle.std.proofs.lemmas.Bool.{eq-eqb}
-use Rattle.std.proofs.lemmas.Bool.Decides.{nat_tests}
-use Rattle.jvm_types.specs.Numbers.{has_number}
-use Rattle.jvm_types.specs.Verifying.{edges}
-use Rattle.jvm_types.specs.declared.op_row.OpRow.{OpRow}
-use Rattle.jvm_types.specs.declared.code.Insn.{Insn}
-use Rattle.jvm_types.specs.declared.code.Op.{Op}
-use Rattle.jvm_types.specs.declared.code.Op.TheVariants as ops
-use Rattle.jvm_types.specs.declared.program.Row.{Row}
-use Rattle.jvm_types.specs.declared.program.Target.{Target}
-use Rattle.jvm_types.specs.declared.program.MethodInfo.{MethodInfo}
-use Rattle.jvm_types.specs.declared.program.Program.{Program}
-use Rattle.jvm_types.specs.declared.refusal.SRule.{SRule}
-use Rattle.jvm_types.proofs.EachAfter.{all_weaker}
-use Rattle.checked_program.specs.Visits.{Act, Break, Bring, PlanNode, plan_nodes}
-use Rattle.checked_program.specs.LockTags.{TagShape, IsShapeBelow, entry_tags}
-use Rattle.checked_program.specs.Tagging.{tags_after, tags_by_op, tags_at_handler, catchers, acts_at, tag_meeting, tag_plan, HasTagging}
-use Rattle.checked_program.specs.TaggedCode.{Goes, onward, caught, row_of}
-use Rattle.checked_program.specs.Marks.{is_own_object}
-use Rattle.checked_program.specs.declared.tag.Tag.{Tag}
-use Rattle.checked_program.specs.declared.tag.Tag.TheVariants.{Untagged}
-use Rattle.checked_program.specs.declared.section.Mode.{Mode}
-use Rattle.laws_sections.proofs.TagOrder.{tag_order}
-use Rattle.laws_sections.proofs.TagActs.{to_handler, AreKept, acts_kept, all_acts}
-use Rattle.laws_sections.proofs.VisitedNodes.{IsFirstOf, IsBelow, LandsOn, IsActFine}
+use Rattle.std.proofs.Common.{◌≡◌, ℕ, zero, suc, ◌+◌, ◌<◌, Bool, true, false, List, [], ◌∷◌, length, drop, Option, Some, None, refl, sym, ap, ◌∙◌, subst, arith, ◌==◌, ◌||◌, slice_get, slice_index_or}
+use Rattle.std.{specs.List.{AllByRecursion, list_any}, proofs.lemmas.Bool.{eq-eqb, Decides.nat_tests}}
+use Rattle.jvm_types.specs.{Numbers.has_number, Verifying.edges, declared.{code.{Insn.Insn, Op.Op}, op_row.OpRow.OpRow, program.{MethodInfo.MethodInfo, Program.Program, Row.Row, Target.Target}}}
+use Rattle.jvm_types.{specs.declared.refusal.SRule.SRule, proofs.EachAfter.all_weaker}
+use Rattle.checked_program.specs.{LockTags.{TagShape, IsShapeBelow, entry_tags}, Marks.is_own_object, TaggedCode.{Goes, onward, caught, row_of}}
+use Rattle.checked_program.specs.{Tagging.{tags_after, tags_by_op, tags_at_handler, catchers, acts_at, tag_meeting, tag_plan, HasTagging}, Visits.{Act, Break, Bring, PlanNode, plan_nodes}}
+use Rattle.checked_program.specs.declared.{section.Mode.Mode, tag.Tag.{Tag, TheVariants.Untagged}}
+use Rattle.laws_sections.proofs.{TagActs.{to_handler, AreKept, acts_kept, all_acts}, TagOrder.tag_order}
 use Rattle.laws_sections.proofs.VisitPaths.{AreLive, HasFrame, ActLeads, ActsLead, IsSettled, settled, all_lead, first_live, starts_below, final_frame}
+use Rattle.laws_sections.proofs.VisitedNodes.{IsFirstOf, IsBelow, LandsOn, IsActFine}
+use Rattle.jvm_types.specs.declared.code.Op.TheVariants as ops
 
 -- ---- the first instruction of a pc
 

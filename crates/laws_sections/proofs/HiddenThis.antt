@@ -1,25 +1,12 @@
 -- What an `<init>` of a frozen class does with `this`: an instruction takes it nowhere but where it stays known.
-use Rattle.std.proofs.Common.{◌≡◌, ℕ, suc, ◌<◌, true, false, List, [], ◌∷◌, ◌++◌, length, Option, Some, None, refl, sym, ◌∙◌, subst, arith, length-append}
-use Rattle.std.specs.Prelude.{reverse, slice_get, slice_index_or, IsSomeAnd}
+use Rattle.std.proofs.Common.{◌≡◌, ℕ, suc, ◌<◌, true, false, List, [], ◌∷◌, ◌++◌, length, Option, Some, None, refl, sym, ◌∙◌, subst, arith, length-append, reverse, slice_get, slice_index_or, IsSomeAnd}
 use Rattle.std.proofs.lemmas.List.{length-map, length-reverse}
-use Rattle.jvm_types.specs.CodeTable.{row, want_of, arguments, put_row, put_static_row, virtual_row, special_row, static_row}
-use Rattle.jvm_types.specs.Members.{field_rule, call_rule}
-use Rattle.jvm_types.specs.ProgramInvariant.{IsTargetOf, site_in}
-use Rattle.jvm_types.specs.declared.call.Call.TheVariants.{Virtual, Special}
-use Rattle.jvm_types.specs.declared.op_row.Want.{Want}
-use Rattle.jvm_types.specs.declared.code.Op.{Op}
-use Rattle.jvm_types.specs.declared.code.Op.TheVariants as ops
-use Rattle.jvm_types.specs.declared.program.FieldInfo.{FieldInfo}
-use Rattle.jvm_types.specs.declared.program.Target.{Target}
-use Rattle.jvm_types.specs.declared.program.Target.TheVariants as targets
-use Rattle.jvm_types.specs.declared.program.MethodInfo.{MethodInfo}
-use Rattle.jvm_types.specs.declared.program.Program.{Program}
-use Rattle.checked_program.specs.FrozenPlaces.{may_take}
-use Rattle.checked_program.specs.Marks.{args_of}
-use Rattle.checked_program.specs.ObjectLaws.{HidesThis, FrozenLaw}
-use Rattle.checked_program.specs.declared.tag.Tag.{Tag}
-use Rattle.checked_program.specs.declared.tag.Tag.TheVariants.{Untagged, This}
+use Rattle.jvm_types.specs.{CodeTable.{row, want_of, arguments, put_row, put_static_row, virtual_row, special_row, static_row}, Members.{field_rule, call_rule}, ProgramInvariant.{IsTargetOf, site_in}}
+use Rattle.jvm_types.specs.declared.{call.Call.TheVariants.{Virtual, Special}, code.Op.Op, op_row.Want.Want, program.{FieldInfo.FieldInfo, MethodInfo.MethodInfo, Program.Program, Target.Target}}
 use Rattle.laws_programs.proofs.CodeOrder.{have_targets}
+use Rattle.checked_program.specs.{FrozenPlaces.may_take, Marks.args_of, ObjectLaws.{HidesThis, FrozenLaw}, declared.tag.Tag.{Tag, TheVariants.{Untagged, This}}}
+use Rattle.jvm_types.specs.declared.code.Op.TheVariants as ops
+use Rattle.jvm_types.specs.declared.program.Target.TheVariants as targets
 
 -- ---- how many values a row takes
 

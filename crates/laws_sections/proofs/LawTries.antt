@@ -1,29 +1,12 @@
 -- The laws of sections on a small program: a synchronized method that calls, on `this`, a method with a block. Its mark, and
 -- how its fields may be read, are those of the tries of marks.
-use Rattle.std.proofs.Common.{◌≡◌, ℕ, zero, suc, Bool, true, false, List, [], ◌∷◌, map, Option, Some, None, Result, Ok, Err, ◌⊎◌, refl, subst}
-use Rattle.std.specs.Prelude.{slice_get, slice_index}
-use Rattle.std.specs.List.{AllByRecursion}
-use Rattle.jvm_types.specs.ProgramInvariant.{IsProgram}
-use Rattle.jvm_types.specs.declared.program.MethodInfo.{MethodInfo}
-use Rattle.jvm_types.specs.declared.program.Program.{Program}
-use Rattle.jvm_types.specs.declared.refusal.SRule.{SRule}
-use Rattle.checked_program.specs.LockTags.{TagShape}
-use Rattle.checked_program.specs.Visits.{PlanNode, next_waiting, plan_visited, plan_nodes, PlanVisits}
-use Rattle.checked_program.specs.Tagging.{tag_plan, HasTagging}
-use Rattle.checked_program.specs.TaggedCode.{Tagged}
-use Rattle.checked_program.specs.FrozenPlaces.{AreUses, IsFrozenField, IsGuardedField}
-use Rattle.checked_program.specs.Sections.{Section}
-use Rattle.checked_program.specs.Marks.{HasMark}
-use Rattle.checked_program.specs.SectionLaws.{Part, AreParts, AreTagged, HasThis, HaveOwnMethods}
-use Rattle.checked_program.specs.declared.tag.Tag.TheVariants.{Untagged, This}
-use Rattle.checked_program.specs.declared.section.FieldUse.{FieldUse}
-use Rattle.checked_program.specs.declared.section.FieldUse.TheVariants.{Frozen, Guarded, Open}
-use Rattle.checked_program.specs.declared.section.Mode.TheVariants.{OnThis}
-use Rattle.checked_program.specs.declared.section.Spot.TheVariants.{Method}
+use Rattle.std.{proofs.Common.{◌≡◌, ℕ, zero, suc, Bool, true, false, List, [], ◌∷◌, map, Option, Some, None, Result, Ok, Err, ◌⊎◌, refl, subst, slice_get, slice_index}, specs.List.AllByRecursion}
+use Rattle.jvm_types.specs.{ProgramInvariant.IsProgram, declared.{program.{MethodInfo.MethodInfo, Program.Program}, refusal.SRule.SRule}}
+use Rattle.checked_program.specs.{FrozenPlaces.{AreUses, IsFrozenField, IsGuardedField}, LockTags.TagShape, Marks.HasMark, SectionLaws.{Part, AreParts, AreTagged, HasThis, HaveOwnMethods}}
+use Rattle.checked_program.specs.{Sections.Section, TaggedCode.Tagged, Tagging.{tag_plan, HasTagging}, Visits.{PlanNode, next_waiting, plan_visited, plan_nodes, PlanVisits}}
+use Rattle.checked_program.specs.declared.{section.{FieldUse.{FieldUse, TheVariants.{Frozen, Guarded, Open}}, Mode.TheVariants.OnThis, Spot.TheVariants.Method}, tag.Tag.TheVariants.{Untagged, This}}
 use Rattle.checked_program.proofs.TriedPrograms.{many, tags_of, Answer, Accepted, run, after_visit, at_visit, tagged, frames_in}
-use Rattle.laws_sections.proofs.MarkedReads.{read_law}
-use Rattle.laws_sections.proofs.MonitorExits.{exit_law}
-use Rattle.laws_sections.proofs.SectionCalls.{invoke_law, apart_law}
+use Rattle.laws_sections.proofs.{MarkedReads.read_law, MonitorExits.exit_law, SectionCalls.{invoke_law, apart_law}}
 
 -- ---- a method that the computed visits accept has a tagging
 

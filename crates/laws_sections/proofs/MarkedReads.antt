@@ -1,31 +1,15 @@
 -- What a marked section reads: an instruction that breaks no rule reads frozen places and those of the section's object or class.
-use Rattle.std.proofs.Common.{◌≡◌, ℕ, zero, suc, ◌≢◌, Bool, true, false, List, [], ◌∷◌, Option, Some, refl, sym, ap, ◌∙◌, subst, arith, ⊎_elim, inl, inr, ◌⊎◌}
-use Rattle.std.specs.Prelude.{◌==◌, slice_get, slice_index, slice_index_or}
+use Rattle.std.proofs.Common.{◌≡◌, ℕ, zero, suc, ◌≢◌, Bool, true, false, List, [], ◌∷◌, Option, Some, refl, sym, ap, ◌∙◌, subst, arith, ⊎_elim, inl, inr, ◌⊎◌, ◌==◌, slice_get, slice_index, slice_index_or}
 use Rattle.std.proofs.lemmas.Bool.{cases_eq, eqb-true}
-use Rattle.jvm_types.specs.Members.{is_static}
-use Rattle.jvm_types.specs.ProgramInvariant.{IsProgram, IsTargetOf, site_in}
-use Rattle.jvm_types.specs.declared.code.Insn.{Insn}
-use Rattle.jvm_types.specs.declared.code.Op.{Op}
-use Rattle.jvm_types.specs.declared.code.Op.TheVariants as ops
-use Rattle.jvm_types.specs.declared.program.Target.{Target}
-use Rattle.jvm_types.specs.declared.program.Target.TheVariants as targets
-use Rattle.jvm_types.specs.declared.program.FieldInfo.{FieldInfo}
-use Rattle.jvm_types.specs.declared.program.MethodInfo.{MethodInfo}
-use Rattle.jvm_types.specs.declared.program.Program.{Program}
-use Rattle.checked_program.specs.LockTags.{TagShape}
-use Rattle.checked_program.specs.TaggedCode.{Tagged, IsAt}
-use Rattle.checked_program.specs.FrozenPlaces.{AreUses, IsUse, IsFrozenField, IsFrozenStatic, IsFrozenUse, IsGuardedField, IsGuardedUse}
-use Rattle.checked_program.specs.Sections.{Section, section_mode, IsOwn}
+use Rattle.jvm_types.specs.{Members.is_static, ProgramInvariant.{IsProgram, IsTargetOf, site_in}, declared.{code.{Insn.Insn, Op.Op}, program.{FieldInfo.FieldInfo, MethodInfo.MethodInfo}}}
+use Rattle.jvm_types.specs.declared.program.{Program.Program, Target.Target}
+use Rattle.checked_program.specs.{FrozenPlaces.{AreUses, IsUse, IsFrozenField, IsFrozenStatic, IsFrozenUse, IsGuardedField, IsGuardedUse}, LockTags.TagShape}
 use Rattle.checked_program.specs.Marks.{Callee, callee, Calls, CallsThrough, IsCalledBy, HasMark, section_fault, call_fault, enter_fault, use_fault, args_of, is_locking, is_class_locking, is_own_object, is_own_class, class_of_field, class_of_method, BreaksAt, OwnBreaks, itself, called}
-use Rattle.checked_program.specs.SectionLaws.{Part, IsSectionPart, AreParts, HasThis, IsOwnStatic, ReadsOnly, ReadLaw}
-use Rattle.checked_program.specs.declared.tag.Tag.{Tag}
-use Rattle.checked_program.specs.declared.tag.Tag.TheVariants.{Untagged, This}
-use Rattle.checked_program.specs.declared.section.Mode.{Mode}
-use Rattle.checked_program.specs.declared.section.Mode.TheVariants.{OnThis, OffThis, OnClass}
-use Rattle.checked_program.specs.declared.section.FieldUse.{FieldUse}
-use Rattle.checked_program.specs.declared.section.FieldUse.TheVariants.{Frozen, Guarded, Open}
-use Rattle.checked_program.proofs.FrozenChecks.{that_is_this}
-use Rattle.checked_program.proofs.NamedFields.{HasSort, sort_read, sort_read_static, target_named}
+use Rattle.checked_program.specs.{SectionLaws.{Part, IsSectionPart, AreParts, HasThis, IsOwnStatic, ReadsOnly, ReadLaw}, Sections.{Section, section_mode, IsOwn}, TaggedCode.{Tagged, IsAt}}
+use Rattle.checked_program.specs.declared.{section.{FieldUse.{FieldUse, TheVariants.{Frozen, Guarded, Open}}, Mode.{Mode, TheVariants.{OnThis, OffThis, OnClass}}}, tag.Tag.Tag}
+use Rattle.checked_program.{specs.declared.tag.Tag.TheVariants.{Untagged, This}, proofs.{FrozenChecks.that_is_this, NamedFields.{HasSort, sort_read, sort_read_static, target_named}}}
+use Rattle.jvm_types.specs.declared.code.Op.TheVariants as ops
+use Rattle.jvm_types.specs.declared.program.Target.TheVariants as targets
 
 -- ---- the object of the section
 

@@ -1,30 +1,14 @@
 -- A marked section leaves no monitor but its own: each monitor is entered on the section's object, so the innermost held tag
 -- is that of the object, and a `monitorexit` takes the innermost.
-use Rattle.std.proofs.Common.{◌≡◌, ℕ, ◌<◌, Bool, true, false, not, List, [], ◌∷◌, length, Some, refl, sym, ap, ◌∙◌, subst, arith, ⊎_elim, inl, inr, ◌⊎◌}
-use Rattle.std.specs.Prelude.{slice_get, slice_index_or}
-use Rattle.jvm_types.specs.declared.code.Insn.{Insn}
+use Rattle.std.proofs.Common.{◌≡◌, ℕ, ◌<◌, Bool, true, false, not, List, [], ◌∷◌, length, Some, refl, sym, ap, ◌∙◌, subst, arith, ⊎_elim, inl, inr, ◌⊎◌, slice_get, slice_index_or}
+use Rattle.jvm_types.specs.declared.{code.Insn.Insn, program.{MethodInfo.MethodInfo, Program.Program, Target.Target}}
+use Rattle.checked_program.specs.{LockTags.{TagShape, same_tag}, Marks.{section_fault, enter_fault, is_own_object, HasMark, IsOnOwn, elsewhere}, SectionLaws.{IsSectionPart, AreTagged, ExitLaw}}
+use Rattle.checked_program.specs.{Sections.{Section, section_mode, mode_of_spot, IsDeep, StaysDeep, BeginsAt, IsInBlock, IsOwn}, TaggedCode.{Tagged, IsAt, IsReachedEdge, Goes}}
+use Rattle.checked_program.specs.{Tagging.{is_innermost, exits_other, HasTagging}, declared.section.{FieldUse.FieldUse, Mode.{Mode, TheVariants.OnThis}, Spot.{Spot, TheVariants.{Method, Block}}}}
+use Rattle.checked_program.specs.declared.tag.Tag.{Tag, TheVariants.{Untagged, This, At}}
+use Rattle.laws_sections.{specs.FrameLaws.{HeldLaw, BlockLaw}, proofs.HeldTags.{one_first, AreOwn, own_along, sound_at, framed_first, held_kept, all_own}}
+use Rattle.laws_sections.proofs.{MarkedReads.{own_object, own_no_fault, called_no_fault}, SectionMoves.{one_frame, deep_more, own_deep}, VisitedNodes.IsFirstOf}
 use Rattle.jvm_types.specs.declared.code.Op.TheVariants as ops
-use Rattle.jvm_types.specs.declared.program.Target.{Target}
-use Rattle.jvm_types.specs.declared.program.MethodInfo.{MethodInfo}
-use Rattle.jvm_types.specs.declared.program.Program.{Program}
-use Rattle.checked_program.specs.LockTags.{TagShape, same_tag}
-use Rattle.checked_program.specs.TaggedCode.{Tagged, IsAt, IsReachedEdge, Goes}
-use Rattle.checked_program.specs.Tagging.{is_innermost, exits_other, HasTagging}
-use Rattle.checked_program.specs.Sections.{Section, section_mode, mode_of_spot, IsDeep, StaysDeep, BeginsAt, IsInBlock, IsOwn}
-use Rattle.checked_program.specs.Marks.{section_fault, enter_fault, is_own_object, HasMark, IsOnOwn, elsewhere}
-use Rattle.checked_program.specs.SectionLaws.{IsSectionPart, AreTagged, ExitLaw}
-use Rattle.checked_program.specs.declared.tag.Tag.{Tag}
-use Rattle.checked_program.specs.declared.tag.Tag.TheVariants.{Untagged, This, At}
-use Rattle.checked_program.specs.declared.section.FieldUse.{FieldUse}
-use Rattle.checked_program.specs.declared.section.Mode.{Mode}
-use Rattle.checked_program.specs.declared.section.Mode.TheVariants.{OnThis}
-use Rattle.checked_program.specs.declared.section.Spot.{Spot}
-use Rattle.checked_program.specs.declared.section.Spot.TheVariants.{Method, Block}
-use Rattle.laws_sections.specs.FrameLaws.{HeldLaw, BlockLaw}
-use Rattle.laws_sections.proofs.VisitedNodes.{IsFirstOf}
-use Rattle.laws_sections.proofs.HeldTags.{one_first, AreOwn, own_along, sound_at, framed_first, held_kept, all_own}
-use Rattle.laws_sections.proofs.MarkedReads.{own_object, own_no_fault, called_no_fault}
-use Rattle.laws_sections.proofs.SectionMoves.{one_frame, deep_more, own_deep}
 
 -- ---- what a mark says of a `monitorenter` and the tags of a `monitorexit`
 

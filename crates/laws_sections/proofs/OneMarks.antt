@@ -1,20 +1,9 @@
 -- Each field has one use, and each section one mark.
-use Rattle.std.proofs.Common.{◌≡◌, ℕ, zero, suc, ◌<◌, ⊎_elim, Bool, true, false, cond, List, [], ◌∷◌, length, Some, refl, sym, ap, ◌∙◌, subst, arith, inl, inr, ◌⊎◌}
-use Rattle.std.specs.Prelude.{◌==◌, slice_get}
-use Rattle.std.specs.List.{AllZip}
-use Rattle.std.proofs.lemmas.Bool.{cases_order}
-use Rattle.std.proofs.lemmas.Option.{same_Some}
-use Rattle.std.proofs.lemmas.Bool.Decides.{nat_tests}
-use Rattle.jvm_types.specs.declared.program.FieldInfo.{FieldInfo}
-use Rattle.jvm_types.specs.declared.program.Program.{Program}
-use Rattle.jvm_types.specs.Members.{is_final}
-use Rattle.checked_program.specs.TaggedCode.{Tagged}
-use Rattle.checked_program.specs.FrozenPlaces.{IsFrozenUse, IsGuardedUse, IsUse}
-use Rattle.checked_program.specs.Sections.{Section, sections}
-use Rattle.checked_program.specs.Marks.{turn, HasMark, IsMarkOf}
-use Rattle.checked_program.specs.declared.section.SectionMark.{SectionMark}
-use Rattle.checked_program.specs.declared.section.FieldUse.{FieldUse}
-use Rattle.checked_program.specs.declared.section.FieldUse.TheVariants.{Frozen, Guarded, Open}
+use Rattle.std.proofs.Common.{◌≡◌, ℕ, zero, suc, ◌<◌, ⊎_elim, Bool, true, false, cond, List, [], ◌∷◌, length, Some, refl, sym, ap, ◌∙◌, subst, arith, inl, inr, ◌⊎◌, ◌==◌, slice_get}
+use Rattle.std.{specs.List.AllZip, proofs.lemmas.{Bool.{cases_order, Decides.nat_tests}, Option.same_Some}}
+use Rattle.jvm_types.specs.{Members.is_final, declared.program.{FieldInfo.FieldInfo, Program.Program}}
+use Rattle.checked_program.specs.{FrozenPlaces.{IsFrozenUse, IsGuardedUse, IsUse}, Marks.{turn, HasMark, IsMarkOf}, Sections.{Section, sections}, TaggedCode.Tagged, declared.section.FieldUse.FieldUse}
+use Rattle.checked_program.specs.declared.section.{FieldUse.TheVariants.{Frozen, Guarded, Open}, SectionMark.SectionMark}
 use Rattle.laws_sections.specs.MarkLaws.{OneUse, OneMark}
 
 -- ---- uses

@@ -1,16 +1,8 @@
 -- No row of the table of instructions leaves more than four values on the stack.
-use Rattle.std.proofs.Common.{ℕ, ◌≤◌, length, Option, Some, None, arith}
-use Rattle.std.specs.Prelude.{slice_get}
-use Rattle.std.specs.Option.{option_map, option_to_list}
-use Rattle.jvm_types.specs.CodeTable.{type_of, row, constant_row, get_static_row, get_row, put_row, put_static_row, virtual_row, special_row, static_row}
-use Rattle.jvm_types.specs.declared.op_row.Given.TheVariants.{Fresh}
-use Rattle.jvm_types.specs.declared.op_row.OpRow.{OpRow}
-use Rattle.jvm_types.specs.declared.code.Op.{Op}
+use Rattle.std.{proofs.Common.{ℕ, ◌≤◌, length, Option, Some, None, arith, slice_get}, specs.Option.{option_map, option_to_list}}
+use Rattle.jvm_types.specs.{CodeTable.{type_of, row, constant_row, get_static_row, get_row, put_row, put_static_row, virtual_row, special_row, static_row}, declared.code.Op.Op}
+use Rattle.jvm_types.specs.declared.{op_row.{Given.TheVariants.Fresh, OpRow.OpRow}, program.{Kind.Kind, MethodInfo.MethodInfo, Program.Program, Target.Target}}
 use Rattle.jvm_types.specs.declared.code.Op.TheVariants as ops
-use Rattle.jvm_types.specs.declared.program.Kind.{Kind}
-use Rattle.jvm_types.specs.declared.program.MethodInfo.{MethodInfo}
-use Rattle.jvm_types.specs.declared.program.Program.{Program}
-use Rattle.jvm_types.specs.declared.program.Target.{Target}
 use Rattle.jvm_types.specs.declared.program.Target.TheVariants as targets
 
 few_results : (r : Option Kind) → length (option_to_list (option_map (λ kind. Fresh (type_of kind)) r)) ≤ 4

@@ -1,27 +1,14 @@
 -- The frames of a section along calls: a section begins, a method is invoked or returns, and none is called twice.
-use Rattle.std.proofs.Common.{◌≡◌, ℕ, ◌<◌, Bool, true, false, List, [], ◌∷◌, length, Some, refl, sym, ap, ◌∙◌, subst, arith, ⊎_elim}
-use Rattle.std.specs.Prelude.{◌↔◌, slice_get, slice_index, slice_index_or}
-use Rattle.jvm_types.specs.declared.code.Insn.{Insn}
-use Rattle.jvm_types.specs.declared.code.Op.{Op}
-use Rattle.jvm_types.specs.declared.code.Op.TheVariants as ops
-use Rattle.jvm_types.specs.declared.op_row.OpRow.{OpRow}
-use Rattle.jvm_types.specs.declared.program.Target.{Target}
-use Rattle.jvm_types.specs.declared.program.Target.TheVariants as targets
-use Rattle.jvm_types.specs.declared.program.MethodInfo.{MethodInfo}
-use Rattle.jvm_types.specs.declared.program.Program.{Program}
+use Rattle.std.proofs.Common.{◌≡◌, ℕ, ◌<◌, Bool, true, false, List, [], ◌∷◌, length, Some, refl, sym, ap, ◌∙◌, subst, arith, ⊎_elim, ◌↔◌, slice_get, slice_index, slice_index_or}
+use Rattle.jvm_types.specs.declared.{code.{Insn.Insn, Op.Op}, op_row.OpRow.OpRow, program.{MethodInfo.MethodInfo, Program.Program, Target.Target}}
 use Rattle.checked_program.specs.LockTags.{TagShape}
-use Rattle.checked_program.specs.Tagging.{tags_after, tags_by_op}
-use Rattle.checked_program.specs.TaggedCode.{Tagged, IsAt, onward, row_of}
-use Rattle.checked_program.specs.Sections.{Section, section_mode, BeginsAt}
 use Rattle.checked_program.specs.Marks.{Callee, callee, Calls, Invokes, CallsThrough, CallsItself, recurring, called_method, args_of, receiver_tag, is_own_object, mode_if, called_mode}
-use Rattle.checked_program.specs.SectionLaws.{Part, IsSectionPart, AreParts, IsExit, HasNone, ApartLaw}
-use Rattle.checked_program.specs.declared.tag.Tag.{Tag}
-use Rattle.checked_program.specs.declared.tag.Tag.TheVariants.{Untagged, This}
-use Rattle.checked_program.specs.declared.section.Mode.{Mode}
-use Rattle.checked_program.specs.declared.section.Mode.TheVariants.{OnThis, OffThis, OnClass}
-use Rattle.laws_sections.specs.FrameLaws.{BeginLaw, IsReceiver, mode_of_call, InvokeLaw, ModeLaw, ReturnLaw, ResumeLaw}
-use Rattle.laws_sections.proofs.MarkedReads.{own_object, on_receiver, part_called}
+use Rattle.checked_program.specs.{SectionLaws.{Part, IsSectionPart, AreParts, IsExit, HasNone, ApartLaw}, Sections.{Section, section_mode, BeginsAt}, TaggedCode.{Tagged, IsAt, onward, row_of}}
+use Rattle.checked_program.specs.{Tagging.{tags_after, tags_by_op}, declared.{section.Mode.{Mode, TheVariants.{OnThis, OffThis, OnClass}}, tag.Tag.{Tag, TheVariants.{Untagged, This}}}}
+use Rattle.laws_sections.{specs.FrameLaws.{BeginLaw, IsReceiver, mode_of_call, InvokeLaw, ModeLaw, ReturnLaw, ResumeLaw}, proofs.MarkedReads.{own_object, on_receiver, part_called}}
 use Rattle.laws_sections.proofs.SectionMoves.{move_law}
+use Rattle.jvm_types.specs.declared.code.Op.TheVariants as ops
+use Rattle.jvm_types.specs.declared.program.Target.TheVariants as targets
 
 -- ---- a block begins
 

@@ -1,17 +1,8 @@
 -- The parts of what an instruction does when a method is tagged: the rules, its edges, and those to handlers.
-use Rattle.std.proofs.Common.{◌≡◌, ℕ, Bool, true, false, List, [], ◌∷◌, ◌++◌, map, refl}
-use Rattle.std.specs.List.{AllByRecursion}
-use Rattle.jvm_types.specs.Verifying.{edges}
-use Rattle.jvm_types.specs.declared.op_row.OpRow.{OpRow}
-use Rattle.jvm_types.specs.declared.code.Insn.{Insn}
-use Rattle.jvm_types.specs.declared.program.MethodInfo.{MethodInfo}
-use Rattle.jvm_types.specs.declared.program.Row.{Row}
-use Rattle.jvm_types.specs.declared.refusal.SRule.{SRule}
-use Rattle.jvm_types.specs.declared.refusal.SRule.TheVariants.{S1, S2, S3, S4}
+use Rattle.std.{proofs.Common.{◌≡◌, ℕ, Bool, true, false, List, [], ◌∷◌, ◌++◌, map, refl}, specs.List.AllByRecursion}
+use Rattle.jvm_types.specs.{Verifying.edges, declared.{code.Insn.Insn, op_row.OpRow.OpRow, program.{MethodInfo.MethodInfo, Row.Row}, refusal.SRule.{SRule, TheVariants.{S1, S2, S3, S4}}}}
 use Rattle.jvm_types.proofs.EachAfter.{all_append}
-use Rattle.checked_program.specs.LockTags.{TagShape}
-use Rattle.checked_program.specs.Tagging.{tags_after, tags_at_handler, catchers, enters_untagged, exits_other, leaves_held, break_if, tag_acts}
-use Rattle.checked_program.specs.Visits.{Act, Break, Bring}
+use Rattle.checked_program.specs.{LockTags.TagShape, Tagging.{tags_after, tags_at_handler, catchers, enters_untagged, exits_other, leaves_held, break_if, tag_acts}, Visits.{Act, Break, Bring}}
 
 -- ---- lists of acts
 

@@ -1,9 +1,6 @@
 -- A method has one answer of tagging, and it has one.
-use Rattle.checked_program.specs.TagLaws.{OneTagging, OneTagRefusal, TaggedNotRefused, TaggedOrRefused}
-use Rattle.checked_program.specs.Tagging.{tag_plan}
-use Rattle.laws_sections.proofs.VisitAnswers.{one_frames, framed_not_broken, one_breach}
-use Rattle.laws_sections.proofs.VisitsEnd.{framed_or_broken}
-use Rattle.laws_sections.proofs.TagRanks.{tag_ranks}
+use Rattle.checked_program.specs.{TagLaws.{OneTagging, OneTagRefusal, TaggedNotRefused, TaggedOrRefused}, Tagging.tag_plan}
+use Rattle.laws_sections.proofs.{TagRanks.tag_ranks, VisitAnswers.{one_frames, framed_not_broken, one_breach}, VisitsEnd.framed_or_broken}
 
 pub one_tagging_all : OneTagging
 one_tagging_all p m frames others v w = one_frames (tag_plan p m) frames others v w

@@ -1,27 +1,13 @@
 -- No instruction holds the tag that a `dup` there would make: every tag, wherever it is, is one whose `dup` does not hold it.
-use Rattle.std.proofs.Common.{◌≡◌, ℕ, zero, suc, ◌-◌, Bool, true, false, List, [], ◌∷◌, map, drop, length, replicate, Option, Some, None, refl, sym, ap, ◌∙◌, subst}
-use Rattle.std.specs.Prelude.{◌||◌, if◌then◌else◌, slice_get, slice_set, slice_index_or}
+use Rattle.std.proofs.Common.{◌≡◌, ℕ, zero, suc, ◌-◌, Bool, true, false, List, [], ◌∷◌, map, drop, length, replicate, Option, Some, None, refl, sym, ap, ◌∙◌, subst, ◌||◌, if◌then◌else◌, slice_get, slice_set, slice_index_or}
 use Rattle.std.specs.List.{AllByRecursion}
-use Rattle.jvm_types.specs.CodeTable.{row, value_of, locals_after}
-use Rattle.jvm_types.specs.Members.{is_static}
-use Rattle.jvm_types.specs.Verifying.{IsLaidOut}
-use Rattle.jvm_types.specs.declared.op_row.Given.{Given}
-use Rattle.jvm_types.specs.declared.op_row.Given.TheVariants.{Fresh, Taken, Local}
-use Rattle.jvm_types.specs.declared.op_row.OpRow.{OpRow}
-use Rattle.jvm_types.specs.declared.code.Insn.{Insn}
-use Rattle.jvm_types.specs.declared.code.Op.{Op}
-use Rattle.jvm_types.specs.declared.code.Op.TheVariants as ops
-use Rattle.jvm_types.specs.declared.program.MethodInfo.{MethodInfo}
-use Rattle.jvm_types.proofs.EachAfter.{all_append}
+use Rattle.jvm_types.specs.{CodeTable.{row, value_of, locals_after}, Members.is_static, Verifying.IsLaidOut, declared.{code.{Insn.Insn, Op.Op}, op_row.Given.Given}}
+use Rattle.jvm_types.{specs.declared.{op_row.{Given.TheVariants.{Fresh, Taken, Local}, OpRow.OpRow}, program.MethodInfo.MethodInfo}, proofs.EachAfter.all_append}
 use Rattle.laws_programs.proofs.CodeOrder.{one_number}
-use Rattle.checked_program.specs.declared.tag.Tag.{Tag}
+use Rattle.checked_program.specs.{LockTags.{TagShape, same_tag, without, entry_tags, IsTagBelow, AreTagsBelow, IsShapeBelow}, Tagging.{moved_tags, tags_by_op, tags_at_handler}, declared.tag.Tag.Tag}
 use Rattle.checked_program.specs.declared.tag.Tag.TheVariants.{Untagged, This, At}
-use Rattle.checked_program.specs.LockTags.{TagShape, same_tag, without, entry_tags, IsTagBelow, AreTagsBelow, IsShapeBelow}
-use Rattle.checked_program.specs.Tagging.{moved_tags, tags_by_op, tags_at_handler}
-use Rattle.laws_sections.specs.ReachLaws.{OwnTagIsFree, is_held}
-use Rattle.laws_sections.proofs.TagOrder.{one_tag}
-use Rattle.laws_sections.proofs.TagLocal.{tag_local_law}
-use Rattle.laws_sections.proofs.TagReach.{all_have}
+use Rattle.laws_sections.{specs.ReachLaws.{OwnTagIsFree, is_held}, proofs.{TagLocal.tag_local_law, TagOrder.one_tag, TagReach.all_have}}
+use Rattle.jvm_types.specs.declared.code.Op.TheVariants as ops
 
 -- ---- where a tag is held
 

@@ -1,31 +1,13 @@
 -- The local law of tags, from that of visits. Tagging reaches only what typing reaches; so its edges lead to instructions.
-use Rattle.std.proofs.Common.{◌≡◌, ℕ, zero, suc, Bool, true, false, List, [], ◌∷◌, Option, Some, None, refl, sym, ap, ◌∙◌, subst}
-use Rattle.std.specs.Prelude.{◌==◌, if◌then◌else◌, slice_get}
-use Rattle.std.specs.List.{AllByRecursion}
+use Rattle.std.{proofs.Common.{◌≡◌, ℕ, zero, suc, Bool, true, false, List, [], ◌∷◌, Option, Some, None, refl, sym, ap, ◌∙◌, subst, ◌==◌, if◌then◌else◌, slice_get}, specs.List.AllByRecursion}
 use Rattle.std.proofs.lemmas.Bool.{or_left, or_right, eq-eqb}
-use Rattle.jvm_types.specs.CodeGrammar.{is_start}
-use Rattle.jvm_types.specs.CodeTable.{row, can_throw}
-use Rattle.jvm_types.specs.declared.op_row.OpRow.{OpRow}
-use Rattle.jvm_types.specs.Types.{TypeFrame, entry_type_frame}
-use Rattle.jvm_types.specs.Verifying.{edges, covering, frame_after, frame_at_handler, HasTyping, IsLaidOut}
+use Rattle.jvm_types.specs.{CodeGrammar.is_start, CodeTable.{row, can_throw}, Types.{TypeFrame, entry_type_frame}, Verifying.{edges, covering, frame_after, frame_at_handler, HasTyping, IsLaidOut}}
+use Rattle.jvm_types.{specs.declared.{code.Insn.Insn, op_row.OpRow.OpRow, program.{MethodInfo.MethodInfo, Program.Program, Row.Row, Target.Target}, refusal.SRule.SRule}, proofs.EachAfter.all_weaker}
+use Rattle.laws_programs.proofs.{CodeOrder.one_number, EdgeTargets.lands, LocalGoing.{begins, local_law}}
+use Rattle.checked_program.specs.{LockTags.{TagShape, entry_tags, IsShapeBelow}, TagLaws.TagLocalLaw}
+use Rattle.checked_program.specs.{Tagging.{tags_after, catches_all, until_all, catchers, tags_at_handler, tag_acts, acts_at, tag_plan, HasTagging, IsTagSound}, Visits.{Act, EdgeFits}}
+use Rattle.laws_sections.proofs.{TagActs.{to_handler, acts_kept, all_acts}, TagOrder.tag_order, VisitsLocal.{Lands, ActLands, IsClosed, IsActSound, IsLocal, local}}
 use Rattle.jvm_types.specs.Verifying as types
-use Rattle.jvm_types.specs.declared.code.Insn.{Insn}
-use Rattle.jvm_types.specs.declared.program.MethodInfo.{MethodInfo}
-use Rattle.jvm_types.specs.declared.program.Program.{Program}
-use Rattle.jvm_types.specs.declared.program.Row.{Row}
-use Rattle.jvm_types.specs.declared.program.Target.{Target}
-use Rattle.jvm_types.specs.declared.refusal.SRule.{SRule}
-use Rattle.jvm_types.proofs.EachAfter.{all_weaker}
-use Rattle.laws_programs.proofs.CodeOrder.{one_number}
-use Rattle.laws_programs.proofs.EdgeTargets.{lands}
-use Rattle.laws_programs.proofs.LocalGoing.{begins, local_law}
-use Rattle.checked_program.specs.LockTags.{TagShape, entry_tags, IsShapeBelow}
-use Rattle.checked_program.specs.Tagging.{tags_after, catches_all, until_all, catchers, tags_at_handler, tag_acts, acts_at, tag_plan, HasTagging, IsTagSound}
-use Rattle.checked_program.specs.TagLaws.{TagLocalLaw}
-use Rattle.checked_program.specs.Visits.{Act, EdgeFits}
-use Rattle.laws_sections.proofs.TagActs.{to_handler, acts_kept, all_acts}
-use Rattle.laws_sections.proofs.TagOrder.{tag_order}
-use Rattle.laws_sections.proofs.VisitsLocal.{Lands, ActLands, IsClosed, IsActSound, IsLocal, local}
 
 -- ---- what is sound by acts is sound by rules
 

@@ -1,12 +1,8 @@
 -- The order of frames of tags: a tag may be lost along an edge, and where two frames meet a place keeps what both bring.
-use Rattle.std.proofs.Common.{◌≡◌, Bool, true, false, not, List, [], ◌∷◌, refl, sym, ap, ◌∙◌, subst, arith}
-use Rattle.std.specs.Prelude.{◌&&◌, if◌then◌else◌}
-use Rattle.std.proofs.lemmas.Bool.{and_parts, eq-eqb, and_from, not-false}
+use Rattle.std.proofs.{Common.{◌≡◌, Bool, true, false, not, List, [], ◌∷◌, refl, sym, ap, ◌∙◌, subst, arith, ◌&&◌, if◌then◌else◌}, lemmas.Bool.{and_parts, eq-eqb, and_from, not-false}}
 use Rattle.std.proofs.lemmas.Bool.Decides.{nat_tests}
-use Rattle.checked_program.specs.declared.tag.Tag.{Tag}
+use Rattle.checked_program.specs.{LockTags.{TagShape, same_tag, same_tags, meet_tags, IsTagBelow, AreTagsBelow, IsShapeBelow}, Tagging.tag_meeting, declared.tag.Tag.Tag}
 use Rattle.checked_program.specs.declared.tag.Tag.TheVariants.{Untagged, This, At}
-use Rattle.checked_program.specs.LockTags.{TagShape, same_tag, same_tags, meet_tags, IsTagBelow, AreTagsBelow, IsShapeBelow}
-use Rattle.checked_program.specs.Tagging.{tag_meeting}
 use Rattle.laws_sections.proofs.VisitedNodes.{Orders}
 
 -- ---- equal tags

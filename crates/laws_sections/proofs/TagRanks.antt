@@ -1,30 +1,14 @@
 -- Ranks of frames of tags: a place counts one, and one more where it has a tag. So a frame that meets another and changes
 -- goes down, and no instruction lifts one by much.
-use Rattle.std.proofs.Common.{◌≡◌, ℕ, zero, suc, ◌+◌, ◌*◌, ◌<◌, ◌≤◌, Bool, true, false, List, [], ◌∷◌, ◌++◌, length, map, drop, Option, Some, None, refl, ap, arith}
-use Rattle.std.specs.Prelude.{◌&&◌, if◌then◌else◌, slice_get, slice_set}
+use Rattle.std.proofs.Common.{◌≡◌, ℕ, zero, suc, ◌+◌, ◌*◌, ◌<◌, ◌≤◌, Bool, true, false, List, [], ◌∷◌, ◌++◌, length, map, drop, Option, Some, None, refl, ap, arith, ◌&&◌, if◌then◌else◌, slice_get, slice_set}
 use Rattle.std.specs.List.{AllByRecursion}
-use Rattle.jvm_types.specs.CodeTable.{row, value_of, locals_after}
-use Rattle.jvm_types.specs.declared.op_row.Given.{Given}
-use Rattle.jvm_types.specs.declared.op_row.OpRow.{OpRow}
-use Rattle.jvm_types.specs.Verifying.{edges}
-use Rattle.jvm_types.specs.declared.code.Insn.{Insn}
-use Rattle.jvm_types.specs.declared.code.Op.{Op}
-use Rattle.jvm_types.specs.declared.code.Op.TheVariants as ops
-use Rattle.jvm_types.specs.declared.program.MethodInfo.{MethodInfo}
-use Rattle.jvm_types.specs.declared.program.Program.{Program}
-use Rattle.jvm_types.specs.declared.program.Row.{Row}
-use Rattle.jvm_types.specs.declared.program.Target.{Target}
-use Rattle.jvm_types.specs.declared.refusal.SRule.{SRule}
-use Rattle.jvm_types.specs.declared.refusal.SRule.TheVariants.{S1, S2, S3, S4}
-use Rattle.jvm_types.proofs.EachAfter.{all_append}
-use Rattle.checked_program.specs.declared.tag.Tag.{Tag}
-use Rattle.checked_program.specs.declared.tag.Tag.TheVariants.{Untagged, This, At}
+use Rattle.jvm_types.specs.{CodeTable.{row, value_of, locals_after}, Verifying.edges, declared.{code.{Insn.Insn, Op.Op}, op_row.{Given.Given, OpRow.OpRow}, program.MethodInfo.MethodInfo}}
+use Rattle.jvm_types.{specs.declared.{program.{Program.Program, Row.Row, Target.Target}, refusal.SRule.{SRule, TheVariants.{S1, S2, S3, S4}}}, proofs.EachAfter.all_append}
 use Rattle.checked_program.specs.LockTags.{TagShape, same_tag, same_tags, meet_tags, without}
 use Rattle.checked_program.specs.Tagging.{moved_tags, tags_by_op, tags_after, tags_at_handler, catchers, enters_untagged, exits_other, leaves_held, tag_meeting, break_if, acts_at, tag_plan}
-use Rattle.checked_program.specs.Visits.{Act, Bring}
-use Rattle.laws_sections.proofs.RowGives.{few_given}
-use Rattle.laws_sections.proofs.TagOrder.{own_tag, own_tags, one_frame}
-use Rattle.laws_sections.proofs.VisitsEnd.{BringsUpTo, Ranks}
+use Rattle.checked_program.specs.{Visits.{Act, Bring}, declared.tag.Tag.{Tag, TheVariants.{Untagged, This, At}}}
+use Rattle.laws_sections.proofs.{RowGives.few_given, TagOrder.{own_tag, own_tags, one_frame}, VisitsEnd.{BringsUpTo, Ranks}}
+use Rattle.jvm_types.specs.declared.code.Op.TheVariants as ops
 
 -- ---- ranks
 

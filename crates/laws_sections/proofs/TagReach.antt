@@ -1,25 +1,10 @@
 -- Tagging reaches only what typing reaches; and what holds of the tags at pc 0, and along each edge, holds of all.
-use Rattle.std.proofs.Common.{◌≡◌, ℕ, true, List, Option, Some, None, refl, sym, ap, ◌∙◌, subst}
-use Rattle.std.specs.Prelude.{slice_get}
-use Rattle.std.specs.List.{AllByRecursion}
-use Rattle.jvm_types.specs.CodeGrammar.{is_start}
-use Rattle.jvm_types.specs.CodeTable.{row}
-use Rattle.jvm_types.specs.Verifying.{edges, IsLaidOut}
-use Rattle.jvm_types.specs.declared.op_row.OpRow.{OpRow}
-use Rattle.jvm_types.specs.declared.code.Insn.{Insn}
-use Rattle.jvm_types.specs.declared.program.MethodInfo.{MethodInfo}
-use Rattle.jvm_types.specs.declared.program.Program.{Program}
-use Rattle.jvm_types.specs.declared.program.Target.{Target}
-use Rattle.jvm_types.proofs.EachAfter.{all_weaker}
-use Rattle.laws_programs.proofs.CodeOrder.{one_number}
-use Rattle.laws_programs.proofs.LocalGoing.{begins, local_law}
-use Rattle.checked_program.specs.LockTags.{TagShape, entry_tags, IsShapeBelow}
-use Rattle.checked_program.specs.Tagging.{tags_after, tags_at_handler, catchers, acts_at, tag_plan, HasTagging, IsTagAssignment}
-use Rattle.checked_program.specs.Visits.{EdgeFits}
-use Rattle.laws_sections.specs.ReachLaws.{TaggedIsTyped}
-use Rattle.laws_sections.proofs.TagOrder.{tag_order}
-use Rattle.laws_sections.proofs.TagLocal.{acts_land, start_at, tag_local}
-use Rattle.laws_sections.proofs.VisitsLocal.{Lands, ActLands, IsClosed, landing, local}
+use Rattle.std.{proofs.Common.{◌≡◌, ℕ, true, List, Option, Some, None, refl, sym, ap, ◌∙◌, subst, slice_get}, specs.List.AllByRecursion}
+use Rattle.jvm_types.specs.{CodeGrammar.is_start, CodeTable.row, Verifying.{edges, IsLaidOut}, declared.{code.Insn.Insn, op_row.OpRow.OpRow, program.{MethodInfo.MethodInfo, Program.Program}}}
+use Rattle.jvm_types.{specs.declared.program.Target.Target, proofs.EachAfter.all_weaker}
+use Rattle.laws_programs.proofs.{CodeOrder.one_number, LocalGoing.{begins, local_law}}
+use Rattle.checked_program.specs.{LockTags.{TagShape, entry_tags, IsShapeBelow}, Tagging.{tags_after, tags_at_handler, catchers, acts_at, tag_plan, HasTagging, IsTagAssignment}, Visits.EdgeFits}
+use Rattle.laws_sections.{specs.ReachLaws.TaggedIsTyped, proofs.{TagLocal.{acts_land, start_at, tag_local}, TagOrder.tag_order, VisitsLocal.{Lands, ActLands, IsClosed, landing, local}}}
 
 -- ---- typing reaches what tagging reaches
 

@@ -1,8 +1,8 @@
 -- Visits of any kind are determined: from some nodes on they end in one list of nodes, or at one fault. And where they lead
 -- from later nodes they lead from those at the start.
 use Rattle.std.proofs.Common.{◌≡◌, ℕ, List, [], ◌∷◌, map, Option, Some, None, Result, Ok, Err, refl, sym, ap, ◌∙◌, subst}
-use Rattle.checked_program.specs.Visits.{PlanNode, Plan, plan_visited, next_waiting, plan_nodes, PlanVisits, PlanBreaks, HasFrames, IsBroken}
 use Rattle.laws_programs.proofs.OneTyping.{some_waits, one_waits}
+use Rattle.checked_program.specs.Visits.{PlanNode, Plan, plan_visited, next_waiting, plan_nodes, PlanVisits, PlanBreaks, HasFrames, IsBroken}
 
 -- ---- what is equal to one thing
 

@@ -1,14 +1,11 @@
 -- The course of the visits of any kind: under the last frames each instruction is sound, and what goes along the edges from
 -- the start on holds of every instruction with a frame.
-use Rattle.std.proofs.Common.{◌≡◌, ℕ, zero, suc, length, length-set, Bool, true, false, cond, List, [], ◌∷◌, map, Option, Some, None, Result, Ok, ◌⊎◌, inl, inr, refl, sym, ap, ◌∙◌, subst}
-use Rattle.std.proofs.lemmas.List.{length-map}
-use Rattle.std.specs.Prelude.{◌==◌, slice_get, slice_set}
-use Rattle.std.specs.List.{AllByRecursion}
-use Rattle.jvm_types.specs.declared.code.Insn.{Insn}
-use Rattle.jvm_types.proofs.EachAfter.{all_weaker}
+use Rattle.std.proofs.Common.{◌≡◌, ℕ, zero, suc, length, length-set, Bool, true, false, cond, List, [], ◌∷◌, map, Option, Some, None, Result, Ok, ◌⊎◌, inl, inr, refl, sym, ap, ◌∙◌, subst, ◌==◌, slice_get, slice_set}
+use Rattle.std.{specs.List.AllByRecursion, proofs.lemmas.List.length-map}
+use Rattle.jvm_types.{specs.declared.code.Insn.Insn, proofs.EachAfter.all_weaker}
+use Rattle.laws_programs.proofs.LocalGoing.{got_set}
 use Rattle.checked_program.specs.Visits.{Act, Break, Bring, PlanNode, Plan, unreached, joined, edge_brought, edges_brought, meeting_clash, unless_meeting_clash, acted, acts_on, visited_node, plan_visited, first_waiting, next_waiting, nodes_for, plan_nodes, PlanVisits, HasFrames}
 use Rattle.laws_sections.proofs.VisitedNodes.{IsFirstOf, Orders, IsBelow, IsRisen, AreRisen, frame_trans, risen_self, risen_length, risen_from, risen_to, LandsOn, IsActFine, Sound, sound_risen, Does, does}
-use Rattle.laws_programs.proofs.LocalGoing.{got_set}
 
 -- ---- a node is set
 

@@ -1,13 +1,8 @@
 -- What visits of any kind leave at the nodes, of whatever code: frames only rise, one that has changed waits, and under the
 -- last frames no rule is broken and each edge to a node with a frame fits. Where pcs repeat, an edge leads to the first.
-use Rattle.std.proofs.Common.{◌≡◌, ℕ, zero, suc, length, Bool, true, false, cond, not, ◌&&◌, ◌||◌, List, [], ◌∷◌, Option, Some, None, Result, Ok, refl, sym, ap, ◌∙◌, subst, arith}
-use Rattle.std.specs.Prelude.{◌==◌, slice_get, IsSomeAnd}
-use Rattle.std.specs.List.{AllByRecursion, AllZip}
-use Rattle.std.proofs.lemmas.Bool.{or_parts}
-use Rattle.std.proofs.lemmas.Bool.Decides.{nat_tests}
-use Rattle.jvm_types.specs.Numbers.{has_number}
-use Rattle.jvm_types.specs.declared.code.Insn.{Insn}
-use Rattle.jvm_types.proofs.EachAfter.{all_weaker}
+use Rattle.std.proofs.Common.{◌≡◌, ℕ, zero, suc, length, Bool, true, false, cond, not, ◌&&◌, ◌||◌, List, [], ◌∷◌, Option, Some, None, Result, Ok, refl, sym, ap, ◌∙◌, subst, arith, ◌==◌, slice_get, IsSomeAnd}
+use Rattle.std.{specs.List.{AllByRecursion, AllZip}, proofs.lemmas.Bool.{or_parts, Decides.nat_tests}}
+use Rattle.jvm_types.{specs.{Numbers.has_number, declared.code.Insn.Insn}, proofs.EachAfter.all_weaker}
 use Rattle.checked_program.specs.Visits.{Meeting, Act, Break, Bring, PlanNode, joined, edge_brought, edges_brought, clashes_with, meeting_clash, unless_meeting_clash, acted}
 
 -- the first instruction of a pc, by its number

@@ -1,11 +1,9 @@
 -- Visits of any kind end, where frames have ranks: a frame that met another and changed has a lower one, and an instruction
 -- brings frames whose ranks are not far above that of its own. A visit clears one flag, and a node that begins to wait has a
 -- frame that went down; one without a frame is above all frames that it can have.
-use Rattle.std.proofs.Common.{◌≡◌, ℕ, zero, suc, ◌+◌, ◌*◌, ◌<◌, ◌≤◌, Bool, true, false, List, [], ◌∷◌, map, Option, Some, None, Result, Ok, Err, ◌⊎◌, inl, inr, refl, sym, ap, ◌∙◌, subst, arith}
-use Rattle.std.specs.Prelude.{◌||◌, not, ◌==◌, if◌then◌else◌, slice_get, slice_set}
+use Rattle.std.proofs.Common.{◌≡◌, ℕ, zero, suc, ◌+◌, ◌*◌, ◌<◌, ◌≤◌, Bool, true, false, List, [], ◌∷◌, map, Option, Some, None, Result, Ok, Err, ◌⊎◌, inl, inr, refl, sym, ap, ◌∙◌, subst, arith, ◌||◌, not, ◌==◌, if◌then◌else◌, slice_get, slice_set}
 use Rattle.std.specs.List.{AllByRecursion}
-use Rattle.jvm_types.specs.declared.code.Insn.{Insn}
-use Rattle.jvm_types.proofs.EachAfter.{all_weaker}
+use Rattle.jvm_types.{specs.declared.code.Insn.Insn, proofs.EachAfter.all_weaker}
 use Rattle.checked_program.specs.Visits.{Meeting, Act, Break, Bring, PlanNode, Plan, unreached, joined, edge_brought, edges_brought, meeting_clash, unless_meeting_clash, acted, acts_on, visited_node, plan_visited, first_waiting, next_waiting, nodes_for, plan_nodes, PlanVisits, PlanBreaks, HasFrames, IsBroken}
 
 -- ---- ranks

@@ -1,17 +1,11 @@
 -- The local law of visits of any kind: under the last frames no rule is broken, and what an edge brings fits the frame at
 -- its target. It asks that frames have an order in which a meeting goes up, and that edges lead to instructions.
-use Rattle.std.proofs.Common.{◌≡◌, ℕ, zero, suc, Bool, true, false, cond, ◌||◌, List, [], ◌∷◌, map, length, Option, Some, None, refl, sym, ap, ◌∙◌, subst, arith}
-use Rattle.std.specs.Prelude.{◌==◌, slice_get, IsSomeAnd}
-use Rattle.std.specs.List.{AllByRecursion}
-use Rattle.std.proofs.lemmas.Bool.{eq-eqb}
-use Rattle.std.proofs.lemmas.Bool.Decides.{nat_tests}
-use Rattle.std.proofs.lemmas.List.{length-map}
-use Rattle.jvm_types.specs.CodeGrammar.{is_start}
-use Rattle.jvm_types.specs.declared.code.Insn.{Insn}
-use Rattle.jvm_types.proofs.EachAfter.{all_weaker}
+use Rattle.std.proofs.Common.{◌≡◌, ℕ, zero, suc, Bool, true, false, cond, ◌||◌, List, [], ◌∷◌, map, length, Option, Some, None, refl, sym, ap, ◌∙◌, subst, arith, ◌==◌, slice_get, IsSomeAnd}
+use Rattle.std.{specs.List.AllByRecursion, proofs.lemmas.{Bool.{eq-eqb, Decides.nat_tests}, List.length-map}}
+use Rattle.jvm_types.{specs.{CodeGrammar.is_start, declared.code.Insn.Insn}, proofs.EachAfter.all_weaker}
 use Rattle.checked_program.specs.Visits.{Act, Break, Bring, PlanNode, Plan, plan_nodes, HasFrames, frame_at_pc, EdgeFits}
-use Rattle.laws_sections.proofs.VisitedNodes.{IsFirstOf, Orders, IsBelow, LandsOn, Sound}
 use Rattle.laws_sections.proofs.VisitPaths.{AreLive, ActLeads, IsSettled, settled, visits_length, first_length, all_lead, first_live, starts_below}
+use Rattle.laws_sections.proofs.VisitedNodes.{IsFirstOf, Orders, IsBelow, LandsOn, Sound}
 
 -- ---- what the law asks for
 

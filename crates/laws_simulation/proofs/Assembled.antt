@@ -1,33 +1,18 @@
 -- A state whose thread t has moved stands beside a plain state whose thread t has, where objects and static fields stay as
 -- they are.
-use Rattle.std.proofs.Common.{◌≡◌, ◌≢◌, ◌⊎◌, inl, inr, ℕ, zero, suc, ◌≤◌, Bool, List, [], ◌∷◌, length, Option, Some, refl, sym, ap, ◌∙◌, subst, arith}
-use Rattle.std.specs.Prelude.{slice_get, slice_index, slice_set, option_and_then}
+use Rattle.std.proofs.Common.{◌≡◌, ◌≢◌, ◌⊎◌, inl, inr, ℕ, zero, suc, ◌≤◌, Bool, List, [], ◌∷◌, length, Option, Some, refl, sym, ap, ◌∙◌, subst, arith, slice_get, slice_index, slice_set, option_and_then}
 use Rattle.std.proofs.lemmas.List.{length-set}
 use Rattle.lists.proofs.ListLaws.{same_some}
+use Rattle.jvm_types.specs.declared.{fixed_words.TheConstants.{NEXT_FREE_WORD, NEXT_TICKET_WORD}, program.Program.Program}
 use Rattle.checked_program.specs.MarkedProgram.{MarkedProgram}
-use Rattle.jvm_types.specs.declared.fixed_words.TheConstants.{NEXT_FREE_WORD, NEXT_TICKET_WORD}
-use Rattle.jvm_types.specs.declared.outcome.End.TheVariants as ends
-use Rattle.jvm_types.specs.declared.program.Program.{Program}
-use Rattle.machine_types.specs.Accesses.{found_by, words_after}
-use Rattle.machine_types.specs.Agreement.{IsPending, ThreadFits, depth_for, depth_of, has_wait_bit}
-use Rattle.machine_types.specs.Core.{Core, event, event_of}
-use Rattle.machine_types.specs.Events.{wanted, moved}
-use Rattle.machine_types.specs.HeldMonitors.{depth_at}
-use Rattle.machine_types.specs.History.{acts_of, steps_of}
-use Rattle.machine_types.specs.Owners.{references_of}
-use Rattle.machine_types.specs.Parts.{done_roots}
-use Rattle.machine_types.specs.PlainMemory.{Object}
-use Rattle.machine_types.specs.PlainState.{Plain, PlainThread, Holding, Printed, value_at, holding_at}
-use Rattle.machine_types.specs.PlainSteps.{step_at, step_of, plain_run}
-use Rattle.machine_types.specs.Threads.{Attempt, Thread}
-use Rattle.machine_types.specs.declared.phase.Phase.TheVariants as phases
-use Rattle.machine_types.specs.declared.plain.Act.{Act}
-use Rattle.laws_states.specs.HeapFacts.{objects_by, objects_of}
-use Rattle.laws_states.proofs.Assembled.{got_set}
-use Rattle.laws_states.proofs.Lists.{same_or_not}
-use Rattle.laws_simulation.specs.StandsBeside.{IsAmong, IsBeingMade, IsPlainNew, StandsBeside, ends_shown}
-use Rattle.laws_simulation.specs.StepsBeside.{StepsBeside}
+use Rattle.machine_types.specs.{Accesses.{found_by, words_after}, Agreement.{IsPending, ThreadFits, depth_for, depth_of, has_wait_bit}, Core.{Core, event, event_of}, Events.{wanted, moved}}
+use Rattle.machine_types.specs.{HeldMonitors.depth_at, History.{acts_of, steps_of}, Owners.references_of, Parts.done_roots, PlainMemory.Object}
+use Rattle.machine_types.specs.{PlainState.{Plain, PlainThread, Holding, Printed, value_at, holding_at}, PlainSteps.{step_at, step_of, plain_run}, Threads.{Attempt, Thread}, declared.plain.Act.Act}
 use Rattle.machine_types.proofs.Lists.{got_when_set, got_other, got_below}
+use Rattle.laws_states.{specs.HeapFacts.{objects_by, objects_of}, proofs.{Assembled.got_set, Lists.same_or_not}}
+use Rattle.laws_simulation.specs.{StandsBeside.{IsAmong, IsBeingMade, IsPlainNew, StandsBeside, ends_shown}, StepsBeside.StepsBeside}
+use Rattle.jvm_types.specs.declared.outcome.End.TheVariants as ends
+use Rattle.machine_types.specs.declared.phase.Phase.TheVariants as phases
 
 -- ---- lists
 

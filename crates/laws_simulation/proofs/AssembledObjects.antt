@@ -1,28 +1,14 @@
 -- What the state after an event of one thread needs, so that it stands beside the plain state after it, also where objects change.
-use Rattle.std.proofs.Common.{◌≡◌, ◌≢◌, ◌⊎◌, inl, inr, ℕ, ◌≤◌, List, [], length, Some, sym, ap, subst, ◌∙◌}
-use Rattle.std.specs.Prelude.{Contains, slice_get, slice_set, slice_index}
-use Rattle.std.proofs.lemmas.List.{length-set}
+use Rattle.std.proofs.{Common.{◌≡◌, ◌≢◌, ◌⊎◌, inl, inr, ℕ, ◌≤◌, List, [], length, Some, sym, ap, subst, ◌∙◌, Contains, slice_get, slice_set, slice_index}, lemmas.List.length-set}
 use Rattle.lists.proofs.ListLaws.{same_some}
-use Rattle.jvm_types.specs.declared.fixed_words.TheConstants.{NEXT_FREE_WORD, NEXT_TICKET_WORD}
-use Rattle.jvm_types.specs.declared.outcome.End.TheVariants as ends
-use Rattle.jvm_types.specs.declared.program.Program.{Program}
-use Rattle.machine_types.specs.Agreement.{has_wait_bit, depth_for, depth_of, IsPending, ThreadFits}
-use Rattle.machine_types.specs.Core.{Core}
-use Rattle.machine_types.specs.Facts.{ArePlainObjects}
-use Rattle.machine_types.specs.HeldMonitors.{depth_at}
-use Rattle.machine_types.specs.ObjectsApart.{LieApart}
-use Rattle.machine_types.specs.Owners.{references_of}
-use Rattle.machine_types.specs.Parts.{done_roots}
-use Rattle.machine_types.specs.PlainMemory.{Object}
-use Rattle.machine_types.specs.PlainState.{Plain, PlainThread, Holding, value_at, holding_at}
-use Rattle.machine_types.specs.Threads.{Thread}
-use Rattle.machine_types.specs.declared.lock.Held.{Held}
-use Rattle.machine_types.specs.declared.phase.Phase.{Phase}
-use Rattle.machine_types.specs.declared.phase.Phase.TheVariants as phases
+use Rattle.jvm_types.specs.declared.{fixed_words.TheConstants.{NEXT_FREE_WORD, NEXT_TICKET_WORD}, program.Program.Program}
+use Rattle.machine_types.specs.{Agreement.{has_wait_bit, depth_for, depth_of, IsPending, ThreadFits}, Core.Core, Facts.ArePlainObjects, HeldMonitors.depth_at, ObjectsApart.LieApart}
+use Rattle.machine_types.specs.{Owners.references_of, Parts.done_roots, PlainMemory.Object, PlainState.{Plain, PlainThread, Holding, value_at, holding_at}, Threads.Thread, declared.lock.Held.Held}
+use Rattle.machine_types.{specs.declared.phase.Phase.Phase, proofs.Lists.{got_when_set, got_other}}
 use Rattle.laws_states.proofs.Lists.{same_or_not}
-use Rattle.laws_simulation.specs.StandsBeside.{IsBeingMade, IsAmong, IsPlainNew, ends_shown, StandsBeside}
-use Rattle.laws_simulation.proofs.WaitBits.{fits_by}
-use Rattle.machine_types.proofs.Lists.{got_when_set, got_other}
+use Rattle.laws_simulation.{specs.StandsBeside.{IsBeingMade, IsAmong, IsPlainNew, ends_shown, StandsBeside}, proofs.WaitBits.fits_by}
+use Rattle.jvm_types.specs.declared.outcome.End.TheVariants as ends
+use Rattle.machine_types.specs.declared.phase.Phase.TheVariants as phases
 
 -- ---- threads that make objects, where one that makes none goes on
 

@@ -1,13 +1,9 @@
 -- Events that begin no instruction, take no section and print nothing.
-use Rattle.std.proofs.Common.{◌≡◌, ℕ, ◌+◌, nat_lt, Bool, true, false, List, [], ◌∷◌, Option, Some, None, refl}
-use Rattle.std.specs.Prelude.{if◌then◌else◌}
+use Rattle.std.proofs.Common.{◌≡◌, ℕ, ◌+◌, nat_lt, Bool, true, false, List, [], ◌∷◌, Option, Some, None, refl, if◌then◌else◌}
 use Rattle.jvm_types.specs.declared.outcome.End.{End}
+use Rattle.machine_types.specs.{Counting.extra_of, Going.{runs, failed_turn, goes_on, goes_on_if, with_phase}, Onward.{Onward, Running, Throwing, Entering, Leaving, RootReturned, Uncaught}}
+use Rattle.machine_types.specs.{Threads.{Attempt, Thread}, declared.phase.Phase.Phase}
 use Rattle.jvm_types.specs.declared.outcome.End.TheVariants as ends
-use Rattle.machine_types.specs.Counting.{extra_of}
-use Rattle.machine_types.specs.Going.{runs, failed_turn, goes_on, goes_on_if, with_phase}
-use Rattle.machine_types.specs.Onward.{Onward, Running, Throwing, Entering, Leaving, RootReturned, Uncaught}
-use Rattle.machine_types.specs.Threads.{Attempt, Thread}
-use Rattle.machine_types.specs.declared.phase.Phase.{Phase}
 use Rattle.machine_types.specs.declared.phase.Phase.TheVariants as phases
 
 -- ---- no instruction is begun without a step

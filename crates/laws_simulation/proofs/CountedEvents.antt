@@ -1,48 +1,28 @@
 -- An event of a thread in no attempt counts what its plain steps do, and prints the same.
-use Rattle.std.proofs.Common.{◌≡◌, ℕ, ◌+◌, nat_lt, Bool, true, false, cond, List, [], ◌∷◌, ◌++◌, Option, Some, None, refl, sym, ap, ◌∙◌, subst, arith}
-use Rattle.std.specs.Prelude.{◌==◌, if◌then◌else◌, option_map, option_and_then, slice_get}
+use Rattle.std.proofs.Common.{◌≡◌, ℕ, ◌+◌, nat_lt, Bool, true, false, cond, List, [], ◌∷◌, ◌++◌, Option, Some, None, refl, sym, ap, ◌∙◌, subst, arith, ◌==◌, if◌then◌else◌, option_map, option_and_then, slice_get}
 use Rattle.std.specs.List.{AllByRecursion}
-use Rattle.jvm_types.specs.declared.outcome.End.{End}
-use Rattle.jvm_types.specs.declared.outcome.End.TheVariants as ends
-use Rattle.jvm_types.specs.declared.outcome.Print.{Print}
-use Rattle.jvm_types.specs.declared.program.Program.{Program}
+use Rattle.jvm_types.specs.declared.{outcome.{End.End, Print.Print, Thrown.Thrown}, program.Program.Program}
 use Rattle.checked_program.specs.MarkedProgram.{MarkedProgram}
-use Rattle.machine_types.specs.Agreement.{StatusFits, frames_shown, depth_for}
-use Rattle.machine_types.specs.Counting.{is_free, one_if, run_at, take_at, count_along, extra_of}
-use Rattle.machine_types.specs.Events.{moved, element_made}
-use Rattle.machine_types.specs.Frames.{Top, top_of, effect_at, went_on, pushed}
-use Rattle.machine_types.specs.Going.{with_phase, goes_on_if, goes_on, failed_turn, runs}
-use Rattle.machine_types.specs.HeldMonitors.{held_at, depth_at, with_held, deeper, shallower, without_held}
-use Rattle.machine_types.specs.History.{acts_of, steps_of, act_if, notified_by, release_acts, leave_acts}
-use Rattle.machine_types.specs.History as history
-use Rattle.machine_types.specs.Instructions.{has_print_left, printed}
-use Rattle.machine_types.specs.Ints.{low, int_of}
-use Rattle.machine_types.specs.LockWords.{word_of_lock}
-use Rattle.machine_types.specs.Monitors.{takes, claim_by, Claim, Has, Tries, HasNot, claim, lowest_of}
-use Rattle.machine_types.specs.Onward.{Running, threw, Onward}
-use Rattle.machine_types.specs.PlainState.{Plain, PlainThread, Status, Holding, holding_at}
-use Rattle.machine_types.specs.PlainState as plain
-use Rattle.machine_types.specs.PlainSteps.{plain_run, plain_step, plain_entered, step_at, step_of}
-use Rattle.machine_types.specs.PlainInstructions.{plain_instructed}
-use Rattle.machine_types.specs.Threads.{Frame, Thread, Attempt}
-use Rattle.machine_types.specs.Words.{value_word}
-use Rattle.machine_types.specs.declared.effect.Effect.{Effect}
-use Rattle.machine_types.specs.declared.effect.Effect.TheVariants.{Indexes, Makes, Prints, Waits, Notifies, NotifiesAll, Stuck}
-use Rattle.machine_types.specs.declared.lock.Held.{Held}
-use Rattle.machine_types.specs.declared.lock.Kept.{Kept}
-use Rattle.machine_types.specs.declared.lock.Kept.TheVariants as keeps
-use Rattle.machine_types.specs.declared.lock.LockWord.TheVariants as locks
-use Rattle.machine_types.specs.declared.phase.Phase.{Phase}
-use Rattle.machine_types.specs.declared.phase.Phase.TheVariants as phases
-use Rattle.machine_types.specs.declared.plain.Act.{Act}
-use Rattle.machine_types.specs.declared.plain.Act.TheVariants as acts
+use Rattle.machine_types.specs.{Agreement.{StatusFits, frames_shown, depth_for}, Counting.{is_free, one_if, run_at, take_at, count_along, extra_of}, Events.{moved, element_made}}
+use Rattle.machine_types.specs.{Frames.{Top, top_of, effect_at, went_on, pushed}, Going.{with_phase, goes_on_if, goes_on, failed_turn, runs}}
+use Rattle.machine_types.specs.{HeldMonitors.{held_at, depth_at, with_held, deeper, shallower, without_held}, History.{acts_of, steps_of, act_if, notified_by, release_acts, leave_acts}}
+use Rattle.machine_types.specs.{Instructions.{has_print_left, printed}, Ints.{low, int_of}, LockWords.word_of_lock, Monitors.{takes, claim_by, Claim, Has, Tries, HasNot, claim, lowest_of}}
+use Rattle.machine_types.specs.{Onward.{Running, threw, Onward}, PlainInstructions.plain_instructed, PlainState.{Plain, PlainThread, Status, Holding, holding_at}}
+use Rattle.machine_types.specs.{PlainSteps.{plain_run, plain_step, plain_entered, step_at, step_of}, Threads.{Frame, Thread, Attempt}, Words.value_word, declared.effect.Effect.Effect}
+use Rattle.machine_types.specs.declared.{effect.Effect.TheVariants.{Indexes, Makes, Prints, Waits, Notifies, NotifiesAll, Stuck}, lock.{Held.Held, Kept.Kept}, phase.Phase.Phase, plain.Act.Act}
 use Rattle.machine_types.specs.declared.plain.PlainStep.{PlainStep}
 use Rattle.laws_threads.specs.TopFrames.{IsAllowed}
+use Rattle.laws_threads.proofs.ThreadMove.{Looks, Lacks, GoesBy, LeadsTo, TurnsTo, Takes, Refuses, IsByDone, IsNotify, Asks, WaitsFrom, Move, becomes, begun_attempt, counting, begun_by, counted_move, gives_up_in, tried_attempt}
 use Rattle.laws_simulation.proofs.CalmEvents.{IsCalm, Calm, no_extra, failed, goes, goes_if, changed, ran}
 use Rattle.laws_simulation.proofs.PlainCounts.{none_along, first_along, NeverCount, is_do, is_enter, not_run, not_taken, did_run, did_throw, did_enter}
-use Rattle.jvm_types.specs.declared.outcome.Thrown.{Thrown}
+use Rattle.jvm_types.specs.declared.outcome.End.TheVariants as ends
+use Rattle.machine_types.specs.History as history
+use Rattle.machine_types.specs.PlainState as plain
+use Rattle.machine_types.specs.declared.lock.Kept.TheVariants as keeps
+use Rattle.machine_types.specs.declared.lock.LockWord.TheVariants as locks
+use Rattle.machine_types.specs.declared.phase.Phase.TheVariants as phases
+use Rattle.machine_types.specs.declared.plain.Act.TheVariants as acts
 use Rattle.machine_types.specs.declared.phase.Toward.TheVariants as towards
-use Rattle.laws_threads.proofs.ThreadMove.{Looks, Lacks, GoesBy, LeadsTo, TurnsTo, Takes, Refuses, IsByDone, IsNotify, Asks, WaitsFrom, Move, becomes, begun_attempt, counting, begun_by, counted_move, gives_up_in, tried_attempt}
 use Rattle.laws_threads.proofs.ThreadMove as moves
 
 -- ---- acts that count in no state

@@ -1,67 +1,25 @@
 -- The event that reads or stores an element: the plain machine does the whole instruction with it.
-use Rattle.std.proofs.Common.{◌≡◌, ℕ, ◌<◌, nat_lt, Bool, true, false, List, [], ◌∷◌, length, Option, Some, None, refl, sym, ap, subst, ◌∙◌, arith}
-use Rattle.std.specs.Prelude.{Contains, slice_index, slice_set, option_map, option_and_then, ◌==◌, if◌then◌else◌}
+use Rattle.std.proofs.Common.{◌≡◌, ℕ, ◌<◌, nat_lt, Bool, true, false, List, [], ◌∷◌, length, Option, Some, None, refl, sym, ap, subst, ◌∙◌, arith, Contains, slice_index, slice_set, option_map, option_and_then, ◌==◌, if◌then◌else◌}
 use Rattle.std.proofs.lemmas.Bool.Decides.{nat_tests}
-use Rattle.jvm_types.specs.declared.class_numbers.TheConstants.{INT_ARRAY_CLASS}
-use Rattle.jvm_types.specs.declared.code.Insn.{Insn}
-use Rattle.jvm_types.specs.declared.code.Op.{Op}
+use Rattle.jvm_types.specs.declared.{class_numbers.TheConstants.INT_ARRAY_CLASS, code.{Insn.Insn, Op.Op}, fixed_words.TheConstants.NEXT_FREE_WORD, op_row.OpRow.OpRow}
+use Rattle.jvm_types.specs.declared.{outcome.Thrown.TheVariants.ArrayIndexOutOfBoundsException, program.{MethodInfo.MethodInfo, Program.Program, Target.Target}}
+use Rattle.checked_program.specs.{MarkedProgram.MarkedProgram, TaggedCode.row_of}
+use Rattle.machine_types.specs.{Agreement.has_wait_bit, Core.Core, Effects.effect, Events.{element_made, wanted, moved}, Frames.{Top, top_of, effect_at, went_on}, Going.{goes_on, goes_on_if}}
+use Rattle.machine_types.specs.{History.{acts_of, steps_of}, Ints.low, Onward.{Running, threw}, Owners.references_of, PlainInstructions.{plain_did, indexed_in, plain_instructed, instructed_by}}
+use Rattle.machine_types.specs.{PlainMemory.Object, PlainState.{Plain, PlainThread, value_at, written, with_thread}, PlainSteps.{step_at, plain_run}, Structure.{PhaseShows, TopIs, is_element_op}}
+use Rattle.machine_types.specs.{Threads.{Frame, Thread}, Typed.{FramesHold, HasClass, IsElementOn, ElementStands, HasElement, HasElementOn, HasElementIn}, Waiting.MayWait}
+use Rattle.machine_types.specs.{Words.{header_length, header_word, value_word}, declared.{access.Access.TheVariants.{Load, Store}, config.Config.Config, effect.Effect.Effect}}
+use Rattle.machine_types.specs.declared.{effect.Effect.TheVariants.{Throws, Indexes}, phase.Phase.Phase}
+use Rattle.laws_threads.{specs.Allowed.{Allowed, IsOf}, proofs.{Landing.stand_top, Onwards.same_op, Standings.top_here, TopEffects.allowed_here}}
+use Rattle.laws_states.{specs.{HeapFacts.objects_by, Sites.{HeaderOf, ValueOf}}, proofs.{Accesses.out_there, Found.length_found, Lists.contained_got, Places.same_object}}
+use Rattle.laws_simulation.{specs.StepsBeside.StepsBeside, proofs.{Assembled.one_step, MemoryParts.{stays, writes}, OwnThread.IsBusy, PlainValues.value_found}}
+use Rattle.laws_simulation.proofs.{RunScene.{twin, runs_on, frames_are, status_fits, values}, Scene.{Scene, GoesOn, Memory, awake, counts_as, going, none_on, comes_beside, steps_of_event, looked}}
 use Rattle.jvm_types.specs.declared.code.Op.TheVariants as ops
-use Rattle.jvm_types.specs.declared.fixed_words.TheConstants.{NEXT_FREE_WORD}
 use Rattle.jvm_types.specs.declared.outcome.End.TheVariants as ends
 use Rattle.jvm_types.specs.declared.outcome.Thrown.TheVariants as thrown
-use Rattle.jvm_types.specs.declared.outcome.Thrown.TheVariants.{ArrayIndexOutOfBoundsException}
-use Rattle.jvm_types.specs.declared.op_row.OpRow.{OpRow}
-use Rattle.jvm_types.specs.declared.program.MethodInfo.{MethodInfo}
-use Rattle.jvm_types.specs.declared.program.Program.{Program}
-use Rattle.jvm_types.specs.declared.program.Target.{Target}
-use Rattle.checked_program.specs.MarkedProgram.{MarkedProgram}
-use Rattle.checked_program.specs.TaggedCode.{row_of}
-use Rattle.machine_types.specs.Agreement.{has_wait_bit}
-use Rattle.machine_types.specs.Core.{Core}
-use Rattle.machine_types.specs.Effects.{effect}
-use Rattle.machine_types.specs.Events.{element_made, wanted, moved}
-use Rattle.machine_types.specs.Frames.{Top, top_of, effect_at, went_on}
-use Rattle.machine_types.specs.Going.{goes_on, goes_on_if}
-use Rattle.machine_types.specs.History.{acts_of}
-use Rattle.machine_types.specs.Ints.{low}
-use Rattle.machine_types.specs.Onward.{Running, threw}
-use Rattle.machine_types.specs.Owners.{references_of}
-use Rattle.machine_types.specs.PlainInstructions.{plain_did, indexed_in, plain_instructed, instructed_by}
-use Rattle.machine_types.specs.PlainMemory.{Object}
-use Rattle.machine_types.specs.PlainState.{Plain, PlainThread, value_at, written, with_thread}
 use Rattle.machine_types.specs.PlainState as plain
-use Rattle.machine_types.specs.PlainSteps.{step_at, plain_run}
-use Rattle.machine_types.specs.History.{steps_of}
-use Rattle.machine_types.specs.Structure.{PhaseShows, TopIs, is_element_op}
-use Rattle.machine_types.specs.Threads.{Frame, Thread}
-use Rattle.machine_types.specs.Typed.{FramesHold, HasClass, IsElementOn, ElementStands, HasElement, HasElementOn, HasElementIn}
-use Rattle.machine_types.specs.Waiting.{MayWait}
-use Rattle.machine_types.specs.Words.{header_length, header_word, value_word}
-use Rattle.machine_types.specs.declared.access.Access.TheVariants.{Load, Store}
-use Rattle.machine_types.specs.declared.config.Config.{Config}
-use Rattle.machine_types.specs.declared.effect.Effect.{Effect}
-use Rattle.machine_types.specs.declared.effect.Effect.TheVariants.{Throws, Indexes}
-use Rattle.machine_types.specs.declared.phase.Phase.{Phase}
 use Rattle.machine_types.specs.declared.phase.Phase.TheVariants as phases
 use Rattle.machine_types.specs.declared.plain.Act.TheVariants as acts
-use Rattle.laws_threads.specs.Allowed.{Allowed, IsOf}
-use Rattle.laws_threads.proofs.Landing.{stand_top}
-use Rattle.laws_threads.proofs.Standings.{top_here}
-use Rattle.laws_threads.proofs.TopEffects.{allowed_here}
-use Rattle.laws_threads.proofs.Onwards.{same_op}
-use Rattle.laws_states.specs.HeapFacts.{objects_by}
-use Rattle.laws_states.specs.Sites.{HeaderOf, ValueOf}
-use Rattle.laws_states.proofs.Accesses.{out_there}
-use Rattle.laws_states.proofs.Found.{length_found}
-use Rattle.laws_states.proofs.Lists.{contained_got}
-use Rattle.laws_states.proofs.Places.{same_object}
-use Rattle.laws_simulation.specs.StepsBeside.{StepsBeside}
-use Rattle.laws_simulation.proofs.Assembled.{one_step}
-use Rattle.laws_simulation.proofs.OwnThread.{IsBusy}
-use Rattle.laws_simulation.proofs.PlainValues.{value_found}
-use Rattle.laws_simulation.proofs.Scene.{Scene, GoesOn, Memory, awake, counts_as, going, none_on, comes_beside, steps_of_event, looked}
-use Rattle.laws_simulation.proofs.MemoryParts.{stays, writes}
-use Rattle.laws_simulation.proofs.RunScene.{twin, runs_on, frames_are, status_fits, values}
 
 -- ---- the element that the stack names
 

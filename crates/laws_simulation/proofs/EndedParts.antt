@@ -1,32 +1,19 @@
 -- When a run is over its parts ended as those of the plain state.
-use Rattle.std.proofs.Common.{◌≡◌, ◌≤◌, ◌<◌, inl, inr, ℕ, zero, suc, Bool, true, false, cond, List, [], ◌∷◌, length, Option, Some, None, refl, sym, ap, ◌∙◌, subst, arith}
-use Rattle.std.specs.Prelude.{◌&&◌, if◌then◌else◌, option_map, nat_lt, slice_get}
-use Rattle.std.specs.List.{list_all}
-use Rattle.std.proofs.lemmas.Option.{slice_get-map}
+use Rattle.std.proofs.Common.{◌≡◌, ◌≤◌, ◌<◌, inl, inr, ℕ, zero, suc, Bool, true, false, cond, List, [], ◌∷◌, length, Option, Some, None, refl, sym, ap, ◌∙◌, subst, arith, ◌&&◌, if◌then◌else◌, option_map, nat_lt, slice_get}
+use Rattle.std.{specs.List.list_all, proofs.lemmas.Option.slice_get-map}
 use Rattle.lists.proofs.ListLaws.{same_some}
-use Rattle.jvm_types.specs.declared.outcome.End.{End}
-use Rattle.jvm_types.specs.declared.outcome.End.TheVariants as ends
-use Rattle.jvm_types.specs.declared.outcome.ThreadReport.{ThreadReport}
-use Rattle.jvm_types.specs.declared.program.Program.{Program}
+use Rattle.jvm_types.specs.declared.{outcome.{End.End, ThreadReport.ThreadReport}, program.Program.Program}
 use Rattle.checked_program.specs.MarkedProgram.{MarkedProgram}
 use Rattle.machine_types.specs.Agreement.{LimitFits, IsWaiter, IsTurning, EndingFits, StatusFits, ThreadFits, has_wait_bit}
-use Rattle.machine_types.specs.Core.{is_live, is_live_thread, ended_by, may_begin, may_begin_by, end_or_not_run, reported_end, report_of, done_end}
-use Rattle.machine_types.specs.Faithful.{EndFits}
-use Rattle.machine_types.specs.Owners.{references_of}
-use Rattle.machine_types.specs.Parts.{done_roots, has_returned, has_finished}
-use Rattle.machine_types.specs.PlainState.{Plain, PlainThread, Status}
-use Rattle.machine_types.specs.PlainState as plain
-use Rattle.machine_types.specs.PlainSteps.{first_is_return, is_over, is_done_due, end_at, first_end}
-use Rattle.machine_types.specs.PlainSteps as steps
-use Rattle.machine_types.specs.Structure.{IsLimitAt, IsAs, Stands, AttemptStands, AttemptStandsIn, IsStructured}
-use Rattle.machine_types.specs.Threads.{Attempt, Frame, Thread}
-use Rattle.machine_types.specs.declared.lock.Held.{Held}
-use Rattle.machine_types.specs.declared.phase.Phase.{Phase}
-use Rattle.machine_types.specs.declared.phase.Phase.TheVariants as phases
+use Rattle.machine_types.specs.{Core.{is_live, is_live_thread, ended_by, may_begin, may_begin_by, end_or_not_run, reported_end, report_of, done_end}, Faithful.EndFits, Owners.references_of}
+use Rattle.machine_types.specs.{Parts.{done_roots, has_returned, has_finished}, PlainState.{Plain, PlainThread, Status}, PlainSteps.{first_is_return, is_over, is_done_due, end_at, first_end}}
+use Rattle.machine_types.specs.{Structure.{IsLimitAt, IsAs, Stands, AttemptStands, AttemptStandsIn, IsStructured}, Threads.{Attempt, Frame, Thread}, declared.{lock.Held.Held, phase.Phase.Phase}}
 use Rattle.laws_states.specs.PartsStand.{FirstFits, HasFinished, PartsStand}
-use Rattle.laws_simulation.specs.StandsBeside.{own_end, end_of_done, ends_shown}
-use Rattle.laws_simulation.specs.OutcomeLaws.{EndsAreThose}
-use Rattle.laws_simulation.proofs.Assembled.{got_same_length}
+use Rattle.laws_simulation.{specs.{OutcomeLaws.EndsAreThose, StandsBeside.{own_end, end_of_done, ends_shown}}, proofs.Assembled.got_same_length}
+use Rattle.jvm_types.specs.declared.outcome.End.TheVariants as ends
+use Rattle.machine_types.specs.PlainState as plain
+use Rattle.machine_types.specs.PlainSteps as steps
+use Rattle.machine_types.specs.declared.phase.Phase.TheVariants as phases
 
 -- ---- one part that is over
 

@@ -2,17 +2,9 @@
 use Rattle.std.proofs.Common.{◌≡◌, ℕ, List, [], refl, ◌∙◌}
 use Rattle.jvm_types.specs.declared.outcome.End.{End}
 use Rattle.checked_program.specs.MarkedProgram.{MarkedProgram}
-use Rattle.machine_types.specs.Core.{Core}
-use Rattle.machine_types.specs.Going.{with_phase}
-use Rattle.machine_types.specs.PlainMemory.{Object}
-use Rattle.machine_types.specs.PlainState.{Plain, PlainThread}
-use Rattle.machine_types.specs.Threads.{Thread}
-use Rattle.machine_types.specs.declared.config.Config.{Config}
-use Rattle.machine_types.specs.declared.phase.Phase.{Phase}
+use Rattle.machine_types.specs.{Core.Core, Going.with_phase, PlainMemory.Object, PlainState.{Plain, PlainThread}, Threads.Thread, declared.{config.Config.Config, phase.Phase.Phase}}
+use Rattle.laws_simulation.{specs.StepsBeside.StepsBeside, proofs.{Moments.{Moment, same_words, own_fits, own_status, own_frames, own_roots, own_ends, stepped}, Moved.{ends_alike, quiet_beside}}}
 use Rattle.machine_types.specs.declared.phase.Phase.TheVariants as phases
-use Rattle.laws_simulation.specs.StepsBeside.{StepsBeside}
-use Rattle.laws_simulation.proofs.Moments.{Moment, same_words, own_fits, own_status, own_frames, own_roots, own_ends, stepped}
-use Rattle.laws_simulation.proofs.Moved.{ends_alike, quiet_beside}
 
 module _ {c : MarkedProgram} {cfg : Config} {objects : List Object} {was : ℕ → Phase} {s : Core} {t : ℕ} {x : Thread} {q : Plain} {y : PlainThread} where
   pub idle_stays : Moment c cfg objects was s t x q phases.Idle y → StepsBeside c objects s t x q

@@ -1,49 +1,24 @@
 -- A thread enters a monitor: it has it already, it takes its lock, or it goes on to wait for it.
-use Rattle.std.proofs.Common.{◌≡◌, inl, ℕ, ◌+◌, ◌-◌, ◌<◌, nat_lt, Bool, true, false, cond, List, [], ◌∷◌, length, drop, Option, Some, None, refl, sym, ap, ◌∙◌, subst, arith}
-use Rattle.std.specs.Prelude.{slice_index, slice_set, ◌==◌}
-use Rattle.std.proofs.lemmas.Bool.Decides.{nat_tests, Decides-eqb}
-use Rattle.std.proofs.lemmas.Bool.{ne_eqb}
-use Rattle.jvm_types.specs.declared.fixed_words.TheConstants.{MONITOR_RECORDS}
-use Rattle.jvm_types.specs.declared.limits.TheConstants.{FLAG_FROM}
-use Rattle.jvm_types.specs.declared.outcome.End.TheVariants as ends
+use Rattle.std.proofs.Common.{◌≡◌, inl, ℕ, ◌+◌, ◌-◌, ◌<◌, nat_lt, Bool, true, false, cond, List, [], ◌∷◌, length, drop, Option, Some, None, refl, sym, ap, ◌∙◌, subst, arith, slice_index, slice_set, ◌==◌}
+use Rattle.std.proofs.lemmas.Bool.{ne_eqb, Decides.{nat_tests, Decides-eqb}}
+use Rattle.jvm_types.specs.declared.{fixed_words.TheConstants.MONITOR_RECORDS, limits.TheConstants.FLAG_FROM}
 use Rattle.checked_program.specs.MarkedProgram.{MarkedProgram}
-use Rattle.machine_types.specs.Accesses.{found_by, words_after}
-use Rattle.machine_types.specs.Agreement.{StatusFits, depth_for, has_wait_bit}
-use Rattle.machine_types.specs.Core.{Core}
-use Rattle.machine_types.specs.Elision.{begins, tries}
-use Rattle.machine_types.specs.Going.{failed_turn, with_phase, runs}
-use Rattle.machine_types.specs.HeldMonitors.{held_at, with_held, deeper}
-use Rattle.machine_types.specs.History.{act_if, enter_acts}
-use Rattle.machine_types.specs.LockWords.{word_of_lock, lock_of}
-use Rattle.machine_types.specs.Monitors.{claim_by, enter_wants, enter_moves, acquires, takes}
-use Rattle.machine_types.specs.Owners.{NotHeld, HeldFat, hold_by_word, lock_at, owner_at, references_of}
-use Rattle.machine_types.specs.PlainMemory.{Object}
-use Rattle.machine_types.specs.PlainState.{Plain, holding_at, with_holding, with_status}
+use Rattle.machine_types.specs.{Accesses.{found_by, words_after}, Agreement.{StatusFits, depth_for, has_wait_bit}, Core.Core, Elision.{begins, tries}, Going.{failed_turn, with_phase, runs}}
+use Rattle.machine_types.specs.{HeldMonitors.{held_at, with_held, deeper}, History.{act_if, enter_acts}, LockWords.{word_of_lock, lock_of}}
+use Rattle.machine_types.specs.{Monitors.{claim_by, enter_wants, enter_moves, acquires, takes}, Owners.{NotHeld, HeldFat, hold_by_word, lock_at, owner_at, references_of}, PlainMemory.Object}
+use Rattle.machine_types.specs.{PlainState.{Plain, holding_at, with_holding, with_status}, StartLaws.StartLiesApart, Threads.{Attempt, Frame, Thread}, Words.owner_word, declared.config.Config.Config}
+use Rattle.machine_types.specs.declared.{lock.{Held.Held, Kept.Kept, LockWord.LockWord}, phase.Phase.Phase}
+use Rattle.laws_threads.proofs.HeldLists.{held_monitor}
+use Rattle.laws_states.{specs.{SiteLaws.{SitesDiffer, SitesLieInside}, Sites.HasObject}, proofs.{LockViews.not_held, WordViews.{lock_of_word, object_has, set_self}}}
+use Rattle.laws_simulation.{specs.StandsBeside.ends_shown, proofs.{GoingOnAlike.{ends_before, none_ends}, HoldingsAlike.{alone, held_depth_is, holds_then, free_then, alike_put, alike_kept}}}
+use Rattle.laws_simulation.proofs.{Landing.{WordsStay, words_stay, stays}, LockPlain.{enters_first, enters_again}}
+use Rattle.laws_simulation.proofs.{Moving.{IsCalm, Moving, Makes, steps_as, to_phase, turned, stays_itself, runs_fits, runs_old}, WordsAround.{thin_stays, owner_stays}}
+use Rattle.jvm_types.specs.declared.outcome.End.TheVariants as ends
 use Rattle.machine_types.specs.PlainState as plain
-use Rattle.machine_types.specs.StartLaws.{StartLiesApart}
-use Rattle.machine_types.specs.Threads.{Attempt, Frame, Thread}
-use Rattle.machine_types.specs.Words.{owner_word}
-use Rattle.machine_types.specs.declared.config.Config.{Config}
-use Rattle.machine_types.specs.declared.lock.Held.{Held}
-use Rattle.machine_types.specs.declared.lock.Kept.{Kept}
 use Rattle.machine_types.specs.declared.lock.Kept.TheVariants as keeps
-use Rattle.machine_types.specs.declared.lock.LockWord.{LockWord}
 use Rattle.machine_types.specs.declared.lock.LockWord.TheVariants as locks
-use Rattle.machine_types.specs.declared.phase.Phase.{Phase}
 use Rattle.machine_types.specs.declared.phase.Phase.TheVariants as phases
 use Rattle.machine_types.specs.declared.plain.Act.TheVariants as acts
-use Rattle.laws_threads.proofs.HeldLists.{held_monitor}
-use Rattle.laws_states.specs.SiteLaws.{SitesDiffer, SitesLieInside}
-use Rattle.laws_states.specs.Sites.{HasObject}
-use Rattle.laws_states.proofs.LockViews.{not_held}
-use Rattle.laws_states.proofs.WordViews.{lock_of_word, object_has, set_self}
-use Rattle.laws_simulation.specs.StandsBeside.{ends_shown}
-use Rattle.laws_simulation.proofs.GoingOnAlike.{ends_before, none_ends}
-use Rattle.laws_simulation.proofs.HoldingsAlike.{alone, held_depth_is, holds_then, free_then, alike_put, alike_kept}
-use Rattle.laws_simulation.proofs.Landing.{WordsStay, words_stay, stays}
-use Rattle.laws_simulation.proofs.LockPlain.{enters_first, enters_again}
-use Rattle.laws_simulation.proofs.Moving.{IsCalm, Moving, Makes, steps_as, to_phase, turned, stays_itself, runs_fits, runs_old}
-use Rattle.laws_simulation.proofs.WordsAround.{thin_stays, owner_stays}
 
 module _ (lies : StartLiesApart) (differ : SitesDiffer) (inside : SitesLieInside) (c : MarkedProgram) (cfg : Config) (objects : List Object) (was : ℕ → Phase) (s : Core) (t : ℕ) (x : Thread) (q : Plain) (k : Moving c cfg objects was s t x q) where
   pub low : (m r : ℕ) → lock_at (references_of objects) s.words m ≡ locks.Fat r → r < MONITOR_RECORDS

@@ -1,28 +1,12 @@
 -- What the counts of a thread say of its plain steps stays so at each event outside attempts.
-use Rattle.std.proofs.Common.{◌≡◌, ℕ, List, Option, Some, sym, ap, ◌∙◌, subst, arith}
-use Rattle.std.specs.Prelude.{slice_get}
+use Rattle.std.proofs.Common.{◌≡◌, ℕ, List, Option, Some, sym, ap, ◌∙◌, subst, arith, slice_get}
 use Rattle.checked_program.specs.MarkedProgram.{MarkedProgram, IsMarked}
-use Rattle.machine_types.specs.Agreement.{OutsideFits, StatusFits, ThreadFits, has_wait_bit, depth_of}
-use Rattle.machine_types.specs.Counting.{run_at, take_at, count_along, extra_of}
-use Rattle.machine_types.specs.Core.{Core}
-use Rattle.machine_types.specs.Events.{moved}
-use Rattle.machine_types.specs.History.{acts_of, steps_of}
-use Rattle.machine_types.specs.Lawful.{within}
-use Rattle.machine_types.specs.Owners.{references_of}
-use Rattle.machine_types.specs.PlainMemory.{Object}
-use Rattle.machine_types.specs.PlainState.{Plain, PlainThread}
-use Rattle.machine_types.specs.PlainSteps.{plain_run}
-use Rattle.machine_types.specs.Structure.{IsAs, Stands}
-use Rattle.machine_types.specs.Threads.{Attempt, Frame, Thread}
-use Rattle.machine_types.specs.Typed.{PhaseHolds}
-use Rattle.machine_types.specs.declared.config.Config.{Config}
-use Rattle.machine_types.specs.declared.lock.Held.{Held}
-use Rattle.machine_types.specs.declared.phase.Phase.{Phase}
-use Rattle.machine_types.specs.declared.phase.Phase.TheVariants as phases
+use Rattle.machine_types.specs.{Agreement.{OutsideFits, StatusFits, ThreadFits, has_wait_bit, depth_of}, Core.Core, Counting.{run_at, take_at, count_along, extra_of}, Events.moved}
+use Rattle.machine_types.specs.{History.{acts_of, steps_of}, Lawful.within, Owners.references_of, PlainMemory.Object, PlainState.{Plain, PlainThread}, PlainSteps.plain_run, Structure.{IsAs, Stands}}
+use Rattle.machine_types.specs.{Threads.{Attempt, Frame, Thread}, Typed.PhaseHolds, declared.{config.Config.Config, lock.Held.Held, phase.Phase.Phase}}
 use Rattle.laws_threads.proofs.TopEffects.{effects_allowed}
-use Rattle.laws_simulation.specs.OutcomeLaws.{StandsToMove, EventsAreCounted, found_now}
-use Rattle.laws_simulation.proofs.CountedEvents.{Tallied, new_print, TakesNew, IsAllowedAt, tallied_at}
-use Rattle.laws_simulation.proofs.Assembled.{got_same_length}
+use Rattle.laws_simulation.{specs.OutcomeLaws.{StandsToMove, EventsAreCounted, found_now}, proofs.{Assembled.got_same_length, CountedEvents.{Tallied, new_print, TakesNew, IsAllowedAt, tallied_at}}}
+use Rattle.machine_types.specs.declared.phase.Phase.TheVariants as phases
 
 -- ---- the plain thread
 

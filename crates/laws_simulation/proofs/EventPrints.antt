@@ -1,35 +1,15 @@
 -- An event of a thread in no attempt prints what its plain steps print, and its ticket is the number of prints so far.
-use Rattle.std.proofs.Common.{◌≡◌, ℕ, Bool, true, false, cond, List, Option, Some, None, sym, ap, ◌∙◌, subst}
-use Rattle.std.specs.Prelude.{option_map, slice_index}
+use Rattle.std.proofs.Common.{◌≡◌, ℕ, Bool, true, false, cond, List, Option, Some, None, sym, ap, ◌∙◌, subst, option_map, slice_index}
 use Rattle.lists.proofs.ListLaws.{same_some}
-use Rattle.jvm_types.specs.declared.fixed_words.TheConstants.{NEXT_TICKET_WORD}
-use Rattle.jvm_types.specs.declared.outcome.Print.{Print}
+use Rattle.jvm_types.specs.declared.{fixed_words.TheConstants.NEXT_TICKET_WORD, outcome.Print.Print}
 use Rattle.checked_program.specs.MarkedProgram.{MarkedProgram, IsMarked}
-use Rattle.machine_types.specs.Accesses.{found_by}
-use Rattle.machine_types.specs.Agreement.{StatusFits, has_wait_bit}
-use Rattle.machine_types.specs.Core.{Core, event_of, event_by, outcome}
-use Rattle.machine_types.specs.Events.{wanted, moved}
-use Rattle.machine_types.specs.Faithful.{PrintsFit}
-use Rattle.machine_types.specs.Frames.{Top, top_of, effect_at}
-use Rattle.machine_types.specs.History.{acts_of, steps_of}
-use Rattle.machine_types.specs.Instructions.{has_print_left, effect_wants, run_wants}
-use Rattle.machine_types.specs.Ints.{int_of}
-use Rattle.machine_types.specs.Owners.{references_of}
-use Rattle.machine_types.specs.PlainLaws.{InstructionsChangeMemory}
-use Rattle.machine_types.specs.PlainSteps.{plain_run}
-use Rattle.machine_types.specs.Structure.{IsAs, Stands}
-use Rattle.machine_types.specs.Threads.{Attempt, Frame, Thread}
-use Rattle.machine_types.specs.declared.access.Access.TheVariants.{Add}
-use Rattle.machine_types.specs.declared.effect.Effect.{Effect}
-use Rattle.machine_types.specs.declared.effect.Effect.TheVariants.{Prints}
-use Rattle.machine_types.specs.declared.lock.Held.{Held}
-use Rattle.machine_types.specs.declared.phase.Phase.{Phase}
+use Rattle.machine_types.specs.{Accesses.found_by, Agreement.{StatusFits, has_wait_bit}, Core.{Core, event_of, event_by, outcome}, Events.{wanted, moved}, Faithful.PrintsFit}
+use Rattle.machine_types.specs.{Frames.{Top, top_of, effect_at}, History.{acts_of, steps_of}, Instructions.{has_print_left, effect_wants, run_wants}, Ints.int_of, Owners.references_of}
+use Rattle.machine_types.specs.{PlainLaws.InstructionsChangeMemory, PlainSteps.plain_run, Structure.{IsAs, Stands}, Threads.{Attempt, Frame, Thread}, declared.access.Access.TheVariants.Add}
+use Rattle.machine_types.specs.declared.{effect.Effect.{Effect, TheVariants.Prints}, lock.Held.Held, phase.Phase.Phase}
+use Rattle.laws_simulation.{specs.OutcomeLaws.{PrintsAreKept, found_now}, proofs.{CountedEvents.{effect_print, top_print, new_print}, EventCounts.{tallied, mover}}}
+use Rattle.laws_simulation.proofs.{OutcomePrints.{fit_of, prints_of, printed_by}, PlainPrints.{with_printed, ElementShows, element_shows, printed_at}}
 use Rattle.machine_types.specs.declared.phase.Phase.TheVariants as phases
-use Rattle.laws_simulation.specs.OutcomeLaws.{PrintsAreKept, found_now}
-use Rattle.laws_simulation.proofs.CountedEvents.{effect_print, top_print, new_print}
-use Rattle.laws_simulation.proofs.EventCounts.{tallied, mover}
-use Rattle.laws_simulation.proofs.OutcomePrints.{fit_of, prints_of, printed_by}
-use Rattle.laws_simulation.proofs.PlainPrints.{with_printed, ElementShows, element_shows, printed_at}
 
 shows_at : (c : MarkedProgram) (phase was : Phase) (fs : List Frame) (held : List Held) (attempt : Option Attempt) → IsMarked c → IsAs phase was → Stands c was fs held attempt → ElementShows c.program phase fs
 shows_at c (phases.Element word stored) was fs held attempt marked is stands = element_shows c word stored fs marked (subst (λ (p : Phase). Stands c p fs held attempt) is stands).phase_shows

@@ -1,44 +1,21 @@
 -- An event by the access that it makes, what its thread becomes and the acts that it stands for: a phase, an instruction and an
 -- effect each say these.
-use Rattle.std.proofs.Common.{◌≡◌, ℕ, Bool, true, false, cond, List, [], ◌∷◌, length, Option, Some, None, refl, sym, ap, ◌∙◌, subst}
-use Rattle.std.specs.Prelude.{slice_get, slice_index, slice_set, option_and_then}
+use Rattle.std.proofs.Common.{◌≡◌, ℕ, Bool, true, false, cond, List, [], ◌∷◌, length, Option, Some, None, refl, sym, ap, ◌∙◌, subst, slice_get, slice_index, slice_set, option_and_then}
+use Rattle.jvm_types.specs.declared.{fixed_words.TheConstants.{NEXT_FREE_WORD, NEXT_TICKET_WORD}, program.Program.Program}
 use Rattle.checked_program.specs.MarkedProgram.{MarkedProgram}
-use Rattle.jvm_types.specs.declared.fixed_words.TheConstants.{NEXT_FREE_WORD, NEXT_TICKET_WORD}
+use Rattle.machine_types.specs.{Accesses.{found_by, words_after}, Agreement.{ThreadFits, depth_of, has_wait_bit}, Core.Core, Effects.read_by, Elision.{is_checked, if_same}, Events.{wanted, moved}}
+use Rattle.machine_types.specs.{Frames.{Top, top_of, effect_at}, Going.{goes_on, root_over}, HeldMonitors.depth_at, History.{acts_of, run_acts, instruction_acts, steps_of}}
+use Rattle.machine_types.specs.{Instructions.{effect_wants, run_wants, begun, did, instructed, ran}, Onward.{Onward, Running, Throwing, Entering, Leaving, RootReturned, Uncaught}}
+use Rattle.machine_types.specs.{Owners.references_of, PlainMemory.Object, PlainState.{Plain, PlainThread, Status, Printed, value_at}, PlainSteps.{step_at, plain_run}, Threads.{Attempt, Frame, Thread}}
+use Rattle.machine_types.specs.declared.{access.Access.{Access, TheVariants.Load}, effect.Effect.Effect, phase.Phase.Phase, plain.Act.Act}
+use Rattle.laws_states.{specs.HeapFacts.objects_by, proofs.WordViews.set_self}
+use Rattle.laws_simulation.{specs.{StandsBeside.{StandsBeside, ends_shown}, StepsBeside.{IsAtEffect, StepsBeside}}, proofs.Assembled.{moved_beside, one_step, steps_beside}}
+use Rattle.laws_simulation.proofs.{GoingOnAlike.{IsUnderWay, IsAwake, going_alike}, OwnThread.{IsBusy, Own}}
 use Rattle.jvm_types.specs.declared.outcome.End.TheVariants as ends
-use Rattle.jvm_types.specs.declared.program.Program.{Program}
-use Rattle.machine_types.specs.Accesses.{found_by, words_after}
-use Rattle.machine_types.specs.declared.access.Access.{Access}
-use Rattle.machine_types.specs.declared.access.Access.TheVariants.{Load}
-use Rattle.machine_types.specs.Agreement.{ThreadFits, depth_of, has_wait_bit}
-use Rattle.machine_types.specs.Core.{Core}
-use Rattle.machine_types.specs.declared.effect.Effect.{Effect}
-use Rattle.machine_types.specs.Effects.{read_by}
-use Rattle.machine_types.specs.Elision.{is_checked, if_same}
-use Rattle.machine_types.specs.Events.{wanted, moved}
-use Rattle.machine_types.specs.Frames.{Top, top_of, effect_at}
-use Rattle.machine_types.specs.Going.{goes_on, root_over}
-use Rattle.machine_types.specs.HeldMonitors.{depth_at}
-use Rattle.machine_types.specs.History.{acts_of, run_acts, instruction_acts, steps_of}
-use Rattle.machine_types.specs.Instructions.{effect_wants, run_wants, begun, did, instructed, ran}
-use Rattle.machine_types.specs.Onward.{Onward, Running, Throwing, Entering, Leaving, RootReturned, Uncaught}
-use Rattle.machine_types.specs.Owners.{references_of}
 use Rattle.machine_types.specs.PlainInstructions as plain_instructions
-use Rattle.machine_types.specs.PlainMemory.{Object}
-use Rattle.machine_types.specs.PlainState.{Plain, PlainThread, Status, Printed, value_at}
 use Rattle.machine_types.specs.PlainState as plain
-use Rattle.machine_types.specs.PlainSteps.{step_at, plain_run}
-use Rattle.machine_types.specs.Threads.{Attempt, Frame, Thread}
-use Rattle.machine_types.specs.declared.phase.Phase.{Phase}
 use Rattle.machine_types.specs.declared.phase.Phase.TheVariants as phases
-use Rattle.machine_types.specs.declared.plain.Act.{Act}
 use Rattle.machine_types.specs.declared.plain.Act.TheVariants as acts
-use Rattle.laws_states.specs.HeapFacts.{objects_by}
-use Rattle.laws_states.proofs.WordViews.{set_self}
-use Rattle.laws_simulation.specs.StandsBeside.{StandsBeside, ends_shown}
-use Rattle.laws_simulation.specs.StepsBeside.{IsAtEffect, StepsBeside}
-use Rattle.laws_simulation.proofs.Assembled.{moved_beside, one_step, steps_beside}
-use Rattle.laws_simulation.proofs.GoingOnAlike.{IsUnderWay, IsAwake, going_alike}
-use Rattle.laws_simulation.proofs.OwnThread.{IsBusy, Own}
 
 -- ---- what an event does: the plain steps, and the state that stands beside the one that they lead to
 

@@ -1,58 +1,29 @@
 -- A thread leaves a monitor, or makes its lock fat.
-use Rattle.std.proofs.Common.{◌≡◌, ◌≢◌, ℕ, suc, ◌+◌, ◌-◌, ◌<◌, nat_lt, Bool, true, false, cond, List, [], ◌∷◌, Option, Some, None, refl, sym, ap, ◌∙◌, subst, arith}
-use Rattle.std.specs.Prelude.{slice_index, slice_set, option_map, ◌==◌}
+use Rattle.std.proofs.Common.{◌≡◌, ◌≢◌, ℕ, suc, ◌+◌, ◌-◌, ◌<◌, nat_lt, Bool, true, false, cond, List, [], ◌∷◌, Option, Some, None, refl, sym, ap, ◌∙◌, subst, arith, slice_index, slice_set, option_map, ◌==◌}
 use Rattle.std.proofs.lemmas.Bool.Decides.{nat_tests, Decides-eqb}
 use Rattle.jvm_types.specs.declared.fixed_words.TheConstants.{MONITOR_RECORDS, NEXT_RECORD_WORD}
-use Rattle.jvm_types.specs.declared.outcome.End.TheVariants as ends
 use Rattle.checked_program.specs.MarkedProgram.{MarkedProgram}
-use Rattle.machine_types.specs.Accesses.{found, found_by, performed, words_after}
-use Rattle.machine_types.specs.Agreement.{IsWaiter, depth_for, has_wait_bit, toward_status}
-use Rattle.machine_types.specs.Core.{Core}
-use Rattle.machine_types.specs.Going.{with_phase, goes_on, goes_on_if, goes_after}
-use Rattle.machine_types.specs.HeldMonitors.{held_at, depth_at, with_held, without_held, shallower}
-use Rattle.machine_types.specs.History.{act_if, steps_of, leave_acts, release_acts}
-use Rattle.machine_types.specs.LockWords.{word_of_lock, next_count}
-use Rattle.machine_types.specs.Monitors.{claim_by, leave_wants, leave_moves, release, released, freed, lets_go, grows_not, fattens}
-use Rattle.machine_types.specs.Onward.{Onward, after}
-use Rattle.machine_types.specs.Owners.{IsDrawn, hold_by_word, hold_by_kept, hold_by_list, lock_at, owner_at, locks_in, references_of}
-use Rattle.machine_types.specs.PlainMemory.{Object}
-use Rattle.machine_types.specs.PlainState.{Plain, Holding, holding_at, held_by, with_holding, without_holding, with_thread}
+use Rattle.machine_types.specs.{Accesses.{found, found_by, performed, words_after}, Agreement.{IsWaiter, depth_for, has_wait_bit, toward_status}, Core.Core}
+use Rattle.machine_types.specs.{Going.{with_phase, goes_on, goes_on_if, goes_after}, HeldMonitors.{held_at, depth_at, with_held, without_held, shallower}}
+use Rattle.machine_types.specs.{History.{act_if, steps_of, leave_acts, release_acts}, LockWords.{word_of_lock, next_count}}
+use Rattle.machine_types.specs.{Monitors.{claim_by, leave_wants, leave_moves, release, released, freed, lets_go, grows_not, fattens}, Onward.{Onward, after}}
+use Rattle.machine_types.specs.{Owners.{IsDrawn, hold_by_word, hold_by_kept, hold_by_list, lock_at, owner_at, locks_in, references_of}, PlainMemory.Object}
+use Rattle.machine_types.specs.{PlainState.{Plain, Holding, holding_at, held_by, with_holding, without_holding, with_thread}, PlainSteps.{left, plain_run}, Shown.Show, StartLaws.StartLiesApart}
+use Rattle.machine_types.specs.{Structure.{AfterShows, AreHeldOnce, IsFlat, held_depth, operands_after}, Threads.{Attempt, Frame, Thread}, Typed.{AfterHolds, HasClass, IsObject}, Words.owner_word}
+use Rattle.machine_types.specs.declared.{config.Config.Config, lock.{Held.Held, Kept.Kept}, phase.{After.After, Phase.Phase, Toward.Toward}}
+use Rattle.laws_threads.proofs.{HeldBounds.{found as found_held}, HeldLists.{held_monitor, held_positive, held_put, depth_some}, Releases.goes_behind, ThreadMove.{goes_held, goes_attempt}}
+use Rattle.laws_states.{specs.{SiteLaws.{SitesDiffer, SitesLieInside}, Sites.HasObject}, proofs.{LockViews.{fatly, thin_if_flat}, Phases.some_of, WordViews.lock_of_word}}
+use Rattle.laws_simulation.proofs.{EntryPhases.{low, loaded}, GoingOnAlike.{awake_fits, going_alike}}
+use Rattle.laws_simulation.proofs.{HoldingsAlike.{HoldAlike, alone, held_depth_is, depth_is_held, holds_then, alike_by, alike_put, alike_dropped}, Landing.{WordsStay, words_stay}, LockPlain.exits}
+use Rattle.laws_simulation.proofs.{Moving.{Moving, Makes, stays_with, steps_as, calm_fits, to_phase, stays_itself, goes_part, goes_old}, OwnBits.nobody_in}
+use Rattle.laws_simulation.proofs.WordsAround.{thin_stays, fat_stays, owner_stays, record_stays}
+use Rattle.jvm_types.specs.declared.outcome.End.TheVariants as ends
 use Rattle.machine_types.specs.PlainState as plain
-use Rattle.machine_types.specs.PlainSteps.{left, plain_run}
-use Rattle.machine_types.specs.Shown.{Show}
-use Rattle.machine_types.specs.StartLaws.{StartLiesApart}
-use Rattle.machine_types.specs.Structure.{AfterShows, AreHeldOnce, IsFlat, held_depth, operands_after}
-use Rattle.machine_types.specs.Threads.{Attempt, Frame, Thread}
-use Rattle.machine_types.specs.Typed.{AfterHolds, HasClass, IsObject}
-use Rattle.machine_types.specs.Words.{owner_word}
-use Rattle.machine_types.specs.declared.config.Config.{Config}
-use Rattle.machine_types.specs.declared.lock.Held.{Held}
-use Rattle.machine_types.specs.declared.lock.Kept.{Kept}
 use Rattle.machine_types.specs.declared.lock.Kept.TheVariants as keeps
 use Rattle.machine_types.specs.declared.lock.LockWord.TheVariants as locks
-use Rattle.machine_types.specs.declared.phase.After.{After}
-use Rattle.machine_types.specs.declared.phase.Phase.{Phase}
 use Rattle.machine_types.specs.declared.phase.Phase.TheVariants as phases
-use Rattle.machine_types.specs.declared.phase.Toward.{Toward}
 use Rattle.machine_types.specs.declared.phase.Toward.TheVariants as towards
 use Rattle.machine_types.specs.declared.plain.Act.TheVariants as acts
-use Rattle.laws_threads.proofs.HeldLists.{held_monitor, held_positive, held_put, depth_some}
-use Rattle.laws_threads.proofs.Releases.{goes_behind}
-use Rattle.laws_threads.proofs.HeldBounds.{found as found_held}
-use Rattle.laws_states.specs.SiteLaws.{SitesDiffer, SitesLieInside}
-use Rattle.laws_states.specs.Sites.{HasObject}
-use Rattle.laws_states.proofs.Phases.{some_of}
-use Rattle.laws_states.proofs.LockViews.{fatly, thin_if_flat}
-use Rattle.laws_states.proofs.WordViews.{lock_of_word}
-use Rattle.laws_simulation.proofs.GoingOnAlike.{awake_fits, going_alike}
-use Rattle.laws_simulation.proofs.HoldingsAlike.{HoldAlike, alone, held_depth_is, depth_is_held, holds_then, alike_by, alike_put, alike_dropped}
-use Rattle.laws_simulation.proofs.OwnBits.{nobody_in}
-use Rattle.laws_simulation.proofs.EntryPhases.{low, loaded}
-use Rattle.laws_simulation.proofs.Landing.{WordsStay, words_stay}
-use Rattle.laws_simulation.proofs.LockPlain.{exits}
-use Rattle.laws_simulation.proofs.Moving.{Moving, Makes, stays_with, steps_as, calm_fits, to_phase, stays_itself, goes_part, goes_old}
-use Rattle.laws_simulation.proofs.WordsAround.{thin_stays, fat_stays, owner_stays, record_stays}
-use Rattle.laws_threads.proofs.ThreadMove.{goes_held, goes_attempt}
 
 module _ (lies : StartLiesApart) (differ : SitesDiffer) (inside : SitesLieInside) (c : MarkedProgram) (cfg : Config) (objects : List Object) (was : ℕ → Phase) (s : Core) (t : ℕ) (x : Thread) (q : Plain) (k : Moving c cfg objects was s t x q) where
   -- ---- what it holds

@@ -1,67 +1,30 @@
 -- The instructions that read and write frames, and that enter and leave monitors, by their effects.
-use Rattle.std.proofs.Common.{◌≡◌, ℕ, ◌+◌, nat_le, Bool, true, false, cond, List, [], ◌∷◌, ◌++◌, Option, Some, None, refl, sym, ap, ◌∙◌, subst, arith}
-use Rattle.std.specs.Prelude.{IsSome, slice_get, slice_index, slice_set, option_map, if◌then◌else◌}
-use Rattle.jvm_types.specs.Members.{is_synchronized}
-use Rattle.jvm_types.specs.declared.fixed_words.TheConstants.{NEXT_TICKET_WORD}
-use Rattle.jvm_types.specs.declared.outcome.End.TheVariants as ends
-use Rattle.jvm_types.specs.declared.outcome.Thrown.{Thrown}
-use Rattle.jvm_types.specs.declared.outcome.Thrown.TheVariants.{IllegalMonitorStateException, NullPointerException}
+use Rattle.std.proofs.Common.{◌≡◌, ℕ, ◌+◌, nat_le, Bool, true, false, cond, List, [], ◌∷◌, ◌++◌, Option, Some, None, refl, sym, ap, ◌∙◌, subst, arith, IsSome, slice_get, slice_index, slice_set, option_map, if◌then◌else◌}
+use Rattle.jvm_types.specs.{Members.is_synchronized, declared.{fixed_words.TheConstants.NEXT_TICKET_WORD, outcome.Thrown.{Thrown, TheVariants.{IllegalMonitorStateException, NullPointerException}}}}
 use Rattle.jvm_types.specs.declared.program.MethodInfo.{MethodInfo}
 use Rattle.checked_program.specs.MarkedProgram.{MarkedProgram, IsMarked}
-use Rattle.machine_types.specs.Accesses.{found_by, words_after}
-use Rattle.machine_types.specs.Agreement.{ThreadFits, StatusFits, frames_shown, has_wait_bit}
-use Rattle.machine_types.specs.Core.{Core}
-use Rattle.machine_types.specs.Effects.{read_by}
-use Rattle.machine_types.specs.Elision.{looks}
-use Rattle.machine_types.specs.Events.{wanted}
-use Rattle.machine_types.specs.FoundWords.{WordFits, effect_content, run_content, content_at}
-use Rattle.machine_types.specs.Frames.{Top, frames_of, top_of, effect_at, went, went_on, monitor_of, returned}
-use Rattle.machine_types.specs.Going.{goes_on, goes_on_if}
-use Rattle.machine_types.specs.History.{act_if, instruction_acts}
-use Rattle.machine_types.specs.Instructions.{has_print_left, effect_wants, run_wants, begun, printed, did, instructed}
-use Rattle.machine_types.specs.Ints.{int_of}
-use Rattle.machine_types.specs.Lawful.{within}
-use Rattle.machine_types.specs.Onward.{Onward, Running, Throwing, Entering, Leaving, threw, called, back, returns}
-use Rattle.machine_types.specs.Owners.{references_of}
-use Rattle.machine_types.specs.PlainInstructions as plain_instructions
-use Rattle.machine_types.specs.PlainMemory.{Object}
-use Rattle.machine_types.specs.PlainState.{Plain, PlainThread, Printed, value_at, holding_at, is_holder}
-use Rattle.machine_types.specs.PlainState as plain
-use Rattle.machine_types.specs.ReadyObjects.{thrown_of}
-use Rattle.machine_types.specs.Structure.{IsAs, Stands, count_in, held_depth, tried_depth}
-use Rattle.machine_types.specs.Threads.{Attempt, Frame, Thread}
-use Rattle.machine_types.specs.Typed.{AfterHolds, FramesHold, PhaseHolds, HasClass}
-use Rattle.machine_types.specs.Words.{header_class, header_length, header_word, variable_word}
-use Rattle.machine_types.specs.declared.access.Access.{Access}
-use Rattle.machine_types.specs.declared.access.Access.TheVariants.{Load, Add}
-use Rattle.machine_types.specs.declared.config.Config.{Config}
-use Rattle.machine_types.specs.declared.effect.Effect.{Effect}
+use Rattle.machine_types.specs.{Accesses.{found_by, words_after}, Agreement.{ThreadFits, StatusFits, frames_shown, has_wait_bit}, Core.Core, Effects.read_by, Elision.looks, Events.wanted}
+use Rattle.machine_types.specs.{FoundWords.{WordFits, effect_content, run_content, content_at}, Frames.{Top, frames_of, top_of, effect_at, went, went_on, monitor_of, returned}}
+use Rattle.machine_types.specs.{Going.{goes_on, goes_on_if}, History.{act_if, instruction_acts}, Instructions.{has_print_left, effect_wants, run_wants, begun, printed, did, instructed}, Ints.int_of}
+use Rattle.machine_types.specs.{Lawful.within, Onward.{Onward, Running, Throwing, Entering, Leaving, threw, called, back, returns}, Owners.references_of, PlainMemory.Object}
+use Rattle.machine_types.specs.{PlainState.{Plain, PlainThread, Printed, value_at, holding_at, is_holder}, ReadyObjects.thrown_of, Structure.{IsAs, Stands, count_in, held_depth, tried_depth}}
+use Rattle.machine_types.specs.{Threads.{Attempt, Frame, Thread}, Typed.{AfterHolds, FramesHold, PhaseHolds, HasClass}, Words.{header_class, header_length, header_word, variable_word}}
+use Rattle.machine_types.specs.declared.{access.Access.{Access, TheVariants.{Load, Add}}, config.Config.Config, effect.Effect.Effect}
 use Rattle.machine_types.specs.declared.effect.Effect.TheVariants.{Goes, Throws, Reads, Writes, Indexes, Measures, Raises, Makes, Prints, Calls, Returns, Enters, Leaves, Waits, Notifies, NotifiesAll, Stuck}
+use Rattle.machine_types.{specs.declared.phase.Phase.Phase, proofs.Lists.set_as_it_is}
+use Rattle.laws_threads.{specs.{Allowed.Allowed, TopFrames.{IsAllowed, EffectsAreAllowed}}, proofs.{FramePlaces.tops_stand_law, GoingOn.OnwardShows, Instructions.done_shows}}
+use Rattle.laws_states.specs.{FoundLaws.{IsOfHeap, HeapWordsFit}, SiteLaws.{SitesDiffer, SitesLieInside}, StateFacts.StateFacts}
+use Rattle.laws_simulation.{specs.{StandsBeside.StandsBeside, StepsBeside.{IsOfFrames, FrameSteps}}, proofs.Assembled.one_step}
+use Rattle.laws_simulation.proofs.EventSteps.{Does, GoesFrom, LeavesWords, in_effect, not_checked, load_leaves, same_words, becomes, goes_beside, does_one, instruction_step}
+use Rattle.laws_simulation.proofs.{GoingOnAlike.{IsAwake, IsUnderWay, awake_fits, none_ends}, HeldToLeave.{IsHeld, leaves_held, exits_held, held_not_null}, HoldingsAlike.is_holder_then}
+use Rattle.laws_simulation.proofs.{OwnThread.{IsBusy, Own, own, under_way}, PrintWords.print_fits, TopPlaces.{MayDo, may_do, variable_value, header_value}, WaitBits.same_wait_bit}
+use Rattle.jvm_types.specs.declared.outcome.End.TheVariants as ends
+use Rattle.machine_types.specs.PlainInstructions as plain_instructions
+use Rattle.machine_types.specs.PlainState as plain
 use Rattle.machine_types.specs.declared.phase.After.TheVariants as afters
-use Rattle.machine_types.specs.declared.phase.Phase.{Phase}
 use Rattle.machine_types.specs.declared.phase.Phase.TheVariants as phases
 use Rattle.machine_types.specs.declared.plain.Act.TheVariants as acts
-use Rattle.laws_threads.specs.Allowed.{Allowed}
-use Rattle.laws_threads.specs.TopFrames.{IsAllowed, EffectsAreAllowed}
-use Rattle.laws_threads.proofs.GoingOn.{OnwardShows}
-use Rattle.laws_threads.proofs.Instructions.{done_shows}
-use Rattle.laws_states.specs.FoundLaws.{IsOfHeap, HeapWordsFit}
-use Rattle.laws_states.specs.SiteLaws.{SitesDiffer, SitesLieInside}
-use Rattle.laws_states.specs.StateFacts.{StateFacts}
-use Rattle.laws_threads.proofs.FramePlaces.{tops_stand_law}
-use Rattle.laws_simulation.specs.StandsBeside.{StandsBeside}
-use Rattle.laws_simulation.specs.StepsBeside.{IsOfFrames, FrameSteps}
-use Rattle.laws_simulation.proofs.Assembled.{one_step}
-use Rattle.laws_simulation.proofs.EventSteps.{Does, GoesFrom, LeavesWords, in_effect, not_checked, load_leaves, same_words, becomes, goes_beside, does_one, instruction_step}
-use Rattle.laws_simulation.proofs.GoingOnAlike.{IsAwake, IsUnderWay, awake_fits, none_ends}
-use Rattle.laws_simulation.proofs.HoldingsAlike.{is_holder_then}
 use Rattle.laws_simulation.proofs.OwnBits as own_bits
-use Rattle.laws_simulation.proofs.OwnThread.{IsBusy, Own, own, under_way}
-use Rattle.laws_simulation.proofs.TopPlaces.{MayDo, may_do, variable_value, header_value}
-use Rattle.laws_simulation.proofs.WaitBits.{same_wait_bit}
-use Rattle.laws_simulation.proofs.HeldToLeave.{IsHeld, leaves_held, exits_held, held_not_null}
-use Rattle.laws_simulation.proofs.PrintWords.{print_fits}
-use Rattle.machine_types.proofs.Lists.{set_as_it_is}
 
 pub is_some_thrown : (o : Option Thrown) → IsSome o → (x : Thrown) × (o ≡ Some x)
 is_some_thrown None k = absurd (cc)

@@ -1,18 +1,13 @@
 -- A thread of the running machine and its plain thread go on alike, whatever way they go on.
 use Rattle.std.proofs.Common.{◌≡◌, ℕ, zero, suc, nat_lt, Bool, true, false, cond, List, [], ◌∷◌, ◌++◌, refl, sym, ap, ◌∙◌, subst}
-use Rattle.jvm_types.specs.declared.outcome.End.{End}
-use Rattle.jvm_types.specs.declared.outcome.End.TheVariants as ends
-use Rattle.jvm_types.specs.declared.program.Program.{Program}
-use Rattle.machine_types.specs.Agreement.{LimitFits, OutsideFits, start_status, roots_shown}
-use Rattle.machine_types.specs.Going.{goes_on, root_over}
-use Rattle.machine_types.specs.Onward.{Onward, Running, Throwing, Entering, Leaving, RootReturned, Uncaught}
-use Rattle.machine_types.specs.Parts.{done_roots}
-use Rattle.machine_types.specs.PlainState.{Status, PlainThread}
-use Rattle.machine_types.specs.PlainState as plain
-use Rattle.machine_types.specs.Threads.{Thread}
+use Rattle.jvm_types.specs.declared.{outcome.End.End, program.Program.Program}
+use Rattle.machine_types.specs.{Agreement.{LimitFits, OutsideFits, start_status, roots_shown}, Going.{goes_on, root_over}}
+use Rattle.machine_types.specs.{Onward.{Onward, Running, Throwing, Entering, Leaving, RootReturned, Uncaught}, Parts.done_roots, PlainState.{Status, PlainThread}, Threads.Thread}
 use Rattle.machine_types.specs.declared.phase.Phase.{Phase}
-use Rattle.machine_types.specs.declared.phase.Phase.TheVariants as phases
 use Rattle.laws_simulation.specs.StandsBeside.{ends_shown, end_of_done}
+use Rattle.jvm_types.specs.declared.outcome.End.TheVariants as ends
+use Rattle.machine_types.specs.PlainState as plain
+use Rattle.machine_types.specs.declared.phase.Phase.TheVariants as phases
 
 -- ---- a part that is under way
 

@@ -1,36 +1,15 @@
 -- The event that stores the header of a new object: the plain machine has the object already.
-use Rattle.std.proofs.Common.{◌≡◌, ℕ, List, [], ◌∷◌, Some, refl, sym, ap, subst, ◌∙◌}
-use Rattle.std.specs.Prelude.{slice_index, slice_set}
-use Rattle.jvm_types.specs.declared.outcome.End.TheVariants as ends
+use Rattle.std.proofs.Common.{◌≡◌, ℕ, List, [], ◌∷◌, Some, refl, sym, ap, subst, ◌∙◌, slice_index, slice_set}
 use Rattle.checked_program.specs.MarkedProgram.{MarkedProgram}
-use Rattle.machine_types.specs.Agreement.{has_wait_bit}
-use Rattle.machine_types.specs.Core.{Core}
-use Rattle.machine_types.specs.Events.{wanted, moved}
-use Rattle.machine_types.specs.Frames.{pushed}
-use Rattle.machine_types.specs.Going.{goes_on}
-use Rattle.machine_types.specs.History.{acts_of}
-use Rattle.machine_types.specs.NewObjects.{size_by}
-use Rattle.machine_types.specs.Onward.{Running}
-use Rattle.machine_types.specs.Owners.{references_of}
-use Rattle.machine_types.specs.PlainMemory.{Object, new_object}
-use Rattle.machine_types.specs.PlainState.{Plain, PlainThread, Status, with_thread}
-use Rattle.machine_types.specs.PlainState as plain
-use Rattle.machine_types.specs.Threads.{Frame, Thread}
-use Rattle.machine_types.specs.Waiting.{MayWait}
-use Rattle.machine_types.specs.Words.{header_word}
-use Rattle.machine_types.specs.declared.access.Access.TheVariants.{Store}
-use Rattle.machine_types.specs.declared.config.Config.{Config}
-use Rattle.machine_types.specs.declared.phase.Phase.{Phase}
-use Rattle.machine_types.specs.declared.phase.Phase.TheVariants as phases
+use Rattle.machine_types.specs.{Agreement.has_wait_bit, Core.Core, Events.{wanted, moved}, Frames.pushed, Going.goes_on, History.acts_of, NewObjects.size_by, Onward.Running, Owners.references_of}
+use Rattle.machine_types.specs.{PlainMemory.{Object, new_object}, PlainState.{Plain, PlainThread, Status, with_thread}, Threads.{Frame, Thread}, Waiting.MayWait, Words.header_word}
+use Rattle.machine_types.{specs.declared.{access.Access.TheVariants.Store, config.Config.Config, phase.Phase.Phase}, proofs.Lists.set_as_it_is}
 use Rattle.laws_states.specs.HeapFacts.{objects_by}
-use Rattle.laws_simulation.specs.StandsBeside.{StandsBeside}
-use Rattle.laws_simulation.specs.StepsBeside.{StepsBeside}
-use Rattle.laws_simulation.proofs.GoingOnAlike.{IsAwake}
-use Rattle.laws_simulation.proofs.OwnThread.{IsBusy}
-use Rattle.laws_simulation.proofs.Scene.{Scene, GoesOn, awake, counts_as, going, none_on, comes_beside, steps_of_event}
-use Rattle.laws_simulation.proofs.StoredHeader.{stored}
-use Rattle.laws_simulation.proofs.RunScene.{twin, runs_on, frames_are, status_fits}
-use Rattle.machine_types.proofs.Lists.{set_as_it_is}
+use Rattle.laws_simulation.{specs.{StandsBeside.StandsBeside, StepsBeside.StepsBeside}, proofs.{GoingOnAlike.IsAwake, OwnThread.IsBusy, RunScene.{twin, runs_on, frames_are, status_fits}}}
+use Rattle.laws_simulation.proofs.{Scene.{Scene, GoesOn, awake, counts_as, going, none_on, comes_beside, steps_of_event}, StoredHeader.stored}
+use Rattle.jvm_types.specs.declared.outcome.End.TheVariants as ends
+use Rattle.machine_types.specs.PlainState as plain
+use Rattle.machine_types.specs.declared.phase.Phase.TheVariants as phases
 
 module _ (c : MarkedProgram) (cfg : Config) (objects : List Object) (was : ℕ → Phase) (s : Core) (t : ℕ) (x : Thread) (q : Plain) (scene : Scene c cfg objects was s t x q)
     (a word : ℕ) (made : x.phase ≡ phases.Made a word) where

@@ -1,25 +1,12 @@
 -- A monitor that a thread outside attempts is to leave is one that it holds.
-use Rattle.std.proofs.Common.{◌≡◌, ℕ, ◌+◌, ◌<◌, ◌≤◌, Bool, true, false, cond, List, Option, Some, None, refl, sym, ◌∙◌, arith}
-use Rattle.std.specs.Prelude.{slice_get, ◌==◌}
-use Rattle.std.proofs.lemmas.Bool.Decides.{nat_tests}
+use Rattle.std.proofs.{Common.{◌≡◌, ℕ, ◌+◌, ◌<◌, ◌≤◌, Bool, true, false, cond, List, Option, Some, None, refl, sym, ◌∙◌, arith, slice_get, ◌==◌}, lemmas.Bool.Decides.nat_tests}
 use Rattle.jvm_types.specs.declared.fixed_words.TheConstants.{FIRST_READY_WORD}
 use Rattle.checked_program.specs.MarkedProgram.{MarkedProgram, IsMarked}
-use Rattle.machine_types.specs.Core.{Core}
-use Rattle.machine_types.specs.HeldMonitors.{held_at}
-use Rattle.machine_types.specs.PlainMemory.{Object}
-use Rattle.machine_types.specs.Structure.{count_in, held_depth, once_at}
-use Rattle.machine_types.specs.Threads.{Frame, Thread}
-use Rattle.machine_types.specs.Typed.{Classes, AfterHolds, HasClass, IsObject}
-use Rattle.machine_types.specs.declared.lock.Held.{Held}
-use Rattle.machine_types.specs.declared.phase.After.{After}
+use Rattle.machine_types.specs.{Core.Core, HeldMonitors.held_at, PlainMemory.Object, Structure.{count_in, held_depth, once_at}, Threads.{Frame, Thread}}
+use Rattle.machine_types.specs.{Typed.{Classes, AfterHolds, HasClass, IsObject}, declared.{lock.Held.Held, phase.After.After}}
+use Rattle.laws_threads.proofs.{GoingOn.LeavingShows, HeldBounds.found, HeldLists.{depth_none, held_monitor}, Releases.goes_behind}
+use Rattle.laws_states.{specs.HeapFacts.HeapFacts, proofs.{Lists.contained_got, Phases.some_of}}
 use Rattle.machine_types.specs.declared.phase.After.TheVariants as afters
-use Rattle.laws_states.specs.HeapFacts.{HeapFacts}
-use Rattle.laws_states.proofs.Lists.{contained_got}
-use Rattle.laws_states.proofs.Phases.{some_of}
-use Rattle.laws_threads.proofs.HeldBounds.{found}
-use Rattle.laws_threads.proofs.GoingOn.{LeavingShows}
-use Rattle.laws_threads.proofs.HeldLists.{depth_none, held_monitor}
-use Rattle.laws_threads.proofs.Releases.{goes_behind}
 
 pub record IsHeld (held : List Held) (m : ℕ) : Type 0 where
   pub entry : Held

@@ -1,38 +1,18 @@
 -- An instruction that looks for an element of an array: the element is read or stored in the next event, or there is none.
-use Rattle.std.proofs.Common.{◌≡◌, ℕ, nat_lt, Bool, true, false, List, [], ◌∷◌, Option, Some, refl, sym, ap, subst, ◌∙◌}
-use Rattle.std.specs.Prelude.{slice_index, slice_set, option_map, option_and_then, if◌then◌else◌}
+use Rattle.std.proofs.Common.{◌≡◌, ℕ, nat_lt, Bool, true, false, List, [], ◌∷◌, Option, Some, refl, sym, ap, subst, ◌∙◌, slice_index, slice_set, option_map, option_and_then, if◌then◌else◌}
 use Rattle.jvm_types.specs.declared.outcome.Thrown.TheVariants.{ArrayIndexOutOfBoundsException}
 use Rattle.checked_program.specs.MarkedProgram.{MarkedProgram}
-use Rattle.machine_types.specs.Agreement.{has_wait_bit}
-use Rattle.machine_types.specs.Core.{Core}
-use Rattle.machine_types.specs.Frames.{Top, top_of, effect_at}
-use Rattle.machine_types.specs.Going.{goes_on}
-use Rattle.machine_types.specs.Instructions.{begun}
-use Rattle.machine_types.specs.Ints.{low}
-use Rattle.machine_types.specs.Onward.{threw}
-use Rattle.machine_types.specs.Owners.{references_of}
-use Rattle.machine_types.specs.PlainInstructions.{plain_did, indexed_in}
-use Rattle.machine_types.specs.PlainMemory.{Object}
-use Rattle.machine_types.specs.PlainState.{Plain, PlainThread, value_at, written, with_thread}
+use Rattle.machine_types.specs.{Agreement.has_wait_bit, Core.Core, Frames.{Top, top_of, effect_at}, Going.goes_on, Instructions.begun, Ints.low, Onward.threw, Owners.references_of}
+use Rattle.machine_types.specs.{PlainInstructions.{plain_did, indexed_in}, PlainMemory.Object, PlainState.{Plain, PlainThread, value_at, written, with_thread}, Threads.Thread}
+use Rattle.machine_types.specs.{Words.{header_length, header_word, value_word}, declared.{access.Access.TheVariants.Load, config.Config.Config, effect.Effect.TheVariants.Indexes, phase.Phase.Phase}}
+use Rattle.machine_types.proofs.Lists.{set_as_it_is}
+use Rattle.laws_states.specs.{HeapFacts.objects_by, Sites.HeaderOf}
+use Rattle.laws_simulation.{specs.{StandsBeside.StandsBeside, StepsBeside.StepsBeside}, proofs.{GoingOnAlike.none_ends, MemoryParts.stays, PlainValues.value_found}}
+use Rattle.laws_simulation.proofs.RunScene.{twin, runs_on, frames_are, status_fits, busy, lives, makes_none, wakes, may, wants, acts_are, moves, does}
+use Rattle.laws_simulation.proofs.Scene.{Scene, GoesOn, Memory, going, none_on, comes_beside, StepsBy, steps_of_event, looked}
 use Rattle.machine_types.specs.PlainState as plain
-use Rattle.machine_types.specs.Threads.{Thread}
-use Rattle.machine_types.specs.Words.{header_length, header_word, value_word}
-use Rattle.machine_types.specs.declared.access.Access.TheVariants.{Load}
-use Rattle.machine_types.specs.declared.config.Config.{Config}
-use Rattle.machine_types.specs.declared.effect.Effect.TheVariants.{Indexes}
-use Rattle.machine_types.specs.declared.phase.Phase.{Phase}
 use Rattle.machine_types.specs.declared.phase.Phase.TheVariants as phases
 use Rattle.machine_types.specs.declared.plain.Act.TheVariants as acts
-use Rattle.laws_states.specs.HeapFacts.{objects_by}
-use Rattle.laws_states.specs.Sites.{HeaderOf}
-use Rattle.laws_simulation.specs.StandsBeside.{StandsBeside}
-use Rattle.laws_simulation.specs.StepsBeside.{StepsBeside}
-use Rattle.laws_simulation.proofs.GoingOnAlike.{none_ends}
-use Rattle.laws_simulation.proofs.PlainValues.{value_found}
-use Rattle.laws_simulation.proofs.Scene.{Scene, GoesOn, Memory, going, none_on, comes_beside, StepsBy, steps_of_event, looked}
-use Rattle.laws_simulation.proofs.MemoryParts.{stays}
-use Rattle.laws_simulation.proofs.RunScene.{twin, runs_on, frames_are, status_fits, busy, lives, makes_none, wakes, may, wants, acts_are, moves, does}
-use Rattle.machine_types.proofs.Lists.{set_as_it_is}
 
 module _ (c : MarkedProgram) (cfg : Config) (objects : List Object) (was : ℕ → Phase) (s : Core) (t : ℕ) (x : Thread) (q : Plain) (scene : Scene c cfg objects was s t x q)
     (runs : x.phase ≡ phases.Run) (at : Top) (found : top_of c.program x.frames ≡ Some at) where

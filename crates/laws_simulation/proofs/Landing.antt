@@ -1,28 +1,14 @@
 -- The state that an event leads to stands beside a plain state, where the event changes one thread and words of which the plain
 -- machine knows nothing.
-use Rattle.std.proofs.Common.{◌≡◌, ℕ, List, [], ◌∷◌, Option, Some, refl, sym, ap, ◌∙◌, subst}
-use Rattle.std.specs.Prelude.{slice_get, slice_index, slice_set}
-use Rattle.jvm_types.specs.declared.fixed_words.TheConstants.{NEXT_FREE_WORD, NEXT_TICKET_WORD}
-use Rattle.jvm_types.specs.declared.program.Program.{Program}
-use Rattle.machine_types.specs.Agreement.{has_wait_bit, ThreadFits, depth_of}
-use Rattle.machine_types.specs.Core.{Core}
-use Rattle.machine_types.specs.History.{steps_of}
-use Rattle.machine_types.specs.NewObjects.{NewObjects}
-use Rattle.machine_types.specs.Owners.{references_of}
-use Rattle.machine_types.specs.PlainMemory.{Object}
-use Rattle.machine_types.specs.PlainState.{Plain, PlainThread, Holding, value_at}
-use Rattle.machine_types.specs.PlainSteps.{plain_run}
-use Rattle.machine_types.specs.Threads.{Thread}
-use Rattle.machine_types.specs.declared.phase.Phase.{Phase}
-use Rattle.machine_types.specs.declared.phase.Phase.TheVariants as phases
-use Rattle.machine_types.specs.declared.plain.Act.{Act}
-use Rattle.laws_states.proofs.Phases.{IsOldPhase}
-use Rattle.laws_simulation.specs.StandsBeside.{StandsBeside, IsBeingMade, ends_shown}
-use Rattle.laws_simulation.proofs.Assembled.{moved_beside}
-use Rattle.laws_simulation.proofs.OwnThread.{IsBusy, not_ended}
-use Rattle.laws_simulation.proofs.HoldingsAlike.{HoldAlike}
-use Rattle.laws_simulation.proofs.WaitBits.{fits_by, new_lock, same_wait_bit_in}
+use Rattle.std.proofs.Common.{◌≡◌, ℕ, List, [], ◌∷◌, Option, Some, refl, sym, ap, ◌∙◌, subst, slice_get, slice_index, slice_set}
+use Rattle.jvm_types.specs.declared.{fixed_words.TheConstants.{NEXT_FREE_WORD, NEXT_TICKET_WORD}, program.Program.Program}
+use Rattle.machine_types.specs.{Agreement.{has_wait_bit, ThreadFits, depth_of}, Core.Core, History.steps_of, NewObjects.NewObjects, Owners.references_of, PlainMemory.Object}
+use Rattle.machine_types.specs.{PlainState.{Plain, PlainThread, Holding, value_at}, PlainSteps.plain_run, Threads.Thread, declared.{phase.Phase.Phase, plain.Act.Act}}
 use Rattle.machine_types.proofs.Lists.{set_as_it_is, got_when_set, got_other}
+use Rattle.laws_states.proofs.Phases.{IsOldPhase}
+use Rattle.laws_simulation.{specs.StandsBeside.{StandsBeside, IsBeingMade, ends_shown}, proofs.{Assembled.moved_beside, HoldingsAlike.HoldAlike, OwnThread.{IsBusy, not_ended}}}
+use Rattle.laws_simulation.proofs.WaitBits.{fits_by, new_lock, same_wait_bit_in}
+use Rattle.machine_types.specs.declared.phase.Phase.TheVariants as phases
 
 -- ---- words in which all stands that the plain machine has
 

@@ -1,42 +1,16 @@
 -- Each event in which a thread enters a monitor, leaves one, or makes a lock fat is a run of the plain machine.
-use Rattle.std.proofs.Common.{◌≡◌, ℕ, List, Some, None, refl, sym, ◌∙◌, subst}
-use Rattle.std.specs.Prelude.{slice_get, slice_index, slice_set}
+use Rattle.std.proofs.Common.{◌≡◌, ℕ, List, Some, None, refl, sym, ◌∙◌, subst, slice_get, slice_index, slice_set}
 use Rattle.checked_program.specs.MarkedProgram.{MarkedProgram, IsMarked}
-use Rattle.machine_types.specs.Accesses.{found_by, words_after}
-use Rattle.machine_types.specs.Agreement.{StatusFits, has_wait_bit, frames_shown}
-use Rattle.machine_types.specs.Bounds.{PhaseFits}
-use Rattle.machine_types.specs.Core.{Core}
-use Rattle.machine_types.specs.Elision.{may_try}
-use Rattle.machine_types.specs.Events.{wanted, moved}
-use Rattle.machine_types.specs.HeldMonitors.{held_at}
-use Rattle.machine_types.specs.History.{acts_of}
-use Rattle.machine_types.specs.LockWords.{lock_of, next_count}
-use Rattle.machine_types.specs.Monitors.{count_kept}
-use Rattle.machine_types.specs.Owners.{Knows, locks_in, references_of}
-use Rattle.machine_types.specs.PlainMemory.{Object}
-use Rattle.machine_types.specs.PlainState.{Plain}
-use Rattle.machine_types.specs.StartLaws.{StartLiesApart}
-use Rattle.machine_types.specs.Structure.{GrowShows, IsAs, Stands}
-use Rattle.machine_types.specs.Threads.{Frame, Thread}
-use Rattle.machine_types.specs.Typed.{HasClass, IsObject, PhaseHolds}
-use Rattle.machine_types.specs.declared.config.Config.{Config}
-use Rattle.machine_types.specs.declared.phase.Phase.{Phase}
+use Rattle.machine_types.specs.{Accesses.{found_by, words_after}, Agreement.{StatusFits, has_wait_bit, frames_shown}, Bounds.PhaseFits, Core.Core, Elision.may_try, Events.{wanted, moved}}
+use Rattle.machine_types.specs.{HeldMonitors.held_at, History.acts_of, LockWords.{lock_of, next_count}, Monitors.count_kept, Owners.{Knows, locks_in, references_of}, PlainMemory.Object}
+use Rattle.machine_types.specs.{PlainState.Plain, StartLaws.StartLiesApart, Structure.{GrowShows, IsAs, Stands}, Threads.{Frame, Thread}, Typed.{HasClass, IsObject, PhaseHolds}}
+use Rattle.machine_types.specs.declared.{config.Config.Config, phase.Phase.Phase}
+use Rattle.laws_states.{specs.{HeapFacts.objects_by, SiteLaws.{SitesDiffer, SitesLieInside}, Sites.HasObject, StateFacts.StateFacts}, proofs.Phases.IsOldPhase}
+use Rattle.laws_simulation.{specs.{StandsBeside.StandsBeside, StepsBeside.{LocksPhase, LockSteps}}, proofs.Assembled.steps_beside}
+use Rattle.laws_simulation.proofs.{EntryPhases.{entered, acquires_it, took, flagged, took_fat, loaded}, ExitPhases.{behind, left_it, drew_it, flat_out, owned, fattened}, Moving.{Moving, Makes}}
+use Rattle.laws_simulation.proofs.{OwnBits.{IsAwake, no_own_bit}, OwnThread.{IsBusy, own, under_way}, WaitBits.same_wait_bit}
 use Rattle.machine_types.specs.declared.phase.Phase.TheVariants as phases
 use Rattle.machine_types.specs.declared.phase.Toward.TheVariants as towards
-use Rattle.laws_states.specs.HeapFacts.{objects_by}
-use Rattle.laws_states.specs.SiteLaws.{SitesDiffer, SitesLieInside}
-use Rattle.laws_states.specs.Sites.{HasObject}
-use Rattle.laws_states.proofs.Phases.{IsOldPhase}
-use Rattle.laws_states.specs.StateFacts.{StateFacts}
-use Rattle.laws_simulation.specs.StandsBeside.{StandsBeside}
-use Rattle.laws_simulation.specs.StepsBeside.{LocksPhase, LockSteps}
-use Rattle.laws_simulation.proofs.Assembled.{steps_beside}
-use Rattle.laws_simulation.proofs.OwnBits.{IsAwake, no_own_bit}
-use Rattle.laws_simulation.proofs.OwnThread.{IsBusy, own, under_way}
-use Rattle.laws_simulation.proofs.WaitBits.{same_wait_bit}
-use Rattle.laws_simulation.proofs.EntryPhases.{entered, acquires_it, took, flagged, took_fat, loaded}
-use Rattle.laws_simulation.proofs.ExitPhases.{behind, left_it, drew_it, flat_out, owned, fattened}
-use Rattle.laws_simulation.proofs.Moving.{Moving, Makes}
 
 -- ---- what these phases are
 

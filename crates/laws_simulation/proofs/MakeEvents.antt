@@ -1,36 +1,18 @@
 -- An instruction that makes an object, or finds no room for it.
-use Rattle.std.proofs.Common.{◌≡◌, ℕ, ◌+◌, ◌≤◌, nat_le, Bool, true, false, List, [], ◌∷◌, ◌++◌, Some, refl, sym, ap, subst, ◌∙◌, arith}
-use Rattle.std.specs.Prelude.{slice_index, slice_set, if◌then◌else◌}
+use Rattle.std.proofs.Common.{◌≡◌, ℕ, ◌+◌, ◌≤◌, nat_le, Bool, true, false, List, [], ◌∷◌, ◌++◌, Some, refl, sym, ap, subst, ◌∙◌, arith, slice_index, slice_set, if◌then◌else◌}
 use Rattle.std.proofs.lemmas.Bool.Decides.{nat_tests}
-use Rattle.jvm_types.specs.declared.fixed_words.TheConstants.{NEXT_FREE_WORD}
-use Rattle.jvm_types.specs.declared.outcome.Thrown.TheVariants.{OutOfMemoryError}
+use Rattle.jvm_types.specs.declared.{fixed_words.TheConstants.NEXT_FREE_WORD, outcome.Thrown.TheVariants.OutOfMemoryError}
 use Rattle.checked_program.specs.MarkedProgram.{MarkedProgram}
-use Rattle.machine_types.specs.Agreement.{has_wait_bit}
-use Rattle.machine_types.specs.Core.{Core}
-use Rattle.machine_types.specs.FoundWords.{IsHeader}
-use Rattle.machine_types.specs.Frames.{Top, top_of, effect_at, making, pushed}
-use Rattle.machine_types.specs.Going.{goes_on}
-use Rattle.machine_types.specs.Instructions.{begun}
-use Rattle.machine_types.specs.NewObjects.{size_by}
-use Rattle.machine_types.specs.Onward.{Running, threw}
-use Rattle.machine_types.specs.Owners.{references_of}
-use Rattle.machine_types.specs.PlainMemory.{Object, new_object}
-use Rattle.machine_types.specs.PlainState.{Plain, PlainThread, value_at, written, with_thread}
+use Rattle.machine_types.specs.{Agreement.has_wait_bit, Core.Core, FoundWords.IsHeader, Frames.{Top, top_of, effect_at, making, pushed}, Going.goes_on, Instructions.begun, NewObjects.size_by}
+use Rattle.machine_types.specs.{Onward.{Running, threw}, Owners.references_of, PlainMemory.{Object, new_object}, PlainState.{Plain, PlainThread, value_at, written, with_thread}, Threads.Thread}
+use Rattle.machine_types.specs.declared.{access.Access.TheVariants.Add, config.Config.Config, effect.Effect.TheVariants.Makes, phase.Phase.Phase}
+use Rattle.laws_states.{specs.HeapFacts.objects_by, proofs.Headers.made_header}
+use Rattle.laws_simulation.{specs.StepsBeside.StepsBeside, proofs.{GoingOnAlike.none_ends, MemoryParts.{rises, makes}}}
+use Rattle.laws_simulation.proofs.RunScene.{twin, runs_on, busy, lives, makes_none, wakes, may, wants, acts_are, moves, does}
+use Rattle.laws_simulation.proofs.Scene.{Scene, GoesOn, Memory, going, none_on, comes_beside, StepsBy, steps_of_event}
 use Rattle.machine_types.specs.PlainState as plain
-use Rattle.machine_types.specs.Threads.{Thread}
-use Rattle.machine_types.specs.declared.access.Access.TheVariants.{Add}
-use Rattle.machine_types.specs.declared.config.Config.{Config}
-use Rattle.machine_types.specs.declared.effect.Effect.TheVariants.{Makes}
-use Rattle.machine_types.specs.declared.phase.Phase.{Phase}
 use Rattle.machine_types.specs.declared.phase.Phase.TheVariants as phases
 use Rattle.machine_types.specs.declared.plain.Act.TheVariants as acts
-use Rattle.laws_states.specs.HeapFacts.{objects_by}
-use Rattle.laws_states.proofs.Headers.{made_header}
-use Rattle.laws_simulation.specs.StepsBeside.{StepsBeside}
-use Rattle.laws_simulation.proofs.GoingOnAlike.{none_ends}
-use Rattle.laws_simulation.proofs.Scene.{Scene, GoesOn, Memory, going, none_on, comes_beside, StepsBy, steps_of_event}
-use Rattle.laws_simulation.proofs.MemoryParts.{rises, makes}
-use Rattle.laws_simulation.proofs.RunScene.{twin, runs_on, busy, lives, makes_none, wakes, may, wants, acts_are, moves, does}
 
 module _ (c : MarkedProgram) (cfg : Config) (objects : List Object) (was : ℕ → Phase) (s : Core) (t : ℕ) (x : Thread) (q : Plain) (scene : Scene c cfg objects was s t x q)
     (runs : x.phase ≡ phases.Run) (at : Top) (found : top_of c.program x.frames ≡ Some at) where

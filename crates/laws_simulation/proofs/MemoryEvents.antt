@@ -1,22 +1,11 @@
 -- Instructions that write a place, look for an element, or make an object.
 use Rattle.std.proofs.Common.{◌≡◌, ℕ, List, Some, refl}
 use Rattle.checked_program.specs.MarkedProgram.{MarkedProgram}
-use Rattle.machine_types.specs.Core.{Core}
-use Rattle.machine_types.specs.Frames.{Top, top_of, effect_at}
-use Rattle.machine_types.specs.PlainMemory.{Object}
-use Rattle.machine_types.specs.PlainState.{Plain}
-use Rattle.machine_types.specs.Threads.{Thread}
-use Rattle.machine_types.specs.declared.config.Config.{Config}
-use Rattle.machine_types.specs.declared.effect.Effect.{Effect}
-use Rattle.machine_types.specs.declared.effect.Effect.TheVariants.{Writes, Indexes, Makes}
-use Rattle.machine_types.specs.declared.phase.Phase.{Phase}
-use Rattle.machine_types.specs.declared.phase.Phase.TheVariants as phases
+use Rattle.machine_types.specs.{Core.Core, Frames.{Top, top_of, effect_at}, PlainMemory.Object, PlainState.Plain, Threads.Thread, declared.{config.Config.Config, effect.Effect.Effect}}
+use Rattle.machine_types.specs.declared.{effect.Effect.TheVariants.{Writes, Indexes, Makes}, phase.Phase.Phase}
 use Rattle.laws_states.specs.SiteLaws.{SitesDiffer, SitesLieInside}
-use Rattle.laws_simulation.specs.StepsBeside.{IsOfMemory, StepsBeside, MemorySteps}
-use Rattle.laws_simulation.proofs.Scene.{Scene}
-use Rattle.laws_simulation.proofs.WriteEvents.{write_steps}
-use Rattle.laws_simulation.proofs.IndexEvents.{index_steps}
-use Rattle.laws_simulation.proofs.MakeEvents.{make_steps}
+use Rattle.laws_simulation.{specs.StepsBeside.{IsOfMemory, StepsBeside, MemorySteps}, proofs.{IndexEvents.index_steps, MakeEvents.make_steps, Scene.Scene, WriteEvents.write_steps}}
+use Rattle.machine_types.specs.declared.phase.Phase.TheVariants as phases
 
 module _ (c : MarkedProgram) (cfg : Config) (objects : List Object) (was : ℕ → Phase) (s : Core) (t : ℕ) (x : Thread) (q : Plain) (scene : Scene c cfg objects was s t x q)
     (runs : x.phase ≡ phases.Run) (at : Top) (found : top_of c.program x.frames ≡ Some at) where

@@ -1,41 +1,18 @@
 -- A thread in no attempt that is about to move, in a reached state, beside the plain thread that it stands for; and what stands
 -- beside when it has moved, and wrote at most a word of a monitor record.
-use Rattle.std.proofs.Common.{◌≡◌, ◌≢◌, ◌⊎◌, inl, inr, ℕ, ◌<◌, ◌≤◌, Bool, true, false, cond, List, ◌∷◌, length, Option, Some, None, refl, sym, ap, ◌∙◌, subst, arith}
-use Rattle.std.specs.Prelude.{slice_get, slice_index, slice_set, option_and_then}
-use Rattle.jvm_types.specs.Numbers.{has_number}
-use Rattle.jvm_types.specs.declared.fixed_words.TheConstants.{NEXT_FREE_WORD, NEXT_TICKET_WORD, FIRST_RECORD_WORD, FIRST_READY_WORD}
-use Rattle.jvm_types.specs.declared.outcome.End.TheVariants as ends
-use Rattle.jvm_types.specs.declared.program.Program.{Program}
+use Rattle.std.proofs.Common.{◌≡◌, ◌≢◌, ◌⊎◌, inl, inr, ℕ, ◌<◌, ◌≤◌, Bool, true, false, cond, List, ◌∷◌, length, Option, Some, None, refl, sym, ap, ◌∙◌, subst, arith, slice_get, slice_index, slice_set, option_and_then}
+use Rattle.jvm_types.specs.{Numbers.has_number, declared.{fixed_words.TheConstants.{NEXT_FREE_WORD, NEXT_TICKET_WORD, FIRST_RECORD_WORD, FIRST_READY_WORD}, program.Program.Program}}
 use Rattle.checked_program.specs.MarkedProgram.{MarkedProgram}
-use Rattle.machine_types.specs.Accesses.{found_by, words_after}
-use Rattle.machine_types.specs.Agreement.{has_wait_bit, StatusFits, OutsideFits, ThreadFits, frames_shown, roots_shown}
-use Rattle.machine_types.specs.Core.{Core, accessed_by}
-use Rattle.machine_types.specs.Events.{wanted, moved}
-use Rattle.machine_types.specs.History.{acts_of, steps_of}
-use Rattle.machine_types.specs.LockWords.{lock_of}
-use Rattle.machine_types.specs.Owners.{lock_at, references_of}
-use Rattle.machine_types.specs.PlainMemory.{Object}
-use Rattle.machine_types.specs.PlainState.{Status, Plain, PlainThread, Holding}
-use Rattle.machine_types.specs.PlainSteps.{step_at, step_of, plain_run}
-use Rattle.machine_types.specs.Structure.{IsAs}
-use Rattle.machine_types.specs.Threads.{Attempt, Thread}
-use Rattle.machine_types.specs.declared.config.Config.{Config}
+use Rattle.machine_types.specs.{Accesses.{found_by, words_after}, Agreement.{has_wait_bit, StatusFits, OutsideFits, ThreadFits, frames_shown, roots_shown}, Core.{Core, accessed_by}}
+use Rattle.machine_types.specs.{Events.{wanted, moved}, History.{acts_of, steps_of}, LockWords.lock_of, Owners.{lock_at, references_of}, PlainMemory.Object}
+use Rattle.machine_types.specs.{PlainState.{Status, Plain, PlainThread, Holding}, PlainSteps.{step_at, step_of, plain_run}, Structure.IsAs, Threads.{Attempt, Thread}, declared.config.Config.Config}
+use Rattle.machine_types.specs.declared.{phase.Phase.Phase, plain.Act.Act}
+use Rattle.laws_states.{specs.{HeapFacts.objects_by, Sites.HasObject, StateFacts.StateFacts}, proofs.{Assembled.got_set, Lists.{set_there, contained_got}, WordViews.has_object}}
+use Rattle.laws_simulation.{specs.{StandsBeside.{StandsBeside, ends_shown}, StepsBeside.StepsBeside}, proofs.{Assembled.{got_same_length, stands_beside, steps_beside}, HoldingsAlike.HoldAlike}}
+use Rattle.laws_simulation.proofs.{PlainPlaces.place_low, WaitBits.same_lock}
+use Rattle.jvm_types.specs.declared.outcome.End.TheVariants as ends
 use Rattle.machine_types.specs.declared.lock.LockWord.TheVariants as locks
-use Rattle.machine_types.specs.declared.phase.Phase.{Phase}
 use Rattle.machine_types.specs.declared.phase.Phase.TheVariants as phases
-use Rattle.machine_types.specs.declared.plain.Act.{Act}
-use Rattle.laws_states.specs.HeapFacts.{objects_by}
-use Rattle.laws_states.specs.Sites.{HasObject}
-use Rattle.laws_states.proofs.Assembled.{got_set}
-use Rattle.laws_states.proofs.Lists.{set_there, contained_got}
-use Rattle.laws_states.proofs.WordViews.{has_object}
-use Rattle.laws_states.specs.StateFacts.{StateFacts}
-use Rattle.laws_simulation.specs.StandsBeside.{StandsBeside, ends_shown}
-use Rattle.laws_simulation.specs.StepsBeside.{StepsBeside}
-use Rattle.laws_simulation.proofs.Assembled.{got_same_length, stands_beside, steps_beside}
-use Rattle.laws_simulation.proofs.HoldingsAlike.{HoldAlike}
-use Rattle.laws_simulation.proofs.PlainPlaces.{place_low}
-use Rattle.laws_simulation.proofs.WaitBits.{same_lock}
 
 -- ---- words
 

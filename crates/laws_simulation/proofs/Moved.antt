@@ -1,45 +1,22 @@
 -- What stands beside when a thread has moved: where the plain machine made no step, where one of its threads did, and where the
 -- thread goes on to its next instruction.
-use Rattle.std.proofs.Common.{◌≡◌, ◌≢◌, ◌⊎◌, inl, inr, ℕ, zero, suc, ◌+◌, ◌<◌, nat_lt, Bool, true, false, cond, List, [], ◌∷◌, Option, Some, None, refl, sym, ap, ◌∙◌, subst, arith}
-use Rattle.std.specs.Prelude.{slice_get, slice_set}
-use Rattle.jvm_types.specs.Numbers.{has_flag}
-use Rattle.jvm_types.specs.declared.fixed_words.TheConstants.{MONITOR_RECORDS, FIRST_READY_WORD}
-use Rattle.jvm_types.specs.declared.outcome.End.{End}
-use Rattle.jvm_types.specs.declared.outcome.End.TheVariants as ends
-use Rattle.jvm_types.specs.declared.program.Program.{Program}
-use Rattle.checked_program.specs.MarkedProgram.{MarkedProgram, IsMarked}
-use Rattle.machine_types.specs.Agreement.{has_wait_bit, StatusFits, OutsideFits, frames_shown, roots_shown}
-use Rattle.machine_types.specs.Core.{Core}
-use Rattle.machine_types.specs.Going.{runs}
-use Rattle.machine_types.specs.HeldMonitors.{held_at}
-use Rattle.machine_types.specs.Monitors.{bit_of}
-use Rattle.machine_types.specs.Owners.{Knows, lock_at, owner_at, locks_in, references_of, hold_by_kept, hold_by_list, hold_by_word, HeldFat}
-use Rattle.machine_types.specs.Parts.{done_roots}
-use Rattle.machine_types.specs.PlainMemory.{Object}
-use Rattle.machine_types.specs.PlainState.{Status, Plain, PlainThread, Holding}
-use Rattle.machine_types.specs.PlainState as plain
-use Rattle.machine_types.specs.Structure.{IsFat, Stands}
-use Rattle.machine_types.specs.Threads.{Frame, Thread}
-use Rattle.machine_types.specs.Waiting.{MayWait, Waits, is_bit_set}
-use Rattle.machine_types.specs.Words.{owner_word, bits_word}
-use Rattle.machine_types.specs.declared.config.Config.{Config}
-use Rattle.machine_types.specs.declared.lock.Held.{Held}
-use Rattle.machine_types.specs.declared.lock.Kept.TheVariants as keeps
-use Rattle.machine_types.specs.declared.lock.LockWord.{LockWord}
-use Rattle.machine_types.specs.declared.lock.LockWord.TheVariants as locks
-use Rattle.machine_types.specs.declared.phase.Phase.{Phase}
-use Rattle.machine_types.specs.declared.phase.Phase.TheVariants as phases
-use Rattle.laws_states.specs.SiteLaws.{SitesLieInside}
-use Rattle.laws_states.specs.Sites.{BitsOf}
-use Rattle.laws_states.proofs.Lists.{set_here, set_there, same_or_not}
-use Rattle.laws_states.proofs.LockViews.{fatly}
+use Rattle.std.proofs.Common.{◌≡◌, ◌≢◌, ◌⊎◌, inl, inr, ℕ, zero, suc, ◌+◌, ◌<◌, nat_lt, Bool, true, false, cond, List, [], ◌∷◌, Option, Some, None, refl, sym, ap, ◌∙◌, subst, arith, slice_get, slice_set}
 use Rattle.std.proofs.lemmas.List.{length-set}
-use Rattle.laws_simulation.specs.StandsBeside.{StandsBeside, own_end, end_of_done, ends_shown}
-use Rattle.laws_simulation.proofs.HoldingsAlike.{HoldAlike, alike_kept}
-use Rattle.laws_simulation.proofs.WaitBits.{bit_by, fits_by}
+use Rattle.jvm_types.specs.{Numbers.has_flag, declared.{fixed_words.TheConstants.{MONITOR_RECORDS, FIRST_READY_WORD}, outcome.End.End, program.Program.Program}}
+use Rattle.checked_program.specs.MarkedProgram.{MarkedProgram, IsMarked}
+use Rattle.machine_types.specs.{Agreement.{has_wait_bit, StatusFits, OutsideFits, frames_shown, roots_shown}, Core.Core, Going.runs, HeldMonitors.held_at, Monitors.bit_of}
+use Rattle.machine_types.specs.{Owners.{Knows, lock_at, owner_at, locks_in, references_of, hold_by_kept, hold_by_list, hold_by_word, HeldFat}, Parts.done_roots, PlainMemory.Object}
+use Rattle.machine_types.specs.{PlainState.{Status, Plain, PlainThread, Holding}, Structure.{IsFat, Stands}, Threads.{Frame, Thread}, Waiting.{MayWait, Waits, is_bit_set}}
+use Rattle.machine_types.{specs.{Words.{owner_word, bits_word}, declared.{config.Config.Config, lock.{Held.Held, LockWord.LockWord}, phase.Phase.Phase}}, proofs.Lists.{got_when_set, got_other}}
+use Rattle.laws_states.{specs.{SiteLaws.SitesLieInside, Sites.BitsOf}, proofs.{Lists.{set_here, set_there, same_or_not}, LockViews.fatly}}
+use Rattle.laws_simulation.{specs.StandsBeside.{StandsBeside, own_end, end_of_done, ends_shown}, proofs.HoldingsAlike.{HoldAlike, alike_kept}}
+use Rattle.laws_simulation.proofs.{Moments.{Moment, AreRecordsWritten, record_written, lock_same, lock_kept, holdings_alike, moved_beside}, WaitBits.{bit_by, fits_by}}
 use Rattle.laws_simulation.proofs.WaitersHaveBits.{bit_in, bit_of_fat}
-use Rattle.laws_simulation.proofs.Moments.{Moment, AreRecordsWritten, record_written, lock_same, lock_kept, holdings_alike, moved_beside}
-use Rattle.machine_types.proofs.Lists.{got_when_set, got_other}
+use Rattle.jvm_types.specs.declared.outcome.End.TheVariants as ends
+use Rattle.machine_types.specs.PlainState as plain
+use Rattle.machine_types.specs.declared.lock.Kept.TheVariants as keeps
+use Rattle.machine_types.specs.declared.lock.LockWord.TheVariants as locks
+use Rattle.machine_types.specs.declared.phase.Phase.TheVariants as phases
 
 -- ---- ends of parts
 

@@ -1,33 +1,17 @@
 -- A thread in no attempt that is about to move by its phase, with its plain thread; and what becomes of both.
-use Rattle.std.proofs.Common.{◌≡◌, ℕ, ◌+◌, nat_lt, Bool, true, false, cond, List, [], ◌∷◌, Option, Some, None, refl, sym, ap, ◌∙◌, subst}
-use Rattle.std.specs.Prelude.{slice_get, slice_set}
-use Rattle.jvm_types.specs.declared.outcome.End.TheVariants as ends
+use Rattle.std.proofs.Common.{◌≡◌, ℕ, ◌+◌, nat_lt, Bool, true, false, cond, List, [], ◌∷◌, Option, Some, None, refl, sym, ap, ◌∙◌, subst, slice_get, slice_set}
 use Rattle.jvm_types.specs.declared.program.Program.{Program}
 use Rattle.checked_program.specs.MarkedProgram.{MarkedProgram, IsMarked}
-use Rattle.machine_types.specs.Agreement.{StatusFits, OutsideFits, ThreadFits, IsTurning, has_wait_bit, frames_shown, roots_shown}
-use Rattle.machine_types.specs.Core.{Core}
-use Rattle.machine_types.specs.Going.{with_phase, runs, failed_turn, goes_on}
-use Rattle.machine_types.specs.History.{steps_of}
-use Rattle.machine_types.specs.Onward.{Onward, Running, Throwing, Entering, Leaving, RootReturned, Uncaught}
-use Rattle.machine_types.specs.Owners.{references_of}
-use Rattle.machine_types.specs.Parts.{has_finished}
-use Rattle.machine_types.specs.PlainMemory.{Object}
-use Rattle.machine_types.specs.PlainState.{Plain, PlainThread, Holding}
-use Rattle.machine_types.specs.PlainState as plain
-use Rattle.machine_types.specs.PlainSteps.{plain_run}
-use Rattle.machine_types.specs.Threads.{Attempt, Frame, Thread}
-use Rattle.machine_types.specs.declared.config.Config.{Config}
-use Rattle.machine_types.specs.declared.phase.Phase.{Phase}
-use Rattle.machine_types.specs.declared.phase.Phase.TheVariants as phases
-use Rattle.machine_types.specs.declared.plain.Act.{Act}
-use Rattle.laws_states.proofs.Phases.{IsOldPhase}
-use Rattle.laws_states.specs.StateFacts.{StateFacts}
-use Rattle.laws_simulation.specs.StandsBeside.{StandsBeside, end_of_done, ends_shown}
-use Rattle.laws_simulation.proofs.GoingOnAlike.{IsUnderWay, OwnFits, IsAwake, PartRuns, ends_before, awake_fits, none_ends, runs_alike}
-use Rattle.laws_simulation.proofs.HoldingsAlike.{HoldAlike, alike_kept}
-use Rattle.laws_simulation.proofs.OwnThread.{IsBusy}
-use Rattle.laws_simulation.proofs.Landing.{WordsStay, Does, stays, steps}
+use Rattle.machine_types.specs.{Agreement.{StatusFits, OutsideFits, ThreadFits, IsTurning, has_wait_bit, frames_shown, roots_shown}, Core.Core, Going.{with_phase, runs, failed_turn, goes_on}}
+use Rattle.machine_types.specs.{History.steps_of, Onward.{Onward, Running, Throwing, Entering, Leaving, RootReturned, Uncaught}, Owners.references_of, Parts.has_finished, PlainMemory.Object}
+use Rattle.machine_types.specs.{PlainState.{Plain, PlainThread, Holding}, PlainSteps.plain_run, Threads.{Attempt, Frame, Thread}, declared.{config.Config.Config, phase.Phase.Phase, plain.Act.Act}}
 use Rattle.laws_threads.proofs.ThreadMove.{same_onward}
+use Rattle.laws_states.{specs.StateFacts.StateFacts, proofs.Phases.IsOldPhase}
+use Rattle.laws_simulation.{specs.StandsBeside.{StandsBeside, end_of_done, ends_shown}, proofs.GoingOnAlike.{IsUnderWay, OwnFits, IsAwake, PartRuns, ends_before, awake_fits, none_ends, runs_alike}}
+use Rattle.laws_simulation.proofs.{HoldingsAlike.{HoldAlike, alike_kept}, Landing.{WordsStay, Does, stays, steps}, OwnThread.IsBusy}
+use Rattle.jvm_types.specs.declared.outcome.End.TheVariants as ends
+use Rattle.machine_types.specs.PlainState as plain
+use Rattle.machine_types.specs.declared.phase.Phase.TheVariants as phases
 
 -- ---- phases in which a part is under way, and all that the plain thread has is the thread's
 

@@ -1,35 +1,20 @@
 -- The begin of a part: of the workers' when `init` has returned, and of `done` when each worker has finished.
-use Rattle.std.proofs.Common.{◌≡◌, ℕ, zero, suc, ◌<◌, Bool, true, false, ◌&&◌, List, [], ◌∷◌, map, Option, Some, None, refl, sym, ap, subst, ◌∙◌, arith}
-use Rattle.std.specs.Prelude.{◌==◌, bytes_eq, codes, slice_get, if◌then◌else◌}
-use Rattle.std.specs.List.{AllByRecursion}
-use Rattle.std.proofs.lemmas.Bool.{and_from, and_parts, eq-eqb}
+use Rattle.std.proofs.Common.{◌≡◌, ℕ, zero, suc, ◌<◌, Bool, true, false, ◌&&◌, List, [], ◌∷◌, map, Option, Some, None, refl, sym, ap, subst, ◌∙◌, arith, ◌==◌, bytes_eq, codes, slice_get, if◌then◌else◌}
+use Rattle.std.{specs.List.AllByRecursion, proofs.lemmas.Bool.{and_from, and_parts, eq-eqb}}
 use Rattle.lists.proofs.ListLaws.{same_some}
-use Rattle.jvm_types.specs.ClassNames.{file_class}
-use Rattle.jvm_types.specs.declared.outcome.End.{End}
-use Rattle.jvm_types.specs.declared.outcome.End.TheVariants as ends
-use Rattle.jvm_types.specs.declared.program.MethodInfo.{MethodInfo}
-use Rattle.jvm_types.specs.declared.program.Program.{Program}
+use Rattle.jvm_types.specs.{ClassNames.file_class, declared.{outcome.End.End, program.{MethodInfo.MethodInfo, Program.Program}}}
 use Rattle.laws_programs.specs.RootLaws.{RunIsThere}
 use Rattle.checked_program.specs.MarkedProgram.{MarkedProgram, IsMarked}
 use Rattle.machine_types.specs.Agreement.{OutsideFits, ThreadFits, StatusFits, frames_shown, roots_shown, start_status}
 use Rattle.machine_types.specs.Core.{Core, part_phase, may_begin, may_begin_by, ended_by, how_ended, with_roots, workers_begin, done_begins, part_begins, next_threads, next}
-use Rattle.machine_types.specs.Parts.{numbers_of, is_entry_named, run_roots, done_roots, has_returned}
-use Rattle.machine_types.specs.PlainMemory.{Object}
-use Rattle.machine_types.specs.PlainState.{Plain, PlainThread}
-use Rattle.machine_types.specs.Structure.{IsStructured, IsAs, AttemptStandsIn, IsPhaseInside}
-use Rattle.machine_types.specs.Threads.{Attempt, Thread}
-use Rattle.machine_types.specs.declared.config.Config.{Config}
-use Rattle.machine_types.specs.declared.phase.Phase.{Phase}
-use Rattle.machine_types.specs.declared.phase.Phase.TheVariants as phases
-use Rattle.laws_threads.specs.PartLaws.{PartFits, PartsFit}
-use Rattle.laws_states.specs.PartsStand.{HasReturned}
-use Rattle.laws_states.specs.StateFacts.{StateFacts}
-use Rattle.laws_simulation.specs.StandsBeside.{StandsBeside, ends_shown, end_of_done}
-use Rattle.laws_simulation.specs.StepsBeside.{NextStandsBeside}
-use Rattle.laws_simulation.proofs.PartBegins.{Alike, Pairs, same_pairs, begins_beside}
+use Rattle.machine_types.specs.{Parts.{numbers_of, is_entry_named, run_roots, done_roots, has_returned}, PlainMemory.Object, PlainState.{Plain, PlainThread}}
+use Rattle.machine_types.{specs.{Structure.{IsStructured, IsAs, AttemptStandsIn, IsPhaseInside}, Threads.{Attempt, Thread}, declared.{config.Config.Config, phase.Phase.Phase}}, proofs.Lists.got_below}
+use Rattle.laws_threads.{specs.PartLaws.{PartFits, PartsFit}, proofs.PartSteps.returned}
+use Rattle.laws_states.specs.{PartsStand.HasReturned, StateFacts.StateFacts}
+use Rattle.laws_simulation.{specs.{StandsBeside.{StandsBeside, ends_shown, end_of_done}, StepsBeside.NextStandsBeside}, proofs.PartBegins.{Alike, Pairs, same_pairs, begins_beside}}
 use Rattle.laws_simulation.proofs.PartsDue.{rests_between, no_attempt}
-use Rattle.laws_threads.proofs.PartSteps.{returned}
-use Rattle.machine_types.proofs.Lists.{got_below}
+use Rattle.jvm_types.specs.declared.outcome.End.TheVariants as ends
+use Rattle.machine_types.specs.declared.phase.Phase.TheVariants as phases
 
 -- ---- `run` is there where there are workers
 

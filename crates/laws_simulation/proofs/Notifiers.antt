@@ -1,45 +1,20 @@
 -- A thread that notifies: it looks for a thread that waits, and wakes one or all.
-use Rattle.std.proofs.Common.{◌≡◌, ◌≢◌, ◌⊎◌, inl, inr, ℕ, ◌-◌, ◌^◌, ◌<◌, nat_lt, Bool, true, false, cond, List, [], ◌∷◌, Option, Some, None, refl, sym, ap, ◌∙◌, subst, arith}
-use Rattle.std.specs.Prelude.{IsSome, map, slice_get, slice_index, slice_set, ◌==◌, bit_and, option_map}
-use Rattle.std.specs.List.{list_any}
-use Rattle.std.proofs.lemmas.Bool.Decides.{nat_tests}
-use Rattle.std.proofs.lemmas.List.{length-map}
-use Rattle.std.proofs.lemmas.Option.{slice_get-map}
+use Rattle.std.proofs.Common.{◌≡◌, ◌≢◌, ◌⊎◌, inl, inr, ℕ, ◌-◌, ◌^◌, ◌<◌, nat_lt, Bool, true, false, cond, List, [], ◌∷◌, Option, Some, None, refl, sym, ap, ◌∙◌, subst, arith, IsSome, map, slice_get, slice_index, slice_set, ◌==◌, bit_and, option_map}
+use Rattle.std.{specs.List.list_any, proofs.lemmas.{Bool.Decides.nat_tests, List.{length-map, length-set}, Option.slice_get-map}}
 use Rattle.jvm_types.specs.Numbers.{has_flag}
-use Rattle.jvm_types.specs.declared.outcome.End.TheVariants as ends
 use Rattle.checked_program.specs.MarkedProgram.{MarkedProgram, IsMarked}
-use Rattle.machine_types.specs.Agreement.{has_wait_bit, ThreadFits}
-use Rattle.machine_types.specs.Core.{Core}
-use Rattle.machine_types.specs.Going.{with_phase, runs}
-use Rattle.machine_types.specs.History.{act_if}
-use Rattle.machine_types.specs.Monitors.{bit_of, lowest_of}
-use Rattle.machine_types.specs.Owners.{references_of}
-use Rattle.machine_types.specs.PlainMemory.{Object}
-use Rattle.machine_types.specs.PlainState.{Plain, PlainThread, with_thread, with_status}
-use Rattle.machine_types.specs.PlainState as plain
-use Rattle.machine_types.specs.PlainSteps.{waits_on, wakes, wakes_one, notified}
-use Rattle.machine_types.specs.Threads.{Thread}
-use Rattle.machine_types.specs.Waiting.{is_bit_set}
-use Rattle.machine_types.specs.Words.{bits_word}
-use Rattle.machine_types.specs.declared.config.Config.{Config}
-use Rattle.machine_types.specs.declared.phase.Phase.{Phase}
-use Rattle.machine_types.specs.declared.phase.Phase.TheVariants as phases
-use Rattle.machine_types.specs.declared.plain.Act.TheVariants as acts
-use Rattle.laws_states.specs.SiteLaws.{SitesLieInside}
-use Rattle.laws_states.proofs.Lists.{same_or_not}
-use Rattle.laws_states.proofs.WordViews.{set_self}
-use Rattle.laws_simulation.proofs.Assembled.{got_same_length}
-use Rattle.std.proofs.lemmas.List.{length-set}
-use Rattle.laws_simulation.specs.StepsBeside.{StepsBeside}
-use Rattle.laws_simulation.proofs.HoldingsAlike.{alike_kept}
-use Rattle.laws_simulation.proofs.WaitBits.{fits_by}
-use Rattle.laws_simulation.proofs.WaitersHaveBits.{waiter_has_bit, nobody_by_bits, none_waits, stays_asleep}
-use Rattle.laws_simulation.proofs.BitWords.{low_if_set, clear_here, clear_other}
+use Rattle.machine_types.specs.{Agreement.{has_wait_bit, ThreadFits}, Core.Core, Going.{with_phase, runs}, History.act_if, Monitors.{bit_of, lowest_of}, Owners.references_of, PlainMemory.Object}
+use Rattle.machine_types.specs.{PlainState.{Plain, PlainThread, with_thread, with_status}, PlainSteps.{waits_on, wakes, wakes_one, notified}, Threads.Thread, Waiting.is_bit_set, Words.bits_word}
+use Rattle.machine_types.{specs.declared.{config.Config.Config, phase.Phase.Phase}, proofs.{Lists.{got_when_set, got_other}, PlainStepLaws.is_same}}
+use Rattle.laws_states.{specs.SiteLaws.SitesLieInside, proofs.{Lists.same_or_not, WordViews.set_self}}
+use Rattle.laws_simulation.{specs.StepsBeside.StepsBeside, proofs.{Assembled.got_same_length, BitWords.{low_if_set, clear_here, clear_other}, HoldingsAlike.alike_kept}}
 use Rattle.laws_simulation.proofs.Moments.{Moment, AreRecordsWritten, IsLater, same_words, first_step, own_status, own_frames, own_roots, own_ends, own_as, holdings_alike, moved_beside, stepped}
 use Rattle.laws_simulation.proofs.Moved.{HasFat, ends_alike, run_end, run_made, runs_outside, bits_written, counted, waits_now, owning, bit_now, bit_later, bits_kept, own_off, quiet_beside, alone_beside, bits_here, bits_else, bits_less, waits_less}
-use Rattle.laws_simulation.proofs.Sleepers.{IsAsleep, asleep, sleeps, wakes_up}
-use Rattle.machine_types.proofs.Lists.{got_when_set, got_other}
-use Rattle.machine_types.proofs.PlainStepLaws.{is_same}
+use Rattle.laws_simulation.proofs.{Sleepers.{IsAsleep, asleep, sleeps, wakes_up}, WaitBits.fits_by, WaitersHaveBits.{waiter_has_bit, nobody_by_bits, none_waits, stays_asleep}}
+use Rattle.jvm_types.specs.declared.outcome.End.TheVariants as ends
+use Rattle.machine_types.specs.PlainState as plain
+use Rattle.machine_types.specs.declared.phase.Phase.TheVariants as phases
+use Rattle.machine_types.specs.declared.plain.Act.TheVariants as acts
 
 got_some : {A : Type 0} (o : Option A) → IsSome o → (a : A) × (o ≡ Some a)
 got_some None h = absurd (cc)

@@ -1,21 +1,11 @@
 -- A thread that goes on: with its next root, with an element, behind the header of a new object, or with an exception.
 use Rattle.std.proofs.Common.{◌≡◌, ℕ, List, refl}
 use Rattle.checked_program.specs.MarkedProgram.{MarkedProgram}
-use Rattle.machine_types.specs.Core.{Core}
-use Rattle.machine_types.specs.PlainMemory.{Object}
-use Rattle.machine_types.specs.PlainState.{Plain}
-use Rattle.machine_types.specs.Threads.{Thread}
-use Rattle.machine_types.specs.declared.config.Config.{Config}
-use Rattle.machine_types.specs.declared.phase.Phase.{Phase}
-use Rattle.machine_types.specs.declared.phase.Phase.TheVariants as phases
-use Rattle.laws_states.specs.SiteLaws.{SitesDiffer, SitesLieInside}
-use Rattle.laws_states.specs.PartsLaws.{EventsKeepParts}
-use Rattle.laws_simulation.specs.StepsBeside.{GoesOnPhase, StepsBeside, OnwardSteps}
-use Rattle.laws_simulation.proofs.Scene.{Scene}
-use Rattle.laws_simulation.proofs.ElementEvents.{element_steps}
-use Rattle.laws_simulation.proofs.HeaderEvents.{header_steps}
-use Rattle.laws_simulation.proofs.StartEvents.{start_steps}
+use Rattle.machine_types.specs.{Core.Core, PlainMemory.Object, PlainState.Plain, Threads.Thread, declared.{config.Config.Config, phase.Phase.Phase}}
+use Rattle.laws_states.specs.{PartsLaws.EventsKeepParts, SiteLaws.{SitesDiffer, SitesLieInside}}
+use Rattle.laws_simulation.{specs.StepsBeside.{GoesOnPhase, StepsBeside, OnwardSteps}, proofs.{ElementEvents.element_steps, HeaderEvents.header_steps, Scene.Scene, StartEvents.start_steps}}
 use Rattle.laws_simulation.proofs.ThrowEvents.{throw_steps}
+use Rattle.machine_types.specs.declared.phase.Phase.TheVariants as phases
 
 onward_by : (c : MarkedProgram) (cfg : Config) (objects : List Object) (was : ℕ → Phase) (s : Core) (t : ℕ) (x : Thread) (q : Plain) → Scene c cfg objects was s t x q → EventsKeepParts
     → (phase : Phase) → x.phase ≡ phase → GoesOnPhase phase → StepsBeside c objects s t x q

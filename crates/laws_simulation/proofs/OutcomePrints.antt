@@ -1,27 +1,14 @@
 -- The prints of an outcome are those of the plain state.
-use Rattle.std.proofs.Common.{◌≡◌, ◌⊎◌, inl, inr, ℕ, zero, suc, ◌+◌, Bool, true, false, cond, List, [], ◌∷◌, ◌++◌, length, map, Option, Some, None, refl, sym, ap, ◌∙◌, subst, arith, length-append}
-use Rattle.std.specs.Prelude.{◌==◌, Contains, option_map, slice_get, slice_set}
-use Rattle.std.specs.List.{sum_by, range_with_len}
-use Rattle.std.proofs.lemmas.Bool.Decides.{Decides-eqb}
-use Rattle.std.proofs.lemmas.List.Elements.{Contains-append_left, Contains-append_right}
-use Rattle.std.proofs.lemmas.List.Sums.{sum_by-cons}
-use Rattle.std.proofs.lemmas.Option.{slice_get-map}
+use Rattle.std.proofs.Common.{◌≡◌, ◌⊎◌, inl, inr, ℕ, zero, suc, ◌+◌, Bool, true, false, cond, List, [], ◌∷◌, ◌++◌, length, map, Option, Some, None, refl, sym, ap, ◌∙◌, subst, arith, length-append, ◌==◌, Contains, option_map, slice_get, slice_set}
+use Rattle.std.{specs.List.{sum_by, range_with_len}, proofs.lemmas.{Bool.Decides.Decides-eqb, List.{Elements.{Contains-append_left, Contains-append_right}, Sums.sum_by-cons}, Option.slice_get-map}}
 use Rattle.lists.proofs.ListLaws.{same_some}
-use Rattle.jvm_types.specs.declared.outcome.Print.{Print}
-use Rattle.jvm_types.specs.declared.outcome.ThreadReport.{ThreadReport}
-use Rattle.jvm_types.specs.declared.program.Program.{Program}
+use Rattle.jvm_types.specs.declared.{outcome.{Print.Print, ThreadReport.ThreadReport}, program.Program.Program}
 use Rattle.checked_program.specs.MarkedProgram.{MarkedProgram}
-use Rattle.machine_types.specs.Core.{Core, start_thread, start, may_begin, with_roots, part_begins, next_threads, report_of, outcome}
-use Rattle.machine_types.specs.Faithful.{PrintsFit}
-use Rattle.machine_types.specs.PlainState.{Plain, Printed}
-use Rattle.machine_types.specs.Threads.{Thread}
-use Rattle.machine_types.specs.declared.config.Config.{Config}
-use Rattle.laws_states.proofs.Sums.{sum_set}
+use Rattle.machine_types.specs.{Core.{Core, start_thread, start, may_begin, with_roots, part_begins, next_threads, report_of, outcome}, Faithful.PrintsFit, PlainState.{Plain, Printed}, Threads.Thread}
+use Rattle.machine_types.{specs.declared.config.Config.Config, proofs.Lists.got_when_set}
 use Rattle.laws_threads.proofs.StateSteps.{set_other}
-use Rattle.laws_simulation.specs.OutcomeLaws.{NextKeepsPrints, StartHasPrints}
-use Rattle.laws_simulation.proofs.CountedEvents.{with_print}
-use Rattle.laws_simulation.proofs.PlainPrints.{with_printed}
-use Rattle.machine_types.proofs.Lists.{got_when_set}
+use Rattle.laws_states.proofs.Sums.{sum_set}
+use Rattle.laws_simulation.{specs.OutcomeLaws.{NextKeepsPrints, StartHasPrints}, proofs.{CountedEvents.with_print, PlainPrints.with_printed}}
 
 -- ---- lists
 

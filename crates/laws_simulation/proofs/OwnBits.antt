@@ -1,22 +1,13 @@
 -- No bit of a thread is set but while it gives a monitor up and looks; and nobody waits in a record that no lock names yet.
-use Rattle.std.proofs.Common.{◌≡◌, ◌≢◌, ℕ, ◌<◌, Bool, true, false, List, Option, Some, None, IsSome, refl, sym, ap, ◌∙◌}
-use Rattle.std.specs.Prelude.{slice_get}
-use Rattle.checked_program.specs.MarkedProgram.{MarkedProgram}
-use Rattle.machine_types.specs.Agreement.{has_wait_bit}
-use Rattle.machine_types.specs.Core.{Core}
-use Rattle.machine_types.specs.HeldMonitors.{held_at}
-use Rattle.machine_types.specs.Owners.{Knows, hold_by_word, hold_by_kept, hold_by_list, IsDrawn, Owners, lock_at, owner_at, locks_in}
-use Rattle.machine_types.specs.Structure.{IsFat, Structure, PhaseShows}
-use Rattle.machine_types.specs.Threads.{Thread}
-use Rattle.machine_types.specs.Waiting.{is_bit_set, MayWait, Waiting}
+use Rattle.std.proofs.Common.{◌≡◌, ◌≢◌, ℕ, ◌<◌, Bool, true, false, List, Option, Some, None, IsSome, refl, sym, ap, ◌∙◌, slice_get}
 use Rattle.jvm_types.specs.declared.fixed_words.TheConstants.{MONITOR_RECORDS}
-use Rattle.machine_types.specs.declared.lock.Held.{Held}
-use Rattle.machine_types.specs.declared.lock.LockWord.{LockWord}
-use Rattle.machine_types.specs.declared.lock.LockWord.TheVariants as locks
-use Rattle.machine_types.specs.declared.phase.Phase.{Phase}
-use Rattle.machine_types.specs.declared.phase.Phase.TheVariants as phases
+use Rattle.checked_program.specs.MarkedProgram.{MarkedProgram}
+use Rattle.machine_types.specs.{Agreement.has_wait_bit, Core.Core, HeldMonitors.held_at, Owners.{Knows, hold_by_word, hold_by_kept, hold_by_list, IsDrawn, Owners, lock_at, owner_at, locks_in}}
+use Rattle.machine_types.specs.{Structure.{IsFat, Structure, PhaseShows}, Threads.Thread, Waiting.{is_bit_set, MayWait, Waiting}, declared.{lock.{Held.Held, LockWord.LockWord}, phase.Phase.Phase}}
 use Rattle.laws_states.proofs.LockViews.{fatly}
 use Rattle.laws_simulation.proofs.WaitBits.{bit_by}
+use Rattle.machine_types.specs.declared.lock.LockWord.TheVariants as locks
+use Rattle.machine_types.specs.declared.phase.Phase.TheVariants as phases
 
 -- neither gives a monitor up, nor looks
 abbrev pub IsAwake : Phase → Type 0

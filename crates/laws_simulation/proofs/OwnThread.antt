@@ -1,25 +1,13 @@
 -- The plain thread of a thread outside attempts: it is there, has its frames, and its part is under way.
-use Rattle.std.proofs.Common.{◌≡◌, ◌≢◌, ◌⊎◌, inl, inr, ℕ, zero, suc, List, [], ◌∷◌, Option, Some, None, refl, sym, ap, ◌∙◌, subst, arith}
-use Rattle.std.specs.Prelude.{slice_get}
-use Rattle.checked_program.specs.MarkedProgram.{MarkedProgram}
-use Rattle.jvm_types.specs.declared.outcome.End.TheVariants as ends
+use Rattle.std.proofs.Common.{◌≡◌, ◌≢◌, ◌⊎◌, inl, inr, ℕ, zero, suc, List, [], ◌∷◌, Option, Some, None, refl, sym, ap, ◌∙◌, subst, arith, slice_get}
 use Rattle.jvm_types.specs.declared.program.Program.{Program}
-use Rattle.machine_types.specs.Agreement.{OutsideFits, ThreadFits, has_wait_bit, roots_shown}
-use Rattle.machine_types.specs.Core.{Core}
-use Rattle.machine_types.specs.Owners.{references_of}
-use Rattle.machine_types.specs.PlainMemory.{Object}
-use Rattle.machine_types.specs.PlainState.{Plain, PlainThread}
-use Rattle.machine_types.specs.Threads.{Attempt, Thread}
-use Rattle.machine_types.specs.declared.config.Config.{Config}
-use Rattle.machine_types.specs.declared.phase.Phase.{Phase}
+use Rattle.checked_program.specs.MarkedProgram.{MarkedProgram}
+use Rattle.machine_types.specs.{Agreement.{OutsideFits, ThreadFits, has_wait_bit, roots_shown}, Core.Core, Owners.references_of, PlainMemory.Object, PlainState.{Plain, PlainThread}}
+use Rattle.machine_types.specs.{Threads.{Attempt, Thread}, declared.{config.Config.Config, phase.Phase.Phase}}
+use Rattle.laws_states.{specs.{PartsStand.DoneRoots, StateFacts.StateFacts}, proofs.Lists.same_or_not}
+use Rattle.laws_simulation.{specs.StandsBeside.{StandsBeside, ends_shown, end_of_done}, proofs.{Assembled.got_same_length, GoingOnAlike.{PartRuns, IsUnderWay, none_ends}, PartsDue.rests_between}}
+use Rattle.jvm_types.specs.declared.outcome.End.TheVariants as ends
 use Rattle.machine_types.specs.declared.phase.Phase.TheVariants as phases
-use Rattle.laws_states.proofs.Lists.{same_or_not}
-use Rattle.laws_states.specs.PartsStand.{DoneRoots}
-use Rattle.laws_states.specs.StateFacts.{StateFacts}
-use Rattle.laws_simulation.specs.StandsBeside.{StandsBeside, ends_shown, end_of_done}
-use Rattle.laws_simulation.proofs.Assembled.{got_same_length}
-use Rattle.laws_simulation.proofs.GoingOnAlike.{PartRuns, IsUnderWay, none_ends}
-use Rattle.laws_simulation.proofs.PartsDue.{rests_between}
 
 -- ---- phases in which a part is under way
 

@@ -1,20 +1,12 @@
 -- Where a part of the run begins, the plain machine makes no step: its threads are as the new ones show.
-use Rattle.std.proofs.Common.{◌≡◌, ◌⊎◌, inl, inr, ℕ, zero, suc, ◌≤◌, Bool, List, [], ◌∷◌, length, Some, refl, sym, ap, subst, ◌∙◌}
-use Rattle.std.specs.Prelude.{slice_get}
+use Rattle.std.proofs.Common.{◌≡◌, ◌⊎◌, inl, inr, ℕ, zero, suc, ◌≤◌, Bool, List, [], ◌∷◌, length, Some, refl, sym, ap, subst, ◌∙◌, slice_get}
 use Rattle.lists.proofs.ListLaws.{same_some}
-use Rattle.jvm_types.specs.declared.outcome.End.TheVariants as ends
 use Rattle.jvm_types.specs.declared.program.Program.{Program}
-use Rattle.machine_types.specs.Agreement.{IsPending, ThreadFits, depth_of, has_wait_bit}
-use Rattle.machine_types.specs.Core.{Core}
-use Rattle.machine_types.specs.HeldMonitors.{depth_at}
-use Rattle.machine_types.specs.Owners.{references_of}
-use Rattle.machine_types.specs.Parts.{done_roots}
-use Rattle.machine_types.specs.PlainMemory.{Object}
-use Rattle.machine_types.specs.PlainState.{Plain, PlainThread}
-use Rattle.machine_types.specs.Threads.{Thread}
-use Rattle.machine_types.specs.declared.lock.Held.{Held}
-use Rattle.machine_types.specs.declared.phase.Phase.TheVariants as phases
+use Rattle.machine_types.specs.{Agreement.{IsPending, ThreadFits, depth_of, has_wait_bit}, Core.Core, HeldMonitors.depth_at, Owners.references_of, Parts.done_roots, PlainMemory.Object}
+use Rattle.machine_types.specs.{PlainState.{Plain, PlainThread}, Threads.Thread, declared.lock.Held.Held}
 use Rattle.laws_simulation.specs.StandsBeside.{IsAmong, IsBeingMade, StandsBeside, ends_shown}
+use Rattle.jvm_types.specs.declared.outcome.End.TheVariants as ends
+use Rattle.machine_types.specs.declared.phase.Phase.TheVariants as phases
 
 -- ---- a thread that has become another, beside the same plain one
 

@@ -1,29 +1,17 @@
 -- Which parts of the plain run are due, by how far the parts of the run have come.
-use Rattle.std.proofs.Common.{◌≡◌, ◌≢◌, ℕ, zero, suc, ◌≤◌, Bool, true, List, [], ◌∷◌, length, Option, Some, None, refl, sym, ap, subst, ◌∙◌, arith}
-use Rattle.std.specs.Prelude.{slice_get, ◌&&◌, drop}
+use Rattle.std.proofs.Common.{◌≡◌, ◌≢◌, ℕ, zero, suc, ◌≤◌, Bool, true, List, [], ◌∷◌, length, Option, Some, None, refl, sym, ap, subst, ◌∙◌, arith, slice_get, ◌&&◌, drop}
 use Rattle.std.specs.List.{list_all, AllByRecursion}
 use Rattle.jvm_types.specs.declared.outcome.End.{End}
-use Rattle.jvm_types.specs.declared.outcome.End.TheVariants as ends
-use Rattle.checked_program.specs.MarkedProgram.{MarkedProgram}
-use Rattle.machine_types.specs.Agreement.{EndingFits, ThreadFits, has_wait_bit, StatusFits}
-use Rattle.machine_types.specs.Core.{Core}
-use Rattle.machine_types.specs.Owners.{references_of}
-use Rattle.machine_types.specs.Parts.{has_finished}
-use Rattle.machine_types.specs.PlainMemory.{Object}
-use Rattle.machine_types.specs.PlainState.{Plain, PlainThread, Status}
-use Rattle.machine_types.specs.PlainSteps.{first_is_return, init_has_returned, is_over}
-use Rattle.machine_types.specs.Structure.{IsStructured, IsAs, IsLimitAt, PhaseShows, AttemptStandsIn}
-use Rattle.machine_types.specs.Threads.{Attempt, Thread}
-use Rattle.machine_types.specs.declared.config.Config.{Config}
-use Rattle.machine_types.specs.declared.lock.Held.{Held}
-use Rattle.machine_types.specs.declared.phase.Phase.{Phase}
-use Rattle.machine_types.specs.declared.phase.Phase.TheVariants as phases
-use Rattle.laws_threads.specs.PartLaws.{PartFits, PartsFit}
-use Rattle.laws_states.specs.PartsStand.{HasFinished}
-use Rattle.laws_states.specs.StateFacts.{StateFacts}
-use Rattle.laws_simulation.specs.StandsBeside.{StandsBeside, ends_shown}
-use Rattle.laws_simulation.proofs.Assembled.{got_same_length}
 use Rattle.laws_programs.proofs.LocalGoing.{at_index}
+use Rattle.checked_program.specs.MarkedProgram.{MarkedProgram}
+use Rattle.machine_types.specs.{Agreement.{EndingFits, ThreadFits, has_wait_bit, StatusFits}, Core.Core, Owners.references_of, Parts.has_finished, PlainMemory.Object}
+use Rattle.machine_types.specs.{PlainState.{Plain, PlainThread, Status}, PlainSteps.{first_is_return, init_has_returned, is_over}}
+use Rattle.machine_types.specs.{Structure.{IsStructured, IsAs, IsLimitAt, PhaseShows, AttemptStandsIn}, Threads.{Attempt, Thread}, declared.{config.Config.Config, lock.Held.Held, phase.Phase.Phase}}
+use Rattle.laws_threads.specs.PartLaws.{PartFits, PartsFit}
+use Rattle.laws_states.specs.{PartsStand.HasFinished, StateFacts.StateFacts}
+use Rattle.laws_simulation.{specs.StandsBeside.{StandsBeside, ends_shown}, proofs.Assembled.got_same_length}
+use Rattle.jvm_types.specs.declared.outcome.End.TheVariants as ends
+use Rattle.machine_types.specs.declared.phase.Phase.TheVariants as phases
 
 -- ---- threads by the part of thread 0
 

@@ -1,19 +1,12 @@
 -- What steps of the plain machine count.
-use Rattle.std.proofs.Common.{◌≡◌, ◌≢◌, ℕ, ◌+◌, Bool, true, false, List, [], ◌∷◌, ◌++◌, Option, Some, None, refl, ap, ◌∙◌, arith}
-use Rattle.std.specs.Prelude.{◌==◌, ◌&&◌, option_and_then, slice_get}
-use Rattle.std.specs.List.{AllByRecursion}
-use Rattle.std.proofs.lemmas.Bool.Decides.{nat_tests}
-use Rattle.std.proofs.lemmas.Bool.{and_right}
+use Rattle.std.{proofs.Common.{◌≡◌, ◌≢◌, ℕ, ◌+◌, Bool, true, false, List, [], ◌∷◌, ◌++◌, Option, Some, None, refl, ap, ◌∙◌, arith, ◌==◌, ◌&&◌, option_and_then, slice_get}, specs.List.AllByRecursion}
+use Rattle.std.proofs.lemmas.Bool.{and_right, Decides.nat_tests}
 use Rattle.jvm_types.specs.declared.program.Program.{Program}
-use Rattle.machine_types.specs.Counting.{is_instruction, is_free, is_take, one_if, step_count, run_at, take_at, count_from, count_along}
-use Rattle.machine_types.specs.History.{steps_of}
-use Rattle.machine_types.specs.PlainState.{Plain, PlainThread, Status, holding_at}
-use Rattle.machine_types.specs.PlainState as plain
-use Rattle.machine_types.specs.PlainSteps.{plain_step, plain_run}
-use Rattle.machine_types.specs.declared.plain.Act.{Act}
-use Rattle.machine_types.specs.declared.plain.Act.TheVariants as acts
-use Rattle.machine_types.specs.declared.plain.PlainStep.{PlainStep}
+use Rattle.machine_types.specs.{Counting.{is_instruction, is_free, is_take, one_if, step_count, run_at, take_at, count_from, count_along}, History.steps_of}
+use Rattle.machine_types.specs.{PlainState.{Plain, PlainThread, Status, holding_at}, PlainSteps.{plain_step, plain_run}, declared.plain.{Act.Act, PlainStep.PlainStep}}
 use Rattle.laws_simulation.specs.OutcomeLaws.{CountsAppend, OthersAreNotCounted}
+use Rattle.machine_types.specs.PlainState as plain
+use Rattle.machine_types.specs.declared.plain.Act.TheVariants as acts
 
 -- ---- a run and what follows it
 

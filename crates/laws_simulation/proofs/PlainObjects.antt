@@ -1,20 +1,13 @@
 -- A new object of the plain machine: its places, and that it lies apart from all others.
-use Rattle.std.proofs.Common.{◌≡◌, ◌≢◌, ◌⊎◌, inl, inr, ℕ, zero, suc, ◌+◌, ◌-◌, ◌<◌, ◌≤◌, Bool, true, false, List, [], ◌∷◌, ◌++◌, length, Option, Some, None, refl, ap, sym, subst, ◌∙◌, arith}
-use Rattle.std.specs.Prelude.{◌==◌, replicate, Contains, slice_get, if◌then◌else◌}
-use Rattle.std.specs.Option.{option_or}
-use Rattle.std.proofs.lemmas.Bool.Decides.{nat_tests}
-use Rattle.std.proofs.lemmas.List.{length-replicate}
+use Rattle.std.proofs.Common.{◌≡◌, ◌≢◌, ◌⊎◌, inl, inr, ℕ, zero, suc, ◌+◌, ◌-◌, ◌<◌, ◌≤◌, Bool, true, false, List, [], ◌∷◌, ◌++◌, length, Option, Some, None, refl, ap, sym, subst, ◌∙◌, arith, ◌==◌, replicate, Contains, slice_get, if◌then◌else◌}
+use Rattle.std.{specs.Option.option_or, proofs.lemmas.{Bool.Decides.nat_tests, List.length-replicate}}
 use Rattle.lists.proofs.ListLaws.{same_some}
-use Rattle.jvm_types.specs.ProgramInvariant.{instances_among}
-use Rattle.jvm_types.specs.declared.class_numbers.TheConstants.{INT_ARRAY_CLASS}
-use Rattle.jvm_types.specs.declared.fixed_words.TheConstants.{FIRST_READY_WORD, OBJECT_HEAD_WORDS}
+use Rattle.jvm_types.specs.{ProgramInvariant.instances_among, declared.{class_numbers.TheConstants.INT_ARRAY_CLASS, fixed_words.TheConstants.{FIRST_READY_WORD, OBJECT_HEAD_WORDS}}}
 use Rattle.jvm_types.specs.declared.program.Program.{Program}
-use Rattle.machine_types.specs.ObjectsApart.{IsBeside, IsOutside, LieApart}
-use Rattle.machine_types.specs.Owners.{references_of}
-use Rattle.machine_types.specs.PlainMemory.{Object, StaticValue, header_of, first_value, object_end, has_value, value_in, object_value, static_value, new_object}
-use Rattle.machine_types.specs.Words.{header_word}
-use Rattle.laws_states.proofs.Lists.{contained_got}
+use Rattle.machine_types.specs.{ObjectsApart.{IsBeside, IsOutside, LieApart}, Owners.references_of}
+use Rattle.machine_types.specs.{PlainMemory.{Object, StaticValue, header_of, first_value, object_end, has_value, value_in, object_value, static_value, new_object}, Words.header_word}
 use Rattle.laws_threads.proofs.MonitorMoves.{contains_got}
+use Rattle.laws_states.proofs.Lists.{contained_got}
 
 -- ---- a list with one more behind
 

@@ -1,19 +1,12 @@
 -- Where the plain machine has values: the header and the values of an object, and the static fields. All of these lie behind
 -- the monitor records and below the number for the next reference, and none is a reference, where the lock word stands.
-use Rattle.std.proofs.Common.{◌≡◌, ◌≢◌, ◌⊎◌, inl, inr, ℕ, zero, suc, ◌-◌, ◌<◌, ◌≤◌, nat_lt, nat_le, Bool, true, false, List, [], ◌∷◌, length, Option, Some, None, refl, sym, ap, ◌∙◌, subst, arith}
-use Rattle.std.specs.Prelude.{Contains, slice_get, ◌==◌, ◌&&◌, if◌then◌else◌}
-use Rattle.std.specs.Option.{option_or}
-use Rattle.std.proofs.lemmas.Bool.Decides.{nat_tests, Decides-eqb}
-use Rattle.std.proofs.lemmas.Bool.{ne_eqb}
+use Rattle.std.proofs.Common.{◌≡◌, ◌≢◌, ◌⊎◌, inl, inr, ℕ, zero, suc, ◌-◌, ◌<◌, ◌≤◌, nat_lt, nat_le, Bool, true, false, List, [], ◌∷◌, length, Option, Some, None, refl, sym, ap, ◌∙◌, subst, arith, Contains, slice_get, ◌==◌, ◌&&◌, if◌then◌else◌}
+use Rattle.std.{specs.Option.option_or, proofs.lemmas.Bool.{ne_eqb, Decides.{nat_tests, Decides-eqb}}}
 use Rattle.lists.proofs.ListLaws.{same_some}
-use Rattle.jvm_types.specs.declared.fixed_words.TheConstants.{FIRST_READY_WORD}
-use Rattle.jvm_types.specs.declared.program.Program.{Program}
-use Rattle.machine_types.specs.ObjectsApart.{IsBeside, IsOutside, LieApart}
-use Rattle.machine_types.specs.PlainMemory.{Object, StaticValue, header_of, first_value, object_end, has_value, value_in, object_value, static_value}
-use Rattle.machine_types.specs.PlainState.{Plain, value_at}
-use Rattle.machine_types.specs.Words.{header_word, value_word}
+use Rattle.jvm_types.specs.declared.{fixed_words.TheConstants.FIRST_READY_WORD, program.Program.Program}
+use Rattle.machine_types.specs.{ObjectsApart.{IsBeside, IsOutside, LieApart}, PlainMemory.{Object, StaticValue, header_of, first_value, object_end, has_value, value_in, object_value, static_value}}
+use Rattle.machine_types.{specs.{PlainState.{Plain, value_at}, Words.{header_word, value_word}}, proofs.PlainStepLaws.is_same}
 use Rattle.laws_states.proofs.Lists.{contained_got, same_or_not}
-use Rattle.machine_types.proofs.PlainStepLaws.{is_same}
 
 -- ---- one object
 

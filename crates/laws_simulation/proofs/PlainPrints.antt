@@ -1,47 +1,25 @@
 -- What the plain steps of an event print.
-use Rattle.std.proofs.Common.{◌≡◌, ℕ, ℤ, ◌+◌, nat_lt, Bool, true, false, cond, List, [], ◌∷◌, ◌++◌, Option, Some, None, refl, sym, ap, ◌∙◌, subst}
-use Rattle.std.specs.Prelude.{◌==◌, nat_le, option_map, option_and_then, slice_get}
+use Rattle.std.proofs.Common.{◌≡◌, ℕ, ℤ, ◌+◌, nat_lt, Bool, true, false, cond, List, [], ◌∷◌, ◌++◌, Option, Some, None, refl, sym, ap, ◌∙◌, subst, ◌==◌, nat_le, option_map, option_and_then, slice_get}
 use Rattle.std.specs.List.{AllByRecursion}
 use Rattle.lists.proofs.ListLaws.{same_some}
-use Rattle.jvm_types.specs.declared.code.Op.{Op}
-use Rattle.jvm_types.specs.declared.code.Op.TheVariants as ops
-use Rattle.jvm_types.specs.declared.outcome.Print.{Print}
-use Rattle.jvm_types.specs.declared.outcome.Thrown.TheVariants.{NullPointerException}
-use Rattle.jvm_types.specs.declared.program.Program.{Program}
-use Rattle.jvm_types.specs.declared.program.Target.{Target}
+use Rattle.jvm_types.specs.declared.{code.Op.Op, outcome.{Print.Print, Thrown.TheVariants.NullPointerException}, program.{Program.Program, Target.Target}}
 use Rattle.checked_program.specs.MarkedProgram.{MarkedProgram, IsMarked}
-use Rattle.machine_types.specs.Agreement.{StatusFits, frames_shown}
-use Rattle.machine_types.specs.Effects.{effect, unless_null, read_by}
-use Rattle.machine_types.specs.Frames.{Top, top_of, effect_at}
-use Rattle.machine_types.specs.HeldMonitors.{held_at}
-use Rattle.machine_types.specs.History.{acts_of, steps_of, act_if, notified_by, release_acts}
+use Rattle.machine_types.specs.{Agreement.{StatusFits, frames_shown}, Effects.{effect, unless_null, read_by}, Frames.{Top, top_of, effect_at}, HeldMonitors.held_at}
+use Rattle.machine_types.specs.{History.{acts_of, steps_of, act_if, notified_by, release_acts}, Instructions.has_print_left, Ints.{low, int_of}, LockWords.word_of_lock, Monitors.claim_by, Onward.done}
+use Rattle.machine_types.specs.{PlainInstructions.{plain_did, indexed_in, plain_instructed, got_by}, PlainLaws.InstructionsChangeMemory}
+use Rattle.machine_types.specs.{PlainState.{Plain, PlainThread, Printed, Status, value_at, with_thread, plain_goes_on}, PlainSteps.{plain_run, step_of}, Structure.{TopIs, is_element_op}}
+use Rattle.machine_types.specs.{Threads.{Frame, Thread}, Words.{header_length, value_word, variable_word}, declared.effect.Effect.Effect}
+use Rattle.machine_types.specs.declared.{effect.Effect.TheVariants.{Writes, Indexes, Makes, Prints, Returns, Leaves, Waits, Notifies, NotifiesAll, Stuck, Throws}, lock.{Held.Held, Kept.Kept}}
+use Rattle.machine_types.specs.declared.{phase.Phase.Phase, plain.Act.Act}
+use Rattle.laws_threads.proofs.Landing.{stand_top}
+use Rattle.laws_simulation.proofs.{CountedEvents.{first_by, first_step, effect_print, top_print, new_print}, PlainCounts.is_do}
+use Rattle.jvm_types.specs.declared.code.Op.TheVariants as ops
 use Rattle.machine_types.specs.History as history
-use Rattle.machine_types.specs.Instructions.{has_print_left}
-use Rattle.machine_types.specs.Ints.{low, int_of}
-use Rattle.machine_types.specs.LockWords.{word_of_lock}
-use Rattle.machine_types.specs.Monitors.{claim_by}
-use Rattle.machine_types.specs.Onward.{done}
-use Rattle.machine_types.specs.PlainInstructions.{plain_did, indexed_in, plain_instructed, got_by}
-use Rattle.machine_types.specs.PlainLaws.{InstructionsChangeMemory}
-use Rattle.machine_types.specs.PlainState.{Plain, PlainThread, Printed, Status, value_at, with_thread, plain_goes_on}
 use Rattle.machine_types.specs.PlainState as plain
-use Rattle.machine_types.specs.PlainSteps.{plain_run, step_of}
-use Rattle.machine_types.specs.Structure.{TopIs, is_element_op}
-use Rattle.machine_types.specs.Threads.{Frame, Thread}
-use Rattle.machine_types.specs.Words.{header_length, value_word, variable_word}
-use Rattle.machine_types.specs.declared.effect.Effect.{Effect}
-use Rattle.machine_types.specs.declared.effect.Effect.TheVariants.{Writes, Indexes, Makes, Prints, Returns, Leaves, Waits, Notifies, NotifiesAll, Stuck, Throws}
-use Rattle.machine_types.specs.declared.lock.Held.{Held}
-use Rattle.machine_types.specs.declared.lock.Kept.{Kept}
 use Rattle.machine_types.specs.declared.lock.Kept.TheVariants as keeps
 use Rattle.machine_types.specs.declared.lock.LockWord.TheVariants as locks
-use Rattle.machine_types.specs.declared.phase.Phase.{Phase}
 use Rattle.machine_types.specs.declared.phase.Phase.TheVariants as phases
-use Rattle.machine_types.specs.declared.plain.Act.{Act}
 use Rattle.machine_types.specs.declared.plain.Act.TheVariants as acts
-use Rattle.laws_threads.proofs.Landing.{stand_top}
-use Rattle.laws_simulation.proofs.CountedEvents.{first_by, first_step, effect_print, top_print, new_print}
-use Rattle.laws_simulation.proofs.PlainCounts.{is_do}
 
 -- ---- one instruction
 

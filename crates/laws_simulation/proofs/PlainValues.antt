@@ -1,24 +1,13 @@
 -- At each place of an object and of a static field the plain machine has the value that stands in the word.
-use Rattle.std.proofs.Common.{◌≡◌, ℕ, zero, suc, Bool, true, false, cond, List, [], ◌∷◌, filter, map, Some, refl, sym, ap, ◌∙◌, subst, arith}
-use Rattle.std.specs.Prelude.{slice_get, slice_index}
+use Rattle.std.proofs.Common.{◌≡◌, ℕ, zero, suc, Bool, true, false, cond, List, [], ◌∷◌, filter, map, Some, refl, sym, ap, ◌∙◌, subst, arith, slice_get, slice_index}
 use Rattle.lists.proofs.ListLaws.{same_some}
+use Rattle.jvm_types.specs.{Members.is_static, declared.program.{FieldInfo.FieldInfo, Program.Program}}
 use Rattle.checked_program.specs.MarkedProgram.{MarkedProgram, IsMarked}
-use Rattle.jvm_types.specs.Members.{is_static}
-use Rattle.jvm_types.specs.declared.program.FieldInfo.{FieldInfo}
-use Rattle.jvm_types.specs.declared.program.Program.{Program}
-use Rattle.machine_types.specs.Agreement.{IsPending}
-use Rattle.machine_types.specs.Core.{Core}
-use Rattle.machine_types.specs.Ints.{word_of}
-use Rattle.machine_types.specs.PlainMemory.{Object, StaticValue, header_of, start_statics}
-use Rattle.machine_types.specs.PlainState.{Plain, value_at}
-use Rattle.machine_types.specs.Words.{header_word, value_word}
-use Rattle.machine_types.proofs.PlacesAtStart.{statics_in}
-use Rattle.laws_states.specs.HeapFacts.{HeapFacts}
-use Rattle.laws_states.specs.SiteLaws.{SitesDiffer}
-use Rattle.laws_states.specs.Sites.{Site, Counter, OwnerOf, BitsOf, LockOf, HeaderOf, ValueOf, NewHeaderOf, StaticAt, site_word, HasStatic, IsThere}
+use Rattle.machine_types.specs.{Agreement.IsPending, Core.Core, Ints.word_of, PlainMemory.{Object, StaticValue, header_of, start_statics}, PlainState.{Plain, value_at}}
+use Rattle.machine_types.{specs.Words.{header_word, value_word}, proofs.PlacesAtStart.statics_in}
+use Rattle.laws_states.specs.{HeapFacts.HeapFacts, SiteLaws.SitesDiffer, Sites.{Site, Counter, OwnerOf, BitsOf, LockOf, HeaderOf, ValueOf, NewHeaderOf, StaticAt, site_word, HasStatic, IsThere}}
 use Rattle.laws_states.proofs.Lists.{contained_got}
-use Rattle.laws_simulation.specs.StandsBeside.{StandsBeside}
-use Rattle.laws_simulation.proofs.PlainPlaces.{got_some, value_in_object, value_of_object, value_of_header, value_of_static}
+use Rattle.laws_simulation.{specs.StandsBeside.StandsBeside, proofs.PlainPlaces.{got_some, value_in_object, value_of_object, value_of_header, value_of_static}}
 
 -- ---- static fields of the program
 

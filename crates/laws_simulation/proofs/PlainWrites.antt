@@ -1,22 +1,13 @@
 -- What stands at the places of the plain machine when one is written, and that its objects and static fields still lie apart.
-use Rattle.std.proofs.Common.{◌≡◌, ◌≢◌, ◌⊎◌, inl, inr, ℕ, zero, suc, ◌+◌, ◌-◌, ◌<◌, ◌≤◌, Bool, true, false, List, [], ◌∷◌, length, Option, Some, None, refl, ap, sym, subst, ◌∙◌, arith}
-use Rattle.std.specs.Prelude.{◌==◌, ◌&&◌, nat_le, nat_lt, slice_get, slice_set, if◌then◌else◌}
-use Rattle.std.specs.Option.{option_or}
-use Rattle.std.proofs.lemmas.Bool.Decides.{nat_tests}
-use Rattle.std.proofs.lemmas.List.{length-set}
+use Rattle.std.proofs.Common.{◌≡◌, ◌≢◌, ◌⊎◌, inl, inr, ℕ, zero, suc, ◌+◌, ◌-◌, ◌<◌, ◌≤◌, Bool, true, false, List, [], ◌∷◌, length, Option, Some, None, refl, ap, sym, subst, ◌∙◌, arith, ◌==◌, ◌&&◌, nat_le, nat_lt, slice_get, slice_set, if◌then◌else◌}
+use Rattle.std.{specs.Option.option_or, proofs.lemmas.{Bool.Decides.nat_tests, List.length-set}}
 use Rattle.lists.proofs.ListLaws.{same_some}
-use Rattle.jvm_types.specs.ProgramInvariant.{instances_among}
-use Rattle.jvm_types.specs.declared.class_numbers.TheConstants.{INT_ARRAY_CLASS}
-use Rattle.jvm_types.specs.declared.fixed_words.TheConstants.{FIRST_READY_WORD}
-use Rattle.jvm_types.specs.declared.program.Program.{Program}
-use Rattle.machine_types.specs.Facts.{ArePlainObjects}
-use Rattle.machine_types.specs.ObjectsApart.{IsBeside, IsOutside, LieApart}
-use Rattle.machine_types.specs.Owners.{references_of}
+use Rattle.jvm_types.specs.{ProgramInvariant.instances_among, declared.{class_numbers.TheConstants.INT_ARRAY_CLASS, fixed_words.TheConstants.FIRST_READY_WORD, program.Program.Program}}
+use Rattle.machine_types.specs.{Facts.ArePlainObjects, ObjectsApart.{IsBeside, IsOutside, LieApart}, Owners.references_of}
 use Rattle.machine_types.specs.PlainMemory.{Object, StaticValue, header_of, first_value, object_end, has_value, value_in, object_value, object_write, static_value, static_write}
-use Rattle.machine_types.specs.PlainState.{Plain, value_at, written}
-use Rattle.machine_types.specs.Words.{header, header_word, value_word}
-use Rattle.laws_states.proofs.Lists.{contained_got}
+use Rattle.machine_types.specs.{PlainState.{Plain, value_at, written}, Words.{header, header_word, value_word}}
 use Rattle.laws_threads.proofs.MonitorMoves.{contains_got}
+use Rattle.laws_states.proofs.Lists.{contained_got}
 
 -- ---- objects of one shape: they differ in their values alone
 

@@ -1,26 +1,11 @@
 -- A print raises the next ticket, and no place, no other counter and no waiting bit.
-use Rattle.std.proofs.Common.{◌≡◌, ℕ, ◌+◌, ◌≤◌, Bool, true, false, cond, List, [], ◌∷◌, ◌++◌, length, refl, ap, ◌∙◌, arith}
-use Rattle.std.specs.Prelude.{slice_index, slice_set}
-use Rattle.std.proofs.lemmas.List.{length-append}
-use Rattle.jvm_types.specs.Numbers.{has_number}
-use Rattle.jvm_types.specs.declared.fixed_words.TheConstants.{FIRST_READY_WORD, NEXT_FREE_WORD, NEXT_TICKET_WORD}
+use Rattle.std.proofs.{Common.{◌≡◌, ℕ, ◌+◌, ◌≤◌, Bool, true, false, cond, List, [], ◌∷◌, ◌++◌, length, refl, ap, ◌∙◌, arith, slice_index, slice_set}, lemmas.List.length-append}
+use Rattle.jvm_types.specs.{Numbers.has_number, declared.fixed_words.TheConstants.{FIRST_READY_WORD, NEXT_FREE_WORD, NEXT_TICKET_WORD}}
 use Rattle.checked_program.specs.MarkedProgram.{MarkedProgram, IsMarked}
-use Rattle.machine_types.specs.Core.{Core}
-use Rattle.machine_types.specs.LockWords.{lock_of}
-use Rattle.machine_types.specs.Owners.{lock_at, references_of}
-use Rattle.machine_types.specs.PlainMemory.{Object}
-use Rattle.machine_types.specs.PlainState.{Plain, Printed}
-use Rattle.machine_types.specs.Words.{bits_word}
+use Rattle.machine_types.specs.{Core.Core, LockWords.lock_of, Owners.{lock_at, references_of}, PlainMemory.Object, PlainState.{Plain, Printed}, Words.bits_word}
+use Rattle.laws_states.{specs.{HeapFacts.HeapFacts, SiteLaws.SitesLieInside, Sites.{Counter, HasObject}}, proofs.{Lists.{contained_got, set_here, set_there}, WordViews.has_object}}
+use Rattle.laws_simulation.{specs.StandsBeside.StandsBeside, proofs.{EventSteps.WordsFit, PlainPlaces.place_low, WaitBits.same_bit}}
 use Rattle.machine_types.specs.declared.lock.LockWord.TheVariants as locks
-use Rattle.laws_states.specs.HeapFacts.{HeapFacts}
-use Rattle.laws_states.specs.SiteLaws.{SitesLieInside}
-use Rattle.laws_states.specs.Sites.{Counter, HasObject}
-use Rattle.laws_states.proofs.Lists.{contained_got, set_here, set_there}
-use Rattle.laws_states.proofs.WordViews.{has_object}
-use Rattle.laws_simulation.specs.StandsBeside.{StandsBeside}
-use Rattle.laws_simulation.proofs.EventSteps.{WordsFit}
-use Rattle.laws_simulation.proofs.PlainPlaces.{place_low}
-use Rattle.laws_simulation.proofs.WaitBits.{same_bit}
 
 module _ (c : MarkedProgram) (objects : List Object) (s : Core) (q : Plain) (beside : StandsBeside c.program objects s q) (value : ℕ) where
   same_lock : (m : ℕ) → lock_at (references_of q.objects) (slice_set s.words NEXT_TICKET_WORD value) m ≡ lock_at (references_of q.objects) s.words m

@@ -1,9 +1,6 @@
 -- The roots of a part are methods of the program.
-use Rattle.std.proofs.Common.{◌≡◌, ℕ, true, Some}
-use Rattle.std.specs.Prelude.{slice_get}
-use Rattle.jvm_types.specs.Numbers.{has_number}
-use Rattle.jvm_types.specs.declared.program.MethodInfo.{MethodInfo}
-use Rattle.jvm_types.specs.declared.program.Program.{Program}
+use Rattle.std.proofs.Common.{◌≡◌, ℕ, true, Some, slice_get}
+use Rattle.jvm_types.specs.{Numbers.has_number, declared.program.{MethodInfo.MethodInfo, Program.Program}}
 use Rattle.machine_types.specs.Bounds.{part_roots}
 use Rattle.laws_threads.proofs.KeptRoots.{roots_within, there}
 

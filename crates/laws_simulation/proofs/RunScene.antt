@@ -1,42 +1,19 @@
 -- An instruction of a thread that is in no attempt: what it may do, and the step of its plain thread.
 use Rattle.std.proofs.Common.{◌≡◌, ℕ, List, [], ◌∷◌, Option, Some, refl, sym, ap, subst, ◌∙◌}
 use Rattle.lists.proofs.ListLaws.{same_some}
-use Rattle.jvm_types.specs.declared.code.Insn.{Insn}
-use Rattle.jvm_types.specs.declared.op_row.OpRow.{OpRow}
+use Rattle.jvm_types.specs.declared.{code.Insn.Insn, op_row.OpRow.OpRow, program.{MethodInfo.MethodInfo, Target.Target}}
+use Rattle.checked_program.specs.{MarkedProgram.MarkedProgram, TaggedCode.row_of}
+use Rattle.machine_types.specs.{Agreement.{StatusFits, frames_shown, has_wait_bit}, Core.Core, Events.{wanted, moved}, Frames.{Top, top_of, effect_at}}
+use Rattle.machine_types.specs.{History.{instruction_acts, run_acts, acts_of, steps_of}, Instructions.{effect_wants, run_wants, begun, instructed, ran}, Owners.references_of}
+use Rattle.machine_types.specs.{PlainInstructions.instructed_by, PlainMemory.Object, PlainState.Plain, PlainSteps.{step_at, plain_run}, Threads.{Frame, Thread}}
+use Rattle.machine_types.specs.{Typed.{FramesHold, HasClass, PhaseHolds}, Waiting.MayWait, declared.{config.Config.Config, effect.Effect.Effect, phase.Phase.Phase}}
+use Rattle.laws_threads.{specs.Allowed.Allowed, proofs.{Landing.stand_top, Standings.top_here, TopEffects.allowed_here}}
+use Rattle.laws_states.proofs.Accesses.{out_there}
+use Rattle.laws_simulation.proofs.{Assembled.one_step, GoingOnAlike.{IsAwake, IsUnderWay}, OwnThread.{IsBusy, Own, own, under_way}, Scene.{Scene, awake, counts_as}}
 use Rattle.jvm_types.specs.declared.outcome.End.TheVariants as ends
-use Rattle.jvm_types.specs.declared.program.MethodInfo.{MethodInfo}
-use Rattle.jvm_types.specs.declared.program.Target.{Target}
-use Rattle.checked_program.specs.MarkedProgram.{MarkedProgram}
-use Rattle.checked_program.specs.TaggedCode.{row_of}
-use Rattle.machine_types.specs.Agreement.{StatusFits, frames_shown, has_wait_bit}
-use Rattle.machine_types.specs.Core.{Core}
-use Rattle.machine_types.specs.Events.{wanted, moved}
-use Rattle.machine_types.specs.Frames.{Top, top_of, effect_at}
-use Rattle.machine_types.specs.History.{instruction_acts, run_acts, acts_of, steps_of}
-use Rattle.machine_types.specs.Instructions.{effect_wants, run_wants, begun, instructed, ran}
-use Rattle.machine_types.specs.Owners.{references_of}
-use Rattle.machine_types.specs.PlainInstructions.{instructed_by}
 use Rattle.machine_types.specs.PlainInstructions as steps
-use Rattle.machine_types.specs.PlainMemory.{Object}
-use Rattle.machine_types.specs.PlainState.{Plain}
-use Rattle.machine_types.specs.PlainSteps.{step_at, plain_run}
-use Rattle.machine_types.specs.Threads.{Frame, Thread}
-use Rattle.machine_types.specs.Typed.{FramesHold, HasClass, PhaseHolds}
-use Rattle.machine_types.specs.Waiting.{MayWait}
-use Rattle.machine_types.specs.declared.config.Config.{Config}
-use Rattle.machine_types.specs.declared.effect.Effect.{Effect}
-use Rattle.machine_types.specs.declared.phase.Phase.{Phase}
 use Rattle.machine_types.specs.declared.phase.Phase.TheVariants as phases
 use Rattle.machine_types.specs.declared.plain.Act.TheVariants as acts
-use Rattle.laws_threads.specs.Allowed.{Allowed}
-use Rattle.laws_threads.proofs.Landing.{stand_top}
-use Rattle.laws_threads.proofs.Standings.{top_here}
-use Rattle.laws_threads.proofs.TopEffects.{allowed_here}
-use Rattle.laws_states.proofs.Accesses.{out_there}
-use Rattle.laws_simulation.proofs.Assembled.{one_step}
-use Rattle.laws_simulation.proofs.GoingOnAlike.{IsAwake, IsUnderWay}
-use Rattle.laws_simulation.proofs.OwnThread.{IsBusy, Own, own, under_way}
-use Rattle.laws_simulation.proofs.Scene.{Scene, awake, counts_as}
 
 -- ---- what the instruction may do, by the values of its frame
 

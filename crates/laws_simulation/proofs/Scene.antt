@@ -1,46 +1,21 @@
 -- An event of a thread that is in no attempt, and what its state and the plain state share: the thread goes on as its plain
 -- thread does, whatever becomes of the memory.
-use Rattle.std.proofs.Common.{◌≡◌, ◌⊎◌, ℕ, nat_lt, Bool, true, false, List, [], ◌∷◌, length, Option, Some, None, refl, sym, ap, subst, ◌∙◌}
-use Rattle.std.specs.Prelude.{Contains, slice_get, slice_index, slice_set, if◌then◌else◌}
+use Rattle.std.proofs.Common.{◌≡◌, ◌⊎◌, ℕ, nat_lt, Bool, true, false, List, [], ◌∷◌, length, Option, Some, None, refl, sym, ap, subst, ◌∙◌, Contains, slice_get, slice_index, slice_set, if◌then◌else◌}
 use Rattle.std.proofs.lemmas.List.{set-get_or}
-use Rattle.jvm_types.specs.declared.fixed_words.TheConstants.{NEXT_FREE_WORD, NEXT_TICKET_WORD}
-use Rattle.jvm_types.specs.declared.outcome.End.TheVariants as ends
-use Rattle.jvm_types.specs.declared.program.Program.{Program}
+use Rattle.jvm_types.specs.declared.{fixed_words.TheConstants.{NEXT_FREE_WORD, NEXT_TICKET_WORD}, program.Program.Program}
 use Rattle.checked_program.specs.MarkedProgram.{MarkedProgram, IsMarked}
-use Rattle.machine_types.specs.Accesses.{found_by, words_after}
-use Rattle.machine_types.specs.Agreement.{IsPending, has_wait_bit, ThreadFits}
-use Rattle.machine_types.specs.Core.{Core, event, event_of}
-use Rattle.machine_types.specs.Events.{wanted, moved}
-use Rattle.machine_types.specs.Facts.{ArePlainObjects}
-use Rattle.machine_types.specs.Going.{goes_on, root_over}
-use Rattle.machine_types.specs.History.{acts_of, steps_of}
-use Rattle.machine_types.specs.ObjectsApart.{LieApart}
-use Rattle.machine_types.specs.Onward.{Onward, Running, Throwing, Entering, Leaving, RootReturned, Uncaught}
-use Rattle.machine_types.specs.Owners.{lock_at, references_of}
-use Rattle.machine_types.specs.PlainMemory.{Object}
-use Rattle.machine_types.specs.PlainState.{Plain, PlainThread, value_at, with_thread}
-use Rattle.machine_types.specs.PlainState as plain
-use Rattle.machine_types.specs.PlainSteps.{plain_run}
-use Rattle.machine_types.specs.Structure.{IsAs}
-use Rattle.machine_types.specs.Threads.{Attempt, Thread}
-use Rattle.machine_types.specs.Waiting.{MayWait}
-use Rattle.machine_types.specs.declared.access.Access.{Access}
-use Rattle.machine_types.specs.declared.access.Access.TheVariants.{Load}
-use Rattle.machine_types.specs.declared.config.Config.{Config}
-use Rattle.machine_types.specs.declared.lock.LockWord.TheVariants as locks
-use Rattle.machine_types.specs.declared.phase.Phase.{Phase}
-use Rattle.machine_types.specs.declared.phase.Phase.TheVariants as phases
-use Rattle.machine_types.specs.declared.plain.Act.{Act}
-use Rattle.laws_states.specs.HeapFacts.{objects_by, objects_of}
-use Rattle.laws_states.specs.SiteLaws.{SitesDiffer, SitesLieInside}
-use Rattle.laws_states.specs.StateFacts.{StateFacts}
-use Rattle.laws_simulation.specs.StandsBeside.{StandsBeside, IsAmong, IsBeingMade, IsPlainNew}
-use Rattle.laws_simulation.specs.StepsBeside.{StepsBeside}
-use Rattle.laws_simulation.proofs.AssembledObjects.{MakesNone, assembled}
-use Rattle.laws_simulation.proofs.GoingOnAlike.{IsAwake, IsUnderWay, OwnFits, going_alike}
-use Rattle.laws_simulation.proofs.WaitBits.{same_lock}
-use Rattle.laws_simulation.proofs.WaitersHaveBits.{bit_in}
+use Rattle.machine_types.specs.{Accesses.{found_by, words_after}, Agreement.{IsPending, has_wait_bit, ThreadFits}, Core.{Core, event, event_of}, Events.{wanted, moved}, Facts.ArePlainObjects}
+use Rattle.machine_types.specs.{Going.{goes_on, root_over}, History.{acts_of, steps_of}, ObjectsApart.LieApart, Onward.{Onward, Running, Throwing, Entering, Leaving, RootReturned, Uncaught}}
+use Rattle.machine_types.specs.{Owners.{lock_at, references_of}, PlainMemory.Object, PlainState.{Plain, PlainThread, value_at, with_thread}, PlainSteps.plain_run, Structure.IsAs}
+use Rattle.machine_types.specs.{Threads.{Attempt, Thread}, Waiting.MayWait, declared.{access.Access.{Access, TheVariants.Load}, config.Config.Config, phase.Phase.Phase, plain.Act.Act}}
 use Rattle.laws_threads.proofs.ThreadMove.{same_onward}
+use Rattle.laws_states.specs.{HeapFacts.{objects_by, objects_of}, SiteLaws.{SitesDiffer, SitesLieInside}, StateFacts.StateFacts}
+use Rattle.laws_simulation.{specs.{StandsBeside.{StandsBeside, IsAmong, IsBeingMade, IsPlainNew}, StepsBeside.StepsBeside}, proofs.AssembledObjects.{MakesNone, assembled}}
+use Rattle.laws_simulation.proofs.{GoingOnAlike.{IsAwake, IsUnderWay, OwnFits, going_alike}, WaitBits.same_lock, WaitersHaveBits.bit_in}
+use Rattle.jvm_types.specs.declared.outcome.End.TheVariants as ends
+use Rattle.machine_types.specs.PlainState as plain
+use Rattle.machine_types.specs.declared.lock.LockWord.TheVariants as locks
+use Rattle.machine_types.specs.declared.phase.Phase.TheVariants as phases
 
 pub record Scene (c : MarkedProgram) (cfg : Config) (objects : List Object) (was : ℕ → Phase) (s : Core) (t : ℕ) (x : Thread) (q : Plain) : Type 0 where
   pub differ : SitesDiffer

@@ -1,27 +1,16 @@
 -- Who has a bit set in the record of a monitor that another thread owns: a thread that waits on that monitor. When its bit is
 -- cleared it is woken.
-use Rattle.std.proofs.Common.{◌≡◌, ◌≢◌, inr, ℕ, ◌+◌, Bool, true, false, cond, List, Option, Some, None, refl, sym, ap, ◌∙◌, subst, arith}
-use Rattle.std.specs.Prelude.{slice_get}
+use Rattle.std.proofs.Common.{◌≡◌, ◌≢◌, inr, ℕ, ◌+◌, Bool, true, false, cond, List, Option, Some, None, refl, sym, ap, ◌∙◌, subst, arith, slice_get}
 use Rattle.jvm_types.specs.declared.outcome.End.{End}
-use Rattle.jvm_types.specs.declared.outcome.End.TheVariants as ends
 use Rattle.checked_program.specs.MarkedProgram.{MarkedProgram}
-use Rattle.machine_types.specs.Agreement.{has_wait_bit, waiting_status, StatusFits, EndingFits, OutsideFits, ThreadFits}
-use Rattle.machine_types.specs.Core.{Core}
-use Rattle.machine_types.specs.Owners.{Knows, lock_at, locks_in, owner_at, references_of}
-use Rattle.machine_types.specs.PlainMemory.{Object}
-use Rattle.machine_types.specs.PlainState.{Status, Plain, PlainThread}
+use Rattle.machine_types.specs.{Agreement.{has_wait_bit, waiting_status, StatusFits, EndingFits, OutsideFits, ThreadFits}, Core.Core, Owners.{Knows, lock_at, locks_in, owner_at, references_of}}
+use Rattle.machine_types.specs.{PlainMemory.Object, PlainState.{Status, Plain, PlainThread}, PlainSteps.{woken, wakes}, Structure.{IsAs, IsLimitAt, AttemptStandsIn, Stands}, Threads.{Attempt, Thread}}
+use Rattle.machine_types.{specs.{Waiting.{MayWait, is_bit_set}, declared.{config.Config.Config, phase.Phase.Phase}}, proofs.PlainStepLaws.is_same}
+use Rattle.laws_simulation.proofs.{Moments.Moment, Moved.{HasFat, fat_one, owning, bit_now}}
+use Rattle.jvm_types.specs.declared.outcome.End.TheVariants as ends
 use Rattle.machine_types.specs.PlainState as plain
-use Rattle.machine_types.specs.PlainSteps.{woken, wakes}
-use Rattle.machine_types.specs.Structure.{IsAs, IsLimitAt, AttemptStandsIn, Stands}
-use Rattle.machine_types.specs.Threads.{Attempt, Thread}
-use Rattle.machine_types.specs.Waiting.{MayWait, is_bit_set}
-use Rattle.machine_types.specs.declared.config.Config.{Config}
 use Rattle.machine_types.specs.declared.lock.LockWord.TheVariants as locks
-use Rattle.machine_types.specs.declared.phase.Phase.{Phase}
 use Rattle.machine_types.specs.declared.phase.Phase.TheVariants as phases
-use Rattle.laws_simulation.proofs.Moments.{Moment}
-use Rattle.laws_simulation.proofs.Moved.{HasFat, fat_one, owning, bit_now}
-use Rattle.machine_types.proofs.PlainStepLaws.{is_same}
 
 -- ---- a thread that waits on a monitor, or whose turns ran out as it waited
 

@@ -1,50 +1,21 @@
 -- The event that begins a root: in the plain machine its part is due.
-use Rattle.std.proofs.Common.{◌≡◌, ◌≢◌, ◌⊎◌, inl, inr, ℕ, zero, suc, nat_lt, ◌≤◌, Bool, true, false, List, [], ◌∷◌, Option, Some, None, refl, sym, ap, subst, ◌∙◌, arith}
-use Rattle.std.specs.Prelude.{slice_get, slice_set, option_map, ◌&&◌, drop, if◌then◌else◌, IsTrue}
+use Rattle.std.proofs.Common.{◌≡◌, ◌≢◌, ◌⊎◌, inl, inr, ℕ, zero, suc, nat_lt, ◌≤◌, Bool, true, false, List, [], ◌∷◌, Option, Some, None, refl, sym, ap, subst, ◌∙◌, arith, slice_get, slice_set, option_map, ◌&&◌, drop, if◌then◌else◌, IsTrue}
 use Rattle.std.specs.List.{list_all, AllByRecursion}
-use Rattle.jvm_types.specs.declared.outcome.End.{End}
-use Rattle.jvm_types.specs.declared.outcome.End.TheVariants as ends
-use Rattle.jvm_types.specs.declared.program.MethodInfo.{MethodInfo}
-use Rattle.jvm_types.specs.declared.program.Program.{Program}
+use Rattle.jvm_types.specs.{Numbers.has_number, declared.{outcome.{End.End, Thrown.TheVariants.StackOverflowError}, program.{MethodInfo.MethodInfo, Program.Program}}}
 use Rattle.checked_program.specs.MarkedProgram.{MarkedProgram}
-use Rattle.machine_types.specs.Agreement.{has_wait_bit, roots_shown, start_status}
-use Rattle.machine_types.specs.Core.{Core, event, event_of}
-use Rattle.machine_types.specs.Events.{thread_started, wanted, moved}
-use Rattle.machine_types.specs.Frames.{entry_frame, has_room}
-use Rattle.machine_types.specs.Going.{goes_on, goes_on_if}
-use Rattle.machine_types.specs.Accesses.{found_by}
-use Rattle.machine_types.specs.declared.access.Access.{Access}
-use Rattle.machine_types.specs.Bounds.{FramesFit, part_roots}
-use Rattle.jvm_types.specs.Numbers.{has_number}
-use Rattle.jvm_types.specs.declared.outcome.Thrown.TheVariants.{StackOverflowError}
-use Rattle.machine_types.specs.History.{acts_of}
-use Rattle.machine_types.specs.Onward.{Onward, Running, Uncaught, root_arguments, rooted}
-use Rattle.machine_types.specs.Owners.{references_of}
-use Rattle.machine_types.specs.Parts.{done_roots}
-use Rattle.machine_types.specs.PlainMemory.{Object}
-use Rattle.machine_types.specs.PlainState.{Plain, PlainThread, with_thread}
+use Rattle.machine_types.specs.{Accesses.found_by, Agreement.{has_wait_bit, roots_shown, start_status}, Bounds.{FramesFit, part_roots}, Core.{Core, event, event_of}}
+use Rattle.machine_types.specs.{Events.{thread_started, wanted, moved}, Frames.{entry_frame, has_room}, Going.{goes_on, goes_on_if}, History.acts_of}
+use Rattle.machine_types.specs.{Onward.{Onward, Running, Uncaught, root_arguments, rooted}, Owners.references_of, Parts.done_roots, PlainMemory.Object, PlainState.{Plain, PlainThread, with_thread}}
+use Rattle.machine_types.specs.{PlainSteps.{init_has_returned, is_over, is_due, plain_begins, plain_begun, may_do_done}, Threads.{Frame, Thread}, Waiting.MayWait, declared.access.Access.Access}
+use Rattle.machine_types.{specs.declared.{config.Config.Config, phase.Phase.Phase}, proofs.Lists.got_when_set}
+use Rattle.laws_states.{specs.{HeapFacts.objects_by, PartsLaws.EventsKeepParts, PartsStand.DoneRoots}, proofs.Lists.same_or_not}
+use Rattle.laws_simulation.{specs.{StandsBeside.{ends_shown, end_of_done}, StepsBeside.StepsBeside}, proofs.{Assembled.one_step, GoingOnAlike.{PartRuns, ends_before}, MemoryParts.stays}}
+use Rattle.laws_simulation.proofs.{PartsDue.{rests_between, idle_workers, first_there, workers_over, init_returned}, RootNumbers.root_there, RunScene.{twin, status_fits}}
+use Rattle.laws_simulation.proofs.Scene.{Scene, GoesOn, awake, counts_as, part_on, going, none_on, comes_beside, steps_of_event}
+use Rattle.jvm_types.specs.declared.outcome.End.TheVariants as ends
 use Rattle.machine_types.specs.PlainState as plain
-use Rattle.machine_types.specs.PlainSteps.{init_has_returned, is_over, is_due, plain_begins, plain_begun, may_do_done}
-use Rattle.machine_types.specs.Threads.{Frame, Thread}
-use Rattle.machine_types.specs.Waiting.{MayWait}
-use Rattle.machine_types.specs.declared.config.Config.{Config}
-use Rattle.machine_types.specs.declared.phase.Phase.{Phase}
 use Rattle.machine_types.specs.declared.phase.Phase.TheVariants as phases
 use Rattle.machine_types.specs.declared.plain.Act.TheVariants as acts
-use Rattle.laws_states.specs.HeapFacts.{objects_by}
-use Rattle.laws_states.proofs.Lists.{same_or_not}
-use Rattle.laws_states.specs.PartsLaws.{EventsKeepParts}
-use Rattle.laws_states.specs.PartsStand.{DoneRoots}
-use Rattle.laws_simulation.specs.StandsBeside.{ends_shown, end_of_done}
-use Rattle.laws_simulation.specs.StepsBeside.{StepsBeside}
-use Rattle.laws_simulation.proofs.Assembled.{one_step}
-use Rattle.laws_simulation.proofs.GoingOnAlike.{PartRuns, ends_before}
-use Rattle.laws_simulation.proofs.Scene.{Scene, GoesOn, awake, counts_as, part_on, going, none_on, comes_beside, steps_of_event}
-use Rattle.laws_simulation.proofs.MemoryParts.{stays}
-use Rattle.laws_simulation.proofs.PartsDue.{rests_between, idle_workers, first_there, workers_over, init_returned}
-use Rattle.laws_simulation.proofs.RootNumbers.{root_there}
-use Rattle.laws_simulation.proofs.RunScene.{twin, status_fits}
-use Rattle.machine_types.proofs.Lists.{got_when_set}
 
 -- ---- how a root goes on: the thread is not to begin another one
 

@@ -1,20 +1,12 @@
 -- The start of a run stands beside the start of the plain machine.
-use Rattle.std.proofs.Common.{◌≡◌, ℕ, zero, suc, ◌+◌, ◌≤◌, List, [], ◌∷◌, Some, refl, sym, subst, inl, arith}
-use Rattle.std.specs.Prelude.{slice_get}
+use Rattle.std.proofs.Common.{◌≡◌, ℕ, zero, suc, ◌+◌, ◌≤◌, List, [], ◌∷◌, Some, refl, sym, subst, inl, arith, slice_get}
 use Rattle.jvm_types.specs.declared.program.Program.{Program}
 use Rattle.checked_program.specs.MarkedProgram.{MarkedProgram}
-use Rattle.machine_types.specs.Core.{start_thread, part_phase}
-use Rattle.machine_types.specs.Parts.{init_roots}
-use Rattle.machine_types.specs.PlainState.{PlainThread, plain_start, first_thread}
+use Rattle.machine_types.specs.{Core.{start_thread, part_phase}, Parts.init_roots, PlainState.{PlainThread, plain_start, first_thread}, StartLaws.{StartAgrees, StartLiesApart}, Threads.Thread}
+use Rattle.machine_types.{specs.declared.config.Config.Config, proofs.{AtStart.{thread_in, is_start_thread}, PlainAtStart.plain_thread}}
+use Rattle.laws_simulation.specs.{StandsBeside.{own_end, ends_shown}, StepsBeside.StartStandsBesidePlain}
 use Rattle.machine_types.specs.PlainState as plain
-use Rattle.machine_types.specs.StartLaws.{StartAgrees, StartLiesApart}
-use Rattle.machine_types.specs.Threads.{Thread}
-use Rattle.machine_types.specs.declared.config.Config.{Config}
 use Rattle.machine_types.specs.declared.phase.Phase.TheVariants as phases
-use Rattle.machine_types.proofs.AtStart.{thread_in, is_start_thread}
-use Rattle.laws_simulation.specs.StandsBeside.{own_end, ends_shown}
-use Rattle.laws_simulation.specs.StepsBeside.{StartStandsBesidePlain}
-use Rattle.machine_types.proofs.PlainAtStart.{plain_thread}
 
 first_ends : (roots : List ℕ) → (first_thread roots).ended ≡ own_end (part_phase roots)
 first_ends [] = refl

@@ -1,28 +1,14 @@
 -- The header of a new object is stored: it is among the objects then, as it was among the plain ones.
-use Rattle.std.proofs.Common.{◌≡◌, ◌≢◌, ◌⊎◌, inl, inr, ℕ, ◌-◌, List, ◌∷◌, length, Some, refl, sym, ap, subst, ◌∙◌, arith}
-use Rattle.std.specs.Prelude.{Contains, slice_get, slice_index, slice_set}
-use Rattle.std.proofs.lemmas.List.{length-replicate}
+use Rattle.std.proofs.{Common.{◌≡◌, ◌≢◌, ◌⊎◌, inl, inr, ℕ, ◌-◌, List, ◌∷◌, length, Some, refl, sym, ap, subst, ◌∙◌, arith, Contains, slice_get, slice_index, slice_set}, lemmas.List.length-replicate}
 use Rattle.lists.proofs.ListLaws.{same_some}
 use Rattle.jvm_types.specs.declared.fixed_words.TheConstants.{NEXT_FREE_WORD, NEXT_TICKET_WORD, OBJECT_HEAD_WORDS}
 use Rattle.checked_program.specs.MarkedProgram.{MarkedProgram}
-use Rattle.machine_types.specs.Agreement.{IsPending}
-use Rattle.machine_types.specs.Core.{Core}
-use Rattle.machine_types.specs.NewObjects.{size_by}
-use Rattle.machine_types.specs.PlainMemory.{Object, new_object}
-use Rattle.machine_types.specs.PlainState.{Plain, value_at}
-use Rattle.machine_types.specs.Threads.{Thread}
-use Rattle.machine_types.specs.Words.{header_word}
-use Rattle.machine_types.specs.declared.config.Config.{Config}
-use Rattle.machine_types.specs.declared.phase.Phase.{Phase}
+use Rattle.machine_types.specs.{Agreement.IsPending, Core.Core, NewObjects.size_by, PlainMemory.{Object, new_object}, PlainState.{Plain, value_at}, Threads.Thread, Words.header_word}
+use Rattle.machine_types.{specs.declared.{config.Config.Config, phase.Phase.Phase}, proofs.Lists.{first_or_more, got_other}}
+use Rattle.laws_states.{specs.Sites.NewHeaderOf, proofs.Lists.{contains_first, contains_more, same_or_not, set_here, set_there}}
+use Rattle.laws_simulation.{specs.StandsBeside.{IsAmong, IsBeingMade, IsPlainNew}, proofs.{AssembledObjects.{MakesNone, made_by_others}, MemoryParts.{place_bits, place_counter}}}
+use Rattle.laws_simulation.proofs.{PlainPlaces.value_of_header, Scene.{Scene, Memory}}
 use Rattle.machine_types.specs.declared.phase.Phase.TheVariants as phases
-use Rattle.laws_states.specs.Sites.{NewHeaderOf}
-use Rattle.laws_states.proofs.Lists.{contains_first, contains_more, same_or_not, set_here, set_there}
-use Rattle.laws_simulation.specs.StandsBeside.{IsAmong, IsBeingMade, IsPlainNew}
-use Rattle.laws_simulation.proofs.AssembledObjects.{MakesNone, made_by_others}
-use Rattle.laws_simulation.proofs.PlainPlaces.{value_of_header}
-use Rattle.laws_simulation.proofs.Scene.{Scene, Memory}
-use Rattle.laws_simulation.proofs.MemoryParts.{place_bits, place_counter}
-use Rattle.machine_types.proofs.Lists.{first_or_more, got_other}
 
 made_as : (x y : Thread) (a b word other : ℕ) → x ≡ y → x.phase ≡ phases.Made a word → y.phase ≡ phases.Made b other → a ≡ b
 made_as x y a b word other e h k = same (sym h ∙ (ap (λ (z : Thread). z.phase) e ∙ k))

@@ -1,42 +1,18 @@
 -- The event that goes on with an exception and one frame.
-use Rattle.std.proofs.Common.{◌≡◌, ℕ, Bool, List, [], ◌∷◌, Option, Some, None, refl, sym, ap, subst, ◌∙◌}
-use Rattle.std.specs.Prelude.{option_map}
-use Rattle.jvm_types.specs.CodeTable.{can_throw}
-use Rattle.jvm_types.specs.declared.code.Op.{Op}
-use Rattle.jvm_types.specs.declared.outcome.End.TheVariants as ends
-use Rattle.jvm_types.specs.declared.outcome.Thrown.{Thrown}
+use Rattle.std.proofs.Common.{◌≡◌, ℕ, Bool, List, [], ◌∷◌, Option, Some, None, refl, sym, ap, subst, ◌∙◌, option_map}
+use Rattle.jvm_types.specs.{CodeTable.can_throw, declared.{code.Op.Op, outcome.Thrown.Thrown}}
 use Rattle.checked_program.specs.MarkedProgram.{MarkedProgram, IsMarked}
-use Rattle.machine_types.specs.Agreement.{has_wait_bit}
-use Rattle.machine_types.specs.Core.{Core}
-use Rattle.machine_types.specs.Elision.{looks, if_same}
-use Rattle.machine_types.specs.Events.{wanted, moved}
-use Rattle.machine_types.specs.Frames.{Top, top_of, handler_at}
-use Rattle.machine_types.specs.Going.{goes_on, goes_on_if}
-use Rattle.machine_types.specs.History.{acts_of}
-use Rattle.machine_types.specs.Onward.{Onward, handed, dispatched}
-use Rattle.machine_types.specs.Owners.{references_of}
-use Rattle.machine_types.specs.PlainMemory.{Object}
-use Rattle.machine_types.specs.PlainState.{Plain, PlainThread, with_thread}
+use Rattle.machine_types.specs.{Agreement.has_wait_bit, Core.Core, Elision.{looks, if_same}, Events.{wanted, moved}, Frames.{Top, top_of, handler_at}, Going.{goes_on, goes_on_if}, History.acts_of}
+use Rattle.machine_types.specs.{Onward.{Onward, handed, dispatched}, Owners.references_of, PlainMemory.Object, PlainState.{Plain, PlainThread, with_thread}, PlainSteps.step_at, ReadyObjects.class_of}
+use Rattle.machine_types.specs.{Structure.{TopIs, PhaseShows}, Threads.{Frame, Attempt, Thread}, Waiting.MayWait, declared.{config.Config.Config, phase.Phase.Phase}}
+use Rattle.laws_threads.proofs.{Landing.stand_top, Standings.top_here}
+use Rattle.laws_states.specs.HeapFacts.{objects_by}
+use Rattle.laws_simulation.{specs.StepsBeside.StepsBeside, proofs.{Assembled.one_step, GoingOnAlike.IsAwake, MemoryParts.stays, OwnThread.IsBusy, RunScene.{twin, runs_on, frames_are, status_fits}}}
+use Rattle.laws_simulation.proofs.Scene.{Scene, GoesOn, awake, counts_as, going, none_on, comes_beside, steps_of_event}
+use Rattle.jvm_types.specs.declared.outcome.End.TheVariants as ends
 use Rattle.machine_types.specs.PlainState as plain
-use Rattle.machine_types.specs.PlainSteps.{step_at}
-use Rattle.machine_types.specs.ReadyObjects.{class_of}
-use Rattle.machine_types.specs.Structure.{TopIs, PhaseShows}
-use Rattle.machine_types.specs.Threads.{Frame, Attempt, Thread}
-use Rattle.machine_types.specs.Waiting.{MayWait}
-use Rattle.machine_types.specs.declared.config.Config.{Config}
-use Rattle.machine_types.specs.declared.phase.Phase.{Phase}
 use Rattle.machine_types.specs.declared.phase.Phase.TheVariants as phases
 use Rattle.machine_types.specs.declared.plain.Act.TheVariants as acts
-use Rattle.laws_threads.proofs.Landing.{stand_top}
-use Rattle.laws_threads.proofs.Standings.{top_here}
-use Rattle.laws_states.specs.HeapFacts.{objects_by}
-use Rattle.laws_simulation.specs.StepsBeside.{StepsBeside}
-use Rattle.laws_simulation.proofs.Assembled.{one_step}
-use Rattle.laws_simulation.proofs.GoingOnAlike.{IsAwake}
-use Rattle.laws_simulation.proofs.OwnThread.{IsBusy}
-use Rattle.laws_simulation.proofs.Scene.{Scene, GoesOn, awake, counts_as, going, none_on, comes_beside, steps_of_event}
-use Rattle.laws_simulation.proofs.MemoryParts.{stays}
-use Rattle.laws_simulation.proofs.RunScene.{twin, runs_on, frames_are, status_fits}
 
 -- frames whose top one stands at an instruction
 pub top_found : (c : MarkedProgram) → IsMarked c → (test : Op → Bool) (fs : List Frame) → TopIs c test fs → (at : Top) × (top_of c.program fs ≡ Some at)

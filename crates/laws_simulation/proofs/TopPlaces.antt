@@ -1,38 +1,15 @@
 -- What the instruction of the top frame may do, and that the plain machine has the values of the variables and headers that it
 -- names.
-use Rattle.std.proofs.Common.{◌≡◌, ℕ, ◌<◌, Bool, true, false, List, [], ◌∷◌, length, Some, refl, sym, ◌∙◌, subst, arith}
-use Rattle.std.specs.Prelude.{Contains, slice_index, if◌then◌else◌}
+use Rattle.std.proofs.Common.{◌≡◌, ℕ, ◌<◌, Bool, true, false, List, [], ◌∷◌, length, Some, refl, sym, ◌∙◌, subst, arith, Contains, slice_index, if◌then◌else◌}
 use Rattle.lists.proofs.ListLaws.{same_some}
-use Rattle.jvm_types.specs.Members.{is_static}
-use Rattle.jvm_types.specs.ProgramInvariant.{IsProgram, instances_among}
-use Rattle.jvm_types.specs.declared.op_row.OpRow.{OpRow}
-use Rattle.jvm_types.specs.declared.program.FieldInfo.{FieldInfo}
-use Rattle.jvm_types.specs.declared.program.Program.{Program}
-use Rattle.jvm_types.specs.declared.program.Target.{Target}
-use Rattle.laws_programs.proofs.ClassTreeLaws.{files_alone}
-use Rattle.laws_programs.proofs.FieldOrder.{instances_inside}
-use Rattle.checked_program.specs.MarkedProgram.{MarkedProgram, IsMarked}
-use Rattle.checked_program.specs.TaggedCode.{row_of}
-use Rattle.machine_types.specs.Core.{Core}
-use Rattle.machine_types.specs.Frames.{Top, top_of, effect_at}
-use Rattle.machine_types.specs.PlainMemory.{Object}
-use Rattle.machine_types.specs.PlainState.{Plain, value_at}
-use Rattle.machine_types.specs.Threads.{Frame}
-use Rattle.machine_types.specs.Typed.{FramesHold, HasClass}
-use Rattle.machine_types.specs.Words.{header_word, variable_word}
-use Rattle.machine_types.specs.declared.effect.Variable.{Variable}
-use Rattle.machine_types.specs.declared.effect.Variable.TheVariants.{Instance, Static}
-use Rattle.laws_threads.specs.Allowed.{IsOf, IsNamedField, Allowed}
-use Rattle.laws_threads.proofs.Landing.{stand_top}
-use Rattle.laws_threads.proofs.Standings.{top_here}
-use Rattle.laws_threads.proofs.TopEffects.{allowed_here}
-use Rattle.laws_states.specs.HeapFacts.{HeapFacts}
-use Rattle.laws_states.specs.SiteLaws.{SitesDiffer}
-use Rattle.laws_states.specs.Sites.{Site, HeaderOf, ValueOf, StaticAt, site_word, IsThere}
-use Rattle.laws_states.proofs.Accesses.{out_there}
-use Rattle.laws_states.proofs.Lists.{contained_got}
-use Rattle.laws_simulation.specs.StandsBeside.{StandsBeside}
-use Rattle.laws_simulation.proofs.PlainValues.{IsPlace, value_found}
+use Rattle.jvm_types.specs.{Members.is_static, ProgramInvariant.{IsProgram, instances_among}, declared.{op_row.OpRow.OpRow, program.{FieldInfo.FieldInfo, Program.Program, Target.Target}}}
+use Rattle.laws_programs.proofs.{ClassTreeLaws.files_alone, FieldOrder.instances_inside}
+use Rattle.checked_program.specs.{MarkedProgram.{MarkedProgram, IsMarked}, TaggedCode.row_of}
+use Rattle.machine_types.specs.{Core.Core, Frames.{Top, top_of, effect_at}, PlainMemory.Object, PlainState.{Plain, value_at}, Threads.Frame, Typed.{FramesHold, HasClass}}
+use Rattle.machine_types.specs.{Words.{header_word, variable_word}, declared.effect.Variable.{Variable, TheVariants.{Instance, Static}}}
+use Rattle.laws_threads.{specs.Allowed.{IsOf, IsNamedField, Allowed}, proofs.{Landing.stand_top, Standings.top_here, TopEffects.allowed_here}}
+use Rattle.laws_states.{specs.{HeapFacts.HeapFacts, SiteLaws.SitesDiffer, Sites.{Site, HeaderOf, ValueOf, StaticAt, site_word, IsThere}}, proofs.{Accesses.out_there, Lists.contained_got}}
+use Rattle.laws_simulation.{specs.StandsBeside.StandsBeside, proofs.PlainValues.{IsPlace, value_found}}
 
 -- ---- what the effect may be
 

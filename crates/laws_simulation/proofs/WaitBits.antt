@@ -1,33 +1,16 @@
 -- Whether the bit of a thread is set in the record of a monitor: by the lock words of the objects whose header is stored, and where
 -- a word is written that is no waiting bits.
-use Rattle.std.proofs.Common.{◌≡◌, ◌≢◌, ◌⊎◌, inl, inr, ℕ, ◌+◌, ◌<◌, Bool, true, false, cond, List, Option, refl, sym, ap, ◌∙◌, subst, arith}
-use Rattle.std.specs.Prelude.{Contains, slice_index, slice_set, ◌==◌}
+use Rattle.std.proofs.Common.{◌≡◌, ◌≢◌, ◌⊎◌, inl, inr, ℕ, ◌+◌, ◌<◌, Bool, true, false, cond, List, Option, refl, sym, ap, ◌∙◌, subst, arith, Contains, slice_index, slice_set, ◌==◌}
 use Rattle.std.proofs.lemmas.Bool.Decides.{Decides-eqb}
-use Rattle.jvm_types.specs.Numbers.{has_flag, has_number}
-use Rattle.jvm_types.specs.declared.fixed_words.TheConstants.{MONITOR_RECORDS}
-use Rattle.jvm_types.specs.declared.program.Program.{Program}
+use Rattle.jvm_types.specs.{Numbers.{has_flag, has_number}, declared.{class_numbers.TheConstants.INT_ARRAY_CLASS, fixed_words.TheConstants.MONITOR_RECORDS, program.Program.Program}}
 use Rattle.checked_program.specs.MarkedProgram.{MarkedProgram, IsMarked}
-use Rattle.machine_types.specs.Agreement.{has_wait_bit, ThreadFits}
-use Rattle.machine_types.specs.Core.{Core}
-use Rattle.machine_types.specs.Facts.{ArePlainObjects}
-use Rattle.machine_types.specs.LockWords.{lock_of}
-use Rattle.machine_types.specs.Monitors.{bit_of}
-use Rattle.machine_types.specs.NewObjects.{NewObjects}
-use Rattle.machine_types.specs.Owners.{Locks, lock_at, references_of}
-use Rattle.machine_types.specs.PlainMemory.{Object}
-use Rattle.machine_types.specs.PlainState.{Plain, PlainThread}
-use Rattle.machine_types.specs.Threads.{Attempt, Thread}
-use Rattle.machine_types.specs.Waiting.{is_bit_set}
-use Rattle.machine_types.specs.Words.{header_class, header_length, object_size, array_size, bits_word}
-use Rattle.jvm_types.specs.declared.class_numbers.TheConstants.{INT_ARRAY_CLASS}
-use Rattle.machine_types.specs.declared.lock.LockWord.{LockWord}
-use Rattle.machine_types.specs.declared.lock.LockWord.TheVariants as locks
-use Rattle.laws_states.specs.HeapFacts.{HeapFacts}
-use Rattle.laws_states.specs.SiteLaws.{SitesDiffer, SitesLieInside}
-use Rattle.laws_states.specs.Sites.{Site, BitsOf, LockOf, site_word, HasObject, IsThere}
-use Rattle.laws_states.proofs.Lists.{set_there}
+use Rattle.machine_types.specs.{Agreement.{has_wait_bit, ThreadFits}, Core.Core, Facts.ArePlainObjects, LockWords.lock_of, Monitors.bit_of, NewObjects.NewObjects}
+use Rattle.machine_types.specs.{Owners.{Locks, lock_at, references_of}, PlainMemory.Object, PlainState.{Plain, PlainThread}, Threads.{Attempt, Thread}, Waiting.is_bit_set}
+use Rattle.machine_types.specs.{Words.{header_class, header_length, object_size, array_size, bits_word}, declared.lock.LockWord.LockWord}
+use Rattle.laws_states.{specs.{HeapFacts.HeapFacts, SiteLaws.{SitesDiffer, SitesLieInside}, Sites.{Site, BitsOf, LockOf, site_word, HasObject, IsThere}}, proofs.Lists.set_there}
 use Rattle.laws_states.proofs.WordViews.{object_has, has_object, lock_view}
 use Rattle.laws_simulation.specs.StandsBeside.{IsAmong, IsBeingMade}
+use Rattle.machine_types.specs.declared.lock.LockWord.TheVariants as locks
 
 -- ---- by the lock
 

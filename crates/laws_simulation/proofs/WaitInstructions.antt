@@ -1,50 +1,27 @@
 -- A call of `wait`, `notify` or `notifyAll`: the plain machine does the instruction, and on a flat lock also the notification,
 -- since nobody waits there.
-use Rattle.std.proofs.Common.{◌≡◌, ◌≢◌, ◌⊎◌, inl, inr, ℕ, nat_lt, Bool, false, cond, List, [], ◌∷◌, Option, Some, None, refl, sym, ap, ◌∙◌, subst}
-use Rattle.std.specs.Prelude.{slice_get, slice_set}
-use Rattle.std.proofs.lemmas.List.{set-set}
+use Rattle.std.proofs.{Common.{◌≡◌, ◌≢◌, ◌⊎◌, inl, inr, ℕ, nat_lt, Bool, false, cond, List, [], ◌∷◌, Option, Some, None, refl, sym, ap, ◌∙◌, subst, slice_get, slice_set}, lemmas.List.set-set}
 use Rattle.jvm_types.specs.declared.outcome.Thrown.TheVariants.{IllegalMonitorStateException}
 use Rattle.checked_program.specs.MarkedProgram.{MarkedProgram}
-use Rattle.machine_types.specs.Accesses.{found_by, words_after}
-use Rattle.machine_types.specs.Agreement.{has_wait_bit, StatusFits, OutsideFits, frames_shown, roots_shown}
-use Rattle.machine_types.specs.Core.{Core}
-use Rattle.machine_types.specs.declared.effect.Effect.{Effect}
-use Rattle.machine_types.specs.declared.effect.Effect.TheVariants.{Waits, Notifies, NotifiesAll}
-use Rattle.machine_types.specs.Events.{wanted}
-use Rattle.machine_types.specs.Frames.{Top, top_of, effect_at, went_on}
-use Rattle.machine_types.specs.Going.{with_phase, runs, goes_on}
-use Rattle.machine_types.specs.HeldMonitors.{held_at}
-use Rattle.machine_types.specs.History.{run_acts, instruction_acts, notified_by, notify_acts, steps_of}
-use Rattle.machine_types.specs.Instructions.{begun, effect_wants, run_wants, ran, instructed, if_held, waits, notifies}
-use Rattle.machine_types.specs.Onward.{threw}
-use Rattle.machine_types.specs.Owners.{lock_at, references_of, owner_at, hold_by_word, hold_by_list, hold_by_kept, HeldFlat}
-use Rattle.machine_types.specs.PlainInstructions.{plain_leaving, instructed_by}
+use Rattle.machine_types.specs.{Accesses.{found_by, words_after}, Agreement.{has_wait_bit, StatusFits, OutsideFits, frames_shown, roots_shown}, Core.Core, Events.wanted}
+use Rattle.machine_types.specs.{Frames.{Top, top_of, effect_at, went_on}, Going.{with_phase, runs, goes_on}, HeldMonitors.held_at}
+use Rattle.machine_types.specs.{History.{run_acts, instruction_acts, notified_by, notify_acts, steps_of}, Instructions.{begun, effect_wants, run_wants, ran, instructed, if_held, waits, notifies}}
+use Rattle.machine_types.specs.{Onward.threw, Owners.{lock_at, references_of, owner_at, hold_by_word, hold_by_list, hold_by_kept, HeldFlat}, PlainInstructions.{plain_leaving, instructed_by}}
+use Rattle.machine_types.specs.{PlainMemory.Object, PlainState.{Status, Plain, PlainThread, with_thread}, PlainSteps.{step_at, plain_run}, Threads.Thread, declared.config.Config.Config}
+use Rattle.machine_types.specs.declared.{effect.Effect.{Effect, TheVariants.{Waits, Notifies, NotifiesAll}}, lock.{Held.Held, Kept.Kept}, phase.Phase.Phase, plain.Act.Act}
+use Rattle.machine_types.proofs.Lists.{got_when_set, got_other}
+use Rattle.laws_states.proofs.{Lists.same_or_not, LockViews.thin_if_flat}
+use Rattle.laws_simulation.{specs.{StandsBeside.{StandsBeside, own_end, ends_shown}, StepsBeside.{StepsBeside, IsOfWaiting, WaitingSteps}}, proofs.Assembled.got_same_length}
+use Rattle.laws_simulation.proofs.HoldingsAlike.{alike_kept, is_holder_then, no_holder_then}
+use Rattle.laws_simulation.proofs.Moments.{Moment, same_words, first_step, own_status, own_frames, own_roots, own_ends, own_as, lock_same, holdings_alike, stepped}
+use Rattle.laws_simulation.proofs.{Moved.{ends_alike, run_end, run_made, runs_outside, own_off, alone_beside}, WaitersHaveBits.{NobodyWaits, nobody_on_thin, none_waits, none_woken}}
 use Rattle.machine_types.specs.PlainInstructions as plainly
-use Rattle.machine_types.specs.PlainMemory.{Object}
-use Rattle.machine_types.specs.PlainState.{Status, Plain, PlainThread, with_thread}
 use Rattle.machine_types.specs.PlainState as plain
-use Rattle.machine_types.specs.PlainSteps.{step_at, plain_run}
-use Rattle.machine_types.specs.Threads.{Thread}
-use Rattle.machine_types.specs.declared.config.Config.{Config}
-use Rattle.machine_types.specs.declared.lock.Held.{Held}
-use Rattle.machine_types.specs.declared.lock.Kept.{Kept}
 use Rattle.machine_types.specs.declared.lock.Kept.TheVariants as keeps
 use Rattle.machine_types.specs.declared.lock.LockWord.TheVariants as locks
-use Rattle.machine_types.specs.declared.phase.Phase.{Phase}
 use Rattle.machine_types.specs.declared.phase.Phase.TheVariants as phases
 use Rattle.machine_types.specs.declared.phase.Toward.TheVariants as towards
-use Rattle.machine_types.specs.declared.plain.Act.{Act}
 use Rattle.machine_types.specs.declared.plain.Act.TheVariants as acts
-use Rattle.laws_states.proofs.Lists.{same_or_not}
-use Rattle.laws_states.proofs.LockViews.{thin_if_flat}
-use Rattle.laws_simulation.proofs.Assembled.{got_same_length}
-use Rattle.laws_simulation.specs.StandsBeside.{StandsBeside, own_end, ends_shown}
-use Rattle.laws_simulation.specs.StepsBeside.{StepsBeside, IsOfWaiting, WaitingSteps}
-use Rattle.laws_simulation.proofs.HoldingsAlike.{alike_kept, is_holder_then, no_holder_then}
-use Rattle.laws_simulation.proofs.WaitersHaveBits.{NobodyWaits, nobody_on_thin, none_waits, none_woken}
-use Rattle.laws_simulation.proofs.Moments.{Moment, same_words, first_step, own_status, own_frames, own_roots, own_ends, own_as, lock_same, holdings_alike, stepped}
-use Rattle.laws_simulation.proofs.Moved.{ends_alike, run_end, run_made, runs_outside, own_off, alone_beside}
-use Rattle.machine_types.proofs.Lists.{got_when_set, got_other}
 
 module _ {c : MarkedProgram} {cfg : Config} {objects : List Object} {was : ℕ → Phase} {s : Core} {t : ℕ} {x : Thread} {q : Plain} {y : PlainThread} (k : Moment c cfg objects was s t x q phases.Run y) (at : Top) (found : top_of c.program x.frames ≡ Some at) where
   -- ---- by what the instruction is

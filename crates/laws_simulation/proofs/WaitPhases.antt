@@ -1,16 +1,10 @@
 -- Each phase of waiting, notifying and ending stands for its steps of the plain machine.
-use Rattle.std.proofs.Common.{◌≡◌, Some, refl}
-use Rattle.std.specs.Prelude.{slice_get}
-use Rattle.machine_types.specs.PlainState.{PlainThread}
-use Rattle.machine_types.specs.declared.phase.Phase.{Phase}
-use Rattle.machine_types.specs.declared.phase.Phase.TheVariants as phases
+use Rattle.std.proofs.Common.{◌≡◌, Some, refl, slice_get}
+use Rattle.machine_types.specs.{PlainState.PlainThread, declared.phase.Phase.Phase}
 use Rattle.laws_states.specs.SiteLaws.{SitesLieInside}
-use Rattle.laws_simulation.proofs.Assembled.{got_same_length}
-use Rattle.laws_simulation.specs.StepsBeside.{StepsBeside, WaitsPhase, WaitPhaseSteps}
-use Rattle.laws_simulation.proofs.Moments.{Moment}
-use Rattle.laws_simulation.proofs.EndedThreads.{idle_stays, ended_stays, ending_ends}
-use Rattle.laws_simulation.proofs.Waiters.{bit_set, given_up, looked, took_back}
-use Rattle.laws_simulation.proofs.Notifiers.{looked_for, woke_one, woke_all}
+use Rattle.laws_simulation.{specs.StepsBeside.{StepsBeside, WaitsPhase, WaitPhaseSteps}, proofs.{Assembled.got_same_length, EndedThreads.{idle_stays, ended_stays, ending_ends}, Moments.Moment}}
+use Rattle.laws_simulation.proofs.{Notifiers.{looked_for, woke_one, woke_all}, Waiters.{bit_set, given_up, looked, took_back}}
+use Rattle.machine_types.specs.declared.phase.Phase.TheVariants as phases
 
 pub wait_phase_steps : SitesLieInside → WaitPhaseSteps
 wait_phase_steps inside c cfg objects was s t x q marked width facts beside got free kind = by_phase x.phase refl kind

@@ -1,45 +1,24 @@
 -- A thread that waits: it sets its bit, gives the monitor up, looks at its bit, and takes the monitor back.
-use Rattle.std.proofs.Common.{◌≡◌, ◌≢◌, inr, ℕ, ◌+◌, nat_lt, Bool, true, false, cond, List, [], ◌∷◌, Some, None, refl, sym, ap, ◌∙◌, arith}
-use Rattle.std.specs.Prelude.{slice_get, slice_index, slice_set, ◌==◌, bit_or, if◌then◌else◌}
-use Rattle.std.proofs.lemmas.Bool.Decides.{nat_tests}
-use Rattle.std.proofs.lemmas.Bool.{ne_eqb}
-use Rattle.jvm_types.specs.Numbers.{has_flag}
-use Rattle.jvm_types.specs.declared.fixed_words.TheConstants.{MONITOR_RECORDS}
-use Rattle.jvm_types.specs.declared.outcome.End.TheVariants as ends
+use Rattle.std.proofs.Common.{◌≡◌, ◌≢◌, inr, ℕ, ◌+◌, nat_lt, Bool, true, false, cond, List, [], ◌∷◌, Some, None, refl, sym, ap, ◌∙◌, arith, slice_get, slice_index, slice_set, ◌==◌, bit_or, if◌then◌else◌}
+use Rattle.std.proofs.lemmas.Bool.{ne_eqb, Decides.nat_tests}
+use Rattle.jvm_types.specs.{Numbers.has_flag, declared.fixed_words.TheConstants.MONITOR_RECORDS}
 use Rattle.checked_program.specs.MarkedProgram.{MarkedProgram, IsMarked}
-use Rattle.machine_types.specs.Agreement.{has_wait_bit, waiting_status, depth_for}
-use Rattle.machine_types.specs.Core.{Core}
-use Rattle.machine_types.specs.Going.{with_phase, failed_turn}
-use Rattle.machine_types.specs.HeldMonitors.{held_at, with_held, without_held}
-use Rattle.machine_types.specs.History.{act_if}
-use Rattle.machine_types.specs.Monitors.{bit_of, goes_to_wait, retakes}
-use Rattle.machine_types.specs.Owners.{lock_at, owner_at, references_of, hold_by_list, hold_by_word, NotHeld, HeldFat}
-use Rattle.machine_types.specs.PlainMemory.{Object}
-use Rattle.machine_types.specs.PlainState.{Plain, PlainThread, Holding, holding_at, with_holding, without_holding, let_go, with_thread, with_status}
-use Rattle.machine_types.specs.PlainState as plain
-use Rattle.machine_types.specs.PlainSteps.{waited, retaken}
-use Rattle.machine_types.specs.Structure.{Stands}
-use Rattle.machine_types.specs.Threads.{Thread}
-use Rattle.machine_types.specs.Waiting.{is_bit_set}
-use Rattle.machine_types.specs.Words.{owner_word, bits_word}
-use Rattle.machine_types.specs.declared.config.Config.{Config}
-use Rattle.machine_types.specs.declared.lock.Held.{Held}
-use Rattle.machine_types.specs.declared.lock.Kept.TheVariants as keeps
-use Rattle.machine_types.specs.declared.lock.LockWord.{LockWord}
-use Rattle.machine_types.specs.declared.lock.LockWord.TheVariants as locks
-use Rattle.machine_types.specs.declared.phase.Phase.{Phase}
-use Rattle.machine_types.specs.declared.phase.Phase.TheVariants as phases
-use Rattle.machine_types.specs.declared.plain.Act.TheVariants as acts
-use Rattle.laws_states.specs.SiteLaws.{SitesLieInside}
-use Rattle.laws_states.proofs.LockViews.{not_held}
-use Rattle.laws_states.proofs.WordViews.{set_self}
-use Rattle.laws_simulation.specs.StandsBeside.{StandsBeside}
-use Rattle.laws_simulation.specs.StepsBeside.{StepsBeside}
+use Rattle.machine_types.specs.{Agreement.{has_wait_bit, waiting_status, depth_for}, Core.Core, Going.{with_phase, failed_turn}, HeldMonitors.{held_at, with_held, without_held}, History.act_if}
+use Rattle.machine_types.specs.{Monitors.{bit_of, goes_to_wait, retakes}, Owners.{lock_at, owner_at, references_of, hold_by_list, hold_by_word, NotHeld, HeldFat}, PlainMemory.Object}
+use Rattle.machine_types.specs.{PlainState.{Plain, PlainThread, Holding, holding_at, with_holding, without_holding, let_go, with_thread, with_status}, PlainSteps.{waited, retaken}, Structure.Stands}
+use Rattle.machine_types.specs.{Threads.Thread, Waiting.is_bit_set, Words.{owner_word, bits_word}, declared.{config.Config.Config, lock.{Held.Held, LockWord.LockWord}, phase.Phase.Phase}}
+use Rattle.machine_types.proofs.PlainStepLaws.{is_same}
+use Rattle.laws_states.{specs.SiteLaws.SitesLieInside, proofs.{LockViews.not_held, WordViews.set_self}}
+use Rattle.laws_simulation.{specs.{StandsBeside.StandsBeside, StepsBeside.StepsBeside}, proofs.BitWords.set_other}
 use Rattle.laws_simulation.proofs.HoldingsAlike.{IsHolding, alone, held_depth_is, holds_then, free_then, alike_put, alike_dropped}
-use Rattle.laws_simulation.proofs.BitWords.{set_other}
 use Rattle.laws_simulation.proofs.Moments.{Moment, AreRecordsWritten, same_words, first_step, own_status, own_frames, own_roots, own_ends, own_number, own_as, holdings_alike, stepped}
 use Rattle.laws_simulation.proofs.Moved.{HasFat, ends_alike, run_end, run_made, runs_outside, bits_written, owner_written, owner_keeps_bits, fat_low, fat_one, counted, knows, waits_now, owning, bit_now, set_in, bits_kept, own_off, quiet_beside, alone_beside, bits_else}
-use Rattle.machine_types.proofs.PlainStepLaws.{is_same}
+use Rattle.jvm_types.specs.declared.outcome.End.TheVariants as ends
+use Rattle.machine_types.specs.PlainState as plain
+use Rattle.machine_types.specs.declared.lock.Kept.TheVariants as keeps
+use Rattle.machine_types.specs.declared.lock.LockWord.TheVariants as locks
+use Rattle.machine_types.specs.declared.phase.Phase.TheVariants as phases
+use Rattle.machine_types.specs.declared.plain.Act.TheVariants as acts
 
 abbrev Turned : Thread → Bool → Phase → Thread
 Turned x b phase = record x { turns = x.turns + 1; phase = cond b phase (phases.Ending ends.Turns) }

@@ -1,32 +1,16 @@
 -- A plain thread that waits on a monitor has its bit set in the record of the monitor's lock; so where the lock is not fat nobody
 -- waits on the monitor.
-use Rattle.std.proofs.Common.{◌≡◌, ◌≢◌, ◌⊎◌, inl, inr, ℕ, zero, suc, Bool, true, false, cond, List, [], ◌∷◌, Option, Some, None, refl, sym, ap, ◌∙◌, arith, ⊎_elim}
-use Rattle.std.specs.Prelude.{slice_get, slice_index, map, ◌==◌, ◌||◌}
-use Rattle.std.specs.List.{list_any}
-use Rattle.std.proofs.lemmas.Bool.Decides.{Decides-eqb}
-use Rattle.jvm_types.specs.Numbers.{has_flag}
-use Rattle.jvm_types.specs.declared.outcome.End.{End}
+use Rattle.std.proofs.Common.{◌≡◌, ◌≢◌, ◌⊎◌, inl, inr, ℕ, zero, suc, Bool, true, false, cond, List, [], ◌∷◌, Option, Some, None, refl, sym, ap, ◌∙◌, arith, ⊎_elim, slice_get, slice_index, map, ◌==◌, ◌||◌}
+use Rattle.std.{specs.List.list_any, proofs.lemmas.{Bool.Decides.Decides-eqb, Option.slice_get_cases}}
+use Rattle.jvm_types.specs.{Numbers.has_flag, declared.{outcome.End.End, program.Program.Program}}
+use Rattle.machine_types.specs.{Agreement.{has_wait_bit, toward_status, waiting_status, start_status, LimitFits, EndingFits, StatusFits, ThreadFits, Agrees}, Core.Core, Monitors.bit_of}
+use Rattle.machine_types.specs.{Owners.{lock_at, references_of}, PlainState.{Status, PlainThread, Plain, with_status}, PlainSteps.{waits_on, woken, wakes}, Threads.{Attempt, Thread}}
+use Rattle.machine_types.{specs.{Waiting.is_bit_set, Words.bits_word, declared.{lock.{Held.Held, LockWord.LockWord}, phase.{Phase.Phase, Toward.Toward}}}, proofs.Lists.got_below}
 use Rattle.jvm_types.specs.declared.outcome.End.TheVariants as ends
-use Rattle.jvm_types.specs.declared.program.Program.{Program}
-use Rattle.machine_types.specs.Agreement.{has_wait_bit, toward_status, waiting_status, start_status, LimitFits, EndingFits, StatusFits, ThreadFits, Agrees}
-use Rattle.machine_types.specs.Core.{Core}
-use Rattle.machine_types.specs.declared.lock.LockWord.{LockWord}
 use Rattle.machine_types.specs.declared.lock.LockWord.TheVariants as locks
-use Rattle.machine_types.specs.declared.lock.Held.{Held}
-use Rattle.machine_types.specs.Monitors.{bit_of}
-use Rattle.machine_types.specs.Owners.{lock_at, references_of}
-use Rattle.machine_types.specs.PlainState.{Status, PlainThread, Plain, with_status}
 use Rattle.machine_types.specs.PlainState as plain
-use Rattle.machine_types.specs.PlainSteps.{waits_on, woken, wakes}
-use Rattle.machine_types.specs.Threads.{Attempt, Thread}
-use Rattle.machine_types.specs.Waiting.{is_bit_set}
-use Rattle.machine_types.specs.Words.{bits_word}
-use Rattle.machine_types.specs.declared.phase.Phase.{Phase}
 use Rattle.machine_types.specs.declared.phase.Phase.TheVariants as phases
-use Rattle.machine_types.specs.declared.phase.Toward.{Toward}
 use Rattle.machine_types.specs.declared.phase.Toward.TheVariants as towards
-use Rattle.machine_types.proofs.Lists.{got_below}
-use Rattle.std.proofs.lemmas.Option.{slice_get_cases}
 
 -- ---- what a bit means
 

@@ -1,28 +1,13 @@
 -- A write of a lock word, of the owner of a monitor record or of the next record leaves all words that the plain machine knows of.
-use Rattle.std.proofs.Common.{◌≡◌, ◌≢◌, ℕ, ◌<◌, ◌≤◌, false, List, Some, sym, ap, ◌∙◌, subst, arith}
-use Rattle.std.specs.Prelude.{slice_set}
+use Rattle.std.proofs.Common.{◌≡◌, ◌≢◌, ℕ, ◌<◌, ◌≤◌, false, List, Some, sym, ap, ◌∙◌, subst, arith, slice_set}
 use Rattle.jvm_types.specs.declared.fixed_words.TheConstants.{FIRST_READY_WORD, MONITOR_RECORDS, NEXT_FREE_WORD, NEXT_RECORD_WORD, NEXT_TICKET_WORD}
 use Rattle.checked_program.specs.MarkedProgram.{MarkedProgram, IsMarked}
-use Rattle.machine_types.specs.Core.{Core}
-use Rattle.machine_types.specs.LockWords.{lock_of}
-use Rattle.machine_types.specs.Owners.{lock_at, references_of}
-use Rattle.machine_types.specs.PlainMemory.{Object}
-use Rattle.machine_types.specs.PlainState.{Plain, value_at}
-use Rattle.machine_types.specs.StartLaws.{StartLiesApart}
-use Rattle.machine_types.specs.Waiting.{is_bit_set}
-use Rattle.machine_types.specs.Words.{owner_word}
+use Rattle.machine_types.specs.{Core.Core, LockWords.lock_of, Owners.{lock_at, references_of}, PlainMemory.Object, PlainState.{Plain, value_at}, StartLaws.StartLiesApart, Waiting.is_bit_set}
+use Rattle.machine_types.{specs.Words.owner_word, proofs.AttemptsPlain.size_two}
+use Rattle.laws_states.specs.{HeapFacts.HeapFacts, SiteLaws.{SitesDiffer, SitesLieInside}, Sites.{Site, Counter, OwnerOf, LockOf, site_word, HasObject, IsThere}}
+use Rattle.laws_states.proofs.{Lists.{contained_got, set_there}, Sites.{New, block, InNew, in_block, same_block}, WordViews.record_there}
+use Rattle.laws_simulation.{specs.StandsBeside.{StandsBeside, IsBeingMade}, proofs.{Landing.WordsStay, PlainPlaces.{no_lock_place, place_low}, WaitBits.{bits_when_set, bits_when_thin, bits_when_fat}}}
 use Rattle.machine_types.specs.declared.lock.LockWord.TheVariants as locks
-use Rattle.laws_states.specs.HeapFacts.{HeapFacts}
-use Rattle.laws_states.specs.SiteLaws.{SitesDiffer, SitesLieInside}
-use Rattle.laws_states.specs.Sites.{Site, Counter, OwnerOf, LockOf, site_word, HasObject, IsThere}
-use Rattle.laws_states.proofs.Lists.{contained_got, set_there}
-use Rattle.laws_states.proofs.Sites.{New, block, InNew, in_block, same_block}
-use Rattle.laws_states.proofs.WordViews.{record_there}
-use Rattle.laws_simulation.specs.StandsBeside.{StandsBeside, IsBeingMade}
-use Rattle.laws_simulation.proofs.PlainPlaces.{no_lock_place, place_low}
-use Rattle.laws_simulation.proofs.WaitBits.{bits_when_set, bits_when_thin, bits_when_fat}
-use Rattle.laws_simulation.proofs.Landing.{WordsStay}
-use Rattle.machine_types.proofs.AttemptsPlain.{size_two}
 
 module _ (lies : StartLiesApart) (differ : SitesDiffer) (inside : SitesLieInside) (c : MarkedProgram) (objects : List Object) (s : Core) (marked : IsMarked c) (heap : HeapFacts c objects s)
     (low : (m r : ℕ) → lock_at (references_of objects) s.words m ≡ locks.Fat r → r < MONITOR_RECORDS) (q : Plain) (beside : StandsBeside c.program objects s q) where

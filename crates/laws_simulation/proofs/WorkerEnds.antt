@@ -1,21 +1,13 @@
 -- No worker keeps how an earlier part ended.
-use Rattle.std.proofs.Common.{◌≡◌, ℕ, zero, suc, ◌+◌, Bool, true, false, cond, List, [], ◌∷◌, map, Option, Some, None, refl, sym, ap, ◌∙◌, arith}
-use Rattle.std.specs.Prelude.{◌==◌, slice_get, slice_set}
-use Rattle.std.specs.List.{range_with_len}
-use Rattle.std.proofs.lemmas.Bool.Decides.{Decides-eqb}
+use Rattle.std.proofs.Common.{◌≡◌, ℕ, zero, suc, ◌+◌, Bool, true, false, cond, List, [], ◌∷◌, map, Option, Some, None, refl, sym, ap, ◌∙◌, arith, ◌==◌, slice_get, slice_set}
+use Rattle.std.{specs.List.range_with_len, proofs.lemmas.Bool.Decides.Decides-eqb}
 use Rattle.lists.proofs.ListLaws.{same_some}
 use Rattle.jvm_types.specs.declared.program.Program.{Program}
 use Rattle.checked_program.specs.MarkedProgram.{MarkedProgram}
-use Rattle.machine_types.specs.Accesses.{found_by}
-use Rattle.machine_types.specs.Core.{Core, start_thread, event_of, may_begin, with_roots, part_begins, next_threads}
-use Rattle.machine_types.specs.Events.{wanted, moved}
-use Rattle.machine_types.specs.Parts.{run_roots}
-use Rattle.machine_types.specs.Threads.{Thread}
-use Rattle.machine_types.specs.declared.config.Config.{Config}
-use Rattle.laws_threads.specs.GivenThread.{Given, GivenIsKept}
+use Rattle.machine_types.specs.{Accesses.found_by, Core.{Core, start_thread, event_of, may_begin, with_roots, part_begins, next_threads}, Events.{wanted, moved}, Parts.run_roots, Threads.Thread}
+use Rattle.machine_types.{specs.declared.config.Config.Config, proofs.Lists.got_when_set}
+use Rattle.laws_threads.{specs.GivenThread.{Given, GivenIsKept}, proofs.StateSteps.set_other}
 use Rattle.laws_simulation.specs.OutcomeLaws.{WorkersKeepNone, EventsKeepNone, NextKeepsNone, StartKeepsNone}
-use Rattle.laws_threads.proofs.StateSteps.{set_other}
-use Rattle.machine_types.proofs.Lists.{got_when_set}
 
 -- ---- an event
 

@@ -1,39 +1,19 @@
 -- An instruction that writes a field.
-use Rattle.std.proofs.Common.{◌≡◌, ℕ, Bool, List, [], ◌∷◌, Option, Some, refl, sym, ap, subst, ◌∙◌}
-use Rattle.std.specs.Prelude.{slice_index, slice_set, option_map}
+use Rattle.std.proofs.Common.{◌≡◌, ℕ, Bool, List, [], ◌∷◌, Option, Some, refl, sym, ap, subst, ◌∙◌, slice_index, slice_set, option_map}
 use Rattle.jvm_types.specs.declared.program.Kind.{Kind}
-use Rattle.jvm_types.specs.declared.program.Kind.TheVariants as kinds
 use Rattle.checked_program.specs.MarkedProgram.{MarkedProgram}
-use Rattle.machine_types.specs.Agreement.{has_wait_bit}
-use Rattle.machine_types.specs.Core.{Core}
-use Rattle.machine_types.specs.FoundWords.{Content, kind_content, variable_content, run_content, content_at, effect_content}
-use Rattle.machine_types.specs.Frames.{Top, top_of, effect_at, went_on}
-use Rattle.machine_types.specs.Going.{goes_on}
-use Rattle.machine_types.specs.Instructions.{begun}
-use Rattle.machine_types.specs.Onward.{Running}
-use Rattle.machine_types.specs.Owners.{references_of}
-use Rattle.machine_types.specs.PlainMemory.{Object}
-use Rattle.machine_types.specs.PlainState.{Plain, PlainThread, value_at, written, with_thread}
+use Rattle.machine_types.specs.{Agreement.has_wait_bit, Core.Core, FoundWords.{Content, kind_content, variable_content, run_content, content_at, effect_content}}
+use Rattle.machine_types.specs.{Frames.{Top, top_of, effect_at, went_on}, Going.goes_on, Instructions.begun, Onward.Running, Owners.references_of, PlainMemory.Object}
+use Rattle.machine_types.specs.{PlainState.{Plain, PlainThread, value_at, written, with_thread}, Threads.Thread, Words.variable_word, declared.access.Access.{Access, TheVariants.Store}}
+use Rattle.machine_types.specs.declared.{config.Config.Config, effect.{Effect.TheVariants.Writes, Variable.Variable}, phase.Phase.Phase}
+use Rattle.laws_states.{specs.{HeapFacts.objects_by, Sites.{Site, ValueOf, StaticAt, site_word, Suits, IsAccessOf, ReachesIf}}, proofs.{Accesses.content_is, Phases.events_reach}}
+use Rattle.laws_simulation.{specs.StepsBeside.StepsBeside, proofs.{MemoryParts.{IsValueSite, writes}, PlainValues.{IsPlace, value_found}}}
+use Rattle.laws_simulation.proofs.RunScene.{twin, runs_on, busy, lives, makes_none, wakes, may, wants, acts_are, moves, does}
+use Rattle.laws_simulation.proofs.Scene.{Scene, GoesOn, Memory, going, none_on, comes_beside, steps_of_event}
+use Rattle.jvm_types.specs.declared.program.Kind.TheVariants as kinds
 use Rattle.machine_types.specs.PlainState as plain
-use Rattle.machine_types.specs.Threads.{Thread}
-use Rattle.machine_types.specs.Words.{variable_word}
-use Rattle.machine_types.specs.declared.access.Access.{Access}
-use Rattle.machine_types.specs.declared.access.Access.TheVariants.{Store}
-use Rattle.machine_types.specs.declared.config.Config.{Config}
-use Rattle.machine_types.specs.declared.effect.Effect.TheVariants.{Writes}
-use Rattle.machine_types.specs.declared.effect.Variable.{Variable}
-use Rattle.machine_types.specs.declared.phase.Phase.{Phase}
 use Rattle.machine_types.specs.declared.phase.Phase.TheVariants as phases
 use Rattle.machine_types.specs.declared.plain.Act.TheVariants as acts
-use Rattle.laws_states.specs.HeapFacts.{objects_by}
-use Rattle.laws_states.specs.Sites.{Site, ValueOf, StaticAt, site_word, Suits, IsAccessOf, ReachesIf}
-use Rattle.laws_states.proofs.Accesses.{content_is}
-use Rattle.laws_states.proofs.Phases.{events_reach}
-use Rattle.laws_simulation.specs.StepsBeside.{StepsBeside}
-use Rattle.laws_simulation.proofs.PlainValues.{IsPlace, value_found}
-use Rattle.laws_simulation.proofs.Scene.{Scene, GoesOn, Memory, going, none_on, comes_beside, steps_of_event}
-use Rattle.laws_simulation.proofs.MemoryParts.{IsValueSite, writes}
-use Rattle.laws_simulation.proofs.RunScene.{twin, runs_on, busy, lives, makes_none, wakes, may, wants, acts_are, moves, does}
 
 -- ---- a variable is a field or a static field
 

@@ -1,56 +1,26 @@
 -- Which word each event accesses, and that what it leaves there is what has to stand there.
-use Rattle.std.proofs.Common.{◌≡◌, ℕ, ◌<◌, ◌≤◌, ◌^◌, Bool, true, false, List, [], ◌∷◌, length, Option, Some, None, refl, ap, sym, subst, ◌∙◌, arith}
-use Rattle.std.specs.Prelude.{◌==◌, nat_le, Contains, slice_index, if◌then◌else◌}
+use Rattle.std.proofs.Common.{◌≡◌, ℕ, ◌<◌, ◌≤◌, ◌^◌, Bool, true, false, List, [], ◌∷◌, length, Option, Some, None, refl, ap, sym, subst, ◌∙◌, arith, ◌==◌, nat_le, Contains, slice_index, if◌then◌else◌}
 use Rattle.std.proofs.lemmas.Bool.Decides.{nat_tests}
-use Rattle.jvm_types.specs.Members.{is_static}
-use Rattle.jvm_types.specs.ProgramInvariant.{IsProgram, instances_among}
-use Rattle.jvm_types.specs.declared.class_numbers.TheConstants.{INT_ARRAY_CLASS, PRINT_STREAM_CLASS, THROWABLE_CLASS}
-use Rattle.jvm_types.specs.declared.code.Insn.{Insn}
-use Rattle.jvm_types.specs.declared.code.Op.{Op}
-use Rattle.jvm_types.specs.declared.code.Op.TheVariants as ops
-use Rattle.jvm_types.specs.declared.op_row.OpRow.{OpRow}
-use Rattle.jvm_types.specs.declared.outcome.Thrown.TheVariants as thrown
-use Rattle.jvm_types.specs.declared.program.FieldInfo.{FieldInfo}
-use Rattle.jvm_types.specs.declared.program.Kind.{Kind}
-use Rattle.jvm_types.specs.declared.program.Kind.TheVariants as kinds
-use Rattle.jvm_types.specs.declared.program.MethodInfo.{MethodInfo}
-use Rattle.jvm_types.specs.declared.program.Program.{Program}
-use Rattle.jvm_types.specs.declared.program.Target.{Target}
-use Rattle.laws_programs.proofs.ClassTreeLaws.{leaves_alone, files_alone}
-use Rattle.laws_programs.proofs.FieldOrder.{instances_inside}
-use Rattle.checked_program.specs.MarkedProgram.{MarkedProgram, IsMarked}
-use Rattle.machine_types.specs.Accesses.{accessed, left_by}
-use Rattle.machine_types.specs.Core.{Core}
-use Rattle.machine_types.specs.Effects.{effect}
-use Rattle.machine_types.specs.Elision.{looks}
-use Rattle.machine_types.specs.Events.{element_wants}
+use Rattle.jvm_types.specs.{Members.is_static, ProgramInvariant.{IsProgram, instances_among}, declared.class_numbers.TheConstants.{INT_ARRAY_CLASS, PRINT_STREAM_CLASS, THROWABLE_CLASS}}
+use Rattle.jvm_types.specs.declared.{code.{Insn.Insn, Op.Op}, fixed_words.TheConstants.{FIRST_READY_WORD, NEXT_FREE_WORD, NEXT_TICKET_WORD, NEXT_RECORD_WORD, MONITOR_RECORDS}, op_row.OpRow.OpRow}
+use Rattle.jvm_types.specs.declared.program.{FieldInfo.FieldInfo, Kind.Kind, MethodInfo.MethodInfo, Program.Program, Target.Target}
+use Rattle.laws_programs.proofs.{ClassTreeLaws.{leaves_alone, files_alone}, FieldOrder.instances_inside}
+use Rattle.checked_program.specs.{MarkedProgram.{MarkedProgram, IsMarked}, TaggedCode.row_of}
+use Rattle.machine_types.specs.{Accesses.{accessed, left_by}, Core.Core, Effects.effect, Elision.looks, Events.element_wants}
 use Rattle.machine_types.specs.FoundWords.{Content, Lock, Owner, Bits, Header, ThrowableHeader, IntPlace, Any, kind_content, field_content, variable_content, effect_content, run_content}
-use Rattle.machine_types.specs.Frames.{top_of, effect_at}
-use Rattle.machine_types.specs.Instructions.{has_print_left, effect_wants, run_wants}
-use Rattle.machine_types.specs.PlainMemory.{Object, start_objects}
-use Rattle.machine_types.specs.ReadyObjects.{out_object}
-use Rattle.jvm_types.specs.declared.fixed_words.TheConstants.{FIRST_READY_WORD, NEXT_FREE_WORD, NEXT_TICKET_WORD, NEXT_RECORD_WORD, MONITOR_RECORDS}
-use Rattle.machine_types.specs.Structure.{TopIs, is_element_op}
-use Rattle.machine_types.specs.Threads.{Frame, Attempt, Thread}
+use Rattle.machine_types.specs.{Frames.{top_of, effect_at}, Instructions.{has_print_left, effect_wants, run_wants}, PlainMemory.{Object, start_objects}, ReadyObjects.out_object}
+use Rattle.machine_types.specs.{Structure.{TopIs, is_element_op}, Threads.{Frame, Attempt, Thread}}
 use Rattle.machine_types.specs.Typed.{Classes, KindHolds, FramesHold, IsElementOn, ElementStands, HasElement, HasElementOn, HasElementIn, HasClass, IsObject, AttemptHolds}
-use Rattle.machine_types.specs.Words.{owner_word, bits_word, header_word, value_word, variable_word}
-use Rattle.machine_types.specs.declared.access.Access.{Access}
-use Rattle.machine_types.specs.declared.access.Access.TheVariants.{Load, Store, Cas, Add, Or, And, Rest}
+use Rattle.machine_types.specs.{Words.{owner_word, bits_word, header_word, value_word, variable_word}, declared.access.Access.{Access, TheVariants.{Load, Store, Cas, Add, Or, And, Rest}}}
 use Rattle.machine_types.specs.declared.effect.Effect.{Effect}
 use Rattle.machine_types.specs.declared.effect.Effect.TheVariants.{Goes, Throws, Reads, Writes, Indexes, Measures, Raises, Makes, Prints, Calls, Returns, Enters, Leaves, Waits, Notifies, NotifiesAll, Stuck}
-use Rattle.machine_types.specs.declared.effect.Variable.{Variable}
-use Rattle.machine_types.specs.declared.effect.Variable.TheVariants.{Instance, Static}
-use Rattle.laws_threads.specs.Allowed.{IsOf, IsNamedField, StoredHolds, Allowed}
-use Rattle.laws_threads.proofs.Landing.{stand_top}
-use Rattle.laws_threads.proofs.Standings.{top_here}
-use Rattle.laws_threads.proofs.TopEffects.{allowed_here}
-use Rattle.laws_threads.proofs.Onwards.{same_op}
-use Rattle.checked_program.specs.TaggedCode.{row_of}
-use Rattle.laws_states.specs.HeapFacts.{HeapFacts}
-use Rattle.laws_states.specs.Sites.{Site, Counter, OwnerOf, BitsOf, LockOf, HeaderOf, ValueOf, NewHeaderOf, StaticAt, site_word, HasObject, IsThere, Suits}
-use Rattle.laws_states.proofs.Lists.{contained_got}
-use Rattle.laws_states.proofs.Places.{IsValue, SiteHolds, same_object, site_typed, static_stored, field_stored, element_stored}
-use Rattle.laws_threads.proofs.MonitorMoves.{contains_got}
+use Rattle.machine_types.specs.declared.effect.Variable.{Variable, TheVariants.{Instance, Static}}
+use Rattle.laws_threads.{specs.Allowed.{IsOf, IsNamedField, StoredHolds, Allowed}, proofs.{Landing.stand_top, MonitorMoves.contains_got, Onwards.same_op, Standings.top_here, TopEffects.allowed_here}}
+use Rattle.laws_states.specs.{HeapFacts.HeapFacts, Sites.{Site, Counter, OwnerOf, BitsOf, LockOf, HeaderOf, ValueOf, NewHeaderOf, StaticAt, site_word, HasObject, IsThere, Suits}}
+use Rattle.laws_states.proofs.{Lists.contained_got, Places.{IsValue, SiteHolds, same_object, site_typed, static_stored, field_stored, element_stored}}
+use Rattle.jvm_types.specs.declared.code.Op.TheVariants as ops
+use Rattle.jvm_types.specs.declared.outcome.Thrown.TheVariants as thrown
+use Rattle.jvm_types.specs.declared.program.Kind.TheVariants as kinds
 
 -- ---- an access that leaves all facts on places
 

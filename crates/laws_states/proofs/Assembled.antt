@@ -1,21 +1,11 @@
 -- The facts of a state when one thread has moved.
-use Rattle.std.proofs.Common.{◌≡◌, ◌≢◌, ◌⊎◌, inl, inr, ℕ, zero, suc, ◌+◌, ◌<◌, ◌≤◌, List, [], ◌∷◌, length, Option, Some, refl, ap, sym, subst, ◌∙◌, arith}
-use Rattle.std.specs.Prelude.{Contains, slice_get, slice_index, slice_set}
-use Rattle.checked_program.specs.MarkedProgram.{MarkedProgram, IsMarked}
-use Rattle.machine_types.specs.Core.{Core}
-use Rattle.machine_types.specs.FoundWords.{IsHeader}
-use Rattle.machine_types.specs.NewObjects.{size_by, IsNewObject}
-use Rattle.machine_types.specs.ObjectsApart.{LieApart}
-use Rattle.machine_types.specs.PlainMemory.{Object, object_end, header_of, start_statics}
-use Rattle.machine_types.specs.Threads.{Thread}
-use Rattle.machine_types.specs.Typed.{HasClass, HasElementIn, PlacesHold, ThreadHolds}
+use Rattle.std.proofs.Common.{◌≡◌, ◌≢◌, ◌⊎◌, inl, inr, ℕ, zero, suc, ◌+◌, ◌<◌, ◌≤◌, List, [], ◌∷◌, length, Option, Some, refl, ap, sym, subst, ◌∙◌, arith, Contains, slice_get, slice_index, slice_set}
 use Rattle.jvm_types.specs.declared.fixed_words.TheConstants.{NEXT_FREE_WORD}
+use Rattle.checked_program.specs.MarkedProgram.{MarkedProgram, IsMarked}
+use Rattle.machine_types.specs.{Core.Core, FoundWords.IsHeader, NewObjects.{size_by, IsNewObject}, ObjectsApart.LieApart, PlainMemory.{Object, object_end, header_of, start_statics}, Threads.Thread}
+use Rattle.machine_types.specs.Typed.{HasClass, HasElementIn, PlacesHold, ThreadHolds}
+use Rattle.laws_states.{specs.HeapFacts.{HoldsObjects, HeapFacts}, proofs.{Leads.MadeNow, Lifted.{thread_up, monitors_up, element_up}, Lists.contained_got, WordSteps.apart_on}}
 use Rattle.machine_types.specs.declared.phase.Phase.TheVariants as phases
-use Rattle.laws_states.specs.HeapFacts.{HoldsObjects, HeapFacts}
-use Rattle.laws_states.proofs.Lifted.{thread_up, monitors_up, element_up}
-use Rattle.laws_states.proofs.Leads.{MadeNow}
-use Rattle.laws_states.proofs.Lists.{contained_got}
-use Rattle.laws_states.proofs.WordSteps.{apart_on}
 
 -- ---- one thread of a list is changed
 

@@ -1,13 +1,9 @@
 -- Where a part of the run begins, each thread is as it was, but for the roots and the phase that its part begins with.
-use Rattle.std.proofs.Common.{◌≡◌, ◌⊎◌, inl, inr, ℕ, zero, suc, Bool, true, false, List, [], ◌∷◌, map, Some, refl, subst}
-use Rattle.std.specs.Prelude.{slice_get, if◌then◌else◌}
+use Rattle.std.proofs.Common.{◌≡◌, ◌⊎◌, inl, inr, ℕ, zero, suc, Bool, true, false, List, [], ◌∷◌, map, Some, refl, subst, slice_get, if◌then◌else◌}
 use Rattle.lists.proofs.ListLaws.{same_some}
-use Rattle.jvm_types.specs.declared.outcome.End.TheVariants as ends
 use Rattle.jvm_types.specs.declared.program.Program.{Program}
-use Rattle.machine_types.specs.Core.{part_phase, may_begin, with_roots, part_begins, next_threads}
-use Rattle.machine_types.specs.Parts.{run_roots, done_roots}
-use Rattle.machine_types.specs.Threads.{Thread}
-use Rattle.machine_types.specs.declared.phase.Phase.{Phase}
+use Rattle.machine_types.specs.{Core.{part_phase, may_begin, with_roots, part_begins, next_threads}, Parts.{run_roots, done_roots}, Threads.Thread, declared.phase.Phase.Phase}
+use Rattle.jvm_types.specs.declared.outcome.End.TheVariants as ends
 use Rattle.machine_types.specs.declared.phase.Phase.TheVariants as phases
 
 abbrev pub StartsOrEnded : Phase → Type 0

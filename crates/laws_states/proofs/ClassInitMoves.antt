@@ -1,56 +1,27 @@
 -- An event brings a thread no frame of a `<clinit>`, unless a root of its is one: no instruction calls one (JVMS 2.9).
-use Rattle.std.proofs.Common.{◌≡◌, ℕ, zero, suc, ◌+◌, ◌-◌, Bool, true, false, not, ◌&&◌, ◌||◌, List, [], ◌∷◌, drop, length, Option, Some, None, refl, ap, sym, subst, ◌∙◌, arith}
-use Rattle.std.specs.Prelude.{◌==◌, codes, bytes_eq, option_map, slice_get, IfSome, if◌then◌else◌}
-use Rattle.std.specs.List.{AllByRecursion}
-use Rattle.std.proofs.lemmas.Slice.Eq.{bytes_eq-Decides}
-use Rattle.lists.proofs.ListLaws.{same_some}
-use Rattle.lists.proofs.TestLaws.{both_are_true}
-use Rattle.jvm_types.specs.ClassNames.{file_class}
-use Rattle.jvm_types.specs.Members.{MethodSite, is_static, is_synchronized, is_init_name, is_class_init_name}
-use Rattle.jvm_types.specs.Numbers.{has_number}
-use Rattle.jvm_types.specs.ProgramInvariant.{site_in}
-use Rattle.jvm_types.specs.declared.code.Op.{Op}
-use Rattle.jvm_types.specs.declared.code.Op.TheVariants as ops
-use Rattle.jvm_types.specs.declared.op_row.OpRow.{OpRow}
-use Rattle.jvm_types.specs.declared.outcome.Counts.{Counts}
-use Rattle.jvm_types.specs.declared.outcome.Thrown.{Thrown}
-use Rattle.jvm_types.specs.declared.outcome.Thrown.TheVariants.{StackOverflowError}
-use Rattle.jvm_types.specs.declared.program.MethodInfo.{MethodInfo}
-use Rattle.jvm_types.specs.declared.program.Program.{Program}
-use Rattle.jvm_types.specs.declared.program.Row.{Row}
-use Rattle.jvm_types.specs.declared.program.Target.{Target}
-use Rattle.jvm_types.specs.declared.program.Target.TheVariants as targets
+use Rattle.std.proofs.Common.{◌≡◌, ℕ, zero, suc, ◌+◌, ◌-◌, Bool, true, false, not, ◌&&◌, ◌||◌, List, [], ◌∷◌, drop, length, Option, Some, None, refl, ap, sym, subst, ◌∙◌, arith, ◌==◌, codes, bytes_eq, option_map, slice_get, IfSome, if◌then◌else◌}
+use Rattle.std.{specs.List.AllByRecursion, proofs.lemmas.Slice.Eq.bytes_eq-Decides}
+use Rattle.lists.proofs.{ListLaws.same_some, TestLaws.both_are_true}
+use Rattle.jvm_types.specs.{ClassNames.file_class, Members.{MethodSite, is_static, is_synchronized, is_init_name, is_class_init_name}, Numbers.has_number, ProgramInvariant.site_in}
+use Rattle.jvm_types.specs.declared.{code.Op.Op, op_row.OpRow.OpRow, outcome.{Counts.Counts, Thrown.{Thrown, TheVariants.StackOverflowError}}, program.{MethodInfo.MethodInfo, Program.Program}}
+use Rattle.jvm_types.specs.declared.program.{Row.Row, Target.Target}
 use Rattle.laws_programs.specs.TargetLaws.{HasRow}
-use Rattle.checked_program.specs.MarkedProgram.{MarkedProgram, IsMarked}
-use Rattle.checked_program.specs.Marks.{called_method}
-use Rattle.machine_types.specs.Bounds.{part_roots}
-use Rattle.machine_types.specs.Events.{moved}
+use Rattle.checked_program.specs.{MarkedProgram.{MarkedProgram, IsMarked}, Marks.called_method}
+use Rattle.machine_types.specs.{Bounds.part_roots, Events.moved}
 use Rattle.machine_types.specs.Frames.{Top, top_of, frames_of, effect_at, pushed, went_on, has_room, waiting, entry_frame, arguments_of, monitor_of, given_back, given, returned, handler_at}
-use Rattle.machine_types.specs.Going.{goes_on, goes_on_if, goes_after}
-use Rattle.machine_types.specs.HeldMonitors.{with_held, without_held, shallower, held_at}
-use Rattle.machine_types.specs.Instructions.{printed}
+use Rattle.machine_types.specs.{Going.{goes_on, goes_on_if, goes_after}, HeldMonitors.{with_held, without_held, shallower, held_at}, Instructions.printed}
 use Rattle.machine_types.specs.Onward.{Onward, Running, Throwing, Entering, Leaving, RootReturned, Uncaught, threw, done, entered, called, rooted, root_arguments, back, returns, unwound, handed, after}
-use Rattle.machine_types.specs.Parts.{is_entry_named, entries_named}
-use Rattle.machine_types.specs.ReadyObjects.{class_of, thrown_of}
-use Rattle.machine_types.specs.Shown.{Show}
-use Rattle.machine_types.specs.Standing.{Operands}
-use Rattle.machine_types.specs.Structure.{IsStructured, operands_in}
-use Rattle.machine_types.specs.Threads.{Frame, Attempt, Thread}
-use Rattle.machine_types.specs.Words.{header_class}
-use Rattle.machine_types.specs.declared.effect.Effect.{Effect}
-use Rattle.machine_types.specs.declared.effect.Effect.TheVariants.{Goes, Throws, Reads, Writes, Measures, Raises, Prints, Calls, Returns, Enters, Leaves}
-use Rattle.machine_types.specs.declared.lock.Held.{Held}
-use Rattle.machine_types.specs.declared.phase.After.{After}
-use Rattle.machine_types.specs.declared.phase.After.TheVariants as afters
-use Rattle.machine_types.specs.declared.phase.Phase.{Phase}
-use Rattle.machine_types.proofs.PlainPartLaws.{frames_are}
-use Rattle.laws_threads.specs.EntryFrames.{frames_in}
-use Rattle.laws_threads.proofs.EffectsOfInsns.{Fits, IsCalling}
-use Rattle.laws_threads.proofs.Roots.{numbered}
-use Rattle.laws_threads.proofs.ShownFrames.{by_top, fits_at, holds_at}
+use Rattle.machine_types.specs.{Parts.{is_entry_named, entries_named}, ReadyObjects.{class_of, thrown_of}, Shown.Show, Standing.Operands, Structure.{IsStructured, operands_in}}
+use Rattle.machine_types.specs.{Threads.{Frame, Attempt, Thread}, Words.header_class, declared.effect.Effect.Effect}
+use Rattle.machine_types.specs.declared.{effect.Effect.TheVariants.{Goes, Throws, Reads, Writes, Measures, Raises, Prints, Calls, Returns, Enters, Leaves}, lock.Held.Held, phase.After.After}
+use Rattle.machine_types.{specs.declared.phase.Phase.Phase, proofs.PlainPartLaws.frames_are}
+use Rattle.laws_threads.{specs.EntryFrames.frames_in, proofs.{EffectsOfInsns.{Fits, IsCalling}, Roots.numbered, ShownFrames.{by_top, fits_at, holds_at}}}
 use Rattle.laws_threads.proofs.ThreadMove.{GoesBy, Move, becomes, counting, any_move, tried_attempt}
-use Rattle.laws_threads.proofs.ThreadMove as moves
 use Rattle.laws_states.specs.ClassInits.{IsNoClassInit, RunsNoClassInit, IsBehindInit}
+use Rattle.jvm_types.specs.declared.code.Op.TheVariants as ops
+use Rattle.jvm_types.specs.declared.program.Target.TheVariants as targets
+use Rattle.machine_types.specs.declared.phase.After.TheVariants as afters
+use Rattle.laws_threads.proofs.ThreadMove as moves
 
 -- ---- a method that is called, or begins a part behind `init`, is none
 

@@ -1,32 +1,18 @@
 -- No `<clinit>` runs beside a worker: not at the start, and not behind an event or where a part of the run begins.
-use Rattle.std.proofs.Common.{◌≡◌, ℕ, zero, suc, Bool, true, false, List, [], ◌∷◌, map, Option, Some, None, refl, ap, sym, subst, ◌∙◌}
-use Rattle.std.specs.Prelude.{slice_get, slice_set, IfSome, IsTrue, if◌then◌else◌}
+use Rattle.std.proofs.Common.{◌≡◌, ℕ, zero, suc, Bool, true, false, List, [], ◌∷◌, map, Option, Some, None, refl, ap, sym, subst, ◌∙◌, slice_get, slice_set, IfSome, IsTrue, if◌then◌else◌}
 use Rattle.std.specs.List.{AllByRecursion}
-use Rattle.jvm_types.specs.Numbers.{has_number}
-use Rattle.jvm_types.specs.declared.outcome.End.TheVariants as ends
-use Rattle.checked_program.specs.MarkedProgram.{MarkedProgram, IsMarked}
-use Rattle.machine_types.specs.Accesses.{found_by}
-use Rattle.machine_types.specs.Bounds.{part_roots}
-use Rattle.machine_types.specs.Core.{Core, start_thread, event_of, may_begin, may_begin_by, with_roots, how_ended, part_begins, next_threads}
-use Rattle.machine_types.specs.Events.{wanted, moved}
-use Rattle.machine_types.specs.Guards.{IsOfClassInit, MakesClass}
-use Rattle.machine_types.specs.Lawful.{IsLawful}
-use Rattle.machine_types.specs.Parts.{run_roots, done_roots}
-use Rattle.machine_types.specs.Threads.{Attempt, Frame, Thread}
-use Rattle.machine_types.specs.declared.config.Config.{Config}
-use Rattle.machine_types.specs.declared.phase.Phase.TheVariants as phases
-use Rattle.machine_types.proofs.AtStart.{is_start_thread}
 use Rattle.lists.proofs.ListLaws.{same_some}
-use Rattle.laws_threads.specs.GivenThread.{Given, GivenIsKept}
-use Rattle.laws_threads.specs.PartLaws.{PartFits, PartsFit}
-use Rattle.laws_threads.proofs.Lists.{mapped_at}
-use Rattle.laws_threads.proofs.PartSteps.{one_idle}
+use Rattle.jvm_types.specs.Numbers.{has_number}
+use Rattle.checked_program.specs.MarkedProgram.{MarkedProgram, IsMarked}
+use Rattle.machine_types.specs.{Accesses.found_by, Bounds.part_roots, Core.{Core, start_thread, event_of, may_begin, may_begin_by, with_roots, how_ended, part_begins, next_threads}}
+use Rattle.machine_types.specs.{Events.{wanted, moved}, Guards.{IsOfClassInit, MakesClass}, Lawful.IsLawful, Parts.{run_roots, done_roots}, Threads.{Attempt, Frame, Thread}}
+use Rattle.machine_types.{specs.declared.config.Config.Config, proofs.AtStart.is_start_thread}
+use Rattle.laws_threads.{specs.{GivenThread.{Given, GivenIsKept}, PartLaws.{PartFits, PartsFit}}, proofs.{Lists.mapped_at, PartSteps.one_idle}}
 use Rattle.laws_states.specs.ClassInits.{IsNoClassInit, RunsNoClassInit, IsBehindInit, ClassInitsComeFirst}
-use Rattle.laws_states.specs.PartsLaws.{StartPutsInitsFirst, EventsPutInitsFirst, NextPutsInitsFirst, ClassInitsRunAlone}
-use Rattle.laws_states.specs.RunFacts.{AreThreads}
-use Rattle.laws_states.proofs.ClassInitMoves.{root_none, moved_none}
-use Rattle.laws_states.proofs.PartLawful.{IsBetween, has_returned as is_returned, between_frames, between_attempt}
-use Rattle.laws_states.proofs.PartsEvents.{at_each}
+use Rattle.laws_states.{specs.{PartsLaws.{StartPutsInitsFirst, EventsPutInitsFirst, NextPutsInitsFirst, ClassInitsRunAlone}, RunFacts.AreThreads}, proofs.ClassInitMoves.{root_none, moved_none}}
+use Rattle.laws_states.proofs.{PartLawful.{IsBetween, has_returned as is_returned, between_frames, between_attempt}, PartsEvents.at_each}
+use Rattle.jvm_types.specs.declared.outcome.End.TheVariants as ends
+use Rattle.machine_types.specs.declared.phase.Phase.TheVariants as phases
 
 -- ---- the start
 

@@ -1,29 +1,17 @@
 -- What an event does to the numbers of a thread that bound the counters.
-use Rattle.std.proofs.Common.{◌≡◌, ℕ, ◌+◌, ◌-◌, ◌≤◌, Bool, true, false, List, [], ◌∷◌, Option, Some, None, refl, ap, subst, arith, sym}
-use Rattle.std.specs.Prelude.{◌==◌, if◌then◌else◌}
-use Rattle.jvm_types.specs.declared.outcome.End.TheVariants as ends
+use Rattle.std.proofs.Common.{◌≡◌, ℕ, ◌+◌, ◌-◌, ◌≤◌, Bool, true, false, List, [], ◌∷◌, Option, Some, None, refl, ap, subst, arith, sym, ◌==◌, if◌then◌else◌}
 use Rattle.jvm_types.specs.declared.program.Program.{Program}
 use Rattle.checked_program.specs.MarkedProgram.{MarkedProgram}
-use Rattle.machine_types.specs.Bounds.{flat_held}
-use Rattle.machine_types.specs.Events.{moved}
-use Rattle.machine_types.specs.Frames.{top_of, went_on}
-use Rattle.machine_types.specs.Going.{with_phase, failed_turn, goes_on_if}
-use Rattle.machine_types.specs.HeldMonitors.{held_at, with_held, without_held, shallower}
-use Rattle.machine_types.specs.Structure.{IsFlat, IsStructured, Stands}
-use Rattle.machine_types.specs.Threads.{Thread, Attempt}
-use Rattle.machine_types.specs.declared.lock.Held.{Held}
-use Rattle.machine_types.specs.declared.lock.Kept.{Kept}
-use Rattle.machine_types.specs.declared.lock.Kept.TheVariants as keeps
-use Rattle.machine_types.specs.declared.phase.Phase.{Phase}
-use Rattle.machine_types.specs.declared.phase.Phase.TheVariants as phases
+use Rattle.machine_types.specs.{Bounds.flat_held, Elision.{elided, fails}, Events.moved, Frames.{top_of, went_on}, Going.{with_phase, failed_turn, goes_on_if}}
+use Rattle.machine_types.specs.{HeldMonitors.{held_at, with_held, without_held, shallower}, Instructions.printed, Onward.{Onward, Running, after}, Structure.{IsFlat, IsStructured, Stands}}
+use Rattle.machine_types.specs.{Threads.{Thread, Attempt}, declared.{lock.{Held.Held, Kept.Kept}, phase.Phase.Phase}}
 use Rattle.laws_threads.proofs.HeldBounds.{flat, flat_put, flat_without, flat_refit}
 use Rattle.laws_threads.proofs.ThreadMove.{Lacks, GoesBy, Checks, LeadsTo, TurnsTo, Move, becomes, counting, begun_by, counted_move, looks_in, takes_in}
+use Rattle.laws_states.{specs.Counters.drawn_for_flat, proofs.SameTally.{Tally, goes_if}}
+use Rattle.jvm_types.specs.declared.outcome.End.TheVariants as ends
+use Rattle.machine_types.specs.declared.lock.Kept.TheVariants as keeps
+use Rattle.machine_types.specs.declared.phase.Phase.TheVariants as phases
 use Rattle.laws_threads.proofs.ThreadMove as moves
-use Rattle.laws_states.specs.Counters.{drawn_for_flat}
-use Rattle.laws_states.proofs.SameTally.{Tally, goes_if}
-use Rattle.machine_types.specs.Onward.{Onward, Running, after}
-use Rattle.machine_types.specs.Elision.{elided, fails}
-use Rattle.machine_types.specs.Instructions.{printed}
 
 -- ---- flat locks that are held
 

@@ -1,12 +1,10 @@
 -- The phase that counts, and phases that know nothing of locks.
 use Rattle.std.proofs.Common.{◌≡◌, ℕ, Some, None, refl, sym, ap, ◌∙◌, subst}
 use Rattle.jvm_types.specs.declared.outcome.End.{End}
-use Rattle.jvm_types.specs.declared.outcome.End.TheVariants as ends
-use Rattle.machine_types.specs.Owners.{Locks, Knows, PhaseSaw, drawn_by}
-use Rattle.machine_types.specs.Structure.{IsLimitAt, IsAs, CountsTurns, DrawsToWait}
-use Rattle.machine_types.specs.declared.phase.Phase.{Phase}
-use Rattle.machine_types.specs.declared.phase.Phase.TheVariants as phases
+use Rattle.machine_types.specs.{Owners.{Locks, Knows, PhaseSaw, drawn_by}, Structure.{IsLimitAt, IsAs, CountsTurns, DrawsToWait}, declared.phase.Phase.Phase}
 use Rattle.laws_threads.specs.StructureLaws.{turned_from, counted_by}
+use Rattle.jvm_types.specs.declared.outcome.End.TheVariants as ends
+use Rattle.machine_types.specs.declared.phase.Phase.TheVariants as phases
 
 -- ---- what holds of the phase that counted before
 

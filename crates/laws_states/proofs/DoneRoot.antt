@@ -1,14 +1,9 @@
 -- `done` of a linked program is one method at most.
-use Rattle.std.proofs.Common.{◌≡◌, ℕ, suc, Bool, true, false, List, [], ◌∷◌, Some, refl, sym, ◌∙◌, arith}
-use Rattle.std.specs.Prelude.{◌==◌, ◌&&◌, bytes_eq, codes, slice_get, if◌then◌else◌}
-use Rattle.std.proofs.lemmas.Bool.{and_from, and_parts, eq-eqb, eqb-true}
-use Rattle.std.proofs.lemmas.Slice.Eq.{bytes_eq-Decides}
-use Rattle.jvm_types.specs.ClassNames.{file_class}
-use Rattle.jvm_types.specs.ProgramInvariant.{IsProgram, is_same_method}
-use Rattle.jvm_types.specs.declared.program.MethodInfo.{MethodInfo}
-use Rattle.jvm_types.specs.declared.program.Program.{Program}
-use Rattle.machine_types.specs.Parts.{numbers_of, is_entry_named, done_roots}
+use Rattle.std.proofs.Common.{◌≡◌, ℕ, suc, Bool, true, false, List, [], ◌∷◌, Some, refl, sym, ◌∙◌, arith, ◌==◌, ◌&&◌, bytes_eq, codes, slice_get, if◌then◌else◌}
+use Rattle.std.proofs.lemmas.{Bool.{and_from, and_parts, eq-eqb, eqb-true}, Slice.Eq.bytes_eq-Decides}
+use Rattle.jvm_types.specs.{ClassNames.file_class, ProgramInvariant.{IsProgram, is_same_method}, declared.program.{MethodInfo.MethodInfo, Program.Program}}
 use Rattle.laws_programs.specs.RootLaws.{OneMethod}
+use Rattle.machine_types.specs.Parts.{numbers_of, is_entry_named, done_roots}
 
 -- ---- of methods of which one passes a test
 

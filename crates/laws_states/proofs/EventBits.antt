@@ -1,37 +1,14 @@
 -- Whatever event happens, the waiting bits of a record are changed by its owner alone.
-use Rattle.std.proofs.Common.{◌≡◌, ◌⊎◌, inl, inr, ℕ, ◌+◌, ◌-◌, ◌*◌, ◌^◌, ◌<◌, ◌≤◌, nat_lt, Bool, true, false, not, List, length, Some, refl, sym, ap, ◌∙◌, subst, arith}
-use Rattle.std.specs.Prelude.{◌≢◌, ◌==◌, bit_and, bit_or, slice_get, slice_index, slice_set}
-use Rattle.std.specs.Int.{bit_at}
-use Rattle.std.proofs.lemmas.Bool.Decides.{nat_tests}
-use Rattle.std.proofs.lemmas.Grind.{and_not_bit}
-use Rattle.std.proofs.lemmas.Nat.{pow_below}
-use Rattle.std.proofs.lemmas.Nat.Bits.{and_pow, bit_at_above, bit_at-pow_other}
-use Rattle.jvm_types.specs.Numbers.{has_flag}
+use Rattle.std.proofs.Common.{◌≡◌, ◌⊎◌, inl, inr, ℕ, ◌+◌, ◌-◌, ◌*◌, ◌^◌, ◌<◌, ◌≤◌, nat_lt, Bool, true, false, not, List, length, Some, refl, sym, ap, ◌∙◌, subst, arith, ◌≢◌, ◌==◌, bit_and, bit_or, slice_get, slice_index, slice_set}
+use Rattle.std.{specs.Int.bit_at, proofs.lemmas.{Bool.Decides.nat_tests, Grind.and_not_bit, Nat.{pow_below, Bits.{and_pow, bit_at_above, bit_at-pow_other}}}}
+use Rattle.jvm_types.specs.{Numbers.has_flag, declared.fixed_words.TheConstants.MONITOR_RECORDS}
 use Rattle.checked_program.specs.MarkedProgram.{MarkedProgram, IsMarked}
-use Rattle.machine_types.specs.Accesses.{words_after}
-use Rattle.machine_types.specs.Bounds.{PhaseFits}
-use Rattle.machine_types.specs.Core.{Core}
-use Rattle.machine_types.specs.Events.{wanted}
-use Rattle.machine_types.specs.Lawful.{IsLawful}
-use Rattle.machine_types.specs.Monitors.{bit_of}
-use Rattle.machine_types.specs.Owners.{owner_at, locks_in, references_of}
-use Rattle.machine_types.specs.PlainMemory.{Object}
-use Rattle.machine_types.specs.Structure.{IsAs, IsStructured}
-use Rattle.machine_types.specs.Threads.{Thread}
-use Rattle.machine_types.specs.Waiting.{is_bit_set}
-use Rattle.machine_types.specs.Words.{bits_word}
-use Rattle.machine_types.specs.declared.config.Config.{Config}
-use Rattle.machine_types.specs.declared.phase.Phase.{Phase}
-use Rattle.machine_types.specs.declared.phase.Phase.TheVariants as phases
-use Rattle.jvm_types.specs.declared.fixed_words.TheConstants.{MONITOR_RECORDS}
-use Rattle.laws_states.specs.SiteLaws.{EventsReachSites, SitesDiffer, SitesLieInside}
-use Rattle.laws_states.specs.Sites.{BitsOf}
-use Rattle.laws_states.specs.StateFacts.{StateFacts}
-use Rattle.laws_states.proofs.Lists.{same_or_not, set_here, set_there}
-use Rattle.laws_states.proofs.StillBits.{IsStill, still_bits}
-use Rattle.laws_states.proofs.WaitingBits.{set_keeps, set_other, left_was_set}
+use Rattle.machine_types.specs.{Accesses.words_after, Bounds.PhaseFits, Core.Core, Events.wanted, Lawful.IsLawful, Monitors.bit_of, Owners.{owner_at, locks_in, references_of}, PlainMemory.Object}
+use Rattle.machine_types.specs.{Structure.{IsAs, IsStructured}, Threads.Thread, Waiting.is_bit_set, Words.bits_word, declared.{config.Config.Config, phase.Phase.Phase}}
+use Rattle.laws_states.specs.{ChangeLaws.{Sets, Clears, BitsFollow}, SiteLaws.{EventsReachSites, SitesDiffer, SitesLieInside}, Sites.BitsOf, StateFacts.StateFacts}
+use Rattle.laws_states.proofs.{Lists.{same_or_not, set_here, set_there}, StillBits.{IsStill, still_bits}, WaitingBits.{set_keeps, set_other, left_was_set}}
 use Rattle.laws_states.proofs.WaitingStep.{record_of, OwnsRecord, owned_record}
-use Rattle.laws_states.specs.ChangeLaws.{Sets, Clears, BitsFollow}
+use Rattle.machine_types.specs.declared.phase.Phase.TheVariants as phases
 
 -- ---- a bit is cleared
 

@@ -1,38 +1,17 @@
 -- Whatever event happens, the count that a thread keeps of a flat lock is the one that it found there.
-use Rattle.std.proofs.Common.{◌≡◌, ◌⊎◌, inl, inr, ℕ, Bool, true, false, cond, List, Option, Some, None, refl, sym, ap, ◌∙◌, subst}
-use Rattle.std.specs.Prelude.{◌==◌, slice_get, option_map}
-use Rattle.std.proofs.lemmas.Bool.Decides.{Decides-eqb}
+use Rattle.std.proofs.{Common.{◌≡◌, ◌⊎◌, inl, inr, ℕ, Bool, true, false, cond, List, Option, Some, None, refl, sym, ap, ◌∙◌, subst, ◌==◌, slice_get, option_map}, lemmas.Bool.Decides.Decides-eqb}
 use Rattle.checked_program.specs.MarkedProgram.{MarkedProgram, IsMarked}
-use Rattle.machine_types.specs.Accesses.{found_by}
-use Rattle.machine_types.specs.declared.access.Access.TheVariants.{Cas}
-use Rattle.machine_types.specs.Core.{Core}
-use Rattle.machine_types.specs.Events.{wanted, moved}
-use Rattle.machine_types.specs.Going.{goes_on_if}
-use Rattle.machine_types.specs.HeldMonitors.{held_at, with_held, without_held, deeper, shallower}
-use Rattle.machine_types.specs.LockWords.{word_of_lock}
-use Rattle.machine_types.specs.Onward.{Onward, after, Running, rooted}
-use Rattle.machine_types.specs.Owners.{locks_in, references_of}
-use Rattle.machine_types.specs.PlainMemory.{Object}
-use Rattle.machine_types.specs.Structure.{AreHeldOnce}
-use Rattle.machine_types.specs.Threads.{Thread}
-use Rattle.machine_types.specs.declared.config.Config.{Config}
-use Rattle.machine_types.specs.declared.lock.Held.{Held}
-use Rattle.machine_types.specs.declared.lock.Kept.{Kept}
+use Rattle.machine_types.specs.{Accesses.found_by, Core.Core, Elision.elided, Events.{wanted, moved}, Frames.went_on, Going.goes_on_if}
+use Rattle.machine_types.specs.{HeldMonitors.{held_at, with_held, without_held, deeper, shallower}, Instructions.printed, LockWords.word_of_lock, Onward.{Onward, after, Running, rooted}}
+use Rattle.machine_types.specs.{Owners.{locks_in, references_of}, PlainMemory.Object, Structure.AreHeldOnce, Threads.Thread, declared.{access.Access.TheVariants.Cas, config.Config.Config}}
+use Rattle.machine_types.specs.declared.{lock.{Held.Held, Kept.Kept}, phase.Phase.Phase}
+use Rattle.laws_threads.proofs.{HeldLists.{held_monitor, held_put, held_without}, ThreadMove.{Takes, Move, becomes, counting, any_move, same_onward}}
+use Rattle.laws_states.{specs.{ChangeLaws.{KeepsFlat, CountsFollow}, SiteLaws.{EventsReachSites, SitesDiffer, SitesLieInside}, StateFacts.StateFacts}, proofs.EventLocks.{reached, lock_is}}
+use Rattle.laws_states.proofs.LockPhases.{lock_reached}
 use Rattle.machine_types.specs.declared.lock.Kept.TheVariants as keeps
 use Rattle.machine_types.specs.declared.lock.LockWord.TheVariants as locks
-use Rattle.machine_types.specs.declared.phase.Phase.{Phase}
 use Rattle.machine_types.specs.declared.phase.Phase.TheVariants as phases
-use Rattle.laws_threads.proofs.HeldLists.{held_monitor, held_put, held_without}
-use Rattle.laws_threads.proofs.ThreadMove.{Takes, Move, becomes, counting, any_move, same_onward}
 use Rattle.laws_threads.proofs.ThreadMove as moves
-use Rattle.laws_states.specs.SiteLaws.{EventsReachSites, SitesDiffer, SitesLieInside}
-use Rattle.laws_states.specs.StateFacts.{StateFacts}
-use Rattle.laws_states.proofs.LockPhases.{lock_reached}
-use Rattle.laws_states.specs.ChangeLaws.{KeepsFlat, CountsFollow}
-use Rattle.laws_states.proofs.EventLocks.{reached, lock_is}
-use Rattle.machine_types.specs.Elision.{elided}
-use Rattle.machine_types.specs.Instructions.{printed}
-use Rattle.machine_types.specs.Frames.{went_on}
 
 module _ (differ : SitesDiffer) (inside : SitesLieInside) (reach : EventsReachSites) (c : MarkedProgram) (cfg : Config) (objects : List Object) (was : ℕ → Phase) (s : Core) (t : ℕ) (x : Thread) (marked : IsMarked c)
     (facts : StateFacts c cfg objects was s) (there_is : slice_get s.threads t ≡ Some x) where

@@ -1,32 +1,14 @@
 -- An event keeps what holds of the words in every reached state, and its thread stays lawful.
-use Rattle.std.proofs.Common.{◌≡◌, ◌≢◌, ◌⊎◌, inl, inr, ℕ, zero, suc, ◌<◌, ◌^◌, List, [], ◌∷◌, Option, Some, None, refl, ap, sym, subst, ◌∙◌}
-use Rattle.std.specs.Prelude.{slice_get, slice_index, slice_set}
+use Rattle.std.proofs.Common.{◌≡◌, ◌≢◌, ◌⊎◌, inl, inr, ℕ, zero, suc, ◌<◌, ◌^◌, List, [], ◌∷◌, Option, Some, None, refl, ap, sym, subst, ◌∙◌, slice_get, slice_index, slice_set}
 use Rattle.std.proofs.lemmas.List.{length-set}
 use Rattle.lists.proofs.ListLaws.{same_some}
 use Rattle.checked_program.specs.MarkedProgram.{MarkedProgram, IsMarked}
-use Rattle.machine_types.specs.Accesses.{accessed, left_by, found_by, words_after}
-use Rattle.machine_types.specs.declared.access.Access.{Access}
-use Rattle.machine_types.specs.declared.access.Access.TheVariants.{Load, Store, Cas, Add, Or, And, Rest}
-use Rattle.machine_types.specs.Core.{Core, event, event_of}
-use Rattle.machine_types.specs.Events.{wanted, moved}
-use Rattle.machine_types.specs.Facts.{IsThread}
-use Rattle.machine_types.specs.Lawful.{IsLawful}
-use Rattle.machine_types.specs.Threads.{Thread}
-use Rattle.machine_types.specs.declared.config.Config.{Config}
-use Rattle.laws_threads.specs.PartLaws.{PartsFit, EventsFitParts}
-use Rattle.laws_threads.specs.GivenThread.{Given, given_of, GivenIsKept}
-use Rattle.laws_threads.specs.LawfulLaws.{LawfulIsKept}
-use Rattle.laws_states.specs.FoundLaws.{HeapWordsFit}
-use Rattle.laws_states.specs.HeapFacts.{objects_after}
-use Rattle.laws_states.specs.HeapLaws.{EventsKeepHeap}
-use Rattle.laws_states.specs.SiteLaws.{EventsReachSites, SitesLieInside}
-use Rattle.laws_states.proofs.Lists.{same_or_not}
-use Rattle.laws_states.specs.KeptWords.{EventsKeepLocks, EventsKeepRecords, EventsKeepCounters}
-use Rattle.laws_states.specs.LeftWords.{LeftMayStand}
-use Rattle.laws_states.specs.RunFacts.{HaveWidth, AreThreads, RunFacts}
-use Rattle.laws_states.specs.RunLaws.{EventsKeepFacts, EventsKeepThreads, ReachedFits}
-use Rattle.laws_states.proofs.Reached.{leaves_small}
-use Rattle.machine_types.proofs.Lists.{got_when_set, got_other}
+use Rattle.machine_types.specs.{Accesses.{accessed, left_by, found_by, words_after}, Core.{Core, event, event_of}, Events.{wanted, moved}, Facts.IsThread, Lawful.IsLawful, Threads.Thread}
+use Rattle.machine_types.{specs.declared.{access.Access.{Access, TheVariants.{Load, Store, Cas, Add, Or, And, Rest}}, config.Config.Config}, proofs.Lists.{got_when_set, got_other}}
+use Rattle.laws_threads.specs.{GivenThread.{Given, given_of, GivenIsKept}, LawfulLaws.LawfulIsKept, PartLaws.{PartsFit, EventsFitParts}}
+use Rattle.laws_states.specs.{FoundLaws.HeapWordsFit, HeapFacts.objects_after, HeapLaws.EventsKeepHeap, KeptWords.{EventsKeepLocks, EventsKeepRecords, EventsKeepCounters}, LeftWords.LeftMayStand}
+use Rattle.laws_states.specs.{RunFacts.{HaveWidth, AreThreads, RunFacts}, RunLaws.{EventsKeepFacts, EventsKeepThreads, ReachedFits}, SiteLaws.{EventsReachSites, SitesLieInside}}
+use Rattle.laws_states.proofs.{Lists.same_or_not, Reached.leaves_small}
 
 set_each : (P : ℕ → Type 0) (words : List ℕ) (w v : ℕ) → P v → ((i : ℕ) → P (slice_index words i)) → (i : ℕ) → P (slice_index (slice_set words w v) i)
 set_each P [] w v h all i = all i

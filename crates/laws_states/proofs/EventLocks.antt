@@ -1,42 +1,20 @@
 -- Whatever event happens, a fat lock stays fat, and a lock gets free by its holder alone.
-use Rattle.std.proofs.Common.{◌≡◌, ◌⊎◌, inl, inr, ℕ, zero, suc, ◌+◌, ◌<◌, nat_lt, Bool, true, false, cond, List, Option, Some, None, refl, sym, ap, ◌∙◌, subst}
-use Rattle.std.specs.Prelude.{◌==◌, slice_get, slice_index, slice_set}
+use Rattle.std.proofs.Common.{◌≡◌, ◌⊎◌, inl, inr, ℕ, zero, suc, ◌+◌, ◌<◌, nat_lt, Bool, true, false, cond, List, Option, Some, None, refl, sym, ap, ◌∙◌, subst, ◌==◌, slice_get, slice_index, slice_set}
 use Rattle.std.proofs.lemmas.Bool.Decides.{Decides-eqb}
+use Rattle.jvm_types.specs.declared.fixed_words.TheConstants.{NEXT_RECORD_WORD, MONITOR_RECORDS}
 use Rattle.checked_program.specs.MarkedProgram.{MarkedProgram, IsMarked}
-use Rattle.machine_types.specs.Accesses.{words_after}
-use Rattle.machine_types.specs.declared.access.Access.TheVariants.{Store, Cas}
-use Rattle.machine_types.specs.Bounds.{PhaseFits}
-use Rattle.machine_types.specs.Core.{Core}
-use Rattle.machine_types.specs.Elision.{looks}
-use Rattle.machine_types.specs.Events.{wanted}
-use Rattle.machine_types.specs.FoundWords.{leave_content, content_at}
-use Rattle.machine_types.specs.HeldMonitors.{held_at}
-use Rattle.machine_types.specs.Lawful.{IsLawful}
+use Rattle.machine_types.specs.{Accesses.words_after, Bounds.PhaseFits, Core.Core, Elision.looks, Events.wanted, FoundWords.{leave_content, content_at}, HeldMonitors.held_at, Lawful.IsLawful}
 use Rattle.machine_types.specs.LockWords.{word_of_lock, lock_of, next_count}
 use Rattle.machine_types.specs.Monitors.{Claim, Has, Tries, HasNot, claim, claim_by, enter_wants, freed, count_kept, release, finish_wants, leave_wants}
-use Rattle.machine_types.specs.Owners.{Locks, hold_by_kept, hold_by_list, Owns, locks_in, references_of}
-use Rattle.machine_types.specs.PlainMemory.{Object}
-use Rattle.machine_types.specs.Structure.{IsAs, IsFlat, PhaseShows, IsStructured}
-use Rattle.machine_types.specs.Threads.{Attempt, Thread}
-use Rattle.machine_types.specs.Words.{owner_word, bits_word}
-use Rattle.machine_types.specs.declared.config.Config.{Config}
-use Rattle.machine_types.specs.declared.lock.Held.{Held}
-use Rattle.machine_types.specs.declared.lock.Kept.{Kept}
-use Rattle.machine_types.specs.declared.lock.Kept.TheVariants as keeps
-use Rattle.machine_types.specs.declared.lock.LockWord.{LockWord}
-use Rattle.machine_types.specs.declared.lock.LockWord.TheVariants as locks
-use Rattle.machine_types.specs.declared.phase.Phase.{Phase}
-use Rattle.machine_types.specs.declared.phase.Phase.TheVariants as phases
-use Rattle.jvm_types.specs.declared.fixed_words.TheConstants.{NEXT_RECORD_WORD, MONITOR_RECORDS}
-use Rattle.laws_states.specs.HeapFacts.{objects_by}
-use Rattle.laws_states.specs.SiteLaws.{EventsReachSites, SitesDiffer, SitesLieInside}
-use Rattle.laws_states.specs.Sites.{HasObject, ReachesIf}
-use Rattle.laws_states.specs.StateFacts.{StateFacts}
-use Rattle.laws_states.proofs.LockPhases.{lock_reached}
-use Rattle.laws_states.proofs.LockViews.{set_lock, flatly, fatly}
-use Rattle.laws_states.proofs.QuietWords.{IsQuiet, quiet_view}
+use Rattle.machine_types.specs.{Owners.{Locks, hold_by_kept, hold_by_list, Owns, locks_in, references_of}, PlainMemory.Object, Structure.{IsAs, IsFlat, PhaseShows, IsStructured}}
+use Rattle.machine_types.specs.{Threads.{Attempt, Thread}, Words.{owner_word, bits_word}, declared.{access.Access.TheVariants.{Store, Cas}, config.Config.Config, lock.{Held.Held, Kept.Kept}}}
+use Rattle.machine_types.specs.declared.{lock.LockWord.LockWord, phase.Phase.Phase}
+use Rattle.laws_states.specs.{ChangeLaws.{IsFreed, LockGoes, LocksFollow}, HeapFacts.objects_by, SiteLaws.{EventsReachSites, SitesDiffer, SitesLieInside}, Sites.{HasObject, ReachesIf}}
+use Rattle.laws_states.{specs.StateFacts.StateFacts, proofs.{LockPhases.lock_reached, LockViews.{set_lock, flatly, fatly}, QuietWords.{IsQuiet, quiet_view}}}
 use Rattle.laws_states.proofs.WordViews.{lock_of_word, object_has, set_self, lock_view, owner_view, next_view}
-use Rattle.laws_states.specs.ChangeLaws.{IsFreed, LockGoes, LocksFollow}
+use Rattle.machine_types.specs.declared.lock.Kept.TheVariants as keeps
+use Rattle.machine_types.specs.declared.lock.LockWord.TheVariants as locks
+use Rattle.machine_types.specs.declared.phase.Phase.TheVariants as phases
 
 -- ---- how one lock goes on
 

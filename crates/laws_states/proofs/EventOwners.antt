@@ -1,47 +1,19 @@
 -- Whatever event happens, who holds which lock is as the words and the threads say.
-use Rattle.std.proofs.Common.{◌≡◌, ℕ, ◌≤◌, nat_lt, Bool, true, false, cond, List, Option, Some, None, refl, sym, ap, ◌∙◌, subst, arith}
-use Rattle.std.specs.Prelude.{slice_get, slice_index, ◌==◌}
-use Rattle.std.proofs.lemmas.Bool.Decides.{Decides-eqb}
-use Rattle.jvm_types.specs.Numbers.{has_flag}
-use Rattle.jvm_types.specs.declared.outcome.End.{End}
-use Rattle.jvm_types.specs.declared.outcome.End.TheVariants as ends
+use Rattle.std.proofs.{Common.{◌≡◌, ℕ, ◌≤◌, nat_lt, Bool, true, false, cond, List, Option, Some, None, refl, sym, ap, ◌∙◌, subst, arith, slice_get, slice_index, ◌==◌}, lemmas.Bool.Decides.Decides-eqb}
+use Rattle.jvm_types.specs.{Numbers.has_flag, declared.outcome.End.End}
 use Rattle.checked_program.specs.MarkedProgram.{MarkedProgram, IsMarked}
-use Rattle.machine_types.specs.Accesses.{found_by, words_after}
-use Rattle.machine_types.specs.declared.access.Access.TheVariants.{Load}
-use Rattle.machine_types.specs.Bounds.{PhaseFits}
-use Rattle.machine_types.specs.Core.{Core, event_of}
-use Rattle.machine_types.specs.Elision.{looks, may_try}
-use Rattle.machine_types.specs.Events.{wanted, moved}
-use Rattle.machine_types.specs.FoundWords.{content_at}
-use Rattle.machine_types.specs.Going.{runs, with_phase}
-use Rattle.machine_types.specs.HeldMonitors.{held_at}
-use Rattle.machine_types.specs.Lawful.{IsLawful}
-use Rattle.machine_types.specs.LockWords.{lock_of}
-use Rattle.machine_types.specs.Monitors.{bit_of, lowest_of}
-use Rattle.machine_types.specs.Owners.{Locks, drawn_by, Knows, PhaseSaw, Owns, locks_in, references_of, Owners}
-use Rattle.machine_types.specs.PlainMemory.{Object}
-use Rattle.machine_types.specs.Structure.{AreHeldOnce, IsAs, PhaseShows, IsStructured, Structure}
-use Rattle.machine_types.specs.Threads.{Attempt, Thread}
-use Rattle.machine_types.specs.Words.{bits_word}
-use Rattle.machine_types.specs.declared.config.Config.{Config}
-use Rattle.machine_types.specs.declared.phase.Phase.{Phase}
+use Rattle.machine_types.specs.{Accesses.{found_by, words_after}, Bounds.PhaseFits, Core.{Core, event_of}, Elision.{looks, may_try}, Events.{wanted, moved}, FoundWords.content_at}
+use Rattle.machine_types.specs.{Going.{runs, with_phase}, HeldMonitors.held_at, Lawful.IsLawful, LockWords.lock_of, Monitors.{bit_of, lowest_of}}
+use Rattle.machine_types.specs.{Owners.{Locks, drawn_by, Knows, PhaseSaw, Owns, locks_in, references_of, Owners}, PlainMemory.Object}
+use Rattle.machine_types.specs.{Structure.{AreHeldOnce, IsAs, PhaseShows, IsStructured, Structure}, Threads.{Attempt, Thread}, Words.bits_word, declared.access.Access.TheVariants.Load}
+use Rattle.machine_types.specs.declared.{config.Config.Config, phase.Phase.Phase}
+use Rattle.laws_threads.{specs.{GivenThread.{Given, GivenIsKept}, StateLaws.{counted_of, counted_phase_at}, StructureLaws.counted_by}, proofs.ThreadMove.of_mover}
+use Rattle.laws_states.specs.{HeapFacts.{HeapFacts, objects_by, objects_of}, OwnersLaws.EventsKeepOwners, RunFacts.AreThreads, SiteLaws.{EventsReachSites, SitesDiffer, SitesLieInside}}
+use Rattle.laws_states.{specs.Sites.ReachesIf, proofs.{CountedPhases.{IsPlain, counted_plain}, LockPhases.{plain, knowing, loaded, lock_here, lock_reached, acquired, entered}}}
+use Rattle.laws_states.proofs.{OwnerPhases.{runs_counted, took, flagged, took_fat, retook, waited, left, flat_out, drawn, owned, fattened, gone_out}, OwnersStep.{Owes, owned_on}}
+use Rattle.laws_states.proofs.{PlainMoves.{same_look, Plainly, moves_plainly}, QuietWords.{IsQuiet, quiet_view}, SameTally.{Tally, tally_of, same_tally}}
+use Rattle.jvm_types.specs.declared.outcome.End.TheVariants as ends
 use Rattle.machine_types.specs.declared.phase.Phase.TheVariants as phases
-use Rattle.laws_threads.specs.StructureLaws.{counted_by}
-use Rattle.laws_threads.specs.StateLaws.{counted_of, counted_phase_at}
-use Rattle.laws_threads.specs.GivenThread.{Given, GivenIsKept}
-use Rattle.laws_threads.proofs.ThreadMove.{of_mover}
-use Rattle.laws_states.specs.HeapFacts.{HeapFacts, objects_by, objects_of}
-use Rattle.laws_states.specs.SiteLaws.{EventsReachSites, SitesDiffer, SitesLieInside}
-use Rattle.laws_states.specs.Sites.{ReachesIf}
-use Rattle.laws_states.specs.RunFacts.{AreThreads}
-use Rattle.laws_states.proofs.SameTally.{Tally, tally_of, same_tally}
-use Rattle.laws_states.specs.OwnersLaws.{EventsKeepOwners}
-use Rattle.laws_states.proofs.CountedPhases.{IsPlain, counted_plain}
-use Rattle.laws_states.proofs.LockPhases.{plain, knowing, loaded, lock_here, lock_reached, acquired, entered}
-use Rattle.laws_states.proofs.OwnerPhases.{runs_counted, took, flagged, took_fat, retook, waited, left, flat_out, drawn, owned, fattened, gone_out}
-use Rattle.laws_states.proofs.OwnersStep.{Owes, owned_on}
-use Rattle.laws_states.proofs.PlainMoves.{same_look, Plainly, moves_plainly}
-use Rattle.laws_states.proofs.QuietWords.{IsQuiet, quiet_view}
 
 -- ---- the end of a thread
 

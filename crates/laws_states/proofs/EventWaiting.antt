@@ -1,44 +1,19 @@
 -- Whatever event happens, who waits is as the waiting bits and the threads say.
-use Rattle.std.proofs.Common.{◌≡◌, ◌≢◌, ◌⊎◌, inl, inr, ℕ, ◌+◌, ◌-◌, ◌^◌, ◌<◌, nat_lt, Bool, true, false, cond, List, length, Option, Some, None, refl, sym, ap, ◌∙◌, subst, arith}
-use Rattle.std.specs.Prelude.{◌==◌, bit_and, bit_or, slice_get, slice_index, slice_set}
-use Rattle.std.proofs.lemmas.Bool.Decides.{Decides-eqb}
-use Rattle.std.proofs.lemmas.Bool.{eqb-false}
-use Rattle.jvm_types.specs.Numbers.{has_flag}
-use Rattle.jvm_types.specs.declared.outcome.End.TheVariants as ends
+use Rattle.std.proofs.Common.{◌≡◌, ◌≢◌, ◌⊎◌, inl, inr, ℕ, ◌+◌, ◌-◌, ◌^◌, ◌<◌, nat_lt, Bool, true, false, cond, List, length, Option, Some, None, refl, sym, ap, ◌∙◌, subst, arith, ◌==◌, bit_and, bit_or, slice_get, slice_index, slice_set}
+use Rattle.std.proofs.lemmas.Bool.{eqb-false, Decides.Decides-eqb}
+use Rattle.jvm_types.specs.{Numbers.has_flag, declared.fixed_words.TheConstants.MONITOR_RECORDS}
 use Rattle.checked_program.specs.MarkedProgram.{MarkedProgram, IsMarked}
-use Rattle.machine_types.specs.Accesses.{found_by, words_after}
-use Rattle.machine_types.specs.Bounds.{PhaseFits}
-use Rattle.machine_types.specs.Core.{Core, event_of}
-use Rattle.machine_types.specs.Events.{wanted, moved}
-use Rattle.machine_types.specs.Going.{runs, failed_turn, with_phase}
-use Rattle.machine_types.specs.HeldMonitors.{held_at}
-use Rattle.machine_types.specs.Lawful.{IsLawful}
-use Rattle.machine_types.specs.Monitors.{bit_of, goes_to_wait, lowest_of}
-use Rattle.machine_types.specs.Owners.{locks_in, references_of, Owners}
-use Rattle.machine_types.specs.PlainMemory.{Object}
-use Rattle.machine_types.specs.Structure.{IsAs, IsFat, PhaseShows, IsStructured, Structure}
-use Rattle.machine_types.specs.Threads.{Thread}
-use Rattle.machine_types.specs.Waiting.{is_bit_set, MayWait, MustWait, Waits, Waiting}
-use Rattle.machine_types.specs.Words.{bits_word}
-use Rattle.jvm_types.specs.declared.fixed_words.TheConstants.{MONITOR_RECORDS}
-use Rattle.machine_types.specs.declared.config.Config.{Config}
-use Rattle.machine_types.specs.declared.lock.Held.{Held}
-use Rattle.machine_types.specs.declared.phase.Phase.{Phase}
-use Rattle.machine_types.specs.declared.phase.Phase.TheVariants as phases
-use Rattle.laws_threads.specs.StructureLaws.{counted_by}
-use Rattle.laws_threads.specs.StateLaws.{counted_of, counted_phase_at}
-use Rattle.laws_states.specs.HeapFacts.{HeapFacts}
-use Rattle.laws_states.specs.SiteLaws.{EventsReachSites, SitesDiffer, SitesLieInside}
-use Rattle.laws_states.specs.Sites.{BitsOf}
-use Rattle.laws_states.proofs.Lists.{same_or_not, set_here, set_there}
-use Rattle.laws_states.specs.RunFacts.{AreThreads}
-use Rattle.laws_states.specs.SharedWords.{RecordsFit}
-use Rattle.laws_states.specs.WaitingLaws.{EventsKeepWaiting}
-use Rattle.laws_states.proofs.CalmMoves.{IsCalm, GoesCalm, counted_calm, moved_calm, runs_counted}
-use Rattle.laws_states.proofs.PartWaiting.{counted_waits, ended_waits}
-use Rattle.laws_states.proofs.StillBits.{IsStill, same_changes, still_bits}
-use Rattle.laws_states.proofs.WaitingBits.{set_sets, set_keeps, set_other, left_was_set, lowest_set}
+use Rattle.machine_types.specs.{Accesses.{found_by, words_after}, Bounds.PhaseFits, Core.{Core, event_of}, Events.{wanted, moved}, Going.{runs, failed_turn, with_phase}, HeldMonitors.held_at}
+use Rattle.machine_types.specs.{Lawful.IsLawful, Monitors.{bit_of, goes_to_wait, lowest_of}, Owners.{locks_in, references_of, Owners}, PlainMemory.Object}
+use Rattle.machine_types.specs.{Structure.{IsAs, IsFat, PhaseShows, IsStructured, Structure}, Threads.Thread, Waiting.{is_bit_set, MayWait, MustWait, Waits, Waiting}, Words.bits_word}
+use Rattle.machine_types.specs.declared.{config.Config.Config, lock.Held.Held, phase.Phase.Phase}
+use Rattle.laws_threads.specs.{StateLaws.{counted_of, counted_phase_at}, StructureLaws.counted_by}
+use Rattle.laws_states.specs.{HeapFacts.HeapFacts, RunFacts.AreThreads, SharedWords.RecordsFit, SiteLaws.{EventsReachSites, SitesDiffer, SitesLieInside}, Sites.BitsOf, WaitingLaws.EventsKeepWaiting}
+use Rattle.laws_states.proofs.{CalmMoves.{IsCalm, GoesCalm, counted_calm, moved_calm, runs_counted}, Lists.{same_or_not, set_here, set_there}, PartWaiting.{counted_waits, ended_waits}}
+use Rattle.laws_states.proofs.{StillBits.{IsStill, same_changes, still_bits}, WaitingBits.{set_sets, set_keeps, set_other, left_was_set, lowest_set}}
 use Rattle.laws_states.proofs.WaitingStep.{record_of, OwnsRecord, owned_record, Changes, waited_on}
+use Rattle.jvm_types.specs.declared.outcome.End.TheVariants as ends
+use Rattle.machine_types.specs.declared.phase.Phase.TheVariants as phases
 
 -- ---- the bits of one record are written
 

@@ -1,42 +1,20 @@
 -- What an event leaves of the words for locking and of the counters.
-use Rattle.std.proofs.Common.{◌≡◌, ◌≢◌, ◌⊎◌, inl, inr, ℕ, zero, suc, ◌+◌, ◌*◌, ◌<◌, ◌≤◌, ◌^◌, Bool, true, false, List, ◌∷◌, length, Option, Some, None, refl, ap, sym, subst, ◌∙◌, arith}
-use Rattle.std.specs.Prelude.{Contains, slice_get, slice_index, slice_set, ◌==◌, if◌then◌else◌}
+use Rattle.std.proofs.Common.{◌≡◌, ◌≢◌, ◌⊎◌, inl, inr, ℕ, zero, suc, ◌+◌, ◌*◌, ◌<◌, ◌≤◌, ◌^◌, Bool, true, false, List, ◌∷◌, length, Option, Some, None, refl, ap, sym, subst, ◌∙◌, arith, Contains, slice_get, slice_index, slice_set, ◌==◌, if◌then◌else◌}
 use Rattle.lists.proofs.ListLaws.{same_some}
-use Rattle.jvm_types.specs.ProgramInvariant.{IsProgram}
-use Rattle.jvm_types.specs.declared.class_numbers.TheConstants.{INT_ARRAY_CLASS}
+use Rattle.jvm_types.specs.{ProgramInvariant.IsProgram, declared.{class_numbers.TheConstants.INT_ARRAY_CLASS, fixed_words.TheConstants.{NEXT_FREE_WORD, NEXT_TICKET_WORD, NEXT_RECORD_WORD}}}
 use Rattle.jvm_types.specs.declared.program.Program.{Program}
 use Rattle.checked_program.specs.MarkedProgram.{MarkedProgram, IsMarked}
-use Rattle.machine_types.specs.Accesses.{accessed, left_by, performed, words_after}
-use Rattle.machine_types.specs.declared.access.Access.{Access}
-use Rattle.machine_types.specs.declared.access.Access.TheVariants.{Load, Store, Cas, Add, Or, And, Rest}
-use Rattle.machine_types.specs.Core.{Core}
-use Rattle.machine_types.specs.Events.{wanted}
-use Rattle.machine_types.specs.FoundWords.{Content, Lock, Owner, Bits, Any, content_at, IsHeader}
-use Rattle.machine_types.specs.Frames.{top_of}
-use Rattle.machine_types.specs.Lawful.{IsLawful}
-use Rattle.machine_types.specs.PlainMemory.{Object, new_object}
-use Rattle.machine_types.specs.NewObjects.{size_by}
-use Rattle.machine_types.specs.Structure.{IsStructured, Stands}
-use Rattle.machine_types.specs.Threads.{Thread}
-use Rattle.machine_types.specs.Typed.{PhaseHolds}
-use Rattle.machine_types.specs.Lawful.{within}
-use Rattle.machine_types.specs.Words.{header_word, header_class, header_length, array_size, object_size}
-use Rattle.jvm_types.specs.declared.fixed_words.TheConstants.{NEXT_FREE_WORD, NEXT_TICKET_WORD, NEXT_RECORD_WORD}
-use Rattle.machine_types.specs.declared.lock.LockWord.TheVariants as locks
+use Rattle.machine_types.specs.{Accesses.{accessed, left_by, performed, words_after}, Core.Core, Events.wanted, FoundWords.{Content, Lock, Owner, Bits, Any, content_at, IsHeader}, Frames.top_of}
+use Rattle.machine_types.specs.{Lawful.{IsLawful, within}, NewObjects.size_by, PlainMemory.{Object, new_object}, Structure.{IsStructured, Stands}, Threads.Thread, Typed.PhaseHolds}
+use Rattle.machine_types.specs.{Words.{header_word, header_class, header_length, array_size, object_size}, declared.access.Access.{Access, TheVariants.{Load, Store, Cas, Add, Or, And, Rest}}}
 use Rattle.machine_types.specs.declared.phase.Phase.{Phase}
-use Rattle.machine_types.specs.declared.phase.Phase.TheVariants as phases
-use Rattle.laws_states.specs.HeapFacts.{HeapFacts, objects_by}
-use Rattle.laws_states.specs.SiteLaws.{EventsReachSites, SitesDiffer, SitesLieInside}
-use Rattle.laws_states.specs.Sites.{Site, Counter, OwnerOf, BitsOf, LockOf, NewHeaderOf, site_word, IsThere, Suits, IsAccessOf, ReachesIf}
-use Rattle.laws_states.proofs.Lists.{same_or_not, set_here, set_there}
-use Rattle.laws_states.specs.Counters.{most_size}
-use Rattle.laws_states.specs.LeftWords.{LeftMayStand}
-use Rattle.laws_states.specs.SharedWords.{IsLock, MayStand, LocksFit, RecordsFit}
-use Rattle.laws_states.proofs.CountedEvents.{drawn_by}
-use Rattle.laws_states.proofs.LeftSmall.{PhaseStores, IsMade, only_adds, added, adds_few, AddsFew}
-use Rattle.laws_states.proofs.LeftStands.{word_is_lock}
-use Rattle.laws_states.proofs.TopStores.{stores_fit, stored_small}
 use Rattle.laws_threads.proofs.ThreadMove.{begun_by}
+use Rattle.laws_states.specs.{Counters.most_size, HeapFacts.{HeapFacts, objects_by}, LeftWords.LeftMayStand, SharedWords.{IsLock, MayStand, LocksFit, RecordsFit}}
+use Rattle.laws_states.specs.{SiteLaws.{EventsReachSites, SitesDiffer, SitesLieInside}, Sites.{Site, Counter, OwnerOf, BitsOf, LockOf, NewHeaderOf, site_word, IsThere, Suits, IsAccessOf, ReachesIf}}
+use Rattle.laws_states.proofs.{CountedEvents.drawn_by, LeftSmall.{PhaseStores, IsMade, only_adds, added, adds_few, AddsFew}, LeftStands.word_is_lock, Lists.{same_or_not, set_here, set_there}}
+use Rattle.laws_states.proofs.TopStores.{stores_fit, stored_small}
+use Rattle.machine_types.specs.declared.lock.LockWord.TheVariants as locks
+use Rattle.machine_types.specs.declared.phase.Phase.TheVariants as phases
 
 -- ---- what suits a site
 

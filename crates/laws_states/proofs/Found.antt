@@ -1,54 +1,23 @@
 -- What an event finds of headers, fields and elements is what stands there.
-use Rattle.std.proofs.Common.{◌≡◌, ℕ, ◌<◌, ◌^◌, inl, inr, true, List, [], ◌∷◌, length, Option, Some, None, refl, ap, sym, subst, ◌∙◌, arith}
-use Rattle.std.specs.Prelude.{slice_get, slice_index, IsSome}
+use Rattle.std.proofs.Common.{◌≡◌, ℕ, ◌<◌, ◌^◌, inl, inr, true, List, [], ◌∷◌, length, Option, Some, None, refl, ap, sym, subst, ◌∙◌, arith, slice_get, slice_index, IsSome}
 use Rattle.lists.proofs.ListLaws.{same_some}
-use Rattle.jvm_types.specs.ClassNames.{is_throwable}
-use Rattle.jvm_types.specs.ProgramInvariant.{IsProgram}
-use Rattle.jvm_types.specs.declared.class_numbers.TheConstants.{INT_ARRAY_CLASS, THROWABLE_CLASS}
-use Rattle.jvm_types.specs.declared.code.Insn.{Insn}
-use Rattle.jvm_types.specs.declared.op_row.OpRow.{OpRow}
-use Rattle.jvm_types.specs.declared.outcome.Thrown.{Thrown}
-use Rattle.jvm_types.specs.declared.program.FieldInfo.{FieldInfo}
-use Rattle.jvm_types.specs.declared.program.Kind.{Kind}
-use Rattle.jvm_types.specs.declared.program.Kind.TheVariants as kinds
-use Rattle.jvm_types.specs.declared.program.MethodInfo.{MethodInfo}
-use Rattle.jvm_types.specs.declared.program.Target.{Target}
+use Rattle.jvm_types.specs.{ClassNames.is_throwable, ProgramInvariant.IsProgram, declared.{class_numbers.TheConstants.{INT_ARRAY_CLASS, THROWABLE_CLASS}, code.Insn.Insn, op_row.OpRow.OpRow}}
+use Rattle.jvm_types.specs.declared.{outcome.Thrown.Thrown, program.{FieldInfo.FieldInfo, Kind.Kind, MethodInfo.MethodInfo, Target.Target}}
 use Rattle.laws_programs.proofs.ClassTreeLaws.{leaves_alone, throwables_below}
-use Rattle.checked_program.specs.MarkedProgram.{MarkedProgram, IsMarked}
-use Rattle.checked_program.specs.TaggedCode.{row_of}
-use Rattle.machine_types.specs.Accesses.{found_by}
-use Rattle.machine_types.specs.Core.{Core}
-use Rattle.machine_types.specs.Events.{element_wants, wanted}
-use Rattle.machine_types.specs.FoundWords.{IsHeader, WordFits, kind_content, variable_content, effect_content, run_content, leave_content, content_at}
-use Rattle.machine_types.specs.Frames.{Top, top_of, effect_at}
-use Rattle.machine_types.specs.Instructions.{effect_wants, run_wants}
-use Rattle.machine_types.specs.Lawful.{IsLawful}
-use Rattle.machine_types.specs.Monitors.{Claim, Has, Tries, HasNot, claim}
-use Rattle.machine_types.specs.PlainMemory.{Object, header_of}
-use Rattle.machine_types.specs.ReadyObjects.{class_of, thrown_of}
-use Rattle.machine_types.specs.Threads.{Frame, Thread}
-use Rattle.machine_types.specs.Typed.{KindHolds, FramesHold, HasClass, PhaseHolds}
-use Rattle.machine_types.specs.Structure.{IsAs}
-use Rattle.machine_types.specs.Words.{header_class, header_length, header_word, variable_word}
-use Rattle.machine_types.specs.declared.effect.Effect.{Effect}
+use Rattle.checked_program.specs.{MarkedProgram.{MarkedProgram, IsMarked}, TaggedCode.row_of}
+use Rattle.machine_types.specs.{Accesses.found_by, Core.Core, Events.{element_wants, wanted}}
+use Rattle.machine_types.specs.{FoundWords.{IsHeader, WordFits, kind_content, variable_content, effect_content, run_content, leave_content, content_at}, Frames.{Top, top_of, effect_at}}
+use Rattle.machine_types.specs.{Instructions.{effect_wants, run_wants}, Lawful.IsLawful, Monitors.{Claim, Has, Tries, HasNot, claim}, PlainMemory.{Object, header_of}}
+use Rattle.machine_types.specs.{ReadyObjects.{class_of, thrown_of}, Structure.IsAs, Threads.{Frame, Thread}, Typed.{KindHolds, FramesHold, HasClass, PhaseHolds}}
+use Rattle.machine_types.specs.{Words.{header_class, header_length, header_word, variable_word}, declared.effect.Effect.Effect}
 use Rattle.machine_types.specs.declared.effect.Effect.TheVariants.{Goes, Throws, Reads, Writes, Indexes, Measures, Raises, Makes, Prints, Calls, Returns, Enters, Leaves, Waits, Notifies, NotifiesAll, Stuck}
-use Rattle.machine_types.specs.declared.effect.Variable.{Variable}
-use Rattle.machine_types.specs.declared.lock.Kept.{Kept}
+use Rattle.machine_types.specs.declared.{effect.Variable.Variable, lock.Kept.Kept, phase.Phase.Phase}
+use Rattle.laws_threads.{specs.Allowed.{IsOf, IsNamedField, Allowed}, proofs.{KeptPhases.PhaseFinds, Landing.stand_top, Onwards.FoundHolds, Standings.top_here, TopEffects.allowed_here}}
+use Rattle.laws_states.{specs.{FoundLaws.{IsOfHeap, HeapWordsFit}, HeapFacts.HeapFacts}, proofs.Accesses.{out_there, read_holds, content_is, ElementSite, element_site, element_small}}
+use Rattle.laws_states.proofs.{Headers.{array_length, class_small, thrown_is, thrown_some, throwable_small}, Lists.contained_got, Phases.{Asks, asked}}
+use Rattle.jvm_types.specs.declared.program.Kind.TheVariants as kinds
 use Rattle.machine_types.specs.declared.lock.Kept.TheVariants as keeps
-use Rattle.machine_types.specs.declared.phase.Phase.{Phase}
 use Rattle.machine_types.specs.declared.phase.Phase.TheVariants as phases
-use Rattle.laws_threads.specs.Allowed.{IsOf, IsNamedField, Allowed}
-use Rattle.laws_threads.proofs.Landing.{stand_top}
-use Rattle.laws_threads.proofs.Standings.{top_here}
-use Rattle.laws_threads.proofs.TopEffects.{allowed_here}
-use Rattle.laws_threads.proofs.Onwards.{FoundHolds}
-use Rattle.laws_threads.proofs.KeptPhases.{PhaseFinds}
-use Rattle.laws_states.specs.FoundLaws.{IsOfHeap, HeapWordsFit}
-use Rattle.laws_states.specs.HeapFacts.{HeapFacts}
-use Rattle.laws_states.proofs.Lists.{contained_got}
-use Rattle.laws_states.proofs.Headers.{array_length, class_small, thrown_is, thrown_some, throwable_small}
-use Rattle.laws_states.proofs.Accesses.{out_there, read_holds, content_is, ElementSite, element_site, element_small}
-use Rattle.laws_states.proofs.Phases.{Asks, asked}
 
 module _ (c : MarkedProgram) (marked : IsMarked c) (objects : List Object) (s : Core) (facts : HeapFacts c objects s) where
   is_program : IsProgram c.program

@@ -1,19 +1,12 @@
 -- A run with one happening more, and that its states keep their sizes.
-use Rattle.std.proofs.Common.{◌≡◌, ℕ, zero, suc, ◌+◌, Bool, true, false, cond, List, [], ◌∷◌, ◌++◌, length, length-set, Option, Some, None, refl, ap, ◌∙◌}
-use Rattle.std.specs.Prelude.{slice_get, slice_set}
-use Rattle.std.proofs.lemmas.List.{length-map}
-use Rattle.std.proofs.lemmas.List.FromFn.{length-map-range_with_len}
+use Rattle.std.proofs.Common.{◌≡◌, ℕ, zero, suc, ◌+◌, Bool, true, false, cond, List, [], ◌∷◌, ◌++◌, length, length-set, Option, Some, None, refl, ap, ◌∙◌, slice_get, slice_set}
+use Rattle.std.proofs.lemmas.List.{length-map, FromFn.length-map-range_with_len}
 use Rattle.jvm_types.specs.declared.program.Program.{Program}
 use Rattle.checked_program.specs.MarkedProgram.{MarkedProgram}
 use Rattle.machine_types.specs.Accesses.{performed, words_after}
-use Rattle.machine_types.specs.declared.access.Access.{Access}
-use Rattle.machine_types.specs.declared.access.Access.TheVariants.{Load, Store, Cas, Add, Or, And, Rest}
 use Rattle.machine_types.specs.Core.{Core, Happening, Of, NextPart, all_happened, core, event, event_of, happened, may_begin, next_threads, part_begins, start, start_thread, with_roots}
-use Rattle.machine_types.specs.Events.{wanted}
-use Rattle.machine_types.specs.Parts.{run_roots}
-use Rattle.machine_types.specs.Threads.{Thread}
+use Rattle.machine_types.{specs.{Events.wanted, Parts.run_roots, Threads.Thread, declared.access.Access.{Access, TheVariants.{Load, Store, Cas, Add, Or, And, Rest}}}, proofs.Lists.got_when_set}
 use Rattle.laws_states.specs.GrowingRuns.{OneMoreHappens, RunsKeepSizes, behind, ThreadsStayOfRuns}
-use Rattle.machine_types.proofs.Lists.{got_when_set}
 
 -- ---- one happening more
 

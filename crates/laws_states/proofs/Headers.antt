@@ -1,28 +1,14 @@
 -- Headers: of an object that is there, and of one that is made.
-use Rattle.std.proofs.Common.{◌≡◌, ℕ, zero, suc, ◌+◌, ◌-◌, ◌<◌, ◌≤◌, Bool, true, false, not, ◌&&◌, List, [], ◌∷◌, length, Some, None, refl, ap, sym, subst, ◌∙◌, arith}
-use Rattle.std.specs.Prelude.{◌==◌, nat_lt, replicate, slice_get, if◌then◌else◌, IsSome}
-use Rattle.std.proofs.lemmas.List.{length-replicate}
-use Rattle.jvm_types.specs.declared.limits.TheConstants.{MOST_FILES}
-use Rattle.jvm_types.specs.declared.fixed_words.TheConstants.{OBJECT_HEAD_WORDS}
-use Rattle.std.proofs.lemmas.Bool.Decides.{nat_tests}
-use Rattle.jvm_types.specs.ClassNames.{is_class, is_throwable}
-use Rattle.jvm_types.specs.Members.{is_static}
-use Rattle.jvm_types.specs.ProgramInvariant.{IsProgram, IsClassOf, instances_among}
-use Rattle.jvm_types.specs.declared.class_numbers.TheConstants.{INT_ARRAY_CLASS}
-use Rattle.jvm_types.specs.declared.outcome.Thrown.{Thrown}
-use Rattle.jvm_types.specs.declared.outcome.Thrown.TheVariants as thrown
-use Rattle.jvm_types.specs.declared.program.FieldInfo.{FieldInfo}
-use Rattle.jvm_types.specs.declared.program.MethodInfo.{MethodInfo}
-use Rattle.jvm_types.specs.declared.program.Program.{Program}
-use Rattle.jvm_types.specs.declared.typing.VType.{VType}
-use Rattle.jvm_types.specs.declared.typing.VType.TheVariants.{Ref, New}
-use Rattle.machine_types.specs.FoundWords.{IsHeader}
-use Rattle.machine_types.specs.NewObjects.{size_by}
-use Rattle.machine_types.specs.PlainMemory.{Object, header_of, new_object}
-use Rattle.machine_types.specs.ReadyObjects.{class_of, thrown_of, throwables}
+use Rattle.std.proofs.Common.{◌≡◌, ℕ, zero, suc, ◌+◌, ◌-◌, ◌<◌, ◌≤◌, Bool, true, false, not, ◌&&◌, List, [], ◌∷◌, length, Some, None, refl, ap, sym, subst, ◌∙◌, arith, ◌==◌, nat_lt, replicate, slice_get, if◌then◌else◌, IsSome}
+use Rattle.std.proofs.lemmas.{Bool.Decides.nat_tests, List.length-replicate}
+use Rattle.jvm_types.specs.{ClassNames.{is_class, is_throwable}, Members.is_static, ProgramInvariant.{IsProgram, IsClassOf, instances_among}, declared.class_numbers.TheConstants.INT_ARRAY_CLASS}
+use Rattle.jvm_types.specs.declared.{fixed_words.TheConstants.OBJECT_HEAD_WORDS, limits.TheConstants.MOST_FILES, outcome.Thrown.Thrown, program.{FieldInfo.FieldInfo, MethodInfo.MethodInfo}}
+use Rattle.jvm_types.specs.declared.{program.Program.Program, typing.VType.{VType, TheVariants.{Ref, New}}}
+use Rattle.checked_program.proofs.FewFields.{counts_few}
+use Rattle.machine_types.specs.{FoundWords.IsHeader, NewObjects.size_by, PlainMemory.{Object, header_of, new_object}, ReadyObjects.{class_of, thrown_of, throwables}}
 use Rattle.machine_types.specs.Words.{header, header_class, header_length, object_size, array_size}
 use Rattle.laws_threads.specs.Allowed.{MadeAs}
-use Rattle.checked_program.proofs.FewFields.{counts_few}
+use Rattle.jvm_types.specs.declared.outcome.Thrown.TheVariants as thrown
 
 -- ---- a class and a length
 

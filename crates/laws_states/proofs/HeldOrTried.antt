@@ -1,18 +1,9 @@
 -- A monitor that a thread is to leave is one that it holds, or that of its attempt.
-use Rattle.std.proofs.Common.{◌≡◌, ℕ, ◌+◌, ◌<◌, Bool, true, false, Option, Some, None, List, refl, ap, subst, arith}
-use Rattle.std.specs.Prelude.{◌==◌, ◌≢◌, if◌then◌else◌}
-use Rattle.std.proofs.lemmas.Bool.Decides.{nat_tests}
+use Rattle.std.proofs.{Common.{◌≡◌, ℕ, ◌+◌, ◌<◌, Bool, true, false, Option, Some, None, List, refl, ap, subst, arith, ◌==◌, ◌≢◌, if◌then◌else◌}, lemmas.Bool.Decides.nat_tests}
 use Rattle.checked_program.specs.MarkedProgram.{MarkedProgram, IsMarked}
-use Rattle.machine_types.specs.HeldMonitors.{held_at}
-use Rattle.machine_types.specs.Monitors.{Tries, HasNot, claim_by}
-use Rattle.machine_types.specs.Structure.{Stands, tried_depth, once_at}
-use Rattle.machine_types.specs.Threads.{Frame, Attempt}
-use Rattle.machine_types.specs.Typed.{Classes, AfterHolds}
-use Rattle.machine_types.specs.declared.lock.Held.{Held}
-use Rattle.machine_types.specs.declared.phase.After.{After}
-use Rattle.machine_types.specs.declared.phase.Phase.TheVariants.{Leave}
-use Rattle.laws_threads.proofs.HeldLists.{depth_by}
-use Rattle.laws_threads.proofs.Releases.{goes_behind}
+use Rattle.machine_types.specs.{HeldMonitors.held_at, Monitors.{Tries, HasNot, claim_by}, Structure.{Stands, tried_depth, once_at}, Threads.{Frame, Attempt}, Typed.{Classes, AfterHolds}}
+use Rattle.machine_types.specs.declared.{lock.Held.Held, phase.{After.After, Phase.TheVariants.Leave}}
+use Rattle.laws_threads.proofs.{HeldLists.depth_by, Releases.goes_behind}
 
 once_here : (m : ℕ) → 0 < once_at m m
 once_here m = by_test (m == m) (grind (arith, nat_tests))

@@ -1,32 +1,18 @@
 -- An instruction leaves its thread the settings and the roots, no more turns, and one frame more at most.
-use Rattle.std.proofs.Common.{◌≡◌, ℕ, suc, ◌+◌, ◌-◌, ◌≤◌, nat_lt, nat_le, Bool, true, false, List, [], ◌∷◌, drop, length, Option, Some, None, refl, ap, arith}
-use Rattle.std.specs.Prelude.{option_map, slice_get, if◌then◌else◌}
+use Rattle.std.proofs.Common.{◌≡◌, ℕ, suc, ◌+◌, ◌-◌, ◌≤◌, nat_lt, nat_le, Bool, true, false, List, [], ◌∷◌, drop, length, Option, Some, None, refl, ap, arith, option_map, slice_get, if◌then◌else◌}
 use Rattle.std.proofs.lemmas.List.{length-drop}
-use Rattle.jvm_types.specs.Members.{is_synchronized}
-use Rattle.jvm_types.specs.declared.outcome.Thrown.{Thrown}
-use Rattle.jvm_types.specs.declared.outcome.Thrown.TheVariants.{ArrayIndexOutOfBoundsException, OutOfMemoryError, IllegalMonitorStateException, StackOverflowError}
-use Rattle.jvm_types.specs.declared.program.MethodInfo.{MethodInfo}
-use Rattle.jvm_types.specs.declared.program.Program.{Program}
+use Rattle.jvm_types.specs.{Members.is_synchronized, declared.outcome.Thrown.{Thrown, TheVariants.{ArrayIndexOutOfBoundsException, OutOfMemoryError, IllegalMonitorStateException, StackOverflowError}}}
+use Rattle.jvm_types.specs.declared.program.{MethodInfo.MethodInfo, Program.Program}
 use Rattle.machine_types.specs.Elision.{is_checked, is_same, fails, if_same, put_back}
 use Rattle.machine_types.specs.Frames.{Top, top_of, frames_of, effect_at, given, given_back, has_room, entry_frame, arguments_of, monitor_of, returned, waiting, went, went_on}
-use Rattle.machine_types.specs.Going.{goes_on, goes_on_if}
-use Rattle.machine_types.specs.HeldMonitors.{held_at}
-use Rattle.machine_types.specs.Instructions.{begun, has_print_left, if_held, waits, notifies, did, instructed, ran}
-use Rattle.machine_types.specs.Ints.{low}
-use Rattle.machine_types.specs.Onward.{Onward, Running, Throwing, Entering, Leaving, RootReturned, Uncaught, threw, entered, called, back}
-use Rattle.machine_types.specs.ReadyObjects.{thrown_of}
-use Rattle.machine_types.specs.Threads.{Attempt, Frame, Thread}
-use Rattle.machine_types.specs.Words.{header_class, header_length}
-use Rattle.machine_types.specs.declared.effect.Effect.{Effect}
+use Rattle.machine_types.specs.{Going.{goes_on, goes_on_if}, HeldMonitors.held_at, Instructions.{begun, has_print_left, if_held, waits, notifies, did, instructed, ran}, Ints.low}
+use Rattle.machine_types.specs.{Onward.{Onward, Running, Throwing, Entering, Leaving, RootReturned, Uncaught, threw, entered, called, back}, ReadyObjects.thrown_of, Threads.{Attempt, Frame, Thread}}
+use Rattle.machine_types.specs.{Words.{header_class, header_length}, declared.effect.Effect.Effect}
 use Rattle.machine_types.specs.declared.effect.Effect.TheVariants.{Goes, Throws, Reads, Writes, Indexes, Measures, Raises, Makes, Prints, Calls, Returns, Enters, Leaves, Waits, Notifies, NotifiesAll, Stuck}
-use Rattle.machine_types.specs.declared.lock.Held.{Held}
-use Rattle.machine_types.specs.declared.lock.Kept.{Kept}
-use Rattle.machine_types.specs.declared.lock.Kept.TheVariants as keeps
-use Rattle.machine_types.specs.declared.phase.After.TheVariants.{Next, Return}
-use Rattle.machine_types.specs.declared.phase.Phase.{Phase}
-use Rattle.machine_types.specs.declared.phase.Phase.TheVariants as phases
+use Rattle.machine_types.{specs.declared.{lock.{Held.Held, Kept.Kept}, phase.{After.TheVariants.{Next, Return}, Phase.Phase}}, proofs.PlainPartLaws.frames_are}
 use Rattle.laws_threads.specs.EntryFrames.{frames_in}
-use Rattle.machine_types.proofs.PlainPartLaws.{frames_are}
+use Rattle.machine_types.specs.declared.lock.Kept.TheVariants as keeps
+use Rattle.machine_types.specs.declared.phase.Phase.TheVariants as phases
 
 -- ---- a return and a failure leave no more frames
 

@@ -1,37 +1,16 @@
 -- An event, and the begin of a part, keep what the words hold of objects and places.
-use Rattle.std.proofs.Common.{◌≡◌, ◌⊎◌, inl, inr, ℕ, List, [], ◌∷◌, Option, Some, None, refl, ap, sym, subst, ◌∙◌}
-use Rattle.std.specs.Prelude.{slice_get, slice_index, slice_set}
-use Rattle.jvm_types.specs.declared.outcome.End.TheVariants as ends
-use Rattle.jvm_types.specs.declared.program.Program.{Program}
+use Rattle.std.proofs.Common.{◌≡◌, ◌⊎◌, inl, inr, ℕ, List, [], ◌∷◌, Option, Some, None, refl, ap, sym, subst, ◌∙◌, slice_get, slice_index, slice_set}
+use Rattle.jvm_types.specs.declared.{fixed_words.TheConstants.NEXT_FREE_WORD, program.Program.Program}
 use Rattle.checked_program.specs.MarkedProgram.{MarkedProgram, IsMarked}
-use Rattle.machine_types.specs.Accesses.{found_by, words_after}
-use Rattle.machine_types.specs.Core.{Core, event_of, next}
-use Rattle.machine_types.specs.Events.{wanted, moved}
-use Rattle.machine_types.specs.FoundWords.{content_at}
-use Rattle.machine_types.specs.Lawful.{IsLawful}
-use Rattle.machine_types.specs.NewObjects.{size_by, IsNewObject}
-use Rattle.machine_types.specs.PlainMemory.{Object, new_object}
-use Rattle.machine_types.specs.StartLaws.{StartLiesApart}
-use Rattle.machine_types.specs.Structure.{IsAs, PhaseShows, IsStructured, Structure}
-use Rattle.machine_types.specs.Threads.{Frame, Thread}
-use Rattle.machine_types.specs.Typed.{Classes, HasClass, HasElementIn, FramesHold, AttemptHolds, PhaseHolds, ThreadHolds}
-use Rattle.machine_types.specs.Words.{header_word}
-use Rattle.jvm_types.specs.declared.fixed_words.TheConstants.{NEXT_FREE_WORD}
-use Rattle.laws_threads.proofs.KeptPhases.{PhaseFinds}
-use Rattle.laws_states.proofs.Quiet.{AllHeld}
-use Rattle.machine_types.specs.declared.phase.Phase.{Phase}
+use Rattle.machine_types.specs.{Accesses.{found_by, words_after}, Core.{Core, event_of, next}, Events.{wanted, moved}, FoundWords.content_at, Lawful.IsLawful, NewObjects.{size_by, IsNewObject}}
+use Rattle.machine_types.specs.{PlainMemory.{Object, new_object}, StartLaws.StartLiesApart, Structure.{IsAs, PhaseShows, IsStructured, Structure}, Threads.{Frame, Thread}}
+use Rattle.machine_types.specs.{Typed.{Classes, HasClass, HasElementIn, FramesHold, AttemptHolds, PhaseHolds, ThreadHolds}, Words.header_word, declared.phase.Phase.Phase}
+use Rattle.laws_threads.{specs.StructureLaws.StructureIsKept, proofs.KeptPhases.PhaseFinds}
+use Rattle.laws_states.{specs.{HeapFacts.{IsWaitOn, HoldsObjects, HeapFacts, objects_by, objects_of}, HeapLaws.{EventsKeepHeap, NextKeepsHeap}}, proofs.Assembled.{Behind, Became, assembled}}
+use Rattle.laws_states.proofs.{BegunThreads.{StartsOrEnded, Begins, begun}, Leads.{Leads, phase_leads}, Lifted.{thread_up, monitors_up, element_up}, Moves.{has_objects, old_finds, moved_values}}
+use Rattle.laws_states.proofs.{NewHeader.{behind_new, class_new}, Phases.{IsOldPhase, old_fits}, Quiet.AllHeld, WordSteps.{WordsGoOn, words_go_on}}
+use Rattle.jvm_types.specs.declared.outcome.End.TheVariants as ends
 use Rattle.machine_types.specs.declared.phase.Phase.TheVariants as phases
-use Rattle.laws_threads.specs.StructureLaws.{StructureIsKept}
-use Rattle.laws_states.specs.HeapFacts.{IsWaitOn, HoldsObjects, HeapFacts, objects_by, objects_of}
-use Rattle.laws_states.specs.HeapLaws.{EventsKeepHeap, NextKeepsHeap}
-use Rattle.laws_states.proofs.Phases.{IsOldPhase, old_fits}
-use Rattle.laws_states.proofs.Lifted.{thread_up, monitors_up, element_up}
-use Rattle.laws_states.proofs.Leads.{Leads, phase_leads}
-use Rattle.laws_states.proofs.WordSteps.{WordsGoOn, words_go_on}
-use Rattle.laws_states.proofs.Assembled.{Behind, Became, assembled}
-use Rattle.laws_states.proofs.Moves.{has_objects, old_finds, moved_values}
-use Rattle.laws_states.proofs.NewHeader.{behind_new, class_new}
-use Rattle.laws_states.proofs.BegunThreads.{StartsOrEnded, Begins, begun}
 
 -- ---- an event
 

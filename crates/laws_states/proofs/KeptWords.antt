@@ -1,27 +1,11 @@
 -- An event keeps what stands in the words for locking, and how far the counters have come.
-use Rattle.std.proofs.Common.{◌≡◌, ℕ, ◌≤◌, List, Option, Some, None, refl, ap, sym, subst, arith}
-use Rattle.std.specs.Prelude.{slice_get}
+use Rattle.std.proofs.Common.{◌≡◌, ℕ, ◌≤◌, List, Option, Some, None, refl, ap, sym, subst, arith, slice_get}
 use Rattle.checked_program.specs.MarkedProgram.{MarkedProgram, IsMarked}
-use Rattle.machine_types.specs.Accesses.{found_by, words_after}
-use Rattle.machine_types.specs.declared.access.Access.TheVariants.{Add}
-use Rattle.machine_types.specs.Core.{Core, event_of}
-use Rattle.machine_types.specs.Events.{wanted, moved}
-use Rattle.machine_types.specs.Frames.{top_of}
-use Rattle.machine_types.specs.Lawful.{IsLawful}
-use Rattle.machine_types.specs.PlainMemory.{Object}
-use Rattle.machine_types.specs.Threads.{Thread}
-use Rattle.machine_types.specs.declared.config.Config.{Config}
-use Rattle.laws_states.specs.HeapFacts.{HeapFacts, objects_of}
-use Rattle.laws_states.specs.SiteLaws.{EventsReachSites, SitesDiffer, SitesLieInside}
-use Rattle.laws_states.specs.Counters.{CountersFit}
-use Rattle.laws_states.specs.KeptWords.{EventsKeepLocks, EventsKeepRecords, EventsKeepCounters, SumsFit}
-use Rattle.laws_states.specs.LeftWords.{LeftMayStand}
-use Rattle.laws_states.specs.RunFacts.{AreThreads}
-use Rattle.laws_states.specs.SharedWords.{LocksFit, RecordsFit}
-use Rattle.laws_states.proofs.CountedEvents.{holds_flat, event_counts}
-use Rattle.laws_states.proofs.EventWords.{phase_stores, records_fit, locks_fit, counters_grow}
-use Rattle.laws_states.proofs.LeftSmall.{adds_few}
-use Rattle.laws_states.proofs.Sums.{begun_once, drawn_now_once, sums_fit, counters_after}
+use Rattle.machine_types.specs.{Accesses.{found_by, words_after}, Core.{Core, event_of}, Events.{wanted, moved}, Frames.top_of, Lawful.IsLawful, PlainMemory.Object, Threads.Thread}
+use Rattle.machine_types.specs.declared.{access.Access.TheVariants.Add, config.Config.Config}
+use Rattle.laws_states.specs.{Counters.CountersFit, HeapFacts.{HeapFacts, objects_of}, KeptWords.{EventsKeepLocks, EventsKeepRecords, EventsKeepCounters, SumsFit}, LeftWords.LeftMayStand}
+use Rattle.laws_states.{specs.{RunFacts.AreThreads, SharedWords.{LocksFit, RecordsFit}, SiteLaws.{EventsReachSites, SitesDiffer, SitesLieInside}}, proofs.CountedEvents.{holds_flat, event_counts}}
+use Rattle.laws_states.proofs.{EventWords.{phase_stores, records_fit, locks_fit, counters_grow}, LeftSmall.adds_few, Sums.{begun_once, drawn_now_once, sums_fit, counters_after}}
 
 module _ (c : MarkedProgram) (cfg : Config) (objects : List Object) (s : Core) (t : ℕ) (marked : IsMarked c) (heap : HeapFacts c objects s) (threads : AreThreads c cfg s) where
   module _ (x : Thread) (there : slice_get s.threads t ≡ Some x) where

@@ -1,50 +1,22 @@
 -- What an event makes of its thread: the monitors that it holds stay objects, an element that it is about to access is there,
 -- and an object that it makes begins at the next free word.
-use Rattle.std.proofs.Common.{◌≡◌, ℕ, ◌+◌, ◌<◌, ◌≤◌, Bool, true, false, List, [], ◌∷◌, length, Option, Some, None, refl, ap, sym, subst, ◌∙◌, arith}
-use Rattle.std.specs.Prelude.{◌==◌, nat_lt, nat_le, slice_index, if◌then◌else◌}
+use Rattle.std.proofs.Common.{◌≡◌, ℕ, ◌+◌, ◌<◌, ◌≤◌, Bool, true, false, List, [], ◌∷◌, length, Option, Some, None, refl, ap, sym, subst, ◌∙◌, arith, ◌==◌, nat_lt, nat_le, slice_index, if◌then◌else◌}
 use Rattle.std.proofs.lemmas.Bool.Decides.{nat_tests}
 use Rattle.lists.proofs.ListLaws.{same_some}
-use Rattle.jvm_types.specs.declared.class_numbers.TheConstants.{INT_ARRAY_CLASS}
-use Rattle.jvm_types.specs.declared.code.Op.{Op}
+use Rattle.jvm_types.specs.declared.{class_numbers.TheConstants.INT_ARRAY_CLASS, code.Op.Op, fixed_words.TheConstants.NEXT_FREE_WORD, program.{Program.Program, Target.Target}}
+use Rattle.checked_program.specs.{MarkedProgram.{MarkedProgram, IsMarked}, TaggedCode.row_of}
+use Rattle.machine_types.specs.{Accesses.{found_by, words_after}, Core.Core, Effects.effect, Events.{wanted, moved}, FoundWords.IsHeader, Frames.{Top, top_of, effect_at, making}, Going.with_phase}
+use Rattle.machine_types.specs.{Instructions.{effect_wants, run_wants, begun}, Ints.low, NewObjects.size_by, PlainMemory.Object, Structure.is_element_op, Threads.{Frame, Thread}}
+use Rattle.machine_types.specs.{Typed.{FrameHolds, FramesHold, IsElementOn, HasElement, HasElementOn, HasElementIn, HasClass, PhaseHolds}, Words.{header_length, header_word, value_word}}
+use Rattle.machine_types.specs.declared.{effect.Effect.{Effect, TheVariants.{Throws, Indexes, Makes}}, phase.Phase.Phase}
+use Rattle.laws_threads.{specs.Allowed.{IsOf, Allowed}, proofs.{ElementEffects.element_at, Landing.stand_top, Standings.top_here, ThreadMove.{Lacks, LeadsTo, Move, becomes, each_move}}}
+use Rattle.laws_threads.proofs.TopEffects.{allowed_here}
+use Rattle.laws_states.{specs.HeapFacts.{IsWaitOn, HoldsObjects, HeapFacts}, proofs.{Accesses.out_there, Found.length_found, Headers.made_header, Lists.set_here}}
+use Rattle.laws_states.proofs.Quiet.{AllHeld, QuietPhase, Quiet, KnowsObject, quiet_moved}
 use Rattle.jvm_types.specs.declared.code.Op.TheVariants as ops
 use Rattle.jvm_types.specs.declared.outcome.Thrown.TheVariants as thrown
-use Rattle.jvm_types.specs.declared.program.Program.{Program}
-use Rattle.jvm_types.specs.declared.program.Target.{Target}
-use Rattle.checked_program.specs.MarkedProgram.{MarkedProgram, IsMarked}
-use Rattle.checked_program.specs.TaggedCode.{row_of}
-use Rattle.machine_types.specs.Accesses.{found_by, words_after}
-use Rattle.machine_types.specs.Core.{Core}
-use Rattle.machine_types.specs.Effects.{effect}
-use Rattle.machine_types.specs.Events.{wanted, moved}
-use Rattle.machine_types.specs.FoundWords.{IsHeader}
-use Rattle.machine_types.specs.Frames.{Top, top_of, effect_at, making}
-use Rattle.machine_types.specs.Going.{with_phase}
-use Rattle.machine_types.specs.Instructions.{effect_wants, run_wants, begun}
-use Rattle.machine_types.specs.Ints.{low}
-use Rattle.machine_types.specs.NewObjects.{size_by}
-use Rattle.machine_types.specs.PlainMemory.{Object}
-use Rattle.machine_types.specs.Structure.{is_element_op}
-use Rattle.machine_types.specs.Threads.{Frame, Thread}
-use Rattle.machine_types.specs.Typed.{FrameHolds, FramesHold, IsElementOn, HasElement, HasElementOn, HasElementIn, HasClass, PhaseHolds}
-use Rattle.machine_types.specs.Words.{header_length, header_word, value_word}
-use Rattle.jvm_types.specs.declared.fixed_words.TheConstants.{NEXT_FREE_WORD}
-use Rattle.machine_types.specs.declared.effect.Effect.{Effect}
-use Rattle.machine_types.specs.declared.effect.Effect.TheVariants.{Throws, Indexes, Makes}
-use Rattle.machine_types.specs.declared.phase.Phase.{Phase}
 use Rattle.machine_types.specs.declared.phase.Phase.TheVariants as phases
-use Rattle.laws_threads.specs.Allowed.{IsOf, Allowed}
-use Rattle.laws_threads.proofs.Landing.{stand_top}
-use Rattle.laws_threads.proofs.Standings.{top_here}
-use Rattle.laws_threads.proofs.TopEffects.{allowed_here}
-use Rattle.laws_threads.proofs.ElementEffects.{element_at}
-use Rattle.laws_threads.proofs.ThreadMove.{Lacks, LeadsTo, Move, becomes, each_move}
 use Rattle.laws_threads.proofs.ThreadMove as moves
-use Rattle.laws_states.specs.HeapFacts.{IsWaitOn, HoldsObjects, HeapFacts}
-use Rattle.laws_states.proofs.Lists.{set_here}
-use Rattle.laws_states.proofs.Headers.{made_header}
-use Rattle.laws_states.proofs.Accesses.{out_there}
-use Rattle.laws_states.proofs.Found.{length_found}
-use Rattle.laws_states.proofs.Quiet.{AllHeld, QuietPhase, Quiet, KnowsObject, quiet_moved}
 
 -- ---- the element that an instruction names stands on the stack
 

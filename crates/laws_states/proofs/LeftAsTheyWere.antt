@@ -1,17 +1,11 @@
 -- An event of a thread leaves the other threads, and the begin of a part all words, attempts and held lists.
-use Rattle.std.proofs.Common.{◌≡◌, ◌≢◌, ◌∙◌, ℕ, zero, suc, Bool, true, false, List, [], ◌∷◌, map, Option, Some, None, refl, ap}
-use Rattle.std.specs.Prelude.{slice_get, if◌then◌else◌}
-use Rattle.std.proofs.lemmas.Bool.{ne_eqb}
+use Rattle.std.proofs.{Common.{◌≡◌, ◌≢◌, ◌∙◌, ℕ, zero, suc, Bool, true, false, List, [], ◌∷◌, map, Option, Some, None, refl, ap, slice_get, if◌then◌else◌}, lemmas.Bool.ne_eqb}
+use Rattle.jvm_types.specs.declared.{outcome.End.End, program.Program.Program}
 use Rattle.checked_program.specs.MarkedProgram.{MarkedProgram}
-use Rattle.jvm_types.specs.declared.outcome.End.{End}
-use Rattle.jvm_types.specs.declared.program.Program.{Program}
-use Rattle.machine_types.specs.Accesses.{found_by}
-use Rattle.machine_types.specs.Core.{Core, event_of, how_ended, may_begin, next_threads, part_begins, with_roots}
-use Rattle.machine_types.specs.Events.{wanted, moved}
-use Rattle.machine_types.specs.Parts.{run_roots, done_roots}
+use Rattle.machine_types.specs.{Accesses.found_by, Core.{Core, event_of, how_ended, may_begin, next_threads, part_begins, with_roots}, Events.{wanted, moved}, Parts.{run_roots, done_roots}}
 use Rattle.machine_types.specs.Threads.{Thread}
-use Rattle.laws_states.specs.ChangeLaws.{EventsLeaveOthers, PartsLeaveWords}
 use Rattle.laws_threads.proofs.StateSteps.{set_other}
+use Rattle.laws_states.specs.ChangeLaws.{EventsLeaveOthers, PartsLeaveWords}
 
 -- ---- an event
 

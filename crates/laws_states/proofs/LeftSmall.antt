@@ -1,35 +1,20 @@
 -- What an event leaves of a word is below 2^64, and what it adds to a counter is little.
-use Rattle.std.proofs.Common.{◌≡◌, ◌⊎◌, inl, inr, ℕ, zero, suc, ◌+◌, ◌*◌, ◌/◌, ◌%◌, ◌^◌, ◌<◌, ◌≤◌, nat_lt, nat_le, Bool, true, false, Option, Some, None, refl, subst, arith}
-use Rattle.std.specs.Prelude.{option_map, if◌then◌else◌}
+use Rattle.std.proofs.Common.{◌≡◌, ◌⊎◌, inl, inr, ℕ, zero, suc, ◌+◌, ◌*◌, ◌/◌, ◌%◌, ◌^◌, ◌<◌, ◌≤◌, nat_lt, nat_le, Bool, true, false, Option, Some, None, refl, subst, arith, option_map, if◌then◌else◌}
 use Rattle.std.proofs.lemmas.Bool.Decides.{nat_tests}
 use Rattle.lists.proofs.ListLaws.{same_some}
-use Rattle.jvm_types.specs.declared.program.Program.{Program}
-use Rattle.jvm_types.specs.declared.program.Target.{Target}
+use Rattle.jvm_types.specs.declared.{fixed_words.TheConstants.{NEXT_FREE_WORD, NEXT_TICKET_WORD, NEXT_RECORD_WORD}, program.{Program.Program, Target.Target}}
 use Rattle.checked_program.specs.MarkedProgram.{MarkedProgram}
-use Rattle.machine_types.specs.Accesses.{accessed, left_by}
-use Rattle.machine_types.specs.declared.access.Access.{Access}
-use Rattle.machine_types.specs.declared.access.Access.TheVariants.{Load, Add}
-use Rattle.machine_types.specs.Elision.{looks}
-use Rattle.machine_types.specs.Events.{element_wants, wanted}
-use Rattle.machine_types.specs.FoundWords.{Content, Lock, Owner, Bits, Any, effect_content, run_content, leave_content, content_at}
-use Rattle.machine_types.specs.Frames.{Top, top_of, effect_at}
-use Rattle.machine_types.specs.Instructions.{has_print_left, effect_wants, run_wants}
-use Rattle.machine_types.specs.LockWords.{lock_by, is_lock_by}
-use Rattle.machine_types.specs.Monitors.{Claim, Has, Tries, HasNot, claim, enter_wants, finish_wants, leave_wants, release}
-use Rattle.machine_types.specs.Threads.{Attempt, Thread}
-use Rattle.jvm_types.specs.declared.fixed_words.TheConstants.{NEXT_FREE_WORD, NEXT_TICKET_WORD, NEXT_RECORD_WORD}
-use Rattle.machine_types.specs.declared.effect.Effect.{Effect}
-use Rattle.machine_types.specs.declared.effect.Effect.TheVariants.{Goes, Reads, Writes, Indexes, Measures, Raises, Makes, Prints, Calls}
-use Rattle.machine_types.specs.declared.lock.Kept.{Kept}
-use Rattle.machine_types.specs.declared.lock.Kept.TheVariants as keeps
-use Rattle.machine_types.specs.declared.phase.Phase.{Phase}
-use Rattle.machine_types.specs.declared.phase.Phase.TheVariants as phases
-use Rattle.laws_states.specs.Counters.{most_size}
-use Rattle.laws_states.specs.SharedWords.{CountsTo, IsLock, MayStand}
-use Rattle.laws_states.proofs.CountedEvents.{drawn_by}
-use Rattle.laws_states.proofs.LeftStands.{leaves, no_access, loaded, looked, checked}
-use Rattle.laws_states.proofs.TopStores.{IsPlace, StoresFit}
+use Rattle.machine_types.specs.{Accesses.{accessed, left_by}, Elision.looks, Events.{element_wants, wanted}}
+use Rattle.machine_types.specs.{FoundWords.{Content, Lock, Owner, Bits, Any, effect_content, run_content, leave_content, content_at}, Frames.{Top, top_of, effect_at}}
+use Rattle.machine_types.specs.{Instructions.{has_print_left, effect_wants, run_wants}, LockWords.{lock_by, is_lock_by}}
+use Rattle.machine_types.specs.{Monitors.{Claim, Has, Tries, HasNot, claim, enter_wants, finish_wants, leave_wants, release}, Threads.{Attempt, Thread}, declared.access.Access.Access}
+use Rattle.machine_types.specs.declared.{access.Access.TheVariants.{Load, Add}, effect.Effect.{Effect, TheVariants.{Goes, Reads, Writes, Indexes, Measures, Raises, Makes, Prints, Calls}}}
+use Rattle.machine_types.specs.declared.{lock.Kept.Kept, phase.Phase.Phase}
 use Rattle.laws_threads.proofs.ThreadMove.{begun_by}
+use Rattle.laws_states.{specs.{Counters.most_size, SharedWords.{CountsTo, IsLock, MayStand}}, proofs.{CountedEvents.drawn_by, LeftStands.{leaves, no_access, loaded, looked, checked}}}
+use Rattle.laws_states.proofs.TopStores.{IsPlace, StoresFit}
+use Rattle.machine_types.specs.declared.lock.Kept.TheVariants as keeps
+use Rattle.machine_types.specs.declared.phase.Phase.TheVariants as phases
 
 -- ---- words for locking
 

@@ -1,40 +1,20 @@
 -- What an event leaves of a word of a lock or of a record, phase by phase.
-use Rattle.std.proofs.Common.{◌≡◌, ℕ, zero, suc, ◌+◌, ◌-◌, ◌*◌, ◌/◌, ◌%◌, ◌^◌, ◌<◌, ◌≤◌, nat_lt, nat_le, Bool, true, false, ◌&&◌, Option, Some, None, refl, sym, ap, ◌∙◌, subst, arith}
-use Rattle.std.specs.Prelude.{◌==◌, bit_and, bit_or, if◌then◌else◌}
-use Rattle.std.proofs.lemmas.Bool.Decides.{nat_tests}
-use Rattle.std.proofs.lemmas.Nat.{or_lt, and_le_l}
+use Rattle.std.proofs.Common.{◌≡◌, ℕ, zero, suc, ◌+◌, ◌-◌, ◌*◌, ◌/◌, ◌%◌, ◌^◌, ◌<◌, ◌≤◌, nat_lt, nat_le, Bool, true, false, ◌&&◌, Option, Some, None, refl, sym, ap, ◌∙◌, subst, arith, ◌==◌, bit_and, bit_or, if◌then◌else◌}
+use Rattle.std.proofs.lemmas.{Bool.Decides.nat_tests, Nat.{or_lt, and_le_l}}
 use Rattle.lists.proofs.ListLaws.{same_some}
-use Rattle.jvm_types.specs.declared.program.Kind.{Kind}
-use Rattle.jvm_types.specs.declared.program.Kind.TheVariants as kinds
-use Rattle.jvm_types.specs.declared.program.FieldInfo.{FieldInfo}
-use Rattle.jvm_types.specs.declared.program.Program.{Program}
-use Rattle.jvm_types.specs.declared.program.Target.{Target}
-use Rattle.jvm_types.specs.declared.program.Target.TheVariants as targets
-use Rattle.machine_types.specs.Accesses.{left_by}
-use Rattle.machine_types.specs.declared.access.Access.{Access}
-use Rattle.machine_types.specs.declared.access.Access.TheVariants.{Load}
-use Rattle.machine_types.specs.Bounds.{PhaseFits}
-use Rattle.machine_types.specs.Elision.{looks}
-use Rattle.machine_types.specs.Events.{wanted}
-use Rattle.machine_types.specs.FoundWords.{kind_content, field_content, variable_content, effect_content, run_content, leave_content, content_at}
-use Rattle.machine_types.specs.Frames.{Top, top_of, effect_at}
-use Rattle.machine_types.specs.HeldMonitors.{held_at}
-use Rattle.machine_types.specs.Instructions.{effect_wants, run_wants}
-use Rattle.machine_types.specs.LockWords.{word_of_lock, lock_by, lock_of, is_lock_by, is_lock_word, next_count}
-use Rattle.machine_types.specs.declared.lock.LockWord.{LockWord}
-use Rattle.machine_types.specs.declared.lock.LockWord.TheVariants as locks
-use Rattle.machine_types.specs.Monitors.{Claim, Has, Tries, HasNot, claim, count_kept, enter_wants, finish_wants, freed, leave_wants, release, bit_of}
-use Rattle.machine_types.specs.Threads.{Attempt, Thread}
-use Rattle.jvm_types.specs.declared.fixed_words.TheConstants.{MONITOR_RECORDS}
-use Rattle.machine_types.specs.declared.effect.Effect.{Effect}
-use Rattle.machine_types.specs.declared.effect.Effect.TheVariants.{Goes, Reads, Writes, Calls}
-use Rattle.machine_types.specs.declared.lock.Held.{Held}
-use Rattle.machine_types.specs.declared.lock.Kept.{Kept}
-use Rattle.machine_types.specs.declared.lock.Kept.TheVariants as keeps
+use Rattle.jvm_types.specs.declared.{fixed_words.TheConstants.MONITOR_RECORDS, program.{FieldInfo.FieldInfo, Kind.Kind, Program.Program, Target.Target}}
+use Rattle.machine_types.specs.{Accesses.left_by, Bounds.PhaseFits, Elision.looks, Events.wanted}
+use Rattle.machine_types.specs.{FoundWords.{kind_content, field_content, variable_content, effect_content, run_content, leave_content, content_at}, Frames.{Top, top_of, effect_at}}
+use Rattle.machine_types.specs.{HeldMonitors.held_at, Instructions.{effect_wants, run_wants}, LockWords.{word_of_lock, lock_by, lock_of, is_lock_by, is_lock_word, next_count}}
+use Rattle.machine_types.specs.{Monitors.{Claim, Has, Tries, HasNot, claim, count_kept, enter_wants, finish_wants, freed, leave_wants, release, bit_of}, Threads.{Attempt, Thread}}
+use Rattle.machine_types.specs.declared.{access.Access.{Access, TheVariants.Load}, effect.Effect.{Effect, TheVariants.{Goes, Reads, Writes, Calls}}, lock.{Held.Held, Kept.Kept, LockWord.LockWord}}
 use Rattle.machine_types.specs.declared.phase.Phase.{Phase}
+use Rattle.laws_states.specs.{LeftWords.LeftMayStand, SharedWords.{CountsTo, IsLock, MayStand}}
+use Rattle.jvm_types.specs.declared.program.Kind.TheVariants as kinds
+use Rattle.jvm_types.specs.declared.program.Target.TheVariants as targets
+use Rattle.machine_types.specs.declared.lock.LockWord.TheVariants as locks
+use Rattle.machine_types.specs.declared.lock.Kept.TheVariants as keeps
 use Rattle.machine_types.specs.declared.phase.Phase.TheVariants as phases
-use Rattle.laws_states.specs.LeftWords.{LeftMayStand}
-use Rattle.laws_states.specs.SharedWords.{CountsTo, IsLock, MayStand}
 
 -- ---- words of locks
 

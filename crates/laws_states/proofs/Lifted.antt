@@ -1,24 +1,17 @@
 -- What a thread holds where some objects are there it holds where more are.
-use Rattle.std.proofs.Common.{ℕ, inl, inr, List, [], ◌∷◌, Option, Some, None}
-use Rattle.std.specs.List.{Contains}
-use Rattle.jvm_types.specs.declared.program.Kind.{Kind}
-use Rattle.jvm_types.specs.declared.program.Kind.TheVariants as kinds
-use Rattle.checked_program.specs.MarkedProgram.{MarkedProgram}
+use Rattle.std.{proofs.Common.{ℕ, inl, inr, List, [], ◌∷◌, Option, Some, None}, specs.List.Contains}
 use Rattle.lists.proofs.ListLaws.{all_weaker}
-use Rattle.machine_types.specs.Elision.{put_back}
-use Rattle.machine_types.specs.Frames.{pushed}
-use Rattle.machine_types.specs.PlainMemory.{Object}
-use Rattle.machine_types.specs.Threads.{Frame, Attempt, Thread}
+use Rattle.jvm_types.specs.declared.program.Kind.{Kind}
+use Rattle.checked_program.specs.MarkedProgram.{MarkedProgram}
+use Rattle.machine_types.specs.{Elision.put_back, Frames.pushed, PlainMemory.Object, Threads.{Frame, Attempt, Thread}}
 use Rattle.machine_types.specs.Typed.{Classes, KindHolds, ThrownHolds, FramesThrown, HasElement, HasElementOn, HasElementIn, AfterHolds, TowardHolds, with_object, IsObject, PhaseHolds, AttemptHolds, ThreadHolds}
-use Rattle.machine_types.specs.Words.{header_class}
-use Rattle.machine_types.specs.declared.phase.After.{After}
-use Rattle.machine_types.specs.declared.phase.After.TheVariants as afters
-use Rattle.machine_types.specs.declared.phase.Phase.{Phase}
-use Rattle.machine_types.specs.declared.phase.Phase.TheVariants as phases
-use Rattle.machine_types.specs.declared.phase.Toward.{Toward}
-use Rattle.machine_types.specs.declared.phase.Toward.TheVariants as towards
+use Rattle.machine_types.specs.{Words.header_class, declared.phase.{After.After, Phase.Phase, Toward.Toward}}
 use Rattle.laws_threads.proofs.Lifts.{frame_up, below_up, frames_up}
 use Rattle.laws_states.specs.HeapFacts.{IsWaitOn, HoldsObjects}
+use Rattle.jvm_types.specs.declared.program.Kind.TheVariants as kinds
+use Rattle.machine_types.specs.declared.phase.After.TheVariants as afters
+use Rattle.machine_types.specs.declared.phase.Phase.TheVariants as phases
+use Rattle.machine_types.specs.declared.phase.Toward.TheVariants as towards
 
 module _ (is more : Classes) (up : (class v : ℕ) → is class v → more class v) where
   pub kind_up : (kind : Kind) (v : ℕ) → KindHolds is kind v → KindHolds more kind v

@@ -1,10 +1,8 @@
 -- Items that lists contain, by their indexes, and words that are set.
-use Rattle.std.proofs.Common.{◌≡◌, ◌≢◌, ◌⊎◌, inl, inr, ℕ, zero, suc, ◌<◌, Bool, true, false, List, [], ◌∷◌, length, Some, refl, arith}
-use Rattle.std.specs.Prelude.{Contains, slice_get, slice_index, slice_index_or, slice_set, ◌==◌}
-use Rattle.std.proofs.lemmas.Bool.Decides.{nat_tests}
-use Rattle.std.proofs.lemmas.List.{get_or-set_same, get_or-set_other}
-use Rattle.laws_threads.proofs.MonitorMoves.{contains_got}
+use Rattle.std.proofs.Common.{◌≡◌, ◌≢◌, ◌⊎◌, inl, inr, ℕ, zero, suc, ◌<◌, Bool, true, false, List, [], ◌∷◌, length, Some, refl, arith, Contains, slice_get, slice_index, slice_index_or, slice_set, ◌==◌}
+use Rattle.std.proofs.lemmas.{Bool.Decides.nat_tests, List.{get_or-set_same, get_or-set_other}}
 use Rattle.machine_types.proofs.Lists.{got_contained}
+use Rattle.laws_threads.proofs.MonitorMoves.{contains_got}
 
 pub contained_got : {X : Type 0} (xs : List X) (x : X) (k : Contains xs x) → slice_get xs k.0 ≡ Some x
 contained_got xs x k = got_contained xs k.0 x k.1 k.2

@@ -1,44 +1,20 @@
 -- Phase by phase, what an event owes: of the thread, of the others and of the words.
-use Rattle.std.proofs.Common.{◌≡◌, ℕ, ◌+◌, ◌<◌, ◌≤◌, nat_lt, Bool, true, false, cond, List, [], ◌∷◌, Option, Some, None, refl, sym, ap, ◌∙◌, subst, arith}
-use Rattle.std.specs.Prelude.{slice_index, slice_set, ◌==◌}
+use Rattle.std.proofs.Common.{◌≡◌, ℕ, ◌+◌, ◌<◌, ◌≤◌, nat_lt, Bool, true, false, cond, List, [], ◌∷◌, Option, Some, None, refl, sym, ap, ◌∙◌, subst, arith, slice_index, slice_set, ◌==◌}
 use Rattle.std.proofs.lemmas.Bool.Decides.{nat_tests, Decides-eqb}
-use Rattle.jvm_types.specs.declared.outcome.End.TheVariants as ends
-use Rattle.jvm_types.specs.declared.program.Program.{Program}
+use Rattle.jvm_types.specs.declared.{fixed_words.TheConstants.MONITOR_RECORDS, limits.TheConstants.FLAG_FROM, program.Program.Program}
 use Rattle.checked_program.specs.MarkedProgram.{MarkedProgram, IsMarked}
-use Rattle.machine_types.specs.Accesses.{accessed, found_by, words_after}
-use Rattle.machine_types.specs.declared.access.Access.{Access}
-use Rattle.machine_types.specs.declared.access.Access.TheVariants.{Load}
-use Rattle.machine_types.specs.Core.{Core}
-use Rattle.machine_types.specs.Elision.{begins, tries}
-use Rattle.machine_types.specs.FoundWords.{Lock}
-use Rattle.machine_types.specs.HeldMonitors.{held_at, with_held, deeper}
-use Rattle.machine_types.specs.LockWords.{word_of_lock, lock_of}
-use Rattle.machine_types.specs.Monitors.{Tries, HasNot, claim_by, enter_wants, enter_moves, acquires}
+use Rattle.machine_types.specs.{Accesses.{accessed, found_by, words_after}, Core.Core, Elision.{begins, tries}, FoundWords.Lock, HeldMonitors.{held_at, with_held, deeper}}
+use Rattle.machine_types.specs.{LockWords.{word_of_lock, lock_of}, Monitors.{Tries, HasNot, claim_by, enter_wants, enter_moves, acquires}}
 use Rattle.machine_types.specs.Owners.{Locks, hold_by_kept, hold_by_list, drawn_by, Knows, IsSeen, PhaseSaw, AttemptSawIn, IsKeptIn, Owns, AreLocks, lock_at, locks_in, references_of}
-use Rattle.machine_types.specs.PlainMemory.{Object}
-use Rattle.machine_types.specs.Structure.{AreHeldOnce}
-use Rattle.machine_types.specs.Threads.{Frame, Attempt, Thread}
-use Rattle.machine_types.specs.Words.{owner_word}
-use Rattle.jvm_types.specs.declared.fixed_words.TheConstants.{MONITOR_RECORDS}
-use Rattle.jvm_types.specs.declared.limits.TheConstants.{FLAG_FROM}
-use Rattle.machine_types.specs.declared.config.Config.{Config}
-use Rattle.machine_types.specs.declared.lock.Held.{Held}
-use Rattle.machine_types.specs.declared.lock.Kept.{Kept}
-use Rattle.machine_types.specs.declared.lock.LockWord.{LockWord}
+use Rattle.machine_types.specs.{PlainMemory.Object, Structure.AreHeldOnce, Threads.{Frame, Attempt, Thread}, Words.owner_word, declared.access.Access.{Access, TheVariants.Load}}
+use Rattle.machine_types.specs.declared.{config.Config.Config, lock.{Held.Held, Kept.Kept, LockWord.LockWord}, phase.Phase.Phase}
+use Rattle.laws_threads.{specs.StructureLaws.counted_by, proofs.HeldLists.{held_monitor, held_put}}
+use Rattle.laws_states.specs.{HeapFacts.HeapFacts, SiteLaws.{SitesDiffer, SitesLieInside}, Sites.{Site, LockOf, site_word, HasObject, IsThere, Suits, IsAccessOf, ReachesIf}}
+use Rattle.laws_states.proofs.{CountedPhases.{IsPlain, plain_knows, plain_saw, plain_draws_none, counted_plain}, OwnersEvents.{Became, unwritten, same_held, same_attempt}, OwnersStep.Owes}
+use Rattle.laws_states.proofs.{PlainMoves.{LooksBack, same_look, looks_saw, Plainly, runs_plain}, SameTally.{Tally, tally_of}, WordViews.{lock_of_word, object_has, set_self}}
+use Rattle.jvm_types.specs.declared.outcome.End.TheVariants as ends
 use Rattle.machine_types.specs.declared.lock.LockWord.TheVariants as locks
-use Rattle.machine_types.specs.declared.phase.Phase.{Phase}
 use Rattle.machine_types.specs.declared.phase.Phase.TheVariants as phases
-use Rattle.laws_threads.specs.StructureLaws.{counted_by}
-use Rattle.laws_threads.proofs.HeldLists.{held_monitor, held_put}
-use Rattle.laws_states.specs.HeapFacts.{HeapFacts}
-use Rattle.laws_states.specs.SiteLaws.{SitesDiffer, SitesLieInside}
-use Rattle.laws_states.specs.Sites.{Site, LockOf, site_word, HasObject, IsThere, Suits, IsAccessOf, ReachesIf}
-use Rattle.laws_states.proofs.SameTally.{Tally, tally_of}
-use Rattle.laws_states.proofs.CountedPhases.{IsPlain, plain_knows, plain_saw, plain_draws_none, counted_plain}
-use Rattle.laws_states.proofs.OwnersEvents.{Became, unwritten, same_held, same_attempt}
-use Rattle.laws_states.proofs.OwnersStep.{Owes}
-use Rattle.laws_states.proofs.PlainMoves.{LooksBack, same_look, looks_saw, Plainly, runs_plain}
-use Rattle.laws_states.proofs.WordViews.{lock_of_word, object_has, set_self}
 
 -- ---- what is reached
 

@@ -1,15 +1,9 @@
 -- What the words say of locks, where one of them has changed; and how a thread has a monitor by them.
-use Rattle.std.proofs.Common.{◌≡◌, ◌≢◌, ◌⊎◌, inl, inr, ℕ, ◌+◌, Bool, true, false, cond, Option, Some, None, refl, sym, ap, ◌∙◌}
-use Rattle.std.specs.Prelude.{◌==◌}
-use Rattle.std.proofs.lemmas.Bool.Decides.{Decides-eqb}
-use Rattle.std.proofs.lemmas.Bool.{ne_eqb}
-use Rattle.machine_types.specs.declared.lock.Held.{Held}
-use Rattle.machine_types.specs.declared.lock.Kept.{Kept}
-use Rattle.machine_types.specs.declared.lock.Kept.TheVariants as keeps
-use Rattle.machine_types.specs.declared.lock.LockWord.{LockWord}
-use Rattle.machine_types.specs.declared.lock.LockWord.TheVariants as locks
-use Rattle.machine_types.specs.Owners.{Locks, Hold, NotHeld, HeldFlat, HeldFat, hold_by_word, hold_by_kept, hold_by_list}
+use Rattle.std.proofs.{Common.{◌≡◌, ◌≢◌, ◌⊎◌, inl, inr, ℕ, ◌+◌, Bool, true, false, cond, Option, Some, None, refl, sym, ap, ◌∙◌, ◌==◌}, lemmas.Bool.{ne_eqb, Decides.Decides-eqb}}
+use Rattle.machine_types.specs.{Owners.{Locks, Hold, NotHeld, HeldFlat, HeldFat, hold_by_word, hold_by_kept, hold_by_list}, declared.lock.{Held.Held, Kept.Kept, LockWord.LockWord}}
 use Rattle.machine_types.proofs.PlainStepLaws.{is_same}
+use Rattle.machine_types.specs.declared.lock.Kept.TheVariants as keeps
+use Rattle.machine_types.specs.declared.lock.LockWord.TheVariants as locks
 
 abbrev pub set_lock : (n : ℕ) → LockWord → Locks → Locks
 set_lock n l v = record v { lock = λ m. cond (n == m) l (v.lock m) }

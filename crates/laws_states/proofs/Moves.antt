@@ -1,37 +1,15 @@
 -- A thread that has moved holds values of the types of verification, by the objects that are there then.
-use Rattle.std.proofs.Common.{◌≡◌, ℕ, ◌<◌, List, [], length, Some, refl, subst, ◌∙◌, arith}
-use Rattle.std.specs.Prelude.{Contains, slice_get}
-use Rattle.jvm_types.specs.declared.outcome.Thrown.{Thrown}
-use Rattle.jvm_types.specs.declared.outcome.Thrown.TheVariants as thrown
-use Rattle.jvm_types.specs.declared.class_numbers.TheConstants.{PRINT_STREAM_CLASS, CLASS_ITSELF}
+use Rattle.std.proofs.Common.{◌≡◌, ℕ, ◌<◌, List, [], length, Some, refl, subst, ◌∙◌, arith, Contains, slice_get}
+use Rattle.jvm_types.specs.declared.{class_numbers.TheConstants.{PRINT_STREAM_CLASS, CLASS_ITSELF}, outcome.Thrown.Thrown}
 use Rattle.checked_program.specs.MarkedProgram.{MarkedProgram, IsMarked}
-use Rattle.machine_types.specs.Accesses.{found_by}
-use Rattle.machine_types.specs.Core.{Core}
-use Rattle.machine_types.specs.Events.{wanted, moved}
-use Rattle.machine_types.specs.Lawful.{IsLawful}
-use Rattle.machine_types.specs.ObjectsApart.{LieApart}
-use Rattle.machine_types.specs.PlainMemory.{Object, start_objects, start_statics}
-use Rattle.machine_types.specs.ReadyObjects.{ready, class_of, out_object}
-use Rattle.machine_types.specs.Structure.{IsAs}
-use Rattle.machine_types.specs.Threads.{Thread}
-use Rattle.machine_types.specs.Typed.{Classes, HasClass, PhaseHolds, ThreadHolds}
-use Rattle.machine_types.specs.Words.{class_object}
-use Rattle.machine_types.specs.declared.phase.Phase.{Phase}
+use Rattle.machine_types.specs.{Accesses.found_by, Core.Core, Events.{wanted, moved}, Lawful.IsLawful, ObjectsApart.LieApart, PlainMemory.{Object, start_objects, start_statics}}
+use Rattle.machine_types.specs.{ReadyObjects.{ready, class_of, out_object}, Structure.IsAs, Threads.Thread, Typed.{Classes, HasClass, PhaseHolds, ThreadHolds}, Words.class_object}
+use Rattle.machine_types.{specs.declared.phase.Phase.Phase, proofs.ClassObjects.class_objects_stand}
+use Rattle.laws_threads.{specs.{Allowed.IsByMachine, StructureLaws.{StructureIsKept, counted_by}}, proofs.KeptPhases.{NeedsShown, PhaseFinds, StartTyped, moved_typed}}
+use Rattle.laws_threads.proofs.{KeptTypes.{based_in, needs_shown}, MonitorMoves.contains_got, Onwards.HasObjects, Roots.starts_typed, ThreadTypes.{IsBasedIn, Rests, TypedBy}}
+use Rattle.laws_states.{specs.HeapFacts.HeapFacts, proofs.{Accesses.{out_there, element_site}, Found.{run_finds, element_found}, Lists.contained_got, Phases.{IsOldPhase, Asks, asked}}}
+use Rattle.jvm_types.specs.declared.outcome.Thrown.TheVariants as thrown
 use Rattle.machine_types.specs.declared.phase.Phase.TheVariants as phases
-use Rattle.machine_types.proofs.ClassObjects.{class_objects_stand}
-use Rattle.laws_threads.specs.StructureLaws.{StructureIsKept, counted_by}
-use Rattle.laws_threads.specs.Allowed.{IsByMachine}
-use Rattle.laws_threads.proofs.KeptPhases.{NeedsShown, PhaseFinds, StartTyped, moved_typed}
-use Rattle.laws_threads.proofs.Onwards.{HasObjects}
-use Rattle.laws_threads.proofs.Roots.{starts_typed}
-use Rattle.laws_threads.proofs.ThreadTypes.{IsBasedIn, Rests, TypedBy}
-use Rattle.laws_threads.proofs.KeptTypes.{based_in, needs_shown}
-use Rattle.laws_states.specs.HeapFacts.{HeapFacts}
-use Rattle.laws_states.proofs.Lists.{contained_got}
-use Rattle.laws_states.proofs.Accesses.{out_there, element_site}
-use Rattle.laws_states.proofs.Found.{run_finds, element_found}
-use Rattle.laws_states.proofs.Phases.{IsOldPhase, Asks, asked}
-use Rattle.laws_threads.proofs.MonitorMoves.{contains_got}
 
 -- ---- the objects that are there from the start
 

@@ -1,36 +1,20 @@
 -- The event that stores the header of a new object: from then on the object is there.
-use Rattle.std.proofs.Common.{◌≡◌, ◌≢◌, ◌⊎◌, inl, inr, ℕ, zero, suc, ◌+◌, ◌-◌, ◌<◌, ◌≤◌, ◌^◌, Bool, true, false, List, ◌∷◌, length, Some, refl, ap, sym, subst, ◌∙◌, arith}
-use Rattle.std.specs.Prelude.{◌==◌, Contains, replicate, slice_get, slice_index, slice_set, if◌then◌else◌}
-use Rattle.std.proofs.lemmas.Bool.Decides.{nat_tests}
-use Rattle.std.proofs.lemmas.List.{length-replicate, length-set}
+use Rattle.std.proofs.Common.{◌≡◌, ◌≢◌, ◌⊎◌, inl, inr, ℕ, zero, suc, ◌+◌, ◌-◌, ◌<◌, ◌≤◌, ◌^◌, Bool, true, false, List, ◌∷◌, length, Some, refl, ap, sym, subst, ◌∙◌, arith, ◌==◌, Contains, replicate, slice_get, slice_index, slice_set, if◌then◌else◌}
+use Rattle.std.proofs.lemmas.{Bool.Decides.nat_tests, List.{length-replicate, length-set}}
 use Rattle.lists.proofs.ListLaws.{same_some}
-use Rattle.jvm_types.specs.Members.{is_static}
-use Rattle.jvm_types.specs.ProgramInvariant.{IsProgram, instances_among}
-use Rattle.jvm_types.specs.declared.class_numbers.TheConstants.{INT_ARRAY_CLASS}
-use Rattle.jvm_types.specs.declared.fixed_words.TheConstants.{OBJECT_HEAD_WORDS, FIRST_READY_WORD, NEXT_FREE_WORD}
-use Rattle.jvm_types.specs.declared.program.FieldInfo.{FieldInfo}
-use Rattle.jvm_types.specs.declared.program.Kind.{Kind}
-use Rattle.jvm_types.specs.declared.program.Kind.TheVariants as kinds
+use Rattle.jvm_types.specs.{Members.is_static, ProgramInvariant.{IsProgram, instances_among}, declared.class_numbers.TheConstants.INT_ARRAY_CLASS}
+use Rattle.jvm_types.specs.declared.{fixed_words.TheConstants.{OBJECT_HEAD_WORDS, FIRST_READY_WORD, NEXT_FREE_WORD}, program.{FieldInfo.FieldInfo, Kind.Kind}}
 use Rattle.laws_programs.proofs.FieldOrder.{instances_inside, statics_inside}
 use Rattle.checked_program.specs.MarkedProgram.{MarkedProgram, IsMarked}
-use Rattle.machine_types.specs.Core.{Core}
-use Rattle.machine_types.specs.FoundWords.{IsHeader}
-use Rattle.machine_types.specs.NewObjects.{size_by, IsNewObject}
-use Rattle.machine_types.specs.ObjectsApart.{IsBeside, IsOutside, LieApart}
-use Rattle.machine_types.specs.PlainMemory.{Object, StaticValue, object_end, header_of, new_object, start_statics}
-use Rattle.machine_types.specs.StartLaws.{StartLiesApart}
-use Rattle.machine_types.specs.Threads.{Thread}
-use Rattle.machine_types.specs.Typed.{Classes, KindHolds, HasClass, PlacesHold}
-use Rattle.machine_types.specs.Words.{header_class, header_length, header_word, value_word, object_size, array_size}
-use Rattle.machine_types.specs.declared.phase.Phase.TheVariants as phases
-use Rattle.laws_states.specs.HeapFacts.{HeapFacts}
-use Rattle.laws_states.proofs.Lists.{contained_got, contains_more, contains_first, set_here, set_there}
-use Rattle.laws_states.proofs.Sites.{static_low}
-use Rattle.laws_states.proofs.Headers.{new_header}
-use Rattle.laws_states.proofs.Lifted.{kind_up}
-use Rattle.laws_states.proofs.Assembled.{Behind}
-use Rattle.laws_threads.proofs.MonitorMoves.{contains_got}
+use Rattle.machine_types.specs.{Core.Core, FoundWords.IsHeader, NewObjects.{size_by, IsNewObject}, ObjectsApart.{IsBeside, IsOutside, LieApart}}
+use Rattle.machine_types.specs.{PlainMemory.{Object, StaticValue, object_end, header_of, new_object, start_statics}, StartLaws.StartLiesApart, Threads.Thread}
+use Rattle.machine_types.specs.{Typed.{Classes, KindHolds, HasClass, PlacesHold}, Words.{header_class, header_length, header_word, value_word, object_size, array_size}}
 use Rattle.machine_types.proofs.AttemptsPlain.{size_two}
+use Rattle.laws_threads.proofs.MonitorMoves.{contains_got}
+use Rattle.laws_states.{specs.HeapFacts.HeapFacts, proofs.{Assembled.Behind, Headers.new_header, Lifted.kind_up, Lists.{contained_got, contains_more, contains_first, set_here, set_there}}}
+use Rattle.laws_states.proofs.Sites.{static_low}
+use Rattle.jvm_types.specs.declared.program.Kind.TheVariants as kinds
+use Rattle.machine_types.specs.declared.phase.Phase.TheVariants as phases
 
 -- null, 0 and false
 zero_holds : (is : Classes) (kind : Kind) (v : ℕ) → v ≡ 0 → KindHolds is kind v

@@ -1,38 +1,21 @@
 -- The next event of a live thread changes it, phase by phase: its phase, its turns, its count of instructions, or its frames.
-use Rattle.std.proofs.Common.{◌≡◌, ℕ, suc, ◌+◌, nat_lt, Bool, true, false, List, [], ◌∷◌, drop, length, Option, Some, None, refl, sym, ap, subst, ◌∙◌, arith}
-use Rattle.std.specs.Prelude.{◌≢◌, IsSome, slice_get, option_map, if◌then◌else◌}
-use Rattle.jvm_types.specs.Members.{is_synchronized}
-use Rattle.jvm_types.specs.declared.outcome.End.TheVariants as ends
-use Rattle.jvm_types.specs.declared.outcome.Thrown.{Thrown}
-use Rattle.jvm_types.specs.declared.outcome.Thrown.TheVariants.{StackOverflowError}
-use Rattle.jvm_types.specs.declared.code.Insn.{Insn}
+use Rattle.std.proofs.Common.{◌≡◌, ℕ, suc, ◌+◌, nat_lt, Bool, true, false, List, [], ◌∷◌, drop, length, Option, Some, None, refl, sym, ap, subst, ◌∙◌, arith, ◌≢◌, IsSome, slice_get, option_map, if◌then◌else◌}
+use Rattle.jvm_types.specs.{Members.is_synchronized, declared.{code.Insn.Insn, outcome.Thrown.{Thrown, TheVariants.StackOverflowError}, program.{MethodInfo.MethodInfo, Program.Program, Row.Row}}}
 use Rattle.jvm_types.specs.declared.program.Target.{Target}
-use Rattle.jvm_types.specs.declared.program.MethodInfo.{MethodInfo}
-use Rattle.jvm_types.specs.declared.program.Program.{Program}
-use Rattle.jvm_types.specs.declared.program.Row.{Row}
 use Rattle.checked_program.specs.MarkedProgram.{MarkedProgram}
-use Rattle.machine_types.specs.Elision.{fails, elided}
-use Rattle.machine_types.specs.Events.{thread_started, element_made, moved}
+use Rattle.machine_types.specs.{Elision.{fails, elided}, Events.{thread_started, element_made, moved}}
 use Rattle.machine_types.specs.Frames.{Top, at_pc, top_at, top_in, top_of, frames_of, went_on, has_room, entry_frame, monitor_of, returned, handler_at, caught, pushed}
-use Rattle.machine_types.specs.Going.{runs, failed_turn, root_over, goes_on, goes_on_if, goes_after, with_phase}
-use Rattle.machine_types.specs.HeldMonitors.{with_held, without_held, deeper, shallower}
-use Rattle.machine_types.specs.Instructions.{begun}
-use Rattle.machine_types.specs.Monitors.{takes, grown}
-use Rattle.machine_types.specs.Onward.{Running, Leaving, Uncaught, root_arguments, rooted, back, unwound, handed, Onward}
-use Rattle.machine_types.specs.ReadyObjects.{class_of}
-use Rattle.machine_types.specs.Threads.{Frame, Thread, Attempt}
-use Rattle.machine_types.specs.declared.lock.Kept.TheVariants as keeps
-use Rattle.machine_types.specs.declared.phase.After.{After}
-use Rattle.machine_types.specs.declared.phase.After.TheVariants as afters
-use Rattle.machine_types.specs.declared.phase.Phase.{Phase}
-use Rattle.machine_types.specs.declared.phase.Phase.TheVariants as phases
-use Rattle.machine_types.specs.declared.phase.Toward.{Toward}
-use Rattle.machine_types.specs.declared.phase.Toward.TheVariants as towards
-use Rattle.laws_states.proofs.SameTally.{Tally, tally_of, same_tally}
-use Rattle.laws_states.specs.RunSafety.{HasAfter, HasRoot, HasEvent}
+use Rattle.machine_types.specs.{Going.{runs, failed_turn, root_over, goes_on, goes_on_if, goes_after, with_phase}, HeldMonitors.{with_held, without_held, deeper, shallower}, Instructions.begun}
+use Rattle.machine_types.specs.{Monitors.{takes, grown}, Onward.{Running, Leaving, Uncaught, root_arguments, rooted, back, unwound, handed, Onward}, ReadyObjects.class_of}
+use Rattle.machine_types.specs.{Threads.{Frame, Thread, Attempt}, declared.phase.{After.After, Phase.Phase, Toward.Toward}}
 use Rattle.laws_threads.proofs.ThreadMove.{GoesBy, Checks, LeadsTo, Move, begun_attempt, becomes, counted_at, by_move, looks_in, takes_in, runs_to}
+use Rattle.laws_states.{specs.RunSafety.{HasAfter, HasRoot, HasEvent}, proofs.{SameTally.{Tally, tally_of, same_tally}, WorkFalls.{BeginsNothing, lacks_none}}}
+use Rattle.jvm_types.specs.declared.outcome.End.TheVariants as ends
+use Rattle.machine_types.specs.declared.lock.Kept.TheVariants as keeps
+use Rattle.machine_types.specs.declared.phase.After.TheVariants as afters
+use Rattle.machine_types.specs.declared.phase.Phase.TheVariants as phases
+use Rattle.machine_types.specs.declared.phase.Toward.TheVariants as towards
 use Rattle.laws_threads.proofs.ThreadMove as moves
-use Rattle.laws_states.proofs.WorkFalls.{BeginsNothing, lacks_none}
 
 -- ---- one field differs
 

@@ -1,41 +1,17 @@
 -- What the next event of a lawful thread takes is there, phase by phase.
-use Rattle.std.proofs.Common.{◌≡◌, ◌⊎◌, inl, inr, ℕ, ◌<◌, ◌≤◌, true, List, [], ◌∷◌, length, Option, Some, None, refl, ap, subst, ◌∙◌, arith}
-use Rattle.std.specs.Prelude.{get_or, IsSome, IsTrue, slice_get, option_map}
-use Rattle.std.specs.List.{AllByRecursion}
-use Rattle.std.proofs.lemmas.Option.{slice_get_cases}
-use Rattle.jvm_types.specs.Numbers.{has_number}
-use Rattle.jvm_types.specs.Verifying.{is_return}
-use Rattle.jvm_types.specs.declared.program.MethodInfo.{MethodInfo}
-use Rattle.jvm_types.specs.declared.program.Program.{Program}
+use Rattle.std.proofs.Common.{◌≡◌, ◌⊎◌, inl, inr, ℕ, ◌<◌, ◌≤◌, true, List, [], ◌∷◌, length, Option, Some, None, refl, ap, subst, ◌∙◌, arith, get_or, IsSome, IsTrue, slice_get, option_map}
+use Rattle.std.{specs.List.AllByRecursion, proofs.lemmas.Option.slice_get_cases}
+use Rattle.jvm_types.specs.{Numbers.has_number, Verifying.is_return, declared.program.{MethodInfo.MethodInfo, Program.Program}}
 use Rattle.checked_program.specs.MarkedProgram.{MarkedProgram, IsMarked}
-use Rattle.machine_types.specs.Bounds.{FramesFit, part_roots}
-use Rattle.machine_types.specs.Core.{is_live}
-use Rattle.machine_types.specs.FoundWords.{WordFits, effect_content}
-use Rattle.machine_types.specs.Frames.{Top, top_of, effect_at, handler_at}
-use Rattle.machine_types.specs.HeldMonitors.{held_at}
-use Rattle.machine_types.specs.Lawful.{IsLawful, within}
-use Rattle.machine_types.specs.Onward.{handed}
-use Rattle.machine_types.specs.ReadyObjects.{class_of}
-use Rattle.machine_types.specs.Structure.{HasFrame, IsFlat, IsFat, AfterShows, Stands, IsAs}
-use Rattle.machine_types.specs.Threads.{Frame, Thread}
-use Rattle.machine_types.specs.Typed.{AfterHolds, FramesHold, PhaseHolds}
-use Rattle.machine_types.specs.declared.effect.Effect.{Effect}
+use Rattle.machine_types.specs.{Bounds.{FramesFit, part_roots}, Core.is_live, FoundWords.{WordFits, effect_content}, Frames.{Top, top_of, effect_at, handler_at}, HeldMonitors.held_at}
+use Rattle.machine_types.specs.{Lawful.{IsLawful, within}, Onward.handed, ReadyObjects.class_of, Structure.{HasFrame, IsFlat, IsFat, AfterShows, Stands, IsAs}, Threads.{Frame, Thread}}
+use Rattle.machine_types.specs.{Typed.{AfterHolds, FramesHold, PhaseHolds}, declared.effect.Effect.Effect}
 use Rattle.machine_types.specs.declared.effect.Effect.TheVariants.{Goes, Throws, Reads, Writes, Indexes, Measures, Raises, Makes, Prints, Calls, Returns, Enters, Leaves, Waits, Notifies, NotifiesAll, Stuck}
-use Rattle.machine_types.specs.declared.lock.Held.{Held}
-use Rattle.machine_types.specs.declared.phase.After.{After}
-use Rattle.machine_types.specs.declared.phase.After.TheVariants.{Next, Return, Unwind}
-use Rattle.machine_types.specs.declared.phase.Phase.{Phase}
+use Rattle.machine_types.specs.declared.{lock.Held.Held, phase.{After.{After, TheVariants.{Next, Return, Unwind}}, Phase.Phase}}
+use Rattle.laws_threads.{specs.TopFrames.{BelowFits, IsAllowed}, proofs.{Callers.returns_fit, KeptRoots.roots_within, Landing.stand_top, Onwards.same_op, Standings.top_here}}
+use Rattle.laws_threads.proofs.{TopEffects.effects_allowed, TopStand.{thrown_stand, made_stand}}
+use Rattle.laws_states.{specs.RunSafety.{HasCaller, GoesOnBy, HasInstruction, HasAfter, HasRoot, HasEvent}, proofs.HeldOrTried.leaves_claimed}
 use Rattle.machine_types.specs.declared.phase.Phase.TheVariants as phases
-use Rattle.laws_threads.specs.TopFrames.{BelowFits, IsAllowed}
-use Rattle.laws_threads.proofs.Callers.{returns_fit}
-use Rattle.laws_threads.proofs.Landing.{stand_top}
-use Rattle.laws_threads.proofs.Onwards.{same_op}
-use Rattle.laws_threads.proofs.TopEffects.{effects_allowed}
-use Rattle.laws_threads.proofs.Standings.{top_here}
-use Rattle.laws_threads.proofs.TopStand.{thrown_stand, made_stand}
-use Rattle.laws_states.specs.RunSafety.{HasCaller, GoesOnBy, HasInstruction, HasAfter, HasRoot, HasEvent}
-use Rattle.laws_threads.proofs.KeptRoots.{roots_within}
-use Rattle.laws_states.proofs.HeldOrTried.{leaves_claimed}
 
 -- ---- what is there
 

@@ -1,26 +1,15 @@
 -- The begin of a part keeps the threads of a run: each is one of the program, and lawful.
-use Rattle.std.proofs.Common.{◌≡◌, ℕ, zero, suc, Bool, true, false, List, [], ◌∷◌, map, Some, refl, sym, ap, subst, ◌∙◌}
-use Rattle.std.specs.Prelude.{slice_get, IsTrue, if◌then◌else◌}
-use Rattle.std.specs.List.{AllByRecursion}
+use Rattle.std.{proofs.Common.{◌≡◌, ℕ, zero, suc, Bool, true, false, List, [], ◌∷◌, map, Some, refl, sym, ap, subst, ◌∙◌, slice_get, IsTrue, if◌then◌else◌}, specs.List.AllByRecursion}
 use Rattle.std.proofs.lemmas.List.{length-map}
 use Rattle.jvm_types.specs.Numbers.{has_number}
-use Rattle.jvm_types.specs.declared.outcome.End.TheVariants as ends
-use Rattle.checked_program.specs.MarkedProgram.{MarkedProgram}
-use Rattle.machine_types.specs.Bounds.{part_roots}
-use Rattle.machine_types.specs.Core.{Core, may_begin, may_begin_by, how_ended, next, next_threads, part_begins, with_roots}
-use Rattle.machine_types.specs.Facts.{IsThread}
-use Rattle.machine_types.specs.Lawful.{IsLawful}
-use Rattle.machine_types.specs.Parts.{run_roots, done_roots}
-use Rattle.machine_types.specs.Threads.{Thread}
-use Rattle.machine_types.specs.declared.config.Config.{Config}
-use Rattle.machine_types.specs.declared.phase.Phase.{Phase}
-use Rattle.machine_types.specs.declared.phase.Phase.TheVariants as phases
-use Rattle.machine_types.proofs.AtStart.{all_among}
-use Rattle.laws_threads.specs.PartLaws.{PartFits}
-use Rattle.laws_threads.proofs.PartSteps.{returned}
-use Rattle.laws_states.specs.RunFacts.{AreThreads}
-use Rattle.laws_states.proofs.PartLawful.{IsBetween, is_idle, has_returned as is_returned, lawful_anew, lawful_seen}
 use Rattle.laws_programs.proofs.LocalGoing.{at_index}
+use Rattle.checked_program.specs.MarkedProgram.{MarkedProgram}
+use Rattle.machine_types.specs.{Bounds.part_roots, Core.{Core, may_begin, may_begin_by, how_ended, next, next_threads, part_begins, with_roots}, Facts.IsThread, Lawful.IsLawful}
+use Rattle.machine_types.{specs.{Parts.{run_roots, done_roots}, Threads.Thread, declared.{config.Config.Config, phase.Phase.Phase}}, proofs.AtStart.all_among}
+use Rattle.laws_threads.{specs.PartLaws.PartFits, proofs.PartSteps.returned}
+use Rattle.laws_states.{specs.RunFacts.AreThreads, proofs.PartLawful.{IsBetween, is_idle, has_returned as is_returned, lawful_anew, lawful_seen}}
+use Rattle.jvm_types.specs.declared.outcome.End.TheVariants as ends
+use Rattle.machine_types.specs.declared.phase.Phase.TheVariants as phases
 
 is_among : (ns : List ℕ) → AllByRecursion (λ n. IsTrue (has_number ns n)) ns
 is_among ns = all_among ns ns (λ n e. e)

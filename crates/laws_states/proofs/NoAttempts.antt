@@ -1,21 +1,10 @@
 -- Where no section may be tried, no event makes an attempt.
-use Rattle.std.proofs.Common.{◌≡◌, ℕ, false, List, [], ◌∷◌, Option, Some, None, refl, ap, subst, ◌∙◌}
-use Rattle.std.specs.Prelude.{option_map, slice_get}
+use Rattle.std.proofs.Common.{◌≡◌, ℕ, false, List, [], ◌∷◌, Option, Some, None, refl, ap, subst, ◌∙◌, option_map, slice_get}
 use Rattle.checked_program.specs.MarkedProgram.{MarkedProgram}
-use Rattle.machine_types.specs.Accesses.{found_by}
-use Rattle.machine_types.specs.Core.{Core, event_of}
-use Rattle.machine_types.specs.Events.{wanted, thread_started, moved}
-use Rattle.machine_types.specs.Onward.{rooted}
-use Rattle.machine_types.specs.Threads.{Thread}
-use Rattle.machine_types.specs.declared.config.Config.{Config}
-use Rattle.machine_types.specs.declared.phase.Phase.{Phase}
-use Rattle.machine_types.specs.declared.phase.Phase.TheVariants as phases
-use Rattle.laws_states.proofs.PlainMoves.{goes_attempt}
-use Rattle.laws_states.specs.RunFacts.{AreThreads}
-use Rattle.laws_states.specs.PartsLaws.{HaveNoAttempts, EventsMakeNoAttempts}
-use Rattle.laws_states.specs.PartsStand.{PartsStand}
-use Rattle.laws_states.proofs.PartsEvents.{at_each, fits_of}
+use Rattle.machine_types.specs.{Accesses.found_by, Core.{Core, event_of}, Events.{wanted, thread_started, moved}, Onward.rooted, Threads.Thread, declared.{config.Config.Config, phase.Phase.Phase}}
+use Rattle.laws_states.{specs.{PartsLaws.{HaveNoAttempts, EventsMakeNoAttempts}, PartsStand.PartsStand, RunFacts.AreThreads}, proofs.{PartsEvents.{at_each, fits_of}, PlainMoves.goes_attempt}}
 use Rattle.laws_states.proofs.RootMoves.{RootFits, IsNoStart, moved_stays}
+use Rattle.machine_types.specs.declared.phase.Phase.TheVariants as phases
 
 module _ (c : MarkedProgram) (x : Thread) (got : ℕ) (none : x.attempt ≡ None) (never : x.cfg.elide ≡ false) (fits : RootFits x.phase x.roots) where
   starts_none : (roots : List ℕ) → (thread_started c.program x roots).attempt ≡ None

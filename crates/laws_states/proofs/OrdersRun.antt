@@ -1,19 +1,12 @@
 -- Every order has its run: whatever the stage, the work of the threads falls with each event, and behind the last one comes the
 -- next part, or nothing.
-use Rattle.std.proofs.Common.{◌≡◌, ℕ, zero, suc, ◌+◌, ◌<◌, Bool, true, false, List, [], ◌∷◌, length, Option, Some, None, refl, subst, ◌∙◌, arith}
-use Rattle.std.specs.Prelude.{◌&&◌, nat_le, nat_lt, find, if◌then◌else◌}
-use Rattle.std.specs.List.{range_with_len}
-use Rattle.std.specs.Option.{option_or}
+use Rattle.std.proofs.Common.{◌≡◌, ℕ, zero, suc, ◌+◌, ◌<◌, Bool, true, false, List, [], ◌∷◌, length, Option, Some, None, refl, subst, ◌∙◌, arith, ◌&&◌, nat_le, nat_lt, find, if◌then◌else◌}
+use Rattle.std.specs.{List.range_with_len, Option.option_or}
 use Rattle.checked_program.specs.MarkedProgram.{MarkedProgram}
-use Rattle.machine_types.specs.Core.{Core, Happening, Of, NextPart, happened, event, next, lives, may_begin, start}
-use Rattle.machine_types.specs.Schedules.{IsSchedule, Stage, First, Ordered, Rounds, Last, turn_of, turn_at, part_turn, round_turn, live_from, is_live_worker}
-use Rattle.machine_types.specs.PlainMemory.{start_objects}
-use Rattle.machine_types.specs.StartLaws.{phase_at_start}
-use Rattle.laws_threads.specs.PartLaws.{counted_next}
-use Rattle.laws_threads.specs.StateLaws.{counted_after}
-use Rattle.laws_states.specs.HeapFacts.{objects_after}
-use Rattle.laws_states.specs.StateLaws.{ProgramsKeepThreads, StartHasState, EventsKeepState, NextKeepsState, IsInState}
-use Rattle.laws_states.specs.EveryOrder.{EveryOrderHasRun}
+use Rattle.machine_types.specs.{Core.{Core, Happening, Of, NextPart, happened, event, next, lives, may_begin, start}, PlainMemory.start_objects}
+use Rattle.machine_types.specs.{Schedules.{IsSchedule, Stage, First, Ordered, Rounds, Last, turn_of, turn_at, part_turn, round_turn, live_from, is_live_worker}, StartLaws.phase_at_start}
+use Rattle.laws_threads.specs.{PartLaws.counted_next, StateLaws.counted_after}
+use Rattle.laws_states.specs.{EveryOrder.EveryOrderHasRun, HeapFacts.objects_after, StateLaws.{ProgramsKeepThreads, StartHasState, EventsKeepState, NextKeepsState, IsInState}}
 use Rattle.laws_states.specs.WorkLeft.{all_work, EventsLessenAllWork}
 
 -- ---- who lives

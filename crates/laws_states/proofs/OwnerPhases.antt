@@ -1,48 +1,25 @@
 -- What the phases owe in which a lock or a record changes its owner.
-use Rattle.std.proofs.Common.{◌≡◌, ℕ, zero, suc, ◌+◌, ◌<◌, ◌≤◌, nat_lt, Bool, true, false, cond, List, Option, Some, None, refl, sym, ap, ◌∙◌, subst, arith}
-use Rattle.std.specs.Prelude.{slice_index, slice_set, ◌==◌}
-use Rattle.jvm_types.specs.declared.outcome.End.TheVariants as ends
-use Rattle.jvm_types.specs.declared.program.Program.{Program}
+use Rattle.std.proofs.Common.{◌≡◌, ℕ, zero, suc, ◌+◌, ◌<◌, ◌≤◌, nat_lt, Bool, true, false, cond, List, Option, Some, None, refl, sym, ap, ◌∙◌, subst, arith, slice_index, slice_set, ◌==◌}
+use Rattle.jvm_types.specs.declared.{fixed_words.TheConstants.{NEXT_RECORD_WORD, MONITOR_RECORDS}, program.Program.Program}
 use Rattle.checked_program.specs.MarkedProgram.{MarkedProgram, IsMarked}
-use Rattle.machine_types.specs.Accesses.{found_by, words_after}
-use Rattle.machine_types.specs.declared.access.Access.TheVariants.{Store, Cas}
-use Rattle.machine_types.specs.Core.{Core}
-use Rattle.machine_types.specs.Elision.{is_same, fails, elided}
-use Rattle.machine_types.specs.FoundWords.{Lock, leave_content}
-use Rattle.machine_types.specs.Going.{failed_turn, with_phase, goes_on_if, goes_after}
-use Rattle.machine_types.specs.HeldMonitors.{held_at, with_held, without_held, shallower}
-use Rattle.machine_types.specs.LockWords.{word_of_lock, next_count}
+use Rattle.machine_types.specs.{Accesses.{found_by, words_after}, Core.Core, Elision.{is_same, fails, elided}, FoundWords.{Lock, leave_content}}
+use Rattle.machine_types.specs.{Going.{failed_turn, with_phase, goes_on_if, goes_after}, HeldMonitors.{held_at, with_held, without_held, shallower}, LockWords.{word_of_lock, next_count}}
 use Rattle.machine_types.specs.Monitors.{Has, Tries, HasNot, claim_by, takes, freed, release, leave_wants, leave_moves, released, finish_wants, finishes, lets_go, grows_not, count_kept, fattens, grown, goes_to_wait, retakes}
-use Rattle.machine_types.specs.Onward.{Onward, after}
-use Rattle.machine_types.specs.Owners.{hold_by_kept, hold_by_list, drawn_by, Knows, PhaseSaw, Owns, AreLocks, locks_in, references_of}
-use Rattle.machine_types.specs.PlainMemory.{Object}
-use Rattle.machine_types.specs.Structure.{AreHeldOnce, IsFlat, IsFat}
-use Rattle.machine_types.specs.Threads.{Attempt, Thread}
-use Rattle.machine_types.specs.Words.{owner_word}
-use Rattle.jvm_types.specs.declared.fixed_words.TheConstants.{NEXT_RECORD_WORD, MONITOR_RECORDS}
-use Rattle.machine_types.specs.declared.lock.Held.{Held}
-use Rattle.machine_types.specs.declared.lock.Kept.{Kept}
-use Rattle.machine_types.specs.declared.lock.Kept.TheVariants as keeps
-use Rattle.machine_types.specs.declared.lock.LockWord.{LockWord}
-use Rattle.machine_types.specs.declared.lock.LockWord.TheVariants as locks
-use Rattle.machine_types.specs.declared.phase.After.{After}
-use Rattle.machine_types.specs.declared.phase.Phase.{Phase}
-use Rattle.machine_types.specs.declared.phase.Phase.TheVariants as phases
-use Rattle.machine_types.specs.declared.phase.Toward.{Toward}
-use Rattle.machine_types.specs.declared.phase.Toward.TheVariants as towards
-use Rattle.laws_threads.specs.StructureLaws.{counted_by}
-use Rattle.laws_threads.proofs.ThreadMove.{if_either, same_onward}
-use Rattle.laws_states.specs.HeapFacts.{HeapFacts}
-use Rattle.laws_states.specs.SiteLaws.{SitesDiffer, SitesLieInside}
-use Rattle.laws_states.specs.Sites.{HasObject, IsAccessOf, ReachesIf}
-use Rattle.laws_states.proofs.SameTally.{Tally, tally_of}
-use Rattle.laws_states.proofs.SameTally as tallies
+use Rattle.machine_types.specs.{Onward.{Onward, after}, Owners.{hold_by_kept, hold_by_list, drawn_by, Knows, PhaseSaw, Owns, AreLocks, locks_in, references_of}, PlainMemory.Object}
+use Rattle.machine_types.specs.{Structure.{AreHeldOnce, IsFlat, IsFat}, Threads.{Attempt, Thread}, Words.owner_word, declared.{access.Access.TheVariants.{Store, Cas}, lock.{Held.Held, Kept.Kept}}}
+use Rattle.machine_types.specs.declared.{lock.LockWord.LockWord, phase.{After.After, Phase.Phase, Toward.Toward}}
+use Rattle.laws_threads.{specs.StructureLaws.counted_by, proofs.ThreadMove.{if_either, same_onward}}
+use Rattle.laws_states.specs.{HeapFacts.HeapFacts, SiteLaws.{SitesDiffer, SitesLieInside}, Sites.{HasObject, IsAccessOf, ReachesIf}}
 use Rattle.laws_states.proofs.CountedPhases.{IsPlain, plain_knows, plain_saw, plain_draws_none, counted_plain}
-use Rattle.laws_states.proofs.LockPhases.{Result, on_view, loaded, plain, by_tally, knowing, refitted, lock_is, owner_none, lock_reached}
-use Rattle.laws_states.proofs.LockViews.{set_lock, set_owner, recounted, fatly}
+use Rattle.laws_states.proofs.{LockPhases.{Result, on_view, loaded, plain, by_tally, knowing, refitted, lock_is, owner_none, lock_reached}, LockViews.{set_lock, set_owner, recounted, fatly}}
 use Rattle.laws_states.proofs.OwnersEvents.{Became, take_won, flag_won, let_go, fat_in, drawn_next, fresh_record, own_stored, record_taken, record_left}
-use Rattle.laws_states.proofs.PlainMoves.{same_look, finished, goes_if, goes_attempt}
-use Rattle.laws_states.proofs.WordViews.{lock_of_word, lock_view, owner_view, next_view}
+use Rattle.laws_states.proofs.{PlainMoves.{same_look, finished, goes_if, goes_attempt}, SameTally.{Tally, tally_of}, WordViews.{lock_of_word, lock_view, owner_view, next_view}}
+use Rattle.jvm_types.specs.declared.outcome.End.TheVariants as ends
+use Rattle.machine_types.specs.declared.lock.Kept.TheVariants as keeps
+use Rattle.machine_types.specs.declared.lock.LockWord.TheVariants as locks
+use Rattle.machine_types.specs.declared.phase.Phase.TheVariants as phases
+use Rattle.machine_types.specs.declared.phase.Toward.TheVariants as towards
+use Rattle.laws_states.proofs.SameTally as tallies
 
 -- ---- threads that go on
 

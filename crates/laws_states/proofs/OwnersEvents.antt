@@ -1,29 +1,19 @@
 -- The events by which owners change: a lock is taken, flagged, made fat or let go; a record is drawn, gets an owner or loses it.
-use Rattle.std.proofs.Common.{◌≡◌, inl, inr, ℕ, ◌+◌, ◌<◌, ◌≤◌, nat_lt, Bool, true, false, cond, List, Option, Some, None, refl, sym, ap, ◌∙◌, subst, arith}
-use Rattle.std.specs.Prelude.{◌==◌, if◌then◌else◌}
-use Rattle.std.proofs.lemmas.Bool.Decides.{nat_tests, Decides-eqb}
-use Rattle.std.proofs.lemmas.Bool.{ne_eqb, eqb-false}
-use Rattle.machine_types.specs.HeldMonitors.{held_at, with_held, without_held}
-use Rattle.machine_types.specs.LockWords.{next_count}
-use Rattle.machine_types.specs.Owners.{Locks, Hold, NotHeld, HeldFlat, HeldFat, hold_by_word, hold_by_kept, hold_by_list, drawn_by, IsDrawn, Knows, PhaseSaw, AttemptSawIn, IsKeptIn, Owns, AreLocks, one_if_flat}
-use Rattle.machine_types.specs.Structure.{AreHeldOnce}
-use Rattle.machine_types.specs.Threads.{Attempt, Thread}
+use Rattle.std.proofs.Common.{◌≡◌, inl, inr, ℕ, ◌+◌, ◌<◌, ◌≤◌, nat_lt, Bool, true, false, cond, List, Option, Some, None, refl, sym, ap, ◌∙◌, subst, arith, ◌==◌, if◌then◌else◌}
+use Rattle.std.proofs.lemmas.Bool.{ne_eqb, eqb-false, Decides.{nat_tests, Decides-eqb}}
 use Rattle.jvm_types.specs.declared.fixed_words.TheConstants.{MONITOR_RECORDS}
-use Rattle.machine_types.specs.declared.config.Config.{Config}
-use Rattle.machine_types.specs.declared.lock.Held.{Held}
-use Rattle.machine_types.specs.declared.lock.Kept.{Kept}
-use Rattle.machine_types.specs.declared.lock.Kept.TheVariants as keeps
-use Rattle.machine_types.specs.declared.lock.LockWord.{LockWord}
-use Rattle.machine_types.specs.declared.lock.LockWord.TheVariants as locks
-use Rattle.machine_types.specs.declared.phase.Phase.{Phase}
-use Rattle.machine_types.specs.declared.phase.Phase.TheVariants as phases
+use Rattle.machine_types.specs.{HeldMonitors.{held_at, with_held, without_held}, LockWords.next_count}
+use Rattle.machine_types.specs.Owners.{Locks, Hold, NotHeld, HeldFlat, HeldFat, hold_by_word, hold_by_kept, hold_by_list, drawn_by, IsDrawn, Knows, PhaseSaw, AttemptSawIn, IsKeptIn, Owns, AreLocks, one_if_flat}
+use Rattle.machine_types.specs.{Structure.AreHeldOnce, Threads.{Attempt, Thread}, declared.{config.Config.Config, lock.{Held.Held, Kept.Kept, LockWord.LockWord}, phase.Phase.Phase}}
+use Rattle.machine_types.proofs.PlainStepLaws.{is_same}
 use Rattle.laws_threads.proofs.HeldLists.{held_monitor, held_put, held_without}
 use Rattle.laws_states.proofs.CountedPhases.{IsPlain, plain_knows, plain_saw, plain_draws_none}
 use Rattle.laws_states.proofs.LockViews.{set_lock, set_owner, set_next, recounted, itself, another, fatly, thin_if_flat, flat_alone}
-use Rattle.laws_states.proofs.LockWritten.{lock_written, put_holds, drop_holds, put_keeps, drop_keeps}
-use Rattle.laws_states.proofs.OwnerWritten.{owner_written, words_apart, take_same, own_attempt, attempt_same}
+use Rattle.laws_states.proofs.{LockWritten.{lock_written, put_holds, drop_holds, put_keeps, drop_keeps}, OwnerWritten.{owner_written, words_apart, take_same, own_attempt, attempt_same}}
 use Rattle.laws_states.proofs.OwnersStep.{Owes, flat_in}
-use Rattle.machine_types.proofs.PlainStepLaws.{is_same}
+use Rattle.machine_types.specs.declared.lock.Kept.TheVariants as keeps
+use Rattle.machine_types.specs.declared.lock.LockWord.TheVariants as locks
+use Rattle.machine_types.specs.declared.phase.Phase.TheVariants as phases
 
 -- what became of a thread, that now holds these monitors
 pub record Became (x y : Thread) (held : List Held) (taken : ℕ) : Type 0 where

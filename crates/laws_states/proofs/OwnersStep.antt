@@ -1,23 +1,12 @@
 -- One event of a thread changes one word: what it has to show of the thread, of the others, and of the words.
-use Rattle.std.proofs.Common.{◌≡◌, ◌≢◌, ◌⊎◌, inl, inr, ℕ, ◌+◌, ◌<◌, ◌≤◌, Bool, true, false, cond, List, Option, Some, refl, sym, ap, ◌∙◌, subst, arith}
-use Rattle.std.specs.Prelude.{◌==◌, slice_get, slice_set}
-use Rattle.std.specs.List.{sum_by}
-use Rattle.std.proofs.lemmas.Bool.Decides.{Decides-eqb}
-use Rattle.std.proofs.lemmas.Bool.{eqb-false}
+use Rattle.std.{proofs.Common.{◌≡◌, ◌≢◌, ◌⊎◌, inl, inr, ℕ, ◌+◌, ◌<◌, ◌≤◌, Bool, true, false, cond, List, Option, Some, refl, sym, ap, ◌∙◌, subst, arith, ◌==◌, slice_get, slice_set}, specs.List.sum_by}
+use Rattle.std.proofs.lemmas.Bool.{eqb-false, Decides.Decides-eqb}
 use Rattle.checked_program.specs.MarkedProgram.{MarkedProgram}
-use Rattle.machine_types.specs.Core.{Core}
-use Rattle.machine_types.specs.HeldMonitors.{held_at}
-use Rattle.machine_types.specs.Owners.{Locks, locks_in, hold_by_list, drawn_by, Knows, Owns, AreLocks, DrewApart, one_if_flat, flat_holders, Owners}
-use Rattle.machine_types.specs.Structure.{Structure}
-use Rattle.machine_types.specs.Threads.{Thread}
-use Rattle.machine_types.specs.declared.config.Config.{Config}
-use Rattle.machine_types.specs.declared.phase.Phase.{Phase}
+use Rattle.machine_types.specs.{Core.Core, HeldMonitors.held_at, Owners.{Locks, locks_in, hold_by_list, drawn_by, Knows, Owns, AreLocks, DrewApart, one_if_flat, flat_holders, Owners}}
+use Rattle.machine_types.specs.{Structure.Structure, Threads.Thread, declared.{config.Config.Config, phase.Phase.Phase}}
+use Rattle.laws_threads.{specs.{StateLaws.{counted_of, counted_phase_at}, StructureLaws.counted_by}, proofs.StateSteps.{set_there, set_other}}
+use Rattle.laws_states.proofs.{CountedPhases.{was_draws, phase_draws, counted_draws}, Sums.sum_set}
 use Rattle.machine_types.specs.declared.phase.Phase.TheVariants as phases
-use Rattle.laws_threads.specs.StructureLaws.{counted_by}
-use Rattle.laws_threads.specs.StateLaws.{counted_of, counted_phase_at}
-use Rattle.laws_states.proofs.Sums.{sum_set}
-use Rattle.laws_states.proofs.CountedPhases.{was_draws, phase_draws, counted_draws}
-use Rattle.laws_threads.proofs.StateSteps.{set_there, set_other}
 
 -- ---- one thread of a list is changed
 

@@ -1,27 +1,15 @@
 -- What holds of the words holds at the start of a run, and where a part begins: no word changes then, nor what bounds the counters.
-use Rattle.std.proofs.Common.{◌≡◌, ℕ, zero, suc, ◌+◌, Bool, true, false, List, [], ◌∷◌, map, Option, Some, None, refl, ap, subst, arith}
-use Rattle.std.specs.Prelude.{slice_get, if◌then◌else◌}
-use Rattle.std.specs.List.{AllByRecursion, range_with_len}
-use Rattle.std.proofs.lemmas.List.Sums.{sum_by-cons}
+use Rattle.std.proofs.Common.{◌≡◌, ℕ, zero, suc, ◌+◌, Bool, true, false, List, [], ◌∷◌, map, Option, Some, None, refl, ap, subst, arith, slice_get, if◌then◌else◌}
+use Rattle.std.{specs.List.{AllByRecursion, range_with_len}, proofs.lemmas.List.Sums.sum_by-cons}
 use Rattle.jvm_types.specs.declared.program.Program.{Program}
 use Rattle.checked_program.specs.MarkedProgram.{MarkedProgram}
-use Rattle.machine_types.specs.Bounds.{flat_held}
-use Rattle.machine_types.specs.Core.{Core, start_thread, may_begin, may_begin_by, part_phase, with_roots, part_begins, next_threads}
-use Rattle.machine_types.specs.Lawful.{IsLawful}
-use Rattle.machine_types.specs.Parts.{run_roots, done_roots}
-use Rattle.machine_types.specs.PlainMemory.{start_objects}
-use Rattle.machine_types.specs.Structure.{IsStructured, Structure}
-use Rattle.machine_types.specs.Threads.{Thread}
-use Rattle.machine_types.specs.declared.config.Config.{Config}
-use Rattle.machine_types.specs.declared.phase.Phase.{Phase}
-use Rattle.machine_types.specs.declared.phase.Phase.TheVariants as phases
+use Rattle.machine_types.specs.{Bounds.flat_held, Core.{Core, start_thread, may_begin, may_begin_by, part_phase, with_roots, part_begins, next_threads}, Lawful.IsLawful, Parts.{run_roots, done_roots}}
+use Rattle.machine_types.specs.{PlainMemory.start_objects, Structure.{IsStructured, Structure}, Threads.Thread, declared.{config.Config.Config, phase.Phase.Phase}}
 use Rattle.laws_threads.specs.PartLaws.{PartFits, PartsFit, NextKeepsStructure, counted_next}
-use Rattle.laws_states.specs.HeapLaws.{StartHasHeap, NextKeepsHeap}
-use Rattle.laws_states.specs.Counters.{drawn_for_flat, instructions_of, flat_of, taken_of}
-use Rattle.laws_states.specs.KeptWords.{StartLocksFit, StartRecordsFit, StartCountersFit, NextKeepsCounters}
-use Rattle.laws_states.specs.RunFacts.{AreThreads}
-use Rattle.laws_states.specs.RunLaws.{StartHasRunFacts, NextKeepsFacts}
+use Rattle.laws_states.specs.{Counters.{drawn_for_flat, instructions_of, flat_of, taken_of}, HeapLaws.{StartHasHeap, NextKeepsHeap}}
+use Rattle.laws_states.specs.{KeptWords.{StartLocksFit, StartRecordsFit, StartCountersFit, NextKeepsCounters}, RunFacts.AreThreads, RunLaws.{StartHasRunFacts, NextKeepsFacts}}
 use Rattle.laws_states.proofs.StartWords.{locks_at_start, records_at_start, small_at_start, free_at_start, ticket_at_start, record_at_start}
+use Rattle.machine_types.specs.declared.phase.Phase.TheVariants as phases
 
 -- ---- the start
 

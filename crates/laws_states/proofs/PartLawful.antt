@@ -1,18 +1,10 @@
 -- The begin of a part keeps threads lawful.
-use Rattle.std.proofs.Common.{◌≡◌, ℕ, List, [], ◌∷◌, Option, Some, None, refl, sym, subst, arith, ◌⊎◌, inl, inr}
-use Rattle.std.specs.Prelude.{IsTrue}
-use Rattle.std.specs.List.{AllByRecursion}
-use Rattle.jvm_types.specs.Numbers.{has_number}
-use Rattle.jvm_types.specs.declared.outcome.End.{End}
-use Rattle.jvm_types.specs.declared.outcome.End.TheVariants as ends
+use Rattle.std.{proofs.Common.{◌≡◌, ℕ, List, [], ◌∷◌, Option, Some, None, refl, sym, subst, arith, ◌⊎◌, inl, inr, IsTrue}, specs.List.AllByRecursion}
+use Rattle.jvm_types.specs.{Numbers.has_number, declared.outcome.End.End}
 use Rattle.checked_program.specs.MarkedProgram.{MarkedProgram}
-use Rattle.machine_types.specs.Bounds.{IsBounded, IsRooted, part_roots}
-use Rattle.machine_types.specs.Core.{part_phase, with_roots}
-use Rattle.machine_types.specs.Lawful.{IsLawful, IsTypedWithin}
-use Rattle.machine_types.specs.Structure.{IsStructured, IsAs, Stands, AttemptStandsIn}
-use Rattle.machine_types.specs.Threads.{Thread, Attempt, Frame}
-use Rattle.machine_types.specs.declared.lock.Held.{Held}
-use Rattle.machine_types.specs.declared.phase.Phase.{Phase}
+use Rattle.machine_types.specs.{Bounds.{IsBounded, IsRooted, part_roots}, Core.{part_phase, with_roots}, Lawful.{IsLawful, IsTypedWithin}, Structure.{IsStructured, IsAs, Stands, AttemptStandsIn}}
+use Rattle.machine_types.specs.{Threads.{Thread, Attempt, Frame}, declared.{lock.Held.Held, phase.Phase.Phase}}
+use Rattle.jvm_types.specs.declared.outcome.End.TheVariants as ends
 use Rattle.machine_types.specs.declared.phase.Phase.TheVariants as phases
 
 -- a thread between its parts: its part has not begun, or it has returned

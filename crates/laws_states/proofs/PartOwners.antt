@@ -1,28 +1,15 @@
 -- Where a part of the run begins, each thread holds what it held.
-use Rattle.std.proofs.Common.{◌≡◌, ◌⊎◌, inl, inr, ℕ, zero, suc, ◌≤◌, Bool, true, false, cond, List, [], ◌∷◌, map, Option, Some, refl, ap, sym, subst, ◌∙◌, arith}
-use Rattle.std.specs.Prelude.{slice_get, if◌then◌else◌}
-use Rattle.std.specs.List.{sum_by}
-use Rattle.std.proofs.lemmas.List.Sums.{sum_by-cons}
-use Rattle.jvm_types.specs.declared.outcome.End.{End}
-use Rattle.jvm_types.specs.declared.outcome.End.TheVariants as ends
-use Rattle.jvm_types.specs.declared.program.Program.{Program}
+use Rattle.std.proofs.Common.{◌≡◌, ◌⊎◌, inl, inr, ℕ, zero, suc, ◌≤◌, Bool, true, false, cond, List, [], ◌∷◌, map, Option, Some, refl, ap, sym, subst, ◌∙◌, arith, slice_get, if◌then◌else◌}
+use Rattle.std.{specs.List.sum_by, proofs.lemmas.List.Sums.sum_by-cons}
+use Rattle.jvm_types.specs.declared.{outcome.End.End, program.Program.Program}
 use Rattle.checked_program.specs.MarkedProgram.{MarkedProgram}
-use Rattle.machine_types.specs.Core.{Core, may_begin, with_roots, how_ended, part_begins, next_threads, next}
-use Rattle.machine_types.specs.HeldMonitors.{held_at}
-use Rattle.machine_types.specs.Owners.{Locks, locks_in, hold_by_list, drawn_by, Knows, PhaseSaw, AttemptSawIn, IsKeptIn, Owns, one_if_flat, Owners}
-use Rattle.machine_types.specs.Parts.{run_roots, done_roots}
-use Rattle.machine_types.specs.Structure.{IsAs, Structure}
-use Rattle.machine_types.specs.Threads.{Attempt, Thread}
-use Rattle.machine_types.specs.declared.config.Config.{Config}
-use Rattle.machine_types.specs.declared.lock.Held.{Held}
-use Rattle.machine_types.specs.declared.phase.Phase.{Phase}
+use Rattle.machine_types.specs.{Core.{Core, may_begin, with_roots, how_ended, part_begins, next_threads, next}, HeldMonitors.held_at}
+use Rattle.machine_types.specs.{Owners.{Locks, locks_in, hold_by_list, drawn_by, Knows, PhaseSaw, AttemptSawIn, IsKeptIn, Owns, one_if_flat, Owners}, Parts.{run_roots, done_roots}}
+use Rattle.machine_types.specs.{Structure.{IsAs, Structure}, Threads.{Attempt, Thread}, declared.{config.Config.Config, lock.Held.Held, phase.Phase.Phase}}
+use Rattle.laws_threads.specs.{PartLaws.counted_next, StateLaws.counted_of, StructureLaws.counted_by}
+use Rattle.laws_states.{specs.OwnersLaws.NextKeepsOwners, proofs.{BegunThreads.{StartsOrEnded, Begins, begun}, CountedPhases.{counted_keeps, IsPlain, plain_knows, plain_saw}}}
+use Rattle.jvm_types.specs.declared.outcome.End.TheVariants as ends
 use Rattle.machine_types.specs.declared.phase.Phase.TheVariants as phases
-use Rattle.laws_threads.specs.StructureLaws.{counted_by}
-use Rattle.laws_threads.specs.StateLaws.{counted_of}
-use Rattle.laws_threads.specs.PartLaws.{counted_next}
-use Rattle.laws_states.specs.OwnersLaws.{NextKeepsOwners}
-use Rattle.laws_states.proofs.CountedPhases.{counted_keeps, IsPlain, plain_knows, plain_saw}
-use Rattle.laws_states.proofs.BegunThreads.{StartsOrEnded, Begins, begun}
 
 -- ---- sums over threads stay
 

@@ -1,23 +1,13 @@
 -- Where a part of the run begins, nobody waits who did not: the threads of the part waited for it.
-use Rattle.std.proofs.Common.{◌≡◌, ℕ, zero, suc, ◌<◌, Bool, true, false, cond, List, [], ◌∷◌, map, Option, Some, refl, ap, sym, subst}
-use Rattle.std.specs.Prelude.{IsSome, slice_get}
-use Rattle.jvm_types.specs.declared.outcome.End.{End}
-use Rattle.jvm_types.specs.declared.outcome.End.TheVariants as ends
+use Rattle.std.proofs.Common.{◌≡◌, ℕ, zero, suc, ◌<◌, Bool, true, false, cond, List, [], ◌∷◌, map, Option, Some, refl, ap, sym, subst, IsSome, slice_get}
+use Rattle.jvm_types.specs.declared.{fixed_words.TheConstants.MONITOR_RECORDS, outcome.End.End}
 use Rattle.checked_program.specs.MarkedProgram.{MarkedProgram}
-use Rattle.machine_types.specs.Core.{part_phase, may_begin_by, may_begin, with_roots, how_ended, part_begins, next_threads}
-use Rattle.machine_types.specs.Parts.{run_roots, done_roots}
-use Rattle.machine_types.specs.Structure.{IsLimitAt, IsAs, Structure}
-use Rattle.machine_types.specs.Threads.{Thread}
-use Rattle.machine_types.specs.Waiting.{is_bit_set, MayWait, Waits, Waiting}
-use Rattle.jvm_types.specs.declared.fixed_words.TheConstants.{MONITOR_RECORDS}
-use Rattle.machine_types.specs.declared.phase.Phase.{Phase}
-use Rattle.machine_types.specs.declared.phase.Phase.TheVariants as phases
-use Rattle.laws_threads.specs.StructureLaws.{turned_from, counted_by}
-use Rattle.laws_threads.specs.StateLaws.{counted_of}
-use Rattle.laws_threads.specs.PartLaws.{PartFits, PartsFit}
-use Rattle.laws_threads.proofs.PartSteps.{one_idle}
-use Rattle.laws_threads.proofs.Lists.{mapped_at}
+use Rattle.machine_types.specs.{Core.{part_phase, may_begin_by, may_begin, with_roots, how_ended, part_begins, next_threads}, Parts.{run_roots, done_roots}, Structure.{IsLimitAt, IsAs, Structure}}
+use Rattle.machine_types.specs.{Threads.Thread, Waiting.{is_bit_set, MayWait, Waits, Waiting}, declared.phase.Phase.Phase}
+use Rattle.laws_threads.{specs.{PartLaws.{PartFits, PartsFit}, StateLaws.counted_of, StructureLaws.{turned_from, counted_by}}, proofs.{Lists.mapped_at, PartSteps.one_idle}}
 use Rattle.laws_states.specs.WaitingLaws.{NextKeepsWaiting}
+use Rattle.jvm_types.specs.declared.outcome.End.TheVariants as ends
+use Rattle.machine_types.specs.declared.phase.Phase.TheVariants as phases
 
 -- ---- a thread that stays as it is
 

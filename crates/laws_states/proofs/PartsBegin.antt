@@ -1,21 +1,14 @@
 -- At the start of a run, and where a part of it begins, the parts stand as the threads say; and no thread comes to an attempt.
-use Rattle.std.proofs.Common.{◌≡◌, ℕ, zero, suc, ◌≤◌, Bool, true, false, List, [], ◌∷◌, map, Some, None, refl, ap, sym, subst, arith}
-use Rattle.std.specs.Prelude.{slice_get, if◌then◌else◌}
-use Rattle.std.specs.List.{list_all}
-use Rattle.jvm_types.specs.declared.outcome.End.TheVariants as ends
+use Rattle.std.{proofs.Common.{◌≡◌, ℕ, zero, suc, ◌≤◌, Bool, true, false, List, [], ◌∷◌, map, Some, None, refl, ap, sym, subst, arith, slice_get, if◌then◌else◌}, specs.List.list_all}
 use Rattle.jvm_types.specs.declared.program.Program.{Program}
 use Rattle.checked_program.specs.MarkedProgram.{MarkedProgram}
 use Rattle.machine_types.specs.Core.{start, start_thread, part_phase, ended_by, may_begin_by, may_begin, with_roots, how_ended, part_begins, next_threads}
-use Rattle.machine_types.specs.Parts.{init_roots, run_roots, done_roots, has_returned, has_finished}
-use Rattle.machine_types.specs.Threads.{Thread}
-use Rattle.machine_types.specs.declared.config.Config.{Config}
-use Rattle.machine_types.specs.declared.phase.Phase.{Phase}
-use Rattle.machine_types.specs.declared.phase.Phase.TheVariants as phases
+use Rattle.machine_types.specs.{Parts.{init_roots, run_roots, done_roots, has_returned, has_finished}, Threads.Thread, declared.{config.Config.Config, phase.Phase.Phase}}
 use Rattle.machine_types.proofs.AtStart.{is_start_thread}
-use Rattle.laws_states.specs.PartsLaws.{StartStandsInParts, NextKeepsParts, StartHasNoAttempts, NextMakesNoAttempts}
-use Rattle.laws_states.specs.PartsStand.{FirstFits, HasReturned, HasFinished, DoneRoots, PartsStand}
-use Rattle.laws_threads.proofs.Lists.{mapped_at}
-use Rattle.laws_threads.proofs.PartSteps.{one_of_all}
+use Rattle.laws_threads.proofs.{Lists.mapped_at, PartSteps.one_of_all}
+use Rattle.laws_states.specs.{PartsLaws.{StartStandsInParts, NextKeepsParts, StartHasNoAttempts, NextMakesNoAttempts}, PartsStand.{FirstFits, HasReturned, HasFinished, DoneRoots, PartsStand}}
+use Rattle.jvm_types.specs.declared.outcome.End.TheVariants as ends
+use Rattle.machine_types.specs.declared.phase.Phase.TheVariants as phases
 
 part_returned : (roots : List ℕ) → HasReturned (part_phase roots) → roots ≡ []
 part_returned [] has = refl

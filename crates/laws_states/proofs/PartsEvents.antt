@@ -1,32 +1,16 @@
 -- Whatever event happens, the parts of the run stand as the threads say.
-use Rattle.std.proofs.Common.{◌≡◌, ◌≢◌, ◌⊎◌, inl, inr, ℕ, suc, ◌≤◌, List, [], ◌∷◌, Option, Some, None, refl, ap, sym, subst, ◌∙◌}
-use Rattle.std.specs.Prelude.{option_map, slice_get, slice_set}
+use Rattle.std.proofs.Common.{◌≡◌, ◌≢◌, ◌⊎◌, inl, inr, ℕ, suc, ◌≤◌, List, [], ◌∷◌, Option, Some, None, refl, ap, sym, subst, ◌∙◌, option_map, slice_get, slice_set}
 use Rattle.lists.proofs.ListLaws.{same_some}
-use Rattle.jvm_types.specs.declared.outcome.End.TheVariants as ends
-use Rattle.jvm_types.specs.declared.program.MethodInfo.{MethodInfo}
-use Rattle.jvm_types.specs.declared.program.Program.{Program}
-use Rattle.checked_program.specs.MarkedProgram.{MarkedProgram, IsMarked}
-use Rattle.machine_types.specs.Accesses.{found_by}
-use Rattle.machine_types.specs.Bounds.{FramesFit, IsRooted}
-use Rattle.machine_types.specs.Core.{Core, event_of}
-use Rattle.machine_types.specs.Events.{wanted, thread_started, moved}
-use Rattle.machine_types.specs.Going.{goes_on_if}
-use Rattle.machine_types.specs.Onward.{rooted}
-use Rattle.machine_types.specs.Parts.{done_roots}
-use Rattle.machine_types.specs.Threads.{Frame, Thread}
-use Rattle.machine_types.specs.declared.config.Config.{Config}
-use Rattle.machine_types.specs.declared.phase.Phase.{Phase}
-use Rattle.machine_types.specs.declared.phase.Phase.TheVariants as phases
+use Rattle.jvm_types.specs.declared.program.{MethodInfo.MethodInfo, Program.Program}
 use Rattle.laws_programs.specs.RootLaws.{OneMethod}
-use Rattle.laws_threads.specs.GivenThread.{Given, given_of, GivenIsKept}
-use Rattle.laws_threads.specs.RootLaws.{RootsAreKept}
-use Rattle.laws_states.proofs.Lists.{same_or_not}
-use Rattle.laws_states.specs.RunFacts.{AreThreads}
-use Rattle.laws_states.specs.PartsLaws.{EventsKeepParts}
-use Rattle.laws_states.specs.PartsStand.{FirstFits, HasReturned, HasFinished, DoneRoots, PartsStand}
-use Rattle.laws_states.proofs.DoneRoot.{one_done}
+use Rattle.checked_program.specs.MarkedProgram.{MarkedProgram, IsMarked}
+use Rattle.machine_types.specs.{Accesses.found_by, Bounds.{FramesFit, IsRooted}, Core.{Core, event_of}, Events.{wanted, thread_started, moved}, Going.goes_on_if, Onward.rooted, Parts.done_roots}
+use Rattle.machine_types.{specs.{Threads.{Frame, Thread}, declared.{config.Config.Config, phase.Phase.Phase}}, proofs.Lists.{got_when_set, got_other}}
+use Rattle.laws_threads.specs.{GivenThread.{Given, given_of, GivenIsKept}, RootLaws.RootsAreKept}
+use Rattle.laws_states.{specs.{PartsLaws.EventsKeepParts, PartsStand.{FirstFits, HasReturned, HasFinished, DoneRoots, PartsStand}, RunFacts.AreThreads}, proofs.{DoneRoot.one_done, Lists.same_or_not}}
 use Rattle.laws_states.proofs.RootMoves.{RootFits, IsNoStart, moved_stays, root_goes}
-use Rattle.machine_types.proofs.Lists.{got_when_set, got_other}
+use Rattle.jvm_types.specs.declared.outcome.End.TheVariants as ends
+use Rattle.machine_types.specs.declared.phase.Phase.TheVariants as phases
 
 -- ---- one thread of a list is changed
 

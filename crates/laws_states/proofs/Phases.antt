@@ -1,37 +1,17 @@
 -- Which word each event accesses, phase by phase.
-use Rattle.std.proofs.Common.{◌≡◌, ℕ, zero, suc, ◌+◌, ◌-◌, ◌^◌, Bool, true, false, List, Option, Some, None, refl, subst}
-use Rattle.std.specs.Prelude.{nat_lt, slice_get, if◌then◌else◌, IfSome}
-use Rattle.std.specs.List.{AllByRecursion}
+use Rattle.std.{proofs.Common.{◌≡◌, ℕ, zero, suc, ◌+◌, ◌-◌, ◌^◌, Bool, true, false, List, Option, Some, None, refl, subst, nat_lt, slice_get, if◌then◌else◌, IfSome}, specs.List.AllByRecursion}
 use Rattle.checked_program.specs.MarkedProgram.{MarkedProgram, IsMarked}
-use Rattle.machine_types.specs.Bounds.{KeptFits, PhaseFits}
-use Rattle.machine_types.specs.Core.{Core}
-use Rattle.machine_types.specs.Events.{wanted}
-use Rattle.machine_types.specs.FoundWords.{Content, Lock, leave_content, content_at}
-use Rattle.machine_types.specs.HeldMonitors.{held_at}
-use Rattle.machine_types.specs.Lawful.{IsLawful}
-use Rattle.machine_types.specs.LockWords.{word_of_lock}
-use Rattle.machine_types.specs.Monitors.{Claim, Has, Tries, HasNot, claim, enter_wants, finish_wants, release, leave_wants, freed, count_kept, bit_of}
-use Rattle.machine_types.specs.PlainMemory.{Object}
-use Rattle.machine_types.specs.Structure.{TopIs, is_element_op, IsFlat, IsAs, PhaseShows, Stands}
-use Rattle.machine_types.specs.Threads.{Frame, Attempt, Thread}
-use Rattle.machine_types.specs.Typed.{HasElementIn, HasClass, IsObject, AttemptHolds, PhaseHolds}
-use Rattle.machine_types.specs.Words.{owner_word, bits_word}
-use Rattle.machine_types.specs.declared.access.Access.{Access}
-use Rattle.machine_types.specs.declared.access.Access.TheVariants.{Load, Store, Cas, Add, Or, And, Rest}
-use Rattle.machine_types.specs.declared.lock.Held.{Held}
-use Rattle.machine_types.specs.declared.lock.Kept.{Kept}
+use Rattle.machine_types.specs.{Bounds.{KeptFits, PhaseFits}, Core.Core, Events.wanted, FoundWords.{Content, Lock, leave_content, content_at}, HeldMonitors.held_at, Lawful.IsLawful}
+use Rattle.machine_types.specs.{LockWords.word_of_lock, Monitors.{Claim, Has, Tries, HasNot, claim, enter_wants, finish_wants, release, leave_wants, freed, count_kept, bit_of}, PlainMemory.Object}
+use Rattle.machine_types.specs.{Structure.{TopIs, is_element_op, IsFlat, IsAs, PhaseShows, Stands}, Threads.{Frame, Attempt, Thread}}
+use Rattle.machine_types.specs.{Typed.{HasElementIn, HasClass, IsObject, AttemptHolds, PhaseHolds}, Words.{owner_word, bits_word}, declared.access.Access.Access}
+use Rattle.machine_types.specs.declared.{access.Access.TheVariants.{Load, Store, Cas, Add, Or, And, Rest}, lock.{Held.Held, Kept.Kept}, phase.Phase.Phase}
+use Rattle.laws_threads.proofs.{HeldBounds.found, HeldLists.held_monitor, ThreadMove.has_held}
+use Rattle.laws_states.specs.{HeapFacts.{HoldsObjects, HeapFacts}, SiteLaws.EventsReachSites, Sites.{NewHeaderOf, Reaches, ReachesIf}}
+use Rattle.laws_states.proofs.{Accesses.{FitsAccess, FitsIf, at_lock, at_owner, at_bits, at_record_word, look_fits, run_fits, element_site, element_fits}, HeldOrTried.tried_at}
 use Rattle.machine_types.specs.declared.lock.Kept.TheVariants as keeps
 use Rattle.machine_types.specs.declared.lock.LockWord.TheVariants as locks
-use Rattle.machine_types.specs.declared.phase.Phase.{Phase}
 use Rattle.machine_types.specs.declared.phase.Phase.TheVariants as phases
-use Rattle.laws_threads.proofs.HeldLists.{held_monitor}
-use Rattle.laws_threads.proofs.HeldBounds.{found}
-use Rattle.laws_threads.proofs.ThreadMove.{has_held}
-use Rattle.laws_states.specs.HeapFacts.{HoldsObjects, HeapFacts}
-use Rattle.laws_states.specs.SiteLaws.{EventsReachSites}
-use Rattle.laws_states.specs.Sites.{NewHeaderOf, Reaches, ReachesIf}
-use Rattle.laws_states.proofs.Accesses.{FitsAccess, FitsIf, at_lock, at_owner, at_bits, at_record_word, look_fits, run_fits, element_site, element_fits}
-use Rattle.laws_states.proofs.HeldOrTried.{tried_at}
 
 -- ---- claims
 

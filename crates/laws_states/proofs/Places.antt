@@ -1,21 +1,11 @@
 -- The types of places, site by site.
-use Rattle.std.proofs.Common.{◌≡◌, ◌≢◌, ◌⊎◌, inl, inr, ℕ, ◌<◌, ◌≤◌, ◌^◌, true, false, List, length, Some, refl, sym, ap, subst, ◌∙◌, arith}
-use Rattle.std.specs.Prelude.{Contains, slice_get, slice_index}
+use Rattle.std.proofs.Common.{◌≡◌, ◌≢◌, ◌⊎◌, inl, inr, ℕ, ◌<◌, ◌≤◌, ◌^◌, true, false, List, length, Some, refl, sym, ap, subst, ◌∙◌, arith, Contains, slice_get, slice_index}
 use Rattle.lists.proofs.ListLaws.{same_some}
-use Rattle.jvm_types.specs.Members.{is_static}
-use Rattle.jvm_types.specs.ProgramInvariant.{IsProgram, instances_among}
-use Rattle.jvm_types.specs.declared.class_numbers.TheConstants.{INT_ARRAY_CLASS}
-use Rattle.jvm_types.specs.declared.program.FieldInfo.{FieldInfo}
-use Rattle.jvm_types.specs.declared.program.Program.{Program}
+use Rattle.jvm_types.specs.{Members.is_static, ProgramInvariant.{IsProgram, instances_among}, declared.{class_numbers.TheConstants.INT_ARRAY_CLASS, fixed_words.TheConstants.NEXT_FREE_WORD}}
+use Rattle.jvm_types.specs.declared.program.{FieldInfo.FieldInfo, Program.Program}
 use Rattle.laws_programs.proofs.FieldOrder.{instances_inside, one_instance_field, one_static_field}
-use Rattle.machine_types.specs.Core.{Core}
-use Rattle.machine_types.specs.ObjectsApart.{IsBeside, LieApart}
-use Rattle.machine_types.specs.PlainMemory.{Object, header_of, start_statics}
-use Rattle.machine_types.specs.Typed.{KindHolds, HasClass, PlacesHold}
-use Rattle.machine_types.specs.Words.{header_word, value_word}
-use Rattle.jvm_types.specs.declared.fixed_words.TheConstants.{NEXT_FREE_WORD}
-use Rattle.laws_states.specs.Sites.{Site, Counter, OwnerOf, BitsOf, LockOf, HeaderOf, ValueOf, NewHeaderOf, StaticAt, site_word, IsThere}
-use Rattle.laws_states.proofs.Lists.{contained_got, same_or_not}
+use Rattle.machine_types.specs.{Core.Core, ObjectsApart.{IsBeside, LieApart}, PlainMemory.{Object, header_of, start_statics}, Typed.{KindHolds, HasClass, PlacesHold}, Words.{header_word, value_word}}
+use Rattle.laws_states.{specs.Sites.{Site, Counter, OwnerOf, BitsOf, LockOf, HeaderOf, ValueOf, NewHeaderOf, StaticAt, site_word, IsThere}, proofs.Lists.{contained_got, same_or_not}}
 
 -- ---- what a word has to be where it stands
 

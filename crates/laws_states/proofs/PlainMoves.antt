@@ -1,25 +1,15 @@
 -- Most events leave a thread in a plain phase, and its attempt as it was or none.
 use Rattle.std.proofs.Common.{◌≡◌, ℕ, zero, suc, ◌<◌, nat_lt, Bool, true, false, cond, Option, Some, None, refl, sym, subst}
-use Rattle.jvm_types.specs.declared.outcome.End.TheVariants as ends
 use Rattle.jvm_types.specs.declared.program.Program.{Program}
-use Rattle.machine_types.specs.Elision.{is_same, elided}
-use Rattle.machine_types.specs.Frames.{went_on}
-use Rattle.machine_types.specs.Going.{goes_on, goes_on_if}
-use Rattle.machine_types.specs.Monitors.{finishes}
-use Rattle.machine_types.specs.Onward.{Onward, Running, Throwing, Entering, Leaving, RootReturned, Uncaught}
-use Rattle.machine_types.specs.Owners.{Locks, IsSeen, AttemptSawIn}
-use Rattle.machine_types.specs.Threads.{Thread, Attempt}
-use Rattle.machine_types.specs.declared.config.Config.{Config}
-use Rattle.machine_types.specs.declared.lock.Kept.{Kept}
-use Rattle.machine_types.specs.declared.phase.After.{After}
-use Rattle.machine_types.specs.declared.phase.Phase.{Phase}
-use Rattle.machine_types.specs.declared.phase.Phase.TheVariants as phases
-use Rattle.laws_states.proofs.CountedPhases.{IsPlain}
-use Rattle.laws_threads.proofs.ThreadMove.{LeadsTo, TurnsTo, Asks, WaitsFrom, Move, becomes, counting, any_move, if_either, looks_in, takes_in, gives_up_in, over_to, same_onward}
-use Rattle.laws_threads.proofs.ThreadMove as moves
 use Rattle.checked_program.specs.MarkedProgram.{MarkedProgram}
-use Rattle.machine_types.specs.Events.{moved}
-use Rattle.machine_types.specs.Instructions.{printed}
+use Rattle.machine_types.specs.{Elision.{is_same, elided}, Events.moved, Frames.went_on, Going.{goes_on, goes_on_if}, Instructions.printed, Monitors.finishes}
+use Rattle.machine_types.specs.{Onward.{Onward, Running, Throwing, Entering, Leaving, RootReturned, Uncaught}, Owners.{Locks, IsSeen, AttemptSawIn}, Threads.{Thread, Attempt}}
+use Rattle.machine_types.specs.declared.{config.Config.Config, lock.Kept.Kept, phase.{After.After, Phase.Phase}}
+use Rattle.laws_threads.proofs.ThreadMove.{LeadsTo, TurnsTo, Asks, WaitsFrom, Move, becomes, counting, any_move, if_either, looks_in, takes_in, gives_up_in, over_to, same_onward}
+use Rattle.laws_states.proofs.CountedPhases.{IsPlain}
+use Rattle.jvm_types.specs.declared.outcome.End.TheVariants as ends
+use Rattle.machine_types.specs.declared.phase.Phase.TheVariants as phases
+use Rattle.laws_threads.proofs.ThreadMove as moves
 
 -- ---- the attempt is none, or looks back at what it looked at
 

@@ -1,31 +1,18 @@
 -- What a thread becomes where it neither makes an object nor is about to read or store an element: the monitors that it holds
 -- stay objects.
-use Rattle.std.proofs.Common.{◌≡◌, ℕ, List, Option, Some, refl, sym, subst}
-use Rattle.std.specs.List.{AllByRecursion}
+use Rattle.std.{proofs.Common.{◌≡◌, ℕ, List, Option, Some, refl, sym, subst}, specs.List.AllByRecursion}
 use Rattle.jvm_types.specs.declared.program.Program.{Program}
 use Rattle.checked_program.specs.MarkedProgram.{MarkedProgram}
-use Rattle.machine_types.specs.Elision.{elided}
-use Rattle.machine_types.specs.Frames.{went_on}
-use Rattle.machine_types.specs.Going.{runs, goes_on, goes_on_if}
-use Rattle.machine_types.specs.HeldMonitors.{held_at, with_held, without_held, deeper, shallower}
-use Rattle.machine_types.specs.Monitors.{grown}
-use Rattle.machine_types.specs.Instructions.{printed}
-use Rattle.machine_types.specs.Onward.{Onward, Running, after}
-use Rattle.machine_types.specs.Threads.{Thread}
-use Rattle.machine_types.specs.Typed.{Classes, IsObject}
-use Rattle.machine_types.specs.declared.lock.Held.{Held}
-use Rattle.machine_types.specs.declared.lock.Kept.{Kept}
-use Rattle.machine_types.specs.declared.lock.Kept.TheVariants as keeps
-use Rattle.machine_types.specs.declared.phase.After.{After}
-use Rattle.machine_types.specs.declared.phase.Phase.{Phase}
-use Rattle.machine_types.specs.declared.phase.Phase.TheVariants as phases
+use Rattle.machine_types.specs.{Elision.elided, Frames.went_on, Going.{runs, goes_on, goes_on_if}, HeldMonitors.{held_at, with_held, without_held, deeper, shallower}, Instructions.printed}
+use Rattle.machine_types.specs.{Monitors.grown, Onward.{Onward, Running, after}, Threads.Thread, Typed.{Classes, IsObject}, declared.{lock.{Held.Held, Kept.Kept}, phase.{After.After, Phase.Phase}}}
 use Rattle.machine_types.specs.declared.phase.Toward.{Toward}
-use Rattle.machine_types.specs.declared.phase.Toward.TheVariants as towards
-use Rattle.laws_threads.proofs.HeldLists.{held_monitor}
-use Rattle.laws_threads.proofs.HeldBounds.{each_put, each_without, found}
+use Rattle.laws_threads.proofs.{HeldBounds.{each_put, each_without, found}, HeldLists.held_monitor}
 use Rattle.laws_threads.proofs.ThreadMove.{Lacks, LeadsTo, TurnsTo, Takes, GivesUp, Asks, WaitsFrom, Move, becomes, runs_to, turns_to, same_onward, IsOnward, onward_to, onward_if_to}
-use Rattle.laws_threads.proofs.ThreadMove as moves
 use Rattle.laws_states.proofs.Phases.{some_of}
+use Rattle.machine_types.specs.declared.lock.Kept.TheVariants as keeps
+use Rattle.machine_types.specs.declared.phase.Phase.TheVariants as phases
+use Rattle.machine_types.specs.declared.phase.Toward.TheVariants as towards
+use Rattle.laws_threads.proofs.ThreadMove as moves
 
 abbrev pub AllHeld : Classes → List Held → Type 0
 AllHeld is held = AllByRecursion (λ h. IsObject is h.monitor) held

@@ -1,40 +1,18 @@
 -- Most events change nothing of what the words say of locks.
-use Rattle.std.proofs.Common.{◌≡◌, ◌≢◌, ◌⊎◌, inl, inr, ℕ, ◌<◌, nat_lt, nat_le, Bool, true, false, cond, List, ◌∷◌, Option, Some, None, refl, sym, ap, ◌∙◌, arith}
-use Rattle.std.specs.Prelude.{slice_get, slice_index, ◌==◌, ◌||◌}
+use Rattle.std.proofs.Common.{◌≡◌, ◌≢◌, ◌⊎◌, inl, inr, ℕ, ◌<◌, nat_lt, nat_le, Bool, true, false, cond, List, ◌∷◌, Option, Some, None, refl, sym, ap, ◌∙◌, arith, slice_get, slice_index, ◌==◌, ◌||◌}
 use Rattle.std.proofs.lemmas.Bool.Decides.{nat_tests, Decides-eqb}
-use Rattle.jvm_types.specs.Numbers.{has_number}
-use Rattle.jvm_types.specs.declared.program.Program.{Program}
-use Rattle.jvm_types.specs.declared.program.Target.{Target}
+use Rattle.jvm_types.specs.{Numbers.has_number, declared.{fixed_words.TheConstants.{NEXT_FREE_WORD, NEXT_TICKET_WORD, NEXT_RECORD_WORD, MONITOR_RECORDS}, program.{Program.Program, Target.Target}}}
 use Rattle.checked_program.specs.MarkedProgram.{MarkedProgram, IsMarked}
-use Rattle.machine_types.specs.Accesses.{accessed, left_by, words_after}
-use Rattle.machine_types.specs.declared.access.Access.{Access}
-use Rattle.machine_types.specs.declared.access.Access.TheVariants.{Store, Add}
-use Rattle.machine_types.specs.Core.{Core}
-use Rattle.machine_types.specs.Events.{wanted}
-use Rattle.machine_types.specs.FoundWords.{Content, Bits, IntPlace, ReferencePlace, Any, effect_content, run_content, content_at}
-use Rattle.machine_types.specs.Frames.{Top, top_of, effect_at}
-use Rattle.machine_types.specs.Instructions.{has_print_left, effect_wants, run_wants}
-use Rattle.machine_types.specs.Lawful.{IsLawful}
-use Rattle.machine_types.specs.LockWords.{lock_of}
-use Rattle.machine_types.specs.Owners.{lock_at, owner_at, locks_in, references_of}
-use Rattle.machine_types.specs.PlainMemory.{Object}
-use Rattle.machine_types.specs.Threads.{Thread}
-use Rattle.machine_types.specs.Words.{owner_word, header_word}
-use Rattle.jvm_types.specs.declared.fixed_words.TheConstants.{NEXT_FREE_WORD, NEXT_TICKET_WORD, NEXT_RECORD_WORD, MONITOR_RECORDS}
-use Rattle.machine_types.specs.declared.effect.Effect.{Effect}
-use Rattle.machine_types.specs.declared.effect.Effect.TheVariants.{Goes, Reads, Writes, Calls, Indexes, Measures, Raises, Makes, Prints}
-use Rattle.machine_types.specs.declared.lock.LockWord.TheVariants as locks
+use Rattle.machine_types.specs.{Accesses.{accessed, left_by, words_after}, Core.Core, Events.wanted, FoundWords.{Content, Bits, IntPlace, ReferencePlace, Any, effect_content, run_content, content_at}}
+use Rattle.machine_types.specs.{Frames.{Top, top_of, effect_at}, Instructions.{has_print_left, effect_wants, run_wants}, Lawful.IsLawful, LockWords.lock_of}
+use Rattle.machine_types.specs.{Owners.{lock_at, owner_at, locks_in, references_of}, PlainMemory.Object, Threads.Thread, Words.{owner_word, header_word}, declared.access.Access.Access}
+use Rattle.machine_types.specs.declared.{access.Access.TheVariants.{Store, Add}, effect.Effect.{Effect, TheVariants.{Goes, Reads, Writes, Calls, Indexes, Measures, Raises, Makes, Prints}}}
 use Rattle.machine_types.specs.declared.phase.Phase.{Phase}
+use Rattle.laws_states.specs.{HeapFacts.{HeapFacts, objects_by}, SiteLaws.{EventsReachSites, SitesDiffer, SitesLieInside}}
+use Rattle.laws_states.{specs.Sites.{Site, Counter, OwnerOf, LockOf, NewHeaderOf, site_word, IsThere, Suits}, proofs.{EventWords.{IsLeft, phase_stores, word_at, some_words}, LeftSmall.PhaseStores}}
+use Rattle.laws_states.proofs.{LeftStands.{no_access, loaded, looked, checked}, Lists.set_there, TopStores.{IsPlace, StoresFit}, WordViews.{has_object, views_same, record_there}}
+use Rattle.machine_types.specs.declared.lock.LockWord.TheVariants as locks
 use Rattle.machine_types.specs.declared.phase.Phase.TheVariants as phases
-use Rattle.laws_states.specs.HeapFacts.{HeapFacts, objects_by}
-use Rattle.laws_states.specs.SiteLaws.{EventsReachSites, SitesDiffer, SitesLieInside}
-use Rattle.laws_states.specs.Sites.{Site, Counter, OwnerOf, LockOf, NewHeaderOf, site_word, IsThere, Suits}
-use Rattle.laws_states.proofs.Lists.{set_there}
-use Rattle.laws_states.proofs.EventWords.{IsLeft, phase_stores, word_at, some_words}
-use Rattle.laws_states.proofs.LeftSmall.{PhaseStores}
-use Rattle.laws_states.proofs.LeftStands.{no_access, loaded, looked, checked}
-use Rattle.laws_states.proofs.TopStores.{IsPlace, StoresFit}
-use Rattle.laws_states.proofs.WordViews.{has_object, views_same, record_there}
 
 -- ---- the words that say of locks
 

@@ -1,33 +1,15 @@
 -- What the access of a thread finds in a reached state, and what it leaves.
-use Rattle.std.proofs.Common.{◌≡◌, ℕ, ◌<◌, ◌≤◌, ◌^◌, List, length, Option, Some, None, refl, ap, sym, subst, arith}
-use Rattle.std.specs.Prelude.{IfSome, slice_get, slice_index}
+use Rattle.std.proofs.Common.{◌≡◌, ℕ, ◌<◌, ◌≤◌, ◌^◌, List, length, Option, Some, None, refl, ap, sym, subst, arith, IfSome, slice_get, slice_index}
 use Rattle.jvm_types.specs.declared.program.Program.{Program}
 use Rattle.checked_program.specs.MarkedProgram.{MarkedProgram, IsMarked}
-use Rattle.machine_types.specs.Accesses.{accessed, left_by, found_by}
-use Rattle.machine_types.specs.declared.access.Access.{Access}
-use Rattle.machine_types.specs.declared.access.Access.TheVariants.{Load, Store, Cas, Add, Or, And, Rest}
-use Rattle.machine_types.specs.Core.{Core}
-use Rattle.machine_types.specs.Events.{wanted}
-use Rattle.machine_types.specs.FoundWords.{Content, Lock, Owner, Bits, HasCount, WordFits, content_at}
-use Rattle.machine_types.specs.Frames.{top_of}
-use Rattle.machine_types.specs.Lawful.{IsLawful}
-use Rattle.machine_types.specs.LockWords.{lock_of}
-use Rattle.machine_types.specs.PlainMemory.{Object}
-use Rattle.machine_types.specs.Threads.{Thread}
-use Rattle.machine_types.specs.declared.config.Config.{Config}
-use Rattle.machine_types.specs.declared.lock.LockWord.{LockWord}
+use Rattle.machine_types.specs.{Accesses.{accessed, left_by, found_by}, Core.Core, Events.wanted, FoundWords.{Content, Lock, Owner, Bits, HasCount, WordFits, content_at}, Frames.top_of}
+use Rattle.machine_types.specs.{Lawful.IsLawful, LockWords.lock_of, PlainMemory.Object, Threads.Thread, declared.access.Access.{Access, TheVariants.{Load, Store, Cas, Add, Or, And, Rest}}}
+use Rattle.machine_types.specs.declared.{config.Config.Config, lock.LockWord.LockWord}
+use Rattle.laws_states.specs.{FoundLaws.{IsOfHeap, HeapWordsFit}, LeftWords.LeftMayStand, RunFacts.{HaveWidth, AreThreads, RunFacts, AccessFits}, RunLaws.ReachedFits}
+use Rattle.laws_states.specs.{SharedWords.{CountsTo, IsLock, MayStand, LocksFit, RecordsFit}, SiteLaws.{EventsReachSites, SitesLieInside}}
+use Rattle.laws_states.{specs.Sites.{Site, OwnerOf, BitsOf, LockOf, site_word, IsThere, Suits, IsAccessOf, Reaches, ReachesIf}, proofs.{EventWords.phase_stores, LeftSmall.{adds_few, left_small}}}
+use Rattle.laws_states.proofs.{LeftStands.word_is_lock, Sums.{begun_once, drawn_now_once, sums_fit}}
 use Rattle.machine_types.specs.declared.lock.LockWord.TheVariants as locks
-use Rattle.laws_states.specs.FoundLaws.{IsOfHeap, HeapWordsFit}
-use Rattle.laws_states.specs.SiteLaws.{EventsReachSites, SitesLieInside}
-use Rattle.laws_states.specs.Sites.{Site, OwnerOf, BitsOf, LockOf, site_word, IsThere, Suits, IsAccessOf, Reaches, ReachesIf}
-use Rattle.laws_states.specs.LeftWords.{LeftMayStand}
-use Rattle.laws_states.specs.RunFacts.{HaveWidth, AreThreads, RunFacts, AccessFits}
-use Rattle.laws_states.specs.RunLaws.{ReachedFits}
-use Rattle.laws_states.specs.SharedWords.{CountsTo, IsLock, MayStand, LocksFit, RecordsFit}
-use Rattle.laws_states.proofs.EventWords.{phase_stores}
-use Rattle.laws_states.proofs.LeftSmall.{adds_few, left_small}
-use Rattle.laws_states.proofs.LeftStands.{word_is_lock}
-use Rattle.laws_states.proofs.Sums.{begun_once, drawn_now_once, sums_fit}
 
 -- ---- what may stand there fits
 

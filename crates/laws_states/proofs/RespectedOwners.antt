@@ -1,29 +1,12 @@
 -- Every event of a run leaves locks and waiting bits as it should.
-use Rattle.std.proofs.Common.{◌≡◌, ℕ, List, [], ◌∷◌, Option, Some, refl, sym, subst}
-use Rattle.std.specs.Prelude.{slice_get}
-use Rattle.machine_types.specs.Accesses.{found_by}
-use Rattle.machine_types.specs.Core.{Core, Happening, Of, NextPart, all_happened, core, start, event, event_of, next}
-use Rattle.machine_types.specs.Events.{wanted, moved}
-use Rattle.machine_types.specs.Owners.{locks_in, references_of}
-use Rattle.machine_types.specs.Threads.{Thread}
-use Rattle.machine_types.specs.PlainMemory.{Object, start_objects}
-use Rattle.machine_types.specs.StartLaws.{phase_at_start}
-use Rattle.machine_types.specs.declared.config.Config.{Config}
-use Rattle.machine_types.specs.declared.phase.Phase.{Phase}
+use Rattle.std.proofs.Common.{◌≡◌, ℕ, List, [], ◌∷◌, Option, Some, refl, sym, subst, slice_get}
 use Rattle.checked_program.specs.MarkedProgram.{MarkedProgram, IsMarked}
-use Rattle.laws_threads.specs.PartLaws.{counted_next}
-use Rattle.laws_threads.specs.StateLaws.{counted_after}
-use Rattle.laws_states.specs.HeapFacts.{objects_of, objects_after}
-use Rattle.laws_states.specs.SiteLaws.{EventsReachSites, SitesDiffer, SitesLieInside}
-use Rattle.laws_states.specs.RunFacts.{HaveWidth}
-use Rattle.laws_states.specs.RunLaws.{PartsKeepThreads}
-use Rattle.laws_states.specs.StateFacts.{StateFacts}
-use Rattle.laws_states.specs.StateLaws.{ProgramsKeepThreads, StartHasState, EventsKeepState, NextKeepsState}
-use Rattle.laws_states.specs.ChangeLaws.{all_objects, run_objects, LocksFollow, CountsFollow, BitsFollow, EventsRespectOwners, RunsRespectOwners}
-use Rattle.laws_states.proofs.EventBits.{bits_by_phase}
-use Rattle.laws_states.proofs.EventCounts.{counts_by_phase}
-use Rattle.laws_states.proofs.EventLocks.{locks_by_phase}
-use Rattle.laws_threads.proofs.StateSteps.{set_there}
+use Rattle.machine_types.specs.{Accesses.found_by, Core.{Core, Happening, Of, NextPart, all_happened, core, start, event, event_of, next}, Events.{wanted, moved}, Owners.{locks_in, references_of}}
+use Rattle.machine_types.specs.{PlainMemory.{Object, start_objects}, StartLaws.phase_at_start, Threads.Thread, declared.{config.Config.Config, phase.Phase.Phase}}
+use Rattle.laws_threads.{specs.{PartLaws.counted_next, StateLaws.counted_after}, proofs.StateSteps.set_there}
+use Rattle.laws_states.specs.{ChangeLaws.{all_objects, run_objects, LocksFollow, CountsFollow, BitsFollow, EventsRespectOwners, RunsRespectOwners}, HeapFacts.{objects_of, objects_after}}
+use Rattle.laws_states.specs.{RunFacts.HaveWidth, RunLaws.PartsKeepThreads, SiteLaws.{EventsReachSites, SitesDiffer, SitesLieInside}, StateFacts.StateFacts}
+use Rattle.laws_states.{specs.StateLaws.{ProgramsKeepThreads, StartHasState, EventsKeepState, NextKeepsState}, proofs.{EventBits.bits_by_phase, EventCounts.counts_by_phase, EventLocks.locks_by_phase}}
 
 pub events_respect_owners : SitesDiffer → SitesLieInside → EventsReachSites → EventsRespectOwners
 events_respect_owners differ inside reach c cfg objects was s t x marked facts e =

@@ -1,26 +1,14 @@
 -- What an event leaves of the roots of its thread, and of its attempt.
-use Rattle.std.proofs.Common.{◌≡◌, ℕ, Bool, true, false, List, [], ◌∷◌, Option, Some, None, refl, ap, sym, subst, ◌∙◌}
-use Rattle.std.specs.Prelude.{◌&&◌, nat_lt, if◌then◌else◌}
-use Rattle.jvm_types.specs.declared.outcome.End.TheVariants as ends
-use Rattle.jvm_types.specs.declared.outcome.Thrown.TheVariants.{StackOverflowError}
-use Rattle.jvm_types.specs.declared.program.MethodInfo.{MethodInfo}
-use Rattle.jvm_types.specs.declared.program.Program.{Program}
+use Rattle.std.proofs.Common.{◌≡◌, ℕ, Bool, true, false, List, [], ◌∷◌, Option, Some, None, refl, ap, sym, subst, ◌∙◌, ◌&&◌, nat_lt, if◌then◌else◌}
+use Rattle.jvm_types.specs.declared.{limits.TheConstants.MOST_ATTEMPTS, outcome.Thrown.TheVariants.StackOverflowError, program.{MethodInfo.MethodInfo, Program.Program}}
 use Rattle.checked_program.specs.MarkedProgram.{MarkedProgram}
-use Rattle.machine_types.specs.Elision.{elided, may_try, enters_marked}
-use Rattle.machine_types.specs.Events.{moved}
-use Rattle.machine_types.specs.Frames.{has_room, entry_frame}
-use Rattle.machine_types.specs.Going.{runs, goes_on, goes_on_if}
-use Rattle.machine_types.specs.HeldMonitors.{held_at}
-use Rattle.machine_types.specs.Instructions.{begun, printed}
-use Rattle.machine_types.specs.Monitors.{Tries, claim}
-use Rattle.machine_types.specs.Onward.{Onward, Running, Throwing, Entering, Leaving, RootReturned, Uncaught, rooted, root_arguments, after}
-use Rattle.machine_types.specs.Threads.{Attempt, Thread}
-use Rattle.jvm_types.specs.declared.limits.TheConstants.{MOST_ATTEMPTS}
-use Rattle.machine_types.specs.declared.lock.Kept.{Kept}
-use Rattle.machine_types.specs.declared.phase.Phase.{Phase}
+use Rattle.machine_types.specs.{Elision.{elided, may_try, enters_marked}, Events.moved, Frames.{has_room, entry_frame}, Going.{runs, goes_on, goes_on_if}, HeldMonitors.held_at}
+use Rattle.machine_types.specs.{Instructions.{begun, printed}, Monitors.{Tries, claim}, Onward.{Onward, Running, Throwing, Entering, Leaving, RootReturned, Uncaught, rooted, root_arguments, after}}
+use Rattle.machine_types.specs.{Threads.{Attempt, Thread}, declared.{lock.Kept.Kept, phase.Phase.Phase}}
+use Rattle.laws_threads.proofs.ThreadMove.{LeadsTo, TurnsTo, Asks, WaitsFrom, Move, becomes, tried_attempt, each_move, runs_to, turns_to, over_to}
+use Rattle.jvm_types.specs.declared.outcome.End.TheVariants as ends
 use Rattle.machine_types.specs.declared.phase.Phase.TheVariants as phases
 use Rattle.machine_types.specs.declared.phase.Toward.TheVariants as towards
-use Rattle.laws_threads.proofs.ThreadMove.{LeadsTo, TurnsTo, Asks, WaitsFrom, Move, becomes, tried_attempt, each_move, runs_to, turns_to, over_to}
 use Rattle.laws_threads.proofs.ThreadMove as moves
 
 -- a part that begins has a root, and one that has returned has none left

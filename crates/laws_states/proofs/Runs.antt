@@ -1,10 +1,8 @@
 -- Every run reaches states whose threads are lawful and whose words are what they are read as.
 use Rattle.std.proofs.Common.{List, [], ◌∷◌}
 use Rattle.checked_program.specs.MarkedProgram.{MarkedProgram, IsMarked}
-use Rattle.machine_types.specs.Core.{Core, Happening, Of, NextPart, start, happened, all_happened, core}
-use Rattle.machine_types.specs.declared.config.Config.{Config}
-use Rattle.laws_states.specs.RunFacts.{HaveWidth}
-use Rattle.laws_states.specs.RunLaws.{StartHasRunFacts, EventsKeepFacts, NextKeepsFacts, EventsKeepThreads, PartsKeepThreads, HasRunFacts, RunsReach}
+use Rattle.machine_types.specs.{Core.{Core, Happening, Of, NextPart, start, happened, all_happened, core}, declared.config.Config.Config}
+use Rattle.laws_states.specs.{RunFacts.HaveWidth, RunLaws.{StartHasRunFacts, EventsKeepFacts, NextKeepsFacts, EventsKeepThreads, PartsKeepThreads, HasRunFacts, RunsReach}}
 
 module _ (facts_start : StartHasRunFacts) (facts_event : EventsKeepFacts) (facts_next : NextKeepsFacts) (threads_event : EventsKeepThreads) (c : MarkedProgram) (cfg : Config) (marked : IsMarked c) (width : HaveWidth cfg)
     (parts : PartsKeepThreads c cfg) where

@@ -1,13 +1,7 @@
 -- Every thread of a state that a run reaches is safe.
 use Rattle.std.proofs.Common.{refl}
-use Rattle.machine_types.specs.Accesses.{found_by}
-use Rattle.machine_types.specs.Core.{core}
-use Rattle.machine_types.specs.Events.{wanted}
-use Rattle.laws_states.specs.RunLaws.{ReachedFits}
-use Rattle.laws_states.specs.StateLaws.{ProgramsKeepThreads, RunsHaveState, StatesHaveFacts}
-use Rattle.laws_states.specs.RunSafety.{RunsAreSafe}
-use Rattle.laws_states.proofs.NextChanges.{changed}
-use Rattle.laws_states.proofs.NextEvents.{has_event}
+use Rattle.machine_types.specs.{Accesses.found_by, Core.core, Events.wanted}
+use Rattle.laws_states.{specs.{RunLaws.ReachedFits, RunSafety.RunsAreSafe, StateLaws.{ProgramsKeepThreads, RunsHaveState, StatesHaveFacts}}, proofs.{NextChanges.changed, NextEvents.has_event}}
 
 pub runs_are_safe : ProgramsKeepThreads → RunsHaveState → StatesHaveFacts → ReachedFits → RunsAreSafe
 runs_are_safe keep reach facts fits c cfg hs t x marked width set e =

@@ -2,17 +2,10 @@
 use Rattle.std.proofs.Common.{◌≡◌, ℕ, zero, suc, List, Option, Some, refl}
 use Rattle.jvm_types.specs.declared.program.Program.{Program}
 use Rattle.checked_program.specs.MarkedProgram.{MarkedProgram}
-use Rattle.machine_types.specs.Elision.{is_same, fails, elided}
-use Rattle.machine_types.specs.Events.{moved}
-use Rattle.machine_types.specs.Going.{goes_on_if, goes_after}
-use Rattle.machine_types.specs.Monitors.{finishes}
-use Rattle.machine_types.specs.Onward.{Onward, after}
-use Rattle.machine_types.specs.Threads.{Thread, Attempt}
-use Rattle.machine_types.specs.declared.lock.Held.{Held}
-use Rattle.machine_types.specs.declared.phase.After.{After}
-use Rattle.machine_types.specs.declared.phase.Phase.{Phase}
-use Rattle.machine_types.specs.declared.phase.Phase.TheVariants as phases
+use Rattle.machine_types.specs.{Elision.{is_same, fails, elided}, Events.moved, Going.{goes_on_if, goes_after}, Monitors.finishes, Onward.{Onward, after}, Threads.{Thread, Attempt}}
+use Rattle.machine_types.specs.declared.{lock.Held.Held, phase.{After.After, Phase.Phase}}
 use Rattle.laws_threads.proofs.ThreadMove.{Move, becomes, mover, by_move, if_either, takes_in, gives_up_in, same_onward}
+use Rattle.machine_types.specs.declared.phase.Phase.TheVariants as phases
 use Rattle.laws_threads.proofs.ThreadMove as moves
 
 pub record Tally : Type 0 where

@@ -1,47 +1,22 @@
 -- What the words hold of objects and places at the start of a run. Headers and static fields are found by the plain machine's
 -- start, with which the words agree.
-use Rattle.std.proofs.Common.{◌≡◌, ◌≢◌, inl, inr, ℕ, zero, suc, pos, ◌+◌, ◌-◌, ◌<◌, ◌≤◌, ◌%◌, ◌^◌, Bool, true, false, ◌&&◌, List, [], ◌∷◌, ◌++◌, length, Option, Some, None, refl, ap, sym, subst, ◌∙◌, arith}
-use Rattle.std.specs.Prelude.{◌==◌, nat_lt, nat_le, cond, filter, Contains, slice_get, slice_index, if◌then◌else◌}
-use Rattle.std.specs.Int.{w32, cast_unsigned}
-use Rattle.std.specs.List.{AllByRecursion, range_with_len}
-use Rattle.std.specs.Option.{option_or}
-use Rattle.std.proofs.lemmas.Bool.Decides.{nat_tests}
+use Rattle.std.proofs.Common.{◌≡◌, ◌≢◌, inl, inr, ℕ, zero, suc, pos, ◌+◌, ◌-◌, ◌<◌, ◌≤◌, ◌%◌, ◌^◌, Bool, true, false, ◌&&◌, List, [], ◌∷◌, ◌++◌, length, Option, Some, None, refl, ap, sym, subst, ◌∙◌, arith, ◌==◌, nat_lt, nat_le, cond, filter, Contains, slice_get, slice_index, if◌then◌else◌}
+use Rattle.std.{specs.{Int.{w32, cast_unsigned}, List.{AllByRecursion, range_with_len}, Option.option_or}, proofs.lemmas.Bool.Decides.nat_tests}
 use Rattle.lists.proofs.ListLaws.{same_some}
-use Rattle.jvm_types.specs.ClassNames.{is_class}
-use Rattle.jvm_types.specs.Layout.{kept_int}
-use Rattle.jvm_types.specs.Members.{is_static}
-use Rattle.jvm_types.specs.ProgramInvariant.{IsProgram, words_of}
-use Rattle.jvm_types.specs.declared.class_numbers.TheConstants.{CLASS_ITSELF, INT_ARRAY_CLASS}
-use Rattle.jvm_types.specs.declared.fixed_words.TheConstants.{OBJECT_HEAD_WORDS, FIRST_CLASS_WORD, FIRST_READY_WORD}
-use Rattle.jvm_types.specs.declared.program.FieldInfo.{FieldInfo}
-use Rattle.jvm_types.specs.declared.program.Kind.{Kind}
-use Rattle.jvm_types.specs.declared.program.Kind.TheVariants as kinds
-use Rattle.jvm_types.specs.declared.program.Program.{Program}
+use Rattle.jvm_types.specs.{ClassNames.is_class, Layout.kept_int, Members.is_static, ProgramInvariant.{IsProgram, words_of}, declared.class_numbers.TheConstants.{CLASS_ITSELF, INT_ARRAY_CLASS}}
+use Rattle.jvm_types.specs.declared.{fixed_words.TheConstants.{OBJECT_HEAD_WORDS, FIRST_CLASS_WORD, FIRST_READY_WORD}, program.{FieldInfo.FieldInfo, Kind.Kind, Program.Program}}
 use Rattle.laws_programs.proofs.FieldOrder.{one_static_field}
 use Rattle.checked_program.specs.MarkedProgram.{MarkedProgram, IsMarked}
-use Rattle.machine_types.specs.Agreement.{Agrees, IsPending}
-use Rattle.machine_types.specs.Core.{start, start_thread, part_phase}
-use Rattle.machine_types.specs.FoundWords.{IsHeader}
-use Rattle.machine_types.specs.Ints.{word_of}
-use Rattle.machine_types.specs.ObjectsApart.{IsBeside, IsOutside, LieApart}
+use Rattle.machine_types.specs.{Agreement.{Agrees, IsPending}, Core.{start, start_thread, part_phase}, FoundWords.IsHeader, Ints.word_of, ObjectsApart.{IsBeside, IsOutside, LieApart}}
 use Rattle.machine_types.specs.Parts.{init_roots}
 use Rattle.machine_types.specs.PlainMemory.{Object, StaticValue, object_end, header_of, value_in, has_value, first_value, object_value, static_value, objects_from, class_objects, start_objects, start_statics}
-use Rattle.machine_types.specs.PlainState.{plain_start, value_at}
-use Rattle.machine_types.specs.ReadyObjects.{ready_classes}
-use Rattle.machine_types.specs.StartLaws.{StartAgrees, StartIsTyped, StartIsUnused, StartLiesApart}
-use Rattle.machine_types.specs.StartWords.{statics_of, classes_of}
-use Rattle.machine_types.specs.Threads.{Thread}
-use Rattle.machine_types.specs.Typed.{Classes, KindHolds, HasClass, PlacesHold}
-use Rattle.machine_types.specs.Words.{header, header_word}
-use Rattle.machine_types.specs.declared.config.Config.{Config}
+use Rattle.machine_types.specs.{PlainState.{plain_start, value_at}, ReadyObjects.ready_classes, StartLaws.{StartAgrees, StartIsTyped, StartIsUnused, StartLiesApart}}
+use Rattle.machine_types.specs.{StartWords.{statics_of, classes_of}, Threads.Thread, Typed.{Classes, KindHolds, HasClass, PlacesHold}, Words.{header, header_word}, declared.config.Config.Config}
 use Rattle.machine_types.specs.declared.phase.Phase.{Phase}
-use Rattle.machine_types.specs.declared.phase.Phase.TheVariants as phases
-use Rattle.laws_states.specs.HeapFacts.{IsWaitOn, HeapFacts}
-use Rattle.laws_states.specs.HeapLaws.{StartHasHeap}
-use Rattle.laws_states.proofs.Lists.{contained_got}
-use Rattle.laws_states.proofs.Headers.{class_is, length_is, class_header}
-use Rattle.laws_states.proofs.Quiet.{AllHeld}
 use Rattle.laws_threads.proofs.Lists.{mapped_at}
+use Rattle.laws_states.{specs.{HeapFacts.{IsWaitOn, HeapFacts}, HeapLaws.StartHasHeap}, proofs.{Headers.{class_is, length_is, class_header}, Lists.contained_got, Quiet.AllHeld}}
+use Rattle.jvm_types.specs.declared.program.Kind.TheVariants as kinds
+use Rattle.machine_types.specs.declared.phase.Phase.TheVariants as phases
 
 -- ---- lists
 

@@ -1,22 +1,12 @@
 -- At the start each thread is one of the program, and lawful.
-use Rattle.std.proofs.Common.{◌≡◌, ◌≤◌, ℕ, zero, suc, ◌+◌, List, [], length, Some, subst, arith}
-use Rattle.std.specs.Prelude.{slice_get}
-use Rattle.std.proofs.lemmas.Option.{slice_get_within}
-use Rattle.std.proofs.lemmas.List.FromFn.{length-map-range_with_len}
+use Rattle.std.proofs.{Common.{◌≡◌, ◌≤◌, ℕ, zero, suc, ◌+◌, List, [], length, Some, subst, arith, slice_get}, lemmas.{List.FromFn.length-map-range_with_len, Option.slice_get_within}}
 use Rattle.checked_program.specs.MarkedProgram.{MarkedProgram}
-use Rattle.machine_types.specs.Bounds.{IsBounded}
-use Rattle.machine_types.specs.Core.{start, start_thread, part_phase}
-use Rattle.machine_types.specs.Lawful.{IsLawful, IsTypedWithin}
-use Rattle.machine_types.specs.Parts.{init_roots}
-use Rattle.machine_types.specs.Settings.{AreSettings}
-use Rattle.machine_types.specs.StartLaws.{phase_at_start}
-use Rattle.machine_types.specs.Threads.{Thread, fresh}
-use Rattle.machine_types.specs.declared.config.Config.{Config}
-use Rattle.machine_types.specs.declared.phase.Phase.{Phase}
-use Rattle.machine_types.specs.declared.phase.Phase.TheVariants as phases
+use Rattle.machine_types.specs.{Bounds.IsBounded, Core.{start, start_thread, part_phase}, Lawful.{IsLawful, IsTypedWithin}, Parts.init_roots, Settings.AreSettings, StartLaws.phase_at_start}
+use Rattle.machine_types.specs.{Threads.{Thread, fresh}, declared.{config.Config.Config, phase.Phase.Phase}}
 use Rattle.machine_types.proofs.AtStart.{IsFreshPhase, starts, idles, is_over, phase_is_fresh, is_start_thread, has_threads, is_structured}
-use Rattle.laws_states.specs.RunFacts.{AreThreads}
 use Rattle.laws_threads.proofs.PartSteps.{start_fits}
+use Rattle.laws_states.specs.RunFacts.{AreThreads}
+use Rattle.machine_types.specs.declared.phase.Phase.TheVariants as phases
 
 fresh_bounded : (c : MarkedProgram) (cfg : Config) (t : ℕ) (phase : Phase) (roots : List ℕ) → IsFreshPhase phase → t ≤ c.program.workers → AreSettings cfg → IsBounded c.program (fresh c cfg t phase roots)
 fresh_bounded c cfg t _ roots starts few set = record { number = few; kept = tt; noted = tt; phase = tt; prints = omega arith; turns = set.turns; steps = omega arith; depths = tt; waits = tt; inner = tt; entry = tt; inflated = omega arith; sections = omega arith }

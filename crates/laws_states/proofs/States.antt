@@ -1,22 +1,15 @@
 -- The facts on states hold at the start, and stay, so they hold in every state that a run reaches.
 use Rattle.std.proofs.Common.{◌≡◌, false, List, [], ◌∷◌}
 use Rattle.checked_program.specs.MarkedProgram.{MarkedProgram, IsMarked}
-use Rattle.machine_types.specs.Core.{Core, Happening, Of, NextPart, start, happened, all_happened, core}
-use Rattle.machine_types.specs.Owners.{references_of}
-use Rattle.machine_types.specs.PlainMemory.{start_objects}
-use Rattle.machine_types.specs.StartLaws.{phase_at_start, StartIsStructured, StartOwns, StartWaits}
-use Rattle.machine_types.specs.declared.config.Config.{Config}
-use Rattle.laws_threads.specs.PartLaws.{counted_next, NextKeepsStructure}
-use Rattle.laws_threads.specs.StateLaws.{counted_after, EventsKeepStructure}
-use Rattle.laws_states.specs.HeapFacts.{objects_after}
-use Rattle.laws_states.specs.HeapLaws.{StartHasHeap, EventsKeepHeap, NextKeepsHeap}
+use Rattle.machine_types.specs.{Core.{Core, Happening, Of, NextPart, start, happened, all_happened, core}, Owners.references_of, PlainMemory.start_objects}
+use Rattle.machine_types.specs.{StartLaws.{phase_at_start, StartIsStructured, StartOwns, StartWaits}, declared.config.Config.Config}
+use Rattle.laws_threads.specs.{PartLaws.{counted_next, NextKeepsStructure}, StateLaws.{counted_after, EventsKeepStructure}}
+use Rattle.laws_states.specs.{HeapFacts.objects_after, HeapLaws.{StartHasHeap, EventsKeepHeap, NextKeepsHeap}}
 use Rattle.laws_states.specs.KeptWords.{StartLocksFit, EventsKeepLocks, StartRecordsFit, EventsKeepRecords, StartCountersFit, EventsKeepCounters, NextKeepsCounters}
-use Rattle.laws_states.specs.RunFacts.{HaveWidth, RunFacts}
-use Rattle.laws_states.specs.RunLaws.{StartHasRunFacts, EventsKeepFacts, EventsKeepThreads, PartsKeepThreads}
 use Rattle.laws_states.specs.OwnersLaws.{EventsKeepOwners, NextKeepsOwners}
-use Rattle.laws_states.specs.WaitingLaws.{EventsKeepWaiting, NextKeepsWaiting}
 use Rattle.laws_states.specs.PartsLaws.{StartStandsInParts, EventsKeepParts, NextKeepsParts, StartPutsInitsFirst, EventsPutInitsFirst, NextPutsInitsFirst, HaveNoAttempts, StartHasNoAttempts, EventsMakeNoAttempts, NextMakesNoAttempts, NoAttempts}
-use Rattle.laws_states.specs.StateLaws.{StatesHaveFacts, StartHasState, EventsKeepState, NextKeepsState, IsInState, RunsHaveState}
+use Rattle.laws_states.specs.{RunFacts.{HaveWidth, RunFacts}, RunLaws.{StartHasRunFacts, EventsKeepFacts, EventsKeepThreads, PartsKeepThreads}}
+use Rattle.laws_states.specs.{StateLaws.{StatesHaveFacts, StartHasState, EventsKeepState, NextKeepsState, IsInState, RunsHaveState}, WaitingLaws.{EventsKeepWaiting, NextKeepsWaiting}}
 
 pub states_have_facts : StatesHaveFacts
 states_have_facts c cfg objects was s f = record { objects = objects; heap = f.heap; locks = f.locks; records = f.records; counters = f.counters; small = f.small }

@@ -1,39 +1,16 @@
 -- Most events leave the waiting bits as they are.
-use Rattle.std.proofs.Common.{◌≡◌, ◌⊎◌, inl, inr, ℕ, ◌<◌, ◌^◌, List, Option, Some, None, sym, ap, ◌∙◌, subst}
-use Rattle.std.specs.Prelude.{slice_get, slice_index}
-use Rattle.jvm_types.specs.Numbers.{has_flag}
-use Rattle.jvm_types.specs.declared.program.FieldInfo.{FieldInfo}
-use Rattle.jvm_types.specs.declared.program.Kind.{Kind}
-use Rattle.jvm_types.specs.declared.program.Kind.TheVariants as kinds
-use Rattle.jvm_types.specs.declared.program.Program.{Program}
-use Rattle.jvm_types.specs.declared.program.Target.{Target}
-use Rattle.jvm_types.specs.declared.program.Target.TheVariants as targets
+use Rattle.std.proofs.Common.{◌≡◌, ◌⊎◌, inl, inr, ℕ, ◌<◌, ◌^◌, List, Option, Some, None, sym, ap, ◌∙◌, subst, slice_get, slice_index}
+use Rattle.jvm_types.specs.{Numbers.has_flag, declared.{fixed_words.TheConstants.MONITOR_RECORDS, program.{FieldInfo.FieldInfo, Kind.Kind, Program.Program, Target.Target}}}
 use Rattle.checked_program.specs.MarkedProgram.{MarkedProgram, IsMarked}
-use Rattle.machine_types.specs.Accesses.{left_by, words_after}
-use Rattle.machine_types.specs.declared.access.Access.{Access}
-use Rattle.machine_types.specs.declared.access.Access.TheVariants.{Load}
-use Rattle.machine_types.specs.Core.{Core}
-use Rattle.machine_types.specs.Events.{wanted}
-use Rattle.machine_types.specs.FoundWords.{kind_content, field_content, variable_content, effect_content, run_content, leave_content, content_at}
-use Rattle.machine_types.specs.Frames.{Top, top_of, effect_at}
-use Rattle.machine_types.specs.Lawful.{IsLawful}
-use Rattle.machine_types.specs.Monitors.{Claim, Has, Tries, HasNot, claim}
-use Rattle.machine_types.specs.Owners.{Locks}
-use Rattle.machine_types.specs.PlainMemory.{Object}
-use Rattle.machine_types.specs.Threads.{Thread}
-use Rattle.machine_types.specs.Words.{bits_word}
-use Rattle.jvm_types.specs.declared.fixed_words.TheConstants.{MONITOR_RECORDS}
-use Rattle.machine_types.specs.declared.effect.Effect.{Effect}
-use Rattle.machine_types.specs.declared.effect.Effect.TheVariants.{Goes, Reads, Writes, Calls, Indexes, Measures, Raises}
-use Rattle.machine_types.specs.declared.lock.Kept.{Kept}
+use Rattle.machine_types.specs.{Accesses.{left_by, words_after}, Core.Core, Events.wanted}
+use Rattle.machine_types.specs.{FoundWords.{kind_content, field_content, variable_content, effect_content, run_content, leave_content, content_at}, Frames.{Top, top_of, effect_at}, Lawful.IsLawful}
+use Rattle.machine_types.specs.{Monitors.{Claim, Has, Tries, HasNot, claim}, Owners.Locks, PlainMemory.Object, Threads.Thread, Words.bits_word, declared.access.Access.{Access, TheVariants.Load}}
+use Rattle.machine_types.specs.declared.{effect.Effect.{Effect, TheVariants.{Goes, Reads, Writes, Calls, Indexes, Measures, Raises}}, lock.Kept.Kept, phase.Phase.Phase}
+use Rattle.laws_states.{specs.{HeapFacts.HeapFacts, SiteLaws.{EventsReachSites, SitesDiffer, SitesLieInside}, Sites.{BitsOf, Suits}}, proofs.{EventWords.{IsLeft, word_at}, WaitingStep.Changes}}
+use Rattle.jvm_types.specs.declared.program.Kind.TheVariants as kinds
+use Rattle.jvm_types.specs.declared.program.Target.TheVariants as targets
 use Rattle.machine_types.specs.declared.lock.Kept.TheVariants as keeps
-use Rattle.machine_types.specs.declared.phase.Phase.{Phase}
 use Rattle.machine_types.specs.declared.phase.Phase.TheVariants as phases
-use Rattle.laws_states.specs.HeapFacts.{HeapFacts}
-use Rattle.laws_states.specs.SiteLaws.{EventsReachSites, SitesDiffer, SitesLieInside}
-use Rattle.laws_states.specs.Sites.{BitsOf, Suits}
-use Rattle.laws_states.proofs.EventWords.{IsLeft, word_at}
-use Rattle.laws_states.proofs.WaitingStep.{Changes}
 
 -- ---- no instruction accesses them, nor does a release
 

@@ -1,30 +1,16 @@
 -- How far the counters have come, by what all threads have done.
-use Rattle.std.proofs.Common.{◌≡◌, ◌⊎◌, inl, inr, ℕ, suc, ◌+◌, ◌*◌, ◌<◌, ◌≤◌, ◌^◌, List, [], ◌∷◌, length, Option, Some, None, refl, ap, sym, subst, arith}
-use Rattle.std.specs.Prelude.{slice_get, slice_index, slice_set}
-use Rattle.std.specs.List.{sum_by}
-use Rattle.std.proofs.lemmas.Option.{slice_get_within, get_or_from_slice_get}
-use Rattle.std.proofs.lemmas.List.Sums.{sum_by-cons, sum_by-set}
+use Rattle.std.proofs.Common.{◌≡◌, ◌⊎◌, inl, inr, ℕ, suc, ◌+◌, ◌*◌, ◌<◌, ◌≤◌, ◌^◌, List, [], ◌∷◌, length, Option, Some, None, refl, ap, sym, subst, arith, slice_get, slice_index, slice_set}
+use Rattle.std.{specs.List.sum_by, proofs.lemmas.{List.Sums.{sum_by-cons, sum_by-set}, Option.{slice_get_within, get_or_from_slice_get}}}
 use Rattle.lists.proofs.ListLaws.{same_some}
-use Rattle.jvm_types.specs.declared.outcome.End.{End}
-use Rattle.jvm_types.specs.declared.outcome.End.TheVariants as ends
-use Rattle.jvm_types.specs.declared.program.Program.{Program}
+use Rattle.jvm_types.specs.declared.{fixed_words.TheConstants.{NEXT_FREE_WORD, NEXT_TICKET_WORD, NEXT_RECORD_WORD}, outcome.End.End, program.Program.Program}
 use Rattle.checked_program.specs.MarkedProgram.{MarkedProgram, IsMarked}
-use Rattle.machine_types.specs.Accesses.{accessed}
-use Rattle.machine_types.specs.declared.access.Access.{Access}
-use Rattle.machine_types.specs.declared.access.Access.TheVariants.{Add}
-use Rattle.machine_types.specs.Bounds.{IsBounded, StepsFit, flat_held}
-use Rattle.machine_types.specs.Core.{Core}
-use Rattle.machine_types.specs.Frames.{Top}
-use Rattle.machine_types.specs.Threads.{Thread}
-use Rattle.jvm_types.specs.declared.fixed_words.TheConstants.{NEXT_FREE_WORD, NEXT_TICKET_WORD, NEXT_RECORD_WORD}
-use Rattle.machine_types.specs.declared.config.Config.{Config}
-use Rattle.machine_types.specs.declared.phase.Phase.{Phase}
-use Rattle.machine_types.specs.declared.phase.Phase.TheVariants as phases
-use Rattle.laws_states.specs.Counters.{CountersFit, most_size, drawn_for_flat, instructions_of, taken_of}
-use Rattle.laws_states.specs.RunFacts.{HaveWidth, AreThreads}
-use Rattle.laws_states.proofs.CountedEvents.{Counted, drawn_by}
-use Rattle.laws_states.proofs.LeftSmall.{AddsFew, SumFits}
+use Rattle.machine_types.specs.{Accesses.accessed, Bounds.{IsBounded, StepsFit, flat_held}, Core.Core, Frames.Top, Threads.Thread, declared.access.Access.{Access, TheVariants.Add}}
+use Rattle.machine_types.specs.declared.{config.Config.Config, phase.Phase.Phase}
 use Rattle.laws_threads.proofs.ThreadMove.{begun_by}
+use Rattle.laws_states.{specs.{Counters.{CountersFit, most_size, drawn_for_flat, instructions_of, taken_of}, RunFacts.{HaveWidth, AreThreads}}, proofs.CountedEvents.{Counted, drawn_by}}
+use Rattle.laws_states.proofs.LeftSmall.{AddsFew, SumFits}
+use Rattle.jvm_types.specs.declared.outcome.End.TheVariants as ends
+use Rattle.machine_types.specs.declared.phase.Phase.TheVariants as phases
 
 -- ---- sums over threads
 

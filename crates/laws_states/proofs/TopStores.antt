@@ -1,36 +1,16 @@
 -- What an instruction stores, and how large an object is that it makes.
 use Rattle.std.proofs.Common.{◌≡◌, ℕ, ◌<◌, ◌≤◌, ◌^◌, inl, inr, true, false, List, [], ◌∷◌, Option, Some, ap, sym, subst, ◌∙◌, arith}
 use Rattle.lists.proofs.ListLaws.{same_some}
-use Rattle.jvm_types.specs.CodeTable.{row}
-use Rattle.jvm_types.specs.ProgramInvariant.{IsProgram}
-use Rattle.jvm_types.specs.declared.code.Op.{Op}
-use Rattle.jvm_types.specs.declared.code.Op.TheVariants as ops
-use Rattle.jvm_types.specs.declared.program.FieldInfo.{FieldInfo}
-use Rattle.jvm_types.specs.declared.program.Kind.{Kind}
-use Rattle.jvm_types.specs.declared.program.Kind.TheVariants as kinds
-use Rattle.jvm_types.specs.declared.program.MethodInfo.{MethodInfo}
-use Rattle.jvm_types.specs.declared.program.Program.{Program}
-use Rattle.jvm_types.specs.declared.program.Target.{Target}
-use Rattle.jvm_types.specs.declared.typing.VType.{VType}
-use Rattle.jvm_types.specs.declared.typing.VType.TheVariants.{Ref, New}
-use Rattle.checked_program.specs.MarkedProgram.{MarkedProgram, IsMarked}
-use Rattle.checked_program.specs.TaggedCode.{row_of}
-use Rattle.checked_program.proofs.FewFields.{few_fields}
-use Rattle.machine_types.specs.declared.effect.Effect.{Effect}
+use Rattle.jvm_types.specs.{CodeTable.row, ProgramInvariant.IsProgram, declared.{code.Op.Op, program.{FieldInfo.FieldInfo, Kind.Kind, MethodInfo.MethodInfo, Program.Program, Target.Target}}}
+use Rattle.jvm_types.specs.declared.typing.VType.{VType, TheVariants.{Ref, New}}
+use Rattle.checked_program.{specs.{MarkedProgram.{MarkedProgram, IsMarked}, TaggedCode.row_of}, proofs.FewFields.few_fields}
+use Rattle.machine_types.specs.{FoundWords.{Content, IntPlace, ReferencePlace, kind_content, field_content, variable_content}, Frames.{Top, top_of, effect_at}, Lawful.within, ReadyObjects.out_object}
+use Rattle.machine_types.specs.{Structure.{TopIs, is_element_op}, Threads.Frame, Typed.{Classes, KindHolds, FramesHold, IsElementOn, ElementStands}, declared.effect.Effect.Effect}
 use Rattle.machine_types.specs.declared.effect.Effect.TheVariants.{Writes, Makes}
-use Rattle.machine_types.specs.FoundWords.{Content, IntPlace, ReferencePlace, kind_content, field_content, variable_content}
-use Rattle.machine_types.specs.Frames.{Top, top_of, effect_at}
-use Rattle.machine_types.specs.Lawful.{within}
-use Rattle.machine_types.specs.ReadyObjects.{out_object}
-use Rattle.machine_types.specs.Structure.{TopIs, is_element_op}
-use Rattle.machine_types.specs.Threads.{Frame}
-use Rattle.machine_types.specs.Typed.{Classes, KindHolds, FramesHold, IsElementOn, ElementStands}
-use Rattle.laws_threads.specs.Allowed.{IsNamedField, TakenHold, MadeAs, Allowed}
-use Rattle.laws_threads.proofs.Landing.{stand_top}
-use Rattle.laws_threads.proofs.Onwards.{same_op}
-use Rattle.laws_threads.proofs.Standings.{top_here}
-use Rattle.laws_threads.proofs.TopEffects.{taken_here, allowed_here}
+use Rattle.laws_threads.{specs.Allowed.{IsNamedField, TakenHold, MadeAs, Allowed}, proofs.{Landing.stand_top, Onwards.same_op, Standings.top_here, TopEffects.{taken_here, allowed_here}}}
 use Rattle.laws_states.specs.Counters.{most_size}
+use Rattle.jvm_types.specs.declared.code.Op.TheVariants as ops
+use Rattle.jvm_types.specs.declared.program.Kind.TheVariants as kinds
 
 -- a place of a field or element
 abbrev pub IsPlace : Content → Type 0

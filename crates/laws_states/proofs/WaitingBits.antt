@@ -1,10 +1,6 @@
 -- The bits of a word of waiting bits: what setting one, clearing one and looking for the lowest do.
-use Rattle.std.proofs.Common.{◌≡◌, ◌≢◌, ◌⊎◌, inl, inr, ℕ, zero, suc, ◌*◌, ◌^◌, ◌<◌, Bool, true, false, not, cond, List, [], ◌∷◌, Some, refl, sym, ap, ◌∙◌, arith}
-use Rattle.std.specs.Prelude.{◌==◌, bit_and, bit_or, find, unwrap_or}
-use Rattle.std.specs.Int.{bit_at}
-use Rattle.std.specs.List.{AllByRecursion, range_with_len}
-use Rattle.std.proofs.lemmas.Bool.Decides.{nat_tests}
-use Rattle.std.proofs.lemmas.Nat.{pow_pos}
+use Rattle.std.proofs.Common.{◌≡◌, ◌≢◌, ◌⊎◌, inl, inr, ℕ, zero, suc, ◌*◌, ◌^◌, ◌<◌, Bool, true, false, not, cond, List, [], ◌∷◌, Some, refl, sym, ap, ◌∙◌, arith, ◌==◌, bit_and, bit_or, find}
+use Rattle.std.{specs.{Int.bit_at, List.{AllByRecursion, range_with_len}, Prelude.unwrap_or}, proofs.lemmas.{Bool.Decides.nat_tests, Nat.pow_pos}}
 use Rattle.std.proofs.lemmas.Nat.Bits.{and_pow, bit_at_and, bit_at_or, bit_at-lt, bit_at-zero, bit_at-pow_same, bit_at-pow_other, same_from_bits_below}
 use Rattle.jvm_types.specs.Numbers.{has_flag}
 use Rattle.machine_types.specs.Monitors.{bit_of, lowest_of}

@@ -1,24 +1,13 @@
 -- One event of a thread changes the waiting bits of one record: what it has to show of them, and of the thread.
-use Rattle.std.proofs.Common.{◌≡◌, ◌≢◌, ◌⊎◌, inl, inr, ℕ, zero, suc, ◌+◌, ◌<◌, Bool, true, false, cond, List, [], ◌∷◌, Option, Some, None, refl, sym, ap, ◌∙◌, subst, arith}
-use Rattle.std.specs.Prelude.{◌==◌, IsSome, slice_get, slice_set}
-use Rattle.std.proofs.lemmas.Bool.Decides.{Decides-eqb}
-use Rattle.std.proofs.lemmas.Bool.{eqb-false}
-use Rattle.checked_program.specs.MarkedProgram.{MarkedProgram}
-use Rattle.machine_types.specs.Core.{Core}
-use Rattle.machine_types.specs.HeldMonitors.{held_at}
-use Rattle.machine_types.specs.Owners.{Locks, HeldFat, hold_by_kept, hold_by_list, Owns, AreLocks, locks_in, Owners}
-use Rattle.machine_types.specs.Structure.{IsFat, PhaseShows, Structure}
-use Rattle.machine_types.specs.Threads.{Thread}
-use Rattle.machine_types.specs.Waiting.{is_bit_set, MustWait, Waits, Waiting}
+use Rattle.std.proofs.Common.{◌≡◌, ◌≢◌, ◌⊎◌, inl, inr, ℕ, zero, suc, ◌+◌, ◌<◌, Bool, true, false, cond, List, [], ◌∷◌, Option, Some, None, refl, sym, ap, ◌∙◌, subst, arith, ◌==◌, IsSome, slice_get, slice_set}
+use Rattle.std.proofs.lemmas.Bool.{eqb-false, Decides.Decides-eqb}
 use Rattle.jvm_types.specs.declared.fixed_words.TheConstants.{MONITOR_RECORDS}
-use Rattle.machine_types.specs.declared.lock.Held.{Held}
-use Rattle.machine_types.specs.declared.phase.Phase.{Phase}
+use Rattle.checked_program.specs.MarkedProgram.{MarkedProgram}
+use Rattle.machine_types.specs.{Core.Core, HeldMonitors.held_at, Owners.{Locks, HeldFat, hold_by_kept, hold_by_list, Owns, AreLocks, locks_in, Owners}, Structure.{IsFat, PhaseShows, Structure}}
+use Rattle.machine_types.specs.{Threads.Thread, Waiting.{is_bit_set, MustWait, Waits, Waiting}, declared.{lock.Held.Held, phase.Phase.Phase}}
+use Rattle.laws_threads.{specs.{StateLaws.{counted_of, counted_phase_at}, StructureLaws.counted_by}, proofs.StateSteps.{set_there, set_other}}
+use Rattle.laws_states.proofs.{Lists.same_or_not, LockViews.fatly}
 use Rattle.machine_types.specs.declared.phase.Phase.TheVariants as phases
-use Rattle.laws_threads.specs.StructureLaws.{counted_by}
-use Rattle.laws_threads.specs.StateLaws.{counted_of, counted_phase_at}
-use Rattle.laws_states.proofs.Lists.{same_or_not}
-use Rattle.laws_states.proofs.LockViews.{fatly}
-use Rattle.laws_threads.proofs.StateSteps.{set_there, set_other}
 
 -- ---- who owns a record
 

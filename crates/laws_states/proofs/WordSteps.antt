@@ -1,26 +1,12 @@
 -- What an access leaves of all words: places keep their types, unused words and those of new objects stay as they are.
-use Rattle.std.proofs.Common.{◌≡◌, ◌≢◌, ◌⊎◌, inl, inr, ℕ, ◌<◌, ◌≤◌, List, length, Option, Some, None, refl, ap, sym, subst, ◌∙◌, arith}
-use Rattle.std.specs.Prelude.{slice_index, slice_set}
-use Rattle.std.proofs.lemmas.List.{length-set}
-use Rattle.jvm_types.specs.ProgramInvariant.{IsProgram}
-use Rattle.jvm_types.specs.declared.program.Program.{Program}
+use Rattle.std.proofs.{Common.{◌≡◌, ◌≢◌, ◌⊎◌, inl, inr, ℕ, ◌<◌, ◌≤◌, List, length, Option, Some, None, refl, ap, sym, subst, ◌∙◌, arith, slice_index, slice_set}, lemmas.List.length-set}
+use Rattle.jvm_types.specs.{ProgramInvariant.IsProgram, declared.{fixed_words.TheConstants.NEXT_FREE_WORD, program.Program.Program}}
 use Rattle.checked_program.specs.MarkedProgram.{MarkedProgram, IsMarked}
-use Rattle.machine_types.specs.Accesses.{accessed, left_by, words_after}
-use Rattle.machine_types.specs.Core.{Core}
-use Rattle.machine_types.specs.FoundWords.{Content}
-use Rattle.machine_types.specs.ObjectsApart.{LieApart}
-use Rattle.machine_types.specs.PlainMemory.{Object, StaticValue}
-use Rattle.machine_types.specs.StartLaws.{StartLiesApart}
-use Rattle.machine_types.specs.Typed.{PlacesHold}
-use Rattle.jvm_types.specs.declared.fixed_words.TheConstants.{NEXT_FREE_WORD}
-use Rattle.machine_types.specs.declared.access.Access.{Access}
-use Rattle.machine_types.specs.declared.access.Access.TheVariants.{Load, Store, Cas, Add, Or, And, Rest}
-use Rattle.laws_states.specs.HeapFacts.{HeapFacts}
-use Rattle.laws_states.specs.Sites.{Site, Counter, OwnerOf, BitsOf, LockOf, HeaderOf, ValueOf, NewHeaderOf, StaticAt, site_word, IsThere}
-use Rattle.laws_states.proofs.Lists.{same_or_not, set_here, set_there}
+use Rattle.machine_types.specs.{Accesses.{accessed, left_by, words_after}, Core.Core, FoundWords.Content, ObjectsApart.LieApart, PlainMemory.{Object, StaticValue}, StartLaws.StartLiesApart}
+use Rattle.machine_types.specs.{Typed.PlacesHold, declared.access.Access.{Access, TheVariants.{Load, Store, Cas, Add, Or, And, Rest}}}
+use Rattle.laws_states.specs.{HeapFacts.HeapFacts, Sites.{Site, Counter, OwnerOf, BitsOf, LockOf, HeaderOf, ValueOf, NewHeaderOf, StaticAt, site_word, IsThere}}
+use Rattle.laws_states.proofs.{Accesses.{IsOldSite, FitsAt, FitsAccess, FitsIf}, Lists.{same_or_not, set_here, set_there}, Places.{SiteHolds, site_typed, places_typed}}
 use Rattle.laws_states.proofs.Sites.{New, block, InNew, Inside, in_block, same_block, block_low, sites_apart}
-use Rattle.laws_states.proofs.Places.{SiteHolds, site_typed, places_typed}
-use Rattle.laws_states.proofs.Accesses.{IsOldSite, FitsAt, FitsAccess, FitsIf}
 
 -- ---- the next free word does not fall
 

@@ -1,25 +1,13 @@
 -- What a write of one word makes of what the words say of locks.
-use Rattle.std.proofs.Common.{◌≡◌, ◌≢◌, ℕ, zero, suc, ◌+◌, ◌*◌, ◌<◌, nat_lt, Bool, true, false, cond, List, [], ◌∷◌, Some, refl, sym, ap, ◌∙◌, subst, arith}
-use Rattle.std.specs.Prelude.{slice_get, slice_index, slice_set, ◌==◌, ◌||◌}
-use Rattle.std.proofs.lemmas.Bool.Decides.{nat_tests, Decides-eqb}
-use Rattle.std.proofs.lemmas.Bool.{eqb-false}
-use Rattle.jvm_types.specs.Numbers.{has_number}
+use Rattle.std.proofs.Common.{◌≡◌, ◌≢◌, ℕ, zero, suc, ◌+◌, ◌*◌, ◌<◌, nat_lt, Bool, true, false, cond, List, [], ◌∷◌, Some, refl, sym, ap, ◌∙◌, subst, arith, slice_get, slice_index, slice_set, ◌==◌, ◌||◌}
+use Rattle.std.proofs.lemmas.Bool.{eqb-false, Decides.{nat_tests, Decides-eqb}}
+use Rattle.jvm_types.specs.{Numbers.has_number, declared.fixed_words.TheConstants.{NEXT_RECORD_WORD, MONITOR_RECORDS}}
 use Rattle.checked_program.specs.MarkedProgram.{MarkedProgram, IsMarked}
-use Rattle.machine_types.specs.Core.{Core}
-use Rattle.machine_types.specs.LockWords.{word_of_lock, lock_of}
-use Rattle.machine_types.specs.Owners.{lock_at, owner_at, locks_in, references_of}
-use Rattle.machine_types.specs.PlainMemory.{Object}
-use Rattle.machine_types.specs.Words.{owner_word}
-use Rattle.jvm_types.specs.declared.fixed_words.TheConstants.{NEXT_RECORD_WORD, MONITOR_RECORDS}
-use Rattle.machine_types.specs.declared.lock.LockWord.{LockWord}
+use Rattle.machine_types.specs.{Core.Core, LockWords.{word_of_lock, lock_of}, Owners.{lock_at, owner_at, locks_in, references_of}, PlainMemory.Object, Words.owner_word}
+use Rattle.machine_types.{specs.declared.lock.LockWord.LockWord, proofs.PlainStepLaws.is_same}
+use Rattle.laws_states.{specs.{HeapFacts.HeapFacts, SiteLaws.{SitesDiffer, SitesLieInside}, Sites.{Site, Counter, OwnerOf, LockOf, site_word, HasObject, IsThere}}, proofs.LeftStands.by_parts}
+use Rattle.laws_states.proofs.{Lists.{contained_got, contains_first, contains_more, set_here, set_there}, LockViews.{set_lock, set_owner, set_next}}
 use Rattle.machine_types.specs.declared.lock.LockWord.TheVariants as locks
-use Rattle.laws_states.specs.HeapFacts.{HeapFacts}
-use Rattle.laws_states.specs.SiteLaws.{SitesDiffer, SitesLieInside}
-use Rattle.laws_states.specs.Sites.{Site, Counter, OwnerOf, LockOf, site_word, HasObject, IsThere}
-use Rattle.laws_states.proofs.Lists.{contained_got, contains_first, contains_more, set_here, set_there}
-use Rattle.laws_states.proofs.LockViews.{set_lock, set_owner, set_next}
-use Rattle.laws_states.proofs.LeftStands.{by_parts}
-use Rattle.machine_types.proofs.PlainStepLaws.{is_same}
 
 -- ---- lock words
 

@@ -1,43 +1,23 @@
 -- Each event of a live thread takes away of what is left for it to do, phase by phase.
-use Rattle.std.proofs.Common.{◌≡◌, ℕ, suc, ◌+◌, ◌-◌, ◌*◌, ◌<◌, ◌≤◌, nat_lt, Bool, true, false, List, [], ◌∷◌, drop, length, Option, Some, None, refl, sym, ap, subst, ◌∙◌, arith}
-use Rattle.std.specs.Prelude.{IsSome, IfSome, slice_get, option_map, if◌then◌else◌}
+use Rattle.std.proofs.Common.{◌≡◌, ℕ, suc, ◌+◌, ◌-◌, ◌*◌, ◌<◌, ◌≤◌, nat_lt, Bool, true, false, List, [], ◌∷◌, drop, length, Option, Some, None, refl, sym, ap, subst, ◌∙◌, arith, IsSome, IfSome, slice_get, option_map, if◌then◌else◌}
 use Rattle.std.proofs.lemmas.List.{length-drop}
-use Rattle.jvm_types.specs.Members.{is_synchronized}
-use Rattle.jvm_types.specs.declared.outcome.End.TheVariants as ends
-use Rattle.jvm_types.specs.declared.outcome.Thrown.{Thrown}
-use Rattle.jvm_types.specs.declared.outcome.Thrown.TheVariants.{StackOverflowError}
-use Rattle.jvm_types.specs.declared.program.MethodInfo.{MethodInfo}
-use Rattle.jvm_types.specs.declared.program.Program.{Program}
-use Rattle.jvm_types.specs.declared.program.Row.{Row}
+use Rattle.jvm_types.specs.{Members.is_synchronized, declared.{outcome.Thrown.{Thrown, TheVariants.StackOverflowError}, program.{MethodInfo.MethodInfo, Program.Program, Row.Row}}}
 use Rattle.checked_program.specs.MarkedProgram.{MarkedProgram}
-use Rattle.machine_types.specs.Bounds.{StepsFit, TurnsFit}
-use Rattle.machine_types.specs.Elision.{fails, elided}
-use Rattle.machine_types.specs.Events.{thread_started, element_made, moved}
+use Rattle.machine_types.specs.{Bounds.{StepsFit, TurnsFit}, Elision.{fails, elided}, Events.{thread_started, element_made, moved}}
 use Rattle.machine_types.specs.Frames.{Top, top_of, frames_of, went_on, has_room, entry_frame, monitor_of, returned, handler_at, caught, pushed}
-use Rattle.machine_types.specs.Going.{with_phase, runs, failed_turn, root_over, goes_on, goes_on_if, goes_after}
-use Rattle.machine_types.specs.HeldMonitors.{held_at, with_held, without_held, deeper, shallower}
-use Rattle.machine_types.specs.Instructions.{begun, ran}
-use Rattle.machine_types.specs.Onward.{Running, Leaving, Uncaught, root_arguments, rooted, back, unwound, handed, Onward, dispatched}
-use Rattle.machine_types.specs.ReadyObjects.{class_of}
-use Rattle.machine_types.specs.Structure.{AttemptStandsIn}
-use Rattle.machine_types.specs.Threads.{Frame, Thread, Attempt}
-use Rattle.machine_types.specs.declared.lock.Held.{Held}
-use Rattle.machine_types.specs.declared.lock.Kept.{Kept}
-use Rattle.machine_types.specs.declared.lock.Kept.TheVariants as keeps
-use Rattle.machine_types.specs.declared.phase.After.{After}
-use Rattle.machine_types.specs.declared.phase.After.TheVariants as afters
-use Rattle.machine_types.specs.declared.phase.Phase.{Phase}
-use Rattle.machine_types.specs.declared.phase.Phase.TheVariants as phases
-use Rattle.machine_types.specs.declared.phase.Toward.{Toward}
-use Rattle.machine_types.specs.declared.phase.Toward.TheVariants as towards
-use Rattle.laws_threads.proofs.HeldLists.{held_monitor, held_there}
-use Rattle.laws_threads.proofs.ThreadMove.{Lacks, GoesBy, Checks, LeadsTo, TurnsTo, Move, begun_attempt, becomes, by_move, looks_in, takes_in}
-use Rattle.laws_threads.proofs.ThreadMove as moves
-use Rattle.laws_states.specs.RunSafety.{HasAfter, HasRoot, HasInstruction, HasEvent}
-use Rattle.laws_states.specs.WorkLeft.{leaving_work, leaving_held, chain, trying, inside, chains_left, work_in, work_left, EventsLessenWork}
-use Rattle.laws_states.proofs.InstructionsFollow.{Follows, returned_fewer, runs_follow}
-use Rattle.laws_states.proofs.NextEvents.{has_event}
+use Rattle.machine_types.specs.{Going.{with_phase, runs, failed_turn, root_over, goes_on, goes_on_if, goes_after}, HeldMonitors.{held_at, with_held, without_held, deeper, shallower}}
+use Rattle.machine_types.specs.{Instructions.{begun, ran}, Onward.{Running, Leaving, Uncaught, root_arguments, rooted, back, unwound, handed, Onward, dispatched}, ReadyObjects.class_of}
+use Rattle.machine_types.specs.{Structure.AttemptStandsIn, Threads.{Frame, Thread, Attempt}, declared.{lock.{Held.Held, Kept.Kept}, phase.{After.After, Phase.Phase, Toward.Toward}}}
 use Rattle.machine_types.proofs.PlainPartLaws.{frames_are}
+use Rattle.laws_threads.proofs.{HeldLists.{held_monitor, held_there}, ThreadMove.{Lacks, GoesBy, Checks, LeadsTo, TurnsTo, Move, begun_attempt, becomes, by_move, looks_in, takes_in}}
+use Rattle.laws_states.specs.{RunSafety.{HasAfter, HasRoot, HasInstruction, HasEvent}, WorkLeft.{leaving_work, leaving_held, chain, trying, inside, chains_left, work_in, work_left, EventsLessenWork}}
+use Rattle.laws_states.proofs.{InstructionsFollow.{Follows, returned_fewer, runs_follow}, NextEvents.has_event}
+use Rattle.jvm_types.specs.declared.outcome.End.TheVariants as ends
+use Rattle.machine_types.specs.declared.lock.Kept.TheVariants as keeps
+use Rattle.machine_types.specs.declared.phase.After.TheVariants as afters
+use Rattle.machine_types.specs.declared.phase.Phase.TheVariants as phases
+use Rattle.machine_types.specs.declared.phase.Toward.TheVariants as towards
+use Rattle.laws_threads.proofs.ThreadMove as moves
 
 -- ---- sums
 

@@ -1,42 +1,22 @@
 -- The effect of each instruction is one that its row allows, where its operands are what the row takes.
-use Rattle.std.proofs.Common.{◌≡◌, ℕ, zero, suc, ◌+◌, ◌-◌, ◌%◌, ◌<◌, ◌^◌, ◌⊎◌, inl, inr, Bool, true, false, not, List, [], ◌∷◌, length, Option, Some, None, refl, ap, sym, subst, ◌∙◌, arith}
-use Rattle.std.specs.Prelude.{nat_lt, ◌==◌, int_lt, pos, unsigned_abs, ◌-ℤ◌, slice_get, slice_index, map, ◌++◌, if◌then◌else◌, IsSomeAnd}
-use Rattle.std.specs.Option.{unwrap_or}
-use Rattle.std.proofs.lemmas.Bool.Decides.{nat_tests}
+use Rattle.std.proofs.Common.{◌≡◌, ℕ, zero, suc, ◌+◌, ◌-◌, ◌%◌, ◌<◌, ◌^◌, ◌⊎◌, inl, inr, Bool, true, false, not, List, [], ◌∷◌, length, Option, Some, None, refl, ap, sym, subst, ◌∙◌, arith, nat_lt, ◌==◌, int_lt, pos, unsigned_abs, ◌-ℤ◌, slice_get, slice_index, map, ◌++◌, if◌then◌else◌, IsSomeAnd}
+use Rattle.std.{specs.Option.unwrap_or, proofs.lemmas.Bool.Decides.nat_tests}
 use Rattle.jvm_types.specs.CodeTable.{row, can_throw, type_of, want_of, arguments, constant_row, get_static_row, put_static_row, get_row, put_row, virtual_row, special_row, static_row}
-use Rattle.jvm_types.specs.Members.{is_static, MethodSite, field_rule, call_rule}
-use Rattle.jvm_types.specs.ProgramInvariant.{IsClassOf, IsTargetOf, site_in}
-use Rattle.jvm_types.specs.Verifying.{new_class}
-use Rattle.jvm_types.specs.declared.call.Call.TheVariants.{Virtual, Special, Static as FixedCall}
-use Rattle.jvm_types.specs.declared.class_numbers.TheConstants.{OBJECT_CLASS, INT_ARRAY_CLASS, PRINT_STREAM_CLASS, THROWABLE_CLASS}
-use Rattle.jvm_types.specs.declared.code.Case.{Case}
-use Rattle.jvm_types.specs.declared.code.Insn.{Insn}
-use Rattle.jvm_types.specs.declared.code.Op.{Op}
-use Rattle.jvm_types.specs.declared.code.Op.TheVariants as ops
-use Rattle.jvm_types.specs.declared.op_row.OpRow.{OpRow}
-use Rattle.jvm_types.specs.declared.op_row.Want.{Want}
-use Rattle.jvm_types.specs.declared.op_row.Want.TheVariants.{AnObject}
-use Rattle.jvm_types.specs.declared.outcome.Thrown.TheVariants as thrown
-use Rattle.jvm_types.specs.declared.program.Kind.{Kind}
-use Rattle.jvm_types.specs.declared.program.Kind.TheVariants as kinds
-use Rattle.jvm_types.specs.declared.program.FieldInfo.{FieldInfo}
-use Rattle.jvm_types.specs.declared.program.Target.{Target}
-use Rattle.jvm_types.specs.declared.program.Target.TheVariants as targets
-use Rattle.jvm_types.specs.declared.program.MethodInfo.{MethodInfo}
-use Rattle.jvm_types.specs.declared.program.Program.{Program}
-use Rattle.jvm_types.specs.declared.refusal.LRule.{LRule}
-use Rattle.jvm_types.specs.declared.refusal.LRule.TheVariants.{L2}
-use Rattle.jvm_types.specs.declared.typing.VType.TheVariants as types
-use Rattle.jvm_types.proofs.TypeOrder.{subclass_self}
-use Rattle.machine_types.specs.declared.effect.Effect.{Effect}
-use Rattle.machine_types.specs.declared.effect.Effect.TheVariants.{Goes, Throws, Reads, Writes, Indexes, Measures, Raises, Makes, Prints, Calls, Enters, Waits, Notifies, NotifiesAll, Stuck}
-use Rattle.machine_types.specs.Effects.{variable_of, kept, gets_static, puts_static, gets, puts, calls_on, calls_instance, calls_static, at_local, unless_null, unless_zero, case_target, named, effect}
-use Rattle.machine_types.specs.Ints.{low, word_of, int_of, narrowed, added, divided, remaining}
-use Rattle.machine_types.specs.ReadyObjects.{out_object}
-use Rattle.machine_types.specs.Typed.{Classes, IsNullOr, KindHolds, Holds, IsElementOn}
-use Rattle.machine_types.specs.Words.{header, array_size, value_word}
-use Rattle.laws_threads.specs.Allowed.{IsOf, IsNamedField, WantHolds, TakenHold, HasLocal, OneOf, Allowed}
+use Rattle.jvm_types.specs.{Members.{is_static, MethodSite, field_rule, call_rule}, ProgramInvariant.{IsClassOf, IsTargetOf, site_in}, Verifying.new_class}
+use Rattle.jvm_types.specs.declared.{call.Call.TheVariants.{Virtual, Special, Static as FixedCall}, class_numbers.TheConstants.{OBJECT_CLASS, INT_ARRAY_CLASS, PRINT_STREAM_CLASS, THROWABLE_CLASS}}
+use Rattle.jvm_types.specs.declared.{code.{Case.Case, Insn.Insn, Op.Op}, op_row.{OpRow.OpRow, Want.{Want, TheVariants.AnObject}}, program.{FieldInfo.FieldInfo, Kind.Kind, MethodInfo.MethodInfo}}
+use Rattle.jvm_types.{specs.declared.{program.{Program.Program, Target.Target}, refusal.LRule.{LRule, TheVariants.L2}}, proofs.TypeOrder.subclass_self}
 use Rattle.laws_sections.proofs.HiddenThis.{long_arguments}
+use Rattle.machine_types.specs.Effects.{variable_of, kept, gets_static, puts_static, gets, puts, calls_on, calls_instance, calls_static, at_local, unless_null, unless_zero, case_target, named, effect}
+use Rattle.machine_types.specs.{Ints.{low, word_of, int_of, narrowed, added, divided, remaining}, ReadyObjects.out_object, Typed.{Classes, IsNullOr, KindHolds, Holds, IsElementOn}}
+use Rattle.machine_types.specs.{Words.{header, array_size, value_word}, declared.effect.Effect.Effect}
+use Rattle.machine_types.specs.declared.effect.Effect.TheVariants.{Goes, Throws, Reads, Writes, Indexes, Measures, Raises, Makes, Prints, Calls, Enters, Waits, Notifies, NotifiesAll, Stuck}
+use Rattle.laws_threads.specs.Allowed.{IsOf, IsNamedField, WantHolds, TakenHold, HasLocal, OneOf, Allowed}
+use Rattle.jvm_types.specs.declared.code.Op.TheVariants as ops
+use Rattle.jvm_types.specs.declared.outcome.Thrown.TheVariants as thrown
+use Rattle.jvm_types.specs.declared.program.Kind.TheVariants as kinds
+use Rattle.jvm_types.specs.declared.program.Target.TheVariants as targets
+use Rattle.jvm_types.specs.declared.typing.VType.TheVariants as types
 
 low_lt : (n : ℕ) → low n < 2 ^ 32
 low_lt n = omega arith

@@ -1,14 +1,7 @@
 -- The frame at the base of an attempt is that of the section's method.
-use Rattle.std.proofs.Common.{◌≡◌, ℕ, zero, suc, ◌+◌, ◌-◌, ◌<◌, List, [], ◌∷◌, length, take, drop, Option, Some, None, refl, sym, ap, ◌∙◌, subst, inl, inr, arith}
-use Rattle.std.specs.Prelude.{◌⊎◌}
-use Rattle.std.specs.List.{AllZip}
-use Rattle.checked_program.specs.MarkedProgram.{MarkedProgram}
-use Rattle.checked_program.specs.SectionLaws.{Part, AreParts}
-use Rattle.checked_program.specs.declared.section.Mode.{Mode}
-use Rattle.machine_types.specs.Standing.{tags_of}
-use Rattle.machine_types.specs.Structure.{AttemptStandsIn, Finishes, RunsSection, IsPart, frames_inside, section_of}
-use Rattle.machine_types.specs.Threads.{Frame, Attempt}
-use Rattle.machine_types.specs.declared.phase.Phase.{Phase}
+use Rattle.std.{proofs.Common.{◌≡◌, ℕ, zero, suc, ◌+◌, ◌-◌, ◌<◌, List, [], ◌∷◌, length, take, drop, Option, Some, None, refl, sym, ap, ◌∙◌, subst, inl, inr, arith, ◌⊎◌}, specs.List.AllZip}
+use Rattle.checked_program.specs.{MarkedProgram.MarkedProgram, SectionLaws.{Part, AreParts}, declared.section.Mode.Mode}
+use Rattle.machine_types.specs.{Standing.tags_of, Structure.{AttemptStandsIn, Finishes, RunsSection, IsPart, frames_inside, section_of}, Threads.{Frame, Attempt}, declared.phase.Phase.Phase}
 use Rattle.laws_threads.specs.AttemptLaws.{IsOnBase, AttemptsAreBased}
 
 -- behind so many frames

@@ -1,38 +1,17 @@
 -- An attempt stands as its top frame goes along an edge, calls, returns to the frame below, or ends by an exception.
-use Rattle.std.proofs.Common.{◌≡◌, ◌≢◌, inr, ⊎_elim, ℕ, ◌-◌, ◌<◌, ◌≤◌, Bool, true, false, List, [], ◌∷◌, ◌++◌, length, take, Some, None, refl, sym, ap, ◌∙◌, subst, arith}
-use Rattle.std.specs.Prelude.{◌==◌, ◌||◌, slice_get, if◌then◌else◌}
-use Rattle.std.proofs.lemmas.Bool.{cases_eq}
-use Rattle.std.proofs.lemmas.Bool.Decides.{nat_tests}
+use Rattle.std.proofs.Common.{◌≡◌, ◌≢◌, inr, ⊎_elim, ℕ, ◌-◌, ◌<◌, ◌≤◌, Bool, true, false, List, [], ◌∷◌, ◌++◌, length, take, Some, None, refl, sym, ap, ◌∙◌, subst, arith, ◌==◌, ◌||◌, slice_get, if◌then◌else◌}
+use Rattle.std.proofs.lemmas.Bool.{cases_eq, Decides.nat_tests}
 use Rattle.lists.proofs.ListLaws.{same_some}
-use Rattle.jvm_types.specs.CodeTable.{branches_to, falls_through}
-use Rattle.jvm_types.specs.Numbers.{has_number}
-use Rattle.jvm_types.specs.Verifying.{edges}
-use Rattle.jvm_types.specs.declared.code.Insn.{Insn}
-use Rattle.jvm_types.specs.declared.code.Op.{Op}
-use Rattle.jvm_types.specs.declared.code.Op.TheVariants as ops
-use Rattle.jvm_types.specs.declared.outcome.Thrown.{Thrown}
-use Rattle.jvm_types.specs.declared.program.MethodInfo.{MethodInfo}
+use Rattle.jvm_types.specs.{CodeTable.{branches_to, falls_through}, Numbers.has_number, Verifying.edges, declared.{code.{Insn.Insn, Op.Op}, outcome.Thrown.Thrown, program.MethodInfo.MethodInfo}}
 use Rattle.jvm_types.specs.declared.program.Target.{Target}
-use Rattle.checked_program.specs.LockTags.{TagShape}
-use Rattle.checked_program.specs.MarkedProgram.{MarkedProgram, IsMarked}
-use Rattle.checked_program.specs.Marks.{called_method}
-use Rattle.checked_program.specs.Tagging.{tags_after}
-use Rattle.checked_program.specs.TaggedCode.{Goes, onward, row_of}
-use Rattle.machine_types.specs.Elision.{put_back}
-use Rattle.machine_types.specs.Frames.{top_of, given}
-use Rattle.machine_types.specs.Onward.{back, unwound}
-use Rattle.machine_types.specs.Standing.{Standing}
-use Rattle.machine_types.specs.Structure.{IsPhaseInside, Stands, AttemptStands, RunsSection, frames_inside}
-use Rattle.machine_types.specs.Threads.{Frame, Attempt}
-use Rattle.machine_types.specs.declared.lock.Held.{Held}
-use Rattle.machine_types.specs.declared.phase.Phase.{Phase}
-use Rattle.machine_types.specs.declared.phase.Phase.TheVariants as phases
-use Rattle.laws_threads.specs.InsideMoves.{GoesOnInside, OnwardStands}
-use Rattle.laws_threads.proofs.FramesInside.{one_more, put_back_over}
-use Rattle.laws_threads.proofs.Inside.{base_below}
-use Rattle.laws_threads.proofs.SectionFrames.{Runs, Caller, IsExitOf, section_of_runs, moved, caller}
-use Rattle.laws_threads.proofs.Standings.{top_is}
+use Rattle.checked_program.specs.{LockTags.TagShape, MarkedProgram.{MarkedProgram, IsMarked}, Marks.called_method, TaggedCode.{Goes, onward, row_of}, Tagging.tags_after}
 use Rattle.laws_sections.proofs.SectionCalls.{no_exit}
+use Rattle.machine_types.specs.{Elision.put_back, Frames.{top_of, given}, Onward.{back, unwound}, Standing.Standing, Structure.{IsPhaseInside, Stands, AttemptStands, RunsSection, frames_inside}}
+use Rattle.machine_types.specs.{Threads.{Frame, Attempt}, declared.{lock.Held.Held, phase.Phase.Phase}}
+use Rattle.laws_threads.{specs.InsideMoves.{GoesOnInside, OnwardStands}, proofs.{FramesInside.{one_more, put_back_over}, Inside.base_below}}
+use Rattle.laws_threads.proofs.{SectionFrames.{Runs, Caller, IsExitOf, section_of_runs, moved, caller}, Standings.top_is}
+use Rattle.jvm_types.specs.declared.code.Op.TheVariants as ops
+use Rattle.machine_types.specs.declared.phase.Phase.TheVariants as phases
 
 -- ---- edges
 

@@ -1,33 +1,16 @@
 -- The frame of an attempt's entry, when it is the top one: where it can return or end, and how often the monitor is still
 -- entered.
-use Rattle.std.proofs.Common.{◌≡◌, ◌≢◌, ◌⊎◌, inl, inr, ⊎_elim, ℕ, zero, suc, ◌+◌, ◌<◌, true, List, [], ◌∷◌, length, Some, refl, sym, ap, ◌∙◌, subst, arith}
-use Rattle.std.specs.Prelude.{slice_get}
-use Rattle.std.specs.List.{AllZip}
+use Rattle.std.{proofs.Common.{◌≡◌, ◌≢◌, ◌⊎◌, inl, inr, ⊎_elim, ℕ, zero, suc, ◌+◌, ◌<◌, true, List, [], ◌∷◌, length, Some, refl, sym, ap, ◌∙◌, subst, arith, slice_get}, specs.List.AllZip}
 use Rattle.lists.proofs.ListLaws.{same_some}
-use Rattle.jvm_types.specs.Members.{is_synchronized}
-use Rattle.jvm_types.specs.declared.code.Insn.{Insn}
-use Rattle.jvm_types.specs.declared.program.MethodInfo.{MethodInfo}
-use Rattle.jvm_types.specs.declared.program.Target.{Target}
-use Rattle.checked_program.specs.LockTags.{TagShape}
-use Rattle.checked_program.specs.MarkedProgram.{MarkedProgram, IsMarked}
-use Rattle.checked_program.specs.SectionLaws.{Part, IsSectionPart, AreParts, HasEntryDepth, IsExit}
-use Rattle.checked_program.specs.Sections.{BeginsAt, IsOwn, IsInBlock}
-use Rattle.checked_program.specs.TaggedCode.{IsAt}
-use Rattle.checked_program.specs.declared.section.Spot.TheVariants.{Block}
+use Rattle.jvm_types.specs.{Members.is_synchronized, declared.{code.Insn.Insn, program.{MethodInfo.MethodInfo, Target.Target}}}
+use Rattle.checked_program.specs.{LockTags.TagShape, MarkedProgram.{MarkedProgram, IsMarked}, SectionLaws.{Part, IsSectionPart, AreParts, HasEntryDepth, IsExit}, Sections.{BeginsAt, IsOwn, IsInBlock}}
+use Rattle.checked_program.specs.{TaggedCode.IsAt, declared.section.Spot.TheVariants.Block}
 use Rattle.laws_sections.proofs.SectionMoves.{own_deep}
-use Rattle.machine_types.specs.Frames.{monitor_by, monitor_of}
-use Rattle.machine_types.specs.Sections.{entered_at}
-use Rattle.machine_types.specs.Shown.{Shows, Show}
-use Rattle.machine_types.specs.Standing.{Standing, Operands, Whole, tags_of}
-use Rattle.machine_types.specs.Structure.{IsPart, IsBehindEntry, AttemptStands, section_of, count_in, once_at, held_depth, tried_depth}
-use Rattle.machine_types.specs.Threads.{Frame, Attempt}
-use Rattle.machine_types.specs.declared.lock.Held.{Held}
+use Rattle.machine_types.specs.{Frames.{monitor_by, monitor_of}, Sections.entered_at, Shown.{Shows, Show}, Standing.{Standing, Operands, Whole, tags_of}}
+use Rattle.machine_types.specs.{Structure.{IsPart, IsBehindEntry, AttemptStands, section_of, count_in, once_at, held_depth, tried_depth}, Threads.{Frame, Attempt}, declared.lock.Held.Held}
 use Rattle.machine_types.specs.declared.phase.Phase.{Phase}
-use Rattle.laws_threads.proofs.SectionEntries.{Entered, entered_before, just_before, next_later, none_held, Took, took}
-use Rattle.laws_threads.proofs.FramesInside.{put_back_alone}
-use Rattle.laws_threads.proofs.SectionFrames.{part_of, Runs}
-use Rattle.laws_threads.proofs.ShownLengths.{own_count, shown_length, none_inner}
-use Rattle.laws_threads.proofs.Standings.{laid, one_method, one_tags}
+use Rattle.laws_threads.proofs.{FramesInside.put_back_alone, SectionEntries.{Entered, entered_before, just_before, next_later, none_held, Took, took}, SectionFrames.{part_of, Runs}}
+use Rattle.laws_threads.proofs.{ShownLengths.{own_count, shown_length, none_inner}, Standings.{laid, one_method, one_tags}}
 
 -- the only frame inside is the section's own
 pub own_part : (c : MarkedProgram) (a : Attempt) (f : Frame) (r : Runs c a f []) → IsSectionPart c.program (tags_of c) (section_of a) a.entry.receiver (part_of f r.stands.number) r.mode

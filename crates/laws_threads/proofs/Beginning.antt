@@ -1,39 +1,18 @@
 -- An attempt stands as it begins: its frame is at the first own instruction of a marked section, on its receiver.
-use Rattle.std.proofs.Common.{◌≡◌, ◌≢◌, ◌⊎◌, inl, inr, ⊎_elim, ℕ, zero, suc, Bool, true, false, not, cond, ◌-◌, List, [], ◌∷◌, ◌++◌, length, map, take, Option, Some, None, refl, sym, ap, ◌∙◌, subst, arith}
-use Rattle.std.specs.Prelude.{slice_get, slice_index_or, if◌then◌else◌}
+use Rattle.std.proofs.Common.{◌≡◌, ◌≢◌, ◌⊎◌, inl, inr, ⊎_elim, ℕ, zero, suc, Bool, true, false, not, cond, ◌-◌, List, [], ◌∷◌, ◌++◌, length, map, take, Option, Some, None, refl, sym, ap, ◌∙◌, subst, arith, slice_get, slice_index_or, if◌then◌else◌}
 use Rattle.std.proofs.lemmas.Bool.{cases_eq}
 use Rattle.lists.proofs.ListLaws.{same_some}
-use Rattle.jvm_types.specs.ClassNames.{file_of_class}
-use Rattle.jvm_types.specs.Members.{is_static, is_synchronized}
-use Rattle.jvm_types.specs.declared.code.Insn.{Insn}
-use Rattle.jvm_types.specs.declared.program.MethodInfo.{MethodInfo}
+use Rattle.jvm_types.specs.{ClassNames.file_of_class, Members.{is_static, is_synchronized}, declared.{code.Insn.Insn, program.MethodInfo.MethodInfo}}
 use Rattle.laws_programs.proofs.CodeOrder.{have_targets}
-use Rattle.checked_program.specs.LockTags.{TagShape}
-use Rattle.checked_program.specs.MarkedProgram.{MarkedProgram, IsMarked}
-use Rattle.checked_program.specs.Marks.{HasMark, IsOnOwn, elsewhere}
-use Rattle.checked_program.specs.Sections.{section_mode, mode_of_method, mode_of_spot, BeginsAt, IsOwn, IsInBlock}
-use Rattle.checked_program.specs.SectionLaws.{IsSectionPart}
-use Rattle.checked_program.specs.TaggedCode.{IsAt, IsInstructionReached}
-use Rattle.checked_program.specs.declared.section.FieldUse.{FieldUse}
-use Rattle.checked_program.specs.declared.section.Mode.TheVariants.{OnThis, OnClass}
-use Rattle.checked_program.specs.declared.section.Spot.TheVariants.{Method, Block}
-use Rattle.checked_program.specs.declared.tag.Tag.{Tag}
-use Rattle.checked_program.specs.declared.tag.Tag.TheVariants.{Untagged, This, At}
+use Rattle.checked_program.specs.{LockTags.TagShape, MarkedProgram.{MarkedProgram, IsMarked}, Marks.{HasMark, IsOnOwn, elsewhere}, SectionLaws.IsSectionPart}
+use Rattle.checked_program.specs.{Sections.{section_mode, mode_of_method, mode_of_spot, BeginsAt, IsOwn, IsInBlock}, TaggedCode.{IsAt, IsInstructionReached}, declared.section.FieldUse.FieldUse}
+use Rattle.checked_program.specs.declared.{section.{Mode.TheVariants.{OnThis, OnClass}, Spot.TheVariants.{Method, Block}}, tag.Tag.{Tag, TheVariants.{Untagged, This, At}}}
 use Rattle.laws_sections.proofs.SectionCalls.{begin_law}
-use Rattle.machine_types.specs.Frames.{monitor_of}
-use Rattle.machine_types.specs.MarkLaws.{MarkedHasMark}
-use Rattle.machine_types.specs.Sections.{entered_at}
-use Rattle.machine_types.specs.Shown.{tag_value, own_entry, Shows}
-use Rattle.machine_types.specs.Standing.{Standing, Whole, tags_of}
-use Rattle.machine_types.specs.Structure.{IsBehindEntry, Stands, RunsSection, mode_monitor, section_monitor, section_of, frames_inside}
-use Rattle.machine_types.specs.Threads.{Frame, Attempt}
-use Rattle.machine_types.specs.Words.{class_object}
+use Rattle.machine_types.specs.{Frames.monitor_of, MarkLaws.MarkedHasMark, Sections.entered_at, Shown.{tag_value, own_entry, Shows}, Standing.{Standing, Whole, tags_of}}
+use Rattle.machine_types.specs.{Structure.{IsBehindEntry, Stands, RunsSection, mode_monitor, section_monitor, section_of, frames_inside}, Threads.{Frame, Attempt}, Words.class_object}
+use Rattle.laws_threads.{specs.InsideMoves.BeginsAttempt, proofs.{FramesInside.{put_back_alone, one_more}, SectionEntries.{Entered, entered_before, just_before, next_later, Took, took}}}
+use Rattle.laws_threads.proofs.{SectionFrames.part_of, Standings.{laid, one_tags}}
 use Rattle.machine_types.specs.declared.phase.Phase.TheVariants as phases
-use Rattle.laws_threads.specs.InsideMoves.{BeginsAttempt}
-use Rattle.laws_threads.proofs.SectionEntries.{Entered, entered_before, just_before, next_later, Took, took}
-use Rattle.laws_threads.proofs.FramesInside.{put_back_alone, one_more}
-use Rattle.laws_threads.proofs.SectionFrames.{part_of}
-use Rattle.laws_threads.proofs.Standings.{laid, one_tags}
 
 -- a tag is `this` or not
 is_this_or : (t : Tag) → (t ≡ This) ⊎ (t ≡ This → ⊥)

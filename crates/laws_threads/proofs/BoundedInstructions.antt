@@ -1,33 +1,14 @@
 -- An instruction keeps a thread within its bounds, and so does a check that fails.
-use Rattle.std.proofs.Common.{◌≡◌, ℕ, ◌+◌, ◌<◌, ◌≤◌, true, List, [], ◌∷◌, ◌++◌, length, Option, Some, None, refl, sym, subst, ap, ◌∙◌, arith, length-append}
-use Rattle.std.specs.Prelude.{option_map, slice_get, IfSome, IsSome}
-use Rattle.std.specs.List.{AllByRecursion}
-use Rattle.std.proofs.lemmas.Bool.Decides.{nat_tests}
-use Rattle.jvm_types.specs.declared.outcome.Print.{Print}
-use Rattle.jvm_types.specs.declared.outcome.Thrown.{Thrown}
-use Rattle.jvm_types.specs.declared.program.MethodInfo.{MethodInfo}
-use Rattle.jvm_types.specs.declared.program.Program.{Program}
-use Rattle.machine_types.specs.Bounds.{KeptFits, EntryFits, IsInner, IsBounded}
-use Rattle.machine_types.specs.Elision.{put_back, fails}
-use Rattle.machine_types.specs.Frames.{Top, frames_of}
-use Rattle.machine_types.specs.Going.{with_phase, goes_on}
-use Rattle.machine_types.specs.HeldMonitors.{held_at, depth_at}
-use Rattle.machine_types.specs.Instructions.{has_print_left, begun, printed}
-use Rattle.machine_types.specs.Ints.{int_of}
-use Rattle.machine_types.specs.Onward.{Onward, Running, Throwing, Entering, Leaving, RootReturned, Uncaught, called, done}
-use Rattle.machine_types.specs.ReadyObjects.{thrown_of}
-use Rattle.machine_types.specs.Threads.{Frame, Attempt, Thread}
-use Rattle.machine_types.specs.declared.phase.Phase.{Phase}
-use Rattle.machine_types.specs.Words.{header_class}
-use Rattle.machine_types.specs.declared.effect.Effect.{Effect}
-use Rattle.machine_types.specs.declared.effect.Effect.TheVariants.{Indexes, Raises, Makes, Prints, Calls, Waits, Notifies, NotifiesAll, Stuck}
-use Rattle.machine_types.specs.declared.lock.Held.{Held}
-use Rattle.machine_types.specs.declared.lock.Kept.{Kept}
+use Rattle.std.proofs.Common.{◌≡◌, ℕ, ◌+◌, ◌<◌, ◌≤◌, true, List, [], ◌∷◌, ◌++◌, length, Option, Some, None, refl, sym, subst, ap, ◌∙◌, arith, length-append, option_map, slice_get, IfSome, IsSome}
+use Rattle.std.{specs.List.AllByRecursion, proofs.lemmas.Bool.Decides.nat_tests}
+use Rattle.jvm_types.specs.declared.{outcome.{Print.Print, Thrown.Thrown}, program.{MethodInfo.MethodInfo, Program.Program}}
+use Rattle.machine_types.specs.{Bounds.{KeptFits, EntryFits, IsInner, IsBounded}, Elision.{put_back, fails}, Frames.{Top, frames_of}, Going.{with_phase, goes_on}, HeldMonitors.{held_at, depth_at}}
+use Rattle.machine_types.specs.{Instructions.{has_print_left, begun, printed}, Ints.int_of, Onward.{Onward, Running, Throwing, Entering, Leaving, RootReturned, Uncaught, called, done}}
+use Rattle.machine_types.specs.{ReadyObjects.thrown_of, Threads.{Frame, Attempt, Thread}, Words.header_class, declared.effect.Effect.Effect}
+use Rattle.machine_types.specs.declared.{effect.Effect.TheVariants.{Indexes, Raises, Makes, Prints, Calls, Waits, Notifies, NotifiesAll, Stuck}, lock.{Held.Held, Kept.Kept}, phase.Phase.Phase}
+use Rattle.laws_threads.proofs.{BoundedOnward.{LimitsFit, Fit, by_attempt, Spends, spends_less, bounded, goes, fit_of, spends_of}, HeldBounds.found, ThreadMove.{IsByDone, Asks, WaitsFrom}}
 use Rattle.machine_types.specs.declared.phase.Phase.TheVariants as phases
 use Rattle.machine_types.specs.declared.phase.Toward.TheVariants as towards
-use Rattle.laws_threads.proofs.HeldBounds.{found}
-use Rattle.laws_threads.proofs.BoundedOnward.{LimitsFit, Fit, by_attempt, Spends, spends_less, bounded, goes, fit_of, spends_of}
-use Rattle.laws_threads.proofs.ThreadMove.{IsByDone, Asks, WaitsFrom}
 use Rattle.laws_threads.proofs.ThreadMove as moves
 
 -- ---- checks

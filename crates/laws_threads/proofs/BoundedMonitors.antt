@@ -1,34 +1,16 @@
 -- Entering and leaving monitors, waiting and notifying keep a thread within its bounds.
-use Rattle.std.proofs.Common.{◌≡◌, ℕ, zero, suc, ◌+◌, ◌<◌, ◌≤◌, nat_lt, nat_le, true, List, Option, Some, None, refl, subst, ap, arith}
-use Rattle.std.specs.Prelude.{◌/◌, ◌%◌, option_map, IfSome}
-use Rattle.std.proofs.lemmas.Bool.Decides.{nat_tests}
+use Rattle.std.proofs.{Common.{◌≡◌, ℕ, zero, suc, ◌+◌, ◌<◌, ◌≤◌, nat_lt, nat_le, true, List, Option, Some, None, refl, subst, ap, arith, ◌/◌, ◌%◌, option_map, IfSome}, lemmas.Bool.Decides.nat_tests}
 use Rattle.lists.proofs.TestLaws.{both_are_true}
-use Rattle.jvm_types.specs.declared.limits.TheConstants.{MOST_WORKERS}
-use Rattle.jvm_types.specs.declared.program.Program.{Program}
-use Rattle.machine_types.specs.Bounds.{KeptFits, IsInner, IsBounded}
-use Rattle.machine_types.specs.Elision.{elided}
-use Rattle.machine_types.specs.FoundWords.{HasCount, most_count}
-use Rattle.machine_types.specs.Going.{with_phase, runs, goes_after}
-use Rattle.machine_types.specs.HeldMonitors.{held_at, with_held, without_held, deeper, shallower}
-use Rattle.machine_types.specs.LockWords.{lock_by, lock_of, is_lock_by, is_lock_word}
-use Rattle.machine_types.specs.Monitors.{takes, lets_go, retakes, grown}
-use Rattle.machine_types.specs.Structure.{IsFlat}
-use Rattle.machine_types.specs.Threads.{Frame, Attempt, Thread}
-use Rattle.jvm_types.specs.declared.fixed_words.TheConstants.{MONITOR_RECORDS}
-use Rattle.machine_types.specs.declared.lock.Held.{Held}
-use Rattle.machine_types.specs.declared.lock.Kept.{Kept}
+use Rattle.jvm_types.specs.declared.{fixed_words.TheConstants.MONITOR_RECORDS, limits.TheConstants.MOST_WORKERS, program.Program.Program}
+use Rattle.machine_types.specs.{Bounds.{KeptFits, IsInner, IsBounded}, Elision.elided, FoundWords.{HasCount, most_count}, Going.{with_phase, runs, goes_after}}
+use Rattle.machine_types.specs.{HeldMonitors.{held_at, with_held, without_held, deeper, shallower}, LockWords.{lock_by, lock_of, is_lock_by, is_lock_word}, Monitors.{takes, lets_go, retakes, grown}}
+use Rattle.machine_types.specs.{Structure.IsFlat, Threads.{Frame, Attempt, Thread}, declared.{lock.{Held.Held, Kept.Kept, LockWord.LockWord}, phase.{After.After, Phase.Phase, Toward.Toward}}}
+use Rattle.laws_threads.proofs.{BoundedInstructions.inside, BoundedOnward.{Fit, by_attempt, Spends, spends_less, bounded, running, goes_behind}}
+use Rattle.laws_threads.proofs.{HeldBounds.{HeldFit, each_put, each_without, found, flat, flat_put, flat_without, flat_refit, flat_at_most_one}, ThreadMove.begun_attempt}
 use Rattle.machine_types.specs.declared.lock.Kept.TheVariants as keeps
-use Rattle.machine_types.specs.declared.lock.LockWord.{LockWord}
 use Rattle.machine_types.specs.declared.lock.LockWord.TheVariants as locks
-use Rattle.machine_types.specs.declared.phase.After.{After}
-use Rattle.machine_types.specs.declared.phase.Phase.{Phase}
 use Rattle.machine_types.specs.declared.phase.Phase.TheVariants as phases
-use Rattle.machine_types.specs.declared.phase.Toward.{Toward}
 use Rattle.machine_types.specs.declared.phase.Toward.TheVariants as towards
-use Rattle.laws_threads.proofs.HeldBounds.{HeldFit, each_put, each_without, found, flat, flat_put, flat_without, flat_refit, flat_at_most_one}
-use Rattle.laws_threads.proofs.BoundedOnward.{Fit, by_attempt, Spends, spends_less, bounded, running, goes_behind}
-use Rattle.laws_threads.proofs.BoundedInstructions.{inside}
-use Rattle.laws_threads.proofs.ThreadMove.{begun_attempt}
 
 -- ---- lock words
 

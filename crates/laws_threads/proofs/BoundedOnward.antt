@@ -1,25 +1,15 @@
 -- What keeps a thread within its bounds whatever its phase, and that it stays within them as it goes on.
-use Rattle.std.proofs.Common.{◌≡◌, ℕ, ◌+◌, ◌<◌, ◌≤◌, nat_lt, Bool, true, false, List, [], ◌∷◌, length, drop, Option, Some, None, refl, arith}
-use Rattle.std.specs.Prelude.{if◌then◌else◌, option_map, IfSome}
+use Rattle.std.proofs.Common.{◌≡◌, ℕ, ◌+◌, ◌<◌, ◌≤◌, nat_lt, Bool, true, false, List, [], ◌∷◌, length, drop, Option, Some, None, refl, arith, if◌then◌else◌, option_map, IfSome}
 use Rattle.std.proofs.lemmas.Bool.Decides.{nat_tests}
-use Rattle.jvm_types.specs.Members.{is_synchronized}
-use Rattle.jvm_types.specs.declared.outcome.End.TheVariants as ends
-use Rattle.jvm_types.specs.declared.outcome.Print.{Print}
-use Rattle.jvm_types.specs.declared.outcome.Thrown.{Thrown}
-use Rattle.jvm_types.specs.declared.program.Program.{Program}
-use Rattle.jvm_types.specs.declared.program.Row.{Row}
-use Rattle.machine_types.specs.Bounds.{PhaseFits, TurnsFit, StepsFit, WaitFits, EntryFits, entry_under_way, attempt_under_way, under_way, IsBounded}
-use Rattle.machine_types.specs.FoundWords.{most_count}
-use Rattle.machine_types.specs.Frames.{Top, top_of, frames_of, monitor_of, returned}
-use Rattle.machine_types.specs.Going.{with_phase, runs, failed_turn, goes_on, goes_on_if, goes_after, root_over}
-use Rattle.machine_types.specs.Onward.{Onward, Running, Throwing, Entering, Leaving, RootReturned, Uncaught, back, unwound, handed, after}
-use Rattle.machine_types.specs.Threads.{Frame, Attempt, Thread}
-use Rattle.machine_types.specs.declared.config.Config.{Config}
-use Rattle.machine_types.specs.declared.phase.After.{After}
-use Rattle.machine_types.specs.declared.phase.After.TheVariants as afters
-use Rattle.machine_types.specs.declared.phase.Phase.{Phase}
-use Rattle.machine_types.specs.declared.phase.Phase.TheVariants as phases
+use Rattle.jvm_types.specs.{Members.is_synchronized, declared.{outcome.{Print.Print, Thrown.Thrown}, program.{Program.Program, Row.Row}}}
+use Rattle.machine_types.specs.{Bounds.{PhaseFits, TurnsFit, StepsFit, WaitFits, EntryFits, entry_under_way, attempt_under_way, under_way, IsBounded}, FoundWords.most_count}
+use Rattle.machine_types.specs.{Frames.{Top, top_of, frames_of, monitor_of, returned}, Going.{with_phase, runs, failed_turn, goes_on, goes_on_if, goes_after, root_over}}
+use Rattle.machine_types.specs.{Onward.{Onward, Running, Throwing, Entering, Leaving, RootReturned, Uncaught, back, unwound, handed, after}, Threads.{Frame, Attempt, Thread}}
+use Rattle.machine_types.specs.declared.{config.Config.Config, phase.{After.After, Phase.Phase}}
 use Rattle.laws_threads.proofs.HeldBounds.{HeldFit}
+use Rattle.jvm_types.specs.declared.outcome.End.TheVariants as ends
+use Rattle.machine_types.specs.declared.phase.After.TheVariants as afters
+use Rattle.machine_types.specs.declared.phase.Phase.TheVariants as phases
 
 -- ---- whatever the phase
 

@@ -1,32 +1,18 @@
 -- The frame that a call enters has the receiver that stood below the arguments; the monitor of a synchronized method that a
 -- section calls is the section's.
-use Rattle.std.proofs.Common.{◌≡◌, ℕ, zero, suc, Bool, true, false, List, [], ◌∷◌, ◌++◌, length, reverse, take, Some, refl, sym, ap, ◌∙◌, subst}
-use Rattle.std.specs.Prelude.{slice_get, slice_index, if◌then◌else◌}
+use Rattle.std.proofs.Common.{◌≡◌, ℕ, zero, suc, Bool, true, false, List, [], ◌∷◌, ◌++◌, length, reverse, take, Some, refl, sym, ap, ◌∙◌, subst, slice_get, slice_index, if◌then◌else◌}
 use Rattle.std.proofs.lemmas.List.{reverse-append}
 use Rattle.lists.proofs.ListLaws.{same_some}
-use Rattle.jvm_types.specs.ClassNames.{file_of_class}
-use Rattle.jvm_types.specs.CodeTable.{virtual_row, special_row, static_row}
-use Rattle.jvm_types.specs.Members.{MethodSite, is_static, is_synchronized}
-use Rattle.jvm_types.specs.declared.call.Call.TheVariants.{Virtual, Special, Static}
-use Rattle.jvm_types.specs.declared.code.Op.{Op}
-use Rattle.jvm_types.specs.declared.code.Op.TheVariants as ops
-use Rattle.jvm_types.specs.declared.op_row.OpRow.{OpRow}
-use Rattle.jvm_types.specs.declared.program.MethodInfo.{MethodInfo}
-use Rattle.jvm_types.specs.declared.program.Program.{Program}
-use Rattle.jvm_types.specs.declared.program.Target.{Target}
-use Rattle.jvm_types.specs.declared.program.Target.TheVariants as targets
+use Rattle.jvm_types.specs.{ClassNames.file_of_class, CodeTable.{virtual_row, special_row, static_row}, Members.{MethodSite, is_static, is_synchronized}}
+use Rattle.jvm_types.specs.declared.{call.Call.TheVariants.{Virtual, Special, Static}, code.Op.Op, op_row.OpRow.OpRow, program.{MethodInfo.MethodInfo, Program.Program, Target.Target}}
 use Rattle.laws_programs.specs.TargetLaws.{NamesMethod, HasRow}
-use Rattle.checked_program.specs.Marks.{args_of, called_method, class_of_method, is_locking, is_class_locking}
-use Rattle.checked_program.specs.SectionLaws.{ReadsOnly}
-use Rattle.checked_program.specs.TaggedCode.{Tagged}
-use Rattle.checked_program.specs.declared.section.Mode.{Mode}
+use Rattle.checked_program.specs.{Marks.{args_of, called_method, class_of_method, is_locking, is_class_locking}, SectionLaws.ReadsOnly, TaggedCode.Tagged, declared.section.Mode.Mode}
 use Rattle.checked_program.specs.declared.section.Mode.TheVariants.{OnThis, OnClass}
-use Rattle.laws_sections.specs.FrameLaws.{IsReceiver}
-use Rattle.machine_types.specs.Frames.{first_or_null, entry_frame, monitor_by}
-use Rattle.machine_types.specs.Words.{class_object}
-use Rattle.laws_threads.proofs.EffectOps.{HasReceiver}
-use Rattle.laws_threads.proofs.SectionFrames.{is_locked, is_class_locked}
-use Rattle.laws_sections.proofs.HiddenThis.{with_receiver}
+use Rattle.laws_sections.{specs.FrameLaws.IsReceiver, proofs.HiddenThis.with_receiver}
+use Rattle.machine_types.specs.{Frames.{first_or_null, entry_frame, monitor_by}, Words.class_object}
+use Rattle.laws_threads.proofs.{EffectOps.HasReceiver, SectionFrames.{is_locked, is_class_locked}}
+use Rattle.jvm_types.specs.declared.code.Op.TheVariants as ops
+use Rattle.jvm_types.specs.declared.program.Target.TheVariants as targets
 
 index_is : (s : List ℕ) (n v : ℕ) → slice_get s n ≡ Some v → slice_index s n ≡ v
 index_is [] n v e = absurd (cc)

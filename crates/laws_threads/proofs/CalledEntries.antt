@@ -1,36 +1,17 @@
 -- The frame that a call makes has the types of the called method's start.
-use Rattle.std.proofs.Common.{◌≡◌, ℕ, zero, suc, ◌-◌, ◌<◌, ◌≤◌, ◌⊎◌, inl, inr, Bool, true, false, List, [], ◌∷◌, ◌++◌, length, Some, ap, sym, subst, ◌∙◌, arith}
-use Rattle.std.specs.Prelude.{slice_get, map, reverse, take, replicate, if◌then◌else◌}
-use Rattle.std.specs.List.{AllZip}
-use Rattle.std.proofs.lemmas.List.{reverse-append, length-append}
-use Rattle.jvm_types.specs.CodeTable.{want_of, type_of, arguments, is_init}
-use Rattle.jvm_types.specs.Members.{is_static}
-use Rattle.jvm_types.specs.Types.{TypeFrame, filled, receiver_types}
-use Rattle.jvm_types.specs.Types as types
-use Rattle.jvm_types.specs.declared.op_row.OpRow.{OpRow}
-use Rattle.jvm_types.specs.declared.op_row.Want.{Want}
-use Rattle.jvm_types.specs.declared.program.Kind.{Kind}
-use Rattle.jvm_types.specs.declared.program.Kind.TheVariants as kinds
-use Rattle.jvm_types.specs.declared.program.MethodInfo.{MethodInfo}
-use Rattle.jvm_types.specs.declared.typing.Typing.{Typing}
-use Rattle.jvm_types.specs.declared.typing.VType.{VType}
-use Rattle.jvm_types.specs.declared.typing.VType.TheVariants.{Ref, This, Top}
-use Rattle.jvm_types.proofs.TypeOrder.{subclass_self}
+use Rattle.std.proofs.Common.{◌≡◌, ℕ, zero, suc, ◌-◌, ◌<◌, ◌≤◌, ◌⊎◌, inl, inr, Bool, true, false, List, [], ◌∷◌, ◌++◌, length, Some, ap, sym, subst, ◌∙◌, arith, slice_get, map, reverse, take, replicate, if◌then◌else◌}
+use Rattle.std.{specs.List.AllZip, proofs.lemmas.List.{reverse-append, length-append}}
+use Rattle.jvm_types.specs.{CodeTable.{want_of, type_of, arguments, is_init}, Members.is_static, Types.{TypeFrame, filled, receiver_types}, declared.op_row.{OpRow.OpRow, Want.Want}}
+use Rattle.jvm_types.{specs.declared.{program.{Kind.Kind, MethodInfo.MethodInfo}, typing.{Typing.Typing, VType.{VType, TheVariants.{Ref, This, Top}}}}, proofs.TypeOrder.subclass_self}
 use Rattle.laws_programs.proofs.ClassTreeLaws.{files_alone}
-use Rattle.checked_program.specs.CheckedLaws.{receiver_want}
-use Rattle.checked_program.specs.LockTags.{entry_tags}
-use Rattle.checked_program.specs.MarkedProgram.{MarkedProgram, IsMarked, checked_part}
-use Rattle.checked_program.specs.Tagging.{IsTaggingOf}
-use Rattle.checked_program.specs.declared.tag.Tags.{Tags}
+use Rattle.checked_program.specs.{CheckedLaws.receiver_want, LockTags.entry_tags, MarkedProgram.{MarkedProgram, IsMarked, checked_part}, Tagging.IsTaggingOf, declared.tag.Tags.Tags}
 use Rattle.checked_program.proofs.CheckedPlaces.{checked_sound}
-use Rattle.machine_types.specs.Frames.{entry_frame}
-use Rattle.machine_types.specs.Typed.{Classes, Holds, FrameHolds}
-use Rattle.laws_threads.specs.Allowed.{WantHolds, TakenHold}
-use Rattle.laws_threads.proofs.Lists.{zip_has, map_at, zip_length, zip_append, zip_reverse, reverse_map}
-use Rattle.laws_threads.proofs.Values.{ValuesHold}
-use Rattle.laws_threads.proofs.Landing.{tags_at, land}
-use Rattle.laws_threads.proofs.Calls.{CallRow, HasReceiver, deepest_first}
 use Rattle.laws_sections.proofs.HiddenThis.{long_arguments}
+use Rattle.machine_types.specs.{Frames.entry_frame, Typed.{Classes, Holds, FrameHolds}}
+use Rattle.laws_threads.{specs.Allowed.{WantHolds, TakenHold}, proofs.{Calls.{CallRow, HasReceiver, deepest_first}, Landing.{tags_at, land}}}
+use Rattle.laws_threads.proofs.{Lists.{zip_has, map_at, zip_length, zip_append, zip_reverse, reverse_map}, Values.ValuesHold}
+use Rattle.jvm_types.specs.Types as types
+use Rattle.jvm_types.specs.declared.program.Kind.TheVariants as kinds
 
 -- ---- arguments
 

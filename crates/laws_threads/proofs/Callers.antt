@@ -1,44 +1,17 @@
 -- Who goes on behind a return, and who catches an exception.
-use Rattle.std.proofs.Common.{◌≡◌, ℕ, zero, suc, ◌+◌, ◌-◌, ◌<◌, ◌≤◌, inl, inr, Bool, true, false, ◌||◌, ◌&&◌, List, [], ◌∷◌, length, Option, Some, None, refl, ap, sym, subst, ◌∙◌, arith}
-use Rattle.std.specs.Prelude.{◌==◌, nat_lt, slice_get, drop, if◌then◌else◌}
-use Rattle.std.specs.List.{AllByRecursion, filter}
-use Rattle.std.proofs.lemmas.Bool.Decides.{nat_tests}
-use Rattle.std.proofs.lemmas.List.{length-drop}
+use Rattle.std.proofs.Common.{◌≡◌, ℕ, zero, suc, ◌+◌, ◌-◌, ◌<◌, ◌≤◌, inl, inr, Bool, true, false, ◌||◌, ◌&&◌, List, [], ◌∷◌, length, Option, Some, None, refl, ap, sym, subst, ◌∙◌, arith, ◌==◌, nat_lt, slice_get, drop, if◌then◌else◌}
+use Rattle.std.{specs.List.{AllByRecursion, filter}, proofs.lemmas.{Bool.Decides.nat_tests, List.length-drop}}
 use Rattle.lists.proofs.ListLaws.{same_some}
-use Rattle.jvm_types.specs.ClassTree.{is_subclass}
-use Rattle.jvm_types.specs.CodeTable.{result_of}
-use Rattle.jvm_types.specs.ProgramInvariant.{site_in}
-use Rattle.jvm_types.specs.Verifying.{edges, covers, catch_fault, frame_at_handler, FrameFits}
-use Rattle.jvm_types.specs.declared.code.Insn.{Insn}
-use Rattle.jvm_types.specs.declared.code.Op.{Op}
-use Rattle.jvm_types.specs.declared.code.Op.TheVariants as ops
-use Rattle.jvm_types.specs.declared.op_row.OpRow.{OpRow}
-use Rattle.jvm_types.specs.declared.program.MethodInfo.{MethodInfo}
-use Rattle.jvm_types.specs.declared.program.Row.{Row}
-use Rattle.jvm_types.specs.declared.program.Target.{Target}
-use Rattle.jvm_types.specs.declared.program.Target.TheVariants as targets
-use Rattle.jvm_types.specs.declared.refusal.VRule.{VRule}
-use Rattle.jvm_types.specs.declared.typing.VType.{VType}
-use Rattle.laws_programs.specs.TargetLaws.{HasRow}
-use Rattle.laws_programs.specs.RuleLaws.{ReturnsWell}
-use Rattle.laws_programs.proofs.EdgeTargets.{lands}
-use Rattle.laws_programs.proofs.RuleUses.{returns_suit_all}
-use Rattle.checked_program.specs.MarkedProgram.{MarkedProgram, IsMarked}
-use Rattle.checked_program.specs.Marks.{called_method}
-use Rattle.checked_program.specs.TaggedCode.{row_of}
-use Rattle.machine_types.specs.Frames.{Top, given_back, handler_of, handler_at}
-use Rattle.machine_types.specs.Lawful.{within}
-use Rattle.machine_types.specs.Standing.{Standing}
-use Rattle.machine_types.specs.Threads.{Frame}
+use Rattle.jvm_types.specs.{ClassTree.is_subclass, CodeTable.result_of, ProgramInvariant.site_in, Verifying.{edges, covers, catch_fault, frame_at_handler, FrameFits}, declared.code.{Insn.Insn, Op.Op}}
+use Rattle.jvm_types.specs.declared.{op_row.OpRow.OpRow, program.{MethodInfo.MethodInfo, Row.Row, Target.Target}, refusal.VRule.VRule, typing.VType.VType}
+use Rattle.laws_programs.{specs.{RuleLaws.ReturnsWell, TargetLaws.HasRow}, proofs.{EdgeTargets.lands, RuleUses.returns_suit_all}}
+use Rattle.checked_program.specs.{MarkedProgram.{MarkedProgram, IsMarked}, Marks.called_method, TaggedCode.row_of}
+use Rattle.machine_types.specs.{Frames.{Top, given_back, handler_of, handler_at}, Lawful.within, Standing.Standing, Threads.Frame}
 use Rattle.machine_types.specs.Typed.{Holds as HasType, FrameHolds, WaitHolds, HoldBelow, ThrownHolds}
-use Rattle.laws_threads.specs.Allowed.{OneOf}
-use Rattle.laws_threads.specs.TopFrames.{BelowFits, CallerFits, ReturnsFit, HandlerFits, HandlersFit}
-use Rattle.laws_threads.proofs.Landing.{stand_top, rules_at}
-use Rattle.laws_threads.proofs.Calls.{CallRow, call_row}
-use Rattle.laws_threads.proofs.Lists.{zip_length}
-use Rattle.laws_threads.proofs.Standings.{top_here}
-use Rattle.laws_threads.proofs.TopStand.{stands_here}
-use Rattle.laws_threads.proofs.TopEffects.{goes_to}
+use Rattle.laws_threads.{specs.{Allowed.OneOf, TopFrames.{BelowFits, CallerFits, ReturnsFit, HandlerFits, HandlersFit}}, proofs.{Calls.{CallRow, call_row}, Landing.{stand_top, rules_at}}}
+use Rattle.laws_threads.proofs.{Lists.zip_length, Standings.top_here, TopEffects.goes_to, TopStand.stands_here}
+use Rattle.jvm_types.specs.declared.code.Op.TheVariants as ops
+use Rattle.jvm_types.specs.declared.program.Target.TheVariants as targets
 
 -- ---- calls
 

@@ -1,28 +1,16 @@
 -- What a call takes and gives, and that its receiver is there and not null.
-use Rattle.std.proofs.Common.{◌≡◌, ℕ, zero, suc, ◌+◌, ◌<◌, ◌⊎◌, inl, inr, Bool, true, false, not, ◌||◌, List, [], ◌∷◌, ◌++◌, length, Option, Some, None, refl, ap, sym, subst, ◌∙◌, arith}
-use Rattle.std.specs.Prelude.{◌==◌, slice_get, take, reverse, if◌then◌else◌}
-use Rattle.std.proofs.lemmas.Bool.Decides.{nat_tests}
-use Rattle.std.proofs.lemmas.List.{length-map, length-reverse, length-append, reverse-append}
+use Rattle.std.proofs.Common.{◌≡◌, ℕ, zero, suc, ◌+◌, ◌<◌, ◌⊎◌, inl, inr, Bool, true, false, not, ◌||◌, List, [], ◌∷◌, ◌++◌, length, Option, Some, None, refl, ap, sym, subst, ◌∙◌, arith, ◌==◌, slice_get, take, reverse, if◌then◌else◌}
+use Rattle.std.proofs.lemmas.{Bool.Decides.nat_tests, List.{length-map, length-reverse, length-append, reverse-append}}
 use Rattle.lists.proofs.ListLaws.{same_some}
-use Rattle.jvm_types.specs.CodeTable.{arguments, want_of, is_init, result_of, stack_row, virtual_row, special_row, static_row}
-use Rattle.jvm_types.specs.Members.{MethodSite, is_static, is_init_name, is_class_init_name}
-use Rattle.jvm_types.specs.declared.code.Op.{Op}
-use Rattle.jvm_types.specs.declared.code.Op.TheVariants as ops
-use Rattle.jvm_types.specs.declared.op_row.OpRow.{OpRow}
-use Rattle.jvm_types.specs.declared.op_row.Want.{Want}
-use Rattle.jvm_types.specs.declared.op_row.Want.TheVariants.{AnObject, ToStart}
-use Rattle.jvm_types.specs.declared.outcome.Thrown.TheVariants.{NullPointerException}
-use Rattle.jvm_types.specs.declared.program.MethodInfo.{MethodInfo}
+use Rattle.jvm_types.specs.{CodeTable.{arguments, want_of, is_init, result_of, stack_row, virtual_row, special_row, static_row}, Members.{MethodSite, is_static, is_init_name, is_class_init_name}}
+use Rattle.jvm_types.specs.declared.{code.Op.Op, op_row.{OpRow.OpRow, Want.{Want, TheVariants.{AnObject, ToStart}}}, outcome.Thrown.TheVariants.NullPointerException, program.MethodInfo.MethodInfo}
 use Rattle.jvm_types.specs.declared.program.Program.{Program}
-use Rattle.jvm_types.specs.declared.program.Target.TheVariants as targets
-use Rattle.laws_programs.specs.TargetLaws.{HasRow}
-use Rattle.laws_programs.specs.EntryLaws.{receiver_count}
-use Rattle.checked_program.specs.CheckedLaws.{receiver_want}
-use Rattle.machine_types.specs.declared.effect.Effect.TheVariants.{Throws, Calls}
-use Rattle.machine_types.specs.Effects.{calls_on, calls_instance, effect}
-use Rattle.machine_types.specs.Frames.{first_or_null}
-use Rattle.checked_program.proofs.CheckedPlaces.{no_init}
+use Rattle.laws_programs.specs.{EntryLaws.receiver_count, TargetLaws.HasRow}
+use Rattle.checked_program.{specs.CheckedLaws.receiver_want, proofs.CheckedPlaces.no_init}
 use Rattle.laws_sections.proofs.HiddenThis.{long_arguments}
+use Rattle.machine_types.specs.{Effects.{calls_on, calls_instance, effect}, Frames.first_or_null, declared.effect.Effect.TheVariants.{Throws, Calls}}
+use Rattle.jvm_types.specs.declared.code.Op.TheVariants as ops
+use Rattle.jvm_types.specs.declared.program.Target.TheVariants as targets
 
 -- ---- the row of a call
 

@@ -1,43 +1,20 @@
 -- What an instruction does keeps the types of its thread's frames, whatever its effect.
-use Rattle.std.proofs.Common.{◌≡◌, ℕ, ◌<◌, inl, Bool, true, false, List, ◌∷◌, length, Option, Some, None, refl, sym, subst, arith}
-use Rattle.std.specs.Prelude.{slice_get, drop, option_map, if◌then◌else◌}
-use Rattle.jvm_types.specs.ClassNames.{file_of_class}
-use Rattle.jvm_types.specs.Members.{is_static, is_synchronized, MethodSite}
-use Rattle.jvm_types.specs.ProgramInvariant.{site_in}
-use Rattle.jvm_types.specs.Verifying.{edges}
-use Rattle.jvm_types.specs.declared.class_numbers.TheConstants.{CLASS_ITSELF}
-use Rattle.jvm_types.specs.declared.code.Op.{Op}
-use Rattle.jvm_types.specs.declared.code.Op.TheVariants as ops
-use Rattle.jvm_types.specs.declared.op_row.OpRow.{OpRow}
-use Rattle.jvm_types.specs.declared.outcome.Thrown.{Thrown}
-use Rattle.jvm_types.specs.declared.outcome.Thrown.TheVariants as thrown
-use Rattle.jvm_types.specs.declared.program.MethodInfo.{MethodInfo}
-use Rattle.jvm_types.specs.declared.program.Program.{Program}
-use Rattle.jvm_types.specs.declared.program.Target.{Target}
-use Rattle.jvm_types.specs.declared.program.Target.TheVariants as targets
+use Rattle.std.proofs.Common.{◌≡◌, ℕ, ◌<◌, inl, Bool, true, false, List, ◌∷◌, length, Option, Some, None, refl, sym, subst, arith, slice_get, drop, option_map, if◌then◌else◌}
+use Rattle.jvm_types.specs.{ClassNames.file_of_class, Members.{is_static, is_synchronized, MethodSite}, ProgramInvariant.site_in, Verifying.edges, declared.class_numbers.TheConstants.CLASS_ITSELF}
+use Rattle.jvm_types.specs.declared.{code.Op.Op, op_row.OpRow.OpRow, outcome.Thrown.Thrown, program.{MethodInfo.MethodInfo, Program.Program, Target.Target}}
 use Rattle.laws_programs.specs.TargetLaws.{HasRow}
-use Rattle.checked_program.specs.MarkedProgram.{MarkedProgram, IsMarked}
-use Rattle.checked_program.specs.Marks.{called_method}
-use Rattle.checked_program.specs.TaggedCode.{row_of}
-use Rattle.machine_types.specs.declared.effect.Effect.{Effect}
+use Rattle.checked_program.specs.{MarkedProgram.{MarkedProgram, IsMarked}, Marks.called_method, TaggedCode.row_of}
+use Rattle.machine_types.specs.{Effects.effect, Frames.{first_or_null, monitor_of, effect_at, frame_on, went, went_on, waiting, has_room, entry_frame, arguments_of}}
+use Rattle.machine_types.specs.{Onward.{Running, Throwing, Entering, threw, entered, called, done}, ReadyObjects.{class_of, thrown_of}, Threads.Frame}
+use Rattle.machine_types.specs.{Typed.{Classes, FrameHolds, HoldBelow, FramesHold, IsObject}, Words.{class_object, header_class, header_length}, declared.effect.Effect.Effect}
 use Rattle.machine_types.specs.declared.effect.Effect.TheVariants.{Goes, Throws, Reads, Writes, Indexes, Measures, Raises, Makes, Prints, Calls, Returns, Enters, Leaves, Waits, Notifies, NotifiesAll, Stuck}
-use Rattle.machine_types.specs.Effects.{effect}
-use Rattle.jvm_types.specs.Types as types
-use Rattle.machine_types.specs.Frames.{first_or_null, monitor_of, effect_at, frame_on, went, went_on, waiting, has_room, entry_frame, arguments_of}
-use Rattle.machine_types.specs.Onward.{Running, Throwing, Entering, threw, entered, called, done}
-use Rattle.machine_types.specs.ReadyObjects.{class_of, thrown_of}
-use Rattle.machine_types.specs.Threads.{Frame}
-use Rattle.machine_types.specs.Typed.{Classes, FrameHolds, HoldBelow, FramesHold, IsObject}
-use Rattle.machine_types.specs.Words.{class_object, header_class, header_length}
-use Rattle.laws_threads.specs.Allowed.{OneOf, HasRowTypes, IsByMachine, Allowed}
+use Rattle.laws_threads.{specs.Allowed.{OneOf, HasRowTypes, IsByMachine, Allowed}, proofs.{CalledEntries.{call_values, enters}, Calls.{call_row, call_receiver}, Landing.rules_at}}
+use Rattle.laws_threads.proofs.{Onwards.{keeps_all, keeps_top, keeps_push, HasObjects, FoundHolds, Onwards, IfOnwards, goes_out}, Standings.top_here, TopEffects.taken_here, TypedMoves.{goes, waits}}
 use Rattle.laws_threads.proofs.Values.{ValuesHold}
-use Rattle.laws_threads.proofs.Landing.{rules_at}
-use Rattle.laws_threads.proofs.Calls.{call_row, call_receiver}
-use Rattle.laws_threads.proofs.CalledEntries.{call_values, enters}
-use Rattle.laws_threads.proofs.TypedMoves.{goes, waits}
-use Rattle.laws_threads.proofs.Standings.{top_here}
-use Rattle.laws_threads.proofs.TopEffects.{taken_here}
-use Rattle.laws_threads.proofs.Onwards.{keeps_all, keeps_top, keeps_push, HasObjects, FoundHolds, Onwards, IfOnwards, goes_out}
+use Rattle.jvm_types.specs.declared.code.Op.TheVariants as ops
+use Rattle.jvm_types.specs.declared.outcome.Thrown.TheVariants as thrown
+use Rattle.jvm_types.specs.declared.program.Target.TheVariants as targets
+use Rattle.jvm_types.specs.Types as types
 
 -- a method that is named where it is called
 call_named : (p : Program) (site : MethodSite) (pc number : ℕ) (op : Op) (r : OpRow) → HasRow p site pc (targets.Method number) op r → called_method op (targets.Method number) ≡ Some number

@@ -1,36 +1,19 @@
 -- What an instruction does that breaks no rule of a section, by its effect.
-use Rattle.std.proofs.Common.{◌≡◌, ◌⊎◌, inl, inr, ℕ, Bool, true, false, List, [], ◌∷◌, length, Option, Some, None, refl, sym, ap, ◌∙◌, subst}
-use Rattle.std.specs.Prelude.{◌==◌, nat_lt, slice_get, slice_index, if◌then◌else◌}
+use Rattle.std.proofs.Common.{◌≡◌, ◌⊎◌, inl, inr, ℕ, Bool, true, false, List, [], ◌∷◌, length, Option, Some, None, refl, sym, ap, ◌∙◌, subst, ◌==◌, nat_lt, slice_get, slice_index, if◌then◌else◌}
 use Rattle.lists.proofs.ListLaws.{same_some}
-use Rattle.jvm_types.specs.ClassNames.{file_of_class}
-use Rattle.jvm_types.specs.CodeTable.{falls_through}
-use Rattle.jvm_types.specs.Members.{is_static}
-use Rattle.jvm_types.specs.ProgramInvariant.{site_in}
-use Rattle.jvm_types.specs.Verifying.{is_return}
-use Rattle.jvm_types.specs.declared.code.Op.{Op}
-use Rattle.jvm_types.specs.declared.code.Op.TheVariants as ops
-use Rattle.jvm_types.specs.declared.op_row.OpRow.{OpRow}
-use Rattle.jvm_types.specs.declared.outcome.Thrown.TheVariants as thrown
-use Rattle.jvm_types.specs.declared.program.FieldInfo.{FieldInfo}
-use Rattle.jvm_types.specs.declared.program.MethodInfo.{MethodInfo}
-use Rattle.jvm_types.specs.declared.program.Program.{Program}
-use Rattle.jvm_types.specs.declared.program.Target.{Target}
-use Rattle.jvm_types.specs.declared.program.Target.TheVariants as targets
+use Rattle.jvm_types.specs.{ClassNames.file_of_class, CodeTable.falls_through, Members.is_static, ProgramInvariant.site_in, Verifying.is_return, declared.{code.Op.Op, op_row.OpRow.OpRow}}
+use Rattle.jvm_types.specs.declared.program.{FieldInfo.FieldInfo, MethodInfo.MethodInfo, Program.Program, Target.Target}
 use Rattle.laws_programs.specs.TargetLaws.{HasRow}
-use Rattle.checked_program.specs.FrozenPlaces.{IsFrozenField, IsFrozenStatic, IsGuardedField}
-use Rattle.checked_program.specs.MarkedProgram.{MarkedProgram}
-use Rattle.checked_program.specs.Marks.{called_method}
-use Rattle.checked_program.specs.SectionLaws.{IsOwnStatic, ReadsOnly}
-use Rattle.checked_program.specs.declared.section.Mode.{Mode}
-use Rattle.checked_program.specs.declared.section.Mode.TheVariants.{OnThis, OnClass}
-use Rattle.machine_types.specs.Effects.{at_local, unless_null, unless_zero, variable_of, gets, gets_static, calls_on, calls_instance, calls_static, named, effect}
-use Rattle.machine_types.specs.Ints.{low, divided, remaining}
-use Rattle.machine_types.specs.Standing.{tags_of}
-use Rattle.machine_types.specs.Words.{class_object}
-use Rattle.machine_types.specs.declared.effect.Variable.TheVariants.{Instance, Static}
-use Rattle.machine_types.specs.declared.effect.Effect.{Effect}
+use Rattle.checked_program.specs.{FrozenPlaces.{IsFrozenField, IsFrozenStatic, IsGuardedField}, MarkedProgram.MarkedProgram, Marks.called_method, SectionLaws.{IsOwnStatic, ReadsOnly}}
+use Rattle.checked_program.specs.declared.section.Mode.{Mode, TheVariants.{OnThis, OnClass}}
+use Rattle.machine_types.specs.{Effects.{at_local, unless_null, unless_zero, variable_of, gets, gets_static, calls_on, calls_instance, calls_static, named, effect}, Ints.{low, divided, remaining}}
+use Rattle.machine_types.specs.{Standing.tags_of, Words.class_object, declared.effect.Effect.Effect}
 use Rattle.machine_types.specs.declared.effect.Effect.TheVariants.{Goes, Throws, Reads, Writes, Indexes, Measures, Makes, Prints, Calls, Returns, Enters, Leaves, Waits, Notifies, NotifiesAll, Stuck}
+use Rattle.machine_types.specs.declared.effect.Variable.TheVariants.{Instance, Static}
 use Rattle.laws_threads.specs.InsideEffects.{IsStayingStatic, MayRead}
+use Rattle.jvm_types.specs.declared.code.Op.TheVariants as ops
+use Rattle.jvm_types.specs.declared.outcome.Thrown.TheVariants as thrown
+use Rattle.jvm_types.specs.declared.program.Target.TheVariants as targets
 
 -- a call of an instance method finds its receiver below the arguments
 abbrev pub HasReceiver : Program → Op → (number : ℕ) → List ℕ → Type 0

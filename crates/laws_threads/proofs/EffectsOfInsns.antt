@@ -1,36 +1,20 @@
 -- Which instructions have an effect: where it goes on in its frame, what it takes from the stack, and whether it can throw.
-use Rattle.std.proofs.Common.{◌≡◌, ℕ, ℤ, zero, suc, Bool, true, false, cond, not, List, [], ◌∷◌, ◌++◌, map, length, Option, Some, None, refl, sym, ◌∙◌, subst, arith, append-nil}
-use Rattle.std.specs.Prelude.{pos, ◌==◌, ◌||◌, nat_lt, int_lt, slice_get, slice_index, unsigned_abs, ◌-ℤ◌}
-use Rattle.std.specs.Option.{unwrap_or}
-use Rattle.std.proofs.lemmas.Bool.Decides.{nat_tests}
+use Rattle.std.proofs.Common.{◌≡◌, ℕ, ℤ, zero, suc, Bool, true, false, cond, not, List, [], ◌∷◌, ◌++◌, map, length, Option, Some, None, refl, sym, ◌∙◌, subst, arith, append-nil, pos, ◌==◌, ◌||◌, nat_lt, int_lt, slice_get, slice_index, unsigned_abs, ◌-ℤ◌}
+use Rattle.std.{specs.Option.unwrap_or, proofs.lemmas.Bool.Decides.nat_tests}
 use Rattle.lists.proofs.TestLaws.{first_true, second_true}
-use Rattle.jvm_types.specs.CodeTable.{row, can_throw}
-use Rattle.jvm_types.specs.Members.{is_static}
-use Rattle.jvm_types.specs.Numbers.{has_number}
-use Rattle.jvm_types.specs.ProgramInvariant.{site_in}
-use Rattle.jvm_types.specs.Verifying.{edges, is_return}
-use Rattle.jvm_types.specs.declared.class_numbers.TheConstants.{INT_ARRAY_CLASS}
-use Rattle.jvm_types.specs.declared.code.Case.{Case}
-use Rattle.jvm_types.specs.declared.code.Insn.{Insn}
-use Rattle.jvm_types.specs.declared.code.Op.{Op}
-use Rattle.jvm_types.specs.declared.code.Op.TheVariants as ops
-use Rattle.jvm_types.specs.declared.op_row.Given.TheVariants.{Fresh}
-use Rattle.jvm_types.specs.declared.outcome.Thrown.TheVariants as thrown
-use Rattle.jvm_types.specs.declared.program.FieldInfo.{FieldInfo}
-use Rattle.jvm_types.specs.declared.program.MethodInfo.{MethodInfo}
-use Rattle.jvm_types.specs.declared.program.Program.{Program}
-use Rattle.jvm_types.specs.declared.program.Target.{Target}
-use Rattle.jvm_types.specs.declared.program.Target.TheVariants as targets
-use Rattle.jvm_types.specs.declared.typing.VType.{VType}
-use Rattle.jvm_types.specs.declared.typing.VType.TheVariants as types
+use Rattle.jvm_types.specs.{CodeTable.{row, can_throw}, Members.is_static, Numbers.has_number, ProgramInvariant.site_in, Verifying.{edges, is_return}}
+use Rattle.jvm_types.specs.declared.{class_numbers.TheConstants.INT_ARRAY_CLASS, code.{Case.Case, Insn.Insn, Op.Op}, op_row.Given.TheVariants.Fresh, program.FieldInfo.FieldInfo}
+use Rattle.jvm_types.specs.declared.{program.{MethodInfo.MethodInfo, Program.Program, Target.Target}, typing.VType.VType}
 use Rattle.laws_programs.specs.TargetLaws.{HasRow}
 use Rattle.checked_program.specs.Marks.{called_method}
 use Rattle.machine_types.specs.Effects.{effect, named, kept, unless_null, unless_zero, at_local, table_target, case_target, gets_static, puts_static, gets, puts, calls_instance, calls_static, calls_on, makes_array, variable_of}
-use Rattle.machine_types.specs.declared.effect.Effect.{Effect}
+use Rattle.machine_types.specs.{Ints.{low, word_of, int_of, added, divided, remaining, compares}, Words.{header, array_size}, declared.effect.Effect.Effect}
 use Rattle.machine_types.specs.declared.effect.Effect.TheVariants.{Goes, Throws, Reads, Writes, Indexes, Measures, Raises, Makes, Prints, Calls, Returns, Enters, Leaves, Waits, Notifies, NotifiesAll, Stuck}
-use Rattle.machine_types.specs.Ints.{low, word_of, int_of, added, divided, remaining, compares}
-use Rattle.machine_types.specs.Words.{header, array_size}
 use Rattle.laws_threads.specs.MoveLaws.{is_lock_op}
+use Rattle.jvm_types.specs.declared.code.Op.TheVariants as ops
+use Rattle.jvm_types.specs.declared.outcome.Thrown.TheVariants as thrown
+use Rattle.jvm_types.specs.declared.program.Target.TheVariants as targets
+use Rattle.jvm_types.specs.declared.typing.VType.TheVariants as types
 
 -- ---- what an effect says of its instruction
 

@@ -1,20 +1,11 @@
 -- An instruction that reads or writes an element is an `iaload` or an `iastore`.
-use Rattle.std.proofs.Common.{◌≡◌, ℕ, Bool, true, false, cond, List, ◌∷◌, length, Option, Some, None, refl, subst}
-use Rattle.std.specs.Prelude.{◌==◌, nat_lt, int_lt, pos, slice_get}
-use Rattle.jvm_types.specs.declared.class_numbers.TheConstants.{INT_ARRAY_CLASS}
-use Rattle.jvm_types.specs.declared.code.Op.{Op}
+use Rattle.std.proofs.Common.{◌≡◌, ℕ, Bool, true, false, cond, List, ◌∷◌, length, Option, Some, None, refl, subst, ◌==◌, nat_lt, int_lt, pos, slice_get}
+use Rattle.jvm_types.specs.declared.{class_numbers.TheConstants.INT_ARRAY_CLASS, code.Op.Op, program.{FieldInfo.FieldInfo, MethodInfo.MethodInfo, Program.Program, Target.Target}}
+use Rattle.machine_types.specs.Effects.{effect, named, unless_null, unless_zero, at_local, gets_static, puts_static, gets, puts, calls_instance, calls_static, calls_on, makes_array}
+use Rattle.machine_types.specs.{Ints.{low, int_of}, Structure.is_element_op, Words.{header, array_size}, declared.effect.Effect.Effect}
 use Rattle.jvm_types.specs.declared.code.Op.TheVariants as ops
 use Rattle.jvm_types.specs.declared.outcome.Thrown.TheVariants as thrown
-use Rattle.jvm_types.specs.declared.program.FieldInfo.{FieldInfo}
-use Rattle.jvm_types.specs.declared.program.MethodInfo.{MethodInfo}
-use Rattle.jvm_types.specs.declared.program.Program.{Program}
-use Rattle.jvm_types.specs.declared.program.Target.{Target}
 use Rattle.jvm_types.specs.declared.program.Target.TheVariants as targets
-use Rattle.machine_types.specs.Effects.{effect, named, unless_null, unless_zero, at_local, gets_static, puts_static, gets, puts, calls_instance, calls_static, calls_on, makes_array}
-use Rattle.machine_types.specs.Ints.{low, int_of}
-use Rattle.machine_types.specs.Structure.{is_element_op}
-use Rattle.machine_types.specs.Words.{header, array_size}
-use Rattle.machine_types.specs.declared.effect.Effect.{Effect}
 use Rattle.machine_types.specs.declared.effect.Effect.TheVariants as effects
 
 abbrev IsElementFor : Op → Effect → Type 0

@@ -1,28 +1,15 @@
 -- The frames of an attempt's entry stay as frames come and go above them.
-use Rattle.std.proofs.Common.{◌≡◌, ℕ, ◌<◌, Bool, true, false, List, [], ◌∷◌, ◌++◌, length, Option, Some, None, refl, sym, ap, ◌∙◌, subst, arith}
-use Rattle.std.specs.Prelude.{slice_get, option_map, if◌then◌else◌}
+use Rattle.std.proofs.Common.{◌≡◌, ℕ, ◌<◌, Bool, true, false, List, [], ◌∷◌, ◌++◌, length, Option, Some, None, refl, sym, ap, ◌∙◌, subst, arith, slice_get, option_map, if◌then◌else◌}
 use Rattle.lists.proofs.ListLaws.{same_some}
-use Rattle.jvm_types.specs.Members.{is_synchronized}
-use Rattle.jvm_types.specs.declared.code.Insn.{Insn}
-use Rattle.jvm_types.specs.declared.outcome.Thrown.{Thrown}
-use Rattle.jvm_types.specs.declared.outcome.Thrown.TheVariants.{StackOverflowError}
-use Rattle.jvm_types.specs.declared.program.MethodInfo.{MethodInfo}
-use Rattle.jvm_types.specs.declared.program.Program.{Program}
-use Rattle.jvm_types.specs.declared.program.Row.{Row}
+use Rattle.jvm_types.specs.{Members.is_synchronized, declared.{code.Insn.Insn, outcome.Thrown.{Thrown, TheVariants.StackOverflowError}, program.{MethodInfo.MethodInfo, Program.Program, Row.Row}}}
 use Rattle.jvm_types.specs.declared.program.Target.{Target}
 use Rattle.machine_types.specs.Elision.{put_back}
 use Rattle.machine_types.specs.Frames.{Top, at_pc, top_at, top_in, top_of, frames_of, went, went_on, waiting, taken_from, has_room, entry_frame, arguments_of, monitor_of, given_back, given, returned, handler_at}
-use Rattle.machine_types.specs.Onward.{Onward, Running, Throwing, Entering, Leaving, threw, entered, called, back, returns, unwound, handed, done}
-use Rattle.machine_types.specs.ReadyObjects.{class_of, thrown_of}
-use Rattle.machine_types.specs.Threads.{Frame, Attempt}
-use Rattle.machine_types.specs.Words.{header_class, header_length}
-use Rattle.machine_types.specs.declared.effect.Effect.{Effect}
+use Rattle.machine_types.specs.{Onward.{Onward, Running, Throwing, Entering, Leaving, threw, entered, called, back, returns, unwound, handed, done}, ReadyObjects.{class_of, thrown_of}}
+use Rattle.machine_types.specs.{Threads.{Frame, Attempt}, Words.{header_class, header_length}, declared.effect.Effect.Effect}
 use Rattle.machine_types.specs.declared.effect.Effect.TheVariants.{Goes, Throws, Reads, Writes, Indexes, Measures, Raises, Makes, Prints, Calls, Returns, Enters, Leaves, Waits, Notifies, NotifiesAll, Stuck}
+use Rattle.laws_threads.{specs.EntryFrames.{frames_in, KeepsEntry, StepsKeepEntry, ThrowsKeepEntry, LeavesKeepEntry}, proofs.{AttemptMoves.put_back_top, FramesInside.put_back_over, Inside.base_below}}
 use Rattle.machine_types.specs.declared.phase.After.TheVariants as afters
-use Rattle.laws_threads.specs.EntryFrames.{frames_in, KeepsEntry, StepsKeepEntry, ThrowsKeepEntry, LeavesKeepEntry}
-use Rattle.laws_threads.proofs.FramesInside.{put_back_over}
-use Rattle.laws_threads.proofs.Inside.{base_below}
-use Rattle.laws_threads.proofs.AttemptMoves.{put_back_top}
 
 -- ---- the top frame
 

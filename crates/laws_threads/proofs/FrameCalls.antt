@@ -1,37 +1,17 @@
 -- A call: the caller waits, and the called method begins.
-use Rattle.std.proofs.Common.{◌≡◌, ℕ, zero, suc, ◌-◌, ◌≤◌, Bool, true, false, cond, List, [], ◌∷◌, ◌++◌, drop, take, reverse, length, replicate, Some, inl, refl, sym, ap, ◌∙◌, subst, arith}
-use Rattle.std.specs.Prelude.{slice_get}
+use Rattle.std.proofs.Common.{◌≡◌, ℕ, zero, suc, ◌-◌, ◌≤◌, Bool, true, false, cond, List, [], ◌∷◌, ◌++◌, drop, take, reverse, length, replicate, Some, inl, refl, sym, ap, ◌∙◌, subst, arith, slice_get}
 use Rattle.std.proofs.lemmas.List.{length-append, length-replicate}
-use Rattle.jvm_types.specs.CodeTable.{arguments}
-use Rattle.jvm_types.specs.Members.{MethodSite, is_static, is_synchronized}
-use Rattle.jvm_types.specs.ProgramInvariant.{site_in}
-use Rattle.jvm_types.specs.declared.code.Op.{Op}
-use Rattle.jvm_types.specs.declared.code.Op.TheVariants as ops
-use Rattle.jvm_types.specs.declared.op_row.OpRow.{OpRow}
-use Rattle.jvm_types.specs.declared.op_row.Want.{Want}
-use Rattle.jvm_types.specs.declared.program.MethodInfo.{MethodInfo}
-use Rattle.jvm_types.specs.declared.program.Program.{Program}
-use Rattle.jvm_types.specs.declared.program.Target.{Target}
-use Rattle.jvm_types.specs.declared.program.Target.TheVariants as targets
-use Rattle.lists.proofs.ListLaws.{same_some}
-use Rattle.lists.proofs.StackLaws.{reverse_cons}
+use Rattle.lists.proofs.{ListLaws.same_some, StackLaws.reverse_cons}
+use Rattle.jvm_types.specs.{CodeTable.arguments, Members.{MethodSite, is_static, is_synchronized}, ProgramInvariant.site_in, declared.{code.Op.Op, op_row.{OpRow.OpRow, Want.Want}}}
+use Rattle.jvm_types.specs.declared.program.{MethodInfo.MethodInfo, Program.Program, Target.Target}
 use Rattle.laws_programs.specs.TargetLaws.{HasRow}
-use Rattle.checked_program.specs.LockTags.{entry_tags}
-use Rattle.checked_program.specs.MarkedProgram.{MarkedProgram, IsMarked}
-use Rattle.checked_program.specs.Marks.{called_method}
-use Rattle.checked_program.specs.declared.tag.Tag.TheVariants.{Untagged, This}
-use Rattle.machine_types.specs.Frames.{Top, effect_at, waiting, entry_frame, arguments_of, first_or_null, monitor_of}
-use Rattle.machine_types.specs.Onward.{root_arguments}
-use Rattle.machine_types.specs.Shown.{HaveValues, Shows, ShowsAtCall, ShowBelow, Show, own_entry}
-use Rattle.machine_types.specs.Standing.{Standing, Whole, row_at}
-use Rattle.machine_types.specs.Threads.{Frame}
-use Rattle.machine_types.specs.declared.effect.Effect.TheVariants.{Calls}
-use Rattle.laws_threads.specs.CallLaws.{callee_frame, CalledStand, CallsShow, CallsEnter, RootsShow}
-use Rattle.laws_threads.proofs.EffectsOfInsns.{Fits, HasTop, IsCalling}
-use Rattle.laws_threads.proofs.FramePlaces.{Lands, lands, top_by}
-use Rattle.laws_threads.proofs.MarkedMethods.{MethodAt, method_at}
-use Rattle.laws_threads.proofs.ShownFrames.{by_top, fits_at, holds_at, whole_landed}
-use Rattle.laws_threads.proofs.TagValues.{dropped}
+use Rattle.checked_program.specs.{LockTags.entry_tags, MarkedProgram.{MarkedProgram, IsMarked}, Marks.called_method, declared.tag.Tag.TheVariants.{Untagged, This}}
+use Rattle.machine_types.specs.{Frames.{Top, effect_at, waiting, entry_frame, arguments_of, first_or_null, monitor_of}, Onward.root_arguments}
+use Rattle.machine_types.specs.{Shown.{HaveValues, Shows, ShowsAtCall, ShowBelow, Show, own_entry}, Standing.{Standing, Whole, row_at}, Threads.Frame, declared.effect.Effect.TheVariants.Calls}
+use Rattle.laws_threads.{specs.CallLaws.{callee_frame, CalledStand, CallsShow, CallsEnter, RootsShow}, proofs.{EffectsOfInsns.{Fits, HasTop, IsCalling}, FramePlaces.{Lands, lands, top_by}}}
+use Rattle.laws_threads.proofs.{MarkedMethods.{MethodAt, method_at}, ShownFrames.{by_top, fits_at, holds_at, whole_landed}, TagValues.dropped}
+use Rattle.jvm_types.specs.declared.code.Op.TheVariants as ops
+use Rattle.jvm_types.specs.declared.program.Target.TheVariants as targets
 
 -- ---- the locals that a method begins with
 

@@ -1,33 +1,14 @@
 -- Moves of the top frame within its method.
-use Rattle.std.proofs.Common.{◌≡◌, ℕ, Bool, true, false, ◌||◌, List, [], ◌∷◌, ◌++◌, map, drop, length, Option, None, refl, sym, ap, ◌∙◌, subst, arith}
-use Rattle.std.specs.Prelude.{◌==◌}
-use Rattle.std.specs.List.{AllByRecursion}
+use Rattle.std.{proofs.Common.{◌≡◌, ℕ, Bool, true, false, ◌||◌, List, [], ◌∷◌, ◌++◌, map, drop, length, Option, None, refl, sym, ap, ◌∙◌, subst, arith, ◌==◌}, specs.List.AllByRecursion}
 use Rattle.std.proofs.lemmas.Bool.Decides.{nat_tests}
-use Rattle.jvm_types.specs.CodeTable.{row, value_of, stack_after, locals_after, any_values}
-use Rattle.jvm_types.specs.Numbers.{has_number}
-use Rattle.jvm_types.specs.Verifying.{edges}
-use Rattle.jvm_types.specs.declared.code.Op.{Op}
-use Rattle.jvm_types.specs.declared.code.Op.TheVariants as ops
-use Rattle.jvm_types.specs.declared.op_row.Given.{Given}
-use Rattle.jvm_types.specs.declared.op_row.Given.TheVariants.{Taken}
+use Rattle.jvm_types.specs.{CodeTable.{row, value_of, stack_after, locals_after, any_values}, Numbers.has_number, Verifying.edges, declared.{code.Op.Op, op_row.Given.{Given, TheVariants.Taken}}}
 use Rattle.jvm_types.specs.declared.op_row.OpRow.{OpRow}
-use Rattle.checked_program.specs.LockTags.{TagShape, without, IsShapeBelow}
-use Rattle.checked_program.specs.MarkedProgram.{MarkedProgram, IsMarked}
-use Rattle.checked_program.specs.TaggedCode.{row_of}
-use Rattle.checked_program.specs.Tagging.{moved_tags, tags_by_op, tags_after}
-use Rattle.checked_program.specs.Visits.{EdgeFits}
-use Rattle.checked_program.specs.declared.tag.Tag.{Tag}
-use Rattle.checked_program.specs.declared.tag.Tag.TheVariants.{Untagged, This, At}
-use Rattle.machine_types.specs.Frames.{frame_on}
-use Rattle.machine_types.specs.Shown.{tag_value, HaveValues, own_entry, Shows}
-use Rattle.machine_types.specs.Standing.{Standing, Whole, Lacking}
-use Rattle.machine_types.specs.Threads.{Frame}
-use Rattle.laws_threads.specs.MoveLaws.{is_lock_op}
-use Rattle.laws_threads.proofs.EffectsOfInsns.{is_dup, IsMaking}
-use Rattle.laws_threads.proofs.FramePlaces.{of_standing, sound_at}
-use Rattle.laws_threads.proofs.MarkedMethods.{free_at}
-use Rattle.laws_threads.proofs.ShownFrames.{landed, whole_landed, shows_landed}
-use Rattle.laws_threads.proofs.TagValues.{weaker, dropped, row_stack, row_locals, chosen, rechosen, values_kept, chosen_there}
+use Rattle.checked_program.specs.{LockTags.{TagShape, without, IsShapeBelow}, MarkedProgram.{MarkedProgram, IsMarked}, TaggedCode.row_of, Tagging.{moved_tags, tags_by_op, tags_after}, Visits.EdgeFits}
+use Rattle.checked_program.specs.declared.tag.Tag.{Tag, TheVariants.{Untagged, This, At}}
+use Rattle.machine_types.specs.{Frames.frame_on, Shown.{tag_value, HaveValues, own_entry, Shows}, Standing.{Standing, Whole, Lacking}, Threads.Frame}
+use Rattle.laws_threads.{specs.MoveLaws.is_lock_op, proofs.{EffectsOfInsns.{is_dup, IsMaking}, FramePlaces.{of_standing, sound_at}, MarkedMethods.free_at}}
+use Rattle.laws_threads.proofs.{ShownFrames.{landed, whole_landed, shows_landed}, TagValues.{weaker, dropped, row_stack, row_locals, chosen, rechosen, values_kept, chosen_there}}
+use Rattle.jvm_types.specs.declared.code.Op.TheVariants as ops
 
 -- ---- edges
 

@@ -1,27 +1,13 @@
 -- Where frames stand: the instruction of a pc is one, and an edge leads to one.
-use Rattle.std.proofs.Common.{◌≡◌, ℕ, zero, suc, true, false, cond, List, [], ◌∷◌, Option, Some, None, refl, sym, ap, ◌∙◌, subst, arith}
-use Rattle.std.specs.Prelude.{◌==◌, slice_get, IsSomeAnd}
-use Rattle.std.proofs.lemmas.Bool.{or_parts}
+use Rattle.std.proofs.{Common.{◌≡◌, ℕ, zero, suc, true, false, cond, List, [], ◌∷◌, Option, Some, None, refl, sym, ap, ◌∙◌, subst, arith, ◌==◌, slice_get, IsSomeAnd}, lemmas.Bool.or_parts}
 use Rattle.std.proofs.lemmas.Bool.Decides.{nat_tests}
-use Rattle.jvm_types.specs.CodeGrammar.{is_start}
-use Rattle.jvm_types.specs.Verifying.{IsLaidOut}
-use Rattle.jvm_types.specs.declared.code.Insn.{Insn}
-use Rattle.jvm_types.specs.declared.program.MethodInfo.{MethodInfo}
 use Rattle.lists.proofs.ListLaws.{same_some}
-use Rattle.laws_programs.proofs.CodeOrder.{one_number, have_targets}
-use Rattle.laws_programs.proofs.LeastFrames.{AreDistinct, distinct}
-use Rattle.checked_program.specs.LockTags.{TagShape, IsShapeBelow}
-use Rattle.checked_program.specs.MarkedProgram.{MarkedProgram, IsMarked}
-use Rattle.checked_program.specs.TaggedCode.{row_of}
-use Rattle.checked_program.specs.Tagging.{IsTagSound}
-use Rattle.checked_program.specs.Visits.{frame_at_pc, EdgeFits}
+use Rattle.jvm_types.specs.{CodeGrammar.is_start, Verifying.IsLaidOut, declared.{code.Insn.Insn, program.MethodInfo.MethodInfo}}
+use Rattle.laws_programs.proofs.{CodeOrder.{one_number, have_targets}, EdgeTargets.not_first, LeastFrames.{AreDistinct, distinct}}
+use Rattle.checked_program.specs.{LockTags.{TagShape, IsShapeBelow}, MarkedProgram.{MarkedProgram, IsMarked}, TaggedCode.row_of, Tagging.IsTagSound, Visits.{frame_at_pc, EdgeFits}}
 use Rattle.laws_sections.proofs.TagReach.{tagged_typed}
-use Rattle.machine_types.specs.Frames.{Top, at_pc, top_at, top_in, top_of}
-use Rattle.machine_types.specs.Standing.{Standing, tags_of}
-use Rattle.machine_types.specs.Threads.{Frame}
-use Rattle.laws_threads.specs.StandingLaws.{IsSame, OneStanding, IsTop, TopsStand, FramesHaveTops}
-use Rattle.laws_threads.proofs.MarkedMethods.{IsMethod, MethodAt, method_at, method_with, found_at}
-use Rattle.laws_programs.proofs.EdgeTargets.{not_first}
+use Rattle.machine_types.specs.{Frames.{Top, at_pc, top_at, top_in, top_of}, Standing.{Standing, tags_of}, Threads.Frame}
+use Rattle.laws_threads.{specs.StandingLaws.{IsSame, OneStanding, IsTop, TopsStand, FramesHaveTops}, proofs.MarkedMethods.{IsMethod, MethodAt, method_at, method_with, found_at}}
 
 -- ---- the item at a pc
 

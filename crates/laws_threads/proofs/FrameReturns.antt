@@ -1,50 +1,21 @@
 -- The end of a frame: by a return, or by an exception that it does not catch.
-use Rattle.std.proofs.Common.{◌≡◌, ℕ, suc, Bool, true, false, cond, List, [], ◌∷◌, ◌++◌, map, drop, length, Option, Some, None, refl, sym, ap, ◌∙◌, subst, arith}
-use Rattle.std.specs.Prelude.{slice_get}
-use Rattle.std.specs.List.{AllZip}
+use Rattle.std.{proofs.Common.{◌≡◌, ℕ, suc, Bool, true, false, cond, List, [], ◌∷◌, ◌++◌, map, drop, length, Option, Some, None, refl, sym, ap, ◌∙◌, subst, arith, slice_get}, specs.List.AllZip}
 use Rattle.std.specs.Option.{option_map, option_to_list}
-use Rattle.lists.proofs.ListLaws.{same_some}
-use Rattle.lists.proofs.TestLaws.{first_true}
-use Rattle.jvm_types.specs.CodeTable.{row, result_of, type_of, value_of, locals_after, can_throw, virtual_row, special_row, static_row}
-use Rattle.jvm_types.specs.Members.{is_synchronized}
-use Rattle.jvm_types.specs.Numbers.{has_number}
-use Rattle.jvm_types.specs.Types.{TypeFrame}
-use Rattle.jvm_types.specs.Verifying.{edges, is_return}
-use Rattle.jvm_types.specs.declared.code.Insn.{Insn}
-use Rattle.jvm_types.specs.declared.code.Op.{Op}
-use Rattle.jvm_types.specs.declared.code.Op.TheVariants as ops
-use Rattle.jvm_types.specs.declared.op_row.Given.{Given}
-use Rattle.jvm_types.specs.declared.op_row.Given.TheVariants.{Fresh, Taken, Local}
-use Rattle.jvm_types.specs.declared.op_row.OpRow.{OpRow}
-use Rattle.jvm_types.specs.declared.program.Kind.{Kind}
-use Rattle.jvm_types.specs.declared.program.MethodInfo.{MethodInfo}
-use Rattle.jvm_types.specs.declared.program.Program.{Program}
-use Rattle.jvm_types.specs.declared.program.Target.{Target}
-use Rattle.jvm_types.specs.declared.program.Target.TheVariants as targets
-use Rattle.jvm_types.specs.declared.typing.VType.{VType}
-use Rattle.laws_programs.specs.RuleLaws.{ReturnsWell}
-use Rattle.laws_programs.proofs.RuleUses.{returns_suit_all}
-use Rattle.checked_program.specs.LockTags.{TagShape, IsShapeBelow}
-use Rattle.checked_program.specs.MarkedProgram.{MarkedProgram, IsMarked}
-use Rattle.checked_program.specs.Marks.{called_method}
-use Rattle.checked_program.specs.Tagging.{moved_tags, leaves_held, may_leave}
-use Rattle.checked_program.specs.Visits.{EdgeFits}
-use Rattle.checked_program.specs.declared.tag.Tag.{Tag}
-use Rattle.checked_program.specs.declared.tag.Tag.TheVariants.{Untagged}
-use Rattle.machine_types.specs.Frames.{Top, effect_at, given, given_back, returned, monitor_of}
-use Rattle.machine_types.specs.Shown.{tag_value, HaveValues, Shows, ShowsAtCall, ShowBelow, Show, own_entry}
-use Rattle.machine_types.specs.Standing.{Standing, Operands, Whole, row_at}
-use Rattle.machine_types.specs.Structure.{IsLeaving, TopLeaves}
-use Rattle.machine_types.specs.Threads.{Frame}
-use Rattle.machine_types.specs.Typed.{Classes, Holds, FrameHolds}
+use Rattle.lists.proofs.{ListLaws.same_some, TestLaws.first_true}
+use Rattle.jvm_types.specs.{CodeTable.{row, result_of, type_of, value_of, locals_after, can_throw, virtual_row, special_row, static_row}, Members.is_synchronized, Numbers.has_number, Types.TypeFrame}
+use Rattle.jvm_types.specs.{Verifying.{edges, is_return}, declared.{code.{Insn.Insn, Op.Op}, op_row.{Given.{Given, TheVariants.{Fresh, Taken, Local}}, OpRow.OpRow}, program.Kind.Kind}}
+use Rattle.jvm_types.specs.declared.{program.{MethodInfo.MethodInfo, Program.Program, Target.Target}, typing.VType.VType}
+use Rattle.laws_programs.{specs.RuleLaws.ReturnsWell, proofs.RuleUses.returns_suit_all}
+use Rattle.checked_program.specs.{LockTags.{TagShape, IsShapeBelow}, MarkedProgram.{MarkedProgram, IsMarked}, Marks.called_method, Tagging.{moved_tags, leaves_held, may_leave}, Visits.EdgeFits}
+use Rattle.checked_program.specs.declared.tag.Tag.{Tag, TheVariants.Untagged}
+use Rattle.machine_types.specs.{Frames.{Top, effect_at, given, given_back, returned, monitor_of}, Shown.{tag_value, HaveValues, Shows, ShowsAtCall, ShowBelow, Show, own_entry}}
+use Rattle.machine_types.specs.{Standing.{Standing, Operands, Whole, row_at}, Structure.{IsLeaving, TopLeaves}, Threads.Frame, Typed.{Classes, Holds, FrameHolds}}
 use Rattle.machine_types.specs.declared.effect.Effect.TheVariants.{Returns}
-use Rattle.laws_threads.specs.CallLaws.{IsLeft, HasHeight, ReturnsShow, ReturnsBehindRelease}
-use Rattle.laws_threads.specs.MoveLaws.{is_lock_op}
+use Rattle.laws_threads.{specs.{CallLaws.{IsLeft, HasHeight, ReturnsShow, ReturnsBehindRelease}, MoveLaws.is_lock_op}, proofs.EffectsOfInsns.{HasTop, HasReturned, is_dup, next_edge}}
+use Rattle.laws_threads.proofs.{FrameMoves.{plain_after, edge_fits}, FramePlaces.{one_standing, sound_at, top_by, has_top}, ShownFrames.{by_top, fits_at, holds_at, landed, whole_landed}}
+use Rattle.jvm_types.specs.declared.code.Op.TheVariants as ops
+use Rattle.jvm_types.specs.declared.program.Target.TheVariants as targets
 use Rattle.laws_threads.proofs.EffectsOfInsns as effects
-use Rattle.laws_threads.proofs.EffectsOfInsns.{HasTop, HasReturned, is_dup, next_edge}
-use Rattle.laws_threads.proofs.FrameMoves.{plain_after, edge_fits}
-use Rattle.laws_threads.proofs.FramePlaces.{one_standing, sound_at, top_by, has_top}
-use Rattle.laws_threads.proofs.ShownFrames.{by_top, fits_at, holds_at, landed, whole_landed}
 
 -- ---- the row of a call
 

@@ -1,32 +1,13 @@
 -- Exceptions: to a handler, or out of a frame.
-use Rattle.std.proofs.Common.{◌≡◌, ℕ, Bool, true, false, cond, not, ◌&&◌, ◌||◌, List, [], ◌∷◌, ◌++◌, Some, None, refl, sym, ap, ◌∙◌, subst}
-use Rattle.std.specs.Prelude.{◌==◌}
-use Rattle.std.specs.List.{AllByRecursion, list_any, filter}
-use Rattle.jvm_types.specs.ClassTree.{is_subclass}
-use Rattle.jvm_types.specs.CodeTable.{can_throw}
-use Rattle.jvm_types.specs.Verifying.{is_return, covers, covering}
-use Rattle.jvm_types.specs.declared.code.Insn.{Insn}
-use Rattle.jvm_types.specs.declared.program.MethodInfo.{MethodInfo}
-use Rattle.jvm_types.specs.declared.program.Program.{Program}
-use Rattle.jvm_types.specs.declared.program.Row.{Row}
+use Rattle.std.{proofs.Common.{◌≡◌, ℕ, Bool, true, false, cond, not, ◌&&◌, ◌||◌, List, [], ◌∷◌, ◌++◌, Some, None, refl, sym, ap, ◌∙◌, subst, ◌==◌}, specs.List.{AllByRecursion, list_any, filter}}
+use Rattle.jvm_types.specs.{ClassTree.is_subclass, CodeTable.can_throw, Verifying.{is_return, covers, covering}, declared.{code.Insn.Insn, program.{MethodInfo.MethodInfo, Program.Program, Row.Row}}}
 use Rattle.jvm_types.specs.declared.program.Target.{Target}
-use Rattle.checked_program.specs.LockTags.{IsShapeBelow}
-use Rattle.checked_program.specs.MarkedProgram.{MarkedProgram, IsMarked}
-use Rattle.checked_program.specs.Tagging.{catches_all, until_all, tags_at_handler}
-use Rattle.checked_program.specs.Visits.{EdgeFits}
-use Rattle.machine_types.specs.Frames.{Top, effect_at, frames_of, handler_of, handler_at, caught}
-use Rattle.machine_types.specs.Shown.{Shows, ShowsAtCall, ShowBelow, Show}
-use Rattle.machine_types.specs.Standing.{Standing, Whole, Thrown}
-use Rattle.machine_types.specs.Structure.{TopIs, any_op}
-use Rattle.machine_types.specs.Threads.{Frame}
-use Rattle.machine_types.specs.declared.effect.Effect.{Effect}
-use Rattle.machine_types.specs.declared.effect.Effect.TheVariants.{Throws, Raises, Indexes, Makes, Calls, Waits, Notifies, NotifiesAll}
-use Rattle.laws_threads.specs.CallLaws.{IsLeft}
-use Rattle.laws_threads.specs.ThrowLaws.{may_throw, EffectsThrow, ThrowsShow, CaughtShows, ThrowsOn, UnwoundShows, UnwindsBehindRelease}
+use Rattle.checked_program.specs.{LockTags.IsShapeBelow, MarkedProgram.{MarkedProgram, IsMarked}, Tagging.{catches_all, until_all, tags_at_handler}, Visits.EdgeFits}
+use Rattle.machine_types.specs.{Frames.{Top, effect_at, frames_of, handler_of, handler_at, caught}, Shown.{Shows, ShowsAtCall, ShowBelow, Show}, Standing.{Standing, Whole, Thrown}}
+use Rattle.machine_types.specs.{Structure.{TopIs, any_op}, Threads.Frame, declared.effect.Effect.{Effect, TheVariants.{Throws, Raises, Indexes, Makes, Calls, Waits, Notifies, NotifiesAll}}}
+use Rattle.laws_threads.specs.{CallLaws.IsLeft, ThrowLaws.{may_throw, EffectsThrow, ThrowsShow, CaughtShows, ThrowsOn, UnwoundShows, UnwindsBehindRelease}}
+use Rattle.laws_threads.proofs.{FramePlaces.{one_standing, sound_at, top_by}, FrameReturns.{is_call, left, leaves_one}, ShownFrames.{by_top, fits_at, landed, whole_landed}}
 use Rattle.laws_threads.proofs.EffectsOfInsns as effects
-use Rattle.laws_threads.proofs.FramePlaces.{one_standing, sound_at, top_by}
-use Rattle.laws_threads.proofs.FrameReturns.{is_call, left, leaves_one}
-use Rattle.laws_threads.proofs.ShownFrames.{by_top, fits_at, landed, whole_landed}
 
 -- ---- effects
 

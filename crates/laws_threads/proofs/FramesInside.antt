@@ -1,8 +1,6 @@
 -- The frames inside an attempt, as the top ones come and go.
 use Rattle.std.proofs.Common.{◌≡◌, ℕ, zero, suc, ◌-◌, ◌<◌, ◌≤◌, List, [], ◌∷◌, length, take, drop, refl, ap, arith}
-use Rattle.machine_types.specs.Elision.{put_back}
-use Rattle.machine_types.specs.Structure.{frames_inside}
-use Rattle.machine_types.specs.Threads.{Frame, Attempt}
+use Rattle.machine_types.specs.{Elision.put_back, Structure.frames_inside, Threads.{Frame, Attempt}}
 
 pub one_more : (a : Attempt) (f : Frame) (below : List Frame) → a.base ≤ length below → frames_inside a (f ∷ below) ≡ f ∷ frames_inside a below
 one_more a f below l = ap (λ n. take n (f ∷ below)) (more l)

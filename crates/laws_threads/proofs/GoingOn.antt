@@ -1,23 +1,15 @@
 -- A thread goes on in frames that show what it holds.
 use Rattle.std.proofs.Common.{◌≡◌, ℕ, ◌+◌, List, [], ◌∷◌, Option, Some, None, refl, sym, ap, ◌∙◌, arith}
 use Rattle.jvm_types.specs.CodeTable.{can_throw}
+use Rattle.checked_program.specs.MarkedProgram.{MarkedProgram}
+use Rattle.machine_types.specs.{Going.{root_over, goes_on}, Onward.{Onward, Running, Throwing, Entering, Leaving, RootReturned, Uncaught}, Shown.Show, Standing.{Operands, Whole, Thrown}}
+use Rattle.machine_types.specs.Structure.{HasFrame, TopIs, TopEnters, AfterShows, AreHeldOnce, AttemptStandsIn, count_in, held_depth, tried_depth, entries_left, operands_after}
+use Rattle.machine_types.specs.{Threads.{Frame, Attempt, Thread}, declared.{lock.Held.Held, phase.{After.After, Phase.Phase}}}
+use Rattle.laws_threads.{specs.{InsideMoves.{GoesOnInside, OnwardStands, TopStands}, StructureLaws.StaysStructured}, proofs.Turns.running}
 use Rattle.jvm_types.specs.declared.outcome.End.TheVariants as ends
 use Rattle.jvm_types.specs.declared.outcome.Thrown as outcomes
-use Rattle.checked_program.specs.MarkedProgram.{MarkedProgram}
-use Rattle.machine_types.specs.Going.{root_over, goes_on}
-use Rattle.machine_types.specs.Onward.{Onward, Running, Throwing, Entering, Leaving, RootReturned, Uncaught}
-use Rattle.machine_types.specs.Shown.{Show}
-use Rattle.machine_types.specs.Standing.{Operands, Whole, Thrown}
-use Rattle.machine_types.specs.Structure.{HasFrame, TopIs, TopEnters, AfterShows, AreHeldOnce, AttemptStandsIn, count_in, held_depth, tried_depth, entries_left, operands_after}
-use Rattle.machine_types.specs.Threads.{Frame, Attempt, Thread}
-use Rattle.machine_types.specs.declared.lock.Held.{Held}
-use Rattle.machine_types.specs.declared.phase.After.{After}
 use Rattle.machine_types.specs.declared.phase.After.TheVariants as afters
-use Rattle.machine_types.specs.declared.phase.Phase.{Phase}
 use Rattle.machine_types.specs.declared.phase.Phase.TheVariants as phases
-use Rattle.laws_threads.specs.StructureLaws.{StaysStructured}
-use Rattle.laws_threads.specs.InsideMoves.{GoesOnInside, OnwardStands, TopStands}
-use Rattle.laws_threads.proofs.Turns.{running}
 
 -- ---- what the frames show, where a thread goes on from some entries that it has
 

@@ -1,28 +1,13 @@
 -- A thread holds no more monitors than its frames show entries, and each frame shows no more than its method and its held tags.
-use Rattle.std.proofs.Common.{◌≡◌, ℕ, zero, suc, ◌+◌, ◌*◌, ◌<◌, ◌≤◌, Bool, true, false, cond, List, [], ◌∷◌, map, length, Option, Some, None, refl, ap, ◌∙◌, subst, arith, length-append}
-use Rattle.std.specs.Prelude.{◌==◌, slice_get}
-use Rattle.std.proofs.Math.Nat.{le-max_left, le-max_right}
-use Rattle.std.proofs.lemmas.List.{length-map}
-use Rattle.std.proofs.lemmas.Bool.Decides.{nat_tests}
-use Rattle.jvm_types.specs.Members.{is_synchronized}
-use Rattle.jvm_types.specs.declared.program.MethodInfo.{MethodInfo}
-use Rattle.checked_program.specs.LockTags.{TagShape}
-use Rattle.checked_program.specs.MarkedProgram.{MarkedProgram}
-use Rattle.checked_program.specs.TaggedCode.{tagged_by}
-use Rattle.checked_program.specs.declared.tag.Tags.{Tags}
-use Rattle.jvm_types.specs.declared.limits.TheConstants.{MOST_FRAMES}
-use Rattle.machine_types.specs.HeldMonitors.{held_at, held_in_frame, most_in, most_held, places_of}
-use Rattle.machine_types.specs.Frames.{monitor_of}
-use Rattle.machine_types.specs.Shown.{Shows, ShowBelow, Show, own_entry, tag_value}
-use Rattle.machine_types.specs.Standing.{Operands, Whole}
-use Rattle.machine_types.specs.Structure.{AreHeldOnce, Stands, IsAs, count_in, held_depth, once_at}
-use Rattle.machine_types.specs.Threads.{Frame}
-use Rattle.machine_types.specs.declared.lock.Held.{Held}
+use Rattle.std.proofs.Common.{◌≡◌, ℕ, zero, suc, ◌+◌, ◌*◌, ◌<◌, ◌≤◌, Bool, true, false, cond, List, [], ◌∷◌, map, length, Option, Some, None, refl, ap, ◌∙◌, subst, arith, length-append, ◌==◌, slice_get}
+use Rattle.std.proofs.{Math.Nat.{le-max_left, le-max_right}, lemmas.{Bool.Decides.nat_tests, List.length-map}}
+use Rattle.jvm_types.specs.{Members.is_synchronized, declared.{limits.TheConstants.MOST_FRAMES, program.MethodInfo.MethodInfo}}
+use Rattle.checked_program.specs.{LockTags.TagShape, MarkedProgram.MarkedProgram, TaggedCode.tagged_by, declared.tag.Tags.Tags}
+use Rattle.machine_types.specs.{Frames.monitor_of, HeldMonitors.{held_at, held_in_frame, most_in, most_held, places_of}, Shown.{Shows, ShowBelow, Show, own_entry, tag_value}}
+use Rattle.machine_types.specs.{Standing.{Operands, Whole}, Structure.{AreHeldOnce, Stands, IsAs, count_in, held_depth, once_at}, Threads.Frame, declared.{lock.Held.Held, phase.Phase.Phase}}
+use Rattle.laws_threads.{specs.HeldLaws.{AddsHeld, HeldHasRoom}, proofs.HeldLists.{depth_by, depth_none}}
 use Rattle.machine_types.specs.declared.lock.Kept.TheVariants as keeps
-use Rattle.machine_types.specs.declared.phase.Phase.{Phase}
 use Rattle.machine_types.specs.declared.phase.Phase.TheVariants as phases
-use Rattle.laws_threads.specs.HeldLaws.{AddsHeld, HeldHasRoom}
-use Rattle.laws_threads.proofs.HeldLists.{depth_by, depth_none}
 
 -- ---- each monitor that is held is among the entries that are shown
 

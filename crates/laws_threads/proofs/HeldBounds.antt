@@ -1,14 +1,8 @@
 -- The bounds of what a thread holds, when a monitor is put on the held list or taken from it.
-use Rattle.std.proofs.Common.{◌≡◌, ℕ, ◌+◌, ◌≤◌, Bool, true, false, List, [], ◌∷◌, Some, refl, subst, arith}
-use Rattle.std.specs.Prelude.{◌==◌, IfSome, if◌then◌else◌}
-use Rattle.std.specs.List.{AllByRecursion}
-use Rattle.std.proofs.lemmas.Bool.Decides.{nat_tests}
-use Rattle.machine_types.specs.Bounds.{KeptFits, flat_held}
-use Rattle.machine_types.specs.HeldMonitors.{held_at, with_held, without_held}
-use Rattle.machine_types.specs.declared.lock.Held.{Held}
-use Rattle.machine_types.specs.declared.lock.Kept.{Kept}
-use Rattle.machine_types.specs.declared.lock.Kept.TheVariants as keeps
+use Rattle.std.{proofs.{Common.{◌≡◌, ℕ, ◌+◌, ◌≤◌, Bool, true, false, List, [], ◌∷◌, Some, refl, subst, arith, ◌==◌, IfSome, if◌then◌else◌}, lemmas.Bool.Decides.nat_tests}, specs.List.AllByRecursion}
+use Rattle.machine_types.specs.{Bounds.{KeptFits, flat_held}, HeldMonitors.{held_at, with_held, without_held}, declared.lock.{Held.Held, Kept.Kept}}
 use Rattle.laws_threads.proofs.HeldLists.{held_monitor}
+use Rattle.machine_types.specs.declared.lock.Kept.TheVariants as keeps
 
 -- ---- each monitor
 

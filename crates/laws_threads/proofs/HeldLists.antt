@@ -1,11 +1,7 @@
 -- What is held of a monitor when one was put on the held list, or taken from it.
-use Rattle.std.proofs.Common.{◌≡◌, ℕ, ◌+◌, ◌-◌, ◌<◌, Bool, true, false, cond, List, [], ◌∷◌, Option, Some, None, refl, sym, ap, ◌∙◌, subst, arith}
-use Rattle.std.specs.Prelude.{◌==◌, unwrap_or, option_map}
+use Rattle.std.{proofs.Common.{◌≡◌, ℕ, ◌+◌, ◌-◌, ◌<◌, Bool, true, false, cond, List, [], ◌∷◌, Option, Some, None, refl, sym, ap, ◌∙◌, subst, arith, ◌==◌, option_map}, specs.Prelude.unwrap_or}
 use Rattle.std.proofs.lemmas.Bool.Decides.{nat_tests}
-use Rattle.machine_types.specs.HeldMonitors.{held_at, with_held, without_held, shallower}
-use Rattle.machine_types.specs.Structure.{AreHeldOnce, held_depth, once_at}
-use Rattle.machine_types.specs.declared.lock.Held.{Held}
-use Rattle.machine_types.specs.declared.lock.Kept.{Kept}
+use Rattle.machine_types.specs.{HeldMonitors.{held_at, with_held, without_held, shallower}, Structure.{AreHeldOnce, held_depth, once_at}, declared.lock.{Held.Held, Kept.Kept}}
 
 -- ---- what stands there
 

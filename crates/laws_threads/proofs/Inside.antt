@@ -1,31 +1,15 @@
 -- A thread inside an attempt: its top frame, what that may do, and what stays as frames come and go.
 use Rattle.std.proofs.Common.{◌≡◌, ◌⊎◌, inr, ⊎_elim, ℕ, ◌<◌, ◌≤◌, true, List, [], ◌∷◌, length, None, refl, sym, ◌∙◌, subst, arith}
 use Rattle.lists.proofs.TestLaws.{first_true}
-use Rattle.jvm_types.specs.Members.{is_synchronized}
-use Rattle.jvm_types.specs.ProgramInvariant.{site_in}
-use Rattle.jvm_types.specs.Verifying.{is_return}
-use Rattle.checked_program.specs.LockTags.{TagShape}
-use Rattle.checked_program.specs.MarkedProgram.{MarkedProgram, IsMarked}
-use Rattle.checked_program.specs.SectionLaws.{HasThis}
-use Rattle.machine_types.specs.Elision.{put_back}
-use Rattle.machine_types.specs.Frames.{Top, effect_at, monitor_of, top_row}
-use Rattle.machine_types.specs.Shown.{Shows, Show}
-use Rattle.machine_types.specs.Standing.{Standing, Operands, Whole, tags_of}
-use Rattle.machine_types.specs.Structure.{IsPhaseInside, Stands, AttemptStands, Finishes, RunsSection, frames_inside}
-use Rattle.machine_types.specs.Threads.{Frame, Attempt}
-use Rattle.machine_types.specs.declared.effect.Effect.{Effect}
+use Rattle.jvm_types.specs.{Members.is_synchronized, ProgramInvariant.site_in, Verifying.is_return}
+use Rattle.checked_program.specs.{LockTags.TagShape, MarkedProgram.{MarkedProgram, IsMarked}, SectionLaws.HasThis}
+use Rattle.machine_types.specs.{Elision.put_back, Frames.{Top, effect_at, monitor_of, top_row}, Shown.{Shows, Show}, Standing.{Standing, Operands, Whole, tags_of}}
+use Rattle.machine_types.specs.{Structure.{IsPhaseInside, Stands, AttemptStands, Finishes, RunsSection, frames_inside}, Threads.{Frame, Attempt}, declared.effect.Effect.Effect}
 use Rattle.machine_types.specs.declared.effect.Effect.TheVariants.{Goes, Throws, Reads, Writes, Indexes, Measures, Raises, Makes, Prints, Calls, Returns, Enters, Leaves, Waits, Notifies, NotifiesAll, Stuck}
-use Rattle.machine_types.specs.declared.lock.Held.{Held}
-use Rattle.machine_types.specs.declared.phase.Phase.{Phase}
+use Rattle.machine_types.specs.declared.{lock.Held.Held, phase.Phase.Phase}
+use Rattle.laws_threads.{specs.InsideEffects.{MayDo, InsideMayDo}, proofs.{Base.{entry_of, of_monitor}, CallOps.called_on, EffectOps.{Does, does}, FrameReturns.leaves_none, FramesInside.one_more}}
+use Rattle.laws_threads.proofs.{SectionFrames.{have_this, Runs, runs_of, row_stands, on_object, on_class, reads, exits, locking_on}, Standings.{top_here, top_at_standing, one_tags}}
 use Rattle.machine_types.specs.declared.phase.Phase.TheVariants as phases
-use Rattle.laws_threads.specs.InsideEffects.{MayDo, InsideMayDo}
-use Rattle.laws_threads.proofs.Base.{entry_of, of_monitor}
-use Rattle.laws_threads.proofs.CallOps.{called_on}
-use Rattle.laws_threads.proofs.EffectOps.{Does, does}
-use Rattle.laws_threads.proofs.FrameReturns.{leaves_none}
-use Rattle.laws_threads.proofs.FramesInside.{one_more}
-use Rattle.laws_threads.proofs.SectionFrames.{have_this, Runs, runs_of, row_stands, on_object, on_class, reads, exits, locking_on}
-use Rattle.laws_threads.proofs.Standings.{top_here, top_at_standing, one_tags}
 
 -- ---- the top frame of an attempt
 

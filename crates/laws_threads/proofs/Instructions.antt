@@ -1,54 +1,26 @@
 -- A thread makes an instruction.
-use Rattle.std.proofs.Common.{◌≡◌, ℕ, ◌+◌, Bool, true, false, cond, List, [], ◌∷◌, ◌++◌, Option, Some, None, refl, sym, ap, ◌∙◌, subst, arith}
-use Rattle.std.specs.Prelude.{slice_get, option_map}
-use Rattle.jvm_types.specs.Members.{is_synchronized}
-use Rattle.jvm_types.specs.Verifying.{is_return}
-use Rattle.jvm_types.specs.declared.code.Insn.{Insn}
+use Rattle.std.proofs.Common.{◌≡◌, ℕ, ◌+◌, Bool, true, false, cond, List, [], ◌∷◌, ◌++◌, Option, Some, None, refl, sym, ap, ◌∙◌, subst, arith, slice_get, option_map}
+use Rattle.jvm_types.specs.{Members.is_synchronized, Verifying.is_return, declared.code.Insn.Insn}
+use Rattle.jvm_types.specs.declared.{outcome.Thrown.TheVariants.{StackOverflowError, IllegalMonitorStateException, OutOfMemoryError, ArrayIndexOutOfBoundsException}, program.MethodInfo.MethodInfo}
+use Rattle.checked_program.specs.MarkedProgram.{MarkedProgram, IsMarked}
+use Rattle.machine_types.specs.{Frames.{Top, top_of, frames_of, effect_at, went, went_on, waiting, making, has_room, monitor_of, returned}, Going.{with_phase, goes_on, goes_on_if}}
+use Rattle.machine_types.specs.{HeldMonitors.held_at, Instructions.{made, printed}, Ints.low, Onward.{Onward, Running, Throwing, Entering, Leaving, threw, called, entered, returns, back, done}}
+use Rattle.machine_types.specs.{ReadyObjects.thrown_of, Shown.{Show, own_entry}, Standing.Whole}
+use Rattle.machine_types.specs.{Structure.{TopIs, AreHeldOnce, IsFlat, IsFat, Stands, AttemptStandsIn, is_element_op, count_in, held_depth, tried_depth, once_at}, Threads.{Frame, Attempt, Thread}}
+use Rattle.machine_types.specs.{Words.{header_class, header_length, value_word}, declared.{effect.Effect.Effect, lock.{Held.Held, Kept.Kept}, phase.Phase.Phase}}
+use Rattle.laws_threads.specs.{CallLaws.{IsLeft, callee_frame}, InsideEffects.MayDo, InsideMoves.GoesAlong, MoveLaws.goes_to, StructureLaws.StaysStructured, ThrowLaws.may_throw}
+use Rattle.laws_threads.proofs.{ElementEffects.element_at, FrameCalls.{calls_law, call_enters_law}, FramePlaces.tops_stand_law, FrameReturns.returns_law, FrameThrows.{effects_throw_law, throws_law}}
+use Rattle.laws_threads.proofs.{GoingOn.{OnwardShows, AttemptGoesOn, none_goes_on, onward_stands, going}, Inside.inside_may, MonitorMoves.{enters_law, leaves_law}}
+use Rattle.laws_threads.proofs.{MoveProofs.{follow_law, effects_law, making_law}, Steps.steps_inside}
+use Rattle.laws_threads.proofs.{ThreadMove.{Asks, WaitsFrom, IsNotify, of_one, of_all, Refuses, past_end, no_memory, waits_unheld, notifies_unheld}, Turns.{running, no_attempt}}
 use Rattle.jvm_types.specs.declared.outcome.End.TheVariants as ends
 use Rattle.jvm_types.specs.declared.outcome.Thrown as outcomes
-use Rattle.jvm_types.specs.declared.outcome.Thrown.TheVariants.{StackOverflowError, IllegalMonitorStateException, OutOfMemoryError, ArrayIndexOutOfBoundsException}
-use Rattle.jvm_types.specs.declared.program.MethodInfo.{MethodInfo}
-use Rattle.checked_program.specs.MarkedProgram.{MarkedProgram, IsMarked}
-use Rattle.machine_types.specs.Frames.{Top, top_of, frames_of, effect_at, went, went_on, waiting, making, has_room, monitor_of, returned}
-use Rattle.machine_types.specs.Going.{with_phase, goes_on, goes_on_if}
-use Rattle.machine_types.specs.HeldMonitors.{held_at}
-use Rattle.machine_types.specs.Instructions.{made, printed}
-use Rattle.machine_types.specs.Ints.{low}
-use Rattle.machine_types.specs.Onward.{Onward, Running, Throwing, Entering, Leaving, threw, called, entered, returns, back, done}
-use Rattle.machine_types.specs.ReadyObjects.{thrown_of}
-use Rattle.machine_types.specs.Shown.{Show, own_entry}
-use Rattle.machine_types.specs.Standing.{Whole}
-use Rattle.machine_types.specs.Structure.{TopIs, AreHeldOnce, IsFlat, IsFat, Stands, AttemptStandsIn, is_element_op, count_in, held_depth, tried_depth, once_at}
-use Rattle.machine_types.specs.Threads.{Frame, Attempt, Thread}
-use Rattle.machine_types.specs.Words.{header_class, header_length, value_word}
-use Rattle.machine_types.specs.declared.effect.Effect.{Effect}
 use Rattle.machine_types.specs.declared.effect.Effect.TheVariants as effects
-use Rattle.machine_types.specs.declared.lock.Held.{Held}
-use Rattle.machine_types.specs.declared.lock.Kept.{Kept}
 use Rattle.machine_types.specs.declared.lock.Kept.TheVariants as keeps
 use Rattle.machine_types.specs.declared.phase.After.TheVariants as afters
-use Rattle.machine_types.specs.declared.phase.Phase.{Phase}
 use Rattle.machine_types.specs.declared.phase.Phase.TheVariants as phases
 use Rattle.machine_types.specs.declared.phase.Toward.TheVariants as towards
-use Rattle.laws_threads.specs.StructureLaws.{StaysStructured}
-use Rattle.laws_threads.specs.MoveLaws.{goes_to}
-use Rattle.laws_threads.specs.CallLaws.{IsLeft, callee_frame}
-use Rattle.laws_threads.specs.ThrowLaws.{may_throw}
-use Rattle.laws_threads.specs.InsideMoves.{GoesAlong}
-use Rattle.laws_threads.specs.InsideEffects.{MayDo}
-use Rattle.laws_threads.proofs.FrameCalls.{calls_law, call_enters_law}
-use Rattle.laws_threads.proofs.FramePlaces.{tops_stand_law}
-use Rattle.laws_threads.proofs.FrameReturns.{returns_law}
-use Rattle.laws_threads.proofs.FrameThrows.{effects_throw_law, throws_law}
-use Rattle.laws_threads.proofs.MonitorMoves.{enters_law, leaves_law}
-use Rattle.laws_threads.proofs.MoveProofs.{follow_law, effects_law, making_law}
-use Rattle.laws_threads.proofs.Inside.{inside_may}
-use Rattle.laws_threads.proofs.Steps.{steps_inside}
-use Rattle.laws_threads.proofs.ElementEffects.{element_at}
-use Rattle.laws_threads.proofs.GoingOn.{OnwardShows, AttemptGoesOn, none_goes_on, onward_stands, going}
-use Rattle.laws_threads.proofs.ThreadMove.{Asks, WaitsFrom, IsNotify, of_one, of_all, Refuses, past_end, no_memory, waits_unheld, notifies_unheld}
 use Rattle.laws_threads.proofs.ThreadMove as moves
-use Rattle.laws_threads.proofs.Turns.{running, no_attempt}
 
 -- ---- where there is an onward
 

@@ -1,46 +1,21 @@
 -- Each event keeps the types of all that its thread holds: each move does.
-use Rattle.std.proofs.Common.{◌≡◌, ℕ, suc, ◌+◌, ◌-◌, ◌<◌, ◌^◌, inl, inr, true, false, List, [], ◌∷◌, length, Option, Some, None, refl, ap, sym, subst, ◌∙◌, arith, ◌≤◌}
-use Rattle.std.specs.Prelude.{drop, option_map, nat_le}
+use Rattle.std.proofs.Common.{◌≡◌, ℕ, suc, ◌+◌, ◌-◌, ◌<◌, ◌^◌, inl, inr, true, false, List, [], ◌∷◌, length, Option, Some, None, refl, ap, sym, subst, ◌∙◌, arith, ◌≤◌, drop, option_map, nat_le}
 use Rattle.std.proofs.lemmas.Bool.Decides.{nat_tests}
-use Rattle.jvm_types.specs.CodeTable.{can_throw, row}
-use Rattle.jvm_types.specs.Verifying.{edges}
-use Rattle.jvm_types.specs.declared.code.Op.{Op}
-use Rattle.jvm_types.specs.declared.code.Op.TheVariants as ops
-use Rattle.jvm_types.specs.declared.outcome.Counts.{Counts}
-use Rattle.jvm_types.specs.declared.outcome.Thrown.{Thrown}
-use Rattle.jvm_types.specs.declared.program.MethodInfo.{MethodInfo}
-use Rattle.jvm_types.specs.declared.program.Program.{Program}
-use Rattle.jvm_types.specs.declared.program.Target.{Target}
+use Rattle.jvm_types.specs.{CodeTable.{can_throw, row}, Verifying.edges, declared.{code.Op.Op, outcome.{Counts.Counts, Thrown.Thrown}, program.{MethodInfo.MethodInfo, Program.Program, Target.Target}}}
 use Rattle.checked_program.specs.MarkedProgram.{MarkedProgram, IsMarked}
-use Rattle.machine_types.specs.Events.{thread_started, element_made, moved}
-use Rattle.machine_types.specs.Frames.{Top, top_of, effect_at, went_on, pushed, handler_at, making}
-use Rattle.machine_types.specs.Going.{runs, goes_after}
-use Rattle.machine_types.specs.HeldMonitors.{held_at, with_held, without_held, deeper, shallower}
-use Rattle.machine_types.specs.Onward.{Running, after, dispatched, Onward, handed}
-use Rattle.machine_types.specs.Structure.{TopIs, is_element_op, AfterShows}
-use Rattle.machine_types.specs.Threads.{Frame, Attempt, Thread}
-use Rattle.machine_types.specs.Typed.{Classes, FramesHold, FramesThrown, IsException, AfterHolds, TowardHolds, AttemptHolds, PhaseHolds, IsObject, with_object}
-use Rattle.machine_types.specs.Words.{header_class}
-use Rattle.machine_types.specs.declared.lock.Held.{Held}
-use Rattle.machine_types.specs.declared.lock.Kept.{Kept}
-use Rattle.machine_types.specs.declared.lock.Kept.TheVariants as keeps
-use Rattle.machine_types.specs.declared.phase.After.{After}
-use Rattle.machine_types.specs.declared.phase.Phase.{Phase}
-use Rattle.machine_types.specs.declared.phase.Phase.TheVariants as phases
-use Rattle.machine_types.specs.declared.phase.Toward.{Toward}
-use Rattle.machine_types.specs.declared.phase.Toward.TheVariants as towards
-use Rattle.machine_types.specs.Lawful.{NewFits}
-use Rattle.machine_types.specs.ReadyObjects.{class_of}
-use Rattle.machine_types.specs.Monitors.{grown}
-use Rattle.machine_types.specs.Instructions.{printed}
-use Rattle.laws_threads.specs.Allowed.{OneOf, HasRowTypes}
-use Rattle.laws_threads.proofs.Lifts.{frames_up}
-use Rattle.laws_threads.proofs.Landing.{stand_top}
-use Rattle.laws_threads.proofs.Onwards.{Keeps, keeps_all, keeps_top, HasObjects, FoundHolds, AreInside, Onwards, IfOnwards, same_op, dispatches, goes_after_it}
-use Rattle.laws_threads.proofs.Doing.{runs_on}
-use Rattle.laws_threads.proofs.ThreadTypes.{IsBasedIn, EntryInside, Rests, TypedBy, runs_typed, phase_typed, turn_typed, goes_typed, goes_if_typed, fails_typed, carries}
-use Rattle.laws_threads.proofs.KeptRun.{does_at, refuses_at, prints_at, waits_at, notifies_at, finds_element, makes_at}
+use Rattle.machine_types.specs.{Events.{thread_started, element_made, moved}, Frames.{Top, top_of, effect_at, went_on, pushed, handler_at, making}, Going.{runs, goes_after}}
+use Rattle.machine_types.specs.{HeldMonitors.{held_at, with_held, without_held, deeper, shallower}, Instructions.printed, Lawful.NewFits, Monitors.grown}
+use Rattle.machine_types.specs.{Onward.{Running, after, dispatched, Onward, handed}, ReadyObjects.class_of, Structure.{TopIs, is_element_op, AfterShows}, Threads.{Frame, Attempt, Thread}}
+use Rattle.machine_types.specs.{Typed.{Classes, FramesHold, FramesThrown, IsException, AfterHolds, TowardHolds, AttemptHolds, PhaseHolds, IsObject, with_object}, Words.header_class}
+use Rattle.machine_types.specs.declared.{lock.{Held.Held, Kept.Kept}, phase.{After.After, Phase.Phase, Toward.Toward}}
+use Rattle.laws_threads.{specs.Allowed.{OneOf, HasRowTypes}, proofs.{Doing.runs_on, KeptRun.{does_at, refuses_at, prints_at, waits_at, notifies_at, finds_element, makes_at}, Landing.stand_top}}
+use Rattle.laws_threads.proofs.{Lifts.frames_up, Onwards.{Keeps, keeps_all, keeps_top, HasObjects, FoundHolds, AreInside, Onwards, IfOnwards, same_op, dispatches, goes_after_it}}
 use Rattle.laws_threads.proofs.ThreadMove.{Looks, GoesBy, LeadsTo, TurnsTo, Asks, WaitsFrom, Move, becomes, begun_attempt, mover, by_move, of_mover, takes_in, gives_up_in, tried_attempt}
+use Rattle.laws_threads.proofs.ThreadTypes.{IsBasedIn, EntryInside, Rests, TypedBy, runs_typed, phase_typed, turn_typed, goes_typed, goes_if_typed, fails_typed, carries}
+use Rattle.jvm_types.specs.declared.code.Op.TheVariants as ops
+use Rattle.machine_types.specs.declared.lock.Kept.TheVariants as keeps
+use Rattle.machine_types.specs.declared.phase.Phase.TheVariants as phases
+use Rattle.machine_types.specs.declared.phase.Toward.TheVariants as towards
 use Rattle.laws_threads.proofs.ThreadMove as moves
 
 -- ---- what a phase asks

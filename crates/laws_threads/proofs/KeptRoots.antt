@@ -1,45 +1,24 @@
 -- An event leaves a thread roots of its part, and a frame wherever one is needed.
-use Rattle.std.proofs.Common.{◌≡◌, ℕ, zero, suc, ◌+◌, ◌<◌, ◌==◌, nat_lt, Bool, true, false, ◌||◌, List, [], ◌∷◌, ◌++◌, drop, length, Option, Some, None, refl, sym, ap, subst, arith, codes}
-use Rattle.std.specs.Prelude.{if◌then◌else◌, option_map, slice_get, IfSome, IsTrue}
-use Rattle.std.specs.List.{AllByRecursion}
-use Rattle.std.proofs.lemmas.Bool.Decides.{nat_tests}
+use Rattle.std.proofs.Common.{◌≡◌, ℕ, zero, suc, ◌+◌, ◌<◌, ◌==◌, nat_lt, Bool, true, false, ◌||◌, List, [], ◌∷◌, ◌++◌, drop, length, Option, Some, None, refl, sym, ap, subst, arith, codes, if◌then◌else◌, option_map, slice_get, IfSome, IsTrue}
+use Rattle.std.{specs.List.AllByRecursion, proofs.lemmas.Bool.Decides.nat_tests}
 use Rattle.lists.proofs.TestLaws.{first_true, second_true}
-use Rattle.jvm_types.specs.Members.{is_synchronized, is_class_init_name}
-use Rattle.jvm_types.specs.Numbers.{has_number}
-use Rattle.jvm_types.specs.declared.outcome.End.TheVariants as ends
-use Rattle.jvm_types.specs.declared.outcome.Counts.{Counts}
-use Rattle.jvm_types.specs.declared.outcome.Thrown.{Thrown}
-use Rattle.jvm_types.specs.declared.outcome.Thrown.TheVariants.{StackOverflowError}
-use Rattle.jvm_types.specs.declared.program.MethodInfo.{MethodInfo}
-use Rattle.jvm_types.specs.declared.program.Program.{Program}
-use Rattle.jvm_types.specs.declared.program.Row.{Row}
-use Rattle.machine_types.specs.Bounds.{part_roots, FramesFit, IsRooted}
-use Rattle.machine_types.specs.Events.{thread_started}
+use Rattle.jvm_types.specs.{Members.{is_synchronized, is_class_init_name}, Numbers.has_number, declared.outcome.{Counts.Counts, Thrown.{Thrown, TheVariants.StackOverflowError}}}
+use Rattle.jvm_types.specs.declared.program.{MethodInfo.MethodInfo, Program.Program, Row.Row}
+use Rattle.checked_program.specs.MarkedProgram.{MarkedProgram}
+use Rattle.machine_types.specs.{Bounds.{part_roots, FramesFit, IsRooted}, Events.thread_started}
 use Rattle.machine_types.specs.Frames.{Top, top_of, frames_of, pushed, went_on, has_room, waiting, entry_frame, arguments_of, monitor_of, returned, handler_at}
-use Rattle.machine_types.specs.Going.{with_phase, runs, failed_turn, goes_on, goes_on_if, goes_after, root_over}
-use Rattle.machine_types.specs.HeldMonitors.{with_held, without_held, shallower}
-use Rattle.machine_types.specs.Instructions.{made, printed}
+use Rattle.machine_types.specs.{Going.{with_phase, runs, failed_turn, goes_on, goes_on_if, goes_after, root_over}, HeldMonitors.{with_held, without_held, shallower}, Instructions.{made, printed}}
 use Rattle.machine_types.specs.Monitors.{grown}
 use Rattle.machine_types.specs.Onward.{Onward, Running, Throwing, Entering, Leaving, RootReturned, Uncaught, threw, done, entered, called, rooted, root_arguments, back, returns, unwound, handed, after}
-use Rattle.machine_types.specs.Parts.{numbers_of, entries_named, init_roots}
-use Rattle.machine_types.specs.ReadyObjects.{class_of, thrown_of}
-use Rattle.machine_types.specs.Structure.{HasFrame}
-use Rattle.machine_types.specs.Threads.{Frame, Attempt, Thread}
-use Rattle.machine_types.specs.Words.{header_class}
-use Rattle.machine_types.specs.declared.effect.Effect.{Effect}
-use Rattle.machine_types.specs.declared.effect.Effect.TheVariants.{Goes, Throws, Reads, Writes, Measures, Raises, Prints, Calls, Returns, Enters, Leaves}
-use Rattle.machine_types.specs.declared.lock.Held.{Held}
-use Rattle.machine_types.specs.declared.lock.Kept.{Kept}
-use Rattle.machine_types.specs.declared.phase.After.{After}
+use Rattle.machine_types.specs.{Parts.{numbers_of, entries_named, init_roots}, ReadyObjects.{class_of, thrown_of}, Structure.HasFrame, Threads.{Frame, Attempt, Thread}, Words.header_class}
+use Rattle.machine_types.specs.declared.{effect.Effect.{Effect, TheVariants.{Goes, Throws, Reads, Writes, Measures, Raises, Prints, Calls, Returns, Enters, Leaves}}, lock.{Held.Held, Kept.Kept}}
+use Rattle.machine_types.specs.declared.phase.{After.After, Phase.Phase, Toward.Toward}
+use Rattle.laws_threads.{specs.RootLaws.RootsAreKept, proofs.ThreadMove.{Looks, GoesBy, LeadsTo, TurnsTo, Takes, GivesUp, Asks, WaitsFrom, Move, becomes, mover, by_move, of_mover, runs_to, turns_to}}
+use Rattle.jvm_types.specs.declared.outcome.End.TheVariants as ends
 use Rattle.machine_types.specs.declared.phase.After.TheVariants as afters
-use Rattle.machine_types.specs.declared.phase.Phase.{Phase}
 use Rattle.machine_types.specs.declared.phase.Phase.TheVariants as phases
-use Rattle.machine_types.specs.declared.phase.Toward.{Toward}
 use Rattle.machine_types.specs.declared.phase.Toward.TheVariants as towards
-use Rattle.laws_threads.specs.RootLaws.{RootsAreKept}
-use Rattle.laws_threads.proofs.ThreadMove.{Looks, GoesBy, LeadsTo, TurnsTo, Takes, GivesUp, Asks, WaitsFrom, Move, becomes, mover, by_move, of_mover, runs_to, turns_to}
 use Rattle.laws_threads.proofs.ThreadMove as moves
-use Rattle.checked_program.specs.MarkedProgram.{MarkedProgram}
 
 abbrev AreRoots : Program → (number part : ℕ) → List ℕ → Type 0
 AreRoots p number part roots = AllByRecursion (λ root. IsTrue (has_number (part_roots p number part) root)) roots

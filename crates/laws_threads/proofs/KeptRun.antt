@@ -1,42 +1,17 @@
 -- The event that begins an instruction keeps the types of all that its thread holds.
-use Rattle.std.proofs.Common.{◌≡◌, ℕ, ◌<◌, ◌≤◌, inl, inr, true, List, [], ◌∷◌, ◌++◌, length, Option, Some, None, refl, ap, sym, subst, ◌∙◌, arith}
-use Rattle.std.specs.Prelude.{map, drop}
-use Rattle.std.specs.List.{AllByRecursion}
+use Rattle.std.{proofs.Common.{◌≡◌, ℕ, ◌<◌, ◌≤◌, inl, inr, true, List, [], ◌∷◌, ◌++◌, length, Option, Some, None, refl, ap, sym, subst, ◌∙◌, arith, map, drop}, specs.List.AllByRecursion}
 use Rattle.std.proofs.lemmas.Bool.Decides.{nat_tests}
 use Rattle.lists.proofs.ListLaws.{same_some}
-use Rattle.jvm_types.specs.ClassNames.{is_class}
-use Rattle.jvm_types.specs.CodeTable.{value_of, locals_after}
-use Rattle.jvm_types.specs.ProgramInvariant.{IsProgram}
-use Rattle.jvm_types.specs.Verifying.{edges}
-use Rattle.jvm_types.specs.declared.class_numbers.TheConstants.{INT_ARRAY_CLASS}
-use Rattle.jvm_types.specs.declared.op_row.OpRow.{OpRow}
-use Rattle.jvm_types.specs.declared.op_row.Given.{Given}
-use Rattle.jvm_types.specs.declared.op_row.Given.TheVariants.{Fresh}
-use Rattle.jvm_types.specs.declared.program.MethodInfo.{MethodInfo}
-use Rattle.jvm_types.specs.declared.program.Program.{Program}
-use Rattle.jvm_types.specs.declared.typing.VType.{VType}
-use Rattle.jvm_types.specs.declared.typing.VType.TheVariants.{Ref, New}
-use Rattle.jvm_types.proofs.TypeOrder.{subclass_self}
-use Rattle.jvm_types.specs.declared.outcome.Thrown.{Thrown}
-use Rattle.checked_program.specs.MarkedProgram.{MarkedProgram, IsMarked}
-use Rattle.checked_program.specs.TaggedCode.{row_of}
-use Rattle.machine_types.specs.declared.effect.Effect.{Effect}
+use Rattle.jvm_types.specs.{ClassNames.is_class, CodeTable.{value_of, locals_after}, ProgramInvariant.IsProgram, Verifying.edges, declared.class_numbers.TheConstants.INT_ARRAY_CLASS}
+use Rattle.jvm_types.specs.declared.{op_row.{Given.{Given, TheVariants.Fresh}, OpRow.OpRow}, outcome.Thrown.Thrown, program.{MethodInfo.MethodInfo, Program.Program}, typing.VType.VType}
+use Rattle.jvm_types.{specs.declared.typing.VType.TheVariants.{Ref, New}, proofs.TypeOrder.subclass_self}
+use Rattle.checked_program.specs.{MarkedProgram.{MarkedProgram, IsMarked}, TaggedCode.row_of}
+use Rattle.machine_types.specs.{Frames.{effect_at, went_on, making, pushed, Top, top_of}, Ints.low, Onward.{Onward, Running, threw, done}, Threads.Frame}
+use Rattle.machine_types.specs.{Typed.{Classes, Holds, FrameHolds, HoldBelow, FramesHold, ElementStands, with_object}, Words.{header, header_class, value_word}, declared.effect.Effect.Effect}
 use Rattle.machine_types.specs.declared.effect.Effect.TheVariants.{Indexes, Makes, Prints, Waits, Notifies, NotifiesAll}
-use Rattle.machine_types.specs.Frames.{effect_at, went_on, making, pushed, Top, top_of}
-use Rattle.machine_types.specs.Ints.{low}
-use Rattle.machine_types.specs.Onward.{Onward, Running, threw, done}
-use Rattle.machine_types.specs.Threads.{Frame}
-use Rattle.machine_types.specs.Typed.{Classes, Holds, FrameHolds, HoldBelow, FramesHold, ElementStands, with_object}
-use Rattle.machine_types.specs.Words.{header, header_class, value_word}
-use Rattle.laws_threads.specs.Allowed.{OneOf, HasRowTypes, GivenHolds, WriteHolds, MadeAs, Allowed, IsByMachine}
-use Rattle.laws_threads.proofs.Lifts.{frame_up, below_up}
-use Rattle.laws_threads.proofs.TypedMoves.{goes}
-use Rattle.laws_threads.proofs.Standings.{top_here}
-use Rattle.laws_threads.proofs.TopEffects.{made_size, allowed_here}
-use Rattle.laws_threads.proofs.Onwards.{Keeps, keeps_top, HasObjects, FoundHolds, AreInside, Onwards, IfOnwards}
-use Rattle.laws_threads.proofs.Doing.{runs_on, throws_it, does_it}
-use Rattle.laws_threads.proofs.Landing.{stand_top}
-use Rattle.laws_threads.proofs.ThreadMove.{IsNotify, of_one, of_all, Refuses, past_end, no_memory, waits_unheld, notifies_unheld}
+use Rattle.laws_threads.{specs.Allowed.{OneOf, HasRowTypes, GivenHolds, WriteHolds, MadeAs, Allowed, IsByMachine}, proofs.{Doing.{runs_on, throws_it, does_it}, Landing.stand_top}}
+use Rattle.laws_threads.proofs.{Lifts.{frame_up, below_up}, Onwards.{Keeps, keeps_top, HasObjects, FoundHolds, AreInside, Onwards, IfOnwards}, Standings.top_here}
+use Rattle.laws_threads.proofs.{ThreadMove.{IsNotify, of_one, of_all, Refuses, past_end, no_memory, waits_unheld, notifies_unheld}, TopEffects.{made_size, allowed_here}, TypedMoves.goes}
 
 -- ---- a new object is of its class
 

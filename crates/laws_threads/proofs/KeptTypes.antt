@@ -1,37 +1,16 @@
 -- Every event keeps the types of its thread, as far as a thread alone can tell them.
 use Rattle.std.proofs.Common.{ℕ, ◌<◌, ◌^◌, inr, List, Option, Some, None, subst, arith}
-use Rattle.jvm_types.specs.ProgramInvariant.{IsProgram}
-use Rattle.jvm_types.specs.declared.outcome.Thrown.{Thrown}
-use Rattle.jvm_types.specs.declared.outcome.Thrown.TheVariants as thrown
-use Rattle.jvm_types.specs.declared.program.Kind.{Kind}
-use Rattle.jvm_types.specs.declared.program.Kind.TheVariants as kinds
-use Rattle.jvm_types.specs.declared.program.Program.{Program}
-use Rattle.jvm_types.specs.declared.program.Target.{Target}
-use Rattle.jvm_types.proofs.TypeOrder.{subclass_self}
+use Rattle.jvm_types.{specs.{ProgramInvariant.IsProgram, declared.{outcome.Thrown.Thrown, program.{Kind.Kind, Program.Program, Target.Target}}}, proofs.TypeOrder.subclass_self}
 use Rattle.checked_program.specs.MarkedProgram.{MarkedProgram, IsMarked}
-use Rattle.machine_types.specs.Bounds.{IsRooted}
-use Rattle.machine_types.specs.declared.effect.Effect.{Effect}
-use Rattle.machine_types.specs.declared.effect.Effect.TheVariants.{Reads, Measures, Raises}
-use Rattle.machine_types.specs.Events.{moved}
-use Rattle.machine_types.specs.FoundWords.{WordFits, kind_content, field_content, effect_content, variable_content, content_at, run_content}
-use Rattle.machine_types.specs.Frames.{Top, effect_at}
-use Rattle.machine_types.specs.Lawful.{within, NewFits, IsTypedWithin}
-use Rattle.machine_types.specs.ReadyObjects.{ready}
-use Rattle.machine_types.specs.Structure.{IsAs, Stands, PhaseShows, AttemptStandsIn}
-use Rattle.machine_types.specs.Threads.{Frame, Attempt, Thread}
-use Rattle.machine_types.specs.Typed.{KindHolds, PhaseHolds}
-use Rattle.machine_types.specs.declared.lock.Held.{Held}
-use Rattle.machine_types.specs.declared.phase.Phase.{Phase}
-use Rattle.machine_types.specs.declared.phase.Phase.TheVariants as phases
+use Rattle.machine_types.specs.{Bounds.IsRooted, Events.moved, FoundWords.{WordFits, kind_content, field_content, effect_content, variable_content, content_at, run_content}, Frames.{Top, effect_at}}
+use Rattle.machine_types.specs.{Lawful.{within, NewFits, IsTypedWithin}, ReadyObjects.ready, Structure.{IsAs, Stands, PhaseShows, AttemptStandsIn}, Threads.{Frame, Attempt, Thread}}
+use Rattle.machine_types.specs.{Typed.{KindHolds, PhaseHolds}, declared.{effect.Effect.{Effect, TheVariants.{Reads, Measures, Raises}}, lock.Held.Held, phase.Phase.Phase}}
 use Rattle.machine_types.proofs.ClassObjects.{class_object_below}
-use Rattle.laws_threads.specs.Allowed.{IsByMachine}
-use Rattle.laws_threads.specs.KeptTypes.{TypesAreKept}
-use Rattle.laws_threads.specs.TopFrames.{IsAllowed}
-use Rattle.laws_threads.proofs.Onwards.{HasObjects, FoundHolds}
-use Rattle.laws_threads.proofs.TopEffects.{effects_allowed}
-use Rattle.laws_threads.proofs.ThreadTypes.{IsBasedIn, Rests, TypedBy}
-use Rattle.laws_threads.proofs.KeptPhases.{NeedsShown, PhaseFinds, StartTyped, moved_typed}
-use Rattle.laws_threads.proofs.Roots.{starts_typed}
+use Rattle.laws_threads.{specs.{Allowed.IsByMachine, KeptTypes.TypesAreKept, TopFrames.IsAllowed}, proofs.KeptPhases.{NeedsShown, PhaseFinds, StartTyped, moved_typed}}
+use Rattle.laws_threads.proofs.{Onwards.{HasObjects, FoundHolds}, Roots.starts_typed, ThreadTypes.{IsBasedIn, Rests, TypedBy}, TopEffects.effects_allowed}
+use Rattle.jvm_types.specs.declared.outcome.Thrown.TheVariants as thrown
+use Rattle.jvm_types.specs.declared.program.Kind.TheVariants as kinds
+use Rattle.machine_types.specs.declared.phase.Phase.TheVariants as phases
 
 -- ---- objects, as words of the heap
 

@@ -1,33 +1,16 @@
 -- Where a frame stands, and that it stands at the target of an edge when it has gone there.
-use Rattle.std.proofs.Common.{◌≡◌, ℕ, List, ◌∷◌, Option, Some, ap, sym, subst, ◌∙◌}
-use Rattle.std.specs.Prelude.{slice_get, map}
+use Rattle.std.proofs.Common.{◌≡◌, ℕ, List, ◌∷◌, Option, Some, ap, sym, subst, ◌∙◌, slice_get, map}
 use Rattle.lists.proofs.ListLaws.{same_some}
-use Rattle.jvm_types.specs.Types.{TypeFrame}
-use Rattle.jvm_types.specs.Verifying.{IsLaidOut}
+use Rattle.jvm_types.specs.{Types.TypeFrame, Verifying.IsLaidOut, declared.{program.MethodInfo.MethodInfo, typing.Typing.Typing}}
+use Rattle.laws_programs.proofs.{CodeOrder.{methods_laid_out, one_number, have_targets}, EdgeTargets.lands, LeastFrames.distinct}
+use Rattle.checked_program.specs.{CheckedLaws.{AreFramesOf, IsPlace, HoldsAtInstruction}, LockTags.{TagShape, IsShapeBelow}, MarkedProgram.{MarkedProgram, IsMarked, checked_part}, TaggedCode.row_of}
+use Rattle.checked_program.{specs.{Tagging.{IsTagAssignment, IsTaggingOf}, declared.tag.Tags.Tags}, proofs.CheckedPlaces.{checked_sound, places_hold_all}}
+use Rattle.laws_sections.proofs.{TagLocal.tag_local_law, VisitsLocal.landing}
+use Rattle.machine_types.specs.{Frames.{top_at, top_in, top_of, at_pc}, Standing.{Standing, tags_of}, Threads.Frame, Typed.{Classes, FrameHolds}}
+use Rattle.laws_threads.proofs.{FramePlaces.at_number, Lists.{zip_at, mapped_at}, Values.{ValuesHold, values_below}}
 use Rattle.jvm_types.specs.Verifying as types
-use Rattle.jvm_types.specs.declared.program.MethodInfo.{MethodInfo}
-use Rattle.jvm_types.specs.declared.typing.Typing.{Typing}
-use Rattle.laws_programs.proofs.CodeOrder.{methods_laid_out, one_number, have_targets}
-use Rattle.laws_programs.proofs.EdgeTargets.{lands}
-use Rattle.laws_programs.proofs.LeastFrames.{distinct}
-use Rattle.checked_program.specs.CheckedLaws.{AreFramesOf, IsPlace, HoldsAtInstruction}
-use Rattle.checked_program.specs.LockTags.{TagShape, IsShapeBelow}
-use Rattle.checked_program.specs.MarkedProgram.{MarkedProgram, IsMarked, checked_part}
-use Rattle.checked_program.specs.TaggedCode.{row_of}
-use Rattle.checked_program.specs.Tagging.{IsTagAssignment, IsTaggingOf}
 use Rattle.checked_program.specs.Tagging as tagging
 use Rattle.checked_program.specs.Visits as visits
-use Rattle.checked_program.specs.declared.tag.Tags.{Tags}
-use Rattle.checked_program.proofs.CheckedPlaces.{checked_sound, places_hold_all}
-use Rattle.laws_sections.proofs.TagLocal.{tag_local_law}
-use Rattle.laws_sections.proofs.VisitsLocal.{landing}
-use Rattle.machine_types.specs.Frames.{top_at, top_in, top_of, at_pc}
-use Rattle.machine_types.specs.Standing.{Standing, tags_of}
-use Rattle.machine_types.specs.Threads.{Frame}
-use Rattle.machine_types.specs.Typed.{Classes, FrameHolds}
-use Rattle.laws_threads.proofs.Lists.{zip_at, mapped_at}
-use Rattle.laws_threads.proofs.Values.{ValuesHold, values_below}
-use Rattle.laws_threads.proofs.FramePlaces.{at_number}
 
 -- ---- the item of a pc
 

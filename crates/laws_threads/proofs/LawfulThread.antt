@@ -1,11 +1,6 @@
 -- The parts of a lawful state, each kept by a law of its own, make a lawful state again.
-use Rattle.machine_types.specs.Events.{moved}
-use Rattle.machine_types.specs.Threads.{Thread}
-use Rattle.laws_threads.specs.StructureLaws.{counted_by, StaysStructured, StructureIsKept}
-use Rattle.laws_threads.specs.KeptTypes.{TypesAreKept}
-use Rattle.laws_threads.specs.BoundLaws.{BoundsAreKept}
-use Rattle.laws_threads.specs.LawfulLaws.{LawfulIsKept}
-use Rattle.laws_threads.specs.RootLaws.{RootsAreKept}
+use Rattle.machine_types.specs.{Events.moved, Threads.Thread}
+use Rattle.laws_threads.specs.{BoundLaws.BoundsAreKept, KeptTypes.TypesAreKept, LawfulLaws.LawfulIsKept, RootLaws.RootsAreKept, StructureLaws.{counted_by, StaysStructured, StructureIsKept}}
 
 pub lawful_kept : StructureIsKept → TypesAreKept → BoundsAreKept → RootsAreKept → LawfulIsKept
 lawful_kept structure types bounds roots c s got marked h fits =

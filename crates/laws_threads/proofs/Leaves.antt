@@ -1,24 +1,15 @@
 -- An attempt stands behind an exit of its monitor that is not the last one.
-use Rattle.std.proofs.Common.{◌≡◌, ⊎_elim, ℕ, suc, ◌+◌, Bool, List, [], ◌∷◌, length, Some, refl, sym, ap, ◌∙◌, subst, arith}
-use Rattle.std.specs.Prelude.{option_map}
+use Rattle.std.proofs.Common.{◌≡◌, ⊎_elim, ℕ, suc, ◌+◌, Bool, List, [], ◌∷◌, length, Some, refl, sym, ap, ◌∙◌, subst, arith, option_map}
 use Rattle.lists.proofs.ListLaws.{same_some}
 use Rattle.jvm_types.specs.declared.code.Op.{Op}
-use Rattle.checked_program.specs.LockTags.{TagShape}
-use Rattle.checked_program.specs.MarkedProgram.{MarkedProgram, IsMarked}
-use Rattle.machine_types.specs.Frames.{top_of, given, given_back, returned}
-use Rattle.machine_types.specs.Onward.{Onward, Running, back, unwound}
-use Rattle.machine_types.specs.Structure.{IsLeaving, Stands, AttemptStands, Finishes, frames_inside, operands_after, TopLeaves, count_in, held_depth, tried_depth}
-use Rattle.machine_types.specs.Threads.{Frame, Attempt}
-use Rattle.machine_types.specs.declared.lock.Held.{Held}
-use Rattle.machine_types.specs.declared.phase.After.{After}
+use Rattle.checked_program.specs.{LockTags.TagShape, MarkedProgram.{MarkedProgram, IsMarked}}
+use Rattle.machine_types.specs.{Frames.{top_of, given, given_back, returned}, Onward.{Onward, Running, back, unwound}}
+use Rattle.machine_types.specs.{Structure.{IsLeaving, Stands, AttemptStands, Finishes, frames_inside, operands_after, TopLeaves, count_in, held_depth, tried_depth}, Threads.{Frame, Attempt}}
+use Rattle.machine_types.specs.declared.{lock.Held.Held, phase.After.After}
+use Rattle.laws_threads.{specs.InsideMoves.{GoesOnInside, OnwardStands, LeavesInside}, proofs.{AttemptMoves.{stands_inner, only_entry, returned_on, unwound_on}, Base.{entry_of, as_many, none_inside}}}
+use Rattle.laws_threads.proofs.{Inside.runs_inside, SectionFrames.Runs, Standings.{top_is, one_tags}}
 use Rattle.machine_types.specs.declared.phase.After.TheVariants as afters
 use Rattle.machine_types.specs.declared.phase.Phase.TheVariants as phases
-use Rattle.laws_threads.specs.InsideMoves.{GoesOnInside, OnwardStands, LeavesInside}
-use Rattle.laws_threads.proofs.Base.{entry_of, as_many, none_inside}
-use Rattle.laws_threads.proofs.Inside.{runs_inside}
-use Rattle.laws_threads.proofs.AttemptMoves.{stands_inner, only_entry, returned_on, unwound_on}
-use Rattle.laws_threads.proofs.SectionFrames.{Runs}
-use Rattle.laws_threads.proofs.Standings.{top_is, one_tags}
 
 -- how a thread goes on is known
 pub lands : (c : MarkedProgram) (held : List Held) (a : Attempt) (o onward : Onward) → (OnwardStands c o → GoesOnInside c o held a) → Some o ≡ Some onward → OnwardStands c onward → GoesOnInside c onward held a

@@ -1,13 +1,8 @@
 -- What holds of values where some objects are there holds where more are.
-use Rattle.std.proofs.Common.{ℕ, inl, inr, List, [], ◌∷◌}
-use Rattle.std.specs.Prelude.{drop}
-use Rattle.std.specs.List.{AllZip}
-use Rattle.jvm_types.specs.declared.program.MethodInfo.{MethodInfo}
-use Rattle.jvm_types.specs.declared.typing.VType.{VType}
-use Rattle.jvm_types.specs.declared.typing.VType.TheVariants.{Int, Null, Ref, This, New, Top}
+use Rattle.std.{proofs.Common.{ℕ, inl, inr, List, [], ◌∷◌, drop}, specs.List.AllZip}
+use Rattle.jvm_types.specs.declared.{program.MethodInfo.MethodInfo, typing.VType.{VType, TheVariants.{Int, Null, Ref, This, New, Top}}}
 use Rattle.checked_program.specs.MarkedProgram.{MarkedProgram}
-use Rattle.machine_types.specs.Threads.{Frame}
-use Rattle.machine_types.specs.Typed.{Classes, IsNullOr, Holds, FrameHolds, WaitHolds, HoldBelow, FramesHold}
+use Rattle.machine_types.specs.{Threads.Frame, Typed.{Classes, IsNullOr, Holds, FrameHolds, WaitHolds, HoldBelow, FramesHold}}
 
 module _ (is more : Classes) (up : (class v : ℕ) → is class v → more class v) where
   null_or_up : (class v : ℕ) → IsNullOr is class v → IsNullOr more class v

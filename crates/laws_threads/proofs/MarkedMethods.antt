@@ -1,31 +1,14 @@
 -- What a method of a marked program has: its types and its tags, under their local laws.
-use Rattle.std.proofs.Common.{◌≡◌, ℕ, zero, suc, Bool, true, false, cond, List, [], ◌∷◌, map, Option, Some, None, refl, sym, ap, ◌∙◌, subst, arith}
-use Rattle.std.specs.Prelude.{◌==◌, slice_get}
-use Rattle.std.specs.List.{AllByRecursion}
-use Rattle.std.proofs.lemmas.Bool.{or_parts}
-use Rattle.std.proofs.lemmas.Bool.Decides.{nat_tests}
-use Rattle.jvm_types.specs.Types.{TypeFrame}
-use Rattle.jvm_types.specs.Verifying as types
-use Rattle.jvm_types.specs.Verifying.{IsLaidOut, HasTyping}
-use Rattle.jvm_types.specs.declared.code.Insn.{Insn}
-use Rattle.jvm_types.specs.declared.program.MethodInfo.{MethodInfo}
-use Rattle.jvm_types.specs.declared.program.Program.{Program}
-use Rattle.jvm_types.specs.declared.typing.Typing.{Typing}
+use Rattle.std.{proofs.Common.{◌≡◌, ℕ, zero, suc, Bool, true, false, cond, List, [], ◌∷◌, map, Option, Some, None, refl, sym, ap, ◌∙◌, subst, arith, ◌==◌, slice_get}, specs.List.AllByRecursion}
+use Rattle.std.proofs.lemmas.Bool.{or_parts, Decides.nat_tests}
 use Rattle.lists.proofs.ListLaws.{same_some}
-use Rattle.checked_program.specs.LockTags.{TagShape, same_tag}
-use Rattle.checked_program.specs.MarkedProgram.{MarkedProgram, IsMarked, AreTaggings, checked_part}
-use Rattle.checked_program.specs.Tagging.{HasTagging, IsTaggingOf, IsTagAssignment}
-use Rattle.checked_program.specs.Visits.{frame_at_pc}
-use Rattle.checked_program.specs.declared.tag.Tag.{Tag}
-use Rattle.checked_program.specs.declared.tag.Tag.TheVariants.{Untagged, This, At}
-use Rattle.checked_program.specs.declared.tag.Tags.{Tags}
-use Rattle.checked_program.proofs.CheckedPlaces.{checked_sound}
-use Rattle.laws_sections.specs.ReachLaws.{is_held}
-use Rattle.laws_sections.proofs.TagFree.{own_tag_free}
-use Rattle.laws_sections.proofs.TagLocal.{tag_local_law}
-use Rattle.machine_types.specs.Shown.{IsMade, AreMade, held_tags}
-use Rattle.machine_types.specs.Standing.{tags_of}
+use Rattle.jvm_types.specs.{Types.TypeFrame, Verifying.{IsLaidOut, HasTyping}, declared.{code.Insn.Insn, program.{MethodInfo.MethodInfo, Program.Program}, typing.Typing.Typing}}
+use Rattle.checked_program.specs.{LockTags.{TagShape, same_tag}, MarkedProgram.{MarkedProgram, IsMarked, AreTaggings, checked_part}, Tagging.{HasTagging, IsTaggingOf, IsTagAssignment}}
+use Rattle.checked_program.{specs.{Visits.frame_at_pc, declared.tag.{Tag.{Tag, TheVariants.{Untagged, This, At}}, Tags.Tags}}, proofs.CheckedPlaces.checked_sound}
+use Rattle.laws_sections.{specs.ReachLaws.is_held, proofs.{TagFree.own_tag_free, TagLocal.tag_local_law}}
+use Rattle.machine_types.specs.{Shown.{IsMade, AreMade, held_tags}, Standing.tags_of}
 use Rattle.laws_threads.proofs.Lists.{map_at}
+use Rattle.jvm_types.specs.Verifying as types
 
 -- ---- a method
 

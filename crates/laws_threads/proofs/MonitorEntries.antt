@@ -1,23 +1,12 @@
 -- A thread enters a monitor.
-use Rattle.std.proofs.Common.{◌≡◌, ℕ, ◌+◌, Bool, true, false, cond, List, ◌∷◌, length, Option, Some, None, refl, sym, ap, subst, arith}
-use Rattle.std.specs.Prelude.{◌==◌}
-use Rattle.std.proofs.lemmas.Bool.{eq-eqb}
+use Rattle.std.proofs.{Common.{◌≡◌, ℕ, ◌+◌, Bool, true, false, cond, List, ◌∷◌, length, Option, Some, None, refl, sym, ap, subst, arith, ◌==◌}, lemmas.Bool.eq-eqb}
 use Rattle.checked_program.specs.MarkedProgram.{MarkedProgram, IsMarked}
-use Rattle.machine_types.specs.Elision.{enters_marked}
-use Rattle.machine_types.specs.Going.{with_phase, runs, failed_turn}
-use Rattle.machine_types.specs.HeldMonitors.{held_at, with_held, deeper}
-use Rattle.machine_types.specs.Monitors.{Tries, HasNot, claim_by, takes}
-use Rattle.machine_types.specs.Structure.{Stands, AttemptStands, AttemptStandsIn, held_depth, tried_depth, once_at}
-use Rattle.machine_types.specs.Threads.{Frame, Attempt, Thread}
-use Rattle.machine_types.specs.declared.lock.Held.{Held}
-use Rattle.machine_types.specs.declared.lock.Kept.{Kept}
+use Rattle.machine_types.specs.{Elision.enters_marked, Going.{with_phase, runs, failed_turn}, HeldMonitors.{held_at, with_held, deeper}, Monitors.{Tries, HasNot, claim_by, takes}}
+use Rattle.machine_types.specs.{Structure.{Stands, AttemptStands, AttemptStandsIn, held_depth, tried_depth, once_at}, Threads.{Frame, Attempt, Thread}, declared.lock.{Held.Held, Kept.Kept}}
 use Rattle.machine_types.specs.declared.phase.Phase.{Phase}
+use Rattle.laws_threads.{specs.{InsideMoves.{BeginsAttempt, EntersInside}, StructureLaws.{StaysStructured, turned_from}}, proofs.GoingOn.entered_frame}
+use Rattle.laws_threads.proofs.{HeldLists.{held_monitor, depth_some, depth_none, raised, once_put}, Turns.{TurnsIn, running, turning, no_attempt, held_outside}}
 use Rattle.machine_types.specs.declared.phase.Phase.TheVariants as phases
-use Rattle.laws_threads.specs.StructureLaws.{StaysStructured, turned_from}
-use Rattle.laws_threads.proofs.HeldLists.{held_monitor, depth_some, depth_none, raised, once_put}
-use Rattle.laws_threads.specs.InsideMoves.{BeginsAttempt, EntersInside}
-use Rattle.laws_threads.proofs.GoingOn.{entered_frame}
-use Rattle.laws_threads.proofs.Turns.{TurnsIn, running, turning, no_attempt, held_outside}
 
 -- ---- the lock is looked at, taken or flagged: the phases of that are alike
 

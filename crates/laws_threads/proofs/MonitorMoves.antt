@@ -1,36 +1,16 @@
 -- A `monitorenter` shows its monitor innermost, and a `monitorexit` leaves the innermost one.
-use Rattle.std.proofs.Common.{◌≡◌, ℕ, zero, suc, true, false, List, [], ◌∷◌, ◌++◌, map, drop, Some, inr, refl, sym, ap, ◌∙◌, subst, arith}
-use Rattle.std.specs.Prelude.{◌≢◌, slice_get}
-use Rattle.std.specs.List.{Contains}
-use Rattle.jvm_types.specs.CodeTable.{stack_after, locals_after}
-use Rattle.jvm_types.specs.Numbers.{has_number}
-use Rattle.jvm_types.specs.Verifying.{edges}
-use Rattle.jvm_types.specs.declared.code.Op.{Op}
-use Rattle.jvm_types.specs.declared.code.Op.TheVariants as ops
-use Rattle.jvm_types.specs.declared.op_row.OpRow.{OpRow}
-use Rattle.jvm_types.specs.declared.program.MethodInfo.{MethodInfo}
-use Rattle.lists.proofs.ListLaws.{same_some}
-use Rattle.lists.proofs.TestLaws.{is_true}
-use Rattle.checked_program.specs.LockTags.{TagShape, same_tag, IsShapeBelow}
-use Rattle.checked_program.specs.MarkedProgram.{MarkedProgram, IsMarked}
-use Rattle.checked_program.specs.Tagging.{moved_tags, tags_by_op, enters_untagged, exits_other}
-use Rattle.checked_program.specs.Visits.{EdgeFits}
-use Rattle.checked_program.specs.declared.tag.Tag.{Tag}
-use Rattle.checked_program.specs.declared.tag.Tag.TheVariants.{Untagged, This, At}
+use Rattle.std.{proofs.Common.{◌≡◌, ℕ, zero, suc, true, false, List, [], ◌∷◌, ◌++◌, map, drop, Some, inr, refl, sym, ap, ◌∙◌, subst, arith, ◌≢◌, slice_get}, specs.List.Contains}
+use Rattle.lists.proofs.{ListLaws.same_some, TestLaws.is_true}
+use Rattle.jvm_types.specs.{CodeTable.{stack_after, locals_after}, Numbers.has_number, Verifying.edges, declared.{code.Op.Op, op_row.OpRow.OpRow, program.MethodInfo.MethodInfo}}
+use Rattle.checked_program.specs.{LockTags.{TagShape, same_tag, IsShapeBelow}, MarkedProgram.{MarkedProgram, IsMarked}, Tagging.{moved_tags, tags_by_op, enters_untagged, exits_other}, Visits.EdgeFits}
+use Rattle.checked_program.specs.declared.tag.Tag.{Tag, TheVariants.{Untagged, This, At}}
 use Rattle.laws_sections.proofs.TagOrder.{one_tag}
-use Rattle.machine_types.specs.Frames.{Top, effect_at, frame_on, went_on}
-use Rattle.machine_types.specs.Shown.{tag_value, HaveValues, own_entry, Shows, Show}
-use Rattle.machine_types.specs.Standing.{Standing, Whole}
-use Rattle.machine_types.specs.Structure.{IsBehindEntry, TopEnters}
-use Rattle.machine_types.specs.Threads.{Frame}
-use Rattle.machine_types.specs.declared.effect.Effect.TheVariants.{Enters, Leaves}
-use Rattle.laws_threads.specs.MoveLaws.{EntersShow, LeavesShow}
-use Rattle.laws_threads.proofs.EffectsOfInsns.{IsOnTop, next_edge}
+use Rattle.machine_types.specs.{Frames.{Top, effect_at, frame_on, went_on}, Shown.{tag_value, HaveValues, own_entry, Shows, Show}, Standing.{Standing, Whole}, Structure.{IsBehindEntry, TopEnters}}
+use Rattle.machine_types.specs.{Threads.Frame, declared.effect.Effect.TheVariants.{Enters, Leaves}}
+use Rattle.laws_threads.{specs.MoveLaws.{EntersShow, LeavesShow}, proofs.{EffectsOfInsns.{IsOnTop, next_edge}, FrameMoves.{the_row, edge_fits}, FramePlaces.{sound_at, Lands}}}
+use Rattle.laws_threads.proofs.{ShownFrames.{landed, whole_landed, by_top, fits_at}, TagValues.{row_stack, row_locals}}
+use Rattle.jvm_types.specs.declared.code.Op.TheVariants as ops
 use Rattle.laws_threads.proofs.EffectsOfInsns as effects
-use Rattle.laws_threads.proofs.FrameMoves.{the_row, edge_fits}
-use Rattle.laws_threads.proofs.FramePlaces.{sound_at, Lands}
-use Rattle.laws_threads.proofs.ShownFrames.{landed, whole_landed, by_top, fits_at}
-use Rattle.laws_threads.proofs.TagValues.{row_stack, row_locals}
 
 pub contains_got : {X : Type 0} (xs : List X) (i : ℕ) (x : X) → slice_get xs i ≡ Some x → Contains xs x
 contains_got [] i x e = absurd (cc)

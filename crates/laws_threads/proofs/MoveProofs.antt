@@ -1,26 +1,12 @@
 -- The laws of moves.
 use Rattle.std.proofs.Common.{◌≡◌, ℕ, true, false, List, [], ◌∷◌, Option, Some, None, refl, subst}
-use Rattle.jvm_types.specs.Numbers.{has_number}
-use Rattle.jvm_types.specs.Verifying.{edges}
-use Rattle.jvm_types.specs.declared.code.Insn.{Insn}
-use Rattle.jvm_types.specs.declared.code.Op.{Op}
-use Rattle.jvm_types.specs.declared.code.Op.TheVariants as ops
-use Rattle.jvm_types.specs.declared.program.MethodInfo.{MethodInfo}
-use Rattle.jvm_types.specs.declared.program.Program.{Program}
-use Rattle.jvm_types.specs.declared.program.Target.{Target}
 use Rattle.lists.proofs.ListLaws.{same_some}
-use Rattle.machine_types.specs.declared.effect.Effect.{Effect}
+use Rattle.jvm_types.specs.{Numbers.has_number, Verifying.edges, declared.{code.{Insn.Insn, Op.Op}, program.{MethodInfo.MethodInfo, Program.Program, Target.Target}}}
+use Rattle.machine_types.specs.{Frames.{Top, effect_at, went, went_on, making}, Shown.Show, Standing.{Whole, Lacking}, Structure.{TopIs, is_element_op}, Threads.Frame, declared.effect.Effect.Effect}
 use Rattle.machine_types.specs.declared.effect.Effect.TheVariants.{Goes, Reads, Writes, Indexes, Measures, Prints, Makes, Waits, Notifies, NotifiesAll}
-use Rattle.machine_types.specs.Frames.{Top, effect_at, went, went_on, making}
-use Rattle.machine_types.specs.Shown.{Show}
-use Rattle.machine_types.specs.Standing.{Whole, Lacking}
-use Rattle.machine_types.specs.Structure.{TopIs, is_element_op}
-use Rattle.machine_types.specs.Threads.{Frame}
-use Rattle.laws_threads.specs.MoveLaws.{is_lock_op, MovesShow, goes_to, EffectsFollowEdges, EffectsShow, ElementsShow, MakingShows, PushedShows}
-use Rattle.laws_threads.proofs.EffectsOfInsns.{IsMove, Fits, next_edge}
-use Rattle.laws_threads.proofs.FrameMoves.{moved, making_frame, pushed_frame}
-use Rattle.laws_threads.proofs.FramePlaces.{one_standing, top_by}
-use Rattle.laws_threads.proofs.ShownFrames.{by_top, fits_at}
+use Rattle.laws_threads.{specs.MoveLaws.{is_lock_op, MovesShow, goes_to, EffectsFollowEdges, EffectsShow, ElementsShow, MakingShows, PushedShows}, proofs.EffectsOfInsns.{IsMove, Fits, next_edge}}
+use Rattle.laws_threads.proofs.{FrameMoves.{moved, making_frame, pushed_frame}, FramePlaces.{one_standing, top_by}, ShownFrames.{by_top, fits_at}}
+use Rattle.jvm_types.specs.declared.code.Op.TheVariants as ops
 
 pub moves_law : MovesShow
 moves_law c fs shown at to made is e s free edge =

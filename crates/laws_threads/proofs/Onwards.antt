@@ -1,38 +1,20 @@
 -- How a thread goes on keeps the types of its frames, and what lies below the section of an attempt.
-use Rattle.std.proofs.Common.{◌≡◌, ℕ, suc, ◌-◌, ◌<◌, ◌^◌, inl, inr, Bool, true, false, List, [], ◌∷◌, ◌++◌, length, Option, Some, None, refl, ap, sym, subst, ◌∙◌, arith}
-use Rattle.std.specs.Prelude.{drop, option_map, if◌then◌else◌}
+use Rattle.std.proofs.Common.{◌≡◌, ℕ, suc, ◌-◌, ◌<◌, ◌^◌, inl, inr, Bool, true, false, List, [], ◌∷◌, ◌++◌, length, Option, Some, None, refl, ap, sym, subst, ◌∙◌, arith, drop, option_map, if◌then◌else◌}
 use Rattle.std.specs.List.{AllByRecursion}
 use Rattle.lists.proofs.ListLaws.{same_some}
-use Rattle.jvm_types.specs.ClassTree.{is_subclass}
-use Rattle.jvm_types.specs.CodeTable.{can_throw}
-use Rattle.jvm_types.specs.Members.{is_synchronized}
-use Rattle.jvm_types.specs.Verifying.{is_return}
-use Rattle.jvm_types.specs.declared.class_numbers.TheConstants.{CLASS_ITSELF, PRINT_STREAM_CLASS, THROWABLE_CLASS}
-use Rattle.jvm_types.specs.declared.outcome.Thrown.{Thrown}
-use Rattle.jvm_types.specs.declared.outcome.Thrown.TheVariants as thrown
-use Rattle.jvm_types.specs.declared.program.FieldInfo.{FieldInfo}
-use Rattle.jvm_types.specs.declared.program.Program.{Program}
-use Rattle.jvm_types.specs.declared.program.Row.{Row}
+use Rattle.jvm_types.specs.{ClassTree.is_subclass, CodeTable.can_throw, Members.is_synchronized, Verifying.is_return}
+use Rattle.jvm_types.specs.declared.{class_numbers.TheConstants.{CLASS_ITSELF, PRINT_STREAM_CLASS, THROWABLE_CLASS}, outcome.Thrown.Thrown, program.{FieldInfo.FieldInfo, Program.Program, Row.Row}}
 use Rattle.jvm_types.specs.declared.program.Target.{Target}
 use Rattle.laws_programs.proofs.RuleUses.{returns_suit_all}
 use Rattle.checked_program.specs.MarkedProgram.{MarkedProgram, IsMarked}
-use Rattle.machine_types.specs.declared.effect.Effect.{Effect}
-use Rattle.machine_types.specs.declared.effect.Effect.TheVariants.{Reads, Measures, Raises}
 use Rattle.machine_types.specs.Frames.{Top, top_of, monitor_of, given_back, given, returned, handler_of, handler_at}
 use Rattle.machine_types.specs.Onward.{Onward, Running, Throwing, Entering, Leaving, RootReturned, Uncaught, returns, back, unwound, handed, dispatched, after}
-use Rattle.machine_types.specs.ReadyObjects.{ready, class_of, thrown_of, out_object}
-use Rattle.machine_types.specs.Standing.{Standing}
-use Rattle.machine_types.specs.Structure.{TopIs, AfterShows}
-use Rattle.machine_types.specs.Threads.{Frame}
+use Rattle.machine_types.specs.{ReadyObjects.{ready, class_of, thrown_of, out_object}, Standing.Standing, Structure.{TopIs, AfterShows}, Threads.Frame}
 use Rattle.machine_types.specs.Typed.{Classes, KindHolds, FrameHolds, WaitHolds, HoldBelow, FramesHold, ThrownHolds, FramesThrown, IsException, AfterHolds, IsObject}
-use Rattle.machine_types.specs.declared.phase.After.{After}
+use Rattle.machine_types.specs.{Words.{class_object, header_class, header_length}, declared.{effect.Effect.{Effect, TheVariants.{Reads, Measures, Raises}}, phase.After.After}}
 use Rattle.machine_types.specs.declared.phase.After.TheVariants.{Next, Return, Unwind}
-use Rattle.machine_types.specs.Words.{class_object, header_class, header_length}
-use Rattle.laws_threads.specs.Allowed.{IsNamedField, IsByMachine}
-use Rattle.laws_threads.proofs.Landing.{stand_top, rules_at}
-use Rattle.laws_threads.proofs.TypedMoves.{given_holds, resumes, catches}
-use Rattle.laws_threads.proofs.Standings.{top_here}
-use Rattle.laws_threads.proofs.Callers.{row_of_call}
+use Rattle.laws_threads.{specs.Allowed.{IsNamedField, IsByMachine}, proofs.{Callers.row_of_call, Landing.{stand_top, rules_at}, Standings.top_here, TypedMoves.{given_holds, resumes, catches}}}
+use Rattle.jvm_types.specs.declared.outcome.Thrown.TheVariants as thrown
 
 -- ---- what lies below a section
 

@@ -1,30 +1,18 @@
 -- The threads of a part that begins are structured.
-use Rattle.std.proofs.Common.{◌≡◌, ℕ, zero, suc, ◌+◌, ◌<◌, Bool, true, false, cond, List, [], ◌∷◌, length, map, Option, Some, None, refl, sym, ap, ◌∙◌, subst, arith}
-use Rattle.std.specs.Prelude.{slice_get, slice_set}
+use Rattle.std.proofs.Common.{◌≡◌, ℕ, zero, suc, ◌+◌, ◌<◌, Bool, true, false, cond, List, [], ◌∷◌, length, map, Option, Some, None, refl, sym, ap, ◌∙◌, subst, arith, slice_get, slice_set}
 use Rattle.std.specs.List.{AllByRecursion, list_all, range_with_len}
 use Rattle.lists.proofs.TestLaws.{both_are_true}
-use Rattle.jvm_types.specs.declared.outcome.End.{End}
-use Rattle.jvm_types.specs.declared.outcome.End.TheVariants as ends
-use Rattle.jvm_types.specs.declared.program.Program.{Program}
+use Rattle.jvm_types.specs.declared.{outcome.End.End, program.Program.Program}
 use Rattle.checked_program.specs.MarkedProgram.{MarkedProgram}
 use Rattle.machine_types.specs.Accesses.{found_by}
 use Rattle.machine_types.specs.Core.{event_of, start_thread, part_phase, ended_by, may_begin_by, may_begin, with_roots, how_ended, workers_begin, done_begins, part_begins, next_threads}
-use Rattle.machine_types.specs.Events.{wanted, moved}
-use Rattle.machine_types.specs.Parts.{run_roots, done_roots, has_returned, has_finished}
-use Rattle.machine_types.specs.Shown.{Show}
-use Rattle.machine_types.specs.Standing.{Whole}
-use Rattle.machine_types.specs.Structure.{AreHeldOnce, Stands, AttemptStandsIn, IsAs, IsStructured, Structure, count_in, held_depth, tried_depth}
-use Rattle.machine_types.specs.Threads.{Frame, Attempt, Thread}
-use Rattle.machine_types.specs.declared.config.Config.{Config}
-use Rattle.machine_types.specs.declared.lock.Held.{Held}
-use Rattle.machine_types.specs.declared.phase.Phase.{Phase}
+use Rattle.machine_types.specs.{Events.{wanted, moved}, Parts.{run_roots, done_roots, has_returned, has_finished}, Shown.Show, Standing.Whole}
+use Rattle.machine_types.specs.{Structure.{AreHeldOnce, Stands, AttemptStandsIn, IsAs, IsStructured, Structure, count_in, held_depth, tried_depth}, Threads.{Frame, Attempt, Thread}}
+use Rattle.machine_types.specs.declared.{config.Config.Config, lock.Held.Held, phase.Phase.Phase}
+use Rattle.laws_threads.specs.{PartLaws.{PartFits, PartsFit, StartFitsParts, EventsFitParts, NextFitsParts, NextKeepsStructure}, StateLaws.counted_of, StructureLaws.counted_by}
+use Rattle.laws_threads.proofs.{Lists.mapped_at, ThreadSteps.over_counts, Turns.no_attempt}
+use Rattle.jvm_types.specs.declared.outcome.End.TheVariants as ends
 use Rattle.machine_types.specs.declared.phase.Phase.TheVariants as phases
-use Rattle.laws_threads.specs.StructureLaws.{counted_by}
-use Rattle.laws_threads.specs.StateLaws.{counted_of}
-use Rattle.laws_threads.specs.PartLaws.{PartFits, PartsFit, StartFitsParts, EventsFitParts, NextFitsParts, NextKeepsStructure}
-use Rattle.laws_threads.proofs.ThreadSteps.{over_counts}
-use Rattle.laws_threads.proofs.Turns.{no_attempt}
-use Rattle.laws_threads.proofs.Lists.{mapped_at}
 
 -- ---- how a part ended
 

@@ -1,41 +1,21 @@
 -- A thread leaves a monitor.
-use Rattle.std.proofs.Common.{◌≡◌, ℕ, suc, ◌+◌, ◌<◌, Bool, true, false, cond, List, [], ◌∷◌, length, drop, Option, Some, None, refl, sym, ap, ◌∙◌, subst, arith}
-use Rattle.std.specs.Prelude.{◌==◌, nat_lt, option_map}
-use Rattle.std.specs.List.{AllZip}
-use Rattle.std.proofs.lemmas.Bool.Decides.{nat_tests}
-use Rattle.std.proofs.lemmas.Bool.{ltb-true}
+use Rattle.std.proofs.Common.{◌≡◌, ℕ, suc, ◌+◌, ◌<◌, Bool, true, false, cond, List, [], ◌∷◌, length, drop, Option, Some, None, refl, sym, ap, ◌∙◌, subst, arith, ◌==◌, nat_lt, option_map}
+use Rattle.std.{specs.List.AllZip, proofs.lemmas.Bool.{ltb-true, Decides.nat_tests}}
 use Rattle.jvm_types.specs.Types.{TypeFrame}
-use Rattle.jvm_types.specs.declared.outcome.Thrown as outcomes
 use Rattle.checked_program.specs.MarkedProgram.{MarkedProgram, IsMarked}
-use Rattle.machine_types.specs.Elision.{elided}
-use Rattle.machine_types.specs.Frames.{Top, frames_of, returned}
-use Rattle.machine_types.specs.Going.{with_phase, goes_on, goes_on_if, goes_after}
-use Rattle.machine_types.specs.HeldMonitors.{held_at, with_held, without_held, shallower}
-use Rattle.machine_types.specs.Monitors.{lets_go}
-use Rattle.machine_types.specs.Onward.{Onward, Running, after, back, unwound}
-use Rattle.machine_types.specs.Shown.{Show}
-use Rattle.machine_types.specs.Standing.{Whole, Thrown}
+use Rattle.machine_types.specs.{Elision.elided, Frames.{Top, frames_of, returned}, Going.{with_phase, goes_on, goes_on_if, goes_after}, HeldMonitors.{held_at, with_held, without_held, shallower}}
+use Rattle.machine_types.specs.{Monitors.lets_go, Onward.{Onward, Running, after, back, unwound}, Shown.Show, Standing.{Whole, Thrown}}
 use Rattle.machine_types.specs.Structure.{AfterShows, AreHeldOnce, IsFlat, Stands, AttemptStandsIn, count_in, held_depth, tried_depth, once_at, entries_left, operands_after}
-use Rattle.machine_types.specs.Threads.{Frame, Attempt, Thread}
-use Rattle.machine_types.specs.Typed.{Classes, Holds, AfterHolds, FrameHolds, FramesHold}
-use Rattle.machine_types.specs.declared.lock.Held.{Held}
+use Rattle.machine_types.specs.{Threads.{Frame, Attempt, Thread}, Typed.{Classes, Holds, AfterHolds, FrameHolds, FramesHold}, declared.{lock.Held.Held, phase.{After.After, Phase.Phase}}}
+use Rattle.laws_threads.{specs.{CallLaws.HasHeight, StructureLaws.StaysStructured, ThrowLaws.ThrowsOn}, proofs.FramePlaces.{one_standing_law, tops_stand_law, have_tops_law}}
+use Rattle.laws_threads.proofs.{FrameReturns.return_behind_law, FrameThrows.unwind_behind_law, GoingOn.{OnwardShows, AttemptGoesOn, none_goes_on, onward_stands, going}}
+use Rattle.laws_threads.proofs.{HeldLists.{OneLess, lowered, depth_some, held_positive}, Leaves.leaves_inside, Turns.{no_attempt, held_outside}}
+use Rattle.jvm_types.specs.declared.outcome.Thrown as outcomes
 use Rattle.machine_types.specs.declared.lock.Kept.TheVariants as keeps
-use Rattle.machine_types.specs.declared.phase.After.{After}
 use Rattle.machine_types.specs.declared.phase.After.TheVariants as afters
-use Rattle.machine_types.specs.declared.phase.Phase.{Phase}
 use Rattle.machine_types.specs.declared.phase.Phase.TheVariants as phases
 use Rattle.machine_types.specs.declared.phase.Toward.TheVariants as towards
-use Rattle.laws_threads.specs.StructureLaws.{StaysStructured}
-use Rattle.laws_threads.specs.CallLaws.{HasHeight}
-use Rattle.laws_threads.specs.ThrowLaws.{ThrowsOn}
-use Rattle.laws_threads.proofs.FramePlaces.{one_standing_law, tops_stand_law, have_tops_law}
-use Rattle.laws_threads.proofs.FrameReturns.{return_behind_law}
-use Rattle.laws_threads.proofs.FrameThrows.{unwind_behind_law}
-use Rattle.laws_threads.proofs.Leaves.{leaves_inside}
-use Rattle.laws_threads.proofs.HeldLists.{OneLess, lowered, depth_some, held_positive}
 use Rattle.laws_threads.proofs.HeldLists as lists
-use Rattle.laws_threads.proofs.GoingOn.{OnwardShows, AttemptGoesOn, none_goes_on, onward_stands, going}
-use Rattle.laws_threads.proofs.Turns.{no_attempt, held_outside}
 
 -- ---- the height of a stack
 

@@ -1,35 +1,15 @@
 -- The frame of a root is typed: it is a static method that takes nothing or the number of the thread.
-use Rattle.std.proofs.Common.{◌≡◌, ℕ, zero, suc, ◌+◌, ◌<◌, ◌^◌, ◌⊎◌, inl, inr, Bool, true, false, ◌&&◌, ◌||◌, List, [], ◌∷◌, ◌++◌, length, Option, Some, None, refl, ap, sym, subst, ◌∙◌, arith}
-use Rattle.std.specs.Prelude.{◌==◌, nat_lt, codes, bytes_eq, slice_get, map, option_map, if◌then◌else◌, IsTrue}
-use Rattle.std.specs.List.{AllZip, AllByRecursion}
-use Rattle.std.proofs.lemmas.Bool.Decides.{nat_tests}
-use Rattle.std.proofs.lemmas.Slice.Eq.{bytes_eq-Decides}
-use Rattle.lists.proofs.ListLaws.{same_some}
-use Rattle.lists.proofs.TestLaws.{both_true, both_are_true, first_true, second_true}
-use Rattle.jvm_types.specs.ClassNames.{file_class}
-use Rattle.jvm_types.specs.CodeTable.{type_of}
-use Rattle.jvm_types.specs.LinkFaults.{is_run, is_entry}
-use Rattle.jvm_types.specs.Members.{is_static, is_class_init_name}
-use Rattle.jvm_types.specs.Numbers.{has_number}
-use Rattle.jvm_types.specs.ProgramInvariant.{IsProgram}
-use Rattle.jvm_types.specs.declared.program.Kind.{Kind}
-use Rattle.jvm_types.specs.declared.program.Kind.TheVariants as kinds
-use Rattle.jvm_types.specs.declared.program.MethodInfo.{MethodInfo}
-use Rattle.jvm_types.specs.declared.program.Program.{Program}
-use Rattle.laws_programs.specs.RootLaws.{IsRoot}
-use Rattle.laws_programs.proofs.RootMethods.{class_inits, entries, run_root}
+use Rattle.std.proofs.Common.{◌≡◌, ℕ, zero, suc, ◌+◌, ◌<◌, ◌^◌, ◌⊎◌, inl, inr, Bool, true, false, ◌&&◌, ◌||◌, List, [], ◌∷◌, ◌++◌, length, Option, Some, None, refl, ap, sym, subst, ◌∙◌, arith, ◌==◌, nat_lt, codes, bytes_eq, slice_get, map, option_map, if◌then◌else◌, IsTrue}
+use Rattle.std.{specs.List.{AllZip, AllByRecursion}, proofs.lemmas.{Bool.Decides.nat_tests, Slice.Eq.bytes_eq-Decides}}
+use Rattle.lists.proofs.{ListLaws.same_some, TestLaws.{both_true, both_are_true, first_true, second_true}}
+use Rattle.jvm_types.specs.{ClassNames.file_class, CodeTable.type_of, LinkFaults.{is_run, is_entry}, Members.{is_static, is_class_init_name}, Numbers.has_number, ProgramInvariant.IsProgram}
+use Rattle.jvm_types.specs.declared.{outcome.Thrown.TheVariants.StackOverflowError, program.{Kind.Kind, MethodInfo.MethodInfo, Program.Program}}
+use Rattle.laws_programs.{specs.RootLaws.IsRoot, proofs.RootMethods.{class_inits, entries, run_root}}
 use Rattle.checked_program.specs.MarkedProgram.{MarkedProgram, IsMarked}
-use Rattle.machine_types.specs.Bounds.{part_roots}
-use Rattle.machine_types.specs.Events.{thread_started}
-use Rattle.machine_types.specs.Frames.{has_room, entry_frame, first_or_null}
-use Rattle.machine_types.specs.Onward.{Running, Uncaught, root_arguments, rooted}
-use Rattle.machine_types.specs.Parts.{numbers_of, is_entry_named, entries_named, init_roots, run_roots, done_roots}
-use Rattle.machine_types.specs.Threads.{Thread}
-use Rattle.machine_types.specs.Typed.{Classes, Holds}
-use Rattle.jvm_types.specs.declared.outcome.Thrown.TheVariants.{StackOverflowError}
-use Rattle.laws_threads.proofs.CalledEntries.{static_values, enters}
-use Rattle.laws_threads.proofs.Onwards.{keeps_none, Onwards, IfOnwards}
-use Rattle.laws_threads.proofs.ThreadTypes.{IsBasedIn, Rests, TypedBy, goes_if_typed}
+use Rattle.machine_types.specs.{Bounds.part_roots, Events.thread_started, Frames.{has_room, entry_frame, first_or_null}, Onward.{Running, Uncaught, root_arguments, rooted}}
+use Rattle.machine_types.specs.{Parts.{numbers_of, is_entry_named, entries_named, init_roots, run_roots, done_roots}, Threads.Thread, Typed.{Classes, Holds}}
+use Rattle.laws_threads.proofs.{CalledEntries.{static_values, enters}, Onwards.{keeps_none, Onwards, IfOnwards}, ThreadTypes.{IsBasedIn, Rests, TypedBy, goes_if_typed}}
+use Rattle.jvm_types.specs.declared.program.Kind.TheVariants as kinds
 
 -- ---- the methods with these numbers
 

@@ -1,13 +1,8 @@
 -- An event leaves what a thread was given as it was.
 use Rattle.std.proofs.Common.{◌≡◌, ℕ, Option, Some, refl, ◌∙◌}
 use Rattle.checked_program.specs.MarkedProgram.{MarkedProgram}
-use Rattle.machine_types.specs.Events.{moved}
-use Rattle.machine_types.specs.Going.{goes_on_if}
-use Rattle.machine_types.specs.Onward.{Onward}
-use Rattle.machine_types.specs.Threads.{Thread}
-use Rattle.machine_types.specs.declared.phase.Phase.{Phase}
-use Rattle.laws_threads.specs.GivenThread.{given_of}
-use Rattle.laws_threads.proofs.ThreadMove.{Move, becomes, by_move, of_mover, same_onward}
+use Rattle.machine_types.specs.{Events.moved, Going.goes_on_if, Onward.Onward, Threads.Thread, declared.phase.Phase.Phase}
+use Rattle.laws_threads.{specs.GivenThread.given_of, proofs.ThreadMove.{Move, becomes, by_move, of_mover, same_onward}}
 use Rattle.laws_threads.proofs.ThreadMove as moves
 
 goes_if : (s : Thread) (o : Option Onward) → given_of (goes_on_if s o) ≡ given_of s

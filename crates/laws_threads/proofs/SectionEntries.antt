@@ -1,33 +1,16 @@
 -- Where a section begins: at pc 0 no tag is held, and right behind a `monitorenter` the tag that it took is the innermost.
-use Rattle.std.proofs.Common.{◌≡◌, ◌⊎◌, inl, inr, ⊎_elim, ℕ, suc, ◌<◌, true, false, List, [], ◌∷◌, ◌++◌, length, Option, Some, None, refl, sym, ap, ◌∙◌, subst, arith}
-use Rattle.std.specs.Prelude.{◌==◌, ◌||◌, IsSomeAnd, slice_get, if◌then◌else◌}
-use Rattle.std.proofs.lemmas.Bool.{cases_order}
-use Rattle.std.proofs.lemmas.Bool.Decides.{nat_tests}
-use Rattle.std.proofs.lemmas.Option.{slice_get-get_or}
+use Rattle.std.proofs.Common.{◌≡◌, ◌⊎◌, inl, inr, ⊎_elim, ℕ, suc, ◌<◌, true, false, List, [], ◌∷◌, ◌++◌, length, Option, Some, None, refl, sym, ap, ◌∙◌, subst, arith, ◌==◌, ◌||◌, IsSomeAnd, slice_get, if◌then◌else◌}
+use Rattle.std.proofs.lemmas.{Bool.{cases_order, Decides.nat_tests}, Option.slice_get-get_or}
 use Rattle.lists.proofs.ListLaws.{same_some}
-use Rattle.jvm_types.specs.CodeTable.{branches_to, falls_through}
-use Rattle.jvm_types.specs.Numbers.{has_number}
-use Rattle.jvm_types.specs.Verifying.{IsLaidOut, edges}
-use Rattle.jvm_types.specs.declared.code.Insn.{Insn}
-use Rattle.jvm_types.specs.declared.code.Op.{Op}
-use Rattle.jvm_types.specs.declared.code.Op.TheVariants as ops
-use Rattle.jvm_types.specs.declared.op_row.OpRow.{OpRow}
-use Rattle.jvm_types.specs.declared.program.Target.{Target}
-use Rattle.jvm_types.specs.declared.program.MethodInfo.{MethodInfo}
+use Rattle.jvm_types.specs.{CodeTable.{branches_to, falls_through}, Numbers.has_number, Verifying.{IsLaidOut, edges}, declared.{code.{Insn.Insn, Op.Op}, op_row.OpRow.OpRow}}
+use Rattle.jvm_types.specs.declared.program.{MethodInfo.MethodInfo, Target.Target}
 use Rattle.laws_programs.proofs.CodeOrder.{ascend, one_number, short, follows}
-use Rattle.checked_program.specs.LockTags.{TagShape, IsShapeBelow, entry_tags}
-use Rattle.checked_program.specs.MarkedProgram.{MarkedProgram, IsMarked}
-use Rattle.checked_program.specs.TaggedCode.{IsAt, onward, row_of}
-use Rattle.checked_program.specs.Tagging.{enters_untagged, tags_after, tags_by_op, IsTagSound}
-use Rattle.checked_program.specs.Visits.{frame_at_pc}
-use Rattle.checked_program.specs.declared.tag.Tag.{Tag}
+use Rattle.checked_program.specs.{LockTags.{TagShape, IsShapeBelow, entry_tags}, MarkedProgram.{MarkedProgram, IsMarked}, TaggedCode.{IsAt, onward, row_of}}
+use Rattle.checked_program.specs.{Tagging.{enters_untagged, tags_after, tags_by_op, IsTagSound}, Visits.frame_at_pc, declared.tag.Tag.Tag}
 use Rattle.laws_sections.proofs.MonitorExits.{held_law}
-use Rattle.laws_threads.proofs.FramePlaces.{of_standing}
-use Rattle.laws_threads.proofs.MarkedMethods.{found_at}
-use Rattle.machine_types.specs.Standing.{Standing, tags_of}
-use Rattle.machine_types.specs.Structure.{IsBehindEntry}
-use Rattle.machine_types.specs.Threads.{Frame}
-use Rattle.laws_threads.proofs.Standings.{are_tagged, laid}
+use Rattle.machine_types.specs.{Standing.{Standing, tags_of}, Structure.IsBehindEntry, Threads.Frame}
+use Rattle.laws_threads.proofs.{FramePlaces.of_standing, MarkedMethods.found_at, Standings.{are_tagged, laid}}
+use Rattle.jvm_types.specs.declared.code.Op.TheVariants as ops
 
 -- ---- pcs
 

@@ -1,47 +1,21 @@
 -- The frames of a section as their top one moves, calls, returns and ends, and what a mark says of the top one.
-use Rattle.std.proofs.Common.{◌≡◌, ◌⊎◌, inl, inr, ⊎_elim, ℕ, zero, suc, Bool, true, false, not, cond, List, [], ◌∷◌, Some, refl, sym, ap, ◌∙◌, subst, arith}
-use Rattle.std.specs.Prelude.{slice_get, slice_index}
-use Rattle.std.specs.List.{AllZip}
-use Rattle.std.proofs.lemmas.Bool.{not_from_false}
-use Rattle.lists.proofs.ListLaws.{same_some}
-use Rattle.lists.proofs.TestLaws.{both_true}
-use Rattle.jvm_types.specs.ClassNames.{file_of_class}
-use Rattle.jvm_types.specs.Members.{is_static, is_synchronized}
-use Rattle.jvm_types.specs.ProgramInvariant.{IsTargetOf, site_in}
-use Rattle.jvm_types.specs.declared.code.Insn.{Insn}
-use Rattle.jvm_types.specs.declared.code.Op.{Op}
-use Rattle.jvm_types.specs.declared.code.Op.TheVariants as ops
-use Rattle.jvm_types.specs.declared.op_row.OpRow.{OpRow}
-use Rattle.jvm_types.specs.declared.program.MethodInfo.{MethodInfo}
-use Rattle.jvm_types.specs.declared.program.Program.{Program}
-use Rattle.jvm_types.specs.declared.program.Target.{Target}
-use Rattle.jvm_types.specs.declared.program.Target.TheVariants as targets
-use Rattle.laws_programs.specs.TargetLaws.{HasRow}
-use Rattle.laws_programs.proofs.CodeOrder.{have_targets}
-use Rattle.laws_programs.proofs.TargetRows.{targets_rows}
-use Rattle.checked_program.specs.FrozenPlaces.{AreUses}
-use Rattle.checked_program.specs.LockTags.{TagShape}
-use Rattle.checked_program.specs.MarkedProgram.{MarkedProgram, IsMarked}
+use Rattle.std.proofs.Common.{◌≡◌, ◌⊎◌, inl, inr, ⊎_elim, ℕ, zero, suc, Bool, true, false, not, cond, List, [], ◌∷◌, Some, refl, sym, ap, ◌∙◌, subst, arith, slice_get, slice_index}
+use Rattle.std.{specs.List.AllZip, proofs.lemmas.Bool.not_from_false}
+use Rattle.lists.proofs.{ListLaws.same_some, TestLaws.both_true}
+use Rattle.jvm_types.specs.{ClassNames.file_of_class, Members.{is_static, is_synchronized}, ProgramInvariant.{IsTargetOf, site_in}, declared.{code.{Insn.Insn, Op.Op}, op_row.OpRow.OpRow}}
+use Rattle.jvm_types.specs.declared.program.{MethodInfo.MethodInfo, Program.Program, Target.Target}
+use Rattle.laws_programs.{specs.TargetLaws.HasRow, proofs.{CodeOrder.have_targets, TargetRows.targets_rows}}
+use Rattle.checked_program.specs.{FrozenPlaces.AreUses, LockTags.TagShape, MarkedProgram.{MarkedProgram, IsMarked}}
 use Rattle.checked_program.specs.Marks.{HasMark, Calls, callee, called_method, is_locking, is_class_locking, is_own_object, is_own_class, class_of_method, receiver_tag, called_mode, section_fault, call_fault, enter_fault}
-use Rattle.checked_program.specs.SectionLaws.{Part, AreParts, IsSectionPart, IsExit, HasThis, ReadsOnly}
-use Rattle.checked_program.specs.TaggedCode.{IsAt, Goes, row_of}
-use Rattle.checked_program.specs.declared.section.FieldUse.{FieldUse}
-use Rattle.checked_program.specs.declared.section.Mode.{Mode}
-use Rattle.checked_program.specs.declared.section.Mode.TheVariants.{OnThis, OnClass}
-use Rattle.checked_program.specs.declared.tag.Tag.{Tag}
-use Rattle.checked_program.specs.declared.tag.Tag.TheVariants.{Untagged, This}
-use Rattle.laws_sections.proofs.MarkedReads.{own_object, own_class, own_no_fault, called_no_fault, read_law}
-use Rattle.laws_sections.proofs.MonitorExits.{held_law, exit_law}
-use Rattle.laws_sections.proofs.SectionCalls.{invoke_law, mode_law}
-use Rattle.laws_sections.proofs.SectionMoves.{move_law}
-use Rattle.laws_sections.specs.FrameLaws.{IsReceiver, mode_of_call}
-use Rattle.machine_types.specs.Frames.{monitor_of}
-use Rattle.machine_types.specs.Shown.{HasValue, HaveValues}
-use Rattle.machine_types.specs.Standing.{Standing, tags_of}
-use Rattle.machine_types.specs.Structure.{IsPart, RunsSection, mode_monitor, section_monitor, section_of}
-use Rattle.machine_types.specs.Threads.{Frame, Attempt}
-use Rattle.machine_types.specs.Words.{class_object}
+use Rattle.checked_program.specs.{SectionLaws.{Part, AreParts, IsSectionPart, IsExit, HasThis, ReadsOnly}, TaggedCode.{IsAt, Goes, row_of}, declared.section.{FieldUse.FieldUse, Mode.Mode}}
+use Rattle.checked_program.specs.declared.{section.Mode.TheVariants.{OnThis, OnClass}, tag.Tag.{Tag, TheVariants.{Untagged, This}}}
+use Rattle.laws_sections.{specs.FrameLaws.{IsReceiver, mode_of_call}, proofs.{MarkedReads.{own_object, own_class, own_no_fault, called_no_fault, read_law}, MonitorExits.{held_law, exit_law}}}
+use Rattle.laws_sections.proofs.{SectionCalls.{invoke_law, mode_law}, SectionMoves.move_law}
+use Rattle.machine_types.specs.{Frames.monitor_of, Shown.{HasValue, HaveValues}, Standing.{Standing, tags_of}, Structure.{IsPart, RunsSection, mode_monitor, section_monitor, section_of}}
+use Rattle.machine_types.specs.{Threads.{Frame, Attempt}, Words.class_object}
 use Rattle.laws_threads.proofs.Standings.{are_tagged, at_of}
+use Rattle.jvm_types.specs.declared.code.Op.TheVariants as ops
+use Rattle.jvm_types.specs.declared.program.Target.TheVariants as targets
 
 -- ---- values of tags
 

@@ -1,22 +1,13 @@
 -- What a frame shows where an edge leads to, and the top frame of a thread as the laws have it.
 use Rattle.std.proofs.Common.{◌≡◌, ℕ, List, [], ◌∷◌, ◌++◌, map, Option, Some, sym, ap, ◌∙◌, subst}
-use Rattle.jvm_types.specs.declared.program.MethodInfo.{MethodInfo}
 use Rattle.lists.proofs.ListLaws.{same_some}
-use Rattle.checked_program.specs.CheckedLaws.{HoldsAtInstruction}
-use Rattle.checked_program.specs.LockTags.{TagShape, AreTagsBelow, IsShapeBelow}
-use Rattle.checked_program.specs.MarkedProgram.{MarkedProgram, IsMarked, checked_part}
-use Rattle.checked_program.specs.Visits as visits
-use Rattle.checked_program.specs.declared.tag.Tag.{Tag}
+use Rattle.jvm_types.specs.declared.program.MethodInfo.{MethodInfo}
+use Rattle.checked_program.specs.{CheckedLaws.HoldsAtInstruction, LockTags.{TagShape, AreTagsBelow, IsShapeBelow}, MarkedProgram.{MarkedProgram, IsMarked, checked_part}, declared.tag.Tag.Tag}
 use Rattle.checked_program.proofs.CheckedPlaces.{checked_sound, places_hold_all}
-use Rattle.machine_types.specs.Frames.{Top, top_of, effect_at}
-use Rattle.machine_types.specs.Shown.{tag_value, HaveValues, StackShows, shown_entries, Shows, ShowBelow, Show, own_entry}
-use Rattle.machine_types.specs.Standing.{Standing, Operands, Whole}
+use Rattle.machine_types.specs.{Frames.{Top, top_of, effect_at}, Shown.{tag_value, HaveValues, StackShows, shown_entries, Shows, ShowBelow, Show, own_entry}, Standing.{Standing, Operands, Whole}}
 use Rattle.machine_types.specs.Threads.{Frame}
-use Rattle.laws_threads.proofs.EffectsOfInsns.{Fits, effect_fits}
-use Rattle.laws_threads.proofs.FramePlaces.{of_standing, Lands, lands, top_by, has_top}
-use Rattle.laws_threads.proofs.MarkedMethods.{are_made}
-use Rattle.laws_threads.proofs.TagValues.{weaker}
-use Rattle.laws_threads.proofs.Lists.{map_at}
+use Rattle.laws_threads.proofs.{EffectsOfInsns.{Fits, effect_fits}, FramePlaces.{of_standing, Lands, lands, top_by, has_top}, Lists.map_at, MarkedMethods.are_made, TagValues.weaker}
+use Rattle.checked_program.specs.Visits as visits
 
 module _ (c : MarkedProgram) (is : IsMarked c) where
   -- ---- where an edge leads

@@ -1,20 +1,10 @@
 -- How many entries frames show hangs on where they stand alone. So the outermost exit of an attempt is known by its place.
-use Rattle.std.proofs.Common.{◌≡◌, ℕ, ◌+◌, Bool, true, false, List, [], ◌∷◌, length, map, Some, refl, sym, ap, ◌∙◌, arith}
-use Rattle.std.specs.Prelude.{◌==◌, if◌then◌else◌}
-use Rattle.std.proofs.lemmas.List.{length-append, length-map}
-use Rattle.jvm_types.specs.Members.{is_synchronized}
-use Rattle.jvm_types.specs.declared.program.MethodInfo.{MethodInfo}
-use Rattle.jvm_types.specs.declared.program.Program.{Program}
-use Rattle.checked_program.specs.LockTags.{TagShape}
-use Rattle.checked_program.specs.MarkedProgram.{MarkedProgram, IsMarked}
-use Rattle.machine_types.specs.Frames.{monitor_of}
-use Rattle.machine_types.specs.Shown.{tag_value, own_entry, Shows, ShowBelow, Show}
-use Rattle.machine_types.specs.Standing.{Operands, Whole}
-use Rattle.machine_types.specs.Structure.{count_in, once_at, held_depth, tried_depth}
-use Rattle.machine_types.specs.Threads.{Frame, Attempt}
-use Rattle.machine_types.specs.declared.lock.Held.{Held}
-use Rattle.laws_threads.proofs.Counts.{longer_by}
-use Rattle.laws_threads.proofs.Standings.{one_method, one_tags}
+use Rattle.std.proofs.{Common.{◌≡◌, ℕ, ◌+◌, Bool, true, false, List, [], ◌∷◌, length, map, Some, refl, sym, ap, ◌∙◌, arith, ◌==◌, if◌then◌else◌}, lemmas.List.{length-append, length-map}}
+use Rattle.jvm_types.specs.{Members.is_synchronized, declared.program.{MethodInfo.MethodInfo, Program.Program}}
+use Rattle.checked_program.specs.{LockTags.TagShape, MarkedProgram.{MarkedProgram, IsMarked}}
+use Rattle.machine_types.specs.{Frames.monitor_of, Shown.{tag_value, own_entry, Shows, ShowBelow, Show}, Standing.{Operands, Whole}, Structure.{count_in, once_at, held_depth, tried_depth}}
+use Rattle.machine_types.specs.{Threads.{Frame, Attempt}, declared.lock.Held.Held}
+use Rattle.laws_threads.proofs.{Counts.longer_by, Standings.{one_method, one_tags}}
 
 abbrev pub own_count : MethodInfo → ℕ
 own_count m = if is_synchronized m.flags then 1 else 0

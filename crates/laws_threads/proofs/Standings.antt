@@ -1,17 +1,10 @@
 -- Where frames stand: one number for each, and the top of a thread is what stands there.
-use Rattle.std.proofs.Common.{◌≡◌, ℕ, List, ◌∷◌, Some, sym, ap, ◌∙◌, subst}
-use Rattle.std.specs.Prelude.{slice_get}
+use Rattle.std.proofs.Common.{◌≡◌, ℕ, List, ◌∷◌, Some, sym, ap, ◌∙◌, subst, slice_get}
 use Rattle.lists.proofs.ListLaws.{same_some}
-use Rattle.jvm_types.specs.Verifying.{IsLaidOut}
-use Rattle.jvm_types.specs.declared.program.MethodInfo.{MethodInfo}
-use Rattle.checked_program.specs.MarkedProgram.{MarkedProgram, IsMarked}
-use Rattle.checked_program.specs.SectionLaws.{AreTagged}
-use Rattle.checked_program.specs.TaggedCode.{IsAt}
-use Rattle.laws_threads.proofs.FramePlaces.{of_standing, one_standing, has_top}
-use Rattle.laws_threads.proofs.MarkedMethods.{method_at}
-use Rattle.machine_types.specs.Frames.{Top, top_of}
-use Rattle.machine_types.specs.Standing.{Standing, tags_of}
-use Rattle.machine_types.specs.Threads.{Frame}
+use Rattle.jvm_types.specs.{Verifying.IsLaidOut, declared.program.MethodInfo.MethodInfo}
+use Rattle.checked_program.specs.{MarkedProgram.{MarkedProgram, IsMarked}, SectionLaws.AreTagged, TaggedCode.IsAt}
+use Rattle.machine_types.specs.{Frames.{Top, top_of}, Standing.{Standing, tags_of}, Threads.Frame}
+use Rattle.laws_threads.proofs.{FramePlaces.{of_standing, one_standing, has_top}, MarkedMethods.method_at}
 
 pub are_tagged : (c : MarkedProgram) → IsMarked c → AreTagged c.program (tags_of c)
 are_tagged c marked mi m e = let a = method_at c marked mi m e in (a.tags, a.its_tags, a.holds.tagged)

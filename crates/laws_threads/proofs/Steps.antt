@@ -1,49 +1,24 @@
 -- An attempt stands behind each instruction that may stand inside it.
-use Rattle.std.proofs.Common.{◌≡◌, inl, inr, ⊎_elim, ℕ, ◌≤◌, Bool, true, false, List, [], ◌∷◌, length, Option, Some, None, refl, sym, ap, ◌∙◌, subst, arith}
-use Rattle.std.specs.Prelude.{slice_get, option_map, if◌then◌else◌}
-use Rattle.lists.proofs.TestLaws.{first_true}
-use Rattle.lists.proofs.ListLaws.{same_some}
-use Rattle.jvm_types.specs.CodeTable.{falls_through}
-use Rattle.jvm_types.specs.Members.{is_synchronized}
-use Rattle.jvm_types.specs.Numbers.{has_number}
-use Rattle.jvm_types.specs.ProgramInvariant.{site_in}
-use Rattle.jvm_types.specs.Verifying.{edges, is_return}
-use Rattle.jvm_types.specs.declared.code.Insn.{Insn}
-use Rattle.jvm_types.specs.declared.code.Op.{Op}
-use Rattle.jvm_types.specs.declared.code.Op.TheVariants as ops
-use Rattle.jvm_types.specs.declared.outcome.Thrown.{Thrown}
-use Rattle.jvm_types.specs.declared.outcome.Thrown.TheVariants.{StackOverflowError}
-use Rattle.jvm_types.specs.declared.program.MethodInfo.{MethodInfo}
-use Rattle.jvm_types.specs.declared.program.Target.{Target}
-use Rattle.checked_program.specs.MarkedProgram.{MarkedProgram, IsMarked}
-use Rattle.checked_program.specs.SectionLaws.{HasThis, ReadsOnly}
-use Rattle.checked_program.specs.Tagging.{tags_after}
-use Rattle.checked_program.specs.TaggedCode.{onward, row_of}
-use Rattle.checked_program.specs.declared.section.Mode.{Mode}
+use Rattle.std.proofs.Common.{◌≡◌, inl, inr, ⊎_elim, ℕ, ◌≤◌, Bool, true, false, List, [], ◌∷◌, length, Option, Some, None, refl, sym, ap, ◌∙◌, subst, arith, slice_get, option_map, if◌then◌else◌}
+use Rattle.lists.proofs.{ListLaws.same_some, TestLaws.first_true}
+use Rattle.jvm_types.specs.{CodeTable.falls_through, Members.is_synchronized, Numbers.has_number, ProgramInvariant.site_in, Verifying.{edges, is_return}, declared.code.{Insn.Insn, Op.Op}}
+use Rattle.jvm_types.specs.declared.{outcome.Thrown.{Thrown, TheVariants.StackOverflowError}, program.{MethodInfo.MethodInfo, Target.Target}}
+use Rattle.checked_program.specs.{MarkedProgram.{MarkedProgram, IsMarked}, SectionLaws.{HasThis, ReadsOnly}, TaggedCode.{onward, row_of}, Tagging.tags_after, declared.section.Mode.Mode}
 use Rattle.machine_types.specs.Frames.{Top, effect_at, top_row, frame_on, went, went_on, waiting, taken_from, frames_of, has_room, entry_frame, arguments_of, monitor_of, given_back, returned}
-use Rattle.machine_types.specs.Onward.{Onward, Running, Throwing, Entering, Leaving, threw, entered, called, back, returns, done}
-use Rattle.machine_types.specs.ReadyObjects.{ready, thrown_of}
-use Rattle.machine_types.specs.Standing.{Standing, Whole, tags_of}
-use Rattle.machine_types.specs.Structure.{IsPhaseInside, Stands, AttemptStands, Finishes, RunsSection, frames_inside, is_element_op}
-use Rattle.machine_types.specs.Threads.{Frame, Attempt}
-use Rattle.machine_types.specs.Words.{header_class, header_length}
-use Rattle.machine_types.specs.declared.effect.Effect.{Effect}
+use Rattle.machine_types.specs.{Onward.{Onward, Running, Throwing, Entering, Leaving, threw, entered, called, back, returns, done}, ReadyObjects.{ready, thrown_of}}
+use Rattle.machine_types.specs.{Standing.{Standing, Whole, tags_of}, Structure.{IsPhaseInside, Stands, AttemptStands, Finishes, RunsSection, frames_inside, is_element_op}, Threads.{Frame, Attempt}}
+use Rattle.machine_types.specs.{Words.{header_class, header_length}, declared.effect.Effect.Effect}
 use Rattle.machine_types.specs.declared.effect.Effect.TheVariants.{Goes, Throws, Reads, Writes, Indexes, Measures, Raises, Makes, Prints, Calls, Returns, Enters, Leaves, Waits, Notifies, NotifiesAll, Stuck}
-use Rattle.machine_types.specs.declared.lock.Held.{Held}
-use Rattle.machine_types.specs.declared.phase.After.TheVariants as afters
-use Rattle.machine_types.specs.declared.phase.Phase.{Phase}
-use Rattle.machine_types.specs.declared.phase.Phase.TheVariants as phases
+use Rattle.machine_types.specs.declared.{lock.Held.Held, phase.Phase.Phase}
 use Rattle.laws_threads.specs.InsideMoves.{GoesOnInside, OnwardStands, GoesAlong, StepsInside, NoElementInside}
-use Rattle.laws_threads.proofs.Base.{own_part, entry_of, of_synchronized, as_many_at_exit, none_inside}
-use Rattle.laws_threads.proofs.CallOps.{is_receiver}
-use Rattle.laws_threads.proofs.EffectOps.{Does, GoesElsewhere, goes_behind, OnlyLeaves, exit_leaves}
-use Rattle.laws_threads.proofs.FrameReturns.{leaves_none}
+use Rattle.laws_threads.proofs.{AttemptMoves.{next_edge, stands_inner, put_back_top, only_entry, along, returned_on}, Base.{own_part, entry_of, of_synchronized, as_many_at_exit, none_inside}}
+use Rattle.laws_threads.proofs.{CallOps.is_receiver, EffectOps.{Does, GoesElsewhere, goes_behind, OnlyLeaves, exit_leaves}, FrameReturns.leaves_none}
 use Rattle.laws_threads.proofs.FramesInside.{one_more, put_back_over, alone_inside}
-use Rattle.laws_threads.proofs.Inside.{base_below, runs_inside, stands_on, stays, stack_this, top_shows, top_does, locking, calls_on, leaves_on, not_finished}
-use Rattle.laws_threads.proofs.Leaves.{lands}
-use Rattle.laws_threads.proofs.AttemptMoves.{next_edge, stands_inner, put_back_top, only_entry, along, returned_on}
-use Rattle.laws_threads.proofs.SectionFrames.{Runs, IsExitOf, moved, invoked, reads, row_stands}
-use Rattle.laws_threads.proofs.Standings.{top_here, top_at_standing, stands_too, one_insn}
+use Rattle.laws_threads.proofs.{Inside.{base_below, runs_inside, stands_on, stays, stack_this, top_shows, top_does, locking, calls_on, leaves_on, not_finished}, Leaves.lands}
+use Rattle.laws_threads.proofs.{SectionFrames.{Runs, IsExitOf, moved, invoked, reads, row_stands}, Standings.{top_here, top_at_standing, stands_too, one_insn}}
+use Rattle.jvm_types.specs.declared.code.Op.TheVariants as ops
+use Rattle.machine_types.specs.declared.phase.After.TheVariants as afters
+use Rattle.machine_types.specs.declared.phase.Phase.TheVariants as phases
 
 module _ (c : MarkedProgram) (marked : IsMarked c) (f : Frame) (below : List Frame) (held : List Held) (a : Attempt) (k : AttemptStands c phases.Run (f ∷ below) held a) (s : Stands c phases.Run (f ∷ below) held (Some a)) where
   abbrev r : Runs c a f (frames_inside a below)

@@ -1,16 +1,8 @@
 -- Tagged places keep their values: under rows, under weaker tags, and under a new tag.
-use Rattle.std.proofs.Common.{◌≡◌, ℕ, zero, suc, Bool, true, false, cond, List, [], ◌∷◌, ◌++◌, map, drop, length, Option, Some, None, refl, sym, ap, ◌∙◌, subst, arith}
-use Rattle.std.specs.Prelude.{◌==◌, slice_set, slice_index_or}
-use Rattle.std.specs.List.{AllByRecursion}
-use Rattle.std.proofs.lemmas.Bool.Decides.{nat_tests}
-use Rattle.jvm_types.specs.CodeTable.{value_of, stack_after, locals_after}
-use Rattle.jvm_types.specs.declared.op_row.Given.{Given}
-use Rattle.jvm_types.specs.declared.op_row.Given.TheVariants.{Fresh, Taken, Local}
-use Rattle.jvm_types.specs.declared.op_row.OpRow.{OpRow}
-use Rattle.jvm_types.specs.declared.typing.VType.{VType}
-use Rattle.checked_program.specs.LockTags.{same_tag, without, IsTagBelow, AreTagsBelow}
-use Rattle.checked_program.specs.declared.tag.Tag.{Tag}
-use Rattle.checked_program.specs.declared.tag.Tag.TheVariants.{Untagged, This, At}
+use Rattle.std.proofs.Common.{◌≡◌, ℕ, zero, suc, Bool, true, false, cond, List, [], ◌∷◌, ◌++◌, map, drop, length, Option, Some, None, refl, sym, ap, ◌∙◌, subst, arith, ◌==◌, slice_set, slice_index_or}
+use Rattle.std.{specs.List.AllByRecursion, proofs.lemmas.Bool.Decides.nat_tests}
+use Rattle.jvm_types.specs.{CodeTable.{value_of, stack_after, locals_after}, declared.{op_row.{Given.{Given, TheVariants.{Fresh, Taken, Local}}, OpRow.OpRow}, typing.VType.VType}}
+use Rattle.checked_program.specs.{LockTags.{same_tag, without, IsTagBelow, AreTagsBelow}, declared.tag.Tag.{Tag, TheVariants.{Untagged, This, At}}}
 use Rattle.machine_types.specs.Shown.{tag_value, HasValue, HaveValues}
 
 module _ (choice : ℕ → ℕ) (receiver : ℕ) where

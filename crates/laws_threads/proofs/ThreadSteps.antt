@@ -1,60 +1,32 @@
 -- Each event of a thread keeps its locking structured.
-use Rattle.std.proofs.Common.{◌≡◌, inl, inr, ℕ, ◌<◌, Bool, true, false, cond, List, [], ◌∷◌, ◌++◌, length, Option, Some, None, refl, sym, ap, ◌∙◌, subst, arith, ◌+◌}
-use Rattle.std.specs.Prelude.{nat_lt, slice_get, option_map, ◌&&◌, IsTrue}
+use Rattle.std.proofs.Common.{◌≡◌, inl, inr, ℕ, ◌<◌, Bool, true, false, cond, List, [], ◌∷◌, ◌++◌, length, Option, Some, None, refl, sym, ap, ◌∙◌, subst, arith, ◌+◌, nat_lt, slice_get, option_map, ◌&&◌, IsTrue}
 use Rattle.std.specs.List.{AllByRecursion}
-use Rattle.jvm_types.specs.CodeTable.{can_throw}
-use Rattle.jvm_types.specs.Members.{is_synchronized}
-use Rattle.jvm_types.specs.Numbers.{has_number}
-use Rattle.jvm_types.specs.declared.outcome.End.{End}
+use Rattle.jvm_types.specs.{CodeTable.can_throw, Members.is_synchronized, Numbers.has_number, declared.{limits.TheConstants.MOST_ATTEMPTS, outcome.{End.End, Thrown.TheVariants.StackOverflowError}}}
+use Rattle.jvm_types.specs.declared.program.{MethodInfo.MethodInfo, Row.Row}
+use Rattle.checked_program.specs.MarkedProgram.{MarkedProgram, IsMarked}
+use Rattle.machine_types.specs.{Bounds.{IsRooted, part_roots}, Elision.{may_try, enters_marked}, Events.{thread_started, element_made, moved}}
+use Rattle.machine_types.specs.{Frames.{Top, top_of, frames_of, went_on, pushed, has_room, entry_frame, monitor_of, handler_at}, Going.{with_phase, failed_turn, goes_on, goes_on_if}}
+use Rattle.machine_types.specs.{HeldMonitors.{held_at, without_held}, Monitors.{lets_go, lowest_of, HasNot, claim}}
+use Rattle.machine_types.specs.{Onward.{Running, Leaving, Uncaught, rooted, root_arguments, handed, unwound, Onward}, ReadyObjects.class_of, Shown.Show, Standing.{Whole, Thrown}}
+use Rattle.machine_types.specs.{Structure.{HasFrame, TopIs, Stands, AttemptStandsIn, IsStructured, IsAs, IsLimitAt, IsPhaseInside, count_in, any_op}, Threads.{Frame, Attempt, Thread}}
+use Rattle.machine_types.specs.{Typed.{Classes, AfterHolds, PhaseHolds, ThreadHolds}, declared.{lock.{Held.Held, Kept.Kept}, phase.{After.After, Phase.Phase}}}
+use Rattle.laws_threads.specs.{CallLaws.IsLeft, InsideMoves.{BeginsAttempt, EntersInside}, StructureLaws.{StaysStructured, StructureIsKept, counted_by, turned_from}, ThrowLaws.ThrowsOn}
+use Rattle.laws_threads.proofs.{FrameCalls.roots_law, FramePlaces.tops_stand_law, FrameThrows.{caught_law, unwound_law}, GoingOn.{OnwardShows, AttemptGoesOn, none_goes_on, onward_stands, going}}
+use Rattle.laws_threads.proofs.MonitorEntries.{from_take, from_flag, from_take_fat, takes_next, takes_fat_next, looks_again, flags, turned_back, turned_back_fat, looks_at_lock, taken, again, to_acquire, begun, deeper_inside, none_tried}
+use Rattle.laws_threads.proofs.{MoveProofs.{elements_law, pushed_law}, Releases.{left_with, left_deeper, left_last, grows_first, left_elided, left_inside}, Roots.{IsSomeRoot, part_root}}
+use Rattle.laws_threads.proofs.Steps.{no_element_inside}
+use Rattle.laws_threads.proofs.ThreadMove.{Looks, Lacks, GoesBy, Checks, LeadsTo, TurnsTo, Takes, GivesUp, Move, becomes, mover, by_move, of_mover, not_held, tried_attempt, tried_monitor}
+use Rattle.laws_threads.proofs.{Throws.throws_inside, Turns.{failing, no_attempt, outside}}
+use Rattle.laws_threads.proofs.Waits.{to_own, not_grown, to_fat_in, fattened, to_wait_out, given_up, waits_on, to_retake, retakes_not, retaken, notified, to_notify_one, notified_one, notified_all}
 use Rattle.jvm_types.specs.declared.outcome.End.TheVariants as ends
 use Rattle.jvm_types.specs.declared.outcome.Thrown as outcomes
-use Rattle.jvm_types.specs.declared.outcome.Thrown.TheVariants.{StackOverflowError}
-use Rattle.jvm_types.specs.declared.program.MethodInfo.{MethodInfo}
-use Rattle.jvm_types.specs.declared.program.Row.{Row}
-use Rattle.checked_program.specs.MarkedProgram.{MarkedProgram, IsMarked}
-use Rattle.machine_types.specs.Elision.{may_try, enters_marked}
-use Rattle.machine_types.specs.Bounds.{IsRooted, part_roots}
-use Rattle.machine_types.specs.Events.{thread_started, element_made, moved}
-use Rattle.machine_types.specs.Frames.{Top, top_of, frames_of, went_on, pushed, has_room, entry_frame, monitor_of, handler_at}
-use Rattle.machine_types.specs.Going.{with_phase, failed_turn, goes_on, goes_on_if}
-use Rattle.machine_types.specs.HeldMonitors.{held_at, without_held}
 use Rattle.machine_types.specs.Lawful as lawful
-use Rattle.machine_types.specs.Monitors.{lets_go, lowest_of, HasNot, claim}
-use Rattle.machine_types.specs.Onward.{Running, Leaving, Uncaught, rooted, root_arguments, handed, unwound, Onward}
-use Rattle.machine_types.specs.ReadyObjects.{class_of}
-use Rattle.machine_types.specs.Shown.{Show}
-use Rattle.machine_types.specs.Standing.{Whole, Thrown}
-use Rattle.machine_types.specs.Structure.{HasFrame, TopIs, Stands, AttemptStandsIn, IsStructured, IsAs, IsLimitAt, IsPhaseInside, count_in, any_op}
-use Rattle.machine_types.specs.Threads.{Frame, Attempt, Thread}
-use Rattle.machine_types.specs.Typed.{Classes, AfterHolds, PhaseHolds, ThreadHolds}
-use Rattle.jvm_types.specs.declared.limits.TheConstants.{MOST_ATTEMPTS}
-use Rattle.machine_types.specs.declared.lock.Held.{Held}
-use Rattle.machine_types.specs.declared.phase.After.{After}
 use Rattle.machine_types.specs.declared.phase.After.TheVariants as afters
-use Rattle.machine_types.specs.declared.phase.Phase.{Phase}
 use Rattle.machine_types.specs.declared.phase.Phase.TheVariants as phases
 use Rattle.machine_types.specs.declared.phase.Toward.TheVariants as towards
-use Rattle.machine_types.specs.declared.lock.Kept.{Kept}
-use Rattle.laws_threads.specs.StructureLaws.{StaysStructured, StructureIsKept, counted_by, turned_from}
-use Rattle.laws_threads.specs.CallLaws.{IsLeft}
-use Rattle.laws_threads.specs.ThrowLaws.{ThrowsOn}
-use Rattle.laws_threads.specs.InsideMoves.{BeginsAttempt, EntersInside}
-use Rattle.laws_threads.proofs.FrameCalls.{roots_law}
-use Rattle.laws_threads.proofs.FramePlaces.{tops_stand_law}
-use Rattle.laws_threads.proofs.FrameThrows.{caught_law, unwound_law}
-use Rattle.laws_threads.proofs.MoveProofs.{elements_law, pushed_law}
-use Rattle.laws_threads.proofs.Steps.{no_element_inside}
-use Rattle.laws_threads.proofs.Throws.{throws_inside}
 use Rattle.laws_threads.proofs.HeldLists as lists
-use Rattle.laws_threads.proofs.MonitorEntries.{from_take, from_flag, from_take_fat, takes_next, takes_fat_next, looks_again, flags, turned_back, turned_back_fat, looks_at_lock, taken, again, to_acquire, begun, deeper_inside, none_tried}
-use Rattle.laws_threads.proofs.GoingOn.{OnwardShows, AttemptGoesOn, none_goes_on, onward_stands, going}
 use Rattle.laws_threads.proofs.Instructions as instruction
-use Rattle.laws_threads.proofs.ThreadMove.{Looks, Lacks, GoesBy, Checks, LeadsTo, TurnsTo, Takes, GivesUp, Move, becomes, mover, by_move, of_mover, not_held, tried_attempt, tried_monitor}
 use Rattle.laws_threads.proofs.ThreadMove as moves
-use Rattle.laws_threads.proofs.Releases.{left_with, left_deeper, left_last, grows_first, left_elided, left_inside}
-use Rattle.laws_threads.proofs.Roots.{IsSomeRoot, part_root}
-use Rattle.laws_threads.proofs.Turns.{failing, no_attempt, outside}
-use Rattle.laws_threads.proofs.Waits.{to_own, not_grown, to_fat_in, fattened, to_wait_out, given_up, waits_on, to_retake, retakes_not, retaken, notified, to_notify_one, notified_one, notified_all}
 
 -- ---- an exception and one frame
 

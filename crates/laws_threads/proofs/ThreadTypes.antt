@@ -1,18 +1,13 @@
 -- A thread that goes on keeps the types of all that it holds.
-use Rattle.std.proofs.Common.{◌≡◌, ℕ, zero, suc, ◌+◌, ◌-◌, ◌<◌, Bool, true, false, List, [], ◌∷◌, length, Option, Some, None, sym, subst}
-use Rattle.std.specs.Prelude.{nat_lt, drop, IfSome, if◌then◌else◌}
-use Rattle.jvm_types.specs.declared.outcome.End.TheVariants as ends
+use Rattle.std.proofs.Common.{◌≡◌, ℕ, zero, suc, ◌+◌, ◌-◌, ◌<◌, Bool, true, false, List, [], ◌∷◌, length, Option, Some, None, sym, subst, nat_lt, drop, IfSome, if◌then◌else◌}
 use Rattle.jvm_types.specs.declared.program.Program.{Program}
 use Rattle.checked_program.specs.MarkedProgram.{MarkedProgram}
-use Rattle.machine_types.specs.Elision.{put_back, is_same, fails, if_same}
-use Rattle.machine_types.specs.Going.{with_phase, runs, failed_turn, root_over, goes_on, goes_on_if}
-use Rattle.machine_types.specs.Lawful.{NewFits}
-use Rattle.machine_types.specs.Onward.{Onward, Running, Throwing, Entering, Leaving, RootReturned, Uncaught}
-use Rattle.machine_types.specs.Threads.{Frame, Attempt, Thread}
-use Rattle.machine_types.specs.Typed.{Classes, FramesHold, AttemptHolds, ThreadHolds, PhaseHolds, IsObject}
-use Rattle.machine_types.specs.declared.phase.Phase.{Phase}
-use Rattle.machine_types.specs.declared.phase.Phase.TheVariants as phases
+use Rattle.machine_types.specs.{Elision.{put_back, is_same, fails, if_same}, Going.{with_phase, runs, failed_turn, root_over, goes_on, goes_on_if}, Lawful.NewFits}
+use Rattle.machine_types.specs.{Onward.{Onward, Running, Throwing, Entering, Leaving, RootReturned, Uncaught}, Threads.{Frame, Attempt, Thread}}
+use Rattle.machine_types.specs.{Typed.{Classes, FramesHold, AttemptHolds, ThreadHolds, PhaseHolds, IsObject}, declared.phase.Phase.Phase}
 use Rattle.laws_threads.proofs.Onwards.{Keeps, AreInside, Onwards, IfOnwards}
+use Rattle.jvm_types.specs.declared.outcome.End.TheVariants as ends
+use Rattle.machine_types.specs.declared.phase.Phase.TheVariants as phases
 
 -- ---- what a thread holds beside its phase
 

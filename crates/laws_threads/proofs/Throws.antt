@@ -1,37 +1,17 @@
 -- An attempt stands as an exception goes to a handler, or leaves the top frame.
-use Rattle.std.proofs.Common.{◌≡◌, ℕ, Bool, true, false, cond, not, ◌&&◌, ◌||◌, List, [], ◌∷◌, length, Option, Some, None, refl, sym, ap, ◌∙◌, subst, arith}
-use Rattle.std.specs.Prelude.{◌==◌, if◌then◌else◌}
-use Rattle.std.specs.List.{list_any, filter}
-use Rattle.std.proofs.lemmas.Bool.Decides.{nat_tests}
+use Rattle.std.proofs.Common.{◌≡◌, ℕ, Bool, true, false, cond, not, ◌&&◌, ◌||◌, List, [], ◌∷◌, length, Option, Some, None, refl, sym, ap, ◌∙◌, subst, arith, ◌==◌, if◌then◌else◌}
+use Rattle.std.{specs.List.{list_any, filter}, proofs.lemmas.Bool.Decides.nat_tests}
 use Rattle.lists.proofs.ListLaws.{same_some}
-use Rattle.jvm_types.specs.ClassTree.{is_subclass}
-use Rattle.jvm_types.specs.CodeTable.{can_throw}
-use Rattle.jvm_types.specs.Members.{is_synchronized}
-use Rattle.jvm_types.specs.Verifying.{covers, covering, is_return}
-use Rattle.jvm_types.specs.declared.code.Insn.{Insn}
+use Rattle.jvm_types.specs.{ClassTree.is_subclass, CodeTable.can_throw, Members.is_synchronized, Verifying.{covers, covering, is_return}, declared.{code.Insn.Insn, outcome.Thrown.Thrown}}
+use Rattle.jvm_types.specs.declared.program.{MethodInfo.MethodInfo, Row.Row}
+use Rattle.checked_program.specs.{MarkedProgram.{MarkedProgram, IsMarked}, TaggedCode.caught, Tagging.{catches_all, until_all, catchers, may_leave, tags_at_handler}}
+use Rattle.machine_types.specs.{Frames.{Top, handler_of, handler_at, monitor_of}, Onward.{Leaving, handed, unwound}, ReadyObjects.class_of, Structure.{Stands, AttemptStands, Finishes, frames_inside}}
+use Rattle.machine_types.specs.{Threads.{Frame, Attempt}, declared.lock.Held.Held}
+use Rattle.laws_threads.{specs.InsideMoves.{GoesOnInside, OnwardStands, ThrowsInside}, proofs.{AttemptMoves.{only_entry, along, unwound_on}, Base.{entry_of, of_synchronized}}}
+use Rattle.laws_threads.proofs.{FrameReturns.leaves_none, FrameThrows.none_catches, Inside.{locking, runs_inside, stays}, SectionFrames.Runs, Standings.{top_here, top_at_standing, one_insn}}
 use Rattle.jvm_types.specs.declared.code.Op.TheVariants as ops
-use Rattle.jvm_types.specs.declared.outcome.Thrown.{Thrown}
-use Rattle.jvm_types.specs.declared.program.MethodInfo.{MethodInfo}
-use Rattle.jvm_types.specs.declared.program.Row.{Row}
-use Rattle.checked_program.specs.MarkedProgram.{MarkedProgram, IsMarked}
-use Rattle.checked_program.specs.Tagging.{catches_all, until_all, catchers, may_leave, tags_at_handler}
-use Rattle.checked_program.specs.TaggedCode.{caught}
-use Rattle.machine_types.specs.Frames.{Top, handler_of, handler_at, monitor_of}
-use Rattle.machine_types.specs.Onward.{Leaving, handed, unwound}
-use Rattle.machine_types.specs.ReadyObjects.{class_of}
-use Rattle.machine_types.specs.Structure.{Stands, AttemptStands, Finishes, frames_inside}
-use Rattle.machine_types.specs.Threads.{Frame, Attempt}
-use Rattle.machine_types.specs.declared.lock.Held.{Held}
 use Rattle.machine_types.specs.declared.phase.After.TheVariants as afters
 use Rattle.machine_types.specs.declared.phase.Phase.TheVariants as phases
-use Rattle.laws_threads.specs.InsideMoves.{GoesOnInside, OnwardStands, ThrowsInside}
-use Rattle.laws_threads.proofs.Base.{entry_of, of_synchronized}
-use Rattle.laws_threads.proofs.FrameReturns.{leaves_none}
-use Rattle.laws_threads.proofs.Inside.{locking, runs_inside, stays}
-use Rattle.laws_threads.proofs.AttemptMoves.{only_entry, along, unwound_on}
-use Rattle.laws_threads.proofs.SectionFrames.{Runs}
-use Rattle.laws_threads.proofs.Standings.{top_here, top_at_standing, one_insn}
-use Rattle.laws_threads.proofs.FrameThrows.{none_catches}
 
 -- ---- handlers
 

@@ -1,17 +1,11 @@
 -- How a thread goes on from an event: to its next instruction, to another turn, or to the limit that it made.
-use Rattle.std.proofs.Common.{◌≡◌, ℕ, ◌+◌, Bool, true, false, cond, List, Option, Some, None, refl, sym, ◌∙◌, subst}
-use Rattle.std.specs.Prelude.{nat_lt}
+use Rattle.std.proofs.Common.{◌≡◌, ℕ, ◌+◌, Bool, true, false, cond, List, Option, Some, None, refl, sym, ◌∙◌, subst, nat_lt}
 use Rattle.checked_program.specs.MarkedProgram.{MarkedProgram}
-use Rattle.machine_types.specs.Elision.{fails}
-use Rattle.machine_types.specs.Going.{with_phase, runs, failed_turn}
-use Rattle.machine_types.specs.HeldMonitors.{held_at}
-use Rattle.machine_types.specs.Structure.{CountsTurns, IsPhaseInside, Stands, AttemptStands, AttemptStandsIn}
-use Rattle.machine_types.specs.Threads.{Frame, Attempt, Thread}
-use Rattle.machine_types.specs.declared.lock.Held.{Held}
-use Rattle.jvm_types.specs.declared.outcome.End.TheVariants as ends
-use Rattle.machine_types.specs.declared.phase.Phase.{Phase}
-use Rattle.machine_types.specs.declared.phase.Phase.TheVariants as phases
+use Rattle.machine_types.specs.{Elision.fails, Going.{with_phase, runs, failed_turn}, HeldMonitors.held_at, Structure.{CountsTurns, IsPhaseInside, Stands, AttemptStands, AttemptStandsIn}}
+use Rattle.machine_types.specs.{Threads.{Frame, Attempt, Thread}, declared.{lock.Held.Held, phase.Phase.Phase}}
 use Rattle.laws_threads.specs.StructureLaws.{StaysStructured, turned_from}
+use Rattle.jvm_types.specs.declared.outcome.End.TheVariants as ends
+use Rattle.machine_types.specs.declared.phase.Phase.TheVariants as phases
 
 -- ---- to another phase
 

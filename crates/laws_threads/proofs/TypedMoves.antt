@@ -1,45 +1,20 @@
 -- Typed frames stay typed as the top one goes on, waits at a call, is given the result of one, or catches an exception.
-use Rattle.std.proofs.Common.{◌≡◌, ℕ, inl, inr, Bool, true, false, cond, not, ◌||◌, ◌&&◌, List, [], ◌∷◌, ◌++◌, length, Option, Some, None, refl, ap, sym, subst, ◌∙◌}
-use Rattle.std.specs.Prelude.{◌==◌, map, drop, if◌then◌else◌}
-use Rattle.std.specs.List.{AllZip, AllByRecursion, find}
-use Rattle.std.specs.Option.{option_to_list, option_map}
-use Rattle.std.proofs.lemmas.Bool.{or_parts}
-use Rattle.jvm_types.specs.ClassTree.{is_subclass}
-use Rattle.jvm_types.specs.CodeTable.{type_of, can_throw, result_of, value_of, stack_after, locals_after}
-use Rattle.jvm_types.specs.Types.{TypeFrame, is_below}
+use Rattle.std.proofs.Common.{◌≡◌, ℕ, inl, inr, Bool, true, false, cond, not, ◌||◌, ◌&&◌, List, [], ◌∷◌, ◌++◌, length, Option, Some, None, refl, ap, sym, subst, ◌∙◌, ◌==◌, map, drop, if◌then◌else◌}
+use Rattle.std.{specs.{List.{AllZip, AllByRecursion, find}, Option.{option_to_list, option_map}}, proofs.lemmas.Bool.or_parts}
+use Rattle.jvm_types.specs.{ClassTree.is_subclass, CodeTable.{type_of, can_throw, result_of, value_of, stack_after, locals_after}, Types.{TypeFrame, is_below}}
 use Rattle.jvm_types.specs.Verifying.{edges, is_return, suits, some_taken, some_read, started, frame_after, frame_at_handler, caught_class, covers, covering}
-use Rattle.jvm_types.specs.Verifying as types
-use Rattle.jvm_types.specs.declared.class_numbers.TheConstants.{THROWABLE_CLASS}
-use Rattle.jvm_types.specs.declared.code.Op.{Op}
-use Rattle.jvm_types.specs.declared.code.Op.TheVariants as ops
-use Rattle.jvm_types.specs.declared.op_row.OpRow.{OpRow}
-use Rattle.jvm_types.specs.declared.op_row.Given.{Given}
-use Rattle.jvm_types.specs.declared.op_row.Given.TheVariants.{Fresh}
-use Rattle.jvm_types.specs.declared.program.Kind.{Kind}
-use Rattle.jvm_types.specs.declared.program.Kind.TheVariants as kinds
-use Rattle.jvm_types.specs.declared.program.MethodInfo.{MethodInfo}
-use Rattle.jvm_types.specs.declared.program.Row.{Row}
-use Rattle.jvm_types.specs.declared.typing.VType.{VType}
-use Rattle.jvm_types.specs.declared.typing.VType.TheVariants.{Ref, Top as Unknown}
-use Rattle.laws_programs.specs.RuleLaws.{ReturnsWell, ReturnsTop}
-use Rattle.laws_programs.proofs.LocalGoing.{at_index}
-use Rattle.checked_program.specs.LockTags.{IsShapeBelow}
-use Rattle.checked_program.specs.MarkedProgram.{MarkedProgram, IsMarked}
-use Rattle.checked_program.specs.Marks.{called_method}
-use Rattle.checked_program.specs.TaggedCode.{row_of}
-use Rattle.checked_program.specs.Tagging.{tags_after, tags_at_handler, catches_all, until_all}
-use Rattle.checked_program.specs.Visits as visits
+use Rattle.jvm_types.specs.declared.{class_numbers.TheConstants.THROWABLE_CLASS, code.Op.Op, op_row.{Given.{Given, TheVariants.Fresh}, OpRow.OpRow}, program.{Kind.Kind, MethodInfo.MethodInfo}}
+use Rattle.jvm_types.specs.declared.{program.Row.Row, typing.VType.{VType, TheVariants.{Ref, Top as Unknown}}}
+use Rattle.laws_programs.{specs.RuleLaws.{ReturnsWell, ReturnsTop}, proofs.LocalGoing.at_index}
+use Rattle.checked_program.specs.{LockTags.IsShapeBelow, MarkedProgram.{MarkedProgram, IsMarked}, Marks.called_method, TaggedCode.row_of, Tagging.{tags_after, tags_at_handler, catches_all, until_all}}
 use Rattle.checked_program.proofs.CheckedPlaces.{catchers_among}
-use Rattle.machine_types.specs.Frames.{frame_on, given_back, handler_of}
-use Rattle.machine_types.specs.Standing.{Standing}
-use Rattle.machine_types.specs.Threads.{Frame}
-use Rattle.machine_types.specs.Typed.{Classes, Holds, FrameHolds, WaitHolds}
-use Rattle.laws_threads.specs.Allowed.{OneOf, HasRowTypes}
-use Rattle.laws_threads.proofs.Values.{ValuesHold, holds_below, rest_holds}
-use Rattle.laws_threads.proofs.Typing.{start_holds, started_frame, values_after}
-use Rattle.laws_threads.proofs.Landing.{rules_at, tag_rules_at, land}
-use Rattle.laws_threads.proofs.Calls.{CallRow}
-use Rattle.laws_threads.proofs.Callers.{handler_in, call_edge}
+use Rattle.machine_types.specs.{Frames.{frame_on, given_back, handler_of}, Standing.Standing, Threads.Frame, Typed.{Classes, Holds, FrameHolds, WaitHolds}}
+use Rattle.laws_threads.{specs.Allowed.{OneOf, HasRowTypes}, proofs.{Callers.{handler_in, call_edge}, Calls.CallRow, Landing.{rules_at, tag_rules_at, land}}}
+use Rattle.laws_threads.proofs.{Typing.{start_holds, started_frame, values_after}, Values.{ValuesHold, holds_below, rest_holds}}
+use Rattle.jvm_types.specs.Verifying as types
+use Rattle.jvm_types.specs.declared.code.Op.TheVariants as ops
+use Rattle.jvm_types.specs.declared.program.Kind.TheVariants as kinds
+use Rattle.checked_program.specs.Visits as visits
 
 -- ---- edges
 

@@ -1,26 +1,14 @@
 -- The frame after an instruction has the types that verification gives it: generic in the row.
-use Rattle.std.proofs.Common.{◌≡◌, ℕ, inl, inr, Bool, true, false, not, List, [], ◌∷◌, Option, Some, None, refl, sym, subst, arith}
-use Rattle.std.specs.Prelude.{if◌then◌else◌}
-use Rattle.std.specs.List.{AllZip, AllByRecursion}
-use Rattle.std.proofs.lemmas.Bool.{or_parts}
-use Rattle.std.proofs.lemmas.Bool.Decides.{nat_tests}
+use Rattle.std.{proofs.Common.{◌≡◌, ℕ, inl, inr, Bool, true, false, not, List, [], ◌∷◌, Option, Some, None, refl, sym, subst, arith, if◌then◌else◌}, specs.List.{AllZip, AllByRecursion}}
+use Rattle.std.proofs.lemmas.Bool.{or_parts, Decides.nat_tests}
 use Rattle.lists.proofs.TestLaws.{is_true}
-use Rattle.jvm_types.specs.declared.op_row.OpRow.{OpRow}
-use Rattle.jvm_types.specs.declared.op_row.Want.{Want}
-use Rattle.jvm_types.specs.declared.op_row.Want.TheVariants.{AnyValue, AnInt, AnObject, AnyReference, AHolder, ToStart}
 use Rattle.jvm_types.specs.Types.{TypeFrame, is_uninitialised, same_type}
 use Rattle.jvm_types.specs.Verifying.{suits, some_taken, some_read, new_class, is_class_of, takes_too_many, mistypes, started, initialised, after_start, frame_after, FrameFits}
-use Rattle.jvm_types.specs.declared.code.Insn.{Insn}
-use Rattle.jvm_types.specs.declared.typing.VType.{VType}
-use Rattle.jvm_types.specs.declared.typing.VType.TheVariants.{Ref, This, New}
-use Rattle.jvm_types.specs.declared.program.MethodInfo.{MethodInfo}
-use Rattle.jvm_types.proofs.TypeOrder.{subclass_self}
+use Rattle.jvm_types.specs.declared.{code.Insn.Insn, op_row.{OpRow.OpRow, Want.{Want, TheVariants.{AnyValue, AnInt, AnObject, AnyReference, AHolder, ToStart}}}, program.MethodInfo.MethodInfo}
+use Rattle.jvm_types.{specs.declared.typing.VType.{VType, TheVariants.{Ref, This, New}}, proofs.TypeOrder.subclass_self}
 use Rattle.laws_programs.proofs.MonoTypes.{same_object}
-use Rattle.machine_types.specs.Frames.{frame_on}
-use Rattle.machine_types.specs.Threads.{Frame}
-use Rattle.machine_types.specs.Typed.{Classes, IsMadeAt, Holds}
-use Rattle.laws_threads.specs.Allowed.{TakenHold, HasRowTypes, OneOf}
-use Rattle.laws_threads.proofs.Values.{ValuesHold, taken_hold, moved_stack, moved_locals}
+use Rattle.machine_types.specs.{Frames.frame_on, Threads.Frame, Typed.{Classes, IsMadeAt, Holds}}
+use Rattle.laws_threads.{specs.Allowed.{TakenHold, HasRowTypes, OneOf}, proofs.Values.{ValuesHold, taken_hold, moved_stack, moved_locals}}
 
 module _ (m : MethodInfo) (is : Classes) where
   -- ---- the object that an `<init>` is called on

@@ -1,28 +1,12 @@
 -- Values and the order of types; what a row asks of values is there under a typing.
-use Rattle.std.proofs.Common.{◌≡◌, ℕ, zero, suc, ◌⊎◌, inl, inr, Bool, true, false, not, ◌||◌, ◌&&◌, List, [], ◌∷◌, length, Option, Some, None, refl, ap, sym, subst, ◌∙◌, arith}
-use Rattle.std.specs.Prelude.{nat_lt, ◌==◌, slice_set, slice_index_or, map, drop, ◌++◌}
-use Rattle.std.specs.List.{AllZip, AllByRecursion}
-use Rattle.std.proofs.lemmas.Bool.{or_parts}
-use Rattle.std.proofs.lemmas.Bool.Decides.{nat_tests}
+use Rattle.std.proofs.Common.{◌≡◌, ℕ, zero, suc, ◌⊎◌, inl, inr, Bool, true, false, not, ◌||◌, ◌&&◌, List, [], ◌∷◌, length, Option, Some, None, refl, ap, sym, subst, ◌∙◌, arith, nat_lt, ◌==◌, slice_set, slice_index_or, map, drop, ◌++◌}
+use Rattle.std.{specs.List.{AllZip, AllByRecursion}, proofs.lemmas.Bool.{or_parts, Decides.nat_tests}}
 use Rattle.lists.proofs.TestLaws.{is_true}
-use Rattle.jvm_types.specs.ClassTree.{is_subclass}
-use Rattle.jvm_types.specs.CodeTable.{value_of, stack_after, locals_after}
-use Rattle.jvm_types.specs.Members.{is_static}
-use Rattle.jvm_types.specs.Types.{TypeFrame, is_below, all_pairs, frame_below}
-use Rattle.jvm_types.specs.Verifying.{suits, some_taken, new_class, is_class_of}
-use Rattle.jvm_types.specs.declared.class_numbers.TheConstants.{OBJECT_CLASS}
-use Rattle.jvm_types.specs.declared.op_row.OpRow.{OpRow}
-use Rattle.jvm_types.specs.declared.op_row.Want.{Want}
-use Rattle.jvm_types.specs.declared.op_row.Want.TheVariants.{AnyValue, AnInt, AnObject, AnyReference, AHolder, ToStart}
-use Rattle.jvm_types.specs.declared.op_row.Given.{Given}
-use Rattle.jvm_types.specs.declared.op_row.Given.TheVariants.{Fresh, Taken, Local}
-use Rattle.jvm_types.specs.declared.typing.VType.{VType}
-use Rattle.jvm_types.specs.declared.typing.VType.TheVariants.{Int, Null, Ref, This, New, Top}
-use Rattle.jvm_types.specs.declared.program.MethodInfo.{MethodInfo}
-use Rattle.jvm_types.proofs.TypeOrder.{subclass_self, subclass_trans}
-use Rattle.jvm_types.proofs.FrameOrder.{stack_below, locals_below}
-use Rattle.machine_types.specs.Threads.{Frame}
-use Rattle.machine_types.specs.Typed.{Classes, IsNullOr, Holds}
+use Rattle.jvm_types.specs.{ClassTree.is_subclass, CodeTable.{value_of, stack_after, locals_after}, Members.is_static, Types.{TypeFrame, is_below, all_pairs, frame_below}}
+use Rattle.jvm_types.specs.{Verifying.{suits, some_taken, new_class, is_class_of}, declared.{class_numbers.TheConstants.OBJECT_CLASS, op_row.Given.{Given, TheVariants.{Fresh, Taken, Local}}}}
+use Rattle.jvm_types.specs.declared.{op_row.{OpRow.OpRow, Want.{Want, TheVariants.{AnyValue, AnInt, AnObject, AnyReference, AHolder, ToStart}}}, program.MethodInfo.MethodInfo, typing.VType.VType}
+use Rattle.jvm_types.{specs.declared.typing.VType.TheVariants.{Int, Null, Ref, This, New, Top}, proofs.{FrameOrder.{stack_below, locals_below}, TypeOrder.{subclass_self, subclass_trans}}}
+use Rattle.machine_types.specs.{Threads.Frame, Typed.{Classes, IsNullOr, Holds}}
 use Rattle.laws_threads.specs.Allowed.{WantHolds, TakenHold, GivenHolds, WriteHolds, HasRowTypes}
 
 -- the values of a frame have the types of a typing

@@ -1,21 +1,14 @@
 -- A thread makes a lock fat, waits and notifies.
-use Rattle.std.proofs.Common.{◌≡◌, ℕ, ◌+◌, Bool, true, false, cond, Option, Some, None, refl, sym, subst, arith}
-use Rattle.std.specs.Prelude.{◌==◌}
-use Rattle.std.proofs.lemmas.Bool.Decides.{nat_tests}
+use Rattle.std.proofs.{Common.{◌≡◌, ℕ, ◌+◌, Bool, true, false, cond, Option, Some, None, refl, sym, subst, arith, ◌==◌}, lemmas.Bool.Decides.nat_tests}
 use Rattle.checked_program.specs.MarkedProgram.{MarkedProgram}
-use Rattle.machine_types.specs.Going.{with_phase, runs, failed_turn}
-use Rattle.machine_types.specs.HeldMonitors.{held_at, with_held, without_held}
-use Rattle.machine_types.specs.Monitors.{grows_not, fattens, goes_to_wait, retakes}
-use Rattle.machine_types.specs.Structure.{IsFlat, IsFat, Stands, held_depth}
-use Rattle.machine_types.specs.Threads.{Thread}
-use Rattle.machine_types.specs.declared.lock.Held.{Held}
-use Rattle.machine_types.specs.declared.lock.Kept.TheVariants as keeps
-use Rattle.machine_types.specs.declared.phase.Phase.TheVariants as phases
-use Rattle.machine_types.specs.declared.phase.Toward.{Toward}
-use Rattle.machine_types.specs.declared.phase.Toward.TheVariants as towards
+use Rattle.machine_types.specs.{Going.{with_phase, runs, failed_turn}, HeldMonitors.{held_at, with_held, without_held}, Monitors.{grows_not, fattens, goes_to_wait, retakes}}
+use Rattle.machine_types.specs.{Structure.{IsFlat, IsFat, Stands, held_depth}, Threads.Thread, declared.{lock.Held.Held, phase.Toward.Toward}}
 use Rattle.laws_threads.specs.StructureLaws.{StaysStructured}
 use Rattle.laws_threads.proofs.HeldLists.{depth_some, depth_none, depth_put, depth_without, depth_at_same, held_monitor, held_there, held_positive, none_held, once_put, once_without, refitted_depth}
 use Rattle.laws_threads.proofs.Turns.{TurnsIn, running, turning, no_attempt}
+use Rattle.machine_types.specs.declared.lock.Kept.TheVariants as keeps
+use Rattle.machine_types.specs.declared.phase.Phase.TheVariants as phases
+use Rattle.machine_types.specs.declared.phase.Toward.TheVariants as towards
 
 -- ---- a lock is made fat; no attempt is under way then
 

@@ -1,14 +1,7 @@
 -- What is known of the members of a file.
-use Rattle.std.proofs.Common.{◌≡◌, ℕ, zero, suc, ◌<◌, ◌^◌, List, [], ◌∷◌, Some, subst, arith}
-use Rattle.std.specs.Prelude.{slice_get}
-use Rattle.std.specs.List.{AllByRecursion}
-use Rattle.std.proofs.lemmas.Option.{slice_get_within}
-use Rattle.jvm_types.specs.ClassGrammar.{IsClass, IndicesFit}
-use Rattle.jvm_types.specs.Pool.{NamesClass, NamesNameAndType}
-use Rattle.jvm_types.specs.declared.class_file.Constant.{Constant}
-use Rattle.jvm_types.specs.declared.class_file.Constant.TheVariants.{Field, Method}
+use Rattle.std.{proofs.{Common.{◌≡◌, ℕ, zero, suc, ◌<◌, ◌^◌, List, [], ◌∷◌, Some, subst, arith, slice_get}, lemmas.Option.slice_get_within}, specs.List.AllByRecursion}
+use Rattle.jvm_types.specs.{ClassGrammar.{IsClass, IndicesFit}, Pool.{NamesClass, NamesNameAndType}, declared.class_file.{ClassFile.ClassFile, Constant.{Constant, TheVariants.{Field, Method}}}}
 use Rattle.jvm_types.specs.declared.class_file.Member.{Member as ClassMember}
-use Rattle.jvm_types.specs.declared.class_file.ClassFile.{ClassFile}
 use Rattle.link_scope.specs.Scoping.{FileOf, IsFileOf}
 
 -- members are counted in two bytes

@@ -1,14 +1,8 @@
 -- Only the first class is asked for its `run(I)V`.
-use Rattle.std.proofs.Common.{◌≡◌, ℕ, suc, ◌+◌, Bool, true, false, ◌||◌, List, [], ◌∷◌, Some, None, refl, ◌∙◌, arith, add-one}
-use Rattle.std.specs.Prelude.{◌==◌, slice_get}
-use Rattle.std.specs.List.{list_any}
-use Rattle.std.proofs.lemmas.Bool.Decides.{nat_tests}
+use Rattle.std.{proofs.{Common.{◌≡◌, ℕ, suc, ◌+◌, Bool, true, false, ◌||◌, List, [], ◌∷◌, Some, None, refl, ◌∙◌, arith, add-one, ◌==◌, slice_get}, lemmas.Bool.Decides.nat_tests}, specs.List.list_any}
 use Rattle.std.proofs.lemmas.List.Folds.{list_any-append}
-use Rattle.jvm_types.specs.Members.{declared_from, declared_by, declared_methods}
-use Rattle.jvm_types.specs.LinkFaults.{is_run_method}
-use Rattle.jvm_types.specs.declared.class_file.Constant.{Constant}
+use Rattle.jvm_types.specs.{LinkFaults.is_run_method, Members.{declared_from, declared_by, declared_methods}, declared.class_file.{ClassFile.ClassFile, Constant.Constant}}
 use Rattle.jvm_types.specs.declared.class_file.Member.{Member as ClassMember}
-use Rattle.jvm_types.specs.declared.class_file.ClassFile.{ClassFile}
 
 is_later : (file : ℕ) → (17 + suc file == 17) ≡ false
 is_later file = grind (arith, nat_tests)

@@ -1,23 +1,11 @@
 -- The members of files as entries, as they are passed one by one.
-use Rattle.std.proofs.Common.{◌≡◌, ℕ, suc, ◌+◌, ◌<◌, ◌≤◌, ◌^◌, lit<, Bool, true, false, cond, List, [], ◌∷◌, ◌++◌, length, take, get_or, Option, Some, None, is_some, refl, sym, ap, ◌∙◌, append_assoc, append-nil, arith, ⊎_elim}
-use Rattle.std.specs.Prelude.{bytes_eq, ◌==◌, ◌&&◌, ◌||◌, slice_get}
-use Rattle.std.specs.List.{list_any, AllByRecursion}
-use Rattle.std.proofs.lemmas.Bool.{cases_eq, eq-eqb, ne_eqb}
-use Rattle.std.proofs.lemmas.List.{length-append, length-take-le}
-use Rattle.jvm_types.specs.ClassGrammar.{IsClass}
-use Rattle.jvm_types.specs.ClassNames.{text_at, file_class}
-use Rattle.jvm_types.specs.Members.{Entry, member_in, Declared, class_of_declared, name_of, descriptor_of, declared_from, declared_by, entries_from}
-use Rattle.jvm_types.specs.LinkFaults.{is_repeated}
-use Rattle.jvm_types.proofs.EachAfter.{all_append, all_weaker}
-use Rattle.jvm_types.specs.declared.class_file.Constant.{Constant}
-use Rattle.jvm_types.specs.declared.class_file.Member.{Member as ClassMember}
-use Rattle.jvm_types.specs.declared.class_file.ClassFile.{ClassFile}
-use Rattle.jvm_types.specs.declared.program.Target.{Target}
-use Rattle.link_scope.specs.Scoping.{repeats}
-use Rattle.link_scope.specs.MemberTables.{members_of, target_of_sort, built_in, entries_of, class_entries, member_entry, AreBelow, in_flags, in_flag_rows, repeats_of, AreRepeats}
-use Rattle.link_scope.specs.declared.members.Sort.{Sort}
-use Rattle.link_scope.specs.declared.members.Sort.TheVariants.{Fields, Methods}
-use Rattle.link_scope.proofs.ListLaws.{got_at, got_other, take_next}
+use Rattle.std.proofs.Common.{◌≡◌, ℕ, suc, ◌+◌, ◌<◌, ◌≤◌, ◌^◌, lit<, Bool, true, false, cond, List, [], ◌∷◌, ◌++◌, length, take, get_or, Option, Some, None, is_some, refl, sym, ap, ◌∙◌, append_assoc, append-nil, arith, ⊎_elim, bytes_eq, ◌==◌, ◌&&◌, ◌||◌, slice_get}
+use Rattle.std.{specs.List.{list_any, AllByRecursion}, proofs.lemmas.{Bool.{cases_eq, eq-eqb, ne_eqb}, List.{length-append, length-take-le}}}
+use Rattle.jvm_types.specs.{ClassGrammar.IsClass, ClassNames.{text_at, file_class}, LinkFaults.is_repeated}
+use Rattle.jvm_types.specs.{Members.{Entry, member_in, Declared, class_of_declared, name_of, descriptor_of, declared_from, declared_by, entries_from}, declared.class_file.ClassFile.ClassFile}
+use Rattle.jvm_types.{specs.declared.{class_file.{Constant.Constant, Member.{Member as ClassMember}}, program.Target.Target}, proofs.EachAfter.{all_append, all_weaker}}
+use Rattle.link_scope.specs.{MemberTables.{members_of, target_of_sort, built_in, entries_of, class_entries, member_entry, AreBelow, in_flags, in_flag_rows, repeats_of, AreRepeats}, Scoping.repeats}
+use Rattle.link_scope.{specs.declared.members.Sort.{Sort, TheVariants.{Fields, Methods}}, proofs.ListLaws.{got_at, got_other, take_next}}
 
 -- ---- the members of one class
 

@@ -1,10 +1,6 @@
 -- Each of some files is a class, and has its number.
-use Rattle.std.proofs.Common.{◌≡◌, ℕ, zero, suc, List, [], ◌∷◌, Some, subst, arith}
-use Rattle.std.specs.Prelude.{slice_get}
-use Rattle.std.specs.List.{AllByRecursion}
-use Rattle.std.proofs.lemmas.Option.{slice_get_within}
-use Rattle.jvm_types.specs.ClassGrammar.{IsClass}
-use Rattle.jvm_types.specs.declared.class_file.ClassFile.{ClassFile}
+use Rattle.std.{proofs.{Common.{◌≡◌, ℕ, zero, suc, List, [], ◌∷◌, Some, subst, arith, slice_get}, lemmas.Option.slice_get_within}, specs.List.AllByRecursion}
+use Rattle.jvm_types.specs.{ClassGrammar.IsClass, declared.class_file.ClassFile.ClassFile}
 use Rattle.link_scope.specs.Scoping.{AreFiles, IsFileOf}
 
 pub class_at : (files : List ClassFile) (file : ℕ) (c : ClassFile) → AllByRecursion IsClass files → slice_get files file ≡ Some c → IsClass c

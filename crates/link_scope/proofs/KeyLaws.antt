@@ -1,18 +1,9 @@
 -- A member that is added under its key.
-use Rattle.std.proofs.Common.{◌≡◌, Bool, true, false, cond, Option, Some, None, is_some, refl, sym, ap, ◌∙◌}
-use Rattle.std.specs.Prelude.{◌==◌, ◌&&◌}
-use Rattle.std.specs.Option.{option_or}
+use Rattle.std.{proofs.Common.{◌≡◌, Bool, true, false, cond, Option, Some, None, is_some, refl, sym, ap, ◌∙◌, ◌==◌, ◌&&◌}, specs.{BTreeMap.{BTreeMap, get_by, UpdatesBy}, Cmp.unsigned_ties}}
+use Rattle.std.specs.{Map.lookup, Option.option_or, Ordering.{is_eq, nat_cmp, ordering_then}, declared.cmp.Ordering.{Ordering, TheVariants.{Less, Equal, Greater}}}
 use Rattle.std.proofs.lemmas.Bool.{and_parts, eqb-true}
+use Rattle.link_scope.specs.{Keys.{is_key, found_at}, declared.{scope.Found.Found, table.Key.Key}}
 use Rattle.link_scope.specs.contracts.table.KeyOrd.TheImpl as key_ord
-use Rattle.std.specs.declared.cmp.Ordering.{Ordering}
-use Rattle.std.specs.declared.cmp.Ordering.TheVariants.{Less, Equal, Greater}
-use Rattle.std.specs.Ordering.{is_eq, nat_cmp, ordering_then}
-use Rattle.std.specs.Cmp.{unsigned_ties}
-use Rattle.std.specs.Map.{lookup}
-use Rattle.std.specs.BTreeMap.{BTreeMap, get_by, UpdatesBy}
-use Rattle.link_scope.specs.Keys.{is_key, found_at}
-use Rattle.link_scope.specs.declared.table.Key.{Key}
-use Rattle.link_scope.specs.declared.scope.Found.{Found}
 
 -- ---- keys are compared part by part
 

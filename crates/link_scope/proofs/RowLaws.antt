@@ -1,13 +1,7 @@
 -- Rows of numbers, as they grow.
-use Rattle.std.proofs.Common.{◌≡◌, ℕ, ◌+◌, ◌<◌, List, [], ◌∷◌, ◌++◌, length, take, get_or, Some, sym, ◌∙◌, ⊎_elim, arith}
-use Rattle.std.proofs.lemmas.Bool.{cases_eq}
-use Rattle.std.proofs.lemmas.List.{length-take-le}
-use Rattle.jvm_types.specs.ClassNames.{entry_text}
-use Rattle.jvm_types.specs.declared.class_file.Constant.{Constant}
-use Rattle.jvm_types.specs.declared.class_file.ClassFile.{ClassFile}
-use Rattle.link_scope.specs.TextNumbers.{IsNumbered, Keeps}
-use Rattle.link_scope.specs.FileTexts.{IsRow, AreRows}
-use Rattle.link_scope.proofs.ListLaws.{got_at, got_other, take_next}
+use Rattle.std.proofs.{Common.{◌≡◌, ℕ, ◌+◌, ◌<◌, List, [], ◌∷◌, ◌++◌, length, take, get_or, Some, sym, ◌∙◌, ⊎_elim, arith}, lemmas.{Bool.cases_eq, List.length-take-le}}
+use Rattle.jvm_types.specs.{ClassNames.entry_text, declared.class_file.{ClassFile.ClassFile, Constant.Constant}}
+use Rattle.link_scope.{specs.{FileTexts.{IsRow, AreRows}, TextNumbers.{IsNumbered, Keeps}}, proofs.ListLaws.{got_at, got_other, take_next}}
 
 long_to : {X Y : Type 0} (xs : List X) (ys : List Y) (i : ℕ) → i < length xs → length ys ≡ i → length ys ≡ length (take i xs)
 long_to xs ys i l e = omega (arith, length-take-le i xs)

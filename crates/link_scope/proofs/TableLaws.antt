@@ -1,22 +1,10 @@
 -- Tables of members, as they grow.
-use Rattle.std.proofs.Common.{◌≡◌, ℕ, Bool, true, false, cond, List, [], ◌∷◌, ◌++◌, Option, Some, None, is_some, refl, sym, ap, ◌∙◌, subst, append_assoc, append-nil, ◌+◌, ◌-◌, ◌≤◌, map, arith}
-use Rattle.std.specs.Prelude.{bytes_eq, ◌==◌, ◌&&◌}
-use Rattle.std.specs.Option.{option_or}
-use Rattle.std.specs.List.{range_with_len}
-use Rattle.std.proofs.lemmas.List.FromFn.{map-range_with_len_more}
-use Rattle.std.proofs.lemmas.Bool.{and_parts, eqb-true, eq-eqb, false_from_ne_true}
-use Rattle.std.proofs.lemmas.List.Folds.{find-append}
+use Rattle.std.proofs.Common.{◌≡◌, ℕ, Bool, true, false, cond, List, [], ◌∷◌, ◌++◌, Option, Some, None, is_some, refl, sym, ap, ◌∙◌, subst, append_assoc, append-nil, ◌+◌, ◌-◌, ◌≤◌, map, arith, bytes_eq, ◌==◌, ◌&&◌}
+use Rattle.std.{specs.{List.range_with_len, Option.option_or}, proofs.lemmas.{Bool.{and_parts, eqb-true, eq-eqb, false_from_ne_true}, List.{Folds.find-append, FromFn.map-range_with_len_more}}}
 use Rattle.std.proofs.lemmas.Slice.Eq.{bytes_eq-Decides}
 use Rattle.jvm_types.specs.Members.{Entry, member_in, init_of, is_init_name, look_up}
-use Rattle.link_scope.specs.Scoping.{IsFound}
-use Rattle.link_scope.specs.TextNumbers.{number_of, IsNumbered, AreApart}
-use Rattle.link_scope.specs.Keys.{is_key, found_at}
-use Rattle.link_scope.specs.BuiltIn.{first_methods}
-use Rattle.link_scope.specs.MemberTables.{HasEntries, Adds, found_in}
-use Rattle.link_scope.specs.declared.table.Key.{Key}
-use Rattle.link_scope.specs.declared.scope.Found.{Found}
-use Rattle.link_scope.proofs.ListLaws.{some_same}
-use Rattle.link_scope.proofs.KeyLaws.{or_none}
+use Rattle.link_scope.specs.{BuiltIn.first_methods, Keys.{is_key, found_at}, MemberTables.{HasEntries, Adds, found_in}, Scoping.IsFound, TextNumbers.{number_of, IsNumbered, AreApart}}
+use Rattle.link_scope.{specs.declared.{scope.Found.Found, table.Key.Key}, proofs.{KeyLaws.or_none, ListLaws.some_same}}
 
 -- ---- equal numbers are equal texts
 

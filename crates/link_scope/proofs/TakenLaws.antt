@@ -1,13 +1,8 @@
 -- Which names are taken, by the numbers of classes.
-use Rattle.std.proofs.Common.{◌≡◌, ℕ, zero, suc, ◌+◌, ◌<◌, ◌≤◌, Bool, true, false, cond, List, [], ◌∷◌, take, Option, Some, None, is_some, refl, ap, ◌∙◌, arith}
-use Rattle.std.specs.Prelude.{bytes_eq, nat_lt, ◌||◌}
-use Rattle.std.specs.Option.{option_or}
-use Rattle.std.specs.List.{list_any, position_from}
-use Rattle.std.proofs.lemmas.Bool.{lt-ltb, le-ltb}
-use Rattle.jvm_types.specs.ClassNames.{numbered_names, system_name, named_class}
-use Rattle.jvm_types.specs.LinkFaults.{is_taken}
+use Rattle.std.proofs.Common.{◌≡◌, ℕ, zero, suc, ◌+◌, ◌<◌, ◌≤◌, Bool, true, false, cond, List, [], ◌∷◌, take, Option, Some, None, is_some, refl, ap, ◌∙◌, arith, bytes_eq, nat_lt, ◌||◌}
+use Rattle.std.{specs.{List.{list_any, position_from}, Option.option_or}, proofs.lemmas.Bool.{lt-ltb, le-ltb}}
+use Rattle.jvm_types.{specs.{ClassNames.{numbered_names, system_name, named_class}, LinkFaults.is_taken}, proofs.KindLaws.place_in}
 use Rattle.link_scope.specs.FileTexts.{is_before}
-use Rattle.jvm_types.proofs.KindLaws.{place_in}
 
 -- ---- the first place that passes
 

@@ -1,18 +1,11 @@
 -- Numbers of texts behind references, as they are looked up and given.
-use Rattle.std.proofs.Common.{◌≡◌, ℕ, ◌<◌, ◌⊎◌, Bool, true, false, cond, List, [], ◌∷◌, ◌++◌, length, Option, Some, None, refl, ap, ◌∙◌, sym, subst, inl, inr, arith, ⊎_elim}
-use Rattle.std.specs.Prelude.{bytes_eq, slice_get}
-use Rattle.std.specs.Ordering.{is_eq, nat_cmp}
-use Rattle.std.specs.Cmp.Lexicographic.{slice_cmp}
-use Rattle.std.specs.Map.{lookup}
-use Rattle.std.specs.BTreeMap as tree
-use Rattle.std.specs.BTreeMap.{BTreeMap}
-use Rattle.std.proofs.lemmas.Map.Text.{is_eq-slice_cmp, btree_map_updates_str}
-use Rattle.std.proofs.lemmas.Option.{slice_get_within}
-use Rattle.std.proofs.lemmas.Slice.Eq.{bytes_eq-Decides}
+use Rattle.std.proofs.Common.{◌≡◌, ℕ, ◌<◌, ◌⊎◌, Bool, true, false, cond, List, [], ◌∷◌, ◌++◌, length, Option, Some, None, refl, ap, ◌∙◌, sym, subst, inl, inr, arith, ⊎_elim, bytes_eq, slice_get}
+use Rattle.std.{specs.{BTreeMap.BTreeMap, Cmp.Lexicographic.slice_cmp, Map.lookup, Ordering.{is_eq, nat_cmp}}, proofs.lemmas.Map.Text.{is_eq-slice_cmp, btree_map_updates_str}}
+use Rattle.std.proofs.lemmas.{Option.slice_get_within, Slice.Eq.bytes_eq-Decides}
+use Rattle.link_scope.specs.{TextNumbers.{number_of, IsNumbered, Keeps, IsMeaning, AreTexts, by_bytes}, declared.texts.Meaning.Meaning}
 use Rattle.link_scope.proofs.ListLaws.{some_same, got_last, some_and, and_some, some_and_before}
-use Rattle.link_scope.specs.TextNumbers.{number_of, IsNumbered, Keeps, IsMeaning, AreTexts, by_bytes}
-use Rattle.link_scope.specs.declared.texts.Meaning.{Meaning}
 use denote.Ref.{Bor}
+use Rattle.std.specs.BTreeMap as tree
 
 -- a text is looked up by its bytes
 pub looked_up : (text : List ℕ) (entries : List (Bor (List ℕ) × ℕ)) → lookup (λ (k : Bor (List ℕ)). is_eq (slice_cmp nat_cmp text k.now)) entries ≡ number_of (by_bytes entries) text

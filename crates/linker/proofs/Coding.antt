@@ -1,28 +1,14 @@
 -- Methods that take their instructions from one list, one after another.
 use Rattle.std.proofs.Common.{◌≡◌, ℕ, zero, suc, ◌+◌, ◌<◌, ◌^◌, List, [], ◌∷◌, ◌++◌, length, get_or, drop, Option, Some, None, Result, Ok, Err, refl, sym, ap, subst, ◌∙◌, append_assoc, length-append, arith}
-use Rattle.std.specs.Option.{option_or}
-use Rattle.std.specs.Result.{result_err, result_unwrap_or}
-use Rattle.std.specs.List.{zip, AllByRecursion}
-use Rattle.std.proofs.lemmas.List.{append-nil, drop-drop, at_drop_more}
-use Rattle.jvm_types.specs.ClassGrammar.{IsHandler, IsMethod, IsMethodAttr}
-use Rattle.jvm_types.specs.Members.{Declared, declared_from, declared_by}
-use Rattle.jvm_types.specs.Targets.{Scope, target_of}
-use Rattle.jvm_types.specs.Linked.{code_of, site_of, resolved_target, linked_method, linked_methods}
-use Rattle.jvm_types.specs.LinkFaults.{LinkFault, rule_at_place, in_method, insn_fault, uses_fault}
-use Rattle.jvm_types.specs.declared.class_file.Constant.{Constant}
-use Rattle.jvm_types.specs.declared.class_file.MemberAttr.{MemberAttr}
-use Rattle.jvm_types.specs.declared.class_file.MemberAttr.TheVariants as member_attrs
-use Rattle.jvm_types.specs.declared.class_file.Member.{Member as ClassMember}
-use Rattle.jvm_types.specs.declared.class_file.ClassFile.{ClassFile}
-use Rattle.jvm_types.specs.declared.code.Insn.{Insn}
-use Rattle.jvm_types.specs.declared.program.MethodInfo.{MethodInfo}
-use Rattle.jvm_types.specs.declared.program.Target.{Target}
-use Rattle.jvm_types.specs.declared.program.Target.TheVariants as targets
-use Rattle.jvm_types.specs.declared.refusal.LRule.{LRule}
+use Rattle.std.{specs.{List.{zip, AllByRecursion}, Option.option_or, Result.{result_err, result_unwrap_or}}, proofs.lemmas.List.{append-nil, drop-drop, at_drop_more}}
+use Rattle.jvm_types.specs.{ClassGrammar.{IsHandler, IsMethod, IsMethodAttr}, LinkFaults.{LinkFault, rule_at_place, in_method, insn_fault, uses_fault}}
+use Rattle.jvm_types.specs.{Linked.{code_of, site_of, resolved_target, linked_method, linked_methods}, Members.{Declared, declared_from, declared_by}, Targets.{Scope, target_of}}
+use Rattle.jvm_types.specs.declared.{class_file.{ClassFile.ClassFile, Constant.Constant, Member.{Member as ClassMember}, MemberAttr.MemberAttr}, code.Insn.Insn, program.MethodInfo.MethodInfo}
+use Rattle.jvm_types.specs.declared.{program.Target.Target, refusal.LRule.LRule}
 use Rattle.link_scope.specs.Scoping.{FileOf, IsFileOf}
-use Rattle.linker.specs.Linking.{IsLinkErrorOf, AreLinked, use_faults, method_of}
-use Rattle.linker.specs.declared.error.LinkError.{LinkError}
-use Rattle.linker.specs.declared.error.LinkError.TheVariants.{Memory, Refused}
+use Rattle.linker.specs.{Linking.{IsLinkErrorOf, AreLinked, use_faults, method_of}, declared.error.LinkError.{LinkError, TheVariants.{Memory, Refused}}}
+use Rattle.jvm_types.specs.declared.class_file.MemberAttr.TheVariants as member_attrs
+use Rattle.jvm_types.specs.declared.program.Target.TheVariants as targets
 
 -- ---- what is known of a method of a class
 

@@ -1,8 +1,5 @@
 -- Laws of lists and of answers that belong to no crate.
-use Rattle.std.proofs.Common.{◌≡◌, List, [], ◌∷◌, ◌++◌, Some, Result, Ok, Err, ◌∙◌}
-use Rattle.std.specs.Prelude.{OnOk}
-use Rattle.std.specs.List.{AllByRecursion}
-use Rattle.std.proofs.lemmas.List.{append_assoc}
+use Rattle.std.{proofs.{Common.{◌≡◌, List, [], ◌∷◌, ◌++◌, Some, Result, Ok, Err, ◌∙◌, OnOk}, lemmas.List.append_assoc}, specs.List.AllByRecursion}
 
 -- one item more is read, and the rest is as before
 pub one_more : {A : Type 0} (front : List A) (x : A) (more all : List A) → front ++ x ∷ more ≡ all → (front ++ x ∷ []) ++ more ≡ all

@@ -1,7 +1,5 @@
 -- Laws of tests that belong to no crate.
-use Rattle.std.proofs.Common.{◌≡◌, ℕ, Bool, true, false, refl, arith}
-use Rattle.std.proofs.lemmas.Bool.Decides.{nat_tests}
-use Rattle.std.specs.Prelude.{◌&&◌, ◌||◌, ◌==◌, not}
+use Rattle.std.proofs.{Common.{◌≡◌, ℕ, Bool, true, false, refl, arith, ◌&&◌, ◌||◌, ◌==◌, not}, lemmas.Bool.Decides.nat_tests}
 
 pub both_true : (a b : Bool) → a ≡ true → b ≡ true → (a && b) ≡ true
 both_true true b e f = f

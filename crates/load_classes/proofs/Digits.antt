@@ -1,11 +1,6 @@
 -- The bytes and the length of a number that is written in base 10.
-use Rattle.std.proofs.Common.{arith, ℕ, ◌+◌, ◌<◌, ◌≤◌, ◌^◌, ◌≡◌, List, [], ◌∷◌, map, length, subst, sym}
-use Rattle.std.specs.List.{AllByRecursion}
-use Rattle.std.specs.Fmt.{decimal}
-use Rattle.std.specs.Int.Digits.{digits_of, AllBelowBase}
-use Rattle.std.proofs.lemmas.Fmt.{decimal-digits_of}
-use Rattle.std.proofs.lemmas.Int.Digits.{length-digits_of-le, all_below_base_digits_of}
-use Rattle.std.proofs.lemmas.List.{length-map}
+use Rattle.std.{proofs.Common.{arith, ℕ, ◌+◌, ◌<◌, ◌≤◌, ◌^◌, ◌≡◌, List, [], ◌∷◌, map, length, subst, sym}, specs.{Fmt.decimal, Int.Digits.{digits_of, AllBelowBase}, List.AllByRecursion}}
+use Rattle.std.proofs.lemmas.{Fmt.decimal-digits_of, Int.Digits.{length-digits_of-le, all_below_base_digits_of}, List.length-map}
 use Rattle.jvm_types.specs.ClassGrammar.{IsUtf8Byte}
 
 glyphs : (ds : List ℕ) → AllBelowBase 10 ds → AllByRecursion IsUtf8Byte (map (λ d. 48 + d) ds)

@@ -1,36 +1,9 @@
 -- The methods of a load keep the rules of methods.
 use Rattle.std.proofs.Common.{◌≡◌, ◌≤◌, ◌<◌, ◌^◌, ℕ, zero, suc, ◌+◌, ◌*◌, ◌/◌, ◌%◌, Bool, true, false, ◌&&◌, List, [], ◌∷◌, ◌++◌, length, codes, refl, sym, subst, ap, ◌∙◌, arith, nat_lt, slice_get, Some}
-use Rattle.std.specs.List.{AllByRecursion, flat_map, list_all, range_with_len}
-use Rattle.std.proofs.lemmas.Bool.{ltb-true, and_parts}
-use Rattle.std.proofs.lemmas.List.{length-append}
-use Rattle.jvm_types.specs.Numbers.{has_flag, u2, u4}
-use Rattle.jvm_types.specs.Pool.{NamesUtf8}
-use Rattle.jvm_types.specs.Spelling.{code_body}
-use Rattle.jvm_types.specs.ClassGrammar.{IsByte, IsMethod}
-use Rattle.jvm_types.specs.declared.class_file.Constant.{Constant}
-use Rattle.jvm_types.specs.declared.class_file.Constant.TheVariants.{Utf8}
-use Rattle.jvm_types.specs.declared.class_file.Code.{Code}
-use Rattle.jvm_types.specs.declared.flags.TheConstants.{NATIVE, ABSTRACT}
-use Rattle.jvm_types.proofs.EachAfter.{all_append}
-use Rattle.load_classes.specs.LoadClass.{
-  next_number,
-  factors,
-  method,
-  constructor,
-  adder_bytes,
-  adder,
-  adders,
-  sum_reader,
-  counter_reader,
-  first_part,
-  call_bytes,
-  run_bytes,
-  worker_part,
-  last_part,
-  name_index,
-  load_constants,
-  load_methods,
-}
+use Rattle.std.{specs.List.{AllByRecursion, flat_map, list_all, range_with_len}, proofs.lemmas.{Bool.{ltb-true, and_parts}, List.length-append}}
+use Rattle.jvm_types.specs.{ClassGrammar.{IsByte, IsMethod}, Numbers.{has_flag, u2, u4}, Pool.NamesUtf8, Spelling.code_body, declared.class_file.{Code.Code, Constant.{Constant, TheVariants.Utf8}}}
+use Rattle.jvm_types.{specs.declared.flags.TheConstants.{NATIVE, ABSTRACT}, proofs.EachAfter.all_append}
+use Rattle.load_classes.specs.LoadClass.{next_number, factors, method, constructor, adder_bytes, adder, adders, sum_reader, counter_reader, first_part, call_bytes, run_bytes, worker_part, last_part, name_index, load_constants, load_methods}
 use Rattle.load_classes.proofs.LoadPool.{all_range, names_text}
 
 -- ---- a method

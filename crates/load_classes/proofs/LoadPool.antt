@@ -1,16 +1,9 @@
 -- The pool of a load keeps the rules of a constant pool.
 use Rattle.std.proofs.Common.{◌≡◌, ◌≤◌, ◌<◌, ◌^◌, ℕ, zero, suc, ◌+◌, ◌*◌, Bool, true, false, not, ◌&&◌, List, [], ◌∷◌, ◌++◌, length, codes, refl, sym, subst, ap, ◌∙◌, arith, nat_lt, slice_get, Some}
-use Rattle.std.specs.List.{AllByRecursion, flat_map, list_all, range_with_len}
-use Rattle.std.specs.Fmt.{decimal}
-use Rattle.std.proofs.lemmas.Bool.{ltb-true, and_parts}
-use Rattle.std.proofs.lemmas.List.{length-append}
-use Rattle.jvm_types.specs.Pool.{NamesUtf8, NamesNameAndType}
-use Rattle.jvm_types.specs.ClassGrammar.{is_wide, is_gap, GapsFit, IsUtf8Byte, FieldsFit, IndicesFit, IsPool}
-use Rattle.jvm_types.specs.declared.class_file.Constant.{Constant}
-use Rattle.jvm_types.specs.declared.class_file.Constant.TheVariants.{Gap, Utf8, Integer, Float, Long, Double, Class, Text, Field, Method, InterfaceMethod, NameAndType}
-use Rattle.jvm_types.proofs.EachAfter.{all_append}
-use Rattle.load_classes.specs.LoadClass.{fixed_constants, name_index, adder_name, adder_constants, load_constants}
-use Rattle.load_classes.proofs.Digits.{decimal_bytes, decimal_length}
+use Rattle.std.{specs.{Fmt.decimal, List.{AllByRecursion, flat_map, list_all, range_with_len}}, proofs.lemmas.{Bool.{ltb-true, and_parts}, List.length-append}}
+use Rattle.jvm_types.specs.{ClassGrammar.{is_wide, is_gap, GapsFit, IsUtf8Byte, FieldsFit, IndicesFit, IsPool}, Pool.{NamesUtf8, NamesNameAndType}, declared.class_file.Constant.Constant}
+use Rattle.jvm_types.{specs.declared.class_file.Constant.TheVariants.{Gap, Utf8, Integer, Float, Long, Double, Class, Text, Field, Method, InterfaceMethod, NameAndType}, proofs.EachAfter.all_append}
+use Rattle.load_classes.{specs.LoadClass.{fixed_constants, name_index, adder_name, adder_constants, load_constants}, proofs.Digits.{decimal_bytes, decimal_length}}
 
 -- ---- lists
 

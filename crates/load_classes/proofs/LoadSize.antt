@@ -1,22 +1,11 @@
 -- The class of a load is short enough, and so bytes spell it.
-use Rattle.std.proofs.Common.{◌≡◌, ◌≤◌, ◌<◌, ◌^◌, ℕ, zero, suc, ◌+◌, ◌*◌, List, [], ◌∷◌, ◌++◌, length, codes, refl, sym, ap, ◌∙◌, arith}
-use Rattle.std.specs.List.{AllByRecursion, flat_map, range_with_len}
-use Rattle.std.specs.Fmt.{decimal}
-use Rattle.std.proofs.lemmas.List.{length-append}
-use Rattle.std.proofs.lemmas.Grind.{flat_map-append}
-use Rattle.jvm_types.specs.Numbers.{u1, u2, u4}
-use Rattle.jvm_types.specs.Pool.{NamesUtf8}
-use Rattle.jvm_types.specs.ClassGrammar.{IsField}
-use Rattle.jvm_types.specs.declared.class_file.TheConstants.{MAGIC}
-use Rattle.jvm_types.specs.Spelling.{counted, constant, member, attr, class_file, code_body}
-use Rattle.jvm_types.specs.declared.class_file.Constant.{Constant}
-use Rattle.jvm_types.specs.declared.class_file.Constant.TheVariants.{Utf8, Method, NameAndType}
-use Rattle.jvm_types.specs.declared.class_file.Member.{Member}
+use Rattle.std.{proofs.Common.{◌≡◌, ◌≤◌, ◌<◌, ◌^◌, ℕ, zero, suc, ◌+◌, ◌*◌, List, [], ◌∷◌, ◌++◌, length, codes, refl, sym, ap, ◌∙◌, arith}, specs.Fmt.decimal}
+use Rattle.std.{specs.List.{AllByRecursion, flat_map, range_with_len}, proofs.lemmas.{Grind.flat_map-append, List.length-append}}
+use Rattle.jvm_types.specs.{ClassGrammar.IsField, Numbers.{u1, u2, u4}, Pool.NamesUtf8, Spelling.{counted, constant, member, attr, class_file, code_body}, declared.class_file.Constant.Constant}
+use Rattle.jvm_types.specs.declared.class_file.{Constant.TheVariants.{Utf8, Method, NameAndType}, Member.Member, TheConstants.MAGIC}
 use Rattle.load_classes.specs.LoadClass.{fixed_constants, adder_name, adder_constants, load_constants, factors, adder, adders, run_bytes, worker_part, constructor, sum_reader, counter_reader, first_part, last_part, load_methods, method, adder_bytes, name_index, field, load_fields, load_class}
-use Rattle.load_classes.specs.Loads.{LoadsAreClasses}
-use Rattle.load_classes.proofs.Digits.{decimal_length}
+use Rattle.load_classes.{specs.Loads.LoadsAreClasses, proofs.{Digits.decimal_length, LoadMethods.{code_of, body_length, length_run, factors_length, methods_stand}}}
 use Rattle.load_classes.proofs.LoadPool.{pool_length, pool_stands}
-use Rattle.load_classes.proofs.LoadMethods.{code_of, body_length, length_run, factors_length, methods_stand}
 
 -- ---- the pool
 

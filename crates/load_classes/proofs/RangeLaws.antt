@@ -1,6 +1,5 @@
 -- A range from its first number on.
-use Rattle.std.proofs.Common.{arith, ℕ, ◌+◌, ◌-◌, ◌<◌, ◌≡◌, suc, ◌∷◌, ap}
-use Rattle.std.specs.List.{range_with_len}
+use Rattle.std.{proofs.Common.{arith, ℕ, ◌+◌, ◌-◌, ◌<◌, ◌≡◌, suc, ◌∷◌, ap}, specs.List.range_with_len}
 
 pub one_less : (n i : ℕ) → i < n → n - i ≡ suc (n - (i + 1))
 one_less n i h = omega (arith, h)

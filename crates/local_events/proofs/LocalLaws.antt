@@ -1,8 +1,7 @@
 -- Events of one thread that want no access, one after the other.
 use Rattle.std.proofs.Common.{◌≡◌, ℕ, zero, suc, None, refl, sym, ap, ◌∙◌}
 use Rattle.checked_program.specs.MarkedProgram.{MarkedProgram}
-use Rattle.machine_types.specs.Events.{wanted, moved}
-use Rattle.machine_types.specs.Threads.{Thread}
+use Rattle.machine_types.specs.{Events.{wanted, moved}, Threads.Thread}
 use Rattle.local_events.specs.Locals.{AfterLocals, FollowsItself, FollowsOn}
 
 local_more : (k : ℕ) (c : MarkedProgram) (x y : Thread) → AfterLocals c x k y → wanted c y y.phase ≡ None

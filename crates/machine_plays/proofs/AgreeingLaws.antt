@@ -1,29 +1,16 @@
 -- What is decided of a thread in a play is what agreement says of it.
-use Rattle.std.proofs.Common.{◌≡◌, ℕ, Bool, true, false, List, [], ◌∷◌, Option, Some, None, refl, sym, ap, ◌∙◌, subst, inl, inr, arith}
-use Rattle.std.specs.Prelude.{◌==◌, not, ◌&&◌, ◌||◌}
-use Rattle.std.specs.List.{list_all, list_any}
-use Rattle.std.proofs.lemmas.Bool.Decides.{nat_tests}
-use Rattle.std.proofs.lemmas.Bool.{eqb-true}
-use Rattle.jvm_types.specs.Numbers.{has_number}
-use Rattle.jvm_types.specs.declared.outcome.End.{End}
-use Rattle.jvm_types.specs.declared.outcome.End.TheVariants as ends
-use Rattle.jvm_types.specs.declared.outcome.Thrown.{Thrown}
-use Rattle.jvm_types.specs.declared.outcome.Thrown.TheVariants as thrown
-use Rattle.jvm_types.specs.declared.program.Program.{Program}
+use Rattle.std.{proofs.Common.{◌≡◌, ℕ, Bool, true, false, List, [], ◌∷◌, Option, Some, None, refl, sym, ap, ◌∙◌, subst, inl, inr, arith, ◌==◌, not, ◌&&◌, ◌||◌}, specs.List.{list_all, list_any}}
+use Rattle.std.proofs.lemmas.Bool.{eqb-true, Decides.nat_tests}
 use Rattle.lists.proofs.TestLaws.{both_are_true}
-use Rattle.machine_types.specs.Agreement.{has_wait_bit, LimitFits, IsWaiter, IsTurning, EndingFits, frames_shown, roots_shown, StatusFits, ThreadFits}
-use Rattle.machine_types.specs.Elision.{put_back}
-use Rattle.machine_types.specs.HeldMonitors.{held_at}
-use Rattle.machine_types.specs.PlainState.{Status, PlainThread}
+use Rattle.jvm_types.specs.{Numbers.has_number, declared.{outcome.{End.End, Thrown.Thrown}, program.Program.Program}}
+use Rattle.machine_types.specs.{Agreement.{has_wait_bit, LimitFits, IsWaiter, IsTurning, EndingFits, frames_shown, roots_shown, StatusFits, ThreadFits}, Elision.put_back, HeldMonitors.held_at}
+use Rattle.machine_types.specs.{PlainState.{Status, PlainThread}, ReadyObjects.{class_of, thrown_of}, Threads.{Frame, Attempt, Thread}, declared.{lock.Held.Held, phase.{After.After, Phase.Phase}}}
+use Rattle.machine_plays.proofs.Agreeing.{same_list, same_frame, same_frames, same_after, same_end, same, waits_on, is_held, waits, turns, limit_fits, ending_fits, status_fits, thread_fits}
+use Rattle.jvm_types.specs.declared.outcome.End.TheVariants as ends
+use Rattle.jvm_types.specs.declared.outcome.Thrown.TheVariants as thrown
 use Rattle.machine_types.specs.PlainState as plain
-use Rattle.machine_types.specs.ReadyObjects.{class_of, thrown_of}
-use Rattle.machine_types.specs.Threads.{Frame, Attempt, Thread}
-use Rattle.machine_types.specs.declared.phase.Phase.{Phase}
-use Rattle.machine_types.specs.declared.lock.Held.{Held}
-use Rattle.machine_types.specs.declared.phase.After.{After}
 use Rattle.machine_types.specs.declared.phase.After.TheVariants as afters
 use Rattle.machine_types.specs.declared.phase.Phase.TheVariants as phases
-use Rattle.machine_plays.proofs.Agreeing.{same_list, same_frame, same_frames, same_after, same_end, same, waits_on, is_held, waits, turns, limit_fits, ending_fits, status_fits, thread_fits}
 
 -- ---- what is the same is equal
 

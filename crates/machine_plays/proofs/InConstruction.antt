@@ -1,18 +1,9 @@
 -- Construction, for a thread that is written out: in an `<init>` of a frozen class, which a `new` in the frame below waits for.
-use Rattle.std.proofs.Common.{◌≡◌, ◌≢◌, ℕ, Bool, true, false, List, [], ◌∷◌, Some, None, refl, sym, ap, subst, ◌∙◌, arith}
-use Rattle.std.specs.Prelude.{map, ◌==◌, if◌then◌else◌}
-use Rattle.std.proofs.lemmas.Bool.{eqb-true}
-use Rattle.jvm_types.specs.declared.typing.Typing.{Typing}
-use Rattle.jvm_types.specs.Types.{TypeFrame}
-use Rattle.jvm_types.specs.declared.typing.VType.TheVariants.{This, New}
-use Rattle.checked_program.specs.MarkedProgram.{MarkedProgram}
-use Rattle.checked_program.proofs.TriedPrograms.{pair, tags_of}
-use Rattle.machine_types.specs.Construction.{Runs, FramesKeep}
-use Rattle.machine_types.specs.Standing.{Standing}
-use Rattle.machine_types.specs.Threads.{Frame, Attempt}
-use Rattle.machine_plays.proofs.Standings.{standing}
-use Rattle.machine_types.specs.Worlds.{Made, Begun, Builder, builder, World, IsViewOf, finished}
-use Rattle.machine_plays.proofs.InSections.{tags_by}
+use Rattle.std.proofs.{Common.{◌≡◌, ◌≢◌, ℕ, Bool, true, false, List, [], ◌∷◌, Some, None, refl, sym, ap, subst, ◌∙◌, arith, map, ◌==◌, if◌then◌else◌}, lemmas.Bool.eqb-true}
+use Rattle.jvm_types.specs.{Types.TypeFrame, declared.typing.{Typing.Typing, VType.TheVariants.{This, New}}}
+use Rattle.checked_program.{specs.MarkedProgram.MarkedProgram, proofs.TriedPrograms.{pair, tags_of}}
+use Rattle.machine_types.specs.{Construction.{Runs, FramesKeep}, Standing.Standing, Threads.{Frame, Attempt}, Worlds.{Made, Begun, Builder, builder, World, IsViewOf, finished}}
+use Rattle.machine_plays.proofs.{InSections.tags_by, Standings.standing}
 
 abbrev in_init : TypeFrame
 in_init = record { stack = This ∷ []; locals = This ∷ []; ready = false }

@@ -1,29 +1,14 @@
 -- The facts on one thread, for threads that are written out: inside a block that a synchronized method calls, with the lock and
 -- in an attempt.
-use Rattle.std.proofs.Common.{◌≡◌, ◌+◌, Bool, true, false, List, [], ◌∷◌, Option, Some, None, refl, inl, inr, arith}
-use Rattle.std.specs.Prelude.{map, unwrap_or, ◌==◌, if◌then◌else◌}
-use Rattle.std.specs.Option.{option_map}
-use Rattle.jvm_types.specs.declared.typing.Typing.{Typing}
-use Rattle.jvm_types.specs.Types.{TypeFrame}
-use Rattle.jvm_types.specs.declared.typing.VType.TheVariants.{Ref, Top}
-use Rattle.checked_program.specs.FrozenPlaces.{AreUses}
-use Rattle.checked_program.specs.LockTags.{TagShape}
-use Rattle.checked_program.specs.Marks.{HasMark}
-use Rattle.checked_program.specs.SectionLaws.{Part}
-use Rattle.jvm_types.specs.ClassTree.{is_subclass}
-use Rattle.checked_program.specs.MarkedProgram.{MarkedProgram}
-use Rattle.checked_program.specs.declared.section.FieldUse.{FieldUse}
-use Rattle.checked_program.specs.declared.section.Mode.TheVariants.{OnThis}
-use Rattle.checked_program.specs.declared.tag.Tags.{Tags}
-use Rattle.checked_program.proofs.TriedPrograms.{many, tags_of}
-use Rattle.machine_types.specs.Threads.{Frame, Attempt}
-use Rattle.machine_plays.proofs.Standings.{standing}
+use Rattle.std.{proofs.Common.{◌≡◌, ◌+◌, Bool, true, false, List, [], ◌∷◌, Option, Some, None, refl, inl, inr, arith, map, ◌==◌, if◌then◌else◌}, specs.{Option.option_map, Prelude.unwrap_or}}
+use Rattle.jvm_types.specs.{ClassTree.is_subclass, Types.TypeFrame, declared.typing.{Typing.Typing, VType.TheVariants.{Ref, Top}}}
+use Rattle.checked_program.specs.{FrozenPlaces.AreUses, LockTags.TagShape, MarkedProgram.MarkedProgram, Marks.HasMark, SectionLaws.Part, declared.section.{FieldUse.FieldUse, Mode.TheVariants.OnThis}}
+use Rattle.checked_program.{specs.declared.tag.Tags.Tags, proofs.TriedPrograms.{many, tags_of}}
+use Rattle.machine_types.specs.{Standing.{Standing, tags_of as tags_of_all}, Structure.{Stands, AttemptStands, section_of}, Threads.{Frame, Attempt}, Typed.{Classes, IsNullOr, FramesHold}}
 use Rattle.machine_types.specs.declared.lock.Held.{Held}
+use Rattle.machine_plays.proofs.Standings.{standing}
 use Rattle.machine_types.specs.declared.lock.Kept.TheVariants as keeps
 use Rattle.machine_types.specs.declared.phase.Phase.TheVariants as phases
-use Rattle.machine_types.specs.Standing.{Standing, tags_of as tags_of_all}
-use Rattle.machine_types.specs.Structure.{Stands, AttemptStands, section_of}
-use Rattle.machine_types.specs.Typed.{Classes, IsNullOr, FramesHold}
 
 -- ---- the program with its tags and, where they are needed, its types
 

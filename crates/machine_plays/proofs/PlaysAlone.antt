@@ -1,8 +1,8 @@
 -- Runs of one thread: prints, objects, sections that are elided or not, and the last count of a lock word.
 use Rattle.std.proofs.Common.{refl}
 use Rattle.jvm_types.specs.ClassTree.{is_subclass}
-use Rattle.machine_plays.specs.WorkedRuns as runs
 use Rattle.machine_plays.proofs.Playing.{Plays}
+use Rattle.machine_plays.specs.WorkedRuns as runs
 
 pub one_prints : Plays runs.one_prints
 unfolding is_subclass

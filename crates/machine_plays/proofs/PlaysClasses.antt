@@ -1,8 +1,8 @@
 -- Runs with static synchronized methods, which are sections on their class.
 use Rattle.std.proofs.Common.{refl}
 use Rattle.jvm_types.specs.ClassTree.{is_subclass}
-use Rattle.machine_plays.specs.WorkedRuns as runs
 use Rattle.machine_plays.proofs.Playing.{Plays}
+use Rattle.machine_plays.specs.WorkedRuns as runs
 
 pub class_is_elided : Plays runs.class_is_elided
 unfolding is_subclass

@@ -1,8 +1,8 @@
 -- Runs in which a thread fails so many turns that it flags the lock, and the holder makes it fat, or finds no record.
 use Rattle.std.proofs.Common.{refl}
 use Rattle.jvm_types.specs.ClassTree.{is_subclass}
-use Rattle.machine_plays.specs.WorkedRuns as runs
 use Rattle.machine_plays.proofs.Playing.{Plays}
+use Rattle.machine_plays.specs.WorkedRuns as runs
 
 pub fought_grows : Plays runs.fought_grows
 unfolding is_subclass

@@ -1,8 +1,8 @@
 -- Runs that go through the instructions: ints, stack moves, branches, switches and new arrays.
 use Rattle.std.proofs.Common.{refl}
 use Rattle.jvm_types.specs.ClassTree.{is_subclass}
-use Rattle.machine_plays.specs.WorkedRuns as runs
 use Rattle.machine_plays.proofs.Playing.{Plays}
+use Rattle.machine_plays.specs.WorkedRuns as runs
 
 pub ints_compute : Plays runs.ints_compute
 unfolding is_subclass

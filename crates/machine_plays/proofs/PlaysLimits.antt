@@ -1,8 +1,8 @@
 -- Runs that meet a limit of instructions, failed turns or prints, or just do not.
 use Rattle.std.proofs.Common.{refl}
 use Rattle.jvm_types.specs.ClassTree.{is_subclass}
-use Rattle.machine_plays.specs.WorkedRuns as runs
 use Rattle.machine_plays.proofs.Playing.{Plays}
+use Rattle.machine_plays.specs.WorkedRuns as runs
 
 pub five_steps : Plays runs.five_steps
 unfolding is_subclass

@@ -1,8 +1,8 @@
 -- Runs with exceptions, caught and not.
 use Rattle.std.proofs.Common.{refl}
 use Rattle.jvm_types.specs.ClassTree.{is_subclass}
-use Rattle.machine_plays.specs.WorkedRuns as runs
 use Rattle.machine_plays.proofs.Playing.{Plays}
+use Rattle.machine_plays.specs.WorkedRuns as runs
 
 pub division_throws : Plays runs.division_throws
 unfolding is_subclass

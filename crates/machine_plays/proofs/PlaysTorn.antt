@@ -1,8 +1,8 @@
 -- Runs in which a section without its lock sees one field set and the other not.
 use Rattle.std.proofs.Common.{refl}
 use Rattle.jvm_types.specs.ClassTree.{is_subclass}
-use Rattle.machine_plays.specs.WorkedRuns as runs
 use Rattle.machine_plays.proofs.Playing.{Plays}
+use Rattle.machine_plays.specs.WorkedRuns as runs
 
 pub torn_tries_again : Plays runs.torn_tries_again
 unfolding is_subclass

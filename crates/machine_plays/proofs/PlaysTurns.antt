@@ -1,22 +1,15 @@
 -- The run in which two threads lock each other out until the limit of turns. Its 2,046 events are too many to be computed at
 -- once, so it is played by parts: the first 200 and the last 46 are computed; in the 900 rounds between them each worker fails
 -- one turn, nothing else changes, and they go by induction.
-use Rattle.std.proofs.Common.{◌≡◌, ℕ, Bool, true, false, zero, suc, ◌+◌, List, [], ◌∷◌, Option, Some, None, refl, sym, ap, ◌∙◌, ◌<◌, ◌≤◌, arith}
-use Rattle.jvm_types.specs.ClassTree.{is_subclass}
-use Rattle.std.specs.Prelude.{is_some, length, nat_lt, slice_index, slice_index_or, slice_set}
+use Rattle.std.proofs.Common.{◌≡◌, ℕ, Bool, true, false, zero, suc, ◌+◌, List, [], ◌∷◌, Option, Some, None, refl, sym, ap, ◌∙◌, ◌<◌, ◌≤◌, arith, is_some, length, nat_lt, slice_index, slice_index_or, slice_set}
 use Rattle.std.proofs.lemmas.Bool.{lt-ltb, ltb-true}
+use Rattle.jvm_types.specs.ClassTree.{is_subclass}
 use Rattle.checked_program.specs.MarkedProgram.{MarkedProgram}
-use Rattle.machine_types.specs.History.{Past, no_past}
-use Rattle.machine_types.specs.LockWords.{lock_of}
+use Rattle.machine_types.specs.{History.{Past, no_past}, LockWords.lock_of, Schedules.{Stage, First, Rounds, Turn, turn_at}, Threads.{Thread, fresh}, declared.phase.Phase.Phase}
+use Rattle.machine_plays.{specs.WorkedRuns.Run, proofs.{Agreeing.counts_fit, Playing.{Beside, first_beside, Plays, Play, Played, Over, on, play, first_play, first_told}}}
 use Rattle.machine_types.specs.declared.lock.LockWord.TheVariants as locks
-use Rattle.machine_types.specs.Schedules.{Stage, First, Rounds, Turn, turn_at}
-use Rattle.machine_types.specs.Threads.{Thread, fresh}
-use Rattle.machine_types.specs.declared.phase.Phase.{Phase}
 use Rattle.machine_types.specs.declared.phase.Phase.TheVariants as phases
-use Rattle.machine_plays.proofs.Agreeing.{counts_fit}
-use Rattle.machine_plays.specs.WorkedRuns.{Run}
 use Rattle.machine_plays.specs.WorkedRuns as runs
-use Rattle.machine_plays.proofs.Playing.{Beside, first_beside, Plays, Play, Played, Over, on, play, first_play, first_told}
 
 abbrev here : Run
 here = runs.locked_out

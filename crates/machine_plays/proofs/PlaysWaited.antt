@@ -1,8 +1,8 @@
 -- Runs in which threads wait and are notified.
 use Rattle.std.proofs.Common.{refl}
 use Rattle.jvm_types.specs.ClassTree.{is_subclass}
-use Rattle.machine_plays.specs.WorkedRuns as runs
 use Rattle.machine_plays.proofs.Playing.{Plays}
+use Rattle.machine_plays.specs.WorkedRuns as runs
 
 pub waiters_wake : Plays runs.waiters_wake
 unfolding is_subclass

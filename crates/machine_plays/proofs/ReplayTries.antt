@@ -1,13 +1,9 @@
 -- What is due of an attempt, replayed: a synchronized method calls a block on its own monitor.
 use Rattle.std.proofs.Common.{◌≡◌, ℕ, true, List, [], ◌∷◌, Option, Some, None, refl}
-use Rattle.machine_types.specs.Threads.{Thread, fresh}
-use Rattle.machine_types.specs.declared.config.Config.{Config}
-use Rattle.machine_types.specs.declared.phase.Phase.TheVariants as phases
-use Rattle.machine_types.specs.declared.plain.Act.{Act}
-use Rattle.machine_types.specs.declared.plain.Act.TheVariants.{Do, Enter, Exit}
 use Rattle.checked_program.proofs.TriedPrograms.{many}
+use Rattle.machine_types.specs.{Replay.{Alone, replayed, at_entry, at_present}, Threads.{Thread, fresh}, declared.{config.Config.Config, plain.Act.{Act, TheVariants.{Do, Enter, Exit}}}}
 use Rattle.machine_plays.proofs.InSections.{marked, sum_frame, twice_frame, attempt}
-use Rattle.machine_types.specs.Replay.{Alone, replayed, at_entry, at_present}
+use Rattle.machine_types.specs.declared.phase.Phase.TheVariants as phases
 
 abbrev cfg : Config
 cfg = record { steps = 1000; turns = 1000; prints = 10; elide = true; range = 100 }

@@ -1,14 +1,8 @@
 -- A frame that is written out stands where computing finds it.
-use Rattle.std.proofs.Common.{◌≡◌, ℕ, List, map, Option, Some}
-use Rattle.std.specs.Prelude.{slice_get}
-use Rattle.jvm_types.specs.Types.{TypeFrame}
-use Rattle.jvm_types.specs.declared.code.Insn.{Insn}
-use Rattle.jvm_types.specs.declared.program.MethodInfo.{MethodInfo}
-use Rattle.jvm_types.specs.declared.program.Target.{Target}
-use Rattle.checked_program.specs.LockTags.{TagShape}
-use Rattle.checked_program.specs.MarkedProgram.{MarkedProgram}
-use Rattle.machine_types.specs.Standing.{Standing, tags_of}
-use Rattle.machine_types.specs.Threads.{Frame}
+use Rattle.std.proofs.Common.{◌≡◌, ℕ, List, map, Option, Some, slice_get}
+use Rattle.jvm_types.specs.{Types.TypeFrame, declared.{code.Insn.Insn, program.{MethodInfo.MethodInfo, Target.Target}}}
+use Rattle.checked_program.specs.{LockTags.TagShape, MarkedProgram.MarkedProgram}
+use Rattle.machine_types.specs.{Standing.{Standing, tags_of}, Threads.Frame}
 
 -- at the instruction with a number
 abbrev pub standing : (c : MarkedProgram) (f : Frame) (number : ℕ) {method : MethodInfo} {insn : Insn} {target : Target} {tags : TagShape} {shapes : List (Option TagShape)} {frames : List (Option TypeFrame)} {types : TypeFrame}

@@ -1,10 +1,6 @@
 -- A program of one class without members, on which the tests try a thread.
-use Rattle.std.proofs.Common.{◌≡◌, ℕ, zero, suc, ◌≤◌, false, List, [], ◌∷◌, take, length, Some, refl, subst, arith}
-use Rattle.std.specs.Prelude.{codes, slice_get}
-use Rattle.std.proofs.lemmas.Option.{slice_get_within}
-use Rattle.jvm_types.specs.LinkFaults.{is_taken}
-use Rattle.jvm_types.specs.ProgramInvariant.{IsProgram}
-use Rattle.jvm_types.specs.declared.program.Program.{Program}
+use Rattle.std.proofs.{Common.{◌≡◌, ℕ, zero, suc, ◌≤◌, false, List, [], ◌∷◌, take, length, Some, refl, subst, arith, codes, slice_get}, lemmas.Option.slice_get_within}
+use Rattle.jvm_types.specs.{LinkFaults.is_taken, ProgramInvariant.IsProgram, declared.program.Program.Program}
 use Rattle.checked_program.specs.MarkedProgram.{IsMarked}
 
 abbrev empty : Program

@@ -1,34 +1,17 @@
 -- A sure word fits; and the threads of the start.
-use Rattle.std.proofs.Common.{◌≡◌, ℕ, zero, suc, ◌<◌, ◌≤◌, ◌^◌, ◌/◌, ◌%◌, nat_le, Bool, true, false, Option, Some, None, refl, sym, subst, map, ◌+◌, arith}
-use Rattle.std.specs.Prelude.{slice_get, if◌then◌else◌}
-use Rattle.std.specs.List.{range_with_len}
-use Rattle.std.proofs.lemmas.Bool.Decides.{nat_tests}
+use Rattle.std.proofs.Common.{◌≡◌, ℕ, zero, suc, ◌<◌, ◌≤◌, ◌^◌, ◌/◌, ◌%◌, nat_le, Bool, true, false, Option, Some, None, refl, sym, subst, map, ◌+◌, arith, slice_get, if◌then◌else◌}
+use Rattle.std.{specs.List.range_with_len, proofs.lemmas.Bool.Decides.nat_tests}
 use Rattle.lists.proofs.TestLaws.{both_are_true}
+use Rattle.jvm_types.specs.declared.program.{Program.Program, Target.Target}
 use Rattle.checked_program.specs.MarkedProgram.{MarkedProgram}
-use Rattle.jvm_types.specs.declared.program.Program.{Program}
-use Rattle.jvm_types.specs.declared.program.Target.{Target}
-use Rattle.machine_types.specs.Core.{start, start_thread}
-use Rattle.machine_types.specs.Elision.{is_checked, looks}
-use Rattle.machine_types.specs.Events.{wanted}
-use Rattle.machine_types.specs.FoundWords.{Lock, HasCount, WordFits, effect_content, run_content, leave_content, content_at}
-use Rattle.machine_types.specs.Frames.{Top, top_of, effect_at}
-use Rattle.machine_types.specs.Instructions.{effect_wants, run_wants}
-use Rattle.machine_types.specs.Lawful.{IsLawful}
-use Rattle.machine_types.specs.LockWords.{lock_by, is_lock_word}
-use Rattle.machine_types.specs.Monitors.{Claim, Has, claim}
-use Rattle.machine_types.specs.Settings.{AreSettings}
-use Rattle.machine_types.specs.Threads.{Thread, Attempt}
-use Rattle.machine_types.specs.declared.access.Access.{Access}
-use Rattle.machine_types.specs.declared.access.Access.TheVariants.{Add}
-use Rattle.machine_types.specs.declared.config.Config.{Config}
-use Rattle.machine_types.specs.declared.effect.Effect.{Effect}
-use Rattle.machine_types.specs.declared.effect.Effect.TheVariants.{Goes, Calls, Writes, Indexes, Measures, Raises, Reads}
-use Rattle.machine_types.specs.declared.lock.Kept.{Kept}
-use Rattle.machine_types.specs.declared.lock.Kept.TheVariants as keeps
-use Rattle.machine_types.specs.declared.phase.Phase.{Phase}
-use Rattle.machine_types.specs.declared.phase.Phase.TheVariants as phases
+use Rattle.machine_types.specs.{Core.{start, start_thread}, Elision.{is_checked, looks}, Events.wanted, FoundWords.{Lock, HasCount, WordFits, effect_content, run_content, leave_content, content_at}}
+use Rattle.machine_types.specs.{Frames.{Top, top_of, effect_at}, Instructions.{effect_wants, run_wants}, Lawful.IsLawful, LockWords.{lock_by, is_lock_word}, Monitors.{Claim, Has, claim}}
+use Rattle.machine_types.specs.{Settings.AreSettings, Threads.{Thread, Attempt}, declared.{access.Access.{Access, TheVariants.Add}, config.Config.Config, effect.Effect.Effect}}
+use Rattle.machine_types.specs.declared.{effect.Effect.TheVariants.{Goes, Calls, Writes, Indexes, Measures, Raises, Reads}, lock.Kept.Kept, phase.Phase.Phase}
 use Rattle.laws_states.proofs.StartThreads.{start_threads}
 use Rattle.machine_tests.specs.SureWords.{is_small_lock, is_sure}
+use Rattle.machine_types.specs.declared.lock.Kept.TheVariants as keeps
+use Rattle.machine_types.specs.declared.phase.Phase.TheVariants as phases
 
 -- ---- locks
 

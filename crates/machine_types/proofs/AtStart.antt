@@ -1,37 +1,16 @@
 -- The facts at the start of a run.
-use Rattle.std.proofs.Common.{◌≡◌, ◌<◌, ℕ, zero, suc, ◌+◌, ◌*◌, ◌-◌, Bool, true, false, List, [], ◌∷◌, ◌++◌, Some, None, refl, sym, ◌∙◌, ap, subst, arith}
-use Rattle.std.specs.Prelude.{map, not, flat_map, replicate, slice_get, slice_index, slice_index_or, Contains, IsTrue, ◌==◌}
-use Rattle.std.specs.Int.Bits.{and_zero_l}
-use Rattle.std.specs.List.{AllByRecursion, range_with_len}
+use Rattle.std.proofs.Common.{◌≡◌, ◌<◌, ℕ, zero, suc, ◌+◌, ◌*◌, ◌-◌, Bool, true, false, List, [], ◌∷◌, ◌++◌, Some, None, refl, sym, ◌∙◌, ap, subst, arith, map, not, flat_map, replicate, slice_get, slice_index, slice_index_or, Contains, IsTrue, ◌==◌}
+use Rattle.std.specs.{Int.Bits.and_zero_l, List.{AllByRecursion, range_with_len}}
 use Rattle.lists.proofs.TestLaws.{first_true, second_true, same_number}
-use Rattle.jvm_types.specs.Numbers.{has_flag, has_number}
-use Rattle.jvm_types.specs.ProgramInvariant.{words_of}
-use Rattle.jvm_types.specs.declared.program.Program.{Program}
-use Rattle.jvm_types.specs.declared.outcome.End.TheVariants as ends
+use Rattle.jvm_types.specs.{Numbers.{has_flag, has_number}, ProgramInvariant.words_of, declared.{fixed_words.TheConstants.MONITOR_RECORDS, program.Program.Program}}
 use Rattle.checked_program.specs.MarkedProgram.{MarkedProgram}
-use Rattle.machine_types.specs.Core.{start, start_thread, part_phase}
-use Rattle.machine_types.specs.History.{Past, no_past, told_start, past_at}
-use Rattle.machine_types.specs.Monitors.{bit_of}
-use Rattle.machine_types.specs.Parts.{init_roots}
-use Rattle.machine_types.specs.PlainMemory.{Object}
-use Rattle.machine_types.specs.ReadyObjects.{ready_classes}
-use Rattle.machine_types.specs.StartWords.{start_words, object_words, class_words, classes_of}
-use Rattle.machine_types.specs.Words.{bits_word}
-use Rattle.jvm_types.specs.declared.fixed_words.TheConstants.{MONITOR_RECORDS}
-use Rattle.machine_types.specs.Threads.{Thread, fresh}
+use Rattle.machine_types.specs.{Attempts.OwesNothing, Bounds.FramesFit, Construction.ThreadKeeps, Core.{start, start_thread, part_phase}, Facts.IsThread, History.{Past, no_past, told_start, past_at}}
+use Rattle.machine_types.specs.{Monitors.bit_of, Parts.init_roots, PlainMemory.Object, ReadyObjects.ready_classes, StartLaws.phase_at_start}
+use Rattle.machine_types.specs.{StartWords.{start_words, object_words, class_words, classes_of}, Structure.{IsStructured, Structure}, Threads.{Thread, fresh}, Typed.{Classes, HasClass, ThreadHolds}}
+use Rattle.machine_types.specs.{Waiting.{is_bit_set, Waits, Waiting}, Words.bits_word, Worlds.{Builder, World, IsOwnOrFinished, IsViewOf}, declared.{config.Config.Config, lock.Held.Held}}
 use Rattle.machine_types.specs.declared.phase.Phase.{Phase}
-use Rattle.machine_types.specs.declared.config.Config.{Config}
-use Rattle.machine_types.specs.declared.lock.Held.{Held}
+use Rattle.jvm_types.specs.declared.outcome.End.TheVariants as ends
 use Rattle.machine_types.specs.declared.phase.Phase.TheVariants as phases
-use Rattle.machine_types.specs.Attempts.{OwesNothing}
-use Rattle.machine_types.specs.Bounds.{FramesFit}
-use Rattle.machine_types.specs.Facts.{IsThread}
-use Rattle.machine_types.specs.Construction.{ThreadKeeps}
-use Rattle.machine_types.specs.StartLaws.{phase_at_start}
-use Rattle.machine_types.specs.Structure.{IsStructured, Structure}
-use Rattle.machine_types.specs.Typed.{Classes, HasClass, ThreadHolds}
-use Rattle.machine_types.specs.Waiting.{is_bit_set, Waits, Waiting}
-use Rattle.machine_types.specs.Worlds.{Builder, World, IsOwnOrFinished, IsViewOf}
 
 -- ---- each thread is a fresh one
 

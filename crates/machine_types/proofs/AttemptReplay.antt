@@ -1,25 +1,15 @@
 -- A replay of what is due of an attempt is a run of the plain machine, where its thread holds the monitor.
-use Rattle.std.proofs.Common.{◌≡◌, ◌≢◌, ℕ, zero, suc, ◌+◌, Bool, true, false, cond, List, [], ◌∷◌, Option, Some, None, refl, sym, ap, ◌∙◌, arith}
-use Rattle.std.specs.Prelude.{◌==◌, option_map, option_and_then, slice_get, slice_set}
-use Rattle.std.proofs.lemmas.Bool.Decides.{nat_tests}
-use Rattle.std.proofs.lemmas.List.{set-set}
-use Rattle.std.proofs.lemmas.Bool.{eqb-true}
+use Rattle.std.proofs.Common.{◌≡◌, ◌≢◌, ℕ, zero, suc, ◌+◌, Bool, true, false, cond, List, [], ◌∷◌, Option, Some, None, refl, sym, ap, ◌∙◌, arith, ◌==◌, option_map, option_and_then, slice_get, slice_set}
+use Rattle.std.proofs.lemmas.{Bool.{eqb-true, Decides.nat_tests}, List.set-set}
 use Rattle.lists.proofs.ListLaws.{same_some}
 use Rattle.jvm_types.specs.declared.program.Program.{Program}
-use Rattle.machine_types.specs.Effects.{Effect, Writes, Indexes, Makes, Prints, Returns, Leaves, Waits, Notifies, NotifiesAll, read_by}
-use Rattle.machine_types.specs.Frames.{Top, top_of, effect_at, went_on}
-use Rattle.machine_types.specs.History.{steps_of}
-use Rattle.machine_types.specs.Onward.{Onward, Entering, Leaving, Next, after, returns, dispatched, done}
-use Rattle.machine_types.specs.PlainInstructions.{plain_did, if_plain_held, if_left, plain_instructed, got_by}
+use Rattle.machine_types.specs.{Effects.{Effect, Writes, Indexes, Makes, Prints, Returns, Leaves, Waits, Notifies, NotifiesAll, read_by}, Frames.{Top, top_of, effect_at, went_on}, History.steps_of}
+use Rattle.machine_types.specs.{Onward.{Onward, Entering, Leaving, Next, after, returns, dispatched, done}, PlainInstructions.{plain_did, if_plain_held, if_left, plain_instructed, got_by}}
 use Rattle.machine_types.specs.PlainState.{Plain, PlainThread, Holding, Status, value_at, holding_at, with_holding, held_by, is_holder, with_thread, with_status, plain_goes_on}
+use Rattle.machine_types.specs.{PlainSteps.{plain_entered, left, exited, step_at, step_of, plain_run}, Replay.{Alone, only_on, reads_only, goes, instructs, enters, leaves, replay_act, replayed}}
+use Rattle.machine_types.{specs.declared.{phase.After.After, plain.Act.Act}, proofs.{Lists.{set_as_it_is, got_when_set}, PlainStepLaws.{is_same, found_when_put}}}
 use Rattle.machine_types.specs.PlainState as plain
-use Rattle.machine_types.specs.PlainSteps.{plain_entered, left, exited, step_at, step_of, plain_run}
-use Rattle.machine_types.specs.Replay.{Alone, only_on, reads_only, goes, instructs, enters, leaves, replay_act, replayed}
-use Rattle.machine_types.specs.declared.phase.After.{After}
-use Rattle.machine_types.specs.declared.plain.Act.{Act}
 use Rattle.machine_types.specs.declared.plain.Act.TheVariants as acts
-use Rattle.machine_types.proofs.Lists.{set_as_it_is, got_when_set}
-use Rattle.machine_types.proofs.PlainStepLaws.{is_same, found_when_put}
 
 -- ---- the plain state in which a thread stands as in a replay, with the monitor
 

@@ -1,45 +1,24 @@
 -- What is due of an attempt runs on the plain state beside it: its places are there, and its monitor is free.
-use Rattle.std.proofs.Common.{◌≡◌, ◌≢◌, ⊎_elim, ℕ, zero, suc, ◌+◌, ◌-◌, ◌*◌, ◌/◌, ◌%◌, ◌<◌, ◌≤◌, Bool, true, false, cond, List, [], ◌∷◌, length, Option, Some, None, refl, sym, ap, ◌∙◌, subst, arith}
-use Rattle.std.specs.Prelude.{Contains, nat_le, nat_lt, option_map, option_and_then, slice_get, slice_index, ◌==◌, ◌&&◌}
-use Rattle.std.specs.Option.{option_or}
-use Rattle.std.proofs.lemmas.Bool.Decides.{nat_tests}
+use Rattle.std.proofs.Common.{◌≡◌, ◌≢◌, ⊎_elim, ℕ, zero, suc, ◌+◌, ◌-◌, ◌*◌, ◌/◌, ◌%◌, ◌<◌, ◌≤◌, Bool, true, false, cond, List, [], ◌∷◌, length, Option, Some, None, refl, sym, ap, ◌∙◌, subst, arith, Contains, nat_le, nat_lt, option_map, option_and_then, slice_get, slice_index, ◌==◌, ◌&&◌}
+use Rattle.std.{specs.Option.option_or, proofs.lemmas.Bool.Decides.nat_tests}
 use Rattle.lists.proofs.ListLaws.{same_some}
-use Rattle.jvm_types.specs.declared.class_numbers.TheConstants.{INT_ARRAY_CLASS}
-use Rattle.jvm_types.specs.Members.{is_static}
-use Rattle.jvm_types.specs.Numbers.{has_number}
-use Rattle.jvm_types.specs.ProgramInvariant.{IsProgram, instances_among, words_of}
-use Rattle.jvm_types.specs.declared.outcome.End.{End}
-use Rattle.jvm_types.specs.declared.program.FieldInfo.{FieldInfo}
-use Rattle.jvm_types.specs.declared.program.Program.{Program}
+use Rattle.jvm_types.specs.{Members.is_static, Numbers.has_number, ProgramInvariant.{IsProgram, instances_among, words_of}, declared.class_numbers.TheConstants.INT_ARRAY_CLASS}
+use Rattle.jvm_types.specs.declared.{fixed_words.TheConstants.NEXT_FREE_WORD, outcome.End.End, program.{FieldInfo.FieldInfo, Program.Program}}
 use Rattle.laws_programs.proofs.FieldOrder.{instances_inside, statics_inside}
 use Rattle.checked_program.specs.MarkedProgram.{MarkedProgram}
-use Rattle.machine_types.specs.Agreement.{IsPending, AttemptFits, ThreadFits, has_wait_bit, depth_for, depth_of}
-use Rattle.machine_types.specs.AttemptLaws.{ReachesPresent, AttemptsArePlain}
-use Rattle.machine_types.specs.Attempts.{IsFieldAt, Stays, header, frozen, guarded, frozen_static, guarded_static, IsAsNoted, Owes}
-use Rattle.machine_types.specs.Facts.{Facts, FactsBeside}
-use Rattle.machine_types.specs.HeldMonitors.{held_at}
-use Rattle.machine_types.specs.History.{Told, past_at, steps_of}
-use Rattle.machine_types.specs.LockWords.{lock_of, lock_by}
-use Rattle.machine_types.specs.NewObjects.{IsNewObject, size_by}
+use Rattle.machine_types.specs.{Agreement.{IsPending, AttemptFits, ThreadFits, has_wait_bit, depth_for, depth_of}, AttemptLaws.{ReachesPresent, AttemptsArePlain}}
+use Rattle.machine_types.specs.{Attempts.{IsFieldAt, Stays, header, frozen, guarded, frozen_static, guarded_static, IsAsNoted, Owes}, Facts.{Facts, FactsBeside}, HeldMonitors.held_at}
+use Rattle.machine_types.specs.{History.{Told, past_at, steps_of}, LockWords.{lock_of, lock_by}, NewObjects.{IsNewObject, size_by}}
 use Rattle.machine_types.specs.Owners.{lock_at, NotHeld, hold_by_word, hold_by_list, hold_by_kept, owner_at, references_of}
 use Rattle.machine_types.specs.PlainMemory.{Object, StaticValue, object_end, value_in, object_value, static_value, has_value, header_of, first_value}
-use Rattle.machine_types.specs.PlainState.{Plain, PlainThread, Holding, value_at, holding_at}
+use Rattle.machine_types.specs.{PlainState.{Plain, PlainThread, Holding, value_at, holding_at}, PlainSteps.{plain_run, plain_step, step_of, step_at, plain_entered}}
+use Rattle.machine_types.specs.{Replay.{Alone, replayed, at_entry, at_present}, Threads.{Attempt, Thread, Config}, Typed.{AttemptHolds, HasClass}}
+use Rattle.machine_types.specs.{Words.{header_word, value_word, header_class, header_length}, declared.lock.{Held.Held, Kept.Kept, LockWord.LockWord}}
+use Rattle.machine_types.proofs.{AttemptReplay.{stands_as, Stands, stands_after, played}, Lists.{got_when_set, got_below, got_contained}, PlainStepLaws.is_same}
 use Rattle.machine_types.specs.PlainState as plain
-use Rattle.machine_types.specs.PlainSteps.{plain_run, plain_step, step_of, step_at, plain_entered}
-use Rattle.machine_types.specs.Replay.{Alone, replayed, at_entry, at_present}
-use Rattle.machine_types.specs.Threads.{Attempt, Thread, Config}
-use Rattle.machine_types.specs.Typed.{AttemptHolds, HasClass}
-use Rattle.machine_types.specs.Words.{header_word, value_word, header_class, header_length}
-use Rattle.jvm_types.specs.declared.fixed_words.TheConstants.{NEXT_FREE_WORD}
-use Rattle.machine_types.specs.declared.lock.Held.{Held}
-use Rattle.machine_types.specs.declared.lock.Kept.{Kept}
 use Rattle.machine_types.specs.declared.lock.Kept.TheVariants as keeps
-use Rattle.machine_types.specs.declared.lock.LockWord.{LockWord}
 use Rattle.machine_types.specs.declared.lock.LockWord.TheVariants as locks
 use Rattle.machine_types.specs.declared.plain.Act.TheVariants as acts
-use Rattle.machine_types.proofs.AttemptReplay.{stands_as, Stands, stands_after, played}
-use Rattle.machine_types.proofs.Lists.{got_when_set, got_below, got_contained}
-use Rattle.machine_types.proofs.PlainStepLaws.{is_same}
 
 -- ---- items of lists
 

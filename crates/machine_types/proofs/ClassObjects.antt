@@ -1,19 +1,9 @@
 -- The class of each file is an object at the start of a run.
-use Rattle.std.proofs.Common.{◌≡◌, ℕ, zero, suc, ◌+◌, ◌*◌, ◌<◌, List, [], ◌∷◌, length, ap, arith}
-use Rattle.std.specs.Prelude.{Contains}
-use Rattle.std.specs.List.{range_with_len}
-use Rattle.std.proofs.lemmas.List.Elements.{Contains-append_right}
-use Rattle.jvm_types.specs.ClassNames.{file_class}
-use Rattle.jvm_types.specs.declared.class_numbers.TheConstants.{CLASS_ITSELF}
-use Rattle.jvm_types.specs.declared.fixed_words.TheConstants.{FIRST_CLASS_WORD, OBJECT_HEAD_WORDS}
-use Rattle.jvm_types.specs.ProgramInvariant.{words_of}
-use Rattle.jvm_types.specs.declared.program.FieldInfo.{FieldInfo}
-use Rattle.jvm_types.specs.declared.program.Program.{Program}
+use Rattle.std.{proofs.{Common.{◌≡◌, ℕ, zero, suc, ◌+◌, ◌*◌, ◌<◌, List, [], ◌∷◌, length, ap, arith, Contains}, lemmas.List.Elements.Contains-append_right}, specs.List.range_with_len}
+use Rattle.jvm_types.specs.{ClassNames.file_class, ProgramInvariant.words_of, declared.{class_numbers.TheConstants.CLASS_ITSELF, fixed_words.TheConstants.{FIRST_CLASS_WORD, OBJECT_HEAD_WORDS}}}
+use Rattle.jvm_types.specs.declared.program.{FieldInfo.FieldInfo, Program.Program}
 use Rattle.checked_program.specs.CodeIndex.{statics_below}
-use Rattle.machine_types.specs.PlainMemory.{Object, class_objects}
-use Rattle.machine_types.specs.StartLaws.{ClassObjectsStand}
-use Rattle.machine_types.specs.StartWords.{statics_of, classes_of}
-use Rattle.machine_types.specs.Words.{class_object}
+use Rattle.machine_types.specs.{PlainMemory.{Object, class_objects}, StartLaws.ClassObjectsStand, StartWords.{statics_of, classes_of}, Words.class_object}
 use Rattle.machine_types.proofs.PlacesAtStart.{below_at_most, none_below, one_class_more, class_from, ready_objects}
 
 abbrev pub at_reference : (reference : ℕ) → Object

@@ -1,34 +1,15 @@
 -- All facts hold at the start of a run.
-use Rattle.std.proofs.Common.{◌≡◌, inl, ℕ, zero, suc, pos, ◌<◌, ◌%◌, ◌^◌, true, List, Option, Some, None, refl, sym, ap, subst, ◌∙◌, arith}
-use Rattle.std.specs.Prelude.{Bool, Contains, slice_get, slice_index, cond}
+use Rattle.std.proofs.Common.{◌≡◌, inl, ℕ, zero, suc, pos, ◌<◌, ◌%◌, ◌^◌, true, List, Option, Some, None, refl, sym, ap, subst, ◌∙◌, arith, Bool, Contains, slice_get, slice_index, cond}
 use Rattle.std.specs.Int.{w32, cast_unsigned}
-use Rattle.jvm_types.specs.Layout.{kept_int}
-use Rattle.jvm_types.specs.Members.{is_static}
-use Rattle.jvm_types.specs.ProgramInvariant.{IsProgram, words_of}
-use Rattle.jvm_types.specs.declared.program.FieldInfo.{FieldInfo}
-use Rattle.jvm_types.specs.declared.program.Kind.{Kind}
-use Rattle.jvm_types.specs.declared.program.Kind.TheVariants as kinds
-use Rattle.jvm_types.specs.declared.program.Program.{Program}
+use Rattle.jvm_types.specs.{Layout.kept_int, Members.is_static, ProgramInvariant.{IsProgram, words_of}, declared.program.{FieldInfo.FieldInfo, Kind.Kind, Program.Program}}
 use Rattle.checked_program.specs.MarkedProgram.{MarkedProgram}
-use Rattle.machine_types.specs.Attempts.{Attempts, Owes}
-use Rattle.machine_types.specs.Construction.{AreFrozen, Construction, KindKeeps}
-use Rattle.machine_types.specs.Core.{start, start_thread}
-use Rattle.machine_types.specs.History.{told_start, past_at}
-use Rattle.machine_types.specs.Ints.{word_of}
-use Rattle.machine_types.specs.NewObjects.{NewObjects}
-use Rattle.machine_types.specs.PlainMemory.{Object, start_objects}
-use Rattle.machine_types.specs.StartLaws.{StartHasFacts, phase_at_start}
-use Rattle.machine_types.specs.StartWords.{start_words}
-use Rattle.machine_types.specs.Threads.{Attempt, Thread, Config}
-use Rattle.machine_types.specs.Typed.{Typed, PlacesHold, HasClass, KindHolds}
-use Rattle.machine_types.specs.Worlds.{World}
-use Rattle.machine_types.specs.declared.phase.Phase.{Phase}
+use Rattle.machine_types.specs.{Attempts.{Attempts, Owes}, Construction.{AreFrozen, Construction, KindKeeps}, Core.{start, start_thread}, History.{told_start, past_at}, Ints.word_of}
+use Rattle.machine_types.specs.{NewObjects.NewObjects, PlainMemory.{Object, start_objects}, StartLaws.{StartHasFacts, phase_at_start}, StartWords.start_words, Threads.{Attempt, Thread, Config}}
+use Rattle.machine_types.specs.{Typed.{Typed, PlacesHold, HasClass, KindHolds}, Worlds.World, declared.phase.Phase.Phase}
+use Rattle.machine_types.proofs.{AtStart.{IsFreshPhase, starts, idles, is_over, is_start_thread, phase_is_fresh, has_threads, is_structured, is_typed, keeps, owes_nothing, waits}, Lists.got_contained}
+use Rattle.machine_types.proofs.{OwnersAtStart.start_owns_all, PlacesAtStart.{lies_apart, is_unused, IsPlaced, object_placed, stands, class_from}, WordsAtStart.{header_is, static_is}}
+use Rattle.jvm_types.specs.declared.program.Kind.TheVariants as kinds
 use Rattle.machine_types.specs.declared.phase.Phase.TheVariants as phases
-use Rattle.machine_types.proofs.AtStart.{IsFreshPhase, starts, idles, is_over, is_start_thread, phase_is_fresh, has_threads, is_structured, is_typed, keeps, owes_nothing, waits}
-use Rattle.machine_types.proofs.Lists.{got_contained}
-use Rattle.machine_types.proofs.OwnersAtStart.{start_owns_all}
-use Rattle.machine_types.proofs.PlacesAtStart.{lies_apart, is_unused, IsPlaced, object_placed, stands, class_from}
-use Rattle.machine_types.proofs.WordsAtStart.{header_is, static_is}
 
 -- ---- no phase of the start has an element or a new object, and no thread an attempt
 

@@ -1,6 +1,5 @@
 -- Items of lists: one that is set, each where all pass a test, and where one is.
-use Rattle.std.proofs.Common.{◌≡◌, ◌≢◌, ◌⊎◌, inl, inr, ℕ, zero, suc, ◌<◌, Bool, true, List, [], ◌∷◌, length, Some, refl, sym, ap, subst, arith}
-use Rattle.std.specs.Prelude.{Contains, slice_get, slice_set, slice_index_or}
+use Rattle.std.proofs.Common.{◌≡◌, ◌≢◌, ◌⊎◌, inl, inr, ℕ, zero, suc, ◌<◌, Bool, true, List, [], ◌∷◌, length, Some, refl, sym, ap, subst, arith, Contains, slice_get, slice_set, slice_index_or}
 use Rattle.std.specs.List.{list_all}
 use Rattle.lists.proofs.TestLaws.{both_are_true}
 

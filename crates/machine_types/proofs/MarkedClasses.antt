@@ -1,17 +1,10 @@
 -- The classes of which a field may be read without a lock are frozen, and a test tells them.
-use Rattle.std.proofs.Common.{◌≡◌, ℕ, zero, suc, Bool, true, false, List, [], ◌∷◌, length, Some, refl, sym, ap, ◌∙◌, subst, arith, inl, inr, ◌⊎◌}
-use Rattle.std.specs.Prelude.{◌==◌, ◌&&◌, ◌||◌, not, slice_get}
+use Rattle.std.proofs.Common.{◌≡◌, ℕ, zero, suc, Bool, true, false, List, [], ◌∷◌, length, Some, refl, sym, ap, ◌∙◌, subst, arith, inl, inr, ◌⊎◌, ◌==◌, ◌&&◌, ◌||◌, not, slice_get}
 use Rattle.std.proofs.lemmas.Bool.{and_parts, eqb-true}
-use Rattle.jvm_types.specs.Members.{is_static}
-use Rattle.jvm_types.specs.declared.program.FieldInfo.{FieldInfo}
-use Rattle.jvm_types.specs.declared.program.Program.{Program}
-use Rattle.checked_program.specs.FrozenPlaces.{IsFrozenClass, IsFrozenField, IsFrozenStatic, IsGuardedField, IsGuardedStatic, IsUse, AreUses}
-use Rattle.checked_program.specs.TaggedCode.{Tagged}
-use Rattle.checked_program.specs.declared.section.FieldUse.{FieldUse}
+use Rattle.jvm_types.specs.{Members.is_static, declared.program.{FieldInfo.FieldInfo, Program.Program}}
+use Rattle.checked_program.specs.{FrozenPlaces.{IsFrozenClass, IsFrozenField, IsFrozenStatic, IsGuardedField, IsGuardedStatic, IsUse, AreUses}, TaggedCode.Tagged, declared.section.FieldUse.FieldUse}
 use Rattle.checked_program.specs.declared.section.FieldUse.TheVariants.{Frozen, Guarded, Open}
-use Rattle.machine_types.specs.MarkLaws.{HasFrozenTest}
-use Rattle.machine_types.specs.Standing.{tags_of}
-use Rattle.machine_types.proofs.PlainStepLaws.{is_same}
+use Rattle.machine_types.{specs.{MarkLaws.HasFrozenTest, Standing.tags_of}, proofs.PlainStepLaws.is_same}
 
 abbrev is_closed : FieldUse → Bool
 is_closed Open = false

@@ -1,27 +1,12 @@
 -- A section that the machine takes as marked has the mark 0.
-use Rattle.std.proofs.Common.{◌≡◌, ⊎_elim, ℕ, suc, ◌+◌, ◌<◌, Bool, true, false, cond, List, [], ◌∷◌, ◌++◌, Option, Some, None, refl, sym, ap, ◌∙◌, subst, arith}
-use Rattle.std.specs.Prelude.{◌==◌, ◌&&◌, Contains, filter_map, map, slice_get}
-use Rattle.std.specs.List.{AllZip, cons_option}
-use Rattle.std.proofs.lemmas.Bool.{eqb-true}
-use Rattle.std.proofs.lemmas.List.Elements.{Contains-append_right}
-use Rattle.lists.proofs.ListLaws.{same_some}
-use Rattle.lists.proofs.TestLaws.{both_are_true}
-use Rattle.jvm_types.specs.declared.code.Insn.{Insn}
-use Rattle.jvm_types.specs.declared.code.Op.{Op}
+use Rattle.std.proofs.Common.{◌≡◌, ⊎_elim, ℕ, suc, ◌+◌, ◌<◌, Bool, true, false, cond, List, [], ◌∷◌, ◌++◌, Option, Some, None, refl, sym, ap, ◌∙◌, subst, arith, ◌==◌, ◌&&◌, Contains, filter_map, map, slice_get}
+use Rattle.std.{specs.List.{AllZip, cons_option}, proofs.lemmas.{Bool.eqb-true, List.Elements.Contains-append_right}}
+use Rattle.lists.proofs.{ListLaws.same_some, TestLaws.both_are_true}
+use Rattle.jvm_types.specs.declared.{code.{Insn.Insn, Op.Op}, program.{MethodInfo.MethodInfo, Program.Program}}
+use Rattle.checked_program.specs.{Marks.{HasMark, IsMarkOf}, Sections.{Section, block_at, sections, sections_from}, TaggedCode.Tagged, declared.section.{FieldUse.FieldUse, SectionMark.SectionMark}}
+use Rattle.checked_program.specs.declared.section.Spot.{Spot, TheVariants.{Method, Block}}
+use Rattle.machine_types.{specs.{MarkLaws.MarkedHasMark, Sections.{is_same_spot, is_marked}, Standing.tags_of}, proofs.Lists.first_or_more}
 use Rattle.jvm_types.specs.declared.code.Op.TheVariants as ops
-use Rattle.jvm_types.specs.declared.program.MethodInfo.{MethodInfo}
-use Rattle.jvm_types.specs.declared.program.Program.{Program}
-use Rattle.checked_program.specs.Marks.{HasMark, IsMarkOf}
-use Rattle.checked_program.specs.Sections.{Section, block_at, sections, sections_from}
-use Rattle.checked_program.specs.TaggedCode.{Tagged}
-use Rattle.checked_program.specs.declared.section.FieldUse.{FieldUse}
-use Rattle.checked_program.specs.declared.section.SectionMark.{SectionMark}
-use Rattle.checked_program.specs.declared.section.Spot.{Spot}
-use Rattle.checked_program.specs.declared.section.Spot.TheVariants.{Method, Block}
-use Rattle.machine_types.specs.MarkLaws.{MarkedHasMark}
-use Rattle.machine_types.specs.Sections.{is_same_spot, is_marked}
-use Rattle.machine_types.specs.Standing.{tags_of}
-use Rattle.machine_types.proofs.Lists.{first_or_more}
 
 same_spot : (a b : Spot) → is_same_spot a b ≡ true → a ≡ b
 same_spot Method Method e = refl

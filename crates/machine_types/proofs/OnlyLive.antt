@@ -1,14 +1,9 @@
 -- An event of a thread that is not live changes nothing.
-use Rattle.std.proofs.Common.{◌≡◌, ℕ, false, Option, Some, None, refl, ap}
-use Rattle.std.specs.Prelude.{slice_get}
-use Rattle.machine_types.specs.Accesses.{found_by}
-use Rattle.machine_types.specs.Core.{Core, accessed_by, event_of, is_live, is_live_thread}
-use Rattle.machine_types.specs.EventLaws.{OnlyLiveChange}
-use Rattle.machine_types.specs.Events.{wanted, moved}
+use Rattle.std.proofs.Common.{◌≡◌, ℕ, false, Option, Some, None, refl, ap, slice_get}
 use Rattle.checked_program.specs.MarkedProgram.{MarkedProgram}
-use Rattle.machine_types.specs.Threads.{Thread, Phase}
-use Rattle.machine_types.specs.declared.phase.Phase.TheVariants as phases
+use Rattle.machine_types.specs.{Accesses.found_by, Core.{Core, accessed_by, event_of, is_live, is_live_thread}, EventLaws.OnlyLiveChange, Events.{wanted, moved}, Threads.{Thread, Phase}}
 use Rattle.machine_types.proofs.Lists.{set_as_it_is}
+use Rattle.machine_types.specs.declared.phase.Phase.TheVariants as phases
 
 at_rest : (s : Core) (t : ℕ) (x : Thread) → slice_get s.threads t ≡ Some x → accessed_by s t None x ≡ s
 at_rest s t x e = ap (λ threads. record s { threads = threads }) (set_as_it_is s.threads t x e)

@@ -1,27 +1,15 @@
 -- Owners at the start of a run: the lock word of each object is 0.
-use Rattle.std.proofs.Common.{◌≡◌, ℕ, zero, suc, ◌+◌, Bool, true, false, List, [], ◌∷◌, Option, Some, None, refl, ap, subst, arith}
-use Rattle.std.specs.Prelude.{map, slice_index, ◌==◌, ◌||◌, if◌then◌else◌, slice_get}
-use Rattle.std.specs.List.{range_with_len}
-use Rattle.std.proofs.lemmas.Bool.{eqb-true}
+use Rattle.std.proofs.Common.{◌≡◌, ℕ, zero, suc, ◌+◌, Bool, true, false, List, [], ◌∷◌, Option, Some, None, refl, ap, subst, arith, map, slice_index, ◌==◌, ◌||◌, if◌then◌else◌, slice_get}
+use Rattle.std.{specs.List.range_with_len, proofs.lemmas.Bool.eqb-true}
 use Rattle.jvm_types.specs.Numbers.{has_number}
 use Rattle.checked_program.specs.MarkedProgram.{MarkedProgram}
-use Rattle.machine_types.specs.Core.{start, start_thread}
-use Rattle.machine_types.specs.HeldMonitors.{held_at}
-use Rattle.machine_types.specs.LockWords.{lock_of}
-use Rattle.machine_types.specs.PlainMemory.{Object, start_objects}
-use Rattle.machine_types.specs.StartWords.{start_words}
-use Rattle.machine_types.specs.Parts.{init_roots}
-use Rattle.machine_types.specs.Threads.{Thread, fresh}
-use Rattle.machine_types.specs.declared.lock.Held.{Held}
-use Rattle.machine_types.specs.declared.config.Config.{Config}
-use Rattle.machine_types.specs.declared.lock.LockWord.{LockWord}
-use Rattle.machine_types.specs.declared.lock.LockWord.TheVariants as locks
-use Rattle.machine_types.specs.declared.phase.Phase.{Phase}
-use Rattle.machine_types.specs.declared.phase.Phase.TheVariants as phases
-use Rattle.machine_types.specs.Owners.{Locks, lock_at, locks_in, NotHeld, hold_by_word, hold_by_list, drawn_by, Owns, flat_holders, one_if_flat, references_of, Owners}
-use Rattle.machine_types.proofs.AtStart.{IsFreshPhase, starts, idles, is_over, is_start_thread, phase_is_fresh}
-use Rattle.machine_types.specs.StartLaws.{phase_at_start, StartOwns}
+use Rattle.machine_types.specs.{Core.{start, start_thread}, HeldMonitors.held_at, LockWords.lock_of}
+use Rattle.machine_types.specs.{Owners.{Locks, lock_at, locks_in, NotHeld, hold_by_word, hold_by_list, drawn_by, Owns, flat_holders, one_if_flat, references_of, Owners}, Parts.init_roots}
+use Rattle.machine_types.specs.{PlainMemory.{Object, start_objects}, StartLaws.{phase_at_start, StartOwns}, StartWords.start_words, Threads.{Thread, fresh}, declared.config.Config.Config}
+use Rattle.machine_types.{specs.declared.{lock.{Held.Held, LockWord.LockWord}, phase.Phase.Phase}, proofs.AtStart.{IsFreshPhase, starts, idles, is_over, is_start_thread, phase_is_fresh}}
 use Rattle.machine_types.proofs.WordsAtStart.{lock_is_free}
+use Rattle.machine_types.specs.declared.lock.LockWord.TheVariants as locks
+use Rattle.machine_types.specs.declared.phase.Phase.TheVariants as phases
 
 -- ---- owners, where the lock word of each object is 0
 

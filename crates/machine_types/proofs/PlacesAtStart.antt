@@ -1,29 +1,13 @@
 -- Places at the start of a run of a linked program: they lie apart, and the rest of the heap is unused.
-use Rattle.std.proofs.Common.{◌≡◌, ◌≢◌, ◌⊎◌, ⊎_elim, inl, inr, ℕ, zero, suc, ◌+◌, ◌-◌, ◌*◌, ◌<◌, ◌≤◌, Bool, true, false, cond, List, [], ◌∷◌, ◌++◌, length, take, Some, refl, sym, ap, subst, ◌∙◌, length-append, arith}
-use Rattle.std.specs.Prelude.{filter, flat_map, map, replicate, Contains, not, nat_le, nat_lt, ◌==◌, ◌&&◌, slice_get, slice_index}
-use Rattle.std.specs.List.{list_all, range_with_len, sum_by}
-use Rattle.std.proofs.lemmas.List.{length-map, length-replicate}
-use Rattle.std.proofs.lemmas.Bool.{cases_order, eqb-true, leb-true}
-use Rattle.std.proofs.lemmas.Bool.Decides.{nat_tests}
-use Rattle.lists.proofs.TestLaws.{both_are_true}
-use Rattle.lists.proofs.ListLaws.{same_some}
-use Rattle.jvm_types.specs.ClassNames.{file_class}
-use Rattle.jvm_types.specs.declared.class_numbers.TheConstants.{CLASS_ITSELF}
-use Rattle.jvm_types.specs.Members.{is_static}
-use Rattle.jvm_types.specs.ProgramInvariant.{IsProgram, instances_among, statics_among, words_of}
-use Rattle.jvm_types.specs.declared.program.FieldInfo.{FieldInfo}
-use Rattle.jvm_types.specs.declared.program.Program.{Program}
-use Rattle.jvm_types.proofs.EachAfter.{sum_first}
-use Rattle.checked_program.specs.CodeIndex.{statics_below}
+use Rattle.std.proofs.Common.{◌≡◌, ◌≢◌, ◌⊎◌, ⊎_elim, inl, inr, ℕ, zero, suc, ◌+◌, ◌-◌, ◌*◌, ◌<◌, ◌≤◌, Bool, true, false, cond, List, [], ◌∷◌, ◌++◌, length, take, Some, refl, sym, ap, subst, ◌∙◌, length-append, arith, filter, flat_map, map, replicate, Contains, not, nat_le, nat_lt, ◌==◌, ◌&&◌, slice_get, slice_index}
+use Rattle.std.{specs.List.{list_all, range_with_len, sum_by}, proofs.lemmas.{Bool.{cases_order, eqb-true, leb-true, Decides.nat_tests}, List.{length-map, length-replicate}}}
+use Rattle.lists.proofs.{ListLaws.same_some, TestLaws.both_are_true}
+use Rattle.jvm_types.specs.{ClassNames.file_class, Members.is_static, ProgramInvariant.{IsProgram, instances_among, statics_among, words_of}, declared.class_numbers.TheConstants.CLASS_ITSELF}
+use Rattle.jvm_types.{specs.declared.{fixed_words.TheConstants.{FIRST_READY_WORD, MONITOR_RECORDS, FIRST_CLASS_WORD}, program.{FieldInfo.FieldInfo, Program.Program}}, proofs.EachAfter.sum_first}
 use Rattle.laws_programs.proofs.FieldOrder.{before_at, statics_inside, statics_apart}
-use Rattle.machine_types.specs.Ints.{word_of}
-use Rattle.machine_types.specs.ObjectsApart.{IsBeside, IsOutside}
-use Rattle.machine_types.specs.PlainMemory.{Object, StaticValue, object_end, objects_from, class_objects, start_objects, start_statics}
-use Rattle.machine_types.specs.ReadyObjects.{ready_classes}
-use Rattle.jvm_types.specs.declared.fixed_words.TheConstants.{FIRST_READY_WORD, MONITOR_RECORDS, FIRST_CLASS_WORD}
-use Rattle.machine_types.specs.StartLaws.{StartLiesApart, StartIsUnused}
-use Rattle.machine_types.specs.StartWords.{object_words, statics_of, class_words, classes_of}
-use Rattle.machine_types.proofs.Lists.{every}
+use Rattle.checked_program.specs.CodeIndex.{statics_below}
+use Rattle.machine_types.specs.{Ints.word_of, ObjectsApart.{IsBeside, IsOutside}, PlainMemory.{Object, StaticValue, object_end, objects_from, class_objects, start_objects, start_statics}}
+use Rattle.machine_types.{specs.{ReadyObjects.ready_classes, StartLaws.{StartLiesApart, StartIsUnused}, StartWords.{object_words, statics_of, class_words, classes_of}}, proofs.Lists.every}
 
 -- ---- how many static fields there are, and how many of the classes below one
 

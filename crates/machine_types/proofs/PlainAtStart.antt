@@ -1,30 +1,15 @@
 -- The plain machine's start agrees with the start of a run.
-use Rattle.std.proofs.Common.{◌≡◌, ℕ, zero, suc, ◌+◌, ◌-◌, Bool, true, false, cond, List, [], ◌∷◌, length, Option, Some, None, refl, sym, ap, subst, ◌∙◌, arith}
-use Rattle.std.specs.Prelude.{slice_get, slice_index, ◌==◌}
-use Rattle.std.specs.List.{range_with_len}
-use Rattle.std.specs.Option.{option_or}
-use Rattle.std.proofs.lemmas.Bool.{eqb-true}
-use Rattle.std.proofs.lemmas.List.{length-map}
+use Rattle.std.proofs.Common.{◌≡◌, ℕ, zero, suc, ◌+◌, ◌-◌, Bool, true, false, cond, List, [], ◌∷◌, length, Option, Some, None, refl, sym, ap, subst, ◌∙◌, arith, slice_get, slice_index, ◌==◌}
+use Rattle.std.{specs.{List.range_with_len, Option.option_or}, proofs.lemmas.{Bool.eqb-true, List.length-map}}
 use Rattle.lists.proofs.ListLaws.{same_some}
-use Rattle.jvm_types.specs.ProgramInvariant.{IsProgram}
-use Rattle.jvm_types.specs.declared.program.Program.{Program}
+use Rattle.jvm_types.specs.{ProgramInvariant.IsProgram, declared.program.Program.Program}
 use Rattle.checked_program.specs.MarkedProgram.{MarkedProgram}
-use Rattle.machine_types.specs.Agreement.{OutsideFits, ThreadFits, depth_of, has_wait_bit}
-use Rattle.machine_types.specs.Core.{start, start_thread, part_phase}
-use Rattle.machine_types.specs.Facts.{ArePlainObjects}
-use Rattle.machine_types.specs.Owners.{references_of}
-use Rattle.machine_types.specs.Parts.{init_roots}
+use Rattle.machine_types.specs.{Agreement.{OutsideFits, ThreadFits, depth_of, has_wait_bit}, Core.{start, start_thread, part_phase}, Facts.ArePlainObjects, Owners.references_of, Parts.init_roots}
 use Rattle.machine_types.specs.PlainMemory.{Object, StaticValue, header_of, has_value, first_value, value_in, object_value, static_value, start_objects, start_statics}
-use Rattle.machine_types.specs.PlainState.{Plain, PlainThread, value_at, plain_start, first_thread}
+use Rattle.machine_types.specs.{PlainState.{Plain, PlainThread, value_at, plain_start, first_thread}, StartLaws.{StartAgrees, StartStandsBeside}, StartWords.start_words}
+use Rattle.machine_types.{specs.{Threads.{Thread, Config, fresh}, Words.header_word}, proofs.{AtStart.{thread_in, is_start_thread}, FactsAtStart.{facts, objects_are}}}
+use Rattle.machine_types.proofs.{PlacesAtStart.{lies_apart, object_placed, stands, IsValueOf, value_at as value_of_field}, WordsAtStart.{header_is, static_is}}
 use Rattle.machine_types.specs.PlainState as plain
-use Rattle.machine_types.specs.StartLaws.{StartAgrees, StartStandsBeside}
-use Rattle.machine_types.specs.StartWords.{start_words}
-use Rattle.machine_types.specs.Threads.{Thread, Config, fresh}
-use Rattle.machine_types.specs.Words.{header_word}
-use Rattle.machine_types.proofs.AtStart.{thread_in, is_start_thread}
-use Rattle.machine_types.proofs.FactsAtStart.{facts, objects_are}
-use Rattle.machine_types.proofs.PlacesAtStart.{lies_apart, object_placed, stands, IsValueOf, value_at as value_of_field}
-use Rattle.machine_types.proofs.WordsAtStart.{header_is, static_is}
 
 -- ---- places: a header, or a static field
 

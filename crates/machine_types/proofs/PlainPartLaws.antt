@@ -1,39 +1,22 @@
 -- Laws of the plain machine's steps: the last exit, the notification of all, the begin of a part, instructions and exceptions.
-use Rattle.std.proofs.Common.{◌≡◌, ◌≢◌, inl, inr, ℕ, zero, suc, ◌+◌, Bool, true, false, List, [], ◌∷◌, map, Option, Some, None, refl, sym, ap, ◌∙◌, subst}
-use Rattle.std.specs.Prelude.{cond, drop, ◌==◌, nat_lt, nat_le, option_map, option_and_then, slice_get}
-use Rattle.std.specs.List.{list_all, list_any}
-use Rattle.std.proofs.lemmas.Bool.{eqb-true}
-use Rattle.lists.proofs.TestLaws.{both_are_true}
-use Rattle.lists.proofs.ListLaws.{same_some}
-use Rattle.jvm_types.specs.declared.code.Insn.{Insn}
-use Rattle.jvm_types.specs.declared.outcome.End.{End}
-use Rattle.jvm_types.specs.declared.outcome.End.TheVariants as ends
-use Rattle.jvm_types.specs.declared.outcome.Thrown.{Thrown}
-use Rattle.jvm_types.specs.declared.outcome.Thrown.TheVariants as thrown
-use Rattle.jvm_types.specs.declared.program.MethodInfo.{MethodInfo}
-use Rattle.jvm_types.specs.declared.program.Program.{Program}
-use Rattle.jvm_types.specs.declared.program.Row.{Row}
-use Rattle.jvm_types.specs.declared.program.Target.{Target}
-use Rattle.machine_types.specs.Agreement.{depth_for}
-use Rattle.machine_types.specs.Effects.{Effect, Writes, Indexes, Makes, Prints, Returns, Leaves, Waits, Notifies, NotifiesAll, read_by}
-use Rattle.machine_types.specs.Frames.{Top, top_of, top_at, top_in, at_pc, frames_of, effect_at, entry_frame, handler_at, monitor_of}
-use Rattle.machine_types.specs.Ints.{low}
-use Rattle.machine_types.specs.Onward.{Onward, Running, Leaving, Uncaught, after, root_arguments, rooted, unwound, handed, dispatched, done}
-use Rattle.machine_types.specs.Parts.{done_roots}
+use Rattle.std.proofs.Common.{◌≡◌, ◌≢◌, inl, inr, ℕ, zero, suc, ◌+◌, Bool, true, false, List, [], ◌∷◌, map, Option, Some, None, refl, sym, ap, ◌∙◌, subst, cond, drop, ◌==◌, nat_lt, nat_le, option_map, option_and_then, slice_get}
+use Rattle.std.{specs.List.{list_all, list_any}, proofs.lemmas.Bool.eqb-true}
+use Rattle.lists.proofs.{ListLaws.same_some, TestLaws.both_are_true}
+use Rattle.jvm_types.specs.declared.{code.Insn.Insn, outcome.{End.End, Thrown.Thrown}, program.{MethodInfo.MethodInfo, Program.Program, Row.Row, Target.Target}}
+use Rattle.machine_types.specs.{Agreement.depth_for, Effects.{Effect, Writes, Indexes, Makes, Prints, Returns, Leaves, Waits, Notifies, NotifiesAll, read_by}}
+use Rattle.machine_types.specs.{Frames.{Top, top_of, top_at, top_in, at_pc, frames_of, effect_at, entry_frame, handler_at, monitor_of}, Ints.low}
+use Rattle.machine_types.specs.{Onward.{Onward, Running, Leaving, Uncaught, after, root_arguments, rooted, unwound, handed, dispatched, done}, Parts.done_roots}
 use Rattle.machine_types.specs.PlainInstructions.{plain_did, indexed_in, plain_instructed, got_by}
 use Rattle.machine_types.specs.PlainLaws.{Steps, LastExitFrees, ExitGoesOn, AllAreWoken, NoOtherIsWoken, TakesRoot, BeginTakesRoot, BeginsDone, DoneBegins, InitHasReturned, WorkersBeginBehindInit, IsFinishedStatus, DoneBeginsLast, IsOwnStep, DoIsOwn, KeepsMemory, InstructionsChangeMemory, ExceptionGoes, ExceptionsGo}
 use Rattle.machine_types.specs.PlainState.{Plain, PlainThread, Holding, Status, value_at, written, holding_at, without_holding, with_thread, with_status, held_by, let_go, plain_goes_on, over}
-use Rattle.machine_types.specs.PlainState as plain
 use Rattle.machine_types.specs.PlainSteps.{first_is_return, init_has_returned, is_over, is_due, plain_begun, may_do_done, plain_begins, plain_entered, left, exited, waited, waits_on, woken, wakes, wakes_one, notified, all_notified, retaken, step_at}
-use Rattle.machine_types.specs.ReadyObjects.{class_of}
-use Rattle.machine_types.specs.Threads.{Frame}
-use Rattle.machine_types.specs.Words.{header_length, value_word, variable_word}
-use Rattle.machine_types.specs.declared.phase.After.{After}
+use Rattle.machine_types.specs.{ReadyObjects.class_of, Threads.Frame, Words.{header_length, value_word, variable_word}, declared.{phase.After.After, plain.Act.Act}}
+use Rattle.machine_types.proofs.{Lists.{got_when_set, got_other, every}, PlainStepLaws.{by_status, is_same, depth_is, none_left}}
+use Rattle.jvm_types.specs.declared.outcome.End.TheVariants as ends
+use Rattle.jvm_types.specs.declared.outcome.Thrown.TheVariants as thrown
+use Rattle.machine_types.specs.PlainState as plain
 use Rattle.machine_types.specs.declared.phase.After.TheVariants as afters
-use Rattle.machine_types.specs.declared.plain.Act.{Act}
 use Rattle.machine_types.specs.declared.plain.Act.TheVariants as acts
-use Rattle.machine_types.proofs.Lists.{got_when_set, got_other, every}
-use Rattle.machine_types.proofs.PlainStepLaws.{by_status, is_same, depth_is, none_left}
 
 -- ---- the last exit
 

@@ -1,20 +1,15 @@
 -- Laws of the plain machine's steps.
-use Rattle.std.specs.List.{list_any}
-use Rattle.std.proofs.Common.{◌≡◌, ◌≢◌, ℕ, zero, suc, ◌+◌, Bool, true, false, List, [], ◌∷◌, Option, Some, None, refl, sym, ap, ◌∙◌, subst, arith}
-use Rattle.std.specs.Prelude.{cond, not, ◌==◌, ◌||◌, option_map, slice_get, slice_set, if◌then◌else◌}
-use Rattle.std.proofs.lemmas.Bool.Decides.{nat_tests}
-use Rattle.std.proofs.lemmas.Bool.{eqb-true, ne_eqb}
-use Rattle.jvm_types.specs.declared.outcome.End.TheVariants as ends
+use Rattle.std.proofs.Common.{◌≡◌, ◌≢◌, ℕ, zero, suc, ◌+◌, Bool, true, false, List, [], ◌∷◌, Option, Some, None, refl, sym, ap, ◌∙◌, subst, arith, cond, not, ◌==◌, ◌||◌, option_map, slice_get, slice_set, if◌then◌else◌}
+use Rattle.std.{specs.List.list_any, proofs.lemmas.Bool.{eqb-true, ne_eqb, Decides.nat_tests}}
 use Rattle.jvm_types.specs.declared.program.Program.{Program}
-use Rattle.machine_types.specs.Agreement.{depth_for}
-use Rattle.machine_types.specs.Onward.{Onward, After, after}
+use Rattle.machine_types.specs.{Agreement.depth_for, Onward.{Onward, After, after}}
 use Rattle.machine_types.specs.PlainLaws.{Steps, is_for, NoOtherStep, EntersAlone, RetakesAlone, one_deeper, EntersDeeper, ExitsShallower, WaitGivesUp, RetakeGivesBack, NobodyWaits, NotifyWakes}
 use Rattle.machine_types.specs.PlainState.{Plain, PlainThread, Holding, Status, holding_at, with_holding, without_holding, held_by, let_go, with_thread, with_status, plain_goes_on}
-use Rattle.machine_types.specs.PlainState as plain
-use Rattle.machine_types.specs.PlainSteps.{is_due, plain_begins, plain_entered, left, exited, waited, waits_on, woken, wakes_one, retaken, step_at, step_of}
-use Rattle.machine_types.specs.declared.plain.Act.{Act}
-use Rattle.machine_types.specs.declared.plain.Act.TheVariants as acts
+use Rattle.machine_types.specs.{PlainSteps.{is_due, plain_begins, plain_entered, left, exited, waited, waits_on, woken, wakes_one, retaken, step_at, step_of}, declared.plain.Act.Act}
 use Rattle.machine_types.proofs.Lists.{got_when_set, got_other}
+use Rattle.jvm_types.specs.declared.outcome.End.TheVariants as ends
+use Rattle.machine_types.specs.PlainState as plain
+use Rattle.machine_types.specs.declared.plain.Act.TheVariants as acts
 
 -- ---- an act is a step in no status but those that it is for
 

@@ -1,26 +1,12 @@
 -- The words at the start of a run of a linked program: each object has a free lock and its header, each static field its value.
-use Rattle.std.proofs.Common.{◌≡◌, ⊎_elim, ◌⊎◌, ℕ, zero, suc, ◌+◌, ◌-◌, ◌*◌, ◌<◌, ◌≤◌, Bool, true, false, cond, List, [], ◌∷◌, ◌++◌, length, take, Some, refl, sym, ap, ◌∙◌, length-append, append_assoc, arith}
-use Rattle.std.specs.Prelude.{flat_map, map, replicate, nat_lt, ◌==◌, ◌&&◌, slice_get, slice_index}
-use Rattle.std.specs.List.{range_with_len, sum_by}
-use Rattle.std.proofs.lemmas.List.{length-map, length-replicate}
-use Rattle.std.proofs.lemmas.Bool.{cases_order, eqb-true}
-use Rattle.std.proofs.lemmas.Bool.Decides.{nat_tests}
+use Rattle.std.proofs.Common.{◌≡◌, ⊎_elim, ◌⊎◌, ℕ, zero, suc, ◌+◌, ◌-◌, ◌*◌, ◌<◌, ◌≤◌, Bool, true, false, cond, List, [], ◌∷◌, ◌++◌, length, take, Some, refl, sym, ap, ◌∙◌, length-append, append_assoc, arith, flat_map, map, replicate, nat_lt, ◌==◌, ◌&&◌, slice_get, slice_index}
+use Rattle.std.{specs.List.{range_with_len, sum_by}, proofs.lemmas.{Bool.{cases_order, eqb-true, Decides.nat_tests}, List.{length-map, length-replicate}}}
 use Rattle.lists.proofs.ListLaws.{same_some}
-use Rattle.jvm_types.specs.ClassNames.{file_class}
-use Rattle.jvm_types.specs.declared.class_numbers.TheConstants.{INT_ARRAY_CLASS}
-use Rattle.jvm_types.specs.declared.fixed_words.TheConstants.{FIRST_CLASS_WORD, FIRST_READY_WORD, MONITOR_RECORDS}
-use Rattle.jvm_types.specs.Members.{is_static}
-use Rattle.jvm_types.specs.ProgramInvariant.{IsProgram, words_of}
-use Rattle.jvm_types.specs.declared.program.FieldInfo.{FieldInfo}
-use Rattle.jvm_types.specs.declared.program.Program.{Program}
-use Rattle.jvm_types.proofs.EachAfter.{sum_first}
+use Rattle.jvm_types.specs.{ClassNames.file_class, Members.is_static, ProgramInvariant.{IsProgram, words_of}, declared.class_numbers.TheConstants.INT_ARRAY_CLASS}
+use Rattle.jvm_types.{specs.declared.{fixed_words.TheConstants.{FIRST_CLASS_WORD, FIRST_READY_WORD, MONITOR_RECORDS}, program.{FieldInfo.FieldInfo, Program.Program}}, proofs.EachAfter.sum_first}
 use Rattle.checked_program.specs.CodeIndex.{statics_below}
-use Rattle.machine_types.specs.Ints.{word_of}
-use Rattle.machine_types.specs.PlainMemory.{Object, header_of, start_objects}
-use Rattle.machine_types.specs.ReadyObjects.{ready_classes}
-use Rattle.machine_types.specs.StartWords.{object_words, statics_of, class_words, classes_of, start_words}
-use Rattle.machine_types.specs.Words.{header, header_word}
-use Rattle.machine_types.proofs.Lists.{every, got_below}
+use Rattle.machine_types.specs.{Ints.word_of, PlainMemory.{Object, header_of, start_objects}, ReadyObjects.ready_classes, StartWords.{object_words, statics_of, class_words, classes_of, start_words}}
+use Rattle.machine_types.{specs.Words.{header, header_word}, proofs.Lists.{every, got_below}}
 use Rattle.machine_types.proofs.PlacesAtStart.{one_static, one_below, none_of, all_of, none_below, one_class_more, rises, before_at_least, class_from, class_to, earlier_class, static_word, ready_objects, ready_placed, Stands, is_ready, is_class, stands, front}
 
 -- ---- lists of words

@@ -1,28 +1,14 @@
 -- The instructions by which the search came to an entry are a way from the section to it.
-use Rattle.std.proofs.Common.{◌≡◌, ℕ, zero, suc, ◌+◌, ◌-◌, ◌*◌, ◌/◌, ◌<◌, ◌≤◌, Bool, true, false, List, [], ◌∷◌, ◌++◌, length, Option, Some, None, refl, sym, ap, subst, ◌∙◌, arith}
-use Rattle.std.specs.Prelude.{nat_lt, replicate, reverse, if◌then◌else◌, slice_get, slice_index_or}
-use Rattle.std.proofs.lemmas.List.{length-replicate, reverse-append, append_assoc}
-use Rattle.std.proofs.lemmas.Bool.Decides.{nat_tests}
-use Rattle.std.proofs.lemmas.Option.{same_Some}
-use Rattle.jvm_types.specs.ProgramInvariant.{IsProgram}
-use Rattle.jvm_types.specs.declared.program.MethodInfo.{MethodInfo}
-use Rattle.jvm_types.specs.declared.program.Program.{Program}
-use Rattle.checked_program.specs.TaggedCode.{Tagged, tagged_by}
-use Rattle.checked_program.specs.Sections.{Section, section_mode}
-use Rattle.checked_program.specs.Marks.{Callee, Calls, BreaksAt}
-use Rattle.checked_program.specs.declared.tag.Tags.{Tags}
-use Rattle.checked_program.specs.declared.section.Mode.{Mode}
-use Rattle.checked_program.specs.declared.section.FieldUse.{FieldUse}
+use Rattle.std.proofs.Common.{◌≡◌, ℕ, zero, suc, ◌+◌, ◌-◌, ◌*◌, ◌/◌, ◌<◌, ◌≤◌, Bool, true, false, List, [], ◌∷◌, ◌++◌, length, Option, Some, None, refl, sym, ap, subst, ◌∙◌, arith, nat_lt, replicate, reverse, if◌then◌else◌, slice_get, slice_index_or}
+use Rattle.std.proofs.lemmas.{Bool.Decides.nat_tests, List.{length-replicate, reverse-append, append_assoc}, Option.same_Some}
+use Rattle.jvm_types.specs.{ProgramInvariant.IsProgram, declared.program.{MethodInfo.MethodInfo, Program.Program}}
+use Rattle.checked_program.specs.{Marks.{Callee, Calls, BreaksAt}, Sections.{Section, section_mode}, TaggedCode.{Tagged, tagged_by}, declared.{section.{FieldUse.FieldUse, Mode.Mode}, tag.Tags.Tags}}
 use Rattle.guard_analysis.specs.CallGraph.{node_of, mode_at}
-use Rattle.mark_reasons.specs.OwnFlags.{AreOwn}
-use Rattle.mark_reasons.specs.Reasons.{callee_of, own_callee, mark_by, IsFirstSectionFault, IsShortest, IsWay, BeginsOwn, LeadsToFault}
+use Rattle.mark_reasons.specs.{OwnFlags.AreOwn, Reasons.{callee_of, own_callee, mark_by, IsFirstSectionFault, IsShortest, IsWay, BeginsOwn, LeadsToFault}}
 use Rattle.mark_reasons.specs.Searches.{callee_at, class_of_section, calls_of, node_fault_of, node_call, node_fault, node_size, node_visits, own_call, own_site, site_at, visits, AreCalledBefore, IsBack, from_section, from_entry, IsCalled, IsFirstFaultOf, IsSearchSound, Searching, left_of}
-use Rattle.mark_reasons.specs.declared.search.Entry.{Entry}
-use Rattle.mark_reasons.specs.declared.search.Search.{Search}
-use Rattle.mark_reasons.specs.declared.reason.Site.{Site}
+use Rattle.mark_reasons.specs.declared.{reason.Site.Site, search.{Entry.Entry, Search.Search}}
 use Rattle.mark_reasons.proofs.Nodes.{section_fits, called_by, calls_known, inside_calls, calls_found, calls_there, fault_breaks, fault_there}
-use Rattle.mark_reasons.proofs.SearchLaws.{all_same, nothing_yet, none_ordered, begins, goes_on, gets_less}
-use Rattle.mark_reasons.proofs.TurnLaws.{way_more, own_more}
+use Rattle.mark_reasons.proofs.{SearchLaws.{all_same, nothing_yet, none_ordered, begins, goes_on, gets_less}, TurnLaws.{way_more, own_more}}
 
 -- ---- one step back
 

@@ -1,38 +1,18 @@
 -- What keeps a place from being read: writes of a field without its guard, and the causes of M5.
-use Rattle.std.proofs.Common.{◌≡◌, ℕ, zero, suc, ◌<◌, ◌≤◌, Bool, true, false, List, length, Option, Some, None, refl, sym, ap, subst, ◌∙◌, arith, inl, inr, ◌⊎◌}
-use Rattle.std.specs.Prelude.{◌==◌, IsSomeAnd, slice_get, slice_index_or}
-use Rattle.std.proofs.lemmas.Bool.{false_from_ne_true}
-use Rattle.std.proofs.lemmas.Bool.Decides.{nat_tests}
-use Rattle.std.proofs.lemmas.Option.{slice_get_within, slice_get-get_or, same_Some}
-use Rattle.jvm_types.specs.Members.{is_private, is_static, is_final, MethodSite, field_rule}
-use Rattle.jvm_types.specs.ProgramInvariant.{IsProgram, IsTargetOf, site_in}
-use Rattle.jvm_types.specs.declared.code.Insn.{Insn}
-use Rattle.jvm_types.specs.declared.code.Op.{Op}
-use Rattle.jvm_types.specs.declared.code.Op.TheVariants as ops
-use Rattle.jvm_types.specs.declared.program.FieldInfo.{FieldInfo}
-use Rattle.jvm_types.specs.declared.program.MethodInfo.{MethodInfo}
-use Rattle.jvm_types.specs.declared.program.Program.{Program}
-use Rattle.jvm_types.specs.declared.program.Target.{Target}
-use Rattle.jvm_types.specs.declared.program.Target.TheVariants as targets
-use Rattle.checked_program.specs.FrozenPlaces.{AreUses, IsFrozenClass, IsFrozenUse, IsGuardedUse, IsUse}
+use Rattle.std.proofs.Common.{◌≡◌, ℕ, zero, suc, ◌<◌, ◌≤◌, Bool, true, false, List, length, Option, Some, None, refl, sym, ap, subst, ◌∙◌, arith, inl, inr, ◌⊎◌, ◌==◌, IsSomeAnd, slice_get, slice_index_or}
+use Rattle.std.proofs.lemmas.{Bool.{false_from_ne_true, Decides.nat_tests}, Option.{slice_get_within, slice_get-get_or, same_Some}}
+use Rattle.jvm_types.specs.{Members.{is_private, is_static, is_final, MethodSite, field_rule}, ProgramInvariant.{IsProgram, IsTargetOf, site_in}, declared.code.{Insn.Insn, Op.Op}}
+use Rattle.jvm_types.specs.declared.program.{FieldInfo.FieldInfo, MethodInfo.MethodInfo, Program.Program, Target.Target}
+use Rattle.checked_program.specs.{FrozenPlaces.{AreUses, IsFrozenClass, IsFrozenUse, IsGuardedUse, IsUse}, LockTags.TagShape}
 use Rattle.checked_program.specs.Marks.{Callee, BreaksAt, call_fault, enter_fault, section_fault, is_locking, is_class_locking, is_own_object, is_own_class, class_of_field, class_of_method, use_fault, receiver_tag}
-use Rattle.checked_program.specs.TaggedCode.{Tagged, IsAt, tagged_by}
-use Rattle.checked_program.specs.LockTags.{TagShape}
-use Rattle.checked_program.specs.declared.section.FieldUse.{FieldUse}
-use Rattle.checked_program.specs.declared.section.FieldUse.TheVariants.{Frozen, Guarded, Open}
-use Rattle.checked_program.specs.declared.section.Mode.{Mode}
-use Rattle.checked_program.specs.declared.tag.Tag.{Tag}
-use Rattle.checked_program.specs.declared.tag.Tag.TheVariants.{Untagged}
-use Rattle.checked_program.specs.declared.tag.Tags.{Tags}
-use Rattle.checked_program.proofs.NamedFields.{target_named}
-use Rattle.guard_analysis.specs.FieldUses.{unguarded_at, unguarded_write}
-use Rattle.guard_analysis.proofs.CallEdges.{frames_there, with_tags}
-use Rattle.guard_analysis.proofs.FieldUseLaws.{PutsWell, guarded_if, guarded_not, write_parts}
+use Rattle.checked_program.specs.{TaggedCode.{Tagged, IsAt, tagged_by}, declared.{section.{FieldUse.{FieldUse, TheVariants.{Frozen, Guarded, Open}}, Mode.Mode}, tag.Tag.{Tag, TheVariants.Untagged}}}
+use Rattle.checked_program.{specs.declared.tag.Tags.Tags, proofs.NamedFields.target_named}
+use Rattle.guard_analysis.{specs.FieldUses.{unguarded_at, unguarded_write}, proofs.{CallEdges.{frames_there, with_tags}, FieldUseLaws.{PutsWell, guarded_if, guarded_not, write_parts}}}
 use Rattle.mark_reasons.specs.Causes.{is_number, place_read, site_place, writes_at, Bars, IsCause, IsFirstWrite, IsFirstWriteOf, IsMutable, IsWriteFound, KeepsPlace, KeepsField, KeepsStatic, WritesUnguarded}
-use Rattle.mark_reasons.specs.Firsts.{IsFirst}
-use Rattle.mark_reasons.specs.declared.cause.Cause.{Cause}
+use Rattle.mark_reasons.specs.{Firsts.IsFirst, declared.cause.{Cause.Cause, Place.Place}}
+use Rattle.jvm_types.specs.declared.code.Op.TheVariants as ops
+use Rattle.jvm_types.specs.declared.program.Target.TheVariants as targets
 use Rattle.mark_reasons.specs.declared.cause.Cause.TheVariants as causes
-use Rattle.mark_reasons.specs.declared.cause.Place.{Place}
 use Rattle.mark_reasons.specs.declared.cause.Place.TheVariants as places
 
 -- ---- writes

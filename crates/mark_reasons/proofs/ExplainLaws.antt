@@ -1,34 +1,14 @@
 -- The reason of a mark, from what was found, and the reasons of all marks.
-use Rattle.std.proofs.Common.{◌≡◌, ℕ, zero, suc, ◌+◌, ◌<◌, ◌≤◌, Bool, true, false, ◌&&◌, List, [], ◌∷◌, ◌++◌, length, Option, Some, None, refl, sym, ap, subst, ◌∙◌, arith, ⊎_elim}
-use Rattle.std.specs.Prelude.{◌==◌, slice_get, slice_index_or}
-use Rattle.std.specs.List.{AllZip}
-use Rattle.std.proofs.lemmas.Bool.Decides.{nat_tests}
-use Rattle.std.proofs.lemmas.List.{length-append}
-use Rattle.std.proofs.lemmas.Option.{same_Some}
-use Rattle.std.proofs.lemmas.Bool.{and_parts}
-use Rattle.jvm_types.specs.ProgramInvariant.{IsProgram}
-use Rattle.jvm_types.specs.declared.program.MethodInfo.{MethodInfo}
-use Rattle.jvm_types.specs.declared.program.Program.{Program}
-use Rattle.jvm_types.specs.declared.limits.TheConstants.{MOST_INSTRUCTIONS}
+use Rattle.std.proofs.Common.{◌≡◌, ℕ, zero, suc, ◌+◌, ◌<◌, ◌≤◌, Bool, true, false, ◌&&◌, List, [], ◌∷◌, ◌++◌, length, Option, Some, None, refl, sym, ap, subst, ◌∙◌, arith, ⊎_elim, ◌==◌, slice_get, slice_index_or}
+use Rattle.std.{specs.List.AllZip, proofs.lemmas.{Bool.{and_parts, Decides.nat_tests}, List.length-append, Option.same_Some}}
+use Rattle.jvm_types.specs.{ProgramInvariant.IsProgram, declared.{limits.TheConstants.MOST_INSTRUCTIONS, program.{MethodInfo.MethodInfo, Program.Program}}}
+use Rattle.checked_program.specs.{FrozenPlaces.AreUses, MarkedProgram.{MarkedProgram, IsMarked}, Marks.{BreaksAt, OwnBreaks, HasMark, IsMarkOf, AreMarks}}
+use Rattle.checked_program.specs.{Sections.{Section, sections, section_mode, IsOwn}, TaggedCode.{Tagged, tagged_by}, declared.{section.{FieldUse.FieldUse, SectionMark.SectionMark}, tag.Tags.Tags}}
 use Rattle.checked_program.proofs.CalledMethods.{methods_few}
-use Rattle.checked_program.specs.MarkedProgram.{MarkedProgram, IsMarked}
-use Rattle.checked_program.specs.TaggedCode.{Tagged, tagged_by}
-use Rattle.checked_program.specs.FrozenPlaces.{AreUses}
-use Rattle.checked_program.specs.Sections.{Section, sections, section_mode, IsOwn}
-use Rattle.checked_program.specs.Marks.{BreaksAt, OwnBreaks, HasMark, IsMarkOf, AreMarks}
-use Rattle.checked_program.specs.declared.tag.Tags.{Tags}
-use Rattle.checked_program.specs.declared.section.SectionMark.{SectionMark}
-use Rattle.checked_program.specs.declared.section.FieldUse.{FieldUse}
 use Rattle.laws_sections.proofs.OneMarks.{one_use}
-use Rattle.guard_analysis.proofs.CalleesFound.{breaks_one}
-use Rattle.guard_analysis.proofs.Grading.{fault_known}
-use Rattle.mark_reasons.specs.Firsts.{IsFirst}
-use Rattle.mark_reasons.specs.OwnFlags.{AreOwn}
-use Rattle.mark_reasons.specs.Reasons.{own_callee, marked_section, LeadsToFault, AreMarked, FirstReasons, IsExplained}
-use Rattle.mark_reasons.specs.Searches.{node_fault, own_breaks, own_site}
-use Rattle.mark_reasons.specs.declared.reason.Reason.{Reason}
-use Rattle.mark_reasons.proofs.Nodes.{inside_breaks}
-use Rattle.mark_reasons.proofs.SearchLaws.{last_got}
+use Rattle.guard_analysis.proofs.{CalleesFound.breaks_one, Grading.fault_known}
+use Rattle.mark_reasons.specs.{Firsts.IsFirst, OwnFlags.AreOwn, Reasons.{own_callee, marked_section, LeadsToFault, AreMarked, FirstReasons, IsExplained}, Searches.{node_fault, own_breaks, own_site}}
+use Rattle.mark_reasons.{specs.declared.reason.Reason.Reason, proofs.{Nodes.inside_breaks, SearchLaws.last_got}}
 
 -- ---- an own instruction
 

@@ -1,26 +1,12 @@
 -- What a mark says of its section.
-use Rattle.std.proofs.Common.{◌≡◌, ℕ, suc, ◌*◌, ◌<◌, ◌≤◌, Bool, true, false, List, [], length, Some, None, zero, refl, sym, ap, subst, ◌∙◌, arith}
-use Rattle.std.specs.Prelude.{◌==◌, slice_get, slice_index_or}
+use Rattle.std.proofs.Common.{◌≡◌, ℕ, suc, ◌*◌, ◌<◌, ◌≤◌, Bool, true, false, List, [], length, Some, None, zero, refl, sym, ap, subst, ◌∙◌, arith, ◌==◌, slice_get, slice_index_or}
 use Rattle.std.proofs.lemmas.Bool.Decides.{nat_tests}
-use Rattle.jvm_types.specs.ProgramInvariant.{IsProgram}
-use Rattle.jvm_types.specs.declared.program.MethodInfo.{MethodInfo}
-use Rattle.jvm_types.specs.declared.program.Program.{Program}
-use Rattle.checked_program.specs.TaggedCode.{Tagged, tagged_by}
-use Rattle.checked_program.specs.Sections.{Section, section_mode}
-use Rattle.checked_program.specs.Marks.{callee, IsOnOwn, OwnBreaks, CalleeBreaks, CalleeRecurs, Applies, elsewhere, itself, called, recurring, HasMark, turn}
-use Rattle.checked_program.specs.declared.tag.Tags.{Tags}
-use Rattle.checked_program.specs.declared.section.FieldUse.{FieldUse}
+use Rattle.jvm_types.specs.{ProgramInvariant.IsProgram, declared.program.{MethodInfo.MethodInfo, Program.Program}}
 use Rattle.graph_closure.specs.Walks.{AreRecurring}
-use Rattle.guard_analysis.specs.CallGraph.{node_of, call_graph}
-use Rattle.guard_analysis.specs.Faults.{LeadsToItself}
-use Rattle.guard_analysis.proofs.CallEdges.{called_inside}
-use Rattle.guard_analysis.proofs.CalleesFound.{itself_flagged}
-use Rattle.guard_analysis.proofs.Grading.{fault_low}
-use Rattle.mark_reasons.specs.Firsts.{IsFirst}
-use Rattle.mark_reasons.specs.OwnFlags.{AreOwn}
-use Rattle.mark_reasons.specs.Reasons.{HasReason, IsSpotReached}
-use Rattle.mark_reasons.specs.Searches.{own_call, turns}
-use Rattle.mark_reasons.specs.declared.reason.Reason.TheVariants.{Elsewhere, Unreached}
+use Rattle.checked_program.specs.{Marks.{callee, IsOnOwn, OwnBreaks, CalleeBreaks, CalleeRecurs, Applies, elsewhere, itself, called, recurring, HasMark, turn}, Sections.{Section, section_mode}}
+use Rattle.checked_program.specs.{TaggedCode.{Tagged, tagged_by}, declared.{section.FieldUse.FieldUse, tag.Tags.Tags}}
+use Rattle.guard_analysis.{specs.{CallGraph.{node_of, call_graph}, Faults.LeadsToItself}, proofs.{CallEdges.called_inside, CalleesFound.itself_flagged, Grading.fault_low}}
+use Rattle.mark_reasons.specs.{Firsts.IsFirst, OwnFlags.AreOwn, Reasons.{HasReason, IsSpotReached}, Searches.{own_call, turns}, declared.reason.Reason.TheVariants.{Elsewhere, Unreached}}
 use Rattle.mark_reasons.proofs.Nodes.{calls_known, inside_calls}
 
 module _ (p : Program) (tags : Tagged) (uses : List FieldUse) (s : Section) where

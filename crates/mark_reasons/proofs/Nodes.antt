@@ -1,26 +1,11 @@
 -- Nodes of the graph of calls, and what the instructions of their methods call and break.
-use Rattle.std.proofs.Common.{◌≡◌, ℕ, ◌+◌, ◌*◌, ◌/◌, ◌%◌, ◌<◌, Bool, true, false, List, [], ◌∷◌, length, Option, Some, None, refl, sym, ap, subst, ◌∙◌, arith}
-use Rattle.std.specs.Prelude.{◌==◌, if◌then◌else◌, slice_get}
-use Rattle.std.proofs.lemmas.Bool.Decides.{nat_tests}
-use Rattle.std.proofs.lemmas.Option.{slice_get_within, same_Some}
-use Rattle.jvm_types.specs.Members.{is_static}
-use Rattle.jvm_types.specs.ProgramInvariant.{IsProgram}
-use Rattle.jvm_types.specs.declared.program.MethodInfo.{MethodInfo}
-use Rattle.jvm_types.specs.declared.program.Program.{Program}
-use Rattle.checked_program.specs.TaggedCode.{Tagged, tagged_by}
-use Rattle.checked_program.specs.Sections.{Section, mode_of_spot, section_mode}
-use Rattle.checked_program.specs.Marks.{Callee, callee, Calls, CallsThrough, BreaksAt, receiver_tag, class_of_method}
-use Rattle.checked_program.specs.declared.tag.Tags.{Tags}
-use Rattle.checked_program.specs.declared.section.Mode.{Mode}
-use Rattle.checked_program.specs.declared.section.Mode.TheVariants.{OnThis, OffThis, OnClass}
-use Rattle.checked_program.specs.declared.section.Spot.{Spot}
-use Rattle.checked_program.specs.declared.section.Spot.TheVariants.{Method, Block}
-use Rattle.checked_program.specs.declared.section.FieldUse.{FieldUse}
-use Rattle.guard_analysis.specs.CallGraph.{mode_number, node_of, mode_at, call_at}
-use Rattle.guard_analysis.specs.Faults.{IsModeFor}
-use Rattle.guard_analysis.proofs.CallEdges.{half_of, mode_back, node_low, with_tags}
-use Rattle.guard_analysis.proofs.CalleesFound.{breaks_one, fits_called}
-use Rattle.guard_analysis.proofs.Grading.{fault_known, call_known, call_found}
+use Rattle.std.proofs.Common.{◌≡◌, ℕ, ◌+◌, ◌*◌, ◌/◌, ◌%◌, ◌<◌, Bool, true, false, List, [], ◌∷◌, length, Option, Some, None, refl, sym, ap, subst, ◌∙◌, arith, ◌==◌, if◌then◌else◌, slice_get}
+use Rattle.std.proofs.lemmas.{Bool.Decides.nat_tests, Option.{slice_get_within, same_Some}}
+use Rattle.jvm_types.specs.{Members.is_static, ProgramInvariant.IsProgram, declared.program.{MethodInfo.MethodInfo, Program.Program}}
+use Rattle.checked_program.specs.{Marks.{Callee, callee, Calls, CallsThrough, BreaksAt, receiver_tag, class_of_method}, Sections.{Section, mode_of_spot, section_mode}, TaggedCode.{Tagged, tagged_by}}
+use Rattle.checked_program.specs.declared.{section.{FieldUse.FieldUse, Mode.{Mode, TheVariants.{OnThis, OffThis, OnClass}}, Spot.{Spot, TheVariants.{Method, Block}}}, tag.Tags.Tags}
+use Rattle.guard_analysis.{specs.{CallGraph.{mode_number, node_of, mode_at, call_at}, Faults.IsModeFor}, proofs.CallEdges.{half_of, mode_back, node_low, with_tags}}
+use Rattle.guard_analysis.proofs.{CalleesFound.{breaks_one, fits_called}, Grading.{fault_known, call_known, call_found}}
 use Rattle.mark_reasons.specs.Searches.{callee_at, class_of_section, node_call, node_fault, node_size, calls_of, node_fault_of}
 
 -- ---- nodes, where sections on a class are on one class

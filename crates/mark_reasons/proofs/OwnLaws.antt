@@ -1,32 +1,15 @@
 -- The flags of a section are those of its own instructions.
-use Rattle.std.proofs.Common.{◌≡◌, ℕ, zero, suc, ◌+◌, ◌<◌, ◌≤◌, ◌≢◌, Bool, true, false, List, [], ◌∷◌, length, Option, Some, None, refl, sym, ap, subst, ◌∙◌, arith, ⊎_elim, get_or-set_same, get_or-set_other}
-use Rattle.std.specs.Prelude.{nat_lt, if◌then◌else◌, replicate, slice_get, slice_set, slice_index, slice_index_or}
-use Rattle.std.proofs.lemmas.Bool.{cases_eq}
-use Rattle.std.proofs.lemmas.Bool.Decides.{nat_tests}
-use Rattle.std.proofs.lemmas.List.{length-append, length-set, length-replicate, get_or_append_left, get_or_push}
-use Rattle.std.proofs.lemmas.Option.{slice_get_within, same_Some}
-use Rattle.jvm_types.specs.ProgramInvariant.{IsProgram}
-use Rattle.jvm_types.specs.declared.code.Insn.{Insn}
-use Rattle.jvm_types.specs.declared.code.Op.{Op}
-use Rattle.jvm_types.specs.declared.code.Op.TheVariants as ops
-use Rattle.jvm_types.specs.declared.program.Target.{Target}
-use Rattle.jvm_types.specs.declared.program.MethodInfo.{MethodInfo}
-use Rattle.jvm_types.specs.declared.program.Program.{Program}
-use Rattle.code_table.specs.PcTables.{number_at}
-use Rattle.code_table.proofs.NumbersExact.{exact}
+use Rattle.std.proofs.Common.{◌≡◌, ℕ, zero, suc, ◌+◌, ◌<◌, ◌≤◌, ◌≢◌, Bool, true, false, List, [], ◌∷◌, length, Option, Some, None, refl, sym, ap, subst, ◌∙◌, arith, ⊎_elim, get_or-set_same, get_or-set_other, nat_lt, if◌then◌else◌, replicate, slice_get, slice_set, slice_index, slice_index_or}
+use Rattle.std.proofs.lemmas.{Bool.{cases_eq, Decides.nat_tests}, List.{length-append, length-set, length-replicate, get_or_append_left, get_or_push}, Option.{slice_get_within, same_Some}}
+use Rattle.jvm_types.specs.{ProgramInvariant.IsProgram, declared.{code.{Insn.Insn, Op.Op}, program.{MethodInfo.MethodInfo, Program.Program, Target.Target}}}
 use Rattle.laws_programs.proofs.CodeOrder.{methods_laid_out}
-use Rattle.checked_program.specs.LockTags.{TagShape}
-use Rattle.checked_program.specs.TaggedCode.{tagged_by, IsInstructionReached, IsAt}
-use Rattle.checked_program.specs.Marks.{IsOnOwn}
-use Rattle.checked_program.specs.declared.tag.Tags.{Tags}
-use Rattle.checked_program.specs.declared.section.Spot.TheVariants.{Method, Block}
-use Rattle.guard_analysis.specs.BlockWalks.{deep_at, is_deep, IsPathInBlock, IsInside, Has, IsExplored}
-use Rattle.guard_analysis.specs.SectionGrades.{entry_depth_at}
-use Rattle.guard_analysis.specs.declared.block_walk.Walk.{Walk}
-use Rattle.guard_analysis.proofs.CallEdges.{with_tags}
-use Rattle.guard_analysis.proofs.BlockMarks.{entry_parts, stands, inside_own, own_inside, off_this}
-use Rattle.mark_reasons.proofs.SearchLaws.{all_same}
+use Rattle.code_table.{specs.PcTables.number_at, proofs.NumbersExact.exact}
+use Rattle.checked_program.specs.{LockTags.TagShape, Marks.IsOnOwn, TaggedCode.{tagged_by, IsInstructionReached, IsAt}, declared.{section.Spot.TheVariants.{Method, Block}, tag.Tags.Tags}}
+use Rattle.guard_analysis.specs.{BlockWalks.{deep_at, is_deep, IsPathInBlock, IsInside, Has, IsExplored}, SectionGrades.entry_depth_at, declared.block_walk.Walk.Walk}
+use Rattle.guard_analysis.proofs.{BlockMarks.{entry_parts, stands, inside_own, own_inside, off_this}, CallEdges.with_tags}
 use Rattle.mark_reasons.specs.OwnFlags.{reached_at, is_reached, reached_before, flag_set, flagged, AreOwn, OwnOrElsewhere, IsFlagged, IsDepthAnswer, IsOpAnswer, IsBlockAnswer}
+use Rattle.mark_reasons.proofs.SearchLaws.{all_same}
+use Rattle.jvm_types.specs.declared.code.Op.TheVariants as ops
 
 -- ---- reached instructions
 

@@ -1,25 +1,12 @@
 -- Whether some path reaches a section, from the code of its method.
-use Rattle.std.proofs.Common.{◌≡◌, ℕ, ◌<◌, Bool, true, false, ◌&&◌, List, length, Option, Some, None, refl, sym, ap, subst, ◌∙◌, arith}
-use Rattle.std.specs.Prelude.{◌==◌, slice_get}
-use Rattle.std.specs.Option.{is_some}
-use Rattle.std.proofs.lemmas.Bool.{and_parts}
-use Rattle.std.proofs.lemmas.Bool.Decides.{nat_tests}
-use Rattle.std.proofs.lemmas.Option.{slice_get_within}
-use Rattle.jvm_types.specs.ProgramInvariant.{IsProgram}
-use Rattle.jvm_types.specs.declared.code.Insn.{Insn}
-use Rattle.jvm_types.specs.declared.code.Op.{Op}
-use Rattle.jvm_types.specs.declared.code.Op.TheVariants as ops
-use Rattle.jvm_types.specs.declared.program.MethodInfo.{MethodInfo}
-use Rattle.jvm_types.specs.declared.program.Program.{Program}
-use Rattle.checked_program.specs.TaggedCode.{tagged_by}
-use Rattle.checked_program.specs.declared.section.Spot.TheVariants.{Method, Block}
-use Rattle.checked_program.specs.declared.tag.Tags.{Tags}
-use Rattle.guard_analysis.proofs.BlockMarks.{stands}
-use Rattle.guard_analysis.proofs.CallEdges.{with_tags}
-use Rattle.mark_reasons.specs.OwnFlags.{is_reached}
-use Rattle.mark_reasons.specs.ReachedSpots.{begins_at, block_begins, is_monitorenter, IsFirstBegin, TellsReached}
-use Rattle.mark_reasons.specs.Reasons.{IsSpotReached}
+use Rattle.std.{proofs.Common.{◌≡◌, ℕ, ◌<◌, Bool, true, false, ◌&&◌, List, length, Option, Some, None, refl, sym, ap, subst, ◌∙◌, arith, ◌==◌, slice_get}, specs.Option.is_some}
+use Rattle.std.proofs.lemmas.{Bool.{and_parts, Decides.nat_tests}, Option.slice_get_within}
+use Rattle.jvm_types.specs.{ProgramInvariant.IsProgram, declared.{code.{Insn.Insn, Op.Op}, program.{MethodInfo.MethodInfo, Program.Program}}}
+use Rattle.checked_program.specs.{TaggedCode.tagged_by, declared.{section.Spot.TheVariants.{Method, Block}, tag.Tags.Tags}}
+use Rattle.guard_analysis.proofs.{BlockMarks.stands, CallEdges.with_tags}
+use Rattle.mark_reasons.specs.{OwnFlags.is_reached, ReachedSpots.{begins_at, block_begins, is_monitorenter, IsFirstBegin, TellsReached}, Reasons.IsSpotReached}
 use Rattle.mark_reasons.proofs.OwnLaws.{code_is, frame_is, reached_parts, target_is}
+use Rattle.jvm_types.specs.declared.code.Op.TheVariants as ops
 
 is_enter : (op : Op) → is_monitorenter op ≡ true → op ≡ ops.Monitorenter
 is_enter ops.Monitorenter e = refl

@@ -1,23 +1,11 @@
 -- What the search finds: nodes that calls lead to from the section, each once; and at its end all of them.
-use Rattle.std.proofs.Common.{◌≡◌, ℕ, zero, suc, ◌+◌, ◌*◌, ◌<◌, ◌≤◌, ◌≢◌, Bool, true, false, not, ◌&&◌, List, [], ◌∷◌, ◌++◌, length, Option, Some, None, refl, sym, ap, subst, ◌∙◌, arith, ⊎_elim, inl, inr, ◌⊎◌, get_or-set_other, cond}
-use Rattle.std.specs.Prelude.{nat_lt, if◌then◌else◌, replicate, slice_get, slice_set, slice_index_or}
-use Rattle.std.proofs.lemmas.Bool.{cases_eq}
-use Rattle.std.proofs.lemmas.Bool.Decides.{nat_tests}
-use Rattle.std.proofs.lemmas.List.{length-append, length-set}
-use Rattle.std.proofs.lemmas.List.Sums.{sum_by-set}
-use Rattle.std.proofs.lemmas.Option.{same_Some, slice_get_within}
+use Rattle.std.proofs.Common.{◌≡◌, ℕ, zero, suc, ◌+◌, ◌*◌, ◌<◌, ◌≤◌, ◌≢◌, Bool, true, false, not, ◌&&◌, List, [], ◌∷◌, ◌++◌, length, Option, Some, None, refl, sym, ap, subst, ◌∙◌, arith, ⊎_elim, inl, inr, ◌⊎◌, get_or-set_other, cond, nat_lt, if◌then◌else◌, replicate, slice_get, slice_set, slice_index_or}
+use Rattle.std.proofs.lemmas.{Bool.{cases_eq, Decides.nat_tests}, List.{length-append, length-set, Sums.sum_by-set}, Option.{same_Some, slice_get_within}}
 use Rattle.jvm_types.specs.declared.program.Program.{Program}
-use Rattle.checked_program.specs.TaggedCode.{Tagged}
-use Rattle.checked_program.specs.Sections.{Section, IsOwn}
-use Rattle.checked_program.specs.Marks.{Callee, Calls, CallsThrough, BreaksAt, CalleeBreaks}
-use Rattle.checked_program.specs.declared.section.FieldUse.{FieldUse}
-use Rattle.guard_analysis.specs.CallGraph.{node_of}
-use Rattle.guard_analysis.specs.Faults.{IsModeFor}
-use Rattle.mark_reasons.specs.Reasons.{own_callee}
-use Rattle.mark_reasons.specs.Searches.{callee_at, class_of_section, search_visited, visits, HasNode, HasNodeBy, IsCalled, IsOrdered, IsSearchSound, Searching, unseen, left_of}
-use Rattle.mark_reasons.specs.declared.search.Entry.{Entry}
-use Rattle.mark_reasons.specs.declared.search.Search.{Search}
-use Rattle.mark_reasons.proofs.Nodes.{callee_back, fits_call, fits_through, section_fits}
+use Rattle.checked_program.specs.{Marks.{Callee, Calls, CallsThrough, BreaksAt, CalleeBreaks}, Sections.{Section, IsOwn}, TaggedCode.Tagged, declared.section.FieldUse.FieldUse}
+use Rattle.guard_analysis.specs.{CallGraph.node_of, Faults.IsModeFor}
+use Rattle.mark_reasons.specs.{Reasons.own_callee, Searches.{callee_at, class_of_section, search_visited, visits, HasNode, HasNodeBy, IsCalled, IsOrdered, IsSearchSound, Searching, unseen, left_of}}
+use Rattle.mark_reasons.{specs.declared.search.{Entry.Entry, Search.Search}, proofs.Nodes.{callee_back, fits_call, fits_through, section_fits}}
 
 -- ---- lists with one more behind
 

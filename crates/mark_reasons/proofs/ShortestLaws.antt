@@ -1,23 +1,11 @@
 -- The way that the search finds has as few calls as any.
-use Rattle.std.proofs.Common.{◌≡◌, ℕ, zero, suc, ◌+◌, ◌-◌, ◌<◌, ◌≤◌, Bool, true, false, List, [], ◌∷◌, ◌++◌, length, Option, Some, None, refl, sym, ap, subst, ◌∙◌, arith, ⊎_elim, inl, inr, ◌⊎◌}
-use Rattle.std.specs.Prelude.{nat_lt, slice_get}
-use Rattle.std.proofs.lemmas.Bool.Decides.{nat_tests}
-use Rattle.std.proofs.lemmas.List.{length-append}
-use Rattle.std.proofs.lemmas.Option.{same_Some, slice_get_within}
+use Rattle.std.proofs.Common.{◌≡◌, ℕ, zero, suc, ◌+◌, ◌-◌, ◌<◌, ◌≤◌, Bool, true, false, List, [], ◌∷◌, ◌++◌, length, Option, Some, None, refl, sym, ap, subst, ◌∙◌, arith, ⊎_elim, inl, inr, ◌⊎◌, nat_lt, slice_get}
+use Rattle.std.proofs.lemmas.{Bool.Decides.nat_tests, List.length-append, Option.{same_Some, slice_get_within}}
 use Rattle.jvm_types.specs.declared.program.Program.{Program}
-use Rattle.checked_program.specs.TaggedCode.{Tagged}
-use Rattle.checked_program.specs.Sections.{Section}
-use Rattle.checked_program.specs.Marks.{Callee, Calls, BreaksAt}
-use Rattle.checked_program.specs.declared.section.Mode.{Mode}
-use Rattle.checked_program.specs.declared.section.FieldUse.{FieldUse}
-use Rattle.guard_analysis.specs.CallGraph.{node_of}
-use Rattle.guard_analysis.specs.Faults.{IsModeFor}
-use Rattle.mark_reasons.specs.Reasons.{callee_of, own_callee, IsShortest, IsWay}
-use Rattle.mark_reasons.specs.Searches.{callee_at, class_of_section, site_at, HasNodeBy, IsBack, from_section, from_entry, IsCalled, Searching}
-use Rattle.mark_reasons.specs.declared.search.Entry.{Entry}
-use Rattle.mark_reasons.specs.declared.search.Search.{Search}
-use Rattle.mark_reasons.specs.declared.reason.Site.{Site}
-use Rattle.mark_reasons.proofs.Nodes.{callee_back, fits_call, section_fits}
+use Rattle.checked_program.specs.{Marks.{Callee, Calls, BreaksAt}, Sections.Section, TaggedCode.Tagged, declared.section.{FieldUse.FieldUse, Mode.Mode}}
+use Rattle.guard_analysis.specs.{CallGraph.node_of, Faults.IsModeFor}
+use Rattle.mark_reasons.specs.{Reasons.{callee_of, own_callee, IsShortest, IsWay}, Searches.{callee_at, class_of_section, site_at, HasNodeBy, IsBack, from_section, from_entry, IsCalled, Searching}}
+use Rattle.mark_reasons.{specs.declared.{reason.Site.Site, search.{Entry.Entry, Search.Search}}, proofs.Nodes.{callee_back, fits_call, section_fits}}
 
 -- so many calls led to an entry
 pub data HasCalls (queue : List Entry) : ℕ → ℕ → Type 0 where

@@ -1,27 +1,14 @@
 -- The walk to a method that calls itself: a node that leads to a cycle calls one that does, so the way goes on until it comes
 -- back.
-use Rattle.std.proofs.Common.{◌≡◌, ℕ, ◌+◌, ◌-◌, ◌*◌, ◌/◌, ◌<◌, ◌≢◌, Bool, true, false, List, [], ◌∷◌, ◌++◌, length, Option, Some, None, refl, sym, ap, subst, ◌∙◌, arith, ⊎_elim, get_or-set_same, get_or-set_other, cond}
-use Rattle.std.specs.Prelude.{◌==◌, replicate, slice_get, slice_set, slice_index, slice_index_or}
-use Rattle.std.proofs.lemmas.Bool.{cases_eq}
-use Rattle.std.proofs.lemmas.Bool.Decides.{nat_tests}
-use Rattle.std.proofs.lemmas.List.{length-append, length-set, length-replicate}
-use Rattle.std.proofs.lemmas.List.Sums.{sum_by-set}
-use Rattle.jvm_types.specs.ProgramInvariant.{IsProgram}
-use Rattle.jvm_types.specs.declared.program.MethodInfo.{MethodInfo}
-use Rattle.jvm_types.specs.declared.program.Program.{Program}
-use Rattle.checked_program.specs.TaggedCode.{Tagged, tagged_by}
-use Rattle.checked_program.specs.Sections.{Section, section_mode, IsOwn}
-use Rattle.checked_program.specs.Marks.{Callee, Calls}
-use Rattle.checked_program.specs.declared.tag.Tags.{Tags}
-use Rattle.checked_program.specs.declared.section.Mode.{Mode}
+use Rattle.std.proofs.Common.{◌≡◌, ℕ, ◌+◌, ◌-◌, ◌*◌, ◌/◌, ◌<◌, ◌≢◌, Bool, true, false, List, [], ◌∷◌, ◌++◌, length, Option, Some, None, refl, sym, ap, subst, ◌∙◌, arith, ⊎_elim, get_or-set_same, get_or-set_other, cond, ◌==◌, replicate, slice_get, slice_set, slice_index, slice_index_or}
+use Rattle.std.proofs.lemmas.{Bool.{cases_eq, Decides.nat_tests}, List.{length-append, length-set, length-replicate, Sums.sum_by-set}}
+use Rattle.jvm_types.specs.{ProgramInvariant.IsProgram, declared.program.{MethodInfo.MethodInfo, Program.Program}}
 use Rattle.graph_closure.specs.Walks.{IsEdge, Walks, LeadsOn, Recurs, AreRecurring}
-use Rattle.guard_analysis.specs.CallGraph.{mode_at, call_graph}
-use Rattle.guard_analysis.proofs.CallEdges.{edges_are_calls}
+use Rattle.checked_program.specs.{Marks.{Callee, Calls}, Sections.{Section, section_mode, IsOwn}, TaggedCode.{Tagged, tagged_by}, declared.{section.Mode.Mode, tag.Tags.Tags}}
+use Rattle.guard_analysis.{specs.CallGraph.{mode_at, call_graph}, proofs.CallEdges.edges_are_calls}
 use Rattle.mark_reasons.specs.Reasons.{callee_of, own_callee, IsWay, BeginsOwn, ComesBack}
-use Rattle.mark_reasons.specs.Searches.{callee_at, class_of_section, calls_of, node_call, node_size, turns, site_at, own_site, IsFirstTurn, Walking, unplaced}
-use Rattle.mark_reasons.specs.declared.reason.Site.{Site}
-use Rattle.mark_reasons.proofs.Nodes.{calls_found, calls_there, node_again}
-use Rattle.mark_reasons.proofs.SearchLaws.{got_before, got_last, all_same}
+use Rattle.mark_reasons.specs.{Searches.{callee_at, class_of_section, calls_of, node_call, node_size, turns, site_at, own_site, IsFirstTurn, Walking, unplaced}, declared.reason.Site.Site}
+use Rattle.mark_reasons.proofs.{Nodes.{calls_found, calls_there, node_again}, SearchLaws.{got_before, got_last, all_same}}
 
 -- ---- ways
 

@@ -1,12 +1,7 @@
 -- The opcode of a mnemonic is the one that it is the mnemonic of.
-use Rattle.std.proofs.Common.{◌≡◌, ◌≢◌, ℕ, ◌<◌, Bool, true, false, List, [], ◌∷◌, Option, Some, None, refl, sym, ap, subst, ◌∙◌, arith}
-use Rattle.std.specs.Prelude.{◌==◌, ◌&&◌, nat_lt, bytes_eq, if◌then◌else◌}
-use Rattle.std.specs.List.{list_all}
-use Rattle.std.proofs.lemmas.Bool.Decides.{nat_tests}
-use Rattle.std.proofs.lemmas.Slice.Eq.{bytes_eq-Decides}
-use Rattle.std.proofs.lemmas.Bool.{eqb-true, ltb-true, and_parts}
+use Rattle.std.proofs.Common.{◌≡◌, ◌≢◌, ℕ, ◌<◌, Bool, true, false, List, [], ◌∷◌, Option, Some, None, refl, sym, ap, subst, ◌∙◌, arith, ◌==◌, ◌&&◌, nat_lt, bytes_eq, if◌then◌else◌}
+use Rattle.std.{specs.List.list_all, proofs.lemmas.{Bool.{eqb-true, ltb-true, and_parts, Decides.nat_tests}, Option.same_Some, Slice.Eq.bytes_eq-Decides}}
 use Rattle.mnemonics.specs.Mnemonics.{MnemonicList, mnemonic_in, mnemonic, opcode_among, opcode_of, all_names, constant_names, load_names, store_names, stack_move_names, arithmetic_names, control_names, reference_names}
-use Rattle.std.proofs.lemmas.Option.{same_Some}
 
 abbrev pub is_opcode : Option ℕ → ℕ → Bool
 is_opcode None b = false

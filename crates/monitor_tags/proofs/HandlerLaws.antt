@@ -1,18 +1,10 @@
 -- The handlers that an exception may go to, row by row.
-use Rattle.std.proofs.Common.{◌≡◌, ℕ, Bool, true, false, List, [], ◌∷◌, Ok, Result, refl, sym, ap, ◌∙◌}
-use Rattle.std.specs.Prelude.{◌&&◌, if◌then◌else◌}
-use Rattle.std.specs.List.{list_any}
+use Rattle.std.{proofs.Common.{◌≡◌, ℕ, Bool, true, false, List, [], ◌∷◌, Ok, Result, refl, sym, ap, ◌∙◌, ◌&&◌, if◌then◌else◌}, specs.List.list_any}
+use Rattle.jvm_types.specs.{CodeTable.can_throw, Verifying.{covers, covering}, declared.{code.Insn.Insn, program.{MethodInfo.MethodInfo, Row.Row}, refusal.SRule.SRule}}
 use Rattle.handler_rows.proofs.PickedRows.{uncovered}
-use Rattle.jvm_types.specs.CodeTable.{can_throw}
-use Rattle.jvm_types.specs.Verifying.{covers, covering}
-use Rattle.jvm_types.specs.declared.code.Insn.{Insn}
-use Rattle.jvm_types.specs.declared.program.MethodInfo.{MethodInfo}
-use Rattle.jvm_types.specs.declared.program.Row.{Row}
-use Rattle.jvm_types.specs.declared.refusal.SRule.{SRule}
-use Rattle.checked_program.specs.LockTags.{TagShape}
-use Rattle.checked_program.specs.Tagging.{tag_meeting, catches_all, until_all, catchers}
-use Rattle.monitor_tags.specs.Visiting.{Nodes, does, goes_along, to_handlers}
+use Rattle.checked_program.specs.{LockTags.TagShape, Tagging.{tag_meeting, catches_all, until_all, catchers}}
 use Rattle.code_visits.proofs.ActLaws.{then_acted}
+use Rattle.monitor_tags.specs.Visiting.{Nodes, does, goes_along, to_handlers}
 
 -- ---- whether there are some
 

@@ -1,19 +1,11 @@
 -- A method has one answer.
-use Rattle.std.proofs.Common.{◌≡◌, Result, refl}
-use Rattle.std.specs.Prelude.{IfOk, IfErr}
-use Rattle.std.proofs.lemmas.Result.{IfOk-weaker, IfErr-weaker}
-use Rattle.jvm_types.specs.declared.program.MethodInfo.{MethodInfo}
-use Rattle.jvm_types.specs.declared.program.Program.{Program}
-use Rattle.jvm_types.specs.declared.refusal.SRule.{SRule}
-use Rattle.checked_program.specs.Tagging.{tag_plan, IsTaggingOf}
-use Rattle.checked_program.specs.declared.tag.Tags.{Tags}
+use Rattle.std.proofs.{Common.{◌≡◌, Result, refl, IfOk, IfErr}, lemmas.Result.{IfOk-weaker, IfErr-weaker}}
+use Rattle.jvm_types.specs.declared.{program.{MethodInfo.MethodInfo, Program.Program}, refusal.SRule.SRule}
+use Rattle.checked_program.specs.{Tagging.{tag_plan, IsTaggingOf}, declared.tag.Tags.Tags}
 use Rattle.laws_sections.proofs.TagAnswers.{one_tagging_all, no_refusal}
-use Rattle.code_visits.specs.Analyses.{IsStopped}
-use Rattle.code_visits.specs.declared.stop.Stop.{Stop}
+use Rattle.code_visits.specs.{Analyses.IsStopped, declared.stop.Stop.Stop}
+use Rattle.monitor_tags.specs.{Visiting.{error_of, IsTagRefusal}, declared.error.TagError.{TagError, TheVariants.{Memory, Refused}}}
 use Rattle.code_visits.specs.declared.stop.Stop.TheVariants as stops
-use Rattle.monitor_tags.specs.declared.error.TagError.{TagError}
-use Rattle.monitor_tags.specs.declared.error.TagError.TheVariants.{Memory, Refused}
-use Rattle.monitor_tags.specs.Visiting.{error_of, IsTagRefusal}
 
 pub one_of : (p : Program) (m : MethodInfo) (found t : Tags) → IsTaggingOf p m found → IsTaggingOf p m t → found ≡ t
 one_of p m found t a b = λ i. record { frames = one_tagging_all p m found.frames t.frames a b i }

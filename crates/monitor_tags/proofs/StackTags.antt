@@ -1,11 +1,6 @@
 -- Stacks of tags, place by place.
-use Rattle.std.proofs.Common.{◌≡◌, ◌≢◌, ℕ, zero, suc, ◌<◌, max, min, ◌-◌, Bool, true, false, not, List, [], ◌∷◌, ◌++◌, length, take, drop, replicate, Some, refl, ap, ◌∙◌, subst, arith}
-use Rattle.std.specs.Prelude.{◌||◌, ◌&&◌, nat_lt, if◌then◌else◌, slice_get}
-use Rattle.checked_program.specs.LockTags.{TagShape, filled_tags, same_tag, same_tags, meet_tags}
-use Rattle.checked_program.specs.Tagging.{tag_meeting}
-use Rattle.checked_program.specs.declared.tag.Tag.{Tag}
-use Rattle.checked_program.specs.declared.tag.Tag.TheVariants.{Untagged}
-use Rattle.checked_program.proofs.FilledTags.{told_filled}
+use Rattle.std.proofs.Common.{◌≡◌, ◌≢◌, ℕ, zero, suc, ◌<◌, max, min, ◌-◌, Bool, true, false, not, List, [], ◌∷◌, ◌++◌, length, take, drop, replicate, Some, refl, ap, ◌∙◌, subst, arith, ◌||◌, ◌&&◌, nat_lt, if◌then◌else◌, slice_get}
+use Rattle.checked_program.{specs.{LockTags.{TagShape, filled_tags, same_tag, same_tags, meet_tags}, Tagging.tag_meeting, declared.tag.Tag.{Tag, TheVariants.Untagged}}, proofs.FilledTags.told_filled}
 use Rattle.laws_sections.proofs.TagOrder.{own_tags}
 
 -- ---- the same tags

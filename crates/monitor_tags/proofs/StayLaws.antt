@@ -1,10 +1,6 @@
 -- Frames that stay as they are where they meet others.
-use Rattle.std.proofs.Common.{◌≡◌, ℕ, zero, suc, ◌+◌, Bool, true, List, [], ◌∷◌, drop, Some, refl, sym, ap, ◌∙◌, add-one}
-use Rattle.std.specs.Prelude.{◌&&◌, if◌then◌else◌, slice_get}
-use Rattle.checked_program.specs.LockTags.{TagShape, same_tag, same_tags, meet_tags}
-use Rattle.checked_program.specs.Tagging.{tag_meeting}
-use Rattle.checked_program.specs.declared.tag.Tag.{Tag}
-use Rattle.checked_program.specs.declared.tag.Tag.TheVariants.{Untagged}
+use Rattle.std.proofs.Common.{◌≡◌, ℕ, zero, suc, ◌+◌, Bool, true, List, [], ◌∷◌, drop, Some, refl, sym, ap, ◌∙◌, add-one, ◌&&◌, if◌then◌else◌, slice_get}
+use Rattle.checked_program.specs.{LockTags.{TagShape, same_tag, same_tags, meet_tags}, Tagging.tag_meeting, declared.tag.Tag.{Tag, TheVariants.Untagged}}
 use Rattle.laws_sections.proofs.TagOrder.{one_list}
 
 -- ---- tags

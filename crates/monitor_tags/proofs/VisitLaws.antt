@@ -1,25 +1,12 @@
 -- One visit, act by act.
-use Rattle.std.proofs.Common.{◌≡◌, ℕ, Bool, true, false, List, [], ◌∷◌, ◌++◌, Option, Some, None, Result, Ok, Err, refl, sym, ap, ◌∙◌, subst}
-use Rattle.std.specs.Prelude.{slice_get}
-use Rattle.jvm_types.specs.CodeTable.{row}
-use Rattle.jvm_types.specs.Verifying.{edges}
-use Rattle.jvm_types.specs.declared.code.Insn.{Insn}
-use Rattle.jvm_types.specs.declared.op_row.OpRow.{OpRow}
-use Rattle.jvm_types.specs.declared.program.MethodInfo.{MethodInfo}
-use Rattle.jvm_types.specs.declared.program.Program.{Program}
-use Rattle.jvm_types.specs.declared.program.Target.{Target}
-use Rattle.jvm_types.specs.declared.refusal.SRule.{SRule}
+use Rattle.std.proofs.Common.{◌≡◌, ℕ, Bool, true, false, List, [], ◌∷◌, ◌++◌, Option, Some, None, Result, Ok, Err, refl, sym, ap, ◌∙◌, subst, slice_get}
+use Rattle.jvm_types.specs.{CodeTable.row, Verifying.edges, declared.{code.Insn.Insn, op_row.OpRow.OpRow, program.{MethodInfo.MethodInfo, Program.Program, Target.Target}, refusal.SRule.SRule}}
 use Rattle.jvm_types.specs.declared.refusal.SRule.TheVariants.{S1, S2, S4}
-use Rattle.checked_program.specs.LockTags.{TagShape}
-use Rattle.checked_program.specs.Tagging.{tag_meeting, tag_plan, tag_acts, break_if, catchers, tags_after, tags_at_handler, enters_untagged, exits_other, leaves_held}
+use Rattle.checked_program.specs.{LockTags.TagShape, Tagging.{tag_meeting, tag_plan, tag_acts, break_if, catchers, tags_after, tags_at_handler, enters_untagged, exits_other, leaves_held}}
 use Rattle.checked_program.specs.Visits.{acts_on}
-use Rattle.code_visits.specs.Waiting.{plan_node_at}
-use Rattle.code_visits.specs.Analyses.{Leaves}
-use Rattle.code_visits.specs.declared.stop.Stop.{Stop}
+use Rattle.code_visits.{specs.{Analyses.Leaves, Waiting.plan_node_at, declared.stop.Stop.Stop}, proofs.ActLaws.{then_acted, leaves_first}}
+use Rattle.monitor_tags.specs.{Visiting.{Nodes, Done, does, goes_along, to_handlers, IsGoing, TagsPrepared, first_tag_rule}, declared.visit.Going.Going}
 use Rattle.code_visits.specs.declared.stop.Stop.TheVariants as stops
-use Rattle.code_visits.proofs.ActLaws.{then_acted, leaves_first}
-use Rattle.monitor_tags.specs.declared.visit.Going.{Going}
-use Rattle.monitor_tags.specs.Visiting.{Nodes, Done, does, goes_along, to_handlers, IsGoing, TagsPrepared, first_tag_rule}
 
 -- ---- what an instruction does
 

@@ -1,16 +1,10 @@
 -- A frame stands at the instruction that is found by its method and its pc.
-use Rattle.std.proofs.Common.{◌≡◌, ℕ, zero, suc, ◌+◌, ◌≤◌, ◌<◌, length, Bool, true, false, List, [], ◌∷◌, drop, Option, Some, None, refl, sym, ap, ◌∙◌, arith}
-use Rattle.std.specs.Prelude.{slice_get, option_map, ◌==◌, if◌then◌else◌}
-use Rattle.std.proofs.lemmas.List.{drop_more, drop_all}
-use Rattle.std.proofs.lemmas.Option.{slice_get_within, get_or_from_slice_get}
-use Rattle.jvm_types.specs.declared.code.Insn.{Insn}
-use Rattle.jvm_types.specs.declared.program.MethodInfo.{MethodInfo}
-use Rattle.jvm_types.specs.declared.program.Program.{Program}
-use Rattle.jvm_types.specs.declared.program.Target.{Target}
+use Rattle.std.proofs.Common.{◌≡◌, ℕ, zero, suc, ◌+◌, ◌≤◌, ◌<◌, length, Bool, true, false, List, [], ◌∷◌, drop, Option, Some, None, refl, sym, ap, ◌∙◌, arith, slice_get, option_map, ◌==◌, if◌then◌else◌}
+use Rattle.std.proofs.lemmas.{List.{drop_more, drop_all}, Option.{slice_get_within, get_or_from_slice_get}}
+use Rattle.jvm_types.specs.declared.{code.Insn.Insn, program.{MethodInfo.MethodInfo, Program.Program, Target.Target}}
 use Rattle.code_table.specs.PcTables.{number_at}
 use Rattle.checked_program.specs.CodeIndex.{number_in}
-use Rattle.machine_types.specs.Frames.{at_pc, top_at, top_in, top_of}
-use Rattle.machine_types.specs.Threads.{Frame}
+use Rattle.machine_types.specs.{Frames.{at_pc, top_at, top_in, top_of}, Threads.Frame}
 
 -- ---- the item at a pc, by the number of the instruction there
 

@@ -1,14 +1,8 @@
 -- Objects that lie apart: at most one of them has a place.
-use Rattle.std.proofs.Common.{◌≡◌, ◌≢◌, ℕ, zero, suc, ◌+◌, ◌<◌, ◌≤◌, ◌⊎◌, inl, inr, Bool, true, false, List, [], ◌∷◌, length, get_or, Option, Some, None, refl, ap, ◌∙◌, arith, eqb, leb, leb-true, leb-false}
-use Rattle.std.specs.Prelude.{position, slice_get, if◌then◌else◌, ◌==◌}
-use Rattle.std.specs.List.{position_from}
-use Rattle.std.specs.List.Sorted.{IsNonDecreasingBy, IsPartitionPoint}
-use Rattle.std.specs.Option.{option_or, option_and_then}
-use Rattle.std.proofs.lemmas.Bool.Decides.{eqb_tells, nat_tests}
-use Rattle.std.proofs.lemmas.Option.{slice_get_past, slice_get_read}
-use Rattle.std.proofs.lemmas.Iterator.Adapters.{position_from-zero}
-use Rattle.machine_types.specs.Words.{header_word}
-use Rattle.machine_types.specs.PlainMemory.{Object, has_value, object_end, object_value, value_in}
+use Rattle.std.proofs.Common.{◌≡◌, ◌≢◌, ℕ, zero, suc, ◌+◌, ◌<◌, ◌≤◌, ◌⊎◌, inl, inr, Bool, true, false, List, [], ◌∷◌, length, get_or, Option, Some, None, refl, ap, ◌∙◌, arith, eqb, leb, leb-true, leb-false, position, slice_get, if◌then◌else◌, ◌==◌}
+use Rattle.std.{specs.{List.{position_from, Sorted.{IsNonDecreasingBy, IsPartitionPoint}}, Option.{option_or, option_and_then}}, proofs.lemmas.Bool.Decides.{eqb_tells, nat_tests}}
+use Rattle.std.proofs.lemmas.{Iterator.Adapters.position_from-zero, Option.{slice_get_past, slice_get_read}}
+use Rattle.machine_types.specs.{PlainMemory.{Object, has_value, object_end, object_value, value_in}, Words.header_word}
 use Rattle.plain_memory.specs.Order.{IsOnlyOne, ObjectsLieApart}
 
 -- ---- an object that ends before a place, and one that begins behind it

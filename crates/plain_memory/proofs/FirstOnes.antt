@@ -1,9 +1,6 @@
 -- A change of the first item that passes a test, by the place at which it is found.
-use Rattle.std.proofs.Common.{◌≡◌, ℕ, zero, suc, ◌+◌, ◌-◌, ◌<◌, Bool, true, false, List, [], ◌∷◌, length, get_or, Some, None, refl, sym, ap, ◌∙◌, arith}
-use Rattle.std.specs.Prelude.{position, slice_set, if◌then◌else◌, ◌==◌}
-use Rattle.std.specs.List.{position_from}
-use Rattle.std.proofs.lemmas.List.Quantifiers.{position-Some}
-use Rattle.std.proofs.lemmas.Iterator.Adapters.{position_from-zero}
+use Rattle.std.proofs.Common.{◌≡◌, ℕ, zero, suc, ◌+◌, ◌-◌, ◌<◌, Bool, true, false, List, [], ◌∷◌, length, get_or, Some, None, refl, sym, ap, ◌∙◌, arith, position, slice_set, if◌then◌else◌, ◌==◌}
+use Rattle.std.{specs.List.position_from, proofs.lemmas.{Iterator.Adapters.position_from-zero, List.Quantifiers.position-Some}}
 use Rattle.machine_types.specs.PlainMemory.{Object, StaticValue, has_value, first_value, object_write, static_write}
 
 pub found_first : {A : Type 0} (test : A → Bool) (change : A → A) (F : List A → List A) → ((a : A) (rest : List A) → F (a ∷ rest) ≡ (if test a then change a ∷ rest else a ∷ F rest))

@@ -1,9 +1,6 @@
 -- What keeps objects in order.
-use Rattle.std.proofs.Common.{◌≡◌, ℕ, zero, suc, ◌+◌, ◌-◌, ◌<◌, ◌≤◌, Bool, true, false, List, [], ◌∷◌, ◌++◌, length, get_or, take, length-set, refl, sym, ap, arith}
-use Rattle.std.specs.Prelude.{slice_set, if◌then◌else◌}
-use Rattle.std.proofs.lemmas.List.{take_all, take_more}
-use Rattle.std.proofs.lemmas.List.Elements.{All-push}
-use Rattle.std.proofs.lemmas.List.Quantifiers.{all_pairs_push}
+use Rattle.std.proofs.Common.{◌≡◌, ℕ, zero, suc, ◌+◌, ◌-◌, ◌<◌, ◌≤◌, Bool, true, false, List, [], ◌∷◌, ◌++◌, length, get_or, take, length-set, refl, sym, ap, arith, slice_set, if◌then◌else◌}
+use Rattle.std.proofs.lemmas.List.{take_all, take_more, Elements.All-push, Quantifiers.all_pairs_push}
 use Rattle.machine_types.specs.PlainMemory.{Object, has_value, first_value, object_end, object_write}
 use Rattle.plain_memory.specs.Order.{AreInOrder}
 

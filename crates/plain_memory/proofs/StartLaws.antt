@@ -1,15 +1,7 @@
 -- Objects and static fields at the start.
-use Rattle.std.proofs.Common.{◌≡◌, ℕ, suc, ◌+◌, ◌-◌, ◌<◌, List, [], ◌∷◌, ◌++◌, length, ap, ◌∙◌, append_assoc, arith}
-use Rattle.std.specs.List.{range_with_len}
-use Rattle.jvm_types.specs.declared.class_numbers.TheConstants.{CLASS_ITSELF}
-use Rattle.jvm_types.specs.declared.fixed_words.TheConstants.{OBJECT_HEAD_WORDS}
-use Rattle.jvm_types.specs.declared.outcome.Thrown.{Thrown}
-use Rattle.jvm_types.specs.declared.program.FieldInfo.{FieldInfo}
-use Rattle.machine_types.specs.Ints.{word_of}
-use Rattle.machine_types.specs.PlainMemory.{Object, StaticValue, class_objects}
-use Rattle.machine_types.specs.ReadyObjects.{class_of, ready}
-use Rattle.machine_types.specs.StartWords.{statics_of}
-use Rattle.machine_types.proofs.ClassObjects.{at_reference}
+use Rattle.std.{proofs.Common.{◌≡◌, ℕ, suc, ◌+◌, ◌-◌, ◌<◌, List, [], ◌∷◌, ◌++◌, length, ap, ◌∙◌, append_assoc, arith}, specs.List.range_with_len}
+use Rattle.jvm_types.specs.declared.{class_numbers.TheConstants.CLASS_ITSELF, fixed_words.TheConstants.OBJECT_HEAD_WORDS, outcome.Thrown.Thrown, program.FieldInfo.FieldInfo}
+use Rattle.machine_types.{specs.{Ints.word_of, PlainMemory.{Object, StaticValue, class_objects}, ReadyObjects.{class_of, ready}, StartWords.statics_of}, proofs.ClassObjects.at_reference}
 
 abbrev pub ready_object : Thrown → Object
 ready_object x = record { reference = ready x; class = class_of x; values = [] }

@@ -1,9 +1,6 @@
 -- The entry of a monitor, by the place at which it is found.
-use Rattle.std.proofs.Common.{◌≡◌, ℕ, zero, suc, ◌+◌, ◌<◌, Bool, true, false, not, List, [], ◌∷◌, ◌++◌, length, get_or, take, drop, Option, Some, None, refl, sym, ap, ◌∙◌, arith}
-use Rattle.std.specs.Prelude.{position, slice_set, if◌then◌else◌, ◌==◌, IsSome}
-use Rattle.std.specs.List.{position_from, remove}
-use Rattle.std.proofs.lemmas.List.Quantifiers.{position-Some}
-use Rattle.std.proofs.lemmas.Iterator.Adapters.{position_from-zero}
+use Rattle.std.proofs.Common.{◌≡◌, ℕ, zero, suc, ◌+◌, ◌<◌, Bool, true, false, not, List, [], ◌∷◌, ◌++◌, length, get_or, take, drop, Option, Some, None, refl, sym, ap, ◌∙◌, arith, position, slice_set, if◌then◌else◌, ◌==◌, IsSome}
+use Rattle.std.{specs.List.{position_from, remove}, proofs.lemmas.{Iterator.Adapters.position_from-zero, List.Quantifiers.position-Some}}
 use Rattle.machine_types.specs.PlainState.{Holding, holding_at, with_holding, without_holding}
 use Rattle.plain_memory.proofs.FirstOnes.{found_first}
 

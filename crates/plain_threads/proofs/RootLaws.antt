@@ -1,9 +1,6 @@
 -- Lists of numbers of methods, made from the last on.
-use Rattle.std.proofs.Common.{◌≡◌, ℕ, suc, ◌+◌, ◌-◌, ◌<◌, Bool, true, false, List, ◌∷◌, ◌++◌, length, drop, Some, sym, ap, ◌∙◌, arith}
-use Rattle.std.specs.Prelude.{slice_get, if◌then◌else◌}
-use Rattle.jvm_types.specs.ProgramInvariant.{IsProgram}
-use Rattle.jvm_types.specs.declared.program.MethodInfo.{MethodInfo}
-use Rattle.jvm_types.specs.declared.program.Program.{Program}
+use Rattle.std.proofs.Common.{◌≡◌, ℕ, suc, ◌+◌, ◌-◌, ◌<◌, Bool, true, false, List, ◌∷◌, ◌++◌, length, drop, Some, sym, ap, ◌∙◌, arith, slice_get, if◌then◌else◌}
+use Rattle.jvm_types.specs.{ProgramInvariant.IsProgram, declared.program.{MethodInfo.MethodInfo, Program.Program}}
 use Rattle.machine_types.specs.Parts.{numbers_of}
 use Rattle.frames.proofs.FewMethods.{few_methods}
 use Rattle.plain_frames.proofs.TopPlaces.{drop_got}

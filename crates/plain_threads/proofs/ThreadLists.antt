@@ -1,9 +1,7 @@
 -- A function of each thread, one by one.
-use Rattle.std.proofs.Common.{◌≡◌, ◌<◌, ℕ, zero, suc, ◌+◌, true, List, [], ◌∷◌, ◌++◌, length, map, take, drop, Some, refl, sym, ap, ◌∙◌, arith}
-use Rattle.std.specs.Prelude.{slice_get, slice_set, slice_index_or}
-use Rattle.machine_types.specs.PlainState.{Plain, PlainThread, Run, with_status, with_thread}
-use Rattle.machine_types.specs.PlainSteps.{notified, waits_on, wakes}
+use Rattle.std.proofs.Common.{◌≡◌, ◌<◌, ℕ, zero, suc, ◌+◌, true, List, [], ◌∷◌, ◌++◌, length, map, take, drop, Some, refl, sym, ap, ◌∙◌, arith, slice_get, slice_set, slice_index_or}
 use Rattle.std.proofs.lemmas.Option.{slice_get-get_or, get_or_from_slice_get}
+use Rattle.machine_types.specs.{PlainState.{Plain, PlainThread, Run, with_status, with_thread}, PlainSteps.{notified, waits_on, wakes}}
 
 read_next : {X : Type 0} (f : X → X) (xs : List X) (i : ℕ) → slice_get (map f (take i xs) ++ drop i xs) i ≡ slice_get xs i
 read_next f [] zero = refl

@@ -2,12 +2,9 @@
 use Rattle.std.proofs.Common.{◌≡◌, ℕ, true, false, List, [], refl, sym, ap, subst, ◌∙◌}
 use Rattle.jvm_types.specs.declared.outcome.Outcome.{Outcome}
 use Rattle.checked_program.specs.MarkedProgram.{MarkedProgram}
-use Rattle.machine_types.specs.Core.{lives, may_begin, next, outcome, start}
-use Rattle.machine_types.specs.declared.config.Config.{Config}
+use Rattle.machine_types.specs.{Core.{lives, may_begin, next, outcome, start}, declared.config.Config.Config}
 use Rattle.replay_runner.specs.Running.{Running, events, run_on}
-use Rattle.record_run.specs.Kept.{HaveBegun}
-use Rattle.record_run.specs.Recordings.{IsRecorded}
-use Rattle.record_run.proofs.NoWorkers.{ends_at_init}
+use Rattle.record_run.{specs.{Kept.HaveBegun, Recordings.IsRecorded}, proofs.NoWorkers.ends_at_init}
 
 module _ (c : MarkedProgram) (cfg : Config) (m a : Running) (count : ℕ) (at_start : m ≡ record { program = c; cfg = cfg; core = start c cfg }) (on : a ≡ run_on m 0 count) (over : lives a.core 0 ≡ false) where
   after_init : a ≡ record { program = c; cfg = cfg; core = events c (start c cfg) 0 count }

@@ -1,20 +1,12 @@
 -- The order that is kept leads the machine to its state.
-use Rattle.std.proofs.Common.{◌≡◌, ◌≤◌, ◌<◌, inl, inr, ℕ, zero, suc, Bool, true, false, List, [], ◌∷◌, ◌++◌, ◌+◌, length, Option, Some, None, refl, sym, ap, subst, ◌∙◌, arith}
-use Rattle.std.specs.Prelude.{MatchOption, nat_lt, ◌&&◌}
-use Rattle.std.proofs.lemmas.Bool.Decides.{nat_tests}
-use Rattle.std.proofs.lemmas.List.{length-append}
+use Rattle.std.proofs.Common.{◌≡◌, ◌≤◌, ◌<◌, inl, inr, ℕ, zero, suc, Bool, true, false, List, [], ◌∷◌, ◌++◌, ◌+◌, length, Option, Some, None, refl, sym, ap, subst, ◌∙◌, arith, MatchOption, nat_lt, ◌&&◌}
+use Rattle.std.proofs.lemmas.{Bool.Decides.nat_tests, List.length-append}
 use Rattle.lists.proofs.ListLaws.{same_some}
 use Rattle.jvm_types.specs.declared.outcome.Outcome.{Outcome}
 use Rattle.checked_program.specs.MarkedProgram.{MarkedProgram}
-use Rattle.machine_types.specs.Core.{Core, event, lives, next, outcome, start}
-use Rattle.machine_types.specs.Schedules.{First, Ordered, is_live_worker}
-use Rattle.machine_types.specs.declared.config.Config.{Config}
-use Rattle.replay_runner.specs.Replays.{GoesToEnd, HasLedTo}
-use Rattle.replay_runner.specs.Running.{Running, events}
-use Rattle.replay_runner.proofs.ManyEvents.{goes_in_init}
-use Rattle.replay_runner.proofs.Turns.{led_both, led_itself, ordered_turn, replayed, workers_turn}
-use Rattle.record_run.specs.Recordings.{AreLiveWorkers, IsRecorded, after_order}
-use Rattle.record_run.specs.Kept.{HaveBegun, IsFull, IsKeptOf, IsRecordOfProgram, IsRecordOf, Kept, NamedRecord}
+use Rattle.machine_types.specs.{Core.{Core, event, lives, next, outcome, start}, Schedules.{First, Ordered, is_live_worker}, declared.config.Config.Config}
+use Rattle.replay_runner.{specs.{Replays.{GoesToEnd, HasLedTo}, Running.{Running, events}}, proofs.{ManyEvents.goes_in_init, Turns.{led_both, led_itself, ordered_turn, replayed, workers_turn}}}
+use Rattle.record_run.specs.{Kept.{HaveBegun, IsFull, IsKeptOf, IsRecordOfProgram, IsRecordOf, Kept, NamedRecord}, Recordings.{AreLiveWorkers, IsRecorded, after_order}}
 
 pub same_program : (run : Option NamedRecord) (c : MarkedProgram) (k : Kept) → IsRecordOfProgram run c → IsKeptOf run k → c ≡ k.machine.program
 same_program run c k of kept = ap (λ (n : NamedRecord). n.program) (same_some (sym of.2 ∙ kept.named))

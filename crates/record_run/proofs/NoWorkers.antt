@@ -1,17 +1,10 @@
 -- Where `init` has not returned, the run is over, and no worker was ever live.
-use Rattle.std.proofs.Common.{◌≡◌, ℕ, zero, suc, Bool, true, false, [], ◌+◌, map, Some, refl, sym, ap, ◌∙◌, arith}
-use Rattle.std.specs.Prelude.{nat_lt, ◌&&◌, slice_get}
-use Rattle.std.specs.List.{range_with_len}
+use Rattle.std.{proofs.Common.{◌≡◌, ℕ, zero, suc, Bool, true, false, [], ◌+◌, map, Some, refl, sym, ap, ◌∙◌, arith, nat_lt, ◌&&◌, slice_get}, specs.List.range_with_len}
 use Rattle.std.proofs.lemmas.Bool.Decides.{nat_tests}
 use Rattle.jvm_types.specs.declared.outcome.Outcome.{Outcome}
 use Rattle.checked_program.specs.MarkedProgram.{MarkedProgram}
-use Rattle.machine_types.specs.Core.{Core, is_live_thread, lives, may_begin, next, outcome, start, start_thread}
-use Rattle.machine_types.specs.Schedules.{First, is_live_worker}
-use Rattle.machine_types.specs.declared.config.Config.{Config}
-use Rattle.replay_runner.specs.Running.{Running, events}
-use Rattle.replay_runner.proofs.LoneWorker.{other_lives}
-use Rattle.replay_runner.proofs.ManyEvents.{goes_in_init}
-use Rattle.replay_runner.proofs.Turns.{next_same, no_workers_turn, replayed}
+use Rattle.machine_types.specs.{Core.{Core, is_live_thread, lives, may_begin, next, outcome, start, start_thread}, Schedules.{First, is_live_worker}, declared.config.Config.Config}
+use Rattle.replay_runner.{specs.Running.{Running, events}, proofs.{LoneWorker.other_lives, ManyEvents.goes_in_init, Turns.{next_same, no_workers_turn, replayed}}}
 use Rattle.record_run.specs.Recordings.{IsRecorded}
 
 -- ---- no worker is live at the start

@@ -1,7 +1,6 @@
 -- A recorded order makes the same run again.
 use Rattle.std.proofs.Common.{◌≡◌, List, sym, ap, ◌∙◌}
-use Rattle.machine_types.specs.Core.{Happening, core, outcome}
-use Rattle.machine_types.specs.ScheduleLaws.{OneSchedule}
+use Rattle.machine_types.specs.{Core.{Happening, core, outcome}, ScheduleLaws.OneSchedule}
 use Rattle.record_run.specs.Recordings.{RecordedOrdersReplay}
 
 pub order_replays : OneSchedule → RecordedOrdersReplay

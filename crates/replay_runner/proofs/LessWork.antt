@@ -1,20 +1,13 @@
 -- What is left to do for the threads of a machine, and how many parts may still begin.
-use Rattle.std.proofs.Common.{◌≡◌, ◌-◌, ◌<◌, ℕ, zero, suc, Bool, true, false, List, [], ◌∷◌, Option, Some, None, refl, sym, ap, subst, ◌∙◌, arith}
-use Rattle.std.specs.Prelude.{slice_get, slice_set, if◌then◌else◌}
+use Rattle.std.proofs.Common.{◌≡◌, ◌-◌, ◌<◌, ℕ, zero, suc, Bool, true, false, List, [], ◌∷◌, Option, Some, None, refl, sym, ap, subst, ◌∙◌, arith, slice_get, slice_set, if◌then◌else◌}
 use Rattle.lists.proofs.ListLaws.{same_some}
 use Rattle.jvm_types.specs.declared.program.Program.{Program}
 use Rattle.checked_program.specs.MarkedProgram.{MarkedProgram}
-use Rattle.machine_types.specs.Accesses.{found_by}
-use Rattle.machine_types.specs.Core.{Core, event, event_of, lives, may_begin, may_begin_by, next_threads, part_begins}
-use Rattle.machine_types.specs.Events.{moved, wanted}
-use Rattle.machine_types.specs.Threads.{Thread}
+use Rattle.machine_types.specs.{Accesses.found_by, Core.{Core, event, event_of, lives, may_begin, may_begin_by, next_threads, part_begins}, Events.{moved, wanted}, Threads.Thread}
 use Rattle.machine_types.proofs.OnlyLive.{only_live_change}
 use Rattle.laws_threads.specs.GivenThread.{Given, GivenIsKept}
-use Rattle.laws_states.specs.StateLaws.{EventsKeepState}
-use Rattle.laws_states.specs.WorkLeft.{EventsLessenAllWork, all_work}
-use Rattle.replay_runner.specs.Running.{Running, events, parts_left, run_on}
-use Rattle.replay_runner.specs.RunningStates.{AreRunning}
-use Rattle.replay_runner.proofs.MachineEvents.{event_runs}
+use Rattle.laws_states.specs.{StateLaws.EventsKeepState, WorkLeft.{EventsLessenAllWork, all_work}}
+use Rattle.replay_runner.{specs.{Running.{Running, events, parts_left, run_on}, RunningStates.AreRunning}, proofs.MachineEvents.event_runs}
 
 -- ---- an event of a live thread leaves less
 

@@ -1,16 +1,12 @@
 -- Whatever happens, a run reaches the state of its machine.
-use Rattle.std.proofs.Common.{◌≡◌, ◌≤◌, ℕ, zero, suc, false, [], ◌∷◌, ◌++◌, length, Option, Some, sym, ap, subst, ◌∙◌}
-use Rattle.std.proofs.lemmas.Option.{slice_get_past}
+use Rattle.std.proofs.{Common.{◌≡◌, ◌≤◌, ℕ, zero, suc, false, [], ◌∷◌, ◌++◌, length, Option, Some, sym, ap, subst, ◌∙◌}, lemmas.Option.slice_get_past}
 use Rattle.lists.proofs.ListLaws.{same_some}
-use Rattle.checked_program.specs.MarkedProgram.{MarkedProgram}
 use Rattle.jvm_types.specs.declared.outcome.Outcome.{Outcome}
-use Rattle.machine_types.specs.Core.{Core, Of, NextPart, core, event, is_live_thread, lives, next, outcome, start}
-use Rattle.machine_types.specs.Faithful.{IsOver}
-use Rattle.replay_runner.specs.Running.{Running, run_on}
-use Rattle.machine_types.specs.declared.config.Config.{Config}
-use Rattle.run_parts.specs.Ended.{IsEndOfRun}
+use Rattle.checked_program.specs.MarkedProgram.{MarkedProgram}
+use Rattle.machine_types.specs.{Core.{Core, Of, NextPart, core, event, is_live_thread, lives, next, outcome, start}, Faithful.IsOver, declared.config.Config.Config}
 use Rattle.laws_states.specs.GrowingRuns.{OneMoreHappens}
-use Rattle.replay_runner.specs.Locked.{IsEndOf, IsMachineOf, IsOfProgram, IsMachineReached, Named}
+use Rattle.run_parts.specs.Ended.{IsEndOfRun}
+use Rattle.replay_runner.specs.{Locked.{IsEndOf, IsMachineOf, IsOfProgram, IsMachineReached, Named}, Running.{Running, run_on}}
 
 pub same_program : (run : Option Named) (c : MarkedProgram) (m : Running) → IsOfProgram run c → IsMachineOf run m → c ≡ m.program
 same_program run c m of k = ap (λ (n : Named). n.program) (same_some (sym of.1 ∙ k.named))

@@ -1,29 +1,15 @@
 -- Events of one thread alone, as events of its machine.
-use Rattle.std.proofs.Common.{◌≡◌, ◌+◌, ◌<◌, ℕ, zero, suc, Bool, true, false, List, None, refl, sym, ap, subst, ◌∙◌, arith}
-use Rattle.std.specs.Prelude.{if◌then◌else◌, slice_index}
+use Rattle.std.proofs.Common.{◌≡◌, ◌+◌, ◌<◌, ℕ, zero, suc, Bool, true, false, List, None, refl, sym, ap, subst, ◌∙◌, arith, if◌then◌else◌, slice_index}
 use Rattle.lists.proofs.ListLaws.{same_some}
 use Rattle.jvm_types.specs.Numbers.{has_number}
 use Rattle.checked_program.specs.MarkedProgram.{MarkedProgram, IsMarked}
-use Rattle.machine_types.specs.Accesses.{found_by}
-use Rattle.machine_types.specs.Core.{Core, event, is_live}
-use Rattle.machine_types.specs.Events.{moved, wanted}
-use Rattle.machine_types.specs.HeldMonitors.{held_at}
-use Rattle.machine_types.specs.LockWords.{lock_of, word_of_lock}
-use Rattle.machine_types.specs.Owners.{NotHeld, hold_by_word, lock_at, owner_at, references_of}
-use Rattle.machine_types.specs.Threads.{Thread}
-use Rattle.machine_types.specs.declared.lock.LockWord.{LockWord}
-use Rattle.machine_types.specs.declared.lock.LockWord.TheVariants as locks
-use Rattle.machine_types.specs.declared.phase.Phase.{Phase}
-use Rattle.machine_types.specs.declared.phase.Phase.TheVariants as phases
-use Rattle.laws_states.specs.RunLaws.{ReachedFits}
-use Rattle.laws_states.specs.StateLaws.{EventsKeepState, StatesHaveFacts}
-use Rattle.laws_states.specs.WorkLeft.{EventsLessenWork, work_left}
-use Rattle.laws_states.proofs.LockViews.{not_held}
-use Rattle.laws_states.proofs.WordViews.{lock_of_word}
+use Rattle.machine_types.specs.{Accesses.found_by, Core.{Core, event, is_live}, Events.{moved, wanted}, HeldMonitors.held_at, LockWords.{lock_of, word_of_lock}}
+use Rattle.machine_types.specs.{Owners.{NotHeld, hold_by_word, lock_at, owner_at, references_of}, Threads.Thread, declared.{lock.LockWord.LockWord, phase.Phase.Phase}}
+use Rattle.laws_states.{specs.{RunLaws.ReachedFits, StateLaws.{EventsKeepState, StatesHaveFacts}, WorkLeft.{EventsLessenWork, work_left}}, proofs.{LockViews.not_held, WordViews.lock_of_word}}
 use Rattle.step_core.specs.Alone.{ThreadWithWords, IsFine, alone, stepped_by}
-use Rattle.replay_runner.specs.Running.{Running, events, run_on}
-use Rattle.replay_runner.specs.RunningStates.{IsThreadOf}
-use Rattle.replay_runner.proofs.ManyEvents.{is_lawful, reached, stays_thread}
+use Rattle.replay_runner.{specs.{Running.{Running, events, run_on}, RunningStates.IsThreadOf}, proofs.ManyEvents.{is_lawful, reached, stays_thread}}
+use Rattle.machine_types.specs.declared.lock.LockWord.TheVariants as locks
+use Rattle.machine_types.specs.declared.phase.Phase.TheVariants as phases
 
 stays_by : (m : Running) (p : MarkedProgram) (t : ℕ) (s : Thread) (words : List ℕ)
     → IsThreadOf m p t s words → EventsKeepState → (k : ℕ)

@@ -1,10 +1,7 @@
 -- What a part begins with, thread by thread.
-use Rattle.std.proofs.Common.{◌≡◌, ℕ, zero, suc, ◌+◌, true, List, [], ◌∷◌, map, Some, refl, sym, ap, ◌∙◌, arith}
-use Rattle.std.specs.Prelude.{slice_get}
+use Rattle.std.proofs.Common.{◌≡◌, ℕ, zero, suc, ◌+◌, true, List, [], ◌∷◌, map, Some, refl, sym, ap, ◌∙◌, arith, slice_get}
 use Rattle.jvm_types.specs.declared.program.Program.{Program}
-use Rattle.machine_types.specs.Core.{how_ended, may_begin, next_threads, part_begins, with_roots}
-use Rattle.machine_types.specs.Parts.{done_roots, run_roots}
-use Rattle.machine_types.specs.Threads.{Thread}
+use Rattle.machine_types.specs.{Core.{how_ended, may_begin, next_threads, part_begins, with_roots}, Parts.{done_roots, run_roots}, Threads.Thread}
 use Rattle.run_parts.specs.Parts.{AreNumbered, SharesAreNext, shares_begun, own_begun}
 
 worker_begins : (p : Program) (w : Thread) (n : ℕ) → w.number ≡ suc n → w.program.program ≡ p → own_begun w ≡ with_roots (run_roots p) w

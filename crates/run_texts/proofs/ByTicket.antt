@@ -1,11 +1,8 @@
 -- A stable sort by the ticket answers `by_ticket`: two lists in order, which have the same prints of each ticket
 -- in the same order, are one.
 use Rattle.std.proofs.Common.{◌≡◌, ℕ, ◌+◌, ◌<◌, ◌≤◌, suc, Bool, true, false, cond, eqb, leb, nat_le, List, [], ◌∷◌, length, get_or, pos, not, ◌&&◌, subst, refl, ap, sym, ◌∙◌, arith}
-use Rattle.std.specs.List.{filter, AllByRecursion}
-use Rattle.std.specs.List.Sorted.{IsNonDecreasingBy, IsSortedByKey, IsStableByKey, ties}
-use Rattle.std.specs.Ordering.{nat_cmp, is_lt}
+use Rattle.std.{specs.{List.{filter, AllByRecursion, Sorted.{IsNonDecreasingBy, IsSortedByKey, IsStableByKey, ties}}, Ordering.{nat_cmp, is_lt}}, proofs.lemmas.Bool.Decides.nat_tests}
 use Rattle.std.proofs.lemmas.List.Sorted.{IsNonDecreasingBy-from_sort}
-use Rattle.std.proofs.lemmas.Bool.Decides.{nat_tests}
 use Rattle.jvm_types.specs.declared.outcome.Print.{Print}
 use Rattle.run_texts.specs.Report.{put, by_ticket}
 

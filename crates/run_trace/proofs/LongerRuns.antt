@@ -1,14 +1,9 @@
 -- A run with one turn more.
-use Rattle.std.proofs.Common.{◌≡◌, ℕ, List, [], ◌∷◌, ◌++◌, Option, Some, None, refl, sym, ap, ◌∙◌, append_assoc}
-use Rattle.std.proofs.lemmas.List.{append-nil}
-use Rattle.std.specs.Option.{option_map}
-use Rattle.checked_program.specs.MarkedProgram.{MarkedProgram}
+use Rattle.std.{proofs.{Common.{◌≡◌, ℕ, List, [], ◌∷◌, ◌++◌, Option, Some, None, refl, sym, ap, ◌∙◌, append_assoc}, lemmas.List.append-nil}, specs.Option.option_map}
 use Rattle.json_lines.specs.declared.form.Form.{Form}
-use Rattle.machine_types.specs.Core.{Happening}
-use Rattle.machine_types.specs.History.{Told, all_told, told}
-use Rattle.run_trace.specs.EventLines.{ends_from, event_end, lines_from, next_line_number, seen_of_event, told_line}
-use Rattle.run_trace.specs.declared.events.Part.{Part}
-use Rattle.run_trace.specs.Traces.{number_after}
+use Rattle.checked_program.specs.MarkedProgram.{MarkedProgram}
+use Rattle.machine_types.specs.{Core.Happening, History.{Told, all_told, told}}
+use Rattle.run_trace.specs.{EventLines.{ends_from, event_end, lines_from, next_line_number, seen_of_event, told_line}, Traces.number_after, declared.events.Part.Part}
 
 -- where it leads
 pub told_on : (c : MarkedProgram) (w : Told) (hs : List Happening) (h : Happening) → all_told c w (hs ++ h ∷ []) ≡ told c (all_told c w hs) h

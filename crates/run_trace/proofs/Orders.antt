@@ -1,10 +1,8 @@
 -- The next number of an order: a live worker has its turn, and any other is passed over.
-use Rattle.std.proofs.Common.{◌≡◌, ◌<◌, ◌≤◌, ℕ, zero, suc, ◌+◌, Bool, true, false, List, [], ◌∷◌, length, refl, ap, ◌∙◌, arith, drop}
-use Rattle.std.specs.Prelude.{◌&&◌, nat_lt, slice_index_or, if◌then◌else◌}
-use Rattle.machine_types.specs.Core.{Core, Of, lives}
-use Rattle.machine_types.specs.Schedules.{Ordered, is_live_worker, ordered, turn_of}
-use Rattle.replay_runner.proofs.Turns.{drop_next}
+use Rattle.std.proofs.Common.{◌≡◌, ◌<◌, ◌≤◌, ℕ, zero, suc, ◌+◌, Bool, true, false, List, [], ◌∷◌, length, refl, ap, ◌∙◌, arith, drop, ◌&&◌, nat_lt, slice_index_or, if◌then◌else◌}
+use Rattle.machine_types.specs.{Core.{Core, Of, lives}, Schedules.{Ordered, is_live_worker, ordered, turn_of}}
 use Rattle.laws_states.proofs.OrdersRun.{second_of}
+use Rattle.replay_runner.proofs.Turns.{drop_next}
 
 pub drop_over : (xs : List ℕ) (i : ℕ) → length xs ≤ i → drop i xs ≡ []
 drop_over [] zero h = refl

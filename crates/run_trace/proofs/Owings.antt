@@ -1,20 +1,12 @@
 -- How many steps the threads owe is how many are due by their pasts.
-use Rattle.std.proofs.Common.{◌≡◌, ℕ, zero, suc, ◌+◌, List, ◌∷◌, ◌++◌, length, map, Option, Some, None, refl, sym, ap, ◌∙◌, arith}
-use Rattle.std.proofs.Math.ListN.{get_or-map}
-use Rattle.std.proofs.lemmas.List.{length-append, map-set}
-use Rattle.std.specs.Prelude.{replicate, slice_get, slice_set}
-use Rattle.std.specs.Option.{option_map}
+use Rattle.std.{proofs.Common.{◌≡◌, ℕ, zero, suc, ◌+◌, List, ◌∷◌, ◌++◌, length, map, Option, Some, None, refl, sym, ap, ◌∙◌, arith, replicate, slice_get, slice_set}, specs.Option.option_map}
+use Rattle.std.proofs.{Math.ListN.get_or-map, lemmas.List.{length-append, map-set}}
 use Rattle.checked_program.specs.MarkedProgram.{MarkedProgram}
 use Rattle.machine_types.specs.Core.{Happening, Of, NextPart}
 use Rattle.machine_types.specs.History.{Fate, GoesOn, Fails, Finishes, Past, Told, acts_of, fate, found_by_event, no_past, past_after, past_at, past_by, pasts_after, shown_by, told}
-use Rattle.machine_types.specs.Threads.{Attempt, Thread}
-use Rattle.machine_types.specs.declared.phase.Phase.{Phase}
-use Rattle.machine_types.specs.declared.plain.Act.{Act}
-use Rattle.event_texts.specs.declared.shares.Share.{Share}
-use Rattle.event_texts.specs.declared.shares.Share.TheVariants.{Owes}
-use Rattle.event_texts.specs.Shares.{bounded_count, inside_share, owed, owed_behind, share_at, share_by, share_in}
-use Rattle.run_trace.specs.EventLines.{seen_of_event, seen_with}
-use Rattle.run_trace.specs.Owing.{owed_after, owed_at, seen_by}
+use Rattle.machine_types.specs.{Threads.{Attempt, Thread}, declared.{phase.Phase.Phase, plain.Act.Act}}
+use Rattle.event_texts.specs.{Shares.{bounded_count, inside_share, owed, owed_behind, share_at, share_by, share_in}, declared.shares.Share.{Share, TheVariants.Owes}}
+use Rattle.run_trace.specs.{EventLines.{seen_of_event, seen_with}, Owing.{owed_after, owed_at, seen_by}}
 
 -- ---- one event
 

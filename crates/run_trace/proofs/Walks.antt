@@ -1,26 +1,14 @@
 -- What was walked, walked on by a turn, and to the end.
-use Rattle.std.proofs.Common.{◌≡◌, ℕ, ◌+◌, List, [], ◌∷◌, ◌++◌, map, Option, Some, None, refl, sym, ap, subst, ◌∙◌}
-use Rattle.std.proofs.lemmas.List.{append-nil}
-use Rattle.std.specs.Option.{option_map}
-use Rattle.checked_program.specs.MarkedProgram.{MarkedProgram}
+use Rattle.std.{proofs.{Common.{◌≡◌, ℕ, ◌+◌, List, [], ◌∷◌, ◌++◌, map, Option, Some, None, refl, sym, ap, subst, ◌∙◌}, lemmas.List.append-nil}, specs.Option.option_map}
 use Rattle.jvm_types.specs.declared.outcome.Outcome.{Outcome}
-use Rattle.machine_types.specs.Core.{Core, Happening, core, happened, outcome, start}
+use Rattle.checked_program.specs.MarkedProgram.{MarkedProgram}
+use Rattle.machine_types.specs.{Core.{Core, Happening, core, happened, outcome, start}, History.{Told, all_told, told_start}, Schedules.{Stage, First, Turn, turn_at}, declared.config.Config.Config}
+use Rattle.replay_runner.{specs.{Replays.IsLedByTurns, Running.Running}, proofs.Turns.{led_on, schedule_of}}
+use Rattle.run_trace.specs.{EventLines.{ends_from, event_end, lines_from, next_line_number, seen_of_event, told_line}, Owing.{owed_after, seen_by}, ReportJson.report_in}
+use Rattle.run_trace.specs.{Traces.{Happened, IsStarted, IsWholeTrace, TraceWalked, WalksOn, number_after}, declared.{events.Part.Part, traces.Tracing.Tracing}}
+use Rattle.run_trace.proofs.{LongerRuns.{ends_on, lines_on, number_on, told_both, told_on}, Owings.{nothing_owed, owed_on, same_seen}}
 use Rattle.machine_types.specs.History as history
-use Rattle.machine_types.specs.History.{Told, all_told, told_start}
-use Rattle.machine_types.specs.Schedules.{Stage, First, Turn, turn_at}
-use Rattle.machine_types.specs.declared.config.Config.{Config}
-use Rattle.replay_runner.specs.Replays.{IsLedByTurns}
-use Rattle.replay_runner.specs.Running.{Running}
-use Rattle.replay_runner.proofs.Turns.{led_on, schedule_of}
 use Rattle.event_texts.specs.Shares as shares
-use Rattle.run_trace.specs.ReportJson.{report_in}
-use Rattle.run_trace.specs.EventLines.{ends_from, event_end, lines_from, next_line_number, seen_of_event, told_line}
-use Rattle.run_trace.specs.Owing.{owed_after, seen_by}
-use Rattle.run_trace.specs.declared.events.Part.{Part}
-use Rattle.run_trace.specs.Traces.{Happened, IsStarted, IsWholeTrace, TraceWalked, WalksOn, number_after}
-use Rattle.run_trace.specs.declared.traces.Tracing.{Tracing}
-use Rattle.run_trace.proofs.LongerRuns.{ends_on, lines_on, number_on, told_both, told_on}
-use Rattle.run_trace.proofs.Owings.{nothing_owed, owed_on, same_seen}
 
 abbrev turn_to : Happening → Stage → Option Turn
 turn_to h stage = Some (record { happening = h; stage = stage })

@@ -1,16 +1,11 @@
 -- Files that are accepted are not refused.
 use Rattle.std.proofs.Common.{◌≡◌, ℕ, Bool, List, Option, Some, None, Ok, Err, sym, ◌∙◌, arith}
-use Rattle.jvm_types.specs.declared.refusal.Rule.{Rule}
-use Rattle.jvm_types.specs.declared.refusal.Place.{Place}
+use Rattle.jvm_types.specs.declared.refusal.{Place.Place, Rule.Rule}
+use Rattle.host_io.specs.{Reading.{contents_of, first_long}, declared.shelf.NamedFile.NamedFile}
 use Rattle.command_words.specs.Command.{Asked}
-use Rattle.solero.specs.Answer.{AreAccepted, IsAcceptedIn, IsDue, IsRefusalInMode, status_of}
-use Rattle.host_io.specs.Reading.{contents_of, first_long}
-use Rattle.solero.specs.Delivery.{Delivers}
+use Rattle.solero.specs.{Answer.{AreAccepted, IsAcceptedIn, IsDue, IsRefusalInMode, status_of}, Delivery.Delivers, declared.answer.Due.Due}
+use Rattle.solero.specs.declared.{answer.Due.TheVariants.{Report, Output, Usage, Refusal, CannotRead, OutOfMemory}, finish.Finish.TheVariants.{Returned, Uncaught, Limited}}
 use Rattle.solero.proofs.Modes.{taken_not_refused}
-use Rattle.solero.specs.declared.finish.Finish.TheVariants.{Returned, Uncaught, Limited}
-use Rattle.host_io.specs.declared.shelf.NamedFile.{NamedFile}
-use Rattle.solero.specs.declared.answer.Due.{Due}
-use Rattle.solero.specs.declared.answer.Due.TheVariants.{Report, Output, Usage, Refusal, CannotRead, OutOfMemory}
 
 pub no_refusal : (asked : Asked) (contents : List (List ℕ)) (rule : Rule) (place : Place) → first_long 0 contents ≡ None → IsAcceptedIn asked.mode asked contents → IsRefusalInMode (first_long 0 contents) asked contents rule place → ⊥
 no_refusal asked contents rule place short accepted refused = taken_not_refused asked.mode asked contents rule place accepted (rw short at refused)

@@ -1,12 +1,8 @@
 -- The class of a load, and its file.
-use Rattle.std.proofs.Common.{◌≡◌, ℕ, ◌≤◌, List, [], ◌∷◌, sym, subst}
-use Rattle.std.specs.List.{AllZip}
+use Rattle.std.{proofs.Common.{◌≡◌, ℕ, ◌≤◌, List, [], ◌∷◌, sym, subst}, specs.List.AllZip}
+use Rattle.jvm_types.specs.{ClassGrammar.{IsClass, Spells}, declared.class_file.ClassFile.ClassFile}
+use Rattle.load_classes.specs.{LoadClass.load_class, Loads.LoadsAreClasses, declared.limits.TheConstants.MOST_METHODS}
 use Rattle.command_words.specs.Command.{Asked}
-use Rattle.jvm_types.specs.ClassGrammar.{IsClass, Spells}
-use Rattle.jvm_types.specs.declared.class_file.ClassFile.{ClassFile}
-use Rattle.load_classes.specs.LoadClass.{load_class}
-use Rattle.load_classes.specs.Loads.{LoadsAreClasses}
-use Rattle.load_classes.specs.declared.limits.TheConstants.{MOST_METHODS}
 use Rattle.solero.specs.Answer.{IsFileOfLoad, class_of_load}
 
 -- it is the one that is asked for

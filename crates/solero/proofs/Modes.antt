@@ -1,20 +1,12 @@
 -- What a mode takes: files that it takes are not refused in it, and what it makes it makes of files that it takes.
-use Rattle.std.proofs.Common.{◌≡◌, ℕ, List, [], ◌∷◌, Some, None, sym, subst, ap, ◌∙◌}
-use Rattle.std.specs.List.{AllZip}
+use Rattle.std.{proofs.Common.{◌≡◌, ℕ, List, [], ◌∷◌, Some, None, sym, subst, ap, ◌∙◌}, specs.List.AllZip}
+use Rattle.jvm_types.specs.{ClassGrammar.Spells, declared.{class_file.ClassFile.ClassFile, refusal.{Place.Place, Rule.Rule}}}
 use Rattle.asm_text.specs.ClassLines.{Lists}
-use Rattle.jvm_types.specs.ClassGrammar.{Spells}
-use Rattle.jvm_types.specs.declared.class_file.ClassFile.{ClassFile}
-use Rattle.jvm_types.specs.declared.refusal.Rule.{Rule}
+use Rattle.class_runner.{specs.Loading.{IsRefusedBy, read_fault}, proofs.LoadedOnce.{accepted, never_both, never_refused, no_read_fault}}
+use Rattle.command_words.specs.{Command.Asked, declared.request.Mode.Mode}
+use Rattle.solero.specs.{Answer.{IsAcceptedIn, IsLoadAccepted, IsLoadRefused, IsMadeIn, IsRefusedIn, IsRefusedText, class_of_load}, declared.answer.Due.{Due, TheVariants.{Output, Report}}}
 use Rattle.jvm_types.specs.declared.refusal.Rule.TheVariants as rules
-use Rattle.jvm_types.specs.declared.refusal.Place.{Place}
-use Rattle.class_runner.specs.Loading.{IsRefusedBy, read_fault}
-use Rattle.class_runner.proofs.LoadedOnce.{accepted, never_both, never_refused, no_read_fault}
-use Rattle.command_words.specs.Command.{Asked}
-use Rattle.solero.specs.Answer.{IsAcceptedIn, IsLoadAccepted, IsLoadRefused, IsMadeIn, IsRefusedIn, IsRefusedText, class_of_load}
-use Rattle.command_words.specs.declared.request.Mode.{Mode}
 use Rattle.command_words.specs.declared.request.Mode.TheVariants as modes
-use Rattle.solero.specs.declared.answer.Due.{Due}
-use Rattle.solero.specs.declared.answer.Due.TheVariants.{Output, Report}
 
 -- a text that lists a class is not refused
 no_refused_text : (contents : List (List ℕ)) (class : ClassFile) (rule : Rule) (place : Place) → AllZip Lists contents (class ∷ []) → IsRefusedText contents rule place → ⊥

@@ -1,12 +1,7 @@
 -- One file, and the one class that is read of it.
-use Rattle.std.proofs.Common.{◌≡◌, ℕ, ◌<◌, ◌≤◌, Bool, true, false, if◌then◌else◌, List, [], ◌∷◌, length, get_or, Option, Some, None, refl, sym, subst, ap, ◌∙◌, arith}
-use Rattle.std.specs.Prelude.{nat_lt}
-use Rattle.std.proofs.lemmas.Bool.{ltb-false}
-use Rattle.std.specs.List.{AllZip}
-use Rattle.std.proofs.lemmas.Slice.Zip.{AllZip-long}
-use Rattle.jvm_types.specs.ClassGrammar.{IsClass, Spells}
-use Rattle.jvm_types.specs.declared.class_file.ClassFile.{ClassFile}
-use Rattle.jvm_types.specs.declared.limits.TheConstants.{MOST_FILE_BYTES}
+use Rattle.std.{proofs.Common.{◌≡◌, ℕ, ◌<◌, ◌≤◌, Bool, true, false, if◌then◌else◌, List, [], ◌∷◌, length, get_or, Option, Some, None, refl, sym, subst, ap, ◌∙◌, arith, nat_lt}, specs.List.AllZip}
+use Rattle.std.proofs.lemmas.{Bool.ltb-false, Slice.Zip.AllZip-long}
+use Rattle.jvm_types.specs.{ClassGrammar.{IsClass, Spells}, declared.{class_file.ClassFile.ClassFile, limits.TheConstants.MOST_FILE_BYTES}}
 use Rattle.host_io.specs.Reading.{first_long}
 
 pub some_class : (files : List (List ℕ)) (classes items : List ClassFile) → length files ≡ 1 → AllZip Spells files classes → items ≡ classes → 0 < length items

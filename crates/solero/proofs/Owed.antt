@@ -1,27 +1,14 @@
 -- What is owed to files that were read, and where one was not.
 use Rattle.std.proofs.Common.{◌≡◌, ℕ, ◌≤◌, Bool, List, Option, Some, None, refl, inl, inr, arith}
-use Rattle.jvm_types.specs.LinkFaults.{in_file}
-use Rattle.jvm_types.specs.declared.refusal.Rule.TheVariants as rules
-use Rattle.jvm_types.specs.declared.refusal.CRule.TheVariants.{C10}
-use Rattle.jvm_types.specs.declared.refusal.Rule.{Rule}
-use Rattle.jvm_types.specs.declared.refusal.Place.{Place}
-use Rattle.host_io.specs.Faults.{CountsFault}
+use Rattle.jvm_types.specs.{LinkFaults.in_file, declared.{limits.TheConstants.MOST_FILE_BYTES, refusal.{CRule.TheVariants.C10, Place.Place, Rule.Rule}}}
 use Rattle.checked_program.specs.MarkedProgram.{MarkedProgram}
 use Rattle.run_texts.specs.Refusal.{refusal_text}
-use Rattle.command_words.specs.Command.{Asked}
-use Rattle.solero.specs.Answer.{IsDue, IsMadeBy, IsMadeIn, IsRefusedIn, Refuses}
-use Rattle.host_io.specs.Reading.{IsUnread, first_long}
-use Rattle.jvm_types.specs.declared.limits.TheConstants.{MOST_FILE_BYTES}
-use Rattle.solero.specs.Parts.{IsRefusalLine, IsContentsDue, IsUnreadDue}
-use Rattle.host_io.specs.declared.shelf.NamedFile.{NamedFile}
-use Rattle.host_io.specs.declared.shelf.ShelfError.{ShelfError}
-use Rattle.host_io.specs.declared.shelf.ShelfError.TheVariants.{Memory, Failed, TooLong}
-use Rattle.command_words.specs.declared.request.Mode.{Mode}
-use Rattle.command_words.specs.declared.request.Mode.TheVariants as modes
-use Rattle.command_words.specs.declared.request.Task.{Task}
-use Rattle.command_words.specs.declared.request.Task.TheVariants.{Replay, Run, Record, Mark}
-use Rattle.solero.specs.declared.answer.Due.{Due}
+use Rattle.host_io.specs.{Faults.CountsFault, Reading.{IsUnread, first_long}, declared.shelf.{NamedFile.NamedFile, ShelfError.{ShelfError, TheVariants.{Memory, Failed, TooLong}}}}
+use Rattle.command_words.specs.{Command.Asked, declared.request.{Mode.Mode, Task.{Task, TheVariants.{Replay, Run, Record, Mark}}}}
+use Rattle.solero.specs.{Answer.{IsDue, IsMadeBy, IsMadeIn, IsRefusedIn, Refuses}, Parts.{IsRefusalLine, IsContentsDue, IsUnreadDue}, declared.answer.Due.Due}
 use Rattle.solero.specs.declared.answer.Due.TheVariants.{Report, Output, Usage, Refusal, CannotRead, OutOfMemory}
+use Rattle.jvm_types.specs.declared.refusal.Rule.TheVariants as rules
+use Rattle.command_words.specs.declared.request.Mode.TheVariants as modes
 
 -- no task makes a refusal, and no mode
 task_made_no_refusal : (task : Task) (asked : Asked) (checked : MarkedProgram) (text : List ℕ) → IsMadeBy task asked checked (Refusal text) → ⊥

@@ -1,13 +1,8 @@
 -- Prints whose tickets are their places among all: in order of the tickets they are the printed numbers, in order.
-use Rattle.std.proofs.Common.{◌≡◌, ℕ, ℤ, ◌+◌, ◌<◌, ◌≤◌, zero, suc, Bool, true, false, cond, leb, nat_le, List, [], ◌∷◌, ◌++◌, length, get_or, Some, inl, inr, refl, ap, ◌∙◌, arith, length-append}
-use Rattle.std.specs.Prelude.{slice_get}
-use Rattle.std.specs.List.{AllByRecursion, Contains, flat_map, sum_by}
-use Rattle.std.specs.Fmt.{signed_decimal}
-use Rattle.std.proofs.lemmas.Bool.Decides.{nat_tests}
-use Rattle.std.proofs.lemmas.List.Concat.{length-flat_map}
+use Rattle.std.proofs.Common.{◌≡◌, ℕ, ℤ, ◌+◌, ◌<◌, ◌≤◌, zero, suc, Bool, true, false, cond, leb, nat_le, List, [], ◌∷◌, ◌++◌, length, get_or, Some, inl, inr, refl, ap, ◌∙◌, arith, length-append, slice_get}
+use Rattle.std.{specs.{Fmt.signed_decimal, List.{AllByRecursion, Contains, flat_map, sum_by}}, proofs.lemmas.{Bool.Decides.nat_tests, List.Concat.length-flat_map}}
 use Rattle.std.proofs.lemmas.List.Elements.{Contains-append_left, Contains-append_right, Contains-append_cases}
-use Rattle.jvm_types.specs.declared.outcome.Print.{Print}
-use Rattle.jvm_types.specs.declared.outcome.ThreadReport.{ThreadReport}
+use Rattle.jvm_types.specs.declared.outcome.{Print.Print, ThreadReport.ThreadReport}
 use Rattle.run_texts.specs.Report.{put, by_ticket, line, print_line, print_lines}
 
 -- the numbers as prints, the first of which has this ticket

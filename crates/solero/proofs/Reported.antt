@@ -1,20 +1,13 @@
 -- What is reported of runs on threads: one that was recorded, and one of a load.
 use Rattle.std.proofs.Common.{◌≡◌, ℕ, ◌++◌, List, refl, subst, ap, ◌∙◌}
-use Rattle.checked_program.specs.MarkedProgram.{MarkedProgram}
-use Rattle.command_words.specs.Command.{Asked}
 use Rattle.jvm_types.specs.declared.outcome.Outcome.{Outcome}
-use Rattle.machine_types.specs.Core.{Happening, core, outcome}
-use Rattle.machine_types.specs.Faithful.{IsFaithful, IsOver, IsPlainRun}
-use Rattle.machine_types.specs.Schedules.{IsScheduleOf}
-use Rattle.machine_types.specs.declared.config.Config.{Config}
-use Rattle.record_run.specs.Recordings.{IsRecorded}
+use Rattle.checked_program.specs.MarkedProgram.{MarkedProgram}
+use Rattle.machine_types.specs.{Core.{Happening, core, outcome}, Faithful.{IsFaithful, IsOver, IsPlainRun}, Schedules.IsScheduleOf, declared.config.Config.Config}
 use Rattle.run_parts.specs.Ended.{IsEndOfRun}
-use Rattle.run_texts.specs.LoadText.{summary_text}
-use Rattle.run_texts.specs.OrderText.{order_line}
-use Rattle.run_texts.specs.Report.{report_text}
-use Rattle.solero.specs.Answer.{ReportsOver, ReportsRecord, SumsUp, text_with_prints}
-use Rattle.solero.specs.Finish.{finish_of}
-use Rattle.solero.specs.declared.finish.Finish.{Finish}
+use Rattle.record_run.specs.Recordings.{IsRecorded}
+use Rattle.run_texts.specs.{LoadText.summary_text, OrderText.order_line, Report.report_text}
+use Rattle.command_words.specs.Command.{Asked}
+use Rattle.solero.specs.{Answer.{ReportsOver, ReportsRecord, SumsUp, text_with_prints}, Finish.finish_of, declared.finish.Finish.Finish}
 
 -- whatever happens in it, a run stands for one of the plain machine
 abbrev pub ArePlain : MarkedProgram → Config → Type 0

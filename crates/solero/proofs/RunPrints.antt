@@ -1,15 +1,10 @@
 -- The print lines of a report are the prints of the plain run, in its order.
-use Rattle.std.proofs.Common.{◌≡◌, ℕ, ℤ, List, [], ◌∷◌, ◌++◌, map, Some, suc, zero, refl, ap, sym, subst, ◌∙◌}
-use Rattle.std.proofs.lemmas.List.{length-map}
+use Rattle.std.{proofs.{Common.{◌≡◌, ℕ, ℤ, List, [], ◌∷◌, ◌++◌, map, Some, suc, zero, refl, ap, sym, subst, ◌∙◌, Contains, slice_get}, lemmas.List.length-map}, specs.Fmt.signed_decimal}
 use Rattle.std.proofs.lemmas.List.Folds.{flat_map-map}
-use Rattle.std.specs.Prelude.{Contains, slice_get}
-use Rattle.std.specs.Fmt.{signed_decimal}
 use Rattle.jvm_types.specs.declared.outcome.Outcome.{Outcome}
-use Rattle.machine_types.specs.Faithful.{PrintsFit}
-use Rattle.machine_types.specs.PlainState.{Plain, Printed}
+use Rattle.machine_types.specs.{Faithful.PrintsFit, PlainState.{Plain, Printed}}
 use Rattle.run_texts.specs.Report.{counts_lines, end_lines, line, print_lines, report_text}
-use Rattle.solero.proofs.PlacedPrints.{lines_in_order}
-use Rattle.solero.specs.Answer.{plain_print_lines, text_with_prints}
+use Rattle.solero.{specs.Answer.{plain_print_lines, text_with_prints}, proofs.PlacedPrints.lines_in_order}
 
 -- a value at a place is that of a print there
 print_at : (prints : List Printed) (i : ℕ) (value : ℤ) → slice_get (map (λ (x : Printed). x.value) prints) i ≡ Some value → (x : Printed) × (slice_get prints i ≡ Some x) × (x.value ≡ value)

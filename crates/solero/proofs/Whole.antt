@@ -1,18 +1,9 @@
 -- What is answered where nothing outside fails: files that are accepted in full, and others by their refusal.
-use Rattle.std.proofs.Common.{◌≡◌, ℕ, Bool, inl, inr, List, Option, Some, Ok, Err, arith}
-use Rattle.std.specs.Prelude.{◌⊎◌}
+use Rattle.std.proofs.Common.{◌≡◌, ℕ, Bool, inl, inr, List, Option, Some, Ok, Err, arith, ◌⊎◌}
+use Rattle.host_io.{specs.{Faults.CountsFault, Reading.contents_of, declared.shelf.NamedFile.NamedFile}, proofs.SoFar.none_long}
 use Rattle.command_words.specs.Command.{Asked}
-use Rattle.solero.specs.Answer.{AreAccepted, IsDue, IsMadeOf, status_of}
-use Rattle.solero.specs.Delivery.{Delivers}
-use Rattle.solero.specs.Whole.{AnswersWhole, IsCalm, IsOwed, IsOwedRefusal}
-use Rattle.solero.proofs.Accepted.{no_refusal}
-use Rattle.solero.proofs.Modes.{made_of_taken}
-use Rattle.host_io.proofs.SoFar.{none_long}
-use Rattle.host_io.specs.Faults.{CountsFault}
-use Rattle.host_io.specs.Reading.{contents_of}
-use Rattle.host_io.specs.declared.shelf.NamedFile.{NamedFile}
-use Rattle.solero.specs.declared.answer.Due.{Due}
-use Rattle.solero.specs.declared.answer.Due.TheVariants.{Report, Output, Usage, Refusal, CannotRead, OutOfMemory}
+use Rattle.solero.specs.{Answer.{AreAccepted, IsDue, IsMadeOf, status_of}, Delivery.Delivers, Whole.{AnswersWhole, IsCalm, IsOwed, IsOwedRefusal}, declared.answer.Due.Due}
+use Rattle.solero.{specs.declared.answer.Due.TheVariants.{Report, Output, Usage, Refusal, CannotRead, OutOfMemory}, proofs.{Accepted.no_refusal, Modes.made_of_taken}}
 
 no_fault : (before after : ℕ) → IsCalm before after → CountsFault before after → ⊥
 no_fault before after calm (inl rose) = omega (arith, calm.0, rose)

@@ -1,17 +1,9 @@
 -- A seat with the share 1 has taken in all others.
-use Rattle.std.proofs.Common.{◌≡◌, ℕ, ◌*◌, ◌-◌, ◌^◌, ◌≤◌, inl, inr, List, sym, ap, ◌∙◌, arith}
-use Rattle.std.proofs.lemmas.Nat.{pow-add, pow_pos}
-use Rattle.std.specs.List.{sum_by}
-use mathlib.Core.Option.{some}
+use Rattle.std.{proofs.{Common.{◌≡◌, ℕ, ◌*◌, ◌-◌, ◌^◌, ◌≤◌, inl, inr, List, sym, ap, ◌∙◌, arith}, lemmas.Nat.{pow-add, pow_pos}}, specs.List.sum_by}
+use Rattle.solero_cell.specs.{Calls.{IsOnlySeat, IsAtEnd, IsShown, IsWhole}, CellRules.{ViewFits, HaveDepth, HasOneHistory, in_parts}, CellViews.spent, Histories.History, declared.views.Record.Record}
+use Rattle.solero_cell.{specs.declared.views.View.View, proofs.{Shares.pos_times, Sums.{at_most, others_none}}}
 use lib.ListN.{get_elem?}
-use Rattle.solero_cell.specs.declared.views.Record.{Record}
-use Rattle.solero_cell.specs.declared.views.View.{View}
-use Rattle.solero_cell.specs.Calls.{IsOnlySeat, IsAtEnd, IsShown, IsWhole}
-use Rattle.solero_cell.specs.CellRules.{ViewFits, HaveDepth, HasOneHistory, in_parts}
-use Rattle.solero_cell.specs.CellViews.{spent}
-use Rattle.solero_cell.specs.Histories.{History}
-use Rattle.solero_cell.proofs.Shares.{pos_times}
-use Rattle.solero_cell.proofs.Sums.{at_most, others_none}
+use mathlib.Core.Option.{some}
 
 abbrev depth_of : View → ℕ
 depth_of v = v.share.depth

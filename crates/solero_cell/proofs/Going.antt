@@ -1,18 +1,10 @@
 -- How far a call is, as its view goes on.
-use Rattle.std.proofs.Common.{◌≡◌, ◌≢◌, ℕ, zero, suc, ◌*◌, ◌<◌, ◌≤◌, List, [], ◌∷◌, ◌++◌, length, take, drop, Bool, true, false, Some, None, refl, sym, ap, subst, ◌∙◌}
-use Rattle.std.specs.Prelude.{slice_get, slice_set, is_some, unwrap_or, if◌then◌else◌}
-use Rattle.std.proofs.lemmas.List.{length-take-le}
-use Rattle.std.proofs.Math.Seq.{take-suc-set}
+use Rattle.std.proofs.Common.{◌≡◌, ◌≢◌, ℕ, zero, suc, ◌*◌, ◌<◌, ◌≤◌, List, [], ◌∷◌, ◌++◌, length, take, drop, Bool, true, false, Some, None, refl, sym, ap, subst, ◌∙◌, slice_get, slice_set, is_some, if◌then◌else◌}
+use Rattle.std.{specs.Prelude.unwrap_or, proofs.{Math.Seq.take-suc-set, lemmas.List.length-take-le}}
 use Rattle.atomic_table.specs.Seated.{TableId}
-use Rattle.solero_cell.specs.declared.views.Record.{Record}
-use Rattle.solero_cell.specs.declared.views.Storing.{Storing}
-use Rattle.solero_cell.specs.declared.views.View.{View}
-use Rattle.solero_cell.specs.Histories.{AllStand, AreOfOne, IsLast, IsRecordSeen, RecordStands}
-use Rattle.solero_cell.specs.CellViews.{IsStill, record_of, has_failed, has_loaded, forgot, has_read, has_stored, one_stored, taken_in}
-use Rattle.solero_cell.specs.Attempts.{IsBehindGot, IsBehindChanged}
-use Rattle.solero_cell.specs.Stages.{IsSeatAt, IsLoading, IsStoring}
-use Rattle.solero_cell.proofs.Standing.{all_left, all_right}
-use Rattle.solero_cell.specs.Steps.{HasCompared, HasRead, note_of, storing_of, attempt_ended}
+use Rattle.solero_cell.specs.{Attempts.{IsBehindGot, IsBehindChanged}, CellViews.{IsStill, record_of, has_failed, has_loaded, forgot, has_read, has_stored, one_stored, taken_in}}
+use Rattle.solero_cell.specs.{Histories.{AllStand, AreOfOne, IsLast, IsRecordSeen, RecordStands}, Stages.{IsSeatAt, IsLoading, IsStoring}}
+use Rattle.solero_cell.{specs.{Steps.{HasCompared, HasRead, note_of, storing_of, attempt_ended}, declared.views.{Record.Record, Storing.Storing, View.View}}, proofs.Standing.{all_left, all_right}}
 
 -- ---- the seat stays at its table
 

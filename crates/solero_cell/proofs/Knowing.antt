@@ -1,12 +1,7 @@
 -- What each view knows, when the words or the history change.
-use Rattle.std.proofs.Common.{◌≡◌, ◌≢◌, ℕ, ◌+◌, ◌*◌, ◌<◌, ◌≤◌, inl, inr, List, [], ◌∷◌, ◌++◌, length, length-append, take, Option, Some, None, refl, sym, ap, subst, arith}
-use Rattle.std.specs.Prelude.{slice_index, IfSome, is_some}
-use Rattle.solero_cell.specs.declared.views.Record.{Record}
-use Rattle.solero_cell.specs.declared.views.Storing.{Storing}
-use Rattle.solero_cell.specs.declared.views.View.{View}
-use Rattle.solero_cell.specs.Histories.{History, last_count, RecordStands, OwnStand}
-use Rattle.solero_cell.specs.CellRules.{cell_values, IsUnderWay, ViewKnowledge, ViewFits, one_if, storing_count}
-use Rattle.solero_cell.proofs.Standing.{own_on, joining_on}
+use Rattle.std.proofs.Common.{◌≡◌, ◌≢◌, ℕ, ◌+◌, ◌*◌, ◌<◌, ◌≤◌, inl, inr, List, [], ◌∷◌, ◌++◌, length, length-append, take, Option, Some, None, refl, sym, ap, subst, arith, slice_index, IfSome, is_some}
+use Rattle.solero_cell.specs.{CellRules.{cell_values, IsUnderWay, ViewKnowledge, ViewFits, one_if, storing_count}, Histories.{History, last_count, RecordStands, OwnStand}}
+use Rattle.solero_cell.{specs.declared.views.{Record.Record, Storing.Storing, View.View}, proofs.Standing.{own_on, joining_on}}
 
 abbrev pub NoteFits : Record → History → Option ℕ → Type 0
 NoteFits o h p = IfSome p (λ c. c ≤ last_count o h)

@@ -1,16 +1,10 @@
 -- A step of one seat keeps the rule, where it keeps what the rule says of each view, of the lock and of the counts.
-use Rattle.std.proofs.Common.{◌≡◌, ◌≢◌, ℕ, ◌+◌, ◌<◌, ◌⊎◌, inl, inr, ⊎_elim, List, length, refl, sym, ap, subst, ◌∙◌, arith}
-use Rattle.std.specs.Prelude.{slice_set, ◌==◌}
-use Rattle.std.specs.List.{sum_by}
-use mathlib.Core.Option.{some}
-use lib.ListN.{get_elem?}
+use Rattle.std.{proofs.Common.{◌≡◌, ◌≢◌, ℕ, ◌+◌, ◌<◌, ◌⊎◌, inl, inr, ⊎_elim, List, length, refl, sym, ap, subst, ◌∙◌, arith, slice_set, ◌==◌}, specs.List.sum_by}
 use Rattle.atomic_table.proofs.Lists.{at_set}
-use Rattle.solero_cell.specs.declared.views.Record.{Record}
-use Rattle.solero_cell.specs.declared.views.View.{View}
-use Rattle.solero_cell.specs.Histories.{History, last_count}
-use Rattle.solero_cell.specs.CellRules.{ViewKnowledge, ViewFits, one_if, times, storing_count, written_count, is_in_span, IsAtRest, IsHeldByWrite, HasOneHistory}
-use Rattle.solero_cell.proofs.Sums.{sum_set}
-use Rattle.solero_cell.proofs.Shares.{whole_same}
+use Rattle.solero_cell.specs.{CellRules.{ViewKnowledge, ViewFits, one_if, times, storing_count, written_count, is_in_span, IsAtRest, IsHeldByWrite, HasOneHistory}, Histories.{History, last_count}}
+use Rattle.solero_cell.{specs.declared.views.{Record.Record, View.View}, proofs.{Shares.whole_same, Sums.sum_set}}
+use lib.ListN.{get_elem?}
+use mathlib.Core.Option.{some}
 
 -- the fact of each view, where the view id alone is another one
 pub each_set : (o : Record) (h h' : History) (ws ws' : List ℕ) (views : List View) (id : ℕ) (w : View)

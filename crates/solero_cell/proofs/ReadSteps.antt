@@ -1,25 +1,16 @@
 -- The steps of a read keep the rule: its loads, and what they tell. And the second load of a join.
-use Rattle.std.proofs.Common.{◌≡◌, ◌≢◌, ℕ, suc, ◌*◌, ◌<◌, ⊎_elim, List, [], ◌∷◌, ◌++◌, length, length-append, take, Bool, true, false, Option, Some, None, refl, sym, ap, subst, ◌∙◌, arith}
-use Rattle.std.specs.Prelude.{slice_index, slice_set, IsSome, unwrap_or}
-use Rattle.std.proofs.lemmas.List.{set-get_or}
-use mathlib.Core.Option.{some}
-use mathlib.Core.Logic.{dite}
-use native.Mathlib.Decide.{ℕ_discrete}
-use lib.ListN.{get_elem?}
+use Rattle.std.proofs.Common.{◌≡◌, ◌≢◌, ℕ, suc, ◌*◌, ◌<◌, ⊎_elim, List, [], ◌∷◌, ◌++◌, length, length-append, take, Bool, true, false, Option, Some, None, refl, sym, ap, subst, ◌∙◌, arith, slice_index, slice_set, IsSome}
+use Rattle.std.{specs.Prelude.unwrap_or, proofs.lemmas.List.set-get_or}
 use Rattle.atomic_table.specs.Table.{State, Me, Allows, keeps}
-use Rattle.machine_types.specs.LockWords.{lock_of, is_lock_word}
-use Rattle.machine_types.specs.declared.lock.LockWord.{LockWord}
-use Rattle.solero_cell.specs.declared.views.Record.{Record}
-use Rattle.solero_cell.specs.declared.views.View.{View}
-use Rattle.solero_cell.specs.Histories.{last_count, RecordStands, IsLast, OwnStand}
-use Rattle.solero_cell.specs.CellViews.{record_of, noted, has_failed, has_loaded, forgot, has_read, has_compared, IsStill}
+use Rattle.machine_types.specs.{LockWords.{lock_of, is_lock_word}, declared.lock.LockWord.LockWord}
 use Rattle.solero_cell.specs.CellRules.{cell_values, ViewKnowledge, IsAtRest, IsHeldByWrite, HasOneHistory}
-use Rattle.solero_cell.specs.Steps.{note_of, joining_of, NotedBy, TellsNote, attempt_ended, TellsFinish, HasCompared}
-use Rattle.solero_cell.specs.Stages.{IsLoading, IsJoining}
-use Rattle.solero_cell.proofs.Standing.{at_most_last, last_stands, newest_stands}
+use Rattle.solero_cell.specs.{CellViews.{record_of, noted, has_failed, has_loaded, forgot, has_read, has_compared, IsStill}, Histories.{last_count, RecordStands, IsLast, OwnStand}}
+use Rattle.solero_cell.specs.{Stages.{IsLoading, IsJoining}, Steps.{note_of, joining_of, NotedBy, TellsNote, attempt_ended, TellsFinish, HasCompared}, declared.views.{Record.Record, View.View}}
+use Rattle.solero_cell.proofs.{Knowing.{calm, knows_of, none_loaded, if_some}, Made.looked, Standing.{at_most_last, last_stands, newest_stands}}
 use Rattle.solero_cell.proofs.Words.{free_word, free_is_lock, next_taken, value_index, values_long, all_taken}
-use Rattle.solero_cell.proofs.Knowing.{calm, knows_of, none_loaded, if_some}
-use Rattle.solero_cell.proofs.Made.{looked}
+use lib.ListN.{get_elem?}
+use mathlib.Core.{Logic.dite, Option.some}
+use native.Mathlib.Decide.{ℕ_discrete}
 
 abbrev pub rule : {S : Type 0} → Record → State S View → Type 0
 rule o s = HasOneHistory o s.words s.views

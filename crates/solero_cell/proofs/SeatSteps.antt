@@ -1,23 +1,12 @@
 -- A seat that is split, and two that are joined, keep the rule. And a new cell meets it.
-use Rattle.std.proofs.Common.{◌≡◌, ◌≢◌, ℕ, zero, suc, ◌+◌, ◌*◌, ◌-◌, ◌^◌, ◌<◌, ◌⊎◌, inl, inr, ⊎_elim, List, [], ◌∷◌, ◌++◌, length-append, None, refl, sym, ap, subst, ◌∙◌, arith}
-use Rattle.std.specs.Prelude.{slice_set, ◌==◌}
-use Rattle.std.specs.List.{sum_by}
-use Rattle.std.proofs.lemmas.Bool.Decides.{nat_tests}
-use Rattle.std.proofs.lemmas.List.Sums.{sum_by_push, sum_by-append}
-use mathlib.Core.Option.{some, some-injective, some-ne-none}
-use lib.ListN.{get_elem?}
-use Rattle.atomic_table.specs.Table.{Splits, Joins}
-use Rattle.atomic_table.proofs.Lists.{at_set, at_snoc, set_else}
-use Rattle.solero_cell.specs.declared.views.Record.{Record}
-use Rattle.solero_cell.specs.declared.views.View.{View}
-use Rattle.solero_cell.specs.Histories.{History}
-use Rattle.solero_cell.specs.CellViews.{first_view, halved, newcomer, taken_in, spent, IsStill}
+use Rattle.std.proofs.Common.{◌≡◌, ◌≢◌, ℕ, zero, suc, ◌+◌, ◌*◌, ◌-◌, ◌^◌, ◌<◌, ◌⊎◌, inl, inr, ⊎_elim, List, [], ◌∷◌, ◌++◌, length-append, None, refl, sym, ap, subst, ◌∙◌, arith, slice_set, ◌==◌}
+use Rattle.std.{specs.List.sum_by, proofs.lemmas.{Bool.Decides.nat_tests, List.Sums.{sum_by_push, sum_by-append}}}
+use Rattle.atomic_table.{specs.Table.{Splits, Joins}, proofs.Lists.{at_set, at_snoc, set_else}}
 use Rattle.solero_cell.specs.CellRules.{ViewKnowledge, ViewFits, one_if, times, storing_count, written_count, is_in_span, IsAtRest, IsHeldByWrite, HasOneHistory}
-use Rattle.solero_cell.proofs.Sums.{sum_set}
-use Rattle.solero_cell.proofs.Shares.{whole_cut, whole_joined, sum_pos}
-use Rattle.solero_cell.proofs.Standing.{all_both, opening_stands}
-use Rattle.solero_cell.proofs.Knowing.{calm, none_loaded, is_not_storing}
-use Rattle.solero_cell.proofs.ReadSteps.{rule, its}
+use Rattle.solero_cell.specs.{CellViews.{first_view, halved, newcomer, taken_in, spent, IsStill}, Histories.History, declared.views.{Record.Record, View.View}}
+use Rattle.solero_cell.proofs.{Knowing.{calm, none_loaded, is_not_storing}, ReadSteps.{rule, its}, Shares.{whole_cut, whole_joined, sum_pos}, Standing.{all_both, opening_stands}, Sums.sum_set}
+use lib.ListN.{get_elem?}
+use mathlib.Core.Option.{some, some-injective, some-ne-none}
 
 -- the lock is as it was where as many writes are under way
 lock_as : (o : Record) (h : History) (ws : List ℕ) (views views' : List View) → sum_by storing_count views' ≡ sum_by storing_count views

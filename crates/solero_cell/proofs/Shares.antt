@@ -1,18 +1,11 @@
 -- Shares that are halved, and added.
-use Rattle.std.proofs.Common.{◌≡◌, ◌≢◌, ℕ, zero, suc, ◌+◌, ◌*◌, ◌-◌, ◌^◌, ◌<◌, ◌≤◌, List, [], ◌∷◌, ◌++◌, length, length-set, sym, ap, subst, ◌∙◌, arith}
+use Rattle.std.proofs.{Common.{◌≡◌, ◌≢◌, ℕ, zero, suc, ◌+◌, ◌*◌, ◌-◌, ◌^◌, ◌<◌, ◌≤◌, List, [], ◌∷◌, ◌++◌, length, length-set, sym, ap, subst, ◌∙◌, arith, slice_set}, lemmas.List.Sums.sum_by_push}
 use Rattle.std.proofs.lemmas.Nat.{pow-add, pow_pos}
-use Rattle.std.proofs.lemmas.List.Sums.{sum_by_push}
-use Rattle.std.specs.Prelude.{slice_set}
-use mathlib.Core.Option.{some, some-injective}
-use mathlib.Core.Logic.{dite}
-use native.Mathlib.Decide.{ℕ_discrete}
-use lib.ListN.{get_elem?}
 use Rattle.atomic_table.proofs.Lists.{set_here, set_else, at_longer, at_last}
-use Rattle.solero_cell.specs.declared.views.Share.{Share}
-use Rattle.solero_cell.specs.declared.views.View.{View}
-use Rattle.solero_cell.specs.CellViews.{half, sum_of, spent}
-use Rattle.solero_cell.specs.CellRules.{in_parts, HaveDepth, AreWhole}
-use Rattle.solero_cell.proofs.Sums.{sum_set, within}
+use Rattle.solero_cell.{specs.{CellRules.{in_parts, HaveDepth, AreWhole}, CellViews.{half, sum_of, spent}, declared.views.{Share.Share, View.View}}, proofs.Sums.{sum_set, within}}
+use lib.ListN.{get_elem?}
+use mathlib.Core.{Logic.dite, Option.{some, some-injective}}
+use native.Mathlib.Decide.{ℕ_discrete}
 
 -- ---- one share
 

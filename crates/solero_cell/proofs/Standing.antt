@@ -1,11 +1,7 @@
 -- Records that stand in a history, and stay where it goes on.
-use Rattle.std.proofs.Common.{◌≡◌, ℕ, zero, suc, ◌+◌, ◌<◌, ◌≤◌, List, [], ◌∷◌, ◌++◌, length, length-append, Bool, true, false, Option, Some, None, refl, ap, ◌∙◌, arith}
-use Rattle.std.specs.Prelude.{slice_get, IfSome, if◌then◌else◌, nat_lt}
+use Rattle.std.proofs.Common.{◌≡◌, ℕ, zero, suc, ◌+◌, ◌<◌, ◌≤◌, List, [], ◌∷◌, ◌++◌, length, length-append, Bool, true, false, Option, Some, None, refl, ap, ◌∙◌, arith, slice_get, IfSome, if◌then◌else◌, nat_lt}
 use Rattle.std.proofs.lemmas.Option.{slice_get_within}
-use Rattle.solero_cell.specs.declared.views.Record.{Record}
-use Rattle.solero_cell.specs.declared.views.View.{View}
-use Rattle.solero_cell.specs.Histories.{History, last_count, RecordStands, AllStand, IsLast, OwnStand}
-use Rattle.solero_cell.specs.CellViews.{newest, record_of}
+use Rattle.solero_cell.specs.{CellViews.{newest, record_of}, Histories.{History, last_count, RecordStands, AllStand, IsLast, OwnStand}, declared.views.{Record.Record, View.View}}
 
 got_longer : {A : Type 0} (xs ys : List A) (i : ℕ) (x : A) → slice_get xs i ≡ Some x → slice_get (xs ++ ys) i ≡ Some x
 got_longer [] ys i x e = let bad : None ≡ Some x = e in absurd (cc)

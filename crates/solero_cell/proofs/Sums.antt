@@ -1,10 +1,7 @@
 -- Sums over the views of a table, when one of them changes.
-use Rattle.std.proofs.Common.{◌≡◌, ◌≢◌, ℕ, zero, suc, ◌+◌, ◌<◌, ◌≤◌, List, [], ◌∷◌, length, refl, sym, ap, arith}
-use Rattle.std.specs.List.{sum_by}
-use Rattle.std.proofs.lemmas.List.Sums.{sum_by-cons}
-use Rattle.std.specs.Prelude.{slice_set}
-use mathlib.Core.Option.{some, some-injective, some-ne-none}
+use Rattle.std.{proofs.{Common.{◌≡◌, ◌≢◌, ℕ, zero, suc, ◌+◌, ◌<◌, ◌≤◌, List, [], ◌∷◌, length, refl, sym, ap, arith, slice_set}, lemmas.List.Sums.sum_by-cons}, specs.List.sum_by}
 use lib.ListN.{get_elem?}
+use mathlib.Core.Option.{some, some-injective, some-ne-none}
 
 module _ {A : Type 0} (f : A → ℕ) where
   pub sum_set : (xs : List A) (i : ℕ) (x y : A) → get_elem? xs i ≡ some x

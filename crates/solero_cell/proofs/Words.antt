@@ -1,10 +1,7 @@
 -- The words of a cell when one of them changes, and lock words as numbers.
-use Rattle.std.proofs.Common.{◌≡◌, ℕ, zero, suc, ◌*◌, ◌/◌, ◌%◌, ◌<◌, List, [], ◌∷◌, ◌++◌, length, take, true, refl, ap, ◌∙◌, arith}
-use Rattle.std.specs.Prelude.{slice_index, slice_set}
+use Rattle.std.proofs.{Common.{◌≡◌, ℕ, zero, suc, ◌*◌, ◌/◌, ◌%◌, ◌<◌, List, [], ◌∷◌, ◌++◌, length, take, true, refl, ap, ◌∙◌, arith, slice_index, slice_set}, Math.Seq.{take-suc-set, take-length}}
 use Rattle.std.proofs.lemmas.List.{get_or-set_same, get_or-set_other, drop-set-lt}
-use Rattle.std.proofs.Math.Seq.{take-suc-set, take-length}
-use Rattle.machine_types.specs.LockWords.{lock_by, lock_of, is_lock_by, is_lock_word}
-use Rattle.machine_types.specs.declared.lock.LockWord.TheVariants.{Free}
+use Rattle.machine_types.specs.{LockWords.{lock_by, lock_of, is_lock_by, is_lock_word}, declared.lock.LockWord.TheVariants.Free}
 use Rattle.solero_cell.specs.CellRules.{cell_values}
 
 -- ---- lock words

@@ -1,29 +1,16 @@
 -- The steps of a write keep the rule: its exchange and its stores, and what they tell.
-use Rattle.std.proofs.Common.{◌≡◌, ◌≢◌, ℕ, suc, ◌+◌, ◌*◌, ◌<◌, ◌≤◌, ◌==◌, ◌⊎◌, inl, inr, ⊎_elim, List, [], ◌∷◌, ◌++◌, length, length-append, take, drop, true, false, Option, Some, None, refl, sym, ap, subst, ◌∙◌, arith}
-use Rattle.std.specs.Prelude.{slice_index, slice_set, slice_get, IsSome, unwrap_or}
-use Rattle.std.specs.List.{sum_by}
-use Rattle.std.proofs.lemmas.Bool.Decides.{nat_tests}
-use Rattle.std.proofs.lemmas.List.{length-set, set-get_or}
-use Rattle.std.proofs.lemmas.List.Sums.{sum_by_push}
+use Rattle.std.proofs.Common.{◌≡◌, ◌≢◌, ℕ, suc, ◌+◌, ◌*◌, ◌<◌, ◌≤◌, ◌==◌, ◌⊎◌, inl, inr, ⊎_elim, List, [], ◌∷◌, ◌++◌, length, length-append, take, drop, true, false, Option, Some, None, refl, sym, ap, subst, ◌∙◌, arith, slice_index, slice_set, slice_get, IsSome}
+use Rattle.std.{specs.{List.sum_by, Prelude.unwrap_or}, proofs.lemmas.{Bool.Decides.nat_tests, List.{length-set, set-get_or, Sums.sum_by_push}}}
+use Rattle.atomic_table.{specs.Table.{Me, Allows, keeps}, proofs.Lists.exchanged}
+use Rattle.solero_cell.specs.CellRules.{cell_values, IsUnderWay, ViewKnowledge, one_if, storing_count, is_in_span, IsAtRest, IsHeldByWrite, HasOneHistory}
+use Rattle.solero_cell.specs.{CellViews.{record_of, has_failed, has_taken, one_stored, has_stored, has_written, has_released}, Histories.{History, last_count, IsLast, OwnStand}}
+use Rattle.solero_cell.specs.{Stages.{IsNoted, IsStoring}, Steps.{note_of, storing_of, TellsTake, HasWritten}, declared.views.{Record.Record, Storing.Storing, View.View}}
+use Rattle.solero_cell.proofs.{Knowing.{calm, none_loaded, if_some, some_is, not_storing, is_not_storing, is_storing, taken_knows, held_knows, released_knows}, Made.{looked, made}}
+use Rattle.solero_cell.proofs.{ReadSteps.{rule, some_note, its}, Standing.{at_most_last, last_stands, own_on, all_both, new_last}, Sums.{sum_set, at_most, others_none}}
+use Rattle.solero_cell.proofs.Words.{values_long, all_taken, lock_set, values_kept, lock_kept, value_set}
+use lib.ListN.{get_elem?}
 use mathlib.Core.Option.{some}
 use prog.Atomic.{either}
-use lib.ListN.{get_elem?}
-use Rattle.atomic_table.specs.Table.{Me, Allows, keeps}
-use Rattle.atomic_table.proofs.Lists.{exchanged}
-use Rattle.solero_cell.specs.declared.views.Record.{Record}
-use Rattle.solero_cell.specs.declared.views.Storing.{Storing}
-use Rattle.solero_cell.specs.declared.views.View.{View}
-use Rattle.solero_cell.specs.Histories.{History, last_count, IsLast, OwnStand}
-use Rattle.solero_cell.specs.CellViews.{record_of, has_failed, has_taken, one_stored, has_stored, has_written, has_released}
-use Rattle.solero_cell.specs.CellRules.{cell_values, IsUnderWay, ViewKnowledge, one_if, storing_count, is_in_span, IsAtRest, IsHeldByWrite, HasOneHistory}
-use Rattle.solero_cell.specs.Steps.{note_of, storing_of, TellsTake, HasWritten}
-use Rattle.solero_cell.specs.Stages.{IsNoted, IsStoring}
-use Rattle.solero_cell.proofs.Sums.{sum_set, at_most, others_none}
-use Rattle.solero_cell.proofs.Standing.{at_most_last, last_stands, own_on, all_both, new_last}
-use Rattle.solero_cell.proofs.Words.{values_long, all_taken, lock_set, values_kept, lock_kept, value_set}
-use Rattle.solero_cell.proofs.Knowing.{calm, none_loaded, if_some, some_is, not_storing, is_not_storing, is_storing, taken_knows, held_knows, released_knows}
-use Rattle.solero_cell.proofs.Made.{looked, made}
-use Rattle.solero_cell.proofs.ReadSteps.{rule, some_note, its}
 
 -- what a step that writes a word leads to
 abbrev pub Leads : (o : Record) (ws : List ℕ) (views : List View) (id i x : ℕ) → (View → Type 0) → Type 0

@@ -1,15 +1,9 @@
 -- Files that are accepted are not refused.
 use Rattle.std.proofs.Common.{◌≡◌, ℕ, Bool, List, Option, Some, None, Ok, Err, sym, ◌∙◌, arith}
-use Rattle.jvm_types.specs.declared.refusal.Rule.{Rule}
-use Rattle.jvm_types.specs.declared.refusal.Place.{Place}
-use Rattle.class_runner.proofs.LoadedOnce.{never_refused}
-use Rattle.class_runner.specs.Loading.{IsAccepted}
-use Rattle.host_io.specs.Reading.{contents_of, first_long}
-use Rattle.host_io.specs.declared.shelf.NamedFile.{NamedFile}
-use Rattle.solero_explain.specs.Answer.{AreUnrefused, IsExplainDue, IsRefusalByRule, explain_status}
-use Rattle.solero_explain.specs.Command.{Question}
-use Rattle.solero_explain.specs.Delivery.{IsDelivered}
-use Rattle.solero_explain.specs.declared.answer.Due.{Due}
+use Rattle.jvm_types.specs.declared.refusal.{Place.Place, Rule.Rule}
+use Rattle.class_runner.{specs.Loading.IsAccepted, proofs.LoadedOnce.never_refused}
+use Rattle.host_io.specs.{Reading.{contents_of, first_long}, declared.shelf.NamedFile.NamedFile}
+use Rattle.solero_explain.specs.{Answer.{AreUnrefused, IsExplainDue, IsRefusalByRule, explain_status}, Command.Question, Delivery.IsDelivered, declared.answer.Due.Due}
 use Rattle.solero_explain.specs.declared.answer.Due.TheVariants.{Told, Usage, Refused, CannotRead, OutOfMemory}
 
 no_refusal : (asked : Question) (contents : List (List ℕ)) (rule : Rule) (place : Place) → first_long 0 contents ≡ None → IsAccepted contents asked.heap asked.threads → IsRefusalByRule (first_long 0 contents) asked contents rule place → ⊥

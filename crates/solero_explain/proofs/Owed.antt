@@ -1,24 +1,12 @@
 -- What is owed to files that were read, and where one was not.
-use Rattle.std.proofs.Common.{◌≡◌, ℕ, ◌≤◌, Bool, List, Option, Some, None, refl, inl, inr, arith}
-use Rattle.jvm_types.specs.LinkFaults.{in_file}
-use Rattle.jvm_types.specs.declared.limits.TheConstants.{MOST_FILE_BYTES}
-use Rattle.jvm_types.specs.declared.refusal.CRule.TheVariants.{C10}
-use Rattle.jvm_types.specs.declared.refusal.Place.{Place}
-use Rattle.jvm_types.specs.declared.refusal.Rule.{Rule}
-use Rattle.jvm_types.specs.declared.refusal.Rule.TheVariants as rules
-use Rattle.std.specs.Prelude.{slice_get}
-use Rattle.class_runner.specs.Loading.{IsRefusedBy}
-use Rattle.host_io.specs.Faults.{CountsFault}
-use Rattle.host_io.specs.Reading.{IsUnread, first_long}
-use Rattle.host_io.specs.declared.shelf.NamedFile.{NamedFile}
-use Rattle.host_io.specs.declared.shelf.ShelfError.{ShelfError}
-use Rattle.host_io.specs.declared.shelf.ShelfError.TheVariants.{Memory, Failed, TooLong}
+use Rattle.std.proofs.Common.{◌≡◌, ℕ, ◌≤◌, Bool, List, Option, Some, None, refl, inl, inr, arith, slice_get}
+use Rattle.jvm_types.specs.{LinkFaults.in_file, declared.{limits.TheConstants.MOST_FILE_BYTES, refusal.{CRule.TheVariants.C10, Place.Place, Rule.Rule}}}
 use Rattle.refusal_places.specs.Explained.{Explains}
-use Rattle.solero_explain.specs.Answer.{ExplainsRefusal, IsExplainDue, file_name_at}
-use Rattle.solero_explain.specs.Command.{Question}
-use Rattle.solero_explain.specs.Parts.{IsDueToFiles, IsRefusalExplained, IsUnreadExplained}
-use Rattle.solero_explain.specs.declared.answer.Due.{Due}
+use Rattle.class_runner.specs.Loading.{IsRefusedBy}
+use Rattle.host_io.specs.{Faults.CountsFault, Reading.{IsUnread, first_long}, declared.shelf.{NamedFile.NamedFile, ShelfError.{ShelfError, TheVariants.{Memory, Failed, TooLong}}}}
+use Rattle.solero_explain.specs.{Answer.{ExplainsRefusal, IsExplainDue, file_name_at}, Command.Question, Parts.{IsDueToFiles, IsRefusalExplained, IsUnreadExplained}, declared.answer.Due.Due}
 use Rattle.solero_explain.specs.declared.answer.Due.TheVariants.{Refused, CannotRead, OutOfMemory}
+use Rattle.jvm_types.specs.declared.refusal.Rule.TheVariants as rules
 
 -- what refuses files, none of which is too long, is due to them when it is explained
 pub refused_files : (asked : Question) (contents : List (List ℕ)) (rule : Rule) (place : Place) (due : Due) → first_long 0 contents ≡ None → IsRefusedBy contents asked.heap asked.threads rule place → IsRefusalExplained asked rule place (slice_get contents place.file) due → IsDueToFiles asked contents due

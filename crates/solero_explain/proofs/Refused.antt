@@ -1,14 +1,8 @@
 -- Files that are not accepted are refused, where nothing outside fails.
-use Rattle.std.proofs.Common.{◌≡◌, ℕ, ◌-◌, ◌<◌, ◌^◌, Bool, List, Option, Some, Ok, Err, inl, inr, arith}
-use Rattle.std.specs.Prelude.{◌⊎◌}
+use Rattle.std.proofs.Common.{◌≡◌, ℕ, ◌-◌, ◌<◌, ◌^◌, Bool, List, Option, Some, Ok, Err, inl, inr, arith, ◌⊎◌}
 use Rattle.class_runner.proofs.LoadedOnce.{accepted}
-use Rattle.host_io.proofs.SoFar.{none_long}
-use Rattle.host_io.specs.Faults.{CountsFault}
-use Rattle.host_io.specs.declared.shelf.NamedFile.{NamedFile}
-use Rattle.solero_explain.specs.Answer.{AreUnrefused, IsExplainDue, TellsFiles, explain_status}
-use Rattle.solero_explain.specs.Command.{Question}
-use Rattle.solero_explain.specs.Delivery.{IsDelivered}
-use Rattle.solero_explain.specs.declared.answer.Due.{Due}
+use Rattle.host_io.{specs.{Faults.CountsFault, declared.shelf.NamedFile.NamedFile}, proofs.SoFar.none_long}
+use Rattle.solero_explain.specs.{Answer.{AreUnrefused, IsExplainDue, TellsFiles, explain_status}, Command.Question, Delivery.IsDelivered, declared.answer.Due.Due}
 use Rattle.solero_explain.specs.declared.answer.Due.TheVariants.{Told, Usage, Refused, CannotRead, OutOfMemory}
 
 no_fault : (before after : ℕ) → after ≡ before → before < 2 ^ 64 - 1 → CountsFault before after → ⊥

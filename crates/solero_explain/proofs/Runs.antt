@@ -1,24 +1,14 @@
 -- What is answered where a run is told.
-use Rattle.std.proofs.Common.{◌≡◌, ◌≢◌, ℕ, ◌-◌, ◌<◌, ◌≤◌, ◌^◌, Bool, true, false, List, Option, Some, None, Result, Ok, Err, inr, refl, sym, ◌∙◌, arith}
-use Rattle.std.specs.Prelude.{if◌then◌else◌}
-use Rattle.checked_program.specs.MarkedProgram.{MarkedProgram}
-use Rattle.class_runner.proofs.LoadedOnce.{accepted}
-use Rattle.host_io.proofs.SoFar.{none_long}
-use Rattle.host_io.specs.Faults.{CountsFault}
-use Rattle.host_io.specs.declared.shelf.NamedFile.{NamedFile}
+use Rattle.std.proofs.Common.{◌≡◌, ◌≢◌, ℕ, ◌-◌, ◌<◌, ◌≤◌, ◌^◌, Bool, true, false, List, Option, Some, None, Result, Ok, Err, inr, refl, sym, ◌∙◌, arith, if◌then◌else◌}
 use Rattle.jvm_types.specs.declared.outcome.Outcome.{Outcome}
+use Rattle.checked_program.specs.MarkedProgram.{MarkedProgram}
 use Rattle.machine_types.specs.declared.config.Config.{Config}
-use Rattle.run_trace.specs.Traces.{IsTraced}
-use Rattle.run_trace.specs.declared.events.Part.{Part}
-use Rattle.run_trace.specs.declared.traces.TraceError.{TraceError}
-use Rattle.run_trace.specs.declared.traces.TraceError.TheVariants.{Memory, Failed}
-use Rattle.solero_explain.specs.Answer.{AreUnrefused, RunsFiles}
-use Rattle.solero_explain.specs.Command.{Question}
-use Rattle.solero_explain.specs.Parts.{IsRunTold, IsWork}
-use Rattle.solero_explain.specs.Requests.{question_by}
-use Rattle.solero_explain.specs.Tracing.{IsAnswered, is_limit, is_uncaught, some_end, status_of_run, status_of_trace}
+use Rattle.class_runner.proofs.LoadedOnce.{accepted}
+use Rattle.host_io.{specs.{Faults.CountsFault, declared.shelf.NamedFile.NamedFile}, proofs.SoFar.none_long}
+use Rattle.run_trace.specs.{Traces.IsTraced, declared.{events.Part.Part, traces.TraceError.{TraceError, TheVariants.{Memory, Failed}}}}
+use Rattle.solero_explain.specs.{Answer.{AreUnrefused, RunsFiles}, Command.Question, Parts.{IsRunTold, IsWork}, Requests.question_by}
+use Rattle.solero_explain.specs.{Tracing.{IsAnswered, is_limit, is_uncaught, some_end, status_of_run, status_of_trace}, declared.request.Request.Request}
 use Rattle.solero_explain.specs.declared.program.Work.TheVariants as works
-use Rattle.solero_explain.specs.declared.request.Request.{Request}
 
 -- ---- statuses
 

@@ -1,30 +1,13 @@
 -- The marks of a program stand in the order of its methods and of their spots, so that those before and behind a section need not
 -- be looked at.
-use Rattle.std.proofs.Common.{◌≡◌, ℕ, zero, suc, ◌+◌, ◌<◌, ◌≤◌, ◌⊎◌, inl, inr, Bool, true, false, List, [], ◌∷◌, ◌++◌, Some, None, map, take, drop, length, ◌-◌, refl, sym, ap, subst, ◌∙◌, arith}
-use Rattle.std.specs.Prelude.{slice_get, slice_index_or, ◌==◌, ◌&&◌, ◌||◌, nat_lt, filter_map, if◌then◌else◌}
-use Rattle.std.specs.List.{AllZip}
-use Rattle.std.proofs.Math.Seq.{take-length}
-use Rattle.std.proofs.lemmas.Bool.{ne_eqb}
-use Rattle.std.proofs.lemmas.Bool.Decides.{nat_tests}
-use Rattle.std.proofs.lemmas.List.{length-drop}
-use Rattle.std.proofs.lemmas.Option.{slice_get-get_or}
-use Rattle.jvm_types.specs.CodeGrammar.{SpellsInsns}
-use Rattle.jvm_types.specs.Members.{is_synchronized}
-use Rattle.jvm_types.specs.declared.code.Insn.{Insn}
-use Rattle.jvm_types.specs.declared.code.Op.{Op}
-use Rattle.jvm_types.specs.declared.code.Op.TheVariants as ops
-use Rattle.jvm_types.specs.declared.program.MethodInfo.{MethodInfo}
-use Rattle.jvm_types.specs.declared.program.Program.{Program}
-use Rattle.checked_program.specs.MarkedProgram.{MarkedProgram, IsMarked}
-use Rattle.checked_program.specs.Marks.{IsMarkOf}
-use Rattle.checked_program.specs.Sections.{Section, block_at, sections_from}
-use Rattle.checked_program.specs.TaggedCode.{Tagged, tagged_by}
-use Rattle.checked_program.specs.declared.section.FieldUse.{FieldUse}
-use Rattle.checked_program.specs.declared.section.SectionMark.{SectionMark}
-use Rattle.checked_program.specs.declared.section.Spot.{Spot}
-use Rattle.checked_program.specs.declared.section.Spot.TheVariants.{Method, Block}
+use Rattle.std.proofs.Common.{◌≡◌, ℕ, zero, suc, ◌+◌, ◌<◌, ◌≤◌, ◌⊎◌, inl, inr, Bool, true, false, List, [], ◌∷◌, ◌++◌, Some, None, map, take, drop, length, ◌-◌, refl, sym, ap, subst, ◌∙◌, arith, slice_get, slice_index_or, ◌==◌, ◌&&◌, ◌||◌, nat_lt, filter_map, if◌then◌else◌}
+use Rattle.std.{specs.List.AllZip, proofs.{Math.Seq.take-length, lemmas.{Bool.{ne_eqb, Decides.nat_tests}, List.length-drop, Option.slice_get-get_or}}}
+use Rattle.jvm_types.specs.{CodeGrammar.SpellsInsns, Members.is_synchronized, declared.{code.{Insn.Insn, Op.Op}, program.{MethodInfo.MethodInfo, Program.Program}}}
+use Rattle.checked_program.specs.{MarkedProgram.{MarkedProgram, IsMarked}, Marks.IsMarkOf, Sections.{Section, block_at, sections_from}, TaggedCode.{Tagged, tagged_by}}
+use Rattle.checked_program.specs.declared.section.{FieldUse.FieldUse, SectionMark.SectionMark, Spot.{Spot, TheVariants.{Method, Block}}}
 use Rattle.machine_types.specs.Sections.{is_marked, is_same_spot}
 use Rattle.step_core.specs.MarkOrder.{AscendFrom, IsFrom, rank, stands_before}
+use Rattle.jvm_types.specs.declared.code.Op.TheVariants as ops
 
 -- ---- the order of places
 

@@ -1,28 +1,15 @@
 -- The events of a monitor that a thread alone enters or leaves.
-use Rattle.std.proofs.Common.{◌≡◌, ◌<◌, ◌≤◌, ◌+◌, ◌-◌, ◌*◌, ℕ, suc, List, [], ◌∷◌, true, false, length, Option, Some, None, refl, sym, ap, ◌∙◌, subst, arith}
-use Rattle.std.specs.Prelude.{◌/◌, ◌%◌, IfSome, IsSome, slice_index, slice_set}
+use Rattle.std.proofs.Common.{◌≡◌, ◌<◌, ◌≤◌, ◌+◌, ◌-◌, ◌*◌, ℕ, suc, List, [], ◌∷◌, true, false, length, Option, Some, None, refl, sym, ap, ◌∙◌, subst, arith, ◌/◌, ◌%◌, IfSome, IsSome, slice_index, slice_set}
 use Rattle.std.proofs.lemmas.Bool.{eq-eqb, lt-ltb, le-ltb}
 use Rattle.jvm_types.specs.declared.limits.TheConstants.{MOST_FRAMES, MOST_LIMIT}
 use Rattle.checked_program.specs.MarkedProgram.{MarkedProgram}
-use Rattle.machine_types.specs.Bounds.{under_way}
-use Rattle.machine_types.specs.Elision.{elided, is_same, may_try}
-use Rattle.machine_types.specs.Going.{runs}
-use Rattle.machine_types.specs.HeldMonitors.{deeper, held_at, places_of, shallower, with_held, without_held}
-use Rattle.machine_types.specs.Lawful.{IsLawful}
-use Rattle.machine_types.specs.LockWords.{word_of_lock, lock_of}
-use Rattle.machine_types.specs.declared.lock.LockWord.TheVariants.{Free, Held}
-use Rattle.machine_types.specs.Monitors.{freed, takes}
-use Rattle.machine_types.specs.Threads.{Attempt, Frame, Thread}
-use Rattle.machine_types.specs.declared.lock.Held.{Held as Entry}
-use Rattle.machine_types.specs.declared.lock.Kept.TheVariants as keeps
+use Rattle.machine_types.specs.{Bounds.under_way, Elision.{elided, is_same, may_try}, Going.runs, HeldMonitors.{deeper, held_at, places_of, shallower, with_held, without_held}, Lawful.IsLawful}
+use Rattle.machine_types.specs.{LockWords.{word_of_lock, lock_of}, Monitors.{freed, takes}, Threads.{Attempt, Frame, Thread}, declared.lock.{Held.{Held as Entry}, LockWord.TheVariants.{Free, Held}}}
 use Rattle.machine_types.specs.declared.phase.Phase.TheVariants.{Take}
-use Rattle.frames.specs.FrameLists.{Frames, below, top}
-use Rattle.frames.specs.KeptAttempts.{with_inner}
 use Rattle.laws_threads.specs.HeldLaws.{HeldHasRoom}
-use Rattle.step_core.specs.Alone.{ThreadWithWords, IsFine, alone, stepped}
-use Rattle.step_core.specs.Running.{running_at}
-use Rattle.step_core.specs.Sections.{IsExitMade, entering}
-use Rattle.step_core.proofs.WordsKept.{load_keeps}
+use Rattle.frames.specs.{FrameLists.{Frames, below, top}, KeptAttempts.with_inner}
+use Rattle.step_core.{specs.{Alone.{ThreadWithWords, IsFine, alone, stepped}, Running.running_at, Sections.{IsExitMade, entering}}, proofs.WordsKept.load_keeps}
+use Rattle.machine_types.specs.declared.lock.Kept.TheVariants as keeps
 
 lock_of_free : (n : ℕ) → lock_of (word_of_lock (Free n)) ≡ Free n
 lock_of_free n =

@@ -1,14 +1,11 @@
 -- A view that is cut in two.
-use Rattle.std.proofs.Common.{◌≡◌, ◌≢◌, ℕ, zero, suc, ◌⊎◌, inl, inr, ⊎_elim, List, [], ◌∷◌, ◌++◌, length, length-set, Some, None, refl, sym, ap, ◌∙◌}
-use Rattle.std.specs.Prelude.{slice_get, slice_set}
-use mathlib.Core.Option.{some, some-injective, some-ne-none}
-use mathlib.Core.Logic.{dite}
-use native.Mathlib.Decide.{ℕ_discrete}
-use lib.ListN.{get_elem?}
+use Rattle.std.proofs.Common.{◌≡◌, ◌≢◌, ℕ, zero, suc, ◌⊎◌, inl, inr, ⊎_elim, List, [], ◌∷◌, ◌++◌, length, length-set, Some, None, refl, sym, ap, ◌∙◌, slice_get, slice_set}
 use Rattle.atomic_table.proofs.Lists.{at_set, set_here, set_else, at_longer, at_last}
 use Rattle.machine_types.specs.Threads.{Thread}
-use Rattle.table_rule.specs.Views.{View, held_in, IsHeld, AreShown}
-use Rattle.table_rule.proofs.Entries.{no_two, view_within}
+use Rattle.table_rule.{specs.Views.{View, held_in, IsHeld, AreShown}, proofs.Entries.{no_two, view_within}}
+use lib.ListN.{get_elem?}
+use mathlib.Core.{Logic.dite, Option.{some, some-injective, some-ne-none}}
+use native.Mathlib.Decide.{ℕ_discrete}
 
 at_end : (views : List View) (i : ℕ) (r w : View) → get_elem? (views ++ r ∷ []) i ≡ some w
     → (get_elem? views i ≡ some w) ⊎ ((i ≡ length views) × (r ≡ w))

@@ -1,14 +1,11 @@
 -- Two views that are joined.
-use Rattle.std.proofs.Common.{◌≡◌, ◌≢◌, ℕ, ◌⊎◌, inl, inr, ⊎_elim, List, Option, Some, None, refl, sym, ap, ◌∙◌}
-use Rattle.std.specs.Prelude.{slice_get, slice_set}
-use mathlib.Core.Option.{some, some-injective}
-use mathlib.Core.Logic.{dite}
-use native.Mathlib.Decide.{ℕ_discrete}
-use lib.ListN.{get_elem?}
+use Rattle.std.proofs.Common.{◌≡◌, ◌≢◌, ℕ, ◌⊎◌, inl, inr, ⊎_elim, List, Option, Some, None, refl, sym, ap, ◌∙◌, slice_get, slice_set}
 use Rattle.atomic_table.proofs.Lists.{at_set, set_here, set_else}
 use Rattle.machine_types.specs.Threads.{Thread}
-use Rattle.table_rule.specs.Views.{View, held_in, IsHeld, AreShown}
-use Rattle.table_rule.proofs.Entries.{no_two, view_within}
+use Rattle.table_rule.{specs.Views.{View, held_in, IsHeld, AreShown}, proofs.Entries.{no_two, view_within}}
+use lib.ListN.{get_elem?}
+use mathlib.Core.{Logic.dite, Option.{some, some-injective}}
+use native.Mathlib.Decide.{ℕ_discrete}
 
 module _ (threads : List Thread) (views : List View) (id other : ℕ) (v w both spent : View)
     (shown : AreShown threads views) (at : get_elem? views id ≡ some v)

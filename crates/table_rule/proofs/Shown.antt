@@ -1,24 +1,15 @@
 -- The views of a table show a state of a run, and what an event makes of it.
-use Rattle.std.proofs.Common.{◌≡◌, ◌≢◌, ℕ, zero, suc, ◌⊎◌, inl, inr, ⊎_elim, List, [], ◌∷◌, ◌++◌, Some, None, sym, ap, subst, ◌∙◌}
-use Rattle.std.specs.Prelude.{slice_get, slice_set}
-use Rattle.std.proofs.lemmas.List.{set-set}
-use mathlib.Core.Option.{some, some-injective}
-use mathlib.Core.Logic.{dite}
-use native.Mathlib.Decide.{ℕ_discrete}
-use lib.ListN.{get_elem?}
+use Rattle.std.proofs.{Common.{◌≡◌, ◌≢◌, ℕ, zero, suc, ◌⊎◌, inl, inr, ⊎_elim, List, [], ◌∷◌, ◌++◌, Some, None, sym, ap, subst, ◌∙◌, slice_get, slice_set}, lemmas.List.set-set}
 use Rattle.atomic_table.proofs.Lists.{at_set, set_here, set_else, set_again}
 use Rattle.checked_program.specs.MarkedProgram.{MarkedProgram}
-use Rattle.machine_types.specs.Accesses.{found_by, words_after}
-use Rattle.machine_types.specs.Core.{Core, Happening, Of, core}
-use Rattle.machine_types.specs.Events.{wanted, moved}
-use Rattle.machine_types.specs.Threads.{Thread}
-use Rattle.machine_types.specs.declared.config.Config.{Config}
-use Rattle.laws_states.specs.GrowingRuns.{behind}
-use Rattle.laws_states.proofs.GrowingRuns.{event_is, one_more}
+use Rattle.machine_types.specs.{Accesses.{found_by, words_after}, Core.{Core, Happening, Of, core}, Events.{wanted, moved}, Threads.Thread, declared.config.Config.Config}
+use Rattle.laws_states.{specs.GrowingRuns.behind, proofs.GrowingRuns.{event_is, one_more}}
 use Rattle.local_events.specs.Locals.{AfterLocals}
-use Rattle.table_rule.specs.Views.{View, held_in, IsHeld, AreShown, ShowsRun, StandsIn}
-use Rattle.table_rule.specs.TableLaws.{EventsShow, LocalsShow}
+use Rattle.table_rule.specs.{TableLaws.{EventsShow, LocalsShow}, Views.{View, held_in, IsHeld, AreShown, ShowsRun, StandsIn}}
 use Rattle.table_rule.proofs.Entries.{got_else, got_here, held_else, held_here, set_held, view_within}
+use lib.ListN.{get_elem?}
+use mathlib.Core.{Logic.dite, Option.{some, some-injective}}
+use native.Mathlib.Decide.{ℕ_discrete}
 
 -- ---- the thread of a view goes on
 

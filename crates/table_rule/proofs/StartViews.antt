@@ -1,12 +1,10 @@
 -- The view of all threads at the start of a run.
 use Rattle.std.proofs.Common.{◌≡◌, ℕ, zero, suc, [], ◌∷◌, map, Some, refl, sym, ap, ◌∙◌}
-use mathlib.Core.Option.{some, some-injective, some-ne-none}
-use lib.ListN.{get_elem?}
 use Rattle.checked_program.specs.MarkedProgram.{MarkedProgram}
-use Rattle.machine_types.specs.Core.{core, start}
-use Rattle.machine_types.specs.declared.config.Config.{Config}
-use Rattle.table_rule.specs.Views.{View, held_in, ShowsRun}
-use Rattle.table_rule.proofs.Entries.{some_held}
+use Rattle.machine_types.specs.{Core.{core, start}, declared.config.Config.Config}
+use Rattle.table_rule.{specs.Views.{View, held_in, ShowsRun}, proofs.Entries.some_held}
+use lib.ListN.{get_elem?}
+use mathlib.Core.Option.{some, some-injective, some-ne-none}
 
 one_view : (v w : View) (i : ℕ) → get_elem? (v ∷ []) i ≡ some w → (i ≡ 0) × (v ≡ w)
 one_view v w zero e = (refl, some-injective v w e)

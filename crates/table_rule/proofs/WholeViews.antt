@@ -1,21 +1,15 @@
 -- A view that has all threads of a run, and the begin of a part.
-use Rattle.std.proofs.Common.{◌≡◌, ℕ, zero, suc, ◌<◌, ◌≤◌, ⊎_elim, Bool, true, false, List, [], ◌∷◌, ◌++◌, length, Option, Some, None, refl, sym, ap, subst, ◌∙◌, arith}
-use Rattle.std.specs.Prelude.{nat_lt, slice_get, slice_set, IsSome}
-use Rattle.std.proofs.lemmas.Bool.Decides.{nat_tests}
-use Rattle.std.proofs.lemmas.List.{set-set}
-use mathlib.Core.Option.{some}
-use mathlib.Core.Logic.{dite}
-use native.Mathlib.Decide.{ℕ_discrete}
-use lib.ListN.{get_elem?}
+use Rattle.std.proofs.Common.{◌≡◌, ℕ, zero, suc, ◌<◌, ◌≤◌, ⊎_elim, Bool, true, false, List, [], ◌∷◌, ◌++◌, length, Option, Some, None, refl, sym, ap, subst, ◌∙◌, arith, nat_lt, slice_get, slice_set, IsSome}
+use Rattle.std.proofs.lemmas.{Bool.Decides.nat_tests, List.set-set}
 use Rattle.atomic_table.proofs.Lists.{at_set, set_here, set_again}
 use Rattle.checked_program.specs.MarkedProgram.{MarkedProgram}
-use Rattle.machine_types.specs.Core.{Core, Happening, NextPart, core, next_threads}
-use Rattle.machine_types.specs.Threads.{Thread}
-use Rattle.machine_types.specs.declared.config.Config.{Config}
+use Rattle.machine_types.specs.{Core.{Core, Happening, NextPart, core, next_threads}, Threads.Thread, declared.config.Config.Config}
 use Rattle.laws_states.proofs.GrowingRuns.{next_long, one_more, runs_keep_sizes}
 use Rattle.table_rule.specs.Views.{View, held_in, AreShown, ShowsRun, AllFollow, EachFollows, HasThreads, HoldsAll}
-use Rattle.table_rule.proofs.Entries.{got_there, got_within, held_beyond, held_here, held_else, view_within}
-use Rattle.table_rule.proofs.Shown.{locals_show}
+use Rattle.table_rule.proofs.{Entries.{got_there, got_within, held_beyond, held_here, held_else, view_within}, Shown.locals_show}
+use lib.ListN.{get_elem?}
+use mathlib.Core.{Logic.dite, Option.some}
+use native.Mathlib.Decide.{ℕ_discrete}
 
 -- ---- a view that has all threads
 

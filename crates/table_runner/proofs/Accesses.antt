@@ -1,25 +1,16 @@
 -- An access on the table keeps its rule, whatever access it is.
-use Rattle.std.proofs.Common.{◌≡◌, ℕ, ◌+◌, ◌%◌, ◌^◌, ◌<◌, ◌==◌, Bool, true, false, List, length, Option, Some, None, refl, sym, ap, subst, ◌∙◌, arith, mod-eq_of_lt}
-use Rattle.std.specs.Prelude.{slice_index, slice_set, if◌then◌else◌, IfSome}
+use Rattle.std.proofs.Common.{◌≡◌, ℕ, ◌+◌, ◌%◌, ◌^◌, ◌<◌, ◌==◌, Bool, true, false, List, length, Option, Some, None, refl, sym, ap, subst, ◌∙◌, arith, mod-eq_of_lt, slice_index, slice_set, if◌then◌else◌, IfSome}
 use Rattle.std.proofs.lemmas.List.{set-get_or}
-use mathlib.Core.Option.{some}
-use lib.ListN.{get_elem?}
-use prog.Atomic.{either}
 use Rattle.atomic_table.specs.Table.{State, Me, Allows, keeps}
 use Rattle.checked_program.specs.MarkedProgram.{MarkedProgram}
-use Rattle.machine_types.specs.Accesses.{accessed, found, found_by, left_by, performed, words_after}
-use Rattle.machine_types.specs.Core.{core}
-use Rattle.machine_types.specs.Events.{wanted}
-use Rattle.machine_types.specs.Threads.{Thread}
-use Rattle.machine_types.specs.declared.access.Access.{Access}
-use Rattle.machine_types.specs.declared.access.Access.TheVariants.{Load, Store, Cas, Add, Or, And, Rest}
-use Rattle.machine_types.specs.declared.config.Config.{Config}
-use Rattle.laws_states.specs.RunSafety.{RunsAreSafe}
-use Rattle.laws_states.specs.GrowingRuns.{behind}
-use Rattle.laws_states.proofs.GrowingRuns.{runs_keep_sizes}
-use Rattle.table_rule.specs.Views.{View, ShowsRun, StandsIn}
-use Rattle.table_rule.proofs.Shown.{events_show, locals_show}
+use Rattle.machine_types.specs.{Accesses.{accessed, found, found_by, left_by, performed, words_after}, Core.core, Events.wanted, Threads.Thread, declared.access.Access.Access}
+use Rattle.machine_types.specs.declared.{access.Access.TheVariants.{Load, Store, Cas, Add, Or, And, Rest}, config.Config.Config}
+use Rattle.laws_states.{specs.{GrowingRuns.behind, RunSafety.RunsAreSafe}, proofs.GrowingRuns.runs_keep_sizes}
+use Rattle.table_rule.{specs.Views.{View, ShowsRun, StandsIn}, proofs.Shown.{events_show, locals_show}}
 use Rattle.table_runner.specs.Accessing.{NextEvent, made_by_event, IsEventMade, Tells, CanMake, Asks, IsNextEventOf}
+use lib.ListN.{get_elem?}
+use mathlib.Core.Option.{some}
+use prog.Atomic.{either}
 
 -- ---- the calls on the table
 

@@ -1,31 +1,16 @@
 -- The threads of hands.
-use Rattle.std.proofs.Common.{◌≡◌, ◌≢◌, ℕ, zero, suc, ◌<◌, length, Bool, true, false, [], ◌∷◌, Option, Some, None, is_some, refl, sym, ap, subst, ◌∙◌, arith}
-use Rattle.std.specs.Prelude.{slice_index_or, slice_set, IsSome}
+use Rattle.std.proofs.Common.{◌≡◌, ◌≢◌, ℕ, zero, suc, ◌<◌, length, Bool, true, false, [], ◌∷◌, Option, Some, None, is_some, refl, sym, ap, subst, ◌∙◌, arith, slice_index_or, slice_set, IsSome}
+use Rattle.lists.specs.Stock.{Stock}
+use Rattle.jvm_types.specs.declared.outcome.ThreadReport.{ThreadReport}
+use Rattle.checked_program.specs.MarkedProgram.{MarkedProgram}
+use Rattle.machine_types.specs.{Accesses.found_by, Core.core, Events.wanted, Facts.IsThread, FoundWords.Fits, Lawful.IsLawful, Threads.Thread, declared.{access.Access.Access, config.Config.Config}}
+use Rattle.laws_states.{specs.{GrowingRuns.IsOfRun, RunSafety.RunsAreSafe, StateLaws.{ProgramsKeepThreads, RunsHaveState}}, proofs.GrowingRuns.threads_stay}
+use Rattle.local_events.{specs.Locals.Follows, proofs.LocalLaws.{follows_on, follows_itself}}
+use Rattle.table_rule.{specs.Views.{View, held_in}, proofs.Entries.{held_here, held_else, set_held}}
+use Rattle.table_runner.specs.{Accessing.{NextEvent, made_by_event, Happens, IsEventMade, CanRun, IsBehindView}, Going.{HasGoneByEvent, GoesAt, IsBehindViewAt}}
+use Rattle.table_runner.specs.Handed.{Handed, AreHands, EachStands, event_at, viewed, IsEventOf, HasReportRoom, RoomIsThere}
 use mathlib.Core.Logic.{dite}
 use native.Mathlib.Decide.{ℕ_discrete}
-use Rattle.checked_program.specs.MarkedProgram.{MarkedProgram}
-use Rattle.jvm_types.specs.declared.outcome.ThreadReport.{ThreadReport}
-use Rattle.lists.specs.Stock.{Stock}
-use Rattle.machine_types.specs.Accesses.{found_by}
-use Rattle.machine_types.specs.Core.{core}
-use Rattle.machine_types.specs.Events.{wanted}
-use Rattle.machine_types.specs.Facts.{IsThread}
-use Rattle.machine_types.specs.FoundWords.{Fits}
-use Rattle.machine_types.specs.Lawful.{IsLawful}
-use Rattle.machine_types.specs.Threads.{Thread}
-use Rattle.machine_types.specs.declared.access.Access.{Access}
-use Rattle.machine_types.specs.declared.config.Config.{Config}
-use Rattle.laws_states.specs.RunSafety.{RunsAreSafe}
-use Rattle.laws_states.specs.GrowingRuns.{IsOfRun}
-use Rattle.laws_states.specs.StateLaws.{ProgramsKeepThreads, RunsHaveState}
-use Rattle.laws_states.proofs.GrowingRuns.{threads_stay}
-use Rattle.local_events.specs.Locals.{Follows}
-use Rattle.table_rule.specs.Views.{View, held_in}
-use Rattle.table_rule.proofs.Entries.{held_here, held_else, set_held}
-use Rattle.local_events.proofs.LocalLaws.{follows_on, follows_itself}
-use Rattle.table_runner.specs.Accessing.{NextEvent, made_by_event, Happens, IsEventMade, CanRun, IsBehindView}
-use Rattle.table_runner.specs.Going.{HasGoneByEvent, GoesAt, IsBehindViewAt}
-use Rattle.table_runner.specs.Handed.{Handed, AreHands, EachStands, event_at, viewed, IsEventOf, HasReportRoom, RoomIsThere}
 
 -- ---- a thread of a run
 

@@ -1,19 +1,14 @@
 -- Hands that are split and joined.
-use Rattle.std.proofs.Common.{◌≡◌, ◌≢◌, ℕ, ◌<◌, Option, Some, None, refl, sym, ap, subst, ◌∙◌}
-use Rattle.std.specs.Option.{option_or}
-use Rattle.std.specs.Prelude.{IsSome}
+use Rattle.std.{proofs.Common.{◌≡◌, ◌≢◌, ℕ, ◌<◌, Option, Some, None, refl, sym, ap, subst, ◌∙◌, IsSome}, specs.Option.option_or}
+use Rattle.lists.specs.Stock.{Stock}
+use Rattle.jvm_types.specs.declared.outcome.ThreadReport.{ThreadReport}
+use Rattle.checked_program.specs.MarkedProgram.{MarkedProgram}
+use Rattle.machine_types.specs.{Threads.Thread, declared.config.Config.Config}
+use Rattle.table_rule.{specs.Views.{View, held_in}, proofs.Entries.held_else}
+use Rattle.table_runner.specs.{Handed.{Handed, AreHands, EachStands, HasReportRoom, RoomIsThere}, Sharing.{only_thread, merged, thread_alone, view_without, without_thread}}
+use Rattle.table_runner.proofs.SharedViews.{alone_else, alone_here, merged_at, without_here}
 use mathlib.Core.Logic.{dite}
 use native.Mathlib.Decide.{ℕ_discrete}
-use Rattle.checked_program.specs.MarkedProgram.{MarkedProgram}
-use Rattle.jvm_types.specs.declared.outcome.ThreadReport.{ThreadReport}
-use Rattle.lists.specs.Stock.{Stock}
-use Rattle.machine_types.specs.Threads.{Thread}
-use Rattle.machine_types.specs.declared.config.Config.{Config}
-use Rattle.table_rule.specs.Views.{View, held_in}
-use Rattle.table_rule.proofs.Entries.{held_else}
-use Rattle.table_runner.specs.Handed.{Handed, AreHands, EachStands, HasReportRoom, RoomIsThere}
-use Rattle.table_runner.specs.Sharing.{only_thread, merged, thread_alone, view_without, without_thread}
-use Rattle.table_runner.proofs.SharedViews.{alone_else, alone_here, merged_at, without_here}
 
 same_each : (c : MarkedProgram) (cfg : Config) (t : ℕ) (o p q r : Option Thread) → o ≡ q → p ≡ r
     → EachStands c cfg t q r → EachStands c cfg t o p

@@ -1,29 +1,19 @@
 -- Events of one thread, one after the other, and hands behind them.
-use Rattle.std.proofs.Common.{◌≡◌, ◌≢◌, ◌<◌, ◌≤◌, ℕ, zero, suc, Bool, true, false, Option, Some, None, is_some, option_map, refl, sym, ap, subst, ◌∙◌, arith}
-use Rattle.std.specs.Prelude.{slice_set}
-use mathlib.Core.Logic.{dite}
-use native.Mathlib.Decide.{ℕ_discrete}
+use Rattle.std.proofs.Common.{◌≡◌, ◌≢◌, ◌<◌, ◌≤◌, ℕ, zero, suc, Bool, true, false, Option, Some, None, is_some, option_map, refl, sym, ap, subst, ◌∙◌, arith, slice_set}
+use Rattle.lists.specs.Stock.{Stock}
 use Rattle.jvm_types.specs.declared.outcome.ThreadReport.{ThreadReport}
 use Rattle.checked_program.specs.MarkedProgram.{MarkedProgram}
-use Rattle.lists.specs.Stock.{Stock}
-use Rattle.laws_states.specs.GrowingRuns.{IsOfRun}
-use Rattle.laws_states.specs.RunSafety.{RunsAreSafe}
-use Rattle.laws_states.specs.WorkLeft.{EventsLessenWork, work_left}
+use Rattle.machine_types.specs.{Core.is_live, Events.{moved, wanted}, Threads.Thread, declared.{config.Config.Config, phase.Phase.Phase}}
 use Rattle.laws_threads.specs.GivenThread.{GivenIsKept, given_of}
+use Rattle.laws_states.specs.{GrowingRuns.IsOfRun, RunSafety.RunsAreSafe, WorkLeft.{EventsLessenWork, work_left}}
 use Rattle.local_events.specs.Locals.{AfterLocals}
-use Rattle.machine_types.specs.Core.{is_live}
-use Rattle.machine_types.specs.Events.{moved, wanted}
-use Rattle.machine_types.specs.Threads.{Thread}
-use Rattle.machine_types.specs.declared.config.Config.{Config}
-use Rattle.machine_types.specs.declared.phase.Phase.{Phase}
-use Rattle.machine_types.specs.declared.phase.Phase.TheVariants as phases
-use Rattle.table_rule.specs.Views.{View, held_in}
-use Rattle.table_rule.proofs.Entries.{held_here, held_else, set_held}
-use Rattle.table_runner.specs.Accessing.{CanRun, NextEvent, made_by_event, IsBehindView}
-use Rattle.table_runner.specs.Going.{HasGoneByEvent, IsLaterThread, GoesOnAt}
-use Rattle.table_runner.specs.Handed.{Handed, AreHands, EachStands, HasReportRoom, viewed}
-use Rattle.table_runner.specs.Running.{IsRunOn}
+use Rattle.table_rule.{specs.Views.{View, held_in}, proofs.Entries.{held_here, held_else, set_held}}
+use Rattle.table_runner.specs.{Accessing.{CanRun, NextEvent, made_by_event, IsBehindView}, Going.{HasGoneByEvent, IsLaterThread, GoesOnAt}}
+use Rattle.table_runner.specs.{Handed.{Handed, AreHands, EachStands, HasReportRoom, viewed}, Running.IsRunOn}
 use Rattle.table_runner.proofs.HandedThreads.{goes_alone, is_lawful, room_as, stands_after, stands_of, viewed_else}
+use mathlib.Core.Logic.{dite}
+use native.Mathlib.Decide.{ℕ_discrete}
+use Rattle.machine_types.specs.declared.phase.Phase.TheVariants as phases
 
 -- ---- one thread
 

@@ -1,25 +1,16 @@
 -- Hands at the begin of a part.
-use Rattle.std.proofs.Common.{◌≡◌, ℕ, zero, suc, Bool, true, false, List, [], ◌∷◌, Option, Some, None, is_some, option_map, refl, sym, ap, subst, ◌∙◌}
-use Rattle.std.specs.Prelude.{IsSome}
+use Rattle.std.proofs.Common.{◌≡◌, ℕ, zero, suc, Bool, true, false, List, [], ◌∷◌, Option, Some, None, is_some, option_map, refl, sym, ap, subst, ◌∙◌, IsSome}
 use Rattle.atomic_table.specs.Seated.{TableId}
-use Rattle.checked_program.specs.MarkedProgram.{MarkedProgram}
-use Rattle.jvm_types.specs.declared.outcome.ThreadReport.{ThreadReport}
-use Rattle.jvm_types.specs.declared.program.Program.{Program}
 use Rattle.lists.specs.Stock.{Stock}
-use Rattle.machine_types.specs.Core.{may_begin, next_threads}
-use Rattle.machine_types.specs.Threads.{Thread}
-use Rattle.machine_types.specs.declared.config.Config.{Config}
-use Rattle.run_parts.specs.Parts.{AreNumbered, SharesAreNext, own_begun}
+use Rattle.jvm_types.specs.declared.{outcome.ThreadReport.ThreadReport, program.Program.Program}
+use Rattle.checked_program.specs.MarkedProgram.{MarkedProgram}
+use Rattle.machine_types.specs.{Core.{may_begin, next_threads}, Threads.Thread, declared.config.Config.Config}
 use Rattle.laws_states.specs.StateLaws.{ProgramsKeepThreads, RunsHaveState}
-use Rattle.table_rule.specs.Views.{View, held_in, HasThreads, HoldsAll}
 use Rattle.local_events.proofs.LocalLaws.{follows_itself}
-use Rattle.table_runner.specs.Handed.{Handed, AreHands, EachStands, HasReportRoom}
-use Rattle.table_runner.specs.Parts.{IsPartBegun, BegunBy}
-use Rattle.table_runner.specs.Running.{AreSame}
-use Rattle.table_runner.specs.Sharing.{CanBegin, HasBegun, IsNextPart}
-use Rattle.table_runner.proofs.HandedThreads.{is_thread, room_as}
-use Rattle.table_runner.proofs.NextThreads.{next_holds}
-use Rattle.table_runner.proofs.WholeHands.{all_follow, each_of_run, holds_its, threads_of}
+use Rattle.run_parts.specs.Parts.{AreNumbered, SharesAreNext, own_begun}
+use Rattle.table_rule.specs.Views.{View, held_in, HasThreads, HoldsAll}
+use Rattle.table_runner.specs.{Handed.{Handed, AreHands, EachStands, HasReportRoom}, Parts.{IsPartBegun, BegunBy}, Running.AreSame, Sharing.{CanBegin, HasBegun, IsNextPart}}
+use Rattle.table_runner.proofs.{HandedThreads.{is_thread, room_as}, NextThreads.next_holds, WholeHands.{all_follow, each_of_run, holds_its, threads_of}}
 
 numbered : ProgramsKeepThreads → RunsHaveState → (h : Handed) → AreHands h → (ts : List Thread)
     → HasThreads h.threads ts → AreNumbered h.program.program ts

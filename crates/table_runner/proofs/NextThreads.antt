@@ -1,10 +1,8 @@
 -- What a part begins with.
-use Rattle.std.proofs.Common.{◌≡◌, ℕ, zero, suc, ◌<◌, Bool, true, false, List, [], ◌∷◌, length, drop, take, ◌-◌, ◌≤◌, map, option_map, Option, Some, None, refl, sym, ap, subst, ◌∙◌, arith}
-use Rattle.std.specs.Prelude.{slice_get, slice_index_or, ◌&&◌}
+use Rattle.std.proofs.Common.{◌≡◌, ℕ, zero, suc, ◌<◌, Bool, true, false, List, [], ◌∷◌, length, drop, take, ◌-◌, ◌≤◌, map, option_map, Option, Some, None, refl, sym, ap, subst, ◌∙◌, arith, slice_get, slice_index_or, ◌&&◌}
 use Rattle.std.specs.List.{list_all}
 use Rattle.jvm_types.specs.declared.program.Program.{Program}
-use Rattle.machine_types.specs.Core.{may_begin, next_threads}
-use Rattle.machine_types.specs.Threads.{Thread}
+use Rattle.machine_types.specs.{Core.{may_begin, next_threads}, Threads.Thread}
 use Rattle.run_parts.specs.Parts.{AreNumbered, SharesAreNext, shares_begun, have_finished, own_begun}
 use Rattle.table_rule.specs.Views.{View, held_in, HasThreads}
 use Rattle.table_runner.specs.Parts.{IsPartBegun, BegunBy, thread_finished}

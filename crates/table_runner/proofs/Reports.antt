@@ -1,9 +1,7 @@
 -- The reports of the threads, one by one.
-use Rattle.std.proofs.Common.{◌≡◌, ℕ, zero, suc, ◌<◌, ◌≤◌, List, [], ◌∷◌, ◌++◌, drop, length, map, Option, Some, None, refl, sym, ap, ◌∙◌, arith, append-nil}
-use Rattle.std.specs.Prelude.{slice_set}
+use Rattle.std.proofs.Common.{◌≡◌, ℕ, zero, suc, ◌<◌, ◌≤◌, List, [], ◌∷◌, ◌++◌, drop, length, map, Option, Some, None, refl, sym, ap, ◌∙◌, arith, append-nil, slice_set}
 use Rattle.jvm_types.specs.declared.outcome.ThreadReport.{ThreadReport}
-use Rattle.machine_types.specs.Core.{report_of}
-use Rattle.machine_types.specs.Threads.{Thread}
+use Rattle.machine_types.specs.{Core.report_of, Threads.Thread}
 use Rattle.table_rule.specs.Views.{View, held_in, HasThreads}
 use Rattle.table_runner.specs.Ending.{reported, reported_first}
 

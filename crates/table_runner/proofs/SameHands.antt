@@ -3,8 +3,7 @@ use Rattle.std.proofs.Common.{◌≡◌, ℕ, true, refl, sym, subst, ◌∙◌}
 use Rattle.atomic_table.specs.Seated.{TableId}
 use Rattle.checked_program.specs.MarkedProgram.{MarkedProgram}
 use Rattle.machine_types.specs.declared.config.Config.{Config}
-use Rattle.table_runner.specs.Handed.{Handed, IsTableOf}
-use Rattle.table_runner.specs.Running.{AreSame, IsWorker, RunsHere}
+use Rattle.table_runner.specs.{Handed.{Handed, IsTableOf}, Running.{AreSame, IsWorker, RunsHere}}
 
 pub same_itself : (h : Handed) → AreSame h h
 same_itself h = record { program = refl; cfg = refl; table = refl; numbers = λ u. refl }

@@ -1,19 +1,11 @@
 -- Views that are cut and merged keep the rule of the table.
-use Rattle.std.proofs.Common.{◌≡◌, ◌≢◌, ℕ, zero, suc, ◌<◌, ◌⊎◌, inl, inr, [], ◌∷◌, ◌++◌, replicate, Option, Some, None, refl, sym, ap, subst, ◌∙◌}
-use Rattle.std.specs.Option.{option_or}
-use Rattle.std.specs.Prelude.{slice_get, slice_set}
+use Rattle.std.{proofs.Common.{◌≡◌, ◌≢◌, ℕ, zero, suc, ◌<◌, ◌⊎◌, inl, inr, [], ◌∷◌, ◌++◌, replicate, Option, Some, None, refl, sym, ap, subst, ◌∙◌, slice_get, slice_set}, specs.Option.option_or}
 use Rattle.std.proofs.lemmas.List.{set-get_or}
-use Rattle.atomic_table.specs.Table.{State, Me, Allows, Splits, Joins, keeps}
-use Rattle.atomic_table.proofs.Lists.{set_else}
+use Rattle.atomic_table.{specs.Table.{State, Me, Allows, Splits, Joins, keeps}, proofs.Lists.set_else}
 use Rattle.checked_program.specs.MarkedProgram.{MarkedProgram}
-use Rattle.machine_types.specs.Core.{Core, NextPart, core, next_threads}
-use Rattle.machine_types.specs.Threads.{Thread}
-use Rattle.machine_types.specs.declared.config.Config.{Config}
+use Rattle.machine_types.specs.{Core.{Core, NextPart, core, next_threads}, Threads.Thread, declared.config.Config.Config}
 use Rattle.laws_states.proofs.GrowingRuns.{one_more}
-use Rattle.table_rule.specs.Views.{View, held_in, HasThreads, ShowsRun}
-use Rattle.table_rule.proofs.CutViews.{cut_shows}
-use Rattle.table_rule.proofs.Entries.{held_else, held_set, none_held}
-use Rattle.table_rule.proofs.JoinedViews.{joined_shows}
+use Rattle.table_rule.{specs.Views.{View, held_in, HasThreads, ShowsRun}, proofs.{CutViews.cut_shows, Entries.{held_else, held_set, none_held}, JoinedViews.joined_shows}}
 use Rattle.table_rule.proofs.WholeViews.{part_shows, whole_holds, whole_run}
 use Rattle.table_runner.specs.Sharing.{Beginning, CanBegin, HasBegun, TellsBegin, only_thread, merged, view_without}
 

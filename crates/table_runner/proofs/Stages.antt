@@ -1,20 +1,14 @@
 -- How far a run is, along its parts.
-use Rattle.std.proofs.Common.{◌≡◌, ℕ, zero, suc, ◌+◌, ◌<◌, Bool, true, false, List, [], ◌∷◌, Option, Some, None, option_map, refl, sym, ap, subst, ◌∙◌, arith}
-use Rattle.std.specs.Prelude.{nat_lt, slice_get}
+use Rattle.std.proofs.Common.{◌≡◌, ℕ, zero, suc, ◌+◌, ◌<◌, Bool, true, false, List, [], ◌∷◌, Option, Some, None, option_map, refl, sym, ap, subst, ◌∙◌, arith, nat_lt, slice_get}
 use Rattle.std.proofs.lemmas.Bool.Decides.{nat_tests}
-use mathlib.Core.Logic.{dite}
-use native.Mathlib.Decide.{ℕ_discrete}
-use Rattle.jvm_types.specs.declared.outcome.Outcome.{Outcome}
-use Rattle.jvm_types.specs.declared.program.Program.{Program}
+use Rattle.jvm_types.specs.declared.{outcome.Outcome.Outcome, program.Program.Program}
+use Rattle.machine_types.specs.{Core.{core, is_live_thread, may_begin, next_threads, part_begins}, Threads.Thread}
 use Rattle.laws_threads.specs.GivenThread.{Given, given_of}
-use Rattle.machine_types.specs.Core.{core, is_live_thread, may_begin, next_threads, part_begins}
-use Rattle.machine_types.specs.Threads.{Thread}
 use Rattle.run_parts.specs.Ended.{IsEndOfRun}
 use Rattle.table_rule.specs.Views.{View, held_in, HasThreads}
-use Rattle.table_runner.specs.Ending.{IsOutcome}
-use Rattle.table_runner.specs.Handed.{Handed}
-use Rattle.table_runner.specs.Running.{AreDeadBelow, HaveEnded, IsAlone, IsRunOn, IsWaiting, NoWorkerLivesIn}
-use Rattle.table_runner.specs.Sharing.{IsNextPart}
+use Rattle.table_runner.specs.{Ending.IsOutcome, Handed.Handed, Running.{AreDeadBelow, HaveEnded, IsAlone, IsRunOn, IsWaiting, NoWorkerLivesIn}, Sharing.IsNextPart}
+use mathlib.Core.Logic.{dite}
+use native.Mathlib.Decide.{ℕ_discrete}
 
 -- ---- events of one thread
 

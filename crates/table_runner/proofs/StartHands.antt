@@ -1,24 +1,16 @@
 -- Hands that hold all threads of the start.
-use Rattle.std.proofs.Common.{◌≡◌, ℕ, zero, suc, ◌+◌, ◌<◌, ◌≤◌, false, length-set, length-append, List, [], ◌∷◌, ◌++◌, map, length, replicate, option_map, Option, Some, None, refl, sym, ap, subst, ◌∙◌, arith}
-use Rattle.std.specs.Prelude.{IsSome, slice_get, slice_set}
+use Rattle.std.proofs.Common.{◌≡◌, ℕ, zero, suc, ◌+◌, ◌<◌, ◌≤◌, false, length-set, length-append, List, [], ◌∷◌, ◌++◌, map, length, replicate, option_map, Option, Some, None, refl, sym, ap, subst, ◌∙◌, arith, IsSome, slice_get, slice_set}
 use Rattle.std.specs.List.{range_with_len}
+use Rattle.atomic_table.specs.Seated.{TableId}
+use Rattle.lists.specs.Stock.{Stock}
+use Rattle.jvm_types.specs.declared.outcome.ThreadReport.{ThreadReport}
+use Rattle.checked_program.specs.MarkedProgram.{MarkedProgram, IsMarked}
+use Rattle.machine_types.{specs.{Core.{core, is_live_thread, start, start_thread}, Settings.AreSettings, Threads.Thread, declared.config.Config.Config}, proofs.AtStart.is_start_thread}
+use Rattle.laws_states.{specs.RunFacts.HaveWidth, proofs.GrowingRuns.runs_keep_sizes}
+use Rattle.table_rule.{specs.Views.{View, held_in, HasThreads}, proofs.Entries.{got_there, held_else, held_set, none_held, some_held}}
+use Rattle.table_runner.specs.{Handed.{Handed, AreHands, EachStands, HasReportRoom, IsTableOf, RoomIsThere}, Running.{AtStart, IsAlone, RunsHere}}
 use mathlib.Core.Logic.{dite}
 use native.Mathlib.Decide.{ℕ_discrete}
-use Rattle.atomic_table.specs.Seated.{TableId}
-use Rattle.checked_program.specs.MarkedProgram.{MarkedProgram, IsMarked}
-use Rattle.jvm_types.specs.declared.outcome.ThreadReport.{ThreadReport}
-use Rattle.lists.specs.Stock.{Stock}
-use Rattle.machine_types.specs.Core.{core, is_live_thread, start, start_thread}
-use Rattle.machine_types.specs.Settings.{AreSettings}
-use Rattle.machine_types.specs.Threads.{Thread}
-use Rattle.machine_types.specs.declared.config.Config.{Config}
-use Rattle.machine_types.proofs.AtStart.{is_start_thread}
-use Rattle.laws_states.specs.RunFacts.{HaveWidth}
-use Rattle.laws_states.proofs.GrowingRuns.{runs_keep_sizes}
-use Rattle.table_rule.specs.Views.{View, held_in, HasThreads}
-use Rattle.table_rule.proofs.Entries.{got_there, held_else, held_set, none_held, some_held}
-use Rattle.table_runner.specs.Handed.{Handed, AreHands, EachStands, HasReportRoom, IsTableOf, RoomIsThere}
-use Rattle.table_runner.specs.Running.{AtStart, IsAlone, RunsHere}
 
 each_stands : (c : MarkedProgram) (cfg : Config) (t : ℕ) (o p : Option Thread)
     → o ≡ slice_get (core c cfg []).threads t → p ≡ slice_get (core c cfg []).threads t

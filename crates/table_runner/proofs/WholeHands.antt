@@ -1,22 +1,13 @@
 -- Hands that hold all threads of a run.
-use Rattle.std.proofs.Common.{◌≡◌, ℕ, zero, suc, ◌+◌, ◌<◌, ◌≤◌, List, [], ◌∷◌, Option, Some, None, refl, sym, ap, ◌∙◌, arith}
-use Rattle.std.specs.Prelude.{slice_get, IsSome}
-use mathlib.Core.Option.{some}
-use lib.ListN.{get_elem?}
+use Rattle.std.proofs.Common.{◌≡◌, ℕ, zero, suc, ◌+◌, ◌<◌, ◌≤◌, List, [], ◌∷◌, Option, Some, None, refl, sym, ap, ◌∙◌, arith, slice_get, IsSome}
+use Rattle.jvm_types.specs.declared.outcome.{End.End, ThreadReport.ThreadReport}
 use Rattle.checked_program.specs.MarkedProgram.{MarkedProgram}
-use Rattle.jvm_types.specs.declared.outcome.End.{End}
-use Rattle.jvm_types.specs.declared.outcome.ThreadReport.{ThreadReport}
-use Rattle.machine_types.specs.Core.{Happening, core, done_end}
-use Rattle.machine_types.specs.Threads.{Thread}
-use Rattle.machine_types.specs.declared.config.Config.{Config}
-use Rattle.laws_states.specs.GrowingRuns.{IsOfRun}
-use Rattle.laws_states.proofs.GrowingRuns.{runs_keep_sizes}
-use Rattle.table_rule.specs.Views.{View, held_in, AllFollow, EachFollows, HasThreads, HoldsAll, ShowsRun}
-use Rattle.table_rule.proofs.Entries.{got_within}
-use Rattle.table_rule.proofs.WholeViews.{whole_run, whole_holds}
-use Rattle.table_runner.specs.Ending.{IsOutcome, reported}
-use Rattle.table_runner.specs.Handed.{Handed, AreHands, EachStands}
-use Rattle.table_runner.proofs.Reports.{all_reported}
+use Rattle.machine_types.specs.{Core.{Happening, core, done_end}, Threads.Thread, declared.config.Config.Config}
+use Rattle.laws_states.{specs.GrowingRuns.IsOfRun, proofs.GrowingRuns.runs_keep_sizes}
+use Rattle.table_rule.{specs.Views.{View, held_in, AllFollow, EachFollows, HasThreads, HoldsAll, ShowsRun}, proofs.{Entries.got_within, WholeViews.{whole_run, whole_holds}}}
+use Rattle.table_runner.{specs.{Ending.{IsOutcome, reported}, Handed.{Handed, AreHands, EachStands}}, proofs.Reports.all_reported}
+use lib.ListN.{get_elem?}
+use mathlib.Core.Option.{some}
 
 each_follows : (c : MarkedProgram) (cfg : Config) (t : ℕ) (o p : Option Thread) → EachStands c cfg t o p
     → EachFollows c o p

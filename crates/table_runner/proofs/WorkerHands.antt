@@ -1,18 +1,11 @@
 -- The hands of the workers, that are split off and joined again.
-use Rattle.std.proofs.Common.{◌≡◌, ◌≢◌, ℕ, zero, suc, ◌+◌, ◌<◌, ◌≤◌, Bool, true, false, List, [], ◌∷◌, ◌++◌, length, Option, Some, None, refl, sym, subst, ◌∙◌, arith}
-use Rattle.std.specs.Option.{option_or}
-use Rattle.std.specs.Prelude.{IsSome, nat_le, slice_index_or}
-use Rattle.std.proofs.lemmas.Bool.Decides.{nat_tests}
+use Rattle.std.proofs.Common.{◌≡◌, ◌≢◌, ℕ, zero, suc, ◌+◌, ◌<◌, ◌≤◌, Bool, true, false, List, [], ◌∷◌, ◌++◌, length, Option, Some, None, refl, sym, subst, ◌∙◌, arith, IsSome, nat_le, slice_index_or}
+use Rattle.std.{specs.Option.option_or, proofs.lemmas.Bool.Decides.nat_tests}
 use Rattle.atomic_table.specs.Seated.{TableId}
 use Rattle.checked_program.specs.MarkedProgram.{MarkedProgram}
-use Rattle.machine_types.specs.Threads.{Thread}
-use Rattle.machine_types.specs.declared.config.Config.{Config}
-use Rattle.table_rule.specs.Views.{held_in}
-use Rattle.table_rule.proofs.Entries.{held_else}
-use Rattle.table_runner.specs.Handed.{Handed, IsTableOf}
-use Rattle.table_runner.specs.Running.{AreWorkers, IsWorker, RestOf, RunsHere}
-use Rattle.table_runner.specs.Sharing.{AreJoined, thread_alone, without_thread}
-use Rattle.table_runner.proofs.SharedViews.{alone_here}
+use Rattle.machine_types.specs.{Threads.Thread, declared.config.Config.Config}
+use Rattle.table_rule.{specs.Views.held_in, proofs.Entries.held_else}
+use Rattle.table_runner.{specs.{Handed.{Handed, IsTableOf}, Running.{AreWorkers, IsWorker, RestOf, RunsHere}, Sharing.{AreJoined, thread_alone, without_thread}}, proofs.SharedViews.alone_here}
 
 module _ (table : TableId) (c : MarkedProgram) (cfg : Config) where
   pub rest_at_start : (h : Handed) → RunsHere table c cfg h

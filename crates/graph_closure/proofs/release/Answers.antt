@@ -1,8 +1,5 @@
-use Rattle.std.proofs.Common.{◌≡◌, ◌<◌, ◌-◌, length, ◌∙◌, refl, arith}
-use Rattle.std.specs.Prelude.{slice_index}
-use Rattle.std.proofs.lemmas.List.{length-set}
-use Rattle.graph_closure.specs.Chains.{latest}
-use Rattle.graph_closure.proofs.SpreadLaws.{released, chain_less, latest-le, latest_again}
+use Rattle.std.proofs.{Common.{◌≡◌, ◌<◌, ◌-◌, length, ◌∙◌, refl, arith, slice_index}, lemmas.List.length-set}
+use Rattle.graph_closure.{specs.Chains.latest, proofs.SpreadLaws.{released, chain_less, latest-le, latest_again}}
 use Rattle.graph_closure.proofs.release.Goals as goal
 
 pub loop-at-init : goal.loop-at-init

@@ -1,9 +1,6 @@
-use Rattle.std.proofs.Common.{◌≡◌, ◌<◌, ◌++◌, ◌∷◌, [], Bool, true, false, length, replicate, sym, subst, refl, arith, ℕ, List, get_or-set_same}
-use Rattle.std.specs.Prelude.{slice_index_or, slice_set}
-use Rattle.graph_closure.specs.LeastSet.{IsGraph}
-use Rattle.graph_closure.specs.Chains.{Going, latest, zeros}
-use Rattle.graph_closure.proofs.SpreadLaws.{begun, off_at, zeros_all, zeros_only, first_in, taken, seen, ended}
+use Rattle.std.proofs.Common.{◌≡◌, ◌<◌, ◌++◌, ◌∷◌, [], Bool, true, false, length, replicate, sym, subst, refl, arith, ℕ, List, get_or-set_same, slice_index_or, slice_set}
 use Rattle.std.proofs.lemmas.List.{length-replicate}
+use Rattle.graph_closure.{specs.{Chains.{Going, latest, zeros}, LeastSet.IsGraph}, proofs.SpreadLaws.{begun, off_at, zeros_all, zeros_only, first_in, taken, seen, ended}}
 use Rattle.graph_closure.proofs.spread.Goals as goal
 
 pub loop-b-init : goal.loop-b-init

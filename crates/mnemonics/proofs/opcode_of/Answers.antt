@@ -1,7 +1,5 @@
-use Rattle.std.proofs.Common.{◌≡◌, true, bytes_eq, Some, sym, ap, ◌∙◌, arith}
-use Rattle.std.proofs.lemmas.Slice.Eq.{bytes_eq-Decides}
-use Rattle.mnemonics.specs.Mnemonics.{mnemonic}
-use Rattle.mnemonics.proofs.OpcodeLaws.{opcode_back, no_opcode}
+use Rattle.std.proofs.{Common.{◌≡◌, true, bytes_eq, Some, sym, ap, ◌∙◌, arith}, lemmas.Slice.Eq.bytes_eq-Decides}
+use Rattle.mnemonics.{specs.Mnemonics.mnemonic, proofs.OpcodeLaws.{opcode_back, no_opcode}}
 use Rattle.mnemonics.proofs.opcode_of.Goals as goal
 
 pub returns-then-is_same : goal.returns-then-is_same

@@ -1,6 +1,5 @@
 use Rattle.std.proofs.Common.{◌≡◌, ◌++◌, drop, map, string_bytes}
-use Rattle.asm_text.specs.Lines.{text_of}
-use Rattle.asm_text.specs.ClassLines.{attr_line}
+use Rattle.asm_text.specs.{ClassLines.attr_line, Lines.text_of}
 use Rattle.asm_text.proofs.class_lines.write_attrs.Given as goal
 
 abbrev pub invariant-loop-attr : goal.invariant-loop-attr

@@ -1,6 +1,5 @@
 use Rattle.std.proofs.Common.{◌≡◌, ◌++◌, drop, map, string_bytes}
-use Rattle.asm_text.specs.Lines.{text_of}
-use Rattle.asm_text.specs.ClassLines.{interface_line}
+use Rattle.asm_text.specs.{ClassLines.interface_line, Lines.text_of}
 use Rattle.asm_text.proofs.class_lines.write_interfaces.Given as goal
 
 abbrev pub invariant-loop-interface : goal.invariant-loop-interface

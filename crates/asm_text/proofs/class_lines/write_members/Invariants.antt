@@ -1,7 +1,5 @@
-use Rattle.std.proofs.Common.{◌≡◌, ◌++◌, drop, string_bytes}
-use Rattle.std.specs.List.{flat_map}
-use Rattle.asm_text.specs.Lines.{text_of}
-use Rattle.asm_text.specs.ClassLines.{member_lines}
+use Rattle.std.{proofs.Common.{◌≡◌, ◌++◌, drop, string_bytes}, specs.List.flat_map}
+use Rattle.asm_text.specs.{ClassLines.member_lines, Lines.text_of}
 use Rattle.asm_text.proofs.class_lines.write_members.Given as goal
 
 abbrev pub invariant-loop-member : goal.invariant-loop-member

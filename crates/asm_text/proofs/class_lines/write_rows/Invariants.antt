@@ -1,6 +1,5 @@
 use Rattle.std.proofs.Common.{◌≡◌, ◌++◌, drop, map, string_bytes}
-use Rattle.asm_text.specs.Lines.{text_of}
-use Rattle.asm_text.specs.ClassLines.{row_line}
+use Rattle.asm_text.specs.{ClassLines.row_line, Lines.text_of}
 use Rattle.asm_text.proofs.class_lines.write_rows.Given as goal
 
 abbrev pub invariant-loop-row : goal.invariant-loop-row

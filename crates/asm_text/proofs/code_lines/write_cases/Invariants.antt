@@ -1,7 +1,5 @@
-use Rattle.std.proofs.Common.{◌≡◌, ◌++◌, drop, string_bytes}
-use Rattle.std.specs.List.{flat_map}
-use Rattle.asm_text.specs.Lines.{values_text}
-use Rattle.asm_text.specs.CodeLines.{case_values}
+use Rattle.std.{proofs.Common.{◌≡◌, ◌++◌, drop, string_bytes}, specs.List.flat_map}
+use Rattle.asm_text.specs.{CodeLines.case_values, Lines.values_text}
 use Rattle.asm_text.proofs.code_lines.write_cases.Given as goal
 
 abbrev pub invariant-loop-case : goal.invariant-loop-case

@@ -1,6 +1,5 @@
 use Rattle.std.proofs.Common.{◌≡◌, ◌++◌, drop, map, string_bytes}
-use Rattle.asm_text.specs.Lines.{text_of}
-use Rattle.asm_text.specs.CodeLines.{insn_line}
+use Rattle.asm_text.specs.{CodeLines.insn_line, Lines.text_of}
 use Rattle.asm_text.proofs.code_lines.write_insns.Given as goal
 
 abbrev pub invariant-loop-insn : goal.invariant-loop-insn

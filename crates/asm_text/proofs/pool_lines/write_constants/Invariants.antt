@@ -1,6 +1,5 @@
 use Rattle.std.proofs.Common.{◌≡◌, ◌++◌, drop, map, string_bytes}
-use Rattle.asm_text.specs.Lines.{text_of}
-use Rattle.asm_text.specs.ClassLines.{constant_line}
+use Rattle.asm_text.specs.{ClassLines.constant_line, Lines.text_of}
 use Rattle.asm_text.proofs.pool_lines.write_constants.Given as goal
 
 abbrev pub invariant-loop-constant : goal.invariant-loop-constant

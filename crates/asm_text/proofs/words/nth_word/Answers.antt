@@ -1,6 +1,4 @@
-use Rattle.std.proofs.Common.{rules, tests}
-use Rattle.std.proofs.lemmas.Iterator.Consumers.{nth_from_yields_List}
-use Rattle.std.proofs.lemmas.Iterator.Splits.{YieldsList-from_slice_split}
+use Rattle.std.proofs.{Common.{rules, tests}, lemmas.Iterator.{Consumers.nth_from_yields_List, Splits.YieldsList-from_slice_split}}
 use Rattle.asm_text.proofs.words.nth_word.Goals as goal
 
 pub returns : goal.returns

@@ -1,5 +1,4 @@
-use Rattle.asm_text.specs.Words.{words}
-use Rattle.asm_text.proofs.WordLaws.{none_there}
+use Rattle.asm_text.{specs.Words.words, proofs.WordLaws.none_there}
 use Rattle.asm_text.proofs.words.word_at.Goals as goal
 
 pub returns-in-None : goal.returns-in-None

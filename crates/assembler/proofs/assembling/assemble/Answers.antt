@@ -1,6 +1,5 @@
 use Rattle.std.proofs.Common.{◌∙◌}
-use Rattle.assembler.proofs.ListingLaws.{draft_is, formed}
-use Rattle.assembler.proofs.AssembleLaws.{drafted_error, only_memory}
+use Rattle.assembler.proofs.{AssembleLaws.{drafted_error, only_memory}, ListingLaws.{draft_is, formed}}
 use Rattle.assembler.proofs.assembling.assemble.Goals as goal
 
 pub assembled-requires : goal.assembled-requires

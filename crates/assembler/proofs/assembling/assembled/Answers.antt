@@ -1,5 +1,4 @@
-use Rattle.std.proofs.Common.{refl, sym, subst}
-use Rattle.std.proofs.lemmas.Bool.Decides.{not_from_Decides}
+use Rattle.std.proofs.{Common.{refl, sym, subst}, lemmas.Bool.Decides.not_from_Decides}
 use Rattle.jvm_types.specs.declared.class_file.ClassFile.{ClassFile}
 use Rattle.asm_text.specs.ClassLines.{Lists}
 use Rattle.assembler.proofs.assembling.assembled.Goals as goal

@@ -1,9 +1,5 @@
-use Rattle.std.proofs.Common.{◌≡◌, ℕ, List, None, sym, subst, ◌∙◌, rules}
-use Rattle.std.specs.List.{position}
-use Rattle.std.specs.Prelude.{◌==◌}
-use Rattle.assembler.specs.Drafted.{IsNextPlace, IsLine}
-use Rattle.assembler.proofs.CutLaws.{cut_some, cut_none, whole_cut}
-use Rattle.assembler.proofs.TextLaws.{next_drafted, none_drafted, unformed_line, unformed_end}
+use Rattle.std.{proofs.Common.{◌≡◌, ℕ, List, None, sym, subst, ◌∙◌, rules, ◌==◌}, specs.List.position}
+use Rattle.assembler.{specs.Drafted.{IsNextPlace, IsLine}, proofs.{CutLaws.{cut_some, cut_none, whole_cut}, TextLaws.{next_drafted, none_drafted, unformed_line, unformed_end}}}
 use Rattle.assembler.proofs.assembling.read_draft.Goals as goal
 
 pub loop-end-init : goal.loop-end-init

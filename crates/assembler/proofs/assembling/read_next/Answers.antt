@@ -1,7 +1,5 @@
 use Rattle.std.proofs.Common.{◌≡◌, None, sym, subst, ◌∙◌, rules}
-use Rattle.asm_text.specs.Places.{place_after}
-use Rattle.asm_text.specs.declared.items.Item.{Item}
-use Rattle.asm_text.proofs.LineLaws.{same_said}
+use Rattle.asm_text.{specs.{Places.place_after, declared.items.Item.Item}, proofs.LineLaws.same_said}
 use Rattle.assembler.proofs.assembling.read_next.Goals as goal
 
 pub returns-in_default-after : goal.returns-in_default-after

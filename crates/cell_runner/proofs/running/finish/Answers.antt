@@ -1,7 +1,6 @@
 use Rattle.std.proofs.Common.{subst}
 use Rattle.solero_cell.specs.declared.views.Record.{Record}
-use Rattle.cell_runner.specs.HandsOfCell.{HasGathered}
-use Rattle.cell_runner.proofs.Reporting.{reported}
+use Rattle.cell_runner.{specs.HandsOfCell.HasGathered, proofs.Reporting.reported}
 use Rattle.cell_runner.proofs.running.finish.Goals as goal
 
 pub returns : goal.returns

@@ -1,6 +1,5 @@
 use Rattle.std.proofs.Common.{◌≡◌, ◌+◌, ◌-◌, ◌≤◌, ◌∷◌, [], ◌++◌, length, length-append, ap, subst, ◌∙◌, arith}
-use Rattle.cell_runner.specs.HandsOfCell.{HasGathered, IsShareLeft}
-use Rattle.cell_runner.proofs.Gathering.{front_worked, last_worked, one_more, one_more_left}
+use Rattle.cell_runner.{specs.HandsOfCell.{HasGathered, IsShareLeft}, proofs.Gathering.{front_worked, last_worked, one_more, one_more_left}}
 use Rattle.cell_runner.proofs.workers.run_workers.Goals as goal
 
 pub loop-hand-preserved : goal.loop-hand-preserved

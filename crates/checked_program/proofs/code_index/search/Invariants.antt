@@ -1,5 +1,4 @@
-use Rattle.std.proofs.Common.{◌≡◌, ◌+◌, drop}
-use Rattle.std.specs.Option.{option_map}
+use Rattle.std.{proofs.Common.{◌≡◌, ◌+◌, drop}, specs.Option.option_map}
 use Rattle.code_table.specs.PcTables.{number_at}
 use Rattle.checked_program.proofs.code_index.search.Given as goal
 

@@ -1,8 +1,5 @@
 use Rattle.std.proofs.Common.{◌≡◌, ◌∙◌, length, ap, sym, subst}
-use Rattle.checked_program.specs.Reach.{IsReach}
-use Rattle.checked_program.specs.MethodCalls.{size_found}
-use Rattle.checked_program.proofs.CalledMethods.{methods_few}
-use Rattle.checked_program.proofs.ReachedMethods.{reach_found}
+use Rattle.checked_program.{specs.{MethodCalls.size_found, Reach.IsReach}, proofs.{CalledMethods.methods_few, ReachedMethods.reach_found}}
 use Rattle.checked_program.proofs.reached_code.reach.Goals as goal
 
 pub reached_methods-requires-clause-few : goal.reached_methods-requires-clause-few

@@ -1,7 +1,5 @@
-use Rattle.std.proofs.Common.{◌≤◌, ◌+◌, suc, false, arith}
-use Rattle.std.specs.Prelude.{slice_get, slice_index_or}
-use Rattle.checked_program.specs.MethodCalls.{size_found, size_if}
-use Rattle.checked_program.proofs.ReachedMethods.{found_fits}
+use Rattle.std.proofs.Common.{◌≤◌, ◌+◌, suc, false, arith, slice_get, slice_index_or}
+use Rattle.checked_program.{specs.MethodCalls.{size_found, size_if}, proofs.ReachedMethods.found_fits}
 use Rattle.checked_program.proofs.reached_code.size_found.Goals as goal
 
 pub overflow_add-total : goal.overflow_add-total

@@ -1,8 +1,5 @@
-use Rattle.std.proofs.Common.{◌≡◌, ℕ, suc, ◌+◌, ◌-◌, ◌<◌, List, [], ◌∷◌, ◌++◌, length, replicate, ap, sym, ◌∙◌, arith, append_assoc}
-use Rattle.std.proofs.lemmas.List.{length_push}
-use Rattle.checked_program.specs.LockTags.{filled_tags}
-use Rattle.checked_program.specs.declared.tag.Tag.{Tag}
-use Rattle.checked_program.specs.declared.tag.Tag.TheVariants.{Untagged}
+use Rattle.std.proofs.{Common.{◌≡◌, ℕ, suc, ◌+◌, ◌-◌, ◌<◌, List, [], ◌∷◌, ◌++◌, length, replicate, ap, sym, ◌∙◌, arith, append_assoc}, lemmas.List.length_push}
+use Rattle.checked_program.specs.{LockTags.filled_tags, declared.tag.Tag.{Tag, TheVariants.Untagged}}
 use Rattle.checked_program.proofs.tag_locals.fill.Goals as goal
 
 fill_more : (n : ℕ) (tags : List Tag) → length tags < n → filled_tags n (tags ++ Untagged ∷ []) ≡ filled_tags n tags

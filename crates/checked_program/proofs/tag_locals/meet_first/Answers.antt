@@ -1,5 +1,4 @@
-use Rattle.std.proofs.Common.{◌∙◌, add-one}
-use Rattle.std.proofs.lemmas.List.{length-set}
+use Rattle.std.proofs.{Common.{◌∙◌, add-one}, lemmas.List.length-set}
 use Rattle.checked_program.proofs.FilledTags.{meet_more, told_more}
 use Rattle.checked_program.proofs.tag_locals.meet_first.Goals as goal
 

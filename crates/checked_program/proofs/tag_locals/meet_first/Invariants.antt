@@ -1,5 +1,4 @@
-use Rattle.std.proofs.Common.{◌≡◌, ◌++◌, not, take, drop, length}
-use Rattle.std.specs.Prelude.{◌||◌}
+use Rattle.std.proofs.Common.{◌≡◌, ◌++◌, not, take, drop, length, ◌||◌}
 use Rattle.checked_program.specs.LockTags.{same_tags, meet_tags}
 use Rattle.checked_program.proofs.tag_locals.meet_first.Given as goal
 

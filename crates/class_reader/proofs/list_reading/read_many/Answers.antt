@@ -1,6 +1,5 @@
 use Rattle.std.proofs.lemmas.Result.{err_from_is_err_and}
-use Rattle.jvm_types.specs.ReadingSteps.{many_at}
-use Rattle.jvm_types.proofs.LoopLaws.{many_more, many_done}
+use Rattle.jvm_types.{specs.ReadingSteps.many_at, proofs.LoopLaws.{many_more, many_done}}
 use Rattle.class_reader.proofs.StepLoops.{many_fails}
 use Rattle.class_reader.proofs.list_reading.read_many.Goals as goal
 

@@ -1,6 +1,5 @@
 use Rattle.std.proofs.Common.{◌≡◌, ◌-◌}
-use Rattle.jvm_types.specs.ReadingSteps.{many_at}
-use Rattle.jvm_types.proofs.LoopLaws.{with_front}
+use Rattle.jvm_types.{specs.ReadingSteps.many_at, proofs.LoopLaws.with_front}
 use Rattle.class_reader.proofs.list_reading.read_many.Given as goal
 
 abbrev pub invariant-loop : goal.invariant-loop

@@ -1,6 +1,5 @@
 use Rattle.std.proofs.lemmas.Result.{err_from_is_err_and}
-use Rattle.jvm_types.specs.ReadingPool.{entries_wanted}
-use Rattle.jvm_types.proofs.LoopLaws.{checks_more, checks_done}
+use Rattle.jvm_types.{specs.ReadingPool.entries_wanted, proofs.LoopLaws.{checks_more, checks_done}}
 use Rattle.class_reader.proofs.StepLoops.{checks_fail, at_index, within, passed}
 use Rattle.class_reader.proofs.pool_checks.check_entries.Goals as goal
 

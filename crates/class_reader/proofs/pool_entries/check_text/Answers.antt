@@ -1,6 +1,5 @@
 use Rattle.std.proofs.Common.{rules}
-use Rattle.jvm_types.specs.ReadingPool.{text_wanted}
-use Rattle.jvm_types.proofs.LoopLaws.{text_more, text_stops, text_done}
+use Rattle.jvm_types.{specs.ReadingPool.text_wanted, proofs.LoopLaws.{text_more, text_stops, text_done}}
 use Rattle.class_reader.proofs.pool_entries.check_text.Goals as goal
 
 pub returns-then-not-is_utf8_byte : goal.returns-then-not-is_utf8_byte

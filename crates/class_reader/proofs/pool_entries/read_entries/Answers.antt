@@ -1,7 +1,5 @@
-use Rattle.std.proofs.Common.{true}
-use Rattle.std.proofs.lemmas.Result.{err_from_is_err_and}
-use Rattle.jvm_types.specs.ReadingPool.{entries_at}
-use Rattle.jvm_types.proofs.LoopLaws.{entries_done}
+use Rattle.std.proofs.{Common.true, lemmas.Result.err_from_is_err_and}
+use Rattle.jvm_types.{specs.ReadingPool.entries_at, proofs.LoopLaws.entries_done}
 use Rattle.class_reader.proofs.StepLoops.{entries_step, entries_fail}
 use Rattle.class_reader.proofs.pool_entries.read_entries.Goals as goal
 

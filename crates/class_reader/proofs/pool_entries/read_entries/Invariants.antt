@@ -1,6 +1,5 @@
 use Rattle.std.proofs.Common.{◌≡◌, ◌-◌, true}
-use Rattle.jvm_types.specs.ReadingPool.{entries_at}
-use Rattle.jvm_types.proofs.LoopLaws.{with_front}
+use Rattle.jvm_types.{specs.ReadingPool.entries_at, proofs.LoopLaws.with_front}
 use Rattle.class_reader.proofs.pool_entries.read_entries.Given as goal
 
 abbrev pub invariant-loop : goal.invariant-loop

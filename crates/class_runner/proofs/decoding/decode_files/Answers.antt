@@ -1,7 +1,6 @@
 use Rattle.std.proofs.Common.{◌+◌, drop, subst}
 use Rattle.jvm_types.specs.Members.{declared_by, declared_methods}
-use Rattle.class_runner.specs.Stages.{AreDecodedSoFar}
-use Rattle.class_runner.proofs.MethodsDecoded.{ends, files_at}
+use Rattle.class_runner.{specs.Stages.AreDecodedSoFar, proofs.MethodsDecoded.{ends, files_at}}
 use Rattle.class_runner.proofs.decoding.decode_files.Goals as goal
 
 pub loop-file-preserved : goal.loop-file-preserved

@@ -1,9 +1,6 @@
-use Rattle.std.proofs.Common.{arith}
-use Rattle.std.proofs.lemmas.List.{length_push}
-use Rattle.std.proofs.lemmas.Result.{err_from_is_err_and}
+use Rattle.std.proofs.{Common.arith, lemmas.{List.length_push, Result.err_from_is_err_and}}
 use Rattle.checked_program.specs.Tagging.{IsTaggingOf, IsTagRefused}
-use Rattle.class_runner.proofs.MethodsFound.{method_next, class_ends}
-use Rattle.class_runner.proofs.MethodsTagged.{stops}
+use Rattle.class_runner.proofs.{MethodsFound.{method_next, class_ends}, MethodsTagged.stops}
 use Rattle.class_runner.proofs.tagging.tag_class.Goals as goal
 
 pub returns-in_err-tag_method-clause-refused : goal.returns-in_err-tag_method-clause-refused

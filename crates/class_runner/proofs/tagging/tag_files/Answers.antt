@@ -1,10 +1,7 @@
-use Rattle.std.proofs.Common.{List, ◌+◌, drop, subst, arith}
-use Rattle.std.proofs.lemmas.Result.{err_from_is_err_and}
+use Rattle.std.proofs.{Common.{List, ◌+◌, drop, subst, arith}, lemmas.Result.err_from_is_err_and}
 use Rattle.jvm_types.specs.Members.{Declared, declared_by, declared_methods}
-use Rattle.class_runner.specs.Stages.{AreTaggedSoFar}
-use Rattle.class_runner.proofs.MethodsDecoded.{files_at}
 use Rattle.checked_program.specs.Tagging.{IsTaggingOf, IsTagRefused}
-use Rattle.class_runner.proofs.MethodsFound.{ends, class_within, few_methods}
+use Rattle.class_runner.{specs.Stages.AreTaggedSoFar, proofs.{MethodsDecoded.files_at, MethodsFound.{ends, class_within, few_methods}}}
 use Rattle.class_runner.proofs.tagging.tag_files.Goals as goal
 
 pub tag_class-requires-clause-all : goal.tag_class-requires-clause-all

@@ -1,9 +1,6 @@
-use Rattle.std.proofs.Common.{arith}
-use Rattle.std.proofs.lemmas.List.{length_push}
-use Rattle.std.proofs.lemmas.Result.{err_from_is_err_and}
+use Rattle.std.proofs.{Common.arith, lemmas.{List.length_push, Result.err_from_is_err_and}}
 use Rattle.jvm_types.specs.Verifying.{IsTypingOf, IsRefused}
-use Rattle.class_runner.proofs.MethodsFound.{method_next, class_ends}
-use Rattle.class_runner.proofs.MethodsTyped.{stops}
+use Rattle.class_runner.proofs.{MethodsFound.{method_next, class_ends}, MethodsTyped.stops}
 use Rattle.class_runner.proofs.verifying.verify_class.Goals as goal
 
 pub returns-in_err-verify_method-clause-refused : goal.returns-in_err-verify_method-clause-refused

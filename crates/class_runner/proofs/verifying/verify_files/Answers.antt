@@ -1,10 +1,6 @@
-use Rattle.std.proofs.Common.{List, ◌+◌, drop, subst, arith}
-use Rattle.std.proofs.lemmas.Result.{err_from_is_err_and}
-use Rattle.jvm_types.specs.Members.{Declared, declared_by, declared_methods}
-use Rattle.class_runner.specs.Stages.{AreTypedSoFar}
-use Rattle.class_runner.proofs.MethodsDecoded.{files_at}
-use Rattle.jvm_types.specs.Verifying.{IsTypingOf, IsRefused}
-use Rattle.class_runner.proofs.MethodsFound.{ends, class_within, few_methods}
+use Rattle.std.proofs.{Common.{List, ◌+◌, drop, subst, arith}, lemmas.Result.err_from_is_err_and}
+use Rattle.jvm_types.specs.{Members.{Declared, declared_by, declared_methods}, Verifying.{IsTypingOf, IsRefused}}
+use Rattle.class_runner.{specs.Stages.AreTypedSoFar, proofs.{MethodsDecoded.files_at, MethodsFound.{ends, class_within, few_methods}}}
 use Rattle.class_runner.proofs.verifying.verify_files.Goals as goal
 
 pub verify_class-requires-clause-all : goal.verify_class-requires-clause-all

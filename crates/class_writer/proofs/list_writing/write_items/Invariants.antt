@@ -1,5 +1,4 @@
-use Rattle.std.proofs.Common.{◌≡◌, ◌++◌, take}
-use Rattle.std.specs.List.{AllByRecursion, flat_map}
+use Rattle.std.{proofs.Common.{◌≡◌, ◌++◌, take}, specs.List.{AllByRecursion, flat_map}}
 use Rattle.class_writer.proofs.list_writing.write_items.Given as goal
 
 abbrev pub invariant-loop-item : goal.invariant-loop-item

@@ -1,5 +1,4 @@
-use Rattle.std.proofs.Common.{◌≡◌, ◌∙◌, Some, None, arith}
-use Rattle.std.proofs.lemmas.Result.{err_from_is_err_and}
+use Rattle.std.proofs.{Common.{◌≡◌, ◌∙◌, Some, None, arith}, lemmas.Result.err_from_is_err_and}
 use Rattle.jvm_types.specs.CodeFault.{code_fault}
 use Rattle.code_decode.proofs.Deciding.{by_marks, is_code}
 use Rattle.code_decode.proofs.decoding.decode_slice.Goals as goal

@@ -1,5 +1,4 @@
-use Rattle.std.proofs.Common.{◌≡◌, true, drop, length-drop, arith}
-use Rattle.std.specs.Prelude.{int_lt}
+use Rattle.std.proofs.Common.{◌≡◌, true, drop, length-drop, arith, int_lt}
 use Rattle.jvm_types.specs.CodeFault.{s4_of}
 use Rattle.code_decode.proofs.Switching.{ascend_more}
 use Rattle.code_decode.proofs.switches.ascend.Goals as goal

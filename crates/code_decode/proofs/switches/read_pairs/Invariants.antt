@@ -1,6 +1,5 @@
 use Rattle.std.proofs.Common.{◌≡◌, ◌≤◌, ◌-◌, ◌*◌, ◌∷◌, ◌++◌, length}
-use Rattle.jvm_types.specs.CodeFault.{case_offsets}
-use Rattle.jvm_types.specs.ReadCode.{cases_of}
+use Rattle.jvm_types.specs.{CodeFault.case_offsets, ReadCode.cases_of}
 use Rattle.code_decode.proofs.switches.read_pairs.Given as goal
 
 abbrev pub invariant-loop : goal.invariant-loop

@@ -1,8 +1,5 @@
-use Rattle.std.proofs.Common.{◌≡◌, ℕ, ◌+◌, ◌-◌, ◌<◌, ◌≤◌, List, ◌∷◌, ◌++◌, length, map, drop, refl, ap, ◌∙◌, sym, arith}
-use Rattle.std.specs.Prelude.{slice_index_or}
-use Rattle.std.proofs.lemmas.List.{drop_more, drop_all}
-use Rattle.jvm_types.specs.CodeTable.{value_of}
-use Rattle.jvm_types.specs.declared.op_row.Given.{Given}
+use Rattle.std.proofs.{Common.{◌≡◌, ℕ, ◌+◌, ◌-◌, ◌<◌, ◌≤◌, List, ◌∷◌, ◌++◌, length, map, drop, refl, ap, ◌∙◌, sym, arith, slice_index_or}, lemmas.List.{drop_more, drop_all}}
+use Rattle.jvm_types.specs.{CodeTable.value_of, declared.op_row.Given.Given}
 use Rattle.code_table.proofs.row_moves.push_all.Goals as goal
 
 one_more : {A : Type 0} (v : Given → A) (gives : List Given) (i : ℕ) (d : Given) (base : List A) → 0 < i → i ≤ length gives

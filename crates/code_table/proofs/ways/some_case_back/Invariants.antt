@@ -1,6 +1,4 @@
-use Rattle.std.proofs.Common.{◌≡◌, map, drop}
-use Rattle.std.specs.Prelude.{nat_le}
-use Rattle.std.specs.List.{list_any}
+use Rattle.std.{proofs.Common.{◌≡◌, map, drop, nat_le}, specs.List.list_any}
 use Rattle.code_table.proofs.ways.some_case_back.Given as goal
 
 abbrev pub invariant-loop-case : goal.invariant-loop-case

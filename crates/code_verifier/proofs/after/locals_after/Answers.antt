@@ -1,7 +1,5 @@
 use Rattle.std.proofs.Common.{suc, ◌≤◌, min, length, ap, ◌∙◌, arith}
-use Rattle.jvm_types.specs.CodeTable.{locals_after}
-use Rattle.jvm_types.specs.Types.{filled}
-use Rattle.jvm_types.specs.declared.typing.VType.TheVariants.{Top}
+use Rattle.jvm_types.specs.{CodeTable.locals_after, Types.filled, declared.typing.VType.TheVariants.Top}
 use Rattle.code_verifier.proofs.FrameLaws.{local_written}
 use Rattle.code_verifier.proofs.after.locals_after.Goals as goal
 

@@ -1,5 +1,4 @@
-use Rattle.std.proofs.Common.{ap}
-use Rattle.std.specs.Prelude.{◌||◌}
+use Rattle.std.proofs.Common.{ap, ◌||◌}
 use Rattle.code_verifier.proofs.FrameLaws.{object_started}
 use Rattle.code_verifier.proofs.after.start.Goals as goal
 

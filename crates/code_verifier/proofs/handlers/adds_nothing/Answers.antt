@@ -1,6 +1,5 @@
 use Rattle.std.proofs.Common.{refl, sym}
-use Rattle.code_verifier.specs.Visiting.{with_object_stack}
-use Rattle.code_verifier.proofs.StayLaws.{adds_none}
+use Rattle.code_verifier.{specs.Visiting.with_object_stack, proofs.StayLaws.adds_none}
 use Rattle.code_verifier.proofs.handlers.adds_nothing.Goals as goal
 
 pub returns-in-Some-frame : goal.returns-in-Some-frame

@@ -1,5 +1,4 @@
-use Rattle.std.proofs.Common.{not, ap, ◌∙◌}
-use Rattle.std.specs.Prelude.{◌&&◌}
+use Rattle.std.proofs.Common.{not, ap, ◌∙◌, ◌&&◌}
 use Rattle.jvm_types.specs.Types.{same_type, all_pairs, meets}
 use Rattle.code_verifier.proofs.FrameLaws.{frames_met, frames_told}
 use Rattle.code_verifier.proofs.meeting.meet_frames.Goals as goal

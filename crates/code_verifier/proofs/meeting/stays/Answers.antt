@@ -1,5 +1,4 @@
-use Rattle.std.proofs.Common.{◌≡◌, ◌∙◌, length, sym, ap, arith}
-use Rattle.std.specs.Prelude.{slice_get}
+use Rattle.std.proofs.Common.{◌≡◌, ◌∙◌, length, sym, ap, arith, slice_get}
 use Rattle.code_verifier.proofs.StayLaws.{frame_stays}
 use Rattle.code_verifier.proofs.meeting.stays.Goals as goal
 

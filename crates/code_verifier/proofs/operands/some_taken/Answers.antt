@@ -1,6 +1,5 @@
 use Rattle.std.proofs.Common.{sym, ◌∙◌, add-one}
-use Rattle.code_verifier.specs.Faults.{has_fault}
-use Rattle.code_verifier.proofs.TakenLaws.{taken_past, taken_found, taken_more}
+use Rattle.code_verifier.{specs.Faults.has_fault, proofs.TakenLaws.{taken_past, taken_found, taken_more}}
 use Rattle.code_verifier.proofs.operands.some_taken.Goals as goal
 
 pub returns-then-has_fault : goal.returns-then-has_fault

@@ -1,8 +1,5 @@
-use Rattle.std.proofs.Common.{◌≡◌, ℕ, suc, ◌+◌, ◌-◌, ◌<◌, List, [], ◌∷◌, ◌++◌, length, replicate, ap, sym, ◌∙◌, arith, append_assoc}
-use Rattle.std.proofs.lemmas.List.{length_push}
-use Rattle.jvm_types.specs.Types.{filled}
-use Rattle.jvm_types.specs.declared.typing.VType.{VType}
-use Rattle.jvm_types.specs.declared.typing.VType.TheVariants.{Top}
+use Rattle.std.proofs.{Common.{◌≡◌, ℕ, suc, ◌+◌, ◌-◌, ◌<◌, List, [], ◌∷◌, ◌++◌, length, replicate, ap, sym, ◌∙◌, arith, append_assoc}, lemmas.List.length_push}
+use Rattle.jvm_types.specs.{Types.filled, declared.typing.VType.{VType, TheVariants.Top}}
 use Rattle.code_verifier.proofs.type_lists.fill.Goals as goal
 
 fill_more : (n : ℕ) (types : List VType) → length types < n → filled n (types ++ Top ∷ []) ≡ filled n types

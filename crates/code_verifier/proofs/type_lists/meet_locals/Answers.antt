@@ -1,5 +1,4 @@
-use Rattle.std.proofs.Common.{◌∙◌, add-one}
-use Rattle.std.proofs.lemmas.List.{length-set}
+use Rattle.std.proofs.{Common.{◌∙◌, add-one}, lemmas.List.length-set}
 use Rattle.code_verifier.proofs.TypeLists.{meets_more, changes_more}
 use Rattle.code_verifier.proofs.type_lists.meet_locals.Goals as goal
 

@@ -1,5 +1,4 @@
-use Rattle.std.proofs.Common.{◌≡◌, ◌++◌, not, take, drop, length}
-use Rattle.std.specs.Prelude.{◌||◌}
+use Rattle.std.proofs.Common.{◌≡◌, ◌++◌, not, take, drop, length, ◌||◌}
 use Rattle.jvm_types.specs.Types.{same_type, all_pairs, meets}
 use Rattle.code_verifier.proofs.type_lists.meet_stacks.Given as goal
 

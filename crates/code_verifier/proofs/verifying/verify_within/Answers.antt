@@ -1,12 +1,9 @@
-use Rattle.std.proofs.Common.{◌≡◌, [], take, Some, None, sym}
-use Rattle.std.specs.Prelude.{slice_get, IfOk, IfErr}
-use Rattle.jvm_types.specs.Verifying.{IsTypingOf}
-use Rattle.jvm_types.specs.declared.typing.Typing.{Typing}
-use Rattle.code_verifier.specs.declared.error.VerifyError.TheVariants.{Memory}
+use Rattle.std.proofs.Common.{◌≡◌, [], take, Some, None, sym, slice_get, IfOk, IfErr}
+use Rattle.jvm_types.specs.{Verifying.IsTypingOf, declared.typing.Typing.Typing}
 use Rattle.laws_programs.proofs.CodeOrder.{laid_out}
-use Rattle.code_verifier.proofs.OneAnswer.{only_by, typed_by}
-use Rattle.code_verifier.proofs.verifying.verify_within.Goals as goal
 use Rattle.code_visits.proofs.MethodsWithin.{is_there, some_and}
+use Rattle.code_verifier.{specs.declared.error.VerifyError.TheVariants.Memory, proofs.OneAnswer.{only_by, typed_by}}
+use Rattle.code_verifier.proofs.verifying.verify_within.Goals as goal
 
 pub verify_method-requires : goal.verify_method-requires
 verify_method-requires c = laid_out c.args.p.now (take c.args.method c.args.p.now.methods) c.in-Some.m.now (c.requires.program.methods c.args.method c.in-Some.m.now (sym c.in-Some.ensures.value))

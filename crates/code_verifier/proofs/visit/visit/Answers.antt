@@ -1,8 +1,5 @@
-use Rattle.std.proofs.Common.{Err, sym, ap, ◌∙◌}
-use Rattle.std.specs.Prelude.{slice_get}
-use Rattle.std.proofs.lemmas.Result.{err_from_is_err_and}
-use Rattle.jvm_types.specs.CodeTable.{row}
-use Rattle.jvm_types.specs.declared.program.MethodInfo.{MethodInfo}
+use Rattle.std.proofs.{Common.{Err, sym, ap, ◌∙◌, slice_get}, lemmas.Result.err_from_is_err_and}
+use Rattle.jvm_types.specs.{CodeTable.row, declared.program.MethodInfo.MethodInfo}
 use Rattle.code_verifier.proofs.VisitLaws.{after_wide, kept_wide, found_wide, prepared, unprepared, leaves_at}
 use Rattle.code_verifier.proofs.visit.visit.Goals as goal
 

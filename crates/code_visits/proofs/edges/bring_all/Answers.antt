@@ -1,8 +1,6 @@
-use Rattle.std.proofs.Common.{◌≡◌, ◌++◌, [], ◌∷◌, None, refl, sym, ap, ◌∙◌}
-use Rattle.std.proofs.lemmas.Result.{on_ok_weaker}
+use Rattle.std.proofs.{Common.{◌≡◌, ◌++◌, [], ◌∷◌, None, refl, sym, ap, ◌∙◌}, lemmas.Result.on_ok_weaker}
 use Rattle.checked_program.specs.Visits.{edge_brought, edges_brought, meeting_clash}
-use Rattle.code_visits.proofs.BroughtLaws.{level_brought, brought_last}
-use Rattle.code_visits.proofs.ClashLaws.{parts_none}
+use Rattle.code_visits.proofs.{BroughtLaws.{level_brought, brought_last}, ClashLaws.parts_none}
 use Rattle.code_visits.proofs.edges.bring_all.Goals as goal
 
 pub bring_each-requires-clause-apart : goal.bring_each-requires-clause-apart

@@ -1,11 +1,8 @@
-use Rattle.std.proofs.Common.{◌≡◌, ℕ, ◌+◌, ◌<◌, List, [], ◌∷◌, length, drop, Option, None, refl, sym, ap, ◌∙◌}
-use Rattle.std.specs.Prelude.{slice_index_or}
-use Rattle.std.proofs.lemmas.List.{drop_more}
+use Rattle.std.proofs.{Common.{◌≡◌, ℕ, ◌+◌, ◌<◌, List, [], ◌∷◌, length, drop, Option, None, refl, sym, ap, ◌∙◌, slice_index_or}, lemmas.List.drop_more}
 use Rattle.jvm_types.specs.declared.code.Insn.{Insn}
-use Rattle.checked_program.specs.Visits.{Meeting, PlanNode, edge_brought, edges_brought, meeting_clash}
 use Rattle.code_table.specs.PcTables.{Ascend}
-use Rattle.code_visits.proofs.BroughtLaws.{level_brought}
-use Rattle.code_visits.proofs.ClashLaws.{first_none, others_none, still_none}
+use Rattle.checked_program.specs.Visits.{Meeting, PlanNode, edge_brought, edges_brought, meeting_clash}
+use Rattle.code_visits.proofs.{BroughtLaws.level_brought, ClashLaws.{first_none, others_none, still_none}}
 use Rattle.code_visits.proofs.edges.bring_each.Goals as goal
 
 -- the edges that are left: the first clashes with none, and neither do the others

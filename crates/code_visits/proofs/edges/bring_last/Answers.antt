@@ -1,8 +1,6 @@
-use Rattle.std.proofs.Common.{◌≡◌, Some, None, sym, ap, ◌∙◌, arith}
-use Rattle.std.proofs.lemmas.Result.{on_ok_weaker}
+use Rattle.std.proofs.{Common.{◌≡◌, Some, None, sym, ap, ◌∙◌, arith}, lemmas.Result.on_ok_weaker}
 use Rattle.code_table.specs.PcTables.{number_at}
-use Rattle.code_visits.proofs.BroughtLaws.{at_place, brought_at, place_inside}
-use Rattle.code_visits.proofs.ClashLaws.{fits_at}
+use Rattle.code_visits.proofs.{BroughtLaws.{at_place, brought_at, place_inside}, ClashLaws.fits_at}
 use Rattle.code_visits.proofs.edges.bring_last.Goals as goal
 
 pub bring_last_to-requires-clause-inside : goal.bring_last_to-requires-clause-inside

@@ -1,11 +1,8 @@
-use Rattle.std.proofs.Common.{◌≡◌, ℕ, ◌+◌, ◌<◌, ◌≤◌, List, [], ◌∷◌, length, drop, Option, sym, ap, ◌∙◌}
-use Rattle.std.specs.Prelude.{slice_index_or}
-use Rattle.std.proofs.lemmas.List.{drop_more, drop_all}
+use Rattle.std.proofs.{Common.{◌≡◌, ℕ, ◌+◌, ◌<◌, ◌≤◌, List, [], ◌∷◌, length, drop, Option, sym, ap, ◌∙◌, slice_index_or}, lemmas.List.{drop_more, drop_all}}
 use Rattle.jvm_types.specs.declared.code.Insn.{Insn}
-use Rattle.checked_program.specs.Visits.{Meeting, PlanNode, meeting_clash}
 use Rattle.code_table.specs.PcTables.{Ascend}
-use Rattle.code_visits.specs.Analyses.{lesser}
-use Rattle.code_visits.proofs.ClashLaws.{clash_none, clash_more, lesser_assoc, lesser_none}
+use Rattle.checked_program.specs.Visits.{Meeting, PlanNode, meeting_clash}
+use Rattle.code_visits.{specs.Analyses.lesser, proofs.ClashLaws.{clash_none, clash_more, lesser_assoc, lesser_none}}
 use Rattle.code_visits.proofs.edges.clash.Goals as goal
 
 least_more : {A : Type 0} (d : Meeting A) (code : List Insn) (tos : List ℕ) (k : ℕ) (f : A) (nodes : List (PlanNode A)) (least one next whole : Option ℕ) → Ascend 0 code → k < length tos

@@ -1,10 +1,6 @@
-use Rattle.std.proofs.Common.{◌≡◌, ℕ, List, Option, Some, refl, sym, subst, ap, ◌∙◌}
-use Rattle.std.specs.Prelude.{slice_get, slice_set}
-use Rattle.std.proofs.lemmas.Result.{on_ok_weaker}
+use Rattle.std.proofs.{Common.{◌≡◌, ℕ, List, Option, Some, refl, sym, subst, ap, ◌∙◌, slice_get, slice_set}, lemmas.Result.on_ok_weaker}
 use Rattle.checked_program.specs.Visits.{Meeting, PlanNode}
-use Rattle.code_visits.specs.declared.nodes.StoredNode.{StoredNode}
-use Rattle.code_visits.specs.Waiting.{plan_node_at, node_is, waiting_numbers, met}
-use Rattle.code_visits.specs.Level.{IsAsWide}
+use Rattle.code_visits.specs.{Level.IsAsWide, Waiting.{plan_node_at, node_is, waiting_numbers, met}, declared.nodes.StoredNode.StoredNode}
 use Rattle.code_visits.proofs.WaitingLaws.{node_at_get, numbers_same, at_stored, set_stored}
 use Rattle.code_visits.proofs.nodes.meet_at.Goals as goal
 

@@ -1,9 +1,7 @@
-use Rattle.std.proofs.Common.{◌≡◌, ◌<◌, true, false, List, [], ◌∷◌, length, replicate, refl, ap, ◌∙◌, arith}
-use Rattle.std.specs.Prelude.{slice_set}
+use Rattle.std.proofs.Common.{◌≡◌, ◌<◌, true, false, List, [], ◌∷◌, length, replicate, refl, ap, ◌∙◌, arith, slice_set}
 use Rattle.jvm_types.specs.declared.code.Insn.{Insn}
 use Rattle.checked_program.specs.Visits.{unreached, joined}
-use Rattle.code_visits.specs.Waiting.{plan_node_at}
-use Rattle.code_visits.proofs.FirstNodes.{first_empty, first_entered}
+use Rattle.code_visits.{specs.Waiting.plan_node_at, proofs.FirstNodes.{first_empty, first_entered}}
 use Rattle.code_visits.proofs.visiting.first_nodes.Goals as goal
 
 some_code : (code : List Insn) → (code ≡ [] → false ≡ true) → 0 < length code

@@ -1,13 +1,7 @@
-use Rattle.std.proofs.Common.{◌≡◌, ℕ, false, List, Some, Ok, Err, sym, ◌∙◌}
-use Rattle.std.specs.Prelude.{slice_set}
-use Rattle.std.proofs.lemmas.Result.{err_from_is_err_and}
+use Rattle.std.proofs.{Common.{◌≡◌, ℕ, false, List, Some, Ok, Err, sym, ◌∙◌, slice_set}, lemmas.Result.err_from_is_err_and}
 use Rattle.checked_program.specs.Visits.{PlanNode, Plan, acted, acts_on, next_waiting, plan_visited}
 use Rattle.laws_sections.proofs.VisitAnswers.{Continues, continues_start, continues_more, settled, broken}
-use Rattle.code_visits.specs.Waiting.{plan_node_at}
-use Rattle.code_visits.specs.Analyses.{plan_of, Leaves, IsBreak}
-use Rattle.code_visits.specs.declared.stop.Stop.{Stop}
-use Rattle.code_visits.specs.declared.stop.Stop.TheVariants.{Memory, Refused}
-use Rattle.code_visits.proofs.ActLaws.{taken_visit}
+use Rattle.code_visits.{specs.{Analyses.{plan_of, Leaves, IsBreak}, Waiting.plan_node_at, declared.stop.Stop.{Stop, TheVariants.{Memory, Refused}}}, proofs.ActLaws.taken_visit}
 use Rattle.code_visits.proofs.visiting.settle.Goals as goal
 
 done : {A R : Type 0} (p : Plan A R) (now taken mid : List (PlanNode A)) (i : ℕ) → taken ≡ slice_set now i (record (plan_node_at now i) { waits = false })

@@ -1,6 +1,5 @@
 use Rattle.laws_sections.proofs.VisitAnswers.{Continues}
-use Rattle.code_visits.specs.Level.{AreLevel}
-use Rattle.code_visits.specs.Analyses.{plan_of}
+use Rattle.code_visits.specs.{Analyses.plan_of, Level.AreLevel}
 use Rattle.code_visits.proofs.visiting.settle.Given as goal
 
 abbrev pub invariant-loop-i : goal.invariant-loop-i

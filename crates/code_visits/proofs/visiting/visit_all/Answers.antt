@@ -1,5 +1,4 @@
-use Rattle.code_visits.specs.Analyses.{plan_of}
-use Rattle.code_visits.proofs.FirstNodes.{first_level}
+use Rattle.code_visits.{specs.Analyses.plan_of, proofs.FirstNodes.first_level}
 use Rattle.code_visits.proofs.visiting.visit_all.Goals as goal
 
 pub settle-requires-clause-level : goal.settle-requires-clause-level

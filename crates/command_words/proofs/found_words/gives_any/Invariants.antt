@@ -1,6 +1,4 @@
-use Rattle.std.proofs.Common.{◌≡◌, drop, map}
-use Rattle.std.specs.Prelude.{ℕ, List}
-use Rattle.std.specs.Borrow.{Bor}
+use Rattle.std.{proofs.Common.{◌≡◌, drop, map, ℕ, List}, specs.Borrow.Bor}
 use Rattle.clap.specs.Words.{found_of, rows_of}
 use Rattle.command_words.specs.Words.{gives_any}
 use Rattle.command_words.proofs.found_words.gives_any.Given as goal

@@ -1,6 +1,5 @@
 use Rattle.std.proofs.Common.{◌∙◌, codes}
-use Rattle.clap.specs.Words.{found_of}
-use Rattle.clap.proofs.WalkLemmas.{raw_values-rows}
+use Rattle.clap.{specs.Words.found_of, proofs.WalkLemmas.raw_values-rows}
 use Rattle.command_words.proofs.found_words.names.Goals as goal
 
 pub returns : goal.returns

@@ -1,6 +1,4 @@
-use Rattle.std.proofs.Common.{◌≡◌, ◌++◌, drop, length, map}
-use Rattle.std.specs.Prelude.{ℕ, List}
-use Rattle.std.specs.Borrow.{Bor}
+use Rattle.std.{proofs.Common.{◌≡◌, ◌++◌, drop, length, map, ℕ, List}, specs.Borrow.Bor}
 use Rattle.command_words.specs.Words.{texts}
 use Rattle.command_words.proofs.found_words.owned.Given as goal
 

@@ -1,6 +1,4 @@
-use Rattle.std.proofs.Common.{◌≡◌, drop, fold, map}
-use Rattle.std.specs.Prelude.{ℕ, List}
-use Rattle.std.specs.Borrow.{Bor}
+use Rattle.std.{proofs.Common.{◌≡◌, drop, fold, map, ℕ, List}, specs.Borrow.Bor}
 use Rattle.clap.specs.Simple.{app_of, new_app}
 use Rattle.command_words.specs.Words.{with_option}
 use Rattle.command_words.proofs.found_words.simple_command.Given as goal

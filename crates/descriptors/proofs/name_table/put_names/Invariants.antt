@@ -1,6 +1,4 @@
-use Rattle.std.proofs.Common.{◌≡◌, ℕ, ◌+◌, List, drop, bytes_eq}
-use Rattle.std.specs.Option.{option_or}
-use Rattle.std.specs.List.{position_from}
+use Rattle.std.{proofs.Common.{◌≡◌, ℕ, ◌+◌, List, drop, bytes_eq}, specs.{List.position_from, Option.option_or}}
 use Rattle.descriptors.specs.NameTables.{find, names_in}
 use Rattle.descriptors.proofs.name_table.put_names.Given as goal
 

@@ -1,6 +1,4 @@
-use Rattle.std.proofs.Common.{◌≡◌, false, take}
-use Rattle.std.specs.Prelude.{◌==◌}
-use Rattle.std.specs.List.{list_any}
+use Rattle.std.{proofs.Common.{◌≡◌, false, take, ◌==◌}, specs.List.list_any}
 use Rattle.descriptors.proofs.reading.cut_name.Given as goal
 
 abbrev pub invariant-loop-at : goal.invariant-loop-at

@@ -1,6 +1,5 @@
 use Rattle.std.proofs.Common.{◌<◌, ℕ, sym, subst}
-use Rattle.event_texts.specs.Acts.{DoingFits}
-use Rattle.event_texts.proofs.DoingActs.{doing_fits}
+use Rattle.event_texts.{specs.Acts.DoingFits, proofs.DoingActs.doing_fits}
 use Rattle.event_texts.proofs.acts.run_acts.Goals as goal
 
 pub doing_acts-requires : goal.doing_acts-requires

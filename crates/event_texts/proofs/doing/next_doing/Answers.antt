@@ -1,11 +1,8 @@
-use Rattle.std.proofs.Common.{◌≡◌, ◌<◌, ◌∙◌, sym, ap, Some, None, length, arith}
-use Rattle.std.specs.Prelude.{slice_get}
-use Rattle.std.specs.Option.{option_copied, option_map}
+use Rattle.std.{proofs.Common.{◌≡◌, ◌<◌, ◌∙◌, sym, ap, Some, None, length, arith, slice_get}, specs.Option.{option_copied, option_map}}
 use Rattle.checked_program.specs.CodeIndex.{number_in}
-use Rattle.frames.specs.FrameLists.{top}
 use Rattle.machine_types.specs.Effects.{effect}
-use Rattle.event_texts.specs.Doings.{doing_at}
-use Rattle.event_texts.proofs.TopByNumber.{both_there, no_insn, no_target, none_there}
+use Rattle.frames.specs.FrameLists.{top}
+use Rattle.event_texts.{specs.Doings.doing_at, proofs.TopByNumber.{both_there, no_insn, no_target, none_there}}
 use Rattle.event_texts.proofs.doing.next_doing.Goals as goal
 
 pub returns-in_default-number_at : goal.returns-in_default-number_at

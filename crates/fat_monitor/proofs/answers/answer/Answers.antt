@@ -1,7 +1,6 @@
 use Rattle.std.proofs.Common.{◌≤◌, sym, ap, subst, arith}
 use Rattle.machine_types.specs.declared.config.Config.{Config}
-use Rattle.fat_monitor.specs.Answering.{CanAnswer}
-use Rattle.fat_monitor.proofs.LawfulAnswers.{can_answer}
+use Rattle.fat_monitor.{specs.Answering.CanAnswer, proofs.LawfulAnswers.can_answer}
 use Rattle.fat_monitor.proofs.answers.answer.Goals as goal
 
 pub answer_in-requires-clause-can : goal.answer_in-requires-clause-can

@@ -1,6 +1,4 @@
-use Rattle.std.proofs.Common.{◌≡◌, ◌-◌}
-use Rattle.std.specs.Prelude.{find}
-use Rattle.std.specs.List.{range_with_len}
+use Rattle.std.{proofs.Common.{◌≡◌, ◌-◌, find}, specs.List.range_with_len}
 use Rattle.jvm_types.specs.Numbers.{has_flag}
 use Rattle.machine_types.specs.Monitors.{bit_of}
 use Rattle.fat_monitor.proofs.bits.lowest_of.Given as goal

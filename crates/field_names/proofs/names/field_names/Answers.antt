@@ -1,5 +1,4 @@
-use Rattle.std.proofs.Common.{◌<◌, ◌≡◌, ℕ, List, length, sym, ap, ◌∙◌, arith}
-use Rattle.std.specs.Prelude.{slice_index_or}
+use Rattle.std.proofs.Common.{◌<◌, ◌≡◌, ℕ, List, length, sym, ap, ◌∙◌, arith, slice_index_or}
 use Rattle.field_names.proofs.NamesSoFar.{one_more}
 use Rattle.field_names.proofs.names.field_names.Goals as goal
 

@@ -1,5 +1,4 @@
-use Rattle.std.proofs.Common.{◌≡◌, drop}
-use Rattle.std.specs.Prelude.{max}
+use Rattle.std.proofs.Common.{◌≡◌, drop, max}
 use Rattle.machine_types.specs.HeldMonitors.{most_held}
 use Rattle.frames.proofs.held.most_held.Given as goal
 

@@ -1,5 +1,4 @@
-use Rattle.std.proofs.Common.{◌+◌, ◌∙◌, get_or, arith}
-use Rattle.std.proofs.lemmas.List.{drop-set-lt, length-set}
+use Rattle.std.proofs.{Common.{◌+◌, ◌∙◌, get_or, arith}, lemmas.List.{drop-set-lt, length-set}}
 use Rattle.frames.proofs.LayLaws.{copied_more}
 use Rattle.frames.proofs.laying.copy_slots.Goals as goal
 

@@ -1,5 +1,4 @@
-use Rattle.std.proofs.Common.{◌+◌, ◌∙◌, arith}
-use Rattle.std.proofs.lemmas.List.{drop-set-lt, length-set}
+use Rattle.std.proofs.{Common.{◌+◌, ◌∙◌, arith}, lemmas.List.{drop-set-lt, length-set}}
 use Rattle.frames.proofs.LayLaws.{laid_more}
 use Rattle.frames.proofs.laying.lay.Goals as goal
 

@@ -1,5 +1,4 @@
-use Rattle.std.proofs.Common.{◌+◌, ◌∙◌, take, drop, arith}
-use Rattle.std.proofs.lemmas.List.{drop-set-lt, length-set}
+use Rattle.std.proofs.{Common.{◌+◌, ◌∙◌, take, drop, arith}, lemmas.List.{drop-set-lt, length-set}}
 use Rattle.frames.proofs.LayLaws.{laid_zero}
 use Rattle.frames.proofs.laying.zero_behind.Goals as goal
 

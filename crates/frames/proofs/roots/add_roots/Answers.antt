@@ -1,7 +1,5 @@
-use Rattle.std.proofs.Common.{sym, ap, ◌∙◌}
-use Rattle.std.specs.Option.{option_copied}
-use Rattle.frames.specs.RootLists.{is_root}
-use Rattle.frames.proofs.RootLaws.{numbers_step}
+use Rattle.std.{proofs.Common.{sym, ap, ◌∙◌}, specs.Option.option_copied}
+use Rattle.frames.{specs.RootLists.is_root, proofs.RootLaws.numbers_step}
 use Rattle.frames.proofs.roots.add_roots.Goals as goal
 
 pub loop-i-preserved : goal.loop-i-preserved

@@ -1,7 +1,6 @@
 use Rattle.std.proofs.Common.{◌≤◌, Bool, length, subst, below_more, arith}
 use Rattle.checked_program.specs.TaggedCode.{tagged_by}
-use Rattle.frozen_classes.specs.FrozenClasses.{KeepsIfInit, TellsOut}
-use Rattle.frozen_classes.proofs.ClassFlags.{all_kept}
+use Rattle.frozen_classes.{specs.FrozenClasses.{KeepsIfInit, TellsOut}, proofs.ClassFlags.all_kept}
 use Rattle.frozen_classes.proofs.class_flags.first_out.Goals as goal
 
 pub loop-u-preserved : goal.loop-u-preserved

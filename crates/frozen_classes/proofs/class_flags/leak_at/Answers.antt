@@ -1,5 +1,4 @@
-use Rattle.std.proofs.Common.{sym, ap, ◌∙◌}
-use Rattle.std.specs.Option.{option_copied}
+use Rattle.std.{proofs.Common.{sym, ap, ◌∙◌}, specs.Option.option_copied}
 use Rattle.laws_programs.proofs.CodeOrder.{methods_laid_out}
 use Rattle.frozen_classes.proofs.class_flags.leak_at.Goals as goal
 

@@ -1,5 +1,4 @@
-use Rattle.std.proofs.Common.{◌≡◌}
-use Rattle.std.specs.Prelude.{slice_get}
+use Rattle.std.proofs.Common.{◌≡◌, slice_get}
 use Rattle.frozen_classes.specs.KeptThis.{all_before, keeps_at}
 use Rattle.frozen_classes.proofs.insn_kept.keeps_each.Given as goal
 

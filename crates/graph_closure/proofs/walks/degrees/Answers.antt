@@ -1,8 +1,5 @@
-use Rattle.std.proofs.Common.{◌≡◌, ◌<◌, true, length, arith}
-use Rattle.std.specs.Prelude.{slice_index}
-use Rattle.std.proofs.lemmas.Grind.{get_or_default_zero}
-use Rattle.graph_closure.specs.LeastSet.{chosen}
-use Rattle.graph_closure.proofs.WalkLaws.{chosen_few}
+use Rattle.std.proofs.{Common.{◌≡◌, ◌<◌, true, length, arith, slice_index}, lemmas.Grind.get_or_default_zero}
+use Rattle.graph_closure.{specs.LeastSet.chosen, proofs.WalkLaws.chosen_few}
 use Rattle.graph_closure.proofs.walks.degrees.Goals as goal
 
 pub overflow_add-index_mut : goal.overflow_add-index_mut

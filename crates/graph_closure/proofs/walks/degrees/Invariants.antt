@@ -1,5 +1,4 @@
-use Rattle.std.proofs.Common.{◌≡◌, ℕ, ◌<◌, true, length}
-use Rattle.std.specs.Prelude.{slice_index}
+use Rattle.std.proofs.Common.{◌≡◌, ℕ, ◌<◌, true, length, slice_index}
 use Rattle.graph_closure.specs.LeastSet.{chosen}
 use Rattle.graph_closure.proofs.walks.degrees.Given as goal
 

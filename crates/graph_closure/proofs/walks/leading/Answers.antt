@@ -1,9 +1,5 @@
-use Rattle.std.proofs.Common.{◌≡◌, map, subst}
-use Rattle.std.specs.Prelude.{◌==◌}
-use Rattle.std.proofs.lemmas.Result.{IfOk-weaker}
-use Rattle.graph_closure.specs.LeastSet.{IsSpread}
-use Rattle.graph_closure.specs.Walks.{AreLeading}
-use Rattle.graph_closure.proofs.WalkLaws.{leads_shown}
+use Rattle.std.proofs.{Common.{◌≡◌, map, subst, ◌==◌}, lemmas.Result.IfOk-weaker}
+use Rattle.graph_closure.{specs.{LeastSet.IsSpread, Walks.AreLeading}, proofs.WalkLaws.leads_shown}
 use Rattle.graph_closure.proofs.walks.leading.Goals as goal
 
 pub returns : goal.returns

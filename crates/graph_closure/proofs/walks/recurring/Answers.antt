@@ -1,9 +1,5 @@
-use Rattle.std.proofs.Common.{◌≡◌, map, not, subst}
-use Rattle.std.specs.Prelude.{◌==◌}
-use Rattle.std.proofs.lemmas.Result.{IfOk-weaker}
-use Rattle.graph_closure.specs.LeastSet.{IsSpread}
-use Rattle.graph_closure.specs.Walks.{AreRecurring}
-use Rattle.graph_closure.proofs.WalkLaws.{cycles_shown}
+use Rattle.std.proofs.{Common.{◌≡◌, map, not, subst, ◌==◌}, lemmas.Result.IfOk-weaker}
+use Rattle.graph_closure.{specs.{LeastSet.IsSpread, Walks.AreRecurring}, proofs.WalkLaws.cycles_shown}
 use Rattle.graph_closure.proofs.walks.recurring.Goals as goal
 
 pub returns : goal.returns

@@ -1,5 +1,4 @@
-use Rattle.std.proofs.Common.{◌≡◌, map, take, not}
-use Rattle.std.specs.Prelude.{◌==◌}
+use Rattle.std.proofs.Common.{◌≡◌, map, take, not, ◌==◌}
 use Rattle.graph_closure.proofs.walks.with_need.Given as goal
 
 abbrev pub invariant-loop-n : goal.invariant-loop-n

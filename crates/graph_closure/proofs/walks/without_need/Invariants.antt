@@ -1,5 +1,4 @@
-use Rattle.std.proofs.Common.{◌≡◌, map, take}
-use Rattle.std.specs.Prelude.{◌==◌}
+use Rattle.std.proofs.Common.{◌≡◌, map, take, ◌==◌}
 use Rattle.graph_closure.proofs.walks.without_need.Given as goal
 
 abbrev pub invariant-loop-n : goal.invariant-loop-n

@@ -1,8 +1,7 @@
-use Rattle.std.proofs.Common.{◌+◌, sym, subst, ◌∙◌}
-use Rattle.std.specs.List.{range_with_len}
+use Rattle.std.{proofs.Common.{◌+◌, sym, subst, ◌∙◌}, specs.List.range_with_len}
+use Rattle.table_runner.proofs.SameHands.{of_still}
 use Rattle.green_runner.proofs.Passes.{MidPass, pass_on, turns_same}
 use Rattle.green_runner.proofs.passing.pass.Goals as goal
-use Rattle.table_runner.proofs.SameHands.{of_still}
 
 pub give_turn-live-requires-clause-table : goal.give_turn-live-requires-clause-table
 give_turn-live-requires-clause-table c =

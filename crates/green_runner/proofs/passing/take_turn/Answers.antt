@@ -1,8 +1,7 @@
 use Rattle.std.proofs.Common.{◌≡◌, suc, ◌+◌, sym, subst, ◌∙◌, arith}
-use Rattle.green_runner.specs.Passes.{MakeEvents}
-use Rattle.green_runner.proofs.Passes.{made_same, one_more}
-use Rattle.green_runner.proofs.passing.take_turn.Goals as goal
 use Rattle.table_runner.proofs.SameHands.{of_still}
+use Rattle.green_runner.{specs.Passes.MakeEvents, proofs.Passes.{made_same, one_more}}
+use Rattle.green_runner.proofs.passing.take_turn.Goals as goal
 
 pub event-requires-clause-table : goal.event-requires-clause-table
 event-requires-clause-table c =

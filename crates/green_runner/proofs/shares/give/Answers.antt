@@ -1,6 +1,5 @@
 use Rattle.std.proofs.Common.{subst, arith, ◌%◌, ◌<◌, mod-lt}
-use Rattle.table_runner.specs.Handed.{Handed}
-use Rattle.table_runner.specs.Sharing.{AreJoined}
+use Rattle.table_runner.specs.{Handed.Handed, Sharing.AreJoined}
 use Rattle.green_runner.proofs.SharedOut.{any_joined}
 use Rattle.green_runner.proofs.shares.give.Goals as goal
 

@@ -1,8 +1,7 @@
 use Rattle.std.proofs.Common.{◌+◌, List, sym, ap, subst, arith, length, drop}
 use Rattle.table_rule.specs.Views.{held_in}
 use Rattle.table_runner.specs.Handed.{Handed}
-use Rattle.green_runner.specs.Shares.{AreShared, AreTogether}
-use Rattle.green_runner.proofs.SharedOut.{all_together, shared_still, together_first}
+use Rattle.green_runner.{specs.Shares.{AreShared, AreTogether}, proofs.SharedOut.{all_together, shared_still, together_first}}
 use Rattle.green_runner.proofs.shares.run_apart.Goals as goal
 
 pub take_in-requires-clause-together : goal.take_in-requires-clause-together

@@ -1,8 +1,6 @@
 use Rattle.std.proofs.Common.{◌+◌, ◌<◌, ap, sym, subst, arith}
 use Rattle.table_rule.specs.Views.{held_in}
-use Rattle.table_runner.specs.Handed.{Handed}
-use Rattle.table_runner.specs.Running.{IsWorker, RestOf}
-use Rattle.table_runner.proofs.WorkerHands.{rest_split, worker_alone}
+use Rattle.table_runner.{specs.{Handed.Handed, Running.{IsWorker, RestOf}}, proofs.WorkerHands.{rest_split, worker_alone}}
 use Rattle.green_runner.proofs.SharedOut.{shared_more}
 use Rattle.green_runner.proofs.shares.share_out.Goals as goal
 

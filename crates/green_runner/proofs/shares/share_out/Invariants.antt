@@ -1,8 +1,6 @@
-use Rattle.std.proofs.Common.{◌+◌, ◌<◌, ◌≤◌, length}
-use Rattle.std.specs.List.{All}
+use Rattle.std.{proofs.Common.{◌+◌, ◌<◌, ◌≤◌, length}, specs.List.All}
 use Rattle.table_rule.specs.Views.{held_in}
-use Rattle.table_runner.specs.Handed.{IsTableOf}
-use Rattle.table_runner.specs.Running.{RestOf}
+use Rattle.table_runner.specs.{Handed.IsTableOf, Running.RestOf}
 use Rattle.green_runner.specs.Shares.{AreShared}
 use Rattle.green_runner.proofs.shares.share_out.Given as goal
 

@@ -1,5 +1,4 @@
-use Rattle.std.proofs.Common.{◌≡◌, length}
-use Rattle.std.specs.List.{All}
+use Rattle.std.{proofs.Common.{◌≡◌, length}, specs.List.All}
 use Rattle.table_rule.specs.Views.{held_in}
 use Rattle.table_runner.specs.Handed.{IsTableOf}
 use Rattle.green_runner.specs.Shares.{AreTogether}

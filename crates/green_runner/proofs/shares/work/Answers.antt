@@ -1,5 +1,4 @@
-use Rattle.std.proofs.Common.{◌+◌}
-use Rattle.std.specs.List.{range_with_len}
+use Rattle.std.{proofs.Common.{◌+◌}, specs.List.range_with_len}
 use Rattle.green_runner.proofs.Passes.{same_both, turns_same}
 use Rattle.green_runner.proofs.shares.work.Goals as goal
 

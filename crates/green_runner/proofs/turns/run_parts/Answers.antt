@@ -1,6 +1,5 @@
 use Rattle.std.proofs.Common.{sym, ◌∙◌}
-use Rattle.green_runner.specs.Turns.{rounds}
-use Rattle.green_runner.proofs.Turning.{init_alone, init_first}
+use Rattle.green_runner.{specs.Turns.rounds, proofs.Turning.{init_alone, init_first}}
 use Rattle.green_runner.proofs.turns.run_parts.Goals as goal
 
 pub returns-then-next : goal.returns-then-next

@@ -1,7 +1,6 @@
 use Rattle.std.proofs.Common.{ℕ}
 use Rattle.laws_states.specs.WorkLeft.{all_work}
-use Rattle.green_runner.specs.Turning.{IsLedByOrder}
-use Rattle.green_runner.specs.Turns.{rounds}
+use Rattle.green_runner.specs.{Turning.IsLedByOrder, Turns.rounds}
 use Rattle.green_runner.proofs.turns.run_rounds.Given as goal
 
 abbrev pub invariant-loop : goal.invariant-loop

@@ -1,5 +1,4 @@
-use Rattle.green_runner.specs.Turns.{rounds}
-use Rattle.green_runner.proofs.Turning.{workers_ran}
+use Rattle.green_runner.{specs.Turns.rounds, proofs.Turning.workers_ran}
 use Rattle.green_runner.proofs.turns.run_workers.Goals as goal
 
 pub returns : goal.returns

@@ -1,6 +1,5 @@
 use Rattle.std.proofs.Common.{◌<◌, ◌≤◌, length, sym, subst, arith}
-use Rattle.guard_analysis.specs.BlockWalks.{Walked}
-use Rattle.guard_analysis.proofs.BlockWalkLaws.{walk_begins, goes_on_shown, ends_shown, explored}
+use Rattle.guard_analysis.{specs.BlockWalks.Walked, proofs.BlockWalkLaws.{walk_begins, goes_on_shown, ends_shown, explored}}
 use Rattle.guard_analysis.proofs.block_walk.explore.Goals as goal
 
 pub loop-k-init : goal.loop-k-init

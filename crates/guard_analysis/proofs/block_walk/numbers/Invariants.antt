@@ -1,5 +1,4 @@
-use Rattle.std.proofs.Common.{◌≡◌, ◌++◌, drop}
-use Rattle.std.specs.List.{filter_map}
+use Rattle.std.{proofs.Common.{◌≡◌, ◌++◌, drop}, specs.List.filter_map}
 use Rattle.code_table.specs.PcTables.{number_at}
 use Rattle.guard_analysis.proofs.block_walk.numbers.Given as goal
 

@@ -1,5 +1,4 @@
-use Rattle.std.proofs.Common.{◌≡◌, drop}
-use Rattle.std.specs.List.{list_any}
+use Rattle.std.{proofs.Common.{◌≡◌, drop}, specs.List.list_any}
 use Rattle.checked_program.specs.LockTags.{is_this}
 use Rattle.guard_analysis.proofs.field_uses.holds_this.Given as goal
 

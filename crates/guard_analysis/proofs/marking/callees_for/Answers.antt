@@ -1,8 +1,6 @@
-use Rattle.std.proofs.Common.{◌≡◌, ◌∙◌, true, sym}
-use Rattle.std.proofs.lemmas.Result.{IfOk-weaker}
-use Rattle.guard_analysis.proofs.CalleesFound.{fits_method, no_class_lock}
+use Rattle.std.proofs.{Common.{◌≡◌, ◌∙◌, true, sym}, lemmas.Result.IfOk-weaker}
+use Rattle.guard_analysis.proofs.{CalleesFound.{fits_method, no_class_lock}, marking.callees_for.Goals.{else-locks_class-via-then-locks_class+else-m-callees, else-locks_class-via-else-locks_class}}
 use Rattle.guard_analysis.proofs.marking.callees_for.Goals as goal
-use Rattle.guard_analysis.proofs.marking.callees_for.Goals.{else-locks_class-via-then-locks_class+else-m-callees, else-locks_class-via-else-locks_class}
 
 pub returns-then-m-callees-clause-fits : goal.returns-then-m-callees-clause-fits
 returns-then-m-callees-clause-fits c = IfOk-weaker c.of.result _ _ (λ k same. fits_method k.class c.args.m.now (λ locks static. sym same)) c.of.ensures.class

@@ -1,5 +1,4 @@
-use Rattle.std.proofs.Common.{◌≡◌}
-use Rattle.std.specs.Prelude.{slice_index}
+use Rattle.std.proofs.Common.{◌≡◌, slice_index}
 use Rattle.guard_analysis.specs.SectionGrades.{earliest_before}
 use Rattle.guard_analysis.proofs.marking.earliest.Given as goal
 

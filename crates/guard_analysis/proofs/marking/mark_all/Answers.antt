@@ -1,8 +1,6 @@
-use Rattle.std.proofs.Common.{◌≡◌, ◌<◌, ◌≤◌, ◌∙◌, length, ap, refl, arith, Some, get_or}
-use Rattle.std.specs.Prelude.{slice_get}
-use Rattle.std.proofs.lemmas.Option.{slice_get_read}
-use Rattle.checked_program.specs.TaggedCode.{tagged_by}
+use Rattle.std.proofs.{Common.{◌≡◌, ◌<◌, ◌≤◌, ◌∙◌, length, ap, refl, arith, Some, get_or, slice_get}, lemmas.Option.slice_get_read}
 use Rattle.laws_programs.proofs.CodeOrder.{methods_laid_out}
+use Rattle.checked_program.specs.TaggedCode.{tagged_by}
 use Rattle.guard_analysis.proofs.MarkLists.{methods_go_on, methods_end}
 use Rattle.guard_analysis.proofs.marking.mark_all.Goals as goal
 

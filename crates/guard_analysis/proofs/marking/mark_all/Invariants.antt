@@ -1,8 +1,6 @@
 use Rattle.std.proofs.Common.{drop}
-use Rattle.checked_program.specs.TaggedCode.{tagged_by}
-use Rattle.checked_program.specs.Sections.{sections, sections_from}
-use Rattle.guard_analysis.specs.Faults.{AreCallees}
-use Rattle.guard_analysis.specs.SectionGrades.{Continues}
+use Rattle.checked_program.specs.{Sections.{sections, sections_from}, TaggedCode.tagged_by}
+use Rattle.guard_analysis.specs.{Faults.AreCallees, SectionGrades.Continues}
 use Rattle.guard_analysis.proofs.marking.mark_all.Given as goal
 
 abbrev pub invariant-loop-u : goal.invariant-loop-u

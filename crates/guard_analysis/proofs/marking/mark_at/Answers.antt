@@ -1,8 +1,6 @@
-use Rattle.std.proofs.Common.{◌≡◌, ◌∙◌, ap, sym, Some}
-use Rattle.std.specs.Prelude.{slice_get}
+use Rattle.std.proofs.Common.{◌≡◌, ◌∙◌, ap, sym, Some, slice_get}
 use Rattle.checked_program.specs.TaggedCode.{tagged_by}
-use Rattle.guard_analysis.proofs.BlockMarks.{block_marked}
-use Rattle.guard_analysis.proofs.MarkLists.{marks_block}
+use Rattle.guard_analysis.proofs.{BlockMarks.block_marked, MarkLists.marks_block}
 use Rattle.guard_analysis.proofs.marking.mark_at.Goals as goal
 
 pub returns-in_ok-push-in-Monitorenter-clause-marks : goal.returns-in_ok-push-in-Monitorenter-clause-marks

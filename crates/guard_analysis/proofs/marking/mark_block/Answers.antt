@@ -1,6 +1,5 @@
 use Rattle.std.proofs.Common.{◌∙◌, ap}
-use Rattle.guard_analysis.specs.SectionGrades.{entry_depth_at}
-use Rattle.guard_analysis.proofs.MarkLists.{explored_mark}
+use Rattle.guard_analysis.{specs.SectionGrades.entry_depth_at, proofs.MarkLists.explored_mark}
 use Rattle.guard_analysis.proofs.marking.mark_block.Goals as goal
 
 pub returns-in_ok-explore-in-Some-clause-mark : goal.returns-in_ok-explore-in-Some-clause-mark

@@ -1,6 +1,5 @@
 use Rattle.checked_program.proofs.CalledMethods.{methods_few}
-use Rattle.guard_analysis.proofs.GraphBounds.{is_graph}
-use Rattle.guard_analysis.proofs.MarkLists.{taggings_long}
+use Rattle.guard_analysis.proofs.{GraphBounds.is_graph, MarkLists.taggings_long}
 use Rattle.guard_analysis.proofs.marking.mark_by_uses.Goals as goal
 
 pub mark_all-requires-clause-few : goal.mark_all-requires-clause-few

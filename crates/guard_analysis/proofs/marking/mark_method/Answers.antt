@@ -1,10 +1,6 @@
-use Rattle.std.proofs.Common.{◌∙◌, sym, subst}
-use Rattle.std.proofs.lemmas.Result.{on_ok_weaker}
-use Rattle.checked_program.specs.TaggedCode.{tagged_by}
-use Rattle.checked_program.specs.declared.section.Mode.TheVariants.{OnThis}
-use Rattle.guard_analysis.specs.SectionGrades.{AreGrades}
-use Rattle.guard_analysis.proofs.Grading.{are_grades}
-use Rattle.guard_analysis.proofs.MarkLists.{both_marked_in}
+use Rattle.std.proofs.{Common.{◌∙◌, sym, subst}, lemmas.Result.on_ok_weaker}
+use Rattle.checked_program.specs.{TaggedCode.tagged_by, declared.section.Mode.TheVariants.OnThis}
+use Rattle.guard_analysis.{specs.SectionGrades.AreGrades, proofs.{Grading.are_grades, MarkLists.both_marked_in}}
 use Rattle.guard_analysis.proofs.marking.mark_method.Goals as goal
 
 pub mark_blocks-requires-clause-grades : goal.mark_blocks-requires-clause-grades

@@ -1,14 +1,7 @@
 use Rattle.std.proofs.Common.{◌≡◌, ◌∙◌, true, sym, subst}
 use Rattle.jvm_types.specs.Members.{is_synchronized}
-use Rattle.checked_program.specs.TaggedCode.{tagged_by}
-use Rattle.checked_program.specs.Marks.{IsMarkOf}
-use Rattle.checked_program.specs.declared.section.Mode.{Mode}
-use Rattle.checked_program.specs.declared.section.Spot.TheVariants.{Method}
-use Rattle.guard_analysis.specs.Faults.{IsModeFor}
-use Rattle.guard_analysis.specs.SectionGrades.{section_in, AreGrades}
-use Rattle.guard_analysis.proofs.Grading.{are_grades}
-use Rattle.guard_analysis.proofs.SectionMarks.{whole_marked}
-use Rattle.guard_analysis.proofs.MarkLists.{marks_whole}
+use Rattle.checked_program.specs.{Marks.IsMarkOf, TaggedCode.tagged_by, declared.section.{Mode.Mode, Spot.TheVariants.Method}}
+use Rattle.guard_analysis.{specs.{Faults.IsModeFor, SectionGrades.{section_in, AreGrades}}, proofs.{Grading.are_grades, MarkLists.marks_whole, SectionMarks.whole_marked}}
 use Rattle.guard_analysis.proofs.marking.mark_whole.Goals as goal
 
 pub returns-in_ok-push : goal.returns-in_ok-push

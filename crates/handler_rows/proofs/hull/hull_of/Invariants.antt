@@ -1,5 +1,4 @@
-use Rattle.std.proofs.Common.{◌≡◌, take, length}
-use Rattle.std.specs.List.{AllByRecursion}
+use Rattle.std.{proofs.Common.{◌≡◌, take, length}, specs.List.AllByRecursion}
 use Rattle.handler_rows.specs.Hulls.{IsWithin}
 use Rattle.handler_rows.proofs.hull.hull_of.Given as goal
 

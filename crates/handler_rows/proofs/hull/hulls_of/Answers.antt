@@ -1,5 +1,4 @@
-use Rattle.std.proofs.Common.{◌∷◌, []}
-use Rattle.std.proofs.lemmas.List.{append_assoc, append-nil, drop_all}
+use Rattle.std.proofs.{Common.{◌∷◌, []}, lemmas.List.{append_assoc, append-nil, drop_all}}
 use Rattle.handler_rows.proofs.HullLaws.{hull_before}
 use Rattle.handler_rows.proofs.hull.hulls_of.Goals as goal
 

@@ -1,6 +1,5 @@
 use Rattle.std.proofs.Common.{List, drop, ◌++◌}
-use Rattle.handler_rows.specs.declared.hull.Hull.{Hull}
-use Rattle.handler_rows.specs.Hulls.{AreHulls}
+use Rattle.handler_rows.specs.{Hulls.AreHulls, declared.hull.Hull.Hull}
 use Rattle.handler_rows.proofs.hull.hulls_of.Given as goal
 
 abbrev pub invariant-loop-k : goal.invariant-loop-k

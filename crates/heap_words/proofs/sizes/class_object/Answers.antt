@@ -1,7 +1,5 @@
 use Rattle.std.proofs.Common.{◌≤◌, List, subst, sym}
-use Rattle.jvm_types.specs.ProgramInvariant.{statics_among}
-use Rattle.jvm_types.specs.declared.limits.TheConstants.{MOST_HEAP}
-use Rattle.jvm_types.specs.declared.program.FieldInfo.{FieldInfo}
+use Rattle.jvm_types.specs.{ProgramInvariant.statics_among, declared.{limits.TheConstants.MOST_HEAP, program.FieldInfo.FieldInfo}}
 use Rattle.checked_program.proofs.FewStatics.{few_statics}
 use Rattle.heap_words.proofs.sizes.class_object.Goals as goal
 

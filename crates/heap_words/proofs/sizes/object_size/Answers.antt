@@ -1,6 +1,5 @@
 use Rattle.std.proofs.Common.{◌<◌, List, subst, sym, arith}
-use Rattle.jvm_types.specs.ProgramInvariant.{instances_among}
-use Rattle.jvm_types.specs.declared.program.FieldInfo.{FieldInfo}
+use Rattle.jvm_types.specs.{ProgramInvariant.instances_among, declared.program.FieldInfo.FieldInfo}
 use Rattle.checked_program.proofs.FewFields.{few_fields}
 use Rattle.heap_words.proofs.sizes.object_size.Goals as goal
 

@@ -1,6 +1,5 @@
 use Rattle.std.proofs.Common.{subst, sym}
-use Rattle.history_rule.specs.Small.{IsSmall}
-use Rattle.history_rule.proofs.SmallSteps.{start_small}
+use Rattle.history_rule.{specs.Small.IsSmall, proofs.SmallSteps.start_small}
 use Rattle.history_rule.proofs.plain.plain_start.Goals as goal
 
 pub invariant_of-result : goal.invariant_of-result

@@ -1,5 +1,4 @@
-use Rattle.std.proofs.Common.{◌-◌, ◌≤◌, length}
-use Rattle.std.specs.Io.KnownBytes.{Consumes}
+use Rattle.std.{proofs.Common.{◌-◌, ◌≤◌, length}, specs.Io.KnownBytes.Consumes}
 use Rattle.host_io.proofs.adapters.read_within.Given as goal
 
 -- the content is what the reader has given, and no longer than the limit

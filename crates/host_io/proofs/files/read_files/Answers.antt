@@ -1,10 +1,6 @@
-use Rattle.std.proofs.Common.{◌≡◌, ◌+◌, ◌∷◌, drop, Err, sym, ap, subst, ◌∙◌}
-use Rattle.std.proofs.lemmas.List.{drop_more}
-use Rattle.std.specs.Prelude.{string_bytes}
-use Rattle.host_io.specs.Reading.{FailsWhereTold}
-use Rattle.host_io.specs.Shelf.{IsRead}
+use Rattle.std.proofs.{Common.{◌≡◌, ◌+◌, ◌∷◌, drop, Err, sym, ap, subst, ◌∙◌, string_bytes}, lemmas.List.drop_more}
 use Rattle.jvm_types.specs.declared.limits.TheConstants.{MOST_FILE_BYTES}
-use Rattle.host_io.proofs.SoFar.{next_unread, texts}
+use Rattle.host_io.{specs.{Reading.FailsWhereTold, Shelf.IsRead}, proofs.SoFar.{next_unread, texts}}
 use Rattle.host_io.proofs.files.read_files.Goals as goal
 
 pub returns-in-Err-clause-err : goal.returns-in-Err-clause-err

@@ -1,5 +1,4 @@
-use Rattle.std.proofs.Common.{◌∙◌}
-use Rattle.std.proofs.lemmas.List.{take_rest}
+use Rattle.std.proofs.{Common.{◌∙◌}, lemmas.List.take_rest}
 use Rattle.host_io.proofs.WrittenFronts.{front_more, within_more}
 use Rattle.host_io.proofs.writing.write_whole.Goals as goal
 

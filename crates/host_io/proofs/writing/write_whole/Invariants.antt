@@ -1,5 +1,4 @@
-use Rattle.std.proofs.Common.{length, ◌-◌, ◌≡◌, ◌≤◌, ◌++◌, take}
-use Rattle.std.specs.Option.{option_map}
+use Rattle.std.{proofs.Common.{length, ◌-◌, ◌≡◌, ◌≤◌, ◌++◌, take}, specs.Option.option_map}
 use Rattle.host_io.proofs.writing.write_whole.Given as goal
 
 -- the front that was written has been accepted, and no fault was counted

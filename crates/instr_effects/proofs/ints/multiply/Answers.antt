@@ -1,5 +1,4 @@
-use Rattle.std.proofs.Common.{ℕ, ◌*◌, ◌^◌, sym, ap, ◌∙◌}
-use Rattle.std.proofs.lemmas.Nat.{mul-mod}
+use Rattle.std.proofs.{Common.{ℕ, ◌*◌, ◌^◌, sym, ap, ◌∙◌}, lemmas.Nat.mul-mod}
 use Rattle.machine_types.specs.Ints.{low}
 use Rattle.instr_effects.proofs.ints.multiply.Goals as goal
 

@@ -1,5 +1,4 @@
-use Rattle.std.proofs.Common.{ℕ, ◌*◌, ◌%◌, ◌^◌, ap, ◌∙◌}
-use Rattle.std.proofs.lemmas.Nat.{mul-mod_first}
+use Rattle.std.proofs.{Common.{ℕ, ◌*◌, ◌%◌, ◌^◌, ap, ◌∙◌}, lemmas.Nat.mul-mod_first}
 use Rattle.machine_types.specs.Ints.{low, shift_of}
 use Rattle.instr_effects.proofs.ints.shift_left.Goals as goal
 

@@ -1,10 +1,8 @@
 use Rattle.std.proofs.Common.{List, ap, sym, subst, ◌∙◌}
-use Rattle.jvm_types.specs.declared.code.Case.{Case}
-use Rattle.jvm_types.specs.declared.code.Insn.{Insn}
-use Rattle.jvm_types.specs.declared.code.Op.{Op}
+use Rattle.jvm_types.specs.declared.code.{Case.Case, Insn.Insn, Op.Op}
 use Rattle.machine_types.specs.Effects.{effect}
-use Rattle.frames.specs.FrameLists.{top}
 use Rattle.instr_effects.specs.SwitchKeys.{AreKeys}
+use Rattle.frames.specs.FrameLists.{top}
 use Rattle.instr_steps.proofs.SwitchKeys.{switch_keys}
 use Rattle.instr_steps.proofs.effecting.effect_here.Goals as goal
 

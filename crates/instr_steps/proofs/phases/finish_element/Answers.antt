@@ -1,6 +1,5 @@
 use Rattle.std.proofs.Common.{sym, ◌∙◌}
-use Rattle.instr_steps.proofs.PhasesReady.{in_element}
-use Rattle.instr_steps.proofs.Ready.{goes_from, top_found}
+use Rattle.instr_steps.proofs.{PhasesReady.in_element, Ready.{goes_from, top_found}}
 use Rattle.instr_steps.proofs.phases.finish_element.Goals as goal
 
 pub place_of-place-requires : goal.place_of-place-requires

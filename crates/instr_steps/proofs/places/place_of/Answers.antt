@@ -1,6 +1,4 @@
-use Rattle.std.proofs.Common.{sym, ◌∙◌}
-use Rattle.std.specs.Prelude.{slice_index_or}
-use Rattle.std.proofs.lemmas.Option.{slice_get-get_or}
+use Rattle.std.proofs.{Common.{sym, ◌∙◌, slice_index_or}, lemmas.Option.slice_get-get_or}
 use Rattle.jvm_types.specs.declared.program.Target.TheVariants.{Nothing}
 use Rattle.instr_steps.proofs.TopPlaces.{placed, numbers_within, number_some}
 use Rattle.instr_steps.proofs.places.place_of.Goals as goal

@@ -1,6 +1,5 @@
 use Rattle.std.proofs.Common.{◌≡◌, drop}
-use Rattle.jvm_types.specs.ClassGrammar.{codes_of}
-use Rattle.jvm_types.specs.Linked.{code_of}
+use Rattle.jvm_types.specs.{ClassGrammar.codes_of, Linked.code_of}
 use Rattle.jvm_types.proofs.code_attribute.code_of.Given as goal
 
 abbrev pub invariant-loop-attr : goal.invariant-loop-attr

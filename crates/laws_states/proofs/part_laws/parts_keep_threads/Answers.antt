@@ -1,5 +1,4 @@
-use Rattle.laws_states.proofs.NextThreads.{next_threads_are}
-use Rattle.laws_states.proofs.StartThreads.{start_threads}
+use Rattle.laws_states.proofs.{NextThreads.next_threads_are, StartThreads.start_threads}
 use Rattle.laws_states.proofs.part_laws.parts_keep_threads.Goals as goal
 
 pub returns : goal.returns

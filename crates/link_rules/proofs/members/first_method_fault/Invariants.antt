@@ -1,6 +1,5 @@
 use Rattle.std.proofs.Common.{◌≡◌, drop}
-use Rattle.jvm_types.specs.ClassNames.{class_names}
-use Rattle.jvm_types.specs.LinkFaults.{first_from, method_fault}
+use Rattle.jvm_types.specs.{ClassNames.class_names, LinkFaults.{first_from, method_fault}}
 use Rattle.link_rules.proofs.members.first_method_fault.Given as goal
 
 abbrev pub invariant-loop-number : goal.invariant-loop-number

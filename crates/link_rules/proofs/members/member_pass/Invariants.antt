@@ -1,6 +1,5 @@
 use Rattle.std.proofs.Common.{◌≡◌, drop}
-use Rattle.jvm_types.specs.ClassNames.{class_names}
-use Rattle.jvm_types.specs.LinkFaults.{first_from, members_fault, member_pass}
+use Rattle.jvm_types.specs.{ClassNames.class_names, LinkFaults.{first_from, members_fault, member_pass}}
 use Rattle.link_rules.proofs.members.member_pass.Given as goal
 
 abbrev pub invariant-loop-number : goal.invariant-loop-number

@@ -1,7 +1,5 @@
-use Rattle.std.proofs.Common.{◌≡◌, drop}
-use Rattle.std.specs.List.{list_any}
-use Rattle.jvm_types.specs.Members.{declared_from}
-use Rattle.jvm_types.specs.LinkFaults.{is_run_method}
+use Rattle.std.{proofs.Common.{◌≡◌, drop}, specs.List.list_any}
+use Rattle.jvm_types.specs.{LinkFaults.is_run_method, Members.declared_from}
 use Rattle.link_rules.proofs.roots.declares_run.Given as goal
 
 abbrev pub invariant-loop-method : goal.invariant-loop-method

@@ -1,7 +1,5 @@
-use Rattle.std.proofs.Common.{◌≡◌, drop}
-use Rattle.std.specs.List.{list_any}
-use Rattle.jvm_types.specs.Members.{declared_from}
-use Rattle.jvm_types.specs.LinkFaults.{is_wrong_method}
+use Rattle.std.{proofs.Common.{◌≡◌, drop}, specs.List.list_any}
+use Rattle.jvm_types.specs.{LinkFaults.is_wrong_method, Members.declared_from}
 use Rattle.link_rules.proofs.roots.has_wrong_method.Given as goal
 
 abbrev pub invariant-loop-method : goal.invariant-loop-method

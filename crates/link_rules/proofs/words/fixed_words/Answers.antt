@@ -1,11 +1,7 @@
-use Rattle.std.proofs.Common.{◌≡◌, ◌+◌, ◌<◌, ◌≤◌, ◌^◌, drop, length, refl, sym, ap, ◌∙◌, arith}
-use Rattle.std.specs.List.{sum_by}
-use Rattle.std.proofs.lemmas.List.Sums.{sum_by-drop_more}
-use Rattle.std.proofs.lemmas.Option.{slice_get_read}
-use Rattle.jvm_types.specs.Layout.{static_count, class_word_count}
-use Rattle.jvm_types.specs.declared.class_file.ClassFile.{ClassFile}
-use Rattle.link_rules.proofs.words.fixed_words.Goals as goal
+use Rattle.std.{proofs.{Common.{◌≡◌, ◌+◌, ◌<◌, ◌≤◌, ◌^◌, drop, length, refl, sym, ap, ◌∙◌, arith}, lemmas.{List.Sums.sum_by-drop_more, Option.slice_get_read}}, specs.List.sum_by}
+use Rattle.jvm_types.specs.{Layout.{static_count, class_word_count}, declared.class_file.ClassFile.ClassFile}
 use Rattle.link_scope.proofs.Files.{class_at}
+use Rattle.link_rules.proofs.words.fixed_words.Goals as goal
 
 pub loop-class-preserved : goal.loop-class-preserved
 loop-class-preserved c =

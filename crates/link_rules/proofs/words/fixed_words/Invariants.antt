@@ -1,5 +1,4 @@
-use Rattle.std.proofs.Common.{◌≡◌, ◌+◌, ◌*◌, ◌≤◌, drop}
-use Rattle.std.specs.List.{sum_by}
+use Rattle.std.{proofs.Common.{◌≡◌, ◌+◌, ◌*◌, ◌≤◌, drop}, specs.List.sum_by}
 use Rattle.jvm_types.specs.Layout.{class_word_count, fixed_words}
 use Rattle.link_rules.proofs.words.fixed_words.Given as goal
 

@@ -1,6 +1,5 @@
 use Rattle.std.proofs.Common.{◌≡◌, None, Some, sym, ◌∙◌, refl}
-use Rattle.link_scope.proofs.TableLaws.{adds_one, adds_unnamed}
-use Rattle.link_scope.specs.BuiltIn.{entry_of}
+use Rattle.link_scope.{specs.BuiltIn.entry_of, proofs.TableLaws.{adds_one, adds_unnamed}}
 use Rattle.link_scope.proofs.built_in.add.Goals as goal
 
 pub returns-in_default : goal.returns-in_default

@@ -1,9 +1,6 @@
-use Rattle.std.proofs.Common.{subst, List, ◌≡◌, ◌++◌, ◌-◌, map, arith, ℕ}
-use Rattle.std.specs.List.{range_with_len}
+use Rattle.std.{proofs.Common.{subst, List, ◌≡◌, ◌++◌, ◌-◌, map, arith, ℕ}, specs.List.range_with_len}
 use Rattle.jvm_types.specs.Members.{Entry, init_of}
-use Rattle.link_scope.specs.MemberTables.{Adds}
-use Rattle.link_scope.specs.BuiltIn.{first_methods}
-use Rattle.link_scope.proofs.TableLaws.{adds_next, inits_next}
+use Rattle.link_scope.{specs.{BuiltIn.first_methods, MemberTables.Adds}, proofs.TableLaws.{adds_next, inits_next}}
 use Rattle.link_scope.proofs.built_in.add_methods.Goals as goal
 
 pub loop-class-preserved : goal.loop-class-preserved

@@ -1,8 +1,6 @@
-use Rattle.std.proofs.Common.{◌++◌, ◌-◌, map}
-use Rattle.std.specs.List.{range_with_len}
+use Rattle.std.{proofs.Common.{◌++◌, ◌-◌, map}, specs.List.range_with_len}
 use Rattle.jvm_types.specs.Members.{init_of}
-use Rattle.link_scope.specs.MemberTables.{Adds}
-use Rattle.link_scope.specs.BuiltIn.{first_methods}
+use Rattle.link_scope.specs.{BuiltIn.first_methods, MemberTables.Adds}
 use Rattle.link_scope.proofs.built_in.add_methods.Given as goal
 
 abbrev pub invariant-loop-class : goal.invariant-loop-class

@@ -1,7 +1,6 @@
 use Rattle.std.proofs.Common.{◌<◌, ◌^◌, length, ◌∙◌, arith}
 use Rattle.jvm_types.specs.ClassGrammar.{IsClass}
-use Rattle.link_scope.proofs.ListLaws.{length_push, all_at}
-use Rattle.link_scope.proofs.RowLaws.{rows_next}
+use Rattle.link_scope.proofs.{ListLaws.{length_push, all_at}, RowLaws.rows_next}
 use Rattle.link_scope.proofs.file_texts.number_files.Goals as goal
 
 pub loop-class-preserved : goal.loop-class-preserved

@@ -1,6 +1,5 @@
 use Rattle.std.proofs.Common.{◌≡◌, ◌+◌, ◌*◌, ◌≤◌, length, take}
-use Rattle.link_scope.specs.TextNumbers.{Keeps}
-use Rattle.link_scope.specs.FileTexts.{AreRows}
+use Rattle.link_scope.specs.{FileTexts.AreRows, TextNumbers.Keeps}
 use Rattle.link_scope.proofs.file_texts.number_files.Given as goal
 
 abbrev pub invariant-loop-class : goal.invariant-loop-class

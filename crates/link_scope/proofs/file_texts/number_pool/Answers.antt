@@ -1,6 +1,5 @@
 use Rattle.std.proofs.Common.{◌∙◌, arith}
-use Rattle.link_scope.proofs.ListLaws.{length_push}
-use Rattle.link_scope.proofs.RowLaws.{row_next}
+use Rattle.link_scope.proofs.{ListLaws.length_push, RowLaws.row_next}
 use Rattle.link_scope.proofs.file_texts.number_pool.Goals as goal
 
 pub loop-entry-preserved : goal.loop-entry-preserved

@@ -1,6 +1,5 @@
 use Rattle.std.proofs.Common.{◌≡◌, ◌+◌, ◌≤◌, length, take}
-use Rattle.link_scope.specs.TextNumbers.{Keeps}
-use Rattle.link_scope.specs.FileTexts.{IsRow}
+use Rattle.link_scope.specs.{FileTexts.IsRow, TextNumbers.Keeps}
 use Rattle.link_scope.proofs.file_texts.number_pool.Given as goal
 
 abbrev pub invariant-loop-entry : goal.invariant-loop-entry

@@ -1,8 +1,6 @@
 use Rattle.std.proofs.Common.{◌∙◌, refl}
 use Rattle.jvm_types.specs.ClassNames.{file_class}
-use Rattle.link_scope.specs.Scoping.{file_text, pool_of_file}
-use Rattle.link_scope.specs.MemberTables.{member_entry}
-use Rattle.link_scope.proofs.TableLaws.{adds_one, found_is_some}
+use Rattle.link_scope.{specs.{MemberTables.member_entry, Scoping.{file_text, pool_of_file}}, proofs.TableLaws.{adds_one, found_is_some}}
 use Rattle.link_scope.proofs.members.add_member.Goals as goal
 
 pub returns-clause-added : goal.returns-clause-added

@@ -1,17 +1,9 @@
-use Rattle.std.proofs.Common.{◌≡◌, ℕ, ◌+◌, List, ◌++◌, Option, take, is_some, sym, ◌∙◌, ap, subst, refl, arith}
-use Rattle.jvm_types.specs.ClassNames.{text_at, file_class}
-use Rattle.jvm_types.specs.Members.{Entry, declared_from, entries_from, member_in}
-use Rattle.jvm_types.specs.LinkFaults.{is_repeated}
-use Rattle.jvm_types.specs.declared.class_file.Constant.{Constant}
+use Rattle.std.proofs.{Common.{◌≡◌, ℕ, ◌+◌, List, ◌++◌, Option, take, is_some, sym, ◌∙◌, ap, subst, refl, arith}, lemmas.List.take_all}
+use Rattle.jvm_types.specs.{ClassNames.{text_at, file_class}, LinkFaults.is_repeated, Members.{Entry, declared_from, entries_from, member_in}, declared.class_file.Constant.Constant}
 use Rattle.jvm_types.specs.declared.class_file.Member.{Member as ClassMember}
-use Rattle.std.proofs.lemmas.List.{take_all}
-use Rattle.link_scope.specs.Scoping.{pool_of, pool_of_file}
-use Rattle.link_scope.specs.MemberTables.{target_of_sort, HasEntries, Adds, member_entry, AreBelow}
-use Rattle.link_scope.proofs.ListLaws.{length_push}
-use Rattle.link_scope.proofs.EntryLaws.{entries_next, past_below, some_member, flags_next}
-use Rattle.link_scope.proofs.TableLaws.{adds_next}
+use Rattle.link_scope.specs.{MemberTables.{target_of_sort, HasEntries, Adds, member_entry, AreBelow}, Scoping.{pool_of, pool_of_file}}
+use Rattle.link_scope.proofs.{EntryLaws.{entries_next, past_below, some_member, flags_next}, ListLaws.length_push, TableLaws.adds_next, members.add_members.Goals.In_ok-push}
 use Rattle.link_scope.proofs.members.add_members.Goals as goal
-use Rattle.link_scope.proofs.members.add_members.Goals.{In_ok-push}
 
 -- the pool of the file is that of its class
 pool : (c : In_ok-push) → pool_of_file c.args.texts.now.files c.args.file ≡ c.args.class.now.constants

@@ -1,8 +1,6 @@
 use Rattle.std.proofs.Common.{◌≡◌, ℕ, ◌+◌, List, length, take, slice_get}
-use Rattle.jvm_types.specs.ClassNames.{file_class}
-use Rattle.jvm_types.specs.Members.{Entry, declared_from, entries_from}
-use Rattle.link_scope.specs.Scoping.{repeats}
-use Rattle.link_scope.specs.MemberTables.{target_of_sort, HasEntries, Adds, AreBelow, in_flags}
+use Rattle.jvm_types.specs.{ClassNames.file_class, Members.{Entry, declared_from, entries_from}}
+use Rattle.link_scope.specs.{MemberTables.{target_of_sort, HasEntries, Adds, AreBelow, in_flags}, Scoping.repeats}
 use Rattle.link_scope.proofs.members.add_members.Given as goal
 
 abbrev pub invariant-loop-member : goal.invariant-loop-member

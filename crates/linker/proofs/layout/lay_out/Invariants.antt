@@ -1,6 +1,5 @@
 use Rattle.std.proofs.Common.{◌≡◌, ◌+◌, ◌*◌, ◌≤◌, ◌++◌, drop}
-use Rattle.jvm_types.specs.ClassNames.{class_names}
-use Rattle.jvm_types.specs.Layout.{fields_from, laid_out_fields}
+use Rattle.jvm_types.specs.{ClassNames.class_names, Layout.{fields_from, laid_out_fields}}
 use Rattle.linker.proofs.layout.lay_out.Given as goal
 
 abbrev pub invariant-loop-number : goal.invariant-loop-number

@@ -1,6 +1,5 @@
 use Rattle.std.proofs.Common.{◌≡◌, ◌+◌, ◌≤◌, ◌++◌, drop}
-use Rattle.jvm_types.specs.ClassNames.{class_names}
-use Rattle.jvm_types.specs.Layout.{fields_of, static_count}
+use Rattle.jvm_types.specs.{ClassNames.class_names, Layout.{fields_of, static_count}}
 use Rattle.linker.proofs.layout.lay_out_class.Given as goal
 
 abbrev pub invariant-loop-field : goal.invariant-loop-field

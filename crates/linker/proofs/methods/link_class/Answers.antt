@@ -1,11 +1,7 @@
-use Rattle.std.proofs.lemmas.Result.{err_from_is_err_and}
-use Rattle.std.proofs.Common.{◌+◌, ◌∷◌, [], List, length, drop, arith}
-use Rattle.jvm_types.specs.Members.{Declared, declared_from}
-use Rattle.jvm_types.specs.Linked.{scope_of}
-use Rattle.jvm_types.specs.declared.class_file.Member.{Member}
+use Rattle.std.proofs.{Common.{◌+◌, ◌∷◌, [], List, length, drop, arith}, lemmas.Result.err_from_is_err_and}
+use Rattle.jvm_types.specs.{Linked.scope_of, Members.{Declared, declared_from}, declared.class_file.Member.Member}
 use Rattle.link_scope.specs.Scoping.{FileOf}
-use Rattle.linker.specs.Linking.{method_of}
-use Rattle.linker.proofs.Coding.{member_split, turn_left, turn_made, turn_rest, turn_refused}
+use Rattle.linker.{specs.Linking.method_of, proofs.Coding.{member_split, turn_left, turn_made, turn_rest, turn_refused}}
 use Rattle.linker.proofs.methods.link_class.Goals as goal
 
 pub loop-number-preserved : goal.loop-number-preserved

@@ -1,7 +1,5 @@
-use Rattle.std.proofs.Common.{◌≡◌, ◌+◌, ◌++◌, length, drop}
-use Rattle.std.specs.List.{zip, sum_by}
-use Rattle.jvm_types.specs.Members.{declared_from}
-use Rattle.jvm_types.specs.Linked.{scope_of, linked_methods}
+use Rattle.std.{proofs.Common.{◌≡◌, ◌+◌, ◌++◌, length, drop}, specs.List.{zip, sum_by}}
+use Rattle.jvm_types.specs.{Linked.{scope_of, linked_methods}, Members.declared_from}
 use Rattle.linker.specs.Linking.{use_faults, copied_bytes}
 use Rattle.linker.proofs.methods.link_class.Given as goal
 

@@ -1,14 +1,6 @@
-use Rattle.std.proofs.Common.{◌≡◌, ◌+◌, Option, Some, None, List, length, sym, ap, ◌∙◌, subst, arith}
-use Rattle.std.specs.Prelude.{slice_get}
-use Rattle.std.specs.List.{sum_by}
-use Rattle.std.proofs.lemmas.Result.{err_from_is_err_and}
-use Rattle.std.proofs.lemmas.List.Sums.{sum_by_push}
-use Rattle.jvm_types.specs.Linked.{scope_of}
-use Rattle.jvm_types.specs.LinkFaults.{LinkFault}
-use Rattle.jvm_types.specs.declared.code.Insn.{Insn}
-use Rattle.jvm_types.specs.declared.program.MethodInfo.{MethodInfo}
-use Rattle.linker.specs.Linking.{IsLinkErrorOf, method_of, copied_bytes}
-use Rattle.linker.proofs.Coding.{fault_at, one_at, none_at}
+use Rattle.std.{proofs.{Common.{◌≡◌, ◌+◌, Option, Some, None, List, length, sym, ap, ◌∙◌, subst, arith, slice_get}, lemmas.{List.Sums.sum_by_push, Result.err_from_is_err_and}}, specs.List.sum_by}
+use Rattle.jvm_types.specs.{LinkFaults.LinkFault, Linked.scope_of, declared.{code.Insn.Insn, program.MethodInfo.MethodInfo}}
+use Rattle.linker.{specs.Linking.{IsLinkErrorOf, method_of, copied_bytes}, proofs.Coding.{fault_at, one_at, none_at}}
 use Rattle.linker.proofs.methods.link_member.Goals as goal
 
 pub returns-in_err-linked-in-Some-clause-refused : goal.returns-in_err-linked-in-Some-clause-refused

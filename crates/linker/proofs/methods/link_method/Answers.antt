@@ -1,8 +1,5 @@
-use Rattle.std.proofs.Common.{List, sym, ap, ◌∙◌, subst}
-use Rattle.std.specs.List.{AllByRecursion}
-use Rattle.jvm_types.specs.ClassGrammar.{IsHandler}
-use Rattle.jvm_types.specs.declared.class_file.Code.{Code}
-use Rattle.jvm_types.specs.declared.class_file.Handler.{Handler}
+use Rattle.std.{proofs.Common.{List, sym, ap, ◌∙◌, subst}, specs.List.AllByRecursion}
+use Rattle.jvm_types.specs.{ClassGrammar.IsHandler, declared.class_file.{Code.Code, Handler.Handler}}
 use Rattle.linker.proofs.Coding.{handlers_of}
 use Rattle.linker.proofs.methods.link_method.Goals as goal
 

@@ -1,8 +1,5 @@
-use Rattle.std.proofs.lemmas.Result.{err_from_is_err_and}
-use Rattle.std.proofs.Common.{◌+◌, List, drop, ◌∙◌, arith}
-use Rattle.jvm_types.specs.Members.{Declared, declared_from, declared_by}
-use Rattle.jvm_types.specs.Linked.{scope_of}
-use Rattle.jvm_types.specs.declared.class_file.ClassFile.{ClassFile}
+use Rattle.std.proofs.{Common.{◌+◌, List, drop, ◌∙◌, arith}, lemmas.Result.err_from_is_err_and}
+use Rattle.jvm_types.specs.{Linked.scope_of, Members.{Declared, declared_from, declared_by}, declared.class_file.ClassFile.ClassFile}
 use Rattle.linker.proofs.Coding.{class_split, turn_left, turn_made, turn_refused}
 use Rattle.linker.proofs.methods.link_methods.Goals as goal
 

@@ -1,8 +1,5 @@
-use Rattle.std.proofs.Common.{◌≡◌, ◌+◌, ◌++◌, length, drop}
-use Rattle.std.specs.List.{zip, sum_by}
-use Rattle.jvm_types.specs.Members.{declared_by}
-use Rattle.jvm_types.specs.Linked.{scope_of, linked_methods, coded_methods}
-use Rattle.jvm_types.specs.LinkFaults.{use_pass}
+use Rattle.std.{proofs.Common.{◌≡◌, ◌+◌, ◌++◌, length, drop}, specs.List.{zip, sum_by}}
+use Rattle.jvm_types.specs.{LinkFaults.use_pass, Linked.{scope_of, linked_methods, coded_methods}, Members.declared_by}
 use Rattle.linker.specs.Linking.{use_faults, copied_bytes}
 use Rattle.linker.proofs.methods.link_methods.Given as goal
 

@@ -1,8 +1,5 @@
-use Rattle.std.proofs.Common.{◌≡◌, map, take, drop}
-use Rattle.std.specs.List.{AllByRecursion}
-use Rattle.jvm_types.specs.ClassGrammar.{IsHandler}
-use Rattle.jvm_types.specs.Linked.{scope_of, resolved_row}
-use Rattle.jvm_types.specs.LinkFaults.{first_fault, row_fault}
+use Rattle.std.{proofs.Common.{◌≡◌, map, take, drop}, specs.List.AllByRecursion}
+use Rattle.jvm_types.specs.{ClassGrammar.IsHandler, LinkFaults.{first_fault, row_fault}, Linked.{scope_of, resolved_row}}
 use Rattle.linker.specs.Linking.{method_of}
 use Rattle.linker.proofs.methods.resolve_rows.Given as goal
 

@@ -1,9 +1,6 @@
 use Rattle.std.proofs.Common.{◌≡◌, sym, ap, ◌∙◌}
-use Rattle.jvm_types.specs.Members.{MethodSite}
-use Rattle.jvm_types.specs.Targets.{target_of}
-use Rattle.jvm_types.specs.Linked.{scope_of, site_of}
-use Rattle.linker.specs.Linking.{method_of}
-use Rattle.linker.proofs.Coding.{target_given, target_refused}
+use Rattle.jvm_types.specs.{Linked.{scope_of, site_of}, Members.MethodSite, Targets.target_of}
+use Rattle.linker.{specs.Linking.method_of, proofs.Coding.{target_given, target_refused}}
 use Rattle.linker.proofs.methods.resolve_target.Goals as goal
 
 pub returns-in-Ok : goal.returns-in-Ok

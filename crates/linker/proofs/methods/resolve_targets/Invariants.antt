@@ -1,6 +1,5 @@
 use Rattle.std.proofs.Common.{◌≡◌, map, take, drop}
-use Rattle.jvm_types.specs.Linked.{scope_of, site_of, resolved_target}
-use Rattle.jvm_types.specs.LinkFaults.{first_fault, insn_fault}
+use Rattle.jvm_types.specs.{LinkFaults.{first_fault, insn_fault}, Linked.{scope_of, site_of, resolved_target}}
 use Rattle.linker.specs.Linking.{method_of}
 use Rattle.linker.proofs.methods.resolve_targets.Given as goal
 

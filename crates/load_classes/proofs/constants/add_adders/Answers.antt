@@ -1,7 +1,5 @@
-use Rattle.std.proofs.Common.{◌++◌, ℕ, List, ap, append_assoc, sym, ◌∙◌}
-use Rattle.std.specs.List.{flat_map}
-use Rattle.load_classes.specs.LoadClass.{adder_constants}
-use Rattle.load_classes.proofs.RangeLaws.{range_step}
+use Rattle.std.{proofs.Common.{◌++◌, ℕ, List, ap, append_assoc, sym, ◌∙◌}, specs.List.flat_map}
+use Rattle.load_classes.{specs.LoadClass.adder_constants, proofs.RangeLaws.range_step}
 use Rattle.load_classes.proofs.constants.add_adders.Goals as goal
 
 pub loop-k-preserved : goal.loop-k-preserved

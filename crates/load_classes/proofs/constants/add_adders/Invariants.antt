@@ -1,5 +1,4 @@
-use Rattle.std.proofs.Common.{◌≡◌, ◌-◌, ◌++◌}
-use Rattle.std.specs.List.{flat_map, range_with_len}
+use Rattle.std.{proofs.Common.{◌≡◌, ◌-◌, ◌++◌}, specs.List.{flat_map, range_with_len}}
 use Rattle.load_classes.specs.LoadClass.{adder_constants}
 use Rattle.load_classes.proofs.constants.add_adders.Given as goal
 

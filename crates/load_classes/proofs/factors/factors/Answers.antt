@@ -1,6 +1,5 @@
 use Rattle.std.proofs.Common.{◌++◌, ◌∷◌, [], ◌/◌, ◌%◌, ℕ, List, ap, append_assoc, sym, ◌∙◌}
-use Rattle.load_classes.specs.LoadClass.{factors, next_number}
-use Rattle.load_classes.proofs.RangeLaws.{one_less}
+use Rattle.load_classes.{specs.LoadClass.{factors, next_number}, proofs.RangeLaws.one_less}
 use Rattle.load_classes.proofs.factors.factors.Goals as goal
 
 pub loop-preserved : goal.loop-preserved

@@ -1,5 +1,4 @@
-use Rattle.std.proofs.Common.{◌+◌, ◌++◌, ℕ, List, ap, append_assoc, sym, ◌∙◌}
-use Rattle.std.proofs.lemmas.List.{drop_more}
+use Rattle.std.proofs.{Common.{◌+◌, ◌++◌, ℕ, List, ap, append_assoc, sym, ◌∙◌}, lemmas.List.drop_more}
 use Rattle.jvm_types.specs.declared.class_file.Member.{Member}
 use Rattle.load_classes.specs.LoadClass.{adders}
 use Rattle.load_classes.proofs.methods.push_adders.Goals as goal

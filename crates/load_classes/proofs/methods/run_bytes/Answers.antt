@@ -1,7 +1,5 @@
-use Rattle.std.proofs.Common.{◌++◌, ℕ, List, ap, append_assoc, sym, ◌∙◌}
-use Rattle.std.specs.List.{flat_map}
-use Rattle.load_classes.specs.LoadClass.{call_bytes}
-use Rattle.load_classes.proofs.RangeLaws.{range_step}
+use Rattle.std.{proofs.Common.{◌++◌, ℕ, List, ap, append_assoc, sym, ◌∙◌}, specs.List.flat_map}
+use Rattle.load_classes.{specs.LoadClass.call_bytes, proofs.RangeLaws.range_step}
 use Rattle.load_classes.proofs.methods.run_bytes.Goals as goal
 
 pub loop-k-preserved : goal.loop-k-preserved

@@ -1,5 +1,4 @@
-use Rattle.std.proofs.Common.{◌≡◌, ◌-◌, ◌++◌}
-use Rattle.std.specs.List.{flat_map, range_with_len}
+use Rattle.std.{proofs.Common.{◌≡◌, ◌-◌, ◌++◌}, specs.List.{flat_map, range_with_len}}
 use Rattle.load_classes.specs.LoadClass.{call_bytes}
 use Rattle.load_classes.proofs.methods.run_bytes.Given as goal
 

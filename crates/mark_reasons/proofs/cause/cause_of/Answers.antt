@@ -1,7 +1,6 @@
 use Rattle.std.proofs.Common.{sym, ◌∙◌}
 use Rattle.checked_program.specs.TaggedCode.{tagged_by}
-use Rattle.mark_reasons.specs.Reasons.{callee_of}
-use Rattle.mark_reasons.proofs.CauseLaws.{some_place}
+use Rattle.mark_reasons.{specs.Reasons.callee_of, proofs.CauseLaws.some_place}
 use Rattle.mark_reasons.proofs.cause.cause_of.Goals as goal
 
 pub place_cause-requires-clause-read : goal.place_cause-requires-clause-read

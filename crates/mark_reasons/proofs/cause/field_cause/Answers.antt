@@ -1,5 +1,4 @@
-use Rattle.std.proofs.Common.{sym, ◌∙◌}
-use Rattle.std.proofs.lemmas.Result.{IfOk-weaker}
+use Rattle.std.proofs.{Common.{sym, ◌∙◌}, lemmas.Result.IfOk-weaker}
 use Rattle.checked_program.specs.TaggedCode.{tagged_by}
 use Rattle.mark_reasons.proofs.CauseLaws.{bars_keep, frozen_not, guarded_keeps, open_is}
 use Rattle.mark_reasons.proofs.cause.field_cause.Goals as goal

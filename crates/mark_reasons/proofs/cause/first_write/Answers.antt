@@ -1,9 +1,6 @@
 use Rattle.std.proofs.Common.{ℕ, ◌≤◌, length, below_more, arith}
 use Rattle.checked_program.specs.TaggedCode.{tagged_by}
-use Rattle.mark_reasons.specs.Causes.{WritesUnguarded}
-use Rattle.mark_reasons.proofs.BackLaws.{none_left}
-use Rattle.mark_reasons.proofs.SearchLaws.{got_there}
-use Rattle.mark_reasons.proofs.CauseLaws.{first_found, no_write_in, none_written}
+use Rattle.mark_reasons.{specs.Causes.WritesUnguarded, proofs.{BackLaws.none_left, CauseLaws.{first_found, no_write_in, none_written}, SearchLaws.got_there}}
 use Rattle.mark_reasons.proofs.cause.first_write.Goals as goal
 
 pub returns-in-Some : goal.returns-in-Some

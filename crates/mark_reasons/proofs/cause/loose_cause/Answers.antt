@@ -1,8 +1,6 @@
 use Rattle.std.proofs.Common.{Option, sym, subst, ◌∙◌}
 use Rattle.checked_program.specs.TaggedCode.{tagged_by}
-use Rattle.mark_reasons.specs.Causes.{IsWriteFound}
-use Rattle.mark_reasons.specs.declared.cause.Cause.{Cause}
-use Rattle.mark_reasons.proofs.CauseLaws.{some_write, write_bars}
+use Rattle.mark_reasons.{specs.{Causes.IsWriteFound, declared.cause.Cause.Cause}, proofs.CauseLaws.{some_write, write_bars}}
 use Rattle.mark_reasons.proofs.cause.loose_cause.Goals as goal
 
 pub returns-in-Some : goal.returns-in-Some

@@ -1,9 +1,6 @@
-use Rattle.std.proofs.Common.{Some, ap, ◌∙◌}
-use Rattle.std.proofs.lemmas.Result.{IfOk-weaker}
+use Rattle.std.proofs.{Common.{Some, ap, ◌∙◌}, lemmas.Result.IfOk-weaker}
 use Rattle.checked_program.specs.TaggedCode.{tagged_by}
-use Rattle.mark_reasons.specs.Reasons.{callee_of}
-use Rattle.mark_reasons.specs.declared.cause.Place.{Place}
-use Rattle.mark_reasons.proofs.CauseLaws.{element_cause, field_cause, field_there, static_breaks, static_cause, static_there}
+use Rattle.mark_reasons.{specs.{Reasons.callee_of, declared.cause.Place.Place}, proofs.CauseLaws.{element_cause, field_cause, field_there, static_breaks, static_cause, static_there}}
 use Rattle.mark_reasons.proofs.cause.place_cause.Goals as goal
 
 pub returns-in-Element : goal.returns-in-Element

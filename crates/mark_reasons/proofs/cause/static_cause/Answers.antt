@@ -1,7 +1,5 @@
-use Rattle.std.proofs.Common.{◌≡◌, true, sym, ap, ◌∙◌}
-use Rattle.std.specs.Prelude.{slice_get}
-use Rattle.checked_program.specs.Marks.{class_of_field, is_own_class}
-use Rattle.checked_program.specs.TaggedCode.{tagged_by}
+use Rattle.std.proofs.Common.{◌≡◌, true, sym, ap, ◌∙◌, slice_get}
+use Rattle.checked_program.specs.{Marks.{class_of_field, is_own_class}, TaggedCode.tagged_by}
 use Rattle.mark_reasons.proofs.CauseLaws.{open_is, own_is_open}
 use Rattle.mark_reasons.proofs.cause.static_cause.Goals as goal
 

@@ -1,7 +1,5 @@
-use Rattle.std.proofs.Common.{◌≡◌, ℕ, subst, arith}
-use Rattle.std.proofs.lemmas.Bool.Decides.{nat_tests}
-use Rattle.checked_program.specs.Marks.{BreaksAt}
-use Rattle.checked_program.specs.TaggedCode.{tagged_by}
+use Rattle.std.proofs.{Common.{◌≡◌, ℕ, subst, arith}, lemmas.Bool.Decides.nat_tests}
+use Rattle.checked_program.specs.{Marks.BreaksAt, TaggedCode.tagged_by}
 use Rattle.mark_reasons.specs.Reasons.{callee_of}
 use Rattle.mark_reasons.proofs.explain.cause_if.Goals as goal
 

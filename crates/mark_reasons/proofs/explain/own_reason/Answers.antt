@@ -1,14 +1,7 @@
 use Rattle.std.proofs.Common.{◌≡◌, ◌∙◌, List, Option, Some, None, [], length, refl, sym, subst}
-use Rattle.checked_program.specs.TaggedCode.{tagged_by}
-use Rattle.checked_program.specs.Sections.{section_mode}
-use Rattle.checked_program.specs.Marks.{callee, BreaksAt}
-use Rattle.checked_program.specs.declared.section.Mode.{Mode}
-use Rattle.mark_reasons.specs.Firsts.{IsFirst}
-use Rattle.mark_reasons.specs.Reasons.{marked_section, mark_by, HasCause, LeadsToFault}
-use Rattle.mark_reasons.specs.Searches.{own_breaks, own_site}
-use Rattle.mark_reasons.specs.declared.reason.Site.{Site}
-use Rattle.mark_reasons.proofs.ExplainLaws.{own_is_fault, own_none}
-use Rattle.mark_reasons.proofs.Nodes.{mode_there}
+use Rattle.checked_program.specs.{Marks.{callee, BreaksAt}, Sections.section_mode, TaggedCode.tagged_by, declared.section.Mode.Mode}
+use Rattle.mark_reasons.specs.{Firsts.IsFirst, Reasons.{marked_section, mark_by, HasCause, LeadsToFault}, Searches.{own_breaks, own_site}, declared.reason.Site.Site}
+use Rattle.mark_reasons.proofs.{ExplainLaws.{own_is_fault, own_none}, Nodes.mode_there}
 use Rattle.mark_reasons.proofs.explain.own_reason.Goals as goal
 
 pub cause_if-requires-clause-breaks : goal.cause_if-requires-clause-breaks

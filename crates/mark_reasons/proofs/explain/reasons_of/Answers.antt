@@ -1,9 +1,5 @@
-use Rattle.std.proofs.Common.{◌≡◌, ◌<◌, ◌∙◌, List, Some, length, ap, sym, arith}
-use Rattle.std.specs.Prelude.{slice_get, slice_index_or}
-use Rattle.std.proofs.lemmas.Option.{slice_get-get_or}
-use Rattle.checked_program.specs.TaggedCode.{tagged_by}
-use Rattle.checked_program.specs.declared.section.SectionMark.{SectionMark}
-use Rattle.checked_program.specs.declared.section.Spot.TheVariants.{Method}
+use Rattle.std.proofs.{Common.{◌≡◌, ◌<◌, ◌∙◌, List, Some, length, ap, sym, arith, slice_get, slice_index_or}, lemmas.Option.slice_get-get_or}
+use Rattle.checked_program.specs.{TaggedCode.tagged_by, declared.section.{SectionMark.SectionMark, Spot.TheVariants.Method}}
 use Rattle.mark_reasons.proofs.ExplainLaws.{all_reasons, one_reason_more}
 use Rattle.mark_reasons.proofs.explain.reasons_of.Goals as goal
 

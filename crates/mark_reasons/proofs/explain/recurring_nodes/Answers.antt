@@ -1,7 +1,5 @@
 use Rattle.std.proofs.Common.{ℕ, ◌*◌, length, ap}
-use Rattle.guard_analysis.specs.CallGraph.{call_graph}
-use Rattle.guard_analysis.proofs.CalleesFound.{graph_shown}
-use Rattle.guard_analysis.proofs.GraphBounds.{is_graph}
+use Rattle.guard_analysis.{specs.CallGraph.call_graph, proofs.{CalleesFound.graph_shown, GraphBounds.is_graph}}
 use Rattle.mark_reasons.proofs.explain.recurring_nodes.Goals as goal
 
 pub recurring-requires-clause-graph : goal.recurring-requires-clause-graph

@@ -1,12 +1,6 @@
 use Rattle.std.proofs.Common.{◌∙◌, ℕ, None, length, ap, sym, subst}
-use Rattle.checked_program.specs.TaggedCode.{tagged_by}
-use Rattle.checked_program.specs.Marks.{Calls}
-use Rattle.checked_program.specs.declared.section.Mode.{Mode}
-use Rattle.mark_reasons.specs.Firsts.{IsFirst}
-use Rattle.mark_reasons.specs.Reasons.{marked_section, own_callee}
-use Rattle.mark_reasons.specs.Searches.{callee_at, own_call, turns}
-use Rattle.mark_reasons.proofs.BackLaws.{own_found}
-use Rattle.mark_reasons.proofs.MarkParts.{own_turns}
+use Rattle.checked_program.specs.{Marks.Calls, TaggedCode.tagged_by, declared.section.Mode.Mode}
+use Rattle.mark_reasons.{specs.{Firsts.IsFirst, Reasons.{marked_section, own_callee}, Searches.{callee_at, own_call, turns}}, proofs.{BackLaws.own_found, MarkParts.own_turns}}
 use Rattle.mark_reasons.proofs.Nodes.{class_there, mode_there}
 use Rattle.mark_reasons.proofs.explain.recurring_reason.Goals as goal
 

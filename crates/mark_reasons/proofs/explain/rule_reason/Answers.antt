@@ -1,9 +1,7 @@
 use Rattle.std.proofs.Common.{List, Bool, Option, subst}
 use Rattle.laws_programs.proofs.CodeOrder.{methods_laid_out}
 use Rattle.checked_program.specs.TaggedCode.{tagged_by}
-use Rattle.mark_reasons.specs.OwnFlags.{OwnOrElsewhere}
-use Rattle.mark_reasons.specs.Reasons.{marked_section}
-use Rattle.mark_reasons.proofs.MarkParts.{not_off}
+use Rattle.mark_reasons.{specs.{OwnFlags.OwnOrElsewhere, Reasons.marked_section}, proofs.MarkParts.not_off}
 use Rattle.mark_reasons.proofs.explain.rule_reason.Goals as goal
 
 pub own_flags-requires-clause-laid : goal.own_flags-requires-clause-laid

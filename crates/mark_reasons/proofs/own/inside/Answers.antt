@@ -1,5 +1,4 @@
-use Rattle.std.proofs.Common.{◌∙◌, ap, length}
-use Rattle.std.proofs.lemmas.Result.{IfOk-weaker}
+use Rattle.std.proofs.{Common.{◌∙◌, ap, length}, lemmas.Result.IfOk-weaker}
 use Rattle.jvm_types.specs.declared.program.MethodInfo.{MethodInfo}
 use Rattle.mark_reasons.proofs.OwnLaws.{explored_flags}
 use Rattle.mark_reasons.proofs.own.inside.Goals as goal

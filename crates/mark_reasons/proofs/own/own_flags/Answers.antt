@@ -1,13 +1,8 @@
-use Rattle.std.proofs.Common.{◌∙◌, ap, sym, subst, refl}
-use Rattle.std.specs.Prelude.{slice_get}
-use Rattle.std.proofs.lemmas.Result.{IfOk-weaker}
+use Rattle.std.proofs.{Common.{◌∙◌, ap, sym, subst, refl, slice_get}, lemmas.Result.IfOk-weaker}
 use Rattle.jvm_types.specs.declared.program.MethodInfo.{MethodInfo}
 use Rattle.code_table.specs.PcTables.{number_at}
-use Rattle.checked_program.specs.TaggedCode.{tagged_by}
-use Rattle.checked_program.specs.Marks.{IsOnOwn}
-use Rattle.checked_program.specs.declared.section.Spot.{Spot}
-use Rattle.mark_reasons.specs.OwnFlags.{AreOwn, OwnOrElsewhere, IsBlockAnswer}
-use Rattle.mark_reasons.proofs.OwnLaws.{method_own, no_number, block_answer}
+use Rattle.checked_program.specs.{Marks.IsOnOwn, TaggedCode.tagged_by, declared.section.Spot.Spot}
+use Rattle.mark_reasons.{specs.OwnFlags.{AreOwn, OwnOrElsewhere, IsBlockAnswer}, proofs.OwnLaws.{method_own, no_number, block_answer}}
 use Rattle.mark_reasons.proofs.own.own_flags.Goals as goal
 
 pub returns-in-Method : goal.returns-in-Method

@@ -1,9 +1,6 @@
 use Rattle.std.proofs.Common.{Bool, sym, subst}
-use Rattle.checked_program.specs.TaggedCode.{tagged_by}
-use Rattle.checked_program.specs.declared.section.Spot.{Spot}
-use Rattle.checked_program.specs.declared.section.Spot.TheVariants.{Block}
-use Rattle.mark_reasons.specs.ReachedSpots.{TellsReached}
-use Rattle.mark_reasons.proofs.ReachedLaws.{tells_reached}
+use Rattle.checked_program.specs.{TaggedCode.tagged_by, declared.section.Spot.{Spot, TheVariants.Block}}
+use Rattle.mark_reasons.{specs.ReachedSpots.TellsReached, proofs.ReachedLaws.tells_reached}
 use Rattle.mark_reasons.proofs.reached.is_spot_reached.Goals as goal
 
 pub returns-in-Block : goal.returns-in-Block

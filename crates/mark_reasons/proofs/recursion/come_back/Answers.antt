@@ -1,10 +1,6 @@
-use Rattle.std.proofs.Common.{◌≡◌, ◌/◌, ℕ, Some, ◌∙◌, ap, sym, subst}
-use Rattle.std.specs.Prelude.{slice_get, slice_set}
+use Rattle.std.proofs.Common.{◌≡◌, ◌/◌, ℕ, Some, ◌∙◌, ap, sym, subst, slice_get, slice_set}
 use Rattle.guard_analysis.specs.CallGraph.{mode_at}
-use Rattle.mark_reasons.specs.Reasons.{marked_section}
-use Rattle.mark_reasons.specs.Searches.{node_call, site_at, IsFirstTurn}
-use Rattle.mark_reasons.proofs.Nodes.{class_there}
-use Rattle.mark_reasons.proofs.TurnLaws.{some_turns, walk_shown}
+use Rattle.mark_reasons.{specs.{Reasons.marked_section, Searches.{node_call, site_at, IsFirstTurn}}, proofs.{Nodes.class_there, TurnLaws.{some_turns, walk_shown}}}
 use Rattle.mark_reasons.proofs.recursion.come_back.Goals as goal
 
 pub unreachable-requires : goal.unreachable-requires

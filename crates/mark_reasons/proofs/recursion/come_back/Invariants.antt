@@ -1,7 +1,6 @@
 use Rattle.std.proofs.Common.{◌*◌, length}
 use Rattle.checked_program.specs.TaggedCode.{tagged_by}
-use Rattle.mark_reasons.specs.Reasons.{marked_section}
-use Rattle.mark_reasons.specs.Searches.{Walking, unplaced}
+use Rattle.mark_reasons.specs.{Reasons.marked_section, Searches.{Walking, unplaced}}
 use Rattle.mark_reasons.proofs.recursion.come_back.Given as goal
 
 abbrev pub invariant-loop-i : goal.invariant-loop-i

@@ -1,17 +1,10 @@
-use Rattle.std.proofs.Common.{◌≡◌, ◌∙◌, ◌+◌, ◌*◌, ◌≤◌, ◌/◌, ℕ, Option, Some, None, [], false, length, ap, refl, sym, subst, arith}
-use Rattle.std.specs.Prelude.{replicate, slice_get}
-use Rattle.checked_program.specs.TaggedCode.{tagged_by}
-use Rattle.checked_program.specs.Sections.{section_mode}
-use Rattle.checked_program.specs.declared.section.Mode.{Mode}
+use Rattle.std.proofs.Common.{◌≡◌, ◌∙◌, ◌+◌, ◌*◌, ◌≤◌, ◌/◌, ℕ, Option, Some, None, [], false, length, ap, refl, sym, subst, arith, replicate, slice_get}
+use Rattle.checked_program.specs.{Sections.section_mode, TaggedCode.tagged_by, declared.section.Mode.Mode}
 use Rattle.guard_analysis.specs.CallGraph.{mode_at}
-use Rattle.mark_reasons.specs.Reasons.{marked_section, mark_by, LeadsToFault}
-use Rattle.mark_reasons.specs.Searches.{class_of_section, node_fault, node_fault_of, node_visits, own_call, site_at, visits, IsBack, IsFirstFaultOf}
-use Rattle.mark_reasons.specs.declared.reason.Site.{Site}
-use Rattle.mark_reasons.specs.declared.search.Search.{Search}
-use Rattle.mark_reasons.proofs.Nodes.{class_there, mode_there}
-use Rattle.mark_reasons.proofs.SearchLaws.{found_none}
-use Rattle.mark_reasons.proofs.ShortestLaws.{back_calls, no_shorter}
-use Rattle.mark_reasons.proofs.BackLaws.{called_before, leads_to_fault, none_before, none_left, node_is_fault, search_begins, search_goes_on, search_lessens}
+use Rattle.mark_reasons.specs.{Reasons.{marked_section, mark_by, LeadsToFault}, Searches.{class_of_section, node_fault, node_fault_of, node_visits, own_call, site_at, visits, IsBack, IsFirstFaultOf}}
+use Rattle.mark_reasons.specs.declared.{reason.Site.Site, search.Search.Search}
+use Rattle.mark_reasons.proofs.{BackLaws.{called_before, leads_to_fault, none_before, none_left, node_is_fault, search_begins, search_goes_on, search_lessens}, Nodes.{class_there, mode_there}}
+use Rattle.mark_reasons.proofs.{SearchLaws.found_none, ShortestLaws.{back_calls, no_shorter}}
 use Rattle.mark_reasons.proofs.search.find_fault.Goals as goal
 
 pub loop-k-init : goal.loop-k-init

@@ -1,7 +1,6 @@
 use Rattle.std.proofs.Common.{◌*◌, length}
 use Rattle.checked_program.specs.TaggedCode.{tagged_by}
-use Rattle.mark_reasons.specs.Reasons.{marked_section}
-use Rattle.mark_reasons.specs.Searches.{Searching, left_of}
+use Rattle.mark_reasons.specs.{Reasons.marked_section, Searches.{Searching, left_of}}
 use Rattle.mark_reasons.proofs.search.find_fault.Given as goal
 
 abbrev pub invariant-loop-k : goal.invariant-loop-k

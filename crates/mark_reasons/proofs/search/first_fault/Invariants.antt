@@ -1,5 +1,4 @@
-use Rattle.std.proofs.Common.{◌≡◌, ℕ, ◌<◌, false, Some}
-use Rattle.std.specs.Prelude.{nat_lt}
+use Rattle.std.proofs.Common.{◌≡◌, ℕ, ◌<◌, false, Some, nat_lt}
 use Rattle.mark_reasons.specs.Searches.{node_fault}
 use Rattle.mark_reasons.proofs.search.first_fault.Given as goal
 

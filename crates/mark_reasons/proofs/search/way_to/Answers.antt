@@ -1,7 +1,5 @@
 use Rattle.std.proofs.Common.{◌≡◌, ◌∙◌, ◌-◌, ◌≤◌, ◌++◌, ◌∷◌, [], List, refl, sym, subst, arith}
-use Rattle.mark_reasons.specs.Searches.{IsBack, from_section, own_site, site_at}
-use Rattle.mark_reasons.specs.declared.reason.Site.{Site}
-use Rattle.mark_reasons.proofs.BackLaws.{back_step, way_prepends, way_reverses}
+use Rattle.mark_reasons.{specs.{Searches.{IsBack, from_section, own_site, site_at}, declared.reason.Site.Site}, proofs.BackLaws.{back_step, way_prepends, way_reverses}}
 use Rattle.mark_reasons.proofs.search.way_to.Goals as goal
 
 pub loop-e-preserved : goal.loop-e-preserved

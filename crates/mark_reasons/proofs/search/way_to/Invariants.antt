@@ -1,7 +1,5 @@
-use Rattle.std.proofs.Common.{◌≡◌, ◌++◌, List, Some}
-use Rattle.std.specs.Prelude.{reverse, slice_get}
-use Rattle.mark_reasons.specs.Searches.{IsBack}
-use Rattle.mark_reasons.specs.declared.reason.Site.{Site}
+use Rattle.std.proofs.Common.{◌≡◌, ◌++◌, List, Some, reverse, slice_get}
+use Rattle.mark_reasons.specs.{Searches.IsBack, declared.reason.Site.Site}
 use Rattle.mark_reasons.proofs.search.way_to.Given as goal
 
 abbrev pub invariant-loop-e : goal.invariant-loop-e

@@ -1,5 +1,4 @@
-use Rattle.std.proofs.Common.{◌≡◌, ◌++◌, drop}
-use Rattle.std.specs.List.{flat_map}
+use Rattle.std.{proofs.Common.{◌≡◌, ◌++◌, drop}, specs.List.flat_map}
 use Rattle.mark_reasons.specs.ReasonTexts.{call_line, way_lines}
 use Rattle.mark_reasons.proofs.texts.write_way.Given as goal
 

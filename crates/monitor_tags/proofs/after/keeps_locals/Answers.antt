@@ -1,6 +1,4 @@
-use Rattle.std.proofs.Common.{◌≡◌, sym, ap, ◌∙◌}
-use Rattle.std.specs.Prelude.{slice_set}
-use Rattle.std.proofs.lemmas.List.{set-get_or}
+use Rattle.std.proofs.{Common.{◌≡◌, sym, ap, ◌∙◌, slice_set}, lemmas.List.set-get_or}
 use Rattle.checked_program.specs.declared.tag.Tag.TheVariants.{Untagged}
 use Rattle.laws_sections.proofs.TagOrder.{one_tag}
 use Rattle.monitor_tags.proofs.after.keeps_locals.Goals as goal

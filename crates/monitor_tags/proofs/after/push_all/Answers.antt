@@ -1,10 +1,6 @@
-use Rattle.std.proofs.Common.{◌≡◌, ℕ, ◌+◌, ◌-◌, ◌<◌, ◌≤◌, List, ◌∷◌, ◌++◌, length, map, drop, refl, ap, ◌∙◌, sym, arith}
-use Rattle.std.specs.Prelude.{slice_index_or}
-use Rattle.std.proofs.lemmas.List.{drop_more, drop_all}
-use Rattle.jvm_types.specs.CodeTable.{value_of}
-use Rattle.checked_program.specs.declared.tag.Tag.{Tag}
-use Rattle.checked_program.specs.declared.tag.Tag.TheVariants.{Untagged}
-use Rattle.jvm_types.specs.declared.op_row.Given.{Given}
+use Rattle.std.proofs.{Common.{◌≡◌, ℕ, ◌+◌, ◌-◌, ◌<◌, ◌≤◌, List, ◌∷◌, ◌++◌, length, map, drop, refl, ap, ◌∙◌, sym, arith, slice_index_or}, lemmas.List.{drop_more, drop_all}}
+use Rattle.jvm_types.specs.{CodeTable.value_of, declared.op_row.Given.Given}
+use Rattle.checked_program.specs.declared.tag.Tag.{Tag, TheVariants.Untagged}
 use Rattle.monitor_tags.proofs.after.push_all.Goals as goal
 
 one_more : (v : Given → Tag) (gives : List Given) (i : ℕ) (d : Given) (base : List Tag) → 0 < i → i ≤ length gives

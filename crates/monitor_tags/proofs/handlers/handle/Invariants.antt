@@ -1,7 +1,7 @@
 use Rattle.std.proofs.Common.{◌≡◌, drop, length}
 use Rattle.jvm_types.specs.Verifying.{covering}
-use Rattle.checked_program.specs.Tagging.{until_all}
 use Rattle.handler_rows.specs.HandlerRows.{picked}
+use Rattle.checked_program.specs.Tagging.{until_all}
 use Rattle.monitor_tags.specs.Visiting.{AreLong, does, to_handlers}
 use Rattle.monitor_tags.proofs.handlers.handle.Given as goal
 

@@ -1,8 +1,7 @@
-use Rattle.std.proofs.Common.{◌≡◌, drop, length}
-use Rattle.std.specs.List.{list_any}
+use Rattle.std.{proofs.Common.{◌≡◌, drop, length}, specs.List.list_any}
 use Rattle.jvm_types.specs.Verifying.{covering}
-use Rattle.checked_program.specs.Tagging.{catches_all}
 use Rattle.handler_rows.specs.HandlerRows.{picked}
+use Rattle.checked_program.specs.Tagging.{catches_all}
 use Rattle.monitor_tags.proofs.rules.is_caught.Given as goal
 
 abbrev pub invariant-loop-behind : goal.invariant-loop-behind

@@ -1,5 +1,4 @@
-use Rattle.std.proofs.Common.{◌≡◌, ◌++◌, not, take, drop, length}
-use Rattle.std.specs.Prelude.{◌||◌}
+use Rattle.std.proofs.Common.{◌≡◌, ◌++◌, not, take, drop, length, ◌||◌}
 use Rattle.checked_program.specs.LockTags.{same_tags, meet_tags}
 use Rattle.monitor_tags.proofs.tag_stacks.meet_places.Given as goal
 

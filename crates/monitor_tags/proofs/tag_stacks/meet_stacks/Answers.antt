@@ -1,5 +1,4 @@
-use Rattle.std.proofs.Common.{◌≡◌, min, not, length, ap, ◌∙◌}
-use Rattle.std.specs.Prelude.{◌||◌, nat_lt}
+use Rattle.std.proofs.Common.{◌≡◌, min, not, length, ap, ◌∙◌, ◌||◌, nat_lt}
 use Rattle.checked_program.specs.LockTags.{same_tags, meet_tags}
 use Rattle.monitor_tags.proofs.StackTags.{meet_top, told_top}
 use Rattle.monitor_tags.proofs.tag_stacks.meet_stacks.Goals as goal

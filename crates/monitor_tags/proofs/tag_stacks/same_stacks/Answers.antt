@@ -1,5 +1,4 @@
-use Rattle.std.proofs.Common.{◌∙◌, suc, drop, sym, ap, add-one}
-use Rattle.std.specs.Prelude.{◌&&◌}
+use Rattle.std.proofs.Common.{◌∙◌, suc, drop, sym, ap, add-one, ◌&&◌}
 use Rattle.checked_program.specs.LockTags.{same_tags}
 use Rattle.monitor_tags.proofs.StackTags.{other_length, same_place}
 use Rattle.monitor_tags.proofs.tag_stacks.same_stacks.Goals as goal

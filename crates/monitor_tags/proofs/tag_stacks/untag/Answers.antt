@@ -1,5 +1,4 @@
-use Rattle.std.proofs.Common.{◌∙◌, add-one}
-use Rattle.std.proofs.lemmas.List.{length-set}
+use Rattle.std.proofs.{Common.{◌∙◌, add-one}, lemmas.List.length-set}
 use Rattle.checked_program.proofs.FilledTags.{without_more}
 use Rattle.monitor_tags.proofs.tag_stacks.untag.Goals as goal
 

@@ -1,12 +1,9 @@
-use Rattle.std.proofs.Common.{◌≡◌, [], take, Some, None, sym}
-use Rattle.std.specs.Prelude.{slice_get, IfOk, IfErr}
-use Rattle.checked_program.specs.Tagging.{IsTaggingOf}
-use Rattle.checked_program.specs.declared.tag.Tags.{Tags}
-use Rattle.monitor_tags.specs.declared.error.TagError.TheVariants.{Memory}
+use Rattle.std.proofs.Common.{◌≡◌, [], take, Some, None, sym, slice_get, IfOk, IfErr}
 use Rattle.laws_programs.proofs.CodeOrder.{laid_out}
-use Rattle.monitor_tags.proofs.OneAnswer.{only_by, tagged_by}
-use Rattle.monitor_tags.proofs.tagging.tag_within.Goals as goal
+use Rattle.checked_program.specs.{Tagging.IsTaggingOf, declared.tag.Tags.Tags}
 use Rattle.code_visits.proofs.MethodsWithin.{is_there, some_and}
+use Rattle.monitor_tags.{specs.declared.error.TagError.TheVariants.Memory, proofs.OneAnswer.{only_by, tagged_by}}
+use Rattle.monitor_tags.proofs.tagging.tag_within.Goals as goal
 
 pub tag_method-requires : goal.tag_method-requires
 tag_method-requires c = laid_out c.args.p.now (take c.args.method c.args.p.now.methods) c.in-Some.m.now (c.requires.program.methods c.args.method c.in-Some.m.now (sym c.in-Some.ensures.value))

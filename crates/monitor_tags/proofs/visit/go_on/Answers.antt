@@ -1,9 +1,7 @@
-use Rattle.std.proofs.Common.{ap, ◌∙◌}
-use Rattle.std.proofs.lemmas.Result.{err_from_is_err_and}
+use Rattle.std.proofs.{Common.{ap, ◌∙◌}, lemmas.Result.err_from_is_err_and}
 use Rattle.jvm_types.specs.declared.refusal.SRule.TheVariants.{S4}
 use Rattle.checked_program.specs.Tagging.{break_if}
-use Rattle.monitor_tags.specs.Visiting.{does}
-use Rattle.monitor_tags.proofs.VisitLaws.{went, stopped}
+use Rattle.monitor_tags.{specs.Visiting.does, proofs.VisitLaws.{went, stopped}}
 use Rattle.monitor_tags.proofs.visit.go_on.Goals as goal
 
 pub returns-in_err-handle_kept-clause-left : goal.returns-in_err-handle_kept-clause-left

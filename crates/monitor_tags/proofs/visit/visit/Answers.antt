@@ -1,10 +1,6 @@
-use Rattle.std.proofs.Common.{Err, sym, subst, ap, ◌∙◌}
-use Rattle.std.specs.Prelude.{slice_get}
-use Rattle.std.proofs.lemmas.Result.{err_from_is_err_and}
-use Rattle.jvm_types.specs.CodeTable.{row}
-use Rattle.jvm_types.specs.declared.program.MethodInfo.{MethodInfo}
-use Rattle.monitor_tags.specs.Visiting.{TagsPrepared}
-use Rattle.monitor_tags.proofs.VisitLaws.{unprepared, leaves_at}
+use Rattle.std.proofs.{Common.{Err, sym, subst, ap, ◌∙◌, slice_get}, lemmas.Result.err_from_is_err_and}
+use Rattle.jvm_types.specs.{CodeTable.row, declared.program.MethodInfo.MethodInfo}
+use Rattle.monitor_tags.{specs.Visiting.TagsPrepared, proofs.VisitLaws.{unprepared, leaves_at}}
 use Rattle.monitor_tags.proofs.visit.visit.Goals as goal
 
 pub returns-in_err-going-clause-left : goal.returns-in_err-going-clause-left

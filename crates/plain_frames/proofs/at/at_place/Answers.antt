@@ -1,5 +1,4 @@
-use Rattle.std.proofs.Common.{sym, ap, ◌∙◌}
-use Rattle.std.specs.Option.{option_copied}
+use Rattle.std.{proofs.Common.{sym, ap, ◌∙◌}, specs.Option.option_copied}
 use Rattle.plain_frames.proofs.TopPlaces.{no_frame, no_method, no_number, no_insn, no_target, placed, drop_got}
 use Rattle.plain_frames.proofs.at.at_place.Goals as goal
 

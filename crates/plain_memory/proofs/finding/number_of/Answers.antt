@@ -1,5 +1,4 @@
-use Rattle.std.proofs.Common.{leb, rules}
-use Rattle.std.proofs.lemmas.List.Sorted.{IsPartitionPoint-from_clause, IsPartitionedBy-leb}
+use Rattle.std.proofs.{Common.{leb, rules}, lemmas.List.Sorted.{IsPartitionPoint-from_clause, IsPartitionedBy-leb}}
 use Rattle.machine_types.specs.PlainMemory.{object_end}
 use Rattle.plain_memory.proofs.ApartLaws.{ends_rise, only_one}
 use Rattle.plain_memory.proofs.finding.number_of.Goals as goal

@@ -1,8 +1,5 @@
-use Rattle.std.proofs.Common.{◌≡◌, ◌≤◌, ◌+◌, ◌-◌, ◌*◌, ◌++◌}
-use Rattle.std.specs.List.{range_with_len}
-use Rattle.jvm_types.specs.declared.class_numbers.TheConstants.{FIRST_FILE_CLASS}
-use Rattle.jvm_types.specs.declared.fixed_words.TheConstants.{FIRST_CLASS_WORD}
-use Rattle.jvm_types.specs.declared.limits.TheConstants.{MOST_HEAP}
+use Rattle.std.{proofs.Common.{◌≡◌, ◌≤◌, ◌+◌, ◌-◌, ◌*◌, ◌++◌}, specs.List.range_with_len}
+use Rattle.jvm_types.specs.declared.{class_numbers.TheConstants.FIRST_FILE_CLASS, fixed_words.TheConstants.FIRST_CLASS_WORD, limits.TheConstants.MOST_HEAP}
 use Rattle.machine_types.specs.PlainMemory.{class_objects}
 use Rattle.plain_memory.proofs.start.add_classes.Given as goal
 

@@ -1,5 +1,4 @@
-use Rattle.std.proofs.Common.{◌≡◌, ◌++◌, drop}
-use Rattle.std.specs.List.{flat_map}
+use Rattle.std.{proofs.Common.{◌≡◌, ◌++◌, drop}, specs.List.flat_map}
 use Rattle.reason_json.specs.ReasonJson.{call_object, way_objects}
 use Rattle.reason_json.proofs.objects.write_way.Given as goal
 

@@ -1,4 +1,4 @@
-use Rattle.std.specs.Prelude.{Some}
+use Rattle.std.proofs.Common.{Some}
 use Rattle.record_run.proofs.recording.run_recorded.Given as goal
 
 -- the run of the machine whose workers have begun

@@ -1,5 +1,4 @@
-use Rattle.std.proofs.Common.{◌≡◌, ◌++◌, drop}
-use Rattle.std.specs.List.{flat_map}
+use Rattle.std.{proofs.Common.{◌≡◌, ◌++◌, drop}, specs.List.flat_map}
 use Rattle.refusal_places.specs.Naming.{begun_fact}
 use Rattle.refusal_places.proofs.naming.tell_begun.Given as goal
 

@@ -1,7 +1,6 @@
 use Rattle.std.proofs.Common.{◌≡◌, ◌<◌, ap, sym, ◌∙◌, arith}
 use Rattle.machine_types.specs.Core.{next_threads}
-use Rattle.replay_runner.specs.Running.{Running, parts_left}
-use Rattle.replay_runner.proofs.LessWork.{alone_parts, next_parts}
+use Rattle.replay_runner.{specs.Running.{Running, parts_left}, proofs.LessWork.{alone_parts, next_parts}}
 use Rattle.replay_runner.proofs.ending.finish.Goals as goal
 
 pub loop-locked-smaller : goal.loop-locked-smaller

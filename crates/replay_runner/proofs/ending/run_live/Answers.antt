@@ -1,6 +1,5 @@
 use Rattle.std.proofs.Common.{ap, ◌∙◌}
-use Rattle.replay_runner.specs.Running.{Running, parts_left}
-use Rattle.replay_runner.proofs.LessWork.{event_parts}
+use Rattle.replay_runner.{specs.Running.{Running, parts_left}, proofs.LessWork.event_parts}
 use Rattle.replay_runner.proofs.ending.run_live.Goals as goal
 
 pub loop-t-preserved : goal.loop-t-preserved

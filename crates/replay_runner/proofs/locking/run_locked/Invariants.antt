@@ -1,4 +1,4 @@
-use Rattle.std.specs.Prelude.{Some}
+use Rattle.std.proofs.Common.{Some}
 use Rattle.replay_runner.proofs.locking.run_locked.Given as goal
 
 -- the run of the machine that was just made

@@ -1,8 +1,6 @@
-use Rattle.std.proofs.Common.{ap, sym, ℕ, Option, arith}
-use Rattle.std.specs.Option.{option_or}
+use Rattle.std.{proofs.Common.{ap, sym, ℕ, Option, arith}, specs.Option.option_or}
 use Rattle.machine_types.specs.Schedules.{live_from}
-use Rattle.replay_runner.proofs.MachineEvents.{live_there}
-use Rattle.replay_runner.proofs.Turns.{live_here}
+use Rattle.replay_runner.proofs.{MachineEvents.live_there, Turns.live_here}
 use Rattle.replay_runner.proofs.replaying.next_worker.Goals as goal
 
 pub returns-then-is_live_worker-clause-worker : goal.returns-then-is_live_worker-clause-worker

@@ -1,7 +1,5 @@
 use Rattle.std.proofs.Common.{suc}
-use Rattle.replay_runner.specs.Running.{run_on}
-use Rattle.replay_runner.proofs.ManyEvents.{of_program}
-use Rattle.replay_runner.proofs.RunAhead.{ahead, fine_of, leaves_less}
+use Rattle.replay_runner.{specs.Running.run_on, proofs.{ManyEvents.of_program, RunAhead.{ahead, fine_of, leaves_less}}}
 use Rattle.replay_runner.proofs.running.go_far.Goals as goal
 
 pub run_ahead-ahead-requires-clause-program : goal.run_ahead-ahead-requires-clause-program

@@ -1,6 +1,5 @@
 use Rattle.std.proofs.Common.{◌+◌}
-use Rattle.replay_runner.specs.Running.{run_on}
-use Rattle.replay_runner.proofs.RunAhead.{on_again}
+use Rattle.replay_runner.{specs.Running.run_on, proofs.RunAhead.on_again}
 use Rattle.replay_runner.proofs.running.run_far.Goals as goal
 
 pub loop-s-init : goal.loop-s-init

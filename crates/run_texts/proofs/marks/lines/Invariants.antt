@@ -1,5 +1,4 @@
-use Rattle.std.proofs.Common.{◌≡◌, ◌++◌, drop}
-use Rattle.std.specs.List.{flat_map}
+use Rattle.std.{proofs.Common.{◌≡◌, ◌++◌, drop}, specs.List.flat_map}
 use Rattle.run_texts.specs.MarksText.{mark_line, marks_text}
 use Rattle.run_texts.proofs.marks.lines.Given as goal
 

@@ -1,6 +1,4 @@
-use Rattle.std.proofs.Common.{◌≡◌, ◌++◌, drop, string_bytes}
-use Rattle.std.specs.Fmt.{decimal}
-use Rattle.std.specs.List.{flat_map}
+use Rattle.std.{proofs.Common.{◌≡◌, ◌++◌, drop, string_bytes}, specs.{Fmt.decimal, List.flat_map}}
 use Rattle.run_texts.proofs.orders.write_numbers.Given as goal
 
 -- the numbers that are written, with those that are left, are all

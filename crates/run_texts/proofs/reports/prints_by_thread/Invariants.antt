@@ -1,5 +1,4 @@
-use Rattle.std.proofs.Common.{◌≡◌, ◌++◌, drop}
-use Rattle.std.specs.List.{flat_map}
+use Rattle.std.{proofs.Common.{◌≡◌, ◌++◌, drop}, specs.List.flat_map}
 use Rattle.jvm_types.specs.declared.outcome.ThreadReport.{ThreadReport}
 use Rattle.run_texts.proofs.reports.prints_by_thread.Given as goal
 

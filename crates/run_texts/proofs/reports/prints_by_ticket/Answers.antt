@@ -1,7 +1,5 @@
-use Rattle.std.proofs.Common.{◌∙◌, ap, rules}
-use Rattle.std.proofs.lemmas.List.Sorted.{answers_always}
-use Rattle.run_texts.specs.Report.{by_ticket}
-use Rattle.run_texts.proofs.ByTicket.{sorted_is_by_ticket}
+use Rattle.std.proofs.{Common.{◌∙◌, ap, rules}, lemmas.List.Sorted.answers_always}
+use Rattle.run_texts.{specs.Report.by_ticket, proofs.ByTicket.sorted_is_by_ticket}
 use Rattle.run_texts.proofs.reports.prints_by_ticket.Goals as goal
 
 pub returns : goal.returns

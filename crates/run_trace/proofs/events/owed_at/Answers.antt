@@ -1,6 +1,4 @@
-use Rattle.std.proofs.Common.{ℕ, Option, ap, ◌∙◌}
-use Rattle.std.proofs.lemmas.Option.{unwrap_or-slice_get}
-use Rattle.std.specs.Prelude.{unwrap_or}
+use Rattle.std.{proofs.{Common.{ℕ, Option, ap, ◌∙◌}, lemmas.Option.unwrap_or-slice_get}, specs.Prelude.unwrap_or}
 use Rattle.run_trace.proofs.events.owed_at.Goals as goal
 
 pub returns-in-None : goal.returns-in-None

@@ -1,8 +1,6 @@
-use Rattle.std.proofs.Common.{◌≡◌, ◌++◌, ℕ, List, None, subst}
-use Rattle.std.specs.Option.{option_map}
+use Rattle.std.{proofs.Common.{◌≡◌, ◌++◌, ℕ, List, None, subst}, specs.Option.option_map}
 use Rattle.machine_types.specs.Schedules.{First, turn_at}
-use Rattle.run_trace.specs.Traces.{WalksOn}
-use Rattle.run_trace.proofs.Walks.{whole}
+use Rattle.run_trace.{specs.Traces.WalksOn, proofs.Walks.whole}
 use Rattle.run_trace.proofs.traces.explain_run.Goals as goal
 
 pub returns : goal.returns

@@ -1,5 +1,4 @@
-use Rattle.std.proofs.Common.{ℕ, ◌+◌, refl, ap, ◌∙◌}
-use Rattle.std.specs.Prelude.{replicate}
+use Rattle.std.proofs.Common.{ℕ, ◌+◌, refl, ap, ◌∙◌, replicate}
 use Rattle.run_trace.proofs.traces.start.Goals as goal
 
 pub returns-clause-ok : goal.returns-clause-ok

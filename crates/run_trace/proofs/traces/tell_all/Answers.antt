@@ -1,9 +1,7 @@
 use Rattle.std.proofs.Common.{refl, sym, ap, ◌∙◌}
-use Rattle.machine_types.specs.Core.{NextPart}
-use Rattle.machine_types.specs.Schedules.{First, turn_at}
+use Rattle.machine_types.specs.{Core.NextPart, Schedules.{First, turn_at}}
 use Rattle.replay_runner.specs.Running.{Running}
-use Rattle.run_trace.specs.Turns.{stage_of, turn_of_next}
-use Rattle.run_trace.proofs.Walks.{walks_both, walks_by}
+use Rattle.run_trace.{specs.Turns.{stage_of, turn_of_next}, proofs.Walks.{walks_both, walks_by}}
 use Rattle.run_trace.proofs.traces.tell_all.Goals as goal
 
 pub loop-next-init : goal.loop-next-init

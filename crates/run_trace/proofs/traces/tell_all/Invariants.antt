@@ -1,7 +1,6 @@
 use Rattle.std.proofs.Common.{◌≡◌}
 use Rattle.machine_types.specs.Schedules.{First, turn_at}
-use Rattle.run_trace.specs.Traces.{WalksOn}
-use Rattle.run_trace.specs.Turns.{IsNoEvent, next_ahead, turn_of_next}
+use Rattle.run_trace.specs.{Traces.WalksOn, Turns.{IsNoEvent, next_ahead, turn_of_next}}
 use Rattle.run_trace.proofs.traces.tell_all.Given as goal
 
 abbrev pub invariant-loop-next : goal.invariant-loop-next

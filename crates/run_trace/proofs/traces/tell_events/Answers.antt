@@ -1,9 +1,7 @@
 use Rattle.std.proofs.Common.{sym, ap, ◌∙◌, arith}
-use Rattle.machine_types.specs.Core.{Of}
-use Rattle.machine_types.specs.Schedules.{turn_at}
+use Rattle.machine_types.specs.{Core.Of, Schedules.turn_at}
 use Rattle.replay_runner.specs.Running.{Running}
-use Rattle.run_trace.specs.Turns.{next_ahead, stage_of, turn_of_next}
-use Rattle.run_trace.proofs.Walks.{walks_by}
+use Rattle.run_trace.{specs.Turns.{next_ahead, stage_of, turn_of_next}, proofs.Walks.walks_by}
 use Rattle.run_trace.proofs.traces.tell_events.Goals as goal
 
 pub loop-next-preserved : goal.loop-next-preserved

@@ -1,8 +1,7 @@
 use Rattle.std.proofs.Common.{◌≡◌, ◌≤◌}
 use Rattle.machine_types.specs.Schedules.{turn_at}
 use Rattle.laws_states.specs.WorkLeft.{all_work}
-use Rattle.run_trace.specs.Traces.{WalksOn}
-use Rattle.run_trace.specs.Turns.{IsMayBe, next_ahead, parts_ahead, stage_of, turn_of_next}
+use Rattle.run_trace.specs.{Traces.WalksOn, Turns.{IsMayBe, next_ahead, parts_ahead, stage_of, turn_of_next}}
 use Rattle.run_trace.proofs.traces.tell_events.Given as goal
 
 abbrev pub invariant-loop-next : goal.invariant-loop-next

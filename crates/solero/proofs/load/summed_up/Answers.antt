@@ -1,6 +1,6 @@
+use Rattle.laws_refinement.proofs.SomeThread.{some_thread}
 use Rattle.command_words.specs.Requests.{asked_by}
 use Rattle.solero.proofs.Reported.{load_summed}
-use Rattle.laws_refinement.proofs.SomeThread.{some_thread}
 use Rattle.solero.proofs.load.summed_up.Goals as goal
 
 pub summary-requires : goal.summary-requires

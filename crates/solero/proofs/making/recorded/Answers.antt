@@ -1,6 +1,6 @@
+use Rattle.laws_refinement.proofs.SomeThread.{some_thread}
 use Rattle.command_words.specs.Requests.{asked_by}
 use Rattle.solero.proofs.Reported.{record_made}
-use Rattle.laws_refinement.proofs.SomeThread.{some_thread}
 use Rattle.solero.proofs.making.recorded.Goals as goal
 
 pub recorded_report-requires : goal.recorded_report-requires

@@ -1,5 +1,4 @@
-use Rattle.solero.proofs.Accepted.{never_three}
-use Rattle.solero.proofs.Whole.{refused_status, refused_whole, whole}
+use Rattle.solero.proofs.{Accepted.never_three, Whole.{refused_status, refused_whole, whole}}
 use Rattle.solero.proofs.program.top.Goals as goal
 
 pub returns-clause-accepted : goal.returns-clause-accepted

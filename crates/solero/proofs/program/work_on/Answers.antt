@@ -1,8 +1,7 @@
 use Rattle.std.proofs.Common.{◌≡◌, rules}
-use Rattle.command_words.specs.Words.{texts}
-use Rattle.command_words.specs.Requests.{asked_by}
-use Rattle.solero.proofs.Owed.{unread_due}
 use Rattle.host_io.proofs.SoFar.{none_long}
+use Rattle.command_words.specs.{Requests.asked_by, Words.texts}
+use Rattle.solero.proofs.Owed.{unread_due}
 use Rattle.solero.proofs.program.work_on.Goals as goal
 
 pub run_files-requires-clause-short : goal.run_files-requires-clause-short

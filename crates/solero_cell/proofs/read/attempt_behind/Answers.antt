@@ -1,6 +1,5 @@
 use Rattle.std.proofs.Common.{length, ap, ◌∙◌}
-use Rattle.solero_cell.specs.declared.views.View.{View}
-use Rattle.solero_cell.proofs.Going.{all_loaded, begin_loading, seat_on}
+use Rattle.solero_cell.{specs.declared.views.View.View, proofs.Going.{all_loaded, begin_loading, seat_on}}
 use Rattle.solero_cell.proofs.read.attempt_behind.Goals as goal
 
 pub load_values-requires-clause-loading : goal.load_values-requires-clause-loading

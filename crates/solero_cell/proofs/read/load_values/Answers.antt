@@ -1,6 +1,5 @@
 use Rattle.std.proofs.Common.{ap, arith}
-use Rattle.solero_cell.specs.declared.views.View.{View}
-use Rattle.solero_cell.proofs.Going.{loading_on, seat_on}
+use Rattle.solero_cell.{specs.declared.views.View.View, proofs.Going.{loading_on, seat_on}}
 use Rattle.solero_cell.proofs.read.load_values.Goals as goal
 
 pub load_value-requires-clause-seat : goal.load_value-requires-clause-seat

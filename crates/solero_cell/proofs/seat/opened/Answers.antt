@@ -1,7 +1,5 @@
 use Rattle.std.proofs.Common.{◌∷◌, [], sym, subst}
-use Rattle.solero_cell.specs.CellRules.{HasOneHistory}
-use Rattle.solero_cell.specs.CellViews.{first_view}
-use Rattle.solero_cell.proofs.SeatSteps.{opening_shows}
+use Rattle.solero_cell.{specs.{CellRules.HasOneHistory, CellViews.first_view}, proofs.SeatSteps.opening_shows}
 use Rattle.solero_cell.proofs.seat.opened.Goals as goal
 
 pub of_words-requires : goal.of_words-requires

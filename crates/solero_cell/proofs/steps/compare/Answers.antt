@@ -1,6 +1,5 @@
 use Rattle.std.proofs.Common.{arith}
-use Rattle.solero_cell.specs.Steps.{HasCompared}
-use Rattle.solero_cell.proofs.ReadSteps.{load_allows, compare_step}
+use Rattle.solero_cell.{specs.Steps.HasCompared, proofs.ReadSteps.{load_allows, compare_step}}
 use Rattle.solero_cell.proofs.steps.compare.Goals as goal
 
 pub load-nothing-requires : goal.load-nothing-requires

@@ -1,6 +1,5 @@
 use Rattle.std.proofs.Common.{arith}
-use Rattle.solero_cell.specs.Steps.{TellsFinish}
-use Rattle.solero_cell.proofs.ReadSteps.{load_allows, finish_step}
+use Rattle.solero_cell.{specs.Steps.TellsFinish, proofs.ReadSteps.{load_allows, finish_step}}
 use Rattle.solero_cell.proofs.steps.finish.Goals as goal
 
 pub load-requires : goal.load-requires

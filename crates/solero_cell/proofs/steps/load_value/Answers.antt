@@ -1,6 +1,5 @@
 use Rattle.std.proofs.Common.{◌≡◌, ◌+◌, arith}
-use Rattle.solero_cell.specs.CellViews.{has_loaded}
-use Rattle.solero_cell.proofs.ReadSteps.{load_allows, load_step_at}
+use Rattle.solero_cell.{specs.CellViews.has_loaded, proofs.ReadSteps.{load_allows, load_step_at}}
 use Rattle.solero_cell.proofs.steps.load_value.Goals as goal
 
 pub load-requires : goal.load-requires

@@ -1,6 +1,5 @@
 use Rattle.std.proofs.Common.{arith}
-use Rattle.solero_cell.specs.Steps.{TellsNote}
-use Rattle.solero_cell.proofs.ReadSteps.{load_allows, note_step}
+use Rattle.solero_cell.{specs.Steps.TellsNote, proofs.ReadSteps.{load_allows, note_step}}
 use Rattle.solero_cell.proofs.steps.note.Goals as goal
 
 pub load-requires : goal.load-requires

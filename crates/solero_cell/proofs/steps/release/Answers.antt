@@ -1,7 +1,5 @@
-use Rattle.std.proofs.Common.{length, sym, ap, ◌∙◌, subst, refl, arith}
-use Rattle.solero_cell.specs.Steps.{HasWritten}
-use Rattle.std.specs.Prelude.{◌*◌}
-use Rattle.solero_cell.proofs.WriteSteps.{Leads, write_allows, release_step}
+use Rattle.std.proofs.Common.{length, sym, ap, ◌∙◌, subst, refl, arith, ◌*◌}
+use Rattle.solero_cell.{specs.Steps.HasWritten, proofs.WriteSteps.{Leads, write_allows, release_step}}
 use Rattle.solero_cell.proofs.steps.release.Goals as goal
 
 pub store-requires : goal.store-requires

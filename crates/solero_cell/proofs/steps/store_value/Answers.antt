@@ -1,7 +1,5 @@
 use Rattle.std.proofs.Common.{◌≡◌, ◌+◌, arith}
-use Rattle.solero_cell.specs.CellViews.{has_stored}
-use Rattle.solero_cell.specs.Steps.{storing_of}
-use Rattle.solero_cell.proofs.WriteSteps.{write_allows, store_step_at}
+use Rattle.solero_cell.{specs.{CellViews.has_stored, Steps.storing_of}, proofs.WriteSteps.{write_allows, store_step_at}}
 use Rattle.solero_cell.proofs.steps.store_value.Goals as goal
 
 pub store-requires : goal.store-requires

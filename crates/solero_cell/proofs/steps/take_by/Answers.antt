@@ -1,8 +1,6 @@
-use Rattle.std.proofs.Common.{length, sym, ap, ◌∙◌, subst, arith}
-use Rattle.std.specs.Prelude.{◌==◌, slice_index}
+use Rattle.std.proofs.Common.{length, sym, ap, ◌∙◌, subst, arith, ◌==◌, slice_index}
+use Rattle.solero_cell.{specs.Steps.TellsTake, proofs.WriteSteps.{Leads, write_allows, take_step}}
 use prog.Atomic.{either}
-use Rattle.solero_cell.specs.Steps.{TellsTake}
-use Rattle.solero_cell.proofs.WriteSteps.{Leads, write_allows, take_step}
 use Rattle.solero_cell.proofs.steps.take_by.Goals as goal
 
 pub compare_exchange-requires : goal.compare_exchange-requires

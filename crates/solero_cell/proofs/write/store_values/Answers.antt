@@ -1,6 +1,5 @@
 use Rattle.std.proofs.Common.{ap}
-use Rattle.solero_cell.specs.declared.views.View.{View}
-use Rattle.solero_cell.proofs.Going.{seat_on}
+use Rattle.solero_cell.{specs.declared.views.View.View, proofs.Going.seat_on}
 use Rattle.solero_cell.proofs.write.store_values.Goals as goal
 
 pub store_value-requires-clause-seat : goal.store_value-requires-clause-seat

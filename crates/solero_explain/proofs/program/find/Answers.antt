@@ -1,8 +1,7 @@
 use Rattle.std.proofs.Common.{◌≡◌, rules}
-use Rattle.command_words.specs.Words.{texts}
 use Rattle.host_io.proofs.SoFar.{none_long}
-use Rattle.solero_explain.proofs.Owed.{unread_due}
-use Rattle.solero_explain.specs.Requests.{question_by}
+use Rattle.command_words.specs.Words.{texts}
+use Rattle.solero_explain.{specs.Requests.question_by, proofs.Owed.unread_due}
 use Rattle.solero_explain.proofs.program.find.Goals as goal
 
 pub found_in-requires-clause-short : goal.found_in-requires-clause-short

@@ -1,5 +1,4 @@
-use Rattle.solero_explain.proofs.Owed.{refused_files}
-use Rattle.solero_explain.specs.Requests.{question_by}
+use Rattle.solero_explain.{specs.Requests.question_by, proofs.Owed.refused_files}
 use Rattle.solero_explain.proofs.program.found_in.Goals as goal
 
 pub returns-in-Err-Refused : goal.returns-in-Err-Refused

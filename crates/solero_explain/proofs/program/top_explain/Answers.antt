@@ -1,5 +1,4 @@
-use Rattle.solero_explain.proofs.Accepted.{never_three}
-use Rattle.solero_explain.proofs.Refused.{refused_status}
+use Rattle.solero_explain.proofs.{Accepted.never_three, Refused.refused_status}
 use Rattle.solero_explain.proofs.Runs.{run_accepted, run_answered, run_few, run_is_calm, run_is_read, run_not_four, run_not_three, run_not_two, run_sink_failed, run_sink_fault}
 use Rattle.solero_explain.proofs.program.top_explain.Goals as goal
 

@@ -1,8 +1,6 @@
 use Rattle.std.proofs.Common.{rules, ◌≡◌, None, ap, sym, ◌∙◌}
-use Rattle.machine_types.specs.Events.{moved, wanted}
-use Rattle.machine_types.specs.declared.phase.Phase.TheVariants.{Run}
-use Rattle.step_core.proofs.LocalEvents.{local_fits}
-use Rattle.step_core.proofs.StaysLawful.{stays_lawful}
+use Rattle.machine_types.specs.{Events.{moved, wanted}, declared.phase.Phase.TheVariants.Run}
+use Rattle.step_core.proofs.{LocalEvents.local_fits, StaysLawful.stays_lawful}
 use Rattle.step_core.proofs.halves.step_or_want.Goals as goal
 
 pub returns-in-None-clause-lawful : goal.returns-in-None-clause-lawful

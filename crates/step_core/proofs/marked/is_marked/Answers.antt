@@ -1,6 +1,5 @@
 use Rattle.std.proofs.Common.{subst, sym, ◌∙◌}
-use Rattle.step_core.specs.MarkOrder.{AscendFrom}
-use Rattle.step_core.proofs.MarkOrderLaws.{marks_ascend, rest_ascends}
+use Rattle.step_core.{specs.MarkOrder.AscendFrom, proofs.MarkOrderLaws.{marks_ascend, rest_ascends}}
 use Rattle.step_core.proofs.marked.is_marked.Goals as goal
 
 pub marks_before-first-requires : goal.marks_before-first-requires

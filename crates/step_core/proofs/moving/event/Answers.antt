@@ -1,5 +1,4 @@
-use Rattle.machine_types.specs.Accesses.{found_by}
-use Rattle.machine_types.specs.Events.{wanted}
+use Rattle.machine_types.specs.{Accesses.found_by, Events.wanted}
 use Rattle.step_core.proofs.StaysLawful.{stays_lawful}
 use Rattle.step_core.proofs.moving.event.Goals as goal
 

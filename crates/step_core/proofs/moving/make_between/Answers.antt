@@ -1,6 +1,5 @@
 use Rattle.std.proofs.Common.{◌≡◌, ◌≤◌, ap, arith}
-use Rattle.machine_types.specs.declared.config.Config.{Config}
-use Rattle.machine_types.specs.declared.phase.Phase.TheVariants.{Leave}
+use Rattle.machine_types.specs.declared.{config.Config.Config, phase.Phase.TheVariants.Leave}
 use Rattle.step_core.proofs.LawfulSteps.{can_fail, can_leave}
 use Rattle.step_core.proofs.moving.make_between.Goals as goal
 

@@ -1,5 +1,4 @@
-use Rattle.step_core.proofs.LocalEvents.{local_fits}
-use Rattle.step_core.proofs.StaysLawful.{stays_lawful}
+use Rattle.step_core.proofs.{LocalEvents.local_fits, StaysLawful.stays_lawful}
 use Rattle.step_core.proofs.moving.step_local.Goals as goal
 
 pub make-requires-clause-fits : goal.make-requires-clause-fits

@@ -1,4 +1,4 @@
-use Rattle.std.specs.Prelude.{Some}
+use Rattle.std.proofs.Common.{Some}
 use Rattle.table_runner.proofs.access.access.Given as goal
 
 abbrev pub ghosts-perform : goal.ghosts-perform

@@ -1,8 +1,7 @@
 use Rattle.std.proofs.Common.{sym, ap, subst, ◌∙◌}
 use Rattle.machine_types.specs.Threads.{Thread}
 use Rattle.step_core.specs.Wanting.{IsFor}
-use Rattle.table_runner.specs.Accessing.{CanMake, NextEvent}
-use Rattle.table_runner.proofs.HandedThreads.{fits, goes_alone, goes_by, is_lawful, is_thread}
+use Rattle.table_runner.{specs.Accessing.{CanMake, NextEvent}, proofs.HandedThreads.{fits, goes_alone, goes_by, is_lawful, is_thread}}
 use Rattle.table_runner.proofs.events.go.Goals as goal
 
 pub step_or_want-requires-clause-program : goal.step_or_want-requires-clause-program

@@ -1,10 +1,7 @@
 use Rattle.std.proofs.Common.{◌<◌, ◌≤◌, sym, subst, arith}
-use Rattle.laws_states.specs.WorkLeft.{work_left}
 use Rattle.machine_types.specs.Threads.{Thread}
-use Rattle.table_runner.specs.Accessing.{NextEvent}
-use Rattle.table_runner.specs.Going.{IsLaterThread}
-use Rattle.table_runner.proofs.HandedThreads.{is_lawful, is_thread}
-use Rattle.table_runner.proofs.ManyEvents.{local_more, no_more_left, one_event}
+use Rattle.laws_states.specs.WorkLeft.{work_left}
+use Rattle.table_runner.{specs.{Accessing.NextEvent, Going.IsLaterThread}, proofs.{HandedThreads.{is_lawful, is_thread}, ManyEvents.{local_more, no_more_left, one_event}}}
 use Rattle.table_runner.proofs.events.go_far.Goals as goal
 
 pub run_local-requires-clause-program : goal.run_local-requires-clause-program

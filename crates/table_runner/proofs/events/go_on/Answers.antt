@@ -1,6 +1,5 @@
 use Rattle.std.proofs.Common.{◌∙◌}
-use Rattle.table_runner.specs.Accessing.{NextEvent}
-use Rattle.table_runner.proofs.ManyEvents.{then_more}
+use Rattle.table_runner.{specs.Accessing.NextEvent, proofs.ManyEvents.then_more}
 use Rattle.table_runner.proofs.events.go_on.Goals as goal
 
 pub loop-s-preserved : goal.loop-s-preserved

@@ -1,8 +1,7 @@
 use Rattle.std.proofs.Common.{Result, Ok, Err, IfOk, sym, ap, subst, ◌∙◌, map, Some, List, ℕ, ◌∷◌, []}
 use Rattle.checked_program.specs.MarkedProgram.{MarkedProgram}
 use Rattle.machine_types.specs.Core.{start}
-use Rattle.table_rule.specs.Views.{ShowsRun}
-use Rattle.table_rule.proofs.StartViews.{start_shows}
+use Rattle.table_rule.{specs.Views.ShowsRun, proofs.StartViews.start_shows}
 use Rattle.table_runner.proofs.opening.opened.Goals as goal
 
 pub of_words-requires : goal.of_words-requires

@@ -1,5 +1,4 @@
-use Rattle.std.proofs.Common.{sym, subst, ◌∙◌, Some}
-use Rattle.std.specs.Prelude.{slice_set}
+use Rattle.std.proofs.Common.{sym, subst, ◌∙◌, Some, slice_set}
 use Rattle.table_runner.proofs.StartHands.{ArePlaced, next_placed}
 use Rattle.table_runner.proofs.opening.placed.Goals as goal
 

@@ -1,13 +1,8 @@
-use Rattle.std.proofs.Common.{◌+◌, List, length, ◌∙◌, ap, sym, subst, arith}
-use Rattle.std.proofs.lemmas.List.FromFn.{length-map-range_with_len}
+use Rattle.std.proofs.{Common.{◌+◌, List, length, ◌∙◌, ap, sym, subst, arith}, lemmas.List.FromFn.length-map-range_with_len}
 use Rattle.checked_program.specs.MarkedProgram.{MarkedProgram}
-use Rattle.machine_types.specs.Core.{start, start_thread}
-use Rattle.machine_types.specs.StartWords.{start_words}
-use Rattle.machine_types.specs.Threads.{Thread}
-use Rattle.machine_types.specs.declared.config.Config.{Config}
+use Rattle.machine_types.specs.{Core.{start, start_thread}, StartWords.start_words, Threads.Thread, declared.config.Config.Config}
 use Rattle.table_rule.specs.Views.{HasThreads}
-use Rattle.table_runner.specs.Handed.{Handed}
-use Rattle.table_runner.proofs.StartHands.{at_start}
+use Rattle.table_runner.{specs.Handed.Handed, proofs.StartHands.at_start}
 use Rattle.table_runner.proofs.opening.table.Goals as goal
 
 pub placed-threads-requires : goal.placed-threads-requires

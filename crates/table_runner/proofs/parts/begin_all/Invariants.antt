@@ -1,6 +1,6 @@
 use Rattle.std.proofs.Common.{◌≡◌, ◌<◌, ◌≤◌, ℕ, option_map}
-use Rattle.table_rule.specs.Views.{held_in}
 use Rattle.run_parts.specs.Parts.{own_begun}
+use Rattle.table_rule.specs.Views.{held_in}
 use Rattle.table_runner.proofs.parts.begin_all.Given as goal
 
 abbrev pub invariant-loop-i : goal.invariant-loop-i

@@ -1,6 +1,5 @@
 use Rattle.std.proofs.Common.{false, subst}
-use Rattle.table_runner.specs.Sharing.{IsNextPart}
-use Rattle.table_runner.proofs.Stages.{over_now}
+use Rattle.table_runner.{specs.Sharing.IsNextPart, proofs.Stages.over_now}
 use Rattle.table_runner.proofs.running.run_done.Goals as goal
 
 pub returns-else-next-clause-ended : goal.returns-else-next-clause-ended

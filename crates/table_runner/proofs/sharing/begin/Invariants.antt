@@ -1,4 +1,4 @@
-use Rattle.std.specs.Prelude.{Some}
+use Rattle.std.proofs.Common.{Some}
 use Rattle.table_runner.proofs.sharing.begin.Given as goal
 
 abbrev pub ghosts-begin_by : goal.ghosts-begin_by

@@ -1,8 +1,6 @@
 use Rattle.std.proofs.Common.{◌+◌, ◌<◌, ◌∷◌, [], length, length-append, ap, sym, subst, ◌∙◌, arith}
 use Rattle.table_rule.specs.Views.{held_in}
-use Rattle.table_runner.specs.Handed.{Handed}
-use Rattle.table_runner.specs.Running.{AreWorkers, IsWorker, RestOf}
-use Rattle.table_runner.proofs.WorkerHands.{one_more, rest_split, worker_alone}
+use Rattle.table_runner.{specs.{Handed.Handed, Running.{AreWorkers, IsWorker, RestOf}}, proofs.WorkerHands.{one_more, rest_split, worker_alone}}
 use Rattle.table_runner.proofs.workers.split_workers.Goals as goal
 
 pub loop-i-preserved : goal.loop-i-preserved

@@ -1,5 +1,4 @@
-use Rattle.checked_program.proofs.FewStatics.{few_statics}
-use Rattle.checked_program.proofs.IndexLaws.{all_ascend, few_instances}
+use Rattle.checked_program.proofs.{FewStatics.few_statics, IndexLaws.{all_ascend, few_instances}}
 use Rattle.checked_program.proofs.checked.Checked.indexable.Goals as goal
 
 pub returns-clause-ascend : goal.returns-clause-ascend

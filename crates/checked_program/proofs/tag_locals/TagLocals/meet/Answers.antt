@@ -1,7 +1,5 @@
-use Rattle.std.proofs.Common.{◌≡◌, max, min, length, not, sym, ap, ◌∙◌}
-use Rattle.std.specs.Prelude.{◌||◌, nat_lt}
-use Rattle.checked_program.specs.LockTags.{filled_tags, same_tags, meet_tags}
-use Rattle.checked_program.proofs.FilledTags.{length_filled, meet_filled, told_filled}
+use Rattle.std.proofs.Common.{◌≡◌, max, min, length, not, sym, ap, ◌∙◌, ◌||◌, nat_lt}
+use Rattle.checked_program.{specs.LockTags.{filled_tags, same_tags, meet_tags}, proofs.FilledTags.{length_filled, meet_filled, told_filled}}
 use Rattle.checked_program.proofs.tag_locals.TagLocals.meet.Goals as goal
 
 -- how many there are, and how many both have

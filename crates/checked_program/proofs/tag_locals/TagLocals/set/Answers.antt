@@ -1,7 +1,5 @@
-use Rattle.std.proofs.Common.{◌≡◌, ◌<◌, max, length, sym, ap, ◌∙◌, arith}
-use Rattle.std.specs.Prelude.{slice_set}
-use Rattle.checked_program.specs.LockTags.{filled_tags}
-use Rattle.checked_program.proofs.FilledTags.{length_filled, local_set}
+use Rattle.std.proofs.Common.{◌≡◌, ◌<◌, max, length, sym, ap, ◌∙◌, arith, slice_set}
+use Rattle.checked_program.{specs.LockTags.filled_tags, proofs.FilledTags.{length_filled, local_set}}
 use Rattle.checked_program.proofs.tag_locals.TagLocals.set.Goals as goal
 
 pub returns-in_ok-fill : goal.returns-in_ok-fill

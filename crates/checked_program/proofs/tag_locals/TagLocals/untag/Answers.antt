@@ -1,6 +1,5 @@
 use Rattle.std.proofs.Common.{ap, ◌∙◌}
-use Rattle.checked_program.specs.LockTags.{filled_tags, without}
-use Rattle.checked_program.proofs.FilledTags.{without_filled}
+use Rattle.checked_program.{specs.LockTags.{filled_tags, without}, proofs.FilledTags.without_filled}
 use Rattle.checked_program.proofs.tag_locals.TagLocals.untag.Goals as goal
 
 pub returns : goal.returns

@@ -1,6 +1,5 @@
 use Rattle.std.proofs.Common.{sym}
-use Rattle.code_table.specs.PcTables.{Ascend}
-use Rattle.code_table.proofs.ClassOfNew.{new_class_at}
+use Rattle.code_table.{specs.PcTables.Ascend, proofs.ClassOfNew.new_class_at}
 use Rattle.code_table.proofs.indexed_method.IndexedMethod.new_class.Goals as goal
 
 pub returns : goal.returns

@@ -1,11 +1,7 @@
-use Rattle.std.proofs.Common.{◌<◌, ◌≡◌, ℕ, List, length, replicate, Option, Some, None, refl, ap, ◌∙◌, add-one, arith}
-use Rattle.std.specs.Prelude.{slice_get, slice_index_or}
-use Rattle.std.specs.List.{AllByRecursion}
-use Rattle.std.proofs.lemmas.Option.{slice_get_read}
-use Rattle.std.proofs.lemmas.List.{length-set, length-replicate, take_all}
+use Rattle.std.{proofs.Common.{◌<◌, ◌≡◌, ℕ, List, length, replicate, Option, Some, None, refl, ap, ◌∙◌, add-one, arith, slice_get, slice_index_or}, specs.List.AllByRecursion}
+use Rattle.std.proofs.lemmas.{List.{length-set, length-replicate, take_all}, Option.slice_get_read}
 use Rattle.jvm_types.specs.declared.code.Insn.{Insn}
-use Rattle.code_table.specs.PcTables.{number_at}
-use Rattle.code_table.proofs.PcLaws.{all_at, places_more, none_known, number_low}
+use Rattle.code_table.{specs.PcTables.number_at, proofs.PcLaws.{all_at, places_more, none_known, number_low}}
 use Rattle.code_table.proofs.pc_table.PcTable.of.Goals as goal
 
 inside_of : (code : List Insn) (numbers : List (Option ℕ)) (n : ℕ) → numbers ≡ replicate n None → AllByRecursion (λ insn. insn.pc < n) code → AllByRecursion (λ insn. insn.pc < length numbers) code

@@ -1,5 +1,4 @@
-use Rattle.std.proofs.Common.{take, ◌<◌, length}
-use Rattle.std.specs.List.{AllByRecursion}
+use Rattle.std.{proofs.Common.{take, ◌<◌, length}, specs.List.AllByRecursion}
 use Rattle.code_table.specs.PcTables.{IsPcTable}
 use Rattle.code_table.proofs.pc_table.PcTable.of.Given as goal
 

@@ -1,10 +1,5 @@
-use Rattle.std.proofs.Common.{◌≡◌, true, Some, refl, sym, ap, ◌∙◌, zero-add}
-use Rattle.std.specs.Prelude.{slice_get}
-use Rattle.std.specs.Ordering.{nat_cmp}
-use Rattle.std.specs.BTreeSet.{insert_key}
-use Rattle.code_visits.specs.declared.nodes.StoredNode.{StoredNode}
-use Rattle.code_visits.specs.Waiting.{node_is, waiting_numbers}
-use Rattle.code_visits.proofs.WaitingLaws.{numbers_more, at_stored, set_stored}
+use Rattle.std.{proofs.Common.{◌≡◌, true, Some, refl, sym, ap, ◌∙◌, zero-add, slice_get}, specs.{BTreeSet.insert_key, Ordering.nat_cmp}}
+use Rattle.code_visits.{specs.{Waiting.{node_is, waiting_numbers}, declared.nodes.StoredNode.StoredNode}, proofs.WaitingLaws.{numbers_more, at_stored, set_stored}}
 use Rattle.code_visits.proofs.nodes.Nodes.enter.Goals as goal
 
 pub invariant_of-self-2 : goal.invariant_of-self-2

@@ -1,7 +1,6 @@
 use Rattle.std.proofs.Common.{◌≡◌, List, [], ◌∷◌, map, refl, ap, ◌∙◌}
 use Rattle.checked_program.specs.Visits.{PlanNode}
-use Rattle.code_visits.specs.declared.nodes.StoredNode.{StoredNode}
-use Rattle.code_visits.specs.Waiting.{node_is}
+use Rattle.code_visits.specs.{Waiting.node_is, declared.nodes.StoredNode.StoredNode}
 use Rattle.code_visits.proofs.nodes.Nodes.into_frames.Goals as goal
 
 frames_stored : {A : Type 0} (items : List (StoredNode A)) (nodes : List (PlanNode A)) → map node_is items ≡ nodes → map (λ node. node.frame) items ≡ map (λ node. node.frame) nodes

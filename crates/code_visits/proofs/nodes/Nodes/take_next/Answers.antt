@@ -1,9 +1,6 @@
-use Rattle.std.proofs.Common.{◌≡◌, ℕ, false, List, ◌∷◌, length, map, Some, refl, sym, ap, ◌∙◌, arith}
-use Rattle.std.specs.Prelude.{slice_get, slice_set}
-use Rattle.std.proofs.lemmas.List.{length-map}
+use Rattle.std.proofs.{Common.{◌≡◌, ℕ, false, List, ◌∷◌, length, map, Some, refl, sym, ap, ◌∙◌, arith, slice_get, slice_set}, lemmas.List.length-map}
 use Rattle.checked_program.specs.Visits.{PlanNode}
-use Rattle.code_visits.specs.declared.nodes.StoredNode.{StoredNode}
-use Rattle.code_visits.specs.Waiting.{plan_node_at, node_is, waiting_numbers}
+use Rattle.code_visits.specs.{Waiting.{plan_node_at, node_is, waiting_numbers}, declared.nodes.StoredNode.StoredNode}
 use Rattle.code_visits.proofs.WaitingLaws.{none_left, none_waits, NextWaits, next_waits, node_at_get, at_stored, set_stored}
 use Rattle.code_visits.proofs.nodes.Nodes.take_next.Goals as goal
 

@@ -1,6 +1,5 @@
 use Rattle.std.proofs.Common.{◌∙◌, map, sym}
-use Rattle.code_visits.specs.Waiting.{node_is}
-use Rattle.code_visits.proofs.WaitingLaws.{none_reached}
+use Rattle.code_visits.{specs.Waiting.node_is, proofs.WaitingLaws.none_reached}
 use Rattle.code_visits.proofs.nodes.Nodes.unreached.Goals as goal
 
 pub invariant_of-result : goal.invariant_of-result

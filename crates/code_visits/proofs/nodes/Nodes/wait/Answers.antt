@@ -1,11 +1,6 @@
-use Rattle.std.proofs.Common.{◌≡◌, ℕ, true, List, Some, refl, sym, ap, ◌∙◌, zero-add}
-use Rattle.std.specs.Prelude.{slice_get, slice_set}
-use Rattle.std.specs.Ordering.{nat_cmp}
-use Rattle.std.specs.BTreeSet.{insert_key}
+use Rattle.std.{proofs.Common.{◌≡◌, ℕ, true, List, Some, refl, sym, ap, ◌∙◌, zero-add, slice_get, slice_set}, specs.{BTreeSet.insert_key, Ordering.nat_cmp}}
 use Rattle.checked_program.specs.Visits.{PlanNode}
-use Rattle.code_visits.specs.declared.nodes.StoredNode.{StoredNode}
-use Rattle.code_visits.specs.Waiting.{plan_node_at, node_is, waiting_numbers}
-use Rattle.code_visits.proofs.WaitingLaws.{node_at_get, numbers_more, at_stored, set_stored}
+use Rattle.code_visits.{specs.{Waiting.{plan_node_at, node_is, waiting_numbers}, declared.nodes.StoredNode.StoredNode}, proofs.WaitingLaws.{node_at_get, numbers_more, at_stored, set_stored}}
 use Rattle.code_visits.proofs.nodes.Nodes.wait.Goals as goal
 
 waiting_node : {A : Type 0} (nodes : List (PlanNode A)) (i : ℕ) (x : StoredNode A) → slice_get nodes i ≡ Some (node_is x)

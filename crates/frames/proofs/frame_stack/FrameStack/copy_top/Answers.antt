@@ -1,6 +1,5 @@
 use Rattle.std.proofs.Common.{set}
-use Rattle.frames.proofs.FrameLaws.{held_top}
-use Rattle.frames.proofs.CopyLaws.{copied}
+use Rattle.frames.proofs.{CopyLaws.copied, FrameLaws.held_top}
 use Rattle.frames.proofs.frame_stack.FrameStack.copy_top.Goals as goal
 
 pub returns-clause-copy : goal.returns-clause-copy

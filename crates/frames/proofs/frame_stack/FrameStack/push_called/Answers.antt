@@ -1,8 +1,6 @@
 use Rattle.std.proofs.Common.{ap, set, List, arith}
 use Rattle.machine_types.specs.Threads.{Frame}
-use Rattle.frames.specs.FrameLists.{argument_count}
-use Rattle.frames.proofs.FrameLaws.{held_top, set_again}
-use Rattle.frames.proofs.CallLaws.{room_left, Called, caller_head, called_frames, called_laid}
+use Rattle.frames.{specs.FrameLists.argument_count, proofs.{CallLaws.{room_left, Called, caller_head, called_frames, called_laid}, FrameLaws.{held_top, set_again}}}
 use Rattle.frames.proofs.frame_stack.FrameStack.push_called.Goals as goal
 
 pub overflow_sub-at : goal.overflow_sub-at

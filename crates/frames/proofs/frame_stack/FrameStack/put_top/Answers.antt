@@ -1,7 +1,6 @@
 use Rattle.std.proofs.Common.{List, ap, set}
 use Rattle.machine_types.specs.Threads.{Frame}
-use Rattle.frames.proofs.FrameLaws.{held_top, set_again}
-use Rattle.frames.proofs.CopyLaws.{restored_frames}
+use Rattle.frames.proofs.{CopyLaws.restored_frames, FrameLaws.{held_top, set_again}}
 use Rattle.frames.proofs.frame_stack.FrameStack.put_top.Goals as goal
 
 pub returns : goal.returns

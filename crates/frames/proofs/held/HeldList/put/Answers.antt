@@ -1,8 +1,6 @@
-use Rattle.std.proofs.Common.{◌≡◌, refl, subst}
-use Rattle.std.specs.Prelude.{slice_set}
+use Rattle.std.proofs.Common.{◌≡◌, refl, subst, slice_set}
 use Rattle.machine_types.specs.HeldMonitors.{with_held}
-use Rattle.frames.specs.HeldLists.{AreOfOtherMonitors}
-use Rattle.frames.proofs.HeldLaws.{add_keeps, put_keeps, put_new}
+use Rattle.frames.{specs.HeldLists.AreOfOtherMonitors, proofs.HeldLaws.{add_keeps, put_keeps, put_new}}
 use Rattle.frames.proofs.held.HeldList.put.Goals as goal
 
 pub invariant_of-self : goal.invariant_of-self

@@ -1,8 +1,6 @@
-use Rattle.std.proofs.Common.{◌≡◌, subst}
-use Rattle.std.specs.List.{remove}
+use Rattle.std.{proofs.Common.{◌≡◌, subst}, specs.List.remove}
 use Rattle.machine_types.specs.HeldMonitors.{without_held}
-use Rattle.frames.specs.HeldLists.{AreOfOtherMonitors}
-use Rattle.frames.proofs.HeldLaws.{drop_keeps}
+use Rattle.frames.{specs.HeldLists.AreOfOtherMonitors, proofs.HeldLaws.drop_keeps}
 use Rattle.frames.proofs.held.HeldList.remove.Goals as goal
 
 pub invariant_of-self : goal.invariant_of-self

@@ -1,6 +1,5 @@
 use Rattle.std.proofs.Common.{subst, sym}
-use Rattle.frames.specs.HeldLists.{AreOfOtherMonitors}
-use Rattle.frames.proofs.HeldLaws.{none_held}
+use Rattle.frames.{specs.HeldLists.AreOfOtherMonitors, proofs.HeldLaws.none_held}
 use Rattle.frames.proofs.held.HeldList.with_places.Goals as goal
 
 pub invariant_of-result : goal.invariant_of-result

@@ -1,7 +1,5 @@
 use Rattle.std.proofs.Common.{length, ap, arith}
-use Rattle.frames.specs.RootLists.{is_root}
-use Rattle.frames.specs.declared.roots.Root.TheVariants.{Run}
-use Rattle.frames.proofs.RootLaws.{few_added}
+use Rattle.frames.{specs.{RootLists.is_root, declared.roots.Root.TheVariants.Run}, proofs.RootLaws.few_added}
 use Rattle.frames.proofs.roots.Roots.of_worker.Goals as goal
 
 pub split-requires-clause-few : goal.split-requires-clause-few

@@ -1,7 +1,5 @@
-use Rattle.std.proofs.Common.{sym, ap, ◌∙◌}
-use Rattle.std.specs.Option.{option_copied}
-use Rattle.checked_program.specs.MarkedProgram.{checked_part}
-use Rattle.checked_program.proofs.CheckedPlaces.{called_fit_all}
+use Rattle.std.{proofs.Common.{sym, ap, ◌∙◌}, specs.Option.option_copied}
+use Rattle.checked_program.{specs.MarkedProgram.checked_part, proofs.CheckedPlaces.called_fit_all}
 use Rattle.frames.proofs.RootLaws.{there_is}
 use Rattle.frames.proofs.thread_state.ThreadState.push_frame.Goals as goal
 

@@ -1,9 +1,6 @@
 use Rattle.std.proofs.Common.{◌≡◌, ◌∙◌, ◌-◌, sym, ap, [], take, drop}
 use Rattle.jvm_types.specs.declared.program.Program.{Program}
-use Rattle.frames.specs.RootLists.{RootLists, first_roots, later_roots}
-use Rattle.frames.specs.ThreadParts.{start_phase}
-use Rattle.frames.proofs.FewMethods.{few_methods}
-use Rattle.frames.proofs.StartLaws.{started}
+use Rattle.frames.{specs.{RootLists.{RootLists, first_roots, later_roots}, ThreadParts.start_phase}, proofs.{FewMethods.few_methods, StartLaws.started}}
 use Rattle.frames.proofs.thread_state.ThreadState.start.Goals as goal
 
 pub of-requires : goal.of-requires

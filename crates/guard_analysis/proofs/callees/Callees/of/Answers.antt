@@ -1,6 +1,5 @@
 use Rattle.std.proofs.Common.{◌≡◌, ◌*◌, ◌≤◌, ◌∙◌, length, ap, arith}
-use Rattle.guard_analysis.specs.CallGraph.{call_graph}
-use Rattle.guard_analysis.proofs.CalleesFound.{breaking_long, callees_shown, graph_shown}
+use Rattle.guard_analysis.{specs.CallGraph.call_graph, proofs.CalleesFound.{breaking_long, callees_shown, graph_shown}}
 use Rattle.guard_analysis.proofs.callees.Callees.of.Goals as goal
 
 pub leading-requires-clause-graph : goal.leading-requires-clause-graph

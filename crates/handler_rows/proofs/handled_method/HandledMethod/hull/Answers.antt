@@ -1,8 +1,6 @@
-use Rattle.std.proofs.Common.{◌∙◌, ◌<◌, sym, ap, subst, length, drop}
-use Rattle.std.specs.Prelude.{slice_get}
+use Rattle.std.proofs.Common.{◌∙◌, ◌<◌, sym, ap, subst, length, drop, slice_get}
 use Rattle.jvm_types.specs.declared.program.MethodInfo.{MethodInfo}
-use Rattle.handler_rows.specs.Hulls.{IsHull}
-use Rattle.handler_rows.proofs.HullLaws.{hulls_length, hull_there}
+use Rattle.handler_rows.{specs.Hulls.IsHull, proofs.HullLaws.{hulls_length, hull_there}}
 use Rattle.handler_rows.proofs.handled_method.HandledMethod.hull.Goals as goal
 
 pub hull_of_number-requires : goal.hull_of_number-requires

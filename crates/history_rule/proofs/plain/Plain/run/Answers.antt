@@ -1,7 +1,6 @@
 use Rattle.std.proofs.Common.{◌≡◌, ℕ, suc, ◌+◌, drop, Some, sym, ap, ◌∙◌, arith}
 use Rattle.machine_types.specs.PlainSteps.{plain_run}
-use Rattle.history_rule.specs.Steps.{Played}
-use Rattle.history_rule.proofs.Runs.{one_behind, run_rest}
+use Rattle.history_rule.{specs.Steps.Played, proofs.Runs.{one_behind, run_rest}}
 use Rattle.history_rule.proofs.plain.Plain.run.Goals as goal
 
 pub plain_step-requires-clause-program : goal.plain_step-requires-clause-program

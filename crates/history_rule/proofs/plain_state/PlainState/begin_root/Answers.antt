@@ -1,5 +1,4 @@
-use Rattle.std.proofs.Common.{refl, sym, ap, ◌∙◌}
-use Rattle.std.specs.Option.{option_copied}
+use Rattle.std.{proofs.Common.{refl, sym, ap, ◌∙◌}, specs.Option.option_copied}
 use Rattle.history_rule.proofs.plain_state.PlainState.begin_root.Goals as goal
 
 pub returns-in_ok-begin-in-Some-get : goal.returns-in_ok-begin-in-Some-get

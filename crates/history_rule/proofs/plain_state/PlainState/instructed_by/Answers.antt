@@ -1,6 +1,5 @@
 use Rattle.std.proofs.Common.{subst, sym}
-use Rattle.history_rule.specs.Small.{MakesSmall}
-use Rattle.history_rule.proofs.SmallEffects.{top_small}
+use Rattle.history_rule.{specs.Small.MakesSmall, proofs.SmallEffects.top_small}
 use Rattle.history_rule.proofs.plain_state.PlainState.instructed_by.Goals as goal
 
 pub did-requires-clause-small : goal.did-requires-clause-small

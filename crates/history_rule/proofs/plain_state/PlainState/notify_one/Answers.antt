@@ -1,9 +1,5 @@
-use Rattle.std.proofs.Common.{refl, sym, ap, ◌∙◌, arith}
-use Rattle.std.specs.Option.{option_copied}
-use Rattle.std.specs.Prelude.{length, slice_get}
-use Rattle.std.proofs.lemmas.List.{length-set}
-use Rattle.machine_types.specs.PlainState.{Plain}
-use Rattle.machine_types.specs.PlainSteps.{wakes}
+use Rattle.std.{proofs.{Common.{refl, sym, ap, ◌∙◌, arith, length, slice_get}, lemmas.List.length-set}, specs.Option.option_copied}
+use Rattle.machine_types.specs.{PlainState.Plain, PlainSteps.wakes}
 use Rattle.plain_threads.proofs.ThreadLists.{set_woken, wakes_that}
 use Rattle.history_rule.proofs.plain_state.PlainState.notify_one.Goals as goal
 

@@ -1,5 +1,4 @@
-use Rattle.std.proofs.Common.{arith, ◌≡◌, true, false}
-use Rattle.std.proofs.lemmas.Grind.{common_steps}
+use Rattle.std.proofs.{Common.{arith, ◌≡◌, true, false}, lemmas.Grind.common_steps}
 use Rattle.host_io.specs.ListShelf.{is_failing}
 use Rattle.host_io.proofs.shelf.ListShelfShelf.read_file.Goals as goal
 

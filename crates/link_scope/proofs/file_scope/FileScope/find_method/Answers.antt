@@ -1,8 +1,5 @@
 use Rattle.std.proofs.Common.{Option, subst}
-use Rattle.jvm_types.specs.ClassNames.{text_at}
-use Rattle.jvm_types.specs.Members.{look_up}
-use Rattle.jvm_types.specs.Linked.{scope_of}
-use Rattle.jvm_types.specs.declared.class_file.ClassFile.{ClassFile}
+use Rattle.jvm_types.specs.{ClassNames.text_at, Linked.scope_of, Members.look_up, declared.class_file.ClassFile.ClassFile}
 use Rattle.link_scope.specs.Scoping.{FileOf, IsFound, pool_of}
 use Rattle.link_scope.proofs.file_scope.FileScope.find_method.Goals as goal
 

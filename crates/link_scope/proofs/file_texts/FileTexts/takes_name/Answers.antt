@@ -1,7 +1,6 @@
 use Rattle.std.proofs.Common.{ℕ, Option, ◌∙◌, ap}
 use Rattle.jvm_types.specs.ClassNames.{named_class, class_name, class_names}
-use Rattle.link_scope.specs.FileTexts.{is_before}
-use Rattle.link_scope.proofs.TakenLaws.{taken}
+use Rattle.link_scope.{specs.FileTexts.is_before, proofs.TakenLaws.taken}
 use Rattle.link_scope.proofs.file_texts.FileTexts.takes_name.Goals as goal
 
 pub returns-in-Some : goal.returns-in-Some

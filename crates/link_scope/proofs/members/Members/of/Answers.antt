@@ -1,14 +1,7 @@
-use Rattle.std.proofs.Common.{◌≡◌, Bool, ◌<◌, ◌^◌, ◌+◌, List, [], length, take, get_or, sym, ap, ◌∙◌, subst, append-nil, refl, arith}
-use Rattle.std.proofs.lemmas.Option.{slice_get_read}
-use Rattle.jvm_types.specs.ClassGrammar.{IsClass}
-use Rattle.jvm_types.specs.Members.{Entry, declared_by}
-use Rattle.jvm_types.specs.declared.class_file.ClassFile.{ClassFile}
-use Rattle.link_scope.specs.MemberTables.{members_of, built_in, entries_of, HasEntries, in_flag_rows}
-use Rattle.link_scope.specs.declared.table.Key.{Key}
-use Rattle.link_scope.specs.declared.scope.Found.{Found}
-use Rattle.link_scope.proofs.ListLaws.{length_push, all_at}
-use Rattle.link_scope.proofs.EntryLaws.{length_next, of_below, of_next, repeats_none, flag_rows_next, few_members}
-use Rattle.jvm_types.specs.declared.class_file.Member.{Member as ClassMember}
+use Rattle.std.proofs.{Common.{◌≡◌, Bool, ◌<◌, ◌^◌, ◌+◌, List, [], length, take, get_or, sym, ap, ◌∙◌, subst, append-nil, refl, arith}, lemmas.Option.slice_get_read}
+use Rattle.jvm_types.specs.{ClassGrammar.IsClass, Members.{Entry, declared_by}, declared.class_file.{ClassFile.ClassFile, Member.{Member as ClassMember}}}
+use Rattle.link_scope.specs.{MemberTables.{members_of, built_in, entries_of, HasEntries, in_flag_rows}, declared.{scope.Found.Found, table.Key.Key}}
+use Rattle.link_scope.proofs.{EntryLaws.{length_next, of_below, of_next, repeats_none, flag_rows_next, few_members}, ListLaws.{length_push, all_at}}
 use Rattle.link_scope.proofs.members.Members.of.Goals as goal
 
 pub loop-file-init : goal.loop-file-init

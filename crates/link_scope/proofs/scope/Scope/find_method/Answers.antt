@@ -1,10 +1,6 @@
 use Rattle.std.proofs.Common.{List, subst}
-use Rattle.jvm_types.specs.Members.{look_up}
-use Rattle.jvm_types.specs.Linked.{scope_of}
-use Rattle.jvm_types.specs.declared.class_file.ClassFile.{ClassFile}
-use Rattle.link_scope.specs.Scoping.{file_text, IsFound}
-use Rattle.link_scope.specs.MemberTables.{entries_of}
-use Rattle.link_scope.specs.declared.members.Sort.TheVariants.{Methods}
+use Rattle.jvm_types.specs.{Linked.scope_of, Members.look_up, declared.class_file.ClassFile.ClassFile}
+use Rattle.link_scope.specs.{MemberTables.entries_of, Scoping.{file_text, IsFound}, declared.members.Sort.TheVariants.Methods}
 use Rattle.link_scope.proofs.scope.Scope.find_method.Goals as goal
 
 pub returns : goal.returns

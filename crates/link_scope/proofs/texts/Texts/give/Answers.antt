@@ -1,8 +1,6 @@
 use Rattle.std.proofs.Common.{◌≡◌, None, ◌∙◌, ap}
-use Rattle.link_scope.proofs.TextLaws.{inserted, is_given, keeps, are_texts, unchanged, Gives}
-use Rattle.link_scope.specs.TextNumbers.{by_bytes, number_of, Numbered}
+use Rattle.link_scope.{specs.TextNumbers.{by_bytes, number_of, Numbered}, proofs.{TextLaws.{inserted, is_given, keeps, are_texts, unchanged, Gives}, texts.Texts.give.Goals.In_ok-insert}}
 use Rattle.link_scope.proofs.texts.Texts.give.Goals as goal
-use Rattle.link_scope.proofs.texts.Texts.give.Goals.{In_ok-insert}
 
 absent : (c : In_ok-insert) → number_of (by_bytes c.self.inside.numbers.entries) c.args.text.now ≡ None
 absent c = ap (λ (t : Numbered). number_of t.numbers c.args.text.now) c.self.view_is ∙ c.requires.absent

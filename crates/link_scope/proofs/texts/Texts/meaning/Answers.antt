@@ -1,6 +1,5 @@
 use Rattle.std.proofs.Common.{sym, ◌∙◌, subst, IsSomeAnd, Option}
-use Rattle.link_scope.specs.declared.texts.Meaning.{Meaning}
-use Rattle.link_scope.specs.TextNumbers.{IsMeaning}
+use Rattle.link_scope.specs.{TextNumbers.IsMeaning, declared.texts.Meaning.Meaning}
 use Rattle.link_scope.proofs.texts.Texts.meaning.Goals as goal
 
 pub returns : goal.returns

@@ -1,39 +1,19 @@
 -- `again` makes the empty struct, with the value that its clause names. Assumes `Logic`.
 use Rattle.std.proofs.Common.{List, [], ◌∷◌, ◌++◌, refl}
-use seplogic.Ra.Ura.{Ura}
-use mir.Syntax.{Fn, Args, a_type}
-use mir.Val.{Val, vptr}
-use mir.MapTy.{inst_fn}
+use Rattle.lists.{specs.contracts.told.Told.again.Key.{name as #self}, proofs.ToldWalks.{none, one, one_made}}
 use base.Logic.{SProp, ent}
-use prog.Memory.{Memory}
-use prog.Routine.{Routine}
-use prog.Wp.{Calls, Loops, WpFn, Tables}
-use contract.Monad.{Fun}
-use contract.Running.{tables, tables_of}
+use contract.{Monad.Fun, Running.{tables, tables_of}}
+use denote.{Builtin.RefOf, Exit.yes, Laws.Is, Param.{param, layouts}, RattleType.{RattleType, owns}, Signature.{plain, types_at}, Steps.{nothing, owned}, Struct.Laws.makes}
+use denote.Triple.{Clauses.{Clauses, Ended, closing}, Entry.alive, Spec.{Meets, triple_of}, Table.entered, Walked.{says, Stays, stay_dropped, walk_of, ends_at, walk_Meets, Goes-dropped}}
+use mir.{MapTy.inst_fn, Syntax.{Fn, Args, a_type}, Val.{Val, vptr}}
+use prog.{Memory.Memory, Routine.Routine, Wp.{Calls, Loops, WpFn, Tables}}
+use seplogic.Ra.Ura.{Ura}
 use sound.WpLaws.{WpFn-mono}
-use types.Logic.{Logic}
-use types.Kit.{‵, raw, ◌⊛◌, prop, ◌$◌, ◌∵◌, !, qed, move, keep, drop, split, fsplit, fjoin, feq_l, regoal, suffices, done}
-use types.Part.{agg}
-use types.Run.{enter, returns, and_then, no_more}
-use types.ByLocal.{alloc_all, pass_all, free_all, look_at, get, sets}
-use denote.Exit.{yes}
-use denote.RattleType.{RattleType, owns}
-use denote.Builtin.{RefOf}
-use denote.Laws.{Is}
-use denote.Param.{param, layouts}
-use denote.Signature.{plain, types_at}
-use denote.Steps.{nothing, owned}
-use denote.Struct.Laws.{makes}
-use denote.Triple.Clauses.{Clauses, Ended, closing}
-use denote.Triple.Entry.{alive}
-use denote.Triple.Spec.{Meets, triple_of}
-use denote.Triple.Table.{entered}
-use denote.Triple.Walked.{says, Stays, stay_dropped, walk_of, ends_at, walk_Meets, Goes-dropped}
+use types.{ByLocal.{alloc_all, pass_all, free_all, look_at, get, sets}, Kit.{‵, raw, ◌⊛◌, prop, ◌$◌, ◌∵◌, !, qed, move, keep, drop, split, fsplit, fjoin, feq_l, regoal, suffices, done}, Logic.Logic}
+use types.{Part.agg, Run.{enter, returns, and_then, no_more}}
 use Rattle.std.specs.contracts.marker.PhantomData as Mark
-use Rattle.lists.proofs.ToldWalks.{none, one, one_made}
 use Rattle.lists.specs.contracts.told.Told as Told
 use Rattle.lists.specs.contracts.told.Told.again as F
-use Rattle.lists.specs.contracts.told.Told.again.Key.{name as #self}
 use Rattle.lists.proofs.told.Told.again.Statement as stated
 use Rattle.lists.proofs.told.Told.again.Code as code
 

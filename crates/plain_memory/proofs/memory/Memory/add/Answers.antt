@@ -1,8 +1,7 @@
 use Rattle.std.proofs.Common.{ap, arith, leb-true, sym, ◌∙◌}
 use Rattle.machine_types.specs.PlainMemory.{Object}
-use Rattle.plain_memory.proofs.OrderLaws.{one_more}
+use Rattle.plain_memory.proofs.{OrderLaws.one_more, memory.Memory.add.Goals.{then-self, else-self}}
 use Rattle.plain_memory.proofs.memory.Memory.add.Goals as goal
-use Rattle.plain_memory.proofs.memory.Memory.add.Goals.{then-self, else-self}
 
 pub invariant_of-self : goal.invariant_of-self
 invariant_of-self c = λ e. rw c.in_err-push.ensures.items (c.self.invariant e)

@@ -1,7 +1,6 @@
 use Rattle.std.proofs.Common.{leb-true, sym, ◌∙◌}
-use Rattle.plain_memory.proofs.OrderLaws.{number_rises}
+use Rattle.plain_memory.proofs.{OrderLaws.number_rises, memory.Memory.pass.Goals.{then-self, else-self}}
 use Rattle.plain_memory.proofs.memory.Memory.pass.Goals as goal
-use Rattle.plain_memory.proofs.memory.Memory.pass.Goals.{then-self, else-self}
 
 pub invariant_of-self : goal.invariant_of-self
 invariant_of-self c = λ e. elim c.if-self.branch [

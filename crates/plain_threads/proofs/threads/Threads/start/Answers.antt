@@ -1,5 +1,4 @@
-use Rattle.std.proofs.Common.{arith, ap, ◌++◌, ◌∷◌, [], List}
-use Rattle.std.proofs.lemmas.List.FromFn.{map-range_with_len_more}
+use Rattle.std.proofs.{Common.{arith, ap, ◌++◌, ◌∷◌, [], List}, lemmas.List.FromFn.map-range_with_len_more}
 use Rattle.machine_types.specs.PlainState.{PlainThread, plain_start_thread}
 use Rattle.plain_threads.proofs.threads.Threads.start.Goals as goal
 

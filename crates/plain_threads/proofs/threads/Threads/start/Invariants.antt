@@ -1,5 +1,4 @@
-use Rattle.std.proofs.Common.{◌≡◌, map}
-use Rattle.std.specs.List.{range_with_len}
+use Rattle.std.{proofs.Common.{◌≡◌, map}, specs.List.range_with_len}
 use Rattle.machine_types.specs.PlainState.{plain_start_thread}
 use Rattle.plain_threads.proofs.threads.Threads.start.Given as goal
 

@@ -1,6 +1,5 @@
 use Rattle.std.proofs.Common.{ℕ, List, subst, sym}
-use Rattle.record_run.specs.Kept.{IsFull, IsRecordOf, Kept}
-use Rattle.record_run.proofs.KeptRuns.{finishes}
+use Rattle.record_run.{specs.Kept.{IsFull, IsRecordOf, Kept}, proofs.KeptRuns.finishes}
 use Rattle.record_run.proofs.kept.Recording.finish.Goals as goal
 
 pub returns : goal.returns

@@ -1,9 +1,6 @@
-use Rattle.std.proofs.Common.{◌≡◌, ◌<◌, ◌≤◌, ℕ, true, false, ◌∙◌, sym, subst, arith, length}
-use Rattle.std.specs.Prelude.{MatchOption}
-use Rattle.std.proofs.lemmas.Bool.Decides.{nat_tests}
+use Rattle.std.proofs.{Common.{◌≡◌, ◌<◌, ◌≤◌, ℕ, true, false, ◌∙◌, sym, subst, arith, length, MatchOption}, lemmas.Bool.Decides.nat_tests}
 use Rattle.machine_types.specs.Core.{lives}
-use Rattle.record_run.specs.Kept.{Kept}
-use Rattle.record_run.proofs.KeptRuns.{next_is}
+use Rattle.record_run.{specs.Kept.Kept, proofs.KeptRuns.next_is}
 use Rattle.record_run.proofs.kept.Recording.next_turn.Goals as goal
 
 pub returns : goal.returns

@@ -1,8 +1,6 @@
-use Rattle.std.proofs.Common.{◌≡◌, ◌<◌, ap, subst, sym, ◌∙◌, ◌+◌, ◌∷◌, [], arith, length, true}
-use Rattle.std.proofs.lemmas.List.{length-append}
+use Rattle.std.proofs.{Common.{◌≡◌, ◌<◌, ap, subst, sym, ◌∙◌, ◌+◌, ◌∷◌, [], arith, length, true}, lemmas.List.length-append}
 use Rattle.machine_types.specs.Schedules.{is_live_worker}
-use Rattle.record_run.specs.Kept.{Kept}
-use Rattle.record_run.proofs.KeptRuns.{kept_on, same_program}
+use Rattle.record_run.{specs.Kept.Kept, proofs.KeptRuns.{kept_on, same_program}}
 use Rattle.record_run.proofs.kept.Recording.record.Goals as goal
 
 pub event-requires : goal.event-requires

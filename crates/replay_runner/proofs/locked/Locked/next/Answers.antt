@@ -1,6 +1,5 @@
 use Rattle.std.proofs.Common.{sym, ◌∙◌}
-use Rattle.replay_runner.proofs.Turns.{next_same}
-use Rattle.replay_runner.proofs.Reaching.{next_stays, same_program}
+use Rattle.replay_runner.proofs.{Reaching.{next_stays, same_program}, Turns.next_same}
 use Rattle.replay_runner.proofs.locked.Locked.next.Goals as goal
 
 pub next-requires : goal.next-requires

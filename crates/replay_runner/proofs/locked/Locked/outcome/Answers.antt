@@ -1,7 +1,6 @@
 use Rattle.std.proofs.Common.{sym, subst}
 use Rattle.machine_types.specs.Faithful.{IsOver}
-use Rattle.replay_runner.specs.Running.{Running}
-use Rattle.replay_runner.proofs.Reaching.{ends}
+use Rattle.replay_runner.{specs.Running.Running, proofs.Reaching.ends}
 use Rattle.replay_runner.proofs.locked.Locked.outcome.Goals as goal
 
 pub returns : goal.returns

@@ -1,11 +1,6 @@
-use Rattle.std.proofs.Common.{◌≡◌, true, refl, sym, ap, subst, ◌∙◌, arith}
-use Rattle.std.proofs.lemmas.List.{length-set}
+use Rattle.std.proofs.{Common.{◌≡◌, true, refl, sym, ap, subst, ◌∙◌, arith}, lemmas.List.length-set}
 use Rattle.machine_types.specs.Core.{event, lives}
-use Rattle.replay_runner.specs.Running.{Running}
-use Rattle.replay_runner.specs.RunningStates.{AreRunning, IsThreadOf}
-use Rattle.replay_runner.proofs.MachineEvents.{live_there, live_thread}
-use Rattle.replay_runner.proofs.LessWork.{event_lessens}
-use Rattle.replay_runner.proofs.ManyEvents.{put_back}
+use Rattle.replay_runner.{specs.{Running.Running, RunningStates.{AreRunning, IsThreadOf}}, proofs.{LessWork.event_lessens, MachineEvents.{live_there, live_thread}, ManyEvents.put_back}}
 use Rattle.replay_runner.proofs.running.Machine.live_event.Goals as goal
 
 pub index_mut-requires : goal.index_mut-requires

@@ -1,8 +1,5 @@
 use Rattle.std.proofs.Common.{ap, sym, subst, ◌∙◌}
-use Rattle.solero_cell.specs.Calls.{IsAtEnd, IsShown, Seated}
-use Rattle.solero_cell.specs.declared.views.Record.{Record}
-use Rattle.solero_cell.specs.declared.views.View.{View}
-use Rattle.solero_cell.proofs.Alone.{at_end}
+use Rattle.solero_cell.{specs.{Calls.{IsAtEnd, IsShown, Seated}, declared.views.{Record.Record, View.View}}, proofs.Alone.at_end}
 use Rattle.solero_cell.proofs.seat.CellSeat.close.Goals as goal
 
 pub returns : goal.returns

@@ -1,8 +1,5 @@
 use Rattle.std.proofs.Common.{ap, subst}
-use Rattle.solero_cell.specs.Calls.{Seated}
-use Rattle.solero_cell.specs.Histories.{AreOfOne}
-use Rattle.solero_cell.specs.declared.views.View.{View}
-use Rattle.solero_cell.proofs.Going.{of_one}
+use Rattle.solero_cell.{specs.{Calls.Seated, Histories.AreOfOne, declared.views.View.View}, proofs.Going.of_one}
 use Rattle.solero_cell.proofs.seat.CellSeat.join.Goals as goal
 
 pub returns-then-self-latest-clause-one : goal.returns-then-self-latest-clause-one

@@ -1,7 +1,6 @@
 use Rattle.std.proofs.Common.{◌≤◌, ap, refl, sym, ◌∙◌, arith}
 use Rattle.machine_types.specs.declared.config.Config.{Config}
-use Rattle.step_core.specs.Sections.{entering}
-use Rattle.step_core.proofs.LawfulSteps.{few_entries}
+use Rattle.step_core.{specs.Sections.entering, proofs.LawfulSteps.few_entries}
 use Rattle.step_core.proofs.ahead.entries.enter_at.Goals as goal
 
 pub enter_held-requires-clause-depth : goal.enter_held-requires-clause-depth

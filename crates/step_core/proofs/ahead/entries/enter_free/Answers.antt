@@ -1,7 +1,6 @@
 use Rattle.std.proofs.Common.{◌≤◌, ap, arith}
 use Rattle.machine_types.specs.declared.config.Config.{Config}
-use Rattle.step_core.specs.Sections.{entering}
-use Rattle.step_core.proofs.LawfulSteps.{few_inside, has_frame, number_fits}
+use Rattle.step_core.{specs.Sections.entering, proofs.LawfulSteps.{few_inside, has_frame, number_fits}}
 use Rattle.step_core.proofs.ahead.entries.enter_free.Goals as goal
 
 pub enter_section_again-requires-clause-none : goal.enter_section_again-requires-clause-none

@@ -1,7 +1,5 @@
 use Rattle.std.proofs.Common.{◌≤◌, ◌∙◌, ℕ, ap, arith}
-use Rattle.machine_types.specs.LockWords.{word_of_lock}
-use Rattle.machine_types.specs.declared.config.Config.{Config}
-use Rattle.machine_types.specs.declared.lock.LockWord.TheVariants.{Held}
+use Rattle.machine_types.specs.{LockWords.word_of_lock, declared.{config.Config.Config, lock.LockWord.TheVariants.Held}}
 use Rattle.step_core.proofs.SectionEvents.{few_taken, place_to_take, take_made}
 use Rattle.step_core.proofs.ahead.entries.take_flat.Goals as goal
 

@@ -1,8 +1,6 @@
 use Rattle.std.proofs.Common.{◌≤◌, ap, arith}
 use Rattle.machine_types.specs.declared.config.Config.{Config}
-use Rattle.step_core.specs.Running.{running_at}
-use Rattle.step_core.proofs.LawfulSteps.{few_elided, number_fits}
-use Rattle.step_core.proofs.SectionTurns.{leaves_whole}
+use Rattle.step_core.{specs.Running.running_at, proofs.{LawfulSteps.{few_elided, number_fits}, SectionTurns.leaves_whole}}
 use Rattle.step_core.proofs.ahead.monitors.exit_instruction.Goals as goal
 
 pub leave-requires-clause-count : goal.leave-requires-clause-count

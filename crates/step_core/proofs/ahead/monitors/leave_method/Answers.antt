@@ -1,10 +1,7 @@
 use Rattle.std.proofs.Common.{◌≤◌, ap, sym, ◌∙◌, arith}
-use Rattle.jvm_types.specs.Members.{is_synchronized}
-use Rattle.jvm_types.specs.declared.program.MethodInfo.{MethodInfo}
+use Rattle.jvm_types.specs.{Members.is_synchronized, declared.program.MethodInfo.MethodInfo}
 use Rattle.machine_types.specs.declared.config.Config.{Config}
-use Rattle.step_core.specs.Running.{running_at}
-use Rattle.step_core.proofs.LawfulSteps.{few_elided, number_fits}
-use Rattle.step_core.proofs.SectionTurns.{returns_whole}
+use Rattle.step_core.{specs.Running.running_at, proofs.{LawfulSteps.{few_elided, number_fits}, SectionTurns.returns_whole}}
 use Rattle.step_core.proofs.ahead.monitors.leave_method.Goals as goal
 
 pub leave-requires-clause-count : goal.leave-requires-clause-count

@@ -1,10 +1,6 @@
 use Rattle.std.proofs.Common.{◌≤◌, ◌+◌, ap, arith}
 use Rattle.machine_types.specs.declared.config.Config.{Config}
-use Rattle.step_core.specs.Alone.{ThreadWithWords, alone}
-use Rattle.step_core.specs.Running.{running_at}
-use Rattle.step_core.specs.Sections.{entering}
-use Rattle.step_core.proofs.EventsMore.{fine_after}
-use Rattle.step_core.proofs.SectionTurns.{entry_turn}
+use Rattle.step_core.{specs.{Alone.{ThreadWithWords, alone}, Running.running_at, Sections.entering}, proofs.{EventsMore.fine_after, SectionTurns.entry_turn}}
 use Rattle.step_core.proofs.ahead.sections.section_turn.Goals as goal
 
 pub instruct-requires-clause-fine : goal.instruct-requires-clause-fine

@@ -1,13 +1,9 @@
 use Rattle.std.proofs.Common.{◌≡◌, Some, sym, ap, subst, ◌∙◌, arith}
-use Rattle.checked_program.specs.MarkedProgram.{MarkedProgram}
-use Rattle.machine_types.specs.declared.config.Config.{Config}
 use Rattle.jvm_types.specs.declared.outcome.Outcome.{Outcome}
-use Rattle.machine_types.specs.Threads.{Thread}
+use Rattle.checked_program.specs.MarkedProgram.{MarkedProgram}
+use Rattle.machine_types.specs.{Threads.Thread, declared.config.Config.Config}
 use Rattle.table_rule.specs.Views.{HoldsAll, ShowsRun, held_in}
-use Rattle.table_runner.specs.Handed.{Handed}
-use Rattle.table_runner.specs.Ending.{IsOutcome}
-use Rattle.table_runner.proofs.HandedThreads.{in_place}
-use Rattle.table_runner.proofs.WholeHands.{ends}
+use Rattle.table_runner.{specs.{Ending.IsOutcome, Handed.Handed}, proofs.{HandedThreads.in_place, WholeHands.ends}}
 use Rattle.table_runner.proofs.hands.Hands.close.Goals as goal
 
 pub returns : goal.returns

@@ -1,12 +1,9 @@
-use Rattle.std.proofs.Common.{◌≡◌, true, sym, ap, subst, ◌∙◌}
+use Rattle.std.proofs.Common.{◌≡◌, true, sym, ap, subst, ◌∙◌, slice_set, slice_index_or, IsSome}
 use Rattle.atomic_table.specs.Seated.{TableId}
 use Rattle.checked_program.specs.MarkedProgram.{MarkedProgram}
 use Rattle.machine_types.specs.declared.config.Config.{Config}
-use Rattle.std.specs.Prelude.{slice_set, slice_index_or, IsSome}
 use Rattle.table_rule.specs.Views.{held_in}
-use Rattle.table_runner.specs.Going.{GoesAt}
-use Rattle.table_runner.specs.Handed.{Handed, AreHands, IsEventOf}
-use Rattle.table_runner.proofs.HandedThreads.{hands_kept, made_event, room_kept, in_place}
+use Rattle.table_runner.{specs.{Going.GoesAt, Handed.{Handed, AreHands, IsEventOf}}, proofs.HandedThreads.{hands_kept, made_event, room_kept, in_place}}
 use Rattle.table_runner.proofs.hands.Hands.event.Goals as goal
 
 pub invariant_of-self : goal.invariant_of-self

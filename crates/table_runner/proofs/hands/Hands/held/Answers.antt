@@ -1,7 +1,6 @@
 use Rattle.std.proofs.Common.{sym, ap, subst}
 use Rattle.checked_program.specs.MarkedProgram.{MarkedProgram}
-use Rattle.table_runner.specs.Handed.{Handed, AreHands}
-use Rattle.table_runner.proofs.StartHands.{are_held, room_held}
+use Rattle.table_runner.{specs.Handed.{Handed, AreHands}, proofs.StartHands.{are_held, room_held}}
 use Rattle.table_runner.proofs.hands.Hands.held.Goals as goal
 
 pub invariant_of-result : goal.invariant_of-result

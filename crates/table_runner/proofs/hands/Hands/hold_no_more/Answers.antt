@@ -1,7 +1,6 @@
 use Rattle.std.proofs.Common.{◌≡◌, ◌<◌, None, sym, subst, arith}
 use Rattle.table_rule.specs.Views.{held_in}
-use Rattle.table_runner.specs.Handed.{Handed}
-use Rattle.table_runner.proofs.WholeHands.{none_beyond}
+use Rattle.table_runner.{specs.Handed.Handed, proofs.WholeHands.none_beyond}
 use Rattle.table_runner.proofs.hands.Hands.hold_no_more.Goals as goal
 
 pub returns : goal.returns

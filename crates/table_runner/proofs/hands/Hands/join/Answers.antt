@@ -1,9 +1,7 @@
 use Rattle.std.proofs.Common.{◌≡◌, sym, ap, subst, ◌∙◌}
 use Rattle.atomic_table.specs.Seated.{TableId}
 use Rattle.table_rule.specs.Views.{View}
-use Rattle.table_runner.specs.Handed.{Handed, AreHands}
-use Rattle.table_runner.specs.Sharing.{merged}
-use Rattle.table_runner.proofs.HandsApart.{are_joined, room_joined}
+use Rattle.table_runner.{specs.{Handed.{Handed, AreHands}, Sharing.merged}, proofs.HandsApart.{are_joined, room_joined}}
 use Rattle.table_runner.proofs.hands.Hands.join.Goals as goal
 
 pub invariant_of-self : goal.invariant_of-self

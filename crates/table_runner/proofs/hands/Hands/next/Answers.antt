@@ -1,12 +1,9 @@
-use Rattle.std.proofs.Common.{◌≡◌, refl, sym, ap, subst, ◌∙◌, true, false, arith}
-use Rattle.std.specs.Prelude.{IsSome}
+use Rattle.std.proofs.Common.{◌≡◌, refl, sym, ap, subst, ◌∙◌, true, false, arith, IsSome}
 use Rattle.atomic_table.specs.Seated.{TableId}
 use Rattle.checked_program.specs.MarkedProgram.{MarkedProgram}
 use Rattle.machine_types.specs.declared.config.Config.{Config}
 use Rattle.table_rule.specs.Views.{held_in, HoldsAll}
-use Rattle.table_runner.specs.Handed.{Handed, AreHands}
-use Rattle.table_runner.specs.Running.{AreSame}
-use Rattle.table_runner.specs.Sharing.{CanBegin, HasBegun, IsNextPart}
+use Rattle.table_runner.specs.{Handed.{Handed, AreHands}, Running.AreSame, Sharing.{CanBegin, HasBegun, IsNextPart}}
 use Rattle.table_runner.proofs.NextHands.{are_next, can_begin, is_next, next_of, none_next, room_next, same_next}
 use Rattle.table_runner.proofs.hands.Hands.next.Goals as goal
 

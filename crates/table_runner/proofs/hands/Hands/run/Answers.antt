@@ -1,14 +1,9 @@
-use Rattle.std.proofs.Common.{◌≡◌, sym, ap, subst, ◌∙◌}
-use Rattle.std.specs.Prelude.{slice_set, slice_index_or, IsSome}
+use Rattle.std.proofs.Common.{◌≡◌, sym, ap, subst, ◌∙◌, slice_set, slice_index_or, IsSome}
 use Rattle.atomic_table.specs.Seated.{TableId}
 use Rattle.checked_program.specs.MarkedProgram.{MarkedProgram}
 use Rattle.machine_types.specs.declared.config.Config.{Config}
 use Rattle.table_rule.specs.Views.{held_in}
-use Rattle.table_runner.specs.Going.{GoesOnAt}
-use Rattle.table_runner.specs.Handed.{Handed, AreHands}
-use Rattle.table_runner.specs.Running.{IsRunOn}
-use Rattle.table_runner.proofs.HandedThreads.{in_place}
-use Rattle.table_runner.proofs.ManyEvents.{hands_later, room_later, run_on}
+use Rattle.table_runner.{specs.{Going.GoesOnAt, Handed.{Handed, AreHands}, Running.IsRunOn}, proofs.{HandedThreads.in_place, ManyEvents.{hands_later, room_later, run_on}}}
 use Rattle.table_runner.proofs.hands.Hands.run.Goals as goal
 
 pub invariant_of-self : goal.invariant_of-self

@@ -1,11 +1,8 @@
-use Rattle.std.proofs.Common.{◌≡◌, sym, ap, subst, ◌∙◌}
+use Rattle.std.proofs.Common.{◌≡◌, sym, ap, subst, ◌∙◌, replicate, None, slice_set}
 use Rattle.atomic_table.specs.Seated.{TableId}
 use Rattle.checked_program.specs.MarkedProgram.{MarkedProgram}
-use Rattle.std.specs.Prelude.{replicate, None, slice_set}
 use Rattle.table_rule.specs.Views.{View}
-use Rattle.table_runner.specs.Handed.{Handed, AreHands, HasReportRoom}
-use Rattle.table_runner.specs.Sharing.{only_thread, view_without}
-use Rattle.table_runner.proofs.HandsApart.{are_alone, are_without, room_alone, room_without}
+use Rattle.table_runner.{specs.{Handed.{Handed, AreHands, HasReportRoom}, Sharing.{only_thread, view_without}}, proofs.HandsApart.{are_alone, are_without, room_alone, room_without}}
 use Rattle.table_runner.proofs.hands.Hands.split.Goals as goal
 
 pub invariant_of-self : goal.invariant_of-self
