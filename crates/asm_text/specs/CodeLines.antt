@@ -1,6 +1,8 @@
--- The lines of the code of a method: a line for each instruction, with its mnemonic (JVMS 6.5) and its operands, where the
--- instructions spell the bytes; else one line with the bytes.
-use Rattle.std.specs.Prelude.{ℕ, zero, suc, ◌+◌, ℤ, pos, ◌+ℤ◌, ◌-ℤ◌, Bool, true, not, ◌==◌, ◌&&◌, ◌||◌, List, [], ◌∷◌, length, map, codes, Option, Some, None, is_some, slice_index_or, if◌then◌else◌}
+-- The lines of the code of a method: a line for each instruction, with its mnemonic (JVMS 6.5) and
+-- its operands, where the instructions spell the bytes; else one line with the bytes.
+use Rattle.std.specs.Prelude.{ℕ, zero, suc, ◌+◌, ℤ, pos, ◌+ℤ◌, ◌-ℤ◌, Bool, true, not, ◌==◌, ◌&&◌}
+use Rattle.std.specs.Prelude.{◌||◌, List, [], ◌∷◌, length, map, codes, Option, Some, None, is_some}
+use Rattle.std.specs.Prelude.{slice_index_or, if◌then◌else◌}
 use Rattle.std.specs.Int.{is_in_range}
 use Rattle.std.specs.List.{flat_map, list_all}
 use Rattle.jvm_types.specs.CodeFault.{code_fault}
@@ -9,7 +11,13 @@ use Rattle.jvm_types.specs.ReadCode.{insns_of}
 use Rattle.jvm_types.specs.declared.code.Case.{Case}
 use Rattle.jvm_types.specs.declared.code.Insn.{Insn}
 use Rattle.jvm_types.specs.declared.code.Op.{Op}
-use Rattle.jvm_types.specs.declared.code.Op.TheVariants.{Bipush, Sipush, Ldc, LdcW, Iload, Aload, Istore, Astore, Iinc, If, IfIcmp, IfAcmpeq, IfAcmpne, Ifnull, Ifnonnull, Goto, GotoW, Tableswitch, Lookupswitch, Getstatic, Putstatic, Getfield, Putfield, Invokevirtual, Invokespecial, Invokestatic, New, Newarray}
+use Rattle.jvm_types.specs.declared.code.Op.TheVariants.{Bipush, Sipush, Ldc, LdcW, Iload, Aload}
+use Rattle.jvm_types.specs.declared.code.Op.TheVariants.{Istore, Astore, Iinc, If, IfIcmp, IfAcmpeq}
+use Rattle.jvm_types.specs.declared.code.Op.TheVariants.{IfAcmpne, Ifnull, Ifnonnull, Goto, GotoW}
+use Rattle.jvm_types.specs.declared.code.Op.TheVariants.{Tableswitch, Lookupswitch, Getstatic}
+use Rattle.jvm_types.specs.declared.code.Op.TheVariants.{Putstatic, Getfield, Putfield}
+use Rattle.jvm_types.specs.declared.code.Op.TheVariants.{Invokevirtual, Invokespecial, Invokestatic}
+use Rattle.jvm_types.specs.declared.code.Op.TheVariants.{New, Newarray}
 use Rattle.mnemonics.specs.Mnemonics.{mnemonic}
 use Rattle.asm_text.specs.Lines.{Value, Number, Signed, Hex, Line}
 
@@ -22,8 +30,8 @@ high_of low targets = low +ℤ pos (length targets) -ℤ pos 1
 abbrev pub case_values : Case → List Value
 case_values c = Signed c.key ∷ Number c.target ∷ []
 
--- A branch has the pc of its target. A switch has its default target first, then low, high and the targets, or the pairs.
--- `newarray` has the number of the type int.
+-- A branch has the pc of its target. A switch has its default target first, then low, high and the
+-- targets, or the pairs. `newarray` has the number of the type int.
 abbrev pub operands : Op → List Value
 operands (Bipush n) = Signed n ∷ []
 operands (Sipush n) = Signed n ∷ []
@@ -42,7 +50,8 @@ operands (Ifnull to) = Number to ∷ []
 operands (Ifnonnull to) = Number to ∷ []
 operands (Goto to) = Number to ∷ []
 operands (GotoW to) = Number to ∷ []
-operands (Tableswitch otherwise low targets) = Number otherwise ∷ Signed low ∷ Signed (high_of low targets) ∷ map Number targets
+operands (Tableswitch otherwise low targets) =
+    Number otherwise ∷ Signed low ∷ Signed (high_of low targets) ∷ map Number targets
 operands (Lookupswitch otherwise cases) = Number otherwise ∷ flat_map case_values cases
 operands (Getstatic i) = Number i ∷ []
 operands (Putstatic i) = Number i ∷ []
@@ -91,10 +100,13 @@ is_padded bytes pc op = true
 
 -- the bytes are code, also without handler rows, and only the one that the instructions spell
 unfoldable pub are_insns : List ℕ → Bool
-are_insns bytes = not (is_some (code_fault bytes [])) && list_all (λ (insn : Insn). is_padded bytes insn.pc insn.op) (insns_of 0 0 bytes)
+are_insns bytes =
+    not (is_some (code_fault bytes []))
+    && list_all (λ (insn : Insn). is_padded bytes insn.pc insn.op) (insns_of 0 0 bytes)
 
 abbrev pub bytes_line : List ℕ → Line
 bytes_line bytes = record { name = codes "bytes"; values = Hex bytes ∷ [] }
 
 unfoldable pub code_lines : List ℕ → List Line
-code_lines bytes = if are_insns bytes then map (insn_line bytes) (insns_of 0 0 bytes) else bytes_line bytes ∷ []
+code_lines bytes =
+    if are_insns bytes then map (insn_line bytes) (insns_of 0 0 bytes) else bytes_line bytes ∷ []

@@ -14,16 +14,21 @@ use Rattle.asm_text.specs.Places.{place_after}
 use Rattle.asm_text.specs.declared.items.MemberKind.{MemberKind}
 use Rattle.asm_text.specs.declared.items.MemberKind.TheVariants as kinds
 use Rattle.asm_text.specs.declared.items.Item.{Item}
-use Rattle.asm_text.specs.declared.items.Item.TheVariants.{FileHead, Entry, Interface, MemberHead, Attribute, InitialValue, CodeHead, CodeBytes, Instruction, Row, End}
+use Rattle.asm_text.specs.declared.items.Item.TheVariants.{FileHead, Entry, Interface, MemberHead}
+use Rattle.asm_text.specs.declared.items.Item.TheVariants.{Attribute, InitialValue, CodeHead}
+use Rattle.asm_text.specs.declared.items.Item.TheVariants.{CodeBytes, Instruction, Row, End}
 use Rattle.asm_text.specs.declared.places.Place.{Place}
 use Rattle.asm_text.specs.declared.places.Place.TheVariants as places
 use Rattle.asm_text.specs.declared.drafts.Draft.{Draft}
 
 abbrev pub member_of : (flags name descriptor : ℕ) → Member
-member_of flags name descriptor = record { flags = flags; name = name; descriptor = descriptor; attrs = [] }
+member_of flags name descriptor =
+    record { flags = flags; name = name; descriptor = descriptor; attrs = [] }
 
 abbrev pub started_code : (name stack locals : ℕ) → Code
-started_code name stack locals = record { max_stack = stack; max_locals = locals; bytes = []; rows = []; attrs = []; name = name }
+started_code name stack locals =
+    record
+    { max_stack = stack; max_locals = locals; bytes = []; rows = []; attrs = []; name = name }
 
 abbrev pub no_member : Member
 no_member = member_of 0 0 0
@@ -83,26 +88,36 @@ with_code_attr k x = record k { attrs = k.attrs ++ x ∷ [] }
 
 abbrev pub attr_added : Place → Draft → Attr → Draft
 attr_added (places.Code kind part) d x = draft d.class d.member (with_code_attr d.code x)
-attr_added (places.Member kind) d x = draft d.class (with_member_attr d.member (member_attrs.Other x)) d.code
+attr_added (places.Member kind) d x =
+    draft d.class (with_member_attr d.member (member_attrs.Other x)) d.code
 attr_added place d x = draft (with_attr d.class x) d.member d.code
 
 -- the open code or the open member ends
 abbrev pub draft_ended : Place → Draft → Draft
-draft_ended (places.Code kind part) d = draft d.class (with_member_attr d.member (member_attrs.Code d.code)) no_code
+draft_ended (places.Code kind part) d =
+    draft d.class (with_member_attr d.member (member_attrs.Code d.code)) no_code
 draft_ended (places.Member kind) d = draft (with_member kind d.class d.member) no_member d.code
 draft_ended place d = d
 
 -- a line at its place
 abbrev pub line_added : Place → Draft → Item → Draft
-line_added place d (FileHead minor major flags class super) = draft (record d.class { minor = minor; major = major; flags = flags; this_class = class; super_class = super }) d.member d.code
+line_added place d (FileHead minor major flags class super) =
+    draft (record d.class
+    { minor = minor; major = major; flags = flags; this_class = class; super_class = super })
+    d.member d.code
 line_added place d (Entry x) = draft (with_constant d.class x) d.member d.code
 line_added place d (Interface class) = draft (with_interface d.class class) d.member d.code
-line_added place d (MemberHead kind flags name descriptor) = draft d.class (member_of flags name descriptor) d.code
+line_added place d (MemberHead kind flags name descriptor) =
+    draft d.class (member_of flags name descriptor) d.code
 line_added place d (Attribute x) = attr_added place d x
-line_added place d (InitialValue name constant) = draft d.class (with_member_attr d.member (member_attrs.ConstantValue name constant)) d.code
-line_added place d (CodeHead name stack locals) = draft d.class d.member (started_code name stack locals)
-line_added place d (CodeBytes bytes) = draft d.class d.member (with_bytes d.code (d.code.bytes ++ bytes))
-line_added place d (Instruction opcode operands) = draft d.class d.member (with_bytes d.code (encoded d.code.bytes opcode operands))
+line_added place d (InitialValue name constant) =
+    draft d.class (with_member_attr d.member (member_attrs.ConstantValue name constant)) d.code
+line_added place d (CodeHead name stack locals) =
+    draft d.class d.member (started_code name stack locals)
+line_added place d (CodeBytes bytes) =
+    draft d.class d.member (with_bytes d.code (d.code.bytes ++ bytes))
+line_added place d (Instruction opcode operands) =
+    draft d.class d.member (with_bytes d.code (encoded d.code.bytes opcode operands))
 line_added place d (Row x) = draft d.class d.member (with_row d.code x)
 line_added place d End = draft_ended place d
 
@@ -113,4 +128,5 @@ place_or place (Some next) = next
 -- lines that follow one another
 abbrev pub drafted : Place → Draft → List Item → Draft
 drafted place d [] = d
-drafted place d (item ∷ items) = drafted (place_or place (place_after place item)) (line_added place d item) items
+drafted place d (item ∷ items) =
+    drafted (place_or place (place_after place item)) (line_added place d item) items

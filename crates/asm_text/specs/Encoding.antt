@@ -1,5 +1,6 @@
 -- The bytes of an instruction by its line: those that spell it at its pc, where some do (JVMS 6.5).
-use Rattle.std.specs.Prelude.{ℕ, ◌/◌, ◌%◌, ℤ, pos, ◌-ℤ◌, Bool, true, not, List, [], ◌∷◌, ◌++◌, length, take, Option, Some, None, if◌then◌else◌}
+use Rattle.std.specs.Prelude.{ℕ, ◌/◌, ◌%◌, ℤ, pos, ◌-ℤ◌, Bool, true, not, List, [], ◌∷◌, ◌++◌}
+use Rattle.std.specs.Prelude.{length, take, Option, Some, None, if◌then◌else◌}
 use Rattle.std.specs.List.{flat_map}
 use Rattle.std.specs.Int.{w64, cast_unsigned}
 use Rattle.jvm_types.specs.Numbers.{u1, u2, u4}
@@ -54,8 +55,12 @@ operand_bytes pc shapes.Branch (to ∷ []) = low2 (way pc to)
 operand_bytes pc shapes.WideBranch (to ∷ []) = low4 (way pc to)
 operand_bytes pc shapes.LocalAndStep (local ∷ step ∷ []) = low1 local ++ low1 step
 operand_bytes pc shapes.IntArray (number ∷ []) = low1 number
-operand_bytes pc shapes.Table (otherwise ∷ bounds) = zero_bytes (padding_size pc) ++ (low4 (way pc otherwise) ++ bounds_bytes pc bounds)
-operand_bytes pc shapes.Lookup (otherwise ∷ pairs) = zero_bytes (padding_size pc) ++ (low4 (way pc otherwise) ++ (u4 (length pairs / 2 % 4294967296) ++ pair_ways pc true pairs))
+operand_bytes pc shapes.Table (otherwise ∷ bounds) =
+    zero_bytes (padding_size pc) ++ (low4 (way pc otherwise) ++ bounds_bytes pc bounds)
+operand_bytes pc shapes.Lookup (otherwise ∷ pairs) =
+    zero_bytes (padding_size pc)
+    ++
+    (low4 (way pc otherwise) ++ (u4 (length pairs / 2 % 4294967296) ++ pair_ways pc true pairs))
 operand_bytes pc shape operands = []
 
 abbrev pub shape_bytes : ℕ → Option Shape → List ℤ → List ℕ
@@ -64,4 +69,5 @@ shape_bytes pc (Some shape) operands = operand_bytes pc shape operands
 
 -- the instruction at the end of a code
 abbrev pub encoded : List ℕ → ℕ → List ℤ → List ℕ
-encoded code opcode operands = code ++ (opcode ∷ shape_bytes (small 65536 (length code)) (shape_at opcode) operands)
+encoded code opcode operands =
+    code ++ (opcode ∷ shape_bytes (small 65536 (length code)) (shape_at opcode) operands)

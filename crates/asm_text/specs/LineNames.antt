@@ -1,7 +1,13 @@
 -- The names of lines, but for those of instructions.
 use Rattle.std.specs.Prelude.{ℕ, List, [], ◌∷◌, codes, bytes_eq, Option, Some, None, if◌then◌else◌}
 use Rattle.asm_text.specs.declared.line_names.LineName.{LineName}
-use Rattle.asm_text.specs.declared.line_names.LineName.TheVariants.{File, Utf8, Integer, Float, Long, Double, Gap, Class, Text, Field, Method, InterfaceMethod, NameAndType, Interface, FieldHead, MethodHead, Attribute, InitialValue, Code, CodeBytes, Row, End}
+use Rattle.asm_text.specs.declared.line_names.LineName.TheVariants.{File, Utf8, Integer, Float}
+use Rattle.asm_text.specs.declared.line_names.LineName.TheVariants.{Long, Double, Gap, Class, Text}
+use Rattle.asm_text.specs.declared.line_names.LineName.TheVariants.{Field, Method, InterfaceMethod}
+use Rattle.asm_text.specs.declared.line_names.LineName.TheVariants.{NameAndType, Interface}
+use Rattle.asm_text.specs.declared.line_names.LineName.TheVariants.{FieldHead, MethodHead}
+use Rattle.asm_text.specs.declared.line_names.LineName.TheVariants.{Attribute, InitialValue, Code}
+use Rattle.asm_text.specs.declared.line_names.LineName.TheVariants.{CodeBytes, Row, End}
 use Rattle.asm_text.specs.declared.line_names.TheConstants.{LINE_NAMES}
 
 abbrev pub line_name : LineName → List ℕ
@@ -31,7 +37,8 @@ line_name End = codes "end"
 -- the first of these with this name
 abbrev pub name_among : List LineName → List ℕ → Option LineName
 name_among [] text = None
-name_among (name ∷ names) text = if bytes_eq (line_name name) text then Some name else name_among names text
+name_among (name ∷ names) text =
+    if bytes_eq (line_name name) text then Some name else name_among names text
 
 abbrev pub line_name_of : List ℕ → Option LineName
 line_name_of text = name_among LINE_NAMES text

@@ -1,8 +1,10 @@
 -- The operands of instructions as numbers, and their fields.
-use Rattle.std.specs.Prelude.{ℕ, ℤ, pos, negsuc, int_lt, Bool, true, false, not, ◌&&◌, List, [], ◌∷◌, Option}
+use Rattle.std.specs.Prelude.{ℕ, ℤ, pos, negsuc, int_lt, Bool, true, false, not, ◌&&◌, List, []}
+use Rattle.std.specs.Prelude.{◌∷◌, Option}
 use Rattle.std.specs.List.{list_all}
 use Rattle.std.specs.Option.{option_map}
-use Rattle.jvm_types.specs.CodeTable.{Form, Plain, Byte, Short, SignedByte, SignedShort, Branch, WideBranch, LocalAndStep, IntArray, Table, Lookup, form_of}
+use Rattle.jvm_types.specs.CodeTable.{Form, Plain, Byte, Short, SignedByte, SignedShort, Branch}
+use Rattle.jvm_types.specs.CodeTable.{WideBranch, LocalAndStep, IntArray, Table, Lookup, form_of}
 use Rattle.asm_text.specs.declared.shapes.Shape.{Shape}
 use Rattle.asm_text.specs.declared.shapes.Shape.TheVariants as shapes
 
@@ -59,7 +61,8 @@ bounds_fit [] = false
 bounds_fit (low ∷ []) = false
 bounds_fit (low ∷ high ∷ targets) = is_s4 low && is_s4 high && list_all is_target targets
 
--- so many operands as the shape has, each in its field; a switch may have any number of targets or of pairs
+-- so many operands as the shape has, each in its field; a switch may have any number of targets or
+-- of pairs
 abbrev pub operands_fit : Shape → List ℤ → Bool
 operands_fit shapes.Plain [] = true
 operands_fit shapes.Byte (n ∷ []) = is_u1 n

@@ -1,9 +1,12 @@
 -- Which lines may stand behind which.
-use Rattle.std.specs.Prelude.{ℕ, nat_lt, Bool, true, false, if◌then◌else◌, List, [], ◌∷◌, Option, Some, None}
+use Rattle.std.specs.Prelude.{ℕ, nat_lt, Bool, true, false, if◌then◌else◌, List, [], ◌∷◌, Option}
+use Rattle.std.specs.Prelude.{Some, None}
 use Rattle.asm_text.specs.declared.items.MemberKind.{MemberKind}
 use Rattle.asm_text.specs.declared.items.MemberKind.TheVariants as kinds
 use Rattle.asm_text.specs.declared.items.Item.{Item}
-use Rattle.asm_text.specs.declared.items.Item.TheVariants.{FileHead, Entry, Interface, MemberHead, Attribute, InitialValue, CodeHead, CodeBytes, Instruction, Row, End}
+use Rattle.asm_text.specs.declared.items.Item.TheVariants.{FileHead, Entry, Interface, MemberHead}
+use Rattle.asm_text.specs.declared.items.Item.TheVariants.{Attribute, InitialValue, CodeHead}
+use Rattle.asm_text.specs.declared.items.Item.TheVariants.{CodeBytes, Instruction, Row, End}
 use Rattle.asm_text.specs.declared.places.ClassPart.{ClassPart}
 use Rattle.asm_text.specs.declared.places.ClassPart.TheVariants as parts
 use Rattle.asm_text.specs.declared.places.CodePart.{CodePart}
@@ -41,16 +44,20 @@ abbrev pub place_after : Place → Item → Option Place
 place_after Start (FileHead minor major flags class super) = Some (Class parts.Constants)
 place_after (Class part) (Entry c) = in_class parts.Constants part (Class parts.Constants)
 place_after (Class part) (Interface class) = in_class parts.Interfaces part (Class parts.Interfaces)
-place_after (Class part) (MemberHead kind flags name descriptor) = in_class (part_of kind) part (Member kind)
+place_after (Class part) (MemberHead kind flags name descriptor) =
+    in_class (part_of kind) part (Member kind)
 place_after (Class part) (Attribute a) = in_class parts.Attributes part (Class parts.Attributes)
 place_after (Member kind) (Attribute a) = Some (Member kind)
 place_after (Member kind) (InitialValue name constant) = Some (Member kind)
 place_after (Member kind) (CodeHead name stack locals) = Some (Code kind code_parts.Start)
 place_after (Member kind) End = Some (Class (part_of kind))
-place_after (Code kind part) (CodeBytes bytes) = in_code code_parts.Start part (Code kind code_parts.Rows)
-place_after (Code kind part) (Instruction opcode operands) = in_code code_parts.Instructions part (Code kind code_parts.Instructions)
+place_after (Code kind part) (CodeBytes bytes) =
+    in_code code_parts.Start part (Code kind code_parts.Rows)
+place_after (Code kind part) (Instruction opcode operands) =
+    in_code code_parts.Instructions part (Code kind code_parts.Instructions)
 place_after (Code kind part) (Row h) = in_code code_parts.Rows part (Code kind code_parts.Rows)
-place_after (Code kind part) (Attribute a) = in_code code_parts.Attributes part (Code kind code_parts.Attributes)
+place_after (Code kind part) (Attribute a) =
+    in_code code_parts.Attributes part (Code kind code_parts.Attributes)
 place_after (Code kind part) End = Some (Member kind)
 place_after place item = None
 
@@ -61,7 +68,8 @@ behind_next (Some place) more = more place
 
 abbrev pub place_behind : Place → List Item → Option Place
 place_behind place [] = Some place
-place_behind place (item ∷ items) = behind_next (place_after place item) (λ next. place_behind next items)
+place_behind place (item ∷ items) =
+    behind_next (place_after place item) (λ next. place_behind next items)
 
 -- a text may end here
 abbrev pub is_end : Place → Bool

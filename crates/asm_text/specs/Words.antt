@@ -1,5 +1,7 @@
--- What the words of a line say, whatever they are. Reading refuses no word: what it makes of a line is spelled again.
-use Rattle.std.specs.Prelude.{ℕ, ◌+◌, ◌-◌, ◌*◌, ◌%◌, ◌^◌, ◌==◌, nat_lt, ℤ, pos, ◌-ℤ◌, List, [], ◌∷◌, map, drop, slice_index_or, if◌then◌else◌}
+-- What the words of a line say, whatever they are. Reading refuses no word: what it makes of a line
+-- is spelled again.
+use Rattle.std.specs.Prelude.{ℕ, ◌+◌, ◌-◌, ◌*◌, ◌%◌, ◌^◌, ◌==◌, nat_lt, ℤ, pos, ◌-ℤ◌, List, [], ◌∷◌}
+use Rattle.std.specs.Prelude.{map, drop, slice_index_or, if◌then◌else◌}
 use Rattle.std.specs.List.{slice_split}
 
 -- the words of a line, parted by a space
@@ -26,7 +28,9 @@ small limit n = if nat_lt n limit then n else 0
 -- of 32 bits, where it has a dash in front, and else below a limit
 abbrev pub signed : ℕ → List ℕ → ℤ
 signed limit [] = pos 0
-signed limit (c ∷ cs) = if c == 45 then pos 0 -ℤ pos (small 2147483649 (unsigned cs)) else pos (small limit (unsigned (c ∷ cs)))
+signed limit (c ∷ cs) =
+    if c == 45 then pos 0 -ℤ pos (small 2147483649 (unsigned cs))
+    else pos (small limit (unsigned (c ∷ cs)))
 
 abbrev pub hex_digit_of : ℕ → ℕ
 hex_digit_of c = (if nat_lt c 97 then c - 48 else c - 87) % 16

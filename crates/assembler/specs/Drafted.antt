@@ -1,5 +1,6 @@
 -- What reading the lines of a text answers.
-use Rattle.std.specs.Prelude.{◌≡◌, ℕ, ◌+◌, ◌≤◌, Bool, true, false, List, [], ◌∷◌, length, Option, Some, None, Result, Ok, Err, IfOk}
+use Rattle.std.specs.Prelude.{◌≡◌, ℕ, ◌+◌, ◌≤◌, Bool, true, false, List, [], ◌∷◌, length, Option}
+use Rattle.std.specs.Prelude.{Some, None, Result, Ok, Err, IfOk}
 use Rattle.class_writer.specs.declared.error.WriteError.{WriteError}
 use Rattle.class_writer.specs.declared.error.WriteError.TheVariants as write_errors
 use Rattle.jvm_types.specs.declared.refusal.ARule.TheVariants.{A1, A2}
@@ -26,7 +27,9 @@ pub record IsLine (place : Place) (line : List ℕ) (old new : Draft) (next : Pl
 -- the place behind a line, or that it has no form at its place
 abbrev pub IsNextPlace : Place → List ℕ → Draft → Draft → Option Place → Type 0
 IsNextPlace place line old new (Some next) = IsLine place line old new next
-IsNextPlace place line old new None = (item : Item) → ItemFits item → line ≡ line_text (item_line item) → place_after place item ≡ None
+IsNextPlace place line old new None =
+    (item : Item) → ItemFits item → line ≡ line_text (item_line item)
+    → place_after place item ≡ None
 
 -- a text may end at the place, and nothing is left
 abbrev pub is_whole : List ℕ → Place → Bool
@@ -34,7 +37,8 @@ is_whole [] place = is_end place
 is_whole (b ∷ rest) place = false
 
 -- the lines so far
-pub record AreDrafted (text : List ℕ) (place : Place) (draft : Draft) (number : ℕ) (rest : List ℕ) : Type 0 where
+pub record AreDrafted (text : List ℕ) (place : Place) (draft : Draft) (number : ℕ) (rest : List ℕ)
+    : Type 0 where
   pub items : List Item
   pub begins : HasFirstLines text items place rest
   pub makes : draft ≡ drafted Start new_draft items

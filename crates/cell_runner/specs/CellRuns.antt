@@ -13,9 +13,11 @@ all_zero = record_of 0 (replicate 64 0)
 
 -- each worker that did not stop has made its rounds, and none has made more
 abbrev pub AreRoundsMade : (workers stopped rounds made : ℕ) → Type 0
-AreRoundsMade workers stopped rounds made = ((workers - stopped) * rounds ≤ made) × (made ≤ workers * rounds)
+AreRoundsMade workers stopped rounds made =
+    ((workers - stopped) * rounds ≤ made) × (made ≤ workers * rounds)
 
--- the report of some run: at its end the cell has these words, and its seats know this, by the rule of the cell
+-- the report of some run: at its end the cell has these words, and its seats know this, by the rule
+-- of the cell
 pub record IsCellRun (workers rounds turns : ℕ) (r : CellReport) : Type 0 where
   pub words : List ℕ
   pub views : List View
@@ -24,7 +26,8 @@ pub record IsCellRun (workers rounds turns : ℕ) (r : CellReport) : Type 0 wher
   pub once : (n : ℕ) → sum_by (times n) views ≡ one_if (is_in_span n 0 r.writes)
   -- the reads of all seats that were Got
   pub got : r.reads ≡ sum_by (λ v. v.reads) views
-  -- the tries of all seats that failed are as many as each worker that stopped may fail in a row, at least
+  -- the tries of all seats that failed are as many as each worker that stopped may fail in a row,
+  -- at least
   pub failed : r.stopped * turns ≤ sum_by (λ v. v.failed) views
   pub stopped : r.stopped ≤ workers
   pub written : AreRoundsMade workers r.stopped rounds r.writes

@@ -1,5 +1,7 @@
--- A worker's seat beside what the worker came to, and hands that have taken in those of several workers.
-use Rattle.std.specs.Prelude.{◌≡◌, ℕ, ◌+◌, ◌-◌, ◌*◌, ◌^◌, ◌<◌, ◌≤◌, true, false, ◌||◌, List, length, Some, slice_index_or}
+-- A worker's seat beside what the worker came to, and hands that have taken in those of several
+-- workers.
+use Rattle.std.specs.Prelude.{◌≡◌, ℕ, ◌+◌, ◌-◌, ◌*◌, ◌^◌, ◌<◌, ◌≤◌, true, false, ◌||◌, List, length}
+use Rattle.std.specs.Prelude.{Some, slice_index_or}
 use Rattle.atomic_table.specs.Seated.{TableId}
 use Rattle.solero_cell.specs.declared.views.Record.{Record}
 use Rattle.solero_cell.specs.Calls.{Seated, IsTableOfSeat}
@@ -13,7 +15,8 @@ use Rattle.cell_runner.specs.declared.hands.Tried.TheVariants.{Done, Failed, Ful
 
 -- ---- one worker
 
--- the counts are those that the seat knows; a seat that found the cell full has noted its last count
+-- the counts are those that the seat knows; a seat that found the cell full has noted its last
+-- count
 pub record IsCountedHand (h : Hand) : Type 0 where
   pub writes : h.report.writes ≡ length h.seat.view.writes
   pub reads : h.report.reads ≡ h.seat.view.reads
@@ -42,7 +45,8 @@ task_made Read r = record r { reads = r.reads + 1 }
 abbrev pub IsTaskTried : Task → (was : Hand) → Tried → (now : Hand) → Type 0
 IsTaskTried task was Done now = (now.report ≡ task_made task was.report) × (now.is_full ≡ false)
 IsTaskTried task was Failed now =
-    (now.report ≡ was.report) × (now.is_full ≡ false) × (now.seat.view.failed ≡ was.seat.view.failed + 1)
+    (now.report ≡ was.report) × (now.is_full ≡ false)
+    × (now.seat.view.failed ≡ was.seat.view.failed + 1)
 IsTaskTried task was Full now = (now.report ≡ was.report) × (now.is_full ≡ true)
 
 -- the worker has ended, with no more writes and reads than these
@@ -52,7 +56,8 @@ pub record HasEnded (writes reads : ℕ) (h : Hand) : Type 0 where
   pub once : h.report.stopped ≤ 1
   pub stopped : h.is_full ≡ false → h.report.stopped ≡ 1
 
--- what so many workers came to: none has made more than its rounds, and each that neither stopped nor found the cell full has made them
+-- what so many workers came to: none has made more than its rounds, and each that neither stopped
+-- nor found the cell full has made them
 pub record AreRoundsOver (workers rounds : ℕ) (h : Hand) : Type 0 where
   pub stopped : h.report.stopped ≤ workers
   pub writes : h.report.writes ≤ workers * rounds
@@ -79,20 +84,23 @@ AreReady table opening hands =
     (i : ℕ) (d : Hand) → i < length hands → IsReady table opening (i + 1) (slice_index_or hands i d)
 
 -- hands at the cell that have taken in those of so many workers, which have ended
-pub record HasGathered (table : TableId) (opening : Record) (workers rounds turns : ℕ) (h : Hand) : Type 0 where
+pub record HasGathered (table : TableId) (opening : Record) (workers rounds turns : ℕ) (h : Hand)
+    : Type 0 where
   pub of : IsTableOfSeat table opening h.seat
   pub counted : IsCountedHand h
   pub stopped : HasStopped turns h
   pub over : AreRoundsOver workers rounds h
 
 -- the hand of a worker that has ended
-pub record HasWorked (table : TableId) (opening : Record) (cuts rounds turns : ℕ) (h : Hand) : Type 0 where
+pub record HasWorked (table : TableId) (opening : Record) (cuts rounds turns : ℕ) (h : Hand)
+    : Type 0 where
   pub gathered : HasGathered table opening 1 rounds turns h
   pub share : h.seat.view.share ≡ share 1 cuts
 
 abbrev pub HaveWorked : TableId → (opening : Record) → (rounds turns : ℕ) → List Hand → Type 0
 HaveWorked table opening rounds turns hands =
-    (i : ℕ) (d : Hand) → i < length hands → HasWorked table opening (i + 1) rounds turns (slice_index_or hands i d)
+    (i : ℕ) (d : Hand) → i < length hands
+    → HasWorked table opening (i + 1) rounds turns (slice_index_or hands i d)
 
 -- no more than eight workers with a thousand rounds each
 abbrev pub HasFew : CellReport → Type 0
@@ -100,7 +108,9 @@ HasFew r = (r.writes ≤ 8000) × (r.reads ≤ 8000) × (r.stopped ≤ 8)
 
 -- the reports of both
 abbrev pub reports_added : CellReport → CellReport → CellReport
-reports_added r s = record { writes = r.writes + s.writes; reads = r.reads + s.reads; stopped = r.stopped + s.stopped }
+reports_added r s =
+    record
+    { writes = r.writes + s.writes; reads = r.reads + s.reads; stopped = r.stopped + s.stopped }
 
 -- two hands in one: what both came to, and what both seats knew
 pub record HasJoined (h k both : Hand) : Type 0 where

@@ -1,9 +1,12 @@
--- Frozen classes and frozen fields, and fields that are guarded by the monitor of their object or of their class.
-use Rattle.std.specs.Prelude.{◌≡◌, ◌<◌, ◌⊎◌, ℕ, Bool, true, false, not, ◌&&◌, ◌||◌, ◌==◌, List, length, Option, Some, None, slice_get, slice_index_or}
+-- Frozen classes and frozen fields, and fields that are guarded by the monitor of their object or
+-- of their class.
+use Rattle.std.specs.Prelude.{◌≡◌, ◌<◌, ◌⊎◌, ℕ, Bool, true, false, not, ◌&&◌, ◌||◌, ◌==◌, List}
+use Rattle.std.specs.Prelude.{length, Option, Some, None, slice_get, slice_index_or}
 use Rattle.std.specs.List.{list_any}
 use Rattle.jvm_types.specs.declared.class_numbers.TheConstants.{OBJECT_CLASS}
 use Rattle.jvm_types.specs.CodeTable.{is_init}
-use Rattle.jvm_types.specs.Members.{is_private, is_static, is_final, is_synchronized, is_class_init_name}
+use Rattle.jvm_types.specs.Members.{is_private, is_static, is_final, is_synchronized}
+use Rattle.jvm_types.specs.Members.{is_class_init_name}
 use Rattle.jvm_types.specs.declared.code.Insn.{Insn}
 use Rattle.jvm_types.specs.declared.code.Op.{Op}
 use Rattle.jvm_types.specs.declared.code.Op.TheVariants as ops
@@ -25,7 +28,8 @@ abbrev pub is_field_of : ℕ → Option FieldInfo → Bool
 is_field_of c None = false
 is_field_of c (Some field) = field.class == c
 
--- an instruction of an `<init>` of the class may take `this` at a place counted from the top of the stack
+-- an instruction of an `<init>` of the class may take `this` at a place counted from the top of the
+-- stack
 abbrev pub may_take : Program → ℕ → Op → Target → ℕ → Bool
 may_take p c ops.Dup target k = true
 may_take p c ops.DupX1 target k = true
@@ -34,14 +38,18 @@ may_take p c ops.Dup2 target k = true
 may_take p c ops.Swap target k = true
 may_take p c ops.Pop target k = true
 may_take p c ops.Pop2 target k = true
-may_take p c (ops.Getfield i) (targets.Field fi) k = (k == 0) && is_field_of c (slice_get p.fields fi)
-may_take p c (ops.Putfield i) (targets.Field fi) k = (k == 1) && is_field_of c (slice_get p.fields fi)
+may_take p c (ops.Getfield i) (targets.Field fi) k =
+    (k == 0) && is_field_of c (slice_get p.fields fi)
+may_take p c (ops.Putfield i) (targets.Field fi) k =
+    (k == 1) && is_field_of c (slice_get p.fields fi)
 may_take p c (ops.Invokespecial i) (targets.Init class) k = (k == 0) && (class == OBJECT_CLASS)
 may_take p c op target k = false
 
 -- an instruction takes what its row pops
 abbrev pub TakesWell : Program → MethodInfo → Insn → Target → TagShape → Type 0
-TakesWell p m insn target f = (k : ℕ) → k < length (row_of p m insn target).takes → slice_index_or f.stack k Untagged ≡ This → may_take p m.class insn.op target k ≡ true
+TakesWell p m insn target f =
+    (k : ℕ) → k < length (row_of p m insn target).takes → slice_index_or f.stack k Untagged ≡ This
+    → may_take p m.class insn.op target k ≡ true
 
 -- no place with `this` is joined to one without
 abbrev pub KeepThis : List Tag → List Tag → Type 0
@@ -57,19 +65,26 @@ is_final_of c None = false
 is_final_of c (Some field) = field.class == c && is_final field.flags
 
 abbrev pub PutsOnThis : Program → MethodInfo → Op → Target → TagShape → Type 0
-PutsOnThis p m (ops.Putfield i) (targets.Field fi) f = is_final_of m.class (slice_get p.fields fi) ≡ true → slice_index_or f.stack 1 Untagged ≡ This
+PutsOnThis p m (ops.Putfield i) (targets.Field fi) f =
+    is_final_of m.class (slice_get p.fields fi) ≡ true → slice_index_or f.stack 1 Untagged ≡ This
 PutsOnThis p m op target f = Unit {0}
 
 -- an `<init>` that lets its object nowhere; its entry counts as an edge to pc 0
 pub record KeepsInside (p : Program) (tags : Tagged) (mi : ℕ) (m : MethodInfo) : Type 0 where
-  pub taken : (i : ℕ) (insn : Insn) (target : Target) (f : TagShape) → IsAt p tags mi i m insn target f → TakesWell p m insn target f
-  pub entered : (insn : Insn) (target : Target) (f : TagShape) → IsAt p tags mi 0 m insn target f → KeepsThis (entry_tags m) f
-  pub joined : (i j : ℕ) (insn other : Insn) (target next : Target) (f g h : TagShape) → IsAt p tags mi i m insn target f → IsAt p tags mi j m other next g
+  pub taken : (i : ℕ) (insn : Insn) (target : Target) (f : TagShape)
+      → IsAt p tags mi i m insn target f → TakesWell p m insn target f
+  pub entered : (insn : Insn) (target : Target) (f : TagShape) → IsAt p tags mi 0 m insn target f
+      → KeepsThis (entry_tags m) f
+  pub joined : (i j : ℕ) (insn other : Insn) (target next : Target) (f g h : TagShape)
+      → IsAt p tags mi i m insn target f → IsAt p tags mi j m other next g
       → Goes p m insn target f other h → KeepsThis h g
-  pub finals : (i : ℕ) (insn : Insn) (target : Target) (f : TagShape) → IsAt p tags mi i m insn target f → PutsOnThis p m insn.op target f
+  pub finals : (i : ℕ) (insn : Insn) (target : Target) (f : TagShape)
+      → IsAt p tags mi i m insn target f → PutsOnThis p m insn.op target f
 
 abbrev pub IsFrozenClass : Program → Tagged → ℕ → Type 0
-IsFrozenClass p tags c = (mi : ℕ) (m : MethodInfo) → slice_get p.methods mi ≡ Some m → m.class ≡ c → is_init m ≡ true → KeepsInside p tags mi m
+IsFrozenClass p tags c =
+    (mi : ℕ) (m : MethodInfo) → slice_get p.methods mi ≡ Some m → m.class ≡ c → is_init m ≡ true
+    → KeepsInside p tags mi m
 
 -- ---- fields
 
@@ -95,9 +110,12 @@ locks_this m = is_synchronized m.flags && not (is_static m.flags)
 abbrev pub locks_class : MethodInfo → Bool
 locks_class m = is_synchronized m.flags && is_static m.flags
 
--- where a field may be written: on `this`, in an `<init>`, in a synchronized method, or with the monitor of `this` held
+-- where a field may be written: on `this`, in an `<init>`, in a synchronized method, or with the
+-- monitor of `this` held
 abbrev pub WritesGuarded : MethodInfo → TagShape → Type 0
-WritesGuarded m f = (slice_index_or f.stack 1 Untagged ≡ This) × (is_init m || (list_any is_this f.held || locks_this m) ≡ true)
+WritesGuarded m f =
+    (slice_index_or f.stack 1 Untagged ≡ This)
+    × (is_init m || (list_any is_this f.held || locks_this m) ≡ true)
 
 abbrev pub PutsGuarded : ℕ → MethodInfo → Op → Target → TagShape → Type 0
 PutsGuarded fi m (ops.Putfield i) (targets.Field other) f = other ≡ fi → WritesGuarded m f
@@ -111,14 +129,17 @@ pub record IsGuardedField (p : Program) (tags : Tagged) (fi : ℕ) : Type 0 wher
   pub changes : is_final field.flags ≡ false
   pub instance : is_static field.flags ≡ false
   pub frozen : IsFrozenClass p tags field.class
-  pub written : (mi i : ℕ) (m : MethodInfo) (insn : Insn) (target : Target) (f : TagShape) → IsAt p tags mi i m insn target f → PutsGuarded fi m insn.op target f
+  pub written : (mi i : ℕ) (m : MethodInfo) (insn : Insn) (target : Target) (f : TagShape)
+      → IsAt p tags mi i m insn target f → PutsGuarded fi m insn.op target f
 
--- where a static field of a class may be written: in its `<clinit>`, or in a static synchronized method of it
+-- where a static field of a class may be written: in its `<clinit>`, or in a static synchronized
+-- method of it
 abbrev pub writes_class : (class : ℕ) → MethodInfo → Bool
 writes_class class m = (m.class == class) && (is_class_init_name m.name || locks_class m)
 
 abbrev pub PutsStatic : (fi class : ℕ) → MethodInfo → Op → Target → Type 0
-PutsStatic fi class m (ops.Putstatic i) (targets.Field other) = other ≡ fi → writes_class class m ≡ true
+PutsStatic fi class m (ops.Putstatic i) (targets.Field other) =
+    other ≡ fi → writes_class class m ≡ true
 PutsStatic fi class m op target = Unit {0}
 
 -- a private static field, not final, with such writes alone
@@ -128,7 +149,8 @@ pub record IsGuardedStatic (p : Program) (tags : Tagged) (fi : ℕ) : Type 0 whe
   pub private : is_private field.flags ≡ true
   pub changes : is_final field.flags ≡ false
   pub static : is_static field.flags ≡ true
-  pub written : (mi i : ℕ) (m : MethodInfo) (insn : Insn) (target : Target) (f : TagShape) → IsAt p tags mi i m insn target f → PutsStatic fi field.class m insn.op target
+  pub written : (mi i : ℕ) (m : MethodInfo) (insn : Insn) (target : Target) (f : TagShape)
+      → IsAt p tags mi i m insn target f → PutsStatic fi field.class m insn.op target
 
 -- what a section may read of every object and class, and what of its own alone
 abbrev pub IsFrozenUse : Program → Tagged → ℕ → Type 0

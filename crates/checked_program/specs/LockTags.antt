@@ -1,5 +1,7 @@
--- Lock tags, frames of them, and their order. Two places with the same tag, other than none, hold the same value.
-use Rattle.std.specs.Prelude.{◌≡◌, ℕ, ◌-◌, Bool, true, false, ◌&&◌, ◌==◌, if◌then◌else◌, List, [], ◌∷◌, ◌++◌, length, map, replicate}
+-- Lock tags, frames of them, and their order. Two places with the same tag, other than none, hold
+-- the same value.
+use Rattle.std.specs.Prelude.{◌≡◌, ℕ, ◌-◌, Bool, true, false, ◌&&◌, ◌==◌, if◌then◌else◌, List, []}
+use Rattle.std.specs.Prelude.{◌∷◌, ◌++◌, length, map, replicate}
 use Rattle.jvm_types.specs.Members.{is_static}
 use Rattle.jvm_types.specs.declared.program.MethodInfo.{MethodInfo}
 use Rattle.checked_program.specs.declared.tag.Tag.{Tag}
@@ -41,12 +43,20 @@ filled_tags n ts = ts ++ replicate (n - length ts) Untagged
 pub record TagShape : Type 0 where
   pub stack : List Tag
   pub locals : List Tag
-  -- of the monitors that the method has entered and not left; that of a synchronized method is not among them
+  -- of the monitors that the method has entered and not left; that of a synchronized method is not
+  -- among them
   pub held : List Tag
 
 -- at the start of a method `this` is in local 0 of an instance method
 abbrev pub entry_tags : MethodInfo → TagShape
-entry_tags m = record { stack = []; locals = if is_static m.flags then replicate m.max_locals Untagged else This ∷ replicate (m.max_locals - 1) Untagged; held = [] }
+entry_tags m =
+    record {
+      stack = [];
+      locals =
+          if is_static m.flags then replicate m.max_locals Untagged
+          else This ∷ replicate (m.max_locals - 1) Untagged;
+      held = [];
+    }
 
 -- ---- the order
 

@@ -1,4 +1,5 @@
--- A program with all that its checks found: it is linked, and each of its methods has a typing and lock tags, each section a mark.
+-- A program with all that its checks found: it is linked, and each of its methods has a typing and
+-- lock tags, each section a mark.
 use Rattle.std.specs.Prelude.{List}
 use Rattle.std.specs.List.{AllZip}
 use Rattle.jvm_types.specs.declared.program.MethodInfo.{MethodInfo}

@@ -1,5 +1,7 @@
--- The mark of each synchronized section: whether it may run without its lock, or which rule forbids that.
-use Rattle.std.specs.Prelude.{◌≡◌, ◌<◌, ℕ, zero, suc, Bool, true, false, ◌==◌, if◌then◌else◌, List, [], ◌∷◌, length, Option, Some, None, slice_get, slice_index_or}
+-- The mark of each synchronized section: whether it may run without its lock, or which rule forbids
+-- that.
+use Rattle.std.specs.Prelude.{◌≡◌, ◌<◌, ℕ, zero, suc, Bool, true, false, ◌==◌, if◌then◌else◌, List}
+use Rattle.std.specs.Prelude.{[], ◌∷◌, length, Option, Some, None, slice_get, slice_index_or}
 use Rattle.std.specs.List.{AllZip}
 use Rattle.jvm_types.specs.declared.code.Insn.{Insn}
 use Rattle.jvm_types.specs.declared.code.Op.{Op}
@@ -38,8 +40,10 @@ args_of (Some called) = length called.args
 
 -- the tag of the receiver of a call; a static method has none
 abbrev pub receiver_tag : Program → Op → Target → List Tag → Tag
-receiver_tag p (ops.Invokevirtual i) (targets.Method u) stack = slice_index_or stack (args_of (slice_get p.methods u)) Untagged
-receiver_tag p (ops.Invokespecial i) (targets.Method u) stack = slice_index_or stack (args_of (slice_get p.methods u)) Untagged
+receiver_tag p (ops.Invokevirtual i) (targets.Method u) stack =
+    slice_index_or stack (args_of (slice_get p.methods u)) Untagged
+receiver_tag p (ops.Invokespecial i) (targets.Method u) stack =
+    slice_index_or stack (args_of (slice_get p.methods u)) Untagged
 receiver_tag p op target stack = Untagged
 
 -- a value is the object of the section's monitor: `this`, in a method that is called on that object
@@ -138,30 +142,42 @@ abbrev pub class_of_method : Option MethodInfo → ℕ
 class_of_method None = 0
 class_of_method (Some m) = m.class
 
--- The rule that an instruction breaks, in a method that a section runs so; 0 for none. M1: it writes a field, a static or an
--- element. M2: it allocates. M3: it enters a monitor that is not the section's. M4: it prints, waits or notifies. M5: it reads a
--- place that is neither frozen nor a guarded one of the section's own object or class.
+-- The rule that an instruction breaks, in a method that a section runs so; 0 for none. M1: it
+-- writes a field, a static or an element. M2: it allocates. M3: it enters a monitor that is not the
+-- section's. M4: it prints, waits or notifies. M5: it reads a place that is neither frozen nor a
+-- guarded one of the section's own object or class.
 abbrev pub section_fault : Program → List FieldUse → Mode → Op → Target → List Tag → ℕ
 section_fault p uses mode (ops.Putfield i) target stack = 1
 section_fault p uses mode (ops.Putstatic i) target stack = 1
 section_fault p uses mode ops.Iastore target stack = 1
 section_fault p uses mode (ops.New i) target stack = 2
 section_fault p uses mode ops.Newarray target stack = 2
-section_fault p uses mode ops.Monitorenter target stack = enter_fault (is_own_object mode (slice_index_or stack 0 Untagged))
-section_fault p uses mode (ops.Invokevirtual i) (targets.Method u) stack = call_fault (is_locking (slice_get p.methods u)) (is_own_object mode (receiver_tag p (ops.Invokevirtual i) (targets.Method u) stack))
-section_fault p uses mode (ops.Invokespecial i) (targets.Method u) stack = call_fault (is_locking (slice_get p.methods u)) (is_own_object mode (receiver_tag p (ops.Invokespecial i) (targets.Method u) stack))
-section_fault p uses mode (ops.Invokestatic i) (targets.Method u) stack = call_fault (is_class_locking (slice_get p.methods u)) (is_own_class mode (class_of_method (slice_get p.methods u)))
+section_fault p uses mode ops.Monitorenter target stack =
+    enter_fault (is_own_object mode (slice_index_or stack 0 Untagged))
+section_fault p uses mode (ops.Invokevirtual i) (targets.Method u) stack =
+    call_fault (is_locking (slice_get p.methods u))
+    (is_own_object mode (receiver_tag p (ops.Invokevirtual i) (targets.Method u) stack))
+section_fault p uses mode (ops.Invokespecial i) (targets.Method u) stack =
+    call_fault (is_locking (slice_get p.methods u))
+    (is_own_object mode (receiver_tag p (ops.Invokespecial i) (targets.Method u) stack))
+section_fault p uses mode (ops.Invokestatic i) (targets.Method u) stack =
+    call_fault (is_class_locking (slice_get p.methods u))
+    (is_own_class mode (class_of_method (slice_get p.methods u)))
 section_fault p uses mode (ops.Invokevirtual i) targets.Println stack = 4
 section_fault p uses mode (ops.Invokevirtual i) targets.Wait stack = 4
 section_fault p uses mode (ops.Invokevirtual i) targets.Notify stack = 4
 section_fault p uses mode (ops.Invokevirtual i) targets.NotifyAll stack = 4
-section_fault p uses mode (ops.Getstatic i) (targets.Field fi) stack = use_fault (slice_index_or uses fi Open) (is_own_class mode (class_of_field (slice_get p.fields fi)))
+section_fault p uses mode (ops.Getstatic i) (targets.Field fi) stack =
+    use_fault (slice_index_or uses fi Open)
+    (is_own_class mode (class_of_field (slice_get p.fields fi)))
 section_fault p uses mode ops.Iaload target stack = 5
-section_fault p uses mode (ops.Getfield i) (targets.Field fi) stack = use_fault (slice_index_or uses fi Open) (is_own_object mode (slice_index_or stack 0 Untagged))
+section_fault p uses mode (ops.Getfield i) (targets.Field fi) stack =
+    use_fault (slice_index_or uses fi Open) (is_own_object mode (slice_index_or stack 0 Untagged))
 section_fault p uses mode op target stack = 0
 
 -- the instruction i of a method breaks a rule
-pub record BreaksAt (p : Program) (tags : Tagged) (uses : List FieldUse) (a : Callee) (i n : ℕ) : Type 0 where
+pub record BreaksAt (p : Program) (tags : Tagged) (uses : List FieldUse) (a : Callee) (i n : ℕ)
+    : Type 0 where
   pub m : MethodInfo
   pub insn : Insn
   pub target : Target
@@ -175,16 +191,20 @@ pub record BreaksAt (p : Program) (tags : Tagged) (uses : List FieldUse) (a : Ca
 -- M8: a section is neither on `this` nor on its class
 abbrev pub IsOnOwn : Program → Tagged → ℕ → Spot → Type 0
 IsOnOwn p tags mi Method = Unit {0}
-IsOnOwn p tags mi (Block pc) = (enter : ℕ) × (f : TagShape) × (BeginsAt p tags mi pc enter f) × (slice_index_or f.stack 0 Untagged ≡ This)
+IsOnOwn p tags mi (Block pc) =
+    (enter : ℕ) × (f : TagShape) × (BeginsAt p tags mi pc enter f)
+    × (slice_index_or f.stack 0 Untagged ≡ This)
 
 -- M1 to M5: an own instruction breaks it
-pub record OwnBreaks (p : Program) (tags : Tagged) (uses : List FieldUse) (s : Section) (n : ℕ) : Type 0 where
+pub record OwnBreaks (p : Program) (tags : Tagged) (uses : List FieldUse) (s : Section) (n : ℕ)
+    : Type 0 where
   pub i : ℕ
   pub own : IsOwn p tags s.method s.spot i
   pub breaks : BreaksAt p tags uses (callee s.method (section_mode p s)) i n
 
 -- M6: a method that it calls breaks one of these
-pub record CalleeBreaks (p : Program) (tags : Tagged) (uses : List FieldUse) (s : Section) : Type 0 where
+pub record CalleeBreaks (p : Program) (tags : Tagged) (uses : List FieldUse) (s : Section)
+    : Type 0 where
   pub called : Callee
   pub is_called : IsCalledBy p tags s called
   pub i : ℕ
@@ -198,7 +218,8 @@ pub record CalleeRecurs (p : Program) (tags : Tagged) (s : Section) : Type 0 whe
   pub recurs : CallsItself p tags called.method
 
 -- the rule n forbids that the section runs without its lock
-pub data Applies (p : Program) (tags : Tagged) (uses : List FieldUse) (s : Section) (n : ℕ) : Type 0 where
+pub data Applies (p : Program) (tags : Tagged) (uses : List FieldUse) (s : Section) (n : ℕ)
+    : Type 0 where
   elsewhere : n ≡ 8 → (IsOnOwn p tags s.method s.spot → ⊥) → Applies p tags uses s n
   itself : OwnBreaks p tags uses s n → Applies p tags uses s n
   called : n ≡ 6 → CalleeBreaks p tags uses s → Applies p tags uses s n
@@ -213,9 +234,11 @@ turn n = if n == 8 then 0 else n
 -- a section's mark: the first rule that applies, or 0 where none does
 abbrev pub HasMark : Program → Tagged → List FieldUse → Section → ℕ → Type 0
 HasMark p tags uses s zero = (k : ℕ) → Applies p tags uses s k → ⊥
-HasMark p tags uses s (suc n) = Applies p tags uses s (suc n) × ((k : ℕ) → turn k < turn (suc n) → Applies p tags uses s k → ⊥)
+HasMark p tags uses s (suc n) =
+    Applies p tags uses s (suc n) × ((k : ℕ) → turn k < turn (suc n) → Applies p tags uses s k → ⊥)
 
-pub record IsMarkOf (p : Program) (tags : Tagged) (uses : List FieldUse) (s : Section) (mark : SectionMark) : Type 0 where
+pub record IsMarkOf (p : Program) (tags : Tagged) (uses : List FieldUse) (s : Section)
+    (mark : SectionMark) : Type 0 where
   pub method : mark.method ≡ s.method
   pub spot : mark.spot ≡ s.spot
   pub mark_is : HasMark p tags uses s mark.mark

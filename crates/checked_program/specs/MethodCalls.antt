@@ -1,6 +1,8 @@
--- The graph of all calls: an edge from each method to each that an instruction of its code calls, reached or not; and
--- which methods are called from one.
-use Rattle.std.specs.Prelude.{◌≡◌, ◌+◌, ◌<◌, ◌↔◌, ℕ, zero, suc, Bool, true, false, nat_lt, if◌then◌else◌, List, length, replicate, Option, Some, None, slice_get, slice_index_or, slice_set}
+-- The graph of all calls: an edge from each method to each that an instruction of its code calls,
+-- reached or not; and which methods are called from one.
+use Rattle.std.specs.Prelude.{◌≡◌, ◌+◌, ◌<◌, ◌↔◌, ℕ, zero, suc, Bool, true, false, nat_lt}
+use Rattle.std.specs.Prelude.{if◌then◌else◌, List, length, replicate, Option, Some, None, slice_get}
+use Rattle.std.specs.Prelude.{slice_index_or, slice_set}
 use Rattle.jvm_types.specs.declared.code.Insn.{Insn}
 use Rattle.jvm_types.specs.declared.program.Target.{Target}
 use Rattle.jvm_types.specs.declared.program.MethodInfo.{MethodInfo}
@@ -26,7 +28,8 @@ method_call methods m i = among methods (called_by (slice_get m.code i) (slice_g
 -- with the calls of the first instructions of a method
 abbrev pub calls_before : ℕ → MethodInfo → ℕ → Graph → ℕ → Graph
 calls_before methods m a g zero = g
-calls_before methods m a g (suc i) = with_edge a (calls_before methods m a g i) (method_call methods m i)
+calls_before methods m a g (suc i) =
+    with_edge a (calls_before methods m a g i) (method_call methods m i)
 
 abbrev pub calls_from : ℕ → Option MethodInfo → ℕ → Graph → Graph
 calls_from methods None a g = g
@@ -42,7 +45,9 @@ only_one methods mi = slice_set (replicate methods false) mi true
 
 -- of each method, whether calls lead to it from one
 abbrev pub AreReached : Program → ℕ → List Bool → Type 0
-AreReached p mi found = (u : ℕ) → u < length p.methods → (slice_index_or found u false ≡ true) ↔ ((vs : List ℕ) × HasCalls p mi vs u)
+AreReached p mi found =
+    (u : ℕ) → u < length p.methods
+    → (slice_index_or found u false ≡ true) ↔ ((vs : List ℕ) × HasCalls p mi vs u)
 
 abbrev pub size_if : Bool → Option MethodInfo → ℕ
 size_if false om = 0
@@ -51,4 +56,5 @@ size_if true om = size_of om
 -- the instructions of those of the first methods that are found
 abbrev pub size_found : List MethodInfo → List Bool → ℕ → ℕ
 size_found ms found zero = 0
-size_found ms found (suc u) = size_found ms found u + size_if (slice_index_or found u false) (slice_get ms u)
+size_found ms found (suc u) =
+    size_found ms found u + size_if (slice_index_or found u false) (slice_get ms u)

@@ -1,5 +1,5 @@
--- How many instructions a call of a method may begin at the most, where no method is entered twice and no branch goes back:
--- those of the method and of all that it calls.
+-- How many instructions a call of a method may begin at the most, where no method is entered twice
+-- and no branch goes back: those of the method and of all that it calls.
 use Rattle.std.specs.Prelude.{◌≡◌, ℕ, ◌==◌, List, [], ◌∷◌, length, Option, Some, None, slice_get}
 use Rattle.std.specs.List.{Contains, IsDistinct, sum_by}
 use Rattle.jvm_types.specs.declared.code.Insn.{Insn}

@@ -1,6 +1,7 @@
--- Laws of sections that run without their lock, and of the fields that they read, over every program and its tags. The running
--- machine rests on these and not on how marks are found.
-use Rattle.std.specs.Prelude.{◌≡◌, ◌≢◌, ◌⊎◌, ℕ, suc, true, List, [], ◌∷◌, length, Option, Some, slice_get, slice_index, slice_index_or}
+-- Laws of sections that run without their lock, and of the fields that they read, over every
+-- program and its tags. The running machine rests on these and not on how marks are found.
+use Rattle.std.specs.Prelude.{◌≡◌, ◌≢◌, ◌⊎◌, ℕ, suc, true, List, [], ◌∷◌, length, Option, Some}
+use Rattle.std.specs.Prelude.{slice_get, slice_index, slice_index_or}
 use Rattle.std.specs.List.{list_any}
 use Rattle.jvm_types.specs.CodeTable.{is_init}
 use Rattle.jvm_types.specs.Members.{is_class_init_name}
@@ -15,9 +16,12 @@ use Rattle.jvm_types.specs.declared.program.Program.{Program}
 use Rattle.checked_program.specs.LockTags.{TagShape, is_this}
 use Rattle.checked_program.specs.TaggedCode.{Tagged, IsAt, Goes}
 use Rattle.checked_program.specs.Tagging.{HasTagging}
-use Rattle.checked_program.specs.FrozenPlaces.{AreUses, IsFrozenField, IsFrozenStatic, IsGuardedField, IsGuardedStatic, locks_this, locks_class}
+use Rattle.checked_program.specs.FrozenPlaces.{AreUses, IsFrozenField, IsFrozenStatic}
+use Rattle.checked_program.specs.FrozenPlaces.{IsGuardedField, IsGuardedStatic, locks_this}
+use Rattle.checked_program.specs.FrozenPlaces.{locks_class}
 use Rattle.checked_program.specs.Sections.{Section, section_mode, BeginsAt, IsOwn}
-use Rattle.checked_program.specs.Marks.{callee, Calls, args_of, is_locking, is_class_locking, class_of_method, HasMark}
+use Rattle.checked_program.specs.Marks.{callee, Calls, args_of, is_locking, is_class_locking}
+use Rattle.checked_program.specs.Marks.{class_of_method, HasMark}
 use Rattle.checked_program.specs.declared.tag.Tag.{Tag}
 use Rattle.checked_program.specs.declared.tag.Tag.TheVariants.{Untagged, This}
 use Rattle.checked_program.specs.declared.section.Spot.{Spot}
@@ -35,42 +39,57 @@ pub record Part : Type 0 where
   pub receiver : ℕ
 
 -- the frame of the section's own method, at one of the section's own instructions
-pub record IsSectionPart (p : Program) (tags : Tagged) (s : Section) (o : ℕ) (a : Part) (mode : Mode) : Type 0 where
+pub record IsSectionPart (p : Program) (tags : Tagged) (s : Section) (o : ℕ) (a : Part)
+    (mode : Mode) : Type 0 where
   pub method : a.method ≡ s.method
   pub receiver : a.receiver ≡ o
   pub own : IsOwn p tags s.method s.spot a.at
   pub mode_is : mode ≡ section_mode p s
 
--- The frames of a section whose own frame has the receiver o, from the top one down to that; mode says how the top one's method is
--- called. Each frame above the last is of a method that the one below calls; where it is called on this, on the same object.
+-- The frames of a section whose own frame has the receiver o, from the top one down to that; mode
+-- says how the top one's method is called. Each frame above the last is of a method that the one
+-- below calls; where it is called on this, on the same object.
 abbrev pub AreParts : Program → Tagged → Section → ℕ → List Part → Mode → Type 0
 AreParts p tags s o [] mode = ⊥
 AreParts p tags s o (a ∷ []) mode = IsSectionPart p tags s o a mode
-AreParts p tags s o (a ∷ b ∷ parts) mode = (was : Mode) × (AreParts p tags s o (b ∷ parts) was) × (Calls p tags (callee b.method was) b.at (callee a.method mode)) × (mode ≡ OnThis → a.receiver ≡ o)
+AreParts p tags s o (a ∷ b ∷ parts) mode =
+    (was : Mode) × (AreParts p tags s o (b ∷ parts) was)
+    × (Calls p tags (callee b.method was) b.at (callee a.method mode))
+    × (mode ≡ OnThis → a.receiver ≡ o)
 
 -- ---- the own law: an edge from an own instruction leads to one, or is the exit of the block
 
 -- the number of held tags at the start of a block
 abbrev pub HasEntryDepth : Program → Tagged → ℕ → Spot → ℕ → Type 0
 HasEntryDepth p tags mi Method depth = ⊥
-HasEntryDepth p tags mi (Block pc) depth = (enter : ℕ) × (f : TagShape) × (BeginsAt p tags mi pc enter f) × (depth ≡ length f.held)
+HasEntryDepth p tags mi (Block pc) depth =
+    (enter : ℕ) × (f : TagShape) × (BeginsAt p tags mi pc enter f) × (depth ≡ length f.held)
 
 -- the `monitorexit` that takes the block's own entry from the held list
-pub record IsExit (p : Program) (tags : Tagged) (mi : ℕ) (spot : Spot) (insn : Insn) (f : TagShape) : Type 0 where
+pub record IsExit (p : Program) (tags : Tagged) (mi : ℕ) (spot : Spot) (insn : Insn) (f : TagShape)
+    : Type 0 where
   pub exits : insn.op ≡ ops.Monitorexit
   pub depth : ℕ
   pub of_entry : HasEntryDepth p tags mi spot depth
   pub last : length f.held ≡ suc depth
 
 abbrev pub OwnLaw : Type 0
-OwnLaw = (p : Program) (tags : Tagged) (mi i j : ℕ) (spot : Spot) (m : MethodInfo) (insn other : Insn) (target next : Target) (f g h : TagShape) → IsOwn p tags mi spot i
-    → IsAt p tags mi i m insn target f → IsAt p tags mi j m other next g → Goes p m insn target f other h → h.held ≡ g.held → IsOwn p tags mi spot j ⊎ IsExit p tags mi spot insn f
+OwnLaw =
+    (p : Program) (tags : Tagged) (mi i j : ℕ) (spot : Spot) (m : MethodInfo) (insn other : Insn)
+    (target next : Target) (f g h : TagShape) → IsOwn p tags mi spot i
+    → IsAt p tags mi i m insn target f → IsAt p tags mi j m other next g
+    → Goes p m insn target f other h → h.held ≡ g.held
+    → IsOwn p tags mi spot j ⊎ IsExit p tags mi spot insn f
 
 -- so the frames of a section stay such as its top one moves, but at the exit
 abbrev pub MoveLaw : Type 0
-MoveLaw = (p : Program) (tags : Tagged) (s : Section) (o j : ℕ) (a : Part) (parts : List Part) (mode : Mode) (m : MethodInfo) (insn other : Insn) (target next : Target) (f g h : TagShape) → AreParts p tags s o (a ∷ parts) mode
-    → IsAt p tags a.method a.at m insn target f → IsAt p tags a.method j m other next g → Goes p m insn target f other h → h.held ≡ g.held
-    → AreParts p tags s o (record a { at = j } ∷ parts) mode ⊎ ((parts ≡ []) × IsExit p tags s.method s.spot insn f)
+MoveLaw =
+    (p : Program) (tags : Tagged) (s : Section) (o j : ℕ) (a : Part) (parts : List Part)
+    (mode : Mode) (m : MethodInfo) (insn other : Insn) (target next : Target) (f g h : TagShape)
+    → AreParts p tags s o (a ∷ parts) mode → IsAt p tags a.method a.at m insn target f
+    → IsAt p tags a.method j m other next g → Goes p m insn target f other h → h.held ≡ g.held
+    → AreParts p tags s o (record a { at = j } ∷ parts) mode
+    ⊎ ((parts ≡ []) × IsExit p tags s.method s.spot insn f)
 
 -- ---- the apart law: no method is twice among the frames of a marked section
 
@@ -83,22 +102,28 @@ HaveOwnMethods [] = Unit {0}
 HaveOwnMethods (a ∷ parts) = HasNone a.method parts × HaveOwnMethods parts
 
 abbrev pub ApartLaw : Type 0
-ApartLaw = (p : Program) (tags : Tagged) (uses : List FieldUse) (s : Section) (o : ℕ) (parts : List Part) (mode : Mode) → HasMark p tags uses s 0 → AreParts p tags s o parts mode → HaveOwnMethods parts
+ApartLaw =
+    (p : Program) (tags : Tagged) (uses : List FieldUse) (s : Section) (o : ℕ) (parts : List Part)
+    (mode : Mode) → HasMark p tags uses s 0 → AreParts p tags s o parts mode
+    → HaveOwnMethods parts
 
 -- ---- the read law
 
 -- every place with the tag of `this` has the receiver
 abbrev pub HasThis : ℕ → List Tag → List ℕ → Type 0
-HasThis receiver tags values = (k : ℕ) → slice_index_or tags k Untagged ≡ This → slice_index values k ≡ receiver
+HasThis receiver tags values =
+    (k : ℕ) → slice_index_or tags k Untagged ≡ This → slice_index values k ≡ receiver
 
 -- the field of a class is guarded by its monitor
 pub record IsOwnStatic (p : Program) (tags : Tagged) (mode : Mode) (fi : ℕ) : Type 0 where
   pub guarded : IsGuardedStatic p tags fi
   pub own : mode ≡ OnClass guarded.field.class
 
--- What an instruction of a marked section may do, in a frame that is run so; o is the receiver of the section's own frame, and so
--- the section's object where it is on `this`. It writes no place, allocates nothing, prints nothing, neither waits nor notifies; it enters no monitor but the section's own, and
--- reads no place but a frozen one, or a guarded one of the section's own object or class.
+-- What an instruction of a marked section may do, in a frame that is run so; o is the receiver of
+-- the section's own frame, and so the section's object where it is on `this`. It writes no place,
+-- allocates nothing, prints nothing, neither waits nor notifies; it enters no monitor but the
+-- section's own, and reads no place but a frozen one, or a guarded one of the section's own object
+-- or class.
 abbrev pub ReadsOnly : Program → Tagged → Mode → (o : ℕ) → Op → Target → List ℕ → Type 0
 ReadsOnly p tags mode o (ops.Putfield i) target stack = ⊥
 ReadsOnly p tags mode o (ops.Putstatic i) target stack = ⊥
@@ -109,49 +134,85 @@ ReadsOnly p tags mode o (ops.Invokevirtual i) targets.Println stack = ⊥
 ReadsOnly p tags mode o (ops.Invokevirtual i) targets.Wait stack = ⊥
 ReadsOnly p tags mode o (ops.Invokevirtual i) targets.Notify stack = ⊥
 ReadsOnly p tags mode o (ops.Invokevirtual i) targets.NotifyAll stack = ⊥
-ReadsOnly p tags mode o (ops.Getstatic i) (targets.Field fi) stack = IsFrozenStatic p fi ⊎ IsOwnStatic p tags mode fi
+ReadsOnly p tags mode o (ops.Getstatic i) (targets.Field fi) stack =
+    IsFrozenStatic p fi ⊎ IsOwnStatic p tags mode fi
 ReadsOnly p tags mode o ops.Iaload target stack = ⊥
 ReadsOnly p tags mode o ops.Monitorenter target stack = (mode ≡ OnThis) × (slice_index stack 0 ≡ o)
-ReadsOnly p tags mode o (ops.Invokevirtual i) (targets.Method u) stack = is_locking (slice_get p.methods u) ≡ true → (mode ≡ OnThis) × (slice_index stack (args_of (slice_get p.methods u)) ≡ o)
-ReadsOnly p tags mode o (ops.Invokespecial i) (targets.Method u) stack = is_locking (slice_get p.methods u) ≡ true → (mode ≡ OnThis) × (slice_index stack (args_of (slice_get p.methods u)) ≡ o)
-ReadsOnly p tags mode o (ops.Invokestatic i) (targets.Method u) stack = is_class_locking (slice_get p.methods u) ≡ true → mode ≡ OnClass (class_of_method (slice_get p.methods u))
-ReadsOnly p tags mode o (ops.Getfield i) (targets.Field fi) stack = IsFrozenField p tags fi ⊎ (IsGuardedField p tags fi × (mode ≡ OnThis) × (slice_index stack 0 ≡ o))
+ReadsOnly p tags mode o (ops.Invokevirtual i) (targets.Method u) stack =
+    is_locking (slice_get p.methods u) ≡ true
+    → (mode ≡ OnThis) × (slice_index stack (args_of (slice_get p.methods u)) ≡ o)
+ReadsOnly p tags mode o (ops.Invokespecial i) (targets.Method u) stack =
+    is_locking (slice_get p.methods u) ≡ true
+    → (mode ≡ OnThis) × (slice_index stack (args_of (slice_get p.methods u)) ≡ o)
+ReadsOnly p tags mode o (ops.Invokestatic i) (targets.Method u) stack =
+    is_class_locking (slice_get p.methods u) ≡ true
+    → mode ≡ OnClass (class_of_method (slice_get p.methods u))
+ReadsOnly p tags mode o (ops.Getfield i) (targets.Field fi) stack =
+    IsFrozenField p tags fi
+    ⊎ (IsGuardedField p tags fi × (mode ≡ OnThis) × (slice_index stack 0 ≡ o))
 ReadsOnly p tags mode o op target stack = Unit {0}
 
 -- each method has a tagging
 abbrev pub AreTagged : Program → Tagged → Type 0
-AreTagged p tags = (mi : ℕ) (m : MethodInfo) → slice_get p.methods mi ≡ Some m → (frames : List (Option TagShape)) × (slice_get tags mi ≡ Some frames) × HasTagging p m frames
+AreTagged p tags =
+    (mi : ℕ) (m : MethodInfo) → slice_get p.methods mi ≡ Some m
+    → (frames : List (Option TagShape)) × (slice_get tags mi ≡ Some frames)
+    × HasTagging p m frames
 
 abbrev pub ReadLaw : Type 0
-ReadLaw = (p : Program) (tags : Tagged) (uses : List FieldUse) (s : Section) (o : ℕ) (a : Part) (parts : List Part) (mode : Mode) (m : MethodInfo) (insn : Insn) (target : Target) (f : TagShape) (stack : List ℕ)
-    → IsProgram p → AreUses p tags uses → HasMark p tags uses s 0 → AreParts p tags s o (a ∷ parts) mode → IsAt p tags a.method a.at m insn target f → HasThis a.receiver f.stack stack → ReadsOnly p tags mode o insn.op target stack
+ReadLaw =
+    (p : Program) (tags : Tagged) (uses : List FieldUse) (s : Section) (o : ℕ) (a : Part)
+    (parts : List Part) (mode : Mode) (m : MethodInfo) (insn : Insn) (target : Target)
+    (f : TagShape) (stack : List ℕ) → IsProgram p → AreUses p tags uses
+    → HasMark p tags uses s 0 → AreParts p tags s o (a ∷ parts) mode
+    → IsAt p tags a.method a.at m insn target f → HasThis a.receiver f.stack stack
+    → ReadsOnly p tags mode o insn.op target stack
 
--- ---- the exit law: a marked section leaves no monitor but its own, and none where it is called off this
+-- ---- the exit law: a marked section leaves no monitor but its own, and none where it is called
+-- off this
 
 abbrev pub ExitLaw : Type 0
-ExitLaw = (p : Program) (tags : Tagged) (uses : List FieldUse) (s : Section) (o : ℕ) (a : Part) (parts : List Part) (mode : Mode) (m : MethodInfo) (insn : Insn) (target : Target) (f : TagShape)
-    → AreUses p tags uses → AreTagged p tags → HasMark p tags uses s 0 → AreParts p tags s o (a ∷ parts) mode → IsAt p tags a.method a.at m insn target f → insn.op ≡ ops.Monitorexit
-    → (mode ≡ OnThis) × (slice_index_or f.stack 0 Untagged ≡ This)
+ExitLaw =
+    (p : Program) (tags : Tagged) (uses : List FieldUse) (s : Section) (o : ℕ) (a : Part)
+    (parts : List Part) (mode : Mode) (m : MethodInfo) (insn : Insn) (target : Target)
+    (f : TagShape) → AreUses p tags uses → AreTagged p tags → HasMark p tags uses s 0
+    → AreParts p tags s o (a ∷ parts) mode → IsAt p tags a.method a.at m insn target f
+    → insn.op ≡ ops.Monitorexit → (mode ≡ OnThis) × (slice_index_or f.stack 0 Untagged ≡ This)
 
--- ---- the write law: a guarded field is written on the receiver, in an `<init>` or where its monitor is entered
+-- ---- the write law: a guarded field is written on the receiver, in an `<init>` or where its
+-- monitor is entered
 
 abbrev pub WriteLaw : Type 0
-WriteLaw = (p : Program) (tags : Tagged) (fi mi i index receiver : ℕ) (m : MethodInfo) (insn : Insn) (target : Target) (f : TagShape) (stack : List ℕ) → IsGuardedField p tags fi → IsAt p tags mi i m insn target f
-    → insn.op ≡ ops.Putfield index → target ≡ targets.Field fi → HasThis receiver f.stack stack
-    → (slice_index stack 1 ≡ receiver) × ((is_init m ≡ true) ⊎ (list_any is_this f.held ≡ true) ⊎ (locks_this m ≡ true))
+WriteLaw =
+    (p : Program) (tags : Tagged) (fi mi i index receiver : ℕ) (m : MethodInfo) (insn : Insn)
+    (target : Target) (f : TagShape) (stack : List ℕ) → IsGuardedField p tags fi
+    → IsAt p tags mi i m insn target f → insn.op ≡ ops.Putfield index → target ≡ targets.Field fi
+    → HasThis receiver f.stack stack
+    → (slice_index stack 1 ≡ receiver)
+    × ((is_init m ≡ true) ⊎ (list_any is_this f.held ≡ true) ⊎ (locks_this m ≡ true))
 
--- a guarded static field is written in the `<clinit>` of its class, or where the monitor of that is entered
+-- a guarded static field is written in the `<clinit>` of its class, or where the monitor of that is
+-- entered
 abbrev pub StaticWriteLaw : Type 0
-StaticWriteLaw = (p : Program) (tags : Tagged) (fi mi i index : ℕ) (m : MethodInfo) (insn : Insn) (target : Target) (f : TagShape) (k : IsGuardedStatic p tags fi) → IsAt p tags mi i m insn target f
-    → insn.op ≡ ops.Putstatic index → target ≡ targets.Field fi → (m.class ≡ k.field.class) × ((is_class_init_name m.name ≡ true) ⊎ (locks_class m ≡ true))
+StaticWriteLaw =
+    (p : Program) (tags : Tagged) (fi mi i index : ℕ) (m : MethodInfo) (insn : Insn)
+    (target : Target) (f : TagShape) (k : IsGuardedStatic p tags fi)
+    → IsAt p tags mi i m insn target f → insn.op ≡ ops.Putstatic index → target ≡ targets.Field fi
+    → (m.class ≡ k.field.class) × ((is_class_init_name m.name ≡ true) ⊎ (locks_class m ≡ true))
 
 -- ---- the final laws: a final field of a frozen class is written on the receiver of an `<init>`
 
 abbrev pub FinalLaw : Type 0
-FinalLaw = (p : Program) (tags : Tagged) (fi mi i index receiver : ℕ) (m : MethodInfo) (insn : Insn) (target : Target) (f : TagShape) (stack : List ℕ) → IsProgram p → IsFrozenField p tags fi → IsAt p tags mi i m insn target f
-    → insn.op ≡ ops.Putfield index → target ≡ targets.Field fi → HasThis receiver f.stack stack → (is_init m ≡ true) × (slice_index stack 1 ≡ receiver)
+FinalLaw =
+    (p : Program) (tags : Tagged) (fi mi i index receiver : ℕ) (m : MethodInfo) (insn : Insn)
+    (target : Target) (f : TagShape) (stack : List ℕ) → IsProgram p → IsFrozenField p tags fi
+    → IsAt p tags mi i m insn target f → insn.op ≡ ops.Putfield index → target ≡ targets.Field fi
+    → HasThis receiver f.stack stack → (is_init m ≡ true) × (slice_index stack 1 ≡ receiver)
 
 -- a final static field is written in the `<clinit>` of its class
 abbrev pub FinalStaticLaw : Type 0
-FinalStaticLaw = (p : Program) (tags : Tagged) (fi mi i index : ℕ) (m : MethodInfo) (insn : Insn) (target : Target) (f : TagShape) (k : IsFrozenStatic p fi) → IsProgram p → IsAt p tags mi i m insn target f
-    → insn.op ≡ ops.Putstatic index → target ≡ targets.Field fi → (m.class ≡ k.field.class) × (is_class_init_name m.name ≡ true)
+FinalStaticLaw =
+    (p : Program) (tags : Tagged) (fi mi i index : ℕ) (m : MethodInfo) (insn : Insn)
+    (target : Target) (f : TagShape) (k : IsFrozenStatic p fi) → IsProgram p
+    → IsAt p tags mi i m insn target f → insn.op ≡ ops.Putstatic index → target ≡ targets.Field fi
+    → (m.class ≡ k.field.class) × (is_class_init_name m.name ≡ true)

@@ -1,5 +1,6 @@
 -- The synchronized sections of a program, and the instructions that are a section's own.
-use Rattle.std.specs.Prelude.{◌≡◌, ◌<◌, ℕ, suc, List, [], ◌∷◌, ◌++◌, length, map, Option, Some, None, slice_get, if◌then◌else◌}
+use Rattle.std.specs.Prelude.{◌≡◌, ◌<◌, ℕ, suc, List, [], ◌∷◌, ◌++◌, length, map, Option, Some}
+use Rattle.std.specs.Prelude.{None, slice_get, if◌then◌else◌}
 use Rattle.std.specs.List.{filter_map}
 use Rattle.jvm_types.specs.Members.{is_static, is_synchronized}
 use Rattle.jvm_types.specs.declared.code.Insn.{Insn}
@@ -25,19 +26,24 @@ abbrev pub block_at : ℕ → Op → Option Spot
 block_at pc ops.Monitorenter = Some (Block pc)
 block_at pc op = None
 
--- a synchronized method's own section, then its blocks by pc; a block begins at each `monitorenter`, reached or not
+-- a synchronized method's own section, then its blocks by pc; a block begins at each
+-- `monitorenter`, reached or not
 abbrev pub spots_of : MethodInfo → List Spot
-spots_of m = (if is_synchronized m.flags then Method ∷ [] else []) ++ filter_map (λ insn. block_at insn.pc insn.op) m.code
+spots_of m =
+    (if is_synchronized m.flags then Method ∷ [] else [])
+    ++ filter_map (λ insn. block_at insn.pc insn.op) m.code
 
 -- of the methods from a number on
 abbrev pub sections_from : ℕ → List MethodInfo → List Section
 sections_from mi [] = []
-sections_from mi (m ∷ ms) = map (λ spot. record { method = mi; spot = spot }) (spots_of m) ++ sections_from (suc mi) ms
+sections_from mi (m ∷ ms) =
+    map (λ spot. record { method = mi; spot = spot }) (spots_of m) ++ sections_from (suc mi) ms
 
 abbrev pub sections : Program → List Section
 sections p = sections_from 0 p.methods
 
--- a block is on `this`, where it may run without its lock at all; a synchronized method's section on `this` or on its class
+-- a block is on `this`, where it may run without its lock at all; a synchronized method's section
+-- on `this` or on its class
 abbrev pub mode_of_method : Option MethodInfo → Mode
 mode_of_method None = OnThis
 mode_of_method (Some m) = if is_static m.flags then OnClass m.class else OnThis
@@ -63,7 +69,8 @@ pub record IsDeep (p : Program) (tags : Tagged) (mi depth i : ℕ) : Type 0 wher
 -- from one instruction to another by edges, over these, and all are that deep
 abbrev pub StaysDeep : Program → Tagged → (mi depth i : ℕ) → List ℕ → ℕ → Type 0
 StaysDeep p tags mi depth i [] j = (i ≡ j) × IsDeep p tags mi depth i
-StaysDeep p tags mi depth i (k ∷ ks) j = (IsDeep p tags mi depth i) × (IsReachedEdge p tags mi i k) × StaysDeep p tags mi depth k ks j
+StaysDeep p tags mi depth i (k ∷ ks) j =
+    (IsDeep p tags mi depth i) × (IsReachedEdge p tags mi i k) × StaysDeep p tags mi depth k ks j
 
 -- the block that begins at a pc: its `monitorenter`, by its number
 pub record BeginsAt (p : Program) (tags : Tagged) (mi pc enter : ℕ) (f : TagShape) : Type 0 where

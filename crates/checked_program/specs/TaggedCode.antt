@@ -21,7 +21,8 @@ abbrev pub tagged_by : List Tags → Tagged
 tagged_by tags = map (λ (t : Tags). t.frames) tags
 
 -- the instruction i of the method mi is reached, with what its constant names and its tags
-pub record IsAt (p : Program) (tags : Tagged) (mi i : ℕ) (m : MethodInfo) (insn : Insn) (target : Target) (f : TagShape) : Type 0 where
+pub record IsAt (p : Program) (tags : Tagged) (mi i : ℕ) (m : MethodInfo) (insn : Insn)
+    (target : Target) (f : TagShape) : Type 0 where
   pub in_program : slice_get p.methods mi ≡ Some m
   pub in_code : slice_get m.code i ≡ Some insn
   pub names : slice_get m.targets i ≡ Some target
@@ -41,9 +42,13 @@ abbrev pub row_of : Program → MethodInfo → Insn → Target → OpRow
 row_of p m insn target = row p m insn.pc target insn.op
 
 -- an edge to another instruction, with the tags that it brings
-pub data Goes (p : Program) (m : MethodInfo) (insn : Insn) (target : Target) (f : TagShape) : Insn → TagShape → Type 0 where
-  onward : (other : Insn) → has_number (edges insn) other.pc ≡ true → Goes p m insn target f other (tags_after insn (row_of p m insn target) f)
-  caught : (other : Insn) → list_any (λ handler. handler.handler == other.pc) (catchers m insn) ≡ true → Goes p m insn target f other (tags_at_handler f)
+pub data Goes (p : Program) (m : MethodInfo) (insn : Insn) (target : Target) (f : TagShape) : Insn
+    → TagShape → Type 0 where
+  onward : (other : Insn) → has_number (edges insn) other.pc ≡ true
+      → Goes p m insn target f other (tags_after insn (row_of p m insn target) f)
+  caught : (other : Insn)
+      → list_any (λ handler. handler.handler == other.pc) (catchers m insn) ≡ true
+      → Goes p m insn target f other (tags_at_handler f)
 
 -- an edge of the method mi from the instruction i to the instruction j, both reached
 pub record IsReachedEdge (p : Program) (tags : Tagged) (mi i j : ℕ) : Type 0 where

@@ -1,5 +1,6 @@
 -- What a step of the reader answers, in terms of what reading gives.
-use Rattle.std.specs.Prelude.{◌≡◌, ℕ, ◌+◌, ◌*◌, ◌^◌, ◌<◌, Bool, true, false, List, Some, Result, Ok, Err}
+use Rattle.std.specs.Prelude.{◌≡◌, ℕ, ◌+◌, ◌*◌, ◌^◌, ◌<◌, Bool, true, false, List, Some, Result, Ok}
+use Rattle.std.specs.Prelude.{Err}
 use Rattle.jvm_types.specs.declared.class_file.Attr.{Attr}
 use Rattle.jvm_types.specs.declared.class_file.MemberAttr.{MemberAttr}
 use Rattle.jvm_types.specs.declared.class_file.MemberAttr.TheVariants as member_attrs
@@ -45,7 +46,9 @@ entry_at false bytes = constant_at bytes
 -- a fault of a body that was cut out, as one of the file
 abbrev pub moved_stop : ℕ → ℕ → Stop → Stop
 moved_stop at_length behind stops.Memory = stops.Memory
-moved_stop at_length behind (stops.At rule left) = stops.At (fault_moved rule left at_length behind).rule (fault_moved rule left at_length behind).left
+moved_stop at_length behind (stops.At rule left) =
+    stops.At (fault_moved rule left at_length behind).rule
+    (fault_moved rule left at_length behind).left
 
 -- memory ran out, or this is the first condition that stands
 abbrev pub IsFirstFault : List ℕ → ReadError → Type 0

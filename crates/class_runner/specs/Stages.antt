@@ -21,7 +21,8 @@ use Rattle.jvm_types.specs.declared.refusal.Rule.{Rule}
 use Rattle.jvm_types.specs.declared.refusal.Rule.TheVariants as rules
 use Rattle.jvm_types.specs.declared.refusal.LRule.{LRule}
 use Rattle.jvm_types.specs.declared.refusal.Place.{Place}
-use Rattle.class_runner.specs.Loading.{read_fault, decode_fault, IsFirstRefused, IsFirstUntyped, IsFirstUntagged}
+use Rattle.class_runner.specs.Loading.{read_fault, decode_fault, IsFirstRefused, IsFirstUntyped}
+use Rattle.class_runner.specs.Loading.{IsFirstUntagged}
 use Rattle.class_runner.specs.declared.loading.FileError.{FileError}
 use Rattle.class_runner.specs.declared.loading.FileError.TheVariants as errors
 
@@ -39,7 +40,8 @@ IsClassUnread fault e = ⊥
 
 -- the files before this one spell these classes
 pub record AreReadSoFar (files : List (List ℕ)) (file : ℕ) (classes : List ClassFile) : Type 0 where
-  pub whole : (rest : List ClassFile) → AllZip Spells (drop file files) rest → AllZip Spells files (classes ++ rest)
+  pub whole : (rest : List ClassFile) → AllZip Spells (drop file files) rest
+      → AllZip Spells files (classes ++ rest)
   pub fault : read_fault file (drop file files) ≡ read_fault 0 files
 
 -- ---- K: decoding
@@ -50,7 +52,8 @@ own_methods file c = declared_from file c.constants 0 c.methods
 
 -- the fault of one method's code
 abbrev pub method_code_fault : (file place : ℕ) → Code → Option (Rule × Place)
-method_code_fault file place code = option_map (λ f. (rules.K f.0, in_method file place f.1)) (code_fault code.bytes code.rows)
+method_code_fault file place code =
+    option_map (λ f. (rules.K f.0, in_method file place f.1)) (code_fault code.bytes code.rows)
 
 -- memory ran out, or this is the fault
 abbrev pub IsUndecoded : Option (Rule × Place) → FileError → Type 0
@@ -60,7 +63,8 @@ IsUndecoded fault e = ⊥
 
 -- the methods before those that are left have these instructions
 pub record AreDecodedSoFar (left all : List Declared) (code : List (List Insn)) : Type 0 where
-  pub whole : (rest : List (List Insn)) → AllZip IsDecoded left rest → AllZip IsDecoded all (code ++ rest)
+  pub whole : (rest : List (List Insn)) → AllZip IsDecoded left rest
+      → AllZip IsDecoded all (code ++ rest)
   pub fault : decode_fault left ≡ decode_fault all
 
 -- ---- L: linking
@@ -72,7 +76,8 @@ pub record IsLinkedFrom (classes : List ClassFile) (heap workers : ℕ) (p : Pro
   pub linked : IsLinked classes code heap workers p
 
 -- they have code, and linking refuses them
-pub record IsRefusedLink (classes : List ClassFile) (heap workers : ℕ) (rule : LRule) (place : Place) : Type 0 where
+pub record IsRefusedLink (classes : List ClassFile) (heap workers : ℕ) (rule : LRule)
+    (place : Place) : Type 0 where
   pub code : List (List Insn)
   pub decoded : AllZip IsDecoded (declared_methods classes) code
   pub fault : link_fault classes code heap workers ≡ Some (rule, place)
@@ -80,16 +85,23 @@ pub record IsRefusedLink (classes : List ClassFile) (heap workers : ℕ) (rule :
 -- memory ran out, or the classes have no code, or linking refuses them
 abbrev pub IsUnlinkedFrom : List ClassFile → (heap workers : ℕ) → FileError → Type 0
 IsUnlinkedFrom classes heap workers errors.Memory = Unit {0}
-IsUnlinkedFrom classes heap workers (errors.Refused (rules.K rule) place) = decode_fault (declared_methods classes) ≡ Some (rules.K rule, place)
-IsUnlinkedFrom classes heap workers (errors.Refused (rules.L rule) place) = IsRefusedLink classes heap workers rule place
+IsUnlinkedFrom classes heap workers (errors.Refused (rules.K rule) place) =
+    decode_fault (declared_methods classes) ≡ Some (rules.K rule, place)
+IsUnlinkedFrom classes heap workers (errors.Refused (rules.L rule) place) =
+    IsRefusedLink classes heap workers rule place
 IsUnlinkedFrom classes heap workers e = ⊥
 
 -- ---- checks of methods, one by one
 
 -- the methods before those that are left have these
-pub record AreFoundSoFar {T R : Type 0} (has : MethodInfo → T → Type 0) (refuses : MethodInfo → R → ℕ → Type 0) (methods : List MethodInfo) (left all : List Declared) (found : List T) : Type 0 where
-  pub whole : (rest : List T) → AllZip has (drop (length found) methods) rest → AllZip has methods (found ++ rest)
-  pub refused : (rule : R) (place : Place) → IsFirstRefused has refuses rule left (drop (length found) methods) place → IsFirstRefused has refuses rule all methods place
+pub record AreFoundSoFar {T R : Type 0} (has : MethodInfo → T → Type 0)
+    (refuses : MethodInfo → R → ℕ → Type 0) (methods : List MethodInfo) (left all : List Declared)
+    (found : List T) : Type 0 where
+  pub whole : (rest : List T) → AllZip has (drop (length found) methods) rest
+      → AllZip has methods (found ++ rest)
+  pub refused : (rule : R) (place : Place)
+      → IsFirstRefused has refuses rule left (drop (length found) methods) place
+      → IsFirstRefused has refuses rule all methods place
   pub long : length found + length left ≡ length methods
 
 -- ---- V: verifying
@@ -101,7 +113,8 @@ IsTypedAt p m t = IsSomeAnd m (λ x. IsTypingOf p x t)
 -- memory ran out, or the method, which has this number in its class in this file, has no typing
 abbrev pub IsUntypedAt : Program → Option MethodInfo → (file number : ℕ) → FileError → Type 0
 IsUntypedAt p m file number errors.Memory = Unit {0}
-IsUntypedAt p m file number (errors.Refused (rules.V rule) place) = IsSomeAnd m (λ x. IsRefused p x rule place.at) × (place ≡ in_method file number place.at)
+IsUntypedAt p m file number (errors.Refused (rules.V rule) place) =
+    IsSomeAnd m (λ x. IsRefused p x rule place.at) × (place ≡ in_method file number place.at)
 IsUntypedAt p m file number e = ⊥
 
 -- memory ran out, or this is the first of these methods that has no typing
@@ -112,7 +125,8 @@ IsUnverified p ds ms e = ⊥
 
 -- the methods before those that are left have these typings
 abbrev pub AreTypedSoFar : Program → (left all : List Declared) → List Typing → Type 0
-AreTypedSoFar p left all typings = AreFoundSoFar (IsTypingOf p) (IsRefused p) p.methods left all typings
+AreTypedSoFar p left all typings =
+    AreFoundSoFar (IsTypingOf p) (IsRefused p) p.methods left all typings
 
 -- ---- S: tagging
 
@@ -123,7 +137,8 @@ IsTaggedAt p m t = IsSomeAnd m (λ x. IsTaggingOf p x t)
 -- memory ran out, or the method, which has this number in its class in this file, has no tags
 abbrev pub IsUntaggedAt : Program → Option MethodInfo → (file number : ℕ) → FileError → Type 0
 IsUntaggedAt p m file number errors.Memory = Unit {0}
-IsUntaggedAt p m file number (errors.Refused (rules.S rule) place) = IsSomeAnd m (λ x. IsTagRefused p x rule place.at) × (place ≡ in_method file number place.at)
+IsUntaggedAt p m file number (errors.Refused (rules.S rule) place) =
+    IsSomeAnd m (λ x. IsTagRefused p x rule place.at) × (place ≡ in_method file number place.at)
 IsUntaggedAt p m file number e = ⊥
 
 -- memory ran out, or this is the first of these methods that has no tags
@@ -134,4 +149,5 @@ IsNotTagged p ds ms e = ⊥
 
 -- the methods before those that are left have these tags
 abbrev pub AreTaggedSoFar : Program → (left all : List Declared) → List Tags → Type 0
-AreTaggedSoFar p left all tags = AreFoundSoFar (IsTaggingOf p) (IsTagRefused p) p.methods left all tags
+AreTaggedSoFar p left all tags =
+    AreFoundSoFar (IsTaggingOf p) (IsTagRefused p) p.methods left all tags

@@ -1,5 +1,6 @@
 -- A class that is built, constant by constant.
-use Rattle.std.specs.Prelude.{◌≡◌, ◌≢◌, ◌<◌, ◌≤◌, ◌⊎◌, ℕ, ◌+◌, List, [], ◌∷◌, ◌++◌, length, Some, slice_get, Result, Ok, Err}
+use Rattle.std.specs.Prelude.{◌≡◌, ◌≢◌, ◌<◌, ◌≤◌, ◌⊎◌, ℕ, ◌+◌, List, [], ◌∷◌, ◌++◌, length, Some}
+use Rattle.std.specs.Prelude.{slice_get, Result, Ok, Err}
 use Rattle.jvm_types.specs.declared.class_file.Constant.{Constant}
 use Rattle.jvm_types.specs.declared.class_file.Constant.TheVariants.{Gap, Long, Double}
 use Rattle.jvm_types.specs.declared.class_file.ClassFile.{ClassFile}
@@ -9,7 +10,19 @@ use Rattle.class_writer.specs.declared.error.BuildError.TheVariants.{Memory, Ful
 
 -- nothing but the gap at index 0, of the version of SE 6
 abbrev pub empty_class : ClassFile
-empty_class = record { minor = 0; major = 50; constants = Gap ∷ []; flags = 0; this_class = 0; super_class = 0; interfaces = []; fields = []; methods = []; attrs = [] }
+empty_class =
+    record {
+      minor = 0;
+      major = 50;
+      constants = Gap ∷ [];
+      flags = 0;
+      this_class = 0;
+      super_class = 0;
+      interfaces = [];
+      fields = [];
+      methods = [];
+      attrs = [];
+    }
 
 -- what a constant adds to the pool: itself, and the gap of its second index (JVMS 4.4.5)
 abbrev pub pool_entries_of : Constant → List Constant
@@ -33,7 +46,8 @@ IsNew pool c = IsAbsentBelow (length pool) pool c
 abbrev pub length_with : List Constant → Constant → ℕ
 length_with pool c = length pool + length (pool_entries_of c)
 
--- the constant was not there, and is appended; its last index is at most 65534, as the pool's entries are counted in two bytes
+-- the constant was not there, and is appended; its last index is at most 65534, as the pool's
+-- entries are counted in two bytes
 pub record IsAppended (old new : ClassFile) (c : Constant) (i : ℕ) : Type 0 where
   pub absent : IsNew old.constants c
   pub room : length_with old.constants c ≤ MOST_COUNTED
@@ -44,4 +58,5 @@ pub record IsAppended (old new : ClassFile) (c : Constant) (i : ℕ) : Type 0 wh
 abbrev pub Builds : ClassFile → ClassFile → Constant → Result ℕ BuildError → Type 0
 Builds old new c (Ok i) = (IsFirstIndex old.constants c i × (new ≡ old)) ⊎ IsAppended old new c i
 Builds old new c (Err Memory) = new ≡ old
-Builds old new c (Err Full) = IsNew old.constants c × (MOST_COUNTED < length_with old.constants c) × (new ≡ old)
+Builds old new c (Err Full) =
+    IsNew old.constants c × (MOST_COUNTED < length_with old.constants c) × (new ≡ old)

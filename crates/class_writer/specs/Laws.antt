@@ -10,9 +10,12 @@ use Rattle.class_writer.specs.Writing.{Answers}
 
 -- reading the bytes that were written gives the class again
 abbrev pub ReadsWhatWasWritten : Type 0
-ReadsWhatWasWritten = (bytes : List ℕ) (c : ClassFile) → Answers c (Ok bytes) → read_class bytes ≡ Ok c
+ReadsWhatWasWritten =
+    (bytes : List ℕ) (c : ClassFile) → Answers c (Ok bytes) → read_class bytes ≡ Ok c
 
 -- writing a class that was read gives its bytes again, unless memory runs out
 abbrev pub WritesWhatWasRead : Type 0
 WritesWhatWasRead =
-    (bytes : List ℕ) (c : ClassFile) (answer : Result (List ℕ) WriteError) → AllByRecursion IsByte bytes → read_class bytes ≡ Ok c → Answers c answer → (answer ≡ Ok bytes) ⊎ (answer ≡ Err Memory)
+    (bytes : List ℕ) (c : ClassFile) (answer : Result (List ℕ) WriteError)
+    → AllByRecursion IsByte bytes → read_class bytes ≡ Ok c → Answers c answer
+    → (answer ≡ Ok bytes) ⊎ (answer ≡ Err Memory)

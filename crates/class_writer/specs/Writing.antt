@@ -14,19 +14,21 @@ use Rattle.jvm_types.specs.ClassGrammar.{IsCounted, Spells}
 use Rattle.class_writer.specs.declared.error.WriteError.{WriteError}
 use Rattle.class_writer.specs.declared.error.WriteError.TheVariants.{Memory, TooLarge, NoSpelling}
 
--- a part was not written: want of memory is a free answer, and else some length of it does not fit its field
+-- a part was not written: want of memory is a free answer, and else some length of it does not fit
+-- its field
 abbrev pub IsWriteFailure : Type 0 → WriteError → Type 0
 IsWriteFailure fits Memory = Unit {0}
 IsWriteFailure fits TooLarge = fits → ⊥
 IsWriteFailure fits NoSpelling = ⊥
 
 -- the spelling of a part stands behind what was there, and this is known of the part
-abbrev pub Writes : {A : Type 0} → Type 0 → Type 0 → List ℕ → List ℕ → List ℕ → Result A WriteError → Type 0
+abbrev pub Writes : {A : Type 0} → Type 0 → Type 0 → List ℕ → List ℕ → List ℕ → Result A WriteError
+    → Type 0
 Writes fits known spelling old new (Ok u) = known × (new ≡ old ++ spelling)
 Writes fits known spelling old new (Err e) = IsWriteFailure fits e
 
--- what is known of an entry that was written: the length of a text, and the range of a signed number, which its bytes do not
--- tell
+-- what is known of an entry that was written: the length of a text, and the range of a signed
+-- number, which its bytes do not tell
 abbrev pub IsKnown : Constant → Type 0
 IsKnown (Utf8 text) = length text < 2 ^ 16
 IsKnown (Integer n) = FitsSigned w32 n
@@ -40,7 +42,9 @@ pub record CodePartsFit (c : Code) : Type 0 where
 
 -- the bytes in front of the interfaces of a class
 abbrev pub head_bytes : ClassFile → List ℕ
-head_bytes c = u4 MAGIC ++ u2 c.minor ++ u2 c.major ++ counted constant c.constants ++ u2 c.flags ++ u2 c.this_class ++ u2 c.super_class
+head_bytes c =
+    u4 MAGIC ++ u2 c.minor ++ u2 c.major ++ counted constant c.constants ++ u2 c.flags
+    ++ u2 c.this_class ++ u2 c.super_class
 
 -- what is known of a class that was written
 pub record IsClassWritten (c : ClassFile) : Type 0 where
@@ -50,8 +54,8 @@ pub record IsClassWritten (c : ClassFile) : Type 0 where
   pub methods : IsCounted MemberFits c.methods
   pub attrs : IsCounted BodyFits c.attrs
 
--- what writing a class answers: the bytes that spell it; want of memory, which is free; that a length does not fit its field;
--- or that all fit, and no bytes spell the class
+-- what writing a class answers: the bytes that spell it; want of memory, which is free; that a
+-- length does not fit its field; or that all fit, and no bytes spell the class
 abbrev pub Answers : ClassFile → Result (List ℕ) WriteError → Type 0
 Answers c (Ok bytes) = Spells bytes c
 Answers c (Err Memory) = Unit {0}

@@ -1,8 +1,12 @@
 -- What the steps of decoding answer, in terms of the instructions that the bytes are.
-use Rattle.std.specs.Prelude.{◌≡◌, ℕ, ℤ, ◌≤◌, ◌<◌, List, [], ◌∷◌, length, map, drop, nat_abs, ◌+◌, ◌++◌, Bool, false, slice_index_or, Option, Some, None, Result, Ok, Err}
+use Rattle.std.specs.Prelude.{◌≡◌, ℕ, ℤ, ◌≤◌, ◌<◌, List, [], ◌∷◌, length, map, drop, nat_abs, ◌+◌}
+use Rattle.std.specs.Prelude.{◌++◌, Bool, false, slice_index_or, Option, Some, None, Result, Ok}
+use Rattle.std.specs.Prelude.{Err}
 use Rattle.jvm_types.specs.Numbers.{has_number}
 use Rattle.jvm_types.specs.CodeTable.{Form}
-use Rattle.jvm_types.specs.CodeFault.{Extent, Outline, s4_of, landing, offsets, table_of, table_extent, lookup_extent, known_extent, extent_of, outlines}
+use Rattle.jvm_types.specs.CodeFault.{Extent, Outline, s4_of, landing, offsets, table_of}
+use Rattle.jvm_types.specs.CodeFault.{table_extent, lookup_extent, known_extent, extent_of}
+use Rattle.jvm_types.specs.CodeFault.{outlines}
 use Rattle.jvm_types.specs.declared.code.Case.{Case}
 use Rattle.jvm_types.specs.declared.code.Op.{Op}
 use Rattle.jvm_types.specs.declared.code.Op.TheVariants.{Tableswitch}
@@ -34,26 +38,34 @@ extent found = record { size = found.size; targets = found.targets }
 
 -- an instruction, unless memory ran out
 abbrev pub IsSized : Op → ℕ → List ℤ → Result Found Stop → Type 0
-IsSized op size targets (Ok found) = (found.op ≡ op) × (found.size ≡ size) × (found.targets ≡ targets)
+IsSized op size targets (Ok found) =
+    (found.op ≡ op) × (found.size ≡ size) × (found.targets ≡ targets)
 IsSized op size targets (Err Memory) = Unit {0}
 IsSized op size targets (Err (Rule rule)) = ⊥
 
 abbrev pub IsSwitchTable : ℕ → ℕ → ℤ → ℕ → List ℕ → Result Found Stop → Type 0
-IsSwitchTable pc pad low n body (Ok found) = (table_of pc pad n body ≡ Ok (extent found)) × (found.op ≡ Tableswitch (nat_abs (landing pc (s4_of body))) low (map nat_abs (offsets pc n (drop 12 body))))
+IsSwitchTable pc pad low n body (Ok found) =
+    (table_of pc pad n body ≡ Ok (extent found))
+    × (found.op
+    ≡ Tableswitch (nat_abs (landing pc (s4_of body))) low
+    (map nat_abs (offsets pc n (drop 12 body))))
 IsSwitchTable pc pad low n body (Err Memory) = Unit {0}
 IsSwitchTable pc pad low n body (Err (Rule rule)) = table_of pc pad n body ≡ Err rule
 
 -- the first pair of a `lookupswitch`
 abbrev pub case_of : ℕ → List ℕ → Case
-case_of pc bytes = record { key = s4_of bytes; target = nat_abs (landing pc (s4_of (drop 4 bytes))) }
+case_of pc bytes =
+    record { key = s4_of bytes; target = nat_abs (landing pc (s4_of (drop 4 bytes))) }
 
 abbrev pub IsTable : ℕ → ℕ → List ℕ → Result Found Stop → Type 0
-IsTable pc pad body (Ok found) = (table_extent pc pad body ≡ Ok (extent found)) × (found.op ≡ table_op pc body)
+IsTable pc pad body (Ok found) =
+    (table_extent pc pad body ≡ Ok (extent found)) × (found.op ≡ table_op pc body)
 IsTable pc pad body (Err Memory) = Unit {0}
 IsTable pc pad body (Err (Rule rule)) = table_extent pc pad body ≡ Err rule
 
 abbrev pub IsLookup : ℕ → ℕ → List ℕ → Result Found Stop → Type 0
-IsLookup pc pad body (Ok found) = (lookup_extent pc pad body ≡ Ok (extent found)) × (found.op ≡ lookup_op pc body)
+IsLookup pc pad body (Ok found) =
+    (lookup_extent pc pad body ≡ Ok (extent found)) × (found.op ≡ lookup_op pc body)
 IsLookup pc pad body (Err Memory) = Unit {0}
 IsLookup pc pad body (Err (Rule rule)) = lookup_extent pc pad body ≡ Err rule
 
@@ -62,7 +74,8 @@ abbrev pub IsDecodeStep : ℕ → Option Form → List ℕ → Result Found Stop
 IsDecodeStep pc form rest (Err Memory) = Unit {0}
 IsDecodeStep pc form rest (Err (Rule rule)) = known_extent pc form rest ≡ Err rule
 IsDecodeStep pc None rest (Ok found) = ⊥
-IsDecodeStep pc (Some f) rest (Ok found) = (extent_of pc f rest ≡ Ok (extent found)) × (found.op ≡ op_of pc f rest)
+IsDecodeStep pc (Some f) rest (Ok found) =
+    (extent_of pc f rest ≡ Ok (extent found)) × (found.op ≡ op_of pc f rest)
 
 -- ---- the sweep
 
@@ -86,7 +99,8 @@ branch_starts branchings = map (λ b. b.pc) branchings
 
 -- the code was swept up to a pc, from which some bytes still belong to the instruction before
 pub record Swept (code : List ℕ) (pc skip : ℕ) (s : Sweep) : Type 0 where
-  pub outlines_read : with_front (map outline s.branchings) (outlines skip pc (drop pc code)) ≡ outlines 0 0 code
+  pub outlines_read : with_front (map outline s.branchings) (outlines skip pc (drop pc code))
+      ≡ outlines 0 0 code
   pub insns_read : s.insns.items ++ insns_of skip pc (drop pc code) ≡ insns_of 0 0 code
   pub marked : AreMarkedAt s.starts (branch_starts s.branchings)
   pub length_is : length s.starts ≡ pc
@@ -103,5 +117,7 @@ Advances code pc s (Err e) = IsSweepFault code e
 
 -- the whole code was swept
 abbrev pub IsSwept : List ℕ → Result Sweep CodeError → Type 0
-IsSwept code (Ok s) = (outlines 0 0 code ≡ Ok (map outline s.branchings)) × (s.insns.items ≡ insns_of 0 0 code) × AreMarkedAt s.starts (branch_starts s.branchings)
+IsSwept code (Ok s) =
+    (outlines 0 0 code ≡ Ok (map outline s.branchings)) × (s.insns.items ≡ insns_of 0 0 code)
+    × AreMarkedAt s.starts (branch_starts s.branchings)
 IsSwept code (Err e) = IsSweepFault code e

@@ -1,5 +1,7 @@
 -- The rules on branches and handler rows, by a mark for each pc at which an instruction begins.
-use Rattle.std.specs.Prelude.{◌≡◌, ℕ, ◌+◌, ℤ, pos, nat_abs, int_lt, nat_lt, Bool, true, false, not, ◌==◌, ◌&&◌, ◌||◌, if◌then◌else◌, List, [], ◌∷◌, slice_index_or, Option, Some, None, Result, Ok, Err}
+use Rattle.std.specs.Prelude.{◌≡◌, ℕ, ◌+◌, ℤ, pos, nat_abs, int_lt, nat_lt, Bool, true, false, not}
+use Rattle.std.specs.Prelude.{◌==◌, ◌&&◌, ◌||◌, if◌then◌else◌, List, [], ◌∷◌, slice_index_or}
+use Rattle.std.specs.Prelude.{Option, Some, None, Result, Ok, Err}
 use Rattle.jvm_types.specs.CodeFault.{code_fault}
 use Rattle.jvm_types.specs.declared.class_file.Handler.{Handler}
 use Rattle.jvm_types.specs.declared.code.Insn.{Insn}
@@ -22,14 +24,18 @@ all_marked marks (to ∷ tos) = mark_at marks to && all_marked marks tos
 
 abbrev pub unmarked_branch : List Bool → List Branching → Option (KRule × ℕ)
 unmarked_branch marks [] = None
-unmarked_branch marks (b ∷ bs) = if all_marked marks b.targets then unmarked_branch marks bs else Some (K3, b.pc)
+unmarked_branch marks (b ∷ bs) =
+    if all_marked marks b.targets then unmarked_branch marks bs else Some (K3, b.pc)
 
 abbrev pub marked_row : List Bool → ℕ → Handler → Bool
-marked_row marks size h = nat_lt h.start h.end && has_mark marks h.start && (has_mark marks h.end || h.end == size) && has_mark marks h.handler
+marked_row marks size h =
+    nat_lt h.start h.end && has_mark marks h.start && (has_mark marks h.end || h.end == size)
+    && has_mark marks h.handler
 
 abbrev pub unmarked_row : List Bool → ℕ → ℕ → List Handler → Option (KRule × ℕ)
 unmarked_row marks size number [] = None
-unmarked_row marks size number (h ∷ hs) = if marked_row marks size h then unmarked_row marks size (number + 1) hs else Some (K4, number)
+unmarked_row marks size number (h ∷ hs) =
+    if marked_row marks size h then unmarked_row marks size (number + 1) hs else Some (K4, number)
 
 -- memory ran out, or this is the first fault
 abbrev pub IsFirstCodeFault : List ℕ → List Handler → CodeError → Type 0

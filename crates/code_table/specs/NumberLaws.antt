@@ -6,4 +6,6 @@ use Rattle.code_table.specs.PcTables.{number_at}
 
 -- it is i exactly where instruction i has that pc
 abbrev pub NumbersAreExact : Type 0
-NumbersAreExact = (m : MethodInfo) (pc i : ℕ) → IsLaidOut m → (number_at m.code pc ≡ Some i) ↔ IsSomeAnd (slice_get m.code i) (λ insn. insn.pc ≡ pc)
+NumbersAreExact =
+    (m : MethodInfo) (pc i : ℕ) → IsLaidOut m
+    → (number_at m.code pc ≡ Some i) ↔ IsSomeAnd (slice_get m.code i) (λ insn. insn.pc ≡ pc)

@@ -1,5 +1,6 @@
 -- Where instructions stand: the number of the one that begins at a pc.
-use Rattle.std.specs.Prelude.{◌≡◌, ◌≤◌, ℕ, suc, ◌==◌, if◌then◌else◌, List, [], ◌∷◌, Option, Some, None, slice_index_or}
+use Rattle.std.specs.Prelude.{◌≡◌, ◌≤◌, ℕ, suc, ◌==◌, if◌then◌else◌, List, [], ◌∷◌, Option, Some}
+use Rattle.std.specs.Prelude.{None, slice_index_or}
 use Rattle.std.specs.Option.{option_map}
 use Rattle.jvm_types.specs.Verifying.{IsLaidOut}
 use Rattle.jvm_types.specs.declared.code.Insn.{Insn}

@@ -33,25 +33,31 @@ with_object_stack class f = record { stack = Ref class ∷ []; locals = f.locals
 -- ---- one visit
 
 -- some acts of a visit
-abbrev pub type_acts_done : MethodInfo → List (Act TypeFrame VRule) → List (PlanNode TypeFrame) → Result (List (PlanNode TypeFrame)) (VRule × ℕ)
+abbrev pub type_acts_done : MethodInfo → List (Act TypeFrame VRule) → List (PlanNode TypeFrame)
+    → Result (List (PlanNode TypeFrame)) (VRule × ℕ)
 type_acts_done m acts nodes = acted type_meeting m.code acts nodes
 
--- what is kept of a frame for the handlers of the rows that cover a pc: all but the stack, where there are some
+-- what is kept of a frame for the handlers of the rows that cover a pc: all but the stack, where
+-- there are some
 abbrev pub KeptTypeFrame : MethodInfo → ℕ → TypeFrame → Option TypeFrame → Type 0
 KeptTypeFrame m pc f None = covering m pc ≡ []
 KeptTypeFrame m pc f (Some g) = g ≡ record { stack = []; locals = f.locals; ready = f.ready }
 
--- a frame breaks no rule at an instruction, and these are the frame after it and what is kept for handlers
-pub record IsPrepared (m : MethodInfo) (insn : Insn) (r : OpRow) (f after : TypeFrame) (kept : Option TypeFrame) : Type 0 where
+-- a frame breaks no rule at an instruction, and these are the frame after it and what is kept for
+-- handlers
+pub record IsPrepared (m : MethodInfo) (insn : Insn) (r : OpRow) (f after : TypeFrame)
+    (kept : Option TypeFrame) : Type 0 where
   pub unbroken : broken_before m insn r f ≡ None
   pub after_is : after ≡ frame_after m r f
   pub keeps : KeptTypeFrame m insn.pc f kept
 
 -- these; or the rule that is broken there; or memory ran out
-abbrev pub Prepares : MethodInfo → Insn → OpRow → TypeFrame → Result (TypeFrame × Option TypeFrame) (Stop VRule) → Type 0
+abbrev pub Prepares : MethodInfo → Insn → OpRow → TypeFrame
+    → Result (TypeFrame × Option TypeFrame) (Stop VRule) → Type 0
 Prepares m insn r f (Ok made) = IsPrepared m insn r f made.0 made.1
 Prepares m insn r f (Err stops.Memory) = Unit {0}
-Prepares m insn r f (Err (stops.Refused rule pc)) = (broken_before m insn r f ≡ Some rule) × (pc ≡ insn.pc)
+Prepares m insn r f (Err (stops.Refused rule pc)) =
+    (broken_before m insn r f ≡ Some rule) × (pc ≡ insn.pc)
 
 -- ---- the answer
 

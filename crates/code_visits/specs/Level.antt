@@ -5,8 +5,9 @@ use Rattle.std.specs.List.{AllByRecursion}
 use Rattle.jvm_types.specs.declared.code.Insn.{Insn}
 use Rattle.checked_program.specs.Visits.{Meeting, PlanNode}
 
--- what is asked of a meeting: a frame is the same as itself and doesn't clash with it; where two meet that don't clash, the
--- first doesn't clash then; and where two are as wide, so is the frame where they meet
+-- what is asked of a meeting: a frame is the same as itself and doesn't clash with it; where two
+-- meet that don't clash, the first doesn't clash then; and where two are as wide, so is the frame
+-- where they meet
 pub record IsLawfulMeeting {A : Type 0} (d : Meeting A) (width : A → ℕ) : Type 0 where
   pub same : (f : A) → d.same f f ≡ true
   pub apart : (f : A) → d.clashes f f ≡ false
@@ -19,6 +20,7 @@ IsAsWide d width None f = Unit {0}
 IsAsWide d width (Some g) f = (d.clashes g f ≡ false) × (width g ≡ width f)
 
 -- one node for each instruction, and each frame is so wide
-pub record AreLevel {A : Type 0} (width : A → ℕ) (places : ℕ) (code : List Insn) (nodes : List (PlanNode A)) : Type 0 where
+pub record AreLevel {A : Type 0} (width : A → ℕ) (places : ℕ) (code : List Insn)
+    (nodes : List (PlanNode A)) : Type 0 where
   pub long : length nodes ≡ length code
   pub wide : AllByRecursion (λ (node : PlanNode A). IfSome node.frame (λ f. width f ≡ places)) nodes

@@ -1,5 +1,6 @@
 -- Nodes as this crate stores them, the numbers of those that wait, and what an edge does to one.
-use Rattle.std.specs.Prelude.{◌≡◌, ℕ, suc, Bool, true, false, not, if◌then◌else◌, List, [], ◌∷◌, Option, Some, None, slice_get}
+use Rattle.std.specs.Prelude.{◌≡◌, ℕ, suc, Bool, true, false, not, if◌then◌else◌, List, [], ◌∷◌}
+use Rattle.std.specs.Prelude.{Option, Some, None, slice_get}
 use Rattle.checked_program.specs.Visits.{Meeting, PlanNode, unreached}
 use Rattle.code_visits.specs.declared.nodes.StoredNode.{StoredNode}
 
@@ -9,7 +10,8 @@ node_is node = record { frame = node.frame; waits = node.waits }
 -- the numbers of the nodes that wait, in order, where the first node has this number
 abbrev pub waiting_numbers : {A : Type 0} → ℕ → List (PlanNode A) → List ℕ
 waiting_numbers i [] = []
-waiting_numbers i (node ∷ nodes) = if node.waits then i ∷ waiting_numbers (suc i) nodes else waiting_numbers (suc i) nodes
+waiting_numbers i (node ∷ nodes) =
+    if node.waits then i ∷ waiting_numbers (suc i) nodes else waiting_numbers (suc i) nodes
 
 abbrev pub node_or_none : {A : Type 0} → Option (PlanNode A) → PlanNode A
 node_or_none None = unreached

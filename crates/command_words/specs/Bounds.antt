@@ -13,9 +13,11 @@ use Rattle.command_words.specs.declared.values.TheConstants.{MOST_EVENTS, MOST_S
 abbrev pub IsGreen : Green → Type 0
 IsGreen g = (0 < g.workers) × (g.workers ≤ MOST_WORKERS) × (0 < g.turn) × (g.turn ≤ MOST_TURN)
 
--- a number of files that the mode takes; numbers of workers and of heap words, and settings, that are inside the limits of the machine;
--- a size that a cell and a load may have, events that a record may have, and workers with their turn
-pub record AreInBounds (mode : Mode) (files threads heap size events : ℕ) (cfg : Config) (green : Option Green) : Type 0 where
+-- a number of files that the mode takes; numbers of workers and of heap words, and settings, that
+-- are inside the limits of the machine; a size that a cell and a load may have, events that a
+-- record may have, and workers with their turn
+pub record AreInBounds (mode : Mode) (files threads heap size events : ℕ) (cfg : Config)
+    (green : Option Green) : Type 0 where
   pub taken : takes_files mode files ≡ true
   pub few_threads : threads ≤ MOST_WORKERS
   pub heap_from : LEAST_HEAP ≤ heap

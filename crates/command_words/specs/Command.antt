@@ -1,5 +1,7 @@
--- What the words of `solero` mean: what `clap` finds for one simple command, and then the rules for the values.
-use Rattle.std.specs.Prelude.{ℕ, ◌==◌, Bool, List, [], ◌∷◌, length, codes, bytes_eq, Option, Some, None, if◌then◌else◌}
+-- What the words of `solero` mean: what `clap` finds for one simple command, and then the rules for
+-- the values.
+use Rattle.std.specs.Prelude.{ℕ, ◌==◌, Bool, List, [], ◌∷◌, length, codes, bytes_eq, Option, Some}
+use Rattle.std.specs.Prelude.{None, if◌then◌else◌}
 use Rattle.clap.specs.Walk.{Row, Text, first_of}
 use Rattle.clap.specs.Simple.{App}
 use Rattle.jvm_types.specs.declared.limits.TheConstants.{MOST_LIMIT, MOST_WORKERS}
@@ -11,14 +13,17 @@ use Rattle.command_words.specs.declared.request.Green.{Green}
 use Rattle.command_words.specs.declared.request.Memory.{Memory}
 use Rattle.command_words.specs.declared.request.Mode.{Mode}
 use Rattle.command_words.specs.declared.request.Task.{Task}
-use Rattle.command_words.specs.declared.values.TheConstants.{MOST_EVENTS, MOST_SIZE, MOST_TURN, USUAL_SIZE, USUAL_TURN}
+use Rattle.command_words.specs.declared.values.TheConstants.{MOST_EVENTS, MOST_SIZE, MOST_TURN}
+use Rattle.command_words.specs.declared.values.TheConstants.{USUAL_SIZE, USUAL_TURN}
 use Rattle.command_words.specs.declared.request.Memory.TheVariants.{Table, Locked}
 use Rattle.command_words.specs.declared.request.Mode.TheVariants as modes
 use Rattle.command_words.specs.declared.request.Task.TheVariants.{Replay, Run, Record, Mark}
 
 abbrev pub the_command : App
 the_command = command_of (codes "solero")
-    (codes "mode" ∷ codes "threads" ∷ codes "order" ∷ codes "steps" ∷ codes "turns" ∷ codes "heap" ∷ codes "prints" ∷ codes "elide" ∷ codes "range" ∷ codes "memory" ∷ codes "size" ∷ codes "seed" ∷ codes "events" ∷ codes "workers" ∷ codes "turn" ∷ [])
+    (codes "mode" ∷ codes "threads" ∷ codes "order" ∷ codes "steps" ∷ codes "turns" ∷ codes "heap"
+    ∷ codes "prints" ∷ codes "elide" ∷ codes "range" ∷ codes "memory" ∷ codes "size"
+    ∷ codes "seed" ∷ codes "events" ∷ codes "workers" ∷ codes "turn" ∷ [])
 
 -- ---- values
 
@@ -37,9 +42,12 @@ mode_or_replay (Some text) =
 
 abbrev pub memory_or_table : Option Text → Option Memory
 memory_or_table None = Some Table
-memory_or_table (Some text) = if bytes_eq text (codes "table") then Some Table else if bytes_eq text (codes "locked") then Some Locked else None
+memory_or_table (Some text) =
+    if bytes_eq text (codes "table") then Some Table else if bytes_eq text (codes "locked")
+    then Some Locked else None
 
--- workers of the system that run the threads of the program, and how many events each gives a thread before the next
+-- workers of the system that run the threads of the program, and how many events each gives a
+-- thread before the next
 abbrev pub green : (workers : Text) (turn : Option Text) → Option Green
 green workers turn = do
   many ← number_within 1 MOST_WORKERS (number workers)
@@ -53,7 +61,8 @@ green_or_none memory None (Some turn) = None
 green_or_none Table (Some workers) turn = green workers turn >>= (λ g. Some (Some g))
 green_or_none Locked (Some workers) turn = None
 
--- how many files a mode takes: a program is made of 1 to 64, one is listed or assembled, and a load and a cell have none
+-- how many files a mode takes: a program is made of 1 to 64, one is listed or assembled, and a load
+-- and a cell have none
 abbrev pub takes_files : Mode → ℕ → Bool
 takes_files (modes.Program task) count = are_few count
 takes_files modes.List count = count == 1
@@ -81,15 +90,24 @@ pub record Asked : Type 0 where
   pub events : ℕ
   pub green : Option Green
 
--- The options that a mode doesn't read. An order is chosen for a replay alone, a memory for a run and a load, a size for a load and a
--- cell; a seed is that of a load, events are those of a record, and workers with their turn those of a run.
+-- The options that a mode doesn't read. An order is chosen for a replay alone, a memory for a run
+-- and a load, a size for a load and a cell; a seed is that of a load, events are those of a record,
+-- and workers with their turn those of a run.
 abbrev pub not_read : Mode → List Text
-not_read (modes.Program Replay) = codes "memory" ∷ codes "size" ∷ codes "seed" ∷ codes "events" ∷ codes "workers" ∷ codes "turn" ∷ []
+not_read (modes.Program Replay) =
+    codes "memory" ∷ codes "size" ∷ codes "seed" ∷ codes "events" ∷ codes "workers" ∷ codes "turn"
+    ∷ []
 not_read (modes.Program Run) = codes "order" ∷ codes "size" ∷ codes "seed" ∷ codes "events" ∷ []
-not_read (modes.Program Record) = codes "order" ∷ codes "memory" ∷ codes "size" ∷ codes "seed" ∷ codes "workers" ∷ codes "turn" ∷ []
+not_read (modes.Program Record) =
+    codes "order" ∷ codes "memory" ∷ codes "size" ∷ codes "seed" ∷ codes "workers" ∷ codes "turn"
+    ∷ []
 not_read modes.Load = codes "order" ∷ codes "events" ∷ codes "workers" ∷ codes "turn" ∷ []
-not_read modes.Cell = codes "order" ∷ codes "memory" ∷ codes "seed" ∷ codes "events" ∷ codes "workers" ∷ codes "turn" ∷ []
-not_read mode = codes "order" ∷ codes "memory" ∷ codes "size" ∷ codes "seed" ∷ codes "events" ∷ codes "workers" ∷ codes "turn" ∷ []
+not_read modes.Cell =
+    codes "order" ∷ codes "memory" ∷ codes "seed" ∷ codes "events" ∷ codes "workers" ∷ codes "turn"
+    ∷ []
+not_read mode =
+    codes "order" ∷ codes "memory" ∷ codes "size" ∷ codes "seed" ∷ codes "events" ∷ codes "workers"
+    ∷ codes "turn" ∷ []
 
 unfoldable pub asked : List Row → Option Asked
 asked rows = do
@@ -104,7 +122,20 @@ asked rows = do
   seed ← number_or 0 0 MOST_LIMIT (first_of (codes "seed") rows)
   events ← number_or MOST_EVENTS 1 MOST_EVENTS (first_of (codes "events") rows)
   green ← green_or_none memory (first_of (codes "workers") rows) (first_of (codes "turn") rows)
-  if gives_any rows (not_read mode) then None else Some (record { mode = mode; files = files; threads = threads; heap = heap; cfg = cfg; order = order; memory = memory; size = size; seed = seed; events = events; green = green })
+  if gives_any rows (not_read mode) then None
+      else Some (record {
+        mode = mode;
+        files = files;
+        threads = threads;
+        heap = heap;
+        cfg = cfg;
+        order = order;
+        memory = memory;
+        size = size;
+        seed = seed;
+        events = events;
+        green = green;
+      })
 
 -- what the words ask for; None where they are not read
 unfoldable pub command : List Text → Option Asked

@@ -1,6 +1,8 @@
--- Usual values and limits of options by number, as the table of options in the README has them. The other definitions name them by
--- the constants of the code, so they say what these numbers make of them.
-use Rattle.std.specs.Prelude.{◌≡◌, ℕ, ◌<◌, ◌≤◌, true, List, [], ◌∷◌, length, codes, Option, Some, None}
+-- Usual values and limits of options by number, as the table of options in the README has them. The
+-- other definitions name them by the constants of the code, so they say what these numbers make of
+-- them.
+use Rattle.std.specs.Prelude.{◌≡◌, ℕ, ◌<◌, ◌≤◌, true, List, [], ◌∷◌, length, codes, Option, Some}
+use Rattle.std.specs.Prelude.{None}
 use Rattle.clap.specs.Walk.{Text}
 use Rattle.clap.specs.declared.parser.matches.ValueSource.{ValueSource}
 use Rattle.clap.specs.declared.builder.value_parser.Reading.{Reading}
@@ -8,7 +10,9 @@ use Rattle.command_words.specs.Command.{asked}
 use Rattle.command_words.specs.declared.request.Memory.TheVariants.{Table}
 use Rattle.command_words.specs.declared.request.Mode.TheVariants.{Program}
 use Rattle.command_words.specs.declared.request.Task.TheVariants.{Replay}
-use Rattle.command_words.specs.declared.values.TheConstants.{LONGEST_ORDER, MOST_EVENTS, MOST_SIZE, MOST_TURN, USUAL_HEAP, USUAL_PRINTS, USUAL_SIZE, USUAL_STEPS, USUAL_TURN}
+use Rattle.command_words.specs.declared.values.TheConstants.{LONGEST_ORDER, MOST_EVENTS, MOST_SIZE}
+use Rattle.command_words.specs.declared.values.TheConstants.{MOST_TURN, USUAL_HEAP, USUAL_PRINTS}
+use Rattle.command_words.specs.declared.values.TheConstants.{USUAL_SIZE, USUAL_STEPS, USUAL_TURN}
 
 pub record OptionNumbers : Type 0 where
   pub order : LONGEST_ORDER ≡ 100000
@@ -24,14 +28,24 @@ pub record OptionNumbers : Type 0 where
 
 -- what is asked for where only the names of some files are given
 abbrev pub FilesAskForUsual : Type 0
-FilesAskForUsual = (files : List Text) (count : Option ℕ) (source : Option ValueSource) (reading : Reading) → 0 < length files → length files ≤ 64
-    → asked (record { id = codes "FILE"; values = files; count = count; source = source; reading = reading } ∷ [])
-    ≡ Some (record {
+FilesAskForUsual =
+    (files : List Text) (count : Option ℕ) (source : Option ValueSource) (reading : Reading)
+    → 0 < length files → length files ≤ 64
+    → asked (record
+    { id = codes "FILE"; values = files; count = count; source = source; reading = reading }
+    ∷ []) ≡ Some (record {
       mode = Program Replay;
       files = files;
       threads = 0;
       heap = 65536;
-      cfg = record { steps = 10000000; turns = 4294967295; prints = 65536; elide = true; range = 4294967295 };
+      cfg =
+          record {
+            steps = 10000000;
+            turns = 4294967295;
+            prints = 65536;
+            elide = true;
+            range = 4294967295;
+          };
       order = [];
       memory = Table;
       size = 100;

@@ -1,9 +1,11 @@
 -- What the words say of a run, in every program that reads such words.
-use Rattle.std.specs.Prelude.{ℕ, nat_lt, nat_le, Bool, ◌&&◌, List, length, codes, Option, Some, None, if◌then◌else◌}
+use Rattle.std.specs.Prelude.{ℕ, nat_lt, nat_le, Bool, ◌&&◌, List, length, codes, Option, Some}
+use Rattle.std.specs.Prelude.{None, if◌then◌else◌}
 use Rattle.clap.specs.Walk.{Row, Text, first_of}
 use Rattle.command_words.specs.Values.{◌>>=◌, number_or, on_or_off, order_or_none}
 use Rattle.command_words.specs.declared.values.TheConstants.{USUAL_HEAP, USUAL_PRINTS, USUAL_STEPS}
-use Rattle.jvm_types.specs.declared.limits.TheConstants.{LEAST_HEAP, MOST_FILES, MOST_HEAP, MOST_LIMIT, MOST_PRINTS, MOST_WORKERS}
+use Rattle.jvm_types.specs.declared.limits.TheConstants.{LEAST_HEAP, MOST_FILES, MOST_HEAP}
+use Rattle.jvm_types.specs.declared.limits.TheConstants.{MOST_LIMIT, MOST_PRINTS, MOST_WORKERS}
 use Rattle.machine_types.specs.declared.config.Config.{Config}
 
 -- a program is made of 1 to 64 files

@@ -1,6 +1,8 @@
--- Words of a command, and what `clap` finds in them for a simple one: options with one value each, and names.
+-- Words of a command, and what `clap` finds in them for a simple one: options with one value each,
+-- and names.
 use Rattle.std.specs.Global.{Global}
-use Rattle.std.specs.Prelude.{Bool, List, [], map, fold, codes, Option, Some, None, is_some, String, string_bytes, if◌then◌else◌}
+use Rattle.std.specs.Prelude.{Bool, List, [], map, fold, codes, Option, Some, None, is_some, String}
+use Rattle.std.specs.Prelude.{string_bytes, if◌then◌else◌}
 use Rattle.std.specs.List.{list_any}
 use Rattle.std.specs.Option.{unwrap_or}
 use Rattle.clap.specs.Walk.{Row, Text, all_of, first_of, is_empty}
@@ -28,10 +30,11 @@ command_of program options = with_names (fold with_option (new_app program) opti
 
 -- ---- what is found
 
--- what is found in the words, the first of which is the program's name, where clap finds no fault in them; an option that is given
--- twice is such a fault, and so is a call for help
+-- what is found in the words, the first of which is the program's name, where clap finds no fault
+-- in them; an option that is given twice is such a fault, and so is a call for help
 unfoldable pub found_in_words : App → List Text → Option (List Row)
-found_in_words command words = if is_empty (fault_of command words) then Some (matches_of command words) else None
+found_in_words command words =
+    if is_empty (fault_of command words) then Some (matches_of command words) else None
 
 -- the files that are named
 abbrev pub names_of : List Row → List Text

@@ -1,4 +1,5 @@
--- The acts of the plain machine for which one event stands, as the code has them: at most two; and an instruction's by what it does.
+-- The acts of the plain machine for which one event stands, as the code has them: at most two; and
+-- an instruction's by what it does.
 use Rattle.std.specs.Prelude.{◌<◌, ◌^◌, ℕ, List, [], ◌∷◌, Option, Some, None}
 use Rattle.machine_types.specs.History.{Fate as TheFate, GoesOn, Fails, Finishes, instruction_acts}
 use Rattle.machine_types.specs.Monitors.{Claim, Tries}

@@ -14,7 +14,8 @@ use Rattle.event_texts.specs.Shares.{Share}
 use Rattle.event_texts.specs.declared.sights.Before.{Before}
 use Rattle.event_texts.specs.declared.sights.After.{After}
 
-abbrev pub event_in : Form → Program → (names : List (List ℕ)) → (number : ℕ) → Before → Share → After → List ℕ
+abbrev pub event_in : Form → Program → (names : List (List ℕ)) → (number : ℕ) → Before → Share
+    → After → List ℕ
 event_in Lines p names number b share a = event_line_text p names number b share a
 event_in Json p names number b share a = event_object p names number b share a
 

@@ -1,5 +1,7 @@
--- An event of a run as one object of JSON, made of what its line is made of, and so an end of a part that is no return.
-use Rattle.std.specs.Prelude.{ℕ, zero, suc, nat_lt, Bool, true, false, drop, List, [], ◌∷◌, ◌++◌, codes, Option, Some, None}
+-- An event of a run as one object of JSON, made of what its line is made of, and so an end of a
+-- part that is no return.
+use Rattle.std.specs.Prelude.{ℕ, zero, suc, nat_lt, Bool, true, false, drop, List, [], ◌∷◌, ◌++◌}
+use Rattle.std.specs.Prelude.{codes, Option, Some, None}
 use Rattle.json_lines.specs.Json.{json_text, number_behind, text_behind, text_member}
 use Rattle.jvm_types.specs.declared.outcome.End.{End}
 use Rattle.jvm_types.specs.declared.program.Program.{Program}
@@ -42,24 +44,33 @@ does_member [] = []
 does_member words = text_behind (codes "does") (drop 2 words)
 
 abbrev pub event_head_members : Program → (number : ℕ) → Before → List ℕ
-event_head_members p number b = number_behind (codes "number") number ++ number_behind (codes "thread") b.thread ++ inside_member b.attempt ++ event_spot_members p b.spot ++ does_member (phase_text p b.phase)
+event_head_members p number b =
+    number_behind (codes "number") number ++ number_behind (codes "thread") b.thread
+    ++ inside_member b.attempt ++ event_spot_members p b.spot
+    ++ does_member (phase_text p b.phase)
 
 -- ---- the word that it accesses, what it found there, and what it left there where it is no load
 
 abbrev pub value_members : Program → Before → After → (loads : Bool) → List ℕ
 value_members p b a true = text_behind (codes "found") (shared_value_text p b.word b.found)
-value_members p b a false = text_behind (codes "found") (shared_value_text p b.word b.found) ++ text_behind (codes "left") (shared_value_text p b.word a.left)
+value_members p b a false =
+    text_behind (codes "found") (shared_value_text p b.word b.found)
+    ++ text_behind (codes "left") (shared_value_text p b.word a.left)
 
 unfoldable pub word_member : Program → (names : List (List ℕ)) → SharedWord → List ℕ
 word_member p names word = text_member (codes "word") (word_text p names word)
 
-unfoldable pub accessed_members : Program → (names : List (List ℕ)) → Before → After → (loads : Bool) → List ℕ
+unfoldable pub accessed_members : Program → (names : List (List ℕ)) → Before → After
+    → (loads : Bool) → List ℕ
 accessed_members p names b a loads = word_member p names b.word ++ value_members p b a loads
 
-unfoldable pub accessed_member : Program → (names : List (List ℕ)) → Before → After → (loads : Bool) → List ℕ
-accessed_member p names b a loads = codes ",\"access\":{" ++ accessed_members p names b a loads ++ codes "}"
+unfoldable pub accessed_member : Program → (names : List (List ℕ)) → Before → After → (loads : Bool)
+    → List ℕ
+accessed_member p names b a loads =
+    codes ",\"access\":{" ++ accessed_members p names b a loads ++ codes "}"
 
-abbrev pub access_member : Program → (names : List (List ℕ)) → Before → After → Option Access → List ℕ
+abbrev pub access_member : Program → (names : List (List ℕ)) → Before → After → Option Access
+    → List ℕ
 access_member p names b a None = []
 access_member p names b a (Some Rest) = []
 access_member p names b a (Some (Load w)) = accessed_member p names b a true
@@ -89,9 +100,10 @@ end_mark_member (phases.Ending e) = text_behind (codes "comes_to_its_end") (end_
 end_mark_member phase = []
 
 abbrev pub event_marks_members : Before → After → List ℕ
-event_marks_members b a = attempt_mark_members b.attempt a.attempt (nat_lt b.counts.failed a.counts.failed)
-    ++ lock_mark_member (nat_lt b.counts.locked a.counts.locked) (nat_lt b.counts.inflated a.counts.inflated)
-    ++ end_mark_member a.phase
+event_marks_members b a =
+    attempt_mark_members b.attempt a.attempt (nat_lt b.counts.failed a.counts.failed)
+    ++ lock_mark_member (nat_lt b.counts.locked a.counts.locked)
+    (nat_lt b.counts.inflated a.counts.inflated) ++ end_mark_member a.phase
 
 -- ---- the plain steps that it stands for
 
@@ -111,8 +123,12 @@ share_members (Section n) = plain_member (Enter ∷ Exit ∷ []) ++ number_behin
 
 -- ---- objects, each on a line
 
-unfoldable pub event_object : Program → (names : List (List ℕ)) → (number : ℕ) → Before → Share → After → List ℕ
-event_object p names number b share a = what_member (codes "event") ++ event_head_members p number b ++ access_member p names b a b.access ++ event_marks_members b a ++ share_members share ++ line (codes "}")
+unfoldable pub event_object : Program → (names : List (List ℕ)) → (number : ℕ) → Before → Share
+    → After → List ℕ
+event_object p names number b share a =
+    what_member (codes "event") ++ event_head_members p number b
+    ++ access_member p names b a b.access ++ event_marks_members b a ++ share_members share
+    ++ line (codes "}")
 
 abbrev pub holder_member : ℕ → List ℕ
 holder_member zero = []
@@ -122,4 +138,6 @@ unfoldable pub stop_head : End → List ℕ
 stop_head end = what_member (codes "end") ++ text_behind (codes "end") (end_text end)
 
 unfoldable pub stop_object : Program → (number : ℕ) → Before → End → List ℕ
-stop_object p number b end = stop_head end ++ event_head_members p number b ++ holder_member (holder end b) ++ line (codes "}")
+stop_object p number b end =
+    stop_head end ++ event_head_members p number b ++ holder_member (holder end b)
+    ++ line (codes "}")

@@ -10,8 +10,12 @@ use Rattle.event_texts.specs.declared.sights.After.{After}
 
 -- an attempt before and behind an event, and whether one failed
 abbrev pub attempt_mark : Option AttemptHead → Option AttemptHead → (failed : Bool) → List ℕ
-attempt_mark None (Some a) failed = codes ", attempt " ++ decimal a.number ++ codes " begins by Free(" ++ decimal a.noted ++ codes ")"
-attempt_mark (Some a) None true = codes ", attempt " ++ decimal a.number ++ codes " fails: not Free(" ++ decimal a.noted ++ codes ")"
+attempt_mark None (Some a) failed =
+    codes ", attempt " ++ decimal a.number ++ codes " begins by Free(" ++ decimal a.noted
+    ++ codes ")"
+attempt_mark (Some a) None true =
+    codes ", attempt " ++ decimal a.number ++ codes " fails: not Free(" ++ decimal a.noted
+    ++ codes ")"
 attempt_mark (Some a) None false = codes ", attempt " ++ decimal a.number ++ codes " finishes"
 attempt_mark was now failed = codes ""
 
@@ -26,6 +30,7 @@ end_mark (phases.Ending e) = codes ", comes to its end: " ++ end_text e
 end_mark phase = codes ""
 
 abbrev pub event_marks_text : Before → After → List ℕ
-event_marks_text b a = attempt_mark b.attempt a.attempt (nat_lt b.counts.failed a.counts.failed)
-    ++ lock_mark (nat_lt b.counts.locked a.counts.locked) (nat_lt b.counts.inflated a.counts.inflated)
-    ++ end_mark a.phase
+event_marks_text b a =
+    attempt_mark b.attempt a.attempt (nat_lt b.counts.failed a.counts.failed)
+    ++ lock_mark (nat_lt b.counts.locked a.counts.locked)
+    (nat_lt b.counts.inflated a.counts.inflated) ++ end_mark a.phase

@@ -1,4 +1,5 @@
--- A monitor as text: that of a class by the name of the class (JVMS 2.11.10), any other one by the number of its object.
+-- A monitor as text: that of a class by the name of the class (JVMS 2.11.10), any other one by the
+-- number of its object.
 use Rattle.std.specs.Prelude.{◌≡◌, ◌<◌, ℕ, ◌==◌, List, ◌++◌, codes, length, Option, Some, None}
 use Rattle.std.specs.List.{find, range_with_len}
 use Rattle.std.specs.Fmt.{decimal}
@@ -24,4 +25,7 @@ monitor_behind words p m = words ++ monitor_text p m
 
 -- of any program: that of the class of each of its files by that name
 abbrev pub ClassesAreTold : Type 0
-ClassesAreTold = (p : Program) (file : ℕ) → file < length p.names → monitor_text p (class_object p file) ≡ codes "class " ++ class_text p.names (file_class file)
+ClassesAreTold =
+    (p : Program) (file : ℕ) → file < length p.names
+    → monitor_text p (class_object p file)
+    ≡ codes "class " ++ class_text p.names (file_class file)

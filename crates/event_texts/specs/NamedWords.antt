@@ -1,8 +1,9 @@
--- That the word which is told of an event is the one that the event accesses: each word that threads share has a number, by what it is
--- to the program.
+-- That the word which is told of an event is the one that the event accesses: each word that
+-- threads share has a number, by what it is to the program.
 use Rattle.std.specs.Prelude.{◌≡◌, ℕ, List, Option, Some, None, slice_get}
 use Rattle.std.specs.Option.{option_map}
-use Rattle.jvm_types.specs.declared.fixed_words.TheConstants.{NEXT_FREE_WORD, NEXT_TICKET_WORD, NEXT_RECORD_WORD}
+use Rattle.jvm_types.specs.declared.fixed_words.TheConstants.{NEXT_FREE_WORD, NEXT_TICKET_WORD}
+use Rattle.jvm_types.specs.declared.fixed_words.TheConstants.{NEXT_RECORD_WORD}
 use Rattle.jvm_types.specs.declared.program.FieldInfo.{FieldInfo}
 use Rattle.jvm_types.specs.declared.program.Program.{Program}
 use Rattle.checked_program.specs.MarkedProgram.{MarkedProgram}
@@ -15,7 +16,9 @@ use Rattle.machine_types.specs.Words.{owner_word, bits_word, header_word, value_
 use Rattle.machine_types.specs.declared.access.Access.{Access}
 use Rattle.machine_types.specs.declared.config.Config.{Config}
 use Rattle.event_texts.specs.Doings.{doing_at}
-use Rattle.event_texts.specs.SharedWords.{SharedWord, Null, NextFree, NextTicket, NextRecord, Owner, Waiting, Lock, Header, Field, StaticField, Element, shared_word_of}
+use Rattle.event_texts.specs.SharedWords.{SharedWord, Null, NextFree, NextTicket, NextRecord, Owner}
+use Rattle.event_texts.specs.SharedWords.{Waiting, Lock, Header, Field, StaticField, Element}
+use Rattle.event_texts.specs.SharedWords.{shared_word_of}
 use Rattle.event_texts.specs.declared.doing.Doing.{Doing}
 
 -- ---- the number of a word
@@ -47,7 +50,10 @@ shared_word_number p (Element array index) = value_word array index
 abbrev pub doing_of : MarkedProgram → Thread → Option Doing
 doing_of c s = option_map (doing_at c.program) (top_of c.program s.frames)
 
--- of every program, settings and list of events and begins of parts, and each thread of the state that this leads to
+-- of every program, settings and list of events and begins of parts, and each thread of the state
+-- that this leads to
 abbrev pub NamesAccessedWords : Type 0
-NamesAccessedWords = (c : MarkedProgram) (cfg : Config) (hs : List Happening) (t : ℕ) (s : Thread) (access : Access) → slice_get (core c cfg hs).threads t ≡ Some s → wanted c s s.phase ≡ Some access
+NamesAccessedWords =
+    (c : MarkedProgram) (cfg : Config) (hs : List Happening) (t : ℕ) (s : Thread) (access : Access)
+    → slice_get (core c cfg hs).threads t ≡ Some s → wanted c s s.phase ≡ Some access
     → accessed access ≡ shared_word_number c.program (shared_word_of s (doing_of c s) s.phase)

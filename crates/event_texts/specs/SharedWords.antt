@@ -6,7 +6,8 @@ use Rattle.jvm_types.specs.declared.program.Target.TheVariants as targets
 use Rattle.machine_types.specs.declared.effect.Effect.{Effect}
 use Rattle.machine_types.specs.declared.effect.Variable.{Variable}
 use Rattle.machine_types.specs.declared.effect.Variable.TheVariants.{Instance, Static}
-use Rattle.machine_types.specs.declared.effect.Effect.TheVariants.{Reads, Writes, Indexes, Measures, Raises, Makes, Prints}
+use Rattle.machine_types.specs.declared.effect.Effect.TheVariants.{Reads, Writes, Indexes, Measures}
+use Rattle.machine_types.specs.declared.effect.Effect.TheVariants.{Raises, Makes, Prints}
 use Rattle.machine_types.specs.HeldMonitors.{held_at}
 use Rattle.machine_types.specs.Ints.{low}
 use Rattle.machine_types.specs.Threads.{Thread, head_of}
@@ -18,9 +19,13 @@ use Rattle.machine_types.specs.declared.lock.Kept.TheVariants as keeps
 use Rattle.machine_types.specs.declared.phase.Phase.TheVariants as phases
 use Rattle.event_texts.specs.declared.doing.Doing.{Doing}
 pub use Rattle.event_texts.specs.declared.words.SharedWord.{SharedWord}
-pub use Rattle.event_texts.specs.declared.words.SharedWord.TheVariants.{Null, NextFree, NextTicket, NextRecord, Owner, Waiting, Lock, Header, Field, StaticField, Element}
+pub use Rattle.event_texts.specs.declared.words.SharedWord.TheVariants.{Null, NextFree, NextTicket}
+pub use Rattle.event_texts.specs.declared.words.SharedWord.TheVariants.{NextRecord, Owner, Waiting}
+pub use Rattle.event_texts.specs.declared.words.SharedWord.TheVariants.{Lock, Header, Field}
+pub use Rattle.event_texts.specs.declared.words.SharedWord.TheVariants.{StaticField, Element}
 
--- ---- an instruction: the field that it names, the header that it reads, a counter, or the lock word of the attempt
+-- ---- an instruction: the field that it names, the header that it reads, a counter, or the lock
+-- word of the attempt
 
 abbrev pub tried_lock : Option AttemptHead → SharedWord
 tried_lock None = Null

@@ -1,9 +1,11 @@
--- What an event stands for in the plain machine: the steps that its run's shadow has for it, or how many are owed to the end of
--- an attempt.
-use Rattle.std.specs.Prelude.{ℕ, zero, ◌+◌, ◌-◌, ◌^◌, min, List, [], ◌∷◌, ◌++◌, codes, length, Option, Some, None}
+-- What an event stands for in the plain machine: the steps that its run's shadow has for it, or how
+-- many are owed to the end of an attempt.
+use Rattle.std.specs.Prelude.{ℕ, zero, ◌+◌, ◌-◌, ◌^◌, min, List, [], ◌∷◌, ◌++◌, codes, length}
+use Rattle.std.specs.Prelude.{Option, Some, None}
 use Rattle.std.specs.Fmt.{decimal}
 use Rattle.checked_program.specs.MarkedProgram.{MarkedProgram}
-use Rattle.machine_types.specs.History.{Fate, GoesOn, Fails, Finishes, Past, acts_of, fate, past_after, shown_at}
+use Rattle.machine_types.specs.History.{Fate, GoesOn, Fails, Finishes, Past, acts_of, fate}
+use Rattle.machine_types.specs.History.{past_after, shown_at}
 use Rattle.machine_types.specs.Threads.{Attempt, Thread}
 use Rattle.machine_types.specs.declared.plain.Act.{Act}
 use Rattle.machine_types.specs.declared.plain.Act.TheVariants as acts
@@ -20,7 +22,8 @@ bounded_count n = min n (2 ^ 64 - 1)
 abbrev pub owed : Past → ℕ
 owed d = bounded_count (length d.due)
 
--- in an attempt, by what is shown of its event, and by how many steps were owed before it and are behind it
+-- in an attempt, by what is shown of its event, and by how many steps were owed before it and are
+-- behind it
 abbrev pub inside_share : (shown : List Act) → (was now : ℕ) → Share
 inside_share [] was now = Owes now
 inside_share shown was now = Section was
@@ -28,7 +31,8 @@ inside_share shown was now = Section was
 -- outside of attempts the steps of the event
 abbrev pub share_at : MarkedProgram → Thread → Option Attempt → (got : ℕ) → Past → Share
 share_at c s None got d = Steps (shown_at c s None got d)
-share_at c s (Some a) got d = inside_share (shown_at c s (Some a) got d) (owed d) (owed (past_after c s (Some a) got d))
+share_at c s (Some a) got d =
+    inside_share (shown_at c s (Some a) got d) (owed d) (owed (past_after c s (Some a) got d))
 
 -- ---- the same by how many steps are owed, in place of a list of them
 

@@ -1,5 +1,6 @@
 -- The words that threads share, and what stands in them, as text.
-use Rattle.std.specs.Prelude.{ℕ, zero, suc, ◌-◌, ◌/◌, ◌%◌, ◌==◌, List, [], ◌++◌, codes, Option, Some, None, slice_get, if◌then◌else◌}
+use Rattle.std.specs.Prelude.{ℕ, zero, suc, ◌-◌, ◌/◌, ◌%◌, ◌==◌, List, [], ◌++◌, codes, Option}
+use Rattle.std.specs.Prelude.{Some, None, slice_get, if◌then◌else◌}
 use Rattle.std.specs.Fmt.{decimal, signed_decimal}
 use Rattle.jvm_types.specs.declared.program.FieldInfo.{FieldInfo}
 use Rattle.jvm_types.specs.declared.program.Kind.{Kind}
@@ -8,9 +9,11 @@ use Rattle.jvm_types.specs.declared.program.Program.{Program}
 use Rattle.machine_types.specs.Ints.{int_of}
 use Rattle.run_texts.specs.MarksText.{class_text}
 use Rattle.event_texts.specs.MonitorTexts.{monitor_behind}
-use Rattle.event_texts.specs.SharedWords.{SharedWord, NextFree, NextTicket, NextRecord, Owner, Waiting, Lock, Header, Field, StaticField, Element}
+use Rattle.event_texts.specs.SharedWords.{SharedWord, NextFree, NextTicket, NextRecord, Owner}
+use Rattle.event_texts.specs.SharedWords.{Waiting, Lock, Header, Field, StaticField, Element}
 
--- ---- which word: a field by its class, the object and its name, as `P@2081.a`; its number stands where no name is given
+-- ---- which word: a field by its class, the object and its name, as `P@2081.a`; its number stands
+-- where no name is given
 
 abbrev pub name_or_number : (number : ℕ) → Option (List ℕ) → List ℕ
 name_or_number number None = codes "#" ++ decimal number
@@ -38,8 +41,10 @@ plain_word (Element a index) = codes "[I@" ++ decimal a ++ codes "[" ++ decimal 
 plain_word word = codes "null"
 
 abbrev pub word_text : Program → (names : List (List ℕ)) → SharedWord → List ℕ
-word_text p names (Field a number) = field_class p (slice_get p.fields number) ++ object_text a ++ field_name names number
-word_text p names (StaticField number) = field_class p (slice_get p.fields number) ++ field_name names number
+word_text p names (Field a number) =
+    field_class p (slice_get p.fields number) ++ object_text a ++ field_name names number
+word_text p names (StaticField number) =
+    field_class p (slice_get p.fields number) ++ field_name names number
 word_text p names (Lock m) = monitor_behind (codes "lock word of ") p m
 word_text p names word = plain_word word
 

@@ -1,4 +1,5 @@
--- What an event at a monitor needs of its thread, by the phase, so that no number passes what it is kept in.
+-- What an event at a monitor needs of its thread, by the phase, so that no number passes what it is
+-- kept in.
 use Rattle.std.specs.Prelude.{◌≡◌, ℕ, ◌<◌, ◌^◌, true, length, None}
 use Rattle.jvm_types.specs.declared.limits.TheConstants.{MOST_LIMIT}
 use Rattle.checked_program.specs.MarkedProgram.{MarkedProgram}

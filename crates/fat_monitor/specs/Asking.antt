@@ -1,4 +1,5 @@
--- What a thread asks of the words where it takes a lock, leaves a monitor that it holds, makes a lock fat, waits or notifies.
+-- What a thread asks of the words where it takes a lock, leaves a monitor that it holds, makes a
+-- lock fat, waits or notifies.
 use Rattle.std.specs.Prelude.{nat_lt, Bool, true, false, not, Option, None, if◌then◌else◌}
 use Rattle.machine_types.specs.declared.access.Access.{Access}
 use Rattle.machine_types.specs.Events.{wanted}

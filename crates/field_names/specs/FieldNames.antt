@@ -1,5 +1,5 @@
--- The names of the fields of some classes, in the order in which a linked program has the fields: that of the files, and in
--- each that of its fields.
+-- The names of the fields of some classes, in the order in which a linked program has the fields:
+-- that of the files, and in each that of its fields.
 use Rattle.std.specs.Prelude.{◌≡◌, ℕ, List, map}
 use Rattle.std.specs.List.{AllZip, flat_map}
 use Rattle.jvm_types.specs.ClassNames.{text_at}
@@ -30,4 +30,6 @@ pub record NameFields (classes : List ClassFile) (p : Program) : Type 0 where
 
 -- of all files that are linked to a program
 abbrev pub NamesAreInOrder : Type 0
-NamesAreInOrder = (classes : List ClassFile) (code : List (List Insn)) (heap workers : ℕ) (p : Program) → IsLinked classes code heap workers p → NameFields classes p
+NamesAreInOrder =
+    (classes : List ClassFile) (code : List (List Insn)) (heap workers : ℕ) (p : Program)
+    → IsLinked classes code heap workers p → NameFields classes p

@@ -1,4 +1,5 @@
--- The methods that a thread begins with: those that its part has still to run, and those of its later part.
+-- The methods that a thread begins with: those that its part has still to run, and those of its
+-- later part.
 use Rattle.std.specs.Prelude.{ℕ, zero, suc, codes, Bool, List, []}
 use Rattle.jvm_types.specs.Members.{is_class_init_name}
 use Rattle.jvm_types.specs.declared.program.MethodInfo.{MethodInfo}

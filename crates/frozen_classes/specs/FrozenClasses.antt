@@ -1,5 +1,6 @@
 -- Which classes of the files are frozen, by the numbers of the files.
-use Rattle.std.specs.Prelude.{◌≡◌, ◌<◌, ℕ, Bool, true, false, List, length, Option, Some, None, slice_get}
+use Rattle.std.specs.Prelude.{◌≡◌, ◌<◌, ℕ, Bool, true, false, List, length, Option, Some, None}
+use Rattle.std.specs.Prelude.{slice_get}
 use Rattle.jvm_types.specs.ClassNames.{file_class}
 use Rattle.jvm_types.specs.CodeTable.{is_init}
 use Rattle.jvm_types.specs.declared.program.MethodInfo.{MethodInfo}
@@ -29,7 +30,9 @@ pub record LetsOut (p : Program) (tags : Tagged) (c mi : ℕ) : Type 0 where
 
 -- if it is one, it keeps its object inside
 abbrev pub KeepsIfInit : Program → Tagged → ℕ → ℕ → Type 0
-KeepsIfInit p tags c mi = (m : MethodInfo) → slice_get p.methods mi ≡ Some m → m.class ≡ c → is_init m ≡ true → KeepsInside p tags mi m
+KeepsIfInit p tags c mi =
+    (m : MethodInfo) → slice_get p.methods mi ≡ Some m → m.class ≡ c → is_init m ≡ true
+    → KeepsInside p tags mi m
 
 abbrev pub TellsOut : Program → Tagged → ℕ → ℕ → Bool → Type 0
 TellsOut p tags c mi true = LetsOut p tags c mi

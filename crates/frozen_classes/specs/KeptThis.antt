@@ -1,5 +1,7 @@
 -- Whether an `<init>` keeps `this` inside, tested instruction by instruction.
-use Rattle.std.specs.Prelude.{◌+◌, ◌-◌, ℕ, zero, suc, Bool, true, false, not, ◌&&◌, ◌||◌, ◌==◌, nat_lt, nat_le, if◌then◌else◌, List, [], ◌∷◌, length, replicate, Option, Some, None, slice_get, slice_set, slice_index_or}
+use Rattle.std.specs.Prelude.{◌+◌, ◌-◌, ℕ, zero, suc, Bool, true, false, not, ◌&&◌, ◌||◌, ◌==◌}
+use Rattle.std.specs.Prelude.{nat_lt, nat_le, if◌then◌else◌, List, [], ◌∷◌, length, replicate}
+use Rattle.std.specs.Prelude.{Option, Some, None, slice_get, slice_set, slice_index_or}
 use Rattle.jvm_types.specs.CodeTable.{row, can_throw, is_init}
 use Rattle.jvm_types.specs.ClassNames.{file_class}
 use Rattle.jvm_types.specs.Members.{is_static}
@@ -44,18 +46,24 @@ some_given_this f (Some given) = given_this f given
 
 -- a place of the stack, or a local, has `this` after an instruction
 abbrev pub stack_this_after : OpRow → TagShape → ℕ → Bool
-stack_this_after r f k = if nat_lt k (length r.gives) then some_given_this f (slice_get r.gives k) else this_at f.stack (length r.takes + (k - length r.gives))
+stack_this_after r f k =
+    if nat_lt k (length r.gives) then some_given_this f (slice_get r.gives k)
+    else this_at f.stack (length r.takes + (k - length r.gives))
 
 abbrev pub local_this_after : Option (ℕ × Given) → TagShape → ℕ → Bool
 local_this_after None f k = this_at f.locals k
-local_this_after (Some write) f k = if (k == write.0) && nat_lt k (length f.locals) then given_this f write.1 else this_at f.locals k
+local_this_after (Some write) f k =
+    if (k == write.0) && nat_lt k (length f.locals) then given_this f write.1
+    else this_at f.locals k
 
 -- each of the first places that has `this` has it there too
 abbrev pub keeps_before : (ℕ → Bool) → List Tag → ℕ → Bool
 keeps_before test us n = all_before (λ k. not (test k) || this_at us k) n
 
 abbrev pub keeps_after : OpRow → TagShape → TagShape → Bool
-keeps_after r f g = keeps_before (stack_this_after r f) g.stack (length r.gives + length f.stack) && keeps_before (local_this_after r.writes f) g.locals (length f.locals)
+keeps_after r f g =
+    keeps_before (stack_this_after r f) g.stack (length r.gives + length f.stack)
+    && keeps_before (local_this_after r.writes f) g.locals (length f.locals)
 
 abbrev pub keeps_caught : TagShape → TagShape → Bool
 keeps_caught f g = keeps_before (λ k. this_at f.locals k) g.locals (length f.locals)
@@ -67,7 +75,8 @@ reached_frame (Some insn) (Some target) (Some f) = f
 reached_frame insn target f = None
 
 abbrev pub reached_frame_at : MethodInfo → List (Option TagShape) → ℕ → Option TagShape
-reached_frame_at m frames j = reached_frame (slice_get m.code j) (slice_get m.targets j) (slice_get frames j)
+reached_frame_at m frames j =
+    reached_frame (slice_get m.code j) (slice_get m.targets j) (slice_get frames j)
 
 -- with a test of what stands at the target, where that is reached
 abbrev pub passes_test : (TagShape → Bool) → Option TagShape → Bool
@@ -80,31 +89,44 @@ passes_at m frames test (Some j) = passes_test test (reached_frame_at m frames j
 
 abbrev pub joins_all : MethodInfo → List (Option TagShape) → OpRow → TagShape → List ℕ → Bool
 joins_all m frames r f [] = true
-joins_all m frames r f (pc ∷ pcs) = passes_at m frames (keeps_after r f) (number_at m.code pc) && joins_all m frames r f pcs
+joins_all m frames r f (pc ∷ pcs) =
+    passes_at m frames (keeps_after r f) (number_at m.code pc) && joins_all m frames r f pcs
 
 -- of handler rows those that cover a pc, up to the first that catches all
 abbrev pub catches_well : MethodInfo → List (Option TagShape) → TagShape → ℕ → List Row → Bool
 catches_well m frames f pc [] = true
 catches_well m frames f pc (handler ∷ handlers) =
-    if covers pc handler then passes_at m frames (keeps_caught f) (number_at m.code handler.handler) && (catches_all handler || catches_well m frames f pc handlers) else catches_well m frames f pc handlers
+    if covers pc handler
+    then passes_at m frames (keeps_caught f) (number_at m.code handler.handler)
+    && (catches_all handler || catches_well m frames f pc handlers)
+    else catches_well m frames f pc handlers
 
 abbrev pub caught_well : MethodInfo → List (Option TagShape) → TagShape → Insn → Bool
-caught_well m frames f insn = if can_throw insn.op then catches_well m frames f insn.pc m.rows else true
+caught_well m frames f insn =
+    if can_throw insn.op then catches_well m frames f insn.pc m.rows else true
 
 -- ---- one instruction
 
 abbrev pub takes_well : Program → ℕ → Op → Target → TagShape → ℕ → Bool
-takes_well p c op target f n = all_before (λ k. not (this_at f.stack k) || may_take p c op target k) n
+takes_well p c op target f n =
+    all_before (λ k. not (this_at f.stack k) || may_take p c op target k) n
 
 abbrev pub puts_well : Program → ℕ → Op → Target → TagShape → Bool
-puts_well p c (ops.Putfield i) (targets.Field fi) f = not (is_final_of c (slice_get p.fields fi)) || this_at f.stack 1
+puts_well p c (ops.Putfield i) (targets.Field fi) f =
+    not (is_final_of c (slice_get p.fields fi)) || this_at f.stack 1
 puts_well p c op target f = true
 
-abbrev pub keeps_here : Program → MethodInfo → List (Option TagShape) → Insn → Target → OpRow → TagShape → Bool
-keeps_here p m frames insn target r f = takes_well p m.class insn.op target f (length r.takes) && (puts_well p m.class insn.op target f && (joins_all m frames r f (edges insn) && caught_well m frames f insn))
+abbrev pub keeps_here : Program → MethodInfo → List (Option TagShape) → Insn → Target → OpRow
+    → TagShape → Bool
+keeps_here p m frames insn target r f =
+    takes_well p m.class insn.op target f (length r.takes)
+    && (puts_well p m.class insn.op target f
+    && (joins_all m frames r f (edges insn) && caught_well m frames f insn))
 
-abbrev pub keeps_at : Program → MethodInfo → List (Option TagShape) → Option Insn → Option Target → Option (Option TagShape) → Bool
-keeps_at p m frames (Some insn) (Some target) (Some (Some f)) = keeps_here p m frames insn target (row p m insn.pc target insn.op) f
+abbrev pub keeps_at : Program → MethodInfo → List (Option TagShape) → Option Insn → Option Target
+    → Option (Option TagShape) → Bool
+keeps_at p m frames (Some insn) (Some target) (Some (Some f)) =
+    keeps_here p m frames insn target (row p m insn.pc target insn.op) f
 keeps_at p m frames insn target f = true
 
 -- ---- a method
@@ -114,7 +136,11 @@ abbrev pub begins_well : MethodInfo → Option TagShape → Bool
 begins_well m frame = passes_test (λ f. is_static m.flags || this_at f.locals 0) frame
 
 abbrev pub keeps_all : Program → MethodInfo → List (Option TagShape) → Bool
-keeps_all p m frames = begins_well m (reached_frame_at m frames 0) && all_before (λ i. keeps_at p m frames (slice_get m.code i) (slice_get m.targets i) (slice_get frames i)) (length m.code)
+keeps_all p m frames =
+    begins_well m (reached_frame_at m frames 0)
+    && all_before
+    (λ i. keeps_at p m frames (slice_get m.code i) (slice_get m.targets i) (slice_get frames i))
+    (length m.code)
 
 -- ---- classes
 
@@ -125,14 +151,18 @@ is_method_of c (Some m) = m.class == c
 
 -- the class of an `<init>` that lets its object out
 abbrev pub leak_of : Program → Option MethodInfo → Option Tags → Option ℕ
-leak_of p (Some m) (Some t) = if is_init m && not (keeps_all p m t.frames) then Some m.class else None
+leak_of p (Some m) (Some t) =
+    if is_init m && not (keeps_all p m t.frames) then Some m.class else None
 leak_of p m t = None
 
 abbrev pub class_noted : List Bool → Option ℕ → List Bool
 class_noted flags None = flags
-class_noted flags (Some c) = if nat_le (file_class 0) c && nat_lt (c - file_class 0) (length flags) then slice_set flags (c - file_class 0) false else flags
+class_noted flags (Some c) =
+    if nat_le (file_class 0) c && nat_lt (c - file_class 0) (length flags)
+    then slice_set flags (c - file_class 0) false else flags
 
 -- after the first methods
 abbrev pub frozen_upto : Program → List Tags → ℕ → List Bool
 frozen_upto p tags zero = replicate (length p.names) true
-frozen_upto p tags (suc u) = class_noted (frozen_upto p tags u) (leak_of p (slice_get p.methods u) (slice_get tags u))
+frozen_upto p tags (suc u) =
+    class_noted (frozen_upto p tags u) (leak_of p (slice_get p.methods u) (slice_get tags u))

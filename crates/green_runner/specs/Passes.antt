@@ -21,4 +21,5 @@ pub record HasTakenTurn (turn t : ℕ) (h after : Handed) : Type 0 where
 -- one turn after the other
 abbrev pub HaveTurns : (turn : ℕ) → (numbers : List ℕ) → Handed → Handed → Type 0
 HaveTurns turn [] h after = after ≡ h
-HaveTurns turn (t ∷ ts) h after = (next : Handed) × HasTakenTurn turn t h next × HaveTurns turn ts next after
+HaveTurns turn (t ∷ ts) h after =
+    (next : Handed) × HasTakenTurn turn t h next × HaveTurns turn ts next after

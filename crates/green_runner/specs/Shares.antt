@@ -13,4 +13,5 @@ AreShared n shares = (t : ℕ) → 0 < t → t < n → list_any (holds t) shares
 
 -- each thread up to a number is held, by the first hands or by some of the others
 abbrev pub AreTogether : (workers : ℕ) → (first : Handed) → (others : List Handed) → Type 0
-AreTogether workers first others = (t : ℕ) → t ≤ workers → (holds t first || list_any (holds t) others) ≡ true
+AreTogether workers first others =
+    (t : ℕ) → t ≤ workers → (holds t first || list_any (holds t) others) ≡ true

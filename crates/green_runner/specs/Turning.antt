@@ -1,4 +1,5 @@
--- How the turns of a machine lead through the stages of a run, whatever the order holds behind them.
+-- How the turns of a machine lead through the stages of a run, whatever the order holds behind
+-- them.
 use Rattle.std.specs.Prelude.{◌≡◌, ℕ, suc, false, List, ◌++◌}
 use Rattle.checked_program.specs.MarkedProgram.{MarkedProgram}
 use Rattle.machine_types.specs.Core.{Core, Happening, all_happened, lives}
@@ -6,9 +7,11 @@ use Rattle.machine_types.specs.Schedules.{IsSchedule, Stage, Ordered}
 use Rattle.replay_runner.specs.Running.{Running}
 
 -- from a stage and a state to others, by the same happenings for each rest of the order
-pub record Comes (c : MarkedProgram) (from : List ℕ → Stage) (s : Core) (to : List ℕ → Stage) (t : Core) : Type 0 where
+pub record Comes (c : MarkedProgram) (from : List ℕ → Stage) (s : Core) (to : List ℕ → Stage)
+    (t : Core) : Type 0 where
   pub happenings : List Happening
-  pub leads : (rest : List ℕ) (hs : List Happening) → IsSchedule c (to rest) t hs → IsSchedule c (from rest) s (happenings ++ hs)
+  pub leads : (rest : List ℕ) (hs : List Happening) → IsSchedule c (to rest) t hs
+      → IsSchedule c (from rest) s (happenings ++ hs)
   pub state : all_happened c s happenings ≡ t
 
 -- the same run, in another state

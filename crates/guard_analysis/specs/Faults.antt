@@ -1,5 +1,8 @@
--- What the instructions of a method break, one after the other, and what the methods break that they call.
-use Rattle.std.specs.Prelude.{◌≡◌, ◌<◌, ◌↔◌, ◌/◌, ℕ, zero, suc, Bool, true, false, ◌||◌, nat_lt, if◌then◌else◌, List, [], ◌∷◌, ◌++◌, length, Option, Some, None, slice_get, slice_index_or}
+-- What the instructions of a method break, one after the other, and what the methods break that
+-- they call.
+use Rattle.std.specs.Prelude.{◌≡◌, ◌<◌, ◌↔◌, ◌/◌, ℕ, zero, suc, Bool, true, false, ◌||◌, nat_lt}
+use Rattle.std.specs.Prelude.{if◌then◌else◌, List, [], ◌∷◌, ◌++◌, length, Option, Some, None}
+use Rattle.std.specs.Prelude.{slice_get, slice_index_or}
 use Rattle.jvm_types.specs.Members.{is_synchronized}
 use Rattle.jvm_types.specs.declared.code.Insn.{Insn}
 use Rattle.jvm_types.specs.declared.program.Target.{Target}
@@ -17,13 +20,19 @@ use Rattle.guard_analysis.specs.CallGraph.{node_of, mode_at, call_at}
 
 -- ---- rules that a method breaks
 
-abbrev pub fault_at : Program → List FieldUse → Mode → Option Insn → Option Target → Option (Option TagShape) → ℕ
-fault_at p uses mode (Some insn) (Some target) (Some (Some f)) = section_fault p uses mode insn.op target f.stack
+abbrev pub fault_at : Program → List FieldUse → Mode → Option Insn → Option Target
+    → Option (Option TagShape) → ℕ
+fault_at p uses mode (Some insn) (Some target) (Some (Some f)) =
+    section_fault p uses mode insn.op target f.stack
 fault_at p uses mode insn target f = 0
 
-abbrev pub breaks_before : Program → List FieldUse → MethodInfo → List (Option TagShape) → Mode → ℕ → Bool
+abbrev pub breaks_before : Program → List FieldUse → MethodInfo → List (Option TagShape) → Mode → ℕ
+    → Bool
 breaks_before p uses m frames mode zero = false
-breaks_before p uses m frames mode (suc i) = breaks_before p uses m frames mode i || nat_lt 0 (fault_at p uses mode (slice_get m.code i) (slice_get m.targets i) (slice_get frames i))
+breaks_before p uses m frames mode (suc i) =
+    breaks_before p uses m frames mode i
+    || nat_lt 0
+    (fault_at p uses mode (slice_get m.code i) (slice_get m.targets i) (slice_get frames i))
 
 abbrev pub node_breaks : Program → List FieldUse → Option MethodInfo → Option Tags → Mode → Bool
 node_breaks p uses (Some m) (Some t) mode = breaks_before p uses m t.frames mode (length m.code)
@@ -31,12 +40,16 @@ node_breaks p uses m t mode = false
 
 abbrev pub breaking_nodes : Program → List FieldUse → List Tags → (class : ℕ) → ℕ → List Bool
 breaking_nodes p uses tags class zero = []
-breaking_nodes p uses tags class (suc a) = breaking_nodes p uses tags class a ++ node_breaks p uses (slice_get p.methods (a / 3)) (slice_get tags (a / 3)) (mode_at class a) ∷ []
+breaking_nodes p uses tags class (suc a) =
+    breaking_nodes p uses tags class a
+    ++ node_breaks p uses (slice_get p.methods (a / 3)) (slice_get tags (a / 3)) (mode_at class a)
+    ∷ []
 
 -- ---- what calls lead to
 
 -- a chain of calls leads to a method that breaks a rule
-pub record LeadsToBreak (p : Program) (tags : Tagged) (uses : List FieldUse) (first : Callee) : Type 0 where
+pub record LeadsToBreak (p : Program) (tags : Tagged) (uses : List FieldUse) (first : Callee)
+    : Type 0 where
   pub called : Callee
   pub over : List Callee
   pub through : CallsThrough p tags first over called
@@ -57,9 +70,12 @@ IsModeFor class (OnClass c) = c ≡ class
 IsModeFor class mode = Unit {0}
 
 -- of each node, by its number
-pub record AreCallees (p : Program) (tags : Tagged) (uses : List FieldUse) (class : ℕ) (breaks recurs : List Bool) : Type 0 where
-  pub broken : (b : Callee) → IsModeFor class b.mode → b.method < length p.methods → (slice_index_or breaks (node_of b) false ≡ true) ↔ LeadsToBreak p tags uses b
-  pub again : (b : Callee) → b.method < length p.methods → (slice_index_or recurs (node_of b) false ≡ true) ↔ LeadsToItself p tags b
+pub record AreCallees (p : Program) (tags : Tagged) (uses : List FieldUse) (class : ℕ)
+    (breaks recurs : List Bool) : Type 0 where
+  pub broken : (b : Callee) → IsModeFor class b.mode → b.method < length p.methods
+      → (slice_index_or breaks (node_of b) false ≡ true) ↔ LeadsToBreak p tags uses b
+  pub again : (b : Callee) → b.method < length p.methods
+      → (slice_index_or recurs (node_of b) false ≡ true) ↔ LeadsToItself p tags b
 
 -- the section of a synchronized method runs it as the nodes stand for
 abbrev pub FitsMethod : (class : ℕ) → MethodInfo → Type 0
@@ -69,13 +85,21 @@ FitsMethod class m = is_synchronized m.flags ≡ true → IsModeFor class (mode_
 
 abbrev pub grade_of : ℕ → Option ℕ → List Bool → List Bool → ℕ
 grade_of zero None breaks recurs = 0
-grade_of zero (Some b) breaks recurs = if slice_index_or breaks b false then 6 else if slice_index_or recurs b false then 7 else 0
+grade_of zero (Some b) breaks recurs =
+    if slice_index_or breaks b false then 6 else if slice_index_or recurs b false then 7 else 0
 grade_of (suc n) call breaks recurs = suc n
 
-abbrev pub grade_at : Program → List FieldUse → List Bool → List Bool → Mode → MethodInfo → List (Option TagShape) → ℕ → ℕ
+abbrev pub grade_at : Program → List FieldUse → List Bool → List Bool → Mode → MethodInfo
+    → List (Option TagShape) → ℕ → ℕ
 grade_at p uses breaks recurs mode m frames i =
-    grade_of (fault_at p uses mode (slice_get m.code i) (slice_get m.targets i) (slice_get frames i)) (call_at p mode (slice_get m.code i) (slice_get m.targets i) (slice_get frames i)) breaks recurs
+    grade_of
+    (fault_at p uses mode (slice_get m.code i) (slice_get m.targets i) (slice_get frames i))
+    (call_at p mode (slice_get m.code i) (slice_get m.targets i) (slice_get frames i)) breaks
+    recurs
 
-abbrev pub grades_before : Program → List FieldUse → List Bool → List Bool → Mode → MethodInfo → List (Option TagShape) → ℕ → List ℕ
+abbrev pub grades_before : Program → List FieldUse → List Bool → List Bool → Mode → MethodInfo
+    → List (Option TagShape) → ℕ → List ℕ
 grades_before p uses breaks recurs mode m frames zero = []
-grades_before p uses breaks recurs mode m frames (suc i) = grades_before p uses breaks recurs mode m frames i ++ grade_at p uses breaks recurs mode m frames i ∷ []
+grades_before p uses breaks recurs mode m frames (suc i) =
+    grades_before p uses breaks recurs mode m frames i
+    ++ grade_at p uses breaks recurs mode m frames i ∷ []

@@ -1,4 +1,5 @@
--- How far the numbers of a plain machine have come: each step adds little to them, so after few steps they fit 64 bits.
+-- How far the numbers of a plain machine have come: each step adds little to them, so after few
+-- steps they fit 64 bits.
 use Rattle.std.specs.Prelude.{◌≤◌, ◌<◌, ◌+◌, ◌*◌, ◌^◌, ℕ}
 use Rattle.std.specs.List.{AllByRecursion}
 use Rattle.jvm_types.specs.declared.fixed_words.TheConstants.{OBJECT_HEAD_WORDS}
@@ -13,7 +14,8 @@ waiting_depth (Waiting m depth) = depth
 waiting_depth (Woken m depth) = depth
 waiting_depth status = 0
 
--- behind so many steps no monitor was entered more often, and the next reference lies behind so many objects at most
+-- behind so many steps no monitor was entered more often, and the next reference lies behind so
+-- many objects at most
 pub record IsSmall (steps : ℕ) (q : Plain) : Type 0 where
   pub held : AllByRecursion (λ h. h.depth ≤ steps) q.holdings
   pub waits : AllByRecursion (λ x. waiting_depth x.status ≤ steps) q.threads

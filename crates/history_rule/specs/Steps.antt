@@ -1,5 +1,6 @@
 -- What a call that makes a step answers, by the state that the step gives, where there is one.
-use Rattle.std.specs.Prelude.{◌≡◌, ◌+◌, ℕ, Bool, true, false, List, Option, Some, None, Result, Ok, Err}
+use Rattle.std.specs.Prelude.{◌≡◌, ◌+◌, ℕ, Bool, true, false, List, Option, Some, None, Result, Ok}
+use Rattle.std.specs.Prelude.{Err}
 use Rattle.checked_program.specs.MarkedProgram.{MarkedProgram}
 use Rattle.machine_types.specs.PlainState.{Plain}
 use Rattle.machine_types.specs.PlainSteps.{plain_run}
@@ -20,7 +21,8 @@ pub record Played : Type 0 where
 
 -- the same, with a step that was made, where it is
 abbrev pub IsPlayed : {E : Type 0} → Option Plain → (old new : Played) → Result Bool E → Type 0
-IsPlayed wanted old new (Ok true) = (wanted ≡ Some new.state) × (new ≡ record old { state = new.state; steps = old.steps + 1 })
+IsPlayed wanted old new (Ok true) =
+    (wanted ≡ Some new.state) × (new ≡ record old { state = new.state; steps = old.steps + 1 })
 IsPlayed wanted old new (Ok false) = (wanted ≡ None) × (new ≡ old)
 IsPlayed wanted old new (Err e) = new ≡ old
 

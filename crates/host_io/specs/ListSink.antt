@@ -1,7 +1,8 @@
 -- A sink in memory that accepts a stated number of bytes.
 use Rattle.std.specs.Prelude.{ℕ, ◌-◌, List, length, min, Option, Some, None}
 
--- the text, the byte from which on nothing is accepted, how many bytes one call may bring, and the faults
+-- the text, the byte from which on nothing is accepted, how many bytes one call may bring, and the
+-- faults
 pub record Accepting : Type 0 where
   pub text : List ℕ
   pub fails_from : Option ℕ

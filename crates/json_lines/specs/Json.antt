@@ -1,11 +1,13 @@
--- Texts and numbers as JSON (RFC 8259), written in ASCII alone, so that a line can be kept and sent in any encoding.
-use Rattle.std.specs.Prelude.{ℕ, ◌+◌, ◌-◌, ◌*◌, ◌/◌, ◌%◌, ◌==◌, nat_lt, nat_le, Bool, ◌&&◌, ◌||◌, List, [], ◌∷◌, ◌++◌, codes, if◌then◌else◌}
+-- Texts and numbers as JSON (RFC 8259), written in ASCII alone, so that a line can be kept and sent
+-- in any encoding.
+use Rattle.std.specs.Prelude.{ℕ, ◌+◌, ◌-◌, ◌*◌, ◌/◌, ◌%◌, ◌==◌, nat_lt, nat_le, Bool, ◌&&◌, ◌||◌}
+use Rattle.std.specs.Prelude.{List, [], ◌∷◌, ◌++◌, codes, if◌then◌else◌}
 use Rattle.std.specs.Fmt.{decimal}
 use Rattle.json_lines.specs.declared.characters.Character.{Character}
 
 -- ---- the characters of a text
--- A text is UTF-8 (RFC 3629), or what class files have in its place (JVMS 4.4.7): there a character beyond 16 bits is two of three
--- bytes each, the halves that JSON wants.
+-- A text is UTF-8 (RFC 3629), or what class files have in its place (JVMS 4.4.7): there a character
+-- beyond 16 bits is two of three bytes each, the halves that JSON wants.
 
 -- a byte that goes on with a character
 abbrev pub is_continuation : ℕ → Bool
@@ -25,15 +27,20 @@ no_character = going_on 0xFFFD 0
 
 -- the character of a first byte and of those behind it, where one, two or three go on with it
 abbrev pub of_two : ℕ → List ℕ → Character
-of_two a (b ∷ rest) = if is_continuation b then going_on (with_bits (a - 0xC0) b) 1 else no_character
+of_two a (b ∷ rest) =
+    if is_continuation b then going_on (with_bits (a - 0xC0) b) 1 else no_character
 of_two a rest = no_character
 
 abbrev pub of_three : ℕ → List ℕ → Character
-of_three a (b ∷ c ∷ rest) = if is_continuation b && is_continuation c then going_on (with_bits (with_bits (a - 0xE0) b) c) 2 else no_character
+of_three a (b ∷ c ∷ rest) =
+    if is_continuation b && is_continuation c then going_on (with_bits (with_bits (a - 0xE0) b) c) 2
+    else no_character
 of_three a rest = no_character
 
 abbrev pub of_four : ℕ → List ℕ → Character
-of_four a (b ∷ c ∷ d ∷ rest) = if is_continuation b && is_continuation c && is_continuation d then going_on (with_bits (with_bits (with_bits (a - 0xF0) b) c) d) 3 else no_character
+of_four a (b ∷ c ∷ d ∷ rest) =
+    if is_continuation b && is_continuation c && is_continuation d
+    then going_on (with_bits (with_bits (with_bits (a - 0xF0) b) c) d) 3 else no_character
 of_four a rest = no_character
 
 unfoldable pub character : ℕ → List ℕ → Character
@@ -52,13 +59,16 @@ hex_digit n = if nat_lt n 10 then 48 + n else 87 + n
 
 -- sixteen bits, `\uXXXX`
 unfoldable pub unit_text : ℕ → List ℕ
-unit_text n = 92 ∷ 117 ∷ hex_digit (n / 4096 % 16) ∷ hex_digit (n / 256 % 16) ∷ hex_digit (n / 16 % 16) ∷ hex_digit (n % 16) ∷ []
+unit_text n =
+    92 ∷ 117 ∷ hex_digit (n / 4096 % 16) ∷ hex_digit (n / 256 % 16) ∷ hex_digit (n / 16 % 16)
+    ∷ hex_digit (n % 16) ∷ []
 
 -- a character beyond 16 bits, as two halves
 abbrev pub pair_text : ℕ → List ℕ
 pair_text n = unit_text (0xD800 + (n - 0x10000) / 1024) ++ unit_text (0xDC00 + n % 1024)
 
--- a quote or a backslash behind a backslash; a letter, digit or sign of ASCII as it is; all others by their numbers
+-- a quote or a backslash behind a backslash; a letter, digit or sign of ASCII as it is; all others
+-- by their numbers
 unfoldable pub character_text : ℕ → List ℕ
 character_text n =
     if (n == 34) || (n == 92) then 92 ∷ n ∷ []
@@ -69,7 +79,8 @@ character_text n =
 
 -- ---- strings and members
 
--- A string without its quotes. The first bytes, so many, went on with a character before: nothing is shown of them.
+-- A string without its quotes. The first bytes, so many, went on with a character before: nothing
+-- is shown of them.
 abbrev pub character_shown : (skip : ℕ) → Character → List ℕ
 character_shown skip front = if skip == 0 then character_text front.number else []
 
@@ -78,7 +89,8 @@ skip_behind skip front = if skip == 0 then front.more else skip - 1
 
 abbrev pub escaped : (skip : ℕ) → List ℕ → List ℕ
 escaped skip [] = []
-escaped skip (a ∷ rest) = character_shown skip (character a rest) ++ escaped (skip_behind skip (character a rest)) rest
+escaped skip (a ∷ rest) =
+    character_shown skip (character a rest) ++ escaped (skip_behind skip (character a rest)) rest
 
 -- a string
 unfoldable pub json_text : List ℕ → List ℕ

@@ -1,7 +1,9 @@
 -- The class grammar: which bytes spell a class (JVMS 4).
--- A spelling is the bytes of a class field by field, of a class that keeps the rules of this file. The rules are by
--- the structures of the chapter. Where they differ from the chapter, the line says so after "here".
-use Rattle.std.specs.Prelude.{◌≡◌, ◌⊎◌, ℕ, ◌<◌, ◌≤◌, ◌^◌, Bool, true, false, List, [], ◌∷◌, length, Some, slice_get, codes}
+-- A spelling is the bytes of a class field by field, of a class that keeps the rules of this file.
+-- The rules are by the structures of the chapter. Where they differ from the chapter, the line says
+-- so after "here".
+use Rattle.std.specs.Prelude.{◌≡◌, ◌⊎◌, ℕ, ◌<◌, ◌≤◌, ◌^◌, Bool, true, false, List, [], ◌∷◌, length}
+use Rattle.std.specs.Prelude.{Some, slice_get, codes}
 use Rattle.std.specs.List.{AllByRecursion}
 use Rattle.std.specs.Int.{w32}
 use Rattle.std.specs.Int.RustNames.{FitsSigned}
@@ -11,7 +13,10 @@ use Rattle.jvm_types.specs.Pool.{IsTextAt, NamesUtf8, NamesClass, NamesNameAndTy
 use Rattle.jvm_types.specs.declared.index_kind.IndexKind.{IndexKind}
 use Rattle.jvm_types.specs.declared.index_kind.IndexKind.TheVariants as kinds
 use Rattle.jvm_types.specs.declared.class_file.Constant.{Constant}
-use Rattle.jvm_types.specs.declared.class_file.Constant.TheVariants.{Gap, Utf8, Integer, Float, Long, Double, Class, Text, Field, Method, InterfaceMethod, NameAndType}
+use Rattle.jvm_types.specs.declared.class_file.Constant.TheVariants.{Gap, Utf8, Integer, Float}
+use Rattle.jvm_types.specs.declared.class_file.Constant.TheVariants.{Long, Double, Class, Text}
+use Rattle.jvm_types.specs.declared.class_file.Constant.TheVariants.{Field, Method, InterfaceMethod}
+use Rattle.jvm_types.specs.declared.class_file.Constant.TheVariants.{NameAndType}
 use Rattle.jvm_types.specs.declared.class_file.Attr.{Attr}
 use Rattle.jvm_types.specs.declared.class_file.Handler.{Handler}
 use Rattle.jvm_types.specs.declared.class_file.Code.{Code}
@@ -19,7 +24,8 @@ use Rattle.jvm_types.specs.declared.class_file.MemberAttr.{MemberAttr}
 use Rattle.jvm_types.specs.declared.class_file.MemberAttr.TheVariants as member_attrs
 use Rattle.jvm_types.specs.declared.class_file.Member.{Member}
 use Rattle.jvm_types.specs.declared.class_file.ClassFile.{ClassFile}
-use Rattle.jvm_types.specs.declared.limits.TheConstants.{MOST_FILE_BYTES, FIRST_VERSION, LAST_VERSION}
+use Rattle.jvm_types.specs.declared.limits.TheConstants.{MOST_FILE_BYTES, FIRST_VERSION}
+use Rattle.jvm_types.specs.declared.limits.TheConstants.{LAST_VERSION}
 use Rattle.jvm_types.specs.declared.class_file.TheConstants.{TEXT_BYTES_END}
 use Rattle.jvm_types.specs.declared.flags.TheConstants.{NATIVE, ABSTRACT}
 
@@ -96,10 +102,14 @@ FieldsFit (NameAndType name descriptor) = (name < 2 ^ 16) × (descriptor < 2 ^ 1
 abbrev pub IndicesFit : List Constant → Constant → Type 0
 IndicesFit pool (Class name) = Names kinds.Utf8 pool name
 IndicesFit pool (Text string) = Names kinds.Utf8 pool string
-IndicesFit pool (Field class member) = Names kinds.Class pool class × Names kinds.NameAndType pool member
-IndicesFit pool (Method class member) = Names kinds.Class pool class × Names kinds.NameAndType pool member
-IndicesFit pool (InterfaceMethod class member) = Names kinds.Class pool class × Names kinds.NameAndType pool member
-IndicesFit pool (NameAndType name descriptor) = Names kinds.Utf8 pool name × Names kinds.Utf8 pool descriptor
+IndicesFit pool (Field class member) =
+    Names kinds.Class pool class × Names kinds.NameAndType pool member
+IndicesFit pool (Method class member) =
+    Names kinds.Class pool class × Names kinds.NameAndType pool member
+IndicesFit pool (InterfaceMethod class member) =
+    Names kinds.Class pool class × Names kinds.NameAndType pool member
+IndicesFit pool (NameAndType name descriptor) =
+    Names kinds.Utf8 pool name × Names kinds.Utf8 pool descriptor
 IndicesFit pool c = Unit {0}
 
 -- an entry for each index; a gap is due at 0, and no Long or Double has the last index
@@ -111,7 +121,8 @@ pub record IsPool (pool : List Constant) : Type 0 where
 
 -- ---- attributes (JVMS 4.7)
 
--- an attribute that is kept unread; here those are all but Code of a method and ConstantValue of a field
+-- an attribute that is kept unread; here those are all but Code of a method and ConstantValue of a
+-- field
 pub record IsAttr (pool : List Constant) (a : Attr) : Type 0 where
   pub name : IsIndex kinds.Utf8 pool a.name
   pub count : length a.body < 2 ^ 32
@@ -129,7 +140,8 @@ pub record IsHandler (pool : List Constant) (h : Handler) : Type 0 where
   pub handler : h.handler < 2 ^ 16
   pub catch_type : IsIndex kinds.CatchType pool h.catch_type
 
--- a Code attribute (JVMS 4.7.3); here a code of no byte or of more than 65535 is refused where it is decoded
+-- a Code attribute (JVMS 4.7.3); here a code of no byte or of more than 65535 is refused where it
+-- is decoded
 pub record IsCodeAttr (pool : List Constant) (c : Code) : Type 0 where
   pub name : IsNamed pool c.name (codes "Code")
   pub size : length (code_body c) < 2 ^ 32
@@ -140,12 +152,14 @@ pub record IsCodeAttr (pool : List Constant) (c : Code) : Type 0 where
   pub rows : IsCounted (IsHandler pool) c.rows
   pub attrs : IsCounted (IsAttr pool) c.attrs
 
--- an attribute of a field: a ConstantValue exactly where it is named so (JVMS 4.7.2); here there may be several, also of a
--- field that is not static, and of another type than the field's
+-- an attribute of a field: a ConstantValue exactly where it is named so (JVMS 4.7.2); here there
+-- may be several, also of a field that is not static, and of another type than the field's
 abbrev pub IsFieldAttr : List Constant → MemberAttr → Type 0
 IsFieldAttr pool (member_attrs.Code c) = ⊥
-IsFieldAttr pool (member_attrs.ConstantValue name value) = IsNamed pool name (codes "ConstantValue") × IsIndex kinds.Value pool value
-IsFieldAttr pool (member_attrs.Other a) = IsAttr pool a × (IsTextAt pool a.name (codes "ConstantValue") → ⊥)
+IsFieldAttr pool (member_attrs.ConstantValue name value) =
+    IsNamed pool name (codes "ConstantValue") × IsIndex kinds.Value pool value
+IsFieldAttr pool (member_attrs.Other a) =
+    IsAttr pool a × (IsTextAt pool a.name (codes "ConstantValue") → ⊥)
 
 -- an attribute of a method: a Code exactly where it is named so
 abbrev pub IsMethodAttr : List Constant → MemberAttr → Type 0
@@ -155,8 +169,9 @@ IsMethodAttr pool (member_attrs.Other a) = IsAttr pool a × (IsTextAt pool a.nam
 
 -- ---- fields and methods (JVMS 4.5, 4.6)
 
--- here the flags may be any (but see HasBody); the texts of names and descriptors are looked at where the classes are linked,
--- nor is it asked here whether two members have one name and descriptor
+-- here the flags may be any (but see HasBody); the texts of names and descriptors are looked at
+-- where the classes are linked, nor is it asked here whether two members have one name and
+-- descriptor
 pub record IsMember (Fits : MemberAttr → Type 0) (pool : List Constant) (m : Member) : Type 0 where
   pub flags : m.flags < 2 ^ 16
   pub name : IsIndex kinds.Utf8 pool m.name

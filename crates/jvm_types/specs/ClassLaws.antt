@@ -17,16 +17,23 @@ SpellsAtMostOneClass = (bytes : List ℕ) (c d : ClassFile) → Spells bytes c �
 
 -- bytes spell a class exactly where there is no fault
 abbrev pub IsSpelledOrFaulty : Type 0
-IsSpelledOrFaulty = (bytes : List ℕ) → AllByRecursion IsByte bytes → (class_fault bytes ≡ None) ↔ ((c : ClassFile) × Spells bytes c)
+IsSpelledOrFaulty =
+    (bytes : List ℕ) → AllByRecursion IsByte bytes
+    → (class_fault bytes ≡ None) ↔ ((c : ClassFile) × Spells bytes c)
 
 -- reading gives a class exactly where the bytes spell that class
 abbrev pub ReadsWhatIsSpelled : Type 0
-ReadsWhatIsSpelled = (bytes : List ℕ) (c : ClassFile) → AllByRecursion IsByte bytes → (read_class bytes ≡ Ok c) ↔ Spells bytes c
+ReadsWhatIsSpelled =
+    (bytes : List ℕ) (c : ClassFile) → AllByRecursion IsByte bytes
+    → (read_class bytes ≡ Ok c) ↔ Spells bytes c
 
 -- every class of the grammar has lengths that fit their fields
 abbrev pub ClassesFit : Type 0
 ClassesFit = (c : ClassFile) → IsClass c → ClassCountsFit c
 
--- a fault has its place in the bytes or at their end, so its offset is what stands before that place
+-- a fault has its place in the bytes or at their end, so its offset is what stands before that
+-- place
 abbrev pub FaultsLieInside : Type 0
-FaultsLieInside = (bytes : List ℕ) (f : Fault) → AllByRecursion IsByte bytes → read_class bytes ≡ Err f → f.left ≤ length bytes
+FaultsLieInside =
+    (bytes : List ℕ) (f : Fault) → AllByRecursion IsByte bytes → read_class bytes ≡ Err f
+    → f.left ≤ length bytes

@@ -1,11 +1,15 @@
--- The classes of a program by their names (JVMS 4.2, 4.4.1): which names there are, and the number that each class has.
-use Rattle.std.specs.Prelude.{ℕ, bytes_eq, ◌+◌, ◌-◌, nat_lt, nat_le, ◌==◌, Bool, ◌&&◌, ◌||◌, not, List, [], ◌∷◌, map, Option, Some, slice_get, codes, if◌then◌else◌}
+-- The classes of a program by their names (JVMS 4.2, 4.4.1): which names there are, and the number
+-- that each class has.
+use Rattle.std.specs.Prelude.{ℕ, bytes_eq, ◌+◌, ◌-◌, nat_lt, nat_le, ◌==◌, Bool, ◌&&◌, ◌||◌, not}
+use Rattle.std.specs.Prelude.{List, [], ◌∷◌, map, Option, Some, slice_get, codes, if◌then◌else◌}
 use Rattle.std.specs.Option.{option_or}
 use Rattle.std.specs.List.{list_any, position_from}
 use Rattle.jvm_types.specs.declared.class_file.Constant.{Constant}
 use Rattle.jvm_types.specs.declared.class_file.Constant.TheVariants.{Utf8, Class}
 use Rattle.jvm_types.specs.declared.class_file.ClassFile.{ClassFile}
-use Rattle.jvm_types.specs.declared.class_numbers.TheConstants.{SYSTEM_CLASS, CLASS_ITSELF, FIRST_FILE_CLASS, OBJECT_CLASS, THROWABLE_CLASS}
+use Rattle.jvm_types.specs.declared.class_numbers.TheConstants.{SYSTEM_CLASS, CLASS_ITSELF}
+use Rattle.jvm_types.specs.declared.class_numbers.TheConstants.{FIRST_FILE_CLASS, OBJECT_CLASS}
+use Rattle.jvm_types.specs.declared.class_numbers.TheConstants.{THROWABLE_CLASS}
 
 -- ---- texts, which are compared byte by byte
 
@@ -35,14 +39,16 @@ class_names files = map class_name files
 
 -- ---- numbers
 
--- The built-in classes with a number, from 1 on. This machine has these and System, where the standard's
--- platform has many.
+-- The built-in classes with a number, from 1 on. This machine has these and System, where the
+-- standard's platform has many.
 abbrev pub numbered_names : List (List ℕ)
-numbered_names = codes "java/lang/Object" ∷ codes "[I" ∷ codes "java/io/PrintStream"
+numbered_names =
+    codes "java/lang/Object" ∷ codes "[I" ∷ codes "java/io/PrintStream"
     ∷ codes "java/lang/Throwable" ∷ codes "java/lang/Exception" ∷ codes "java/lang/Error"
     ∷ codes "java/lang/RuntimeException" ∷ codes "java/lang/InterruptedException"
     ∷ codes "java/lang/ArithmeticException" ∷ codes "java/lang/NullPointerException"
-    ∷ codes "java/lang/ArrayIndexOutOfBoundsException" ∷ codes "java/lang/NegativeArraySizeException"
+    ∷ codes "java/lang/ArrayIndexOutOfBoundsException"
+    ∷ codes "java/lang/NegativeArraySizeException"
     ∷ codes "java/lang/IllegalMonitorStateException" ∷ codes "java/lang/OutOfMemoryError"
     ∷ codes "java/lang/StackOverflowError" ∷ []
 
@@ -60,10 +66,13 @@ file_of_class class = class - FIRST_FILE_CLASS
 
 -- the number of a class by its name, among the built-in classes and those of the files
 abbrev pub class_number : List (List ℕ) → List ℕ → Option ℕ
-class_number names text = option_or (position_from (bytes_eq text) 1 numbered_names) (position_from (bytes_eq text) (file_class 0) names)
+class_number names text =
+    option_or (position_from (bytes_eq text) 1 numbered_names)
+    (position_from (bytes_eq text) (file_class 0) names)
 
 abbrev pub named_class : List (List ℕ) → List ℕ → Option ℕ
-named_class names text = if bytes_eq text system_name then Some SYSTEM_CLASS else class_number names text
+named_class names text =
+    if bytes_eq text system_name then Some SYSTEM_CLASS else class_number names text
 
 -- the names that no file may take: those of the built-in classes, and that of the array class
 abbrev pub is_built_in_name : List ℕ → Bool
@@ -79,11 +88,12 @@ is_throwable class = nat_le THROWABLE_CLASS class && nat_lt class CLASS_ITSELF
 abbrev pub has_built_in_init : ℕ → Bool
 has_built_in_init class = class == OBJECT_CLASS || is_throwable class
 
--- a class that a `new` may name: one of the program, Object or a throwable (JVMS 6.5, `new`; there every class that is
--- neither an interface nor abstract, while here PrintStream cannot be made)
+-- a class that a `new` may name: one of the program, Object or a throwable (JVMS 6.5, `new`; there
+-- every class that is neither an interface nor abstract, while here PrintStream cannot be made)
 abbrev pub can_be_made : ℕ → Bool
 can_be_made class = has_built_in_init class || nat_le (file_class 0) class
 
 -- a class that has objects, in a program of so many files
 abbrev pub is_class : ℕ → ℕ → Bool
-is_class files class = nat_lt 0 class && nat_lt class (file_class files) && not (class == CLASS_ITSELF)
+is_class files class =
+    nat_lt 0 class && nat_lt class (file_class files) && not (class == CLASS_ITSELF)

@@ -1,10 +1,14 @@
 -- What bytes are the code of a method, and which instructions they spell (JVMS 4.7.3, 4.9 and 6.5).
 -- An instruction is spelled at its pc, since the padding of a switch hangs on it.
-use Rattle.std.specs.Prelude.{◌≡◌, ℕ, ◌+◌, ◌-◌, ◌%◌, ◌<◌, ◌≤◌, ◌^◌, ℤ, pos, ◌+ℤ◌, ◌-ℤ◌, ◌<ℤ◌, FitsSigned, Bool, false, ◌==◌, ◌||◌, List, [], ◌∷◌, ◌++◌, length, IsSomeAnd, IsTrue, ◌⊎◌}
+use Rattle.std.specs.Prelude.{◌≡◌, ℕ, ◌+◌, ◌-◌, ◌%◌, ◌<◌, ◌≤◌, ◌^◌, ℤ, pos, ◌+ℤ◌, ◌-ℤ◌, ◌<ℤ◌}
+use Rattle.std.specs.Prelude.{FitsSigned, Bool, false, ◌==◌, ◌||◌, List, [], ◌∷◌, ◌++◌, length}
+use Rattle.std.specs.Prelude.{IsSomeAnd, IsTrue, ◌⊎◌}
 use Rattle.std.specs.List.{flat_map, AllByRecursion}
 use Rattle.std.specs.Int.{w8, w16, w32, cast_unsigned}
 use Rattle.jvm_types.specs.Numbers.{u1, u2, s4}
-use Rattle.jvm_types.specs.CodeTable.{Form, Plain, Byte, Short, SignedByte, SignedShort, Branch, WideBranch, LocalAndStep, IntArray, Table, Lookup, form_of, branches_to}
+use Rattle.jvm_types.specs.CodeTable.{Form, Plain, Byte, Short, SignedByte, SignedShort, Branch}
+use Rattle.jvm_types.specs.CodeTable.{WideBranch, LocalAndStep, IntArray, Table, Lookup, form_of}
+use Rattle.jvm_types.specs.CodeTable.{branches_to}
 use Rattle.jvm_types.specs.declared.class_file.Handler.{Handler}
 use Rattle.jvm_types.specs.declared.code.Case.{Case}
 use Rattle.jvm_types.specs.declared.code.Insn.{Insn}
@@ -28,8 +32,9 @@ offset pc to = pos to -ℤ pos pc
 abbrev pub padding_size : ℕ → ℕ
 padding_size pc = 3 - pc % 4
 
--- a `tableswitch` behind its padding, which may be of any bytes: default, low, high, then one offset for each
--- number from low to high. The standard asks for padding of zeros; this machine reads any.
+-- a `tableswitch` behind its padding, which may be of any bytes: default, low, high, then one
+-- offset for each number from low to high. The standard asks for padding of zeros; this machine
+-- reads any.
 pub record SpellsTable (pc : ℕ) (op : Op) (bytes : List ℕ) : Type 0 where
   pub padding : List ℕ
   pub otherwise : ℕ
@@ -37,7 +42,10 @@ pub record SpellsTable (pc : ℕ) (op : Op) (bytes : List ℕ) : Type 0 where
   pub high : ℤ
   pub targets : List ℕ
   pub is : op ≡ Tableswitch otherwise low targets
-  pub spelled : bytes ≡ padding ++ (s4 (offset pc otherwise) ++ s4 low ++ s4 high ++ flat_map (λ to. s4 (offset pc to)) targets)
+  pub spelled : bytes
+      ≡ padding
+      ++ (s4 (offset pc otherwise) ++ s4 low ++ s4 high
+      ++ flat_map (λ to. s4 (offset pc to)) targets)
   pub padded : length padding ≡ padding_size pc
   pub counted : pos (length targets) ≡ high -ℤ low +ℤ pos 1
   pub some : 0 < length targets
@@ -62,23 +70,31 @@ pub record SpellsLookup (pc : ℕ) (op : Op) (bytes : List ℕ) : Type 0 where
   pub otherwise : ℕ
   pub cases : List Case
   pub is : op ≡ Lookupswitch otherwise cases
-  pub spelled : bytes ≡ padding ++ (s4 (offset pc otherwise) ++ s4 (pos (length cases)) ++ flat_map (spelled_case pc) cases)
+  pub spelled : bytes
+      ≡ padding
+      ++ (s4 (offset pc otherwise) ++ s4 (pos (length cases)) ++ flat_map (spelled_case pc) cases)
   pub padded : length padding ≡ padding_size pc
   pub count_fits : length cases < 2 ^ 31
   pub ascending : KeysAscend cases
   pub default_fits : FitsSigned w32 (offset pc otherwise)
-  pub cases_fit : AllByRecursion (λ c. FitsSigned w32 c.key × FitsSigned w32 (offset pc c.target)) cases
+  pub cases_fit : AllByRecursion (λ c. FitsSigned w32 c.key × FitsSigned w32 (offset pc c.target))
+      cases
 
 -- the bytes behind an opcode, by the form of its operands
 abbrev pub SpellsOperands : ℕ → Form → Op → List ℕ → Type 0
 SpellsOperands pc (Plain plain) op bytes = (op ≡ plain) × (bytes ≡ [])
 SpellsOperands pc (Byte make) op bytes = (n : ℕ) × (op ≡ make n) × (bytes ≡ u1 n) × (n < 2 ^ 8)
 SpellsOperands pc (Short make) op bytes = (n : ℕ) × (op ≡ make n) × (bytes ≡ u2 n) × (n < 2 ^ 16)
-SpellsOperands pc (SignedByte make) op bytes = (n : ℤ) × (op ≡ make n) × (bytes ≡ s1 n) × FitsSigned w8 n
-SpellsOperands pc (SignedShort make) op bytes = (n : ℤ) × (op ≡ make n) × (bytes ≡ s2 n) × FitsSigned w16 n
-SpellsOperands pc (Branch make) op bytes = (to : ℕ) × (op ≡ make to) × (bytes ≡ s2 (offset pc to)) × FitsSigned w16 (offset pc to)
-SpellsOperands pc (WideBranch make) op bytes = (to : ℕ) × (op ≡ make to) × (bytes ≡ s4 (offset pc to)) × FitsSigned w32 (offset pc to)
-SpellsOperands pc (LocalAndStep make) op bytes = (i : ℕ) × (n : ℤ) × (op ≡ make i n) × (bytes ≡ u1 i ++ s1 n) × (i < 2 ^ 8) × FitsSigned w8 n
+SpellsOperands pc (SignedByte make) op bytes =
+    (n : ℤ) × (op ≡ make n) × (bytes ≡ s1 n) × FitsSigned w8 n
+SpellsOperands pc (SignedShort make) op bytes =
+    (n : ℤ) × (op ≡ make n) × (bytes ≡ s2 n) × FitsSigned w16 n
+SpellsOperands pc (Branch make) op bytes =
+    (to : ℕ) × (op ≡ make to) × (bytes ≡ s2 (offset pc to)) × FitsSigned w16 (offset pc to)
+SpellsOperands pc (WideBranch make) op bytes =
+    (to : ℕ) × (op ≡ make to) × (bytes ≡ s4 (offset pc to)) × FitsSigned w32 (offset pc to)
+SpellsOperands pc (LocalAndStep make) op bytes =
+    (i : ℕ) × (n : ℤ) × (op ≡ make i n) × (bytes ≡ u1 i ++ s1 n) × (i < 2 ^ 8) × FitsSigned w8 n
 SpellsOperands pc (IntArray array) op bytes = (op ≡ array) × (bytes ≡ u1 10)
 SpellsOperands pc Table op bytes = SpellsTable pc op bytes
 SpellsOperands pc Lookup op bytes = SpellsLookup pc op bytes
@@ -95,7 +111,10 @@ pub record SpellsOp (pc : ℕ) (op : Op) (bytes : List ℕ) : Type 0 where
 -- the bytes of instructions that follow one another from a pc on
 abbrev pub SpellsInsns : ℕ → List Insn → List ℕ → Type 0
 SpellsInsns pc [] bytes = bytes ≡ []
-SpellsInsns pc (insn ∷ insns) bytes = (front : List ℕ) × (rest : List ℕ) × (bytes ≡ front ++ rest) × (insn.pc ≡ pc) × (insn.next ≡ pc + length front) × SpellsOp pc insn.op front × SpellsInsns insn.next insns rest
+SpellsInsns pc (insn ∷ insns) bytes =
+    (front : List ℕ) × (rest : List ℕ) × (bytes ≡ front ++ rest) × (insn.pc ≡ pc)
+    × (insn.next ≡ pc + length front) × SpellsOp pc insn.op front
+    × SpellsInsns insn.next insns rest
 
 -- whether an instruction begins at a pc
 abbrev pub is_start : List Insn → ℕ → Bool

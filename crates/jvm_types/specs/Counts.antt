@@ -1,5 +1,6 @@
--- The lengths that the bytes of a class state fit their fields (JVMS 4.1): those of lists and texts two bytes, those of the
--- bodies of attributes and of codes four. A class that keeps the grammar has such lengths.
+-- The lengths that the bytes of a class state fit their fields (JVMS 4.1): those of lists and texts
+-- two bytes, those of the bodies of attributes and of codes four. A class that keeps the grammar
+-- has such lengths.
 use Rattle.std.specs.Prelude.{◌<◌, ◌^◌, length}
 use Rattle.jvm_types.specs.Spelling.{code_body}
 use Rattle.jvm_types.specs.ClassGrammar.{IsCounted}

@@ -1,6 +1,8 @@
--- Where the classes and fields of a program stand among the words of the machine, and what their static fields start with.
--- The standard leaves the layout open (JVMS 2.7); this is the machine's own.
-use Rattle.std.specs.Prelude.{ℕ, ℤ, ◌+◌, ◌%◌, pos, List, [], ◌∷◌, ◌++◌, Option, Some, None, slice_get, if◌then◌else◌}
+-- Where the classes and fields of a program stand among the words of the machine, and what their
+-- static fields start with. The standard leaves the layout open (JVMS 2.7); this is the machine's
+-- own.
+use Rattle.std.specs.Prelude.{ℕ, ℤ, ◌+◌, ◌%◌, pos, List, [], ◌∷◌, ◌++◌, Option, Some, None}
+use Rattle.std.specs.Prelude.{slice_get, if◌then◌else◌}
 use Rattle.std.specs.Option.{unwrap_or, option_and_then}
 use Rattle.std.specs.List.{sum_by, count_by}
 use Rattle.std.specs.Int.{w32, cast_unsigned}
@@ -45,13 +47,15 @@ kept_int kinds.Int n = n
 kept_int kinds.Bool n = pos (cast_unsigned w32 n % 2)
 kept_int (kinds.Ref class) n = pos 0
 
--- an Integer constant counts for a field of type I or Z, and is passed over for every other, as is every other constant
+-- an Integer constant counts for a field of type I or Z, and is passed over for every other, as is
+-- every other constant
 abbrev pub start_of_constant : Kind → Option Constant → ℤ
 start_of_constant kind (Some (Integer n)) = kept_int kind n
 start_of_constant kind entry = pos 0
 
 abbrev pub static_start : List Constant → Kind → ClassMember → ℤ
-static_start pool kind m = start_of_constant kind (option_and_then (λ i. slice_get pool i) (first_constant m.attrs))
+static_start pool kind m =
+    start_of_constant kind (option_and_then (λ i. slice_get pool i) (first_constant m.attrs))
 
 -- ---- fields
 
@@ -59,22 +63,34 @@ static_start pool kind m = start_of_constant kind (option_and_then (λ i. slice_
 abbrev pub kind_of : List (List ℕ) → List Constant → ClassMember → Kind
 kind_of names pool m = unwrap_or (field_kind names (text_at pool m.descriptor)) kinds.Int
 
-abbrev pub field_info : List (List ℕ) → (file : ℕ) → List Constant → (index : ℕ) → ClassMember → FieldInfo
+abbrev pub field_info : List (List ℕ) → (file : ℕ) → List Constant → (index : ℕ) → ClassMember
+    → FieldInfo
 field_info names file pool index m =
     let kind : Kind = kind_of names pool m in
-    record { class = file_class file; flags = m.flags; kind = kind; index = index; start = if is_static m.flags then static_start pool kind m else pos 0 }
+    record {
+      class = file_class file;
+      flags = m.flags;
+      kind = kind;
+      index = index;
+      start = if is_static m.flags then static_start pool kind m else pos 0;
+    }
 
--- the fields of one class in order: instance fields have the next places of its objects, static ones the next words
-abbrev pub fields_of : List (List ℕ) → (file : ℕ) → List Constant → (place word : ℕ) → List ClassMember → List FieldInfo
+-- the fields of one class in order: instance fields have the next places of its objects, static
+-- ones the next words
+abbrev pub fields_of : List (List ℕ) → (file : ℕ) → List Constant → (place word : ℕ)
+    → List ClassMember → List FieldInfo
 fields_of names file pool place word [] = []
 fields_of names file pool place word (m ∷ ms) =
     field_info names file pool (if is_static m.flags then word else place) m
-    ∷ fields_of names file pool (if is_static m.flags then place else place + 1) (if is_static m.flags then word + 1 else word) ms
+    ∷ fields_of names file pool (if is_static m.flags then place else place + 1)
+    (if is_static m.flags then word + 1 else word) ms
 
 -- those of the classes from a file on, whose words begin at a word
 abbrev pub fields_from : List (List ℕ) → (file word : ℕ) → List ClassFile → List FieldInfo
 fields_from names file word [] = []
-fields_from names file word (c ∷ cs) = fields_of names file c.constants 0 (word + OBJECT_HEAD_WORDS) c.fields ++ fields_from names (file + 1) (word + class_word_count c) cs
+fields_from names file word (c ∷ cs) =
+    fields_of names file c.constants 0 (word + OBJECT_HEAD_WORDS) c.fields
+    ++ fields_from names (file + 1) (word + class_word_count c) cs
 
 abbrev pub laid_out_fields : List (List ℕ) → List ClassFile → List FieldInfo
 laid_out_fields names files = fields_from names 0 FIRST_CLASS_WORD files

@@ -1,15 +1,20 @@
--- Why some class files are not linked (JVMS 4.1, 4.5, 4.6, 5.3, 5.4), and where. There are five passes over the files, and
--- the first refusal is the answer. The standard lets a machine resolve early or late, and reports an error only where the
--- name is used (JVMS 5.4); here every name that an instruction, a descriptor or a handler row has is resolved before the
--- program runs, reached or not, and no other name is.
-use Rattle.std.specs.Prelude.{◌≡◌, ℕ, bytes_eq, ◌+◌, nat_lt, ◌==◌, Bool, ◌&&◌, ◌||◌, not, List, [], ◌∷◌, length, map, take, Option, None, is_none, codes}
+-- Why some class files are not linked (JVMS 4.1, 4.5, 4.6, 5.3, 5.4), and where. There are five
+-- passes over the files, and the first refusal is the answer. The standard lets a machine resolve
+-- early or late, and reports an error only where the name is used (JVMS 5.4); here every name that
+-- an instruction, a descriptor or a handler row has is resolved before the program runs, reached or
+-- not, and no other name is.
+use Rattle.std.specs.Prelude.{◌≡◌, ℕ, bytes_eq, ◌+◌, nat_lt, ◌==◌, Bool, ◌&&◌, ◌||◌, not, List, []}
+use Rattle.std.specs.Prelude.{◌∷◌, length, map, take, Option, None, is_none, codes}
 use Rattle.std.specs.Option.{option_map, option_or}
 use Rattle.std.specs.Result.{result_err}
 use Rattle.std.specs.List.{list_any}
 use Rattle.jvm_types.specs.Numbers.{has_flag}
-use Rattle.jvm_types.specs.ClassNames.{text_at, class_text_at, class_name, class_names, is_built_in_name, file_class}
+use Rattle.jvm_types.specs.ClassNames.{text_at, class_text_at, class_name, class_names}
+use Rattle.jvm_types.specs.ClassNames.{is_built_in_name, file_class}
 use Rattle.jvm_types.specs.Descriptors.{field_kind, method_signature}
-use Rattle.jvm_types.specs.Members.{is_static, is_synchronized, is_class_init_name, Declared, name_of, descriptor_of, class_of_declared, declared_methods, first_rule}
+use Rattle.jvm_types.specs.Members.{is_static, is_synchronized, is_class_init_name, Declared}
+use Rattle.jvm_types.specs.Members.{name_of, descriptor_of, class_of_declared, declared_methods}
+use Rattle.jvm_types.specs.Members.{first_rule}
 use Rattle.jvm_types.specs.Targets.{Scope, target_of, catch_class}
 use Rattle.jvm_types.specs.Layout.{fixed_words}
 use Rattle.jvm_types.specs.Linked.{scope_of, coded_methods, code_of, site_of, program_of}
@@ -53,8 +58,8 @@ in_method file method at = record { file = file; method = method; at = at }
 
 -- ---- first pass, file by file: the class itself (JVMS 4.1, 5.3.5)
 
--- A superclass other than Object, an interface that is implemented, or a class that is an interface or abstract. The
--- standard has all of these.
+-- A superclass other than Object, an interface that is implemented, or a class that is an interface
+-- or abstract. The standard has all of these.
 abbrev pub is_outside : ClassFile → Bool
 is_outside c = not (bytes_eq (class_text_at c.constants c.super_class) (codes "java/lang/Object"))
     || nat_lt 0 (length c.interfaces) || has_flag INTERFACE c.flags || has_flag ABSTRACT c.flags
@@ -71,63 +76,85 @@ class_link_fault names file c = rule_at_place (in_file file 0) (first_rule (
 abbrev pub class_pass : List ClassFile → Option LinkFault
 class_pass files = first_from (class_link_fault (class_names files)) 0 files
 
--- ---- the methods that the machine begins with (JVMS 2.9, 5.5; `init`, `run` and `done` are its own)
+-- ---- the methods that the machine begins with (JVMS 2.9, 5.5; `init`, `run` and `done` are its
+-- own)
 
 -- the methods that start a part of the entry class, which is the class of the first file
 abbrev pub is_run : (name descriptor : List ℕ) → Bool
 is_run name descriptor = bytes_eq name (codes "run") && bytes_eq descriptor (codes "(I)V")
 
 abbrev pub is_entry : (name descriptor : List ℕ) → Bool
-is_entry name descriptor = is_run name descriptor
-    || (bytes_eq descriptor (codes "()V") && (bytes_eq name (codes "init") || bytes_eq name (codes "done")))
+is_entry name descriptor =
+    is_run name descriptor
+    || (bytes_eq descriptor (codes "()V")
+    && (bytes_eq name (codes "init") || bytes_eq name (codes "done")))
 
 -- ---- second pass, file by file: its fields, then its methods (JVMS 4.3, 4.5, 4.6)
 
 -- a member with the name and the descriptor of one before it in its class
 abbrev pub is_repeated : List Constant → List ClassMember → ClassMember → Bool
-is_repeated pool earlier m = list_any (λ e. bytes_eq (text_at pool e.name) (text_at pool m.name) && bytes_eq (text_at pool e.descriptor) (text_at pool m.descriptor)) earlier
+is_repeated pool earlier m =
+    list_any (λ e.
+    bytes_eq (text_at pool e.name) (text_at pool m.name)
+    && bytes_eq (text_at pool e.descriptor) (text_at pool m.descriptor)) earlier
 
-abbrev pub field_fault : List (List ℕ) → (file : ℕ) → ClassFile → (number : ℕ) → ClassMember → Option LinkFault
+abbrev pub field_fault : List (List ℕ) → (file : ℕ) → ClassFile → (number : ℕ) → ClassMember
+    → Option LinkFault
 field_fault names file c number m = rule_at_place (in_file file number) (first_rule (
     (is_none (field_kind names (text_at c.constants m.descriptor)), L1)
     ∷ (is_repeated c.constants (take number c.fields) m, L5) ∷ []))
 
--- no thread holds the monitor of a class when a part begins: a method that begins one may not be both static and
--- synchronized; in the standard it may
+-- no thread holds the monitor of a class when a part begins: a method that begins one may not be
+-- both static and synchronized; in the standard it may
 abbrev pub is_synchronized_root : (class : ℕ) (name descriptor : List ℕ) (flags : ℕ) → Bool
 is_synchronized_root class name descriptor flags =
-    is_static flags && is_synchronized flags && (is_class_init_name name || ((class == file_class 0) && is_entry name descriptor))
+    is_static flags && is_synchronized flags
+    && (is_class_init_name name || ((class == file_class 0) && is_entry name descriptor))
 
-abbrev pub method_fault : List (List ℕ) → (file : ℕ) → ClassFile → (number : ℕ) → ClassMember → Option LinkFault
+abbrev pub method_fault : List (List ℕ) → (file : ℕ) → ClassFile → (number : ℕ) → ClassMember
+    → Option LinkFault
 method_fault names file c number m = rule_at_place (in_method file number 0) (first_rule (
     (is_none (method_signature names (text_at c.constants m.descriptor)), L1)
     ∷ (is_repeated c.constants (take number c.methods) m, L5)
-    ∷ (is_synchronized_root (file_class file) (text_at c.constants m.name) (text_at c.constants m.descriptor) m.flags, L9) ∷ []))
+    ∷ (
+      is_synchronized_root (file_class file) (text_at c.constants m.name)
+          (text_at c.constants m.descriptor) m.flags,
+      L9,
+    ) ∷ []))
 
 abbrev pub members_fault : List (List ℕ) → (file : ℕ) → ClassFile → Option LinkFault
-members_fault names file c = option_or (first_from (field_fault names file c) 0 c.fields) (first_from (method_fault names file c) 0 c.methods)
+members_fault names file c =
+    option_or (first_from (field_fault names file c) 0 c.fields)
+    (first_from (method_fault names file c) 0 c.methods)
 
 abbrev pub member_pass : List ClassFile → Option LinkFault
 member_pass files = first_from (members_fault (class_names files)) 0 files
 
--- ---- third pass, method by method: its instructions by pc, then its handler rows (JVMS 5.4.3, 4.7.3)
+-- ---- third pass, method by method: its instructions by pc, then its handler rows (JVMS 5.4.3,
+-- 4.7.3)
 
 abbrev pub insn_fault : Scope → Declared → Insn → Option LinkFault
-insn_fault s d insn = rule_at_place (in_method d.file d.place insn.pc) (result_err (target_of s (site_of d) d.pool insn.op))
+insn_fault s d insn =
+    rule_at_place (in_method d.file d.place insn.pc)
+    (result_err (target_of s (site_of d) d.pool insn.op))
 
 abbrev pub row_fault : Scope → Declared → Handler → Option LinkFault
-row_fault s d h = rule_at_place (in_method d.file d.place h.start) (result_err (catch_class s d.pool h.catch_type))
+row_fault s d h =
+    rule_at_place (in_method d.file d.place h.start)
+    (result_err (catch_class s d.pool h.catch_type))
 
 abbrev pub uses_fault : Scope → Declared × List Insn → Option LinkFault
-uses_fault s m = option_or (first_fault (map (insn_fault s m.0) m.1)) (first_fault (map (row_fault s m.0) (code_of m.0.member.attrs).rows))
+uses_fault s m =
+    option_or (first_fault (map (insn_fault s m.0) m.1))
+    (first_fault (map (row_fault s m.0) (code_of m.0.member.attrs).rows))
 
 abbrev pub use_pass : List ClassFile → List (List Insn) → Option LinkFault
 use_pass files code = first_fault (map (uses_fault (scope_of files)) (coded_methods files code))
 
 -- ---- fourth pass: the methods that the machine begins with
 
--- a `<clinit>` that is not the static one without arguments, or an entry of the entry class that is not static; the standard
--- lets other methods named `<clinit>` stand, of no consequence (JVMS 2.9)
+-- a `<clinit>` that is not the static one without arguments, or an entry of the entry class that is
+-- not static; the standard lets other methods named `<clinit>` stand, of no consequence (JVMS 2.9)
 abbrev pub is_wrong_root : (class : ℕ) (name descriptor : List ℕ) (flags : ℕ) → Bool
 is_wrong_root class name descriptor flags =
     (is_class_init_name name && (not (is_static flags) || not (bytes_eq descriptor (codes "()V"))))
@@ -147,7 +174,8 @@ root_pass files workers = rule_at_place (in_file 0 0) (first_rule (
 -- ---- fifth pass: the fixed words fit in the heap
 
 abbrev pub word_pass : List ClassFile → (heap : ℕ) → Option LinkFault
-word_pass files heap = rule_at_place (in_file 0 0) (first_rule ((nat_lt heap (fixed_words files), L8) ∷ []))
+word_pass files heap =
+    rule_at_place (in_file 0 0) (first_rule ((nat_lt heap (fixed_words files), L8) ∷ []))
 
 -- ---- the whole
 
@@ -161,6 +189,7 @@ link_fault files code heap workers = first_fault (
     ∷ word_pass files heap ∷ [])
 
 -- no rule refuses the files, and this is their program
-pub record IsLinked (files : List ClassFile) (code : List (List Insn)) (heap workers : ℕ) (program : Program) : Type 0 where
+pub record IsLinked (files : List ClassFile) (code : List (List Insn)) (heap workers : ℕ)
+    (program : Program) : Type 0 where
   pub unrefused : link_fault files code heap workers ≡ None
   pub is : program ≡ program_of files code heap workers

@@ -9,4 +9,7 @@ use Rattle.jvm_types.specs.declared.program.Program.{Program}
 
 -- what files are linked to keeps the invariant of a program
 abbrev pub LinksToProgram : Type 0
-LinksToProgram = (files : List ClassFile) (code : List (List Insn)) (heap workers : ℕ) (program : Program) → IsLinkable files code heap workers → IsLinked files code heap workers program → IsProgram program
+LinksToProgram =
+    (files : List ClassFile) (code : List (List Insn)) (heap workers : ℕ) (program : Program)
+    → IsLinkable files code heap workers → IsLinked files code heap workers program
+    → IsProgram program

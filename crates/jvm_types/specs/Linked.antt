@@ -5,7 +5,9 @@ use Rattle.std.specs.Result.{result_unwrap_or}
 use Rattle.std.specs.List.{zip}
 use Rattle.jvm_types.specs.ClassNames.{class_names}
 use Rattle.jvm_types.specs.Descriptors.{Signature, method_signature}
-use Rattle.jvm_types.specs.Members.{built_in_fields, built_in_methods, Declared, class_of_declared, name_of, descriptor_of, declared_fields, declared_methods, entries_from, MethodSite}
+use Rattle.jvm_types.specs.Members.{built_in_fields, built_in_methods, Declared, class_of_declared}
+use Rattle.jvm_types.specs.Members.{name_of, descriptor_of, declared_fields, declared_methods}
+use Rattle.jvm_types.specs.Members.{entries_from, MethodSite}
 use Rattle.jvm_types.specs.Targets.{Scope, target_of, catch_class}
 use Rattle.jvm_types.specs.Layout.{laid_out_fields}
 use Rattle.jvm_types.specs.declared.class_file.Constant.{Constant}
@@ -29,7 +31,8 @@ scope_of files = record {
   methods = built_in_methods ++ entries_from targets.Method 0 (declared_methods files);
 }
 
--- the methods of all files, in order, each with its instructions, where `code` has the instructions of all methods in order
+-- the methods of all files, in order, each with its instructions, where `code` has the instructions
+-- of all methods in order
 abbrev pub coded_methods : List ClassFile → List (List Insn) → List (Declared × List Insn)
 coded_methods files code = zip (declared_methods files) code
 
@@ -45,15 +48,23 @@ code_of (attr ∷ attrs) = code_of attrs
 abbrev pub site_of : Declared → MethodSite
 site_of d = record { class = class_of_declared d; name = name_of d }
 
--- In what follows a name that does not resolve has some value. A program with such a name is refused.
+-- In what follows a name that does not resolve has some value. A program with such a name is
+-- refused.
 abbrev pub resolved_target : Scope → MethodSite → List Constant → Insn → Target
 resolved_target s site pool insn = result_unwrap_or (target_of s site pool insn.op) targets.Nothing
 
 abbrev pub resolved_row : Scope → List Constant → Handler → Row
-resolved_row s pool h = record { start = h.start; end = h.end; handler = h.handler; catch_class = result_unwrap_or (catch_class s pool h.catch_type) 0 }
+resolved_row s pool h =
+    record {
+      start = h.start;
+      end = h.end;
+      handler = h.handler;
+      catch_class = result_unwrap_or (catch_class s pool h.catch_type) 0;
+    }
 
 abbrev pub resolved_signature : Scope → List ℕ → Signature
-resolved_signature s text = unwrap_or (method_signature s.names text) (record { args = []; result = None })
+resolved_signature s text =
+    unwrap_or (method_signature s.names text) (record { args = []; result = None })
 
 abbrev pub linked_method : Scope → Declared → List Insn → MethodInfo
 linked_method s d insns =

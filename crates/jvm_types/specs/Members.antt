@@ -1,6 +1,8 @@
--- Members and how a name finds one (JVMS 5.4.3.2, 5.4.3.3): in the named class and then in Object, which is the superclass
--- of every class of a file, and an `<init>` in the named class alone (JVMS 5.4.3.3 with 6.5, `invokespecial`).
-use Rattle.std.specs.Prelude.{ℕ, bytes_eq, ◌+◌, ◌==◌, Bool, ◌&&◌, ◌||◌, not, List, [], ◌∷◌, ◌++◌, map, Option, Some, None, codes, if◌then◌else◌}
+-- Members and how a name finds one (JVMS 5.4.3.2, 5.4.3.3): in the named class and then in Object,
+-- which is the superclass of every class of a file, and an `<init>` in the named class alone (JVMS
+-- 5.4.3.3 with 6.5, `invokespecial`).
+use Rattle.std.specs.Prelude.{ℕ, bytes_eq, ◌+◌, ◌==◌, Bool, ◌&&◌, ◌||◌, not, List, [], ◌∷◌, ◌++◌}
+use Rattle.std.specs.Prelude.{map, Option, Some, None, codes, if◌then◌else◌}
 use Rattle.std.specs.Option.{option_or}
 use Rattle.std.specs.List.{find, range_with_len}
 use Rattle.jvm_types.specs.Numbers.{has_flag}
@@ -14,8 +16,11 @@ use Rattle.jvm_types.specs.declared.program.Target.{Target}
 use Rattle.jvm_types.specs.declared.program.Target.TheVariants as targets
 use Rattle.jvm_types.specs.declared.refusal.LRule.{LRule}
 use Rattle.jvm_types.specs.declared.refusal.LRule.TheVariants.{L2, L3, L7}
-use Rattle.jvm_types.specs.declared.flags.TheConstants.{PUBLIC, PRIVATE, STATIC, FINAL, SYNCHRONIZED}
-use Rattle.jvm_types.specs.declared.class_numbers.TheConstants.{THROWABLES, OBJECT_CLASS, PRINT_STREAM_CLASS, SYSTEM_CLASS, THROWABLE_CLASS}
+use Rattle.jvm_types.specs.declared.flags.TheConstants.{PUBLIC, PRIVATE, STATIC, FINAL}
+use Rattle.jvm_types.specs.declared.flags.TheConstants.{SYNCHRONIZED}
+use Rattle.jvm_types.specs.declared.class_numbers.TheConstants.{THROWABLES, OBJECT_CLASS}
+use Rattle.jvm_types.specs.declared.class_numbers.TheConstants.{PRINT_STREAM_CLASS, SYSTEM_CLASS}
+use Rattle.jvm_types.specs.declared.class_numbers.TheConstants.{THROWABLE_CLASS}
 
 -- ---- flags (JVMS 4.5, 4.6); every other flag has no effect
 
@@ -41,7 +46,8 @@ is_class_init_name name = bytes_eq name (codes "<clinit>")
 
 -- ---- the members that a constant may name
 
--- a field or a method, with the class that declares it, and with what an instruction's constant that names it stands for
+-- a field or a method, with the class that declares it, and with what an instruction's constant
+-- that names it stands for
 pub record Entry : Type 0 where
   pub class : ℕ
   pub name : List ℕ
@@ -51,11 +57,19 @@ pub record Entry : Type 0 where
 
 -- `java/lang/System.out`: public, static and final
 abbrev pub built_in_fields : List Entry
-built_in_fields = record { class = SYSTEM_CLASS; name = codes "out"; descriptor = codes "Ljava/io/PrintStream;"; flags = PUBLIC + STATIC + FINAL; target = targets.Out } ∷ []
+built_in_fields =
+    record {
+      class = SYSTEM_CLASS;
+      name = codes "out";
+      descriptor = codes "Ljava/io/PrintStream;";
+      flags = PUBLIC + STATIC + FINAL;
+      target = targets.Out;
+    } ∷ []
 
 -- a public instance method of a built-in class
 abbrev pub public_method : ℕ → List ℕ → List ℕ → Target → Entry
-public_method class name descriptor target = record { class = class; name = name; descriptor = descriptor; flags = PUBLIC; target = target }
+public_method class name descriptor target =
+    record { class = class; name = name; descriptor = descriptor; flags = PUBLIC; target = target }
 
 abbrev pub init_of : ℕ → Entry
 init_of class = public_method class (codes "<init>") (codes "()V") (targets.Init class)
@@ -69,8 +83,8 @@ built_in_methods = init_of OBJECT_CLASS
     ∷ public_method PRINT_STREAM_CLASS (codes "println") (codes "(I)V") targets.Println
     ∷ map init_of (range_with_len THROWABLE_CLASS THROWABLES)
 
--- a field or method that a file declares: the number of the file, its own number among those of its class, and the pool of
--- the file
+-- a field or method that a file declares: the number of the file, its own number among those of its
+-- class, and the pool of the file
 pub record Declared : Type 0 where
   pub file : ℕ
   pub place : ℕ
@@ -89,12 +103,15 @@ descriptor_of d = text_at d.pool d.member.descriptor
 -- the members of one file, in order, numbered from a place on
 abbrev pub declared_from : ℕ → List Constant → ℕ → List ClassMember → List Declared
 declared_from file pool place [] = []
-declared_from file pool place (m ∷ ms) = record { file = file; place = place; pool = pool; member = m } ∷ declared_from file pool (place + 1) ms
+declared_from file pool place (m ∷ ms) =
+    record { file = file; place = place; pool = pool; member = m }
+    ∷ declared_from file pool (place + 1) ms
 
 -- the members of all files, in order of the files, numbered from one on
 abbrev pub declared_by : (ClassFile → List ClassMember) → ℕ → List ClassFile → List Declared
 declared_by members file [] = []
-declared_by members file (c ∷ cs) = declared_from file c.constants 0 (members c) ++ declared_by members (file + 1) cs
+declared_by members file (c ∷ cs) =
+    declared_from file c.constants 0 (members c) ++ declared_by members (file + 1) cs
 
 abbrev pub declared_fields : List ClassFile → List Declared
 declared_fields files = declared_by (λ c. c.fields) 0 files
@@ -105,16 +122,27 @@ declared_methods files = declared_by (λ c. c.methods) 0 files
 -- members as entries, each with its number in the program, from one on
 abbrev pub entries_from : (ℕ → Target) → ℕ → List Declared → List Entry
 entries_from target number [] = []
-entries_from target number (d ∷ ds) = record { class = class_of_declared d; name = name_of d; descriptor = descriptor_of d; flags = d.member.flags; target = target number } ∷ entries_from target (number + 1) ds
+entries_from target number (d ∷ ds) =
+    record {
+      class = class_of_declared d;
+      name = name_of d;
+      descriptor = descriptor_of d;
+      flags = d.member.flags;
+      target = target number;
+    } ∷ entries_from target (number + 1) ds
 
 -- ---- look-up
 
 -- the member of just this class with this name and descriptor
 abbrev pub member_in : List Entry → ℕ → List ℕ → List ℕ → Option Entry
-member_in entries class name descriptor = find (λ e. (e.class == class) && bytes_eq e.name name && bytes_eq e.descriptor descriptor) entries
+member_in entries class name descriptor =
+    find (λ e. (e.class == class) && bytes_eq e.name name && bytes_eq e.descriptor descriptor)
+    entries
 
 abbrev pub look_up : List Entry → ℕ → List ℕ → List ℕ → Option Entry
-look_up entries class name descriptor = option_or (member_in entries class name descriptor) (if is_init_name name then None else member_in entries OBJECT_CLASS name descriptor)
+look_up entries class name descriptor =
+    option_or (member_in entries class name descriptor)
+    (if is_init_name name then None else member_in entries OBJECT_CLASS name descriptor)
 
 -- ---- what a member allows
 
@@ -132,29 +160,38 @@ pub record MethodSite : Type 0 where
 abbrev pub is_hidden : MethodSite → ℕ → ℕ → Bool
 is_hidden site class flags = is_private flags && not (class == site.class)
 
--- Whether the site may write final fields of a class: static ones in its `<clinit>`, instance fields in its `<init>`, on
--- whichever object (JVMS 6.5, `putfield` and `putstatic`, has it "in the current class"; here the method counts too).
+-- Whether the site may write final fields of a class: static ones in its `<clinit>`, instance
+-- fields in its `<init>`, on whichever object (JVMS 6.5, `putfield` and `putstatic`, has it "in the
+-- current class"; here the method counts too).
 abbrev pub initializes : MethodSite → Bool → ℕ → Bool
-initializes site static class = (class == site.class) && (if static then is_class_init_name site.name else is_init_name site.name)
+initializes site static class =
+    (class == site.class)
+    && (if static then is_class_init_name site.name else is_init_name site.name)
 
 -- an instruction for static fields on an instance field, or the reverse
 abbrev pub is_other_sort : (static : Bool) → (flags : ℕ) → Bool
 is_other_sort static flags = if static then not (is_static flags) else is_static flags
 
--- The rule that refuses the use of a field with this class and these flags, by an instruction for static fields or not,
--- which writes or not. `System.out` is of no file, so that no site may write it.
+-- The rule that refuses the use of a field with this class and these flags, by an instruction for
+-- static fields or not, which writes or not. `System.out` is of no file, so that no site may write
+-- it.
 abbrev pub field_rule : (static writes : Bool) → MethodSite → (class flags : ℕ) → Option LRule
 field_rule static writes site class flags = first_rule (
     (is_other_sort static flags, L2)
     ∷ (is_hidden site class flags, L3)
     ∷ (writes && is_final flags && not (initializes site static class), L7) ∷ [])
 
--- Whether a call has the kind of its method (JVMS 4.9.1, 6.5). `invokespecial` is for an `<init>` and for a private instance
--- method of the own class; the standard's calls of a superclass's methods by it are refused. Nothing calls a `<clinit>`.
+-- Whether a call has the kind of its method (JVMS 4.9.1, 6.5). `invokespecial` is for an `<init>`
+-- and for a private instance method of the own class; the standard's calls of a superclass's
+-- methods by it are refused. Nothing calls a `<clinit>`.
 abbrev pub fits_call : Call → MethodSite → (class : ℕ) (name : List ℕ) (flags : ℕ) → Bool
-fits_call Virtual site class name flags = not (is_static flags || is_init_name name || is_class_init_name name)
-fits_call Special site class name flags = not (is_static flags || is_class_init_name name) && (is_init_name name || (is_private flags && (class == site.class)))
-fits_call Static site class name flags = is_static flags && not (is_init_name name || is_class_init_name name)
+fits_call Virtual site class name flags =
+    not (is_static flags || is_init_name name || is_class_init_name name)
+fits_call Special site class name flags =
+    not (is_static flags || is_class_init_name name)
+    && (is_init_name name || (is_private flags && (class == site.class)))
+fits_call Static site class name flags =
+    is_static flags && not (is_init_name name || is_class_init_name name)
 
 -- the rule that refuses a call of a method with this class, name and flags
 abbrev pub call_rule : Call → MethodSite → (class : ℕ) (name : List ℕ) (flags : ℕ) → Option LRule

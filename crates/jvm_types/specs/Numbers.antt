@@ -1,5 +1,6 @@
 -- The numbers of a class file: unsigned, the high byte first (JVMS 4, "u1, u2, u4").
-use Rattle.std.specs.Prelude.{ℕ, ℤ, ◌/◌, ◌%◌, ◌==◌, ◌||◌, Bool, false, not, List, [], ◌∷◌, ◌++◌, bit_and}
+use Rattle.std.specs.Prelude.{ℕ, ℤ, ◌/◌, ◌%◌, ◌==◌, ◌||◌, Bool, false, not, List, [], ◌∷◌, ◌++◌}
+use Rattle.std.specs.Prelude.{bit_and}
 use Rattle.std.specs.Int.{w32, cast_unsigned}
 
 abbrev pub u1 : ℕ → List ℕ

@@ -15,4 +15,5 @@ abbrev pub NamesClass : List Constant → ℕ → Type 0
 NamesClass pool i = (name : ℕ) × (slice_get pool i ≡ Some (Class name))
 
 abbrev pub NamesNameAndType : List Constant → ℕ → Type 0
-NamesNameAndType pool i = (name : ℕ) × (descriptor : ℕ) × (slice_get pool i ≡ Some (NameAndType name descriptor))
+NamesNameAndType pool i =
+    (name : ℕ) × (descriptor : ℕ) × (slice_get pool i ≡ Some (NameAndType name descriptor))

@@ -1,6 +1,8 @@
--- What holds of every linked program, in the program's own terms: its files and their constant pools are gone. What is
--- above linking rests on this alone.
-use Rattle.std.specs.Prelude.{◌≡◌, ℕ, ◌⊎◌, ◌+◌, ◌-◌, ◌*◌, ◌<◌, ◌≤◌, ◌==◌, pos, FitsSigned, Bool, true, false, not, ◌&&◌, bytes_eq, List, length, take, Some, None, IsSomeAnd, IfSome, IsTrue, slice_get, if◌then◌else◌}
+-- What holds of every linked program, in the program's own terms: its files and their constant
+-- pools are gone. What is above linking rests on this alone.
+use Rattle.std.specs.Prelude.{◌≡◌, ℕ, ◌⊎◌, ◌+◌, ◌-◌, ◌*◌, ◌<◌, ◌≤◌, ◌==◌, pos, FitsSigned, Bool}
+use Rattle.std.specs.Prelude.{true, false, not, ◌&&◌, bytes_eq, List, length, take, Some, None}
+use Rattle.std.specs.Prelude.{IsSomeAnd, IfSome, IsTrue, slice_get, if◌then◌else◌}
 use Rattle.std.specs.List.{AllByRecursion, AllZip, count_by, sum_by, list_any}
 use Rattle.std.specs.Int.{w32}
 use Rattle.jvm_types.specs.ClassNames.{file_class, is_class, can_be_made, has_built_in_init}
@@ -13,7 +15,9 @@ use Rattle.jvm_types.specs.LinkFaults.{is_taken, is_run, is_wrong_root, is_synch
 use Rattle.jvm_types.specs.CodeGrammar.{IsCode}
 use Rattle.jvm_types.specs.declared.class_file.Handler.{Handler}
 use Rattle.jvm_types.specs.declared.code.Op.{Op}
-use Rattle.jvm_types.specs.declared.code.Op.TheVariants.{Ldc, LdcW, Getstatic, Putstatic, Getfield, Putfield, Invokevirtual, Invokespecial, Invokestatic, New}
+use Rattle.jvm_types.specs.declared.code.Op.TheVariants.{Ldc, LdcW, Getstatic, Putstatic, Getfield}
+use Rattle.jvm_types.specs.declared.code.Op.TheVariants.{Putfield, Invokevirtual, Invokespecial}
+use Rattle.jvm_types.specs.declared.code.Op.TheVariants.{Invokestatic, New}
 use Rattle.jvm_types.specs.declared.program.Kind.{Kind}
 use Rattle.jvm_types.specs.declared.program.Kind.TheVariants as kinds
 use Rattle.jvm_types.specs.declared.program.FieldInfo.{FieldInfo}
@@ -23,7 +27,9 @@ use Rattle.jvm_types.specs.declared.program.Row.{Row}
 use Rattle.jvm_types.specs.declared.program.MethodInfo.{MethodInfo}
 use Rattle.jvm_types.specs.declared.program.Program.{Program}
 use Rattle.jvm_types.specs.declared.fixed_words.TheConstants.{OBJECT_HEAD_WORDS, FIRST_CLASS_WORD}
-use Rattle.jvm_types.specs.declared.limits.TheConstants.{MOST_COUNTED, MOST_FILES, MOST_INSTRUCTIONS, MOST_WORKERS, LEAST_HEAP, MOST_HEAP}
+use Rattle.jvm_types.specs.declared.limits.TheConstants.{MOST_COUNTED, MOST_FILES}
+use Rattle.jvm_types.specs.declared.limits.TheConstants.{MOST_INSTRUCTIONS, MOST_WORKERS}
+use Rattle.jvm_types.specs.declared.limits.TheConstants.{LEAST_HEAP, MOST_HEAP}
 
 -- ---- classes and types
 
@@ -49,11 +55,14 @@ statics_among fields = count_by (λ f. is_static f.flags) fields
 abbrev pub instances_among : ℕ → List FieldInfo → ℕ
 instances_among class fields = count_by (λ f. (f.class == class) && not (is_static f.flags)) fields
 
--- The place of a field behind those that stand before it: a static field has the next word, where its class and each one
--- before that have two words of their own; an instance field has the next place of its class's objects.
+-- The place of a field behind those that stand before it: a static field has the next word, where
+-- its class and each one before that have two words of their own; an instance field has the next
+-- place of its class's objects.
 abbrev pub index_after : List FieldInfo → FieldInfo → ℕ
 index_after earlier f =
-    if is_static f.flags then FIRST_CLASS_WORD + OBJECT_HEAD_WORDS * (f.class - file_class 0 + 1) + statics_among earlier
+    if is_static f.flags
+    then FIRST_CLASS_WORD + OBJECT_HEAD_WORDS * (f.class - file_class 0 + 1)
+    + statics_among earlier
     else instances_among f.class earlier
 
 -- the words that the program has from the start on
@@ -77,13 +86,16 @@ pub record IsFieldOf (p : Program) (before : List FieldInfo) (f : FieldInfo) : T
 
 -- a field that an instruction for static fields or not, which writes or not, may use at a site
 abbrev pub IsFieldTarget : Program → MethodSite → (static writes : Bool) → Target → Type 0
-IsFieldTarget p site static writes (targets.Field number) = IsSomeAnd (slice_get p.fields number) (λ f. field_rule static writes site f.class f.flags ≡ None)
+IsFieldTarget p site static writes (targets.Field number) =
+    IsSomeAnd (slice_get p.fields number)
+    (λ f. field_rule static writes site f.class f.flags ≡ None)
 IsFieldTarget p site true false targets.Out = Unit {0}
 IsFieldTarget p site static writes target = ⊥
 
 -- a method that a call may name at a site
 abbrev pub IsMethodTarget : Program → MethodSite → Call → Target → Type 0
-IsMethodTarget p site call (targets.Method number) = IsSomeAnd (slice_get p.methods number) (λ m. call_rule call site m.class m.name m.flags ≡ None)
+IsMethodTarget p site call (targets.Method number) =
+    IsSomeAnd (slice_get p.methods number) (λ m. call_rule call site m.class m.name m.flags ≡ None)
 IsMethodTarget p site Special (targets.Init class) = IsTrue (has_built_in_init class)
 IsMethodTarget p site Virtual targets.Println = Unit {0}
 IsMethodTarget p site Virtual targets.Wait = Unit {0}
@@ -139,15 +151,18 @@ site_in m = record { class = m.class; name = m.name }
 
 -- a method of the same class, name and descriptor
 abbrev pub is_same_method : MethodInfo → MethodInfo → Bool
-is_same_method e m = (e.class == m.class) && (bytes_eq e.name m.name && bytes_eq e.descriptor m.descriptor)
+is_same_method e m =
+    (e.class == m.class) && (bytes_eq e.name m.name && bytes_eq e.descriptor m.descriptor)
 
 -- a method of the program, behind those before it
 pub record IsMethodOf (p : Program) (before : List MethodInfo) (m : MethodInfo) : Type 0 where
   pub class : IsFileClass p m.class
-  -- methods stand in order of their classes, which is the order in which `<clinit>`s run and marks are listed
+  -- methods stand in order of their classes, which is the order in which `<clinit>`s run and marks
+  -- are listed
   pub ordered : AllByRecursion (λ e. e.class ≤ m.class) before
   pub distinct : AllByRecursion (λ e. is_same_method e m ≡ false) before
-  pub described : method_signature p.names m.descriptor ≡ Some (record { args = m.args; result = m.result })
+  pub described : method_signature p.names m.descriptor
+      ≡ Some (record { args = m.args; result = m.result })
   pub args : AllByRecursion (IsKindOf p) m.args
   pub result : IfSome m.result (IsKindOf p)
   pub coded : IsCoded m
@@ -166,9 +181,13 @@ pub record IsProgram (p : Program) : Type 0 where
   pub heap_to : p.heap ≤ MOST_HEAP
   pub words : words_of p ≤ p.heap
   -- no class has the name of a built-in one or of one before it
-  pub names : (number : ℕ) (name : List ℕ) → slice_get p.names number ≡ Some name → is_taken (take number p.names) name ≡ false
-  pub fields : (number : ℕ) (f : FieldInfo) → slice_get p.fields number ≡ Some f → IsFieldOf p (take number p.fields) f
-  pub methods : (number : ℕ) (m : MethodInfo) → slice_get p.methods number ≡ Some m → IsMethodOf p (take number p.methods) m
+  pub names : (number : ℕ) (name : List ℕ) → slice_get p.names number ≡ Some name
+      → is_taken (take number p.names) name ≡ false
+  pub fields : (number : ℕ) (f : FieldInfo) → slice_get p.fields number ≡ Some f
+      → IsFieldOf p (take number p.fields) f
+  pub methods : (number : ℕ) (m : MethodInfo) → slice_get p.methods number ≡ Some m
+      → IsMethodOf p (take number p.methods) m
   -- with workers there is a `run(I)V` of the first class
-  pub run : 0 < p.workers → list_any (λ m. (m.class == file_class 0) && is_run m.name m.descriptor) p.methods ≡ true
+  pub run : 0 < p.workers
+      → list_any (λ m. (m.class == file_class 0) && is_run m.name m.descriptor) p.methods ≡ true
   pub size : sum_by (λ m. length m.code) p.methods ≤ MOST_INSTRUCTIONS

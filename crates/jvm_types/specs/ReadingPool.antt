@@ -1,15 +1,21 @@
 -- Reading the constant pool (JVMS 4.4), and what an index of it is to name.
-use Rattle.std.specs.Prelude.{ℕ, zero, suc, ◌+◌, ◌*◌, ◌-◌, ◌==◌, Bool, true, false, not, ◌&&◌, List, [], ◌∷◌, length, Option, Some, Result, Ok, nat_lt, if◌then◌else◌, slice_get, bytes_eq}
+use Rattle.std.specs.Prelude.{ℕ, zero, suc, ◌+◌, ◌*◌, ◌-◌, ◌==◌, Bool, true, false, not, ◌&&◌, List}
+use Rattle.std.specs.Prelude.{[], ◌∷◌, length, Option, Some, Result, Ok, nat_lt, if◌then◌else◌}
+use Rattle.std.specs.Prelude.{slice_get, bytes_eq}
 use Rattle.std.specs.Int.{w32, cast_signed}
 use Rattle.jvm_types.specs.declared.refusal.CRule.TheVariants.{C4, C5, C6}
 use Rattle.jvm_types.specs.declared.index_kind.IndexKind.{IndexKind}
 use Rattle.jvm_types.specs.declared.index_kind.IndexKind.TheVariants as kinds
 use Rattle.jvm_types.specs.declared.class_file.Constant.{Constant}
 use Rattle.jvm_types.specs.declared.class_file.TheConstants.{TEXT_BYTES_END}
-use Rattle.jvm_types.specs.declared.class_file.Constant.TheVariants.{Gap, Utf8, Integer, Float, Long, Double, Class, Text, Field, Method, InterfaceMethod, NameAndType}
+use Rattle.jvm_types.specs.declared.class_file.Constant.TheVariants.{Gap, Utf8, Integer, Float}
+use Rattle.jvm_types.specs.declared.class_file.Constant.TheVariants.{Long, Double, Class, Text}
+use Rattle.jvm_types.specs.declared.class_file.Constant.TheVariants.{Field, Method, InterfaceMethod}
+use Rattle.jvm_types.specs.declared.class_file.Constant.TheVariants.{NameAndType}
 use Rattle.jvm_types.specs.Spelling.{constant}
 use Rattle.jvm_types.specs.ClassGrammar.{is_wide}
-use Rattle.jvm_types.specs.ReadingSteps.{Fault, fault, ◌>>=◌, fault_unless, u1_at, u2_at, u4_at, byte_run_at}
+use Rattle.jvm_types.specs.ReadingSteps.{Fault, fault, ◌>>=◌, fault_unless, u1_at, u2_at, u4_at}
+use Rattle.jvm_types.specs.ReadingSteps.{byte_run_at}
 
 -- ---- indices
 
@@ -119,7 +125,8 @@ entries_at (suc n) false bytes = do
 -- ---- the indices of the pool's own entries, once the whole pool was read
 
 -- the two indices of an entry, which stand one and three bytes behind its tag
-unfoldable pub both_wanted : IndexKind → IndexKind → List Constant → ℕ → ℕ → ℕ → Result (Unit {0}) Fault
+unfoldable pub both_wanted : IndexKind → IndexKind → List Constant → ℕ → ℕ → ℕ
+    → Result (Unit {0}) Fault
 both_wanted kind other pool i j left = do
   ok ← fault_unless (names kind pool i) C5 (left - 1)
   fault_unless (names other pool j) C5 (left - 3)
@@ -127,11 +134,16 @@ both_wanted kind other pool i j left = do
 -- C5 at an index of the entry; and at its tag, where the last entry is a Long or a Double
 unfoldable pub entry_wanted : List Constant → Constant → Bool → ℕ → Result (Unit {0}) Fault
 entry_wanted pool (Class name) last left = fault_unless (names kinds.Utf8 pool name) C5 (left - 1)
-entry_wanted pool (Text string) last left = fault_unless (names kinds.Utf8 pool string) C5 (left - 1)
-entry_wanted pool (Field class member) last left = both_wanted kinds.Class kinds.NameAndType pool class member left
-entry_wanted pool (Method class member) last left = both_wanted kinds.Class kinds.NameAndType pool class member left
-entry_wanted pool (InterfaceMethod class member) last left = both_wanted kinds.Class kinds.NameAndType pool class member left
-entry_wanted pool (NameAndType name descriptor) last left = both_wanted kinds.Utf8 kinds.Utf8 pool name descriptor left
+entry_wanted pool (Text string) last left =
+    fault_unless (names kinds.Utf8 pool string) C5 (left - 1)
+entry_wanted pool (Field class member) last left =
+    both_wanted kinds.Class kinds.NameAndType pool class member left
+entry_wanted pool (Method class member) last left =
+    both_wanted kinds.Class kinds.NameAndType pool class member left
+entry_wanted pool (InterfaceMethod class member) last left =
+    both_wanted kinds.Class kinds.NameAndType pool class member left
+entry_wanted pool (NameAndType name descriptor) last left =
+    both_wanted kinds.Utf8 kinds.Utf8 pool name descriptor left
 entry_wanted pool c last left = fault_unless (not (is_wide c && last)) C5 left
 
 -- the same of the entries one after another; from the first of them on there are so many bytes

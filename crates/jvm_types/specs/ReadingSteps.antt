@@ -1,6 +1,8 @@
 -- Reading bytes from left to right, with the first condition that stands.
--- A step (`.._at`) answers a value and the bytes after it, or a fault; a test (`..wanted`) answers only whether it is met.
-use Rattle.std.specs.Prelude.{ℕ, zero, suc, ◌+◌, ◌*◌, Bool, true, false, List, [], ◌∷◌, length, take, drop, Result, Ok, Err, nat_lt, if◌then◌else◌}
+-- A step (`.._at`) answers a value and the bytes after it, or a fault; a test (`..wanted`) answers
+-- only whether it is met.
+use Rattle.std.specs.Prelude.{ℕ, zero, suc, ◌+◌, ◌*◌, Bool, true, false, List, [], ◌∷◌, length}
+use Rattle.std.specs.Prelude.{take, drop, Result, Ok, Err, nat_lt, if◌then◌else◌}
 use Rattle.jvm_types.specs.declared.refusal.CRule.{CRule}
 use Rattle.jvm_types.specs.declared.refusal.CRule.TheVariants.{C3, C7, C8}
 
@@ -39,12 +41,14 @@ u4_at bytes = fault C3 (length bytes)
 
 -- a run of so many bytes
 unfoldable pub byte_run_at : ℕ → List ℕ → Result (List ℕ × List ℕ) Fault
-byte_run_at n bytes = if nat_lt (length bytes) n then fault C3 (length bytes) else Ok (take n bytes, drop n bytes)
+byte_run_at n bytes =
+    if nat_lt (length bytes) n then fault C3 (length bytes) else Ok (take n bytes, drop n bytes)
 
 -- ---- lists
 
 -- so many items
-unfoldable pub many_at : {A : Type 0} → (List ℕ → Result (A × List ℕ) Fault) → ℕ → List ℕ → Result (List A × List ℕ) Fault
+unfoldable pub many_at : {A : Type 0} → (List ℕ → Result (A × List ℕ) Fault) → ℕ → List ℕ
+    → Result (List A × List ℕ) Fault
 many_at item_at zero bytes = Ok ([], bytes)
 many_at item_at (suc n) bytes = do
   first ← item_at bytes
@@ -52,7 +56,8 @@ many_at item_at (suc n) bytes = do
   Ok (first.0 ∷ others.0, others.1)
 
 -- their count in two bytes, and the items
-unfoldable pub counted_at : {A : Type 0} → (List ℕ → Result (A × List ℕ) Fault) → List ℕ → Result (List A × List ℕ) Fault
+unfoldable pub counted_at : {A : Type 0} → (List ℕ → Result (A × List ℕ) Fault) → List ℕ
+    → Result (List A × List ℕ) Fault
 counted_at item_at bytes = do
   n ← u2_at bytes
   many_at item_at n.0 n.1
@@ -70,8 +75,8 @@ whole (Err f) = Err f
 
 -- ---- what was cut out by a length
 
--- A body is read by itself. Where its parts want more or fewer bytes than the length says, that is C7 at the length.
--- Every other fault keeps its place: behind the body there are so many bytes.
+-- A body is read by itself. Where its parts want more or fewer bytes than the length says, that is
+-- C7 at the length. Every other fault keeps its place: behind the body there are so many bytes.
 abbrev pub fault_moved : CRule → ℕ → ℕ → ℕ → Fault
 fault_moved C3 left at_length behind = record { rule = C7; left = at_length }
 fault_moved C8 left at_length behind = record { rule = C7; left = at_length }

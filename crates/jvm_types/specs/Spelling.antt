@@ -3,7 +3,10 @@ use Rattle.std.specs.Prelude.{ℕ, List, [], ◌++◌, length}
 use Rattle.std.specs.List.{flat_map}
 use Rattle.jvm_types.specs.Numbers.{u1, u2, u4, u8, s4}
 use Rattle.jvm_types.specs.declared.class_file.Constant.{Constant}
-use Rattle.jvm_types.specs.declared.class_file.Constant.TheVariants.{Gap, Utf8, Integer, Float, Long, Double, Class, Text, Field, Method, InterfaceMethod, NameAndType}
+use Rattle.jvm_types.specs.declared.class_file.Constant.TheVariants.{Gap, Utf8, Integer, Float}
+use Rattle.jvm_types.specs.declared.class_file.Constant.TheVariants.{Long, Double, Class, Text}
+use Rattle.jvm_types.specs.declared.class_file.Constant.TheVariants.{Field, Method, InterfaceMethod}
+use Rattle.jvm_types.specs.declared.class_file.Constant.TheVariants.{NameAndType}
 use Rattle.jvm_types.specs.declared.class_file.Attr.{Attr}
 use Rattle.jvm_types.specs.declared.class_file.Handler.{Handler}
 use Rattle.jvm_types.specs.declared.class_file.Code.{Code}
@@ -42,7 +45,9 @@ handler h = u2 h.start ++ u2 h.end ++ u2 h.handler ++ u2 h.catch_type
 
 -- what stands behind the length of a Code attribute (JVMS 4.7.3)
 abbrev pub code_body : Code → List ℕ
-code_body c = u2 c.max_stack ++ u2 c.max_locals ++ u4 (length c.bytes) ++ c.bytes ++ counted handler c.rows ++ counted attr c.attrs
+code_body c =
+    u2 c.max_stack ++ u2 c.max_locals ++ u4 (length c.bytes) ++ c.bytes ++ counted handler c.rows
+    ++ counted attr c.attrs
 
 -- an attribute of a field or a method (JVMS 4.7.2, 4.7.3)
 abbrev pub member_attr : MemberAttr → List ℕ

@@ -1,7 +1,8 @@
--- The types of verification by inference, their order, and frames of them (JVMS 4.10.2.2). The types of one
--- place: int, null, references to a class, `this` and what `new` made before they are initialised, and none.
--- There is no long, float, double and returnAddress.
-use Rattle.std.specs.Prelude.{ℕ, ◌-◌, Bool, true, false, not, ◌&&◌, ◌||◌, ◌==◌, if◌then◌else◌, List, [], ◌∷◌, ◌++◌, length, map, replicate}
+-- The types of verification by inference, their order, and frames of them (JVMS 4.10.2.2). The
+-- types of one place: int, null, references to a class, `this` and what `new` made before they are
+-- initialised, and none. There is no long, float, double and returnAddress.
+use Rattle.std.specs.Prelude.{ℕ, ◌-◌, Bool, true, false, not, ◌&&◌, ◌||◌, ◌==◌, if◌then◌else◌, List}
+use Rattle.std.specs.Prelude.{[], ◌∷◌, ◌++◌, length, map, replicate}
 use Rattle.jvm_types.specs.Members.{is_static}
 use Rattle.jvm_types.specs.ClassTree.{is_subclass, common_ancestor}
 use Rattle.jvm_types.specs.CodeTable.{type_of, is_init}
@@ -11,8 +12,8 @@ use Rattle.jvm_types.specs.declared.program.MethodInfo.{MethodInfo}
 
 -- ---- the order of types
 
--- null is below every class, and a class below its ancestors; no type of an uninitialised object is below
--- another; all are below Top
+-- null is below every class, and a class below its ancestors; no type of an uninitialised object is
+-- below another; all are below Top
 abbrev pub is_below : VType → VType → Bool
 is_below t Top = true
 is_below Int Int = true
@@ -60,8 +61,8 @@ is_new t = false
 
 -- ---- frames
 
--- the types before an instruction, with the top of the stack first; in an `<init>` it also says whether `this`
--- is initialised
+-- the types before an instruction, with the top of the stack first; in an `<init>` it also says
+-- whether `this` is initialised
 pub record TypeFrame : Type 0 where
   pub stack : List VType
   pub locals : List VType
@@ -79,18 +80,28 @@ meets ts us = []
 
 -- one frame is below another: place by place, and `this` is initialised where the other says so
 abbrev pub frame_below : TypeFrame → TypeFrame → Bool
-frame_below f g = all_pairs is_below f.stack g.stack && all_pairs is_below f.locals g.locals && (f.ready || not g.ready)
+frame_below f g =
+    all_pairs is_below f.stack g.stack && all_pairs is_below f.locals g.locals
+    && (f.ready || not g.ready)
 
 abbrev pub same_ready : Bool → Bool → Bool
 same_ready true other = other
 same_ready false other = not other
 
 abbrev pub same_frame : TypeFrame → TypeFrame → Bool
-same_frame f g = all_pairs same_type f.stack g.stack && all_pairs same_type f.locals g.locals && same_ready f.ready g.ready
+same_frame f g =
+    all_pairs same_type f.stack g.stack && all_pairs same_type f.locals g.locals
+    && same_ready f.ready g.ready
 
--- the frame where two edges meet, whose stacks are of one depth: `this` is initialised where both say so
+-- the frame where two edges meet, whose stacks are of one depth: `this` is initialised where both
+-- say so
 abbrev pub meet_frames : TypeFrame → TypeFrame → TypeFrame
-meet_frames f g = record { stack = meets f.stack g.stack; locals = meets f.locals g.locals; ready = f.ready && g.ready }
+meet_frames f g =
+    record {
+      stack = meets f.stack g.stack;
+      locals = meets f.locals g.locals;
+      ready = f.ready && g.ready;
+    }
 
 -- ---- the start of a method
 
@@ -104,4 +115,9 @@ receiver_types m = if is_static m.flags then [] else (if is_init m then This els
 
 -- the frame at pc 0; it has more locals than max_locals where the arguments do not fit
 abbrev pub entry_type_frame : MethodInfo → TypeFrame
-entry_type_frame m = record { stack = []; locals = filled m.max_locals (receiver_types m ++ map type_of m.args); ready = not (is_init m) }
+entry_type_frame m =
+    record {
+      stack = [];
+      locals = filled m.max_locals (receiver_types m ++ map type_of m.args);
+      ready = not (is_init m);
+    }

@@ -1,16 +1,23 @@
--- Verification by inference of types (JVMS 4.10.2): the rules at one instruction, its edges, and the visits.
--- The instruction that is visited next is the waiting one of least pc; the standard leaves this open.
-use Rattle.std.specs.Prelude.{◌≡◌, ◌≢◌, ◌≤◌, IsTrue, IsSomeAnd, ℕ, suc, ◌+◌, ◌-◌, Bool, true, false, not, ◌&&◌, ◌||◌, ◌==◌, nat_lt, nat_le, if◌then◌else◌, List, [], ◌∷◌, ◌++◌, length, map, Option, Some, None, Result, Ok, Err, slice_get, slice_set}
+-- Verification by inference of types (JVMS 4.10.2): the rules at one instruction, its edges, and
+-- the visits. The instruction that is visited next is the waiting one of least pc; the standard
+-- leaves this open.
+use Rattle.std.specs.Prelude.{◌≡◌, ◌≢◌, ◌≤◌, IsTrue, IsSomeAnd, ℕ, suc, ◌+◌, ◌-◌, Bool, true, false}
+use Rattle.std.specs.Prelude.{not, ◌&&◌, ◌||◌, ◌==◌, nat_lt, nat_le, if◌then◌else◌, List, [], ◌∷◌}
+use Rattle.std.specs.Prelude.{◌++◌, length, map, Option, Some, None, Result, Ok, Err, slice_get}
+use Rattle.std.specs.Prelude.{slice_set}
 use Rattle.std.specs.List.{list_any, filter, AllByRecursion, AllZip}
 use Rattle.jvm_types.specs.Numbers.{has_number}
 use Rattle.jvm_types.specs.ClassTree.{is_subclass}
-use Rattle.jvm_types.specs.CodeTable.{row, branches_to, falls_through, stack_after, locals_after, is_init}
+use Rattle.jvm_types.specs.CodeTable.{row, branches_to, falls_through, stack_after, locals_after}
+use Rattle.jvm_types.specs.CodeTable.{is_init}
 use Rattle.jvm_types.specs.declared.op_row.Want.{Want}
-use Rattle.jvm_types.specs.declared.op_row.Want.TheVariants.{AnyValue, AnInt, AnObject, AnyReference, AHolder, ToStart}
+use Rattle.jvm_types.specs.declared.op_row.Want.TheVariants.{AnyValue, AnInt, AnObject}
+use Rattle.jvm_types.specs.declared.op_row.Want.TheVariants.{AnyReference, AHolder, ToStart}
 use Rattle.jvm_types.specs.declared.op_row.OpRow.{OpRow}
 use Rattle.jvm_types.specs.CodeGrammar.{IsCode}
 use Rattle.jvm_types.specs.declared.class_file.Handler.{Handler}
-use Rattle.jvm_types.specs.Types.{TypeFrame, is_below, is_uninitialised, is_new, same_type, same_frame, frame_below, meet_frames, entry_type_frame}
+use Rattle.jvm_types.specs.Types.{TypeFrame, is_below, is_uninitialised, is_new, same_type}
+use Rattle.jvm_types.specs.Types.{same_frame, frame_below, meet_frames, entry_type_frame}
 use Rattle.jvm_types.specs.declared.code.Insn.{Insn}
 use Rattle.jvm_types.specs.declared.code.Op.{Op}
 use Rattle.jvm_types.specs.declared.code.Op.TheVariants as ops
@@ -32,7 +39,8 @@ use Rattle.jvm_types.specs.declared.class_numbers.TheConstants.{OBJECT_CLASS, TH
 
 -- the class that the `new` at a pc names
 abbrev pub new_class : List Insn → List Target → ℕ → Option ℕ
-new_class (insn ∷ insns) (targets.Class class ∷ ts) pc = if insn.pc == pc then Some class else new_class insns ts pc
+new_class (insn ∷ insns) (targets.Class class ∷ ts) pc =
+    if insn.pc == pc then Some class else new_class insns ts pc
 new_class (insn ∷ insns) (t ∷ ts) pc = new_class insns ts pc
 new_class insns ts pc = None
 
@@ -40,8 +48,9 @@ abbrev pub is_class_of : Option ℕ → ℕ → Bool
 is_class_of None class = false
 is_class_of (Some c) class = c == class
 
--- V7: an uninitialised value where none may stand, or an `<init>` on an initialised one. `putfield` of a field
--- of the own class on the uninitialised `this` is accepted, since javac writes it for inner classes.
+-- V7: an uninitialised value where none may stand, or an `<init>` on an initialised one. `putfield`
+-- of a field of the own class on the uninitialised `this` is accepted, since javac writes it for
+-- inner classes.
 abbrev pub misuses : MethodInfo → Want → VType → Bool
 misuses m AnyValue t = false
 misuses m AnyReference t = false
@@ -99,7 +108,8 @@ names_no_local m None = false
 names_no_local m (Some local) = nat_le m.max_locals local.0
 
 abbrev pub lacks_locals : MethodInfo → OpRow → TypeFrame → Bool
-lacks_locals m r f = names_no_local m r.reads || names_no_local m r.writes || nat_lt m.max_locals (length f.locals)
+lacks_locals m r f =
+    names_no_local m r.reads || names_no_local m r.writes || nat_lt m.max_locals (length f.locals)
 
 -- whether a handler row covers a pc (JVMS 2.10)
 abbrev pub covers : ℕ → Row → Bool
@@ -111,13 +121,14 @@ is_return ops.Areturn = true
 is_return ops.Return = true
 is_return op = false
 
--- V7, its cases: a misused value; one that is uninitialised at a branch to a pc at or before it; one that is
--- uninitialised by `new` in a local where a handler row covers, where the standard forbids `this` too; an
--- `<init>` that returns before `this` is initialised.
+-- V7, its cases: a misused value; one that is uninitialised at a branch to a pc at or before it;
+-- one that is uninitialised by `new` in a local where a handler row covers, where the standard
+-- forbids `this` too; an `<init>` that returns before `this` is initialised.
 abbrev pub misuses_object : MethodInfo → Insn → OpRow → TypeFrame → Bool
 misuses_object m insn r f =
     some_operand (misuses m) r f
-    || (list_any (λ to. nat_le to insn.pc) (branches_to insn.op) && (list_any is_uninitialised f.stack || list_any is_uninitialised f.locals))
+    || (list_any (λ to. nat_le to insn.pc) (branches_to insn.op)
+    && (list_any is_uninitialised f.stack || list_any is_uninitialised f.locals))
     || (list_any (covers insn.pc) m.rows && list_any is_new f.locals)
     || (is_return insn.op && not f.ready)
 
@@ -143,11 +154,13 @@ falls_off code insn = falls_through insn.op && not (list_any (λ other. other.pc
 -- the rules that are tested before an edge is brought, in their order
 abbrev pub broken_before : MethodInfo → Insn → OpRow → TypeFrame → Option VRule
 broken_before m insn r f = first_broken
-    ((takes_too_many r f, V1) ∷ (gives_too_many m r f, V2) ∷ (lacks_locals m r f, V3) ∷ (misuses_object m insn r f, V7) ∷ (mistypes m r f, V4) ∷ [])
+    ((takes_too_many r f, V1) ∷ (gives_too_many m r f, V2) ∷ (lacks_locals m r f, V3)
+    ∷ (misuses_object m insn r f, V7) ∷ (mistypes m r f, V4) ∷ [])
 
 -- and after its normal edges were
 abbrev pub broken_after : MethodInfo → Insn → Option VRule
-broken_after m insn = first_broken ((returns_wrongly insn.op m.result, V8) ∷ (falls_off m.code insn, V6) ∷ [])
+broken_after m insn =
+    first_broken ((returns_wrongly insn.op m.result, V8) ∷ (falls_off m.code insn, V6) ∷ [])
 
 -- ---- the frame after an instruction
 
@@ -164,11 +177,20 @@ initialised t class ts = map (λ u. if same_type t u then Ref class else u) ts
 
 abbrev pub after_start : Option (VType × ℕ) → TypeFrame → TypeFrame
 after_start None f = f
-after_start (Some object) f = record { stack = initialised object.0 object.1 f.stack; locals = initialised object.0 object.1 f.locals; ready = f.ready || same_type object.0 This }
+after_start (Some object) f =
+    record {
+      stack = initialised object.0 object.1 f.stack;
+      locals = initialised object.0 object.1 f.locals;
+      ready = f.ready || same_type object.0 This;
+    }
 
 abbrev pub frame_after : MethodInfo → OpRow → TypeFrame → TypeFrame
 frame_after m r f = after_start (started m.class r.takes f.stack)
-    (record { stack = stack_after Top (λ t. t) r f.stack f.locals; locals = locals_after Top (λ t. t) r.writes f.stack f.locals; ready = f.ready })
+    (record {
+      stack = stack_after Top (λ t. t) r f.stack f.locals;
+      locals = locals_after Top (λ t. t) r.writes f.stack f.locals;
+      ready = f.ready;
+    })
 
 -- ---- edges
 
@@ -180,9 +202,11 @@ edges insn = branches_to insn.op ++ (if falls_through insn.op then insn.next ∷
 abbrev pub caught_class : Row → ℕ
 caught_class handler = if handler.catch_class == 0 then THROWABLE_CLASS else handler.catch_class
 
--- the frame at a handler: the locals as they are before the instruction, and the one exception on the stack
+-- the frame at a handler: the locals as they are before the instruction, and the one exception on
+-- the stack
 abbrev pub frame_at_handler : Row → TypeFrame → TypeFrame
-frame_at_handler handler f = record { stack = Ref (caught_class handler) ∷ []; locals = f.locals; ready = f.ready }
+frame_at_handler handler f =
+    record { stack = Ref (caught_class handler) ∷ []; locals = f.locals; ready = f.ready }
 
 -- the rules of a covering row but V5: V2 at the instruction, V4 at the handler
 abbrev pub catch_fault : MethodInfo → ℕ → Row → Option (VRule × ℕ)
@@ -193,8 +217,8 @@ catch_fault m pc handler =
 
 -- ---- visits
 
--- what is known of an instruction in the course of the visits: the frame that its edges met in, and whether
--- that has changed since it was visited
+-- what is known of an instruction in the course of the visits: the frame that its edges met in, and
+-- whether that has changed since it was visited
 pub record Node : Type 0 where
   pub frame : Option TypeFrame
   pub waits : Bool
@@ -209,7 +233,9 @@ node_at nodes i = unwrapped (slice_get nodes i)
 -- at the start pc 0 waits with the entry frame
 abbrev pub first_nodes : MethodInfo → List Insn → List Node
 first_nodes m [] = []
-first_nodes m (insn ∷ insns) = record { frame = Some (entry_type_frame m); waits = true } ∷ map (λ other. record { frame = None; waits = false }) insns
+first_nodes m (insn ∷ insns) =
+    record { frame = Some (entry_type_frame m); waits = true }
+    ∷ map (λ other. record { frame = None; waits = false }) insns
 
 -- an edge brings a frame
 abbrev pub node_met : Node → Option TypeFrame → TypeFrame → Node
@@ -220,7 +246,8 @@ node_met node (Some g) f = with_frame (meet_frames g f)
     with_frame h = record { frame = Some h; waits = node.waits || not (same_frame g h) }
 
 abbrev pub brought : List Insn → ℕ → TypeFrame → List Node → List Node
-brought (insn ∷ insns) to f (node ∷ nodes) = if insn.pc == to then node_met node node.frame f ∷ nodes else node ∷ brought insns to f nodes
+brought (insn ∷ insns) to f (node ∷ nodes) =
+    if insn.pc == to then node_met node node.frame f ∷ nodes else node ∷ brought insns to f nodes
 brought insns to f nodes = nodes
 
 abbrev pub all_brought : List Insn → List ℕ → TypeFrame → List Node → List Node
@@ -233,23 +260,28 @@ has_other_depth None depth = false
 has_other_depth (Some f) depth = not (length f.stack == depth)
 
 abbrev pub clash : List Insn → List ℕ → ℕ → List Node → Option ℕ
-clash (insn ∷ insns) tos depth (node ∷ nodes) = if has_number tos insn.pc && has_other_depth node.frame depth then Some insn.pc else clash insns tos depth nodes
+clash (insn ∷ insns) tos depth (node ∷ nodes) =
+    if has_number tos insn.pc && has_other_depth node.frame depth then Some insn.pc
+    else clash insns tos depth nodes
 clash insns tos depth nodes = None
 
 -- the edges to the handlers of the covering rows, row by row
-abbrev pub unless_caught : Option (VRule × ℕ) → Option ℕ → Result (List Node) (VRule × ℕ) → Result (List Node) (VRule × ℕ)
+abbrev pub unless_caught : Option (VRule × ℕ) → Option ℕ → Result (List Node) (VRule × ℕ)
+    → Result (List Node) (VRule × ℕ)
 unless_caught (Some fault) at more = Err fault
 unless_caught None (Some at) more = Err (V5, at)
 unless_caught None None more = more
 
-abbrev pub handled : MethodInfo → ℕ → TypeFrame → List Row → List Node → Result (List Node) (VRule × ℕ)
+abbrev pub handled : MethodInfo → ℕ → TypeFrame → List Row → List Node
+    → Result (List Node) (VRule × ℕ)
 handled m pc f [] nodes = Ok nodes
 handled m pc f (handler ∷ handlers) nodes =
     unless_caught (catch_fault m pc handler) (clash m.code (handler.handler ∷ []) 1 nodes)
     (handled m pc f handlers (brought m.code handler.handler (frame_at_handler handler f) nodes))
 
 -- one visit of an instruction with its frame: its rules, its normal edges, then those to handlers
-abbrev pub unless_broken : ℕ → Option VRule → Result (List Node) (VRule × ℕ) → Result (List Node) (VRule × ℕ)
+abbrev pub unless_broken : ℕ → Option VRule → Result (List Node) (VRule × ℕ)
+    → Result (List Node) (VRule × ℕ)
 unless_broken pc (Some rule) more = Err (rule, pc)
 unless_broken pc None more = more
 
@@ -260,25 +292,33 @@ unless_clash None more = more
 abbrev pub covering : MethodInfo → ℕ → List Row
 covering m pc = filter (covers pc) m.rows
 
-abbrev pub gone_on : MethodInfo → Insn → TypeFrame → TypeFrame → List Node → Result (List Node) (VRule × ℕ)
+abbrev pub gone_on : MethodInfo → Insn → TypeFrame → TypeFrame → List Node
+    → Result (List Node) (VRule × ℕ)
 gone_on m insn f after nodes =
     unless_clash (clash m.code (edges insn) (length after.stack) nodes)
     (unless_broken insn.pc (broken_after m insn)
     (handled m insn.pc f (covering m insn.pc) (all_brought m.code (edges insn) after nodes)))
 
-abbrev pub visited_row : MethodInfo → Insn → OpRow → TypeFrame → List Node → Result (List Node) (VRule × ℕ)
-visited_row m insn r f nodes = unless_broken insn.pc (broken_before m insn r f) (gone_on m insn f (frame_after m r f) nodes)
+abbrev pub visited_row : MethodInfo → Insn → OpRow → TypeFrame → List Node
+    → Result (List Node) (VRule × ℕ)
+visited_row m insn r f nodes =
+    unless_broken insn.pc (broken_before m insn r f) (gone_on m insn f (frame_after m r f) nodes)
 
-abbrev pub visited_insn : Program → MethodInfo → Option Insn → Option Target → Option TypeFrame → List Node → Result (List Node) (VRule × ℕ)
-visited_insn p m (Some insn) (Some target) (Some f) nodes = visited_row m insn (row p m insn.pc target insn.op) f nodes
+abbrev pub visited_insn : Program → MethodInfo → Option Insn → Option Target → Option TypeFrame
+    → List Node → Result (List Node) (VRule × ℕ)
+visited_insn p m (Some insn) (Some target) (Some f) nodes =
+    visited_row m insn (row p m insn.pc target insn.op) f nodes
 visited_insn p m insn target f nodes = Ok nodes
 
--- the visit of the instruction of this number, which then waits no more unless an edge to itself changes it
+-- the visit of the instruction of this number, which then waits no more unless an edge to itself
+-- changes it
 abbrev pub visited : Program → MethodInfo → ℕ → List Node → Result (List Node) (VRule × ℕ)
 visited p m i nodes = visited_node (node_at nodes i)
   where
     visited_node : Node → Result (List Node) (VRule × ℕ)
-    visited_node node = visited_insn p m (slice_get m.code i) (slice_get m.targets i) node.frame (slice_set nodes i (record node { waits = false }))
+    visited_node node =
+        visited_insn p m (slice_get m.code i) (slice_get m.targets i) node.frame
+        (slice_set nodes i (record node { waits = false }))
 
 -- the waiting instruction of least pc, by its number
 abbrev pub waiting_from : ℕ → List Node → Option ℕ
@@ -288,21 +328,28 @@ waiting_from i (node ∷ nodes) = if node.waits then Some i else waiting_from (s
 abbrev pub next_visit : List Node → Option ℕ
 next_visit nodes = waiting_from 0 nodes
 
--- the visits of a method from some nodes on, by the numbers of the instructions, until nothing waits
+-- the visits of a method from some nodes on, by the numbers of the instructions, until nothing
+-- waits
 abbrev pub Visits : Program → MethodInfo → List Node → List ℕ → List Node → Type 0
 Visits p m nodes [] last = (next_visit nodes ≡ None) × (last ≡ nodes)
-Visits p m nodes (i ∷ is) last = (next_visit nodes ≡ Some i) × (mid : List Node) × (visited p m i nodes ≡ Ok mid) × Visits p m mid is last
+Visits p m nodes (i ∷ is) last =
+    (next_visit nodes ≡ Some i) × (mid : List Node) × (visited p m i nodes ≡ Ok mid)
+    × Visits p m mid is last
 
 -- the visits until one breaks a rule; there is at least that one
 abbrev pub Breaks : Program → MethodInfo → List Node → List ℕ → VRule × ℕ → Type 0
 Breaks p m nodes [] fault = ⊥
 Breaks p m nodes (i ∷ []) fault = (next_visit nodes ≡ Some i) × (visited p m i nodes ≡ Err fault)
-Breaks p m nodes (i ∷ j ∷ is) fault = (next_visit nodes ≡ Some i) × (mid : List Node) × (visited p m i nodes ≡ Ok mid) × Breaks p m mid (j ∷ is) fault
+Breaks p m nodes (i ∷ j ∷ is) fault =
+    (next_visit nodes ≡ Some i) × (mid : List Node) × (visited p m i nodes ≡ Ok mid)
+    × Breaks p m mid (j ∷ is) fault
 
 -- ---- the answer
 
--- no visit of the method breaks a rule, and these are the last frames; an instruction that no visit reached has none
-pub record HasTyping (p : Program) (m : MethodInfo) (frames : List (Option TypeFrame)) : Type 0 where
+-- no visit of the method breaks a rule, and these are the last frames; an instruction that no visit
+-- reached has none
+pub record HasTyping (p : Program) (m : MethodInfo) (frames : List (Option TypeFrame))
+    : Type 0 where
   pub visits : List ℕ
   pub last : List Node
   pub made : Visits p m (first_nodes m m.code) visits last
@@ -321,7 +368,8 @@ pub record IsRefused (p : Program) (m : MethodInfo) (rule : VRule) (pc : ℕ) : 
 
 -- the frame at a pc
 abbrev pub frame_at : List Insn → List (Option TypeFrame) → ℕ → Option TypeFrame
-frame_at (insn ∷ insns) (frame ∷ frames) pc = if insn.pc == pc then frame else frame_at insns frames pc
+frame_at (insn ∷ insns) (frame ∷ frames) pc =
+    if insn.pc == pc then frame else frame_at insns frames pc
 frame_at insns frames pc = None
 
 -- the frame that an edge brings is at or below the frame at its target
@@ -329,19 +377,27 @@ abbrev pub FrameFits : List Insn → List (Option TypeFrame) → TypeFrame → �
 FrameFits code frames f to = IsSomeAnd (frame_at code frames to) (λ g. IsTrue (frame_below f g))
 
 -- at an instruction with this frame no rule is broken, and each edge fits the frame at its target
-pub record IsSound (m : MethodInfo) (insn : Insn) (r : OpRow) (frames : List (Option TypeFrame)) (f : TypeFrame) : Type 0 where
+pub record IsSound (m : MethodInfo) (insn : Insn) (r : OpRow) (frames : List (Option TypeFrame))
+    (f : TypeFrame) : Type 0 where
   pub before : broken_before m insn r f ≡ None
   pub after : broken_after m insn ≡ None
   pub edges_fit : AllByRecursion (FrameFits m.code frames (frame_after m r f)) (edges insn)
-  pub rows_hold : AllByRecursion (λ handler. catch_fault m insn.pc handler ≡ None) (covering m insn.pc)
-  pub handlers_fit : AllByRecursion (λ handler. FrameFits m.code frames (frame_at_handler handler f) handler.handler) (covering m insn.pc)
+  pub rows_hold : AllByRecursion (λ handler. catch_fault m insn.pc handler ≡ None)
+      (covering m insn.pc)
+  pub handlers_fit : AllByRecursion
+      (λ handler. FrameFits m.code frames (frame_at_handler handler f) handler.handler)
+      (covering m insn.pc)
 
--- an assignment of frames that meets all rows and edges, and under which no instruction breaks a rule
-pub record IsAssignment (p : Program) (m : MethodInfo) (frames : List (Option TypeFrame)) : Type 0 where
+-- an assignment of frames that meets all rows and edges, and under which no instruction breaks a
+-- rule
+pub record IsAssignment (p : Program) (m : MethodInfo) (frames : List (Option TypeFrame))
+    : Type 0 where
   pub long : length frames ≡ length m.code
   pub entry : FrameFits m.code frames (entry_type_frame m) 0
-  pub sound : (i : ℕ) (insn : Insn) (target : Target) (f : TypeFrame) → slice_get m.code i ≡ Some insn → slice_get m.targets i ≡ Some target
-      → slice_get frames i ≡ Some (Some f) → IsSound m insn (row p m insn.pc target insn.op) frames f
+  pub sound : (i : ℕ) (insn : Insn) (target : Target) (f : TypeFrame)
+      → slice_get m.code i ≡ Some insn → slice_get m.targets i ≡ Some target
+      → slice_get frames i ≡ Some (Some f)
+      → IsSound m insn (row p m insn.pc target insn.op) frames f
 
 -- where one assignment has a frame the other has one, at or above it
 abbrev pub IsFrameBelow : Option TypeFrame → Option TypeFrame → Type 0
@@ -349,32 +405,45 @@ IsFrameBelow None g = Unit {0}
 IsFrameBelow (Some f) g = IsSomeAnd g (λ h. IsTrue (frame_below f h))
 
 abbrev pub AreFramesBelow : List (Option TypeFrame) → List (Option TypeFrame) → Type 0
-AreFramesBelow frames others = (i : ℕ) (f g : Option TypeFrame) → slice_get frames i ≡ Some f → slice_get others i ≡ Some g → IsFrameBelow f g
+AreFramesBelow frames others =
+    (i : ℕ) (f g : Option TypeFrame) → slice_get frames i ≡ Some f → slice_get others i ≡ Some g
+    → IsFrameBelow f g
 
--- what the laws ask of a method: that its instructions follow one another and each has a target, as linking
--- leaves them
+-- what the laws ask of a method: that its instructions follow one another and each has a target, as
+-- linking leaves them
 pub record IsLaidOut (m : MethodInfo) : Type 0 where
   pub bytes : List ℕ
   pub handlers : List Handler
   pub code : IsCode bytes handlers m.code
-  pub rows : AllZip (λ r (h : Handler). (r.start ≡ h.start) × (r.end ≡ h.end) × (r.handler ≡ h.handler)) m.rows handlers
+  pub rows : AllZip
+      (λ r (h : Handler). (r.start ≡ h.start) × (r.end ≡ h.end) × (r.handler ≡ h.handler)) m.rows
+      handlers
   pub targets : length m.targets ≡ length m.code
 
 -- the local law: a typing is such an assignment
 abbrev pub LocalLaw : Type 0
-LocalLaw = (p : Program) (m : MethodInfo) (frames : List (Option TypeFrame)) → IsLaidOut m → HasTyping p m frames → IsAssignment p m frames
+LocalLaw =
+    (p : Program) (m : MethodInfo) (frames : List (Option TypeFrame)) → IsLaidOut m
+    → HasTyping p m frames → IsAssignment p m frames
 
--- the frame law: each frame of a typing has max_locals locals and at most max_stack values on its stack, and outside an
--- `<init>` its `this` is initialised
+-- the frame law: each frame of a typing has max_locals locals and at most max_stack values on its
+-- stack, and outside an `<init>` its `this` is initialised
 abbrev pub FrameLaw : Type 0
-FrameLaw = (p : Program) (m : MethodInfo) (frames : List (Option TypeFrame)) → IsLaidOut m → HasTyping p m frames → (i : ℕ) (f : TypeFrame) → slice_get frames i ≡ Some (Some f)
-    → (length f.locals ≡ m.max_locals) × (length f.stack ≤ m.max_stack) × (is_init m ≡ false → f.ready ≡ true)
+FrameLaw =
+    (p : Program) (m : MethodInfo) (frames : List (Option TypeFrame)) → IsLaidOut m
+    → HasTyping p m frames → (i : ℕ) (f : TypeFrame) → slice_get frames i ≡ Some (Some f)
+    → (length f.locals ≡ m.max_locals) × (length f.stack ≤ m.max_stack)
+    × (is_init m ≡ false → f.ready ≡ true)
 
--- the least law: a typing is at or below every assignment; and a refusal by a rule other than V7 comes only
--- where there is none. An uninitialised value that met another is of no known type, and V7 asks nothing of
--- that: so V7 is left out.
+-- the least law: a typing is at or below every assignment; and a refusal by a rule other than V7
+-- comes only where there is none. An uninitialised value that met another is of no known type, and
+-- V7 asks nothing of that: so V7 is left out.
 abbrev pub LeastLaw : Type 0
-LeastLaw = (p : Program) (m : MethodInfo) (frames others : List (Option TypeFrame)) → IsLaidOut m → IsAssignment p m others → HasTyping p m frames → AreFramesBelow frames others
+LeastLaw =
+    (p : Program) (m : MethodInfo) (frames others : List (Option TypeFrame)) → IsLaidOut m
+    → IsAssignment p m others → HasTyping p m frames → AreFramesBelow frames others
 
 abbrev pub RefusalLaw : Type 0
-RefusalLaw = (p : Program) (m : MethodInfo) (others : List (Option TypeFrame)) (rule : VRule) (pc : ℕ) → IsLaidOut m → IsRefused p m rule pc → rule ≢ V7 → IsAssignment p m others → ⊥
+RefusalLaw =
+    (p : Program) (m : MethodInfo) (others : List (Option TypeFrame)) (rule : VRule) (pc : ℕ)
+    → IsLaidOut m → IsRefused p m rule pc → rule ≢ V7 → IsAssignment p m others → ⊥

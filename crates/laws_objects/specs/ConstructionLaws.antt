@@ -1,4 +1,5 @@
--- Objects under construction stay with the frames that build them, whatever event happens and where a part of the run begins.
+-- Objects under construction stay with the frames that build them, whatever event happens and where
+-- a part of the run begins.
 use Rattle.std.specs.Prelude.{ℕ, Bool, List, None, slice_index}
 use Rattle.jvm_types.specs.declared.fixed_words.TheConstants.{NEXT_FREE_WORD}
 use Rattle.checked_program.specs.MarkedProgram.{MarkedProgram, IsMarked}
@@ -20,19 +21,32 @@ abbrev pub no_builders : World
 no_builders v = None
 
 abbrev pub StartHasConstruction : Type 0
-StartHasConstruction = (c : MarkedProgram) (cfg : Config) (frozen : ℕ → Bool) → IsMarked c → AreFrozen c frozen → Construction c frozen no_builders (phase_at_start c cfg) (start_objects c.program) (start c cfg)
+StartHasConstruction =
+    (c : MarkedProgram) (cfg : Config) (frozen : ℕ → Bool) → IsMarked c → AreFrozen c frozen
+    → Construction c frozen no_builders (phase_at_start c cfg) (start_objects c.program)
+    (start c cfg)
 
--- a later world, changed by thread t alone, of which the facts hold after its event; what lower frames of t see is left open
-pub record BuildsOn (c : MarkedProgram) (objects : List Object) (was : ℕ → Phase) (s : Core) (t : ℕ) (frozen : ℕ → Bool) (w : World) : Type 0 where
+-- a later world, changed by thread t alone, of which the facts hold after its event; what lower
+-- frames of t see is left open
+pub record BuildsOn (c : MarkedProgram) (objects : List Object) (was : ℕ → Phase) (s : Core) (t : ℕ)
+    (frozen : ℕ → Bool) (w : World) : Type 0 where
   pub later : World
-  pub goes_on : GoesOn w later (slice_index s.words NEXT_FREE_WORD) (slice_index (event c s t).words NEXT_FREE_WORD) t 0
-  pub keeps : Construction c frozen later (counted_after c was s t) (objects_after c.program s t objects) (event c s t)
+  pub goes_on : GoesOn w later (slice_index s.words NEXT_FREE_WORD)
+      (slice_index (event c s t).words NEXT_FREE_WORD) t 0
+  pub keeps : Construction c frozen later (counted_after c was s t)
+      (objects_after c.program s t objects) (event c s t)
 
 abbrev pub EventsKeepConstruction : Type 0
-EventsKeepConstruction = (c : MarkedProgram) (cfg : Config) (objects : List Object) (was : ℕ → Phase) (s : Core) (t : ℕ) (frozen : ℕ → Bool) (w : World) → IsMarked c → HaveWidth cfg → StateFacts c cfg objects was s
-    → Construction c frozen w was objects s → BuildsOn c objects was s t frozen w
+EventsKeepConstruction =
+    (c : MarkedProgram) (cfg : Config) (objects : List Object) (was : ℕ → Phase) (s : Core) (t : ℕ)
+    (frozen : ℕ → Bool) (w : World) → IsMarked c → HaveWidth cfg
+    → StateFacts c cfg objects was s → Construction c frozen w was objects s
+    → BuildsOn c objects was s t frozen w
 
 -- the world stays as it is
 abbrev pub NextKeepsConstruction : Type 0
-NextKeepsConstruction = (c : MarkedProgram) (cfg : Config) (objects : List Object) (was : ℕ → Phase) (s : Core) (frozen : ℕ → Bool) (w : World) → IsMarked c → StateFacts c cfg objects was s
-    → Construction c frozen w was objects s → Construction c frozen w (counted_next c was s) objects (next c s)
+NextKeepsConstruction =
+    (c : MarkedProgram) (cfg : Config) (objects : List Object) (was : ℕ → Phase) (s : Core)
+    (frozen : ℕ → Bool) (w : World) → IsMarked c → StateFacts c cfg objects was s
+    → Construction c frozen w was objects s
+    → Construction c frozen w (counted_next c was s) objects (next c s)

@@ -1,6 +1,8 @@
--- An event of a thread outside attempts changes a guarded place only where the thread holds the monitor of the place's object or
--- class, or makes that: in an `<init>` on the object, or in the `<clinit>` of the class, while no worker has begun; and a final field
--- of a frozen class, or a final static one, only in such a method (PLDI 2010 publication, of read-only sections without their lock).
+-- An event of a thread outside attempts changes a guarded place only where the thread holds the
+-- monitor of the place's object or class, or makes that: in an `<init>` on the object, or in the
+-- `<clinit>` of the class, while no worker has begun; and a final field of a frozen class, or a
+-- final static one, only in such a method (PLDI 2010 publication, of read-only sections without
+-- their lock).
 use Rattle.std.specs.Prelude.{◌≡◌, ℕ, Bool, List, Some, None, slice_get}
 use Rattle.checked_program.specs.MarkedProgram.{MarkedProgram, IsMarked}
 use Rattle.machine_types.specs.Construction.{Construction}
@@ -15,5 +17,8 @@ use Rattle.laws_states.specs.RunFacts.{HaveWidth}
 use Rattle.laws_states.specs.StateFacts.{StateFacts}
 
 abbrev pub EventsKeepGuards : Type 0
-EventsKeepGuards = (c : MarkedProgram) (cfg : Config) (objects : List Object) (was : ℕ → Phase) (frozen : ℕ → Bool) (w : World) (s : Core) (t : ℕ) (x : Thread) → IsMarked c → HaveWidth cfg → StateFacts c cfg objects was s
-    → Construction c frozen w was objects s → slice_get s.threads t ≡ Some x → x.attempt ≡ None → KeepsGuards c objects s (event c s t) x
+EventsKeepGuards =
+    (c : MarkedProgram) (cfg : Config) (objects : List Object) (was : ℕ → Phase) (frozen : ℕ → Bool)
+    (w : World) (s : Core) (t : ℕ) (x : Thread) → IsMarked c → HaveWidth cfg
+    → StateFacts c cfg objects was s → Construction c frozen w was objects s
+    → slice_get s.threads t ≡ Some x → x.attempt ≡ None → KeepsGuards c objects s (event c s t) x

@@ -1,7 +1,9 @@
--- Objects of frozen classes between the call of their `<init>` and its return (JVMS 2.9): until then no place has the object, and
--- no other thread. If the `<init>` throws, no instruction uses it ever after; this is said of threads in no attempt, since one that
--- fails puts back the frame in which it began, which may then use the object again.
-use Rattle.std.specs.Prelude.{◌≡◌, ◌≢◌, ℕ, true, false, List, [], ◌∷◌, ◌++◌, Contains, Some, None, slice_get, slice_index}
+-- Objects of frozen classes between the call of their `<init>` and its return (JVMS 2.9): until
+-- then no place has the object, and no other thread. If the `<init>` throws, no instruction uses it
+-- ever after; this is said of threads in no attempt, since one that fails puts back the frame in
+-- which it began, which may then use the object again.
+use Rattle.std.specs.Prelude.{◌≡◌, ◌≢◌, ℕ, true, false, List, [], ◌∷◌, ◌++◌, Contains, Some, None}
+use Rattle.std.specs.Prelude.{slice_get, slice_index}
 use Rattle.std.specs.List.{AllZip}
 use Rattle.jvm_types.specs.CodeTable.{is_init}
 use Rattle.jvm_types.specs.Members.{is_static}
@@ -36,17 +38,23 @@ IsOther v type word = word ≢ v
 
 -- the instruction that the thread begins next finds v in no slot of its frame
 abbrev pub UsesNot : MarkedProgram → (v : ℕ) → Thread → Type 0
-UsesNot c v x = x.phase ≡ phases.Run → (f : Frame) (below : List Frame) → x.frames ≡ f ∷ below → (k : Standing c f) → AllZip (IsOther v) k.types.stack f.stack × AllZip (IsOther v) k.types.locals f.locals
+UsesNot c v x =
+    x.phase ≡ phases.Run → (f : Frame) (below : List Frame) → x.frames ≡ f ∷ below
+    → (k : Standing c f)
+    → AllZip (IsOther v) k.types.stack f.stack × AllZip (IsOther v) k.types.locals f.locals
 
 abbrev pub KindHasNot : (v : ℕ) → Kind → (word : ℕ) → Type 0
 KindHasNot v (kinds.Ref class) word = word ≢ v
 KindHasNot v kind word = Unit {0}
 
 -- no field of an object and no static field has v
-pub record PlacesHaveNot (c : MarkedProgram) (v : ℕ) (objects : List Object) (words : List ℕ) : Type 0 where
-  pub fields : (o : Object) (number : ℕ) (f : FieldInfo) → Contains objects o → slice_get c.program.fields number ≡ Some f → is_static f.flags ≡ false → o.class ≡ f.class
+pub record PlacesHaveNot (c : MarkedProgram) (v : ℕ) (objects : List Object) (words : List ℕ)
+    : Type 0 where
+  pub fields : (o : Object) (number : ℕ) (f : FieldInfo) → Contains objects o
+      → slice_get c.program.fields number ≡ Some f → is_static f.flags ≡ false → o.class ≡ f.class
       → KindHasNot v f.kind (slice_index words (value_word o.reference f.index))
-  pub statics : (number : ℕ) (f : FieldInfo) → slice_get c.program.fields number ≡ Some f → is_static f.flags ≡ true → KindHasNot v f.kind (slice_index words f.index)
+  pub statics : (number : ℕ) (f : FieldInfo) → slice_get c.program.fields number ≡ Some f
+      → is_static f.flags ≡ true → KindHasNot v f.kind (slice_index words f.index)
 
 -- ---- an `<init>` of a frozen class on the object v
 
@@ -106,16 +114,23 @@ pub record NobodyHas (c : MarkedProgram) (v : ℕ) (objects : List Object) (s : 
   pub places : PlacesHaveNot c v objects s.words
   pub threads : (u : ℕ) (x : Thread) → slice_get s.threads u ≡ Some x → UsesNot c v x
 
-pub record NoOtherHas (c : MarkedProgram) (v t : ℕ) (objects : List Object) (s : Core) : Type 0 where
+pub record NoOtherHas (c : MarkedProgram) (v t : ℕ) (objects : List Object) (s : Core)
+    : Type 0 where
   pub places : PlacesHaveNot c v objects s.words
   pub threads : (u : ℕ) (x : Thread) → u ≢ t → slice_get s.threads u ≡ Some x → UsesNot c v x
 
 -- once an `<init>` has thrown, nobody has its object, whatever happens then
 abbrev pub ThrownInitsLeaveNoUse : Type 0
-ThrownInitsLeaveNoUse = (c : MarkedProgram) (cfg : Config) (hs : List Happening) (t v : ℕ) (es : List Happening) → IsMarked c → HaveWidth cfg → AreSettings cfg → ThrowsOut c v (core c cfg hs) t
+ThrownInitsLeaveNoUse =
+    (c : MarkedProgram) (cfg : Config) (hs : List Happening) (t v : ℕ) (es : List Happening)
+    → IsMarked c → HaveWidth cfg → AreSettings cfg → ThrowsOut c v (core c cfg hs) t
     → NobodyHas c v (run_objects c cfg (hs ++ Of t ∷ es)) (core c cfg (hs ++ Of t ∷ es))
 
--- as long as the `<init>` that a thread runs on an object has not returned, no place and no other thread has the object
+-- as long as the `<init>` that a thread runs on an object has not returned, no place and no other
+-- thread has the object
 abbrev pub FinishedByOwnReturn : Type 0
-FinishedByOwnReturn = (c : MarkedProgram) (cfg : Config) (hs : List Happening) (t v : ℕ) (es : List Happening) → IsMarked c → HaveWidth cfg → AreSettings cfg → Constructs c v (core c cfg hs) t → NeverReturns c v (core c cfg hs) es
+FinishedByOwnReturn =
+    (c : MarkedProgram) (cfg : Config) (hs : List Happening) (t v : ℕ) (es : List Happening)
+    → IsMarked c → HaveWidth cfg → AreSettings cfg → Constructs c v (core c cfg hs) t
+    → NeverReturns c v (core c cfg hs) es
     → NoOtherHas c v t (run_objects c cfg (hs ++ es)) (core c cfg (hs ++ es))

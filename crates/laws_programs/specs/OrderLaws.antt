@@ -34,6 +34,8 @@ FramesAreOrdered = IsOrder frame_below
 
 -- where two frames have as many values on their stacks and as many locals
 abbrev pub FramesMeet : Type 0
-FramesMeet = (f g : TypeFrame) → length f.stack ≡ length g.stack → length f.locals ≡ length g.locals
+FramesMeet =
+    (f g : TypeFrame) → length f.stack ≡ length g.stack → length f.locals ≡ length g.locals
     → (frame_below f (meet_frames f g) ≡ true) × (frame_below g (meet_frames f g) ≡ true)
-    × ((h : TypeFrame) → frame_below f h ≡ true → frame_below g h ≡ true → frame_below (meet_frames f g) h ≡ true)
+    × ((h : TypeFrame) → frame_below f h ≡ true → frame_below g h ≡ true
+    → frame_below (meet_frames f g) h ≡ true)

@@ -1,11 +1,13 @@
--- What holds at an instruction where no rule is broken: of the values that it takes and reads, of the arguments of a call,
--- and of what a method returns.
-use Rattle.std.specs.Prelude.{◌≡◌, ℕ, true, false, List, [], ◌∷◌, ◌++◌, length, map, reverse, take, Some, None, slice_get}
+-- What holds at an instruction where no rule is broken: of the values that it takes and reads, of
+-- the arguments of a call, and of what a method returns.
+use Rattle.std.specs.Prelude.{◌≡◌, ℕ, true, false, List, [], ◌∷◌, ◌++◌, length, map, reverse, take}
+use Rattle.std.specs.Prelude.{Some, None, slice_get}
 use Rattle.jvm_types.specs.CodeTable.{type_of, arguments, row}
 use Rattle.jvm_types.specs.declared.op_row.Want.{Want}
 use Rattle.jvm_types.specs.declared.op_row.OpRow.{OpRow}
 use Rattle.jvm_types.specs.Types.{TypeFrame, is_below, all_pairs}
-use Rattle.jvm_types.specs.Verifying.{takes_too_many, gives_too_many, lacks_locals, misuses_object, mistypes, misuses, suits, broken_before, broken_after}
+use Rattle.jvm_types.specs.Verifying.{takes_too_many, gives_too_many, lacks_locals, misuses_object}
+use Rattle.jvm_types.specs.Verifying.{mistypes, misuses, suits, broken_before, broken_after}
 use Rattle.jvm_types.specs.declared.code.Insn.{Insn}
 use Rattle.jvm_types.specs.declared.code.Op.{Op}
 use Rattle.jvm_types.specs.declared.code.Op.TheVariants as ops
@@ -24,7 +26,9 @@ pub record RulesHold (m : MethodInfo) (insn : Insn) (r : OpRow) (f : TypeFrame) 
   pub types : mistypes m r f ≡ false
 
 abbrev pub UnbrokenHold : Type 0
-UnbrokenHold = (m : MethodInfo) (insn : Insn) (r : OpRow) (f : TypeFrame) → broken_before m insn r f ≡ None → RulesHold m insn r f
+UnbrokenHold =
+    (m : MethodInfo) (insn : Insn) (r : OpRow) (f : TypeFrame) → broken_before m insn r f ≡ None
+    → RulesHold m insn r f
 
 -- ---- values
 
@@ -34,23 +38,34 @@ IsGood m want t = (suits m want t ≡ true) × (misuses m want t ≡ false)
 
 -- each value that is taken is there and good
 abbrev pub TakenAreGood : Type 0
-TakenAreGood = (m : MethodInfo) (insn : Insn) (r : OpRow) (f : TypeFrame) (k : ℕ) (want : Want) → RulesHold m insn r f → slice_get r.takes k ≡ Some want → (t : VType) × (slice_get f.stack k ≡ Some t) × IsGood m want t
+TakenAreGood =
+    (m : MethodInfo) (insn : Insn) (r : OpRow) (f : TypeFrame) (k : ℕ) (want : Want)
+    → RulesHold m insn r f → slice_get r.takes k ≡ Some want
+    → (t : VType) × (slice_get f.stack k ≡ Some t) × IsGood m want t
 
 -- so is the local that is read, where the frame has max_locals locals
 abbrev pub ReadIsGood : Type 0
-ReadIsGood = (m : MethodInfo) (insn : Insn) (r : OpRow) (f : TypeFrame) (local : ℕ) (want : Want) → RulesHold m insn r f → length f.locals ≡ m.max_locals → r.reads ≡ Some (local, want)
+ReadIsGood =
+    (m : MethodInfo) (insn : Insn) (r : OpRow) (f : TypeFrame) (local : ℕ) (want : Want)
+    → RulesHold m insn r f → length f.locals ≡ m.max_locals → r.reads ≡ Some (local, want)
     → (t : VType) × (slice_get f.locals local ≡ Some t) × IsGood m want t
 
 -- ---- calls and returns
 
--- the arguments of a call are of the types of the method's parameters, from the top of the stack on, the last argument first
+-- the arguments of a call are of the types of the method's parameters, from the top of the stack
+-- on, the last argument first
 abbrev pub ArgumentsSuit : Type 0
-ArgumentsSuit = (m called : MethodInfo) (insn : Insn) (r : OpRow) (f : TypeFrame) (receiver : List Want) → RulesHold m insn r f → r.takes ≡ arguments called ++ receiver
-    → all_pairs is_below (take (length called.args) f.stack) (map type_of (reverse called.args)) ≡ true
+ArgumentsSuit =
+    (m called : MethodInfo) (insn : Insn) (r : OpRow) (f : TypeFrame) (receiver : List Want)
+    → RulesHold m insn r f → r.takes ≡ arguments called ++ receiver
+    → all_pairs is_below (take (length called.args) f.stack) (map type_of (reverse called.args))
+    ≡ true
 
 -- and below them on the stack is what the receiver has to be
 abbrev pub ReceiverIsGood : Type 0
-ReceiverIsGood = (m called : MethodInfo) (insn : Insn) (r : OpRow) (f : TypeFrame) (want : Want) → RulesHold m insn r f → r.takes ≡ arguments called ++ want ∷ []
+ReceiverIsGood =
+    (m called : MethodInfo) (insn : Insn) (r : OpRow) (f : TypeFrame) (want : Want)
+    → RulesHold m insn r f → r.takes ≡ arguments called ++ want ∷ []
     → (t : VType) × (slice_get f.stack (length called.args) ≡ Some t) × IsGood m want t
 
 -- the value on top is of the type that the method returns
@@ -69,4 +84,7 @@ ReturnsWell m ops.Areturn stack = ReturnsTop m stack
 ReturnsWell m op stack = Unit {0}
 
 abbrev pub ReturnsSuit : Type 0
-ReturnsSuit = (p : Program) (m : MethodInfo) (insn : Insn) (target : Target) (f : TypeFrame) → RulesHold m insn (row p m insn.pc target insn.op) f → broken_after m insn ≡ None → ReturnsWell m insn.op f.stack
+ReturnsSuit =
+    (p : Program) (m : MethodInfo) (insn : Insn) (target : Target) (f : TypeFrame)
+    → RulesHold m insn (row p m insn.pc target insn.op) f → broken_after m insn ≡ None
+    → ReturnsWell m insn.op f.stack

@@ -1,6 +1,8 @@
--- How often attempts of a thread have failed at the entry of a section that it came to last, told by its events alone, and not by
--- the number that the thread itself keeps; and which accesses only look.
-use Rattle.std.specs.Prelude.{◌≡◌, ℕ, ◌+◌, ◌<◌, ◌≤◌, ◌==◌, Bool, true, false, List, [], ◌∷◌, Option, Some, None, slice_get, if◌then◌else◌}
+-- How often attempts of a thread have failed at the entry of a section that it came to last, told
+-- by its events alone, and not by the number that the thread itself keeps; and which accesses only
+-- look.
+use Rattle.std.specs.Prelude.{◌≡◌, ℕ, ◌+◌, ◌<◌, ◌≤◌, ◌==◌, Bool, true, false, List, [], ◌∷◌, Option}
+use Rattle.std.specs.Prelude.{Some, None, slice_get, if◌then◌else◌}
 use Rattle.checked_program.specs.MarkedProgram.{MarkedProgram}
 use Rattle.machine_types.specs.Accesses.{found_by}
 use Rattle.machine_types.specs.Core.{Core, Happening, Of, NextPart, happened, start}
@@ -23,19 +25,23 @@ abbrev pub fails_more : Fate → (failed : ℕ) → ℕ
 fails_more Fails failed = failed + 1
 fails_more fate failed = failed
 
--- Behind an event of a thread: inside an attempt one more where that fails; outside, none yet where an instruction brings the
--- thread to a monitor. Whatever else leads back to that monitor is of the same entry. What is entered inside an attempt is the
--- monitor of that attempt, and no entry of its own.
+-- Behind an event of a thread: inside an attempt one more where that fails; outside, none yet where
+-- an instruction brings the thread to a monitor. Whatever else leads back to that monitor is of the
+-- same entry. What is entered inside an attempt is the monitor of that attempt, and no entry of its
+-- own.
 abbrev pub failed_after : MarkedProgram → Thread → Option Attempt → (got failed : ℕ) → ℕ
 failed_after c x (Some a) got failed = fails_more (fate c x a x.phase got) failed
-failed_after c x None got failed = if comes_to_enter x.phase (moved c x x.phase got).phase then 0 else failed
+failed_after c x None got failed =
+    if comes_to_enter x.phase (moved c x x.phase got).phase then 0 else failed
 
 abbrev pub failed_of : MarkedProgram → Core → Option Thread → (failed : ℕ) → ℕ
 failed_of c s None failed = failed
-failed_of c s (Some x) failed = failed_after c x x.attempt (found_by s.words (wanted c x x.phase)) failed
+failed_of c s (Some x) failed =
+    failed_after c x x.attempt (found_by s.words (wanted c x x.phase)) failed
 
 abbrev pub failed_with : MarkedProgram → Core → (t failed : ℕ) → Happening → ℕ
-failed_with c s t failed (Of u) = if u == t then failed_of c s (slice_get s.threads t) failed else failed
+failed_with c s t failed (Of u) =
+    if u == t then failed_of c s (slice_get s.threads t) failed else failed
 failed_with c s t failed NextPart = failed
 
 abbrev pub failed_from : MarkedProgram → Core → (t failed : ℕ) → List Happening → ℕ

@@ -1,5 +1,5 @@
--- Every run stands for a plain run, where sections run without their lock, too (PLDI 2010 publication, of read-only sections
--- without their lock).
+-- Every run stands for a plain run, where sections run without their lock, too (PLDI 2010
+-- publication, of read-only sections without their lock).
 use Rattle.std.specs.Prelude.{◌≡◌, false, List}
 use Rattle.checked_program.specs.MarkedProgram.{MarkedProgram, IsMarked}
 use Rattle.machine_types.specs.Core.{Happening}
@@ -8,12 +8,20 @@ use Rattle.machine_types.specs.MarkLaws.{HasFrozenTest}
 use Rattle.machine_types.specs.Settings.{AreSettings}
 use Rattle.machine_types.specs.declared.config.Config.{Config}
 use Rattle.laws_states.specs.RunFacts.{HaveWidth}
-use Rattle.laws_states.specs.PartsLaws.{StartHasNoAttempts, EventsMakeNoAttempts, NextMakesNoAttempts}
-use Rattle.laws_states.specs.StateLaws.{ProgramsKeepThreads, StartHasState, EventsKeepState, NextKeepsState}
-use Rattle.laws_objects.specs.ConstructionLaws.{StartHasConstruction, EventsKeepConstruction, NextKeepsConstruction}
+use Rattle.laws_states.specs.PartsLaws.{StartHasNoAttempts, EventsMakeNoAttempts}
+use Rattle.laws_states.specs.PartsLaws.{NextMakesNoAttempts}
+use Rattle.laws_states.specs.StateLaws.{ProgramsKeepThreads, StartHasState, EventsKeepState}
+use Rattle.laws_states.specs.StateLaws.{NextKeepsState}
+use Rattle.laws_objects.specs.ConstructionLaws.{StartHasConstruction, EventsKeepConstruction}
+use Rattle.laws_objects.specs.ConstructionLaws.{NextKeepsConstruction}
 use Rattle.laws_objects.specs.GuardLaws.{EventsKeepGuards}
-use Rattle.laws_simulation.specs.StepsBeside.{FrameSteps, MemorySteps, WaitingSteps, OnwardSteps, LockSteps, WaitPhaseSteps, NextStandsBeside, StartStandsBesidePlain}
-use Rattle.laws_refinement.specs.ElidedSteps.{OthersKeepAttempts, OwnKeepsAttempt, AttemptsAreSilent, AttemptsStandBeside, SectionsFinish, AttemptsAreCounted, FinishesAreCounted, AttemptsPrintNothing}
+use Rattle.laws_simulation.specs.StepsBeside.{FrameSteps, MemorySteps, WaitingSteps, OnwardSteps}
+use Rattle.laws_simulation.specs.StepsBeside.{LockSteps, WaitPhaseSteps, NextStandsBeside}
+use Rattle.laws_simulation.specs.StepsBeside.{StartStandsBesidePlain}
+use Rattle.laws_refinement.specs.ElidedSteps.{OthersKeepAttempts, OwnKeepsAttempt}
+use Rattle.laws_refinement.specs.ElidedSteps.{AttemptsAreSilent, AttemptsStandBeside}
+use Rattle.laws_refinement.specs.ElidedSteps.{SectionsFinish, AttemptsAreCounted}
+use Rattle.laws_refinement.specs.ElidedSteps.{FinishesAreCounted, AttemptsPrintNothing}
 
 -- ---- the laws of events that it follows from
 
@@ -54,7 +62,9 @@ pub record AreElidedLaws : Type 0 where
 -- ---- every run
 
 abbrev pub RunsAreFaithful : Type 0
-RunsAreFaithful = (c : MarkedProgram) (cfg : Config) (hs : List Happening) → IsMarked c → HaveWidth cfg → AreSettings cfg → IsFaithful c cfg hs
+RunsAreFaithful =
+    (c : MarkedProgram) (cfg : Config) (hs : List Happening) → IsMarked c → HaveWidth cfg
+    → AreSettings cfg → IsFaithful c cfg hs
 
 abbrev pub RunsFollow : Type 0
 RunsFollow = AreEventLaws → AreElidedLaws → RunsAreFaithful
@@ -62,7 +72,9 @@ RunsFollow = AreEventLaws → AreElidedLaws → RunsAreFaithful
 -- ---- every run with its attempts turned off
 
 abbrev pub LockedRunsAreFaithful : Type 0
-LockedRunsAreFaithful = (c : MarkedProgram) (cfg : Config) (hs : List Happening) → IsMarked c → HaveWidth cfg → AreSettings cfg → cfg.elide ≡ false → IsFaithful c cfg hs
+LockedRunsAreFaithful =
+    (c : MarkedProgram) (cfg : Config) (hs : List Happening) → IsMarked c → HaveWidth cfg
+    → AreSettings cfg → cfg.elide ≡ false → IsFaithful c cfg hs
 
 abbrev pub LockedRunsFollow : Type 0
 LockedRunsFollow = AreEventLaws → LockedRunsAreFaithful

@@ -1,5 +1,6 @@
--- All that holds after every list of events: of the state, of objects under construction and of attempts, with the plain state
--- that the list stands for, and what the next event of each thread changes.
+-- All that holds after every list of events: of the state, of objects under construction and of
+-- attempts, with the plain state that the list stands for, and what the next event of each thread
+-- changes.
 use Rattle.std.specs.Prelude.{◌≡◌, ℕ, ◌+◌, Bool, List, length, Some, None, slice_get}
 use Rattle.checked_program.specs.MarkedProgram.{MarkedProgram, IsMarked}
 use Rattle.machine_types.specs.Attempts.{Attempts}
@@ -39,7 +40,8 @@ pub record RunStands (c : MarkedProgram) (cfg : Config) (hs : List Happening) : 
   pub frozen_are : AreFrozen c frozen
   -- threads, words, objects, locks and waiting
   pub facts : StateFacts c cfg objects was (core c cfg hs)
-  -- an unfinished object is in no place, in no other thread, and in no frame but the one that builds it
+  -- an unfinished object is in no place, in no other thread, and in no frame but the one that
+  -- builds it
   pub built : Construction c frozen world was objects (core c cfg hs)
   -- each thread has a past, beside the same state
   pub pasts : length (told_after c cfg hs).pasts ≡ c.program.workers + 1
@@ -57,9 +59,13 @@ pub record RunStands (c : MarkedProgram) (cfg : Config) (hs : List Happening) : 
   pub prints : PrintsFit (outcome (core c cfg hs)) state
   -- only thread 0 keeps how an earlier part ended
   pub keep_none : WorkersKeepNone (core c cfg hs).threads
-  -- the next event of a thread changes guarded and frozen places as it may outside attempts, and no word inside one
-  pub guards : (t : ℕ) (x : Thread) → slice_get (core c cfg hs).threads t ≡ Some x → x.attempt ≡ None → KeepsGuards c objects (core c cfg hs) (event c (core c cfg hs) t) x
+  -- the next event of a thread changes guarded and frozen places as it may outside attempts, and no
+  -- word inside one
+  pub guards : (t : ℕ) (x : Thread) → slice_get (core c cfg hs).threads t ≡ Some x
+      → x.attempt ≡ None → KeepsGuards c objects (core c cfg hs) (event c (core c cfg hs) t) x
   pub silent : (t : ℕ) → IsSilent c (core c cfg hs) t
 
 abbrev pub RunsStand : Type 0
-RunsStand = (c : MarkedProgram) (cfg : Config) (hs : List Happening) → IsMarked c → HaveWidth cfg → AreSettings cfg → RunStands c cfg hs
+RunsStand =
+    (c : MarkedProgram) (cfg : Config) (hs : List Happening) → IsMarked c → HaveWidth cfg
+    → AreSettings cfg → RunStands c cfg hs

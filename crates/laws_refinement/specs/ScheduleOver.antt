@@ -7,4 +7,6 @@ use Rattle.machine_types.specs.Schedules.{IsScheduleOf}
 use Rattle.machine_types.specs.declared.config.Config.{Config}
 
 abbrev pub SchedulesEndOver : Type 0
-SchedulesEndOver = (c : MarkedProgram) (cfg : Config) (order : List ℕ) (hs : List Happening) → IsScheduleOf c cfg order hs → IsOver (core c cfg hs)
+SchedulesEndOver =
+    (c : MarkedProgram) (cfg : Config) (order : List ℕ) (hs : List Happening)
+    → IsScheduleOf c cfg order hs → IsOver (core c cfg hs)

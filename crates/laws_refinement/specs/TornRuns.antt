@@ -1,7 +1,9 @@
--- How long a section that runs without its lock goes on where the lock word of its monitor is no longer as the attempt noted it: it
--- may have read what never stood together (PLDI 2010 publication, of read-only sections without their lock; the checks inside a
--- section are the machine's own).
-use Rattle.std.specs.Prelude.{◌≡◌, ℕ, ◌+◌, ◌≤◌, ◌==◌, List, [], ◌∷◌, Option, Some, None, slice_get, if◌then◌else◌}
+-- How long a section that runs without its lock goes on where the lock word of its monitor is no
+-- longer as the attempt noted it: it may have read what never stood together (PLDI 2010
+-- publication, of read-only sections without their lock; the checks inside a section are the
+-- machine's own).
+use Rattle.std.specs.Prelude.{◌≡◌, ℕ, ◌+◌, ◌≤◌, ◌==◌, List, [], ◌∷◌, Option, Some, None, slice_get}
+use Rattle.std.specs.Prelude.{if◌then◌else◌}
 use Rattle.checked_program.specs.MarkedProgram.{MarkedProgram, IsMarked}
 use Rattle.checked_program.specs.Reach.{IsReach}
 use Rattle.machine_types.specs.Attempts.{IsAsNoted}
@@ -36,15 +38,19 @@ abbrev pub if_open : Option Attempt → (n : ℕ) → ℕ
 if_open None n = 0
 if_open (Some a) n = n
 
--- how many instructions thread t begins along a list of events in the attempt that it is in before them, until that ends
+-- how many instructions thread t begins along a list of events in the attempt that it is in before
+-- them, until that ends
 abbrev pub begun_inside : MarkedProgram → Core → (t : ℕ) → List Happening → ℕ
 begun_inside c s t [] = 0
-begun_inside c s t (h ∷ hs) = if_open (attempt_in (slice_get s.threads t)) (begun_by s t h + begun_inside c (happened c s h) t hs)
+begun_inside c s t (h ∷ hs) =
+    if_open (attempt_in (slice_get s.threads t))
+    (begun_by s t h + begun_inside c (happened c s h) t hs)
 
 -- ---- the laws
 
 -- of a thread of a state that a run reaches, in an attempt
-pub record IsTrying (c : MarkedProgram) (cfg : Config) (hs : List Happening) (t : ℕ) (a : Attempt) : Type 0 where
+pub record IsTrying (c : MarkedProgram) (cfg : Config) (hs : List Happening) (t : ℕ) (a : Attempt)
+    : Type 0 where
   pub marked : IsMarked c
   pub width : HaveWidth cfg
   pub settings : AreSettings cfg
@@ -58,10 +64,15 @@ IsTorn words a = IsAsNoted words a → ⊥
 
 -- Once it is, it is so behind whatever happens next.
 abbrev pub NotedNeverReturns : Type 0
-NotedNeverReturns = (c : MarkedProgram) (cfg : Config) (hs : List Happening) (h : Happening) (t : ℕ) (a : Attempt) → IsTrying c cfg hs t a → IsTorn (core c cfg hs).words a → IsTorn (happened c (core c cfg hs) h).words a
+NotedNeverReturns =
+    (c : MarkedProgram) (cfg : Config) (hs : List Happening) (h : Happening) (t : ℕ) (a : Attempt)
+    → IsTrying c cfg hs t a → IsTorn (core c cfg hs).words a
+    → IsTorn (happened c (core c cfg hs) h).words a
 
--- And from then on the attempt begins no more instructions than the method of its section and all that this calls have, whatever
--- happens, and however it ends.
+-- And from then on the attempt begins no more instructions than the method of its section and all
+-- that this calls have, whatever happens, and however it ends.
 abbrev pub TornRunsAreShort : Type 0
-TornRunsAreShort = (c : MarkedProgram) (cfg : Config) (hs more : List Happening) (t n : ℕ) (a : Attempt) → IsTrying c cfg hs t a → IsTorn (core c cfg hs).words a → IsReach c.program a.entry.method n
+TornRunsAreShort =
+    (c : MarkedProgram) (cfg : Config) (hs more : List Happening) (t n : ℕ) (a : Attempt)
+    → IsTrying c cfg hs t a → IsTorn (core c cfg hs).words a → IsReach c.program a.entry.method n
     → begun_inside c (core c cfg hs) t more ≤ n

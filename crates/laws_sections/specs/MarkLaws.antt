@@ -8,7 +8,11 @@ use Rattle.checked_program.specs.declared.section.SectionMark.{SectionMark}
 use Rattle.checked_program.specs.declared.section.FieldUse.{FieldUse}
 
 abbrev pub OneUse : Type 0
-OneUse = (p : Program) (tags : Tagged) (uses others : List FieldUse) → AreUses p tags uses → AreUses p tags others → uses ≡ others
+OneUse =
+    (p : Program) (tags : Tagged) (uses others : List FieldUse) → AreUses p tags uses
+    → AreUses p tags others → uses ≡ others
 
 abbrev pub OneMark : Type 0
-OneMark = (p : Program) (tags : Tagged) (marks others : List SectionMark) → AreMarks p tags marks → AreMarks p tags others → marks ≡ others
+OneMark =
+    (p : Program) (tags : Tagged) (marks others : List SectionMark) → AreMarks p tags marks
+    → AreMarks p tags others → marks ≡ others

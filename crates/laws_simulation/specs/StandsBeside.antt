@@ -1,7 +1,8 @@
--- What a state of the running machine and the plain state that it stands for have in common, so that the next event finds its
--- plain steps: they agree, their objects are the same but for those whose header is not stored yet, and the parts of their
--- threads ended alike.
-use Rattle.std.specs.Prelude.{◌≡◌, ◌≤◌, ◌-◌, ◌⊎◌, ℕ, zero, suc, List, [], ◌∷◌, length, Contains, Some, slice_get, if◌then◌else◌}
+-- What a state of the running machine and the plain state that it stands for have in common, so
+-- that the next event finds its plain steps: they agree, their objects are the same but for those
+-- whose header is not stored yet, and the parts of their threads ended alike.
+use Rattle.std.specs.Prelude.{◌≡◌, ◌≤◌, ◌-◌, ◌⊎◌, ℕ, zero, suc, List, [], ◌∷◌, length, Contains}
+use Rattle.std.specs.Prelude.{Some, slice_get, if◌then◌else◌}
 use Rattle.jvm_types.specs.declared.fixed_words.TheConstants.{OBJECT_HEAD_WORDS}
 use Rattle.jvm_types.specs.declared.outcome.End.{End}
 use Rattle.jvm_types.specs.declared.outcome.End.TheVariants as ends
@@ -23,7 +24,9 @@ use Rattle.machine_types.specs.declared.phase.Phase.TheVariants as phases
 
 -- a thread has made it, and has still to store its header
 abbrev pub IsBeingMade : List Thread → (reference : ℕ) → Type 0
-IsBeingMade threads reference = (t : ℕ) × (x : Thread) × (word : ℕ) × (slice_get threads t ≡ Some x) × (x.phase ≡ phases.Made reference word)
+IsBeingMade threads reference =
+    (t : ℕ) × (x : Thread) × (word : ℕ) × (slice_get threads t ≡ Some x)
+    × (x.phase ≡ phases.Made reference word)
 
 abbrev pub IsAmong : List Object → (reference : ℕ) → Type 0
 IsAmong objects reference = (o : Object) × Contains objects o × (o.reference ≡ reference)
@@ -61,9 +64,13 @@ ends_shown p part phase = ends.Returned ∷ end_of_done (done_roots p) phase
 pub record StandsBeside (p : Program) (objects : List Object) (s : Core) (q : Plain) : Type 0 where
   pub agrees : Agrees p s q
   pub known : ArePlainObjects objects q
-  pub others : (e : Object) → Contains q.objects e → IsAmong objects e.reference ⊎ IsBeingMade s.threads e.reference
-  pub new_objects : (t : ℕ) (x : Thread) (a word : ℕ) → slice_get s.threads t ≡ Some x → x.phase ≡ phases.Made a word → IsPlainNew p q a word
+  pub others : (e : Object) → Contains q.objects e
+      → IsAmong objects e.reference ⊎ IsBeingMade s.threads e.reference
+  pub new_objects : (t : ℕ) (x : Thread) (a word : ℕ) → slice_get s.threads t ≡ Some x
+      → x.phase ≡ phases.Made a word → IsPlainNew p q a word
   pub apart : LieApart p q.objects q.statics q.next
   -- where there is no `done`, its part has returned as soon as it begins
-  pub done : (x : Thread) → slice_get s.threads 0 ≡ Some x → 2 ≤ x.part → done_roots p ≡ [] → x.phase ≡ phases.Ended ends.Returned
-  pub ends : (t : ℕ) (x : Thread) (y : PlainThread) → slice_get s.threads t ≡ Some x → slice_get q.threads t ≡ Some y → y.ended ≡ ends_shown p x.part x.phase
+  pub done : (x : Thread) → slice_get s.threads 0 ≡ Some x → 2 ≤ x.part → done_roots p ≡ []
+      → x.phase ≡ phases.Ended ends.Returned
+  pub ends : (t : ℕ) (x : Thread) (y : PlainThread) → slice_get s.threads t ≡ Some x
+      → slice_get q.threads t ≡ Some y → y.ended ≡ ends_shown p x.part x.phase

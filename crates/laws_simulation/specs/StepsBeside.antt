@@ -1,10 +1,12 @@
--- An event of a thread that is in no attempt stands for a run of the plain machine, to a state that the new one stands beside.
+-- An event of a thread that is in no attempt stands for a run of the plain machine, to a state that
+-- the new one stands beside.
 use Rattle.std.specs.Prelude.{◌≡◌, ℕ, List, Some, None, slice_get}
 use Rattle.checked_program.specs.MarkedProgram.{MarkedProgram, IsMarked}
 use Rattle.machine_types.specs.Accesses.{found_by}
 use Rattle.machine_types.specs.Core.{Core, start, event, next}
 use Rattle.machine_types.specs.declared.effect.Effect.{Effect}
-use Rattle.machine_types.specs.declared.effect.Effect.TheVariants.{Writes, Indexes, Makes, Waits, Notifies, NotifiesAll}
+use Rattle.machine_types.specs.declared.effect.Effect.TheVariants.{Writes, Indexes, Makes, Waits}
+use Rattle.machine_types.specs.declared.effect.Effect.TheVariants.{Notifies, NotifiesAll}
 use Rattle.machine_types.specs.Events.{wanted}
 use Rattle.machine_types.specs.Frames.{Top, top_of, effect_at}
 use Rattle.machine_types.specs.History.{acts_of, steps_of}
@@ -20,16 +22,22 @@ use Rattle.laws_states.specs.RunFacts.{HaveWidth}
 use Rattle.laws_states.specs.StateFacts.{StateFacts}
 use Rattle.laws_simulation.specs.StandsBeside.{StandsBeside}
 
--- the plain steps of the next event of thread t, which is x and in no attempt, and the plain state that they lead to
-pub record StepsBeside (c : MarkedProgram) (objects : List Object) (s : Core) (t : ℕ) (x : Thread) (q : Plain) : Type 0 where
+-- the plain steps of the next event of thread t, which is x and in no attempt, and the plain state
+-- that they lead to
+pub record StepsBeside (c : MarkedProgram) (objects : List Object) (s : Core) (t : ℕ) (x : Thread)
+    (q : Plain) : Type 0 where
   pub after : Plain
-  pub run : plain_run c.program q (steps_of t (acts_of c x x.phase (found_by s.words (wanted c x x.phase)))) ≡ Some after
+  pub run : plain_run c.program q
+      (steps_of t (acts_of c x x.phase (found_by s.words (wanted c x x.phase)))) ≡ Some after
   pub beside : StandsBeside c.program (objects_after c.program s t objects) (event c s t) after
 
 -- of the events of threads for which something holds
 abbrev pub StepsWhere : (MarkedProgram → Thread → Type 0) → Type 0
-StepsWhere Holds = (c : MarkedProgram) (cfg : Config) (objects : List Object) (was : ℕ → Phase) (s : Core) (t : ℕ) (x : Thread) (q : Plain) → IsMarked c → HaveWidth cfg → StateFacts c cfg objects was s → StandsBeside c.program objects s q
-    → slice_get s.threads t ≡ Some x → x.attempt ≡ None → Holds c x → StepsBeside c objects s t x q
+StepsWhere Holds =
+    (c : MarkedProgram) (cfg : Config) (objects : List Object) (was : ℕ → Phase) (s : Core) (t : ℕ)
+    (x : Thread) (q : Plain) → IsMarked c → HaveWidth cfg → StateFacts c cfg objects was s
+    → StandsBeside c.program objects s q → slice_get s.threads t ≡ Some x → x.attempt ≡ None
+    → Holds c x → StepsBeside c objects s t x q
 
 -- ---- the kinds of events
 
@@ -121,7 +129,12 @@ WaitPhaseSteps = StepsWhere (λ c x. WaitsPhase x.phase)
 
 -- where a part of the run begins, the plain machine makes no step
 abbrev pub NextStandsBeside : Type 0
-NextStandsBeside = (c : MarkedProgram) (cfg : Config) (objects : List Object) (was : ℕ → Phase) (s : Core) (q : Plain) → IsMarked c → StateFacts c cfg objects was s → StandsBeside c.program objects s q → StandsBeside c.program objects (next c s) q
+NextStandsBeside =
+    (c : MarkedProgram) (cfg : Config) (objects : List Object) (was : ℕ → Phase) (s : Core)
+    (q : Plain) → IsMarked c → StateFacts c cfg objects was s
+    → StandsBeside c.program objects s q → StandsBeside c.program objects (next c s) q
 
 abbrev pub StartStandsBesidePlain : Type 0
-StartStandsBesidePlain = (c : MarkedProgram) (cfg : Config) → IsMarked c → StandsBeside c.program (start_objects c.program) (start c cfg) (plain_start c.program)
+StartStandsBesidePlain =
+    (c : MarkedProgram) (cfg : Config) → IsMarked c
+    → StandsBeside c.program (start_objects c.program) (start c cfg) (plain_start c.program)

@@ -1,9 +1,11 @@
--- How far the words that are counted up have come: the next free word, the next ticket and the next monitor record. What the
--- threads have done bounds each of them, so that no sum passes what a word holds.
+-- How far the words that are counted up have come: the next free word, the next ticket and the next
+-- monitor record. What the threads have done bounds each of them, so that no sum passes what a word
+-- holds.
 use Rattle.std.specs.Prelude.{◌≤◌, ℕ, ◌+◌, ◌*◌, List, slice_index}
 use Rattle.std.specs.List.{sum_by}
 use Rattle.jvm_types.specs.ProgramInvariant.{words_of}
-use Rattle.jvm_types.specs.declared.fixed_words.TheConstants.{OBJECT_HEAD_WORDS, NEXT_FREE_WORD, NEXT_TICKET_WORD, NEXT_RECORD_WORD}
+use Rattle.jvm_types.specs.declared.fixed_words.TheConstants.{OBJECT_HEAD_WORDS, NEXT_FREE_WORD}
+use Rattle.jvm_types.specs.declared.fixed_words.TheConstants.{NEXT_TICKET_WORD, NEXT_RECORD_WORD}
 use Rattle.jvm_types.specs.declared.limits.TheConstants.{MOST_HEAP}
 use Rattle.jvm_types.specs.declared.outcome.End.TheVariants as ends
 use Rattle.jvm_types.specs.declared.program.Program.{Program}

@@ -1,5 +1,5 @@
--- How far the parts of a run have come: what thread 0 keeps of `init`, that all workers are done when `done` begins, and which
--- roots are left.
+-- How far the parts of a run have come: what thread 0 keeps of `init`, that all workers are done
+-- when `done` begins, and which roots are left.
 use Rattle.std.specs.Prelude.{◌≡◌, ◌≤◌, ℕ, zero, suc, true, List, [], Option, Some, None, slice_get}
 use Rattle.jvm_types.specs.declared.outcome.End.{End}
 use Rattle.jvm_types.specs.declared.outcome.End.TheVariants as ends
@@ -33,7 +33,9 @@ pub record PartsStand (p : Program) (threads : List Thread) : Type 0 where
   pub first : (x : Thread) → slice_get threads 0 ≡ Some x → FirstFits x.part x.first
   pub few : (x : Thread) → slice_get threads 0 ≡ Some x → x.part ≤ 2
   -- when `done` has begun
-  pub workers : (x y : Thread) (u : ℕ) → slice_get threads 0 ≡ Some x → 2 ≤ x.part → slice_get threads (suc u) ≡ Some y → HasFinished y.phase
+  pub workers : (x y : Thread) (u : ℕ) → slice_get threads 0 ≡ Some x → 2 ≤ x.part
+      → slice_get threads (suc u) ≡ Some y → HasFinished y.phase
   pub done : (x : Thread) → slice_get threads 0 ≡ Some x → 2 ≤ x.part → DoneRoots p x.phase x.roots
   -- a part that returned has run all of its roots
-  pub returned : (t : ℕ) (x : Thread) → slice_get threads t ≡ Some x → HasReturned x.phase → x.roots ≡ []
+  pub returned : (t : ℕ) (x : Thread) → slice_get threads t ≡ Some x → HasReturned x.phase
+      → x.roots ≡ []

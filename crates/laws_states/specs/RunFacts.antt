@@ -1,5 +1,6 @@
 -- What holds of every reached state, so that each word that an event finds is what it is read as.
-use Rattle.std.specs.Prelude.{◌≡◌, ◌<◌, ℕ, ◌+◌, ◌^◌, List, length, Some, IfSome, slice_get, slice_index}
+use Rattle.std.specs.Prelude.{◌≡◌, ◌<◌, ℕ, ◌+◌, ◌^◌, List, length, Some, IfSome, slice_get}
+use Rattle.std.specs.Prelude.{slice_index}
 use Rattle.checked_program.specs.MarkedProgram.{MarkedProgram}
 use Rattle.machine_types.specs.Accesses.{accessed, left_by, found_by}
 use Rattle.machine_types.specs.Core.{Core}
@@ -42,7 +43,8 @@ pub record RunFacts (c : MarkedProgram) (cfg : Config) (s : Core) : Type 0 where
 
 -- ---- what a thread finds
 
--- the access of its next event is of a word that there is, leaves a number of 64 bits, and finds what it is read as
+-- the access of its next event is of a word that there is, leaves a number of 64 bits, and finds
+-- what it is read as
 pub record AccessFits (c : MarkedProgram) (s : Core) (x : Thread) : Type 0 where
   pub inside : IfSome (wanted c x x.phase) (λ a. accessed a < length s.words)
   pub sum : IfSome (wanted c x x.phase) (λ a. left_by a (slice_index s.words (accessed a)) < 2 ^ 64)

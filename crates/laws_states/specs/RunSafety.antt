@@ -1,5 +1,5 @@
--- Every run is safe: in each state that it reaches the threads are lawful, their accesses fit, and no live thread is stuck or
--- stands still.
+-- Every run is safe: in each state that it reaches the threads are lawful, their accesses fit, and
+-- no live thread is stuck or stands still.
 use Rattle.std.specs.Prelude.{◌≡◌, ◌≢◌, ℕ, true, List, [], ◌∷◌, Some, IsSome, slice_get}
 use Rattle.jvm_types.specs.declared.program.Program.{Program}
 use Rattle.checked_program.specs.MarkedProgram.{MarkedProgram, IsMarked}
@@ -17,7 +17,8 @@ use Rattle.machine_types.specs.Structure.{IsFlat}
 use Rattle.machine_types.specs.Threads.{Frame, Thread}
 use Rattle.machine_types.specs.declared.config.Config.{Config}
 use Rattle.machine_types.specs.declared.effect.Effect.{Effect}
-use Rattle.machine_types.specs.declared.effect.Effect.TheVariants.{Indexes, Makes, Returns, Waits, Notifies, NotifiesAll}
+use Rattle.machine_types.specs.declared.effect.Effect.TheVariants.{Indexes, Makes, Returns, Waits}
+use Rattle.machine_types.specs.declared.effect.Effect.TheVariants.{Notifies, NotifiesAll}
 use Rattle.machine_types.specs.declared.phase.After.{After}
 use Rattle.machine_types.specs.declared.phase.After.TheVariants.{Return, Unwind}
 use Rattle.machine_types.specs.declared.phase.Phase.{Phase}
@@ -34,7 +35,8 @@ HasCaller p below = IsSome (top_of p below)
 
 -- ---- an instruction
 
--- it goes on by the word that it found; for elements, new objects and monitors `did` says how in every case
+-- it goes on by the word that it found; for elements, new objects and monitors `did` says how in
+-- every case
 abbrev pub GoesOnBy : Program → Top → Effect → (got : ℕ) → Type 0
 GoesOnBy p at (Indexes array index stored) got = Unit {0}
 GoesOnBy p at (Makes word size) got = Unit {0}
@@ -50,7 +52,8 @@ pub record HasInstruction (p : Program) (frames : List Frame) : Type 0 where
   -- its effect is not `Stuck`, and what it names is there
   pub allowed : IsAllowed p at (effect_at p at)
   -- by every word that fits
-  pub goes_on : (got : ℕ) → WordFits p (effect_content p at.target (effect_at p at)) got → GoesOnBy p at (effect_at p at) got
+  pub goes_on : (got : ℕ) → WordFits p (effect_content p at.target (effect_at p at)) got
+      → GoesOnBy p at (effect_at p at) got
 
 -- ---- behind a monitor
 
@@ -66,9 +69,10 @@ abbrev pub HasRoot : Program → (roots : List ℕ) → Type 0
 HasRoot p [] = ⊥
 HasRoot p (number ∷ roots) = IsSome (slice_get p.methods number)
 
--- What the next event of a thread takes, beside what its phase has, is there. The definitions answer without it too, and so hide
--- the want: the thread stays as it is, or a return or an exception ends its root, or a lock is released as from the count 0. An
--- attempt, which an entry may begin, copies the top frame.
+-- What the next event of a thread takes, beside what its phase has, is there. The definitions
+-- answer without it too, and so hide the want: the thread stays as it is, or a return or an
+-- exception ends its root, or a lock is released as from the count 0. An attempt, which an entry
+-- may begin, copies the top frame.
 abbrev pub HasEvent : MarkedProgram → Thread → Phase → Type 0
 HasEvent c x phases.Idle = ⊥
 HasEvent c x (phases.Ended e) = ⊥
@@ -95,4 +99,7 @@ pub record IsSafe (c : MarkedProgram) (s : Core) (x : Thread) : Type 0 where
 
 -- in every state that a run reaches
 abbrev pub RunsAreSafe : Type 0
-RunsAreSafe = (c : MarkedProgram) (cfg : Config) (hs : List Happening) (t : ℕ) (x : Thread) → IsMarked c → HaveWidth cfg → AreSettings cfg → slice_get (core c cfg hs).threads t ≡ Some x → IsSafe c (core c cfg hs) x
+RunsAreSafe =
+    (c : MarkedProgram) (cfg : Config) (hs : List Happening) (t : ℕ) (x : Thread) → IsMarked c
+    → HaveWidth cfg → AreSettings cfg → slice_get (core c cfg hs).threads t ≡ Some x
+    → IsSafe c (core c cfg hs) x

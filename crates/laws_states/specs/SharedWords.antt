@@ -27,9 +27,11 @@ MayStand range content word = Unit {0}
 
 -- the lock word of each of these objects is one
 abbrev pub LocksFit : (range : ℕ) → List Object → (words : List ℕ) → Type 0
-LocksFit range objects words = (o : Object) → Contains objects o → IsLock range (slice_index words o.reference)
+LocksFit range objects words =
+    (o : Object) → Contains objects o → IsLock range (slice_index words o.reference)
 
 -- the owner of each record is 0 or a thread's number and 1, and only threads wait
 pub record RecordsFit (words : List ℕ) : Type 0 where
   pub owners : (r : ℕ) → r < MONITOR_RECORDS → slice_index words (owner_word r) ≤ MOST_WORKERS + 1
-  pub bits : (r : ℕ) → r < MONITOR_RECORDS → slice_index words (bits_word r) < 2 ^ (MOST_WORKERS + 1)
+  pub bits : (r : ℕ) → r < MONITOR_RECORDS
+      → slice_index words (bits_word r) < 2 ^ (MOST_WORKERS + 1)

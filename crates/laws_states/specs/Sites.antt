@@ -1,15 +1,19 @@
 -- The words that events access, each by what stands there: which word it is, and when it is there.
-use Rattle.std.specs.Prelude.{◌≡◌, ℕ, ◌<◌, ◌≤◌, List, length, Contains, Option, Some, None, slice_get}
+use Rattle.std.specs.Prelude.{◌≡◌, ℕ, ◌<◌, ◌≤◌, List, length, Contains, Option, Some, None}
+use Rattle.std.specs.Prelude.{slice_get}
 use Rattle.jvm_types.specs.declared.program.Program.{Program}
 use Rattle.machine_types.specs.Accesses.{accessed}
 use Rattle.machine_types.specs.declared.access.Access.{Access}
-use Rattle.machine_types.specs.declared.access.Access.TheVariants.{Load, Store, Cas, Add, Or, And, Rest}
+use Rattle.machine_types.specs.declared.access.Access.TheVariants.{Load, Store, Cas, Add, Or, And}
+use Rattle.machine_types.specs.declared.access.Access.TheVariants.{Rest}
 use Rattle.machine_types.specs.Core.{Core}
-use Rattle.machine_types.specs.FoundWords.{Content, Lock, Owner, Bits, Header, ThrowableHeader, IntPlace, ReferencePlace, Any}
+use Rattle.machine_types.specs.FoundWords.{Content, Lock, Owner, Bits, Header, ThrowableHeader}
+use Rattle.machine_types.specs.FoundWords.{IntPlace, ReferencePlace, Any}
 use Rattle.machine_types.specs.PlainMemory.{Object, StaticValue, start_statics}
 use Rattle.machine_types.specs.Threads.{Thread}
 use Rattle.machine_types.specs.Words.{owner_word, bits_word, header_word, value_word}
-use Rattle.jvm_types.specs.declared.fixed_words.TheConstants.{NEXT_FREE_WORD, NEXT_RECORD_WORD, MONITOR_RECORDS}
+use Rattle.jvm_types.specs.declared.fixed_words.TheConstants.{NEXT_FREE_WORD, NEXT_RECORD_WORD}
+use Rattle.jvm_types.specs.declared.fixed_words.TheConstants.{MONITOR_RECORDS}
 use Rattle.machine_types.specs.declared.phase.Phase.TheVariants as phases
 
 pub data Site : Type 0 where
@@ -43,11 +47,14 @@ abbrev pub HasObject : List Object → (reference : ℕ) → Type 0
 HasObject objects reference = (o : Object) × Contains objects o × (o.reference ≡ reference)
 
 abbrev pub HasValueAt : List Object → (reference index : ℕ) → Type 0
-HasValueAt objects reference index = (o : Object) × Contains objects o × (o.reference ≡ reference) × (index < length o.values)
+HasValueAt objects reference index =
+    (o : Object) × Contains objects o × (o.reference ≡ reference) × (index < length o.values)
 
 -- a thread has made it, and is about to store its header
 abbrev pub HasNew : Core → (reference : ℕ) → Type 0
-HasNew s reference = (t : ℕ) × (x : Thread) × (word : ℕ) × (slice_get s.threads t ≡ Some x) × (x.phase ≡ phases.Made reference word)
+HasNew s reference =
+    (t : ℕ) × (x : Thread) × (word : ℕ) × (slice_get s.threads t ≡ Some x)
+    × (x.phase ≡ phases.Made reference word)
 
 abbrev pub HasStatic : Program → (word : ℕ) → Type 0
 HasStatic p word = (v : StaticValue) × Contains (start_statics p) v × (v.word ≡ word)
@@ -79,7 +86,8 @@ Suits Any (Counter word) = Unit {0}
 Suits Any (NewHeaderOf reference) = Unit {0}
 Suits content site = ⊥
 
-pub record IsAccessOf (p : Program) (objects : List Object) (s : Core) (content : Content) (access : Access) : Type 0 where
+pub record IsAccessOf (p : Program) (objects : List Object) (s : Core) (content : Content)
+    (access : Access) : Type 0 where
   pub site : Site
   pub there : IsThere p objects s site
   pub word : accessed access ≡ site_word site

@@ -1,5 +1,5 @@
--- All that holds in every state that a run reaches, of its threads and its words, but for what holds of attempts and of objects
--- under construction.
+-- All that holds in every state that a run reaches, of its threads and its words, but for what
+-- holds of attempts and of objects under construction.
 use Rattle.std.specs.Prelude.{◌<◌, ℕ, ◌^◌, List, slice_index}
 use Rattle.checked_program.specs.MarkedProgram.{MarkedProgram}
 use Rattle.machine_types.specs.Core.{Core}
@@ -17,7 +17,8 @@ use Rattle.laws_states.specs.PartsStand.{PartsStand}
 use Rattle.laws_states.specs.ClassInits.{ClassInitsComeFirst}
 
 -- with the objects whose header is stored, and of each thread the phase that counts
-pub record StateFacts (c : MarkedProgram) (cfg : Config) (objects : List Object) (was : ℕ → Phase) (s : Core) : Type 0 where
+pub record StateFacts (c : MarkedProgram) (cfg : Config) (objects : List Object) (was : ℕ → Phase)
+    (s : Core) : Type 0 where
   pub threads : AreThreads c cfg s
   pub parts : PartsStand c.program s.threads
   pub class_inits : ClassInitsComeFirst c.program s.threads

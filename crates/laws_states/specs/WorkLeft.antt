@@ -1,5 +1,6 @@
--- What a thread has still to do, as a number that each of its events makes smaller: an event begins an instruction, counts a turn,
--- takes away a root or a frame, or comes nearer to the end of a chain of events that do none of this.
+-- What a thread has still to do, as a number that each of its events makes smaller: an event begins
+-- an instruction, counts a turn, takes away a root or a frame, or comes nearer to the end of a
+-- chain of events that do none of this.
 use Rattle.std.specs.Prelude.{◌≡◌, ◌<◌, ℕ, ◌+◌, ◌-◌, ◌*◌, true, List, length, Option, Some, None}
 use Rattle.std.specs.List.{sum_by}
 use Rattle.checked_program.specs.MarkedProgram.{MarkedProgram, IsMarked}
@@ -73,9 +74,12 @@ longest_chain = 24
 
 -- ---- all of it
 
--- how many chains may still begin: each instruction pushes one frame at most, and has all turns again
+-- how many chains may still begin: each instruction pushes one frame at most, and has all turns
+-- again
 abbrev pub chains_left : Thread → ℕ
-chains_left x = (x.cfg.turns + 2) * (x.cfg.steps - x.counts.instructions) + (x.cfg.turns - x.turns) + 2 * length x.roots + length x.frames
+chains_left x =
+    (x.cfg.turns + 2) * (x.cfg.steps - x.counts.instructions) + (x.cfg.turns - x.turns) + 2
+    * length x.roots + length x.frames
 
 abbrev pub work_in : Thread → Phase → ℕ
 work_in x phase = longest_chain * chains_left x + (chain x.held phase + inside phase x.attempt)
@@ -90,12 +94,20 @@ all_work s = sum_by work_left s.threads
 
 -- the next event of a live thread, by whatever word it finds
 abbrev pub EventsLessenWork : Type 0
-EventsLessenWork = (c : MarkedProgram) (x : Thread) (got : ℕ) → IsMarked c → IsLawful c x → is_live x.phase ≡ true → work_left (moved c x x.phase got) < work_left x
+EventsLessenWork =
+    (c : MarkedProgram) (x : Thread) (got : ℕ) → IsMarked c → IsLawful c x → is_live x.phase ≡ true
+    → work_left (moved c x x.phase got) < work_left x
 
 -- of a state whose threads are lawful
 abbrev pub EventsLessenAllWork : Type 0
-EventsLessenAllWork = (c : MarkedProgram) (cfg : Config) (s : Core) (t : ℕ) → IsMarked c → AreThreads c cfg s → lives s t ≡ true → all_work (event c s t) < all_work s
+EventsLessenAllWork =
+    (c : MarkedProgram) (cfg : Config) (s : Core) (t : ℕ) → IsMarked c → AreThreads c cfg s
+    → lives s t ≡ true → all_work (event c s t) < all_work s
 
 -- what a thread may have to do, by its settings, roots and frames
 abbrev pub WorkIsBounded : Type 0
-WorkIsBounded = (x : Thread) → work_left x < longest_chain * ((x.cfg.turns + 2) * (x.cfg.steps + 1) + 2 * length x.roots + length x.frames)
+WorkIsBounded =
+    (x : Thread)
+    → work_left x
+    < longest_chain
+    * ((x.cfg.turns + 2) * (x.cfg.steps + 1) + 2 * length x.roots + length x.frames)

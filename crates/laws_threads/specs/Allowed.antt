@@ -1,19 +1,22 @@
--- What the instruction of a verified method may do, by the values that its frame holds (JVMS 4.10.2.2, 6.5). What it means that
--- an object of a class stands at a word is a parameter.
-use Rattle.std.specs.Prelude.{◌≡◌, ℕ, ◌⊎◌, ◌<◌, ◌≤◌, ◌^◌, true, false, List, [], ◌∷◌, length, Option, Some, None, slice_get}
+-- What the instruction of a verified method may do, by the values that its frame holds (JVMS
+-- 4.10.2.2, 6.5). What it means that an object of a class stands at a word is a parameter.
+use Rattle.std.specs.Prelude.{◌≡◌, ℕ, ◌⊎◌, ◌<◌, ◌≤◌, ◌^◌, true, false, List, [], ◌∷◌, length}
+use Rattle.std.specs.Prelude.{Option, Some, None, slice_get}
 use Rattle.std.specs.List.{AllByRecursion}
 use Rattle.jvm_types.specs.ClassTree.{is_subclass}
 use Rattle.jvm_types.specs.CodeTable.{can_throw}
 use Rattle.jvm_types.specs.Members.{is_static}
 use Rattle.jvm_types.specs.ProgramInvariant.{IsClassOf}
 use Rattle.jvm_types.specs.Verifying.{new_class, edges, is_return}
-use Rattle.jvm_types.specs.declared.class_numbers.TheConstants.{OBJECT_CLASS, INT_ARRAY_CLASS, THROWABLE_CLASS}
+use Rattle.jvm_types.specs.declared.class_numbers.TheConstants.{OBJECT_CLASS, INT_ARRAY_CLASS}
+use Rattle.jvm_types.specs.declared.class_numbers.TheConstants.{THROWABLE_CLASS}
 use Rattle.jvm_types.specs.declared.code.Insn.{Insn}
 use Rattle.jvm_types.specs.declared.op_row.Given.{Given}
 use Rattle.jvm_types.specs.declared.op_row.Given.TheVariants.{Fresh}
 use Rattle.jvm_types.specs.declared.op_row.OpRow.{OpRow}
 use Rattle.jvm_types.specs.declared.op_row.Want.{Want}
-use Rattle.jvm_types.specs.declared.op_row.Want.TheVariants.{AnyValue, AnInt, AnObject, AnyReference, AHolder, ToStart}
+use Rattle.jvm_types.specs.declared.op_row.Want.TheVariants.{AnyValue, AnInt, AnObject}
+use Rattle.jvm_types.specs.declared.op_row.Want.TheVariants.{AnyReference, AHolder, ToStart}
 use Rattle.jvm_types.specs.declared.outcome.Thrown.{Thrown}
 use Rattle.jvm_types.specs.declared.outcome.Thrown.TheVariants as thrown
 use Rattle.jvm_types.specs.declared.program.FieldInfo.{FieldInfo}
@@ -25,7 +28,11 @@ use Rattle.jvm_types.specs.declared.typing.VType.{VType}
 use Rattle.jvm_types.specs.declared.typing.VType.TheVariants.{Ref, New}
 use Rattle.machine_types.specs.declared.effect.Variable.{Variable}
 use Rattle.machine_types.specs.declared.effect.Effect.{Effect}
-use Rattle.machine_types.specs.declared.effect.Effect.TheVariants.{Goes, Throws, Reads, Writes, Indexes, Measures, Raises, Makes, Prints, Calls, Returns, Enters, Leaves, Waits, Notifies, NotifiesAll, Stuck}
+use Rattle.machine_types.specs.declared.effect.Effect.TheVariants.{Goes, Throws, Reads, Writes}
+use Rattle.machine_types.specs.declared.effect.Effect.TheVariants.{Indexes, Measures, Raises, Makes}
+use Rattle.machine_types.specs.declared.effect.Effect.TheVariants.{Prints, Calls, Returns, Enters}
+use Rattle.machine_types.specs.declared.effect.Effect.TheVariants.{Leaves, Waits, Notifies}
+use Rattle.machine_types.specs.declared.effect.Effect.TheVariants.{NotifiesAll, Stuck}
 use Rattle.machine_types.specs.Effects.{variable_of}
 use Rattle.machine_types.specs.Ints.{low}
 use Rattle.machine_types.specs.Typed.{Classes, IsNullOr, Holds, KindHolds, IsElementOn}
@@ -66,7 +73,8 @@ WriteHolds m is made (Some write) = GivenHolds m is made write.1
 
 -- a value of its own is of the type that the row says
 abbrev pub HasRowTypes : MethodInfo → Classes → OpRow → (made : ℕ) → Type 0
-HasRowTypes m is r made = AllByRecursion (GivenHolds m is made) r.gives × WriteHolds m is made r.writes
+HasRowTypes m is r made =
+    AllByRecursion (GivenHolds m is made) r.gives × WriteHolds m is made r.writes
 
 -- ---- what an effect may be
 
@@ -79,7 +87,8 @@ abbrev pub HasEdgeToNext : Insn → Type 0
 HasEdgeToNext insn = OneOf (edges insn) insn.next
 
 -- the field that the target names; an instance one is of an object of its class
-pub record IsNamedField (p : Program) (is : Classes) (target : Target) (v : Variable) (f : FieldInfo) : Type 0 where
+pub record IsNamedField (p : Program) (is : Classes) (target : Target) (v : Variable)
+    (f : FieldInfo) : Type 0 where
   pub number : ℕ
   pub named : target ≡ Field number
   pub there : slice_get p.fields number ≡ Some f
@@ -93,8 +102,12 @@ StoredHolds (Some v) = v < 2 ^ 32
 
 -- the type that a new object or array has where it is made, by its header and its size
 abbrev pub MadeAs : Program → MethodInfo → VType → (word size : ℕ) → Type 0
-MadeAs p m (New pc) word size = (class : ℕ) × (new_class m.code m.targets pc ≡ Some class) × IsClassOf p class × (word ≡ header class 0) × (size ≡ object_size p class)
-MadeAs p m (Ref class) word size = (class ≡ INT_ARRAY_CLASS) × (count : ℕ) × (count ≤ p.heap) × (word ≡ header INT_ARRAY_CLASS count) × (size ≡ array_size count)
+MadeAs p m (New pc) word size =
+    (class : ℕ) × (new_class m.code m.targets pc ≡ Some class) × IsClassOf p class
+    × (word ≡ header class 0) × (size ≡ object_size p class)
+MadeAs p m (Ref class) word size =
+    (class ≡ INT_ARRAY_CLASS) × (count : ℕ) × (count ≤ p.heap)
+    × (word ≡ header INT_ARRAY_CLASS count) × (size ≡ array_size count)
 MadeAs p m type word size = ⊥
 
 -- what the machine throws by itself
@@ -107,21 +120,38 @@ IsByMachine thrown.InterruptedException = ⊥
 IsByMachine x = Unit {0}
 
 -- of the instruction of a method, with its target, its row and the stack that it stands on
-abbrev pub Allowed : Program → MethodInfo → Classes → Insn → Target → OpRow → (stack : List ℕ) → Effect → Type 0
+abbrev pub Allowed : Program → MethodInfo → Classes → Insn → Target → OpRow → (stack : List ℕ)
+    → Effect → Type 0
 Allowed p m is insn target r s (Goes to made) = OneOf (edges insn) to × HasRowTypes m is r made
 Allowed p m is insn target r s (Throws x) = (can_throw insn.op ≡ true) × IsByMachine x
-Allowed p m is insn target r s (Reads v) = HasEdgeToNext insn × (f : FieldInfo) × IsNamedField p is target v f × ((got : ℕ) → KindHolds is f.kind got → HasRowTypes m is r got)
-Allowed p m is insn target r s (Writes v word) = HasEdgeToNext insn × (f : FieldInfo) × IsNamedField p is target v f × KindHolds is f.kind word × HasRowTypes m is r 0
-Allowed p m is insn target r s (Indexes a i stored) = HasEdgeToNext insn × IsOf is INT_ARRAY_CLASS a × IsElementOn (value_word a (low i)) stored s × StoredHolds stored × ((got : ℕ) → got < 2 ^ 32 → HasRowTypes m is r got)
-Allowed p m is insn target r s (Measures a) = HasEdgeToNext insn × IsOf is INT_ARRAY_CLASS a × ((got : ℕ) → got < 2 ^ 32 → HasRowTypes m is r got)
+Allowed p m is insn target r s (Reads v) =
+    HasEdgeToNext insn × (f : FieldInfo) × IsNamedField p is target v f
+    × ((got : ℕ) → KindHolds is f.kind got → HasRowTypes m is r got)
+Allowed p m is insn target r s (Writes v word) =
+    HasEdgeToNext insn × (f : FieldInfo) × IsNamedField p is target v f × KindHolds is f.kind word
+    × HasRowTypes m is r 0
+Allowed p m is insn target r s (Indexes a i stored) =
+    HasEdgeToNext insn × IsOf is INT_ARRAY_CLASS a × IsElementOn (value_word a (low i)) stored s
+    × StoredHolds stored × ((got : ℕ) → got < 2 ^ 32 → HasRowTypes m is r got)
+Allowed p m is insn target r s (Measures a) =
+    HasEdgeToNext insn × IsOf is INT_ARRAY_CLASS a
+    × ((got : ℕ) → got < 2 ^ 32 → HasRowTypes m is r got)
 Allowed p m is insn target r s (Raises x) = (can_throw insn.op ≡ true) × IsOf is THROWABLE_CLASS x
-Allowed p m is insn target r s (Makes word size) = HasEdgeToNext insn × (type : VType) × (r.gives ≡ Fresh type ∷ []) × (r.writes ≡ None) × MadeAs p m type word size
+Allowed p m is insn target r s (Makes word size) =
+    HasEdgeToNext insn × (type : VType) × (r.gives ≡ Fresh type ∷ []) × (r.writes ≡ None)
+    × MadeAs p m type word size
 Allowed p m is insn target r s (Prints n) = HasEdgeToNext insn × (n < 2 ^ 32) × HasRowTypes m is r 0
-Allowed p m is insn target r s (Calls number) = (called : MethodInfo) × (target ≡ Method number) × (slice_get p.methods number ≡ Some called)
+Allowed p m is insn target r s (Calls number) =
+    (called : MethodInfo) × (target ≡ Method number) × (slice_get p.methods number ≡ Some called)
 Allowed p m is insn target r s Returns = is_return insn.op ≡ true
-Allowed p m is insn target r s (Enters a) = HasEdgeToNext insn × (IsOf is OBJECT_CLASS a) × HasRowTypes m is r 0
-Allowed p m is insn target r s (Leaves a) = HasEdgeToNext insn × (IsNullOr is OBJECT_CLASS a) × HasRowTypes m is r 0
-Allowed p m is insn target r s (Waits a) = HasEdgeToNext insn × (IsOf is OBJECT_CLASS a) × HasRowTypes m is r 0
-Allowed p m is insn target r s (Notifies a) = HasEdgeToNext insn × (IsOf is OBJECT_CLASS a) × HasRowTypes m is r 0
-Allowed p m is insn target r s (NotifiesAll a) = HasEdgeToNext insn × (IsOf is OBJECT_CLASS a) × HasRowTypes m is r 0
+Allowed p m is insn target r s (Enters a) =
+    HasEdgeToNext insn × (IsOf is OBJECT_CLASS a) × HasRowTypes m is r 0
+Allowed p m is insn target r s (Leaves a) =
+    HasEdgeToNext insn × (IsNullOr is OBJECT_CLASS a) × HasRowTypes m is r 0
+Allowed p m is insn target r s (Waits a) =
+    HasEdgeToNext insn × (IsOf is OBJECT_CLASS a) × HasRowTypes m is r 0
+Allowed p m is insn target r s (Notifies a) =
+    HasEdgeToNext insn × (IsOf is OBJECT_CLASS a) × HasRowTypes m is r 0
+Allowed p m is insn target r s (NotifiesAll a) =
+    HasEdgeToNext insn × (IsOf is OBJECT_CLASS a) × HasRowTypes m is r 0
 Allowed p m is insn target r s Stuck = ⊥

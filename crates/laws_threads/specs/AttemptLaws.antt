@@ -5,7 +5,8 @@ use Rattle.machine_types.specs.Structure.{IsStructured}
 use Rattle.machine_types.specs.Threads.{Frame, Attempt, Thread}
 use Rattle.machine_types.specs.declared.phase.Phase.{Phase}
 
--- the frame behind those below the section is there, and is of the method that entered it, whatever else became of it
+-- the frame behind those below the section is there, and is of the method that entered it, whatever
+-- else became of it
 pub record IsOnBase (a : Attempt) (fs : List Frame) : Type 0 where
   pub based : a.base < length fs
   pub frame : Frame
@@ -14,4 +15,6 @@ pub record IsOnBase (a : Attempt) (fs : List Frame) : Type 0 where
   pub method : a.entry.method ≡ frame.method
 
 abbrev pub AttemptsAreBased : Type 0
-AttemptsAreBased = (c : MarkedProgram) (was : Phase) (s : Thread) (a : Attempt) → IsStructured c was s → s.attempt ≡ Some a → IsOnBase a s.frames
+AttemptsAreBased =
+    (c : MarkedProgram) (was : Phase) (s : Thread) (a : Attempt) → IsStructured c was s
+    → s.attempt ≡ Some a → IsOnBase a s.frames

@@ -16,7 +16,10 @@ pub record Given : Type 0 where
   pub first : Option End
 
 abbrev pub given_of : Thread → Given
-given_of s = record { program = s.program; cfg = s.cfg; number = s.number; part = s.part; first = s.first }
+given_of s =
+    record { program = s.program; cfg = s.cfg; number = s.number; part = s.part; first = s.first }
 
 abbrev pub GivenIsKept : Type 0
-GivenIsKept = (c : MarkedProgram) (s : Thread) (phase : Phase) (got : ℕ) → given_of (moved c s phase got) ≡ given_of s
+GivenIsKept =
+    (c : MarkedProgram) (s : Thread) (phase : Phase) (got : ℕ)
+    → given_of (moved c s phase got) ≡ given_of s

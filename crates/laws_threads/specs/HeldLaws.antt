@@ -16,4 +16,6 @@ AddsHeld (phases.Retake m r depth) = Unit {0}
 AddsHeld phase = ⊥
 
 abbrev pub HeldHasRoom : Type 0
-HeldHasRoom = (c : MarkedProgram) (was : Phase) (s : Thread) → IsStructured c was s → length s.frames ≤ MOST_FRAMES → AddsHeld s.phase → length s.held < places_of c
+HeldHasRoom =
+    (c : MarkedProgram) (was : Phase) (s : Thread) → IsStructured c was s
+    → length s.frames ≤ MOST_FRAMES → AddsHeld s.phase → length s.held < places_of c

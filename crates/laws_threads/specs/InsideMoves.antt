@@ -1,5 +1,6 @@
--- An attempt stands whatever its thread does inside it: an instruction, an exception, a nested exit or entry, and the entry of
--- the section itself. That is what the frames of marked sections keep, in the words of the machine.
+-- An attempt stands whatever its thread does inside it: an instruction, an exception, a nested exit
+-- or entry, and the entry of the section itself. That is what the frames of marked sections keep,
+-- in the words of the machine.
 use Rattle.std.specs.Prelude.{◌≡◌, ℕ, suc, ◌+◌, true, List, [], ◌∷◌, length, Option, Some, None}
 use Rattle.jvm_types.specs.Numbers.{has_number}
 use Rattle.jvm_types.specs.Verifying.{edges}
@@ -9,7 +10,8 @@ use Rattle.checked_program.specs.MarkedProgram.{MarkedProgram, IsMarked}
 use Rattle.machine_types.specs.Elision.{enters_marked}
 use Rattle.machine_types.specs.Frames.{Top, top_of, effect_at, handler_at}
 use Rattle.machine_types.specs.HeldMonitors.{held_at}
-use Rattle.machine_types.specs.Onward.{Onward, Running, Throwing, Entering, Leaving, RootReturned, Uncaught, handed, after, done}
+use Rattle.machine_types.specs.Onward.{Onward, Running, Throwing, Entering, Leaving, RootReturned}
+use Rattle.machine_types.specs.Onward.{Uncaught, handed, after, done}
 use Rattle.machine_types.specs.ReadyObjects.{class_of}
 use Rattle.machine_types.specs.Standing.{Standing}
 use Rattle.machine_types.specs.Structure.{Stands, AttemptStands}
@@ -51,28 +53,51 @@ GoesAlong insn e = Unit {0}
 
 -- an instruction, but for its check
 abbrev pub StepsInside : Type 0
-StepsInside = (c : MarkedProgram) (fs : List Frame) (held : List Held) (a : Attempt) (at : Top) (got : ℕ) (onward : Onward) → IsMarked c → AttemptStands c phases.Run fs held a → Stands c phases.Run fs held (Some a)
-    → top_of c.program fs ≡ Some at → GoesAlong at.insn (effect_at c.program at) → done c.program at (effect_at c.program at) got ≡ Some onward → OnwardStands c onward → GoesOnInside c onward held a
+StepsInside =
+    (c : MarkedProgram) (fs : List Frame) (held : List Held) (a : Attempt) (at : Top) (got : ℕ)
+    (onward : Onward) → IsMarked c → AttemptStands c phases.Run fs held a
+    → Stands c phases.Run fs held (Some a) → top_of c.program fs ≡ Some at
+    → GoesAlong at.insn (effect_at c.program at)
+    → done c.program at (effect_at c.program at) got ≡ Some onward → OnwardStands c onward
+    → GoesOnInside c onward held a
 
 -- no thread is at an element there
 abbrev pub NoElementInside : Type 0
-NoElementInside = (c : MarkedProgram) (word : ℕ) (stored : Option ℕ) (fs : List Frame) (held : List Held) (a : Attempt) → IsMarked c → AttemptStands c (phases.Element word stored) fs held a → Stands c (phases.Element word stored) fs held (Some a) → ⊥
+NoElementInside =
+    (c : MarkedProgram) (word : ℕ) (stored : Option ℕ) (fs : List Frame) (held : List Held)
+    (a : Attempt) → IsMarked c → AttemptStands c (phases.Element word stored) fs held a
+    → Stands c (phases.Element word stored) fs held (Some a) → ⊥
 
 -- an exception and one frame
 abbrev pub ThrowsInside : Type 0
-ThrowsInside = (c : MarkedProgram) (x : ℕ) (class : Thrown) (fs : List Frame) (held : List Held) (a : Attempt) (at : Top) → IsMarked c → AttemptStands c (phases.Throw x class) fs held a → Stands c (phases.Throw x class) fs held (Some a)
-    → top_of c.program fs ≡ Some at → OnwardStands c (handed c.program x class at (handler_at (class_of class) at)) → GoesOnInside c (handed c.program x class at (handler_at (class_of class) at)) held a
+ThrowsInside =
+    (c : MarkedProgram) (x : ℕ) (class : Thrown) (fs : List Frame) (held : List Held) (a : Attempt)
+    (at : Top) → IsMarked c → AttemptStands c (phases.Throw x class) fs held a
+    → Stands c (phases.Throw x class) fs held (Some a) → top_of c.program fs ≡ Some at
+    → OnwardStands c (handed c.program x class at (handler_at (class_of class) at))
+    → GoesOnInside c (handed c.program x class at (handler_at (class_of class) at)) held a
 
 -- an exit that is not the last one
 abbrev pub LeavesInside : Type 0
-LeavesInside = (c : MarkedProgram) (m : ℕ) (e : After) (fs : List Frame) (held : List Held) (a : Attempt) (n : ℕ) (onward : Onward) → IsMarked c → AttemptStands c (phases.Leave m e) fs held a → Stands c (phases.Leave m e) fs held (Some a)
-    → a.inner ≡ suc n → after c.program fs e ≡ Some onward → OnwardStands c onward → GoesOnInside c onward held (record a { inner = n })
+LeavesInside =
+    (c : MarkedProgram) (m : ℕ) (e : After) (fs : List Frame) (held : List Held) (a : Attempt)
+    (n : ℕ) (onward : Onward) → IsMarked c → AttemptStands c (phases.Leave m e) fs held a
+    → Stands c (phases.Leave m e) fs held (Some a) → a.inner ≡ suc n
+    → after c.program fs e ≡ Some onward → OnwardStands c onward
+    → GoesOnInside c onward held (record a { inner = n })
 
 -- an entry inside
 abbrev pub EntersInside : Type 0
-EntersInside = (c : MarkedProgram) (m tried : ℕ) (fs : List Frame) (held : List Held) (a : Attempt) → AttemptStands c (phases.Enter m tried) fs held a → AttemptStands c phases.Run fs held (record a { inner = a.inner + 1 })
+EntersInside =
+    (c : MarkedProgram) (m tried : ℕ) (fs : List Frame) (held : List Held) (a : Attempt)
+    → AttemptStands c (phases.Enter m tried) fs held a
+    → AttemptStands c phases.Run fs held (record a { inner = a.inner + 1 })
 
 -- the entry of a marked section, of which an attempt is made
 abbrev pub BeginsAttempt : Type 0
-BeginsAttempt = (c : MarkedProgram) (m tried noted number : ℕ) (f : Frame) (below : List Frame) (held : List Held) → IsMarked c → Stands c (phases.Enter m tried) (f ∷ below) held None → held_at held m ≡ None → enters_marked c (f ∷ below) ≡ true
-    → AttemptStands c phases.Run (f ∷ below) held (record { monitor = m; noted = noted; base = length below; number = number; inner = 0; entry = f })
+BeginsAttempt =
+    (c : MarkedProgram) (m tried noted number : ℕ) (f : Frame) (below : List Frame)
+    (held : List Held) → IsMarked c → Stands c (phases.Enter m tried) (f ∷ below) held None
+    → held_at held m ≡ None → enters_marked c (f ∷ below) ≡ true
+    → AttemptStands c phases.Run (f ∷ below) held (record
+    { monitor = m; noted = noted; base = length below; number = number; inner = 0; entry = f })

@@ -11,5 +11,8 @@ use Rattle.machine_types.specs.declared.phase.Phase.{Phase}
 
 -- where its locking stays structured
 abbrev pub TypesAreKept : Type 0
-TypesAreKept = (c : MarkedProgram) (was next : Phase) (s : Thread) (got : ℕ) → IsMarked c → IsStructured c was s → IsTypedWithin c s → IsBounded c.program s → IsRooted c.program s → Fits c s got
-    → IsStructured c next (moved c s s.phase got) → IsTypedWithin c (moved c s s.phase got)
+TypesAreKept =
+    (c : MarkedProgram) (was next : Phase) (s : Thread) (got : ℕ) → IsMarked c
+    → IsStructured c was s → IsTypedWithin c s → IsBounded c.program s → IsRooted c.program s
+    → Fits c s got → IsStructured c next (moved c s s.phase got)
+    → IsTypedWithin c (moved c s s.phase got)

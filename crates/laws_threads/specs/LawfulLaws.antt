@@ -8,4 +8,6 @@ use Rattle.machine_types.specs.Threads.{Thread}
 
 -- an event keeps it lawful, if the word that the event finds fits
 abbrev pub LawfulIsKept : Type 0
-LawfulIsKept = (c : MarkedProgram) (s : Thread) (got : ℕ) → IsMarked c → IsLawful c s → Fits c s got → IsLawful c (moved c s s.phase got)
+LawfulIsKept =
+    (c : MarkedProgram) (s : Thread) (got : ℕ) → IsMarked c → IsLawful c s → Fits c s got
+    → IsLawful c (moved c s s.phase got)

@@ -12,7 +12,8 @@ use Rattle.machine_types.specs.declared.phase.Phase.{Phase}
 use Rattle.machine_types.specs.declared.phase.Phase.TheVariants as phases
 use Rattle.laws_threads.specs.StateLaws.{counted_of}
 
--- ---- who waits for its part: each worker until `init` has returned, and then thread 0 until `done` begins
+-- ---- who waits for its part: each worker until `init` has returned, and then thread 0 until
+-- `done` begins
 
 abbrev pub PartFits : (part : ℕ) → Phase → (workers : List Thread) → Type 0
 PartFits zero phase workers = AllByRecursion (λ w. w.phase ≡ phases.Idle) workers
@@ -29,7 +30,10 @@ StartFitsParts = (c : MarkedProgram) (cfg : Config) → PartsFit (start c cfg).t
 
 -- an event leaves a thread its part
 abbrev pub EventsFitParts : Type 0
-EventsFitParts = (c : MarkedProgram) (s : Core) (t : ℕ) → ((x : Thread) (got : ℕ) → (moved c x x.phase got).part ≡ x.part) → PartsFit s.threads → PartsFit (event c s t).threads
+EventsFitParts =
+    (c : MarkedProgram) (s : Core) (t : ℕ)
+    → ((x : Thread) (got : ℕ) → (moved c x x.phase got).part ≡ x.part) → PartsFit s.threads
+    → PartsFit (event c s t).threads
 
 abbrev pub NextFitsParts : Type 0
 NextFitsParts = (c : MarkedProgram) (s : Core) → PartsFit s.threads → PartsFit (next c s).threads
@@ -37,7 +41,10 @@ NextFitsParts = (c : MarkedProgram) (s : Core) → PartsFit s.threads → PartsF
 -- ---- so the threads of a part that begins are structured
 
 abbrev pub counted_next : MarkedProgram → (was : ℕ → Phase) → Core → (u : ℕ) → Phase
-counted_next c was s u = if may_begin s.threads then counted_of (was u) (slice_get (next c s).threads u) else was u
+counted_next c was s u =
+    if may_begin s.threads then counted_of (was u) (slice_get (next c s).threads u) else was u
 
 abbrev pub NextKeepsStructure : Type 0
-NextKeepsStructure = (c : MarkedProgram) (was : ℕ → Phase) (s : Core) → PartsFit s.threads → Structure c was s.threads → Structure c (counted_next c was s) (next c s).threads
+NextKeepsStructure =
+    (c : MarkedProgram) (was : ℕ → Phase) (s : Core) → PartsFit s.threads
+    → Structure c was s.threads → Structure c (counted_next c was s) (next c s).threads

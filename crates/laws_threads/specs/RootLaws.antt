@@ -7,4 +7,6 @@ use Rattle.machine_types.specs.Threads.{Thread}
 
 -- an event leaves a thread roots of its part, and a frame wherever one is needed
 abbrev pub RootsAreKept : Type 0
-RootsAreKept = (c : MarkedProgram) (s : Thread) (got : ℕ) → IsRooted c.program s → IsRooted c.program (moved c s s.phase got)
+RootsAreKept =
+    (c : MarkedProgram) (s : Thread) (got : ℕ) → IsRooted c.program s
+    → IsRooted c.program (moved c s s.phase got)

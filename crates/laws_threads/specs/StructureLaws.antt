@@ -37,4 +37,6 @@ abbrev pub StaysStructured : MarkedProgram → (was : Phase) → Thread → Type
 StaysStructured c was s = IsStructured c (counted_by was s.phase) s
 
 abbrev pub StructureIsKept : Type 0
-StructureIsKept = (c : MarkedProgram) (was : Phase) (s : Thread) (got : ℕ) → IsMarked c → IsStructured c was s → IsTypedWithin c s → IsRooted c.program s → StaysStructured c was (moved c s s.phase got)
+StructureIsKept =
+    (c : MarkedProgram) (was : Phase) (s : Thread) (got : ℕ) → IsMarked c → IsStructured c was s
+    → IsTypedWithin c s → IsRooted c.program s → StaysStructured c was (moved c s s.phase got)

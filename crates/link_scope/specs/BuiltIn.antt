@@ -6,7 +6,14 @@ use Rattle.jvm_types.specs.declared.program.Target.TheVariants as targets
 use Rattle.link_scope.specs.declared.built_in.BuiltIn.{BuiltIn}
 
 abbrev pub entry_of : BuiltIn → Entry
-entry_of b = record { class = b.class; name = b.name.now; descriptor = b.descriptor.now; flags = b.flags; target = b.target }
+entry_of b =
+    record {
+      class = b.class;
+      name = b.name.now;
+      descriptor = b.descriptor.now;
+      flags = b.flags;
+      target = b.target;
+    }
 
 -- those that stand before the throwables'
 abbrev pub first_methods : List Entry

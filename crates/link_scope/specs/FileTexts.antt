@@ -1,5 +1,6 @@
 -- The texts of the pools of some files, by numbers.
-use Rattle.std.specs.Prelude.{◌≡◌, ℕ, nat_lt, Bool, false, List, [], Option, Some, None, slice_get, codes}
+use Rattle.std.specs.Prelude.{◌≡◌, ℕ, nat_lt, Bool, false, List, [], Option, Some, None, slice_get}
+use Rattle.std.specs.Prelude.{codes}
 use Rattle.std.specs.Option.{unwrap_or}
 use Rattle.jvm_types.specs.ClassNames.{text_at, class_names, file_class}
 use Rattle.jvm_types.specs.declared.class_file.Constant.{Constant}
@@ -20,16 +21,18 @@ IsRow numbers pool row = (i : ℕ) → IsNumbered numbers (text_at pool i) (in_r
 
 -- each file has its row
 abbrev pub AreRows : List (List ℕ × ℕ) → List ClassFile → List (List ℕ) → Type 0
-AreRows numbers files rows = (file i : ℕ) → IsNumbered numbers (file_text files file i) (in_rows rows file i)
+AreRows numbers files rows =
+    (file i : ℕ) → IsNumbered numbers (file_text files file i) (in_rows rows file i)
 
 -- some files, with the number of each text of their pools
 pub record NumberedFiles : Type 0 where
   pub files : List ClassFile
   pub numbers : List (List ℕ × ℕ)
 
--- The texts were read among the classes of the files, each file has its row, no two texts have one number, and the number
--- of `<init>` is known.
-pub record AreTextsRead (files : List ClassFile) (classes : List (List ℕ)) (numbers : List (List ℕ × ℕ)) (table : List (List ℕ)) (init_number : Option ℕ) : Type 0 where
+-- The texts were read among the classes of the files, each file has its row, no two texts have one
+-- number, and the number of `<init>` is known.
+pub record AreTextsRead (files : List ClassFile) (classes : List (List ℕ))
+    (numbers : List (List ℕ × ℕ)) (table : List (List ℕ)) (init_number : Option ℕ) : Type 0 where
   pub names : classes ≡ class_names files
   pub rows : AreRows numbers files table
   pub apart : AreApart numbers

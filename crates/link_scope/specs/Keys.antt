@@ -5,7 +5,8 @@ use Rattle.link_scope.specs.declared.table.Key.{Key}
 use Rattle.link_scope.specs.declared.scope.Found.{Found}
 
 abbrev pub is_key : Key → Key → Bool
-is_key key other = (key.class == other.class) && (key.name == other.name) && (key.descriptor == other.descriptor)
+is_key key other =
+    (key.class == other.class) && (key.name == other.name) && (key.descriptor == other.descriptor)
 
 -- the member with a key
 abbrev pub found_at : List (Key × Found) → Key → Option Found

@@ -1,5 +1,6 @@
 -- What the calls of a scope answer, in terms of the files that it is made of.
-use Rattle.std.specs.Prelude.{◌≡◌, ℕ, ◌<◌, ◌≤◌, Bool, false, List, [], length, take, Option, Some, None, slice_get}
+use Rattle.std.specs.Prelude.{◌≡◌, ℕ, ◌<◌, ◌≤◌, Bool, false, List, [], length, take, Option, Some}
+use Rattle.std.specs.Prelude.{None, slice_get}
 use Rattle.std.specs.List.{AllByRecursion}
 use Rattle.jvm_types.specs.ClassGrammar.{IsClass}
 use Rattle.jvm_types.specs.ClassNames.{text_at, class_name, class_names}
@@ -26,7 +27,8 @@ file_text files file i = text_at (pool_of_file files file) i
 -- what was found is the member of this name
 abbrev pub IsFound : List ℕ → Option Found → Option Entry → Type 0
 IsFound name None None = Unit {0}
-IsFound name (Some f) (Some e) = (f.class ≡ e.class) × (f.flags ≡ e.flags) × (f.target ≡ e.target) × (e.name ≡ name)
+IsFound name (Some f) (Some e) =
+    (f.class ≡ e.class) × (f.flags ≡ e.flags) × (f.target ≡ e.target) × (e.name ≡ name)
 IsFound name found entry = ⊥
 
 -- at most 64 classes
@@ -45,7 +47,8 @@ pub record IsFileOf (f : FileOf) : Type 0 where
   pub here : slice_get f.files f.number ≡ Some f.class
   pub class : IsClass f.class
 
--- whether the field, or the method, of this number in its class has the name and the descriptor of one before it
+-- whether the field, or the method, of this number in its class has the name and the descriptor of
+-- one before it
 abbrev pub repeats : List Constant → List ClassMember → ℕ → Option ClassMember → Bool
 repeats pool members number None = false
 repeats pool members number (Some m) = is_repeated pool (take number members) m

@@ -1,5 +1,6 @@
 -- Texts by numbers: equal texts have one number, and what a text means is known by its number.
-use Rattle.std.specs.Prelude.{◌≡◌, ℕ, bytes_eq, List, [], map, Option, Some, is_some, IsSomeAnd, slice_get}
+use Rattle.std.specs.Prelude.{◌≡◌, ℕ, bytes_eq, List, [], map, Option, Some, is_some, IsSomeAnd}
+use Rattle.std.specs.Prelude.{slice_get}
 use Rattle.std.specs.Map.{lookup}
 use Rattle.jvm_types.specs.ClassNames.{class_number, named_class}
 use Rattle.jvm_types.specs.Descriptors.{field_kind, method_signature}
@@ -16,7 +17,9 @@ IsNumbered numbers text n = number_of numbers text ≡ Some n
 
 -- no two texts have one number
 abbrev pub AreApart : List (List ℕ × ℕ) → Type 0
-AreApart numbers = (text other : List ℕ) (n : ℕ) → IsNumbered numbers text n → IsNumbered numbers other n → text ≡ other
+AreApart numbers =
+    (text other : List ℕ) (n : ℕ) → IsNumbered numbers text n → IsNumbered numbers other n
+    → text ≡ other
 
 -- each text keeps its number
 abbrev pub Keeps : List (List ℕ × ℕ) → List (List ℕ × ℕ) → Type 0
@@ -39,8 +42,11 @@ pub record Numbered : Type 0 where
 abbrev pub by_bytes : List (Bor (List ℕ) × ℕ) → List (List ℕ × ℕ)
 by_bytes entries = map {B = List ℕ × ℕ} (λ (e : Bor (List ℕ) × ℕ). (e.0.now, e.1)) entries
 
--- the empty text has the number 0, no two texts have one number, and each text's meaning stands at its number
-pub record AreTexts (names : List (List ℕ)) (numbers : List (List ℕ × ℕ)) (meanings : List Meaning) : Type 0 where
+-- the empty text has the number 0, no two texts have one number, and each text's meaning stands at
+-- its number
+pub record AreTexts (names : List (List ℕ)) (numbers : List (List ℕ × ℕ)) (meanings : List Meaning)
+    : Type 0 where
   pub empty : IsNumbered numbers [] 0
   pub apart : AreApart numbers
-  pub meant : (text : List ℕ) (n : ℕ) → IsNumbered numbers text n → IsSomeAnd (slice_get meanings n) (IsMeaning names text)
+  pub meant : (text : List ℕ) (n : ℕ) → IsNumbered numbers text n
+      → IsSomeAnd (slice_get meanings n) (IsMeaning names text)

@@ -33,14 +33,17 @@ Links fault made (Err e) = IsLinkErrorOf fault e
 
 -- a method of a file, with its number in its class
 abbrev pub method_of : FileOf → (number : ℕ) → ClassMember → Declared
-method_of f number m = record { file = f.number; place = number; pool = f.class.constants; member = m }
+method_of f number m =
+    record { file = f.number; place = number; pool = f.class.constants; member = m }
 
 -- the first refusal of what some methods use, whose instructions are the first of a list
 abbrev pub use_faults : Scope → List Declared → List (List Insn) → Option LinkFault
 use_faults s methods code = first_fault (map (uses_fault s) (zip methods code))
 
--- nothing refuses some methods, which stand behind those before them, with the first instructions of a list; the rest are left
-pub record AreLinked (s : Scope) (methods : List Declared) (code left : List (List Insn)) (old new : List MethodInfo) : Type 0 where
+-- nothing refuses some methods, which stand behind those before them, with the first instructions
+-- of a list; the rest are left
+pub record AreLinked (s : Scope) (methods : List Declared) (code left : List (List Insn))
+    (old new : List MethodInfo) : Type 0 where
   pub unrefused : use_faults s methods code ≡ None
   pub rest : left ≡ drop (length methods) code
   pub added : new ≡ old ++ linked_methods s (zip methods code)

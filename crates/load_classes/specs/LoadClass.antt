@@ -1,11 +1,13 @@
--- The class of a load: one object with two counters, and as many synchronized methods as the load's size says, which add to them by
--- factors that come from a number. Each worker calls each method, and reads both counters behind each call.
+-- The class of a load: one object with two counters, and as many synchronized methods as the load's
+-- size says, which add to them by factors that come from a number. Each worker calls each method,
+-- and reads both counters behind each call.
 use Rattle.std.specs.Prelude.{ℕ, zero, suc, ◌+◌, ◌*◌, ◌/◌, ◌%◌, ◌^◌, List, [], ◌∷◌, ◌++◌, codes}
 use Rattle.std.specs.List.{flat_map, range_with_len}
 use Rattle.std.specs.Fmt.{decimal}
 use Rattle.jvm_types.specs.Numbers.{u2}
 use Rattle.jvm_types.specs.declared.class_file.Constant.{Constant}
-use Rattle.jvm_types.specs.declared.class_file.Constant.TheVariants.{Gap, Utf8, Class, Field, Method, NameAndType}
+use Rattle.jvm_types.specs.declared.class_file.Constant.TheVariants.{Gap, Utf8, Class, Field}
+use Rattle.jvm_types.specs.declared.class_file.Constant.TheVariants.{Method, NameAndType}
 use Rattle.jvm_types.specs.declared.class_file.MemberAttr.TheVariants as member_attrs
 use Rattle.jvm_types.specs.declared.class_file.Member.{Member}
 use Rattle.jvm_types.specs.declared.class_file.ClassFile.{ClassFile}
@@ -24,7 +26,8 @@ factors x (suc size) = ((next_number x / 65536) % 100) ∷ factors (next_number 
 
 -- ---- the constant pool
 
--- The entries that each load has, in four groups; the comment behind each has its index, and what it names where that isn't plain.
+-- The entries that each load has, in four groups; the comment behind each has its index, and what
+-- it names where that isn't plain.
 
 -- the names of the class and of its members
 abbrev pub own_names : List Constant
@@ -93,7 +96,8 @@ println =
 abbrev pub fixed_constants : List Constant
 fixed_constants = own_names ++ own_members ++ system_out ++ println
 
--- the index of the name of a method that adds, counted from 0; its name and type and the method itself have the next two
+-- the index of the name of a method that adds, counted from 0; its name and type and the method
+-- itself have the next two
 abbrev pub name_index : ℕ → ℕ
 name_index k = 44 + 3 * k
 
@@ -102,7 +106,8 @@ abbrev pub adder_name : ℕ → List ℕ
 adder_name k = codes "w" ++ decimal (k + 1)
 
 abbrev pub adder_constants : ℕ → List Constant
-adder_constants k = Utf8 (adder_name k) ∷ NameAndType (name_index k) 13 ∷ Method 2 (name_index k + 1) ∷ []
+adder_constants k =
+    Utf8 (adder_name k) ∷ NameAndType (name_index k) 13 ∷ Method 2 (name_index k + 1) ∷ []
 
 abbrev pub load_constants : ℕ → List Constant
 load_constants size = fixed_constants ++ flat_map adder_constants (range_with_len 0 size)
@@ -115,14 +120,23 @@ method flags name descriptor max_stack max_locals bytes = record {
   flags = flags;
   name = name;
   descriptor = descriptor;
-  attrs = member_attrs.Code (record { max_stack = max_stack; max_locals = max_locals; bytes = bytes; rows = []; attrs = []; name = 12 }) ∷ [];
+  attrs =
+      member_attrs.Code (record {
+        max_stack = max_stack;
+        max_locals = max_locals;
+        bytes = bytes;
+        rows = [];
+        attrs = [];
+        name = 12;
+      }) ∷ [];
 }
 
 -- aload_0; invokespecial Object.<init>; return
 abbrev pub constructor : Member
 constructor = method 0 10 11 1 1 (42 ∷ 183 ∷ 0 ∷ 21 ∷ 177 ∷ [])
 
--- aload_0; aload_0; getfield a; iload_1; bipush FACTOR; imul; iadd; putfield a, and the same with b and isub; return
+-- aload_0; aload_0; getfield a; iload_1; bipush FACTOR; imul; iadd; putfield a, and the same with b
+-- and isub; return
 abbrev pub adder_bytes : ℕ → List ℕ
 adder_bytes factor =
     42 ∷ 42 ∷ 180 ∷ 0 ∷ 24 ∷ 27 ∷ 16 ∷ factor ∷ 104 ∷ 96 ∷ 181 ∷ 0 ∷ 24
@@ -149,8 +163,8 @@ counter_reader = method SYNCHRONIZED 16 15 1 1 (42 ∷ 180 ∷ 0 ∷ 24 ∷ 172 
 abbrev pub first_part : Member
 first_part = method STATIC 17 11 2 0 (187 ∷ 0 ∷ 2 ∷ 89 ∷ 183 ∷ 0 ∷ 22 ∷ 179 ∷ 0 ∷ 28 ∷ 177 ∷ [])
 
--- getstatic p; iload_0; invokevirtual the method that adds; getstatic p; invokevirtual r; ifeq N; getstatic out; iconst_1;
--- invokevirtual println; N:
+-- getstatic p; iload_0; invokevirtual the method that adds; getstatic p; invokevirtual r; ifeq N;
+-- getstatic out; iconst_1; invokevirtual println; N:
 abbrev pub call_bytes : ℕ → List ℕ
 call_bytes k =
     178 ∷ 0 ∷ 28 ∷ 26 ∷ 182 ∷ (u2 (name_index k + 2)
@@ -163,18 +177,24 @@ run_bytes size = flat_map call_bytes (range_with_len 0 size) ++ 177 ∷ []
 abbrev pub worker_part : ℕ → Member
 worker_part size = method STATIC 18 13 2 1 (run_bytes size)
 
--- done: getstatic out; getstatic p; invokevirtual g; invokevirtual println, and the same with r; return
+-- done: getstatic out; getstatic p; invokevirtual g; invokevirtual println, and the same with r;
+-- return
 abbrev pub last_part : Member
 last_part = method STATIC 19 11 2 0
-    (178 ∷ 0 ∷ 38 ∷ 178 ∷ 0 ∷ 28 ∷ 182 ∷ 0 ∷ 32 ∷ 182 ∷ 0 ∷ 43 ∷ 178 ∷ 0 ∷ 38 ∷ 178 ∷ 0 ∷ 28 ∷ 182 ∷ 0 ∷ 30 ∷ 182 ∷ 0 ∷ 43 ∷ 177 ∷ [])
+    (178 ∷ 0 ∷ 38 ∷ 178 ∷ 0 ∷ 28 ∷ 182 ∷ 0 ∷ 32 ∷ 182 ∷ 0 ∷ 43 ∷ 178 ∷ 0 ∷ 38 ∷ 178 ∷ 0 ∷ 28 ∷ 182
+    ∷ 0 ∷ 30 ∷ 182 ∷ 0 ∷ 43 ∷ 177 ∷ [])
 
 abbrev pub load_methods : ℕ → ℕ → List Member
-load_methods size seed = constructor ∷ (adders 0 (factors seed size) ++ (sum_reader ∷ counter_reader ∷ first_part ∷ worker_part size ∷ last_part ∷ []))
+load_methods size seed =
+    constructor
+    ∷ (adders 0 (factors seed size)
+    ++ (sum_reader ∷ counter_reader ∷ first_part ∷ worker_part size ∷ last_part ∷ []))
 
 -- ---- the class
 
 abbrev pub field : (flags name descriptor : ℕ) → Member
-field flags name descriptor = record { flags = flags; name = name; descriptor = descriptor; attrs = [] }
+field flags name descriptor =
+    record { flags = flags; name = name; descriptor = descriptor; attrs = [] }
 
 -- private int a, b; static Load p
 abbrev pub load_fields : List Member

@@ -1,5 +1,6 @@
 -- Which phases and which instructions occur in worked runs.
-use Rattle.std.specs.Prelude.{◌≡◌, ℕ, zero, suc, true, false, Bool, List, [], ◌∷◌, map, replicate, slice_get, slice_set, Option, Some, None}
+use Rattle.std.specs.Prelude.{◌≡◌, ℕ, zero, suc, true, false, Bool, List, [], ◌∷◌, map, replicate}
+use Rattle.std.specs.Prelude.{slice_get, slice_set, Option, Some, None}
 use Rattle.jvm_types.specs.declared.code.Op.{Op}
 use Rattle.jvm_types.specs.declared.code.Op.TheVariants as ops
 use Rattle.checked_program.specs.MarkedProgram.{MarkedProgram}
@@ -130,22 +131,30 @@ abbrev pub with_numbers : List ℕ → List Bool → List Bool
 with_numbers [] seen = seen
 with_numbers (n ∷ ns) seen = with_numbers ns (slice_set seen n true)
 
-abbrev pub seen_along : (most : ℕ) → (MarkedProgram → Core → Happening → List ℕ) → MarkedProgram → Core → Stage → List Bool → List Bool
+abbrev pub seen_along : (most : ℕ) → (MarkedProgram → Core → Happening → List ℕ) → MarkedProgram
+    → Core → Stage → List Bool → List Bool
 seen_along zero look c s stage seen = seen
-seen_along (suc n) look c s stage seen = by_turn (λ after on more. seen_along n look c after on more) (turn_at stage s)
+seen_along (suc n) look c s stage seen =
+    by_turn (λ after on more. seen_along n look c after on more) (turn_at stage s)
   where
     by_turn : (Core → Stage → List Bool → List Bool) → Option Turn → List Bool
     by_turn more None = with_numbers (look c s NextPart) seen
-    by_turn more (Some t) = more (happened c s t.happening) t.stage (with_numbers (look c s t.happening) seen)
+    by_turn more (Some t) =
+        more (happened c s t.happening) t.stage (with_numbers (look c s t.happening) seen)
 
 abbrev pub seen_in : (MarkedProgram → Core → Happening → List ℕ) → List Run → List Bool → List Bool
 seen_in look [] seen = seen
-seen_in look (r ∷ rs) seen = seen_in look rs (seen_along most_events look r.program (first_state r) (First r.order) seen)
+seen_in look (r ∷ rs) seen =
+    seen_in look rs (seen_along most_events look r.program (first_state r) (First r.order) seen)
 
 -- ---- all of them occur
 
 abbrev pub AllPhasesOccur : Type 0
-AllPhasesOccur = seen_in phases_at (runs.fought_grows ∷ runs.fought_stays_flat ∷ runs.elements_throw ∷ runs.waiters_wake ∷ runs.deep_waiters_wake ∷ []) (replicate 25 false) ≡ replicate 25 true
+AllPhasesOccur =
+    seen_in phases_at (runs.fought_grows ∷ runs.fought_stays_flat ∷ runs.elements_throw
+    ∷ runs.waiters_wake ∷ runs.deep_waiters_wake ∷ []) (replicate 25 false) ≡ replicate 25 true
 
 abbrev pub AllInstructionsOccur : Type 0
-AllInstructionsOccur = seen_in instructions_at (runs.ints_compute ∷ runs.moves_go ∷ runs.elements_throw ∷ runs.torn_counts ∷ runs.spinning_ends ∷ []) (replicate 62 false) ≡ replicate 62 true
+AllInstructionsOccur =
+    seen_in instructions_at (runs.ints_compute ∷ runs.moves_go ∷ runs.elements_throw
+    ∷ runs.torn_counts ∷ runs.spinning_ends ∷ []) (replicate 62 false) ≡ replicate 62 true

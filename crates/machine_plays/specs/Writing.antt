@@ -25,17 +25,20 @@ pub record InstructionLine : Type 0 where
   pub target : Target
 
 abbrev pub line_to : (pc next : ℕ) → Op → Target → InstructionLine
-line_to pc next op target = record { insn = record { pc = pc; next = next; op = op }; target = target }
+line_to pc next op target =
+    record { insn = record { pc = pc; next = next; op = op }; target = target }
 
 abbrev pub plain_line : (pc next : ℕ) → Op → InstructionLine
 plain_line pc next op = line_to pc next op targets.Nothing
 
 abbrev pub handler_row : (start last handler class : ℕ) → Row
-handler_row start last handler class = record { start = start; «end» = last; handler = handler; catch_class = class }
+handler_row start last handler class =
+    record { start = start; «end» = last; handler = handler; catch_class = class }
 
 -- ---- programs of one class, which has the number 17, with 4,096 heap words
 
-abbrev pub play_method : (flags : ℕ) → (name descriptor : List ℕ) → List Kind → Option Kind → (max_stack max_locals : ℕ) → List InstructionLine → List Row → MethodInfo
+abbrev pub play_method : (flags : ℕ) → (name descriptor : List ℕ) → List Kind → Option Kind
+    → (max_stack max_locals : ℕ) → List InstructionLine → List Row → MethodInfo
 play_method flags name descriptor args result max_stack max_locals lines rows = record {
   class = 17;
   flags = flags;
@@ -51,7 +54,8 @@ play_method flags name descriptor args result max_stack max_locals lines rows = 
 }
 
 abbrev pub private_field : Kind → (index : ℕ) → FieldInfo
-private_field kind index = record { class = 17; flags = 2; kind = kind; index = index; start = pos 0 }
+private_field kind index =
+    record { class = 17; flags = 2; kind = kind; index = index; start = pos 0 }
 
 abbrev pub static_field : Kind → (word : ℕ) → FieldInfo
 static_field kind word = record { class = 17; flags = 8; kind = kind; index = word; start = pos 0 }
@@ -59,9 +63,12 @@ static_field kind word = record { class = 17; flags = 8; kind = kind; index = wo
 abbrev pub mark : (method : ℕ) → Spot → (n : ℕ) → SectionMark
 mark method spot n = record { method = method; spot = spot; mark = n }
 
-abbrev pub loaded : (name : List ℕ) → (workers : ℕ) → List FieldInfo → List MethodInfo → List SectionMark → MarkedProgram
+abbrev pub loaded : (name : List ℕ) → (workers : ℕ) → List FieldInfo → List MethodInfo
+    → List SectionMark → MarkedProgram
 loaded name workers fields methods marks = record {
-  program = record { names = name ∷ []; heap = 4096; workers = workers; fields = fields; methods = methods };
+  program =
+      record
+      { names = name ∷ []; heap = 4096; workers = workers; fields = fields; methods = methods };
   typings = [];
   tags = [];
   marks = marks;
@@ -70,18 +77,28 @@ loaded name workers fields methods marks = record {
 -- ---- settings and orders
 
 abbrev pub usual : Config
-usual = record { steps = 10000000; turns = 4294967295; prints = 65536; elide = true; range = 4294967295 }
+usual =
+    record
+    { steps = 10000000; turns = 4294967295; prints = 65536; elide = true; range = 4294967295 }
 
 abbrev pub thread_turns : (n t : ℕ) → List ℕ
 thread_turns n t = replicate n t
 
 -- ---- what a run comes to
 
-abbrev pub report : End → List Print → (instructions elided failed locked inflated : ℕ) → ThreadReport
+abbrev pub report : End → List Print → (instructions elided failed locked inflated : ℕ)
+    → ThreadReport
 report e prints instructions elided failed locked inflated = record {
   «end» = e;
   prints = prints;
-  counts = record { instructions = instructions; elided = elided; failed = failed; locked = locked; inflated = inflated };
+  counts =
+      record {
+        instructions = instructions;
+        elided = elided;
+        failed = failed;
+        locked = locked;
+        inflated = inflated;
+      };
 }
 
 abbrev pub print_of : (ticket : ℕ) → (value : ℤ) → Print

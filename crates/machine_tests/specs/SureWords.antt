@@ -1,5 +1,5 @@
--- Words that fit whatever the event of a thread in a phase may read them as. A run over words of a test's own looks at each word
--- that it finds, since no law speaks of such words.
+-- Words that fit whatever the event of a thread in a phase may read them as. A run over words of a
+-- test's own looks at each word that it finds, since no law speaks of such words.
 use Rattle.std.specs.Prelude.{ℕ, nat_le, Bool, true, false, ◌&&◌}
 use Rattle.machine_types.specs.LockWords.{is_lock_word}
 use Rattle.machine_types.specs.declared.access.Access.{Access}

@@ -14,8 +14,10 @@ use Rattle.machine_types.specs.declared.phase.Phase.{Phase}
 use Rattle.machine_types.specs.declared.plain.Act.{Act}
 use Rattle.machine_types.specs.declared.plain.Act.TheVariants as acts
 
--- the entry of the thread and what is due are steps of the plain machine, which lead to its frames and to what its phase says
-pub record ReachesPresent (p : Program) (q : Plain) (t : ℕ) (was : Phase) (x : Thread) (due : List Act) : Type 0 where
+-- the entry of the thread and what is due are steps of the plain machine, which lead to its frames
+-- and to what its phase says
+pub record ReachesPresent (p : Program) (q : Plain) (t : ℕ) (was : Phase) (x : Thread)
+    (due : List Act) : Type 0 where
   pub after : Plain
   pub run : plain_run p q (steps_of t (acts.Enter ∷ due)) ≡ Some after
   pub thread : PlainThread
@@ -26,5 +28,8 @@ pub record ReachesPresent (p : Program) (q : Plain) (t : ℕ) (was : Phase) (x :
 
 -- of each attempt whose lock word is as it was noted, from the plain state that the run stands for
 abbrev pub AttemptsArePlain : Type 0
-AttemptsArePlain = (c : MarkedProgram) (cfg : Config) (told : Told) (q : Plain) (k : FactsBeside c cfg told q) → IsProgram c.program → (t : ℕ) (x : Thread) (a : Attempt) → slice_get told.core.threads t ≡ Some x → x.attempt ≡ Some a
-    → IsAsNoted told.core.words a → ReachesPresent c.program q t (k.facts.was t) x (past_at told t).due
+AttemptsArePlain =
+    (c : MarkedProgram) (cfg : Config) (told : Told) (q : Plain) (k : FactsBeside c cfg told q)
+    → IsProgram c.program → (t : ℕ) (x : Thread) (a : Attempt)
+    → slice_get told.core.threads t ≡ Some x → x.attempt ≡ Some a → IsAsNoted told.core.words a
+    → ReachesPresent c.program q t (k.facts.was t) x (past_at told t).due

@@ -1,6 +1,7 @@
--- Two of the parts in which a thread's state is lawful by itself: its numbers are within their bounds, and its roots are those
--- of its part.
-use Rattle.std.specs.Prelude.{◌≡◌, ◌<◌, ◌≤◌, ℕ, zero, suc, ◌+◌, List, [], ◌∷◌, length, Option, Some, None, IfSome, IsTrue}
+-- Two of the parts in which a thread's state is lawful by itself: its numbers are within their
+-- bounds, and its roots are those of its part.
+use Rattle.std.specs.Prelude.{◌≡◌, ◌<◌, ◌≤◌, ℕ, zero, suc, ◌+◌, List, [], ◌∷◌, length, Option, Some}
+use Rattle.std.specs.Prelude.{None, IfSome, IsTrue}
 use Rattle.std.specs.List.{AllByRecursion}
 use Rattle.jvm_types.specs.Numbers.{has_number}
 use Rattle.jvm_types.specs.declared.limits.TheConstants.{MOST_WORKERS}
@@ -60,7 +61,9 @@ IsInner m a instructions = a.monitor ≡ m → a.inner < instructions
 
 -- one more entry of the monitor that is entered has been begun
 abbrev pub EntryFits : Phase → List Held → Option Attempt → (instructions : ℕ) → Type 0
-EntryFits (phases.Enter m tried) held attempt instructions = (IfSome (depth_at held m) (λ depth. depth < instructions)) × (IfSome attempt (λ a. IsInner m a instructions))
+EntryFits (phases.Enter m tried) held attempt instructions =
+    (IfSome (depth_at held m) (λ depth. depth < instructions))
+    × (IfSome attempt (λ a. IsInner m a instructions))
 EntryFits phase held attempt instructions = Unit {0}
 
 -- ---- sections: each one took an instruction, and the one at hand has too
@@ -108,7 +111,8 @@ pub record IsBounded (p : Program) (s : Thread) : Type 0 where
   pub inner : IfSome s.attempt (λ a. a.inner ≤ s.counts.instructions)
   pub entry : EntryFits s.phase s.held s.attempt s.counts.instructions
   pub inflated : s.counts.inflated + flat_held s.held ≤ s.counts.locked
-  pub sections : s.counts.elided + s.counts.failed + s.counts.locked + under_way s.attempt s.phase ≤ s.counts.instructions
+  pub sections : s.counts.elided + s.counts.failed + s.counts.locked + under_way s.attempt s.phase
+      ≤ s.counts.instructions
 
 -- ---- roots
 
@@ -129,5 +133,6 @@ FramesFit phase [] roots = ⊥
 FramesFit phase (f ∷ frames) roots = Unit {0}
 
 pub record IsRooted (p : Program) (s : Thread) : Type 0 where
-  pub roots : AllByRecursion (λ number. IsTrue (has_number (part_roots p s.number s.part) number)) s.roots
+  pub roots : AllByRecursion (λ number. IsTrue (has_number (part_roots p s.number s.part) number))
+      s.roots
   pub frames : FramesFit s.phase s.frames s.roots

@@ -1,5 +1,7 @@
--- Unfinished objects of frozen classes are in no place, in no other thread, and in no frame but the one that builds them.
-use Rattle.std.specs.Prelude.{◌≡◌, ℕ, ◌-◌, ◌==◌, Bool, true, false, ◌&&◌, List, [], ◌∷◌, length, drop, Contains, Option, Some, None, slice_get, slice_index}
+-- Unfinished objects of frozen classes are in no place, in no other thread, and in no frame but the
+-- one that builds them.
+use Rattle.std.specs.Prelude.{◌≡◌, ℕ, ◌-◌, ◌==◌, Bool, true, false, ◌&&◌, List, [], ◌∷◌, length}
+use Rattle.std.specs.Prelude.{drop, Contains, Option, Some, None, slice_get, slice_index}
 use Rattle.jvm_types.specs.CodeTable.{is_init}
 use Rattle.jvm_types.specs.Members.{is_static}
 use Rattle.jvm_types.specs.ProgramInvariant.{words_of}
@@ -30,14 +32,17 @@ use Rattle.machine_types.specs.declared.phase.Toward.TheVariants as towards
 use Rattle.machine_types.specs.declared.phase.Phase.TheVariants as phases
 use Rattle.machine_types.specs.Standing.{Standing, CallsMethod, Operands, Thrown, row_at, tags_of}
 use Rattle.machine_types.specs.Structure.{operands_in}
-use Rattle.machine_types.specs.Worlds.{Header, Made, Begun, Builder, builder, World, IsFinished, IsOwnOrFinished, IsWorld, IsViewOf, finished, with_builder}
+use Rattle.machine_types.specs.Worlds.{Header, Made, Begun, Builder, builder, World, IsFinished}
+use Rattle.machine_types.specs.Worlds.{IsOwnOrFinished, IsWorld, IsViewOf, finished, with_builder}
 
 -- ---- some frozen classes, as a test: those with a frozen or a guarded field are among them
 
 pub record AreFrozen (c : MarkedProgram) (frozen : ℕ → Bool) : Type 0 where
   pub those : (class : ℕ) → frozen class ≡ true → IsFrozenClass c.program (tags_of c) class
-  pub with_frozen : (fi : ℕ) (k : IsFrozenField c.program (tags_of c) fi) → frozen k.field.class ≡ true
-  pub with_guarded : (fi : ℕ) (k : IsGuardedField c.program (tags_of c) fi) → frozen k.field.class ≡ true
+  pub with_frozen : (fi : ℕ) (k : IsFrozenField c.program (tags_of c) fi)
+      → frozen k.field.class ≡ true
+  pub with_guarded : (fi : ℕ) (k : IsGuardedField c.program (tags_of c) fi)
+      → frozen k.field.class ≡ true
 
 abbrev pub is_frozen_class : (frozen : ℕ → Bool) → Option ℕ → Bool
 is_frozen_class frozen None = false
@@ -58,7 +63,8 @@ if_so true A B = A
 if_so false A B = B
 
 -- Fresh pc v: v is what the `new` at the pc made
-abbrev pub SlotByType : (Old : ℕ → Type 0) (Fresh : (pc v : ℕ) → Type 0) (young : ℕ → Bool) → VType → (v : ℕ) → Type 0
+abbrev pub SlotByType : (Old : ℕ → Type 0) (Fresh : (pc v : ℕ) → Type 0) (young : ℕ → Bool) → VType
+    → (v : ℕ) → Type 0
 SlotByType Old Fresh young types.Null v = v ≡ 0
 SlotByType Old Fresh young (types.Ref class) v = Old v
 SlotByType Old Fresh young types.This v = Old v
@@ -66,12 +72,14 @@ SlotByType Old Fresh young (types.New pc) v = if_so (young pc) (Fresh pc v) (Old
 SlotByType Old Fresh young type v = Unit {0}
 
 -- with the tag of `this` the receiver, whatever its type; and no other slot has its type
-abbrev pub OwnSlot : (Old : ℕ → Type 0) (Fresh : (pc v : ℕ) → Type 0) (young : ℕ → Bool) → (receiver : ℕ) → VType → Tag → (v : ℕ) → Type 0
+abbrev pub OwnSlot : (Old : ℕ → Type 0) (Fresh : (pc v : ℕ) → Type 0) (young : ℕ → Bool)
+    → (receiver : ℕ) → VType → Tag → (v : ℕ) → Type 0
 OwnSlot Old Fresh young receiver type This v = v ≡ receiver
 OwnSlot Old Fresh young receiver types.This tag v = ⊥
 OwnSlot Old Fresh young receiver type tag v = SlotByType Old Fresh young type v
 
-abbrev pub SlotIs : (Old : ℕ → Type 0) (Fresh : (pc v : ℕ) → Type 0) (own : Bool) (young : ℕ → Bool) → (receiver : ℕ) → VType → Tag → (v : ℕ) → Type 0
+abbrev pub SlotIs : (Old : ℕ → Type 0) (Fresh : (pc v : ℕ) → Type 0) (own : Bool) (young : ℕ → Bool)
+    → (receiver : ℕ) → VType → Tag → (v : ℕ) → Type 0
 SlotIs Old Fresh true young receiver type tag v = OwnSlot Old Fresh young receiver type tag v
 SlotIs Old Fresh false young receiver type tag v = SlotByType Old Fresh young type v
 
@@ -80,8 +88,9 @@ SlotsAre Is [] [] [] = Unit {0}
 SlotsAre Is (type ∷ types) (tag ∷ tags) (v ∷ vs) = Is type tag v × SlotsAre Is types tags vs
 SlotsAre Is types tags vs = ⊥
 
--- ---- what a fresh slot of a frame has: an object that the frame made; or, where it waits for the `<init>` of one, the receiver
--- that it called that on; where an exception is thrown nothing is said, since no instruction takes it
+-- ---- what a fresh slot of a frame has: an object that the frame made; or, where it waits for the
+-- `<init>` of one, the receiver that it called that on; where an exception is thrown nothing is
+-- said, since no instruction takes it
 
 pub data BuilderTurn : Type 0 where
   Runs : BuilderTurn
@@ -90,7 +99,8 @@ pub data BuilderTurn : Type 0 where
   Throws : BuilderTurn
 
 abbrev pub FreshAtCall : World → (t height receiver : ℕ) → Option (VType × ℕ) → (pc v : ℕ) → Type 0
-FreshAtCall w t height receiver (Some (types.New at, class)) pc v = if_so (pc == at) (v ≡ receiver) (w v ≡ Some (builder t height (Made pc)))
+FreshAtCall w t height receiver (Some (types.New at, class)) pc v =
+    if_so (pc == at) (v ≡ receiver) (w v ≡ Some (builder t height (Made pc)))
 FreshAtCall w t height receiver begun pc v = w v ≡ Some (builder t height (Made pc))
 
 abbrev pub IsFresh : World → (t height : ℕ) → BuilderTurn → (pc v : ℕ) → Type 0
@@ -105,34 +115,48 @@ abbrev pub ReceiverIs : World → (next t height : ℕ) → (own : Bool) → (re
 ReceiverIs w next t height true receiver = w receiver ≡ Some (builder t height Begun)
 ReceiverIs w next t height false receiver = IsFinished w next receiver
 
-abbrev pub SlotOf : (frozen : ℕ → Bool) → World → (next t height : ℕ) → BuilderTurn → MethodInfo → (receiver : ℕ) → VType → Tag → (v : ℕ) → Type 0
-SlotOf frozen w next t height turn m receiver = SlotIs (IsFinished w next) (IsFresh w t height turn) (builds frozen m) (makes_frozen frozen m) receiver
+abbrev pub SlotOf : (frozen : ℕ → Bool) → World → (next t height : ℕ) → BuilderTurn → MethodInfo
+    → (receiver : ℕ) → VType → Tag → (v : ℕ) → Type 0
+SlotOf frozen w next t height turn m receiver =
+    SlotIs (IsFinished w next) (IsFresh w t height turn) (builds frozen m) (makes_frozen frozen m)
+    receiver
 
-abbrev pub StackIs : (VType → Tag → (v : ℕ) → Type 0) → BuilderTurn → (count : ℕ) → List VType → List Tag → List ℕ → Type 0
+abbrev pub StackIs : (VType → Tag → (v : ℕ) → Type 0) → BuilderTurn → (count : ℕ) → List VType
+    → List Tag → List ℕ → Type 0
 StackIs Is Runs count types tags vs = SlotsAre Is types tags vs
-StackIs Is (WaitsFor receiver begun) count types tags vs = SlotsAre Is (drop count types) (drop count tags) vs
+StackIs Is (WaitsFor receiver begun) count types tags vs =
+    SlotsAre Is (drop count types) (drop count tags) vs
 StackIs Is Throws count types tags vs = Unit {0}
 
-pub record FrameKeeps (c : MarkedProgram) (frozen : ℕ → Bool) (w : World) (next t height : ℕ) (turn : BuilderTurn) (f : Frame) : Type 0 where
+pub record FrameKeeps (c : MarkedProgram) (frozen : ℕ → Bool) (w : World) (next t height : ℕ)
+    (turn : BuilderTurn) (f : Frame) : Type 0 where
   pub stands : Standing c f
   pub receiver : ReceiverIs w next t height (builds frozen stands.method) f.receiver
-  pub stack : StackIs (SlotOf frozen w next t height turn stands.method f.receiver) turn (length (row_at c f stands).takes) stands.types.stack stands.tags.stack f.stack
-  pub locals : SlotsAre (SlotOf frozen w next t height turn stands.method f.receiver) stands.types.locals stands.tags.locals f.locals
+  pub stack : StackIs (SlotOf frozen w next t height turn stands.method f.receiver) turn
+      (length (row_at c f stands).takes) stands.types.stack stands.tags.stack f.stack
+  pub locals : SlotsAre (SlotOf frozen w next t height turn stands.method f.receiver)
+      stands.types.locals stands.tags.locals f.locals
 
 -- it waits for a method with the receiver
-pub record WaitKeeps (c : MarkedProgram) (frozen : ℕ → Bool) (w : World) (next t height callee receiver : ℕ) (f : Frame) : Type 0 where
+pub record WaitKeeps (c : MarkedProgram) (frozen : ℕ → Bool) (w : World)
+    (next t height callee receiver : ℕ) (f : Frame) : Type 0 where
   pub begun : Option (VType × ℕ)
   pub keeps : FrameKeeps c frozen w next t height (WaitsFor receiver begun) f
   pub calls : CallsMethod c f keeps.stands callee
-  pub begun_is : begun ≡ started keeps.stands.method.class (row_at c f keeps.stands).takes keeps.stands.types.stack
+  pub begun_is : begun
+      ≡ started keeps.stands.method.class (row_at c f keeps.stands).takes keeps.stands.types.stack
 
-abbrev pub KeepBelow : MarkedProgram → (frozen : ℕ → Bool) → World → (next t : ℕ) → Frame → List Frame → Type 0
+abbrev pub KeepBelow : MarkedProgram → (frozen : ℕ → Bool) → World → (next t : ℕ) → Frame
+    → List Frame → Type 0
 KeepBelow c frozen w next t g [] = Unit {0}
-KeepBelow c frozen w next t g (f ∷ fs) = WaitKeeps c frozen w next t (length fs) g.method g.receiver f × KeepBelow c frozen w next t f fs
+KeepBelow c frozen w next t g (f ∷ fs) =
+    WaitKeeps c frozen w next t (length fs) g.method g.receiver f × KeepBelow c frozen w next t f fs
 
-abbrev pub FramesKeep : MarkedProgram → (frozen : ℕ → Bool) → World → (next t : ℕ) → BuilderTurn → List Frame → Type 0
+abbrev pub FramesKeep : MarkedProgram → (frozen : ℕ → Bool) → World → (next t : ℕ) → BuilderTurn
+    → List Frame → Type 0
 FramesKeep c frozen w next t turn [] = Unit {0}
-FramesKeep c frozen w next t turn (f ∷ fs) = FrameKeeps c frozen w next t (length fs) turn f × KeepBelow c frozen w next t f fs
+FramesKeep c frozen w next t turn (f ∷ fs) =
+    FrameKeeps c frozen w next t (length fs) turn f × KeepBelow c frozen w next t f fs
 
 -- ---- threads
 
@@ -145,16 +169,22 @@ abbrev pub made_world : World → (a : ℕ) → (young : Bool) → Builder → W
 made_world w a true b = with_builder w a b
 made_world w a false b = finished w a
 
--- In Made the top frame lacks its object. With it the frames stand as the world will be when the header is stored.
-pub record MadeKeeps (c : MarkedProgram) (frozen : ℕ → Bool) (w : World) (next t a height : ℕ) (fs : List Frame) : Type 0 where
+-- In Made the top frame lacks its object. With it the frames stand as the world will be when the
+-- header is stored.
+pub record MadeKeeps (c : MarkedProgram) (frozen : ℕ → Bool) (w : World) (next t a height : ℕ)
+    (fs : List Frame) : Type 0 where
   pub pc : ℕ
   pub young : Bool
   pub now : w a ≡ Some (builder t height Header)
-  pub keep : FramesKeep c frozen (made_world w a young (builder t height (Made pc))) next t Runs (pushed a fs)
+  pub keep : FramesKeep c frozen (made_world w a young (builder t height (Made pc))) next t Runs
+      (pushed a fs)
 
-abbrev pub PhaseKeepsFrames : MarkedProgram → (frozen : ℕ → Bool) → World → (next t : ℕ) → Phase → List Frame → Type 0
-PhaseKeepsFrames c frozen w next t (phases.Made a word) fs = MadeKeeps c frozen w next t a (length fs - 1) fs
-PhaseKeepsFrames c frozen w next t phase fs = FramesKeep c frozen w next t (turn_by (operands_in phase)) fs
+abbrev pub PhaseKeepsFrames : MarkedProgram → (frozen : ℕ → Bool) → World → (next t : ℕ) → Phase
+    → List Frame → Type 0
+PhaseKeepsFrames c frozen w next t (phases.Made a word) fs =
+    MadeKeeps c frozen w next t a (length fs - 1) fs
+PhaseKeepsFrames c frozen w next t phase fs =
+    FramesKeep c frozen w next t (turn_by (operands_in phase)) fs
 
 -- an exception that is carried is finished
 abbrev pub AfterKeeps : World → (next : ℕ) → After → Type 0
@@ -177,7 +207,8 @@ PhaseKeeps w next t (phases.Leave m a) = IsOwnOrFinished w next t m × AfterKeep
 PhaseKeeps w next t (phases.Grow m toward) = IsOwnOrFinished w next t m × TowardKeeps w next toward
 PhaseKeeps w next t (phases.FlatOut m a) = IsOwnOrFinished w next t m × AfterKeeps w next a
 PhaseKeeps w next t (phases.Own m r toward) = IsOwnOrFinished w next t m × TowardKeeps w next toward
-PhaseKeeps w next t (phases.FatIn m r toward) = IsOwnOrFinished w next t m × TowardKeeps w next toward
+PhaseKeeps w next t (phases.FatIn m r toward) =
+    IsOwnOrFinished w next t m × TowardKeeps w next toward
 PhaseKeeps w next t (phases.WaitBit m r) = IsOwnOrFinished w next t m
 PhaseKeeps w next t (phases.WaitOut m r) = IsOwnOrFinished w next t m
 PhaseKeeps w next t (phases.WaitLook m r depth) = IsOwnOrFinished w next t m
@@ -188,16 +219,19 @@ PhaseKeeps w next t (phases.NotifyAll m r) = IsOwnOrFinished w next t m
 PhaseKeeps w next t phase = Unit {0}
 
 -- and the frames with that of the entry put back, as the world is if the attempt fails
-pub record AttemptKeeps (c : MarkedProgram) (frozen : ℕ → Bool) (w : World) (next t : ℕ) (fs : List Frame) (a : Attempt) : Type 0 where
+pub record AttemptKeeps (c : MarkedProgram) (frozen : ℕ → Bool) (w : World) (next t : ℕ)
+    (fs : List Frame) (a : Attempt) : Type 0 where
   pub monitor : IsOwnOrFinished w next t a.monitor
   pub goes_back : FramesKeep c frozen w next t Runs (put_back a fs)
 
-abbrev pub AttemptKeepsIn : MarkedProgram → (frozen : ℕ → Bool) → World → (next t : ℕ) → List Frame → Option Attempt → Type 0
+abbrev pub AttemptKeepsIn : MarkedProgram → (frozen : ℕ → Bool) → World → (next t : ℕ) → List Frame
+    → Option Attempt → Type 0
 AttemptKeepsIn c frozen w next t fs None = Unit {0}
 AttemptKeepsIn c frozen w next t fs (Some a) = AttemptKeeps c frozen w next t fs a
 
 -- was: the phase that counts. The frames and the phase are of the world as the thread sees it.
-pub record ThreadKeeps (c : MarkedProgram) (frozen : ℕ → Bool) (w : World) (next t : ℕ) (was : Phase) (s : Thread) : Type 0 where
+pub record ThreadKeeps (c : MarkedProgram) (frozen : ℕ → Bool) (w : World) (next t : ℕ)
+    (was : Phase) (s : Thread) : Type 0 where
   pub now : World
   pub now_is : IsViewOf now w t s.attempt
   -- what it sees is a world, as w is
@@ -214,15 +248,20 @@ KindKeeps w next (kinds.Ref class) v = IsFinished w next v
 KindKeeps w next kind v = Unit {0}
 
 -- no place has an unfinished object
-pub record PlacesKeep (c : MarkedProgram) (w : World) (next : ℕ) (objects : List Object) (words : List ℕ) : Type 0 where
-  pub fields : (o : Object) (number : ℕ) (f : FieldInfo) → Contains objects o → slice_get c.program.fields number ≡ Some f → is_static f.flags ≡ false → o.class ≡ f.class
+pub record PlacesKeep (c : MarkedProgram) (w : World) (next : ℕ) (objects : List Object)
+    (words : List ℕ) : Type 0 where
+  pub fields : (o : Object) (number : ℕ) (f : FieldInfo) → Contains objects o
+      → slice_get c.program.fields number ≡ Some f → is_static f.flags ≡ false → o.class ≡ f.class
       → KindKeeps w next f.kind (slice_index words (value_word o.reference f.index))
-  pub statics : (number : ℕ) (f : FieldInfo) → slice_get c.program.fields number ≡ Some f → is_static f.flags ≡ true → KindKeeps w next f.kind (slice_index words f.index)
+  pub statics : (number : ℕ) (f : FieldInfo) → slice_get c.program.fields number ≡ Some f
+      → is_static f.flags ≡ true → KindKeeps w next f.kind (slice_index words f.index)
 
 -- ---- the whole
 
-pub record Construction (c : MarkedProgram) (frozen : ℕ → Bool) (w : World) (was : ℕ → Phase) (objects : List Object) (s : Core) : Type 0 where
+pub record Construction (c : MarkedProgram) (frozen : ℕ → Bool) (w : World) (was : ℕ → Phase)
+    (objects : List Object) (s : Core) : Type 0 where
   pub frozen_are : AreFrozen c frozen
   pub world : IsWorld w (words_of c.program) (slice_index s.words NEXT_FREE_WORD)
-  pub each : (t : ℕ) (x : Thread) → slice_get s.threads t ≡ Some x → ThreadKeeps c frozen w (slice_index s.words NEXT_FREE_WORD) t (was t) x
+  pub each : (t : ℕ) (x : Thread) → slice_get s.threads t ≡ Some x
+      → ThreadKeeps c frozen w (slice_index s.words NEXT_FREE_WORD) t (was t) x
   pub places : PlacesKeep c w (slice_index s.words NEXT_FREE_WORD) objects s.words

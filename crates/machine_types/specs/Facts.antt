@@ -1,6 +1,7 @@
--- All that holds in every state that is reached: what holds of one state, with what the facts share; and the same beside the
--- plain state that the run stands for.
-use Rattle.std.specs.Prelude.{◌≡◌, ◌≢◌, ℕ, Bool, true, List, length, Contains, Some, slice_get, slice_index}
+-- All that holds in every state that is reached: what holds of one state, with what the facts
+-- share; and the same beside the plain state that the run stands for.
+use Rattle.std.specs.Prelude.{◌≡◌, ◌≢◌, ℕ, Bool, true, List, length, Contains, Some, slice_get}
+use Rattle.std.specs.Prelude.{slice_index}
 use Rattle.jvm_types.specs.Members.{is_static}
 use Rattle.jvm_types.specs.declared.program.FieldInfo.{FieldInfo}
 use Rattle.jvm_types.specs.declared.program.Program.{Program}
@@ -42,9 +43,11 @@ pub record Facts (c : MarkedProgram) (cfg : Config) (told : Told) : Type 0 where
   pub frozen : ℕ → Bool
   pub own : (t : ℕ) (x : Thread) → slice_get told.core.threads t ≡ Some x → IsThread c cfg t x
   -- those that are there from the start are among the objects
-  pub started : (o : Object) → Contains (start_objects c.program) o → HasClass objects o.class o.reference
+  pub started : (o : Object) → Contains (start_objects c.program) o
+      → HasClass objects o.class o.reference
   -- of the static fields their words
-  pub apart : LieApart c.program objects (start_statics c.program) (slice_index told.core.words NEXT_FREE_WORD)
+  pub apart : LieApart c.program objects (start_statics c.program)
+      (slice_index told.core.words NEXT_FREE_WORD)
   pub unused : AreUnused c.program told.core
   pub structure : Structure c was told.core.threads
   pub owners : Owners (references_of objects) was told.core
@@ -56,11 +59,16 @@ pub record Facts (c : MarkedProgram) (cfg : Config) (told : Told) : Type 0 where
 
 -- the objects are objects of the plain state too, with as many values
 abbrev pub ArePlainObjects : List Object → Plain → Type 0
-ArePlainObjects objects q = (o : Object) → Contains objects o → (e : Object) × Contains q.objects e × (e.reference ≡ o.reference) × (e.class ≡ o.class) × (length e.values ≡ length o.values)
+ArePlainObjects objects q =
+    (o : Object) → Contains objects o
+    → (e : Object) × Contains q.objects e × (e.reference ≡ o.reference) × (e.class ≡ o.class)
+    × (length e.values ≡ length o.values)
 
 -- each static field has its word there
 abbrev pub HavePlainStatics : Program → Plain → Type 0
-HavePlainStatics p q = (number : ℕ) (f : FieldInfo) → slice_get p.fields number ≡ Some f → is_static f.flags ≡ true → (s : StaticValue) × Contains q.statics s × (s.word ≡ f.index)
+HavePlainStatics p q =
+    (number : ℕ) (f : FieldInfo) → slice_get p.fields number ≡ Some f → is_static f.flags ≡ true
+    → (s : StaticValue) × Contains q.statics s × (s.word ≡ f.index)
 
 pub record FactsBeside (c : MarkedProgram) (cfg : Config) (told : Told) (q : Plain) : Type 0 where
   pub facts : Facts c cfg told

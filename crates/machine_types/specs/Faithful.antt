@@ -1,5 +1,7 @@
--- What the machine owes: every run stands for a plain run, event by event, and its outcome says of that run what is so.
-use Rattle.std.specs.Prelude.{◌≡◌, ℕ, false, List, ◌∷◌, ◌++◌, length, sum_by, Contains, Option, Some, None, slice_get}
+-- What the machine owes: every run stands for a plain run, event by event, and its outcome says of
+-- that run what is so.
+use Rattle.std.specs.Prelude.{◌≡◌, ℕ, false, List, ◌∷◌, ◌++◌, length, sum_by, Contains, Option}
+use Rattle.std.specs.Prelude.{Some, None, slice_get}
 use Rattle.jvm_types.specs.declared.outcome.End.{End}
 use Rattle.jvm_types.specs.declared.outcome.End.TheVariants as ends
 use Rattle.jvm_types.specs.declared.outcome.Outcome.{Outcome}
@@ -16,19 +18,23 @@ use Rattle.machine_types.specs.Threads.{Attempt, Thread, Config}
 
 -- ---- what an outcome says of a plain state
 
--- a part that returned or was uncaught ended so; one that a limit ended, or that is not run, has not ended
+-- a part that returned or was uncaught ended so; one that a limit ended, or that is not run, has
+-- not ended
 abbrev pub EndFits : (reported : End) → Option End → Type 0
 EndFits ends.Returned e = e ≡ Some ends.Returned
 EndFits (ends.Uncaught x) e = e ≡ Some (ends.Uncaught x)
 EndFits limit e = e ≡ None
 
 pub record EndsFit (p : Program) (o : Outcome) (q : Plain) : Type 0 where
-  pub threads : (t : ℕ) (r : ThreadReport) → slice_get o.threads t ≡ Some r → EndFits r.end (first_end q t)
+  pub threads : (t : ℕ) (r : ThreadReport) → slice_get o.threads t ≡ Some r
+      → EndFits r.end (first_end q t)
   pub done : EndFits o.done (plain_done_end p q)
 
 -- the ticket of a print, in the report of its thread, is its place among all prints
 pub record PrintsFit (o : Outcome) (q : Plain) : Type 0 where
-  pub each : (i : ℕ) (x : Printed) → slice_get q.prints i ≡ Some x → (r : ThreadReport) × (slice_get o.threads x.thread ≡ Some r) × Contains r.prints (record { ticket = i; value = x.value })
+  pub each : (i : ℕ) (x : Printed) → slice_get q.prints i ≡ Some x
+      → (r : ThreadReport) × (slice_get o.threads x.thread ≡ Some r)
+      × Contains r.prints (record { ticket = i; value = x.value })
   pub no_more : sum_by (λ r. length r.prints) o.threads ≡ length q.prints
 
 -- ---- a list of events
@@ -42,17 +48,21 @@ pub record IsPlainRun (c : MarkedProgram) (cfg : Config) (hs : List Happening) :
 
 -- an event of a thread in an attempt changes no word
 abbrev pub IsSilent : MarkedProgram → Core → (t : ℕ) → Type 0
-IsSilent c s t = (x : Thread) (a : Attempt) → slice_get s.threads t ≡ Some x → x.attempt ≡ Some a → (event c s t).words ≡ s.words
+IsSilent c s t =
+    (x : Thread) (a : Attempt) → slice_get s.threads t ≡ Some x → x.attempt ≡ Some a
+    → (event c s t).words ≡ s.words
 
 -- no thread is live, and no part may begin
 pub record IsOver (s : Core) : Type 0 where
   pub dead : (t : ℕ) → lives s t ≡ false
   pub last : may_begin s.threads ≡ false
 
--- Of a run each prefix stands for a plain run and counts its steps, and no event inside an attempt changes a word; when the
--- run is over, its parts ended as those of the plain run.
+-- Of a run each prefix stands for a plain run and counts its steps, and no event inside an attempt
+-- changes a word; when the run is over, its parts ended as those of the plain run.
 pub record IsFaithful (c : MarkedProgram) (cfg : Config) (hs : List Happening) : Type 0 where
   pub plain : (before rest : List Happening) → hs ≡ before ++ rest → IsPlainRun c cfg before
   pub counts : (before rest : List Happening) → hs ≡ before ++ rest → AreCounted c cfg before
-  pub silent : (before rest : List Happening) (t : ℕ) → hs ≡ before ++ Of t ∷ rest → IsSilent c (core c cfg before) t
-  pub ends : (r : IsPlainRun c cfg hs) → IsOver (core c cfg hs) → EndsFit c.program (outcome (core c cfg hs)) r.state
+  pub silent : (before rest : List Happening) (t : ℕ) → hs ≡ before ++ Of t ∷ rest
+      → IsSilent c (core c cfg before) t
+  pub ends : (r : IsPlainRun c cfg hs) → IsOver (core c cfg hs)
+      → EndsFit c.program (outcome (core c cfg hs)) r.state

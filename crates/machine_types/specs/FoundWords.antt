@@ -1,5 +1,6 @@
 -- Which words an event may find, by what stands at the word that it accesses.
-use Rattle.std.specs.Prelude.{◌≡◌, ◌≢◌, ◌<◌, ◌≤◌, ℕ, ◌+◌, ◌^◌, true, length, Option, Some, None, IsTrue, IsSome, slice_get}
+use Rattle.std.specs.Prelude.{◌≡◌, ◌≢◌, ◌<◌, ◌≤◌, ℕ, ◌+◌, ◌^◌, true, length, Option, Some, None}
+use Rattle.std.specs.Prelude.{IsTrue, IsSome, slice_get}
 use Rattle.jvm_types.specs.ClassNames.{is_class}
 use Rattle.jvm_types.specs.declared.class_numbers.TheConstants.{CLASS_ITSELF, INT_ARRAY_CLASS}
 use Rattle.jvm_types.specs.declared.limits.TheConstants.{MOST_WORKERS}
@@ -9,7 +10,8 @@ use Rattle.jvm_types.specs.declared.program.Kind.TheVariants as kinds
 use Rattle.jvm_types.specs.declared.program.Program.{Program}
 use Rattle.jvm_types.specs.declared.program.Target.{Target}
 use Rattle.jvm_types.specs.declared.program.Target.TheVariants as targets
-use Rattle.machine_types.specs.Effects.{Effect, Goes, Reads, Writes, Indexes, Measures, Raises, Calls}
+use Rattle.machine_types.specs.Effects.{Effect, Goes, Reads, Writes, Indexes, Measures, Raises}
+use Rattle.machine_types.specs.Effects.{Calls}
 use Rattle.machine_types.specs.Frames.{Top, top_of, effect_at}
 use Rattle.machine_types.specs.LockWords.{LockWord, lock_of, is_lock_word}
 use Rattle.machine_types.specs.LockWords as locks
@@ -35,7 +37,8 @@ pub data Content : Type 0 where
   IntPlace : Content
   -- a place of a reference type
   ReferencePlace : Content
-  -- a word that is counted up, word 0, or the header of a new object, which is stored for the first time
+  -- a word that is counted up, word 0, or the header of a new object, which is stored for the first
+  -- time
   Any : Content
 
 -- counts stay far below what a word holds
@@ -48,7 +51,8 @@ HasCount lock = Unit {0}
 
 -- a class that has objects, or a class itself; only arrays have a length
 pub record IsHeader (p : Program) (word : ℕ) : Type 0 where
-  pub class : header_class word ≢ CLASS_ITSELF → IsTrue (is_class (length p.names) (header_class word))
+  pub class : header_class word ≢ CLASS_ITSELF
+      → IsTrue (is_class (length p.names) (header_class word))
   pub unsized : header_class word ≢ INT_ARRAY_CLASS → header_length word ≡ 0
   pub fits : header_length word ≤ p.heap
 

@@ -1,6 +1,9 @@
--- What a list of events has done: of each thread the plain steps that are due of its open attempt, and the instructions that
--- it began in vain; and of all threads the shadow, the plain steps that the list stands for.
-use Rattle.std.specs.Prelude.{ℕ, ◌+◌, ◌==◌, nat_lt, Bool, true, false, List, [], ◌∷◌, ◌++◌, map, replicate, Option, Some, None, slice_get, slice_set, slice_index_or, if◌then◌else◌}
+-- What a list of events has done: of each thread the plain steps that are due of its open attempt,
+-- and the instructions that it began in vain; and of all threads the shadow, the plain steps that
+-- the list stands for.
+use Rattle.std.specs.Prelude.{ℕ, ◌+◌, ◌==◌, nat_lt, Bool, true, false, List, [], ◌∷◌, ◌++◌, map}
+use Rattle.std.specs.Prelude.{replicate, Option, Some, None, slice_get, slice_set, slice_index_or}
+use Rattle.std.specs.Prelude.{if◌then◌else◌}
 use Rattle.machine_types.specs.Accesses.{found_by}
 use Rattle.machine_types.specs.Core.{Core, Happening, Of, NextPart, happened, start}
 use Rattle.machine_types.specs.Effects.{Effect, Indexes, Prints, Notifies, NotifiesAll, Stuck}
@@ -20,7 +23,8 @@ use Rattle.machine_types.specs.declared.lock.Kept.{Kept}
 use Rattle.machine_types.specs.declared.lock.Kept.TheVariants as keeps
 use Rattle.machine_types.specs.declared.phase.Phase.TheVariants as phases
 use Rattle.machine_types.specs.declared.plain.Act.{Act}
-use Rattle.machine_types.specs.declared.plain.Act.TheVariants.{Begin, Do, Enter, Exit, Wait, Notify, NotifyAll, Retake}
+use Rattle.machine_types.specs.declared.plain.Act.TheVariants.{Begin, Do, Enter, Exit, Wait, Notify}
+use Rattle.machine_types.specs.declared.plain.Act.TheVariants.{NotifyAll, Retake}
 use Rattle.machine_types.specs.declared.plain.PlainStep.{PlainStep}
 
 -- ---- the acts of one event, as if the thread held what it has an attempt on
@@ -40,7 +44,8 @@ notify_acts (Some h) act = notified_by h.kept act
 
 -- an element that is there is read or stored in a second event
 abbrev pub instruction_acts : Thread → Effect → (got : ℕ) → List Act
-instruction_acts s (Indexes array index stored) got = if nat_lt (low index) (header_length got) then [] else Do ∷ []
+instruction_acts s (Indexes array index stored) got =
+    if nat_lt (low index) (header_length got) then [] else Do ∷ []
 instruction_acts s (Prints n) got = act_if (has_print_left s) Do
 instruction_acts s (Notifies m) got = notify_acts (held_at s.held m) (Notify None)
 instruction_acts s (NotifiesAll m) got = notify_acts (held_at s.held m) NotifyAll
@@ -94,7 +99,9 @@ fate_by false fate = Fails
 
 abbrev pub run_fate : MarkedProgram → Attempt → Option Top → (got : ℕ) → Fate
 run_fate c a None got = GoesOn
-run_fate c a (Some at) got = if is_checked at.frame.pc (effect_at c.program at) then fate_by (is_same a got) GoesOn else GoesOn
+run_fate c a (Some at) got =
+    if is_checked at.frame.pc (effect_at c.program at) then fate_by (is_same a got) GoesOn
+    else GoesOn
 
 abbrev pub leave_fate : Claim → (got : ℕ) → Fate
 leave_fate (Tries a) got = if nat_lt 0 a.inner then GoesOn else fate_by (is_same a got) Finishes
@@ -126,7 +133,8 @@ with_begun n phase = n
 
 abbrev pub past_by : Past → Phase → List Act → Fate → Past
 past_by d phase acts GoesOn = record d { due = d.due ++ acts; pending = with_begun d.pending phase }
-past_by d phase acts Fails = record { due = []; pending = 0; wasted = d.wasted + with_begun d.pending phase }
+past_by d phase acts Fails =
+    record { due = []; pending = 0; wasted = d.wasted + with_begun d.pending phase }
 past_by d phase acts Finishes = record d { due = []; pending = 0 }
 
 abbrev pub past_after : MarkedProgram → Thread → Option Attempt → (got : ℕ) → Past → Past
@@ -163,7 +171,8 @@ found_by_event c w s = found_by w.core.words (wanted c s s.phase)
 
 abbrev pub pasts_after : MarkedProgram → Told → (t : ℕ) → Option Thread → List Past
 pasts_after c w t None = w.pasts
-pasts_after c w t (Some s) = slice_set w.pasts t (past_after c s s.attempt (found_by_event c w s) (past_at w t))
+pasts_after c w t (Some s) =
+    slice_set w.pasts t (past_after c s s.attempt (found_by_event c w s) (past_at w t))
 
 abbrev pub pasts_of : MarkedProgram → Told → Happening → List Past
 pasts_of c w (Of t) = pasts_after c w t (slice_get w.core.threads t)

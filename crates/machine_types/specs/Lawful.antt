@@ -1,5 +1,6 @@
--- When the state of a thread is lawful by itself: its monitors, phase and attempt are those that its frames show, its values
--- have the types of verification as far as a thread alone can tell, and its numbers and roots are within their bounds.
+-- When the state of a thread is lawful by itself: its monitors, phase and attempt are those that
+-- its frames show, its values have the types of verification as far as a thread alone can tell, and
+-- its numbers and roots are within their bounds.
 use Rattle.std.specs.Prelude.{◌<◌, ℕ, IfSome}
 use Rattle.std.specs.List.{AllByRecursion}
 use Rattle.jvm_types.specs.declared.program.Program.{Program}
@@ -11,7 +12,8 @@ use Rattle.machine_types.specs.Typed.{Classes, ThreadHolds}
 use Rattle.machine_types.specs.declared.phase.Phase.{Phase}
 use Rattle.machine_types.specs.declared.phase.Phase.TheVariants.{Made}
 
--- of a reference a thread alone can tell that it is a word of the heap, and not which object stands there
+-- of a reference a thread alone can tell that it is a word of the heap, and not which object stands
+-- there
 abbrev pub within : Program → Classes
 within p class v = v < p.heap
 

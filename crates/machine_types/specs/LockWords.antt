@@ -1,6 +1,7 @@
--- The lock word of an object: its low two bits say of which kind it is. Free and held flat locks, fat locks and the count
--- are those of the PLDI 2010 publication; the widths are the machine's own.
-use Rattle.std.specs.Prelude.{ℕ, zero, suc, ◌+◌, ◌-◌, ◌*◌, ◌/◌, ◌%◌, nat_lt, nat_le, Bool, true, ◌&&◌, if◌then◌else◌}
+-- The lock word of an object: its low two bits say of which kind it is. Free and held flat locks,
+-- fat locks and the count are those of the PLDI 2010 publication; the widths are the machine's own.
+use Rattle.std.specs.Prelude.{ℕ, zero, suc, ◌+◌, ◌-◌, ◌*◌, ◌/◌, ◌%◌, nat_lt, nat_le, Bool, true}
+use Rattle.std.specs.Prelude.{◌&&◌, if◌then◌else◌}
 use Rattle.jvm_types.specs.declared.fixed_words.TheConstants.{MONITOR_RECORDS}
 pub use Rattle.machine_types.specs.declared.lock.LockWord.{LockWord}
 pub use Rattle.machine_types.specs.declared.lock.LockWord.TheVariants.{Free, Fat, Held, Flagged}

@@ -1,4 +1,5 @@
--- What the marks of a program tell the running machine: which classes are frozen, and that a section marked 0 breaks no rule.
+-- What the marks of a program tell the running machine: which classes are frozen, and that a
+-- section marked 0 breaks no rule.
 use Rattle.std.specs.Prelude.{◌≡◌, ℕ, Bool, true, Some, slice_get}
 use Rattle.checked_program.specs.Marks.{HasMark, AreMarks}
 use Rattle.checked_program.specs.MarkedProgram.{MarkedProgram}
@@ -9,9 +10,13 @@ use Rattle.machine_types.specs.Standing.{tags_of}
 
 -- a test tells some frozen classes, among them each with a frozen or a guarded field
 abbrev pub HasFrozenTest : Type 0
-HasFrozenTest = (c : MarkedProgram) → AreMarks c.program (tags_of c) c.marks → (frozen : ℕ → Bool) × AreFrozen c frozen
+HasFrozenTest =
+    (c : MarkedProgram) → AreMarks c.program (tags_of c) c.marks
+    → (frozen : ℕ → Bool) × AreFrozen c frozen
 
 -- a section that the machine takes as marked has the mark 0
 abbrev pub MarkedHasMark : Type 0
-MarkedHasMark = (c : MarkedProgram) (method : ℕ) (spot : Spot) (k : AreMarks c.program (tags_of c) c.marks) → is_marked c.marks method spot ≡ true
+MarkedHasMark =
+    (c : MarkedProgram) (method : ℕ) (spot : Spot) (k : AreMarks c.program (tags_of c) c.marks)
+    → is_marked c.marks method spot ≡ true
     → HasMark c.program (tags_of c) k.uses (record { method = method; spot = spot }) 0

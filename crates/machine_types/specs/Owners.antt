@@ -1,6 +1,7 @@
--- Who holds which lock, and with which count: what the words of locks and records say is what the threads hold. The flat lock
--- with its count is that of the PLDI 2010 publication.
-use Rattle.std.specs.Prelude.{◌≡◌, ◌≢◌, ℕ, ◌+◌, ◌<◌, ◌≤◌, ◌==◌, nat_lt, List, map, sum_by, Option, Some, None, slice_get, slice_index, if◌then◌else◌}
+-- Who holds which lock, and with which count: what the words of locks and records say is what the
+-- threads hold. The flat lock with its count is that of the PLDI 2010 publication.
+use Rattle.std.specs.Prelude.{◌≡◌, ◌≢◌, ℕ, ◌+◌, ◌<◌, ◌≤◌, ◌==◌, nat_lt, List, map, sum_by, Option}
+use Rattle.std.specs.Prelude.{Some, None, slice_get, slice_index, if◌then◌else◌}
 use Rattle.jvm_types.specs.Numbers.{has_number}
 use Rattle.machine_types.specs.Core.{Core}
 use Rattle.machine_types.specs.HeldMonitors.{held_at}
@@ -28,13 +29,19 @@ pub record Locks : Type 0 where
 
 -- where there is no object the lock counts as free
 abbrev pub lock_at : (references words : List ℕ) → (m : ℕ) → LockWord
-lock_at references words m = if has_number references m then lock_of (slice_index words m) else locks.Free 0
+lock_at references words m =
+    if has_number references m then lock_of (slice_index words m) else locks.Free 0
 
 abbrev pub owner_at : (words : List ℕ) → (r : ℕ) → ℕ
 owner_at words r = if nat_lt r MONITOR_RECORDS then slice_index words (owner_word r) else 0
 
 abbrev pub locks_in : (references words : List ℕ) → Locks
-locks_in references words = record { lock = lock_at references words; owner = owner_at words; next = slice_index words NEXT_RECORD_WORD }
+locks_in references words =
+    record {
+      lock = lock_at references words;
+      owner = owner_at words;
+      next = slice_index words NEXT_RECORD_WORD;
+    }
 
 -- ---- how a thread has a monitor
 
@@ -143,8 +150,10 @@ flat_holders m threads = sum_by (λ x. one_if_flat (hold_by_list (held_at x.held
 pub record Owners (references : List ℕ) (was : ℕ → Phase) (s : Core) : Type 0 where
   pub count : ℕ → ℕ
   pub locks_are : AreLocks (locks_in references s.words) count
-  pub each : (t : ℕ) (x : Thread) → slice_get s.threads t ≡ Some x → Owns (locks_in references s.words) count t (was t) x
-  pub apart : (t u : ℕ) (x y : Thread) → slice_get s.threads t ≡ Some x → slice_get s.threads u ≡ Some y → t ≢ u → DrewApart x y
+  pub each : (t : ℕ) (x : Thread) → slice_get s.threads t ≡ Some x
+      → Owns (locks_in references s.words) count t (was t) x
+  pub apart : (t u : ℕ) (x y : Thread) → slice_get s.threads t ≡ Some x
+      → slice_get s.threads u ≡ Some y → t ≢ u → DrewApart x y
   -- no release leaves more than the last count
   pub within : (m t : ℕ) (x : Thread) → slice_get s.threads t ≡ Some x → count m ≤ x.cfg.range
   -- a count is a number of releases, each of a lock that was taken

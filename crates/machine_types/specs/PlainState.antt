@@ -1,6 +1,7 @@
--- The state of the plain machine: threads, objects and ordinary monitors (JVMS 2.5, 2.6, 2.11.10), with no words, counts or
--- attempts; and the state that it starts in.
-use Rattle.std.specs.Prelude.{ℕ, ℤ, zero, ◌+◌, ◌==◌, Bool, false, not, List, [], ◌∷◌, ◌++◌, filter, map, Option, Some, None, slice_set, if◌then◌else◌}
+-- The state of the plain machine: threads, objects and ordinary monitors (JVMS 2.5, 2.6, 2.11.10),
+-- with no words, counts or attempts; and the state that it starts in.
+use Rattle.std.specs.Prelude.{ℕ, ℤ, zero, ◌+◌, ◌==◌, Bool, false, not, List, [], ◌∷◌, ◌++◌, filter}
+use Rattle.std.specs.Prelude.{map, Option, Some, None, slice_set, if◌then◌else◌}
 use Rattle.std.specs.List.{range_with_len}
 use Rattle.std.specs.Option.{option_or}
 use Rattle.jvm_types.specs.ProgramInvariant.{words_of}
@@ -10,7 +11,9 @@ use Rattle.jvm_types.specs.declared.outcome.Thrown.{Thrown}
 use Rattle.jvm_types.specs.declared.program.Program.{Program}
 use Rattle.machine_types.specs.Onward.{Onward, After}
 use Rattle.machine_types.specs.Onward as onward
-use Rattle.machine_types.specs.PlainMemory.{Object, StaticValue, object_value, object_write, static_value, static_write, start_objects, start_statics}
+use Rattle.machine_types.specs.PlainMemory.{Object, StaticValue, object_value, object_write}
+use Rattle.machine_types.specs.PlainMemory.{static_value, static_write, start_objects}
+use Rattle.machine_types.specs.PlainMemory.{start_statics}
 use Rattle.machine_types.specs.Parts.{init_roots, run_roots}
 use Rattle.machine_types.specs.Threads.{Frame}
 
@@ -64,7 +67,8 @@ ready_thread roots = record { frames = []; status = Ready; roots = roots; ended 
 
 -- `init` is due from the start; where it has no roots it has returned
 abbrev pub first_thread : (roots : List ℕ) → PlainThread
-first_thread [] = record { frames = []; status = Ended ends.Returned; roots = []; ended = ends.Returned ∷ [] }
+first_thread [] =
+    record { frames = []; status = Ended ends.Returned; roots = []; ended = ends.Returned ∷ [] }
 first_thread (number ∷ roots) = ready_thread (number ∷ roots)
 
 abbrev pub plain_start_thread : Program → (t : ℕ) → PlainThread
@@ -88,7 +92,8 @@ abbrev pub value_at : Plain → (x : ℕ) → Option ℕ
 value_at q x = option_or (object_value q.objects x) (static_value q.statics x)
 
 abbrev pub written : Plain → (x v : ℕ) → Plain
-written q x v = record q { objects = object_write q.objects x v; statics = static_write q.statics x v }
+written q x v =
+    record q { objects = object_write q.objects x v; statics = static_write q.statics x v }
 
 -- ---- monitors
 
@@ -108,7 +113,9 @@ is_holder t None = false
 is_holder t (Some h) = h.holder == t
 
 abbrev pub held_by : Plain → (m t depth : ℕ) → Plain
-held_by q m t depth = record q { holdings = with_holding (record { monitor = m; holder = t; depth = depth }) q.holdings }
+held_by q m t depth =
+    record q
+    { holdings = with_holding (record { monitor = m; holder = t; depth = depth }) q.holdings }
 
 abbrev pub let_go : Plain → (m : ℕ) → Plain
 let_go q m = record q { holdings = without_holding m q.holdings }
@@ -131,7 +138,8 @@ plain_root_over x (number ∷ roots) = record x { frames = []; status = Ready }
 
 abbrev pub plain_goes_on : PlainThread → Onward → PlainThread
 plain_goes_on x (onward.Running frames) = record x { frames = frames; status = Run }
-plain_goes_on x (onward.Throwing r class frames) = record x { frames = frames; status = Throw r class }
+plain_goes_on x (onward.Throwing r class frames) =
+    record x { frames = frames; status = Throw r class }
 plain_goes_on x (onward.Entering m frames) = record x { frames = frames; status = Enter m }
 plain_goes_on x (onward.Leaving m a frames) = record x { frames = frames; status = Leave m a }
 plain_goes_on x onward.RootReturned = plain_root_over x x.roots

@@ -1,6 +1,8 @@
--- The steps of the plain machine (JVMS 2.11.10, and JLS 17.1 and 17.2 in the edition of its time), runs of it, and how the
--- parts of a run ended.
-use Rattle.std.specs.Prelude.{ℕ, zero, suc, ◌+◌, ◌==◌, Bool, true, false, ◌&&◌, List, [], ◌∷◌, map, drop, Option, Some, None, option_map, option_and_then, slice_get, if◌then◌else◌}
+-- The steps of the plain machine (JVMS 2.11.10, and JLS 17.1 and 17.2 in the edition of its time),
+-- runs of it, and how the parts of a run ended.
+use Rattle.std.specs.Prelude.{ℕ, zero, suc, ◌+◌, ◌==◌, Bool, true, false, ◌&&◌, List, [], ◌∷◌, map}
+use Rattle.std.specs.Prelude.{drop, Option, Some, None, option_map, option_and_then, slice_get}
+use Rattle.std.specs.Prelude.{if◌then◌else◌}
 use Rattle.std.specs.List.{list_any, list_all}
 use Rattle.jvm_types.specs.declared.outcome.End.{End}
 use Rattle.jvm_types.specs.declared.outcome.End.TheVariants as ends
@@ -8,7 +10,10 @@ use Rattle.jvm_types.specs.declared.program.Program.{Program}
 use Rattle.machine_types.specs.Frames.{top_of}
 use Rattle.machine_types.specs.Onward.{After, after, rooted, dispatched}
 use Rattle.machine_types.specs.PlainInstructions.{plain_instructed}
-use Rattle.machine_types.specs.PlainState.{Plain, PlainThread, Status, Holding, Ready, Run, Throw, Enter, Leave, Wait, Notify, NotifyAll, Waiting, Woken, Ended, holding_at, held_by, let_go, with_thread, with_status, plain_goes_on}
+use Rattle.machine_types.specs.PlainState.{Plain, PlainThread, Status, Holding, Ready, Run, Throw}
+use Rattle.machine_types.specs.PlainState.{Enter, Leave, Wait, Notify, NotifyAll, Waiting, Woken}
+use Rattle.machine_types.specs.PlainState.{Ended, holding_at, held_by, let_go, with_thread}
+use Rattle.machine_types.specs.PlainState.{with_status, plain_goes_on}
 use Rattle.machine_types.specs.Parts.{done_roots, has_returned, has_finished}
 use Rattle.machine_types.specs.declared.plain.Act.{Act}
 use Rattle.machine_types.specs.declared.plain.Act.TheVariants as acts
@@ -40,7 +45,9 @@ is_due threads t ended = init_has_returned threads
 
 abbrev pub plain_begun : Program → (t : ℕ) → PlainThread → (roots : List ℕ) → Option PlainThread
 plain_begun p t x [] = None
-plain_begun p t x (number ∷ roots) = option_map (λ m. plain_goes_on (record x { roots = roots }) (rooted p t number m)) (slice_get p.methods number)
+plain_begun p t x (number ∷ roots) =
+    option_map (λ m. plain_goes_on (record x { roots = roots }) (rooted p t number m))
+    (slice_get p.methods number)
 
 -- thread 0, when of its parts only `init` has ended
 abbrev pub may_do_done : (t : ℕ) → (ended : List End) → Bool
@@ -49,29 +56,38 @@ may_do_done t ended = false
 
 abbrev pub plain_begins : Program → (t : ℕ) → PlainThread → Status → Option PlainThread
 plain_begins p t x Ready = plain_begun p t x x.roots
-plain_begins p t x (Ended ends.Returned) = if may_do_done t x.ended then plain_begun p t x (done_roots p) else None
+plain_begins p t x (Ended ends.Returned) =
+    if may_do_done t x.ended then plain_begun p t x (done_roots p) else None
 plain_begins p t x status = None
 
 -- ---- Enter and Exit
 
 abbrev pub plain_entered : Plain → (t m : ℕ) → PlainThread → Option Holding → Option Plain
 plain_entered q t m x None = Some (with_thread (held_by q m t 1) t (with_status x Run))
-plain_entered q t m x (Some h) = if h.holder == t then Some (with_thread (held_by q m t (h.depth + 1)) t (with_status x Run)) else None
+plain_entered q t m x (Some h) =
+    if h.holder == t then Some (with_thread (held_by q m t (h.depth + 1)) t (with_status x Run))
+    else None
 
 -- m is free when its one entry is left
 abbrev pub left : Plain → (t m depth : ℕ) → Plain
 left q t m (suc (suc depth)) = held_by q m t (suc depth)
 left q t m depth = let_go q m
 
-abbrev pub exited : Program → Plain → (t m : ℕ) → After → PlainThread → Option Holding → Option Plain
+abbrev pub exited : Program → Plain → (t m : ℕ) → After → PlainThread → Option Holding
+    → Option Plain
 exited p q t m a x None = None
-exited p q t m a x (Some h) = if h.holder == t then option_map (λ o. with_thread (left q t m h.depth) t (plain_goes_on x o)) (after p x.frames a) else None
+exited p q t m a x (Some h) =
+    if h.holder == t
+    then option_map (λ o. with_thread (left q t m h.depth) t (plain_goes_on x o))
+    (after p x.frames a) else None
 
 -- ---- Wait, Notify, NotifyAll and Retake
 
 abbrev pub waited : Plain → (t m : ℕ) → PlainThread → Option Holding → Option Plain
 waited q t m x None = None
-waited q t m x (Some h) = if h.holder == t then Some (with_thread (let_go q m) t (with_status x (Waiting m h.depth))) else None
+waited q t m x (Some h) =
+    if h.holder == t then Some (with_thread (let_go q m) t (with_status x (Waiting m h.depth)))
+    else None
 
 abbrev pub waits_on : (m : ℕ) → Status → Bool
 waits_on m (Waiting n depth) = n == m
@@ -90,11 +106,15 @@ wakes_one q m u (Some x) = if waits_on m x.status then Some (with_thread q u (wa
 
 -- one that waits is woken; none, only where none waits
 abbrev pub notified : Plain → (t m : ℕ) → PlainThread → Option ℕ → Option Plain
-notified q t m x None = if list_any (λ w. waits_on m w.status) q.threads then None else Some (with_thread q t (with_status x Run))
-notified q t m x (Some u) = option_map (λ r. with_thread r t (with_status x Run)) (wakes_one q m u (slice_get q.threads u))
+notified q t m x None =
+    if list_any (λ w. waits_on m w.status) q.threads then None
+    else Some (with_thread q t (with_status x Run))
+notified q t m x (Some u) =
+    option_map (λ r. with_thread r t (with_status x Run)) (wakes_one q m u (slice_get q.threads u))
 
 abbrev pub all_notified : Plain → (t m : ℕ) → PlainThread → Plain
-all_notified q t m x = with_thread (record q { threads = map (wakes m) q.threads }) t (with_status x Run)
+all_notified q t m x =
+    with_thread (record q { threads = map (wakes m) q.threads }) t (with_status x Run)
 
 -- m is free, and held again at its former depth
 abbrev pub retaken : Plain → (t m depth : ℕ) → PlainThread → Option Holding → Option Plain
@@ -104,9 +124,12 @@ retaken q t m depth x (Some h) = None
 -- ---- the step by the act and the thread's status; every other pair is no step
 
 abbrev pub step_at : Program → Plain → (t : ℕ) → PlainThread → Act → Status → Option Plain
-step_at p q t x acts.Begin status = if is_due q.threads t x.ended then option_map (with_thread q t) (plain_begins p t x status) else None
+step_at p q t x acts.Begin status =
+    if is_due q.threads t x.ended then option_map (with_thread q t) (plain_begins p t x status)
+    else None
 step_at p q t x acts.Do Run = plain_instructed p q t x (top_of p x.frames)
-step_at p q t x acts.Do (Throw r class) = option_map (λ o. with_thread q t (plain_goes_on x o)) (dispatched p r class x.frames)
+step_at p q t x acts.Do (Throw r class) =
+    option_map (λ o. with_thread q t (plain_goes_on x o)) (dispatched p r class x.frames)
 step_at p q t x acts.Enter (Enter m) = plain_entered q t m x (holding_at q.holdings m)
 step_at p q t x acts.Exit (Leave m a) = exited p q t m a x (holding_at q.holdings m)
 step_at p q t x acts.Wait (Wait m) = waited q t m x (holding_at q.holdings m)

@@ -1,6 +1,7 @@
--- What a thread does in an attempt, as acts of that thread alone over a memory that nobody changes, where some places may
--- not be there.
-use Rattle.std.specs.Prelude.{ℕ, suc, ◌+◌, ◌==◌, List, [], ◌∷◌, Option, Some, None, option_map, option_and_then, if◌then◌else◌}
+-- What a thread does in an attempt, as acts of that thread alone over a memory that nobody changes,
+-- where some places may not be there.
+use Rattle.std.specs.Prelude.{ℕ, suc, ◌+◌, ◌==◌, List, [], ◌∷◌, Option, Some, None, option_map}
+use Rattle.std.specs.Prelude.{option_and_then, if◌then◌else◌}
 use Rattle.jvm_types.specs.declared.outcome.End.{End}
 use Rattle.jvm_types.specs.declared.program.Program.{Program}
 use Rattle.machine_types.specs.Effects.{read_by}
@@ -11,7 +12,8 @@ use Rattle.machine_types.specs.Frames.{Top, top_of, effect_at}
 use Rattle.machine_types.specs.Onward.{Onward, Entering, Leaving, after, dispatched, done}
 use Rattle.machine_types.specs.declared.phase.After.{After}
 use Rattle.machine_types.specs.PlainInstructions.{got_by}
-use Rattle.machine_types.specs.PlainState.{PlainThread, Status, Run, Throw, Enter, Leave, with_status, plain_goes_on}
+use Rattle.machine_types.specs.PlainState.{PlainThread, Status, Run, Throw, Enter, Leave}
+use Rattle.machine_types.specs.PlainState.{with_status, plain_goes_on}
 use Rattle.machine_types.specs.Threads.{Attempt, Thread}
 use Rattle.machine_types.specs.declared.phase.Phase.{Phase}
 use Rattle.machine_types.specs.declared.phase.Phase.TheVariants as phases
@@ -24,7 +26,8 @@ pub record Alone : Type 0 where
   pub depth : ℕ
   pub begun : ℕ
 
--- ---- one act; None: it is none of a section on the monitor m, which writes and prints nothing and enters no other monitor
+-- ---- one act; None: it is none of a section on the monitor m, which writes and prints nothing and
+-- enters no other monitor
 
 abbrev pub only_on : (m : ℕ) → Onward → Option Onward
 only_on m (Entering n frames) = if n == m then Some (Entering n frames) else None
@@ -39,9 +42,13 @@ reads_only p at e got = done p at e got
 abbrev pub goes : Alone → Option Onward → Option Alone
 goes x onward = option_map (λ o. record x { thread = plain_goes_on x.thread o }) onward
 
-abbrev pub instructs : Program → (m : ℕ) → (memory : ℕ → Option ℕ) → Alone → Option Top → Option Alone
+abbrev pub instructs : Program → (m : ℕ) → (memory : ℕ → Option ℕ) → Alone → Option Top
+    → Option Alone
 instructs p m memory x None = None
-instructs p m memory x (Some at) = goes (record x { begun = x.begun + 1 }) (option_and_then (λ got. option_and_then (only_on m) (reads_only p at (effect_at p at) got)) (got_by memory (read_by (effect_at p at))))
+instructs p m memory x (Some at) =
+    goes (record x { begun = x.begun + 1 }) (option_and_then
+    (λ got. option_and_then (only_on m) (reads_only p at (effect_at p at) got))
+    (got_by memory (read_by (effect_at p at))))
 
 abbrev pub enters : Alone → Alone
 enters x = record x { thread = with_status x.thread Run; depth = x.depth + 1 }
@@ -51,16 +58,19 @@ abbrev pub leaves : Program → Alone → After → (depth : ℕ) → Option Alo
 leaves p x a (suc (suc depth)) = goes (record x { depth = suc depth }) (after p x.thread.frames a)
 leaves p x a depth = None
 
-abbrev pub replay_act : Program → (m : ℕ) → (memory : ℕ → Option ℕ) → Alone → Act → Status → Option Alone
+abbrev pub replay_act : Program → (m : ℕ) → (memory : ℕ → Option ℕ) → Alone → Act → Status
+    → Option Alone
 replay_act p m memory x acts.Do Run = instructs p m memory x (top_of p x.thread.frames)
-replay_act p m memory x acts.Do (Throw r class) = goes x (option_and_then (only_on m) (dispatched p r class x.thread.frames))
+replay_act p m memory x acts.Do (Throw r class) =
+    goes x (option_and_then (only_on m) (dispatched p r class x.thread.frames))
 replay_act p m memory x acts.Enter (Enter n) = if n == m then Some (enters x) else None
 replay_act p m memory x acts.Exit (Leave n a) = if n == m then leaves p x a x.depth else None
 replay_act p m memory x act status = None
 
 abbrev pub replayed : Program → (m : ℕ) → (memory : ℕ → Option ℕ) → List Act → Alone → Option Alone
 replayed p m memory [] x = Some x
-replayed p m memory (act ∷ due) x = option_and_then (replayed p m memory due) (replay_act p m memory x act x.thread.status)
+replayed p m memory (act ∷ due) x =
+    option_and_then (replayed p m memory due) (replay_act p m memory x act x.thread.status)
 
 -- ---- from where, to where
 
@@ -73,7 +83,19 @@ status_inside phase = Run
 
 -- the section has been entered, and nothing done yet
 abbrev pub at_entry : Thread → Attempt → (ended : List End) → Alone
-at_entry s a ended = record { thread = record { frames = put_back a s.frames; status = Run; roots = s.roots; ended = ended }; depth = 1; begun = 0 }
+at_entry s a ended =
+    record {
+      thread =
+          record { frames = put_back a s.frames; status = Run; roots = s.roots; ended = ended };
+      depth = 1;
+      begun = 0;
+    }
 
 abbrev pub at_present : Thread → Attempt → (was : Phase) → (begun : ℕ) → (ended : List End) → Alone
-at_present s a was begun ended = record { thread = record { frames = s.frames; status = status_inside was; roots = s.roots; ended = ended }; depth = suc a.inner; begun = begun }
+at_present s a was begun ended =
+    record {
+      thread =
+          record { frames = s.frames; status = status_inside was; roots = s.roots; ended = ended };
+      depth = suc a.inner;
+      begun = begun;
+    }

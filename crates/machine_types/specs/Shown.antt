@@ -1,5 +1,6 @@
 -- Which monitors the frames of a thread show that it has entered and not left.
-use Rattle.std.specs.Prelude.{◌≡◌, ℕ, false, List, [], ◌∷◌, ◌++◌, length, map, drop, Option, Some, None, if◌then◌else◌}
+use Rattle.std.specs.Prelude.{◌≡◌, ℕ, false, List, [], ◌∷◌, ◌++◌, length, map, drop, Option, Some}
+use Rattle.std.specs.Prelude.{None, if◌then◌else◌}
 use Rattle.std.specs.List.{AllByRecursion}
 use Rattle.jvm_types.specs.Members.{is_synchronized}
 use Rattle.jvm_types.specs.declared.code.Insn.{Insn}
@@ -11,7 +12,8 @@ use Rattle.checked_program.specs.MarkedProgram.{MarkedProgram}
 use Rattle.checked_program.specs.declared.tag.Tag.{Tag}
 use Rattle.checked_program.specs.declared.tag.Tag.TheVariants.{Untagged, This, At}
 use Rattle.machine_types.specs.Frames.{monitor_of}
-use Rattle.machine_types.specs.Standing.{Standing, CallsMethod, Operands, Whole, Lacking, Taken, Thrown, row_at}
+use Rattle.machine_types.specs.Standing.{Standing, CallsMethod, Operands, Whole, Lacking, Taken}
+use Rattle.machine_types.specs.Standing.{Thrown, row_at}
 use Rattle.machine_types.specs.Threads.{Frame}
 
 -- ---- the values of tags
@@ -31,7 +33,8 @@ HasValue choice receiver (At pc) v = v ≡ choice pc
 abbrev pub HaveValues : (choice : ℕ → ℕ) → (receiver : ℕ) → List Tag → List ℕ → Type 0
 HaveValues choice receiver [] vs = Unit {0}
 HaveValues choice receiver (t ∷ ts) [] = ⊥
-HaveValues choice receiver (t ∷ ts) (v ∷ vs) = HasValue choice receiver t v × HaveValues choice receiver ts vs
+HaveValues choice receiver (t ∷ ts) (v ∷ vs) =
+    HasValue choice receiver t v × HaveValues choice receiver ts vs
 
 abbrev pub StackShows : Operands → (choice : ℕ → ℕ) → (receiver : ℕ) → List Tag → List ℕ → Type 0
 StackShows Whole choice receiver ts vs = HaveValues choice receiver ts vs
@@ -47,10 +50,12 @@ held_tags None = []
 held_tags (Some t) = t.held
 
 abbrev pub IsMade : List Insn → List (Option TagShape) → Tag → Type 0
-IsMade code frames (At pc) = AllByRecursion (λ t. same_tag (At pc) t ≡ false) (held_tags (frame_at_pc code frames pc))
+IsMade code frames (At pc) =
+    AllByRecursion (λ t. same_tag (At pc) t ≡ false) (held_tags (frame_at_pc code frames pc))
 IsMade code frames t = Unit {0}
 
-pub record AreMade (code : List Insn) (frames : List (Option TagShape)) (tags : TagShape) : Type 0 where
+pub record AreMade (code : List Insn) (frames : List (Option TagShape)) (tags : TagShape)
+    : Type 0 where
   pub stack : AllByRecursion (IsMade code frames) tags.stack
   pub locals : AllByRecursion (IsMade code frames) tags.locals
   pub held : AllByRecursion (IsMade code frames) tags.held
@@ -66,7 +71,8 @@ abbrev pub shown_entries : Program → (choice : ℕ → ℕ) → MethodInfo →
 shown_entries p choice m tags f = map (tag_value choice f.receiver) tags.held ++ own_entry p m f
 
 -- a frame shows these entries, with some choice of a value for each tag
-pub record Shows (c : MarkedProgram) (operands : Operands) (f : Frame) (shown : List ℕ) : Type 0 where
+pub record Shows (c : MarkedProgram) (operands : Operands) (f : Frame) (shown : List ℕ)
+    : Type 0 where
   pub stands : Standing c f
   pub made : AreMade stands.method.code stands.at.frames stands.tags
   pub choice : ℕ → ℕ
@@ -86,9 +92,13 @@ pub record ShowsAtCall (c : MarkedProgram) (callee : ℕ) (f : Frame) (shown : L
 -- the frames below one of a method
 abbrev pub ShowBelow : MarkedProgram → (callee : ℕ) → List Frame → (shown : List ℕ) → Type 0
 ShowBelow c callee [] shown = shown ≡ []
-ShowBelow c callee (f ∷ fs) shown = (own : List ℕ) × (rest : List ℕ) × (shown ≡ own ++ rest) × ShowsAtCall c callee f own × ShowBelow c f.method fs rest
+ShowBelow c callee (f ∷ fs) shown =
+    (own : List ℕ) × (rest : List ℕ) × (shown ≡ own ++ rest) × ShowsAtCall c callee f own
+    × ShowBelow c f.method fs rest
 
 -- innermost first
 abbrev pub Show : MarkedProgram → Operands → List Frame → (shown : List ℕ) → Type 0
 Show c operands [] shown = shown ≡ []
-Show c operands (f ∷ fs) shown = (own : List ℕ) × (rest : List ℕ) × (shown ≡ own ++ rest) × Shows c operands f own × ShowBelow c f.method fs rest
+Show c operands (f ∷ fs) shown =
+    (own : List ℕ) × (rest : List ℕ) × (shown ≡ own ++ rest) × Shows c operands f own
+    × ShowBelow c f.method fs rest

@@ -1,4 +1,5 @@
--- Where a frame stands: at a reached instruction of its method, with the types and the lock tags that it has there.
+-- Where a frame stands: at a reached instruction of its method, with the types and the lock tags
+-- that it has there.
 use Rattle.std.specs.Prelude.{◌≡◌, ℕ, List, map, Option, Some, slice_get}
 use Rattle.jvm_types.specs.declared.op_row.OpRow.{OpRow}
 use Rattle.jvm_types.specs.Types.{TypeFrame}
@@ -35,8 +36,8 @@ row_at c f k = row_of c.program k.method k.insn k.target
 abbrev pub CallsMethod : (c : MarkedProgram) → (f : Frame) → Standing c f → (callee : ℕ) → Type 0
 CallsMethod c f k callee = called_method k.insn.op k.target ≡ Some callee
 
--- ---- what a frame has of its operands: all; all but one that is still to be pushed; all but so many that its call has taken;
--- or what an exception leaves, of which no instruction takes any
+-- ---- what a frame has of its operands: all; all but one that is still to be pushed; all but so
+-- many that its call has taken; or what an exception leaves, of which no instruction takes any
 
 pub data Operands : Type 0 where
   Whole : Operands

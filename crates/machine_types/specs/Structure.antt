@@ -1,5 +1,8 @@
--- How what a thread holds, its phase and its attempt agree with what its frames show: its locking is structured (JVMS 2.11.10).
-use Rattle.std.specs.Prelude.{◌≡◌, ◌≢◌, ℕ, ◌⊎◌, ◌+◌, ◌-◌, ◌<◌, ◌==◌, Bool, true, false, List, [], ◌∷◌, length, take, unwrap_or, slice_get, Option, Some, None, if◌then◌else◌}
+-- How what a thread holds, its phase and its attempt agree with what its frames show: its locking
+-- is structured (JVMS 2.11.10).
+use Rattle.std.specs.Prelude.{◌≡◌, ◌≢◌, ℕ, ◌⊎◌, ◌+◌, ◌-◌, ◌<◌, ◌==◌, Bool, true, false, List, []}
+use Rattle.std.specs.Prelude.{◌∷◌, length, take, unwrap_or, slice_get, Option, Some, None}
+use Rattle.std.specs.Prelude.{if◌then◌else◌}
 use Rattle.std.specs.List.{AllZip, Contains}
 use Rattle.jvm_types.specs.ClassNames.{file_of_class}
 use Rattle.jvm_types.specs.CodeTable.{can_throw}
@@ -141,12 +144,17 @@ TowardShows c m towards.Wait fs = HasFrame fs
 
 -- right behind a `monitorenter`
 abbrev pub IsBehindEntry : List Insn → (pc : ℕ) → Type 0
-IsBehindEntry code pc = (insn : Insn) × (Contains code insn) × (insn.op ≡ ops.Monitorenter) × (insn.next ≡ pc)
+IsBehindEntry code pc =
+    (insn : Insn) × (Contains code insn) × (insn.op ≡ ops.Monitorenter) × (insn.next ≡ pc)
 
 -- at pc 0 of a synchronized method whose monitor is m, or right behind a `monitorenter`
 abbrev pub TopEnters : MarkedProgram → (m : ℕ) → List Frame → Type 0
 TopEnters c m [] = ⊥
-TopEnters c m (f ∷ fs) = (k : Standing c f) × (((f.pc ≡ 0) × (is_synchronized k.method.flags ≡ true) × (monitor_of c.program k.method f ≡ m)) ⊎ (IsBehindEntry k.method.code f.pc × (k.tags.held ≢ [])))
+TopEnters c m (f ∷ fs) =
+    (k : Standing c f)
+    × (((f.pc ≡ 0) × (is_synchronized k.method.flags ≡ true)
+    × (monitor_of c.program k.method f ≡ m))
+    ⊎ (IsBehindEntry k.method.code f.pc × (k.tags.held ≢ [])))
 
 -- ---- how the monitor of the phase is held
 
@@ -170,12 +178,14 @@ pub record EntryShows (c : MarkedProgram) (m : ℕ) (fs : List Frame) (shown : L
   pub enters : TopEnters c m fs
 
 -- and where the lock is to be taken
-pub record LockShows (c : MarkedProgram) (m : ℕ) (fs : List Frame) (shown : List ℕ) (held : List Held) (attempt : Option Attempt) : Type 0 where
+pub record LockShows (c : MarkedProgram) (m : ℕ) (fs : List Frame) (shown : List ℕ)
+    (held : List Held) (attempt : Option Attempt) : Type 0 where
   pub entry : EntryShows c m fs shown
   pub not_held : held_at held m ≡ None
   pub no_attempt : attempt ≡ None
 
-pub record GrowShows (c : MarkedProgram) (m : ℕ) (toward : Toward) (fs : List Frame) (held : List Held) : Type 0 where
+pub record GrowShows (c : MarkedProgram) (m : ℕ) (toward : Toward) (fs : List Frame)
+    (held : List Held) : Type 0 where
   pub toward_shows : TowardShows c m toward fs
   pub flat : IsFlat (held_at held m)
   pub once : IsOnce toward (held_depth m held)
@@ -185,7 +195,8 @@ pub record WaitShows (m depth : ℕ) (fs : List Frame) (held : List Held) : Type
   pub not_held : held_at held m ≡ None
   pub some : 0 < depth
 
-abbrev pub PhaseShows : MarkedProgram → Phase → List Frame → (shown : List ℕ) → List Held → Option Attempt → Type 0
+abbrev pub PhaseShows : MarkedProgram → Phase → List Frame → (shown : List ℕ) → List Held
+    → Option Attempt → Type 0
 PhaseShows c phases.Idle fs shown held a = fs ≡ []
 PhaseShows c phases.Start fs shown held a = fs ≡ []
 PhaseShows c (phases.Ending e) fs shown held a = fs ≡ []
@@ -218,11 +229,14 @@ abbrev pub AreHeldOnce : List Held → Type 0
 AreHeldOnce [] = Unit {0}
 AreHeldOnce (h ∷ hs) = (held_at hs h.monitor ≡ None) × (0 < h.depth) × AreHeldOnce hs
 
-pub record Stands (c : MarkedProgram) (phase : Phase) (fs : List Frame) (held : List Held) (attempt : Option Attempt) : Type 0 where
+pub record Stands (c : MarkedProgram) (phase : Phase) (fs : List Frame) (held : List Held)
+    (attempt : Option Attempt) : Type 0 where
   pub shown : List ℕ
   pub show : Show c (operands_in phase) fs shown
   -- what is held and tried are the entries that are shown
-  pub depths : (m : ℕ) → count_in m shown + left_over phase m ≡ held_depth m held + tried_depth m attempt + lacked phase m
+  pub depths : (m : ℕ)
+      → count_in m shown + left_over phase m
+      ≡ held_depth m held + tried_depth m attempt + lacked phase m
   pub once : AreHeldOnce held
   pub phase_shows : PhaseShows c phase fs shown held attempt
 
@@ -255,11 +269,14 @@ abbrev pub frames_inside : Attempt → List Frame → List Frame
 frames_inside a frames = take (length frames - a.base) frames
 
 abbrev pub IsPart : (c : MarkedProgram) → Frame → Part → Type 0
-IsPart c f part = (k : Standing c f) × (part ≡ record { method = f.method; at = k.number; receiver = f.receiver })
+IsPart c f part =
+    (k : Standing c f) × (part ≡ record { method = f.method; at = k.number; receiver = f.receiver })
 
 -- they are parts of the section
 abbrev pub RunsSection : MarkedProgram → Attempt → List Frame → Type 0
-RunsSection c a fs = (parts : List Part) × (mode : Mode) × AllZip (IsPart c) fs parts × AreParts c.program (tags_of c) (section_of a) a.entry.receiver parts mode
+RunsSection c a fs =
+    (parts : List Part) × (mode : Mode) × AllZip (IsPart c) fs parts
+    × AreParts c.program (tags_of c) (section_of a) a.entry.receiver parts mode
 
 -- the section is done but for its last look at the lock word
 pub record Finishes (a : Attempt) (phase : Phase) (fs : List Frame) : Type 0 where
@@ -270,7 +287,8 @@ pub record Finishes (a : Attempt) (phase : Phase) (fs : List Frame) : Type 0 whe
   pub method : frame.method ≡ a.entry.method
   pub receiver : frame.receiver ≡ a.entry.receiver
 
-pub record AttemptStands (c : MarkedProgram) (phase : Phase) (fs : List Frame) (held : List Held) (a : Attempt) : Type 0 where
+pub record AttemptStands (c : MarkedProgram) (phase : Phase) (fs : List Frame) (held : List Held)
+    (a : Attempt) : Type 0 where
   pub inside : IsPhaseInside a.monitor phase
   pub not_held : held_at held a.monitor ≡ None
   pub based : a.base < length fs
@@ -282,7 +300,8 @@ pub record AttemptStands (c : MarkedProgram) (phase : Phase) (fs : List Frame) (
   pub marked : HasMark c.program (tags_of c) uses (section_of a) 0
   pub frames : Finishes a phase (frames_inside a fs) ⊎ RunsSection c a (frames_inside a fs)
 
-abbrev pub AttemptStandsIn : MarkedProgram → Phase → List Frame → List Held → Option Attempt → Type 0
+abbrev pub AttemptStandsIn : MarkedProgram → Phase → List Frame → List Held → Option Attempt
+    → Type 0
 AttemptStandsIn c phase fs held None = Unit {0}
 AttemptStandsIn c phase fs held (Some a) = AttemptStands c phase fs held a
 
@@ -323,4 +342,5 @@ pub record IsStructured (c : MarkedProgram) (was : Phase) (s : Thread) : Type 0 
   pub attempt : AttemptStandsIn c was s.frames s.held s.attempt
 
 abbrev pub Structure : MarkedProgram → (was : ℕ → Phase) → List Thread → Type 0
-Structure c was threads = (t : ℕ) (s : Thread) → slice_get threads t ≡ Some s → IsStructured c (was t) s
+Structure c was threads =
+    (t : ℕ) (s : Thread) → slice_get threads t ≡ Some s → IsStructured c (was t) s

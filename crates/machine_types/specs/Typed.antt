@@ -1,5 +1,7 @@
--- Types: frames and places have values of the types that verification and declarations give them (JVMS 4.10.2.2, 2.3, 2.4).
-use Rattle.std.specs.Prelude.{◌≡◌, ℕ, ◌⊎◌, ◌<◌, ◌^◌, true, false, List, [], ◌∷◌, length, drop, Option, Some, None, slice_get, slice_index, Contains}
+-- Types: frames and places have values of the types that verification and declarations give them
+-- (JVMS 4.10.2.2, 2.3, 2.4).
+use Rattle.std.specs.Prelude.{◌≡◌, ℕ, ◌⊎◌, ◌<◌, ◌^◌, true, false, List, [], ◌∷◌, length, drop}
+use Rattle.std.specs.Prelude.{Option, Some, None, slice_get, slice_index, Contains}
 use Rattle.std.specs.List.{AllZip}
 use Rattle.jvm_types.specs.ClassTree.{is_subclass}
 use Rattle.jvm_types.specs.Members.{is_static}
@@ -31,8 +33,8 @@ use Rattle.jvm_types.specs.declared.class_numbers.TheConstants.{INT_ARRAY_CLASS}
 
 -- ---- values
 
--- The meaning of "an object of just this class stands there" is a parameter: the same lemmas serve this fact and, with
--- "the word is below the number of heap words", what is lawful.
+-- The meaning of "an object of just this class stands there" is a parameter: the same lemmas serve
+-- this fact and, with "the word is below the number of heap words", what is lawful.
 abbrev pub Classes : Type 1
 Classes = (class v : ℕ) → Type 0
 
@@ -81,7 +83,8 @@ abbrev pub FramesHold : MarkedProgram → Classes → List Frame → Type 0
 FramesHold c is [] = Unit {0}
 FramesHold c is (f ∷ fs) = FrameHolds c is 0 f × HoldBelow c is f.method fs
 
--- the top frame throws: as it was before its instruction, or, behind a callee that an exception ended, without what its call took
+-- the top frame throws: as it was before its instruction, or, behind a callee that an exception
+-- ended, without what its call took
 abbrev pub ThrownHolds : MarkedProgram → Classes → Frame → Type 0
 ThrownHolds c is f = FrameHolds c is 0 f ⊎ ((callee : ℕ) × WaitHolds c is callee f)
 
@@ -95,7 +98,8 @@ FramesThrown c is (f ∷ fs) = ThrownHolds c is f × HoldBelow c is f.method fs
 abbrev pub IsException : Classes → (x : ℕ) → Thrown → Type 0
 IsException is x class = is (class_of class) x
 
--- the word of the element that the array and the index on the stack name, with the int above them where it is to be stored
+-- the word of the element that the array and the index on the stack name, with the int above them
+-- where it is to be stored
 abbrev pub IsElementOn : (word : ℕ) → Option ℕ → List ℕ → Type 0
 IsElementOn word None (i ∷ a ∷ s) = word ≡ value_word a i
 IsElementOn word (Some v) (w ∷ i ∷ a ∷ s) = (word ≡ value_word a i) × (v ≡ w)
@@ -140,7 +144,8 @@ IsObject is m = (class : ℕ) × is class m
 
 abbrev pub PhaseHolds : MarkedProgram → Classes → Phase → List Frame → Type 0
 PhaseHolds c is (phases.Element word stored) fs = ElementStands word stored fs × FramesHold c is fs
-PhaseHolds c is (phases.Made a word) fs = FramesHold c (with_object is (header_class word) a) (pushed a fs)
+PhaseHolds c is (phases.Made a word) fs =
+    FramesHold c (with_object is (header_class word) a) (pushed a fs)
 PhaseHolds c is (phases.Throw x class) fs = IsException is x class × FramesThrown c is fs
 PhaseHolds c is (phases.Enter m tried) fs = IsObject is m × FramesHold c is fs
 PhaseHolds c is (phases.Acquire m) fs = IsObject is m × FramesHold c is fs
@@ -169,18 +174,26 @@ pub record ThreadHolds (c : MarkedProgram) (is : Classes) (s : Thread) : Type 0 
 
 -- the objects by their references
 abbrev pub HasClass : List Object → Classes
-HasClass objects class v = (o : Object) × (Contains objects o) × (o.reference ≡ v) × (o.class ≡ class)
+HasClass objects class v =
+    (o : Object) × (Contains objects o) × (o.reference ≡ v) × (o.class ≡ class)
 
 pub record PlacesHold (p : Program) (objects : List Object) (words : List ℕ) : Type 0 where
-  pub headers : (o : Object) → Contains objects o → slice_index words (header_word o.reference) ≡ header_of o
-  pub fields : (o : Object) (number : ℕ) (f : FieldInfo) → Contains objects o → slice_get p.fields number ≡ Some f → is_static f.flags ≡ false → o.class ≡ f.class
+  pub headers : (o : Object) → Contains objects o
+      → slice_index words (header_word o.reference) ≡ header_of o
+  pub fields : (o : Object) (number : ℕ) (f : FieldInfo) → Contains objects o
+      → slice_get p.fields number ≡ Some f → is_static f.flags ≡ false → o.class ≡ f.class
       → KindHolds (HasClass objects) f.kind (slice_index words (value_word o.reference f.index))
-  pub elements : (o : Object) (i : ℕ) → Contains objects o → o.class ≡ INT_ARRAY_CLASS → i < length o.values → slice_index words (value_word o.reference i) < 2 ^ 32
-  pub statics : (number : ℕ) (f : FieldInfo) → slice_get p.fields number ≡ Some f → is_static f.flags ≡ true → KindHolds (HasClass objects) f.kind (slice_index words f.index)
+  pub elements : (o : Object) (i : ℕ) → Contains objects o → o.class ≡ INT_ARRAY_CLASS
+      → i < length o.values → slice_index words (value_word o.reference i) < 2 ^ 32
+  pub statics : (number : ℕ) (f : FieldInfo) → slice_get p.fields number ≡ Some f
+      → is_static f.flags ≡ true → KindHolds (HasClass objects) f.kind (slice_index words f.index)
 
 -- of a state with these objects
 pub record Typed (c : MarkedProgram) (objects : List Object) (s : Core) : Type 0 where
-  pub threads : (t : ℕ) (x : Thread) → slice_get s.threads t ≡ Some x → ThreadHolds c (HasClass objects) x
+  pub threads : (t : ℕ) (x : Thread) → slice_get s.threads t ≡ Some x
+      → ThreadHolds c (HasClass objects) x
   -- no element is read or written behind the last one
-  pub elements : (t : ℕ) (x : Thread) (word : ℕ) (stored : Option ℕ) → slice_get s.threads t ≡ Some x → x.phase ≡ phases.Element word stored → HasElementIn objects stored x.frames
+  pub elements : (t : ℕ) (x : Thread) (word : ℕ) (stored : Option ℕ)
+      → slice_get s.threads t ≡ Some x → x.phase ≡ phases.Element word stored
+      → HasElementIn objects stored x.frames
   pub places : PlacesHold c.program objects s.words

@@ -1,4 +1,5 @@
--- Who waits: which threads have their bit set in the waiting bits of a record (JLS 17.2 in the edition of its time, of wait sets).
+-- Who waits: which threads have their bit set in the waiting bits of a record (JLS 17.2 in the
+-- edition of its time, of wait sets).
 use Rattle.std.specs.Prelude.{◌≡◌, ℕ, ◌<◌, Bool, true, List, Some, IsSome, slice_get, slice_index}
 use Rattle.jvm_types.specs.Numbers.{has_flag}
 use Rattle.machine_types.specs.Core.{Core}
@@ -13,7 +14,8 @@ use Rattle.machine_types.specs.declared.phase.Phase.TheVariants as phases
 abbrev pub is_bit_set : (words : List ℕ) → (r u : ℕ) → Bool
 is_bit_set words r u = has_flag (bit_of u) (slice_index words (bits_word r))
 
--- a thread's bit is set from WaitBit until somebody notifies it: so at most while it gives the monitor up and looks
+-- a thread's bit is set from WaitBit until somebody notifies it: so at most while it gives the
+-- monitor up and looks
 abbrev pub MayWait : Phase → (r : ℕ) → Type 0
 MayWait (phases.WaitOut m k) r = r ≡ k
 MayWait (phases.WaitLook m k depth) r = r ≡ k
@@ -32,4 +34,5 @@ pub record Waits (words : List ℕ) (t : ℕ) (phase : Phase) : Type 0 where
 -- by the phase of each thread that counts; and no bit is that of no thread
 pub record Waiting (was : ℕ → Phase) (s : Core) : Type 0 where
   pub each : (t : ℕ) (x : Thread) → slice_get s.threads t ≡ Some x → Waits s.words t (was t)
-  pub others : (r t : ℕ) → r < MONITOR_RECORDS → is_bit_set s.words r t ≡ true → IsSome (slice_get s.threads t)
+  pub others : (r t : ℕ) → r < MONITOR_RECORDS → is_bit_set s.words r t ≡ true
+      → IsSome (slice_get s.threads t)

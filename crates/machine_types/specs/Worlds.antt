@@ -1,6 +1,8 @@
--- Which objects are unfinished, and which frame of which thread builds each. Of the classes that are frozen, an object is
--- unfinished from its `new` until its `<init>` has returned; of every other, until its header is stored.
-use Rattle.std.specs.Prelude.{◌≡◌, ◌≢◌, ◌<◌, ◌≤◌, ℕ, ◌==◌, Bool, true, false, ◌&&◌, Option, Some, None, if◌then◌else◌}
+-- Which objects are unfinished, and which frame of which thread builds each. Of the classes that
+-- are frozen, an object is unfinished from its `new` until its `<init>` has returned; of every
+-- other, until its header is stored.
+use Rattle.std.specs.Prelude.{◌≡◌, ◌≢◌, ◌<◌, ◌≤◌, ℕ, ◌==◌, Bool, true, false, ◌&&◌, Option, Some}
+use Rattle.std.specs.Prelude.{None, if◌then◌else◌}
 use Rattle.machine_types.specs.Threads.{Attempt}
 
 -- ---- what an object is to the frame that builds it
@@ -70,19 +72,21 @@ lost_if b (Some d) = if same_builder b d then Some (record d { item = Lost }) el
 abbrev pub with_builder : World → (a : ℕ) → Builder → World
 with_builder w a b v = if v == a then Some b else lost_if b (w v)
 
--- ---- what a thread sees of the world: in an attempt it may go on with the objects that it builds, which counts for all when the
--- attempt is done, and for none when it fails
+-- ---- what a thread sees of the world: in an attempt it may go on with the objects that it builds,
+-- which counts for all when the attempt is done, and for none when it fails
 
 pub record IsViewOf (now w : World) (t : ℕ) (attempt : Option Attempt) : Type 0 where
   pub same : attempt ≡ None → (v : ℕ) → now v ≡ w v
   pub others : (v : ℕ) → ((b : Builder) → w v ≡ Some b → b.thread ≢ t) → now v ≡ w v
   pub own : (v : ℕ) (b d : Builder) → w v ≡ Some b → b.thread ≡ t → now v ≡ Some d → d.thread ≡ t
 
--- ---- from one world to a later one, by an event of the thread t in whose course frames above the height stay or go
+-- ---- from one world to a later one, by an event of the thread t in whose course frames above the
+-- height stay or go
 
 pub record GoesOn (w later : World) (next more t height : ℕ) : Type 0 where
   pub grows : next ≤ more
   pub finished : (v : ℕ) → IsFinished w next v → later v ≡ None
   pub others : (v : ℕ) (b : Builder) → b.thread ≢ t → w v ≡ Some b → later v ≡ Some b
   pub no_more : (v : ℕ) (b : Builder) → b.thread ≢ t → later v ≡ Some b → w v ≡ Some b
-  pub lower : (v : ℕ) (b : Builder) → b.thread ≡ t → b.height < height → w v ≡ Some b → later v ≡ Some b
+  pub lower : (v : ℕ) (b : Builder) → b.thread ≡ t → b.height < height → w v ≡ Some b
+      → later v ≡ Some b

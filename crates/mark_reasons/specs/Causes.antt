@@ -1,5 +1,6 @@
 -- What keeps a section from a place that an instruction reads, where that breaks M5.
-use Rattle.std.specs.Prelude.{◌≡◌, ◌<◌, ◌⊎◌, ℕ, Bool, true, false, ◌==◌, List, length, Option, Some, None, slice_get, slice_index_or}
+use Rattle.std.specs.Prelude.{◌≡◌, ◌<◌, ◌⊎◌, ℕ, Bool, true, false, ◌==◌, List, length, Option, Some}
+use Rattle.std.specs.Prelude.{None, slice_get, slice_index_or}
 use Rattle.jvm_types.specs.Members.{is_private, is_static, is_final}
 use Rattle.jvm_types.specs.declared.code.Insn.{Insn}
 use Rattle.jvm_types.specs.declared.code.Op.{Op}
@@ -78,13 +79,16 @@ IsMutable p tags field = IsMutableField p tags field ⊎ IsMutableStatic field
 
 -- a field is read of no object and of no class: the first of these that holds of it
 abbrev pub BarsField : Program → Tagged → ℕ → FieldInfo → Cause → Type 0
-BarsField p tags fi field (causes.Constructor mi) = (is_static field.flags ≡ false) × IsFirstOut p tags field.class (Some mi)
+BarsField p tags fi field (causes.Constructor mi) =
+    (is_static field.flags ≡ false) × IsFirstOut p tags field.class (Some mi)
 BarsField p tags fi field causes.Shared = IsMutable p tags field × (is_private field.flags ≡ false)
-BarsField p tags fi field (causes.Write mi at) = IsMutable p tags field × (is_private field.flags ≡ true) × IsFirstWrite p tags fi mi at
+BarsField p tags fi field (causes.Write mi at) =
+    IsMutable p tags field × (is_private field.flags ≡ true) × IsFirstWrite p tags fi mi at
 BarsField p tags fi field cause = ⊥
 
 abbrev pub Bars : Program → Tagged → ℕ → Cause → Type 0
-Bars p tags fi cause = (field : FieldInfo) × (slice_get p.fields fi ≡ Some field) × BarsField p tags fi field cause
+Bars p tags fi cause =
+    (field : FieldInfo) × (slice_get p.fields fi ≡ Some field) × BarsField p tags fi field cause
 
 -- of the section's own object or of another one, where it is guarded
 abbrev pub KeepsField : Program → Tagged → ℕ → (own : Bool) → Cause → Type 0
@@ -99,8 +103,10 @@ KeepsStatic p tags fi own cause = (own ≡ true) × Bars p tags fi cause
 -- in a method that is called so, with these tags of its stack
 abbrev pub KeepsPlace : Program → Tagged → Mode → List Tag → Option Place → Cause → Type 0
 KeepsPlace p tags mode stack (Some places.Element) cause = cause ≡ causes.Element
-KeepsPlace p tags mode stack (Some (places.Static fi)) cause = KeepsStatic p tags fi (is_own_class mode (class_of_field (slice_get p.fields fi))) cause
-KeepsPlace p tags mode stack (Some (places.Field fi)) cause = KeepsField p tags fi (is_own_object mode (slice_index_or stack 0 Untagged)) cause
+KeepsPlace p tags mode stack (Some (places.Static fi)) cause =
+    KeepsStatic p tags fi (is_own_class mode (class_of_field (slice_get p.fields fi))) cause
+KeepsPlace p tags mode stack (Some (places.Field fi)) cause =
+    KeepsField p tags fi (is_own_object mode (slice_index_or stack 0 Untagged)) cause
 KeepsPlace p tags mode stack None cause = ⊥
 
 -- what the instruction i of a method reads is kept from being read by this
@@ -120,11 +126,14 @@ is_number (Some k) n = k == n
 
 -- an instruction writes a field without its guard
 abbrev pub writes_at : Program → MethodInfo → List (Option TagShape) → (fi i : ℕ) → Bool
-writes_at p m frames fi i = is_number (unguarded_at p m (slice_get m.code i) (slice_get m.targets i) (slice_get frames i)) fi
+writes_at p m frames fi i =
+    is_number (unguarded_at p m (slice_get m.code i) (slice_get m.targets i) (slice_get frames i))
+    fi
 
 -- the first such instruction of a method with its tags
 abbrev pub IsFirstWriteOf : Program → ℕ → Option MethodInfo → Option Tags → Option ℕ → Type 0
-IsFirstWriteOf p fi (Some m) (Some t) found = IsFirst (writes_at p m t.frames fi) (length m.code) found
+IsFirstWriteOf p fi (Some m) (Some t) found =
+    IsFirst (writes_at p m t.frames fi) (length m.code) found
 IsFirstWriteOf p fi m t found = found ≡ None
 
 -- of all methods

@@ -1,5 +1,7 @@
 -- The own instructions of a section as flags, one for each instruction of its method.
-use Rattle.std.specs.Prelude.{◌≡◌, ℕ, zero, suc, Bool, true, false, nat_lt, if◌then◌else◌, List, [], ◌∷◌, ◌++◌, length, replicate, Option, Some, None, slice_get, slice_set, slice_index, slice_index_or}
+use Rattle.std.specs.Prelude.{◌≡◌, ℕ, zero, suc, Bool, true, false, nat_lt, if◌then◌else◌, List, []}
+use Rattle.std.specs.Prelude.{◌∷◌, ◌++◌, length, replicate, Option, Some, None, slice_get}
+use Rattle.std.specs.Prelude.{slice_set, slice_index, slice_index_or}
 use Rattle.jvm_types.specs.declared.code.Insn.{Insn}
 use Rattle.jvm_types.specs.declared.program.Target.{Target}
 use Rattle.jvm_types.specs.declared.program.MethodInfo.{MethodInfo}
@@ -14,7 +16,8 @@ use Rattle.jvm_types.specs.declared.code.Op.TheVariants as ops
 use Rattle.guard_analysis.specs.BlockWalks.{IsInside}
 use Rattle.guard_analysis.specs.SectionGrades.{entry_depth_at}
 
-pub record AreOwn (p : Program) (tags : Tagged) (mi : ℕ) (spot : Spot) (flags : List Bool) : Type 0 where
+pub record AreOwn (p : Program) (tags : Tagged) (mi : ℕ) (spot : Spot) (flags : List Bool)
+    : Type 0 where
   pub only : (i : ℕ) → slice_index_or flags i false ≡ true → IsOwn p tags mi spot i
   pub all : (i : ℕ) → IsOwn p tags mi spot i → slice_index_or flags i false ≡ true
 
@@ -49,19 +52,24 @@ flagged own len (suc k) = flag_set (flagged own len k) (slice_index own k)
 
 -- ---- the own instructions of a block, by the walk that finds them
 
-pub record IsFlagged (m : MethodInfo) (frames : List (Option TagShape)) (depth enter : ℕ) (flags : List Bool) : Type 0 where
+pub record IsFlagged (m : MethodInfo) (frames : List (Option TagShape)) (depth enter : ℕ)
+    (flags : List Bool) : Type 0 where
   pub only : (i : ℕ) → slice_index_or flags i false ≡ true → IsInside m frames depth enter i
   pub all : (i : ℕ) → IsInside m frames depth enter i → slice_index_or flags i false ≡ true
 
-abbrev pub IsDepthAnswer : MethodInfo → List (Option TagShape) → (enter : ℕ) → Option ℕ → Option (List Bool) → Type 0
+abbrev pub IsDepthAnswer : MethodInfo → List (Option TagShape) → (enter : ℕ) → Option ℕ
+    → Option (List Bool) → Type 0
 IsDepthAnswer m frames enter None found = found ≡ None
 IsDepthAnswer m frames enter (Some depth) None = ⊥
 IsDepthAnswer m frames enter (Some depth) (Some flags) = IsFlagged m frames depth enter flags
 
-abbrev pub IsOpAnswer : MethodInfo → List (Option TagShape) → (enter : ℕ) → Op → Option (List Bool) → Type 0
-IsOpAnswer m frames enter ops.Monitorenter found = IsDepthAnswer m frames enter (entry_depth_at m frames enter) found
+abbrev pub IsOpAnswer : MethodInfo → List (Option TagShape) → (enter : ℕ) → Op → Option (List Bool)
+    → Type 0
+IsOpAnswer m frames enter ops.Monitorenter found =
+    IsDepthAnswer m frames enter (entry_depth_at m frames enter) found
 IsOpAnswer m frames enter op found = found ≡ None
 
-abbrev pub IsBlockAnswer : MethodInfo → List (Option TagShape) → (enter : ℕ) → Option Insn → Option (List Bool) → Type 0
+abbrev pub IsBlockAnswer : MethodInfo → List (Option TagShape) → (enter : ℕ) → Option Insn
+    → Option (List Bool) → Type 0
 IsBlockAnswer m frames enter None found = found ≡ None
 IsBlockAnswer m frames enter (Some insn) found = IsOpAnswer m frames enter insn.op found

@@ -1,6 +1,8 @@
--- The reasons of marks as text: the line of each mark, and behind it, each line a bit further right, the calls that lead from
--- the section to what breaks the rule of its mark, and what keeps the place from being read where that is M5.
-use Rattle.std.specs.Prelude.{ℕ, ◌≡◌, ◌==◌, if◌then◌else◌, List, [], ◌∷◌, ◌++◌, codes, Option, Some, None, slice_get}
+-- The reasons of marks as text: the line of each mark, and behind it, each line a bit further
+-- right, the calls that lead from the section to what breaks the rule of its mark, and what keeps
+-- the place from being read where that is M5.
+use Rattle.std.specs.Prelude.{ℕ, ◌≡◌, ◌==◌, if◌then◌else◌, List, [], ◌∷◌, ◌++◌, codes, Option, Some}
+use Rattle.std.specs.Prelude.{None, slice_get}
 use Rattle.std.specs.List.{flat_map}
 use Rattle.std.specs.Fmt.{decimal}
 use Rattle.jvm_types.specs.declared.code.Insn.{Insn}
@@ -17,7 +19,8 @@ use Rattle.mark_reasons.specs.declared.cause.Cause.{Cause}
 use Rattle.mark_reasons.specs.declared.cause.Cause.TheVariants as causes
 use Rattle.mark_reasons.specs.declared.reason.Site.{Site}
 use Rattle.mark_reasons.specs.declared.reason.Reason.{Reason}
-use Rattle.mark_reasons.specs.declared.reason.Reason.TheVariants.{Elsewhere, Unreached, Breaks, Recurs}
+use Rattle.mark_reasons.specs.declared.reason.Reason.TheVariants.{Elsewhere, Unreached, Breaks}
+use Rattle.mark_reasons.specs.declared.reason.Reason.TheVariants.{Recurs}
 
 -- ---- places
 
@@ -32,7 +35,9 @@ insn_place (Some insn) = pc_words insn.pc (Some insn)
 
 -- `CLASS.NAMEDESCRIPTOR at PC MNEMONIC`
 abbrev pub insn_text : Program → (method at : ℕ) → List ℕ
-insn_text p method at = method_words p.names (slice_get p.methods method) ++ insn_place (numbered (slice_get p.methods method) at)
+insn_text p method at =
+    method_words p.names (slice_get p.methods method)
+    ++ insn_place (numbered (slice_get p.methods method) at)
 
 abbrev pub site_text : Program → Site → List ℕ
 site_text p x = insn_text p x.method x.at
@@ -55,7 +60,9 @@ abbrev pub way_lines : Program → List Site → List ℕ
 way_lines p way = flat_map (call_line p) way
 
 abbrev pub fault_line : Program → Site → (rule : ℕ) → List ℕ
-fault_line p x rule = line (codes "  " ++ site_text p x ++ codes " M" ++ decimal rule ++ codes ": " ++ rule_words rule)
+fault_line p x rule =
+    line
+    (codes "  " ++ site_text p x ++ codes " M" ++ decimal rule ++ codes ": " ++ rule_words rule)
 
 -- what keeps the place of M5 from being read
 abbrev pub cause_words : Program → Cause → List ℕ
@@ -63,8 +70,11 @@ cause_words p causes.Element = codes "it is an element of an array"
 cause_words p causes.Static = codes "it is a static field, and the section is not on its class"
 cause_words p causes.Shared = codes "the field is not private"
 cause_words p causes.Other = codes "it is the field of another object"
-cause_words p (causes.Constructor u) = method_words p.names (slice_get p.methods u) ++ codes " lets its object out"
-cause_words p (causes.Write method at) = insn_text p method at ++ codes " writes the field on another object than this or without its lock"
+cause_words p (causes.Constructor u) =
+    method_words p.names (slice_get p.methods u) ++ codes " lets its object out"
+cause_words p (causes.Write method at) =
+    insn_text p method at
+    ++ codes " writes the field on another object than this or without its lock"
 
 abbrev pub cause_line : Program → Option Cause → List ℕ
 cause_line p None = []
@@ -73,12 +83,14 @@ cause_line p (Some cause) = line (codes "    " ++ cause_words p cause)
 -- the method that the way comes back to
 abbrev pub again_line : Program → Option Site → List ℕ
 again_line p None = []
-again_line p (Some x) = line (codes "  " ++ method_words p.names (slice_get p.methods x.method) ++ codes " again")
+again_line p (Some x) =
+    line (codes "  " ++ method_words p.names (slice_get p.methods x.method) ++ codes " again")
 
 abbrev pub reason_lines : Program → Reason → List ℕ
 reason_lines p Elsewhere = line (codes "  its monitor is not this")
 reason_lines p Unreached = line (codes "  no path reaches it")
-reason_lines p (Breaks way site rule cause) = way_lines p way ++ fault_line p site rule ++ cause_line p cause
+reason_lines p (Breaks way site rule cause) =
+    way_lines p way ++ fault_line p site rule ++ cause_line p cause
 reason_lines p (Recurs way again) = way_lines p way ++ again_line p (slice_get way again)
 
 abbrev pub some_reason_lines : Program → Option Reason → List ℕ
@@ -94,7 +106,8 @@ section_lines p mark reason = mark_line p mark ++ some_reason_lines p reason
 abbrev pub explained_text : Program → List SectionMark → List (Option Reason) → List ℕ
 explained_text p [] reasons = []
 explained_text p (mark ∷ marks) [] = []
-explained_text p (mark ∷ marks) (reason ∷ reasons) = section_lines p mark reason ++ explained_text p marks reasons
+explained_text p (mark ∷ marks) (reason ∷ reasons) =
+    section_lines p mark reason ++ explained_text p marks reasons
 
 pub record IsMarksExplained (c : MarkedProgram) (text : List ℕ) : Type 0 where
   pub reasons : List (Option Reason)

@@ -1,6 +1,7 @@
--- The mnemonics of the instructions of this machine by their opcodes (JVMS 6.5), in the groups of the table of
--- instructions.
-use Rattle.std.specs.Prelude.{ℕ, ◌==◌, nat_lt, if◌then◌else◌, List, [], ◌∷◌, ◌++◌, codes, bytes_eq, Option, Some, None}
+-- The mnemonics of the instructions of this machine by their opcodes (JVMS 6.5), in the groups of
+-- the table of instructions.
+use Rattle.std.specs.Prelude.{ℕ, ◌==◌, nat_lt, if◌then◌else◌, List, [], ◌∷◌, ◌++◌, codes, bytes_eq}
+use Rattle.std.specs.Prelude.{Option, Some, None}
 
 -- an opcode and its mnemonic
 abbrev pub MnemonicList : Type 0
@@ -145,7 +146,11 @@ mnemonic b =
     mnemonic_in reference_names b
 
 abbrev pub all_names : MnemonicList
-all_names = constant_names ++ (load_names ++ (store_names ++ (stack_move_names ++ (arithmetic_names ++ (control_names ++ reference_names)))))
+all_names =
+    constant_names
+    ++ (load_names
+    ++ (store_names
+    ++ (stack_move_names ++ (arithmetic_names ++ (control_names ++ reference_names)))))
 
 -- the opcode of a mnemonic among these
 abbrev pub opcode_among : MnemonicList → List ℕ → Option ℕ

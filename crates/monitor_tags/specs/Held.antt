@@ -1,4 +1,5 @@
--- What a method holds behind a `monitorenter`: the tag on the top of the stack too, where there is one.
+-- What a method holds behind a `monitorenter`: the tag on the top of the stack too, where there is
+-- one.
 use Rattle.std.specs.Prelude.{List, [], ◌∷◌}
 use Rattle.checked_program.specs.declared.tag.Tag.{Tag}
 

@@ -13,7 +13,8 @@ use Rattle.code_visits.specs.Analyses.{Ends}
 
 own_frame : (f : TagShape) → tag_meeting.same f f ≡ true
 own_frame f =
-    ap (λ (b : Bool). b && (same_tags f.locals f.locals && same_tags f.held f.held)) (own_tags f.stack)
+    ap (λ (b : Bool). b && (same_tags f.locals f.locals && same_tags f.held f.held))
+    (own_tags f.stack)
     ∙ ap (λ (b : Bool). b && same_tags f.held f.held) (own_tags f.locals) ∙ own_tags f.held
 
 pub tags_meet : IsLawfulMeeting tag_meeting (λ f. 0)
@@ -24,7 +25,9 @@ tags_meet = record {
   met_wide = λ g f e. refl;
 }
 
-pub tags_end : (p : Program) (m : MethodInfo) → Ends (tag_plan p m) (λ nodes. IsKept (tag_plan p m) (tag_ranks p m) nodes) (λ nodes. work (tag_plan p m) (tag_ranks p m) nodes)
+pub tags_end : (p : Program) (m : MethodInfo)
+    → Ends (tag_plan p m) (λ nodes. IsKept (tag_plan p m) (tag_ranks p m) nodes)
+    (λ nodes. work (tag_plan p m) (tag_ranks p m) nodes)
 tags_end p m = record {
   first = first_kept (tag_plan p m) (tag_ranks p m);
   keeps = visit_keeps (tag_plan p m) (tag_ranks p m);

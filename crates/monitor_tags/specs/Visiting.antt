@@ -1,5 +1,6 @@
 -- What one visit of the nodes of a method answers, and the visits in all.
-use Rattle.std.specs.Prelude.{◌≡◌, ℕ, Bool, false, if◌then◌else◌, List, [], ◌∷◌, map, Option, Some, None, Result, Ok, Err}
+use Rattle.std.specs.Prelude.{◌≡◌, ℕ, Bool, false, if◌then◌else◌, List, [], ◌∷◌, map, Option, Some}
+use Rattle.std.specs.Prelude.{None, Result, Ok, Err}
 use Rattle.jvm_types.specs.Verifying.{covering}
 use Rattle.jvm_types.specs.declared.code.Insn.{Insn}
 use Rattle.jvm_types.specs.declared.op_row.OpRow.{OpRow}
@@ -9,7 +10,9 @@ use Rattle.jvm_types.specs.declared.program.Row.{Row}
 use Rattle.jvm_types.specs.declared.refusal.SRule.{SRule}
 use Rattle.jvm_types.specs.declared.refusal.SRule.TheVariants.{S1, S2, S3}
 use Rattle.checked_program.specs.LockTags.{TagShape}
-use Rattle.checked_program.specs.Tagging.{tag_meeting, tags_after, tags_at_handler, until_all, catchers, enters_untagged, exits_other, leaves_held, IsTagRefused}
+use Rattle.checked_program.specs.Tagging.{tag_meeting, tags_after, tags_at_handler, until_all}
+use Rattle.checked_program.specs.Tagging.{catchers, enters_untagged, exits_other, leaves_held}
+use Rattle.checked_program.specs.Tagging.{IsTagRefused}
 use Rattle.checked_program.specs.Visits.{PlanNode, Act, Bring, acted}
 use Rattle.code_visits.specs.Level.{AreLevel}
 use Rattle.code_visits.specs.declared.stop.Stop.{Stop}
@@ -42,13 +45,17 @@ goes_along tos f = Bring S3 tos f
 abbrev pub to_handlers : TagShape → List Row → List (Act TagShape SRule)
 to_handlers f rows = map (λ (handler : Row). goes_along (handler.handler ∷ []) f) rows
 
--- what is kept of a frame for the handlers that an exception of an instruction may go to, where there are some
+-- what is kept of a frame for the handlers that an exception of an instruction may go to, where
+-- there are some
 abbrev pub KeptTagShape : MethodInfo → Insn → TagShape → Option TagShape → Type 0
 KeptTagShape m insn f None = catchers m insn ≡ []
-KeptTagShape m insn f (Some g) = (g ≡ tags_at_handler f) × (catchers m insn ≡ until_all (covering m insn.pc))
+KeptTagShape m insn f (Some g) =
+    (g ≡ tags_at_handler f) × (catchers m insn ≡ until_all (covering m insn.pc))
 
--- a frame breaks neither of the first rules at an instruction, and this is what the instruction does with it
-pub record IsGoing (m : MethodInfo) (insn : Insn) (r : OpRow) (f : TagShape) (g : Going) : Type 0 where
+-- a frame breaks neither of the first rules at an instruction, and this is what the instruction
+-- does with it
+pub record IsGoing (m : MethodInfo) (insn : Insn) (r : OpRow) (f : TagShape) (g : Going)
+    : Type 0 where
   pub enters : enters_untagged insn.op f.stack ≡ false
   pub exits : exits_other insn.op f.stack f.held ≡ false
   pub after : g.after ≡ tags_after insn r f
@@ -63,7 +70,9 @@ first_tag_rule enters exits = if enters then Some S1 else if exits then Some S2 
 abbrev pub TagsPrepared : MethodInfo → Insn → OpRow → TagShape → Result Going (Stop SRule) → Type 0
 TagsPrepared m insn r f (Ok g) = IsGoing m insn r f g
 TagsPrepared m insn r f (Err stops.Memory) = Unit {0}
-TagsPrepared m insn r f (Err (stops.Refused rule pc)) = (first_tag_rule (enters_untagged insn.op f.stack) (exits_other insn.op f.stack f.held) ≡ Some rule) × (pc ≡ insn.pc)
+TagsPrepared m insn r f (Err (stops.Refused rule pc)) =
+    (first_tag_rule (enters_untagged insn.op f.stack) (exits_other insn.op f.stack f.held)
+    ≡ Some rule) × (pc ≡ insn.pc)
 
 -- ---- the answer
 

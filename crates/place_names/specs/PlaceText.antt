@@ -27,4 +27,6 @@ abbrev pub pc_words : ℕ → Option Insn → List ℕ
 pc_words pc insn = codes " at " ++ decimal pc ++ insn_words insn
 
 abbrev pub place_text : Program → (method pc : ℕ) → List ℕ
-place_text p method pc = method_words p.names (slice_get p.methods method) ++ pc_words pc (insn_at (slice_get p.methods method) pc)
+place_text p method pc =
+    method_words p.names (slice_get p.methods method)
+    ++ pc_words pc (insn_at (slice_get p.methods method) pc)

@@ -16,8 +16,10 @@ pub record AreInOrder (os : List Object) (next : ℕ) : Type 0 where
   pub apart : ObjectsLieApart os
   pub before : EndBefore next os
 
--- only the object of this number may have a place: each one before it ends at or before the place, and each one behind it begins
--- behind the place
+-- only the object of this number may have a place: each one before it ends at or before the place,
+-- and each one behind it begins behind the place
 pub record IsOnlyOne (os : List Object) (place number : ℕ) : Type 0 where
-  pub before : (k : ℕ) (d : Object) → k < number → k < length os → object_end (slice_index_or os k d) ≤ place
-  pub behind : (k : ℕ) (d : Object) → number < k → k < length os → place < (slice_index_or os k d).reference
+  pub before : (k : ℕ) (d : Object) → k < number → k < length os
+      → object_end (slice_index_or os k d) ≤ place
+  pub behind : (k : ℕ) (d : Object) → number < k → k < length os
+      → place < (slice_index_or os k d).reference

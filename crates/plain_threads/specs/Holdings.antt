@@ -4,5 +4,6 @@ use Rattle.machine_types.specs.PlainState.{Holding, with_holding, without_holdin
 
 -- m was held by t at this depth
 abbrev pub left_once : (t m depth : ℕ) → List Holding → List Holding
-left_once t m (suc (suc depth)) hs = with_holding (record { monitor = m; holder = t; depth = suc depth }) hs
+left_once t m (suc (suc depth)) hs =
+    with_holding (record { monitor = m; holder = t; depth = suc depth }) hs
 left_once t m depth hs = without_holding m hs

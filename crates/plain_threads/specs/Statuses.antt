@@ -2,7 +2,9 @@
 use Rattle.machine_types.specs.PlainState as plain
 use Rattle.plain_frames.specs.Changes.{after_of}
 use Rattle.plain_threads.specs.declared.status.Status.{Status}
-use Rattle.plain_threads.specs.declared.status.Status.TheVariants.{Ready, Run, Throw, Enter, Leave, Wait, Notify, NotifyAll, Waiting, Woken, Ended}
+use Rattle.plain_threads.specs.declared.status.Status.TheVariants.{Ready, Run, Throw, Enter, Leave}
+use Rattle.plain_threads.specs.declared.status.Status.TheVariants.{Wait, Notify, NotifyAll, Waiting}
+use Rattle.plain_threads.specs.declared.status.Status.TheVariants.{Woken, Ended}
 
 abbrev pub plain_status_of : Status → plain.Status
 plain_status_of Ready = plain.Ready

@@ -17,7 +17,8 @@ use Rattle.mark_reasons.specs.declared.cause.Cause.{Cause}
 use Rattle.mark_reasons.specs.declared.cause.Cause.TheVariants as causes
 use Rattle.mark_reasons.specs.declared.reason.Site.{Site}
 use Rattle.mark_reasons.specs.declared.reason.Reason.{Reason}
-use Rattle.mark_reasons.specs.declared.reason.Reason.TheVariants.{Elsewhere, Unreached, Breaks, Recurs}
+use Rattle.mark_reasons.specs.declared.reason.Reason.TheVariants.{Elsewhere, Unreached, Breaks}
+use Rattle.mark_reasons.specs.declared.reason.Reason.TheVariants.{Recurs}
 
 -- ---- places
 
@@ -27,7 +28,9 @@ insn_members None = []
 insn_members (Some insn) = number_behind (codes "pc") insn.pc ++ instruction_member (Some insn)
 
 abbrev pub site_members : Program → (method at : ℕ) → List ℕ
-site_members p method at = method_members p.names (slice_get p.methods method) ++ insn_members (numbered (slice_get p.methods method) at)
+site_members p method at =
+    method_members p.names (slice_get p.methods method)
+    ++ insn_members (numbered (slice_get p.methods method) at)
 
 unfoldable pub site_object : Program → (method at : ℕ) → List ℕ
 site_object p method at = codes "{" ++ site_members p method at ++ codes "}"
@@ -40,7 +43,8 @@ abbrev pub way_objects : Program → List Site → List ℕ
 way_objects p way = flat_map (call_object p) way
 
 unfoldable pub method_object : Program → ℕ → List ℕ
-method_object p method = codes "{" ++ method_members p.names (slice_get p.methods method) ++ codes "}"
+method_object p method =
+    codes "{" ++ method_members p.names (slice_get p.methods method) ++ codes "}"
 
 -- the method that the way comes back to
 abbrev pub again_object : Program → Option Site → List ℕ
@@ -55,7 +59,8 @@ mark_member key n = codes "," ++ text_member key (codes "M" ++ decimal n)
 
 -- of an instruction that breaks a rule: which, and the begin of its way
 unfoldable pub rule_members : ℕ → List ℕ
-rule_members rule = codes ",\"reason\":\"breaks\"" ++ mark_member (codes "rule") rule ++ codes ",\"way\":["
+rule_members rule =
+    codes ",\"reason\":\"breaks\"" ++ mark_member (codes "rule") rule ++ codes ",\"way\":["
 
 -- what keeps the place of M5 from being read: `,"cause":KIND`
 abbrev pub cause_kind : Cause → List ℕ
@@ -90,8 +95,12 @@ cause_members p (Some cause) = cause_member cause ++ cause_place p cause
 abbrev pub reason_members : Program → Reason → List ℕ
 reason_members p Elsewhere = codes ",\"reason\":\"elsewhere\""
 reason_members p Unreached = codes ",\"reason\":\"unreached\""
-reason_members p (Breaks way site rule cause) = rule_members rule ++ way_objects p way ++ site_object p site.method site.at ++ codes "]" ++ cause_members p cause
-reason_members p (Recurs way again) = codes ",\"reason\":\"recurs\",\"way\":[" ++ way_objects p way ++ again_object p (slice_get way again) ++ codes "]"
+reason_members p (Breaks way site rule cause) =
+    rule_members rule ++ way_objects p way ++ site_object p site.method site.at ++ codes "]"
+    ++ cause_members p cause
+reason_members p (Recurs way again) =
+    codes ",\"reason\":\"recurs\",\"way\":[" ++ way_objects p way
+    ++ again_object p (slice_get way again) ++ codes "]"
 
 abbrev pub some_reason_members : Program → Option Reason → List ℕ
 some_reason_members p None = []
@@ -108,10 +117,13 @@ spot_members Method = spot_member (codes "method")
 spot_members (Block pc) = spot_member (codes "block") ++ number_behind (codes "pc") pc
 
 unfoldable pub section_method : Program → SectionMark → List ℕ
-section_method p mark = codes "{" ++ text_member (codes "what") (codes "section") ++ codes "," ++ method_members p.names (slice_get p.methods mark.method)
+section_method p mark =
+    codes "{" ++ text_member (codes "what") (codes "section") ++ codes ","
+    ++ method_members p.names (slice_get p.methods mark.method)
 
 unfoldable pub section_head : Program → SectionMark → List ℕ
-section_head p mark = section_method p mark ++ spot_members mark.spot ++ mark_member (codes "mark") mark.mark
+section_head p mark =
+    section_method p mark ++ spot_members mark.spot ++ mark_member (codes "mark") mark.mark
 
 abbrev pub section_object : Program → SectionMark → Option Reason → List ℕ
 section_object p mark reason = section_head p mark ++ some_reason_members p reason ++ codes "}\n"
@@ -120,7 +132,8 @@ section_object p mark reason = section_head p mark ++ some_reason_members p reas
 abbrev pub objects_text : Program → List SectionMark → List (Option Reason) → List ℕ
 objects_text p [] reasons = []
 objects_text p (mark ∷ marks) [] = []
-objects_text p (mark ∷ marks) (reason ∷ reasons) = section_object p mark reason ++ objects_text p marks reasons
+objects_text p (mark ∷ marks) (reason ∷ reasons) =
+    section_object p mark reason ++ objects_text p marks reasons
 
 pub record AreMarksInJson (c : MarkedProgram) (text : List ℕ) : Type 0 where
   pub reasons : List (Option Reason)

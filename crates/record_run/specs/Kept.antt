@@ -1,6 +1,7 @@
--- What is known of a machine and its order whenever their lock is free: of which run they are, and that the order led the machine
--- to its state.
-use Rattle.std.specs.Prelude.{◌≡◌, ◌<◌, ◌≤◌, ℕ, true, false, List, [], ◌∷◌, ◌++◌, length, slice_get, Option, None, Some, ◌⊎◌}
+-- What is known of a machine and its order whenever their lock is free: of which run they are, and
+-- that the order led the machine to its state.
+use Rattle.std.specs.Prelude.{◌≡◌, ◌<◌, ◌≤◌, ℕ, true, false, List, [], ◌∷◌, ◌++◌, length, slice_get}
+use Rattle.std.specs.Prelude.{Option, None, Some, ◌⊎◌}
 use Rattle.checked_program.specs.MarkedProgram.{MarkedProgram}
 use Rattle.machine_types.specs.Core.{Core, event, may_begin, start}
 use Rattle.machine_types.specs.Schedules.{is_live_worker}
@@ -23,7 +24,8 @@ pub record NamedRecord : Type 0 where
 
 -- the run is one of this program
 abbrev pub IsRecordOfProgram : Option NamedRecord → MarkedProgram → Type 0
-IsRecordOfProgram run c = (cfg : Config) × (most : ℕ) × (run ≡ Some (record { program = c; cfg = cfg; most = most }))
+IsRecordOfProgram run c =
+    (cfg : Config) × (most : ℕ) × (run ≡ Some (record { program = c; cfg = cfg; most = most }))
 
 -- the workers begin, behind an `init` that returned
 pub record HaveBegun (c : MarkedProgram) (cfg : Config) (s : Core) : Type 0 where
@@ -32,7 +34,8 @@ pub record HaveBegun (c : MarkedProgram) (cfg : Config) (s : Core) : Type 0 wher
 
 -- the order led the machine of the run to its state, from the begin of the workers on
 pub record IsKeptOf (run : Option NamedRecord) (k : Kept) : Type 0 where
-  pub named : run ≡ Some (record { program = k.machine.program; cfg = k.machine.cfg; most = k.most })
+  pub named : run
+      ≡ Some (record { program = k.machine.program; cfg = k.machine.cfg; most = k.most })
   pub few : length k.order ≤ k.most
   pub at : Core
   pub begin : HaveBegun k.machine.program k.machine.cfg at
@@ -43,13 +46,19 @@ pub record IsKeptOf (run : Option NamedRecord) (k : Kept) : Type 0 where
 abbrev pub IsFull : Kept → Type 0
 IsFull k = (k.most ≤ length k.order) ⊎ ((t : ℕ) → is_live_worker k.machine.core t ≡ false)
 
--- an event of a live worker while there is room, behind the order, and how many turns that worker has failed then; else none, and
--- nothing changes
+-- an event of a live worker while there is room, behind the order, and how many turns that worker
+-- has failed then; else none, and nothing changes
 abbrev pub IsEventKept : (t : ℕ) → (was now : Kept) → Option ℕ → Type 0
-IsEventKept t was now None = ((was.most ≤ length was.order) ⊎ (is_live_worker was.machine.core t ≡ false)) × (now ≡ was)
-IsEventKept t was now (Some turns) = (length was.order < was.most) × (is_live_worker was.machine.core t ≡ true)
-    × (now ≡ record was { machine = record was.machine { core = event was.machine.program was.machine.core t }; order = was.order ++ t ∷ [] })
-    × (turns ≡ turns_of (slice_get now.machine.core.threads t))
+IsEventKept t was now None =
+    ((was.most ≤ length was.order) ⊎ (is_live_worker was.machine.core t ≡ false)) × (now ≡ was)
+IsEventKept t was now (Some turns) =
+    (length was.order < was.most) × (is_live_worker was.machine.core t ≡ true)
+    × (now
+    ≡ record was {
+      machine =
+          record was.machine { core = event was.machine.program was.machine.core t };
+      order = was.order ++ t ∷ [];
+    }) × (turns ≡ turns_of (slice_get now.machine.core.threads t))
 
 -- what the run comes to
 abbrev pub IsRecordOf : (run : Option NamedRecord) → Recorded → Type 0

@@ -8,8 +8,8 @@ use Rattle.machine_types.specs.declared.config.Config.{Config}
 use Rattle.replay_runner.specs.Replays.{IsReplayed}
 use Rattle.replay_runner.specs.Running.{events}
 
--- the state in which the workers come next: thread 0 alone has had its events until it was not live, and where `init` returned,
--- the workers' part has begun
+-- the state in which the workers come next: thread 0 alone has had its events until it was not
+-- live, and where `init` returned, the workers' part has begun
 pub record IsBeginOfWorkers (c : MarkedProgram) (cfg : Config) (s : Core) : Type 0 where
   pub count : ℕ
   pub init_over : lives (events c (start c cfg) 0 count) 0 ≡ false
@@ -24,9 +24,10 @@ abbrev pub AreLiveWorkers : MarkedProgram → Core → (order : List ℕ) → Ty
 AreLiveWorkers c s [] = Unit {0}
 AreLiveWorkers c s (t ∷ order) = (is_live_worker s t ≡ true) × AreLiveWorkers c (event c s t) order
 
--- Of the workers' events an order has the first, at most so many, and all where it is shorter; what the run comes to is what
--- a replay by this order comes to.
-pub record IsRecorded (c : MarkedProgram) (cfg : Config) (most : ℕ) (order : List ℕ) (o : Outcome) : Type 0 where
+-- Of the workers' events an order has the first, at most so many, and all where it is shorter; what
+-- the run comes to is what a replay by this order comes to.
+pub record IsRecorded (c : MarkedProgram) (cfg : Config) (most : ℕ) (order : List ℕ) (o : Outcome)
+    : Type 0 where
   pub replayed : IsReplayed c cfg order o
   pub few : length order ≤ most
   pub at : Core
@@ -36,4 +37,6 @@ pub record IsRecorded (c : MarkedProgram) (cfg : Config) (most : ℕ) (order : L
 
 -- whatever a replay by a recorded order comes to is what was recorded
 abbrev pub RecordedOrdersReplay : Type 0
-RecordedOrdersReplay = (c : MarkedProgram) (cfg : Config) (most : ℕ) (order : List ℕ) (o other : Outcome) → IsRecorded c cfg most order o → IsReplayed c cfg order other → other ≡ o
+RecordedOrdersReplay =
+    (c : MarkedProgram) (cfg : Config) (most : ℕ) (order : List ℕ) (o other : Outcome)
+    → IsRecorded c cfg most order o → IsReplayed c cfg order other → other ≡ o

@@ -32,10 +32,13 @@ found_facts (Some class) s = class_facts class s
 
 -- the file by its name, what the place is of, the rule in a sentence, and what to write instead
 abbrev pub refusal_facts : Rule → Place → (name : List ℕ) → Option ClassFile → List Fact
-refusal_facts rule place name found = Said keys.File name ∷ found_facts found (spot rule place) ++ Said keys.Means (means rule) ∷ Said keys.Instead (instead rule) ∷ []
+refusal_facts rule place name found =
+    Said keys.File name ∷ found_facts found (spot rule place) ++ Said keys.Means (means rule)
+    ∷ Said keys.Instead (instead rule) ∷ []
 
 -- the text tells this of the refusal, in the class that the content of the file spells
-pub record Explains (form : Form) (rule : Rule) (place : Place) (name : List ℕ) (content : Option (List ℕ)) (text : List ℕ) : Type 0 where
+pub record Explains (form : Form) (rule : Rule) (place : Place) (name : List ℕ)
+    (content : Option (List ℕ)) (text : List ℕ) : Type 0 where
   pub found : Option ClassFile
   pub is : IsClassSpelled content found
   pub told : text ≡ told_text form rule place (refusal_facts rule place name found)

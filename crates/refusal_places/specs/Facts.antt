@@ -1,4 +1,5 @@
--- What is told of a refusal, fact by fact, and the two forms of it: lines of text, and one object of JSON.
+-- What is told of a refusal, fact by fact, and the two forms of it: lines of text, and one object
+-- of JSON.
 use Rattle.std.specs.Prelude.{ℕ, ◌==◌, List, [], ◌++◌, codes, if◌then◌else◌}
 use Rattle.std.specs.List.{flat_map}
 use Rattle.std.specs.Fmt.{decimal}
@@ -54,17 +55,23 @@ fact_member (Counted key n) = number_behind (key_text key) n
 
 -- the numbers of the place
 unfoldable pub method_member : ℕ → List ℕ
-method_member method = if method == NO_METHOD then [] else number_behind (codes "method_number") method
+method_member method =
+    if method == NO_METHOD then [] else number_behind (codes "method_number") method
 
 abbrev pub place_members : Place → List ℕ
-place_members place = number_behind (codes "file_number") place.file ++ method_member place.method ++ number_behind (codes "at") place.at
+place_members place =
+    number_behind (codes "file_number") place.file ++ method_member place.method
+    ++ number_behind (codes "at") place.at
 
 -- what the object is, and the rule
 abbrev pub head_text : Rule → List ℕ
-head_text rule = codes "{" ++ text_member (codes "what") (codes "refusal") ++ codes "," ++ text_member (codes "rule") (rule_text rule)
+head_text rule =
+    codes "{" ++ text_member (codes "what") (codes "refusal") ++ codes ","
+    ++ text_member (codes "rule") (rule_text rule)
 
 abbrev pub refusal_object : Rule → Place → List Fact → List ℕ
-refusal_object rule place facts = head_text rule ++ place_members place ++ flat_map fact_member facts ++ line (codes "}")
+refusal_object rule place facts =
+    head_text rule ++ place_members place ++ flat_map fact_member facts ++ line (codes "}")
 
 abbrev pub told_text : Form → Rule → Place → List Fact → List ℕ
 told_text forms.Lines rule place facts = lines_text rule place facts

@@ -1,5 +1,6 @@
 -- The names of what a place is of, in the class that the file spells.
-use Rattle.std.specs.Prelude.{ℕ, ◌==◌, nat_le, Bool, ◌&&◌, ◌||◌, List, [], ◌∷◌, ◌++◌, drop, codes, slice_get, Option, Some, None, if◌then◌else◌}
+use Rattle.std.specs.Prelude.{ℕ, ◌==◌, nat_le, Bool, ◌&&◌, ◌||◌, List, [], ◌∷◌, ◌++◌, drop, codes}
+use Rattle.std.specs.Prelude.{slice_get, Option, Some, None, if◌then◌else◌}
 use Rattle.std.specs.List.{flat_map}
 use Rattle.std.specs.Fmt.{decimal, signed_decimal}
 use Rattle.jvm_types.specs.ClassNames.{class_name, class_text_at, text_at}
@@ -17,18 +18,21 @@ use Rattle.refusal_places.specs.declared.facts.Fact.TheVariants.{Said, Counted}
 use Rattle.refusal_places.specs.declared.facts.Key.TheVariants as keys
 use Rattle.refusal_places.specs.declared.source_lines.LineStart.{LineStart}
 use Rattle.refusal_places.specs.declared.spots.Spot.{Spot}
-use Rattle.refusal_places.specs.declared.spots.Spot.TheVariants.{Offset, Whole, Field, Method, Row, Instruction, Use}
+use Rattle.refusal_places.specs.declared.spots.Spot.TheVariants.{Offset, Whole, Field, Method, Row}
+use Rattle.refusal_places.specs.declared.spots.Spot.TheVariants.{Instruction, Use}
 
 -- ---- constants
 
 -- name and descriptor, with a text between them
 abbrev pub pair_words : List Constant → (between : List ℕ) → Option Constant → List ℕ
-pair_words pool between (Some (constants.NameAndType name descriptor)) = text_at pool name ++ between ++ text_at pool descriptor
+pair_words pool between (Some (constants.NameAndType name descriptor)) =
+    text_at pool name ++ between ++ text_at pool descriptor
 pair_words pool between entry = []
 
 -- a member of a class: `CLASS.NAME DESCRIPTOR` of a field, `CLASS.NAMEDESCRIPTOR` of a method
 abbrev pub member_words : List Constant → (between : List ℕ) → (class member : ℕ) → List ℕ
-member_words pool between class member = class_text_at pool class ++ codes "." ++ pair_words pool between (slice_get pool member)
+member_words pool between class member =
+    class_text_at pool class ++ codes "." ++ pair_words pool between (slice_get pool member)
 
 -- what an entry of the pool stands for (JVMS 4.4)
 unfoldable pub constant_words : List Constant → Constant → List ℕ
@@ -43,7 +47,8 @@ constant_words pool (constants.Text string) = codes "a string"
 constant_words pool (constants.Field class member) = member_words pool (codes " ") class member
 constant_words pool (constants.Method class member) = member_words pool [] class member
 constant_words pool (constants.InterfaceMethod class member) = member_words pool [] class member
-constant_words pool (constants.NameAndType name descriptor) = text_at pool name ++ codes " " ++ text_at pool descriptor
+constant_words pool (constants.NameAndType name descriptor) =
+    text_at pool name ++ codes " " ++ text_at pool descriptor
 
 abbrev pub constant_facts : List Constant → Option Constant → List Fact
 constant_facts pool None = []
@@ -51,8 +56,9 @@ constant_facts pool (Some entry) = Said keys.Constant (constant_words pool entry
 
 -- ---- instructions
 
--- whether the two bytes behind an opcode are an index of the pool (JVMS 6.5), also of instructions that this machine does not have:
--- `ldc_w`, `ldc2_w`; `getstatic` to `new`; `anewarray`; `checkcast` and `instanceof`; `multianewarray`
+-- whether the two bytes behind an opcode are an index of the pool (JVMS 6.5), also of instructions
+-- that this machine does not have: `ldc_w`, `ldc2_w`; `getstatic` to `new`; `anewarray`;
+-- `checkcast` and `instanceof`; `multianewarray`
 abbrev pub has_index : ℕ → Bool
 has_index opcode =
     (nat_le 0x13 opcode && nat_le opcode 0x14) || (nat_le 0xb2 opcode && nat_le opcode 0xbb)
@@ -64,7 +70,8 @@ first_byte (b ∷ rest) = Some b
 
 -- the index that an instruction has; that of `ldc` is one byte
 abbrev pub index_in : (opcode : ℕ) → List ℕ → Option ℕ
-index_in opcode rest = if opcode == 0x12 then first_byte rest else if has_index opcode then first_index rest else None
+index_in opcode rest =
+    if opcode == 0x12 then first_byte rest else if has_index opcode then first_index rest else None
 
 -- the mnemonic of an instruction, or its opcode where this machine does not have it
 abbrev pub words_or_opcode : ℕ → Option (List ℕ) → List ℕ
@@ -78,7 +85,9 @@ pool_entry_at pool (Some i) = slice_get pool i
 -- the instruction at the front of the bytes of a code
 unfoldable pub instruction_facts : List Constant → List ℕ → List Fact
 instruction_facts pool [] = []
-instruction_facts pool (opcode ∷ rest) = Said keys.Instruction (words_or_opcode opcode (mnemonic opcode)) ∷ constant_facts pool (pool_entry_at pool (index_in opcode rest))
+instruction_facts pool (opcode ∷ rest) =
+    Said keys.Instruction (words_or_opcode opcode (mnemonic opcode))
+    ∷ constant_facts pool (pool_entry_at pool (index_in opcode rest))
 
 -- ---- methods and their code
 
@@ -88,11 +97,14 @@ line_facts (Some start) = Counted keys.Line start.line ∷ []
 
 -- a pc: the instruction there, and the line of the source that it comes from
 abbrev pub pc_facts : List Constant → ℕ → Code → List Fact
-pc_facts pool pc code = Counted keys.Pc pc ∷ instruction_facts pool (drop pc code.bytes) ++ line_facts (latest_among pool pc None code.attrs)
+pc_facts pool pc code =
+    Counted keys.Pc pc ∷ instruction_facts pool (drop pc code.bytes)
+    ++ line_facts (latest_among pool pc None code.attrs)
 
 -- the class that a handler row catches, where it doesn't catch all
 abbrev pub catch_facts : List Constant → Handler → List Fact
-catch_facts pool row = if row.catch_type == 0 then [] else Said keys.Catch (class_text_at pool row.catch_type) ∷ []
+catch_facts pool row =
+    if row.catch_type == 0 then [] else Said keys.Catch (class_text_at pool row.catch_type) ∷ []
 
 -- of the handler rows that begin at a pc
 abbrev pub begun_fact : List Constant → ℕ → Handler → List Fact
@@ -104,7 +116,9 @@ begun_facts pool pc rows = flat_map (begun_fact pool pc) rows
 -- a handler row: its number, the pcs from which and to which it covers, and that of its handler
 abbrev pub row_facts : List Constant → ℕ → Option Handler → List Fact
 row_facts pool number None = []
-row_facts pool number (Some row) = Counted keys.Row number ∷ Counted keys.From row.start ∷ Counted keys.To row.end ∷ Counted keys.Handler row.handler ∷ catch_facts pool row
+row_facts pool number (Some row) =
+    Counted keys.Row number ∷ Counted keys.From row.start ∷ Counted keys.To row.end
+    ∷ Counted keys.Handler row.handler ∷ catch_facts pool row
 
 abbrev pub method_fact : List Constant → Member → Fact
 method_fact pool m = Said keys.Method (text_at pool m.name ++ text_at pool m.descriptor)
@@ -124,7 +138,8 @@ at_method pool (Some m) = method_fact pool m ∷ []
 
 abbrev pub at_row : List Constant → ℕ → Option Member → List Fact
 at_row pool number None = []
-at_row pool number (Some m) = method_fact pool m ∷ row_facts pool number (slice_get (code_of m.attrs).rows number)
+at_row pool number (Some m) =
+    method_fact pool m ∷ row_facts pool number (slice_get (code_of m.attrs).rows number)
 
 abbrev pub at_instruction : List Constant → ℕ → Option Member → List Fact
 at_instruction pool pc None = []
@@ -132,7 +147,9 @@ at_instruction pool pc (Some m) = method_fact pool m ∷ pc_facts pool pc (code_
 
 abbrev pub at_use : List Constant → ℕ → Option Member → List Fact
 at_use pool pc None = []
-at_use pool pc (Some m) = method_fact pool m ∷ pc_facts pool pc (code_of m.attrs) ++ begun_facts pool pc (code_of m.attrs).rows
+at_use pool pc (Some m) =
+    method_fact pool m ∷ pc_facts pool pc (code_of m.attrs)
+    ++ begun_facts pool pc (code_of m.attrs).rows
 
 abbrev pub spot_facts : ClassFile → Spot → List Fact
 spot_facts c (Offset at) = Counted keys.Offset at ∷ []
@@ -149,4 +166,6 @@ source_facts (Some name) = Said keys.Source name ∷ []
 
 -- the class, the name of its source where it has that, and what the place is of
 abbrev pub class_facts : ClassFile → Spot → List Fact
-class_facts c s = Said keys.Class (class_name c) ∷ source_facts (source_name c.constants c.attrs) ++ spot_facts c s
+class_facts c s =
+    Said keys.Class (class_name c) ∷ source_facts (source_name c.constants c.attrs)
+    ++ spot_facts c s

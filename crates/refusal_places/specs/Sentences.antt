@@ -3,7 +3,8 @@ use Rattle.std.specs.Prelude.{ℕ, List, codes}
 use Rattle.jvm_types.specs.declared.refusal.Rule.{Rule}
 use Rattle.jvm_types.specs.declared.refusal.Rule.TheVariants as rules
 use Rattle.jvm_types.specs.declared.refusal.CRule.{CRule}
-use Rattle.jvm_types.specs.declared.refusal.CRule.TheVariants.{C1, C2, C3, C4, C5, C6, C7, C8, C9, C10}
+use Rattle.jvm_types.specs.declared.refusal.CRule.TheVariants.{C1, C2, C3, C4, C5, C6, C7, C8, C9}
+use Rattle.jvm_types.specs.declared.refusal.CRule.TheVariants.{C10}
 use Rattle.jvm_types.specs.declared.refusal.KRule.{KRule}
 use Rattle.jvm_types.specs.declared.refusal.KRule.TheVariants.{K1, K2, K3, K4, K5, K6}
 use Rattle.jvm_types.specs.declared.refusal.LRule.{LRule}
@@ -42,18 +43,24 @@ reading_means C9 = codes "a method is abstract or native, or has not exactly one
 reading_means C10 = codes "the file is longer than 1,048,576 bytes"
 
 abbrev pub decoding_means : KRule → List ℕ
-decoding_means K1 = codes "an instruction that this machine does not have, or an array of another type than int"
+decoding_means K1 =
+    codes "an instruction that this machine does not have, or an array of another type than int"
 decoding_means K2 = codes "an operand is cut by the end of the code"
 decoding_means K3 = codes "a branch or a switch leads to no start of an instruction"
-decoding_means K4 = codes "a handler row is empty, or begins, ends or leads where no instruction begins"
+decoding_means K4 =
+    codes "a handler row is empty, or begins, ends or leads where no instruction begins"
 decoding_means K5 = codes "the code has no byte, or more than 65,535"
 decoding_means K6 = codes "a switch whose bounds, pairs or keys do not fit"
 
 abbrev pub linking_means : LRule → List ℕ
-linking_means L1 = codes "a class that is not among the files, or a type or a constant that this machine does not have"
+linking_means L1 =
+    codes
+    "a class that is not among the files, or a type or a constant that this machine does not have"
 linking_means L2 = codes "no such member, or a constant or member that does not fit the instruction"
 linking_means L3 = codes "a private member of another class"
-linking_means L4 = codes "a <clinit>, init, run or done that is not static, a <clinit> that takes or returns something, or no run where there are workers"
+linking_means L4 =
+    codes
+    "a <clinit>, init, run or done that is not static, a <clinit> that takes or returns something, or no run where there are workers"
 linking_means L5 = codes "the name of a class or of a member that is there already"
 linking_means L6 = codes "a superclass other than Object, an interface, or an abstract class"
 linking_means L7 = codes "a final field is written outside of its constructor or initializer"
@@ -64,20 +71,27 @@ abbrev pub verifying_means : VRule → List ℕ
 verifying_means V1 = codes "the stack has too few values"
 verifying_means V2 = codes "the stack has more values than max_stack says"
 verifying_means V3 = codes "a local or an argument has no place among max_locals"
-verifying_means V4 = codes "a value of another type than the instruction takes, or a catch type that is no throwable"
+verifying_means V4 =
+    codes "a value of another type than the instruction takes, or a catch type that is no throwable"
 verifying_means V5 = codes "two ways to the instruction bring stacks of different depths"
 verifying_means V6 = codes "the code falls off its end"
-verifying_means V7 = codes "an object that no constructor has finished is used, kept over a jump back or in covered code, or returned from, or one that is finished is constructed again"
+verifying_means V7 =
+    codes
+    "an object that no constructor has finished is used, kept over a jump back or in covered code, or returned from, or one that is finished is constructed again"
 verifying_means V8 = codes "a return that does not fit the descriptor of the method"
 
 abbrev pub tagging_means : SRule → List ℕ
-tagging_means S1 = codes "a monitor is entered on a value that is neither this nor a copy that dup made"
+tagging_means S1 =
+    codes "a monitor is entered on a value that is neither this nor a copy that dup made"
 tagging_means S2 = codes "a monitor is left that is not the innermost one held"
 tagging_means S3 = codes "two ways to the instruction hold different monitors"
-tagging_means S4 = codes "a return, or an instruction that may throw and that no catch-all row covers, while a monitor is held"
+tagging_means S4 =
+    codes
+    "a return, or an instruction that may throw and that no catch-all row covers, while a monitor is held"
 
 abbrev pub assembling_means : ARule → List ℕ
-assembling_means A1 = codes "a line has no form at its place, a number is outside its field, or the text stops early"
+assembling_means A1 =
+    codes "a line has no form at its place, a number is outside its field, or the text stops early"
 assembling_means A2 = codes "all lines have their forms, and they list no class"
 
 unfoldable pub means : Rule → List ℕ
@@ -99,11 +113,14 @@ reading_instead C5 = again
 reading_instead C6 = again
 reading_instead C7 = again
 reading_instead C8 = again
-reading_instead C9 = codes "no interface, and no abstract or native method: the class itself as the type"
+reading_instead C9 =
+    codes "no interface, and no abstract or native method: the class itself as the type"
 reading_instead C10 = codes "a class file, or several smaller classes"
 
 abbrev pub decoding_instead : KRule → List ℕ
-decoding_instead K1 = codes "an int for a long, a float or a double; x = x + 1000 for x += 1000; a class for each type in place of casts and type parameters; a field that says the kind in place of instanceof; objects with a field next in place of an array of objects"
+decoding_instead K1 =
+    codes
+    "an int for a long, a float or a double; x = x + 1000 for x += 1000; a class for each type in place of casts and type parameters; a field that says the kind in place of instanceof; objects with a field next in place of an array of objects"
 decoding_instead K2 = again
 decoding_instead K3 = again
 decoding_instead K4 = again
@@ -111,12 +128,18 @@ decoding_instead K5 = codes "several smaller methods"
 decoding_instead K6 = again
 
 abbrev pub linking_instead : LRule → List ℕ
-linking_instead L1 = codes "the files of all classes that are used; an int for another number or a char; Object or this for a class object; a method of your own for the library's; an exception without a message"
-linking_instead L2 = codes "println of an int, and of nothing else; a loop for arraycopy; all classes compiled together"
+linking_instead L1 =
+    codes
+    "the files of all classes that are used; an int for another number or a char; Object or this for a class object; a method of your own for the library's; an exception without a message"
+linking_instead L2 =
+    codes
+    "println of an int, and of nothing else; a loop for arraycopy; all classes compiled together"
 linking_instead L3 = codes "the member without private"
 linking_instead L4 = codes "the file of the entry class first; public static void run(int)"
 linking_instead L5 = codes "each class once, under a name of its own"
-linking_instead L6 = codes "a field that holds the other object; one of the twelve throwables; the class itself as the type"
+linking_instead L6 =
+    codes
+    "a field that holds the other object; one of the twelve throwables; the class itself as the type"
 linking_instead L7 = codes "the field without final"
 linking_instead L8 = codes "a larger --heap"
 linking_instead L9 = codes "a static synchronized method that it calls"

@@ -1,5 +1,7 @@
--- The line of the source that an instruction comes from, where the class has line numbers (JVMS 4.7.8, 4.7.9).
-use Rattle.std.specs.Prelude.{ℕ, ◌+◌, ◌*◌, nat_le, Bool, ◌&&◌, bytes_eq, List, [], ◌∷◌, drop, codes, Option, Some, None, if◌then◌else◌}
+-- The line of the source that an instruction comes from, where the class has line numbers (JVMS
+-- 4.7.8, 4.7.9).
+use Rattle.std.specs.Prelude.{ℕ, ◌+◌, ◌*◌, nat_le, Bool, ◌&&◌, bytes_eq, List, [], ◌∷◌, drop, codes}
+use Rattle.std.specs.Prelude.{Option, Some, None, if◌then◌else◌}
 use Rattle.jvm_types.specs.ClassNames.{text_at}
 use Rattle.jvm_types.specs.declared.class_file.Attr.{Attr}
 use Rattle.jvm_types.specs.declared.class_file.Constant.{Constant}
@@ -21,14 +23,17 @@ starts_in rest = []
 abbrev pub is_named : List Constant → List ℕ → Attr → Bool
 is_named pool name attr = bytes_eq (text_at pool attr.name) name
 
--- what an attribute of code has of them; there may be several of that name, and other attributes have none
+-- what an attribute of code has of them; there may be several of that name, and other attributes
+-- have none
 abbrev pub starts_of : List Constant → Attr → List LineStart
-starts_of pool attr = if is_named pool (codes "LineNumberTable") attr then starts_in (drop 2 attr.body) else []
+starts_of pool attr =
+    if is_named pool (codes "LineNumberTable") attr then starts_in (drop 2 attr.body) else []
 
 -- Of what was found before, and a start: the one that begins later, and not behind the pc.
 abbrev pub later : ℕ → Option LineStart → LineStart → Option LineStart
 later pc None start = if nat_le start.pc pc then Some start else None
-later pc (Some found) start = if nat_le start.pc pc && nat_le found.pc start.pc then Some start else Some found
+later pc (Some found) start =
+    if nat_le start.pc pc && nat_le found.pc start.pc then Some start else Some found
 
 -- the last of those that begin latest, and not behind the pc
 abbrev pub latest_start : ℕ → Option LineStart → List LineStart → Option LineStart
@@ -38,7 +43,8 @@ latest_start pc found (start ∷ starts) = latest_start pc (later pc found start
 -- and the one among all attributes of the code
 abbrev pub latest_among : List Constant → ℕ → Option LineStart → List Attr → Option LineStart
 latest_among pool pc found [] = found
-latest_among pool pc found (attr ∷ attrs) = latest_among pool pc (latest_start pc found (starts_of pool attr)) attrs
+latest_among pool pc found (attr ∷ attrs) =
+    latest_among pool pc (latest_start pc found (starts_of pool attr)) attrs
 
 -- the first two bytes of a body as an index
 abbrev pub first_index : List ℕ → Option ℕ
@@ -52,4 +58,6 @@ name_at pool (Some i) = Some (text_at pool i)
 -- the name of the source, of the first attribute of the class that has it
 abbrev pub source_name : List Constant → List Attr → Option (List ℕ)
 source_name pool [] = None
-source_name pool (attr ∷ attrs) = if is_named pool (codes "SourceFile") attr then name_at pool (first_index attr.body) else source_name pool attrs
+source_name pool (attr ∷ attrs) =
+    if is_named pool (codes "SourceFile") attr then name_at pool (first_index attr.body)
+    else source_name pool attrs

@@ -9,7 +9,8 @@ use Rattle.jvm_types.specs.declared.refusal.LRule.TheVariants.{L1, L5, L9}
 use Rattle.jvm_types.specs.declared.refusal.Place.{Place}
 use Rattle.jvm_types.specs.declared.refusal.TheConstants.{NO_METHOD}
 use Rattle.refusal_places.specs.declared.spots.Spot.{Spot}
-use Rattle.refusal_places.specs.declared.spots.Spot.TheVariants.{Offset, Whole, Field, Method, Row, Instruction, Use}
+use Rattle.refusal_places.specs.declared.spots.Spot.TheVariants.{Offset, Whole, Field, Method, Row}
+use Rattle.refusal_places.specs.declared.spots.Spot.TheVariants.{Instruction, Use}
 
 -- a rule on code: a handler row, the code as a whole, or an instruction
 abbrev pub code_spot : KRule → Place → Spot
@@ -17,15 +18,15 @@ code_spot K4 place = Row place.method place.at
 code_spot K5 place = Method place.method
 code_spot rule place = Instruction place.method place.at
 
--- A rule of linking, at a place in no method: a field by its number, or the class. The name of the class is at 0, and no field 0 has
--- the name of an earlier one.
+-- A rule of linking, at a place in no method: a field by its number, or the class. The name of the
+-- class is at 0, and no field 0 has the name of an earlier one.
 abbrev pub class_spot : LRule → ℕ → Spot
 class_spot L1 at = Field at
 class_spot L5 at = if at == 0 then Whole else Field at
 class_spot rule at = Whole
 
--- And at a place in a method: the method, or an instruction. What is not there may be used by a handler row that begins at the place as
--- well, and at 0 by the method's descriptor.
+-- And at a place in a method: the method, or an instruction. What is not there may be used by a
+-- handler row that begins at the place as well, and at 0 by the method's descriptor.
 abbrev pub method_spot : LRule → (method at : ℕ) → Spot
 method_spot L5 method at = Method method
 method_spot L9 method at = Method method

@@ -1,4 +1,5 @@
--- What is known of the machine whenever the lock is free: of which run it is, and that this run reaches its state.
+-- What is known of the machine whenever the lock is free: of which run it is, and that this run
+-- reaches its state.
 use Rattle.std.specs.Prelude.{◌≡◌, ℕ, true, false, List, Option, None, Some, slice_get}
 use Rattle.jvm_types.specs.declared.outcome.Outcome.{Outcome}
 use Rattle.checked_program.specs.MarkedProgram.{MarkedProgram}
@@ -30,8 +31,10 @@ abbrev pub IsEndOf : (run : Option Named) → Outcome → Type 0
 IsEndOf None o = ⊥
 IsEndOf (Some n) o = IsEndOfRun n.program n.cfg o
 
--- an event of a live thread, and how many turns that has failed then; of another none, and nothing changes
+-- an event of a live thread, and how many turns that has failed then; of another none, and nothing
+-- changes
 abbrev pub IsEventUnderLock : (t : ℕ) → (was now : Running) → Option ℕ → Type 0
 IsEventUnderLock t was now None = (lives was.core t ≡ false) × (now ≡ was)
-IsEventUnderLock t was now (Some turns) = (lives was.core t ≡ true) × (now ≡ record was { core = event was.program was.core t })
+IsEventUnderLock t was now (Some turns) =
+    (lives was.core t ≡ true) × (now ≡ record was { core = event was.program was.core t })
     × (turns ≡ turns_of (slice_get now.core.threads t))

@@ -22,7 +22,11 @@ shares_begun (suc part) x workers = own_begun x ∷ workers
 
 -- the threads of a program, by their numbers
 abbrev pub AreNumbered : Program → List Thread → Type 0
-AreNumbered p threads = (t : ℕ) (x : Thread) → slice_get threads t ≡ Some x → (x.number ≡ t) × (x.program.program ≡ p)
+AreNumbered p threads =
+    (t : ℕ) (x : Thread) → slice_get threads t ≡ Some x → (x.number ≡ t) × (x.program.program ≡ p)
 
 abbrev pub SharesAreNext : Type 0
-SharesAreNext = (p : Program) (x : Thread) (workers : List Thread) → AreNumbered p (x ∷ workers) → may_begin (x ∷ workers) ≡ true → shares_begun x.part x workers ≡ next_threads p (x ∷ workers)
+SharesAreNext =
+    (p : Program) (x : Thread) (workers : List Thread) → AreNumbered p (x ∷ workers)
+    → may_begin (x ∷ workers) ≡ true
+    → shares_begun x.part x workers ≡ next_threads p (x ∷ workers)

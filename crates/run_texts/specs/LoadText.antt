@@ -8,4 +8,5 @@ abbrev pub load_line : (size seed : ℕ) → List ℕ
 load_line size seed = line (codes "load size " ++ decimal size ++ codes " seed " ++ decimal seed)
 
 abbrev pub summary_text : (size seed : ℕ) → Outcome → List ℕ
-summary_text size seed o = load_line size seed ++ print_lines o.threads ++ end_lines o.threads o.done
+summary_text size seed o =
+    load_line size seed ++ print_lines o.threads ++ end_lines o.threads o.done

@@ -1,4 +1,5 @@
--- The marks of a program as text: a line for each section, with its method, where it begins, and its mark.
+-- The marks of a program as text: a line for each section, with its method, where it begins, and
+-- its mark.
 use Rattle.std.specs.Prelude.{ℕ, ◌-◌, List, [], ◌++◌, codes, Option, Some, None, slice_get}
 use Rattle.std.specs.List.{flat_map}
 use Rattle.std.specs.Fmt.{decimal}

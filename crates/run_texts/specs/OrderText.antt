@@ -1,4 +1,5 @@
--- The line of a recorded order: the numbers of its workers one behind the other, or a dash where there are none.
+-- The line of a recorded order: the numbers of its workers one behind the other, or a dash where
+-- there are none.
 use Rattle.std.specs.Prelude.{ℕ, List, [], ◌∷◌, ◌++◌, codes}
 use Rattle.std.specs.List.{flat_map}
 use Rattle.std.specs.Fmt.{decimal}

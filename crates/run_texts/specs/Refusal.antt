@@ -1,11 +1,13 @@
--- The line of a refusal: `refused RULE file I at A`, with ` method J` before ` at` where the place is in a method.
+-- The line of a refusal: `refused RULE file I at A`, with ` method J` before ` at` where the place
+-- is in a method.
 use Rattle.std.specs.Prelude.{ℕ, ◌==◌, List, ◌++◌, codes, if◌then◌else◌}
 use Rattle.std.specs.Fmt.{decimal}
 use Rattle.run_texts.specs.Report.{line}
 use Rattle.jvm_types.specs.declared.refusal.Rule.{Rule}
 use Rattle.jvm_types.specs.declared.refusal.Rule.TheVariants as rules
 use Rattle.jvm_types.specs.declared.refusal.CRule.{CRule}
-use Rattle.jvm_types.specs.declared.refusal.CRule.TheVariants.{C1, C2, C3, C4, C5, C6, C7, C8, C9, C10}
+use Rattle.jvm_types.specs.declared.refusal.CRule.TheVariants.{C1, C2, C3, C4, C5, C6, C7, C8, C9}
+use Rattle.jvm_types.specs.declared.refusal.CRule.TheVariants.{C10}
 use Rattle.jvm_types.specs.declared.refusal.KRule.{KRule}
 use Rattle.jvm_types.specs.declared.refusal.KRule.TheVariants.{K1, K2, K3, K4, K5, K6}
 use Rattle.jvm_types.specs.declared.refusal.LRule.{LRule}
@@ -82,7 +84,9 @@ abbrev pub method_text : ℕ → List ℕ
 method_text method = if method == NO_METHOD then codes "" else codes " method " ++ decimal method
 
 abbrev pub refusal_words : Rule → Place → List ℕ
-refusal_words rule place = codes "refused " ++ rule_text rule ++ codes " file " ++ decimal place.file ++ method_text place.method ++ codes " at " ++ decimal place.at
+refusal_words rule place =
+    codes "refused " ++ rule_text rule ++ codes " file " ++ decimal place.file
+    ++ method_text place.method ++ codes " at " ++ decimal place.at
 
 abbrev pub refusal_text : Rule → Place → List ℕ
 refusal_text rule place = line (refusal_words rule place)

@@ -3,9 +3,19 @@ use Rattle.std.specs.Prelude.{ℕ, ◌+◌, nat_le, List, [], ◌∷◌, ◌++�
 use Rattle.std.specs.List.{flat_map}
 use Rattle.std.specs.Fmt.{decimal, signed_decimal}
 use Rattle.jvm_types.specs.declared.outcome.Thrown.{Thrown}
-use Rattle.jvm_types.specs.declared.outcome.Thrown.TheVariants.{Throwable, Exception, Error, RuntimeException, InterruptedException, ArithmeticException, NullPointerException, ArrayIndexOutOfBoundsException, NegativeArraySizeException, IllegalMonitorStateException, OutOfMemoryError, StackOverflowError}
+use Rattle.jvm_types.specs.declared.outcome.Thrown.TheVariants.{Throwable, Exception, Error}
+use Rattle.jvm_types.specs.declared.outcome.Thrown.TheVariants.{RuntimeException}
+use Rattle.jvm_types.specs.declared.outcome.Thrown.TheVariants.{InterruptedException}
+use Rattle.jvm_types.specs.declared.outcome.Thrown.TheVariants.{ArithmeticException}
+use Rattle.jvm_types.specs.declared.outcome.Thrown.TheVariants.{NullPointerException}
+use Rattle.jvm_types.specs.declared.outcome.Thrown.TheVariants.{ArrayIndexOutOfBoundsException}
+use Rattle.jvm_types.specs.declared.outcome.Thrown.TheVariants.{NegativeArraySizeException}
+use Rattle.jvm_types.specs.declared.outcome.Thrown.TheVariants.{IllegalMonitorStateException}
+use Rattle.jvm_types.specs.declared.outcome.Thrown.TheVariants.{OutOfMemoryError}
+use Rattle.jvm_types.specs.declared.outcome.Thrown.TheVariants.{StackOverflowError}
 use Rattle.jvm_types.specs.declared.outcome.End.{End}
-use Rattle.jvm_types.specs.declared.outcome.End.TheVariants.{Returned, Uncaught, Steps, Turns, Records, Prints, NotRun}
+use Rattle.jvm_types.specs.declared.outcome.End.TheVariants.{Returned, Uncaught, Steps, Turns}
+use Rattle.jvm_types.specs.declared.outcome.End.TheVariants.{Records, Prints, NotRun}
 use Rattle.jvm_types.specs.declared.outcome.Print.{Print}
 use Rattle.jvm_types.specs.declared.outcome.Counts.{Counts}
 use Rattle.jvm_types.specs.declared.outcome.ThreadReport.{ThreadReport}
@@ -16,7 +26,8 @@ line text = text ++ 10 ∷ []
 
 -- ---- the prints
 
--- a print put among others that stand in order of their tickets, before the first whose ticket is not less
+-- a print put among others that stand in order of their tickets, before the first whose ticket is
+-- not less
 abbrev pub put : Print → List Print → List Print
 put p [] = p ∷ []
 put p (q ∷ qs) = if nat_le p.ticket q.ticket then p ∷ q ∷ qs else q ∷ put p qs
@@ -60,16 +71,21 @@ end_text NotRun = codes "not run"
 -- thread 0 ends the part `init`, each other thread its own
 abbrev pub thread_ends : ℕ → List ThreadReport → List ℕ
 thread_ends number [] = []
-thread_ends number (t ∷ ts) = line (codes "thread " ++ decimal number ++ codes " " ++ end_text t.end) ++ thread_ends (number + 1) ts
+thread_ends number (t ∷ ts) =
+    line (codes "thread " ++ decimal number ++ codes " " ++ end_text t.end)
+    ++ thread_ends (number + 1) ts
 
 abbrev pub end_lines : List ThreadReport → End → List ℕ
 end_lines [] done = line (codes "done " ++ end_text done)
-end_lines (t ∷ ts) done = line (codes "init " ++ end_text t.end) ++ thread_ends 1 ts ++ line (codes "done " ++ end_text done)
+end_lines (t ∷ ts) done =
+    line (codes "init " ++ end_text t.end) ++ thread_ends 1 ts
+    ++ line (codes "done " ++ end_text done)
 
 -- ---- the counts
 
 abbrev pub counts_line : ℕ → Counts → List ℕ
-counts_line number c = line (codes "counts " ++ decimal number ++ codes " instructions " ++ decimal c.instructions
+counts_line number c =
+    line (codes "counts " ++ decimal number ++ codes " instructions " ++ decimal c.instructions
     ++ codes " elided " ++ decimal c.elided ++ codes " failed " ++ decimal c.failed
     ++ codes " locked " ++ decimal c.locked ++ codes " inflated " ++ decimal c.inflated)
 

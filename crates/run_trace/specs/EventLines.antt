@@ -1,6 +1,7 @@
--- What is told of a run, in lines or as objects of JSON, each of which is a line too: one for each event, made of the state before it
--- and the state behind it, and one for each part that begins.
-use Rattle.std.specs.Prelude.{ℕ, zero, ◌+◌, ◌-◌, ◌^◌, min, nat_le, nat_lt, ◌&&◌, if◌then◌else◌, List, [], ◌∷◌, ◌++◌, codes, Option, Some, None, slice_get}
+-- What is told of a run, in lines or as objects of JSON, each of which is a line too: one for each
+-- event, made of the state before it and the state behind it, and one for each part that begins.
+use Rattle.std.specs.Prelude.{ℕ, zero, ◌+◌, ◌-◌, ◌^◌, min, nat_le, nat_lt, ◌&&◌, if◌then◌else◌}
+use Rattle.std.specs.Prelude.{List, [], ◌∷◌, ◌++◌, codes, Option, Some, None, slice_get}
 use Rattle.std.specs.Option.{option_map}
 use Rattle.std.specs.Fmt.{decimal}
 use Rattle.checked_program.specs.MarkedProgram.{MarkedProgram}
@@ -28,24 +29,32 @@ use Rattle.run_trace.specs.declared.events.Seen.{Seen}
 
 -- a thread whose event comes next
 abbrev pub seen_before : MarkedProgram → (words : List ℕ) → Thread → Before
-seen_before c words x = before_of c.program x (wanted c x x.phase) (found_by words (wanted c x x.phase))
+seen_before c words x =
+    before_of c.program x (wanted c x x.phase) (found_by words (wanted c x x.phase))
 
 abbrev pub seen_with : MarkedProgram → (words : List ℕ) → Thread → Share → Seen
 seen_with c words x share = record { before = seen_before c words x; share = share }
 
 -- with what the shadow of the run has for its event
 abbrev pub seen_of_event : MarkedProgram → Told → Happening → Option Seen
-seen_of_event c w (Of t) = option_map (λ x. seen_with c w.core.words x (share_at c x x.attempt (found_by_event c w x) (past_at w t))) (slice_get w.core.threads t)
+seen_of_event c w (Of t) =
+    option_map (λ x.
+    seen_with c w.core.words x (share_at c x x.attempt (found_by_event c w x) (past_at w t)))
+    (slice_get w.core.threads t)
 seen_of_event c w NextPart = None
 
 -- the line of an event by the thread before it, and by the thread and the words behind it
-abbrev pub line_between : MarkedProgram → Form → (names : List (List ℕ)) → (number : ℕ) → (words : List ℕ) → Option Seen → Option Thread → List ℕ
-line_between c form names number words (Some seen) (Some y) = event_in form c.program names number seen.before seen.share (after_event y (found_by words seen.before.access))
+abbrev pub line_between : MarkedProgram → Form → (names : List (List ℕ)) → (number : ℕ)
+    → (words : List ℕ) → Option Seen → Option Thread → List ℕ
+line_between c form names number words (Some seen) (Some y) =
+    event_in form c.program names number seen.before seen.share
+    (after_event y (found_by words seen.before.access))
 line_between c form names number words seen y = []
 
 -- the line of the end that it leads to, where that is no return
 abbrev pub end_between : MarkedProgram → Form → (number : ℕ) → Option Seen → Option Thread → List ℕ
-end_between c form number (Some seen) (Some y) = event_end_in form c.program number seen.before y.phase
+end_between c form number (Some seen) (Some y) =
+    event_end_in form c.program number seen.before y.phase
 end_between c form number seen y = []
 
 -- ---- the begin of a part: the workers behind `init`, `done` behind the workers
@@ -59,7 +68,9 @@ part_name zero = codes "workers"
 part_name part = codes "done"
 
 unfoldable pub part_object : (number part : ℕ) → List ℕ
-part_object number part = what_member (codes "part") ++ number_behind (codes "number") number ++ text_behind (codes "begins") (part_name part) ++ line (codes "}")
+part_object number part =
+    what_member (codes "part") ++ number_behind (codes "number") number
+    ++ text_behind (codes "begins") (part_name part) ++ line (codes "}")
 
 abbrev pub part_begin_in : Form → (number part : ℕ) → List ℕ
 part_begin_in Lines number part = line (decimal number ++ part_text part)
@@ -72,34 +83,50 @@ part_line form number (Some begun) = part_begin_in form number begun
 
 -- ---- all of them, which are numbered; the number stands still at the end of 64 bits
 
-abbrev pub event_line : MarkedProgram → Form → (names : List (List ℕ)) → (number : ℕ) → Core → Option Seen → Happening → List ℕ
-event_line c form names number s seen (Of t) = line_between c form names number (event c s t).words seen (slice_get (event c s t).threads t)
-event_line c form names number s seen NextPart = part_line form number (option_map (λ x. x.part) (slice_get s.threads 0))
+abbrev pub event_line : MarkedProgram → Form → (names : List (List ℕ)) → (number : ℕ) → Core
+    → Option Seen → Happening → List ℕ
+event_line c form names number s seen (Of t) =
+    line_between c form names number (event c s t).words seen (slice_get (event c s t).threads t)
+event_line c form names number s seen NextPart =
+    part_line form number (option_map (λ x. x.part) (slice_get s.threads 0))
 
 -- of a part of the lines alone
 abbrev pub line_shown : Part → (number : ℕ) → List ℕ → List ℕ
-line_shown part number text = if nat_le part.from number && nat_lt (number - part.from) part.count then text else []
+line_shown part number text =
+    if nat_le part.from number && nat_lt (number - part.from) part.count then text else []
 
-abbrev pub told_line : MarkedProgram → (names : List (List ℕ)) → Part → (number : ℕ) → Core → Option Seen → Happening → List ℕ
-told_line c names part number s seen h = line_shown part number (event_line c part.form names number s seen h)
+abbrev pub told_line : MarkedProgram → (names : List (List ℕ)) → Part → (number : ℕ) → Core
+    → Option Seen → Happening → List ℕ
+told_line c names part number s seen h =
+    line_shown part number (event_line c part.form names number s seen h)
 
 abbrev pub next_line_number : ℕ → ℕ
 next_line_number n = min (n + 1) (2 ^ 64 - 1)
 
 -- each event from the state before it, with the pasts of the threads there
-abbrev pub lines_from : MarkedProgram → (names : List (List ℕ)) → Part → (number : ℕ) → Told → List Happening → List ℕ
+abbrev pub lines_from : MarkedProgram → (names : List (List ℕ)) → Part → (number : ℕ) → Told
+    → List Happening → List ℕ
 lines_from c names part number w [] = []
-lines_from c names part number w (h ∷ hs) = told_line c names part number w.core (seen_of_event c w h) h ++ lines_from c names part (next_line_number number) (told c w h) hs
+lines_from c names part number w (h ∷ hs) =
+    told_line c names part number w.core (seen_of_event c w h) h
+    ++ lines_from c names part (next_line_number number) (told c w h) hs
 
 -- where parts of threads came to an end that is no return
 abbrev pub event_end : MarkedProgram → Form → (number : ℕ) → Core → Option Seen → Happening → List ℕ
-event_end c form number s seen (Of t) = end_between c form number seen (slice_get (event c s t).threads t)
+event_end c form number s seen (Of t) =
+    end_between c form number seen (slice_get (event c s t).threads t)
 event_end c form number s seen NextPart = []
 
 abbrev pub ends_from : MarkedProgram → Form → (number : ℕ) → Told → List Happening → List ℕ
 ends_from c form number w [] = []
-ends_from c form number w (h ∷ hs) = event_end c form number w.core (seen_of_event c w h) h ++ ends_from c form (next_line_number number) (told c w h) hs
+ends_from c form number w (h ∷ hs) =
+    event_end c form number w.core (seen_of_event c w h) h
+    ++ ends_from c form (next_line_number number) (told c w h) hs
 
--- the lines of all events, or of a part of them, those of the ends that are no returns, and then the report of the run
-abbrev pub trace_text : MarkedProgram → Config → (names : List (List ℕ)) → Part → List Happening → List ℕ
-trace_text c cfg names part hs = lines_from c names part 1 (told_start c cfg) hs ++ ends_from c part.form 1 (told_start c cfg) hs ++ report_in part.form (outcome (core c cfg hs))
+-- the lines of all events, or of a part of them, those of the ends that are no returns, and then
+-- the report of the run
+abbrev pub trace_text : MarkedProgram → Config → (names : List (List ℕ)) → Part → List Happening
+    → List ℕ
+trace_text c cfg names part hs =
+    lines_from c names part 1 (told_start c cfg) hs ++ ends_from c part.form 1 (told_start c cfg) hs
+    ++ report_in part.form (outcome (core c cfg hs))

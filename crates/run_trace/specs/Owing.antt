@@ -13,7 +13,11 @@ abbrev pub owed_at : (owed : List ℕ) → (t : ℕ) → ℕ
 owed_at owed t = slice_index_or owed t 0
 
 abbrev pub seen_by : MarkedProgram → Core → (owed : List ℕ) → Happening → Option Seen
-seen_by c s owed (Of t) = option_map (λ x. seen_with c s.words x (share_by c x x.attempt (found_by s.words (wanted c x x.phase)) (owed_at owed t))) (slice_get s.threads t)
+seen_by c s owed (Of t) =
+    option_map (λ x.
+    seen_with c s.words x
+    (share_by c x x.attempt (found_by s.words (wanted c x x.phase)) (owed_at owed t)))
+    (slice_get s.threads t)
 seen_by c s owed NextPart = None
 
 -- behind an event

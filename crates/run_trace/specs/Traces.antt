@@ -1,6 +1,7 @@
--- A trace that was written to a sink: the lines of the events of the one schedule that an order stands for, those of the ends that
--- are no returns, and the report.
-use Rattle.std.specs.Prelude.{◌≡◌, ◌+◌, ℕ, List, [], ◌∷◌, ◌++◌, map, replicate, Option, None, Result, Ok, Err}
+-- A trace that was written to a sink: the lines of the events of the one schedule that an order
+-- stands for, those of the ends that are no returns, and the report.
+use Rattle.std.specs.Prelude.{◌≡◌, ◌+◌, ℕ, List, [], ◌∷◌, ◌++◌, map, replicate, Option, None}
+use Rattle.std.specs.Prelude.{Result, Ok, Err}
 use Rattle.std.specs.Option.{option_map}
 use Rattle.checked_program.specs.MarkedProgram.{MarkedProgram}
 use Rattle.jvm_types.specs.declared.outcome.Outcome.{Outcome}
@@ -11,7 +12,8 @@ use Rattle.machine_types.specs.Schedules.{IsScheduleOf, Stage, First, Turn, turn
 use Rattle.machine_types.specs.declared.config.Config.{Config}
 use Rattle.event_texts.specs.Shares as shares
 use Rattle.replay_runner.specs.Replays.{IsLedByTurns}
-use Rattle.run_trace.specs.EventLines.{ends_from, event_end, lines_from, next_line_number, told_line, trace_text}
+use Rattle.run_trace.specs.EventLines.{ends_from, event_end, lines_from, next_line_number}
+use Rattle.run_trace.specs.EventLines.{told_line, trace_text}
 use Rattle.run_trace.specs.Owing.{owed_after, seen_by}
 use Rattle.run_trace.specs.declared.events.Part.{Part}
 use Rattle.run_trace.specs.Turns.{turn_of_next}
@@ -23,17 +25,26 @@ use Rattle.run_trace.specs.declared.traces.Tracing.{Tracing}
 -- ---- one event or part
 
 -- it happened to the run, and its line was added to what the sink tells
-pub record Happened (c : MarkedProgram) (names : List (List ℕ)) (part : Part) (h : Happening) (m n : Tracing) (told now : Option (List ℕ)) (before after : ℕ) : Type 0 where
+pub record Happened (c : MarkedProgram) (names : List (List ℕ)) (part : Part) (h : Happening)
+    (m n : Tracing) (told now : Option (List ℕ)) (before after : ℕ) : Type 0 where
   pub machine : n.machine ≡ record m.machine { core = happened m.machine.program m.machine.core h }
   pub number : n.number ≡ next_line_number m.number
   pub owed : n.owed ≡ owed_after m.owed h (seen_by c m.machine.core m.owed h)
-  pub ends : n.ends.items ≡ m.ends.items ++ event_end c part.form m.number m.machine.core (seen_by c m.machine.core m.owed h) h
-  pub text : now ≡ option_map (λ t. t ++ told_line c names part m.number m.machine.core (seen_by c m.machine.core m.owed h) h) told
+  pub ends : n.ends.items
+      ≡ m.ends.items
+      ++ event_end c part.form m.number m.machine.core (seen_by c m.machine.core m.owed h) h
+  pub text : now
+      ≡ option_map (λ t.
+      t ++ told_line c names part m.number m.machine.core (seen_by c m.machine.core m.owed h) h)
+      told
   pub calm : after ≡ before
 
 -- there was no memory, and the sink had not failed; or it failed
-abbrev pub IsHappeningTold : MarkedProgram → (names : List (List ℕ)) → Part → Happening → (m n : Tracing) → (told now : Option (List ℕ)) → (before after : ℕ) → {A : Type 0} → Result A TraceError → Type 0
-IsHappeningTold c names part h m n told now before after (Ok done) = Happened c names part h m n told now before after
+abbrev pub IsHappeningTold : MarkedProgram → (names : List (List ℕ)) → Part → Happening
+    → (m n : Tracing) → (told now : Option (List ℕ)) → (before after : ℕ) → {A : Type 0}
+    → Result A TraceError → Type 0
+IsHappeningTold c names part h m n told now before after (Ok done) =
+    Happened c names part h m n told now before after
 IsHappeningTold c names part h m n told now before after (Err Memory) = after ≡ before
 IsHappeningTold c names part h m n told now before after (Err Failed) = CountsFault before after
 
@@ -52,8 +63,11 @@ abbrev pub number_after : (number : ℕ) → List Happening → ℕ
 number_after number [] = number
 number_after number (h ∷ hs) = number_after (next_line_number number) hs
 
--- the order has led the run to here, where this turn comes next and each thread owes so many steps; and a sink that told some bytes has the lines of its events
-pub record TraceWalked (c : MarkedProgram) (cfg : Config) (order : List ℕ) (names : List (List ℕ)) (part : Part) (told : Option (List ℕ)) (n : Tracing) (next : Option Turn) (now : Option (List ℕ)) : Type 0 where
+-- the order has led the run to here, where this turn comes next and each thread owes so many steps;
+-- and a sink that told some bytes has the lines of its events
+pub record TraceWalked (c : MarkedProgram) (cfg : Config) (order : List ℕ) (names : List (List ℕ))
+    (part : Part) (told : Option (List ℕ)) (n : Tracing) (next : Option Turn)
+    (now : Option (List ℕ)) : Type 0 where
   pub program : n.machine.program ≡ c
   pub settings : n.machine.cfg ≡ cfg
   pub happenings : List Happening
@@ -64,44 +78,62 @@ pub record TraceWalked (c : MarkedProgram) (cfg : Config) (order : List ℕ) (na
   pub core : (all_told c (told_start c cfg) happenings).core ≡ n.machine.core
   pub owed : n.owed ≡ map shares.owed (all_told c (told_start c cfg) happenings).pasts
   pub ends : n.ends.items ≡ ends_from c part.form 1 (told_start c cfg) happenings
-  pub text : now ≡ option_map (λ t. t ++ lines_from c names part 1 (told_start c cfg) happenings) told
+  pub text : now
+      ≡ option_map (λ t. t ++ lines_from c names part 1 (told_start c cfg) happenings) told
 
 -- whatever was walked to the one is walked to the other; the sink has not failed
-pub record WalksOn (c : MarkedProgram) (order : List ℕ) (names : List (List ℕ)) (part : Part) (m : Tracing) (next : Option Turn) (told : Option (List ℕ)) (before : ℕ) (n : Tracing) (behind : Option Turn) (now : Option (List ℕ)) (after : ℕ) : Type 0 where
+pub record WalksOn (c : MarkedProgram) (order : List ℕ) (names : List (List ℕ)) (part : Part)
+    (m : Tracing) (next : Option Turn) (told : Option (List ℕ)) (before : ℕ) (n : Tracing)
+    (behind : Option Turn) (now : Option (List ℕ)) (after : ℕ) : Type 0 where
   pub program : n.machine.program ≡ m.machine.program
-  pub walked : (cfg : Config) (first : Option (List ℕ)) → TraceWalked c cfg order names part first m next told → TraceWalked c cfg order names part first n behind now
+  pub walked : (cfg : Config) (first : Option (List ℕ))
+      → TraceWalked c cfg order names part first m next told
+      → TraceWalked c cfg order names part first n behind now
   pub calm : after ≡ before
 
 -- on from a turn, to another
-abbrev pub IsWalk : MarkedProgram → (order : List ℕ) → (names : List (List ℕ)) → Part → (m : Tracing) → Option Turn → (told : Option (List ℕ)) → (before : ℕ) → (n : Tracing) → (now : Option (List ℕ)) → (after : ℕ) → Result Next TraceError → Type 0
-IsWalk c order names part m turn told before n now after (Ok next) = WalksOn c order names part m turn told before n (turn_of_next order next) now after
+abbrev pub IsWalk : MarkedProgram → (order : List ℕ) → (names : List (List ℕ)) → Part
+    → (m : Tracing) → Option Turn → (told : Option (List ℕ)) → (before : ℕ) → (n : Tracing)
+    → (now : Option (List ℕ)) → (after : ℕ) → Result Next TraceError → Type 0
+IsWalk c order names part m turn told before n now after (Ok next) =
+    WalksOn c order names part m turn told before n (turn_of_next order next) now after
 IsWalk c order names part m turn told before n now after (Err Memory) = after ≡ before
 IsWalk c order names part m turn told before n now after (Err Failed) = CountsFault before after
 
 -- on from a turn, to the end of the run
-abbrev pub IsWalkToEnd : MarkedProgram → (order : List ℕ) → (names : List (List ℕ)) → Part → (m : Tracing) → Option Turn → (told : Option (List ℕ)) → (before : ℕ) → (n : Tracing) → (now : Option (List ℕ)) → (after : ℕ) → {A : Type 0} → Result A TraceError → Type 0
-IsWalkToEnd c order names part m turn told before n now after (Ok done) = WalksOn c order names part m turn told before n None now after
+abbrev pub IsWalkToEnd : MarkedProgram → (order : List ℕ) → (names : List (List ℕ)) → Part
+    → (m : Tracing) → Option Turn → (told : Option (List ℕ)) → (before : ℕ) → (n : Tracing)
+    → (now : Option (List ℕ)) → (after : ℕ) → {A : Type 0} → Result A TraceError → Type 0
+IsWalkToEnd c order names part m turn told before n now after (Ok done) =
+    WalksOn c order names part m turn told before n None now after
 IsWalkToEnd c order names part m turn told before n now after (Err Memory) = after ≡ before
-IsWalkToEnd c order names part m turn told before n now after (Err Failed) = CountsFault before after
+IsWalkToEnd c order names part m turn told before n now after (Err Failed) =
+    CountsFault before after
 
 -- ---- a text that is put to the sink
 
-abbrev pub IsPut : (told now : Option (List ℕ)) → (before after : ℕ) → (text : List ℕ) → {A : Type 0} → Result A TraceError → Type 0
-IsPut told now before after text (Ok done) = (after ≡ before) × (now ≡ option_map (λ t. t ++ text) told)
+abbrev pub IsPut : (told now : Option (List ℕ)) → (before after : ℕ) → (text : List ℕ)
+    → {A : Type 0} → Result A TraceError → Type 0
+IsPut told now before after text (Ok done) =
+    (after ≡ before) × (now ≡ option_map (λ t. t ++ text) told)
 IsPut told now before after text (Err Memory) = after ≡ before
 IsPut told now before after text (Err Failed) = CountsFault before after
 
 -- ---- the whole
 
-pub record IsWholeTrace (c : MarkedProgram) (cfg : Config) (order : List ℕ) (names : List (List ℕ)) (part : Part) (told now : Option (List ℕ)) (before after : ℕ) (o : Outcome) : Type 0 where
+pub record IsWholeTrace (c : MarkedProgram) (cfg : Config) (order : List ℕ) (names : List (List ℕ))
+    (part : Part) (told now : Option (List ℕ)) (before after : ℕ) (o : Outcome) : Type 0 where
   pub happenings : List Happening
   pub schedule : IsScheduleOf c cfg order happenings
   pub outcome_is : o ≡ outcome (core c cfg happenings)
   pub text : now ≡ option_map (λ t. t ++ trace_text c cfg names part happenings) told
   pub calm : after ≡ before
 
--- the trace was written whole, and the outcome of the run is answered; or there was no memory, and the sink had not failed; or it failed
-abbrev pub IsTraced : MarkedProgram → Config → (order : List ℕ) → (names : List (List ℕ)) → Part → (told now : Option (List ℕ)) → (before after : ℕ) → Result Outcome TraceError → Type 0
-IsTraced c cfg order names part told now before after (Ok o) = IsWholeTrace c cfg order names part told now before after o
+-- the trace was written whole, and the outcome of the run is answered; or there was no memory, and
+-- the sink had not failed; or it failed
+abbrev pub IsTraced : MarkedProgram → Config → (order : List ℕ) → (names : List (List ℕ)) → Part
+    → (told now : Option (List ℕ)) → (before after : ℕ) → Result Outcome TraceError → Type 0
+IsTraced c cfg order names part told now before after (Ok o) =
+    IsWholeTrace c cfg order names part told now before after o
 IsTraced c cfg order names part told now before after (Err Memory) = after ≡ before
 IsTraced c cfg order names part told now before after (Err Failed) = CountsFault before after

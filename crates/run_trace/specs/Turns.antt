@@ -15,8 +15,10 @@ stage_of order progresses.Done = Last
 
 -- what comes next, and how far the run is behind it
 abbrev pub turn_of_next : (order : List ℕ) → Next → Option Turn
-turn_of_next order (nexts.Event t progress) = Some (record { happening = Of t; stage = stage_of order progress })
-turn_of_next order (nexts.Part progress) = Some (record { happening = NextPart; stage = stage_of order progress })
+turn_of_next order (nexts.Event t progress) =
+    Some (record { happening = Of t; stage = stage_of order progress })
+turn_of_next order (nexts.Part progress) =
+    Some (record { happening = NextPart; stage = stage_of order progress })
 turn_of_next order nexts.Over = None
 
 -- how many parts may begin from there on

@@ -12,4 +12,6 @@ answered due (Err e) = 5
 
 -- the text due is written, and this is answered
 abbrev pub Delivers : Option (List ℕ) → Option (List ℕ) → ℕ → ℕ → Due → ℕ → Type 0
-Delivers told now before after due status = (written : Result (Unit {0}) SinkFailed) × IsWritten told now before after (due_text due) written × (status ≡ answered due written)
+Delivers told now before after due status =
+    (written : Result (Unit {0}) SinkFailed)
+    × IsWritten told now before after (due_text due) written × (status ≡ answered due written)

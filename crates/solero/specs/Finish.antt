@@ -24,7 +24,8 @@ some_end test o = list_any (λ t. test t.end) o.threads || test o.done
 
 -- a limit goes before an exception
 abbrev pub finish_of : Outcome → Finish
-finish_of o = if some_end is_limit o then Limited else if some_end is_uncaught o then Uncaught else Returned
+finish_of o =
+    if some_end is_limit o then Limited else if some_end is_uncaught o then Uncaught else Returned
 
 -- a worker of a cell stops at the limit of failed turns
 abbrev pub cell_finish : (stopped : ℕ) → Finish

@@ -1,13 +1,27 @@
--- Limits, usual values and other constants by number, as docs/SUBSET.md and the table of options in the README have them. The other
--- definitions name them by the constants of the code, so they say what these numbers make of them.
+-- Limits, usual values and other constants by number, as docs/SUBSET.md and the table of options in
+-- the README have them. The other definitions name them by the constants of the code, so they say
+-- what these numbers make of them.
 use Rattle.std.specs.Prelude.{◌≡◌}
 use Rattle.cell_runner.specs.declared.running.TheConstants.{MOST_ROUNDS}
 use Rattle.command_words.specs.Limits.{AreOptionsStated}
 use Rattle.jvm_types.specs.declared.class_file.TheConstants.{MAGIC, TEXT_BYTES_END}
-use Rattle.jvm_types.specs.declared.class_numbers.TheConstants.{CLASS_ITSELF, FIRST_FILE_CLASS, INT_ARRAY_CLASS, OBJECT_CLASS, PRINT_STREAM_CLASS, SYSTEM_CLASS, THROWABLES, THROWABLE_CLASS}
-use Rattle.jvm_types.specs.declared.fixed_words.TheConstants.{FIRST_CLASS_WORD, FIRST_READY_WORD, FIRST_RECORD_WORD, HEADER_CLASSES, MONITOR_RECORDS, NEXT_FREE_WORD, NEXT_RECORD_WORD, NEXT_TICKET_WORD, OBJECT_HEAD_WORDS, READY_OBJECTS}
-use Rattle.jvm_types.specs.declared.flags.TheConstants.{ABSTRACT, FINAL, INTERFACE, NATIVE, PRIVATE, PUBLIC, STATIC, SYNCHRONIZED}
-use Rattle.jvm_types.specs.declared.limits.TheConstants.{FIRST_VERSION, FLAG_FROM, LAST_VERSION, LEAST_HEAP, MOST_ATTEMPTS, MOST_CODE_BYTES, MOST_COUNTED, MOST_FILES, MOST_FILE_BYTES, MOST_FRAMES, MOST_HEAP, MOST_INSTRUCTIONS, MOST_LIMIT, MOST_METHODS, MOST_PRINTS, MOST_SLOTS, MOST_WORKERS}
+use Rattle.jvm_types.specs.declared.class_numbers.TheConstants.{CLASS_ITSELF, FIRST_FILE_CLASS}
+use Rattle.jvm_types.specs.declared.class_numbers.TheConstants.{INT_ARRAY_CLASS, OBJECT_CLASS}
+use Rattle.jvm_types.specs.declared.class_numbers.TheConstants.{PRINT_STREAM_CLASS, SYSTEM_CLASS}
+use Rattle.jvm_types.specs.declared.class_numbers.TheConstants.{THROWABLES, THROWABLE_CLASS}
+use Rattle.jvm_types.specs.declared.fixed_words.TheConstants.{FIRST_CLASS_WORD, FIRST_READY_WORD}
+use Rattle.jvm_types.specs.declared.fixed_words.TheConstants.{FIRST_RECORD_WORD, HEADER_CLASSES}
+use Rattle.jvm_types.specs.declared.fixed_words.TheConstants.{MONITOR_RECORDS, NEXT_FREE_WORD}
+use Rattle.jvm_types.specs.declared.fixed_words.TheConstants.{NEXT_RECORD_WORD, NEXT_TICKET_WORD}
+use Rattle.jvm_types.specs.declared.fixed_words.TheConstants.{OBJECT_HEAD_WORDS, READY_OBJECTS}
+use Rattle.jvm_types.specs.declared.flags.TheConstants.{ABSTRACT, FINAL, INTERFACE, NATIVE, PRIVATE}
+use Rattle.jvm_types.specs.declared.flags.TheConstants.{PUBLIC, STATIC, SYNCHRONIZED}
+use Rattle.jvm_types.specs.declared.limits.TheConstants.{FIRST_VERSION, FLAG_FROM, LAST_VERSION}
+use Rattle.jvm_types.specs.declared.limits.TheConstants.{LEAST_HEAP, MOST_ATTEMPTS, MOST_CODE_BYTES}
+use Rattle.jvm_types.specs.declared.limits.TheConstants.{MOST_COUNTED, MOST_FILES, MOST_FILE_BYTES}
+use Rattle.jvm_types.specs.declared.limits.TheConstants.{MOST_FRAMES, MOST_HEAP, MOST_INSTRUCTIONS}
+use Rattle.jvm_types.specs.declared.limits.TheConstants.{MOST_LIMIT, MOST_METHODS, MOST_PRINTS}
+use Rattle.jvm_types.specs.declared.limits.TheConstants.{MOST_SLOTS, MOST_WORKERS}
 use Rattle.jvm_types.specs.declared.refusal.TheConstants.{NO_METHOD}
 use Rattle.load_classes.specs.declared.limits.TheConstants.{MOST_METHODS as MOST_METHODS_OF_LOAD}
 use Rattle.record_run.specs.declared.recording.TheConstants.{MOST_EVENTS}

@@ -24,7 +24,8 @@ IsRefusalLine refusal due = ⊥
 
 -- what is due where the file of this number is not read
 abbrev pub IsUnreadDue : ℕ → ShelfError → Due → Type 0
-IsUnreadDue file TooLong due = IsRefusalLine (refusal_text (rules.C C10) (in_file file MOST_FILE_BYTES)) due
+IsUnreadDue file TooLong due =
+    IsRefusalLine (refusal_text (rules.C C10) (in_file file MOST_FILE_BYTES)) due
 IsUnreadDue file Failed (CannotRead text) = text ≡ unread_line file
 IsUnreadDue file error OutOfMemory = Unit {0}
 IsUnreadDue file error due = ⊥
@@ -38,7 +39,8 @@ IsContentsDue asked contents due = IsMadeIn asked.mode asked contents due
 -- nothing is made of the files: memory ran out, or a rule refuses them in the mode
 abbrev pub IsNotMadeIn : Mode → Asked → List (List ℕ) → FileError → Type 0
 IsNotMadeIn mode asked contents errors.Memory = Unit {0}
-IsNotMadeIn mode asked contents (errors.Refused rule place) = IsRefusedIn mode asked contents rule place
+IsNotMadeIn mode asked contents (errors.Refused rule place) =
+    IsRefusedIn mode asked contents rule place
 
 -- nothing is made of a load: memory ran out, or a rule refuses its class
 abbrev pub IsLoadNotMade : Asked → FileError → Type 0

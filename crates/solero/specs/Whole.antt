@@ -1,5 +1,6 @@
--- What is answered in full: where nothing outside fails, files that all rules let pass are answered by what the mode makes of
--- them, and others by the line of their refusal, written whole; or by the line of want of memory.
+-- What is answered in full: where nothing outside fails, files that all rules let pass are answered
+-- by what the mode makes of them, and others by the line of their refusal, written whole; or by the
+-- line of want of memory.
 use Rattle.std.specs.Prelude.{◌≡◌, ℕ, ◌-◌, ◌<◌, ◌^◌, List, ◌++◌, Option, Some}
 use Rattle.std.specs.Option.{option_map}
 use Rattle.solero.specs.Answer.{IsMadeOf, RefusesFiles, status_of, due_text}
@@ -23,8 +24,10 @@ IsOwedRefusal asked files (Refusal text) = RefusesFiles (Some files) asked text
 IsOwedRefusal asked files OutOfMemory = Unit {0}
 IsOwedRefusal asked files due = ⊥
 
--- The text of what is owed was written whole to a sink that told some bytes, and tells the bytes now; and its status is answered.
-pub record AnswersWhole (Owed : Due → Type 0) (told now : Option (List ℕ)) (status : ℕ) : Type 0 where
+-- The text of what is owed was written whole to a sink that told some bytes, and tells the bytes
+-- now; and its status is answered.
+pub record AnswersWhole (Owed : Due → Type 0) (told now : Option (List ℕ)) (status : ℕ)
+    : Type 0 where
   pub due : Due
   pub owed : Owed due
   pub written : now ≡ option_map (λ t. t ++ due_text due) told

@@ -20,9 +20,11 @@ pub record HasChanged (is_last : Bool) (was : View) (word found : ℕ) (now : Vi
   pub word_is : word ≡ word_of_lock (Free count)
   pub differ : word ≢ found
 
-abbrev pub IsAttempt : (is_last : Bool) → (was : View) → (values : List ℕ) → CellRead → (now : View) → Type 0
+abbrev pub IsAttempt : (is_last : Bool) → (was : View) → (values : List ℕ) → CellRead → (now : View)
+    → Type 0
 IsAttempt is_last was values (Got c) now = HasGot was c values now
-IsAttempt is_last was values (NotFree word) now = (now ≡ has_failed word was) × (is_free_lock (lock_of word) ≡ false)
+IsAttempt is_last was values (NotFree word) now =
+    (now ≡ has_failed word was) × (is_free_lock (lock_of word) ≡ false)
 IsAttempt is_last was values (Changed word found) now = HasChanged is_last was word found now
 
 abbrev pub IsTried : (was : View) → (values : List ℕ) → CellRead → (now : View) → Type 0
@@ -35,12 +37,15 @@ pub record IsBehindGot (was : View) (c : ℕ) (values : List ℕ) (now : View) :
   pub view : now ≡ has_read (record_of c values) was
   pub seen : IsRecordSeen was (record_of c values)
 
-pub record IsBehindChanged (is_last : Bool) (was : View) (c : ℕ) (word found : ℕ) (now : View) : Type 0 where
+pub record IsBehindChanged (is_last : Bool) (was : View) (c : ℕ) (word found : ℕ) (now : View)
+    : Type 0 where
   pub view : now ≡ (if is_last then has_failed found was else was)
   pub word_is : word ≡ word_of_lock (Free c)
   pub differ : word ≢ found
 
-abbrev pub IsBehindRead : (is_last : Bool) → (was : View) → (c : ℕ) → (values : List ℕ) → CellRead → (now : View) → Type 0
+abbrev pub IsBehindRead : (is_last : Bool) → (was : View) → (c : ℕ) → (values : List ℕ) → CellRead
+    → (now : View) → Type 0
 IsBehindRead is_last was c values (Got count) now = (count ≡ c) × IsBehindGot was c values now
 IsBehindRead is_last was c values (NotFree word) now = ⊥
-IsBehindRead is_last was c values (Changed word found) now = IsBehindChanged is_last was c word found now
+IsBehindRead is_last was c values (Changed word found) now =
+    IsBehindChanged is_last was c word found now

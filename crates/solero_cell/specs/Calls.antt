@@ -1,5 +1,6 @@
 -- What each answer of a read, of a write and of a join says of the seat.
-use Rattle.std.specs.Prelude.{◌≡◌, ◌≢◌, ℕ, ◌+◌, ◌-◌, ◌^◌, ◌<◌, ◌≤◌, List, false, ◌⊎◌, length, slice_index_or, suc}
+use Rattle.std.specs.Prelude.{◌≡◌, ◌≢◌, ℕ, ◌+◌, ◌-◌, ◌^◌, ◌<◌, ◌≤◌, List, false, ◌⊎◌, length}
+use Rattle.std.specs.Prelude.{slice_index_or, suc}
 use mathlib.Core.Option.{some}
 use lib.ListN.{get_elem?}
 use Rattle.atomic_table.specs.Seated.{TableId}
@@ -14,7 +15,8 @@ use Rattle.solero_cell.specs.declared.views.Share.{Share}
 use Rattle.solero_cell.specs.declared.views.View.{View}
 use Rattle.solero_cell.specs.Histories.{IsRecordSeen}
 use Rattle.solero_cell.specs.CellRules.{HasOneHistory}
-use Rattle.solero_cell.specs.CellViews.{is_free_lock, record_of, noted, has_failed, has_read, has_written, spent, IsStill}
+use Rattle.solero_cell.specs.CellViews.{is_free_lock, record_of, noted, has_failed, has_read}
+use Rattle.solero_cell.specs.CellViews.{has_written, spent, IsStill}
 
 -- a seat at a cell: of which table, and what it knows
 pub record Seated : Type 0 where
@@ -60,7 +62,8 @@ pub record IsChanged (was : View) (word found : ℕ) (now : View) : Type 0 where
   pub differ : word ≢ found
 
 -- `out` has the values after Got, and is unchanged after every other answer
-abbrev pub IsCellRead : (was : View) (out : List ℕ) → CellRead → (now : View) (filled : List ℕ) → Type 0
+abbrev pub IsCellRead : (was : View) (out : List ℕ) → CellRead → (now : View) (filled : List ℕ)
+    → Type 0
 IsCellRead was out (Got c) now filled = IsGot was c filled now
 IsCellRead was out (NotFree word) now filled = IsNotFree was word now × (filled ≡ out)
 IsCellRead was out (Changed word found) now filled = IsChanged was word found now × (filled ≡ out)
@@ -84,7 +87,8 @@ pub record IsLost (was : View) (expected found : ℕ) (now : View) : Type 0 wher
 
 abbrev pub IsCellWritten : (was : View) (values : List ℕ) → CellWrite → (now : View) → Type 0
 IsCellWritten was values (wrote.Wrote c) now = IsWrote was values c now
-IsCellWritten was values (wrote.NotFree word) now = (now ≡ has_failed word was) × (is_free_lock (lock_of word) ≡ false)
+IsCellWritten was values (wrote.NotFree word) now =
+    (now ≡ has_failed word was) × (is_free_lock (lock_of word) ≡ false)
 IsCellWritten was values (wrote.Lost expected found) now = IsLost was expected found now
 IsCellWritten was values wrote.Full now = now ≡ noted (2 ^ 62 - 1) was
 
@@ -93,7 +97,8 @@ abbrev pub StaysAtTable : Seated → Seated → Type 0
 StaysAtTable s t = (t.table_id ≡ s.table_id) × (t.view.opening ≡ s.view.opening)
 
 abbrev pub AreSeatsOf : TableId → (opening : Record) → List Seated → Type 0
-AreSeatsOf table opening seats = (i : ℕ) (d : Seated) → i < length seats → IsTableOfSeat table opening (slice_index_or seats i d)
+AreSeatsOf table opening seats =
+    (i : ℕ) (d : Seated) → i < length seats → IsTableOfSeat table opening (slice_index_or seats i d)
 
 -- ---- the end of a cell
 
@@ -104,7 +109,8 @@ IsWhole s = s.parts ≡ 2 ^ s.depth
 -- some state between two steps has this view at this number
 abbrev pub IsShown : (opening : Record) (number : ℕ) (v : View) → Type 0
 IsShown opening number v =
-    (words : List ℕ) × (views : List View) × HasOneHistory opening words views × (get_elem? views number ≡ some v)
+    (words : List ℕ) × (views : List View) × HasOneHistory opening words views
+    × (get_elem? views number ≡ some v)
 
 -- the seat with this number has taken in all others
 abbrev pub IsOnlySeat : (number : ℕ) → List View → Type 0

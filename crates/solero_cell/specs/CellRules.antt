@@ -1,5 +1,8 @@
--- The rule of a cell's table: what its words and the views of its seats are to one another, between any two steps.
-use Rattle.std.specs.Prelude.{◌≡◌, ℕ, suc, ◌+◌, ◌*◌, ◌^◌, ◌-◌, ◌<◌, ◌≤◌, List, length, take, drop, Bool, ◌&&◌, ◌==◌, nat_lt, nat_le, if◌then◌else◌, slice_index, Option, Some, IfSome, is_some, ◌⊎◌}
+-- The rule of a cell's table: what its words and the views of its seats are to one another, between
+-- any two steps.
+use Rattle.std.specs.Prelude.{◌≡◌, ℕ, suc, ◌+◌, ◌*◌, ◌^◌, ◌-◌, ◌<◌, ◌≤◌, List, length, take, drop}
+use Rattle.std.specs.Prelude.{Bool, ◌&&◌, ◌==◌, nat_lt, nat_le, if◌then◌else◌, slice_index, Option}
+use Rattle.std.specs.Prelude.{Some, IfSome, is_some, ◌⊎◌}
 use Rattle.std.specs.List.{sum_by}
 use mathlib.Core.Option.{some}
 use lib.ListN.{get_elem?}
@@ -18,8 +21,10 @@ cell_values words = drop 1 words
 
 -- ---- what holds of each view
 
--- a write under way has noted the cell's count, and its values stand in the words as far as it has stored them
-pub record IsUnderWay (opening : Record) (h : History) (words : List ℕ) (note : Option ℕ) (s : Storing) : Type 0 where
+-- a write under way has noted the cell's count, and its values stand in the words as far as it has
+-- stored them
+pub record IsUnderWay (opening : Record) (h : History) (words : List ℕ) (note : Option ℕ)
+    (s : Storing) : Type 0 where
   pub note_is : note ≡ Some (last_count opening h)
   pub stored : s.stored ≡ take (length s.stored) (cell_values words)
   pub long : length s.stored + length s.left ≡ length opening.values
@@ -29,7 +34,8 @@ pub record ViewKnowledge (opening : Record) (h : History) (words : List ℕ) (v 
   pub own : OwnStand opening h v
   pub note : IfSome v.note (λ c. c ≤ last_count opening h)
   -- while the word is that of the note, the values that were loaded are those of the words
-  pub loaded : (c : ℕ) → v.note ≡ Some c → slice_index words 0 ≡ word_of_lock (Free c) → v.loaded ≡ take (length v.loaded) (cell_values words)
+  pub loaded : (c : ℕ) → v.note ≡ Some c → slice_index words 0 ≡ word_of_lock (Free c)
+      → v.loaded ≡ take (length v.loaded) (cell_values words)
   pub storing : IfSome v.storing (IsUnderWay opening h words v.note)
   pub joining : IfSome v.joining (RecordStands opening h)
 
@@ -66,10 +72,12 @@ HaveDepth depth views = (i : ℕ) (v : View) → get_elem? views i ≡ some v �
 
 -- the shares add up to 1
 abbrev pub AreWhole : List View → Type 0
-AreWhole views = (depth : ℕ) → HaveDepth depth views → sum_by (λ v. in_parts depth v.share) views ≡ 2 ^ depth
+AreWhole views =
+    (depth : ℕ) → HaveDepth depth views → sum_by (λ v. in_parts depth v.share) views ≡ 2 ^ depth
 
 -- the word is free with the cell's count, and the words are the values of that count
-pub record IsAtRest (opening : Record) (h : History) (words : List ℕ) (views : List View) : Type 0 where
+pub record IsAtRest (opening : Record) (h : History) (words : List ℕ) (views : List View)
+    : Type 0 where
   pub word : slice_index words 0 ≡ word_of_lock (Free (last_count opening h))
   pub values : IsLast opening h (record_of (last_count opening h) (cell_values words))
   pub nobody : sum_by storing_count views ≡ 0
@@ -87,6 +95,7 @@ pub record HasOneHistory (opening : Record) (words : List ℕ) (views : List Vie
   pub lock : IsAtRest opening history words views ⊎ IsHeldByWrite words views
   pub each : (i : ℕ) (v : View) → get_elem? views i ≡ some v → ViewFits opening history words v
   -- the counts of all writes are those above the opening one, up to the cell's, each once
-  pub once : (n : ℕ) → sum_by (times n) views ≡ one_if (is_in_span n opening.count (last_count opening history))
+  pub once : (n : ℕ)
+      → sum_by (times n) views ≡ one_if (is_in_span n opening.count (last_count opening history))
   pub count : sum_by written_count views ≡ length history
   pub whole : AreWhole views

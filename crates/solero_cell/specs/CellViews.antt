@@ -1,5 +1,6 @@
 -- What the steps of a seat make of its view.
-use Rattle.std.specs.Prelude.{◌≡◌, ℕ, ◌+◌, ◌*◌, ◌^◌, List, [], ◌∷◌, ◌++◌, Bool, true, false, nat_lt, if◌then◌else◌, None, Some}
+use Rattle.std.specs.Prelude.{◌≡◌, ℕ, ◌+◌, ◌*◌, ◌^◌, List, [], ◌∷◌, ◌++◌, Bool, true, false, nat_lt}
+use Rattle.std.specs.Prelude.{if◌then◌else◌, None, Some}
 use Rattle.machine_types.specs.declared.lock.LockWord.{LockWord}
 use Rattle.machine_types.specs.declared.lock.LockWord.TheVariants.{Free}
 use Rattle.solero_cell.specs.declared.views.Record.{Record}

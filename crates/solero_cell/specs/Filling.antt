@@ -27,8 +27,11 @@ pub record IsLostBehind (was : View) (count expected found : ℕ) (now : View) :
   pub differ : expected ≢ found
   pub fits : count + 1 < 2 ^ 62
 
-abbrev pub IsWrittenBehind : (was : View) (count : ℕ) (values : List ℕ) → CellWrite → (now : View) → Type 0
-IsWrittenBehind was count values (Wrote c) now = (c ≡ count + 1) × (c < 2 ^ 62) × IsFilled was count values now
+abbrev pub IsWrittenBehind : (was : View) (count : ℕ) (values : List ℕ) → CellWrite → (now : View)
+    → Type 0
+IsWrittenBehind was count values (Wrote c) now =
+    (c ≡ count + 1) × (c < 2 ^ 62) × IsFilled was count values now
 IsWrittenBehind was count values (NotFree word) now = ⊥
-IsWrittenBehind was count values (Lost expected found) now = IsLostBehind was count expected found now
+IsWrittenBehind was count values (Lost expected found) now =
+    IsLostBehind was count expected found now
 IsWrittenBehind was count values Full now = (count ≡ 2 ^ 62 - 1) × (now ≡ was)

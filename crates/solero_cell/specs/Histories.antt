@@ -1,4 +1,5 @@
--- The one history of a cell: the values of its opening, and those of each write, in the order of their counts.
+-- The one history of a cell: the values of its opening, and those of each write, in the order of
+-- their counts.
 use Rattle.std.specs.Prelude.{◌≡◌, ℕ, ◌+◌, List, [], ◌∷◌, length, slice_get, Some}
 use Rattle.solero_cell.specs.declared.views.Record.{Record}
 use Rattle.solero_cell.specs.declared.views.View.{View}

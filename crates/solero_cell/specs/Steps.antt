@@ -1,5 +1,6 @@
 -- What each kind of step tells its seat, by the word that it found.
-use Rattle.std.specs.Prelude.{◌≡◌, ◌≢◌, ℕ, ◌+◌, ◌<◌, ◌≤◌, List, [], Bool, true, if◌then◌else◌, unwrap_or}
+use Rattle.std.specs.Prelude.{◌≡◌, ◌≢◌, ℕ, ◌+◌, ◌<◌, ◌≤◌, List, [], Bool, true, if◌then◌else◌}
+use Rattle.std.specs.Prelude.{unwrap_or}
 use Rattle.machine_types.specs.LockWords.{is_lock_word, lock_of, word_of_lock}
 use Rattle.machine_types.specs.declared.lock.LockWord.{LockWord}
 use Rattle.machine_types.specs.declared.lock.LockWord.TheVariants.{Free}
@@ -7,7 +8,8 @@ use Rattle.solero_cell.specs.declared.views.Record.{Record}
 use Rattle.solero_cell.specs.declared.views.Storing.{Storing}
 use Rattle.solero_cell.specs.declared.views.View.{View}
 use Rattle.solero_cell.specs.Histories.{History, IsRecordSeen, OwnStand, RecordStands}
-use Rattle.solero_cell.specs.CellViews.{record_of, noted, has_failed, forgot, has_read, has_taken, has_written, has_released, has_compared}
+use Rattle.solero_cell.specs.CellViews.{record_of, noted, has_failed, forgot, has_read, has_taken}
+use Rattle.solero_cell.specs.CellViews.{has_written, has_released, has_compared}
 
 abbrev pub note_of : View → ℕ
 note_of v = unwrap_or v.note 0
@@ -32,7 +34,8 @@ pub record TellsNote (was : View) (word : ℕ) (now : View) : Type 0 where
   pub lock : is_lock_word word ≡ true
   pub noted : NotedBy (lock_of word) word was now
 
--- ---- a finish load: another word than the noted one ends the attempt, and fails the try where this attempt is its last
+-- ---- a finish load: another word than the noted one ends the attempt, and fails the try where
+-- this attempt is its last
 
 abbrev pub attempt_ended : (is_last : Bool) → (word : ℕ) → View → View
 attempt_ended is_last word v = if is_last then has_failed word (forgot v) else forgot v
@@ -54,7 +57,8 @@ pub record TellsTake (values : List ℕ) (was : View) (word : ℕ) (now : View) 
 -- ---- a release store
 
 pub record HasWritten (was now : View) : Type 0 where
-  pub view : now ≡ has_written (record_of (note_of was + 1) (storing_of was).stored) (has_released was)
+  pub view : now
+      ≡ has_written (record_of (note_of was + 1) (storing_of was).stored) (has_released was)
   pub seen : IsRecordSeen was (record_of (note_of was + 1) (storing_of was).stored)
   pub above : was.latest.count < note_of was + 1
 

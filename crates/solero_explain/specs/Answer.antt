@@ -1,5 +1,6 @@
 -- What the program owes to its words and files: a text, and a status with it.
-use Rattle.std.specs.Prelude.{◌≡◌, ℕ, ◌≤◌, Bool, List, [], ◌++◌, length, codes, slice_get, Option, Some, None, IfSome}
+use Rattle.std.specs.Prelude.{◌≡◌, ℕ, ◌≤◌, Bool, List, [], ◌++◌, length, codes, slice_get, Option}
+use Rattle.std.specs.Prelude.{Some, None, IfSome}
 use Rattle.std.specs.List.{AllByRecursion, AllZip}
 use Rattle.field_names.specs.FieldNames.{all_field_names}
 use Rattle.jvm_types.specs.ClassGrammar.{Spells}
@@ -26,7 +27,8 @@ use Rattle.run_texts.specs.Report.{line}
 use Rattle.run_texts.specs.Unread.{unread_line}
 use Rattle.solero_explain.specs.Command.{Question}
 use Rattle.solero_explain.specs.declared.answer.Due.{Due}
-use Rattle.solero_explain.specs.declared.answer.Due.TheVariants.{Told, Usage, Refused, CannotRead, OutOfMemory}
+use Rattle.solero_explain.specs.declared.answer.Due.TheVariants.{Told, Usage, Refused, CannotRead}
+use Rattle.solero_explain.specs.declared.answer.Due.TheVariants.{OutOfMemory}
 use Rattle.solero_explain.specs.declared.request.What.{What}
 use Rattle.solero_explain.specs.declared.request.What.TheVariants as whats
 
@@ -70,11 +72,13 @@ pub record TellsProgram (asked : Question) (contents : List (List ℕ)) (text : 
 
 -- ---- files that are refused
 
--- A rule and a place refuse the files, as in `solero`. A file that is too long is refused when it is read from the shelf, before any is
--- read as a class.
+-- A rule and a place refuse the files, as in `solero`. A file that is too long is refused when it
+-- is read from the shelf, before any is read as a class.
 abbrev pub IsRefusalByRule : Option ℕ → Question → List (List ℕ) → Rule → Place → Type 0
-IsRefusalByRule (Some file) asked contents rule place = (rule ≡ rules.C C10) × (place ≡ in_file file MOST_FILE_BYTES)
-IsRefusalByRule None asked contents rule place = IsRefusedBy contents asked.heap asked.threads rule place
+IsRefusalByRule (Some file) asked contents rule place =
+    (rule ≡ rules.C C10) × (place ≡ in_file file MOST_FILE_BYTES)
+IsRefusalByRule None asked contents rule place =
+    IsRefusedBy contents asked.heap asked.threads rule place
 
 -- the name of the file of that number
 abbrev pub file_name_at : List (List ℕ) → ℕ → List ℕ
@@ -86,16 +90,20 @@ file_content_at (Some long) contents file = None
 file_content_at None contents file = slice_get contents file
 
 -- the text explains the rule and the place that refuse the files
-pub record ExplainsRefusal (asked : Question) (contents : List (List ℕ)) (text : List ℕ) : Type 0 where
+pub record ExplainsRefusal (asked : Question) (contents : List (List ℕ)) (text : List ℕ)
+    : Type 0 where
   pub rule : Rule
   pub place : Place
   pub refused : IsRefusalByRule (first_long 0 contents) asked contents rule place
-  pub explained : Explains asked.form rule place (file_name_at asked.files place.file) (file_content_at (first_long 0 contents) contents place.file) text
+  pub explained : Explains asked.form rule place (file_name_at asked.files place.file)
+      (file_content_at (first_long 0 contents) contents place.file) text
 
 -- ---- what is due to the words and the shelf
 
--- told of the files that are asked for; where the shelf does not tell its files, of some of which there are as many
-pub record TellsFiles (files : Option (List NamedFile)) (asked : Question) (text : List ℕ) : Type 0 where
+-- told of the files that are asked for; where the shelf does not tell its files, of some of which
+-- there are as many
+pub record TellsFiles (files : Option (List NamedFile)) (asked : Question) (text : List ℕ)
+    : Type 0 where
   pub contents : List (List ℕ)
   pub are : IfSome files (λ fs. contents ≡ contents_of fs asked.files)
   pub many : length contents ≡ length asked.files
@@ -103,36 +111,47 @@ pub record TellsFiles (files : Option (List NamedFile)) (asked : Question) (text
   pub tells : TellsProgram asked contents text
 
 -- a refusal of the files that are asked for, likewise
-pub record ExplainsFiles (files : Option (List NamedFile)) (asked : Question) (text : List ℕ) : Type 0 where
+pub record ExplainsFiles (files : Option (List NamedFile)) (asked : Question) (text : List ℕ)
+    : Type 0 where
   pub contents : List (List ℕ)
   pub are : IfSome files (λ fs. contents ≡ contents_of fs asked.files)
   pub many : length contents ≡ length asked.files
   pub explains : ExplainsRefusal asked contents text
 
 -- the line of a file that can't be read
-pub record SaysUnread (files : Option (List NamedFile)) (unreadable : Option (List ℕ → Bool)) (names : List (List ℕ)) (text : List ℕ) : Type 0 where
+pub record SaysUnread (files : Option (List NamedFile)) (unreadable : Option (List ℕ → Bool))
+    (names : List (List ℕ)) (text : List ℕ) : Type 0 where
   pub file : ℕ
   pub unread : CannotBeRead files unreadable names file
   pub is_line : text ≡ unread_line file
 
--- What is due to the words, of which None are not read, and to the files. The shelf tells its files, and which it can't read, or
--- None of these. Its count of faults goes from before to after. Want of memory may come to any words.
-abbrev pub IsExplainDue : Option Question → Option (List NamedFile) → Option (List ℕ → Bool) → ℕ → ℕ → Due → Type 0
+-- What is due to the words, of which None are not read, and to the files. The shelf tells its
+-- files, and which it can't read, or None of these. Its count of faults goes from before to after.
+-- Want of memory may come to any words.
+abbrev pub IsExplainDue : Option Question → Option (List NamedFile) → Option (List ℕ → Bool) → ℕ → ℕ
+    → Due → Type 0
 IsExplainDue asked files unreadable before after OutOfMemory = before ≤ after
 IsExplainDue None files unreadable before after due = (due ≡ Usage) × (after ≡ before)
 IsExplainDue (Some asked) files unreadable before after Usage = ⊥
-IsExplainDue (Some asked) files unreadable before after (CannotRead text) = CountsFault before after × SaysUnread files unreadable asked.files text
-IsExplainDue (Some asked) files unreadable before after (Refused text) = (after ≡ before) × ExplainsFiles files asked text
-IsExplainDue (Some asked) files unreadable before after (Told text) = (after ≡ before) × TellsFiles files asked text
+IsExplainDue (Some asked) files unreadable before after (CannotRead text) =
+    CountsFault before after × SaysUnread files unreadable asked.files text
+IsExplainDue (Some asked) files unreadable before after (Refused text) =
+    (after ≡ before) × ExplainsFiles files asked text
+IsExplainDue (Some asked) files unreadable before after (Told text) =
+    (after ≡ before) × TellsFiles files asked text
 
 -- the program that the files are loaded to, whose run is to be told, with the names of its fields
-pub record IsRunOf (asked : Question) (contents : List (List ℕ)) (checked : MarkedProgram) (names : List (List ℕ)) : Type 0 where
+pub record IsRunOf (asked : Question) (contents : List (List ℕ)) (checked : MarkedProgram)
+    (names : List (List ℕ)) : Type 0 where
   pub what : asked.what ≡ whats.Run
   pub loaded : IsLoaded contents asked.heap asked.threads checked
-  pub named : (classes : List ClassFile) → AllZip Spells contents classes → names ≡ all_field_names classes
+  pub named : (classes : List ClassFile) → AllZip Spells contents classes
+      → names ≡ all_field_names classes
 
--- of the files that are asked for; where the shelf does not tell its files, of some of which there are as many
-pub record RunsFiles (files : Option (List NamedFile)) (asked : Question) (checked : MarkedProgram) (names : List (List ℕ)) : Type 0 where
+-- of the files that are asked for; where the shelf does not tell its files, of some of which there
+-- are as many
+pub record RunsFiles (files : Option (List NamedFile)) (asked : Question) (checked : MarkedProgram)
+    (names : List (List ℕ)) : Type 0 where
   pub contents : List (List ℕ)
   pub are : IfSome files (λ fs. contents ≡ contents_of fs asked.files)
   pub many : length contents ≡ length asked.files
@@ -141,4 +160,6 @@ pub record RunsFiles (files : Option (List NamedFile)) (asked : Question) (check
 
 -- no file that is asked for is too long, and all rules let them pass
 abbrev pub AreUnrefused : List NamedFile → Question → Type 0
-AreUnrefused files asked = (first_long 0 (contents_of files asked.files) ≡ None) × IsAccepted (contents_of files asked.files) asked.heap asked.threads
+AreUnrefused files asked =
+    (first_long 0 (contents_of files asked.files) ≡ None)
+    × IsAccepted (contents_of files asked.files) asked.heap asked.threads

@@ -5,7 +5,8 @@ use Rattle.jvm_types.specs.declared.limits.TheConstants.{LEAST_HEAP, MOST_HEAP, 
 use Rattle.machine_types.specs.Settings.{AreSettings}
 use Rattle.machine_types.specs.declared.config.Config.{Config}
 
--- 1 to 64 files; numbers of workers and of heap words, and settings, that are inside the limits of the machine
+-- 1 to 64 files; numbers of workers and of heap words, and settings, that are inside the limits of
+-- the machine
 pub record AreInExplainBounds (files threads heap : ℕ) (cfg : Config) : Type 0 where
   pub few : are_few files ≡ true
   pub few_threads : threads ≤ MOST_WORKERS

@@ -1,5 +1,7 @@
--- What the words of `solero_explain` mean: those of a run, which `solero` has too, with what is to be explained, and in which form.
-use Rattle.std.specs.Prelude.{ℕ, List, [], ◌∷◌, length, codes, bytes_eq, Option, Some, None, if◌then◌else◌}
+-- What the words of `solero_explain` mean: those of a run, which `solero` has too, with what is to
+-- be explained, and in which form.
+use Rattle.std.specs.Prelude.{ℕ, List, [], ◌∷◌, length, codes, bytes_eq, Option, Some, None}
+use Rattle.std.specs.Prelude.{if◌then◌else◌}
 use Rattle.clap.specs.Walk.{Row, Text, first_of}
 use Rattle.clap.specs.Simple.{App, new_rule, with_rule}
 use Rattle.clap.specs.declared.builder.action.ArgAction.TheVariants.{SetTrue}
@@ -22,7 +24,8 @@ with_flag a name = with_rule a (record (new_rule name) { long = Some name; actio
 
 abbrev pub explain_app : App
 explain_app = with_flag (command_of (codes "solero_explain")
-    (codes "what" ∷ codes "threads" ∷ codes "order" ∷ codes "steps" ∷ codes "turns" ∷ codes "heap" ∷ codes "prints" ∷ codes "elide" ∷ codes "range" ∷ codes "from" ∷ codes "events" ∷ []))
+    (codes "what" ∷ codes "threads" ∷ codes "order" ∷ codes "steps" ∷ codes "turns" ∷ codes "heap"
+    ∷ codes "prints" ∷ codes "elide" ∷ codes "range" ∷ codes "from" ∷ codes "events" ∷ []))
     (codes "json")
 
 -- ---- values
@@ -30,7 +33,9 @@ explain_app = with_flag (command_of (codes "solero_explain")
 -- what is to be explained has no usual value
 abbrev pub what_of : Option Text → Option What
 what_of None = None
-what_of (Some text) = if bytes_eq text (codes "refusal") then Some Refusal else if bytes_eq text (codes "marks") then Some Marks else if bytes_eq text (codes "run") then Some Run else None
+what_of (Some text) =
+    if bytes_eq text (codes "refusal") then Some Refusal else if bytes_eq text (codes "marks")
+    then Some Marks else if bytes_eq text (codes "run") then Some Run else None
 
 -- an order, and a part of the lines, are read with a run alone
 abbrev pub not_read_with : What → List Text
@@ -72,7 +77,17 @@ question rows = do
   order ← order_of rows
   from ← number_or 1 1 MOST_LIMIT (first_of (codes "from") rows)
   events ← number_or MOST_LIMIT 1 MOST_LIMIT (first_of (codes "events") rows)
-  if gives_any rows (not_read_with what) then None else Some (record { what = what; form = form_asked (first_of (codes "json") rows); files = files; threads = threads; heap = heap; cfg = cfg; order = order; part = part_asked from events (form_asked (first_of (codes "json") rows)) })
+  if gives_any rows (not_read_with what) then None
+      else Some (record {
+        what = what;
+        form = form_asked (first_of (codes "json") rows);
+        files = files;
+        threads = threads;
+        heap = heap;
+        cfg = cfg;
+        order = order;
+        part = part_asked from events (form_asked (first_of (codes "json") rows));
+      })
 
 -- what the words ask for; None where they are not read
 unfoldable pub explain_command : List Text → Option Question

@@ -12,4 +12,7 @@ answered_status due (Err e) = 5
 
 -- the text due is written, and this is answered
 abbrev pub IsDelivered : Option (List ℕ) → Option (List ℕ) → ℕ → ℕ → Due → ℕ → Type 0
-IsDelivered told now before after due status = (written : Result (Unit {0}) SinkFailed) × IsWritten told now before after (explain_text due) written × (status ≡ answered_status due written)
+IsDelivered told now before after due status =
+    (written : Result (Unit {0}) SinkFailed)
+    × IsWritten told now before after (explain_text due) written
+    × (status ≡ answered_status due written)

@@ -21,20 +21,24 @@ use Rattle.jvm_types.specs.declared.refusal.Rule.{Rule}
 use Rattle.jvm_types.specs.declared.refusal.Rule.TheVariants as rules
 use Rattle.refusal_places.specs.Explained.{Explains}
 use Rattle.run_texts.specs.Unread.{unread_line}
-use Rattle.solero_explain.specs.Answer.{ExplainsRefusal, IsExplainDue, IsRunOf, RunsFiles, TellsProgram, file_name_at}
+use Rattle.solero_explain.specs.Answer.{ExplainsRefusal, IsExplainDue, IsRunOf, RunsFiles}
+use Rattle.solero_explain.specs.Answer.{TellsProgram, file_name_at}
 use Rattle.solero_explain.specs.Command.{Question}
 use Rattle.solero_explain.specs.declared.answer.Due.{Due}
-use Rattle.solero_explain.specs.declared.answer.Due.TheVariants.{Told, Refused, CannotRead, OutOfMemory}
+use Rattle.solero_explain.specs.declared.answer.Due.TheVariants.{Told, Refused, CannotRead}
+use Rattle.solero_explain.specs.declared.answer.Due.TheVariants.{OutOfMemory}
 
 -- a refusal that is explained, with the content of the file that it names, or want of memory
 abbrev pub IsRefusalExplained : Question → Rule → Place → (content : Option (List ℕ)) → Due → Type 0
-IsRefusalExplained asked rule place content (Refused text) = Explains asked.form rule place (file_name_at asked.files place.file) content text
+IsRefusalExplained asked rule place content (Refused text) =
+    Explains asked.form rule place (file_name_at asked.files place.file) content text
 IsRefusalExplained asked rule place content OutOfMemory = Unit {0}
 IsRefusalExplained asked rule place content due = ⊥
 
 -- what is due where the file of this number is not read
 abbrev pub IsUnreadExplained : Question → ℕ → ShelfError → Due → Type 0
-IsUnreadExplained asked file TooLong due = IsRefusalExplained asked (rules.C C10) (in_file file MOST_FILE_BYTES) None due
+IsUnreadExplained asked file TooLong due =
+    IsRefusalExplained asked (rules.C C10) (in_file file MOST_FILE_BYTES) None due
 IsUnreadExplained asked file Failed (CannotRead text) = text ≡ unread_line file
 IsUnreadExplained asked file error OutOfMemory = Unit {0}
 IsUnreadExplained asked file error due = ⊥
@@ -57,16 +61,26 @@ IsFoundIn asked contents (founds.Due due) = IsDueToFiles asked contents due
 IsFoundIn asked contents (founds.Program checked names) = IsRunOf asked contents checked names
 
 -- what is found in the files that are asked for
-abbrev pub IsFoundInFiles : Option (List NamedFile) → Option (List ℕ → Bool) → Question → (before after : ℕ) → Found → Type 0
-IsFoundInFiles files unreadable asked before after (founds.Due due) = IsExplainDue (Some asked) files unreadable before after due
-IsFoundInFiles files unreadable asked before after (founds.Program checked names) = (after ≡ before) × RunsFiles files asked checked names
+abbrev pub IsFoundInFiles : Option (List NamedFile) → Option (List ℕ → Bool) → Question
+    → (before after : ℕ) → Found → Type 0
+IsFoundInFiles files unreadable asked before after (founds.Due due) =
+    IsExplainDue (Some asked) files unreadable before after due
+IsFoundInFiles files unreadable asked before after (founds.Program checked names) =
+    (after ≡ before) × RunsFiles files asked checked names
 
 -- what is to be done for the words
-abbrev pub IsWork : Option Question → Option (List NamedFile) → Option (List ℕ → Bool) → (before after : ℕ) → Work → Type 0
-IsWork asked files unreadable before after (works.Due due) = IsExplainDue asked files unreadable before after due
+abbrev pub IsWork : Option Question → Option (List NamedFile) → Option (List ℕ → Bool)
+    → (before after : ℕ) → Work → Type 0
+IsWork asked files unreadable before after (works.Due due) =
+    IsExplainDue asked files unreadable before after due
 IsWork None files unreadable before after (works.Run request checked names) = ⊥
-IsWork (Some asked) files unreadable before after (works.Run request checked names) = (asked ≡ question_by request) × (after ≡ before) × RunsFiles files asked checked names
+IsWork (Some asked) files unreadable before after (works.Run request checked names) =
+    (asked ≡ question_by request) × (after ≡ before) × RunsFiles files asked checked names
 
 -- a run is told as far as it is, and this is answered
-abbrev pub IsRunTold : MarkedProgram → Question → (names : List (List ℕ)) → (told now : Option (List ℕ)) → (before after status : ℕ) → Type 0
-IsRunTold checked asked names told now before after status = (came : Result Outcome TraceError) × IsTraced checked asked.cfg asked.order names asked.part told now before after came × (status ≡ status_of_trace came)
+abbrev pub IsRunTold : MarkedProgram → Question → (names : List (List ℕ))
+    → (told now : Option (List ℕ)) → (before after status : ℕ) → Type 0
+IsRunTold checked asked names told now before after status =
+    (came : Result Outcome TraceError)
+    × IsTraced checked asked.cfg asked.order names asked.part told now before after came
+    × (status ≡ status_of_trace came)

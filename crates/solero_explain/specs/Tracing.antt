@@ -1,5 +1,6 @@
 -- What is answered where a run is told.
-use Rattle.std.specs.Prelude.{◌≡◌, ◌⊎◌, ℕ, Bool, true, false, ◌||◌, List, Option, Some, None, Result, Ok, Err, if◌then◌else◌}
+use Rattle.std.specs.Prelude.{◌≡◌, ◌⊎◌, ℕ, Bool, true, false, ◌||◌, List, Option, Some, None}
+use Rattle.std.specs.Prelude.{Result, Ok, Err, if◌then◌else◌}
 use Rattle.std.specs.List.{list_any}
 use Rattle.checked_program.specs.MarkedProgram.{MarkedProgram}
 use Rattle.host_io.specs.declared.shelf.NamedFile.{NamedFile}
@@ -42,7 +43,8 @@ status_of_trace (Err Failed) = 5
 status_of_trace (Err Memory) = 6
 
 -- the run of the program is told, as far as it is, and this is answered
-pub record Traces (files : Option (List NamedFile)) (asked : Question) (told now : Option (List ℕ)) (before after status : ℕ) : Type 0 where
+pub record Traces (files : Option (List NamedFile)) (asked : Question) (told now : Option (List ℕ))
+    (before after status : ℕ) : Type 0 where
   pub checked : MarkedProgram
   pub names : List (List ℕ)
   pub runs : RunsFiles files asked checked names
@@ -51,12 +53,16 @@ pub record Traces (files : Option (List NamedFile)) (asked : Question) (told now
   pub answered : status ≡ status_of_trace came
 
 -- the words ask for the run, and the shelf's count of faults goes from before to after
-abbrev pub IsTraceAnswer : Option Question → Option (List NamedFile) → (before after : ℕ) → (told now : Option (List ℕ)) → (from to status : ℕ) → Type 0
+abbrev pub IsTraceAnswer : Option Question → Option (List NamedFile) → (before after : ℕ)
+    → (told now : Option (List ℕ)) → (from to status : ℕ) → Type 0
 IsTraceAnswer None files before after told now from to status = ⊥
-IsTraceAnswer (Some asked) files before after told now from to status = (after ≡ before) × Traces files asked told now from to status
+IsTraceAnswer (Some asked) files before after told now from to status =
+    (after ≡ before) × Traces files asked told now from to status
 
 -- what is due is delivered, or the run is told
-abbrev pub IsAnswered : Option Question → Option (List NamedFile) → Option (List ℕ → Bool) → (before after : ℕ) → (told now : Option (List ℕ)) → (from to status : ℕ) → Type 0
+abbrev pub IsAnswered : Option Question → Option (List NamedFile) → Option (List ℕ → Bool)
+    → (before after : ℕ) → (told now : Option (List ℕ)) → (from to status : ℕ) → Type 0
 IsAnswered asked files unreadable before after told now from to status =
-    ((due : Due) × IsExplainDue asked files unreadable before after due × IsDelivered told now from to due status)
+    ((due : Due) × IsExplainDue asked files unreadable before after due
+    × IsDelivered told now from to due status)
     ⊎ IsTraceAnswer asked files before after told now from to status

@@ -1,4 +1,5 @@
--- What the entry and the exit of a monitor, and a check, need of a thread, so that no number passes what it is kept in.
+-- What the entry and the exit of a monitor, and a check, need of a thread, so that no number passes
+-- what it is kept in.
 use Rattle.std.specs.Prelude.{◌≡◌, ℕ, ◌<◌, ◌^◌, true, length, IfSome}
 use Rattle.jvm_types.specs.declared.limits.TheConstants.{MOST_LIMIT}
 use Rattle.checked_program.specs.MarkedProgram.{MarkedProgram}

@@ -11,8 +11,8 @@ use Rattle.laws_states.specs.GrowingRuns.{IsOfRun, behind}
 use Rattle.local_events.specs.Locals.{Follows}
 use Rattle.table_rule.specs.Views.{View, held_in, ShowsRun, StandsIn}
 
--- View number id has thread t as x, and events without an access lead from x to y. Then one event more leaves its words and its
--- thread, and all else as before; and that thread is one of a run.
+-- View number id has thread t as x, and events without an access lead from x to y. Then one event
+-- more leaves its words and its thread, and all else as before; and that thread is one of a run.
 abbrev pub EventsShow : Type 0
 EventsShow =
     (c : MarkedProgram) (cfg : Config) (words : List ℕ) (views : List View) (id t : ℕ) (v : View)

@@ -1,5 +1,6 @@
 -- What the words and the views of a table show: a state that a run reaches.
-use Rattle.std.specs.Prelude.{◌≡◌, ℕ, List, Option, Some, None, slice_get, slice_index_or, ◌≤◌, IsSome}
+use Rattle.std.specs.Prelude.{◌≡◌, ℕ, List, Option, Some, None, slice_get, slice_index_or, ◌≤◌}
+use Rattle.std.specs.Prelude.{IsSome}
 use mathlib.Core.Option.{some}
 use lib.ListN.{get_elem?}
 use Rattle.checked_program.specs.MarkedProgram.{MarkedProgram}
@@ -31,7 +32,8 @@ pub record AreShown (threads : List Thread) (views : List View) : Type 0 where
   pub each : (t : ℕ) (x : Thread) → slice_get threads t ≡ Some x → IsHeld views t x
 
 -- some run reaches the words, and the threads of the views
-pub record ShowsRun (c : MarkedProgram) (cfg : Config) (words : List ℕ) (views : List View) : Type 0 where
+pub record ShowsRun (c : MarkedProgram) (cfg : Config) (words : List ℕ) (views : List View)
+    : Type 0 where
   pub happenings : List Happening
   pub words_are : words ≡ (core c cfg happenings).words
   pub threads_are : AreShown (core c cfg happenings).threads views
@@ -39,7 +41,8 @@ pub record ShowsRun (c : MarkedProgram) (cfg : Config) (words : List ℕ) (views
 -- ---- a thread of a state
 
 -- some run reaches a state that has these words and this thread
-pub record StandsIn (c : MarkedProgram) (cfg : Config) (words : List ℕ) (t : ℕ) (y : Thread) : Type 0 where
+pub record StandsIn (c : MarkedProgram) (cfg : Config) (words : List ℕ) (t : ℕ) (y : Thread)
+    : Type 0 where
   pub happenings : List Happening
   pub words_are : words ≡ (core c cfg happenings).words
   pub at : slice_get (core c cfg happenings).threads t ≡ Some y

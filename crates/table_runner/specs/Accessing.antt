@@ -28,7 +28,8 @@ made_by_event e got = moved e.program e.state e.state.phase got
 pub record Happens (e : NextEvent) (got : ℕ) : Type 0 where
   pub happenings : List Happening
   pub at : slice_get (core e.program e.cfg happenings).threads e.number ≡ Some e.state
-  pub finds : got ≡ found_by (core e.program e.cfg happenings).words (wanted e.program e.state e.state.phase)
+  pub finds : got
+      ≡ found_by (core e.program e.cfg happenings).words (wanted e.program e.state e.state.phase)
 
 -- it has happened, and the view has what it made of the thread
 pub record IsEventMade (e : NextEvent) (was : View) (got : ℕ) (now : View) : Type 0 where

@@ -51,7 +51,8 @@ HasReportRoom threads room = RoomIsThere (held_in threads 0) room
 abbrev pub event_at : Handed → (t : ℕ) → Thread → NextEvent
 event_at h t x = record { program = h.program; cfg = h.cfg; number = t; state = x }
 
--- an event with an access tells the seat what it made of the thread, and one without leaves the view as it is
+-- an event with an access tells the seat what it made of the thread, and one without leaves the
+-- view as it is
 abbrev pub viewed : Option Access → View → (t : ℕ) → Thread → View
 viewed None v t y = v
 viewed (Some a) v t y = slice_set v t (Some y)
@@ -62,7 +63,8 @@ hands_after h t x got = record h {
   view = viewed (wanted h.program x x.phase) h.view t (made_by_event (event_at h t x) got);
 }
 
--- the next event of thread t has happened in some state that a run reaches, and the hands are as it leaves them
+-- the next event of thread t has happened in some state that a run reaches, and the hands are as it
+-- leaves them
 pub record IsEventOf (h : Handed) (t : ℕ) (after : Handed) : Type 0 where
   pub state : Thread
   pub held : held_in h.threads t ≡ Some state

@@ -1,5 +1,6 @@
 -- Workers, and the whole of a run.
-use Rattle.std.specs.Prelude.{◌≡◌, ◌≢◌, ℕ, ◌+◌, ◌<◌, ◌≤◌, suc, Bool, false, Option, Some, List, [], length, option_map, IsSome, is_some, slice_index_or}
+use Rattle.std.specs.Prelude.{◌≡◌, ◌≢◌, ℕ, ◌+◌, ◌<◌, ◌≤◌, suc, Bool, false, Option, Some, List, []}
+use Rattle.std.specs.Prelude.{length, option_map, IsSome, is_some, slice_index_or}
 use Rattle.atomic_table.specs.Seated.{TableId}
 use Rattle.checked_program.specs.MarkedProgram.{MarkedProgram}
 use Rattle.laws_threads.specs.GivenThread.{given_of}
@@ -27,10 +28,11 @@ pub record AreSame (h after : Handed) : Type 0 where
 pub record IsRunOn (t : ℕ) (h after : Handed) : Type 0 where
   pub same : AreSame h after
   pub others : (u : ℕ) → u ≢ t → held_in after.threads u ≡ held_in h.threads u
-  pub given : option_map given_of (held_in after.threads t) ≡ option_map given_of (held_in h.threads t)
+  pub given : option_map given_of (held_in after.threads t)
+      ≡ option_map given_of (held_in h.threads t)
 
--- Thread 0 alone has made events until it was not live, and then the next part has begun, or may not. So no worker has made any of
--- that part.
+-- Thread 0 alone has made events until it was not live, and then the next part has begun, or may
+-- not. So no worker has made any of that part.
 pub record HasRunFirst (h after : Handed) (begun : Bool) : Type 0 where
   pub behind : Handed
   pub events : IsRunOn 0 h behind
@@ -69,17 +71,20 @@ pub record RunsHere (table : TableId) (c : MarkedProgram) (cfg : Config) (h : Ha
   pub all : HoldsAll c h.threads
 
 -- hands of a worker of this run
-pub record IsWorker (table : TableId) (c : MarkedProgram) (cfg : Config) (t : ℕ) (h : Handed) : Type 0 where
+pub record IsWorker (table : TableId) (c : MarkedProgram) (cfg : Config) (t : ℕ) (h : Handed)
+    : Type 0 where
   pub of : IsTableOf table c cfg h
   pub held : IsSome (held_in h.threads t)
 
 -- those of worker 1, of worker 2 and so on
 abbrev pub AreWorkers : TableId → MarkedProgram → Config → List Handed → Type 0
 AreWorkers table c cfg hands =
-    (i : ℕ) (d : Handed) → i < length hands → IsWorker table c cfg (i + 1) (slice_index_or hands i d)
+    (i : ℕ) (d : Handed) → i < length hands
+    → IsWorker table c cfg (i + 1) (slice_index_or hands i d)
 
 -- hands that hold thread 0 as it was, and the workers from a number on
-pub record RestOf (table : TableId) (c : MarkedProgram) (cfg : Config) (from : ℕ) (first : Option Thread) (h : Handed) : Type 0 where
+pub record RestOf (table : TableId) (c : MarkedProgram) (cfg : Config) (from : ℕ)
+    (first : Option Thread) (h : Handed) : Type 0 where
   pub of : IsTableOf table c cfg h
   pub some : IsSome first
   pub first_is : held_in h.threads 0 ≡ first

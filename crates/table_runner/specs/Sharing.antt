@@ -1,5 +1,6 @@
 -- Hands that are split and joined, and the begin of a part.
-use Rattle.std.specs.Prelude.{◌≡◌, ℕ, List, [], ◌∷◌, Bool, true, Option, Some, None, replicate, slice_set}
+use Rattle.std.specs.Prelude.{◌≡◌, ℕ, List, [], ◌∷◌, Bool, true, Option, Some, None, replicate}
+use Rattle.std.specs.Prelude.{slice_set}
 use Rattle.std.specs.Option.{option_or}
 use Rattle.checked_program.specs.MarkedProgram.{MarkedProgram}
 use Rattle.machine_types.specs.Core.{Happening, core, may_begin, next_threads}
@@ -33,13 +34,14 @@ merged (o ∷ v) (p ∷ w) = option_or o p ∷ merged v w
 
 -- the first hands, when they hold what the others held
 pub record AreJoined (h others after : Handed) : Type 0 where
-  pub threads : (t : ℕ) → held_in after.threads t ≡ option_or (held_in h.threads t) (held_in others.threads t)
+  pub threads : (t : ℕ)
+      → held_in after.threads t ≡ option_or (held_in h.threads t) (held_in others.threads t)
   pub rest : after ≡ record h { threads = after.threads; view = merged h.view others.view }
 
 -- ---- the begin of a part
 
--- The hands hold just the threads of a state. Whether its next part may begin, and the hands with the threads that this makes of
--- them.
+-- The hands hold just the threads of a state. Whether its next part may begin, and the hands with
+-- the threads that this makes of them.
 pub record IsNextPart (h after : Handed) (begins : Bool) : Type 0 where
   pub threads : List Thread
   pub held : HasThreads h.threads threads
