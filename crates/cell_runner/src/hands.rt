@@ -38,8 +38,12 @@ pub(crate) struct Hand {
 impl Hand {
     /// A seat of a worker that has done nothing yet.
     pub(crate) fn of(seat: CellSeat) -> Hand
-        ensures { result ≡ record
-            { seat = seat; report = record { writes = 0; reads = 0; stopped = 0 }; is_full = false } }
+        ensures { result
+            ≡ record {
+              seat = seat;
+              report = record { writes = 0; reads = 0; stopped = 0 };
+              is_full = false;
+            } }
     {
         let report = CellReport {
             writes: 0,

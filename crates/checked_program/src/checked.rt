@@ -34,9 +34,15 @@ impl Model for Checked {
 
     ghost Value = { MarkedProgram };
 
-    ghost view = { λ c. record { program = c.program; typings = c.typings; tags = c.tags; marks = c.marks } };
+    ghost view = { λ c.
+        record { program = c.program; typings = c.typings; tags = c.tags; marks = c.marks } };
 
-    ghost invariant = { λ c. IsMarked (record { program = c.program; typings = c.typings; tags = c.tags; marks = c.marks }) × IfSome c.index (λ index. IsCodeIndex c.program.methods c.program.fields index.tables.items index.sizes.items index.classes.items) };
+    ghost invariant = { λ c.
+        IsMarked
+        (record { program = c.program; typings = c.typings; tags = c.tags; marks = c.marks })
+        × IfSome c.index (λ index.
+        IsCodeIndex c.program.methods c.program.fields index.tables.items index.sizes.items
+        index.classes.items) };
 }
 
 impl Checked {

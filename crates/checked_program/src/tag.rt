@@ -43,7 +43,12 @@ impl Model for TagFrame {
 
     ghost Value = { TagShape };
 
-    ghost view = { λ f. record { stack = f.stack; locals = (arc_value f.parts).locals; held = (arc_value f.parts).held } };
+    ghost view = { λ f.
+        record {
+          stack = f.stack;
+          locals = (arc_value f.parts).locals;
+          held = (arc_value f.parts).held;
+        } };
 }
 
 /// Locals and monitors that nobody shares.

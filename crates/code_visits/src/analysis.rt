@@ -54,5 +54,6 @@ pub trait Analysis: Frames {
             (plan_node_at nodes.old i).frame) nodes.old) nodes.new result }
         ensures level { OnOk result (AreLevel Self.width (Self.width (first m.now)) m.now.code nodes.new) };
 
-    ghost ends: { (p : Linked) (m : Method) → IsLaidOut m → Ends (plan_of Self.meeting first acts p m) (is_kept p m) (work p m) };
+    ghost ends: { (p : Linked) (m : Method) → IsLaidOut m
+        → Ends (plan_of Self.meeting first acts p m) (is_kept p m) (work p m) };
 }

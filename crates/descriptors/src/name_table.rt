@@ -71,8 +71,10 @@ pub fn put_built_in(table: &mut NameTable<'_>) -> Result<(), AllocError>
 /// Gives the class of each file its number; of equal names the first counts.
 pub fn put_files<'a>(table: &mut NameTable<'a>, names: &[&'a [u8]]) -> Result<(), AllocError>
     requires { length names.now ≤ MOST_FILES }
-    ensures { OnOk result ((q : List ℕ) → find table.new q
-        ≡ option_or (position_from (bytes_eq q) FIRST_FILE_CLASS (names_in names.now)) (find table.old q)) }
+    ensures { OnOk result ((q : List ℕ)
+        → find table.new q
+        ≡ option_or (position_from (bytes_eq q) FIRST_FILE_CLASS (names_in names.now))
+        (find table.old q)) }
 {
     put_names(table, names, FIRST_FILE_CLASS)
 }

@@ -37,9 +37,17 @@ impl Model for FrameStack {
 
     ghost Value = { Frames };
 
-    ghost view = { λ s. record { program = s.program.told; frames = laid_frames (drop s.start (slice_set s.heads.items s.start s.top)) (drop s.free s.slots.items) } };
+    ghost view = { λ s.
+        record {
+          program = s.program.told;
+          frames =
+              laid_frames (drop s.start (slice_set s.heads.items s.start s.top))
+              (drop s.free s.slots.items);
+        } };
 
-    ghost invariant = { λ s. Laid s.program.told (slice_set s.heads.items s.start s.top) s.start s.slots.items s.free };
+    ghost invariant = { λ s.
+        Laid s.program.told (slice_set s.heads.items s.start s.top) s.start s.slots.items
+        s.free };
 }
 
 /// The head at a place, or another one where there is none.
@@ -164,8 +172,13 @@ impl FrameStack {
         requires frame { 0 < length self.old.frames }
         requires room { length (top self.old.frames).stack
             < max_stack self.old.program (top self.old.frames).method }
-        ensures { self.new ≡ record self.old
-            { frames = with_top (record (top self.old.frames) { stack = value ∷ (top self.old.frames).stack }) self.old.frames } }
+        ensures { self.new
+            ≡ record self.old {
+              frames =
+                  with_top
+                  (record (top self.old.frames) { stack = value ∷ (top self.old.frames).stack })
+                  self.old.frames;
+            } }
     {
         let left = self.top.gap - 1;
         self.slots[self.free + left] = value;
@@ -177,8 +190,12 @@ impl FrameStack {
         requires frame { 0 < length self.old.frames }
         requires value { 0 < length (top self.old.frames).stack }
         ensures value { result ≡ slice_index (top self.old.frames).stack 0 }
-        ensures rest { self.new ≡ record self.old
-            { frames = with_top (record (top self.old.frames) { stack = drop 1 (top self.old.frames).stack }) self.old.frames } }
+        ensures rest { self.new
+            ≡ record self.old {
+              frames =
+                  with_top (record (top self.old.frames) { stack = drop 1 (top self.old.frames).stack })
+                  self.old.frames;
+            } }
     {
         let gap = self.top.gap;
         self.top.gap = gap + 1;
@@ -190,8 +207,13 @@ impl FrameStack {
     pub fn drop_values(&mut self, count: u16)
         requires frame { 0 < length self.old.frames }
         requires values { count ≤ length (top self.old.frames).stack }
-        ensures { self.new ≡ record self.old
-            { frames = with_top (record (top self.old.frames) { stack = drop count (top self.old.frames).stack }) self.old.frames } }
+        ensures { self.new
+            ≡ record self.old {
+              frames =
+                  with_top
+                  (record (top self.old.frames) { stack = drop count (top self.old.frames).stack })
+                  self.old.frames;
+            } }
     {
         let gap = self.top.gap;
         self.top.gap = gap + count as usize;
@@ -222,8 +244,12 @@ impl FrameStack {
     pub fn set_local(&mut self, i: u16, value: u64)
         requires frame { 0 < length self.old.frames }
         requires local { i < length (top self.old.frames).locals }
-        ensures { self.new ≡ record self.old
-            { frames = with_top (record (top self.old.frames) { locals = slice_set (top self.old.frames).locals i value }) self.old.frames } }
+        ensures { self.new
+            ≡ record self.old {
+              frames =
+                  with_top (record (top self.old.frames)
+                  { locals = slice_set (top self.old.frames).locals i value }) self.old.frames;
+            } }
     {
         let at = self.free + self.top.room + i as usize;
         self.slots[at] = value;

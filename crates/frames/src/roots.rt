@@ -37,9 +37,15 @@ impl Model for Roots {
 
     ghost Value = { RootLists };
 
-    ghost view = { λ r. record { left = take (r.until - r.begun) (drop r.begun r.numbers); later = drop r.later r.numbers } };
+    ghost view = { λ r.
+        record {
+          left = take (r.until - r.begun) (drop r.begun r.numbers);
+          later = drop r.later r.numbers;
+        } };
 
-    ghost invariant = { λ r. (r.begun ≤ r.until) × (r.until ≤ length r.numbers) × (r.later ≤ length r.numbers) × (r.count ≡ length r.numbers) };
+    ghost invariant = { λ r.
+        (r.begun ≤ r.until) × (r.until ≤ length r.numbers) × (r.later ≤ length r.numbers)
+        × (r.count ≡ length r.numbers) };
 }
 
 fn is_entry(m: &MethodInfo, name: &[u8], descriptor: &[u8]) -> bool

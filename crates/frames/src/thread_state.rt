@@ -65,9 +65,36 @@ impl Model for ThreadState {
 
     ghost Value = { Thread };
 
-    ghost view = { λ s. record { program = record { program = s.frames.program; typings = s.typings.told; tags = s.tags.told; marks = s.marks.told }; cfg = s.cfg; number = s.number; phase = s.phase; frames = s.frames.frames; held = s.held.entries; attempt = option_map (attempt_of s.kept.items) s.attempt; roots = s.roots.left; turns = s.turns; counts = s.counts; prints = s.prints.items; part = s.part; first = s.first } };
+    ghost view = { λ s.
+        record {
+          program =
+              record {
+                program = s.frames.program;
+                typings = s.typings.told;
+                tags = s.tags.told;
+                marks = s.marks.told;
+              };
+          cfg = s.cfg;
+          number = s.number;
+          phase = s.phase;
+          frames = s.frames.frames;
+          held = s.held.entries;
+          attempt = option_map (attempt_of s.kept.items) s.attempt;
+          roots = s.roots.left;
+          turns = s.turns;
+          counts = s.counts;
+          prints = s.prints.items;
+          part = s.part;
+          first = s.first;
+        } };
 
-    ghost invariant = { λ s. IsKept s.frames.program s.kept.items s.attempt × (MOST_FRAMES * (1 + most_held s.tags.told) ≤ s.held.places) × IfSome s.spare (λ f. f.program ≡ s.frames.program) × (s.cfg.prints ≤ length s.prints.items + s.prints.spare) × (length s.prints.items ≤ s.cfg.prints) × (s.roots.later ≡ later_roots s.frames.program s.number) };
+    ghost invariant = { λ s.
+        IsKept s.frames.program s.kept.items s.attempt
+        × (MOST_FRAMES * (1 + most_held s.tags.told) ≤ s.held.places)
+        × IfSome s.spare (λ f. f.program ≡ s.frames.program)
+        × (s.cfg.prints ≤ length s.prints.items + s.prints.spare)
+        × (length s.prints.items ≤ s.cfg.prints)
+        × (s.roots.later ≡ later_roots s.frames.program s.number) };
 }
 
 /// The phase of a thread whose part begins with these roots.
@@ -410,8 +437,12 @@ impl ThreadState {
     pub fn set_local(&mut self, i: u16, value: u64)
         requires frame { 0 < length self.old.frames }
         requires local { i < length (top self.old.frames).locals }
-        ensures { self.new ≡ record self.old
-            { frames = with_top (record (top self.old.frames) { locals = slice_set (top self.old.frames).locals i value }) self.old.frames } }
+        ensures { self.new
+            ≡ record self.old {
+              frames =
+                  with_top (record (top self.old.frames)
+                  { locals = slice_set (top self.old.frames).locals i value }) self.old.frames;
+            } }
     {
         self.frames.set_local(i, value);
     }
@@ -458,8 +489,13 @@ impl ThreadState {
         requires frame { 0 < length self.old.frames }
         requires room { length (top self.old.frames).stack
             < max_stack self.old.program.program (top self.old.frames).method }
-        ensures { self.new ≡ record self.old
-            { frames = with_top (record (top self.old.frames) { stack = value ∷ (top self.old.frames).stack }) self.old.frames } }
+        ensures { self.new
+            ≡ record self.old {
+              frames =
+                  with_top
+                  (record (top self.old.frames) { stack = value ∷ (top self.old.frames).stack })
+                  self.old.frames;
+            } }
     {
         self.frames.push_value(value);
     }
@@ -469,8 +505,12 @@ impl ThreadState {
         requires frame { 0 < length self.old.frames }
         requires value { 0 < length (top self.old.frames).stack }
         ensures value { result ≡ slice_index (top self.old.frames).stack 0 }
-        ensures rest { self.new ≡ record self.old
-            { frames = with_top (record (top self.old.frames) { stack = drop 1 (top self.old.frames).stack }) self.old.frames } }
+        ensures rest { self.new
+            ≡ record self.old {
+              frames =
+                  with_top (record (top self.old.frames) { stack = drop 1 (top self.old.frames).stack })
+                  self.old.frames;
+            } }
     {
         self.frames.pop_value()
     }
@@ -480,8 +520,13 @@ impl ThreadState {
     pub fn drop_values(&mut self, count: u16)
         requires frame { 0 < length self.old.frames }
         requires values { count ≤ length (top self.old.frames).stack }
-        ensures { self.new ≡ record self.old
-            { frames = with_top (record (top self.old.frames) { stack = drop count (top self.old.frames).stack }) self.old.frames } }
+        ensures { self.new
+            ≡ record self.old {
+              frames =
+                  with_top
+                  (record (top self.old.frames) { stack = drop count (top self.old.frames).stack })
+                  self.old.frames;
+            } }
     {
         self.frames.drop_values(count);
     }
@@ -568,8 +613,18 @@ impl ThreadState {
     /// Begins an attempt, and keeps a copy of the top frame.
     pub fn checkpoint(&mut self, monitor: u32, noted: u64, number: u8)
         requires { 0 < length self.old.frames }
-        ensures { self.new ≡ record self.old
-            { attempt = Some (record { monitor = monitor; noted = noted; base = length (below self.old.frames); number = number; inner = 0; entry = top self.old.frames }) } }
+        ensures { self.new
+            ≡ record self.old {
+              attempt =
+                  Some (record {
+                    monitor = monitor;
+                    noted = noted;
+                    base = length (below self.old.frames);
+                    number = number;
+                    inner = 0;
+                    entry = top self.old.frames;
+                  });
+            } }
     {
         let base = self.frames.depth() as u32 - 1;
         let frame = self.frames.copy_top(&mut self.kept);
@@ -590,8 +645,18 @@ impl ThreadState {
     pub fn checkpoint_of(&mut self, frames: &FrameStack, monitor: u32, noted: u64, number: u8)
         requires program { frames.now.program ≡ self.old.program.program }
         requires frame { 0 < length frames.now.frames }
-        ensures { self.new ≡ record self.old
-            { attempt = Some (record { monitor = monitor; noted = noted; base = length (below frames.now.frames); number = number; inner = 0; entry = top frames.now.frames }) } }
+        ensures { self.new
+            ≡ record self.old {
+              attempt =
+                  Some (record {
+                    monitor = monitor;
+                    noted = noted;
+                    base = length (below frames.now.frames);
+                    number = number;
+                    inner = 0;
+                    entry = top frames.now.frames;
+                  });
+            } }
     {
         let base = frames.depth() as u32 - 1;
         let frame = frames.copy_top(&mut self.kept);

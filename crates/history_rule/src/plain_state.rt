@@ -29,7 +29,15 @@ impl Model for PlainState {
 
     ghost Value = { State };
 
-    ghost view = { λ s. record { objects = s.memory.objects; statics = s.memory.statics; next = s.memory.next; holdings = s.holdings; threads = s.threads; prints = s.prints } };
+    ghost view = { λ s.
+        record {
+          objects = s.memory.objects;
+          statics = s.memory.statics;
+          next = s.memory.next;
+          holdings = s.holdings;
+          threads = s.threads;
+          prints = s.prints;
+        } };
 }
 
 impl PlainState {

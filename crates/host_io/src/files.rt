@@ -26,9 +26,11 @@ pub fn read_files<S: Shelf>(
     requires { length names.now ≤ MOST_FILES }
     ensures files { S.files shelf.new ≡ S.files shelf.old }
     ensures unreadable { S.unreadable shelf.new ≡ S.unreadable shelf.old }
-    ensures ok { IfOk result (λ contents. AreFilesRead (S.files shelf.old) (map (λ n. string_bytes n) names.now)
-        (S.faults shelf.old) (S.faults shelf.new) contents) }
-    ensures err { IfErr result (λ unread. IsUnread (S.files shelf.old) (S.unreadable shelf.old) (map (λ n. string_bytes n) names.now)
+    ensures ok { IfOk result (λ contents.
+        AreFilesRead (S.files shelf.old) (map (λ n. string_bytes n) names.now) (S.faults shelf.old)
+        (S.faults shelf.new) contents) }
+    ensures err { IfErr result (λ unread.
+        IsUnread (S.files shelf.old) (S.unreadable shelf.old) (map (λ n. string_bytes n) names.now)
         (S.faults shelf.old) (S.faults shelf.new) unread.file unread.error) }
 {
     let mut contents = Rows::new(alloc);
@@ -50,8 +52,8 @@ fn read_next<S: Shelf>(
 ) -> Result<(), ShelfError>
     ensures files { S.files shelf.new ≡ S.files shelf.old }
     ensures unreadable { S.unreadable shelf.new ≡ S.unreadable shelf.old }
-    ensures answer { IsNextRead (S.files shelf.old) name.now (S.faults shelf.old) (S.faults shelf.new)
-        contents.old contents.new result }
+    ensures answer { IsNextRead (S.files shelf.old) name.now (S.faults shelf.old)
+        (S.faults shelf.new) contents.old contents.new result }
     ensures fails { FailsWhereTold (S.unreadable shelf.old) name.now result }
 {
     let content = shelf.read_file(alloc, name, MOST_FILE_BYTES as u64)?;

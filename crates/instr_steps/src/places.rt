@@ -31,7 +31,12 @@ impl<'a> Model for Place<'a> {
 
     ghost Value = { At };
 
-    ghost view = { λ at. record { method = at.method.now; insn = at.insn.now; target = slice_index_or at.method.now.targets at.number Nothing } };
+    ghost view = { λ at.
+        record {
+          method = at.method.now;
+          insn = at.insn.now;
+          target = slice_index_or at.method.now.targets at.number Nothing;
+        } };
 
     ghost invariant = { λ at. at.number < length at.method.now.targets };
 }

@@ -21,7 +21,9 @@ use link_scope::{FileScope, Found};
 /// What a field that was found is to an instruction.
 fn allowed_field(site: &Site<'_>, usage: FieldUse, found: Option<Found>) -> Result<Target, LRule>
     ensures { (name : List ℕ) (entry : Option Entry) → IsFound name found entry
-        → result ≡ found_target (λ e. field_rule usage.of_class usage.writes site.now e.class e.flags) entry }
+        → result
+        ≡ found_target (λ e. field_rule usage.of_class usage.writes site.now e.class e.flags)
+        entry }
 {
     match found {
         None => Err(LRule::L2),
@@ -58,10 +60,12 @@ fn named_field(
     usage: FieldUse,
     texts: MemberTexts,
 ) -> Result<Target, LRule>
-    ensures { result ≡ member_target (λ e. field_rule usage.of_class usage.writes site.now e.class e.flags)
+    ensures { result
+        ≡ member_target (λ e. field_rule usage.of_class usage.writes site.now e.class e.flags)
         (scope_of file.now.files).fields
         (named_class (class_names file.now.files) (text_at file.now.class.constants texts.class))
-        (is_some (field_kind (class_names file.now.files) (text_at file.now.class.constants texts.descriptor)))
+        (is_some (field_kind (class_names file.now.files)
+        (text_at file.now.class.constants texts.descriptor)))
         (text_at file.now.class.constants texts.name)
         (text_at file.now.class.constants texts.descriptor) }
 {
@@ -82,10 +86,12 @@ fn named_method(
     call: Call,
     texts: MemberTexts,
 ) -> Result<Target, LRule>
-    ensures { result ≡ member_target (λ e. call_rule call site.now e.class e.name e.flags)
+    ensures { result
+        ≡ member_target (λ e. call_rule call site.now e.class e.name e.flags)
         (scope_of file.now.files).methods
         (named_class (class_names file.now.files) (text_at file.now.class.constants texts.class))
-        (is_some (method_signature (class_names file.now.files) (text_at file.now.class.constants texts.descriptor)))
+        (is_some (method_signature (class_names file.now.files)
+        (text_at file.now.class.constants texts.descriptor)))
         (text_at file.now.class.constants texts.name)
         (text_at file.now.class.constants texts.descriptor) }
 {

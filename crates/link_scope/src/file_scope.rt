@@ -126,8 +126,10 @@ impl<'a, 'f> FileScope<'a, 'f> {
 
     /// What a method descriptor says, read anew.
     pub fn signature(&self, alloc: Global, text: u16) -> Result<Option<Signature>, AllocError>
-        ensures { IfOk result (λ found. option_map meaning found
-            ≡ signature_named (class_names self.now.files) (text_at self.now.class.constants text)) }
+        ensures { IfOk result (λ found.
+            option_map meaning found
+            ≡ signature_named (class_names self.now.files)
+            (text_at self.now.class.constants text)) }
     {
         let scope = self.scope;
         scope.texts.signature(alloc, self.text(text))
@@ -136,8 +138,9 @@ impl<'a, 'f> FileScope<'a, 'f> {
     /// The field of a class, or of `Object`, with this name and descriptor (JVMS 5.4.3.2); the
     /// class is 0 for `java/lang/System`.
     pub fn find_field(&self, class: u16, name: u16, descriptor: u16) -> Option<Found>
-        ensures { IsFound (text_at self.now.class.constants name) result
-            (look_up (scope_of self.now.files).fields class (text_at self.now.class.constants name) (text_at self.now.class.constants descriptor)) }
+        ensures { IsFound (text_at self.now.class.constants name) result (look_up
+            (scope_of self.now.files).fields class (text_at self.now.class.constants name)
+            (text_at self.now.class.constants descriptor)) }
     {
         self.scope.find_field(self.number, class, name, descriptor)
     }
@@ -145,8 +148,9 @@ impl<'a, 'f> FileScope<'a, 'f> {
     /// The method of a class, or but for `<init>` of `Object`, with this name and descriptor (JVMS
     /// 5.4.3.3).
     pub fn find_method(&self, class: u16, name: u16, descriptor: u16) -> Option<Found>
-        ensures { IsFound (text_at self.now.class.constants name) result
-            (look_up (scope_of self.now.files).methods class (text_at self.now.class.constants name) (text_at self.now.class.constants descriptor)) }
+        ensures { IsFound (text_at self.now.class.constants name) result (look_up
+            (scope_of self.now.files).methods class (text_at self.now.class.constants name)
+            (text_at self.now.class.constants descriptor)) }
     {
         self.scope.find_method(self.number, class, name, descriptor)
     }

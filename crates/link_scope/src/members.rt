@@ -77,8 +77,12 @@ fn add_member(
     requires { file < MOST_FILES }
     ensures added { OnOk result (Adds texts.now.numbers table.old table.new
         (member_entry (pool_of_file texts.now.files file) file member.now target ∷ [])) }
-    ensures had { IfOk result (λ had. (entries : List Entry) → HasEntries texts.now.numbers entries table.old
-        → had ≡ is_some (member_in entries (class_of_file file) (file_text texts.now.files file member.now.name) (file_text texts.now.files file member.now.descriptor))) }
+    ensures had { IfOk result (λ had.
+        (entries : List Entry) → HasEntries texts.now.numbers entries table.old
+        → had
+        ≡ is_some (member_in entries (class_of_file file)
+        (file_text texts.now.files file member.now.name)
+        (file_text texts.now.files file member.now.descriptor))) }
 {
     let at = usize::from(file);
     let class = FIRST_FILE_CLASS + file;
@@ -112,7 +116,9 @@ fn add_members(
     requires fits { first + length (members_of sort class.now) < 2 ^ 32 }
     ensures added { OnOk result
         (Adds texts.now.numbers table.old table.new (class_entries sort file class.now first)) }
-    ensures repeats { IfOk result (λ flags. (entries : List Entry) → HasEntries texts.now.numbers entries table.old → AreBelow (class_of_file file) entries
+    ensures repeats { IfOk result (λ flags.
+        (entries : List Entry) → HasEntries texts.now.numbers entries table.old
+        → AreBelow (class_of_file file) entries
         → AreRepeats class.now.constants (members_of sort class.now) flags) }
 {
     let mut flags = Rows::new(alloc);

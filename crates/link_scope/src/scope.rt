@@ -55,8 +55,9 @@ fn look_up(
     name: u16,
     descriptor: u16,
 ) -> Option<Found>
-    ensures { (entries : List Entry) → HasEntries texts.now.numbers entries members.now.table → IsFound (file_text texts.now.files file name) result
-        (look_up entries class (file_text texts.now.files file name) (file_text texts.now.files file descriptor)) }
+    ensures { (entries : List Entry) → HasEntries texts.now.numbers entries members.now.table
+        → IsFound (file_text texts.now.files file name) result (look_up entries class
+        (file_text texts.now.files file name) (file_text texts.now.files file descriptor)) }
 {
     let key = Key {
         class,
@@ -107,8 +108,8 @@ impl<'a> Scope<'a> {
         name: u16,
         descriptor: u16,
     ) -> Option<Found>
-        ensures { IsFound (file_text self.now file name) result
-            (look_up (scope_of self.now).fields class (file_text self.now file name) (file_text self.now file descriptor)) }
+        ensures { IsFound (file_text self.now file name) result (look_up (scope_of self.now).fields
+            class (file_text self.now file name) (file_text self.now file descriptor)) }
     {
         look_up(&self.texts, &self.fields, file, class, name, descriptor)
     }
@@ -121,8 +122,8 @@ impl<'a> Scope<'a> {
         name: u16,
         descriptor: u16,
     ) -> Option<Found>
-        ensures { IsFound (file_text self.now file name) result
-            (look_up (scope_of self.now).methods class (file_text self.now file name) (file_text self.now file descriptor)) }
+        ensures { IsFound (file_text self.now file name) result (look_up (scope_of self.now).methods
+            class (file_text self.now file name) (file_text self.now file descriptor)) }
     {
         look_up(&self.texts, &self.methods, file, class, name, descriptor)
     }

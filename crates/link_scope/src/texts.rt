@@ -45,7 +45,12 @@ impl<'a> Model for Texts<'a> {
 
     ghost Value = { Numbered };
 
-    ghost view = { λ t. record { names = t.classes; numbers = by_bytes t.numbers.entries; count = length t.meanings } };
+    ghost view = { λ t.
+        record {
+          names = t.classes;
+          numbers = by_bytes t.numbers.entries;
+          count = length t.meanings;
+        } };
 
     ghost invariant = { λ t. AreTexts t.classes (by_bytes t.numbers.entries) t.meanings };
 }

@@ -47,8 +47,10 @@ fn resolve_target(
     method: &Member,
     insn: &Insn,
 ) -> Result<Target, Fault>
-    ensures { IsMadeOrRefused (insn_fault (scope_of file.now.files) (method_of file.now number method.now) insn.now)
-        (resolved_target (scope_of file.now.files) (site_of (method_of file.now number method.now)) file.now.class.constants insn.now) result }
+    ensures { IsMadeOrRefused
+        (insn_fault (scope_of file.now.files) (method_of file.now number method.now) insn.now)
+        (resolved_target (scope_of file.now.files) (site_of (method_of file.now number method.now))
+        file.now.class.constants insn.now) result }
 {
     let site = Site {
         class: file.own_class(),
@@ -68,8 +70,11 @@ fn resolve_targets(
     method: &Member,
     insns: &[Insn],
 ) -> Result<Rows<Target>, LinkError>
-    ensures { Links (first_fault (map (insn_fault (scope_of file.now.files) (method_of file.now number method.now)) insns.now))
-        (map (resolved_target (scope_of file.now.files) (site_of (method_of file.now number method.now)) file.now.class.constants) insns.now) result }
+    ensures { Links (first_fault (map
+        (insn_fault (scope_of file.now.files) (method_of file.now number method.now)) insns.now))
+        (map (resolved_target (scope_of file.now.files)
+        (site_of (method_of file.now number method.now)) file.now.class.constants) insns.now)
+        result }
 {
     let mut targets = Rows::new(alloc);
     for insn in insns {
@@ -86,7 +91,8 @@ fn resolve_row(
     handler: &Handler,
 ) -> Result<Row, Fault>
     requires { IsIndex kinds.CatchType file.now.class.constants handler.now.catch_type }
-    ensures { IsMadeOrRefused (row_fault (scope_of file.now.files) (method_of file.now number method.now) handler.now)
+    ensures { IsMadeOrRefused
+        (row_fault (scope_of file.now.files) (method_of file.now number method.now) handler.now)
         (resolved_row (scope_of file.now.files) file.now.class.constants handler.now) result }
 {
     let start = u32::from(handler.start);
@@ -110,8 +116,10 @@ fn resolve_rows(
     handlers: &[Handler],
 ) -> Result<Rows<Row>, LinkError>
     requires { AllByRecursion (IsHandler file.now.class.constants) handlers.now }
-    ensures { Links (first_fault (map (row_fault (scope_of file.now.files) (method_of file.now number method.now)) handlers.now))
-        (map (resolved_row (scope_of file.now.files) file.now.class.constants) handlers.now) result }
+    ensures { Links (first_fault (map
+        (row_fault (scope_of file.now.files) (method_of file.now number method.now)) handlers.now))
+        (map (resolved_row (scope_of file.now.files) file.now.class.constants) handlers.now)
+        result }
 {
     let mut rows = Rows::new(alloc);
     for handler in handlers {
@@ -149,8 +157,10 @@ fn link_method(
     budget: &mut Budget,
 ) -> Result<MethodInfo, LinkError>
     requires { IsMethod file.now.class.constants method.now }
-    ensures linked { Links (uses_fault (scope_of file.now.files) (method_of file.now number method.now, insns))
-        (linked_method (scope_of file.now.files) (method_of file.now number method.now) insns) result }
+    ensures linked { Links
+        (uses_fault (scope_of file.now.files) (method_of file.now number method.now, insns))
+        (linked_method (scope_of file.now.files) (method_of file.now number method.now) insns)
+        result }
     ensures copied { IfOk result (λ m. copied_bytes m + budget.new.left ≡ budget.old.left) }
 {
     let code = own_code(method);
@@ -215,7 +225,8 @@ fn link_class(
         (declared_from file.now.number file.now.class.constants 0 file.now.class.methods)
         code.old code.new methods.old methods.new) }
     ensures refused { IfErr result (IsLinkErrorOf (use_faults (scope_of file.now.files)
-        (declared_from file.now.number file.now.class.constants 0 file.now.class.methods) code.old)) }
+        (declared_from file.now.number file.now.class.constants 0 file.now.class.methods)
+        code.old)) }
     ensures copied { OnOk result (sum_by copied_bytes methods.new + budget.new.left
         ≡ sum_by copied_bytes methods.old + budget.old.left) }
 {

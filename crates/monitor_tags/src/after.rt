@@ -106,8 +106,12 @@ fn moved(alloc: Global, row: &OpRow, f: &TagFrame) -> Result<TagFrame, AllocErro
 /// to both copies.
 fn tagged_dup(alloc: Global, pc: u32, f: &TagFrame) -> Result<TagFrame, AllocError>
     ensures { IfOk result (λ after.
-        after ≡ record
-        { stack = At pc ∷ At pc ∷ without pc (drop 1 f.now.stack); locals = without pc f.now.locals; held = f.now.held }) }
+        after
+        ≡ record {
+          stack = At pc ∷ At pc ∷ without pc (drop 1 f.now.stack);
+          locals = without pc f.now.locals;
+          held = f.now.held;
+        }) }
 {
     let mut stack = f.stack().without_for(alloc, 1, 2)?;
     untag(&mut stack, pc);

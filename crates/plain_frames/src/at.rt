@@ -27,7 +27,14 @@ impl<'a> Model for At<'a> {
 
     ghost Value = { Top };
 
-    ghost view = { λ at. record { frame = at.frame.now; below = drop (at.down + 1) at.frames.now; method = at.method.now; insn = at.insn.now; target = at.target } };
+    ghost view = { λ at.
+        record {
+          frame = at.frame.now;
+          below = drop (at.down + 1) at.frames.now;
+          method = at.method.now;
+          insn = at.insn.now;
+          target = at.target;
+        } };
 
     ghost invariant = { λ at. drop at.down at.frames.now ≡ at.frame.now ∷ drop (at.down + 1) at.frames.now };
 }

@@ -23,7 +23,14 @@ impl Model for Frame {
 
     ghost Value = { Plain };
 
-    ghost view = { λ f. record { method = f.method; pc = f.pc; receiver = f.receiver; locals = f.locals; stack = f.stack } };
+    ghost view = { λ f.
+        record {
+          method = f.method;
+          pc = f.pc;
+          receiver = f.receiver;
+          locals = f.locals;
+          stack = f.stack;
+        } };
 }
 
 impl Frame {

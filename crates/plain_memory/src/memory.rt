@@ -135,8 +135,11 @@ impl Memory {
 
     /// Puts a value at a place; nothing changes where nothing stands there.
     pub fn write(&mut self, place: u128, value: u64)
-        ensures { self.new ≡ record self.old
-            { objects = object_write self.old.objects place value; statics = static_write self.old.statics place value } }
+        ensures { self.new
+            ≡ record self.old {
+              objects = object_write self.old.objects place value;
+              statics = static_write self.old.statics place value;
+            } }
     {
         write_object(&mut self.objects, self.in_order, place, value);
         write_static(&mut self.statics, place, value);
@@ -173,8 +176,12 @@ impl Memory {
         size: u32,
         next: u64,
     ) -> Result<(), AllocError>
-        ensures ok { OnOk result (self.new ≡ record self.old
-            { objects = self.old.objects ++ new_object self.old.next header size ∷ []; next = next }) }
+        ensures ok { OnOk result (self.new
+            ≡ record self.old {
+              objects =
+                  self.old.objects ++ new_object self.old.next header size ∷ [];
+              next = next;
+            }) }
         ensures err { OnErr result (self.new ≡ self.old) }
     {
         let object = Object::zeroed(

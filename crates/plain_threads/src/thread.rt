@@ -31,7 +31,13 @@ impl Model for Thread {
 
     ghost Value = { PlainThread };
 
-    ghost view = { λ x. record { frames = x.frames; status = plain_status_of x.status; roots = x.roots; ended = x.ended } };
+    ghost view = { λ x.
+        record {
+          frames = x.frames;
+          status = plain_status_of x.status;
+          roots = x.roots;
+          ended = x.ended;
+        } };
 }
 
 impl Thread {

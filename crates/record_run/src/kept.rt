@@ -48,7 +48,9 @@ impl<J: Naming> Model for Recording<J> {
 
     ghost view = { λ r. record { machine = r.machine; order = r.order.items; most = r.most } };
 
-    ghost invariant = { λ r. IsKeptOf J.run (record { machine = r.machine; order = r.order.items; most = r.most }) × (r.most ≤ length r.order.items + r.order.spare) };
+    ghost invariant = { λ r.
+        IsKeptOf J.run (record { machine = r.machine; order = r.order.items; most = r.most })
+        × (r.most ≤ length r.order.items + r.order.spare) };
 }
 
 impl<J: Naming> Recording<J> {

@@ -46,9 +46,20 @@ impl Model for Machine {
 
     ghost Value = { Running };
 
-    ghost view = { λ m. record { program = m.program.told; cfg = m.cfg; core = record { words = m.words; threads = m.threads.items } } };
+    ghost view = { λ m.
+        record {
+          program = m.program.told;
+          cfg = m.cfg;
+          core = record { words = m.words; threads = m.threads.items };
+        } };
 
-    ghost invariant = { λ m. AreRunning (record { program = m.program.told; cfg = m.cfg; core = record { words = m.words; threads = m.threads.items } }) × (m.reports.items ≡ []) × (length m.threads.items ≤ m.reports.spare) };
+    ghost invariant = { λ m.
+        AreRunning (record {
+          program = m.program.told;
+          cfg = m.cfg;
+          core = record { words = m.words; threads = m.threads.items };
+        })
+        × (m.reports.items ≡ []) × (length m.threads.items ≤ m.reports.spare) };
 }
 
 /// Each thread takes its share of the begin of a part.

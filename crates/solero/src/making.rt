@@ -54,7 +54,8 @@ pub fn is_plain(checked: &Checked, cfg: &Config)
     requires { AreSettings cfg.now }
     ensures plain { (hs : List Happening) → IsFaithful checked.now cfg.now hs }
     ensures prints { (hs : List Happening) (run : IsPlainRun checked.now cfg.now hs)
-        → report_text (outcome_of (core checked.now cfg.now hs)) ≡ text_with_prints run.state.prints (outcome_of (core checked.now cfg.now hs)) }
+        → report_text (outcome_of (core checked.now cfg.now hs))
+        ≡ text_with_prints run.state.prints (outcome_of (core checked.now cfg.now hs)) }
     ensures over { (order : List ℕ) (hs : List Happening)
         → IsScheduleOf checked.now cfg.now order hs → IsOver (core checked.now cfg.now hs) }
 {

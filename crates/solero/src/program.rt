@@ -51,8 +51,10 @@ pub fn top<R: Threads + Wait + Sync, S: Shelf, K: Sink, G: Gate + Sync>(
 ) -> u8
     // What the words and the files are owed is written, and answered by its status.
     ensures answer { (due : TheDue)
-        × IsDue (command (texts words.now.items)) (S.files shelf.old) (S.unreadable shelf.old) (S.faults shelf.old) (S.faults shelf.new) due
-        × Delivers (K.text sink.old) (K.text sink.new) (K.faults sink.old) (K.faults sink.new) due result }
+        × IsDue (command (texts words.now.items)) (S.files shelf.old) (S.unreadable shelf.old)
+        (S.faults shelf.old) (S.faults shelf.new) due
+        × Delivers (K.text sink.old) (K.text sink.new) (K.faults sink.old) (K.faults sink.new) due
+        result }
     ensures files { S.files shelf.new ≡ S.files shelf.old }
     ensures unreadable { S.unreadable shelf.new ≡ S.unreadable shelf.old }
 
@@ -62,19 +64,23 @@ pub fn top<R: Threads + Wait + Sync, S: Shelf, K: Sink, G: Gate + Sync>(
     ensures words_not_read { command (texts words.now.items) ≡ None
         → (result ≡ 2) ⊎ ((result ≡ 5) ⊎ (result ≡ 6)) }
     // Files that the mode takes are not refused, and all others are, where the shelf does not fail.
-    ensures accepted { (asked : Asked) (files : List File) → command (texts words.now.items) ≡ Some asked
-        → S.files shelf.old ≡ Some files → AreAccepted files asked → result ≢ 3 }
-    ensures not_accepted { (asked : Asked) (files : List File) → command (texts words.now.items) ≡ Some asked
-        → S.files shelf.old ≡ Some files → ¬ AreAccepted files asked
-        → IsCalm (S.faults shelf.old) (S.faults shelf.new) → (result ≡ 3) ⊎ ((result ≡ 5) ⊎ (result ≡ 6)) }
+    ensures accepted { (asked : Asked) (files : List File)
+        → command (texts words.now.items) ≡ Some asked → S.files shelf.old ≡ Some files
+        → AreAccepted files asked → result ≢ 3 }
+    ensures not_accepted { (asked : Asked) (files : List File)
+        → command (texts words.now.items) ≡ Some asked → S.files shelf.old ≡ Some files
+        → ¬ AreAccepted files asked → IsCalm (S.faults shelf.old) (S.faults shelf.new)
+        → (result ≡ 3) ⊎ ((result ≡ 5) ⊎ (result ≡ 6)) }
     // And where nothing fails outside, both are answered in full.
-    ensures complete { (asked : Asked) (files : List File) → command (texts words.now.items) ≡ Some asked
-        → S.files shelf.old ≡ Some files → AreAccepted files asked
-        → IsCalm (S.faults shelf.old) (S.faults shelf.new) → IsCalm (K.faults sink.old) (K.faults sink.new)
+    ensures complete { (asked : Asked) (files : List File)
+        → command (texts words.now.items) ≡ Some asked → S.files shelf.old ≡ Some files
+        → AreAccepted files asked → IsCalm (S.faults shelf.old) (S.faults shelf.new)
+        → IsCalm (K.faults sink.old) (K.faults sink.new)
         → AnswersWhole (IsOwed asked files) (K.text sink.old) (K.text sink.new) result }
-    ensures refused { (asked : Asked) (files : List File) → command (texts words.now.items) ≡ Some asked
-        → S.files shelf.old ≡ Some files → ¬ AreAccepted files asked
-        → IsCalm (S.faults shelf.old) (S.faults shelf.new) → IsCalm (K.faults sink.old) (K.faults sink.new)
+    ensures refused { (asked : Asked) (files : List File)
+        → command (texts words.now.items) ≡ Some asked → S.files shelf.old ≡ Some files
+        → ¬ AreAccepted files asked → IsCalm (S.faults shelf.old) (S.faults shelf.new)
+        → IsCalm (K.faults sink.old) (K.faults sink.new)
         → AnswersWhole (IsOwedRefusal asked files) (K.text sink.old) (K.text sink.new) result }
     ensures shelf_failed { result ≡ 4 → CountsFault (S.faults shelf.old) (S.faults shelf.new) }
     ensures shelf_fault { S.faults shelf.old < S.faults shelf.new → (4 ≤ result) × (result ≤ 6) }
@@ -93,8 +99,8 @@ fn work<R: Threads + Wait + Sync, S: Shelf, G: Gate + Sync>(
     shelf: &mut S,
     gate: &G,
 ) -> Due
-    ensures due { IsDue (command (texts words.now.items)) (S.files shelf.old) (S.unreadable shelf.old)
-        (S.faults shelf.old) (S.faults shelf.new) result }
+    ensures due { IsDue (command (texts words.now.items)) (S.files shelf.old)
+        (S.unreadable shelf.old) (S.faults shelf.old) (S.faults shelf.new) result }
     ensures files { S.files shelf.new ≡ S.files shelf.old }
     ensures unreadable { S.unreadable shelf.new ≡ S.unreadable shelf.old }
 {

@@ -42,7 +42,9 @@ impl Model for CellSeat {
 
     ghost view = { λ s. record { table_id = s.seat.table_id; view = s.seat.me.0 } };
 
-    ghost invariant = { λ s. IsSeat (record { table_id = s.seat.table_id; view = s.seat.me.0 }) × (s.seat.me.1 ≡ []) × (s.latest ≡ s.seat.me.0.latest.count) };
+    ghost invariant = { λ s.
+        IsSeat (record { table_id = s.seat.table_id; view = s.seat.me.0 }) × (s.seat.me.1 ≡ [])
+        × (s.latest ≡ s.seat.me.0.latest.count) };
 }
 
 /// A table with these words, and its first seat.

@@ -61,8 +61,9 @@ pub fn top_explain<S: Shelf, K: Sink>(
     sink: &mut K,
 ) -> u8
     // What the words and the files are owed is written, and answered by its status.
-    ensures answer { IsAnswered (explain_command (texts words.now.items)) (S.files shelf.old) (S.unreadable shelf.old) (S.faults shelf.old) (S.faults shelf.new)
-        (K.text sink.old) (K.text sink.new) (K.faults sink.old) (K.faults sink.new) result }
+    ensures answer { IsAnswered (explain_command (texts words.now.items)) (S.files shelf.old)
+        (S.unreadable shelf.old) (S.faults shelf.old) (S.faults shelf.new) (K.text sink.old)
+        (K.text sink.new) (K.faults sink.old) (K.faults sink.new) result }
     ensures files { S.files shelf.new ≡ S.files shelf.old }
     ensures unreadable { S.unreadable shelf.new ≡ S.unreadable shelf.old }
 
@@ -72,12 +73,14 @@ pub fn top_explain<S: Shelf, K: Sink>(
     ensures words_not_read { explain_command (texts words.now.items) ≡ None
         → (result ≡ 2) ⊎ ((result ≡ 5) ⊎ (result ≡ 6)) }
     // Files that all rules let pass are not refused, whatever is to be told of them.
-    ensures accepted { (asked : Question) (files : List File) → explain_command (texts words.now.items) ≡ Some asked
-        → S.files shelf.old ≡ Some files → AreUnrefused files asked → result ≢ 3 }
+    ensures accepted { (asked : Question) (files : List File)
+        → explain_command (texts words.now.items) ≡ Some asked → S.files shelf.old ≡ Some files
+        → AreUnrefused files asked → result ≢ 3 }
     // And all others are, where the shelf does not fail.
-    ensures not_accepted { (asked : Question) (files : List File) → explain_command (texts words.now.items) ≡ Some asked
-        → S.files shelf.old ≡ Some files → ¬ AreUnrefused files asked
-        → S.faults shelf.new ≡ S.faults shelf.old → S.faults shelf.old < 2 ^ 64 - 1 → (result ≡ 3) ⊎ ((result ≡ 5) ⊎ (result ≡ 6)) }
+    ensures not_accepted { (asked : Question) (files : List File)
+        → explain_command (texts words.now.items) ≡ Some asked → S.files shelf.old ≡ Some files
+        → ¬ AreUnrefused files asked → S.faults shelf.new ≡ S.faults shelf.old
+        → S.faults shelf.old < 2 ^ 64 - 1 → (result ≡ 3) ⊎ ((result ≡ 5) ⊎ (result ≡ 6)) }
     ensures shelf_failed { result ≡ 4 → CountsFault (S.faults shelf.old) (S.faults shelf.new) }
     ensures shelf_fault { S.faults shelf.old < S.faults shelf.new → (4 ≤ result) × (result ≤ 6) }
     ensures sink_failed { result ≡ 5 → CountsFault (K.faults sink.old) (K.faults sink.new) }
@@ -126,8 +129,8 @@ fn traced<K: Sink>(
 
 // What is to be done for the words.
 fn work_for<S: Shelf>(alloc: Global, words: &Vec<String>, shelf: &mut S) -> Work
-    ensures work { IsWork (explain_command (texts words.now.items)) (S.files shelf.old) (S.unreadable shelf.old)
-        (S.faults shelf.old) (S.faults shelf.new) result }
+    ensures work { IsWork (explain_command (texts words.now.items)) (S.files shelf.old)
+        (S.unreadable shelf.old) (S.faults shelf.old) (S.faults shelf.new) result }
     ensures files { S.files shelf.new ≡ S.files shelf.old }
     ensures unreadable { S.unreadable shelf.new ≡ S.unreadable shelf.old }
 {
@@ -153,8 +156,8 @@ fn work_on<S: Shelf>(alloc: Global, request: Request, shelf: &mut S) -> Work
 
 // What is found in the files that are asked for.
 fn find<S: Shelf>(alloc: Global, request: &Request, shelf: &mut S) -> Found
-    ensures found { IsFoundInFiles (S.files shelf.old) (S.unreadable shelf.old) (question_by request.now)
-        (S.faults shelf.old) (S.faults shelf.new) result }
+    ensures found { IsFoundInFiles (S.files shelf.old) (S.unreadable shelf.old)
+        (question_by request.now) (S.faults shelf.old) (S.faults shelf.new) result }
     ensures files { S.files shelf.new ≡ S.files shelf.old }
     ensures unreadable { S.unreadable shelf.new ≡ S.unreadable shelf.old }
 {

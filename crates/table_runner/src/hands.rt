@@ -48,9 +48,24 @@ impl Model for Hands {
 
     ghost Value = { Handed };
 
-    ghost view = { λ h. record { program = h.program.told; cfg = h.cfg; table_id = h.seat.table_id; threads = h.threads; view = h.seat.me.0 } };
+    ghost view = { λ h.
+        record {
+          program = h.program.told;
+          cfg = h.cfg;
+          table_id = h.seat.table_id;
+          threads = h.threads;
+          view = h.seat.me.0;
+        } };
 
-    ghost invariant = { λ h. AreHands (record { program = h.program.told; cfg = h.cfg; table_id = h.seat.table_id; threads = h.threads; view = h.seat.me.0 }) × (h.seat.me.1 ≡ []) × HasReportRoom h.threads h.reports };
+    ghost invariant = { λ h.
+        AreHands (record {
+          program = h.program.told;
+          cfg = h.cfg;
+          table_id = h.seat.table_id;
+          threads = h.threads;
+          view = h.seat.me.0;
+        }) × (h.seat.me.1 ≡ [])
+        × HasReportRoom h.threads h.reports };
 }
 
 impl Hands {
@@ -68,8 +83,14 @@ impl Hands {
         requires seat { seat.me ≡ (map Some (start p.now cfg.now).threads, []) }
         requires threads { HasThreads threads (start p.now cfg.now).threads }
         requires room { (reports.items ≡ []) × (9 ≤ reports.spare) }
-        ensures { result ≡ record
-            { program = p.now; cfg = cfg.now; table_id = seat.table_id; threads = threads; view = seat.me.0 } }
+        ensures { result
+            ≡ record {
+              program = p.now;
+              cfg = cfg.now;
+              table_id = seat.table_id;
+              threads = threads;
+              view = seat.me.0;
+            } }
     {
         let _checked = p.program();
         Hands {

@@ -7,7 +7,8 @@ ghost use Rattle.run_parts.specs.Ended.{IsEndOfRun};
 ghost use Rattle.table_rule.specs.Views.{held_in};
 ghost use Rattle.table_runner.specs.Ending.{IsOutcome};
 ghost use Rattle.table_runner.specs.Running.{AreDeadBelow, AtStart, HasRunFirst, HaveEnded};
-ghost use Rattle.table_runner.specs.Running.{IsAlone, IsRunOn, IsWaiting, NoWorkerLivesIn, RunsHere};
+ghost use Rattle.table_runner.specs.Running.{IsAlone, IsRunOn, IsWaiting};
+ghost use Rattle.table_runner.specs.Running.{NoWorkerLivesIn, RunsHere};
 
 use crate::hands::Hands;
 use crate::opening::table;

@@ -53,17 +53,23 @@ fn begin_by<B: Starting>(
     seat: &mut Seat<(), View>,
     _threads: &[Option<ThreadState>; MOST_THREADS],
 )
-    requires part { B.part ≡ Some (record
-        { program = table.now.shared.key.program.told; cfg = table.now.shared.key.cfg; threads = _threads.now }) }
+    requires part { B.part
+        ≡ Some (record {
+          program = table.now.shared.key.program.told;
+          cfg = table.now.shared.key.cfg;
+          threads = _threads.now;
+        }) }
     requires table { seat.old.table_id ≡ table.now.shared.table_id }
     requires words { 0 < table.now.shared.table_id.words }
     requires begins { CanBegin table.now.shared.key.program.told table.now.shared.key.cfg
         seat.old.me.0 _threads.now }
     ensures seat { (seat.new.table_id ≡ seat.old.table_id) × (seat.new.id ≡ seat.old.id)
         × (seat.new.me.1 ≡ seat.old.me.1) }
-    ensures begins { HasBegun (record
-        { program = table.now.shared.key.program.told; cfg = table.now.shared.key.cfg; threads = _threads.now })
-        seat.new.me.0 }
+    ensures begins { HasBegun (record {
+      program = table.now.shared.key.program.told;
+      cfg = table.now.shared.key.cfg;
+      threads = _threads.now;
+    }) seat.new.me.0 }
 {
     let _nothing = table.shared.load::<Begins<B>>(seat, 0);
 }
@@ -80,9 +86,11 @@ pub(crate) fn begin(
         seat.old.me.0 threads.now }
     ensures seat { (seat.new.table_id ≡ seat.old.table_id) × (seat.new.id ≡ seat.old.id)
         × (seat.new.me.1 ≡ seat.old.me.1) }
-    ensures begins { HasBegun (record
-        { program = table.now.shared.key.program.told; cfg = table.now.shared.key.cfg; threads = threads.now })
-        seat.new.me.0 }
+    ensures begins { HasBegun (record {
+      program = table.now.shared.key.program.told;
+      cfg = table.now.shared.key.cfg;
+      threads = threads.now;
+    }) seat.new.me.0 }
 {
     begin_by::<Brand>(table, seat, threads);
 }

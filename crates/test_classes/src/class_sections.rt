@@ -2,8 +2,8 @@
 //! -g:none` of a current JDK writes them, with the major version put to 50. They are texts of two
 //! digits for each byte.
 
-/// Class ClassPair: worker 1 prints the sum of two private static fields, and each other worker sets
-/// both to 4, in static synchronized methods. Its source is java/ClassPair.java.
+/// Class ClassPair: worker 1 prints the sum of two private static fields, and each other worker
+/// sets both to 4, in static synchronized methods. Its source is java/ClassPair.java.
 pub const CLASS_PAIR: &str = "\
     cafebabe0000003200260a000200030700040c000500060100106a6176612f6c616e672f4f626a6563740100\
     063c696e69743e010003282956090008000907000a0c000b000c010009436c61737350616972010001610100\

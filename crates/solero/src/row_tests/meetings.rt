@@ -6,8 +6,8 @@ use test_classes::{
 };
 
 pub const MEETINGS: [Run; 16] = [
-    // The monitor of a class: two sections without it, one of which an exception leaves; then thread
-    // 1 flags it, so that thread 2 makes it fat as it returns.
+    // The monitor of a class: two sections without it, one of which an exception leaves; then
+    // thread 1 flags it, so that thread 2 makes it fat as it returns.
     Run {
         options: &["--threads", "2"],
         order: &[('2', 6), ('1', 80)],
