@@ -36,7 +36,7 @@ Marks.readsElement([I)I method M5
     it is an element of an array
 Marks.readsLoose()I method M5
   Marks.readsLoose()I at 1 getfield M5: it reads what the section's lock does not guard
-    Marks.loosen(I)V at 2 putfield writes the field on another object than this or without its lock
+    Marks.loosen(I)V at 2 putfield writes the field, not under the lock that guards it
 Marks.readsOther(LMarks;)I method M5
   Marks.readsOther(LMarks;)I at 1 getfield M5: it reads what the section's lock does not guard
     it is the field of another object
@@ -124,7 +124,7 @@ ClassMarks.readsOpen()I method M5
     the field is not private
 ClassMarks.readsLoose()I method M5
   ClassMarks.readsLoose()I at 0 getstatic M5: it reads what the section's lock does not guard
-    ClassMarks.loosen(I)V at 1 putstatic writes the field on another object than this or without its lock
+    ClassMarks.loosen(I)V at 1 putstatic writes the field, not under the lock that guards it
 ClassMarks.readsField(LClassMarks;)I method M5
   ClassMarks.readsField(LClassMarks;)I at 1 getfield M5: it reads what the section's lock does not guard
     it is the field of another object

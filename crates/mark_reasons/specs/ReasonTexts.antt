@@ -74,7 +74,7 @@ cause_words p (causes.Constructor u) =
     method_words p.names (slice_get p.methods u) ++ codes " lets its object out"
 cause_words p (causes.Write method at) =
     insn_text p method at
-    ++ codes " writes the field on another object than this or without its lock"
+    ++ codes " writes the field, not under the lock that guards it"
 
 abbrev pub cause_line : Program → Option Cause → List ℕ
 cause_line p None = []

@@ -125,9 +125,7 @@ fn write_cause_words(
         }
         Cause::Write { method, at } => {
             write_place(text, alloc, p, method, at)?;
-            text.extend_from_slice(
-                b" writes the field on another object than this or without its lock",
-            )
+            text.extend_from_slice(b" writes the field, not under the lock that guards it")
         }
     }
 }

@@ -65,7 +65,7 @@ linking_means L5 = codes "the name of a class or of a member that is there alrea
 linking_means L6 = codes "a superclass other than Object, an interface, or an abstract class"
 linking_means L7 = codes "a final field is written outside of its constructor or initializer"
 linking_means L8 = codes "the classes and static fields need more words than the heap has"
-linking_means L9 = codes "a <clinit>, init, run or done that is synchronized"
+linking_means L9 = codes "a <clinit>, or init(), run(int) or done() of the first class, that is static synchronized"
 
 abbrev pub verifying_means : VRule → List ℕ
 verifying_means V1 = codes "the stack has too few values"

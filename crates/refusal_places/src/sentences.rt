@@ -103,7 +103,10 @@ fn linking_means(rule: LRule) -> &'static str
         LRule::L6 => "a superclass other than Object, an interface, or an abstract class",
         LRule::L7 => "a final field is written outside of its constructor or initializer",
         LRule::L8 => "the classes and static fields need more words than the heap has",
-        LRule::L9 => "a <clinit>, init, run or done that is synchronized",
+        LRule::L9 => {
+            "a <clinit>, or init(), run(int) or done() of the first class, that is static \
+             synchronized"
+        }
     }
 }
 
