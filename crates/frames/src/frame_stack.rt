@@ -193,7 +193,8 @@ impl FrameStack {
         ensures rest { self.new
             ≡ record self.old {
               frames =
-                  with_top (record (top self.old.frames) { stack = drop 1 (top self.old.frames).stack })
+                  with_top
+                  (record (top self.old.frames) { stack = drop 1 (top self.old.frames).stack })
                   self.old.frames;
             } }
     {

@@ -508,7 +508,8 @@ impl ThreadState {
         ensures rest { self.new
             ≡ record self.old {
               frames =
-                  with_top (record (top self.old.frames) { stack = drop 1 (top self.old.frames).stack })
+                  with_top
+                  (record (top self.old.frames) { stack = drop 1 (top self.old.frames).stack })
                   self.old.frames;
             } }
     {
