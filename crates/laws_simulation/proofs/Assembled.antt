@@ -4,13 +4,12 @@ use Rattle.std.proofs.Common.{◌≡◌, ◌≢◌, ◌⊎◌, inl, inr, ℕ, ze
 use Rattle.std.proofs.lemmas.List.{length-set}
 use Rattle.lists.proofs.ListLaws.{same_some}
 use Rattle.jvm_types.specs.declared.{fixed_words.TheConstants.{NEXT_FREE_WORD, NEXT_TICKET_WORD}, program.Program.Program}
-use Rattle.checked_program.specs.MarkedProgram.{MarkedProgram}
 use Rattle.machine_types.specs.{Accesses.{found_by, words_after}, Agreement.{IsPending, ThreadFits, depth_for, depth_of, has_wait_bit}, Core.{Core, event, event_of}, Events.{wanted, moved}}
 use Rattle.machine_types.specs.{HeldMonitors.depth_at, History.{acts_of, steps_of}, Owners.references_of, Parts.done_roots, PlainMemory.Object}
 use Rattle.machine_types.specs.{PlainState.{Plain, PlainThread, Holding, Printed, value_at, holding_at}, PlainSteps.{step_at, step_of, plain_run}, Threads.{Attempt, Thread}, declared.plain.Act.Act}
 use Rattle.machine_types.proofs.Lists.{got_when_set, got_other, got_below}
 use Rattle.laws_states.{specs.HeapFacts.{objects_by, objects_of}, proofs.{Assembled.got_set, Lists.same_or_not}}
-use Rattle.laws_simulation.specs.{StandsBeside.{IsAmong, IsBeingMade, IsPlainNew, StandsBeside, ends_shown}, StepsBeside.StepsBeside}
+use Rattle.laws_simulation.{specs.{StandsBeside.{IsAmong, IsBeingMade, IsPlainNew, StandsBeside, ends_shown}, StepsBeside.StepsBeside}, proofs.Turns.Turn}
 use Rattle.jvm_types.specs.declared.outcome.End.TheVariants as ends
 use Rattle.machine_types.specs.declared.phase.Phase.TheVariants as phases
 
@@ -40,8 +39,10 @@ pub record Assembled (p : Program) (s : Core) (q : Plain) (t : ℕ) (words : Lis
   pub part : x.part ≡ was.part
   pub rests : was.phase ≡ phases.Ended ends.Returned → x.phase ≡ phases.Ended ends.Returned
 
-module _ (p : Program) (objects : List Object) (s : Core) (q : Plain) (t : ℕ) (words : List ℕ) (was x : Thread) (holdings : List Holding) (plains : List PlainThread) (prints : List Printed)
-    (beside : StandsBeside p objects s q) (here : slice_get s.threads t ≡ Some was) (k : Assembled p s q t words was x holdings plains prints) where
+module _ (p : Program) (objects : List Object) (s : Core) (q : Plain) (t : ℕ) (words : List ℕ)
+    (was x : Thread) (holdings : List Holding) (plains : List PlainThread) (prints : List Printed)
+    (beside : StandsBeside p objects s q) (here : slice_get s.threads t ≡ Some was)
+    (k : Assembled p s q t words was x holdings plains prints) where
   -- a thread of the new list is t, or as it was
   by_thread : (u : ℕ) (z : Thread) → slice_get (slice_set s.threads t x) u ≡ Some z → ((u ≡ t) × (z ≡ x)) ⊎ ((u ≢ t) × (slice_get s.threads u ≡ Some z))
   by_thread u z e = got_set s.threads t u x z e
@@ -115,8 +116,10 @@ pub record Moved (p : Program) (s : Core) (q : Plain) (t : ℕ) (words : List �
   pub part : x.part ≡ was.part
   pub rests : was.phase ≡ phases.Ended ends.Returned → x.phase ≡ phases.Ended ends.Returned
 
-module _ (p : Program) (objects : List Object) (s : Core) (q : Plain) (t : ℕ) (words : List ℕ) (was x : Thread) (holdings : List Holding) (y : PlainThread) (prints : List Printed)
-    (beside : StandsBeside p objects s q) (here : slice_get s.threads t ≡ Some was) (k : Moved p s q t words was x holdings y prints) where
+module _ (p : Program) (objects : List Object) (s : Core) (q : Plain) (t : ℕ) (words : List ℕ)
+    (was x : Thread) (holdings : List Holding) (y : PlainThread) (prints : List Printed)
+    (beside : StandsBeside p objects s q) (here : slice_get s.threads t ≡ Some was)
+    (k : Moved p s q t words was x holdings y prints) where
   -- of another thread
   still_fits : (u : ℕ) (z : Thread) (a : Option Attempt) (v : PlainThread) → u ≢ t → ThreadFits p (has_wait_bit (references_of q.objects) s.words u) z a v → ThreadFits p (has_wait_bit (references_of q.objects) words u) z a v
   still_fits u z a v n h =
@@ -167,14 +170,16 @@ module _ (p : Program) (objects : List Object) (s : Core) (q : Plain) (t : ℕ) 
 pub one_step : (p : Program) (q after : Plain) (t : ℕ) (y : PlainThread) (act : Act) → slice_get q.threads t ≡ Some y → step_at p q t y act y.status ≡ Some after → plain_run p q (steps_of t (act ∷ [])) ≡ Some after
 one_step p q after t y act e f = ap (λ (o : Option PlainThread). option_and_then (λ r. plain_run p r []) (step_of p q t act o)) e ∙ ap (λ (o : Option Plain). option_and_then (λ r. plain_run p r []) o) f
 
--- an event of thread x, which stores no header
-pub steps_beside : (c : MarkedProgram) (objects : List Object) (s : Core) (t : ℕ) (x : Thread) (q after : Plain) → slice_get s.threads t ≡ Some x → objects_by c.program x.phase objects ≡ objects
-    → plain_run c.program q (steps_of t (acts_of c x x.phase (found_by s.words (wanted c x x.phase)))) ≡ Some after
-    → StandsBeside c.program objects (record { words = words_after s.words (wanted c x x.phase); threads = slice_set s.threads t (moved c x x.phase (found_by s.words (wanted c x x.phase))) }) after
-    → StepsBeside c objects s t x q
-steps_beside c objects s t x q after here old run beside = record {
-  after = after;
-  run = run;
-  beside = subst (λ (os : List Object). StandsBeside c.program os (event c s t) after) (sym (ap (λ (o : Option Thread). objects_of c.program o objects) here ∙ old))
-      (subst (λ (r : Core). StandsBeside c.program objects r after) (sym (ap (event_of c s t) here)) beside);
-}
+-- an event that stores no header
+module _ (turn : Turn) (after : Plain) where
+  open turn use {c, objects, s, t, x, q, here}
+
+  pub steps_beside : objects_by c.program x.phase objects ≡ objects → plain_run c.program q (steps_of t (acts_of c x x.phase (found_by s.words (wanted c x x.phase)))) ≡ Some after
+      → StandsBeside c.program objects (record { words = words_after s.words (wanted c x x.phase); threads = slice_set s.threads t (moved c x x.phase (found_by s.words (wanted c x x.phase))) }) after
+      → StepsBeside c objects s t x q
+  steps_beside old run beside = record {
+    after = after;
+    run = run;
+    beside = subst (λ (os : List Object). StandsBeside c.program os (event c s t) after) (sym (ap (λ (o : Option Thread). objects_of c.program o objects) here ∙ old))
+        (subst (λ (r : Core). StandsBeside c.program objects r after) (sym (ap (event_of c s t) here)) beside);
+  }

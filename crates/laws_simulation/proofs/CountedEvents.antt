@@ -2,19 +2,18 @@
 use Rattle.std.proofs.Common.{◌≡◌, ℕ, ◌+◌, nat_lt, Bool, true, false, cond, List, [], ◌∷◌, ◌++◌, Option, Some, None, refl, sym, ap, ◌∙◌, subst, arith, ◌==◌, if◌then◌else◌, option_map, option_and_then, slice_get}
 use Rattle.std.specs.List.{AllByRecursion}
 use Rattle.jvm_types.specs.declared.{outcome.{End.End, Print.Print, Thrown.Thrown}, program.Program.Program}
-use Rattle.checked_program.specs.MarkedProgram.{MarkedProgram}
-use Rattle.machine_types.specs.{Agreement.{StatusFits, frames_shown, depth_for}, Counting.{is_free, one_if, run_at, take_at, count_along, extra_of}, Events.{moved, element_made}}
-use Rattle.machine_types.specs.{Frames.{Top, top_of, effect_at, went_on, pushed}, Going.{with_phase, goes_on_if, goes_on, failed_turn, runs}}
+use Rattle.machine_types.specs.{Agreement.{StatusFits, frames_shown, depth_for, depth_of, has_wait_bit}, Counting.{is_free, one_if, run_at, take_at, count_along, extra_of}}
+use Rattle.machine_types.specs.{Events.{moved, element_made}, Frames.{Top, top_of, effect_at, went_on, pushed}, Going.{with_phase, goes_on_if, goes_on, failed_turn, runs}}
 use Rattle.machine_types.specs.{HeldMonitors.{held_at, depth_at, with_held, deeper, shallower, without_held}, History.{acts_of, steps_of, act_if, notified_by, release_acts, leave_acts}}
 use Rattle.machine_types.specs.{Instructions.{has_print_left, printed}, Ints.{low, int_of}, LockWords.word_of_lock, Monitors.{takes, claim_by, Claim, Has, Tries, HasNot, claim, lowest_of}}
-use Rattle.machine_types.specs.{Onward.{Running, threw, Onward}, PlainInstructions.plain_instructed, PlainState.{Plain, PlainThread, Status, Holding, holding_at}}
+use Rattle.machine_types.specs.{Onward.{Running, threw, Onward}, Owners.references_of, PlainInstructions.plain_instructed, PlainState.{Plain, PlainThread, Status, Holding, holding_at}}
 use Rattle.machine_types.specs.{PlainSteps.{plain_run, plain_step, plain_entered, step_at, step_of}, Threads.{Frame, Thread, Attempt}, Words.value_word, declared.effect.Effect.Effect}
 use Rattle.machine_types.specs.declared.{effect.Effect.TheVariants.{Indexes, Makes, Prints, Waits, Notifies, NotifiesAll, Stuck}, lock.{Held.Held, Kept.Kept}, phase.Phase.Phase, plain.Act.Act}
 use Rattle.machine_types.specs.declared.plain.PlainStep.{PlainStep}
 use Rattle.laws_threads.specs.TopFrames.{IsAllowed}
 use Rattle.laws_threads.proofs.ThreadMove.{Looks, Lacks, GoesBy, LeadsTo, TurnsTo, Takes, Refuses, IsByDone, IsNotify, Asks, WaitsFrom, Move, becomes, begun_attempt, counting, begun_by, counted_move, gives_up_in, tried_attempt}
-use Rattle.laws_simulation.proofs.CalmEvents.{IsCalm, Calm, no_extra, failed, goes, goes_if, changed, ran}
-use Rattle.laws_simulation.proofs.PlainCounts.{none_along, first_along, NeverCount, is_do, is_enter, not_run, not_taken, did_run, did_throw, did_enter}
+use Rattle.laws_simulation.proofs.{CalmEvents.{IsCalm, Calm, no_extra, failed, goes, goes_if, changed, ran}, OwnThread.own}
+use Rattle.laws_simulation.proofs.{PlainCounts.{none_along, first_along, NeverCount, is_do, is_enter, not_run, not_taken, did_run, did_throw, did_enter}, Turns.Turn}
 use Rattle.jvm_types.specs.declared.outcome.End.TheVariants as ends
 use Rattle.machine_types.specs.History as history
 use Rattle.machine_types.specs.PlainState as plain
@@ -143,7 +142,17 @@ none_is_calm (phases.Ending e) k = absurd k
 none_is_calm (phases.Ended e) k = absurd k
 none_is_calm phase k = tt
 
-module _ (c : MarkedProgram) (bit : ℕ → Bool) (t : ℕ) (s : Thread) (q after : Plain) (x : PlainThread) (there : slice_get q.threads t ≡ Some x) (monitors : (m : ℕ) → depth_for t (holding_at q.holdings m) ≡ depth_at s.held m) (got : ℕ) where
+-- s is the thread, and x its plain one
+module _ (turn : Turn) (after : Plain) (got : ℕ) where
+  open turn use {c, q, t, x as s}
+  open own turn use {plain as x, here as there}
+
+  abbrev bit : ℕ → Bool
+  bit = has_wait_bit (references_of q.objects) turn.s.words t
+
+  monitors : (m : ℕ) → depth_for t (holding_at q.holdings m) ≡ depth_at s.held m
+  monitors m = turn.beside.agrees.monitors t m ∙ ap (λ (o : Option Thread). depth_of o m) turn.here
+
   abbrev runs_of : List Act → ℕ
   runs_of acts = count_along c.program (run_at t) (steps_of t acts) q
 

@@ -3,19 +3,17 @@ use Rattle.std.proofs.Common.{◌≡◌, ℕ, ◌<◌, nat_lt, Bool, true, false
 use Rattle.std.proofs.lemmas.Bool.Decides.{nat_tests}
 use Rattle.jvm_types.specs.declared.{class_numbers.TheConstants.INT_ARRAY_CLASS, code.{Insn.Insn, Op.Op}, fixed_words.TheConstants.NEXT_FREE_WORD, op_row.OpRow.OpRow}
 use Rattle.jvm_types.specs.declared.{outcome.Thrown.TheVariants.ArrayIndexOutOfBoundsException, program.{MethodInfo.MethodInfo, Program.Program, Target.Target}}
-use Rattle.checked_program.specs.{MarkedProgram.MarkedProgram, TaggedCode.row_of}
-use Rattle.machine_types.specs.{Agreement.has_wait_bit, Core.Core, Effects.effect, Events.{element_made, wanted, moved}, Frames.{Top, top_of, effect_at, went_on}, Going.{goes_on, goes_on_if}}
-use Rattle.machine_types.specs.{History.{acts_of, steps_of}, Ints.low, Onward.{Running, threw}, Owners.references_of, PlainInstructions.{plain_did, indexed_in, plain_instructed, instructed_by}}
-use Rattle.machine_types.specs.{PlainMemory.Object, PlainState.{Plain, PlainThread, value_at, written, with_thread}, PlainSteps.{step_at, plain_run}, Structure.{PhaseShows, TopIs, is_element_op}}
-use Rattle.machine_types.specs.{Threads.{Frame, Thread}, Typed.{FramesHold, HasClass, IsElementOn, ElementStands, HasElement, HasElementOn, HasElementIn}, Waiting.MayWait}
-use Rattle.machine_types.specs.{Words.{header_length, header_word, value_word}, declared.{access.Access.TheVariants.{Load, Store}, config.Config.Config, effect.Effect.Effect}}
-use Rattle.machine_types.specs.declared.{effect.Effect.TheVariants.{Throws, Indexes}, phase.Phase.Phase}
+use Rattle.checked_program.specs.TaggedCode.{row_of}
+use Rattle.machine_types.specs.{Effects.effect, Events.{element_made, wanted, moved}, Frames.{Top, top_of, effect_at, went_on}, Going.{goes_on, goes_on_if}, History.{acts_of, steps_of}, Ints.low}
+use Rattle.machine_types.specs.{Onward.{Running, threw}, PlainInstructions.{plain_did, indexed_in, plain_instructed, instructed_by}, PlainMemory.Object}
+use Rattle.machine_types.specs.{PlainState.{Plain, PlainThread, value_at, written, with_thread}, PlainSteps.{step_at, plain_run}, Structure.{PhaseShows, TopIs, is_element_op}, Threads.{Frame, Thread}}
+use Rattle.machine_types.specs.{Typed.{FramesHold, HasClass, IsElementOn, ElementStands, HasElement, HasElementOn, HasElementIn}, Words.{header_length, header_word, value_word}}
+use Rattle.machine_types.specs.declared.{access.Access.TheVariants.{Load, Store}, effect.Effect.{Effect, TheVariants.{Throws, Indexes}}, phase.Phase.Phase}
 use Rattle.laws_threads.{specs.Allowed.{Allowed, IsOf}, proofs.{Landing.stand_top, Onwards.same_op, Standings.top_here, TopEffects.allowed_here}}
 use Rattle.laws_states.{specs.{HeapFacts.objects_by, Sites.{HeaderOf, ValueOf}}, proofs.{Accesses.out_there, Found.length_found, Lists.contained_got, Places.same_object}}
-use Rattle.laws_simulation.{specs.StepsBeside.StepsBeside, proofs.{Assembled.one_step, MemoryParts.{stays, writes}, OwnThread.IsBusy, PlainValues.value_found}}
-use Rattle.laws_simulation.proofs.{RunScene.{twin, runs_on, frames_are, status_fits, values}, Scene.{Scene, GoesOn, Memory, awake, counts_as, going, none_on, comes_beside, steps_of_event, looked}}
+use Rattle.laws_simulation.{specs.StepsBeside.StepsBeside, proofs.{Assembled.one_step, EventSteps.gone_on, MemoryParts.{stays, writes}, OwnThread.{IsBusy, own, not_ended}, PlainValues.value_found}}
+use Rattle.laws_simulation.proofs.{RunScene.{runs_on, frames_are, status_fits, values}, Scene.{Scene, GoesOn, Memory, awake, counts_as, going, comes_beside, steps_of_event, looked}}
 use Rattle.jvm_types.specs.declared.code.Op.TheVariants as ops
-use Rattle.jvm_types.specs.declared.outcome.End.TheVariants as ends
 use Rattle.jvm_types.specs.declared.outcome.Thrown.TheVariants as thrown
 use Rattle.machine_types.specs.PlainState as plain
 use Rattle.machine_types.specs.declared.phase.Phase.TheVariants as phases
@@ -66,7 +64,9 @@ one_on w v (Some n) [] e f = absurd e
 one_on w v (Some n) (u ∷ []) e f = absurd e
 one_on w v (Some n) (u ∷ i ∷ []) e f = absurd e
 
-module _ (c : MarkedProgram) (cfg : Config) (objects : List Object) (was : ℕ → Phase) (s : Core) (t : ℕ) (x : Thread) (q : Plain) (scene : Scene c cfg objects was s t x q) where
+module _ (scene : Scene) where
+  open scene use {turn, c, objects, was, s, t, x, q}
+
   -- the instruction that the event ends, with the element at the word
   pub record Element (word : ℕ) (stored : Option ℕ) : Type 0 where
     pub at : Top
@@ -113,18 +113,18 @@ module _ (c : MarkedProgram) (cfg : Config) (objects : List Object) (was : ℕ �
 
   module _ (word : ℕ) (stored : Option ℕ) (phase_is : x.phase ≡ phases.Element word stored) where
     was_so : was t ≡ phases.Element word stored
-    was_so = counts_as c cfg objects was s t x q scene (phases.Element word stored) phase_is
+    was_so = counts_as turn (phases.Element word stored) phase_is
 
     k : Element word stored
     k =
         let own = scene.facts.structure t x scene.here in
         let stands = own.stands in
         let shows : PhaseShows c (phases.Element word stored) x.frames stands.shown x.held x.attempt = subst (λ (z : Phase). PhaseShows c z x.frames stands.shown x.held x.attempt) was_so stands.phase_shows in
-        let holds = values c cfg objects was s t x q scene (phases.Element word stored) phase_is in
+        let holds = values turn (phases.Element word stored) phase_is in
         element_in word stored x.frames refl holds.0 holds.1 (scene.facts.heap.typed.elements t x word stored scene.here phase_is) shows
 
     abbrev y : PlainThread
-    y = (twin c cfg objects was s t x q scene).plain
+    y = (own turn).plain
 
     abbrev place : ℕ
     place = value_word k.array (low k.index)
@@ -147,26 +147,17 @@ module _ (c : MarkedProgram) (cfg : Config) (objects : List Object) (was : ℕ �
         let below : low k.index < header_length header = omega (arith, k.element.below, long, ap (λ (o : Object). length o.values) one) in
         grind (arith, nat_tests, below)
 
-    lives : x.phase ≡ phases.Ended ends.Returned → ⊥
-    lives h = let both : phases.Element word stored ≡ phases.Ended ends.Returned = sym phase_is ∙ h in cc
-
     makes_none : (a header : ℕ) → x.phase ≡ phases.Made a header → ⊥
     makes_none a header h = let both : phases.Element word stored ≡ phases.Made a header = sym phase_is ∙ h in cc
 
-    goes : (made : ℕ) → GoesOn c.program (has_wait_bit (references_of q.objects) s.words t) x (goes_on x (Running (went_on c.program k.at made))) (plain.plain_goes_on y (Running (went_on c.program k.at made)))
-    goes made = going c.program (has_wait_bit (references_of q.objects) s.words t) x x y (Running (went_on c.program k.at made)) refl scene.outside refl
-        (awake c cfg objects was s t x q scene (λ r h. subst (λ (z : Phase). MayWait z r) was_so h)) (runs_on c cfg objects was s t x q scene (subst IsBusy (sym phase_is) tt))
-
-    same_frames : y.frames ≡ x.frames
-    same_frames = frames_are c cfg objects was s t x q scene (phases.Element word stored) phase_is
-
-    same_status : y.status ≡ plain.Run
-    same_status = status_fits c cfg objects was s t x q scene (phases.Element word stored) phase_is
+    goes : (made : ℕ) → GoesOn turn (goes_on x (Running (went_on c.program k.at made))) (plain.plain_goes_on y (Running (went_on c.program k.at made)))
+    goes made = going turn x y (Running (went_on c.program k.at made)) refl scene.outside refl
+        (awake turn (phases.Element word stored) was_so (λ r h. h)) (runs_on turn (subst IsBusy (sym phase_is) tt))
 
     run_is : plain_run c.program q (steps_of t (acts.Do ∷ [])) ≡ Some (indexed_in c.program q t y k.at place stored (slice_index s.words place))
-    run_is = one_step c.program q (indexed_in c.program q t y k.at place stored (slice_index s.words place)) t y acts.Do (twin c cfg objects was s t x q scene).here
-        (ap (step_at c.program q t y acts.Do) same_status
-        ∙ (ap (λ (fs : List Frame). plain_instructed c.program q t y (top_of c.program fs)) same_frames
+    run_is = one_step c.program q (indexed_in c.program q t y k.at place stored (slice_index s.words place)) t y acts.Do (own turn).here
+        (ap (step_at c.program q t y acts.Do) (status_fits turn (phases.Element word stored) phase_is)
+        ∙ (ap (λ (fs : List Frame). plain_instructed c.program q t y (top_of c.program fs)) (frames_are turn (phases.Element word stored) phase_is)
         ∙ (ap (plain_instructed c.program q t y) k.found
         ∙ (ap (instructed_by c.program q t y k.at) k.effect_is
         ∙ (ap (option_and_then (λ (n : ℕ). plain_did c.program q t y k.at (Indexes k.array k.index stored) n)) header_stands
@@ -195,7 +186,7 @@ module _ (c : MarkedProgram) (cfg : Config) (objects : List Object) (was : ℕ �
     read_shown = plain.plain_goes_on (y word None phase_is) (Running (went_on c.program read.at value))
 
     pub read_steps : StepsBeside c objects s t x q
-    read_steps = steps_of_event c cfg objects was s t x q scene objects (Some (Load word)) (acts.Do ∷ []) read_now
+    read_steps = steps_of_event turn objects (Some (Load word)) (acts.Do ∷ []) read_now
         (ap (λ (z : Phase). objects_by c.program z objects) phase_is)
         (ap (wanted c x) phase_is)
         (ap (λ (z : Phase). acts_of c x z value) phase_is)
@@ -203,8 +194,8 @@ module _ (c : MarkedProgram) (cfg : Config) (objects : List Object) (was : ℕ �
         (record {
           after = with_thread q t read_shown;
           run = run_is word None phase_is ∙ ap (λ (n : ℕ). Some (with_thread q t (plain.plain_goes_on (y word None phase_is) (Running (went_on c.program read.at n))))) word_value;
-          beside = comes_beside c cfg objects was s t x q scene objects (slice_set s.words word value) q read_now (y word None phase_is) read_shown (twin c cfg objects was s t x q scene).here (lives word None phase_is) (goes word None phase_is value)
-              (stays c cfg objects was s t x q scene (slice_set s.words word value) read_now (looked s.words word) (makes_none word None phase_is) (none_on x (Running (went_on c.program read.at value))));
+          beside = comes_beside turn objects (slice_set s.words word value) q read_now read_shown (not_ended x.phase (subst IsBusy (sym phase_is) tt)) (goes word None phase_is value)
+              (stays scene (slice_set s.words word value) read_now (looked s.words word) (makes_none word None phase_is) (gone_on x (Running (went_on c.program read.at value))).makes);
         })
 
   -- ---- an element that is stored
@@ -222,13 +213,13 @@ module _ (c : MarkedProgram) (cfg : Config) (objects : List Object) (was : ℕ �
     abbrev store_shown : PlainThread
     store_shown = plain.plain_goes_on (y word (Some v) phase_is) (Running (went_on c.program store.at 0))
 
-    store_memory : Memory c.program objects s (slice_set s.words word v) q (written q word v) t store_now
-    store_memory = subst (λ (n : ℕ). Memory c.program objects s (slice_set s.words n v) q (written q n v) t store_now) (sym store.word_is)
-        (writes c cfg objects was s t x q scene (ValueOf store.array (low store.index)) tt (store.element.object, store.element.there, store.element.is, store.element.below) v (slice_index s.words at_word) (stands word (Some v) phase_is) store_now
-        (makes_none word (Some v) phase_is) (none_on x (Running (went_on c.program store.at 0))))
+    store_memory : Memory turn objects (slice_set s.words word v) (written q word v) store_now
+    store_memory = subst (λ (n : ℕ). Memory turn objects (slice_set s.words n v) (written q n v) store_now) (sym store.word_is)
+        (writes scene (ValueOf store.array (low store.index)) tt (store.element.object, store.element.there, store.element.is, store.element.below) v (slice_index s.words at_word) (stands word (Some v) phase_is) store_now
+        (makes_none word (Some v) phase_is) (gone_on x (Running (went_on c.program store.at 0))).makes)
 
     pub store_steps : StepsBeside c objects s t x q
-    store_steps = steps_of_event c cfg objects was s t x q scene objects (Some (Store word v)) (acts.Do ∷ []) store_now
+    store_steps = steps_of_event turn objects (Some (Store word v)) (acts.Do ∷ []) store_now
         (ap (λ (z : Phase). objects_by c.program z objects) phase_is)
         (ap (wanted c x) phase_is)
         (ap (λ (z : Phase). acts_of c x z (slice_index s.words word)) phase_is)
@@ -236,7 +227,7 @@ module _ (c : MarkedProgram) (cfg : Config) (objects : List Object) (was : ℕ �
         (record {
           after = with_thread (written q word v) t store_shown;
           run = run_is word (Some v) phase_is ∙ ap (λ (n : ℕ). Some (with_thread (written q n v) t store_shown)) (sym store.word_is);
-          beside = comes_beside c cfg objects was s t x q scene objects (slice_set s.words word v) (written q word v) store_now (y word (Some v) phase_is) store_shown (twin c cfg objects was s t x q scene).here (lives word (Some v) phase_is)
+          beside = comes_beside turn objects (slice_set s.words word v) (written q word v) store_now store_shown (not_ended x.phase (subst IsBusy (sym phase_is) tt))
               (goes word (Some v) phase_is 0) store_memory;
         })
 

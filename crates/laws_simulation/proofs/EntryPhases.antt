@@ -2,17 +2,16 @@
 use Rattle.std.proofs.Common.{◌≡◌, inl, ℕ, ◌+◌, ◌-◌, ◌<◌, nat_lt, Bool, true, false, cond, List, [], ◌∷◌, length, drop, Option, Some, None, refl, sym, ap, ◌∙◌, subst, arith, slice_index, slice_set, ◌==◌}
 use Rattle.std.proofs.lemmas.Bool.{ne_eqb, Decides.{nat_tests, Decides-eqb}}
 use Rattle.jvm_types.specs.declared.{fixed_words.TheConstants.MONITOR_RECORDS, limits.TheConstants.FLAG_FROM}
-use Rattle.checked_program.specs.MarkedProgram.{MarkedProgram}
-use Rattle.machine_types.specs.{Accesses.{found_by, words_after}, Agreement.{StatusFits, depth_for, has_wait_bit}, Core.Core, Elision.{begins, tries}, Going.{failed_turn, with_phase, runs}}
+use Rattle.machine_types.specs.{Accesses.{found_by, words_after}, Agreement.{StatusFits, depth_for, has_wait_bit}, Elision.{begins, tries}, Going.{failed_turn, with_phase, runs}}
 use Rattle.machine_types.specs.{HeldMonitors.{held_at, with_held, deeper}, History.{act_if, enter_acts}, LockWords.{word_of_lock, lock_of}}
-use Rattle.machine_types.specs.{Monitors.{claim_by, enter_wants, enter_moves, acquires, takes}, Owners.{NotHeld, HeldFat, hold_by_word, lock_at, owner_at, references_of}, PlainMemory.Object}
-use Rattle.machine_types.specs.{PlainState.{Plain, holding_at, with_holding, with_status}, StartLaws.StartLiesApart, Threads.{Attempt, Frame, Thread}, Words.owner_word, declared.config.Config.Config}
-use Rattle.machine_types.specs.declared.{lock.{Held.Held, Kept.Kept, LockWord.LockWord}, phase.Phase.Phase}
+use Rattle.machine_types.specs.{Monitors.{claim_by, enter_wants, enter_moves, acquires, takes}, Owners.{NotHeld, HeldFat, hold_by_word, lock_at, owner_at, references_of}}
+use Rattle.machine_types.specs.{PlainState.{Plain, holding_at, with_holding, with_status}, StartLaws.StartLiesApart, Threads.{Attempt, Frame}, Words.owner_word, declared.lock.{Held.Held, Kept.Kept}}
+use Rattle.machine_types.specs.declared.{lock.LockWord.LockWord, phase.Phase.Phase}
 use Rattle.laws_threads.proofs.HeldLists.{held_monitor}
-use Rattle.laws_states.{specs.{SiteLaws.{SitesDiffer, SitesLieInside}, Sites.HasObject}, proofs.{LockViews.not_held, WordViews.{lock_of_word, object_has, set_self}}}
+use Rattle.laws_states.{specs.Sites.HasObject, proofs.{LockViews.not_held, WordViews.{lock_of_word, object_has, set_self}}}
 use Rattle.laws_simulation.{specs.StandsBeside.ends_shown, proofs.{GoingOnAlike.{ends_before, none_ends}, HoldingsAlike.{alone, held_depth_is, holds_then, free_then, alike_put, alike_kept}}}
-use Rattle.laws_simulation.proofs.{Landing.{WordsStay, words_stay, stays}, LockPlain.{enters_first, enters_again}}
-use Rattle.laws_simulation.proofs.{Moving.{IsCalm, Moving, Makes, steps_as, to_phase, turned, stays_itself, runs_fits, runs_old}, WordsAround.{thin_stays, owner_stays}}
+use Rattle.laws_simulation.proofs.{Landing.{WordsStay, Makes, words_stay, stays}, LockPlain.{enters_first, enters_again}}
+use Rattle.laws_simulation.proofs.{Moving.{IsCalm, steps_as, to_phase, turned, stays_itself, runs_fits, runs_old}, OwnThread.Moving, Scene.Scene, WordsAround.{low, thin_stays, owner_stays}}
 use Rattle.jvm_types.specs.declared.outcome.End.TheVariants as ends
 use Rattle.machine_types.specs.PlainState as plain
 use Rattle.machine_types.specs.declared.lock.Kept.TheVariants as keeps
@@ -20,9 +19,8 @@ use Rattle.machine_types.specs.declared.lock.LockWord.TheVariants as locks
 use Rattle.machine_types.specs.declared.phase.Phase.TheVariants as phases
 use Rattle.machine_types.specs.declared.plain.Act.TheVariants as acts
 
-module _ (lies : StartLiesApart) (differ : SitesDiffer) (inside : SitesLieInside) (c : MarkedProgram) (cfg : Config) (objects : List Object) (was : ℕ → Phase) (s : Core) (t : ℕ) (x : Thread) (q : Plain) (k : Moving c cfg objects was s t x q) where
-  pub low : (m r : ℕ) → lock_at (references_of objects) s.words m ≡ locks.Fat r → r < MONITOR_RECORDS
-  low m r e = (k.facts.owners.locks_are.below m r e).1
+module _ (lies : StartLiesApart) (scene : Scene) (k : Moving scene.turn) where
+  open scene use {c, objects, s, t, x, q, facts, beside, here}
 
   -- ---- what the words say
 
@@ -39,8 +37,8 @@ module _ (lies : StartLiesApart) (differ : SitesDiffer) (inside : SitesLieInside
   -- ---- nobody holds the monitor
 
   by_words : (m : ℕ) (l : LockWord) → lock_at (references_of objects) s.words m ≡ l → ((u : ℕ) → hold_by_word u l (owner_at s.words) ≡ NotHeld) → holding_at q.holdings m ≡ None
-  by_words m l e none = free_then q.holdings s.threads k.beside.agrees.monitors m
-      (λ u y there. let owns = k.facts.owners.each u y there in not_held (held_at y.held m) (sym (owns.holds m) ∙ ap (λ (j : LockWord). hold_by_word u j (owner_at s.words)) e ∙ none u))
+  by_words m l e none = free_then q.holdings s.threads beside.agrees.monitors m
+      (λ u y there. let owns = facts.owners.each u y there in not_held (held_at y.held m) (sym (owns.holds m) ∙ ap (λ (j : LockWord). hold_by_word u j (owner_at s.words)) e ∙ none u))
 
   pub nobody_free : (m seen : ℕ) → lock_at (references_of objects) s.words m ≡ locks.Free seen → holding_at q.holdings m ≡ None
   nobody_free m seen e = by_words m (locks.Free seen) e (λ u. refl)
@@ -53,39 +51,39 @@ module _ (lies : StartLiesApart) (differ : SitesDiffer) (inside : SitesLieInside
 
   -- ---- it has the monitor already
 
-  pub enters_deeper : (m : ℕ) (h : Held) → held_at x.held m ≡ Some h → k.z.status ≡ plain.Enter m → Makes c cfg objects was s t x q k (acts.Enter ∷ []) s.words (runs (record x { held = with_held (deeper h) x.held }))
-  enters_deeper m h e status = steps_as c cfg objects was s t x q k acts.Enter s.words (runs (record x { held = with_held (deeper h) x.held }))
+  pub enters_deeper : (m : ℕ) (h : Held) → held_at x.held m ≡ Some h → k.z.status ≡ plain.Enter m → Makes k (acts.Enter ∷ []) s.words (runs (record x { held = with_held (deeper h) x.held }))
+  enters_deeper m h e status = steps_as k acts.Enter s.words (runs (record x { held = with_held (deeper h) x.held }))
       (with_holding (record { monitor = m; holder = t; depth = h.depth + 1 }) q.holdings) (with_status k.z plain.Run)
-      (enters_again c.program q t k.z k.here m h.depth status (holds_then q.holdings s.threads k.beside.agrees.monitors t m x h k.there e))
+      (enters_again c.program q t k.z k.twin m h.depth status (holds_then q.holdings s.threads beside.agrees.monitors t m x h here e))
       (words_stay objects s q)
-      (alike_put q.holdings s.threads k.beside.agrees.monitors t x (runs (record x { held = with_held (deeper h) x.held })) k.there m (deeper h) (held_monitor m x.held h e) refl
-      (λ u d. alone (holding_at q.holdings m) t u h.depth (held_depth_is q.holdings s.threads k.beside.agrees.monitors t m x h k.there e) d))
-      refl refl (runs_old (nat_lt x.counts.instructions x.cfg.steps)) (runs_fits c cfg objects was s t x q k (record x { held = with_held (deeper h) x.held }) refl refl refl)
+      (alike_put q.holdings s.threads beside.agrees.monitors t x (runs (record x { held = with_held (deeper h) x.held })) here m (deeper h) (held_monitor m x.held h e) refl
+      (λ u d. alone (holding_at q.holdings m) t u h.depth (held_depth_is q.holdings s.threads beside.agrees.monitors t m x h here e) d))
+      refl refl (runs_old (nat_lt x.counts.instructions x.cfg.steps)) (runs_fits k (record x { held = with_held (deeper h) x.held }) refl refl refl)
 
   -- ---- it takes the lock
 
-  pub takes_it : (words : List ℕ) (m : ℕ) (kept : Kept) → WordsStay objects s q words → k.z.status ≡ plain.Enter m → holding_at q.holdings m ≡ None → Makes c cfg objects was s t x q k (acts.Enter ∷ []) words (takes x m kept)
-  takes_it words m kept stay status none = steps_as c cfg objects was s t x q k acts.Enter words (takes x m kept) (with_holding (record { monitor = m; holder = t; depth = 1 }) q.holdings) (with_status k.z plain.Run)
-      (enters_first c.program q t k.z k.here m status none)
+  pub takes_it : (words : List ℕ) (m : ℕ) (kept : Kept) → WordsStay objects s q words → k.z.status ≡ plain.Enter m → holding_at q.holdings m ≡ None → Makes k (acts.Enter ∷ []) words (takes x m kept)
+  takes_it words m kept stay status none = steps_as k acts.Enter words (takes x m kept) (with_holding (record { monitor = m; holder = t; depth = 1 }) q.holdings) (with_status k.z plain.Run)
+      (enters_first c.program q t k.z k.twin m status none)
       stay
-      (alike_put q.holdings s.threads k.beside.agrees.monitors t x (takes x m kept) k.there m (record { monitor = m; kept = kept; depth = 1 }) refl refl (λ u d. ap (depth_for u) none))
-      refl refl (runs_old (nat_lt x.counts.instructions x.cfg.steps)) (runs_fits c cfg objects was s t x q k (record x { held = with_held (record { monitor = m; kept = kept; depth = 1 }) x.held; counts = record x.counts { locked = x.counts.locked + 1 } }) refl refl refl)
+      (alike_put q.holdings s.threads beside.agrees.monitors t x (takes x m kept) here m (record { monitor = m; kept = kept; depth = 1 }) refl refl (λ u d. ap (depth_for u) none))
+      refl refl (runs_old (nat_lt x.counts.instructions x.cfg.steps)) (runs_fits k (record x { held = with_held (record { monitor = m; kept = kept; depth = 1 }) x.held; counts = record x.counts { locked = x.counts.locked + 1 } }) refl refl refl)
 
   -- ---- it goes on to wait for it
 
   pub to_wait : (words : List ℕ) (m : ℕ) (phase : Phase) → WordsStay objects s q words → IsCalm phase → StatusFits (has_wait_bit (references_of q.objects) s.words t) (record x { turns = x.turns + 1; phase = phase }) phase k.z.status → k.z.status ≡ plain.Enter m
-      → Makes c cfg objects was s t x q k [] words (failed_turn x phase)
-  to_wait words m phase stay calm fits status = turned c cfg objects was s t x q k words phase stay calm fits (inl (m, status))
+      → Makes k [] words (failed_turn x phase)
+  to_wait words m phase stay calm fits status = turned k words phase stay calm fits (inl (m, status))
 
-  pub acquires_it : (words : List ℕ) (m : ℕ) (l : LockWord) → WordsStay objects s q words → k.z.status ≡ plain.Enter m → Makes c cfg objects was s t x q k [] words (acquires x m l)
-  acquires_it words m (locks.Free seen) stay status = to_phase c cfg objects was s t x q k words (phases.Take m seen) stay tt status
+  pub acquires_it : (words : List ℕ) (m : ℕ) (l : LockWord) → WordsStay objects s q words → k.z.status ≡ plain.Enter m → Makes k [] words (acquires x m l)
+  acquires_it words m (locks.Free seen) stay status = to_phase k words (phases.Take m seen) stay tt status
   acquires_it words m (locks.Held u) stay status = by_test (nat_lt (x.turns + 1) FLAG_FROM)
     where
-      by_test : (b : Bool) → Makes c cfg objects was s t x q k [] words (failed_turn x (cond b (phases.Acquire m) (phases.Flag m u)))
+      by_test : (b : Bool) → Makes k [] words (failed_turn x (cond b (phases.Acquire m) (phases.Flag m u)))
       by_test true = to_wait words m (phases.Acquire m) stay tt status status
       by_test false = to_wait words m (phases.Flag m u) stay tt status status
   acquires_it words m (locks.Flagged u) stay status = to_wait words m (phases.Acquire m) stay tt status status
-  acquires_it words m (locks.Fat r) stay status = to_phase c cfg objects was s t x q k words (phases.TakeFat m r) stay tt status
+  acquires_it words m (locks.Fat r) stay status = to_phase k words (phases.TakeFat m r) stay tt status
 
   -- ---- it tries the section without its lock
 
@@ -96,11 +94,11 @@ module _ (lies : StartLiesApart) (differ : SitesDiffer) (inside : SitesLieInside
   no_end true = none_ends c.program x.part x.roots phases.Run k.under_way.runs refl
   no_end false = none_ends c.program x.part x.roots (phases.Ending ends.Steps) k.under_way.runs refl
 
-  begins_it : (words : List ℕ) (m seen n : ℕ) (fs : List Frame) → WordsStay objects s q words → k.z.status ≡ plain.Enter m → x.frames ≡ fs → Makes c cfg objects was s t x q k [] words (begins x fs m seen n)
-  begins_it words m seen n [] stay status e = stays_itself c cfg objects was s t x q k words stay
-  begins_it words m seen n (f ∷ below) stay status e = stays c.program objects s q k.beside k.facts.heap.new_objects t x k.z k.there k.here k.busy k.old words (begins x (f ∷ below) m seen n) (record {
+  begins_it : (words : List ℕ) (m seen n : ℕ) (fs : List Frame) → WordsStay objects s q words → k.z.status ≡ plain.Enter m → x.frames ≡ fs → Makes k [] words (begins x fs m seen n)
+  begins_it words m seen n [] stay status e = stays_itself k words stay
+  begins_it words m seen n (f ∷ below) stay status e = stays k words (begins x (f ∷ below) m seen n) (record {
     stay = stay;
-    holds = alike_kept q.holdings s.threads k.beside.agrees.monitors t x (begins x (f ∷ below) m seen n) k.there refl;
+    holds = alike_kept q.holdings s.threads beside.agrees.monitors t x (begins x (f ∷ below) m seen n) here refl;
     fits = record {
       frames = k.frames ∙ e ∙ sym (put_back_same f below) ∙ ap (λ (fs : List Frame). f ∷ drop (length fs - length below) fs) (sym e);
       status = status;
@@ -111,66 +109,66 @@ module _ (lies : StartLiesApart) (differ : SitesDiffer) (inside : SitesLieInside
     part = refl;
   })
 
-  tries_it : (words : List ℕ) (m n : ℕ) (l : LockWord) → WordsStay objects s q words → k.z.status ≡ plain.Enter m → Makes c cfg objects was s t x q k [] words (tries x m n l)
+  tries_it : (words : List ℕ) (m n : ℕ) (l : LockWord) → WordsStay objects s q words → k.z.status ≡ plain.Enter m → Makes k [] words (tries x m n l)
   tries_it words m n (locks.Free seen) stay status = by_test (nat_lt seen x.cfg.range)
     where
-      by_test : (b : Bool) → Makes c cfg objects was s t x q k [] words (cond b (begins x x.frames m seen (n + 1)) (with_phase x (phases.Acquire m)))
+      by_test : (b : Bool) → Makes k [] words (cond b (begins x x.frames m seen (n + 1)) (with_phase x (phases.Acquire m)))
       by_test true = begins_it words m seen (n + 1) x.frames stay status refl
-      by_test false = to_phase c cfg objects was s t x q k words (phases.Acquire m) stay tt status
-  tries_it words m n (locks.Held u) stay status = to_phase c cfg objects was s t x q k words (phases.Acquire m) stay tt status
-  tries_it words m n (locks.Flagged u) stay status = to_phase c cfg objects was s t x q k words (phases.Acquire m) stay tt status
-  tries_it words m n (locks.Fat r) stay status = to_phase c cfg objects was s t x q k words (phases.Acquire m) stay tt status
+      by_test false = to_phase k words (phases.Acquire m) stay tt status
+  tries_it words m n (locks.Held u) stay status = to_phase k words (phases.Acquire m) stay tt status
+  tries_it words m n (locks.Flagged u) stay status = to_phase k words (phases.Acquire m) stay tt status
+  tries_it words m n (locks.Fat r) stay status = to_phase k words (phases.Acquire m) stay tt status
 
   -- ---- the phases
 
   pub entered : (m n : ℕ) (may : Bool) (o : Option Held) (a : Option Attempt) → held_at x.held m ≡ o → a ≡ None → k.z.status ≡ plain.Enter m
-      → Makes c cfg objects was s t x q k (enter_acts (claim_by m o a)) (words_after s.words (enter_wants m (claim_by m o a))) (enter_moves x m n may (claim_by m o a) (found_by s.words (enter_wants m (claim_by m o a))))
+      → Makes k (enter_acts (claim_by m o a)) (words_after s.words (enter_wants m (claim_by m o a))) (enter_moves x m n may (claim_by m o a) (found_by s.words (enter_wants m (claim_by m o a))))
   entered m n may (Some h) a e none status = enters_deeper m h e status
   entered m n may None (Some a) e none status = absurd (cc)
   entered m n true None None e none status = tries_it (slice_set s.words m (slice_index s.words m)) m n (lock_of (slice_index s.words m)) (loaded m) status
   entered m n false None None e none status = acquires_it (slice_set s.words m (slice_index s.words m)) m (lock_of (slice_index s.words m)) (loaded m) status
 
   pub took : (m seen : ℕ) → HasObject objects m → k.z.status ≡ plain.Enter m
-      → Makes c cfg objects was s t x q k (act_if (slice_index s.words m == word_of_lock (locks.Free seen)) acts.Enter)
+      → Makes k (act_if (slice_index s.words m == word_of_lock (locks.Free seen)) acts.Enter)
       (slice_set s.words m (cond (slice_index s.words m == word_of_lock (locks.Free seen)) (word_of_lock (locks.Held x.number)) (slice_index s.words m)))
       (cond (slice_index s.words m == word_of_lock (locks.Free seen)) (takes x m (keeps.Flat seen)) (failed_turn x (phases.Acquire m)))
   took m seen object status = by_test (slice_index s.words m == word_of_lock (locks.Free seen)) refl
     where
       by_test : (b : Bool) → (slice_index s.words m == word_of_lock (locks.Free seen)) ≡ b
-          → Makes c cfg objects was s t x q k (act_if b acts.Enter) (slice_set s.words m (cond b (word_of_lock (locks.Held x.number)) (slice_index s.words m))) (cond b (takes x m (keeps.Flat seen)) (failed_turn x (phases.Acquire m)))
+          → Makes k (act_if b acts.Enter) (slice_set s.words m (cond b (word_of_lock (locks.Held x.number)) (slice_index s.words m))) (cond b (takes x m (keeps.Flat seen)) (failed_turn x (phases.Acquire m)))
       by_test true e =
           let free : lock_at (references_of objects) s.words m ≡ locks.Free seen = lock_is m (locks.Free seen) object e in
           takes_it (slice_set s.words m (word_of_lock (locks.Held x.number))) m (keeps.Flat seen)
-          (thin_stays lies differ inside c objects s k.marked k.facts.heap low q k.beside m (word_of_lock (locks.Held x.number)) object (λ r f. let bad : locks.Free seen ≡ locks.Fat r = sym free ∙ f in cc)
+          (thin_stays lies scene m (word_of_lock (locks.Held x.number)) object (λ r f. let bad : locks.Free seen ≡ locks.Fat r = sym free ∙ f in cc)
           (λ r f. let bad : locks.Held x.number ≡ locks.Fat r = sym (lock_of_word (locks.Held x.number)) ∙ f in cc))
           status (nobody_free m seen free)
       by_test false e = to_wait (slice_set s.words m (slice_index s.words m)) m (phases.Acquire m) (loaded m) tt status status
 
   pub flagged : (m u : ℕ) → HasObject objects m → k.z.status ≡ plain.Enter m
-      → Makes c cfg objects was s t x q k [] (slice_set s.words m (cond (slice_index s.words m == word_of_lock (locks.Held u)) (word_of_lock (locks.Flagged u)) (slice_index s.words m))) (with_phase x (phases.Acquire m))
+      → Makes k [] (slice_set s.words m (cond (slice_index s.words m == word_of_lock (locks.Held u)) (word_of_lock (locks.Flagged u)) (slice_index s.words m))) (with_phase x (phases.Acquire m))
   flagged m u object status = by_test (slice_index s.words m == word_of_lock (locks.Held u)) refl
     where
       by_test : (b : Bool) → (slice_index s.words m == word_of_lock (locks.Held u)) ≡ b
-          → Makes c cfg objects was s t x q k [] (slice_set s.words m (cond b (word_of_lock (locks.Flagged u)) (slice_index s.words m))) (with_phase x (phases.Acquire m))
+          → Makes k [] (slice_set s.words m (cond b (word_of_lock (locks.Flagged u)) (slice_index s.words m))) (with_phase x (phases.Acquire m))
       by_test true e =
           let held : lock_at (references_of objects) s.words m ≡ locks.Held u = lock_is m (locks.Held u) object e in
-          to_phase c cfg objects was s t x q k (slice_set s.words m (word_of_lock (locks.Flagged u))) (phases.Acquire m)
-          (thin_stays lies differ inside c objects s k.marked k.facts.heap low q k.beside m (word_of_lock (locks.Flagged u)) object (λ r f. let bad : locks.Held u ≡ locks.Fat r = sym held ∙ f in cc)
+          to_phase k (slice_set s.words m (word_of_lock (locks.Flagged u))) (phases.Acquire m)
+          (thin_stays lies scene m (word_of_lock (locks.Flagged u)) object (λ r f. let bad : locks.Held u ≡ locks.Fat r = sym held ∙ f in cc)
           (λ r f. let bad : locks.Flagged u ≡ locks.Fat r = sym (lock_of_word (locks.Flagged u)) ∙ f in cc))
           tt status
-      by_test false e = to_phase c cfg objects was s t x q k (slice_set s.words m (slice_index s.words m)) (phases.Acquire m) (loaded m) tt status
+      by_test false e = to_phase k (slice_set s.words m (slice_index s.words m)) (phases.Acquire m) (loaded m) tt status
 
   low_record : (r : ℕ) → r < MONITOR_RECORDS → nat_lt r MONITOR_RECORDS ≡ true
   low_record r l = grind (arith, nat_tests, l)
 
   pub took_fat : (m r : ℕ) → lock_at (references_of objects) s.words m ≡ locks.Fat r → k.z.status ≡ plain.Enter m
-      → Makes c cfg objects was s t x q k (act_if (slice_index s.words (owner_word r) == 0) acts.Enter) (slice_set s.words (owner_word r) (cond (slice_index s.words (owner_word r) == 0) (x.number + 1) (slice_index s.words (owner_word r))))
+      → Makes k (act_if (slice_index s.words (owner_word r) == 0) acts.Enter) (slice_set s.words (owner_word r) (cond (slice_index s.words (owner_word r) == 0) (x.number + 1) (slice_index s.words (owner_word r))))
       (cond (slice_index s.words (owner_word r) == 0) (takes x m (keeps.Fat r)) (failed_turn x (phases.TakeFat m r)))
   took_fat m r fat status = by_test (slice_index s.words (owner_word r) == 0) refl
     where
       by_test : (b : Bool) → (slice_index s.words (owner_word r) == 0) ≡ b
-          → Makes c cfg objects was s t x q k (act_if b acts.Enter) (slice_set s.words (owner_word r) (cond b (x.number + 1) (slice_index s.words (owner_word r)))) (cond b (takes x m (keeps.Fat r)) (failed_turn x (phases.TakeFat m r)))
+          → Makes k (act_if b acts.Enter) (slice_set s.words (owner_word r) (cond b (x.number + 1) (slice_index s.words (owner_word r)))) (cond b (takes x m (keeps.Fat r)) (failed_turn x (phases.TakeFat m r)))
       by_test true e =
-          let none : owner_at s.words r ≡ 0 = ap (λ (b : Bool). cond b (slice_index s.words (owner_word r)) 0) (low_record r (low m r fat)) ∙ (Decides-eqb (slice_index s.words (owner_word r)) 0).0 e in
-          takes_it (slice_set s.words (owner_word r) (x.number + 1)) m (keeps.Fat r) (owner_stays lies differ inside c objects s k.marked k.facts.heap low q k.beside r (x.number + 1) (low m r fat)) status (nobody_fat m r fat none)
+          let none : owner_at s.words r ≡ 0 = ap (λ (b : Bool). cond b (slice_index s.words (owner_word r)) 0) (low_record r (low scene m r fat)) ∙ (Decides-eqb (slice_index s.words (owner_word r)) 0).0 e in
+          takes_it (slice_set s.words (owner_word r) (x.number + 1)) m (keeps.Fat r) (owner_stays lies scene r (x.number + 1) (low scene m r fat)) status (nobody_fat m r fat none)
       by_test false e = to_wait (slice_set s.words (owner_word r) (slice_index s.words (owner_word r))) m (phases.TakeFat m r) (loaded (owner_word r)) tt status status

@@ -7,8 +7,8 @@ use Rattle.machine_types.specs.{Accesses.found_by, Agreement.{StatusFits, has_wa
 use Rattle.machine_types.specs.{Frames.{Top, top_of, effect_at}, History.{acts_of, steps_of}, Instructions.{has_print_left, effect_wants, run_wants}, Ints.int_of, Owners.references_of}
 use Rattle.machine_types.specs.{PlainLaws.InstructionsChangeMemory, PlainSteps.plain_run, Structure.{IsAs, Stands}, Threads.{Attempt, Frame, Thread}, declared.access.Access.TheVariants.Add}
 use Rattle.machine_types.specs.declared.{effect.Effect.{Effect, TheVariants.Prints}, lock.Held.Held, phase.Phase.Phase}
-use Rattle.laws_simulation.{specs.OutcomeLaws.{PrintsAreKept, found_now}, proofs.{CountedEvents.{effect_print, top_print, new_print}, EventCounts.{tallied, mover}}}
-use Rattle.laws_simulation.proofs.{OutcomePrints.{fit_of, prints_of, printed_by}, PlainPrints.{with_printed, ElementShows, element_shows, printed_at}}
+use Rattle.laws_simulation.{specs.OutcomeLaws.{PrintsAreKept, found_now}, proofs.{CountedEvents.{effect_print, top_print, new_print}, EventCounts.{tallied, turn_of}}}
+use Rattle.laws_simulation.proofs.{OutcomePrints.{fit_of, prints_of, printed_by}, OwnThread.own, PlainPrints.{with_printed, ElementShows, element_shows, printed_at}}
 use Rattle.machine_types.specs.declared.phase.Phase.TheVariants as phases
 
 shows_at : (c : MarkedProgram) (phase was : Phase) (fs : List Frame) (held : List Held) (attempt : Option Attempt) → IsMarked c → IsAs phase was → Stands c was fs held attempt → ElementShows c.program phase fs
@@ -37,17 +37,17 @@ ticket_found c s phase words p e = absurd (cc)
 
 pub prints_are_kept : InstructionsChangeMemory → PrintsAreKept
 prints_are_kept memory c cfg objects was s t x q after h fit =
-    let m = mover c cfg objects was s t x q after h in
-    let y = m.plain_thread in
+    let m = own (turn_of h) in
+    let y = m.plain in
     let got = found_now c s x in
     let bit : ℕ → Bool = has_wait_bit (references_of q.objects) s.words t in
     let structured = h.facts.structure t x h.thread in
     let status = subst (λ (a : Option Attempt). StatusFits bit (record x { attempt = a }) x.phase y.status) h.outside m.fits.status in
     let run = subst (λ (a : Option Attempt). plain_run c.program q (steps_of t (acts_of c (record x { attempt = a }) x.phase got)) ≡ Some after) h.outside h.run in
     let later = subst (λ (a : Option Attempt). after.prints ≡ with_printed t q.prints (option_map (λ (p : Print). p.value) (new_print c.program (record x { attempt = a }) x.phase got))) (sym h.outside)
-    (printed_at memory c bit t x q after y m.there got x.phase status m.fits.frames (shows_at c x.phase (was t) x.frames x.held x.attempt h.marked structured.is_as structured.stands) run) in
+    (printed_at memory (turn_of h) after got x.phase status m.fits.frames (shows_at c x.phase (was t) x.frames x.held x.attempt h.marked structured.is_as structured.stands) run) in
     let now : Core = event_by c s t x (wanted c x x.phase) in
     let one : PrintsFit (outcome now) after =
-    prints_of now after (printed_by s.threads t x (moved c x x.phase got) h.thread q.prints after.prints (new_print c.program x x.phase got) (tallied c cfg objects was s t x q after h).prints later
+    prints_of now after (printed_by s.threads t x (moved c x x.phase got) h.thread q.prints after.prints (new_print c.program x x.phase got) (tallied (turn_of h) after h.run).prints later
     (λ p e. ticket_found c x x.phase s.words p e ∙ h.beside.agrees.prints) (fit_of s q fit)) in
     subst (λ (o : Option Thread). PrintsFit (outcome (event_of c s t o)) after) (sym h.thread) one

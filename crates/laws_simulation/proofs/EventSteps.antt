@@ -1,8 +1,7 @@
 -- An event by the access that it makes, what its thread becomes and the acts that it stands for: a phase, an instruction and an
 -- effect each say these.
-use Rattle.std.proofs.Common.{◌≡◌, ℕ, Bool, true, false, cond, List, [], ◌∷◌, length, Option, Some, None, refl, sym, ap, ◌∙◌, subst, slice_get, slice_index, slice_set, option_and_then}
+use Rattle.std.proofs.Common.{◌≡◌, ℕ, Bool, true, false, cond, List, [], ◌∷◌, length, Option, Some, None, refl, sym, ap, ◌∙◌, subst, slice_index, slice_set, option_and_then}
 use Rattle.jvm_types.specs.declared.{fixed_words.TheConstants.{NEXT_FREE_WORD, NEXT_TICKET_WORD}, program.Program.Program}
-use Rattle.checked_program.specs.MarkedProgram.{MarkedProgram}
 use Rattle.machine_types.specs.{Accesses.{found_by, words_after}, Agreement.{ThreadFits, depth_of, has_wait_bit}, Core.Core, Effects.read_by, Elision.{is_checked, if_same}, Events.{wanted, moved}}
 use Rattle.machine_types.specs.{Frames.{Top, top_of, effect_at}, Going.{goes_on, root_over}, HeldMonitors.depth_at, History.{acts_of, run_acts, instruction_acts, steps_of}}
 use Rattle.machine_types.specs.{Instructions.{effect_wants, run_wants, begun, did, instructed, ran}, Onward.{Onward, Running, Throwing, Entering, Leaving, RootReturned, Uncaught}}
@@ -10,38 +9,35 @@ use Rattle.machine_types.specs.{Owners.references_of, PlainMemory.Object, PlainS
 use Rattle.machine_types.specs.declared.{access.Access.{Access, TheVariants.Load}, effect.Effect.Effect, phase.Phase.Phase, plain.Act.Act}
 use Rattle.laws_states.{specs.HeapFacts.objects_by, proofs.WordViews.set_self}
 use Rattle.laws_simulation.{specs.{StandsBeside.{StandsBeside, ends_shown}, StepsBeside.{IsAtEffect, StepsBeside}}, proofs.Assembled.{moved_beside, one_step, steps_beside}}
-use Rattle.laws_simulation.proofs.{GoingOnAlike.{IsUnderWay, IsAwake, going_alike}, OwnThread.{IsBusy, Own}}
+use Rattle.laws_simulation.proofs.{GoingOnAlike.{IsUnderWay, IsAwake, going_alike}, Landing.never_made, OwnThread.{Moving, not_ended}, Turns.Turn}
 use Rattle.jvm_types.specs.declared.outcome.End.TheVariants as ends
 use Rattle.machine_types.specs.PlainInstructions as plain_instructions
 use Rattle.machine_types.specs.PlainState as plain
 use Rattle.machine_types.specs.declared.phase.Phase.TheVariants as phases
 use Rattle.machine_types.specs.declared.plain.Act.TheVariants as acts
 
--- ---- what an event does: the plain steps, and the state that stands beside the one that they lead to
+module _ (turn : Turn) where
+  open turn use {c, objects, s, t, x, q}
 
-pub record Does (p : Program) (objects : List Object) (s : Core) (t : ℕ) (q : Plain) (access : Option Access) (made : ℕ → Thread) (acts : ℕ → List Act) : Type 0 where
-  pub after : Plain
-  pub run : plain_run p q (steps_of t (acts (found_by s.words access))) ≡ Some after
-  pub beside : StandsBeside p objects (record { words = words_after s.words access; threads = slice_set s.threads t (made (found_by s.words access)) }) after
+  -- ---- what an event does: the plain steps, and the state that stands beside the one that they lead to
 
--- in a phase in which no header is stored
-pub in_phase : (c : MarkedProgram) (objects : List Object) (s : Core) (t : ℕ) (x : Thread) (q : Plain) (phase : Phase) → slice_get s.threads t ≡ Some x → x.phase ≡ phase → objects_by c.program phase objects ≡ objects
-    → Does c.program objects s t q (wanted c x phase) (moved c x phase) (acts_of c x phase) → StepsBeside c objects s t x q
-in_phase c objects s t x q phase here e old k =
-    let d : Does c.program objects s t q (wanted c x x.phase) (moved c x x.phase) (acts_of c x x.phase) = subst (λ (now : Phase). Does c.program objects s t q (wanted c x now) (moved c x now) (acts_of c x now)) (sym e) k in
-    steps_beside c objects s t x q d.after here (ap (λ (now : Phase). objects_by c.program now objects) e ∙ old) d.run d.beside
+  pub record Does (access : Option Access) (made : ℕ → Thread) (acts : ℕ → List Act) : Type 0 where
+    pub after : Plain
+    pub run : plain_run c.program q (steps_of t (acts (found_by s.words access))) ≡ Some after
+    pub beside : StandsBeside c.program objects (record { words = words_after s.words access; threads = slice_set s.threads t (made (found_by s.words access)) }) after
 
--- where an instruction begins
-pub in_run : (c : MarkedProgram) (objects : List Object) (s : Core) (t : ℕ) (x : Thread) (q : Plain) (at : Top) → slice_get s.threads t ≡ Some x → x.phase ≡ phases.Run → top_of c.program x.frames ≡ Some at
-    → Does c.program objects s t q (effect_wants x at.frame.pc (effect_at c.program at)) (instructed c.program (begun x) at (effect_at c.program at)) (instruction_acts x (effect_at c.program at)) → StepsBeside c objects s t x q
-in_run c objects s t x q at here e f k =
-    in_phase c objects s t x q phases.Run here e refl
-    (subst (λ (o : Option Top). Does c.program objects s t q (run_wants c.program x o) (ran c.program x o) (run_acts c x o)) (sym f) k)
+  -- in a phase in which no header is stored
+  pub in_phase : (phase : Phase) → x.phase ≡ phase → objects_by c.program phase objects ≡ objects
+      → Does (wanted c x phase) (moved c x phase) (acts_of c x phase) → StepsBeside c objects s t x q
+  in_phase phase e old k =
+      let d : Does (wanted c x x.phase) (moved c x x.phase) (acts_of c x x.phase) = subst (λ (now : Phase). Does (wanted c x now) (moved c x now) (acts_of c x now)) (sym e) k in
+      steps_beside turn d.after (ap (λ (now : Phase). objects_by c.program now objects) e ∙ old) d.run d.beside
 
--- of one kind of effects
-pub in_effect : (c : MarkedProgram) (objects : List Object) (s : Core) (t : ℕ) (x : Thread) (q : Plain) (Kind : Effect → Type 0) → slice_get s.threads t ≡ Some x → (b : IsAtEffect Kind c x)
-    → ((e : Effect) → effect_at c.program b.at ≡ e → Kind e → Does c.program objects s t q (effect_wants x b.at.frame.pc e) (instructed c.program (begun x) b.at e) (instruction_acts x e)) → StepsBeside c objects s t x q
-in_effect c objects s t x q Kind here b k = in_run c objects s t x q b.at here b.runs b.found (k (effect_at c.program b.at) refl b.kind)
+  -- where an instruction of one kind of effects begins
+  pub in_effect : (Kind : Effect → Type 0) (b : IsAtEffect Kind c x)
+      → ((e : Effect) → effect_at c.program b.at ≡ e → Kind e → Does (effect_wants x b.at.frame.pc e) (instructed c.program (begun x) b.at e) (instruction_acts x e)) → StepsBeside c objects s t x q
+  in_effect Kind b k = in_phase phases.Run b.runs refl
+      (subst (λ (o : Option Top). Does (run_wants c.program x o) (ran c.program x o) (run_acts c x o)) (sym b.found) (k (effect_at c.program b.at) refl b.kind))
 
 -- outside attempts nothing is checked
 pub not_checked : (p : Program) (x : Thread) (at : Top) (e : Effect) (got : ℕ) → x.attempt ≡ None → instructed p x at e got ≡ did p x at e got
@@ -88,32 +84,30 @@ pub record WentOn (z y : Thread) : Type 0 where
   pub attempt : y.attempt ≡ z.attempt
   pub makes : (a word : ℕ) → y.phase ≡ phases.Made a word → ⊥
 
-no_object : (b : Bool) (a word : ℕ) → cond b phases.Run (phases.Ending ends.Steps) ≡ phases.Made a word → ⊥
-no_object true a word e = cc
-no_object false a word e = cc
+pub run_made : (b : Bool) (a word : ℕ) → cond b phases.Run (phases.Ending ends.Steps) ≡ phases.Made a word → ⊥
+run_made true a word e = cc
+run_made false a word e = cc
 
-pub went_on : (z : Thread) (o : Onward) → WentOn z (goes_on z o)
-went_on z (Running frames) = record { part = refl; held = refl; attempt = refl; makes = λ a word e. no_object _ a word e }
-went_on z (Throwing x class frames) = record { part = refl; held = refl; attempt = refl; makes = λ a word e. cc }
-went_on z (Entering m frames) = record { part = refl; held = refl; attempt = refl; makes = λ a word e. cc }
-went_on z (Leaving m a frames) = record { part = refl; held = refl; attempt = refl; makes = λ a word e. cc }
-went_on z RootReturned = record { part = refl; held = refl; attempt = refl; makes = by_roots z.roots }
+pub gone_on : (z : Thread) (o : Onward) → WentOn z (goes_on z o)
+gone_on z (Running frames) = record { part = refl; held = refl; attempt = refl; makes = λ a word e. run_made _ a word e }
+gone_on z (Throwing x class frames) = record { part = refl; held = refl; attempt = refl; makes = λ a word e. cc }
+gone_on z (Entering m frames) = record { part = refl; held = refl; attempt = refl; makes = λ a word e. cc }
+gone_on z (Leaving m a frames) = record { part = refl; held = refl; attempt = refl; makes = λ a word e. cc }
+gone_on z RootReturned = record { part = refl; held = refl; attempt = refl; makes = by_roots z.roots }
   where
     by_roots : (roots : List ℕ) (a word : ℕ) → root_over roots ≡ phases.Made a word → ⊥
     by_roots [] a word e = cc
     by_roots (number ∷ roots) a word e = cc
-went_on z (Uncaught class) = record { part = refl; held = refl; attempt = refl; makes = λ a word e. cc }
+gone_on z (Uncaught class) = record { part = refl; held = refl; attempt = refl; makes = λ a word e. cc }
 
-module _ (p : Program) (objects : List Object) (s : Core) (q : Plain) (t : ℕ) (x : Thread) (beside : StandsBeside p objects s q) (here : slice_get s.threads t ≡ Some x) (own : Own p s q t x)
-    (runs : IsUnderWay p x.part x.roots own.plain) (awake : IsAwake (has_wait_bit (references_of q.objects) s.words t)) (busy : IsBusy x.phase) (no_made : (a word : ℕ) → x.phase ≡ phases.Made a word → ⊥) where
-  not_rests : (phase : Phase) → IsBusy phase → phase ≡ phases.Ended ends.Returned → ⊥
-  not_rests phase k e = subst IsBusy e k
+module _ {turn : Turn} (k : Moving turn) where
+  open turn use {c, objects, s, q, t, x, beside, here}
 
   -- a thread that becomes y, with what it held, and makes no object
   pub becomes : (words : List ℕ) (prints : List Printed) (y : Thread) (plain : PlainThread) → WordsFit s q words prints → y.part ≡ x.part → y.held ≡ x.held → ((a word : ℕ) → y.phase ≡ phases.Made a word → ⊥)
-      → ThreadFits p (has_wait_bit (references_of q.objects) words t) y y.attempt plain → plain.ended ≡ ends_shown p y.part y.phase
-      → StandsBeside p objects (record { words = words; threads = slice_set s.threads t y }) (record q { threads = slice_set q.threads t plain; prints = prints })
-  becomes words prints y plain w part held makes fits ended = moved_beside p objects s q t words x y q.holdings plain prints beside here (record {
+      → ThreadFits c.program (has_wait_bit (references_of q.objects) words t) y y.attempt plain → plain.ended ≡ ends_shown c.program y.part y.phase
+      → StandsBeside c.program objects (record { words = words; threads = slice_set s.threads t y }) (record q { threads = slice_set q.threads t plain; prints = prints })
+  becomes words prints y plain w part held makes fits ended = moved_beside c.program objects s q t words x y q.holdings plain prints beside here (record {
     fits = fits;
     ended = ended;
     places = w.places;
@@ -122,35 +116,35 @@ module _ (p : Program) (objects : List Object) (s : Core) (q : Plain) (t : ℕ) 
     bits = λ u m n. w.bits u m;
     depths = λ m. beside.agrees.monitors t m ∙ ap (λ (o : Option Thread). depth_of o m) here ∙ ap (λ hs. depth_at hs m) (sym held);
     other_depths = λ u m n. refl;
-    old = no_made;
+    old = λ a word e. never_made x.phase a word k.old e;
     new = makes;
     part = part;
-    rests = λ e. absurd (not_rests x.phase busy e);
+    rests = λ e. absurd (not_ended x.phase k.busy e);
   })
 
   still_awake : (words : List ℕ) (prints : List Printed) → WordsFit s q words prints → IsAwake (has_wait_bit (references_of q.objects) words t)
-  still_awake words prints w m = w.bits t m ∙ awake m
+  still_awake words prints w m = w.bits t m ∙ k.awake m
 
   -- one that goes on
   pub goes_beside : (words : List ℕ) (prints : List Printed) (z : Thread) (o : Onward) → WordsFit s q words prints → GoesFrom x z
-      → StandsBeside p objects (record { words = words; threads = slice_set s.threads t (goes_on z o) }) (record q { threads = slice_set q.threads t (plain.plain_goes_on own.plain o); prints = prints })
+      → StandsBeside c.program objects (record { words = words; threads = slice_set s.threads t (goes_on z o) }) (record q { threads = slice_set q.threads t (plain.plain_goes_on k.z o); prints = prints })
   goes_beside words prints z o w from =
-      let on = went_on z o in
-      let way : IsUnderWay p z.part z.roots own.plain = subst (λ (part : ℕ). IsUnderWay p part z.roots own.plain) (sym from.part) (subst (λ (roots : List ℕ). IsUnderWay p x.part roots own.plain) (sym from.roots) runs) in
-      let fits = going_alike p (has_wait_bit (references_of q.objects) words t) (still_awake words prints w) z own.plain o way in
-      becomes words prints (goes_on z o) (plain.plain_goes_on own.plain o) w (on.part ∙ from.part) (on.held ∙ from.held) on.makes
-      (subst (λ (a : Option Attempt). ThreadFits p (has_wait_bit (references_of q.objects) words t) (goes_on z o) a (plain.plain_goes_on own.plain o)) (sym (on.attempt ∙ from.attempt)) fits.outside)
+      let on = gone_on z o in
+      let way : IsUnderWay c.program z.part z.roots k.z = subst (λ (part : ℕ). IsUnderWay c.program part z.roots k.z) (sym from.part) (subst (λ (roots : List ℕ). IsUnderWay c.program x.part roots k.z) (sym from.roots) k.under_way) in
+      let fits = going_alike c.program (has_wait_bit (references_of q.objects) words t) (still_awake words prints w) z k.z o way in
+      becomes words prints (goes_on z o) (plain.plain_goes_on k.z o) w (on.part ∙ from.part) (on.held ∙ from.held) on.makes
+      (subst (λ (a : Option Attempt). ThreadFits c.program (has_wait_bit (references_of q.objects) words t) (goes_on z o) a (plain.plain_goes_on k.z o)) (sym (on.attempt ∙ from.attempt)) fits.outside)
       fits.ended
 
   -- by an access that leaves the words, and one act
   pub does_one : (access : Option Access) (made : ℕ → Thread) (acts : ℕ → List Act) (act : Act) (got : ℕ) (z : Thread) (o : Onward) → LeavesWords s.words access → found_by s.words access ≡ got → made got ≡ goes_on z o → acts got ≡ act ∷ []
-      → GoesFrom x z → step_at p q t own.plain act own.plain.status ≡ Some (plain.with_thread q t (plain.plain_goes_on own.plain o)) → Does p objects s t q access made acts
+      → GoesFrom x z → step_at c.program q t k.z act k.z.status ≡ Some (plain.with_thread q t (plain.plain_goes_on k.z o)) → Does turn access made acts
   does_one access made acts act got z o leaves found is one from step = record {
-    after = plain.with_thread q t (plain.plain_goes_on own.plain o);
-    run = ap (λ (n : ℕ). plain_run p q (steps_of t (acts n))) found ∙ ap (λ (some : List Act). plain_run p q (steps_of t some)) one ∙ one_step p q (plain.with_thread q t (plain.plain_goes_on own.plain o)) t own.plain act own.here step;
-    beside = subst (λ (words : List ℕ). StandsBeside p objects (record { words = words; threads = slice_set s.threads t (made (found_by s.words access)) }) (plain.with_thread q t (plain.plain_goes_on own.plain o))) (sym leaves)
-        (subst (λ (y : Thread). StandsBeside p objects (record { words = s.words; threads = slice_set s.threads t y }) (plain.with_thread q t (plain.plain_goes_on own.plain o))) (sym (ap made found ∙ is))
-        (goes_beside s.words q.prints z o (same_words p objects s q beside) from));
+    after = plain.with_thread q t (plain.plain_goes_on k.z o);
+    run = ap (λ (n : ℕ). plain_run c.program q (steps_of t (acts n))) found ∙ ap (λ (some : List Act). plain_run c.program q (steps_of t some)) one ∙ one_step c.program q (plain.with_thread q t (plain.plain_goes_on k.z o)) t k.z act k.twin step;
+    beside = subst (λ (words : List ℕ). StandsBeside c.program objects (record { words = words; threads = slice_set s.threads t (made (found_by s.words access)) }) (plain.with_thread q t (plain.plain_goes_on k.z o))) (sym leaves)
+        (subst (λ (y : Thread). StandsBeside c.program objects (record { words = s.words; threads = slice_set s.threads t y }) (plain.with_thread q t (plain.plain_goes_on k.z o))) (sym (ap made found ∙ is))
+        (goes_beside s.words q.prints z o (same_words c.program objects s q beside) from));
   }
 
 -- ---- an instruction of the plain thread

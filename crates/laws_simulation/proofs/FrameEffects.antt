@@ -1,66 +1,61 @@
 -- The instructions that read and write frames, and that enter and leave monitors, by their effects.
-use Rattle.std.proofs.Common.{◌≡◌, ℕ, ◌+◌, nat_le, Bool, true, false, cond, List, [], ◌∷◌, ◌++◌, Option, Some, None, refl, sym, ap, ◌∙◌, subst, arith, IsSome, slice_get, slice_index, slice_set, option_map, if◌then◌else◌}
+use Rattle.std.proofs.Common.{◌≡◌, ℕ, ◌+◌, nat_le, Bool, true, false, cond, List, [], ◌∷◌, ◌++◌, Option, Some, None, refl, sym, ap, ◌∙◌, subst, arith, IsSome, slice_index, slice_set, option_map, if◌then◌else◌}
 use Rattle.jvm_types.specs.{Members.is_synchronized, declared.{fixed_words.TheConstants.NEXT_TICKET_WORD, outcome.Thrown.{Thrown, TheVariants.{IllegalMonitorStateException, NullPointerException}}}}
 use Rattle.jvm_types.specs.declared.program.MethodInfo.{MethodInfo}
-use Rattle.checked_program.specs.MarkedProgram.{MarkedProgram, IsMarked}
-use Rattle.machine_types.specs.{Accesses.{found_by, words_after}, Agreement.{ThreadFits, StatusFits, frames_shown, has_wait_bit}, Core.Core, Effects.read_by, Elision.looks, Events.wanted}
-use Rattle.machine_types.specs.{FoundWords.{WordFits, effect_content, run_content, content_at}, Frames.{Top, frames_of, top_of, effect_at, went, went_on, monitor_of, returned}}
-use Rattle.machine_types.specs.{Going.{goes_on, goes_on_if}, History.{act_if, instruction_acts}, Instructions.{has_print_left, effect_wants, run_wants, begun, printed, did, instructed}, Ints.int_of}
-use Rattle.machine_types.specs.{Lawful.within, Onward.{Onward, Running, Throwing, Entering, Leaving, threw, called, back, returns}, Owners.references_of, PlainMemory.Object}
-use Rattle.machine_types.specs.{PlainState.{Plain, PlainThread, Printed, value_at, holding_at, is_holder}, ReadyObjects.thrown_of, Structure.{IsAs, Stands, count_in, held_depth, tried_depth}}
+use Rattle.machine_types.specs.{Accesses.{found_by, words_after}, Agreement.{ThreadFits, has_wait_bit}, Effects.read_by, Elision.looks, Events.wanted}
+use Rattle.machine_types.specs.{FoundWords.{WordFits, effect_content, run_content, content_at}, Frames.{Top, frames_of, effect_at, went, went_on, monitor_of, returned}, Going.{goes_on, goes_on_if}}
+use Rattle.machine_types.specs.{History.{act_if, instruction_acts}, Instructions.{has_print_left, effect_wants, run_wants, begun, printed, did, instructed}, Ints.int_of, Lawful.within}
+use Rattle.machine_types.specs.{Onward.{Onward, Running, Throwing, Entering, Leaving, threw, called, back, returns}, Owners.references_of}
+use Rattle.machine_types.specs.{PlainState.{Plain, PlainThread, Printed, value_at, holding_at, is_holder}, ReadyObjects.thrown_of, Structure.{Stands, count_in, held_depth, tried_depth}}
 use Rattle.machine_types.specs.{Threads.{Attempt, Frame, Thread}, Typed.{AfterHolds, FramesHold, PhaseHolds, HasClass}, Words.{header_class, header_length, header_word, variable_word}}
-use Rattle.machine_types.specs.declared.{access.Access.{Access, TheVariants.{Load, Add}}, config.Config.Config, effect.Effect.Effect}
+use Rattle.machine_types.specs.declared.{access.Access.{Access, TheVariants.{Load, Add}}, effect.Effect.Effect}
 use Rattle.machine_types.specs.declared.effect.Effect.TheVariants.{Goes, Throws, Reads, Writes, Indexes, Measures, Raises, Makes, Prints, Calls, Returns, Enters, Leaves, Waits, Notifies, NotifiesAll, Stuck}
 use Rattle.machine_types.{specs.declared.phase.Phase.Phase, proofs.Lists.set_as_it_is}
 use Rattle.laws_threads.{specs.{Allowed.Allowed, TopFrames.{IsAllowed, EffectsAreAllowed}}, proofs.{FramePlaces.tops_stand_law, GoingOn.OnwardShows, Instructions.done_shows}}
-use Rattle.laws_states.specs.{FoundLaws.{IsOfHeap, HeapWordsFit}, SiteLaws.{SitesDiffer, SitesLieInside}, StateFacts.StateFacts}
-use Rattle.laws_simulation.{specs.{StandsBeside.StandsBeside, StepsBeside.{IsOfFrames, FrameSteps}}, proofs.Assembled.one_step}
+use Rattle.laws_states.{specs.{FoundLaws.{IsOfHeap, HeapWordsFit}, SiteLaws.{SitesDiffer, SitesLieInside}}, proofs.Phases.IsOldPhase}
+use Rattle.laws_simulation.{specs.{StandsBeside.StandsBeside, StepsBeside.{IsAtEffect, IsOfFrames, FrameSteps}}, proofs.Assembled.one_step}
 use Rattle.laws_simulation.proofs.EventSteps.{Does, GoesFrom, LeavesWords, in_effect, not_checked, load_leaves, same_words, becomes, goes_beside, does_one, instruction_step}
-use Rattle.laws_simulation.proofs.{GoingOnAlike.{IsAwake, IsUnderWay, awake_fits, none_ends}, HeldToLeave.{IsHeld, leaves_held, exits_held, held_not_null}, HoldingsAlike.is_holder_then}
-use Rattle.laws_simulation.proofs.{OwnThread.{IsBusy, Own, own, under_way}, PrintWords.print_fits, TopPlaces.{MayDo, may_do, variable_value, header_value}, WaitBits.same_wait_bit}
+use Rattle.laws_simulation.proofs.{GoingOnAlike.{awake_fits, none_ends}, HeldToLeave.{IsHeld, leaves_held, exits_held, held_not_null}, HoldingsAlike.is_holder_then}
+use Rattle.laws_simulation.proofs.{OwnThread.{IsBusy, Moving, Own, own, under_way}, PrintWords.print_fits, RunScene.{frames_are, status_fits, values}, Scene.{Scene, awake, counts_as}}
+use Rattle.laws_simulation.proofs.{TopPlaces.{MayDo, may_do, variable_value, header_value}, Turns.by_turn}
 use Rattle.jvm_types.specs.declared.outcome.End.TheVariants as ends
 use Rattle.machine_types.specs.PlainInstructions as plain_instructions
 use Rattle.machine_types.specs.PlainState as plain
 use Rattle.machine_types.specs.declared.phase.After.TheVariants as afters
 use Rattle.machine_types.specs.declared.phase.Phase.TheVariants as phases
 use Rattle.machine_types.specs.declared.plain.Act.TheVariants as acts
-use Rattle.laws_simulation.proofs.OwnBits as own_bits
 
 pub is_some_thrown : (o : Option Thrown) → IsSome o → (x : Thrown) × (o ≡ Some x)
 is_some_thrown None k = absurd (cc)
 is_some_thrown (Some x) k = (x, refl)
 
-module _ (differ : SitesDiffer) (inside : SitesLieInside) (fit : HeapWordsFit) (allowed : EffectsAreAllowed) (c : MarkedProgram) (cfg : Config) (objects : List Object) (was : ℕ → Phase) (s : Core) (t : ℕ) (x : Thread) (q : Plain) (marked : IsMarked c)
-    (facts : StateFacts c cfg objects was s) (beside : StandsBeside c.program objects s q) (here : slice_get s.threads t ≡ Some x) (outside : x.attempt ≡ None) (runs : x.phase ≡ phases.Run) (at : Top) (at_top : top_of c.program x.frames ≡ Some at) where
-  busy : IsBusy x.phase
-  busy = subst IsBusy (sym runs) tt
+module _ (scene : Scene) (fit : HeapWordsFit) (allowed : EffectsAreAllowed)
+    (begins : IsAtEffect IsOfFrames scene.c scene.x) where
+  open scene use {turn, c, objects, was, s, t, x, q, differ, marked, facts, beside, here, outside}
+  open begins use {runs, at, found as at_top}
 
-  abbrev plain_thread : Own c.program s q t x
-  plain_thread = own c cfg objects was s t x q facts beside here outside
-
-  way : IsUnderWay c.program x.part x.roots plain_thread.plain
-  way = under_way c cfg objects was s t x q facts beside here outside busy
+  abbrev plain_thread : Own turn
+  plain_thread = own turn
 
   counted : was t ≡ phases.Run
-  counted = subst (λ (now : Phase). IsAs now (was t)) runs (facts.structure t x here).is_as
-
-  awake : IsAwake (has_wait_bit (references_of q.objects) s.words t)
-  awake m = same_wait_bit c.program objects s q beside.known beside.others facts.heap.new_objects t m ∙ own_bits.no_own_bit (references_of objects) was s facts.owners facts.waiting t x here (subst own_bits.IsAwake (sym counted) tt) m
-
-  no_made : (a word : ℕ) → x.phase ≡ phases.Made a word → ⊥
-  no_made a word e = let clash : phases.Run ≡ phases.Made a word = sym runs ∙ e in cc
+  counted = counts_as turn phases.Run runs
 
   from : GoesFrom x (begun x)
   from = record { part = refl; roots = refl; held = refl; attempt = outside }
 
-  is_running : plain_thread.plain.status ≡ plain.Run
-  is_running = subst (λ (now : Phase). StatusFits (has_wait_bit (references_of q.objects) s.words t) x now plain_thread.plain.status) runs plain_thread.fits.status
-
-  same_frames : plain_thread.plain.frames ≡ x.frames
-  same_frames = plain_thread.fits.frames ∙ ap (λ (now : Phase). frames_shown now x.frames) runs
+  abbrev moving : Moving turn
+  moving = record {
+    own = plain_thread;
+    busy = subst IsBusy (sym runs) tt;
+    old = subst IsOldPhase (sym runs) tt;
+    counts = counted ∙ sym runs;
+    frames = frames_are turn phases.Run runs;
+    under_way = under_way turn (subst IsBusy (sym runs) tt);
+    awake = awake turn phases.Run counted (λ r h. h);
+  }
 
   abbrev DoesBy : Effect → Type 0
-  DoesBy e = Does c.program objects s t q (effect_wants x at.frame.pc e) (instructed c.program (begun x) at e) (instruction_acts x e)
+  DoesBy e = Does turn (effect_wants x at.frame.pc e) (instructed c.program (begun x) at e) (instruction_acts x e)
 
   -- ---- the thread goes on, and the plain one alike
 
@@ -69,10 +64,10 @@ module _ (differ : SitesDiffer) (inside : SitesLieInside) (fit : HeapWordsFit) (
       → plain_instructions.plain_did c.program q t plain_thread.plain at e (found_by s.words access) ≡ Some (plain.with_thread q t (plain.plain_goes_on plain_thread.plain o))
       → instruction_acts x e (found_by s.words access) ≡ acts.Do ∷ [] → DoesBy e
   does_effect e o access f w leaves value made step one =
-      subst (λ (a : Option Access). Does c.program objects s t q a (instructed c.program (begun x) at e) (instruction_acts x e)) (sym w)
-      (does_one c.program objects s q t x beside here plain_thread way awake busy no_made access (instructed c.program (begun x) at e) (instruction_acts x e) acts.Do (found_by s.words access) (begun x) o leaves refl
+      subst (λ (a : Option Access). Does turn a (instructed c.program (begun x) at e) (instruction_acts x e)) (sym w)
+      (does_one moving access (instructed c.program (begun x) at e) (instruction_acts x e) acts.Do (found_by s.words access) (begun x) o leaves refl
       (not_checked c.program (begun x) at e (found_by s.words access) outside ∙ made) one from
-      (instruction_step c.program q (plain.with_thread q t (plain.plain_goes_on plain_thread.plain o)) t plain_thread.plain x.frames at e (found_by s.words access) is_running same_frames at_top f value step))
+      (instruction_step c.program q (plain.with_thread q t (plain.plain_goes_on plain_thread.plain o)) t plain_thread.plain x.frames at e (found_by s.words access) (status_fits turn phases.Run runs) (frames_are turn phases.Run runs) at_top f value step))
 
   -- outside attempts nothing is looked at
   no_look : looks x.attempt ≡ None
@@ -85,16 +80,13 @@ module _ (differ : SitesDiffer) (inside : SitesLieInside) (fit : HeapWordsFit) (
       by_check true = no_look
       by_check false = refl
 
-  frames_hold : FramesHold c (HasClass objects) x.frames
-  frames_hold = subst (λ (now : Phase). PhaseHolds c (HasClass objects) now x.frames) runs (facts.heap.typed.threads t x here).phase
-
   allowed_at : (e : Effect) → effect_at c.program at ≡ e → IsAllowed c.program at e
   allowed_at e f =
       let frames : FramesHold c (within c.program) x.frames = subst (λ (now : Phase). PhaseHolds c (within c.program) now x.frames) runs (facts.threads.lawful t x here).typed.values.phase in
       subst (IsAllowed c.program at) f (allowed c x.frames at marked frames at_top)
 
   top : MayDo c objects at
-  top = may_do c objects s x.frames at marked facts.heap frames_hold at_top
+  top = may_do c objects s x.frames at marked facts.heap (values turn phases.Run runs) at_top
 
   does_at : (e : Effect) → effect_at c.program at ≡ e → Allowed c.program at.method (HasClass objects) at.insn at.target top.row at.frame.stack e
   does_at e f = subst (Allowed c.program at.method (HasClass objects) at.insn at.target top.row at.frame.stack) f top.allowed
@@ -131,7 +123,7 @@ module _ (differ : SitesDiffer) (inside : SitesLieInside) (fit : HeapWordsFit) (
   returning f = by_flag (is_synchronized at.method.flags) refl (done_shows c marked x.frames stands.shown at at_top stands.show Returns f 0)
     where
       holds : AfterHolds c (HasClass objects) afters.Return (frames_of at)
-      holds = subst (FramesHold c (HasClass objects)) (tops_stand_law c x.frames _ stands.shown at marked stands.show at_top).1.frames frames_hold
+      holds = subst (FramesHold c (HasClass objects)) (tops_stand_law c x.frames _ stands.shown at marked stands.show at_top).1.frames (values turn phases.Run runs)
 
       by_frames : (fs : List Frame) → plain_instructions.if_left q t plain_thread.plain at (back fs) ≡ plain.plain_goes_on plain_thread.plain (back fs)
       by_frames [] = refl
@@ -155,27 +147,27 @@ module _ (differ : SitesDiffer) (inside : SitesLieInside) (fit : HeapWordsFit) (
   print n = record { thread = t; value = int_of n }
 
   -- the limit of prints is made
-  no_print : (n : ℕ) → Does c.program objects s t q None (λ got. record (begun x) { phase = phases.Ending ends.Prints }) (λ got. [])
+  no_print : (n : ℕ) → Does turn None (λ got. record (begun x) { phase = phases.Ending ends.Prints }) (λ got. [])
   no_print n = record {
     after = q;
     run = refl;
     beside = subst (λ (threads : List PlainThread). StandsBeside c.program objects (record { words = s.words; threads = slice_set s.threads t (record (begun x) { phase = phases.Ending ends.Prints }) }) (record q { threads = threads })) (set_as_it_is q.threads t plain_thread.plain plain_thread.here)
-        (becomes c.program objects s q t x beside here plain_thread way awake busy no_made s.words q.prints (record (begun x) { phase = phases.Ending ends.Prints }) plain_thread.plain (same_words c.program objects s q beside) refl refl (λ a word e. cc)
+        (becomes moving s.words q.prints (record (begun x) { phase = phases.Ending ends.Prints }) plain_thread.plain (same_words c.program objects s q beside) refl refl (λ a word e. cc)
         (subst (λ (a : Option Attempt). ThreadFits c.program (has_wait_bit (references_of q.objects) s.words t) (record (begun x) { phase = phases.Ending ends.Prints }) a plain_thread.plain) (sym outside)
-        (record { frames = same_frames; status = awake_fits (has_wait_bit (references_of q.objects) s.words t) plain_thread.plain.status (plain_thread.plain.status ≡ plain.Run) awake is_running; roots = way.roots }))
-        (way.ended ∙ sym (none_ends c.program x.part x.roots (phases.Ending ends.Prints) way.runs refl)));
+        (record { frames = frames_are turn phases.Run runs; status = awake_fits (has_wait_bit (references_of q.objects) s.words t) plain_thread.plain.status (plain_thread.plain.status ≡ plain.Run) moving.awake (status_fits turn phases.Run runs); roots = moving.under_way.roots }))
+        (moving.under_way.ended ∙ sym (none_ends c.program x.part x.roots (phases.Ending ends.Prints) moving.under_way.runs refl)));
   }
 
-  one_print : (n : ℕ) → effect_at c.program at ≡ Prints n → Does c.program objects s t q (Some (Add NEXT_TICKET_WORD 1)) (λ got. goes_on (printed (begun x) got n) (Running (went_on c.program at 0))) (λ got. acts.Do ∷ [])
+  one_print : (n : ℕ) → effect_at c.program at ≡ Prints n → Does turn (Some (Add NEXT_TICKET_WORD 1)) (λ got. goes_on (printed (begun x) got n) (Running (went_on c.program at 0))) (λ got. acts.Do ∷ [])
   one_print n f = record {
     after = plain.with_thread (record q { prints = q.prints ++ print n ∷ [] }) t (plain.plain_goes_on plain_thread.plain (Running (went_on c.program at 0)));
-    run = one_step c.program q _ t plain_thread.plain acts.Do plain_thread.here (instruction_step c.program q _ t plain_thread.plain x.frames at (Prints n) 0 is_running same_frames at_top f refl refl);
-    beside = goes_beside c.program objects s q t x beside here plain_thread way awake busy no_made (words_after s.words (Some (Add NEXT_TICKET_WORD 1))) (q.prints ++ print n ∷ []) (printed (begun x) (slice_index s.words NEXT_TICKET_WORD) n) (Running (went_on c.program at 0))
-        (print_fits c objects s q beside (slice_index s.words NEXT_TICKET_WORD + 1) inside marked facts.heap (print n) refl) (record { part = refl; roots = refl; held = refl; attempt = outside });
+    run = one_step c.program q _ t plain_thread.plain acts.Do plain_thread.here (instruction_step c.program q _ t plain_thread.plain x.frames at (Prints n) 0 (status_fits turn phases.Run runs) (frames_are turn phases.Run runs) at_top f refl refl);
+    beside = goes_beside moving (words_after s.words (Some (Add NEXT_TICKET_WORD 1))) (q.prints ++ print n ∷ []) (printed (begun x) (slice_index s.words NEXT_TICKET_WORD) n) (Running (went_on c.program at 0))
+        (print_fits scene (slice_index s.words NEXT_TICKET_WORD + 1) (print n) refl) (record { part = refl; roots = refl; held = refl; attempt = outside });
   }
 
   prints_by : (n : ℕ) → effect_at c.program at ≡ Prints n → (b : Bool) → has_print_left x ≡ b
-      → Does c.program objects s t q (if b then Some (Add NEXT_TICKET_WORD 1) else None) (λ got. if b then goes_on (printed (begun x) got n) (Running (went_on c.program at 0)) else record (begun x) { phase = phases.Ending ends.Prints }) (λ got. act_if b acts.Do)
+      → Does turn (if b then Some (Add NEXT_TICKET_WORD 1) else None) (λ got. if b then goes_on (printed (begun x) got n) (Running (went_on c.program at 0)) else record (begun x) { phase = phases.Ending ends.Prints }) (λ got. act_if b acts.Do)
   prints_by n f true e = one_print n f
   prints_by n f false e = no_print n
 
@@ -199,7 +191,7 @@ module _ (differ : SitesDiffer) (inside : SitesLieInside) (fit : HeapWordsFit) (
       (header_value c marked objects s facts.heap differ q beside _ a may.1)
       (ap (λ (o : Option Thrown). goes_on_if (begun x) (option_map (λ class. Throwing a class (frames_of at)) o)) class.1)
       (ap (λ (o : Option Thrown). option_map (λ o. plain.with_thread q t (plain.plain_goes_on plain_thread.plain o)) (option_map (λ class. Throwing a class (frames_of at)) o)) class.1) refl
-  does (Prints n) f k = subst (λ (made : ℕ → Thread). Does c.program objects s t q (effect_wants x at.frame.pc (Prints n)) made (instruction_acts x (Prints n))) (λ i got. sym (not_checked c.program (begun x) at (Prints n) got outside) i) (prints_by n f (has_print_left x) refl)
+  does (Prints n) f k = subst (λ (made : ℕ → Thread). Does turn (effect_wants x at.frame.pc (Prints n)) made (instruction_acts x (Prints n))) (λ i got. sym (not_checked c.program (begun x) at (Prints n) got outside) i) (prints_by n f (has_print_left x) refl)
   does (Calls number) f k =
       let call = allowed_at (Calls number) f in
       does_effect (Calls number) (called c.program at number call.called) None f no_look refl refl
@@ -219,5 +211,5 @@ module _ (differ : SitesDiffer) (inside : SitesLieInside) (fit : HeapWordsFit) (
 -- ---- the law
 
 pub frame_steps : SitesDiffer → SitesLieInside → HeapWordsFit → EffectsAreAllowed → FrameSteps
-frame_steps differ inside fit allowed c cfg objects was s t x q marked width facts beside here outside b =
-    in_effect c objects s t x q IsOfFrames here b (does differ inside fit allowed c cfg objects was s t x q marked facts beside here outside b.runs b.at b.found)
+frame_steps differ inside fit allowed = by_turn (IsAtEffect IsOfFrames) (λ turn b.
+    in_effect turn IsOfFrames b (does (record { turn = turn; differ = differ; inside = inside }) fit allowed b))

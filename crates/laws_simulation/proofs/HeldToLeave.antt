@@ -24,7 +24,9 @@ some_held m held None e lt = absurd (let none : held_depth m held ≡ 0 = depth_
 some_held m held (Some h) e lt = record { entry = h; is = e }
 
 -- the entry is shown, or it is the exit's own
-module _ (is : Classes) (c : MarkedProgram) (m : ℕ) (fs : List Frame) (shown : List ℕ) (held : List Held) (marked : IsMarked c) (depth : count_in m shown ≡ held_depth m held + 0) where
+module _ (is : Classes) (c : MarkedProgram) (m : ℕ) (fs : List Frame) (shown : List ℕ)
+    (held : List Held) (marked : IsMarked c)
+    (depth : count_in m shown ≡ held_depth m held + 0) where
   pub leaves_held : (a : After) → LeavingShows c m a fs shown → AfterHolds c is a fs → IsHeld held m
   leaves_held a k holds =
       let g = goes_behind is c marked m k.now a fs k.show k.leaves holds in

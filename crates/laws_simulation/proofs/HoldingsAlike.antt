@@ -110,7 +110,8 @@ alone o t u depth e d = let h = holding_is o t 0 depth e in ap (depth_for u) h.i
 
 -- ---- a thread's list against the holdings
 
-module _ (holdings : List Holding) (threads : List Thread) (alike : HoldAlike holdings threads) where
+module _ (holdings : List Holding) (threads : List Thread)
+    (alike : HoldAlike holdings threads) where
   pub depth_is_held : (t m : ℕ) (x : Thread) → slice_get threads t ≡ Some x → depth_for t (holding_at holdings m) ≡ depth_at x.held m
   depth_is_held t m x there = alike t m ∙ ap (λ (o : Option Thread). depth_of o m) there
 

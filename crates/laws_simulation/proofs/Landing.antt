@@ -1,12 +1,12 @@
 -- The state that an event leads to stands beside a plain state, where the event changes one thread and words of which the plain
 -- machine knows nothing.
-use Rattle.std.proofs.Common.{◌≡◌, ℕ, List, [], ◌∷◌, Option, Some, refl, sym, ap, ◌∙◌, subst, slice_get, slice_index, slice_set}
-use Rattle.jvm_types.specs.declared.{fixed_words.TheConstants.{NEXT_FREE_WORD, NEXT_TICKET_WORD}, program.Program.Program}
-use Rattle.machine_types.specs.{Agreement.{has_wait_bit, ThreadFits, depth_of}, Core.Core, History.steps_of, NewObjects.NewObjects, Owners.references_of, PlainMemory.Object}
+use Rattle.std.proofs.Common.{◌≡◌, ℕ, List, [], ◌∷◌, Option, Some, refl, sym, ap, ◌∙◌, subst, slice_index, slice_set}
+use Rattle.jvm_types.specs.declared.fixed_words.TheConstants.{NEXT_FREE_WORD, NEXT_TICKET_WORD}
+use Rattle.machine_types.specs.{Agreement.{has_wait_bit, ThreadFits, depth_of}, Core.Core, History.steps_of, Owners.references_of, PlainMemory.Object}
 use Rattle.machine_types.specs.{PlainState.{Plain, PlainThread, Holding, value_at}, PlainSteps.plain_run, Threads.Thread, declared.{phase.Phase.Phase, plain.Act.Act}}
 use Rattle.machine_types.proofs.Lists.{set_as_it_is, got_when_set, got_other}
 use Rattle.laws_states.proofs.Phases.{IsOldPhase}
-use Rattle.laws_simulation.{specs.StandsBeside.{StandsBeside, IsBeingMade, ends_shown}, proofs.{Assembled.moved_beside, HoldingsAlike.HoldAlike, OwnThread.{IsBusy, not_ended}}}
+use Rattle.laws_simulation.{specs.StandsBeside.{StandsBeside, IsBeingMade, ends_shown}, proofs.{Assembled.moved_beside, HoldingsAlike.HoldAlike, OwnThread.{Moving, not_ended}, Turns.Turn}}
 use Rattle.laws_simulation.proofs.WaitBits.{fits_by, new_lock, same_wait_bit_in}
 use Rattle.machine_types.specs.declared.phase.Phase.TheVariants as phases
 
@@ -28,53 +28,55 @@ never_made phase a word old e = subst IsOldPhase e old
 
 -- ---- thread t, which was x and z, becomes y and w
 
-module _ (p : Program) (objects : List Object) (s : Core) (q : Plain) (beside : StandsBeside p objects s q) (new : NewObjects p objects s) (t : ℕ) (x : Thread) (z : PlainThread) (there : slice_get s.threads t ≡ Some x) (here : slice_get q.threads t ≡ Some z)
-    (busy : IsBusy x.phase) (old : IsOldPhase x.phase) where
+module _ {turn : Turn} (k : Moving turn) where
+  open turn use {c, objects, s, t, x, q, beside}
+
   pub record Lands (words : List ℕ) (y : Thread) (later : List Holding) (w : PlainThread) : Type 0 where
     pub stay : WordsStay objects s q words
     pub holds : HoldAlike later (slice_set s.threads t y)
-    pub fits : ThreadFits p (has_wait_bit (references_of q.objects) s.words t) y y.attempt w
-    pub ended : w.ended ≡ ends_shown p y.part y.phase
+    pub fits : ThreadFits c.program (has_wait_bit (references_of q.objects) s.words t) y y.attempt w
+    pub ended : w.ended ≡ ends_shown c.program y.part y.phase
     pub now : IsOldPhase y.phase
     pub part : y.part ≡ x.part
 
-  module _ (words : List ℕ) (y : Thread) (later : List Holding) (w : PlainThread) (k : Lands words y later w) where
+  module _ (words : List ℕ) (y : Thread) (later : List Holding) (w : PlainThread)
+      (on : Lands words y later w) where
     bits_same : (u m : ℕ) → has_wait_bit (references_of q.objects) words u m ≡ has_wait_bit (references_of q.objects) s.words u m
     bits_same u m =
-        same_wait_bit_in objects s.threads words q beside.known beside.others (λ a h. k.stay.new a h ∙ new_lock p objects s new a h) u m
-        ∙ k.stay.bits u m
-        ∙ sym (same_wait_bit_in objects s.threads s.words q beside.known beside.others (new_lock p objects s new) u m)
+        same_wait_bit_in objects s.threads words q beside.known beside.others (λ a h. on.stay.new a h ∙ new_lock c.program objects s turn.facts.heap.new_objects a h) u m
+        ∙ on.stay.bits u m
+        ∙ sym (same_wait_bit_in objects s.threads s.words q beside.known beside.others (new_lock c.program objects s turn.facts.heap.new_objects) u m)
 
-    pub lands : StandsBeside p objects (record { words = words; threads = slice_set s.threads t y }) (record q { holdings = later; threads = slice_set q.threads t w })
-    lands = moved_beside p objects s q t words x y later w q.prints beside there (record {
-      fits = fits_by p (has_wait_bit (references_of q.objects) s.words t) (has_wait_bit (references_of q.objects) words t) y y.attempt w (bits_same t) k.fits;
-      ended = k.ended;
-      places = k.stay.places;
-      next = k.stay.free;
-      printed = k.stay.tickets ∙ beside.agrees.prints;
+    pub lands : StandsBeside c.program objects (record { words = words; threads = slice_set s.threads t y }) (record q { holdings = later; threads = slice_set q.threads t w })
+    lands = moved_beside c.program objects s q t words x y later w q.prints beside turn.here (record {
+      fits = fits_by c.program (has_wait_bit (references_of q.objects) s.words t) (has_wait_bit (references_of q.objects) words t) y y.attempt w (bits_same t) on.fits;
+      ended = on.ended;
+      places = on.stay.places;
+      next = on.stay.free;
+      printed = on.stay.tickets ∙ beside.agrees.prints;
       bits = λ u m d. bits_same u m;
-      depths = λ m. k.holds t m ∙ ap (λ (o : Option Thread). depth_of o m) (got_when_set s.threads t x y there);
-      other_depths = λ u m d. k.holds u m ∙ ap (λ (o : Option Thread). depth_of o m) (got_other s.threads t u y d) ∙ sym (beside.agrees.monitors u m);
-      old = λ a word e. never_made x.phase a word old e;
-      new = λ a word e. never_made y.phase a word k.now e;
-      part = k.part;
-      rests = λ e. absurd (not_ended x.phase busy e);
+      depths = λ m. on.holds t m ∙ ap (λ (o : Option Thread). depth_of o m) (got_when_set s.threads t x y turn.here);
+      other_depths = λ u m d. on.holds u m ∙ ap (λ (o : Option Thread). depth_of o m) (got_other s.threads t u y d) ∙ sym (beside.agrees.monitors u m);
+      old = λ a word e. never_made x.phase a word k.old e;
+      new = λ a word e. never_made y.phase a word on.now e;
+      part = on.part;
+      rests = λ e. absurd (not_ended x.phase k.busy e);
     })
 
   -- ---- the event, with the acts that it stands for
 
-  pub record Does (acts : List Act) (words : List ℕ) (y : Thread) : Type 0 where
+  pub record Makes (acts : List Act) (words : List ℕ) (y : Thread) : Type 0 where
     pub after : Plain
-    pub run : plain_run p q (steps_of t acts) ≡ Some after
-    pub beside_it : StandsBeside p objects (record { words = words; threads = slice_set s.threads t y }) after
+    pub run : plain_run c.program q (steps_of t acts) ≡ Some after
+    pub beside_it : StandsBeside c.program objects (record { words = words; threads = slice_set s.threads t y }) after
 
   -- no plain step
-  pub stays : (words : List ℕ) (y : Thread) → Lands words y q.holdings z → Does [] words y
-  stays words y k =
-      let same : record q { holdings = q.holdings; threads = slice_set q.threads t z } ≡ q = λ i. record q { threads = set_as_it_is q.threads t z here i } in
-      record { after = q; run = refl; beside_it = subst (λ (r : Plain). StandsBeside p objects (record { words = words; threads = slice_set s.threads t y }) r) same (lands words y q.holdings z k) }
+  pub stays : (words : List ℕ) (y : Thread) → Lands words y q.holdings k.z → Makes [] words y
+  stays words y on =
+      let same : record q { holdings = q.holdings; threads = slice_set q.threads t k.z } ≡ q = λ i. record q { threads = set_as_it_is q.threads t k.z k.twin i } in
+      record { after = q; run = refl; beside_it = subst (λ (r : Plain). StandsBeside c.program objects (record { words = words; threads = slice_set s.threads t y }) r) same (lands words y q.holdings k.z on) }
 
   -- one
-  pub steps : (act : Act) (words : List ℕ) (y : Thread) (later : List Holding) (w : PlainThread) → plain_run p q (steps_of t (act ∷ [])) ≡ Some (record q { holdings = later; threads = slice_set q.threads t w }) → Lands words y later w
-      → Does (act ∷ []) words y
-  steps act words y later w run k = record { after = record q { holdings = later; threads = slice_set q.threads t w }; run = run; beside_it = lands words y later w k }
+  pub steps : (act : Act) (words : List ℕ) (y : Thread) (later : List Holding) (w : PlainThread) → plain_run c.program q (steps_of t (act ∷ [])) ≡ Some (record q { holdings = later; threads = slice_set q.threads t w }) → Lands words y later w
+      → Makes (act ∷ []) words y
+  steps act words y later w run on = record { after = record q { holdings = later; threads = slice_set q.threads t w }; run = run; beside_it = lands words y later w on }

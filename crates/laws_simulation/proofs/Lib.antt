@@ -25,6 +25,7 @@ pub mod NextBeside
 pub mod OnwardEvents
 pub mod PartBegins
 pub mod PartsDue
+pub mod Turns
 pub mod RootNumbers
 pub mod RunScene
 pub mod Scene

@@ -7,7 +7,8 @@ use Rattle.laws_simulation.proofs.HoldingsAlike.{IsHolding}
 use Rattle.machine_types.specs.PlainState as plain
 use Rattle.machine_types.specs.declared.plain.Act.TheVariants as acts
 
-module _ (p : Program) (q : Plain) (t : ℕ) (z : PlainThread) (here : slice_get q.threads t ≡ Some z) where
+module _ (p : Program) (q : Plain) (t : ℕ) (z : PlainThread)
+    (here : slice_get q.threads t ≡ Some z) where
   -- the step of a thread by its status
   pub one_step : (act : Act) (status : Status) → z.status ≡ status → plain_run p q (steps_of t (act ∷ [])) ≡ step_at p q t z act status
   one_step act status e = ap (λ (o : Option PlainThread). option_and_then (λ r. Some r) (step_of p q t act o)) here ∙ ap (λ (k : Status). option_and_then (λ r. Some r) (step_at p q t z act k)) e ∙ same (step_at p q t z act status)

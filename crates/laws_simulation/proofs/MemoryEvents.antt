@@ -1,20 +1,16 @@
 -- Instructions that write a place, look for an element, or make an object.
-use Rattle.std.proofs.Common.{◌≡◌, ℕ, List, Some, refl}
-use Rattle.checked_program.specs.MarkedProgram.{MarkedProgram}
-use Rattle.machine_types.specs.{Core.Core, Frames.{Top, top_of, effect_at}, PlainMemory.Object, PlainState.Plain, Threads.Thread, declared.{config.Config.Config, effect.Effect.Effect}}
-use Rattle.machine_types.specs.declared.{effect.Effect.TheVariants.{Writes, Indexes, Makes}, phase.Phase.Phase}
+use Rattle.std.proofs.Common.{refl}
+use Rattle.machine_types.specs.{Frames.effect_at, declared.effect.Effect.{Effect, TheVariants.{Writes, Indexes, Makes}}}
 use Rattle.laws_states.specs.SiteLaws.{SitesDiffer, SitesLieInside}
-use Rattle.laws_simulation.{specs.StepsBeside.{IsOfMemory, StepsBeside, MemorySteps}, proofs.{IndexEvents.index_steps, MakeEvents.make_steps, Scene.Scene, WriteEvents.write_steps}}
-use Rattle.machine_types.specs.declared.phase.Phase.TheVariants as phases
+use Rattle.laws_simulation.{specs.StepsBeside.{IsAtEffect, IsOfMemory, MemorySteps}, proofs.{IndexEvents.index_steps, MakeEvents.make_steps, RunScene.Instruction, Scene.Scene}}
+use Rattle.laws_simulation.proofs.{Turns.{StepsOf, by_turn}, WriteEvents.write_steps}
 
-module _ (c : MarkedProgram) (cfg : Config) (objects : List Object) (was : ℕ → Phase) (s : Core) (t : ℕ) (x : Thread) (q : Plain) (scene : Scene c cfg objects was s t x q)
-    (runs : x.phase ≡ phases.Run) (at : Top) (found : top_of c.program x.frames ≡ Some at) where
-  pub memory_by : (e : Effect) → effect_at c.program at ≡ e → IsOfMemory e → StepsBeside c objects s t x q
-  memory_by (Writes v word) e k = write_steps c cfg objects was s t x q scene runs at found v word e
-  memory_by (Indexes array index stored) e k = index_steps c cfg objects was s t x q scene runs at found array index stored e
-  memory_by (Makes word size) e k = make_steps c cfg objects was s t x q scene runs at found word size e
-  memory_by e f k = absurd k
+pub memory_by : (scene : Scene) (e : Effect) → Instruction scene.turn e → IsOfMemory e → StepsOf scene.turn
+memory_by scene (Writes v word) i k = write_steps scene v word i
+memory_by scene (Indexes array index stored) i k = index_steps scene array index stored i
+memory_by scene (Makes word size) i k = make_steps scene word size i
+memory_by scene e i k = absurd k
 
 pub memory_events : SitesDiffer → SitesLieInside → MemorySteps
-memory_events differ inside c cfg objects was s t x q marked width facts beside here outside begins =
-    memory_by c cfg objects was s t x q (record { differ = differ; inside = inside; marked = marked; facts = facts; beside = beside; here = here; outside = outside }) begins.runs begins.at begins.found (effect_at c.program begins.at) refl begins.kind
+memory_events differ inside = by_turn (IsAtEffect IsOfMemory)
+    (λ turn b. memory_by (record { turn = turn; differ = differ; inside = inside }) (effect_at turn.c.program b.at) (record { runs = b.runs; at = b.at; found = b.found; effect = refl }) b.kind)

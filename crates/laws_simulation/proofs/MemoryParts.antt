@@ -4,18 +4,17 @@ use Rattle.std.proofs.Common.{◌≡◌, ◌≢◌, ◌⊎◌, inl, inr, ℕ, �
 use Rattle.std.proofs.lemmas.{Bool.Decides.nat_tests, List.length-replicate}
 use Rattle.jvm_types.specs.{Numbers.has_number, ProgramInvariant.{IsProgram, instances_among, words_of}, declared.class_numbers.TheConstants.INT_ARRAY_CLASS}
 use Rattle.jvm_types.specs.declared.fixed_words.TheConstants.{NEXT_FREE_WORD, NEXT_TICKET_WORD, FIRST_READY_WORD, MONITOR_RECORDS, OBJECT_HEAD_WORDS}
-use Rattle.checked_program.specs.MarkedProgram.{MarkedProgram}
-use Rattle.machine_types.specs.{Agreement.{IsPending, has_wait_bit}, Core.Core, FoundWords.IsHeader, LockWords.lock_of, NewObjects.size_by, Owners.{lock_at, references_of}}
+use Rattle.machine_types.specs.{Agreement.{IsPending, has_wait_bit}, FoundWords.IsHeader, LockWords.lock_of, NewObjects.size_by, Owners.{lock_at, references_of}}
 use Rattle.machine_types.specs.{PlainMemory.{Object, header_of, object_write, new_object, object_end, value_in}, PlainState.{Plain, value_at, written}, Threads.Thread}
-use Rattle.machine_types.specs.{Words.{header_class, header_length, header_word, bits_word, object_size, array_size}, declared.{config.Config.Config, lock.LockWord.LockWord, phase.Phase.Phase}}
-use Rattle.machine_types.proofs.{AttemptsPlain.size_two, Lists.got_when_set}
+use Rattle.machine_types.{specs.{Words.{header_class, header_length, header_word, bits_word, object_size, array_size}, declared.lock.LockWord.LockWord}, proofs.AttemptsPlain.size_two}
+use Rattle.machine_types.proofs.Lists.{got_when_set}
 use Rattle.laws_threads.proofs.MonitorMoves.{contains_got}
 use Rattle.laws_states.{specs.Sites.{Site, Counter, HeaderOf, ValueOf, NewHeaderOf, StaticAt, site_word, IsThere}, proofs.{Headers.new_header, Lists.{contained_got, same_or_not, set_here, set_there}}}
 use Rattle.laws_states.proofs.{WordSteps.apart_on, WordViews.{object_has, has_object}}
 use Rattle.laws_simulation.{specs.StandsBeside.{IsAmong, IsBeingMade, IsPlainNew}, proofs.AssembledObjects.{MakesNone, pending_on, making_on, made_before, made_by_others}}
 use Rattle.laws_simulation.proofs.{PlainObjects.{contains_before, contains_last, contained_last, added_place, new_value, IsZeroIn, new_end, apart_added}, PlainPlaces.{place_low, no_lock_place}}
 use Rattle.laws_simulation.proofs.PlainWrites.{shape_reference, shape_class, shape_long, written_from, written_to, written_references, apart_written, other_place, here_place, NoHeader, known_written, header_shaped}
-use Rattle.laws_simulation.proofs.{Scene.{Scene, Memory}, WaitBits.{bit_by, same_bit, same_lock}}
+use Rattle.laws_simulation.proofs.{Scene.{Scene, new_again, Memory}, WaitBits.{bit_by, same_bit, same_lock}}
 use Rattle.machine_types.specs.declared.lock.LockWord.TheVariants as locks
 use Rattle.machine_types.specs.declared.phase.Phase.TheVariants as phases
 
@@ -35,7 +34,9 @@ no_new_site (ValueOf a i) reference k e = cc
 no_new_site (StaticAt word) reference k e = cc
 no_new_site site reference k e = absurd k
 
-module _ (c : MarkedProgram) (cfg : Config) (objects : List Object) (was : ℕ → Phase) (s : Core) (t : ℕ) (x : Thread) (q : Plain) (scene : Scene c cfg objects was s t x q) where
+module _ (scene : Scene) where
+  open scene use {turn, c, objects, s, t, x, q}
+
   -- ---- words that locks and waiting bits don't stand in
 
   fat_low : (m r : ℕ) → lock_at (references_of q.objects) s.words m ≡ locks.Fat r → r < MONITOR_RECORDS
@@ -70,8 +71,8 @@ module _ (c : MarkedProgram) (cfg : Config) (objects : List Object) (was : ℕ �
   still_among new old a (inl h) = inl h
   still_among new old a (inr h) = inr (making_on s.threads t x new scene.here old a h)
 
-  pub stays : (words : List ℕ) (new : Thread) → words ≡ s.words → MakesNone x.phase → MakesNone new.phase → Memory c.program objects s words q q t new
-  stays words new same old none = subst (λ (ws : List ℕ). Memory c.program objects s ws q q t new) (sym same) (record {
+  pub stays : (words : List ℕ) (new : Thread) → words ≡ s.words → MakesNone x.phase → MakesNone new.phase → Memory turn objects words q new
+  stays words new same old none = subst (λ (ws : List ℕ). Memory turn objects ws q new) (sym same) (record {
     threads = refl;
     holdings = refl;
     prints = refl;
@@ -87,7 +88,8 @@ module _ (c : MarkedProgram) (cfg : Config) (objects : List Object) (was : ℕ �
 
   -- ---- a place is written
 
-  module _ (site : Site) (value : IsValueSite site) (there : IsThere c.program objects s site) (v w : ℕ) (stands : value_at q (site_word site) ≡ Some w) where
+  module _ (site : Site) (value : IsValueSite site) (there : IsThere c.program objects s site)
+      (v w : ℕ) (stands : value_at q (site_word site) ≡ Some w) where
     no_header : NoHeader q.objects (site_word site)
     no_header i o g e = by_side (scene.beside.others o (contains_got q.objects i o g))
       where
@@ -112,7 +114,7 @@ module _ (c : MarkedProgram) (cfg : Config) (objects : List Object) (was : ℕ �
         let o = written_from q.objects (site_word site) v k.0 e (contained_got (object_write q.objects (site_word site) v) e k) in
         subst (λ (a : ℕ). IsAmong objects a ⊎ IsBeingMade (slice_set s.threads t new) a) (sym (shape_reference o.0 e o.2)) (still_among new old o.0.reference (scene.beside.others o.0 (contains_got q.objects k.0 o.0 o.1)))
 
-    pub writes : (new : Thread) → MakesNone x.phase → MakesNone new.phase → Memory c.program objects s (slice_set s.words (site_word site) v) q (written q (site_word site) v) t new
+    pub writes : (new : Thread) → MakesNone x.phase → MakesNone new.phase → Memory turn objects (slice_set s.words (site_word site) v) (written q (site_word site) v) new
     writes new old none = record {
       threads = refl;
       holdings = refl;
@@ -146,7 +148,7 @@ module _ (c : MarkedProgram) (cfg : Config) (objects : List Object) (was : ℕ �
   counter_inside = scene.inside c objects s (Counter NEXT_FREE_WORD) scene.marked scene.facts.heap (omega arith, omega arith)
 
   pub rises : (size : ℕ) (new : Thread) → MakesNone x.phase → MakesNone new.phase
-      → Memory c.program objects s (slice_set s.words NEXT_FREE_WORD (slice_index s.words NEXT_FREE_WORD + size)) q (record q { next = q.next + size }) t new
+      → Memory turn objects (slice_set s.words NEXT_FREE_WORD (slice_index s.words NEXT_FREE_WORD + size)) (record q { next = q.next + size }) new
   rises size new old none =
       let v = slice_index s.words NEXT_FREE_WORD + size in
       record {
@@ -159,16 +161,15 @@ module _ (c : MarkedProgram) (cfg : Config) (objects : List Object) (was : ℕ �
         tickets = set_there s.words NEXT_FREE_WORD NEXT_TICKET_WORD v (λ e. omega (arith, e));
         known = scene.beside.known;
         others = λ e k. still_among new old e.reference (scene.beside.others e k);
-        new_objects = λ u z a word e m. new_as (scene.beside.new_objects u z a word (made_by_others s.threads t x new scene.here none u z a word e m) m);
+        new_objects = λ u z a word e m. new_again c.program q (record q { next = q.next + size }) a word refl (scene.beside.new_objects u z a word (made_by_others s.threads t x new scene.here none u z a word e m) m);
         apart = apart_on c.program q.objects q.statics q.next (q.next + size) (omega arith) scene.beside.apart;
       }
-    where
-      new_as : {a word : ℕ} → IsPlainNew c.program q a word → IsPlainNew c.program (record q { next = q.next + size }) a word
-      new_as k = record { object = k.object; there = k.there; reference = k.reference; class = k.class; values = k.values; header = k.header }
 
   -- ---- an object is made, and its header is still to be stored
 
-  module _ (word : ℕ) (header : IsHeader c.program word) (new : Thread) (old : MakesNone x.phase) (making : new.phase ≡ phases.Made q.next word) (fits : q.next + size_by c.program word ≤ c.program.heap) where
+  module _ (word : ℕ) (header : IsHeader c.program word) (new : Thread) (old : MakesNone x.phase)
+      (making : new.phase ≡ phases.Made q.next word)
+      (fits : q.next + size_by c.program word ≤ c.program.heap) where
     is_program : IsProgram c.program
     is_program = scene.marked.checked.program
 
@@ -259,7 +260,7 @@ module _ (c : MarkedProgram) (cfg : Config) (objects : List Object) (was : ℕ �
     made_one : (a b one other : ℕ) → phases.Made a one ≡ phases.Made b other → (a ≡ b) × (one ≡ other)
     made_one a b one other e = (cc, cc)
 
-    pub makes : Memory c.program objects s grown q with_new t new
+    pub makes : Memory turn objects grown with_new new
     makes = record {
       threads = refl;
       holdings = refl;

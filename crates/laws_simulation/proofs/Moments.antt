@@ -2,14 +2,12 @@
 -- beside when it has moved, and wrote at most a word of a monitor record.
 use Rattle.std.proofs.Common.{◌≡◌, ◌≢◌, ◌⊎◌, inl, inr, ℕ, ◌<◌, ◌≤◌, Bool, true, false, cond, List, ◌∷◌, length, Option, Some, None, refl, sym, ap, ◌∙◌, subst, arith, slice_get, slice_index, slice_set, option_and_then}
 use Rattle.jvm_types.specs.{Numbers.has_number, declared.{fixed_words.TheConstants.{NEXT_FREE_WORD, NEXT_TICKET_WORD, FIRST_RECORD_WORD, FIRST_READY_WORD}, program.Program.Program}}
-use Rattle.checked_program.specs.MarkedProgram.{MarkedProgram}
 use Rattle.machine_types.specs.{Accesses.{found_by, words_after}, Agreement.{has_wait_bit, StatusFits, OutsideFits, ThreadFits, frames_shown, roots_shown}, Core.{Core, accessed_by}}
-use Rattle.machine_types.specs.{Events.{wanted, moved}, History.{acts_of, steps_of}, LockWords.lock_of, Owners.{lock_at, references_of}, PlainMemory.Object}
-use Rattle.machine_types.specs.{PlainState.{Status, Plain, PlainThread, Holding}, PlainSteps.{step_at, step_of, plain_run}, Structure.IsAs, Threads.{Attempt, Thread}, declared.config.Config.Config}
-use Rattle.machine_types.specs.declared.{phase.Phase.Phase, plain.Act.Act}
-use Rattle.laws_states.{specs.{HeapFacts.objects_by, Sites.HasObject, StateFacts.StateFacts}, proofs.{Assembled.got_set, Lists.{set_there, contained_got}, WordViews.has_object}}
+use Rattle.machine_types.specs.{Events.{wanted, moved}, History.{acts_of, steps_of}, LockWords.lock_of, Owners.{lock_at, references_of}, PlainState.{Status, Plain, PlainThread, Holding}}
+use Rattle.machine_types.specs.{PlainSteps.{step_at, step_of, plain_run}, Structure.IsAs, Threads.{Attempt, Thread}, declared.{phase.Phase.Phase, plain.Act.Act}}
+use Rattle.laws_states.{specs.{HeapFacts.objects_by, Sites.HasObject}, proofs.{Assembled.got_set, Lists.{set_there, contained_got}, WordViews.has_object}}
 use Rattle.laws_simulation.{specs.{StandsBeside.{StandsBeside, ends_shown}, StepsBeside.StepsBeside}, proofs.{Assembled.{got_same_length, stands_beside, steps_beside}, HoldingsAlike.HoldAlike}}
-use Rattle.laws_simulation.proofs.{PlainPlaces.place_low, WaitBits.same_lock}
+use Rattle.laws_simulation.proofs.{OwnThread.own, PlainPlaces.place_low, Turns.Turn, WaitBits.same_lock}
 use Rattle.jvm_types.specs.declared.outcome.End.TheVariants as ends
 use Rattle.machine_types.specs.declared.lock.LockWord.TheVariants as locks
 use Rattle.machine_types.specs.declared.phase.Phase.TheVariants as phases
@@ -32,13 +30,8 @@ record_written words w v l h = record {
 
 -- ---- before
 
-pub record Moment (c : MarkedProgram) (cfg : Config) (objects : List Object) (was : ℕ → Phase) (s : Core) (t : ℕ) (x : Thread) (q : Plain) (phase : Phase) (y : PlainThread) : Type 0 where
-  pub facts : StateFacts c cfg objects was s
-  pub beside : StandsBeside c.program objects s q
-  pub got : slice_get s.threads t ≡ Some x
-  pub free : x.attempt ≡ None
-  pub phase_is : x.phase ≡ phase
-  pub twin : slice_get q.threads t ≡ Some y
+pub record Moment (turn : Turn) (phase : Phase) : Type 0 where
+  pub phase_is : turn.x.phase ≡ phase
 
 -- ---- a run of the plain machine begins with a step
 
@@ -58,35 +51,35 @@ pub record IsLater (p : Program) (q : Plain) (words : List ℕ) (threads : List 
   pub fits : ThreadFits p (has_wait_bit (references_of q.objects) words u) z z.attempt now
   pub ends : now.ended ≡ ended.ended
 
-module _ {c : MarkedProgram} {cfg : Config} {objects : List Object} {was : ℕ → Phase} {s : Core} {t : ℕ} {x : Thread} {q : Plain} {phase : Phase} {y : PlainThread} (k : Moment c cfg objects was s t x q phase y) where
+module _ {turn : Turn} {phase : Phase} (k : Moment turn phase) where
+  open turn use {c, objects, was, s, t, x, q}
+  open own turn use {plain as y}
+
   -- ---- what is known of the thread
 
-  pub own_fits : OutsideFits c.program (has_wait_bit (references_of q.objects) s.words t) x y
-  own_fits = subst (λ (a : Option Attempt). ThreadFits c.program (has_wait_bit (references_of q.objects) s.words t) x a y) k.free (k.beside.agrees.threads t x y k.got k.twin)
-
   pub own_status : StatusFits (has_wait_bit (references_of q.objects) s.words t) x phase y.status
-  own_status = subst (λ (f : Phase). StatusFits (has_wait_bit (references_of q.objects) s.words t) x f y.status) k.phase_is own_fits.status
+  own_status = subst (λ (f : Phase). StatusFits (has_wait_bit (references_of q.objects) s.words t) x f y.status) k.phase_is (own turn).fits.status
 
   pub own_frames : y.frames ≡ frames_shown phase x.frames
-  own_frames = own_fits.frames ∙ ap (λ (f : Phase). frames_shown f x.frames) k.phase_is
+  own_frames = (own turn).fits.frames ∙ ap (λ (f : Phase). frames_shown f x.frames) k.phase_is
 
   pub own_roots : y.roots ≡ roots_shown c.program x.part phase x.roots
-  own_roots = own_fits.roots ∙ ap (λ (f : Phase). roots_shown c.program x.part f x.roots) k.phase_is
+  own_roots = (own turn).fits.roots ∙ ap (λ (f : Phase). roots_shown c.program x.part f x.roots) k.phase_is
 
   pub own_ends : y.ended ≡ ends_shown c.program x.part phase
-  own_ends = k.beside.ends t x y k.got k.twin ∙ ap (λ (f : Phase). ends_shown c.program x.part f) k.phase_is
+  own_ends = (own turn).ended ∙ ap (λ (f : Phase). ends_shown c.program x.part f) k.phase_is
 
   pub own_number : x.number ≡ t
-  own_number = (k.facts.threads.own t x k.got).number
+  own_number = (turn.facts.threads.own t x turn.here).number
 
   pub own_as : IsAs phase (was t)
-  own_as = subst (λ (f : Phase). IsAs f (was t)) k.phase_is (k.facts.structure t x k.got).is_as
+  own_as = subst (λ (f : Phase). IsAs f (was t)) k.phase_is (turn.facts.structure t x turn.here).is_as
 
   pub lock_same : (m : ℕ) → lock_at (references_of q.objects) s.words m ≡ lock_at (references_of objects) s.words m
-  lock_same m = same_lock c.program objects s q k.beside.known k.beside.others k.facts.heap.new_objects m
+  lock_same m = same_lock c.program objects s q turn.beside.known turn.beside.others turn.facts.heap.new_objects m
 
   pub holdings_alike : HoldAlike q.holdings s.threads
-  holdings_alike u m = k.beside.agrees.monitors u m
+  holdings_alike u m = turn.beside.agrees.monitors u m
 
   -- ---- the locks stay
 
@@ -94,7 +87,7 @@ module _ {c : MarkedProgram} {cfg : Config} {objects : List Object} {was : ℕ �
   lock_kept later w m = by_test (has_number (references_of q.objects) m) refl
     where
       high : HasObject q.objects m → FIRST_READY_WORD ≤ m
-      high h = let low : FIRST_READY_WORD ≤ h.0.reference = k.beside.apart.begin h.1.0 h.0 (contained_got q.objects h.0 h.1) in subst (λ (i : ℕ). FIRST_READY_WORD ≤ i) h.2 low
+      high h = let low : FIRST_READY_WORD ≤ h.0.reference = turn.beside.apart.begin h.1.0 h.0 (contained_got q.objects h.0 h.1) in subst (λ (i : ℕ). FIRST_READY_WORD ≤ i) h.2 low
 
       by_test : (b : Bool) → has_number (references_of q.objects) m ≡ b → cond b (lock_of (slice_index later m)) (locks.Free 0) ≡ cond b (lock_of (slice_index s.words m)) (locks.Free 0)
       by_test true e = ap lock_of (w.places m (high (has_object q.objects m e)))
@@ -102,12 +95,25 @@ module _ {c : MarkedProgram} {cfg : Config} {objects : List Object} {was : ℕ �
 
   -- ---- the whole
 
-  module _ (later : List ℕ) (x2 : Thread) (holdings : List Holding) (threads : List PlainThread) (y2 : PlainThread)
-      (written : AreRecordsWritten s.words later) (old : (a word : ℕ) → phase ≢ phases.Made a word) (new : (a word : ℕ) → x2.phase ≢ phases.Made a word)
-      (part : x2.part ≡ x.part) (rests : phase ≡ phases.Ended ends.Returned → x2.phase ≡ phases.Ended ends.Returned)
-      (alike : HoldAlike holdings (slice_set s.threads t x2)) (many : length threads ≡ length q.threads)
-      (own : slice_get threads t ≡ Some y2) (free : x2.attempt ≡ None) (fits : OutsideFits c.program (has_wait_bit (references_of q.objects) later t) x2 y2) (ended : y2.ended ≡ ends_shown c.program x2.part x2.phase)
-      (others : (u : ℕ) (z : Thread) (w : PlainThread) → u ≢ t → slice_get s.threads u ≡ Some z → slice_get q.threads u ≡ Some w → IsLater c.program q later threads u z w) where
+  -- the thread has become x2, its plain one y2, and these are the words
+  pub record Becomes (later : List ℕ) (x2 : Thread) (y2 : PlainThread) : Type 0 where
+    pub written : AreRecordsWritten s.words later
+    pub old : (a word : ℕ) → phase ≢ phases.Made a word
+    pub new : (a word : ℕ) → x2.phase ≢ phases.Made a word
+    pub part : x2.part ≡ x.part
+    pub rests : phase ≡ phases.Ended ends.Returned → x2.phase ≡ phases.Ended ends.Returned
+    pub free : x2.attempt ≡ None
+    pub fits : OutsideFits c.program (has_wait_bit (references_of q.objects) later t) x2 y2
+    pub ended : y2.ended ≡ ends_shown c.program x2.part x2.phase
+
+  module _ (later : List ℕ) (x2 : Thread) (y2 : PlainThread) (becomes : Becomes later x2 y2)
+      (holdings : List Holding) (threads : List PlainThread)
+      (alike : HoldAlike holdings (slice_set s.threads t x2))
+      (many : length threads ≡ length q.threads) (own : slice_get threads t ≡ Some y2)
+      (others : (u : ℕ) (z : Thread) (w : PlainThread) → u ≢ t → slice_get s.threads u ≡ Some z
+      → slice_get q.threads u ≡ Some w → IsLater c.program q later threads u z w) where
+    open becomes use {written, old, new, part, rests, free, fits, ended}
+
     abbrev Both : (u : ℕ) → Thread → PlainThread → Type 0
     Both u z w = ThreadFits c.program (has_wait_bit (references_of q.objects) later u) z z.attempt w × (w.ended ≡ ends_shown c.program z.part z.phase)
 
@@ -129,13 +135,13 @@ module _ {c : MarkedProgram} {cfg : Config} {objects : List Object} {was : ℕ �
             let l : IsLater c.program q later threads u z first.0 = others u z first.0 e.0 e.1 first.1 in
             let there : slice_get threads u ≡ Some l.now = l.twin in
             let same : l.now ≡ w = cc in
-            subst (λ (v : PlainThread). Both u z v) same (l.fits, l.ends ∙ k.beside.ends u z first.0 e.1 first.1)
+            subst (λ (v : PlainThread). Both u z v) same (l.fits, l.ends ∙ turn.beside.ends u z first.0 e.1 first.1)
 
     pub moved_beside : StandsBeside c.program objects (record { words = later; threads = slice_set s.threads t x2 }) (record q { holdings = holdings; threads = threads })
-    moved_beside = stands_beside c.program objects s q t later x x2 holdings threads q.prints k.beside k.got (record {
-      places = λ i v e. written.places i (place_low c.program q k.beside.apart i v e).0;
+    moved_beside = stands_beside c.program objects s q t later x x2 holdings threads q.prints turn.beside turn.here (record {
+      places = λ i v e. written.places i (place_low c.program q turn.beside.apart i v e).0;
       next = written.counters NEXT_FREE_WORD (omega arith);
-      printed = written.counters NEXT_TICKET_WORD (omega arith) ∙ k.beside.agrees.prints;
+      printed = written.counters NEXT_TICKET_WORD (omega arith) ∙ turn.beside.agrees.prints;
       monitors = alike;
       many = many;
       each = thread_fits;
@@ -151,7 +157,7 @@ module _ {c : MarkedProgram} {cfg : Config} {objects : List Object} {was : ℕ �
       → words_after s.words (wanted c x phase) ≡ later → moved c x phase (found_by s.words (wanted c x phase)) ≡ x2 → plain_run c.program q (steps_of t acts) ≡ Some behind
       → StandsBeside c.program objects (record { words = later; threads = slice_set s.threads t x2 }) behind → StepsBeside c objects s t x q
   stepped later x2 acts behind none ea ew em run beside =
-      steps_beside c objects s t x q behind k.got (ap (λ (f : Phase). objects_by c.program f objects) k.phase_is ∙ none)
+      steps_beside turn behind (ap (λ (f : Phase). objects_by c.program f objects) k.phase_is ∙ none)
       (ap (λ (f : Phase). plain_run c.program q (steps_of t (acts_of c x f (found_by s.words (wanted c x f))))) k.phase_is ∙ ap (λ (l : List Act). plain_run c.program q (steps_of t l)) ea ∙ run)
       (subst (λ (r : Core). StandsBeside c.program objects r behind) (sym state_is) beside)
     where

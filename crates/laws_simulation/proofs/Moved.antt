@@ -3,14 +3,13 @@
 use Rattle.std.proofs.Common.{◌≡◌, ◌≢◌, ◌⊎◌, inl, inr, ℕ, zero, suc, ◌+◌, ◌<◌, nat_lt, Bool, true, false, cond, List, [], ◌∷◌, Option, Some, None, refl, sym, ap, ◌∙◌, subst, arith, slice_get, slice_set}
 use Rattle.std.proofs.lemmas.List.{length-set}
 use Rattle.jvm_types.specs.{Numbers.has_flag, declared.{fixed_words.TheConstants.{MONITOR_RECORDS, FIRST_READY_WORD}, outcome.End.End, program.Program.Program}}
-use Rattle.checked_program.specs.MarkedProgram.{MarkedProgram, IsMarked}
-use Rattle.machine_types.specs.{Agreement.{has_wait_bit, StatusFits, OutsideFits, frames_shown, roots_shown}, Core.Core, Going.runs, HeldMonitors.held_at, Monitors.bit_of}
+use Rattle.machine_types.specs.{Agreement.{has_wait_bit, StatusFits, OutsideFits, frames_shown, roots_shown}, Going.runs, HeldMonitors.held_at, Monitors.bit_of}
 use Rattle.machine_types.specs.{Owners.{Knows, lock_at, owner_at, locks_in, references_of, hold_by_kept, hold_by_list, hold_by_word, HeldFat}, Parts.done_roots, PlainMemory.Object}
 use Rattle.machine_types.specs.{PlainState.{Status, Plain, PlainThread, Holding}, Structure.{IsFat, Stands}, Threads.{Frame, Thread}, Waiting.{MayWait, Waits, is_bit_set}}
-use Rattle.machine_types.{specs.{Words.{owner_word, bits_word}, declared.{config.Config.Config, lock.{Held.Held, LockWord.LockWord}, phase.Phase.Phase}}, proofs.Lists.{got_when_set, got_other}}
+use Rattle.machine_types.{specs.{Words.{owner_word, bits_word}, declared.{lock.{Held.Held, LockWord.LockWord}, phase.Phase.Phase}}, proofs.Lists.{got_when_set, got_other}}
 use Rattle.laws_states.{specs.{SiteLaws.SitesLieInside, Sites.BitsOf}, proofs.{Lists.{set_here, set_there, same_or_not}, LockViews.fatly}}
 use Rattle.laws_simulation.{specs.StandsBeside.{StandsBeside, own_end, end_of_done, ends_shown}, proofs.HoldingsAlike.{HoldAlike, alike_kept}}
-use Rattle.laws_simulation.proofs.{Moments.{Moment, AreRecordsWritten, record_written, lock_same, lock_kept, holdings_alike, moved_beside}, WaitBits.{bit_by, fits_by}}
+use Rattle.laws_simulation.proofs.{Moments.{Moment, AreRecordsWritten, record_written, lock_same, lock_kept, holdings_alike, moved_beside}, OwnThread.own, Turns.Turn, WaitBits.{bit_by, fits_by}}
 use Rattle.laws_simulation.proofs.WaitersHaveBits.{bit_in, bit_of_fat}
 use Rattle.jvm_types.specs.declared.outcome.End.TheVariants as ends
 use Rattle.machine_types.specs.PlainState as plain
@@ -47,10 +46,6 @@ run_roots p part roots false = refl
 pub run_end : (b : Bool) → own_end (cond b phases.Run (phases.Ending ends.Steps)) ≡ []
 run_end true = refl
 run_end false = refl
-
-pub run_made : (b : Bool) (a word : ℕ) → cond b phases.Run (phases.Ending ends.Steps) ≢ phases.Made a word
-run_made true a word = λ e. cc
-run_made false a word = λ e. cc
 
 pub runs_outside : (p : Program) (bit : ℕ → Bool) (z : Thread) (w : PlainThread) → ((m : ℕ) → bit m ≡ false) → w.frames ≡ z.frames → w.status ≡ plain.Run → w.roots ≡ z.roots → OutsideFits p bit (runs z) w
 runs_outside p bit z w off frames status roots =
@@ -90,22 +85,25 @@ pub record HasFat (objects : List Object) (words : List ℕ) (t m r : ℕ) (x : 
   pub owner : owner_at words r ≡ t + 1
   pub low : r < MONITOR_RECORDS
 
-module _ {c : MarkedProgram} {cfg : Config} {objects : List Object} {was : ℕ → Phase} {s : Core} {t : ℕ} {x : Thread} {q : Plain} {phase : Phase} {y : PlainThread} (k : Moment c cfg objects was s t x q phase y) where
+module _ {turn : Turn} {phase : Phase} (k : Moment turn phase) where
+  open turn use {c, objects, was, s, t, x, q}
+  open own turn use {plain as y, here as twin}
+
   pub fat_low : (m r : ℕ) → lock_at (references_of objects) s.words m ≡ locks.Fat r → r < MONITOR_RECORDS
-  fat_low m r e = (k.facts.owners.locks_are.below m r e).1
+  fat_low m r e = (turn.facts.owners.locks_are.below m r e).1
 
   -- a record belongs to one monitor
   pub fat_one : (m n r : ℕ) → lock_at (references_of objects) s.words m ≡ locks.Fat r → lock_at (references_of objects) s.words n ≡ locks.Fat r → m ≡ n
-  fat_one m n r e f = k.facts.owners.locks_are.one m n r e f
+  fat_one m n r e f = turn.facts.owners.locks_are.one m n r e f
 
   pub counted : (f : Phase) → was t ≡ f → Stands c f x.frames x.held x.attempt
-  counted f e = subst (λ (g : Phase). Stands c g x.frames x.held x.attempt) e (k.facts.structure t x k.got).stands
+  counted f e = subst (λ (g : Phase). Stands c g x.frames x.held x.attempt) e (turn.facts.structure t x turn.here).stands
 
   pub knows : (f : Phase) → was t ≡ f → Knows (locks_in (references_of objects) s.words) t f
-  knows f e = subst (λ (g : Phase). Knows (locks_in (references_of objects) s.words) t g) e (k.facts.owners.each t x k.got).knows
+  knows f e = subst (λ (g : Phase). Knows (locks_in (references_of objects) s.words) t g) e (turn.facts.owners.each t x turn.here).knows
 
   pub waits_now : (f : Phase) → was t ≡ f → Waits s.words t f
-  waits_now f e = subst (λ (g : Phase). Waits s.words t g) e (k.facts.waiting.each t x k.got)
+  waits_now f e = subst (λ (g : Phase). Waits s.words t g) e (turn.facts.waiting.each t x turn.here)
 
   -- whoever owns the record of a monitor
   pub owning : (u : ℕ) (z : Thread) (m r : ℕ) → slice_get s.threads u ≡ Some z → IsFat r (held_at z.held m) → HasFat objects s.words u m r z
@@ -114,7 +112,7 @@ module _ {c : MarkedProgram} {cfg : Config} {objects : List Object} {was : ℕ �
       by_held : (o : Option Held) → held_at z.held m ≡ o → IsFat r o → HasFat objects s.words u m r z
       by_held None e f = absurd f
       by_held (Some h) e f =
-          let holds : hold_by_word u (lock_at (references_of objects) s.words m) (owner_at s.words) ≡ HeldFat r = (k.facts.owners.each u z got).holds m ∙ ap hold_by_list e ∙ ap hold_by_kept f in
+          let holds : hold_by_word u (lock_at (references_of objects) s.words m) (owner_at s.words) ≡ HeldFat r = (turn.facts.owners.each u z got).holds m ∙ ap hold_by_list e ∙ ap hold_by_kept f in
           let both = fatly u (lock_at (references_of objects) s.words m) (owner_at s.words) r holds in
           record { held = h; is = e; kept = f; lock = both.0; owner = both.1; low = fat_low m r both.0 }
 
@@ -158,11 +156,12 @@ module _ {c : MarkedProgram} {cfg : Config} {objects : List Object} {was : ℕ �
       → ((u m : ℕ) → u ≢ t → has_wait_bit (references_of q.objects) later u m ≡ has_wait_bit (references_of q.objects) s.words u m)
       → StandsBeside c.program objects (record { words = later; threads = slice_set s.threads t x2 }) q
   quiet_beside later x2 w old new part rests held free fits ended same =
-      moved_beside k later x2 q.holdings q.threads y w old new part rests (alike_kept q.holdings s.threads (holdings_alike k) t x x2 k.got held) refl k.twin free fits ended
+      moved_beside k later x2 y (record { written = w; old = old; new = new; part = part; rests = rests; free = free; fits = fits; ended = ended })
+      q.holdings q.threads (alike_kept q.holdings s.threads (holdings_alike k) t x x2 turn.here held) refl twin
       (λ u z v d g h. record {
         now = v;
         twin = h;
-        fits = fits_by c.program (has_wait_bit (references_of q.objects) s.words u) (has_wait_bit (references_of q.objects) later u) z z.attempt v (λ m. same u m d) (k.beside.agrees.threads u z v g h);
+        fits = fits_by c.program (has_wait_bit (references_of q.objects) s.words u) (has_wait_bit (references_of q.objects) later u) z z.attempt v (λ m. same u m d) (turn.beside.agrees.threads u z v g h);
         ends = refl;
       })
 
@@ -174,35 +173,36 @@ module _ {c : MarkedProgram} {cfg : Config} {objects : List Object} {was : ℕ �
       → ((u m : ℕ) → u ≢ t → has_wait_bit (references_of q.objects) later u m ≡ has_wait_bit (references_of q.objects) s.words u m)
       → StandsBeside c.program objects (record { words = later; threads = slice_set s.threads t x2 }) (record q { holdings = holdings; threads = slice_set q.threads t y2 })
   alone_beside later x2 holdings y2 w old new part rests alike free fits ended same =
-      moved_beside k later x2 holdings (slice_set q.threads t y2) y2 w old new part rests alike (length-set q.threads t y2) (got_when_set q.threads t y y2 k.twin) free fits ended
+      moved_beside k later x2 y2 (record { written = w; old = old; new = new; part = part; rests = rests; free = free; fits = fits; ended = ended })
+      holdings (slice_set q.threads t y2) alike (length-set q.threads t y2) (got_when_set q.threads t y y2 twin)
       (λ u z v d g h. record {
         now = v;
         twin = got_other q.threads t u y2 d ∙ h;
-        fits = fits_by c.program (has_wait_bit (references_of q.objects) s.words u) (has_wait_bit (references_of q.objects) later u) z z.attempt v (λ m. same u m d) (k.beside.agrees.threads u z v g h);
+        fits = fits_by c.program (has_wait_bit (references_of q.objects) s.words u) (has_wait_bit (references_of q.objects) later u) z z.attempt v (λ m. same u m d) (turn.beside.agrees.threads u z v g h);
         ends = refl;
       })
 
   -- ---- a word of waiting bits is written
 
-  pub bits_here : SitesLieInside → IsMarked c → (r v u : ℕ) → r < MONITOR_RECORDS → is_bit_set (slice_set s.words (bits_word r) v) r u ≡ has_flag (bit_of u) v
-  bits_here inside marked r v u low = ap (λ (n : ℕ). has_flag (bit_of u) n) (set_here s.words (bits_word r) v (inside c objects s (BitsOf r) marked k.facts.heap low))
+  pub bits_here : SitesLieInside → (r v u : ℕ) → r < MONITOR_RECORDS → is_bit_set (slice_set s.words (bits_word r) v) r u ≡ has_flag (bit_of u) v
+  bits_here inside r v u low = ap (λ (n : ℕ). has_flag (bit_of u) n) (set_here s.words (bits_word r) v (inside c objects s (BitsOf r) turn.marked turn.facts.heap low))
 
   -- where the bit of u is as it was
-  pub bits_else : SitesLieInside → IsMarked c → (r v u : ℕ) → r < MONITOR_RECORDS → has_flag (bit_of u) v ≡ is_bit_set s.words r u → (n : ℕ) → is_bit_set (slice_set s.words (bits_word r) v) n u ≡ is_bit_set s.words n u
-  bits_else inside marked r v u low e n = by_record (same_or_not n r)
+  pub bits_else : SitesLieInside → (r v u : ℕ) → r < MONITOR_RECORDS → has_flag (bit_of u) v ≡ is_bit_set s.words r u → (n : ℕ) → is_bit_set (slice_set s.words (bits_word r) v) n u ≡ is_bit_set s.words n u
+  bits_else inside r v u low e n = by_record (same_or_not n r)
     where
       by_record : (n ≡ r) ⊎ (n ≢ r) → is_bit_set (slice_set s.words (bits_word r) v) n u ≡ is_bit_set s.words n u
-      by_record (inl f) = subst (λ (i : ℕ). is_bit_set (slice_set s.words (bits_word r) v) i u ≡ is_bit_set s.words i u) (sym f) (bits_here inside marked r v u low ∙ e)
+      by_record (inl f) = subst (λ (i : ℕ). is_bit_set (slice_set s.words (bits_word r) v) i u ≡ is_bit_set s.words i u) (sym f) (bits_here inside r v u low ∙ e)
       by_record (inr d) = other_bits s.words r v n u d
 
   -- bits are cleared
-  pub bits_less : SitesLieInside → IsMarked c → (r v u : ℕ) → r < MONITOR_RECORDS → (has_flag (bit_of u) v ≡ true → is_bit_set s.words r u ≡ true) → (n : ℕ) → is_bit_set (slice_set s.words (bits_word r) v) n u ≡ true → is_bit_set s.words n u ≡ true
-  bits_less inside marked r v u low less n set = by_record (same_or_not n r)
+  pub bits_less : SitesLieInside → (r v u : ℕ) → r < MONITOR_RECORDS → (has_flag (bit_of u) v ≡ true → is_bit_set s.words r u ≡ true) → (n : ℕ) → is_bit_set (slice_set s.words (bits_word r) v) n u ≡ true → is_bit_set s.words n u ≡ true
+  bits_less inside r v u low less n set = by_record (same_or_not n r)
     where
       by_record : (n ≡ r) ⊎ (n ≢ r) → is_bit_set s.words n u ≡ true
       by_record (inl f) =
           let here : is_bit_set (slice_set s.words (bits_word r) v) r u ≡ true = subst (λ (i : ℕ). is_bit_set (slice_set s.words (bits_word r) v) i u ≡ true) f set in
-          subst (λ (i : ℕ). is_bit_set s.words i u ≡ true) (sym f) (less (sym (bits_here inside marked r v u low) ∙ here))
+          subst (λ (i : ℕ). is_bit_set s.words i u ≡ true) (sym f) (less (sym (bits_here inside r v u low) ∙ here))
       by_record (inr d) = sym (other_bits s.words r v n u d) ∙ set
 
   pub waits_less : (later : List ℕ) → AreRecordsWritten s.words later → (u : ℕ) → ((r : ℕ) → is_bit_set later r u ≡ true → is_bit_set s.words r u ≡ true)

@@ -1,14 +1,13 @@
 -- A thread in no attempt that is about to move by its phase, with its plain thread; and what becomes of both.
-use Rattle.std.proofs.Common.{◌≡◌, ℕ, ◌+◌, nat_lt, Bool, true, false, cond, List, [], ◌∷◌, Option, Some, None, refl, sym, ap, ◌∙◌, subst, slice_get, slice_set}
+use Rattle.std.proofs.Common.{◌≡◌, ℕ, ◌+◌, nat_lt, Bool, true, false, cond, List, [], ◌∷◌, Option, Some, None, refl, sym, ap, ◌∙◌, subst, slice_set}
 use Rattle.jvm_types.specs.declared.program.Program.{Program}
-use Rattle.checked_program.specs.MarkedProgram.{MarkedProgram, IsMarked}
-use Rattle.machine_types.specs.{Agreement.{StatusFits, OutsideFits, ThreadFits, IsTurning, has_wait_bit, frames_shown, roots_shown}, Core.Core, Going.{with_phase, runs, failed_turn, goes_on}}
-use Rattle.machine_types.specs.{History.steps_of, Onward.{Onward, Running, Throwing, Entering, Leaving, RootReturned, Uncaught}, Owners.references_of, Parts.has_finished, PlainMemory.Object}
-use Rattle.machine_types.specs.{PlainState.{Plain, PlainThread, Holding}, PlainSteps.plain_run, Threads.{Attempt, Frame, Thread}, declared.{config.Config.Config, phase.Phase.Phase, plain.Act.Act}}
+use Rattle.machine_types.specs.{Agreement.{StatusFits, OutsideFits, ThreadFits, IsTurning, has_wait_bit, frames_shown, roots_shown}, Going.{with_phase, runs, failed_turn, goes_on}, History.steps_of}
+use Rattle.machine_types.specs.{Onward.{Onward, Running, Throwing, Entering, Leaving, RootReturned, Uncaught}, Owners.references_of, Parts.has_finished, PlainState.{Plain, PlainThread, Holding}}
+use Rattle.machine_types.specs.{PlainSteps.plain_run, Threads.{Attempt, Frame, Thread}, declared.{phase.Phase.Phase, plain.Act.Act}}
 use Rattle.laws_threads.proofs.ThreadMove.{same_onward}
-use Rattle.laws_states.{specs.StateFacts.StateFacts, proofs.Phases.IsOldPhase}
-use Rattle.laws_simulation.{specs.StandsBeside.{StandsBeside, end_of_done, ends_shown}, proofs.GoingOnAlike.{IsUnderWay, OwnFits, IsAwake, PartRuns, ends_before, awake_fits, none_ends, runs_alike}}
-use Rattle.laws_simulation.proofs.{HoldingsAlike.{HoldAlike, alike_kept}, Landing.{WordsStay, Does, stays, steps}, OwnThread.IsBusy}
+use Rattle.laws_states.proofs.Phases.{IsOldPhase}
+use Rattle.laws_simulation.{specs.StandsBeside.{end_of_done, ends_shown}, proofs.GoingOnAlike.{OwnFits, PartRuns, ends_before, awake_fits, none_ends, runs_alike}}
+use Rattle.laws_simulation.proofs.{HoldingsAlike.{HoldAlike, alike_kept}, Landing.{WordsStay, Makes, stays, steps}, OwnThread.Moving, Turns.Turn}
 use Rattle.jvm_types.specs.declared.outcome.End.TheVariants as ends
 use Rattle.machine_types.specs.PlainState as plain
 use Rattle.machine_types.specs.declared.phase.Phase.TheVariants as phases
@@ -62,57 +61,36 @@ goes_old s RootReturned = by_roots s.roots
     by_roots (number ∷ roots) = tt
 goes_old s (Uncaught class) = tt
 
--- ---- before the move
+-- ---- its event stands for acts, leaves words, and makes y of it
 
-pub record Moving (c : MarkedProgram) (cfg : Config) (objects : List Object) (was : ℕ → Phase) (s : Core) (t : ℕ) (x : Thread) (q : Plain) : Type 0 where
-  pub marked : IsMarked c
-  pub facts : StateFacts c cfg objects was s
-  pub beside : StandsBeside c.program objects s q
-  pub there : slice_get s.threads t ≡ Some x
-  pub outside : x.attempt ≡ None
-  pub busy : IsBusy x.phase
-  pub old : IsOldPhase x.phase
-  pub counts : was t ≡ x.phase
-  -- its plain thread
-  pub z : PlainThread
-  pub here : slice_get q.threads t ≡ Some z
-  pub fits : OutsideFits c.program (has_wait_bit (references_of q.objects) s.words t) x z
-  pub ended : z.ended ≡ ends_shown c.program x.part x.phase
-  pub frames : z.frames ≡ x.frames
-  pub under_way : IsUnderWay c.program x.part x.roots z
-  -- it doesn't wait
-  pub awake : IsAwake (has_wait_bit (references_of q.objects) s.words t)
-
-module _ (c : MarkedProgram) (cfg : Config) (objects : List Object) (was : ℕ → Phase) (s : Core) (t : ℕ) (x : Thread) (q : Plain) (k : Moving c cfg objects was s t x q) where
-  -- its event stands for these acts, leaves these words, and makes y of it
-  abbrev pub Makes : List Act → List ℕ → Thread → Type 0
-  Makes acts words y = Does c.program objects s q k.beside k.facts.heap.new_objects t x k.z k.there k.here k.busy k.old acts words y
+module _ {turn : Turn} (k : Moving turn) where
+  open turn use {c, objects, s, t, x, q, beside, here, outside}
 
   outside_fits : (y : Thread) (a : Option Attempt) (w : PlainThread) → a ≡ None → OutsideFits c.program (has_wait_bit (references_of q.objects) s.words t) y w → ThreadFits c.program (has_wait_bit (references_of q.objects) s.words t) y a w
   outside_fits y a w e f = subst (λ (b : Option Attempt). ThreadFits c.program (has_wait_bit (references_of q.objects) s.words t) y b w) (sym e) f
 
   -- the plain thread makes no step
   pub stays_with : (words : List ℕ) (y : Thread) → WordsStay objects s q words → HoldAlike q.holdings (slice_set s.threads t y) → y.attempt ≡ x.attempt → y.part ≡ x.part → IsOldPhase y.phase → OwnFits c.program (has_wait_bit (references_of q.objects) s.words t) y k.z
-      → Makes [] words y
-  stays_with words y stay holds attempt part now fits = stays c.program objects s q k.beside k.facts.heap.new_objects t x k.z k.there k.here k.busy k.old words y (record {
+      → Makes k [] words y
+  stays_with words y stay holds attempt part now fits = stays k words y (record {
     stay = stay;
     holds = holds;
-    fits = outside_fits y y.attempt k.z (attempt ∙ k.outside) fits.outside;
+    fits = outside_fits y y.attempt k.z (attempt ∙ outside) fits.outside;
     ended = fits.ended;
     now = now;
     part = part;
   })
 
-  pub stays_as : (words : List ℕ) (y : Thread) → WordsStay objects s q words → y.held ≡ x.held → y.attempt ≡ x.attempt → y.part ≡ x.part → IsOldPhase y.phase → OwnFits c.program (has_wait_bit (references_of q.objects) s.words t) y k.z → Makes [] words y
-  stays_as words y stay held attempt part now fits = stays_with words y stay (alike_kept q.holdings s.threads k.beside.agrees.monitors t x y k.there held) attempt part now fits
+  pub stays_as : (words : List ℕ) (y : Thread) → WordsStay objects s q words → y.held ≡ x.held → y.attempt ≡ x.attempt → y.part ≡ x.part → IsOldPhase y.phase → OwnFits c.program (has_wait_bit (references_of q.objects) s.words t) y k.z → Makes k [] words y
+  stays_as words y stay held attempt part now fits = stays_with words y stay (alike_kept q.holdings s.threads beside.agrees.monitors t x y here held) attempt part now fits
 
   -- it makes one
   pub steps_as : (act : Act) (words : List ℕ) (y : Thread) (later : List Holding) (w : PlainThread) → plain_run c.program q (steps_of t (act ∷ [])) ≡ Some (record q { holdings = later; threads = slice_set q.threads t w })
-      → WordsStay objects s q words → HoldAlike later (slice_set s.threads t y) → y.attempt ≡ x.attempt → y.part ≡ x.part → IsOldPhase y.phase → OwnFits c.program (has_wait_bit (references_of q.objects) s.words t) y w → Makes (act ∷ []) words y
-  steps_as act words y later w run stay holds attempt part now fits = steps c.program objects s q k.beside k.facts.heap.new_objects t x k.z k.there k.here k.busy k.old act words y later w run (record {
+      → WordsStay objects s q words → HoldAlike later (slice_set s.threads t y) → y.attempt ≡ x.attempt → y.part ≡ x.part → IsOldPhase y.phase → OwnFits c.program (has_wait_bit (references_of q.objects) s.words t) y w → Makes k (act ∷ []) words y
+  steps_as act words y later w run stay holds attempt part now fits = steps k act words y later w run (record {
     stay = stay;
     holds = holds;
-    fits = outside_fits y y.attempt w (attempt ∙ k.outside) fits.outside;
+    fits = outside_fits y y.attempt w (attempt ∙ outside) fits.outside;
     ended = fits.ended;
     now = now;
     part = part;
@@ -129,22 +107,22 @@ module _ (c : MarkedProgram) (cfg : Config) (objects : List Object) (was : ℕ �
     ended = k.under_way.ended ∙ sym (none_ends c.program x.part x.roots y.phase k.under_way.runs (calm_ends y.phase calm)) ∙ ap (λ (n : ℕ). ends_shown c.program n y.phase) (sym part);
   }
 
-  pub to_phase : (words : List ℕ) (phase : Phase) → WordsStay objects s q words → IsCalm phase → StatusFits (has_wait_bit (references_of q.objects) s.words t) (with_phase x phase) phase k.z.status → Makes [] words (with_phase x phase)
+  pub to_phase : (words : List ℕ) (phase : Phase) → WordsStay objects s q words → IsCalm phase → StatusFits (has_wait_bit (references_of q.objects) s.words t) (with_phase x phase) phase k.z.status → Makes k [] words (with_phase x phase)
   to_phase words phase stay calm status = stays_as words (with_phase x phase) stay refl refl refl (calm_old phase calm) (calm_fits (with_phase x phase) calm refl refl refl status)
 
   -- it stays as it is
   pub itself_fits : OwnFits c.program (has_wait_bit (references_of q.objects) s.words t) x k.z
   itself_fits = record { outside = k.fits; ended = k.ended }
 
-  pub stays_itself : (words : List ℕ) → WordsStay objects s q words → Makes [] words x
+  pub stays_itself : (words : List ℕ) → WordsStay objects s q words → Makes k [] words x
   stays_itself words stay = stays_as words x stay refl refl refl k.old itself_fits
 
   -- a turn has failed
   pub turned : (words : List ℕ) (phase : Phase) → WordsStay objects s q words → IsCalm phase → StatusFits (has_wait_bit (references_of q.objects) s.words t) (record x { turns = x.turns + 1; phase = phase }) phase k.z.status → IsTurning k.z.status
-      → Makes [] words (failed_turn x phase)
+      → Makes k [] words (failed_turn x phase)
   turned words phase stay calm status turning = by_test (nat_lt (x.turns + 1) x.cfg.turns)
     where
-      by_test : (b : Bool) → Makes [] words (record x { turns = x.turns + 1; phase = cond b phase (phases.Ending ends.Turns) })
+      by_test : (b : Bool) → Makes k [] words (record x { turns = x.turns + 1; phase = cond b phase (phases.Ending ends.Turns) })
       by_test true = stays_as words (record x { turns = x.turns + 1; phase = phase }) stay refl refl refl (calm_old phase calm) (calm_fits (record x { turns = x.turns + 1; phase = phase }) calm refl refl refl status)
       by_test false = stays_as words (record x { turns = x.turns + 1; phase = phases.Ending ends.Turns }) stay refl refl refl tt
           (calm_fits (record x { turns = x.turns + 1; phase = phases.Ending ends.Turns }) refl refl refl refl (awake_fits (has_wait_bit (references_of q.objects) s.words t) k.z.status (IsTurning k.z.status) k.awake turning))

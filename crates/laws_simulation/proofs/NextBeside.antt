@@ -6,13 +6,13 @@ use Rattle.jvm_types.specs.{ClassNames.file_class, declared.{outcome.End.End, pr
 use Rattle.laws_programs.specs.RootLaws.{RunIsThere}
 use Rattle.checked_program.specs.MarkedProgram.{MarkedProgram, IsMarked}
 use Rattle.machine_types.specs.Agreement.{OutsideFits, ThreadFits, StatusFits, frames_shown, roots_shown, start_status}
-use Rattle.machine_types.specs.Core.{Core, part_phase, may_begin, may_begin_by, ended_by, how_ended, with_roots, workers_begin, done_begins, part_begins, next_threads, next}
-use Rattle.machine_types.specs.{Parts.{numbers_of, is_entry_named, run_roots, done_roots, has_returned}, PlainMemory.Object, PlainState.{Plain, PlainThread}}
-use Rattle.machine_types.{specs.{Structure.{IsStructured, IsAs, AttemptStandsIn, IsPhaseInside}, Threads.{Attempt, Thread}, declared.{config.Config.Config, phase.Phase.Phase}}, proofs.Lists.got_below}
+use Rattle.machine_types.specs.Core.{part_phase, may_begin, may_begin_by, how_ended, with_roots, workers_begin, done_begins, part_begins, next_threads, next}
+use Rattle.machine_types.specs.{Parts.{numbers_of, is_entry_named, run_roots, done_roots}, PlainState.PlainThread, Structure.{IsStructured, IsAs, AttemptStandsIn, IsPhaseInside}}
+use Rattle.machine_types.{specs.{Threads.{Attempt, Thread}, declared.phase.Phase.Phase}, proofs.Lists.got_below}
 use Rattle.laws_threads.{specs.PartLaws.{PartFits, PartsFit}, proofs.PartSteps.returned}
-use Rattle.laws_states.specs.{PartsStand.HasReturned, StateFacts.StateFacts}
+use Rattle.laws_states.specs.PartsStand.{HasReturned}
 use Rattle.laws_simulation.{specs.{StandsBeside.{StandsBeside, ends_shown, end_of_done}, StepsBeside.NextStandsBeside}, proofs.PartBegins.{Alike, Pairs, same_pairs, begins_beside}}
-use Rattle.laws_simulation.proofs.PartsDue.{rests_between, no_attempt}
+use Rattle.laws_simulation.proofs.{PartsDue.{rests_between, no_attempt}, Turns.States}
 use Rattle.jvm_types.specs.declared.outcome.End.TheVariants as ends
 use Rattle.machine_types.specs.declared.phase.Phase.TheVariants as phases
 
@@ -134,8 +134,10 @@ all_idle [] u z all e = absurd (cc)
 all_idle (w ∷ workers) zero z all e = ap (λ (v : Thread). v.phase) (sym (same_some e)) ∙ all.0
 all_idle (w ∷ workers) (suc u) z all e = all_idle workers u z all.1 e
 
-module _ (stands : RunIsThere) (c : MarkedProgram) (cfg : Config) (objects : List Object) (was : ℕ → Phase) (s : Core) (q : Plain) (marked : IsMarked c) (facts : StateFacts c cfg objects was s) (beside : StandsBeside c.program objects s q)
-    (x : Thread) (workers : List Thread) (threads : s.threads ≡ x ∷ workers) where
+module _ (stands : RunIsThere) (states : States) (x : Thread) (workers : List Thread)
+    (threads : states.s.threads ≡ x ∷ workers) where
+  open states use {c, objects, was, s, q, marked, facts, beside}
+
   first : slice_get s.threads 0 ≡ Some x
   first = ap (λ (xs : List Thread). slice_get xs 0) threads
 
@@ -156,7 +158,7 @@ module _ (stands : RunIsThere) (c : MarkedProgram) (cfg : Config) (objects : Lis
 
   -- the workers' part
   run_begins : x.part ≡ 0 → x.phase ≡ phases.Ended ends.Returned → StandsBeside c.program objects (record s { threads = workers_begin c.program x workers }) q
-  run_begins part rests = begins_beside c.program objects s q (workers_begin c.program x workers) beside
+  run_begins part rests = begins_beside states (workers_begin c.program x workers)
       (pairs_by (workers_begin c.program x workers) (init_alike c.program x (how_ended x.phase) rests (outside rests) part, workers_alike c.program workers each))
       (λ z e two none. absurd (let one : 1 ≡ z.part = ap (λ (v : Thread). v.part) (same_some e) in omega (arith, two, one)))
     where
@@ -173,7 +175,7 @@ module _ (stands : RunIsThere) (c : MarkedProgram) (cfg : Config) (objects : Lis
 
   -- `done`
   done_begin : x.part ≡ 1 → StandsBeside c.program objects (record s { threads = done_begins c.program x workers }) q
-  done_begin part = begins_beside c.program objects s q (done_begins c.program x workers) beside
+  done_begin part = begins_beside states (done_begins c.program x workers)
       (pairs_by (done_begins c.program x workers) (done_alike c.program x (done_roots c.program) refl rests (outside rests) part none_left, same_pairs c.program workers))
       (λ z e two none. ap (λ (v : Thread). v.phase) (sym (same_some e)) ∙ ap part_phase none)
     where
@@ -200,4 +202,4 @@ next_beside stands c cfg objects was s q marked facts beside = by_threads s.thre
   where
     by_threads : (xs : List Thread) → s.threads ≡ xs → StandsBeside c.program objects (next c s) q
     by_threads [] e = subst (λ (ys : List Thread). StandsBeside c.program objects (record s { threads = ys }) q) (e ∙ sym (ap (next_threads c.program) e)) beside
-    by_threads (x ∷ workers) e = subst (λ (ys : List Thread). StandsBeside c.program objects (record s { threads = ys }) q) (sym (ap (next_threads c.program) e)) (begun_beside stands c cfg objects was s q marked facts beside x workers e)
+    by_threads (x ∷ workers) e = subst (λ (ys : List Thread). StandsBeside c.program objects (record s { threads = ys }) q) (sym (ap (next_threads c.program) e)) (begun_beside stands (record { c = c; cfg = cfg; objects = objects; was = was; s = s; q = q; marked = marked; facts = facts; beside = beside }) x workers e)

@@ -20,7 +20,8 @@ never_waits (phases.WaitOut m k) r a w = a
 never_waits (phases.WaitLook m k depth) r a w = a
 never_waits phase r a w = w
 
-module _ (references : List ℕ) (was : ℕ → Phase) (s : Core) (owners : Owners references was s) (waiting : Waiting was s) where
+module _ (references : List ℕ) (was : ℕ → Phase) (s : Core) (owners : Owners references was s)
+    (waiting : Waiting was s) where
   pub no_own_bit : (t : ℕ) (x : Thread) → slice_get s.threads t ≡ Some x → IsAwake (was t) → (m : ℕ) → has_wait_bit references s.words t m ≡ false
   no_own_bit t x there awake m = by_lock (lock_at references s.words m) refl
     where

@@ -1,11 +1,10 @@
 -- The plain thread of a thread outside attempts: it is there, has its frames, and its part is under way.
-use Rattle.std.proofs.Common.{◌≡◌, ◌≢◌, ◌⊎◌, inl, inr, ℕ, zero, suc, List, [], ◌∷◌, Option, Some, None, refl, sym, ap, ◌∙◌, subst, arith, slice_get}
+use Rattle.std.proofs.Common.{◌≡◌, ◌≢◌, ◌⊎◌, inl, inr, ℕ, zero, suc, List, [], ◌∷◌, Option, Some, refl, sym, ap, ◌∙◌, subst, arith, slice_get}
 use Rattle.jvm_types.specs.declared.program.Program.{Program}
-use Rattle.checked_program.specs.MarkedProgram.{MarkedProgram}
-use Rattle.machine_types.specs.{Agreement.{OutsideFits, ThreadFits, has_wait_bit, roots_shown}, Core.Core, Owners.references_of, PlainMemory.Object, PlainState.{Plain, PlainThread}}
-use Rattle.machine_types.specs.{Threads.{Attempt, Thread}, declared.{config.Config.Config, phase.Phase.Phase}}
-use Rattle.laws_states.{specs.{PartsStand.DoneRoots, StateFacts.StateFacts}, proofs.Lists.same_or_not}
-use Rattle.laws_simulation.{specs.StandsBeside.{StandsBeside, ends_shown, end_of_done}, proofs.{Assembled.got_same_length, GoingOnAlike.{PartRuns, IsUnderWay, none_ends}, PartsDue.rests_between}}
+use Rattle.machine_types.specs.{Agreement.{OutsideFits, ThreadFits, has_wait_bit, roots_shown}, Owners.references_of, PlainState.PlainThread, Threads.Attempt, declared.phase.Phase.Phase}
+use Rattle.laws_states.{specs.PartsStand.DoneRoots, proofs.{Lists.same_or_not, Phases.IsOldPhase}}
+use Rattle.laws_simulation.{specs.StandsBeside.{ends_shown, end_of_done}, proofs.{Assembled.got_same_length, GoingOnAlike.{IsAwake, PartRuns, IsUnderWay, none_ends}, PartsDue.rests_between}}
+use Rattle.laws_simulation.proofs.Turns.{Turn}
 use Rattle.jvm_types.specs.declared.outcome.End.TheVariants as ends
 use Rattle.machine_types.specs.declared.phase.Phase.TheVariants as phases
 
@@ -39,18 +38,19 @@ not_ended phase k e = subst IsBusy e k
 
 -- ---- the thread
 
-pub record Own (p : Program) (s : Core) (q : Plain) (t : ℕ) (x : Thread) : Type 0 where
+pub record Own (turn : Turn) : Type 0 where
   pub plain : PlainThread
-  pub here : slice_get q.threads t ≡ Some plain
-  pub fits : OutsideFits p (has_wait_bit (references_of q.objects) s.words t) x plain
-  pub ended : plain.ended ≡ ends_shown p x.part x.phase
+  pub here : slice_get turn.q.threads turn.t ≡ Some plain
+  pub fits : OutsideFits turn.c.program (has_wait_bit (references_of turn.q.objects) turn.s.words turn.t) turn.x plain
+  pub ended : plain.ended ≡ ends_shown turn.c.program turn.x.part turn.x.phase
 
-module _ (c : MarkedProgram) (cfg : Config) (objects : List Object) (was : ℕ → Phase) (s : Core) (t : ℕ) (x : Thread) (q : Plain) (facts : StateFacts c cfg objects was s) (beside : StandsBeside c.program objects s q)
-    (here : slice_get s.threads t ≡ Some x) (outside : x.attempt ≡ None) where
-  pub own : Own c.program s q t x
+module _ (turn : Turn) where
+  open turn use {c, s, q, t, x, facts, beside, here, outside}
+
+  pub own : Own turn
   own = by_plain (got_same_length s.threads q.threads t x beside.agrees.many here)
     where
-      by_plain : (y : PlainThread) × (slice_get q.threads t ≡ Some y) → Own c.program s q t x
+      by_plain : (y : PlainThread) × (slice_get q.threads t ≡ Some y) → Own turn
       by_plain k = record {
         plain = k.0;
         here = k.1;
@@ -82,3 +82,16 @@ module _ (c : MarkedProgram) (cfg : Config) (objects : List Object) (was : ℕ �
     ended = own.ended ∙ none_ends c.program x.part x.roots x.phase (part_runs busy) (busy_ends x.phase busy);
     runs = part_runs busy;
   }
+
+-- ---- a thread whose part is under way, about to move by its phase
+
+pub record Moving (turn : Turn) : Type 0 where
+  pub own : Own turn
+  pub open own use {plain as z, here as twin, fits, ended}
+  pub busy : IsBusy turn.x.phase
+  pub old : IsOldPhase turn.x.phase
+  pub counts : turn.was turn.t ≡ turn.x.phase
+  pub frames : own.plain.frames ≡ turn.x.frames
+  pub under_way : IsUnderWay turn.c.program turn.x.part turn.x.roots own.plain
+  -- it doesn't wait
+  pub awake : IsAwake (has_wait_bit (references_of turn.q.objects) turn.s.words turn.t)

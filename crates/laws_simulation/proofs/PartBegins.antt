@@ -2,9 +2,9 @@
 use Rattle.std.proofs.Common.{◌≡◌, ◌⊎◌, inl, inr, ℕ, zero, suc, ◌≤◌, Bool, List, [], ◌∷◌, length, Some, refl, sym, ap, subst, ◌∙◌, slice_get}
 use Rattle.lists.proofs.ListLaws.{same_some}
 use Rattle.jvm_types.specs.declared.program.Program.{Program}
-use Rattle.machine_types.specs.{Agreement.{IsPending, ThreadFits, depth_of, has_wait_bit}, Core.Core, HeldMonitors.depth_at, Owners.references_of, Parts.done_roots, PlainMemory.Object}
-use Rattle.machine_types.specs.{PlainState.{Plain, PlainThread}, Threads.Thread, declared.lock.Held.Held}
-use Rattle.laws_simulation.specs.StandsBeside.{IsAmong, IsBeingMade, StandsBeside, ends_shown}
+use Rattle.machine_types.specs.{Agreement.{IsPending, ThreadFits, depth_of, has_wait_bit}, HeldMonitors.depth_at, Owners.references_of, Parts.done_roots, PlainMemory.Object, PlainState.PlainThread}
+use Rattle.machine_types.specs.{Threads.Thread, declared.lock.Held.Held}
+use Rattle.laws_simulation.{specs.StandsBeside.{IsAmong, IsBeingMade, StandsBeside, ends_shown}, proofs.Turns.States}
 use Rattle.jvm_types.specs.declared.outcome.End.TheVariants as ends
 use Rattle.machine_types.specs.declared.phase.Phase.TheVariants as phases
 
@@ -61,45 +61,49 @@ depths p (x ∷ xs) [] k u m = absurd k
 
 -- ---- all of them
 
-module _ (p : Program) (objects : List Object) (s : Core) (q : Plain) (threads : List Thread) (beside : StandsBeside p objects s q) (pairs : Pairs p s.threads threads)
-    (done : (x : Thread) → slice_get threads 0 ≡ Some x → 2 ≤ x.part → done_roots p ≡ [] → x.phase ≡ phases.Ended ends.Returned) where
+module _ (states : States) (threads : List Thread)
+    (pairs : Pairs states.c.program states.s.threads threads)
+    (done : (x : Thread) → slice_get threads 0 ≡ Some x → 2 ≤ x.part
+    → done_roots states.c.program ≡ [] → x.phase ≡ phases.Ended ends.Returned) where
+  open states use {c, objects, s, q, beside}
+
   pending_on : (n : ℕ) → IsPending s.threads n → IsPending threads n
-  pending_on n k = let y = onto p s.threads threads pairs k.0 k.1 k.4 in (k.0, y.0, k.2, k.3, y.1, makes_on y.2 k.5, k.6)
+  pending_on n k = let y = onto c.program s.threads threads pairs k.0 k.1 k.4 in (k.0, y.0, k.2, k.3, y.1, makes_on y.2 k.5, k.6)
     where
-      makes_on : {z new : Thread} {a word : ℕ} → Alike p z new → z.phase ≡ phases.Made a word → new.phase ≡ phases.Made a word
+      makes_on : {z new : Thread} {a word : ℕ} → Alike c.program z new → z.phase ≡ phases.Made a word → new.phase ≡ phases.Made a word
       makes_on {z} {new} {a} {word} alike e = alike.makes a word e
 
   making_on : (a : ℕ) → IsBeingMade s.threads a → IsBeingMade threads a
-  making_on a k = let y = onto p s.threads threads pairs k.0 k.1 k.3 in (k.0, y.0, k.2, y.1, makes_on y.2 k.4)
+  making_on a k = let y = onto c.program s.threads threads pairs k.0 k.1 k.3 in (k.0, y.0, k.2, y.1, makes_on y.2 k.4)
     where
-      makes_on : {z new : Thread} {a word : ℕ} → Alike p z new → z.phase ≡ phases.Made a word → new.phase ≡ phases.Made a word
+      makes_on : {z new : Thread} {a word : ℕ} → Alike c.program z new → z.phase ≡ phases.Made a word → new.phase ≡ phases.Made a word
       makes_on {z} {new} {a} {word} alike e = alike.makes a word e
 
-  pub begins_beside : StandsBeside p objects (record s { threads = threads }) q
+  pub begins_beside : StandsBeside c.program objects (record s { threads = threads }) q
   begins_beside = record {
     agrees = record {
       places = λ n v e free. beside.agrees.places n v e (λ k. free (pending_on n k));
       next = beside.agrees.next;
       prints = beside.agrees.prints;
-      monitors = λ u m. beside.agrees.monitors u m ∙ depths p s.threads threads pairs u m;
-      many = beside.agrees.many ∙ sym (many p s.threads threads pairs);
-      threads = λ u y w e f. let x = back p s.threads threads pairs u y e in (both u x.0 y w x.2 x.1 f).0;
+      monitors = λ u m. beside.agrees.monitors u m ∙ depths c.program s.threads threads pairs u m;
+      many = beside.agrees.many ∙ sym (many c.program s.threads threads pairs);
+      threads = λ u y w e f. let x = back c.program s.threads threads pairs u y e in (both u x.0 y w x.2 x.1 f).0;
     };
     known = beside.known;
     others = λ e k. by_side e (beside.others e k);
-    new_objects = λ u y a word e m. let x = back p s.threads threads pairs u y e in beside.new_objects u x.0 a word x.1 (made_before x.2 m);
+    new_objects = λ u y a word e m. let x = back c.program s.threads threads pairs u y e in beside.new_objects u x.0 a word x.1 (made_before x.2 m);
     apart = beside.apart;
     done = done;
-    ends = λ u y w e f. let x = back p s.threads threads pairs u y e in (both u x.0 y w x.2 x.1 f).1;
+    ends = λ u y w e f. let x = back c.program s.threads threads pairs u y e in (both u x.0 y w x.2 x.1 f).1;
   }
     where
-      both : (u : ℕ) (x y : Thread) (w : PlainThread) → Alike p x y → slice_get s.threads u ≡ Some x → slice_get q.threads u ≡ Some w
-          → ThreadFits p (has_wait_bit (references_of q.objects) s.words u) y y.attempt w × (w.ended ≡ ends_shown p y.part y.phase)
+      both : (u : ℕ) (x y : Thread) (w : PlainThread) → Alike c.program x y → slice_get s.threads u ≡ Some x → slice_get q.threads u ≡ Some w
+          → ThreadFits c.program (has_wait_bit (references_of q.objects) s.words u) y y.attempt w × (w.ended ≡ ends_shown c.program y.part y.phase)
       both u x y w alike e f = alike.fits (has_wait_bit (references_of q.objects) s.words u) w (beside.agrees.threads u x w e f) (beside.ends u x w e f)
 
       by_side : (e : Object) → IsAmong objects e.reference ⊎ IsBeingMade s.threads e.reference → IsAmong objects e.reference ⊎ IsBeingMade threads e.reference
       by_side e (inl h) = inl h
       by_side e (inr h) = inr (making_on e.reference h)
 
-      made_before : {x y : Thread} {a word : ℕ} → Alike p x y → y.phase ≡ phases.Made a word → x.phase ≡ phases.Made a word
+      made_before : {x y : Thread} {a word : ℕ} → Alike c.program x y → y.phase ≡ phases.Made a word → x.phase ≡ phases.Made a word
       made_before {x} {y} {a} {word} alike e = alike.made a word e

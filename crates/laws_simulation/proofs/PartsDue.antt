@@ -4,12 +4,12 @@ use Rattle.std.specs.List.{list_all, AllByRecursion}
 use Rattle.jvm_types.specs.declared.outcome.End.{End}
 use Rattle.laws_programs.proofs.LocalGoing.{at_index}
 use Rattle.checked_program.specs.MarkedProgram.{MarkedProgram}
-use Rattle.machine_types.specs.{Agreement.{EndingFits, ThreadFits, has_wait_bit, StatusFits}, Core.Core, Owners.references_of, Parts.has_finished, PlainMemory.Object}
-use Rattle.machine_types.specs.{PlainState.{Plain, PlainThread, Status}, PlainSteps.{first_is_return, init_has_returned, is_over}}
-use Rattle.machine_types.specs.{Structure.{IsStructured, IsAs, IsLimitAt, PhaseShows, AttemptStandsIn}, Threads.{Attempt, Thread}, declared.{config.Config.Config, lock.Held.Held, phase.Phase.Phase}}
+use Rattle.machine_types.specs.{Agreement.{EndingFits, ThreadFits, has_wait_bit, StatusFits}, Owners.references_of, Parts.has_finished, PlainState.{PlainThread, Status}}
+use Rattle.machine_types.specs.{PlainSteps.{first_is_return, init_has_returned, is_over}, Structure.{IsStructured, IsAs, IsLimitAt, PhaseShows, AttemptStandsIn}, Threads.{Attempt, Thread}}
+use Rattle.machine_types.specs.declared.{lock.Held.Held, phase.Phase.Phase}
 use Rattle.laws_threads.specs.PartLaws.{PartFits, PartsFit}
-use Rattle.laws_states.specs.{PartsStand.HasFinished, StateFacts.StateFacts}
-use Rattle.laws_simulation.{specs.StandsBeside.{StandsBeside, ends_shown}, proofs.Assembled.got_same_length}
+use Rattle.laws_states.specs.PartsStand.{HasFinished}
+use Rattle.laws_simulation.{specs.StandsBeside.ends_shown, proofs.{Assembled.got_same_length, Turns.States}}
 use Rattle.jvm_types.specs.declared.outcome.End.TheVariants as ends
 use Rattle.machine_types.specs.declared.phase.Phase.TheVariants as phases
 
@@ -83,7 +83,9 @@ all_behind : (ys : List PlainThread) → ((i : ℕ) (w : PlainThread) → slice_
 all_behind [] each = refl
 all_behind (y ∷ ys) each = all_over ys each
 
-module _ (c : MarkedProgram) (cfg : Config) (objects : List Object) (was : ℕ → Phase) (s : Core) (q : Plain) (facts : StateFacts c cfg objects was s) (beside : StandsBeside c.program objects s q) where
+module _ (states : States) where
+  open states use {c, was, s, q, facts, beside}
+
   -- a thread that has finished is over in the plain machine
   pub is_over_too : (u : ℕ) (z : Thread) (w : PlainThread) → slice_get s.threads u ≡ Some z → slice_get q.threads u ≡ Some w → HasFinished z.phase → is_over w.status ≡ true
   is_over_too u z w e f h =

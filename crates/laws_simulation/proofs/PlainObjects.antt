@@ -120,7 +120,8 @@ pub record Fits (p : Program) (next more : ℕ) (o : Object) : Type 0 where
   pub inside : object_end o ≤ p.heap
   pub sized : o.class ≢ INT_ARRAY_CLASS → length o.values ≡ instances_among o.class p.fields
 
-module _ (p : Program) (os : List Object) (ss : List StaticValue) (next more : ℕ) (new : Object) (fits : Fits p next more new) (apart : LieApart p os ss next) where
+module _ (p : Program) (os : List Object) (ss : List StaticValue) (next more : ℕ) (new : Object)
+    (fits : Fits p next more new) (apart : LieApart p os ss next) where
   up : next ≤ more
   up = omega (arith, fits.from, fits.to)
 

@@ -4,15 +4,15 @@ use Rattle.std.specs.List.{AllByRecursion}
 use Rattle.lists.proofs.ListLaws.{same_some}
 use Rattle.jvm_types.specs.declared.{code.Op.Op, outcome.{Print.Print, Thrown.TheVariants.NullPointerException}, program.{Program.Program, Target.Target}}
 use Rattle.checked_program.specs.MarkedProgram.{MarkedProgram, IsMarked}
-use Rattle.machine_types.specs.{Agreement.{StatusFits, frames_shown}, Effects.{effect, unless_null, read_by}, Frames.{Top, top_of, effect_at}, HeldMonitors.held_at}
+use Rattle.machine_types.specs.{Agreement.{StatusFits, frames_shown, has_wait_bit}, Effects.{effect, unless_null, read_by}, Frames.{Top, top_of, effect_at}, HeldMonitors.held_at}
 use Rattle.machine_types.specs.{History.{acts_of, steps_of, act_if, notified_by, release_acts}, Instructions.has_print_left, Ints.{low, int_of}, LockWords.word_of_lock, Monitors.claim_by, Onward.done}
-use Rattle.machine_types.specs.{PlainInstructions.{plain_did, indexed_in, plain_instructed, got_by}, PlainLaws.InstructionsChangeMemory}
+use Rattle.machine_types.specs.{Owners.references_of, PlainInstructions.{plain_did, indexed_in, plain_instructed, got_by}, PlainLaws.InstructionsChangeMemory}
 use Rattle.machine_types.specs.{PlainState.{Plain, PlainThread, Printed, Status, value_at, with_thread, plain_goes_on}, PlainSteps.{plain_run, step_of}, Structure.{TopIs, is_element_op}}
 use Rattle.machine_types.specs.{Threads.{Frame, Thread}, Words.{header_length, value_word, variable_word}, declared.effect.Effect.Effect}
 use Rattle.machine_types.specs.declared.{effect.Effect.TheVariants.{Writes, Indexes, Makes, Prints, Returns, Leaves, Waits, Notifies, NotifiesAll, Stuck, Throws}, lock.{Held.Held, Kept.Kept}}
 use Rattle.machine_types.specs.declared.{phase.Phase.Phase, plain.Act.Act}
 use Rattle.laws_threads.proofs.Landing.{stand_top}
-use Rattle.laws_simulation.proofs.{CountedEvents.{first_by, first_step, effect_print, top_print, new_print}, PlainCounts.is_do}
+use Rattle.laws_simulation.proofs.{CountedEvents.{first_by, first_step, effect_print, top_print, new_print}, OwnThread.own, PlainCounts.is_do, Turns.Turn}
 use Rattle.jvm_types.specs.declared.code.Op.TheVariants as ops
 use Rattle.machine_types.specs.History as history
 use Rattle.machine_types.specs.PlainState as plain
@@ -131,7 +131,14 @@ element_shows c word stored (f ∷ fs) marked top at e =
 
 -- ---- all phases
 
-module _ (memory : InstructionsChangeMemory) (c : MarkedProgram) (bit : ℕ → Bool) (t : ℕ) (s : Thread) (q after : Plain) (x : PlainThread) (there : slice_get q.threads t ≡ Some x) (got : ℕ) where
+-- s is the thread, and x its plain one
+module _ (memory : InstructionsChangeMemory) (turn : Turn) (after : Plain) (got : ℕ) where
+  open turn use {c, q, t, x as s}
+  open own turn use {plain as x, here as there}
+
+  abbrev bit : ℕ → Bool
+  bit = has_wait_bit (references_of q.objects) turn.s.words t
+
   abbrev at_phase : Phase → Thread
   at_phase phase = record s { attempt = None; phase = phase }
 

@@ -57,7 +57,8 @@ no_new (OwnerOf r) a k e = k
 no_new (BitsOf r) a k e = k
 no_new (LockOf reference) a k e = k
 
-module _ (p : Program) (objects : List Object) (s : Core) (q : Plain) (beside : StandsBeside p objects s q) where
+module _ (p : Program) (objects : List Object) (s : Core) (q : Plain)
+    (beside : StandsBeside p objects s q) where
   -- the plain machine has a value there
   has_a_value : (site : Site) → IsPlace site → IsThere p objects s site → (v : ℕ) × (value_at q (site_word site) ≡ Some v)
   has_a_value (HeaderOf reference) k there =

@@ -1,13 +1,14 @@
 -- A print raises the next ticket, and no place, no other counter and no waiting bit.
-use Rattle.std.proofs.{Common.{◌≡◌, ℕ, ◌+◌, ◌≤◌, Bool, true, false, cond, List, [], ◌∷◌, ◌++◌, length, refl, ap, ◌∙◌, arith, slice_index, slice_set}, lemmas.List.length-append}
+use Rattle.std.proofs.{Common.{◌≡◌, ℕ, ◌+◌, ◌≤◌, Bool, true, false, cond, [], ◌∷◌, ◌++◌, length, refl, ap, ◌∙◌, arith, slice_index, slice_set}, lemmas.List.length-append}
 use Rattle.jvm_types.specs.{Numbers.has_number, declared.fixed_words.TheConstants.{FIRST_READY_WORD, NEXT_FREE_WORD, NEXT_TICKET_WORD}}
-use Rattle.checked_program.specs.MarkedProgram.{MarkedProgram, IsMarked}
-use Rattle.machine_types.specs.{Core.Core, LockWords.lock_of, Owners.{lock_at, references_of}, PlainMemory.Object, PlainState.{Plain, Printed}, Words.bits_word}
-use Rattle.laws_states.{specs.{HeapFacts.HeapFacts, SiteLaws.SitesLieInside, Sites.{Counter, HasObject}}, proofs.{Lists.{contained_got, set_here, set_there}, WordViews.has_object}}
-use Rattle.laws_simulation.{specs.StandsBeside.StandsBeside, proofs.{EventSteps.WordsFit, PlainPlaces.place_low, WaitBits.same_bit}}
+use Rattle.machine_types.specs.{LockWords.lock_of, Owners.{lock_at, references_of}, PlainState.Printed, Words.bits_word}
+use Rattle.laws_states.{specs.Sites.{Counter, HasObject}, proofs.{Lists.{contained_got, set_here, set_there}, WordViews.has_object}}
+use Rattle.laws_simulation.proofs.{EventSteps.WordsFit, PlainPlaces.place_low, Scene.Scene, WaitBits.same_bit}
 use Rattle.machine_types.specs.declared.lock.LockWord.TheVariants as locks
 
-module _ (c : MarkedProgram) (objects : List Object) (s : Core) (q : Plain) (beside : StandsBeside c.program objects s q) (value : ℕ) where
+module _ (scene : Scene) (value : ℕ) where
+  open scene use {c, objects, s, q, beside}
+
   same_lock : (m : ℕ) → lock_at (references_of q.objects) (slice_set s.words NEXT_TICKET_WORD value) m ≡ lock_at (references_of q.objects) s.words m
   same_lock m = by_test (has_number (references_of q.objects) m) refl
     where
@@ -19,11 +20,11 @@ module _ (c : MarkedProgram) (objects : List Object) (s : Core) (q : Plain) (bes
       by_test true e = ap lock_of (set_there s.words NEXT_TICKET_WORD m value (λ f. omega (arith, f, high (has_object q.objects m e))))
       by_test false e = refl
 
-  pub print_fits : (inside : SitesLieInside) → IsMarked c → HeapFacts c objects s → (print : Printed) → value ≡ slice_index s.words NEXT_TICKET_WORD + 1 → WordsFit s q (slice_set s.words NEXT_TICKET_WORD value) (q.prints ++ print ∷ [])
-  print_fits inside marked heap print e = record {
+  pub print_fits : (print : Printed) → value ≡ slice_index s.words NEXT_TICKET_WORD + 1 → WordsFit s q (slice_set s.words NEXT_TICKET_WORD value) (q.prints ++ print ∷ [])
+  print_fits print e = record {
     places = λ n v f. let low = (place_low c.program q beside.apart n v f).0 in set_there s.words NEXT_TICKET_WORD n value (λ g. omega (arith, g, low));
     next = set_there s.words NEXT_TICKET_WORD NEXT_FREE_WORD value (λ g. omega (arith, g));
-    printed = set_here s.words NEXT_TICKET_WORD value (inside c objects s (Counter NEXT_TICKET_WORD) marked heap (omega arith, omega arith)) ∙ e ∙ one_more;
+    printed = set_here s.words NEXT_TICKET_WORD value (scene.inside c objects s (Counter NEXT_TICKET_WORD) scene.marked scene.facts.heap (omega arith, omega arith)) ∙ e ∙ one_more;
     bits = λ u m. same_bit (lock_at (references_of q.objects) s.words m) (lock_at (references_of q.objects) (slice_set s.words NEXT_TICKET_WORD value) m) s.words (slice_set s.words NEXT_TICKET_WORD value) u (same_lock m)
         (λ r f. set_there s.words NEXT_TICKET_WORD (bits_word r) value (λ g. omega (arith, g)));
   }

@@ -3,10 +3,10 @@
 use Rattle.std.proofs.Common.{◌≡◌, ◌≢◌, inr, ℕ, ◌+◌, Bool, true, false, cond, List, Option, Some, None, refl, sym, ap, ◌∙◌, subst, arith, slice_get}
 use Rattle.jvm_types.specs.declared.outcome.End.{End}
 use Rattle.checked_program.specs.MarkedProgram.{MarkedProgram}
-use Rattle.machine_types.specs.{Agreement.{has_wait_bit, waiting_status, StatusFits, EndingFits, OutsideFits, ThreadFits}, Core.Core, Owners.{Knows, lock_at, locks_in, owner_at, references_of}}
+use Rattle.machine_types.specs.{Agreement.{has_wait_bit, waiting_status, StatusFits, EndingFits, OutsideFits, ThreadFits}, Owners.{Knows, lock_at, locks_in, owner_at, references_of}}
 use Rattle.machine_types.specs.{PlainMemory.Object, PlainState.{Status, Plain, PlainThread}, PlainSteps.{woken, wakes}, Structure.{IsAs, IsLimitAt, AttemptStandsIn, Stands}, Threads.{Attempt, Thread}}
-use Rattle.machine_types.{specs.{Waiting.{MayWait, is_bit_set}, declared.{config.Config.Config, phase.Phase.Phase}}, proofs.PlainStepLaws.is_same}
-use Rattle.laws_simulation.proofs.{Moments.Moment, Moved.{HasFat, fat_one, owning, bit_now}}
+use Rattle.machine_types.{specs.{Waiting.{MayWait, is_bit_set}, declared.phase.Phase.Phase}, proofs.PlainStepLaws.is_same}
+use Rattle.laws_simulation.proofs.{Moments.Moment, Moved.{HasFat, fat_one, owning, bit_now}, Turns.Turn}
 use Rattle.jvm_types.specs.declared.outcome.End.TheVariants as ends
 use Rattle.machine_types.specs.PlainState as plain
 use Rattle.machine_types.specs.declared.lock.LockWord.TheVariants as locks
@@ -67,36 +67,38 @@ pub record IsAsleep (c : MarkedProgram) (objects : List Object) (was : ℕ → P
   pub limit : IsAs z.phase (phases.WaitLook m r depth)
   pub free : z.attempt ≡ None
 
-module _ {c : MarkedProgram} {cfg : Config} {objects : List Object} {was : ℕ → Phase} {s : Core} {t : ℕ} {x : Thread} {q : Plain} {phase : Phase} {y : PlainThread} (k : Moment c cfg objects was s t x q phase y) where
+module _ {turn : Turn} {phase : Phase} (k : Moment turn phase) where
+  open turn use {c, objects, was, s, t, x, q}
+
   -- no thread waits inside an attempt
   outside : (u : ℕ) (z : Thread) (m r depth : ℕ) → slice_get s.threads u ≡ Some z → was u ≡ phases.WaitLook m r depth → z.attempt ≡ None
-  outside u z m r depth g e = by_attempt z.attempt refl (subst (λ (f : Phase). AttemptStandsIn c f z.frames z.held z.attempt) e (k.facts.structure u z g).attempt)
+  outside u z m r depth g e = by_attempt z.attempt refl (subst (λ (f : Phase). AttemptStandsIn c f z.frames z.held z.attempt) e (turn.facts.structure u z g).attempt)
     where
       by_attempt : (a : Option Attempt) → z.attempt ≡ a → AttemptStandsIn c (phases.WaitLook m r depth) z.frames z.held a → z.attempt ≡ None
       by_attempt None f stands = f
       by_attempt (Some a) f stands = absurd stands.inside
 
   pub asleep : (u : ℕ) (z : Thread) (m r : ℕ) → u ≢ t → slice_get s.threads u ≡ Some z → HasFat objects s.words t m r x → is_bit_set s.words r u ≡ true → IsAsleep c objects was q u z m r
-  asleep u z m r d g fat set = by_phase (was u) refl ((k.facts.waiting.each u z g).only r fat.low set)
+  asleep u z m r d g fat set = by_phase (was u) refl ((turn.facts.waiting.each u z g).only r fat.low set)
     where
       by_phase : (f : Phase) → was u ≡ f → MayWait f r → IsAsleep c objects was q u z m r
       by_phase (phases.WaitOut n i) e one =
-          let stands : Stands c (phases.WaitOut n i) z.frames z.held z.attempt = subst (λ (f : Phase). Stands c f z.frames z.held z.attempt) e (k.facts.structure u z g).stands in
+          let stands : Stands c (phases.WaitOut n i) z.frames z.held z.attempt = subst (λ (f : Phase). Stands c f z.frames z.held z.attempt) e (turn.facts.structure u z g).stands in
           let other : HasFat objects s.words u n i z = owning k u z n i g stands.phase_shows.1 in
           let owner : owner_at s.words r ≡ u + 1 = ap (owner_at s.words) one ∙ other.owner in
           let own : owner_at s.words r ≡ t + 1 = fat.owner in
           absurd (d (omega (arith, owner, own)))
       by_phase (phases.WaitLook n i depth) e one =
-          let knows : lock_at (references_of objects) s.words n ≡ locks.Fat i = subst (λ (f : Phase). Knows (locks_in (references_of objects) s.words) u f) e (k.facts.owners.each u z g).knows in
+          let knows : lock_at (references_of objects) s.words n ≡ locks.Fat i = subst (λ (f : Phase). Knows (locks_in (references_of objects) s.words) u f) e (turn.facts.owners.each u z g).knows in
           let same : n ≡ m = fat_one k n m r (knows ∙ ap locks.Fat (sym one)) fat.lock in
           let at : was u ≡ phases.WaitLook m r depth = e ∙ ap (λ (j : ℕ). phases.WaitLook j i depth) same ∙ ap (λ (j : ℕ). phases.WaitLook m j depth) (sym one) in
-          record { depth = depth; looks = at; limit = subst (IsAs z.phase) at (k.facts.structure u z g).is_as; free = outside u z m r depth g at }
+          record { depth = depth; looks = at; limit = subst (IsAs z.phase) at (turn.facts.structure u z g).is_as; free = outside u z m r depth g at }
       by_phase f e one = absurd one
 
   -- its plain thread, which waits
   pub sleeper : (u : ℕ) (z : Thread) (w : PlainThread) (m r : ℕ) → slice_get s.threads u ≡ Some z → slice_get q.threads u ≡ Some w → HasFat objects s.words t m r x → is_bit_set s.words r u ≡ true → IsAsleep c objects was q u z m r
       → OutsideFits c.program (has_wait_bit (references_of q.objects) s.words u) z w
-  sleeper u z w m r g h fat set a = subst (λ (o : Option Attempt). ThreadFits c.program (has_wait_bit (references_of q.objects) s.words u) z o w) a.free (k.beside.agrees.threads u z w g h)
+  sleeper u z w m r g h fat set a = subst (λ (o : Option Attempt). ThreadFits c.program (has_wait_bit (references_of q.objects) s.words u) z o w) a.free (turn.beside.agrees.threads u z w g h)
 
   pub sleeps : (u : ℕ) (z : Thread) (w : PlainThread) (m r : ℕ) → slice_get s.threads u ≡ Some z → slice_get q.threads u ≡ Some w → HasFat objects s.words t m r x → is_bit_set s.words r u ≡ true → IsAsleep c objects was q u z m r
       → (d : ℕ) × (w.status ≡ plain.Waiting m d)

@@ -2,16 +2,14 @@
 use Rattle.std.proofs.Common.{◌≡◌, ◌≢◌, ◌⊎◌, inl, inr, ℕ, zero, suc, nat_lt, ◌≤◌, Bool, true, false, List, [], ◌∷◌, Option, Some, None, refl, sym, ap, subst, ◌∙◌, arith, slice_get, slice_set, option_map, ◌&&◌, drop, if◌then◌else◌, IsTrue}
 use Rattle.std.specs.List.{list_all, AllByRecursion}
 use Rattle.jvm_types.specs.{Numbers.has_number, declared.{outcome.{End.End, Thrown.TheVariants.StackOverflowError}, program.{MethodInfo.MethodInfo, Program.Program}}}
-use Rattle.checked_program.specs.MarkedProgram.{MarkedProgram}
-use Rattle.machine_types.specs.{Accesses.found_by, Agreement.{has_wait_bit, roots_shown, start_status}, Bounds.{FramesFit, part_roots}, Core.{Core, event, event_of}}
-use Rattle.machine_types.specs.{Events.{thread_started, wanted, moved}, Frames.{entry_frame, has_room}, Going.{goes_on, goes_on_if}, History.acts_of}
-use Rattle.machine_types.specs.{Onward.{Onward, Running, Uncaught, root_arguments, rooted}, Owners.references_of, Parts.done_roots, PlainMemory.Object, PlainState.{Plain, PlainThread, with_thread}}
-use Rattle.machine_types.specs.{PlainSteps.{init_has_returned, is_over, is_due, plain_begins, plain_begun, may_do_done}, Threads.{Frame, Thread}, Waiting.MayWait, declared.access.Access.Access}
-use Rattle.machine_types.{specs.declared.{config.Config.Config, phase.Phase.Phase}, proofs.Lists.got_when_set}
+use Rattle.machine_types.specs.{Accesses.found_by, Agreement.{roots_shown, start_status}, Bounds.{FramesFit, part_roots}, Core.{event, event_of}, Events.{thread_started, wanted, moved}}
+use Rattle.machine_types.specs.{Frames.{entry_frame, has_room}, Going.{goes_on, goes_on_if}, History.acts_of, Onward.{Onward, Running, Uncaught, root_arguments, rooted}, Parts.done_roots}
+use Rattle.machine_types.specs.{PlainState.{Plain, PlainThread, with_thread}, PlainSteps.{init_has_returned, is_over, is_due, plain_begins, plain_begun, may_do_done}, Threads.{Frame, Thread}}
+use Rattle.machine_types.{specs.declared.{access.Access.Access, phase.Phase.Phase}, proofs.Lists.got_when_set}
 use Rattle.laws_states.{specs.{HeapFacts.objects_by, PartsLaws.EventsKeepParts, PartsStand.DoneRoots}, proofs.Lists.same_or_not}
-use Rattle.laws_simulation.{specs.{StandsBeside.{ends_shown, end_of_done}, StepsBeside.StepsBeside}, proofs.{Assembled.one_step, GoingOnAlike.{PartRuns, ends_before}, MemoryParts.stays}}
-use Rattle.laws_simulation.proofs.{PartsDue.{rests_between, idle_workers, first_there, workers_over, init_returned}, RootNumbers.root_there, RunScene.{twin, status_fits}}
-use Rattle.laws_simulation.proofs.Scene.{Scene, GoesOn, awake, counts_as, part_on, going, none_on, comes_beside, steps_of_event}
+use Rattle.laws_simulation.{specs.{StandsBeside.{ends_shown, end_of_done}, StepsBeside.StepsBeside}, proofs.{Assembled.one_step, EventSteps.gone_on, GoingOnAlike.{PartRuns, ends_before}}}
+use Rattle.laws_simulation.proofs.{MemoryParts.stays, OwnThread.own, PartsDue.{rests_between, idle_workers, first_there, workers_over, init_returned}, RootNumbers.root_there, RunScene.status_fits}
+use Rattle.laws_simulation.proofs.Scene.{Scene, GoesOn, awake, counts_as, going, comes_beside, steps_of_event}
 use Rattle.jvm_types.specs.declared.outcome.End.TheVariants as ends
 use Rattle.machine_types.specs.PlainState as plain
 use Rattle.machine_types.specs.declared.phase.Phase.TheVariants as phases
@@ -35,13 +33,12 @@ none_done : (roots : List ℕ) → end_of_done roots phases.Start ≡ []
 none_done [] = refl
 none_done (number ∷ roots) = refl
 
-module _ (c : MarkedProgram) (cfg : Config) (objects : List Object) (was : ℕ → Phase) (s : Core) (t : ℕ) (x : Thread) (q : Plain) (scene : Scene c cfg objects was s t x q) (keeps : EventsKeepParts)
-    (starts : x.phase ≡ phases.Start) where
-  abbrev y : PlainThread
-  y = (twin c cfg objects was s t x q scene).plain
+module _ (scene : Scene) (keeps : EventsKeepParts) (starts : scene.x.phase ≡ phases.Start) where
+  open scene use {turn, states, c, cfg, objects, was, s, t, x, q}
+  open own turn use {plain as y}
 
   was_so : was t ≡ phases.Start
-  was_so = counts_as c cfg objects was s t x q scene phases.Start starts
+  was_so = counts_as turn phases.Start starts
 
   lives : x.phase ≡ phases.Ended ends.Returned → ⊥
   lives h = let both : phases.Start ≡ phases.Ended ends.Returned = sym starts ∙ h in cc
@@ -50,17 +47,26 @@ module _ (c : MarkedProgram) (cfg : Config) (objects : List Object) (was : ℕ �
   number_is = let k = scene.facts.threads.own t x scene.here in k.number
 
   status : y.status ≡ start_status x.part
-  status = status_fits c cfg objects was s t x q scene phases.Start starts
+  status = status_fits turn phases.Start starts
 
   ended : y.ended ≡ ends_shown c.program x.part phases.Start
-  ended = (twin c cfg objects was s t x q scene).ended ∙ ap (ends_shown c.program x.part) starts
+  ended = (own turn).ended ∙ ap (ends_shown c.program x.part) starts
 
   roots_are : y.roots ≡ roots_shown c.program x.part phases.Start x.roots
-  roots_are = (twin c cfg objects was s t x q scene).fits.roots ∙ ap (λ (z : Phase). roots_shown c.program x.part z x.roots) starts
+  roots_are = (own turn).fits.roots ∙ ap (λ (z : Phase). roots_shown c.program x.part z x.roots) starts
 
   -- ---- a root, which is a method
 
-  module _ (number : ℕ) (rest : List ℕ) (roots : x.roots ≡ number ∷ rest) (m : MethodInfo) (method : slice_get c.program.methods number ≡ Some m) where
+  record Root : Type 0 where
+    number : ℕ
+    rest : List ℕ
+    roots : x.roots ≡ number ∷ rest
+    m : MethodInfo
+    method : slice_get c.program.methods number ≡ Some m
+
+  module _ (root : Root) where
+    open root use {number, rest, roots, m, method}
+
     abbrev onward : Onward
     onward = rooted c.program t number m
 
@@ -93,7 +99,7 @@ module _ (c : MarkedProgram) (cfg : Config) (objects : List Object) (was : ℕ �
         let stands = keeps c cfg s t scene.marked scene.facts.threads scene.facts.parts in
         let there : slice_get (event c s t).threads 0 ≡ Some (goes_on begins_as onward) =
         ap (λ (xs : List Thread). slice_get xs 0) after ∙ (ap (slice_get (slice_set s.threads t (goes_on begins_as onward))) (sym first) ∙ got_when_set s.threads t x (goes_on begins_as onward) scene.here) in
-        let done : DoneRoots c.program (goes_on begins_as onward).phase (goes_on begins_as onward).roots = stands.done (goes_on begins_as onward) there (subst (λ (n : ℕ). 2 ≤ n) (sym (part_on begins_as onward)) two) in
+        let done : DoneRoots c.program (goes_on begins_as onward).phase (goes_on begins_as onward).roots = stands.done (goes_on begins_as onward) there (subst (λ (n : ℕ). 2 ≤ n) (sym (gone_on begins_as onward).part) two) in
         left_by c.program begins_as (has_room c.program [] m) (entry_frame number m (root_arguments t m) ∷ [])
         (subst (DoneRoots c.program (goes_on begins_as onward).phase) (roots_on begins_as (has_room c.program [] m) (entry_frame number m (root_arguments t m) ∷ [])) done)
 
@@ -112,7 +118,7 @@ module _ (c : MarkedProgram) (cfg : Config) (objects : List Object) (was : ℕ �
     worker_due : (u : ℕ) → t ≡ suc u → init_has_returned q.threads ≡ true
     worker_due u e =
         let first = first_there s.threads t x scene.here in
-        init_returned c cfg objects was s q scene.facts scene.beside first.0 first.1 (λ none.
+        init_returned states first.0 first.1 (λ none.
         let idle = idle_workers s.threads first.0 x u scene.facts.threads.parts first.1 none (ap (slice_get s.threads) (sym e) ∙ scene.here) in
         let both : phases.Start ≡ phases.Idle = sym starts ∙ idle in cc)
 
@@ -149,8 +155,8 @@ module _ (c : MarkedProgram) (cfg : Config) (objects : List Object) (was : ℕ �
         let two : 2 ≤ x.part = omega (arith, e) in
         let once : y.ended ≡ ends.Returned ∷ [] = ended ∙ (ap (λ (k : ℕ). ends_shown c.program k phases.Start) e ∙ ap (λ (es : List End). ends.Returned ∷ es) (none_done (done_roots c.program))) in
         let all : x.roots ≡ done_roots c.program = subst (λ (z : Phase). DoneRoots c.program z x.roots) starts (scene.facts.parts.done x (first_here first) two) in
-        let init : init_has_returned q.threads ≡ true = init_returned c cfg objects was s q scene.facts scene.beside x (first_here first) (λ h. omega (arith, h, e)) in
-        let workers = workers_over c cfg objects was s q scene.facts scene.beside x (first_here first) two in
+        let init : init_has_returned q.threads ≡ true = init_returned states x (first_here first) (λ h. omega (arith, h, e)) in
+        let workers = workers_over states x (first_here first) two in
         record {
           due = by_number 0 first ∙ (ap (is_due q.threads 0) once ∙ (ap (λ (b : Bool). b && list_all (λ (w : PlainThread). is_over w.status) (drop 1 q.threads)) init ∙ workers));
           ended = once;
@@ -172,27 +178,27 @@ module _ (c : MarkedProgram) (cfg : Config) (objects : List Object) (was : ℕ �
     abbrev shown : PlainThread
     shown = plain.plain_goes_on plain_as onward
 
-    goes : GoesOn c.program (has_wait_bit (references_of q.objects) s.words t) x now shown
-    goes = going c.program (has_wait_bit (references_of q.objects) s.words t) x begins_as plain_as onward refl scene.outside refl
-        (awake c cfg objects was s t x q scene (λ r h. subst (λ (z : Phase). MayWait z r) was_so h)) (record { roots = refl; ended = due_now.ended; runs = due_now.runs })
+    goes : GoesOn turn now shown
+    goes = going turn begins_as plain_as onward refl scene.outside refl
+        (awake turn phases.Start was_so (λ r h. h)) (record { roots = refl; ended = due_now.ended; runs = due_now.runs })
 
-    pub root_steps : StepsBeside c objects s t x q
-    root_steps = steps_of_event c cfg objects was s t x q scene objects None (acts.Begin ∷ []) now
+    root_steps : StepsBeside c objects s t x q
+    root_steps = steps_of_event turn objects None (acts.Begin ∷ []) now
         (ap (λ (z : Phase). objects_by c.program z objects) starts)
         (ap (wanted c x) starts)
         (ap (λ (z : Phase). acts_of c x z 0) starts)
         moves
         (record {
           after = with_thread q t shown;
-          run = one_step c.program q (with_thread q t shown) t y acts.Begin (twin c cfg objects was s t x q scene).here
+          run = one_step c.program q (with_thread q t shown) t y acts.Begin (own turn).here
               (ap (λ (b : Bool). if b then option_map (with_thread q t) (plain_begins c.program t y y.status) else None) due_now.due ∙ ap (option_map (with_thread q t)) due_now.begins_is);
-          beside = comes_beside c cfg objects was s t x q scene objects s.words q now y shown (twin c cfg objects was s t x q scene).here lives goes
-              (stays c cfg objects was s t x q scene s.words now refl (λ a word h. let both : phases.Start ≡ phases.Made a word = sym starts ∙ h in cc) (none_on begins_as onward));
+          beside = comes_beside turn objects s.words q now shown lives goes
+              (stays scene s.words now refl (λ a word h. let both : phases.Start ≡ phases.Made a word = sym starts ∙ h in cc) (gone_on begins_as onward).makes);
         })
 
   by_roots : (roots : List ℕ) → x.roots ≡ roots → FramesFit phases.Start x.frames roots → AllByRecursion (λ n. IsTrue (has_number (part_roots c.program x.number x.part) n)) roots → StepsBeside c objects s t x q
   by_roots [] e fit all = absurd fit
-  by_roots (number ∷ rest) e fit all = let m = root_there c.program x.number x.part number all.0 in root_steps number rest e m.0 m.1
+  by_roots (number ∷ rest) e fit all = let m = root_there c.program x.number x.part number all.0 in root_steps (record { number = number; rest = rest; roots = e; m = m.0; method = m.1 })
 
   pub start_steps : StepsBeside c objects s t x q
   start_steps =

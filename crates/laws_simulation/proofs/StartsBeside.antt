@@ -1,9 +1,8 @@
 -- The start of a run stands beside the start of the plain machine.
-use Rattle.std.proofs.Common.{◌≡◌, ℕ, zero, suc, ◌+◌, ◌≤◌, List, [], ◌∷◌, Some, refl, sym, subst, inl, arith, slice_get}
-use Rattle.jvm_types.specs.declared.program.Program.{Program}
+use Rattle.std.proofs.Common.{◌≡◌, ℕ, zero, suc, ◌≤◌, List, [], ◌∷◌, refl, sym, subst, inl, arith}
 use Rattle.checked_program.specs.MarkedProgram.{MarkedProgram}
 use Rattle.machine_types.specs.{Core.{start_thread, part_phase}, Parts.init_roots, PlainState.{PlainThread, plain_start, first_thread}, StartLaws.{StartAgrees, StartLiesApart}, Threads.Thread}
-use Rattle.machine_types.{specs.declared.config.Config.Config, proofs.{AtStart.{thread_in, is_start_thread}, PlainAtStart.plain_thread}}
+use Rattle.machine_types.{specs.declared.config.Config.Config, proofs.{AtStart.is_start_thread, PlainAtStart.plain_thread}}
 use Rattle.laws_simulation.specs.{StandsBeside.{own_end, ends_shown}, StepsBeside.StartStandsBesidePlain}
 use Rattle.machine_types.specs.PlainState as plain
 use Rattle.machine_types.specs.declared.phase.Phase.TheVariants as phases

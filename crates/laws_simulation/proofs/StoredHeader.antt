@@ -2,9 +2,8 @@
 use Rattle.std.proofs.{Common.{◌≡◌, ◌≢◌, ◌⊎◌, inl, inr, ℕ, ◌-◌, List, ◌∷◌, length, Some, refl, sym, ap, subst, ◌∙◌, arith, Contains, slice_get, slice_index, slice_set}, lemmas.List.length-replicate}
 use Rattle.lists.proofs.ListLaws.{same_some}
 use Rattle.jvm_types.specs.declared.fixed_words.TheConstants.{NEXT_FREE_WORD, NEXT_TICKET_WORD, OBJECT_HEAD_WORDS}
-use Rattle.checked_program.specs.MarkedProgram.{MarkedProgram}
-use Rattle.machine_types.specs.{Agreement.IsPending, Core.Core, NewObjects.size_by, PlainMemory.{Object, new_object}, PlainState.{Plain, value_at}, Threads.Thread, Words.header_word}
-use Rattle.machine_types.{specs.declared.{config.Config.Config, phase.Phase.Phase}, proofs.Lists.{first_or_more, got_other}}
+use Rattle.machine_types.specs.{Agreement.IsPending, NewObjects.size_by, PlainMemory.{Object, new_object}, PlainState.value_at, Threads.Thread, Words.header_word}
+use Rattle.machine_types.proofs.Lists.{first_or_more, got_other}
 use Rattle.laws_states.{specs.Sites.NewHeaderOf, proofs.Lists.{contains_first, contains_more, same_or_not, set_here, set_there}}
 use Rattle.laws_simulation.{specs.StandsBeside.{IsAmong, IsBeingMade, IsPlainNew}, proofs.{AssembledObjects.{MakesNone, made_by_others}, MemoryParts.{place_bits, place_counter}}}
 use Rattle.laws_simulation.proofs.{PlainPlaces.value_of_header, Scene.{Scene, Memory}}
@@ -16,8 +15,10 @@ made_as x y a b word other e h k = same (sym h ∙ (ap (λ (z : Thread). z.phase
     same : phases.Made a word ≡ phases.Made b other → a ≡ b
     same e = cc
 
-module _ (c : MarkedProgram) (cfg : Config) (objects : List Object) (was : ℕ → Phase) (s : Core) (t : ℕ) (x : Thread) (q : Plain) (scene : Scene c cfg objects was s t x q)
-    (a word : ℕ) (made : x.phase ≡ phases.Made a word) (new : Thread) (none : MakesNone new.phase) where
+module _ (scene : Scene) (a word : ℕ) (made : scene.x.phase ≡ phases.Made a word)
+    (new : Thread) (none : MakesNone new.phase) where
+  open scene use {turn, c, objects, s, t, x, q}
+
   abbrev later : List Object
   later = new_object a word (size_by c.program word) ∷ objects
 
@@ -70,15 +71,15 @@ module _ (c : MarkedProgram) (cfg : Config) (objects : List Object) (was : ℕ �
   )
   known_by o (inr k) = scene.beside.known o k
 
-  pub stored : Memory c.program (new_object a word (size_by c.program word) ∷ objects) s (slice_set s.words (header_word a) word) q q t new
+  pub stored : Memory turn (new_object a word (size_by c.program word) ∷ objects) (slice_set s.words (header_word a) word) q new
   stored = record {
     threads = refl;
     holdings = refl;
     prints = refl;
-    bits = place_bits c cfg objects was s t x q scene (header_word a) word word stands;
+    bits = place_bits scene (header_word a) word word stands;
     places = λ n u e free. by_place n u e free (same_or_not n (header_word a));
-    next = place_counter c cfg objects was s t x q scene (header_word a) word word stands NEXT_FREE_WORD (omega arith) ∙ scene.beside.agrees.next;
-    tickets = place_counter c cfg objects was s t x q scene (header_word a) word word stands NEXT_TICKET_WORD (omega arith);
+    next = place_counter scene (header_word a) word word stands NEXT_FREE_WORD (omega arith) ∙ scene.beside.agrees.next;
+    tickets = place_counter scene (header_word a) word word stands NEXT_TICKET_WORD (omega arith);
     known = λ o k. known_by o (first_or_more (new_object a word (size_by c.program word)) objects o k);
     others = λ e k. by_object e (scene.beside.others e k);
     new_objects = λ u z b other e m. scene.beside.new_objects u z b other (made_by_others s.threads t x new scene.here none u z b other e m) m;

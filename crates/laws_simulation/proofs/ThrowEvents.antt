@@ -2,14 +2,13 @@
 use Rattle.std.proofs.Common.{◌≡◌, ℕ, Bool, List, [], ◌∷◌, Option, Some, None, refl, sym, ap, subst, ◌∙◌, option_map}
 use Rattle.jvm_types.specs.{CodeTable.can_throw, declared.{code.Op.Op, outcome.Thrown.Thrown}}
 use Rattle.checked_program.specs.MarkedProgram.{MarkedProgram, IsMarked}
-use Rattle.machine_types.specs.{Agreement.has_wait_bit, Core.Core, Elision.{looks, if_same}, Events.{wanted, moved}, Frames.{Top, top_of, handler_at}, Going.{goes_on, goes_on_if}, History.acts_of}
-use Rattle.machine_types.specs.{Onward.{Onward, handed, dispatched}, Owners.references_of, PlainMemory.Object, PlainState.{Plain, PlainThread, with_thread}, PlainSteps.step_at, ReadyObjects.class_of}
-use Rattle.machine_types.specs.{Structure.{TopIs, PhaseShows}, Threads.{Frame, Attempt, Thread}, Waiting.MayWait, declared.{config.Config.Config, phase.Phase.Phase}}
+use Rattle.machine_types.specs.{Elision.{looks, if_same}, Events.{wanted, moved}, Frames.{Top, top_of, handler_at}, Going.{goes_on, goes_on_if}, History.acts_of, Onward.{Onward, handed, dispatched}}
+use Rattle.machine_types.specs.{PlainState.{Plain, PlainThread, with_thread}, PlainSteps.step_at, ReadyObjects.class_of, Structure.{TopIs, PhaseShows}, Threads.{Frame, Attempt, Thread}}
+use Rattle.machine_types.specs.declared.phase.Phase.{Phase}
 use Rattle.laws_threads.proofs.{Landing.stand_top, Standings.top_here}
 use Rattle.laws_states.specs.HeapFacts.{objects_by}
-use Rattle.laws_simulation.{specs.StepsBeside.StepsBeside, proofs.{Assembled.one_step, GoingOnAlike.IsAwake, MemoryParts.stays, OwnThread.IsBusy, RunScene.{twin, runs_on, frames_are, status_fits}}}
-use Rattle.laws_simulation.proofs.Scene.{Scene, GoesOn, awake, counts_as, going, none_on, comes_beside, steps_of_event}
-use Rattle.jvm_types.specs.declared.outcome.End.TheVariants as ends
+use Rattle.laws_simulation.{specs.StepsBeside.StepsBeside, proofs.{Assembled.one_step, EventSteps.gone_on, MemoryParts.stays, OwnThread.{IsBusy, own, not_ended}}}
+use Rattle.laws_simulation.proofs.{RunScene.{runs_on, frames_are, status_fits}, Scene.{Scene, GoesOn, awake, counts_as, going, comes_beside, steps_of_event}}
 use Rattle.machine_types.specs.PlainState as plain
 use Rattle.machine_types.specs.declared.phase.Phase.TheVariants as phases
 use Rattle.machine_types.specs.declared.plain.Act.TheVariants as acts
@@ -19,13 +18,13 @@ pub top_found : (c : MarkedProgram) → IsMarked c → (test : Op → Bool) (fs 
 top_found c marked test [] k = absurd k
 top_found c marked test (f ∷ fs) k = (top_here c f fs k.0, stand_top c marked f fs k.0)
 
-module _ (c : MarkedProgram) (cfg : Config) (objects : List Object) (was : ℕ → Phase) (s : Core) (t : ℕ) (x : Thread) (q : Plain) (scene : Scene c cfg objects was s t x q)
-    (e : ℕ) (class : Thrown) (throws : x.phase ≡ phases.Throw e class) where
-  abbrev y : PlainThread
-  y = (twin c cfg objects was s t x q scene).plain
+module _ (scene : Scene) (e : ℕ) (class : Thrown)
+    (throws : scene.x.phase ≡ phases.Throw e class) where
+  open scene use {turn, c, objects, was, s, t, x, q}
+  open own turn use {plain as y}
 
   was_so : was t ≡ phases.Throw e class
-  was_so = counts_as c cfg objects was s t x q scene (phases.Throw e class) throws
+  was_so = counts_as turn (phases.Throw e class) throws
 
   top : (at : Top) × (top_of c.program x.frames ≡ Some at)
   top =
@@ -46,33 +45,21 @@ module _ (c : MarkedProgram) (cfg : Config) (objects : List Object) (was : ℕ �
   abbrev shown : PlainThread
   shown = plain.plain_goes_on y onward
 
-  lives : x.phase ≡ phases.Ended ends.Returned → ⊥
-  lives h = let both : phases.Throw e class ≡ phases.Ended ends.Returned = sym throws ∙ h in cc
-
-  wakes : IsAwake (has_wait_bit (references_of q.objects) s.words t)
-  wakes = awake c cfg objects was s t x q scene (λ r h. subst (λ (z : Phase). MayWait z r) was_so h)
-
-  goes : GoesOn c.program (has_wait_bit (references_of q.objects) s.words t) x now shown
-  goes = going c.program (has_wait_bit (references_of q.objects) s.words t) x x y onward refl scene.outside refl wakes (runs_on c cfg objects was s t x q scene (subst IsBusy (sym throws) tt))
-
-  same_frames : y.frames ≡ x.frames
-  same_frames = frames_are c cfg objects was s t x q scene (phases.Throw e class) throws
-
-  same_status : y.status ≡ plain.Throw e class
-  same_status = status_fits c cfg objects was s t x q scene (phases.Throw e class) throws
+  goes : GoesOn turn now shown
+  goes = going turn x y onward refl scene.outside refl (awake turn (phases.Throw e class) was_so (λ r h. h)) (runs_on turn (subst IsBusy (sym throws) tt))
 
   pub throw_steps : StepsBeside c objects s t x q
-  throw_steps = steps_of_event c cfg objects was s t x q scene objects None (acts.Do ∷ []) now
+  throw_steps = steps_of_event turn objects None (acts.Do ∷ []) now
       (ap (λ (z : Phase). objects_by c.program z objects) throws)
       (ap (wanted c x) throws ∙ ap looks scene.outside)
       (ap (λ (z : Phase). acts_of c x z 0) throws)
       (ap (λ (z : Phase). moved c x z 0) throws ∙ (ap (λ (a : Option Attempt). if_same x a 0 (goes_on_if x (dispatched c.program e class x.frames))) scene.outside ∙ ap (goes_on_if x) dispatches))
       (record {
         after = with_thread q t shown;
-        run = one_step c.program q (with_thread q t shown) t y acts.Do (twin c cfg objects was s t x q scene).here
-            (ap (step_at c.program q t y acts.Do) same_status
-            ∙ (ap (λ (fs : List Frame). option_map (λ o. with_thread q t (plain.plain_goes_on y o)) (dispatched c.program e class fs)) same_frames
+        run = one_step c.program q (with_thread q t shown) t y acts.Do (own turn).here
+            (ap (step_at c.program q t y acts.Do) (status_fits turn (phases.Throw e class) throws)
+            ∙ (ap (λ (fs : List Frame). option_map (λ o. with_thread q t (plain.plain_goes_on y o)) (dispatched c.program e class fs)) (frames_are turn (phases.Throw e class) throws)
             ∙ ap (option_map (λ o. with_thread q t (plain.plain_goes_on y o))) dispatches));
-        beside = comes_beside c cfg objects was s t x q scene objects s.words q now y shown (twin c cfg objects was s t x q scene).here lives goes
-            (stays c cfg objects was s t x q scene s.words now refl (λ a word h. let both : phases.Throw e class ≡ phases.Made a word = sym throws ∙ h in cc) (none_on x onward));
+        beside = comes_beside turn objects s.words q now shown (not_ended x.phase (subst IsBusy (sym throws) tt)) goes
+            (stays scene s.words now refl (λ a word h. let both : phases.Throw e class ≡ phases.Made a word = sym throws ∙ h in cc) (gone_on x onward).makes);
       })

@@ -33,7 +33,8 @@ pub record VariablePlace (p : Program) (objects : List Object) (s : Core) (v : V
   pub there : IsThere p objects s site
   pub word : variable_word v ≡ site_word site
 
-module _ (c : MarkedProgram) (marked : IsMarked c) (objects : List Object) (s : Core) (facts : HeapFacts c objects s) where
+module _ (c : MarkedProgram) (marked : IsMarked c) (objects : List Object) (s : Core)
+    (facts : HeapFacts c objects s) where
   is_program : IsProgram c.program
   is_program = marked.checked.program
 

@@ -1,14 +1,11 @@
 -- Whether the bit of a thread is set in the record of a monitor: by the lock words of the objects whose header is stored, and where
 -- a word is written that is no waiting bits.
-use Rattle.std.proofs.Common.{◌≡◌, ◌≢◌, ◌⊎◌, inl, inr, ℕ, ◌+◌, ◌<◌, Bool, true, false, cond, List, Option, refl, sym, ap, ◌∙◌, subst, arith, Contains, slice_index, slice_set, ◌==◌}
-use Rattle.std.proofs.lemmas.Bool.Decides.{Decides-eqb}
-use Rattle.jvm_types.specs.{Numbers.{has_flag, has_number}, declared.{class_numbers.TheConstants.INT_ARRAY_CLASS, fixed_words.TheConstants.MONITOR_RECORDS, program.Program.Program}}
-use Rattle.checked_program.specs.MarkedProgram.{MarkedProgram, IsMarked}
-use Rattle.machine_types.specs.{Agreement.{has_wait_bit, ThreadFits}, Core.Core, Facts.ArePlainObjects, LockWords.lock_of, Monitors.bit_of, NewObjects.NewObjects}
-use Rattle.machine_types.specs.{Owners.{Locks, lock_at, references_of}, PlainMemory.Object, PlainState.{Plain, PlainThread}, Threads.{Attempt, Thread}, Waiting.is_bit_set}
+use Rattle.std.proofs.Common.{◌≡◌, ◌≢◌, ◌⊎◌, inl, inr, ℕ, ◌+◌, ◌<◌, Bool, true, false, cond, List, Option, refl, sym, ap, ◌∙◌, subst, arith, Contains, slice_index, ◌==◌}
+use Rattle.jvm_types.specs.{Numbers.{has_flag, has_number}, declared.{class_numbers.TheConstants.INT_ARRAY_CLASS, program.Program.Program}}
+use Rattle.machine_types.specs.{Agreement.{has_wait_bit, ThreadFits}, Core.Core, Facts.ArePlainObjects, LockWords.lock_of, Monitors.bit_of, NewObjects.NewObjects, Owners.{lock_at, references_of}}
+use Rattle.machine_types.specs.{PlainMemory.Object, PlainState.{Plain, PlainThread}, Threads.{Attempt, Thread}, Waiting.is_bit_set}
 use Rattle.machine_types.specs.{Words.{header_class, header_length, object_size, array_size, bits_word}, declared.lock.LockWord.LockWord}
-use Rattle.laws_states.{specs.{HeapFacts.HeapFacts, SiteLaws.{SitesDiffer, SitesLieInside}, Sites.{Site, BitsOf, LockOf, site_word, HasObject, IsThere}}, proofs.Lists.set_there}
-use Rattle.laws_states.proofs.WordViews.{object_has, has_object, lock_view}
+use Rattle.laws_states.{specs.Sites.HasObject, proofs.WordViews.{object_has, has_object}}
 use Rattle.laws_simulation.specs.StandsBeside.{IsAmong, IsBeingMade}
 use Rattle.machine_types.specs.declared.lock.LockWord.TheVariants as locks
 
@@ -51,7 +48,10 @@ fits_by p bit now x a y e f = let same : bit ≡ now = λ i. λ (m : ℕ). sym (
 -- ---- the objects of the plain state, and those whose header is stored
 
 -- in words where the lock word of an object that is being made is 0
-module _ (objects : List Object) (threads : List Thread) (words : List ℕ) (q : Plain) (known : ArePlainObjects objects q) (others : (e : Object) → Contains q.objects e → IsAmong objects e.reference ⊎ IsBeingMade threads e.reference)
+module _ (objects : List Object) (threads : List Thread) (words : List ℕ) (q : Plain)
+    (known : ArePlainObjects objects q)
+    (others : (e : Object) → Contains q.objects e
+    → IsAmong objects e.reference ⊎ IsBeingMade threads e.reference)
     (new : (m : ℕ) → IsBeingMade threads m → slice_index words m ≡ 0) where
   pub plain_has : (m : ℕ) → HasObject objects m → HasObject q.objects m
   plain_has m k = let e = known k.0 k.1 in (e.0, e.1, e.2 ∙ k.2)
@@ -85,58 +85,13 @@ new_lock p objects s new m k =
     has_size word true = omega arith
     has_size word false = omega arith
 
-module _ (p : Program) (objects : List Object) (s : Core) (q : Plain) (known : ArePlainObjects objects q) (others : (e : Object) → Contains q.objects e → IsAmong objects e.reference ⊎ IsBeingMade s.threads e.reference) (new : NewObjects p objects s) where
+module _ (p : Program) (objects : List Object) (s : Core) (q : Plain)
+    (known : ArePlainObjects objects q)
+    (others : (e : Object) → Contains q.objects e
+    → IsAmong objects e.reference ⊎ IsBeingMade s.threads e.reference)
+    (new : NewObjects p objects s) where
   pub same_lock : (m : ℕ) → lock_at (references_of q.objects) s.words m ≡ lock_at (references_of objects) s.words m
   same_lock m = same_lock_in objects s.threads s.words q known others (new_lock p objects s new) m
 
   pub same_wait_bit : (t m : ℕ) → has_wait_bit (references_of q.objects) s.words t m ≡ has_wait_bit (references_of objects) s.words t m
   same_wait_bit t m = same_wait_bit_in objects s.threads s.words q known others (new_lock p objects s new) t m
-
--- ---- one word is written
-
-module _ (differ : SitesDiffer) (inside : SitesLieInside) (c : MarkedProgram) (objects : List Object) (s : Core) (marked : IsMarked c) (heap : HeapFacts c objects s)
-    (low : (m r : ℕ) → lock_at (references_of objects) s.words m ≡ locks.Fat r → r < MONITOR_RECORDS) where
-  pub bits_apart : (site : Site) (value r : ℕ) → IsThere c.program objects s site → site ≢ BitsOf r → r < MONITOR_RECORDS → slice_index (slice_set s.words (site_word site) value) (bits_word r) ≡ slice_index s.words (bits_word r)
-  bits_apart site value r k d l = set_there s.words (site_word site) (bits_word r) value (λ e. d (differ c objects s site (BitsOf r) marked heap k l (sym e)))
-
-  pub lock_apart : (site : Site) (value : ℕ) → IsThere c.program objects s site → ((m : ℕ) → site ≢ LockOf m) → (m : ℕ) → lock_at (references_of objects) (slice_set s.words (site_word site) value) m ≡ lock_at (references_of objects) s.words m
-  lock_apart site value k d m = by_test (has_number (references_of objects) m) refl
-    where
-      by_test : (b : Bool) → has_number (references_of objects) m ≡ b → cond b (lock_of (slice_index (slice_set s.words (site_word site) value) m)) (locks.Free 0) ≡ cond b (lock_of (slice_index s.words m)) (locks.Free 0)
-      by_test true e = ap lock_of (set_there s.words (site_word site) m value (λ f. d m (differ c objects s site (LockOf m) marked heap k (has_object objects m e) (sym f))))
-      by_test false e = refl
-
-  -- no lock word, and no waiting bits
-  pub bits_when_set : (site : Site) (value : ℕ) → IsThere c.program objects s site → ((m : ℕ) → site ≢ LockOf m) → ((r : ℕ) → site ≢ BitsOf r)
-      → (t m : ℕ) → has_wait_bit (references_of objects) (slice_set s.words (site_word site) value) t m ≡ has_wait_bit (references_of objects) s.words t m
-  bits_when_set site value k lock bits t m = same_bit (lock_at (references_of objects) s.words m) _ s.words (slice_set s.words (site_word site) value) t (lock_apart site value k lock m)
-      (λ r e. bits_apart site value r k (bits r) (low m r e))
-
-  lock_after : (n value m : ℕ) (b : Bool) → HasObject objects n → (n == m) ≡ b → lock_at (references_of objects) (slice_set s.words n value) m ≡ cond b (lock_of value) (lock_at (references_of objects) s.words m)
-  lock_after n value m b k e = ap (λ (v : Locks). v.lock m) (lock_view differ inside c objects s marked heap n value k) ∙ ap (λ (d : Bool). cond d (lock_of value) (lock_at (references_of objects) s.words m)) e
-
-  else_bit : (n value t m : ℕ) → HasObject objects n → (n == m) ≡ false → has_wait_bit (references_of objects) (slice_set s.words n value) t m ≡ has_wait_bit (references_of objects) s.words t m
-  else_bit n value t m k e = same_bit (lock_at (references_of objects) s.words m) _ s.words (slice_set s.words n value) t (lock_after n value m false k e)
-      (λ r f. bits_apart (LockOf n) value r k (λ g. cc) (low m r f))
-
-  here_bit : (n t m : ℕ) → (n == m) ≡ true → ((r : ℕ) → lock_at (references_of objects) s.words n ≢ locks.Fat r) → has_wait_bit (references_of objects) s.words t m ≡ false
-  here_bit n t m e d = thin_bit (lock_at (references_of objects) s.words m) s.words t (λ r f. d r (ap (lock_at (references_of objects) s.words) ((Decides-eqb n m).0 e) ∙ f))
-
-  -- a lock that was no fat one, and becomes none
-  pub bits_when_thin : (n value : ℕ) → HasObject objects n → ((r : ℕ) → lock_at (references_of objects) s.words n ≢ locks.Fat r) → ((r : ℕ) → lock_of value ≢ locks.Fat r)
-      → (t m : ℕ) → has_wait_bit (references_of objects) (slice_set s.words n value) t m ≡ has_wait_bit (references_of objects) s.words t m
-  bits_when_thin n value k was now t m = by_test (n == m) refl
-    where
-      by_test : (b : Bool) → (n == m) ≡ b → has_wait_bit (references_of objects) (slice_set s.words n value) t m ≡ has_wait_bit (references_of objects) s.words t m
-      by_test true e = ap (λ (l : LockWord). bit_by l (slice_set s.words n value) t) (lock_after n value m true k e) ∙ thin_bit (lock_of value) (slice_set s.words n value) t now ∙ sym (here_bit n t m e was)
-      by_test false e = else_bit n value t m k e
-
-  -- a lock that becomes fat, with a record where nobody waits
-  pub bits_when_fat : (n value r : ℕ) → HasObject objects n → ((k : ℕ) → lock_at (references_of objects) s.words n ≢ locks.Fat k) → lock_of value ≡ locks.Fat r → r < MONITOR_RECORDS → ((t : ℕ) → is_bit_set s.words r t ≡ false)
-      → (t m : ℕ) → has_wait_bit (references_of objects) (slice_set s.words n value) t m ≡ has_wait_bit (references_of objects) s.words t m
-  bits_when_fat n value r k was now l none t m = by_test (n == m) refl
-    where
-      by_test : (b : Bool) → (n == m) ≡ b → has_wait_bit (references_of objects) (slice_set s.words n value) t m ≡ has_wait_bit (references_of objects) s.words t m
-      by_test true e = same_bit (locks.Fat r) _ s.words (slice_set s.words n value) t (lock_after n value m true k e ∙ now) (λ j f. bits_apart (LockOf n) value j k (λ g. cc) (let one : r ≡ j = cc in subst (λ (i : ℕ). i < MONITOR_RECORDS) one l))
-          ∙ none t ∙ sym (here_bit n t m e was)
-      by_test false e = else_bit n value t m k e

@@ -2,19 +2,19 @@
 -- since nobody waits there.
 use Rattle.std.proofs.{Common.{◌≡◌, ◌≢◌, ◌⊎◌, inl, inr, ℕ, nat_lt, Bool, false, cond, List, [], ◌∷◌, Option, Some, None, refl, sym, ap, ◌∙◌, subst, slice_get, slice_set}, lemmas.List.set-set}
 use Rattle.jvm_types.specs.declared.outcome.Thrown.TheVariants.{IllegalMonitorStateException}
-use Rattle.checked_program.specs.MarkedProgram.{MarkedProgram}
-use Rattle.machine_types.specs.{Accesses.{found_by, words_after}, Agreement.{has_wait_bit, StatusFits, OutsideFits, frames_shown, roots_shown}, Core.Core, Events.wanted}
-use Rattle.machine_types.specs.{Frames.{Top, top_of, effect_at, went_on}, Going.{with_phase, runs, goes_on}, HeldMonitors.held_at}
-use Rattle.machine_types.specs.{History.{run_acts, instruction_acts, notified_by, notify_acts, steps_of}, Instructions.{begun, effect_wants, run_wants, ran, instructed, if_held, waits, notifies}}
-use Rattle.machine_types.specs.{Onward.threw, Owners.{lock_at, references_of, owner_at, hold_by_word, hold_by_list, hold_by_kept, HeldFlat}, PlainInstructions.{plain_leaving, instructed_by}}
-use Rattle.machine_types.specs.{PlainMemory.Object, PlainState.{Status, Plain, PlainThread, with_thread}, PlainSteps.{step_at, plain_run}, Threads.Thread, declared.config.Config.Config}
-use Rattle.machine_types.specs.declared.{effect.Effect.{Effect, TheVariants.{Waits, Notifies, NotifiesAll}}, lock.{Held.Held, Kept.Kept}, phase.Phase.Phase, plain.Act.Act}
+use Rattle.machine_types.specs.{Accesses.{found_by, words_after}, Agreement.{has_wait_bit, StatusFits, OutsideFits, frames_shown, roots_shown}, Events.wanted, Frames.{Top, top_of, effect_at, went_on}}
+use Rattle.machine_types.specs.{Going.{with_phase, runs, goes_on}, HeldMonitors.held_at, History.{run_acts, instruction_acts, notified_by, notify_acts, steps_of}}
+use Rattle.machine_types.specs.{Instructions.{begun, effect_wants, run_wants, ran, instructed, if_held, waits, notifies}, Onward.threw}
+use Rattle.machine_types.specs.{Owners.{lock_at, references_of, owner_at, hold_by_word, hold_by_list, hold_by_kept, HeldFlat}, PlainInstructions.{plain_leaving, instructed_by}}
+use Rattle.machine_types.specs.{PlainState.{Status, Plain, PlainThread, with_thread}, PlainSteps.{step_at, plain_run}, Threads.Thread, declared.effect.Effect.Effect}
+use Rattle.machine_types.specs.declared.{effect.Effect.TheVariants.{Waits, Notifies, NotifiesAll}, lock.{Held.Held, Kept.Kept}, phase.Phase.Phase, plain.Act.Act}
 use Rattle.machine_types.proofs.Lists.{got_when_set, got_other}
 use Rattle.laws_states.proofs.{Lists.same_or_not, LockViews.thin_if_flat}
-use Rattle.laws_simulation.{specs.{StandsBeside.{StandsBeside, own_end, ends_shown}, StepsBeside.{StepsBeside, IsOfWaiting, WaitingSteps}}, proofs.Assembled.got_same_length}
+use Rattle.laws_simulation.{specs.{StandsBeside.{StandsBeside, own_end, ends_shown}, StepsBeside.{IsAtEffect, StepsBeside, IsOfWaiting, WaitingSteps}}, proofs.EventSteps.run_made}
 use Rattle.laws_simulation.proofs.HoldingsAlike.{alike_kept, is_holder_then, no_holder_then}
 use Rattle.laws_simulation.proofs.Moments.{Moment, same_words, first_step, own_status, own_frames, own_roots, own_ends, own_as, lock_same, holdings_alike, stepped}
-use Rattle.laws_simulation.proofs.{Moved.{ends_alike, run_end, run_made, runs_outside, own_off, alone_beside}, WaitersHaveBits.{NobodyWaits, nobody_on_thin, none_waits, none_woken}}
+use Rattle.laws_simulation.proofs.{Moved.{ends_alike, run_end, runs_outside, own_off, alone_beside}, OwnThread.own, Turns.{Turn, by_turn}}
+use Rattle.laws_simulation.proofs.WaitersHaveBits.{NobodyWaits, nobody_on_thin, none_waits, none_woken}
 use Rattle.machine_types.specs.PlainInstructions as plainly
 use Rattle.machine_types.specs.PlainState as plain
 use Rattle.machine_types.specs.declared.lock.Kept.TheVariants as keeps
@@ -23,7 +23,14 @@ use Rattle.machine_types.specs.declared.phase.Phase.TheVariants as phases
 use Rattle.machine_types.specs.declared.phase.Toward.TheVariants as towards
 use Rattle.machine_types.specs.declared.plain.Act.TheVariants as acts
 
-module _ {c : MarkedProgram} {cfg : Config} {objects : List Object} {was : ℕ → Phase} {s : Core} {t : ℕ} {x : Thread} {q : Plain} {y : PlainThread} (k : Moment c cfg objects was s t x q phases.Run y) (at : Top) (found : top_of c.program x.frames ≡ Some at) where
+module _ (turn : Turn) (begins : IsAtEffect IsOfWaiting turn.c turn.x) where
+  open turn use {c, objects, s, t, x, q}
+  open begins use {at, found}
+  open own turn use {plain as y, here as twin}
+
+  k : Moment turn phases.Run
+  k = record { phase_is = begins.runs }
+
   -- ---- by what the instruction is
 
   -- it wants no word
@@ -49,11 +56,11 @@ module _ {c : MarkedProgram} {cfg : Config} {objects : List Object} {was : ℕ �
   does e is behind run = ap (plainly.plain_instructed c.program q t y) plain_top ∙ ap (instructed_by c.program q t y at) is ∙ run
 
   one_act : (e : Effect) → effect_at c.program at ≡ e → (y2 : PlainThread) → instructed_by c.program q t y at e ≡ Some (with_thread q t y2) → plain_run c.program q (steps_of t (acts.Do ∷ [])) ≡ Some (with_thread q t y2)
-  one_act e is y2 run = first_step c.program q (with_thread q t y2) t y acts.Do [] plain.Run k.twin (own_status k) (does e is (with_thread q t y2) run)
+  one_act e is y2 run = first_step c.program q (with_thread q t y2) t y acts.Do [] plain.Run twin (own_status k) (does e is (with_thread q t y2) run)
 
   beside_with : (x2 : Thread) (y2 : PlainThread) → ((a word : ℕ) → x2.phase ≢ phases.Made a word) → x2.part ≡ x.part → x2.held ≡ x.held → x2.attempt ≡ None → OutsideFits c.program (has_wait_bit (references_of q.objects) s.words t) x2 y2
       → y2.ended ≡ ends_shown c.program x2.part x2.phase → StandsBeside c.program objects (record { words = s.words; threads = slice_set s.threads t x2 }) (with_thread q t y2)
-  beside_with x2 y2 new part held free fits ended = alone_beside k s.words x2 q.holdings y2 (same_words s.words) (λ a word f. cc) new part (λ f. cc) (alike_kept q.holdings s.threads (holdings_alike k) t x x2 k.got held) free fits ended (λ u m d. refl)
+  beside_with x2 y2 new part held free fits ended = alone_beside k s.words x2 q.holdings y2 (same_words s.words) (λ a word f. cc) new part (λ f. cc) (alike_kept q.holdings s.threads (holdings_alike k) t x x2 turn.here held) free fits ended (λ u m d. refl)
 
   -- ---- a thread that does not hold the monitor throws
 
@@ -64,13 +71,13 @@ module _ {c : MarkedProgram} {cfg : Config} {objects : List Object} {was : ℕ �
   PlainThrower = plain.plain_goes_on y (threw IllegalMonitorStateException at)
 
   thrown : StandsBeside c.program objects (record { words = s.words; threads = slice_set s.threads t Thrower }) (with_thread q t PlainThrower)
-  thrown = beside_with Thrower PlainThrower (λ a word f. cc) refl refl k.free (record { frames = refl; status = refl; roots = own_roots k }) (own_ends k ∙ ends_alike c.program x.part phases.Run Thrower.phase refl)
+  thrown = beside_with Thrower PlainThrower (λ a word f. cc) refl refl turn.outside (record { frames = refl; status = refl; roots = own_roots k }) (own_ends k ∙ ends_alike c.program x.part phases.Run Thrower.phase refl)
 
   not_holding : (m : ℕ) (more : PlainThread) → held_at x.held m ≡ None → plainly.if_plain_held q t m y at more ≡ PlainThrower
-  not_holding m more e = ap (λ (b : Bool). cond b more PlainThrower) (no_holder_then q.holdings s.threads (holdings_alike k) t m x k.got e)
+  not_holding m more e = ap (λ (b : Bool). cond b more PlainThrower) (no_holder_then q.holdings s.threads (holdings_alike k) t m x turn.here e)
 
   holding : (m : ℕ) (h : Held) (more : PlainThread) → held_at x.held m ≡ Some h → plainly.if_plain_held q t m y at more ≡ more
-  holding m h more e = ap (λ (b : Bool). cond b more PlainThrower) (is_holder_then q.holdings s.threads (holdings_alike k) t m x h k.got e)
+  holding m h more e = ap (λ (b : Bool). cond b more PlainThrower) (is_holder_then q.holdings s.threads (holdings_alike k) t m x h turn.here e)
 
   -- ---- one that holds it goes on, with the instruction done
 
@@ -84,7 +91,7 @@ module _ {c : MarkedProgram} {cfg : Config} {objects : List Object} {was : ℕ �
   done_with : (phase : Phase) (turns : ℕ) (status : Status) → ((a word : ℕ) → phase ≢ phases.Made a word) → own_end phase ≡ [] → went_on c.program at 0 ≡ frames_shown phase (went_on c.program at 0)
       → x.roots ≡ roots_shown c.program x.part phase x.roots → StatusFits (has_wait_bit (references_of q.objects) s.words t) (record Done { phase = phase; turns = turns }) phase status
       → StandsBeside c.program objects (record { words = s.words; threads = slice_set s.threads t (record Done { phase = phase; turns = turns }) }) (with_thread q t (Leaves status))
-  done_with phase turns status new none frames roots fits = beside_with (record Done { phase = phase; turns = turns }) (Leaves status) new refl refl k.free (record { frames = frames; status = fits; roots = own_roots k ∙ roots })
+  done_with phase turns status new none frames roots fits = beside_with (record Done { phase = phase; turns = turns }) (Leaves status) new refl refl turn.outside (record { frames = frames; status = fits; roots = own_roots k ∙ roots })
       (own_ends k ∙ ends_alike c.program x.part phases.Run phase (sym none))
 
   -- and runs
@@ -92,7 +99,7 @@ module _ {c : MarkedProgram} {cfg : Config} {objects : List Object} {was : ℕ �
   off n = own_off k s.words (same_words s.words) (λ i f. f) phases.Run (own_as k) (λ i f. f) n
 
   runs_on : StandsBeside c.program objects (record { words = s.words; threads = slice_set s.threads t (runs Done) }) (with_thread q t (Leaves plain.Run))
-  runs_on = beside_with (runs Done) (Leaves plain.Run) (λ a word. run_made (nat_lt (begun x).counts.instructions x.cfg.steps) a word) refl refl k.free
+  runs_on = beside_with (runs Done) (Leaves plain.Run) (λ a word. run_made (nat_lt (begun x).counts.instructions x.cfg.steps) a word) refl refl turn.outside
       (runs_outside c.program (has_wait_bit (references_of q.objects) s.words t) Done (Leaves plain.Run) off refl refl (own_roots k))
       (own_ends k ∙ ends_alike c.program x.part phases.Run (runs Done).phase (sym (run_end (nat_lt (begun x).counts.instructions x.cfg.steps))))
 
@@ -100,7 +107,7 @@ module _ {c : MarkedProgram} {cfg : Config} {objects : List Object} {was : ℕ �
 
   thin : (m count : ℕ) (h : Held) → held_at x.held m ≡ Some h → h.kept ≡ keeps.Flat count → (r : ℕ) → lock_at (references_of q.objects) s.words m ≢ locks.Fat r
   thin m count h e f r g =
-      let holds : hold_by_word t (lock_at (references_of objects) s.words m) (owner_at s.words) ≡ HeldFlat = (k.facts.owners.each t x k.got).holds m ∙ ap hold_by_list e ∙ ap hold_by_kept f in
+      let holds : hold_by_word t (lock_at (references_of objects) s.words m) (owner_at s.words) ≡ HeldFlat = (turn.facts.owners.each t x turn.here).holds m ∙ ap hold_by_list e ∙ ap hold_by_kept f in
       thin_if_flat t (lock_at (references_of objects) s.words m) (owner_at s.words) holds r (sym (lock_same k m) ∙ g)
 
   nobody : (m count : ℕ) (h : Held) (status : Status) → held_at x.held m ≡ Some h → h.kept ≡ keeps.Flat count → ((depth : ℕ) → status ≢ plain.Waiting m depth) → NobodyWaits (slice_set q.threads t (Leaves status)) m
@@ -109,18 +116,18 @@ module _ {c : MarkedProgram} {cfg : Config} {objects : List Object} {was : ℕ �
       by_thread : (u ≡ t) ⊎ (u ≢ t) → ⊥
       by_thread (inl same) =
           let here : slice_get (slice_set q.threads t (Leaves status)) t ≡ Some w = subst (λ (i : ℕ). slice_get (slice_set q.threads t (Leaves status)) i ≡ Some w) same g in
-          let there : slice_get (slice_set q.threads t (Leaves status)) t ≡ Some (Leaves status) = got_when_set q.threads t y (Leaves status) k.twin in
+          let there : slice_get (slice_set q.threads t (Leaves status)) t ≡ Some (Leaves status) = got_when_set q.threads t y (Leaves status) twin in
           let one : Leaves status ≡ w = cc in
           other depth (ap (λ (v : PlainThread). v.status) one ∙ is)
-      by_thread (inr d) = nobody_on_thin c.program s q m k.beside.agrees (thin m count h e f) u w depth (sym (got_other q.threads t u (Leaves status) d) ∙ g) is
+      by_thread (inr d) = nobody_on_thin c.program s q m turn.beside.agrees (thin m count h e f) u w depth (sym (got_other q.threads t u (Leaves status) d) ∙ g) is
 
   -- the notification is a second step
   second : (status : Status) (act : Act) (e : Effect) → effect_at c.program at ≡ e → instructed_by c.program q t y at e ≡ Some (with_thread q t (Leaves status))
       → step_at c.program (with_thread q t (Leaves status)) t (Leaves status) act status ≡ Some (with_thread (with_thread q t (Leaves status)) t (Leaves plain.Run))
       → plain_run c.program q (steps_of t (acts.Do ∷ act ∷ [])) ≡ Some (with_thread q t (Leaves plain.Run))
   second status act e is first more =
-      first_step c.program q (with_thread q t (Leaves status)) t y acts.Do (act ∷ []) plain.Run k.twin (own_status k) (does e is (with_thread q t (Leaves status)) first)
-      ∙ first_step c.program (with_thread q t (Leaves status)) (with_thread (with_thread q t (Leaves status)) t (Leaves plain.Run)) t (Leaves status) act [] status (got_when_set q.threads t y (Leaves status) k.twin) refl more
+      first_step c.program q (with_thread q t (Leaves status)) t y acts.Do (act ∷ []) plain.Run twin (own_status k) (does e is (with_thread q t (Leaves status)) first)
+      ∙ first_step c.program (with_thread q t (Leaves status)) (with_thread (with_thread q t (Leaves status)) t (Leaves plain.Run)) t (Leaves status) act [] status (got_when_set q.threads t y (Leaves status) twin) refl more
       ∙ ap (λ (ws : List PlainThread). Some (record q { threads = ws })) (set-set q.threads t (Leaves status) (Leaves plain.Run))
 
   -- ---- the three
@@ -207,7 +214,4 @@ module _ {c : MarkedProgram} {cfg : Config} {objects : List Object} {was : ℕ �
   does_one e is h = absurd h
 
 pub waiting_steps : WaitingSteps
-waiting_steps c cfg objects was s t x q marked width facts beside got free b =
-    let y : (y : PlainThread) × (slice_get q.threads t ≡ Some y) = got_same_length s.threads q.threads t x beside.agrees.many got in
-    let k : Moment c cfg objects was s t x q phases.Run y.0 = record { facts = facts; beside = beside; got = got; free = free; phase_is = b.runs; twin = y.1 } in
-    does_one k b.at b.found (effect_at c.program b.at) refl b.kind
+waiting_steps = by_turn (IsAtEffect IsOfWaiting) (λ turn b. does_one turn b (effect_at turn.c.program b.at) refl b.kind)

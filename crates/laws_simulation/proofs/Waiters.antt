@@ -2,17 +2,16 @@
 use Rattle.std.proofs.Common.{◌≡◌, ◌≢◌, inr, ℕ, ◌+◌, nat_lt, Bool, true, false, cond, List, [], ◌∷◌, Some, None, refl, sym, ap, ◌∙◌, arith, slice_get, slice_index, slice_set, ◌==◌, bit_or, if◌then◌else◌}
 use Rattle.std.proofs.lemmas.Bool.{ne_eqb, Decides.nat_tests}
 use Rattle.jvm_types.specs.{Numbers.has_flag, declared.fixed_words.TheConstants.MONITOR_RECORDS}
-use Rattle.checked_program.specs.MarkedProgram.{MarkedProgram, IsMarked}
-use Rattle.machine_types.specs.{Agreement.{has_wait_bit, waiting_status, depth_for}, Core.Core, Going.{with_phase, failed_turn}, HeldMonitors.{held_at, with_held, without_held}, History.act_if}
-use Rattle.machine_types.specs.{Monitors.{bit_of, goes_to_wait, retakes}, Owners.{lock_at, owner_at, references_of, hold_by_list, hold_by_word, NotHeld, HeldFat}, PlainMemory.Object}
+use Rattle.machine_types.specs.{Agreement.{has_wait_bit, waiting_status, depth_for}, Going.{with_phase, failed_turn}, HeldMonitors.{held_at, with_held, without_held}, History.act_if}
+use Rattle.machine_types.specs.{Monitors.{bit_of, goes_to_wait, retakes}, Owners.{lock_at, owner_at, references_of, hold_by_list, hold_by_word, NotHeld, HeldFat}}
 use Rattle.machine_types.specs.{PlainState.{Plain, PlainThread, Holding, holding_at, with_holding, without_holding, let_go, with_thread, with_status}, PlainSteps.{waited, retaken}, Structure.Stands}
-use Rattle.machine_types.specs.{Threads.Thread, Waiting.is_bit_set, Words.{owner_word, bits_word}, declared.{config.Config.Config, lock.{Held.Held, LockWord.LockWord}, phase.Phase.Phase}}
-use Rattle.machine_types.proofs.PlainStepLaws.{is_same}
+use Rattle.machine_types.{specs.{Threads.Thread, Waiting.is_bit_set, Words.{owner_word, bits_word}, declared.{lock.{Held.Held, LockWord.LockWord}, phase.Phase.Phase}}, proofs.PlainStepLaws.is_same}
 use Rattle.laws_states.{specs.SiteLaws.SitesLieInside, proofs.{LockViews.not_held, WordViews.set_self}}
-use Rattle.laws_simulation.{specs.{StandsBeside.StandsBeside, StepsBeside.StepsBeside}, proofs.BitWords.set_other}
+use Rattle.laws_simulation.{specs.{StandsBeside.StandsBeside, StepsBeside.StepsBeside}, proofs.{BitWords.set_other, EventSteps.run_made}}
 use Rattle.laws_simulation.proofs.HoldingsAlike.{IsHolding, alone, held_depth_is, holds_then, free_then, alike_put, alike_dropped}
 use Rattle.laws_simulation.proofs.Moments.{Moment, AreRecordsWritten, same_words, first_step, own_status, own_frames, own_roots, own_ends, own_number, own_as, holdings_alike, stepped}
-use Rattle.laws_simulation.proofs.Moved.{HasFat, ends_alike, run_end, run_made, runs_outside, bits_written, owner_written, owner_keeps_bits, fat_low, fat_one, counted, knows, waits_now, owning, bit_now, set_in, bits_kept, own_off, quiet_beside, alone_beside, bits_else}
+use Rattle.laws_simulation.proofs.Moved.{HasFat, ends_alike, run_end, runs_outside, bits_written, owner_written, owner_keeps_bits, fat_low, fat_one, counted, knows, waits_now, owning, bit_now, set_in, bits_kept, own_off, quiet_beside, alone_beside, bits_else}
+use Rattle.laws_simulation.proofs.{OwnThread.own, Turns.Turn}
 use Rattle.jvm_types.specs.declared.outcome.End.TheVariants as ends
 use Rattle.machine_types.specs.PlainState as plain
 use Rattle.machine_types.specs.declared.lock.Kept.TheVariants as keeps
@@ -23,15 +22,18 @@ use Rattle.machine_types.specs.declared.plain.Act.TheVariants as acts
 abbrev Turned : Thread → Bool → Phase → Thread
 Turned x b phase = record x { turns = x.turns + 1; phase = cond b phase (phases.Ending ends.Turns) }
 
-module _ {c : MarkedProgram} {cfg : Config} {objects : List Object} {was : ℕ → Phase} {s : Core} {t : ℕ} {x : Thread} {q : Plain} {y : PlainThread} where
+module _ {turn : Turn} where
+  open turn use {c, objects, s, t, x, q}
+  open own turn use {plain as y, here as twin}
+
   -- ---- it sets its bit
 
-  pub bit_set : SitesLieInside → IsMarked c → (m r : ℕ) → Moment c cfg objects was s t x q (phases.WaitBit m r) y → StepsBeside c objects s t x q
-  bit_set inside marked m r k = stepped k later (with_phase x (phases.WaitOut m r)) [] q refl refl refl refl refl
-      (quiet_beside k later (with_phase x (phases.WaitOut m r)) (bits_written s.words r value fat.low) (λ a word e. cc) (λ a word e. cc) refl (λ g. cc) refl k.free
+  pub bit_set : SitesLieInside → (m r : ℕ) → Moment turn (phases.WaitBit m r) → StepsBeside c objects s t x q
+  bit_set inside m r k = stepped k later (with_phase x (phases.WaitOut m r)) [] q refl refl refl refl refl
+      (quiet_beside k later (with_phase x (phases.WaitOut m r)) (bits_written s.words r value fat.low) (λ a word e. cc) (λ a word e. cc) refl (λ g. cc) refl turn.outside
       (record { frames = own_frames k; status = own_status k; roots = own_roots k })
       (own_ends k ∙ ends_alike c.program x.part (phases.WaitBit m r) (phases.WaitOut m r) refl)
-      (λ u n d. bits_kept k later (bits_written s.words r value fat.low) u (λ i low. bits_else k inside marked r value u fat.low (same u d) i) n))
+      (λ u n d. bits_kept k later (bits_written s.words r value fat.low) u (λ i low. bits_else k inside r value u fat.low (same u d) i) n))
     where
       value : ℕ
       value = bit_or (slice_index s.words (bits_word r)) (bit_of x.number)
@@ -40,19 +42,19 @@ module _ {c : MarkedProgram} {cfg : Config} {objects : List Object} {was : ℕ �
       later = slice_set s.words (bits_word r) value
 
       fat : HasFat objects s.words t m r x
-      fat = owning k t x m r k.got (counted k (phases.WaitBit m r) (own_as k)).phase_shows.1
+      fat = owning k t x m r turn.here (counted k (phases.WaitBit m r) (own_as k)).phase_shows.1
 
       same : (u : ℕ) → u ≢ t → has_flag (bit_of u) value ≡ is_bit_set s.words r u
       same u d = set_other (slice_index s.words (bits_word r)) x.number u (λ e. d (e ∙ own_number k))
 
   -- ---- it gives the monitor up
 
-  pub given_up : (m r : ℕ) → Moment c cfg objects was s t x q (phases.WaitOut m r) y → StepsBeside c objects s t x q
+  pub given_up : (m r : ℕ) → Moment turn (phases.WaitOut m r) → StepsBeside c objects s t x q
   given_up m r k = stepped k later x2 (acts.Wait ∷ []) behind refl refl refl (ap (goes_to_wait x m r) fat.is)
-      (first_step c.program q behind t y acts.Wait [] (plain.Wait m) k.twin (own_status k) step)
+      (first_step c.program q behind t y acts.Wait [] (plain.Wait m) twin (own_status k) step)
       (alone_beside k later x2 (without_holding m q.holdings) y2 written (λ a word e. cc) (λ a word e. cc) refl (λ g. cc)
-      (alike_dropped q.holdings s.threads (holdings_alike k) t x x2 k.got m refl stands.once (λ u d. alone (holding_at q.holdings m) t u fat.held.depth depth d))
-      k.free
+      (alike_dropped q.holdings s.threads (holdings_alike k) t x x2 turn.here m refl stands.once (λ u d. alone (holding_at q.holdings m) t u fat.held.depth depth d))
+      turn.outside
       (record { frames = own_frames k; status = status (has_wait_bit (references_of q.objects) later t m) bit; roots = own_roots k })
       (own_ends k ∙ ends_alike c.program x.part (phases.WaitOut m r) (phases.WaitLook m r fat.held.depth) refl)
       (λ u n d. kept u n))
@@ -61,7 +63,7 @@ module _ {c : MarkedProgram} {cfg : Config} {objects : List Object} {was : ℕ �
       stands = counted k (phases.WaitOut m r) (own_as k)
 
       fat : HasFat objects s.words t m r x
-      fat = owning k t x m r k.got stands.phase_shows.1
+      fat = owning k t x m r turn.here stands.phase_shows.1
 
       later : List ℕ
       later = slice_set s.words (owner_word r) 0
@@ -79,10 +81,10 @@ module _ {c : MarkedProgram} {cfg : Config} {objects : List Object} {was : ℕ �
       behind = record q { holdings = without_holding m q.holdings; threads = slice_set q.threads t y2 }
 
       depth : depth_for t (holding_at q.holdings m) ≡ Some fat.held.depth
-      depth = held_depth_is q.holdings s.threads (holdings_alike k) t m x fat.held k.got fat.is
+      depth = held_depth_is q.holdings s.threads (holdings_alike k) t m x fat.held turn.here fat.is
 
       holds : IsHolding (holding_at q.holdings m) t m fat.held.depth
-      holds = holds_then q.holdings s.threads (holdings_alike k) t m x fat.held k.got fat.is
+      holds = holds_then q.holdings s.threads (holdings_alike k) t m x fat.held turn.here fat.is
 
       step : waited q t m y (holding_at q.holdings m) ≡ Some behind
       step = ap (waited q t m y) holds.is
@@ -101,12 +103,12 @@ module _ {c : MarkedProgram} {cfg : Config} {objects : List Object} {was : ℕ �
 
   -- ---- it looks at its bit
 
-  look_on : (m r depth : ℕ) (k : Moment c cfg objects was s t x q (phases.WaitLook m r depth) y) → is_bit_set s.words r t ≡ true → (b : Bool)
+  look_on : (m r depth : ℕ) (k : Moment turn (phases.WaitLook m r depth)) → is_bit_set s.words r t ≡ true → (b : Bool)
       → StandsBeside c.program objects (record { words = s.words; threads = slice_set s.threads t (Turned x b (phases.WaitLook m r depth)) }) q
-  look_on m r depth k e true = quiet_beside k s.words (Turned x true (phases.WaitLook m r depth)) (same_words s.words) (λ a word f. cc) (λ a word f. cc) refl (λ g. cc) refl k.free
+  look_on m r depth k e true = quiet_beside k s.words (Turned x true (phases.WaitLook m r depth)) (same_words s.words) (λ a word f. cc) (λ a word f. cc) refl (λ g. cc) refl turn.outside
       (record { frames = own_frames k; status = own_status k; roots = own_roots k })
       (own_ends k ∙ ends_alike c.program x.part (phases.WaitLook m r depth) (phases.WaitLook m r depth) refl) (λ u n d. refl)
-  look_on m r depth k e false = quiet_beside k s.words (Turned x false (phases.WaitLook m r depth)) (same_words s.words) (λ a word f. cc) (λ a word f. cc) refl (λ g. cc) refl k.free
+  look_on m r depth k e false = quiet_beside k s.words (Turned x false (phases.WaitLook m r depth)) (same_words s.words) (λ a word f. cc) (λ a word f. cc) refl (λ g. cc) refl turn.outside
       (record { frames = own_frames k; status = record { waits = waits; awake = λ none. absurd (let clash : true ≡ false = sym bit ∙ none m in cc) }; roots = own_roots k })
       (own_ends k ∙ ends_alike c.program x.part (phases.WaitLook m r depth) (phases.Ending ends.Turns) refl) (λ u n d. refl)
     where
@@ -126,16 +128,16 @@ module _ {c : MarkedProgram} {cfg : Config} {objects : List Object} {was : ℕ �
           let same : m ≡ n = fat_one k m n r fat (b.1 ∙ ap locks.Fat one) in
           (depth, status ∙ ap (λ (i : ℕ). plain.Waiting i depth) same)
 
-  to_retake : (m r depth : ℕ) (k : Moment c cfg objects was s t x q (phases.WaitLook m r depth) y) → is_bit_set s.words r t ≡ false
+  to_retake : (m r depth : ℕ) (k : Moment turn (phases.WaitLook m r depth)) → is_bit_set s.words r t ≡ false
       → StandsBeside c.program objects (record { words = s.words; threads = slice_set s.threads t (with_phase x (phases.Retake m r depth)) }) q
-  to_retake m r depth k e = quiet_beside k s.words (with_phase x (phases.Retake m r depth)) (same_words s.words) (λ a word f. cc) (λ a word f. cc) refl (λ g. cc) refl k.free
+  to_retake m r depth k e = quiet_beside k s.words (with_phase x (phases.Retake m r depth)) (same_words s.words) (λ a word f. cc) (λ a word f. cc) refl (λ g. cc) refl turn.outside
       (record { frames = own_frames k; status = status; roots = own_roots k })
       (own_ends k ∙ ends_alike c.program x.part (phases.WaitLook m r depth) (phases.Retake m r depth) refl) (λ u n d. refl)
     where
       status : y.status ≡ plain.Woken m depth
       status = own_status k ∙ ap (λ (b : Bool). waiting_status b m depth) (bit_now k t m r (knows k (phases.WaitLook m r depth) (own_as k)) ∙ e)
 
-  pub looked : (m r depth : ℕ) → Moment c cfg objects was s t x q (phases.WaitLook m r depth) y → StepsBeside c objects s t x q
+  pub looked : (m r depth : ℕ) → Moment turn (phases.WaitLook m r depth) → StepsBeside c objects s t x q
   looked m r depth k = by_bit (is_bit_set s.words r t) refl
     where
       after : Bool → Thread
@@ -151,26 +153,26 @@ module _ {c : MarkedProgram} {cfg : Config} {objects : List Object} {was : ℕ �
 
   -- ---- it takes the monitor back
 
-  not_retaken : (m r depth : ℕ) (k : Moment c cfg objects was s t x q (phases.Retake m r depth) y) → (b : Bool)
+  not_retaken : (m r depth : ℕ) (k : Moment turn (phases.Retake m r depth)) → (b : Bool)
       → StandsBeside c.program objects (record { words = s.words; threads = slice_set s.threads t (Turned x b (phases.Retake m r depth)) }) q
-  not_retaken m r depth k true = quiet_beside k s.words (Turned x true (phases.Retake m r depth)) (same_words s.words) (λ a word f. cc) (λ a word f. cc) refl (λ g. cc) refl k.free
+  not_retaken m r depth k true = quiet_beside k s.words (Turned x true (phases.Retake m r depth)) (same_words s.words) (λ a word f. cc) (λ a word f. cc) refl (λ g. cc) refl turn.outside
       (record { frames = own_frames k; status = own_status k; roots = own_roots k })
       (own_ends k ∙ ends_alike c.program x.part (phases.Retake m r depth) (phases.Retake m r depth) refl) (λ u n d. refl)
-  not_retaken m r depth k false = quiet_beside k s.words (Turned x false (phases.Retake m r depth)) (same_words s.words) (λ a word f. cc) (λ a word f. cc) refl (λ g. cc) refl k.free
+  not_retaken m r depth k false = quiet_beside k s.words (Turned x false (phases.Retake m r depth)) (same_words s.words) (λ a word f. cc) (λ a word f. cc) refl (λ g. cc) refl turn.outside
       (record { frames = own_frames k; status = record { waits = λ n g. absurd (let clash : true ≡ false = sym g ∙ off n in cc); awake = λ none. inr (m, depth, own_status k) }; roots = own_roots k })
       (own_ends k ∙ ends_alike c.program x.part (phases.Retake m r depth) (phases.Ending ends.Turns) refl) (λ u n d. refl)
     where
       off : (n : ℕ) → has_wait_bit (references_of q.objects) s.words t n ≡ false
       off n = own_off k s.words (same_words s.words) (λ i e. e) (phases.Retake m r depth) (own_as k) (λ i e. e) n
 
-  retook : (m r depth : ℕ) (k : Moment c cfg objects was s t x q (phases.Retake m r depth) y) → (slice_index s.words (owner_word r) == 0) ≡ true → StepsBeside c objects s t x q
+  retook : (m r depth : ℕ) (k : Moment turn (phases.Retake m r depth)) → (slice_index s.words (owner_word r) == 0) ≡ true → StepsBeside c objects s t x q
   retook m r depth k e = stepped k later (retakes x m r depth) (acts.Retake ∷ []) behind refl (ap (λ (b : Bool). act_if b acts.Retake) e)
       (ap (λ (b : Bool). slice_set s.words (owner_word r) (if b then x.number + 1 else slice_index s.words (owner_word r))) e)
       (ap (λ (b : Bool). cond b (retakes x m r depth) (failed_turn x (phases.Retake m r depth))) e)
-      (first_step c.program q behind t y acts.Retake [] (plain.Woken m depth) k.twin (own_status k) step)
+      (first_step c.program q behind t y acts.Retake [] (plain.Woken m depth) twin (own_status k) step)
       (alone_beside k later (retakes x m r depth) (with_holding one q.holdings) y2 written (λ a word f. cc) (λ a word. run_made goes a word) refl (λ g. cc)
-      (alike_put q.holdings s.threads (holdings_alike k) t x (retakes x m r depth) k.got m entry refl refl (λ u d. ap (depth_for u) nobody))
-      k.free
+      (alike_put q.holdings s.threads (holdings_alike k) t x (retakes x m r depth) turn.here m entry refl refl (λ u d. ap (depth_for u) nobody))
+      turn.outside
       (runs_outside c.program (has_wait_bit (references_of q.objects) later t) (record x { held = with_held entry x.held }) y2 off (own_frames k) refl (own_roots k))
       (own_ends k ∙ ends_alike c.program x.part (phases.Retake m r depth) (cond goes phases.Run (phases.Ending ends.Steps)) (sym (run_end goes)))
       (λ u n d. kept u n))
@@ -209,7 +211,7 @@ module _ {c : MarkedProgram} {cfg : Config} {objects : List Object} {was : ℕ �
 
       none_has : (u : ℕ) (z : Thread) → slice_get s.threads u ≡ Some z → held_at z.held m ≡ None
       none_has u z g =
-          let holds : hold_by_word u (lock_at (references_of objects) s.words m) (owner_at s.words) ≡ hold_by_list (held_at z.held m) = (k.facts.owners.each u z g).holds m in
+          let holds : hold_by_word u (lock_at (references_of objects) s.words m) (owner_at s.words) ≡ hold_by_list (held_at z.held m) = (turn.facts.owners.each u z g).holds m in
           let none : hold_by_word u (lock_at (references_of objects) s.words m) (owner_at s.words) ≡ NotHeld = ap (λ (l : LockWord). hold_by_word u l (owner_at s.words)) fat ∙ ap (λ (b : Bool). cond b (HeldFat r) NotHeld) (ne_eqb (owner_at s.words r) (u + 1) (λ f. absurd (omega (arith, f, no_owner)))) in
           not_held (held_at z.held m) (sym holds ∙ none)
 
@@ -225,7 +227,7 @@ module _ {c : MarkedProgram} {cfg : Config} {objects : List Object} {was : ℕ �
       off : (n : ℕ) → has_wait_bit (references_of q.objects) later t n ≡ false
       off n = kept t n ∙ own_off k s.words (same_words s.words) (λ i f. f) (phases.Retake m r depth) (own_as k) (λ i f. f) n
 
-  pub took_back : (m r depth : ℕ) → Moment c cfg objects was s t x q (phases.Retake m r depth) y → StepsBeside c objects s t x q
+  pub took_back : (m r depth : ℕ) → Moment turn (phases.Retake m r depth) → StepsBeside c objects s t x q
   took_back m r depth k = by_test (slice_index s.words (owner_word r) == 0) refl
     where
       by_test : (b : Bool) → (slice_index s.words (owner_word r) == 0) ≡ b → StepsBeside c objects s t x q

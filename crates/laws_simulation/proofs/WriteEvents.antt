@@ -1,18 +1,14 @@
 -- An instruction that writes a field.
-use Rattle.std.proofs.Common.{◌≡◌, ℕ, Bool, List, [], ◌∷◌, Option, Some, refl, sym, ap, subst, ◌∙◌, slice_index, slice_set, option_map}
+use Rattle.std.proofs.Common.{◌≡◌, ℕ, [], ◌∷◌, Option, Some, sym, ap, subst, ◌∙◌, slice_index, slice_set, option_map}
 use Rattle.jvm_types.specs.declared.program.Kind.{Kind}
-use Rattle.checked_program.specs.MarkedProgram.{MarkedProgram}
-use Rattle.machine_types.specs.{Agreement.has_wait_bit, Core.Core, FoundWords.{Content, kind_content, variable_content, run_content, content_at, effect_content}}
-use Rattle.machine_types.specs.{Frames.{Top, top_of, effect_at, went_on}, Going.goes_on, Instructions.begun, Onward.Running, Owners.references_of, PlainMemory.Object}
+use Rattle.machine_types.specs.{FoundWords.{Content, kind_content, variable_content, run_content, content_at, effect_content}, Frames.went_on, Going.goes_on, Instructions.begun, Onward.Running}
 use Rattle.machine_types.specs.{PlainState.{Plain, PlainThread, value_at, written, with_thread}, Threads.Thread, Words.variable_word, declared.access.Access.{Access, TheVariants.Store}}
-use Rattle.machine_types.specs.declared.{config.Config.Config, effect.{Effect.TheVariants.Writes, Variable.Variable}, phase.Phase.Phase}
+use Rattle.machine_types.specs.declared.{effect.{Effect.TheVariants.Writes, Variable.Variable}, phase.Phase.Phase}
 use Rattle.laws_states.{specs.{HeapFacts.objects_by, Sites.{Site, ValueOf, StaticAt, site_word, Suits, IsAccessOf, ReachesIf}}, proofs.{Accesses.content_is, Phases.events_reach}}
-use Rattle.laws_simulation.{specs.StepsBeside.StepsBeside, proofs.{MemoryParts.{IsValueSite, writes}, PlainValues.{IsPlace, value_found}}}
-use Rattle.laws_simulation.proofs.RunScene.{twin, runs_on, busy, lives, makes_none, wakes, may, wants, acts_are, moves, does}
-use Rattle.laws_simulation.proofs.Scene.{Scene, GoesOn, Memory, going, none_on, comes_beside, steps_of_event}
+use Rattle.laws_simulation.{specs.StepsBeside.StepsBeside, proofs.{EventSteps.gone_on, MemoryParts.{IsValueSite, writes}, OwnThread.own, PlainValues.{IsPlace, value_found}}}
+use Rattle.laws_simulation.proofs.{RunScene.{Instruction, lives, makes_none, goes, may, wants, acts_are, moves, does}, Scene.{Scene, Memory, comes_beside, steps_of_event}}
 use Rattle.jvm_types.specs.declared.program.Kind.TheVariants as kinds
 use Rattle.machine_types.specs.PlainState as plain
-use Rattle.machine_types.specs.declared.phase.Phase.TheVariants as phases
 use Rattle.machine_types.specs.declared.plain.Act.TheVariants as acts
 
 -- ---- a variable is a field or a static field
@@ -33,28 +29,26 @@ is_place (ValueOf reference index) k = tt
 is_place (StaticAt word) k = tt
 is_place site k = absurd k
 
-module _ (c : MarkedProgram) (cfg : Config) (objects : List Object) (was : ℕ → Phase) (s : Core) (t : ℕ) (x : Thread) (q : Plain) (scene : Scene c cfg objects was s t x q)
-    (runs : x.phase ≡ phases.Run) (at : Top) (found : top_of c.program x.frames ≡ Some at) where
-  abbrev bit : ℕ → Bool
-  bit = has_wait_bit (references_of q.objects) s.words t
-
-  abbrev y : PlainThread
-  y = (twin c cfg objects was s t x q scene).plain
+module _ (scene : Scene) where
+  open scene use {turn, c, objects, s, t, x, q}
+  open own turn use {plain as y}
 
   -- ---- a place is written
 
-  module _ (v : Variable) (word : ℕ) (effect : effect_at c.program at ≡ Writes v word) where
+  module _ (v : Variable) (word : ℕ) (i : Instruction turn (Writes v word)) where
+    open i use {runs, at, found, effect}
+
     reach : IsAccessOf c.program objects s (variable_content c.program at.target) (Store (variable_word v) word)
     reach =
         let k = events_reach c objects s t x scene.marked scene.facts.heap scene.here (scene.facts.threads.lawful t x scene.here) in
         let content : content_at c x x.phase ≡ variable_content c.program at.target =
         ap (content_at c x) runs ∙ (ap (run_content c.program) found ∙ ap (effect_content c.program at.target) effect) in
         subst (λ (k : Content). ReachesIf c.program objects s k (Some (Store (variable_word v) word))) content
-        (subst (λ (a : Option Access). ReachesIf c.program objects s (content_at c x x.phase) a) (wants c cfg objects was s t x q scene runs at found (Writes v word) effect) k)
+        (subst (λ (a : Option Access). ReachesIf c.program objects s (content_at c x x.phase) a) (wants i) k)
 
     value : IsValueSite reach.site
     value =
-        let k = may c cfg objects was s t x q scene runs at found (Writes v word) effect in
+        let k = may i in
         let f = k.allowed.1 in
         let same : variable_content c.program at.target ≡ kind_content f.kind = ap (variable_content c.program) k.target_is ∙ content_is c scene.marked objects s scene.facts.heap k.target v f k.allowed.2 in
         value_site f.kind reach.site (subst (λ (z : Content). Suits z reach.site) same reach.suits)
@@ -68,25 +62,21 @@ module _ (c : MarkedProgram) (cfg : Config) (objects : List Object) (was : ℕ �
     abbrev shown : PlainThread
     shown = plain.plain_goes_on y (Running (went_on c.program at 0))
 
-    memory : Memory c.program objects s (slice_set s.words (variable_word v) word) q (written q (variable_word v) word) t now
-    memory = subst (λ (n : ℕ). Memory c.program objects s (slice_set s.words n word) q (written q n word) t now) (sym reach.word)
-        (writes c cfg objects was s t x q scene reach.site value reach.there word (slice_index s.words (site_word reach.site)) stands now
-        (makes_none c cfg objects was s t x q scene runs at found (Writes v word) effect) (none_on (begun x) (Running (went_on c.program at 0))))
-
-    goes : GoesOn c.program bit x now shown
-    goes = going c.program bit x (begun x) y (Running (went_on c.program at 0)) refl scene.outside refl (wakes c cfg objects was s t x q scene runs at found (Writes v word) effect)
-        (runs_on c cfg objects was s t x q scene (busy c cfg objects was s t x q scene runs at found (Writes v word) effect))
+    memory : Memory turn objects (slice_set s.words (variable_word v) word) (written q (variable_word v) word) now
+    memory = subst (λ (n : ℕ). Memory turn objects (slice_set s.words n word) (written q n word) now) (sym reach.word)
+        (writes scene reach.site value reach.there word (slice_index s.words (site_word reach.site)) stands now
+        (makes_none i) (gone_on (begun x) (Running (went_on c.program at 0))).makes)
 
     pub write_steps : StepsBeside c objects s t x q
-    write_steps = steps_of_event c cfg objects was s t x q scene objects (Some (Store (variable_word v) word)) (acts.Do ∷ []) now
+    write_steps = steps_of_event turn objects (Some (Store (variable_word v) word)) (acts.Do ∷ []) now
         (ap (λ (z : Phase). objects_by c.program z objects) runs)
-        (wants c cfg objects was s t x q scene runs at found (Writes v word) effect)
-        (acts_are c cfg objects was s t x q scene runs at found (Writes v word) effect (slice_index s.words (variable_word v)))
-        (moves c cfg objects was s t x q scene runs at found (Writes v word) effect (slice_index s.words (variable_word v)))
+        (wants i)
+        (acts_are i (slice_index s.words (variable_word v)))
+        (moves i (slice_index s.words (variable_word v)))
         (record {
           after = with_thread (written q (variable_word v) word) t shown;
-          run = does c cfg objects was s t x q scene runs at found (Writes v word) effect (with_thread (written q (variable_word v) word) t shown)
+          run = does i (with_thread (written q (variable_word v) word) t shown)
               (ap (option_map (λ (w : ℕ). with_thread (written q (variable_word v) word) t shown)) (ap (value_at q) reach.word ∙ stands));
-          beside = comes_beside c cfg objects was s t x q scene objects (slice_set s.words (variable_word v) word) (written q (variable_word v) word) now y shown (twin c cfg objects was s t x q scene).here
-              (lives c cfg objects was s t x q scene runs at found (Writes v word) effect) goes memory;
+          beside = comes_beside turn objects (slice_set s.words (variable_word v) word) (written q (variable_word v) word) now shown
+              (lives i) (goes i (Running (went_on c.program at 0))) memory;
         })

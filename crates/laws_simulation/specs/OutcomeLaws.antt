@@ -62,9 +62,8 @@ pub record StandsToMove (c : MarkedProgram) (cfg : Config) (objects : List Objec
   pub run : plain_run c.program q (steps_now c s t x) ≡ Some after
 
 abbrev pub EventsAreCounted : Type 0
-EventsAreCounted =
-    (c : MarkedProgram) (cfg : Config) (objects : List Object) (was : ℕ → Phase) (s : Core) (t : ℕ)
-    (x : Thread) (q after : Plain) (d : Past) (runs takes : ℕ)
+EventsAreCounted = (c : MarkedProgram) (cfg : Config) (objects : List Object) (was : ℕ → Phase)
+    (s : Core) (t : ℕ) (x : Thread) (q after : Plain) (d : Past) (runs takes : ℕ)
     → StandsToMove c cfg objects was s t x q after → CountsFit x d runs takes
     → CountsFit (moved c x x.phase (found_now c s x)) d
     (runs + count_along c.program (run_at t) (steps_now c s t x) q)
@@ -73,10 +72,10 @@ EventsAreCounted =
 -- ---- prints
 
 abbrev pub PrintsAreKept : Type 0
-PrintsAreKept =
-    (c : MarkedProgram) (cfg : Config) (objects : List Object) (was : ℕ → Phase) (s : Core) (t : ℕ)
-    (x : Thread) (q after : Plain) → StandsToMove c cfg objects was s t x q after
-    → PrintsFit (outcome s) q → PrintsFit (outcome (event c s t)) after
+PrintsAreKept = (c : MarkedProgram) (cfg : Config) (objects : List Object) (was : ℕ → Phase)
+    (s : Core) (t : ℕ) (x : Thread) (q after : Plain)
+    → StandsToMove c cfg objects was s t x q after → PrintsFit (outcome s) q
+    → PrintsFit (outcome (event c s t)) after
 
 abbrev pub NextKeepsPrints : Type 0
 NextKeepsPrints =
@@ -107,8 +106,7 @@ abbrev pub StartKeepsNone : Type 0
 StartKeepsNone = (c : MarkedProgram) (cfg : Config) → WorkersKeepNone (start c cfg).threads
 
 abbrev pub EndsAreThose : Type 0
-EndsAreThose =
-    (c : MarkedProgram) (cfg : Config) (objects : List Object) (was : ℕ → Phase) (s : Core)
-    (q : Plain) → IsMarked c → StateFacts c cfg objects was s
+EndsAreThose = (c : MarkedProgram) (cfg : Config) (objects : List Object) (was : ℕ → Phase)
+    (s : Core) (q : Plain) → IsMarked c → StateFacts c cfg objects was s
     → StandsBeside c.program objects s q → WorkersKeepNone s.threads → IsOver s
     → EndsFit c.program (outcome s) q

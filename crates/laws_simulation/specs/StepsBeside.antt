@@ -33,11 +33,10 @@ pub record StepsBeside (c : MarkedProgram) (objects : List Object) (s : Core) (t
 
 -- of the events of threads for which something holds
 abbrev pub StepsWhere : (MarkedProgram → Thread → Type 0) → Type 0
-StepsWhere Holds =
-    (c : MarkedProgram) (cfg : Config) (objects : List Object) (was : ℕ → Phase) (s : Core) (t : ℕ)
-    (x : Thread) (q : Plain) → IsMarked c → HaveWidth cfg → StateFacts c cfg objects was s
-    → StandsBeside c.program objects s q → slice_get s.threads t ≡ Some x → x.attempt ≡ None
-    → Holds c x → StepsBeside c objects s t x q
+StepsWhere Holds = (c : MarkedProgram) (cfg : Config) (objects : List Object) (was : ℕ → Phase)
+    (s : Core) (t : ℕ) (x : Thread) (q : Plain) → IsMarked c → HaveWidth cfg
+    → StateFacts c cfg objects was s → StandsBeside c.program objects s q
+    → slice_get s.threads t ≡ Some x → x.attempt ≡ None → Holds c x → StepsBeside c objects s t x q
 
 -- ---- the kinds of events
 
@@ -129,12 +128,10 @@ WaitPhaseSteps = StepsWhere (λ c x. WaitsPhase x.phase)
 
 -- where a part of the run begins, the plain machine makes no step
 abbrev pub NextStandsBeside : Type 0
-NextStandsBeside =
-    (c : MarkedProgram) (cfg : Config) (objects : List Object) (was : ℕ → Phase) (s : Core)
-    (q : Plain) → IsMarked c → StateFacts c cfg objects was s
+NextStandsBeside = (c : MarkedProgram) (cfg : Config) (objects : List Object) (was : ℕ → Phase)
+    (s : Core) (q : Plain) → IsMarked c → StateFacts c cfg objects was s
     → StandsBeside c.program objects s q → StandsBeside c.program objects (next c s) q
 
 abbrev pub StartStandsBesidePlain : Type 0
-StartStandsBesidePlain =
-    (c : MarkedProgram) (cfg : Config) → IsMarked c
+StartStandsBesidePlain = (c : MarkedProgram) (cfg : Config) → IsMarked c
     → StandsBeside c.program (start_objects c.program) (start c cfg) (plain_start c.program)
