@@ -11,13 +11,12 @@ use Rattle.machine_types.specs.FoundWords.{Content, Lock, Owner, Bits, Header, T
 use Rattle.machine_types.specs.{Frames.{top_of, effect_at}, Instructions.{has_print_left, effect_wants, run_wants}, PlainMemory.{Object, start_objects}, ReadyObjects.out_object}
 use Rattle.machine_types.specs.{Structure.{TopIs, is_element_op}, Threads.{Frame, Attempt, Thread}}
 use Rattle.machine_types.specs.Typed.{Classes, KindHolds, FramesHold, IsElementOn, ElementStands, HasElement, HasElementOn, HasElementIn, HasClass, IsObject, AttemptHolds}
-use Rattle.machine_types.specs.{Words.{owner_word, bits_word, header_word, value_word, variable_word}, declared.access.Access.{Access, TheVariants.{Load, Store, Cas, Add, Or, And, Rest}}}
-use Rattle.machine_types.specs.declared.effect.Effect.{Effect}
-use Rattle.machine_types.specs.declared.effect.Effect.TheVariants.{Goes, Throws, Reads, Writes, Indexes, Measures, Raises, Makes, Prints, Calls, Returns, Enters, Leaves, Waits, Notifies, NotifiesAll, Stuck}
+use Rattle.machine_types.specs.{Words.{owner_word, bits_word, header_word, value_word, variable_word}, declared.{access.Access.{Access, TheVariants.{Load, Store, Add, Rest}}, effect.Effect.Effect}}
+use Rattle.machine_types.specs.declared.effect.Effect.TheVariants.{Goes, Throws, Reads, Writes, Indexes, Measures, Raises, Makes, Prints, Calls, Stuck}
 use Rattle.machine_types.specs.declared.effect.Variable.{Variable, TheVariants.{Instance, Static}}
 use Rattle.laws_threads.{specs.Allowed.{IsOf, IsNamedField, StoredHolds, Allowed}, proofs.{Landing.stand_top, MonitorMoves.contains_got, Onwards.same_op, Standings.top_here, TopEffects.allowed_here}}
 use Rattle.laws_states.specs.{HeapFacts.HeapFacts, Sites.{Site, Counter, OwnerOf, BitsOf, LockOf, HeaderOf, ValueOf, NewHeaderOf, StaticAt, site_word, HasObject, IsThere, Suits}}
-use Rattle.laws_states.proofs.{Lists.contained_got, Places.{IsValue, SiteHolds, same_object, site_typed, static_stored, field_stored, element_stored}}
+use Rattle.laws_states.proofs.{Lists.contained_got, Movers.HeapState, Places.{IsValue, SiteHolds, same_object, site_typed, static_stored, field_stored, element_stored}}
 use Rattle.jvm_types.specs.declared.code.Op.TheVariants as ops
 use Rattle.jvm_types.specs.declared.outcome.Thrown.TheVariants as thrown
 use Rattle.jvm_types.specs.declared.program.Kind.TheVariants as kinds
@@ -38,12 +37,7 @@ pub record FitsAt (p : Program) (objects : List Object) (s : Core) (content : Co
 
 abbrev pub FitsAccess : Program → List Object → Core → Content → Access → Type 0
 FitsAccess p objects s content Rest = Unit {0}
-FitsAccess p objects s content (Load w) = FitsAt p objects s content (Load w)
-FitsAccess p objects s content (Store w v) = FitsAt p objects s content (Store w v)
-FitsAccess p objects s content (Cas w is v) = FitsAt p objects s content (Cas w is v)
-FitsAccess p objects s content (Add w v) = FitsAt p objects s content (Add w v)
-FitsAccess p objects s content (Or w v) = FitsAt p objects s content (Or w v)
-FitsAccess p objects s content (And w v) = FitsAt p objects s content (And w v)
+FitsAccess p objects s content access = FitsAt p objects s content access
 
 abbrev pub FitsIf : Program → List Object → Core → Content → Option Access → Type 0
 FitsIf p objects s content None = Unit {0}
@@ -84,12 +78,34 @@ array_read p m is insn target r op next locals None (i ∷ a ∷ s) e some al = 
 array_read p m is insn target r op next locals (Some v) (w ∷ i ∷ a ∷ s) e some al = absurd (cc)
 array_read p m is insn target r op next locals stored stack e some al = absurd (assumption)
 
-module _ (c : MarkedProgram) (marked : IsMarked c) (objects : List Object) (s : Core) (facts : HeapFacts c objects s) where
+pub out_there : (c : MarkedProgram) (marked : IsMarked c) (objects : List Object) (s : Core)
+    → HeapFacts c objects s → HasClass objects PRINT_STREAM_CLASS out_object
+out_there c marked objects s facts =
+    let out : Object = record { reference = out_object; class = PRINT_STREAM_CLASS; values = [] } in
+    facts.started out (contains_got (start_objects c.program) 7 out refl)
+
+pub content_is : (c : MarkedProgram) (marked : IsMarked c) (objects : List Object) (s : Core)
+    → HeapFacts c objects s → (target : Target) (v : Variable) (f : FieldInfo)
+    → IsNamedField c.program (HasClass objects) target v f
+    → variable_content c.program target ≡ kind_content f.kind
+content_is c marked objects s facts target v f at =
+    ap (variable_content c.program) at.named ∙ ap field_content at.there
+
+-- the array that the stack names, and the place in it
+pub record ElementSite (objects : List Object) (word : ℕ) (stored : Option ℕ) : Type 0 where
+  pub array : Object
+  pub there : Contains objects array
+  pub class : array.class ≡ INT_ARRAY_CLASS
+  pub index : ℕ
+  pub below : index < length array.values
+  pub word_is : word ≡ value_word array.reference index
+  pub value : StoredHolds stored
+
+module _ (state : HeapState) where
+  open state use {c, marked, objects, s, facts}
+
   is_program : IsProgram c.program
   is_program = marked.checked.program
-
-  pub out_there : HasClass objects PRINT_STREAM_CLASS out_object
-  out_there = facts.started (record { reference = out_object; class = PRINT_STREAM_CLASS; values = [] }) (contains_got (start_objects c.program) 7 (record { reference = out_object; class = PRINT_STREAM_CLASS; values = [] }) refl)
 
   -- ---- by what stands at the word
 
@@ -167,19 +183,16 @@ module _ (c : MarkedProgram) (marked : IsMarked c) (objects : List Object) (s : 
   pub read_holds : (target : Target) (v : Variable) (f : FieldInfo) → IsNamedField c.program (HasClass objects) target v f → KindHolds (HasClass objects) f.kind (slice_index s.words (variable_word v))
   read_holds target v f at = let k = variable_site target v f at in subst (λ w. KindHolds (HasClass objects) f.kind (slice_index s.words w)) (sym k.word) k.holds
 
-  pub content_is : (target : Target) (v : Variable) (f : FieldInfo) → IsNamedField c.program (HasClass objects) target v f → variable_content c.program target ≡ kind_content f.kind
-  content_is target v f at = ap (variable_content c.program) at.named ∙ ap field_content at.there
-
   reads_fit : (target : Target) (v : Variable) (f : FieldInfo) → IsNamedField c.program (HasClass objects) target v f → FitsAt c.program objects s (variable_content c.program target) (Load (variable_word v))
   reads_fit target v f at =
       let k = variable_site target v f at in
-      subst (λ content. FitsAt c.program objects s content (Load (variable_word v))) (sym (content_is target v f at)) (loads k.site (kind_content f.kind) (variable_word v) k.there k.old k.suits k.word)
+      subst (λ content. FitsAt c.program objects s content (Load (variable_word v))) (sym (content_is c marked objects s facts target v f at)) (loads k.site (kind_content f.kind) (variable_word v) k.there k.old k.suits k.word)
 
   writes_fit : (target : Target) (v : Variable) (f : FieldInfo) (n : ℕ) → IsNamedField c.program (HasClass objects) target v f → KindHolds (HasClass objects) f.kind n
       → FitsAt c.program objects s (variable_content c.program target) (Store (variable_word v) n)
   writes_fit target v f n at h =
       let k = variable_site target v f at in
-      subst (λ content. FitsAt c.program objects s content (Store (variable_word v) n)) (sym (content_is target v f at))
+      subst (λ content. FitsAt c.program objects s content (Store (variable_word v) n)) (sym (content_is c marked objects s facts target v f at))
       (record { site = k.site; there = k.there; word = k.word; suits = k.suits; old = k.old; left = k.stored n h })
 
   -- ---- the event that begins an instruction
@@ -206,14 +219,8 @@ module _ (c : MarkedProgram) (marked : IsMarked c) (objects : List Object) (s : 
       by_test : (b : Bool) → FitsIf c.program objects s Any (if b then Some (Add NEXT_TICKET_WORD 1) else None)
       by_test true = record { site = Counter NEXT_TICKET_WORD; there = (omega arith, omega arith); word = refl; suits = tt; old = tt; left = λ e. absurd (omega (arith, e)) }
       by_test false = tt
-  effect_fits x m insn target r stack pc (Throws class) h al = tt
-  effect_fits x m insn target r stack pc Returns h al = tt
-  effect_fits x m insn target r stack pc (Enters n) h al = tt
-  effect_fits x m insn target r stack pc (Leaves n) h al = tt
-  effect_fits x m insn target r stack pc (Waits n) h al = tt
-  effect_fits x m insn target r stack pc (Notifies n) h al = tt
-  effect_fits x m insn target r stack pc (NotifiesAll n) h al = tt
   effect_fits x m insn target r stack pc Stuck h al = absurd al
+  effect_fits x m insn target r stack pc e h al = tt
 
   pub run_fits : (x : Thread) (fs : List Frame) → FramesHold c (HasClass objects) fs → AttemptHolds c (HasClass objects) x.frames x.attempt
       → FitsIf c.program objects s (run_content c.program (top_of c.program fs)) (run_wants c.program x (top_of c.program fs))
@@ -221,19 +228,9 @@ module _ (c : MarkedProgram) (marked : IsMarked c) (objects : List Object) (s : 
   run_fits x (f ∷ fs) h a =
       let k = h.0.stands in
       subst (λ o. FitsIf c.program objects s (run_content c.program o) (run_wants c.program x o)) (sym (stand_top c marked f fs k))
-      (effect_fits x k.method k.insn k.target (row_of c.program k.method k.insn k.target) f.stack f.pc (effect_at c.program (top_here c f fs k)) a (allowed_here c marked (HasClass objects) out_there f h.0))
+      (effect_fits x k.method k.insn k.target (row_of c.program k.method k.insn k.target) f.stack f.pc (effect_at c.program (top_here c f fs k)) a (allowed_here c marked (HasClass objects) (out_there c marked objects s facts) f h.0))
 
   -- ---- elements
-
-  -- the array that the stack names, and the place in it
-  pub record ElementSite (word : ℕ) (stored : Option ℕ) : Type 0 where
-    pub array : Object
-    pub there : Contains objects array
-    pub class : array.class ≡ INT_ARRAY_CLASS
-    pub index : ℕ
-    pub below : index < length array.values
-    pub word_is : word ≡ value_word array.reference index
-    pub value : StoredHolds stored
 
   not_null : (a i : ℕ) → HasElement objects a i → (a == 0) ≡ false
   not_null a i k = some k.object.reference a k.is (facts.apart.begin k.there.0 k.object (contained_got objects k.object k.there))
@@ -248,7 +245,7 @@ module _ (c : MarkedProgram) (marked : IsMarked c) (objects : List Object) (s : 
       let one : k.object ≡ object = same_object c.program objects (slice_index s.words NEXT_FREE_WORD) facts.apart k.object object k.there array.2.1 (k.is ∙ sym array.2.2) in
       ap (λ (o : Object). o.class) one ∙ (array.2.3 ∙ class)
 
-  site_on : (word : ℕ) (stored : Option ℕ) (stack : List ℕ) → (HasReference stored stack → ReadsArray (HasClass objects) stored stack) → IsElementOn word stored stack → HasElementOn objects stored stack → ElementSite word stored
+  site_on : (word : ℕ) (stored : Option ℕ) (stack : List ℕ) → (HasReference stored stack → ReadsArray (HasClass objects) stored stack) → IsElementOn word stored stack → HasElementOn objects stored stack → ElementSite objects word stored
   site_on word None (i ∷ a ∷ stack) array on k = record {
     array = k.object;
     there = k.there;
@@ -271,18 +268,18 @@ module _ (c : MarkedProgram) (marked : IsMarked c) (objects : List Object) (s : 
       }
   site_on word stored stack array on k = absurd (assumption)
 
-  pub element_site : (word : ℕ) (stored : Option ℕ) (fs : List Frame) → ElementStands word stored fs → FramesHold c (HasClass objects) fs → HasElementIn objects stored fs → TopIs c (is_element_op stored) fs → ElementSite word stored
+  pub element_site : (word : ℕ) (stored : Option ℕ) (fs : List Frame) → ElementStands word stored fs → FramesHold c (HasClass objects) fs → HasElementIn objects stored fs → TopIs c (is_element_op stored) fs → ElementSite objects word stored
   element_site word stored [] e h k top = absurd e
   element_site word stored (f ∷ fs) e h k top =
       let j = h.0.stands in
       let op = ap (is_element_op stored) (same_op c marked (HasClass objects) f j top.0) ∙ top.1 in
-      let al = allowed_here c marked (HasClass objects) out_there f h.0 in
+      let al = allowed_here c marked (HasClass objects) (out_there c marked objects s facts) f h.0 in
       site_on word stored f.stack (λ some. array_read c.program j.method (HasClass objects) j.insn j.target (row_of c.program j.method j.insn j.target) j.insn.op j.insn.next f.locals stored f.stack op some al) e k
 
-  pub element_small : (word : ℕ) (stored : Option ℕ) → ElementSite word stored → slice_index s.words word < 2 ^ 32
+  pub element_small : (word : ℕ) (stored : Option ℕ) → ElementSite objects word stored → slice_index s.words word < 2 ^ 32
   element_small word stored k = subst (λ w. slice_index s.words w < 2 ^ 32) (sym k.word_is) (facts.typed.places.elements k.array k.index k.there k.class k.below)
 
-  pub element_fits : (word : ℕ) (stored : Option ℕ) → ElementSite word stored → FitsAccess c.program objects s IntPlace (element_wants word stored)
+  pub element_fits : (word : ℕ) (stored : Option ℕ) → ElementSite objects word stored → FitsAccess c.program objects s IntPlace (element_wants word stored)
   element_fits word None k = loads (ValueOf k.array.reference k.index) IntPlace word (k.array, k.there, refl, k.below) tt tt k.word_is
   element_fits word (Some v) k = record {
     site = ValueOf k.array.reference k.index;

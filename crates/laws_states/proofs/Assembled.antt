@@ -1,10 +1,10 @@
 -- The facts of a state when one thread has moved.
 use Rattle.std.proofs.Common.{◌≡◌, ◌≢◌, ◌⊎◌, inl, inr, ℕ, zero, suc, ◌+◌, ◌<◌, ◌≤◌, List, [], ◌∷◌, length, Option, Some, refl, ap, sym, subst, ◌∙◌, arith, Contains, slice_get, slice_index, slice_set}
 use Rattle.jvm_types.specs.declared.fixed_words.TheConstants.{NEXT_FREE_WORD}
-use Rattle.checked_program.specs.MarkedProgram.{MarkedProgram, IsMarked}
+use Rattle.checked_program.specs.MarkedProgram.{MarkedProgram}
 use Rattle.machine_types.specs.{Core.Core, FoundWords.IsHeader, NewObjects.{size_by, IsNewObject}, ObjectsApart.LieApart, PlainMemory.{Object, object_end, header_of, start_statics}, Threads.Thread}
 use Rattle.machine_types.specs.Typed.{HasClass, HasElementIn, PlacesHold, ThreadHolds}
-use Rattle.laws_states.{specs.HeapFacts.{HoldsObjects, HeapFacts}, proofs.{Leads.MadeNow, Lifted.{thread_up, monitors_up, element_up}, Lists.contained_got, WordSteps.apart_on}}
+use Rattle.laws_states.{specs.HeapFacts.{HoldsObjects, HeapFacts}, proofs.{Leads.MadeNow, Lifted.{thread_up, monitors_up, element_up}, Lists.contained_got, Movers.HeapState, WordSteps.apart_on}}
 use Rattle.machine_types.specs.declared.phase.Phase.TheVariants as phases
 
 -- ---- one thread of a list is changed
@@ -40,7 +40,19 @@ pub record Became (c : MarkedProgram) (later : List Object) (s : Core) (after : 
   pub element : (word : ℕ) (stored : Option ℕ) → y.phase ≡ phases.Element word stored → HasElementIn later stored y.frames
   pub made : (a word : ℕ) → y.phase ≡ phases.Made a word → MadeNow c.program s after a word
 
-module _ (c : MarkedProgram) (marked : IsMarked c) (objects later : List Object) (s : Core) (facts : HeapFacts c objects s) (t : ℕ) (after : List ℕ) (y : Thread) (behind : Behind c objects later s t after) (became : Became c later s after y) where
+-- an event, with both
+pub record HeapEvent : Type 0 where
+  pub before : HeapState
+  pub later : List Object
+  pub t : ℕ
+  pub after : List ℕ
+  pub y : Thread
+  pub behind : Behind before.c before.objects later before.s t after
+  pub became : Became before.c later before.s after y
+
+module _ (event : HeapEvent) where
+  open event use {later, t, after, y, behind, became, before.{c, objects, s, facts}}
+
   abbrev state : Core
   state = record { words = after; threads = slice_set s.threads t y }
 

@@ -165,12 +165,9 @@ module _ (p : Program) where
   -- ---- a thread goes on
 
   goes_none : (s : Thread) (o : Onward) → EntryIsNone s.attempt → AreNone (frames_in o) → RunsNoClassInit p (goes_on s o)
-  goes_none s (Running fs) entry k = record { frames = k; entry = entry }
-  goes_none s (Throwing x class fs) entry k = record { frames = k; entry = entry }
-  goes_none s (Entering m fs) entry k = record { frames = k; entry = entry }
-  goes_none s (Leaving m a fs) entry k = record { frames = k; entry = entry }
   goes_none s RootReturned entry k = record { frames = tt; entry = entry }
   goes_none s (Uncaught class) entry k = record { frames = tt; entry = entry }
+  goes_none s o entry k = record { frames = k; entry = entry }
 
   goes_if_none : (s : Thread) (o : Option Onward) → RunsNoClassInit p s → GoNone o → RunsNoClassInit p (goes_on_if s o)
   goes_if_none s None h k = h
@@ -194,9 +191,7 @@ module _ (c : MarkedProgram) (s : Thread) (got : ℕ) (h : RunsNoClassInit c.pro
   goes_by_none _ _ (moves.by_element word stored at top) = at_top at top
   goes_by_none _ _ (moves.by_object a word) = pushed_none c.program a s.frames h.frames
   goes_by_none _ _ (moves.by_handler x class at top) = handed_none c.program x class at (handler_at (class_of class) at) (at_top at top)
-  goes_by_none _ _ (moves.by_none m r t) = h.frames
-  goes_by_none _ _ (moves.by_one m r u) = h.frames
-  goes_by_none _ _ (moves.by_all m r) = h.frames
+  goes_by_none _ _ k = h.frames
 
   tried_none : (t : Attempt) → s.attempt ≡ Some t → IsNoClassInit c.program t.entry.method
   tried_none t e = subst (EntryIsNone c.program) e h.entry
@@ -212,25 +207,19 @@ module _ (c : MarkedProgram) (s : Thread) (got : ℕ) (h : RunsNoClassInit c.pro
   move_none was (moves.stays k) = h
   move_none was (moves.goes o k) = goes_none c.program s o h.entry (goes_by_none was o k)
   move_none was (moves.fails_in t e d k) = record { frames = (tried_none t e, dropped c.program (length s.frames - t.base) s.frames h.frames); entry = tt }
-  move_none was (moves.leads now k) = record { frames = h.frames; entry = h.entry }
-  move_none was (moves.turns now k) = record { frames = h.frames; entry = h.entry }
   move_none _ (moves.makes at word size e l t) = record { frames = at_top at e; entry = h.entry }
   move_none _ (moves.prints at n e l t) = goes_none c.program (printed s got n) (Running (went_on c.program at 0)) h.entry (at_top at e)
   move_none _ (moves.asks_to_wait at m e now top is l k) = record { frames = at_top at top; entry = h.entry }
   move_none _ (moves.asks at m e now top y l k) = record { frames = at_top at top; entry = h.entry }
-  move_none _ (moves.enters_again m tried e l) = record { frames = h.frames; entry = h.entry }
   move_none _ (moves.enters_inside m tried t k) = record { frames = h.frames; entry = tried_none t (tried_attempt m (held_at s.held m) s.attempt t k) }
   move_none _ (moves.begins_to_try m tried noted f below e y l t free) = record { frames = h.frames; entry = (subst (AreNone c.program) e h.frames).0 }
-  move_none was (moves.takes_lock m kept k) = record { frames = h.frames; entry = h.entry }
   move_none was (moves.gives_up m a k) = left_none (without_held m s.held) s.attempt s.counts a h.entry
   move_none _ (moves.leaves_outer m a e l t) = left_none (with_held (shallower e) s.held) s.attempt s.counts a h.entry
   move_none _ (moves.leaves_inside m a t inner k e) = left_none s.held (Some (record t { inner = inner })) s.counts a (tried_none t (tried_attempt m (held_at s.held m) s.attempt t k))
   move_none _ (moves.finishes_try m a t k e y) = left_none s.held None (record s.counts { elided = s.counts.elided + 1 }) a tt
-  move_none _ (moves.fattens_lock m r toward e l) = record { frames = h.frames; entry = h.entry }
-  move_none _ (moves.gives_up_to_wait m r e l) = record { frames = h.frames; entry = h.entry }
-  move_none _ (moves.retakes_lock m r depth e) = record { frames = h.frames; entry = h.entry }
   move_none _ (moves.starts number rest e) =
       goes_if_none c.program (record s { roots = rest }) (option_map (rooted c.program s.number number) (slice_get c.program.methods number)) (record { frames = h.frames; entry = h.entry }) (starts_none number rest e (slice_get c.program.methods number))
+  move_none _ k = record { frames = h.frames; entry = h.entry }
 
 -- ---- an event
 

@@ -1,15 +1,15 @@
 -- No `<clinit>` runs beside a worker: not at the start, and not behind an event or where a part of the run begins.
-use Rattle.std.proofs.Common.{◌≡◌, ℕ, zero, suc, Bool, true, false, List, [], ◌∷◌, map, Option, Some, None, refl, ap, sym, subst, ◌∙◌, slice_get, slice_set, IfSome, IsTrue, if◌then◌else◌}
+use Rattle.std.proofs.Common.{◌≡◌, ℕ, zero, suc, Bool, true, false, List, [], ◌∷◌, map, Option, Some, None, refl, ap, sym, subst, ◌∙◌, slice_get, IfSome, IsTrue, if◌then◌else◌}
 use Rattle.std.specs.List.{AllByRecursion}
 use Rattle.lists.proofs.ListLaws.{same_some}
 use Rattle.jvm_types.specs.Numbers.{has_number}
-use Rattle.checked_program.specs.MarkedProgram.{MarkedProgram, IsMarked}
-use Rattle.machine_types.specs.{Accesses.found_by, Bounds.part_roots, Core.{Core, start_thread, event_of, may_begin, may_begin_by, with_roots, how_ended, part_begins, next_threads}}
+use Rattle.checked_program.specs.MarkedProgram.{MarkedProgram}
+use Rattle.machine_types.specs.{Accesses.found_by, Bounds.part_roots, Core.{start_thread, event_of, may_begin, may_begin_by, with_roots, how_ended, part_begins, next_threads}}
 use Rattle.machine_types.specs.{Events.{wanted, moved}, Guards.{IsOfClassInit, MakesClass}, Lawful.IsLawful, Parts.{run_roots, done_roots}, Threads.{Attempt, Frame, Thread}}
 use Rattle.machine_types.{specs.declared.config.Config.Config, proofs.AtStart.is_start_thread}
 use Rattle.laws_threads.{specs.{GivenThread.{Given, GivenIsKept}, PartLaws.{PartFits, PartsFit}}, proofs.{Lists.mapped_at, PartSteps.one_idle}}
 use Rattle.laws_states.specs.ClassInits.{IsNoClassInit, RunsNoClassInit, IsBehindInit, ClassInitsComeFirst}
-use Rattle.laws_states.{specs.{PartsLaws.{StartPutsInitsFirst, EventsPutInitsFirst, NextPutsInitsFirst, ClassInitsRunAlone}, RunFacts.AreThreads}, proofs.ClassInitMoves.{root_none, moved_none}}
+use Rattle.laws_states.{specs.{PartsLaws.{StartPutsInitsFirst, EventsPutInitsFirst, NextPutsInitsFirst, ClassInitsRunAlone}}, proofs.ClassInitMoves.{root_none, moved_none}}
 use Rattle.laws_states.proofs.{PartLawful.{IsBetween, has_returned as is_returned, between_frames, between_attempt}, PartsEvents.at_each}
 use Rattle.jvm_types.specs.declared.outcome.End.TheVariants as ends
 use Rattle.machine_types.specs.declared.phase.Phase.TheVariants as phases
@@ -25,33 +25,29 @@ start_puts_first c cfg t x e behind = subst (λ (y : Thread). RunsNoClassInit c.
 
 -- ---- an event
 
-module _ (given : GivenIsKept) (c : MarkedProgram) (cfg : Config) (s : Core) (t : ℕ) (marked : IsMarked c) (threads : AreThreads c cfg s) (first : ClassInitsComeFirst c.program s.threads) where
-  module _ (x : Thread) (there : slice_get s.threads t ≡ Some x) where
-    abbrev now : Thread
-    now = moved c x x.phase (found_by s.words (wanted c x x.phase))
+pub events_put_first : GivenIsKept → EventsPutInitsFirst
+events_put_first given c cfg s t marked threads first = all_kept (slice_get s.threads t) refl
+  where
+    now : Thread → Thread
+    now x = moved c x x.phase (found_by s.words (wanted c x x.phase))
 
-    roots_none : IsBehindInit t x.part → (number : ℕ) (rest : List ℕ) → x.roots ≡ number ∷ rest → IsNoClassInit c.program number
-    roots_none behind number rest e =
+    roots_none : (x : Thread) → slice_get s.threads t ≡ Some x → IsBehindInit t x.part
+        → (number : ℕ) (rest : List ℕ) → x.roots ≡ number ∷ rest → IsNoClassInit c.program number
+    roots_none x there behind number rest e =
         let own = threads.own t x there in
         let all : AllByRecursion (λ n. IsTrue (has_number (part_roots c.program x.number x.part) n)) (number ∷ rest) = subst (λ (ns : List ℕ). AllByRecursion (λ n. IsTrue (has_number (part_roots c.program x.number x.part) n)) ns) e own.rooted.roots in
         root_none c.program x.number x.part number (subst (λ (n : ℕ). IsBehindInit n x.part) (sym own.number) behind) all.0
 
-    now_none : IsBehindInit t now.part → RunsNoClassInit c.program now
-    now_none behind =
-        let part : now.part ≡ x.part = ap (λ (g : Given). g.part) (given c x x.phase (found_by s.words (wanted c x x.phase))) in
+    now_none : (x : Thread) → slice_get s.threads t ≡ Some x → IsBehindInit t (now x).part → RunsNoClassInit c.program (now x)
+    now_none x there behind =
+        let part : (now x).part ≡ x.part = ap (λ (g : Given). g.part) (given c x x.phase (found_by s.words (wanted c x x.phase))) in
         let was_behind : IsBehindInit t x.part = subst (IsBehindInit t) part behind in
         let lawful = threads.lawful t x there in
-        moved_none c marked lawful.was x (found_by s.words (wanted c x x.phase)) lawful.structured (first t x there was_behind) (roots_none was_behind)
+        moved_none c marked lawful.was x (found_by s.words (wanted c x x.phase)) lawful.structured (first t x there was_behind) (roots_none x there was_behind)
 
-    kept : ClassInitsComeFirst c.program (slice_set s.threads t now)
-    kept = at_each s.threads t x now (λ u y. IsBehindInit u y.part → RunsNoClassInit c.program y) there now_none first
-
-  all_kept : (o : Option Thread) → slice_get s.threads t ≡ o → ClassInitsComeFirst c.program (event_of c s t o).threads
-  all_kept None e = first
-  all_kept (Some x) e = kept x e
-
-pub events_put_first : GivenIsKept → EventsPutInitsFirst
-events_put_first given c cfg s t marked threads first = all_kept given c cfg s t marked threads first (slice_get s.threads t) refl
+    all_kept : (o : Option Thread) → slice_get s.threads t ≡ o → ClassInitsComeFirst c.program (event_of c s t o).threads
+    all_kept None e = first
+    all_kept (Some x) e = at_each s.threads t x (now x) (λ u y. IsBehindInit u y.part → RunsNoClassInit c.program y) e (now_none x e) first
 
 -- ---- where a part begins
 
@@ -99,28 +95,27 @@ none_on_top : (c : MarkedProgram) (class : ℕ) (fs : List Frame) → AllByRecur
 none_on_top c class [] all k = k
 none_on_top c class (f ∷ fs) all k = let bad : true ≡ false = sym k.2 ∙ all.0 k.0 k.1 in cc
 
-module _ (c : MarkedProgram) (cfg : Config) (s : Core) (t class : ℕ) (x : Thread) (threads : AreThreads c cfg s) (first : ClassInitsComeFirst c.program s.threads) (there : slice_get s.threads t ≡ Some x) (runs : x.phase ≡ phases.Run) (init : IsOfClassInit c class x.frames) where
-  workers_wait : (part : ℕ) → x.part ≡ part → (ts : List Thread) → PartsFit ts → slice_get ts 0 ≡ Some x → (IsBehindInit 0 part → ⊥) → (u : ℕ) (y : Thread) → slice_get ts (suc u) ≡ Some y → y.phase ≡ phases.Idle
-  workers_wait part e [] fits at early u y f = absurd (cc)
-  workers_wait zero e (z ∷ workers) fits at early u y f =
-      let same : z ≡ x = same_some at in
-      one_idle workers u y (subst (λ (n : ℕ). PartFits n z.phase workers) (ap (λ (q : Thread). q.part) same ∙ e) fits) f
-  workers_wait (suc zero) e (z ∷ workers) fits at early u y f =
-      let same : z ≡ x = same_some at in
-      let ended : z.phase ≡ phases.Ended ends.Returned = subst (λ (n : ℕ). PartFits n z.phase workers) (ap (λ (q : Thread). q.part) same ∙ e) fits in
-      let bad : phases.Run ≡ phases.Ended ends.Returned = sym runs ∙ ap (λ (q : Thread). q.phase) (sym same) ∙ ended in
-      absurd (cc)
-  workers_wait (suc (suc part)) e ts fits at early u y f = absurd (early tt)
-
-  never_behind : (number : ℕ) → t ≡ number → IsBehindInit number x.part → ⊥
-  never_behind number e behind = none_on_top c class x.frames (first t x there (subst (λ (n : ℕ). IsBehindInit n x.part) (sym e) behind)).frames init
-
-  by_number : (number : ℕ) → t ≡ number → MakesClass c class s x
-  by_number zero e = record {
-    runs = init;
-    no_worker = workers_wait x.part refl s.threads threads.parts (subst (λ (n : ℕ). slice_get s.threads n ≡ Some x) e there) (never_behind 0 e);
-  }
-  by_number (suc number) e = absurd (never_behind (suc number) e tt)
-
 pub class_inits_alone : ClassInitsRunAlone
-class_inits_alone c cfg s t class x threads first there runs init = by_number c cfg s t class x threads first there runs init t refl
+class_inits_alone c cfg s t class x threads first there runs init = by_number t refl
+  where
+    workers_wait : (part : ℕ) → x.part ≡ part → (ts : List Thread) → PartsFit ts → slice_get ts 0 ≡ Some x → (IsBehindInit 0 part → ⊥) → (u : ℕ) (y : Thread) → slice_get ts (suc u) ≡ Some y → y.phase ≡ phases.Idle
+    workers_wait part e [] fits at early u y f = absurd (cc)
+    workers_wait zero e (z ∷ workers) fits at early u y f =
+        let same : z ≡ x = same_some at in
+        one_idle workers u y (subst (λ (n : ℕ). PartFits n z.phase workers) (ap (λ (q : Thread). q.part) same ∙ e) fits) f
+    workers_wait (suc zero) e (z ∷ workers) fits at early u y f =
+        let same : z ≡ x = same_some at in
+        let ended : z.phase ≡ phases.Ended ends.Returned = subst (λ (n : ℕ). PartFits n z.phase workers) (ap (λ (q : Thread). q.part) same ∙ e) fits in
+        let bad : phases.Run ≡ phases.Ended ends.Returned = sym runs ∙ ap (λ (q : Thread). q.phase) (sym same) ∙ ended in
+        absurd (cc)
+    workers_wait (suc (suc part)) e ts fits at early u y f = absurd (early tt)
+
+    never_behind : (number : ℕ) → t ≡ number → IsBehindInit number x.part → ⊥
+    never_behind number e behind = none_on_top c class x.frames (first t x there (subst (λ (n : ℕ). IsBehindInit n x.part) (sym e) behind)).frames init
+
+    by_number : (number : ℕ) → t ≡ number → MakesClass c class s x
+    by_number zero e = record {
+      runs = init;
+      no_worker = workers_wait x.part refl s.threads threads.parts (subst (λ (n : ℕ). slice_get s.threads n ≡ Some x) e there) (never_behind 0 e);
+    }
+    by_number (suc number) e = absurd (never_behind (suc number) e tt)

@@ -127,7 +127,3 @@ counted_plain was (phases.Ended e) old new = at_end e
     at_end ends.Records = old
     at_end e = tt
 counted_plain was phase old new = new
-
--- where an entry's turn fails
-pub turned_plain : (was : Phase) → IsPlain (turned_from was) → IsPlain (counted_by was (phases.Ending ends.Turns))
-turned_plain was is = is

@@ -1,13 +1,11 @@
 -- Whatever event happens, the waiting bits of a record are changed by its owner alone.
-use Rattle.std.proofs.Common.{◌≡◌, ◌⊎◌, inl, inr, ℕ, ◌+◌, ◌-◌, ◌*◌, ◌^◌, ◌<◌, ◌≤◌, nat_lt, Bool, true, false, not, List, length, Some, refl, sym, ap, ◌∙◌, subst, arith, ◌≢◌, ◌==◌, bit_and, bit_or, slice_get, slice_index, slice_set}
+use Rattle.std.proofs.Common.{◌≡◌, ◌⊎◌, inl, inr, ℕ, ◌+◌, ◌-◌, ◌*◌, ◌^◌, ◌<◌, ◌≤◌, nat_lt, Bool, true, false, not, List, length, Some, refl, sym, ap, ◌∙◌, subst, arith, ◌≢◌, ◌==◌, bit_and, bit_or, slice_index, slice_set}
 use Rattle.std.{specs.Int.bit_at, proofs.lemmas.{Bool.Decides.nat_tests, Grind.and_not_bit, Nat.{pow_below, Bits.{and_pow, bit_at_above, bit_at-pow_other}}}}
 use Rattle.jvm_types.specs.{Numbers.has_flag, declared.fixed_words.TheConstants.MONITOR_RECORDS}
-use Rattle.checked_program.specs.MarkedProgram.{MarkedProgram, IsMarked}
-use Rattle.machine_types.specs.{Accesses.words_after, Bounds.PhaseFits, Core.Core, Events.wanted, Lawful.IsLawful, Monitors.bit_of, Owners.{owner_at, locks_in, references_of}, PlainMemory.Object}
-use Rattle.machine_types.specs.{Structure.{IsAs, IsStructured}, Threads.Thread, Waiting.is_bit_set, Words.bits_word, declared.{config.Config.Config, phase.Phase.Phase}}
-use Rattle.laws_states.specs.{ChangeLaws.{Sets, Clears, BitsFollow}, SiteLaws.{EventsReachSites, SitesDiffer, SitesLieInside}, Sites.BitsOf, StateFacts.StateFacts}
+use Rattle.machine_types.specs.{Accesses.words_after, Events.wanted, Monitors.bit_of, Owners.owner_at, Structure.IsAs, Waiting.is_bit_set, Words.bits_word, declared.phase.Phase.Phase}
+use Rattle.laws_states.specs.{ChangeLaws.{Sets, Clears, BitsFollow}, SharedWords.RecordsFit, Sites.BitsOf}
 use Rattle.laws_states.proofs.{Lists.{same_or_not, set_here, set_there}, StillBits.{IsStill, still_bits}, WaitingBits.{set_keeps, set_other, left_was_set}}
-use Rattle.laws_states.proofs.WaitingStep.{record_of, OwnsRecord, owned_record}
+use Rattle.laws_states.proofs.{Movers.{KnownSites, LockMover, on_heap, fits_bounds}, WaitingStep.{record_of, owned_record}}
 use Rattle.machine_types.specs.declared.phase.Phase.TheVariants as phases
 
 -- ---- a bit is cleared
@@ -68,40 +66,26 @@ module _ (words : List ℕ) (r value t : ℕ) (phase : Phase) (low : bits_word r
 
 -- ---- all phases
 
-module _ (differ : SitesDiffer) (inside : SitesLieInside) (reach : EventsReachSites) (c : MarkedProgram) (cfg : Config) (objects : List Object) (was : ℕ → Phase) (s : Core) (t : ℕ) (x : Thread) (marked : IsMarked c)
-    (facts : StateFacts c cfg objects was s) (there_is : slice_get s.threads t ≡ Some x) where
-  lawful : IsLawful c x
-  lawful = facts.threads.lawful t x there_is
-
-  structured : IsStructured c (was t) x
-  structured = facts.structure t x there_is
-
-  number : x.number ≡ t
-  number = (facts.threads.own t x there_is).number
+module _ (sites : KnownSites) (mover : LockMover) (records : RecordsFit mover.state.base.heap.s.words) where
+  open mover use {t, x, number, state.{was, base.heap.{c, marked, objects, s, facts}}}
 
   abbrev Done : Phase → Type 0
   Done phase = BitsFollow s.words (words_after s.words (wanted c x phase)) t phase
 
-  fits : (phase : Phase) → x.phase ≡ phase → PhaseFits phase
-  fits phase e = subst PhaseFits e lawful.bounded.phase
-
   there_inside : (r : ℕ) → r < MONITOR_RECORDS → bits_word r < length s.words
-  there_inside r few = inside c objects s (BitsOf r) marked facts.heap few
+  there_inside r few = sites.inside c objects s (BitsOf r) marked facts few
 
   owner : (phase : Phase) (r : ℕ) → was t ≡ phase → record_of phase ≡ Some r → owner_at s.words r ≡ t + 1
-  owner phase r k of =
-      let o : OwnsRecord (locks_in (references_of objects) s.words) t r = owned_record c (locks_in (references_of objects) s.words) facts.owners.count facts.owners.locks_are t x structured.stands.shown (was t) r (ap record_of k ∙ of)
-      structured.stands.phase_shows (facts.owners.each t x there_is) in
-      o.owner
+  owner phase r k of = (owned_record mover phase r of k).owner
 
   still : (phase : Phase) → x.phase ≡ phase → IsStill phase → Done phase
   still phase e is = record { set = λ r u few out in'. absurd (apart r u few false true (λ q. cc) out in'); cleared = λ r u few in' out. absurd (apart r u few true false (λ q. cc) in' out) }
     where
       apart : (r u : ℕ) → r < MONITOR_RECORDS → (a b : Bool) → a ≢ b → is_bit_set s.words r u ≡ a → is_bit_set (words_after s.words (wanted c x phase)) r u ≡ b → ⊥
-      apart r u few a b differ' f g = differ' (sym f ∙ ap (has_flag (bit_of u)) (sym (still_bits differ inside reach c objects s t x marked facts.heap there_is lawful phase e is r few)) ∙ g)
+      apart r u few a b differ' f g = differ' (sym f ∙ ap (has_flag (bit_of u)) (sym (still_bits sites (on_heap mover) phase e is r few)) ∙ g)
 
   wait_set : (m r : ℕ) → x.phase ≡ phases.WaitBit m r → was t ≡ phases.WaitBit m r → Done (phases.WaitBit m r)
-  wait_set m r e k = written s.words r (bit_or (slice_index s.words (bits_word r)) (bit_of x.number)) t (phases.WaitBit m r) (there_inside r (fits (phases.WaitBit m r) e)) (owner (phases.WaitBit m r) r k refl)
+  wait_set m r e k = written s.words r (bit_or (slice_index s.words (bits_word r)) (bit_of x.number)) t (phases.WaitBit m r) (there_inside r (fits_bounds mover (phases.WaitBit m r) e)) (owner (phases.WaitBit m r) r k refl)
       (λ u out in'. (by_number u (same_or_not u t) out in', refl))
       (λ u in' out. let bad : true ≡ false = sym (set_keeps (slice_index s.words (bits_word r)) x.number u in') ∙ out in absurd (cc))
     where
@@ -115,18 +99,18 @@ module _ (differ : SitesDiffer) (inside : SitesLieInside) (reach : EventsReachSi
       (λ u in' out. (refl, by_number u (same_or_not w u) in' out))
     where
       low : r < MONITOR_RECORDS
-      low = (fits (phases.NotifyOne m r w) e).0
+      low = (fits_bounds mover (phases.NotifyOne m r w) e).0
 
       by_number : (u : ℕ) → (w ≡ u) ⊎ (w ≢ u) → has_flag (bit_of u) (slice_index s.words (bits_word r)) ≡ true → has_flag (bit_of u) (bit_and (slice_index s.words (bits_word r)) (2 ^ 64 - 1 - bit_of w)) ≡ false → w ≡ u
       by_number u (inl same) in' out = same
       by_number u (inr other) in' out =
-          let few = few_set (slice_index s.words (bits_word r)) u (facts.records.bits r low) in' in
-          let stays = others_stay (slice_index s.words (bits_word r)) u w few (omega (arith, (fits (phases.NotifyOne m r w) e).1)) (λ q. other (sym q)) in' in
+          let few = few_set (slice_index s.words (bits_word r)) u (records.bits r low) in' in
+          let stays = others_stay (slice_index s.words (bits_word r)) u w few (omega (arith, (fits_bounds mover (phases.NotifyOne m r w) e).1)) (λ q. other (sym q)) in' in
           let bad : true ≡ false = sym stays ∙ out in
           absurd (cc)
 
   all_cleared : (m r : ℕ) → x.phase ≡ phases.NotifyAll m r → was t ≡ phases.NotifyAll m r → Done (phases.NotifyAll m r)
-  all_cleared m r e k = written s.words r 0 t (phases.NotifyAll m r) (there_inside r (fits (phases.NotifyAll m r) e)) (owner (phases.NotifyAll m r) r k refl) (λ u out in'. absurd (cc)) (λ u in' out. refl)
+  all_cleared m r e k = written s.words r 0 t (phases.NotifyAll m r) (there_inside r (fits_bounds mover (phases.NotifyAll m r) e)) (owner (phases.NotifyAll m r) r k refl) (λ u out in'. absurd (cc)) (λ u in' out. refl)
 
   pub bits_by_phase : (phase : Phase) → x.phase ≡ phase → IsAs phase (was t) → Done phase
   bits_by_phase (phases.WaitBit m r) e k = wait_set m r e k

@@ -1,33 +1,28 @@
 -- Whatever event happens, the count that a thread keeps of a flat lock is the one that it found there.
 use Rattle.std.proofs.{Common.{◌≡◌, ◌⊎◌, inl, inr, ℕ, Bool, true, false, cond, List, Option, Some, None, refl, sym, ap, ◌∙◌, subst, ◌==◌, slice_get, option_map}, lemmas.Bool.Decides.Decides-eqb}
-use Rattle.checked_program.specs.MarkedProgram.{MarkedProgram, IsMarked}
-use Rattle.machine_types.specs.{Accesses.found_by, Core.Core, Elision.elided, Events.{wanted, moved}, Frames.went_on, Going.goes_on_if}
+use Rattle.machine_types.specs.{Accesses.found_by, Elision.elided, Events.{wanted, moved}, Frames.went_on, Going.goes_on_if}
 use Rattle.machine_types.specs.{HeldMonitors.{held_at, with_held, without_held, deeper, shallower}, Instructions.printed, LockWords.word_of_lock, Onward.{Onward, after, Running, rooted}}
-use Rattle.machine_types.specs.{Owners.{locks_in, references_of}, PlainMemory.Object, Structure.AreHeldOnce, Threads.Thread, declared.{access.Access.TheVariants.Cas, config.Config.Config}}
-use Rattle.machine_types.specs.declared.{lock.{Held.Held, Kept.Kept}, phase.Phase.Phase}
+use Rattle.machine_types.specs.{Owners.{locks_in, references_of}, Structure.AreHeldOnce, Threads.Thread, declared.{access.Access.TheVariants.Cas, lock.{Held.Held, Kept.Kept}, phase.Phase.Phase}}
 use Rattle.laws_threads.proofs.{HeldLists.{held_monitor, held_put, held_without}, ThreadMove.{Takes, Move, becomes, counting, any_move, same_onward}}
-use Rattle.laws_states.{specs.{ChangeLaws.{KeepsFlat, CountsFollow}, SiteLaws.{EventsReachSites, SitesDiffer, SitesLieInside}, StateFacts.StateFacts}, proofs.EventLocks.{reached, lock_is}}
-use Rattle.laws_states.proofs.LockPhases.{lock_reached}
+use Rattle.laws_states.{specs.ChangeLaws.{KeepsFlat, CountsFollow}, proofs.{EventLocks.lock_is, LockPhases.lock_reached, Movers.{KnownSites, LockMover, phase_reaches}}}
 use Rattle.machine_types.specs.declared.lock.Kept.TheVariants as keeps
 use Rattle.machine_types.specs.declared.lock.LockWord.TheVariants as locks
 use Rattle.machine_types.specs.declared.phase.Phase.TheVariants as phases
 use Rattle.laws_threads.proofs.ThreadMove as moves
 
-module _ (differ : SitesDiffer) (inside : SitesLieInside) (reach : EventsReachSites) (c : MarkedProgram) (cfg : Config) (objects : List Object) (was : ℕ → Phase) (s : Core) (t : ℕ) (x : Thread) (marked : IsMarked c)
-    (facts : StateFacts c cfg objects was s) (there_is : slice_get s.threads t ≡ Some x) where
+module _ (sites : KnownSites) (mover : LockMover) where
+  open mover use {x, structured, state.base.heap.{c, objects, s}}
+
   abbrev Follows : List Held → Type 0
   Follows later = CountsFollow (locks_in (references_of objects) s.words) x.held later
 
   once : AreHeldOnce x.held
-  once = (facts.structure t x there_is).stands.once
+  once = structured.stands.once
 
   -- ---- the list as it was, with an entry put, or without one
 
   same : Follows x.held
   same = λ m n e. inl e
-
-  same_list : (later : List Held) → later ≡ x.held → Follows later
-  same_list later e = subst (λ (hs : List Held). Follows hs) (sym e) same
 
   put : (k : Held) → ((n : ℕ) → k.kept ≡ keeps.Flat n → KeepsFlat (held_at x.held k.monitor) n ⊎ ((locks_in (references_of objects) s.words).lock k.monitor ≡ locks.Free n)) → Follows (with_held k x.held)
   put k from = λ m n e. at m n (k.monitor == m) refl (subst (λ (o : Option Held). KeepsFlat o n) (held_put m k x.held) e)
@@ -64,8 +59,8 @@ module _ (differ : SitesDiffer) (inside : SitesLieInside) (reach : EventsReachSi
   took m got _ _ e g (moves.a_flat n same_word) = put (record { monitor = m; kept = keeps.Flat n; depth = 1 }) (λ k h. inr (free ∙ ap locks.Free (same_count k h)))
     where
       free : (locks_in (references_of objects) s.words).lock m ≡ locks.Free n
-      free = lock_is differ inside reach c cfg objects was s t x marked facts there_is m (locks.Free n)
-          (lock_reached c.program objects s (Cas m (word_of_lock (locks.Free n)) (word_of_lock (locks.Held x.number))) (reached differ inside reach c cfg objects was s t x marked facts there_is (phases.Take m n) e))
+      free = lock_is sites mover m (locks.Free n)
+          (lock_reached c.program objects s (Cas m (word_of_lock (locks.Free n)) (word_of_lock (locks.Held x.number))) (phase_reaches mover sites (phases.Take m n) e))
           (subst (λ (w : ℕ). (w == word_of_lock (locks.Free n)) ≡ true) g same_word)
 
       same_count : (k : ℕ) → keeps.Flat n ≡ keeps.Flat k → n ≡ k

@@ -1,16 +1,13 @@
 -- Whatever event happens, a fat lock stays fat, and a lock gets free by its holder alone.
-use Rattle.std.proofs.Common.{◌≡◌, ◌⊎◌, inl, inr, ℕ, zero, suc, ◌+◌, ◌<◌, nat_lt, Bool, true, false, cond, List, Option, Some, None, refl, sym, ap, ◌∙◌, subst, ◌==◌, slice_get, slice_index, slice_set}
+use Rattle.std.proofs.Common.{◌≡◌, ◌⊎◌, inl, inr, ℕ, zero, suc, ◌+◌, ◌<◌, nat_lt, Bool, true, false, cond, List, Option, Some, None, refl, sym, ap, ◌∙◌, subst, ◌==◌, slice_index, slice_set}
 use Rattle.std.proofs.lemmas.Bool.Decides.{Decides-eqb}
 use Rattle.jvm_types.specs.declared.fixed_words.TheConstants.{NEXT_RECORD_WORD, MONITOR_RECORDS}
-use Rattle.checked_program.specs.MarkedProgram.{MarkedProgram, IsMarked}
-use Rattle.machine_types.specs.{Accesses.words_after, Bounds.PhaseFits, Core.Core, Elision.looks, Events.wanted, FoundWords.{leave_content, content_at}, HeldMonitors.held_at, Lawful.IsLawful}
-use Rattle.machine_types.specs.LockWords.{word_of_lock, lock_of, next_count}
+use Rattle.machine_types.specs.{Accesses.words_after, Elision.looks, Events.wanted, FoundWords.leave_content, HeldMonitors.held_at, LockWords.{word_of_lock, lock_of, next_count}}
 use Rattle.machine_types.specs.Monitors.{Claim, Has, Tries, HasNot, claim, claim_by, enter_wants, freed, count_kept, release, finish_wants, leave_wants}
-use Rattle.machine_types.specs.{Owners.{Locks, hold_by_kept, hold_by_list, Owns, locks_in, references_of}, PlainMemory.Object, Structure.{IsAs, IsFlat, PhaseShows, IsStructured}}
-use Rattle.machine_types.specs.{Threads.{Attempt, Thread}, Words.{owner_word, bits_word}, declared.{access.Access.TheVariants.{Store, Cas}, config.Config.Config, lock.{Held.Held, Kept.Kept}}}
-use Rattle.machine_types.specs.declared.{lock.LockWord.LockWord, phase.Phase.Phase}
-use Rattle.laws_states.specs.{ChangeLaws.{IsFreed, LockGoes, LocksFollow}, HeapFacts.objects_by, SiteLaws.{EventsReachSites, SitesDiffer, SitesLieInside}, Sites.{HasObject, ReachesIf}}
-use Rattle.laws_states.{specs.StateFacts.StateFacts, proofs.{LockPhases.lock_reached, LockViews.{set_lock, flatly, fatly}, QuietWords.{IsQuiet, quiet_view}}}
+use Rattle.machine_types.specs.{Owners.{Locks, hold_by_kept, hold_by_list, locks_in, references_of}, Structure.{IsAs, IsFlat}, Threads.Attempt, Words.{owner_word, bits_word}}
+use Rattle.machine_types.specs.declared.{access.Access.TheVariants.{Store, Cas}, config.Config.Config, lock.{Held.Held, Kept.Kept, LockWord.LockWord}, phase.Phase.Phase}
+use Rattle.laws_states.{specs.{ChangeLaws.{IsFreed, LockGoes, LocksFollow}, HeapFacts.objects_by, Sites.{HasObject, ReachesIf}}, proofs.{LockPhases.lock_reached, LockViews.{set_lock, flatly, fatly}}}
+use Rattle.laws_states.proofs.{Movers.{KnownSites, LockMover, on_heap, fits_bounds, phase_shows, phase_reaches}, QuietWords.{IsQuiet, quiet_view}}
 use Rattle.laws_states.proofs.WordViews.{lock_of_word, object_has, set_self, lock_view, owner_view, next_view}
 use Rattle.machine_types.specs.declared.lock.Kept.TheVariants as keeps
 use Rattle.machine_types.specs.declared.lock.LockWord.TheVariants as locks
@@ -53,34 +50,12 @@ one_lock v t range held n l go = all_follow v (set_lock n l v) t range held (λ 
 
 -- ---- all phases
 
-module _ (differ : SitesDiffer) (inside : SitesLieInside) (reach : EventsReachSites) (c : MarkedProgram) (cfg : Config) (objects : List Object) (was : ℕ → Phase) (s : Core) (t : ℕ) (x : Thread) (marked : IsMarked c)
-    (facts : StateFacts c cfg objects was s) (there_is : slice_get s.threads t ≡ Some x) where
-  abbrev v : Locks
-  v = locks_in (references_of objects) s.words
-
-  lawful : IsLawful c x
-  lawful = facts.threads.lawful t x there_is
-
-  structured : IsStructured c (was t) x
-  structured = facts.structure t x there_is
-
-  own : Owns (locks_in (references_of objects) s.words) facts.owners.count t (was t) x
-  own = facts.owners.each t x there_is
-
-  number : x.number ≡ t
-  number = (facts.threads.own t x there_is).number
+module _ (sites : KnownSites) (mover : LockMover) where
+  open mover use {t, x, there, lawful, structured, number, own, state.{was, owners, base.{cfg, threads, heap.{c, marked, objects, s, facts}}}}
+  open sites use {differ, inside, reach}
 
   settings : x.cfg ≡ cfg
-  settings = (facts.threads.own t x there_is).settings
-
-  fits : (phase : Phase) → x.phase ≡ phase → PhaseFits phase
-  fits phase e = subst PhaseFits e lawful.bounded.phase
-
-  shows : (phase : Phase) → was t ≡ phase → PhaseShows c phase x.frames structured.stands.shown x.held x.attempt
-  shows phase k = subst (λ (p : Phase). PhaseShows c p x.frames structured.stands.shown x.held x.attempt) k structured.stands.phase_shows
-
-  pub reached : (phase : Phase) → x.phase ≡ phase → ReachesIf c.program objects s (content_at c x phase) (wanted c x phase)
-  reached phase e = subst (λ (p : Phase). ReachesIf c.program objects s (content_at c x p) (wanted c x p)) e (reach c objects s t x marked facts.heap there_is lawful)
+  settings = (threads.own t x there).settings
 
   -- an event that leaves these words, where no header is stored for the first time
   abbrev Leaves : List ℕ → Type 0
@@ -100,14 +75,14 @@ module _ (differ : SitesDiffer) (inside : SitesLieInside) (reach : EventsReachSi
     where
       view : IsQuiet phase → locks_in (references_of (objects_by c.program phase objects)) (words_after s.words (wanted c x phase)) ≡ locks_in (references_of objects) s.words
       view = subst (λ (p : Phase). IsQuiet p → locks_in (references_of (objects_by c.program p objects)) (words_after s.words (wanted c x p)) ≡ locks_in (references_of objects) s.words) e
-          (λ q. quiet_view differ inside reach c objects s t x marked facts.heap there_is lawful q)
+          (λ q. quiet_view sites (on_heap mover) q)
 
   owner_written : (r value : ℕ) → r < MONITOR_RECORDS → Leaves (slice_set s.words (owner_word r) value)
-  owner_written r value low = same_locks _ _ t cfg.range x.held (λ m. ap (λ (w : Locks). w.lock m) (owner_view differ inside c objects s marked facts.heap r value low))
+  owner_written r value low = same_locks _ _ t cfg.range x.held (λ m. ap (λ (w : Locks). w.lock m) (owner_view differ inside c objects s marked facts r value low))
 
   lock_written : (m : ℕ) (l : LockWord) → HasObject objects m → LockGoes t cfg.range (held_at x.held m) ((locks_in (references_of objects) s.words).lock m) l → Leaves (slice_set s.words m (word_of_lock l))
   lock_written m l is go = subst (λ (w : Locks). LocksFollow (locks_in (references_of objects) s.words) w t cfg.range x.held)
-      (sym (lock_view differ inside c objects s marked facts.heap m (word_of_lock l) is ∙ ap (λ (k : LockWord). set_lock m k (locks_in (references_of objects) s.words)) (lock_of_word l)))
+      (sym (lock_view differ inside c objects s marked facts m (word_of_lock l) is ∙ ap (λ (k : LockWord). set_lock m k (locks_in (references_of objects) s.words)) (lock_of_word l)))
       (one_lock (locks_in (references_of objects) s.words) t cfg.range x.held m l go)
 
   -- from what the lock was
@@ -150,7 +125,7 @@ module _ (differ : SitesDiffer) (inside : SitesLieInside) (reach : EventsReachSi
     record_low : (r : ℕ) → h.kept ≡ keeps.Fat r → r < MONITOR_RECORDS
     record_low r kept =
         let fat = fatly t ((locks_in (references_of objects) s.words).lock m) (locks_in (references_of objects) s.words).owner r (own.holds m ∙ ap hold_by_list at ∙ ap hold_by_kept kept) in
-        (facts.owners.locks_are.below m r fat.0).1
+        (owners.locks_are.below m r fat.0).1
 
     by_kept : (k : Kept) → h.kept ≡ k → ReachesIf c.program objects s (leave_content (Has (record h { kept = k }))) (Some (release x m k)) → Leaves (words_after s.words (Some (release x m k)))
     by_kept (keeps.Flat n) kept k = by_test (slice_index s.words m == word_of_lock (locks.Held x.number))
@@ -207,20 +182,20 @@ module _ (differ : SitesDiffer) (inside : SitesLieInside) (reach : EventsReachSi
   locks_by_phase (phases.Enter m n) e k = entered m (claim x m)
   locks_by_phase (phases.Acquire m) e k = loaded m
   locks_by_phase (phases.Take m seen) e k =
-      exchanged m (locks.Free seen) (locks.Held x.number) (lock_reached c.program objects s (Cas m (word_of_lock (locks.Free seen)) (word_of_lock (locks.Held x.number))) (reached (phases.Take m seen) e)) number _ refl
+      exchanged m (locks.Free seen) (locks.Held x.number) (lock_reached c.program objects s (Cas m (word_of_lock (locks.Free seen)) (word_of_lock (locks.Held x.number))) (phase_reaches mover sites (phases.Take m seen) e)) number _ refl
   locks_by_phase (phases.Flag m u) e k =
-      exchanged m (locks.Held u) (locks.Flagged u) (lock_reached c.program objects s (Cas m (word_of_lock (locks.Held u)) (word_of_lock (locks.Flagged u))) (reached (phases.Flag m u) e)) refl _ refl
-  locks_by_phase (phases.TakeFat m r) e k = owner_written r _ (fits (phases.TakeFat m r) e)
-  locks_by_phase (phases.Leave m after) e k = left m (held_at x.held m) x.attempt refl (reached (phases.Leave m after) e)
-  locks_by_phase (phases.Grow m toward) e k = same_locks _ _ t cfg.range x.held (λ n. ap (λ (w : Locks). w.lock n) (next_view differ inside c objects s marked facts.heap (slice_index s.words NEXT_RECORD_WORD + 1)))
-  locks_by_phase (phases.FlatOut m after) e k = let_out m (held_at x.held m) refl (shows (phases.FlatOut m after) k).flat
-      (lock_reached c.program objects s (Store m (freed x (count_kept (held_at x.held m)))) (reached (phases.FlatOut m after) e))
-  locks_by_phase (phases.Own m r toward) e k = owner_written r _ (fits (phases.Own m r toward) e)
-  locks_by_phase (phases.FatIn m r toward) e k = made_fat m r (held_at x.held m) refl (shows (phases.FatIn m r toward) k).flat (lock_reached c.program objects s (Store m (word_of_lock (locks.Fat r))) (reached (phases.FatIn m r toward) e))
+      exchanged m (locks.Held u) (locks.Flagged u) (lock_reached c.program objects s (Cas m (word_of_lock (locks.Held u)) (word_of_lock (locks.Flagged u))) (phase_reaches mover sites (phases.Flag m u) e)) refl _ refl
+  locks_by_phase (phases.TakeFat m r) e k = owner_written r _ (fits_bounds mover (phases.TakeFat m r) e)
+  locks_by_phase (phases.Leave m after) e k = left m (held_at x.held m) x.attempt refl (phase_reaches mover sites (phases.Leave m after) e)
+  locks_by_phase (phases.Grow m toward) e k = same_locks _ _ t cfg.range x.held (λ n. ap (λ (w : Locks). w.lock n) (next_view differ inside c objects s marked facts (slice_index s.words NEXT_RECORD_WORD + 1)))
+  locks_by_phase (phases.FlatOut m after) e k = let_out m (held_at x.held m) refl (phase_shows mover (phases.FlatOut m after) k).flat
+      (lock_reached c.program objects s (Store m (freed x (count_kept (held_at x.held m)))) (phase_reaches mover sites (phases.FlatOut m after) e))
+  locks_by_phase (phases.Own m r toward) e k = owner_written r _ (fits_bounds mover (phases.Own m r toward) e)
+  locks_by_phase (phases.FatIn m r toward) e k = made_fat m r (held_at x.held m) refl (phase_shows mover (phases.FatIn m r toward) k).flat (lock_reached c.program objects s (Store m (word_of_lock (locks.Fat r))) (phase_reaches mover sites (phases.FatIn m r toward) e))
   locks_by_phase (phases.WaitBit m r) e k = quietly (phases.WaitBit m r) e tt
-  locks_by_phase (phases.WaitOut m r) e k = owner_written r 0 (fits (phases.WaitOut m r) e)
+  locks_by_phase (phases.WaitOut m r) e k = owner_written r 0 (fits_bounds mover (phases.WaitOut m r) e)
   locks_by_phase (phases.WaitLook m r depth) e k = loaded (bits_word r)
-  locks_by_phase (phases.Retake m r depth) e k = owner_written r _ (fits (phases.Retake m r depth) e)
+  locks_by_phase (phases.Retake m r depth) e k = owner_written r _ (fits_bounds mover (phases.Retake m r depth) e)
   locks_by_phase (phases.NotifyLook m r) e k = loaded (bits_word r)
   locks_by_phase (phases.NotifyOne m r u) e k = quietly (phases.NotifyOne m r u) e tt
   locks_by_phase (phases.NotifyAll m r) e k = quietly (phases.NotifyAll m r) e tt

@@ -1,15 +1,14 @@
 -- Whatever event happens, who holds which lock is as the words and the threads say.
-use Rattle.std.proofs.{Common.{◌≡◌, ℕ, ◌≤◌, nat_lt, Bool, true, false, cond, List, Option, Some, None, refl, sym, ap, ◌∙◌, subst, arith, slice_get, slice_index, ◌==◌}, lemmas.Bool.Decides.Decides-eqb}
+use Rattle.std.proofs.Common.{◌≡◌, ℕ, ◌≤◌, nat_lt, Bool, true, false, cond, Option, Some, None, refl, sym, ap, ◌∙◌, subst, arith, slice_get, slice_index, ◌==◌}
 use Rattle.jvm_types.specs.{Numbers.has_flag, declared.outcome.End.End}
-use Rattle.checked_program.specs.MarkedProgram.{MarkedProgram, IsMarked}
-use Rattle.machine_types.specs.{Accesses.{found_by, words_after}, Bounds.PhaseFits, Core.{Core, event_of}, Elision.{looks, may_try}, Events.{wanted, moved}, FoundWords.content_at}
-use Rattle.machine_types.specs.{Going.{runs, with_phase}, HeldMonitors.held_at, Lawful.IsLawful, LockWords.lock_of, Monitors.{bit_of, lowest_of}}
-use Rattle.machine_types.specs.{Owners.{Locks, drawn_by, Knows, PhaseSaw, Owns, locks_in, references_of, Owners}, PlainMemory.Object}
-use Rattle.machine_types.specs.{Structure.{AreHeldOnce, IsAs, PhaseShows, IsStructured, Structure}, Threads.{Attempt, Thread}, Words.bits_word, declared.access.Access.TheVariants.Load}
-use Rattle.machine_types.specs.declared.{config.Config.Config, phase.Phase.Phase}
-use Rattle.laws_threads.{specs.{GivenThread.{Given, GivenIsKept}, StateLaws.{counted_of, counted_phase_at}, StructureLaws.counted_by}, proofs.ThreadMove.of_mover}
-use Rattle.laws_states.specs.{HeapFacts.{HeapFacts, objects_by, objects_of}, OwnersLaws.EventsKeepOwners, RunFacts.AreThreads, SiteLaws.{EventsReachSites, SitesDiffer, SitesLieInside}}
-use Rattle.laws_states.{specs.Sites.ReachesIf, proofs.{CountedPhases.{IsPlain, counted_plain}, LockPhases.{plain, knowing, loaded, lock_here, lock_reached, acquired, entered}}}
+use Rattle.checked_program.specs.MarkedProgram.{MarkedProgram}
+use Rattle.machine_types.specs.{Accesses.{found_by, words_after}, Core.event_of, Elision.{looks, may_try}, Events.{wanted, moved}, Going.{runs, with_phase}, HeldMonitors.held_at, LockWords.lock_of}
+use Rattle.machine_types.specs.{Monitors.{bit_of, lowest_of}, Owners.{Locks, drawn_by, Knows, PhaseSaw, Owns, locks_in, references_of, Owners}, Structure.IsAs, Threads.{Attempt, Thread}}
+use Rattle.machine_types.specs.{Words.bits_word, declared.{access.Access.TheVariants.Load, phase.Phase.Phase}}
+use Rattle.laws_threads.{specs.{GivenThread.{Given, GivenIsKept}, StateLaws.counted_phase_at, StructureLaws.counted_by}, proofs.ThreadMove.of_mover}
+use Rattle.laws_states.specs.{HeapFacts.{objects_by, objects_of}, OwnersLaws.EventsKeepOwners, SiteLaws.{EventsReachSites, SitesDiffer, SitesLieInside}}
+use Rattle.laws_states.proofs.{CountedPhases.{IsPlain, counted_plain}, LockPhases.{plain, knowing, loaded, lock_here, lock_reached, acquired, entered}}
+use Rattle.laws_states.proofs.Movers.{KnownSites, LockState, LockMover, OwnsAs, mover_of, on_heap, locks_of, fits_bounds, phase_shows, phase_reaches, known_sites, lawful_state, phase_stays}
 use Rattle.laws_states.proofs.{OwnerPhases.{runs_counted, took, flagged, took_fat, retook, waited, left, flat_out, drawn, owned, fattened, gone_out}, OwnersStep.{Owes, owned_on}}
 use Rattle.laws_states.proofs.{PlainMoves.{same_look, Plainly, moves_plainly}, QuietWords.{IsQuiet, quiet_view}, SameTally.{Tally, tally_of, same_tally}}
 use Rattle.jvm_types.specs.declared.outcome.End.TheVariants as ends
@@ -36,184 +35,154 @@ ran_keeps c x got =
     let locked : (moved c x phases.Run got).counts.locked ≡ x.counts.locked = ap (λ (g : Tally). g.locked) same ∙ of_mover (λ (y : Thread). y.counts.locked ≡ x.counts.locked) c.program phases.Run x refl refl in
     record { held = ap (λ (g : Tally). g.held) same ∙ of_mover (λ (y : Thread). y.held ≡ x.held) c.program phases.Run x refl refl; locked = omega (arith, locked) }
 
-module _ (differ : SitesDiffer) (inside : SitesLieInside) (reach : EventsReachSites) (given : GivenIsKept) (c : MarkedProgram) (cfg : Config) (objects : List Object) (was : ℕ → Phase) (s : Core) (t : ℕ) (marked : IsMarked c)
-    (heap : HeapFacts c objects s) (threads : AreThreads c cfg s) (structure : Structure c was s.threads) (owners : Owners (references_of objects) was s) where
-  module _ (x : Thread) (there : slice_get s.threads t ≡ Some x) where
-    lawful : IsLawful c x
-    lawful = threads.lawful t x there
+module _ (sites : KnownSites) (given : GivenIsKept) (mover : LockMover) where
+  open mover use {t, x, there, lawful, structured, number, own, state.{was, owners, base.{threads, heap.{c, objects, s, facts}}}}
 
-    structured : IsStructured c (was t) x
-    structured = structure t x there
+  same_cfg : (phase : Phase) (got : ℕ) → (moved c x phase got).cfg ≡ x.cfg
+  same_cfg phase got = ap (λ (g : Given). g.cfg) (given c x phase got)
 
-    abbrev OwnsAs : Phase → Type 0
-    OwnsAs phase = Owns (locks_in (references_of objects) s.words) owners.count t phase x
+  abbrev OwesOf : (phase : Phase) (w : Locks) → Thread → Type 0
+  OwesOf phase w y = (more : ℕ → ℕ) × Owes (locks_in (references_of objects) s.words) w owners.count more t phase (counted_by phase y.phase) x y
 
-    own : OwnsAs (was t)
-    own = owners.each t x there
+  -- what the event owes in a phase
+  abbrev Done : Phase → Type 0
+  Done phase = OwesOf (was t) (locks_in (references_of (objects_by c.program phase objects)) (words_after s.words (wanted c x phase))) (moved c x phase (found_by s.words (wanted c x phase)))
 
-    most : (m : ℕ) → owners.count m ≤ x.cfg.range
-    most m = owners.within m t x there
+  -- in a phase that counts itself
+  from : (phase : Phase) (w : Locks) (y : Thread) → was t ≡ phase → OwesOf phase w y → OwesOf (was t) w y
+  from phase w y k h = subst (λ (p : Phase). OwesOf p w y) (sym k) h
 
-    number : x.number ≡ t
-    number = (threads.own t x there).number
+  own_as : (phase : Phase) → was t ≡ phase → OwnsAs mover phase
+  own_as phase k = subst (OwnsAs mover) k own
 
-    once : AreHeldOnce x.held
-    once = structured.stands.once
+  now_plain : (phase : Phase) → x.phase ≡ phase → IsPlain phase → IsPlain x.phase
+  now_plain phase e is = subst IsPlain (sym e) is
 
-    settings : (u : ℕ) (z : Thread) → slice_get s.threads u ≡ Some z → z.cfg ≡ x.cfg
-    settings u z e = (threads.own u z e).settings ∙ sym (threads.own t x there).settings
+  -- ---- quiet phases
 
-    same_cfg : (phase : Phase) (got : ℕ) → (moved c x phase got).cfg ≡ x.cfg
-    same_cfg phase got = ap (λ (g : Given). g.cfg) (given c x phase got)
+  quiet_at : (phase : Phase) → x.phase ≡ phase → IsQuiet phase → locks_in (references_of (objects_by c.program phase objects)) (words_after s.words (wanted c x phase)) ≡ locks_in (references_of objects) s.words
+  quiet_at phase e = subst (λ (p : Phase). IsQuiet p → locks_in (references_of (objects_by c.program p objects)) (words_after s.words (wanted c x p)) ≡ locks_in (references_of objects) s.words) e
+      (λ q. quiet_view sites (on_heap mover) q)
 
-    abbrev OwesOf : (phase : Phase) (w : Locks) → Thread → Type 0
-    OwesOf phase w y = (more : ℕ → ℕ) × Owes (locks_in (references_of objects) s.words) w owners.count more t phase (counted_by phase y.phase) x y
+  quietly : (phase : Phase) → x.phase ≡ phase → IsQuiet phase → OwesOf (was t) (locks_in (references_of objects) s.words) (moved c x phase (found_by s.words (wanted c x phase))) → Done phase
+  quietly phase e is h = subst (λ (w : Locks). OwesOf (was t) w (moved c x phase (found_by s.words (wanted c x phase)))) (sym (quiet_at phase e is)) h
 
-    -- what the event owes in a phase
-    abbrev Done : Phase → Type 0
-    Done phase = OwesOf (was t) (locks_in (references_of (objects_by c.program phase objects)) (words_after s.words (wanted c x phase))) (moved c x phase (found_by s.words (wanted c x phase)))
+  plainly : (phase : Phase) → was t ≡ phase → (got : ℕ) → (moved c x phase got).held ≡ x.held → x.counts.locked ≤ (moved c x phase got).counts.locked → Plainly x.attempt (moved c x phase got) → IsPlain phase
+      → OwesOf (was t) (locks_in (references_of objects) s.words) (moved c x phase got)
+  plainly phase k got held locked p is = from phase (locks_in (references_of objects) s.words) (moved c x phase got) k
+      (plain mover phase (own_as phase k) (moved c x phase got) held (same_cfg phase got) locked p.attempt (counted_plain phase (moved c x phase got).phase is p.phase))
 
-    -- in a phase that counts itself
-    from : (phase : Phase) (w : Locks) (y : Thread) → was t ≡ phase → OwesOf phase w y → OwesOf (was t) w y
-    from phase w y k h = subst (λ (p : Phase). OwesOf p w y) (sym k) h
+  by_same : (phase : Phase) → was t ≡ phase → (got : ℕ) → tally_of (moved c x phase got) ≡ tally_of x → Plainly x.attempt (moved c x phase got) → IsPlain phase → OwesOf (was t) (locks_in (references_of objects) s.words) (moved c x phase got)
+  by_same phase k got same p is =
+      let locked : (moved c x phase got).counts.locked ≡ x.counts.locked = ap (λ (g : Tally). g.locked) same in
+      plainly phase k got (ap (λ (g : Tally). g.held) same) (omega (arith, locked)) p is
 
-    own_as : (phase : Phase) → was t ≡ phase → OwnsAs phase
-    own_as phase k = subst (λ (p : Phase). Owns (locks_in (references_of objects) s.words) owners.count t p x) k own
+  -- where an attempt's lock word is looked at
+  looked : (q : Option Attempt) (y : Thread) → OwesOf (was t) (locks_in (references_of objects) s.words) y → OwesOf (was t) (locks_in (references_of objects) (words_after s.words (looks q))) y
+  looked None y h = h
+  looked (Some q) y h = loaded mover (was t) own q.monitor y h
 
-    reached : (phase : Phase) → x.phase ≡ phase → ReachesIf c.program objects s (content_at c x phase) (wanted c x phase)
-    reached phase e = subst (λ (p : Phase). ReachesIf c.program objects s (content_at c x p) (wanted c x p)) e (reach c objects s t x marked heap there lawful)
+  -- it runs on, from any phase
+  runs_on : (phase : Phase) → was t ≡ phase → OwesOf (was t) (locks_in (references_of objects) s.words) (runs x)
+  runs_on phase k = from phase (locks_in (references_of objects) s.words) (runs x) k
+      (plain mover phase (own_as phase k) (runs x) refl refl (omega arith) (same_look x.attempt) (runs_counted phase (nat_lt x.counts.instructions x.cfg.steps)))
 
-    low : (phase : Phase) → x.phase ≡ phase → PhaseFits phase
-    low phase e = subst PhaseFits e lawful.bounded.phase
+  notify_looks : (m r : ℕ) → was t ≡ phases.NotifyLook m r → (b : Bool) (u : ℕ) → OwesOf (was t) (locks_in (references_of objects) s.words) (cond b (runs x) (with_phase x (phases.NotifyOne m r u)))
+  notify_looks m r k true u = runs_on (phases.NotifyLook m r) k
+  notify_looks m r k false u = from (phases.NotifyLook m r) (locks_in (references_of objects) s.words) (with_phase x (phases.NotifyOne m r u)) k
+      (knowing mover (phases.NotifyLook m r) (own_as (phases.NotifyLook m r) k) (with_phase x (phases.NotifyOne m r u)) refl refl refl refl tt tt (λ i d. absurd (cc)))
 
-    shows : (phase : Phase) → was t ≡ phase → PhaseShows c phase x.frames structured.stands.shown x.held x.attempt
-    shows phase k = subst (λ (p : Phase). PhaseShows c p x.frames structured.stands.shown x.held x.attempt) k structured.stands.phase_shows
-
-    now_plain : (phase : Phase) → x.phase ≡ phase → IsPlain phase → IsPlain x.phase
-    now_plain phase e is = subst IsPlain (sym e) is
-
-    -- ---- quiet phases
-
-    quiet_at : (phase : Phase) → x.phase ≡ phase → IsQuiet phase → locks_in (references_of (objects_by c.program phase objects)) (words_after s.words (wanted c x phase)) ≡ locks_in (references_of objects) s.words
-    quiet_at phase e = subst (λ (p : Phase). IsQuiet p → locks_in (references_of (objects_by c.program p objects)) (words_after s.words (wanted c x p)) ≡ locks_in (references_of objects) s.words) e
-        (λ q. quiet_view differ inside reach c objects s t x marked heap there lawful q)
-
-    quietly : (phase : Phase) → x.phase ≡ phase → IsQuiet phase → OwesOf (was t) (locks_in (references_of objects) s.words) (moved c x phase (found_by s.words (wanted c x phase))) → Done phase
-    quietly phase e is h = subst (λ (w : Locks). OwesOf (was t) w (moved c x phase (found_by s.words (wanted c x phase)))) (sym (quiet_at phase e is)) h
-
-    plainly : (phase : Phase) → was t ≡ phase → (got : ℕ) → (moved c x phase got).held ≡ x.held → x.counts.locked ≤ (moved c x phase got).counts.locked → Plainly x.attempt (moved c x phase got) → IsPlain phase
-        → OwesOf (was t) (locks_in (references_of objects) s.words) (moved c x phase got)
-    plainly phase k got held locked p is = from phase (locks_in (references_of objects) s.words) (moved c x phase got) k
-        (plain differ inside c objects s marked heap owners.count t x owners.locks_are most number once phase (own_as phase k) (moved c x phase got) held (same_cfg phase got) locked p.attempt (counted_plain phase (moved c x phase got).phase is p.phase))
-
-    by_same : (phase : Phase) → was t ≡ phase → (got : ℕ) → tally_of (moved c x phase got) ≡ tally_of x → Plainly x.attempt (moved c x phase got) → IsPlain phase → OwesOf (was t) (locks_in (references_of objects) s.words) (moved c x phase got)
-    by_same phase k got same p is =
-        let locked : (moved c x phase got).counts.locked ≡ x.counts.locked = ap (λ (g : Tally). g.locked) same in
-        plainly phase k got (ap (λ (g : Tally). g.held) same) (omega (arith, locked)) p is
-
-    -- where an attempt's lock word is looked at
-    looked : (q : Option Attempt) (y : Thread) → OwesOf (was t) (locks_in (references_of objects) s.words) y → OwesOf (was t) (locks_in (references_of objects) (words_after s.words (looks q))) y
-    looked None y h = h
-    looked (Some q) y h = loaded differ inside c objects s marked heap owners.count t x owners.locks_are most number once (was t) own q.monitor y h
-
-    -- it runs on, from any phase
-    runs_on : (phase : Phase) → was t ≡ phase → OwesOf (was t) (locks_in (references_of objects) s.words) (runs x)
-    runs_on phase k = from phase (locks_in (references_of objects) s.words) (runs x) k
-        (plain differ inside c objects s marked heap owners.count t x owners.locks_are most number once phase (own_as phase k) (runs x) refl refl (omega arith) (same_look x.attempt) (runs_counted phase (nat_lt x.counts.instructions x.cfg.steps)))
-
-    notify_looks : (m r : ℕ) → was t ≡ phases.NotifyLook m r → (b : Bool) (u : ℕ) → OwesOf (was t) (locks_in (references_of objects) s.words) (cond b (runs x) (with_phase x (phases.NotifyOne m r u)))
-    notify_looks m r k true u = runs_on (phases.NotifyLook m r) k
-    notify_looks m r k false u = from (phases.NotifyLook m r) (locks_in (references_of objects) s.words) (with_phase x (phases.NotifyOne m r u)) k
-        (knowing differ inside c objects s marked heap owners.count t x owners.locks_are most number once (phases.NotifyLook m r) (own_as (phases.NotifyLook m r) k) (with_phase x (phases.NotifyOne m r u)) refl refl refl refl tt tt (λ i d. absurd (cc)))
-
-    over : (e : End) (y : Thread) → y.phase ≡ phases.Ended e → y.held ≡ x.held → y.cfg ≡ x.cfg → y.counts.locked ≡ x.counts.locked → y.attempt ≡ x.attempt → OwesOf (was t) (locks_in (references_of objects) s.words) y
-    over e y ph held cfg_is locked attempt = knowing differ inside c objects s marked heap owners.count t x owners.locks_are most number once (was t) own y held cfg_is locked attempt
-        (at (λ p. Knows (locks_in (references_of objects) s.words) t p) own.knows tt) (at (λ p. PhaseSaw (locks_in (references_of objects) s.words) owners.count p) own.take tt) (at (λ p. (i : ℕ) → drawn_by p ≡ Some i → drawn_by (was t) ≡ Some i) (λ i d. d) (λ i d. absurd (cc)))
-      where
-        at : (P : Phase → Type 0) → P (was t) → P (phases.Ended e) → P (counted_by (was t) y.phase)
-        at P k m = subst (λ (p : Phase). P (counted_by (was t) p)) (sym ph) (ended_keeps P (was t) e k m)
-
-    -- ---- all phases
-
-    by_phase : (phase : Phase) → x.phase ≡ phase → IsAs phase (was t) → Done phase
-    by_phase phases.Idle e k = by_same phases.Idle k 0 refl (moves_plainly c x phases.Idle 0 tt (now_plain phases.Idle e tt)) tt
-    by_phase phases.Start e k = by_same phases.Start k 0 (same_tally c x phases.Start 0 tt) (moves_plainly c x phases.Start 0 tt (now_plain phases.Start e tt)) tt
-    by_phase phases.Run e k =
-        let got = found_by s.words (wanted c x phases.Run) in
-        let keeps = ran_keeps c x got in
-        quietly phases.Run e tt (plainly phases.Run k got keeps.held keeps.locked (moves_plainly c x phases.Run got tt (now_plain phases.Run e tt)) tt)
-    by_phase (phases.Element word stored) e k =
-        let got = found_by s.words (wanted c x (phases.Element word stored)) in
-        quietly (phases.Element word stored) e tt (by_same (phases.Element word stored) k got (same_tally c x (phases.Element word stored) got tt) (moves_plainly c x (phases.Element word stored) got tt (now_plain (phases.Element word stored) e tt)) tt)
-    by_phase (phases.Made a word) e k =
-        let got = found_by s.words (wanted c x (phases.Made a word)) in
-        quietly (phases.Made a word) e tt (by_same (phases.Made a word) k got (same_tally c x (phases.Made a word) got tt) (moves_plainly c x (phases.Made a word) got tt (now_plain (phases.Made a word) e tt)) tt)
-    by_phase (phases.Throw z class) e k =
-        let got = found_by s.words (looks x.attempt) in
-        looked x.attempt _ (by_same (phases.Throw z class) k got (same_tally c x (phases.Throw z class) got tt) (moves_plainly c x (phases.Throw z class) got tt (now_plain (phases.Throw z class) e tt)) tt)
-    by_phase (phases.Enter m n) e k = from (phases.Enter m n) _ _ k
-        (entered differ inside c objects s marked heap owners.count t x owners.locks_are most number once (phases.Enter m n) (own_as (phases.Enter m n) k) m n (may_try c x n) (held_at x.held m) x.attempt tt (now_plain (phases.Enter m n) e tt) refl refl (reached (phases.Enter m n) e))
-    by_phase (phases.Acquire m) e k = from (phases.Acquire m) _ _ k
-        (loaded differ inside c objects s marked heap owners.count t x owners.locks_are most number once (phases.Acquire m) (own_as (phases.Acquire m) k) m _
-        (acquired differ inside c objects s marked heap owners.count t x owners.locks_are most number once (phases.Acquire m) (own_as (phases.Acquire m) k) m (lock_of (slice_index s.words m)) tt
-        (lock_here differ inside c objects s marked heap owners.count t x owners.locks_are most number once (phases.Acquire m) (own_as (phases.Acquire m) k) m (lock_reached c.program objects s (Load m) (reached (phases.Acquire m) e)))))
-    by_phase (phases.Take m seen) e k = from (phases.Take m seen) _ _ k (took differ inside c objects s marked heap owners.count t x owners.locks_are most number once m seen (own_as (phases.Take m seen) k) (reached (phases.Take m seen) e))
-    by_phase (phases.Flag m u) e k = from (phases.Flag m u) _ _ k (flagged differ inside c objects s marked heap owners.count t x owners.locks_are most number once m u (own_as (phases.Flag m u) k) (reached (phases.Flag m u) e))
-    by_phase (phases.TakeFat m r) e k = from (phases.TakeFat m r) _ _ k (took_fat differ inside c objects s marked heap owners.count t x owners.locks_are most number once m r (own_as (phases.TakeFat m r) k))
-    by_phase (phases.Leave m after) e k = from (phases.Leave m after) _ _ k
-        (left differ inside c objects s marked heap owners.count t x owners.locks_are most number once m after (held_at x.held m) x.attempt (own_as (phases.Leave m after) k) (now_plain (phases.Leave m after) e tt) refl refl (reached (phases.Leave m after) e))
-    by_phase (phases.Grow m toward) e k = from (phases.Grow m toward) _ _ k (drawn differ inside c objects s marked heap owners.count t x owners.locks_are most number once m toward (own_as (phases.Grow m toward) k))
-    by_phase (phases.FlatOut m after) e k = from (phases.FlatOut m after) _ _ k
-        (flat_out differ inside c objects s marked heap owners.count t x owners.locks_are most number once m after (held_at x.held m) (own_as (phases.FlatOut m after) k) (now_plain (phases.FlatOut m after) e tt) refl
-        (shows (phases.FlatOut m after) k).flat (reached (phases.FlatOut m after) e))
-    by_phase (phases.Own m r toward) e k = from (phases.Own m r toward) _ _ k (owned differ inside c objects s marked heap owners.count t x owners.locks_are most number once m r toward (own_as (phases.Own m r toward) k) (low (phases.Own m r toward) e))
-    by_phase (phases.FatIn m r toward) e k = from (phases.FatIn m r toward) _ _ k
-        (fattened differ inside c objects s marked heap owners.count t x owners.locks_are most number once m r toward (held_at x.held m) (own_as (phases.FatIn m r toward) k) (low (phases.FatIn m r toward) e) refl
-        (shows (phases.FatIn m r toward) k).flat (reached (phases.FatIn m r toward) e))
-    by_phase (phases.WaitBit m r) e k = quietly (phases.WaitBit m r) e tt (from (phases.WaitBit m r) _ _ k
-        (knowing differ inside c objects s marked heap owners.count t x owners.locks_are most number once (phases.WaitBit m r) (own_as (phases.WaitBit m r) k) (with_phase x (phases.WaitOut m r)) refl refl refl refl tt tt (λ i d. absurd (cc))))
-    by_phase (phases.WaitOut m r) e k = from (phases.WaitOut m r) _ _ k
-        (gone_out differ inside c objects s marked heap owners.count t x owners.locks_are most number once m r (held_at x.held m) (own_as (phases.WaitOut m r) k) (low (phases.WaitOut m r) e) refl (shows (phases.WaitOut m r) k).1)
-    by_phase (phases.WaitLook m r depth) e k = from (phases.WaitLook m r depth) _ _ k
-        (loaded differ inside c objects s marked heap owners.count t x owners.locks_are most number once (phases.WaitLook m r depth) (own_as (phases.WaitLook m r depth) k) (bits_word r) _
-        (waited differ inside c objects s marked heap owners.count t x owners.locks_are most number once m r depth (has_flag (bit_of x.number) (slice_index s.words (bits_word r))) (own_as (phases.WaitLook m r depth) k)))
-    by_phase (phases.Retake m r depth) e k = from (phases.Retake m r depth) _ _ k (retook differ inside c objects s marked heap owners.count t x owners.locks_are most number once m r depth (own_as (phases.Retake m r depth) k))
-    by_phase (phases.NotifyLook m r) e k = loaded differ inside c objects s marked heap owners.count t x owners.locks_are most number once (was t) own (bits_word r) _
-        (notify_looks m r k (slice_index s.words (bits_word r) == 0) (lowest_of (slice_index s.words (bits_word r))))
-    by_phase (phases.NotifyOne m r u) e k = quietly (phases.NotifyOne m r u) e tt (runs_on (phases.NotifyOne m r u) k)
-    by_phase (phases.NotifyAll m r) e k = quietly (phases.NotifyAll m r) e tt (runs_on (phases.NotifyAll m r) k)
-    by_phase (phases.Ending reason) e k = over reason (with_phase x (phases.Ended reason)) refl refl refl refl refl
-    by_phase (phases.Ended reason) e k = over reason x e refl refl refl refl
-
-    thread_kept : Owners (references_of (objects_of c.program (Some x) objects)) (counted_phase_at was t (event_of c s t (Some x)).threads) (event_of c s t (Some x))
-    thread_kept = by_owes (by_phase x.phase refl structured.is_as)
-      where
-        by_owes : Done x.phase → Owners (references_of (objects_of c.program (Some x) objects)) (counted_phase_at was t (event_of c s t (Some x)).threads) (event_of c s t (Some x))
-        by_owes h = owned_on c (references_of objects) (references_of (objects_by c.program x.phase objects)) was s owners structure t (words_after s.words (wanted c x x.phase)) x
-            (moved c x x.phase (found_by s.words (wanted c x x.phase))) there settings (same_cfg x.phase (found_by s.words (wanted c x x.phase))) h.0 h.1
-
-  -- ---- no thread
-
-  unmoved : slice_get s.threads t ≡ None → Owners (references_of objects) (counted_phase_at was t s.threads) s
-  unmoved e = record {
-    count = owners.count;
-    locks_are = owners.locks_are;
-    each = each;
-    apart = owners.apart;
-    within = owners.within;
-    few = owners.few;
-  }
+  over : (e : End) (y : Thread) → y.phase ≡ phases.Ended e → y.held ≡ x.held → y.cfg ≡ x.cfg → y.counts.locked ≡ x.counts.locked → y.attempt ≡ x.attempt → OwesOf (was t) (locks_in (references_of objects) s.words) y
+  over e y ph held cfg_is locked attempt = knowing mover (was t) own y held cfg_is locked attempt
+      (at (λ p. Knows (locks_in (references_of objects) s.words) t p) own.knows tt) (at (λ p. PhaseSaw (locks_in (references_of objects) s.words) owners.count p) own.take tt) (at (λ p. (i : ℕ) → drawn_by p ≡ Some i → drawn_by (was t) ≡ Some i) (λ i d. d) (λ i d. absurd (cc)))
     where
-      each : (u : ℕ) (y : Thread) → slice_get s.threads u ≡ Some y → Owns (locks_in (references_of objects) s.words) owners.count u (counted_phase_at was t s.threads u) y
-      each u y f = by_number (u == t) refl
-        where
-          by_number : (b : Bool) → (u == t) ≡ b → Owns (locks_in (references_of objects) s.words) owners.count u (cond b (counted_of (was t) (slice_get s.threads t)) (was u)) y
-          by_number true g = let bad : Some y ≡ None = sym f ∙ ap (slice_get s.threads) ((Decides-eqb u t).0 g) ∙ e in absurd (cc)
-          by_number false g = owners.each u y f
+      at : (P : Phase → Type 0) → P (was t) → P (phases.Ended e) → P (counted_by (was t) y.phase)
+      at P k m = subst (λ (p : Phase). P (counted_by (was t) p)) (sym ph) (ended_keeps P (was t) e k m)
 
-  event_kept : (o : Option Thread) → slice_get s.threads t ≡ o → Owners (references_of (objects_of c.program o objects)) (counted_phase_at was t (event_of c s t o).threads) (event_of c s t o)
-  event_kept None e = unmoved e
-  event_kept (Some x) e = thread_kept x e
+  -- ---- all phases
+
+  by_phase : (phase : Phase) → x.phase ≡ phase → IsAs phase (was t) → Done phase
+  by_phase phases.Idle e k = by_same phases.Idle k 0 refl (moves_plainly c x phases.Idle 0 tt (now_plain phases.Idle e tt)) tt
+  by_phase phases.Start e k = by_same phases.Start k 0 (same_tally c x phases.Start 0 tt) (moves_plainly c x phases.Start 0 tt (now_plain phases.Start e tt)) tt
+  by_phase phases.Run e k =
+      let got = found_by s.words (wanted c x phases.Run) in
+      let keeps = ran_keeps c x got in
+      quietly phases.Run e tt (plainly phases.Run k got keeps.held keeps.locked (moves_plainly c x phases.Run got tt (now_plain phases.Run e tt)) tt)
+  by_phase (phases.Element word stored) e k =
+      let got = found_by s.words (wanted c x (phases.Element word stored)) in
+      quietly (phases.Element word stored) e tt (by_same (phases.Element word stored) k got (same_tally c x (phases.Element word stored) got tt) (moves_plainly c x (phases.Element word stored) got tt (now_plain (phases.Element word stored) e tt)) tt)
+  by_phase (phases.Made a word) e k =
+      let got = found_by s.words (wanted c x (phases.Made a word)) in
+      quietly (phases.Made a word) e tt (by_same (phases.Made a word) k got (same_tally c x (phases.Made a word) got tt) (moves_plainly c x (phases.Made a word) got tt (now_plain (phases.Made a word) e tt)) tt)
+  by_phase (phases.Throw z class) e k =
+      let got = found_by s.words (looks x.attempt) in
+      looked x.attempt _ (by_same (phases.Throw z class) k got (same_tally c x (phases.Throw z class) got tt) (moves_plainly c x (phases.Throw z class) got tt (now_plain (phases.Throw z class) e tt)) tt)
+  by_phase (phases.Enter m n) e k = from (phases.Enter m n) _ _ k
+      (entered mover (phases.Enter m n) (own_as (phases.Enter m n) k) m n (may_try c x n) (held_at x.held m) x.attempt tt (now_plain (phases.Enter m n) e tt) refl refl (phase_reaches mover sites (phases.Enter m n) e))
+  by_phase (phases.Acquire m) e k = from (phases.Acquire m) _ _ k
+      (loaded mover (phases.Acquire m) (own_as (phases.Acquire m) k) m _
+      (acquired mover (phases.Acquire m) (own_as (phases.Acquire m) k) m (lock_of (slice_index s.words m)) tt
+      (lock_here mover (phases.Acquire m) (own_as (phases.Acquire m) k) m (lock_reached c.program objects s (Load m) (phase_reaches mover sites (phases.Acquire m) e)))))
+  by_phase (phases.Take m seen) e k = from (phases.Take m seen) _ _ k (took sites mover m seen (own_as (phases.Take m seen) k) (phase_reaches mover sites (phases.Take m seen) e))
+  by_phase (phases.Flag m u) e k = from (phases.Flag m u) _ _ k (flagged sites mover m u (own_as (phases.Flag m u) k) (phase_reaches mover sites (phases.Flag m u) e))
+  by_phase (phases.TakeFat m r) e k = from (phases.TakeFat m r) _ _ k (took_fat sites mover m r (own_as (phases.TakeFat m r) k))
+  by_phase (phases.Leave m after) e k = from (phases.Leave m after) _ _ k
+      (left sites mover m after (held_at x.held m) x.attempt (own_as (phases.Leave m after) k) (now_plain (phases.Leave m after) e tt) refl refl (phase_reaches mover sites (phases.Leave m after) e))
+  by_phase (phases.Grow m toward) e k = from (phases.Grow m toward) _ _ k (drawn sites mover m toward (own_as (phases.Grow m toward) k))
+  by_phase (phases.FlatOut m after) e k = from (phases.FlatOut m after) _ _ k
+      (flat_out sites mover m after (held_at x.held m) (own_as (phases.FlatOut m after) k) (now_plain (phases.FlatOut m after) e tt) refl
+      (phase_shows mover (phases.FlatOut m after) k).flat (phase_reaches mover sites (phases.FlatOut m after) e))
+  by_phase (phases.Own m r toward) e k = from (phases.Own m r toward) _ _ k (owned sites mover m r toward (own_as (phases.Own m r toward) k) (fits_bounds mover (phases.Own m r toward) e))
+  by_phase (phases.FatIn m r toward) e k = from (phases.FatIn m r toward) _ _ k
+      (fattened sites mover m r toward (held_at x.held m) (own_as (phases.FatIn m r toward) k) (fits_bounds mover (phases.FatIn m r toward) e) refl
+      (phase_shows mover (phases.FatIn m r toward) k).flat (phase_reaches mover sites (phases.FatIn m r toward) e))
+  by_phase (phases.WaitBit m r) e k = quietly (phases.WaitBit m r) e tt (from (phases.WaitBit m r) _ _ k
+      (knowing mover (phases.WaitBit m r) (own_as (phases.WaitBit m r) k) (with_phase x (phases.WaitOut m r)) refl refl refl refl tt tt (λ i d. absurd (cc))))
+  by_phase (phases.WaitOut m r) e k = from (phases.WaitOut m r) _ _ k
+      (gone_out sites mover m r (held_at x.held m) (own_as (phases.WaitOut m r) k) (fits_bounds mover (phases.WaitOut m r) e) refl (phase_shows mover (phases.WaitOut m r) k).1)
+  by_phase (phases.WaitLook m r depth) e k = from (phases.WaitLook m r depth) _ _ k
+      (loaded mover (phases.WaitLook m r depth) (own_as (phases.WaitLook m r depth) k) (bits_word r) _
+      (waited sites mover m r depth (has_flag (bit_of x.number) (slice_index s.words (bits_word r))) (own_as (phases.WaitLook m r depth) k)))
+  by_phase (phases.Retake m r depth) e k = from (phases.Retake m r depth) _ _ k (retook sites mover m r depth (own_as (phases.Retake m r depth) k))
+  by_phase (phases.NotifyLook m r) e k = loaded mover (was t) own (bits_word r) _
+      (notify_looks m r k (slice_index s.words (bits_word r) == 0) (lowest_of (slice_index s.words (bits_word r))))
+  by_phase (phases.NotifyOne m r u) e k = quietly (phases.NotifyOne m r u) e tt (runs_on (phases.NotifyOne m r u) k)
+  by_phase (phases.NotifyAll m r) e k = quietly (phases.NotifyAll m r) e tt (runs_on (phases.NotifyAll m r) k)
+  by_phase (phases.Ending reason) e k = over reason (with_phase x (phases.Ended reason)) refl refl refl refl refl
+  by_phase (phases.Ended reason) e k = over reason x e refl refl refl refl
+
+  pub thread_kept : Owners (references_of (objects_of c.program (Some x) objects)) (counted_phase_at was t (event_of c s t (Some x)).threads) (event_of c s t (Some x))
+  thread_kept =
+      let owes = by_phase x.phase refl structured.is_as in
+      owned_on mover (record {
+        later = references_of (objects_by c.program x.phase objects);
+        after = words_after s.words (wanted c x x.phase);
+        y = moved c x x.phase (found_by s.words (wanted c x x.phase));
+        same_cfg = same_cfg x.phase (found_by s.words (wanted c x x.phase));
+        more = owes.0;
+        owes = owes.1;
+      })
+
+-- ---- no thread
+
+unmoved : (state : LockState) (t : ℕ) → slice_get state.base.heap.s.threads t ≡ None
+    → Owners (references_of state.base.heap.objects) (counted_phase_at state.was t state.base.heap.s.threads) state.base.heap.s
+unmoved state t e = record {
+  count = state.owners.count;
+  locks_are = state.owners.locks_are;
+  each = λ u y f. subst (λ p. Owns (locks_of state.base.heap) state.owners.count u p y)
+      (sym (phase_stays state.was state.base.heap.s.threads t u y e f)) (state.owners.each u y f);
+  apart = state.owners.apart;
+  within = state.owners.within;
+  few = state.owners.few;
+}
 
 pub events_keep_owners : SitesDiffer → SitesLieInside → EventsReachSites → GivenIsKept → EventsKeepOwners
-events_keep_owners differ inside reach given c cfg objects was s t marked heap threads structure owners = event_kept differ inside reach given c cfg objects was s t marked heap threads structure owners (slice_get s.threads t) refl
+events_keep_owners differ inside reach given c cfg objects was s t marked heap threads structure owners = by_thread (slice_get s.threads t) refl
+  where
+    state : LockState
+    state = record { base = lawful_state c cfg objects s marked heap threads; was = was; structure = structure; owners = owners }
+
+    by_thread : (o : Option Thread) → slice_get s.threads t ≡ o → Owners (references_of (objects_of c.program o objects)) (counted_phase_at was t (event_of c s t o).threads) (event_of c s t o)
+    by_thread None e = unmoved state t e
+    by_thread (Some x) e = thread_kept (known_sites differ inside reach) given (mover_of state t x e)

@@ -1,18 +1,17 @@
 -- What an event leaves of the words for locking and of the counters.
-use Rattle.std.proofs.Common.{◌≡◌, ◌≢◌, ◌⊎◌, inl, inr, ℕ, zero, suc, ◌+◌, ◌*◌, ◌<◌, ◌≤◌, ◌^◌, Bool, true, false, List, ◌∷◌, length, Option, Some, None, refl, ap, sym, subst, ◌∙◌, arith, Contains, slice_get, slice_index, slice_set, ◌==◌, if◌then◌else◌}
+use Rattle.std.proofs.Common.{◌≡◌, ◌≢◌, ◌⊎◌, inl, inr, ℕ, zero, suc, ◌+◌, ◌*◌, ◌<◌, ◌≤◌, ◌^◌, Bool, true, false, List, ◌∷◌, length, Option, Some, None, refl, ap, sym, subst, ◌∙◌, arith, Contains, slice_index, slice_set, ◌==◌, if◌then◌else◌}
 use Rattle.lists.proofs.ListLaws.{same_some}
 use Rattle.jvm_types.specs.{ProgramInvariant.IsProgram, declared.{class_numbers.TheConstants.INT_ARRAY_CLASS, fixed_words.TheConstants.{NEXT_FREE_WORD, NEXT_TICKET_WORD, NEXT_RECORD_WORD}}}
 use Rattle.jvm_types.specs.declared.program.Program.{Program}
-use Rattle.checked_program.specs.MarkedProgram.{MarkedProgram, IsMarked}
-use Rattle.machine_types.specs.{Accesses.{accessed, left_by, performed, words_after}, Core.Core, Events.wanted, FoundWords.{Content, Lock, Owner, Bits, Any, content_at, IsHeader}, Frames.top_of}
-use Rattle.machine_types.specs.{Lawful.{IsLawful, within}, NewObjects.size_by, PlainMemory.{Object, new_object}, Structure.{IsStructured, Stands}, Threads.Thread, Typed.PhaseHolds}
-use Rattle.machine_types.specs.{Words.{header_word, header_class, header_length, array_size, object_size}, declared.access.Access.{Access, TheVariants.{Load, Store, Cas, Add, Or, And, Rest}}}
-use Rattle.machine_types.specs.declared.phase.Phase.{Phase}
+use Rattle.checked_program.specs.MarkedProgram.{MarkedProgram}
+use Rattle.machine_types.specs.{Accesses.{accessed, left_by, performed, words_after}, Events.wanted, FoundWords.{Content, Lock, Owner, Bits, Any, content_at, IsHeader}, Frames.top_of}
+use Rattle.machine_types.specs.{Lawful.within, NewObjects.size_by, PlainMemory.{Object, new_object}, Structure.{IsStructured, Stands}, Threads.Thread, Typed.PhaseHolds}
+use Rattle.machine_types.specs.{Words.{header_word, header_class, header_length, array_size, object_size}, declared.{access.Access.{Access, TheVariants.{Store, Rest}}, phase.Phase.Phase}}
 use Rattle.laws_threads.proofs.ThreadMove.{begun_by}
-use Rattle.laws_states.specs.{Counters.most_size, HeapFacts.{HeapFacts, objects_by}, LeftWords.LeftMayStand, SharedWords.{IsLock, MayStand, LocksFit, RecordsFit}}
-use Rattle.laws_states.specs.{SiteLaws.{EventsReachSites, SitesDiffer, SitesLieInside}, Sites.{Site, Counter, OwnerOf, BitsOf, LockOf, NewHeaderOf, site_word, IsThere, Suits, IsAccessOf, ReachesIf}}
+use Rattle.laws_states.specs.{Counters.most_size, HeapFacts.objects_by, LeftWords.LeftMayStand, SharedWords.{IsLock, MayStand, LocksFit, RecordsFit}}
+use Rattle.laws_states.specs.Sites.{Site, Counter, OwnerOf, BitsOf, LockOf, NewHeaderOf, site_word, IsThere, Suits, IsAccessOf, ReachesIf}
 use Rattle.laws_states.proofs.{CountedEvents.drawn_by, LeftSmall.{PhaseStores, IsMade, only_adds, added, adds_few, AddsFew}, LeftStands.word_is_lock, Lists.{same_or_not, set_here, set_there}}
-use Rattle.laws_states.proofs.TopStores.{stores_fit, stored_small}
+use Rattle.laws_states.proofs.{Movers.{KnownSites, HeapMover, few_threads}, TopStores.{stores_fit, stored_small}}
 use Rattle.machine_types.specs.declared.lock.LockWord.TheVariants as locks
 use Rattle.machine_types.specs.declared.phase.Phase.TheVariants as phases
 
@@ -46,7 +45,17 @@ some_words a p word = by_test (header_class word == INT_ARRAY_CLASS)
 header_small : (c : MarkedProgram) (word : ℕ) → IsProgram c.program → IsHeader c.program word → word < 2 ^ 64
 header_small c word is h = omega (arith, h.fits, is.heap_to)
 
-module _ (c : MarkedProgram) (objects : List Object) (s : Core) (t : ℕ) (x : Thread) (marked : IsMarked c) (heap : HeapFacts c objects s) (there : slice_get s.threads t ≡ Some x) (lawful : IsLawful c x) where
+-- an event has left the word of the site so
+pub record IsLeft (c : MarkedProgram) (words : List ℕ) (x : Thread) (site : Site) : Type 0 where
+  pub access : Access
+  pub wants : wanted c x x.phase ≡ Some access
+  pub suits : Suits (content_at c x x.phase) site
+  pub word : accessed access ≡ site_word site
+  pub left : slice_index (words_after words (wanted c x x.phase)) (site_word site) ≡ left_by access (slice_index words (site_word site))
+
+module _ (mover : HeapMover) where
+  open mover use {t, x, there, lawful, state.{c, marked, objects, s, facts}}
+
   pub phase_stores : PhaseStores c x x.phase
   phase_stores = by_phase x.phase refl lawful.structured lawful.typed.values.phase
     where
@@ -59,7 +68,7 @@ module _ (c : MarkedProgram) (objects : List Object) (s : Core) (t : ℕ) (x : T
           by_stored : (word : ℕ) (stored : Option ℕ) → Stands c (phases.Element word stored) x.frames x.held x.attempt → PhaseHolds c (within c.program) (phases.Element word stored) x.frames → (v : ℕ) → stored ≡ Some v → v < 2 ^ 64
           by_stored word None stands h v e = absurd (cc)
           by_stored word (Some u) stands h v e = let same : u ≡ v = cc in subst (λ (n : ℕ). n < 2 ^ 64) same (stored_small c marked x.frames word u h.1 stands.phase_shows h.0)
-      by_phase (phases.Made a word) e st h = header_small c word marked.checked.program (heap.new_headers t x a word there e)
+      by_phase (phases.Made a word) e st h = header_small c word marked.checked.program (facts.new_headers t x a word there e)
       by_phase phase e st h = tt
 
   abbrev pub after : List ℕ
@@ -67,28 +76,23 @@ module _ (c : MarkedProgram) (objects : List Object) (s : Core) (t : ℕ) (x : T
 
   -- ---- the word of a site is as it was, or its thread has left it so
 
-  pub record IsLeft (site : Site) : Type 0 where
-    pub access : Access
-    pub wants : wanted c x x.phase ≡ Some access
-    pub suits : Suits (content_at c x x.phase) site
-    pub word : accessed access ≡ site_word site
-    pub left : slice_index after (site_word site) ≡ left_by access (slice_index s.words (site_word site))
+  module _ (sites : KnownSites) where
+    open sites use {differ, inside, reach}
 
-  module _ (differ : SitesDiffer) (inside : SitesLieInside) (reach : EventsReachSites) where
     touched : (a : Access) → wanted c x x.phase ≡ Some a → performed s.words a ≡ slice_set s.words (accessed a) (left_by a (slice_index s.words (accessed a)))
         → IsAccessOf c.program objects s (content_at c x x.phase) a → (site : Site) → IsThere c.program objects s site
-        → (slice_index after (site_word site) ≡ slice_index s.words (site_word site)) ⊎ IsLeft site
+        → (slice_index after (site_word site) ≡ slice_index s.words (site_word site)) ⊎ IsLeft c s.words x site
     touched a e p k site is = by_word (same_or_not (site_word site) (accessed a))
       where
         sets : after ≡ slice_set s.words (accessed a) (left_by a (slice_index s.words (accessed a)))
         sets = ap (words_after s.words) e ∙ p
 
-        by_word : (site_word site ≡ accessed a) ⊎ (site_word site ≢ accessed a) → (slice_index after (site_word site) ≡ slice_index s.words (site_word site)) ⊎ IsLeft site
+        by_word : (site_word site ≡ accessed a) ⊎ (site_word site ≢ accessed a) → (slice_index after (site_word site) ≡ slice_index s.words (site_word site)) ⊎ IsLeft c s.words x site
         by_word (inr d) = inl (ap (λ (ws : List ℕ). slice_index ws (site_word site)) sets ∙ set_there s.words (accessed a) (site_word site) (left_by a (slice_index s.words (accessed a))) d)
         by_word (inl d) =
-            let same : k.site ≡ site = differ c objects s k.site site marked heap k.there is (sym k.word ∙ sym d) in
+            let same : k.site ≡ site = differ c objects s k.site site marked facts k.there is (sym k.word ∙ sym d) in
             let here : slice_index (slice_set s.words (accessed a) (left_by a (slice_index s.words (accessed a)))) (accessed a) ≡ left_by a (slice_index s.words (accessed a)) =
-            set_here s.words (accessed a) _ (subst (λ (n : ℕ). n < length s.words) (sym k.word) (inside c objects s k.site marked heap k.there)) in
+            set_here s.words (accessed a) _ (subst (λ (n : ℕ). n < length s.words) (sym k.word) (inside c objects s k.site marked facts k.there)) in
             inr (record {
               access = a;
               wants = e;
@@ -98,34 +102,29 @@ module _ (c : MarkedProgram) (objects : List Object) (s : Core) (t : ℕ) (x : T
                   ∙ subst (λ (n : ℕ). slice_index (slice_set s.words (accessed a) (left_by a (slice_index s.words (accessed a)))) n ≡ left_by a (slice_index s.words n)) (sym d) here;
             })
 
-    pub word_at : (site : Site) → IsThere c.program objects s site → (slice_index after (site_word site) ≡ slice_index s.words (site_word site)) ⊎ IsLeft site
-    word_at site is = by_access (wanted c x x.phase) refl (reach c objects s t x marked heap there lawful)
+    pub word_at : (site : Site) → IsThere c.program objects s site → (slice_index after (site_word site) ≡ slice_index s.words (site_word site)) ⊎ IsLeft c s.words x site
+    word_at site is = by_access (wanted c x x.phase) refl (reach c objects s t x marked facts there lawful)
       where
-        by_access : (a : Option Access) → wanted c x x.phase ≡ a → ReachesIf c.program objects s (content_at c x x.phase) a → (slice_index after (site_word site) ≡ slice_index s.words (site_word site)) ⊎ IsLeft site
+        by_access : (a : Option Access) → wanted c x x.phase ≡ a → ReachesIf c.program objects s (content_at c x x.phase) a → (slice_index after (site_word site) ≡ slice_index s.words (site_word site)) ⊎ IsLeft c s.words x site
         by_access None e k = inl (ap (λ (a : Option Access). slice_index (words_after s.words a) (site_word site)) e)
         by_access (Some Rest) e k = inl (ap (λ (a : Option Access). slice_index (words_after s.words a) (site_word site)) e)
-        by_access (Some (Load w)) e k = touched (Load w) e refl k site is
-        by_access (Some (Store w v)) e k = touched (Store w v) e refl k site is
-        by_access (Some (Cas w n v)) e k = touched (Cas w n v) e refl k site is
-        by_access (Some (Add w v)) e k = touched (Add w v) e refl k site is
-        by_access (Some (Or w v)) e k = touched (Or w v) e refl k site is
-        by_access (Some (And w v)) e k = touched (And w v) e refl k site is
+        by_access (Some a) e k = touched a e refl k site is
 
     -- ---- words for locking
 
-    module _ (leaves : LeftMayStand) (few : x.number ≤ 8) where
+    module _ (leaves : LeftMayStand) where
       -- where the content of the event's access is that of the site
       stands : (site : Site) (content : Content) → IsThere c.program objects s site → (Suits (content_at c x x.phase) site → content_at c x x.phase ≡ content)
           → MayStand x.cfg.range content (slice_index s.words (site_word site)) → MayStand x.cfg.range content (slice_index after (site_word site))
       stands site content is suits may = by_cases (word_at site is)
         where
-          by_cases : (slice_index after (site_word site) ≡ slice_index s.words (site_word site)) ⊎ IsLeft site → MayStand x.cfg.range content (slice_index after (site_word site))
+          by_cases : (slice_index after (site_word site) ≡ slice_index s.words (site_word site)) ⊎ IsLeft c s.words x site → MayStand x.cfg.range content (slice_index after (site_word site))
           by_cases (inl e) = subst (MayStand x.cfg.range content) (sym e) may
           by_cases (inr k) =
               let same : content_at c x x.phase ≡ content = suits k.suits in
               let found : MayStand x.cfg.range (content_at c x x.phase) (slice_index s.words (site_word site)) = subst (λ (n : Content). MayStand x.cfg.range n (slice_index s.words (site_word site))) (sym same) may in
               subst (MayStand x.cfg.range content) (sym k.left) (subst (λ (n : Content). MayStand x.cfg.range n (left_by k.access (slice_index s.words (site_word site)))) same
-              (leaves c x k.access (slice_index s.words (site_word site)) few lawful.bounded k.wants found))
+              (leaves c x k.access (slice_index s.words (site_word site)) (few_threads mover) lawful.bounded k.wants found))
 
       pub records_fit : RecordsFit s.words → RecordsFit after
       records_fit h = record {
@@ -139,7 +138,7 @@ module _ (c : MarkedProgram) (objects : List Object) (s : Core) (t : ℕ) (x : T
       -- the lock of a new object is free
       new_lock : (a word : ℕ) → x.phase ≡ phases.Made a word → IsLock x.cfg.range (slice_index after a)
       new_lock a word e =
-          let new = heap.new_objects.each t x a word there e in
+          let new = facts.new_objects.each t x a word there e in
           let zero_there : slice_index s.words a ≡ 0 = new.empty a (omega arith) (some_words a c.program word) in
           let stays : slice_index after a ≡ slice_index s.words a = ap (λ (phase : Phase). slice_index (words_after s.words (wanted c x phase)) a) e ∙ set_there s.words (header_word a) a word (λ k. omega (arith, k)) in
           subst (IsLock x.cfg.range) (sym (stays ∙ zero_there)) (word_is_lock x.cfg.range (locks.Free 0) (omega arith))
@@ -165,15 +164,15 @@ module _ (c : MarkedProgram) (objects : List Object) (s : Core) (t : ℕ) (x : T
         ⊎ ((access : Access) × (wanted c x x.phase ≡ Some access) × (accessed access ≡ w) × (slice_index after w ≤ slice_index s.words w + added access))
     counter_left w is = by_cases (word_at (Counter w) is)
       where
-        made_not : IsLeft (Counter w) → (phase : Phase) → x.phase ≡ phase → IsMade phase → ⊥
+        made_not : IsLeft c s.words x (Counter w) → (phase : Phase) → x.phase ≡ phase → IsMade phase → ⊥
         made_not k (phases.Made a word) e made =
             let wants : Some (Store (header_word a) word) ≡ Some k.access = ap (λ (phase : Phase). wanted c x phase) (sym e) ∙ k.wants in
             let same : header_word a ≡ w = ap accessed (same_some wants) ∙ k.word in
-            let sites : NewHeaderOf a ≡ Counter w = differ c objects s (NewHeaderOf a) (Counter w) marked heap (t, x, word, there, e) is same in
+            let sites : NewHeaderOf a ≡ Counter w = differ c objects s (NewHeaderOf a) (Counter w) marked facts (t, x, word, there, e) is same in
             absurd (cc)
         made_not k phase e made = absurd made
 
-        by_cases : (slice_index after w ≡ slice_index s.words w) ⊎ IsLeft (Counter w) → (slice_index after w ≡ slice_index s.words w)
+        by_cases : (slice_index after w ≡ slice_index s.words w) ⊎ IsLeft c s.words x (Counter w) → (slice_index after w ≡ slice_index s.words w)
             ⊎ ((access : Access) × (wanted c x x.phase ≡ Some access) × (accessed access ≡ w) × (slice_index after w ≤ slice_index s.words w + added access))
         by_cases (inl e) = inl e
         by_cases (inr k) =

@@ -1,5 +1,5 @@
 -- What an event finds of headers, fields and elements is what stands there.
-use Rattle.std.proofs.Common.{◌≡◌, ℕ, ◌<◌, ◌^◌, inl, inr, true, List, [], ◌∷◌, length, Option, Some, None, refl, ap, sym, subst, ◌∙◌, arith, slice_get, slice_index, IsSome}
+use Rattle.std.proofs.Common.{◌≡◌, ℕ, ◌<◌, ◌^◌, inl, inr, true, List, [], ◌∷◌, length, Option, Some, None, refl, ap, sym, subst, ◌∙◌, arith, slice_index, IsSome}
 use Rattle.lists.proofs.ListLaws.{same_some}
 use Rattle.jvm_types.specs.{ClassNames.is_throwable, ProgramInvariant.IsProgram, declared.{class_numbers.TheConstants.{INT_ARRAY_CLASS, THROWABLE_CLASS}, code.Insn.Insn, op_row.OpRow.OpRow}}
 use Rattle.jvm_types.specs.declared.{outcome.Thrown.Thrown, program.{FieldInfo.FieldInfo, Kind.Kind, MethodInfo.MethodInfo, Target.Target}}
@@ -7,19 +7,32 @@ use Rattle.laws_programs.proofs.ClassTreeLaws.{leaves_alone, throwables_below}
 use Rattle.checked_program.specs.{MarkedProgram.{MarkedProgram, IsMarked}, TaggedCode.row_of}
 use Rattle.machine_types.specs.{Accesses.found_by, Core.Core, Events.{element_wants, wanted}}
 use Rattle.machine_types.specs.{FoundWords.{IsHeader, WordFits, kind_content, variable_content, effect_content, run_content, leave_content, content_at}, Frames.{Top, top_of, effect_at}}
-use Rattle.machine_types.specs.{Instructions.{effect_wants, run_wants}, Lawful.IsLawful, Monitors.{Claim, Has, Tries, HasNot, claim}, PlainMemory.{Object, header_of}}
-use Rattle.machine_types.specs.{ReadyObjects.{class_of, thrown_of}, Structure.IsAs, Threads.{Frame, Thread}, Typed.{KindHolds, FramesHold, HasClass, PhaseHolds}}
-use Rattle.machine_types.specs.{Words.{header_class, header_length, header_word, variable_word}, declared.effect.Effect.Effect}
-use Rattle.machine_types.specs.declared.effect.Effect.TheVariants.{Goes, Throws, Reads, Writes, Indexes, Measures, Raises, Makes, Prints, Calls, Returns, Enters, Leaves, Waits, Notifies, NotifiesAll, Stuck}
-use Rattle.machine_types.specs.declared.{effect.Variable.Variable, lock.Kept.Kept, phase.Phase.Phase}
+use Rattle.machine_types.specs.{Instructions.{effect_wants, run_wants}, Monitors.{Claim, Has, Tries, HasNot, claim}, PlainMemory.{Object, header_of}, ReadyObjects.{class_of, thrown_of}}
+use Rattle.machine_types.specs.{Threads.{Frame, Thread}, Typed.{KindHolds, FramesHold, HasClass, PhaseHolds}, Words.{header_class, header_length, header_word, variable_word}}
+use Rattle.machine_types.specs.declared.{effect.{Effect.{Effect, TheVariants.{Goes, Reads, Writes, Indexes, Measures, Raises, Calls, Stuck}}, Variable.Variable}, lock.Kept.Kept, phase.Phase.Phase}
 use Rattle.laws_threads.{specs.Allowed.{IsOf, IsNamedField, Allowed}, proofs.{KeptPhases.PhaseFinds, Landing.stand_top, Onwards.FoundHolds, Standings.top_here, TopEffects.allowed_here}}
 use Rattle.laws_states.{specs.{FoundLaws.{IsOfHeap, HeapWordsFit}, HeapFacts.HeapFacts}, proofs.Accesses.{out_there, read_holds, content_is, ElementSite, element_site, element_small}}
-use Rattle.laws_states.proofs.{Headers.{array_length, class_small, thrown_is, thrown_some, throwable_small}, Lists.contained_got, Phases.{Asks, asked}}
+use Rattle.laws_states.proofs.{Headers.{array_length, class_small, thrown_is, thrown_some, throwable_small}, Lists.contained_got, Movers.{HeapState, HeapMover, heap_mover}, Phases.asked}
 use Rattle.jvm_types.specs.declared.program.Kind.TheVariants as kinds
 use Rattle.machine_types.specs.declared.lock.Kept.TheVariants as keeps
 use Rattle.machine_types.specs.declared.phase.Phase.TheVariants as phases
 
-module _ (c : MarkedProgram) (marked : IsMarked c) (objects : List Object) (s : Core) (facts : HeapFacts c objects s) where
+header_found : (c : MarkedProgram) (objects : List Object) (s : Core) → HeapFacts c objects s
+    → (class a : ℕ) (k : IsOf (HasClass objects) class a) → slice_index s.words (header_word a) ≡ header_of k.2.0
+header_found c objects s facts class a k =
+    sym (ap (λ n. slice_index s.words (header_word n)) k.2.2) ∙ facts.typed.places.headers k.2.0 k.2.1
+
+-- an array's length
+pub length_found : (c : MarkedProgram) (marked : IsMarked c) (objects : List Object) (s : Core)
+    → HeapFacts c objects s → (a : ℕ) (k : IsOf (HasClass objects) INT_ARRAY_CLASS a)
+    → header_length (slice_index s.words (header_word a)) ≡ length k.2.0.values
+length_found c marked objects s facts a k =
+    let class : k.1 ≡ INT_ARRAY_CLASS = leaves_alone k.1 INT_ARRAY_CLASS refl k.3 in
+    ap header_length (header_found c objects s facts INT_ARRAY_CLASS a k) ∙ array_length k.2.0 (k.2.3 ∙ class)
+
+module _ (state : HeapState) where
+  open state use {c, marked, objects, s, facts}
+
   is_program : IsProgram c.program
   is_program = marked.checked.program
 
@@ -37,21 +50,12 @@ module _ (c : MarkedProgram) (marked : IsMarked c) (objects : List Object) (s : 
   variable_fits : (target : Target) (v : Variable) (f : FieldInfo) → IsNamedField c.program (HasClass objects) target v f → WordFits c.program (variable_content c.program target) (slice_index s.words (variable_word v))
   variable_fits target v f at =
       subst (λ content. WordFits c.program content (slice_index s.words (variable_word v))) (sym (content_is c marked objects s facts target v f at))
-      (kind_fits f.kind (slice_index s.words (variable_word v)) (read_holds c marked objects s facts target v f at))
+      (kind_fits f.kind (slice_index s.words (variable_word v)) (read_holds state target v f at))
 
   -- ---- headers
 
-  header_found : (class a : ℕ) (k : IsOf (HasClass objects) class a) → slice_index s.words (header_word a) ≡ header_of k.2.0
-  header_found class a k = sym (ap (λ n. slice_index s.words (header_word n)) k.2.2) ∙ facts.typed.places.headers k.2.0 k.2.1
-
   header_fits : (class a : ℕ) → IsOf (HasClass objects) class a → IsHeader c.program (slice_index s.words (header_word a))
-  header_fits class a k = subst (IsHeader c.program) (sym (header_found class a k)) (facts.headers k.2.0 k.2.1)
-
-  -- an array's length
-  pub length_found : (a : ℕ) (k : IsOf (HasClass objects) INT_ARRAY_CLASS a) → header_length (slice_index s.words (header_word a)) ≡ length k.2.0.values
-  length_found a k =
-      let class : k.1 ≡ INT_ARRAY_CLASS = leaves_alone k.1 INT_ARRAY_CLASS refl k.3 in
-      ap header_length (header_found INT_ARRAY_CLASS a k) ∙ array_length k.2.0 (k.2.3 ∙ class)
+  header_fits class a k = subst (IsHeader c.program) (sym (header_found c objects s facts class a k)) (facts.headers k.2.0 k.2.1)
 
   -- a throwable's class
   thrown_class : (a : ℕ) (k : IsOf (HasClass objects) THROWABLE_CLASS a) → (is_throwable k.1 ≡ true) × (header_class (slice_index s.words (header_word a)) ≡ k.1)
@@ -59,7 +63,7 @@ module _ (c : MarkedProgram) (marked : IsMarked c) (objects : List Object) (s : 
       let below : is_throwable k.1 ≡ true = sym (throwables_below k.1) ∙ k.3 in
       let small = throwable_small k.1 below in
       let class : k.2.0.class ≡ k.1 = k.2.3 in
-      (below, ap header_class (header_found THROWABLE_CLASS a k) ∙ (class_small k.2.0 (omega (arith, class, small.1)) ∙ class))
+      (below, ap header_class (header_found c objects s facts THROWABLE_CLASS a k) ∙ (class_small k.2.0 (omega (arith, class, small.1)) ∙ class))
 
   raise_fits : (a : ℕ) → IsOf (HasClass objects) THROWABLE_CLASS a → IsSome (thrown_of (header_class (slice_index s.words (header_word a))))
   raise_fits a k = let t = thrown_class a k in subst (λ d. IsSome (thrown_of d)) (sym t.1) (thrown_some k.1 t.0)
@@ -81,16 +85,8 @@ module _ (c : MarkedProgram) (marked : IsMarked c) (objects : List Object) (s : 
   effect_found x m insn target r stack pc (Indexes a i stored) al heap = header_fits INT_ARRAY_CLASS a al.1
   effect_found x m insn target r stack pc (Measures a) al heap = header_fits INT_ARRAY_CLASS a al.1
   effect_found x m insn target r stack pc (Raises a) al heap = (header_fits THROWABLE_CLASS a al.1, raise_fits a al.1)
-  effect_found x m insn target r stack pc (Makes word size) al heap = tt
-  effect_found x m insn target r stack pc (Prints n) al heap = tt
-  effect_found x m insn target r stack pc (Throws class) al heap = tt
-  effect_found x m insn target r stack pc Returns al heap = tt
-  effect_found x m insn target r stack pc (Enters n) al heap = tt
-  effect_found x m insn target r stack pc (Leaves n) al heap = tt
-  effect_found x m insn target r stack pc (Waits n) al heap = tt
-  effect_found x m insn target r stack pc (Notifies n) al heap = tt
-  effect_found x m insn target r stack pc (NotifiesAll n) al heap = tt
   effect_found x m insn target r stack pc Stuck al heap = absurd al
+  effect_found x m insn target r stack pc e al heap = tt
 
   run_found : (x : Thread) (fs : List Frame) → FramesHold c (HasClass objects) fs → IsOfHeap (run_content c.program (top_of c.program fs))
       → WordFits c.program (run_content c.program (top_of c.program fs)) (found_by s.words (run_wants c.program x (top_of c.program fs)))
@@ -105,7 +101,7 @@ module _ (c : MarkedProgram) (marked : IsMarked c) (objects : List Object) (s : 
 
   effect_holds : (x : Thread) (m : MethodInfo) (insn : Insn) (target : Target) (r : OpRow) (stack : List ℕ) (pc : ℕ) (e : Effect) → Allowed c.program m (HasClass objects) insn target r stack e
       → FoundHolds c.program (HasClass objects) target e (found_by s.words (effect_wants x pc e))
-  effect_holds x m insn target r stack pc (Reads v) al = λ f at. read_holds c marked objects s facts target v f at
+  effect_holds x m insn target r stack pc (Reads v) al = λ f at. read_holds state target v f at
   effect_holds x m insn target r stack pc (Measures a) al = omega (arith, (header_fits INT_ARRAY_CLASS a al.1).fits, is_program.heap_to)
   effect_holds x m insn target r stack pc (Raises a) al = raise_holds a al.1
   effect_holds x m insn target r stack pc e al = tt
@@ -124,9 +120,9 @@ module _ (c : MarkedProgram) (marked : IsMarked c) (objects : List Object) (s : 
 
   -- ---- an element
 
-  pub element_found : (word : ℕ) (stored : Option ℕ) → ElementSite c marked objects s facts word stored → found_by s.words (Some (element_wants word stored)) < 2 ^ 32
-  element_found word None k = element_small c marked objects s facts word None k
-  element_found word (Some v) k = element_small c marked objects s facts word (Some v) k
+  pub element_found : (word : ℕ) (stored : Option ℕ) → ElementSite objects word stored → found_by s.words (Some (element_wants word stored)) < 2 ^ 32
+  element_found word None k = element_small state word None k
+  element_found word (Some v) k = element_small state word (Some v) k
 
   -- ---- all phases
 
@@ -139,25 +135,26 @@ module _ (c : MarkedProgram) (marked : IsMarked c) (objects : List Object) (s : 
   no_heap_left (Tries a) heap = heap
   no_heap_left HasNot heap = heap
 
-  module _ (t : ℕ) (x : Thread) (there : slice_get s.threads t ≡ Some x) (lawful : IsLawful c x) where
-    found_fits : (phase : Phase) → x.phase ≡ phase → IsOfHeap (content_at c x phase) → WordFits c.program (content_at c x phase) (found_by s.words (wanted c x phase))
-    found_fits phases.Run e heap =
-        let typed = facts.typed.threads t x there in
-        run_found x x.frames (subst (λ y. PhaseHolds c (HasClass objects) y x.frames) e typed.phase) heap
-    found_fits (phases.Element word stored) e heap =
-        let typed = facts.typed.threads t x there in
-        let h : PhaseHolds c (HasClass objects) (phases.Element word stored) x.frames = subst (λ y. PhaseHolds c (HasClass objects) y x.frames) e typed.phase in
-        let k : Asks c objects (phases.Element word stored) x.frames x.held = asked c objects lawful.was x.frames x.held x.attempt lawful.structured.stands (phases.Element word stored)
-        (subst (λ y. IsAs y lawful.was) e lawful.structured.is_as) (λ w v g. facts.typed.elements t x w v there (e ∙ g)) in
-        element_found word stored (element_site c marked objects s facts word stored x.frames h.0 h.1 k.0 k.1)
-    found_fits (phases.Leave m a) e heap = absurd (no_heap_left (claim x m) heap)
-    found_fits phases.Idle e heap = tt
-    found_fits phases.Start e heap = tt
-    found_fits (phases.Made a word) e heap = tt
-    found_fits (phases.Grow m toward) e heap = tt
-    found_fits (phases.Ending y) e heap = tt
-    found_fits (phases.Ended y) e heap = tt
-    found_fits phase e heap = absurd heap
+module _ (mover : HeapMover) where
+  open mover use {t, x, there, state, state.{c, objects, s, facts}}
+
+  found_fits : (phase : Phase) → x.phase ≡ phase → IsOfHeap (content_at c x phase) → WordFits c.program (content_at c x phase) (found_by s.words (wanted c x phase))
+  found_fits phases.Run e heap =
+      let typed = facts.typed.threads t x there in
+      run_found state x x.frames (subst (λ y. PhaseHolds c (HasClass objects) y x.frames) e typed.phase) heap
+  found_fits (phases.Element word stored) e heap =
+      let typed = facts.typed.threads t x there in
+      let h : PhaseHolds c (HasClass objects) (phases.Element word stored) x.frames = subst (λ y. PhaseHolds c (HasClass objects) y x.frames) e typed.phase in
+      let k = asked mover (phases.Element word stored) e in
+      element_found state word stored (element_site state word stored x.frames h.0 h.1 k.0 k.1)
+  found_fits (phases.Leave m a) e heap = absurd (no_heap_left state (claim x m) heap)
+  found_fits phases.Idle e heap = tt
+  found_fits phases.Start e heap = tt
+  found_fits (phases.Made a word) e heap = tt
+  found_fits (phases.Grow m toward) e heap = tt
+  found_fits (phases.Ending y) e heap = tt
+  found_fits (phases.Ended y) e heap = tt
+  found_fits phase e heap = absurd heap
 
 pub heap_fits : HeapWordsFit
-heap_fits c objects s t x marked facts there lawful heap = found_fits c marked objects s facts t x there lawful x.phase refl heap
+heap_fits c objects s t x marked facts there lawful = found_fits (heap_mover c marked objects s facts t x there lawful) x.phase refl

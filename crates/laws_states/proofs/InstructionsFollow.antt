@@ -6,7 +6,7 @@ use Rattle.jvm_types.specs.declared.program.{MethodInfo.MethodInfo, Program.Prog
 use Rattle.machine_types.specs.Elision.{is_checked, is_same, fails, if_same, put_back}
 use Rattle.machine_types.specs.Frames.{Top, top_of, frames_of, effect_at, given, given_back, has_room, entry_frame, arguments_of, monitor_of, returned, waiting, went, went_on}
 use Rattle.machine_types.specs.{Going.{goes_on, goes_on_if}, HeldMonitors.held_at, Instructions.{begun, has_print_left, if_held, waits, notifies, did, instructed, ran}, Ints.low}
-use Rattle.machine_types.specs.{Onward.{Onward, Running, Throwing, Entering, Leaving, RootReturned, Uncaught, threw, entered, called, back}, ReadyObjects.thrown_of, Threads.{Attempt, Frame, Thread}}
+use Rattle.machine_types.specs.{Onward.{Onward, Running, Throwing, Entering, Leaving, RootReturned, threw, entered, called, back}, ReadyObjects.thrown_of, Threads.{Attempt, Frame, Thread}}
 use Rattle.machine_types.specs.{Words.{header_class, header_length}, declared.effect.Effect.Effect}
 use Rattle.machine_types.specs.declared.effect.Effect.TheVariants.{Goes, Throws, Reads, Writes, Indexes, Measures, Raises, Makes, Prints, Calls, Returns, Enters, Leaves, Waits, Notifies, NotifiesAll, Stuck}
 use Rattle.machine_types.{specs.declared.{lock.{Held.Held, Kept.Kept}, phase.{After.TheVariants.{Next, Return}, Phase.Phase}}, proofs.PlainPartLaws.frames_are}
@@ -50,12 +50,8 @@ module _ (s : Thread) where
   stays = record { cfg = refl; instructions = refl; roots = refl; turns = as_many; frames = omega arith }
 
   goes : (o : Onward) → length (frames_in o) ≤ suc (length s.frames) → Follows (goes_on s o)
-  goes (Running frames) h = record { cfg = refl; instructions = refl; roots = refl; turns = as_many; frames = h }
-  goes (Throwing x class frames) h = record { cfg = refl; instructions = refl; roots = refl; turns = as_many; frames = h }
   goes (Entering m frames) h = record { cfg = refl; instructions = refl; roots = refl; turns = none; frames = h }
-  goes (Leaving m a frames) h = record { cfg = refl; instructions = refl; roots = refl; turns = as_many; frames = h }
-  goes RootReturned h = record { cfg = refl; instructions = refl; roots = refl; turns = as_many; frames = h }
-  goes (Uncaught class) h = record { cfg = refl; instructions = refl; roots = refl; turns = as_many; frames = h }
+  goes o h = record { cfg = refl; instructions = refl; roots = refl; turns = as_many; frames = h }
 
   -- ---- an instruction
 

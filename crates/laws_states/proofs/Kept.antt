@@ -1,14 +1,14 @@
 -- An event, and the begin of a part, keep what the words hold of objects and places.
 use Rattle.std.proofs.Common.{◌≡◌, ◌⊎◌, inl, inr, ℕ, List, [], ◌∷◌, Option, Some, None, refl, ap, sym, subst, ◌∙◌, slice_get, slice_index, slice_set}
 use Rattle.jvm_types.specs.declared.{fixed_words.TheConstants.NEXT_FREE_WORD, program.Program.Program}
-use Rattle.checked_program.specs.MarkedProgram.{MarkedProgram, IsMarked}
-use Rattle.machine_types.specs.{Accesses.{found_by, words_after}, Core.{Core, event_of, next}, Events.{wanted, moved}, FoundWords.content_at, Lawful.IsLawful, NewObjects.{size_by, IsNewObject}}
+use Rattle.checked_program.specs.MarkedProgram.{MarkedProgram}
+use Rattle.machine_types.specs.{Accesses.{found_by, words_after}, Core.{Core, event_of, next}, Events.{wanted, moved}, FoundWords.content_at, NewObjects.{size_by, IsNewObject}}
 use Rattle.machine_types.specs.{PlainMemory.{Object, new_object}, StartLaws.StartLiesApart, Structure.{IsAs, PhaseShows, IsStructured, Structure}, Threads.{Frame, Thread}}
 use Rattle.machine_types.specs.{Typed.{Classes, HasClass, HasElementIn, FramesHold, AttemptHolds, PhaseHolds, ThreadHolds}, Words.header_word, declared.phase.Phase.Phase}
 use Rattle.laws_threads.{specs.StructureLaws.StructureIsKept, proofs.KeptPhases.PhaseFinds}
 use Rattle.laws_states.{specs.{HeapFacts.{IsWaitOn, HoldsObjects, HeapFacts, objects_by, objects_of}, HeapLaws.{EventsKeepHeap, NextKeepsHeap}}, proofs.Assembled.{Behind, Became, assembled}}
 use Rattle.laws_states.proofs.{BegunThreads.{StartsOrEnded, Begins, begun}, Leads.{Leads, phase_leads}, Lifted.{thread_up, monitors_up, element_up}, Moves.{has_objects, old_finds, moved_values}}
-use Rattle.laws_states.proofs.{NewHeader.{behind_new, class_new}, Phases.{IsOldPhase, old_fits}, Quiet.AllHeld, WordSteps.{WordsGoOn, words_go_on}}
+use Rattle.laws_states.proofs.{Movers.{HeapMover, heap_mover}, NewHeader.{behind_new, class_new, Maker}, Phases.{IsOldPhase, old_fits}, Quiet.AllHeld, WordSteps.{WordsGoOn, words_go_on}}
 use Rattle.jvm_types.specs.declared.outcome.End.TheVariants as ends
 use Rattle.machine_types.specs.declared.phase.Phase.TheVariants as phases
 
@@ -22,107 +22,110 @@ new_or_old : (phase : Phase) → IsOldPhase phase ⊎ ((a : ℕ) × (word : ℕ)
 new_or_old (phases.Made a word) = inr (a, word, refl)
 new_or_old phase = inl tt
 
-module _ (keeps : StructureIsKept) (lies : StartLiesApart) (c : MarkedProgram) (marked : IsMarked c) (objects : List Object) (s : Core) (facts : HeapFacts c objects s) (t : ℕ) where
-  module _ (x : Thread) (there : slice_get s.threads t ≡ Some x) (lawful : IsLawful c x) where
-    abbrev after : List ℕ
-    after = words_after s.words (wanted c x x.phase)
+module _ (keeps : StructureIsKept) (lies : StartLiesApart) (mover : HeapMover) where
+  open mover use {t, x, there, lawful, state.{c, marked, objects, s, facts}}
 
-    abbrev got : ℕ
-    got = found_by s.words (wanted c x x.phase)
+  abbrev after : List ℕ
+  after = words_after s.words (wanted c x x.phase)
 
-    abbrev now : Thread
-    now = moved c x x.phase (found_by s.words (wanted c x x.phase))
+  abbrev got : ℕ
+  got = found_by s.words (wanted c x x.phase)
 
-    abbrev state : Core
-    state = record { words = words_after s.words (wanted c x x.phase); threads = slice_set s.threads t (moved c x x.phase (found_by s.words (wanted c x x.phase))) }
+  abbrev now : Thread
+  now = moved c x x.phase (found_by s.words (wanted c x x.phase))
 
-    leads : Leads c objects s after now
-    leads = let monitors = facts.monitors t x there in let typed = facts.typed.threads t x there in phase_leads c marked objects s facts x x.phase refl monitors.held typed.phase monitors.waits
+  abbrev state : Core
+  state = record { words = words_after s.words (wanted c x x.phase); threads = slice_set s.threads t (moved c x x.phase (found_by s.words (wanted c x x.phase))) }
 
-    -- ---- where no header is stored for the first time
+  leads : Leads c objects s after now
+  leads = let monitors = facts.monitors t x there in let typed = facts.typed.threads t x there in phase_leads mover.state x x.phase refl monitors.held typed.phase monitors.waits
 
-    old_behind : IsOldPhase x.phase → Behind c objects objects s t after
-    old_behind old =
-        let w : WordsGoOn c objects s after =
-        words_go_on lies c marked objects s facts (content_at c x x.phase) (wanted c x x.phase) (old_fits c marked objects s facts t x there lawful old) in
-        record {
-          up = λ o k. k;
-          long = w.long;
-          free = w.free;
-          unused = w.unused;
-          apart = facts.apart;
-          places = w.places;
-          headers = facts.headers;
-          new = λ u z a word n differ e m from to. w.new a n (record { t = u; thread = z; word = word; there = e; made = m; from = from; to = to });
-          beside = λ u z a word differ e m o k. let new = facts.new_objects.each u z a word e m in new.beside o k;
-        }
+  -- ---- where no header is stored for the first time
 
-    old_became : IsOldPhase x.phase → Became c objects s after now
-    old_became old =
-        let typed = facts.typed.threads t x there in
-        let has = has_objects c marked objects s facts objects (slice_index s.words NEXT_FREE_WORD) (λ o k. k) facts.apart in
+  old_behind : IsOldPhase x.phase → Behind c objects objects s t after
+  old_behind old =
+      let w : WordsGoOn c objects s after =
+      words_go_on lies mover.state (content_at c x x.phase) (wanted c x x.phase) (old_fits mover old) in
+      record {
+        up = λ o k. k;
+        long = w.long;
+        free = w.free;
+        unused = w.unused;
+        apart = facts.apart;
+        places = w.places;
+        headers = facts.headers;
+        new = λ u z a word n differ e m from to. w.new a n (record { t = u; thread = z; word = word; there = e; made = m; from = from; to = to });
+        beside = λ u z a word differ e m o k. let new = facts.new_objects.each u z a word e m in new.beside o k;
+      }
+
+  old_became : IsOldPhase x.phase → Became c objects s after now
+  old_became old =
+      let typed = facts.typed.threads t x there in
+      let has = has_objects mover.state objects (slice_index s.words NEXT_FREE_WORD) (λ o k. k) facts.apart in
+      let l = leads in
+      record {
+        values = moved_values keeps c marked (HasClass objects) has x lawful typed got (old_finds mover x.phase refl old typed.phase);
+        monitors = l.monitors;
+        element = l.element;
+        made = l.made;
+      }
+
+  old_kept : IsOldPhase x.phase → HeapFacts c (objects_by c.program x.phase objects) state
+  old_kept old =
+      subst (λ os. HeapFacts c os state) (sym (objects_old c.program x.phase objects old))
+      (assembled (record { before = mover.state; later = objects; t = t; after = after; y = now; behind = old_behind old; became = old_became old }))
+
+  -- ---- where one is
+
+  module _ (a word : ℕ) (made : x.phase ≡ phases.Made a word) where
+    abbrev maker : Maker
+    maker = record { mover = mover; a = a; word = word; made = made }
+
+    abbrev later : List Object
+    later = new_object a word (size_by c.program word) ∷ objects
+
+    words_are : after ≡ slice_set s.words (header_word a) word
+    words_are = ap (λ phase. words_after s.words (wanted c x phase)) made
+
+    behind : Behind c objects later s t (slice_set s.words (header_word a) word)
+    behind = behind_new lies maker
+
+    up : (class v : ℕ) → HasClass objects class v → HasClass later class v
+    up class v k = let b = behind in (k.0, b.up k.0 k.1, k.2, k.3)
+
+    new_became : Became c later s after now
+    new_became =
+        let b = behind in
+        let has = has_objects mover.state later (slice_index s.words NEXT_FREE_WORD) b.up b.apart in
+        let values = thread_up (HasClass objects) (HasClass later) up c x (facts.typed.threads t x there) in
+        let finds = subst (λ phase. PhaseFinds c (HasClass later) phase x.frames got) (sym made) (class_new lies maker) in
         let l = leads in
         record {
-          values = moved_values keeps c marked (HasClass objects) has x lawful typed got (old_finds c marked objects s facts t x there lawful x.phase refl old typed.phase);
-          monitors = l.monitors;
-          element = l.element;
+          values = moved_values keeps c marked (HasClass later) has x lawful values got finds;
+          monitors = monitors_up (HasClass objects) (HasClass later) up now l.monitors;
+          element = λ w stored e. element_up objects later b.up stored now.frames (l.element w stored e);
           made = l.made;
         }
 
-    old_kept : IsOldPhase x.phase → HeapFacts c (objects_by c.program x.phase objects) state
-    old_kept old =
-        subst (λ os. HeapFacts c os state) (sym (objects_old c.program x.phase objects old))
-        (assembled c marked objects objects s facts t after now (old_behind old) (old_became old))
+    new_kept : HeapFacts c (objects_by c.program x.phase objects) state
+    new_kept =
+        subst (λ os. HeapFacts c os state) (sym (ap (λ phase. objects_by c.program phase objects) made))
+        (assembled (record { before = mover.state; later = later; t = t; after = after; y = now; behind = subst (Behind c objects later s t) (sym words_are) behind; became = new_became }))
 
-    -- ---- where one is
-
-    module _ (a word : ℕ) (made : x.phase ≡ phases.Made a word) where
-      abbrev later : List Object
-      later = new_object a word (size_by c.program word) ∷ objects
-
-      words_are : after ≡ slice_set s.words (header_word a) word
-      words_are = ap (λ phase. words_after s.words (wanted c x phase)) made
-
-      behind : Behind c objects later s t (slice_set s.words (header_word a) word)
-      behind = behind_new lies c marked objects s facts t x there a word made
-
-      up : (class v : ℕ) → HasClass objects class v → HasClass later class v
-      up class v k = let b = behind in (k.0, b.up k.0 k.1, k.2, k.3)
-
-      new_became : Became c later s after now
-      new_became =
-          let b = behind in
-          let has = has_objects c marked objects s facts later (slice_index s.words NEXT_FREE_WORD) b.up b.apart in
-          let values = thread_up (HasClass objects) (HasClass later) up c x (facts.typed.threads t x there) in
-          let finds = subst (λ phase. PhaseFinds c (HasClass later) phase x.frames got) (sym made) (class_new lies c marked objects s facts t x there a word made) in
-          let l = leads in
-          record {
-            values = moved_values keeps c marked (HasClass later) has x lawful values got finds;
-            monitors = monitors_up (HasClass objects) (HasClass later) up now l.monitors;
-            element = λ w stored e. element_up objects later b.up stored now.frames (l.element w stored e);
-            made = l.made;
-          }
-
-      new_kept : HeapFacts c (objects_by c.program x.phase objects) state
-      new_kept =
-          subst (λ os. HeapFacts c os state) (sym (ap (λ phase. objects_by c.program phase objects) made))
-          (assembled c marked objects later s facts t after now
-          (subst (Behind c objects later s t) (sym words_are) behind) new_became)
-
-    thread_kept : HeapFacts c (objects_by c.program x.phase objects) state
-    thread_kept = by_phase (new_or_old x.phase)
-      where
-        by_phase : IsOldPhase x.phase ⊎ ((a : ℕ) × (word : ℕ) × (x.phase ≡ phases.Made a word))
-            → HeapFacts c (objects_by c.program x.phase objects) state
-        by_phase (inl old) = old_kept old
-        by_phase (inr k) = new_kept k.0 k.1 k.2
-
-  event_kept : (o : Option Thread) → slice_get s.threads t ≡ o → ((x : Thread) → o ≡ Some x → IsLawful c x) → HeapFacts c (objects_of c.program o objects) (event_of c s t o)
-  event_kept None e lawful = facts
-  event_kept (Some x) e lawful = thread_kept x e (lawful x refl)
+  thread_kept : HeapFacts c (objects_by c.program x.phase objects) state
+  thread_kept = by_phase (new_or_old x.phase)
+    where
+      by_phase : IsOldPhase x.phase ⊎ ((a : ℕ) × (word : ℕ) × (x.phase ≡ phases.Made a word))
+          → HeapFacts c (objects_by c.program x.phase objects) state
+      by_phase (inl old) = old_kept old
+      by_phase (inr k) = new_kept k.0 k.1 k.2
 
 pub events_keep : StructureIsKept → StartLiesApart → EventsKeepHeap
-events_keep keeps lies c objects s t marked facts lawful = event_kept keeps lies c marked objects s facts t (slice_get s.threads t) refl lawful
+events_keep keeps lies c objects s t marked facts lawful = by_thread (slice_get s.threads t) refl
+  where
+    by_thread : (o : Option Thread) → slice_get s.threads t ≡ o → HeapFacts c (objects_of c.program o objects) (event_of c s t o)
+    by_thread None e = facts
+    by_thread (Some x) e = thread_kept keeps lies (heap_mover c marked objects s facts t x e (lawful x e))
 
 -- ---- the begin of a part
 

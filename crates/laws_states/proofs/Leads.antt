@@ -4,15 +4,15 @@ use Rattle.std.proofs.Common.{◌≡◌, ℕ, ◌+◌, ◌<◌, ◌≤◌, Bool,
 use Rattle.std.proofs.lemmas.Bool.Decides.{nat_tests}
 use Rattle.lists.proofs.ListLaws.{same_some}
 use Rattle.jvm_types.specs.declared.{class_numbers.TheConstants.INT_ARRAY_CLASS, code.Op.Op, fixed_words.TheConstants.NEXT_FREE_WORD, program.{Program.Program, Target.Target}}
-use Rattle.checked_program.specs.{MarkedProgram.{MarkedProgram, IsMarked}, TaggedCode.row_of}
+use Rattle.checked_program.specs.{MarkedProgram.MarkedProgram, TaggedCode.row_of}
 use Rattle.machine_types.specs.{Accesses.{found_by, words_after}, Core.Core, Effects.effect, Events.{wanted, moved}, FoundWords.IsHeader, Frames.{Top, top_of, effect_at, making}, Going.with_phase}
 use Rattle.machine_types.specs.{Instructions.{effect_wants, run_wants, begun}, Ints.low, NewObjects.size_by, PlainMemory.Object, Structure.is_element_op, Threads.{Frame, Thread}}
 use Rattle.machine_types.specs.{Typed.{FrameHolds, FramesHold, IsElementOn, HasElement, HasElementOn, HasElementIn, HasClass, PhaseHolds}, Words.{header_length, header_word, value_word}}
 use Rattle.machine_types.specs.declared.{effect.Effect.{Effect, TheVariants.{Throws, Indexes, Makes}}, phase.Phase.Phase}
 use Rattle.laws_threads.{specs.Allowed.{IsOf, Allowed}, proofs.{ElementEffects.element_at, Landing.stand_top, Standings.top_here, ThreadMove.{Lacks, LeadsTo, Move, becomes, each_move}}}
 use Rattle.laws_threads.proofs.TopEffects.{allowed_here}
-use Rattle.laws_states.{specs.HeapFacts.{IsWaitOn, HoldsObjects, HeapFacts}, proofs.{Accesses.out_there, Found.length_found, Headers.made_header, Lists.set_here}}
-use Rattle.laws_states.proofs.Quiet.{AllHeld, QuietPhase, Quiet, KnowsObject, quiet_moved}
+use Rattle.laws_states.{specs.HeapFacts.{IsWaitOn, HoldsObjects}, proofs.{Accesses.out_there, Found.length_found, Headers.made_header, Lists.set_here}}
+use Rattle.laws_states.proofs.{Movers.HeapState, Quiet.{AllHeld, QuietPhase, Quiet, KnowsObject, quiet_moved}}
 use Rattle.jvm_types.specs.declared.code.Op.TheVariants as ops
 use Rattle.jvm_types.specs.declared.outcome.Thrown.TheVariants as thrown
 use Rattle.machine_types.specs.declared.phase.Phase.TheVariants as phases
@@ -64,7 +64,9 @@ pub record Leads (c : MarkedProgram) (objects : List Object) (s : Core) (after :
   pub element : (word : ℕ) (stored : Option ℕ) → x.phase ≡ phases.Element word stored → HasElementIn objects stored x.frames
   pub made : (a word : ℕ) → x.phase ≡ phases.Made a word → MadeNow c.program s after a word
 
-module _ (c : MarkedProgram) (marked : IsMarked c) (objects : List Object) (s : Core) (facts : HeapFacts c objects s) (after : List ℕ) where
+module _ (state : HeapState) (after : List ℕ) where
+  open state use {c, marked, objects, s, facts}
+
   waits_of : (phase : Phase) → QuietPhase (HasClass objects) phase → IsWaitOn (HasClass objects) phase
   waits_of (phases.WaitLook m r depth) q = q
   waits_of (phases.Retake m r depth) q = q
@@ -79,7 +81,15 @@ module _ (c : MarkedProgram) (marked : IsMarked c) (objects : List Object) (s : 
 
   -- ---- an element, and a new object
 
-  module _ (x : Thread) (f : Frame) (fs : List Frame) (h : FrameHolds c (HasClass objects) 0 f) (there : x.frames ≡ f ∷ fs) (held : AllHeld (HasClass objects) x.held) where
+  record InFrame (x : Thread) : Type 0 where
+    f : Frame
+    fs : List Frame
+    h : FrameHolds c (HasClass objects) 0 f
+    there : x.frames ≡ f ∷ fs
+
+  module _ (x : Thread) (top : InFrame x) (held : AllHeld (HasClass objects) x.held) where
+    open top use {f, fs, h, there}
+
     index_leads : (a i : ℕ) (stored : Option ℕ) (got : ℕ) (k : IsOf (HasClass objects) INT_ARRAY_CLASS a) → OnStack a stored f.stack → IsElementOn (value_word a (low i)) stored f.stack → got ≡ slice_index s.words (header_word a)
         → nat_lt (low i) (header_length got) ≡ true → Leads c objects s after (with_phase x (phases.Element (value_word a (low i)) stored))
     index_leads a i stored got k on e g t =
@@ -125,18 +135,18 @@ module _ (c : MarkedProgram) (marked : IsMarked c) (objects : List Object) (s : 
   Finds was frames got = Unit {0}
 
   in_frames : (y : Thread) (got : ℕ) (fs : List Frame) → y.frames ≡ fs → FramesHold c (HasClass objects) fs → (at : Top) (e : Effect) → top_of c.program y.frames ≡ Some at → effect_at c.program at ≡ e
-      → (f : Frame) × (below : List Frame) × (FrameHolds c (HasClass objects) 0 f) × (y.frames ≡ f ∷ below)
+      → InFrame y
   in_frames y got [] there h at e found is = absurd (let none : None ≡ Some at = sym (ap (top_of c.program) there) ∙ found in cc)
-  in_frames y got (f ∷ fs) there h at e found is = (f, fs, h.0, there)
+  in_frames y got (f ∷ fs) there h at e found is = record { f = f; fs = fs; h = h.0; there = there }
 
   leads_to : (y : Thread) (got : ℕ) (was now : Phase) (k : LeadsTo c.program y got was now) → AllHeld (HasClass objects) y.held → PhaseHolds c (HasClass objects) was y.frames → KnowsObject (HasClass objects) was → y.phase ≡ was → Finds was y.frames got
       → Leads c objects s after (with_phase y now)
   leads_to y got _ _ (moves.to_element at a i stored found is t) held h o same finds =
       let in_frame = in_frames y got y.frames refl h at (Indexes a i stored) found is in
-      let here = allowed y in_frame.0 in_frame.1 in_frame.2 in_frame.3 held at (Indexes a i stored) found is in
-      let stands = in_frame.2.stands in
-      let op = element_at c.program stands.insn.next stands.target stands.insn.op in_frame.0.locals in_frame.0.stack a i stored here.0 in
-      index_leads y in_frame.0 in_frame.1 in_frame.2 in_frame.3 held a i stored got here.1.1 (on_stack c.program stands.insn.next stands.target stands.insn.op in_frame.0.locals in_frame.0.stack a i stored op here.0) here.1.2
+      let here = allowed y in_frame held at (Indexes a i stored) found is in
+      let stands = in_frame.h.stands in
+      let op = element_at c.program stands.insn.next stands.target stands.insn.op in_frame.f.locals in_frame.f.stack a i stored here.0 in
+      index_leads y in_frame held a i stored got here.1.1 (on_stack c.program stands.insn.next stands.target stands.insn.op in_frame.f.locals in_frame.f.stack a i stored op here.0) here.1.2
       (subst (λ (e : Effect). Gets e got) is (finds at found)) t
   leads_to y got was now k held h o same finds = quiet_leads _ (quiet_moved (HasClass objects) c y got was (moves.leads now k) tt held o same)
 
@@ -154,15 +164,17 @@ module _ (c : MarkedProgram) (marked : IsMarked c) (objects : List Object) (s : 
   move_leads y got was (moves.leads now k) held h o same finds = leads_to y got was now k held h o same finds
   move_leads y got _ (moves.makes at word size found is t) held h o same finds =
       let in_frame = in_frames y got y.frames refl h at (Makes word size) found is in
-      let here = allowed y in_frame.0 in_frame.1 in_frame.2 in_frame.3 held at (Makes word size) found is in
-      make_leads y in_frame.0 in_frame.1 in_frame.2 in_frame.3 held (making c.program at) word size got
-      (made_header c.program marked.checked.program in_frame.2.stands.method here.1.1 word size here.1.4) (subst (λ (e : Effect). Gets e got) is (finds at found)) t
+      let here = allowed y in_frame held at (Makes word size) found is in
+      make_leads y in_frame held (making c.program at) word size got
+      (made_header c.program marked.checked.program in_frame.h.stands.method here.1.1 word size here.1.4) (subst (λ (e : Effect). Gets e got) is (finds at found)) t
   move_leads y got was k held h o same finds = quiet_leads _ (quiet_moved (HasClass objects) c y got was k tt held o same)
 
 -- ---- all phases
 
-module _ (c : MarkedProgram) (marked : IsMarked c) (objects : List Object) (s : Core) (facts : HeapFacts c objects s) where
-  gets : (x : Thread) (pc : ℕ) (e : Effect) → Gets c marked objects s facts (words_after s.words (effect_wants x pc e)) e (found_by s.words (effect_wants x pc e))
+module _ (state : HeapState) where
+  open state use {c, marked, objects, s, facts}
+
+  gets : (x : Thread) (pc : ℕ) (e : Effect) → Gets state (words_after s.words (effect_wants x pc e)) e (found_by s.words (effect_wants x pc e))
   gets x pc (Indexes a i stored) = refl
   gets x pc (Makes word size) =
       (refl, set_here s.words NEXT_FREE_WORD (slice_index s.words NEXT_FREE_WORD + size) (omega (arith, facts.unused.many, marked.checked.program.heap_from)))
@@ -176,12 +188,12 @@ module _ (c : MarkedProgram) (marked : IsMarked c) (objects : List Object) (s : 
   knows (phases.Retake m r depth) fs h w = w
   knows phase fs h w = tt
 
-  finds : (x : Thread) (phase : Phase) → Finds c marked objects s facts (words_after s.words (wanted c x phase)) phase x.frames (found_by s.words (wanted c x phase))
-  finds x phases.Run = λ at found. subst (λ (o : Option Top). Gets c marked objects s facts (words_after s.words (run_wants c.program x o)) (effect_at c.program at) (found_by s.words (run_wants c.program x o))) (sym found) (gets x at.frame.pc (effect_at c.program at))
+  finds : (x : Thread) (phase : Phase) → Finds state (words_after s.words (wanted c x phase)) phase x.frames (found_by s.words (wanted c x phase))
+  finds x phases.Run = λ at found. subst (λ (o : Option Top). Gets state (words_after s.words (run_wants c.program x o)) (effect_at c.program at) (found_by s.words (run_wants c.program x o))) (sym found) (gets x at.frame.pc (effect_at c.program at))
   finds x phase = tt
 
   pub phase_leads : (x : Thread) (phase : Phase) → x.phase ≡ phase → AllHeld (HasClass objects) x.held → PhaseHolds c (HasClass objects) phase x.frames → IsWaitOn (HasClass objects) phase
       → Leads c objects s (words_after s.words (wanted c x phase)) (moved c x phase (found_by s.words (wanted c x phase)))
   phase_leads x phase e held h w = each_move (Leads c objects s (words_after s.words (wanted c x phase))) c x phase (found_by s.words (wanted c x phase))
-      (λ k. move_leads c marked objects s facts (words_after s.words (wanted c x phase)) x (found_by s.words (wanted c x phase)) phase k held h (knows phase x.frames h w) e (finds x phase))
-      (λ k. move_leads c marked objects s facts (words_after s.words (wanted c x phase)) (begun x) (found_by s.words (wanted c x phase)) phase k held h (knows phase x.frames h w) e (finds x phase))
+      (λ k. move_leads state (words_after s.words (wanted c x phase)) x (found_by s.words (wanted c x phase)) phase k held h (knows phase x.frames h w) e (finds x phase))
+      (λ k. move_leads state (words_after s.words (wanted c x phase)) (begun x) (found_by s.words (wanted c x phase)) phase k held h (knows phase x.frames h w) e (finds x phase))

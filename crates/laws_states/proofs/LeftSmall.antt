@@ -1,5 +1,5 @@
 -- What an event leaves of a word is below 2^64, and what it adds to a counter is little.
-use Rattle.std.proofs.Common.{◌≡◌, ◌⊎◌, inl, inr, ℕ, zero, suc, ◌+◌, ◌*◌, ◌/◌, ◌%◌, ◌^◌, ◌<◌, ◌≤◌, nat_lt, nat_le, Bool, true, false, Option, Some, None, refl, subst, arith, option_map, if◌then◌else◌}
+use Rattle.std.proofs.Common.{◌≡◌, ◌⊎◌, inl, inr, ℕ, zero, suc, ◌+◌, ◌*◌, ◌/◌, ◌%◌, ◌^◌, ◌<◌, ◌≤◌, nat_lt, nat_le, Bool, true, false, Option, Some, None, refl, subst, arith, if◌then◌else◌}
 use Rattle.std.proofs.lemmas.Bool.Decides.{nat_tests}
 use Rattle.lists.proofs.ListLaws.{same_some}
 use Rattle.jvm_types.specs.declared.{fixed_words.TheConstants.{NEXT_FREE_WORD, NEXT_TICKET_WORD, NEXT_RECORD_WORD}, program.{Program.Program, Target.Target}}
@@ -8,7 +8,7 @@ use Rattle.machine_types.specs.{Accesses.{accessed, left_by}, Elision.looks, Eve
 use Rattle.machine_types.specs.{FoundWords.{Content, Lock, Owner, Bits, Any, effect_content, run_content, leave_content, content_at}, Frames.{Top, top_of, effect_at}}
 use Rattle.machine_types.specs.{Instructions.{has_print_left, effect_wants, run_wants}, LockWords.{lock_by, is_lock_by}}
 use Rattle.machine_types.specs.{Monitors.{Claim, Has, Tries, HasNot, claim, enter_wants, finish_wants, leave_wants, release}, Threads.{Attempt, Thread}, declared.access.Access.Access}
-use Rattle.machine_types.specs.declared.{access.Access.TheVariants.{Load, Add}, effect.Effect.{Effect, TheVariants.{Goes, Reads, Writes, Indexes, Measures, Raises, Makes, Prints, Calls}}}
+use Rattle.machine_types.specs.declared.{access.Access.TheVariants.Add, effect.Effect.{Effect, TheVariants.{Goes, Reads, Writes, Indexes, Measures, Raises, Makes, Prints, Calls}}}
 use Rattle.machine_types.specs.declared.{lock.Kept.Kept, phase.Phase.Phase}
 use Rattle.laws_threads.proofs.ThreadMove.{begun_by}
 use Rattle.laws_states.{specs.{Counters.most_size, SharedWords.{CountsTo, IsLock, MayStand}}, proofs.{CountedEvents.drawn_by, LeftStands.{leaves, no_access, loaded, looked, checked}}}
@@ -246,10 +246,6 @@ module _ (access : Access) (got : ℕ) where
 
   nowhere : None ≡ Some access → OnlyAdds access got
   nowhere e = absurd (cc)
-
-  option_adds : (read : Option ℕ) → option_map Load read ≡ Some access → OnlyAdds access got
-  option_adds None w = nowhere w
-  option_adds (Some word) w = adds_by (Load word) w (omega arith)
 
 not_place : (content : Content) → content ≡ Any → IsPlace content → ⊥
 not_place content e is = subst IsPlace e is

@@ -1,5 +1,6 @@
 pub mod Lists
 pub mod Sites
+pub mod Movers
 pub mod Places
 pub mod Accesses
 pub mod Phases

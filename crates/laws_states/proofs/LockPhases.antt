@@ -2,14 +2,13 @@
 use Rattle.std.proofs.Common.{◌≡◌, ℕ, ◌+◌, ◌<◌, ◌≤◌, nat_lt, Bool, true, false, cond, List, [], ◌∷◌, Option, Some, None, refl, sym, ap, ◌∙◌, subst, arith, slice_index, slice_set, ◌==◌}
 use Rattle.std.proofs.lemmas.Bool.Decides.{nat_tests, Decides-eqb}
 use Rattle.jvm_types.specs.declared.{fixed_words.TheConstants.MONITOR_RECORDS, limits.TheConstants.FLAG_FROM, program.Program.Program}
-use Rattle.checked_program.specs.MarkedProgram.{MarkedProgram, IsMarked}
 use Rattle.machine_types.specs.{Accesses.{accessed, found_by, words_after}, Core.Core, Elision.{begins, tries}, FoundWords.Lock, HeldMonitors.{held_at, with_held, deeper}}
 use Rattle.machine_types.specs.{LockWords.{word_of_lock, lock_of}, Monitors.{Tries, HasNot, claim_by, enter_wants, enter_moves, acquires}}
-use Rattle.machine_types.specs.Owners.{Locks, hold_by_kept, hold_by_list, drawn_by, Knows, IsSeen, PhaseSaw, AttemptSawIn, IsKeptIn, Owns, AreLocks, lock_at, locks_in, references_of}
-use Rattle.machine_types.specs.{PlainMemory.Object, Structure.AreHeldOnce, Threads.{Frame, Attempt, Thread}, Words.owner_word, declared.access.Access.{Access, TheVariants.Load}}
+use Rattle.machine_types.specs.Owners.{Locks, hold_by_kept, hold_by_list, drawn_by, Knows, IsSeen, PhaseSaw, AttemptSawIn, IsKeptIn, lock_at, locks_in, references_of}
+use Rattle.machine_types.specs.{PlainMemory.Object, Threads.{Frame, Attempt, Thread}, Words.owner_word, declared.access.Access.{Access, TheVariants.Load}}
 use Rattle.machine_types.specs.declared.{config.Config.Config, lock.{Held.Held, Kept.Kept, LockWord.LockWord}, phase.Phase.Phase}
 use Rattle.laws_threads.{specs.StructureLaws.counted_by, proofs.HeldLists.{held_monitor, held_put}}
-use Rattle.laws_states.specs.{HeapFacts.HeapFacts, SiteLaws.{SitesDiffer, SitesLieInside}, Sites.{Site, LockOf, site_word, HasObject, IsThere, Suits, IsAccessOf, ReachesIf}}
+use Rattle.laws_states.{specs.Sites.{Site, LockOf, site_word, HasObject, IsThere, Suits, IsAccessOf, ReachesIf}, proofs.Movers.{LockMover, OwnsAs}}
 use Rattle.laws_states.proofs.{CountedPhases.{IsPlain, plain_knows, plain_saw, plain_draws_none, counted_plain}, OwnersEvents.{Became, unwritten, same_held, same_attempt}, OwnersStep.Owes}
 use Rattle.laws_states.proofs.{PlainMoves.{LooksBack, same_look, looks_saw, Plainly, runs_plain}, SameTally.{Tally, tally_of}, WordViews.{lock_of_word, object_has, set_self}}
 use Rattle.jvm_types.specs.declared.outcome.End.TheVariants as ends
@@ -48,10 +47,8 @@ refit_keeps h k hs n m count e same kept had = subst (λ (q : Option Held). IsKe
 
 -- ---- one phase
 
-module _ (differ : SitesDiffer) (inside : SitesLieInside) (c : MarkedProgram) (objects : List Object) (s : Core) (marked : IsMarked c) (heap : HeapFacts c objects s) (count : ℕ → ℕ) (t : ℕ) (x : Thread)
-    (a : AreLocks (locks_in (references_of objects) s.words) count) (most : (m : ℕ) → count m ≤ x.cfg.range) (number : x.number ≡ t) (once : AreHeldOnce x.held) (was : Phase) (o : Owns (locks_in (references_of objects) s.words) count t was x) where
-  abbrev v : Locks
-  v = locks_in (references_of objects) s.words
+module _ (mover : LockMover) (was : Phase) (o : OwnsAs mover was) where
+  open mover use {t, x, state.{owners.{count, locks_are}, base.heap.{c, objects, s}}}
 
   -- an event that leaves words and made y
   abbrev pub Result : (words : List ℕ) → Thread → Type 0
@@ -83,7 +80,7 @@ module _ (differ : SitesDiffer) (inside : SitesLieInside) (c : MarkedProgram) (o
       let saw : AttemptSawIn (locks_in (references_of objects) s.words) count y.cfg y.attempt =
       subst (λ (g : Config). AttemptSawIn (locks_in (references_of objects) s.words) count g y.attempt) (sym cfg) (looks_saw (locks_in (references_of objects) s.words) count x.cfg y.attempt x.attempt looks o.attempt) in (
         count,
-        same_held (locks_in (references_of objects) s.words) count t was x a o most y (counted_by was y.phase) held saw locked
+        same_held mover was o y (counted_by was y.phase) held saw locked
             (plain_knows (locks_in (references_of objects) s.words) t (counted_by was y.phase) is) (plain_saw (locks_in (references_of objects) s.words) count (counted_by was y.phase) is)
             (λ i e. let none : drawn_by (counted_by was y.phase) ≡ None = plain_draws_none (counted_by was y.phase) is in cc),
       )
@@ -98,7 +95,7 @@ module _ (differ : SitesDiffer) (inside : SitesLieInside) (c : MarkedProgram) (o
       → PhaseSaw (locks_in (references_of objects) s.words) count (counted_by was y.phase) → ((i : ℕ) → drawn_by (counted_by was y.phase) ≡ Some i → drawn_by was ≡ Some i) → Result s.words y
   knowing y held cfg locked attempt knows saw draws = (
     count,
-    same_held (locks_in (references_of objects) s.words) count t was x a o most y (counted_by was y.phase) held (same_attempt (locks_in (references_of objects) s.words) count t was x a o most y (counted_by was y.phase) cfg attempt)
+    same_held mover was o y (counted_by was y.phase) held (same_attempt mover was o y (counted_by was y.phase) cfg attempt)
         (omega (arith, locked)) knows saw draws,
   )
 
@@ -111,7 +108,7 @@ module _ (differ : SitesDiffer) (inside : SitesLieInside) (c : MarkedProgram) (o
 
   pub acquired : (m : ℕ) (l : LockWord) → IsPlain was → (locks_in (references_of objects) s.words).lock m ≡ l → Result s.words (acquires x m l)
   acquired m (locks.Free seen) old e = knowing (acquires x m (locks.Free seen)) refl refl refl refl tt
-      (subst (λ (l : LockWord). IsSeen l seen (count m)) (sym e) (let same : seen ≡ count m = a.free m seen e in omega (arith, same))) (λ i d. absurd (cc))
+      (subst (λ (l : LockWord). IsSeen l seen (count m)) (sym e) (let same : seen ≡ count m = locks_are.free m seen e in omega (arith, same))) (λ i d. absurd (cc))
   acquired m (locks.Held u) old e = plain (acquires x m (locks.Held u)) refl refl (omega arith) (same_look x.attempt) (counted_plain was _ old (turns_plain m u (nat_lt (x.turns + 1) FLAG_FROM) (nat_lt (x.turns + 1) x.cfg.turns)))
   acquired m (locks.Flagged u) old e = plain (acquires x m (locks.Flagged u)) refl refl (omega arith) (same_look x.attempt) (counted_plain was _ old (turns_plain m u true (nat_lt (x.turns + 1) x.cfg.turns)))
   acquired m (locks.Fat r) old e = knowing (acquires x m (locks.Fat r)) refl refl refl refl e tt (λ i d. absurd (cc))
@@ -122,8 +119,8 @@ module _ (differ : SitesDiffer) (inside : SitesLieInside) (c : MarkedProgram) (o
       let y : Thread = begins x (f ∷ fs) m seen n in
       let is : IsPlain (counted_by was y.phase) = counted_plain was y.phase old (runs_plain (nat_lt x.counts.instructions x.cfg.steps)) in (
         count,
-        same_held (locks_in (references_of objects) s.words) count t was x a o most y (counted_by was y.phase) refl
-            (record { seen = subst (λ (l : LockWord). IsSeen l seen (count m)) (sym e) (let same : seen ≡ count m = a.free m seen e in omega (arith, same)); not_last = grind (arith, nat_tests, last) })
+        same_held mover was o y (counted_by was y.phase) refl
+            (record { seen = subst (λ (l : LockWord). IsSeen l seen (count m)) (sym e) (let same : seen ≡ count m = locks_are.free m seen e in omega (arith, same)); not_last = grind (arith, nat_tests, last) })
             (omega arith) (plain_knows (locks_in (references_of objects) s.words) t (counted_by was y.phase) is) (plain_saw (locks_in (references_of objects) s.words) count (counted_by was y.phase) is)
             (λ i d. let none : drawn_by (counted_by was y.phase) ≡ None = plain_draws_none (counted_by was y.phase) is in cc),
       )
@@ -134,17 +131,15 @@ module _ (differ : SitesDiffer) (inside : SitesLieInside) (c : MarkedProgram) (o
       by_test : (b : Bool) → nat_lt seen x.cfg.range ≡ b → Result s.words (cond b (begins x x.frames m seen (n + 1)) (record x { phase = phases.Acquire m }))
       by_test true f = began m seen (n + 1) x.frames refl old now e f
       by_test false f = plain _ refl refl (omega arith) (same_look x.attempt) tt
-  tried m n (locks.Held u) old now e = plain _ refl refl (omega arith) (same_look x.attempt) tt
-  tried m n (locks.Flagged u) old now e = plain _ refl refl (omega arith) (same_look x.attempt) tt
-  tried m n (locks.Fat r) old now e = plain _ refl refl (omega arith) (same_look x.attempt) tt
+  tried m n l old now e = plain _ refl refl (omega arith) (same_look x.attempt) tt
 
   pub refitted : (h k : Held) (n : ℕ) (y : Thread) → held_at x.held n ≡ Some h → k.monitor ≡ h.monitor → k.kept ≡ h.kept → Became x y (with_held k x.held) 0 → IsPlain (counted_by was y.phase) → Result s.words y
   refitted h k n y e same kept b is = (
     count,
-    unwritten (locks_in (references_of objects) s.words) count t was x a o most y (counted_by was y.phase)
+    unwritten mover was o y (counted_by was y.phase)
         (λ m. ap (λ (hs : List Held). hold_by_list (held_at hs m)) b.held_is ∙ refit_same h k x.held n m e same kept)
         (λ m. subst (λ (hs : List Held). IsKeptIn (held_at hs m) (count m)) (sym b.held_is) (refit_keeps h k x.held n m (count m) e same kept (o.keeps_count m)))
-        (same_attempt (locks_in (references_of objects) s.words) count t was x a o most y (counted_by was y.phase) b.cfg b.attempt)
+        (same_attempt mover was o y (counted_by was y.phase) b.cfg b.attempt)
         (let locked = b.locked in omega (arith, locked))
         (plain_knows (locks_in (references_of objects) s.words) t (counted_by was y.phase) is) (plain_saw (locks_in (references_of objects) s.words) count (counted_by was y.phase) is)
         (λ i d. let none : drawn_by (counted_by was y.phase) ≡ None = plain_draws_none (counted_by was y.phase) is in cc),

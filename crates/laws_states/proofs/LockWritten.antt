@@ -12,16 +12,12 @@ use Rattle.machine_types.specs.declared.phase.Phase.TheVariants as phases
 -- ---- counts that were seen
 
 pub thin_seen : (l : LockWord) (seen count : ℕ) → ((r : ℕ) → l ≢ locks.Fat r) → IsSeen l seen count → seen ≤ count
-thin_seen (locks.Free c) seen count thin h = h
-thin_seen (locks.Held u) seen count thin h = h
-thin_seen (locks.Flagged u) seen count thin h = h
 thin_seen (locks.Fat r) seen count thin h = absurd (thin r refl)
+thin_seen l seen count thin h = h
 
 pub seen_any : (l : LockWord) (seen count : ℕ) → seen ≤ count → IsSeen l seen count
-seen_any (locks.Free c) seen count h = h
-seen_any (locks.Held u) seen count h = h
-seen_any (locks.Flagged u) seen count h = h
 seen_any (locks.Fat r) seen count h = tt
+seen_any l seen count h = h
 
 -- ---- the lock of n becomes l, with the count k
 

@@ -1,28 +1,25 @@
 -- A thread that has moved holds values of the types of verification, by the objects that are there then.
-use Rattle.std.proofs.Common.{◌≡◌, ℕ, ◌<◌, List, [], length, Some, refl, subst, ◌∙◌, arith, Contains, slice_get}
+use Rattle.std.proofs.Common.{◌≡◌, ℕ, ◌<◌, List, [], length, Some, refl, arith, Contains, slice_get}
 use Rattle.jvm_types.specs.declared.{class_numbers.TheConstants.{PRINT_STREAM_CLASS, CLASS_ITSELF}, outcome.Thrown.Thrown}
 use Rattle.checked_program.specs.MarkedProgram.{MarkedProgram, IsMarked}
-use Rattle.machine_types.specs.{Accesses.found_by, Core.Core, Events.{wanted, moved}, Lawful.IsLawful, ObjectsApart.LieApart, PlainMemory.{Object, start_objects, start_statics}}
-use Rattle.machine_types.specs.{ReadyObjects.{ready, class_of, out_object}, Structure.IsAs, Threads.Thread, Typed.{Classes, HasClass, PhaseHolds, ThreadHolds}, Words.class_object}
+use Rattle.machine_types.specs.{Accesses.found_by, Events.{wanted, moved}, Lawful.IsLawful, ObjectsApart.LieApart, PlainMemory.{Object, start_objects, start_statics}}
+use Rattle.machine_types.specs.{ReadyObjects.{ready, class_of, out_object}, Threads.Thread, Typed.{Classes, HasClass, PhaseHolds, ThreadHolds}, Words.class_object}
 use Rattle.machine_types.{specs.declared.phase.Phase.Phase, proofs.ClassObjects.class_objects_stand}
 use Rattle.laws_threads.{specs.{Allowed.IsByMachine, StructureLaws.{StructureIsKept, counted_by}}, proofs.KeptPhases.{NeedsShown, PhaseFinds, StartTyped, moved_typed}}
 use Rattle.laws_threads.proofs.{KeptTypes.{based_in, needs_shown}, MonitorMoves.contains_got, Onwards.HasObjects, Roots.starts_typed, ThreadTypes.{IsBasedIn, Rests, TypedBy}}
-use Rattle.laws_states.{specs.HeapFacts.HeapFacts, proofs.{Accesses.{out_there, element_site}, Found.{run_finds, element_found}, Lists.contained_got, Phases.{IsOldPhase, Asks, asked}}}
+use Rattle.laws_states.proofs.{Accesses.{out_there, element_site}, Found.{run_finds, element_found}, Lists.contained_got, Movers.{HeapState, HeapMover}, Phases.{IsOldPhase, asked}}
 use Rattle.jvm_types.specs.declared.outcome.Thrown.TheVariants as thrown
 use Rattle.machine_types.specs.declared.phase.Phase.TheVariants as phases
 
 -- ---- the objects that are there from the start
 
-module _ (c : MarkedProgram) (marked : IsMarked c) (objects : List Object) (s : Core) (facts : HeapFacts c objects s) where
+module _ (state : HeapState) where
+  open state use {c, marked, objects, s, facts}
+
   ready_at : (x : Thrown) (i : ℕ) → slice_get (start_objects c.program) i ≡ Some (record { reference = ready x; class = class_of x; values = [] }) → HasClass objects (class_of x) (ready x)
   ready_at x i e = facts.started (record { reference = ready x; class = class_of x; values = [] }) (contains_got (start_objects c.program) i (record { reference = ready x; class = class_of x; values = [] }) e)
 
   ready_there : (x : Thrown) → IsByMachine x → HasClass objects (class_of x) (ready x)
-  ready_there thrown.Throwable own = absurd own
-  ready_there thrown.Exception own = absurd own
-  ready_there thrown.Error own = absurd own
-  ready_there thrown.RuntimeException own = absurd own
-  ready_there thrown.InterruptedException own = absurd own
   ready_there thrown.ArithmeticException own = ready_at thrown.ArithmeticException 0 refl
   ready_there thrown.NullPointerException own = ready_at thrown.NullPointerException 1 refl
   ready_there thrown.ArrayIndexOutOfBoundsException own = ready_at thrown.ArrayIndexOutOfBoundsException 2 refl
@@ -30,6 +27,7 @@ module _ (c : MarkedProgram) (marked : IsMarked c) (objects : List Object) (s : 
   ready_there thrown.IllegalMonitorStateException own = ready_at thrown.IllegalMonitorStateException 4 refl
   ready_there thrown.OutOfMemoryError own = ready_at thrown.OutOfMemoryError 5 refl
   ready_there thrown.StackOverflowError own = ready_at thrown.StackOverflowError 6 refl
+  ready_there x own = absurd own
 
   class_there : (file : ℕ) → file < length c.program.names → HasClass objects CLASS_ITSELF (class_object c.program file)
   class_there file few =
@@ -46,17 +44,18 @@ module _ (c : MarkedProgram) (marked : IsMarked c) (objects : List Object) (s : 
       lifted : (class v : ℕ) → HasClass objects class v → HasClass later class v
       lifted class v k = (k.0, up k.0 k.1, k.2, k.3)
 
-  -- ---- what an event finds, but where it stores a header
+-- ---- what an event finds, but where it stores a header
 
-  module _ (t : ℕ) (x : Thread) (there : slice_get s.threads t ≡ Some x) (lawful : IsLawful c x) where
-    pub old_finds : (phase : Phase) → x.phase ≡ phase → IsOldPhase phase → PhaseHolds c (HasClass objects) phase x.frames → PhaseFinds c (HasClass objects) phase x.frames (found_by s.words (wanted c x phase))
-    old_finds phases.Run e old h = run_finds c marked objects s facts x x.frames h
-    old_finds (phases.Element word stored) e old h =
-        let k : Asks c objects (phases.Element word stored) x.frames x.held = asked c objects lawful.was x.frames x.held x.attempt lawful.structured.stands (phases.Element word stored)
-        (subst (λ y. IsAs y lawful.was) e lawful.structured.is_as) (λ w v g. facts.typed.elements t x w v there (e ∙ g)) in
-        element_found c marked objects s facts word stored (element_site c marked objects s facts word stored x.frames h.0 h.1 k.0 k.1)
-    old_finds (phases.Made a word) e old h = absurd old
-    old_finds phase e old h = tt
+module _ (mover : HeapMover) where
+  open mover use {x, state, state.{c, objects, s}}
+
+  pub old_finds : (phase : Phase) → x.phase ≡ phase → IsOldPhase phase → PhaseHolds c (HasClass objects) phase x.frames → PhaseFinds c (HasClass objects) phase x.frames (found_by s.words (wanted c x phase))
+  old_finds phases.Run e old h = run_finds state x x.frames h
+  old_finds (phases.Element word stored) e old h =
+      let k = asked mover (phases.Element word stored) e in
+      element_found state word stored (element_site state word stored x.frames h.0 h.1 k.0 k.1)
+  old_finds (phases.Made a word) e old h = absurd old
+  old_finds phase e old h = tt
 
 -- ---- the thread
 

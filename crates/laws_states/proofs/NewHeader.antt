@@ -5,14 +5,12 @@ use Rattle.lists.proofs.ListLaws.{same_some}
 use Rattle.jvm_types.specs.{Members.is_static, ProgramInvariant.{IsProgram, instances_among}, declared.class_numbers.TheConstants.INT_ARRAY_CLASS}
 use Rattle.jvm_types.specs.declared.{fixed_words.TheConstants.{OBJECT_HEAD_WORDS, FIRST_READY_WORD, NEXT_FREE_WORD}, program.{FieldInfo.FieldInfo, Kind.Kind}}
 use Rattle.laws_programs.proofs.FieldOrder.{instances_inside, statics_inside}
-use Rattle.checked_program.specs.MarkedProgram.{MarkedProgram, IsMarked}
-use Rattle.machine_types.specs.{Core.Core, FoundWords.IsHeader, NewObjects.{size_by, IsNewObject}, ObjectsApart.{IsBeside, IsOutside, LieApart}}
+use Rattle.machine_types.specs.{FoundWords.IsHeader, NewObjects.{size_by, IsNewObject}, ObjectsApart.{IsBeside, IsOutside, LieApart}}
 use Rattle.machine_types.specs.{PlainMemory.{Object, StaticValue, object_end, header_of, new_object, start_statics}, StartLaws.StartLiesApart, Threads.Thread}
 use Rattle.machine_types.specs.{Typed.{Classes, KindHolds, HasClass, PlacesHold}, Words.{header_class, header_length, header_word, value_word, object_size, array_size}}
 use Rattle.machine_types.proofs.AttemptsPlain.{size_two}
 use Rattle.laws_threads.proofs.MonitorMoves.{contains_got}
-use Rattle.laws_states.{specs.HeapFacts.HeapFacts, proofs.{Assembled.Behind, Headers.new_header, Lifted.kind_up, Lists.{contained_got, contains_more, contains_first, set_here, set_there}}}
-use Rattle.laws_states.proofs.Sites.{static_low}
+use Rattle.laws_states.proofs.{Assembled.Behind, Headers.new_header, Lifted.kind_up, Lists.{contained_got, contains_more, contains_first, set_here, set_there}, Movers.HeapMover, Sites.static_low}
 use Rattle.jvm_types.specs.declared.program.Kind.TheVariants as kinds
 use Rattle.machine_types.specs.declared.phase.Phase.TheVariants as phases
 
@@ -22,7 +20,16 @@ zero_holds is kinds.Int v e = omega (arith, e)
 zero_holds is kinds.Bool v e = omega (arith, e)
 zero_holds is (kinds.Ref class) v e = inl e
 
-module _ (lies : StartLiesApart) (c : MarkedProgram) (marked : IsMarked c) (objects : List Object) (s : Core) (facts : HeapFacts c objects s) (t : ℕ) (x : Thread) (there : slice_get s.threads t ≡ Some x) (a word : ℕ) (made : x.phase ≡ phases.Made a word) where
+-- a thread that is about to store the header of an object
+pub record Maker : Type 0 where
+  pub mover : HeapMover
+  pub a : ℕ
+  pub word : ℕ
+  pub made : mover.x.phase ≡ phases.Made a word
+
+module _ (lies : StartLiesApart) (maker : Maker) where
+  open maker use {a, word, made, mover.{t, x, there, state.{c, marked, objects, s, facts}}}
+
   is_program : IsProgram c.program
   is_program = marked.checked.program
 

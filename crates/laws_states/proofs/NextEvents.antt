@@ -5,8 +5,7 @@ use Rattle.jvm_types.specs.{Numbers.has_number, Verifying.is_return, declared.pr
 use Rattle.checked_program.specs.MarkedProgram.{MarkedProgram, IsMarked}
 use Rattle.machine_types.specs.{Bounds.{FramesFit, part_roots}, Core.is_live, FoundWords.{WordFits, effect_content}, Frames.{Top, top_of, effect_at, handler_at}, HeldMonitors.held_at}
 use Rattle.machine_types.specs.{Lawful.{IsLawful, within}, Onward.handed, ReadyObjects.class_of, Structure.{HasFrame, IsFlat, IsFat, AfterShows, Stands, IsAs}, Threads.{Frame, Thread}}
-use Rattle.machine_types.specs.{Typed.{AfterHolds, FramesHold, PhaseHolds}, declared.effect.Effect.Effect}
-use Rattle.machine_types.specs.declared.effect.Effect.TheVariants.{Goes, Throws, Reads, Writes, Indexes, Measures, Raises, Makes, Prints, Calls, Returns, Enters, Leaves, Waits, Notifies, NotifiesAll, Stuck}
+use Rattle.machine_types.specs.{Typed.{AfterHolds, FramesHold, PhaseHolds}, declared.effect.Effect.{Effect, TheVariants.{Indexes, Raises, Makes, Calls, Returns, Waits, Notifies, NotifiesAll, Stuck}}}
 use Rattle.machine_types.specs.declared.{lock.Held.Held, phase.{After.{After, TheVariants.{Next, Return, Unwind}}, Phase.Phase}}
 use Rattle.laws_threads.{specs.TopFrames.{BelowFits, IsAllowed}, proofs.{Callers.returns_fit, KeptRoots.roots_within, Landing.stand_top, Onwards.same_op, Standings.top_here}}
 use Rattle.laws_threads.proofs.{TopEffects.effects_allowed, TopStand.{thrown_stand, made_stand}}
@@ -55,23 +54,16 @@ has_caller p [] given fits = tt
 has_caller p (f ∷ fs) given fits = there _ _ fits.stands.found
 
 goes_on_by : (p : Program) (at : Top) (e : Effect) (got : ℕ) → IsAllowed p at e → (is_return at.insn.op ≡ true → HasCaller p at.below) → WordFits p (effect_content p at.target e) got → GoesOnBy p at e got
-goes_on_by p at (Goes to made) got allowed caller fits = refl
-goes_on_by p at (Throws x) got allowed caller fits = refl
-goes_on_by p at (Reads v) got allowed caller fits = refl
-goes_on_by p at (Writes v word) got allowed caller fits = refl
 goes_on_by p at (Indexes a i stored) got allowed caller fits = tt
-goes_on_by p at (Measures a) got allowed caller fits = refl
 goes_on_by p at (Raises x) got allowed caller fits = mapped _ _ fits.1
 goes_on_by p at (Makes word size) got allowed caller fits = tt
-goes_on_by p at (Prints n) got allowed caller fits = refl
 goes_on_by p at (Calls number) got allowed caller fits = mapped _ _ (there _ _ allowed.there)
 goes_on_by p at Returns got allowed caller fits = caller allowed
-goes_on_by p at (Enters m) got allowed caller fits = refl
-goes_on_by p at (Leaves m) got allowed caller fits = refl
 goes_on_by p at (Waits m) got allowed caller fits = tt
 goes_on_by p at (Notifies m) got allowed caller fits = tt
 goes_on_by p at (NotifiesAll m) got allowed caller fits = tt
 goes_on_by p at Stuck got allowed caller fits = absurd allowed
+goes_on_by p at e got allowed caller fits = refl
 
 module _ (c : MarkedProgram) (marked : IsMarked c) where
   has_instruction : (fs : List Frame) → FramesHold c (within c.program) fs → HasFrame fs → HasInstruction c.program fs

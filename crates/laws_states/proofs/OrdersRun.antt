@@ -3,10 +3,9 @@
 use Rattle.std.proofs.Common.{◌≡◌, ℕ, zero, suc, ◌+◌, ◌<◌, Bool, true, false, List, [], ◌∷◌, length, Option, Some, None, refl, subst, ◌∙◌, arith, ◌&&◌, nat_le, nat_lt, find, if◌then◌else◌}
 use Rattle.std.specs.{List.range_with_len, Option.option_or}
 use Rattle.checked_program.specs.MarkedProgram.{MarkedProgram}
-use Rattle.machine_types.specs.{Core.{Core, Happening, Of, NextPart, happened, event, next, lives, may_begin, start}, PlainMemory.start_objects}
-use Rattle.machine_types.specs.{Schedules.{IsSchedule, Stage, First, Ordered, Rounds, Last, turn_of, turn_at, part_turn, round_turn, live_from, is_live_worker}, StartLaws.phase_at_start}
-use Rattle.laws_threads.specs.{PartLaws.counted_next, StateLaws.counted_after}
-use Rattle.laws_states.specs.{EveryOrder.EveryOrderHasRun, HeapFacts.objects_after, StateLaws.{ProgramsKeepThreads, StartHasState, EventsKeepState, NextKeepsState, IsInState}}
+use Rattle.machine_types.specs.Core.{Core, Happening, Of, NextPart, happened, event, next, lives, may_begin, start}
+use Rattle.machine_types.specs.Schedules.{IsSchedule, Stage, First, Ordered, Rounds, Last, turn_of, turn_at, part_turn, round_turn, live_from, is_live_worker}
+use Rattle.laws_states.{specs.{EveryOrder.EveryOrderHasRun, StateLaws.{ProgramsKeepThreads, StartHasState, EventsKeepState, NextKeepsState, IsInState}}, proofs.States.{state_at_start, state_goes_on}}
 use Rattle.laws_states.specs.WorkLeft.{all_work, EventsLessenAllWork}
 
 -- ---- who lives
@@ -45,9 +44,16 @@ as_at c one other s e (h ∷ hs, turns) = (h ∷ hs, (turns.0, e ∙ turns.1, tu
 
 -- ---- runs
 
--- of states that events and begins of parts keep, and of which each event takes work
-module _ (c : MarkedProgram) (Good : Core → Type 0) (by_event : (s : Core) (t : ℕ) → Good s → Good (event c s t)) (by_part : (s : Core) → Good s → Good (next c s))
-    (takes : (s : Core) (t : ℕ) → Good s → lives s t ≡ true → all_work (event c s t) < all_work s) where
+-- states that events and begins of parts keep, and of which each event takes work
+record KeptStates (c : MarkedProgram) : Type 1 where
+  Good : Core → Type 0
+  by_event : (s : Core) (t : ℕ) → Good s → Good (event c s t)
+  by_part : (s : Core) → Good s → Good (next c s)
+  takes : (s : Core) (t : ℕ) → Good s → lives s t ≡ true → all_work (event c s t) < all_work s
+
+module _ (c : MarkedProgram) (states : KeptStates c) where
+  open states use {Good, by_event, by_part, takes}
+
   abbrev Runs : Stage → Core → Type 0
   Runs stage s = (hs : List Happening) × IsSchedule c stage s hs
 
@@ -108,10 +114,12 @@ module _ (c : MarkedProgram) (Good : Core → Type 0) (by_event : (s : Core) (t 
 
 pub every_order_has_run : ProgramsKeepThreads → StartHasState → EventsKeepState → NextKeepsState → EventsLessenAllWork → EveryOrderHasRun
 every_order_has_run parts begin keeps next_keeps takes c cfg order marked width set =
-    first_run c (IsInState c cfg)
-    (λ s t k. record { objects = objects_after c.program s t k.objects; was = counted_after c k.was s t; facts = keeps c cfg k.objects k.was s t marked width k.facts })
-    (λ s k. record { objects = k.objects; was = counted_next c k.was s; facts = next_keeps c cfg k.objects k.was s marked (parts c cfg marked set) k.facts })
-    (λ s t k live. takes c cfg s t marked k.facts.threads live)
-    (suc (all_work (start c cfg))) order (start c cfg)
-    (record { objects = start_objects c.program; was = phase_at_start c cfg; facts = begin c cfg marked (parts c cfg marked set) })
-    (omega arith)
+    let keep = parts c cfg marked set in
+    let goes = state_goes_on keeps next_keeps c cfg marked width keep in
+    let states : KeptStates c = record {
+      Good = IsInState c cfg;
+      by_event = λ s t. goes s (Of t);
+      by_part = λ s. goes s NextPart;
+      takes = λ s t k live. takes c cfg s t marked k.facts.threads live;
+    } in
+    first_run c states (suc (all_work (start c cfg))) order (start c cfg) (state_at_start begin c cfg marked keep) (omega arith)

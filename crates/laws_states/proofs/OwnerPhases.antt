@@ -1,18 +1,15 @@
 -- What the phases owe in which a lock or a record changes its owner.
-use Rattle.std.proofs.Common.{◌≡◌, ℕ, zero, suc, ◌+◌, ◌<◌, ◌≤◌, nat_lt, Bool, true, false, cond, List, Option, Some, None, refl, sym, ap, ◌∙◌, subst, arith, slice_index, slice_set, ◌==◌}
+use Rattle.std.proofs.Common.{◌≡◌, ℕ, zero, suc, ◌+◌, ◌<◌, nat_lt, Bool, true, false, cond, List, Option, Some, None, refl, sym, ap, ◌∙◌, subst, arith, slice_index, slice_set, ◌==◌}
 use Rattle.jvm_types.specs.declared.{fixed_words.TheConstants.{NEXT_RECORD_WORD, MONITOR_RECORDS}, program.Program.Program}
-use Rattle.checked_program.specs.MarkedProgram.{MarkedProgram, IsMarked}
-use Rattle.machine_types.specs.{Accesses.{found_by, words_after}, Core.Core, Elision.{is_same, fails, elided}, FoundWords.{Lock, leave_content}}
-use Rattle.machine_types.specs.{Going.{failed_turn, with_phase, goes_on_if, goes_after}, HeldMonitors.{held_at, with_held, without_held, shallower}, LockWords.{word_of_lock, next_count}}
+use Rattle.machine_types.specs.{Accesses.{found_by, words_after}, Elision.{is_same, fails, elided}, FoundWords.{Lock, leave_content}, Going.{failed_turn, with_phase, goes_on_if, goes_after}}
+use Rattle.machine_types.specs.{HeldMonitors.{held_at, with_held, without_held, shallower}, LockWords.{word_of_lock, next_count}}
 use Rattle.machine_types.specs.Monitors.{Has, Tries, HasNot, claim_by, takes, freed, release, leave_wants, leave_moves, released, finish_wants, finishes, lets_go, grows_not, count_kept, fattens, grown, goes_to_wait, retakes}
-use Rattle.machine_types.specs.{Onward.{Onward, after}, Owners.{hold_by_kept, hold_by_list, drawn_by, Knows, PhaseSaw, Owns, AreLocks, locks_in, references_of}, PlainMemory.Object}
-use Rattle.machine_types.specs.{Structure.{AreHeldOnce, IsFlat, IsFat}, Threads.{Attempt, Thread}, Words.owner_word, declared.{access.Access.TheVariants.{Store, Cas}, lock.{Held.Held, Kept.Kept}}}
-use Rattle.machine_types.specs.declared.{lock.LockWord.LockWord, phase.{After.After, Phase.Phase, Toward.Toward}}
+use Rattle.machine_types.specs.{Onward.{Onward, after}, Owners.{hold_by_kept, hold_by_list, drawn_by, locks_in, references_of}, Structure.{IsFlat, IsFat}, Threads.{Attempt, Thread}}
+use Rattle.machine_types.specs.{Words.owner_word, declared.{access.Access.TheVariants.{Store, Cas}, lock.{Held.Held, Kept.Kept, LockWord.LockWord}, phase.{After.After, Phase.Phase, Toward.Toward}}}
 use Rattle.laws_threads.{specs.StructureLaws.counted_by, proofs.ThreadMove.{if_either, same_onward}}
-use Rattle.laws_states.specs.{HeapFacts.HeapFacts, SiteLaws.{SitesDiffer, SitesLieInside}, Sites.{HasObject, IsAccessOf, ReachesIf}}
-use Rattle.laws_states.proofs.CountedPhases.{IsPlain, plain_knows, plain_saw, plain_draws_none, counted_plain}
+use Rattle.laws_states.{specs.Sites.{HasObject, IsAccessOf, ReachesIf}, proofs.CountedPhases.{IsPlain, plain_knows, plain_saw, plain_draws_none, counted_plain}}
 use Rattle.laws_states.proofs.{LockPhases.{Result, on_view, loaded, plain, by_tally, knowing, refitted, lock_is, owner_none, lock_reached}, LockViews.{set_lock, set_owner, recounted, fatly}}
-use Rattle.laws_states.proofs.OwnersEvents.{Became, take_won, flag_won, let_go, fat_in, drawn_next, fresh_record, own_stored, record_taken, record_left}
+use Rattle.laws_states.proofs.{Movers.{KnownSites, LockMover, OwnsAs}, OwnersEvents.{Became, take_won, flag_won, let_go, fat_in, drawn_next, fresh_record, own_stored, record_taken, record_left}}
 use Rattle.laws_states.proofs.{PlainMoves.{same_look, finished, goes_if, goes_attempt}, SameTally.{Tally, tally_of}, WordViews.{lock_of_word, lock_view, owner_view, next_view}}
 use Rattle.jvm_types.specs.declared.outcome.End.TheVariants as ends
 use Rattle.machine_types.specs.declared.lock.Kept.TheVariants as keeps
@@ -46,20 +43,19 @@ pub runs_counted : (was : Phase) (b : Bool) → IsPlain (counted_by was (cond b 
 runs_counted was true = tt
 runs_counted was false = tt
 
-module _ (differ : SitesDiffer) (inside : SitesLieInside) (c : MarkedProgram) (objects : List Object) (s : Core) (marked : IsMarked c) (heap : HeapFacts c objects s) (count : ℕ → ℕ) (t : ℕ) (x : Thread)
-    (a : AreLocks (locks_in (references_of objects) s.words) count) (most : (m : ℕ) → count m ≤ x.cfg.range) (number : x.number ≡ t) (once : AreHeldOnce x.held) where
-  abbrev OwnsAs : Phase → Type 0
-  OwnsAs phase = Owns (locks_in (references_of objects) s.words) count t phase x
+module _ (sites : KnownSites) (mover : LockMover) where
+  open sites use {differ, inside}
+  open mover use {t, x, structured, number, state.{owners.{count, locks_are}, base.heap.{c, marked, objects, s, facts}}}
 
-  abbrev pub Makes : (phase : Phase) → OwnsAs phase → (words : List ℕ) → Thread → Type 0
-  Makes phase o words y = Result differ inside c objects s marked heap count t x a most number once phase o words y
+  abbrev pub Makes : (phase : Phase) → OwnsAs mover phase → (words : List ℕ) → Thread → Type 0
+  Makes phase o words y = Result mover phase o words y
 
   goes_plain : (held : List Held) (o : Option Onward) (was : Phase) → IsPlain was → IsPlain x.phase → IsPlain (counted_by was (goes_on_if (record x { held = held }) o).phase)
   goes_plain held o was old now = let p = goes_if x.attempt (record x { held = held }) o now (same_look x.attempt) in counted_plain was (goes_on_if (record x { held = held }) o).phase old p.phase
 
   -- ---- a free lock
 
-  pub took : (m seen : ℕ) (o : OwnsAs (phases.Take m seen)) → IsAccessOf c.program objects s Lock (Cas m (word_of_lock (locks.Free seen)) (word_of_lock (locks.Held x.number)))
+  pub took : (m seen : ℕ) (o : OwnsAs mover (phases.Take m seen)) → IsAccessOf c.program objects s Lock (Cas m (word_of_lock (locks.Free seen)) (word_of_lock (locks.Held x.number)))
       → Makes (phases.Take m seen) o (slice_set s.words m (cond (slice_index s.words m == word_of_lock (locks.Free seen)) (word_of_lock (locks.Held x.number)) (slice_index s.words m)))
       (cond (slice_index s.words m == word_of_lock (locks.Free seen)) (takes x m (keeps.Flat seen)) (failed_turn x (phases.Acquire m)))
   took m seen o reach = by_test (slice_index s.words m == word_of_lock (locks.Free seen)) refl
@@ -68,7 +64,7 @@ module _ (differ : SitesDiffer) (inside : SitesLieInside) (c : MarkedProgram) (o
       there = lock_reached c.program objects s (Cas m (word_of_lock (locks.Free seen)) (word_of_lock (locks.Held x.number))) reach
 
       view : locks_in (references_of objects) (slice_set s.words m (word_of_lock (locks.Held x.number))) ≡ set_lock m (locks.Held t) (locks_in (references_of objects) s.words)
-      view = lock_view differ inside c objects s marked heap m (word_of_lock (locks.Held x.number)) there
+      view = lock_view differ inside c objects s marked facts m (word_of_lock (locks.Held x.number)) there
           ∙ ap (λ (l : LockWord). set_lock m l (locks_in (references_of objects) s.words)) (lock_of_word (locks.Held x.number) ∙ ap locks.Held number)
 
       turned : (b : Bool) → IsPlain (counted_by (phases.Take m seen) (cond b (phases.Acquire m) (phases.Ending ends.Turns)))
@@ -77,16 +73,16 @@ module _ (differ : SitesDiffer) (inside : SitesLieInside) (c : MarkedProgram) (o
 
       by_test : (b : Bool) → (slice_index s.words m == word_of_lock (locks.Free seen)) ≡ b → Makes (phases.Take m seen) o (slice_set s.words m (cond b (word_of_lock (locks.Held x.number)) (slice_index s.words m)))
           (cond b (takes x m (keeps.Flat seen)) (failed_turn x (phases.Acquire m)))
-      by_test true e = on_view differ inside c objects s marked heap count t x a most number once (phases.Take m seen) o _ _ (takes x m (keeps.Flat seen)) (recounted m (count m) count) view
-          (take_won (locks_in (references_of objects) s.words) count t (phases.Take m seen) x a o most (takes x m (keeps.Flat seen)) (counted_by (phases.Take m seen) (takes x m (keeps.Flat seen)).phase) m seen
-          (lock_is differ inside c objects s marked heap count t x a most number once (phases.Take m seen) o m (locks.Free seen) there e)
+      by_test true e = on_view mover (phases.Take m seen) o _ _ (takes x m (keeps.Flat seen)) (recounted m (count m) count) view
+          (take_won mover (phases.Take m seen) o (takes x m (keeps.Flat seen)) (counted_by (phases.Take m seen) (takes x m (keeps.Flat seen)).phase) m seen
+          (lock_is mover (phases.Take m seen) o m (locks.Free seen) there e)
           (record { held_is = refl; attempt = refl; cfg = refl; locked = refl }) (runs_counted (phases.Take m seen) (nat_lt x.counts.instructions x.cfg.steps)))
-      by_test false e = loaded differ inside c objects s marked heap count t x a most number once (phases.Take m seen) o m (failed_turn x (phases.Acquire m))
-          (plain differ inside c objects s marked heap count t x a most number once (phases.Take m seen) o (failed_turn x (phases.Acquire m)) refl refl (omega arith) (same_look x.attempt) (turned (nat_lt (x.turns + 1) x.cfg.turns)))
+      by_test false e = loaded mover (phases.Take m seen) o m (failed_turn x (phases.Acquire m))
+          (plain mover (phases.Take m seen) o (failed_turn x (phases.Acquire m)) refl refl (omega arith) (same_look x.attempt) (turned (nat_lt (x.turns + 1) x.cfg.turns)))
 
   -- ---- a flag
 
-  pub flagged : (m u : ℕ) (o : OwnsAs (phases.Flag m u)) → IsAccessOf c.program objects s Lock (Cas m (word_of_lock (locks.Held u)) (word_of_lock (locks.Flagged u)))
+  pub flagged : (m u : ℕ) (o : OwnsAs mover (phases.Flag m u)) → IsAccessOf c.program objects s Lock (Cas m (word_of_lock (locks.Held u)) (word_of_lock (locks.Flagged u)))
       → Makes (phases.Flag m u) o (slice_set s.words m (cond (slice_index s.words m == word_of_lock (locks.Held u)) (word_of_lock (locks.Flagged u)) (slice_index s.words m))) (with_phase x (phases.Acquire m))
   flagged m u o reach = by_test (slice_index s.words m == word_of_lock (locks.Held u)) refl
     where
@@ -94,105 +90,80 @@ module _ (differ : SitesDiffer) (inside : SitesLieInside) (c : MarkedProgram) (o
       there = lock_reached c.program objects s (Cas m (word_of_lock (locks.Held u)) (word_of_lock (locks.Flagged u))) reach
 
       by_test : (b : Bool) → (slice_index s.words m == word_of_lock (locks.Held u)) ≡ b → Makes (phases.Flag m u) o (slice_set s.words m (cond b (word_of_lock (locks.Flagged u)) (slice_index s.words m))) (with_phase x (phases.Acquire m))
-      by_test true e = on_view differ inside c objects s marked heap count t x a most number once (phases.Flag m u) o _ _ (with_phase x (phases.Acquire m)) (recounted m (count m) count)
-          (lock_view differ inside c objects s marked heap m (word_of_lock (locks.Flagged u)) there ∙ ap (λ (l : LockWord). set_lock m l (locks_in (references_of objects) s.words)) (lock_of_word (locks.Flagged u)))
-          (flag_won (locks_in (references_of objects) s.words) count t (phases.Flag m u) x a o most (with_phase x (phases.Acquire m)) (phases.Acquire m) m u
-          (lock_is differ inside c objects s marked heap count t x a most number once (phases.Flag m u) o m (locks.Held u) there e)
+      by_test true e = on_view mover (phases.Flag m u) o _ _ (with_phase x (phases.Acquire m)) (recounted m (count m) count)
+          (lock_view differ inside c objects s marked facts m (word_of_lock (locks.Flagged u)) there ∙ ap (λ (l : LockWord). set_lock m l (locks_in (references_of objects) s.words)) (lock_of_word (locks.Flagged u)))
+          (flag_won mover (phases.Flag m u) o (with_phase x (phases.Acquire m)) (phases.Acquire m) m u
+          (lock_is mover (phases.Flag m u) o m (locks.Held u) there e)
           (record { held_is = refl; attempt = refl; cfg = refl; locked = omega arith }) tt)
-      by_test false e = loaded differ inside c objects s marked heap count t x a most number once (phases.Flag m u) o m (with_phase x (phases.Acquire m))
-          (plain differ inside c objects s marked heap count t x a most number once (phases.Flag m u) o (with_phase x (phases.Acquire m)) refl refl (omega arith) (same_look x.attempt) tt)
+      by_test false e = loaded mover (phases.Flag m u) o m (with_phase x (phases.Acquire m))
+          (plain mover (phases.Flag m u) o (with_phase x (phases.Acquire m)) refl refl (omega arith) (same_look x.attempt) tt)
 
   -- ---- a record without an owner
 
-  pub took_fat : (m r : ℕ) (o : OwnsAs (phases.TakeFat m r))
+  pub took_fat : (m r : ℕ) (o : OwnsAs mover (phases.TakeFat m r))
       → Makes (phases.TakeFat m r) o (slice_set s.words (owner_word r) (cond (slice_index s.words (owner_word r) == 0) (x.number + 1) (slice_index s.words (owner_word r))))
       (cond (slice_index s.words (owner_word r) == 0) (takes x m (keeps.Fat r)) (failed_turn x (phases.TakeFat m r)))
   took_fat m r o = by_test (slice_index s.words (owner_word r) == 0) refl
     where
       low : r < MONITOR_RECORDS
-      low = (a.below m r o.knows).1
+      low = (locks_are.below m r o.knows).1
 
-      knows : (b : Bool) → Knows (locks_in (references_of objects) s.words) t (counted_by (phases.TakeFat m r) (cond b (phases.TakeFat m r) (phases.Ending ends.Turns)))
-      knows true = o.knows
-      knows false = o.knows
-
-      saw : (b : Bool) → PhaseSaw (locks_in (references_of objects) s.words) count (counted_by (phases.TakeFat m r) (cond b (phases.TakeFat m r) (phases.Ending ends.Turns)))
-      saw true = tt
-      saw false = tt
-
-      draws : (b : Bool) (i : ℕ) → drawn_by (counted_by (phases.TakeFat m r) (cond b (phases.TakeFat m r) (phases.Ending ends.Turns))) ≡ Some i → drawn_by (phases.TakeFat m r) ≡ Some i
-      draws true i e = e
-      draws false i e = e
+      turned : (b : Bool) → Makes (phases.TakeFat m r) o s.words (record x { turns = x.turns + 1; phase = cond b (phases.TakeFat m r) (phases.Ending ends.Turns) })
+      turned true = knowing mover (phases.TakeFat m r) o _ refl refl refl refl o.knows tt (λ i e. e)
+      turned false = knowing mover (phases.TakeFat m r) o _ refl refl refl refl o.knows tt (λ i e. e)
 
       by_test : (b : Bool) → (slice_index s.words (owner_word r) == 0) ≡ b → Makes (phases.TakeFat m r) o (slice_set s.words (owner_word r) (cond b (x.number + 1) (slice_index s.words (owner_word r)))) (cond b (takes x m (keeps.Fat r)) (failed_turn x (phases.TakeFat m r)))
-      by_test true e = on_view differ inside c objects s marked heap count t x a most number once (phases.TakeFat m r) o _ _ (takes x m (keeps.Fat r)) count
-          (owner_view differ inside c objects s marked heap r (x.number + 1) low ∙ ap (λ (n : ℕ). set_owner r (n + 1) (locks_in (references_of objects) s.words)) number)
-          (record_taken (locks_in (references_of objects) s.words) count t (phases.TakeFat m r) x a o most (takes x m (keeps.Fat r)) (counted_by (phases.TakeFat m r) (takes x m (keeps.Fat r)).phase) m r 1 1 o.knows
-          (owner_none differ inside c objects s marked heap count t x a most number once (phases.TakeFat m r) o r low e)
+      by_test true e = on_view mover (phases.TakeFat m r) o _ _ (takes x m (keeps.Fat r)) count
+          (owner_view differ inside c objects s marked facts r (x.number + 1) low ∙ ap (λ (n : ℕ). set_owner r (n + 1) (locks_in (references_of objects) s.words)) number)
+          (record_taken mover (phases.TakeFat m r) o (takes x m (keeps.Fat r)) (counted_by (phases.TakeFat m r) (takes x m (keeps.Fat r)).phase) m r 1 1 o.knows
+          (owner_none mover (phases.TakeFat m r) o r low e)
           (record { held_is = refl; attempt = refl; cfg = refl; locked = refl }) (runs_counted (phases.TakeFat m r) (nat_lt x.counts.instructions x.cfg.steps)))
-      by_test false e = loaded differ inside c objects s marked heap count t x a most number once (phases.TakeFat m r) o (owner_word r) (failed_turn x (phases.TakeFat m r))
-          (let b = nat_lt (x.turns + 1) x.cfg.turns in knowing differ inside c objects s marked heap count t x a most number once (phases.TakeFat m r) o (failed_turn x (phases.TakeFat m r)) refl refl refl refl (knows b) (saw b) (draws b))
+      by_test false e = loaded mover (phases.TakeFat m r) o (owner_word r) (failed_turn x (phases.TakeFat m r))
+          (turned (nat_lt (x.turns + 1) x.cfg.turns))
 
-  pub retook : (m r depth : ℕ) (o : OwnsAs (phases.Retake m r depth))
+  pub retook : (m r depth : ℕ) (o : OwnsAs mover (phases.Retake m r depth))
       → Makes (phases.Retake m r depth) o (slice_set s.words (owner_word r) (cond (slice_index s.words (owner_word r) == 0) (x.number + 1) (slice_index s.words (owner_word r))))
       (cond (slice_index s.words (owner_word r) == 0) (retakes x m r depth) (failed_turn x (phases.Retake m r depth)))
   retook m r depth o = by_test (slice_index s.words (owner_word r) == 0) refl
     where
       low : r < MONITOR_RECORDS
-      low = (a.below m r o.knows).1
+      low = (locks_are.below m r o.knows).1
 
-      knows : (b : Bool) → Knows (locks_in (references_of objects) s.words) t (counted_by (phases.Retake m r depth) (cond b (phases.Retake m r depth) (phases.Ending ends.Turns)))
-      knows true = o.knows
-      knows false = o.knows
-
-      saw : (b : Bool) → PhaseSaw (locks_in (references_of objects) s.words) count (counted_by (phases.Retake m r depth) (cond b (phases.Retake m r depth) (phases.Ending ends.Turns)))
-      saw true = tt
-      saw false = tt
-
-      draws : (b : Bool) (i : ℕ) → drawn_by (counted_by (phases.Retake m r depth) (cond b (phases.Retake m r depth) (phases.Ending ends.Turns))) ≡ Some i → drawn_by (phases.Retake m r depth) ≡ Some i
-      draws true i e = e
-      draws false i e = e
+      turned : (b : Bool) → Makes (phases.Retake m r depth) o s.words (record x { turns = x.turns + 1; phase = cond b (phases.Retake m r depth) (phases.Ending ends.Turns) })
+      turned true = knowing mover (phases.Retake m r depth) o _ refl refl refl refl o.knows tt (λ i e. e)
+      turned false = knowing mover (phases.Retake m r depth) o _ refl refl refl refl o.knows tt (λ i e. e)
 
       by_test : (b : Bool) → (slice_index s.words (owner_word r) == 0) ≡ b → Makes (phases.Retake m r depth) o (slice_set s.words (owner_word r) (cond b (x.number + 1) (slice_index s.words (owner_word r)))) (cond b (retakes x m r depth) (failed_turn x (phases.Retake m r depth)))
-      by_test true e = on_view differ inside c objects s marked heap count t x a most number once (phases.Retake m r depth) o _ _ (retakes x m r depth) count
-          (owner_view differ inside c objects s marked heap r (x.number + 1) low ∙ ap (λ (n : ℕ). set_owner r (n + 1) (locks_in (references_of objects) s.words)) number)
-          (record_taken (locks_in (references_of objects) s.words) count t (phases.Retake m r depth) x a o most (retakes x m r depth) (counted_by (phases.Retake m r depth) (retakes x m r depth).phase) m r depth 0 o.knows
-          (owner_none differ inside c objects s marked heap count t x a most number once (phases.Retake m r depth) o r low e)
+      by_test true e = on_view mover (phases.Retake m r depth) o _ _ (retakes x m r depth) count
+          (owner_view differ inside c objects s marked facts r (x.number + 1) low ∙ ap (λ (n : ℕ). set_owner r (n + 1) (locks_in (references_of objects) s.words)) number)
+          (record_taken mover (phases.Retake m r depth) o (retakes x m r depth) (counted_by (phases.Retake m r depth) (retakes x m r depth).phase) m r depth 0 o.knows
+          (owner_none mover (phases.Retake m r depth) o r low e)
           (record { held_is = refl; attempt = refl; cfg = refl; locked = omega arith }) (runs_counted (phases.Retake m r depth) (nat_lt x.counts.instructions x.cfg.steps)))
-      by_test false e = loaded differ inside c objects s marked heap count t x a most number once (phases.Retake m r depth) o (owner_word r) (failed_turn x (phases.Retake m r depth))
-          (let b = nat_lt (x.turns + 1) x.cfg.turns in knowing differ inside c objects s marked heap count t x a most number once (phases.Retake m r depth) o (failed_turn x (phases.Retake m r depth)) refl refl refl refl (knows b) (saw b) (draws b))
+      by_test false e = loaded mover (phases.Retake m r depth) o (owner_word r) (failed_turn x (phases.Retake m r depth))
+          (turned (nat_lt (x.turns + 1) x.cfg.turns))
 
   -- ---- a thread that waits looks
 
-  pub waited : (m r depth : ℕ) (flag : Bool) (o : OwnsAs (phases.WaitLook m r depth)) → Makes (phases.WaitLook m r depth) o s.words (cond flag (failed_turn x (phases.WaitLook m r depth)) (with_phase x (phases.Retake m r depth)))
-  waited m r depth false o = knowing differ inside c objects s marked heap count t x a most number once (phases.WaitLook m r depth) o (with_phase x (phases.Retake m r depth)) refl refl refl refl o.knows tt (λ i e. e)
-  waited m r depth true o = let b = nat_lt (x.turns + 1) x.cfg.turns in
-      knowing differ inside c objects s marked heap count t x a most number once (phases.WaitLook m r depth) o (failed_turn x (phases.WaitLook m r depth)) refl refl refl refl (knows b) (saw b) (draws b)
+  pub waited : (m r depth : ℕ) (flag : Bool) (o : OwnsAs mover (phases.WaitLook m r depth)) → Makes (phases.WaitLook m r depth) o s.words (cond flag (failed_turn x (phases.WaitLook m r depth)) (with_phase x (phases.Retake m r depth)))
+  waited m r depth false o = knowing mover (phases.WaitLook m r depth) o (with_phase x (phases.Retake m r depth)) refl refl refl refl o.knows tt (λ i e. e)
+  waited m r depth true o = turned (nat_lt (x.turns + 1) x.cfg.turns)
     where
-      knows : (b : Bool) → Knows (locks_in (references_of objects) s.words) t (counted_by (phases.WaitLook m r depth) (cond b (phases.WaitLook m r depth) (phases.Ending ends.Turns)))
-      knows true = o.knows
-      knows false = o.knows
-
-      saw : (b : Bool) → PhaseSaw (locks_in (references_of objects) s.words) count (counted_by (phases.WaitLook m r depth) (cond b (phases.WaitLook m r depth) (phases.Ending ends.Turns)))
-      saw true = tt
-      saw false = tt
-
-      draws : (b : Bool) (i : ℕ) → drawn_by (counted_by (phases.WaitLook m r depth) (cond b (phases.WaitLook m r depth) (phases.Ending ends.Turns))) ≡ Some i → drawn_by (phases.WaitLook m r depth) ≡ Some i
-      draws true i e = e
-      draws false i e = e
+      turned : (b : Bool) → Makes (phases.WaitLook m r depth) o s.words (record x { turns = x.turns + 1; phase = cond b (phases.WaitLook m r depth) (phases.Ending ends.Turns) })
+      turned true = knowing mover (phases.WaitLook m r depth) o _ refl refl refl refl o.knows tt (λ i e. e)
+      turned false = knowing mover (phases.WaitLook m r depth) o _ refl refl refl refl o.knows tt (λ i e. e)
 
   -- ---- a monitor is left
 
   freed_view : (m n : ℕ) → HasObject objects m → locks_in (references_of objects) (slice_set s.words m (freed x n)) ≡ set_lock m (locks.Free (next_count n x.cfg.range)) (locks_in (references_of objects) s.words)
-  freed_view m n there = lock_view differ inside c objects s marked heap m (freed x n) there ∙ ap (λ (l : LockWord). set_lock m l (locks_in (references_of objects) s.words)) (lock_of_word (locks.Free (next_count n x.cfg.range)))
+  freed_view m n there = lock_view differ inside c objects s marked facts m (freed x n) there ∙ ap (λ (l : LockWord). set_lock m l (locks_in (references_of objects) s.words)) (lock_of_word (locks.Free (next_count n x.cfg.range)))
 
-  let_flat : (was : Phase) (o : OwnsAs was) (m n : ℕ) (h : Held) (after_it : After) → IsPlain was → IsPlain x.phase → held_at x.held m ≡ Some h → h.kept ≡ keeps.Flat n → HasObject objects m
+  let_flat : (was : Phase) (o : OwnsAs mover was) (m n : ℕ) (h : Held) (after_it : After) → IsPlain was → IsPlain x.phase → held_at x.held m ≡ Some h → h.kept ≡ keeps.Flat n → HasObject objects m
       → Makes was o (slice_set s.words m (freed x n)) (lets_go c.program x m after_it)
-  let_flat was o m n h after_it old now e f there = on_view differ inside c objects s marked heap count t x a most number once was o _ _ (lets_go c.program x m after_it) (recounted m (next_count n x.cfg.range) count) (freed_view m n there)
-      (let_go (locks_in (references_of objects) s.words) count t was x a o most (lets_go c.program x m after_it) (counted_by was (lets_go c.program x m after_it).phase) m n h e f once
+  let_flat was o m n h after_it old now e f there = on_view mover was o _ _ (lets_go c.program x m after_it) (recounted m (next_count n x.cfg.range) count) (freed_view m n there)
+      (let_go mover was o (lets_go c.program x m after_it) (counted_by was (lets_go c.program x m after_it).phase) m n h e f structured.stands.once
       (became_after x (without_held m x.held) (after c.program x.frames after_it)) (goes_plain (without_held m x.held) (after c.program x.frames after_it) was old now))
 
-  pub left : (m : ℕ) (after_it : After) (held : Option Held) (attempt : Option Attempt) (o : OwnsAs (phases.Leave m after_it)) → IsPlain x.phase → held_at x.held m ≡ held → x.attempt ≡ attempt
+  pub left : (m : ℕ) (after_it : After) (held : Option Held) (attempt : Option Attempt) (o : OwnsAs mover (phases.Leave m after_it)) → IsPlain x.phase → held_at x.held m ≡ held → x.attempt ≡ attempt
       → ReachesIf c.program objects s (leave_content (claim_by m held attempt)) (leave_wants x m (claim_by m held attempt))
       → Makes (phases.Leave m after_it) o (words_after s.words (leave_wants x m (claim_by m held attempt))) (leave_moves c.program x m after_it (claim_by m held attempt) (found_by s.words (leave_wants x m (claim_by m held attempt))))
   left m after_it (Some h) attempt o now e f reach = by_depth (nat_lt 1 h.depth) reach
@@ -207,13 +178,13 @@ module _ (differ : SitesDiffer) (inside : SitesLieInside) (c : MarkedProgram) (o
           by_test : (b : Bool) → (slice_index s.words m == word_of_lock (locks.Held x.number)) ≡ b
               → Makes (phases.Leave m after_it) o (slice_set s.words m (cond b (freed x n) (slice_index s.words m))) (cond b (lets_go c.program x m after_it) (with_phase x (phases.Grow m (towards.Leave after_it))))
           by_test true i = let_flat (phases.Leave m after_it) o m n h after_it tt now e g there
-          by_test false i = loaded differ inside c objects s marked heap count t x a most number once (phases.Leave m after_it) o m (with_phase x (phases.Grow m (towards.Leave after_it)))
-              (plain differ inside c objects s marked heap count t x a most number once (phases.Leave m after_it) o (with_phase x (phases.Grow m (towards.Leave after_it))) refl refl (omega arith) (same_look x.attempt) tt)
+          by_test false i = loaded mover (phases.Leave m after_it) o m (with_phase x (phases.Grow m (towards.Leave after_it)))
+              (plain mover (phases.Leave m after_it) o (with_phase x (phases.Grow m (towards.Leave after_it))) refl refl (omega arith) (same_look x.attempt) tt)
       by_kept (keeps.Fat r) g reach =
           let fat = fatly t ((locks_in (references_of objects) s.words).lock m) (locks_in (references_of objects) s.words).owner r (o.holds m ∙ ap hold_by_list e ∙ ap hold_by_kept g) in
-          on_view differ inside c objects s marked heap count t x a most number once (phases.Leave m after_it) o _ _ (lets_go c.program x m after_it) count
-          (owner_view differ inside c objects s marked heap r 0 (a.below m r fat.0).1)
-          (record_left (locks_in (references_of objects) s.words) count t (phases.Leave m after_it) x a o most (lets_go c.program x m after_it) (counted_by (phases.Leave m after_it) (lets_go c.program x m after_it).phase) m r h e g once
+          on_view mover (phases.Leave m after_it) o _ _ (lets_go c.program x m after_it) count
+          (owner_view differ inside c objects s marked facts r 0 (locks_are.below m r fat.0).1)
+          (record_left mover (phases.Leave m after_it) o (lets_go c.program x m after_it) (counted_by (phases.Leave m after_it) (lets_go c.program x m after_it).phase) m r h e g structured.stands.once
           (became_after x (without_held m x.held) (after c.program x.frames after_it))
           (λ w i. plain_knows w t _ is) (λ w. plain_saw w count _ is) (λ i d. let none : drawn_by (counted_by (phases.Leave m after_it) (lets_go c.program x m after_it).phase) ≡ None = plain_draws_none _ is in cc))
         where
@@ -223,26 +194,26 @@ module _ (differ : SitesDiffer) (inside : SitesLieInside) (c : MarkedProgram) (o
       by_depth : (b : Bool) → ReachesIf c.program objects s (leave_content (Has h)) (cond b None (Some (release x m h.kept)))
           → Makes (phases.Leave m after_it) o (words_after s.words (cond b None (Some (release x m h.kept))))
           (cond b (goes_on_if (record x { held = with_held (shallower h) x.held }) (after c.program x.frames after_it)) (released c.program x m after_it h.kept (found_by s.words (cond b None (Some (release x m h.kept))))))
-      by_depth true reach = refitted differ inside c objects s marked heap count t x a most number once (phases.Leave m after_it) o h (shallower h) m _ e refl refl
+      by_depth true reach = refitted mover (phases.Leave m after_it) o h (shallower h) m _ e refl refl
           (became_after x (with_held (shallower h) x.held) (after c.program x.frames after_it)) (goes_plain (with_held (shallower h) x.held) (after c.program x.frames after_it) (phases.Leave m after_it) tt now)
       by_depth false reach = by_kept h.kept refl reach
-  left m after_it None None o now e f reach = plain differ inside c objects s marked heap count t x a most number once (phases.Leave m after_it) o x refl refl (omega arith) (same_look x.attempt) (counted_plain (phases.Leave m after_it) x.phase tt now)
+  left m after_it None None o now e f reach = plain mover (phases.Leave m after_it) o x refl refl (omega arith) (same_look x.attempt) (counted_plain (phases.Leave m after_it) x.phase tt now)
   left m after_it None (Some q) o now e f reach = by_attempt (q.monitor == m)
     where
       by_inner : (inner : ℕ) → Makes (phases.Leave m after_it) o (words_after s.words (finish_wants m inner)) (finishes c.program x after_it q inner (found_by s.words (finish_wants m inner)))
-      by_inner zero = loaded differ inside c objects s marked heap count t x a most number once (phases.Leave m after_it) o m _
-          (by_tally differ inside c objects s marked heap count t x a most number once (phases.Leave m after_it) o _ (tallies.finished c.program x after_it q zero (slice_index s.words m)) (finished_cfg c.program x after_it q zero (slice_index s.words m))
+      by_inner zero = loaded mover (phases.Leave m after_it) o m _
+          (by_tally mover (phases.Leave m after_it) o _ (tallies.finished c.program x after_it q zero (slice_index s.words m)) (finished_cfg c.program x after_it q zero (slice_index s.words m))
           (finished c.program x after_it q zero (slice_index s.words m) now f) tt)
-      by_inner (suc inner) = by_tally differ inside c objects s marked heap count t x a most number once (phases.Leave m after_it) o _ (tallies.finished c.program x after_it q (suc inner) 0) (finished_cfg c.program x after_it q (suc inner) 0)
+      by_inner (suc inner) = by_tally mover (phases.Leave m after_it) o _ (tallies.finished c.program x after_it q (suc inner) 0) (finished_cfg c.program x after_it q (suc inner) 0)
           (finished c.program x after_it q (suc inner) 0 now f) tt
 
       by_attempt : (b : Bool) → Makes (phases.Leave m after_it) o (words_after s.words (leave_wants x m (cond b (Tries q) HasNot))) (leave_moves c.program x m after_it (cond b (Tries q) HasNot) (found_by s.words (leave_wants x m (cond b (Tries q) HasNot))))
       by_attempt true = by_inner q.inner
-      by_attempt false = plain differ inside c objects s marked heap count t x a most number once (phases.Leave m after_it) o x refl refl (omega arith) (same_look x.attempt) (counted_plain (phases.Leave m after_it) x.phase tt now)
+      by_attempt false = plain mover (phases.Leave m after_it) o x refl refl (omega arith) (same_look x.attempt) (counted_plain (phases.Leave m after_it) x.phase tt now)
 
   -- ---- a flat lock that cannot grow is left as it is
 
-  pub flat_out : (m : ℕ) (after_it : After) (held : Option Held) (o : OwnsAs (phases.FlatOut m after_it)) → IsPlain x.phase → held_at x.held m ≡ held → IsFlat held
+  pub flat_out : (m : ℕ) (after_it : After) (held : Option Held) (o : OwnsAs mover (phases.FlatOut m after_it)) → IsPlain x.phase → held_at x.held m ≡ held → IsFlat held
       → IsAccessOf c.program objects s Lock (Store m (freed x (count_kept held))) → Makes (phases.FlatOut m after_it) o (slice_set s.words m (freed x (count_kept held))) (lets_go c.program x m after_it)
   flat_out m after_it None o now e flat reach = absurd flat
   flat_out m after_it (Some h) o now e flat reach =
@@ -252,40 +223,40 @@ module _ (differ : SitesDiffer) (inside : SitesLieInside) (c : MarkedProgram) (o
 
   -- ---- a lock grows
 
-  pub drawn : (m : ℕ) (toward : Toward) (o : OwnsAs (phases.Grow m toward))
+  pub drawn : (m : ℕ) (toward : Toward) (o : OwnsAs mover (phases.Grow m toward))
       → Makes (phases.Grow m toward) o (slice_set s.words NEXT_RECORD_WORD (slice_index s.words NEXT_RECORD_WORD + 1)) (cond (nat_lt (slice_index s.words NEXT_RECORD_WORD) MONITOR_RECORDS) (with_phase x (phases.Own m (slice_index s.words NEXT_RECORD_WORD) toward)) (grows_not x m toward))
   drawn m toward o = by_test (nat_lt (slice_index s.words NEXT_RECORD_WORD) MONITOR_RECORDS)
     where
-      none_left : (toward : Toward) (o : OwnsAs (phases.Grow m toward)) → Makes (phases.Grow m toward) o (slice_set s.words NEXT_RECORD_WORD (slice_index s.words NEXT_RECORD_WORD + 1)) (grows_not x m toward)
-      none_left (towards.Leave after_it) o = on_view differ inside c objects s marked heap count t x a most number once (phases.Grow m (towards.Leave after_it)) o _ _ (grows_not x m (towards.Leave after_it)) count (next_view differ inside c objects s marked heap (slice_index s.words NEXT_RECORD_WORD + 1))
-          (drawn_next (locks_in (references_of objects) s.words) count t (phases.Grow m (towards.Leave after_it)) x a o most (grows_not x m (towards.Leave after_it)) (phases.FlatOut m after_it)
+      none_left : (toward : Toward) (o : OwnsAs mover (phases.Grow m toward)) → Makes (phases.Grow m toward) o (slice_set s.words NEXT_RECORD_WORD (slice_index s.words NEXT_RECORD_WORD + 1)) (grows_not x m toward)
+      none_left (towards.Leave after_it) o = on_view mover (phases.Grow m (towards.Leave after_it)) o _ _ (grows_not x m (towards.Leave after_it)) count (next_view differ inside c objects s marked facts (slice_index s.words NEXT_RECORD_WORD + 1))
+          (drawn_next mover (phases.Grow m (towards.Leave after_it)) o (grows_not x m (towards.Leave after_it)) (phases.FlatOut m after_it)
           (record { held_is = refl; attempt = refl; cfg = refl; locked = omega arith }) tt tt (λ i e. absurd (cc)))
-      none_left towards.Wait o = on_view differ inside c objects s marked heap count t x a most number once (phases.Grow m towards.Wait) o _ _ (grows_not x m towards.Wait) count (next_view differ inside c objects s marked heap (slice_index s.words NEXT_RECORD_WORD + 1))
-          (drawn_next (locks_in (references_of objects) s.words) count t (phases.Grow m towards.Wait) x a o most (grows_not x m towards.Wait) (phases.Grow m towards.Wait)
+      none_left towards.Wait o = on_view mover (phases.Grow m towards.Wait) o _ _ (grows_not x m towards.Wait) count (next_view differ inside c objects s marked facts (slice_index s.words NEXT_RECORD_WORD + 1))
+          (drawn_next mover (phases.Grow m towards.Wait) o (grows_not x m towards.Wait) (phases.Grow m towards.Wait)
           (record { held_is = refl; attempt = refl; cfg = refl; locked = omega arith }) tt tt (λ i e. absurd (cc)))
 
       by_test : (b : Bool) → Makes (phases.Grow m toward) o (slice_set s.words NEXT_RECORD_WORD (slice_index s.words NEXT_RECORD_WORD + 1)) (cond b (with_phase x (phases.Own m (slice_index s.words NEXT_RECORD_WORD) toward)) (grows_not x m toward))
       by_test true = let y : Thread = with_phase x (phases.Own m (slice_index s.words NEXT_RECORD_WORD) toward) in
-          on_view differ inside c objects s marked heap count t x a most number once (phases.Grow m toward) o _ _ y count (next_view differ inside c objects s marked heap (slice_index s.words NEXT_RECORD_WORD + 1))
-          (drawn_next (locks_in (references_of objects) s.words) count t (phases.Grow m toward) x a o most y (phases.Own m (slice_index s.words NEXT_RECORD_WORD) toward)
+          on_view mover (phases.Grow m toward) o _ _ y count (next_view differ inside c objects s marked facts (slice_index s.words NEXT_RECORD_WORD + 1))
+          (drawn_next mover (phases.Grow m toward) o y (phases.Own m (slice_index s.words NEXT_RECORD_WORD) toward)
           (record { held_is = refl; attempt = refl; cfg = refl; locked = omega arith })
-          (fresh_record (locks_in (references_of objects) s.words) count t (phases.Grow m toward) x a o most y (phases.Own m (slice_index s.words NEXT_RECORD_WORD) toward)) tt
+          (fresh_record mover (phases.Grow m toward) o y (phases.Own m (slice_index s.words NEXT_RECORD_WORD) toward)) tt
           (λ i e. let same : slice_index s.words NEXT_RECORD_WORD ≡ i = cc in omega (arith, same)))
       by_test false = none_left toward o
 
-  pub owned : (m r : ℕ) (toward : Toward) (o : OwnsAs (phases.Own m r toward)) → r < MONITOR_RECORDS → Makes (phases.Own m r toward) o (slice_set s.words (owner_word r) (x.number + 1)) (with_phase x (phases.FatIn m r toward))
-  owned m r toward o low = on_view differ inside c objects s marked heap count t x a most number once (phases.Own m r toward) o _ _ (with_phase x (phases.FatIn m r toward)) count
-      (owner_view differ inside c objects s marked heap r (x.number + 1) low ∙ ap (λ (n : ℕ). set_owner r (n + 1) (locks_in (references_of objects) s.words)) number)
-      (own_stored (locks_in (references_of objects) s.words) count t (phases.Own m r toward) x a o most (with_phase x (phases.FatIn m r toward)) (phases.FatIn m r toward) r o.knows refl
+  pub owned : (m r : ℕ) (toward : Toward) (o : OwnsAs mover (phases.Own m r toward)) → r < MONITOR_RECORDS → Makes (phases.Own m r toward) o (slice_set s.words (owner_word r) (x.number + 1)) (with_phase x (phases.FatIn m r toward))
+  owned m r toward o low = on_view mover (phases.Own m r toward) o _ _ (with_phase x (phases.FatIn m r toward)) count
+      (owner_view differ inside c objects s marked facts r (x.number + 1) low ∙ ap (λ (n : ℕ). set_owner r (n + 1) (locks_in (references_of objects) s.words)) number)
+      (own_stored mover (phases.Own m r toward) o (with_phase x (phases.FatIn m r toward)) (phases.FatIn m r toward) r o.knows refl
       (record { held_is = refl; attempt = refl; cfg = refl; locked = omega arith }) (λ w d e. (d, e)) (λ w. tt) (λ i e. e))
 
-  pub fattened : (m r : ℕ) (toward : Toward) (held : Option Held) (o : OwnsAs (phases.FatIn m r toward)) → r < MONITOR_RECORDS → held_at x.held m ≡ held → IsFlat held → IsAccessOf c.program objects s Lock (Store m (word_of_lock (locks.Fat r)))
+  pub fattened : (m r : ℕ) (toward : Toward) (held : Option Held) (o : OwnsAs mover (phases.FatIn m r toward)) → r < MONITOR_RECORDS → held_at x.held m ≡ held → IsFlat held → IsAccessOf c.program objects s Lock (Store m (word_of_lock (locks.Fat r)))
       → Makes (phases.FatIn m r toward) o (slice_set s.words m (word_of_lock (locks.Fat r))) (fattens x m r toward held)
   fattened m r toward None o low e flat reach = absurd flat
   fattened m r toward (Some h) o low e flat reach = let y : Thread = fattens x m r toward (Some h) in
-      on_view differ inside c objects s marked heap count t x a most number once (phases.FatIn m r toward) o _ _ y (recounted m (count m) count)
-      (lock_view differ inside c objects s marked heap m (word_of_lock (locks.Fat r)) (lock_reached c.program objects s (Store m (word_of_lock (locks.Fat r))) reach) ∙ ap (λ (l : LockWord). set_lock m l (locks_in (references_of objects) s.words)) (lock_of_word (locks.Fat r)))
-      (fat_in (locks_in (references_of objects) s.words) count t (phases.FatIn m r toward) x a o most y (counted_by (phases.FatIn m r toward) (grown m r toward)) m r h o.knows.0 low o.knows.1 refl e (ap hold_by_kept flat.1)
+      on_view mover (phases.FatIn m r toward) o _ _ y (recounted m (count m) count)
+      (lock_view differ inside c objects s marked facts m (word_of_lock (locks.Fat r)) (lock_reached c.program objects s (Store m (word_of_lock (locks.Fat r))) reach) ∙ ap (λ (l : LockWord). set_lock m l (locks_in (references_of objects) s.words)) (lock_of_word (locks.Fat r)))
+      (fat_in mover (phases.FatIn m r toward) o y (counted_by (phases.FatIn m r toward) (grown m r toward)) m r h o.knows.0 low o.knows.1 refl e (ap hold_by_kept flat.1)
       (record { held_is = refl; attempt = refl; cfg = refl; locked = omega arith }) (grown_plain toward))
     where
       grown_plain : (toward : Toward) → IsPlain (counted_by (phases.FatIn m r toward) (grown m r toward))
@@ -294,9 +265,9 @@ module _ (differ : SitesDiffer) (inside : SitesLieInside) (c : MarkedProgram) (o
 
   -- ---- a wait gives the monitor up
 
-  pub gone_out : (m r : ℕ) (held : Option Held) (o : OwnsAs (phases.WaitOut m r)) → r < MONITOR_RECORDS → held_at x.held m ≡ held → IsFat r held → Makes (phases.WaitOut m r) o (slice_set s.words (owner_word r) 0) (goes_to_wait x m r held)
+  pub gone_out : (m r : ℕ) (held : Option Held) (o : OwnsAs mover (phases.WaitOut m r)) → r < MONITOR_RECORDS → held_at x.held m ≡ held → IsFat r held → Makes (phases.WaitOut m r) o (slice_set s.words (owner_word r) 0) (goes_to_wait x m r held)
   gone_out m r None o low e fat = absurd fat
   gone_out m r (Some h) o low e fat = let y : Thread = goes_to_wait x m r (Some h) in
-      on_view differ inside c objects s marked heap count t x a most number once (phases.WaitOut m r) o _ _ y count (owner_view differ inside c objects s marked heap r 0 low)
-      (record_left (locks_in (references_of objects) s.words) count t (phases.WaitOut m r) x a o most y (phases.WaitLook m r h.depth) m r h e fat once
+      on_view mover (phases.WaitOut m r) o _ _ y count (owner_view differ inside c objects s marked facts r 0 low)
+      (record_left mover (phases.WaitOut m r) o y (phases.WaitLook m r h.depth) m r h e fat structured.stands.once
       (record { held_is = refl; attempt = refl; cfg = refl; locked = omega arith }) (λ w i. i) (λ w. tt) (λ i d. cc))

@@ -3,11 +3,11 @@ use Rattle.std.proofs.Common.{◌≡◌, inl, inr, ℕ, ◌+◌, ◌<◌, ◌≤
 use Rattle.std.proofs.lemmas.Bool.{ne_eqb, eqb-false, Decides.{nat_tests, Decides-eqb}}
 use Rattle.jvm_types.specs.declared.fixed_words.TheConstants.{MONITOR_RECORDS}
 use Rattle.machine_types.specs.{HeldMonitors.{held_at, with_held, without_held}, LockWords.next_count}
-use Rattle.machine_types.specs.Owners.{Locks, Hold, NotHeld, HeldFlat, HeldFat, hold_by_word, hold_by_kept, hold_by_list, drawn_by, IsDrawn, Knows, PhaseSaw, AttemptSawIn, IsKeptIn, Owns, AreLocks, one_if_flat}
+use Rattle.machine_types.specs.Owners.{Locks, Hold, NotHeld, HeldFlat, HeldFat, hold_by_word, hold_by_kept, hold_by_list, drawn_by, IsDrawn, Knows, PhaseSaw, AttemptSawIn, IsKeptIn, one_if_flat}
 use Rattle.machine_types.specs.{Structure.AreHeldOnce, Threads.{Attempt, Thread}, declared.{config.Config.Config, lock.{Held.Held, Kept.Kept, LockWord.LockWord}, phase.Phase.Phase}}
 use Rattle.machine_types.proofs.PlainStepLaws.{is_same}
 use Rattle.laws_threads.proofs.HeldLists.{held_monitor, held_put, held_without}
-use Rattle.laws_states.proofs.CountedPhases.{IsPlain, plain_knows, plain_saw, plain_draws_none}
+use Rattle.laws_states.proofs.{CountedPhases.{IsPlain, plain_knows, plain_saw, plain_draws_none}, Movers.{LockMover, OwnsAs, locks_of}}
 use Rattle.laws_states.proofs.LockViews.{set_lock, set_owner, set_next, recounted, itself, another, fatly, thin_if_flat, flat_alone}
 use Rattle.laws_states.proofs.{LockWritten.{lock_written, put_holds, drop_holds, put_keeps, drop_keeps}, OwnerWritten.{owner_written, words_apart, take_same, own_attempt, attempt_same}}
 use Rattle.laws_states.proofs.OwnersStep.{Owes, flat_in}
@@ -37,7 +37,12 @@ flat_once (HeldFat r) = omega arith
 none_drawn : (phase : Phase) (i : ℕ) → IsPlain phase → drawn_by phase ≡ Some i → ⊥
 none_drawn phase i is e = let none : drawn_by phase ≡ None = plain_draws_none phase is in cc
 
-module _ (v : Locks) (count : ℕ → ℕ) (t : ℕ) (was : Phase) (x : Thread) (a : AreLocks v count) (o : Owns v count t was x) (most : (m : ℕ) → count m ≤ x.cfg.range) (y : Thread) (now : Phase) where
+module _ (mover : LockMover) (was : Phase) (o : OwnsAs mover was) (y : Thread) (now : Phase) where
+  open mover use {t, x, most, state.owners.{count, locks_are as a}}
+
+  abbrev v : Locks
+  v = locks_of mover.state.base.heap
+
   -- ---- nothing is written
 
   pub unwritten : ((m : ℕ) → hold_by_list (held_at y.held m) ≡ hold_by_list (held_at x.held m)) → ((m : ℕ) → IsKeptIn (held_at y.held m) (count m)) → AttemptSawIn v count y.cfg y.attempt → x.counts.locked ≤ y.counts.locked

@@ -1,11 +1,10 @@
 -- One event of a thread changes one word: what it has to show of the thread, of the others, and of the words.
 use Rattle.std.{proofs.Common.{◌≡◌, ◌≢◌, ◌⊎◌, inl, inr, ℕ, ◌+◌, ◌<◌, ◌≤◌, Bool, true, false, cond, List, Option, Some, refl, sym, ap, ◌∙◌, subst, arith, ◌==◌, slice_get, slice_set}, specs.List.sum_by}
 use Rattle.std.proofs.lemmas.Bool.{eqb-false, Decides.Decides-eqb}
-use Rattle.checked_program.specs.MarkedProgram.{MarkedProgram}
-use Rattle.machine_types.specs.{Core.Core, HeldMonitors.held_at, Owners.{Locks, locks_in, hold_by_list, drawn_by, Knows, Owns, AreLocks, DrewApart, one_if_flat, flat_holders, Owners}}
-use Rattle.machine_types.specs.{Structure.Structure, Threads.Thread, declared.{config.Config.Config, phase.Phase.Phase}}
+use Rattle.machine_types.specs.{HeldMonitors.held_at, Owners.{Locks, locks_in, hold_by_list, drawn_by, Knows, Owns, AreLocks, DrewApart, one_if_flat, flat_holders, Owners}}
+use Rattle.machine_types.specs.{Threads.Thread, declared.{config.Config.Config, phase.Phase.Phase}}
 use Rattle.laws_threads.{specs.{StateLaws.{counted_of, counted_phase_at}, StructureLaws.counted_by}, proofs.StateSteps.{set_there, set_other}}
-use Rattle.laws_states.proofs.{CountedPhases.{was_draws, phase_draws, counted_draws}, Sums.sum_set}
+use Rattle.laws_states.proofs.{CountedPhases.{was_draws, phase_draws, counted_draws}, Movers.{LockMover, locks_of}, Sums.sum_set}
 use Rattle.machine_types.specs.declared.phase.Phase.TheVariants as phases
 
 -- ---- one thread of a list is changed
@@ -31,11 +30,21 @@ drawn_below v u r (phases.Own m k toward) h e = let same : k ≡ r = cc in subst
 drawn_below v u r (phases.FatIn m k toward) h e = let same : k ≡ r = cc in subst (λ (i : ℕ). i < v.next) same h.0.below
 drawn_below v u r phase h e = absurd (cc)
 
-module _ (c : MarkedProgram) (references later : List ℕ) (was : ℕ → Phase) (s : Core) (owners : Owners references was s) (structure : Structure c was s.threads) (t : ℕ) (after : List ℕ) (x y : Thread) (there : slice_get s.threads t ≡ Some x)
-    (settings : (u : ℕ) (z : Thread) → slice_get s.threads u ≡ Some z → z.cfg ≡ x.cfg) (same_cfg : y.cfg ≡ x.cfg)
-    (more : ℕ → ℕ) (owes : Owes (locks_in references s.words) (locks_in later after) owners.count more t (was t) (counted_by (was t) y.phase) x y) where
-  abbrev threads : List Thread
-  threads = slice_set s.threads t y
+-- the words, the thread and the counts behind the event, by the references of the objects then
+pub record Owed (m : LockMover) : Type 0 where
+  pub later : List ℕ
+  pub after : List ℕ
+  pub y : Thread
+  pub same_cfg : y.cfg ≡ m.x.cfg
+  pub more : ℕ → ℕ
+  pub owes : Owes (locks_of m.state.base.heap) (locks_in later after) m.state.owners.count more m.t (m.state.was m.t) (counted_by (m.state.was m.t) y.phase) m.x y
+
+module _ (mover : LockMover) (owed : Owed mover) where
+  open mover use {t, x, there, state.{was, structure, owners, base.{threads, heap.s}}}
+  open owed use {later, after, y, same_cfg, more, owes}
+
+  settings : (u : ℕ) (z : Thread) → slice_get s.threads u ≡ Some z → z.cfg ≡ x.cfg
+  settings u z e = (threads.own u z e).settings ∙ sym (threads.own t x there).settings
 
   here : (u : ℕ) (z : Thread) → (u == t) ≡ true → slice_get (slice_set s.threads t y) u ≡ Some z → y ≡ z
   here u z g e = set_there s.threads t x y z there (ap (λ (n : ℕ). slice_get (slice_set s.threads t y) n) (sym ((Decides-eqb u t).0 g)) ∙ e)
@@ -66,13 +75,13 @@ module _ (c : MarkedProgram) (references later : List ℕ) (was : ℕ → Phase)
   drew : (u : ℕ) (z : Thread) → (u == t) ≡ false → slice_get s.threads u ≡ Some z → (r : ℕ) → drawn_by y.phase ≡ Some r → drawn_by z.phase ≡ Some r → ⊥
   drew u z g e r a b = by_old (owes.draws r (counted_draws (was t) y.phase r a))
     where
-      by_old : (drawn_by (was t) ≡ Some r) ⊎ ((locks_in references s.words).next ≤ r) → ⊥
+      by_old : (drawn_by (was t) ≡ Some r) ⊎ ((locks_of mover.state.base.heap).next ≤ r) → ⊥
       by_old (inl d) = let st = structure t x there in owners.apart t u x z there e (λ q. eqb-false u t g (sym q)) r (was_draws x.phase (was t) r st.is_as d) b
       by_old (inr d) =
           let sz = structure u z e in
           let owns = owners.each u z e in
           let drawn : drawn_by (was u) ≡ Some r = phase_draws z.phase (was u) r sz.is_as b in
-          let below = drawn_below (locks_in references s.words) u r (was u) owns.knows drawn in
+          let below = drawn_below (locks_of mover.state.base.heap) u r (was u) owns.knows drawn in
           absurd (omega (arith, below, d))
 
   pub owned_on : Owners later (counted_phase_at was t (slice_set s.threads t y)) (record { words = after; threads = slice_set s.threads t y })

@@ -2,10 +2,9 @@
 use Rattle.std.proofs.Common.{◌≡◌, ◌⊎◌, inl, inr, ℕ, zero, suc, ◌≤◌, Bool, true, false, cond, List, [], ◌∷◌, map, Option, Some, refl, ap, sym, subst, ◌∙◌, arith, slice_get, if◌then◌else◌}
 use Rattle.std.{specs.List.sum_by, proofs.lemmas.List.Sums.sum_by-cons}
 use Rattle.jvm_types.specs.declared.{outcome.End.End, program.Program.Program}
-use Rattle.checked_program.specs.MarkedProgram.{MarkedProgram}
-use Rattle.machine_types.specs.{Core.{Core, may_begin, with_roots, how_ended, part_begins, next_threads, next}, HeldMonitors.held_at}
-use Rattle.machine_types.specs.{Owners.{Locks, locks_in, hold_by_list, drawn_by, Knows, PhaseSaw, AttemptSawIn, IsKeptIn, Owns, one_if_flat, Owners}, Parts.{run_roots, done_roots}}
-use Rattle.machine_types.specs.{Structure.{IsAs, Structure}, Threads.{Attempt, Thread}, declared.{config.Config.Config, lock.Held.Held, phase.Phase.Phase}}
+use Rattle.machine_types.specs.{Core.{may_begin, with_roots, how_ended, part_begins, next_threads, next}, HeldMonitors.held_at}
+use Rattle.machine_types.specs.{Owners.{Locks, locks_in, hold_by_list, drawn_by, Knows, PhaseSaw, AttemptSawIn, IsKeptIn, Owns, one_if_flat}, Parts.{run_roots, done_roots}}
+use Rattle.machine_types.specs.{Structure.IsAs, Threads.{Attempt, Thread}, declared.{config.Config.Config, lock.Held.Held, phase.Phase.Phase}}
 use Rattle.laws_threads.specs.{PartLaws.counted_next, StateLaws.counted_of, StructureLaws.counted_by}
 use Rattle.laws_states.{specs.OwnersLaws.NextKeepsOwners, proofs.{BegunThreads.{StartsOrEnded, Begins, begun}, CountedPhases.{counted_keeps, IsPlain, plain_knows, plain_saw}}}
 use Rattle.jvm_types.specs.declared.outcome.End.TheVariants as ends
@@ -71,36 +70,32 @@ drew_before z y r begins e = by_side begins.phase
 
 -- ---- all
 
-module _ (c : MarkedProgram) (references : List ℕ) (was : ℕ → Phase) (s : Core) (structure : Structure c was s.threads) (owners : Owners references was s) where
-  each_owns : (u : ℕ) (y : Thread) → slice_get (next_threads c.program s.threads) u ≡ Some y → Owns (locks_in references s.words) owners.count u (counted_next c was s u) y
-  each_owns u y e = by_thread (begun c.program s.threads u y e)
-    where
-      by_thread : (z : Thread) × (slice_get s.threads u ≡ Some z) × Begins z y → Owns (locks_in references s.words) owners.count u (counted_next c was s u) y
-      by_thread k = by_test (may_begin s.threads)
-        where
-          owns : Owns (locks_in references s.words) owners.count u (was u) k.0
-          owns = owners.each u k.0 k.1
-
-          by_test : (b : Bool) → Owns (locks_in references s.words) owners.count u (cond b (counted_of (was u) (slice_get (next c s).threads u)) (was u)) y
-          by_test true = subst (λ (o : Option Thread). Owns (locks_in references s.words) owners.count u (counted_of (was u) o) y) (sym e) (counted_stays (locks_in references s.words) owners.count u (was u) k.0 y owns k.2 (structure u k.0 k.1).is_as)
-          by_test false = stays (locks_in references s.words) owners.count u (was u) k.0 y owns k.2 (was u) owns.knows owns.take
-
-  pub next_owners : Owners references (counted_next c was s) (next c s)
-  next_owners = record {
-    count = owners.count;
-    locks_are = owners.locks_are;
-    each = each_owns;
-    apart = λ t u x y e f d r g h.
-        let k = begun c.program s.threads t x e in
-        let l = begun c.program s.threads u y f in
-        owners.apart t u k.0 l.0 k.1 l.1 d r (drew_before k.0 x r k.2 g) (drew_before l.0 y r l.2 h);
-    within = λ m t x e. let k = begun c.program s.threads t x e in subst (λ (cfg : Config). owners.count m ≤ cfg.range) (sym k.2.cfg) (owners.within m t k.0 k.1);
-    few = λ m.
-        let flat = next_sum (λ x. one_if_flat (hold_by_list (held_at x.held m))) (λ roots x. refl) (λ n first x. refl) c.program s.threads in
-        let locked = next_sum (λ x. x.counts.locked) (λ roots x. refl) (λ n first x. refl) c.program s.threads in
-        let few = owners.few m in
-        omega (arith, flat, locked, few);
-  }
-
 pub next_keeps_owners : NextKeepsOwners
-next_keeps_owners c references was s structure owners = next_owners c references was s structure owners
+next_keeps_owners c references was s structure owners = record {
+  count = owners.count;
+  locks_are = owners.locks_are;
+  each = each_owns;
+  apart = λ t u x y e f d r g h.
+      let k = begun c.program s.threads t x e in
+      let l = begun c.program s.threads u y f in
+      owners.apart t u k.0 l.0 k.1 l.1 d r (drew_before k.0 x r k.2 g) (drew_before l.0 y r l.2 h);
+  within = λ m t x e. let k = begun c.program s.threads t x e in subst (λ (cfg : Config). owners.count m ≤ cfg.range) (sym k.2.cfg) (owners.within m t k.0 k.1);
+  few = λ m.
+      let flat = next_sum (λ x. one_if_flat (hold_by_list (held_at x.held m))) (λ roots x. refl) (λ n first x. refl) c.program s.threads in
+      let locked = next_sum (λ x. x.counts.locked) (λ roots x. refl) (λ n first x. refl) c.program s.threads in
+      let few = owners.few m in
+      omega (arith, flat, locked, few);
+}
+  where
+    each_owns : (u : ℕ) (y : Thread) → slice_get (next_threads c.program s.threads) u ≡ Some y → Owns (locks_in references s.words) owners.count u (counted_next c was s u) y
+    each_owns u y e = by_thread (begun c.program s.threads u y e)
+      where
+        by_thread : (z : Thread) × (slice_get s.threads u ≡ Some z) × Begins z y → Owns (locks_in references s.words) owners.count u (counted_next c was s u) y
+        by_thread k = by_test (may_begin s.threads)
+          where
+            owns : Owns (locks_in references s.words) owners.count u (was u) k.0
+            owns = owners.each u k.0 k.1
+
+            by_test : (b : Bool) → Owns (locks_in references s.words) owners.count u (cond b (counted_of (was u) (slice_get (next c s).threads u)) (was u)) y
+            by_test true = subst (λ (o : Option Thread). Owns (locks_in references s.words) owners.count u (counted_of (was u) o) y) (sym e) (counted_stays (locks_in references s.words) owners.count u (was u) k.0 y owns k.2 (structure u k.0 k.1).is_as)
+            by_test false = stays (locks_in references s.words) owners.count u (was u) k.0 y owns k.2 (was u) owns.knows owns.take

@@ -50,7 +50,7 @@ has_ended : (phase : Phase) → ended_by has_finished phase ≡ true → HasFini
 has_ended (phases.Ended reason) e = e
 has_ended phase e = absurd (cc)
 
-module _ (p : Program) (x : Thread) (workers : List Thread) (stand : PartsStand p (x ∷ workers)) where
+module _ (p : Program) (x : Thread) (workers : List Thread) (old : PartsStand p (x ∷ workers)) where
   abbrev seen : Thread
   seen = record x { part = 1; first = how_ended x.phase }
 
@@ -64,7 +64,7 @@ module _ (p : Program) (x : Thread) (workers : List Thread) (stand : PartsStand 
   }
     where
       back : (t : ℕ) (y : Thread) → slice_get (seen ∷ map (with_roots (run_roots p)) workers) t ≡ Some y → HasReturned y.phase → y.roots ≡ []
-      back zero y e = let same : seen ≡ y = cc in subst (λ (z : Thread). HasReturned z.phase → z.roots ≡ []) same (stand.returned 0 x refl)
+      back zero y e = let same : seen ≡ y = cc in subst (λ (z : Thread). HasReturned z.phase → z.roots ≡ []) same (old.returned 0 x refl)
       back (suc t) y e = let from = mapped_at (with_roots (run_roots p)) workers t y e in subst (λ (z : Thread). HasReturned z.phase → z.roots ≡ []) from.2 (part_returned (run_roots p))
 
   abbrev last : Thread
@@ -76,7 +76,7 @@ module _ (p : Program) (x : Thread) (workers : List Thread) (stand : PartsStand 
 
   done_stands : x.part ≡ 1 → list_all (λ w. ended_by has_finished w.phase) workers ≡ true → PartsStand p (last ∷ workers)
   done_stands at all = record {
-    first = λ y e. let same : last ≡ y = cc in subst (λ (z : Thread). FirstFits z.part z.first) same (subst (λ (n : ℕ). FirstFits n x.first) at (stand.first x refl));
+    first = λ y e. let same : last ≡ y = cc in subst (λ (z : Thread). FirstFits z.part z.first) same (subst (λ (n : ℕ). FirstFits n x.first) at (old.first x refl));
     few = λ y e. let same : last ≡ y = cc in subst (λ (z : Thread). z.part ≤ 2) same (omega arith);
     workers = λ y z u e late f. has_ended z.phase (one_of_all (λ w. ended_by has_finished w.phase) workers u z all f);
     done = λ y e late. let same : last ≡ y = cc in subst (λ (z : Thread). DoneRoots p z.phase z.roots) same (done_first (done_roots p) refl);
@@ -85,10 +85,10 @@ module _ (p : Program) (x : Thread) (workers : List Thread) (stand : PartsStand 
     where
       back : (t : ℕ) (y : Thread) → slice_get (last ∷ workers) t ≡ Some y → HasReturned y.phase → y.roots ≡ []
       back zero y e = let same : last ≡ y = cc in subst (λ (z : Thread). HasReturned z.phase → z.roots ≡ []) same (part_returned (done_roots p))
-      back (suc t) y e = stand.returned (suc t) y e
+      back (suc t) y e = old.returned (suc t) y e
 
   part_stands : (part : ℕ) → x.part ≡ part → (may : Bool) → may_begin_by part x.phase workers ≡ may → PartsStand p (if may then part_begins p part x workers else x ∷ workers)
-  part_stands part e false f = stand
+  part_stands part e false f = old
   part_stands zero e true f = workers_stand (ended_returned x.phase f)
   part_stands (suc zero) e true f = done_stands e f
   part_stands (suc (suc part)) e true f = absurd (cc)

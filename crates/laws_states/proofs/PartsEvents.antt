@@ -50,7 +50,7 @@ not_started phase roots fits e = tt
 
 -- ---- one thread
 
-module _ (one : OneMethod) (c : MarkedProgram) (marked : IsMarked c) (x : Thread) (got : ℕ) (returned : HasReturned x.phase → x.roots ≡ []) where
+module _ (c : MarkedProgram) (x : Thread) (got : ℕ) where
   -- the root that is next is a method, since the thread would lack a root else
   record Begun (roots : List ℕ) (y : Thread) : Type 0 where
     fits : RootFits y.phase y.roots
@@ -64,10 +64,10 @@ module _ (one : OneMethod) (c : MarkedProgram) (marked : IsMarked c) (x : Thread
     last = λ none. absurd (subst (FramesFit phases.Start x.frames) none (subst (λ (p : Phase). FramesFit p x.frames rest) e fits));
   }
   begun number rest e (Some m) fits =
-      let k = root_goes c x 0 ⊥ (λ q. absurd q) (λ q. absurd q) number m rest in
+      let k = root_goes c (record { s = x; Bare = ⊥; none = λ q. absurd q; not = λ q. absurd q }) 0 number m rest in
       record { fits = k.0.fits; last = λ none. (k.1, k.0.keeps.same ∙ none) }
 
-  module _ (fits : IsRooted c.program x) where
+  module _ (fits : IsRooted c.program x) (returned : HasReturned x.phase → x.roots ≡ []) where
     -- what it comes to in a phase
     abbrev Comes : Phase → Type 0
     Comes phase = RootFits (moved c x phase got).phase (moved c x phase got).roots × (DoneRoots c.program x.phase x.roots → DoneRoots c.program (moved c x phase got).phase (moved c x phase got).roots)
@@ -79,13 +79,13 @@ module _ (one : OneMethod) (c : MarkedProgram) (marked : IsMarked c) (x : Thread
     on : (phase : Phase) → IsNoStart phase → x.phase ≡ phase → Comes phase
     on phase n e =
         let old : RootFits phase x.roots = subst (λ (p : Phase). RootFits p x.roots) e (fits_of x.phase x.frames x.roots fits.frames returned) in
-        let k = moved_stays c x got ⊥ (λ q. absurd q) (λ q. absurd q) phase n e old in
+        let k = moved_stays c (record { s = x; Bare = ⊥; none = λ q. absurd q; not = λ q. absurd q }) got phase n e old in
         (k.fits, λ h. let none = k.keeps.same ∙ done_before phase n e h in done_at c.program (moved c x phase got).phase (moved c x phase got).roots (not_started (moved c x phase got).phase (moved c x phase got).roots k.fits none) none)
 
-    starts : x.phase ≡ phases.Start → (roots : List ℕ) → x.roots ≡ roots → IsRooted c.program (thread_started c.program x roots)
+    starts : OneMethod → IsMarked c → x.phase ≡ phases.Start → (roots : List ℕ) → x.roots ≡ roots → IsRooted c.program (thread_started c.program x roots)
         → RootFits (thread_started c.program x roots).phase (thread_started c.program x roots).roots × (DoneRoots c.program x.phase x.roots → DoneRoots c.program (thread_started c.program x roots).phase (thread_started c.program x roots).roots)
-    starts e [] f now = absurd (subst (FramesFit phases.Start x.frames) f (subst (λ (p : Phase). FramesFit p x.frames x.roots) e fits.frames))
-    starts e (number ∷ rest) f now =
+    starts one marked e [] f now = absurd (subst (FramesFit phases.Start x.frames) f (subst (λ (p : Phase). FramesFit p x.frames x.roots) e fits.frames))
+    starts one marked e (number ∷ rest) f now =
         let k = begun number rest e (slice_get c.program.methods number) now.frames in (
           k.fits,
           λ h.
@@ -94,9 +94,9 @@ module _ (one : OneMethod) (c : MarkedProgram) (marked : IsMarked c) (x : Thread
               done_at c.program (thread_started c.program x (number ∷ rest)).phase (thread_started c.program x (number ∷ rest)).roots last.0 last.1,
         )
 
-    comes : (phase : Phase) → x.phase ≡ phase → IsRooted c.program (moved c x phase got) → Comes phase
-    comes phases.Start e now = starts e x.roots refl now
-    comes phase e now = on phase tt e
+    comes : OneMethod → IsMarked c → (phase : Phase) → x.phase ≡ phase → IsRooted c.program (moved c x phase got) → Comes phase
+    comes one marked phases.Start e now = starts one marked e x.roots refl now
+    comes one marked phase e now = on phase tt e
 
 -- a thread that has finished stays as it is
 finished_stays : (c : MarkedProgram) (x : Thread) (got : ℕ) (phase : Phase) → x.phase ≡ phase → HasFinished phase → HasFinished (moved c x phase got).phase
@@ -111,7 +111,7 @@ module _ (one : OneMethod) (given : GivenIsKept) (rooted_on : RootsAreKept) (c :
     now = moved c x x.phase (found_by s.words (wanted c x x.phase))
 
     came : RootFits now.phase now.roots × (DoneRoots c.program x.phase x.roots → DoneRoots c.program now.phase now.roots)
-    came = comes one c marked x (found_by s.words (wanted c x x.phase)) (stand.returned t x there) (threads.own t x there).rooted x.phase refl
+    came = comes c x (found_by s.words (wanted c x x.phase)) (threads.own t x there).rooted (stand.returned t x there) one marked x.phase refl
         (rooted_on c x (found_by s.words (wanted c x x.phase)) (threads.own t x there).rooted)
 
     same : given_of now ≡ given_of x

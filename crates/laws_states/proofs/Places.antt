@@ -5,7 +5,7 @@ use Rattle.jvm_types.specs.{Members.is_static, ProgramInvariant.{IsProgram, inst
 use Rattle.jvm_types.specs.declared.program.{FieldInfo.FieldInfo, Program.Program}
 use Rattle.laws_programs.proofs.FieldOrder.{instances_inside, one_instance_field, one_static_field}
 use Rattle.machine_types.specs.{Core.Core, ObjectsApart.{IsBeside, LieApart}, PlainMemory.{Object, header_of, start_statics}, Typed.{KindHolds, HasClass, PlacesHold}, Words.{header_word, value_word}}
-use Rattle.laws_states.{specs.Sites.{Site, Counter, OwnerOf, BitsOf, LockOf, HeaderOf, ValueOf, NewHeaderOf, StaticAt, site_word, IsThere}, proofs.Lists.{contained_got, same_or_not}}
+use Rattle.laws_states.{specs.Sites.{Site, Counter, HeaderOf, ValueOf, StaticAt, site_word, IsThere}, proofs.Lists.{contained_got, same_or_not}}
 
 -- ---- what a word has to be where it stands
 
@@ -44,16 +44,13 @@ same_object p objects next apart o e k l same = by_index (same_or_not k.0 l.0)
 module _ (p : Program) (is_program : IsProgram p) (objects : List Object) (words : List ℕ) where
   pub site_typed : (site : Site) → PlacesHold p objects words → SiteHolds p objects (slice_index words NEXT_FREE_WORD) site (slice_index words (site_word site))
   site_typed (Counter word) places = λ e. omega (arith, ap (slice_index words) e)
-  site_typed (OwnerOf r) places = tt
-  site_typed (BitsOf r) places = tt
-  site_typed (LockOf reference) places = tt
   site_typed (HeaderOf reference) places = λ o k e. sym (ap (λ a. slice_index words (header_word a)) e) ∙ places.headers o k
   site_typed (ValueOf reference index) places = record {
     field = λ o number f k e g s class i. subst (λ (v : ℕ). KindHolds (HasClass objects) f.kind v) (ap (λ a. slice_index words (value_word a f.index)) e ∙ ap (λ j. slice_index words (value_word reference j)) i) (places.fields o number f k g s class);
     element = λ o k e class below. subst (λ (v : ℕ). v < 2 ^ 32) (ap (λ a. slice_index words (value_word a index)) e) (places.elements o index k class below);
   }
-  site_typed (NewHeaderOf reference) places = tt
   site_typed (StaticAt word) places = λ number f g s e. subst (λ (v : ℕ). KindHolds (HasClass objects) f.kind v) (ap (slice_index words) e) (places.statics number f g s)
+  site_typed site places = tt
 
   module _ (s : Core) (next least : ℕ) (apart : LieApart p objects (start_statics p) next) (each : (site : Site) → IsThere p objects s site → SiteHolds p objects least site (slice_index words (site_word site))) where
     field_there : (o : Object) (number : ℕ) (f : FieldInfo) → Contains objects o → slice_get p.fields number ≡ Some f → is_static f.flags ≡ false → o.class ≡ f.class → f.index < length o.values

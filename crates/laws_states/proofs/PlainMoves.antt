@@ -2,9 +2,8 @@
 use Rattle.std.proofs.Common.{◌≡◌, ℕ, zero, suc, ◌<◌, nat_lt, Bool, true, false, cond, Option, Some, None, refl, sym, subst}
 use Rattle.jvm_types.specs.declared.program.Program.{Program}
 use Rattle.checked_program.specs.MarkedProgram.{MarkedProgram}
-use Rattle.machine_types.specs.{Elision.{is_same, elided}, Events.moved, Frames.went_on, Going.{goes_on, goes_on_if}, Instructions.printed, Monitors.finishes}
-use Rattle.machine_types.specs.{Onward.{Onward, Running, Throwing, Entering, Leaving, RootReturned, Uncaught}, Owners.{Locks, IsSeen, AttemptSawIn}, Threads.{Thread, Attempt}}
-use Rattle.machine_types.specs.declared.{config.Config.Config, lock.Kept.Kept, phase.{After.After, Phase.Phase}}
+use Rattle.machine_types.specs.{Elision.{is_same, elided}, Events.moved, Frames.went_on, Going.{goes_on, goes_on_if}, Instructions.printed, Monitors.finishes, Onward.{Onward, Running, RootReturned}}
+use Rattle.machine_types.specs.{Owners.{Locks, IsSeen, AttemptSawIn}, Threads.{Thread, Attempt}, declared.{config.Config.Config, lock.Kept.Kept, phase.{After.After, Phase.Phase}}}
 use Rattle.laws_threads.proofs.ThreadMove.{LeadsTo, TurnsTo, Asks, WaitsFrom, Move, becomes, counting, any_move, if_either, looks_in, takes_in, gives_up_in, over_to, same_onward}
 use Rattle.laws_states.proofs.CountedPhases.{IsPlain}
 use Rattle.jvm_types.specs.declared.outcome.End.TheVariants as ends
@@ -43,11 +42,8 @@ runs_plain false = tt
 module _ (old : Option Attempt) where
   goes : (s : Thread) (o : Onward) → LooksBack s.attempt old → Plainly old (goes_on s o)
   goes s (Running frames) k = record { phase = runs_plain (nat_lt s.counts.instructions s.cfg.steps); attempt = k }
-  goes s (Throwing x class frames) k = record { phase = tt; attempt = k }
-  goes s (Entering m frames) k = record { phase = tt; attempt = k }
-  goes s (Leaving m a frames) k = record { phase = tt; attempt = k }
   goes s RootReturned k = record { phase = over_to IsPlain s.roots (λ e. tt) (λ number rest e. tt); attempt = k }
-  goes s (Uncaught class) k = record { phase = tt; attempt = k }
+  goes s o k = record { phase = tt; attempt = k }
 
   pub goes_if : (s : Thread) (o : Option Onward) → IsPlain s.phase → LooksBack s.attempt old → Plainly old (goes_on_if s o)
   goes_if s None p k = record { phase = p; attempt = k }
@@ -101,15 +97,7 @@ plain_moved c s got _ (moves.asks at m e now f y l k) n h = record { phase = ask
 plain_moved c s got _ (moves.starts number roots e) n h = goes_if s.attempt (record s { roots = roots }) _ h (same_look s.attempt)
 plain_moved c s got was (moves.takes_lock m kept k) n h = absurd (takes_in NeverPlain got m was kept k (λ count n. n) (λ r n. n) n)
 plain_moved c s got was (moves.gives_up m a k) n h = absurd (gives_up_in NeverPlain s m a was k (λ n. n) (λ n. n) n)
-plain_moved c s got _ (moves.enters_again m tried e l) n h = absurd n
-plain_moved c s got _ (moves.enters_inside m tried t k) n h = absurd n
-plain_moved c s got _ (moves.begins_to_try m tried noted f below e y l t free) n h = absurd n
-plain_moved c s got _ (moves.leaves_outer m a e l t) n h = absurd n
-plain_moved c s got _ (moves.leaves_inside m a t inner k e) n h = absurd n
-plain_moved c s got _ (moves.finishes_try m a t k e y) n h = absurd n
-plain_moved c s got _ (moves.fattens_lock m r toward e l) n h = absurd n
-plain_moved c s got _ (moves.gives_up_to_wait m r e l) n h = absurd n
-plain_moved c s got _ (moves.retakes_lock m r depth e) n h = absurd n
+plain_moved c s got _ k n h = absurd n
 
 pub moves_plainly : (c : MarkedProgram) (s : Thread) (phase : Phase) (got : ℕ) → GoesPlain phase → IsPlain s.phase → Plainly s.attempt (moved c s phase got)
 moves_plainly c s phase got n h = any_move (Plainly s.attempt) c s phase got (λ i k. plain_moved c (counting i s) got phase k n h)

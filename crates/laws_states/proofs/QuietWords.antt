@@ -1,16 +1,15 @@
 -- Most events change nothing of what the words say of locks.
-use Rattle.std.proofs.Common.{◌≡◌, ◌≢◌, ◌⊎◌, inl, inr, ℕ, ◌<◌, nat_lt, nat_le, Bool, true, false, cond, List, ◌∷◌, Option, Some, None, refl, sym, ap, ◌∙◌, arith, slice_get, slice_index, ◌==◌, ◌||◌}
+use Rattle.std.proofs.Common.{◌≡◌, ◌≢◌, ◌⊎◌, inl, inr, ℕ, ◌<◌, nat_lt, nat_le, Bool, true, false, cond, ◌∷◌, Option, Some, None, refl, sym, ap, ◌∙◌, arith, slice_index, ◌==◌, ◌||◌}
 use Rattle.std.proofs.lemmas.Bool.Decides.{nat_tests, Decides-eqb}
 use Rattle.jvm_types.specs.{Numbers.has_number, declared.{fixed_words.TheConstants.{NEXT_FREE_WORD, NEXT_TICKET_WORD, NEXT_RECORD_WORD, MONITOR_RECORDS}, program.{Program.Program, Target.Target}}}
-use Rattle.checked_program.specs.MarkedProgram.{MarkedProgram, IsMarked}
-use Rattle.machine_types.specs.{Accesses.{accessed, left_by, words_after}, Core.Core, Events.wanted, FoundWords.{Content, Bits, IntPlace, ReferencePlace, Any, effect_content, run_content, content_at}}
-use Rattle.machine_types.specs.{Frames.{Top, top_of, effect_at}, Instructions.{has_print_left, effect_wants, run_wants}, Lawful.IsLawful, LockWords.lock_of}
-use Rattle.machine_types.specs.{Owners.{lock_at, owner_at, locks_in, references_of}, PlainMemory.Object, Threads.Thread, Words.{owner_word, header_word}, declared.access.Access.Access}
-use Rattle.machine_types.specs.declared.{access.Access.TheVariants.{Store, Add}, effect.Effect.{Effect, TheVariants.{Goes, Reads, Writes, Calls, Indexes, Measures, Raises, Makes, Prints}}}
-use Rattle.machine_types.specs.declared.phase.Phase.{Phase}
-use Rattle.laws_states.specs.{HeapFacts.{HeapFacts, objects_by}, SiteLaws.{EventsReachSites, SitesDiffer, SitesLieInside}}
-use Rattle.laws_states.{specs.Sites.{Site, Counter, OwnerOf, LockOf, NewHeaderOf, site_word, IsThere, Suits}, proofs.{EventWords.{IsLeft, phase_stores, word_at, some_words}, LeftSmall.PhaseStores}}
-use Rattle.laws_states.proofs.{LeftStands.{no_access, loaded, looked, checked}, Lists.set_there, TopStores.{IsPlace, StoresFit}, WordViews.{has_object, views_same, record_there}}
+use Rattle.checked_program.specs.MarkedProgram.{MarkedProgram}
+use Rattle.machine_types.specs.{Accesses.{accessed, left_by, words_after}, Events.wanted, FoundWords.{Content, Bits, IntPlace, ReferencePlace, Any, effect_content, run_content, content_at}}
+use Rattle.machine_types.specs.{Frames.{Top, top_of, effect_at}, Instructions.{has_print_left, effect_wants, run_wants}, LockWords.lock_of, Owners.{lock_at, owner_at, locks_in, references_of}}
+use Rattle.machine_types.specs.{Threads.Thread, Words.{owner_word, header_word}, declared.{access.Access.{Access, TheVariants.{Store, Add}}, effect.Effect.Effect}}
+use Rattle.machine_types.specs.declared.{effect.Effect.TheVariants.{Goes, Reads, Writes, Calls, Indexes, Measures, Raises, Makes, Prints}, phase.Phase.Phase}
+use Rattle.laws_states.{specs.{HeapFacts.objects_by, Sites.{Site, Counter, OwnerOf, LockOf, NewHeaderOf, site_word, IsThere, Suits}}, proofs.EventWords.{IsLeft, phase_stores, word_at, some_words}}
+use Rattle.laws_states.proofs.{LeftSmall.PhaseStores, LeftStands.{no_access, loaded, looked, checked}, Lists.set_there, Movers.{KnownSites, HeapMover}, TopStores.{IsPlace, StoresFit}}
+use Rattle.laws_states.proofs.WordViews.{has_object, views_same, record_there}
 use Rattle.machine_types.specs.declared.lock.LockWord.TheVariants as locks
 use Rattle.machine_types.specs.declared.phase.Phase.TheVariants as phases
 
@@ -98,22 +97,20 @@ quiet_leaves c s phase site access got quiet fits apart lock w suits at = absurd
 
 -- ---- the words
 
-module _ (differ : SitesDiffer) (inside : SitesLieInside) (reach : EventsReachSites) (c : MarkedProgram) (objects : List Object) (s : Core) (t : ℕ) (x : Thread) (marked : IsMarked c) (heap : HeapFacts c objects s)
-    (there : slice_get s.threads t ≡ Some x) (lawful : IsLawful c x) (quiet : IsQuiet x.phase) where
-  abbrev after : List ℕ
-  after = words_after s.words (wanted c x x.phase)
+module _ (sites : KnownSites) (mover : HeapMover) (quiet : IsQuiet mover.x.phase) where
+  open mover use {t, x, there, state.{c, marked, objects, s, facts}}
 
   same_word : (site : Site) → IsLockSite site → IsThere c.program objects s site → slice_index (words_after s.words (wanted c x x.phase)) (site_word site) ≡ slice_index s.words (site_word site)
-  same_word site lock is = by_cases (word_at c objects s t x marked heap there lawful differ inside reach site is)
+  same_word site lock is = by_cases (word_at mover sites site is)
     where
-      by_cases : (slice_index (words_after s.words (wanted c x x.phase)) (site_word site) ≡ slice_index s.words (site_word site)) ⊎ IsLeft c objects s t x marked heap there lawful site
+      by_cases : (slice_index (words_after s.words (wanted c x x.phase)) (site_word site) ≡ slice_index s.words (site_word site)) ⊎ IsLeft c s.words x site
           → slice_index (words_after s.words (wanted c x x.phase)) (site_word site) ≡ slice_index s.words (site_word site)
       by_cases (inl e) = e
-      by_cases (inr k) = k.left ∙ quiet_leaves c x x.phase site k.access (slice_index s.words (site_word site)) quiet (phase_stores c objects s t x marked heap there lawful)
+      by_cases (inr k) = k.left ∙ quiet_leaves c x x.phase site k.access (slice_index s.words (site_word site)) quiet (phase_stores mover)
           (λ a word e f. made_apart a word e f) lock k.wants k.suits k.word
         where
           made_apart : (a word : ℕ) → x.phase ≡ phases.Made a word → header_word a ≢ NEXT_RECORD_WORD
-          made_apart a word e f = let same : NewHeaderOf a ≡ Counter NEXT_RECORD_WORD = differ c objects s (NewHeaderOf a) (Counter NEXT_RECORD_WORD) marked heap (t, x, word, there, e) (record_there c objects s) f in cc
+          made_apart a word e f = let same : NewHeaderOf a ≡ Counter NEXT_RECORD_WORD = sites.differ c objects s (NewHeaderOf a) (Counter NEXT_RECORD_WORD) marked facts (t, x, word, there, e) (record_there c objects s) f in cc
 
   old_lock : (m : ℕ) → lock_at (references_of objects) (words_after s.words (wanted c x x.phase)) m ≡ lock_at (references_of objects) s.words m
   old_lock m = by_test (has_number (references_of objects) m) refl
@@ -127,7 +124,7 @@ module _ (differ : SitesDiffer) (inside : SitesLieInside) (reach : EventsReachSi
   new_lock a word e m = by_test (a == m) refl (old_lock m)
     where
       zero_there : slice_index s.words a ≡ 0
-      zero_there = let new = heap.new_objects.each t x a word there e in new.empty a (omega arith) (some_words a c.program word)
+      zero_there = let new = facts.new_objects.each t x a word there e in new.empty a (omega arith) (some_words a c.program word)
 
       stays : slice_index (words_after s.words (wanted c x x.phase)) a ≡ slice_index s.words a
       stays = ap (λ (phase : Phase). slice_index (words_after s.words (wanted c x phase)) a) e ∙ set_there s.words (header_word a) a word (λ k. omega (arith, k))

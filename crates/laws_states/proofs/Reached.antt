@@ -1,14 +1,14 @@
 -- What the access of a thread finds in a reached state, and what it leaves.
-use Rattle.std.proofs.Common.{◌≡◌, ℕ, ◌<◌, ◌≤◌, ◌^◌, List, length, Option, Some, None, refl, ap, sym, subst, arith, IfSome, slice_get, slice_index}
+use Rattle.std.proofs.Common.{◌≡◌, ℕ, ◌<◌, ◌^◌, List, length, Option, Some, None, refl, ap, sym, subst, arith, IfSome, slice_get, slice_index}
 use Rattle.jvm_types.specs.declared.program.Program.{Program}
 use Rattle.checked_program.specs.MarkedProgram.{MarkedProgram, IsMarked}
 use Rattle.machine_types.specs.{Accesses.{accessed, left_by, found_by}, Core.Core, Events.wanted, FoundWords.{Content, Lock, Owner, Bits, HasCount, WordFits, content_at}, Frames.top_of}
-use Rattle.machine_types.specs.{Lawful.IsLawful, LockWords.lock_of, PlainMemory.Object, Threads.Thread, declared.access.Access.{Access, TheVariants.{Load, Store, Cas, Add, Or, And, Rest}}}
+use Rattle.machine_types.specs.{Lawful.IsLawful, LockWords.lock_of, PlainMemory.Object, Threads.Thread, declared.access.Access.{Access, TheVariants.Rest}}
 use Rattle.machine_types.specs.declared.{config.Config.Config, lock.LockWord.LockWord}
 use Rattle.laws_states.specs.{FoundLaws.{IsOfHeap, HeapWordsFit}, LeftWords.LeftMayStand, RunFacts.{HaveWidth, AreThreads, RunFacts, AccessFits}, RunLaws.ReachedFits}
 use Rattle.laws_states.specs.{SharedWords.{CountsTo, IsLock, MayStand, LocksFit, RecordsFit}, SiteLaws.{EventsReachSites, SitesLieInside}}
 use Rattle.laws_states.{specs.Sites.{Site, OwnerOf, BitsOf, LockOf, site_word, IsThere, Suits, IsAccessOf, Reaches, ReachesIf}, proofs.{EventWords.phase_stores, LeftSmall.{adds_few, left_small}}}
-use Rattle.laws_states.proofs.{LeftStands.word_is_lock, Sums.{begun_once, drawn_now_once, sums_fit}}
+use Rattle.laws_states.proofs.{LeftStands.word_is_lock, Movers.{LawfulState, lawful_state, lawful_mover, few_threads}, Sums.{begun_once, drawn_now_once, sums_fit}}
 use Rattle.machine_types.specs.declared.lock.LockWord.TheVariants as locks
 
 -- ---- what may stand there fits
@@ -34,97 +34,104 @@ site_stands p objects s range fit records Bits (BitsOf r) suits there = records.
 site_stands p objects s range fit records Bits site suits there = absurd suits
 site_stands p objects s range fit records content site suits there = tt
 
-module _ (inside : SitesLieInside) (reach : EventsReachSites) (fit : HeapWordsFit) (leaves : LeftMayStand) (c : MarkedProgram) (cfg : Config) (s : Core) (t : ℕ) (x : Thread) (marked : IsMarked c) (width : HaveWidth cfg)
-    (threads : AreThreads c cfg s) (facts : RunFacts c cfg s) (there : slice_get s.threads t ≡ Some x) where
-  lawful : IsLawful c x
-  lawful = threads.lawful t x there
+-- what is known of the word that an event accesses
+pub record WordLaws : Type 0 where
+  pub inside : SitesLieInside
+  pub reach : EventsReachSites
+  pub fit : HeapWordsFit
+  pub leaves : LeftMayStand
 
-  reaches : ReachesIf c.program facts.objects s (content_at c x x.phase) (wanted c x x.phase)
-  reaches = reach c facts.objects s t x marked facts.heap there lawful
+-- a state that a run reaches
+pub record RunState : Type 0 where
+  pub c : MarkedProgram
+  pub cfg : Config
+  pub s : Core
+  pub marked : IsMarked c
+  pub width : HaveWidth cfg
+  pub threads : AreThreads c cfg s
+  pub facts : RunFacts c cfg s
 
-  -- ---- it is inside
+module _ (laws : WordLaws) (state : RunState) where
+  open laws use {inside, reach, fit, leaves}
+  open state use {c, cfg, s, marked, width, threads, facts}
 
-  by_site : (a : Access) → IsAccessOf c.program facts.objects s (content_at c x x.phase) a → accessed a < length s.words
-  by_site a k = subst (λ (n : ℕ). n < length s.words) (sym k.word) (inside c facts.objects s k.site marked facts.heap k.there)
+  abbrev lawful_one : LawfulState
+  lawful_one = lawful_state c cfg facts.objects s marked facts.heap threads
 
-  lies_inside : (a : Access) → Reaches c.program facts.objects s (content_at c x x.phase) a → accessed a < length s.words
-  lies_inside Rest k = omega (arith, facts.heap.unused.many, marked.checked.program.heap_from)
-  lies_inside (Load w) k = by_site (Load w) k
-  lies_inside (Store w v) k = by_site (Store w v) k
-  lies_inside (Cas w n v) k = by_site (Cas w n v) k
-  lies_inside (Add w v) k = by_site (Add w v) k
-  lies_inside (Or w v) k = by_site (Or w v) k
-  lies_inside (And w v) k = by_site (And w v) k
+  module _ (t : ℕ) (x : Thread) (there : slice_get s.threads t ≡ Some x) where
+    lawful : IsLawful c x
+    lawful = threads.lawful t x there
 
-  -- ---- what it finds may stand there
+    reaches : ReachesIf c.program facts.objects s (content_at c x x.phase) (wanted c x x.phase)
+    reaches = reach c facts.objects s t x marked facts.heap there lawful
 
-  word_stands : (a : Access) → IsAccessOf c.program facts.objects s (content_at c x x.phase) a → MayStand cfg.range (content_at c x x.phase) (slice_index s.words (accessed a))
-  word_stands a k = subst (λ (n : ℕ). MayStand cfg.range (content_at c x x.phase) (slice_index s.words n)) (sym k.word)
-      (site_stands c.program facts.objects s cfg.range facts.locks facts.records (content_at c x x.phase) k.site k.suits k.there)
+    -- ---- it is inside
 
-  found_stands : (a : Option Access) → ReachesIf c.program facts.objects s (content_at c x x.phase) a → MayStand cfg.range (content_at c x x.phase) (found_by s.words a)
-  found_stands None k = zero_stands cfg.range (content_at c x x.phase)
-  found_stands (Some Rest) k = zero_stands cfg.range (content_at c x x.phase)
-  found_stands (Some (Load w)) k = word_stands (Load w) k
-  found_stands (Some (Store w v)) k = word_stands (Store w v) k
-  found_stands (Some (Cas w n v)) k = word_stands (Cas w n v) k
-  found_stands (Some (Add w v)) k = word_stands (Add w v) k
-  found_stands (Some (Or w v)) k = word_stands (Or w v) k
-  found_stands (Some (And w v)) k = word_stands (And w v) k
+    by_site : (a : Access) → IsAccessOf c.program facts.objects s (content_at c x x.phase) a → accessed a < length s.words
+    by_site a k = subst (λ (n : ℕ). n < length s.words) (sym k.word) (inside c facts.objects s k.site marked facts.heap k.there)
 
-  found_fits : WordFits c.program (content_at c x x.phase) (found_by s.words (wanted c x x.phase))
-  found_fits = by_content (content_at c x x.phase) refl (found_stands (wanted c x x.phase) reaches)
-    where
-      of_heap : (k : Content) → content_at c x x.phase ≡ k → IsOfHeap k → WordFits c.program k (found_by s.words (wanted c x x.phase))
-      of_heap k e is = subst (λ (n : Content). WordFits c.program n (found_by s.words (wanted c x x.phase))) e
-          (fit c facts.objects s t x marked facts.heap there lawful (subst IsOfHeap (sym e) is))
+    lies_inside : (a : Access) → Reaches c.program facts.objects s (content_at c x x.phase) a → accessed a < length s.words
+    lies_inside Rest k = omega (arith, facts.heap.unused.many, marked.checked.program.heap_from)
+    lies_inside a k = by_site a k
 
-      by_content : (k : Content) → content_at c x x.phase ≡ k → MayStand cfg.range k (found_by s.words (wanted c x x.phase)) → WordFits c.program k (found_by s.words (wanted c x x.phase))
-      by_content Lock e h = (h.is, few_counts cfg.range (lock_of (found_by s.words (wanted c x x.phase))) width.range h.counts)
-      by_content Owner e h = h
-      by_content Bits e h = h
-      by_content k e h = of_heap k e tt
+    -- ---- what it finds may stand there
 
-  -- ---- what it leaves is a number of 64 bits
+    word_stands : (a : Access) → IsAccessOf c.program facts.objects s (content_at c x x.phase) a → MayStand cfg.range (content_at c x x.phase) (slice_index s.words (accessed a))
+    word_stands a k = subst (λ (n : ℕ). MayStand cfg.range (content_at c x x.phase) (slice_index s.words n)) (sym k.word)
+        (site_stands c.program facts.objects s cfg.range facts.locks facts.records (content_at c x x.phase) k.site k.suits k.there)
 
-  settings : x.cfg.range ≡ cfg.range
-  settings = ap (λ (k : Config). k.range) (threads.own t x there).settings
+    found_stands : (a : Option Access) → ReachesIf c.program facts.objects s (content_at c x x.phase) a → MayStand cfg.range (content_at c x x.phase) (found_by s.words a)
+    found_stands None k = zero_stands cfg.range (content_at c x x.phase)
+    found_stands (Some Rest) k = zero_stands cfg.range (content_at c x x.phase)
+    found_stands (Some a) k = word_stands a k
 
-  few_threads : x.number ≤ 8
-  few_threads = omega (arith, lawful.bounded.number, marked.checked.program.workers)
+    found_fits : WordFits c.program (content_at c x x.phase) (found_by s.words (wanted c x x.phase))
+    found_fits = by_content (content_at c x x.phase) refl (found_stands (wanted c x x.phase) reaches)
+      where
+        of_heap : (k : Content) → content_at c x x.phase ≡ k → IsOfHeap k → WordFits c.program k (found_by s.words (wanted c x x.phase))
+        of_heap k e is = subst (λ (n : Content). WordFits c.program n (found_by s.words (wanted c x x.phase))) e
+            (fit c facts.objects s t x marked facts.heap there lawful (subst IsOfHeap (sym e) is))
 
-  left_at_site : (a : Access) → wanted c x x.phase ≡ Some a → IsAccessOf c.program facts.objects s (content_at c x x.phase) a → left_by a (slice_index s.words (accessed a)) < 2 ^ 64
-  left_at_site a e k =
-      let stores = phase_stores c facts.objects s t x marked facts.heap there lawful in
-      let adds = adds_few c x x.phase a e stores in
-      let sum = sums_fit c cfg s marked width threads facts.counters a _ _ (begun_once x.phase (top_of c.program x.frames)) (drawn_now_once x.phase) adds in
-      let few : x.cfg.range < 2 ^ 61 = omega (arith, settings, width.range) in
-      let found = subst (λ (n : ℕ). MayStand n (content_at c x x.phase) (slice_index s.words (accessed a))) (sym settings) (word_stands a k) in
-      let left = leaves c x a (slice_index s.words (accessed a)) few_threads lawful.bounded e found in
-      left_small c x x.phase a (slice_index s.words (accessed a)) few e (facts.small (accessed a)) sum stores left
+        by_content : (k : Content) → content_at c x x.phase ≡ k → MayStand cfg.range k (found_by s.words (wanted c x x.phase)) → WordFits c.program k (found_by s.words (wanted c x x.phase))
+        by_content Lock e h = (h.is, few_counts cfg.range (lock_of (found_by s.words (wanted c x x.phase))) width.range h.counts)
+        by_content Owner e h = h
+        by_content Bits e h = h
+        by_content k e h = of_heap k e tt
 
-  left_small_by : (a : Access) → wanted c x x.phase ≡ Some a → Reaches c.program facts.objects s (content_at c x x.phase) a → left_by a (slice_index s.words (accessed a)) < 2 ^ 64
-  left_small_by Rest e k = facts.small 0
-  left_small_by (Load w) e k = left_at_site (Load w) e k
-  left_small_by (Store w v) e k = left_at_site (Store w v) e k
-  left_small_by (Cas w n v) e k = left_at_site (Cas w n v) e k
-  left_small_by (Add w v) e k = left_at_site (Add w v) e k
-  left_small_by (Or w v) e k = left_at_site (Or w v) e k
-  left_small_by (And w v) e k = left_at_site (And w v) e k
+    -- ---- what it leaves is a number of 64 bits
 
-  pub leaves_small : (a : Access) → wanted c x x.phase ≡ Some a → left_by a (slice_index s.words (accessed a)) < 2 ^ 64
-  leaves_small a e = left_small_by a e (subst (ReachesIf c.program facts.objects s (content_at c x x.phase)) e reaches)
+    settings : x.cfg.range ≡ cfg.range
+    settings = ap (λ (k : Config). k.range) (threads.own t x there).settings
 
-  pub fits_so : AccessFits c s x
-  fits_so = record { inside = by_access (wanted c x x.phase) reaches; sum = by_sum (wanted c x x.phase) refl; found = found_fits }
-    where
-      by_access : (o : Option Access) → ReachesIf c.program facts.objects s (content_at c x x.phase) o → IfSome o (λ a. accessed a < length s.words)
-      by_access None k = tt
-      by_access (Some a) k = lies_inside a k
+    left_at_site : (a : Access) → wanted c x x.phase ≡ Some a → IsAccessOf c.program facts.objects s (content_at c x x.phase) a → left_by a (slice_index s.words (accessed a)) < 2 ^ 64
+    left_at_site a e k =
+        let stores = phase_stores (lawful_mover lawful_one t x there) in
+        let adds = adds_few c x x.phase a e stores in
+        let sum = sums_fit lawful_one width facts.counters a _ _ (begun_once x.phase (top_of c.program x.frames)) (drawn_now_once x.phase) adds in
+        let few : x.cfg.range < 2 ^ 61 = omega (arith, settings, width.range) in
+        let found = subst (λ (n : ℕ). MayStand n (content_at c x x.phase) (slice_index s.words (accessed a))) (sym settings) (word_stands a k) in
+        let left = leaves c x a (slice_index s.words (accessed a)) (few_threads (lawful_mover lawful_one t x there)) lawful.bounded e found in
+        left_small c x x.phase a (slice_index s.words (accessed a)) few e (facts.small (accessed a)) sum stores left
 
-      by_sum : (o : Option Access) → wanted c x x.phase ≡ o → IfSome o (λ a. left_by a (slice_index s.words (accessed a)) < 2 ^ 64)
-      by_sum None e = tt
-      by_sum (Some a) e = leaves_small a e
+    left_small_by : (a : Access) → wanted c x x.phase ≡ Some a → Reaches c.program facts.objects s (content_at c x x.phase) a → left_by a (slice_index s.words (accessed a)) < 2 ^ 64
+    left_small_by Rest e k = facts.small 0
+    left_small_by a e k = left_at_site a e k
+
+    pub leaves_small : (a : Access) → wanted c x x.phase ≡ Some a → left_by a (slice_index s.words (accessed a)) < 2 ^ 64
+    leaves_small a e = left_small_by a e (subst (ReachesIf c.program facts.objects s (content_at c x x.phase)) e reaches)
+
+    pub fits_so : AccessFits c s x
+    fits_so = record { inside = by_access (wanted c x x.phase) reaches; sum = by_sum (wanted c x x.phase) refl; found = found_fits }
+      where
+        by_access : (o : Option Access) → ReachesIf c.program facts.objects s (content_at c x x.phase) o → IfSome o (λ a. accessed a < length s.words)
+        by_access None k = tt
+        by_access (Some a) k = lies_inside a k
+
+        by_sum : (o : Option Access) → wanted c x x.phase ≡ o → IfSome o (λ a. left_by a (slice_index s.words (accessed a)) < 2 ^ 64)
+        by_sum None e = tt
+        by_sum (Some a) e = leaves_small a e
 
 pub reached_fits : SitesLieInside → EventsReachSites → HeapWordsFit → LeftMayStand → ReachedFits
-reached_fits inside reach fit leaves c cfg s t x marked width threads facts there = fits_so inside reach fit leaves c cfg s t x marked width threads facts there
+reached_fits inside reach fit leaves c cfg s t x marked width threads facts there =
+    let state : RunState = record { c = c; cfg = cfg; s = s; marked = marked; width = width; threads = threads; facts = facts } in
+    fits_so (record { inside = inside; reach = reach; fit = fit; leaves = leaves }) state t x there

@@ -3,7 +3,7 @@ use Rattle.std.proofs.Common.{◌≡◌, ℕ, Bool, true, false, List, [], ◌�
 use Rattle.jvm_types.specs.declared.{limits.TheConstants.MOST_ATTEMPTS, outcome.Thrown.TheVariants.StackOverflowError, program.{MethodInfo.MethodInfo, Program.Program}}
 use Rattle.checked_program.specs.MarkedProgram.{MarkedProgram}
 use Rattle.machine_types.specs.{Elision.{elided, may_try, enters_marked}, Events.moved, Frames.{has_room, entry_frame}, Going.{runs, goes_on, goes_on_if}, HeldMonitors.held_at}
-use Rattle.machine_types.specs.{Instructions.{begun, printed}, Monitors.{Tries, claim}, Onward.{Onward, Running, Throwing, Entering, Leaving, RootReturned, Uncaught, rooted, root_arguments, after}}
+use Rattle.machine_types.specs.{Instructions.{begun, printed}, Monitors.{Tries, claim}, Onward.{Onward, Running, RootReturned, Uncaught, rooted, root_arguments, after}}
 use Rattle.machine_types.specs.{Threads.{Attempt, Thread}, declared.{lock.Kept.Kept, phase.Phase.Phase}}
 use Rattle.laws_threads.proofs.ThreadMove.{LeadsTo, TurnsTo, Asks, WaitsFrom, Move, becomes, tried_attempt, each_move, runs_to, turns_to, over_to}
 use Rattle.jvm_types.specs.declared.outcome.End.TheVariants as ends
@@ -36,11 +36,8 @@ module _ (roots : List ℕ) (Bare : Type 0) where
 
   goes : (s : Thread) (o : Onward) → Keeps s.roots s.attempt → Stays (goes_on s o)
   goes s (Running frames) k = running (record s { frames = frames }) k
-  goes s (Throwing x class frames) k = record { keeps = k; fits = tt }
-  goes s (Entering m frames) k = record { keeps = k; fits = tt }
-  goes s (Leaving m a frames) k = record { keeps = k; fits = tt }
   goes s RootReturned k = record { keeps = k; fits = over_to (λ (phase : Phase). RootFits phase s.roots) s.roots (λ e. e) (λ number rest e. subst (λ (roots : List ℕ). RootFits phases.Start roots) (sym e) tt) }
-  goes s (Uncaught class) k = record { keeps = k; fits = tt }
+  goes s o k = record { keeps = k; fits = tt }
 
   goes_if : (s : Thread) (o : Option Onward) → RootFits s.phase s.roots → Keeps s.roots s.attempt → Stays (goes_on_if s o)
   goes_if s None f k = record { keeps = k; fits = f }
@@ -69,7 +66,16 @@ asks_fit : (m : ℕ) (kept : Kept) (now : Phase) (roots : List ℕ) → Asks m k
 asks_fit m _ _ roots (moves.looks_who r) = tt
 asks_fit m _ _ roots (moves.clears_all r) = tt
 
-module _ (c : MarkedProgram) (s : Thread) (got : ℕ) (Bare : Type 0) (none : Bare → s.attempt ≡ None) (not : Bare → s.cfg.elide ≡ false) where
+-- a thread that is in no attempt, and may begin none, where it is bare
+pub record BareThread : Type 1 where
+  pub s : Thread
+  pub Bare : Type 0
+  pub none : Bare → s.attempt ≡ None
+  pub not : Bare → s.cfg.elide ≡ false
+
+module _ (c : MarkedProgram) (thread : BareThread) (got : ℕ) where
+  open thread use {s, Bare, none, not}
+
   -- that a section may be tried is the only way to an attempt
   never_tries : {P : Type 0} (n : ℕ) → may_try c s n ≡ true → Bare → P
   never_tries n may q =
@@ -107,9 +113,12 @@ module _ (c : MarkedProgram) (s : Thread) (got : ℕ) (Bare : Type 0) (none : Ba
   stays_moved _ (moves.retakes_lock m r depth e) ns w f = running s.roots Bare (record s { held = _ }) keeps_all
   stays_moved _ (moves.starts number roots e) ns w f = absurd ns
 
-module _ (c : MarkedProgram) (s : Thread) (got : ℕ) (Bare : Type 0) (none : Bare → s.attempt ≡ None) (not : Bare → s.cfg.elide ≡ false) where
+module _ (c : MarkedProgram) (thread : BareThread) (got : ℕ) where
+  open thread use {s, Bare, none}
+
   pub moved_stays : (phase : Phase) → IsNoStart phase → s.phase ≡ phase → RootFits phase s.roots → Stays s.roots Bare (moved c s phase got)
-  moved_stays phase ns e f = each_move (Stays s.roots Bare) c s phase got (λ k. stays_moved c s got Bare none not phase k ns f here) (λ k. stays_moved c (begun s) got Bare none not phase k ns f here)
+  moved_stays phase ns e f = each_move (Stays s.roots Bare) c s phase got (λ k. stays_moved c thread got phase k ns f here)
+      (λ k. stays_moved c (record { s = begun s; Bare = Bare; none = none; not = thread.not }) got phase k ns f here)
     where
       here : RootFits s.phase s.roots
       here = subst (λ (p : Phase). RootFits p s.roots) (sym e) f

@@ -1,22 +1,17 @@
 -- Every run reaches states whose threads are lawful and whose words are what they are read as.
 use Rattle.std.proofs.Common.{List, [], ◌∷◌}
-use Rattle.checked_program.specs.MarkedProgram.{MarkedProgram, IsMarked}
-use Rattle.machine_types.specs.{Core.{Core, Happening, Of, NextPart, start, happened, all_happened, core}, declared.config.Config.Config}
-use Rattle.laws_states.specs.{RunFacts.HaveWidth, RunLaws.{StartHasRunFacts, EventsKeepFacts, NextKeepsFacts, EventsKeepThreads, PartsKeepThreads, HasRunFacts, RunsReach}}
-
-module _ (facts_start : StartHasRunFacts) (facts_event : EventsKeepFacts) (facts_next : NextKeepsFacts) (threads_event : EventsKeepThreads) (c : MarkedProgram) (cfg : Config) (marked : IsMarked c) (width : HaveWidth cfg)
-    (parts : PartsKeepThreads c cfg) where
-  one : (s : Core) (h : Happening) → HasRunFacts c cfg s → HasRunFacts c cfg (happened c s h)
-  one s (Of t) k = record { threads = threads_event c cfg s t marked width k.threads k.facts; facts = facts_event c cfg s t marked width k.threads k.facts }
-  one s NextPart k = record { threads = parts.go_on s k.threads; facts = facts_next c cfg s k.threads k.facts }
-
-  each : (s : Core) (hs : List Happening) → HasRunFacts c cfg s → HasRunFacts c cfg (all_happened c s hs)
-  each s [] k = k
-  each s (h ∷ hs) k = each (happened c s h) hs (one s h k)
-
-  reached : (hs : List Happening) → HasRunFacts c cfg (core c cfg hs)
-  unfolding core
-  reached hs = each (start c cfg) hs (record { threads = parts.begin; facts = facts_start c cfg marked })
+use Rattle.machine_types.specs.Core.{Core, Happening, Of, NextPart, start, happened, all_happened, core}
+use Rattle.laws_states.specs.RunLaws.{StartHasRunFacts, EventsKeepFacts, NextKeepsFacts, EventsKeepThreads, HasRunFacts, RunsReach}
 
 pub runs_reach : StartHasRunFacts → EventsKeepFacts → NextKeepsFacts → EventsKeepThreads → RunsReach
-runs_reach facts_start facts_event facts_next threads_event c cfg hs marked width parts = reached facts_start facts_event facts_next threads_event c cfg marked width parts hs
+unfolding core
+runs_reach facts_start facts_event facts_next threads_event c cfg hs marked width parts =
+    each (start c cfg) hs (record { threads = parts.begin; facts = facts_start c cfg marked })
+  where
+    one : (s : Core) (h : Happening) → HasRunFacts c cfg s → HasRunFacts c cfg (happened c s h)
+    one s (Of t) k = record { threads = threads_event c cfg s t marked width k.threads k.facts; facts = facts_event c cfg s t marked width k.threads k.facts }
+    one s NextPart k = record { threads = parts.go_on s k.threads; facts = facts_next c cfg s k.threads k.facts }
+
+    each : (s : Core) (hs : List Happening) → HasRunFacts c cfg s → HasRunFacts c cfg (all_happened c s hs)
+    each s [] k = k
+    each s (h ∷ hs) k = each (happened c s h) hs (one s h k)

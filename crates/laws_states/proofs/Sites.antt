@@ -18,14 +18,12 @@ pub data Block : Type 0 where
   Single : (word : ℕ) → Block
 
 abbrev pub block : Site → Block
-block (Counter word) = Fixed
-block (OwnerOf r) = Fixed
-block (BitsOf r) = Fixed
 block (LockOf reference) = Old reference
 block (HeaderOf reference) = Old reference
 block (ValueOf reference index) = Old reference
 block (NewHeaderOf reference) = New reference
 block (StaticAt word) = Single word
+block site = Fixed
 
 pub record InObject (objects : List Object) (reference x : ℕ) : Type 0 where
   pub object : Object

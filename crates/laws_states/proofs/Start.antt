@@ -204,7 +204,16 @@ module _ (c : MarkedProgram) (cfg : Config) where
 
 -- ---- the whole
 
-module _ (lies : StartLiesApart) (agrees : StartAgrees) (unused : StartIsUnused) (types : StartIsTyped) (c : MarkedProgram) (cfg : Config) (marked : IsMarked c) where
+-- what is known of the start of a run
+record KnownStart : Type 0 where
+  lies : StartLiesApart
+  agrees : StartAgrees
+  unused : StartIsUnused
+  types : StartIsTyped
+
+module _ (laws : KnownStart) (c : MarkedProgram) (cfg : Config) (marked : IsMarked c) where
+  open laws use {lies, agrees, unused, types}
+
   is_program : IsProgram c.program
   is_program = marked.checked.program
 
@@ -270,7 +279,7 @@ module _ (lies : StartLiesApart) (agrees : StartAgrees) (unused : StartIsUnused)
     statics = λ number f g s. static_holds number f f.kind g s refl;
   }
 
-  pub start_heap : HeapFacts c (start_objects c.program) (start c cfg)
+  start_heap : HeapFacts c (start_objects c.program) (start c cfg)
   start_heap = record {
     started = λ o k. (o, k, refl, refl);
     apart = apart;
@@ -291,4 +300,4 @@ module _ (lies : StartLiesApart) (agrees : StartAgrees) (unused : StartIsUnused)
   }
 
 pub start_has : StartLiesApart → StartAgrees → StartIsUnused → StartIsTyped → StartHasHeap
-start_has lies agrees unused types c cfg marked = start_heap lies agrees unused types c cfg marked
+start_has lies agrees unused types = start_heap (record { lies = lies; agrees = agrees; unused = unused; types = types })

@@ -1,5 +1,5 @@
 -- The facts on states hold at the start, and stay, so they hold in every state that a run reaches.
-use Rattle.std.proofs.Common.{◌≡◌, false, List, [], ◌∷◌}
+use Rattle.std.proofs.Common.{List, [], ◌∷◌}
 use Rattle.checked_program.specs.MarkedProgram.{MarkedProgram, IsMarked}
 use Rattle.machine_types.specs.{Core.{Core, Happening, Of, NextPart, start, happened, all_happened, core}, Owners.references_of, PlainMemory.start_objects}
 use Rattle.machine_types.specs.{StartLaws.{phase_at_start, StartIsStructured, StartOwns, StartWaits}, declared.config.Config.Config}
@@ -69,39 +69,42 @@ next_keeps_state parts inits heap counters structure owners waiting c cfg object
 
 -- ---- every run
 
-module _ (begin : StartHasState) (on_event : EventsKeepState) (on_next : NextKeepsState) (c : MarkedProgram) (cfg : Config) (marked : IsMarked c) (width : HaveWidth cfg) (parts : PartsKeepThreads c cfg) where
-  at_start : IsInState c cfg (start c cfg)
-  at_start = record { objects = start_objects c.program; was = phase_at_start c cfg; facts = begin c cfg marked parts }
+pub state_at_start : StartHasState → (c : MarkedProgram) (cfg : Config) → IsMarked c
+    → PartsKeepThreads c cfg → IsInState c cfg (start c cfg)
+state_at_start begin c cfg marked parts =
+    record { objects = start_objects c.program; was = phase_at_start c cfg; facts = begin c cfg marked parts }
 
-  one : (s : Core) (h : Happening) → IsInState c cfg s → IsInState c cfg (happened c s h)
-  one s (Of t) k = record { objects = objects_after c.program s t k.objects; was = counted_after c k.was s t; facts = on_event c cfg k.objects k.was s t marked width k.facts }
-  one s NextPart k = record { objects = k.objects; was = counted_next c k.was s; facts = on_next c cfg k.objects k.was s marked parts k.facts }
-
-  each : (s : Core) (hs : List Happening) → IsInState c cfg s → IsInState c cfg (all_happened c s hs)
-  each s [] k = k
-  each s (h ∷ hs) k = each (happened c s h) hs (one s h k)
-
-  in_state : (hs : List Happening) → IsInState c cfg (core c cfg hs)
-  unfolding core
-  in_state hs = each (start c cfg) hs at_start
-
-  -- ---- attempts
-
-  module _ (begin_none : StartHasNoAttempts) (event_none : EventsMakeNoAttempts) (next_none : NextMakesNoAttempts) (never : cfg.elide ≡ false) where
-    one_none : (s : Core) (h : Happening) → IsInState c cfg s → HaveNoAttempts s → HaveNoAttempts (happened c s h)
-    one_none s (Of t) k none = event_none c cfg s t never k.facts.threads k.facts.parts none
-    one_none s NextPart k none = next_none c s none
-
-    each_none : (s : Core) (hs : List Happening) → IsInState c cfg s → HaveNoAttempts s → HaveNoAttempts (all_happened c s hs)
-    each_none s [] k none = none
-    each_none s (h ∷ hs) k none = each_none (happened c s h) hs (one s h k) (one_none s h k none)
-
-    none_ever : (hs : List Happening) → HaveNoAttempts (core c cfg hs)
-    unfolding core
-    none_ever hs = each_none (start c cfg) hs at_start (begin_none c cfg)
+pub state_goes_on : EventsKeepState → NextKeepsState → (c : MarkedProgram) (cfg : Config) → IsMarked c
+    → HaveWidth cfg → PartsKeepThreads c cfg → (s : Core) (h : Happening)
+    → IsInState c cfg s → IsInState c cfg (happened c s h)
+state_goes_on on_event on_next c cfg marked width parts s (Of t) k = record {
+  objects = objects_after c.program s t k.objects;
+  was = counted_after c k.was s t;
+  facts = on_event c cfg k.objects k.was s t marked width k.facts;
+}
+state_goes_on on_event on_next c cfg marked width parts s NextPart k =
+    record { objects = k.objects; was = counted_next c k.was s; facts = on_next c cfg k.objects k.was s marked parts k.facts }
 
 pub runs_have_state : StartHasState → EventsKeepState → NextKeepsState → RunsHaveState
-runs_have_state begin on_event on_next c cfg hs marked width parts = in_state begin on_event on_next c cfg marked width parts hs
+unfolding core
+runs_have_state begin on_event on_next c cfg hs marked width parts =
+    each (start c cfg) hs (state_at_start begin c cfg marked parts)
+  where
+    each : (s : Core) (hs : List Happening) → IsInState c cfg s → IsInState c cfg (all_happened c s hs)
+    each s [] k = k
+    each s (h ∷ hs) k = each (happened c s h) hs (state_goes_on on_event on_next c cfg marked width parts s h k)
+
+-- ---- attempts
 
 pub no_attempts : StartHasState → EventsKeepState → NextKeepsState → StartHasNoAttempts → EventsMakeNoAttempts → NextMakesNoAttempts → NoAttempts
-no_attempts begin on_event on_next begin_none event_none next_none c cfg hs marked width parts never = none_ever begin on_event on_next c cfg marked width parts begin_none event_none next_none never hs
+unfolding core
+no_attempts begin on_event on_next begin_none event_none next_none c cfg hs marked width parts never =
+    each (start c cfg) hs (state_at_start begin c cfg marked parts) (begin_none c cfg)
+  where
+    one : (s : Core) (h : Happening) → IsInState c cfg s → HaveNoAttempts s → HaveNoAttempts (happened c s h)
+    one s (Of t) k none = event_none c cfg s t never k.facts.threads k.facts.parts none
+    one s NextPart k none = next_none c s none
+
+    each : (s : Core) (hs : List Happening) → IsInState c cfg s → HaveNoAttempts s → HaveNoAttempts (all_happened c s hs)
+    each s [] k none = none
+    each s (h ∷ hs) k none = each (happened c s h) hs (state_goes_on on_event on_next c cfg marked width parts s h k) (one s h k none)

@@ -1,12 +1,11 @@
 -- Most events leave the waiting bits as they are.
 use Rattle.std.proofs.Common.{◌≡◌, ◌⊎◌, inl, inr, ℕ, ◌<◌, ◌^◌, List, Option, Some, None, sym, ap, ◌∙◌, subst, slice_get, slice_index}
 use Rattle.jvm_types.specs.{Numbers.has_flag, declared.{fixed_words.TheConstants.MONITOR_RECORDS, program.{FieldInfo.FieldInfo, Kind.Kind, Program.Program, Target.Target}}}
-use Rattle.checked_program.specs.MarkedProgram.{MarkedProgram, IsMarked}
-use Rattle.machine_types.specs.{Accesses.{left_by, words_after}, Core.Core, Events.wanted}
-use Rattle.machine_types.specs.{FoundWords.{kind_content, field_content, variable_content, effect_content, run_content, leave_content, content_at}, Frames.{Top, top_of, effect_at}, Lawful.IsLawful}
-use Rattle.machine_types.specs.{Monitors.{Claim, Has, Tries, HasNot, claim}, Owners.Locks, PlainMemory.Object, Threads.Thread, Words.bits_word, declared.access.Access.{Access, TheVariants.Load}}
-use Rattle.machine_types.specs.declared.{effect.Effect.{Effect, TheVariants.{Goes, Reads, Writes, Calls, Indexes, Measures, Raises}}, lock.Kept.Kept, phase.Phase.Phase}
-use Rattle.laws_states.{specs.{HeapFacts.HeapFacts, SiteLaws.{EventsReachSites, SitesDiffer, SitesLieInside}, Sites.{BitsOf, Suits}}, proofs.{EventWords.{IsLeft, word_at}, WaitingStep.Changes}}
+use Rattle.checked_program.specs.MarkedProgram.{MarkedProgram}
+use Rattle.machine_types.specs.{Accesses.{left_by, words_after}, Events.wanted, FoundWords.{kind_content, field_content, variable_content, effect_content, run_content, leave_content, content_at}}
+use Rattle.machine_types.specs.{Frames.{Top, top_of, effect_at}, Monitors.{Claim, Has, Tries, HasNot, claim}, Owners.Locks, Threads.Thread, Words.bits_word, declared.access.Access.Access}
+use Rattle.machine_types.specs.declared.{access.Access.TheVariants.Load, effect.Effect.{Effect, TheVariants.{Goes, Reads, Writes, Calls, Indexes, Measures, Raises}}, lock.Kept.Kept, phase.Phase.Phase}
+use Rattle.laws_states.{specs.Sites.{BitsOf, Suits}, proofs.{EventWords.{IsLeft, word_at}, Movers.{KnownSites, HeapMover}, WaitingStep.Changes}}
 use Rattle.jvm_types.specs.declared.program.Kind.TheVariants as kinds
 use Rattle.jvm_types.specs.declared.program.Target.TheVariants as targets
 use Rattle.machine_types.specs.declared.lock.Kept.TheVariants as keeps
@@ -79,12 +78,13 @@ same_changes v words after t same = record {
   stays = λ r k low d set. ap (has_flag (2 ^ k)) (same r low) ∙ set;
 }
 
-module _ (differ : SitesDiffer) (inside : SitesLieInside) (reach : EventsReachSites) (c : MarkedProgram) (objects : List Object) (s : Core) (t : ℕ) (x : Thread) (marked : IsMarked c) (heap : HeapFacts c objects s)
-    (there : slice_get s.threads t ≡ Some x) (lawful : IsLawful c x) where
+module _ (sites : KnownSites) (mover : HeapMover) where
+  open mover use {x, state.{c, s}}
+
   same_here : IsStill x.phase → SameBits s.words (words_after s.words (wanted c x x.phase))
-  same_here still r low = by_cases (word_at c objects s t x marked heap there lawful differ inside reach (BitsOf r) low)
+  same_here still r low = by_cases (word_at mover sites (BitsOf r) low)
     where
-      by_cases : (slice_index (words_after s.words (wanted c x x.phase)) (bits_word r) ≡ slice_index s.words (bits_word r)) ⊎ IsLeft c objects s t x marked heap there lawful (BitsOf r)
+      by_cases : (slice_index (words_after s.words (wanted c x x.phase)) (bits_word r) ≡ slice_index s.words (bits_word r)) ⊎ IsLeft c s.words x (BitsOf r)
           → slice_index (words_after s.words (wanted c x x.phase)) (bits_word r) ≡ slice_index s.words (bits_word r)
       by_cases (inl e) = e
       by_cases (inr k) = k.left ∙ still_leaves c x x.phase r k.access (slice_index s.words (bits_word r)) still k.suits k.wants

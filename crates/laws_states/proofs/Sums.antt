@@ -3,12 +3,11 @@ use Rattle.std.proofs.Common.{◌≡◌, ◌⊎◌, inl, inr, ℕ, suc, ◌+◌,
 use Rattle.std.{specs.List.sum_by, proofs.lemmas.{List.Sums.{sum_by-cons, sum_by-set}, Option.{slice_get_within, get_or_from_slice_get}}}
 use Rattle.lists.proofs.ListLaws.{same_some}
 use Rattle.jvm_types.specs.declared.{fixed_words.TheConstants.{NEXT_FREE_WORD, NEXT_TICKET_WORD, NEXT_RECORD_WORD}, outcome.End.End, program.Program.Program}
-use Rattle.checked_program.specs.MarkedProgram.{MarkedProgram, IsMarked}
-use Rattle.machine_types.specs.{Accesses.accessed, Bounds.{IsBounded, StepsFit, flat_held}, Core.Core, Frames.Top, Threads.Thread, declared.access.Access.{Access, TheVariants.Add}}
+use Rattle.machine_types.specs.{Accesses.accessed, Bounds.{IsBounded, StepsFit, flat_held}, Frames.Top, Threads.Thread, declared.access.Access.{Access, TheVariants.Add}}
 use Rattle.machine_types.specs.declared.{config.Config.Config, phase.Phase.Phase}
 use Rattle.laws_threads.proofs.ThreadMove.{begun_by}
-use Rattle.laws_states.{specs.{Counters.{CountersFit, most_size, drawn_for_flat, instructions_of, taken_of}, RunFacts.{HaveWidth, AreThreads}}, proofs.CountedEvents.{Counted, drawn_by}}
-use Rattle.laws_states.proofs.LeftSmall.{AddsFew, SumFits}
+use Rattle.laws_states.{specs.{Counters.{CountersFit, most_size, drawn_for_flat, instructions_of, taken_of}, RunFacts.HaveWidth}, proofs.CountedEvents.{Counted, drawn_by}}
+use Rattle.laws_states.proofs.{LeftSmall.{AddsFew, SumFits}, Movers.LawfulState}
 use Rattle.jvm_types.specs.declared.outcome.End.TheVariants as ends
 use Rattle.machine_types.specs.declared.phase.Phase.TheVariants as phases
 
@@ -44,7 +43,9 @@ pub drawn_now_once : (phase : Phase) → drawn_by phase ≤ 1
 drawn_now_once (phases.Grow m toward) = omega arith
 drawn_now_once phase = omega arith
 
-module _ (c : MarkedProgram) (cfg : Config) (s : Core) (marked : IsMarked c) (width : HaveWidth cfg) (threads : AreThreads c cfg s) where
+module _ (state : LawfulState) (width : HaveWidth state.cfg) where
+  open state use {cfg, threads, heap.{c, marked, s}}
+
   few_instructions : (t : ℕ) (x : Thread) → slice_get s.threads t ≡ Some x → x.counts.instructions < 4294967296
   few_instructions t x e =
       let bounded : IsBounded c.program x = (threads.lawful t x e).bounded in

@@ -2,11 +2,10 @@
 use Rattle.std.proofs.Common.{◌≡◌, ◌≢◌, ◌⊎◌, inl, inr, ℕ, zero, suc, ◌+◌, ◌<◌, Bool, true, false, cond, List, [], ◌∷◌, Option, Some, None, refl, sym, ap, ◌∙◌, subst, arith, ◌==◌, IsSome, slice_get, slice_set}
 use Rattle.std.proofs.lemmas.Bool.{eqb-false, Decides.Decides-eqb}
 use Rattle.jvm_types.specs.declared.fixed_words.TheConstants.{MONITOR_RECORDS}
-use Rattle.checked_program.specs.MarkedProgram.{MarkedProgram}
-use Rattle.machine_types.specs.{Core.Core, HeldMonitors.held_at, Owners.{Locks, HeldFat, hold_by_kept, hold_by_list, Owns, AreLocks, locks_in, Owners}, Structure.{IsFat, PhaseShows, Structure}}
+use Rattle.machine_types.specs.{HeldMonitors.held_at, Owners.{Locks, HeldFat, hold_by_kept, hold_by_list}, Structure.IsFat}
 use Rattle.machine_types.specs.{Threads.Thread, Waiting.{is_bit_set, MustWait, Waits, Waiting}, declared.{lock.Held.Held, phase.Phase.Phase}}
 use Rattle.laws_threads.{specs.{StateLaws.{counted_of, counted_phase_at}, StructureLaws.counted_by}, proofs.StateSteps.{set_there, set_other}}
-use Rattle.laws_states.proofs.{Lists.same_or_not, LockViews.fatly}
+use Rattle.laws_states.proofs.{Lists.same_or_not, LockViews.fatly, Movers.{LockMover, WaitMover, locks_of, mover_of, phase_shows}}
 use Rattle.machine_types.specs.declared.phase.Phase.TheVariants as phases
 
 -- ---- who owns a record
@@ -28,21 +27,23 @@ pub record OwnsRecord (v : Locks) (u r : ℕ) : Type 0 where
   pub low : r < MONITOR_RECORDS
   pub owner : v.owner r ≡ u + 1
 
-module _ (c : MarkedProgram) (v : Locks) (count : ℕ → ℕ) (a : AreLocks v count) (u : ℕ) (z : Thread) (shown : List ℕ) where
-  of_fat : (phase : Phase) (m k r : ℕ) → Some k ≡ Some r → IsFat k (held_at z.held m) → Owns v count u phase z → OwnsRecord v u r
-  of_fat phase m k r e fat owns =
-      let same : k ≡ r = cc in
-      let at = fatly u (v.lock m) v.owner k (owns.holds m ∙ hold_fat k (held_at z.held m) fat) in
-      let below = a.below m k at.0 in
-      subst (OwnsRecord v u) same (record { low = below.1; owner = at.1 })
+module _ (mover : LockMover) where
+  open mover use {t, x, own, state.{was, owners.locks_are, base.heap}}
 
-  pub owned_record : (phase : Phase) (r : ℕ) → record_of phase ≡ Some r → PhaseShows c phase z.frames shown z.held z.attempt → Owns v count u phase z → OwnsRecord v u r
-  owned_record (phases.WaitBit m k) r e shows owns = of_fat (phases.WaitBit m k) m k r e shows.1 owns
-  owned_record (phases.WaitOut m k) r e shows owns = of_fat (phases.WaitOut m k) m k r e shows.1 owns
-  owned_record (phases.NotifyLook m k) r e shows owns = of_fat (phases.NotifyLook m k) m k r e shows.1 owns
-  owned_record (phases.NotifyOne m k w) r e shows owns = of_fat (phases.NotifyOne m k w) m k r e shows.1 owns
-  owned_record (phases.NotifyAll m k) r e shows owns = of_fat (phases.NotifyAll m k) m k r e shows.1 owns
-  owned_record phase r e shows owns = absurd (cc)
+  of_fat : (m k r : ℕ) → Some k ≡ Some r → IsFat k (held_at x.held m) → OwnsRecord (locks_of heap) t r
+  of_fat m k r e fat =
+      let same : k ≡ r = cc in
+      let at = fatly t ((locks_of heap).lock m) (locks_of heap).owner k (own.holds m ∙ hold_fat k (held_at x.held m) fat) in
+      let below = locks_are.below m k at.0 in
+      subst (OwnsRecord (locks_of heap) t) same (record { low = below.1; owner = at.1 })
+
+  pub owned_record : (phase : Phase) (r : ℕ) → record_of phase ≡ Some r → was t ≡ phase → OwnsRecord (locks_of heap) t r
+  owned_record (phases.WaitBit m k) r e at = of_fat m k r e (phase_shows mover (phases.WaitBit m k) at).1
+  owned_record (phases.WaitOut m k) r e at = of_fat m k r e (phase_shows mover (phases.WaitOut m k) at).1
+  owned_record (phases.NotifyLook m k) r e at = of_fat m k r e (phase_shows mover (phases.NotifyLook m k) at).1
+  owned_record (phases.NotifyOne m k w) r e at = of_fat m k r e (phase_shows mover (phases.NotifyOne m k w) at).1
+  owned_record (phases.NotifyAll m k) r e at = of_fat m k r e (phase_shows mover (phases.NotifyAll m k) at).1
+  owned_record phase r e at = absurd (cc)
 
 pub must_stay : (words after : List ℕ) (u : ℕ) (phase : Phase) → ((r k : ℕ) → record_of phase ≡ Some r → is_bit_set words r k ≡ true → is_bit_set after r k ≡ true) → MustWait words u phase → MustWait after u phase
 must_stay words after u (phases.WaitOut m r) stays must = stays r u refl must
@@ -66,8 +67,17 @@ some_stays (y ∷ xs) zero (suc j) x k = k
 some_stays (y ∷ xs) (suc i) zero x k = refl
 some_stays (y ∷ xs) (suc i) (suc j) x k = some_stays xs i j x k
 
-module _ (c : MarkedProgram) (references : List ℕ) (was : ℕ → Phase) (s : Core) (owners : Owners references was s) (structure : Structure c was s.threads) (waiting : Waiting was s) (t : ℕ) (x y : Thread) (there : slice_get s.threads t ≡ Some x)
-    (after : List ℕ) (changes : Changes (locks_in references s.words) s.words after t) (own : Waits after t (counted_by (was t) y.phase)) where
+-- the words and the thread behind the event, and what it owes of them
+pub record BitsBehind (m : LockMover) : Type 0 where
+  pub after : List ℕ
+  pub y : Thread
+  pub changes : Changes (locks_of m.state.base.heap) m.state.base.heap.s.words after m.t
+  pub own : Waits after m.t (counted_by (m.state.was m.t) y.phase)
+
+module _ (waiter : WaitMover) (behind : BitsBehind waiter.mover) where
+  open waiter use {waiting, mover.{t, x, there, state.{was, base.heap.s}}}
+  open behind use {after, y, changes, own}
+
   others_wait : (u : ℕ) (z : Thread) → u ≢ t → slice_get s.threads u ≡ Some z → Waits after u (was u)
   others_wait u z d e =
       let w : Waits s.words u (was u) = waiting.each u z e in
@@ -76,10 +86,10 @@ module _ (c : MarkedProgram) (references : List ℕ) (was : ℕ → Phase) (s : 
         must = must_stay s.words after u (was u) (λ r k at set. stays r k (owned r at) set) w.must;
       }
     where
-      owned : (r : ℕ) → record_of (was u) ≡ Some r → OwnsRecord (locks_in references s.words) u r
-      owned r at = owned_record c (locks_in references s.words) owners.count owners.locks_are u z (structure u z e).stands.shown (was u) r at (structure u z e).stands.phase_shows (owners.each u z e)
+      owned : (r : ℕ) → record_of (was u) ≡ Some r → OwnsRecord (locks_of waiter.mover.state.base.heap) u r
+      owned r at = owned_record (mover_of waiter.mover.state u z e) (was u) r at refl
 
-      stays : (r k : ℕ) → OwnsRecord (locks_in references s.words) u r → is_bit_set s.words r k ≡ true → is_bit_set after r k ≡ true
+      stays : (r k : ℕ) → OwnsRecord (locks_of waiter.mover.state.base.heap) u r → is_bit_set s.words r k ≡ true → is_bit_set after r k ≡ true
       stays r k o set = changes.stays r k o.low (λ q. d (omega (arith, q, o.owner))) set
 
   each_waits : (u : ℕ) (z : Thread) → slice_get (slice_set s.threads t y) u ≡ Some z → Waits after u (counted_phase_at was t (slice_set s.threads t y) u)

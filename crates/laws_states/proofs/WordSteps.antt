@@ -1,12 +1,11 @@
 -- What an access leaves of all words: places keep their types, unused words and those of new objects stay as they are.
 use Rattle.std.proofs.{Common.{◌≡◌, ◌≢◌, ◌⊎◌, inl, inr, ℕ, ◌<◌, ◌≤◌, List, length, Option, Some, None, refl, ap, sym, subst, ◌∙◌, arith, slice_index, slice_set}, lemmas.List.length-set}
 use Rattle.jvm_types.specs.{ProgramInvariant.IsProgram, declared.{fixed_words.TheConstants.NEXT_FREE_WORD, program.Program.Program}}
-use Rattle.checked_program.specs.MarkedProgram.{MarkedProgram, IsMarked}
+use Rattle.checked_program.specs.MarkedProgram.{MarkedProgram}
 use Rattle.machine_types.specs.{Accesses.{accessed, left_by, words_after}, Core.Core, FoundWords.Content, ObjectsApart.LieApart, PlainMemory.{Object, StaticValue}, StartLaws.StartLiesApart}
-use Rattle.machine_types.specs.{Typed.PlacesHold, declared.access.Access.{Access, TheVariants.{Load, Store, Cas, Add, Or, And, Rest}}}
-use Rattle.laws_states.specs.{HeapFacts.HeapFacts, Sites.{Site, Counter, OwnerOf, BitsOf, LockOf, HeaderOf, ValueOf, NewHeaderOf, StaticAt, site_word, IsThere}}
-use Rattle.laws_states.proofs.{Accesses.{IsOldSite, FitsAt, FitsAccess, FitsIf}, Lists.{same_or_not, set_here, set_there}, Places.{SiteHolds, site_typed, places_typed}}
-use Rattle.laws_states.proofs.Sites.{New, block, InNew, Inside, in_block, same_block, block_low, sites_apart}
+use Rattle.machine_types.specs.{Typed.PlacesHold, declared.access.Access.{Access, TheVariants.Rest}}
+use Rattle.laws_states.{specs.Sites.{Site, Counter, NewHeaderOf, site_word, IsThere}, proofs.{Accesses.{IsOldSite, FitsAt, FitsAccess, FitsIf}, Lists.{same_or_not, set_here, set_there}}}
+use Rattle.laws_states.proofs.{Movers.HeapState, Places.{SiteHolds, site_typed, places_typed}, Sites.{New, block, InNew, Inside, in_block, same_block, block_low, sites_apart}}
 
 -- ---- the next free word does not fall
 
@@ -34,16 +33,12 @@ pub record WordsGoOn (c : MarkedProgram) (objects : List Object) (s : Core) (aft
   pub new : (a n : ℕ) → InNew c.program s a n → slice_index after n ≡ slice_index s.words n
 
 no_new_block : (site : Site) (a : ℕ) → IsOldSite site → New a ≡ block site → ⊥
-no_new_block (Counter word) a old e = cc
-no_new_block (OwnerOf r) a old e = cc
-no_new_block (BitsOf r) a old e = cc
-no_new_block (LockOf b) a old e = cc
-no_new_block (HeaderOf b) a old e = cc
-no_new_block (ValueOf b i) a old e = cc
 no_new_block (NewHeaderOf b) a old e = old
-no_new_block (StaticAt word) a old e = cc
+no_new_block site a old e = cc
 
-module _ (lies : StartLiesApart) (c : MarkedProgram) (marked : IsMarked c) (objects : List Object) (s : Core) (facts : HeapFacts c objects s) where
+module _ (lies : StartLiesApart) (state : HeapState) where
+  open state use {c, marked, objects, s, facts}
+
   is_program : IsProgram c.program
   is_program = marked.checked.program
 
@@ -85,12 +80,7 @@ module _ (lies : StartLiesApart) (c : MarkedProgram) (marked : IsMarked c) (obje
 
   access_set : (content : Content) (access : Access) → FitsAccess c.program objects s content access → WordsGoOn c objects s (words_after s.words (Some access))
   access_set content Rest f = as_they_are
-  access_set content (Load w) f = words_set content (Load w) f
-  access_set content (Store w v) f = words_set content (Store w v) f
-  access_set content (Cas w is v) f = words_set content (Cas w is v) f
-  access_set content (Add w v) f = words_set content (Add w v) f
-  access_set content (Or w v) f = words_set content (Or w v) f
-  access_set content (And w v) f = words_set content (And w v) f
+  access_set content access f = words_set content access f
 
   pub words_go_on : (content : Content) (access : Option Access) → FitsIf c.program objects s content access → WordsGoOn c objects s (words_after s.words access)
   words_go_on content None f = as_they_are

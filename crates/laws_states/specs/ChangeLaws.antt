@@ -96,10 +96,9 @@ pub record IsFollowed (c : MarkedProgram) (cfg : Config) (objects : List Object)
 
 -- of every state of which the facts hold
 abbrev pub EventsRespectOwners : Type 0
-EventsRespectOwners =
-    (c : MarkedProgram) (cfg : Config) (objects : List Object) (was : ℕ → Phase) (s : Core) (t : ℕ)
-    (x : Thread) → IsMarked c → StateFacts c cfg objects was s → slice_get s.threads t ≡ Some x
-    → IsFollowed c cfg objects s t x
+EventsRespectOwners = (c : MarkedProgram) (cfg : Config) (objects : List Object) (was : ℕ → Phase)
+    (s : Core) (t : ℕ) (x : Thread) → IsMarked c → StateFacts c cfg objects was s
+    → slice_get s.threads t ≡ Some x → IsFollowed c cfg objects s t x
 
 -- ---- every run
 
@@ -117,16 +116,14 @@ run_objects c cfg hs = all_objects c (start c cfg) (start_objects c.program) hs
 
 -- from every state that a run reaches, by an event of any thread
 abbrev pub RunsRespectOwners : Type 0
-RunsRespectOwners =
-    (c : MarkedProgram) (cfg : Config) (hs : List Happening) (t : ℕ) (x : Thread) → IsMarked c
-    → HaveWidth cfg → AreSettings cfg → slice_get (core c cfg hs).threads t ≡ Some x
+RunsRespectOwners = (c : MarkedProgram) (cfg : Config) (hs : List Happening) (t : ℕ) (x : Thread)
+    → IsMarked c → HaveWidth cfg → AreSettings cfg → slice_get (core c cfg hs).threads t ≡ Some x
     → IsFollowed c cfg (run_objects c cfg hs) (core c cfg hs) t x
 
 -- ---- every state, whatever its threads and words
 
 abbrev pub EventsLeaveOthers : Type 0
-EventsLeaveOthers =
-    (c : MarkedProgram) (s : Core) (t u : ℕ) → u ≢ t
+EventsLeaveOthers = (c : MarkedProgram) (s : Core) (t u : ℕ) → u ≢ t
     → slice_get (event c s t).threads u ≡ slice_get s.threads u
 
 abbrev pub attempts : List Thread → List (Option Attempt)

@@ -8,6 +8,5 @@ use Rattle.machine_types.specs.declared.config.Config.{Config}
 use Rattle.laws_states.specs.RunFacts.{HaveWidth}
 
 abbrev pub EveryOrderHasRun : Type 0
-EveryOrderHasRun =
-    (c : MarkedProgram) (cfg : Config) (order : List ℕ) → IsMarked c → HaveWidth cfg
+EveryOrderHasRun = (c : MarkedProgram) (cfg : Config) (order : List ℕ) → IsMarked c → HaveWidth cfg
     → AreSettings cfg → (hs : List Happening) × IsScheduleOf c cfg order hs

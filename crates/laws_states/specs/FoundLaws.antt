@@ -18,7 +18,6 @@ IsOfHeap Bits = ⊥
 IsOfHeap content = Unit {0}
 
 abbrev pub HeapWordsFit : Type 0
-HeapWordsFit =
-    (c : MarkedProgram) (objects : List Object) (s : Core) (t : ℕ) (x : Thread) → IsMarked c
-    → HeapFacts c objects s → slice_get s.threads t ≡ Some x → IsLawful c x
+HeapWordsFit = (c : MarkedProgram) (objects : List Object) (s : Core) (t : ℕ) (x : Thread)
+    → IsMarked c → HeapFacts c objects s → slice_get s.threads t ≡ Some x → IsLawful c x
     → IsOfHeap (content_at c x x.phase) → Fits c x (found_by s.words (wanted c x x.phase))

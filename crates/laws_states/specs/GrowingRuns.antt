@@ -9,8 +9,7 @@ use Rattle.machine_types.specs.Threads.{Thread}
 use Rattle.machine_types.specs.declared.config.Config.{Config}
 
 abbrev pub OneMoreHappens : Type 0
-OneMoreHappens =
-    (c : MarkedProgram) (cfg : Config) (hs : List Happening) (h : Happening)
+OneMoreHappens = (c : MarkedProgram) (cfg : Config) (hs : List Happening) (h : Happening)
     → core c cfg (hs ++ h ∷ []) ≡ happened c (core c cfg hs) h
 
 -- as many words as at the start, and the threads of the program
@@ -19,8 +18,8 @@ pub record HasSizes (c : MarkedProgram) (cfg : Config) (s : Core) : Type 0 where
   pub threads : length s.threads ≡ c.program.workers + 1
 
 abbrev pub RunsKeepSizes : Type 0
-RunsKeepSizes =
-    (c : MarkedProgram) (cfg : Config) (hs : List Happening) → HasSizes c cfg (core c cfg hs)
+RunsKeepSizes = (c : MarkedProgram) (cfg : Config) (hs : List Happening)
+    → HasSizes c cfg (core c cfg hs)
 
 -- ---- the threads of a run
 
@@ -34,7 +33,6 @@ behind c words x = moved c x x.phase (found_by words (wanted c x x.phase))
 
 -- an event leaves a thread of a run one of a run
 abbrev pub ThreadsStayOfRuns : Type 0
-ThreadsStayOfRuns =
-    (c : MarkedProgram) (cfg : Config) (hs : List Happening) (t : ℕ) (x : Thread)
+ThreadsStayOfRuns = (c : MarkedProgram) (cfg : Config) (hs : List Happening) (t : ℕ) (x : Thread)
     → slice_get (core c cfg hs).threads t ≡ Some x
     → IsOfRun c cfg t (behind c (core c cfg hs).words x)

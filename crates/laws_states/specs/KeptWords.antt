@@ -17,14 +17,12 @@ use Rattle.laws_states.specs.SharedWords.{LocksFit, RecordsFit}
 -- ---- locks: that of a new object is free
 
 abbrev pub StartLocksFit : Type 0
-StartLocksFit =
-    (c : MarkedProgram) (cfg : Config)
+StartLocksFit = (c : MarkedProgram) (cfg : Config)
     → LocksFit cfg.range (start_objects c.program) (start c cfg).words
 
 abbrev pub EventsKeepLocks : Type 0
-EventsKeepLocks =
-    (c : MarkedProgram) (cfg : Config) (objects : List Object) (s : Core) (t : ℕ) → IsMarked c
-    → HeapFacts c objects s → AreThreads c cfg s → LocksFit cfg.range objects s.words
+EventsKeepLocks = (c : MarkedProgram) (cfg : Config) (objects : List Object) (s : Core) (t : ℕ)
+    → IsMarked c → HeapFacts c objects s → AreThreads c cfg s → LocksFit cfg.range objects s.words
     → LocksFit cfg.range (objects_after c.program s t objects) (event c s t).words
 
 -- ---- monitor records
@@ -33,9 +31,8 @@ abbrev pub StartRecordsFit : Type 0
 StartRecordsFit = (c : MarkedProgram) (cfg : Config) → RecordsFit (start c cfg).words
 
 abbrev pub EventsKeepRecords : Type 0
-EventsKeepRecords =
-    (c : MarkedProgram) (cfg : Config) (objects : List Object) (s : Core) (t : ℕ) → IsMarked c
-    → HeapFacts c objects s → AreThreads c cfg s → RecordsFit s.words
+EventsKeepRecords = (c : MarkedProgram) (cfg : Config) (objects : List Object) (s : Core) (t : ℕ)
+    → IsMarked c → HeapFacts c objects s → AreThreads c cfg s → RecordsFit s.words
     → RecordsFit (event c s t).words
 
 -- ---- counters
@@ -44,20 +41,17 @@ abbrev pub StartCountersFit : Type 0
 StartCountersFit = (c : MarkedProgram) (cfg : Config) → CountersFit c.program (start c cfg)
 
 abbrev pub EventsKeepCounters : Type 0
-EventsKeepCounters =
-    (c : MarkedProgram) (cfg : Config) (objects : List Object) (s : Core) (t : ℕ) → IsMarked c
-    → HeapFacts c objects s → AreThreads c cfg s → CountersFit c.program s
+EventsKeepCounters = (c : MarkedProgram) (cfg : Config) (objects : List Object) (s : Core) (t : ℕ)
+    → IsMarked c → HeapFacts c objects s → AreThreads c cfg s → CountersFit c.program s
     → CountersFit c.program (event c s t)
 
 abbrev pub NextKeepsCounters : Type 0
-NextKeepsCounters =
-    (c : MarkedProgram) (s : Core) → PartsFit s.threads → CountersFit c.program s
+NextKeepsCounters = (c : MarkedProgram) (s : Core) → PartsFit s.threads → CountersFit c.program s
     → CountersFit c.program (next c s)
 
 -- no sum passes what a word holds
 abbrev pub SumsFit : Type 0
-SumsFit =
-    (c : MarkedProgram) (cfg : Config) (objects : List Object) (s : Core) (t : ℕ) (x : Thread)
+SumsFit = (c : MarkedProgram) (cfg : Config) (objects : List Object) (s : Core) (t : ℕ) (x : Thread)
     (word v : ℕ) → IsMarked c → HaveWidth cfg → HeapFacts c objects s → AreThreads c cfg s
     → CountersFit c.program s → slice_get s.threads t ≡ Some x
     → wanted c x x.phase ≡ Some (Add word v) → slice_index s.words word + v < 2 ^ 64

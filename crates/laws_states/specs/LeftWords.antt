@@ -13,8 +13,7 @@ use Rattle.laws_states.specs.SharedWords.{MayStand}
 
 -- what it leaves may stand there, if what it found may
 abbrev pub LeftMayStand : Type 0
-LeftMayStand =
-    (c : MarkedProgram) (s : Thread) (access : Access) (got : ℕ) → s.number ≤ MOST_WORKERS
-    → IsBounded c.program s → wanted c s s.phase ≡ Some access
+LeftMayStand = (c : MarkedProgram) (s : Thread) (access : Access) (got : ℕ)
+    → s.number ≤ MOST_WORKERS → IsBounded c.program s → wanted c s s.phase ≡ Some access
     → MayStand s.cfg.range (content_at c s s.phase) got
     → MayStand s.cfg.range (content_at c s s.phase) (left_by access got)

@@ -15,15 +15,13 @@ use Rattle.laws_states.specs.RunFacts.{AreThreads}
 
 -- the lock of an object whose header is stored is free
 abbrev pub EventsKeepOwners : Type 0
-EventsKeepOwners =
-    (c : MarkedProgram) (cfg : Config) (objects : List Object) (was : ℕ → Phase) (s : Core) (t : ℕ)
-    → IsMarked c → HeapFacts c objects s → AreThreads c cfg s → Structure c was s.threads
-    → Owners (references_of objects) was s
+EventsKeepOwners = (c : MarkedProgram) (cfg : Config) (objects : List Object) (was : ℕ → Phase)
+    (s : Core) (t : ℕ) → IsMarked c → HeapFacts c objects s → AreThreads c cfg s
+    → Structure c was s.threads → Owners (references_of objects) was s
     → Owners (references_of (objects_after c.program s t objects)) (counted_after c was s t)
     (event c s t)
 
 abbrev pub NextKeepsOwners : Type 0
-NextKeepsOwners =
-    (c : MarkedProgram) (references : List ℕ) (was : ℕ → Phase) (s : Core)
+NextKeepsOwners = (c : MarkedProgram) (references : List ℕ) (was : ℕ → Phase) (s : Core)
     → Structure c was s.threads → Owners references was s
     → Owners references (counted_next c was s) (next c s)

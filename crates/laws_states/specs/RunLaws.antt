@@ -11,25 +11,22 @@ abbrev pub StartHasRunFacts : Type 0
 StartHasRunFacts = (c : MarkedProgram) (cfg : Config) → IsMarked c → RunFacts c cfg (start c cfg)
 
 abbrev pub EventsKeepFacts : Type 0
-EventsKeepFacts =
-    (c : MarkedProgram) (cfg : Config) (s : Core) (t : ℕ) → IsMarked c → HaveWidth cfg
+EventsKeepFacts = (c : MarkedProgram) (cfg : Config) (s : Core) (t : ℕ) → IsMarked c → HaveWidth cfg
     → AreThreads c cfg s → RunFacts c cfg s → RunFacts c cfg (event c s t)
 
 abbrev pub NextKeepsFacts : Type 0
-NextKeepsFacts =
-    (c : MarkedProgram) (cfg : Config) (s : Core) → AreThreads c cfg s → RunFacts c cfg s
-    → RunFacts c cfg (next c s)
+NextKeepsFacts = (c : MarkedProgram) (cfg : Config) (s : Core) → AreThreads c cfg s
+    → RunFacts c cfg s → RunFacts c cfg (next c s)
 
 abbrev pub ReachedFits : Type 0
-ReachedFits =
-    (c : MarkedProgram) (cfg : Config) (s : Core) (t : ℕ) (x : Thread) → IsMarked c → HaveWidth cfg
-    → AreThreads c cfg s → RunFacts c cfg s → slice_get s.threads t ≡ Some x → AccessFits c s x
+ReachedFits = (c : MarkedProgram) (cfg : Config) (s : Core) (t : ℕ) (x : Thread) → IsMarked c
+    → HaveWidth cfg → AreThreads c cfg s → RunFacts c cfg s → slice_get s.threads t ≡ Some x
+    → AccessFits c s x
 
 -- the threads stay lawful
 abbrev pub EventsKeepThreads : Type 0
-EventsKeepThreads =
-    (c : MarkedProgram) (cfg : Config) (s : Core) (t : ℕ) → IsMarked c → HaveWidth cfg
-    → AreThreads c cfg s → RunFacts c cfg s → AreThreads c cfg (event c s t)
+EventsKeepThreads = (c : MarkedProgram) (cfg : Config) (s : Core) (t : ℕ) → IsMarked c
+    → HaveWidth cfg → AreThreads c cfg s → RunFacts c cfg s → AreThreads c cfg (event c s t)
 
 -- ---- every run
 
@@ -43,6 +40,5 @@ pub record HasRunFacts (c : MarkedProgram) (cfg : Config) (s : Core) : Type 0 wh
   pub facts : RunFacts c cfg s
 
 abbrev pub RunsReach : Type 0
-RunsReach =
-    (c : MarkedProgram) (cfg : Config) (hs : List Happening) → IsMarked c → HaveWidth cfg
+RunsReach = (c : MarkedProgram) (cfg : Config) (hs : List Happening) → IsMarked c → HaveWidth cfg
     → PartsKeepThreads c cfg → HasRunFacts c cfg (core c cfg hs)

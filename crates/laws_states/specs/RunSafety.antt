@@ -99,7 +99,6 @@ pub record IsSafe (c : MarkedProgram) (s : Core) (x : Thread) : Type 0 where
 
 -- in every state that a run reaches
 abbrev pub RunsAreSafe : Type 0
-RunsAreSafe =
-    (c : MarkedProgram) (cfg : Config) (hs : List Happening) (t : ℕ) (x : Thread) → IsMarked c
-    → HaveWidth cfg → AreSettings cfg → slice_get (core c cfg hs).threads t ≡ Some x
+RunsAreSafe = (c : MarkedProgram) (cfg : Config) (hs : List Happening) (t : ℕ) (x : Thread)
+    → IsMarked c → HaveWidth cfg → AreSettings cfg → slice_get (core c cfg hs).threads t ≡ Some x
     → IsSafe c (core c cfg hs) x

@@ -17,14 +17,12 @@ use Rattle.laws_states.specs.SharedWords.{RecordsFit}
 
 -- an event that sets or clears bits leaves them those of threads that wait
 abbrev pub EventsKeepWaiting : Type 0
-EventsKeepWaiting =
-    (c : MarkedProgram) (cfg : Config) (objects : List Object) (was : ℕ → Phase) (s : Core) (t : ℕ)
-    → IsMarked c → HeapFacts c objects s → AreThreads c cfg s → RecordsFit s.words
-    → Structure c was s.threads → Owners (references_of objects) was s → Waiting was s
-    → Waiting (counted_after c was s t) (event c s t)
+EventsKeepWaiting = (c : MarkedProgram) (cfg : Config) (objects : List Object) (was : ℕ → Phase)
+    (s : Core) (t : ℕ) → IsMarked c → HeapFacts c objects s → AreThreads c cfg s
+    → RecordsFit s.words → Structure c was s.threads → Owners (references_of objects) was s
+    → Waiting was s → Waiting (counted_after c was s t) (event c s t)
 
 -- a thread whose part begins does not wait
 abbrev pub NextKeepsWaiting : Type 0
-NextKeepsWaiting =
-    (c : MarkedProgram) (was : ℕ → Phase) (s : Core) → PartsFit s.threads
+NextKeepsWaiting = (c : MarkedProgram) (was : ℕ → Phase) (s : Core) → PartsFit s.threads
     → Structure c was s.threads → Waiting was s → Waiting (counted_next c was s) (next c s)

@@ -94,15 +94,13 @@ all_work s = sum_by work_left s.threads
 
 -- the next event of a live thread, by whatever word it finds
 abbrev pub EventsLessenWork : Type 0
-EventsLessenWork =
-    (c : MarkedProgram) (x : Thread) (got : ℕ) → IsMarked c → IsLawful c x → is_live x.phase ≡ true
-    → work_left (moved c x x.phase got) < work_left x
+EventsLessenWork = (c : MarkedProgram) (x : Thread) (got : ℕ) → IsMarked c → IsLawful c x
+    → is_live x.phase ≡ true → work_left (moved c x x.phase got) < work_left x
 
 -- of a state whose threads are lawful
 abbrev pub EventsLessenAllWork : Type 0
-EventsLessenAllWork =
-    (c : MarkedProgram) (cfg : Config) (s : Core) (t : ℕ) → IsMarked c → AreThreads c cfg s
-    → lives s t ≡ true → all_work (event c s t) < all_work s
+EventsLessenAllWork = (c : MarkedProgram) (cfg : Config) (s : Core) (t : ℕ) → IsMarked c
+    → AreThreads c cfg s → lives s t ≡ true → all_work (event c s t) < all_work s
 
 -- what a thread may have to do, by its settings, roots and frames
 abbrev pub WorkIsBounded : Type 0
