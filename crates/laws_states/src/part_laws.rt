@@ -1,7 +1,8 @@
 //! How far the parts of a run have come.
 
 ghost use Rattle.laws_states.specs.PartsLaws.{ClassInitsRunAlone, EventsKeepParts};
-ghost use Rattle.laws_states.specs.PartsLaws.{EventsPutInitsFirst, NextKeepsParts, NextPutsInitsFirst};
+ghost use Rattle.laws_states.specs.PartsLaws.{EventsPutInitsFirst, NextKeepsParts};
+ghost use Rattle.laws_states.specs.PartsLaws.{NextPutsInitsFirst};
 ghost use Rattle.laws_states.specs.PartsLaws.{StartPutsInitsFirst, StartStandsInParts};
 ghost use Rattle.laws_states.specs.StateLaws.{ProgramsKeepThreads};
 
