@@ -3,9 +3,9 @@ use Rattle.std.proofs.Common.{◌≡◌, ℕ, zero, suc, ◌+◌, Bool, true, fa
 use Rattle.std.proofs.lemmas.List.{length-map, FromFn.length-map-range_with_len}
 use Rattle.jvm_types.specs.declared.program.Program.{Program}
 use Rattle.checked_program.specs.MarkedProgram.{MarkedProgram}
-use Rattle.machine_types.specs.Accesses.{performed, words_after}
+use Rattle.machine_types.specs.Accesses.{accessed, performed, words_after}
 use Rattle.machine_types.specs.Core.{Core, Happening, Of, NextPart, all_happened, core, event, event_of, happened, may_begin, next_threads, part_begins, start, start_thread, with_roots}
-use Rattle.machine_types.{specs.{Events.wanted, Parts.run_roots, Threads.Thread, declared.access.Access.{Access, TheVariants.{Load, Store, Cas, Add, Or, And, Rest}}}, proofs.Lists.got_when_set}
+use Rattle.machine_types.{specs.{Events.wanted, Parts.run_roots, Threads.Thread, declared.access.Access.{Access, TheVariants.Rest}}, proofs.Lists.got_when_set}
 use Rattle.laws_states.specs.GrowingRuns.{OneMoreHappens, RunsKeepSizes, behind, ThreadsStayOfRuns}
 
 -- ---- one happening more
@@ -30,12 +30,7 @@ threads_stay c cfg hs t x at =
 
 performed_long : (words : List ℕ) (a : Access) → length (performed words a) ≡ length words
 performed_long words Rest = refl
-performed_long words (Load w) = length-set words w _
-performed_long words (Store w v) = length-set words w _
-performed_long words (Cas w is v) = length-set words w _
-performed_long words (Add w v) = length-set words w _
-performed_long words (Or w v) = length-set words w _
-performed_long words (And w v) = length-set words w _
+performed_long words a = length-set words (accessed a) _
 
 after_long : (words : List ℕ) (o : Option Access) → length (words_after words o) ≡ length words
 after_long words None = refl

@@ -3,7 +3,7 @@ use Rattle.std.proofs.Common.{◌≡◌, ◌⊎◌, inl, inr, ℕ, List, [], ◌
 use Rattle.jvm_types.specs.declared.{fixed_words.TheConstants.NEXT_FREE_WORD, program.Program.Program}
 use Rattle.checked_program.specs.MarkedProgram.{MarkedProgram}
 use Rattle.machine_types.specs.{Accesses.{found_by, words_after}, Core.{Core, event_of, next}, Events.{wanted, moved}, FoundWords.content_at, NewObjects.{size_by, IsNewObject}}
-use Rattle.machine_types.specs.{PlainMemory.{Object, new_object}, StartLaws.StartLiesApart, Structure.{IsAs, PhaseShows, IsStructured, Structure}, Threads.{Frame, Thread}}
+use Rattle.machine_types.specs.{PlainMemory.{Object, new_object}, StartLaws.StartLiesApart, Structure.{IsAs, PhaseShows, IsStructured}, Threads.{Frame, Thread}}
 use Rattle.machine_types.specs.{Typed.{Classes, HasClass, HasElementIn, FramesHold, AttemptHolds, PhaseHolds, ThreadHolds}, Words.header_word, declared.phase.Phase.Phase}
 use Rattle.laws_threads.{specs.StructureLaws.StructureIsKept, proofs.KeptPhases.PhaseFinds}
 use Rattle.laws_states.{specs.{HeapFacts.{IsWaitOn, HoldsObjects, HeapFacts, objects_by, objects_of}, HeapLaws.{EventsKeepHeap, NextKeepsHeap}}, proofs.Assembled.{Behind, Became, assembled}}
@@ -155,73 +155,69 @@ no_wait is phases.Start fresh = tt
 no_wait is (phases.Ended ends.Returned) fresh = tt
 no_wait is phase fresh = absurd fresh
 
-module _ (c : MarkedProgram) (objects : List Object) (was : ℕ → Phase) (s : Core) (facts : HeapFacts c objects s) (structure : Structure c was (next c s).threads) where
-  before : (u : ℕ) (y : Thread) → slice_get (next c s).threads u ≡ Some y → (z : Thread) × (slice_get s.threads u ≡ Some z) × Begins z y
-  before u y e = begun c.program s.threads u y e
-
-  made_before : (z y : Thread) (a word : ℕ) → Begins z y → y.phase ≡ phases.Made a word → z.phase ≡ phases.Made a word
-  made_before z y a word k m = by_side k.phase
-    where
-      by_side : (y.phase ≡ z.phase) ⊎ StartsOrEnded y.phase → z.phase ≡ phases.Made a word
-      by_side (inl e) = sym e ∙ m
-      by_side (inr fresh) = absurd (no_object y.phase a word fresh m)
-
-  values : (u : ℕ) (y z : Thread) → slice_get (next c s).threads u ≡ Some y → slice_get s.threads u ≡ Some z → Begins z y → ThreadHolds c (HasClass objects) y
-  values u y z e g k =
-      let typed = facts.typed.threads u z g in
-      record {
-        phase = by_side k.phase;
-        attempt = subst (λ attempt. AttemptHolds c (HasClass objects) y.frames attempt) (sym k.attempt) (subst (λ fs. AttemptHolds c (HasClass objects) fs z.attempt) (sym k.frames) typed.attempt);
-      }
-    where
-      by_side : (y.phase ≡ z.phase) ⊎ StartsOrEnded y.phase → PhaseHolds c (HasClass objects) y.phase y.frames
-      by_side (inl same) = let typed = facts.typed.threads u z g in subst (λ phase. PhaseHolds c (HasClass objects) phase y.frames) (sym same) (subst (PhaseHolds c (HasClass objects) z.phase) (sym k.frames) typed.phase)
-      by_side (inr fresh) = no_frame c (was u) y (structure u y e) fresh (HasClass objects)
-
-  element : (u : ℕ) (y z : Thread) (word : ℕ) (stored : Option ℕ) → slice_get s.threads u ≡ Some z → Begins z y → y.phase ≡ phases.Element word stored → HasElementIn objects stored y.frames
-  element u y z word stored g k m = by_side k.phase
-    where
-      by_side : (y.phase ≡ z.phase) ⊎ StartsOrEnded y.phase → HasElementIn objects stored y.frames
-      by_side (inl same) = subst (HasElementIn objects stored) (sym k.frames) (facts.typed.elements u z word stored g (sym same ∙ m))
-      by_side (inr fresh) = absurd (no_element y.phase word stored fresh m)
-
-  monitors : (u : ℕ) (y z : Thread) → slice_get s.threads u ≡ Some z → Begins z y → HoldsObjects (HasClass objects) y
-  monitors u y z g k =
-      let m = facts.monitors u z g in
-      record { held = subst (AllHeld (HasClass objects)) (sym k.held) m.held; waits = by_side k.phase }
-    where
-      by_side : (y.phase ≡ z.phase) ⊎ StartsOrEnded y.phase → IsWaitOn (HasClass objects) y.phase
-      by_side (inl same) = let m = facts.monitors u z g in subst (IsWaitOn (HasClass objects)) (sym same) m.waits
-      by_side (inr fresh) = no_wait (HasClass objects) y.phase fresh
-
-  new_object_kept : (u : ℕ) (y : Thread) (a word : ℕ) → slice_get (next c s).threads u ≡ Some y → y.phase ≡ phases.Made a word → IsNewObject c.program objects (next c s) a (size_by c.program word)
-  new_object_kept u y a word e m =
-      let b = before u y e in
-      let k = facts.new_objects.each u b.0 a word b.1 (made_before b.0 y a word b.2 m) in
-      record { begins = k.begins; below = k.below; inside = k.inside; beside = k.beside; empty = k.empty }
-
-  next_kept : HeapFacts c objects (next c s)
-  next_kept = record {
-    started = facts.started;
-    apart = facts.apart;
-    unused = record { many = facts.unused.many; empty = facts.unused.empty };
-    begins = facts.begins;
-    typed = record {
-      threads = λ u y e. let b = before u y e in values u y b.0 e b.1 b.2;
-      elements = λ u y word stored e m. let b = before u y e in element u y b.0 word stored b.1 b.2 m;
-      places = facts.typed.places;
-    };
-    new_objects = record {
-      each = new_object_kept;
-      apart = λ t u x y a b word other e f n m l.
-          let i = before t x e in
-          let j = before u y f in
-          facts.new_objects.apart t u i.0 j.0 a b word other i.1 j.1 n (made_before i.0 x a word i.2 m) (made_before j.0 y b other j.2 l);
-    };
-    headers = facts.headers;
-    new_headers = λ u y a word e m. let b = before u y e in facts.new_headers u b.0 a word b.1 (made_before b.0 y a word b.2 m);
-    monitors = λ u y e. let b = before u y e in monitors u y b.0 b.1 b.2;
-  }
-
 pub next_keeps : NextKeepsHeap
-next_keeps c objects was s facts structure = next_kept c objects was s facts structure
+next_keeps c objects was s facts structure = record {
+  started = facts.started;
+  apart = facts.apart;
+  unused = record { many = facts.unused.many; empty = facts.unused.empty };
+  begins = facts.begins;
+  typed = record {
+    threads = λ u y e. let b = before u y e in values u y b.0 e b.1 b.2;
+    elements = λ u y word stored e m. let b = before u y e in element u y b.0 word stored b.1 b.2 m;
+    places = facts.typed.places;
+  };
+  new_objects = record {
+    each = new_object_kept;
+    apart = λ t u x y a b word other e f n m l.
+        let i = before t x e in
+        let j = before u y f in
+        facts.new_objects.apart t u i.0 j.0 a b word other i.1 j.1 n (made_before i.0 x a word i.2 m) (made_before j.0 y b other j.2 l);
+  };
+  headers = facts.headers;
+  new_headers = λ u y a word e m. let b = before u y e in facts.new_headers u b.0 a word b.1 (made_before b.0 y a word b.2 m);
+  monitors = λ u y e. let b = before u y e in monitors u y b.0 b.1 b.2;
+}
+  where
+    before : (u : ℕ) (y : Thread) → slice_get (next c s).threads u ≡ Some y → (z : Thread) × (slice_get s.threads u ≡ Some z) × Begins z y
+    before u y e = begun c.program s.threads u y e
+
+    made_before : (z y : Thread) (a word : ℕ) → Begins z y → y.phase ≡ phases.Made a word → z.phase ≡ phases.Made a word
+    made_before z y a word k m = by_side k.phase
+      where
+        by_side : (y.phase ≡ z.phase) ⊎ StartsOrEnded y.phase → z.phase ≡ phases.Made a word
+        by_side (inl e) = sym e ∙ m
+        by_side (inr fresh) = absurd (no_object y.phase a word fresh m)
+
+    values : (u : ℕ) (y z : Thread) → slice_get (next c s).threads u ≡ Some y → slice_get s.threads u ≡ Some z → Begins z y → ThreadHolds c (HasClass objects) y
+    values u y z e g k =
+        let typed = facts.typed.threads u z g in
+        record {
+          phase = by_side k.phase;
+          attempt = subst (λ attempt. AttemptHolds c (HasClass objects) y.frames attempt) (sym k.attempt) (subst (λ fs. AttemptHolds c (HasClass objects) fs z.attempt) (sym k.frames) typed.attempt);
+        }
+      where
+        by_side : (y.phase ≡ z.phase) ⊎ StartsOrEnded y.phase → PhaseHolds c (HasClass objects) y.phase y.frames
+        by_side (inl same) = let typed = facts.typed.threads u z g in subst (λ phase. PhaseHolds c (HasClass objects) phase y.frames) (sym same) (subst (PhaseHolds c (HasClass objects) z.phase) (sym k.frames) typed.phase)
+        by_side (inr fresh) = no_frame c (was u) y (structure u y e) fresh (HasClass objects)
+
+    element : (u : ℕ) (y z : Thread) (word : ℕ) (stored : Option ℕ) → slice_get s.threads u ≡ Some z → Begins z y → y.phase ≡ phases.Element word stored → HasElementIn objects stored y.frames
+    element u y z word stored g k m = by_side k.phase
+      where
+        by_side : (y.phase ≡ z.phase) ⊎ StartsOrEnded y.phase → HasElementIn objects stored y.frames
+        by_side (inl same) = subst (HasElementIn objects stored) (sym k.frames) (facts.typed.elements u z word stored g (sym same ∙ m))
+        by_side (inr fresh) = absurd (no_element y.phase word stored fresh m)
+
+    monitors : (u : ℕ) (y z : Thread) → slice_get s.threads u ≡ Some z → Begins z y → HoldsObjects (HasClass objects) y
+    monitors u y z g k =
+        let m = facts.monitors u z g in
+        record { held = subst (AllHeld (HasClass objects)) (sym k.held) m.held; waits = by_side k.phase }
+      where
+        by_side : (y.phase ≡ z.phase) ⊎ StartsOrEnded y.phase → IsWaitOn (HasClass objects) y.phase
+        by_side (inl same) = let m = facts.monitors u z g in subst (IsWaitOn (HasClass objects)) (sym same) m.waits
+        by_side (inr fresh) = no_wait (HasClass objects) y.phase fresh
+
+    new_object_kept : (u : ℕ) (y : Thread) (a word : ℕ) → slice_get (next c s).threads u ≡ Some y → y.phase ≡ phases.Made a word → IsNewObject c.program objects (next c s) a (size_by c.program word)
+    new_object_kept u y a word e m =
+        let b = before u y e in
+        let k = facts.new_objects.each u b.0 a word b.1 (made_before b.0 y a word b.2 m) in
+        record { begins = k.begins; below = k.below; inside = k.inside; beside = k.beside; empty = k.empty }

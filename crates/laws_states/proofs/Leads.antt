@@ -31,12 +31,7 @@ by_null b i a j stored other false e = cc
 
 on_stack : (p : Program) (next : ℕ) (target : Target) (op : Op) (l s : List ℕ) (a i : ℕ) (stored : Option ℕ) → is_element_op stored op ≡ true → effect p next target op l s ≡ Indexes a i stored → OnStack a stored s
 on_stack p next target ops.Iaload l (j ∷ b ∷ s) a i None t e = by_null b j a i None None (b == 0) e
-on_stack p next target ops.Iaload l (j ∷ []) a i None t e = absurd (cc)
-on_stack p next target ops.Iaload l [] a i None t e = absurd (cc)
 on_stack p next target ops.Iastore l (w ∷ j ∷ b ∷ s) a i (Some v) t e = by_null b j a i (Some w) (Some v) (b == 0) e
-on_stack p next target ops.Iastore l (w ∷ j ∷ []) a i (Some v) t e = absurd (cc)
-on_stack p next target ops.Iastore l (w ∷ []) a i (Some v) t e = absurd (cc)
-on_stack p next target ops.Iastore l [] a i (Some v) t e = absurd (cc)
 on_stack p next target op l s a i None t e = absurd (cc)
 on_stack p next target op l s a i (Some v) t e = absurd (cc)
 

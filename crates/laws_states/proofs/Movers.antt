@@ -1,5 +1,5 @@
--- What the law of an event begins with: a state, the thread of it that moves, and what is known of both.
-use Rattle.std.proofs.{Common.{◌≡◌, ℕ, ◌≤◌, Bool, true, false, cond, List, Some, None, refl, sym, ap, ◌∙◌, subst, arith, ◌==◌, slice_get}, lemmas.Bool.Decides.Decides-eqb}
+-- What the law of an event begins with: a state, the thread that moves, what is known of both.
+use Rattle.std.proofs.{Common.{◌≡◌, ℕ, ◌≤◌, Bool, cond, List, Some, None, sym, ap, ◌∙◌, subst, arith, slice_get}, lemmas.Bool.ne_eqb}
 use Rattle.checked_program.specs.MarkedProgram.{MarkedProgram, IsMarked}
 use Rattle.machine_types.specs.{Bounds.PhaseFits, Core.Core, Events.wanted, FoundWords.content_at, Lawful.IsLawful, Owners.{Locks, Owns, Owners, locks_in, references_of}, PlainMemory.Object}
 use Rattle.machine_types.specs.{Structure.{PhaseShows, IsStructured, Structure}, Threads.Thread, Waiting.Waiting, declared.{config.Config.Config, phase.Phase.Phase}}
@@ -31,10 +31,16 @@ pub record HeapMover : Type 0 where
   pub there : slice_get state.s.threads t ≡ Some x
   pub lawful : IsLawful state.c x
 
+abbrev pub heap_state : (c : MarkedProgram) (marked : IsMarked c) (objects : List Object) (s : Core)
+    → HeapFacts c objects s → HeapState
+heap_state c marked objects s facts =
+    record { c = c; marked = marked; objects = objects; s = s; facts = facts }
+
 abbrev pub heap_mover : (c : MarkedProgram) (marked : IsMarked c) (objects : List Object) (s : Core)
-    → HeapFacts c objects s → (t : ℕ) (x : Thread) → slice_get s.threads t ≡ Some x → IsLawful c x → HeapMover
+    → HeapFacts c objects s → (t : ℕ) (x : Thread) → slice_get s.threads t ≡ Some x → IsLawful c x
+    → HeapMover
 heap_mover c marked objects s facts t x there lawful =
-    let state : HeapState = record { c = c; marked = marked; objects = objects; s = s; facts = facts } in
+    let state = heap_state c marked objects s facts in
     record { state = state; t = t; x = x; there = there; lawful = lawful }
 
 pub few_threads : (mover : HeapMover) → mover.x.number ≤ 8
@@ -50,11 +56,13 @@ pub record LawfulState : Type 0 where
 abbrev pub lawful_state : (c : MarkedProgram) (cfg : Config) (objects : List Object) (s : Core)
     → IsMarked c → HeapFacts c objects s → AreThreads c cfg s → LawfulState
 lawful_state c cfg objects s marked facts threads =
-    let heap : HeapState = record { c = c; marked = marked; objects = objects; s = s; facts = facts } in
-    record { heap = heap; cfg = cfg; threads = threads }
+    record { heap = heap_state c marked objects s facts; cfg = cfg; threads = threads }
 
-abbrev pub lawful_mover : (state : LawfulState) (t : ℕ) (x : Thread) → slice_get state.heap.s.threads t ≡ Some x → HeapMover
-lawful_mover state t x there = record { state = state.heap; t = t; x = x; there = there; lawful = state.threads.lawful t x there }
+abbrev pub lawful_mover : (state : LawfulState) (t : ℕ) (x : Thread)
+    → slice_get state.heap.s.threads t ≡ Some x → HeapMover
+lawful_mover state t x there =
+    let lawful = state.threads.lawful t x there in
+    record { state = state.heap; t = t; x = x; there = there; lawful = lawful }
 
 -- ---- and who holds which lock, by the phase of each thread that counts
 
@@ -78,7 +86,8 @@ pub record LockMover : Type 0 where
   pub own : Owns (locks_of state.base.heap) state.owners.count t (state.was t) x
   pub most : (m : ℕ) → state.owners.count m ≤ x.cfg.range
 
-abbrev pub mover_of : (state : LockState) (t : ℕ) (x : Thread) → slice_get state.base.heap.s.threads t ≡ Some x → LockMover
+abbrev pub mover_of : (state : LockState) (t : ℕ) (x : Thread)
+    → slice_get state.base.heap.s.threads t ≡ Some x → LockMover
 mover_of state t x there = record {
   state = state;
   t = t;
@@ -92,29 +101,37 @@ mover_of state t x there = record {
 }
 
 abbrev pub on_heap : LockMover → HeapMover
-on_heap m = record { state = m.state.base.heap; t = m.t; x = m.x; there = m.there; lawful = m.lawful }
+on_heap m =
+    record { state = m.state.base.heap; t = m.t; x = m.x; there = m.there; lawful = m.lawful }
 
 module _ (mover : LockMover) where
-  open mover use {t, x, there, lawful, structured, state.{was, base.heap.{c, objects, s}}}
+  open mover use {t, x, there, lawful, structured, state.was}
+  open mover.state.base.heap use {c, marked, objects, s, facts}
 
   pub fits_bounds : (phase : Phase) → x.phase ≡ phase → PhaseFits phase
   fits_bounds phase e = subst PhaseFits e lawful.bounded.phase
 
-  pub phase_shows : (phase : Phase) → was t ≡ phase → PhaseShows c phase x.frames structured.stands.shown x.held x.attempt
-  phase_shows phase e = subst (λ (p : Phase). PhaseShows c p x.frames structured.stands.shown x.held x.attempt) e structured.stands.phase_shows
+  abbrev Shows : Phase → Type 0
+  Shows phase = PhaseShows c phase x.frames structured.stands.shown x.held x.attempt
 
-  pub phase_reaches : KnownSites → (phase : Phase) → x.phase ≡ phase → ReachesIf c.program objects s (content_at c x phase) (wanted c x phase)
-  phase_reaches sites phase e = subst (λ (p : Phase). ReachesIf c.program objects s (content_at c x p) (wanted c x p)) e
-      (sites.reach c objects s t x mover.state.base.heap.marked mover.state.base.heap.facts there lawful)
+  pub phase_shows : (phase : Phase) → was t ≡ phase → Shows phase
+  phase_shows phase e = subst Shows e structured.stands.phase_shows
+
+  abbrev Reached : Phase → Type 0
+  Reached phase = ReachesIf c.program objects s (content_at c x phase) (wanted c x phase)
+
+  pub phase_reaches : KnownSites → (phase : Phase) → x.phase ≡ phase → Reached phase
+  phase_reaches sites phase e =
+      subst Reached e (sites.reach c objects s t x marked facts there lawful)
 
 -- where there is no thread t, the phases that count stay
 pub phase_stays : (was : ℕ → Phase) (threads : List Thread) (t u : ℕ) (y : Thread)
-    → slice_get threads t ≡ None → slice_get threads u ≡ Some y → counted_phase_at was t threads u ≡ was u
-phase_stays was threads t u y none there = by_number (u == t) refl
-  where
-    by_number : (b : Bool) → (u == t) ≡ b → cond b (counted_of (was t) (slice_get threads t)) (was u) ≡ was u
-    by_number true g = let bad : Some y ≡ None = sym there ∙ ap (slice_get threads) ((Decides-eqb u t).0 g) ∙ none in absurd (cc)
-    by_number false g = refl
+    → slice_get threads t ≡ None → slice_get threads u ≡ Some y
+    → counted_phase_at was t threads u ≡ was u
+phase_stays was threads t u y none there =
+    let bad : u ≡ t → Some y ≡ None = λ e. sym there ∙ ap (slice_get threads) e ∙ none in
+    ap (λ (b : Bool). cond b (counted_of (was t) (slice_get threads t)) (was u))
+    (ne_eqb u t (λ e. let same = bad e in cc))
 
 -- ---- and who waits
 

@@ -124,18 +124,18 @@ fewer_below p (f ∷ below) at e = λ same.
     let as_long : suc (length below) ≡ length at.below = ap length same in
     omega (arith, shorter, as_long)
 
-module _ (c : MarkedProgram) (x : Thread) (r : ℕ) (class : Thrown) (e : x.phase ≡ phases.Throw r class) where
-  unwinds : (below : List Frame) → x.frames ≢ below → goes_on x (unwound r class below) ≢ x
-  unwinds [] fewer = by_phase x _ (phases.Throw r class) (phases.Ending (ends.Uncaught class)) e refl (λ q. cc)
-  unwinds (f ∷ below) fewer = λ same. fewer (sym (ap (λ (s : Thread). s.frames) same))
+module _ (c : MarkedProgram) (x : Thread) (r : ℕ) (class : Thrown) where
+  unwinds : x.phase ≡ phases.Throw r class → (below : List Frame) → x.frames ≢ below → goes_on x (unwound r class below) ≢ x
+  unwinds e [] fewer = by_phase x _ (phases.Throw r class) (phases.Ending (ends.Uncaught class)) e refl (λ q. cc)
+  unwinds e (f ∷ below) fewer = λ same. fewer (sym (ap (λ (s : Thread). s.frames) same))
 
-  hands : (at : Top) (o : Option Row) → x.frames ≢ at.below → goes_on x (handed c.program r class at o) ≢ x
-  hands at (Some row) fewer = by_kind runs_or_ends x _ (phases.Throw r class) e refl (ran_on (record x { frames = caught row r at }))
-  hands at None fewer = by_method (is_synchronized at.method.flags)
+  hands : x.phase ≡ phases.Throw r class → (at : Top) (o : Option Row) → x.frames ≢ at.below → goes_on x (handed c.program r class at o) ≢ x
+  hands e at (Some row) fewer = by_kind runs_or_ends x _ (phases.Throw r class) e refl (ran_on (record x { frames = caught row r at }))
+  hands e at None fewer = by_method (is_synchronized at.method.flags)
     where
       by_method : (b : Bool) → goes_on x (if b then Leaving (monitor_of c.program at.method at.frame) (afters.Unwind r class) (frames_of at) else unwound r class at.below) ≢ x
       by_method true = by_phase x _ (phases.Throw r class) (phases.Leave (monitor_of c.program at.method at.frame) (afters.Unwind r class)) e refl (λ q. cc)
-      by_method false = unwinds at.below fewer
+      by_method false = unwinds e at.below fewer
 
 -- ---- all moves but those of an instruction and of a root
 

@@ -43,9 +43,9 @@ fresh_draws_none phases.Start r fresh e = cc
 fresh_draws_none (phases.Ended ends.Returned) r fresh e = cc
 fresh_draws_none phase r fresh e = absurd fresh
 
-module _ (v : Locks) (count : ℕ → ℕ) (u : ℕ) (was : Phase) (z y : Thread) (owns : Owns v count u was z) (begins : Begins z y) where
-  stays : (now : Phase) → Knows v u now → PhaseSaw v count now → Owns v count u now y
-  stays now knows saw = record {
+module _ (v : Locks) (count : ℕ → ℕ) (u : ℕ) (z y : Thread) (begins : Begins z y) where
+  stays : (was : Phase) → Owns v count u was z → (now : Phase) → Knows v u now → PhaseSaw v count now → Owns v count u now y
+  stays was owns now knows saw = record {
     holds = λ m. owns.holds m ∙ ap (λ (hs : List Held). hold_by_list (held_at hs m)) (sym begins.held);
     knows = knows;
     keeps_count = λ m. subst (λ (hs : List Held). IsKeptIn (held_at hs m) (count m)) (sym begins.held) (owns.keeps_count m);
@@ -53,13 +53,13 @@ module _ (v : Locks) (count : ℕ → ℕ) (u : ℕ) (was : Phase) (z y : Thread
     attempt = subst (λ (cfg : Config). AttemptSawIn v count cfg y.attempt) (sym begins.cfg) (subst (λ (a : Option Attempt). AttemptSawIn v count z.cfg a) (sym begins.attempt) owns.attempt);
   }
 
-  counted_stays : IsAs z.phase was → Owns v count u (counted_by was y.phase) y
-  counted_stays is_as = by_side begins.phase
+  counted_stays : (was : Phase) → Owns v count u was z → IsAs z.phase was → Owns v count u (counted_by was y.phase) y
+  counted_stays was owns is_as = by_side begins.phase
     where
       by_side : (y.phase ≡ z.phase) ⊎ StartsOrEnded y.phase → Owns v count u (counted_by was y.phase) y
       by_side (inl e) = subst (λ (phase : Phase). Owns v count u (counted_by was phase) y) (sym e)
-          (stays (counted_by was z.phase) (counted_keeps (Knows v u) tt (λ m. tt) was z.phase is_as owns.knows) (counted_keeps (PhaseSaw v count) tt (λ m. tt) was z.phase is_as owns.take))
-      by_side (inr fresh) = let plain = fresh_plain was y.phase fresh in stays (counted_by was y.phase) (plain_knows v u (counted_by was y.phase) plain) (plain_saw v count (counted_by was y.phase) plain)
+          (stays was owns (counted_by was z.phase) (counted_keeps (Knows v u) tt (λ m. tt) was z.phase is_as owns.knows) (counted_keeps (PhaseSaw v count) tt (λ m. tt) was z.phase is_as owns.take))
+      by_side (inr fresh) = let plain = fresh_plain was y.phase fresh in stays was owns (counted_by was y.phase) (plain_knows v u (counted_by was y.phase) plain) (plain_saw v count (counted_by was y.phase) plain)
 
 drew_before : (z y : Thread) (r : ℕ) → Begins z y → drawn_by y.phase ≡ Some r → drawn_by z.phase ≡ Some r
 drew_before z y r begins e = by_side begins.phase
@@ -97,5 +97,5 @@ next_keeps_owners c references was s structure owners = record {
             owns = owners.each u k.0 k.1
 
             by_test : (b : Bool) → Owns (locks_in references s.words) owners.count u (cond b (counted_of (was u) (slice_get (next c s).threads u)) (was u)) y
-            by_test true = subst (λ (o : Option Thread). Owns (locks_in references s.words) owners.count u (counted_of (was u) o) y) (sym e) (counted_stays (locks_in references s.words) owners.count u (was u) k.0 y owns k.2 (structure u k.0 k.1).is_as)
-            by_test false = stays (locks_in references s.words) owners.count u (was u) k.0 y owns k.2 (was u) owns.knows owns.take
+            by_test true = subst (λ (o : Option Thread). Owns (locks_in references s.words) owners.count u (counted_of (was u) o) y) (sym e) (counted_stays (locks_in references s.words) owners.count u k.0 y k.2 (was u) owns (structure u k.0 k.1).is_as)
+            by_test false = stays (locks_in references s.words) owners.count u k.0 y k.2 (was u) owns (was u) owns.knows owns.take
