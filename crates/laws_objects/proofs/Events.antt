@@ -9,7 +9,7 @@ use Rattle.machine_types.specs.{StartLaws.StartLiesApart, Structure.{IsStructure
 use Rattle.machine_types.specs.{Worlds.{Lost, Builder, World, GoesOn}, declared.{config.Config.Config, phase.Phase.Phase}}
 use Rattle.laws_threads.{specs.{StateLaws.{counted_of, counted_phase_at}, StructureLaws.{StaysStructured, StructureIsKept, counted_by}}, proofs.{Landing.stand_top, Standings.top_here}}
 use Rattle.laws_states.{specs.{HeapFacts.{objects_by, objects_of}, Sites.ReachesIf, StateFacts.StateFacts}, proofs.{Accesses.element_site, Assembled.got_set, NewHeader.behind_new}}
-use Rattle.laws_states.proofs.{Phases.{IsOldPhase, old_fits, events_reach}, WordSteps.words_go_on}
+use Rattle.laws_states.proofs.{Movers.{HeapMover, heap_mover}, Phases.{IsOldPhase, old_fits, events_reach}, WordSteps.words_go_on}
 use Rattle.laws_objects.{specs.ConstructionLaws.{BuildsOn, EventsKeepConstruction}, proofs.{InstructionMoves.{none_outside, KnownTop}, LostObjects.{SeenByAll, LostIn}, MonitorMoves.fits}}
 use Rattle.laws_objects.proofs.{Onwards.built_here, PhaseMoves.{moves_keep, allowed, run_known}, Places.{leave_plain, same_words, plain, element, effect_places, made_places}}
 use Rattle.laws_objects.proofs.{ThreadMoves.{Moved, now_world}, Views.{other_keeps, other_lost}, WorldChanges.{none_some, goes_same}}
@@ -64,6 +64,9 @@ module _ (lies : StartLiesApart) (structure : StructureIsKept) (c : MarkedProgra
     lawful : IsLawful c x
     lawful = facts.threads.lawful t x there
 
+    abbrev mover : HeapMover
+    mover = heap_mover c marked objects s facts.heap t x there lawful
+
     stood : IsStructured c (was t) x
     stood = facts.structure t x there
 
@@ -74,8 +77,8 @@ module _ (lies : StartLiesApart) (structure : StructureIsKept) (c : MarkedProgra
     grows = by_word x.phase refl
       where
         by_word : (phase : Phase) → x.phase ≡ phase → next ≤ more
-        by_word (phases.Made a word) e = subst (λ (p : Phase). next ≤ slice_index (words_after s.words (wanted c x p)) NEXT_FREE_WORD) (sym e) (behind_new lies c marked objects s facts.heap t x there a word e).free
-        by_word phase e = (words_go_on lies c marked objects s facts.heap (content_at c x x.phase) (wanted c x x.phase) (old_fits c marked objects s facts.heap t x there lawful (subst IsOldPhase (sym e) tt))).free
+        by_word (phases.Made a word) e = subst (λ (p : Phase). next ≤ slice_index (words_after s.words (wanted c x p)) NEXT_FREE_WORD) (sym e) (behind_new lies (record { mover = mover; a = a; word = word; made = e })).free
+        by_word phase e = (words_go_on lies mover.state (content_at c x x.phase) (wanted c x x.phase) (old_fits mover (subst IsOldPhase (sym e) tt))).free
 
     holds : (phase : Phase) → x.phase ≡ phase → PhaseHolds c (HasClass objects) phase x.frames
     holds phase e = subst (λ (p : Phase). PhaseHolds c (HasClass objects) p x.frames) e (facts.heap.typed.threads t x there).phase
@@ -125,7 +128,7 @@ module _ (lies : StartLiesApart) (structure : StructureIsKept) (c : MarkedProgra
           by_word (phases.Element word put) here e =
               let h = holds (phases.Element word put) here in
               let k = subst (λ (p : Phase). Stands c p x.frames x.held x.attempt) e stood.stands in
-              element lies c marked objects s facts.heap w moves.later more t moves.goes con.places word put (element_site c marked objects s facts.heap word put x.frames h.0 h.1 (facts.heap.typed.elements t x word put there here) k.phase_shows)
+              element lies c marked objects s facts.heap w moves.later more t moves.goes con.places word put (element_site mover.state word put x.frames h.0 h.1 (facts.heap.typed.elements t x word put there here) k.phase_shows)
           by_word (phases.Made a word) here e = made_places lies c marked objects s facts.heap w moves.later more t moves.goes con.places x a word (moves.world con.world) there here
           by_word (phases.Leave m a) here e = plain lies c marked objects s facts.heap w moves.later more t moves.goes con.places (content_at c x (phases.Leave m a)) (leave_plain (claim x m)) (wanted c x (phases.Leave m a)) (reaches (phases.Leave m a) here)
           by_word phase here e = plain lies c marked objects s facts.heap w moves.later more t moves.goes con.places (content_at c x phase) tt (wanted c x phase) (reaches phase here)

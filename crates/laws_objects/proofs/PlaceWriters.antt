@@ -12,7 +12,7 @@ use Rattle.machine_types.specs.{Words.variable_word, declared.{access.Access.{Ac
 use Rattle.machine_types.specs.declared.phase.Phase.{Phase}
 use Rattle.laws_threads.{specs.Allowed.{IsOf, IsNamedField, Allowed}, proofs.{Landing.stand_top, Standings.top_here, TopEffects.allowed_here}}
 use Rattle.laws_states.{specs.{HeapFacts.HeapFacts, SiteLaws.{EventsReachSites, SitesDiffer, SitesLieInside}, Sites.{Site, ValueOf, StaticAt, site_word, IsThere, Suits}}, proofs.Accesses.out_there}
-use Rattle.laws_states.proofs.{EventWords.{IsLeft, word_at}, LeftStands.loaded, Lists.contained_got}
+use Rattle.laws_states.proofs.{EventWords.{IsLeft, word_at}, LeftStands.loaded, Lists.contained_got, Movers.{known_sites, heap_mover}}
 use Rattle.jvm_types.specs.declared.program.Target.TheVariants as targets
 use Rattle.machine_types.specs.declared.lock.Kept.TheVariants as keeps
 use Rattle.machine_types.specs.declared.phase.Phase.TheVariants as phases
@@ -142,7 +142,7 @@ module _ (differ : SitesDiffer) (c : MarkedProgram) (objects : List Object) (s :
         let stands : Stands c (phases.Element w (Some v)) x.frames x.held x.attempt = subst (λ (phase : Phase). Stands c phase x.frames x.held x.attempt) k.is_as structured.stands in
         stands.phase_shows
 
-    by_left : IsLeft c objects s t x marked heap there lawful place → Stays ⊎ IsWriter IsSuch x
+    by_left : IsLeft c s.words x place → Stays ⊎ IsWriter IsSuch x
     by_left k = by_write (phase_writes k.access (slice_index s.words (site_word place)) k.word x.phase refl k.wants (place_suits (content_at c x x.phase) place is_place k.suits) (heap.typed.threads t x there).phase at_element)
       where
         by_write : (left_by k.access (slice_index s.words (site_word place)) ≡ slice_index s.words (site_word place)) ⊎ IsWriter IsSuch x → Stays ⊎ IsWriter IsSuch x
@@ -150,8 +150,8 @@ module _ (differ : SitesDiffer) (c : MarkedProgram) (objects : List Object) (s :
         by_write (inr writer) = inr writer
 
     pub place_writer : Stays ⊎ IsWriter IsSuch x
-    place_writer = by_word (word_at c objects s t x marked heap there lawful differ inside reach place is_there)
+    place_writer = by_word (word_at (heap_mover c marked objects s heap t x there lawful) (known_sites differ inside reach) place is_there)
       where
-        by_word : Stays ⊎ IsLeft c objects s t x marked heap there lawful place → Stays ⊎ IsWriter IsSuch x
+        by_word : Stays ⊎ IsLeft c s.words x place → Stays ⊎ IsWriter IsSuch x
         by_word (inl e) = inl e
         by_word (inr k) = by_left k

@@ -123,7 +123,7 @@ module _ (lies : StartLiesApart) (c : MarkedProgram) (marked : IsMarked c) (obje
 
   -- ---- an element
 
-  pub element : (word : ℕ) (put : Option ℕ) → ElementSite c marked objects s facts word put → PlacesKeep c later more objects (words_after s.words (Some (element_wants word put)))
+  pub element : (word : ℕ) (put : Option ℕ) → ElementSite objects word put → PlacesKeep c later more objects (words_after s.words (Some (element_wants word put)))
   element word None k = loaded word
   element word (Some v) k = stored word v (ValueOf k.array.reference k.index) (k.array, k.there, refl, k.below) k.word_is (λ o number f l g n class same index.
       absurd (let one : o ≡ k.array = same_object c.program objects (slice_index s.words NEXT_FREE_WORD) facts.apart o k.array l k.there same in

@@ -12,7 +12,7 @@ use Rattle.machine_types.specs.declared.{access.Access.{Access, TheVariants.Stor
 use Rattle.machine_types.specs.declared.phase.Phase.{Phase}
 use Rattle.laws_threads.{specs.Allowed.{IsNamedField, TakenHold, Allowed}, proofs.{Landing.stand_top, Onwards.same_op, Standings.top_here, TopEffects.{taken_here, allowed_here}}}
 use Rattle.laws_states.{specs.{HeapFacts.HeapFacts, SiteLaws.{EventsReachSites, SitesDiffer, SitesLieInside}, Sites.{Site, ValueOf, StaticAt, site_word, Suits}}, proofs.Accesses.out_there}
-use Rattle.laws_states.proofs.{EventWords.{IsLeft, word_at}, LeftStands.loaded, Lists.contained_got, Places.same_object}
+use Rattle.laws_states.proofs.{EventWords.{IsLeft, word_at}, LeftStands.loaded, Lists.contained_got, Movers.{known_sites, heap_mover}, Places.same_object}
 use Rattle.laws_objects.proofs.FieldWriters.{leave_suits_none}
 use Rattle.laws_refinement.proofs.FieldRules.{written_by}
 use Rattle.jvm_types.specs.declared.code.Op.TheVariants as ops
@@ -139,7 +139,7 @@ module _ (differ : SitesDiffer) (c : MarkedProgram) (objects : List Object) (s :
   -- the word is as it was, or a method of the field's class runs
   pub field_writer : SitesLieInside → EventsReachSites → (is_private field.flags ≡ true) ⊎ (is_final field.flags ≡ true) → (lawful : IsLawful c x) → (was : Phase) → IsStructured c was x
       → (slice_index (words_after s.words (wanted c x x.phase)) (value_word o.reference field.index) ≡ slice_index s.words (value_word o.reference field.index)) ⊎ TopIsOf c.program field.class x.frames
-  field_writer inside reach restricted lawful was st = by_cases (word_at c objects s t x marked heap there lawful differ inside reach site (o, here, refl, has_field o fi field here is instance of_class))
+  field_writer inside reach restricted lawful was st = by_cases (word_at (heap_mover c marked objects s heap t x there lawful) (known_sites differ inside reach) site (o, here, refl, has_field o fi field here is instance of_class))
     where
       site : Site
       site = ValueOf o.reference field.index
@@ -150,7 +150,7 @@ module _ (differ : SitesDiffer) (c : MarkedProgram) (objects : List Object) (s :
           let stands : Stands c (phases.Element w (Some v)) x.frames x.held x.attempt = subst (λ (phase : Phase). Stands c phase x.frames x.held x.attempt) k.is_as st.stands in
           stands.phase_shows
 
-      by_cases : (slice_index (words_after s.words (wanted c x x.phase)) (site_word site) ≡ slice_index s.words (site_word site)) ⊎ IsLeft c objects s t x marked heap there lawful site
+      by_cases : (slice_index (words_after s.words (wanted c x x.phase)) (site_word site) ≡ slice_index s.words (site_word site)) ⊎ IsLeft c s.words x site
           → (slice_index (words_after s.words (wanted c x x.phase)) (site_word site) ≡ slice_index s.words (site_word site)) ⊎ TopIsOf c.program field.class x.frames
       by_cases (inl e) = inl e
       by_cases (inr k) = by_left (phase_writes restricted k.access (slice_index s.words (site_word site)) k.word x.phase refl k.wants k.suits (heap.typed.threads t x there).phase top)

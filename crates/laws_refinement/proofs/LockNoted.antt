@@ -8,7 +8,7 @@ use Rattle.machine_types.specs.{Owners.{Locks, NotHeld, HeldFlat, hold_by_word, 
 use Rattle.machine_types.specs.{Structure.{IsFlat, IsStructured, Stands}, Threads.{Attempt, Thread}, Typed.{HasClass, AttemptHolds, IsObject}, declared.{config.Config.Config, lock.Held.Held}}
 use Rattle.machine_types.specs.declared.{lock.{Kept.Kept, LockWord.LockWord}, phase.Phase.Phase}
 use Rattle.laws_states.{specs.{SiteLaws.{EventsReachSites, SitesDiffer, SitesLieInside}, Sites.{LockOf, HasObject}, StateFacts.StateFacts}, proofs.EventWords.{IsLeft, word_at}}
-use Rattle.laws_states.proofs.{LockViews.{not_held, thin_if_flat}, LockWritten.thin_seen, WordViews.lock_of_word}
+use Rattle.laws_states.proofs.{LockViews.{not_held, thin_if_flat}, LockWritten.thin_seen, Movers.{known_sites, heap_mover}, WordViews.lock_of_word}
 use Rattle.laws_refinement.proofs.FreeLocks.{phase_leaves}
 use Rattle.machine_types.specs.declared.lock.Kept.TheVariants as keeps
 use Rattle.machine_types.specs.declared.lock.LockWord.TheVariants as locks
@@ -65,9 +65,9 @@ module _ (c : MarkedProgram) (cfg : Config) (objects : List Object) (was : ℕ �
         stands.phase_shows.flat
 
     pub noted_before : SitesDiffer → SitesLieInside → EventsReachSites → IsMarked c → IsAsNoted (words_after s.words (wanted c x x.phase)) a → IsAsNoted s.words a
-    noted_before differ inside reach marked now = by_cases (word_at c objects s t x marked facts.heap there (facts.threads.lawful t x there) differ inside reach (LockOf a.monitor) has_monitor)
+    noted_before differ inside reach marked now = by_cases (word_at (heap_mover c marked objects s facts.heap t x there (facts.threads.lawful t x there)) (known_sites differ inside reach) (LockOf a.monitor) has_monitor)
       where
-        by_cases : (slice_index (words_after s.words (wanted c x x.phase)) a.monitor ≡ slice_index s.words a.monitor) ⊎ IsLeft c objects s t x marked facts.heap there (facts.threads.lawful t x there) (LockOf a.monitor)
+        by_cases : (slice_index (words_after s.words (wanted c x x.phase)) a.monitor ≡ slice_index s.words a.monitor) ⊎ IsLeft c s.words x (LockOf a.monitor)
             → IsAsNoted s.words a
         by_cases (inl e) = sym e ∙ now
         by_cases (inr k) = phase_leaves c x a.monitor a.noted (slice_index s.words a.monitor) last kept k.access k.word x.phase flat_out k.wants k.suits (sym k.left ∙ now)
