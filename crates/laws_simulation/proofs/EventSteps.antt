@@ -19,7 +19,7 @@ use Rattle.machine_types.specs.declared.plain.Act.TheVariants as acts
 module _ (turn : Turn) where
   open turn use {c, objects, s, t, x, q}
 
-  -- ---- what an event does: the plain steps, and the state that stands beside the one that they lead to
+  -- ---- what an event does: the plain steps, and the state that stands beside theirs
 
   pub record Does (access : Option Access) (made : ℕ → Thread) (acts : ℕ → List Act) : Type 0 where
     pub after : Plain
@@ -51,9 +51,6 @@ not_checked p x at e got none = by_check (is_checked at.frame.pc e)
 
 abbrev pub LeavesWords : List ℕ → Option Access → Type 0
 LeavesWords words access = words_after words access ≡ words
-
-pub none_leaves : (words : List ℕ) (access : Option Access) → access ≡ None → LeavesWords words access
-none_leaves words access e = ap (words_after words) e
 
 pub load_leaves : (words : List ℕ) (w : ℕ) → LeavesWords words (Some (Load w))
 load_leaves words w = set_self words w

@@ -16,8 +16,8 @@ use Rattle.laws_states.{specs.{FoundLaws.{IsOfHeap, HeapWordsFit}, SiteLaws.{Sit
 use Rattle.laws_simulation.{specs.{StandsBeside.StandsBeside, StepsBeside.{IsAtEffect, IsOfFrames, FrameSteps}}, proofs.Assembled.one_step}
 use Rattle.laws_simulation.proofs.EventSteps.{Does, GoesFrom, LeavesWords, in_effect, not_checked, load_leaves, same_words, becomes, goes_beside, does_one, instruction_step}
 use Rattle.laws_simulation.proofs.{GoingOnAlike.{awake_fits, none_ends}, HeldToLeave.{IsHeld, leaves_held, exits_held, held_not_null}, HoldingsAlike.is_holder_then}
-use Rattle.laws_simulation.proofs.{OwnThread.{IsBusy, Moving, Own, own, under_way}, PrintWords.print_fits, RunScene.{frames_are, status_fits, values}, Scene.{Scene, awake, counts_as}}
-use Rattle.laws_simulation.proofs.{TopPlaces.{MayDo, may_do, variable_value, header_value}, Turns.by_turn}
+use Rattle.laws_simulation.proofs.{OwnThread.{IsBusy, Moving, Own, own, under_way}, PrintWords.print_fits, RunScene.{frames_are, status_fits, values}, Scene.{Scene, awake, by_scene, counts_as}}
+use Rattle.laws_simulation.proofs.TopPlaces.{MayDo, may_do, variable_value, header_value}
 use Rattle.jvm_types.specs.declared.outcome.End.TheVariants as ends
 use Rattle.machine_types.specs.PlainInstructions as plain_instructions
 use Rattle.machine_types.specs.PlainState as plain
@@ -211,5 +211,5 @@ module _ (scene : Scene) (fit : HeapWordsFit) (allowed : EffectsAreAllowed)
 -- ---- the law
 
 pub frame_steps : SitesDiffer → SitesLieInside → HeapWordsFit → EffectsAreAllowed → FrameSteps
-frame_steps differ inside fit allowed = by_turn (IsAtEffect IsOfFrames) (λ turn b.
-    in_effect turn IsOfFrames b (does (record { turn = turn; differ = differ; inside = inside }) fit allowed b))
+frame_steps differ inside fit allowed = by_scene (IsAtEffect IsOfFrames) differ inside
+    (λ scene b. in_effect scene.turn IsOfFrames b (does scene fit allowed b))

@@ -27,7 +27,8 @@ module _ (scene : Scene) (a word : ℕ) (made : scene.x.phase ≡ phases.Made a 
 
   goes : GoesOn turn now shown
   goes = going turn x y (Running (pushed a x.frames)) refl scene.outside refl
-      (awake turn (phases.Made a word) (counts_as turn (phases.Made a word) made) (λ r h. h)) (runs_on turn (subst IsBusy (sym made) tt))
+      (awake turn (phases.Made a word) (counts_as turn (phases.Made a word) made) (λ r h. h))
+      (runs_on turn (subst IsBusy (sym made) tt))
 
   -- its plain thread has the object on its stack
   same_shown : shown ≡ y

@@ -56,9 +56,6 @@ holding_without m n (h ∷ hs) = by_test (h.monitor == n) refl (h.monitor == m) 
     by_test false t true u false v more = ap (λ (b : Bool). cond b (Some h) (holding_at (without_holding n hs) m)) u
     by_test false t false u x v more = ap (λ (b : Bool). cond b (Some h) (holding_at (without_holding n hs) m)) u ∙ more ∙ ap (λ (b : Bool). cond b None (holding_at hs m)) v
 
-pub put_here : (h : Holding) (hs : List Holding) → holding_at (with_holding h hs) h.monitor ≡ Some h
-put_here h hs = holding_put h.monitor h hs ∙ ap (λ (b : Bool). cond b (Some h) (holding_at hs h.monitor)) (is_same h.monitor)
-
 pub put_else : (m : ℕ) (h : Holding) (hs : List Holding) → h.monitor ≢ m → holding_at (with_holding h hs) m ≡ holding_at hs m
 put_else m h hs d = holding_put m h hs ∙ ap (λ (b : Bool). cond b (Some h) (holding_at hs m)) (ne_eqb h.monitor m d)
 

@@ -6,8 +6,8 @@ use Rattle.machine_types.specs.{History.acts_of, LockWords.{lock_of, next_count}
 use Rattle.machine_types.specs.{Structure.{GrowShows, IsAs, Stands}, Threads.Frame, Typed.{HasClass, IsObject}, Waiting.MayWait, declared.phase.Phase.Phase}
 use Rattle.laws_states.{specs.{HeapFacts.objects_by, SiteLaws.{SitesDiffer, SitesLieInside}, Sites.HasObject}, proofs.Phases.IsOldPhase}
 use Rattle.laws_simulation.{specs.StepsBeside.{LocksPhase, LockSteps}, proofs.{Assembled.steps_beside, EntryPhases.{entered, acquires_it, took, flagged, took_fat, loaded}}}
-use Rattle.laws_simulation.proofs.{ExitPhases.{behind, left_it, drew_it, flat_out, owned, fattened}, Landing.Makes, OwnThread.{IsBusy, Moving, own, under_way}, RunScene.values, Scene.{Scene, awake}}
-use Rattle.laws_simulation.proofs.Turns.{Turn, by_turn}
+use Rattle.laws_simulation.proofs.{ExitPhases.{behind, left_it, drew_it, flat_out, owned, fattened}, Landing.Makes, OwnThread.{IsBusy, Moving, own, under_way}, RunScene.values}
+use Rattle.laws_simulation.proofs.{Scene.{Scene, awake, by_scene}, Turns.Turn}
 use Rattle.machine_types.specs.declared.phase.Phase.TheVariants as phases
 use Rattle.machine_types.specs.declared.phase.Toward.TheVariants as towards
 
@@ -112,6 +112,6 @@ module _ (lies : StartLiesApart) (scene : Scene) (k : Moving scene.turn) where
   by_phase phase e l = absurd l
 
 pub lock_steps : StartLiesApart → SitesDiffer → SitesLieInside → LockSteps
-lock_steps lies differ inside = by_turn (λ c x. LocksPhase x.phase) (λ turn locking.
-    let d = by_phase lies (record { turn = turn; differ = differ; inside = inside }) (moving turn locking) turn.x.phase refl locking in
-    steps_beside turn d.after (locks_objects turn.c turn.objects turn.x.phase locking) d.run d.beside_it)
+lock_steps lies differ inside = by_scene (λ c x. LocksPhase x.phase) differ inside (λ scene locking.
+    let d = by_phase lies scene (moving scene.turn locking) scene.x.phase refl locking in
+    steps_beside scene.turn d.after (locks_objects scene.c scene.objects scene.x.phase locking) d.run d.beside_it)

@@ -2,7 +2,7 @@
 -- thread goes on to its next instruction.
 use Rattle.std.proofs.Common.{◌≡◌, ◌≢◌, ◌⊎◌, inl, inr, ℕ, zero, suc, ◌+◌, ◌<◌, nat_lt, Bool, true, false, cond, List, [], ◌∷◌, Option, Some, None, refl, sym, ap, ◌∙◌, subst, arith, slice_get, slice_set}
 use Rattle.std.proofs.lemmas.List.{length-set}
-use Rattle.jvm_types.specs.{Numbers.has_flag, declared.{fixed_words.TheConstants.{MONITOR_RECORDS, FIRST_READY_WORD}, outcome.End.End, program.Program.Program}}
+use Rattle.jvm_types.specs.{Numbers.has_flag, declared.{fixed_words.TheConstants.MONITOR_RECORDS, outcome.End.End, program.Program.Program}}
 use Rattle.machine_types.specs.{Agreement.{has_wait_bit, StatusFits, OutsideFits, frames_shown, roots_shown}, Going.runs, HeldMonitors.held_at, Monitors.bit_of}
 use Rattle.machine_types.specs.{Owners.{Knows, lock_at, owner_at, locks_in, references_of, hold_by_kept, hold_by_list, hold_by_word, HeldFat}, Parts.done_roots, PlainMemory.Object}
 use Rattle.machine_types.specs.{PlainState.{Status, Plain, PlainThread, Holding}, Structure.{IsFat, Stands}, Threads.{Frame, Thread}, Waiting.{MayWait, Waits, is_bit_set}}
@@ -57,9 +57,6 @@ runs_outside p bit z w off frames status roots =
     }
 
 -- ---- the words of records
-
-pub below_ready : (r : ℕ) → r < MONITOR_RECORDS → bits_word r < FIRST_READY_WORD
-below_ready r low = omega arith
 
 pub bits_written : (words : List ℕ) (r v : ℕ) → r < MONITOR_RECORDS → AreRecordsWritten words (slice_set words (bits_word r) v)
 bits_written words r v low = record_written words (bits_word r) v (omega arith) (omega (arith, low))

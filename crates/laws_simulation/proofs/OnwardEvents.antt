@@ -2,8 +2,8 @@
 use Rattle.std.proofs.Common.{◌≡◌, refl}
 use Rattle.machine_types.specs.declared.phase.Phase.{Phase}
 use Rattle.laws_states.specs.{PartsLaws.EventsKeepParts, SiteLaws.{SitesDiffer, SitesLieInside}}
-use Rattle.laws_simulation.{specs.StepsBeside.{GoesOnPhase, OnwardSteps}, proofs.{ElementEvents.element_steps, HeaderEvents.header_steps, Scene.Scene, StartEvents.start_steps}}
-use Rattle.laws_simulation.proofs.{ThrowEvents.throw_steps, Turns.{StepsOf, by_turn}}
+use Rattle.laws_simulation.{specs.StepsBeside.{GoesOnPhase, OnwardSteps}, proofs.{ElementEvents.element_steps, HeaderEvents.header_steps, Scene.{Scene, by_scene}, StartEvents.start_steps}}
+use Rattle.laws_simulation.proofs.{ThrowEvents.throw_steps, Turns.StepsOf}
 use Rattle.machine_types.specs.declared.phase.Phase.TheVariants as phases
 
 module _ (scene : Scene) (keeps : EventsKeepParts) where
@@ -15,5 +15,5 @@ module _ (scene : Scene) (keeps : EventsKeepParts) where
   onward_by phase e k = absurd k
 
 pub onward_events : SitesDiffer → SitesLieInside → EventsKeepParts → OnwardSteps
-onward_events differ inside keeps = by_turn (λ c x. GoesOnPhase x.phase)
-    (λ turn goes. onward_by (record { turn = turn; differ = differ; inside = inside }) keeps turn.x.phase refl goes)
+onward_events differ inside keeps = by_scene (λ c x. GoesOnPhase x.phase) differ inside
+    (λ scene goes. onward_by scene keeps scene.x.phase refl goes)

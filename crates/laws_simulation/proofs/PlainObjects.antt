@@ -4,7 +4,7 @@ use Rattle.std.{specs.Option.option_or, proofs.lemmas.{Bool.Decides.nat_tests, L
 use Rattle.lists.proofs.ListLaws.{same_some}
 use Rattle.jvm_types.specs.{ProgramInvariant.instances_among, declared.{class_numbers.TheConstants.INT_ARRAY_CLASS, fixed_words.TheConstants.{FIRST_READY_WORD, OBJECT_HEAD_WORDS}}}
 use Rattle.jvm_types.specs.declared.program.Program.{Program}
-use Rattle.machine_types.specs.{ObjectsApart.{IsBeside, IsOutside, LieApart}, Owners.references_of}
+use Rattle.machine_types.specs.ObjectsApart.{IsBeside, IsOutside, LieApart}
 use Rattle.machine_types.specs.{PlainMemory.{Object, StaticValue, header_of, first_value, object_end, has_value, value_in, object_value, static_value, new_object}, Words.header_word}
 use Rattle.laws_threads.proofs.MonitorMoves.{contains_got}
 use Rattle.laws_states.proofs.Lists.{contained_got}
@@ -42,10 +42,6 @@ contained_last xs y x k = by_place (last_got xs y k.0 x (contained_got (xs ++ y 
     by_place : (slice_get xs k.0 ≡ Some x) ⊎ ((k.0 ≡ length xs) × (x ≡ y)) → Contains xs x ⊎ (x ≡ y)
     by_place (inl g) = inl (contains_got xs k.0 x g)
     by_place (inr e) = inr e.1
-
-pub references_last : (os : List Object) (o : Object) → references_of (os ++ o ∷ []) ≡ references_of os ++ o.reference ∷ []
-references_last [] o = refl
-references_last (e ∷ os) o = ap (λ (rs : List ℕ). e.reference ∷ rs) (references_last os o)
 
 -- ---- places
 

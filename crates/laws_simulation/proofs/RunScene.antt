@@ -83,7 +83,8 @@ module _ {turn : Turn} {e : Effect} (i : Instruction turn e) where
   pub wakes : IsAwake (has_wait_bit (references_of q.objects) s.words t)
   wakes = awake turn phases.Run (counts_as turn phases.Run runs) (λ r h. h)
 
-  pub goes : (o : Onward) → GoesOn turn (goes_on (begun x) o) (plain.plain_goes_on (own turn).plain o)
+  pub goes : (o : Onward)
+      → GoesOn turn (goes_on (begun x) o) (plain.plain_goes_on (own turn).plain o)
   goes o = going turn (begun x) (own turn).plain o refl turn.outside refl wakes (runs_on turn busy)
 
   pub may : IsAllowed c objects at e

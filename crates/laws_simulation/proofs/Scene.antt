@@ -4,24 +4,31 @@ use Rattle.std.proofs.Common.{◌≡◌, ◌≢◌, ◌⊎◌, inl, inr, ℕ, �
 use Rattle.std.proofs.lemmas.List.{length-set, set-get_or}
 use Rattle.lists.proofs.ListLaws.{same_some}
 use Rattle.jvm_types.specs.declared.{fixed_words.TheConstants.{NEXT_FREE_WORD, NEXT_TICKET_WORD}, program.Program.Program}
+use Rattle.checked_program.specs.MarkedProgram.{MarkedProgram}
 use Rattle.machine_types.specs.{Accesses.{found_by, words_after}, Agreement.{IsPending, ThreadFits, depth_for, depth_of, has_wait_bit}, Core.{Core, event, event_of}, Events.{wanted, moved}}
 use Rattle.machine_types.specs.{Facts.ArePlainObjects, Going.goes_on, HeldMonitors.depth_at, History.{acts_of, steps_of}, ObjectsApart.LieApart, Onward.Onward, Owners.{lock_at, references_of}}
 use Rattle.machine_types.specs.{Parts.done_roots, PlainMemory.Object, PlainState.{Plain, PlainThread, Holding, value_at, holding_at, with_thread}, PlainSteps.plain_run, Structure.IsAs}
 use Rattle.machine_types.specs.{Threads.{Attempt, Thread}, Waiting.MayWait, declared.{access.Access.{Access, TheVariants.Load}, lock.Held.Held, phase.Phase.Phase, plain.Act.Act}}
 use Rattle.machine_types.proofs.Lists.{got_when_set, got_other}
 use Rattle.laws_states.{specs.{HeapFacts.{objects_by, objects_of}, SiteLaws.{SitesDiffer, SitesLieInside}}, proofs.Lists.same_or_not}
-use Rattle.laws_simulation.{specs.{StandsBeside.{StandsBeside, IsAmong, IsBeingMade, IsPlainNew, ends_shown}, StepsBeside.StepsBeside}, proofs.EventSteps.gone_on}
-use Rattle.laws_simulation.proofs.{GoingOnAlike.{IsAwake, IsUnderWay, OwnFits, going_alike}, OwnThread.own, Turns.Turn, WaitBits.{fits_by, same_lock}, WaitersHaveBits.bit_in}
+use Rattle.laws_simulation.{specs.{StandsBeside.{StandsBeside, IsAmong, IsBeingMade, IsPlainNew, ends_shown}, StepsBeside.{StepsBeside, StepsWhere}}, proofs.EventSteps.gone_on}
+use Rattle.laws_simulation.proofs.{GoingOnAlike.{IsAwake, IsUnderWay, OwnFits, going_alike}, OwnThread.own, Turns.{StepsOf, Turn, by_turn}, WaitBits.{fits_by, same_lock}, WaitersHaveBits.bit_in}
 use Rattle.jvm_types.specs.declared.outcome.End.TheVariants as ends
 use Rattle.machine_types.specs.PlainState as plain
 use Rattle.machine_types.specs.declared.lock.LockWord.TheVariants as locks
 use Rattle.machine_types.specs.declared.phase.Phase.TheVariants as phases
 
+-- a turn, with the laws that no two sites share a word, and that each lies among the words
 pub record Scene : Type 0 where
   pub turn : Turn
   pub open turn use *
   pub differ : SitesDiffer
   pub inside : SitesLieInside
+
+pub by_scene : (Holds : MarkedProgram → Thread → Type 0) → SitesDiffer → SitesLieInside
+    → ((scene : Scene) → Holds scene.c scene.x → StepsOf scene.turn) → StepsWhere Holds
+by_scene Holds differ inside steps = by_turn Holds
+    (λ turn holds. steps (record { turn = turn; differ = differ; inside = inside }) holds)
 
 pub new_again : (p : Program) (q r : Plain) (a word : ℕ) → r.objects ≡ q.objects → IsPlainNew p q a word → IsPlainNew p r a word
 new_again p q r a word e k = record { object = k.object; there = subst (λ (os : List Object). Contains os k.object) (sym e) k.there; reference = k.reference; class = k.class; values = k.values; header = k.header }
@@ -31,7 +38,8 @@ module _ (turn : Turn) where
 
   -- ---- a thread that doesn't wait has no bit set
 
-  pub awake : (phase : Phase) → was t ≡ phase → ((r : ℕ) → MayWait phase r → ⊥) → IsAwake (has_wait_bit (references_of q.objects) s.words t)
+  pub awake : (phase : Phase) → was t ≡ phase → ((r : ℕ) → MayWait phase r → ⊥)
+      → IsAwake (has_wait_bit (references_of q.objects) s.words t)
   awake phase e none m = by_test (has_wait_bit (references_of q.objects) s.words t m) refl
     where
       by_test : (b : Bool) → has_wait_bit (references_of q.objects) s.words t m ≡ b → b ≡ false

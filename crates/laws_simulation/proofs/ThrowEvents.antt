@@ -46,7 +46,8 @@ module _ (scene : Scene) (e : ℕ) (class : Thrown)
   shown = plain.plain_goes_on y onward
 
   goes : GoesOn turn now shown
-  goes = going turn x y onward refl scene.outside refl (awake turn (phases.Throw e class) was_so (λ r h. h)) (runs_on turn (subst IsBusy (sym throws) tt))
+  goes = going turn x y onward refl scene.outside refl
+      (awake turn (phases.Throw e class) was_so (λ r h. h)) (runs_on turn (subst IsBusy (sym throws) tt))
 
   pub throw_steps : StepsBeside c objects s t x q
   throw_steps = steps_of_event turn objects None (acts.Do ∷ []) now

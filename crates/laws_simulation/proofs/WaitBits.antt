@@ -3,8 +3,8 @@
 use Rattle.std.proofs.Common.{◌≡◌, ◌≢◌, ◌⊎◌, inl, inr, ℕ, ◌+◌, ◌<◌, Bool, true, false, cond, List, Option, refl, sym, ap, ◌∙◌, subst, arith, Contains, slice_index, ◌==◌}
 use Rattle.jvm_types.specs.{Numbers.{has_flag, has_number}, declared.{class_numbers.TheConstants.INT_ARRAY_CLASS, program.Program.Program}}
 use Rattle.machine_types.specs.{Agreement.{has_wait_bit, ThreadFits}, Core.Core, Facts.ArePlainObjects, LockWords.lock_of, Monitors.bit_of, NewObjects.NewObjects, Owners.{lock_at, references_of}}
-use Rattle.machine_types.specs.{PlainMemory.Object, PlainState.{Plain, PlainThread}, Threads.{Attempt, Thread}, Waiting.is_bit_set}
-use Rattle.machine_types.specs.{Words.{header_class, header_length, object_size, array_size, bits_word}, declared.lock.LockWord.LockWord}
+use Rattle.machine_types.specs.{PlainMemory.Object, PlainState.{Plain, PlainThread}, Threads.{Attempt, Thread}, Words.{header_class, header_length, object_size, array_size, bits_word}}
+use Rattle.machine_types.specs.declared.lock.LockWord.{LockWord}
 use Rattle.laws_states.{specs.Sites.HasObject, proofs.WordViews.{object_has, has_object}}
 use Rattle.laws_simulation.specs.StandsBeside.{IsAmong, IsBeingMade}
 use Rattle.machine_types.specs.declared.lock.LockWord.TheVariants as locks
@@ -18,17 +18,11 @@ bit_by lock words t = by_lock lock
     by_lock (locks.Fat r) = has_flag (bit_of t) (slice_index words (bits_word r))
     by_lock lock = false
 
-pub bit_is : (references words : List ℕ) (t m : ℕ) → has_wait_bit references words t m ≡ bit_by (lock_at references words m) words t
-bit_is references words t m = refl
-
 pub thin_bit : (l : LockWord) (words : List ℕ) (t : ℕ) → ((r : ℕ) → l ≢ locks.Fat r) → bit_by l words t ≡ false
 thin_bit (locks.Free c) words t d = refl
 thin_bit (locks.Held u) words t d = refl
 thin_bit (locks.Flagged u) words t d = refl
 thin_bit (locks.Fat r) words t d = absurd (d r refl)
-
-pub fat_bit : (l : LockWord) (words : List ℕ) (t r : ℕ) → l ≡ locks.Fat r → bit_by l words t ≡ is_bit_set words r t
-fat_bit l words t r e = ap (λ (k : LockWord). bit_by k words t) e
 
 -- a fat lock whose waiting bits are the same
 pub kept_bit : (l : LockWord) (words after : List ℕ) (t : ℕ) → ((r : ℕ) → l ≡ locks.Fat r → slice_index after (bits_word r) ≡ slice_index words (bits_word r)) → bit_by l after t ≡ bit_by l words t

@@ -214,4 +214,5 @@ module _ (turn : Turn) (begins : IsAtEffect IsOfWaiting turn.c turn.x) where
   does_one e is h = absurd h
 
 pub waiting_steps : WaitingSteps
-waiting_steps = by_turn (IsAtEffect IsOfWaiting) (λ turn b. does_one turn b (effect_at turn.c.program b.at) refl b.kind)
+waiting_steps = by_turn (IsAtEffect IsOfWaiting)
+    (λ turn b. does_one turn b (effect_at turn.c.program b.at) refl b.kind)

@@ -24,4 +24,5 @@ module _ (turn : Turn) (inside : SitesLieInside) where
   by_phase phase e h = absurd h
 
 pub wait_phase_steps : SitesLieInside → WaitPhaseSteps
-wait_phase_steps inside = by_turn (λ c x. WaitsPhase x.phase) (λ turn kind. by_phase turn inside turn.x.phase refl kind)
+wait_phase_steps inside = by_turn (λ c x. WaitsPhase x.phase)
+    (λ turn kind. by_phase turn inside turn.x.phase refl kind)

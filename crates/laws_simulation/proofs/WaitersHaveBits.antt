@@ -24,10 +24,6 @@ abbrev pub bit_by : (words : List ℕ) (t : ℕ) → LockWord → Bool
 bit_by words t (locks.Fat r) = has_flag (bit_of t) (slice_index words (bits_word r))
 bit_by words t lock = false
 
--- it is the bit of the record, and there is none where the lock is not fat
-pub bit_by_lock : (references words : List ℕ) (t m : ℕ) (l : LockWord) → lock_at references words m ≡ l → has_wait_bit references words t m ≡ bit_by words t l
-bit_by_lock references words t m l e = ap (bit_by words t) e
-
 pub bit_of_fat : (references words : List ℕ) (t m r : ℕ) → lock_at references words m ≡ locks.Fat r → has_wait_bit references words t m ≡ is_bit_set words r t
 bit_of_fat references words t m r e = ap (bit_by words t) e
 
