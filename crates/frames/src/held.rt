@@ -1,7 +1,7 @@
 //! The list of held monitors.
 
 ghost use Rattle.std.specs.Prelude.{◌≡◌, ◌≤◌, ◌<◌, ◌*◌, ◌+◌, [], length, slice_get, slice_set};
-ghost use Rattle.std.specs.Prelude.{Some, None, IfSome, IfOk};
+ghost use Rattle.std.specs.Prelude.{◌^◌, Some, None, IfSome, IfOk, OnErr};
 ghost use Rattle.std.specs.List.{remove};
 ghost use Rattle.std.specs.Vec.{vec_capacity};
 ghost use Rattle.machine_types.specs.HeldMonitors.{held_at, with_held, without_held, held_in_frame};
@@ -174,9 +174,11 @@ pub fn most_held(tags: &Rows<Tags>) -> usize
     most
 }
 
-/// The most entries of the list. A list that is longer than memory is want of memory.
+/// The most entries of the list. A list that is longer than memory is want of memory, and no other
+/// is.
 pub fn places(tags: &Rows<Tags>) -> Result<usize, AllocError>
-    ensures { IfOk result (λ n. n ≡ MOST_FRAMES * (1 + most_held tags.now)) }
+    ensures places { IfOk result (λ n. n ≡ MOST_FRAMES * (1 + most_held tags.now)) }
+    ensures full { OnErr result (2 ^ 64 ≤ MOST_FRAMES * (1 + most_held tags.now)) }
 {
     let most = most_held(tags);
     match most.checked_add(1) {
