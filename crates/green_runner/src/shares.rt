@@ -1,7 +1,7 @@
 //! The workers of a run, each with a share of its threads.
 
 ghost use Rattle.std.specs.Prelude.{◌≡◌, ◌≤◌, ◌<◌, ◌+◌, ◌||◌, ℕ, length, slice_index_or, IfOk};
-ghost use Rattle.std.specs.Prelude.{IsSome, OnOk};
+ghost use Rattle.std.specs.Prelude.{IsSome, OnOk, min};
 ghost use Rattle.std.specs.List.{All, list_any};
 ghost use Rattle.table_rule.specs.Views.{HoldsAll, held_in};
 ghost use Rattle.table_runner.specs.Handed.{Handed, IsTableOf};
@@ -82,6 +82,8 @@ fn give(
     ensures tables { OnOk result (All (IsTableOf table.now.shared.table_id
         table.now.shared.key.program.told table.now.shared.key.cfg) shares.new.items) }
     ensures few { OnOk result (length shares.new.items ≤ length shares.old.items + 1) }
+    ensures count { OnOk result (length shares.old.items ≤ workers
+        → length shares.new.items ≡ min workers (length shares.old.items + 1)) }
     ensures held { OnOk result ((t : ℕ) → list_any (holds t) shares.new.items
         ≡ (list_any (holds t) shares.old.items || holds t one)) }
 {
@@ -113,6 +115,7 @@ fn share_out(
         All (IsTableOf table.now.shared.table_id table.now.shared.key.program.told
         table.now.shared.key.cfg) ws.items) }
     ensures few { IfOk result (λ ws. length ws.items ≤ 8) }
+    ensures count { IfOk result (λ ws. length ws.items ≡ min workers p.now.program.workers) }
     ensures shared { IfOk result (λ ws. AreShared (p.now.program.workers + 1) ws.items) }
 {
     let mut shares = Vec::new(alloc);

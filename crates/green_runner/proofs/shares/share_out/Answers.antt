@@ -18,4 +18,5 @@ loop-i-preserved c =
       shared_more c.loop-i.i c.loop-i.shares.items c.give.new.shares.items c.split-one.result c.loop-i.invariant.2 c.in_ok-give.ensures.held alone.held,
       omega (arith, c.in_ok-give.ensures.few, c.loop-i.invariant.3),
       c.split-one.ensures.small,
+      omega (arith, c.in_ok-give.ensures.count (omega (arith, c.loop-i.invariant.5)), c.loop-i.invariant.5),
     )

@@ -1,4 +1,4 @@
-use Rattle.std.{proofs.Common.{◌+◌, ◌<◌, ◌≤◌, length}, specs.List.All}
+use Rattle.std.{proofs.Common.{◌≡◌, ◌+◌, ◌<◌, ◌≤◌, length, min}, specs.List.All}
 use Rattle.table_rule.specs.Views.{held_in}
 use Rattle.table_runner.specs.{Handed.IsTableOf, Running.RestOf}
 use Rattle.green_runner.specs.Shares.{AreShared}
@@ -9,3 +9,4 @@ invariant-loop-i l =
     RestOf l.table.shared.table_id l.table.shared.key.program.told l.table.shared.key.cfg (l.i + 1) (held_in l.fn.hands.threads 0) l.hands
     × All (IsTableOf l.table.shared.table_id l.table.shared.key.program.told l.table.shared.key.cfg) l.shares.items
     × AreShared (l.i + 1) l.shares.items × (length l.shares.items ≤ l.i) × (l.i < 9)
+    × (length l.shares.items ≡ min l.workers l.i)
