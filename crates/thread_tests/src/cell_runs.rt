@@ -3,10 +3,9 @@
 ghost use Rattle.std.specs.Prelude.{◌<◌, ◌≤◌};
 
 use cell_runner::{CellReport, run_cell};
-use jvm_types::{Gate, OpenGate};
+use jvm_types::OpenGate;
 use std::alloc::AllocError;
 use std::process::Abort;
-use std::sync::atomic::{AtomicU64, Ordering};
 use std::test::Fail;
 use std::thread::Threads;
 
@@ -54,32 +53,5 @@ fn workers_have_one_turn(rt: HostRuntime) -> Result<(), Fail> {
             report.reads == whole(threads, 1_000).reads
         );
     }
-    Ok(())
-}
-
-/// A gate at which two workers come.
-#[derive(Drop)]
-struct Meeting {
-    first: AtomicU64,
-    second: AtomicU64,
-}
-
-impl Gate for Meeting {
-    fn pass(&self, t: u8) {
-        let came = if t == 1 { &self.first } else { &self.second };
-        came.fetch_add(1, Ordering::SeqCst);
-    }
-}
-
-#[test]
-fn each_worker_passes_the_gate_once(rt: HostRuntime) -> Result<(), Fail> {
-    let gate = Meeting {
-        first: AtomicU64::new(0),
-        second: AtomicU64::new(0),
-    };
-    let report = run_cell(&rt, rt.alloc(), &gate, 2, 10, u32::MAX)?;
-    assert_eq!(rt; report, whole(2, 10));
-    assert_eq!(rt; gate.first.load(Ordering::SeqCst), 1);
-    assert_eq!(rt; gate.second.load(Ordering::SeqCst), 1);
     Ok(())
 }

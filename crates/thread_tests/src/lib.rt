@@ -7,4 +7,6 @@ mod by_hand;
 #[cfg(test)]
 mod cell_runs;
 #[cfg(test)]
+mod gates;
+#[cfg(test)]
 mod recorded_runs;

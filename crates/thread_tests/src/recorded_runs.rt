@@ -27,7 +27,7 @@ const SETTINGS: Config = Config {
 };
 
 /// The program of class Bank, with so many workers.
-fn load_bank(alloc: Global, workers: u8) -> Result<Checked, FileError>
+pub(crate) fn load_bank(alloc: Global, workers: u8) -> Result<Checked, FileError>
     requires { workers ≤ 8 }
 {
     let mut files = Rows::new(alloc);
