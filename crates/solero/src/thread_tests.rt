@@ -9,7 +9,8 @@ use std::sync::atomic::{AtomicU64, Ordering};
 use std::test::Fail;
 use std::thread::Threads;
 use test_classes::{
-    ADDS, ADDS_TWICE, BANK, CLASS_PAIR, LOCKS_OUT, ROUNDS, SHARED_AND_DONE, SPINS, WAITS, bytes_of,
+    ADDS, ADDS_TWICE, BANK, CLASS_PAIR, LOCKS_OUT, ROUNDS, SHARED, SHARED_AND_DONE, SPINS, WAITS,
+    bytes_of,
 };
 
 /// A status, and how the report begins that goes with it: all that stands before its counts.
@@ -149,8 +150,26 @@ const RUNS: [ThreadRun; 12] = [
     },
 ];
 
-/// Runs with fewer threads of the system than workers.
-const FEW: [ThreadRun; 2] = [
+/// Runs whose threads have turns.
+const FEW: [ThreadRun; 3] = [
+    // Each worker gives turns to the end, or the first thread would spin with nobody to write.
+    ThreadRun {
+        options: &[
+            "--threads",
+            "2",
+            "--workers",
+            "2",
+            "--turn",
+            "1",
+            "--steps",
+            "200000000",
+        ],
+        class: SPINS,
+        ends: &[(
+            0,
+            "init returned\nthread 1 returned\nthread 2 returned\ndone returned\n",
+        )],
+    },
     // Each thread spins until the other one has written, and neither runs to its end in one go.
     ThreadRun {
         options: &["--threads", "2", "--workers", "1", "--steps", "1000"],
@@ -212,44 +231,79 @@ fn threads_under_one_lock(rt: HostRuntime) -> Result<(), Fail> {
     Ok(())
 }
 
-/// How often a worker looks for the other one.
+/// Words behind the program's name, and up to which number workers pass the gate then.
+type Crowd = (&'static str, u8);
+
+const CROWDS: [Crowd; 14] = [
+    ("--mode run --memory table --threads 1 A.class", 1),
+    ("--mode run --memory table --threads 8 A.class", 8),
+    ("--mode run --memory locked --threads 1 A.class", 1),
+    ("--mode run --memory locked --threads 8 A.class", 8),
+    ("--mode record --threads 1 A.class", 1),
+    ("--mode record --threads 8 A.class", 8),
+    ("--mode load --threads 1 --size 1", 1),
+    ("--mode load --threads 8 --size 1", 8),
+    ("--mode cell --threads 1 --size 1", 1),
+    ("--mode cell --threads 8 --size 1", 8),
+    ("--mode run --threads 8 --workers 8 A.class", 8),
+    ("--mode run --threads 8 --workers 3 A.class", 3),
+    // Where there are more workers than threads the rest have no part in it.
+    ("--mode run --threads 1 --workers 2 A.class", 1),
+    // One worker alone passes no gate.
+    ("--mode run --threads 2 --workers 1 A.class", 0),
+];
+
+/// The program's name and the words of a text.
+fn words_in(alloc: Global, text: &str) -> Result<Vec<String>, AllocError> {
+    let mut words = options_alone(alloc, &[])?;
+    for word in text.split(' ') {
+        words.push(String::from_str(alloc, word)?)?;
+    }
+    Ok(words)
+}
+
+/// How often a worker looks for the others.
 const LOOKS: u32 = 100_000_000;
 
-/// A gate at which each of two workers looks for the other one.
+/// A gate at which each worker up to a number looks for all the others.
 #[derive(Drop)]
 struct Meeting {
-    first: AtomicU64,
-    second: AtomicU64,
-    /// How many workers found the other one.
+    most: u8,
+    /// How often each number came.
+    came: Vec<AtomicU64>,
+    /// How often one found that all had come.
     met: AtomicU64,
 }
 
 impl Meeting {
-    fn new() -> Self {
-        Meeting {
-            first: AtomicU64::new(0),
-            second: AtomicU64::new(0),
-            met: AtomicU64::new(0),
+    fn new(alloc: Global, most: u8) -> Result<Self, AllocError> {
+        let mut came = Vec::new(alloc);
+        for _ in 0..=u8::MAX {
+            came.push(AtomicU64::new(0))?;
         }
+        let met = AtomicU64::new(0);
+        Ok(Meeting { most, came, met })
     }
 
-    /// Notes that a worker came.
-    fn note(&self, t: u8) {
-        let came = if t == 1 { &self.first } else { &self.second };
-        came.fetch_add(1, Ordering::SeqCst);
-    }
-
-    /// Whether each of both came once.
-    fn has_both(&self) -> bool {
-        self.first.load(Ordering::SeqCst) == 1 && self.second.load(Ordering::SeqCst) == 1
+    /// Whether each of these workers came once, and no other number did.
+    fn has_all(&self) -> bool {
+        for (t, came) in self.came.iter().enumerate() {
+            let once = 0 < t && t <= self.most as usize;
+            if came.load(Ordering::SeqCst) != once as u64 {
+                return false;
+            }
+        }
+        true
     }
 }
 
 impl Gate for Meeting {
     fn pass(&self, t: u8) {
-        self.note(t);
+        if let Some(came) = self.came.get(t as usize) {
+            came.fetch_add(1, Ordering::SeqCst);
+        }
         for _ in 0..LOOKS {
-            if self.has_both() {
+            if self.has_all() {
                 self.met.fetch_add(1, Ordering::SeqCst);
                 return;
             }
@@ -257,38 +311,20 @@ impl Gate for Meeting {
     }
 }
 
-// Both workers of these words pass the gate at one time, as no single thread can.
-fn check_meeting<R: Abort + Threads + Wait + Sync + AllocGlobal>(
-    rt: &R,
-    words: &Vec<String>,
-) -> Result<(), AllocError> {
-    let gate = Meeting::new();
-    answer(rt, words, bytes_of(rt.alloc(), SPINS)?, &gate)?;
-    assert!(rt; gate.has_both());
-    assert_eq!(rt; gate.met.load(Ordering::SeqCst), 2);
-    Ok(())
-}
-
+// All workers pass the gate at one time, as no single thread can.
 #[test]
 fn workers_meet(rt: HostRuntime) -> Result<(), Fail> {
-    for memory in ["table", "locked"] {
-        check_meeting(&rt, &run_words(rt.alloc(), &["--threads", "2"], memory)?)?;
+    let alloc = rt.alloc();
+    for (words, most) in CROWDS {
+        let gate = Meeting::new(alloc, most)?;
+        answer(
+            &rt,
+            &words_in(alloc, words)?,
+            bytes_of(alloc, SHARED)?,
+            &gate,
+        )?;
+        assert!(rt; gate.has_all());
+        assert_eq!(rt; gate.met.load(Ordering::SeqCst), u64::from(most));
     }
-    Ok(())
-}
-
-#[test]
-fn workers_of_other_runs_meet(rt: HostRuntime) -> Result<(), Fail> {
-    let recorded = words(rt.alloc(), &["--mode", "record", "--threads", "2"])?;
-    check_meeting(&rt, &recorded)?;
-    let few = run_words(rt.alloc(), &["--threads", "2", "--workers", "2"], "table")?;
-    check_meeting(&rt, &few)?;
-    Ok(())
-}
-
-#[test]
-fn workers_of_a_cell_meet(rt: HostRuntime) -> Result<(), Fail> {
-    let words = ["--mode", "cell", "--threads", "2", "--size", "1"];
-    check_meeting(&rt, &options_alone(rt.alloc(), &words)?)?;
     Ok(())
 }
