@@ -2,9 +2,10 @@
 -- of them for all to write.
 use Rattle.std.proofs.Common.{◌≡◌, ◌<◌, ◌⊎◌, inl, inr, ℕ, zero, suc, pos, true, false, List, [], ◌∷◌, Some, None, refl, sym, subst, arith, codes, slice_get}
 use Rattle.jvm_types.specs.{Members.{is_private, is_static, is_final}, declared.{code.Insn.Insn, program.{FieldInfo.FieldInfo, MethodInfo.MethodInfo, Program.Program, Target.Target}}}
-use Rattle.checked_program.specs.{FrozenPlaces.{IsFrozenUse, IsGuardedStatic, IsGuardedUse, IsUse, AreUses}, LockTags.TagShape, Marks.{section_fault, Applies, itself, HasMark}}
-use Rattle.checked_program.specs.{Sections.{Section, sections, section_mode}, TaggedCode.{Tagged, IsAt}, declared.section.{FieldUse.{FieldUse, TheVariants.{Guarded, Open}}, Mode.TheVariants.OnClass}}
-use Rattle.checked_program.{specs.declared.section.Spot.TheVariants.Method, proofs.{FrozenChecks.is_written_static, MarkChecks.{first_is, none_applies, not_beyond, none_is_called}}}
+use Rattle.checked_program.specs.{FrozenPlaces.{IsFrozenUse, IsGuardedStatic, IsGuardedUse, IsUse}, LockTags.TagShape, Marks.{section_fault, Applies, itself, HasMark}}
+use Rattle.checked_program.specs.{OwnedArrays.{reads_owned, AreUses}, Sections.{Section, sections, section_mode}, TaggedCode.{Tagged, IsAt}, declared.section.FieldUse.FieldUse}
+use Rattle.checked_program.{specs.declared.section.{FieldUse.TheVariants.{Guarded, Open}, Mode.TheVariants.OnClass, Spot.TheVariants.Method, Uses.Uses}, proofs.FrozenChecks.is_written_static}
+use Rattle.checked_program.proofs.{MarkChecks.{first_is, none_applies, not_beyond, none_is_called}, OwnedChecks.{no_elements, no_owners, none_are_read}}
 use Rattle.checked_program.proofs.TriedPrograms.{method, op, names, program, tags_of}
 use Rattle.jvm_types.specs.declared.code.Op.TheVariants as ops
 use Rattle.jvm_types.specs.declared.program.Kind.TheVariants as kinds
@@ -35,8 +36,8 @@ both_sections = refl
 on_class : section_mode (with_first 10) (section 1) ≡ OnClass 17
 on_class = refl
 
-breaks_own : (p : Program) (uses : List FieldUse) (mi i n : ℕ) (m : MethodInfo) (insn : Insn) (target : Target) (f : TagShape) → IsAt p (tags_of p) mi i m insn target f
-    → section_fault p uses (section_mode p (section mi)) insn.op target f.stack ≡ n → 0 < n → Applies p (tags_of p) uses (section mi) n
+breaks_own : (p : Program) (uses : Uses) (mi i n : ℕ) (m : MethodInfo) (insn : Insn) (target : Target) (f : TagShape) → IsAt p (tags_of p) mi i m insn target f
+    → section_fault p uses.fields (section_mode p (section mi)) insn.op target f.stack (reads_owned uses mi i) ≡ n → 0 < n → Applies p (tags_of p) uses (section mi) n
 breaks_own p uses mi i n m insn target f at e some = itself (record { i = i; own = record { m = m; insn = insn; target = target; f = f; at = at }; breaks = record { m = m; insn = insn; target = target; f = f; at = at; fault_is = e; some = some } })
 
 -- ---- both fields private
@@ -50,16 +51,16 @@ first_is_guarded = record { field = _; is = refl; private = refl; changes = refl
 second_is_guarded : IsGuardedStatic both (tags_of both) 1
 second_is_guarded = record { field = _; is = refl; private = refl; changes = refl; static = refl; written = is_written_static 1 17 both (tags_of both) refl }
 
-abbrev uses_of_both : List FieldUse
-uses_of_both = Guarded ∷ Guarded ∷ []
+abbrev uses_of_both : Uses
+uses_of_both = record { fields = Guarded ∷ Guarded ∷ []; owners = no_owners both; elements = no_elements both }
 
-use_of_both : (fi : ℕ) (u : FieldUse) → slice_get uses_of_both fi ≡ Some u → IsUse both (tags_of both) fi u
+use_of_both : (fi : ℕ) (u : FieldUse) → slice_get uses_of_both.fields fi ≡ Some u → IsUse both (tags_of both) fi u
 use_of_both zero u e = let x : Guarded ≡ u = cc in subst (λ (w : FieldUse). IsUse both (tags_of both) 0 w) x (inr first_is_guarded)
 use_of_both (suc zero) u e = let x : Guarded ≡ u = cc in subst (λ (w : FieldUse). IsUse both (tags_of both) 1 w) x (inr second_is_guarded)
 use_of_both (suc (suc fi)) u e = cc
 
 uses_are : AreUses both (tags_of both) uses_of_both
-uses_are = record { long = refl; each = use_of_both }
+uses_are = none_are_read both (tags_of both) uses_of_both.fields refl refl (record { long = refl; each = use_of_both })
 
 set_writes : HasMark both (tags_of both) uses_of_both (section 0) 1
 set_writes = (
@@ -95,8 +96,8 @@ not_guarded (inr g) = false_true (subst (λ (x : FieldInfo). is_private x.flags 
 first_is_open : IsUse shared (tags_of shared) 0 Open
 first_is_open = (not_frozen, not_guarded)
 
-abbrev uses_of_shared : List FieldUse
-uses_of_shared = Open ∷ Guarded ∷ []
+abbrev uses_of_shared : Uses
+uses_of_shared = record { fields = Open ∷ Guarded ∷ []; owners = no_owners shared; elements = no_elements shared }
 
 sum_reads_shared : HasMark shared (tags_of shared) uses_of_shared (section 1) 5
 sum_reads_shared = (

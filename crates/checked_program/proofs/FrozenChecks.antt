@@ -2,7 +2,7 @@
 use Rattle.std.proofs.Common.{◌≡◌, ◌<◌, ℕ, zero, suc, Bool, true, false, List, [], ◌∷◌, length, Option, Some, None, refl, sym, subst, arith, ◌==◌, ◌+◌, ◌&&◌, ◌||◌, not, drop, slice_get, slice_index_or}
 use Rattle.std.{specs.List.list_any, proofs.lemmas.Bool.{eqb-true, eq-eqb, and_parts, Decides.nat_tests}}
 use Rattle.jvm_types.specs.{CodeTable.is_init, Numbers.has_number, Verifying.edges, declared.{code.{Insn.Insn, Op.Op}, program.{MethodInfo.MethodInfo, Program.Program, Target.Target}}}
-use Rattle.checked_program.specs.FrozenPlaces.{may_take, KeepThis, KeepsThis, is_final_of, PutsOnThis, KeepsInside, IsFrozenClass, locks_this, PutsGuarded, writes_class, PutsStatic}
+use Rattle.checked_program.specs.FrozenPlaces.{may_take, KeepThis, KeepsThis, is_final_of, PutsOnThis, KeepsInside, IsFrozenClass, locks_this, stands_guarded, PutsGuarded, writes_class, PutsStatic}
 use Rattle.checked_program.specs.{LockTags.{TagShape, is_this, entry_tags}, TaggedCode.{Tagged, IsAt, Goes, onward, caught, row_of}, Tagging.{tags_after, catchers, tags_at_handler}}
 use Rattle.checked_program.{specs.declared.tag.Tag.{Tag, TheVariants.{Untagged, This, At}}, proofs.EachReached.{Test, all_in, in_method}}
 use Rattle.jvm_types.specs.declared.code.Op.TheVariants as ops
@@ -88,7 +88,7 @@ final_is_put p m (ops.Putfield i) (targets.Field fi) f e = λ h. that_is_this _ 
 final_is_put p m op target f e = tt
 
 abbrev pub writes_guarded : MethodInfo → TagShape → Bool
-writes_guarded m f = is_this (slice_index_or f.stack 1 Untagged) && (is_init m || (list_any is_this f.held || locks_this m))
+writes_guarded m f = is_this (slice_index_or f.stack 1 Untagged) && stands_guarded m f
 
 abbrev pub puts_guarded : ℕ → MethodInfo → Op → Target → TagShape → Bool
 puts_guarded fi m (ops.Putfield i) (targets.Field other) f = not (other == fi) || writes_guarded m f
@@ -96,7 +96,7 @@ puts_guarded fi m op target f = true
 
 pub guarded_is_put : (fi : ℕ) (m : MethodInfo) (op : Op) (target : Target) (f : TagShape) → puts_guarded fi m op target f ≡ true → PutsGuarded fi m op target f
 guarded_is_put fi m (ops.Putfield i) (targets.Field other) f e = λ h.
-    let w : (is_this (slice_index_or f.stack 1 Untagged) ≡ true) × (is_init m || (list_any is_this f.held || locks_this m) ≡ true) = and_parts _ _ (implied (other == fi) (writes_guarded m f) e (eq-eqb other fi h)) in
+    let w : (is_this (slice_index_or f.stack 1 Untagged) ≡ true) × (stands_guarded m f ≡ true) = and_parts _ _ (implied (other == fi) (writes_guarded m f) e (eq-eqb other fi h)) in
     (that_is_this _ w.0, w.1)
 guarded_is_put fi m op target f e = tt
 

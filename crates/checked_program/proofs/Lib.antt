@@ -6,10 +6,12 @@ pub mod TriedPrograms
 mod TagTries
 pub mod EachReached
 pub mod FrozenChecks
+pub mod OwnedChecks
 mod MarkChecks
 mod UseTries
 mod MarkTries
 mod ClassTries
+mod ArrayTries
 pub mod CheckedPlaces
 mod OwnTries
 mod ReachTries

@@ -3,15 +3,20 @@ use Rattle.std.proofs.Common.{◌≡◌, ◌<◌, ◌≤◌, ℕ, Bool, true, fa
 use Rattle.std.proofs.lemmas.Bool.Decides.{nat_tests}
 use Rattle.jvm_types.specs.declared.program.Program.{Program}
 use Rattle.checked_program.specs.Marks.{Callee, callee, called_method, receiver_tag, called_mode, Calls, CallsThrough, IsCalledBy, section_fault, BreaksAt, CalleeBreaks, CalleeRecurs, Applies, elsewhere, itself, called, recurring, IsOnOwn, turn}
-use Rattle.checked_program.{specs.{Sections.{Section, section_mode}, TaggedCode.Tagged, declared.section.{FieldUse.FieldUse, Mode.Mode}}, proofs.EachReached.{Test, all_in, in_method}}
+use Rattle.checked_program.specs.{OwnedArrays.reads_owned, Sections.{Section, section_mode}, TaggedCode.Tagged, declared.section.{Mode.Mode, Uses.Uses}}
+use Rattle.checked_program.proofs.EachReached.{Test, NumberedTest, all_in, in_method, all_numbered, in_numbered}
 
 -- ---- an earlier rule is broken by no instruction
 
 abbrev pub is_from : ℕ → ℕ → Bool
 is_from n f = (f == 0) || (nat_le n f && nat_lt f 8)
 
-abbrev pub breaks_from : ℕ → Program → List FieldUse → Mode → Test
-breaks_from n p uses mode m insn target f = is_from n (section_fault p uses mode insn.op target f.stack)
+abbrev pub breaks_from : ℕ → Program → Uses → Callee → NumberedTest
+breaks_from n p uses a i m insn target f = is_from n (section_fault p uses.fields a.mode insn.op target f.stack (reads_owned uses a.method i))
+
+-- the instructions of a method, as a section runs it
+abbrev pub all_from : ℕ → Program → Tagged → Uses → Callee → Bool
+all_from n p tags uses a = all_numbered (breaks_from n p uses a) p tags a.method
 
 pub not_earlier_by : (b : Bool) (n k f : ℕ) → (k == 8) ≡ b → is_from n f ≡ true → f ≡ k → 0 < k → (if b then 0 else k) < n → ⊥
 not_earlier_by true n k f e t h some lt = grind (arith, nat_tests)
@@ -27,10 +32,10 @@ pub beyond_seven : (n k : ℕ) → k ≡ 7 → turn k < n → 7 < n
 beyond_seven n k e lt = subst (λ (j : ℕ). turn j < n) e lt
 
 -- no rule before n applies, if through calls none of M1 to M5 is broken where n is 7
-pub first_is : (p : Program) (tags : Tagged) (uses : List FieldUse) (s : Section) (n : ℕ) → n ≤ 7 → IsOnOwn p tags s.method s.spot → all_in (breaks_from n p uses (section_mode p s)) p tags s.method ≡ true
+pub first_is : (p : Program) (tags : Tagged) (uses : Uses) (s : Section) (n : ℕ) → n ≤ 7 → IsOnOwn p tags s.method s.spot → all_from n p tags uses (callee s.method (section_mode p s)) ≡ true
     → (6 < n → CalleeBreaks p tags uses s → ⊥) → (k : ℕ) → turn k < n → Applies p tags uses s k → ⊥
 first_is p tags uses s n few on all through k lt (elsewhere e off) = off on
-first_is p tags uses s n few on all through k lt (itself b) = not_earlier n k _ (in_method (breaks_from n p uses (section_mode p s)) p tags s.method all b.i b.breaks.m b.breaks.insn b.breaks.target b.breaks.f b.breaks.at) b.breaks.fault_is b.breaks.some lt
+first_is p tags uses s n few on all through k lt (itself b) = not_earlier n k _ (in_numbered (breaks_from n p uses (callee s.method (section_mode p s))) p tags s.method all b.i b.breaks.m b.breaks.insn b.breaks.target b.breaks.f b.breaks.at) b.breaks.fault_is b.breaks.some lt
 first_is p tags uses s n few on all through k lt (called e c) = through (beyond_six n k e lt) c
 first_is p tags uses s n few on all through k lt (recurring e c) = let h : 7 < n = beyond_seven n k e lt in grind arith
 
@@ -42,10 +47,10 @@ not_beyond n few lt = grind arith
 pub breaks_none : (n : ℕ) → is_from 8 n ≡ true → (k : ℕ) → n ≡ k → 0 < k → ⊥
 breaks_none n t k h some = grind (arith, nat_tests)
 
-pub none_broken : (p : Program) (tags : Tagged) (uses : List FieldUse) (a : Callee) (i n : ℕ) → all_in (breaks_from 8 p uses a.mode) p tags a.method ≡ true → BreaksAt p tags uses a i n → ⊥
-none_broken p tags uses a i n all b = breaks_none _ (in_method (breaks_from 8 p uses a.mode) p tags a.method all i b.m b.insn b.target b.f b.at) n b.fault_is b.some
+pub none_broken : (p : Program) (tags : Tagged) (uses : Uses) (a : Callee) (i n : ℕ) → all_from 8 p tags uses a ≡ true → BreaksAt p tags uses a i n → ⊥
+none_broken p tags uses a i n all b = breaks_none _ (in_numbered (breaks_from 8 p uses a) p tags a.method all i b.m b.insn b.target b.f b.at) n b.fault_is b.some
 
-pub none_applies : (p : Program) (tags : Tagged) (uses : List FieldUse) (s : Section) → IsOnOwn p tags s.method s.spot → all_in (breaks_from 8 p uses (section_mode p s)) p tags s.method ≡ true
+pub none_applies : (p : Program) (tags : Tagged) (uses : Uses) (s : Section) → IsOnOwn p tags s.method s.spot → all_from 8 p tags uses (callee s.method (section_mode p s)) ≡ true
     → (CalleeBreaks p tags uses s → ⊥) → (CalleeRecurs p tags s → ⊥) → (k : ℕ) → Applies p tags uses s k → ⊥
 none_applies p tags uses s on all through back k (elsewhere e off) = off on
 none_applies p tags uses s on all through back k (itself b) = none_broken p tags uses (callee s.method (section_mode p s)) b.i k all b.breaks

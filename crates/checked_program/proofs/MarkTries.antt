@@ -4,18 +4,18 @@ use Rattle.std.proofs.lemmas.Bool.Decides.{nat_tests}
 use Rattle.jvm_types.specs.declared.{code.Insn.Insn, program.{MethodInfo.MethodInfo, Target.Target}}
 use Rattle.checked_program.specs.LockTags.{TagShape, is_this}
 use Rattle.checked_program.specs.Marks.{Callee, callee, called_method, receiver_tag, called_mode, section_fault, IsCalledBy, CallsItself, Applies, elsewhere, itself, called, recurring, IsOnOwn, turn, HasMark, IsMarkOf, AreMarks}
-use Rattle.checked_program.specs.{Sections.{Section, sections, section_mode}, TaggedCode.{Tagged, IsAt}, declared.section.{FieldUse.{FieldUse, TheVariants.{Frozen, Guarded, Open}}, Mode.Mode}}
-use Rattle.checked_program.specs.declared.{section.{Mode.TheVariants.{OnThis, OffThis, OnClass}, SectionMark.SectionMark, Spot.{Spot, TheVariants.{Method, Block}}}, tag.Tag.Tag}
+use Rattle.checked_program.specs.{OwnedArrays.reads_owned, Sections.{Section, sections, section_mode}, TaggedCode.{Tagged, IsAt}, declared.section.FieldUse.TheVariants.{Frozen, Guarded, Open}}
+use Rattle.checked_program.specs.declared.{section.{Mode.{Mode, TheVariants.{OnThis, OffThis, OnClass}}, SectionMark.SectionMark, Spot.{Spot, TheVariants.{Method, Block}}, Uses.Uses}, tag.Tag.Tag}
 use Rattle.checked_program.{specs.declared.tag.Tag.TheVariants.{Untagged, This, At}, proofs.EachReached.{Test, all_in, in_method}}
-use Rattle.checked_program.proofs.MarkChecks.{first_is, none_applies, none_broken, not_beyond, call_is_ok, called_is_ok, none_ok, none_is_called, IsClosed, calls_to, breaks_from}
-use Rattle.checked_program.proofs.{TriedPrograms.{many, tags_of}, UseTries.uses_of_many}
+use Rattle.checked_program.proofs.MarkChecks.{first_is, none_applies, none_broken, not_beyond, call_is_ok, called_is_ok, none_ok, none_is_called, IsClosed, calls_to, all_from}
+use Rattle.checked_program.proofs.{OwnedChecks.{no_elements, no_owners}, TriedPrograms.{many, tags_of}, UseTries.uses_of_many}
 
 abbrev tags : Tagged
 tags = tags_of many
 
 -- the two ints are guarded and the final field frozen
-abbrev uses : List FieldUse
-uses = Guarded ∷ Guarded ∷ Open ∷ Frozen ∷ []
+abbrev uses : Uses
+uses = record { fields = Guarded ∷ Guarded ∷ Open ∷ Frozen ∷ []; owners = no_owners many; elements = no_elements many }
 
 abbrev section : ℕ → Spot → Section
 section mi spot = record { method = mi; spot = spot }
@@ -28,7 +28,7 @@ all_sections = refl
 abbrev OfMethod : ℕ → ℕ → Type 0
 OfMethod mi n = HasMark many tags uses (section mi Method) n
 
-breaks_own : (mi i n : ℕ) (m : MethodInfo) (insn : Insn) (target : Target) (f : TagShape) → IsAt many tags mi i m insn target f → section_fault many uses (section_mode many (section mi Method)) insn.op target f.stack ≡ n → 0 < n → Applies many tags uses (section mi Method) n
+breaks_own : (mi i n : ℕ) (m : MethodInfo) (insn : Insn) (target : Target) (f : TagShape) → IsAt many tags mi i m insn target f → section_fault many uses.fields (section_mode many (section mi Method)) insn.op target f.stack (reads_owned uses mi i) ≡ n → 0 < n → Applies many tags uses (section mi Method) n
 breaks_own mi i n m insn target f at e some = itself (record { i = i; own = record { m = m; insn = insn; target = target; f = f; at = at }; breaks = record { m = m; insn = insn; target = target; f = f; at = at; fault_is = e; some = some } })
 
 writes : OfMethod 1 1
@@ -89,7 +89,7 @@ sums_another = (
 abbrev is_again : Callee → Bool
 is_again a = a.method == 9
 
-again_in_modes : (mode : Mode) → (all_in (calls_to is_again many mode) many tags 9 ≡ true) × (all_in (breaks_from 8 many uses mode) many tags 9 ≡ true)
+again_in_modes : (mode : Mode) → (all_in (calls_to is_again many mode) many tags 9 ≡ true) × (all_from 8 many tags uses (callee 9 mode) ≡ true)
 again_in_modes OnThis = (refl, refl)
 again_in_modes OffThis = (refl, refl)
 again_in_modes (OnClass class) = (refl, refl)
@@ -97,8 +97,8 @@ again_in_modes (OnClass class) = (refl, refl)
 again_is_closed : IsClosed many tags is_again
 again_is_closed a e = subst (λ (u : ℕ). all_in (calls_to is_again many a.mode) many tags u ≡ true) (sym (eqb-true a.method 9 e)) (again_in_modes a.mode).0
 
-again_breaks_none : (a : Callee) → is_again a ≡ true → all_in (breaks_from 8 many uses a.mode) many tags a.method ≡ true
-again_breaks_none a e = subst (λ (u : ℕ). all_in (breaks_from 8 many uses a.mode) many tags u ≡ true) (sym (eqb-true a.method 9 e)) (again_in_modes a.mode).1
+again_breaks_none : (a : Callee) → is_again a ≡ true → all_from 8 many tags uses a ≡ true
+again_breaks_none a e = subst (λ (u : ℕ). all_from 8 many tags uses (callee u a.mode) ≡ true) (sym (eqb-true a.method 9 e)) (again_in_modes a.mode).1
 
 calls_again : OfMethod 10 7
 calls_again = (
@@ -151,7 +151,7 @@ sum_calls_none OnThis = (refl, refl)
 sum_calls_none OffThis = (refl, refl)
 sum_calls_none (OnClass class) = (refl, refl)
 
-sum_keeps : (mode : Mode) → is_on mode ≡ true → all_in (breaks_from 8 many uses mode) many tags 2 ≡ true
+sum_keeps : (mode : Mode) → is_on mode ≡ true → all_from 8 many tags uses (callee 2 mode) ≡ true
 sum_keeps OnThis e = refl
 sum_keeps OffThis e = cc
 sum_keeps (OnClass class) e = cc
@@ -159,8 +159,8 @@ sum_keeps (OnClass class) e = cc
 sum_is_closed : IsClosed many tags is_sum
 sum_is_closed a e = subst (λ (u : ℕ). all_in (calls_to is_sum many a.mode) many tags u ≡ true) (sym (is_sum_method a e)) (sum_calls_none a.mode).0
 
-sum_breaks_none : (a : Callee) → is_sum a ≡ true → all_in (breaks_from 8 many uses a.mode) many tags a.method ≡ true
-sum_breaks_none a e = subst (λ (u : ℕ). all_in (breaks_from 8 many uses a.mode) many tags u ≡ true) (sym (is_sum_method a e)) (sum_keeps a.mode (and_parts (a.method == 2) (is_on a.mode) e).1)
+sum_breaks_none : (a : Callee) → is_sum a ≡ true → all_from 8 many tags uses a ≡ true
+sum_breaks_none a e = subst (λ (u : ℕ). all_from 8 many tags uses (callee u a.mode) ≡ true) (sym (is_sum_method a e)) (sum_keeps a.mode (and_parts (a.method == 2) (is_on a.mode) e).1)
 
 twice_calls_sum : (b : Callee) → IsCalledBy many tags (section 12 Method) b → is_sum b ≡ true
 twice_calls_sum b c = called_is_ok many tags (section 12 Method) is_sum b sum_is_closed refl c

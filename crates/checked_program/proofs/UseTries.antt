@@ -1,8 +1,9 @@
 -- How the fields of small programs may be read: frozen, guarded, or neither.
 use Rattle.std.proofs.Common.{◌≡◌, ◌⊎◌, inl, inr, ℕ, zero, suc, true, false, List, [], ◌∷◌, Some, refl, sym, subst, arith, slice_get}
 use Rattle.jvm_types.specs.{Members.{is_private, is_static, is_final}, declared.program.{FieldInfo.FieldInfo, Program.Program}}
-use Rattle.checked_program.specs.{FrozenPlaces.{IsFrozenClass, IsFrozenField, IsFrozenUse, IsGuardedField, IsGuardedUse, IsUse, AreUses}, declared.section.FieldUse.FieldUse}
+use Rattle.checked_program.specs.{FrozenPlaces.{IsFrozenClass, IsFrozenField, IsFrozenUse, IsGuardedField, IsGuardedUse, IsUse}, OwnedArrays.AreUses, declared.section.FieldUse.FieldUse}
 use Rattle.checked_program.{specs.declared.{section.FieldUse.TheVariants.{Frozen, Guarded, Open}, tag.Tag.TheVariants.{Untagged, This}}, proofs.FrozenChecks.{is_frozen, is_written_guarded}}
+use Rattle.checked_program.proofs.OwnedChecks.{no_elements, no_owners, none_are_read}
 use Rattle.checked_program.proofs.TriedPrograms.{many, many_fields, static_object, private_int, one_field, leaking, unlocked, on_another, tags_of}
 
 false_true : false ≡ true → ⊥
@@ -52,8 +53,8 @@ use_of (suc (suc zero)) u e = let x : Open ≡ u = cc in subst (λ (w : FieldUse
 use_of (suc (suc (suc zero))) u e = let x : Frozen ≡ u = cc in subst (λ (w : FieldUse). IsUse many (tags_of many) 3 w) x (inl final_is_frozen)
 use_of (suc (suc (suc (suc fi)))) u e = cc
 
-pub uses_of_many : AreUses many (tags_of many) uses
-uses_of_many = record { long = refl; each = use_of }
+pub uses_of_many : AreUses many (tags_of many) (record { fields = uses; owners = no_owners many; elements = no_elements many })
+uses_of_many = none_are_read many (tags_of many) uses refl refl (record { long = refl; each = use_of })
 
 -- ---- fields that are neither
 

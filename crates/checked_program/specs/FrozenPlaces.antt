@@ -110,12 +110,14 @@ locks_this m = is_synchronized m.flags && not (is_static m.flags)
 abbrev pub locks_class : MethodInfo → Bool
 locks_class m = is_synchronized m.flags && is_static m.flags
 
--- where a field may be written: on `this`, in an `<init>`, in a synchronized method, or with the
--- monitor of `this` held
+-- an instruction of an `<init>`, of a synchronized instance method, or where the monitor of `this`
+-- is held
+abbrev pub stands_guarded : MethodInfo → TagShape → Bool
+stands_guarded m f = is_init m || (list_any is_this f.held || locks_this m)
+
+-- where a field may be written: on `this`, by such an instruction
 abbrev pub WritesGuarded : MethodInfo → TagShape → Type 0
-WritesGuarded m f =
-    (slice_index_or f.stack 1 Untagged ≡ This)
-    × (is_init m || (list_any is_this f.held || locks_this m) ≡ true)
+WritesGuarded m f = (slice_index_or f.stack 1 Untagged ≡ This) × (stands_guarded m f ≡ true)
 
 abbrev pub PutsGuarded : ℕ → MethodInfo → Op → Target → TagShape → Type 0
 PutsGuarded fi m (ops.Putfield i) (targets.Field other) f = other ≡ fi → WritesGuarded m f
@@ -165,6 +167,6 @@ IsUse p tags fi Guarded = IsGuardedUse p tags fi
 IsUse p tags fi Open = (IsFrozenUse p tags fi → ⊥) × (IsGuardedUse p tags fi → ⊥)
 
 -- how each field of the program may be read
-pub record AreUses (p : Program) (tags : Tagged) (uses : List FieldUse) : Type 0 where
+pub record AreFieldUses (p : Program) (tags : Tagged) (uses : List FieldUse) : Type 0 where
   pub long : length uses ≡ length p.fields
   pub each : (fi : ℕ) (u : FieldUse) → slice_get uses fi ≡ Some u → IsUse p tags fi u

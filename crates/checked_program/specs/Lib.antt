@@ -4,6 +4,8 @@ pub mod Tagging
 pub mod TagLaws
 pub mod TaggedCode
 pub mod FrozenPlaces
+pub mod Colours
+pub mod OwnedArrays
 pub mod Sections
 pub mod Marks
 pub mod SectionLaws

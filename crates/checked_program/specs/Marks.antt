@@ -13,7 +13,8 @@ use Rattle.jvm_types.specs.declared.program.MethodInfo.{MethodInfo}
 use Rattle.jvm_types.specs.declared.program.Program.{Program}
 use Rattle.checked_program.specs.LockTags.{TagShape, is_this}
 use Rattle.checked_program.specs.TaggedCode.{Tagged, IsAt}
-use Rattle.checked_program.specs.FrozenPlaces.{locks_this, locks_class, AreUses}
+use Rattle.checked_program.specs.FrozenPlaces.{locks_this, locks_class}
+use Rattle.checked_program.specs.OwnedArrays.{reads_owned, AreUses}
 use Rattle.checked_program.specs.Sections.{Section, sections, section_mode, BeginsAt, IsOwn}
 use Rattle.checked_program.specs.declared.tag.Tag.{Tag}
 use Rattle.checked_program.specs.declared.tag.Tag.TheVariants.{Untagged, This}
@@ -24,6 +25,7 @@ use Rattle.checked_program.specs.declared.section.Mode.{Mode}
 use Rattle.checked_program.specs.declared.section.Mode.TheVariants.{OnThis, OffThis, OnClass}
 use Rattle.checked_program.specs.declared.section.FieldUse.{FieldUse}
 use Rattle.checked_program.specs.declared.section.FieldUse.TheVariants.{Frozen, Guarded, Open}
+use Rattle.checked_program.specs.declared.section.Uses.{Uses}
 
 -- ---- calls
 
@@ -142,48 +144,56 @@ abbrev pub class_of_method : Option MethodInfo → ℕ
 class_of_method None = 0
 class_of_method (Some m) = m.class
 
--- The rule that an instruction breaks, in a method that a section runs so; 0 for none. M1: it
--- writes a field, a static or an element. M2: it allocates. M3: it enters a monitor that is not the
--- section's. M4: it prints, waits or notifies. M5: it reads a place that is neither frozen nor a
--- guarded one of the section's own object or class.
-abbrev pub section_fault : Program → List FieldUse → Mode → Op → Target → List Tag → ℕ
-section_fault p uses mode (ops.Putfield i) target stack = 1
-section_fault p uses mode (ops.Putstatic i) target stack = 1
-section_fault p uses mode ops.Iastore target stack = 1
-section_fault p uses mode (ops.New i) target stack = 2
-section_fault p uses mode ops.Newarray target stack = 2
-section_fault p uses mode ops.Monitorenter target stack =
+-- an element, by whether its array is one that `this` owns
+abbrev pub element_fault : Mode → (owned : Bool) → ℕ
+element_fault OnThis true = 0
+element_fault mode owned = 5
+
+-- The rule that an instruction breaks, in a method that a section runs so; 0 for none. owned says
+-- whether it reads an element of an array that `this` owns. M1: it writes a field, a static or an
+-- element. M2: it allocates. M3: it enters a monitor that is not the section's. M4: it prints,
+-- waits or notifies. M5: it reads a place that is neither frozen nor a guarded one of the section's
+-- own object or class.
+abbrev pub section_fault : Program → List FieldUse → Mode → Op → Target → List Tag → (owned : Bool)
+    → ℕ
+section_fault p uses mode (ops.Putfield i) target stack owned = 1
+section_fault p uses mode (ops.Putstatic i) target stack owned = 1
+section_fault p uses mode ops.Iastore target stack owned = 1
+section_fault p uses mode (ops.New i) target stack owned = 2
+section_fault p uses mode ops.Newarray target stack owned = 2
+section_fault p uses mode ops.Monitorenter target stack owned =
     enter_fault (is_own_object mode (slice_index_or stack 0 Untagged))
-section_fault p uses mode (ops.Invokevirtual i) (targets.Method u) stack =
+section_fault p uses mode (ops.Invokevirtual i) (targets.Method u) stack owned =
     call_fault (is_locking (slice_get p.methods u))
     (is_own_object mode (receiver_tag p (ops.Invokevirtual i) (targets.Method u) stack))
-section_fault p uses mode (ops.Invokespecial i) (targets.Method u) stack =
+section_fault p uses mode (ops.Invokespecial i) (targets.Method u) stack owned =
     call_fault (is_locking (slice_get p.methods u))
     (is_own_object mode (receiver_tag p (ops.Invokespecial i) (targets.Method u) stack))
-section_fault p uses mode (ops.Invokestatic i) (targets.Method u) stack =
+section_fault p uses mode (ops.Invokestatic i) (targets.Method u) stack owned =
     call_fault (is_class_locking (slice_get p.methods u))
     (is_own_class mode (class_of_method (slice_get p.methods u)))
-section_fault p uses mode (ops.Invokevirtual i) targets.Println stack = 4
-section_fault p uses mode (ops.Invokevirtual i) targets.Wait stack = 4
-section_fault p uses mode (ops.Invokevirtual i) targets.Notify stack = 4
-section_fault p uses mode (ops.Invokevirtual i) targets.NotifyAll stack = 4
-section_fault p uses mode (ops.Getstatic i) (targets.Field fi) stack =
+section_fault p uses mode (ops.Invokevirtual i) targets.Println stack owned = 4
+section_fault p uses mode (ops.Invokevirtual i) targets.Wait stack owned = 4
+section_fault p uses mode (ops.Invokevirtual i) targets.Notify stack owned = 4
+section_fault p uses mode (ops.Invokevirtual i) targets.NotifyAll stack owned = 4
+section_fault p uses mode (ops.Getstatic i) (targets.Field fi) stack owned =
     use_fault (slice_index_or uses fi Open)
     (is_own_class mode (class_of_field (slice_get p.fields fi)))
-section_fault p uses mode ops.Iaload target stack = 5
-section_fault p uses mode (ops.Getfield i) (targets.Field fi) stack =
+section_fault p uses mode ops.Iaload target stack owned = element_fault mode owned
+section_fault p uses mode (ops.Getfield i) (targets.Field fi) stack owned =
     use_fault (slice_index_or uses fi Open) (is_own_object mode (slice_index_or stack 0 Untagged))
-section_fault p uses mode op target stack = 0
+section_fault p uses mode op target stack owned = 0
 
 -- the instruction i of a method breaks a rule
-pub record BreaksAt (p : Program) (tags : Tagged) (uses : List FieldUse) (a : Callee) (i n : ℕ)
+pub record BreaksAt (p : Program) (tags : Tagged) (uses : Uses) (a : Callee) (i n : ℕ)
     : Type 0 where
   pub m : MethodInfo
   pub insn : Insn
   pub target : Target
   pub f : TagShape
   pub at : IsAt p tags a.method i m insn target f
-  pub fault_is : section_fault p uses a.mode insn.op target f.stack ≡ n
+  pub fault_is : section_fault p uses.fields a.mode insn.op target f.stack
+      (reads_owned uses a.method i) ≡ n
   pub some : 0 < n
 
 -- ---- the rules of a section
@@ -196,15 +206,14 @@ IsOnOwn p tags mi (Block pc) =
     × (slice_index_or f.stack 0 Untagged ≡ This)
 
 -- M1 to M5: an own instruction breaks it
-pub record OwnBreaks (p : Program) (tags : Tagged) (uses : List FieldUse) (s : Section) (n : ℕ)
+pub record OwnBreaks (p : Program) (tags : Tagged) (uses : Uses) (s : Section) (n : ℕ)
     : Type 0 where
   pub i : ℕ
   pub own : IsOwn p tags s.method s.spot i
   pub breaks : BreaksAt p tags uses (callee s.method (section_mode p s)) i n
 
 -- M6: a method that it calls breaks one of these
-pub record CalleeBreaks (p : Program) (tags : Tagged) (uses : List FieldUse) (s : Section)
-    : Type 0 where
+pub record CalleeBreaks (p : Program) (tags : Tagged) (uses : Uses) (s : Section) : Type 0 where
   pub called : Callee
   pub is_called : IsCalledBy p tags s called
   pub i : ℕ
@@ -218,8 +227,7 @@ pub record CalleeRecurs (p : Program) (tags : Tagged) (s : Section) : Type 0 whe
   pub recurs : CallsItself p tags called.method
 
 -- the rule n forbids that the section runs without its lock
-pub data Applies (p : Program) (tags : Tagged) (uses : List FieldUse) (s : Section) (n : ℕ)
-    : Type 0 where
+pub data Applies (p : Program) (tags : Tagged) (uses : Uses) (s : Section) (n : ℕ) : Type 0 where
   elsewhere : n ≡ 8 → (IsOnOwn p tags s.method s.spot → ⊥) → Applies p tags uses s n
   itself : OwnBreaks p tags uses s n → Applies p tags uses s n
   called : n ≡ 6 → CalleeBreaks p tags uses s → Applies p tags uses s n
@@ -232,19 +240,19 @@ abbrev pub turn : ℕ → ℕ
 turn n = if n == 8 then 0 else n
 
 -- a section's mark: the first rule that applies, or 0 where none does
-abbrev pub HasMark : Program → Tagged → List FieldUse → Section → ℕ → Type 0
+abbrev pub HasMark : Program → Tagged → Uses → Section → ℕ → Type 0
 HasMark p tags uses s zero = (k : ℕ) → Applies p tags uses s k → ⊥
 HasMark p tags uses s (suc n) =
     Applies p tags uses s (suc n) × ((k : ℕ) → turn k < turn (suc n) → Applies p tags uses s k → ⊥)
 
-pub record IsMarkOf (p : Program) (tags : Tagged) (uses : List FieldUse) (s : Section)
-    (mark : SectionMark) : Type 0 where
+pub record IsMarkOf (p : Program) (tags : Tagged) (uses : Uses) (s : Section) (mark : SectionMark)
+    : Type 0 where
   pub method : mark.method ≡ s.method
   pub spot : mark.spot ≡ s.spot
   pub mark_is : HasMark p tags uses s mark.mark
 
 -- the marks of all sections of a program, in their order
 pub record AreMarks (p : Program) (tags : Tagged) (marks : List SectionMark) : Type 0 where
-  pub uses : List FieldUse
+  pub uses : Uses
   pub are_uses : AreUses p tags uses
   pub each : AllZip (IsMarkOf p tags uses) (sections p) marks

@@ -1,7 +1,7 @@
 -- Laws of sections that run without their lock, and of the fields that they read, over every
 -- program and its tags. The running machine rests on these and not on how marks are found.
-use Rattle.std.specs.Prelude.{◌≡◌, ◌≢◌, ◌⊎◌, ℕ, suc, true, List, [], ◌∷◌, length, Option, Some}
-use Rattle.std.specs.Prelude.{slice_get, slice_index, slice_index_or}
+use Rattle.std.specs.Prelude.{◌≡◌, ◌≢◌, ◌⊎◌, ℕ, suc, true, false, List, [], ◌∷◌, length, Option}
+use Rattle.std.specs.Prelude.{Some, slice_get, slice_index, slice_index_or}
 use Rattle.std.specs.List.{list_any}
 use Rattle.jvm_types.specs.CodeTable.{is_init}
 use Rattle.jvm_types.specs.Members.{is_class_init_name}
@@ -16,9 +16,10 @@ use Rattle.jvm_types.specs.declared.program.Program.{Program}
 use Rattle.checked_program.specs.LockTags.{TagShape, is_this}
 use Rattle.checked_program.specs.TaggedCode.{Tagged, IsAt, Goes}
 use Rattle.checked_program.specs.Tagging.{HasTagging}
-use Rattle.checked_program.specs.FrozenPlaces.{AreUses, IsFrozenField, IsFrozenStatic}
-use Rattle.checked_program.specs.FrozenPlaces.{IsGuardedField, IsGuardedStatic, locks_this}
-use Rattle.checked_program.specs.FrozenPlaces.{locks_class}
+use Rattle.checked_program.specs.Colours.{ColourShape, is_coloured, IsColouring}
+use Rattle.checked_program.specs.OwnedArrays.{TakesArrayWell, IsOwnedArrayField, IsOwnedAt, AreUses}
+use Rattle.checked_program.specs.FrozenPlaces.{IsFrozenField, IsFrozenStatic, IsGuardedField}
+use Rattle.checked_program.specs.FrozenPlaces.{IsGuardedStatic, locks_this, locks_class}
 use Rattle.checked_program.specs.Sections.{Section, section_mode, BeginsAt, IsOwn}
 use Rattle.checked_program.specs.Marks.{callee, Calls, args_of, is_locking, is_class_locking}
 use Rattle.checked_program.specs.Marks.{class_of_method, HasMark}
@@ -28,7 +29,7 @@ use Rattle.checked_program.specs.declared.section.Spot.{Spot}
 use Rattle.checked_program.specs.declared.section.Spot.TheVariants.{Method, Block}
 use Rattle.checked_program.specs.declared.section.Mode.{Mode}
 use Rattle.checked_program.specs.declared.section.Mode.TheVariants.{OnThis, OnClass}
-use Rattle.checked_program.specs.declared.section.FieldUse.{FieldUse}
+use Rattle.checked_program.specs.declared.section.Uses.{Uses}
 
 -- ---- the frames of a section
 
@@ -103,7 +104,7 @@ HaveOwnMethods (a ∷ parts) = HasNone a.method parts × HaveOwnMethods parts
 
 abbrev pub ApartLaw : Type 0
 ApartLaw =
-    (p : Program) (tags : Tagged) (uses : List FieldUse) (s : Section) (o : ℕ) (parts : List Part)
+    (p : Program) (tags : Tagged) (uses : Uses) (s : Section) (o : ℕ) (parts : List Part)
     (mode : Mode) → HasMark p tags uses s 0 → AreParts p tags s o parts mode
     → HaveOwnMethods parts
 
@@ -119,38 +120,39 @@ pub record IsOwnStatic (p : Program) (tags : Tagged) (mode : Mode) (fi : ℕ) : 
   pub guarded : IsGuardedStatic p tags fi
   pub own : mode ≡ OnClass guarded.field.class
 
--- What an instruction of a marked section may do, in a frame that is run so; o is the receiver of
--- the section's own frame, and so the section's object where it is on `this`. It writes no place,
--- allocates nothing, prints nothing, neither waits nor notifies; it enters no monitor but the
--- section's own, and reads no place but a frozen one, or a guarded one of the section's own object
--- or class.
-abbrev pub ReadsOnly : Program → Tagged → Mode → (o : ℕ) → Op → Target → List ℕ → Type 0
-ReadsOnly p tags mode o (ops.Putfield i) target stack = ⊥
-ReadsOnly p tags mode o (ops.Putstatic i) target stack = ⊥
-ReadsOnly p tags mode o ops.Iastore target stack = ⊥
-ReadsOnly p tags mode o (ops.New i) target stack = ⊥
-ReadsOnly p tags mode o ops.Newarray target stack = ⊥
-ReadsOnly p tags mode o (ops.Invokevirtual i) targets.Println stack = ⊥
-ReadsOnly p tags mode o (ops.Invokevirtual i) targets.Wait stack = ⊥
-ReadsOnly p tags mode o (ops.Invokevirtual i) targets.Notify stack = ⊥
-ReadsOnly p tags mode o (ops.Invokevirtual i) targets.NotifyAll stack = ⊥
-ReadsOnly p tags mode o (ops.Getstatic i) (targets.Field fi) stack =
+-- What the instruction i of a method may do in a marked section, in a frame that is run so; o is
+-- the receiver of the section's own frame, and so the section's object where it is on `this`. It
+-- writes no place, allocates nothing, prints nothing, neither waits nor notifies; it enters no
+-- monitor but the section's own, and reads no place but a frozen one, or a guarded one of the
+-- section's own object or class.
+abbrev pub ReadsOnly : Program → Tagged → Mode → (o mi i : ℕ) → Op → Target → List ℕ → Type 0
+ReadsOnly p tags mode o mi i (ops.Putfield n) target stack = ⊥
+ReadsOnly p tags mode o mi i (ops.Putstatic n) target stack = ⊥
+ReadsOnly p tags mode o mi i ops.Iastore target stack = ⊥
+ReadsOnly p tags mode o mi i (ops.New n) target stack = ⊥
+ReadsOnly p tags mode o mi i ops.Newarray target stack = ⊥
+ReadsOnly p tags mode o mi i (ops.Invokevirtual n) targets.Println stack = ⊥
+ReadsOnly p tags mode o mi i (ops.Invokevirtual n) targets.Wait stack = ⊥
+ReadsOnly p tags mode o mi i (ops.Invokevirtual n) targets.Notify stack = ⊥
+ReadsOnly p tags mode o mi i (ops.Invokevirtual n) targets.NotifyAll stack = ⊥
+ReadsOnly p tags mode o mi i (ops.Getstatic n) (targets.Field fi) stack =
     IsFrozenStatic p fi ⊎ IsOwnStatic p tags mode fi
-ReadsOnly p tags mode o ops.Iaload target stack = ⊥
-ReadsOnly p tags mode o ops.Monitorenter target stack = (mode ≡ OnThis) × (slice_index stack 0 ≡ o)
-ReadsOnly p tags mode o (ops.Invokevirtual i) (targets.Method u) stack =
+ReadsOnly p tags mode o mi i ops.Iaload target stack = (mode ≡ OnThis) × IsOwnedAt p tags mi i 1
+ReadsOnly p tags mode o mi i ops.Monitorenter target stack =
+    (mode ≡ OnThis) × (slice_index stack 0 ≡ o)
+ReadsOnly p tags mode o mi i (ops.Invokevirtual n) (targets.Method u) stack =
     is_locking (slice_get p.methods u) ≡ true
     → (mode ≡ OnThis) × (slice_index stack (args_of (slice_get p.methods u)) ≡ o)
-ReadsOnly p tags mode o (ops.Invokespecial i) (targets.Method u) stack =
+ReadsOnly p tags mode o mi i (ops.Invokespecial n) (targets.Method u) stack =
     is_locking (slice_get p.methods u) ≡ true
     → (mode ≡ OnThis) × (slice_index stack (args_of (slice_get p.methods u)) ≡ o)
-ReadsOnly p tags mode o (ops.Invokestatic i) (targets.Method u) stack =
+ReadsOnly p tags mode o mi i (ops.Invokestatic n) (targets.Method u) stack =
     is_class_locking (slice_get p.methods u) ≡ true
     → mode ≡ OnClass (class_of_method (slice_get p.methods u))
-ReadsOnly p tags mode o (ops.Getfield i) (targets.Field fi) stack =
+ReadsOnly p tags mode o mi i (ops.Getfield n) (targets.Field fi) stack =
     IsFrozenField p tags fi
     ⊎ (IsGuardedField p tags fi × (mode ≡ OnThis) × (slice_index stack 0 ≡ o))
-ReadsOnly p tags mode o op target stack = Unit {0}
+ReadsOnly p tags mode o mi i op target stack = Unit {0}
 
 -- each method has a tagging
 abbrev pub AreTagged : Program → Tagged → Type 0
@@ -161,35 +163,36 @@ AreTagged p tags =
 
 abbrev pub ReadLaw : Type 0
 ReadLaw =
-    (p : Program) (tags : Tagged) (uses : List FieldUse) (s : Section) (o : ℕ) (a : Part)
-    (parts : List Part) (mode : Mode) (m : MethodInfo) (insn : Insn) (target : Target)
-    (f : TagShape) (stack : List ℕ) → IsProgram p → AreUses p tags uses
-    → HasMark p tags uses s 0 → AreParts p tags s o (a ∷ parts) mode
-    → IsAt p tags a.method a.at m insn target f → HasThis a.receiver f.stack stack
-    → ReadsOnly p tags mode o insn.op target stack
+    (p : Program) (tags : Tagged) (uses : Uses) (s : Section) (o : ℕ) (a : Part) (parts : List Part)
+    (mode : Mode) (m : MethodInfo) (insn : Insn) (target : Target) (f : TagShape)
+    (stack : List ℕ) → IsProgram p → AreUses p tags uses → HasMark p tags uses s 0
+    → AreParts p tags s o (a ∷ parts) mode → IsAt p tags a.method a.at m insn target f
+    → HasThis a.receiver f.stack stack
+    → ReadsOnly p tags mode o a.method a.at insn.op target stack
 
 -- ---- the exit law: a marked section leaves no monitor but its own, and none where it is called
 -- off this
 
 abbrev pub ExitLaw : Type 0
 ExitLaw =
-    (p : Program) (tags : Tagged) (uses : List FieldUse) (s : Section) (o : ℕ) (a : Part)
-    (parts : List Part) (mode : Mode) (m : MethodInfo) (insn : Insn) (target : Target)
-    (f : TagShape) → AreUses p tags uses → AreTagged p tags → HasMark p tags uses s 0
+    (p : Program) (tags : Tagged) (uses : Uses) (s : Section) (o : ℕ) (a : Part) (parts : List Part)
+    (mode : Mode) (m : MethodInfo) (insn : Insn) (target : Target) (f : TagShape)
+    → AreUses p tags uses → AreTagged p tags → HasMark p tags uses s 0
     → AreParts p tags s o (a ∷ parts) mode → IsAt p tags a.method a.at m insn target f
     → insn.op ≡ ops.Monitorexit → (mode ≡ OnThis) × (slice_index_or f.stack 0 Untagged ≡ This)
 
 -- ---- the write law: a guarded field is written on the receiver, in an `<init>` or where its
 -- monitor is entered
 
+abbrev pub IsGuardedBy : MethodInfo → TagShape → Type 0
+IsGuardedBy m f = (is_init m ≡ true) ⊎ (list_any is_this f.held ≡ true) ⊎ (locks_this m ≡ true)
+
 abbrev pub WriteLaw : Type 0
 WriteLaw =
     (p : Program) (tags : Tagged) (fi mi i index receiver : ℕ) (m : MethodInfo) (insn : Insn)
     (target : Target) (f : TagShape) (stack : List ℕ) → IsGuardedField p tags fi
     → IsAt p tags mi i m insn target f → insn.op ≡ ops.Putfield index → target ≡ targets.Field fi
-    → HasThis receiver f.stack stack
-    → (slice_index stack 1 ≡ receiver)
-    × ((is_init m ≡ true) ⊎ (list_any is_this f.held ≡ true) ⊎ (locks_this m ≡ true))
+    → HasThis receiver f.stack stack → (slice_index stack 1 ≡ receiver) × IsGuardedBy m f
 
 -- a guarded static field is written in the `<clinit>` of its class, or where the monitor of that is
 -- entered
@@ -199,6 +202,14 @@ StaticWriteLaw =
     (target : Target) (f : TagShape) (k : IsGuardedStatic p tags fi)
     → IsAt p tags mi i m insn target f → insn.op ≡ ops.Putstatic index → target ≡ targets.Field fi
     → (m.class ≡ k.field.class) × ((is_class_init_name m.name ≡ true) ⊎ (locks_class m ≡ true))
+
+-- an element of an array that `this` owns is written in an `<init>`, or where the monitor of `this`
+-- is entered
+abbrev pub ElementWriteLaw : Type 0
+ElementWriteLaw =
+    (p : Program) (tags : Tagged) (mi i : ℕ) (m : MethodInfo) (insn : Insn) (target : Target)
+    (f : TagShape) → IsProgram p → AreTagged p tags → IsAt p tags mi i m insn target f
+    → insn.op ≡ ops.Iastore → IsOwnedAt p tags mi i 2 → IsGuardedBy m f
 
 -- ---- the final laws: a final field of a frozen class is written on the receiver of an `<init>`
 
@@ -216,3 +227,35 @@ FinalStaticLaw =
     (target : Target) (f : TagShape) (k : IsFrozenStatic p fi) → IsProgram p
     → IsAt p tags mi i m insn target f → insn.op ≡ ops.Putstatic index → target ≡ targets.Field fi
     → (m.class ≡ k.field.class) × (is_class_init_name m.name ≡ true)
+
+-- ---- the array laws: a value that was read from an owned array field stays on the stack of the
+-- method that read it
+
+-- a method has one colouring for a field at most, on the instructions that are reached
+abbrev pub OneColouring : Type 0
+OneColouring =
+    (p : Program) (tags : Tagged) (mi fi i : ℕ) (m : MethodInfo) (insn : Insn) (target : Target)
+    (f : TagShape) (colours others : ℕ → ColourShape) → IsProgram p → AreTagged p tags
+    → IsColouring p tags mi fi colours → IsColouring p tags mi fi others
+    → IsAt p tags mi i m insn target f → colours i ≡ others i
+
+-- no place and no local, no other method and no caller gets it; it is not thrown, locked or
+-- compared
+pub record KeepsArray (p : Program) (m : MethodInfo) (insn : Insn) (target : Target)
+    (colours : ColourShape) : Type 0 where
+  pub locals : (k : ℕ) → is_coloured colours.locals k ≡ false
+  pub taken : TakesArrayWell p m insn target colours
+
+abbrev pub ArrayLaw : Type 0
+ArrayLaw =
+    (p : Program) (tags : Tagged) (fi mi i : ℕ) (m : MethodInfo) (insn : Insn) (target : Target)
+    (f : TagShape) (colours : ℕ → ColourShape) → IsProgram p → AreTagged p tags
+    → IsOwnedArrayField p tags fi → IsColouring p tags mi fi colours
+    → IsAt p tags mi i m insn target f → KeepsArray p m insn target (colours i)
+
+-- whether a place of a stack is coloured for some such field is decided
+abbrev pub OwnedIsDecided : Type 0
+OwnedIsDecided =
+    (p : Program) (tags : Tagged) (uses : Uses) (mi i k : ℕ) (m : MethodInfo) (insn : Insn)
+    (target : Target) (f : TagShape) → IsProgram p → AreTagged p tags → AreUses p tags uses
+    → IsAt p tags mi i m insn target f → IsOwnedAt p tags mi i k ⊎ (IsOwnedAt p tags mi i k → ⊥)

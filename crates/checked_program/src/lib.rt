@@ -18,7 +18,7 @@ pub use laws::{
     called_fit, calls_suit, catchers_are_among, checked_is_sound, frames_have_places, places_hold,
     reach_is_one,
 };
-pub use section::{FieldUse, Mode, SectionMark, Spot};
+pub use section::{FieldUse, Mode, SectionMark, Spot, Uses};
 pub use tag::{Tag, TagFrame, Tags};
 pub use tag_locals::TagLocals;
 pub use tag_order::{meet_tag, same_tag, without_tag};

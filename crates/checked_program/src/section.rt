@@ -1,5 +1,7 @@
 //! Synchronized sections, and which of them may run without their lock.
 
+use jvm_types::Rows;
+
 /// Where a section begins: with its method, or at the `monitorenter` of this pc.
 #[derive(Clone, Copy, Debug, PartialEq, Eq)]
 pub enum Spot {
@@ -38,4 +40,16 @@ pub enum FieldUse {
     /// object or the class is made.
     Guarded,
     Open,
+}
+
+/// What sections that run without their lock may read.
+#[derive(Debug, Drop)]
+pub struct Uses {
+    /// How each field may be read.
+    pub fields: Rows<FieldUse>,
+    /// Of each field whether the arrays that are stored in it never leave its object.
+    pub owners: Rows<bool>,
+    /// For each method, of each instruction: whether it reads an element of an array that `this`
+    /// owns.
+    pub elements: Rows<Rows<bool>>,
 }

@@ -12,7 +12,7 @@ or_two : (x y : Bool) → (x || y) ≡ true → (x ≡ true) ⊎ (y ≡ true)
 or_two true y e = inl refl
 or_two false y e = inr e
 
-or_three : (x y z : Bool) → (x || (y || z)) ≡ true → (x ≡ true) ⊎ (y ≡ true) ⊎ (z ≡ true)
+pub or_three : (x y z : Bool) → (x || (y || z)) ≡ true → (x ≡ true) ⊎ (y ≡ true) ⊎ (z ≡ true)
 or_three true y z e = inl refl
 or_three false true z e = inr (inl refl)
 or_three false false z e = inr (inr e)

@@ -2,10 +2,10 @@
 -- how its fields may be read, are those of the tries of marks.
 use Rattle.std.{proofs.Common.{◌≡◌, ℕ, zero, suc, Bool, true, false, List, [], ◌∷◌, map, Option, Some, None, Result, Ok, Err, ◌⊎◌, refl, subst, slice_get, slice_index}, specs.List.AllByRecursion}
 use Rattle.jvm_types.specs.{ProgramInvariant.IsProgram, declared.{program.{MethodInfo.MethodInfo, Program.Program}, refusal.SRule.SRule}}
-use Rattle.checked_program.specs.{FrozenPlaces.{AreUses, IsFrozenField, IsGuardedField}, LockTags.TagShape, Marks.HasMark, SectionLaws.{Part, AreParts, AreTagged, HasThis, HaveOwnMethods}}
+use Rattle.checked_program.specs.{FrozenPlaces.{IsFrozenField, IsGuardedField}, LockTags.TagShape, Marks.HasMark, OwnedArrays.AreUses, SectionLaws.{Part, AreParts, AreTagged, HasThis, HaveOwnMethods}}
 use Rattle.checked_program.specs.{Sections.Section, TaggedCode.Tagged, Tagging.{tag_plan, HasTagging}, Visits.{PlanNode, next_waiting, plan_visited, plan_nodes, PlanVisits}}
-use Rattle.checked_program.specs.declared.{section.{FieldUse.{FieldUse, TheVariants.{Frozen, Guarded, Open}}, Mode.TheVariants.OnThis, Spot.TheVariants.Method}, tag.Tag.TheVariants.{Untagged, This}}
-use Rattle.checked_program.proofs.TriedPrograms.{many, tags_of, Answer, Accepted, run, after_visit, at_visit, tagged, frames_in}
+use Rattle.checked_program.specs.declared.{section.{FieldUse.TheVariants.{Frozen, Guarded, Open}, Mode.TheVariants.OnThis, Spot.TheVariants.Method, Uses.Uses}, tag.Tag.TheVariants.{Untagged, This}}
+use Rattle.checked_program.proofs.{OwnedChecks.{no_elements, no_owners}, TriedPrograms.{many, tags_of, Answer, Accepted, run, after_visit, at_visit, tagged, frames_in}}
 use Rattle.laws_sections.proofs.{MarkedReads.read_law, MonitorExits.exit_law, SectionCalls.{invoke_law, apart_law}}
 
 -- ---- a method that the computed visits accept has a tagging
@@ -49,8 +49,8 @@ many_is_tagged mi m e = all_tagged many many.methods (refl, (refl, (refl, (refl,
 abbrev tags : Tagged
 tags = tags_of many
 
-abbrev uses : List FieldUse
-uses = Guarded ∷ Guarded ∷ Open ∷ Frozen ∷ []
+abbrev uses : Uses
+uses = record { fields = Guarded ∷ Guarded ∷ Open ∷ Frozen ∷ []; owners = no_owners many; elements = no_elements many }
 
 abbrev section : Section
 section = record { method = 12; spot = Method }

@@ -11,8 +11,10 @@ pub mod TagAnswers
 pub mod TagLocal
 pub mod TagReach
 pub mod TagFree
+pub mod TaggedPaths
 pub mod MarkedReads
 pub mod FieldWrites
+pub mod ArrayColours
 pub mod SectionMoves
 pub mod SectionCalls
 pub mod OneMarks

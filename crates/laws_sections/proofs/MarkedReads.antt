@@ -3,11 +3,12 @@ use Rattle.std.proofs.Common.{◌≡◌, ℕ, zero, suc, ◌≢◌, Bool, true, 
 use Rattle.std.proofs.lemmas.Bool.{cases_eq, eqb-true}
 use Rattle.jvm_types.specs.{Members.is_static, ProgramInvariant.{IsProgram, IsTargetOf, site_in}, declared.{code.{Insn.Insn, Op.Op}, program.{FieldInfo.FieldInfo, MethodInfo.MethodInfo}}}
 use Rattle.jvm_types.specs.declared.program.{Program.Program, Target.Target}
-use Rattle.checked_program.specs.{FrozenPlaces.{AreUses, IsUse, IsFrozenField, IsFrozenStatic, IsFrozenUse, IsGuardedField, IsGuardedUse}, LockTags.TagShape}
-use Rattle.checked_program.specs.Marks.{Callee, callee, Calls, CallsThrough, IsCalledBy, HasMark, section_fault, call_fault, enter_fault, use_fault, args_of, is_locking, is_class_locking, is_own_object, is_own_class, class_of_field, class_of_method, BreaksAt, OwnBreaks, itself, called}
-use Rattle.checked_program.specs.{SectionLaws.{Part, IsSectionPart, AreParts, HasThis, IsOwnStatic, ReadsOnly, ReadLaw}, Sections.{Section, section_mode, IsOwn}, TaggedCode.{Tagged, IsAt}}
-use Rattle.checked_program.specs.declared.{section.{FieldUse.{FieldUse, TheVariants.{Frozen, Guarded, Open}}, Mode.{Mode, TheVariants.{OnThis, OffThis, OnClass}}}, tag.Tag.Tag}
-use Rattle.checked_program.{specs.declared.tag.Tag.TheVariants.{Untagged, This}, proofs.{FrozenChecks.that_is_this, NamedFields.{HasSort, sort_read, sort_read_static, target_named}}}
+use Rattle.checked_program.specs.{FrozenPlaces.{IsUse, AreFieldUses, IsFrozenField, IsFrozenStatic, IsFrozenUse, IsGuardedField, IsGuardedUse}, LockTags.TagShape}
+use Rattle.checked_program.specs.Marks.{Callee, callee, Calls, CallsThrough, IsCalledBy, HasMark, section_fault, call_fault, enter_fault, use_fault, element_fault, args_of, is_locking, is_class_locking, is_own_object, is_own_class, class_of_field, class_of_method, BreaksAt, OwnBreaks, itself, called}
+use Rattle.checked_program.specs.{OwnedArrays.{IsOwnedAt, reads_owned, AreUses}, SectionLaws.{Part, IsSectionPart, AreParts, HasThis, IsOwnStatic, ReadsOnly, ReadLaw}}
+use Rattle.checked_program.specs.{Sections.{Section, section_mode, IsOwn}, TaggedCode.{Tagged, IsAt}, declared.section.{FieldUse.{FieldUse, TheVariants.{Frozen, Guarded, Open}}, Mode.Mode}}
+use Rattle.checked_program.{specs.declared.{section.{Mode.TheVariants.{OnThis, OffThis, OnClass}, Uses.Uses}, tag.Tag.{Tag, TheVariants.{Untagged, This}}}, proofs.FrozenChecks.that_is_this}
+use Rattle.checked_program.proofs.NamedFields.{HasSort, sort_read, sort_read_static, target_named}
 use Rattle.jvm_types.specs.declared.code.Op.TheVariants as ops
 use Rattle.jvm_types.specs.declared.program.Target.TheVariants as targets
 
@@ -27,7 +28,7 @@ own_class (OnClass c) class e = ap (λ (x : ℕ). OnClass x) (sym (eqb-true clas
 
 -- ---- uses
 
-use_at : (p : Program) (tags : Tagged) (uses : List FieldUse) (fi : ℕ) → AreUses p tags uses → (x : FieldUse) → slice_index_or uses fi Open ≡ x → x ≢ Open → IsUse p tags fi x
+use_at : (p : Program) (tags : Tagged) (uses : List FieldUse) (fi : ℕ) → AreFieldUses p tags uses → (x : FieldUse) → slice_index_or uses fi Open ≡ x → x ≢ Open → IsUse p tags fi x
 use_at p tags uses fi a x e n = a.each fi x (got uses fi e)
   where
     got : (us : List FieldUse) (i : ℕ) → slice_index_or us i Open ≡ x → slice_get us i ≡ Some x
@@ -37,7 +38,7 @@ use_at p tags uses fi a x e n = a.each fi x (got uses fi e)
 
 -- ---- what an instruction that breaks no rule does
 
-module _ (p : Program) (tags : Tagged) (uses : List FieldUse) (a : AreUses p tags uses) (o receiver : ℕ) (mode : Mode) (is : mode ≡ OnThis → receiver ≡ o) (ts : List Tag) (vs : List ℕ) (names : HasThis receiver ts vs) where
+module _ (p : Program) (tags : Tagged) (uses : Uses) (a : AreUses p tags uses) (o receiver : ℕ) (mode : Mode) (is : mode ≡ OnThis → receiver ≡ o) (ts : List Tag) (vs : List ℕ) (names : HasThis receiver ts vs) where
   own_place : (k : ℕ) → is_own_object mode (slice_index_or ts k Untagged) ≡ true → (mode ≡ OnThis) × (slice_index vs k ≡ o)
   own_place k e = let h = own_object mode (slice_index_or ts k Untagged) e in (h.0, names k h.1 ∙ is h.0)
 
@@ -56,9 +57,9 @@ module _ (p : Program) (tags : Tagged) (uses : List FieldUse) (a : AreUses p tag
   calls_class class false t e z g = absurd (let bad : false ≡ true = g in cc)
 
   -- a frozen place, or a guarded one of the section's own
-  read : (fi : ℕ) (x : FieldUse) (own : Bool) → slice_index_or uses fi Open ≡ x → use_fault x own ≡ 0 → IsFrozenUse p tags fi ⊎ (IsGuardedUse p tags fi × (own ≡ true))
-  read fi Frozen own e z = inl (use_at p tags uses fi a Frozen e (λ q. cc))
-  read fi Guarded true e z = inr (use_at p tags uses fi a Guarded e (λ q. cc), refl)
+  read : (fi : ℕ) (x : FieldUse) (own : Bool) → slice_index_or uses.fields fi Open ≡ x → use_fault x own ≡ 0 → IsFrozenUse p tags fi ⊎ (IsGuardedUse p tags fi × (own ≡ true))
+  read fi Frozen own e z = inl (use_at p tags uses.fields fi a.fields Frozen e (λ q. cc))
+  read fi Guarded true e z = inr (use_at p tags uses.fields fi a.fields Guarded e (λ q. cc), refl)
   read fi Guarded false e z = absurd (omega (arith, z))
   read fi Open own e z = absurd (omega (arith, z))
 
@@ -75,25 +76,32 @@ module _ (p : Program) (tags : Tagged) (uses : List FieldUse) (a : AreUses p tag
   read_static fi sort (inr (inl g, own)) = absurd (let bad : true ≡ false = sym (sort g.field g.is) ∙ g.instance in cc)
   read_static fi sort (inr (inr s, own)) = inr (record { guarded = s; own = own_class mode s.field.class (subst (λ (x : Option FieldInfo). is_own_class mode (class_of_field x) ≡ true) s.is own) })
 
-  reads_only : (m : MethodInfo) (op : Op) (target : Target) → IsTargetOf p (site_in m) op target → section_fault p uses mode op target ts ≡ 0 → ReadsOnly p tags mode o op target vs
-  reads_only m (ops.Putfield i) target named z = omega (arith, z)
-  reads_only m (ops.Putstatic i) target named z = omega (arith, z)
-  reads_only m ops.Iastore target named z = omega (arith, z)
-  reads_only m (ops.New i) target named z = omega (arith, z)
-  reads_only m ops.Newarray target named z = omega (arith, z)
-  reads_only m ops.Iaload target named z = omega (arith, z)
-  reads_only m (ops.Invokevirtual i) targets.Println named z = omega (arith, z)
-  reads_only m (ops.Invokevirtual i) targets.Wait named z = omega (arith, z)
-  reads_only m (ops.Invokevirtual i) targets.Notify named z = omega (arith, z)
-  reads_only m (ops.Invokevirtual i) targets.NotifyAll named z = omega (arith, z)
-  reads_only m (ops.Getstatic i) (targets.Field fi) named z =
-      read_static fi (sort_read_static p m i fi named) (read fi (slice_index_or uses fi Open) (is_own_class mode (class_of_field (slice_get p.fields fi))) refl z)
-  reads_only m ops.Monitorenter target named z = entered (is_own_object mode (slice_index_or ts 0 Untagged)) refl z
-  reads_only m (ops.Invokevirtual i) (targets.Method u) named z = is_called (args_of (slice_get p.methods u)) (is_locking (slice_get p.methods u)) (is_own_object mode (slice_index_or ts (args_of (slice_get p.methods u)) Untagged)) refl z
-  reads_only m (ops.Invokespecial i) (targets.Method u) named z = is_called (args_of (slice_get p.methods u)) (is_locking (slice_get p.methods u)) (is_own_object mode (slice_index_or ts (args_of (slice_get p.methods u)) Untagged)) refl z
-  reads_only m (ops.Invokestatic i) (targets.Method u) named z = calls_class (class_of_method (slice_get p.methods u)) (is_class_locking (slice_get p.methods u)) (is_own_class mode (class_of_method (slice_get p.methods u))) refl z
-  reads_only m (ops.Getfield i) (targets.Field fi) named z = read_field fi (sort_read p m i fi named) (read fi (slice_index_or uses fi Open) (is_own_object mode (slice_index_or ts 0 Untagged)) refl z)
-  reads_only m op target named z = tt
+  -- an element of an array that `this` owns
+  element : (mi i : ℕ) (x : Mode) (owned : Bool) → mode ≡ x → reads_owned uses mi i ≡ owned → element_fault x owned ≡ 0 → (mode ≡ OnThis) × IsOwnedAt p tags mi i 1
+  element mi i OnThis true e k z = (e, ((a.elements mi i).0 k).owned)
+  element mi i OnThis false e k z = absurd (omega (arith, z))
+  element mi i OffThis owned e k z = absurd (omega (arith, z))
+  element mi i (OnClass class) owned e k z = absurd (omega (arith, z))
+
+  reads_only : (mi i : ℕ) (m : MethodInfo) (op : Op) (target : Target) → IsTargetOf p (site_in m) op target → section_fault p uses.fields mode op target ts (reads_owned uses mi i) ≡ 0 → ReadsOnly p tags mode o mi i op target vs
+  reads_only mi i m (ops.Putfield n) target named z = omega (arith, z)
+  reads_only mi i m (ops.Putstatic n) target named z = omega (arith, z)
+  reads_only mi i m ops.Iastore target named z = omega (arith, z)
+  reads_only mi i m (ops.New n) target named z = omega (arith, z)
+  reads_only mi i m ops.Newarray target named z = omega (arith, z)
+  reads_only mi i m ops.Iaload target named z = element mi i mode (reads_owned uses mi i) refl refl z
+  reads_only mi i m (ops.Invokevirtual n) targets.Println named z = omega (arith, z)
+  reads_only mi i m (ops.Invokevirtual n) targets.Wait named z = omega (arith, z)
+  reads_only mi i m (ops.Invokevirtual n) targets.Notify named z = omega (arith, z)
+  reads_only mi i m (ops.Invokevirtual n) targets.NotifyAll named z = omega (arith, z)
+  reads_only mi i m (ops.Getstatic n) (targets.Field fi) named z =
+      read_static fi (sort_read_static p m n fi named) (read fi (slice_index_or uses.fields fi Open) (is_own_class mode (class_of_field (slice_get p.fields fi))) refl z)
+  reads_only mi i m ops.Monitorenter target named z = entered (is_own_object mode (slice_index_or ts 0 Untagged)) refl z
+  reads_only mi i m (ops.Invokevirtual n) (targets.Method u) named z = is_called (args_of (slice_get p.methods u)) (is_locking (slice_get p.methods u)) (is_own_object mode (slice_index_or ts (args_of (slice_get p.methods u)) Untagged)) refl z
+  reads_only mi i m (ops.Invokespecial n) (targets.Method u) named z = is_called (args_of (slice_get p.methods u)) (is_locking (slice_get p.methods u)) (is_own_object mode (slice_index_or ts (args_of (slice_get p.methods u)) Untagged)) refl z
+  reads_only mi i m (ops.Invokestatic n) (targets.Method u) named z = calls_class (class_of_method (slice_get p.methods u)) (is_class_locking (slice_get p.methods u)) (is_own_class mode (class_of_method (slice_get p.methods u))) refl z
+  reads_only mi i m (ops.Getfield n) (targets.Field fi) named z = read_field fi (sort_read p m n fi named) (read fi (slice_index_or uses.fields fi Open) (is_own_object mode (slice_index_or ts 0 Untagged)) refl z)
+  reads_only mi i m op target named z = tt
 
 -- ---- the frames of a section
 
@@ -123,33 +131,34 @@ on_receiver p tags s o a [] mode h e = let last : IsSectionPart p tags s o a mod
 on_receiver p tags s o a (b ∷ parts) mode h e = h.3 e
 
 -- a marked section breaks no rule
-pub own_no_fault : (p : Program) (tags : Tagged) (uses : List FieldUse) (s : Section) (i : ℕ) (m : MethodInfo) (insn : Insn) (target : Target) (f : TagShape)
-    → HasMark p tags uses s 0 → IsOwn p tags s.method s.spot i → IsAt p tags s.method i m insn target f → section_fault p uses (section_mode p s) insn.op target f.stack ≡ 0
+pub own_no_fault : (p : Program) (tags : Tagged) (uses : Uses) (s : Section) (i : ℕ) (m : MethodInfo) (insn : Insn) (target : Target) (f : TagShape)
+    → HasMark p tags uses s 0 → IsOwn p tags s.method s.spot i → IsAt p tags s.method i m insn target f → section_fault p uses.fields (section_mode p s) insn.op target f.stack (reads_owned uses s.method i) ≡ 0
 own_no_fault p tags uses s i m insn target f k own at = ⊎_elim (λ q. q)
-    (λ (q : section_fault p uses (section_mode p s) insn.op target f.stack ≢ 0).
-    let n : ℕ = section_fault p uses (section_mode p s) insn.op target f.stack in
+    (λ (q : section_fault p uses.fields (section_mode p s) insn.op target f.stack (reads_owned uses s.method i) ≢ 0).
+    let n : ℕ = section_fault p uses.fields (section_mode p s) insn.op target f.stack (reads_owned uses s.method i) in
     let breaks : BreaksAt p tags uses (callee s.method (section_mode p s)) i n = record { m = m; insn = insn; target = target; f = f; at = at; fault_is = refl; some = omega (arith, q) } in
     let breaks : OwnBreaks p tags uses s n = record { i = i; own = own; breaks = breaks } in
     absurd (k n (itself breaks)))
-    (cases_eq (section_fault p uses (section_mode p s) insn.op target f.stack) 0)
+    (cases_eq (section_fault p uses.fields (section_mode p s) insn.op target f.stack (reads_owned uses s.method i)) 0)
 
 -- nor does a method that it calls
-pub called_no_fault : (p : Program) (tags : Tagged) (uses : List FieldUse) (s : Section) (o i : ℕ) (a b : Part) (parts : List Part) (mode : Mode) (m : MethodInfo) (insn : Insn) (target : Target) (f : TagShape)
-    → HasMark p tags uses s 0 → AreParts p tags s o (a ∷ b ∷ parts) mode → IsAt p tags a.method i m insn target f → section_fault p uses mode insn.op target f.stack ≡ 0
+pub called_no_fault : (p : Program) (tags : Tagged) (uses : Uses) (s : Section) (o i : ℕ) (a b : Part) (parts : List Part) (mode : Mode) (m : MethodInfo) (insn : Insn) (target : Target) (f : TagShape)
+    → HasMark p tags uses s 0 → AreParts p tags s o (a ∷ b ∷ parts) mode → IsAt p tags a.method i m insn target f → section_fault p uses.fields mode insn.op target f.stack (reads_owned uses a.method i) ≡ 0
 called_no_fault p tags uses s o i a b parts mode m insn target f k h at = ⊎_elim (λ q. q)
-    (λ (q : section_fault p uses mode insn.op target f.stack ≢ 0).
-    let n : ℕ = section_fault p uses mode insn.op target f.stack in
+    (λ (q : section_fault p uses.fields mode insn.op target f.stack (reads_owned uses a.method i) ≢ 0).
+    let n : ℕ = section_fault p uses.fields mode insn.op target f.stack (reads_owned uses a.method i) in
     let breaks : BreaksAt p tags uses (callee a.method mode) i n = record { m = m; insn = insn; target = target; f = f; at = at; fault_is = refl; some = omega (arith, q) } in
     absurd (k 6 (called refl (record { called = callee a.method mode; is_called = part_called p tags s o a b parts mode h; i = i; n = n; breaks = breaks }))))
-    (cases_eq (section_fault p uses mode insn.op target f.stack) 0)
+    (cases_eq (section_fault p uses.fields mode insn.op target f.stack (reads_owned uses a.method i)) 0)
 
-no_fault : (p : Program) (tags : Tagged) (uses : List FieldUse) (s : Section) (o : ℕ) (a : Part) (parts : List Part) (mode : Mode) (m : MethodInfo) (insn : Insn) (target : Target) (f : TagShape)
-    → HasMark p tags uses s 0 → AreParts p tags s o (a ∷ parts) mode → IsAt p tags a.method a.at m insn target f → section_fault p uses mode insn.op target f.stack ≡ 0
+no_fault : (p : Program) (tags : Tagged) (uses : Uses) (s : Section) (o : ℕ) (a : Part) (parts : List Part) (mode : Mode) (m : MethodInfo) (insn : Insn) (target : Target) (f : TagShape)
+    → HasMark p tags uses s 0 → AreParts p tags s o (a ∷ parts) mode → IsAt p tags a.method a.at m insn target f → section_fault p uses.fields mode insn.op target f.stack (reads_owned uses a.method a.at) ≡ 0
 no_fault p tags uses s o a [] mode m insn target f k h at =
     let last : IsSectionPart p tags s o a mode = h in
-    subst (λ was. section_fault p uses was insn.op target f.stack ≡ 0) (sym last.mode_is) (own_no_fault p tags uses s a.at m insn target f k last.own (subst (λ mi. IsAt p tags mi a.at m insn target f) last.method at))
+    subst (λ was. section_fault p uses.fields was insn.op target f.stack (reads_owned uses a.method a.at) ≡ 0) (sym last.mode_is)
+    (subst (λ (mi : ℕ). section_fault p uses.fields (section_mode p s) insn.op target f.stack (reads_owned uses mi a.at) ≡ 0) (sym last.method) (own_no_fault p tags uses s a.at m insn target f k last.own (subst (λ mi. IsAt p tags mi a.at m insn target f) last.method at)))
 no_fault p tags uses s o a (b ∷ parts) mode m insn target f k h at = called_no_fault p tags uses s o a.at a b parts mode m insn target f k h at
 
 pub read_law : ReadLaw
 read_law p tags uses s o a parts mode m insn target f stack program u k h at names =
-    reads_only p tags uses u o a.receiver mode (on_receiver p tags s o a parts mode h) f.stack stack names m insn.op target (target_named p tags a.method a.at m insn target f program at) (no_fault p tags uses s o a parts mode m insn target f k h at)
+    reads_only p tags uses u o a.receiver mode (on_receiver p tags s o a parts mode h) f.stack stack names a.method a.at m insn.op target (target_named p tags a.method a.at m insn target f program at) (no_fault p tags uses s o a parts mode m insn target f k h at)

@@ -2,10 +2,10 @@
 -- is that of the object, and a `monitorexit` takes the innermost.
 use Rattle.std.proofs.Common.{◌≡◌, ℕ, ◌<◌, Bool, true, false, not, List, [], ◌∷◌, length, Some, refl, sym, ap, ◌∙◌, subst, arith, ⊎_elim, inl, inr, ◌⊎◌, slice_get, slice_index_or}
 use Rattle.jvm_types.specs.declared.{code.Insn.Insn, program.{MethodInfo.MethodInfo, Program.Program, Target.Target}}
-use Rattle.checked_program.specs.{LockTags.{TagShape, same_tag}, Marks.{section_fault, enter_fault, is_own_object, HasMark, IsOnOwn, elsewhere}, SectionLaws.{IsSectionPart, AreTagged, ExitLaw}}
-use Rattle.checked_program.specs.{Sections.{Section, section_mode, mode_of_spot, IsDeep, StaysDeep, BeginsAt, IsInBlock, IsOwn}, TaggedCode.{Tagged, IsAt, IsReachedEdge, Goes}}
-use Rattle.checked_program.specs.{Tagging.{is_innermost, exits_other, HasTagging}, declared.section.{FieldUse.FieldUse, Mode.{Mode, TheVariants.OnThis}, Spot.{Spot, TheVariants.{Method, Block}}}}
-use Rattle.checked_program.specs.declared.tag.Tag.{Tag, TheVariants.{Untagged, This, At}}
+use Rattle.checked_program.specs.{LockTags.{TagShape, same_tag}, Marks.{section_fault, enter_fault, is_own_object, HasMark, IsOnOwn, elsewhere}, OwnedArrays.reads_owned}
+use Rattle.checked_program.specs.{SectionLaws.{IsSectionPart, AreTagged, ExitLaw}, Sections.{Section, section_mode, mode_of_spot, IsDeep, StaysDeep, BeginsAt, IsInBlock, IsOwn}}
+use Rattle.checked_program.specs.{TaggedCode.{Tagged, IsAt, IsReachedEdge, Goes}, Tagging.{is_innermost, exits_other, HasTagging}, declared.section.{FieldUse.FieldUse, Mode.Mode}}
+use Rattle.checked_program.specs.declared.{section.{Mode.TheVariants.OnThis, Spot.{Spot, TheVariants.{Method, Block}}, Uses.Uses}, tag.Tag.{Tag, TheVariants.{Untagged, This, At}}}
 use Rattle.laws_sections.{specs.FrameLaws.{HeldLaw, BlockLaw}, proofs.HeldTags.{one_first, AreOwn, own_along, sound_at, framed_first, held_kept, all_own}}
 use Rattle.laws_sections.proofs.{MarkedReads.{own_object, own_no_fault, called_no_fault}, SectionMoves.{one_frame, deep_more, own_deep}, VisitedNodes.IsFirstOf}
 use Rattle.jvm_types.specs.declared.code.Op.TheVariants as ops
@@ -16,8 +16,8 @@ enters_own : (t : Bool) → enter_fault t ≡ 0 → t ≡ true
 enters_own true e = refl
 enters_own false e = absurd (omega (arith, e))
 
-fault_own : (p : Program) (uses : List FieldUse) (mode : Mode) (insn : Insn) (target : Target) (ts : List Tag) → insn.op ≡ ops.Monitorenter → section_fault p uses mode insn.op target ts ≡ 0 → is_own_object mode (slice_index_or ts 0 Untagged) ≡ true
-fault_own p uses mode insn target ts e none = enters_own (is_own_object mode (slice_index_or ts 0 Untagged)) (subst (λ op. section_fault p uses mode op target ts ≡ 0) e none)
+fault_own : (p : Program) (uses : List FieldUse) (mode : Mode) (insn : Insn) (target : Target) (ts : List Tag) (owned : Bool) → insn.op ≡ ops.Monitorenter → section_fault p uses mode insn.op target ts owned ≡ 0 → is_own_object mode (slice_index_or ts 0 Untagged) ≡ true
+fault_own p uses mode insn target ts owned e none = enters_own (is_own_object mode (slice_index_or ts 0 Untagged)) (subst (λ op. section_fault p uses mode op target ts owned ≡ 0) e none)
 
 -- the tag that is left is the innermost held one
 innermost : (mode : Mode) (t : Tag) (held : List Tag) → not (is_innermost t held) ≡ false → (0 < length held → is_own_object mode (slice_index_or held 0 Untagged) ≡ true) → (mode ≡ OnThis) × (t ≡ This)
@@ -77,7 +77,7 @@ module _ (p : Program) (tags : Tagged) (tagged : AreTagged p tags) where
 
   -- ---- a block on the section's object
 
-  module _ (uses : List FieldUse) (s : Section) (mark : HasMark p tags uses s 0) (pc : ℕ) (is_block : s.spot ≡ Block pc) where
+  module _ (uses : Uses) (s : Section) (mark : HasMark p tags uses s 0) (pc : ℕ) (is_block : s.spot ≡ Block pc) where
     -- but for so many outermost ones, the held tags of the instruction are of the section's object
     abbrev OwnFrom : ℕ → ℕ → Type 0
     OwnFrom depth i = (m : MethodInfo) (insn : Insn) (target : Target) (f : TagShape) → IsAt p tags s.method i m insn target f → AreOwn OnThis depth f.held
@@ -95,7 +95,7 @@ module _ (p : Program) (tags : Tagged) (tagged : AreTagged p tags) where
     enters_inside i inside m insn target f at e =
         let own : IsOwn p tags s.method s.spot i = subst (λ spot. IsOwn p tags s.method spot i) (sym is_block) inside in
         let on_this : section_mode p s ≡ OnThis = ap (mode_of_spot (slice_get p.methods s.method)) is_block in
-        fault_own p uses OnThis insn target f.stack e (subst (λ (x : Mode). section_fault p uses x insn.op target f.stack ≡ 0) on_this (own_no_fault p tags uses s i m insn target f mark own at))
+        fault_own p uses.fields OnThis insn target f.stack (reads_owned uses s.method i) e (subst (λ (x : Mode). section_fault p uses.fields x insn.op target f.stack (reads_owned uses s.method i) ≡ 0) on_this (own_no_fault p tags uses s i m insn target f mark own at))
 
     first_deep : (depth i : ℕ) (over : List ℕ) (j : ℕ) → StaysDeep p tags s.method depth i over j → IsDeep p tags s.method depth i
     first_deep depth i [] j stays = stays.1
@@ -163,7 +163,7 @@ block_law p tags uses s i receiver m insn target f stack tagged k spot at enters
 
 pub exit_law : ExitLaw
 exit_law p tags uses s o a (b ∷ parts) mode m insn target f u tagged k h at exits =
-    exits_whole p tags tagged mode a.method a.at m insn target f (λ i n x t g at e. fault_own p uses mode x t g.stack e (called_no_fault p tags uses s o i a b parts mode n x t g k h at)) at exits
+    exits_whole p tags tagged mode a.method a.at m insn target f (λ i n x t g at e. fault_own p uses.fields mode x t g.stack (reads_owned uses a.method i) e (called_no_fault p tags uses s o i a b parts mode n x t g k h at)) at exits
 exit_law p tags uses s o a [] mode m insn target f u tagged k h at exits =
     let last : IsSectionPart p tags s o a mode = h in
     let left = by_spot s.spot refl last.own (subst (λ mi. IsAt p tags mi a.at m insn target f) last.method at) in
@@ -172,5 +172,5 @@ exit_law p tags uses s o a [] mode m insn target f u tagged k h at exits =
     by_spot : (spot : Spot) → s.spot ≡ spot → IsOwn p tags s.method s.spot a.at → IsAt p tags s.method a.at m insn target f → (section_mode p s ≡ OnThis) × (slice_index_or f.stack 0 Untagged ≡ This)
     by_spot Method e own at =
         exits_whole p tags tagged (section_mode p s) s.method a.at m insn target f
-        (λ i n x t g at e'. fault_own p uses (section_mode p s) x t g.stack e' (own_no_fault p tags uses s i n x t g k (subst (λ spot. IsOwn p tags s.method spot i) (sym e) (record { m = n; insn = x; target = t; f = g; at = at })) at)) at exits
+        (λ i n x t g at e'. fault_own p uses.fields (section_mode p s) x t g.stack (reads_owned uses s.method i) e' (own_no_fault p tags uses s i n x t g k (subst (λ spot. IsOwn p tags s.method spot i) (sym e) (record { m = n; insn = x; target = t; f = g; at = at })) at)) at exits
     by_spot (Block pc) e own at = (ap (mode_of_spot (slice_get p.methods s.method)) e, exits_inside p tags tagged uses s k pc e a.at m insn target f (subst (λ spot. IsOwn p tags s.method spot a.at) e own) at exits)

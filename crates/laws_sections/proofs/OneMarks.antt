@@ -1,9 +1,9 @@
--- Each field has one use, and each section one mark.
-use Rattle.std.proofs.Common.{◌≡◌, ℕ, zero, suc, ◌<◌, ⊎_elim, Bool, true, false, cond, List, [], ◌∷◌, length, Some, refl, sym, ap, ◌∙◌, subst, arith, inl, inr, ◌⊎◌, ◌==◌, slice_get}
+-- Each field has one use, each element is read or not, and each section has one mark.
+use Rattle.std.proofs.Common.{◌≡◌, ℕ, zero, suc, ◌<◌, ⊎_elim, Bool, true, false, cond, List, [], ◌∷◌, length, Some, refl, sym, ap, ◌∙◌, subst, arith, inl, inr, ◌⊎◌, ◌↔◌, ◌==◌, slice_get, slice_index_or}
 use Rattle.std.{specs.List.AllZip, proofs.lemmas.{Bool.{cases_order, Decides.nat_tests}, Option.same_Some}}
-use Rattle.jvm_types.specs.{Members.is_final, declared.program.{FieldInfo.FieldInfo, Program.Program}}
-use Rattle.checked_program.specs.{FrozenPlaces.{IsFrozenUse, IsGuardedUse, IsUse}, Marks.{turn, HasMark, IsMarkOf}, Sections.{Section, sections}, TaggedCode.Tagged, declared.section.FieldUse.FieldUse}
-use Rattle.checked_program.specs.declared.section.{FieldUse.TheVariants.{Frozen, Guarded, Open}, SectionMark.SectionMark}
+use Rattle.jvm_types.specs.{Members.is_final, declared.program.{FieldInfo.FieldInfo, MethodInfo.MethodInfo, Program.Program}}
+use Rattle.checked_program.specs.{FrozenPlaces.{IsFrozenUse, IsGuardedUse, IsUse}, Marks.{turn, HasMark, IsMarkOf}, OwnedArrays.{IsOwnedArrayField, ReadsOwned, owns_arrays, reads_owned}}
+use Rattle.checked_program.specs.{Sections.{Section, sections}, TaggedCode.Tagged, declared.section.{FieldUse.{FieldUse, TheVariants.{Frozen, Guarded, Open}}, SectionMark.SectionMark, Uses.Uses}}
 use Rattle.laws_sections.specs.MarkLaws.{OneUse, OneMark}
 
 -- ---- uses
@@ -46,8 +46,43 @@ same_items (x ∷ xs) (y ∷ ys) l h =
     let more : xs ≡ ys = same_items xs ys (omega (arith, l)) (λ i a b e f. h (suc i) a b e f) in
     cc
 
+-- ---- elements
+
+one_flag : (b c : Bool) (X : Type 0) → (b ≡ true) ↔ X → (c ≡ true) ↔ X → b ≡ c
+one_flag true true X h k = refl
+one_flag false false X h k = refl
+one_flag true false X h k = sym (k.1 (h.0 refl))
+one_flag false true X h k = h.1 (k.0 refl)
+
+one_row : (xs ys : List Bool) → length xs ≡ length ys → ((i : ℕ) → slice_index_or xs i false ≡ slice_index_or ys i false) → xs ≡ ys
+one_row [] [] l h = refl
+one_row [] (y ∷ ys) l h = absurd (omega (arith, l))
+one_row (x ∷ xs) [] l h = absurd (omega (arith, l))
+one_row (x ∷ xs) (y ∷ ys) l h =
+    let first : x ≡ y = h 0 in
+    let more : xs ≡ ys = one_row xs ys (omega (arith, l)) (λ i. h (suc i)) in
+    cc
+
+one_table : (ms : List MethodInfo) (xs ys : List (List Bool)) → AllZip (λ (m : MethodInfo) (flags : List Bool). length flags ≡ length m.code) ms xs → AllZip (λ (m : MethodInfo) (flags : List Bool). length flags ≡ length m.code) ms ys
+    → ((mi i : ℕ) → slice_index_or (slice_index_or xs mi []) i false ≡ slice_index_or (slice_index_or ys mi []) i false) → xs ≡ ys
+one_table [] [] [] a b h = refl
+one_table [] (x ∷ xs) ys a b h = absurd a
+one_table [] [] (y ∷ ys) a b h = absurd b
+one_table (m ∷ ms) [] ys a b h = absurd a
+one_table (m ∷ ms) (x ∷ xs) [] a b h = absurd b
+one_table (m ∷ ms) (x ∷ xs) (y ∷ ys) a b h =
+    let first : x ≡ y = one_row x y (a.0 ∙ sym b.0) (h 0) in
+    let more : xs ≡ ys = one_table ms xs ys a.1 b.1 (λ mi i. h (suc mi) i) in
+    cc
+
 pub one_use : OneUse
-one_use p tags uses others a b = same_items uses others (a.long ∙ sym b.long) (λ i u v e f. one_use_at p tags i u v (a.each i u e) (b.each i v f))
+one_use p tags uses others a b =
+    let fields : uses.fields ≡ others.fields = same_items uses.fields others.fields (a.fields.long ∙ sym b.fields.long) (λ i u v e f. one_use_at p tags i u v (a.fields.each i u e) (b.fields.each i v f)) in
+    let owners : uses.owners ≡ others.owners = one_row uses.owners others.owners (a.few ∙ sym b.few)
+    (λ fi. one_flag (owns_arrays uses fi) (owns_arrays others fi) (IsOwnedArrayField p tags fi) (a.owners fi) (b.owners fi)) in
+    let elements : uses.elements ≡ others.elements = one_table p.methods uses.elements others.elements a.long b.long
+    (λ mi i. one_flag (reads_owned uses mi i) (reads_owned others mi i) (ReadsOwned p tags mi i) (a.elements mi i) (b.elements mi i)) in
+    λ i. record { fields = fields i; owners = owners i; elements = elements i }
 
 -- ---- marks
 
@@ -60,7 +95,7 @@ turn_once m n e = by_tests (suc m == 8) (suc n == 8) refl refl e
     by_tests false true a b e = absurd (omega (arith, e))
     by_tests false false a b e = omega (arith, e)
 
-one_mark_of : (p : Program) (tags : Tagged) (uses : List FieldUse) (s : Section) (m n : ℕ) → HasMark p tags uses s m → HasMark p tags uses s n → m ≡ n
+one_mark_of : (p : Program) (tags : Tagged) (uses : Uses) (s : Section) (m n : ℕ) → HasMark p tags uses s m → HasMark p tags uses s n → m ≡ n
 one_mark_of p tags uses s zero zero a b = refl
 one_mark_of p tags uses s zero (suc n) a b = absurd (a (suc n) b.0)
 one_mark_of p tags uses s (suc m) zero a b = absurd (b (suc m) a.0)
@@ -69,14 +104,14 @@ one_mark_of p tags uses s (suc m) (suc n) a b = ⊎_elim
     (λ h. absurd (⊎_elim (λ (l : turn (suc m) < turn (suc n)). b.1 (suc m) l a.0) (λ (l : turn (suc n) < turn (suc m)). a.1 (suc n) l b.0) h))
     (cases_order (turn (suc m)) (turn (suc n)))
 
-one_marked : (p : Program) (tags : Tagged) (uses : List FieldUse) (s : Section) (a b : SectionMark) → IsMarkOf p tags uses s a → IsMarkOf p tags uses s b → a ≡ b
+one_marked : (p : Program) (tags : Tagged) (uses : Uses) (s : Section) (a b : SectionMark) → IsMarkOf p tags uses s a → IsMarkOf p tags uses s b → a ≡ b
 one_marked p tags uses s a b h k =
     let method : a.method ≡ b.method = h.method ∙ sym k.method in
     let spot : a.spot ≡ b.spot = h.spot ∙ sym k.spot in
     let mark : a.mark ≡ b.mark = one_mark_of p tags uses s a.mark b.mark h.mark_is k.mark_is in
     λ i. record { method = method i; spot = spot i; mark = mark i }
 
-all_marked : (p : Program) (tags : Tagged) (uses : List FieldUse) (ss : List Section) (marks others : List SectionMark) → AllZip (IsMarkOf p tags uses) ss marks → AllZip (IsMarkOf p tags uses) ss others → marks ≡ others
+all_marked : (p : Program) (tags : Tagged) (uses : Uses) (ss : List Section) (marks others : List SectionMark) → AllZip (IsMarkOf p tags uses) ss marks → AllZip (IsMarkOf p tags uses) ss others → marks ≡ others
 all_marked p tags uses [] [] [] a b = refl
 all_marked p tags uses [] (m ∷ marks) others a b = absurd a
 all_marked p tags uses [] [] (n ∷ others) a b = absurd b

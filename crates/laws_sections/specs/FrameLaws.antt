@@ -16,7 +16,7 @@ use Rattle.checked_program.specs.Sections.{Section, section_mode, IsOwn}
 use Rattle.checked_program.specs.Marks.{called_method, args_of, receiver_tag, called_mode, HasMark}
 use Rattle.checked_program.specs.SectionLaws.{Part, AreParts, AreTagged, HasThis}
 use Rattle.checked_program.specs.declared.tag.Tag.{Tag}
-use Rattle.checked_program.specs.declared.section.FieldUse.{FieldUse}
+use Rattle.checked_program.specs.declared.section.Uses.{Uses}
 use Rattle.checked_program.specs.declared.section.Mode.{Mode}
 use Rattle.checked_program.specs.declared.section.Mode.TheVariants.{OnThis, OnClass}
 use Rattle.checked_program.specs.declared.section.Spot.TheVariants.{Block}
@@ -45,11 +45,10 @@ BeginLaw =
 -- a marked block is on the receiver: that is what its `monitorenter` takes
 abbrev pub BlockLaw : Type 0
 BlockLaw =
-    (p : Program) (tags : Tagged) (uses : List FieldUse) (s : Section) (i receiver : ℕ)
-    (m : MethodInfo) (insn : Insn) (target : Target) (f : TagShape) (stack : List ℕ)
-    → AreTagged p tags → HasMark p tags uses s 0 → s.spot ≡ Block insn.pc
-    → IsAt p tags s.method i m insn target f → insn.op ≡ ops.Monitorenter
-    → HasThis receiver f.stack stack → slice_index stack 0 ≡ receiver
+    (p : Program) (tags : Tagged) (uses : Uses) (s : Section) (i receiver : ℕ) (m : MethodInfo)
+    (insn : Insn) (target : Target) (f : TagShape) (stack : List ℕ) → AreTagged p tags
+    → HasMark p tags uses s 0 → s.spot ≡ Block insn.pc → IsAt p tags s.method i m insn target f
+    → insn.op ≡ ops.Monitorenter → HasThis receiver f.stack stack → slice_index stack 0 ≡ receiver
 
 -- ---- invocation: the called frame stands above the calling one
 

@@ -2,6 +2,7 @@
 //! that run without their lock; each the contract of a function that does nothing.
 #![tactic(auto)]
 
+pub mod array_laws;
 pub mod field_laws;
 pub mod frame_laws;
 pub mod local_laws;
@@ -10,6 +11,7 @@ pub mod object_laws;
 pub mod reach_laws;
 pub mod visit_laws;
 
+pub use array_laws::{arrays_stay, colourings_are_one, elements_written_locked, owned_is_decided};
 pub use field_laws::{
     final_statics_written_inside, finals_written_inside, guarded_written_locked,
     statics_written_locked,

@@ -2,7 +2,7 @@
 
 ghost use Rattle.laws_sections.specs.MarkLaws.{OneMark, OneUse};
 
-/// Each field may be read in one way.
+/// Each field may be read in one way, and each element either may or may not.
 pub fn one_use()
     ensures { OneUse }
 {}
