@@ -8,7 +8,7 @@ use Rattle.code_table.{specs.PcTables.number_at, proofs.NumbersExact.exact}
 use Rattle.graph_closure.specs.Chains.{IsIn}
 use Rattle.checked_program.specs.{LockTags.{TagShape, is_this}, Marks.{IsOnOwn, HasMark, IsMarkOf}, Sections.{IsDeep, StaysDeep, BeginsAt, IsOwn}}
 use Rattle.checked_program.specs.{TaggedCode.{tagged_by, IsAt, IsReachedEdge, Goes, onward, caught, row_of}, Tagging.{catches_all, until_all, catchers, tags_after, tags_at_handler}}
-use Rattle.checked_program.specs.declared.{section.{FieldUse.FieldUse, Mode.TheVariants.OnThis, Spot.TheVariants.Block}, tag.{Tag.{Tag, TheVariants.{Untagged, This, At}}, Tags.Tags}}
+use Rattle.checked_program.specs.declared.{section.{Mode.TheVariants.OnThis, Spot.TheVariants.Block, Uses.Uses}, tag.{Tag.{Tag, TheVariants.{Untagged, This, At}}, Tags.Tags}}
 use Rattle.frozen_classes.proofs.KeptInside.{stands_to}
 use Rattle.guard_analysis.specs.BlockWalks.{handler_pcs, catch_pcs, way_pcs, ways_from, ways_at, deep_at, is_deep, IsPathInBlock, IsInside}
 use Rattle.guard_analysis.{specs.SectionGrades.{depth_on_this, entry_depth_at, AreGrades, IsBlockMark, section_in}, proofs.CallEdges.{with_tags, frames_there}}
@@ -245,7 +245,7 @@ module _ (p : Program) (tags : List Tags) (is : IsProgram p) (mi : ℕ) (m : Met
         let bad : None ≡ Some (length o.1.held) = sym none ∙ is_some in
         cc
 
-    module _ (uses : List FieldUse) (grades : List ℕ) (are : AreGrades p (tagged_by tags) uses OnThis mi m grades) where
+    module _ (uses : Uses) (grades : List ℕ) (are : AreGrades p (tagged_by tags) uses OnThis mi m grades) where
       block_has : (o : Option ℕ) (n : ℕ) → entry_depth_at m t.frames enter ≡ o → IsBlockMark m t.frames grades enter o n → HasMark p (tagged_by tags) uses (section_in mi (Block insn.pc)) n
       block_has None n e b = subst (λ k. HasMark p (tagged_by tags) uses (section_in mi (Block insn.pc)) k) (sym b) (has_elsewhere p (tagged_by tags) uses (section_in mi (Block insn.pc)) (off_this e))
       block_has (Some depth) n e b =

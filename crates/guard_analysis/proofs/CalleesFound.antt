@@ -5,22 +5,22 @@ use Rattle.jvm_types.specs.{Members.{is_static, is_synchronized}, ProgramInvaria
 use Rattle.graph_closure.specs.{LeastSet.IsGraph, Walks.{IsEdge, Walks, Leads, AreLeading, AreRecurring}}
 use Rattle.checked_program.specs.{FrozenPlaces.locks_class, LockTags.TagShape}
 use Rattle.checked_program.specs.Marks.{Callee, callee, Calls, Invokes, CallsThrough, CallsItself, BreaksAt, section_fault, receiver_tag, is_own_object, mode_if, called_mode}
-use Rattle.checked_program.specs.{TaggedCode.{Tagged, tagged_by}, declared.{call_edges.Graph.Graph, section.{FieldUse.FieldUse, Mode.{Mode, TheVariants.{OnThis, OffThis, OnClass}}}, tag.Tag.Tag}}
-use Rattle.checked_program.specs.declared.tag.Tags.{Tags}
+use Rattle.checked_program.specs.{OwnedArrays.reads_owned, TaggedCode.{Tagged, tagged_by}, declared.{call_edges.Graph.Graph, section.{Mode.{Mode, TheVariants.{OnThis, OffThis, OnClass}}, Uses.Uses}}}
+use Rattle.checked_program.specs.declared.tag.{Tag.Tag, Tags.Tags}
 use Rattle.guard_analysis.specs.CallGraph.{node_of, mode_at, AreCalls, call_graph}
 use Rattle.guard_analysis.specs.Faults.{fault_at, breaks_before, node_breaks, breaking_nodes, LeadsToBreak, LeadsToItself, IsModeFor, FitsMethod, AreCallees}
 use Rattle.guard_analysis.proofs.CallEdges.{half_of, mode_back, node_low, with_tags, frames_there, edges_are_calls}
 
 -- ---- the methods that break a rule
 
-pub breaking_long : (p : Program) (uses : List FieldUse) (tags : List Tags) (class n : ℕ) → length (breaking_nodes p uses tags class n) ≡ n
+pub breaking_long : (p : Program) (uses : Uses) (tags : List Tags) (class n : ℕ) → length (breaking_nodes p uses tags class n) ≡ n
 breaking_long p uses tags class zero = refl
 breaking_long p uses tags class (suc a) = length-append (breaking_nodes p uses tags class a) _ ∙ ap (λ n. n + 1) (breaking_long p uses tags class a) ∙ omega arith
 
-abbrev node_flag : Program → List FieldUse → List Tags → (class : ℕ) → ℕ → Bool
-node_flag p uses tags class a = node_breaks p uses (slice_get p.methods (a / 3)) (slice_get tags (a / 3)) (mode_at class a)
+abbrev node_flag : Program → Uses → List Tags → (class : ℕ) → ℕ → Bool
+node_flag p uses tags class a = node_breaks p uses (a / 3) (slice_get p.methods (a / 3)) (slice_get tags (a / 3)) (mode_at class a)
 
-breaking_at : (p : Program) (uses : List FieldUse) (tags : List Tags) (class n a : ℕ) → a < n → slice_index_or (breaking_nodes p uses tags class n) a false ≡ node_flag p uses tags class a
+breaking_at : (p : Program) (uses : Uses) (tags : List Tags) (class n a : ℕ) → a < n → slice_index_or (breaking_nodes p uses tags class n) a false ≡ node_flag p uses tags class a
 breaking_at p uses tags class zero a l = absurd (omega (arith, l))
 breaking_at p uses tags class (suc n) a l = ⊎_elim
     (λ (q : a ≡ n). get_or_push (breaking_nodes p uses tags class n) (node_flag p uses tags class n) false a (breaking_long p uses tags class n ∙ sym q) ∙ ap (node_flag p uses tags class) (sym q))
@@ -28,50 +28,50 @@ breaking_at p uses tags class (suc n) a l = ⊎_elim
     get_or_append_left (breaking_nodes p uses tags class n) _ false a (subst (λ m. a < m) (sym (breaking_long p uses tags class n)) low) ∙ breaking_at p uses tags class n a low)
     (cases_eq a n)
 
-abbrev the_fault : Program → List FieldUse → Mode → MethodInfo → List (Option TagShape) → ℕ → ℕ
-the_fault p uses mode m frames i = fault_at p uses mode (slice_get m.code i) (slice_get m.targets i) (slice_get frames i)
+abbrev the_fault : Program → Uses → (mi : ℕ) → Mode → MethodInfo → List (Option TagShape) → ℕ → ℕ
+the_fault p uses mi mode m frames i = fault_at p uses mi i mode (slice_get m.code i) (slice_get m.targets i) (slice_get frames i)
 
-some_broken : (p : Program) (uses : List FieldUse) (m : MethodInfo) (frames : List (Option TagShape)) (mode : Mode) (k : ℕ) → breaks_before p uses m frames mode k ≡ true → (i : ℕ) × (0 < the_fault p uses mode m frames i)
-some_broken p uses m frames mode zero e = absurd (let bad : false ≡ true = e in cc)
-some_broken p uses m frames mode (suc k) e = by_test (breaks_before p uses m frames mode k) (nat_lt 0 (the_fault p uses mode m frames k)) refl e (λ f. some_broken p uses m frames mode k f)
+some_broken : (p : Program) (uses : Uses) (mi : ℕ) (m : MethodInfo) (frames : List (Option TagShape)) (mode : Mode) (k : ℕ) → breaks_before p uses mi m frames mode k ≡ true → (i : ℕ) × (0 < the_fault p uses mi mode m frames i)
+some_broken p uses mi m frames mode zero e = absurd (let bad : false ≡ true = e in cc)
+some_broken p uses mi m frames mode (suc k) e = by_test (breaks_before p uses mi m frames mode k) (nat_lt 0 (the_fault p uses mi mode m frames k)) refl e (λ f. some_broken p uses mi m frames mode k f)
   where
-    by_test : (b c : Bool) → nat_lt 0 (the_fault p uses mode m frames k) ≡ c → (b || c) ≡ true → (b ≡ true → (i : ℕ) × (0 < the_fault p uses mode m frames i)) → (i : ℕ) × (0 < the_fault p uses mode m frames i)
+    by_test : (b c : Bool) → nat_lt 0 (the_fault p uses mi mode m frames k) ≡ c → (b || c) ≡ true → (b ≡ true → (i : ℕ) × (0 < the_fault p uses mi mode m frames i)) → (i : ℕ) × (0 < the_fault p uses mi mode m frames i)
     by_test true c w f more = more refl
     by_test false true w f more = (k, grind (arith, nat_tests))
     by_test false false w f more = absurd (let bad : false ≡ true = f in cc)
 
-broken_in : (p : Program) (uses : List FieldUse) (m : MethodInfo) (frames : List (Option TagShape)) (mode : Mode) (k i : ℕ) → i < k → 0 < the_fault p uses mode m frames i → breaks_before p uses m frames mode k ≡ true
-broken_in p uses m frames mode zero i l h = absurd (omega (arith, l))
-broken_in p uses m frames mode (suc k) i l h = ⊎_elim
-    (λ (q : i ≡ k). let here : 0 < the_fault p uses mode m frames k = subst (λ j. 0 < the_fault p uses mode m frames j) q h in let test : nat_lt 0 (the_fault p uses mode m frames k) ≡ true = grind (arith, nat_tests) in rw test (or_true (breaks_before p uses m frames mode k)))
-    (λ (q : i ≢ k). rw (broken_in p uses m frames mode k i (omega (arith, l, q)) h) refl) (cases_eq i k)
+broken_in : (p : Program) (uses : Uses) (mi : ℕ) (m : MethodInfo) (frames : List (Option TagShape)) (mode : Mode) (k i : ℕ) → i < k → 0 < the_fault p uses mi mode m frames i → breaks_before p uses mi m frames mode k ≡ true
+broken_in p uses mi m frames mode zero i l h = absurd (omega (arith, l))
+broken_in p uses mi m frames mode (suc k) i l h = ⊎_elim
+    (λ (q : i ≡ k). let here : 0 < the_fault p uses mi mode m frames k = subst (λ j. 0 < the_fault p uses mi mode m frames j) q h in let test : nat_lt 0 (the_fault p uses mi mode m frames k) ≡ true = grind (arith, nat_tests) in rw test (or_true (breaks_before p uses mi m frames mode k)))
+    (λ (q : i ≢ k). rw (broken_in p uses mi m frames mode k i (omega (arith, l, q)) h) refl) (cases_eq i k)
   where
     or_true : (b : Bool) → (b || true) ≡ true
     or_true true = refl
     or_true false = refl
 
 -- the instruction that breaks one
-pub record AtFault (oi : Option Insn) (ot : Option Target) (of : Option (Option TagShape)) (p : Program) (uses : List FieldUse) (mode : Mode) : Type 0 where
+pub record AtFault (oi : Option Insn) (ot : Option Target) (of : Option (Option TagShape)) (p : Program) (uses : Uses) (mi i : ℕ) (mode : Mode) : Type 0 where
   pub insn : Insn
   pub target : Target
   pub f : TagShape
   pub is_insn : oi ≡ Some insn
   pub is_target : ot ≡ Some target
   pub is_frame : of ≡ Some (Some f)
-  pub same : fault_at p uses mode oi ot of ≡ section_fault p uses mode insn.op target f.stack
+  pub same : fault_at p uses mi i mode oi ot of ≡ section_fault p uses.fields mode insn.op target f.stack (reads_owned uses mi i)
 
-pub fault_parts : (p : Program) (uses : List FieldUse) (mode : Mode) (oi : Option Insn) (ot : Option Target) (of : Option (Option TagShape)) → 0 < fault_at p uses mode oi ot of → AtFault oi ot of p uses mode
-fault_parts p uses mode (Some insn) (Some target) (Some (Some f)) h = record { insn = insn; target = target; f = f; is_insn = refl; is_target = refl; is_frame = refl; same = refl }
-fault_parts p uses mode (Some insn) (Some target) (Some None) h = absurd (omega (arith, h))
-fault_parts p uses mode (Some insn) (Some target) None h = absurd (omega (arith, h))
-fault_parts p uses mode (Some insn) None of h = absurd (omega (arith, h))
-fault_parts p uses mode None ot of h = absurd (omega (arith, h))
+pub fault_parts : (p : Program) (uses : Uses) (mi i : ℕ) (mode : Mode) (oi : Option Insn) (ot : Option Target) (of : Option (Option TagShape)) → 0 < fault_at p uses mi i mode oi ot of → AtFault oi ot of p uses mi i mode
+fault_parts p uses mi i mode (Some insn) (Some target) (Some (Some f)) h = record { insn = insn; target = target; f = f; is_insn = refl; is_target = refl; is_frame = refl; same = refl }
+fault_parts p uses mi i mode (Some insn) (Some target) (Some None) h = absurd (omega (arith, h))
+fault_parts p uses mi i mode (Some insn) (Some target) None h = absurd (omega (arith, h))
+fault_parts p uses mi i mode (Some insn) None of h = absurd (omega (arith, h))
+fault_parts p uses mi i mode None ot of h = absurd (omega (arith, h))
 
-module _ (p : Program) (uses : List FieldUse) (tags : List Tags) (is : IsProgram p) where
+module _ (p : Program) (uses : Uses) (tags : List Tags) (is : IsProgram p) where
   -- of a method with its frames
-  pub breaks_one : (b : Callee) (m : MethodInfo) (t : Tags) (i : ℕ) → slice_get p.methods b.method ≡ Some m → slice_get tags b.method ≡ Some t → 0 < the_fault p uses b.mode m t.frames i → BreaksAt p (tagged_by tags) uses b i (the_fault p uses b.mode m t.frames i)
+  pub breaks_one : (b : Callee) (m : MethodInfo) (t : Tags) (i : ℕ) → slice_get p.methods b.method ≡ Some m → slice_get tags b.method ≡ Some t → 0 < the_fault p uses b.method b.mode m t.frames i → BreaksAt p (tagged_by tags) uses b i (the_fault p uses b.method b.mode m t.frames i)
   breaks_one b m t i e f h =
-      let parts = fault_parts p uses b.mode (slice_get m.code i) (slice_get m.targets i) (slice_get t.frames i) h in
+      let parts = fault_parts p uses b.method i b.mode (slice_get m.code i) (slice_get m.targets i) (slice_get t.frames i) h in
       record {
         m = m;
         insn = parts.insn;
@@ -82,22 +82,22 @@ module _ (p : Program) (uses : List FieldUse) (tags : List Tags) (is : IsProgram
         some = h;
       }
 
-  flag_broken : (b : Callee) (om : Option MethodInfo) (ot : Option Tags) → slice_get p.methods b.method ≡ om → slice_get tags b.method ≡ ot → node_breaks p uses om ot b.mode ≡ true → (i : ℕ) × (n : ℕ) × BreaksAt p (tagged_by tags) uses b i n
-  flag_broken b (Some m) (Some t) e f w = let some = some_broken p uses m t.frames b.mode (length m.code) w in (some.0, the_fault p uses b.mode m t.frames some.0, breaks_one b m t some.0 e f some.1)
+  flag_broken : (b : Callee) (om : Option MethodInfo) (ot : Option Tags) → slice_get p.methods b.method ≡ om → slice_get tags b.method ≡ ot → node_breaks p uses b.method om ot b.mode ≡ true → (i : ℕ) × (n : ℕ) × BreaksAt p (tagged_by tags) uses b i n
+  flag_broken b (Some m) (Some t) e f w = let some = some_broken p uses b.method m t.frames b.mode (length m.code) w in (some.0, the_fault p uses b.method b.mode m t.frames some.0, breaks_one b m t some.0 e f some.1)
   flag_broken b (Some m) None e f w = absurd (let bad : false ≡ true = w in cc)
   flag_broken b None ot e f w = absurd (let bad : false ≡ true = w in cc)
 
-  broken_flag : (b : Callee) (i n : ℕ) → BreaksAt p (tagged_by tags) uses b i n → node_breaks p uses (slice_get p.methods b.method) (slice_get tags b.method) b.mode ≡ true
+  broken_flag : (b : Callee) (i n : ℕ) → BreaksAt p (tagged_by tags) uses b i n → node_breaks p uses b.method (slice_get p.methods b.method) (slice_get tags b.method) b.mode ≡ true
   broken_flag b i n k =
       let has = with_tags p tags is b.method k.at.frames k.at.of_method in
       let at_frame : slice_get has.0.frames i ≡ Some (Some k.f) = subst (λ l. slice_get l i ≡ Some (Some k.f)) (sym has.2) k.at.frame in
-      let is_fault : the_fault p uses b.mode k.m has.0.frames i ≡ n = rw (k.at.in_code, k.at.names, at_frame) k.fault_is in
-      rw (k.at.in_program, has.1) (broken_in p uses k.m has.0.frames b.mode (length k.m.code) i (slice_get_within k.m.code i k.insn k.at.in_code) (omega (arith, is_fault, k.some)))
+      let is_fault : the_fault p uses b.method b.mode k.m has.0.frames i ≡ n = rw (k.at.in_code, k.at.names, at_frame) k.fault_is in
+      rw (k.at.in_program, has.1) (broken_in p uses b.method k.m has.0.frames b.mode (length k.m.code) i (slice_get_within k.m.code i k.insn k.at.in_code) (omega (arith, is_fault, k.some)))
 
-  flag_of : (class : ℕ) (b : Callee) → IsModeFor class b.mode → b.method < length p.methods → slice_index_or (breaking_nodes p uses tags class (3 * length p.methods)) (node_of b) false ≡ node_breaks p uses (slice_get p.methods b.method) (slice_get tags b.method) b.mode
+  flag_of : (class : ℕ) (b : Callee) → IsModeFor class b.mode → b.method < length p.methods → slice_index_or (breaking_nodes p uses tags class (3 * length p.methods)) (node_of b) false ≡ node_breaks p uses b.method (slice_get p.methods b.method) (slice_get tags b.method) b.mode
   flag_of class b fits l = breaking_at p uses tags class (3 * length p.methods) (node_of b) (node_low (length p.methods) b.method b.mode l)
-      ∙ ap (λ u. node_breaks p uses (slice_get p.methods u) (slice_get tags u) (mode_at class (node_of b))) (half_of b.method b.mode)
-      ∙ ap (λ (mode : Mode). node_breaks p uses (slice_get p.methods b.method) (slice_get tags b.method) mode) (mode_back class b.method b.mode fits)
+      ∙ ap (λ u. node_breaks p uses u (slice_get p.methods u) (slice_get tags u) (mode_at class (node_of b))) (half_of b.method b.mode)
+      ∙ ap (λ (mode : Mode). node_breaks p uses b.method (slice_get p.methods b.method) (slice_get tags b.method) mode) (mode_back class b.method b.mode fits)
 
 -- ---- chains of calls and walks
 
@@ -236,7 +236,7 @@ module _ (p : Program) (tags : List Tags) (is : IsProgram p) (recurs : List Bool
         (node_of cycle.first, edges.there cycle.at cycle.first cycle.calls.0 cycle.calls.1, walked p (tagged_by tags) (call_graph p tags).from (call_graph p tags).to edges cycle.first cycle.round cycle.at cycle.back),
       )
 
-module _ (p : Program) (uses : List FieldUse) (tags : List Tags) (class : ℕ) (is : IsProgram p) (breaks recurs : List Bool) (leads : AreLeading (call_graph p tags).from (call_graph p tags).to (breaking_nodes p uses tags class (3 * length p.methods)) breaks)
+module _ (p : Program) (uses : Uses) (tags : List Tags) (class : ℕ) (is : IsProgram p) (breaks recurs : List Bool) (leads : AreLeading (call_graph p tags).from (call_graph p tags).to (breaking_nodes p uses tags class (3 * length p.methods)) breaks)
     (cycles : AreRecurring (call_graph p tags).from (call_graph p tags).to (3 * length p.methods) recurs) where
   edges : AreCalls p (tagged_by tags) (call_graph p tags).from (call_graph p tags).to
   edges = edges_are_calls p tags is
@@ -301,7 +301,7 @@ pub graph_shown : (n m : ℕ) (g h : Graph) (from to : List ℕ) → g ≡ h →
 graph_shown n m g h from to q e f l is = subst (λ k. IsGraph k from to) (sym l)
     (subst (λ xs. IsGraph n xs to) (sym (e ∙ ap (λ (x : Graph). x.from) q)) (subst (λ xs. IsGraph n h.from xs) (sym (f ∙ ap (λ (x : Graph). x.to) q)) is))
 
-pub callees_shown : (p : Program) (uses : List FieldUse) (tags : List Tags) (class n : ℕ) (g : Graph) (from to from' to' : List ℕ) (items shown breaks recurs : List Bool) → IsProgram p → g ≡ call_graph p tags → from ≡ g.from → to ≡ g.to → from' ≡ g.from → to' ≡ g.to → n ≡ length p.methods
+pub callees_shown : (p : Program) (uses : Uses) (tags : List Tags) (class n : ℕ) (g : Graph) (from to from' to' : List ℕ) (items shown breaks recurs : List Bool) → IsProgram p → g ≡ call_graph p tags → from ≡ g.from → to ≡ g.to → from' ≡ g.from → to' ≡ g.to → n ≡ length p.methods
     → items ≡ breaking_nodes p uses tags class (3 * length p.methods) → shown ≡ items → AreLeading from to shown breaks → AreRecurring from' to' (3 * n) recurs → AreCallees p (tagged_by tags) uses class breaks recurs
 callees_shown p uses tags class n g from to from' to' items shown breaks recurs is q e f e' f' l i s leads cycles = callees_are p uses tags class is breaks recurs
     (subst (λ xs. AreLeading xs (call_graph p tags).to (breaking_nodes p uses tags class (3 * length p.methods)) breaks) (e ∙ ap (λ (x : Graph). x.from) q)

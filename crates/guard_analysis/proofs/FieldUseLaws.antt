@@ -15,31 +15,31 @@ use Rattle.jvm_types.specs.declared.program.Target.TheVariants as targets
 abbrev flag : List Bool → ℕ → Bool
 flag flags i = slice_index_or flags i false
 
-set_true : (flags : List Bool) (x fi : ℕ) → flag (slice_set flags x true) fi ≡ true → (flag flags fi ≡ true) ⊎ (x ≡ fi)
+pub set_true : (flags : List Bool) (x fi : ℕ) → flag (slice_set flags x true) fi ≡ true → (flag flags fi ≡ true) ⊎ (x ≡ fi)
 set_true [] x fi h = inl h
 set_true (b ∷ bs) zero zero h = inr refl
 set_true (b ∷ bs) zero (suc fi) h = inl h
 set_true (b ∷ bs) (suc x) zero h = inl h
 set_true (b ∷ bs) (suc x) (suc fi) h = ⊎_elim (λ e. inl e) (λ e. inr (ap suc e)) (set_true bs x fi h)
 
-set_keeps : (flags : List Bool) (x fi : ℕ) → flag flags fi ≡ true → flag (slice_set flags x true) fi ≡ true
+pub set_keeps : (flags : List Bool) (x fi : ℕ) → flag flags fi ≡ true → flag (slice_set flags x true) fi ≡ true
 set_keeps [] x fi h = h
 set_keeps (b ∷ bs) zero zero h = refl
 set_keeps (b ∷ bs) zero (suc fi) h = h
 set_keeps (b ∷ bs) (suc x) zero h = h
 set_keeps (b ∷ bs) (suc x) (suc fi) h = set_keeps bs x fi h
 
-set_here : (flags : List Bool) (fi : ℕ) → fi < length flags → flag (slice_set flags fi true) fi ≡ true
+pub set_here : (flags : List Bool) (fi : ℕ) → fi < length flags → flag (slice_set flags fi true) fi ≡ true
 set_here [] fi l = absurd (omega (arith, l))
 set_here (b ∷ bs) zero l = refl
 set_here (b ∷ bs) (suc fi) l = set_here bs fi (omega (arith, l))
 
-none_set : (n fi : ℕ) → flag (replicate n false) fi ≡ true → ⊥
+pub none_set : (n fi : ℕ) → flag (replicate n false) fi ≡ true → ⊥
 none_set zero fi h = cc
 none_set (suc n) zero h = cc
 none_set (suc n) (suc fi) h = none_set n fi h
 
-noted_long : (flags : List Bool) (o : Option ℕ) → length (field_noted flags o) ≡ length flags
+pub noted_long : (flags : List Bool) (o : Option ℕ) → length (field_noted flags o) ≡ length flags
 noted_long flags None = refl
 noted_long flags (Some x) = by_test (nat_lt x (length flags))
   where
@@ -47,7 +47,7 @@ noted_long flags (Some x) = by_test (nat_lt x (length flags))
     by_test true = length-set flags x true
     by_test false = refl
 
-noted_true : (flags : List Bool) (o : Option ℕ) (fi : ℕ) → flag (field_noted flags o) fi ≡ true → (flag flags fi ≡ true) ⊎ (o ≡ Some fi)
+pub noted_true : (flags : List Bool) (o : Option ℕ) (fi : ℕ) → flag (field_noted flags o) fi ≡ true → (flag flags fi ≡ true) ⊎ (o ≡ Some fi)
 noted_true flags None fi h = inl h
 noted_true flags (Some x) fi h = by_test (nat_lt x (length flags)) h
   where
@@ -55,7 +55,7 @@ noted_true flags (Some x) fi h = by_test (nat_lt x (length flags)) h
     by_test true k = ⊎_elim (λ e. inl e) (λ e. inr (ap (λ (y : ℕ). Some y) e)) (set_true flags x fi k)
     by_test false k = inl k
 
-noted_keeps : (flags : List Bool) (o : Option ℕ) (fi : ℕ) → flag flags fi ≡ true → flag (field_noted flags o) fi ≡ true
+pub noted_keeps : (flags : List Bool) (o : Option ℕ) (fi : ℕ) → flag flags fi ≡ true → flag (field_noted flags o) fi ≡ true
 noted_keeps flags None fi h = h
 noted_keeps flags (Some x) fi h = by_test (nat_lt x (length flags))
   where
@@ -63,7 +63,7 @@ noted_keeps flags (Some x) fi h = by_test (nat_lt x (length flags))
     by_test true = set_keeps flags x fi h
     by_test false = h
 
-noted_here : (flags : List Bool) (o : Option ℕ) (fi : ℕ) → fi < length flags → o ≡ Some fi → flag (field_noted flags o) fi ≡ true
+pub noted_here : (flags : List Bool) (o : Option ℕ) (fi : ℕ) → fi < length flags → o ≡ Some fi → flag (field_noted flags o) fi ≡ true
 noted_here flags o fi l e = let test : nat_lt fi (length flags) ≡ true = grind (arith, nat_tests) in rw (e, test) (set_here flags fi l)
 
 -- ---- one method
@@ -109,12 +109,12 @@ write_parts p m None ot of fi e = absurd (cc)
 
 -- ---- guards
 
-guard_parts : (t : Tag) (b : Bool) → (is_this t && b) ≡ true → (t ≡ This) × (b ≡ true)
+pub guard_parts : (t : Tag) (b : Bool) → (is_this t && b) ≡ true → (t ≡ This) × (b ≡ true)
 guard_parts This b h = (refl, h)
 guard_parts Untagged b h = absurd (let bad : false ≡ true = h in cc)
 guard_parts (At pc) b h = absurd (let bad : false ≡ true = h in cc)
 
-guard_whole : (t : Tag) (b : Bool) → t ≡ This → b ≡ true → (is_this t && b) ≡ true
+pub guard_whole : (t : Tag) (b : Bool) → t ≡ This → b ≡ true → (is_this t && b) ≡ true
 guard_whole t b e h = rw (e, h) refl
 
 abbrev may_write : MethodInfo → TagShape → Bool

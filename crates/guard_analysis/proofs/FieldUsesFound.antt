@@ -2,10 +2,10 @@
 use Rattle.std.proofs.Common.{◌≡◌, ◌≢◌, ℕ, zero, suc, ◌+◌, ◌-◌, ◌<◌, ◌≤◌, Bool, true, false, not, ◌&&◌, ◌||◌, List, [], ◌∷◌, length, Option, Some, None, refl, sym, ap, subst, ◌∙◌, arith, ⊎_elim, inl, inr, ◌⊎◌, nat_lt, if◌then◌else◌, slice_get, slice_index_or}
 use Rattle.std.proofs.lemmas.{Bool.{cases_eq, Decides.nat_tests}, List.{length-append, get_or_append_left, get_or_push}, Option.{slice_get_within, get_or_from_slice_get, same_Some, slice_get-get_or}}
 use Rattle.jvm_types.specs.{ClassNames.file_class, Members.{is_private, is_static, is_final}, ProgramInvariant.{IsProgram, IsFileClass}, declared.program.{FieldInfo.FieldInfo, Program.Program}}
-use Rattle.checked_program.specs.FrozenPlaces.{IsFrozenClass, IsFrozenField, IsFrozenStatic, IsFrozenUse, IsGuardedField, IsGuardedStatic, IsGuardedUse, PutsStatic, IsUse, AreUses}
+use Rattle.checked_program.specs.FrozenPlaces.{IsFrozenClass, IsFrozenField, IsFrozenStatic, IsFrozenUse, IsGuardedField, IsGuardedStatic, IsGuardedUse, PutsStatic, IsUse, AreFieldUses}
 use Rattle.checked_program.specs.{TaggedCode.tagged_by, declared.{section.FieldUse.{FieldUse, TheVariants.{Frozen, Guarded, Open}}, tag.Tags.Tags}}
 use Rattle.frozen_classes.specs.FrozenClasses.{AreFrozenClasses, TellsFrozen}
-use Rattle.guard_analysis.{specs.FieldUses.{unguarded_before, use_by, class_flag, use_at, uses_before}, proofs.FieldUseLaws.{all_guarded, some_on_another, some_elsewhere}}
+use Rattle.guard_analysis.{specs.FieldUses.{unguarded_before, use_by, class_flag, use_at, uses_before}, proofs.{FieldUseLaws.{all_guarded, some_on_another, some_elsewhere}, ListsMade.{made_long, made_at}}}
 
 -- ---- one by one
 
@@ -19,15 +19,10 @@ module _ (fields : List FieldInfo) (frozen unguarded : List Bool) where
   the_use fi = use_at (slice_get fields fi) frozen (slice_index_or unguarded fi false)
 
   uses_long : (n : ℕ) → length (uses_before fields frozen unguarded n) ≡ n
-  uses_long zero = refl
-  uses_long (suc n) = length-append (uses_before fields frozen unguarded n) _ ∙ ap (λ n. n + 1) (uses_long n) ∙ omega arith
+  uses_long n = made_long the_use (uses_before fields frozen unguarded) refl (λ k. refl) n
 
   uses_at : (n fi : ℕ) → fi < n → slice_index_or (uses_before fields frozen unguarded n) fi Open ≡ the_use fi
-  uses_at zero fi l = absurd (omega (arith, l))
-  uses_at (suc n) fi l = ⊎_elim
-      (λ (q : fi ≡ n). get_or_push (uses_before fields frozen unguarded n) (the_use n) Open fi (uses_long n ∙ sym q) ∙ ap the_use (sym q))
-      (λ (q : fi ≢ n). let low : fi < n = omega (arith, l, q) in get_or_append_left (uses_before fields frozen unguarded n) _ Open fi (subst (λ m. fi < m) (sym (uses_long n)) low) ∙ uses_at n fi low)
-      (cases_eq fi n)
+  uses_at n fi l = made_at the_use (uses_before fields frozen unguarded) refl (λ k. refl) Open n fi l
 
 -- ---- all
 
@@ -49,10 +44,10 @@ module _ (p : Program) (tags : List Tags) (is : IsProgram p) (frozen : List Bool
     told : TellsFrozen p (tagged_by tags) field.class (class_flag frozen field.class)
     told = class_by field.class (is.fields fi field e).class
 
-    is_frozen : class_flag frozen field.class ≡ true → IsFrozenClass p (tagged_by tags) field.class
+    pub is_frozen : class_flag frozen field.class ≡ true → IsFrozenClass p (tagged_by tags) field.class
     is_frozen h = subst (λ b. TellsFrozen p (tagged_by tags) field.class b) h told
 
-    not_frozen : class_flag frozen field.class ≡ false → IsFrozenClass p (tagged_by tags) field.class → ⊥
+    pub not_frozen : class_flag frozen field.class ≡ false → IsFrozenClass p (tagged_by tags) field.class → ⊥
     not_frozen h = subst (λ b. TellsFrozen p (tagged_by tags) field.class b) h told
 
     not_both : (b : Bool) → b ≡ true → b ≡ false → ⊥
@@ -107,7 +102,7 @@ module _ (p : Program) (tags : List Tags) (is : IsProgram p) (frozen : List Bool
   use_found fi l None e = absurd (in_list p.fields fi l e)
   use_found fi l (Some field) e = is_use fi field e
 
-  pub uses_found : AreUses p (tagged_by tags) (uses_before p.fields frozen unguarded (length p.fields))
+  pub uses_found : AreFieldUses p (tagged_by tags) (uses_before p.fields frozen unguarded (length p.fields))
   uses_found = record {
     long = uses_long p.fields frozen unguarded (length p.fields);
     each = λ fi u e.
@@ -117,6 +112,6 @@ module _ (p : Program) (tags : List Tags) (is : IsProgram p) (frozen : List Bool
   }
 
   -- the same of what was found
-  pub uses_shown : (uses : List FieldUse) (flags writes found : List Bool) → uses ≡ uses_before p.fields flags writes (length p.fields) → flags ≡ frozen → writes ≡ found → found ≡ unguarded → AreUses p (tagged_by tags) uses
-  uses_shown uses flags writes found e ef ew eg = subst (λ l. AreUses p (tagged_by tags) l)
+  pub uses_shown : (uses : List FieldUse) (flags writes found : List Bool) → uses ≡ uses_before p.fields flags writes (length p.fields) → flags ≡ frozen → writes ≡ found → found ≡ unguarded → AreFieldUses p (tagged_by tags) uses
+  uses_shown uses flags writes found e ef ew eg = subst (λ l. AreFieldUses p (tagged_by tags) l)
       (sym (e ∙ ap (λ l. uses_before p.fields l writes (length p.fields)) ef ∙ ap (λ l. uses_before p.fields frozen l (length p.fields)) (ew ∙ eg))) uses_found

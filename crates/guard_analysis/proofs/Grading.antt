@@ -2,8 +2,9 @@
 use Rattle.std.proofs.Common.{◌≡◌, ℕ, zero, suc, ◌+◌, ◌*◌, ◌<◌, ◌≤◌, ◌≢◌, Bool, true, false, List, length, Option, Some, None, refl, sym, ap, subst, ◌∙◌, arith, ⊎_elim, if◌then◌else◌, slice_get, slice_index, slice_index_or}
 use Rattle.std.proofs.lemmas.{Bool.cases_eq, List.{length-append, get_or_append_left, get_or_push}, Option.same_Some}
 use Rattle.jvm_types.specs.{ProgramInvariant.IsProgram, declared.{code.Op.Op, program.{MethodInfo.MethodInfo, Program.Program, Target.Target}}}
-use Rattle.checked_program.specs.{LockTags.TagShape, Marks.{Callee, callee, Calls, BreaksAt, section_fault, enter_fault, call_fault, use_fault, receiver_tag, called_mode, called_method}}
-use Rattle.checked_program.specs.{TaggedCode.{Tagged, tagged_by}, declared.{section.{FieldUse.{FieldUse, TheVariants.{Frozen, Guarded, Open}}, Mode.Mode}, tag.{Tag.Tag, Tags.Tags}}}
+use Rattle.checked_program.specs.{LockTags.TagShape, Marks.{element_fault, Callee, callee, Calls, BreaksAt, section_fault, enter_fault, call_fault, use_fault, receiver_tag, called_mode, called_method}}
+use Rattle.checked_program.specs.{OwnedArrays.reads_owned, TaggedCode.{Tagged, tagged_by}, declared.section.{FieldUse.{FieldUse, TheVariants.{Frozen, Guarded, Open}}, Mode.{Mode, TheVariants.{OnThis, OffThis, OnClass}}, Uses.Uses}}
+use Rattle.checked_program.specs.declared.tag.{Tag.Tag, Tags.Tags}
 use Rattle.guard_analysis.specs.{CallGraph.{mode_number, node_of, call_at, call_node}, Faults.{fault_at, grade_of, grade_at, grades_before, IsModeFor, AreCallees, LeadsToBreak, LeadsToItself}}
 use Rattle.guard_analysis.{specs.SectionGrades.{Forbids, breaks, calls, recurs, IsGrade, AreGrades}, proofs.CallEdges.{with_tags, frames_there, called_inside, call_parts, node_parts, node_there}}
 use Rattle.guard_analysis.proofs.CalleesFound.{breaks_one, same_callee, fits_called}
@@ -26,26 +27,33 @@ read_low Guarded true = omega arith
 read_low Guarded false = omega arith
 read_low Open own = omega arith
 
-pub fault_low : (p : Program) (uses : List FieldUse) (mode : Mode) (op : Op) (target : Target) (stack : List Tag) → section_fault p uses mode op target stack ≤ 5
-fault_low p uses mode ops.Monitorenter target stack = enter_low _
-fault_low p uses mode (ops.Invokevirtual i) (targets.Method u) stack = call_low _ _
-fault_low p uses mode (ops.Invokespecial i) (targets.Method u) stack = call_low _ _
-fault_low p uses mode (ops.Invokestatic i) (targets.Method u) stack = call_low _ _
-fault_low p uses mode (ops.Getfield i) (targets.Field fi) stack = read_low _ _
-fault_low p uses mode (ops.Getstatic i) (targets.Field fi) stack = read_low _ _
-fault_low p uses mode op target stack = omega arith
+element_low : (mode : Mode) (owned : Bool) → element_fault mode owned ≤ 5
+element_low OnThis true = omega arith
+element_low OnThis false = omega arith
+element_low OffThis owned = omega arith
+element_low (OnClass class) owned = omega arith
 
-pub forbids_low : (p : Program) (tags : Tagged) (uses : List FieldUse) (mode : Mode) (mi i k : ℕ) → Forbids p tags uses mode mi i k → (0 < k) × (k ≤ 7)
-forbids_low p tags uses mode mi i k (breaks n b) = let low : n ≤ 5 = subst (λ x. x ≤ 5) b.fault_is (fault_low p uses mode b.insn.op b.target b.f.stack) in (b.some, omega (arith, low))
+pub fault_low : (p : Program) (uses : List FieldUse) (mode : Mode) (op : Op) (target : Target) (stack : List Tag) (owned : Bool) → section_fault p uses mode op target stack owned ≤ 5
+fault_low p uses mode ops.Monitorenter target stack owned = enter_low _
+fault_low p uses mode (ops.Invokevirtual i) (targets.Method u) stack owned = call_low _ _
+fault_low p uses mode (ops.Invokespecial i) (targets.Method u) stack owned = call_low _ _
+fault_low p uses mode (ops.Invokestatic i) (targets.Method u) stack owned = call_low _ _
+fault_low p uses mode (ops.Getfield i) (targets.Field fi) stack owned = read_low _ _
+fault_low p uses mode (ops.Getstatic i) (targets.Field fi) stack owned = read_low _ _
+fault_low p uses mode ops.Iaload target stack owned = element_low mode owned
+fault_low p uses mode op target stack owned = omega arith
+
+pub forbids_low : (p : Program) (tags : Tagged) (uses : Uses) (mode : Mode) (mi i k : ℕ) → Forbids p tags uses mode mi i k → (0 < k) × (k ≤ 7)
+forbids_low p tags uses mode mi i k (breaks n b) = let low : n ≤ 5 = subst (λ x. x ≤ 5) b.fault_is (fault_low p uses.fields mode b.insn.op b.target b.f.stack (reads_owned uses mi i)) in (b.some, omega (arith, low))
 forbids_low p tags uses mode mi i k (calls first c l) = (omega arith, omega arith)
 forbids_low p tags uses mode mi i k (recurs first c l) = (omega arith, omega arith)
 
 -- ---- of a method with its frames
 
-module _ (p : Program) (uses : List FieldUse) (tags : List Tags) (is : IsProgram p) (mi : ℕ) (m : MethodInfo) (t : Tags) (at_m : slice_get p.methods mi ≡ Some m) (at_t : slice_get tags mi ≡ Some t) where
+module _ (p : Program) (uses : Uses) (tags : List Tags) (is : IsProgram p) (mi : ℕ) (m : MethodInfo) (t : Tags) (at_m : slice_get p.methods mi ≡ Some m) (at_t : slice_get tags mi ≡ Some t) where
   -- what its instruction breaks and calls, where the method is called so
   abbrev pub fault_in : Mode → ℕ → ℕ
-  fault_in mode i = fault_at p uses mode (slice_get m.code i) (slice_get m.targets i) (slice_get t.frames i)
+  fault_in mode i = fault_at p uses mi i mode (slice_get m.code i) (slice_get m.targets i) (slice_get t.frames i)
 
   abbrev pub call_in : Mode → ℕ → Option ℕ
   call_in mode i = call_at p mode (slice_get m.code i) (slice_get m.targets i) (slice_get t.frames i)
@@ -117,7 +125,7 @@ module _ (p : Program) (uses : List FieldUse) (tags : List Tags) (is : IsProgram
     }
       where
         low : suc n ≤ 5
-        low = let b = breaks_one p uses tags is run_so m t i at_m at_t (omega (arith, e)) in let most : own_fault i ≤ 5 = subst (λ x. x ≤ 5) b.fault_is (fault_low p uses mode b.insn.op b.target b.f.stack) in omega (arith, most, e)
+        low = let b = breaks_one p uses tags is run_so m t i at_m at_t (omega (arith, e)) in let most : own_fault i ≤ 5 = subst (λ x. x ≤ 5) b.fault_is (fault_low p uses.fields mode b.insn.op b.target b.f.stack (reads_owned uses mi i)) in omega (arith, most, e)
 
         least : (k : ℕ) → Forbids p (tagged_by tags) uses mode mi i k → suc n ≤ k
         least k (breaks x b) = omega (arith, fault_known mode i x b, e)
@@ -181,7 +189,7 @@ module _ (p : Program) (uses : List FieldUse) (tags : List Tags) (is : IsProgram
         }
         by_flags false false w v = record { forbids = λ h. absurd (omega (arith, h)); first = λ k q. absurd (none_at_all w v k q) }
 
-    grade_is : (i : ℕ) → Grade i (grade_at p uses broken again mode m t.frames i)
+    grade_is : (i : ℕ) → Grade i (grade_at p uses broken again mode mi m t.frames i)
     grade_is i = by_parts (own_fault i) (own_call i) refl refl
       where
         by_parts : (n : ℕ) (o : Option ℕ) → own_fault i ≡ n → own_call i ≡ o → Grade i (grade_of n o broken again)
@@ -189,18 +197,18 @@ module _ (p : Program) (uses : List FieldUse) (tags : List Tags) (is : IsProgram
         by_parts zero (Some y) e c = by_call i y e c (slice_index_or broken y false) (slice_index_or again y false) refl refl
         by_parts (suc n) o e c = by_fault i n e
 
-    grades_long : (n : ℕ) → length (grades_before p uses broken again mode m t.frames n) ≡ n
+    grades_long : (n : ℕ) → length (grades_before p uses broken again mode mi m t.frames n) ≡ n
     grades_long zero = refl
-    grades_long (suc n) = length-append (grades_before p uses broken again mode m t.frames n) _ ∙ ap (λ k. k + 1) (grades_long n) ∙ omega arith
+    grades_long (suc n) = length-append (grades_before p uses broken again mode mi m t.frames n) _ ∙ ap (λ k. k + 1) (grades_long n) ∙ omega arith
 
-    grades_at : (n i : ℕ) → i < n → slice_index (grades_before p uses broken again mode m t.frames n) i ≡ grade_at p uses broken again mode m t.frames i
+    grades_at : (n i : ℕ) → i < n → slice_index (grades_before p uses broken again mode mi m t.frames n) i ≡ grade_at p uses broken again mode mi m t.frames i
     grades_at zero i l = absurd (omega (arith, l))
     grades_at (suc n) i l = ⊎_elim
-        (λ (q : i ≡ n). get_or_push (grades_before p uses broken again mode m t.frames n) (grade_at p uses broken again mode m t.frames n) 0 i (grades_long n ∙ sym q) ∙ ap (grade_at p uses broken again mode m t.frames) (sym q))
+        (λ (q : i ≡ n). get_or_push (grades_before p uses broken again mode mi m t.frames n) (grade_at p uses broken again mode mi m t.frames n) 0 i (grades_long n ∙ sym q) ∙ ap (grade_at p uses broken again mode mi m t.frames) (sym q))
         (λ (q : i ≢ n). let low : i < n = omega (arith, l, q) in
-        get_or_append_left (grades_before p uses broken again mode m t.frames n) _ 0 i (subst (λ k. i < k) (sym (grades_long n)) low) ∙ grades_at n i low)
+        get_or_append_left (grades_before p uses broken again mode mi m t.frames n) _ 0 i (subst (λ k. i < k) (sym (grades_long n)) low) ∙ grades_at n i low)
         (cases_eq i n)
 
-    pub are_grades : (grades : List ℕ) → grades ≡ grades_before p uses broken again mode m t.frames (length m.code) → AreGrades p (tagged_by tags) uses mode mi m grades
+    pub are_grades : (grades : List ℕ) → grades ≡ grades_before p uses broken again mode mi m t.frames (length m.code) → AreGrades p (tagged_by tags) uses mode mi m grades
     are_grades grades e = subst (AreGrades p (tagged_by tags) uses mode mi m) (sym e)
         (record { long = grades_long (length m.code); each = λ i l. subst (Grade i) (sym (grades_at (length m.code) i l)) (grade_is i) })

@@ -3,7 +3,7 @@ use Rattle.std.proofs.Common.{◌≡◌, ℕ, zero, suc, ◌+◌, ◌<◌, ◌�
 use Rattle.std.{specs.{List.{AllZip, filter_map, cons_option}, Option.option_to_list}, proofs.lemmas.List.map-append}
 use Rattle.jvm_types.specs.{Members.is_synchronized, declared.{code.{Insn.Insn, Op.Op}, program.{MethodInfo.MethodInfo, Program.Program}}}
 use Rattle.checked_program.specs.{LockTags.TagShape, MarkedProgram.AreTaggings, Marks.IsMarkOf, Sections.{Section, block_at, spots_of, sections, sections_from}, TaggedCode.Tagged}
-use Rattle.checked_program.specs.declared.{section.{FieldUse.FieldUse, SectionMark.SectionMark, Spot.{Spot, TheVariants.{Method, Block}}}, tag.Tags.Tags}
+use Rattle.checked_program.specs.declared.{section.{SectionMark.SectionMark, Spot.{Spot, TheVariants.{Method, Block}}, Uses.Uses}, tag.Tags.Tags}
 use Rattle.guard_analysis.specs.{BlockWalks.IsExplored, SectionGrades.{earliest_before, IsBlockMark, section_in, sections_at, whole_of, Continues, Marks, MarksUpTo}, declared.block_walk.Walk.Walk}
 use Rattle.guard_analysis.proofs.SectionMarks.{adds_one}
 use Rattle.jvm_types.specs.declared.code.Op.TheVariants as ops
@@ -15,7 +15,7 @@ pub explored_mark : (m : MethodInfo) (frames : List (Option TagShape)) (depth st
 explored_mark m frames depth stamp enter w grades own n o x e f g =
     subst (λ d. IsBlockMark m frames grades enter d n) g (w.own, x.own, x.all, subst (λ l. n ≡ earliest_before (λ t. slice_index grades (slice_index l t)) (length l)) e f)
 
-module _ (p : Program) (tags : Tagged) (uses : List FieldUse) (mi : ℕ) where
+module _ (p : Program) (tags : Tagged) (uses : Uses) (mi : ℕ) where
   pub marks_block : (o : Option Insn) (insn : Insn) (old new : List SectionMark) (n : ℕ) → o ≡ Some insn → insn.op ≡ ops.Monitorenter → new ≡ old ++ record { method = mi; spot = Block insn.pc; mark = n } ∷ []
       → IsMarkOf p tags uses (section_in mi (Block insn.pc)) (record { method = mi; spot = Block insn.pc; mark = n }) → Marks p tags uses (sections_at mi o) old new
   marks_block o insn old new n e f g is all rest c =
@@ -77,7 +77,7 @@ sections_next [] n i m e = absurd (let bad : None ≡ Some m = e in cc)
 sections_next (x ∷ ms) n zero m e = let same : x ≡ m = cc in rw same refl
 sections_next (x ∷ ms) n (suc i) m e = sections_next ms n i m e
 
-module _ (p : Program) (tags : Tagged) (uses : List FieldUse) where
+module _ (p : Program) (tags : Tagged) (uses : Uses) where
   pub methods_go_on : (i : ℕ) (m : MethodInfo) (old new : List SectionMark) → slice_get p.methods i ≡ Some m → Continues p tags uses (sections p) (sections_from i (drop i p.methods)) old → Marks p tags uses (map (section_in i) (spots_of m)) old new
       → Continues p tags uses (sections p) (sections_from (i + 1) (drop (i + 1) p.methods)) new
   methods_go_on i m old new e h k =

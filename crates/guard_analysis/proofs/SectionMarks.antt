@@ -3,13 +3,13 @@ use Rattle.std.{proofs.Common.{◌≡◌, ℕ, zero, suc, ◌<◌, ◌≤◌, fa
 use Rattle.std.proofs.lemmas.{Bool.Decides.nat_tests, Option.{slice_get_within, same_Some}}
 use Rattle.jvm_types.specs.declared.program.{MethodInfo.MethodInfo, Program.Program}
 use Rattle.checked_program.specs.{Marks.{Applies, elsewhere, itself, called, recurring, IsOnOwn, turn, HasMark, IsMarkOf}, Sections.{Section, mode_of_method, section_mode, IsOwn}}
-use Rattle.checked_program.specs.{TaggedCode.{Tagged, IsInstructionReached}, declared.section.{FieldUse.FieldUse, Mode.Mode, SectionMark.SectionMark, Spot.TheVariants.Method}}
+use Rattle.checked_program.specs.{TaggedCode.{Tagged, IsInstructionReached}, declared.section.{Mode.Mode, SectionMark.SectionMark, Spot.TheVariants.Method, Uses.Uses}}
 use Rattle.guard_analysis.{specs.SectionGrades.{earliest_before, Forbids, breaks, calls, recurs, IsGrade, AreGrades, section_in, Continues}, proofs.Earliest.{IsEarliest, earliest_is}}
 use Rattle.guard_analysis.proofs.Grading.{forbids_low}
 
 -- ---- one section
 
-module _ (p : Program) (tags : Tagged) (uses : List FieldUse) (s : Section) where
+module _ (p : Program) (tags : Tagged) (uses : Uses) (s : Section) where
   applies_of : (i n : ℕ) → IsOwn p tags s.method s.spot i → Forbids p tags uses (section_mode p s) s.method i n → Applies p tags uses s n
   applies_of i n o (breaks k b) = itself (record { i = i; own = o; breaks = b })
   applies_of i n o (calls first c l) = called refl (record { called = l.called; is_called = record { i = i; first = first; own = o; calls = c; over = l.over; through = l.through }; i = l.i; n = l.n; breaks = l.breaks })
@@ -67,7 +67,7 @@ module _ (p : Program) (tags : Tagged) (uses : List FieldUse) (s : Section) wher
 
 -- ---- a method's own section
 
-module _ (p : Program) (tags : Tagged) (uses : List FieldUse) (mi : ℕ) (m : MethodInfo) (at_m : slice_get p.methods mi ≡ Some m) where
+module _ (p : Program) (tags : Tagged) (uses : Uses) (mi : ℕ) (m : MethodInfo) (at_m : slice_get p.methods mi ≡ Some m) where
   pub reached_of : (mode : Mode) (i n : ℕ) → Forbids p tags uses mode mi i n → IsInstructionReached p tags mi i
   reached_of mode i n (breaks k b) = record { m = b.m; insn = b.insn; target = b.target; f = b.f; at = b.at }
   reached_of mode i n (calls first c l) = record { m = c.m; insn = c.insn; target = c.target; f = c.f; at = c.at }
@@ -91,6 +91,6 @@ module _ (p : Program) (tags : Tagged) (uses : List FieldUse) (mi : ℕ) (m : Me
 
 -- ---- marks one behind the other
 
-pub adds_one : (p : Program) (tags : Tagged) (uses : List FieldUse) (s : Section) (mark : SectionMark) (all rest : List Section) (marks : List SectionMark) → IsMarkOf p tags uses s mark → Continues p tags uses all (s ∷ rest) marks
+pub adds_one : (p : Program) (tags : Tagged) (uses : Uses) (s : Section) (mark : SectionMark) (all rest : List Section) (marks : List SectionMark) → IsMarkOf p tags uses s mark → Continues p tags uses all (s ∷ rest) marks
     → Continues p tags uses all rest (marks ++ mark ∷ [])
 adds_one p tags uses s mark all rest marks is c more r = subst (λ l. AllZip (IsMarkOf p tags uses) all l) (sym (append_assoc marks (mark ∷ []) more)) (c (mark ∷ more) (is, r))

@@ -10,46 +10,47 @@ use Rattle.jvm_types.specs.declared.program.MethodInfo.{MethodInfo}
 use Rattle.jvm_types.specs.declared.program.Program.{Program}
 use Rattle.checked_program.specs.LockTags.{TagShape}
 use Rattle.checked_program.specs.TaggedCode.{Tagged}
+use Rattle.checked_program.specs.OwnedArrays.{reads_owned}
 use Rattle.checked_program.specs.Sections.{mode_of_method}
 use Rattle.checked_program.specs.Marks.{Callee, CallsThrough, CallsItself, BreaksAt, section_fault}
 use Rattle.checked_program.specs.declared.tag.Tags.{Tags}
 use Rattle.checked_program.specs.declared.section.Mode.{Mode}
 use Rattle.checked_program.specs.declared.section.Mode.TheVariants.{OnClass}
-use Rattle.checked_program.specs.declared.section.FieldUse.{FieldUse}
+use Rattle.checked_program.specs.declared.section.Uses.{Uses}
 use Rattle.guard_analysis.specs.CallGraph.{node_of, mode_at, call_at}
 
 -- ---- rules that a method breaks
 
-abbrev pub fault_at : Program → List FieldUse → Mode → Option Insn → Option Target
+abbrev pub fault_at : Program → Uses → (mi i : ℕ) → Mode → Option Insn → Option Target
     → Option (Option TagShape) → ℕ
-fault_at p uses mode (Some insn) (Some target) (Some (Some f)) =
-    section_fault p uses mode insn.op target f.stack
-fault_at p uses mode insn target f = 0
+fault_at p uses mi i mode (Some insn) (Some target) (Some (Some f)) =
+    section_fault p uses.fields mode insn.op target f.stack (reads_owned uses mi i)
+fault_at p uses mi i mode insn target f = 0
 
-abbrev pub breaks_before : Program → List FieldUse → MethodInfo → List (Option TagShape) → Mode → ℕ
-    → Bool
-breaks_before p uses m frames mode zero = false
-breaks_before p uses m frames mode (suc i) =
-    breaks_before p uses m frames mode i
-    || nat_lt 0
-    (fault_at p uses mode (slice_get m.code i) (slice_get m.targets i) (slice_get frames i))
+abbrev pub breaks_before : Program → Uses → (mi : ℕ) → MethodInfo → List (Option TagShape) → Mode
+    → ℕ → Bool
+breaks_before p uses mi m frames mode zero = false
+breaks_before p uses mi m frames mode (suc i) =
+    breaks_before p uses mi m frames mode i
+    || nat_lt 0 (fault_at p uses mi i mode (slice_get m.code i) (slice_get m.targets i)
+    (slice_get frames i))
 
-abbrev pub node_breaks : Program → List FieldUse → Option MethodInfo → Option Tags → Mode → Bool
-node_breaks p uses (Some m) (Some t) mode = breaks_before p uses m t.frames mode (length m.code)
-node_breaks p uses m t mode = false
+abbrev pub node_breaks : Program → Uses → (mi : ℕ) → Option MethodInfo → Option Tags → Mode → Bool
+node_breaks p uses mi (Some m) (Some t) mode =
+    breaks_before p uses mi m t.frames mode (length m.code)
+node_breaks p uses mi m t mode = false
 
-abbrev pub breaking_nodes : Program → List FieldUse → List Tags → (class : ℕ) → ℕ → List Bool
+abbrev pub breaking_nodes : Program → Uses → List Tags → (class : ℕ) → ℕ → List Bool
 breaking_nodes p uses tags class zero = []
 breaking_nodes p uses tags class (suc a) =
     breaking_nodes p uses tags class a
-    ++ node_breaks p uses (slice_get p.methods (a / 3)) (slice_get tags (a / 3)) (mode_at class a)
-    ∷ []
+    ++ node_breaks p uses (a / 3) (slice_get p.methods (a / 3)) (slice_get tags (a / 3))
+    (mode_at class a) ∷ []
 
 -- ---- what calls lead to
 
 -- a chain of calls leads to a method that breaks a rule
-pub record LeadsToBreak (p : Program) (tags : Tagged) (uses : List FieldUse) (first : Callee)
-    : Type 0 where
+pub record LeadsToBreak (p : Program) (tags : Tagged) (uses : Uses) (first : Callee) : Type 0 where
   pub called : Callee
   pub over : List Callee
   pub through : CallsThrough p tags first over called
@@ -70,7 +71,7 @@ IsModeFor class (OnClass c) = c ≡ class
 IsModeFor class mode = Unit {0}
 
 -- of each node, by its number
-pub record AreCallees (p : Program) (tags : Tagged) (uses : List FieldUse) (class : ℕ)
+pub record AreCallees (p : Program) (tags : Tagged) (uses : Uses) (class : ℕ)
     (breaks recurs : List Bool) : Type 0 where
   pub broken : (b : Callee) → IsModeFor class b.mode → b.method < length p.methods
       → (slice_index_or breaks (node_of b) false ≡ true) ↔ LeadsToBreak p tags uses b
@@ -89,17 +90,17 @@ grade_of zero (Some b) breaks recurs =
     if slice_index_or breaks b false then 6 else if slice_index_or recurs b false then 7 else 0
 grade_of (suc n) call breaks recurs = suc n
 
-abbrev pub grade_at : Program → List FieldUse → List Bool → List Bool → Mode → MethodInfo
+abbrev pub grade_at : Program → Uses → List Bool → List Bool → Mode → (mi : ℕ) → MethodInfo
     → List (Option TagShape) → ℕ → ℕ
-grade_at p uses breaks recurs mode m frames i =
-    grade_of
-    (fault_at p uses mode (slice_get m.code i) (slice_get m.targets i) (slice_get frames i))
+grade_at p uses breaks recurs mode mi m frames i =
+    grade_of (fault_at p uses mi i mode (slice_get m.code i) (slice_get m.targets i)
+    (slice_get frames i))
     (call_at p mode (slice_get m.code i) (slice_get m.targets i) (slice_get frames i)) breaks
     recurs
 
-abbrev pub grades_before : Program → List FieldUse → List Bool → List Bool → Mode → MethodInfo
+abbrev pub grades_before : Program → Uses → List Bool → List Bool → Mode → (mi : ℕ) → MethodInfo
     → List (Option TagShape) → ℕ → List ℕ
-grades_before p uses breaks recurs mode m frames zero = []
-grades_before p uses breaks recurs mode m frames (suc i) =
-    grades_before p uses breaks recurs mode m frames i
-    ++ grade_at p uses breaks recurs mode m frames i ∷ []
+grades_before p uses breaks recurs mode mi m frames zero = []
+grades_before p uses breaks recurs mode mi m frames (suc i) =
+    grades_before p uses breaks recurs mode mi m frames i
+    ++ grade_at p uses breaks recurs mode mi m frames i ∷ []

@@ -2,9 +2,7 @@
 use Rattle.std.specs.Prelude.{◌-◌, ℕ, zero, suc, Bool, true, false, not, ◌&&◌, ◌||◌, nat_lt}
 use Rattle.std.specs.Prelude.{if◌then◌else◌, List, [], ◌∷◌, ◌++◌, length, replicate, Option, Some}
 use Rattle.std.specs.Prelude.{None, slice_get, slice_set, slice_index_or}
-use Rattle.std.specs.List.{list_any}
 use Rattle.jvm_types.specs.ClassNames.{file_class}
-use Rattle.jvm_types.specs.CodeTable.{is_init}
 use Rattle.jvm_types.specs.Members.{is_private, is_static, is_final}
 use Rattle.jvm_types.specs.declared.code.Insn.{Insn}
 use Rattle.jvm_types.specs.declared.code.Op.{Op}
@@ -15,7 +13,7 @@ use Rattle.jvm_types.specs.declared.program.FieldInfo.{FieldInfo}
 use Rattle.jvm_types.specs.declared.program.MethodInfo.{MethodInfo}
 use Rattle.jvm_types.specs.declared.program.Program.{Program}
 use Rattle.checked_program.specs.LockTags.{TagShape, is_this}
-use Rattle.checked_program.specs.FrozenPlaces.{locks_this, writes_class}
+use Rattle.checked_program.specs.FrozenPlaces.{stands_guarded, writes_class}
 use Rattle.checked_program.specs.declared.tag.Tag.TheVariants.{Untagged}
 use Rattle.checked_program.specs.declared.tag.Tags.{Tags}
 use Rattle.checked_program.specs.declared.section.FieldUse.{FieldUse}
@@ -24,9 +22,7 @@ use Rattle.checked_program.specs.declared.section.FieldUse.TheVariants.{Frozen, 
 -- ---- writes
 
 abbrev pub writes_guarded : MethodInfo → TagShape → Bool
-writes_guarded m f =
-    is_this (slice_index_or f.stack 1 Untagged)
-    && (is_init m || (list_any is_this f.held || locks_this m))
+writes_guarded m f = is_this (slice_index_or f.stack 1 Untagged) && stands_guarded m f
 
 -- a static field of a class; none of none
 abbrev pub writes_class_of : Option FieldInfo → MethodInfo → Bool

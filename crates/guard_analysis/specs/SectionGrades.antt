@@ -16,7 +16,7 @@ use Rattle.checked_program.specs.declared.section.Spot.{Spot}
 use Rattle.checked_program.specs.declared.section.Spot.TheVariants.{Method}
 use Rattle.checked_program.specs.declared.section.SectionMark.{SectionMark}
 use Rattle.checked_program.specs.declared.section.Mode.{Mode}
-use Rattle.checked_program.specs.declared.section.FieldUse.{FieldUse}
+use Rattle.checked_program.specs.declared.section.Uses.{Uses}
 use Rattle.std.specs.List.{AllZip, filter_map}
 use Rattle.std.specs.Option.{option_to_list}
 use Rattle.guard_analysis.specs.BlockWalks.{Has, IsInside}
@@ -41,7 +41,7 @@ depth_on_this insn target f = None
 
 -- a rule forbids the section of a method that runs it so by one instruction: it breaks the rule, or
 -- it calls what does or recurs
-pub data Forbids (p : Program) (tags : Tagged) (uses : List FieldUse) (mode : Mode) (mi i : ℕ) : ℕ
+pub data Forbids (p : Program) (tags : Tagged) (uses : Uses) (mode : Mode) (mi i : ℕ) : ℕ
     → Type 0 where
   breaks : (n : ℕ) → BreaksAt p tags uses (callee mi mode) i n → Forbids p tags uses mode mi i n
   calls : (first : Callee) → Calls p tags (callee mi mode) i first → LeadsToBreak p tags uses first
@@ -50,12 +50,12 @@ pub data Forbids (p : Program) (tags : Tagged) (uses : List FieldUse) (mode : Mo
       → Forbids p tags uses mode mi i 7
 
 -- the first such rule; 0 where there is none
-pub record IsGrade (p : Program) (tags : Tagged) (uses : List FieldUse) (mode : Mode) (mi i n : ℕ)
+pub record IsGrade (p : Program) (tags : Tagged) (uses : Uses) (mode : Mode) (mi i n : ℕ)
     : Type 0 where
   pub forbids : 0 < n → Forbids p tags uses mode mi i n
   pub first : (k : ℕ) → Forbids p tags uses mode mi i k → (0 < n) × (n ≤ k)
 
-pub record AreGrades (p : Program) (tags : Tagged) (uses : List FieldUse) (mode : Mode) (mi : ℕ)
+pub record AreGrades (p : Program) (tags : Tagged) (uses : Uses) (mode : Mode) (mi : ℕ)
     (m : MethodInfo) (grades : List ℕ) : Type 0 where
   pub long : length grades ≡ length m.code
   pub each : (i : ℕ) → i < length m.code → IsGrade p tags uses mode mi i (slice_index grades i)
@@ -88,15 +88,14 @@ pub record IsFreshWalk (m : MethodInfo) (i : ℕ) (w : Walk) : Type 0 where
 -- ---- marks, section by section
 
 -- what marks the sections that are left completes the marks of all
-abbrev pub Continues : Program → Tagged → List FieldUse → (all rest : List Section)
-    → List SectionMark → Type 0
+abbrev pub Continues : Program → Tagged → Uses → (all rest : List Section) → List SectionMark
+    → Type 0
 Continues p tags uses all rest marks =
     (more : List SectionMark) → AllZip (IsMarkOf p tags uses) rest more
     → AllZip (IsMarkOf p tags uses) all (marks ++ more)
 
 -- some sections are marked, whatever was before them and is behind them
-abbrev pub Marks : Program → Tagged → List FieldUse → List Section → (old new : List SectionMark)
-    → Type 0
+abbrev pub Marks : Program → Tagged → Uses → List Section → (old new : List SectionMark) → Type 0
 Marks p tags uses some old new =
     (all rest : List Section) → Continues p tags uses all (some ++ rest) old
     → Continues p tags uses all rest new
@@ -109,8 +108,8 @@ abbrev pub whole_of : MethodInfo → List Spot
 whole_of m = if is_synchronized m.flags then Method ∷ [] else []
 
 -- the blocks that begin at the first instructions of a code are marked
-abbrev pub MarksUpTo : Program → Tagged → List FieldUse → ℕ → List Insn → ℕ
-    → (old new : List SectionMark) → Type 0
+abbrev pub MarksUpTo : Program → Tagged → Uses → ℕ → List Insn → ℕ → (old new : List SectionMark)
+    → Type 0
 MarksUpTo p tags uses mi code i old new =
     (all rest : List Section)
     → Continues p tags uses all

@@ -13,7 +13,7 @@ ghost use Rattle.graph_closure.specs.LeastSet.{IsGraph};
 use crate::call_graph::{call_graph, mode_at};
 use crate::calls::call_at;
 use crate::faults::{fault_at, node_breaks};
-use checked_program::{FieldUse, Mode, Tags};
+use checked_program::{Mode, Tags, Uses};
 use graph_closure::{leading, recurring};
 use jvm_types::{MethodInfo, Program, Rows};
 use std::alloc::{AllocError, Global};
@@ -30,7 +30,7 @@ pub(crate) struct Callees {
 fn breaking_nodes(
     alloc: Global,
     p: &Program,
-    uses: &Rows<FieldUse>,
+    uses: &Uses,
     tags: &Rows<Tags>,
     class: u16,
 ) -> Result<Vec<bool>, AllocError>
@@ -56,7 +56,7 @@ impl Callees {
     pub(crate) fn of(
         alloc: Global,
         p: &Program,
-        uses: &Rows<FieldUse>,
+        uses: &Uses,
         tags: &Rows<Tags>,
         class: u16,
     ) -> Result<Callees, AllocError>
@@ -117,19 +117,20 @@ impl Callees {
         &self,
         alloc: Global,
         p: &Program,
-        uses: &Rows<FieldUse>,
+        uses: &Uses,
         mode: Mode,
+        method: u32,
         m: &MethodInfo,
         tags: &Tags,
     ) -> Result<Vec<u8>, AllocError>
         requires few { length p.now.methods ≤ most }
         ensures { IfOk result (λ v.
             v.items ≡ grades_before p.now uses.now self.now.breaks.items self.now.recurs.items
-            mode m.now tags.now.frames (length m.now.code)) }
+            mode method m.now tags.now.frames (length m.now.code)) }
     {
         let mut grades = Vec::new(alloc);
         for i in 0..m.code.len() {
-            let fault = fault_at(p, uses, mode, m, tags, i);
+            let fault = fault_at(p, uses, method as usize, mode, m, tags, i);
             let call = call_at(p, mode, m, tags, i);
             grades.push(self.grade_of(fault, call))?;
         }

@@ -3,14 +3,17 @@
 ghost use Rattle.std.specs.Prelude.{◌≡◌, length, slice_get, slice_index_or};
 ghost use Rattle.checked_program.specs.FrozenPlaces.{locks_class, locks_this};
 ghost use Rattle.checked_program.specs.Marks.{call_fault, class_of_field, class_of_method};
-ghost use Rattle.checked_program.specs.Marks.{enter_fault, is_class_locking, is_locking};
+ghost use Rattle.checked_program.specs.OwnedArrays.{reads_owned};
+ghost use Rattle.checked_program.specs.Marks.{element_fault, enter_fault, is_class_locking};
+ghost use Rattle.checked_program.specs.Marks.{is_locking};
 ghost use Rattle.checked_program.specs.Marks.{section_fault, use_fault};
 ghost use Rattle.checked_program.specs.declared.section.FieldUse.TheVariants.{Open as open_use};
 ghost use Rattle.guard_analysis.specs.Faults.{breaks_before, fault_at, node_breaks};
 
+use crate::callees::flag_at;
 use crate::calls::{is_own_class, is_own_object, receiver_tag};
 use crate::tag_reading::stack_tag;
-use checked_program::{FieldUse, Mode, TagFrame, Tags};
+use checked_program::{FieldUse, Mode, TagFrame, Tags, Uses};
 use jvm_types::flags::{is_static, is_synchronized};
 use jvm_types::{MethodInfo, Op, Program, Rows, Target};
 
@@ -102,8 +105,27 @@ fn read_fault(field_use: FieldUse, own: bool) -> u8
     }
 }
 
+/// Whether an instruction of a method reads an element of an array that `this` owns.
+pub fn reads_owned(uses: &Uses, method: usize, i: usize) -> bool
+    ensures { result ≡ reads_owned uses.now method i }
+{
+    match uses.elements.get(method) {
+        Some(flags) => flag_at(flags.as_slice(), i),
+        None => false,
+    }
+}
+
+fn element_fault(mode: Mode, owned: bool) -> u8
+    ensures { result ≡ element_fault mode owned }
+{
+    match mode {
+        Mode::OnThis => { if owned { 0 } else { 5 } }
+        _ => 5,
+    }
+}
+
 /// The number of the rule that an instruction breaks in a method that a section runs so; 0 for
-/// none.
+/// none. `owned` tells whether it reads an element of an array that `this` owns.
 fn fault(
     p: &Program,
     uses: &Rows<FieldUse>,
@@ -111,8 +133,9 @@ fn fault(
     op: &Op,
     target: Target,
     frame: &TagFrame,
+    owned: bool,
 ) -> u8
-    ensures { result ≡ section_fault p.now uses.now mode op.now target frame.now.stack }
+    ensures { result ≡ section_fault p.now uses.now mode op.now target frame.now.stack owned }
 {
     match op {
         Op::Putfield(_) => 1,
@@ -153,7 +176,7 @@ fn fault(
             ),
             _ => 0,
         },
-        Op::Iaload => 5,
+        Op::Iaload => element_fault(mode, owned),
         Op::Getfield(_) => match target {
             Target::Field(f) => read_fault(
                 use_of(uses, f),
@@ -168,19 +191,23 @@ fn fault(
 /// The same of the instruction of a number; 0 where it is not reached.
 pub fn fault_at(
     p: &Program,
-    uses: &Rows<FieldUse>,
+    uses: &Uses,
+    method: usize,
     mode: Mode,
     m: &MethodInfo,
     tags: &Tags,
     i: usize,
 ) -> u8
-    ensures { result ≡ fault_at p.now uses.now mode (slice_get m.now.code i)
+    ensures { result ≡ fault_at p.now uses.now method i mode (slice_get m.now.code i)
         (slice_get m.now.targets i) (slice_get tags.now.frames i) }
 {
     match m.code.get(i) {
         Some(insn) => match m.targets.get(i) {
             Some(target) => match tags.frames.get(i) {
-                Some(Some(f)) => fault(p, uses, mode, &insn.op, *target, f),
+                Some(Some(f)) => {
+                    let owned = reads_owned(uses, method, i);
+                    fault(p, &uses.fields, mode, &insn.op, *target, f, owned)
+                }
                 Some(None) => 0,
                 None => 0,
             },
@@ -191,12 +218,13 @@ pub fn fault_at(
 }
 
 /// Whether some instruction of a method breaks a rule.
-fn breaks(p: &Program, uses: &Rows<FieldUse>, mode: Mode, m: &MethodInfo, tags: &Tags) -> bool
-    ensures { result ≡ breaks_before p.now uses.now m.now tags.now.frames mode (length m.now.code) }
+fn breaks(p: &Program, uses: &Uses, method: usize, mode: Mode, m: &MethodInfo, tags: &Tags) -> bool
+    ensures { result
+        ≡ breaks_before p.now uses.now method m.now tags.now.frames mode (length m.now.code) }
 {
     let mut found = false;
     for i in 0..m.code.len() {
-        let broken = fault_at(p, uses, mode, m, tags, i) > 0;
+        let broken = fault_at(p, uses, method, mode, m, tags, i) > 0;
         found = found || broken;
     }
     found
@@ -205,17 +233,17 @@ fn breaks(p: &Program, uses: &Rows<FieldUse>, mode: Mode, m: &MethodInfo, tags: 
 /// Whether some instruction of the method of a number breaks a rule.
 pub(crate) fn node_breaks(
     p: &Program,
-    uses: &Rows<FieldUse>,
+    uses: &Uses,
     tags: &Rows<Tags>,
     method: usize,
     mode: Mode,
 ) -> bool
-    ensures { result ≡ node_breaks p.now uses.now (slice_get p.now.methods method)
+    ensures { result ≡ node_breaks p.now uses.now method (slice_get p.now.methods method)
         (slice_get tags.now method) mode }
 {
     match p.methods.get(method) {
         Some(m) => match tags.get(method) {
-            Some(t) => breaks(p, uses, mode, m, t),
+            Some(t) => breaks(p, uses, method, mode, m, t),
             None => false,
         },
         None => false,

@@ -8,7 +8,7 @@ ghost use Rattle.checked_program.specs.LockTags.{is_this};
 ghost use Rattle.checked_program.specs.declared.tag.Tag.TheVariants.{Untagged as untagged};
 ghost use Rattle.checked_program.specs.TaggedCode.{tagged_by};
 ghost use Rattle.jvm_types.specs.Members.{is_class_init_name};
-ghost use Rattle.checked_program.specs.FrozenPlaces.{AreUses};
+ghost use Rattle.checked_program.specs.FrozenPlaces.{stands_guarded, AreFieldUses};
 ghost use Rattle.frozen_classes.specs.FrozenClasses.{AreFrozenClasses};
 ghost use Rattle.guard_analysis.specs.FieldUses.{class_flag, field_noted, noted_before, noted_in};
 ghost use Rattle.guard_analysis.specs.FieldUses.{unguarded_at, unguarded_before, unguarded_write};
@@ -47,11 +47,18 @@ fn holds_this(held: &Stack<Tag>) -> bool
     false
 }
 
+/// Whether an instruction stands in an `<init>`, or with the monitor of this held.
+pub fn stands_guarded(m: &MethodInfo, frame: &TagFrame) -> bool
+    ensures { result ≡ stands_guarded m.now frame.now }
+{
+    is_init(m) || (holds_this(frame.held()) || locks_this(m))
+}
+
 /// Whether a `putfield` is on this, in an `<init>` or with the monitor of this held.
-fn writes_guarded(m: &MethodInfo, frame: &TagFrame) -> bool
+pub fn writes_guarded(m: &MethodInfo, frame: &TagFrame) -> bool
     ensures { result ≡ writes_guarded m.now frame.now }
 {
-    is_this(stack_tag(frame, 1)) && (is_init(m) || (holds_this(frame.held()) || locks_this(m)))
+    is_this(stack_tag(frame, 1)) && stands_guarded(m, frame)
 }
 
 /// Whether a method may write a guarded static field: the `<clinit>` of its class, and the static
@@ -125,7 +132,8 @@ pub fn unguarded_at(p: &Program, m: &MethodInfo, tags: &Tags, i: usize) -> Optio
     }
 }
 
-fn note(flags: &mut Rows<bool>, found: Option<u32>)
+/// The flag of a field that was found is set.
+pub fn note(flags: &mut Rows<bool>, found: Option<u32>)
     ensures { flags.new ≡ field_noted flags.old found }
 {
     match found {
@@ -161,7 +169,7 @@ fn note_method(p: &Program, tags: &Rows<Tags>, method: usize, flags: &mut Rows<b
     }
 }
 
-fn no_flags(alloc: Global, len: usize) -> Result<Rows<bool>, AllocError>
+pub fn no_flags(alloc: Global, len: usize) -> Result<Rows<bool>, AllocError>
     ensures { IfOk result (λ flags. flags ≡ replicate len false) }
 {
     Ok(Rows::from_vec(vec![in alloc; false; len]?))
@@ -193,7 +201,8 @@ fn use_by(field: &FieldInfo, frozen: bool, unguarded: bool) -> FieldUse
     }
 }
 
-fn class_flag(flags: &[bool], class: u16) -> bool
+/// The flag of the class of a file; false where there are not so many.
+pub fn class_flag(flags: &[bool], class: u16) -> bool
     ensures { result ≡ class_flag flags.now class }
 {
     if class < FIRST_FILE_CLASS {
@@ -235,7 +244,7 @@ fn all_uses(
 
 /// How each field may be read, in order of the fields. `frozen` has a flag for the class of each
 /// file. The error is that memory was refused.
-pub fn uses(
+pub fn field_uses_of(
     alloc: Global,
     p: &Program,
     tags: &Rows<Tags>,
@@ -243,7 +252,7 @@ pub fn uses(
 ) -> Result<Rows<FieldUse>, AllocError>
     requires program { IsProgram p.now }
     requires frozen { AreFrozenClasses p.now (tagged_by tags.now) frozen.now }
-    ensures { IfOk result (AreUses p.now (tagged_by tags.now)) }
+    ensures { IfOk result (AreFieldUses p.now (tagged_by tags.now)) }
 {
     let unguarded = unguarded_fields(alloc, p, tags)?;
     let uses = all_uses(alloc, p, frozen.as_slice(), unguarded.as_slice())?;

@@ -1,13 +1,17 @@
 //! Marks of synchronized sections: which of them may run without their lock.
 #![tactic(auto)]
 
+mod array_uses;
 pub mod block_walk;
 pub mod call_graph;
 mod callees;
 pub mod calls;
+mod colouring;
 pub mod faults;
 pub mod field_uses;
 pub mod marking;
+mod owned_arrays;
+pub mod readable;
 mod tag_reading;
 
 pub use callees::flag_at;

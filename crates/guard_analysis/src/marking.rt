@@ -26,9 +26,9 @@ ghost use Rattle.guard_analysis.specs.SectionGrades.{AreGrades, IsBlockMark, IsF
 use crate::block_walk::{Walk, explore};
 use crate::callees::Callees;
 use crate::faults::locks_class;
-use crate::field_uses::uses;
+use crate::readable::uses;
 use crate::tag_reading::{is_this, stack_tag};
-use checked_program::{FieldUse, Mode, SectionMark, Spot, TagFrame, Tags};
+use checked_program::{Mode, SectionMark, Spot, TagFrame, Tags, Uses};
 use code_table::IndexedMethod;
 use frozen_classes::frozen_classes;
 use jvm_types::flags::{is_static, is_synchronized};
@@ -137,7 +137,7 @@ fn mark_at(
     alloc: Global,
     walk: &mut Walk,
     p: &Program,
-    uses: &Rows<FieldUse>,
+    uses: &Uses,
     method: u32,
     m: &IndexedMethod<'_>,
     tags: &Rows<Tags>,
@@ -189,7 +189,7 @@ pub fn fresh_walk(alloc: Global, len: usize) -> Result<Walk, AllocError>
 fn mark_blocks(
     alloc: Global,
     p: &Program,
-    uses: &Rows<FieldUse>,
+    uses: &Uses,
     method: u32,
     m: &IndexedMethod<'_>,
     tags: &Rows<Tags>,
@@ -253,7 +253,7 @@ pub fn section_mode(m: &MethodInfo, spot: Spot) -> Mode
 fn mark_whole(
     alloc: Global,
     p: &Program,
-    uses: &Rows<FieldUse>,
+    uses: &Uses,
     callees: &Callees,
     method: u32,
     m: &MethodInfo,
@@ -272,7 +272,7 @@ fn mark_whole(
         (map (section_in method) (whole_of m.now)) marks.old marks.new) }
 {
     if is_synchronized(m.flags) {
-        let grades = callees.grades(alloc, p, uses, method_mode(m), m, t)?;
+        let grades = callees.grades(alloc, p, uses, method_mode(m), method, m, t)?;
         let mark = earliest(grades.as_slice());
         marks.push(SectionMark {
             method,
@@ -287,7 +287,7 @@ fn mark_whole(
 fn mark_method(
     alloc: Global,
     p: &Program,
-    uses: &Rows<FieldUse>,
+    uses: &Uses,
     callees: &Callees,
     method: u32,
     m: &MethodInfo,
@@ -308,7 +308,7 @@ fn mark_method(
 {
     mark_whole(alloc, p, uses, callees, method, m, tags, t, marks)?;
     let indexed = IndexedMethod::of(alloc, m)?;
-    let grades = callees.grades(alloc, p, uses, Mode::OnThis, m, t)?;
+    let grades = callees.grades(alloc, p, uses, Mode::OnThis, method, m, t)?;
     mark_blocks(
         alloc,
         p,
@@ -327,7 +327,7 @@ fn mark_method(
 fn callees_for(
     alloc: Global,
     p: &Program,
-    uses: &Rows<FieldUse>,
+    uses: &Uses,
     tags: &Rows<Tags>,
     m: &MethodInfo,
     callees: Callees,
@@ -352,7 +352,7 @@ fn callees_for(
 fn mark_all(
     alloc: Global,
     p: &Program,
-    uses: &Rows<FieldUse>,
+    uses: &Uses,
     tags: &Rows<Tags>,
 ) -> Result<Rows<SectionMark>, AllocError>
     requires program { IsProgram p.now }
@@ -374,12 +374,12 @@ fn mark_all(
 }
 
 /// The mark of each section of a program, in order of its methods: 0 where it may run without its
-/// lock, else the first rule that forbids that. `uses` has how each field may be read, `tags` the
-/// lock tags of each method.
+/// lock, else the first rule that forbids that. `uses` has what sections may read, `tags` the lock
+/// tags of each method.
 pub fn mark_by_uses(
     alloc: Global,
     p: &Program,
-    uses: &Rows<FieldUse>,
+    uses: &Uses,
     tags: &Rows<Tags>,
 ) -> Result<Rows<SectionMark>, AllocError>
     requires program { IsProgram p.now }

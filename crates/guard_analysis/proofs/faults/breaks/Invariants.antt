@@ -3,4 +3,4 @@ use Rattle.guard_analysis.specs.Faults.{breaks_before}
 use Rattle.guard_analysis.proofs.faults.breaks.Given as goal
 
 abbrev pub invariant-loop-i : goal.invariant-loop-i
-invariant-loop-i l = l.found ≡ breaks_before l.p l.uses l.m l.tags.frames l.mode l.i
+invariant-loop-i l = l.found ≡ breaks_before l.p l.uses l.method l.m l.tags.frames l.mode l.i
