@@ -2,7 +2,7 @@
 -- in an attempt.
 use Rattle.std.{proofs.Common.{◌≡◌, ◌+◌, Bool, true, false, List, [], ◌∷◌, Option, Some, None, refl, inl, inr, arith, map, ◌==◌, if◌then◌else◌}, specs.{Option.option_map, Prelude.unwrap_or}}
 use Rattle.jvm_types.specs.{ClassTree.is_subclass, Types.TypeFrame, declared.typing.{Typing.Typing, VType.TheVariants.{Ref, Top}}}
-use Rattle.checked_program.specs.{FrozenPlaces.AreUses, LockTags.TagShape, MarkedProgram.MarkedProgram, Marks.HasMark, SectionLaws.Part, declared.section.{FieldUse.FieldUse, Mode.TheVariants.OnThis}}
+use Rattle.checked_program.specs.{LockTags.TagShape, MarkedProgram.MarkedProgram, Marks.HasMark, OwnedArrays.AreUses, SectionLaws.Part, declared.section.{Mode.TheVariants.OnThis, Uses.Uses}}
 use Rattle.checked_program.{specs.declared.tag.Tags.Tags, proofs.TriedPrograms.{many, tags_of}}
 use Rattle.machine_types.specs.{Standing.{Standing, tags_of as tags_of_all}, Structure.{Stands, AttemptStands, section_of}, Threads.{Frame, Attempt}, Typed.{Classes, IsNullOr, FramesHold}}
 use Rattle.machine_types.specs.declared.lock.Held.{Held}
@@ -107,7 +107,7 @@ stands_again = record {
 }
 
 -- with the mark of `twice`, which is computed where marks are
-attempt_stands : (uses : List FieldUse) → AreUses marked.program (tags_of_all marked) uses → HasMark marked.program (tags_of_all marked) uses (section_of attempt) 0 → AttemptStands marked phases.Run (sum_frame ∷ twice_frame ∷ []) [] attempt
+attempt_stands : (uses : Uses) → AreUses marked.program (tags_of_all marked) uses → HasMark marked.program (tags_of_all marked) uses (section_of attempt) 0 → AttemptStands marked phases.Run (sum_frame ∷ twice_frame ∷ []) [] attempt
 attempt_stands uses are is = record {
   inside = tt;
   not_held = refl;

@@ -4,7 +4,7 @@ use Rattle.std.specs.{Int.Bits.and_zero_l, List.{AllByRecursion, range_with_len}
 use Rattle.lists.proofs.TestLaws.{first_true, second_true, same_number}
 use Rattle.jvm_types.specs.{Numbers.{has_flag, has_number}, ProgramInvariant.words_of, declared.{fixed_words.TheConstants.MONITOR_RECORDS, program.Program.Program}}
 use Rattle.checked_program.specs.MarkedProgram.{MarkedProgram}
-use Rattle.machine_types.specs.{Attempts.OwesNothing, Bounds.FramesFit, Construction.ThreadKeeps, Core.{start, start_thread, part_phase}, Facts.IsThread, History.{Past, no_past, told_start, past_at}}
+use Rattle.machine_types.specs.{Attempts.OwesNothing, Bounds.FramesFit, Construction.{Owning, ThreadKeeps}, Core.{start, start_thread, part_phase}, Facts.IsThread, History.{Past, no_past, told_start, past_at}}
 use Rattle.machine_types.specs.{Monitors.bit_of, Parts.init_roots, PlainMemory.Object, ReadyObjects.ready_classes, StartLaws.phase_at_start}
 use Rattle.machine_types.specs.{StartWords.{start_words, object_words, class_words, classes_of}, Structure.{IsStructured, Structure}, Threads.{Thread, fresh}, Typed.{Classes, HasClass, ThreadHolds}}
 use Rattle.machine_types.specs.{Waiting.{is_bit_set, Waits, Waiting}, Words.bits_word, Worlds.{Builder, World, IsOwnOrFinished, IsViewOf}, declared.{config.Config.Config, lock.Held.Held}}
@@ -98,17 +98,17 @@ sees_all w t = record {
   own = λ v b d e k h. let g : Some b ≡ Some d = sym e ∙ h in let i : b ≡ d = cc in subst (λ (x : Builder). x.thread ≡ t) i k;
 }
 
-fresh_keeps : (m : MarkedProgram) (frozen : ℕ → Bool) (w : World) (next : ℕ) (c : MarkedProgram) (cfg : Config) (t i : ℕ) (phase : Phase) (roots : List ℕ) → IsFreshPhase phase → ThreadKeeps m frozen w next t phase (fresh c cfg i phase roots)
-fresh_keeps m frozen w next c cfg t i _ roots starts = record { now = w; now_is = sees_all w t; now_world = λ k. k; frames = tt; phase = tt; held = λ h k. none_held w next t h k; attempt = tt }
-fresh_keeps m frozen w next c cfg t i _ roots idles = record { now = w; now_is = sees_all w t; now_world = λ k. k; frames = tt; phase = tt; held = λ h k. none_held w next t h k; attempt = tt }
-fresh_keeps m frozen w next c cfg t i _ roots is_over = record { now = w; now_is = sees_all w t; now_world = λ k. k; frames = tt; phase = tt; held = λ h k. none_held w next t h k; attempt = tt }
+fresh_keeps : (m : MarkedProgram) (frozen : ℕ → Bool) (own : Owning) (w : World) (next : ℕ) (c : MarkedProgram) (cfg : Config) (t i : ℕ) (phase : Phase) (roots : List ℕ) → IsFreshPhase phase → ThreadKeeps m frozen own w next t phase (fresh c cfg i phase roots)
+fresh_keeps m frozen own w next c cfg t i _ roots starts = record { now = w; now_is = sees_all w t; now_world = λ k. k; frames = tt; phase = tt; held = λ h k. none_held w next t h k; attempt = tt }
+fresh_keeps m frozen own w next c cfg t i _ roots idles = record { now = w; now_is = sees_all w t; now_world = λ k. k; frames = tt; phase = tt; held = λ h k. none_held w next t h k; attempt = tt }
+fresh_keeps m frozen own w next c cfg t i _ roots is_over = record { now = w; now_is = sees_all w t; now_world = λ k. k; frames = tt; phase = tt; held = λ h k. none_held w next t h k; attempt = tt }
 
-thread_keeps : (m : MarkedProgram) (frozen : ℕ → Bool) (w : World) (next : ℕ) (c : MarkedProgram) (cfg : Config) (t i : ℕ) → ThreadKeeps m frozen w next t (phase_at_start c cfg i) (start_thread c cfg i)
-thread_keeps m frozen w next c cfg t zero = fresh_keeps m frozen w next c cfg t 0 (part_phase (init_roots c.program)) (init_roots c.program) (part_is_fresh (init_roots c.program))
-thread_keeps m frozen w next c cfg t (suc i) = fresh_keeps m frozen w next c cfg t (suc i) phases.Idle [] idles
+thread_keeps : (m : MarkedProgram) (frozen : ℕ → Bool) (own : Owning) (w : World) (next : ℕ) (c : MarkedProgram) (cfg : Config) (t i : ℕ) → ThreadKeeps m frozen own w next t (phase_at_start c cfg i) (start_thread c cfg i)
+thread_keeps m frozen own w next c cfg t zero = fresh_keeps m frozen own w next c cfg t 0 (part_phase (init_roots c.program)) (init_roots c.program) (part_is_fresh (init_roots c.program))
+thread_keeps m frozen own w next c cfg t (suc i) = fresh_keeps m frozen own w next c cfg t (suc i) phases.Idle [] idles
 
-pub keeps : (c : MarkedProgram) (cfg : Config) (frozen : ℕ → Bool) (w : World) (next t : ℕ) (x : Thread) → slice_get (start c cfg).threads t ≡ Some x → ThreadKeeps c frozen w next t (phase_at_start c cfg t) x
-keeps c cfg frozen w next t x e = subst (λ (y : Thread). ThreadKeeps c frozen w next t (phase_at_start c cfg t) y) (is_start_thread c cfg t x e) (thread_keeps c frozen w next c cfg t t)
+pub keeps : (c : MarkedProgram) (cfg : Config) (frozen : ℕ → Bool) (own : Owning) (w : World) (next t : ℕ) (x : Thread) → slice_get (start c cfg).threads t ≡ Some x → ThreadKeeps c frozen own w next t (phase_at_start c cfg t) x
+keeps c cfg frozen own w next t x e = subst (λ (y : Thread). ThreadKeeps c frozen own w next t (phase_at_start c cfg t) y) (is_start_thread c cfg t x e) (thread_keeps c frozen own w next c cfg t t)
 
 -- ---- attempts
 

@@ -1,13 +1,14 @@
 -- A replay of what is due of an attempt is a run of the plain machine, where its thread holds the monitor.
-use Rattle.std.proofs.Common.{◌≡◌, ◌≢◌, ℕ, zero, suc, ◌+◌, Bool, true, false, cond, List, [], ◌∷◌, Option, Some, None, refl, sym, ap, ◌∙◌, arith, ◌==◌, option_map, option_and_then, slice_get, slice_set}
+use Rattle.std.proofs.Common.{◌≡◌, ◌≢◌, ℕ, zero, suc, ◌+◌, Bool, true, false, cond, List, [], ◌∷◌, Option, Some, None, refl, sym, ap, ◌∙◌, arith, ◌==◌, nat_lt, option_map, option_and_then, slice_get, slice_set}
 use Rattle.std.proofs.lemmas.{Bool.{eqb-true, Decides.nat_tests}, List.set-set}
 use Rattle.lists.proofs.ListLaws.{same_some}
-use Rattle.jvm_types.specs.declared.program.Program.{Program}
+use Rattle.jvm_types.specs.declared.{outcome.Thrown.TheVariants.ArrayIndexOutOfBoundsException, program.Program.Program}
 use Rattle.machine_types.specs.{Effects.{Effect, Writes, Indexes, Makes, Prints, Returns, Leaves, Waits, Notifies, NotifiesAll, read_by}, Frames.{Top, top_of, effect_at, went_on}, History.steps_of}
-use Rattle.machine_types.specs.{Onward.{Onward, Entering, Leaving, Next, after, returns, dispatched, done}, PlainInstructions.{plain_did, if_plain_held, if_left, plain_instructed, got_by}}
+use Rattle.machine_types.specs.{Ints.low, Onward.{Onward, Running, Entering, Leaving, Next, threw, after, returns, dispatched, done}}
+use Rattle.machine_types.specs.PlainInstructions.{plain_did, indexed_in, if_plain_held, if_left, plain_instructed, got_by}
 use Rattle.machine_types.specs.PlainState.{Plain, PlainThread, Holding, Status, value_at, holding_at, with_holding, held_by, is_holder, with_thread, with_status, plain_goes_on}
 use Rattle.machine_types.specs.{PlainSteps.{plain_entered, left, exited, step_at, step_of, plain_run}, Replay.{Alone, only_on, reads_only, goes, instructs, enters, leaves, replay_act, replayed}}
-use Rattle.machine_types.{specs.declared.{phase.After.After, plain.Act.Act}, proofs.{Lists.{set_as_it_is, got_when_set}, PlainStepLaws.{is_same, found_when_put}}}
+use Rattle.machine_types.{specs.{Words.{header_length, value_word}, declared.{phase.After.After, plain.Act.Act}}, proofs.{Lists.{set_as_it_is, got_when_set}, PlainStepLaws.{is_same, found_when_put}}}
 use Rattle.machine_types.specs.PlainState as plain
 use Rattle.machine_types.specs.declared.plain.Act.TheVariants as acts
 
@@ -125,10 +126,19 @@ leaves_as p q t m n x z at begun true k f some e =
     is_other n m e some = grind (arith, nat_tests, e, some)
 leaves_as p q t m n x z at begun false k f some e = cc
 
+-- an element, if there are so many and its word is there
+element_as : (p : Program) (q : Plain) (t m : ℕ) (x z : Alone) (at : Top) (begun word : ℕ) (inside : Bool) (o : Option ℕ) → Stands q t m x
+    → goes (record x { begun = begun }) (option_and_then (only_on m) (cond inside (option_map (λ value. Running (went_on p at value)) o) (Some (threw ArrayIndexOutOfBoundsException at)))) ≡ Some z
+    → cond inside (option_map (indexed_in p q t x.thread at word None) o) (Some (with_thread q t (plain_goes_on x.thread (threw ArrayIndexOutOfBoundsException at)))) ≡ Some (stands_as q t m z)
+element_as p q t m x z at begun word true None f e = cc
+element_as p q t m x z at begun word true (Some value) f e = ap Some (onward_as q t m x z begun (Running (went_on p at value)) f e)
+element_as p q t m x z at begun word false o f e = ap Some (onward_as q t m x z begun (threw ArrayIndexOutOfBoundsException at) f e)
+
 did_as : (p : Program) (q : Plain) (t m : ℕ) (x z : Alone) (at : Top) (begun : ℕ) (e : Effect) (got : ℕ) → Stands q t m x → m ≢ 0
-    → goes (record x { begun = begun }) (option_and_then (only_on m) (reads_only p at e got)) ≡ Some z → plain_did p q t x.thread at e got ≡ Some (stands_as q t m z)
+    → goes (record x { begun = begun }) (option_and_then (only_on m) (reads_only p (value_at q) at e got)) ≡ Some z → plain_did p q t x.thread at e got ≡ Some (stands_as q t m z)
 did_as p q t m x z at begun (Writes v word) got f some s = cc
-did_as p q t m x z at begun (Indexes array index stored) got f some s = cc
+did_as p q t m x z at begun (Indexes array index None) got f some s = element_as p q t m x z at begun (value_word array (low index)) (nat_lt (low index) (header_length got)) (value_at q (value_word array (low index))) f s
+did_as p q t m x z at begun (Indexes array index (Some v)) got f some s = cc
 did_as p q t m x z at begun (Makes word size) got f some s = cc
 did_as p q t m x z at begun (Prints n) got f some s = cc
 did_as p q t m x z at begun Returns got f some s = ap Some (if_left_as q t m x z at begun (returns p at) f s)
@@ -139,7 +149,7 @@ did_as p q t m x z at begun (NotifiesAll n) got f some s = cc
 did_as p q t m x z at begun e got f some s = mapped_as q t m x z begun (done p at e got) f s
 
 got_as : (p : Program) (q : Plain) (t m : ℕ) (x z : Alone) (at : Top) (begun : ℕ) (e : Effect) (o : Option ℕ) → Stands q t m x → m ≢ 0
-    → goes (record x { begun = begun }) (option_and_then (λ got. option_and_then (only_on m) (reads_only p at e got)) o) ≡ Some z
+    → goes (record x { begun = begun }) (option_and_then (λ got. option_and_then (only_on m) (reads_only p (value_at q) at e got)) o) ≡ Some z
     → option_and_then (λ got. plain_did p q t x.thread at e got) o ≡ Some (stands_as q t m z)
 got_as p q t m x z at begun e None f some s = cc
 got_as p q t m x z at begun e (Some got) f some s = did_as p q t m x z at begun e got f some s

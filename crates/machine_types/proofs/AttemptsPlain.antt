@@ -7,7 +7,7 @@ use Rattle.jvm_types.specs.declared.{fixed_words.TheConstants.NEXT_FREE_WORD, ou
 use Rattle.laws_programs.proofs.FieldOrder.{instances_inside, statics_inside}
 use Rattle.checked_program.specs.MarkedProgram.{MarkedProgram}
 use Rattle.machine_types.specs.{Agreement.{IsPending, AttemptFits, ThreadFits, has_wait_bit, depth_for, depth_of}, AttemptLaws.{ReachesPresent, AttemptsArePlain}}
-use Rattle.machine_types.specs.{Attempts.{IsFieldAt, Stays, header, frozen, guarded, frozen_static, guarded_static, IsAsNoted, Owes}, Facts.{Facts, FactsBeside}, HeldMonitors.held_at}
+use Rattle.machine_types.specs.{Attempts.{IsFieldAt, Stays, header, frozen, guarded, element, frozen_static, guarded_static, IsAsNoted, Owes}, Facts.{Facts, FactsBeside}, HeldMonitors.held_at}
 use Rattle.machine_types.specs.{History.{Told, past_at, steps_of}, LockWords.{lock_of, lock_by}, NewObjects.{IsNewObject, size_by}}
 use Rattle.machine_types.specs.Owners.{lock_at, NotHeld, hold_by_word, hold_by_list, hold_by_kept, owner_at, references_of}
 use Rattle.machine_types.specs.PlainMemory.{Object, StaticValue, object_end, value_in, object_value, static_value, has_value, header_of, first_value}
@@ -137,12 +137,18 @@ module _ (c : MarkedProgram) (cfg : Config) (told : Told) (q : Plain) (k : Facts
       let same : slice_index told.core.words f.index ≡ v.0 = k.agrees.places f.index v.0 v.1 (static_not_pending fi f get static) in
       subst (λ (n : ℕ). value_at q n ≡ Some (slice_index told.core.words n)) (sym place) (v.1 ∙ ap Some (sym same))
 
-  stays : (t m x : ℕ) → Stays c k.facts.objects k.facts.world next_free t m x → value_at q x ≡ Some (slice_index told.core.words x)
+  stays : (t m x : ℕ) → Stays c k.facts.owning.stores k.facts.objects k.facts.world next_free t m x → value_at q x ≡ Some (slice_index told.core.words x)
   stays t m x (header o there place) =
       subst (λ (n : ℕ). value_at q n ≡ Some (slice_index told.core.words n)) (sym place)
       (plain_has o (header_word o.reference) there (λ e r l. subst (λ (n : ℕ). HasValue (value_in e (header_word n))) r (has_header e)) (omega arith) (omega arith))
   stays t m x (frozen fi o field at) = field_there t fi x o field.field field.is field.instance at
   stays t m x (guarded fi o field on at) = field_there t fi x o field.field field.is field.instance at
+  stays t m x (element fi o owned there on e) =
+      subst (λ (n : ℕ). value_at q n ≡ Some (slice_index told.core.words n)) (sym e.place)
+      (plain_has e.array (value_word e.array.reference e.index) e.there
+      (λ o r l. subst (λ (n : ℕ). HasValue (value_in o (value_word n e.index))) r (has_field o e.index (omega (arith, l, e.inside))))
+      (omega arith)
+      (omega (arith, e.inside)))
   stays t m x (frozen_static fi field place) = static_there fi x field.field field.is field.static place
   stays t m x (guarded_static fi field on place) = static_there fi x field.field field.is field.static place
 
@@ -201,9 +207,9 @@ module _ (c : MarkedProgram) (cfg : Config) (told : Told) (q : Plain) (k : Facts
   leads : (t : ℕ) (x : Thread) (a : Attempt) → slice_get told.core.threads t ≡ Some x → x.attempt ≡ Some a → IsAsNoted told.core.words a → (ended : List End)
       → replayed c.program a.monitor (value_at q) (past_at told t).due (at_entry x a ended) ≡ Some (at_present x a (k.facts.was t) (past_at told t).pending ended)
   leads t x a e tries noted ended =
-      let owes : Owes c k.facts.objects k.facts.world told.core t (k.facts.was t) x (Some a) (past_at told t)
-      = subst (λ (o : Option Attempt). Owes c k.facts.objects k.facts.world told.core t (k.facts.was t) x o (past_at told t)) tries (k.facts.attempts.each t x e) in
-      owes noted (value_at q) (stays t a.monitor) ended
+      let owes : Owes c k.facts.owning.stores k.facts.objects k.facts.world told.core t (k.facts.was t) x (Some a) (past_at told t)
+      = subst (λ (o : Option Attempt). Owes c k.facts.owning.stores k.facts.objects k.facts.world told.core t (k.facts.was t) x o (past_at told t)) tries (k.facts.attempts.each t x e) in
+      owes.1 noted (value_at q) (stays t a.monitor) ended
 
   enters : (t : ℕ) (x : Thread) (a : Attempt) (y : PlainThread) → slice_get q.threads t ≡ Some y → AttemptFits x a y → IsAsNoted told.core.words a
       → plain_step c.program q (record { thread = t; act = acts.Enter }) ≡ Some (stands_as q t a.monitor (at_entry x a y.ended))

@@ -1,10 +1,10 @@
 -- All facts hold at the start of a run.
-use Rattle.std.proofs.Common.{◌≡◌, inl, ℕ, zero, suc, pos, ◌<◌, ◌%◌, ◌^◌, true, List, Option, Some, None, refl, sym, ap, subst, ◌∙◌, arith, Bool, Contains, slice_get, slice_index, cond}
+use Rattle.std.proofs.Common.{◌≡◌, inl, ℕ, zero, suc, pos, ◌<◌, ◌%◌, ◌^◌, true, false, List, Option, Some, None, refl, sym, ap, subst, ◌∙◌, arith, Bool, Contains, slice_get, slice_index, cond}
 use Rattle.std.specs.Int.{w32, cast_unsigned}
 use Rattle.jvm_types.specs.{Layout.kept_int, Members.is_static, ProgramInvariant.{IsProgram, words_of}, declared.program.{FieldInfo.FieldInfo, Kind.Kind, Program.Program}}
 use Rattle.checked_program.specs.MarkedProgram.{MarkedProgram}
-use Rattle.machine_types.specs.{Attempts.{Attempts, Owes}, Construction.{AreFrozen, Construction, KindKeeps}, Core.{start, start_thread}, History.{told_start, past_at}, Ints.word_of}
-use Rattle.machine_types.specs.{NewObjects.NewObjects, PlainMemory.{Object, start_objects}, StartLaws.{StartHasFacts, phase_at_start}, StartWords.start_words, Threads.{Attempt, Thread, Config}}
+use Rattle.machine_types.specs.{Attempts.{Attempts, Owes}, Construction.{AreFrozen, AreOwned, Construction, KindKeeps, PlaceStores}, Core.{start, start_thread}, History.{told_start, past_at}, Ints.word_of}
+use Rattle.machine_types.specs.{NewObjects.NewObjects, OwnedPlaces.nowhere, PlainMemory.{Object, start_objects}, StartLaws.{StartHasFacts, phase_at_start}, StartWords.start_words, Threads.{Attempt, Thread, Config}}
 use Rattle.machine_types.specs.{Typed.{Typed, PlacesHold, HasClass, KindHolds}, Worlds.World, declared.phase.Phase.Phase}
 use Rattle.machine_types.proofs.{AtStart.{IsFreshPhase, starts, idles, is_over, is_start_thread, phase_is_fresh, has_threads, is_structured, is_typed, keeps, owes_nothing, waits}, Lists.got_contained}
 use Rattle.machine_types.proofs.{OwnersAtStart.start_owns_all, PlacesAtStart.{lies_apart, is_unused, IsPlaced, object_placed, stands, class_from}, WordsAtStart.{header_is, static_is}}
@@ -68,6 +68,12 @@ static_keeps p is n f kinds.Int e s k = tt
 static_keeps p is n f kinds.Bool e s k = tt
 static_keeps p is n f (kinds.Ref class) e s k = (omega (arith, null_at p is n class f e s k), refl)
 
+-- no array was stored in an owned field
+none_stored : (kind : Kind) (word v : ℕ) → PlaceStores nowhere word false kind v
+none_stored kinds.Int word v = tt
+none_stored kinds.Bool word v = tt
+none_stored (kinds.Ref class) word v = refl
+
 places_hold : (p : Program) → IsProgram p → PlacesHold p (start_objects p) (start_words p)
 places_hold p is = record {
   headers = λ o k. header_is p is k.0 o (got_contained (start_objects p) k.0 o k.1 k.2);
@@ -92,32 +98,37 @@ new_objects c cfg = record {
 pub none_built : {X : Type 0} (x : X) → None ≡ Some x → ⊥
 none_built x e = cc
 
-construction : (c : MarkedProgram) (cfg : Config) (frozen : ℕ → Bool) → IsProgram c.program → AreFrozen c frozen → Construction c frozen no_world (phase_at_start c cfg) (start_objects c.program) (start c cfg)
-construction c cfg frozen is are = record {
+pub construction : (c : MarkedProgram) (cfg : Config) (frozen owned : ℕ → Bool) → IsProgram c.program → AreFrozen c frozen → AreOwned c owned → Construction c frozen (record { owned = owned; stores = nowhere }) no_world (phase_at_start c cfg) (start_objects c.program) (start c cfg)
+construction c cfg frozen owned is are owned_are = record {
   frozen_are = are;
+  owned_are = owned_are;
   world = record { one = λ v u b lost e h. absurd (none_built b e); inside = λ v b e. absurd (none_built b e); room = omega arith };
-  each = λ t x e. keeps c cfg frozen no_world (words_of c.program) t x e;
+  each = λ t x e. keeps c cfg frozen (record { owned = owned; stores = nowhere }) no_world (words_of c.program) t x e;
   places = record {
     fields = λ o n f k e s same. absurd (not_of_file c.program is o n f k e same);
     statics = λ n f e s. static_keeps c.program is n f f.kind e s refl;
+    arrays = λ o n f k e s same. absurd (not_of_file c.program is o n f k e same);
+    static_arrays = λ n f e s. none_stored f.kind f.index (slice_index (start_words c.program) f.index);
+    stored = λ v word e. absurd (none_built word e);
   };
 }
 
-attempts : (c : MarkedProgram) (cfg : Config) → Attempts c (start_objects c.program) no_world (phase_at_start c cfg) (told_start c cfg)
+attempts : (c : MarkedProgram) (cfg : Config) → Attempts c nowhere (start_objects c.program) no_world (phase_at_start c cfg) (told_start c cfg)
 attempts c cfg = record {
   each = λ t x e.
       let none : x.attempt ≡ None = sym (ap (λ (y : Thread). y.attempt) (is_start_thread c cfg t x e)) ∙ no_attempt c cfg t in
-      subst (λ (o : Option Attempt). Owes c (start_objects c.program) no_world (start c cfg) t (phase_at_start c cfg t) x o (past_at (told_start c cfg) t)) (sym none) (owes_nothing c cfg t);
+      subst (λ (o : Option Attempt). Owes c nowhere (start_objects c.program) no_world (start c cfg) t (phase_at_start c cfg t) x o (past_at (told_start c cfg) t)) (sym none) (owes_nothing c cfg t);
 }
 
 -- ---- all of them
 
 pub facts : StartHasFacts
-facts c cfg frozen is are = record {
+facts c cfg frozen owned is are owned_are = record {
   was = phase_at_start c cfg;
   objects = start_objects c.program;
   world = no_world;
   frozen = frozen;
+  owning = record { owned = owned; stores = nowhere };
   own = has_threads c cfg;
   started = λ o k. (o, k, refl, refl);
   apart = lies_apart c.program is;
@@ -127,10 +138,10 @@ facts c cfg frozen is are = record {
   waiting = waits c cfg;
   typed = typed c cfg is;
   new_objects = new_objects c cfg;
-  construction = construction c cfg frozen is are;
+  construction = construction c cfg frozen owned is are owned_are;
   attempts = attempts c cfg;
 }
 
-pub objects_are : (c : MarkedProgram) (cfg : Config) (frozen : ℕ → Bool) (is : IsProgram c.program) (are : AreFrozen c frozen) → (facts c cfg frozen is are).objects ≡ start_objects c.program
+pub objects_are : (c : MarkedProgram) (cfg : Config) (frozen owned : ℕ → Bool) (is : IsProgram c.program) (are : AreFrozen c frozen) (owned_are : AreOwned c owned) → (facts c cfg frozen owned is are owned_are).objects ≡ start_objects c.program
 unfolding facts
-objects_are c cfg frozen is are = refl
+objects_are c cfg frozen owned is are owned_are = refl

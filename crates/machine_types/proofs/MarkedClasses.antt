@@ -1,10 +1,10 @@
 -- The classes of which a field may be read without a lock are frozen, and a test tells them.
-use Rattle.std.proofs.Common.{◌≡◌, ℕ, zero, suc, Bool, true, false, List, [], ◌∷◌, length, Some, refl, sym, ap, ◌∙◌, subst, arith, inl, inr, ◌⊎◌, ◌==◌, ◌&&◌, ◌||◌, not, slice_get}
+use Rattle.std.proofs.Common.{◌≡◌, ℕ, zero, suc, Bool, true, false, List, [], ◌∷◌, length, Some, refl, sym, ap, ◌∙◌, subst, arith, inl, inr, ◌==◌, ◌&&◌, ◌||◌, not, slice_get}
 use Rattle.std.proofs.lemmas.Bool.{and_parts, eqb-true}
 use Rattle.jvm_types.specs.{Members.is_static, declared.program.{FieldInfo.FieldInfo, Program.Program}}
-use Rattle.checked_program.specs.{FrozenPlaces.{IsFrozenClass, IsFrozenField, IsFrozenStatic, IsGuardedField, IsGuardedStatic, IsUse, AreUses}, TaggedCode.Tagged, declared.section.FieldUse.FieldUse}
-use Rattle.checked_program.specs.declared.section.FieldUse.TheVariants.{Frozen, Guarded, Open}
-use Rattle.machine_types.{specs.{MarkLaws.HasFrozenTest, Standing.tags_of}, proofs.PlainStepLaws.is_same}
+use Rattle.checked_program.specs.{FrozenPlaces.{IsFrozenClass, IsFrozenField, IsGuardedField, IsUse}, OwnedArrays.{owns_arrays, AreUses}, TaggedCode.Tagged}
+use Rattle.checked_program.specs.declared.section.{FieldUse.{FieldUse, TheVariants.{Frozen, Guarded, Open}}, Uses.Uses}
+use Rattle.machine_types.{specs.{MarkLaws.{HasFrozenTest, HasOwnedTest}, Standing.tags_of}, proofs.PlainStepLaws.is_same}
 
 abbrev is_closed : FieldUse → Bool
 is_closed Open = false
@@ -61,7 +61,7 @@ use_at (x ∷ fields) (used ∷ uses) (suc fi) field l e = use_at fields uses fi
 
 -- ---- of the fields of a program
 
-module _ (p : Program) (tags : Tagged) (uses : List FieldUse) (are : AreUses p tags uses) where
+module _ (p : Program) (tags : Tagged) (uses : Uses) (are : AreUses p tags uses) where
   -- an instance field of the class, by its own record
   of_instance : (class fi : ℕ) (field other : FieldInfo) → slice_get p.fields fi ≡ Some field → slice_get p.fields fi ≡ Some other → (not (is_static field.flags) && (field.class == class)) ≡ true → (other.class ≡ class) × (not (is_static other.flags) ≡ true)
   of_instance class fi field other e k t =
@@ -80,31 +80,42 @@ module _ (p : Program) (tags : Tagged) (uses : List FieldUse) (are : AreUses p t
   frozen_class class fi field Guarded e (inl k) t = let r = of_instance class fi field k.field e k.is t in subst (IsFrozenClass p tags) r.0 k.frozen
   frozen_class class fi field Guarded e (inr k) t = let r = of_instance class fi field k.field e k.is t in absurd (no_static (is_static k.field.flags) r.1 k.static)
 
-  told_frozen : (fi : ℕ) (k : IsFrozenField p tags fi) (used : FieldUse) → slice_get uses fi ≡ Some used → IsUse p tags fi used → is_told p.fields uses k.field.class ≡ true
+  told_frozen : (fi : ℕ) (k : IsFrozenField p tags fi) (used : FieldUse) → slice_get uses.fields fi ≡ Some used → IsUse p tags fi used → is_told p.fields uses.fields k.field.class ≡ true
   told_frozen fi k Open e u = absurd (u.0 (inl k))
-  told_frozen fi k Frozen e u = told_by p.fields uses k.field.class fi k.field Frozen k.is e (counts_instance k.field Frozen refl k.instance)
-  told_frozen fi k Guarded e u = told_by p.fields uses k.field.class fi k.field Guarded k.is e (counts_instance k.field Guarded refl k.instance)
+  told_frozen fi k Frozen e u = told_by p.fields uses.fields k.field.class fi k.field Frozen k.is e (counts_instance k.field Frozen refl k.instance)
+  told_frozen fi k Guarded e u = told_by p.fields uses.fields k.field.class fi k.field Guarded k.is e (counts_instance k.field Guarded refl k.instance)
 
-  told_guarded : (fi : ℕ) (k : IsGuardedField p tags fi) (used : FieldUse) → slice_get uses fi ≡ Some used → IsUse p tags fi used → is_told p.fields uses k.field.class ≡ true
+  told_guarded : (fi : ℕ) (k : IsGuardedField p tags fi) (used : FieldUse) → slice_get uses.fields fi ≡ Some used → IsUse p tags fi used → is_told p.fields uses.fields k.field.class ≡ true
   told_guarded fi k Open e u = absurd (u.1 (inl k))
-  told_guarded fi k Frozen e u = told_by p.fields uses k.field.class fi k.field Frozen k.is e (counts_instance k.field Frozen refl k.instance)
-  told_guarded fi k Guarded e u = told_by p.fields uses k.field.class fi k.field Guarded k.is e (counts_instance k.field Guarded refl k.instance)
+  told_guarded fi k Frozen e u = told_by p.fields uses.fields k.field.class fi k.field Frozen k.is e (counts_instance k.field Frozen refl k.instance)
+  told_guarded fi k Guarded e u = told_by p.fields uses.fields k.field.class fi k.field Guarded k.is e (counts_instance k.field Guarded refl k.instance)
 
-  those : (class : ℕ) → is_told p.fields uses class ≡ true → IsFrozenClass p tags class
-  those class e = let k = closed_by p.fields uses class e in frozen_class class k.fi k.field k.used k.is (are.each k.fi k.used k.used_is) k.counted
+  those : (class : ℕ) → is_told p.fields uses.fields class ≡ true → IsFrozenClass p tags class
+  those class e = let k = closed_by p.fields uses.fields class e in frozen_class class k.fi k.field k.used k.is (are.fields.each k.fi k.used k.used_is) k.counted
 
-  with_frozen : (fi : ℕ) (k : IsFrozenField p tags fi) → is_told p.fields uses k.field.class ≡ true
-  with_frozen fi k = let u = use_at p.fields uses fi k.field are.long k.is in told_frozen fi k u.0 u.1 (are.each fi u.0 u.1)
+  with_frozen : (fi : ℕ) (k : IsFrozenField p tags fi) → is_told p.fields uses.fields k.field.class ≡ true
+  with_frozen fi k = let u = use_at p.fields uses.fields fi k.field are.fields.long k.is in told_frozen fi k u.0 u.1 (are.fields.each fi u.0 u.1)
 
-  with_guarded : (fi : ℕ) (k : IsGuardedField p tags fi) → is_told p.fields uses k.field.class ≡ true
-  with_guarded fi k = let u = use_at p.fields uses fi k.field are.long k.is in told_guarded fi k u.0 u.1 (are.each fi u.0 u.1)
+  with_guarded : (fi : ℕ) (k : IsGuardedField p tags fi) → is_told p.fields uses.fields k.field.class ≡ true
+  with_guarded fi k = let u = use_at p.fields uses.fields fi k.field are.fields.long k.is in told_guarded fi k u.0 u.1 (are.fields.each fi u.0 u.1)
 
 pub frozen_test : HasFrozenTest
 frozen_test c k = (
-  is_told c.program.fields k.uses,
+  is_told c.program.fields k.uses.fields,
   record {
     those = those c.program (tags_of c) k.uses k.are_uses;
     with_frozen = with_frozen c.program (tags_of c) k.uses k.are_uses;
     with_guarded = with_guarded c.program (tags_of c) k.uses k.are_uses;
+  },
+)
+
+-- ---- the fields that own their arrays
+
+pub owned_test : HasOwnedTest
+owned_test c k = (
+  owns_arrays k.uses,
+  record {
+    those = λ fi e. (k.are_uses.owners fi).0 e;
+    all = λ fi o. (k.are_uses.owners fi).1 o;
   },
 )

@@ -1,12 +1,11 @@
 -- A section that the machine takes as marked has the mark 0.
-use Rattle.std.proofs.Common.{◌≡◌, ⊎_elim, ℕ, suc, ◌+◌, ◌<◌, Bool, true, false, cond, List, [], ◌∷◌, ◌++◌, Option, Some, None, refl, sym, ap, ◌∙◌, subst, arith, ◌==◌, ◌&&◌, Contains, filter_map, map, slice_get}
-use Rattle.std.{specs.List.{AllZip, cons_option}, proofs.lemmas.{Bool.eqb-true, List.Elements.Contains-append_right}}
-use Rattle.lists.proofs.{ListLaws.same_some, TestLaws.both_are_true}
-use Rattle.jvm_types.specs.declared.{code.{Insn.Insn, Op.Op}, program.{MethodInfo.MethodInfo, Program.Program}}
-use Rattle.checked_program.specs.{Marks.{HasMark, IsMarkOf}, Sections.{Section, block_at, sections, sections_from}, TaggedCode.Tagged, declared.section.{FieldUse.FieldUse, SectionMark.SectionMark}}
-use Rattle.checked_program.specs.declared.section.Spot.{Spot, TheVariants.{Method, Block}}
-use Rattle.machine_types.{specs.{MarkLaws.MarkedHasMark, Sections.{is_same_spot, is_marked}, Standing.tags_of}, proofs.Lists.first_or_more}
-use Rattle.jvm_types.specs.declared.code.Op.TheVariants as ops
+use Rattle.std.proofs.Common.{◌≡◌, ℕ, Bool, true, false, cond, List, [], ◌∷◌, refl, sym, ◌∙◌, subst, arith, ◌==◌, ◌&&◌, Contains}
+use Rattle.std.{specs.List.AllZip, proofs.lemmas.{Bool.eqb-true, List.Elements.Contains-append_right}}
+use Rattle.lists.proofs.TestLaws.{both_are_true}
+use Rattle.jvm_types.specs.declared.program.Program.{Program}
+use Rattle.checked_program.specs.{Marks.{HasMark, IsMarkOf}, Sections.{Section, sections}, TaggedCode.Tagged, declared.section.{SectionMark.SectionMark, Spot.Spot}}
+use Rattle.checked_program.specs.declared.section.{Spot.TheVariants.{Method, Block}, Uses.Uses}
+use Rattle.machine_types.specs.{MarkLaws.MarkedHasMark, Sections.{is_same_spot, is_marked}, Standing.tags_of}
 
 same_spot : (a b : Spot) → is_same_spot a b ≡ true → a ≡ b
 same_spot Method Method e = refl
@@ -14,7 +13,7 @@ same_spot (Block pc) (Block other) e = let same : pc ≡ other = eqb-true pc oth
 same_spot Method (Block other) e = absurd (let bad : false ≡ true = e in cc)
 same_spot (Block pc) Method e = absurd (let bad : false ≡ true = e in cc)
 
-module _ (p : Program) (tags : Tagged) (uses : List FieldUse) (method : ℕ) (spot : Spot) where
+module _ (p : Program) (tags : Tagged) (uses : Uses) (method : ℕ) (spot : Spot) where
   abbrev sought : Section
   sought = record { method = method; spot = spot }
 

@@ -107,9 +107,9 @@ plain_objects : (p : Program) → ArePlainObjects (start_objects p) (plain_start
 plain_objects p o k = (o, k, refl, refl, refl)
 
 pub stands_beside : StartStandsBeside
-stands_beside c cfg frozen is are = record {
-  facts = facts c cfg frozen is are;
+stands_beside c cfg frozen owned is are owned_are = record {
+  facts = facts c cfg frozen owned is are owned_are;
   agrees = agrees c cfg is;
-  objects = subst (λ (os : List Object). ArePlainObjects os (plain_start c.program)) (sym (objects_are c cfg frozen is are)) (plain_objects c.program);
+  objects = subst (λ (os : List Object). ArePlainObjects os (plain_start c.program)) (sym (objects_are c cfg frozen owned is are owned_are)) (plain_objects c.program);
   statics = (lies_apart c.program is).there;
 }

@@ -15,7 +15,7 @@ use Rattle.jvm_types.specs.declared.fixed_words.TheConstants.{NEXT_FREE_WORD}
 use Rattle.machine_types.specs.declared.phase.Phase.{Phase}
 use Rattle.machine_types.specs.Attempts.{Attempts}
 use Rattle.machine_types.specs.Bounds.{IsRooted}
-use Rattle.machine_types.specs.Construction.{Construction}
+use Rattle.machine_types.specs.Construction.{Construction, Owning}
 use Rattle.machine_types.specs.NewObjects.{NewObjects}
 use Rattle.machine_types.specs.ObjectsApart.{LieApart}
 use Rattle.machine_types.specs.Owners.{Owners, references_of}
@@ -41,6 +41,8 @@ pub record Facts (c : MarkedProgram) (cfg : Config) (told : Told) : Type 0 where
   -- which are unfinished
   pub world : World
   pub frozen : ℕ → Bool
+  -- the fields that own arrays, and the arrays that were stored there
+  pub owning : Owning
   pub own : (t : ℕ) (x : Thread) → slice_get told.core.threads t ≡ Some x → IsThread c cfg t x
   -- those that are there from the start are among the objects
   pub started : (o : Object) → Contains (start_objects c.program) o
@@ -54,8 +56,8 @@ pub record Facts (c : MarkedProgram) (cfg : Config) (told : Told) : Type 0 where
   pub waiting : Waiting was told.core
   pub typed : Typed c objects told.core
   pub new_objects : NewObjects c.program objects told.core
-  pub construction : Construction c frozen world was objects told.core
-  pub attempts : Attempts c objects world was told
+  pub construction : Construction c frozen owning world was objects told.core
+  pub attempts : Attempts c owning.stores objects world was told
 
 -- the objects are objects of the plain state too, with as many values
 abbrev pub ArePlainObjects : List Object → Plain → Type 0

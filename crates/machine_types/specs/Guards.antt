@@ -10,9 +10,11 @@ use Rattle.jvm_types.specs.declared.program.FieldInfo.{FieldInfo}
 use Rattle.jvm_types.specs.declared.program.MethodInfo.{MethodInfo}
 use Rattle.checked_program.specs.FrozenPlaces.{IsFrozenField, IsFrozenStatic, IsGuardedField}
 use Rattle.checked_program.specs.FrozenPlaces.{IsGuardedStatic}
+use Rattle.checked_program.specs.OwnedArrays.{IsOwnedArrayField}
 use Rattle.checked_program.specs.MarkedProgram.{MarkedProgram}
 use Rattle.machine_types.specs.Core.{Core}
 use Rattle.machine_types.specs.HeldMonitors.{held_at}
+use Rattle.machine_types.specs.OwnedPlaces.{Stores, IsElementOf}
 use Rattle.machine_types.specs.PlainMemory.{Object}
 use Rattle.machine_types.specs.Threads.{Frame, Thread}
 use Rattle.machine_types.specs.declared.lock.Held.{Held}
@@ -52,11 +54,16 @@ pub record Changes (fi : ℕ) (c : MarkedProgram) (o : Object) (s r : Core) : Ty
   pub of_class : o.class ≡ field.class
   pub changes : ChangesWord (value_word o.reference field.index) s r
 
--- from the state s to the state r that an event of the thread t leaves, in which it was x
-pub record KeepsGuards (c : MarkedProgram) (objects : List Object) (s r : Core) (x : Thread)
-    : Type 0 where
+-- from the state s to the state r that an event of the thread t leaves, in which it was x; stores
+-- says where arrays were stored
+pub record KeepsGuards (c : MarkedProgram) (stores : Stores) (objects : List Object) (s r : Core)
+    (x : Thread) : Type 0 where
   pub guarded : (fi : ℕ) (o : Object) → Contains objects o → IsGuardedField c.program (tags_of c) fi
       → Changes fi c o s r → HoldsMonitor o.reference x ⊎ MakesObject c o.reference x.frames
+  -- the elements of an array that was stored in an owned field of an object
+  pub elements : (fi word : ℕ) (o : Object) → Contains objects o
+      → IsOwnedArrayField c.program (tags_of c) fi → IsElementOf c stores objects fi o word
+      → ChangesWord word s r → HoldsMonitor o.reference x ⊎ MakesObject c o.reference x.frames
   pub statics : (fi : ℕ) (k : IsGuardedStatic c.program (tags_of c) fi)
       → ChangesWord k.field.index s r
       → HoldsMonitor (class_object c.program (file_of_class k.field.class)) x

@@ -1,15 +1,19 @@
 -- What a thread does in an attempt, as acts of that thread alone over a memory that nobody changes,
 -- where some places may not be there.
-use Rattle.std.specs.Prelude.{ℕ, suc, ◌+◌, ◌==◌, List, [], ◌∷◌, Option, Some, None, option_map}
-use Rattle.std.specs.Prelude.{option_and_then, if◌then◌else◌}
+use Rattle.std.specs.Prelude.{ℕ, suc, ◌+◌, ◌-◌, ◌==◌, nat_lt, List, [], ◌∷◌, Option, Some, None}
+use Rattle.std.specs.Prelude.{option_map, option_and_then, if◌then◌else◌}
 use Rattle.jvm_types.specs.declared.outcome.End.{End}
 use Rattle.jvm_types.specs.declared.program.Program.{Program}
 use Rattle.machine_types.specs.Effects.{read_by}
 use Rattle.machine_types.specs.declared.effect.Effect.{Effect}
-use Rattle.machine_types.specs.declared.effect.Effect.TheVariants.{Writes, Prints}
+use Rattle.machine_types.specs.declared.effect.Effect.TheVariants.{Writes, Indexes, Prints}
 use Rattle.machine_types.specs.Elision.{put_back}
-use Rattle.machine_types.specs.Frames.{Top, top_of, effect_at}
-use Rattle.machine_types.specs.Onward.{Onward, Entering, Leaving, after, dispatched, done}
+use Rattle.machine_types.specs.Frames.{Top, top_of, effect_at, went_on}
+use Rattle.machine_types.specs.Ints.{low}
+use Rattle.machine_types.specs.Onward.{Onward, Running, Entering, Leaving, threw, after, dispatched}
+use Rattle.machine_types.specs.Onward.{done}
+use Rattle.machine_types.specs.Words.{header_length, value_word}
+use Rattle.jvm_types.specs.declared.outcome.Thrown.TheVariants.{ArrayIndexOutOfBoundsException}
 use Rattle.machine_types.specs.declared.phase.After.{After}
 use Rattle.machine_types.specs.PlainInstructions.{got_by}
 use Rattle.machine_types.specs.PlainState.{PlainThread, Status, Run, Throw, Enter, Leave}
@@ -34,10 +38,20 @@ only_on m (Entering n frames) = if n == m then Some (Entering n frames) else Non
 only_on m (Leaving n a frames) = if n == m then Some (Leaving n a frames) else None
 only_on m onward = Some onward
 
-abbrev pub reads_only : Program → Top → Effect → (got : ℕ) → Option Onward
-reads_only p at (Writes v word) got = None
-reads_only p at (Prints n) got = None
-reads_only p at e got = done p at e got
+-- an element is read when the header has told how many there are
+abbrev pub element_read : Program → (memory : ℕ → Option ℕ) → Top → (array index count : ℕ)
+    → Option Onward
+element_read p memory at array index count =
+    if nat_lt index count
+    then option_map (λ value. Running (went_on p at value)) (memory (value_word array index))
+    else Some (threw ArrayIndexOutOfBoundsException at)
+
+abbrev pub reads_only : Program → (memory : ℕ → Option ℕ) → Top → Effect → (got : ℕ) → Option Onward
+reads_only p memory at (Writes v word) got = None
+reads_only p memory at (Prints n) got = None
+reads_only p memory at (Indexes array index None) got =
+    element_read p memory at array (low index) (header_length got)
+reads_only p memory at e got = done p at e got
 
 abbrev pub goes : Alone → Option Onward → Option Alone
 goes x onward = option_map (λ o. record x { thread = plain_goes_on x.thread o }) onward
@@ -47,7 +61,7 @@ abbrev pub instructs : Program → (m : ℕ) → (memory : ℕ → Option ℕ) �
 instructs p m memory x None = None
 instructs p m memory x (Some at) =
     goes (record x { begun = x.begun + 1 }) (option_and_then
-    (λ got. option_and_then (only_on m) (reads_only p at (effect_at p at) got))
+    (λ got. option_and_then (only_on m) (reads_only p memory at (effect_at p at) got))
     (got_by memory (read_by (effect_at p at))))
 
 abbrev pub enters : Alone → Alone
@@ -81,6 +95,12 @@ status_inside (phases.Enter m tried) = Enter m
 status_inside (phases.Leave m a) = Leave m a
 status_inside phase = Run
 
+-- the instructions that were begun and done: the one whose element is still to be read is not due
+-- yet
+abbrev pub begun_and_done : Phase → (begun : ℕ) → ℕ
+begun_and_done (phases.Element word stored) begun = begun - 1
+begun_and_done phase begun = begun
+
 -- the section has been entered, and nothing done yet
 abbrev pub at_entry : Thread → Attempt → (ended : List End) → Alone
 at_entry s a ended =
@@ -97,5 +117,5 @@ at_present s a was begun ended =
       thread =
           record { frames = s.frames; status = status_inside was; roots = s.roots; ended = ended };
       depth = suc a.inner;
-      begun = begun;
+      begun = begun_and_done was begun;
     }

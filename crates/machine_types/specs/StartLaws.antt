@@ -14,7 +14,7 @@ use Rattle.machine_types.specs.declared.config.Config.{Config}
 use Rattle.machine_types.specs.declared.phase.Phase.{Phase}
 use Rattle.machine_types.specs.Agreement.{Agrees}
 use Rattle.machine_types.specs.Attempts.{OwesNothing}
-use Rattle.machine_types.specs.Construction.{AreFrozen, ThreadKeeps}
+use Rattle.machine_types.specs.Construction.{AreFrozen, AreOwned, Owning, ThreadKeeps}
 use Rattle.machine_types.specs.Facts.{Facts, FactsBeside, IsThread}
 use Rattle.machine_types.specs.Owners.{Owners, references_of}
 use Rattle.machine_types.specs.Structure.{Structure}
@@ -47,9 +47,9 @@ StartIsTyped =
 
 abbrev pub StartKeeps : Type 0
 StartKeeps =
-    (c : MarkedProgram) (cfg : Config) (frozen : ℕ → Bool) (w : World) (next t : ℕ) (x : Thread)
-    → slice_get (start c cfg).threads t ≡ Some x
-    → ThreadKeeps c frozen w next t (phase_at_start c cfg t) x
+    (c : MarkedProgram) (cfg : Config) (frozen : ℕ → Bool) (own : Owning) (w : World) (next t : ℕ)
+    (x : Thread) → slice_get (start c cfg).threads t ≡ Some x
+    → ThreadKeeps c frozen own w next t (phase_at_start c cfg t) x
 
 abbrev pub StartOwesNothing : Type 0
 StartOwesNothing =
@@ -78,11 +78,11 @@ abbrev pub StartIsUnused : Type 0
 StartIsUnused =
     (c : MarkedProgram) (cfg : Config) → IsProgram c.program → AreUnused c.program (start c cfg)
 
--- so all facts hold at the start, with some frozen classes
+-- so all facts hold at the start, with some frozen classes and the owned array fields
 abbrev pub StartHasFacts : Type 0
 StartHasFacts =
-    (c : MarkedProgram) (cfg : Config) (frozen : ℕ → Bool) → IsProgram c.program
-    → AreFrozen c frozen → Facts c cfg (told_start c cfg)
+    (c : MarkedProgram) (cfg : Config) (frozen owned : ℕ → Bool) → IsProgram c.program
+    → AreFrozen c frozen → AreOwned c owned → Facts c cfg (told_start c cfg)
 
 -- the plain machine's start agrees, and stands beside them
 abbrev pub StartAgrees : Type 0
@@ -92,5 +92,6 @@ StartAgrees =
 
 abbrev pub StartStandsBeside : Type 0
 StartStandsBeside =
-    (c : MarkedProgram) (cfg : Config) (frozen : ℕ → Bool) → IsProgram c.program
-    → AreFrozen c frozen → FactsBeside c cfg (told_start c cfg) (plain_start c.program)
+    (c : MarkedProgram) (cfg : Config) (frozen owned : ℕ → Bool) → IsProgram c.program
+    → AreFrozen c frozen → AreOwned c owned
+    → FactsBeside c cfg (told_start c cfg) (plain_start c.program)

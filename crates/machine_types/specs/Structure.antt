@@ -13,14 +13,14 @@ use Rattle.jvm_types.specs.declared.code.Op.{Op}
 use Rattle.jvm_types.specs.declared.code.Op.TheVariants as ops
 use Rattle.jvm_types.specs.declared.outcome.End.{End}
 use Rattle.jvm_types.specs.declared.outcome.End.TheVariants as ends
-use Rattle.checked_program.specs.FrozenPlaces.{AreUses}
+use Rattle.checked_program.specs.OwnedArrays.{AreUses}
 use Rattle.checked_program.specs.Sections.{Section, section_mode}
 use Rattle.checked_program.specs.SectionLaws.{Part, AreParts}
 use Rattle.checked_program.specs.Marks.{HasMark}
 use Rattle.checked_program.specs.MarkedProgram.{MarkedProgram}
 use Rattle.checked_program.specs.declared.section.Mode.{Mode}
 use Rattle.checked_program.specs.declared.section.Mode.TheVariants.{OnClass}
-use Rattle.checked_program.specs.declared.section.FieldUse.{FieldUse}
+use Rattle.checked_program.specs.declared.section.Uses.{Uses}
 use Rattle.machine_types.specs.Elision.{put_back}
 use Rattle.machine_types.specs.Frames.{monitor_of}
 use Rattle.machine_types.specs.HeldMonitors.{held_at, depth_at}
@@ -295,7 +295,7 @@ pub record AttemptStands (c : MarkedProgram) (phase : Phase) (fs : List Frame) (
   -- with the frame of the entry put back, the thread stands as it did then
   pub goes_back : Stands c (phases.Enter a.monitor a.number) (put_back a fs) held None
   pub monitor : a.monitor ≡ section_monitor c.program (section_of a) a.entry.receiver
-  pub uses : List FieldUse
+  pub uses : Uses
   pub are_uses : AreUses c.program (tags_of c) uses
   pub marked : HasMark c.program (tags_of c) uses (section_of a) 0
   pub frames : Finishes a phase (frames_inside a fs) ⊎ RunsSection c a (frames_inside a fs)

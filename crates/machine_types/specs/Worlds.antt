@@ -1,6 +1,6 @@
 -- Which objects are unfinished, and which frame of which thread builds each. Of the classes that
--- are frozen, an object is unfinished from its `new` until its `<init>` has returned; of every
--- other, until its header is stored.
+-- are frozen, an object is unfinished from its `new` until its `<init>` has returned; an array that
+-- goes into an owned field, until it is stored there; of every other, until its header is stored.
 use Rattle.std.specs.Prelude.{◌≡◌, ◌≢◌, ◌<◌, ◌≤◌, ℕ, ◌==◌, Bool, true, false, ◌&&◌, Option, Some}
 use Rattle.std.specs.Prelude.{None, if◌then◌else◌}
 use Rattle.machine_types.specs.Threads.{Attempt}
@@ -14,6 +14,8 @@ pub data Item : Type 0 where
   Made : (pc : ℕ) → Item
   -- the receiver of the frame, an `<init>`
   Begun : Item
+  -- a new array, which the instruction that the frame stands at stores in an owned field
+  Unstored : Item
   -- the frame is gone, and the object was never finished
   Lost : Item
 
@@ -57,6 +59,7 @@ abbrev pub same_item : Item → Item → Bool
 same_item Header Header = true
 same_item (Made pc) (Made at) = pc == at
 same_item Begun Begun = true
+same_item Unstored Unstored = true
 same_item Lost Lost = true
 same_item x y = false
 
