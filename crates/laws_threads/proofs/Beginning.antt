@@ -5,8 +5,8 @@ use Rattle.lists.proofs.ListLaws.{same_some}
 use Rattle.jvm_types.specs.{ClassNames.file_of_class, Members.{is_static, is_synchronized}, declared.{code.Insn.Insn, program.MethodInfo.MethodInfo}}
 use Rattle.laws_programs.proofs.CodeOrder.{have_targets}
 use Rattle.checked_program.specs.{LockTags.TagShape, MarkedProgram.{MarkedProgram, IsMarked}, Marks.{HasMark, IsOnOwn, elsewhere}, SectionLaws.IsSectionPart}
-use Rattle.checked_program.specs.{Sections.{section_mode, mode_of_method, mode_of_spot, BeginsAt, IsOwn, IsInBlock}, TaggedCode.{IsAt, IsInstructionReached}, declared.section.FieldUse.FieldUse}
-use Rattle.checked_program.specs.declared.{section.{Mode.TheVariants.{OnThis, OnClass}, Spot.TheVariants.{Method, Block}}, tag.Tag.{Tag, TheVariants.{Untagged, This, At}}}
+use Rattle.checked_program.specs.{Sections.{section_mode, mode_of_method, mode_of_spot, BeginsAt, IsOwn, IsInBlock}, TaggedCode.{IsAt, IsInstructionReached}}
+use Rattle.checked_program.specs.declared.{section.{Mode.TheVariants.{OnThis, OnClass}, Spot.TheVariants.{Method, Block}, Uses.Uses}, tag.Tag.{Tag, TheVariants.{Untagged, This, At}}}
 use Rattle.laws_sections.proofs.SectionCalls.{begin_law}
 use Rattle.machine_types.specs.{Frames.monitor_of, MarkLaws.MarkedHasMark, Sections.entered_at, Shown.{tag_value, own_entry, Shows}, Standing.{Standing, Whole, tags_of}}
 use Rattle.machine_types.specs.{Structure.{IsBehindEntry, Stands, RunsSection, mode_monitor, section_monitor, section_of, frames_inside}, Threads.{Frame, Attempt}, Words.class_object}
@@ -67,7 +67,7 @@ module _ (c : MarkedProgram) (marked : IsMarked c) (f : Frame) (k : Standing c f
       same_frames = same_some (sym k.at.of_method ∙ begins.at.of_method)
 
   -- so it is where the block is marked
-  by_mark : (pc : ℕ) (uses : List FieldUse) → suc pc ≡ f.pc → HasMark c.program (tags_of c) uses (record { method = f.method; spot = Block pc }) 0 → IsOnReceiver pc
+  by_mark : (pc : ℕ) (uses : Uses) → suc pc ≡ f.pc → HasMark c.program (tags_of c) uses (record { method = f.method; spot = Block pc }) 0 → IsOnReceiver pc
   by_mark pc uses before mark = ⊎_elim (λ x. x) (λ (no : IsOnReceiver pc → ⊥). absurd (mark 8 (elsewhere refl (λ on. no (on_receiver pc before on))))) (decided pc (slice_get k.at.frames e.at) refl)
 
   -- the frame is at an own instruction of the block, and the innermost held tag is `this`

@@ -76,9 +76,9 @@ module _ (p : Program) (number : ℕ) (called : MethodInfo) (there : slice_get p
   on_receiver receiver o instance e = ap (λ (b : Bool). if b then class_object p (file_of_class called.class) else receiver) instance ∙ e
 
   -- a synchronized method is called on the section's object, or it is a static one of the section's class
-  pub called_on : (tags : Tagged) (mode : Mode) (o m : ℕ) → (mode ≡ OnThis → o ≡ m) → ((class : ℕ) → mode ≡ OnClass class → class_object p (file_of_class class) ≡ m) → (site : MethodSite) (pc : ℕ) (op : Op) (target : Target) (r : OpRow) → HasRow p site pc target op r → called_method op target ≡ Some number → HasReceiver p op number s → ReadsOnly p tags mode o op target s
+  pub called_on : (tags : Tagged) (mode : Mode) (o m method place : ℕ) → (mode ≡ OnThis → o ≡ m) → ((class : ℕ) → mode ≡ OnClass class → class_object p (file_of_class class) ≡ m) → (site : MethodSite) (pc : ℕ) (op : Op) (target : Target) (r : OpRow) → HasRow p site pc target op r → called_method op target ≡ Some number → HasReceiver p op number s → ReadsOnly p tags mode o method place op target s
       → is_synchronized called.flags ≡ true → monitor_by p called (receiver_by r) ≡ m
-  called_on tags mode o m at_this in_class site pc (ops.Invokevirtual i) (targets.Method u) r k call at h synchronized =
+  called_on tags mode o m method place at_this in_class site pc (ops.Invokevirtual i) (targets.Method u) r k call at h synchronized =
       let k' : NamesMethod p site number Virtual false virtual_row r = subst (λ x. NamesMethod p site x Virtual false virtual_row r) (same_some call) k in
       let same : k'.method ≡ called = same_some (sym k'.there ∙ there) in
       let instance : is_static called.flags ≡ false = subst (λ (m : MethodInfo). is_static m.flags ≡ false) same k'.sort in
@@ -86,7 +86,7 @@ module _ (p : Program) (number : ℕ) (called : MethodInfo) (there : slice_get p
       let on : is_locking (slice_get p.methods number) ≡ true → (mode ≡ OnThis) × (slice_index s (args_of (slice_get p.methods number)) ≡ o) =
       subst (λ x. is_locking (slice_get p.methods x) ≡ true → (mode ≡ OnThis) × (slice_index s (args_of (slice_get p.methods x)) ≡ o)) (same_some call) h in
       on_receiver (receiver_by r) m instance (is_receiver site pc (targets.Method u) (ops.Invokevirtual i) r k call at ∙ (on locking).1 ∙ at_this (on locking).0)
-  called_on tags mode o m at_this in_class site pc (ops.Invokespecial i) (targets.Method u) r k call at h synchronized =
+  called_on tags mode o m method place at_this in_class site pc (ops.Invokespecial i) (targets.Method u) r k call at h synchronized =
       let k' : NamesMethod p site number Special false special_row r = subst (λ x. NamesMethod p site x Special false special_row r) (same_some call) k in
       let same : k'.method ≡ called = same_some (sym k'.there ∙ there) in
       let instance : is_static called.flags ≡ false = subst (λ (m : MethodInfo). is_static m.flags ≡ false) same k'.sort in
@@ -94,7 +94,7 @@ module _ (p : Program) (number : ℕ) (called : MethodInfo) (there : slice_get p
       let on : is_locking (slice_get p.methods number) ≡ true → (mode ≡ OnThis) × (slice_index s (args_of (slice_get p.methods number)) ≡ o) =
       subst (λ x. is_locking (slice_get p.methods x) ≡ true → (mode ≡ OnThis) × (slice_index s (args_of (slice_get p.methods x)) ≡ o)) (same_some call) h in
       on_receiver (receiver_by r) m instance (is_receiver site pc (targets.Method u) (ops.Invokespecial i) r k call at ∙ (on locking).1 ∙ at_this (on locking).0)
-  called_on tags mode o m at_this in_class site pc (ops.Invokestatic i) (targets.Method u) r k call at h synchronized =
+  called_on tags mode o m method place at_this in_class site pc (ops.Invokestatic i) (targets.Method u) r k call at h synchronized =
       let k' : NamesMethod p site number Static true static_row r = subst (λ x. NamesMethod p site x Static true static_row r) (same_some call) k in
       let same : k'.method ≡ called = same_some (sym k'.there ∙ there) in
       let static : is_static called.flags ≡ true = subst (λ (m : MethodInfo). is_static m.flags ≡ true) same k'.sort in
@@ -102,4 +102,4 @@ module _ (p : Program) (number : ℕ) (called : MethodInfo) (there : slice_get p
       subst (λ x. is_class_locking (slice_get p.methods x) ≡ true → mode ≡ OnClass (class_of_method (slice_get p.methods x))) (same_some call) h in
       let mode_is : mode ≡ OnClass called.class = own (is_class_locked p number called there synchronized static) ∙ ap (λ o. OnClass (class_of_method o)) there in
       ap (λ (b : Bool). if b then class_object p (file_of_class called.class) else receiver_by r) static ∙ in_class called.class mode_is
-  called_on tags mode o m at_this in_class site pc op target r k call at h synchronized = absurd (cc)
+  called_on tags mode o m method place at_this in_class site pc op target r k call at h synchronized = absurd (cc)

@@ -25,7 +25,8 @@ HasReceiver p op number s = (called : MethodInfo) × (receiver : ℕ) × (slice_
 abbrev pub Does : MarkedProgram → (m : ℕ) → Op → Target → List ℕ → Effect → Type 0
 Does c m op target s (Reads v) = MayRead c m v
 Does c m op target s (Writes v word) = ⊥
-Does c m op target s (Indexes array index stored) = ⊥
+Does c m op target s (Indexes array index None) = op ≡ ops.Iaload
+Does c m op target s (Indexes array index (Some v)) = ⊥
 Does c m op target s (Makes word size) = ⊥
 Does c m op target s (Prints n) = ⊥
 Does c m op target s (Calls number) = (called_method op target ≡ Some number) × HasReceiver c.program op number s
@@ -96,9 +97,9 @@ module _ (c : MarkedProgram) (m : ℕ) where
         by_test true = tt
         by_test false = h
 
-  -- ---- what a constant names, in a frame that is run so, of a section whose own frame has the receiver o
+  -- ---- what a constant names, in a frame that is run so, of a section whose own frame has the receiver o, at a place of a method
 
-  module _ (mode : Mode) (o : ℕ) (on : mode ≡ OnThis → o ≡ m) (in_class : (class : ℕ) → mode ≡ OnClass class → class_object c.program (file_of_class class) ≡ m) where
+  module _ (mode : Mode) (o method place : ℕ) (on : mode ≡ OnThis → o ≡ m) (in_class : (class : ℕ) → mode ≡ OnClass class → class_object c.program (file_of_class class) ≡ m) where
     own_stays : (fi a : ℕ) → IsFrozenField c.program (tags_of c) fi ⊎ (IsGuardedField c.program (tags_of c) fi × (mode ≡ OnThis) × (a ≡ o)) → IsFrozenField c.program (tags_of c) fi ⊎ (IsGuardedField c.program (tags_of c) fi × (a ≡ m))
     own_stays fi a (inl f) = inl f
     own_stays fi a (inr g) = inr (g.0, g.2 ∙ on g.1)
@@ -132,7 +133,7 @@ module _ (c : MarkedProgram) (m : ℕ) where
         by_test true q = stays
         by_test false q = absurd (cc)
 
-    named_does : (mi : MethodInfo) (pc next : ℕ) (r : OpRow) (target : Target) (op : Op) (s : List ℕ) → HasRow c.program (site_in mi) pc target op r → ReadsOnly c.program (tags_of c) mode o op target s → Does c m op target s (named c.program next target op s)
+    named_does : (mi : MethodInfo) (pc next : ℕ) (r : OpRow) (target : Target) (op : Op) (s : List ℕ) → HasRow c.program (site_in mi) pc target op r → ReadsOnly c.program (tags_of c) mode o method place op target s → Does c m op target s (named c.program next target op s)
     named_does mi pc next r (targets.Value n) (ops.Ldc i) s k h = tt
     named_does mi pc next r (targets.Value n) (ops.LdcW i) s k h = tt
     named_does mi pc next r (targets.Class class) (ops.New i) s k h = h
@@ -159,7 +160,7 @@ module _ (c : MarkedProgram) (m : ℕ) where
 
     -- ---- all instructions
 
-    pub does : (mi : MethodInfo) (pc next : ℕ) (r : OpRow) (target : Target) (op : Op) (l s : List ℕ) → HasRow c.program (site_in mi) pc target op r → ReadsOnly c.program (tags_of c) mode o op target s
+    pub does : (mi : MethodInfo) (pc next : ℕ) (r : OpRow) (target : Target) (op : Op) (l s : List ℕ) → HasRow c.program (site_in mi) pc target op r → ReadsOnly c.program (tags_of c) mode o method place op target s
         → Does c m op target s (effect c.program next target op l s)
     does mi pc next r target ops.Nop l s k h = tt
     does mi pc next r target ops.AconstNull l s k h = tt
@@ -170,7 +171,7 @@ module _ (c : MarkedProgram) (m : ℕ) where
     does mi pc next r target (ops.Aload i) l s k h = local_or (ops.Aload i) target s i l (Goes next 0) tt
     does mi pc next r target (ops.Istore i) l (a ∷ s) k h = local_or (ops.Istore i) target (a ∷ s) i l (Goes next 0) tt
     does mi pc next r target (ops.Astore i) l (a ∷ s) k h = local_or (ops.Astore i) target (a ∷ s) i l (Goes next 0) tt
-    does mi pc next r target ops.Iaload l s k h = absurd h
+    does mi pc next r target ops.Iaload l (index ∷ a ∷ s) k h = null_or ops.Iaload target (index ∷ a ∷ s) a (Indexes a index None) refl
     does mi pc next r target ops.Iastore l s k h = absurd h
     does mi pc next r target ops.Pop l (a ∷ s) k h = tt
     does mi pc next r target ops.Pop2 l (b ∷ a ∷ s) k h = tt

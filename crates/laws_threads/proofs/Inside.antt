@@ -1,14 +1,16 @@
 -- A thread inside an attempt: its top frame, what that may do, and what stays as frames come and go.
-use Rattle.std.proofs.Common.{◌≡◌, ◌⊎◌, inr, ⊎_elim, ℕ, ◌<◌, ◌≤◌, true, List, [], ◌∷◌, length, None, refl, sym, ◌∙◌, subst, arith}
+use Rattle.std.proofs.Common.{◌≡◌, ◌⊎◌, inr, ⊎_elim, ℕ, ◌<◌, ◌≤◌, true, List, [], ◌∷◌, length, Option, Some, None, refl, sym, ◌∙◌, subst, arith}
 use Rattle.lists.proofs.TestLaws.{first_true}
-use Rattle.jvm_types.specs.{Members.is_synchronized, ProgramInvariant.site_in, Verifying.is_return}
-use Rattle.checked_program.specs.{LockTags.TagShape, MarkedProgram.{MarkedProgram, IsMarked}, SectionLaws.HasThis}
+use Rattle.jvm_types.specs.{Members.is_synchronized, ProgramInvariant.site_in, Verifying.is_return, declared.code.Op.Op}
+use Rattle.checked_program.specs.{LockTags.TagShape, MarkedProgram.{MarkedProgram, IsMarked}, SectionLaws.{HasThis, ReadsOnly}}
+use Rattle.laws_sections.proofs.MarkedReads.{on_receiver}
 use Rattle.machine_types.specs.{Elision.put_back, Frames.{Top, effect_at, monitor_of, top_row}, Shown.{Shows, Show}, Standing.{Standing, Operands, Whole, tags_of}}
-use Rattle.machine_types.specs.{Structure.{IsPhaseInside, Stands, AttemptStands, Finishes, RunsSection, frames_inside}, Threads.{Frame, Attempt}, declared.effect.Effect.Effect}
+use Rattle.machine_types.specs.{Structure.{IsPhaseInside, Stands, AttemptStands, AttemptStandsIn, Finishes, RunsSection, frames_inside, section_of}, Threads.{Frame, Attempt}, declared.effect.Effect.Effect}
 use Rattle.machine_types.specs.declared.effect.Effect.TheVariants.{Goes, Throws, Reads, Writes, Indexes, Measures, Raises, Makes, Prints, Calls, Returns, Enters, Leaves, Waits, Notifies, NotifiesAll, Stuck}
 use Rattle.machine_types.specs.declared.{lock.Held.Held, phase.Phase.Phase}
-use Rattle.laws_threads.{specs.InsideEffects.{MayDo, InsideMayDo}, proofs.{Base.{entry_of, of_monitor}, CallOps.called_on, EffectOps.{Does, does}, FrameReturns.leaves_none, FramesInside.one_more}}
-use Rattle.laws_threads.proofs.{SectionFrames.{have_this, Runs, runs_of, row_stands, on_object, on_class, reads, exits, locking_on}, Standings.{top_here, top_at_standing, one_tags}}
+use Rattle.laws_threads.{specs.InsideEffects.{MayDo, InsideMayDo, TakesOwned}, proofs.{Base.{entry_of, of_monitor}, CallOps.called_on, EffectOps.{Does, does}, FrameReturns.leaves_none, FramesInside.one_more}}
+use Rattle.laws_threads.proofs.{SectionFrames.{have_this, part_of, Runs, runs_of, row_stands, on_object, on_class, reads, exits, locking_on}, Standings.{top_here, top_at_standing, one_tags}}
+use Rattle.jvm_types.specs.declared.code.Op.TheVariants as ops
 use Rattle.machine_types.specs.declared.phase.Phase.TheVariants as phases
 
 -- ---- the top frame of an attempt
@@ -61,24 +63,35 @@ module _ (c : MarkedProgram) (marked : IsMarked c) where
     pub top_does : Does c a.monitor r.stands.insn.op r.stands.target f.stack (effect_at c.program top)
     top_does =
         let s = r.stands in
-        does c a.monitor r.mode a.entry.receiver (on_object c marked a k.monitor f (frames_inside a below) r) (on_class c marked a k.monitor f (frames_inside a below) r) s.method s.insn.pc s.insn.next (top_row c.program top) s.target s.insn.op f.locals f.stack (row_stands c marked f.method s.number s.method s.insn s.target s.tags s.at)
+        does c a.monitor r.mode a.entry.receiver f.method s.number (on_object c marked a k.monitor f (frames_inside a below) r) (on_class c marked a k.monitor f (frames_inside a below) r) s.method s.insn.pc s.insn.next (top_row c.program top) s.target s.insn.op f.locals f.stack (row_stands c marked f.method s.number s.method s.insn s.target s.tags s.at)
         (reads c marked a k.uses k.are_uses k.marked f (frames_inside a below) r f.stack this)
 
     pub calls_on : (number : ℕ) → Does c a.monitor r.stands.insn.op r.stands.target f.stack (Calls number) → MayDo c a.monitor top (Calls number)
     calls_on number d called there synchronized =
         let s = r.stands in
-        called_on c.program number called there f.stack (tags_of c) r.mode a.entry.receiver a.monitor (on_object c marked a k.monitor f (frames_inside a below) r) (on_class c marked a k.monitor f (frames_inside a below) r) (site_in s.method) s.insn.pc s.insn.op s.target (top_row c.program top) (row_stands c marked f.method s.number s.method s.insn s.target s.tags s.at) d.0 d.1
+        called_on c.program number called there f.stack (tags_of c) r.mode a.entry.receiver a.monitor f.method s.number (on_object c marked a k.monitor f (frames_inside a below) r) (on_class c marked a k.monitor f (frames_inside a below) r) (site_in s.method) s.insn.pc s.insn.op s.target (top_row c.program top) (row_stands c marked f.method s.number s.method s.insn s.target s.tags s.at) d.0 d.1
         (reads c marked a k.uses k.are_uses k.marked f (frames_inside a below) r f.stack this) synchronized
 
     pub leaves_on : (n : ℕ) → Does c a.monitor r.stands.insn.op r.stands.target f.stack (Leaves n) → n ≡ a.monitor
     leaves_on n d = sym d.1 ∙ exits c marked a k.uses k.are_uses k.marked k.monitor f (frames_inside a below) r f.stack this d.0
+
+    -- an `iaload` takes an array that the monitor's object owns
+    pub takes_owned : r.stands.insn.op ≡ ops.Iaload → TakesOwned c a.monitor top
+    takes_owned e =
+        let own = subst (λ (op : Op). ReadsOnly c.program (tags_of c) r.mode a.entry.receiver f.method r.stands.number op r.stands.target f.stack) e (reads c marked a k.uses k.are_uses k.marked f (frames_inside a below) r f.stack this) in
+        record {
+          stands = r.stands;
+          owned = own.1;
+          receiver = on_receiver c.program (tags_of c) (section_of a) a.entry.receiver (part_of f r.stands.number) r.parts r.mode r.are own.0 ∙ on_object c marked a k.monitor f (frames_inside a below) r own.0;
+        }
 
     may : (e : Effect) → Does c a.monitor r.stands.insn.op r.stands.target f.stack e → MayDo c a.monitor top e
     may (Goes to made) d = tt
     may (Throws x) d = tt
     may (Reads v) d = d
     may (Writes v word) d = d
-    may (Indexes array index stored) d = d
+    may (Indexes array index None) d = takes_owned d
+    may (Indexes array index (Some v)) d = d
     may (Measures array) d = tt
     may (Raises x) d = tt
     may (Makes word size) d = d
@@ -97,6 +110,12 @@ module _ (c : MarkedProgram) (marked : IsMarked c) where
 
 pub not_finished : (a : Attempt) (fs : List Frame) → Finishes a phases.Run fs → ⊥
 not_finished a fs x = let bad = x.leaves in cc
+
+-- from an instruction to a phase of any section
+pub stays_in : (c : MarkedProgram) (other : Phase) (fs : List Frame) (held : List Held) (o : Option Attempt) → ((m : ℕ) → IsPhaseInside m other) → AttemptStandsIn c phases.Run fs held o → AttemptStandsIn c other fs held o
+stays_in c other fs held None inside k = tt
+stays_in c other [] held (Some a) inside k = let based : a.base < 0 = k.based in absurd (omega (arith, based))
+stays_in c other (f ∷ below) held (Some a) inside k = stays c phases.Run other f below held a k (inside a.monitor) (not_finished a (frames_inside a (f ∷ below)))
 
 pub inside_may : InsideMayDo
 inside_may c [] held a at marked k s e = absurd (cc)

@@ -5,12 +5,12 @@ use Rattle.jvm_types.specs.declared.{outcome.Thrown.TheVariants.{StackOverflowEr
 use Rattle.checked_program.specs.MarkedProgram.{MarkedProgram, IsMarked}
 use Rattle.machine_types.specs.{Frames.{Top, top_of, frames_of, effect_at, went, went_on, waiting, making, has_room, monitor_of, returned}, Going.{with_phase, goes_on, goes_on_if}}
 use Rattle.machine_types.specs.{HeldMonitors.held_at, Instructions.{made, printed}, Ints.low, Onward.{Onward, Running, Throwing, Entering, Leaving, threw, called, entered, returns, back, done}}
-use Rattle.machine_types.specs.{ReadyObjects.thrown_of, Shown.{Show, own_entry}, Standing.Whole}
+use Rattle.machine_types.specs.{ReadyObjects.{ready, thrown_of}, Shown.{Show, own_entry}, Standing.Whole}
 use Rattle.machine_types.specs.{Structure.{TopIs, AreHeldOnce, IsFlat, IsFat, Stands, AttemptStandsIn, is_element_op, count_in, held_depth, tried_depth, once_at}, Threads.{Frame, Attempt, Thread}}
 use Rattle.machine_types.specs.{Words.{header_class, header_length, value_word}, declared.{effect.Effect.Effect, lock.{Held.Held, Kept.Kept}, phase.Phase.Phase}}
 use Rattle.laws_threads.specs.{CallLaws.{IsLeft, callee_frame}, InsideEffects.MayDo, InsideMoves.GoesAlong, MoveLaws.goes_to, StructureLaws.StaysStructured, ThrowLaws.may_throw}
 use Rattle.laws_threads.proofs.{ElementEffects.element_at, FrameCalls.{calls_law, call_enters_law}, FramePlaces.tops_stand_law, FrameReturns.returns_law, FrameThrows.{effects_throw_law, throws_law}}
-use Rattle.laws_threads.proofs.{GoingOn.{OnwardShows, AttemptGoesOn, none_goes_on, onward_stands, going}, Inside.inside_may, MonitorMoves.{enters_law, leaves_law}}
+use Rattle.laws_threads.proofs.{GoingOn.{OnwardShows, AttemptGoesOn, none_goes_on, onward_stands, going}, Inside.{inside_may, stays_in}, MonitorMoves.{enters_law, leaves_law}}
 use Rattle.laws_threads.proofs.{MoveProofs.{follow_law, effects_law, making_law}, Steps.steps_inside}
 use Rattle.laws_threads.proofs.{ThreadMove.{Asks, WaitsFrom, IsNotify, of_one, of_all, Refuses, past_end, no_memory, waits_unheld, notifies_unheld}, Turns.{running, no_attempt}}
 use Rattle.jvm_types.specs.declared.outcome.End.TheVariants as ends
@@ -139,8 +139,13 @@ module _ (c : MarkedProgram) (marked : IsMarked c) (s : Thread) (at : Top) (t : 
   step e f got = let shows = done_shows c marked s.frames k.shown at t k.show e f got in
       going_if c was s k.once same (done c.program at e got) k.shown shows deep (step_inside e f got (done c.program at e got) refl shows s.attempt refl)
 
-  threw_on : (x : outcomes.Thrown) (e : Effect) → effect_at c.program at ≡ e → may_throw e ≡ true → s.attempt ≡ None → StaysStructured c was (goes_on s (threw x at))
-  threw_on x e f g none = going c was s k.once (threw x at) k.shown (threw_shows c marked s.frames k.shown at t k.show x e f g) deep (none_goes_on c (threw x at) s.held s.attempt none)
+  threw_inside : (x : outcomes.Thrown) (o : Option Attempt) → AttemptStandsIn c (phases.Throw (ready x) x) (frames_of at) s.held o → AttemptGoesOn c (threw x at) s.held o
+  threw_inside x None h = tt
+  threw_inside x (Some a) h = h
+
+  threw_on : (x : outcomes.Thrown) (e : Effect) → effect_at c.program at ≡ e → may_throw e ≡ true → StaysStructured c was (goes_on s (threw x at))
+  threw_on x e f g = going c was s k.once (threw x at) k.shown (threw_shows c marked s.frames k.shown at t k.show x e f g) deep
+      (threw_inside x s.attempt (subst (λ (fs : List Frame). AttemptStandsIn c (phases.Throw (ready x) x) fs s.held s.attempt) (tops_stand_law c s.frames Whole k.shown at marked k.show t).1.frames (stays_in c (phases.Throw (ready x) x) s.frames s.held s.attempt (λ m. tt) inside)))
 
   none_by : (e : Effect) → effect_at c.program at ≡ e → ((m : ℕ) → MayDo c m at e → ⊥) → s.attempt ≡ None
   none_by e f never = unless_inside e f never s.attempt refl
@@ -149,11 +154,11 @@ module _ (c : MarkedProgram) (marked : IsMarked c) (s : Thread) (at : Top) (t : 
   does e got onward f d = subst (λ (o : Option Onward). StaysStructured c was (goes_on_if s o)) d (step e f got)
 
   pub refuses : (x : outcomes.Thrown) (got : ℕ) → Refuses c.program got at x → StaysStructured c was (goes_on s (threw x at))
-  refuses _ got (past_end array index stored f e) = threw_on ArrayIndexOutOfBoundsException (effects.Indexes array index stored) f refl (none_by (effects.Indexes array index stored) f (λ m n. n))
-  refuses _ got (no_memory word size f) = threw_on OutOfMemoryError (effects.Makes word size) f refl (none_by (effects.Makes word size) f (λ m n. n))
-  refuses _ got (waits_unheld m f) = threw_on IllegalMonitorStateException (effects.Waits m) f refl (none_by (effects.Waits m) f (λ m n. n))
-  refuses _ got (notifies_unheld m (of_one f)) = threw_on IllegalMonitorStateException (effects.Notifies m) f refl (none_by (effects.Notifies m) f (λ m n. n))
-  refuses _ got (notifies_unheld m (of_all f)) = threw_on IllegalMonitorStateException (effects.NotifiesAll m) f refl (none_by (effects.NotifiesAll m) f (λ m n. n))
+  refuses _ got (past_end array index stored f e) = threw_on ArrayIndexOutOfBoundsException (effects.Indexes array index stored) f refl
+  refuses _ got (no_memory word size f) = threw_on OutOfMemoryError (effects.Makes word size) f refl
+  refuses _ got (waits_unheld m f) = threw_on IllegalMonitorStateException (effects.Waits m) f refl
+  refuses _ got (notifies_unheld m (of_one f)) = threw_on IllegalMonitorStateException (effects.Notifies m) f refl
+  refuses _ got (notifies_unheld m (of_all f)) = threw_on IllegalMonitorStateException (effects.NotifiesAll m) f refl
 
   -- ---- an element
 
@@ -166,7 +171,7 @@ module _ (c : MarkedProgram) (marked : IsMarked c) (s : Thread) (at : Top) (t : 
   element_begins array index stored f = record {
     is_as = refl;
     stands = record { shown = k.shown; show = k.show; depths = k.depths; once = k.once; phase_shows = top_at_element array index stored f };
-    attempt = no_attempt c (phases.Element (value_word array (low index)) stored) s.frames s.held s.attempt (none_by (effects.Indexes array index stored) f (λ m n. n));
+    attempt = stays_in c (phases.Element (value_word array (low index)) stored) s.frames s.held s.attempt (λ m. tt) inside;
   }
 
   -- ---- a new object, and a print

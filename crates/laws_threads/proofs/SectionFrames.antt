@@ -5,10 +5,10 @@ use Rattle.lists.proofs.{ListLaws.same_some, TestLaws.both_true}
 use Rattle.jvm_types.specs.{ClassNames.file_of_class, Members.{is_static, is_synchronized}, ProgramInvariant.{IsTargetOf, site_in}, declared.{code.{Insn.Insn, Op.Op}, op_row.OpRow.OpRow}}
 use Rattle.jvm_types.specs.declared.program.{MethodInfo.MethodInfo, Program.Program, Target.Target}
 use Rattle.laws_programs.{specs.TargetLaws.HasRow, proofs.{CodeOrder.have_targets, TargetRows.targets_rows}}
-use Rattle.checked_program.specs.{FrozenPlaces.AreUses, LockTags.TagShape, MarkedProgram.{MarkedProgram, IsMarked}}
+use Rattle.checked_program.specs.{LockTags.TagShape, MarkedProgram.{MarkedProgram, IsMarked}}
 use Rattle.checked_program.specs.Marks.{HasMark, Calls, callee, called_method, is_locking, is_class_locking, is_own_object, is_own_class, class_of_method, receiver_tag, called_mode, section_fault, call_fault, enter_fault}
-use Rattle.checked_program.specs.{SectionLaws.{Part, AreParts, IsSectionPart, IsExit, HasThis, ReadsOnly}, TaggedCode.{IsAt, Goes, row_of}, declared.section.{FieldUse.FieldUse, Mode.Mode}}
-use Rattle.checked_program.specs.declared.{section.Mode.TheVariants.{OnThis, OnClass}, tag.Tag.{Tag, TheVariants.{Untagged, This}}}
+use Rattle.checked_program.specs.{OwnedArrays.{reads_owned, AreUses}, SectionLaws.{Part, AreParts, IsSectionPart, IsExit, HasThis, ReadsOnly}, Sections.section_mode, TaggedCode.{IsAt, Goes, row_of}}
+use Rattle.checked_program.specs.declared.{section.{Mode.{Mode, TheVariants.{OnThis, OnClass}}, Uses.Uses}, tag.Tag.{Tag, TheVariants.{Untagged, This}}}
 use Rattle.laws_sections.{specs.FrameLaws.{IsReceiver, mode_of_call}, proofs.{MarkedReads.{own_object, own_class, own_no_fault, called_no_fault, read_law}, MonitorExits.{held_law, exit_law}}}
 use Rattle.laws_sections.proofs.{SectionCalls.{invoke_law, mode_law}, SectionMoves.move_law}
 use Rattle.machine_types.specs.{Frames.monitor_of, Shown.{HasValue, HaveValues}, Standing.{Standing, tags_of}, Structure.{IsPart, RunsSection, mode_monitor, section_monitor, section_of}}
@@ -128,18 +128,18 @@ module _ (c : MarkedProgram) (marked : IsMarked c) (a : Attempt) where
 
   -- ---- marks
 
-  module _ (uses : List FieldUse) (are_uses : AreUses c.program (tags_of c) uses) (mark : HasMark c.program (tags_of c) uses (section_of a) 0) where
-    no_fault : (f : Frame) (rest : List Frame) (r : Runs c a f rest) (m : MethodInfo) (insn : Insn) (target : Target) (u : TagShape) → IsAt c.program (tags_of c) f.method r.stands.number m insn target u → section_fault c.program uses r.mode insn.op target u.stack ≡ 0
+  module _ (uses : Uses) (are_uses : AreUses c.program (tags_of c) uses) (mark : HasMark c.program (tags_of c) uses (section_of a) 0) where
+    no_fault : (f : Frame) (rest : List Frame) (r : Runs c a f rest) (m : MethodInfo) (insn : Insn) (target : Target) (u : TagShape) → IsAt c.program (tags_of c) f.method r.stands.number m insn target u → section_fault c.program uses.fields r.mode insn.op target u.stack (reads_owned uses f.method r.stands.number) ≡ 0
     no_fault f rest r m insn target u at = by_parts r.parts r.are
       where
-        by_parts : (parts : List Part) → AreParts c.program (tags_of c) (section_of a) a.entry.receiver (part_of f r.stands.number ∷ parts) r.mode → section_fault c.program uses r.mode insn.op target u.stack ≡ 0
+        by_parts : (parts : List Part) → AreParts c.program (tags_of c) (section_of a) a.entry.receiver (part_of f r.stands.number ∷ parts) r.mode → section_fault c.program uses.fields r.mode insn.op target u.stack (reads_owned uses f.method r.stands.number) ≡ 0
         by_parts [] are =
             let last : IsSectionPart c.program (tags_of c) (section_of a) a.entry.receiver (part_of f r.stands.number) r.mode = are in
-            subst (λ was. section_fault c.program uses was insn.op target u.stack ≡ 0) (sym last.mode_is)
-            (own_no_fault c.program (tags_of c) uses (section_of a) r.stands.number m insn target u mark last.own (subst (λ mi. IsAt c.program (tags_of c) mi r.stands.number m insn target u) last.method at))
+            subst (λ was. section_fault c.program uses.fields was insn.op target u.stack (reads_owned uses f.method r.stands.number) ≡ 0) (sym last.mode_is)
+            (subst (λ (mi : ℕ). section_fault c.program uses.fields (section_mode c.program (section_of a)) insn.op target u.stack (reads_owned uses mi r.stands.number) ≡ 0) (sym last.method) (own_no_fault c.program (tags_of c) uses (section_of a) r.stands.number m insn target u mark last.own (subst (λ mi. IsAt c.program (tags_of c) mi r.stands.number m insn target u) last.method at)))
         by_parts (b ∷ parts) are = called_no_fault c.program (tags_of c) uses (section_of a) a.entry.receiver r.stands.number (part_of f r.stands.number) b parts r.mode m insn target u mark are at
 
-    pub reads : (f : Frame) (rest : List Frame) (r : Runs c a f rest) (stack : List ℕ) → HasThis f.receiver r.stands.tags.stack stack → ReadsOnly c.program (tags_of c) r.mode a.entry.receiver r.stands.insn.op r.stands.target stack
+    pub reads : (f : Frame) (rest : List Frame) (r : Runs c a f rest) (stack : List ℕ) → HasThis f.receiver r.stands.tags.stack stack → ReadsOnly c.program (tags_of c) r.mode a.entry.receiver f.method r.stands.number r.stands.insn.op r.stands.target stack
     reads f rest r stack this =
         let k = r.stands in
         read_law c.program (tags_of c) uses (section_of a) a.entry.receiver (part_of f k.number) r.parts r.mode k.method k.insn k.target k.tags stack marked.checked.program are_uses mark r.are k.at this
@@ -171,28 +171,28 @@ module _ (c : MarkedProgram) (marked : IsMarked c) (a : Attempt) where
       on_this : is_static called.flags ≡ false → is_own_object mode (receiver_tag c.program op target ts) ≡ true → IsOwnCall called mode op target ts
       in_class : is_static called.flags ≡ true → mode ≡ OnClass called.class → IsOwnCall called mode op target ts
 
-    own_call : (u : ℕ) (called : MethodInfo) (mi : MethodInfo) (pc : ℕ) (op : Op) (target : Target) (row : OpRow) (mode : Mode) (ts : List Tag) → slice_get c.program.methods u ≡ Some called → is_synchronized called.flags ≡ true
-        → called_method op target ≡ Some u → HasRow c.program (site_in mi) pc target op row → section_fault c.program uses mode op target ts ≡ 0 → IsOwnCall called mode op target ts
-    own_call u called mi pc (ops.Invokevirtual i) (targets.Method v) row mode ts there synchronized call k z =
+    own_call : (u : ℕ) (called : MethodInfo) (mi : MethodInfo) (pc : ℕ) (op : Op) (target : Target) (row : OpRow) (mode : Mode) (ts : List Tag) (owned : Bool) → slice_get c.program.methods u ≡ Some called → is_synchronized called.flags ≡ true
+        → called_method op target ≡ Some u → HasRow c.program (site_in mi) pc target op row → section_fault c.program uses.fields mode op target ts owned ≡ 0 → IsOwnCall called mode op target ts
+    own_call u called mi pc (ops.Invokevirtual i) (targets.Method v) row mode ts owned there synchronized call k z =
         let instance : is_static called.flags ≡ false = subst (λ (m : MethodInfo). is_static m.flags ≡ false) (same_some (sym k.there ∙ ap (λ x. slice_get c.program.methods x) (same_some call) ∙ there)) k.sort in
         on_this instance (called_own (is_locking (slice_get c.program.methods v)) _ (ap (λ x. is_locking (slice_get c.program.methods x)) (same_some call) ∙ is_locked c.program u called there synchronized instance) z)
-    own_call u called mi pc (ops.Invokespecial i) (targets.Method v) row mode ts there synchronized call k z =
+    own_call u called mi pc (ops.Invokespecial i) (targets.Method v) row mode ts owned there synchronized call k z =
         let instance : is_static called.flags ≡ false = subst (λ (m : MethodInfo). is_static m.flags ≡ false) (same_some (sym k.there ∙ ap (λ x. slice_get c.program.methods x) (same_some call) ∙ there)) k.sort in
         on_this instance (called_own (is_locking (slice_get c.program.methods v)) _ (ap (λ x. is_locking (slice_get c.program.methods x)) (same_some call) ∙ is_locked c.program u called there synchronized instance) z)
-    own_call u called mi pc (ops.Invokestatic i) (targets.Method v) row mode ts there synchronized call k z =
+    own_call u called mi pc (ops.Invokestatic i) (targets.Method v) row mode ts owned there synchronized call k z =
         let static : is_static called.flags ≡ true = subst (λ (m : MethodInfo). is_static m.flags ≡ true) (same_some (sym k.there ∙ ap (λ x. slice_get c.program.methods x) (same_some call) ∙ there)) k.sort in
         let own : is_own_class mode (class_of_method (slice_get c.program.methods v)) ≡ true =
         called_own (is_class_locking (slice_get c.program.methods v)) _ (ap (λ x. is_class_locking (slice_get c.program.methods x)) (same_some call) ∙ is_class_locked c.program u called there synchronized static) z in
         let same : class_of_method (slice_get c.program.methods v) ≡ called.class = ap (λ x. class_of_method (slice_get c.program.methods x)) (same_some call) ∙ ap class_of_method there in
         in_class static (own_class mode (class_of_method (slice_get c.program.methods v)) own ∙ ap (λ (x : ℕ). OnClass x) same)
-    own_call u called mi pc op target row mode ts there synchronized call k z = absurd (cc)
+    own_call u called mi pc op target row mode ts owned there synchronized call k z = absurd (cc)
 
     -- the frame of a synchronized method that is called has the section's monitor
     pub locking_on : a.monitor ≡ section_monitor c.program (section_of a) a.entry.receiver → (f b : Frame) (rest : List Frame) (r : Runs c a f (b ∷ rest)) → is_synchronized r.stands.method.flags ≡ true → monitor_of c.program r.stands.method f ≡ a.monitor
     locking_on on f b rest r synchronized =
         let x = caller f b rest r in
         let z = no_fault b rest x.runs x.call.m x.call.insn x.call.target x.call.f x.call.at in
-        let own = own_call f.method r.stands.method x.call.m x.call.insn.pc x.call.insn.op x.call.target (row_of c.program x.call.m x.call.insn x.call.target) x.runs.mode x.call.f.stack r.stands.at.in_program synchronized x.call.called
+        let own = own_call f.method r.stands.method x.call.m x.call.insn.pc x.call.insn.op x.call.target (row_of c.program x.call.m x.call.insn x.call.target) x.runs.mode x.call.f.stack (reads_owned uses b.method x.runs.stands.number) r.stands.at.in_program synchronized x.call.called
         (row_stands c marked b.method x.runs.stands.number x.call.m x.call.insn x.call.target x.call.f x.call.at) z in
         by_call x own
       where

@@ -10,11 +10,11 @@ use Rattle.machine_types.specs.{Standing.{Standing, Whole, tags_of}, Structure.{
 use Rattle.machine_types.specs.{Words.{header_class, header_length}, declared.effect.Effect.Effect}
 use Rattle.machine_types.specs.declared.effect.Effect.TheVariants.{Goes, Throws, Reads, Writes, Indexes, Measures, Raises, Makes, Prints, Calls, Returns, Enters, Leaves, Waits, Notifies, NotifiesAll, Stuck}
 use Rattle.machine_types.specs.declared.{lock.Held.Held, phase.Phase.Phase}
-use Rattle.laws_threads.specs.InsideMoves.{GoesOnInside, OnwardStands, GoesAlong, StepsInside, NoElementInside}
+use Rattle.laws_threads.specs.InsideMoves.{GoesOnInside, OnwardStands, GoesAlong, StepsInside, ReadsElement, ElementsInside}
 use Rattle.laws_threads.proofs.{AttemptMoves.{next_edge, stands_inner, put_back_top, only_entry, along, returned_on}, Base.{own_part, entry_of, of_synchronized, as_many_at_exit, none_inside}}
 use Rattle.laws_threads.proofs.{CallOps.is_receiver, EffectOps.{Does, GoesElsewhere, goes_behind, OnlyLeaves, exit_leaves}, FrameReturns.leaves_none}
 use Rattle.laws_threads.proofs.FramesInside.{one_more, put_back_over, alone_inside}
-use Rattle.laws_threads.proofs.{Inside.{base_below, runs_inside, stands_on, stays, stack_this, top_shows, top_does, locking, calls_on, leaves_on, not_finished}, Leaves.lands}
+use Rattle.laws_threads.proofs.{Inside.{base_below, runs_inside, stands_on, stays, stack_this, top_shows, top_does, takes_owned, locking, calls_on, leaves_on, not_finished}, Leaves.lands}
 use Rattle.laws_threads.proofs.{SectionFrames.{Runs, IsExitOf, moved, invoked, reads, row_stands}, Standings.{top_here, top_at_standing, stands_too, one_insn}}
 use Rattle.jvm_types.specs.declared.code.Op.TheVariants as ops
 use Rattle.machine_types.specs.declared.phase.After.TheVariants as afters
@@ -155,7 +155,7 @@ module _ (c : MarkedProgram) (marked : IsMarked c) (f : Frame) (below : List Fra
   onwards (Throws x) is d edge got result e l = lands c held a (threw x top) result (λ st. throws (ready x) x) e l
   onwards (Reads v) is d edge got result e l = lands c held a (Running (went_on c.program top got)) result (goes_on (Reads v) got is (λ x. x) (λ x. x)) e l
   onwards (Writes v word) is d edge got result e l = absurd d
-  onwards (Indexes array index stored) is d edge got result e l = absurd d
+  onwards (Indexes array index stored) is d edge got result e l = absurd (cc)
   onwards (Measures array) is d edge got result e l = lands c held a (Running (went_on c.program top (header_length got))) result (goes_on (Measures array) (header_length got) is (λ x. x) (λ x. x)) e l
   onwards (Raises x) is d edge got result e l = raises (thrown_of (header_class got)) x result e
   onwards (Makes word size) is d edge got result e l = absurd d
@@ -180,19 +180,39 @@ steps_inside c (f ∷ below) held a at got result marked k s t edge e l =
 
 -- ---- elements
 
-no_element : (c : MarkedProgram) (mode : Mode) (o : ℕ) (stored : Option ℕ) (op : Op) (target : Target) (vs : List ℕ) → is_element_op stored op ≡ true → ReadsOnly c.program (tags_of c) mode o op target vs → ⊥
-no_element c mode o None ops.Iaload target vs e h = h
-no_element c mode o (Some v) ops.Iastore target vs e h = h
-no_element c mode o stored op target vs e h = cc
+-- an instruction of a section that is at an element reads it
+reads_element : (c : MarkedProgram) (mode : Mode) (o method place : ℕ) (stored : Option ℕ) (op : Op) (target : Target) (vs : List ℕ) → is_element_op stored op ≡ true → ReadsOnly c.program (tags_of c) mode o method place op target vs → (stored ≡ None) × (op ≡ ops.Iaload)
+reads_element c mode o method place None ops.Iaload target vs e h = (refl, refl)
+reads_element c mode o method place (Some v) ops.Iastore target vs e h = absurd h
+reads_element c mode o method place stored op target vs e h = absurd (cc)
 
-no_element_finish : (a : Attempt) (word : ℕ) (stored : Option ℕ) (fs : List Frame) → Finishes a (phases.Element word stored) fs → ⊥
-no_element_finish a word stored fs x = let bad = x.leaves in cc
+element_not_finished : (a : Attempt) (word : ℕ) (stored : Option ℕ) (fs : List Frame) → Finishes a (phases.Element word stored) fs → ⊥
+element_not_finished a word stored fs x = let bad = x.leaves in cc
 
-pub no_element_inside : NoElementInside
-no_element_inside c word stored [] held a marked k s = s.phase_shows
-no_element_inside c word stored (f ∷ below) held a marked k s =
-    let r' = runs_inside c (phases.Element word stored) f below held a k (no_element_finish a word stored (frames_inside a (f ∷ below))) in
-    let shows = top_shows c marked Whole f below s.shown s.show in
-    let h = reads c marked a k.uses k.are_uses k.marked f (frames_inside a below) r' f.stack (stack_this c marked f r'.stands shows.0 shows.1) in
-    let is = ap (λ (i : Insn). is_element_op stored i.op) (one_insn c marked f r'.stands s.phase_shows.0) ∙ s.phase_shows.1 in
-    no_element c r'.mode a.entry.receiver stored r'.stands.insn.op r'.stands.target f.stack is h
+module _ (c : MarkedProgram) (marked : IsMarked c) (word : ℕ) (stored : Option ℕ) (f : Frame) (below : List Frame) (held : List Held) (a : Attempt) (k : AttemptStands c (phases.Element word stored) (f ∷ below) held a) (s : Stands c (phases.Element word stored) (f ∷ below) held (Some a)) where
+  -- it stands as before the instruction
+  attempt_before : AttemptStands c phases.Run (f ∷ below) held a
+  attempt_before = stays c (phases.Element word stored) phases.Run f below held a k tt (element_not_finished a word stored (frames_inside a (f ∷ below)))
+
+  before : Stands c phases.Run (f ∷ below) held (Some a)
+  before = record { shown = s.shown; show = s.show; depths = s.depths; once = s.once; phase_shows = tt }
+
+  abbrev runs : Runs c a f (frames_inside a below)
+  runs = r c marked f below held a attempt_before before
+
+  at_element : (stored ≡ None) × (runs.stands.insn.op ≡ ops.Iaload)
+  at_element =
+      reads_element c runs.mode a.entry.receiver f.method runs.stands.number stored runs.stands.insn.op runs.stands.target f.stack
+      (ap (λ (i : Insn). is_element_op stored i.op) (one_insn c marked f runs.stands s.phase_shows.0) ∙ s.phase_shows.1)
+      (reads c marked a k.uses k.are_uses k.marked f (frames_inside a below) runs f.stack (this c marked f below held a attempt_before before))
+
+  element : ReadsElement c stored held a (top_here c f below runs.stands)
+  element = record {
+    read = at_element.0;
+    owned = takes_owned c marked phases.Run f below held a attempt_before runs (this c marked f below held a attempt_before before) at_element.1;
+    goes_on = λ value l. goes c marked f below held a attempt_before before runs.stands.insn.next value (next_edge runs.stands.insn (ap falls_through at_element.1)) (λ x. let bad : ops.Iaload ≡ ops.Monitorexit = sym at_element.1 ∙ x in cc) l;
+  }
+
+pub elements_inside : ElementsInside
+elements_inside c word stored [] held a at marked k s t = absurd s.phase_shows
+elements_inside c word stored (f ∷ below) held a at marked k s t = subst (λ x. ReadsElement c stored held a x) (top_at_standing c marked f below (runs c marked word stored f below held a k s).stands at t) (element c marked word stored f below held a k s)

@@ -14,7 +14,7 @@ use Rattle.laws_threads.specs.{CallLaws.IsLeft, InsideMoves.{BeginsAttempt, Ente
 use Rattle.laws_threads.proofs.{FrameCalls.roots_law, FramePlaces.tops_stand_law, FrameThrows.{caught_law, unwound_law}, GoingOn.{OnwardShows, AttemptGoesOn, none_goes_on, onward_stands, going}}
 use Rattle.laws_threads.proofs.MonitorEntries.{from_take, from_flag, from_take_fat, takes_next, takes_fat_next, looks_again, flags, turned_back, turned_back_fat, looks_at_lock, taken, again, to_acquire, begun, deeper_inside, none_tried}
 use Rattle.laws_threads.proofs.{MoveProofs.{elements_law, pushed_law}, Releases.{left_with, left_deeper, left_last, grows_first, left_elided, left_inside}, Roots.{IsSomeRoot, part_root}}
-use Rattle.laws_threads.proofs.Steps.{no_element_inside}
+use Rattle.laws_threads.proofs.Steps.{elements_inside}
 use Rattle.laws_threads.proofs.ThreadMove.{Looks, Lacks, GoesBy, Checks, LeadsTo, TurnsTo, Takes, GivesUp, Move, becomes, mover, by_move, of_mover, not_held, tried_attempt, tried_monitor}
 use Rattle.laws_threads.proofs.{Throws.throws_inside, Turns.{failing, no_attempt, outside}}
 use Rattle.laws_threads.proofs.Waits.{to_own, not_grown, to_fat_in, fattened, to_wait_out, given_up, waits_on, to_retake, retakes_not, retaken, notified, to_notify_one, notified_one, notified_all}
@@ -67,12 +67,15 @@ module _ (c : MarkedProgram) (marked : IsMarked c) (was : Phase) (s : Thread) wh
 
   element_keeps : (word : ℕ) (stored : Option ℕ) (value : ℕ) → Stands c (phases.Element word stored) s.frames s.held s.attempt → AttemptStandsIn c (phases.Element word stored) s.frames s.held s.attempt → (at : Top) → top_of c.program s.frames ≡ Some at
       → StaysStructured c was (goes_on s (Running (went_on c.program at value)))
-  element_keeps word stored value k inside at t = going c was s k.once (Running (went_on c.program at value)) k.shown (tt, elements_law c s.frames k.shown at stored value marked t k.show k.phase_shows) (λ m. let d = k.depths m in omega arith)
-      (none_goes_on c (Running (went_on c.program at value)) s.held s.attempt (none s.attempt refl))
+  element_keeps word stored value k inside at t = going c was s k.once (Running (went_on c.program at value)) k.shown shows (λ m. let d = k.depths m in omega arith) (by_attempt s.attempt refl)
     where
-      none : (o : Option Attempt) → s.attempt ≡ o → o ≡ None
-      none None e = refl
-      none (Some a) e = absurd (no_element_inside c word stored s.frames s.held a marked (subst (λ (o : Option Attempt). AttemptStandsIn c (phases.Element word stored) s.frames s.held o) e inside) (subst (λ (o : Option Attempt). Stands c (phases.Element word stored) s.frames s.held o) e k))
+      shows : OnwardShows c (Running (went_on c.program at value)) k.shown
+      shows = (tt, elements_law c s.frames k.shown at stored value marked t k.show k.phase_shows)
+
+      by_attempt : (o : Option Attempt) → s.attempt ≡ o → AttemptGoesOn c (Running (went_on c.program at value)) s.held o
+      by_attempt None e = tt
+      by_attempt (Some a) e = (elements_inside c word stored s.frames s.held a at marked (subst (λ (o : Option Attempt). AttemptStandsIn c (phases.Element word stored) s.frames s.held o) e inside)
+          (subst (λ (o : Option Attempt). Stands c (phases.Element word stored) s.frames s.held o) e k) t).goes_on value (onward_stands c (Running (went_on c.program at value)) k.shown shows)
 
   pushed_frame : (a : ℕ) (fs : List Frame) → HasFrame fs → HasFrame (pushed a fs)
   pushed_frame a [] k = absurd k

@@ -1,16 +1,17 @@
 -- What an instruction may do inside an attempt: it writes nothing, reads no place but those that
 -- stay while the monitor of the section is free, and enters and leaves no monitor but that one.
-use Rattle.std.specs.Prelude.{◌≡◌, ℕ, ◌⊎◌, true, List, Some, slice_get}
+use Rattle.std.specs.Prelude.{◌≡◌, ℕ, ◌⊎◌, true, List, Some, None, slice_get}
 use Rattle.jvm_types.specs.ClassNames.{file_of_class}
 use Rattle.jvm_types.specs.Members.{is_static, is_synchronized}
 use Rattle.jvm_types.specs.declared.program.FieldInfo.{FieldInfo}
 use Rattle.jvm_types.specs.declared.program.MethodInfo.{MethodInfo}
 use Rattle.checked_program.specs.FrozenPlaces.{IsFrozenField, IsFrozenStatic, IsGuardedField}
 use Rattle.checked_program.specs.FrozenPlaces.{IsGuardedStatic}
+use Rattle.checked_program.specs.OwnedArrays.{IsOwnedAt}
 use Rattle.checked_program.specs.MarkedProgram.{MarkedProgram, IsMarked}
 use Rattle.machine_types.specs.Frames.{Top, top_of, effect_at, entry_frame, arguments_of}
 use Rattle.machine_types.specs.Frames.{monitor_of}
-use Rattle.machine_types.specs.Standing.{tags_of}
+use Rattle.machine_types.specs.Standing.{Standing, tags_of}
 use Rattle.machine_types.specs.Words.{class_object}
 use Rattle.machine_types.specs.Structure.{Stands, AttemptStands}
 use Rattle.machine_types.specs.Threads.{Frame, Attempt}
@@ -48,11 +49,18 @@ abbrev pub MayRead : MarkedProgram → (m : ℕ) → Variable → Type 0
 MayRead c m (Instance reference index) = IsStayingField c m reference index
 MayRead c m (Static word) = IsStayingStatic c m word
 
+-- the array that the instruction takes is one that the receiver, which is m, has in an owned field
+pub record TakesOwned (c : MarkedProgram) (m : ℕ) (at : Top) : Type 0 where
+  pub stands : Standing c at.frame
+  pub owned : IsOwnedAt c.program (tags_of c) at.frame.method stands.number 1
+  pub receiver : at.frame.receiver ≡ m
+
 -- a synchronized method that is called, or that returns, has the monitor m (JVMS 2.11.10)
 abbrev pub MayDo : MarkedProgram → (m : ℕ) → Top → Effect → Type 0
 MayDo c m at (Reads v) = MayRead c m v
 MayDo c m at (Writes v word) = ⊥
-MayDo c m at (Indexes array index stored) = ⊥
+MayDo c m at (Indexes array index None) = TakesOwned c m at
+MayDo c m at (Indexes array index (Some v)) = ⊥
 MayDo c m at (Makes word size) = ⊥
 MayDo c m at (Prints n) = ⊥
 MayDo c m at (Calls number) =

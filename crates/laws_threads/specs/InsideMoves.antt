@@ -8,7 +8,8 @@ use Rattle.jvm_types.specs.declared.code.Insn.{Insn}
 use Rattle.jvm_types.specs.declared.outcome.Thrown.{Thrown}
 use Rattle.checked_program.specs.MarkedProgram.{MarkedProgram, IsMarked}
 use Rattle.machine_types.specs.Elision.{enters_marked}
-use Rattle.machine_types.specs.Frames.{Top, top_of, effect_at, handler_at}
+use Rattle.machine_types.specs.Frames.{Top, top_of, effect_at, handler_at, went_on}
+use Rattle.laws_threads.specs.InsideEffects.{TakesOwned}
 use Rattle.machine_types.specs.HeldMonitors.{held_at}
 use Rattle.machine_types.specs.Onward.{Onward, Running, Throwing, Entering, Leaving, RootReturned}
 use Rattle.machine_types.specs.Onward.{Uncaught, handed, after, done}
@@ -61,12 +62,22 @@ StepsInside =
     → done c.program at (effect_at c.program at) got ≡ Some onward → OnwardStands c onward
     → GoesOnInside c onward held a
 
--- no thread is at an element there
-abbrev pub NoElementInside : Type 0
-NoElementInside =
+-- an element is read there, of an array that the monitor's object owns, and none is written; then
+-- its thread goes on
+pub record ReadsElement (c : MarkedProgram) (stored : Option ℕ) (held : List Held) (a : Attempt)
+    (at : Top) : Type 0 where
+  pub read : stored ≡ None
+  pub owned : TakesOwned c a.monitor at
+  pub goes_on : (value : ℕ) → TopStands c (went_on c.program at value)
+      → GoesOnInside c (Running (went_on c.program at value)) held a
+
+abbrev pub ElementsInside : Type 0
+ElementsInside =
     (c : MarkedProgram) (word : ℕ) (stored : Option ℕ) (fs : List Frame) (held : List Held)
-    (a : Attempt) → IsMarked c → AttemptStands c (phases.Element word stored) fs held a
-    → Stands c (phases.Element word stored) fs held (Some a) → ⊥
+    (a : Attempt) (at : Top) → IsMarked c
+    → AttemptStands c (phases.Element word stored) fs held a
+    → Stands c (phases.Element word stored) fs held (Some a) → top_of c.program fs ≡ Some at
+    → ReadsElement c stored held a at
 
 -- an exception and one frame
 abbrev pub ThrowsInside : Type 0

@@ -2,7 +2,7 @@
 
 ghost use Rattle.laws_threads.specs.InsideEffects.{InsideMayDo};
 ghost use Rattle.laws_threads.specs.InsideMoves.{BeginsAttempt, EntersInside, LeavesInside};
-ghost use Rattle.laws_threads.specs.InsideMoves.{NoElementInside, StepsInside, ThrowsInside};
+ghost use Rattle.laws_threads.specs.InsideMoves.{ElementsInside, StepsInside, ThrowsInside};
 
 use machine_types::marked_has_mark;
 
@@ -17,9 +17,10 @@ pub fn steps_inside()
     ensures { StepsInside }
 {}
 
-/// No thread is at an element of an array inside an attempt.
-pub fn no_element_inside()
-    ensures { NoElementInside }
+/// A thread that is at an element of an array inside an attempt reads it, and the monitor's object
+/// owns the array.
+pub fn elements_inside()
+    ensures { ElementsInside }
 {}
 
 /// It stands where an exception goes to a handler, or to the calling frame.

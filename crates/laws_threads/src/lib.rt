@@ -34,7 +34,7 @@ pub use frame_laws::{
 pub use given_laws::given_is_kept;
 pub use held_laws::held_has_room;
 pub use inside_laws::{
-    attempt_begins, enters_inside, inside_may_do, leaves_inside, no_element_inside, steps_inside,
+    attempt_begins, elements_inside, enters_inside, inside_may_do, leaves_inside, steps_inside,
     throws_inside,
 };
 pub use lawful_laws::lawful_is_kept;
