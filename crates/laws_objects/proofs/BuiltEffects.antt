@@ -8,7 +8,7 @@ use Rattle.jvm_types.specs.declared.{program.{Program.Program, Target.Target}, t
 use Rattle.machine_types.specs.Effects.{effect, named, kept, unless_null, unless_zero, at_local, gets_static, puts_static, gets, puts, calls_instance, calls_static, calls_on, variable_of}
 use Rattle.machine_types.specs.{Ints.{low, int_of, added, divided, remaining, word_of}, ReadyObjects.out_object, Words.{header, array_size}, declared.effect.Effect.Effect}
 use Rattle.machine_types.specs.declared.effect.Effect.TheVariants.{Goes, Throws, Reads, Writes, Indexes, Measures, Raises, Makes, Prints, Calls, Returns, Enters, Leaves, Waits, Notifies, NotifiesAll, Stuck}
-use Rattle.laws_objects.proofs.Operands.{TakenOld, WantOld, is_getfield}
+use Rattle.laws_objects.proofs.Operands.{TakenOld, WantOld, takes_any, is_getfield}
 use Rattle.jvm_types.specs.declared.code.Op.TheVariants as ops
 use Rattle.jvm_types.specs.declared.outcome.Thrown.TheVariants as thrown
 use Rattle.jvm_types.specs.declared.program.Kind.TheVariants as kinds
@@ -174,7 +174,7 @@ module _ (Old : ℕ → Type 0) (out : Old out_object) (p : Program) (m : Method
   abbrev pub IsBuilt : Target → Op → (l s : List ℕ) → Type 0
   IsBuilt target op l s = Is target (row p m pc target op) (effect p next target op l s)
 
-  pub effect_built : (target : Target) (op : Op) (l s : List ℕ) → NamesField target op → (is_getfield op ≡ false → TakenOld Old (row p m pc target op).takes s) → IsBuilt target op l s
+  pub effect_built : (target : Target) (op : Op) (l s : List ℕ) → NamesField target op → (takes_any op ≡ false → TakenOld Old (row p m pc target op).takes s) → IsBuilt target op l s
   effect_built target ops.Nop l s n h = (tt, tt)
   effect_built target ops.AconstNull l s n h = ((refl, tt), tt)
   effect_built target (ops.Iconst i) l s n h = ((tt, tt), tt)

@@ -3,23 +3,36 @@
 use Rattle.std.proofs.Common.{◌≡◌, ◌≢◌, ℕ, suc, ◌<◌, Bool, true, false, not, List, [], ◌∷◌, ◌++◌, length, map, drop, Option, Some, None, refl, sym, ap, ◌∙◌, subst, arith, ◌==◌, slice_get, slice_index_or, reverse}
 use Rattle.std.{specs.List.AllByRecursion, proofs.lemmas.Bool.{or_parts, eqb-false, Decides.Decides-eqb}}
 use Rattle.lists.proofs.TestLaws.{is_true}
-use Rattle.jvm_types.specs.{CodeTable.{arguments, want_of}, Verifying.{suits, some_taken, started}, declared.op_row.Want.Want}
+use Rattle.jvm_types.specs.{CodeTable.{arguments, want_of}, Verifying.{suits, some_taken, started}, declared.{code.Op.Op, op_row.Want.Want, program.Target.Target}}
 use Rattle.jvm_types.specs.declared.{op_row.Want.TheVariants.{AnyValue, AnInt, AnObject, AnyReference, AHolder, ToStart}, program.{Kind.Kind, MethodInfo.MethodInfo}, typing.VType.VType}
-use Rattle.checked_program.specs.{MarkedProgram.MarkedProgram, Marks.called_method, declared.tag.Tag.{Tag, TheVariants.Untagged}}
-use Rattle.machine_types.specs.Construction.{builds, makes_frozen, if_so, SlotsAre, Runs, WaitsFor, FreshAtCall, IsFresh, ReceiverIs, SlotOf, FrameKeeps, WaitKeeps, KeepBelow}
+use Rattle.checked_program.specs.{MarkedProgram.MarkedProgram, Marks.called_method, OwnedArrays.may_take_array, declared.tag.Tag.{Tag, TheVariants.Untagged}}
+use Rattle.machine_types.specs.Construction.{Owning, puts_owned, builds, makes_frozen, if_so, SlotsAre, Runs, WaitsFor, FreshAtCall, IsFresh, ReceiverIs, SlotOf, IsArraySlot, SlotsFrom, FrameKeeps, WaitKeeps, KeepBelow}
 use Rattle.machine_types.specs.{Standing.{Standing, row_at}, Threads.Frame, Worlds.{Made, Begun, Lost, Builder, builder, World, IsFinished, with_builder}}
-use Rattle.laws_objects.proofs.{BuiltEffects.StartsNone, KeptFrames.{KeepsUnder, below_kept}, Moves.{StartsOld, Suit, suits_later}, Slots.{slots_map, slots_drop, slot_later}}
+use Rattle.laws_objects.proofs.{BuiltEffects.StartsNone, KeptFrames.{KeepsUnder, below_kept, plain_stack}, Moves.{StartsOld, Suit, suits_later}, Slots.{slots_map, slots_drop, slot_later}}
+use Rattle.laws_objects.proofs.{ArraySlots.{from_drop, from_map}, Operands.takes_any, PutPlaces.is_newarray}
 use Rattle.laws_objects.proofs.WorldChanges.{item_is, none_some, given_keeps, given_none}
+use Rattle.jvm_types.specs.declared.code.Op.TheVariants as ops
 use Rattle.jvm_types.specs.declared.program.Kind.TheVariants as kinds
 use Rattle.jvm_types.specs.declared.typing.VType.TheVariants as types
 
 -- ---- below a frame it counts which method it is of, and its receiver
 
-pub below_moved : (c : MarkedProgram) (frozen : ℕ → Bool) (w : World) (next t : ℕ) (f : Frame) (pc : ℕ) (stack locals : List ℕ) (fs : List Frame) → KeepBelow c frozen w next t f fs → KeepBelow c frozen w next t (record f { pc = pc; stack = stack; locals = locals }) fs
-below_moved c frozen w next t f pc stack locals [] k = tt
-below_moved c frozen w next t f pc stack locals (g ∷ fs) k = k
+pub below_moved : (c : MarkedProgram) (frozen : ℕ → Bool) (owning : Owning) (w : World) (next t : ℕ) (f : Frame) (pc : ℕ) (stack locals : List ℕ) (fs : List Frame) → KeepBelow c frozen owning w next t f fs → KeepBelow c frozen owning w next t (record f { pc = pc; stack = stack; locals = locals }) fs
+below_moved c frozen owning w next t f pc stack locals [] k = tt
+below_moved c frozen owning w next t f pc stack locals (g ∷ fs) k = k
 
 -- ---- the caller
+
+-- a call stores nothing, and takes no coloured value
+pub call_stores : (owned : ℕ → Bool) (op : Op) (target : Target) (callee : ℕ) → called_method op target ≡ Some callee → puts_owned owned op target ≡ false
+call_stores owned (ops.Putfield i) target callee e = absurd (let bad : None ≡ Some callee = e in cc)
+call_stores owned op target callee e = refl
+
+pub call_takes : (op : Op) (target : Target) (callee : ℕ) → called_method op target ≡ Some callee → (takes_any op ≡ false) × ((k : ℕ) → may_take_array op k ≡ false) × (is_newarray op ≡ false)
+call_takes (ops.Invokevirtual i) target callee e = (refl, λ k. refl, refl)
+call_takes (ops.Invokespecial i) target callee e = (refl, λ k. refl, refl)
+call_takes (ops.Invokestatic i) target callee e = (refl, λ k. refl, refl)
+call_takes op target callee e = absurd (let bad : None ≡ Some callee = e in cc)
 
 abbrev pub waits_on : (c : MarkedProgram) (f : Frame) → Standing c f → Frame
 waits_on c f k = record f { stack = drop (length (row_at c f k).takes) f.stack }
@@ -27,7 +40,15 @@ waits_on c f k = record f { stack = drop (length (row_at c f k).takes) f.stack }
 abbrev pub stands_waiting : (c : MarkedProgram) (f : Frame) (k : Standing c f) → Standing c (waits_on c f k)
 stands_waiting c f k = record { number = k.number; method = k.method; insn = k.insn; target = k.target; tags = k.tags; at = k.at; frames = k.frames; types_of_method = k.types_of_method; types = k.types; types_are = k.types_are; pc_is = k.pc_is }
 
-module _ (c : MarkedProgram) (frozen : ℕ → Bool) (w : World) (next t h : ℕ) (f : Frame) (k : FrameKeeps c frozen w next t h Runs f) (callee : ℕ) (calls : called_method k.stands.insn.op k.stands.target ≡ Some callee) where
+-- the arrays below what it takes
+arrays_wait : (c : MarkedProgram) (frozen : ℕ → Bool) (owning : Owning) (w : World) (next t h : ℕ) (f : Frame) (k : FrameKeeps c frozen owning w next t h Runs f)
+    → SlotsFrom (IsArraySlot c owning.stores (waits_on c f k.stands) k.stands.number) (length (row_at c f k.stands).takes) (drop (length (row_at c f k.stands).takes) k.stands.types.stack) (drop (length (row_at c f k.stands).takes) f.stack)
+arrays_wait c frozen owning w next t h f k =
+    let n : ℕ = length (row_at c f k.stands).takes in
+    from_map (IsArraySlot c owning.stores f k.stands.number) (IsArraySlot c owning.stores (waits_on c f k.stands) k.stands.number) (λ i u v a. record { owned = λ o word is. a.owned o word is; other = λ none. a.other none }) n (drop n k.stands.types.stack) (drop n f.stack)
+    (from_drop (IsArraySlot c owning.stores f k.stands.number) n 0 n k.stands.types.stack f.stack (omega arith) k.arrays)
+
+module _ (c : MarkedProgram) (frozen : ℕ → Bool) (owning : Owning) (w : World) (next t h : ℕ) (f : Frame) (k : FrameKeeps c frozen owning w next t h Runs f) (callee : ℕ) (calls : called_method k.stands.insn.op k.stands.target ≡ Some callee) where
   -- of a method that is no `<init>` of a frozen class, or of one on `this`
   wait_fresh : (young : ℕ → Bool) (receiver : ℕ) (o : Option (VType × ℕ)) → StartsOld young o → (q v : ℕ) → young q ≡ true → w v ≡ Some (builder t h (Made q)) → FreshAtCall w t h receiver o q v
   wait_fresh young receiver None s q v y e = e
@@ -42,15 +63,20 @@ module _ (c : MarkedProgram) (frozen : ℕ → Bool) (w : World) (next t h : ℕ
   wait_fresh young receiver (Some (types.Ref d, class)) s q v y e = e
   wait_fresh young receiver (Some (types.Top, class)) s q v y e = e
 
+  plain : puts_owned owning.owned k.stands.insn.op k.stands.target ≡ false
+  plain = call_stores owning.owned k.stands.insn.op k.stands.target callee calls
+
   pub caller_waits : (receiver : ℕ) → StartsOld (makes_frozen frozen k.stands.method) (started k.stands.method.class (row_at c f k.stands).takes k.stands.types.stack)
-      → WaitKeeps c frozen w next t h callee receiver (waits_on c f k.stands)
+      → WaitKeeps c frozen owning w next t h callee receiver (waits_on c f k.stands)
   caller_waits receiver old = record {
     begun = started k.stands.method.class (row_at c f k.stands).takes k.stands.types.stack;
     keeps = record {
       stands = stands_waiting c f k.stands;
       receiver = k.receiver;
-      stack = moved (drop n k.stands.types.stack) (drop n k.stands.tags.stack) (drop n f.stack) (slots_drop (SlotOf frozen w next t h Runs k.stands.method f.receiver) n k.stands.types.stack k.stands.tags.stack f.stack k.stack);
+      stack = moved (drop n k.stands.types.stack) (drop n k.stands.tags.stack) (drop n f.stack) (slots_drop (SlotOf frozen w next t h Runs k.stands.method f.receiver) n k.stands.types.stack k.stands.tags.stack f.stack (plain_stack c frozen owning w next t h f k plain));
       locals = moved k.stands.types.locals k.stands.tags.locals f.locals k.locals;
+      arrays = arrays_wait c frozen owning w next t h f k;
+      no_arrays = k.no_arrays;
     };
     calls = calls;
     begun_is = refl;
@@ -67,7 +93,7 @@ module _ (c : MarkedProgram) (frozen : ℕ → Bool) (w : World) (next t h : ℕ
 
 -- ---- in the world where an object of the caller is begun
 
-module _ (c : MarkedProgram) (frozen : ℕ → Bool) (w : World) (next t h a q : ℕ) (one : (v u : ℕ) (b : Builder) → b.item ≢ Lost → w v ≡ Some b → w u ≡ Some b → v ≡ u) (is : w a ≡ Some (builder t h (Made q))) where
+module _ (c : MarkedProgram) (frozen : ℕ → Bool) (owning : Owning) (w : World) (next t h a q : ℕ) (one : (v u : ℕ) (b : Builder) → b.item ≢ Lost → w v ≡ Some b → w u ≡ Some b → v ≡ u) (is : w a ≡ Some (builder t h (Made q))) where
   abbrev pub begun_world : World
   begun_world = with_builder w a (builder t (suc h) Begun)
 
@@ -89,15 +115,17 @@ module _ (c : MarkedProgram) (frozen : ℕ → Bool) (w : World) (next t h a q :
       (λ s. (let i : h ≡ suc h = ap (λ (b : Builder). b.height) s in omega (arith, i)))
   receiver_begun false b r = old_begun b r
 
-  pub young_waits : (f : Frame) (k : FrameKeeps c frozen w next t h Runs f) (callee class : ℕ) → called_method k.stands.insn.op k.stands.target ≡ Some callee
-      → started k.stands.method.class (row_at c f k.stands).takes k.stands.types.stack ≡ Some (types.New q, class) → WaitKeeps c frozen begun_world next t h callee a (waits_on c f k.stands)
+  pub young_waits : (f : Frame) (k : FrameKeeps c frozen owning w next t h Runs f) (callee class : ℕ) → called_method k.stands.insn.op k.stands.target ≡ Some callee
+      → started k.stands.method.class (row_at c f k.stands).takes k.stands.types.stack ≡ Some (types.New q, class) → WaitKeeps c frozen owning begun_world next t h callee a (waits_on c f k.stands)
   young_waits f k callee class calls begun = record {
     begun = Some (types.New q, class);
     keeps = record {
       stands = stands_waiting c f k.stands;
       receiver = receiver_begun (builds frozen k.stands.method) f.receiver k.receiver;
-      stack = moved (drop n k.stands.types.stack) (drop n k.stands.tags.stack) (drop n f.stack) (slots_drop (SlotOf frozen w next t h Runs k.stands.method f.receiver) n k.stands.types.stack k.stands.tags.stack f.stack k.stack);
+      stack = moved (drop n k.stands.types.stack) (drop n k.stands.tags.stack) (drop n f.stack) (slots_drop (SlotOf frozen w next t h Runs k.stands.method f.receiver) n k.stands.types.stack k.stands.tags.stack f.stack (plain_stack c frozen owning w next t h f k (call_stores owning.owned k.stands.insn.op k.stands.target callee calls)));
       locals = moved k.stands.types.locals k.stands.tags.locals f.locals k.locals;
+      arrays = arrays_wait c frozen owning w next t h f k;
+      no_arrays = k.no_arrays;
     };
     calls = calls;
     begun_is = sym begun;
@@ -113,8 +141,8 @@ module _ (c : MarkedProgram) (frozen : ℕ → Bool) (w : World) (next t h a q :
           (λ r v y e. fresh_begun r v e) (builds frozen k.stands.method) f.receiver)
 
   -- the frames below wait on
-  pub below_begun : (g : Frame) (fs : List Frame) → length fs ≡ h → KeepBelow c frozen w next t g fs → KeepBelow c frozen begun_world next t g fs
-  below_begun g fs l k = below_kept c frozen w begun_world next next t old_begun g fs keeps k
+  pub below_begun : (g : Frame) (fs : List Frame) → length fs ≡ h → KeepBelow c frozen owning w next t g fs → KeepBelow c frozen owning begun_world next t g fs
+  below_begun g fs l k = below_kept c frozen owning w begun_world next next t old_begun g fs keeps k
     where
       keeps : KeepsUnder w begun_world t (length fs)
       keeps i less v x e = given_keeps w a (builder t (suc h) Begun) v (builder t i x) e

@@ -8,12 +8,12 @@ use Rattle.jvm_types.specs.declared.{op_row.Want.TheVariants.{AnObject, ToStart}
 use Rattle.laws_programs.{specs.{EntryLaws.receiver_count, TargetLaws.HasRow}, proofs.LocalGoing.at_index}
 use Rattle.checked_program.specs.{CheckedLaws.receiver_want, FrozenPlaces.may_take, MarkedProgram.{MarkedProgram, IsMarked, checked_part}, Marks.called_method, declared.tag.Tag.Tag}
 use Rattle.checked_program.{specs.declared.tag.Tag.TheVariants.{Untagged, This}, proofs.CheckedPlaces.called_fit_all}
-use Rattle.machine_types.specs.Construction.{AreFrozen, is_frozen_class, builds, makes_frozen, if_so, SlotByType, SlotIs, SlotsAre, Runs, IsFresh, ReceiverIs, SlotOf, FrameKeeps, WaitKeeps, KeepBelow, FramesKeep}
-use Rattle.machine_types.specs.{Frames.{entry_frame, first_or_null}, Standing.row_at, Threads.Frame, Worlds.{Made, Begun, Builder, builder, World, IsFinished, IsOwnOrFinished, IsWorld, with_builder}}
+use Rattle.machine_types.specs.Construction.{Owning, AreOwned, puts_owned, AreFrozen, is_frozen_class, builds, makes_frozen, if_so, SlotByType, SlotIs, Runs, IsFresh, ReceiverIs, SlotOf, IsNoStored, FrameKeeps, WaitKeeps, KeepBelow, FramesKeep}
+use Rattle.machine_types.specs.{Frames.{entry_frame, first_or_null}, OwnedPlaces.IsStoredNowhere, Standing.row_at, Threads.Frame, Worlds.{Made, Begun, Builder, builder, World, IsFinished, IsOwnOrFinished, IsWorld, with_builder}}
 use Rattle.laws_threads.proofs.{Callers.row_of_call, Calls.{CallRow, deepest_first}, Landing.rules_at}
-use Rattle.laws_objects.proofs.BuiltEffects.{StartsNone}
-use Rattle.laws_objects.proofs.CalledFrames.{below_moved, waits_on, caller_waits, begun_world, old_begun, young_waits, below_begun, ReceiverAt, start_slot, arguments_start, none_started, none_append}
-use Rattle.laws_objects.proofs.{EnteredFrames.{ArgsOld, args_map, static_args, instance_args, static_enters, instance_enters}, Landing.{inside_at, no_this_at}}
+use Rattle.laws_objects.proofs.{ArrayFrames.{stack_long, slot_of, takes_clean}, ArrayMoves.not_owned, ArraySlots.StoresFine, BuiltEffects.StartsNone}
+use Rattle.laws_objects.proofs.CalledFrames.{call_stores, call_takes, below_moved, waits_on, caller_waits, begun_world, old_begun, young_waits, below_begun, ReceiverAt, start_slot, arguments_start, none_started, none_append}
+use Rattle.laws_objects.proofs.{EnteredFrames.{ArgsOld, args_map, static_args, instance_args, static_enters, instance_enters}, KeptFrames.plain_stack, Landing.{inside_at, no_this_at}}
 use Rattle.laws_objects.proofs.{Moves.{Steps, stays, StartsOld, Suit, suit_at}, Operands.{TakenOld, is_getfield, takes_old}, Slots.plainly}
 use Rattle.laws_objects.proofs.WorldChanges.{none_some, given_here, world_given, goes_given, lost_given, not_lost}
 use Rattle.jvm_types.specs.declared.code.Op.TheVariants as ops
@@ -32,10 +32,10 @@ calls_take_none p class (ops.Invokespecial i) (targets.Method u) number k e = re
 calls_take_none p class (ops.Invokestatic i) (targets.Method u) number k e = refl
 calls_take_none p class op target number k e = absurd (let bad : None ≡ Some number = e in cc)
 
-slots_long : (R : VType → Tag → ℕ → Type 0) (us : List VType) (gs : List Tag) (vs : List ℕ) → SlotsAre R us gs vs → length us ≡ length vs
-slots_long R [] [] [] a = refl
-slots_long R (u ∷ us) (g ∷ gs) (v ∷ vs) a = ap suc (slots_long R us gs vs a.1)
-slots_long R us gs vs a = absurd a
+index_got : {A : Type 0} (none : A) (xs : List A) (n : ℕ) (x : A) → slice_get xs n ≡ Some x → slice_index_or xs n none ≡ x
+index_got none [] n x e = absurd (cc)
+index_got none (y ∷ xs) zero x e = same_some e
+index_got none (y ∷ xs) (suc n) x e = index_got none xs n x e
 
 taken_at : (Old : ℕ → Type 0) (front : List Want) (class : ℕ) (s : List ℕ) (v : ℕ) → TakenOld Old (front ++ AnObject class ∷ []) s → slice_get s (length front) ≡ Some v → Old v
 taken_at Old [] class [] v h e = absurd (cc)
@@ -75,11 +75,11 @@ class_frozen frozen (Some d) class e = ap frozen (same d class e)
     same : (d class : ℕ) → (d == class) ≡ true → d ≡ class
     same d class e = grind (arith, nat_tests)
 
-module _ (c : MarkedProgram) (marked : IsMarked c) (frozen : ℕ → Bool) (are : AreFrozen c frozen) (w : World) (next t : ℕ) (null : IsFinished w next 0) (first : ℕ) (is_world : IsWorld w first next)
-    (f : Frame) (fs : List Frame) (k : FrameKeeps c frozen w next t (length fs) Runs f) (below : KeepBelow c frozen w next t f fs)
+module _ (c : MarkedProgram) (marked : IsMarked c) (frozen : ℕ → Bool) (are : AreFrozen c frozen) (owning : Owning) (owns : AreOwned c owning.owned) (w : World) (next t : ℕ) (null : IsFinished w next 0) (first : ℕ) (is_world : IsWorld w first next) (fine : StoresFine owning.stores next)
+    (f : Frame) (fs : List Frame) (k : FrameKeeps c frozen owning w next t (length fs) Runs f) (below : KeepBelow c frozen owning w next t f fs)
     (number : ℕ) (called : MethodInfo) (there : slice_get c.program.methods number ≡ Some called) (calls : called_method k.stands.insn.op k.stands.target ≡ Some number) where
   abbrev pub CallKeeps : (args : List ℕ) → World → Type 0
-  CallKeeps args z = FramesKeep c frozen z next t Runs (entry_frame number called args ∷ waits_on c f k.stands ∷ fs) × IsOwnOrFinished z next t (entry_frame number called args).receiver
+  CallKeeps args z = FramesKeep c frozen owning z next t Runs (entry_frame number called args ∷ waits_on c f k.stands ∷ fs) × IsOwnOrFinished z next t (entry_frame number called args).receiver
 
   abbrev m : MethodInfo
   m = k.stands.method
@@ -91,25 +91,31 @@ module _ (c : MarkedProgram) (marked : IsMarked c) (frozen : ℕ → Bool) (are 
   call = row_of_call c marked f k.stands number called calls there
 
   tall : length r.takes ≤ length f.stack
-  tall = at_least (length k.stands.types.stack) (length r.takes) (length f.stack) (rules_at c marked f k.stands).rules.takes (slots_long (SlotOf frozen w next t (length fs) Runs m f.receiver) k.stands.types.stack k.stands.tags.stack f.stack k.stack)
+  tall = at_least (length k.stands.types.stack) (length r.takes) (length f.stack) (rules_at c marked f k.stands).rules.takes (stack_long c marked frozen owning fine.null w next t (length fs) f k)
     where
       at_least : (a b d : ℕ) → nat_lt a b ≡ false → a ≡ d → b ≤ d
       at_least a b d e s = grind (arith, nat_tests, e, s)
 
+  plain_here : puts_owned owning.owned k.stands.insn.op k.stands.target ≡ false
+  plain_here = call_stores owning.owned k.stands.insn.op k.stands.target number calls
+
   taken : TakenOld (IsFinished w next) r.takes f.stack
-  taken = takes_old c marked frozen are w next t (length fs) f k null (calls_no_getfield k.stands.insn.op k.stands.target number calls)
+  taken = takes_old c marked frozen are owning owns w next t (length fs) f k null (calls_no_getfield k.stands.insn.op k.stands.target number calls) plain_here
+
+  taken_clean : TakenOld (IsStoredNowhere owning.stores) r.takes f.stack
+  taken_clean = takes_clean c marked frozen owning fine.null w next t (length fs) f k (call_takes k.stands.insn.op k.stands.target number calls).0
 
   fits : receiver_count called + length called.args ≤ called.max_locals
   fits = called_fit_all (checked_part c) number called marked.checked there
 
   -- the frames below the caller
-  waits_below : KeepBelow c frozen w next t (waits_on c f k.stands) fs
-  waits_below = below_moved c frozen w next t f f.pc (waits_on c f k.stands).stack f.locals fs below
+  waits_below : KeepBelow c frozen owning w next t (waits_on c f k.stands) fs
+  waits_below = below_moved c frozen owning w next t f f.pc (waits_on c f k.stands).stack f.locals fs below
 
   -- in the same world
-  same_world : (args : List ℕ) → StartsOld (makes_frozen frozen m) (started m.class r.takes k.stands.types.stack) → FrameKeeps c frozen w next t (suc (length fs)) Runs (entry_frame number called args)
+  same_world : (args : List ℕ) → StartsOld (makes_frozen frozen m) (started m.class r.takes k.stands.types.stack) → FrameKeeps c frozen owning w next t (suc (length fs)) Runs (entry_frame number called args)
       → IsOwnOrFinished w next t (entry_frame number called args).receiver → Steps w next t (CallKeeps args)
-  same_world args old callee known = stays w next t (CallKeeps args) ((callee, (caller_waits c frozen w next t (length fs) f k number calls (entry_frame number called args).receiver old, waits_below)), known)
+  same_world args old callee known = stays w next t (CallKeeps args) ((callee, (caller_waits c frozen owning w next t (length fs) f k number calls (entry_frame number called args).receiver old, waits_below)), known)
 
   finished_known : (v : ℕ) → IsFinished w next v → IsOwnOrFinished w next t v
   finished_known v o = (o.0, λ b e. absurd (none_some (w v) b o.1 e))
@@ -122,11 +128,11 @@ module _ (c : MarkedProgram) (marked : IsMarked c) (frozen : ℕ → Bool) (are 
   calls_static : is_static called.flags ≡ true → r.takes ≡ arguments called → Steps w next t (CallKeeps (reverse (take (length r.takes) f.stack)))
   calls_static static takes =
       let init = static_no_init c.program (site_in m) k.stands.insn.pc number k.stands.insn.op k.stands.target r called calls there (rules_at c marked f k.stands).has_row static in
-      let args_old : ArgsOld (IsFinished w next) called.args (reverse (take (length r.takes) f.stack)) =
-      subst (λ (n : ℕ). ArgsOld (IsFinished w next) called.args (reverse (take n f.stack))) (sym (ap (length {A = Want}) takes))
-      (static_args (IsFinished w next) called f.stack (subst (λ (ws : List Want). length ws ≤ length f.stack) takes tall) (subst (λ (ws : List Want). TakenOld (IsFinished w next) ws f.stack) takes taken)) in
+      let args_all : (Old : ℕ → Type 0) → TakenOld Old r.takes f.stack → ArgsOld Old called.args (reverse (take (length r.takes) f.stack)) = λ Old taken.
+      subst (λ (n : ℕ). ArgsOld Old called.args (reverse (take n f.stack))) (sym (ap (length {A = Want}) takes))
+      (static_args Old called f.stack (subst (λ (ws : List Want). length ws ≤ length f.stack) takes tall) (subst (λ (ws : List Want). TakenOld Old ws f.stack) takes taken)) in
       same_world (reverse (take (length r.takes) f.stack)) (nothing_started (subst (AllByRecursion StartsNone) (sym takes) (arguments_start called)))
-      (static_enters c marked frozen are w next t (suc (length fs)) null number called there (reverse (take (length r.takes) f.stack)) static (not_built frozen called init) (omega (arith, fits)) args_old)
+      (static_enters c marked frozen are owning owns w next t (suc (length fs)) null number called there (reverse (take (length r.takes) f.stack)) static (not_built frozen called init) (omega (arith, fits)) (args_all (IsFinished w next) taken) (args_all (IsStoredNowhere owning.stores) taken_clean))
       (subst (IsOwnOrFinished w next t) (sym (ap (λ (b : Bool). if b then 0 else first_or_null (reverse (take (length r.takes) f.stack))) static)) (finished_known 0 null))
 
   -- ---- an instance method
@@ -135,23 +141,30 @@ module _ (c : MarkedProgram) (marked : IsMarked c) (frozen : ℕ → Bool) (are 
     receiver_is : (entry_frame number called (a ∷ rest)).receiver ≡ a
     receiver_is = ap (λ (b : Bool). if b then 0 else a) static
 
-    rest_old : ArgsOld (IsFinished w next) called.args rest
-    rest_old = instance_args (IsFinished w next) called (receiver_want (is_init called) called.class) f.stack rest a (subst (λ (ws : List Want). length ws ≤ length f.stack) takes tall) (subst (λ (ws : List Want). TakenOld (IsFinished w next) ws f.stack) takes taken)
+    rest_all : (Old : ℕ → Type 0) → TakenOld Old r.takes f.stack → ArgsOld Old called.args rest
+    rest_all Old taken = instance_args Old called (receiver_want (is_init called) called.class) f.stack rest a (subst (λ (ws : List Want). length ws ≤ length f.stack) takes tall) (subst (λ (ws : List Want). TakenOld Old ws f.stack) takes taken)
         (ap (λ (ws : List Want). reverse (take (length ws) f.stack)) (sym takes) ∙ args)
+
+    rest_old : ArgsOld (IsFinished w next) called.args rest
+    rest_old = rest_all (IsFinished w next) taken
+
+    rest_clean : ArgsOld (IsStoredNowhere owning.stores) called.args rest
+    rest_clean = rest_all (IsStoredNowhere owning.stores) taken_clean
 
     one_more : 1 + length called.args ≤ called.max_locals
     one_more = let one : receiver_count called ≡ 1 = ap (λ (b : Bool). if b then 0 else 1) static in omega (arith, fits, one)
 
     -- a receiver that is finished
-    calls_old : builds frozen called ≡ false → IsFinished w next a → StartsOld (makes_frozen frozen m) (started m.class r.takes k.stands.types.stack) → Steps w next t (CallKeeps (a ∷ rest))
-    calls_old own old starts =
-        same_world (a ∷ rest) starts (instance_enters c marked frozen are w next t (suc (length fs)) null number called there a rest static one_more rest_old (subst (λ (b : Bool). ReceiverIs w next t (suc (length fs)) b a) (sym own) old))
+    calls_old : builds frozen called ≡ false → IsFinished w next a → IsStoredNowhere owning.stores a → StartsOld (makes_frozen frozen m) (started m.class r.takes k.stands.types.stack) → Steps w next t (CallKeeps (a ∷ rest))
+    calls_old own old clean starts =
+        same_world (a ∷ rest) starts (instance_enters c marked frozen are owning owns w next t (suc (length fs)) null number called there a rest static one_more rest_old (subst (λ (b : Bool). ReceiverIs w next t (suc (length fs)) b a) (sym own) old) clean rest_clean)
         (subst (IsOwnOrFinished w next t) (sym receiver_is) (finished_known a old))
 
     calls_plain : is_init called ≡ false → Steps w next t (CallKeeps (a ∷ rest))
     calls_plain init =
         let takes_object : r.takes ≡ arguments called ++ AnObject called.class ∷ [] = takes ∙ ap (λ (b : Bool). arguments called ++ receiver_want b called.class ∷ []) init in
         calls_old (not_built frozen called init) (taken_at (IsFinished w next) (arguments called) called.class f.stack a (subst (λ (ws : List Want). TakenOld (IsFinished w next) ws f.stack) takes_object taken) at)
+        (taken_at (IsStoredNowhere owning.stores) (arguments called) called.class f.stack a (subst (λ (ws : List Want). TakenOld (IsStoredNowhere owning.stores) ws f.stack) takes_object taken_clean) at)
         (nothing_started (subst (AllByRecursion StartsNone) (sym takes_object) (none_append (arguments called) (AnObject called.class) (arguments_start called) tt)))
 
     -- an `<init>`
@@ -161,14 +174,14 @@ module _ (c : MarkedProgram) (marked : IsMarked c) (frozen : ℕ → Bool) (are 
 
       place : ReceiverAt m (SlotOf frozen w next t (length fs) Runs m f.receiver) m.class called.class (length (arguments called)) k.stands.types.stack k.stands.tags.stack f.stack (started m.class (arguments called ++ ToStart called.class ∷ []) k.stands.types.stack)
       place = start_slot m (SlotOf frozen w next t (length fs) Runs m f.receiver) m.class called.class (arguments called) k.stands.types.stack k.stands.tags.stack f.stack (arguments_start called)
-          (omega (arith, tall, ap (length {A = Want}) takes_start, length-append (arguments called) (ToStart called.class ∷ []))) k.stack
+          (omega (arith, tall, ap (length {A = Want}) takes_start, length-append (arguments called) (ToStart called.class ∷ []))) (plain_stack c frozen owning w next t (length fs) f k plain_here)
           (subst (λ (ws : List Want). Suit m ws k.stands.types.stack) takes_start (suit_at c marked f k.stands))
 
       -- in an `<init>` of a frozen class it is not `this`
       other_tag : builds frozen m ≡ true → (g : Tag) → slice_index_or k.stands.tags.stack (length (arguments called)) Untagged ≡ g → g ≢ This
       other_tag own g e s =
           let inside : length (arguments called) < length r.takes = omega (arith, ap (length {A = Want}) takes_start, length-append (arguments called) (ToStart called.class ∷ [])) in
-          let may = (inside_at c marked frozen are f k.stands own).taken k.stands.number k.stands.insn k.stands.target k.stands.tags k.stands.at (length (arguments called)) inside (e ∙ s) in
+          let may = (inside_at c marked frozen are owning owns f k.stands own).taken k.stands.number k.stands.insn k.stands.target k.stands.tags k.stands.at (length (arguments called)) inside (e ∙ s) in
           let free = calls_take_none c.program m.class k.stands.insn.op k.stands.target number (length (arguments called)) calls in
           (let bad : true ≡ false = sym may ∙ free in cc)
 
@@ -181,32 +194,42 @@ module _ (c : MarkedProgram) (marked : IsMarked c) (frozen : ℕ → Bool) (are 
       begun_is : (o : Option (VType × ℕ)) → started m.class (arguments called ++ ToStart called.class ∷ []) k.stands.types.stack ≡ o → started m.class r.takes k.stands.types.stack ≡ o
       begun_is o e = ap (λ (ws : List Want). started m.class ws k.stands.types.stack) takes_start ∙ e
 
+      -- and it was stored nowhere
+      receiver_clean : (u : VType) → slice_get k.stands.types.stack (length (arguments called)) ≡ Some u → IsNoStored owning.stores u a
+      receiver_clean u type =
+          let n : ℕ = length (arguments called) in
+          let inside : length (arguments called) < length r.takes = omega (arith, ap (length {A = Want}) takes_start, length-append (arguments called) (ToStart called.class ∷ [])) in
+          let slot = slot_of c marked frozen owning fine.null w next t (length fs) f k n in
+          subst (λ (x : VType). IsNoStored owning.stores x a) (index_got types.Top k.stands.types.stack n u type)
+          (subst (IsNoStored owning.stores (slice_index_or k.stands.types.stack n types.Top)) (index_got 0 f.stack n a at)
+          (slot.other (not_owned c marked owning.stores fine.null f k.stands.number m k.stands.insn k.stands.target k.stands.tags k.stands.at n inside ((call_takes k.stands.insn.op k.stands.target number calls).1 n))))
+
       -- what a `new` of the caller made
       calls_new : (y : Bool) → frozen called.class ≡ y → (q : ℕ) → is_class_of (new_class m.code m.targets q) called.class ≡ true → started m.class r.takes k.stands.types.stack ≡ Some (types.New q, called.class)
-          → SlotByType (IsFinished w next) (IsFresh w t (length fs) Runs) (makes_frozen frozen m) (types.New q) a → Steps w next t (CallKeeps (a ∷ rest))
-      calls_new false e q of begun s =
+          → SlotByType (IsFinished w next) (IsFresh w t (length fs) Runs) (makes_frozen frozen m) (types.New q) a → IsStoredNowhere owning.stores a → Steps w next t (CallKeeps (a ∷ rest))
+      calls_new false e q of begun s clean =
           let young : makes_frozen frozen m q ≡ false = class_frozen frozen (new_class m.code m.targets q) called.class of ∙ e in
-          calls_old (built frozen called init ∙ e) (subst (λ (b : Bool). if_so b (w a ≡ Some (builder t (length fs) (Made q))) (IsFinished w next a)) young s)
+          calls_old (built frozen called init ∙ e) (subst (λ (b : Bool). if_so b (w a ≡ Some (builder t (length fs) (Made q))) (IsFinished w next a)) young s) clean
           (subst (StartsOld (makes_frozen frozen m)) (sym begun) young)
-      calls_new true e q of begun s =
+      calls_new true e q of begun s clean =
           let young : makes_frozen frozen m q ≡ true = class_frozen frozen (new_class m.code m.targets q) called.class of ∙ e in
           let is : w a ≡ Some (builder t (length fs) (Made q)) = subst (λ (b : Bool). if_so b (w a ≡ Some (builder t (length fs) (Made q))) (IsFinished w next a)) young s in
-          let now : begun_world c frozen w next t (length fs) a q is_world.one is a ≡ Some (builder t (suc (length fs)) Begun) = given_here w a (builder t (suc (length fs)) Begun) in
-          let old = old_begun c frozen w next t (length fs) a q is_world.one is in
+          let now : begun_world c frozen owning w next t (length fs) a q is_world.one is a ≡ Some (builder t (suc (length fs)) Begun) = given_here w a (builder t (suc (length fs)) Begun) in
+          let old = old_begun c frozen owning w next t (length fs) a q is_world.one is in
           let inside = is_world.inside a (builder t (length fs) (Made q)) is in
           record {
             later = with_builder w a (builder t (suc (length fs)) Begun);
             goes = goes_given w next next t a (builder t (suc (length fs)) Begun) (omega arith) refl (λ o. none_some (w a) (builder t (length fs) (Made q)) o.1 is) (λ j h. (let same : builder t (length fs) (Made q) ≡ j = cc in ap (λ (b : Builder). b.thread) (sym same)));
             world = λ least z. let i = z.inside a (builder t (length fs) (Made q)) is in world_given w least next next a (builder t (suc (length fs)) Begun) z (omega arith) i.0 i.1;
-            lost = lost_given w a (builder t (suc (length fs)) Begun) (λ e. cc) (λ b h. not_lost (w a) (builder t (length fs) (Made q)) b (λ e. cc) is h);
+            lost = lost_given w a (builder t (suc (length fs)) Begun) (λ b h. not_lost (w a) (builder t (length fs) (Made q)) b (λ e. cc) is h);
             keeps = (
               (
-                instance_enters c marked frozen are (with_builder w a (builder t (suc (length fs)) Begun)) next t (suc (length fs)) (old 0 null) number called there a rest static one_more (args_map (IsFinished w next) (IsFinished (with_builder w a (builder t (suc (length fs)) Begun)) next) old called.args rest rest_old)
-                    (subst (λ (b : Bool). ReceiverIs (with_builder w a (builder t (suc (length fs)) Begun)) next t (suc (length fs)) b a) (sym (built frozen called init ∙ e)) now),
+                instance_enters c marked frozen are owning owns (with_builder w a (builder t (suc (length fs)) Begun)) next t (suc (length fs)) (old 0 null) number called there a rest static one_more (args_map (IsFinished w next) (IsFinished (with_builder w a (builder t (suc (length fs)) Begun)) next) old called.args rest rest_old)
+                    (subst (λ (b : Bool). ReceiverIs (with_builder w a (builder t (suc (length fs)) Begun)) next t (suc (length fs)) b a) (sym (built frozen called init ∙ e)) now) clean rest_clean,
                 (
-                  subst (λ (x : ℕ). WaitKeeps c frozen (with_builder w a (builder t (suc (length fs)) Begun)) next t (length fs) number x (waits_on c f k.stands)) (sym receiver_is)
-                      (young_waits c frozen w next t (length fs) a q is_world.one is f k number called.class calls begun),
-                  below_begun c frozen w next t (length fs) a q is_world.one is (waits_on c f k.stands) fs refl waits_below,
+                  subst (λ (x : ℕ). WaitKeeps c frozen owning (with_builder w a (builder t (suc (length fs)) Begun)) next t (length fs) number x (waits_on c f k.stands)) (sym receiver_is)
+                      (young_waits c frozen owning w next t (length fs) a q is_world.one is f k number called.class calls begun),
+                  below_begun c frozen owning w next t (length fs) a q is_world.one is (waits_on c f k.stands) fs refl waits_below,
                 ),
               ),
               subst (IsOwnOrFinished (with_builder w a (builder t (suc (length fs)) Begun)) next t) (sym receiver_is) (inside.1, λ b h. (let same : builder t (suc (length fs)) Begun ≡ b = cc in ap (λ (x : Builder). x.thread) (sym same))),
@@ -215,9 +238,9 @@ module _ (c : MarkedProgram) (marked : IsMarked c) (frozen : ℕ → Bool) (are 
 
       -- on `this`
       calls_this : (y : Bool) → frozen called.class ≡ y → started m.class r.takes k.stands.types.stack ≡ Some (types.This, m.class) → slice_get k.stands.types.stack (length (arguments called)) ≡ Some types.This
-          → ((called.class == m.class) || (called.class == OBJECT_CLASS)) ≡ true → (builds frozen m ≡ true → ⊥) → IsFinished w next a → Steps w next t (CallKeeps (a ∷ rest))
-      calls_this false e begun type suits_it own old = calls_old (built frozen called init ∙ e) old (subst (StartsOld (makes_frozen frozen m)) (sym begun) tt)
-      calls_this true e begun type suits_it own old = absurd (by_class (called.class == m.class) refl suits_it)
+          → ((called.class == m.class) || (called.class == OBJECT_CLASS)) ≡ true → (builds frozen m ≡ true → ⊥) → IsFinished w next a → IsStoredNowhere owning.stores a → Steps w next t (CallKeeps (a ∷ rest))
+      calls_this false e begun type suits_it own old clean = calls_old (built frozen called init ∙ e) old clean (subst (StartsOld (makes_frozen frozen m)) (sym begun) tt)
+      calls_this true e begun type suits_it own old clean = absurd (by_class (called.class == m.class) refl suits_it)
         where
           by_class : (b : Bool) → (called.class == m.class) ≡ b → (b || (called.class == OBJECT_CLASS)) ≡ true → ⊥
           by_class true q h = by_init (is_init m) refl
@@ -227,7 +250,7 @@ module _ (c : MarkedProgram) (marked : IsMarked c) (frozen : ℕ → Bool) (are 
 
               by_init : (b : Bool) → is_init m ≡ b → ⊥
               by_init true i = own (built frozen m i ∙ sym (ap frozen same) ∙ e)
-              by_init false i = at_index (λ u. u ≢ types.This) k.stands.types.stack (length (arguments called)) types.This (no_this_at c marked frozen are f k.stands i).stack type refl
+              by_init false i = at_index (λ u. u ≢ types.This) k.stands.types.stack (length (arguments called)) types.This (no_this_at c marked frozen are owning owns f k.stands i).stack type refl
           by_class false q h =
               let object : called.class ≡ OBJECT_CLASS = grind (arith, nat_tests, h) in
               let file : 17 ≤ called.class = (marked.checked.program.methods number called there).class.0 in
@@ -249,10 +272,10 @@ module _ (c : MarkedProgram) (marked : IsMarked c) (frozen : ℕ → Bool) (are 
           by_type : (u : VType) → p.type ≡ u → suits m (ToStart called.class) u ≡ true → Steps w next t (CallKeeps (a ∷ rest))
           by_type types.This e s =
               calls_this (frozen called.class) refl (begun_is (Some (types.This, m.class)) (p.begun ∙ ap (λ (x : VType). started m.class (ToStart called.class ∷ []) (x ∷ [])) e)) (p.type_is ∙ ap (λ (x : VType). Some x) e) s
-              (λ own. by_plain.0 own e) (subst (λ (x : VType). SlotByType (IsFinished w next) (IsFresh w t (length fs) Runs) (makes_frozen frozen m) x a) e by_plain.1)
+              (λ own. by_plain.0 own e) (subst (λ (x : VType). SlotByType (IsFinished w next) (IsFresh w t (length fs) Runs) (makes_frozen frozen m) x a) e by_plain.1) (receiver_clean types.This (p.type_is ∙ ap (λ (x : VType). Some x) e))
           by_type (types.New q) e s =
               calls_new (frozen called.class) refl q s (begun_is (Some (types.New q, called.class)) (p.begun ∙ ap (λ (x : VType). started m.class (ToStart called.class ∷ []) (x ∷ [])) e))
-              (subst (λ (x : VType). SlotByType (IsFinished w next) (IsFresh w t (length fs) Runs) (makes_frozen frozen m) x a) e by_plain.1)
+              (subst (λ (x : VType). SlotByType (IsFinished w next) (IsFresh w t (length fs) Runs) (makes_frozen frozen m) x a) e by_plain.1) (receiver_clean (types.New q) (p.type_is ∙ ap (λ (x : VType). Some x) e))
           by_type u e s = absurd (cc)
 
     calls_instance : Steps w next t (CallKeeps (a ∷ rest))

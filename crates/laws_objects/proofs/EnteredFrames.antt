@@ -2,14 +2,14 @@
 use Rattle.std.proofs.Common.{◌≡◌, ℕ, zero, suc, ◌+◌, ◌-◌, ◌≤◌, Bool, true, false, List, [], ◌∷◌, ◌++◌, length, map, replicate, Some, refl, sym, ap, ◌∙◌, subst, arith, slice_get, reverse, take, if◌then◌else◌}
 use Rattle.std.{specs.List.AllZip, proofs.lemmas.List.{length-map, reverse-append}}
 use Rattle.lists.proofs.TestLaws.{both_are_true}
-use Rattle.jvm_types.specs.{CodeTable.{type_of, want_of, arguments, is_init}, Members.is_static, declared.{code.Insn.Insn, op_row.Want.Want, program.{Kind.Kind, MethodInfo.MethodInfo}}}
+use Rattle.jvm_types.specs.{CodeTable.{type_of, want_of, arguments, is_init}, Members.is_static, declared.{code.Insn.Insn, op_row.Want.Want, program.{Kind.Kind, MethodInfo.MethodInfo, Target.Target}}}
 use Rattle.jvm_types.specs.declared.typing.VType.{VType}
 use Rattle.laws_programs.proofs.{CodeOrder.one_number, LocalGoing.begins}
-use Rattle.checked_program.specs.{LockTags.entry_tags, MarkedProgram.{MarkedProgram, IsMarked}, TaggedCode.IsAt, declared.tag.Tag.{Tag, TheVariants.{Untagged, This}}}
-use Rattle.machine_types.specs.{Construction.{AreFrozen, builds, makes_frozen, SlotIs, SlotsAre, Runs, IsFresh, ReceiverIs, SlotOf, FrameKeeps}, Frames.{entry_frame, first_or_null}, Standing.tags_of}
+use Rattle.checked_program.specs.{LockTags.{TagShape, entry_tags}, MarkedProgram.{MarkedProgram, IsMarked}, TaggedCode.IsAt, declared.tag.Tag.{Tag, TheVariants.{Untagged, This}}}
+use Rattle.machine_types.specs.{Construction.{Owning, AreOwned, AreFrozen, builds, makes_frozen, SlotIs, SlotsAre, Runs, IsFresh, ReceiverIs, SlotOf, IsNoStored, SlotsFrom, FrameKeeps}, Frames.{entry_frame, first_or_null}, OwnedPlaces.{Stores, IsStoredNowhere}, Standing.tags_of}
 use Rattle.machine_types.specs.Worlds.{World, IsFinished}
 use Rattle.laws_threads.proofs.{Lists.{zip_reverse, reverse_map}, MarkedMethods.method_at}
-use Rattle.laws_objects.proofs.{Landing.{IsJoined, land}, Operands.{WantOld, TakenOld}, Slots.{top_slot, ref_slot}}
+use Rattle.laws_objects.proofs.{Landing.{IsJoined, land}, Operands.{WantOld, TakenOld}, PutPlaces.first_plain, Slots.{top_slot, ref_slot}}
 use Rattle.jvm_types.specs.Types as types
 use Rattle.jvm_types.specs.declared.program.Kind.TheVariants as kinds
 use Rattle.jvm_types.specs.declared.typing.VType.TheVariants as vtypes
@@ -86,35 +86,67 @@ module _ (Old : ℕ → Type 0) (null : Old 0) (Fresh : ℕ → ℕ → Type 0) 
   args_slots (kind ∷ args) vs zero l h = absurd (omega (arith, l))
   args_slots args vs n l h = absurd h
 
+-- ---- none of them was stored
+
+module _ (stores : Stores) where
+  rest_none : (n k : ℕ) → SlotsFrom (λ place. IsNoStored stores) k (replicate n vtypes.Top) (replicate n 0)
+  rest_none zero k = tt
+  rest_none (suc n) k = (tt, rest_none n (suc k))
+
+  args_none : (args : List Kind) (vs : List ℕ) (n k : ℕ) → length args ≤ n → ArgsOld (IsStoredNowhere stores) args vs
+      → SlotsFrom (λ place. IsNoStored stores) k (map type_of args ++ replicate (n - length args) vtypes.Top) (vs ++ replicate (n - length vs) 0)
+  args_none [] [] n k l h = let e : n - 0 ≡ n = omega arith in rw e (rest_none n k)
+  args_none (kinds.Ref c ∷ args) (v ∷ vs) (suc n) k l h = let e : suc n - suc (length args) ≡ n - length args = omega arith in let f : suc n - suc (length vs) ≡ n - length vs = omega arith in rw (e, f) (h.0, args_none args vs n (suc k) (omega (arith, l)) h.1)
+  args_none (kinds.Int ∷ args) (v ∷ vs) (suc n) k l h = let e : suc n - suc (length args) ≡ n - length args = omega arith in let f : suc n - suc (length vs) ≡ n - length vs = omega arith in rw (e, f) (tt, args_none args vs n (suc k) (omega (arith, l)) h)
+  args_none (kinds.Bool ∷ args) (v ∷ vs) (suc n) k l h = let e : suc n - suc (length args) ≡ n - length args = omega arith in let f : suc n - suc (length vs) ≡ n - length vs = omega arith in rw (e, f) (tt, args_none args vs n (suc k) (omega (arith, l)) h)
+  args_none (kind ∷ args) vs zero k l h = absurd (omega (arith, l))
+  args_none args vs n k l h = absurd h
+
+  receiver_none : (class : ℕ) (init : Bool) (a : ℕ) → IsStoredNowhere stores a → IsNoStored stores (if init then vtypes.This else vtypes.Ref class) a
+  receiver_none class true a h = h
+  receiver_none class false a h = h
+
 -- ---- the frame
 
-module _ (c : MarkedProgram) (marked : IsMarked c) (frozen : ℕ → Bool) (are : AreFrozen c frozen) (w : World) (next t h : ℕ) (null : IsFinished w next 0) (number : ℕ) (called : MethodInfo) (there : slice_get c.program.methods number ≡ Some called) where
-  entry_joined : (args : List ℕ) → IsJoined c marked frozen are (entry_frame number called args) called (entry_tags called)
-  entry_joined args own j other next' u at starts =
-      let parts = both_are_true (is_init called) (frozen called.class) own in
+module _ (c : MarkedProgram) (marked : IsMarked c) (frozen : ℕ → Bool) (are : AreFrozen c frozen) (owning : Owning) (owns : AreOwned c owning.owned) (w : World) (next t h : ℕ) (null : IsFinished w next 0) (number : ℕ) (called : MethodInfo) (there : slice_get c.program.methods number ≡ Some called) where
+  is_first : (j : ℕ) (other : Insn) (target : Target) (u : TagShape) → IsAt c.program (tags_of c) number j called other target u → other.pc ≡ 0 → j ≡ 0
+  is_first j other target u at starts =
       let laid = (method_at c marked number called there).holds.laid in
       let b = begins called laid in
       let first : slice_get called.code 0 ≡ Some b.0 = ap (λ (code : List Insn). slice_get code 0) b.2 in
-      let zero_is : j ≡ 0 = one_number called j 0 other b.0 laid at.in_code first (starts ∙ sym b.3) in
+      one_number called j 0 other b.0 laid at.in_code first (starts ∙ sym b.3)
+
+  entry_joined : (args : List ℕ) → IsJoined c marked frozen are owning owns (entry_frame number called args) called (entry_tags called)
+  entry_joined args own j other next' u at starts =
+      let parts = both_are_true (is_init called) (frozen called.class) own in
+      let zero_is : j ≡ 0 = is_first j other next' u at starts in
       (are.those called.class parts.1 number called there refl parts.0).entered other next' u (subst (λ (i : ℕ). IsAt c.program (tags_of c) number i called other next' u) zero_is at)
 
   -- with the slots of its locals
   enters : (args : List ℕ) → ReceiverIs w next t h (builds frozen called) (entry_frame number called args).receiver
       → SlotsAre (SlotOf frozen w next t h Runs called (entry_frame number called args).receiver) (types.entry_type_frame called).locals (entry_tags called).locals (entry_frame number called args).locals
-      → FrameKeeps c frozen w next t h Runs (entry_frame number called args)
-  enters args receiver locals =
+      → SlotsFrom (λ place. IsNoStored owning.stores) 0 (types.entry_type_frame called).locals (entry_frame number called args).locals
+      → FrameKeeps c frozen owning w next t h Runs (entry_frame number called args)
+  enters args receiver locals none =
       let at = method_at c marked number called there in
-      land c marked frozen are w next t h null (entry_frame number called args) called at.frames at.tags (types.entry_type_frame called) (entry_tags called) there at.its_types at.its_tags at.holds.types.entry at.holds.sound.entry
-      (entry_joined args) receiver tt locals
+      land c marked frozen are owning owns w next t h null false (entry_frame number called args) called at.frames at.tags (types.entry_type_frame called) (entry_tags called) there at.its_types at.its_tags at.holds.types.entry at.holds.sound.entry
+      (entry_joined args)
+      (record {
+        put = λ j other next u at starts. first_plain c marked owning owns number j called other next u at (is_first j other next u at starts);
+        arrays = λ j other next u at starts. tt;
+        locals = none;
+      })
+      receiver tt locals
 
   -- a static method, also a root
-  pub static_enters : (args : List ℕ) → is_static called.flags ≡ true → builds frozen called ≡ false → length called.args ≤ called.max_locals → ArgsOld (IsFinished w next) called.args args → FrameKeeps c frozen w next t h Runs (entry_frame number called args)
-  static_enters args static own few old =
+  pub static_enters : (args : List ℕ) → is_static called.flags ≡ true → builds frozen called ≡ false → length called.args ≤ called.max_locals → ArgsOld (IsFinished w next) called.args args → ArgsOld (IsStoredNowhere owning.stores) called.args args → FrameKeeps c frozen owning w next t h Runs (entry_frame number called args)
+  static_enters args static own few old clean =
       enters args
       (subst (λ (b : Bool). ReceiverIs w next t h b (entry_frame number called args).receiver) (sym own) (subst (IsFinished w next) (sym receiver) null))
       (subst (λ (gs : List Tag). SlotsAre (SlotOf frozen w next t h Runs called (entry_frame number called args).receiver) (types.entry_type_frame called).locals gs (entry_frame number called args).locals) (sym tags_are)
       (subst (λ (us : List VType). SlotsAre (SlotOf frozen w next t h Runs called (entry_frame number called args).receiver) us (replicate called.max_locals Untagged) (entry_frame number called args).locals) (sym types_are)
       (args_slots (IsFinished w next) null (IsFresh w t h Runs) (builds frozen called) (makes_frozen frozen called) (entry_frame number called args).receiver called.args args called.max_locals few old)))
+      (subst (λ (us : List VType). SlotsFrom (λ place. IsNoStored owning.stores) 0 us (entry_frame number called args).locals) (sym types_are) (args_none owning.stores called.args args called.max_locals 0 few clean))
     where
       receiver : (entry_frame number called args).receiver ≡ 0
       receiver = ap (λ (b : Bool). if b then 0 else first_or_null args) static
@@ -139,9 +171,9 @@ module _ (c : MarkedProgram) (marked : IsMarked c) (frozen : ℕ → Bool) (are 
   first_slot false false a r = r
 
   -- of an instance: an `<init>` that is begun, or any other
-  pub instance_enters : (a : ℕ) (args : List ℕ) → is_static called.flags ≡ false → 1 + length called.args ≤ called.max_locals → ArgsOld (IsFinished w next) called.args args → ReceiverIs w next t h (builds frozen called) a
-      → FrameKeeps c frozen w next t h Runs (entry_frame number called (a ∷ args))
-  instance_enters a args static few old stands =
+  pub instance_enters : (a : ℕ) (args : List ℕ) → is_static called.flags ≡ false → 1 + length called.args ≤ called.max_locals → ArgsOld (IsFinished w next) called.args args → ReceiverIs w next t h (builds frozen called) a → IsStoredNowhere owning.stores a → ArgsOld (IsStoredNowhere owning.stores) called.args args
+      → FrameKeeps c frozen owning w next t h Runs (entry_frame number called (a ∷ args))
+  instance_enters a args static few old stands a_clean clean =
       enters (a ∷ args) (subst (ReceiverIs w next t h (builds frozen called)) (sym receiver) stands)
       (subst (λ (gs : List Tag). SlotsAre (Is (entry_frame number called (a ∷ args)).receiver) (types.entry_type_frame called).locals gs (entry_frame number called (a ∷ args)).locals) (sym tags_are)
       (subst (λ (us : List VType). SlotsAre (Is (entry_frame number called (a ∷ args)).receiver) us (This ∷ replicate (called.max_locals - 1) Untagged) (entry_frame number called (a ∷ args)).locals) (sym types_are)
@@ -149,6 +181,9 @@ module _ (c : MarkedProgram) (marked : IsMarked c) (frozen : ℕ → Bool) (are 
         subst (λ (x : ℕ). SlotIs (IsFinished w next) (IsFresh w t h Runs) (builds frozen called) (makes_frozen frozen called) x first This a) (sym receiver) (first_slot (builds frozen called) (is_init called) a stands),
         args_slots (IsFinished w next) null (IsFresh w t h Runs) (builds frozen called) (makes_frozen frozen called) (entry_frame number called (a ∷ args)).receiver called.args args (called.max_locals - 1) (omega (arith, few)) old,
       ))))
+      (subst (λ (us : List VType). SlotsFrom (λ place. IsNoStored owning.stores) 0 us (entry_frame number called (a ∷ args)).locals) (sym types_are)
+      (subst (λ (vs : List ℕ). SlotsFrom (λ place. IsNoStored owning.stores) 0 (first ∷ map type_of called.args ++ replicate (called.max_locals - 1 - length called.args) vtypes.Top) vs) (sym values_are)
+      (receiver_none owning.stores called.class (is_init called) a a_clean, args_none owning.stores called.args args (called.max_locals - 1) 1 (omega (arith, few)) clean)))
     where
       receiver : (entry_frame number called (a ∷ args)).receiver ≡ a
       receiver = ap (λ (b : Bool). if b then 0 else a) static

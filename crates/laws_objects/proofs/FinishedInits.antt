@@ -4,7 +4,7 @@ use Rattle.std.proofs.lemmas.Bool.{eqb-true, eqb-false}
 use Rattle.lists.proofs.ListLaws.{same_some}
 use Rattle.jvm_types.specs.declared.{fixed_words.TheConstants.NEXT_FREE_WORD, program.Program.Program}
 use Rattle.checked_program.specs.MarkedProgram.{MarkedProgram, IsMarked}
-use Rattle.machine_types.specs.{Accesses.found_by, Construction.{AreFrozen, PhaseKeepsFrames, ThreadKeeps}}
+use Rattle.machine_types.specs.{Accesses.found_by, Construction.{Owning, AreFrozen, PhaseKeepsFrames, ThreadKeeps}}
 use Rattle.machine_types.specs.{Core.{Core, Happening, Of, NextPart, how_ended, with_roots, part_begins, next_threads, may_begin, event, event_of, next, all_happened, core}, Events.{wanted, moved}}
 use Rattle.machine_types.specs.{Frames.{Top, top_of, frames_of, given, given_back, returned}, Parts.{run_roots, done_roots}, PlainMemory.Object, Settings.AreSettings, Standing.Standing}
 use Rattle.machine_types.specs.{Structure.IsStructured, Threads.{Frame, Attempt, Thread}, Worlds.{Begun, Builder, builder, World}, declared.{config.Config.Config, phase.Phase.Phase}}
@@ -21,19 +21,19 @@ use Rattle.machine_types.specs.declared.phase.Phase.TheVariants as phases
 -- ---- the thread behind an event of its own
 
 -- the second frame stands, whatever phase counts
-second_stands : (c : MarkedProgram) (frozen : ℕ → Bool) (w : World) (next t : ℕ) (phase : Phase) (f g : Frame) (fs : List Frame) → PhaseKeepsFrames c frozen w next t phase (f ∷ g ∷ fs) → Standing c g
-second_stands c frozen w next t (phases.Made a word) f g fs k = k.keep.1.0.keeps.stands
-second_stands c frozen w next t phase f g fs k = k.1.0.keeps.stands
+second_stands : (c : MarkedProgram) (frozen : ℕ → Bool) (owning : Owning) (w : World) (next t : ℕ) (phase : Phase) (f g : Frame) (fs : List Frame) → PhaseKeepsFrames c frozen owning w next t phase (f ∷ g ∷ fs) → Standing c g
+second_stands c frozen owning w next t (phases.Made a word) f g fs k = k.keep.1.0.keeps.stands
+second_stands c frozen owning w next t phase f g fs k = k.1.0.keeps.stands
 
-module _ (c : MarkedProgram) (marked : IsMarked c) (frozen : ℕ → Bool) (w : World) (next t h v : ℕ) (was : Phase) (x : Thread) (keeps : ThreadKeeps c frozen w next t was x) (inside : IsInside c frozen h v x) where
+module _ (c : MarkedProgram) (marked : IsMarked c) (frozen : ℕ → Bool) (owning : Owning) (w : World) (next t h v : ℕ) (was : Phase) (x : Thread) (keeps : ThreadKeeps c frozen owning w next t was x) (inside : IsInside c frozen h v x) where
   returned_has : (at : Top) → x.frames ≡ frames_of at → HasInit c frozen h v at.below → HasInit c frozen h v (returned c.program at)
   returned_has at there k = by_below at.below refl k
     where
       by_below : (fs : List Frame) → at.below ≡ fs → HasInit c frozen h v fs → HasInit c frozen h v (given (given_back at.insn.op at.frame.stack) (top_of c.program fs))
       by_below [] e k = absurd (let none = k.there in cc)
       by_below (g ∷ gs) e k =
-          let frames : PhaseKeepsFrames c frozen keeps.now next t was (at.frame ∷ g ∷ gs) = subst (PhaseKeepsFrames c frozen keeps.now next t was) (there ∙ ap (λ (fs : List Frame). at.frame ∷ fs) e) keeps.frames in
-          let stands : Standing c g = second_stands c frozen keeps.now next t was at.frame g gs frames in
+          let frames : PhaseKeepsFrames c frozen owning keeps.now next t was (at.frame ∷ g ∷ gs) = subst (PhaseKeepsFrames c frozen owning keeps.now next t was) (there ∙ ap (λ (fs : List Frame). at.frame ∷ fs) e) keeps.frames in
+          let stands : Standing c g = second_stands c frozen owning keeps.now next t was at.frame g gs frames in
           subst (λ (o : Option Top). HasInit c frozen h v (given (given_back at.insn.op at.frame.stack) o)) (sym (stand_top c marked g gs stands))
           (init_stays c frozen h v (g ∷ gs) (record g { pc = stands.insn.next; stack = given_back at.insn.op at.frame.stack ++ g.stack } ∷ gs) (in_place g (record g { pc = stands.insn.next; stack = given_back at.insn.op at.frame.stack ++ g.stack }) gs (refl, refl)) k)
 
@@ -132,15 +132,15 @@ module _ (laws : AreBuiltLaws) (c : MarkedProgram) (cfg : Config) (frozen : ℕ 
 
   module _ (objects : List Object) (was : ℕ → Phase) (s : Core) (k : InsideThere c cfg frozen t h v objects was s) where
     begun : k.there.world v ≡ Some (builder t h Begun)
-    begun = world_begun c frozen k.there.world (slice_index s.words NEXT_FREE_WORD) t h v (was t) k.thread (k.there.built.each t k.thread k.here) k.inside
+    begun = world_begun c frozen k.there.owning k.there.world (slice_index s.words NEXT_FREE_WORD) t h v (was t) k.thread (k.there.built.each t k.thread k.here) k.inside
 
     no_other : NoOtherHas c v t objects s
     no_other = record {
-      places = places_have_not c k.there.world (slice_index s.words NEXT_FREE_WORD) v objects s.words (builder t h Begun) begun k.there.built.places;
+      places = places_have_not c k.there.owning k.there.world (slice_index s.words NEXT_FREE_WORD) v objects s.words (builder t h Begun) begun k.there.built.places;
       threads = λ u x apart here. (
           let keeps = k.there.built.each u x here in
           let seen : keeps.now v ≡ Some (builder t h Begun) = keeps.now_is.others v (λ b e. (let same : builder t h Begun ≡ b = same_some (sym begun ∙ e) in λ z. apart (sym z ∙ sym (ap (λ (i : Builder). i.thread) same)))) ∙ begun in
-          uses_not c marked frozen k.there.world (slice_index s.words NEXT_FREE_WORD) u v (was u) x keeps k.there.built.world (k.there.facts.structure u x here).is_as (others_strange keeps.now u v (builder t h Begun) seen (λ e. apart (sym e)))
+          uses_not c marked frozen k.there.owning k.there.world (slice_index s.words NEXT_FREE_WORD) u v (was u) x keeps k.there.built.world (k.there.facts.structure u x here).is_as (others_strange keeps.now u v (builder t h Begun) seen (λ e. apart (sym e)))
           );
     }
 
@@ -156,13 +156,13 @@ module _ (laws : AreBuiltLaws) (c : MarkedProgram) (cfg : Config) (frozen : ℕ 
     behind = event_there laws c cfg frozen are marked width settings objects was s k.there t
 
     own_event : (ReturnsFrom c v s t → ⊥) → Unfinished (objects_after c.program s t objects) (counted_after c was s t) (event c s t)
-    own_event never = by_move (goes_inside c marked frozen k.there.world (slice_index s.words NEXT_FREE_WORD) t h v (was t) k.thread keeps k.inside (moved c k.thread k.thread.phase (found_by s.words (wanted c k.thread k.thread.phase)))
+    own_event never = by_move (goes_inside c marked frozen k.there.owning k.there.world (slice_index s.words NEXT_FREE_WORD) t h v (was t) k.thread keeps k.inside (moved c k.thread k.thread.phase (found_by s.words (wanted c k.thread k.thread.phase)))
         (based_of c (was t) k.thread stood)
         (based_of c (counted_after c was s t t) (moved c k.thread k.thread.phase (found_by s.words (wanted c k.thread k.thread.phase))) stands)
         (frames_go c (was t) k.thread (found_by s.words (wanted c k.thread k.thread.phase)) stood)
         (λ at top is frames. never (record { thread = k.thread; there = k.here; top = at; is_top = top; init = is.init; later = moved c k.thread k.thread.phase (found_by s.words (wanted c k.thread k.thread.phase)); behind = is_now; gone = frames })))
       where
-        keeps : ThreadKeeps c frozen k.there.world (slice_index s.words NEXT_FREE_WORD) t (was t) k.thread
+        keeps : ThreadKeeps c frozen k.there.owning k.there.world (slice_index s.words NEXT_FREE_WORD) t (was t) k.thread
         keeps = k.there.built.each t k.thread k.here
 
         stood : IsStructured c (was t) k.thread
@@ -172,7 +172,7 @@ module _ (laws : AreBuiltLaws) (c : MarkedProgram) (cfg : Config) (frozen : ℕ 
         stands = behind.facts.structure t (moved c k.thread k.thread.phase (found_by s.words (wanted c k.thread k.thread.phase))) is_now
 
         by_move : IsInside c frozen h v (moved c k.thread k.thread.phase (found_by s.words (wanted c k.thread k.thread.phase)))
-            ⊎ HasLeft c marked frozen k.there.world (slice_index s.words NEXT_FREE_WORD) t h v (was t) k.thread keeps k.inside (moved c k.thread k.thread.phase (found_by s.words (wanted c k.thread k.thread.phase)))
+            ⊎ HasLeft c marked frozen k.there.owning k.there.world (slice_index s.words NEXT_FREE_WORD) t h v (was t) k.thread keeps k.inside (moved c k.thread k.thread.phase (found_by s.words (wanted c k.thread k.thread.phase)))
             → Unfinished (objects_after c.program s t objects) (counted_after c was s t) (event c s t)
         by_move (inl inside) = inl (record { there = behind; thread = moved c k.thread k.thread.phase (found_by s.words (wanted c k.thread k.thread.phase)); here = is_now; inside = inside })
         by_move (inr left) = inr (lost_behind laws c cfg frozen are marked width settings objects was s k.there t v k.thread k.here left.unwound_by left.ended left.is.init left.is.young

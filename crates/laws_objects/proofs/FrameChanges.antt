@@ -5,7 +5,7 @@ use Rattle.std.proofs.lemmas.Bool.{eq-eqb, eqb-true, ne_eqb}
 use Rattle.lists.proofs.ListLaws.{same_some}
 use Rattle.jvm_types.specs.{Members.is_synchronized, declared.{outcome.Thrown.Thrown, program.{MethodInfo.MethodInfo, Program.Program, Row.Row}}}
 use Rattle.checked_program.specs.MarkedProgram.{MarkedProgram}
-use Rattle.machine_types.specs.{Construction.{Throws as Loose, FramesKeep, PhaseKeepsFrames, PhaseKeeps}, Elision.{put_back, fails, elided}, Events.{element_made, moved}}
+use Rattle.machine_types.specs.{Construction.{Owning, Throws as Loose, FramesKeep, PhaseKeepsFrames, PhaseKeeps}, Elision.{put_back, fails, elided}, Events.{element_made, moved}}
 use Rattle.machine_types.specs.Frames.{Top, top_of, frames_of, went, went_on, waiting, taken_from, making, pushed, has_room, entry_frame, arguments_of, monitor_of, returned, handler_at}
 use Rattle.machine_types.specs.{Going.{runs, goes_on, goes_on_if}, HeldMonitors.{held_at, with_held, without_held, shallower}, Instructions.{made, printed}}
 use Rattle.machine_types.specs.{Onward.{Onward, Running, Throwing, Entering, Leaving, threw, entered, called, rooted, back, unwound, handed, after, done}, ReadyObjects.{class_of, thrown_of}}
@@ -168,7 +168,7 @@ pub record HasReturned (c : MarkedProgram) (x y : Thread) : Type 0 where
 -- what a thread of this phase throws, and its frames, as construction has them
 pub record Carries (was : Phase) (fs : List Frame) (v : ℕ) : Type 0 where
   pub finished : (w : World) (next t : ℕ) → PhaseKeeps w next t was → IsFinished w next v
-  pub frames : (c : MarkedProgram) (frozen : ℕ → Bool) (w : World) (next t : ℕ) → PhaseKeepsFrames c frozen w next t was fs → FramesKeep c frozen w next t Loose fs
+  pub frames : (c : MarkedProgram) (frozen : ℕ → Bool) (owning : Owning) (w : World) (next t : ℕ) → PhaseKeepsFrames c frozen owning w next t was fs → FramesKeep c frozen owning w next t Loose fs
 
 -- an exception has left it; what the thread holds was known before
 pub record IsUnwound (was : Phase) (x y : Thread) : Type 0 where
@@ -266,20 +266,20 @@ module _ (c : MarkedProgram) (was : Phase) (x : Thread) where
 
   -- in a phase that throws behind a monitor, or may
   carries : (to : After → Phase) → ((w : World) (next t v : ℕ) (class : Thrown) → PhaseKeeps w next t (to (afters.Unwind v class)) → IsFinished w next v)
-      → ((c : MarkedProgram) (frozen : ℕ → Bool) (w : World) (next t v : ℕ) (class : Thrown) → PhaseKeepsFrames c frozen w next t (to (afters.Unwind v class)) x.frames → FramesKeep c frozen w next t Loose x.frames)
+      → ((c : MarkedProgram) (frozen : ℕ → Bool) (owning : Owning) (w : World) (next t v : ℕ) (class : Thrown) → PhaseKeepsFrames c frozen owning w next t (to (afters.Unwind v class)) x.frames → FramesKeep c frozen owning w next t Loose x.frames)
       → (a : After) → was ≡ to a → CarriesIn a
   carries to finished frames a e v class is =
       let now : was ≡ to (afters.Unwind v class) = e ∙ ap to is in
       record {
         finished = λ w next t k. finished w next t v class (subst (λ (p : Phase). PhaseKeeps w next t p) now k);
-        frames = λ c frozen w next t k. frames c frozen w next t v class (subst (λ (p : Phase). PhaseKeepsFrames c frozen w next t p x.frames) now k);
+        frames = λ c frozen owning w next t k. frames c frozen owning w next t v class (subst (λ (p : Phase). PhaseKeepsFrames c frozen owning w next t p x.frames) now k);
       }
 
   leaves_carry : (m : ℕ) (a : After) → was ≡ phases.Leave m a → CarriesIn a
-  leaves_carry m = carries (phases.Leave m) (λ w next t v class k. k.1) (λ c frozen w next t v class k. k)
+  leaves_carry m = carries (phases.Leave m) (λ w next t v class k. k.1) (λ c frozen owning w next t v class k. k)
 
   flat_carry : (m : ℕ) (a : After) → was ≡ phases.FlatOut m a → CarriesIn a
-  flat_carry m = carries (phases.FlatOut m) (λ w next t v class k. k.1) (λ c frozen w next t v class k. k)
+  flat_carry m = carries (phases.FlatOut m) (λ w next t v class k. k.1) (λ c frozen owning w next t v class k. k)
 
   -- ---- all moves, whatever it has counted
 
@@ -340,7 +340,7 @@ module _ (c : MarkedProgram) (was : Phase) (x : Thread) where
     goes_go _ _ (moves.by_element word stored at top) is = goes_next at top (element_made stored got)
     goes_go _ _ (moves.by_object a word) is = pushed_goes a x.frames refl
     goes_go _ _ (moves.by_handler v class at top) is = throws_on v class
-        (record { finished = λ w next t k. subst (λ (p : Phase). PhaseKeeps w next t p) is k; frames = λ c frozen w next t k. subst (λ (p : Phase). PhaseKeepsFrames c frozen w next t p x.frames) is k }) at top
+        (record { finished = λ w next t k. subst (λ (p : Phase). PhaseKeeps w next t p) is k; frames = λ c frozen owning w next t k. subst (λ (p : Phase). PhaseKeepsFrames c frozen owning w next t p x.frames) is k }) at top
     goes_go _ _ (moves.by_none m r e) is = goes_still
     goes_go _ _ (moves.by_one m r u) is = goes_still
     goes_go _ _ (moves.by_all m r) is = goes_still

@@ -1,15 +1,16 @@
--- What an event changes of guarded fields, of final fields of frozen classes, and of static fields that are guarded or final.
-use Rattle.std.{proofs.Common.{◌≡◌, ◌⊎◌, inl, inr, ℕ, true, false, List, [], ◌∷◌, Option, Some, None, sym, ap, ◌∙◌, subst, Contains, slice_get, slice_index}, specs.List.list_any}
+-- What an event changes of guarded fields, of elements of owned arrays, of final fields of frozen classes, and of static fields
+-- that are guarded or final.
+use Rattle.std.{proofs.Common.{◌≡◌, ◌⊎◌, inl, inr, ℕ, Bool, true, false, List, [], ◌∷◌, Option, Some, None, sym, ap, ◌∙◌, subst, Contains, slice_get, slice_index}, specs.List.list_any}
 use Rattle.lists.proofs.ListLaws.{same_some}
 use Rattle.jvm_types.specs.{ClassNames.file_of_class, CodeTable.is_init, Members.{is_static, is_class_init_name}, declared.program.FieldInfo.FieldInfo}
 use Rattle.checked_program.specs.{FrozenPlaces.{IsFrozenField, IsFrozenStatic, IsGuardedField, IsGuardedStatic, locks_this, locks_class}, LockTags.is_this, MarkedProgram.{MarkedProgram, IsMarked}}
-use Rattle.checked_program.specs.SectionLaws.{HasThis, FinalLaw, FinalStaticLaw, StaticWriteLaw, WriteLaw}
-use Rattle.machine_types.specs.{Accesses.words_after, Core.{Core, event, event_of}, Events.wanted, Guards.{MakesObject, IsOfClassInit, MakesClass, HoldsMonitor, ChangesWord, Changes, KeepsGuards}}
-use Rattle.machine_types.specs.{HeldMonitors.held_at, Lawful.IsLawful, PlainMemory.Object, Standing.tags_of, Structure.{IsStructured, Stands}, Threads.{Attempt, Frame, Thread}}
-use Rattle.machine_types.specs.{Words.{class_object, value_word}, declared.{config.Config.Config, lock.Held.Held, phase.Phase.Phase}}
-use Rattle.laws_threads.proofs.Inside.{stack_this}
+use Rattle.checked_program.specs.{OwnedArrays.IsOwnedArrayField, SectionLaws.{HasThis, ElementWriteLaw, FinalLaw, FinalStaticLaw, OwnedIsDecided, StaticWriteLaw, WriteLaw}}
+use Rattle.machine_types.specs.{Accesses.words_after, Construction.{Construction, Owning}, Core.{Core, event, event_of}, Events.wanted, Guards.{MakesObject, IsOfClassInit, MakesClass, HoldsMonitor, ChangesWord, Changes, KeepsGuards}}
+use Rattle.machine_types.specs.{HeldMonitors.held_at, Lawful.IsLawful, OwnedPlaces.IsElementOf, PlainMemory.Object, Standing.tags_of, Structure.{HasFrame, IsStructured, Stands, TopIs, is_element_op}, Threads.{Attempt, Frame, Thread}}
+use Rattle.machine_types.specs.{Words.{class_object, value_word}, Worlds.World, declared.{config.Config.Config, lock.Held.Held, phase.Phase.Phase}}
+use Rattle.laws_threads.proofs.{Inside.stack_this, Standings.are_tagged}
 use Rattle.laws_states.specs.{HeapFacts.HeapFacts, PartsLaws.ClassInitsRunAlone, SiteLaws.{EventsReachSites, SitesDiffer, SitesLieInside}, StateFacts.StateFacts}
-use Rattle.laws_objects.{specs.GuardLaws.EventsKeepGuards, proofs.{FieldWriters.{Writer, field_writer}, PlaceWriters.{TopWrites, IsWriter}, ShownMonitors.{holds_receiver, holds_class}}}
+use Rattle.laws_objects.{specs.GuardLaws.EventsKeepGuards, proofs.{ElementWriters.{ElementWriter, StoresElement, element_writer}, FieldWriters.{Writer, field_writer}, PlaceWriters.{TopWrites, IsWriter}, ShownMonitors.{holds_receiver, holds_class}}}
 use Rattle.laws_objects.proofs.StaticWriters.{StaticWriter, static_writer}
 use Rattle.machine_types.specs.declared.phase.Phase.TheVariants as phases
 
@@ -42,6 +43,23 @@ module _ (c : MarkedProgram) (marked : IsMarked c) (fi reference : ℕ) (f : Fra
   frozen_top law g =
       let written = law c.program (tags_of c) fi f.method k.stands.number k.index f.receiver k.stands.method k.stands.insn k.stands.target k.stands.tags f.stack marked.checked.program g k.stands.at k.is k.names on_this in
       makes written.1 written.0
+
+-- ---- a frame that stores an element of an array that the object owns
+
+module _ (c : MarkedProgram) (marked : IsMarked c) (o : Object) (f : Frame) (fs : List Frame)
+    (held : List Held) (stands : Stands c phases.Run (f ∷ fs) held None)
+    (k : ElementWriter c o f) where
+  pub element_top : ElementWriteLaw → IsHeld o.reference held ⊎ MakesObject c o.reference (f ∷ fs)
+  element_top law = by_case (law c.program (tags_of c) f.method k.stands.number k.stands.method
+      k.stands.insn k.stands.target k.stands.tags marked.checked.program
+      (are_tagged c marked) k.stands.at k.is k.owned)
+    where
+      by_case : (is_init k.stands.method ≡ true) ⊎ (list_any is_this k.stands.tags.held ≡ true) ⊎
+          (locks_this k.stands.method ≡ true)
+          → IsHeld o.reference held ⊎ MakesObject c o.reference (f ∷ fs)
+      by_case (inl init) = inr (k.stands.method, k.stands.at.in_program, init, k.receiver)
+      by_case (inr shows) = inl (subst (λ (m : ℕ). IsHeld m held) k.receiver
+          (holds_receiver c marked f fs held k.stands stands shows))
 
 -- ---- a frame that writes a static field
 
@@ -79,9 +97,46 @@ module _ (c : MarkedProgram) (was : Phase) (x : Thread) (structured : IsStructur
       by_frames [] stands k = absurd k
       by_frames (f ∷ fs) stands k = each f fs stands k
 
+-- ---- the thread that stores an element
+
+module _ (c : MarkedProgram) (was : Phase) (x : Thread) (structured : IsStructured c was x)
+    (outside : x.attempt ≡ None) (o : Object) (word : ℕ) (k : StoresElement c o word x) where
+  -- it stands as before its instruction
+  stands_before : Stands c phases.Run x.frames x.held None
+  stands_before =
+      let storing : IsStructured c was (record x { phase = phases.Element word (Some k.value) }) =
+      subst (λ (phase : Phase). IsStructured c was (record x { phase = phase })) k.stores
+      structured in
+      let stands : Stands c (phases.Element word (Some k.value)) x.frames x.held None =
+      subst (λ (a : Option Attempt). Stands c
+      (phases.Element word (Some k.value)) x.frames x.held a) outside
+      (subst (λ (phase : Phase). Stands c phase x.frames x.held x.attempt) storing.is_as
+      structured.stands) in
+      record {
+        shown = stands.shown;
+        show = stands.show;
+        depths = stands.depths;
+        once = stands.once;
+        phase_shows = has_frame x.frames stands.phase_shows;
+      }
+    where
+      has_frame : (fs : List Frame) → TopIs c (is_element_op (Some k.value)) fs → HasFrame fs
+      has_frame [] top = top
+      has_frame (f ∷ fs) top = tt
+
+  pub element_stored : IsMarked c → ElementWriteLaw
+      → HoldsMonitor o.reference x ⊎ MakesObject c o.reference x.frames
+  element_stored marked law = by_frames x.frames stands_before k.top
+    where
+      by_frames : (fs : List Frame) → Stands c phases.Run fs x.held None
+          → TopWrites (ElementWriter c o) fs → IsHeld o.reference x.held ⊎ MakesObject c o.reference
+          fs
+      by_frames [] stands top = absurd top
+      by_frames (f ∷ fs) stands top = element_top c marked o f fs x.held stands top law
+
 -- ---- the law
 
-module _ (write : WriteLaw) (static_write : StaticWriteLaw) (final : FinalLaw) (static_final : FinalStaticLaw) (differ : SitesDiffer) (inside : SitesLieInside) (reach : EventsReachSites) (alone : ClassInitsRunAlone) where
+module _ (write : WriteLaw) (element_write : ElementWriteLaw) (decided : OwnedIsDecided) (static_write : StaticWriteLaw) (final : FinalLaw) (static_final : FinalStaticLaw) (differ : SitesDiffer) (inside : SitesLieInside) (reach : EventsReachSites) (alone : ClassInitsRunAlone) where
   module _ (c : MarkedProgram) (cfg : Config) (objects : List Object) (was : ℕ → Phase) (s : Core) (t : ℕ) (x : Thread) (marked : IsMarked c) (facts : StateFacts c cfg objects was s) (there : slice_get s.threads t ≡ Some x) where
     heap : HeapFacts c objects s
     heap = facts.heap
@@ -114,7 +169,24 @@ module _ (write : WriteLaw) (static_write : StaticWriteLaw) (final : FinalLaw) (
     makes_class fi class k init = alone c cfg s t class x facts.threads facts.class_inits there k.runs init
 
     -- its instruction begins outside attempts
-    module _ (outside : x.attempt ≡ None) where
+    module _ (frozen : ℕ → Bool) (own : Owning) (w : World)
+        (built : Construction c frozen own w was objects s) (outside : x.attempt ≡ None) where
+      element_changed : (fi word : ℕ) (o : Object) → Contains objects o
+          → IsOwnedArrayField c.program (tags_of c) fi → IsElementOf c own.stores objects fi o word
+          → ChangesWord word s (event c s t) → HoldsMonitor o.reference x ⊎ MakesObject c
+          o.reference x.frames
+      element_changed fi word o here g e changes =
+          by_change (element_writer decided differ c objects s t x marked heap there frozen own w
+          was built structured fi word o here g e inside reach lawful)
+        where
+          by_change : (slice_index (words_after s.words (wanted c x x.phase)) word ≡ slice_index
+              s.words word) ⊎ StoresElement c o word x
+              → HoldsMonitor o.reference x ⊎ MakesObject c o.reference x.frames
+          by_change (inl still) = absurd (changes
+              (ap (λ (ws : List ℕ). slice_index ws word) words ∙ still))
+          by_change (inr k) = element_stored c
+              (was t) x structured outside o word k marked element_write
+
       static_changed : (fi : ℕ) (g : IsGuardedStatic c.program (tags_of c) fi) → IsWriter (StaticWriter c fi) x → HoldsMonitor (class_monitor c g.field) x ⊎ MakesClass c g.field.class s x
       static_changed fi g k =
           by_case (by_writer c (was t) x structured outside (StaticWriter c fi) k (λ fs. IsHeld (class_monitor c g.field) x.held ⊎ IsOfClassInit c g.field.class fs) (λ f fs stands k. guarded_static_top c marked fi f fs x.held stands k static_write g))
@@ -127,11 +199,12 @@ module _ (write : WriteLaw) (static_write : StaticWriteLaw) (final : FinalLaw) (
       final_changed fi g k =
           makes_class fi g.field.class k (by_writer c (was t) x structured outside (StaticWriter c fi) k (IsOfClassInit c g.field.class) (λ f fs stands k. final_static_top c marked fi f fs x.held stands k static_final g))
 
-      guards_kept : KeepsGuards c objects s (event c s t) x
+      guards_kept : KeepsGuards c own.stores objects s (event c s t) x
       guards_kept = record {
         guarded = λ fi o here g k.
             by_writer c (was t) x structured outside (Writer c fi o.reference) (writer fi o here k g.field g.is g.instance) (λ fs. IsHeld o.reference x.held ⊎ MakesObject c o.reference fs)
             (λ f fs stands k. guarded_top c marked fi o.reference f fs x.held stands k write g);
+        elements = λ fi word o here g e changes. element_changed fi word o here g e changes;
         statics = λ fi g changes. static_changed fi g (on_class fi g.field g.is g.static changes);
         frozen = λ fi o here g k.
             by_writer c (was t) x structured outside (Writer c fi o.reference) (writer fi o here k g.field g.is g.instance) (MakesObject c o.reference) (λ f fs stands k. frozen_top c marked fi o.reference f fs x.held stands k final g);
@@ -139,4 +212,4 @@ module _ (write : WriteLaw) (static_write : StaticWriteLaw) (final : FinalLaw) (
       }
 
   pub events_keep_guards : EventsKeepGuards
-  events_keep_guards c cfg objects was frozen w s t x marked width facts built there outside = guards_kept c cfg objects was s t x marked facts there outside
+  events_keep_guards c cfg objects was frozen own w s t x marked width facts built there outside = guards_kept c cfg objects was s t x marked facts there frozen own w built outside

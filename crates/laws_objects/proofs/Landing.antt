@@ -7,14 +7,14 @@ use Rattle.laws_programs.proofs.{CodeOrder.{one_number, have_targets}, EdgeTarge
 use Rattle.checked_program.specs.{FrozenPlaces.{KeepsThis, KeepsInside}, LockTags.{TagShape, IsShapeBelow}, MarkedProgram.{MarkedProgram, IsMarked}, TaggedCode.{IsAt, onward, row_of}}
 use Rattle.checked_program.specs.Tagging.{tags_after}
 use Rattle.laws_sections.proofs.VisitsLocal.{landing}
-use Rattle.machine_types.specs.{Construction.{AreFrozen, builds, makes_frozen, SlotsAre, Runs, IsFresh, ReceiverIs, SlotOf, FrameKeeps}, Standing.{Standing, tags_of}, Threads.Frame}
-use Rattle.machine_types.specs.Worlds.{World, IsFinished}
+use Rattle.machine_types.specs.{Construction.{Owning, AreOwned, puts_owned, AreFrozen, builds, makes_frozen, SlotsAre, StackWith, Runs, IsFresh, ReceiverIs, SlotOf, IsNoStored, IsArraySlot, SlotsFrom, FrameKeeps}, Standing.{Standing, tags_of}, Threads.Frame}
+use Rattle.machine_types.specs.Worlds.{Unstored, builder, World, IsFinished}
 use Rattle.laws_threads.proofs.{FramePlaces.of_standing, MarkedMethods.{IsMethod, method_with}}
-use Rattle.laws_objects.proofs.{NoThis.{HaveNoThis, no_this}, Slots.slots_edge, TaggedTypes.{AreAsMany, tags_many}}
+use Rattle.laws_objects.proofs.{ArraySlots.{edge_from, no_stored_along, array_along}, NoThis.{HaveNoThis, no_this}, Slots.{slots_edge, with_edge}, TaggedTypes.{AreAsMany, tags_many}}
 use Rattle.jvm_types.specs.Verifying as types
 use Rattle.checked_program.specs.Visits as visits
 
-module _ (c : MarkedProgram) (marked : IsMarked c) (frozen : ℕ → Bool) (are : AreFrozen c frozen) where
+module _ (c : MarkedProgram) (marked : IsMarked c) (frozen : ℕ → Bool) (are : AreFrozen c frozen) (owning : Owning) (owns : AreOwned c owning.owned) where
   -- ---- where a frame stands
 
   -- an `<init>` of a frozen class lets its object nowhere
@@ -37,12 +37,18 @@ module _ (c : MarkedProgram) (marked : IsMarked c) (frozen : ℕ → Bool) (are 
       (inside_at f k own).joined k.number j k.insn other k.target next k.tags u (tags_after k.insn (row_of c.program k.method k.insn k.target) k.tags) k.at there
       (onward other (subst (λ (pc : ℕ). has_number (edges k.insn) pc ≡ true) (sym starts) edge))
 
+  -- whether it stores the array on its top next, and which arrays were stored, with what the edge brought
+  pub record LandsWell (puts : Bool) (g : Frame) (m : MethodInfo) (after : TypeFrame) : Type 0 where
+    pub put : (j : ℕ) (other : Insn) (next : Target) (u : TagShape) → IsAt c.program (tags_of c) g.method j m other next u → other.pc ≡ g.pc → puts_owned owning.owned other.op next ≡ puts
+    pub arrays : (j : ℕ) (other : Insn) (next : Target) (u : TagShape) → IsAt c.program (tags_of c) g.method j m other next u → other.pc ≡ g.pc → SlotsFrom (IsArraySlot c owning.stores g j) 0 after.stack g.stack
+    pub locals : SlotsFrom (λ place. IsNoStored owning.stores) 0 after.locals g.locals
+
   module _ (w : World) (next t h : ℕ) (null : IsFinished w next 0) where
-    pub land : (g : Frame) (m : MethodInfo) (frames : List (Option TypeFrame)) (tags : List (Option TagShape)) (after : TypeFrame) (brought : TagShape) → slice_get c.program.methods g.method ≡ Some m
+    pub land : (puts : Bool) (g : Frame) (m : MethodInfo) (frames : List (Option TypeFrame)) (tags : List (Option TagShape)) (after : TypeFrame) (brought : TagShape) → slice_get c.program.methods g.method ≡ Some m
         → slice_get (map (λ t. t.frames) c.typings) g.method ≡ Some frames → slice_get (tags_of c) g.method ≡ Some tags → types.FrameFits m.code frames after g.pc → visits.EdgeFits IsShapeBelow m.code tags brought g.pc → IsJoined g m brought
-        → ReceiverIs w next t h (builds frozen m) g.receiver → SlotsAre (SlotOf frozen w next t h Runs m g.receiver) after.stack brought.stack g.stack → SlotsAre (SlotOf frozen w next t h Runs m g.receiver) after.locals brought.locals g.locals
-        → FrameKeeps c frozen w next t h Runs g
-    land g m frames tags after brought e ty u fits below joined receiver stack locals =
+        → LandsWell puts g m after → ReceiverIs w next t h (builds frozen m) g.receiver → StackWith (SlotOf frozen w next t h Runs m g.receiver) (λ v. w v ≡ Some (builder t h Unstored)) puts after.stack brought.stack g.stack → SlotsAre (SlotOf frozen w next t h Runs m g.receiver) after.locals brought.locals g.locals
+        → FrameKeeps c frozen owning w next t h Runs g
+    land puts g m frames tags after brought e ty u fits below joined well receiver stack locals =
         let of : IsMethod c.program m tags frames = method_with c marked g.method m tags frames e u ty in
         let l = lands m frames after g.pc fits in
         let n = landing IsShapeBelow m.code tags brought g.pc below in
@@ -66,8 +72,11 @@ module _ (c : MarkedProgram) (marked : IsMarked c) (frozen : ℕ → Bool) (are 
             pc_is = l.starts;
           };
           receiver = receiver;
-          stack = slots_edge (IsFinished w next) null (IsFresh w t h Runs) (builds frozen m) (makes_frozen frozen m) g.receiver after.stack l.frame.stack brought.stack n.frame.stack g.stack (stack_below after l.frame l.fits) n.fits.stack many.stack
-              (λ own. (joined own l.number l.insn target.0 n.frame at l.starts).stack) stack;
+          stack = subst (λ (b : Bool). StackWith (SlotOf frozen w next t h Runs m g.receiver) (λ v. w v ≡ Some (builder t h Unstored)) b l.frame.stack n.frame.stack g.stack) (sym (well.put l.number l.insn target.0 n.frame at l.starts))
+              (with_edge (IsFinished w next) null (IsFresh w t h Runs) (builds frozen m) (makes_frozen frozen m) g.receiver (λ v. w v ≡ Some (builder t h Unstored)) puts after.stack l.frame.stack brought.stack n.frame.stack g.stack (stack_below after l.frame l.fits) n.fits.stack many.stack
+              (λ own. (joined own l.number l.insn target.0 n.frame at l.starts).stack) stack);
           locals = slots_edge (IsFinished w next) null (IsFresh w t h Runs) (builds frozen m) (makes_frozen frozen m) g.receiver after.locals l.frame.locals brought.locals n.frame.locals g.locals (locals_below after l.frame l.fits) n.fits.locals many.locals
               (λ own. (joined own l.number l.insn target.0 n.frame at l.starts).locals) locals;
+          arrays = edge_from (IsArraySlot c owning.stores g l.number) (array_along c owning.stores g l.number) 0 after.stack l.frame.stack g.stack (stack_below after l.frame l.fits) (well.arrays l.number l.insn target.0 n.frame at l.starts);
+          no_arrays = edge_from (λ place. IsNoStored owning.stores) (no_stored_along owning.stores) 0 after.locals l.frame.locals g.locals (locals_below after l.frame l.fits) well.locals;
         }

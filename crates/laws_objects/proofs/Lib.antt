@@ -3,13 +3,19 @@ pub mod TaggedTypes
 pub mod NoThis
 pub mod WorldChanges
 pub mod Slots
+pub mod ArraySlots
 pub mod KeptFrames
+pub mod RestoredFrames
 pub mod Views
 pub mod CountedPhases
 pub mod Landing
 pub mod Moves
 pub mod Operands
 pub mod BuiltEffects
+pub mod ArrayMoves
+pub mod PutPlaces
+pub mod ArrayFrames
+pub mod EffectOps
 pub mod ThrowingFrames
 pub mod EnteredFrames
 pub mod CalledFrames
@@ -17,6 +23,7 @@ pub mod Calling
 pub mod ReturnedFrames
 pub mod Onwards
 pub mod NewFrames
+pub mod StoredArrays
 pub mod ThreadMoves
 pub mod InstructionMoves
 pub mod MonitorMoves
@@ -28,6 +35,8 @@ pub mod PartBegins
 pub mod Events
 pub mod WrittenFields
 pub mod PlaceWriters
+pub mod ColouredFrames
+pub mod ElementWriters
 pub mod FieldWriters
 pub mod StaticWriters
 pub mod ShownMonitors

@@ -1,9 +1,9 @@
 -- An object that was never finished, and whose frame is gone: each thread sees it so.
 use Rattle.std.proofs.Common.{◌≡◌, ℕ, Bool, List, Some, slice_get}
 use Rattle.checked_program.specs.MarkedProgram.{MarkedProgram}
-use Rattle.machine_types.specs.{Construction.Construction, Core.Core, PlainMemory.Object, Threads.Thread, Worlds.{Lost, Builder, World}, declared.phase.Phase.Phase}
+use Rattle.machine_types.specs.{Construction.{Owning, Construction}, Core.Core, PlainMemory.Object, Threads.Thread, Worlds.{Lost, Builder, World}, declared.phase.Phase.Phase}
 
-module _ (c : MarkedProgram) (frozen : ℕ → Bool) (w : World) (was : ℕ → Phase) (objects : List Object) (s : Core) (con : Construction c frozen w was objects s) where
+module _ (c : MarkedProgram) (frozen : ℕ → Bool) (owning : Owning) (w : World) (was : ℕ → Phase) (objects : List Object) (s : Core) (con : Construction c frozen owning w was objects s) where
   -- as each thread sees the world
   abbrev pub SeenByAll : (v : ℕ) (b : Builder) → Type 0
   SeenByAll v b = (u : ℕ) (y : Thread) (there : slice_get s.threads u ≡ Some y) → (con.each u y there).now v ≡ Some b

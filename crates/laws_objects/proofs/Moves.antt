@@ -7,10 +7,10 @@ use Rattle.jvm_types.specs.{Verifying.{suits, some_taken, some_read, new_class, 
 use Rattle.jvm_types.specs.declared.{op_row.Want.{Want, TheVariants.{AnyValue, AnInt, AnObject, AnyReference, AHolder, ToStart}}, program.{MethodInfo.MethodInfo, Program.Program, Target.Target}}
 use Rattle.jvm_types.specs.declared.typing.VType.{VType}
 use Rattle.checked_program.specs.{LockTags.TagShape, MarkedProgram.{MarkedProgram, IsMarked}, Tagging.{moved_tags, tags_by_op, tags_after}, declared.tag.Tag.{Tag, TheVariants.{Untagged, This, At}}}
-use Rattle.machine_types.specs.{Construction.{AreFrozen, builds, makes_frozen, if_so, SlotByType, OwnSlot, SlotIs, SlotsAre, Runs, IsFresh, ReceiverIs, SlotOf, FrameKeeps}, Frames.frame_on}
+use Rattle.machine_types.specs.{Construction.{Owning, AreOwned, puts_owned, AreFrozen, builds, makes_frozen, if_so, SlotByType, OwnSlot, SlotIs, SlotsAre, Runs, IsFresh, ReceiverIs, SlotOf, FrameKeeps}, Frames.frame_on}
 use Rattle.machine_types.specs.{Lawful.within, Standing.{Standing, row_at}, Threads.Frame, Worlds.{Made, Begun, Builder, builder, World, IsFinished, IsWorld, GoesOn}}
 use Rattle.laws_threads.{specs.Allowed.OneOf, proofs.{FrameMoves.edge_fits, Landing.rules_at, TopEffects.number_in, Typing.edge_at}}
-use Rattle.laws_objects.proofs.{KeptFrames.KeepsUnder, Landing.{land, joined_onward}}
+use Rattle.laws_objects.proofs.{ArraySlots.IsStart, KeptFrames.{KeepsUnder, plain_stack}, Landing.{LandsWell, land, joined_onward}}
 use Rattle.laws_objects.proofs.Slots.{IsMade, IsWriteMade, stack_moves, local_moves, top_slot, plainly, plain_slot, not_this, slots_started, slot_retag, slots_without, StartOk}
 use Rattle.laws_objects.proofs.WorldChanges.{without, without_gone, without_keeps, without_none, world_without, goes_without, goes_same, KeepsLost, lost_same, lost_without}
 use Rattle.jvm_types.specs.declared.code.Op.TheVariants as ops
@@ -67,6 +67,19 @@ module _ (m : MethodInfo) (young : ℕ → Bool) where
   starts (AnObject class ∷ wants) [] h = inl tt
   starts (AnyReference ∷ wants) [] h = inl tt
   starts (AHolder class ∷ wants) [] h = inl tt
+
+pub is_start : (m : MethodInfo) (young : ℕ → Bool) (o : Option (VType × ℕ)) → Starts m young o → IsStart o
+is_start m young o (inl s) = by_type o s
+  where
+    by_type : (o : Option (VType × ℕ)) → StartsOld young o → IsStart o
+    by_type None s = tt
+    by_type (Some (types.This, class)) s = tt
+    by_type (Some (types.New q, class)) s = tt
+    by_type (Some (types.Int, class)) s = absurd s
+    by_type (Some (types.Null, class)) s = absurd s
+    by_type (Some (types.Ref d, class)) s = absurd s
+    by_type (Some (types.Top, class)) s = absurd s
+is_start m young o (inr y) = subst IsStart (sym y.is) tt
 
 pub suit_at : (c : MarkedProgram) (marked : IsMarked c) (f : Frame) (k : Standing c f) → Suit k.method (row_at c f k).takes k.types.stack
 suit_at c marked f k =
@@ -196,8 +209,9 @@ stays w next t P k = record { later = w; goes = goes_same w next next t (omega a
 pub steps_map : (w : World) (next t : ℕ) (P Q : World → Type 0) → ((v : World) → GoesOn w v next next t 0 → P v → Q v) → Steps w next t P → Steps w next t Q
 steps_map w next t P Q f k = record { later = k.later; goes = k.goes; world = k.world; lost = k.lost; keeps = f k.later k.goes k.keeps }
 
-module _ (c : MarkedProgram) (marked : IsMarked c) (frozen : ℕ → Bool) (are : AreFrozen c frozen) (w : World) (next t h : ℕ) (null : IsFinished w next 0) (inside : (v : ℕ) (b : Builder) → w v ≡ Some b → v < next) where
-  module _ (f : Frame) (k : FrameKeeps c frozen w next t h Runs f) (to made : ℕ) (edge : OneOf (edges k.stands.insn) to) where
+module _ (c : MarkedProgram) (marked : IsMarked c) (frozen : ℕ → Bool) (are : AreFrozen c frozen) (owning : Owning) (owns : AreOwned c owning.owned) (w : World) (next t h : ℕ) (null : IsFinished w next 0) (inside : (v : ℕ) (b : Builder) → w v ≡ Some b → v < next) where
+  module _ (f : Frame) (k : FrameKeeps c frozen owning w next t h Runs f) (to made : ℕ) (edge : OneOf (edges k.stands.insn) to) (plain : puts_owned owning.owned k.stands.insn.op k.stands.target ≡ false)
+      (well : LandsWell c marked frozen are owning owns false (frame_on (row_at c f k.stands) to made f) k.stands.method (frame_after k.stands.method (row_at c f k.stands) k.stands.types)) where
     abbrev m : MethodInfo
     m = k.stands.method
 
@@ -209,23 +223,23 @@ module _ (c : MarkedProgram) (marked : IsMarked c) (frozen : ℕ → Bool) (are 
 
     moved : Row → SlotsAre (SlotOf frozen w next t h Runs m f.receiver) (stack_after types.Top (λ t. t) r k.stands.types.stack k.stands.types.locals) (moved_tags r k.stands.tags).stack (frame_on r to made f).stack
         × SlotsAre (SlotOf frozen w next t h Runs m f.receiver) (locals_after types.Top (λ t. t) r.writes k.stands.types.stack k.stands.types.locals) (moved_tags r k.stands.tags).locals (frame_on r to made f).locals
-    moved makes = row_moves (IsFinished w next) null (IsFresh w t h Runs) (builds frozen m) (makes_frozen frozen m) f.receiver r made k.stands.types.stack k.stands.types.locals k.stands.tags f.stack f.locals k.stack k.locals makes
+    moved makes = row_moves (IsFinished w next) null (IsFresh w t h Runs) (builds frozen m) (makes_frozen frozen m) f.receiver r made k.stands.types.stack k.stands.types.locals k.stands.tags f.stack f.locals (plain_stack c frozen owning w next t h f k plain) k.locals makes
 
     -- in a world where the slots are of the types behind the instruction
     landed : (z : World) → IsFinished z next 0 → ReceiverIs z next t h (builds frozen m) f.receiver
         → SlotsAre (SlotOf frozen z next t h Runs m f.receiver) (frame_after m r k.stands.types).stack (moved_tags r k.stands.tags).stack (frame_on r to made f).stack
         → SlotsAre (SlotOf frozen z next t h Runs m f.receiver) (frame_after m r k.stands.types).locals (moved_tags r k.stands.tags).locals (frame_on r to made f).locals
-        → FrameKeeps c frozen z next t h Runs (frame_on r to made f)
+        → FrameKeeps c frozen owning z next t h Runs (frame_on r to made f)
     landed z none receiver stack locals =
         let edge_is : has_number (edges k.stands.insn) to ≡ true = number_in (edges k.stands.insn) to edge in
         let fine = tags_fine (IsFinished z next) none (IsFresh z t h Runs) (builds frozen m) (makes_frozen frozen m) f.receiver c.program m k.stands.insn.pc k.stands.target k.stands.insn.op k.stands.tags.stack k.stands.tags.locals k.stands.tags.held
         (frame_after m r k.stands.types).stack (frame_after m r k.stands.types).locals (frame_on r to made f).stack (frame_on r to made f).locals (stack, locals) in
-        land c marked frozen are z next t h none (frame_on r to made f) m k.stands.frames k.stands.at.frames (frame_after m r k.stands.types) (tags_after k.stands.insn r k.stands.tags) k.stands.at.in_program k.stands.types_of_method k.stands.at.of_method
+        land c marked frozen are owning owns z next t h none false (frame_on r to made f) m k.stands.frames k.stands.at.frames (frame_after m r k.stands.types) (tags_after k.stands.insn r k.stands.tags) k.stands.at.in_program k.stands.types_of_method k.stands.at.of_method
         (edge_at m (within c.program) m.code k.stands.frames (frame_after m r k.stands.types) (edges k.stands.insn) to (rules_at c marked f k.stands).sound.edges_fit edge)
         (edge_fits c marked f k.stands to edge_is)
-        (joined_onward c marked frozen are f (frame_on r to made f) k.stands refl edge_is) receiver fine.0 fine.1
+        (joined_onward c marked frozen are owning owns f (frame_on r to made f) k.stands refl edge_is) well receiver fine.0 fine.1
 
-    pub goes_old : Row → StartsOld (makes_frozen frozen m) (started m.class r.takes k.stands.types.stack) → FrameKeeps c frozen w next t h Runs (frame_on r to made f)
+    pub goes_old : Row → StartsOld (makes_frozen frozen m) (started m.class r.takes k.stands.types.stack) → FrameKeeps c frozen owning w next t h Runs (frame_on r to made f)
     goes_old makes old =
         let s = moved makes in
         let after = old_started (IsFinished w next) null (IsFresh w t h Runs) (builds frozen m) (makes_frozen frozen m) f.receiver (started m.class r.takes k.stands.types.stack) old
@@ -253,7 +267,7 @@ module _ (c : MarkedProgram) (marked : IsMarked c) (frozen : ℕ → Bool) (are 
           (λ r v n young e. without_keeps w gone v (builder t h (Made r)) e (λ s. n (let i : Made r ≡ Made y.pc = ap (λ (b : Builder). b.item) s in cc)))
           (builds frozen m) us gs vs s
 
-      goes_young : Row → FrameKeeps c frozen z next t h Runs (frame_on r to made f)
+      goes_young : Row → FrameKeeps c frozen owning z next t h Runs (frame_on r to made f)
       goes_young makes =
           let s = moved makes in
           let after : (a : TypeFrame) × (a ≡ frame_after m r k.stands.types) × SlotsAre (SlotOf frozen z next t h Runs m f.receiver) a.stack (moved_tags r k.stands.tags).stack (frame_on r to made f).stack × SlotsAre (SlotOf frozen z next t h Runs m f.receiver) a.locals (moved_tags r k.stands.tags).locals (frame_on r to made f).locals = (
@@ -266,11 +280,11 @@ module _ (c : MarkedProgram) (marked : IsMarked c) (frozen : ℕ → Bool) (are 
           (subst (λ (a : TypeFrame). SlotsAre (SlotOf frozen z next t h Runs m f.receiver) a.stack (moved_tags r k.stands.tags).stack (frame_on r to made f).stack) after.1 after.2)
           (subst (λ (a : TypeFrame). SlotsAre (SlotOf frozen z next t h Runs m f.receiver) a.locals (moved_tags r k.stands.tags).locals (frame_on r to made f).locals) after.1 after.3)
 
-    pub goes : Row → Steps w next t (λ z. FrameKeeps c frozen z next t h Runs (frame_on r to made f) × KeepsUnder w z t h)
+    pub goes : Row → Steps w next t (λ z. FrameKeeps c frozen owning z next t h Runs (frame_on r to made f) × KeepsUnder w z t h)
     goes makes = by_start (starts m (makes_frozen frozen m) r.takes k.stands.types.stack (suit_at c marked f k.stands))
       where
-        by_start : Starts m (makes_frozen frozen m) (started m.class r.takes k.stands.types.stack) → Steps w next t (λ z. FrameKeeps c frozen z next t h Runs (frame_on r to made f) × KeepsUnder w z t h)
-        by_start (inl old) = stays w next t (λ z. FrameKeeps c frozen z next t h Runs (frame_on r to made f) × KeepsUnder w z t h) (goes_old makes old, λ i l v x e. e)
+        by_start : Starts m (makes_frozen frozen m) (started m.class r.takes k.stands.types.stack) → Steps w next t (λ z. FrameKeeps c frozen owning z next t h Runs (frame_on r to made f) × KeepsUnder w z t h)
+        by_start (inl old) = stays w next t (λ z. FrameKeeps c frozen owning z next t h Runs (frame_on r to made f) × KeepsUnder w z t h) (goes_old makes old, λ i l v x e. e)
         by_start (inr y) = record {
           later = without w (builder t h (Made y.pc));
           goes = goes_without w next t (builder t h (Made y.pc)) refl;

@@ -1,16 +1,18 @@
 -- A new object: its frame lacks it until its header is stored, and then has it.
-use Rattle.std.proofs.Common.{◌≡◌, ◌≢◌, ℕ, ◌<◌, Bool, true, false, List, [], ◌∷◌, ◌++◌, length, map, drop, Option, Some, None, refl, sym, ap, ◌∙◌, subst, arith, if◌then◌else◌}
+use Rattle.std.proofs.Common.{◌≡◌, ◌≢◌, ℕ, ◌<◌, ◌⊎◌, inl, inr, Bool, true, false, List, [], ◌∷◌, ◌++◌, length, map, drop, Option, Some, None, refl, sym, ap, ◌∙◌, subst, arith, option_map}
 use Rattle.std.specs.List.{AllByRecursion}
-use Rattle.jvm_types.specs.{CodeTable.{value_of, stack_after, locals_after}, Verifying.edges, declared.{op_row.Given.{Given, TheVariants.{Fresh as Anew}}, typing.VType.VType}}
+use Rattle.jvm_types.specs.{CodeTable.{row, value_of, stack_after, locals_after}, Numbers.has_number, Types.TypeFrame, Verifying.{started, after_start, frame_after, edges}, declared.{code.{Insn.Insn, Op.Op}, op_row.{Given.{Given, TheVariants.{Fresh as Anew}}, OpRow.OpRow}, program.{MethodInfo.MethodInfo, Target.Target}, typing.VType.VType}}
 use Rattle.laws_programs.{specs.NewLaws.{IsNewBefore, AreBehind}, proofs.RowsKeep.{IsFine, row_fine}}
-use Rattle.checked_program.specs.{MarkedProgram.{MarkedProgram, IsMarked}, declared.tag.Tag.{Tag, TheVariants.{Untagged, This, At}}}
-use Rattle.machine_types.specs.Construction.{AreFrozen, builds, makes_frozen, if_so, SlotByType, OwnSlot, SlotIs, SlotsAre, Runs, IsFresh, ReceiverIs, SlotOf, FrameKeeps, KeepBelow, FramesKeep, made_world, MadeKeeps}
-use Rattle.machine_types.specs.{Frames.{frame_on, making, pushed}, Standing.{Standing, row_at}, Threads.Frame}
-use Rattle.machine_types.specs.Worlds.{Item, Header, Made, Begun, Builder, builder, World, IsFinished, IsWorld, with_builder}
-use Rattle.laws_threads.{specs.Allowed.{OneOf, MadeAs}, proofs.{Landing.rules_at, Standings.top_here}}
-use Rattle.laws_objects.proofs.{BuiltEffects.StartsNone, CalledFrames.{below_moved, none_started}, KeptFrames.below_kept, Moves.{StartsOld, goes_old}}
-use Rattle.laws_objects.proofs.Slots.{slots_map_if, IsMade, IsWriteMade, made_slot}
+use Rattle.checked_program.specs.{Colours.is_read_of, LockTags.TagShape, MarkedProgram.{MarkedProgram, IsMarked}, TaggedCode.IsAt, Tagging.{moved_tags, tags_by_op, tags_after}, declared.tag.Tag.{Tag, TheVariants.{Untagged, This, At}}}
+use Rattle.machine_types.specs.Construction.{Owning, AreOwned, puts_owned, AreFrozen, builds, makes_frozen, if_so, SlotByType, OwnSlot, SlotIs, SlotsAre, StackWith, Runs, IsFresh, ReceiverIs, SlotOf, IsNoStored, FrameKeeps, KeepBelow, FramesKeep, made_world, MadeKeeps}
+use Rattle.machine_types.specs.{Frames.{frame_on, making, pushed}, Lawful.within, Standing.{Standing, row_at, tags_of}, Threads.Frame}
+use Rattle.machine_types.specs.Worlds.{Item, Header, Made, Begun, Unstored, Builder, builder, World, IsFinished, IsWorld, with_builder}
+use Rattle.laws_threads.{specs.Allowed.{OneOf, MadeAs}, proofs.{FrameMoves.edge_fits, Landing.rules_at, Standings.top_here, TopEffects.number_in, Typing.edge_at}}
+use Rattle.laws_objects.proofs.{ArrayFrames.{goes_well, goes_plain}, ArrayMoves.{GivenClean, WriteClean, IsMadeWell}, ArraySlots.StoresFine, EffectOps.{is_putfield, stores_none}, Landing.{LandsWell, land, joined_onward}, Operands.is_getfield, PutPlaces.{is_newarray, next_puts}}
+use Rattle.laws_objects.proofs.{BuiltEffects.StartsNone, CalledFrames.{below_moved, none_started}, KeptFrames.{below_kept, plain_stack}, Moves.{StartsOld, goes_old}}
+use Rattle.laws_objects.proofs.Slots.{slots_map_if, slots_drop, IsMade, IsWriteMade, made_slot}
 use Rattle.laws_objects.proofs.WorldChanges.{none_some, given_here, given_keeps, given_none, finished_here, finished_there, world_given, world_finished}
+use Rattle.jvm_types.specs.declared.code.Op.TheVariants as ops
 use Rattle.jvm_types.specs.declared.typing.VType.TheVariants as types
 
 -- ---- slots whose `new` stands before this pc
@@ -49,13 +51,24 @@ module _ (Old More : ℕ → Type 0) (Fresh Later : ℕ → ℕ → Type 0) (old
 
 -- ---- memory is taken: the object is the next free word
 
-module _ (c : MarkedProgram) (marked : IsMarked c) (frozen : ℕ → Bool) (are : AreFrozen c frozen) (w : World) (first next more t h : ℕ) (is_world : IsWorld w first next) (null : IsFinished w next 0) (grows : next < more) (pc : ℕ) (young : Bool) where
+-- what it is once its header is stored: what the `new` at a pc made, or an array that is stored next
+abbrev pub IsNewItem : (pc : ℕ) → Option Item → Type 0
+IsNewItem pc item = (x : Item) → item ≡ Some x → (x ≡ Made pc) ⊎ (x ≡ Unstored)
+
+new_item : (pc : ℕ) (item : Option Item) → IsNewItem pc item → item ≡ Some Begun → ⊥
+new_item pc item sort e = by_sort (sort Begun e)
+  where
+    by_sort : (Begun ≡ Made pc) ⊎ (Begun ≡ Unstored) → ⊥
+    by_sort (inl same) = cc
+    by_sort (inr same) = cc
+
+module _ (c : MarkedProgram) (marked : IsMarked c) (frozen : ℕ → Bool) (are : AreFrozen c frozen) (owning : Owning) (owns : AreOwned c owning.owned) (w : World) (first next more t h : ℕ) (is_world : IsWorld w first next) (null : IsFinished w next 0) (grows : next < more) (pc : ℕ) (item : Option Item) (sort : IsNewItem pc item) where
   abbrev pub header_world : World
   header_world = with_builder w next (builder t h Header)
 
   -- the world once the header is stored
   abbrev pub stored_world : World
-  stored_world = made_world (with_builder w next (builder t h Header)) next young (builder t h (Made pc))
+  stored_world = made_world (with_builder w next (builder t h Header)) next t h item
 
   fresh_word : w next ≡ None
   fresh_word = by_was (w next) refl
@@ -67,72 +80,150 @@ module _ (c : MarkedProgram) (marked : IsMarked c) (frozen : ℕ → Bool) (are 
   not_new : (v : ℕ) (k : Builder) → w v ≡ Some k → v ≢ next
   not_new v k e s = none_some (w next) k fresh_word (subst (λ (x : ℕ). w x ≡ Some k) s e)
 
-  keeps : (v i : ℕ) (x : Item) → w v ≡ Some (builder t i x) → builder t i x ≢ builder t h Header → builder t i x ≢ builder t h (Made pc) → (y : Bool) → made_world header_world next y (builder t h (Made pc)) v ≡ Some (builder t i x)
-  keeps v i x e n m true = given_keeps header_world next (builder t h (Made pc)) v (builder t i x) (given_keeps w next (builder t h Header) v (builder t i x) e (not_new v (builder t i x) e) n) (not_new v (builder t i x) e) m
-  keeps v i x e n m false = finished_there header_world next v (not_new v (builder t i x) e) ∙ given_keeps w next (builder t h Header) v (builder t i x) e (not_new v (builder t i x) e) n
+  keeps : (v i : ℕ) (x : Item) → w v ≡ Some (builder t i x) → builder t i x ≢ builder t h Header → (o : Option Item) → ((y : Item) → o ≡ Some y → builder t i x ≢ builder t h y) → made_world header_world next t h o v ≡ Some (builder t i x)
+  keeps v i x e n (Some y) m = given_keeps header_world next (builder t h y) v (builder t i x) (given_keeps w next (builder t h Header) v (builder t i x) e (not_new v (builder t i x) e) n) (not_new v (builder t i x) e) (m y refl)
+  keeps v i x e n None m = finished_there header_world next v (not_new v (builder t i x) e) ∙ given_keeps w next (builder t h Header) v (builder t i x) e (not_new v (builder t i x) e) n
 
-  stays_none : (y : Bool) (v : ℕ) → w v ≡ None → v ≢ next → made_world header_world next y (builder t h (Made pc)) v ≡ None
-  stays_none true v e n = given_none header_world next (builder t h (Made pc)) v (given_none w next (builder t h Header) v e n) n
-  stays_none false v e n = finished_there header_world next v n ∙ given_none w next (builder t h Header) v e n
+  stays_none : (o : Option Item) (v : ℕ) → w v ≡ None → v ≢ next → made_world header_world next t h o v ≡ None
+  stays_none (Some y) v e n = given_none header_world next (builder t h y) v (given_none w next (builder t h Header) v e n) n
+  stays_none None v e n = finished_there header_world next v n ∙ given_none w next (builder t h Header) v e n
 
   old_made : (v : ℕ) → IsFinished w next v → IsFinished stored_world more v
-  old_made v o = ((let l = o.0 in omega (arith, l, grows)), stays_none young v o.1 (λ e. (let l = o.0 in omega (arith, l, e))))
+  old_made v o = ((let l = o.0 in omega (arith, l, grows)), stays_none item v o.1 (λ e. (let l = o.0 in omega (arith, l, e))))
+
+  -- another item than the new one
+  apart_from : (x : Item) → x ≢ Made pc → x ≢ Unstored → (y : Item) → item ≡ Some y → builder t h x ≢ builder t h y
+  apart_from x n m y e s = by_sort (sort y e)
+    where
+      same : x ≡ y
+      same = ap (λ (b : Builder). b.item) s
+
+      by_sort : (y ≡ Made pc) ⊎ (y ≡ Unstored) → ⊥
+      by_sort (inl is) = n (same ∙ is)
+      by_sort (inr is) = m (same ∙ is)
 
   fresh_made : (q v : ℕ) → q < pc → w v ≡ Some (builder t h (Made q)) → stored_world v ≡ Some (builder t h (Made q))
-  fresh_made q v l e = keeps v h (Made q) e (λ s. (let i : Made q ≡ Header = ap (λ (b : Builder). b.item) s in cc)) (λ s. (let i : Made q ≡ Made pc = ap (λ (b : Builder). b.item) s in let j : q ≡ pc = cc in omega (arith, j, l))) young
+  fresh_made q v l e = keeps v h (Made q) e (λ s. (let i : Made q ≡ Header = ap (λ (b : Builder). b.item) s in cc)) item (apart_from (Made q) (λ s. (let j : q ≡ pc = cc in omega (arith, j, l))) (λ s. cc))
 
   receiver_made : (own : Bool) (b : ℕ) → ReceiverIs w next t h own b → ReceiverIs stored_world more t h own b
-  receiver_made true b e = keeps b h Begun e (λ s. (let i : Begun ≡ Header = ap (λ (b : Builder). b.item) s in cc)) (λ s. (let i : Begun ≡ Made pc = ap (λ (b : Builder). b.item) s in cc)) young
+  receiver_made true b e = keeps b h Begun e (λ s. (let i : Begun ≡ Header = ap (λ (b : Builder). b.item) s in cc)) item (apart_from Begun (λ s. cc) (λ s. cc))
   receiver_made false b e = old_made b e
 
-  -- the frame before the `new` stands in that world too: a stale object of this `new` is in no slot
-  frame_renewed : (f : Frame) (k : FrameKeeps c frozen w next t h Runs f) → AreBehind pc k.stands.types → FrameKeeps c frozen stored_world more t h Runs f
-  frame_renewed f k behind = record {
-    stands = k.stands;
-    receiver = receiver_made (builds frozen k.stands.method) f.receiver k.receiver;
-    stack = moved k.stands.types.stack k.stands.tags.stack f.stack behind.stack k.stack;
-    locals = moved k.stands.types.locals k.stands.tags.locals f.locals behind.locals k.locals;
-  }
-    where
-      moved : (us : List VType) (gs : List Tag) (vs : List ℕ) → AllByRecursion (IsNewBefore pc) us → SlotsAre (SlotOf frozen w next t h Runs k.stands.method f.receiver) us gs vs → SlotsAre (SlotOf frozen stored_world more t h Runs k.stands.method f.receiver) us gs vs
-      moved = slots_map_if (IsNewBefore pc) (SlotOf frozen w next t h Runs k.stands.method f.receiver) (SlotOf frozen stored_world more t h Runs k.stands.method f.receiver)
-          (slot_behind (IsFinished w next) (IsFinished stored_world more) (IsFresh w t h Runs) (IsFresh stored_world t h Runs) old_made (makes_frozen frozen k.stands.method) f.receiver pc fresh_made (builds frozen k.stands.method))
+  -- the frame before the instruction stands in that world too: a stale object of this `new` is in no slot
+  module _ (f : Frame) (k : FrameKeeps c frozen owning w next t h Runs f) (behind : AreBehind pc k.stands.types) (plain : puts_owned owning.owned k.stands.insn.op k.stands.target ≡ false) where
+    moved : (us : List VType) (gs : List Tag) (vs : List ℕ) → AllByRecursion (IsNewBefore pc) us → SlotsAre (SlotOf frozen w next t h Runs k.stands.method f.receiver) us gs vs → SlotsAre (SlotOf frozen stored_world more t h Runs k.stands.method f.receiver) us gs vs
+    moved = slots_map_if (IsNewBefore pc) (SlotOf frozen w next t h Runs k.stands.method f.receiver) (SlotOf frozen stored_world more t h Runs k.stands.method f.receiver)
+        (slot_behind (IsFinished w next) (IsFinished stored_world more) (IsFresh w t h Runs) (IsFresh stored_world t h Runs) old_made (makes_frozen frozen k.stands.method) f.receiver pc fresh_made (builds frozen k.stands.method))
 
-  here : (y : Bool) → made_world header_world next y (builder t h (Made pc)) next ≡ (if y then Some (builder t h (Made pc)) else None)
-  here true = given_here header_world next (builder t h (Made pc))
-  here false = finished_here header_world next
+    stack_renewed : SlotsAre (SlotOf frozen stored_world more t h Runs k.stands.method f.receiver) k.stands.types.stack k.stands.tags.stack f.stack
+    stack_renewed = moved k.stands.types.stack k.stands.tags.stack f.stack behind.stack (plain_stack c frozen owning w next t h f k plain)
 
-  inside_made : (y : Bool) (v : ℕ) (b : Builder) → made_world header_world next y (builder t h (Made pc)) v ≡ Some b → v < more
-  inside_made y v b e = ((stored y).inside v b e).1
+    locals_renewed : SlotsAre (SlotOf frozen stored_world more t h Runs k.stands.method f.receiver) k.stands.types.locals k.stands.tags.locals f.locals
+    locals_renewed = moved k.stands.types.locals k.stands.tags.locals f.locals behind.locals k.locals
+
+    frame_renewed : FrameKeeps c frozen owning stored_world more t h Runs f
+    frame_renewed = record {
+      stands = k.stands;
+      receiver = receiver_made (builds frozen k.stands.method) f.receiver k.receiver;
+      stack = subst (λ (b : Bool). StackWith (SlotOf frozen stored_world more t h Runs k.stands.method f.receiver) (λ v. stored_world v ≡ Some (builder t h Unstored)) b k.stands.types.stack k.stands.tags.stack f.stack) (sym plain) stack_renewed;
+      locals = locals_renewed;
+      arrays = k.arrays;
+      no_arrays = k.no_arrays;
+    }
+
+  here : (o : Option Item) → made_world header_world next t h o next ≡ option_map (builder t h) o
+  here (Some y) = given_here header_world next (builder t h y)
+  here None = finished_here header_world next
+
+  inside_made : (o : Option Item) (v : ℕ) (b : Builder) → made_world header_world next t h o v ≡ Some b → v < more
+  inside_made o v b e = ((stored o).inside v b e).1
     where
       header : IsWorld header_world first more
       header = world_given w first next more next (builder t h Header) is_world (omega (arith, grows)) is_world.room grows
 
-      stored : (y : Bool) → IsWorld (made_world header_world next y (builder t h (Made pc))) first more
-      stored true = world_given header_world first more more next (builder t h (Made pc)) header (omega arith) is_world.room grows
-      stored false = world_finished header_world first more more next header (omega arith)
+      stored : (o : Option Item) → IsWorld (made_world header_world next t h o) first more
+      stored (Some y) = world_given header_world first more more next (builder t h y) header (omega arith) is_world.room grows
+      stored None = world_finished header_world first more more next header (omega arith)
 
-  -- the frame with the object pushed
-  pub made_pushed : (f : Frame) (k : FrameKeeps c frozen w next t h Runs f) (type : VType) → OneOf (edges k.stands.insn) k.stands.insn.next → AreBehind pc k.stands.types → (row_at c f k.stands).gives ≡ Anew type ∷ [] → (row_at c f k.stands).writes ≡ None
-      → type ≢ types.This → SlotByType (IsFinished stored_world more) (IsFresh stored_world t h Runs) (makes_frozen frozen k.stands.method) type next → AllByRecursion StartsNone (row_at c f k.stands).takes
-      → FrameKeeps c frozen stored_world more t h Runs (record f { pc = k.stands.insn.next; stack = next ∷ drop (length (row_at c f k.stands).takes) f.stack })
-  unfolding frame_renewed
-  made_pushed f k type edge behind gives writes other slot none =
-      subst (λ (g : Frame). FrameKeeps c frozen stored_world more t h Runs g) same
-      (goes_old c marked frozen are stored_world more t h (old_made 0 null) (inside_made young) f (frame_renewed f k behind) k.stands.insn.next next edge (
-        subst (λ (xs : List Given). AllByRecursion (IsMade (SlotOf frozen stored_world more t h Runs k.stands.method f.receiver) next) xs) (sym gives) (made_slot (IsFinished stored_world more) (old_made 0 null) (IsFresh stored_world t h Runs) (builds frozen k.stands.method) (makes_frozen frozen k.stands.method) f.receiver (builds frozen k.stands.method) type next other slot, tt),
-        subst (λ (o : Option (ℕ × Given)). IsWriteMade (SlotOf frozen stored_world more t h Runs k.stands.method f.receiver) next o) (sym writes) tt,
-      )
-      (subst (StartsOld (makes_frozen frozen k.stands.method)) (sym (none_started k.stands.method.class (row_at c f k.stands).takes k.stands.types.stack none)) tt))
-    where
-      stack_is : stack_after 0 (λ t. next) (row_at c f k.stands) f.stack f.locals ≡ next ∷ drop (length (row_at c f k.stands).takes) f.stack
-      stack_is = ap (λ (xs : List Given). map (value_of 0 (λ t. next) f.stack f.locals) xs ++ drop (length (row_at c f k.stands).takes) f.stack) gives
+  -- ---- the frame with the object pushed
 
-      locals_are : locals_after 0 (λ t. next) (row_at c f k.stands).writes f.stack f.locals ≡ f.locals
-      locals_are = ap (λ (o : Option (ℕ × Given)). locals_after 0 (λ t. next) o f.stack f.locals) writes
+  module _ (f : Frame) (k : FrameKeeps c frozen owning w next t h Runs f) (type : VType) (edge : OneOf (edges k.stands.insn) k.stands.insn.next) (behind : AreBehind pc k.stands.types) (gives : (row_at c f k.stands).gives ≡ Anew type ∷ []) (writes : (row_at c f k.stands).writes ≡ None)
+      (none : AllByRecursion StartsNone (row_at c f k.stands).takes) (plain : puts_owned owning.owned k.stands.insn.op k.stands.target ≡ false) where
+    abbrev m : MethodInfo
+    m = k.stands.method
 
-      same : frame_on (row_at c f k.stands) k.stands.insn.next next f ≡ record f { pc = k.stands.insn.next; stack = next ∷ drop (length (row_at c f k.stands).takes) f.stack }
-      same = λ i. record f { pc = k.stands.insn.next; stack = stack_is i; locals = locals_are i }
+    abbrev r : OpRow
+    r = row_at c f k.stands
+
+    stack_is : stack_after 0 (λ t. next) (row_at c f k.stands) f.stack f.locals ≡ next ∷ drop (length (row_at c f k.stands).takes) f.stack
+    stack_is = ap (λ (xs : List Given). map (value_of 0 (λ t. next) f.stack f.locals) xs ++ drop (length (row_at c f k.stands).takes) f.stack) gives
+
+    locals_are : locals_after 0 (λ t. next) (row_at c f k.stands).writes f.stack f.locals ≡ f.locals
+    locals_are = ap (λ (o : Option (ℕ × Given)). locals_after 0 (λ t. next) o f.stack f.locals) writes
+
+    same : frame_on (row_at c f k.stands) k.stands.insn.next next f ≡ record f { pc = k.stands.insn.next; stack = next ∷ drop (length (row_at c f k.stands).takes) f.stack }
+    same = λ i. record f { pc = k.stands.insn.next; stack = stack_is i; locals = locals_are i }
+
+    nothing : started k.stands.method.class (row_at c f k.stands).takes k.stands.types.stack ≡ None
+    nothing = none_started k.stands.method.class (row_at c f k.stands).takes k.stands.types.stack none
+
+    pub made_pushed : LandsWell c marked frozen are owning owns false (frame_on (row_at c f k.stands) k.stands.insn.next next f) k.stands.method (frame_after k.stands.method (row_at c f k.stands) k.stands.types)
+        → type ≢ types.This → SlotByType (IsFinished stored_world more) (IsFresh stored_world t h Runs) (makes_frozen frozen k.stands.method) type next
+        → FrameKeeps c frozen owning stored_world more t h Runs (record f { pc = k.stands.insn.next; stack = next ∷ drop (length (row_at c f k.stands).takes) f.stack })
+    unfolding frame_renewed
+    made_pushed well other slot =
+        subst (λ (g : Frame). FrameKeeps c frozen owning stored_world more t h Runs g) same
+        (goes_old c marked frozen are owning owns stored_world more t h (old_made 0 null) (inside_made item) f (frame_renewed f k behind plain) k.stands.insn.next next edge plain well (
+          subst (λ (xs : List Given). AllByRecursion (IsMade (SlotOf frozen stored_world more t h Runs k.stands.method f.receiver) next) xs) (sym gives) (made_slot (IsFinished stored_world more) (old_made 0 null) (IsFresh stored_world t h Runs) (builds frozen k.stands.method) (makes_frozen frozen k.stands.method) f.receiver (builds frozen k.stands.method) type next other slot, tt),
+          subst (λ (o : Option (ℕ × Given)). IsWriteMade (SlotOf frozen stored_world more t h Runs k.stands.method f.receiver) next o) (sym writes) tt,
+        )
+        (subst (StartsOld (makes_frozen frozen k.stands.method)) (sym nothing) tt))
+
+    -- an array that is stored next
+    module _ (is_array : k.stands.insn.op ≡ ops.Newarray) where
+      abbrev before : TypeFrame
+      before = record { stack = stack_after types.Top (λ t. t) (row_at c f k.stands) k.stands.types.stack k.stands.types.locals; locals = locals_after types.Top (λ t. t) (row_at c f k.stands).writes k.stands.types.stack k.stands.types.locals; ready = k.stands.types.ready }
+
+      types_are : frame_after k.stands.method (row_at c f k.stands) k.stands.types ≡ record { stack = type ∷ drop (length (row_at c f k.stands).takes) k.stands.types.stack; locals = k.stands.types.locals; ready = k.stands.types.ready }
+      types_are =
+          ap (λ o. after_start o before) nothing
+          ∙ ap (λ (xs : List Given). record before { stack = map (value_of types.Top (λ t. t) k.stands.types.stack k.stands.types.locals) xs ++ drop (length (row_at c f k.stands).takes) k.stands.types.stack }) gives
+          ∙ ap (λ (o : Option (ℕ × Given)). record { stack = type ∷ drop (length (row_at c f k.stands).takes) k.stands.types.stack; locals = locals_after types.Top (λ t. t) o k.stands.types.stack k.stands.types.locals; ready = k.stands.types.ready }) writes
+
+      tags_are : tags_after k.stands.insn (row_at c f k.stands) k.stands.tags ≡ record { stack = Untagged ∷ drop (length (row_at c f k.stands).takes) k.stands.tags.stack; locals = k.stands.tags.locals; held = k.stands.tags.held }
+      tags_are =
+          ap (λ (op : Op). tags_by_op k.stands.insn.pc (row_at c f k.stands) op k.stands.tags.stack k.stands.tags) is_array
+          ∙ ap (λ (xs : List Given). record (moved_tags (row_at c f k.stands) k.stands.tags) { stack = map (value_of Untagged (λ t. Untagged) k.stands.tags.stack k.stands.tags.locals) xs ++ drop (length (row_at c f k.stands).takes) k.stands.tags.stack }) gives
+          ∙ ap (λ (o : Option (ℕ × Given)). record { stack = Untagged ∷ drop (length (row_at c f k.stands).takes) k.stands.tags.stack; locals = locals_after Untagged (λ t. Untagged) o k.stands.tags.stack k.stands.tags.locals; held = k.stands.tags.held }) writes
+
+      abbrev Slots : VType → Tag → ℕ → Type 0
+      Slots = SlotOf frozen stored_world more t h Runs k.stands.method f.receiver
+
+      abbrev Stack : TypeFrame → TagShape → List ℕ → Type 0
+      Stack a g vs = StackWith (SlotOf frozen stored_world more t h Runs k.stands.method f.receiver) (λ v. stored_world v ≡ Some (builder t h Unstored)) true a.stack g.stack vs
+
+      abbrev Locals : TypeFrame → TagShape → List ℕ → Type 0
+      Locals a g vs = SlotsAre (SlotOf frozen stored_world more t h Runs k.stands.method f.receiver) a.locals g.locals vs
+
+      pub made_unstored : LandsWell c marked frozen are owning owns true (frame_on (row_at c f k.stands) k.stands.insn.next next f) k.stands.method (frame_after k.stands.method (row_at c f k.stands) k.stands.types)
+          → stored_world next ≡ Some (builder t h Unstored) → FrameKeeps c frozen owning stored_world more t h Runs (record f { pc = k.stands.insn.next; stack = next ∷ drop (length (row_at c f k.stands).takes) f.stack })
+      made_unstored well is =
+          let edge_is : has_number (edges k.stands.insn) k.stands.insn.next ≡ true = number_in (edges k.stands.insn) k.stands.insn.next edge in
+          let n : ℕ = length (row_at c f k.stands).takes in
+          let stack : Stack (record { stack = type ∷ drop n k.stands.types.stack; locals = k.stands.types.locals; ready = k.stands.types.ready }) (record { stack = Untagged ∷ drop n k.stands.tags.stack; locals = k.stands.tags.locals; held = k.stands.tags.held }) (next ∷ drop n f.stack)
+          = (is, slots_drop (SlotOf frozen stored_world more t h Runs k.stands.method f.receiver) n k.stands.types.stack k.stands.tags.stack f.stack (stack_renewed f k behind plain)) in
+          subst (λ (g : Frame). FrameKeeps c frozen owning stored_world more t h Runs g) same
+          (land c marked frozen are owning owns stored_world more t h (old_made 0 null) true (frame_on (row_at c f k.stands) k.stands.insn.next next f) k.stands.method k.stands.frames k.stands.at.frames (frame_after k.stands.method (row_at c f k.stands) k.stands.types) (tags_after k.stands.insn (row_at c f k.stands) k.stands.tags)
+          k.stands.at.in_program k.stands.types_of_method k.stands.at.of_method
+          (edge_at k.stands.method (within c.program) k.stands.method.code k.stands.frames (frame_after k.stands.method (row_at c f k.stands) k.stands.types) (edges k.stands.insn) k.stands.insn.next (rules_at c marked f k.stands).sound.edges_fit edge)
+          (edge_fits c marked f k.stands k.stands.insn.next edge_is)
+          (joined_onward c marked frozen are owning owns f (frame_on (row_at c f k.stands) k.stands.insn.next next f) k.stands refl edge_is) well (receiver_made (builds frozen k.stands.method) f.receiver k.receiver)
+          (subst (λ (a : TypeFrame). Stack a (tags_after k.stands.insn (row_at c f k.stands) k.stands.tags) (stack_after 0 (λ t. next) (row_at c f k.stands) f.stack f.locals)) (sym types_are)
+          (subst (λ (g : TagShape). Stack (record { stack = type ∷ drop n k.stands.types.stack; locals = k.stands.types.locals; ready = k.stands.types.ready }) g (stack_after 0 (λ t. next) (row_at c f k.stands) f.stack f.locals)) (sym tags_are)
+          (subst (Stack (record { stack = type ∷ drop n k.stands.types.stack; locals = k.stands.types.locals; ready = k.stands.types.ready }) (record { stack = Untagged ∷ drop n k.stands.tags.stack; locals = k.stands.tags.locals; held = k.stands.tags.held })) (sym stack_is) stack)))
+          (subst (λ (a : TypeFrame). Locals a (tags_after k.stands.insn (row_at c f k.stands) k.stands.tags) (locals_after 0 (λ t. next) (row_at c f k.stands).writes f.stack f.locals)) (sym types_are)
+          (subst (λ (g : TagShape). Locals (record { stack = type ∷ drop n k.stands.types.stack; locals = k.stands.types.locals; ready = k.stands.types.ready }) g (locals_after 0 (λ t. next) (row_at c f k.stands).writes f.stack f.locals)) (sym tags_are)
+          (subst (Locals (record { stack = type ∷ drop n k.stands.types.stack; locals = k.stands.types.locals; ready = k.stands.types.ready }) (record { stack = Untagged ∷ drop n k.stands.tags.stack; locals = k.stands.tags.locals; held = k.stands.tags.held })) (sym locals_are) (locals_renewed f k behind plain)))))
 
 -- ---- in a frame
 
@@ -149,45 +240,142 @@ type_pc c f k q e =
     let all : AllByRecursion (IsFine (HasPc k.insn.pc) (no_pc k.insn.pc)) (Anew (types.New q) ∷ []) = subst (AllByRecursion (IsFine (HasPc k.insn.pc) (no_pc k.insn.pc))) e fine.0 in
     all.0 q refl
 
-module _ (c : MarkedProgram) (marked : IsMarked c) (frozen : ℕ → Bool) (are : AreFrozen c frozen) (w : World) (first next more t : ℕ) (is_world : IsWorld w first next) (null : IsFinished w next 0) (grows : next < more)
-    (f : Frame) (fs : List Frame) (k : FrameKeeps c frozen w next t (length fs) Runs f) (b : KeepBelow c frozen w next t f fs) where
+module _ (c : MarkedProgram) (marked : IsMarked c) (frozen : ℕ → Bool) (are : AreFrozen c frozen) (owning : Owning) (owns : AreOwned c owning.owned) (w : World) (first next more t : ℕ) (is_world : IsWorld w first next) (fine : StoresFine owning.stores next) (null : IsFinished w next 0) (grows : next < more)
+    (f : Frame) (fs : List Frame) (k : FrameKeeps c frozen owning w next t (length fs) Runs f) (b : KeepBelow c frozen owning w next t f fs) where
   -- the frames once the header is stored
-  made_frames : (pc : ℕ) (young : Bool) → FrameKeeps c frozen (stored_world c marked frozen are w first next more t (length fs) is_world null grows pc young) more t (length fs) Runs (record f { pc = k.stands.insn.next; stack = next ∷ drop (length (row_at c f k.stands).takes) f.stack })
-      → FramesKeep c frozen (stored_world c marked frozen are w first next more t (length fs) is_world null grows pc young) more t Runs (pushed next (making c.program (top_here c f fs k.stands)))
-  made_frames pc young top = (
+  made_frames : (pc : ℕ) (item : Option Item) (sort : IsNewItem pc item)
+      → FrameKeeps c frozen owning (stored_world c marked frozen are owning owns w first next more t (length fs) is_world null grows pc item sort) more t (length fs) Runs (record f { pc = k.stands.insn.next; stack = next ∷ drop (length (row_at c f k.stands).takes) f.stack })
+      → FramesKeep c frozen owning (stored_world c marked frozen are owning owns w first next more t (length fs) is_world null grows pc item sort) more t Runs (pushed next (making c.program (top_here c f fs k.stands)))
+  made_frames pc item sort top = (
     top,
-    below_moved c frozen (stored_world c marked frozen are w first next more t (length fs) is_world null grows pc young) more t f k.stands.insn.next (next ∷ drop (length (row_at c f k.stands).takes) f.stack) f.locals fs
-        (below_kept c frozen w (stored_world c marked frozen are w first next more t (length fs) is_world null grows pc young) next more t (old_made c marked frozen are w first next more t (length fs) is_world null grows pc young) f fs
-        (λ i less v x e. keeps c marked frozen are w first next more t (length fs) is_world null grows pc young v i x e (λ s. (let z : i ≡ length fs = ap (λ (b : Builder). b.height) s in omega (arith, z, less))) (λ s. (let z : i ≡ length fs = ap (λ (b : Builder). b.height) s in omega (arith, z, less))) young) b),
+    below_moved c frozen owning (stored_world c marked frozen are owning owns w first next more t (length fs) is_world null grows pc item sort) more t f k.stands.insn.next (next ∷ drop (length (row_at c f k.stands).takes) f.stack) f.locals fs
+        (below_kept c frozen owning w (stored_world c marked frozen are owning owns w first next more t (length fs) is_world null grows pc item sort) next more t (old_made c marked frozen are owning owns w first next more t (length fs) is_world null grows pc item sort) f fs
+        (λ i less v x e. keeps c marked frozen are owning owns w first next more t (length fs) is_world null grows pc item sort v i x e (λ s. (let z : i ≡ length fs = ap (λ (b : Builder). b.height) s in omega (arith, z, less))) item (λ y is s. (let z : i ≡ length fs = ap (λ (b : Builder). b.height) s in omega (arith, z, less)))) b),
   )
 
+  -- what is made is new, and was stored nowhere
+  made_well : (type : VType) → is_getfield k.stands.insn.op ≡ false → (row_at c f k.stands).gives ≡ Anew type ∷ [] → (row_at c f k.stands).writes ≡ None
+      → IsMadeWell c marked owning.stores fine.null f k.stands.number k.stands.method k.stands.insn k.stands.target k.stands.tags k.stands.at next
+  made_well type op gives writes = record { read = λ fi reads word is. absurd (no_read fi k.stands.insn.op k.stands.target op reads.1); other = λ none. (subst (AllByRecursion (GivenClean owning.stores next)) (sym gives) (new type, tt), written); written = written }
+    where
+      no_read : (fi : ℕ) (op : Op) (target : Target) → is_getfield op ≡ false → is_read_of fi op target ≡ true → ⊥
+      no_read fi (ops.Getfield i) target e h = (let bad : true ≡ false = e in cc)
+      no_read fi op target e h = (let bad : false ≡ true = h in cc)
+
+      new : (type : VType) → IsNoStored owning.stores type next
+      new types.Int = tt
+      new types.Top = tt
+      new types.Null = fine.fresh next (omega arith)
+      new (types.Ref class) = fine.fresh next (omega arith)
+      new types.This = fine.fresh next (omega arith)
+      new (types.New q) = fine.fresh next (omega arith)
+
+      written : WriteClean owning.stores next (row_at c f k.stands).writes
+      written = subst (WriteClean owning.stores next) (sym writes) tt
+
+  -- by what follows
+  module _ (type : VType) (edge : OneOf (edges k.stands.insn) k.stands.insn.next) (gives : (row_at c f k.stands).gives ≡ Anew type ∷ []) (writes : (row_at c f k.stands).writes ≡ None) (none : AllByRecursion StartsNone (row_at c f k.stands).takes)
+      (get : is_getfield k.stands.insn.op ≡ false) (put : is_putfield k.stands.insn.op ≡ false) where
+    plain : puts_owned owning.owned k.stands.insn.op k.stands.target ≡ false
+    plain = stores_none owning.owned k.stands.insn.op k.stands.target put
+
+    edge_is : has_number (edges k.stands.insn) k.stands.insn.next ≡ true
+    edge_is = number_in (edges k.stands.insn) k.stands.insn.next edge
+
+    pub usual_well : is_newarray k.stands.insn.op ≡ false → LandsWell c marked frozen are owning owns false (frame_on (row_at c f k.stands) k.stands.insn.next next f) k.stands.method (frame_after k.stands.method (row_at c f k.stands) k.stands.types)
+    usual_well op = goes_plain c marked frozen owning fine.null w next t (length fs) f k are owns k.stands.insn.next next edge_is (made_well type get gives writes) op
+
+    makes_as : (pc : ℕ) (item : Option Item) (sort : IsNewItem pc item) → AreBehind pc k.stands.types
+        → LandsWell c marked frozen are owning owns false (frame_on (row_at c f k.stands) k.stands.insn.next next f) k.stands.method (frame_after k.stands.method (row_at c f k.stands) k.stands.types)
+        → type ≢ types.This
+        → SlotByType (IsFinished (stored_world c marked frozen are owning owns w first next more t (length fs) is_world null grows pc item sort) more) (IsFresh (stored_world c marked frozen are owning owns w first next more t (length fs) is_world null grows pc item sort) t (length fs) Runs) (makes_frozen frozen k.stands.method) type next
+        → MadeKeeps c frozen owning (with_builder w next (builder t (length fs) Header)) more t next (length fs) (making c.program (top_here c f fs k.stands))
+    makes_as pc item sort behind well other slot = record {
+      item = item;
+      not_begun = new_item pc item sort;
+      now = given_here w next (builder t (length fs) Header);
+      keep = made_frames pc item sort (made_pushed c marked frozen are owning owns w first next more t (length fs) is_world null grows pc item sort f k type edge behind gives writes none plain well other slot);
+    }
+
+    makes_unstored : (is_array : k.stands.insn.op ≡ ops.Newarray)
+        → LandsWell c marked frozen are owning owns true (frame_on (row_at c f k.stands) k.stands.insn.next next f) k.stands.method (frame_after k.stands.method (row_at c f k.stands) k.stands.types)
+        → MadeKeeps c frozen owning (with_builder w next (builder t (length fs) Header)) more t next (length fs) (making c.program (top_here c f fs k.stands))
+    makes_unstored is_array well =
+        let sort : IsNewItem k.stands.insn.pc (Some Unstored) = λ x e. inr (same x e) in
+        record {
+          item = Some Unstored;
+          not_begun = λ e. cc;
+          now = given_here w next (builder t (length fs) Header);
+          keep = made_frames k.stands.insn.pc (Some Unstored) sort
+              (made_unstored c marked frozen are owning owns w first next more t (length fs) is_world null grows k.stands.insn.pc (Some Unstored) sort f k type edge (rules_at c marked f k.stands).behind gives writes none plain is_array well
+              (here c marked frozen are owning owns w first next more t (length fs) is_world null grows k.stands.insn.pc (Some Unstored) sort (Some Unstored)));
+        }
+      where
+        same : (x : Item) → Some Unstored ≡ Some x → x ≡ Unstored
+        same x e = cc
+
+  no_item : (pc : ℕ) → IsNewItem pc None
+  no_item pc x e = absurd (cc)
+
+  abbrev item_of : (pc : ℕ) → Bool → Option Item
+  item_of q true = Some (Made q)
+  item_of q false = None
+
+  sort_of : (q : ℕ) (y : Bool) → IsNewItem q (item_of q y)
+  sort_of q true x e = inl (let same : Made q ≡ x = cc in sym same)
+  sort_of q false x e = absurd (cc)
+
   pub makes_it : (type : VType) (word size : ℕ) → OneOf (edges k.stands.insn) k.stands.insn.next → (row_at c f k.stands).gives ≡ Anew type ∷ [] → (row_at c f k.stands).writes ≡ None → MadeAs c.program k.stands.method type word size
-      → AllByRecursion StartsNone (row_at c f k.stands).takes → MadeKeeps c frozen (with_builder w next (builder t (length fs) Header)) more t next (length fs) (making c.program (top_here c f fs k.stands))
-  makes_it (types.New q) word size edge gives writes sort none = by_young (makes_frozen frozen k.stands.method q) refl
+      → AllByRecursion StartsNone (row_at c f k.stands).takes → (is_getfield k.stands.insn.op ≡ false) × (is_putfield k.stands.insn.op ≡ false) → MadeKeeps c frozen owning (with_builder w next (builder t (length fs) Header)) more t next (length fs) (making c.program (top_here c f fs k.stands))
+  makes_it (types.New q) word size edge gives writes sort none op = by_young (makes_frozen frozen k.stands.method q) refl
     where
       behind : AreBehind q k.stands.types
       behind = subst (λ (pc : ℕ). AreBehind pc k.stands.types) (sym (type_pc c f k.stands q gives)) (rules_at c marked f k.stands).behind
 
-      by_young : (y : Bool) → makes_frozen frozen k.stands.method q ≡ y → MadeKeeps c frozen (with_builder w next (builder t (length fs) Header)) more t next (length fs) (making c.program (top_here c f fs k.stands))
-      by_young y e = record {
-        pc = q;
-        young = y;
-        now = given_here w next (builder t (length fs) Header);
-        keep = made_frames q y (made_pushed c marked frozen are w first next more t (length fs) is_world null grows q y f k (types.New q) edge behind gives writes (λ s. cc) (slot y e) none);
-      }
+      well : LandsWell c marked frozen are owning owns false (frame_on (row_at c f k.stands) k.stands.insn.next next f) k.stands.method (frame_after k.stands.method (row_at c f k.stands) k.stands.types)
+      well = usual_well (types.New q) edge gives writes none op.0 op.1 (no_array k.stands.insn.op gives)
+        where
+          no_array : (x : Op) → (row c.program k.stands.method k.stands.insn.pc k.stands.target x).gives ≡ Anew (types.New q) ∷ [] → is_newarray x ≡ false
+          no_array ops.Newarray e = absurd (cc)
+          no_array x e = refl
+
+      by_young : (y : Bool) → makes_frozen frozen k.stands.method q ≡ y → MadeKeeps c frozen owning (with_builder w next (builder t (length fs) Header)) more t next (length fs) (making c.program (top_here c f fs k.stands))
+      by_young y e = makes_as (types.New q) edge gives writes none op.0 op.1 q (item_of q y) (sort_of q y) behind well (λ s. cc) (slot y e)
         where
           slot : (y : Bool) → makes_frozen frozen k.stands.method q ≡ y
-              → if_so (makes_frozen frozen k.stands.method q) (stored_world c marked frozen are w first next more t (length fs) is_world null grows q y next ≡ Some (builder t (length fs) (Made q))) (IsFinished (stored_world c marked frozen are w first next more t (length fs) is_world null grows q y) more next)
-          slot true e = rw e (here c marked frozen are w first next more t (length fs) is_world null grows q true true)
-          slot false e = rw e (grows, here c marked frozen are w first next more t (length fs) is_world null grows q false false)
-  makes_it (types.Ref class) word size edge gives writes sort none = record {
-    pc = k.stands.insn.pc;
-    young = false;
-    now = given_here w next (builder t (length fs) Header);
-    keep = made_frames k.stands.insn.pc false (made_pushed c marked frozen are w first next more t (length fs) is_world null grows k.stands.insn.pc false f k (types.Ref class) edge (rules_at c marked f k.stands).behind gives writes (λ s. cc)
-        (grows, here c marked frozen are w first next more t (length fs) is_world null grows k.stands.insn.pc false false) none);
-  }
-  makes_it types.Int word size edge gives writes sort none = absurd sort
-  makes_it types.Null word size edge gives writes sort none = absurd sort
-  makes_it types.This word size edge gives writes sort none = absurd sort
-  makes_it types.Top word size edge gives writes sort none = absurd sort
+              → if_so (makes_frozen frozen k.stands.method q) (stored_world c marked frozen are owning owns w first next more t (length fs) is_world null grows q (item_of q y) (sort_of q y) next ≡ Some (builder t (length fs) (Made q))) (IsFinished (stored_world c marked frozen are owning owns w first next more t (length fs) is_world null grows q (item_of q y) (sort_of q y)) more next)
+          slot true e = rw e (here c marked frozen are owning owns w first next more t (length fs) is_world null grows q (item_of q true) (sort_of q true) (Some (Made q)))
+          slot false e = rw e (grows, here c marked frozen are owning owns w first next more t (length fs) is_world null grows q (item_of q false) (sort_of q false) None)
+  makes_it (types.Ref class) word size edge gives writes sort none op = by_op (is_newarray k.stands.insn.op) refl
+    where
+      array : is_newarray k.stands.insn.op ≡ true → k.stands.insn.op ≡ ops.Newarray
+      array e = by_name k.stands.insn.op e
+        where
+          by_name : (x : Op) → is_newarray x ≡ true → x ≡ ops.Newarray
+          by_name ops.Newarray e = refl
+          by_name x e = absurd (let bad : false ≡ true = e in cc)
+
+      finished_one : LandsWell c marked frozen are owning owns false (frame_on (row_at c f k.stands) k.stands.insn.next next f) k.stands.method (frame_after k.stands.method (row_at c f k.stands) k.stands.types)
+          → MadeKeeps c frozen owning (with_builder w next (builder t (length fs) Header)) more t next (length fs) (making c.program (top_here c f fs k.stands))
+      finished_one well = makes_as (types.Ref class) edge gives writes none op.0 op.1 k.stands.insn.pc None (no_item k.stands.insn.pc) (rules_at c marked f k.stands).behind well (λ s. cc)
+          (grows, here c marked frozen are owning owns w first next more t (length fs) is_world null grows k.stands.insn.pc None (no_item k.stands.insn.pc) None)
+
+      by_op : (b : Bool) → is_newarray k.stands.insn.op ≡ b → MadeKeeps c frozen owning (with_builder w next (builder t (length fs) Header)) more t next (length fs) (making c.program (top_here c f fs k.stands))
+      by_op false e = finished_one (usual_well (types.Ref class) edge gives writes none op.0 op.1 e)
+      by_op true e = by_puts after.0 after.1
+        where
+          after : (puts : Bool) × ((j : ℕ) (other : Insn) (target : Target) (u : TagShape) → IsAt c.program (tags_of c) f.method j k.stands.method other target u → other.pc ≡ k.stands.insn.next → puts_owned owning.owned other.op target ≡ puts)
+          after = next_puts c marked owning owns f.method k.stands.number k.stands.method k.stands.insn k.stands.at.in_program k.stands.at.in_code
+
+          well : (puts : Bool) → ((j : ℕ) (other : Insn) (target : Target) (u : TagShape) → IsAt c.program (tags_of c) f.method j k.stands.method other target u → other.pc ≡ k.stands.insn.next → puts_owned owning.owned other.op target ≡ puts)
+              → LandsWell c marked frozen are owning owns puts (frame_on (row_at c f k.stands) k.stands.insn.next next f) k.stands.method (frame_after k.stands.method (row_at c f k.stands) k.stands.types)
+          well puts put = goes_well c marked frozen owning fine.null w next t (length fs) f k are owns k.stands.insn.next next (number_in (edges k.stands.insn) k.stands.insn.next edge) (made_well (types.Ref class) op.0 gives writes) puts put
+
+          by_puts : (puts : Bool) → ((j : ℕ) (other : Insn) (target : Target) (u : TagShape) → IsAt c.program (tags_of c) f.method j k.stands.method other target u → other.pc ≡ k.stands.insn.next → puts_owned owning.owned other.op target ≡ puts)
+              → MadeKeeps c frozen owning (with_builder w next (builder t (length fs) Header)) more t next (length fs) (making c.program (top_here c f fs k.stands))
+          by_puts true put = makes_unstored (types.Ref class) edge gives writes none op.0 op.1 (array e) (well true put)
+          by_puts false put = finished_one (well false put)
+  makes_it types.Int word size edge gives writes sort none op = absurd sort
+  makes_it types.Null word size edge gives writes sort none op = absurd sort
+  makes_it types.This word size edge gives writes sort none op = absurd sort
+  makes_it types.Top word size edge gives writes sort none op = absurd sort

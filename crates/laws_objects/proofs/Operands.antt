@@ -5,10 +5,10 @@ use Rattle.lists.proofs.TestLaws.{is_true}
 use Rattle.jvm_types.specs.{CodeTable.{put_row, row}, Types.is_below, Verifying.{suits, some_taken}, declared.{code.Op.Op, op_row.Want.Want}}
 use Rattle.jvm_types.specs.declared.{op_row.Want.TheVariants.{AnyValue, AnInt, AnObject, AnyReference, AHolder, ToStart}, program.{FieldInfo.FieldInfo, MethodInfo.MethodInfo, Program.Program}}
 use Rattle.jvm_types.specs.declared.{program.Target.Target, typing.VType.VType}
-use Rattle.checked_program.specs.{FrozenPlaces.may_take, MarkedProgram.{MarkedProgram, IsMarked}, declared.tag.Tag.{Tag, TheVariants.{Untagged, This}}}
-use Rattle.machine_types.specs.{Construction.{AreFrozen, builds, makes_frozen, SlotByType, SlotIs, SlotsAre, Runs, IsFresh, FrameKeeps}, Standing.{Standing, row_at}, Threads.Frame}
+use Rattle.checked_program.specs.{FrozenPlaces.may_take, MarkedProgram.{MarkedProgram, IsMarked}, OwnedArrays.may_take_array, declared.tag.Tag.{Tag, TheVariants.{Untagged, This}}}
+use Rattle.machine_types.specs.{Construction.{Owning, AreOwned, puts_owned, AreFrozen, builds, makes_frozen, SlotByType, SlotIs, SlotsAre, Runs, IsFresh, FrameKeeps}, Standing.{Standing, row_at}, Threads.Frame}
 use Rattle.machine_types.specs.Worlds.{World, IsFinished}
-use Rattle.laws_objects.proofs.{Landing.inside_at, Moves.{Suit, suit_at}, Slots.plainly}
+use Rattle.laws_objects.proofs.{KeptFrames.plain_stack, Landing.inside_at, Moves.{Suit, suit_at}, Slots.plainly}
 use Rattle.jvm_types.specs.declared.code.Op.TheVariants as ops
 use Rattle.jvm_types.specs.declared.program.Target.TheVariants as targets
 use Rattle.jvm_types.specs.declared.typing.VType.TheVariants as types
@@ -69,6 +69,14 @@ object_at [] k = false
 object_at (want ∷ wants) zero = is_object want
 object_at (want ∷ wants) (suc k) = object_at wants k
 
+-- an instruction that may take an array of an owned field as an object
+abbrev pub takes_any : Op → Bool
+takes_any (ops.Getfield i) = true
+takes_any ops.Iaload = true
+takes_any ops.Iastore = true
+takes_any ops.Arraylength = true
+takes_any op = false
+
 abbrev pub is_getfield : Op → Bool
 is_getfield (ops.Getfield i) = true
 is_getfield op = false
@@ -106,6 +114,24 @@ module _ (p : Program) (m : MethodInfo) (pc class : ℕ) where
   object_free (ops.Invokespecial i) (targets.Init started) (suc k) g e = absurd (cc)
   object_free op target k g e = refl
 
+  pub array_free : (op : Op) (target : Target) (k : ℕ) → takes_any op ≡ false → object_at (row p m pc target op).takes k ≡ true → may_take_array op k ≡ false
+  array_free ops.Dup target k g e = absurd (let z = any_one k in cc)
+  array_free ops.DupX1 target k g e = absurd (let z = any_two k in cc)
+  array_free ops.DupX2 target k g e = absurd (let z = any_three k in cc)
+  array_free ops.Dup2 target k g e = absurd (let z = any_two k in cc)
+  array_free ops.Swap target k g e = absurd (let z = any_two k in cc)
+  array_free ops.Pop target k g e = absurd (let z = any_one k in cc)
+  array_free ops.Pop2 target k g e = absurd (let z = any_two k in cc)
+  array_free ops.Iaload target k g e = absurd (cc)
+  array_free ops.Iastore target k g e = absurd (cc)
+  array_free ops.Arraylength target k g e = absurd (cc)
+  array_free op target k g e = refl
+
+-- a `getfield` is among them
+pub no_getfield : (op : Op) → takes_any op ≡ false → is_getfield op ≡ false
+no_getfield (ops.Getfield i) e = absurd (cc)
+no_getfield op e = refl
+
 takes_no_this : (wants : List Want) (gs : List Tag) → ((k : ℕ) → k < length wants → object_at wants k ≡ true → slice_index_or gs k Untagged ≢ This) → TakesNoThis wants gs
 takes_no_this [] gs f = tt
 takes_no_this (want ∷ wants) [] f = tt
@@ -119,15 +145,15 @@ takes_no_this (want ∷ wants) (g ∷ gs) f = (one want (λ e. f 0 (omega arith)
     one (AHolder class) f = tt
     one (ToStart class) f = tt
 
-module _ (c : MarkedProgram) (marked : IsMarked c) (frozen : ℕ → Bool) (are : AreFrozen c frozen) where
+module _ (c : MarkedProgram) (marked : IsMarked c) (frozen : ℕ → Bool) (are : AreFrozen c frozen) (owning : Owning) (owns : AreOwned c owning.owned) where
   own_takes_no_this : (f : Frame) (k : Standing c f) → is_getfield k.insn.op ≡ false → builds frozen k.method ≡ true → TakesNoThis (row_at c f k).takes k.tags.stack
   own_takes_no_this f k get own =
       takes_no_this (row_at c f k).takes k.tags.stack
-      (λ n l e this. (let may = (inside_at c marked frozen are f k own).taken k.number k.insn k.target k.tags k.at n l this in
+      (λ n l e this. (let may = (inside_at c marked frozen are owning owns f k own).taken k.number k.insn k.target k.tags k.at n l this in
       let free = object_free c.program k.method k.insn.pc k.method.class k.insn.op k.target n get e in cc))
 
   -- so each object that is taken is finished
-  pub takes_old : (w : World) (next t h : ℕ) (f : Frame) (k : FrameKeeps c frozen w next t h Runs f) → IsFinished w next 0 → is_getfield k.stands.insn.op ≡ false → TakenOld (IsFinished w next) (row_at c f k.stands).takes f.stack
-  takes_old w next t h f k null get =
+  pub takes_old : (w : World) (next t h : ℕ) (f : Frame) (k : FrameKeeps c frozen owning w next t h Runs f) → IsFinished w next 0 → is_getfield k.stands.insn.op ≡ false → puts_owned owning.owned k.stands.insn.op k.stands.target ≡ false → TakenOld (IsFinished w next) (row_at c f k.stands).takes f.stack
+  takes_old w next t h f k null get plain =
       taken_old k.stands.method (IsFinished w next) null (IsFresh w t h Runs) (builds frozen k.stands.method) (makes_frozen frozen k.stands.method) f.receiver (row_at c f k.stands).takes k.stands.types.stack k.stands.tags.stack f.stack
-      (λ own. own_takes_no_this f k.stands get own) (suit_at c marked f k.stands) k.stack
+      (λ own. own_takes_no_this f k.stands get own) (suit_at c marked f k.stands) (plain_stack c frozen owning w next t h f k plain)

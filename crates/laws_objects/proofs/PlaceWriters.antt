@@ -89,11 +89,12 @@ pub record IsWriter (IsSuch : Frame → Type 0) (x : Thread) : Type 0 where
   pub runs : x.phase ≡ phases.Run
   pub top : TopWrites IsSuch x.frames
 
+-- or one that stores an element, which gives Stored
 module _ (differ : SitesDiffer) (c : MarkedProgram) (objects : List Object) (s : Core) (t : ℕ) (x : Thread) (marked : IsMarked c) (heap : HeapFacts c objects s) (there : slice_get s.threads t ≡ Some x)
-    (place : Site) (is_place : IsPlace place) (is_there : IsThere c.program objects s place) (IsSuch : Frame → Type 0)
+    (place : Site) (is_place : IsPlace place) (is_there : IsThere c.program objects s place) (IsSuch : Frame → Type 0) (Stored : Type 0)
     (writes : (f : Frame) (k : Standing c f) (v : Variable) (n : ℕ) (e : effect c.program k.insn.next k.target k.insn.op f.locals f.stack ≡ Writes v n) (g : FieldInfo) → IsNamedField c.program (HasClass objects) k.target v g
     → variable_word v ≡ site_word place → IsSuch f)
-    (no_element : (fs : List Frame) (w v : ℕ) → FramesHold c (HasClass objects) fs → TopIs c (is_element_op (Some v)) fs → HasElementIn objects (Some v) fs → ElementStands w (Some v) fs → w ≡ site_word place → ⊥) where
+    (stores : (w v : ℕ) → x.phase ≡ phases.Element w (Some v) → FramesHold c (HasClass objects) x.frames → TopIs c (is_element_op (Some v)) x.frames → HasElementIn objects (Some v) x.frames → ElementStands w (Some v) x.frames → w ≡ site_word place → Stored) where
   -- ---- an instruction
 
   module _ (access : Access) (got : ℕ) (word : accessed access ≡ site_word place) where
@@ -117,16 +118,16 @@ module _ (differ : SitesDiffer) (c : MarkedProgram) (objects : List Object) (s :
     -- ---- all phases
 
     phase_writes : (phase : Phase) → x.phase ≡ phase → wanted c x phase ≡ Some access → IsOfPlace (content_at c x phase) → PhaseHolds c (HasClass objects) phase x.frames
-        → ((w v : ℕ) → phase ≡ phases.Element w (Some v) → TopIs c (is_element_op (Some v)) x.frames) → (left_by access got ≡ got) ⊎ IsWriter IsSuch x
+        → ((w v : ℕ) → phase ≡ phases.Element w (Some v) → TopIs c (is_element_op (Some v)) x.frames) → (left_by access got ≡ got) ⊎ IsWriter IsSuch x ⊎ Stored
     phase_writes phases.Run e w is h top = by_top (run_writes x.frames h w is)
       where
-        by_top : (left_by access got ≡ got) ⊎ TopWrites IsSuch x.frames → (left_by access got ≡ got) ⊎ IsWriter IsSuch x
+        by_top : (left_by access got ≡ got) ⊎ TopWrites IsSuch x.frames → (left_by access got ≡ got) ⊎ IsWriter IsSuch x ⊎ Stored
         by_top (inl same) = inl same
-        by_top (inr k) = inr (record { runs = e; top = k })
+        by_top (inr k) = inr (inl (record { runs = e; top = k }))
     phase_writes (phases.Element n None) e w is h top = inl (loaded (λ n. n ≡ got) access got refl n w)
     phase_writes (phases.Element n (Some v)) e w is h top =
         let same : Store n v ≡ access = same_some w in
-        absurd (no_element x.frames n v h.1 (top n v refl) (heap.typed.elements t x n (Some v) there e) h.0 (ap accessed same ∙ word))
+        inr (inr (stores n v e h.1 (top n v refl) (heap.typed.elements t x n (Some v) there e) h.0 (ap accessed same ∙ word)))
     phase_writes (phases.Leave m after) e w is h top = absurd (leave_of_none (claim x m) is)
     phase_writes phase e w is h top = absurd is
 
@@ -142,16 +143,45 @@ module _ (differ : SitesDiffer) (c : MarkedProgram) (objects : List Object) (s :
         let stands : Stands c (phases.Element w (Some v)) x.frames x.held x.attempt = subst (λ (phase : Phase). Stands c phase x.frames x.held x.attempt) k.is_as structured.stands in
         stands.phase_shows
 
-    by_left : IsLeft c s.words x place → Stays ⊎ IsWriter IsSuch x
+    by_left : IsLeft c s.words x place → Stays ⊎ IsWriter IsSuch x ⊎ Stored
     by_left k = by_write (phase_writes k.access (slice_index s.words (site_word place)) k.word x.phase refl k.wants (place_suits (content_at c x x.phase) place is_place k.suits) (heap.typed.threads t x there).phase at_element)
       where
-        by_write : (left_by k.access (slice_index s.words (site_word place)) ≡ slice_index s.words (site_word place)) ⊎ IsWriter IsSuch x → Stays ⊎ IsWriter IsSuch x
+        by_write : (left_by k.access (slice_index s.words (site_word place)) ≡ slice_index s.words (site_word place)) ⊎ IsWriter IsSuch x ⊎ Stored → Stays ⊎ IsWriter IsSuch x ⊎ Stored
         by_write (inl e) = inl (k.left ∙ e)
-        by_write (inr writer) = inr writer
+        by_write (inr wrote) = inr wrote
 
-    pub place_writer : Stays ⊎ IsWriter IsSuch x
-    place_writer = by_word (word_at (heap_mover c marked objects s heap t x there lawful) (known_sites differ inside reach) place is_there)
+    pub place_changer : Stays ⊎ IsWriter IsSuch x ⊎ Stored
+    place_changer = by_word (word_at (heap_mover c marked objects s heap t x there lawful) (known_sites differ inside reach) place is_there)
       where
-        by_word : Stays ⊎ IsLeft c s.words x place → Stays ⊎ IsWriter IsSuch x
+        by_word : Stays ⊎ IsLeft c s.words x place → Stays ⊎ IsWriter IsSuch x ⊎ Stored
         by_word (inl e) = inl e
         by_word (inr k) = by_left k
+
+-- of a place that is no element
+module _ (differ : SitesDiffer) (c : MarkedProgram) (objects : List Object) (s : Core) (t : ℕ)
+    (x : Thread) (marked : IsMarked c) (heap : HeapFacts c objects s)
+    (there : slice_get s.threads t ≡ Some x)
+    (place : Site) (is_place : IsPlace place) (is_there : IsThere c.program objects s place)
+    (IsSuch : Frame → Type 0)
+    (writes : (f : Frame) (k : Standing c f) (v : Variable) (n : ℕ)
+    (e : effect c.program k.insn.next k.target k.insn.op f.locals f.stack ≡ Writes v n)
+    (g : FieldInfo) → IsNamedField c.program (HasClass objects) k.target v g
+    → variable_word v ≡ site_word place → IsSuch f)
+    (no_element : (fs : List Frame) (w v : ℕ) → FramesHold c (HasClass objects) fs
+    → TopIs c (is_element_op (Some v)) fs → HasElementIn objects (Some v) fs
+    → ElementStands w (Some v) fs → w ≡ site_word place → ⊥)
+    (inside : SitesLieInside) (reach : EventsReachSites) (lawful : IsLawful c x) (was : Phase)
+    (structured : IsStructured c was x) where
+  pub place_writer : (slice_index (words_after s.words (wanted c x x.phase))
+      (site_word place) ≡ slice_index s.words (site_word place)) ⊎ IsWriter IsSuch x
+  place_writer = by_change (place_changer differ c objects s t x marked heap there place is_place
+      is_there IsSuch ⊥ writes (λ w v e. no_element x.frames w v) inside reach lawful was
+      structured)
+    where
+      by_change : (slice_index (words_after s.words (wanted c x x.phase))
+          (site_word place) ≡ slice_index s.words (site_word place)) ⊎ IsWriter IsSuch x ⊎ ⊥
+          → (slice_index (words_after s.words (wanted c x x.phase))
+          (site_word place) ≡ slice_index s.words (site_word place)) ⊎ IsWriter IsSuch x
+      by_change (inl e) = inl e
+      by_change (inr (inl writer)) = inr writer
+      by_change (inr (inr none)) = absurd none

@@ -6,17 +6,17 @@ use Rattle.jvm_types.specs.{Members.is_static, ProgramInvariant.{IsProgram, word
 use Rattle.jvm_types.specs.declared.{fixed_words.TheConstants.{NEXT_FREE_WORD, NEXT_TICKET_WORD}, op_row.OpRow.OpRow, program.{FieldInfo.FieldInfo, Kind.Kind, MethodInfo.MethodInfo, Target.Target}}
 use Rattle.laws_programs.proofs.{ClassTreeLaws.files_alone, FieldOrder.{instances_inside, one_instance_field, one_static_field}}
 use Rattle.checked_program.specs.MarkedProgram.{MarkedProgram, IsMarked}
-use Rattle.machine_types.specs.{Accesses.words_after, Construction.{ThreadKeeps, KindKeeps, PlacesKeep}, Core.Core, Elision.looks, Events.element_wants}
+use Rattle.machine_types.specs.{Accesses.words_after, Construction.{Owning, KindKeeps, PlaceStores, PlacesKeep}, Core.Core, Elision.looks, Events.element_wants}
 use Rattle.machine_types.specs.{FoundWords.{Content, IntPlace, ReferencePlace, leave_content}, Instructions.{has_print_left, effect_wants}, Monitors.{Claim, Has, Tries, HasNot}, NewObjects.size_by}
-use Rattle.machine_types.specs.{PlainMemory.{Object, new_object}, StartLaws.StartLiesApart, Threads.{Attempt, Thread}, Typed.HasClass}
+use Rattle.machine_types.specs.{OwnedPlaces.Stores, PlainMemory.{Object, new_object}, StartLaws.StartLiesApart, Threads.{Attempt, Thread}, Typed.HasClass}
 use Rattle.machine_types.specs.{Words.{header_word, header_class, value_word, variable_word, object_size, array_size}, Worlds.{World, IsFinished, IsWorld, GoesOn}, declared.access.Access.Access}
 use Rattle.machine_types.specs.declared.{access.Access.TheVariants.{Load, Store, Cas, Add, Or, And, Rest}, effect.Effect.Effect}
 use Rattle.machine_types.specs.declared.effect.{Effect.TheVariants.{Goes, Reads, Writes, Indexes, Measures, Raises, Makes, Prints, Calls}, Variable.{Variable, TheVariants.{Instance, Static}}}
-use Rattle.machine_types.specs.declared.{lock.Kept.Kept, phase.Phase.Phase}
+use Rattle.machine_types.specs.declared.{lock.Kept.Kept}
 use Rattle.laws_threads.{specs.Allowed.{IsNamedField, Allowed}, proofs.MonitorMoves.contains_got}
 use Rattle.laws_states.specs.{HeapFacts.HeapFacts, Sites.{Site, Counter, OwnerOf, BitsOf, LockOf, HeaderOf, ValueOf, NewHeaderOf, StaticAt, site_word, IsThere, Suits, ReachesIf}}
-use Rattle.laws_states.proofs.{Accesses.ElementSite, Lists.{contained_got, same_or_not, set_here, set_there}, Places.same_object, Sites.{sites_apart, sites_inside}, WordViews.set_self}
-use Rattle.laws_objects.proofs.{BuiltEffects.{KindOld, Built}, InstructionMoves.IsOutside, Onwards.first_finished, Views.finished_on}
+use Rattle.laws_states.proofs.{Accesses.ElementSite, Lists.{contained_got, contains_more, same_or_not, set_here, set_there}, Places.same_object, Sites.{sites_apart, sites_inside}, WordViews.set_self}
+use Rattle.laws_objects.proofs.{BuiltEffects.KindOld, Onwards.first_finished, Views.finished_on}
 use Rattle.jvm_types.specs.declared.program.Kind.TheVariants as kinds
 use Rattle.machine_types.specs.Words as words
 use Rattle.machine_types.specs.declared.lock.Kept.TheVariants as keeps
@@ -37,15 +37,23 @@ leave_plain (Has h) = by_kept h.kept
 leave_plain (Tries a) = tt
 leave_plain HasNot = tt
 
-module _ (lies : StartLiesApart) (c : MarkedProgram) (marked : IsMarked c) (objects : List Object) (s : Core) (facts : HeapFacts c objects s) (w later : World) (more t : ℕ) (goes : GoesOn w later (slice_index s.words NEXT_FREE_WORD) more t 0)
-    (places : PlacesKeep c w (slice_index s.words NEXT_FREE_WORD) objects s.words) where
+-- own, after: what is owned, and what was stored before the event and behind it
+module _ (lies : StartLiesApart) (c : MarkedProgram) (marked : IsMarked c) (objects : List Object) (s : Core) (facts : HeapFacts c objects s) (own : Owning) (after : Stores) (w later : World) (more t : ℕ) (goes : GoesOn w later (slice_index s.words NEXT_FREE_WORD) more t 0)
+    (places : PlacesKeep c own w (slice_index s.words NEXT_FREE_WORD) objects s.words)
+    (on : (word : ℕ) (owned : Bool) (kind : Kind) (v : ℕ) → KindKeeps w (slice_index s.words NEXT_FREE_WORD) kind v → PlaceStores own.stores word owned kind v → PlaceStores after word owned kind v)
+    (arrays_are : (v word : ℕ) → after v ≡ Some word → (o : Object) × (Contains objects o) × (o.reference ≡ v) × (o.class ≡ INT_ARRAY_CLASS)) where
   is_program : IsProgram c.program
   is_program = marked.checked.program
 
+  -- what is said of the places behind the event
+  abbrev pub Behind : List ℕ → Type 0
+  Behind words = PlacesKeep c (record own { stores = after }) later more objects words
+
   -- what a word has to be where it stands
-  abbrev LeftKeeps : Site → (v : ℕ) → Type 0
-  LeftKeeps (ValueOf r i) v = (o : Object) (number : ℕ) (f : FieldInfo) → Contains objects o → slice_get c.program.fields number ≡ Some f → is_static f.flags ≡ false → o.class ≡ f.class → o.reference ≡ r → f.index ≡ i → KindKeeps later more f.kind v
-  LeftKeeps (StaticAt word) v = (number : ℕ) (f : FieldInfo) → slice_get c.program.fields number ≡ Some f → is_static f.flags ≡ true → f.index ≡ word → KindKeeps later more f.kind v
+  abbrev pub LeftKeeps : Site → (v : ℕ) → Type 0
+  LeftKeeps (ValueOf r i) v = (o : Object) (number : ℕ) (f : FieldInfo) → Contains objects o → slice_get c.program.fields number ≡ Some f → is_static f.flags ≡ false → o.class ≡ f.class → o.reference ≡ r → f.index ≡ i
+      → KindKeeps later more f.kind v × PlaceStores after (value_word o.reference f.index) (own.owned number) f.kind v
+  LeftKeeps (StaticAt word) v = (number : ℕ) (f : FieldInfo) → slice_get c.program.fields number ≡ Some f → is_static f.flags ≡ true → f.index ≡ word → KindKeeps later more f.kind v × PlaceStores after f.index false f.kind v
   LeftKeeps site v = Unit {0}
 
   kind_on : (kind : Kind) (v : ℕ) → KindKeeps w (slice_index s.words NEXT_FREE_WORD) kind v → KindKeeps later more kind v
@@ -53,19 +61,22 @@ module _ (lies : StartLiesApart) (c : MarkedProgram) (marked : IsMarked c) (obje
   kind_on kinds.Int v k = tt
   kind_on kinds.Bool v k = tt
 
-  old_kind : (kind : Kind) (v : ℕ) → KindOld (IsFinished w (slice_index s.words NEXT_FREE_WORD)) kind v → KindKeeps later more kind v
+  pub old_kind : (kind : Kind) (v : ℕ) → KindOld (IsFinished w (slice_index s.words NEXT_FREE_WORD)) kind v → KindKeeps later more kind v
   old_kind (kinds.Ref class) v k = finished_on w later (slice_index s.words NEXT_FREE_WORD) more t goes v k
   old_kind kinds.Int v k = tt
   old_kind kinds.Bool v k = tt
 
-  pub same_words : PlacesKeep c later more objects s.words
+  pub same_words : Behind s.words
   same_words = record {
     fields = λ o number f k g n class. kind_on f.kind (slice_index s.words (value_word o.reference f.index)) (places.fields o number f k g n class);
     statics = λ number f g n. kind_on f.kind (slice_index s.words f.index) (places.statics number f g n);
+    arrays = λ o number f k g n class. on (value_word o.reference f.index) (own.owned number) f.kind (slice_index s.words (value_word o.reference f.index)) (places.fields o number f k g n class) (places.arrays o number f k g n class);
+    static_arrays = λ number f g n. on f.index false f.kind (slice_index s.words f.index) (places.statics number f g n) (places.static_arrays number f g n);
+    stored = arrays_are;
   }
 
-  pub loaded : (word : ℕ) → PlacesKeep c later more objects (words_after s.words (Some (Load word)))
-  loaded word = subst (PlacesKeep c later more objects) (sym (set_self s.words word)) same_words
+  pub loaded : (word : ℕ) → Behind (words_after s.words (Some (Load word)))
+  loaded word = subst Behind (sym (set_self s.words word)) same_words
 
   field_there : (o : Object) (number : ℕ) (f : FieldInfo) → Contains objects o → slice_get c.program.fields number ≡ Some f → is_static f.flags ≡ false → o.class ≡ f.class → f.index < length o.values
   field_there o number f k g n class =
@@ -82,19 +93,23 @@ module _ (lies : StartLiesApart) (c : MarkedProgram) (marked : IsMarked c) (obje
     there_to = subst (λ (n : ℕ). n < length s.words) (sym word_is) (sites_inside lies c objects s site marked facts there)
 
     -- at another site than this one the word stays
-    at : (kind : Kind) (mine : Site) → IsThere c.program objects s mine → KindKeeps later more kind (slice_index s.words (site_word mine)) → (LeftKeeps mine value → KindKeeps later more kind value) → KindKeeps later more kind (slice_index (slice_set s.words word value) (site_word mine))
-    at kind mine is old new = by_word (same_or_not (site_word mine) word)
+    at : (P : ℕ → Type 0) (mine : Site) → IsThere c.program objects s mine → P (slice_index s.words (site_word mine)) → (LeftKeeps mine value → P value) → P (slice_index (slice_set s.words word value) (site_word mine))
+    at P mine is old new = by_word (same_or_not (site_word mine) word)
       where
-        by_word : (site_word mine ≡ word) ⊎ (site_word mine ≢ word) → KindKeeps later more kind (slice_index (slice_set s.words word value) (site_word mine))
+        by_word : (site_word mine ≡ word) ⊎ (site_word mine ≢ word) → P (slice_index (slice_set s.words word value) (site_word mine))
         by_word (inl e) =
             let one : mine ≡ site = sites_apart lies c objects s mine site marked facts is there (e ∙ word_is) in
-            subst (KindKeeps later more kind) (sym (ap (slice_index (slice_set s.words word value)) e ∙ set_here s.words word value there_to)) (new (subst (λ (x : Site). LeftKeeps x value) (sym one) left))
-        by_word (inr n) = subst (KindKeeps later more kind) (sym (set_there s.words word (site_word mine) value n)) old
+            subst P (sym (ap (slice_index (slice_set s.words word value)) e ∙ set_here s.words word value there_to)) (new (subst (λ (x : Site). LeftKeeps x value) (sym one) left))
+        by_word (inr n) = subst P (sym (set_there s.words word (site_word mine) value n)) old
 
-    pub stored : PlacesKeep c later more objects (slice_set s.words word value)
+    pub stored : Behind (slice_set s.words word value)
     stored = record {
-      fields = λ o number f k g n class. at f.kind (ValueOf o.reference f.index) (o, k, refl, field_there o number f k g n class) (same_words.fields o number f k g n class) (λ l. l o number f k g n class refl refl);
-      statics = λ number f g n. (let v = facts.apart.there number f g n in at f.kind (StaticAt f.index) (v.0, v.1, v.2) (same_words.statics number f g n) (λ l. l number f g n refl));
+      fields = λ o number f k g n class. at (KindKeeps later more f.kind) (ValueOf o.reference f.index) (o, k, refl, field_there o number f k g n class) (same_words.fields o number f k g n class) (λ l. (l o number f k g n class refl refl).0);
+      statics = λ number f g n. (let v = facts.apart.there number f g n in at (KindKeeps later more f.kind) (StaticAt f.index) (v.0, v.1, v.2) (same_words.statics number f g n) (λ l. (l number f g n refl).0));
+      arrays = λ o number f k g n class.
+          at (PlaceStores after (value_word o.reference f.index) (own.owned number) f.kind) (ValueOf o.reference f.index) (o, k, refl, field_there o number f k g n class) (same_words.arrays o number f k g n class) (λ l. (l o number f k g n class refl refl).1);
+      static_arrays = λ number f g n. (let v = facts.apart.there number f g n in at (PlaceStores after f.index false f.kind) (StaticAt f.index) (v.0, v.1, v.2) (same_words.static_arrays number f g n) (λ l. (l number f g n refl).1));
+      stored = arrays_are;
     }
 
   -- ---- at no place
@@ -111,7 +126,7 @@ module _ (lies : StartLiesApart) (c : MarkedProgram) (marked : IsMarked c) (obje
   plain_left content (ValueOf a i) v p u = absurd u
   plain_left content (StaticAt word) v p u = absurd u
 
-  pub plain : (content : Content) → IsPlain content → (access : Option Access) → ReachesIf c.program objects s content access → PlacesKeep c later more objects (words_after s.words access)
+  pub plain : (content : Content) → IsPlain content → (access : Option Access) → ReachesIf c.program objects s content access → Behind (words_after s.words access)
   plain content p None r = same_words
   plain content p (Some Rest) r = same_words
   plain content p (Some (Load word)) r = loaded word
@@ -123,7 +138,7 @@ module _ (lies : StartLiesApart) (c : MarkedProgram) (marked : IsMarked c) (obje
 
   -- ---- an element
 
-  pub element : (word : ℕ) (put : Option ℕ) → ElementSite objects word put → PlacesKeep c later more objects (words_after s.words (Some (element_wants word put)))
+  pub element : (word : ℕ) (put : Option ℕ) → ElementSite objects word put → Behind (words_after s.words (Some (element_wants word put)))
   element word None k = loaded word
   element word (Some v) k = stored word v (ValueOf k.array.reference k.index) (k.array, k.there, refl, k.below) k.word_is (λ o number f l g n class same index.
       absurd (let one : o ≡ k.array = same_object c.program objects (slice_index s.words NEXT_FREE_WORD) facts.apart o k.array l k.there same in
@@ -133,72 +148,84 @@ module _ (lies : StartLiesApart) (c : MarkedProgram) (marked : IsMarked c) (obje
 
   -- ---- a field
 
-  field_written : (target : Target) (v : Variable) (f : FieldInfo) (n : ℕ) → IsNamedField c.program (HasClass objects) target v f → KindKeeps later more f.kind n → PlacesKeep c later more objects (words_after s.words (Some (Store (variable_word v) n)))
-  field_written target v f n at old = subst (λ (u : Variable). PlacesKeep c later more objects (words_after s.words (Some (Store (variable_word u) n)))) (sym at.variable) (by_flag (is_static f.flags) refl)
-    where
-      same_field : (other : ℕ) (g : FieldInfo) → slice_get c.program.fields other ≡ Some g → other ≡ at.number → KindKeeps later more g.kind n
-      same_field other g e same = subst (λ (x : FieldInfo). KindKeeps later more x.kind n) (sym (same_some (sym e ∙ (ap (slice_get c.program.fields) same ∙ at.there)))) old
+  -- where the word goes, by the field that the target names
+  abbrev pub IsLeft : (target : Target) (v : Variable) (n : ℕ) → Type 0
+  IsLeft target v n =
+      (f : FieldInfo) (at : IsNamedField c.program (HasClass objects) target v f)
+      → KindKeeps later more f.kind n × (is_static f.flags ≡ false → PlaceStores after (value_word at.reference f.index) (own.owned at.number) f.kind n) × (is_static f.flags ≡ true → PlaceStores after f.index false f.kind n)
 
-      by_flag : (b : Bool) → is_static f.flags ≡ b → PlacesKeep c later more objects (words_after s.words (Some (Store (variable_word (if b then Static f.index else Instance at.reference f.index)) n)))
+  pub field_written : (target : Target) (v : Variable) (f : FieldInfo) (n : ℕ) → IsNamedField c.program (HasClass objects) target v f → IsLeft target v n → Behind (words_after s.words (Some (Store (variable_word v) n)))
+  field_written target v f n at left = subst (λ (u : Variable). Behind (words_after s.words (Some (Store (variable_word u) n)))) (sym at.variable) (by_flag (is_static f.flags) refl)
+    where
+      same_info : (other : ℕ) (g : FieldInfo) → slice_get c.program.fields other ≡ Some g → other ≡ at.number → g ≡ f
+      same_info other g e same = same_some (sym e ∙ (ap (slice_get c.program.fields) same ∙ at.there))
+
+      by_flag : (b : Bool) → is_static f.flags ≡ b → Behind (words_after s.words (Some (Store (variable_word (if b then Static f.index else Instance at.reference f.index)) n)))
       by_flag true e =
           let k = facts.apart.there at.number f at.there e in
-          stored f.index n (StaticAt f.index) (k.0, k.1, k.2) refl (λ other g there static index. same_field other g there (one_static_field c.program other at.number g f is_program there at.there static e index))
+          stored f.index n (StaticAt f.index) (k.0, k.1, k.2) refl (λ other g there is index.
+          (let one : g ≡ f = same_info other g there (one_static_field c.program other at.number g f is_program there at.there is e index) in
+          subst (λ (x : FieldInfo). KindKeeps later more x.kind n × PlaceStores after x.index false x.kind n) (sym one) ((left f at).0, (left f at).2 e)))
       by_flag false e =
           let holder = at.holder e in
           let from = (is_program.fields at.number f at.there).class.0 in
           let object = holder.2.0 in
           let there : Contains objects object = holder.2.1 in
           let of_class : object.class ≡ f.class = holder.2.3 ∙ files_alone holder.1 f.class from holder.3 in
-          stored (value_word at.reference f.index) n (ValueOf at.reference f.index) (object, there, holder.2.2, field_there object at.number f there at.there e of_class) refl (λ o other g l there_too instance class same index.
+          stored (value_word at.reference f.index) n (ValueOf at.reference f.index) (object, there, holder.2.2, field_there object at.number f there at.there e of_class) refl (λ o other g l there_too is class same index.
           (let one : o ≡ object = same_object c.program objects (slice_index s.words NEXT_FREE_WORD) facts.apart o object l there (same ∙ sym holder.2.2) in
           let classes : g.class ≡ f.class = sym class ∙ (ap (λ (x : Object). x.class) one ∙ of_class) in
-          same_field other g there_too (one_instance_field c.program other at.number g f is_program there_too at.there classes instance e index)))
+          let number : other ≡ at.number = one_instance_field c.program other at.number g f is_program there_too at.there classes is e index in
+          let info : g ≡ f = same_info other g there_too number in
+          subst (λ (r : ℕ). KindKeeps later more g.kind n × PlaceStores after (value_word r g.index) (own.owned other) g.kind n) (sym same)
+          (subst (λ (d : ℕ). KindKeeps later more g.kind n × PlaceStores after (value_word at.reference g.index) (own.owned d) g.kind n) (sym number)
+          (subst (λ (x : FieldInfo). KindKeeps later more x.kind n × PlaceStores after (value_word at.reference x.index) (own.owned at.number) x.kind n) (sym info) ((left f at).0, (left f at).1 e)))))
 
   -- ---- the event that begins an instruction
 
-  looked : (o : Option Attempt) → PlacesKeep c later more objects (words_after s.words (looks o))
+  looked : (o : Option Attempt) → Behind (words_after s.words (looks o))
   looked None = same_words
   looked (Some a) = loaded a.monitor
 
-  module _ (frozen : ℕ → Bool) (was : Phase) (x : Thread) (k : ThreadKeeps c frozen w (slice_index s.words NEXT_FREE_WORD) t was x) where
-    pub effect_places : (m : MethodInfo) (insn : Insn) (target : Target) (r : OpRow) (stack : List ℕ) (pc : ℕ) (e : Effect) → Allowed c.program m (HasClass objects) insn target r stack e → Built (IsFinished k.now (slice_index s.words NEXT_FREE_WORD)) c.program target r e
-        → (IsOutside e → x.attempt ≡ None) → PlacesKeep c later more objects (words_after s.words (effect_wants x pc e))
-    effect_places m insn target r stack pc (Goes to made) al built out = by_test (nat_le to pc)
-      where
-        by_test : (b : Bool) → PlacesKeep c later more objects (words_after s.words (if b then looks x.attempt else None))
-        by_test true = looked x.attempt
-        by_test false = same_words
-    effect_places m insn target r stack pc (Calls number) al built out = looked x.attempt
-    effect_places m insn target r stack pc (Reads v) al built out = loaded (variable_word v)
-    effect_places m insn target r stack pc (Writes v n) al built out =
-        let f = al.1 in
-        let at = al.2 in
-        field_written target v f n at (old_kind f.kind n (in_world f.kind (built.0 at.number f at.named at.there)))
-      where
-        none : x.attempt ≡ None
-        none = out tt
+  abbrev pub WritesFine : Target → Effect → Type 0
+  WritesFine target (Writes v n) = IsLeft target v n
+  WritesFine target e = Unit {0}
 
-        in_world : (kind : Kind) → KindOld (IsFinished k.now (slice_index s.words NEXT_FREE_WORD)) kind n → KindOld (IsFinished w (slice_index s.words NEXT_FREE_WORD)) kind n
-        in_world (kinds.Ref class) o = (o.0, sym (k.now_is.same none n) ∙ o.1)
-        in_world kinds.Int o = tt
-        in_world kinds.Bool o = tt
-    effect_places m insn target r stack pc (Indexes a i put) al built out = loaded (header_word a)
-    effect_places m insn target r stack pc (Measures a) al built out = loaded (header_word a)
-    effect_places m insn target r stack pc (Raises a) al built out = loaded (header_word a)
-    effect_places m insn target r stack pc (Makes word size) al built out = stored NEXT_FREE_WORD (slice_index s.words NEXT_FREE_WORD + size) (Counter NEXT_FREE_WORD) (omega arith, omega arith) refl tt
-    effect_places m insn target r stack pc (Prints n) al built out = by_test (has_print_left x)
-      where
-        by_test : (b : Bool) → PlacesKeep c later more objects (words_after s.words (if b then Some (Add NEXT_TICKET_WORD 1) else None))
-        by_test true = stored NEXT_TICKET_WORD (slice_index s.words NEXT_TICKET_WORD + 1) (Counter NEXT_TICKET_WORD) (omega arith, omega arith) refl tt
-        by_test false = same_words
-    effect_places m insn target r stack pc e al built out = same_words
+  pub effect_places : (x : Thread) (m : MethodInfo) (insn : Insn) (target : Target) (r : OpRow) (stack : List ℕ) (pc : ℕ) (e : Effect) → Allowed c.program m (HasClass objects) insn target r stack e → WritesFine target e → Behind (words_after s.words (effect_wants x pc e))
+  effect_places x m insn target r stack pc (Goes to made) al left = by_test (nat_le to pc)
+    where
+      by_test : (b : Bool) → Behind (words_after s.words (if b then looks x.attempt else None))
+      by_test true = looked x.attempt
+      by_test false = same_words
+  effect_places x m insn target r stack pc (Calls number) al left = looked x.attempt
+  effect_places x m insn target r stack pc (Reads v) al left = loaded (variable_word v)
+  effect_places x m insn target r stack pc (Writes v n) al left = field_written target v al.1 n al.2 left
+  effect_places x m insn target r stack pc (Indexes a i put) al left = loaded (header_word a)
+  effect_places x m insn target r stack pc (Measures a) al left = loaded (header_word a)
+  effect_places x m insn target r stack pc (Raises a) al left = loaded (header_word a)
+  effect_places x m insn target r stack pc (Makes word size) al left = stored NEXT_FREE_WORD (slice_index s.words NEXT_FREE_WORD + size) (Counter NEXT_FREE_WORD) (omega arith, omega arith) refl tt
+  effect_places x m insn target r stack pc (Prints n) al left = by_test (has_print_left x)
+    where
+      by_test : (b : Bool) → Behind (words_after s.words (if b then Some (Add NEXT_TICKET_WORD 1) else None))
+      by_test true = stored NEXT_TICKET_WORD (slice_index s.words NEXT_TICKET_WORD + 1) (Counter NEXT_TICKET_WORD) (omega arith, omega arith) refl tt
+      by_test false = same_words
+  effect_places x m insn target r stack pc e al left = same_words
 
   -- ---- a new object
 
-  pub made_places : (x : Thread) (a word : ℕ) → IsWorld later (words_of c.program) more → slice_get s.threads t ≡ Some x → x.phase ≡ phases.Made a word → PlacesKeep c later more (new_object a word (size_by c.program word) ∷ objects) (slice_set s.words (header_word a) word)
-  made_places x a word is there made = record { fields = λ o number f l g n class. fields_of l.0 o number f (contained_got (new_object a word (size_by c.program word) ∷ objects) o l) g n class; statics = old.statics }
+  pub made_places : (x : Thread) (a word : ℕ) → after 0 ≡ None → IsWorld later (words_of c.program) more → slice_get s.threads t ≡ Some x → x.phase ≡ phases.Made a word
+      → PlacesKeep c (record own { stores = after }) later more (new_object a word (size_by c.program word) ∷ objects) (slice_set s.words (header_word a) word)
+  made_places x a word null is there made = record {
+    fields = λ o number f l g n class.
+        of_each (λ o number f v. KindKeeps later more f.kind v) (λ o number f. null_kind f.kind 0 refl) old.fields l.0 o number f (contained_got (new_object a word (size_by c.program word) ∷ objects) o l) g n class;
+    statics = old.statics;
+    arrays = λ o number f l g n class.
+        of_each (λ o number f v. PlaceStores after (value_word o.reference f.index) (own.owned number) f.kind v) (λ o number f. null_place (value_word o.reference f.index) (own.owned number) f.kind) old.arrays l.0 o number f (contained_got (new_object a word (size_by c.program word) ∷ objects) o l) g n class;
+    static_arrays = old.static_arrays;
+    stored = λ v at e. (let k = arrays_are v at e in (k.0, contains_more (new_object a word (size_by c.program word)) objects k.0 k.1, k.2, k.3));
+  }
     where
-      old : PlacesKeep c later more objects (slice_set s.words (header_word a) word)
+      old : Behind (slice_set s.words (header_word a) word)
       old = stored (header_word a) word (NewHeaderOf a) (t, x, word, there, made) refl tt
 
       null_kind : (kind : Kind) (v : ℕ) → v ≡ 0 → KindKeeps later more kind v
@@ -206,9 +233,18 @@ module _ (lies : StartLiesApart) (c : MarkedProgram) (marked : IsMarked c) (obje
       null_kind kinds.Int v e = tt
       null_kind kinds.Bool v e = tt
 
-      fields_of : (j : ℕ) (o : Object) (number : ℕ) (f : FieldInfo) → slice_get (new_object a word (size_by c.program word) ∷ objects) j ≡ Some o → slice_get c.program.fields number ≡ Some f → is_static f.flags ≡ false → o.class ≡ f.class
-          → KindKeeps later more f.kind (slice_index (slice_set s.words (header_word a) word) (value_word o.reference f.index))
-      fields_of zero o number f e g n class =
+      null_place : (at : ℕ) (owned : Bool) (kind : Kind) → PlaceStores after at owned kind 0
+      null_place at true kind = inl refl
+      null_place at false (kinds.Ref class) = null
+      null_place at false kinds.Int = tt
+      null_place at false kinds.Bool = tt
+
+      -- its fields are null, and the others as before
+      of_each : (P : Object → ℕ → FieldInfo → ℕ → Type 0) → ((o : Object) (number : ℕ) (f : FieldInfo) → P o number f 0)
+          → ((o : Object) (number : ℕ) (f : FieldInfo) → Contains objects o → slice_get c.program.fields number ≡ Some f → is_static f.flags ≡ false → o.class ≡ f.class → P o number f (slice_index (slice_set s.words (header_word a) word) (value_word o.reference f.index)))
+          → (j : ℕ) (o : Object) (number : ℕ) (f : FieldInfo) → slice_get (new_object a word (size_by c.program word) ∷ objects) j ≡ Some o → slice_get c.program.fields number ≡ Some f → is_static f.flags ≡ false → o.class ≡ f.class
+          → P o number f (slice_index (slice_set s.words (header_word a) word) (value_word o.reference f.index))
+      of_each P nothing before zero o number f e g n class =
           let same : new_object a word (size_by c.program word) ≡ o = same_some e in
           let from = (is_program.fields number f g).class.0 in
           let of_class : header_class word ≡ f.class = ap (λ (z : Object). z.class) same ∙ class in
@@ -217,5 +253,6 @@ module _ (lies : StartLiesApart) (c : MarkedProgram) (marked : IsMarked c) (obje
           let inside : f.index < instances_among (header_class word) c.program.fields = subst (λ (d : ℕ). f.index < instances_among d c.program.fields) (sym of_class) (instances_inside c.program number f is_program g n) in
           let new = facts.new_objects.each t x a word there made in
           let zero_is : slice_index (slice_set s.words (header_word a) word) (value_word a f.index) ≡ 0 = set_there s.words (header_word a) (value_word a f.index) word (λ q. omega (arith, q)) ∙ new.empty (value_word a f.index) (omega arith) (omega (arith, sized, inside)) in
-          subst (λ (z : Object). KindKeeps later more f.kind (slice_index (slice_set s.words (header_word a) word) (value_word z.reference f.index))) same (null_kind f.kind (slice_index (slice_set s.words (header_word a) word) (value_word a f.index)) zero_is)
-      fields_of (suc j) o number f e g n class = old.fields o number f (contains_got objects j o e) g n class
+          let at_o : slice_index (slice_set s.words (header_word a) word) (value_word o.reference f.index) ≡ 0 = ap (λ (z : Object). slice_index (slice_set s.words (header_word a) word) (value_word z.reference f.index)) (sym same) ∙ zero_is in
+          subst (P o number f) (sym at_o) (nothing o number f)
+      of_each P nothing before (suc j) o number f e g n class = before o number f (contains_got objects j o e) g n class

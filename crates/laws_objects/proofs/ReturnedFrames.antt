@@ -1,19 +1,21 @@
 -- A return: the caller goes on behind its call. Where an `<init>` of a frozen class returns, its object is finished.
-use Rattle.std.proofs.Common.{◌≡◌, ◌≢◌, ℕ, suc, ◌<◌, ◌⊎◌, inl, inr, Bool, true, false, not, ◌&&◌, List, [], ◌∷◌, ◌++◌, length, map, drop, Option, Some, None, refl, sym, ap, ◌∙◌, subst, arith, ◌==◌, slice_get}
+use Rattle.std.proofs.Common.{◌≡◌, ◌≢◌, ℕ, zero, suc, ◌+◌, ◌<◌, ◌⊎◌, inl, inr, Bool, true, false, not, ◌&&◌, List, [], ◌∷◌, ◌++◌, length, map, drop, Option, Some, None, refl, sym, ap, ◌∙◌, subst, arith, ◌==◌, slice_get, slice_index_or}
 use Rattle.std.{specs.{List.AllByRecursion, Option.{option_map, option_to_list}}, proofs.lemmas.Bool.{or_parts, eq-eqb, eqb-true, ne_eqb, Decides.nat_tests}}
 use Rattle.lists.proofs.{ListLaws.same_some, TestLaws.is_true}
 use Rattle.jvm_types.specs.{CodeTable.{type_of, arguments, is_init, result_of, value_of, stack_after, locals_after, row}, Members.is_static, Numbers.has_number, Types.{TypeFrame, is_below}}
 use Rattle.jvm_types.specs.{Verifying.{suits, some_taken, new_class, is_class_of, started, initialised, after_start, frame_after, edges, is_return}, declared.{code.Op.Op, op_row.Given.Given}}
 use Rattle.jvm_types.specs.declared.{op_row.{Given.TheVariants.{Fresh as Anew}, OpRow.OpRow, Want.{Want, TheVariants.{AnyValue, AnInt, AnObject, AnyReference, AHolder, ToStart}}}, program.Kind.Kind}
-use Rattle.jvm_types.specs.declared.{program.MethodInfo.MethodInfo, typing.VType.VType}
+use Rattle.jvm_types.specs.declared.{code.Insn.Insn, program.{MethodInfo.MethodInfo, Target.Target}, typing.VType.VType}
 use Rattle.laws_programs.{specs.RuleLaws.{ReturnsWell, ReturnsTop}, proofs.RuleUses.returns_suit_all}
-use Rattle.checked_program.specs.{CheckedLaws.receiver_want, MarkedProgram.{MarkedProgram, IsMarked}, Tagging.{moved_tags, tags_after}, declared.tag.Tag.{Tag, TheVariants.Untagged}}
-use Rattle.machine_types.specs.Construction.{AreFrozen, is_frozen_class, builds, makes_frozen, if_so, SlotsAre, Runs, WaitsFor, FreshAtCall, IsFresh, ReceiverIs, SlotOf, FrameKeeps, WaitKeeps, KeepBelow, FramesKeep}
-use Rattle.machine_types.specs.{Frames.given_back, Lawful.within, Standing.{Standing, row_at}, Threads.Frame, Worlds.{Made, Begun, Builder, builder, World, IsFinished}}
+use Rattle.checked_program.specs.{CheckedLaws.receiver_want, Colours.is_read_of, LockTags.TagShape, MarkedProgram.{MarkedProgram, IsMarked}, Marks.called_method, TaggedCode.IsAt, Tagging.{moved_tags, tags_after}, declared.tag.Tag.{Tag, TheVariants.Untagged}}
+use Rattle.machine_types.specs.Construction.{Owning, AreOwned, puts_owned, AreFrozen, is_frozen_class, builds, makes_frozen, if_so, SlotsAre, Runs, WaitsFor, FreshAtCall, IsFresh, ReceiverIs, SlotOf, IsNoStored, IsArraySlot, SlotsFrom, FrameKeeps, WaitKeeps, KeepBelow, FramesKeep}
+use Rattle.machine_types.specs.{Frames.given_back, Lawful.within, OwnedPlaces.IsStoredNowhere, Standing.{Standing, row_at, tags_of}, Threads.Frame, Worlds.{Made, Begun, Builder, builder, World, IsFinished}}
 use Rattle.laws_threads.{specs.Allowed.OneOf, proofs.{Callers.{call_edge, row_of_call}, Calls.CallRow, FrameMoves.edge_fits, Landing.rules_at, Typing.edge_at}}
-use Rattle.laws_objects.proofs.{BuiltEffects.{KindOld, StartsNone}, CalledFrames.{below_moved, arguments_start, none_started, none_append}, KeptFrames.below_kept, Landing.{land, joined_onward}}
-use Rattle.laws_objects.proofs.{Moves.{Steps, stays, StartsOld, StartsYoung, Starts, starts, Suit, suit_at, tags_fine, old_started, slots_finished}, Operands.{TakenOld, is_getfield, takes_old}}
-use Rattle.laws_objects.proofs.{Slots.{slots_map, slot_later, made_slot}, WorldChanges.{without, without_gone, without_keeps, without_none, world_without, goes_without, lost_without}}
+use Rattle.laws_objects.proofs.ArrayMoves.{GivenClean, WriteClean, SourceFine, stack_clean, each_source, dropped_at}
+use Rattle.laws_objects.proofs.{ArrayFrames.takes_clean, ArraySlots.{IsStart, each_from, no_stored_along, array_along, stack_begun, locals_begun}, PutPlaces.edge_plain}
+use Rattle.laws_objects.proofs.{BuiltEffects.{KindOld, StartsNone}, CalledFrames.{call_takes, below_moved, arguments_start, none_started, none_append}, KeptFrames.{below_kept, plain_stack}, Landing.{land, joined_onward}}
+use Rattle.laws_objects.proofs.{Moves.{Steps, stays, StartsOld, StartsYoung, Starts, starts, is_start, Suit, suit_at, tags_fine, old_started, slots_finished}, Operands.{TakenOld, takes_any, no_getfield, takes_old}}
+use Rattle.laws_objects.proofs.{Slots.{slots_map, slots_long, slot_later, made_slot}, WorldChanges.{without, without_gone, without_keeps, without_none, world_without, goes_without, lost_without}}
 use Rattle.jvm_types.specs.declared.code.Op.TheVariants as ops
 use Rattle.jvm_types.specs.declared.program.Kind.TheVariants as kinds
 use Rattle.jvm_types.specs.declared.typing.VType.TheVariants as types
@@ -36,7 +38,7 @@ top_result m Old R (u ∷ us) gs [] w slots k = absurd (none gs slots)
     none (g ∷ gs) h = h
 top_result m Old R (u ∷ us) gs (a ∷ s) w slots k = (a, s, refl, subst (λ (o : Option Kind). ResultOld Old o (a ∷ [])) (sym w.described) (k w.kind a s w.described refl))
 
-module _ (c : MarkedProgram) (marked : IsMarked c) (frozen : ℕ → Bool) (are : AreFrozen c frozen) (w : World) (next t h : ℕ) (null : IsFinished w next 0) (f : Frame) (k : FrameKeeps c frozen w next t h Runs f) where
+module _ (c : MarkedProgram) (marked : IsMarked c) (frozen : ℕ → Bool) (are : AreFrozen c frozen) (owning : Owning) (owns : AreOwned c owning.owned) (w : World) (next t h : ℕ) (null : IsFinished w next 0) (f : Frame) (k : FrameKeeps c frozen owning w next t h Runs f) where
   abbrev m : MethodInfo
   m = k.stands.method
 
@@ -45,14 +47,15 @@ module _ (c : MarkedProgram) (marked : IsMarked c) (frozen : ℕ → Bool) (are 
       let rules = rules_at c marked f k.stands in
       returns_suit_all c.program m k.stands.insn k.stands.target k.stands.types rules.rules rules.sound.after
 
-  result_of_op : (op : Op) → is_return op ≡ true → ReturnsWell m op k.stands.types.stack → TakenOld (IsFinished w next) (row c.program m k.stands.insn.pc k.stands.target op).takes f.stack
-      → Suit m (row c.program m k.stands.insn.pc k.stands.target op).takes k.stands.types.stack → ResultOld (IsFinished w next) m.result (given_back op f.stack)
-  result_of_op ops.Return r well old suit = subst (λ (o : Option Kind). ResultOld (IsFinished w next) o []) (sym well) tt
-  result_of_op ops.Ireturn r well old suit =
-      let top = top_result m (IsFinished w next) (SlotOf frozen w next t h Runs m f.receiver) k.stands.types.stack k.stands.tags.stack f.stack well k.stack (λ kind a rest e s. an_int kind a e) in
-      subst (λ (s : List ℕ). ResultOld (IsFinished w next) m.result (given_back ops.Ireturn s)) (sym top.2) top.3
+  -- by what is taken
+  result_of_op : (Old : ℕ → Type 0) (op : Op) → is_return op ≡ true → ReturnsWell m op k.stands.types.stack → puts_owned owning.owned k.stands.insn.op k.stands.target ≡ false → TakenOld Old (row c.program m k.stands.insn.pc k.stands.target op).takes f.stack
+      → Suit m (row c.program m k.stands.insn.pc k.stands.target op).takes k.stands.types.stack → ResultOld Old m.result (given_back op f.stack)
+  result_of_op Old ops.Return r well plain old suit = subst (λ (o : Option Kind). ResultOld Old o []) (sym well) tt
+  result_of_op Old ops.Ireturn r well plain old suit =
+      let top = top_result m Old (SlotOf frozen w next t h Runs m f.receiver) k.stands.types.stack k.stands.tags.stack f.stack well (plain_stack c frozen owning w next t h f k plain) (λ kind a rest e s. an_int kind a e) in
+      subst (λ (s : List ℕ). ResultOld Old m.result (given_back ops.Ireturn s)) (sym top.2) top.3
     where
-      an_int : (kind : Kind) (a : ℕ) → m.result ≡ Some kind → KindOld (IsFinished w next) kind a
+      an_int : (kind : Kind) (a : ℕ) → m.result ≡ Some kind → KindOld Old kind a
       an_int kinds.Int a e = tt
       an_int kinds.Bool a e = tt
       an_int (kinds.Ref class) a e = absurd (no_reference k.stands.types.stack well suit)
@@ -72,23 +75,37 @@ module _ (c : MarkedProgram) (marked : IsMarked c) (frozen : ℕ → Bool) (are 
               let kind : w.kind ≡ kinds.Ref class = same_some (sym w.described ∙ e) in
               let int : is_below u types.Int ≡ true = is_true (is_below u types.Int) (or_parts (not (is_below u types.Int)) (some_taken (λ want t. not (suits m want t)) [] us) s).0 in
               below_both u int (subst (λ (x : VType). is_below x (types.Ref class) ≡ true) (sym same) (subst (λ (x : Kind). is_below w.type (type_of x) ≡ true) kind w.fits))
-  result_of_op ops.Areturn r well old suit =
-      let top = top_result m (IsFinished w next) (SlotOf frozen w next t h Runs m f.receiver) k.stands.types.stack k.stands.tags.stack f.stack well k.stack (λ kind a rest e s. an_object kind a rest s (subst (λ (o : Option Kind). TakenOld (IsFinished w next) (Rattle.jvm_types.specs.CodeTable.returned_want o ∷ []) f.stack) e old)) in
-      subst (λ (s : List ℕ). ResultOld (IsFinished w next) m.result (given_back ops.Areturn s)) (sym top.2) top.3
+  result_of_op Old ops.Areturn r well plain old suit =
+      let top = top_result m Old (SlotOf frozen w next t h Runs m f.receiver) k.stands.types.stack k.stands.tags.stack f.stack well (plain_stack c frozen owning w next t h f k plain) (λ kind a rest e s. an_object kind a rest s (subst (λ (o : Option Kind). TakenOld Old (Rattle.jvm_types.specs.CodeTable.returned_want o ∷ []) f.stack) e old)) in
+      subst (λ (s : List ℕ). ResultOld Old m.result (given_back ops.Areturn s)) (sym top.2) top.3
     where
-      an_object : (kind : Kind) (a : ℕ) (rest : List ℕ) → f.stack ≡ a ∷ rest → TakenOld (IsFinished w next) (Rattle.jvm_types.specs.CodeTable.returned_want (Some kind) ∷ []) f.stack → KindOld (IsFinished w next) kind a
+      an_object : (kind : Kind) (a : ℕ) (rest : List ℕ) → f.stack ≡ a ∷ rest → TakenOld Old (Rattle.jvm_types.specs.CodeTable.returned_want (Some kind) ∷ []) f.stack → KindOld Old kind a
       an_object kinds.Int a rest e h = tt
       an_object kinds.Bool a rest e h = tt
-      an_object (kinds.Ref class) a rest e h = (subst (TakenOld (IsFinished w next) (AnObject class ∷ [])) e h).0
-  result_of_op op r well old suit = absurd (let bad : false ≡ true = r in cc)
+      an_object (kinds.Ref class) a rest e h = (subst (TakenOld Old (AnObject class ∷ [])) e h).0
+  result_of_op Old op r well plain old suit = absurd (let bad : false ≡ true = r in cc)
 
-  return_no_getfield : (op : Op) → is_return op ≡ true → is_getfield op ≡ false
-  return_no_getfield (ops.Getfield i) r = absurd (cc)
-  return_no_getfield op r = refl
+  return_takes : (op : Op) → is_return op ≡ true → takes_any op ≡ false
+  return_takes (ops.Getfield i) r = absurd (cc)
+  return_takes ops.Iaload r = absurd (cc)
+  return_takes ops.Iastore r = absurd (cc)
+  return_takes ops.Arraylength r = absurd (cc)
+  return_takes op r = refl
+
+  return_stores : (op : Op) (target : Target) → is_return op ≡ true → puts_owned owning.owned op target ≡ false
+  return_stores (ops.Putfield i) target r = absurd (cc)
+  return_stores op target r = refl
 
   -- what a return gives back is finished
   pub result_old : is_return k.stands.insn.op ≡ true → ResultOld (IsFinished w next) m.result (given_back k.stands.insn.op f.stack)
-  result_old r = result_of_op k.stands.insn.op r returns_well (takes_old c marked frozen are w next t h f k null (return_no_getfield k.stands.insn.op r)) (suit_at c marked f k.stands)
+  result_old r =
+      let plain = return_stores k.stands.insn.op k.stands.target r in
+      result_of_op (IsFinished w next) k.stands.insn.op r returns_well plain (takes_old c marked frozen are owning owns w next t h f k null (no_getfield k.stands.insn.op (return_takes k.stands.insn.op r)) plain) (suit_at c marked f k.stands)
+
+  -- and was stored nowhere
+  pub result_clean : owning.stores 0 ≡ None → is_return k.stands.insn.op ≡ true → ResultOld (IsStoredNowhere owning.stores) m.result (given_back k.stands.insn.op f.stack)
+  result_clean unstored r =
+      result_of_op (IsStoredNowhere owning.stores) k.stands.insn.op r returns_well (return_stores k.stands.insn.op k.stands.target r) (takes_clean c marked frozen owning unstored w next t h f k (return_takes k.stands.insn.op r)) (suit_at c marked f k.stands)
 
 -- ---- what started stands below the arguments
 
@@ -136,11 +153,23 @@ started_class own q d class (AnObject x ∷ front) (u ∷ us) n e = started_clas
 started_class own q d class (AnyReference ∷ front) (u ∷ us) n e = started_class own q d class front us n.1 e
 started_class own q d class (AHolder x ∷ front) (u ∷ us) n e = started_class own q d class front us n.1 e
 
+-- ---- places below those that a call took
+
+padded : ℕ → List ℕ → List ℕ
+padded zero xs = xs
+padded (suc n) xs = 0 ∷ padded n xs
+
+at_padded : (n : ℕ) (xs : List ℕ) (q m : ℕ) → m ≡ n + q → slice_index_or (padded n xs) m 0 ≡ slice_index_or xs q 0
+unfolding padded
+at_padded zero xs q m e = let same : m ≡ q = omega (arith, e) in ap (λ (i : ℕ). slice_index_or xs i 0) same
+at_padded (suc n) xs q zero e = absurd (omega (arith, e))
+at_padded (suc n) xs q (suc m) e = at_padded n xs q m (omega (arith, e))
+
 -- ---- the caller
 
-module _ (c : MarkedProgram) (marked : IsMarked c) (frozen : ℕ → Bool) (are : AreFrozen c frozen) (w : World) (next t : ℕ) (null : IsFinished w next 0) (inside : (v : ℕ) (b : Builder) → w v ≡ Some b → v < next)
-    (number receiver : ℕ) (called : MethodInfo) (there : slice_get c.program.methods number ≡ Some called) (g : Frame) (gs : List Frame) (wait : WaitKeeps c frozen w next t (length gs) number receiver g) (below : KeepBelow c frozen w next t g gs)
-    (stands : ReceiverIs w next t (suc (length gs)) (builds frozen called) receiver) (result : List ℕ) (old_result : ResultOld (IsFinished w next) called.result result) where
+module _ (c : MarkedProgram) (marked : IsMarked c) (frozen : ℕ → Bool) (are : AreFrozen c frozen) (owning : Owning) (owns : AreOwned c owning.owned) (w : World) (next t : ℕ) (null : IsFinished w next 0) (inside : (v : ℕ) (b : Builder) → w v ≡ Some b → v < next)
+    (number receiver : ℕ) (called : MethodInfo) (there : slice_get c.program.methods number ≡ Some called) (g : Frame) (gs : List Frame) (wait : WaitKeeps c frozen owning w next t (length gs) number receiver g) (below : KeepBelow c frozen owning w next t g gs)
+    (stands : ReceiverIs w next t (suc (length gs)) (builds frozen called) receiver) (result : List ℕ) (old_result : ResultOld (IsFinished w next) called.result result) (unstored : owning.stores 0 ≡ None) (clean_result : ResultOld (IsStoredNowhere owning.stores) called.result result) where
   abbrev k : Standing c g
   k = wait.keeps.stands
 
@@ -184,18 +213,90 @@ module _ (c : MarkedProgram) (marked : IsMarked c) (frozen : ℕ → Bool) (are 
       let none : r.writes ≡ None = ap (λ (x : OpRow). x.writes) call.is in
       subst (λ (o : Option (ℕ × Given)). SlotsAre IsWaiting (locals_after types.Top (λ t. t) o k.types.stack k.types.locals) (locals_after Untagged (λ t. Untagged) o k.tags.stack k.tags.locals) g.locals) (sym none) wait.keeps.locals
 
+  -- ---- arrays that were stored: the result is none, and the others are where they were
+
+  gives_are : r.gives ≡ result_of called
+  gives_are = ap (λ (x : OpRow). x.gives) call.is
+
+  writes_none : r.writes ≡ None
+  writes_none = ap (λ (x : OpRow). x.writes) call.is
+
+  before : TypeFrame
+  before = record { stack = stack_after types.Top (λ t. t) r k.types.stack k.types.locals; locals = locals_after types.Top (λ t. t) r.writes k.types.stack k.types.locals; ready = k.types.ready }
+
+  is_begun_type : IsStart (started k.method.class r.takes k.types.stack)
+  is_begun_type = is_start k.method (makes_frozen frozen k.method) (started k.method.class r.takes k.types.stack) (starts k.method (makes_frozen frozen k.method) r.takes k.types.stack (suit_at c marked g k))
+
+  no_read : (fi : ℕ) (op : Op) (target : Target) → called_method op target ≡ Some number → is_read_of fi op target ≡ true → ⊥
+  no_read fi (ops.Getfield i) target e h = (let bad : None ≡ Some number = e in cc)
+  no_read fi op target e h = (let bad : false ≡ true = h in cc)
+
+  kind_type : (kind : Kind) (v : ℕ) → KindOld (IsStoredNowhere owning.stores) kind v → IsNoStored owning.stores (type_of kind) v
+  kind_type kinds.Int v h = tt
+  kind_type kinds.Bool v h = tt
+  kind_type (kinds.Ref class) v h = h
+
+  made_by : (o : Option Kind) (vs : List ℕ) → ResultOld (IsStoredNowhere owning.stores) o vs
+      → (made : ℕ) × ((sv lv : List ℕ) → map (value_of 0 (λ t. made) sv lv) (option_to_list (option_map (λ kind. Anew (type_of kind)) o)) ≡ vs)
+      × AllByRecursion (GivenClean owning.stores made) (option_to_list (option_map (λ kind. Anew (type_of kind)) o))
+  made_by None [] h = (0, λ sv lv. refl, tt)
+  made_by None (v ∷ vs) h = absurd h
+  made_by (Some kind) [] h = absurd h
+  made_by (Some kind) (v ∷ []) h = (v, λ sv lv. refl, (kind_type kind v h, tt))
+  made_by (Some kind) (v ∷ x ∷ vs) h = absurd h
+
+  fresh_only : (P : Given → Type 0) → ((t : VType) → P (Anew t)) → (o : Option Kind) → AllByRecursion P (option_to_list (option_map (λ kind. Anew (type_of kind)) o))
+  fresh_only P f None = tt
+  fresh_only P f (Some kind) = (f (type_of kind), tt)
+
+  module _ (j : ℕ) (other : Insn) (target : Target) (u : TagShape) (at : IsAt c.program (tags_of c) g.method j wait.keeps.stands.method other target u) (edge : has_number (edges wait.keeps.stands.insn) other.pc ≡ true) where
+    slot_behind : (q : ℕ) → IsArraySlot c owning.stores g k.number (length r.takes + q) (slice_index_or k.types.stack (length r.takes + q) types.Top) (slice_index_or (padded (length r.takes) g.stack) (length r.takes + q) 0)
+    slot_behind q =
+        let waits = each_from (IsArraySlot c owning.stores g k.number) (λ n. record { owned = λ o word is. inl refl; other = λ none. tt }) (length r.takes) (drop (length r.takes) k.types.stack) g.stack
+        (slots_long IsWaiting (drop (length r.takes) k.types.stack) (drop (length r.takes) k.tags.stack) g.stack wait.keeps.stack) wait.keeps.arrays q (length r.takes + q) refl in
+        subst (λ (t : VType). IsArraySlot c owning.stores g k.number (length r.takes + q) t (slice_index_or (padded (length r.takes) g.stack) (length r.takes + q) 0)) (sym (dropped_at types.Top (length r.takes) k.types.stack q (length r.takes + q) refl))
+        (subst (IsArraySlot c owning.stores g k.number (length r.takes + q) (slice_index_or (drop (length r.takes) k.types.stack) q types.Top)) (sym (at_padded (length r.takes) g.stack q (length r.takes + q) refl)) waits)
+
+    arrays_on : SlotsFrom (IsArraySlot c owning.stores (record g { pc = wait.keeps.stands.insn.next; stack = result ++ g.stack }) j) 0 (frame_after k.method r k.types).stack (result ++ g.stack)
+    unfolding before
+    arrays_on =
+        let made = made_by called.result result clean_result in
+        let same : map (value_of 0 (λ t. made.0) (padded (length r.takes) g.stack) g.locals) r.gives ≡ result = ap (map (value_of 0 (λ t. made.0) (padded (length r.takes) g.stack) g.locals)) gives_are ∙ made.1 (padded (length r.takes) g.stack) g.locals in
+        let clean : AllByRecursion (GivenClean owning.stores made.0) r.gives = subst (AllByRecursion (GivenClean owning.stores made.0)) (sym gives_are) made.2 in
+        let written : WriteClean owning.stores made.0 r.writes = subst (WriteClean owning.stores made.0) (sym writes_none) tt in
+        stack_begun (IsArraySlot c owning.stores (record g { pc = wait.keeps.stands.insn.next; stack = result ++ g.stack }) j) (array_along c owning.stores (record g { pc = wait.keeps.stands.insn.next; stack = result ++ g.stack }) j)
+        (started k.method.class r.takes k.types.stack) is_begun_type before 0 (result ++ g.stack)
+        (subst (λ (vs : List ℕ). SlotsFrom (IsArraySlot c owning.stores (record g { pc = wait.keeps.stands.insn.next; stack = vs ++ g.stack }) j) 0 (stack_after types.Top (λ t. t) r k.types.stack k.types.locals) (vs ++ g.stack)) same
+        (stack_clean c marked owning.stores unstored g k.number k.method k.insn k.target k.tags k.at k.types.stack k.types.locals (padded (length r.takes) g.stack) g.locals made.0 k.insn.next g.stack g.locals
+        (λ q. at_padded (length r.takes) g.stack q (length r.takes + q) refl)
+        (record { read = λ fi reads word is. absurd (no_read fi k.insn.op k.target wait.calls reads.1); other = λ none. (clean, written); written = written })
+        j other target u at edge
+        (each_source (SourceFine c marked owning.stores unstored g k.number k.method k.insn k.target k.tags k.at k.types.stack k.types.locals (padded (length r.takes) g.stack) g.locals made.0) (length r.takes) slot_behind r.gives
+        (subst (AllByRecursion (SourceFine c marked owning.stores unstored g k.number k.method k.insn k.target k.tags k.at k.types.stack k.types.locals (padded (length r.takes) g.stack) g.locals made.0)) (sym gives_are) (fresh_only _ (λ t. tt) called.result)))))
+
+  locals_on : SlotsFrom (λ place. IsNoStored owning.stores) 0 (frame_after k.method r k.types).locals g.locals
+  unfolding before
+  locals_on = locals_begun (λ place. IsNoStored owning.stores) (no_stored_along owning.stores) (started k.method.class r.takes k.types.stack) is_begun_type before 0 g.locals
+      (subst (λ (o : Option (ℕ × Given)). SlotsFrom (λ place. IsNoStored owning.stores) 0 (locals_after types.Top (λ t. t) o k.types.stack k.types.locals) g.locals) (sym writes_none) wait.keeps.no_arrays)
+
   -- in a world where the slots are of the types behind the call
   landed : (z : World) → IsFinished z next 0 → ReceiverIs z next t (length gs) (builds frozen k.method) g.receiver
       → SlotsAre (SlotOf frozen z next t (length gs) Runs k.method g.receiver) (frame_after k.method r k.types).stack (moved_tags r k.tags).stack (result ++ g.stack)
-      → SlotsAre (SlotOf frozen z next t (length gs) Runs k.method g.receiver) (frame_after k.method r k.types).locals (moved_tags r k.tags).locals g.locals → FrameKeeps c frozen z next t (length gs) Runs resumed
+      → SlotsAre (SlotOf frozen z next t (length gs) Runs k.method g.receiver) (frame_after k.method r k.types).locals (moved_tags r k.tags).locals g.locals → FrameKeeps c frozen owning z next t (length gs) Runs resumed
   landed z none own stack locals =
       let edge = call_edge k.insn k.target number wait.calls in
       let edge_is : has_number (edges k.insn) k.insn.next ≡ true = edge_has (edges k.insn) k.insn.next edge in
       let fine = tags_fine (IsFinished z next) none (IsFresh z t (length gs) Runs) (builds frozen k.method) (makes_frozen frozen k.method) g.receiver c.program k.method k.insn.pc k.target k.insn.op k.tags.stack k.tags.locals k.tags.held
       (frame_after k.method r k.types).stack (frame_after k.method r k.types).locals (result ++ g.stack) g.locals (stack, locals) in
-      land c marked frozen are z next t (length gs) none resumed k.method k.frames k.at.frames (frame_after k.method r k.types) (tags_after k.insn r k.tags) k.at.in_program k.types_of_method k.at.of_method
+      land c marked frozen are owning owns z next t (length gs) none false resumed k.method k.frames k.at.frames (frame_after k.method r k.types) (tags_after k.insn r k.tags) k.at.in_program k.types_of_method k.at.of_method
       (edge_at k.method (within c.program) k.method.code k.frames (frame_after k.method r k.types) (edges k.insn) k.insn.next (rules_at c marked g k).sound.edges_fit edge)
-      (edge_fits c marked g k k.insn.next edge_is) (joined_onward c marked frozen are g resumed k refl edge_is) own fine.0 fine.1
+      (edge_fits c marked g k k.insn.next edge_is) (joined_onward c marked frozen are owning owns g resumed k refl edge_is)
+      (record {
+        put = λ j other target u at same. edge_plain c marked owning owns g.method j k.method other target u at k.number k.insn k.at.in_code (subst (λ (pc : ℕ). has_number (edges k.insn) pc ≡ true) (sym same) edge_is) (call_takes k.insn.op k.target number wait.calls).2;
+        arrays = λ j other target u at same. arrays_on j other target u at (subst (λ (pc : ℕ). has_number (edges k.insn) pc ≡ true) (sym same) edge_is);
+        locals = locals_on;
+      })
+      own fine.0 fine.1
     where
       edge_has : (tos : List ℕ) (to : ℕ) → OneOf tos to → has_number tos to ≡ true
       edge_has [] to h = absurd h
@@ -217,7 +318,7 @@ module _ (c : MarkedProgram) (marked : IsMarked c) (frozen : ℕ → Bool) (are 
   again (Some (types.Ref d, class)) s q v y e = e
   again (Some (types.Top, class)) s q v y e = e
 
-  resumes_old : StartsOld (makes_frozen frozen k.method) (started k.method.class r.takes k.types.stack) → FrameKeeps c frozen w next t (length gs) Runs resumed
+  resumes_old : StartsOld (makes_frozen frozen k.method) (started k.method.class r.takes k.types.stack) → FrameKeeps c frozen owning w next t (length gs) Runs resumed
   resumes_old old =
       let after = old_started (IsFinished w next) null (IsFresh w t (length gs) Runs) (builds frozen k.method) (makes_frozen frozen k.method) g.receiver (started k.method.class r.takes k.types.stack) old
       (record { stack = stack_after types.Top (λ t. t) r k.types.stack k.types.locals; locals = locals_after types.Top (λ t. t) r.writes k.types.stack k.types.locals; ready = k.types.ready })
@@ -291,7 +392,7 @@ module _ (c : MarkedProgram) (marked : IsMarked c) (frozen : ℕ → Bool) (are 
             let built = subst (λ (b : Bool). if_so b (v ≡ receiver) (w v ≡ Some (builder t (length gs) (Made x)))) (ne_eqb x y.pc n) e in
             without_keeps w gone v (builder t (length gs) (Made x)) built (λ s. (let i : length gs ≡ suc (length gs) = ap (λ (b : Builder). b.height) s in omega (arith, i)))
 
-    resumes_young : FrameKeeps c frozen z next t (length gs) Runs resumed
+    resumes_young : FrameKeeps c frozen owning z next t (length gs) Runs resumed
     resumes_young =
         let before : TypeFrame = record { stack = stack_after types.Top (λ t. t) r k.types.stack k.types.locals; locals = locals_after types.Top (λ t. t) r.writes k.types.stack k.types.locals; ready = k.types.ready } in
         let same : after_start (Some (types.New y.pc, y.class)) before ≡ frame_after k.method r k.types = ap (λ o. after_start o before) (sym y.is) in
@@ -299,18 +400,18 @@ module _ (c : MarkedProgram) (marked : IsMarked c) (frozen : ℕ → Bool) (are 
         (subst (λ (a : TypeFrame). SlotsAre (SlotOf frozen z next t (length gs) Runs k.method g.receiver) a.stack (moved_tags r k.tags).stack (result ++ g.stack)) same (finish _ _ _ stack_waits))
         (subst (λ (a : TypeFrame). SlotsAre (SlotOf frozen z next t (length gs) Runs k.method g.receiver) a.locals (moved_tags r k.tags).locals g.locals) same (finish _ _ _ locals_wait))
 
-    below_on : KeepBelow c frozen z next t g gs
-    below_on = below_kept c frozen w z next next t old_on g gs (λ i less v x e. without_keeps w gone v (builder t i x) e (λ s. (let n : i ≡ suc (length gs) = ap (λ (b : Builder). b.height) s in omega (arith, n, less)))) below
+    below_on : KeepBelow c frozen owning z next t g gs
+    below_on = below_kept c frozen owning w z next next t old_on g gs (λ i less v x e. without_keeps w gone v (builder t i x) e (λ s. (let n : i ≡ suc (length gs) = ap (λ (b : Builder). b.height) s in omega (arith, n, less)))) below
 
-  pub resumes : Steps w next t (λ z. FramesKeep c frozen z next t Runs (resumed ∷ gs))
+  pub resumes : Steps w next t (λ z. FramesKeep c frozen owning z next t Runs (resumed ∷ gs))
   resumes = by_start (starts k.method (makes_frozen frozen k.method) r.takes k.types.stack (suit_at c marked g k))
     where
-      by_start : Starts k.method (makes_frozen frozen k.method) (started k.method.class r.takes k.types.stack) → Steps w next t (λ z. FramesKeep c frozen z next t Runs (resumed ∷ gs))
-      by_start (inl old) = stays w next t (λ z. FramesKeep c frozen z next t Runs (resumed ∷ gs)) (resumes_old old, below_moved c frozen w next t g k.insn.next (result ++ g.stack) g.locals gs below)
+      by_start : Starts k.method (makes_frozen frozen k.method) (started k.method.class r.takes k.types.stack) → Steps w next t (λ z. FramesKeep c frozen owning z next t Runs (resumed ∷ gs))
+      by_start (inl old) = stays w next t (λ z. FramesKeep c frozen owning z next t Runs (resumed ∷ gs)) (resumes_old old, below_moved c frozen owning w next t g k.insn.next (result ++ g.stack) g.locals gs below)
       by_start (inr y) = record {
         later = without w (builder t (suc (length gs)) Begun);
         goes = goes_without w next t (builder t (suc (length gs)) Begun) refl;
         world = λ first is. world_without w first next (builder t (suc (length gs)) Begun) is;
         lost = lost_without w (builder t (suc (length gs)) Begun) (λ e. cc);
-        keeps = (resumes_young y, below_moved c frozen (without w (builder t (suc (length gs)) Begun)) next t g k.insn.next (result ++ g.stack) g.locals gs (below_on y));
+        keeps = (resumes_young y, below_moved c frozen owning (without w (builder t (suc (length gs)) Begun)) next t g k.insn.next (result ++ g.stack) g.locals gs (below_on y));
       }

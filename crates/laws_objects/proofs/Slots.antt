@@ -4,7 +4,7 @@ use Rattle.std.{specs.List.AllByRecursion, proofs.lemmas.Bool.Decides.nat_tests}
 use Rattle.jvm_types.specs.{CodeTable.{value_of, stack_after, locals_after}, Types.{is_below, same_type, all_pairs}, Verifying.initialised, declared.op_row.Given.Given}
 use Rattle.jvm_types.specs.declared.{op_row.{Given.TheVariants.{Fresh as Anew, Taken, Local}, OpRow.OpRow}, typing.VType.VType}
 use Rattle.checked_program.specs.{FrozenPlaces.KeepThis, LockTags.{same_tag, without, IsTagBelow, AreTagsBelow}, declared.tag.Tag.{Tag, TheVariants.{Untagged, This, At}}}
-use Rattle.machine_types.specs.Construction.{if_so, SlotByType, OwnSlot, SlotIs, SlotsAre}
+use Rattle.machine_types.specs.Construction.{if_so, SlotByType, OwnSlot, SlotIs, SlotsAre, StackWith}
 use Rattle.laws_objects.proofs.NoThis.{other_above}
 use Rattle.jvm_types.specs.declared.typing.VType.TheVariants as types
 
@@ -14,6 +14,15 @@ pub slots_map : (R S : VType → Tag → ℕ → Type 0) → ((t : VType) (g : T
 slots_map R S f [] [] [] a = tt
 slots_map R S f (t ∷ ts) (g ∷ gs) (v ∷ vs) a = (f t g v a.0, slots_map R S f ts gs vs a.1)
 slots_map R S f ts gs vs a = absurd a
+
+pub slots_long : (R : VType → Tag → ℕ → Type 0) (us : List VType) (gs : List Tag) (vs : List ℕ) → SlotsAre R us gs vs → length us ≡ length vs
+slots_long R [] [] [] a = refl
+slots_long R (u ∷ us) (g ∷ gs) (v ∷ vs) a = ap suc (slots_long R us gs vs a.1)
+slots_long R us gs vs a = absurd a
+
+pub with_long : (R : VType → Tag → ℕ → Type 0) (New : ℕ → Type 0) (puts : Bool) (us : List VType) (gs : List Tag) (vs : List ℕ) → StackWith R New puts us gs vs → length us ≡ length vs
+with_long R New true (u ∷ us) (g ∷ gs) (v ∷ vs) a = ap suc (slots_long R us gs vs a.1)
+with_long R New puts us gs vs a = slots_long R us gs vs a
 
 -- those of types that pass a test
 pub slots_map_if : (P : VType → Type 0) (R S : VType → Tag → ℕ → Type 0) → ((u : VType) (g : Tag) (v : ℕ) → P u → R u g v → S u g v) → (us : List VType) (gs : List Tag) (vs : List ℕ) → AllByRecursion P us → SlotsAre R us gs vs → SlotsAre S us gs vs
@@ -188,6 +197,22 @@ module _ (Old : ℕ → Type 0) (null : Old 0) (Fresh : ℕ → ℕ → Type 0) 
       both false b e = absurd (cc)
   slots_edge ts us gs [] (v ∷ vs) b kept long keeps h = absurd (first_of (assumption, cc, omega (arith, long)))
   slots_edge ts us gs ks vs b kept long keeps h = absurd (first_of (assumption, cc, omega (arith, long)))
+
+  -- with what is still to be stored on the top
+  pub with_edge : (New : ℕ → Type 0) (puts : Bool) (ts us : List VType) (gs ks : List Tag) (vs : List ℕ) → all_pairs is_below ts us ≡ true → AreTagsBelow gs ks → length ks ≡ length us → (own ≡ true → KeepThis gs ks) → StackWith R New puts ts gs vs → StackWith R New puts us ks vs
+  with_edge New false ts us gs ks vs b kept long keeps h = slots_edge ts us gs ks vs b kept long keeps h
+  with_edge New true [] [] gs ks vs b kept long keeps h = slots_edge [] [] gs ks vs b kept long keeps h
+  with_edge New true [] (u ∷ us) gs ks vs b kept long keeps h = absurd (cc)
+  with_edge New true (t ∷ ts) [] gs ks vs b kept long keeps h = absurd (cc)
+  with_edge New true (t ∷ ts) (u ∷ us) [] ks vs b kept long keeps h = absurd h
+  with_edge New true (t ∷ ts) (u ∷ us) (g ∷ gs) ks [] b kept long keeps h = absurd h
+  with_edge New true (t ∷ ts) (u ∷ us) (g ∷ gs) [] (v ∷ vs) b kept long keeps h = absurd (omega (arith, long))
+  with_edge New true (t ∷ ts) (u ∷ us) (g ∷ gs) (k ∷ ks) (v ∷ vs) b kept long keeps h =
+      (h.0, slots_edge ts us gs ks vs (second (is_below t u) (all_pairs is_below ts us) b) kept.1 (omega (arith, long)) (λ o n e. keeps o (suc n) e) h.1)
+    where
+      second : (a b : Bool) → (a && b) ≡ true → b ≡ true
+      second true b e = e
+      second false b e = absurd (cc)
 
   -- ---- an `<init>` that is started: its object is finished, or `this` of an `<init>` of a frozen class
 

@@ -78,7 +78,7 @@ module _ (laws : AreBuiltLaws) (c : MarkedProgram) (cfg : Config) (hs : List Hap
   stood : BuiltThere c cfg test.frozen (run_objects c cfg hs) state.was (core c cfg hs)
   stood = state.there
 
-  keeps : ThreadKeeps c test.frozen stood.world (slice_index (core c cfg hs).words NEXT_FREE_WORD) t (state.was t) k.thread
+  keeps : ThreadKeeps c test.frozen stood.owning stood.world (slice_index (core c cfg hs).words NEXT_FREE_WORD) t (state.was t) k.thread
   keeps = stood.built.each t k.thread k.there
 
   is_later : moved c k.thread k.thread.phase (found_by (core c cfg hs).words (wanted c k.thread k.thread.phase)) ≡ k.later
@@ -95,8 +95,8 @@ module _ (laws : AreBuiltLaws) (c : MarkedProgram) (cfg : Config) (hs : List Hap
 
   begun : stood.world v ≡ Some (builder t (length away.unwound.below) Begun)
   begun =
-      let frames : FramesKeep c test.frozen keeps.now (slice_index (core c cfg hs).words NEXT_FREE_WORD) t Loose (away.unwound.frame ∷ away.unwound.below) = subst (FramesKeep c test.frozen keeps.now (slice_index (core c cfg hs).words NEXT_FREE_WORD) t Loose) away.unwound.frames (away.unwound.carries.frames c test.frozen keeps.now (slice_index (core c cfg hs).words NEXT_FREE_WORD) t keeps.frames) in
-      sym (keeps.now_is.same k.outside v) ∙ init_begun c test.frozen keeps.now (slice_index (core c cfg hs).words NEXT_FREE_WORD) t (length away.unwound.below) v Loose away.unwound.frame frames.0 away.init young
+      let frames : FramesKeep c test.frozen stood.owning keeps.now (slice_index (core c cfg hs).words NEXT_FREE_WORD) t Loose (away.unwound.frame ∷ away.unwound.below) = subst (FramesKeep c test.frozen stood.owning keeps.now (slice_index (core c cfg hs).words NEXT_FREE_WORD) t Loose) away.unwound.frames (away.unwound.carries.frames c test.frozen stood.owning keeps.now (slice_index (core c cfg hs).words NEXT_FREE_WORD) t keeps.frames) in
+      sym (keeps.now_is.same k.outside v) ∙ init_begun c test.frozen stood.owning keeps.now (slice_index (core c cfg hs).words NEXT_FREE_WORD) t (length away.unwound.below) v Loose away.unwound.frame frames.0 away.init young
 
   lost_now : LostThere c cfg test.frozen v (objects_after c.program (core c cfg hs) t (run_objects c cfg hs)) (counted_after c state.was (core c cfg hs) t) (event c (core c cfg hs) t)
   lost_now =

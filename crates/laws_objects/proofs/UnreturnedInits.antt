@@ -1,11 +1,11 @@
 -- As long as the `<init>` of a frozen class has not returned, no place and no other thread has its object.
-use Rattle.std.proofs.Common.{◌≡◌, ℕ, suc, ◌-◌, ◌<◌, ◌⊎◌, inl, inr, Bool, true, false, List, [], ◌∷◌, length, drop, Option, Some, None, refl, sym, ap, ◌∙◌, subst, arith, slice_get}
+use Rattle.std.proofs.Common.{◌≡◌, ℕ, suc, ◌-◌, ◌<◌, ◌⊎◌, inl, inr, Bool, true, List, [], ◌∷◌, length, drop, Option, Some, None, refl, sym, ap, ◌∙◌, subst, arith, slice_get}
 use Rattle.std.proofs.lemmas.List.{length-drop}
 use Rattle.jvm_types.specs.declared.outcome.Thrown.{Thrown}
 use Rattle.checked_program.specs.MarkedProgram.{MarkedProgram}
-use Rattle.machine_types.specs.{Construction.{BuilderTurn, Runs, WaitsFor, KeepBelow, FramesKeep, PhaseKeepsFrames, made_world, turn_by, AttemptKeeps, AttemptKeepsIn, ThreadKeeps}, Core.next}
+use Rattle.machine_types.specs.{Construction.{Owning, BuilderTurn, Runs, WaitsFor, KeepBelow, FramesKeep, PhaseKeepsFrames, made_world, turn_by, AttemptKeeps, AttemptKeepsIn, ThreadKeeps}, Core.next}
 use Rattle.machine_types.specs.{Elision.put_back, Going.goes_on, Onward.{back, unwound}, Structure.{operands_in, IsStructured}, Threads.{Frame, Attempt, Thread}}
-use Rattle.machine_types.specs.{Worlds.{Made, Begun, Lost, Builder, builder, World}, declared.phase.Phase.Phase}
+use Rattle.machine_types.specs.{Worlds.{Item, Begun, Lost, Builder, builder, World}, declared.phase.Phase.Phase}
 use Rattle.laws_objects.{specs.UnfinishedObjects.IsInitOn, proofs.{FrameChanges.{frame_at, counted_below, top_or, in_place, Stay, TriesGo}, LosingInits.init_begun, ThreadMoves.{BasedIn, based_in}}}
 use Rattle.laws_objects.proofs.WorldChanges.{GivenBack, given_back, finished_back}
 use Rattle.machine_types.specs.declared.phase.Phase.TheVariants as phases
@@ -47,38 +47,38 @@ init_splits c frozen h v f fs k = by_place (top_or h f fs k.frame k.there)
 
 -- ---- its object is begun
 
-module _ (c : MarkedProgram) (frozen : ℕ → Bool) (t h v : ℕ) where
-  below_begun : (w : World) (next : ℕ) (g : Frame) (fs : List Frame) → KeepBelow c frozen w next t g fs → HasInit c frozen h v fs → w v ≡ Some (builder t h Begun)
+module _ (c : MarkedProgram) (frozen : ℕ → Bool) (owning : Owning) (t h v : ℕ) where
+  below_begun : (w : World) (next : ℕ) (g : Frame) (fs : List Frame) → KeepBelow c frozen owning w next t g fs → HasInit c frozen h v fs → w v ≡ Some (builder t h Begun)
   below_begun w next g [] keeps k = absurd (let e = k.there in cc)
   below_begun w next g (f ∷ fs) keeps k = by_place (init_splits c frozen h v f fs k) (below_begun w next f fs keeps.1)
     where
       by_place : Splits c frozen h v f fs → (HasInit c frozen h v fs → w v ≡ Some (builder t h Begun)) → w v ≡ Some (builder t h Begun)
-      by_place (inl p) more = subst (λ (i : ℕ). w v ≡ Some (builder t i Begun)) p.0 (init_begun c frozen w next t (length fs) v (WaitsFor g.receiver keeps.0.begun) f keeps.0.keeps p.1.init p.1.young)
+      by_place (inl p) more = subst (λ (i : ℕ). w v ≡ Some (builder t i Begun)) p.0 (init_begun c frozen owning w next t (length fs) v (WaitsFor g.receiver keeps.0.begun) f keeps.0.keeps p.1.init p.1.young)
       by_place (inr k) more = more k
 
-  frames_begun : (w : World) (next : ℕ) (turn : BuilderTurn) (fs : List Frame) → FramesKeep c frozen w next t turn fs → HasInit c frozen h v fs → w v ≡ Some (builder t h Begun)
+  frames_begun : (w : World) (next : ℕ) (turn : BuilderTurn) (fs : List Frame) → FramesKeep c frozen owning w next t turn fs → HasInit c frozen h v fs → w v ≡ Some (builder t h Begun)
   frames_begun w next turn [] keeps k = absurd (let e = k.there in cc)
   frames_begun w next turn (f ∷ fs) keeps k = by_place (init_splits c frozen h v f fs k)
     where
       by_place : Splits c frozen h v f fs → w v ≡ Some (builder t h Begun)
-      by_place (inl p) = subst (λ (i : ℕ). w v ≡ Some (builder t i Begun)) p.0 (init_begun c frozen w next t (length fs) v turn f keeps.0 p.1.init p.1.young)
+      by_place (inl p) = subst (λ (i : ℕ). w v ≡ Some (builder t i Begun)) p.0 (init_begun c frozen owning w next t (length fs) v turn f keeps.0 p.1.init p.1.young)
       by_place (inr k) = below_begun w next f fs keeps.1 k
 
   -- also before the header of a new object is stored
-  made_begun : (w : World) (a height pc : ℕ) (young : Bool) → made_world w a young (builder t height (Made pc)) v ≡ Some (builder t h Begun) → w v ≡ Some (builder t h Begun)
-  made_begun w a height pc true e = by_given (given_back w a (builder t height (Made pc)) v (builder t h Begun) e)
+  made_begun : (w : World) (a height : ℕ) (item : Option Item) → (item ≡ Some Begun → ⊥) → made_world w a t height item v ≡ Some (builder t h Begun) → w v ≡ Some (builder t h Begun)
+  made_begun w a height (Some x) other e = by_given (given_back w a (builder t height x) v (builder t h Begun) e)
     where
-      by_given : GivenBack w a (builder t height (Made pc)) v (builder t h Begun) → w v ≡ Some (builder t h Begun)
-      by_given (inl g) = absurd (let i : Begun ≡ Made pc = ap (λ (b : Builder). b.item) g.1 in cc)
+      by_given : GivenBack w a (builder t height x) v (builder t h Begun) → w v ≡ Some (builder t h Begun)
+      by_given (inl g) = absurd (other (ap (λ (b : Builder). Some b.item) (sym g.1)))
       by_given (inr (inl g)) = g.1
       by_given (inr (inr g)) = absurd (let i : Begun ≡ Lost = ap (λ (b : Builder). b.item) g.2 in cc)
-  made_begun w a height pc false e = finished_back w a v (builder t h Begun) e
+  made_begun w a height None other e = finished_back w a v (builder t h Begun) e
 
-  phase_begun : (w : World) (next : ℕ) (phase : Phase) (fs : List Frame) → PhaseKeepsFrames c frozen w next t phase fs → HasInit c frozen h v fs → w v ≡ Some (builder t h Begun)
+  phase_begun : (w : World) (next : ℕ) (phase : Phase) (fs : List Frame) → PhaseKeepsFrames c frozen owning w next t phase fs → HasInit c frozen h v fs → w v ≡ Some (builder t h Begun)
   phase_begun w next (phases.Made a word) [] keeps k = absurd (let e = k.there in cc)
   phase_begun w next (phases.Made a word) (f ∷ fs) keeps k =
-      made_begun w a (length (f ∷ fs) - 1) keeps.pc keeps.young
-      (frames_begun (made_world w a keeps.young (builder t (length (f ∷ fs) - 1) (Made keeps.pc))) next Runs (record f { stack = a ∷ f.stack } ∷ fs) keeps.keep
+      made_begun w a (length (f ∷ fs) - 1) keeps.item keeps.not_begun
+      (frames_begun (made_world w a t (length (f ∷ fs) - 1) keeps.item) next Runs (record f { stack = a ∷ f.stack } ∷ fs) keeps.keep
       (init_stays c frozen h v (f ∷ fs) (record f { stack = a ∷ f.stack } ∷ fs) (in_place f (record f { stack = a ∷ f.stack }) fs (refl, refl)) k))
   phase_begun w next phase fs keeps k = frames_begun w next (turn_by (operands_in phase)) fs keeps k
 
@@ -93,14 +93,14 @@ pub record IsInside (c : MarkedProgram) (frozen : ℕ → Bool) (h v : ℕ) (x :
   pub goes_back : HasBack c frozen h v x.attempt x.frames
 
 -- in the world, as well as the thread sees it
-pub world_begun : (c : MarkedProgram) (frozen : ℕ → Bool) (w : World) (next t h v : ℕ) (was : Phase) (x : Thread) (k : ThreadKeeps c frozen w next t was x) → IsInside c frozen h v x → w v ≡ Some (builder t h Begun)
-world_begun c frozen w next t h v was x k i = by_attempt x.attempt refl
+pub world_begun : (c : MarkedProgram) (frozen : ℕ → Bool) (owning : Owning) (w : World) (next t h v : ℕ) (was : Phase) (x : Thread) (k : ThreadKeeps c frozen owning w next t was x) → IsInside c frozen h v x → w v ≡ Some (builder t h Begun)
+world_begun c frozen owning w next t h v was x k i = by_attempt x.attempt refl
   where
     by_attempt : (o : Option Attempt) → x.attempt ≡ o → w v ≡ Some (builder t h Begun)
-    by_attempt None e = sym (k.now_is.same e v) ∙ phase_begun c frozen t h v k.now next was x.frames k.frames i.now
+    by_attempt None e = sym (k.now_is.same e v) ∙ phase_begun c frozen owning t h v k.now next was x.frames k.frames i.now
     by_attempt (Some a) e =
-        let keeps : AttemptKeeps c frozen w next t x.frames a = subst (AttemptKeepsIn c frozen w next t x.frames) e k.attempt in
-        frames_begun c frozen t h v w next Runs (put_back a x.frames) keeps.goes_back (subst (λ (o : Option Attempt). HasBack c frozen h v o x.frames) e i.goes_back)
+        let keeps : AttemptKeeps c frozen owning w next t x.frames a = subst (AttemptKeepsIn c frozen owning w next t x.frames) e k.attempt in
+        frames_begun c frozen owning t h v w next Runs (put_back a x.frames) keeps.goes_back (subst (λ (o : Option Attempt). HasBack c frozen h v o x.frames) e i.goes_back)
 
 -- ---- an attempt that begins or goes on
 

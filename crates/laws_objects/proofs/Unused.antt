@@ -2,8 +2,8 @@
 use Rattle.std.{proofs.Common.{◌≡◌, ◌≢◌, ℕ, Bool, true, false, List, [], ◌∷◌, length, Some, None, refl, sym, ap, ◌∙◌, subst, arith}, specs.List.AllZip}
 use Rattle.jvm_types.specs.{ProgramInvariant.words_of, Types.TypeFrame, declared.{program.Kind.Kind, typing.VType.VType}}
 use Rattle.checked_program.specs.{MarkedProgram.{MarkedProgram, IsMarked}, declared.tag.Tag.{Tag, TheVariants.{Untagged, This, At}}}
-use Rattle.machine_types.specs.Construction.{if_so, builds, makes_frozen, SlotByType, OwnSlot, SlotIs, SlotsAre, Runs, IsFresh, ReceiverIs, FrameKeeps, FramesKeep, PhaseKeepsFrames, ThreadKeeps, KindKeeps, PlacesKeep}
-use Rattle.machine_types.specs.{PlainMemory.Object, Standing.Standing, Structure.IsAs, Threads.{Frame, Thread}, Worlds.{Item, Lost, Made, Begun, Builder, builder, World, IsFinished, IsWorld}}
+use Rattle.machine_types.specs.Construction.{Owning, puts_owned, if_so, builds, makes_frozen, StackWith, SlotByType, OwnSlot, SlotIs, SlotsAre, Runs, IsFresh, ReceiverIs, FrameKeeps, FramesKeep, PhaseKeepsFrames, ThreadKeeps, KindKeeps, PlacesKeep}
+use Rattle.machine_types.specs.{PlainMemory.Object, Standing.Standing, Structure.IsAs, Threads.{Frame, Thread}, Worlds.{Item, Lost, Made, Begun, Unstored, Builder, builder, World, IsFinished, IsWorld}}
 use Rattle.machine_types.specs.declared.phase.Phase.{Phase}
 use Rattle.laws_threads.proofs.FramePlaces.{one_standing_law}
 use Rattle.laws_objects.{specs.UnfinishedObjects.{IsOther, UsesNot, KindHasNot, PlacesHaveNot}, proofs.{Onwards.first_finished, WorldChanges.none_some}}
@@ -85,24 +85,34 @@ module _ (now : World) (next t v : ℕ) (strange : IsStrange now t v) (null : Is
     slots_other (u ∷ us) (g ∷ gs) (word ∷ words) s = (slot_other own refl u g word s.0, slots_other us gs words s.1)
     slots_other us gs words s = absurd s
 
+    -- the frame's own new array is on the top
+    stack_other : (puts : Bool) (us : List VType) (gs : List Tag) (words : List ℕ)
+        → StackWith (SlotIs (IsFinished now next) (IsFresh now t h Runs) own young receiver) (λ word. now word ≡ Some (builder t h Unstored)) puts us gs words → AllZip (IsOther v) us words
+    stack_other true (u ∷ us) (g ∷ gs) (word ∷ words) s = (other_so u word (not_built h word Unstored (λ e. cc) s.0), slots_other us gs words s.1)
+    stack_other true [] gs words s = slots_other [] gs words s
+    stack_other true (u ∷ us) [] words s = absurd s
+    stack_other true (u ∷ us) (g ∷ gs) [] s = absurd s
+    stack_other false us gs words s = slots_other us gs words s
+
   -- ---- a frame, wherever it is said to stand
 
-  frame_other : (c : MarkedProgram) (marked : IsMarked c) (frozen : ℕ → Bool) (h : ℕ) (f : Frame) → FrameKeeps c frozen now next t h Runs f → (k : Standing c f) → AllZip (IsOther v) k.types.stack f.stack × AllZip (IsOther v) k.types.locals f.locals
-  frame_other c marked frozen h f kept k =
+  frame_other : (c : MarkedProgram) (marked : IsMarked c) (frozen : ℕ → Bool) (owning : Owning) (h : ℕ) (f : Frame) → FrameKeeps c frozen owning now next t h Runs f → (k : Standing c f) → AllZip (IsOther v) k.types.stack f.stack × AllZip (IsOther v) k.types.locals f.locals
+  frame_other c marked frozen owning h f kept k =
       let same = (one_standing_law c f kept.stands k marked).types in
       let slots = slots_other h (builds frozen kept.stands.method) (makes_frozen frozen kept.stands.method) f.receiver kept.receiver in (
-        subst (λ (u : TypeFrame). AllZip (IsOther v) u.stack f.stack) same (slots kept.stands.types.stack kept.stands.tags.stack f.stack kept.stack),
+        subst (λ (u : TypeFrame). AllZip (IsOther v) u.stack f.stack) same
+            (stack_other h (builds frozen kept.stands.method) (makes_frozen frozen kept.stands.method) f.receiver kept.receiver (puts_owned owning.owned kept.stands.insn.op kept.stands.target) kept.stands.types.stack kept.stands.tags.stack f.stack kept.stack),
         subst (λ (u : TypeFrame). AllZip (IsOther v) u.locals f.locals) same (slots kept.stands.types.locals kept.stands.tags.locals f.locals kept.locals),
       )
 
 -- ---- a thread
 
-pub uses_not : (c : MarkedProgram) (marked : IsMarked c) (frozen : ℕ → Bool) (w : World) (next t v : ℕ) (was : Phase) (x : Thread) (k : ThreadKeeps c frozen w next t was x) → IsWorld w (words_of c.program) next → IsAs x.phase was → IsStrange k.now t v → UsesNot c v x
-uses_not c marked frozen w next t v was x k world is_as strange run f below frames stands =
+pub uses_not : (c : MarkedProgram) (marked : IsMarked c) (frozen : ℕ → Bool) (owning : Owning) (w : World) (next t v : ℕ) (was : Phase) (x : Thread) (k : ThreadKeeps c frozen owning w next t was x) → IsWorld w (words_of c.program) next → IsAs x.phase was → IsStrange k.now t v → UsesNot c v x
+uses_not c marked frozen owning w next t v was x k world is_as strange run f below frames stands =
     let is_run : was ≡ phases.Run = subst (λ (p : Phase). IsAs p was) run is_as in
-    let kept : FramesKeep c frozen k.now next t Runs x.frames = subst (λ (p : Phase). PhaseKeepsFrames c frozen k.now next t p x.frames) is_run k.frames in
-    let top : FramesKeep c frozen k.now next t Runs (f ∷ below) = subst (FramesKeep c frozen k.now next t Runs) frames kept in
-    frame_other k.now next t v strange (first_finished k.now (words_of c.program) next 0 (k.now_world world) (omega arith)) c marked frozen (length below) f top.0 stands
+    let kept : FramesKeep c frozen owning k.now next t Runs x.frames = subst (λ (p : Phase). PhaseKeepsFrames c frozen owning k.now next t p x.frames) is_run k.frames in
+    let top : FramesKeep c frozen owning k.now next t Runs (f ∷ below) = subst (FramesKeep c frozen owning k.now next t Runs) frames kept in
+    frame_other k.now next t v strange (first_finished k.now (words_of c.program) next 0 (k.now_world world) (omega arith)) c marked frozen owning (length below) f top.0 stands
 
 -- ---- places
 
@@ -111,8 +121,8 @@ kind_has_not w next v b e (kinds.Ref class) word k = λ s. none_some (w v) b (su
 kind_has_not w next v b e kinds.Int word k = tt
 kind_has_not w next v b e kinds.Bool word k = tt
 
-pub places_have_not : (c : MarkedProgram) (w : World) (next v : ℕ) (objects : List Object) (words : List ℕ) (b : Builder) → w v ≡ Some b → PlacesKeep c w next objects words → PlacesHaveNot c v objects words
-places_have_not c w next v objects words b e k = record {
+pub places_have_not : (c : MarkedProgram) (owning : Owning) (w : World) (next v : ℕ) (objects : List Object) (words : List ℕ) (b : Builder) → w v ≡ Some b → PlacesKeep c owning w next objects words → PlacesHaveNot c v objects words
+places_have_not c owning w next v objects words b e k = record {
   fields = λ o number f here there own same. kind_has_not w next v b e f.kind _ (k.fields o number f here there own same);
   statics = λ number f there static. kind_has_not w next v b e f.kind _ (k.statics number f there static);
 }

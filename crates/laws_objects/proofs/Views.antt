@@ -3,7 +3,7 @@ use Rattle.std.proofs.Common.{◌≡◌, ◌≢◌, ℕ, ◌≤◌, ◌<◌, ◌
 use Rattle.std.proofs.lemmas.Bool.{eq-eqb, eqb-true, ne_eqb, eqb-false}
 use Rattle.jvm_types.specs.ProgramInvariant.{words_of}
 use Rattle.checked_program.specs.MarkedProgram.{MarkedProgram}
-use Rattle.machine_types.specs.{Construction.ThreadKeeps, Threads.{Attempt, Thread}, Worlds.{Lost, Builder, builder, World, IsFinished, IsOwnOrFinished, IsWorld, IsViewOf, GoesOn}}
+use Rattle.machine_types.specs.{Construction.{Owning, ThreadKeeps}, Threads.{Attempt, Thread}, Worlds.{Lost, Builder, builder, World, IsFinished, IsOwnOrFinished, IsWorld, IsViewOf, GoesOn}}
 use Rattle.machine_types.specs.declared.phase.Phase.{Phase}
 use Rattle.laws_objects.proofs.{KeptFrames.{KeepsAt, phase_frames_kept, phase_kept, attempt_kept}, WorldChanges.none_some}
 
@@ -145,9 +145,9 @@ module _ (w now later : World) (next more t u first : ℕ) (goes : GoesOn w late
 
 -- ---- so another thread keeps what it has
 
-pub other_keeps : (c : MarkedProgram) (frozen : ℕ → Bool) (w later : World) (next more t u : ℕ) (was : Phase) (x : Thread) → GoesOn w later next more t 0 → u ≢ t → IsWorld w (words_of c.program) next
-    → ThreadKeeps c frozen w next u was x → ThreadKeeps c frozen later more u was x
-other_keeps c frozen w later next more t u was x goes differ world k =
+pub other_keeps : (c : MarkedProgram) (frozen : ℕ → Bool) (owning : Owning) (w later : World) (next more t u : ℕ) (was : Phase) (x : Thread) → GoesOn w later next more t 0 → u ≢ t → IsWorld w (words_of c.program) next
+    → ThreadKeeps c frozen owning w next u was x → ThreadKeeps c frozen owning later more u was x
+other_keeps c frozen owning w later next more t u was x goes differ world k =
     let old = merged_old w k.now later next more t u (words_of c.program) goes differ x.attempt k.now_is in
     let keeps = merged_keeps w k.now later next more t u (words_of c.program) goes differ x.attempt k.now_is in
     let known = merged_known w k.now later next more t u (words_of c.program) goes differ x.attempt k.now_is in
@@ -155,17 +155,17 @@ other_keeps c frozen w later next more t u was x goes differ world k =
       now = merged u w k.now later;
       now_is = merged_view w k.now later next more t u (words_of c.program) goes differ x.attempt k.now_is;
       now_world = λ is. merged_world w k.now later next more t u (words_of c.program) goes differ x.attempt k.now_is (k.now_world world) is;
-      frames = phase_frames_kept c frozen k.now (merged u w k.now later) next more u goes.grows old keeps known was x.frames k.frames;
-      phase = phase_kept c frozen k.now (merged u w k.now later) next more u goes.grows old keeps known was k.phase;
+      frames = phase_frames_kept c frozen owning k.now (merged u w k.now later) next more u goes.grows old keeps known was x.frames k.frames;
+      phase = phase_kept c frozen owning k.now (merged u w k.now later) next more u goes.grows old keeps known was k.phase;
       held = λ h there. known_on w later next more t u goes h.monitor (k.held h there);
-      attempt = attempt_kept c frozen w later next more u goes.grows (finished_on w later next more t goes) (λ h v i e. goes.others v (builder u h i) differ e) (known_on w later next more t u goes) x.frames x.attempt k.attempt;
+      attempt = attempt_kept c frozen owning w later next more u goes.grows (finished_on w later next more t goes) (λ h v i e. goes.others v (builder u h i) differ e) (known_on w later next more t u goes) x.frames x.attempt k.attempt;
     }
 
 -- what is lost behind the event is so for another thread that did not build it, or that saw it lost
-pub other_lost : (c : MarkedProgram) (frozen : ℕ → Bool) (w later : World) (next more t u : ℕ) (was : Phase) (x : Thread) (goes : GoesOn w later next more t 0) (differ : u ≢ t) (world : IsWorld w (words_of c.program) next) (k : ThreadKeeps c frozen w next u was x)
-    → (v : ℕ) (b before : Builder) → w v ≡ Some before → later v ≡ Some b → (before.thread ≢ u) ⊎ (k.now v ≡ Some b) → (other_keeps c frozen w later next more t u was x goes differ world k).now v ≡ Some b
+pub other_lost : (c : MarkedProgram) (frozen : ℕ → Bool) (owning : Owning) (w later : World) (next more t u : ℕ) (was : Phase) (x : Thread) (goes : GoesOn w later next more t 0) (differ : u ≢ t) (world : IsWorld w (words_of c.program) next) (k : ThreadKeeps c frozen owning w next u was x)
+    → (v : ℕ) (b before : Builder) → w v ≡ Some before → later v ≡ Some b → (before.thread ≢ u) ⊎ (k.now v ≡ Some b) → (other_keeps c frozen owning w later next more t u was x goes differ world k).now v ≡ Some b
 unfolding other_keeps
-other_lost c frozen w later next more t u was x goes differ world k v b before e f g = ap (λ (o : Option Builder). own_or u o (k.now v) (later v)) e ∙ by_view (before.thread == u) refl g
+other_lost c frozen owning w later next more t u was x goes differ world k v b before e f g = ap (λ (o : Option Builder). own_or u o (k.now v) (later v)) e ∙ by_view (before.thread == u) refl g
   where
     by_view : (y : Bool) → (before.thread == u) ≡ y → (before.thread ≢ u) ⊎ (k.now v ≡ Some b) → (if y then k.now v else later v) ≡ Some b
     by_view true s (inl n) = absurd (n (eqb-true before.thread u s))

@@ -1,12 +1,13 @@
 -- What the changes of a world leave.
 use Rattle.std.proofs.Common.{◌≡◌, ◌≢◌, ℕ, ◌≤◌, ◌<◌, ◌⊎◌, inl, inr, Bool, true, false, ◌&&◌, Option, Some, None, refl, sym, ap, ◌∙◌, subst, arith, ◌==◌, if◌then◌else◌}
 use Rattle.std.proofs.lemmas.Bool.{eq-eqb, eqb-true, ne_eqb, eqb-false}
-use Rattle.machine_types.specs.Worlds.{Item, Header, Made, Begun, Lost, Builder, builder, World, IsFinished, IsWorld, finished, same_item, same_builder, lost_if, with_builder, GoesOn}
+use Rattle.machine_types.specs.Worlds.{Item, Header, Made, Begun, Unstored, Lost, Builder, builder, World, IsFinished, IsWorld, finished, same_item, same_builder, lost_if, with_builder, GoesOn}
 
 item_same : (x y : Item) → same_item x y ≡ true → x ≡ y
 item_same Header Header e = refl
 item_same (Made q) (Made r) e = ap (λ (n : ℕ). Made n) (eqb-true q r e)
 item_same Begun Begun e = refl
+item_same Unstored Unstored e = refl
 item_same Lost Lost e = refl
 item_same x y e = absurd (cc)
 
@@ -14,6 +15,7 @@ item_self : (x : Item) → same_item x x ≡ true
 item_self Header = refl
 item_self (Made q) = eq-eqb q q refl
 item_self Begun = refl
+item_self Unstored = refl
 item_self Lost = refl
 
 pub builder_same : (j k : Builder) → same_builder j k ≡ true → j ≡ k
@@ -256,9 +258,17 @@ KeepsLost w z = (v : ℕ) (b : Builder) → b.item ≡ Lost → w v ≡ Some b �
 pub lost_same : (w : World) → KeepsLost w w
 lost_same w v b item e = e
 
-pub lost_given : (w : World) (a : ℕ) (k : Builder) → k.item ≢ Lost → ((b : Builder) → w a ≡ Some b → b.item ≢ Lost) → KeepsLost w (with_builder w a k)
-lost_given w a k other was v b item e =
-    given_keeps w a k v b e (λ s. was b (subst (λ (x : ℕ). w x ≡ Some b) s e) item) (λ s. other (sym (ap (λ (i : Builder). i.item) s) ∙ item))
+pub lost_given : (w : World) (a : ℕ) (k : Builder) → ((b : Builder) → w a ≡ Some b → b.item ≢ Lost) → KeepsLost w (with_builder w a k)
+lost_given w a k was v b item e = by_test (same_builder k b) refl
+  where
+    other : v ≢ a
+    other s = was b (subst (λ (x : ℕ). w x ≡ Some b) s e) item
+
+    by_test : (x : Bool) → same_builder k b ≡ x → with_builder w a k v ≡ Some b
+    by_test true t =
+        let same : k ≡ b = builder_same k b t in
+        given_gone w a k v (e ∙ ap (λ (i : Builder). Some i) (sym same)) other ∙ (ap (λ (i : Builder). Some (lost i)) same ∙ (λ i. Some (record b { item = sym item i })))
+    by_test false t = given_keeps w a k v b e other (λ s. (let bad : true ≡ false = sym (builder_self b) ∙ (ap (λ (i : Builder). same_builder i b) s ∙ t) in cc))
 
 pub lost_finished : (w : World) (a : ℕ) → ((b : Builder) → w a ≡ Some b → b.item ≢ Lost) → KeepsLost w (finished w a)
 lost_finished w a was v b item e = finished_there w a v (λ s. was b (subst (λ (x : ℕ). w x ≡ Some b) s e) item) ∙ e

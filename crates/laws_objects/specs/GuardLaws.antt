@@ -5,7 +5,7 @@
 -- their lock).
 use Rattle.std.specs.Prelude.{◌≡◌, ℕ, Bool, List, Some, None, slice_get}
 use Rattle.checked_program.specs.MarkedProgram.{MarkedProgram, IsMarked}
-use Rattle.machine_types.specs.Construction.{Construction}
+use Rattle.machine_types.specs.Construction.{Construction, Owning}
 use Rattle.machine_types.specs.Core.{Core, event}
 use Rattle.machine_types.specs.Guards.{KeepsGuards}
 use Rattle.machine_types.specs.PlainMemory.{Object}
@@ -19,6 +19,7 @@ use Rattle.laws_states.specs.StateFacts.{StateFacts}
 abbrev pub EventsKeepGuards : Type 0
 EventsKeepGuards =
     (c : MarkedProgram) (cfg : Config) (objects : List Object) (was : ℕ → Phase) (frozen : ℕ → Bool)
-    (w : World) (s : Core) (t : ℕ) (x : Thread) → IsMarked c → HaveWidth cfg
-    → StateFacts c cfg objects was s → Construction c frozen w was objects s
-    → slice_get s.threads t ≡ Some x → x.attempt ≡ None → KeepsGuards c objects s (event c s t) x
+    (own : Owning) (w : World) (s : Core) (t : ℕ) (x : Thread) → IsMarked c → HaveWidth cfg
+    → StateFacts c cfg objects was s → Construction c frozen own w was objects s
+    → slice_get s.threads t ≡ Some x → x.attempt ≡ None
+    → KeepsGuards c own.stores objects s (event c s t) x

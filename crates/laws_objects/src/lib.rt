@@ -1,5 +1,5 @@
-//! Laws of objects under construction, and of the fields that sections read without their lock;
-//! each the contract of a function that does nothing.
+//! Laws of objects under construction, and of the fields and elements that sections read without
+//! their lock; each the contract of a function that does nothing.
 #![tactic(auto)]
 
 pub mod event_laws;

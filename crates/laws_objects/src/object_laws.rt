@@ -3,16 +3,13 @@
 ghost use Rattle.laws_objects.specs.ConstructionLaws.{EventsKeepConstruction};
 ghost use Rattle.laws_objects.specs.ConstructionLaws.{NextKeepsConstruction, StartHasConstruction};
 
-use laws_states::start_has_heap;
 use laws_threads::{next_keeps_structure, structure_is_kept};
 use machine_types::start_lies_apart;
 
 /// At the start of a run no object is unfinished.
 pub fn start_has_construction()
     ensures { StartHasConstruction }
-{
-    start_has_heap();
-}
+{}
 
 /// Whatever event happens, there is a world behind it, to which its thread alone may have changed
 /// the one before, in which each unfinished object stays with the frame that builds it.

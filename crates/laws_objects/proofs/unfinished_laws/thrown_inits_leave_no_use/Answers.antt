@@ -14,4 +14,5 @@ returns c =
       start_built = c.start_has_construction.ensures;
       others = c.events_leave_others.ensures;
       frozen_test = c.frozen_classes_are_told.ensures;
+      owned_test = c.owned_fields_are_told.ensures;
     })

@@ -1,0 +1,241 @@
+-- A new array is stored in an owned field of its object: it is finished then, and no frame has it any more.
+use Rattle.std.proofs.Common.{◌≡◌, ◌≢◌, ℕ, ◌+◌, inl, Bool, true, false, List, [], ◌∷◌, ◌++◌, length, map, drop, Option, Some, None, refl, sym, ap, ◌∙◌, subst, arith, slice_index_or}
+use Rattle.std.specs.List.{AllByRecursion}
+use Rattle.jvm_types.specs.{CodeTable.{row, want_of, put_row, value_of, stack_after, locals_after}, Numbers.has_number, Types.TypeFrame, Verifying.{started, after_start, frame_after, edges}, declared.{class_numbers.TheConstants.INT_ARRAY_CLASS, code.{Op.Op}}}
+use Rattle.jvm_types.specs.declared.{op_row.{Given.{Given}, OpRow.OpRow}, program.{Kind.Kind, MethodInfo.MethodInfo}, typing.VType.VType}
+use Rattle.checked_program.specs.{Colours.is_read_of, LockTags.TagShape, MarkedProgram.{MarkedProgram, IsMarked}, OwnedArrays.IsOwnedArrayField, Tagging.{moved_tags, tags_by_op, tags_after}, declared.tag.Tag.{Tag, TheVariants.Untagged}}
+use Rattle.machine_types.specs.Construction.{Owning, AreOwned, puts_owned, AreFrozen, builds, makes_frozen, SlotsAre, StackWith, Runs, IsFresh, ReceiverIs, SlotOf, IsNoStored, IsArraySlot, SlotsFrom, FrameKeeps, KeepBelow, FramesKeep}
+use Rattle.machine_types.specs.{Frames.{frame_on, went_on}, Lawful.within, OwnedPlaces.{with_stored, IsStoredNowhere}, Standing.{row_at, tags_of}, Threads.Frame}
+use Rattle.machine_types.specs.Worlds.{Made, Begun, Unstored, Builder, builder, World, IsFinished}
+use Rattle.laws_threads.{specs.Allowed.OneOf, proofs.{FrameMoves.edge_fits, Landing.rules_at, Standings.top_here, TopEffects.number_in, Typing.edge_at}}
+use Rattle.laws_objects.proofs.{ArrayFrames.takes_clean, ArrayMoves.{GivenClean, WriteClean, SourceFine, stack_clean, each_source, dropped_at}, ArraySlots.{StoresFine, from_drop, each_from, no_stored_along, array_along, stack_begun, locals_begun, IsStart}, BuiltEffects.StartsNone}
+use Rattle.laws_objects.proofs.{CalledFrames.{below_moved, none_started}, KeptFrames.below_kept, Landing.{LandsWell, land, joined_onward}, Moves.Steps, Operands.{WantOld, TakenOld, takes_any}, PutPlaces.{is_newarray, edge_plain}, RestoredFrames.{stored, kept_there, receiver_apart, arrays_from, locals_from, below_on}}
+use Rattle.laws_objects.proofs.{Slots.{slots_map, slots_drop, slots_long, slot_later}, WorldChanges.{none_some, without, without_gone, without_keeps, without_none, world_without, goes_without, lost_without}}
+use Rattle.jvm_types.specs.declared.code.Op.TheVariants as ops
+use Rattle.jvm_types.specs.declared.program.Kind.TheVariants as kinds
+use Rattle.jvm_types.specs.declared.program.Target.TheVariants as targets
+use Rattle.jvm_types.specs.declared.typing.VType.TheVariants as types
+
+-- what is on the top, and what lies below the two values that the instruction takes
+split : (R : VType → Tag → ℕ → Type 0) (New : ℕ → Type 0) (us : List VType) (gs : List Tag) (vs : List ℕ) (array : ℕ) (rest : List ℕ) → StackWith R New true us gs vs → vs ≡ array ∷ rest → New array × SlotsAre R (drop 2 us) (drop 2 gs) (drop 2 vs)
+split R New [] gs [] array rest h e = absurd (cc)
+split R New [] [] (v ∷ vs) array rest h e = absurd h
+split R New [] (g ∷ gs) (v ∷ vs) array rest h e = absurd h
+split R New (u ∷ us) [] vs array rest h e = absurd h
+split R New (u ∷ us) (g ∷ gs) [] array rest h e = absurd h
+split R New (u ∷ us) (g ∷ gs) (v ∷ vs) array rest h e = (subst New (first e) h.0, slots_drop R 1 us gs vs h.1)
+  where
+    first : v ∷ vs ≡ array ∷ rest → v ≡ array
+    first e = cc
+
+want_starts : (kind : Kind) → StartsNone (want_of kind)
+want_starts kinds.Int = tt
+want_starts kinds.Bool = tt
+want_starts (kinds.Ref class) = tt
+
+module _ (c : MarkedProgram) (marked : IsMarked c) (frozen : ℕ → Bool) (are : AreFrozen c frozen) (owning : Owning) (owns : AreOwned c owning.owned) (w : World) (next t : ℕ) (null : IsFinished w next 0) (fine : StoresFine owning.stores next)
+    (f : Frame) (fs : List Frame) (k : FrameKeeps c frozen owning w next t (length fs) Runs f) (b : KeepBelow c frozen owning w next t f fs)
+    (fi index : ℕ) (op_is : k.stands.insn.op ≡ ops.Putfield index) (target_is : k.stands.target ≡ targets.Field fi) (is_owned : owning.owned fi ≡ true)
+    (array : ℕ) (rest : List ℕ) (stack_is : f.stack ≡ array ∷ rest) (edge : OneOf (edges k.stands.insn) k.stands.insn.next) (word : ℕ) where
+  field : IsOwnedArrayField c.program (tags_of c) fi
+  field = owns.those fi is_owned
+
+  abbrev pub new : Builder
+  new = builder t (length fs) Unstored
+
+  abbrev m : MethodInfo
+  m = k.stands.method
+
+  abbrev r : OpRow
+  r = row_at c f k.stands
+
+  puts : puts_owned owning.owned k.stands.insn.op k.stands.target ≡ true
+  puts = (λ i. puts_owned owning.owned (op_is i) (target_is i)) ∙ is_owned
+
+  top : (w array ≡ Some new) × SlotsAre (SlotOf frozen w next t (length fs) Runs k.stands.method f.receiver) (drop 2 k.stands.types.stack) (drop 2 k.stands.tags.stack) (drop 2 f.stack)
+  top = split (SlotOf frozen w next t (length fs) Runs k.stands.method f.receiver) (λ v. w v ≡ Some (builder t (length fs) Unstored)) k.stands.types.stack k.stands.tags.stack f.stack array rest
+      (subst (λ (b : Bool). StackWith (SlotOf frozen w next t (length fs) Runs k.stands.method f.receiver) (λ v. w v ≡ Some (builder t (length fs) Unstored)) b k.stands.types.stack k.stands.tags.stack f.stack) puts k.stack) stack_is
+
+  pub is_new : w array ≡ Some new
+  is_new = top.0
+
+  -- ---- its row
+
+  row_is : row_at c f k.stands ≡ put_row (Some field.field)
+  row_is = (λ i. row c.program k.stands.method k.stands.insn.pc (target_is i) (op_is i)) ∙ ap put_row field.is
+
+  gives_none : (row_at c f k.stands).gives ≡ []
+  gives_none = ap (λ (x : OpRow). x.gives) row_is
+
+  writes_none : (row_at c f k.stands).writes ≡ None
+  writes_none = ap (λ (x : OpRow). x.writes) row_is
+
+  takes_two : length (row_at c f k.stands).takes ≡ 2
+  takes_two = ap (λ (x : OpRow). length x.takes) row_is
+
+  starts_none : AllByRecursion StartsNone (row_at c f k.stands).takes
+  starts_none = subst (λ (x : OpRow). AllByRecursion StartsNone x.takes) (sym row_is) (want_starts field.field.kind, (tt, tt))
+
+  nothing : started k.stands.method.class (row_at c f k.stands).takes k.stands.types.stack ≡ None
+  nothing = none_started k.stands.method.class (row_at c f k.stands).takes k.stands.types.stack starts_none
+
+  below_two : SlotsAre (SlotOf frozen w next t (length fs) Runs k.stands.method f.receiver) (drop (length (row_at c f k.stands).takes) k.stands.types.stack) (drop (length (row_at c f k.stands).takes) k.stands.tags.stack) (drop (length (row_at c f k.stands).takes) f.stack)
+  below_two = subst (λ (n : ℕ). SlotsAre (SlotOf frozen w next t (length fs) Runs k.stands.method f.receiver) (drop n k.stands.types.stack) (drop n k.stands.tags.stack) (drop n f.stack)) (sym takes_two) top.1
+
+  -- ---- it was stored nowhere
+
+  pub unstored : owning.stores array ≡ None
+  unstored =
+      let any : takes_any k.stands.insn.op ≡ false = ap takes_any op_is in
+      let taken = takes_clean c marked frozen owning fine.null w next t (length fs) f k any in
+      let kind : field.field.kind ≡ kinds.Ref INT_ARRAY_CLASS = field.array in
+      let taken_row : TakenOld (IsStoredNowhere owning.stores) (put_row (Some field.field)).takes (array ∷ rest) = subst (TakenOld (IsStoredNowhere owning.stores) (put_row (Some field.field)).takes) stack_is (subst (λ (x : OpRow). TakenOld (IsStoredNowhere owning.stores) x.takes f.stack) row_is taken) in
+      let first : WantOld (IsStoredNowhere owning.stores) (want_of field.field.kind) array = taken_row.0 in
+      subst (λ (x : Kind). WantOld (IsStoredNowhere owning.stores) (want_of x) array) kind first
+
+  pub zero_apart : 0 ≢ array
+  zero_apart s = none_some (w array) new (subst (λ (x : ℕ). w x ≡ None) s null.1) is_new
+
+  abbrev pub behind : Owning
+  behind = stored c frozen owning array word unstored zero_apart new refl
+
+  null_behind : behind.stores 0 ≡ None
+  null_behind = kept_there owning.stores array word unstored 0 zero_apart ∙ fine.null
+
+  -- ---- the world in that it is finished
+
+  abbrev pub z : World
+  z = without w (builder t (length fs) Unstored)
+
+  old_on : (v : ℕ) → IsFinished w next v → IsFinished z next v
+  old_on v o = (o.0, without_none w new v o.1)
+
+  receiver_on : (own : Bool) → ReceiverIs w next t (length fs) own f.receiver → ReceiverIs z next t (length fs) own f.receiver
+  receiver_on true e = without_keeps w new f.receiver (builder t (length fs) Begun) e (λ s. (let i : Begun ≡ Unstored = ap (λ (x : Builder). x.item) s in cc))
+  receiver_on false e = old_on f.receiver e
+
+  slots_on : (us : List VType) (gs : List Tag) (vs : List ℕ) → SlotsAre (SlotOf frozen w next t (length fs) Runs k.stands.method f.receiver) us gs vs → SlotsAre (SlotOf frozen z next t (length fs) Runs k.stands.method f.receiver) us gs vs
+  slots_on = slots_map (SlotOf frozen w next t (length fs) Runs k.stands.method f.receiver) (SlotOf frozen z next t (length fs) Runs k.stands.method f.receiver)
+      (slot_later (IsFinished w next) (IsFinished z next) (IsFresh w t (length fs) Runs) (IsFresh z t (length fs) Runs) old_on (makes_frozen frozen k.stands.method)
+      (λ q v young e. without_keeps w new v (builder t (length fs) (Made q)) e (λ s. (let i : Made q ≡ Unstored = ap (λ (x : Builder). x.item) s in cc))) (builds frozen k.stands.method) f.receiver)
+
+  -- ---- the frame behind the instruction
+
+  abbrev before : TypeFrame
+  before = record { stack = stack_after types.Top (λ t. t) (row_at c f k.stands) k.stands.types.stack k.stands.types.locals; locals = locals_after types.Top (λ t. t) (row_at c f k.stands).writes k.stands.types.stack k.stands.types.locals; ready = k.stands.types.ready }
+
+  abbrev n : ℕ
+  n = length (row_at c f k.stands).takes
+
+  types_are : frame_after k.stands.method (row_at c f k.stands) k.stands.types ≡ record { stack = drop (length (row_at c f k.stands).takes) k.stands.types.stack; locals = k.stands.types.locals; ready = k.stands.types.ready }
+  types_are =
+      ap (λ o. after_start o before) nothing
+      ∙ ap (λ (xs : List Given). record before { stack = map (value_of types.Top (λ t. t) k.stands.types.stack k.stands.types.locals) xs ++ drop (length (row_at c f k.stands).takes) k.stands.types.stack }) gives_none
+      ∙ ap (λ (o : Option (ℕ × Given)). record { stack = drop (length (row_at c f k.stands).takes) k.stands.types.stack; locals = locals_after types.Top (λ t. t) o k.stands.types.stack k.stands.types.locals; ready = k.stands.types.ready }) writes_none
+
+  tags_are : tags_after k.stands.insn (row_at c f k.stands) k.stands.tags ≡ record { stack = drop (length (row_at c f k.stands).takes) k.stands.tags.stack; locals = k.stands.tags.locals; held = k.stands.tags.held }
+  tags_are =
+      ap (λ (op : Op). tags_by_op k.stands.insn.pc (row_at c f k.stands) op k.stands.tags.stack k.stands.tags) op_is
+      ∙ ap (λ (xs : List Given). record (moved_tags (row_at c f k.stands) k.stands.tags) { stack = map (value_of Untagged (λ t. Untagged) k.stands.tags.stack k.stands.tags.locals) xs ++ drop (length (row_at c f k.stands).takes) k.stands.tags.stack }) gives_none
+      ∙ ap (λ (o : Option (ℕ × Given)). record { stack = drop (length (row_at c f k.stands).takes) k.stands.tags.stack; locals = locals_after Untagged (λ t. Untagged) o k.stands.tags.stack k.stands.tags.locals; held = k.stands.tags.held }) writes_none
+
+  values_are : stack_after 0 (λ t. 0) (row_at c f k.stands) f.stack f.locals ≡ drop (length (row_at c f k.stands).takes) f.stack
+  values_are = ap (λ (xs : List Given). map (value_of 0 (λ t. 0) f.stack f.locals) xs ++ drop (length (row_at c f k.stands).takes) f.stack) gives_none
+
+  locals_are : locals_after 0 (λ t. 0) (row_at c f k.stands).writes f.stack f.locals ≡ f.locals
+  locals_are = ap (λ (o : Option (ℕ × Given)). locals_after 0 (λ t. 0) o f.stack f.locals) writes_none
+
+  apart : f.receiver ≢ array
+  apart = receiver_apart c frozen owning array word unstored zero_apart new refl w next t is_new (length fs) (builds frozen k.stands.method) f.receiver k.receiver
+
+  -- the arrays below the two values
+  arrays_below : SlotsFrom (IsArraySlot c (with_stored owning.stores array word) f k.stands.number) (length (row_at c f k.stands).takes) (drop (length (row_at c f k.stands).takes) k.stands.types.stack) (drop (length (row_at c f k.stands).takes) f.stack)
+  arrays_below = arrays_from c frozen owning array word unstored zero_apart new refl w next t is_new (length fs) f k.stands.method apart k.stands.number Runs fresh_apart (length (row_at c f k.stands).takes)
+      (drop (length (row_at c f k.stands).takes) k.stands.types.stack) (drop (length (row_at c f k.stands).takes) k.stands.tags.stack) (drop (length (row_at c f k.stands).takes) f.stack) below_two
+      (from_drop (IsArraySlot c owning.stores f k.stands.number) (length (row_at c f k.stands).takes) 0 (length (row_at c f k.stands).takes) k.stands.types.stack f.stack (omega arith) k.arrays)
+    where
+      fresh_apart : (q v : ℕ) → w v ≡ Some (builder t (length fs) (Made q)) → v ≢ array
+      fresh_apart q v e s = (let at : w array ≡ Some (builder t (length fs) (Made q)) = subst (λ (x : ℕ). w x ≡ Some (builder t (length fs) (Made q))) s e in let both : Some (builder t (length fs) (Made q)) ≡ Some (builder t (length fs) Unstored) = sym at ∙ is_new in let one : builder t (length fs) (Made q) ≡ builder t (length fs) Unstored = cc in let i : Made q ≡ Unstored = ap (λ (x : Builder). x.item) one in cc)
+
+  locals_stay : SlotsFrom (λ place. IsNoStored (with_stored owning.stores array word)) 0 k.stands.types.locals f.locals
+  locals_stay = locals_from c frozen owning array word unstored zero_apart new refl w next t is_new (length fs) f k.stands.method apart k.stands.number Runs fresh_apart 0 k.stands.types.locals k.stands.tags.locals f.locals k.locals k.no_arrays
+    where
+      fresh_apart : (q v : ℕ) → w v ≡ Some (builder t (length fs) (Made q)) → v ≢ array
+      fresh_apart q v e s = (let at : w array ≡ Some (builder t (length fs) (Made q)) = subst (λ (x : ℕ). w x ≡ Some (builder t (length fs) (Made q))) s e in let both : Some (builder t (length fs) (Made q)) ≡ Some (builder t (length fs) Unstored) = sym at ∙ is_new in let one : builder t (length fs) (Made q) ≡ builder t (length fs) Unstored = cc in let i : Made q ≡ Unstored = ap (λ (x : Builder). x.item) one in cc)
+
+  edge_is : has_number (edges k.stands.insn) k.stands.insn.next ≡ true
+  edge_is = number_in (edges k.stands.insn) k.stands.insn.next edge
+
+  started_none : IsStart (started k.stands.method.class (row_at c f k.stands).takes k.stands.types.stack)
+  started_none = subst IsStart (sym nothing) tt
+
+  slot_there : (q : ℕ) → IsArraySlot c (with_stored owning.stores array word) f k.stands.number (length (row_at c f k.stands).takes + q) (slice_index_or k.stands.types.stack (length (row_at c f k.stands).takes + q) types.Top) (slice_index_or f.stack (length (row_at c f k.stands).takes + q) 0)
+  slot_there q =
+      let there = each_from (IsArraySlot c (with_stored owning.stores array word) f k.stands.number) (λ i. record { owned = λ o place is. inl refl; other = λ none. tt }) (length (row_at c f k.stands).takes) (drop (length (row_at c f k.stands).takes) k.stands.types.stack) (drop (length (row_at c f k.stands).takes) f.stack)
+      (slots_long (SlotOf frozen w next t (length fs) Runs k.stands.method f.receiver) (drop (length (row_at c f k.stands).takes) k.stands.types.stack) (drop (length (row_at c f k.stands).takes) k.stands.tags.stack) (drop (length (row_at c f k.stands).takes) f.stack) below_two)
+      arrays_below q (length (row_at c f k.stands).takes + q) refl in
+      subst (λ (u : VType). IsArraySlot c (with_stored owning.stores array word) f k.stands.number (length (row_at c f k.stands).takes + q) u (slice_index_or f.stack (length (row_at c f k.stands).takes + q) 0)) (sym (dropped_at types.Top (length (row_at c f k.stands).takes) k.stands.types.stack q (length (row_at c f k.stands).takes + q) refl))
+      (subst (IsArraySlot c (with_stored owning.stores array word) f k.stands.number (length (row_at c f k.stands).takes + q) (slice_index_or (drop (length (row_at c f k.stands).takes) k.stands.types.stack) q types.Top)) (sym (dropped_at 0 (length (row_at c f k.stands).takes) f.stack q (length (row_at c f k.stands).takes + q) refl)) there)
+
+  no_read : (fi : ℕ) → is_read_of fi k.stands.insn.op k.stands.target ≡ true → ⊥
+  no_read other e = (let bad : false ≡ true = sym (ap (λ (op : Op). is_read_of other op k.stands.target) op_is) ∙ e in cc)
+
+  well : LandsWell c marked frozen are behind owns false (frame_on (row_at c f k.stands) k.stands.insn.next 0 f) k.stands.method (frame_after k.stands.method (row_at c f k.stands) k.stands.types)
+  well = record {
+    put = λ j other target u at same. edge_plain c marked behind owns f.method j k.stands.method other target u at k.stands.number k.stands.insn k.stands.at.in_code (subst (λ (pc : ℕ). has_number (edges k.stands.insn) pc ≡ true) (sym same) edge_is) (ap is_newarray op_is);
+    arrays = λ j other target u at same.
+        stack_begun (IsArraySlot c behind.stores (frame_on (row_at c f k.stands) k.stands.insn.next 0 f) j) (array_along c behind.stores (frame_on (row_at c f k.stands) k.stands.insn.next 0 f) j) (started k.stands.method.class (row_at c f k.stands).takes k.stands.types.stack) started_none before 0 (frame_on (row_at c f k.stands) k.stands.insn.next 0 f).stack
+        (stack_clean c marked behind.stores null_behind f k.stands.number k.stands.method k.stands.insn k.stands.target k.stands.tags k.stands.at k.stands.types.stack k.stands.types.locals f.stack f.locals 0 k.stands.insn.next (drop (length (row_at c f k.stands).takes) f.stack)
+        (frame_on (row_at c f k.stands) k.stands.insn.next 0 f).locals (λ q. dropped_at 0 (length (row_at c f k.stands).takes) f.stack q (length (row_at c f k.stands).takes + q) refl)
+        (record {
+          read = λ other reads place is. absurd (no_read other reads.1);
+          other = λ none. (subst (AllByRecursion (GivenClean behind.stores 0)) (sym gives_none) tt, subst (WriteClean behind.stores 0) (sym writes_none) tt);
+          written = subst (WriteClean behind.stores 0) (sym writes_none) tt;
+        })
+        j other target u at (subst (λ (pc : ℕ). has_number (edges k.stands.insn) pc ≡ true) (sym same) edge_is)
+        (each_source (SourceFine c marked behind.stores null_behind f k.stands.number k.stands.method k.stands.insn k.stands.target k.stands.tags k.stands.at k.stands.types.stack k.stands.types.locals f.stack f.locals 0) (length (row_at c f k.stands).takes) slot_there (row_at c f k.stands).gives
+        (subst (AllByRecursion (SourceFine c marked behind.stores null_behind f k.stands.number k.stands.method k.stands.insn k.stands.target k.stands.tags k.stands.at k.stands.types.stack k.stands.types.locals f.stack f.locals 0)) (sym gives_none) tt)));
+    locals = locals_begun (λ place. IsNoStored behind.stores) (no_stored_along behind.stores) (started k.stands.method.class (row_at c f k.stands).takes k.stands.types.stack) started_none before 0 (frame_on (row_at c f k.stands) k.stands.insn.next 0 f).locals
+        (subst (λ (o : Option (ℕ × Given)). SlotsFrom (λ place. IsNoStored behind.stores) 0 (locals_after types.Top (λ t. t) o k.stands.types.stack k.stands.types.locals) (locals_after 0 (λ t. 0) o f.stack f.locals)) (sym writes_none) locals_stay);
+  }
+
+  abbrev After : TypeFrame
+  After = record { stack = drop (length (row_at c f k.stands).takes) k.stands.types.stack; locals = k.stands.types.locals; ready = k.stands.types.ready }
+
+  abbrev Tags : TagShape
+  Tags = record { stack = drop (length (row_at c f k.stands).takes) k.stands.tags.stack; locals = k.stands.tags.locals; held = k.stands.tags.held }
+
+  frame_stored : FrameKeeps c frozen behind z next t (length fs) Runs (frame_on (row_at c f k.stands) k.stands.insn.next 0 f)
+  frame_stored =
+      land c marked frozen are behind owns z next t (length fs) (old_on 0 null) false (frame_on (row_at c f k.stands) k.stands.insn.next 0 f) k.stands.method k.stands.frames k.stands.at.frames (frame_after k.stands.method (row_at c f k.stands) k.stands.types) (tags_after k.stands.insn (row_at c f k.stands) k.stands.tags)
+      k.stands.at.in_program k.stands.types_of_method k.stands.at.of_method
+      (edge_at k.stands.method (within c.program) k.stands.method.code k.stands.frames (frame_after k.stands.method (row_at c f k.stands) k.stands.types) (edges k.stands.insn) k.stands.insn.next (rules_at c marked f k.stands).sound.edges_fit edge)
+      (edge_fits c marked f k.stands k.stands.insn.next edge_is)
+      (joined_onward c marked frozen are behind owns f (frame_on (row_at c f k.stands) k.stands.insn.next 0 f) k.stands refl edge_is) well (receiver_on (builds frozen k.stands.method) k.receiver)
+      (subst (λ (a : TypeFrame). SlotsAre (SlotOf frozen z next t (length fs) Runs k.stands.method f.receiver) a.stack (tags_after k.stands.insn (row_at c f k.stands) k.stands.tags).stack (stack_after 0 (λ t. 0) (row_at c f k.stands) f.stack f.locals)) (sym types_are)
+      (subst (λ (g : TagShape). SlotsAre (SlotOf frozen z next t (length fs) Runs k.stands.method f.receiver) After.stack g.stack (stack_after 0 (λ t. 0) (row_at c f k.stands) f.stack f.locals)) (sym tags_are)
+      (subst (SlotsAre (SlotOf frozen z next t (length fs) Runs k.stands.method f.receiver) After.stack Tags.stack) (sym values_are) (slots_on After.stack Tags.stack (drop (length (row_at c f k.stands).takes) f.stack) below_two))))
+      (subst (λ (a : TypeFrame). SlotsAre (SlotOf frozen z next t (length fs) Runs k.stands.method f.receiver) a.locals (tags_after k.stands.insn (row_at c f k.stands) k.stands.tags).locals (locals_after 0 (λ t. 0) (row_at c f k.stands).writes f.stack f.locals)) (sym types_are)
+      (subst (λ (g : TagShape). SlotsAre (SlotOf frozen z next t (length fs) Runs k.stands.method f.receiver) After.locals g.locals (locals_after 0 (λ t. 0) (row_at c f k.stands).writes f.stack f.locals)) (sym tags_are)
+      (subst (SlotsAre (SlotOf frozen z next t (length fs) Runs k.stands.method f.receiver) After.locals Tags.locals) (sym locals_are) (slots_on After.locals Tags.locals f.locals k.locals))))
+
+  -- ---- all frames
+
+  below_stored : KeepBelow c frozen behind z next t f fs
+  below_stored =
+      below_kept c frozen behind w z next next t old_on f fs (λ i less v x e. without_keeps w new v (builder t i x) e (λ s. (let same : i ≡ length fs = ap (λ (x : Builder). x.height) s in omega (arith, same, less))))
+      (below_on c frozen owning array word unstored zero_apart new refl w next t is_new f fs (λ i less s. (let same : i ≡ length fs = ap (λ (x : Builder). x.height) s in omega (arith, same, less))) apart b)
+
+  pub stores_it : Steps w next t (λ z. FramesKeep c frozen behind z next t Runs (went_on c.program (top_here c f fs k.stands) 0))
+  stores_it = record {
+    later = without w (builder t (length fs) Unstored);
+    goes = goes_without w next t (builder t (length fs) Unstored) refl;
+    world = λ first is. world_without w first next (builder t (length fs) Unstored) is;
+    lost = lost_without w (builder t (length fs) Unstored) (λ e. cc);
+    keeps = (frame_stored, below_moved c frozen behind z next t f k.stands.insn.next (frame_on (row_at c f k.stands) k.stands.insn.next 0 f).stack (frame_on (row_at c f k.stands) k.stands.insn.next 0 f).locals fs below_stored);
+  }
+
+  -- it is finished behind it
+  pub later_finished : stores_it.later array ≡ None
+  unfolding stores_it
+  later_finished = without_gone w new array is_new
