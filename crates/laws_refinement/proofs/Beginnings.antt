@@ -1,14 +1,14 @@
 -- In every run an attempt begins where it is due, and nowhere else; then it stays the same one until it ends, and its events only
 -- look.
 use Rattle.std.proofs.Common.{◌≡◌, ℕ, zero, suc, ◌+◌, ◌*◌, ◌/◌, ◌%◌, ◌<◌, nat_lt, Bool, true, false, cond, List, [], ◌∷◌, length, Option, Some, None, refl, sym, ap, ◌∙◌, subst, arith, ◌&&◌, slice_get, slice_index}
-use Rattle.std.proofs.lemmas.Bool.{lt-ltb, ltb-true, Decides.nat_tests}
+use Rattle.std.proofs.lemmas.Bool.{lt-ltb, ltb-true}
 use Rattle.lists.proofs.{ListLaws.same_some, TestLaws.{both_true, both_are_true}}
 use Rattle.checked_program.specs.MarkedProgram.{MarkedProgram, IsMarked}
-use Rattle.machine_types.specs.{Accesses.found_by, Core.{Core, Happening, core, event, event_of}, Elision.{begins, tries, may_try, enters_marked}, Events.{wanted, moved}, Going.with_phase}
+use Rattle.machine_types.specs.{Accesses.found_by, Core.{Core, Happening, core}, Elision.{begins, tries, may_try, enters_marked}, Events.{wanted, moved}, Going.with_phase}
 use Rattle.machine_types.specs.{HeldMonitors.held_at, History.{Fate, GoesOn, Fails, Finishes, fate}, LockWords.{word_of_lock, lock_by, lock_of}}
 use Rattle.machine_types.specs.{Monitors.{Claim, HasNot, claim, claim_by, enter_wants, enter_moves}, Settings.AreSettings, Threads.{Attempt, Frame, Thread}, declared.access.Access.TheVariants.Load}
 use Rattle.machine_types.specs.declared.{config.Config.Config, lock.Held.Held, phase.Phase.Phase}
-use Rattle.laws_threads.specs.{InsideEffects.InsideMayDo, InsideMoves.NoElementInside}
+use Rattle.laws_threads.specs.{InsideEffects.InsideMayDo, InsideMoves.ElementsInside}
 use Rattle.laws_states.{specs.{RunFacts.HaveWidth, StateLaws.{ProgramsKeepThreads, RunsHaveState, IsInState}}, proofs.WordViews.lock_of_word}
 use Rattle.laws_objects.proofs.ThrownInits.{moved_is}
 use Rattle.laws_refinement.specs.{Entries.{failed_here, KeepsCount}, EntryLaws.{ThreadsKeepCount, FewFail, IsAttemptDue, HasBegunAttempt, DueBegin, BegunAreDue, AttemptsStay, AttemptsOnlyLook}}
@@ -153,11 +153,11 @@ module _ (x : Thread) (a b : Attempt) (y : Thread) (still : y.attempt ≡ Some b
   stays Fails k = absurd (let bad : Some b ≡ None = sym still ∙ k.outside in cc)
   stays Finishes k = absurd (let bad : Some b ≡ None = sym still ∙ k.0 in cc)
 
-module _ (may_do : InsideMayDo) (no_element : NoElementInside) (runs : RunsHaveState) (parts : ProgramsKeepThreads) where
+module _ (may_do : InsideMayDo) (elements : ElementsInside) (runs : RunsHaveState) (parts : ProgramsKeepThreads) where
   pub in_attempt : (c : MarkedProgram) (cfg : Config) (hs : List Happening) (t : ℕ) (x : Thread) (a : Attempt) → IsMarked c → HaveWidth cfg → AreSettings cfg → slice_get (core c cfg hs).threads t ≡ Some x → x.attempt ≡ Some a → Inside c x a
   in_attempt c cfg hs t x a marked width settings here tries =
       let state : IsInState c cfg (core c cfg hs) = runs c cfg hs marked width (parts c cfg marked settings) in
-      is_inside may_do no_element c marked x a tries (state.was t) (state.facts.structure t x here)
+      is_inside may_do elements c marked x a tries (state.was t) (state.facts.structure t x here)
 
   pub attempts_stay : AttemptsStay
   attempts_stay c cfg hs t x y a b marked width settings here there tries still =

@@ -22,7 +22,7 @@ goes_begun x z (Some o) e = sym (ap (λ (y : Alone). y.begun) (same_some e))
 instructs_begun : (p : Program) (m : ℕ) (memory : ℕ → Option ℕ) (x z : Alone) (o : Option Top) → instructs p m memory x o ≡ Some z → z.begun ≡ x.begun + 1
 instructs_begun p m memory x z None e = absurd (cc)
 instructs_begun p m memory x z (Some at) e =
-    goes_begun (record x { begun = x.begun + 1 }) z (option_and_then (λ got. option_and_then (only_on m) (reads_only p at (effect_at p at) got)) (got_by memory (read_by (effect_at p at)))) e
+    goes_begun (record x { begun = x.begun + 1 }) z (option_and_then (λ got. option_and_then (only_on m) (reads_only p memory at (effect_at p at) got)) (got_by memory (read_by (effect_at p at)))) e
 
 enters_begun : (x z : Alone) (b : Bool) → cond b (Some (enters x)) None ≡ Some z → z.begun ≡ x.begun
 enters_begun x z true e = sym (ap (λ (y : Alone). y.begun) (same_some e))

@@ -2,7 +2,7 @@
 -- is done, which then stands there as a whole.
 use Rattle.std.proofs.Common.{◌≡◌, ℕ, ◌+◌, Bool, List, [], Option, Some, None, refl, sym, ap, ◌∙◌, subst, arith}
 use Rattle.checked_program.specs.MarkedProgram.{MarkedProgram}
-use Rattle.machine_types.specs.{Attempts.Owes, Core.{Core, event, outcome}, Counting.{run_at, take_at, count_along, CountsFit}, Events.moved, Faithful.PrintsFit}
+use Rattle.machine_types.specs.{Attempts.Owes, Construction.Owning, Core.{Core, event, outcome}, Counting.{run_at, take_at, count_along, CountsFit}, Events.moved, Faithful.PrintsFit}
 use Rattle.machine_types.specs.{History.{Past, Fate, GoesOn, Fails, Finishes, fate, past_after, shown_by, shown_at, steps_of}, PlainLaws.InstructionsChangeMemory, PlainMemory.Object, PlainState.Plain}
 use Rattle.machine_types.specs.{PlainSteps.plain_run, Threads.{Attempt, Thread}, Worlds.World, declared.{config.Config.Config, phase.Phase.Phase, plain.PlainStep.PlainStep}}
 use Rattle.laws_states.specs.HeapFacts.{objects_after}
@@ -24,8 +24,8 @@ pub record MovesBy (c : MarkedProgram) (objects : List Object) (s : Core) (t : �
 abbrev pub MovesIn : (c : MarkedProgram) (objects : List Object) (s : Core) (t : ℕ) (x : Thread) (d : Past) (q : Plain) → Option Attempt → Type 0
 MovesIn c objects s t x d q attempt = MovesBy c objects s t x d q (steps_of t (shown_at c x attempt (found_of c s x) d)) (past_after c x attempt (found_of c s x) d)
 
-module _ (memory : InstructionsChangeMemory) (laws : AreEventLaws) (elided : AreElidedLaws) (c : MarkedProgram) (cfg : Config) (objects : List Object) (was : ℕ → Phase) (frozen : ℕ → Bool) (w later : World) (s : Core) (t : ℕ) (x : Thread) (d : Past) (q : Plain)
-    (turns : EventStands c cfg objects was frozen w later s t x) (beside : StandsBeside c.program objects s q) (owes : Owes c objects w s t (was t) x x.attempt d) where
+module _ (memory : InstructionsChangeMemory) (laws : AreEventLaws) (elided : AreElidedLaws) (c : MarkedProgram) (cfg : Config) (objects : List Object) (was : ℕ → Phase) (frozen : ℕ → Bool) (own after : Owning) (w later : World) (s : Core) (t : ℕ) (x : Thread) (d : Past) (q : Plain)
+    (turns : EventStands c cfg objects was frozen own after w later s t x) (beside : StandsBeside c.program objects s q) (owes : Owes c own.stores objects w s t (was t) x x.attempt d) where
   -- outside an attempt
   outside : x.attempt ≡ None → MovesIn c objects s t x d q None
   outside e =
@@ -59,7 +59,7 @@ module _ (memory : InstructionsChangeMemory) (laws : AreEventLaws) (elided : Are
     -- where it finishes, the section
     done : fate c x a x.phase (found_of c s x) ≡ Finishes → MovesIn c objects s t x d q x.attempt
     done is =
-        let finish : FinishesBeside c objects s t x d q = elided.finish c cfg objects was frozen w later s t x a d q turns beside e owes is in
+        let finish : FinishesBeside c objects s t x d q = elided.finish c cfg objects was frozen own after w later s t x a d q turns beside e owes is in
         record {
           after = finish.after;
           run = finish.run;

@@ -2,7 +2,7 @@
 use Rattle.std.proofs.Common.{◌≡◌, ℕ, true, false, Option, Some, None, refl, sym, ap, ◌∙◌, subst}
 use Rattle.checked_program.specs.MarkedProgram.{MarkedProgram}
 use Rattle.machine_types.specs.{Accesses.found_by, Core.{Core, core, event_of}, Events.{wanted, moved}, History.{Fate, GoesOn, Fails, Finishes, fate}, Threads.{Attempt, Thread}}
-use Rattle.laws_threads.specs.{InsideEffects.InsideMayDo, InsideMoves.NoElementInside}
+use Rattle.laws_threads.specs.{InsideEffects.InsideMayDo, InsideMoves.ElementsInside}
 use Rattle.laws_states.specs.StateLaws.{ProgramsKeepThreads, RunsHaveState}
 use Rattle.laws_objects.proofs.ThrownInits.{moved_is}
 use Rattle.laws_refinement.{specs.EntryLaws.{EndsBy, HasFailed, AttemptsEnd, FailuresPutBack, OnlyFailuresCount}, proofs.{Beginnings.in_attempt, Inside.Inside, InsideWords.words_stay}}
@@ -27,11 +27,11 @@ module _ (c : MarkedProgram) (x y : Thread) (got : ℕ) where
   ends_by a Fails k = k.outside
   ends_by a Finishes k = (k.0, not_entering k.1)
 
-module _ (may_do : InsideMayDo) (no_element : NoElementInside) (runs : RunsHaveState) (parts : ProgramsKeepThreads) where
+module _ (may_do : InsideMayDo) (elements : ElementsInside) (runs : RunsHaveState) (parts : ProgramsKeepThreads) where
   pub attempts_end : AttemptsEnd
   attempts_end c cfg hs t x y a marked width settings here there tries =
       let got : ℕ = found_by (core c cfg hs).words (wanted c x x.phase) in
-      let inside : Inside c x a = in_attempt may_do no_element runs parts c cfg hs t x a marked width settings here tries in
+      let inside : Inside c x a = in_attempt may_do elements runs parts c cfg hs t x a marked width settings here tries in
       let z : Thread = moved c x x.phase got in
       subst (EndsBy (fate c x a x.phase got) a) (moved_is c (core c cfg hs) t x y here there) (ends_by c x z got a (fate c x a x.phase got) (inside_moves c x a inside got))
 
@@ -39,7 +39,7 @@ module _ (may_do : InsideMayDo) (no_element : NoElementInside) (runs : RunsHaveS
   failures_put_back c cfg hs t x y a marked width settings here there tries fails =
       let s : Core = core c cfg hs in
       let got : ℕ = found_by s.words (wanted c x x.phase) in
-      let inside : Inside c x a = in_attempt may_do no_element runs parts c cfg hs t x a marked width settings here tries in
+      let inside : Inside c x a = in_attempt may_do elements runs parts c cfg hs t x a marked width settings here tries in
       let failed : HasFailed x (moved c x x.phase got) a = subst (HasFate x (moved c x x.phase got) a) fails (inside_moves c x a inside got) in (
         subst (λ (z : Thread). HasFailed x z a) (moved_is c s t x y here there) failed,
         ap (λ (o : Option Thread). (event_of c s t o).words) here ∙ words_stay s.words c x a inside,
@@ -59,4 +59,4 @@ module _ (may_do : InsideMayDo) (no_element : NoElementInside) (runs : RunsHaveS
       by_attempt None e = outside_counts c x (moved c x x.phase got) got (moved c x x.phase got).attempt (outside_moves c x got e x.phase refl)
       by_attempt (Some a) e =
           inside_counts c x (moved c x x.phase got) got a (fate c x a x.phase got) (never a e)
-          (inside_moves c x a (in_attempt may_do no_element runs parts c cfg hs t x a marked width settings here e) got)
+          (inside_moves c x a (in_attempt may_do elements runs parts c cfg hs t x a marked width settings here e) got)

@@ -4,7 +4,7 @@ use Rattle.std.{specs.List.range_with_len, proofs.lemmas.{Bool.Decides.{nat_test
 use Rattle.lists.proofs.ListLaws.{same_some}
 use Rattle.jvm_types.specs.declared.fixed_words.TheConstants.{NEXT_FREE_WORD}
 use Rattle.checked_program.specs.MarkedProgram.{MarkedProgram, IsMarked}
-use Rattle.machine_types.specs.{Attempts.{Stays, IsLedToPresent, OwesNothing, Owes, Attempts}, Construction.{AreFrozen, Construction}}
+use Rattle.machine_types.specs.{Attempts.{Stays, IsLedToPresent, OwesNothing, Owes, Attempts}, Construction.{AreFrozen, AreOwned, Construction}, OwnedPlaces.{Stores, nowhere}}
 use Rattle.machine_types.specs.Core.{Core, Happening, Of, NextPart, start, event, event_of, may_begin, next, all_happened, core, outcome}
 use Rattle.machine_types.specs.{Counting.{run_at, take_at, count_along, CountsFit, AreCounted}, Events.moved, Facts.FactsBeside}
 use Rattle.machine_types.specs.Faithful.{EndsFit, PrintsFit, IsPlainRun, IsSilent, IsOver, IsFaithful}
@@ -27,37 +27,38 @@ use Rattle.laws_refinement.proofs.{Pasts.{set_there, set_other, set_many}, SameC
 abbrev Counted : MarkedProgram → (steps : List PlainStep) → (t : ℕ) → Thread → Past → Type 0
 Counted c steps t x d = CountsFit x d (count_along c.program (run_at t) steps (plain_start c.program)) (count_along c.program (take_at t) steps (plain_start c.program))
 
-record Shadowed (c : MarkedProgram) (cfg : Config) (frozen : ℕ → Bool) (s : Core) (pasts : List Past) (steps : List PlainStep) : Type 0 where
+record Shadowed (c : MarkedProgram) (cfg : Config) (frozen owned : ℕ → Bool) (s : Core) (pasts : List Past) (steps : List PlainStep) : Type 0 where
   objects : List Object
   was : ℕ → Phase
   world : World
   facts : StateFacts c cfg objects was s
-  built : Construction c frozen world was objects s
+  stores : Stores
+  built : Construction c frozen (record { owned = owned; stores = stores }) world was objects s
   state : Plain
   run : plain_run c.program (plain_start c.program) steps ≡ Some state
   beside : StandsBeside c.program objects s state
   many : length pasts ≡ c.program.workers + 1
-  owes : (t : ℕ) (x : Thread) → slice_get s.threads t ≡ Some x → Owes c objects world s t (was t) x x.attempt (slice_index_or pasts t no_past)
+  owes : (t : ℕ) (x : Thread) → slice_get s.threads t ≡ Some x → Owes c stores objects world s t (was t) x x.attempt (slice_index_or pasts t no_past)
   counts : (t : ℕ) (x : Thread) → slice_get s.threads t ≡ Some x → Counted c steps t x (slice_index_or pasts t no_past)
   prints : PrintsFit (outcome s) state
   keep_none : WorkersKeepNone s.threads
 
 -- ---- what is due, outside attempts and over the same words
 
-owes_none : (c : MarkedProgram) (objects : List Object) (w : World) (s : Core) (t : ℕ) (was : Phase) (x : Thread) (o : Option Attempt) (d : Past) → o ≡ None → OwesNothing d → Owes c objects w s t was x o d
-owes_none c objects w s t was x o d e k = subst (λ (a : Option Attempt). Owes c objects w s t was x a d) (sym e) k
+owes_none : (c : MarkedProgram) (stores : Stores) (objects : List Object) (w : World) (s : Core) (t : ℕ) (was : Phase) (x : Thread) (o : Option Attempt) (d : Past) → o ≡ None → OwesNothing d → Owes c stores objects w s t was x o d
+owes_none c stores objects w s t was x o d e k = subst (λ (a : Option Attempt). Owes c stores objects w s t was x a d) (sym e) k
 
-owed_none : (c : MarkedProgram) (objects : List Object) (w : World) (s : Core) (t : ℕ) (was : Phase) (x : Thread) (o : Option Attempt) (d : Past) → o ≡ None → Owes c objects w s t was x o d → OwesNothing d
-owed_none c objects w s t was x o d e k = subst (λ (a : Option Attempt). Owes c objects w s t was x a d) e k
+owed_none : (c : MarkedProgram) (stores : Stores) (objects : List Object) (w : World) (s : Core) (t : ℕ) (was : Phase) (x : Thread) (o : Option Attempt) (d : Past) → o ≡ None → Owes c stores objects w s t was x o d → OwesNothing d
+owed_none c stores objects w s t was x o d e k = subst (λ (a : Option Attempt). Owes c stores objects w s t was x a d) e k
 
-owes_over : (c : MarkedProgram) (objects : List Object) (w : World) (s r : Core) (t : ℕ) (was : Phase) (x : Thread) (o : Option Attempt) (d : Past) → r.words ≡ s.words → Owes c objects w s t was x o d → Owes c objects w r t was x o d
-owes_over c objects w s r t was x None d e k = k
-owes_over c objects w s r t was x (Some a) d e k = subst (λ (words : List ℕ). IsLedToPresent c (Stays c objects w (slice_index words NEXT_FREE_WORD) t a.monitor) words was x a d) (sym e) k
+owes_over : (c : MarkedProgram) (stores : Stores) (objects : List Object) (w : World) (s r : Core) (t : ℕ) (was : Phase) (x : Thread) (o : Option Attempt) (d : Past) → r.words ≡ s.words → Owes c stores objects w s t was x o d → Owes c stores objects w r t was x o d
+owes_over c stores objects w s r t was x None d e k = k
+owes_over c stores objects w s r t was x (Some a) d e k = (k.0, subst (λ (words : List ℕ). IsLedToPresent c (Stays c stores objects w (slice_index words NEXT_FREE_WORD) t a.monitor) words was x a d) (sym e) k.1)
 
-module _ (given : GivenIsKept) (memory : InstructionsChangeMemory) (laws : AreEventLaws) (elided : AreElidedLaws) (c : MarkedProgram) (cfg : Config) (frozen : ℕ → Bool) (frozen_are : AreFrozen c frozen) (marked : IsMarked c) (width : HaveWidth cfg) (settings : AreSettings cfg) where
+module _ (given : GivenIsKept) (memory : InstructionsChangeMemory) (laws : AreEventLaws) (elided : AreElidedLaws) (c : MarkedProgram) (cfg : Config) (frozen : ℕ → Bool) (frozen_are : AreFrozen c frozen) (owned : ℕ → Bool) (owned_are : AreOwned c owned) (marked : IsMarked c) (width : HaveWidth cfg) (settings : AreSettings cfg) where
   -- ---- an event of a thread
 
-  module _ (s : Core) (pasts : List Past) (steps : List PlainStep) (l : Shadowed c cfg frozen s pasts steps) (t : ℕ) (x : Thread) (there : slice_get s.threads t ≡ Some x) where
+  module _ (s : Core) (pasts : List Past) (steps : List PlainStep) (l : Shadowed c cfg frozen owned s pasts steps) (t : ℕ) (x : Thread) (there : slice_get s.threads t ≡ Some x) where
     abbrev now : Thread
     now = moved c x x.phase (found_of c s x)
 
@@ -67,13 +68,15 @@ module _ (given : GivenIsKept) (memory : InstructionsChangeMemory) (laws : AreEv
     abbrev more : List PlainStep
     more = steps_of t (shown_at c x x.attempt (found_of c s x) (slice_index_or pasts t no_past))
 
-    builds : BuildsOn c l.objects l.was s t frozen l.world
-    builds = elided.events_built c cfg l.objects l.was s t frozen l.world marked width l.facts l.built
+    builds : BuildsOn c l.objects l.was s t frozen
+        (record { owned = owned; stores = l.stores }) l.world
+    builds = elided.events_built c cfg l.objects l.was s t frozen (record { owned = owned; stores = l.stores }) l.world marked width l.facts l.built
 
     facts_after : StateFacts c cfg (objects_after c.program s t l.objects) (counted_after c l.was s t) (event c s t)
     facts_after = laws.events_state c cfg l.objects l.was s t marked width l.facts
 
-    turns : EventStands c cfg l.objects l.was frozen l.world builds.later s t x
+    turns : EventStands c cfg l.objects l.was frozen (record { owned = owned; stores = l.stores })
+        (record { owned = owned; stores = builds.stores }) l.world builds.later s t x
     turns = record {
       marked = marked;
       width = width;
@@ -82,12 +85,13 @@ module _ (given : GivenIsKept) (memory : InstructionsChangeMemory) (laws : AreEv
       built = l.built;
       facts_after = facts_after;
       built_after = builds.keeps;
+      kept = builds.kept;
       goes_on = builds.goes_on;
-      guards = λ outside. elided.guards c cfg l.objects l.was frozen l.world s t x marked width l.facts l.built there outside;
+      guards = λ outside. elided.guards c cfg l.objects l.was frozen (record { owned = owned; stores = l.stores }) l.world s t x marked width l.facts l.built there outside;
     }
 
     moves : MovesIn c l.objects s t x (slice_index_or pasts t no_past) l.state x.attempt
-    moves = event_moves memory laws elided c cfg l.objects l.was frozen l.world builds.later s t x (slice_index_or pasts t no_past) l.state turns l.beside (l.owes t x there)
+    moves = event_moves memory laws elided c cfg l.objects l.was frozen (record { owned = owned; stores = l.stores }) (record { owned = owned; stores = builds.stores }) l.world builds.later s t x (slice_index_or pasts t no_past) l.state turns l.beside (l.owes t x there)
 
     after_threads : (event c s t).threads ≡ slice_set s.threads t (moved c x x.phase (found_of c s x))
     after_threads = ap (λ (o : Option Thread). (event_of c s t o).threads) there
@@ -120,15 +124,17 @@ module _ (given : GivenIsKept) (memory : InstructionsChangeMemory) (laws : AreEv
     past_other u e = set_other pasts t u past_now no_past e
 
     abbrev owed : ℕ → Thread → Type 0
-    owed u z = Owes c (objects_after c.program s t l.objects) builds.later (event c s t) u (counted_after c l.was s t u) z z.attempt (slice_index_or (slice_set pasts t past_now) u no_past)
+    owed u z = Owes c builds.stores (objects_after c.program s t l.objects) builds.later (event c s t) u (counted_after c l.was s t u) z z.attempt (slice_index_or (slice_set pasts t past_now) u no_past)
 
     owed_here : owed t now
-    owed_here = subst (λ (p : Past). Owes c (objects_after c.program s t l.objects) builds.later (event c s t) t (counted_after c l.was s t t) now now.attempt p) (sym past_here)
-        (elided.own_keeps c cfg l.objects l.was frozen l.world builds.later s t x (slice_index_or pasts t no_past) turns (l.owes t x there))
+    owed_here = subst (λ (p : Past). Owes c builds.stores (objects_after c.program s t l.objects) builds.later (event c s t) t (counted_after c l.was s t t) now now.attempt p) (sym past_here)
+        (elided.own_keeps c cfg l.objects l.was frozen (record { owned = owned; stores = l.stores })
+        (record { owned = owned; stores = builds.stores }) l.world builds.later s t x
+        (slice_index_or pasts t no_past) turns (l.owes t x there))
 
     owed_other : (u : ℕ) (z : Thread) → (u == t) ≡ false → slice_get s.threads u ≡ Some z → owed u z
-    owed_other u z e f = subst (λ (p : Past). Owes c (objects_after c.program s t l.objects) builds.later (event c s t) u (counted_after c l.was s t u) z z.attempt p) (sym (past_other u e))
-        (elided.others_keep c cfg l.objects l.was frozen l.world builds.later s t u x z (slice_index_or pasts u no_past) turns (apart u t e) f (l.owes u z f))
+    owed_other u z e f = subst (λ (p : Past). Owes c builds.stores (objects_after c.program s t l.objects) builds.later (event c s t) u (counted_after c l.was s t u) z z.attempt p) (sym (past_other u e))
+        (elided.others_keep c cfg l.objects l.was frozen (record { owned = owned; stores = l.stores }) (record { owned = owned; stores = builds.stores }) l.world builds.later s t u x z (slice_index_or pasts u no_past) turns (apart u t e) f (l.owes u z f))
 
     abbrev counted : ℕ → Thread → Type 0
     counted u z = Counted c (steps ++ more) u z (slice_index_or (slice_set pasts t past_now) u no_past)
@@ -152,12 +158,13 @@ module _ (given : GivenIsKept) (memory : InstructionsChangeMemory) (laws : AreEv
         let no_takes : count_along c.program (take_at u) more l.state ≡ 0 = nothing.takes in
         subst (λ (p : Past). Counted c (steps ++ more) u z p) (sym (past_other u e)) (recounted z k (omega (arith, runs, no_runs)) (omega (arith, takes, no_takes)))
 
-    goes_on : Shadowed c cfg frozen (event c s t) (slice_set pasts t past_now) (steps ++ more)
+    goes_on : Shadowed c cfg frozen owned (event c s t) (slice_set pasts t past_now) (steps ++ more)
     goes_on = record {
       objects = objects_after c.program s t l.objects;
       was = counted_after c l.was s t;
       world = builds.later;
       facts = facts_after;
+      stores = builds.stores;
       built = builds.keeps;
       state = moves.after;
       run = run_on c.program steps more (plain_start c.program) l.state l.run ∙ moves.run;
@@ -171,16 +178,16 @@ module _ (given : GivenIsKept) (memory : InstructionsChangeMemory) (laws : AreEv
 
   -- ---- where a part begins
 
-  module _ (s : Core) (pasts : List Past) (steps : List PlainStep) (l : Shadowed c cfg frozen s pasts steps) where
+  module _ (s : Core) (pasts : List Past) (steps : List PlainStep) (l : Shadowed c cfg frozen owned s pasts steps) where
     abbrev IsKept : (t : ℕ) → Thread → Type 0
-    IsKept t z = Owes c l.objects l.world (next c s) t (counted_next c l.was s t) z z.attempt (slice_index_or pasts t no_past) × Counted c steps t z (slice_index_or pasts t no_past)
+    IsKept t z = Owes c l.stores l.objects l.world (next c s) t (counted_next c l.was s t) z z.attempt (slice_index_or pasts t no_past) × Counted c steps t z (slice_index_or pasts t no_past)
 
     -- of a thread as it was
     kept_same : may_begin s.threads ≡ false → (t : ℕ) (z : Thread) → slice_get s.threads t ≡ Some z → IsKept t z
     kept_same may t z e =
         let counted : counted_next c l.was s t ≡ l.was t = ap (λ (b : Bool). if b then counted_of (l.was t) (slice_get (next c s).threads t) else l.was t) may in (
-          subst (λ (phase : Phase). Owes c l.objects l.world (next c s) t phase z z.attempt (slice_index_or pasts t no_past)) (sym counted)
-              (owes_over c l.objects l.world s (next c s) t (l.was t) z z.attempt (slice_index_or pasts t no_past) refl (l.owes t z e)),
+          subst (λ (phase : Phase). Owes c l.stores l.objects l.world (next c s) t phase z z.attempt (slice_index_or pasts t no_past)) (sym counted)
+              (owes_over c l.stores l.objects l.world s (next c s) t (l.was t) z z.attempt (slice_index_or pasts t no_past) refl (l.owes t z e)),
           l.counts t z e,
         )
 
@@ -189,8 +196,8 @@ module _ (given : GivenIsKept) (memory : InstructionsChangeMemory) (laws : AreEv
     kept_begun may t z e =
         let k = came_from c.program s.threads t z l.facts.threads.parts e in
         let none : k.old.attempt ≡ None = none_tries c l.was s.threads may l.facts.threads.parts l.facts.structure t k.old k.there in
-        let nothing : OwesNothing (slice_index_or pasts t no_past) = owed_none c l.objects l.world s t (l.was t) k.old k.old.attempt (slice_index_or pasts t no_past) none (l.owes t k.old k.there) in (
-          owes_none c l.objects l.world (next c s) t (counted_next c l.was s t) z z.attempt (slice_index_or pasts t no_past) (k.same.attempt ∙ none) nothing,
+        let nothing : OwesNothing (slice_index_or pasts t no_past) = owed_none c l.stores l.objects l.world s t (l.was t) k.old k.old.attempt (slice_index_or pasts t no_past) none (l.owes t k.old k.there) in (
+          owes_none c l.stores l.objects l.world (next c s) t (counted_next c l.was s t) z z.attempt (slice_index_or pasts t no_past) (k.same.attempt ∙ none) nothing,
           counted_same k.old z (slice_index_or pasts t no_past) _ _ none k.same (l.counts t k.old k.there),
         )
 
@@ -198,13 +205,14 @@ module _ (given : GivenIsKept) (memory : InstructionsChangeMemory) (laws : AreEv
     kept true may t z e = kept_begun may t z e
     kept false may t z e = kept_same may t z (ap (λ (threads : List Thread). slice_get threads t) (sym (same_threads c.program s.threads may)) ∙ e)
 
-    begins : Shadowed c cfg frozen (next c s) pasts steps
+    begins : Shadowed c cfg frozen owned (next c s) pasts steps
     begins = record {
       objects = l.objects;
       was = counted_next c l.was s;
       world = l.world;
       facts = laws.next_state c cfg l.objects l.was s marked (laws.parts c cfg marked settings) l.facts;
-      built = elided.next_built c cfg l.objects l.was s frozen l.world marked l.facts l.built;
+      stores = l.stores;
+      built = elided.next_built c cfg l.objects l.was s frozen (record { owned = owned; stores = l.stores }) l.world marked l.facts l.built;
       state = l.state;
       run = l.run;
       beside = laws.next_beside c cfg l.objects l.was s l.state marked l.facts l.beside;
@@ -217,13 +225,14 @@ module _ (given : GivenIsKept) (memory : InstructionsChangeMemory) (laws : AreEv
 
   -- ---- the start
 
-  start_stands : Shadowed c cfg frozen (start c cfg) (replicate (c.program.workers + 1) no_past) []
+  start_stands : Shadowed c cfg frozen owned (start c cfg) (replicate (c.program.workers + 1) no_past) []
   start_stands = record {
     objects = start_objects c.program;
     was = phase_at_start c cfg;
     world = no_builders;
     facts = laws.start_state c cfg marked (laws.parts c cfg marked settings);
-    built = elided.start_built c cfg frozen marked frozen_are;
+    stores = nowhere;
+    built = elided.start_built c cfg frozen owned marked frozen_are owned_are;
     state = plain_start c.program;
     run = refl;
     beside = laws.start_beside c cfg marked;
@@ -231,7 +240,7 @@ module _ (given : GivenIsKept) (memory : InstructionsChangeMemory) (laws : AreEv
     owes = λ t x e.
         let nothing : OwesNothing (slice_index_or (replicate (c.program.workers + 1) no_past) t no_past) =
         subst OwesNothing (sym (all_one (c.program.workers + 1) t no_past)) (record { due = refl; pending = refl }) in
-        owes_none c (start_objects c.program) no_builders (start c cfg) t (phase_at_start c cfg t) x x.attempt (slice_index_or (replicate (c.program.workers + 1) no_past) t no_past) (laws.start_untried c cfg t x e) nothing;
+        owes_none c nowhere (start_objects c.program) no_builders (start c cfg) t (phase_at_start c cfg t) x x.attempt (slice_index_or (replicate (c.program.workers + 1) no_past) t no_past) (laws.start_untried c cfg t x e) nothing;
     counts = λ t x e. subst (λ (p : Past). Counted c [] t x p) (sym (all_one (c.program.workers + 1) t no_past)) (counted_at_start c cfg (range_with_len 0 (c.program.workers + 1)) t x e);
     prints = start_has_prints c cfg;
     keep_none = start_keeps_none c cfg;
@@ -239,22 +248,22 @@ module _ (given : GivenIsKept) (memory : InstructionsChangeMemory) (laws : AreEv
 
   -- ---- a list of events
 
-  one_of : (w : Told) (steps : List PlainStep) (t : ℕ) → Shadowed c cfg frozen w.core w.pasts steps
-      → Shadowed c cfg frozen (event c w.core t) (pasts_after c w t (slice_get w.core.threads t)) (steps ++ shown_of c w t (slice_get w.core.threads t))
+  one_of : (w : Told) (steps : List PlainStep) (t : ℕ) → Shadowed c cfg frozen owned w.core w.pasts steps
+      → Shadowed c cfg frozen owned (event c w.core t) (pasts_after c w t (slice_get w.core.threads t)) (steps ++ shown_of c w t (slice_get w.core.threads t))
   one_of w steps t l = by_thread_of (slice_get w.core.threads t) refl
     where
-      by_thread_of : (o : Option Thread) → slice_get w.core.threads t ≡ o → Shadowed c cfg frozen (event c w.core t) (pasts_after c w t o) (steps ++ shown_of c w t o)
-      by_thread_of None e = subst (λ (s : Core). Shadowed c cfg frozen s w.pasts (steps ++ [])) (sym (ap (event_of c w.core t) e)) (subst (λ (ss : List PlainStep). Shadowed c cfg frozen w.core w.pasts ss) (sym (append-nil steps)) l)
+      by_thread_of : (o : Option Thread) → slice_get w.core.threads t ≡ o → Shadowed c cfg frozen owned (event c w.core t) (pasts_after c w t o) (steps ++ shown_of c w t o)
+      by_thread_of None e = subst (λ (s : Core). Shadowed c cfg frozen owned s w.pasts (steps ++ [])) (sym (ap (event_of c w.core t) e)) (subst (λ (ss : List PlainStep). Shadowed c cfg frozen owned w.core w.pasts ss) (sym (append-nil steps)) l)
       by_thread_of (Some x) e = goes_on w.core w.pasts steps l t x e
 
-  one : (w : Told) (steps : List PlainStep) (h : Happening) → Shadowed c cfg frozen w.core w.pasts steps → Shadowed c cfg frozen (told c w h).core (told c w h).pasts (steps ++ shown c w h)
+  one : (w : Told) (steps : List PlainStep) (h : Happening) → Shadowed c cfg frozen owned w.core w.pasts steps → Shadowed c cfg frozen owned (told c w h).core (told c w h).pasts (steps ++ shown c w h)
   one w steps (Of t) l = one_of w steps t l
-  one w steps NextPart l = subst (λ (ss : List PlainStep). Shadowed c cfg frozen (next c w.core) w.pasts ss) (sym (append-nil steps)) (begins w.core w.pasts steps l)
+  one w steps NextPart l = subst (λ (ss : List PlainStep). Shadowed c cfg frozen owned (next c w.core) w.pasts ss) (sym (append-nil steps)) (begins w.core w.pasts steps l)
 
-  all : (hs : List Happening) (w : Told) (steps : List PlainStep) → Shadowed c cfg frozen w.core w.pasts steps → Shadowed c cfg frozen (all_told c w hs).core (all_told c w hs).pasts (steps ++ shadow_from c w hs)
-  all [] w steps l = subst (λ (ss : List PlainStep). Shadowed c cfg frozen w.core w.pasts ss) (sym (append-nil steps)) l
+  all : (hs : List Happening) (w : Told) (steps : List PlainStep) → Shadowed c cfg frozen owned w.core w.pasts steps → Shadowed c cfg frozen owned (all_told c w hs).core (all_told c w hs).pasts (steps ++ shadow_from c w hs)
+  all [] w steps l = subst (λ (ss : List PlainStep). Shadowed c cfg frozen owned w.core w.pasts ss) (sym (append-nil steps)) l
   all (h ∷ hs) w steps l =
-      subst (λ (ss : List PlainStep). Shadowed c cfg frozen (all_told c (told c w h) hs).core (all_told c (told c w h) hs).pasts ss) (append_assoc steps (shown c w h) (shadow_from c (told c w h) hs))
+      subst (λ (ss : List PlainStep). Shadowed c cfg frozen owned (all_told c (told c w h) hs).core (all_told c (told c w h) hs).pasts ss) (append_assoc steps (shown c w h) (shadow_from c (told c w h) hs))
       (all hs (told c w h) (steps ++ shown c w h) (one w steps h l))
 
   core_told : (hs : List Happening) (w : Told) → (all_told c w hs).core ≡ all_happened c w.core hs
@@ -266,9 +275,9 @@ module _ (given : GivenIsKept) (memory : InstructionsChangeMemory) (laws : AreEv
   unfolding core
   told_is hs = core_told hs (told_start c cfg)
 
-  reached : (hs : List Happening) → Shadowed c cfg frozen (core c cfg hs) (told_after c cfg hs).pasts (shadow c cfg hs)
+  reached : (hs : List Happening) → Shadowed c cfg frozen owned (core c cfg hs) (told_after c cfg hs).pasts (shadow c cfg hs)
   unfolding shadow
-  reached hs = subst (λ (s : Core). Shadowed c cfg frozen s (told_after c cfg hs).pasts (shadow_from c (told_start c cfg) hs)) (told_is hs) (all hs (told_start c cfg) [] start_stands)
+  reached hs = subst (λ (s : Core). Shadowed c cfg frozen owned s (told_after c cfg hs).pasts (shadow_from c (told_start c cfg) hs)) (told_is hs) (all hs (told_start c cfg) [] start_stands)
 
   -- ---- a run is faithful
 
@@ -300,13 +309,14 @@ module _ (given : GivenIsKept) (memory : InstructionsChangeMemory) (laws : AreEv
   abbrev with_pasts : (hs : List Happening) (s : Core) → Told
   with_pasts hs s = record { core = s; pasts = (told_after c cfg hs).pasts }
 
-  joined_of : (w : Told) (steps : List PlainStep) (l : Shadowed c cfg frozen w.core w.pasts steps) → FactsBeside c cfg w l.state
+  joined_of : (w : Told) (steps : List PlainStep) (l : Shadowed c cfg frozen owned w.core w.pasts steps) → FactsBeside c cfg w l.state
   joined_of w steps l = record {
     facts = record {
       was = l.was;
       objects = l.objects;
       world = l.world;
       frozen = frozen;
+      owning = record { owned = owned; stores = l.stores };
       own = l.facts.threads.own;
       started = l.facts.heap.started;
       apart = l.facts.heap.apart;
@@ -331,11 +341,12 @@ module _ (given : GivenIsKept) (memory : InstructionsChangeMemory) (laws : AreEv
     world = l.world;
     frozen = frozen;
     frozen_are = frozen_are;
+    owning = record { owned = owned; stores = l.stores };
     facts = l.facts;
     built = l.built;
     pasts = l.many;
     told_is = told_is hs;
-    attempts = subst (λ (s : Core). Attempts c l.objects l.world l.was (with_pasts hs s)) (sym (told_is hs)) (record { each = l.owes });
+    attempts = subst (λ (s : Core). Attempts c l.stores l.objects l.world l.was (with_pasts hs s)) (sym (told_is hs)) (record { each = l.owes });
     state = l.state;
     run = l.run;
     beside = l.beside;
@@ -343,16 +354,18 @@ module _ (given : GivenIsKept) (memory : InstructionsChangeMemory) (laws : AreEv
     counts = counted_of_all hs;
     prints = l.prints;
     keep_none = l.keep_none;
-    guards = λ t x there outside. elided.guards c cfg l.objects l.was frozen l.world (core c cfg hs) t x marked width l.facts l.built there outside;
+    guards = λ t x there outside. elided.guards c cfg l.objects l.was frozen (record { owned = owned; stores = l.stores }) l.world (core c cfg hs) t x marked width l.facts l.built there outside;
     silent = silent_of hs;
   }
 
 pub runs_follow : GivenIsKept → InstructionsChangeMemory → RunsFollow
 runs_follow given memory laws elided c cfg hs marked width settings =
     let test = elided.frozen_test c marked.marks in
-    faithful given memory laws elided c cfg test.0 test.1 marked width settings hs
+    let owned = elided.owned_test c marked.marks in
+    faithful given memory laws elided c cfg test.0 test.1 owned.0 owned.1 marked width settings hs
 
 pub runs_stand : GivenIsKept → InstructionsChangeMemory → AreEventLaws → AreElidedLaws → RunsStand
 runs_stand given memory laws elided c cfg hs marked width settings =
     let test = elided.frozen_test c marked.marks in
-    stands given memory laws elided c cfg test.0 test.1 marked width settings hs
+    let owned = elided.owned_test c marked.marks in
+    stands given memory laws elided c cfg test.0 test.1 owned.0 owned.1 marked width settings hs

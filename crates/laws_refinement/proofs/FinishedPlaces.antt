@@ -4,12 +4,12 @@ use Rattle.lists.proofs.ListLaws.{same_some}
 use Rattle.jvm_types.specs.{Members.is_static, ProgramInvariant.{IsProgram, instances_among}, declared.program.FieldInfo.FieldInfo}
 use Rattle.laws_programs.proofs.FieldOrder.{instances_inside}
 use Rattle.checked_program.specs.MarkedProgram.{MarkedProgram, IsMarked}
-use Rattle.machine_types.specs.{Attempts.{IsFieldAt, Stays, header, frozen, guarded, frozen_static, guarded_static}, Core.Core, PlainMemory.Object, PlainState.{Plain, value_at}, Words.value_word}
+use Rattle.machine_types.specs.{Attempts.{IsFieldAt, Stays, header, frozen, guarded, element, frozen_static, guarded_static}, Core.Core, OwnedPlaces.Stores, PlainMemory.Object, PlainState.{Plain, value_at}, Words.value_word}
 use Rattle.machine_types.specs.Worlds.{World}
 use Rattle.laws_states.{specs.{HeapFacts.HeapFacts, SiteLaws.SitesDiffer, Sites.{HeaderOf, ValueOf, StaticAt}}, proofs.Lists.contained_got}
 use Rattle.laws_simulation.{specs.StandsBeside.StandsBeside, proofs.PlainValues.value_found}
 
-module _ (differ : SitesDiffer) (c : MarkedProgram) (objects : List Object) (s : Core) (q : Plain) (marked : IsMarked c) (heap : HeapFacts c objects s) (beside : StandsBeside c.program objects s q) (w : World) (next t : ℕ) where
+module _ (differ : SitesDiffer) (c : MarkedProgram) (objects : List Object) (s : Core) (q : Plain) (marked : IsMarked c) (heap : HeapFacts c objects s) (beside : StandsBeside c.program objects s q) (stores : Stores) (w : World) (next t : ℕ) where
   is_program : IsProgram c.program
   is_program = marked.checked.program
 
@@ -26,10 +26,14 @@ module _ (differ : SitesDiffer) (c : MarkedProgram) (objects : List Object) (s :
   static_value : (fi x : ℕ) (f : FieldInfo) → slice_get c.program.fields fi ≡ Some f → is_static f.flags ≡ true → x ≡ f.index → value_at q x ≡ Some (slice_index s.words x)
   static_value fi x f get static place = subst (λ (n : ℕ). value_at q n ≡ Some (slice_index s.words n)) (sym place) (value_found differ c objects s q marked heap beside (StaticAt f.index) tt (heap.apart.there fi f get static))
 
-  pub staying_value : (m x : ℕ) → Stays c objects w next t m x → value_at q x ≡ Some (slice_index s.words x)
+  pub staying_value : (m x : ℕ) → Stays c stores objects w next t m x → value_at q x ≡ Some (slice_index s.words x)
   staying_value m x (header o there place) =
       subst (λ (n : ℕ). value_at q n ≡ Some (slice_index s.words n)) (sym place) (value_found differ c objects s q marked heap beside (HeaderOf o.reference) tt (o, there, refl))
   staying_value m x (frozen fi o field at) = field_value fi x o field.field field.is field.instance at
   staying_value m x (guarded fi o field on at) = field_value fi x o field.field field.is field.instance at
+  staying_value m x (element fi o owned there on k) =
+      subst (λ (n : ℕ). value_at q n ≡ Some (slice_index s.words n)) (sym k.place)
+      (value_found differ c objects s q marked heap beside
+      (ValueOf k.array.reference k.index) tt (k.array, k.there, refl, k.inside))
   staying_value m x (frozen_static fi field place) = static_value fi x field.field field.is field.static place
   staying_value m x (guarded_static fi field on place) = static_value fi x field.field field.is field.static place

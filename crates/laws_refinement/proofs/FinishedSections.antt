@@ -5,7 +5,7 @@ use Rattle.jvm_types.specs.declared.fixed_words.TheConstants.{FIRST_READY_WORD, 
 use Rattle.checked_program.specs.MarkedProgram.{MarkedProgram, IsMarked}
 use Rattle.machine_types.specs.{Accesses.found_by, Agreement.{AttemptFits, ThreadFits, depth_for, has_wait_bit}, Attempts.Owes, Core.{Core, event}, Counting.{run_at, take_at, count_along}}
 use Rattle.machine_types.specs.{Elision.elided, Events.wanted, Going.goes_on, HeldMonitors.{depth_at, held_at}, History.{Fate, Finishes, Past, fate, shown_at, shown_by, steps_of}, LockWords.lock_of}
-use Rattle.machine_types.specs.{Onward.{Onward, after}, Owners.{hold_by_word, lock_at, owner_at, references_of}, PlainMemory.Object, PlainState.{Plain, PlainThread, Holding, value_at, holding_at}}
+use Rattle.machine_types.specs.{Onward.{Onward, after}, OwnedPlaces.Stores, Owners.{hold_by_word, lock_at, owner_at, references_of}, PlainMemory.Object, PlainState.{Plain, PlainThread, Holding, value_at, holding_at}}
 use Rattle.machine_types.specs.{PlainSteps.plain_run, Replay.{replayed, at_entry, at_present}, Structure.{IsAs, Stands}, Threads.{Attempt, Thread}, Typed.{AttemptHolds, HasClass, PhaseHolds}}
 use Rattle.machine_types.{specs.{Worlds.World, declared.{config.Config.Config, lock.{Held.Held, LockWord.LockWord}, phase.Phase.Phase, plain.Act.Act}}, proofs.AttemptReplay.hold}
 use Rattle.machine_types.proofs.PlainStepLaws.{none_left}
@@ -134,11 +134,11 @@ module _ (differ : SitesDiffer) (c : MarkedProgram) (cfg : Config) (objects : Li
 
     -- ---- the section as a whole
 
-    module _ (w : World) (owes : Owes c objects w s t (was t) x x.attempt n) where
+    module _ (stores : Stores) (w : World) (owes : Owes c stores objects w s t (was t) x x.attempt n) where
       leads : replayed c.program a.monitor (value_at q) n.due (at_entry x a plain_there.0.ended) ≡ Some (at_present x a (was t) n.pending plain_there.0.ended)
       leads =
-          let due : Owes c objects w s t (was t) x (Some a) n = subst (λ (o : Option Attempt). Owes c objects w s t (was t) x o n) tries owes in
-          due (as_noted c s t x a there d) (value_at q) (λ i k. staying_value differ c objects s q marked facts.heap beside w (slice_index s.words NEXT_FREE_WORD) t a.monitor i k) plain_there.0.ended
+          let due : Owes c stores objects w s t (was t) x (Some a) n = subst (λ (o : Option Attempt). Owes c stores objects w s t (was t) x o n) tries owes in
+          due.1 (as_noted c s t x a there d) (value_at q) (λ i k. staying_value differ c objects s q marked facts.heap beside stores w (slice_index s.words NEXT_FREE_WORD) t a.monitor i k) plain_there.0.ended
 
       is_whole : IsWhole c.program q t x a (was t) n plain_there.0.ended goes.0
       is_whole = whole c.program q t x a plain_there.0 plain_there.1 fits free some_monitor (was t) n leads d.after_it goes.0 counts d.outermost goes.1
@@ -157,6 +157,6 @@ module _ (differ : SitesDiffer) (c : MarkedProgram) (cfg : Config) (objects : Li
           }
 
 pub sections_finish : SitesDiffer → SectionsFinish
-sections_finish differ c cfg objects was frozen w later s t x a d q k beside tries owes ends_so =
+sections_finish differ c cfg objects was frozen own after w later s t x a d q k beside tries owes ends_so =
     let done = is_done c x a x.phase (found_of c s x) tries ends_so in
-    finishes_beside differ c cfg objects was s t x a q k.marked k.facts beside k.thread tries done d w owes ends_so
+    finishes_beside differ c cfg objects was s t x a q k.marked k.facts beside k.thread tries done d own.stores w owes ends_so

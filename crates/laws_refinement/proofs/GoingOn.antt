@@ -3,8 +3,8 @@ use Rattle.std.proofs.Common.{◌≡◌, ℕ, ◌<◌, Bool, true, false, cond, 
 use Rattle.lists.proofs.TestLaws.{same_number}
 use Rattle.jvm_types.specs.declared.{outcome.End.End, program.Program.Program}
 use Rattle.checked_program.specs.MarkedProgram.{MarkedProgram}
-use Rattle.machine_types.specs.{Elision.put_back, Going.goes_on, History.with_begun, Onward.{Onward, Running, Throwing, Entering, Leaving, RootReturned, Uncaught}, PlainState.{PlainThread, Status}}
-use Rattle.machine_types.specs.{Replay.{Alone, only_on, replay_act, replayed, status_inside, at_entry, at_present}, Structure.{IsAs, IsStructured, IsPhaseInside, AttemptStands, AttemptStandsIn}}
+use Rattle.machine_types.specs.{Attempts.IsReadBegun, Elision.put_back, Going.goes_on, History.with_begun, Onward.{Onward, Running, Throwing, Entering, Leaving, RootReturned, Uncaught}, PlainState.{PlainThread, Status}}
+use Rattle.machine_types.specs.{Replay.{Alone, only_on, replay_act, replayed, begun_and_done, status_inside, at_entry, at_present}, Structure.{IsAs, IsStructured, IsPhaseInside, AttemptStands, AttemptStandsIn}}
 use Rattle.machine_types.specs.{Threads.{Attempt, Thread}, declared.{phase.Phase.Phase, plain.Act.Act}}
 use Rattle.laws_threads.specs.EntryFrames.{KeepsEntry}
 use Rattle.laws_states.proofs.PlainMoves.{goes_attempt}
@@ -16,6 +16,20 @@ use Rattle.machine_types.specs.declared.phase.Phase.TheVariants as phases
 
 abbrev pub inner_as : Attempt → ℕ → Attempt
 inner_as a i = record a { inner = i }
+
+-- ---- an instruction that is begun is done, but where an element is still to be read
+
+abbrev pub IsElementRead : Phase → Type 0
+IsElementRead (phases.Element word stored) = ⊥
+IsElementRead phase = Unit {0}
+
+pub all_done : (phase : Phase) (n : ℕ) → IsElementRead phase → begun_and_done phase n ≡ n
+all_done (phases.Element word stored) n k = absurd k
+all_done phase n k = refl
+
+pub none_begun : (phase : Phase) (n : ℕ) → IsElementRead phase → IsReadBegun phase n
+none_begun (phases.Element word stored) n k = absurd k
+none_begun phase n k = tt
 
 -- ---- what an event makes of the replay
 
@@ -29,7 +43,8 @@ pub record Grows (p : Program) (Keeps : (n : ℕ) → Type 0) (words : List ℕ)
   pub inner : ℕ
   pub attempt : y.attempt ≡ Some (inner_as a inner)
   pub entry : (ended : List End) → at_entry y (inner_as a inner) ended ≡ at_entry x a ended
-  pub replays : (memory : ℕ → Option ℕ) → Knows Keeps words memory → (n : ℕ) (ended : List End)
+  pub begun : (n : ℕ) → IsReadBegun now (with_begun n phase)
+  pub replays : (memory : ℕ → Option ℕ) → Knows Keeps words memory → (n : ℕ) → IsReadBegun was n → (ended : List End)
       → replayed p a.monitor memory acts (at_present x a was n ended) ≡ Some (at_present y (inner_as a inner) now (with_begun n phase) ended)
 
 -- ---- one act, and a list with more acts
@@ -60,6 +75,7 @@ module _ (c : MarkedProgram) (x : Thread) (a : Attempt) (now : Phase) where
   pub record GoesAlike (z : Thread) (o : Onward) : Type 0 where
     pub only : only_on a.monitor o ≡ Some o
     pub thread : (status : Status) (ended : List End) → plain.plain_goes_on (plain_as x status ended) o ≡ plain_as (goes_on z o) (status_inside now) ended
+    pub read : IsElementRead now
     pub frames : put_back a (goes_on z o).frames ≡ put_back a x.frames
     pub roots : (goes_on z o).roots ≡ x.roots
 
@@ -73,30 +89,37 @@ module _ (c : MarkedProgram) (x : Thread) (a : Attempt) (now : Phase) where
     status_is : (phase : Phase) → now ≡ phase → status_inside phase ≡ status_inside now
     status_is phase e = ap status_inside (sym e)
 
+    read_by : (phase : Phase) → now ≡ phase → IsElementRead phase → IsElementRead now
+    read_by phase e k = subst IsElementRead (sym e) k
+
     by_onward : (o : Onward) → AttemptStands c now (goes_on z o).frames (goes_on z o).held (inner_as a i) → IsAs (goes_on z o).phase now → KeepsEntry a x.frames o → GoesAlike z o
     by_onward (Running frames) k is_as keeps =
         let phase = running_now (nat_lt z.counts.instructions z.cfg.steps) now is_as in
         record {
           only = refl;
           thread = λ status ended j. record { frames = frames; status = status_is phases.Run phase j; roots = sym same_roots j; ended = ended };
+          read = read_by phases.Run phase tt;
           frames = keeps based k.based;
           roots = same_roots;
         }
     by_onward (Throwing y class frames) k is_as keeps = record {
       only = refl;
       thread = λ status ended j. record { frames = frames; status = status_is (phases.Throw y class) is_as j; roots = sym same_roots j; ended = ended };
+      read = read_by (phases.Throw y class) is_as tt;
       frames = keeps based k.based;
       roots = same_roots;
     }
     by_onward (Entering m frames) k is_as keeps = record {
       only = only_if m (Entering m frames) (inside_as (phases.Enter m 0) is_as k.inside);
       thread = λ status ended j. record { frames = frames; status = status_is (phases.Enter m 0) is_as j; roots = sym same_roots j; ended = ended };
+      read = read_by (phases.Enter m 0) is_as tt;
       frames = keeps based k.based;
       roots = same_roots;
     }
     by_onward (Leaving m e frames) k is_as keeps = record {
       only = only_if m (Leaving m e frames) (inside_as (phases.Leave m e) is_as k.inside);
       thread = λ status ended j. record { frames = frames; status = status_is (phases.Leave m e) is_as j; roots = sym same_roots j; ended = ended };
+      read = read_by (phases.Leave m e) is_as tt;
       frames = keeps based k.based;
       roots = same_roots;
     }

@@ -6,7 +6,7 @@ use Rattle.checked_program.specs.MarkedProgram.{MarkedProgram, IsMarked}
 use Rattle.machine_types.specs.{Frames.{Top, top_of, effect_at}, HeldMonitors.held_at, Monitors.{Tries, HasNot, claim, claim_by}, Parts.has_finished, Shown.Show, Standing.Whole}
 use Rattle.machine_types.specs.{Structure.{AttemptStands, AttemptStandsIn, IsAs, IsLimitAt, IsStructured, Stands}, Threads.{Attempt, Frame, Thread}, declared.{lock.Held.Held, phase.Phase.Phase}}
 use Rattle.machine_types.proofs.PlainStepLaws.{is_same}
-use Rattle.laws_threads.{specs.{InsideEffects.{InsideMayDo, MayDo}, InsideMoves.NoElementInside}, proofs.FramePlaces.has_top}
+use Rattle.laws_threads.{specs.{InsideEffects.{InsideMayDo, MayDo, TakesOwned}, InsideMoves.ElementsInside}, proofs.FramePlaces.has_top}
 use Rattle.jvm_types.specs.declared.outcome.End.TheVariants as ends
 use Rattle.machine_types.specs.declared.phase.Phase.TheVariants as phases
 
@@ -18,9 +18,18 @@ pub record AtInstruction (c : MarkedProgram) (x : Thread) (a : Attempt) : Type 0
   pub found : top_of c.program x.frames ≡ Some at
   pub may : MayDo c a.monitor at (effect_at c.program at)
 
+-- and where it has come to an element, which it reads, of an array that the monitor's object owns
+pub record AtElement (c : MarkedProgram) (x : Thread) (a : Attempt)
+    (stored : Option ℕ) : Type 0 where
+  pub at : Top
+  pub found : top_of c.program x.frames ≡ Some at
+  pub read : stored ≡ None
+  pub owned : TakesOwned c a.monitor at
+
 -- a part that ended there was ended by a limit
 abbrev pub KnownInside : MarkedProgram → Thread → Attempt → Phase → Type 0
 KnownInside c x a phases.Run = AtInstruction c x a
+KnownInside c x a (phases.Element word stored) = AtElement c x a stored
 KnownInside c x a (phases.Throw r class) = Unit {0}
 KnownInside c x a (phases.Enter n tried) = claim x n ≡ Tries a
 KnownInside c x a (phases.Leave n b) = claim x n ≡ Tries a
@@ -42,7 +51,7 @@ tries_it x a n attempt none is =
     ∙ ap (λ (o : Option Attempt). claim_by a.monitor None o) attempt
     ∙ ap (λ (b : Bool). cond b (Tries a) HasNot) (is_same a.monitor)
 
-top_there : (c : MarkedProgram) → IsMarked c → (fs : List Frame) (shown : List ℕ) (base : ℕ) → Show c Whole fs shown → base < length fs → (at : Top) × (top_of c.program fs ≡ Some at)
+pub top_there : (c : MarkedProgram) → IsMarked c → (fs : List Frame) (shown : List ℕ) (base : ℕ) → Show c Whole fs shown → base < length fs → (at : Top) × (top_of c.program fs ≡ Some at)
 top_there c marked [] shown base show some = absurd (omega (arith, some))
 top_there c marked (f ∷ fs) shown base show some = let k = show.3.stands in (_, has_top c marked f fs k)
 
@@ -53,7 +62,7 @@ by_limit ends.Returned phase was is never = absurd (never is)
 by_limit (ends.Uncaught class) phase was is never = absurd (never is)
 by_limit e phase was is never = refl
 
-module _ (may_do : InsideMayDo) (no_element : NoElementInside) (c : MarkedProgram) (marked : IsMarked c) (x : Thread) (a : Attempt) (attempt : x.attempt ≡ Some a) where
+module _ (may_do : InsideMayDo) (elements : ElementsInside) (c : MarkedProgram) (marked : IsMarked c) (x : Thread) (a : Attempt) (attempt : x.attempt ≡ Some a) where
   abbrev StandsAt : Phase → Type 0
   StandsAt phase = Stands c phase x.frames x.held (Some a) × AttemptStands c phase x.frames x.held a
 
@@ -61,6 +70,13 @@ module _ (may_do : InsideMayDo) (no_element : NoElementInside) (c : MarkedProgra
   at_instruction k =
       let top = top_there c marked x.frames k.0.shown a.base k.0.show k.1.based in
       record { at = top.0; found = top.1; may = may_do c x.frames x.held a top.0 marked k.1 k.0 top.1 }
+
+  at_element : (word : ℕ) (stored : Option ℕ) → StandsAt (phases.Element word stored)
+      → AtElement c x a stored
+  at_element word stored k =
+      let top = top_there c marked x.frames k.0.shown a.base k.0.show k.1.based in
+      let reads = elements c word stored x.frames x.held a top.0 marked k.1 k.0 top.1 in
+      record { at = top.0; found = top.1; read = reads.read; owned = reads.owned }
 
   -- a part that ended has no frame
   not_ending : (e : End) → StandsAt (phases.Ending e) → ⊥
@@ -71,7 +87,7 @@ module _ (may_do : InsideMayDo) (no_element : NoElementInside) (c : MarkedProgra
 
   known_at : (phase was : Phase) → IsAs phase was → StandsAt was → KnownInside c x a phase
   known_at phases.Run was is k = at_instruction (subst StandsAt is k)
-  known_at (phases.Element word stored) was is k = let now = subst StandsAt is k in no_element c word stored x.frames x.held a marked now.1 now.0
+  known_at (phases.Element word stored) was is k = at_element word stored (subst StandsAt is k)
   known_at (phases.Throw r class) was is k = tt
   known_at (phases.Enter n tried) was is k = let now = subst StandsAt is k in tries_it x a n attempt now.1.not_held now.1.inside
   known_at (phases.Leave n b) was is k = let now = subst StandsAt is k in tries_it x a n attempt now.1.not_held now.1.inside

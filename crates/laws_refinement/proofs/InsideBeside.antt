@@ -6,7 +6,7 @@ use Rattle.checked_program.specs.MarkedProgram.{MarkedProgram}
 use Rattle.machine_types.specs.{Agreement.{AttemptFits, StatusFits, ThreadFits, depth_of, frames_shown, has_wait_bit, roots_shown}, Core.{Core, event, event_of}, Events.moved, HeldMonitors.depth_at}
 use Rattle.machine_types.specs.{History.{Fate, GoesOn, Fails, Finishes, fate}, Owners.references_of, Parts.{done_roots, has_finished}, PlainMemory.Object, PlainState.{Plain, PlainThread}}
 use Rattle.machine_types.{specs.{Threads.{Attempt, Thread}, declared.{lock.Held.Held, phase.Phase.Phase}}, proofs.Lists.{set_as_it_is, got_when_set}}
-use Rattle.laws_threads.specs.{EntryFrames.{StepsKeepEntry, ThrowsKeepEntry, LeavesKeepEntry}, InsideEffects.InsideMayDo, InsideMoves.NoElementInside, StateLaws.counted_after}
+use Rattle.laws_threads.specs.{EntryFrames.{StepsKeepEntry, ThrowsKeepEntry, LeavesKeepEntry}, InsideEffects.InsideMayDo, InsideMoves.ElementsInside, StateLaws.counted_after}
 use Rattle.laws_states.specs.{HeapFacts.{objects_by, objects_of}, StateLaws.EventsKeepState}
 use Rattle.laws_simulation.{specs.StandsBeside.{StandsBeside, end_of_done, ends_shown, own_end}, proofs.Assembled.{got_same_length, moved_beside}}
 use Rattle.laws_refinement.{specs.ElidedSteps.{AttemptsStandBeside, IsNotFinished, found_of}, proofs.{Inside.{Inside, KnownInside, is_inside}, InsideMoves.{Moves, moves_inside}}}
@@ -40,6 +40,8 @@ by_end e k = ap (λ (b : Bool). if b then e ∷ [] else []) k
 
 still_inside : (c : MarkedProgram) (objects : List Object) (x : Thread) (a : Attempt) (phase : Phase) → KnownInside c x a phase → IsStill c.program objects phase
 still_inside c objects x a phases.Run k = record { own = refl; makes = λ r word e. cc; rests = λ e. cc; same = refl }
+still_inside c objects x a (phases.Element word stored) k =
+    record { own = refl; makes = λ r v e. cc; rests = λ e. cc; same = refl }
 still_inside c objects x a (phases.Throw r class) k = record { own = refl; makes = λ r word e. cc; rests = λ e. cc; same = refl }
 still_inside c objects x a (phases.Enter n tried) k = record { own = refl; makes = λ r word e. cc; rests = λ e. cc; same = refl }
 still_inside c objects x a (phases.Leave n b) k = record { own = refl; makes = λ r word e. cc; rests = λ e. cc; same = refl }
@@ -104,15 +106,15 @@ later_by c objects x y a phase Fails way m inside = record {
 }
 later_by c objects x y a phase Finishes way m inside = absurd way
 
-pub attempts_stand_beside : InsideMayDo → NoElementInside → StepsKeepEntry → ThrowsKeepEntry → LeavesKeepEntry → EventsKeepState → AttemptsStandBeside
-attempts_stand_beside may_do no_element steps throws leaves keep c cfg objects was s t x a q marked width facts beside here tried way =
+pub attempts_stand_beside : InsideMayDo → ElementsInside → StepsKeepEntry → ThrowsKeepEntry → LeavesKeepEntry → EventsKeepState → AttemptsStandBeside
+attempts_stand_beside may_do elements steps throws leaves keep c cfg objects was s t x a q marked width facts beside here tried way =
     let y = moved c x x.phase (found_of c s x) in
-    let inside = is_inside may_do no_element c marked x a tried (was t) (facts.structure t x here) in
+    let inside = is_inside may_do elements c marked x a tried (was t) (facts.structure t x here) in
     let m = moves_inside steps throws leaves c x a inside (found_of c s x) in
     let before = still_inside c objects x a x.phase inside.known in
     let after = keep c cfg objects was s t marked width facts in
     let there : slice_get (event c s t).threads t ≡ Some y = ap (λ (o : Option Thread). slice_get (event_of c s t o).threads t) here ∙ got_when_set s.threads t x y here in
-    let later = later_by c objects x y a x.phase (fate c x a x.phase (found_of c s x)) way m (λ b e. is_inside may_do no_element c marked y b e (counted_after c was s t t) (after.structure t y there)) in
+    let later = later_by c objects x y a x.phase (fate c x a x.phase (found_of c s x)) way m (λ b e. is_inside may_do elements c marked y b e (counted_after c was s t t) (after.structure t y there)) in
     let twin = got_same_length s.threads q.threads t x beside.agrees.many here in
     let stands = same_beside c objects s t x y a (fate c x a x.phase (found_of c s x)) q twin.0 beside here twin.1 tried before m way later.based later.still in
     subst (λ (os : List Object). StandsBeside c.program os (event c s t) q) (sym (ap (λ (o : Option Thread). objects_of c.program o objects) here ∙ before.same))

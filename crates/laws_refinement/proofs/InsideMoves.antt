@@ -1,12 +1,13 @@
 -- What a thread becomes by an event inside an attempt: it goes on in frames that are those of the entry but for what the section
 -- added, or the attempt fails, or the section is done.
-use Rattle.std.proofs.{Common.{◌≡◌, ℕ, zero, suc, ◌+◌, ◌<◌, nat_lt, Bool, true, false, cond, length, Option, Some, None, refl, sym, ap, ◌∙◌, subst, arith}, lemmas.Bool.Decides.nat_tests}
+use Rattle.std.proofs.Common.{◌≡◌, ℕ, zero, suc, ◌+◌, ◌<◌, nat_lt, Bool, true, false, cond, length, Option, Some, None, refl, sym, ap, ◌∙◌, subst, arith, option_map}
+use Rattle.jvm_types.specs.declared.outcome.Thrown.TheVariants.{ArrayIndexOutOfBoundsException}
 use Rattle.checked_program.{specs.MarkedProgram.MarkedProgram, proofs.FilledTags.some_fewer}
-use Rattle.machine_types.specs.{Elision.{may_try, put_back, is_same, is_checked, if_same, fails, elided}, Events.moved, Frames.{Top, top_of, effect_at}}
+use Rattle.machine_types.specs.{Elision.{may_try, put_back, is_same, is_checked, if_same, fails, elided}, Events.{element_made, moved}, Frames.{Top, top_of, effect_at, went_on}}
 use Rattle.machine_types.specs.{Going.{with_phase, goes_on, goes_on_if, goes_after}, History.{Fate, GoesOn, Fails, Finishes, fate, fate_by, run_fate, leave_fate, with_begun}}
 use Rattle.machine_types.specs.{Instructions.{begun, did, instructed, ran}, Monitors.{Claim, finishes, enter_moves, leave_moves}}
-use Rattle.machine_types.specs.{Onward.{Onward, Running, Throwing, Entering, Leaving, RootReturned, Uncaught, dispatched, after, done}, Threads.{Attempt, Thread}, declared.effect.Effect.Effect}
-use Rattle.machine_types.specs.declared.{effect.Effect.TheVariants.{Writes, Indexes, Makes, Prints, Waits, Notifies, NotifiesAll}, phase.{After.After, Phase.Phase}}
+use Rattle.machine_types.specs.{Ints.low, Onward.{Onward, Running, Throwing, Entering, Leaving, RootReturned, Uncaught, threw, dispatched, after, done}, Threads.{Attempt, Thread}, Words.{header_length, value_word}, declared.effect.{Effect.Effect, Variable.TheVariants.Static}}
+use Rattle.machine_types.specs.declared.{effect.Effect.TheVariants.{Throws, Reads, Writes, Indexes, Makes, Prints, Waits, Notifies, NotifiesAll}, phase.{After.After, Phase.Phase}}
 use Rattle.laws_threads.specs.{EntryFrames.{KeepsEntry, StepsKeepEntry, ThrowsKeepEntry, LeavesKeepEntry}, InsideEffects.MayDo}
 use Rattle.laws_refinement.proofs.Inside.{Inside, KnownInside}
 use Rattle.machine_types.specs.declared.phase.Phase.TheVariants as phases
@@ -120,7 +121,28 @@ module _ (steps : StepsKeepEntry) (throws : ThrowsKeepEntry) (leaves : LeavesKee
   -- an instruction, but for its check
   did_inside : (at : Top) (e : Effect) → top_of c.program x.frames ≡ Some at → MayDo c a.monitor at e → Went a (begun x) (did c.program (begun x) at e got)
   did_inside at (Writes v word) f may = absurd may
-  did_inside at (Indexes array index stored) f may = absurd may
+  did_inside at (Indexes array index None) f may = by_test (nat_lt (low index) (header_length got))
+    where
+      by_test : (b : Bool) → Went a (begun x)
+          (cond b (with_phase (begun x) (phases.Element (value_word array (low index)) None))
+          (goes_on (begun x) (threw ArrayIndexOutOfBoundsException at)))
+      by_test true = record {
+        keeps = record {
+          held = refl;
+          roots = refl;
+          part = refl;
+          prints =
+              refl;
+          begun = refl;
+          done = refl;
+        };
+        attempt = refl;
+        frames = λ l. refl;
+      }
+      by_test false = went a (begun x) (threw ArrayIndexOutOfBoundsException at) based
+          (steps c.program x.frames a at (Throws ArrayIndexOutOfBoundsException) 0
+          (threw ArrayIndexOutOfBoundsException at) f refl)
+  did_inside at (Indexes array index (Some v)) f may = absurd may
   did_inside at (Makes word size) f may = absurd may
   did_inside at (Prints n) f may = absurd may
   did_inside at (Waits m) f may = absurd may
@@ -176,6 +198,15 @@ module _ (steps : StepsKeepEntry) (throws : ThrowsKeepEntry) (leaves : LeavesKee
 
   moves_at : (phase : Phase) → KnownInside c x a phase → Moves c x (moved c x phase got) a phase (fate c x a phase got)
   moves_at phases.Run k = subst (λ (o : Option Top). Moves c x (ran c.program x o got) a phases.Run (run_fate c a o got)) (sym k.found) (instructed_inside k.at (effect_at c.program k.at) k.found k.may)
+  moves_at (phases.Element word stored) k =
+      let phase : Phase = phases.Element word stored in
+      let made : ℕ = element_made stored got in
+      let o : Option Onward = option_map (λ at. Running (went_on c.program at made))
+      (top_of c.program x.frames) in
+      goes_inside c x a phase x (goes_on_if x o) a (same_keeps x) tried refl refl refl
+      (went_if a x o based (λ onward is. steps c.program x.frames a k.at
+      (Reads (Static 0)) made onward k.found
+      (sym (ap (option_map (λ at. Running (went_on c.program at made))) k.found) ∙ is)))
   moves_at (phases.Throw r class) k =
       let phase : Phase = phases.Throw r class in
       checked c x a phase x (goes_on_if x (dispatched c.program r class x.frames)) got tried (same_keeps x) refl

@@ -4,7 +4,7 @@ use Rattle.checked_program.specs.MarkedProgram.{MarkedProgram}
 use Rattle.machine_types.specs.{Core.{Core, event_of, event_by, outcome}, Counting.{CountsFit, extra_of}, Elision.elided, Events.{moved, wanted}, Faithful.PrintsFit, Frames.top_of}
 use Rattle.machine_types.specs.{History.{Fate, GoesOn, Fails, Finishes, Past, acts_of, fate, fate_by, past_after, past_by, with_begun}, Onward.after, Threads.{Attempt, Thread}}
 use Rattle.machine_types.specs.declared.{phase.Phase.Phase, plain.Act.Act}
-use Rattle.laws_threads.specs.{EntryFrames.{StepsKeepEntry, ThrowsKeepEntry, LeavesKeepEntry}, InsideEffects.InsideMayDo, InsideMoves.NoElementInside}
+use Rattle.laws_threads.specs.{EntryFrames.{StepsKeepEntry, ThrowsKeepEntry, LeavesKeepEntry}, InsideEffects.InsideMayDo, InsideMoves.ElementsInside}
 use Rattle.laws_simulation.proofs.{CalmEvents.{IsCalm, goes_if, no_extra}, OutcomePrints.{fit_of, prints_of, printed_none}}
 use Rattle.laws_refinement.{specs.ElidedSteps.{AttemptsAreCounted, AttemptsPrintNothing, FinishesAreCounted, IsNotFinished, found_of}, proofs.{DoneSections.never_runs, Inside.is_inside}}
 use Rattle.laws_refinement.proofs.InsideMoves.{Moves, moves_inside}
@@ -68,18 +68,18 @@ at_finish c x a got phase e = (tt, refl)
 
 -- ---- the laws
 
-pub attempts_are_counted : InsideMayDo → NoElementInside → StepsKeepEntry → ThrowsKeepEntry → LeavesKeepEntry → AttemptsAreCounted
-attempts_are_counted may_do no_element steps throws leaves c cfg objects was s t x a d runs takes marked facts here tried way fit =
+pub attempts_are_counted : InsideMayDo → ElementsInside → StepsKeepEntry → ThrowsKeepEntry → LeavesKeepEntry → AttemptsAreCounted
+attempts_are_counted may_do elements steps throws leaves c cfg objects was s t x a d runs takes marked facts here tried way fit =
     let got = found_of c s x in
-    let m = moves_inside steps throws leaves c x a (is_inside may_do no_element c marked x a tried (was t) (facts.structure t x here)) got in
+    let m = moves_inside steps throws leaves c x a (is_inside may_do elements c marked x a tried (was t) (facts.structure t x here)) got in
     subst (λ (o : Option Attempt). CountsFit (moved c x x.phase got) (past_after c x o got d) runs takes) (sym tried)
     (counted_by c x (moved c x x.phase got) a tried d (acts_of c x x.phase got) runs takes (fate c x a x.phase got) m way fit)
 
-pub finishes_are_counted : InsideMayDo → NoElementInside → StepsKeepEntry → ThrowsKeepEntry → LeavesKeepEntry → FinishesAreCounted
-finishes_are_counted may_do no_element steps throws leaves c cfg objects was s t x a d runs takes marked facts here tried finish fit =
+pub finishes_are_counted : InsideMayDo → ElementsInside → StepsKeepEntry → ThrowsKeepEntry → LeavesKeepEntry → FinishesAreCounted
+finishes_are_counted may_do elements steps throws leaves c cfg objects was s t x a d runs takes marked facts here tried finish fit =
     let got = found_of c s x in
     let y = moved c x x.phase got in
-    let all = moves_inside steps throws leaves c x a (is_inside may_do no_element c marked x a tried (was t) (facts.structure t x here)) got in
+    let all = moves_inside steps throws leaves c x a (is_inside may_do elements c marked x a tried (was t) (facts.structure t x here)) got in
     let m = subst (λ (f : Fate). Moves c x y a x.phase f) finish all in
     let known = at_finish c x a got x.phase finish in
     let calm : IsCalm y.phase = subst (λ (z : Thread). IsCalm z.phase) (sym m.has.goes) (goes_if (elided x) (after c.program x.frames m.has.behind) known.0).phase in
@@ -87,10 +87,10 @@ finishes_are_counted may_do no_element steps throws leaves c cfg objects was s t
     (subst (λ (f : Fate). CountsFit y (past_by d x.phase (acts_of c x x.phase got) f) (runs + d.pending) (takes + 1)) (sym finish)
     (finish_counted c x y a tried d (acts_of c x x.phase got) runs takes m known.1 (no_extra y.attempt y.phase calm) fit))
 
-pub attempts_print_nothing : InsideMayDo → NoElementInside → StepsKeepEntry → ThrowsKeepEntry → LeavesKeepEntry → AttemptsPrintNothing
-attempts_print_nothing may_do no_element steps throws leaves c cfg objects was s t x a q after marked facts here tried same fit =
+pub attempts_print_nothing : InsideMayDo → ElementsInside → StepsKeepEntry → ThrowsKeepEntry → LeavesKeepEntry → AttemptsPrintNothing
+attempts_print_nothing may_do elements steps throws leaves c cfg objects was s t x a q after marked facts here tried same fit =
     let got = found_of c s x in
-    let m = moves_inside steps throws leaves c x a (is_inside may_do no_element c marked x a tried (was t) (facts.structure t x here)) got in
+    let m = moves_inside steps throws leaves c x a (is_inside may_do elements c marked x a tried (was t) (facts.structure t x here)) got in
     let now : Core = event_by c s t x (wanted c x x.phase) in
     let one : PrintsFit (outcome now) after = prints_of now after (printed_none s.threads t x (moved c x x.phase got) here q.prints after.prints m.keeps.prints same (fit_of s q fit)) in
     subst (λ (o : Option Thread). PrintsFit (outcome (event_of c s t o)) after) (sym here) one

@@ -1,21 +1,21 @@
 -- An instruction inside an attempt: it leaves the words, and it is one more act of the replay, which finds in every memory that
 -- has the places that stay what the thread found.
-use Rattle.std.proofs.Common.{◌≡◌, ℕ, suc, ◌+◌, nat_le, Bool, true, false, cond, List, [], ◌∷◌, Option, Some, None, refl, sym, ap, ◌∙◌, subst, IsSome, slice_get, slice_index, option_map, option_and_then, if◌then◌else◌}
-use Rattle.jvm_types.specs.declared.{fixed_words.TheConstants.NEXT_FREE_WORD, outcome.{End.End, Thrown.Thrown}, program.{MethodInfo.MethodInfo, Program.Program}}
+use Rattle.std.proofs.Common.{◌≡◌, ◌⊎◌, inl, inr, ℕ, suc, ◌+◌, ◌-◌, ◌<◌, nat_le, nat_lt, Bool, true, false, cond, List, [], ◌∷◌, Option, Some, None, refl, sym, ap, ◌∙◌, subst, arith, IsSome, slice_get, slice_index, option_map, option_and_then, if◌then◌else◌}
+use Rattle.jvm_types.specs.declared.{fixed_words.TheConstants.NEXT_FREE_WORD, outcome.{End.End, Thrown.{Thrown, TheVariants.ArrayIndexOutOfBoundsException}}, program.{MethodInfo.MethodInfo, Program.Program}}
 use Rattle.checked_program.specs.MarkedProgram.{MarkedProgram, IsMarked}
-use Rattle.machine_types.specs.{Accesses.found_by, Attempts.Stays, Construction.Construction, Core.Core, Effects.read_by, Elision.{is_checked, is_same, looks, if_same, fails}, Events.wanted}
-use Rattle.machine_types.specs.{FoundWords.{WordFits, effect_content, run_content, content_at}, Frames.{Top, frames_of, top_of, effect_at, went, went_on}, Going.{goes_on, goes_on_if}}
+use Rattle.machine_types.specs.{Accesses.found_by, Attempts.{IsReadBegun, Stays}, Construction.{Construction, FramesKeep, Owning, PhaseKeepsFrames, Runs, ThreadKeeps}, Core.Core, Effects.read_by, Elision.{is_checked, is_same, looks, if_same, fails}, Events.wanted}
+use Rattle.machine_types.specs.{FoundWords.{WordFits, effect_content, run_content, content_at}, Frames.{Top, frames_of, top_of, effect_at, went, went_on}, Going.{goes_on, goes_on_if, with_phase}}
 use Rattle.machine_types.specs.{History.{Fate, GoesOn, Fails, Finishes, fate_by, run_fate, instruction_acts, run_acts}, Instructions.{effect_wants, run_wants, begun, did, instructed, ran}}
-use Rattle.machine_types.specs.{Lawful.within, Onward.{Onward, Running, Throwing, Entering, Leaving, threw, called, returns, done}, PlainInstructions.got_by, PlainMemory.Object}
-use Rattle.machine_types.specs.{PlainState.{PlainThread, Status}, ReadyObjects.thrown_of, Replay.{Alone, only_on, reads_only, goes, instructs, replay_act, status_inside, at_present}}
+use Rattle.machine_types.specs.{Ints.low, Lawful.within, Onward.{Onward, Running, Throwing, Entering, Leaving, threw, called, returns, done}, PlainInstructions.got_by, PlainMemory.Object}
+use Rattle.machine_types.specs.{ReadyObjects.thrown_of, Replay.{Alone, only_on, reads_only, goes, instructs, replay_act, replayed, begun_and_done, status_inside, at_present}}
 use Rattle.machine_types.specs.{Structure.{IsAs, IsStructured, Stands, AttemptStands, AttemptStandsIn}, Threads.{Attempt, Thread}, Typed.{FramesHold, PhaseHolds, HasClass}}
-use Rattle.machine_types.specs.{Words.{header_class, header_length, header_word, variable_word}, Worlds.World, declared.{config.Config.Config, effect.Effect.Effect}}
+use Rattle.machine_types.specs.{Words.{header_class, header_length, header_word, value_word, variable_word}, Worlds.World, declared.{config.Config.Config, effect.Effect.Effect}}
 use Rattle.machine_types.specs.declared.effect.Effect.TheVariants.{Goes, Throws, Reads, Writes, Indexes, Measures, Raises, Makes, Prints, Calls, Returns, Enters, Leaves, Waits, Notifies, NotifiesAll, Stuck}
 use Rattle.machine_types.specs.declared.{phase.Phase.Phase, plain.Act.Act}
 use Rattle.laws_threads.{specs.{Allowed.Allowed, InsideEffects.MayDo, TopFrames.{IsAllowed, EffectsAreAllowed}}, proofs.{EntryKept.steps_kept, Inside.inside_may}}
 use Rattle.laws_states.{specs.{FoundLaws.{IsOfHeap, HeapWordsFit}, StateFacts.StateFacts}, proofs.PlainMoves.goes_attempt}
 use Rattle.laws_simulation.proofs.{EventSteps.{LeavesWords, load_leaves}, FrameEffects.is_some_thrown}
-use Rattle.laws_refinement.proofs.{GoingOn.{Grows, GoesAlike, Knows, going_alike, one_act}, StayPlaces.{TopReads, top_reads, variable_stays, header_stays}}
+use Rattle.laws_refinement.proofs.{GoingOn.{Grows, GoesAlike, Knows, all_done, going_alike, none_begun, one_act}, StayPlaces.{TopReads, top_reads, variable_stays, header_stays}}
 use Rattle.machine_types.specs.PlainState as plain
 use Rattle.machine_types.specs.declared.phase.After.TheVariants as afters
 use Rattle.machine_types.specs.declared.phase.Phase.TheVariants as phases
@@ -46,23 +46,41 @@ pub record DoesAlike (p : Program) (Keeps : (n : ℕ) → Type 0) (words : List 
   pub onward : Onward
   pub leaves : LeavesWords words (effect_wants x at.frame.pc e)
   pub moves : did p (begun x) at e (found_by words (effect_wants x at.frame.pc e)) ≡ goes_on (begun x) onward
-  pub step : done p at e (found_by words (effect_wants x at.frame.pc e)) ≡ Some onward
+  -- it goes on as some effect does
+  pub step : (by : Effect) × (got : ℕ) × (done p at by got ≡ Some onward)
   pub act : instruction_acts x e (found_by words (effect_wants x at.frame.pc e)) ≡ acts.Do ∷ []
-  pub reads : (memory : ℕ → Option ℕ) → Knows Keeps words memory → (got : ℕ) × (got_by memory (read_by e) ≡ Some got) × (reads_only p at e got ≡ Some onward)
+  pub reads : (memory : ℕ → Option ℕ) → Knows Keeps words memory → (got : ℕ) × (got_by memory (read_by e) ≡ Some got) × (reads_only p memory at e got ≡ Some onward)
+
+-- or it comes to an element, which is still to be read
+pub record ComesToElement (p : Program) (words : List ℕ) (x : Thread) (at : Top)
+    (e : Effect) : Type 0 where
+  pub word : ℕ
+  pub leaves : LeavesWords words (effect_wants x at.frame.pc e)
+  pub moves : did p (begun x) at e (found_by words (effect_wants x at.frame.pc e)) ≡ with_phase
+      (begun x) (phases.Element word None)
+  pub act : instruction_acts x e (found_by words (effect_wants x at.frame.pc e)) ≡ []
 
 -- ---- of a thread in an attempt, whose instruction begins
 
-module _ (fit : HeapWordsFit) (allowed : EffectsAreAllowed) (c : MarkedProgram) (cfg : Config) (objects : List Object) (was : ℕ → Phase) (frozen : ℕ → Bool) (w : World) (s : Core) (t : ℕ) (x : Thread) (marked : IsMarked c)
-    (facts : StateFacts c cfg objects was s) (built : Construction c frozen w was objects s) (here : slice_get s.threads t ≡ Some x) (a : Attempt) (tries : x.attempt ≡ Some a) (runs : x.phase ≡ phases.Run) (at : Top)
+module _ (fit : HeapWordsFit) (allowed : EffectsAreAllowed) (c : MarkedProgram) (cfg : Config) (objects : List Object) (was : ℕ → Phase) (frozen : ℕ → Bool) (own : Owning) (w : World) (s : Core) (t : ℕ) (x : Thread) (marked : IsMarked c)
+    (facts : StateFacts c cfg objects was s) (built : Construction c frozen own w was objects s) (here : slice_get s.threads t ≡ Some x) (a : Attempt) (tries : x.attempt ≡ Some a) (runs : x.phase ≡ phases.Run) (at : Top)
     (at_top : top_of c.program x.frames ≡ Some at) where
   abbrev pub StaysNow : (n : ℕ) → Type 0
-  StaysNow n = Stays c objects w (slice_index s.words NEXT_FREE_WORD) t a.monitor n
+  StaysNow n = Stays c own.stores objects w (slice_index s.words NEXT_FREE_WORD) t a.monitor n
+
+  abbrev keeps : ThreadKeeps c frozen own w (slice_index s.words NEXT_FREE_WORD) t (was t) x
+  keeps = built.each t x here
 
   counted : was t ≡ phases.Run
   counted = subst (λ (now : Phase). IsAs now (was t)) runs (facts.structure t x here).is_as
 
   stands : Stands c phases.Run x.frames x.held (Some a)
   stands = subst (λ (o : Option Attempt). Stands c phases.Run x.frames x.held o) tries (subst (λ (now : Phase). Stands c now x.frames x.held x.attempt) counted (facts.structure t x here).stands)
+
+  frames_keep : FramesKeep c frozen own keeps.now
+      (slice_index s.words NEXT_FREE_WORD) t Runs x.frames
+  frames_keep = subst (λ (phase : Phase). PhaseKeepsFrames c frozen own keeps.now
+      (slice_index s.words NEXT_FREE_WORD) t phase x.frames) counted keeps.frames
 
   attempt_stands : AttemptStands c phases.Run x.frames x.held a
   attempt_stands = subst (λ (o : Option Attempt). AttemptStandsIn c phases.Run x.frames x.held o) tries (subst (λ (now : Phase). AttemptStandsIn c now x.frames x.held x.attempt) counted (facts.structure t x here).attempt)
@@ -101,56 +119,98 @@ module _ (fit : HeapWordsFit) (allowed : EffectsAreAllowed) (c : MarkedProgram) 
   -- ---- by its effect
 
   abbrev DoesSo : Effect → Type 0
-  DoesSo e = DoesAlike c.program StaysNow s.words x at e
+  DoesSo e = DoesAlike c.program StaysNow s.words x at e ⊎ ComesToElement c.program s.words x at e
+
+  -- an element of an array that the monitor's object owns
+  indexes : (array index : ℕ) → effect_at c.program at ≡ Indexes array index None
+      → DoesSo (Indexes array index None)
+  indexes array index f = by_test (nat_lt (low index) (header_length header)) refl
+    where
+      header : ℕ
+      header = slice_index s.words (header_word array)
+
+      moves_by : (b : Bool) → nat_lt (low index) (header_length header) ≡ b
+          → did c.program (begun x) at (Indexes array index None) header ≡
+          (if b then with_phase (begun x)
+          (phases.Element (value_word array (low index)) None) else goes_on (begun x)
+          (threw ArrayIndexOutOfBoundsException at))
+      moves_by b e = ap (λ (b : Bool). if b then with_phase (begun x)
+          (phases.Element (value_word array (low index)) None) else goes_on (begun x)
+          (threw ArrayIndexOutOfBoundsException at)) e
+
+      by_test : (b : Bool) → nat_lt (low index) (header_length header) ≡ b
+          → DoesSo (Indexes array index None)
+      by_test true e = inr (record {
+        word = value_word array (low index);
+        leaves = load_leaves s.words (header_word array);
+        moves = moves_by true e;
+        act = ap (λ (b : Bool). if b then [] else acts.Do ∷ []) e;
+      })
+      by_test false e = inl (record {
+        onward = threw ArrayIndexOutOfBoundsException at;
+        leaves = load_leaves s.words (header_word array);
+        moves = moves_by false e;
+        step = (Throws ArrayIndexOutOfBoundsException, 0, refl);
+        act = ap (λ (b : Bool). if b then [] else acts.Do ∷ []) e;
+        reads = λ memory knows. (
+          header,
+          knows (header_word array) (header_stays c marked frozen own w was objects s built t x here
+              a frames_keep at at_top _ array (does_at (Indexes array index None) f).1),
+          ap (λ (b : Bool). if b then option_map (λ value. Running (went_on c.program at value))
+              (memory (value_word array (low index))) else Some
+              (threw ArrayIndexOutOfBoundsException at)) e,
+        );
+      })
 
   does : (e : Effect) → effect_at c.program at ≡ e → MayDo c a.monitor at e → DoesSo e
-  does (Goes to made) f k = record { onward = Running (went c.program at to made); leaves = look_leaves_if s.words (nat_le to at.frame.pc) x.attempt; moves = refl; step = refl; act = refl; reads = λ memory knows. (0, refl, refl) }
-  does (Throws class) f k = record { onward = threw class at; leaves = refl; moves = refl; step = refl; act = refl; reads = λ memory knows. (0, refl, refl) }
+  does (Goes to made) f k = inl (record { onward = Running (went c.program at to made); leaves = look_leaves_if s.words (nat_le to at.frame.pc) x.attempt; moves = refl; step = (Goes to made, 0, refl); act = refl; reads = λ memory knows. (0, refl, refl) })
+  does (Throws class) f k = inl (record { onward = threw class at; leaves = refl; moves = refl; step = (Throws class, 0, refl); act = refl; reads = λ memory knows. (0, refl, refl) })
   does (Reads v) f k =
       let named = (does_at (Reads v) f) in
-      record {
+      inl (record {
         onward = Running (went_on c.program at (slice_index s.words (variable_word v)));
         leaves = load_leaves s.words (variable_word v);
         moves = refl;
-        step = refl;
+        step = (Reads v, slice_index s.words (variable_word v), refl);
         act = refl;
-        reads = λ memory knows. (slice_index s.words (variable_word v), knows (variable_word v) (variable_stays c marked frozen w was objects s built t x here a counted at at_top v named.1 marks f k named.2), refl);
-      }
+        reads = λ memory knows. (slice_index s.words (variable_word v), knows (variable_word v) (variable_stays c marked frozen own w was objects s built t x here a frames_keep at at_top v named.1 marks f k named.2), refl);
+      })
   does (Measures v) f k =
       let named = does_at (Measures v) f in
-      record {
+      inl (record {
         onward = Running (went_on c.program at (header_length (slice_index s.words (header_word v))));
         leaves = load_leaves s.words (header_word v);
         moves = refl;
-        step = refl;
+        step = (Measures v, slice_index s.words (header_word v), refl);
         act = refl;
-        reads = λ memory knows. (slice_index s.words (header_word v), knows (header_word v) (header_stays c marked frozen w was objects s built t x here a counted at at_top _ v named.1), refl);
-      }
+        reads = λ memory knows. (slice_index s.words (header_word v), knows (header_word v) (header_stays c marked frozen own w was objects s built t x here a frames_keep at at_top _ v named.1), refl);
+      })
   does (Raises v) f k =
       let named = does_at (Raises v) f in
       let class = is_some_thrown (thrown_of (header_class (slice_index s.words (header_word v)))) (raised v f) in
-      record {
+      inl (record {
         onward = Throwing v class.0 (frames_of at);
         leaves = load_leaves s.words (header_word v);
         moves = ap (λ (o : Option Thrown). goes_on_if (begun x) (option_map (λ kind. Throwing v kind (frames_of at)) o)) class.1;
-        step = ap (λ (o : Option Thrown). option_map (λ kind. Throwing v kind (frames_of at)) o) class.1;
+        step = (Raises v, slice_index s.words (header_word v), ap (λ (o : Option Thrown). option_map (λ kind. Throwing v kind (frames_of at)) o) class.1);
         act = refl;
         reads = λ memory knows. (
           slice_index s.words (header_word v),
-          knows (header_word v) (header_stays c marked frozen w was objects s built t x here a counted at at_top _ v named.1),
+          knows (header_word v) (header_stays c marked frozen own w was objects s built t x here a frames_keep at at_top _ v named.1),
           ap (λ (o : Option Thrown). option_map (λ kind. Throwing v kind (frames_of at)) o) class.1,
         );
-      }
+      })
   does (Calls number) f k =
       let call = allowed_at (Calls number) f in
       let step : option_map (called c.program at number) (slice_get c.program.methods number) ≡ Some (called c.program at number call.called) = ap (λ (o : Option MethodInfo). option_map (called c.program at number) o) call.there in
-      record { onward = called c.program at number call.called; leaves = look_leaves s.words x.attempt; moves = ap (goes_on_if (begun x)) step; step = step; act = refl; reads = λ memory knows. (0, refl, step) }
-  does Returns f k = record { onward = returns c.program at; leaves = refl; moves = refl; step = refl; act = refl; reads = λ memory knows. (0, refl, refl) }
-  does (Enters m) f k = record { onward = Entering m (went_on c.program at 0); leaves = refl; moves = refl; step = refl; act = refl; reads = λ memory knows. (0, refl, refl) }
-  does (Leaves m) f k = record { onward = Leaving m afters.Next (went_on c.program at 0); leaves = refl; moves = refl; step = refl; act = refl; reads = λ memory knows. (0, refl, refl) }
+      inl (record { onward = called c.program at number call.called; leaves = look_leaves s.words x.attempt; moves = ap (goes_on_if (begun x)) step; step = (Calls number, 0, step); act = refl; reads = λ memory knows. (0, refl, step) })
+  does Returns f k = inl (record { onward = returns c.program at; leaves = refl; moves = refl; step = (Returns, 0, refl); act = refl; reads = λ memory knows. (0, refl, refl) })
+  does (Enters m) f k = inl (record { onward = Entering m (went_on c.program at 0); leaves = refl; moves = refl; step = (Enters m, 0, refl); act = refl; reads = λ memory knows. (0, refl, refl) })
+  does (Leaves m) f k = inl (record { onward = Leaving m afters.Next (went_on c.program at 0); leaves = refl; moves = refl; step = (Leaves m, 0, refl); act = refl; reads = λ memory knows. (0, refl, refl) })
   does Stuck f k = absurd (allowed_at Stuck f)
   does (Writes v word) f k = absurd k
-  does (Indexes array index stored) f k = absurd k
+  does (Indexes array index None) f k = indexes array index f
+  does (Indexes array index (Some v)) f k = absurd k
   does (Makes word size) f k = absurd k
   does (Prints n) f k = absurd k
   does (Waits m) f k = absurd k
@@ -168,36 +228,110 @@ module _ (fit : HeapWordsFit) (allowed : EffectsAreAllowed) (c : MarkedProgram) 
   abbrev got : ℕ
   got = found_by s.words (effect_wants x at.frame.pc its)
 
+  leaves_by : DoesSo its → LeavesWords s.words (effect_wants x at.frame.pc its)
+  leaves_by (inl d) = d.leaves
+  leaves_by (inr d) = d.leaves
+
   pub leaves_words : LeavesWords s.words (run_wants c.program x (top_of c.program x.frames))
-  leaves_words = subst (λ (o : Option Top). LeavesWords s.words (run_wants c.program x o)) (sym at_top) done_so.leaves
+  leaves_words = subst (λ (o : Option Top). LeavesWords s.words (run_wants c.program x o)) (sym at_top) (leaves_by done_so)
 
   module _ (now : Phase) where
-    did_grow : IsStructured c now (did c.program (begun x) at its got) → Grows c.program StaysNow s.words x a (was t) now phases.Run (did c.program (begun x) at its got) (instruction_acts x its got)
-    did_grow k = subst (λ (y : Thread). Grows c.program StaysNow s.words x a (was t) now phases.Run y (instruction_acts x its got)) (sym done_so.moves)
-        (subst (λ (act : List Act). Grows c.program StaysNow s.words x a (was t) now phases.Run (goes_on (begun x) done_so.onward) act) (sym done_so.act) grown)
+    abbrev GrowsTo : Thread → List Act → Type 0
+    GrowsTo y act = Grows c.program StaysNow s.words x a (was t) now phases.Run y act
+
+    -- it is done
+    module _ (d : DoesAlike c.program StaysNow s.words x at its)
+        (k : IsStructured c now (goes_on (begun x) d.onward)) where
+      alike : GoesAlike c x a now (begun x) d.onward
+      alike = going_alike c x a now (begun x) a.inner refl attempt_stands.based d.onward tries
+          (steps_kept c.program x.frames a at d.step.0 d.step.1 d.onward at_top d.step.2) k
+
+      acted : (memory : ℕ → Option ℕ) (n : ℕ) (ended : List End) (word : ℕ)
+          → got_by memory (read_by its) ≡ Some word
+          → reads_only c.program memory at its word ≡ Some d.onward
+          → replay_act c.program a.monitor memory
+          (at_present x a phases.Run n ended) acts.Do plain.Run ≡ Some
+          (at_present (goes_on (begun x) d.onward) a now (n + 1) ended)
+      acted memory n ended word read only =
+          let z : Alone = at_present x a phases.Run n ended in
+          let more : Alone = record z { begun = n + 1 } in
+          let count : n + 1 ≡ begun_and_done now (n + 1) = sym (all_done now (n + 1) alike.read) in
+          ap (instructs c.program a.monitor memory z) at_top
+          ∙ ap (λ (o : Option ℕ). goes more (option_and_then
+          (λ word. option_and_then (only_on a.monitor)
+          (reads_only c.program memory at its word)) o)) read
+          ∙ ap (λ (o : Option Onward). goes more (option_and_then (only_on a.monitor) o)) only
+          ∙ ap (goes more) alike.only
+          ∙ (λ i. Some (let next : Alone = record
+          { thread = alike.thread plain.Run ended i; depth = suc a.inner; begun = count i } in
+          next))
+
+      grown : GrowsTo (goes_on (begun x) d.onward) (acts.Do ∷ [])
+      grown = record {
+        inner = a.inner;
+        attempt = goes_attempt (begun x) (Some d.onward) ∙ tries;
+        entry = λ ended i. record {
+          thread = record
+              { frames = alike.frames i; status = plain.Run; roots = alike.roots i; ended = ended };
+          depth = 1;
+          begun = 0;
+        };
+        begun = λ n. none_begun now (n + 1) alike.read;
+        replays = λ memory knows n some ended. (let read = d.reads memory knows in
+            subst (λ (phase : Phase). replayed c.program a.monitor memory (acts.Do ∷ [])
+            (at_present x a phase n ended) ≡ Some
+            (at_present (goes_on (begun x) d.onward) a now (n + 1) ended)) (sym counted)
+            (one_act c.program a.monitor memory acts.Do (at_present x a phases.Run n ended) _
+            (acted memory n ended read.0 read.1 read.2)));
+      }
+
+    -- it is still to be done
+    comes : (word : ℕ) → IsStructured c now (with_phase (begun x) (phases.Element word None))
+        → GrowsTo (with_phase (begun x) (phases.Element word None)) []
+    comes word k = record {
+      inner = a.inner;
+      attempt = tries;
+      entry = λ ended. refl;
+      begun = λ n. subst (λ (phase : Phase). IsReadBegun phase (n + 1)) (sym k.is_as) (some_more n);
+      replays = λ memory knows n some ended. (
+          let status : status_inside (was t) ≡ status_inside now = ap status_inside counted
+          ∙ ap status_inside (sym k.is_as) in
+          let same : begun_and_done (was t) n ≡ begun_and_done now (n + 1) =
+          ap (λ (phase : Phase). begun_and_done phase n) counted ∙ one_less n
+          ∙ ap (λ (phase : Phase). begun_and_done phase (n + 1)) (sym k.is_as) in
+          (λ i. Some (let next : Alone = record {
+            thread = record {
+              frames = x.frames;
+              status = status i;
+              roots = x.roots;
+              ended =
+                  ended;
+            };
+            depth = suc a.inner;
+            begun = same i;
+          } in next)));
+    }
       where
-        alike : GoesAlike c x a now (begun x) done_so.onward
-        alike = going_alike c x a now (begun x) a.inner refl attempt_stands.based done_so.onward tries (steps_kept c.program x.frames a at its got done_so.onward at_top done_so.step) (subst (IsStructured c now) done_so.moves k)
+        some_more : (n : ℕ) → 0 < n + 1
+        some_more n = omega arith
 
-        acted : (memory : ℕ → Option ℕ) (n : ℕ) (ended : List End) (word : ℕ) → got_by memory (read_by its) ≡ Some word → reads_only c.program at its word ≡ Some done_so.onward
-            → replay_act c.program a.monitor memory (at_present x a (was t) n ended) acts.Do (status_inside (was t)) ≡ Some (at_present (goes_on (begun x) done_so.onward) a now (n + 1) ended)
-        acted memory n ended word read only =
-            let z : Alone = at_present x a (was t) n ended in
-            let more : Alone = record z { begun = n + 1 } in
-            ap (λ (phase : Phase). replay_act c.program a.monitor memory z acts.Do (status_inside phase)) counted
-            ∙ ap (instructs c.program a.monitor memory z) at_top
-            ∙ ap (λ (o : Option ℕ). goes more (option_and_then (λ word. option_and_then (only_on a.monitor) (reads_only c.program at its word)) o)) read
-            ∙ ap (λ (o : Option Onward). goes more (option_and_then (only_on a.monitor) o)) only
-            ∙ ap (goes more) alike.only
-            ∙ ap (λ (y : PlainThread). Some (let next : Alone = record { thread = y; depth = suc a.inner; begun = n + 1 } in next)) (alike.thread (status_inside (was t)) ended)
+        one_less : (n : ℕ) → n ≡ n + 1 - 1
+        one_less n = omega arith
 
-        grown : Grows c.program StaysNow s.words x a (was t) now phases.Run (goes_on (begun x) done_so.onward) (acts.Do ∷ [])
-        grown = record {
-          inner = a.inner;
-          attempt = goes_attempt (begun x) (Some done_so.onward) ∙ tries;
-          entry = λ ended i. record { thread = record { frames = alike.frames i; status = plain.Run; roots = alike.roots i; ended = ended }; depth = 1; begun = 0 };
-          replays = λ memory knows n ended. (let read = done_so.reads memory knows in one_act c.program a.monitor memory acts.Do (at_present x a (was t) n ended) _ (acted memory n ended read.0 read.1 read.2));
-        }
+    grows_by : (d : DoesSo its) → IsStructured c now (did c.program (begun x) at its got)
+        → GrowsTo (did c.program (begun x) at its got) (instruction_acts x its got)
+    grows_by (inl d) k = subst (λ (y : Thread). GrowsTo y (instruction_acts x its got))
+        (sym d.moves)
+        (subst (λ (act : List Act). GrowsTo (goes_on (begun x) d.onward) act) (sym d.act)
+        (grown d (subst (IsStructured c now) d.moves k)))
+    grows_by (inr d) k = subst (λ (y : Thread). GrowsTo y (instruction_acts x its got))
+        (sym d.moves)
+        (subst (λ (act : List Act). GrowsTo (with_phase (begun x) (phases.Element d.word None)) act)
+        (sym d.act) (comes d.word (subst (IsStructured c now) d.moves k)))
+
+    did_grow : IsStructured c now (did c.program (begun x) at its got)
+        → GrowsTo (did c.program (begun x) at its got) (instruction_acts x its got)
+    did_grow = grows_by done_so
 
     abbrev By : Fate → Thread → Type 0
     By fate y = ByFate c.program StaysNow s.words x a (was t) now phases.Run fate y (instruction_acts x its got)

@@ -1,16 +1,16 @@
 -- An event inside an attempt whose lock word is no longer as it was noted: the attempt fails by it, or it goes on with fewer
 -- instructions ahead.
-use Rattle.std.proofs.Common.{◌≡◌, ℕ, zero, suc, ◌+◌, ◌<◌, ◌≤◌, nat_lt, Bool, true, false, List, [], ◌∷◌, drop, length, Option, Some, None, refl, sym, ap, subst, ◌∙◌, arith, IsSome, option_map, if◌then◌else◌}
+use Rattle.std.proofs.Common.{◌≡◌, ℕ, zero, suc, ◌+◌, ◌-◌, ◌<◌, ◌≤◌, nat_lt, Bool, true, false, List, [], ◌∷◌, drop, length, Option, Some, None, refl, sym, ap, subst, ◌∙◌, arith, IsSome, option_map, if◌then◌else◌}
 use Rattle.std.proofs.lemmas.Bool.Decides.{nat_tests}
 use Rattle.lists.proofs.ListLaws.{same_some}
-use Rattle.jvm_types.specs.{Members.is_synchronized, declared.{outcome.Thrown.Thrown, program.Program.Program}}
+use Rattle.jvm_types.specs.{Members.is_synchronized, declared.{outcome.Thrown.{Thrown, TheVariants.ArrayIndexOutOfBoundsException}, program.Program.Program}}
 use Rattle.checked_program.specs.MarkedProgram.{MarkedProgram, IsMarked}
-use Rattle.machine_types.specs.{Core.is_live, Elision.{is_checked, is_same, elided, fails, if_same, looks, may_try}, Events.{wanted, moved}}
+use Rattle.machine_types.specs.{Core.is_live, Elision.{is_checked, is_same, elided, fails, if_same, looks, may_try}, Events.{element_made, wanted, moved}}
 use Rattle.machine_types.specs.{FoundWords.{WordFits, content_at, effect_content, run_content}, Frames.{Top, top_of, frames_of, top_row, frame_on, effect_at, monitor_of, returned, went, went_on}}
-use Rattle.machine_types.specs.{Going.{with_phase, runs, root_over, goes_on, goes_on_if, goes_after}, HeldMonitors.held_at, Instructions.{begun, did, effect_wants, instructed, ran, run_wants}}
+use Rattle.machine_types.specs.{Going.{with_phase, runs, root_over, goes_on, goes_on_if, goes_after}, HeldMonitors.held_at, Instructions.{begun, did, effect_wants, indexed, instructed, ran, run_wants}, Ints.low}
 use Rattle.machine_types.specs.Monitors.{Claim, Tries, claim, enter_moves, finishes, leave_moves, finish_wants, leave_wants}
 use Rattle.machine_types.specs.{Onward.{Onward, Running, Throwing, Entering, Leaving, RootReturned, Uncaught, threw, back, unwound}, ReadyObjects.thrown_of, Threads.{Attempt, Frame, Thread}}
-use Rattle.machine_types.specs.{Words.{header_class, header_length}, declared.{access.Access.TheVariants.Load, effect.Effect.Effect}}
+use Rattle.machine_types.specs.{Words.{header_class, header_length, value_word}, declared.{access.Access.TheVariants.Load, effect.Effect.Effect}}
 use Rattle.machine_types.specs.declared.effect.Effect.TheVariants.{Goes, Throws, Reads, Writes, Indexes, Measures, Raises, Makes, Prints, Calls, Returns, Enters, Leaves, Waits, Notifies, NotifiesAll, Stuck}
 use Rattle.machine_types.{specs.declared.phase.{After.{After, TheVariants.{Next, Return}}, Phase.Phase}, proofs.PlainPartLaws.frames_are}
 use Rattle.laws_threads.specs.{InsideEffects.MayDo, TopFrames.IsAllowed}
@@ -24,6 +24,7 @@ use Rattle.machine_types.specs.declared.phase.Phase.TheVariants as phases
 
 abbrev pub left_in : Program → (base : ℕ) → Phase → List Frame → ℕ
 left_in p base phases.Run fs = all_ahead p base fs
+left_in p base (phases.Element word stored) fs = all_ahead p base fs - 1
 left_in p base (phases.Enter m tried) fs = all_ahead p base fs
 left_in p base (phases.Leave m afters.Next) fs = all_ahead p base fs
 left_in p base (phases.Leave m afters.Return) fs = all_ahead p base (drop 1 fs)
@@ -86,7 +87,7 @@ module _ (c : MarkedProgram) (marked : IsMarked c) (x : Thread) (a : Attempt) (t
   abbrev Lessens : (n k : ℕ) → Thread → Type 0
   Lessens n k y = Falls c.program a n k y
 
-  module _ (at : Top) (k : IsTop c.program at.frame at.below at) (based : a.base ≤ length at.below) where
+  module _ (at : Top) (k : IsTop c.program at.frame at.below at) (based : a.base ≤ length at.below) (here : frames_of at ≡ x.frames) where
     abbrev whole : ℕ
     whole = all_ahead c.program a.base (frames_of at)
 
@@ -111,6 +112,25 @@ module _ (c : MarkedProgram) (marked : IsMarked c) (x : Thread) (a : Attempt) (t
     gives_back true = on (Leaving (monitor_of c.program at.method at.frame) Return (frames_of at)) left_behind
     gives_back false = comes_back (returned c.program at) (omega (arith, returned_on c marked a.base at, left_behind))
 
+    -- an element is still to be read
+    comes : (word : ℕ) → Lessens whole 1 (with_phase (begun x) (phases.Element word None))
+    comes word =
+        let same : all_ahead c.program a.base (frames_of at) ≡ all_ahead c.program a.base x.frames =
+        ap (all_ahead c.program a.base) here in
+        goes_on_with c.program a whole 1 a.inner
+        (with_phase (begun x) (phases.Element word None)) tries
+        (omega (arith, left_behind, same))
+
+    indexes : (array index count : ℕ) → Lessens whole 1
+        (indexed (begun x) at array index None count)
+    indexes array index count = by_test (nat_lt index count)
+      where
+        by_test : (b : Bool) → Lessens whole 1
+            (if b then with_phase (begun x) (phases.Element (value_word array index) None) else
+            goes_on (begun x) (threw ArrayIndexOutOfBoundsException at))
+        by_test true = comes (value_word array index)
+        by_test false = on (threw ArrayIndexOutOfBoundsException at) (omega (arith, left_behind))
+
     does : (e : Effect) (got : ℕ) → is_checked at.frame.pc e ≡ false → MayDo c a.monitor at e → IsAllowed c.program at e → GoesOnBy c.program at e got → Lessens whole 1 (did c.program (begun x) at e got)
     does (Goes to made) got free may allowed some =
         let later : at.frame.pc < to = grind (arith, nat_tests, free) in
@@ -118,7 +138,8 @@ module _ (c : MarkedProgram) (marked : IsMarked c) (x : Thread) (a : Attempt) (t
     does (Throws z) got free may allowed some = on (threw z at) (omega (arith, left_behind))
     does (Reads v) got free may allowed some = on (Running (went_on c.program at got)) (on_next got)
     does (Writes v word) got free may allowed some = absurd may
-    does (Indexes array index stored) got free may allowed some = absurd may
+    does (Indexes array index None) got free may allowed some = indexes array (low index) (header_length got)
+    does (Indexes array index (Some v)) got free may allowed some = absurd may
     does (Measures array) got free may allowed some = on (Running (went_on c.program at (header_length got))) (on_next (header_length got))
     does (Raises z) got free may allowed some = thrown z (thrown_of (header_class got)) some
     does (Makes word size) got free may allowed some = absurd may
@@ -162,7 +183,26 @@ module _ (c : MarkedProgram) (marked : IsMarked c) (x : Thread) (a : Attempt) (t
       λ checked. missed (ap (run_wants c.program x) i.found ∙ checked_looks at.frame.pc (effect_at c.program at) checked ∙ looks_there) in
       subst (λ (fs : List Frame). Lessens (all_ahead c.program a.base fs) 1 (ran c.program x (top_of c.program x.frames) got)) same
       (subst (λ (o : Option Top). Lessens (all_ahead c.program a.base (frames_of at)) 1 (ran c.program x o got)) (sym i.found)
-      (instruction at (is_top c.program at.frame at.below at found) few (effect_at c.program at) got fails_if may i.allowed (i.goes_on got word)))
+      (instruction at (is_top c.program at.frame at.below at found) few same (effect_at c.program at) got fails_if may i.allowed (i.goes_on got word)))
+
+  -- ---- an element
+
+  reads : (made : ℕ) → a.base < length x.frames → (at : Top) → top_of c.program x.frames ≡ Some at
+      → Lessens (all_ahead c.program a.base x.frames - 1) 0
+      (goes_on_if x (option_map (λ q. Running (went_on c.program q made))
+      (top_of c.program x.frames)))
+  reads made based at found =
+      let same : frames_of at ≡ x.frames = frames_are c.program x.frames at found in
+      let long : length (frames_of at) ≡ length x.frames = ap length same in
+      let few : a.base ≤ length at.below = omega (arith, based, long) in
+      let one : all_ahead c.program a.base (frames_of at) ≡ all_ahead c.program a.base x.frames =
+      ap (all_ahead c.program a.base) same in
+      let less = on_next at (is_top c.program at.frame at.below at
+      (ap (top_of c.program) same ∙ found)) few same made in
+      subst (λ (o : Option Top). Lessens (all_ahead c.program a.base x.frames - 1) 0
+      (goes_on_if x (option_map (λ q. Running (went_on c.program q made)) o))) (sym found)
+      (goes c.program a (all_ahead c.program a.base x.frames - 1) 0 a.inner x
+      (Running (went_on c.program at made)) tries (omega (arith, less, one)))
 
   -- ---- monitors
 
@@ -204,6 +244,8 @@ module _ (c : MarkedProgram) (marked : IsMarked c) (x : Thread) (a : Attempt) (t
   pub late : (phase : Phase) (got : ℕ) → x.phase ≡ phase → KnownInside c x a phase → a.base < length x.frames → (is_live phase ≡ true → HasEvent c x phase) → WordFits c.program (content_at c x phase) got
       → (wanted c x phase ≡ Some (Load a.monitor) → is_same a got ≡ false) → Lessens (left_in c.program a.base phase x.frames) (begun_in phase) (moved c x phase got)
   late phases.Run got e known based has fits missed = at_instruction got based known (has refl) fits missed
+  late (phases.Element word stored) got e known based has fits missed =
+      reads (element_made stored got) based known.at known.found
   late (phases.Throw r class) got e known based has fits missed = check_fails c.program a 0 0 x x.attempt got _ tries (missed looks_there) (omega arith)
   late (phases.Enter m tried) got e known based has fits missed = enters m tried (all_ahead c.program a.base x.frames) (may_try c x tried) (claim x m) got known (omega arith)
   late (phases.Leave m after) got e known based has fits missed =

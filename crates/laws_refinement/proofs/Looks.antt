@@ -1,7 +1,7 @@
 -- An event inside an attempt wants a load or no word at all, or rests where a limit has ended its thread.
 use Rattle.std.proofs.Common.{ℕ, zero, suc, Bool, true, false, cond, Option, Some, None, refl, sym, subst}
 use Rattle.checked_program.specs.MarkedProgram.{MarkedProgram}
-use Rattle.machine_types.specs.{Elision.{looks, is_checked}, Events.wanted, Frames.{Top, effect_at}, Instructions.{effect_wants, run_wants}, Monitors.{Claim, enter_wants, leave_wants, finish_wants}}
+use Rattle.machine_types.specs.{Elision.{looks, is_checked}, Events.{element_wants, wanted}, Frames.{Top, effect_at}, Instructions.{effect_wants, run_wants}, Monitors.{Claim, enter_wants, leave_wants, finish_wants}}
 use Rattle.machine_types.specs.{Threads.{Attempt, Thread}, declared.{access.Access.Access, effect.Effect.{Effect, TheVariants.{Goes, Reads, Writes, Indexes, Measures, Raises, Makes, Prints, Calls}}}}
 use Rattle.machine_types.specs.declared.phase.Phase.{Phase}
 use Rattle.laws_threads.specs.InsideEffects.{MayDo}
@@ -28,13 +28,16 @@ module _ (c : MarkedProgram) (x : Thread) (a : Attempt) where
   effect_look pc at (Measures array) may = tt
   effect_look pc at (Raises r) may = tt
   effect_look pc at (Writes v word) may = absurd may
-  effect_look pc at (Indexes array index stored) may = absurd may
+  effect_look pc at (Indexes array index None) may = tt
+  effect_look pc at (Indexes array index (Some v)) may = absurd may
   effect_look pc at (Makes word size) may = absurd may
   effect_look pc at (Prints n) may = absurd may
   effect_look pc at e may = tt
 
   pub only_looks : (phase : Phase) → KnownInside c x a phase → OnlyLooks phase (wanted c x phase)
   only_looks phases.Run k = subst (λ (o : Option Top). IsLook (run_wants c.program x o)) (sym k.found) (effect_look k.at.frame.pc k.at (effect_at c.program k.at) k.may)
+  only_looks (phases.Element word stored) k =
+      subst (λ (o : Option ℕ). IsLook (Some (element_wants word o))) (sym k.read) tt
   only_looks (phases.Throw r class) k = attempt_look x.attempt
   only_looks (phases.Enter n tried) k = subst (λ (claim : Claim). IsLook (enter_wants n claim)) (sym k) tt
   only_looks (phases.Leave n b) k = subst (λ (claim : Claim). IsLook (leave_wants x n claim)) (sym k) (finish_look n a.inner)

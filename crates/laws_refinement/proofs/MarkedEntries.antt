@@ -3,8 +3,8 @@ use Rattle.std.{proofs.Common.{◌≡◌, ℕ, zero, suc, ◌<◌, Bool, true, f
 use Rattle.std.proofs.lemmas.Bool.Decides.{Decides-eqb}
 use Rattle.lists.proofs.TestLaws.{both_true, both_are_true, same_number}
 use Rattle.jvm_types.specs.declared.program.Program.{Program}
-use Rattle.checked_program.specs.{MarkedProgram.{MarkedProgram, IsMarked}, Marks.{HasMark, IsMarkOf}, Sections.{Section, sections}, TaggedCode.Tagged, declared.section.FieldUse.FieldUse}
-use Rattle.checked_program.specs.declared.section.{SectionMark.SectionMark, Spot.{Spot, TheVariants.{Method, Block}}}
+use Rattle.checked_program.specs.{MarkedProgram.{MarkedProgram, IsMarked}, Marks.{HasMark, IsMarkOf}, Sections.{Section, sections}, TaggedCode.Tagged, declared.section.SectionMark.SectionMark}
+use Rattle.checked_program.specs.declared.section.{Spot.{Spot, TheVariants.{Method, Block}}, Uses.Uses}
 use Rattle.machine_types.specs.{Elision.enters_marked, Sections.{entered_at, is_same_spot, is_marked}, Standing.tags_of, Threads.Frame}
 use Rattle.laws_refinement.specs.EntryLaws.{BeginsBehind, IsAtMarked}
 
@@ -58,7 +58,7 @@ at_mark c (f ∷ below) e =
 
 -- ---- from the mark to the test: a section has one mark, wherever it is listed
 
-module _ (p : Program) (tags : Tagged) (uses : List FieldUse) (method pc : ℕ) where
+module _ (p : Program) (tags : Tagged) (uses : Uses) (method pc : ℕ) where
   abbrev here : Section
   here = record { method = method; spot = entered_at pc }
 

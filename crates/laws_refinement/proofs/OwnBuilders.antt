@@ -3,8 +3,8 @@ use Rattle.std.proofs.{Common.{◌≡◌, ℕ, ◌-◌, Bool, true, false, List,
 use Rattle.lists.proofs.ListLaws.{same_some}
 use Rattle.jvm_types.specs.{CodeTable.is_init, declared.program.MethodInfo.MethodInfo}
 use Rattle.checked_program.specs.MarkedProgram.{MarkedProgram}
-use Rattle.machine_types.specs.{Construction.{builds, ReceiverIs, FramesKeep, PhaseKeepsFrames, ThreadKeeps, BuilderTurn, Runs, turn_by, made_world}, Frames.pushed, Guards.MakesObject}
-use Rattle.machine_types.specs.{Structure.operands_in, Threads.{Frame, Thread}, Worlds.{Builder, Header, Made, Begun, Lost, World, builder, lost_if, same_builder}, declared.phase.Phase.Phase}
+use Rattle.machine_types.specs.{Construction.{Owning, builds, ReceiverIs, FramesKeep, PhaseKeepsFrames, ThreadKeeps, BuilderTurn, Runs, turn_by, made_world}, Frames.pushed, Guards.MakesObject}
+use Rattle.machine_types.specs.{Structure.operands_in, Threads.{Frame, Thread}, Worlds.{Builder, Item, Header, Begun, Lost, World, builder, lost_if, same_builder}, declared.phase.Phase.Phase}
 use Rattle.laws_refinement.proofs.FieldWriters.{TopIsOf}
 use Rattle.machine_types.specs.declared.phase.Phase.TheVariants as phases
 
@@ -22,13 +22,13 @@ lost_own b t (Some f) d e own = by_test (same_builder b f) e
     by_test true e = let one : record f { item = Lost } ≡ d = same_some e in (f, refl, ap (λ (g : Builder). g.thread) one ∙ own)
     by_test false e = let one : f ≡ d = same_some e in (f, refl, ap (λ (g : Builder). g.thread) one ∙ own)
 
-made_own : (w : World) (t a r : ℕ) (young : Bool) (b d : Builder) → IsOwn w t a → made_world w a young b r ≡ Some d → d.thread ≡ t → IsOwn w t r
-made_own w t a r true b d new e own = by_test (r == a) refl e
+made_own : (w : World) (t a r height : ℕ) (item : Option Item) (d : Builder) → IsOwn w t a → made_world w a t height item r ≡ Some d → d.thread ≡ t → IsOwn w t r
+made_own w t a r height (Some item) d new e own = by_test (r == a) refl e
   where
-    by_test : (same : Bool) → (r == a) ≡ same → (if same then Some b else lost_if b (w r)) ≡ Some d → IsOwn w t r
+    by_test : (same : Bool) → (r == a) ≡ same → (if same then Some (builder t height item) else lost_if (builder t height item) (w r)) ≡ Some d → IsOwn w t r
     by_test true f e = subst (IsOwn w t) (sym ((Decides-eqb r a).0 f)) new
-    by_test false f e = lost_own b t (w r) d e own
-made_own w t a r false b d new e own = by_test (r == a) refl e
+    by_test false f e = lost_own (builder t height item) t (w r) d e own
+made_own w t a r height None d new e own = by_test (r == a) refl e
   where
     by_test : (same : Bool) → (r == a) ≡ same → (if same then None else w r) ≡ Some d → IsOwn w t r
     by_test true f e = absurd (cc)
@@ -36,13 +36,13 @@ made_own w t a r false b d new e own = by_test (r == a) refl e
 
 -- ---- the receiver of the top frame
 
-module _ (c : MarkedProgram) (frozen : ℕ → Bool) (next t r class : ℕ) (is_frozen : frozen class ≡ true) where
+module _ (c : MarkedProgram) (frozen : ℕ → Bool) (own : Owning) (next t r class : ℕ) (is_frozen : frozen class ≡ true) where
   both : (a b : Bool) → a ≡ true → b ≡ true → (a && b) ≡ true
   both true true e f = refl
   both true false e f = f
   both false b e f = e
 
-  top_builds : (w : World) (turn : BuilderTurn) (fs : List Frame) → FramesKeep c frozen w next t turn fs → MakesObject c r fs → TopIsOf c.program class fs → IsOwn w t r
+  top_builds : (w : World) (turn : BuilderTurn) (fs : List Frame) → FramesKeep c frozen own w next t turn fs → MakesObject c r fs → TopIsOf c.program class fs → IsOwn w t r
   top_builds w turn [] k makes top = absurd makes
   top_builds w turn (f ∷ fs) k (m, there, init, receiver) (n, known, of_class) =
       let method = k.0.stands.method in
@@ -52,15 +52,15 @@ module _ (c : MarkedProgram) (frozen : ℕ → Bool) (next t r class : ℕ) (is_
       let begun : ReceiverIs w next t (length fs) true f.receiver = subst (λ (own : Bool). ReceiverIs w next t (length fs) own f.receiver) builds_it k.0.receiver in
       (builder t (length fs) Begun, ap w (sym receiver) ∙ begun, refl)
 
-  phase_builds : (w : World) (phase : Phase) (fs : List Frame) → PhaseKeepsFrames c frozen w next t phase fs → MakesObject c r fs → TopIsOf c.program class fs → IsOwn w t r
+  phase_builds : (w : World) (phase : Phase) (fs : List Frame) → PhaseKeepsFrames c frozen own w next t phase fs → MakesObject c r fs → TopIsOf c.program class fs → IsOwn w t r
   phase_builds w (phases.Made a word) [] k makes top = absurd makes
   phase_builds w (phases.Made a word) (f ∷ fs) k makes top =
-      let h = top_builds (made_world w a k.young (builder t (length (f ∷ fs) - 1) (Made k.pc))) Runs (pushed a (f ∷ fs)) k.keep makes top in
-      made_own w t a r k.young (builder t (length (f ∷ fs) - 1) (Made k.pc)) h.0 (builder t (length (f ∷ fs) - 1) Header, k.now, refl) h.1 h.2
+      let h = top_builds (made_world w a t (length (f ∷ fs) - 1) k.item) Runs (pushed a (f ∷ fs)) k.keep makes top in
+      made_own w t a r (length (f ∷ fs) - 1) k.item h.0 (builder t (length (f ∷ fs) - 1) Header, k.now, refl) h.1 h.2
   phase_builds w phase fs k makes top = top_builds w (turn_by (operands_in phase)) fs k makes top
 
   -- outside an attempt the thread sees the world as it is
-  pub makes_own : (w : World) (was : Phase) (x : Thread) → ThreadKeeps c frozen w next t was x → x.attempt ≡ None → MakesObject c r x.frames → TopIsOf c.program class x.frames → IsOwn w t r
+  pub makes_own : (w : World) (was : Phase) (x : Thread) → ThreadKeeps c frozen own w next t was x → x.attempt ≡ None → MakesObject c r x.frames → TopIsOf c.program class x.frames → IsOwn w t r
   makes_own w was x k outside makes top =
       let h = phase_builds k.now was x.frames k.frames makes top in
       (h.0, sym (k.now_is.same outside r) ∙ h.1, h.2)

@@ -35,13 +35,13 @@ no_static p number row_of r f there instance k =
     let bad : true ≡ false = sym static ∙ instance in
     cc
 
-pub gets_field : (p : Program) (tags : Tagged) (site : MethodSite) (pc : ℕ) (mode : Mode) (o number : ℕ) (f : FieldInfo) (op : Op) (r : OpRow) (stack : List ℕ) → slice_get p.fields number ≡ Some f → is_static f.flags ≡ false
-    → HasRow p site pc (targets.Field number) op r → ReadsOnly p tags mode o op (targets.Field number) stack → GetsField p tags mode o number op r stack
-gets_field p tags site pc mode o number f (ops.Getfield i) r stack there instance k h = record { field = k.field; is = k.there; instance = k.sort; constant = i; gets = refl; row = k.its; stays = h }
-gets_field p tags site pc mode o number f (ops.Getstatic i) r stack there instance k h = absurd (no_static p number get_static_row r f there instance k)
-gets_field p tags site pc mode o number f (ops.Putstatic i) r stack there instance k h = absurd h
-gets_field p tags site pc mode o number f (ops.Putfield i) r stack there instance k h = absurd h
-gets_field p tags site pc mode o number f op r stack there instance k h = absurd k
+pub gets_field : (p : Program) (tags : Tagged) (site : MethodSite) (pc : ℕ) (mode : Mode) (o mi i number : ℕ) (f : FieldInfo) (op : Op) (r : OpRow) (stack : List ℕ) → slice_get p.fields number ≡ Some f → is_static f.flags ≡ false
+    → HasRow p site pc (targets.Field number) op r → ReadsOnly p tags mode o mi i op (targets.Field number) stack → GetsField p tags mode o number op r stack
+gets_field p tags site pc mode o mi k number f (ops.Getfield i) r stack there instance row h = record { field = row.field; is = row.there; instance = row.sort; constant = i; gets = refl; row = row.its; stays = h }
+gets_field p tags site pc mode o mi k number f (ops.Getstatic i) r stack there instance row h = absurd (no_static p number get_static_row r f there instance row)
+gets_field p tags site pc mode o mi k number f (ops.Putstatic i) r stack there instance row h = absurd h
+gets_field p tags site pc mode o mi k number f (ops.Putfield i) r stack there instance row h = absurd h
+gets_field p tags site pc mode o mi k number f op r stack there instance row h = absurd row
 
 -- ---- who builds its object
 

@@ -8,7 +8,7 @@ use Rattle.machine_types.specs.Accesses.{found_by}
 use Rattle.machine_types.specs.Core.{Core, Happening, Of, NextPart, start, start_thread, event, event_of, happened, all_happened, core, part_phase, with_roots, how_ended, may_begin, part_begins, next_threads}
 use Rattle.machine_types.specs.{Events.{wanted, moved}, Parts.{init_roots, run_roots, done_roots}, Structure.Structure, Threads.{Attempt, Thread}, declared.{config.Config.Config, phase.Phase.Phase}}
 use Rattle.machine_types.proofs.{AtStart.is_start_thread, Lists.{got_when_set, got_other}}
-use Rattle.laws_threads.{specs.{InsideEffects.InsideMayDo, InsideMoves.NoElementInside}, proofs.Lists.mapped_at}
+use Rattle.laws_threads.{specs.{InsideEffects.InsideMayDo, InsideMoves.ElementsInside}, proofs.Lists.mapped_at}
 use Rattle.laws_states.{specs.{RunFacts.HaveWidth, RunLaws.PartsKeepThreads, StateLaws.{ProgramsKeepThreads, RunsHaveState, IsInState}}, proofs.GrowingRuns.one_more}
 use Rattle.laws_refinement.{specs.{Entries.{failed_of, failed_with, failed_from, failed_here, KeepsCount, HasFailedCount}, EntryLaws.ThreadsKeepCount}, proofs.Counts.{Counts, event_counted}}
 use Rattle.laws_refinement.proofs.Inside.{is_inside}
@@ -16,7 +16,7 @@ use Rattle.machine_types.specs.declared.phase.Phase.TheVariants as phases
 
 -- ---- an event
 
-module _ (may_do : InsideMayDo) (no_element : NoElementInside) (c : MarkedProgram) (marked : IsMarked c) (was : ℕ → Phase) (s : Core) (structure : Structure c was s.threads) (t failed : ℕ) where
+module _ (may_do : InsideMayDo) (elements : ElementsInside) (c : MarkedProgram) (marked : IsMarked c) (was : ℕ → Phase) (s : Core) (structure : Structure c was s.threads) (t failed : ℕ) where
   -- of the thread itself
   own : (o : Option Thread) → slice_get s.threads t ≡ o → HasFailedCount s t failed → HasFailedCount (event_of c s t o) t (failed_of c s o failed)
   own None e k = k
@@ -29,7 +29,7 @@ module _ (may_do : InsideMayDo) (no_element : NoElementInside) (c : MarkedProgra
       later = failed_of c s (Some x) failed
 
       now : Counts (moved c x x.phase got) later
-      now = event_counted c x got failed (λ a tries. is_inside may_do no_element c marked x a tries (was t) (structure t x e)) (record { few = k.few; kept = k.kept x e })
+      now = event_counted c x got failed (λ a tries. is_inside may_do elements c marked x a tries (was t) (structure t x e)) (record { few = k.few; kept = k.kept x e })
 
   -- of another one
   other : (u : ℕ) → t ≢ u → (o : Option Thread) → slice_get s.threads u ≡ o → HasFailedCount s t failed → HasFailedCount (event_of c s u o) t failed
@@ -79,9 +79,9 @@ start_keeps c cfg t = record { few = omega arith; kept = λ x e. subst (λ (z : 
     by_number zero = at_root c.program 0 None phases.Idle (init_roots c.program) tt
     by_number (suc n) = tt
 
-module _ (may_do : InsideMayDo) (no_element : NoElementInside) (runs : RunsHaveState) (c : MarkedProgram) (cfg : Config) (marked : IsMarked c) (width : HaveWidth cfg) (parts : PartsKeepThreads c cfg) (t : ℕ) where
+module _ (may_do : InsideMayDo) (elements : ElementsInside) (runs : RunsHaveState) (c : MarkedProgram) (cfg : Config) (marked : IsMarked c) (width : HaveWidth cfg) (parts : PartsKeepThreads c cfg) (t : ℕ) where
   one : (s : Core) (failed : ℕ) (h : Happening) → IsInState c cfg s → HasFailedCount s t failed → HasFailedCount (happened c s h) t (failed_with c s t failed h)
-  one s failed (Of u) k m = event_keeps may_do no_element c marked k.was s k.facts.structure t failed u m
+  one s failed (Of u) k m = event_keeps may_do elements c marked k.was s k.facts.structure t failed u m
   one s failed NextPart k m = record { few = m.few; kept = next_keeps c.program failed s.threads t m.kept }
 
   -- behind a front of the run
@@ -96,5 +96,5 @@ module _ (may_do : InsideMayDo) (no_element : NoElementInside) (runs : RunsHaveS
   unfolding core failed_here
   counted hs = each [] hs 0 (start_keeps c cfg t)
 
-pub threads_keep_count : InsideMayDo → NoElementInside → RunsHaveState → ProgramsKeepThreads → ThreadsKeepCount
-threads_keep_count may_do no_element runs parts c cfg hs t marked width settings = counted may_do no_element runs c cfg marked width (parts c cfg marked settings) t hs
+pub threads_keep_count : InsideMayDo → ElementsInside → RunsHaveState → ProgramsKeepThreads → ThreadsKeepCount
+threads_keep_count may_do elements runs parts c cfg hs t marked width settings = counted may_do elements runs c cfg marked width (parts c cfg marked settings) t hs

@@ -1,12 +1,13 @@
 -- An event of a thread inside an attempt loads a word, or accesses none: it changes no word.
 use Rattle.std.proofs.Common.{◌≡◌, ℕ, zero, suc, nat_le, Bool, true, false, List, Option, Some, None, refl, ap, ◌∙◌, subst, ◌==◌, option_map, if◌then◌else◌}
 use Rattle.checked_program.specs.MarkedProgram.{MarkedProgram, IsMarked}
-use Rattle.machine_types.specs.{Accesses.words_after, Effects.read_by, Elision.looks, Events.wanted, Frames.{Top, top_of, effect_at}, HeldMonitors.held_at, Instructions.{effect_wants, run_wants}}
+use Rattle.machine_types.specs.{Accesses.words_after, Effects.read_by, Elision.looks, Events.{element_wants, wanted}, Frames.{Top, top_of, effect_at}, HeldMonitors.held_at, Instructions.{effect_wants, run_wants}}
 use Rattle.machine_types.specs.Monitors.{Claim, Has, Tries, HasNot, claim, claim_by, enter_wants, finish_wants, leave_wants}
 use Rattle.machine_types.specs.{Structure.{Stands, AttemptStands, AttemptStandsIn, IsAs, IsPhaseInside, IsStructured}, Threads.{Attempt, Thread}, declared.access.Access.Access}
 use Rattle.machine_types.specs.declared.{access.Access.TheVariants.{Load, Rest}, effect.Effect.{Effect, TheVariants.{Goes, Writes, Makes, Prints, Calls}}, lock.Held.Held, phase.Phase.Phase}
-use Rattle.laws_threads.specs.{InsideEffects.{MayDo, InsideMayDo}, InsideMoves.NoElementInside}
+use Rattle.laws_threads.specs.{InsideEffects.{MayDo, InsideMayDo}, InsideMoves.ElementsInside}
 use Rattle.laws_states.proofs.WordViews.{set_self}
+use Rattle.laws_refinement.proofs.Inside.{top_there}
 use Rattle.machine_types.specs.declared.phase.Phase.TheVariants as phases
 
 -- ---- accesses that change nothing
@@ -49,6 +50,11 @@ run_loads : (c : MarkedProgram) (m : ℕ) (s : Thread) (top : Option Top) → ((
 run_loads c m s None may = tt
 run_loads c m s (Some at) may = effect_loads c m at s at.frame.pc (effect_at c.program at) (may at refl)
 
+element_loads : (word : ℕ) (stored : Option ℕ) → stored ≡ None
+    → IsLoad (Some (element_wants word stored))
+element_loads word None e = tt
+element_loads word (Some v) e = absurd (cc)
+
 -- ---- an entry or an exit
 
 enter_loads : (m : ℕ) (claimed : Claim) → IsLoad (enter_wants m claimed)
@@ -71,7 +77,7 @@ leave_loads s m None (Some a) e = by_test (a.monitor == m)
 
 -- ---- all phases
 
-module _ (may_do : InsideMayDo) (no_element : NoElementInside) (c : MarkedProgram) (marked : IsMarked c) (x : Thread) (a : Attempt) (was : Phase) where
+module _ (may_do : InsideMayDo) (elements : ElementsInside) (c : MarkedProgram) (marked : IsMarked c) (x : Thread) (a : Attempt) (was : Phase) where
   -- the phase that counts is one of those inside
   is_inside : (phase : Phase) → was ≡ phase → AttemptStands c was x.frames x.held a → IsPhaseInside a.monitor phase
   is_inside phase e k = subst (IsPhaseInside a.monitor) e k.inside
@@ -81,7 +87,11 @@ module _ (may_do : InsideMayDo) (no_element : NoElementInside) (c : MarkedProgra
       run_loads c a.monitor x (top_of c.program x.frames)
       (λ at e. may_do c x.frames x.held a at marked (subst (λ (p : Phase). AttemptStands c p x.frames x.held a) is k) (subst (λ (p : Phase). Stands c p x.frames x.held (Some a)) is st) e)
   by_phase (phases.Element word stored) is st k =
-      absurd (no_element c word stored x.frames x.held a marked (subst (λ (p : Phase). AttemptStands c p x.frames x.held a) is k) (subst (λ (p : Phase). Stands c p x.frames x.held (Some a)) is st))
+      let tried = subst (λ (p : Phase). AttemptStands c p x.frames x.held a) is k in
+      let stands = subst (λ (p : Phase). Stands c p x.frames x.held (Some a)) is st in
+      let top = top_there c marked x.frames stands.shown a.base stands.show tried.based in
+      element_loads word stored (elements c word stored x.frames x.held a top.0 marked tried stands
+      top.1).read
   by_phase (phases.Throw r class) is st k = look_loads x.attempt
   by_phase (phases.Enter m tried) is st k = enter_loads m (claim x m)
   by_phase (phases.Leave m after) is st k =

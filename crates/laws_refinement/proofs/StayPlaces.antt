@@ -1,20 +1,22 @@
 -- Where a thread reads inside an attempt, the place stays as long as the monitor of the section is free.
-use Rattle.std.proofs.Common.{◌≡◌, ◌⊎◌, inl, inr, ℕ, ◌<◌, Bool, true, false, not, List, [], ◌∷◌, length, Option, Some, refl, sym, ap, ◌∙◌, subst, arith, ◌==◌, slice_get, slice_index, if◌then◌else◌}
+use Rattle.std.proofs.Common.{◌≡◌, ◌⊎◌, inl, inr, ℕ, ◌<◌, Bool, true, false, not, List, [], ◌∷◌, length, Option, Some, None, refl, sym, ap, ◌∙◌, subst, arith, ◌==◌, slice_get, slice_index, if◌then◌else◌}
 use Rattle.std.proofs.lemmas.Bool.{or_parts, Decides.nat_tests}
 use Rattle.lists.proofs.{ListLaws.same_some, TestLaws.is_true}
 use Rattle.jvm_types.specs.{ClassNames.file_of_class, CodeTable.get_row, Members.is_static, ProgramInvariant.{IsProgram, site_in}, Types.{TypeFrame, is_below}}
-use Rattle.jvm_types.specs.{Verifying.{suits, some_taken, some_read, mistypes}, declared.{code.Op.Op, fixed_words.TheConstants.NEXT_FREE_WORD, op_row.OpRow.OpRow, program.FieldInfo.FieldInfo}}
+use Rattle.jvm_types.specs.{Verifying.{suits, some_taken, some_read, mistypes}, declared.{code.{Insn.Insn, Op.Op}, fixed_words.TheConstants.NEXT_FREE_WORD, op_row.OpRow.OpRow, program.FieldInfo.FieldInfo}}
 use Rattle.jvm_types.specs.declared.{program.{MethodInfo.MethodInfo, Program.Program, Target.Target}, typing.VType.VType}
 use Rattle.laws_programs.{specs.TargetLaws.HasRow, proofs.ClassTreeLaws.files_alone}
-use Rattle.checked_program.specs.{FrozenPlaces.{IsFrozenStatic, IsGuardedStatic}, LockTags.TagShape, MarkedProgram.{MarkedProgram, IsMarked}, SectionLaws.ReadsOnly, declared.section.Mode.Mode}
+use Rattle.checked_program.specs.{FrozenPlaces.{IsFrozenStatic, IsGuardedStatic}, LockTags.TagShape, MarkedProgram.{MarkedProgram, IsMarked}, OwnedArrays.IsOwnedAt, SectionLaws.ReadsOnly, declared.section.Mode.Mode}
 use Rattle.checked_program.specs.declared.{section.Mode.TheVariants.OnThis, tag.Tag.Tag}
-use Rattle.machine_types.specs.{Attempts.{IsFieldAt, Stays}, Construction.{Construction, FramesKeep, PhaseKeepsFrames, ReceiverIs, Runs, SlotOf, SlotsAre, IsFresh, ThreadKeeps, builds, makes_frozen}}
-use Rattle.machine_types.specs.{Core.Core, Effects.{gets, effect, variable_of}, Frames.{Top, top_of, effect_at, top_row}, PlainMemory.Object, Standing.{Whole, tags_of}}
-use Rattle.machine_types.specs.{Structure.{Stands, AttemptStands, frames_inside}, Threads.{Frame, Attempt, Thread}, Typed.HasClass, Words.{class_object, header_word, value_word, variable_word}}
-use Rattle.machine_types.specs.{Worlds.{Begun, World, IsFinished, IsOwnOrFinished, builder}, declared.effect.{Effect.TheVariants.{Reads, Throws}, Variable.{Variable, TheVariants.{Instance, Static}}}}
+use Rattle.machine_types.specs.{Attempts.{IsFieldAt, Stays}, Construction.{Construction, FramesKeep, IsArraySlot, Owning, ReceiverIs, Runs, SlotOf, SlotsAre, SlotsFrom, StackWith, IsFresh, ThreadKeeps, builds, makes_frozen, puts_owned}}
+use Rattle.machine_types.specs.{Core.Core, Effects.{gets, effect, variable_of}, Frames.{Top, top_of, effect_at, top_row}, OwnedPlaces.{Stores, IsStoredAt}, PlainMemory.Object, Standing.{Standing, Whole, tags_of}}
+use Rattle.machine_types.specs.{Structure.{Stands, AttemptStands, TopIs, frames_inside, is_element_op}, Threads.{Frame, Attempt, Thread}, Typed.{ElementStands, FramesHold, HasClass, HasElement, HasElementIn, HasElementOn, IsElementOn}, Words.{class_object, header_word, value_word, variable_word}}
+use Rattle.machine_types.specs.{Worlds.{Begun, Unstored, World, IsFinished, IsOwnOrFinished, builder}, declared.effect.{Effect.TheVariants.{Reads, Throws}, Variable.{Variable, TheVariants.{Instance, Static}}}}
 use Rattle.machine_types.specs.declared.{lock.Held.Held, phase.Phase.Phase}
-use Rattle.laws_threads.{specs.InsideEffects.{IsStayingStatic, MayRead}, proofs.{Inside.{runs_inside, not_finished, top_shows, stack_this}, Landing.{rules_at, stand_top}}}
-use Rattle.laws_threads.proofs.{SectionFrames.{on_object, reads, row_stands}, Standings.{top_here, top_at_standing}}
+use Rattle.laws_threads.{specs.InsideEffects.{IsStayingStatic, MayRead, TakesOwned}, proofs.{FramePlaces.one_standing, Inside.{runs_inside, not_finished, top_shows, stack_this}, Landing.{rules_at, stand_top}}}
+use Rattle.laws_threads.proofs.{SectionFrames.{on_object, reads, row_stands}, Standings.{one_insn, top_here, top_at_standing}}
+use Rattle.laws_states.{specs.HeapFacts.HeapFacts, proofs.Lists.contained_got}
+use Rattle.laws_objects.proofs.ColouredFrames.{coloured_class, coloured_instance}
 use Rattle.laws_refinement.proofs.ReadPlaces.{MayStay, GetsField, gets_field, IsOwnIn, own_in_all, of_object, slot}
 use Rattle.jvm_types.specs.declared.code.Op.TheVariants as ops
 use Rattle.jvm_types.specs.declared.outcome.Thrown.TheVariants as thrown
@@ -32,7 +34,8 @@ pub record TopReads (c : MarkedProgram) (m : ℕ) (at : Top) : Type 0 where
   pub mode : Mode
   pub o : ℕ
   pub on : mode ≡ OnThis → o ≡ m
-  pub only : ReadsOnly c.program (tags_of c) mode o at.insn.op at.target at.frame.stack
+  pub number : ℕ
+  pub only : ReadsOnly c.program (tags_of c) mode o at.frame.method number at.insn.op at.target at.frame.stack
 
 pub top_reads : (c : MarkedProgram) (fs : List Frame) (held : List Held) (a : Attempt) (at : Top) → IsMarked c → AttemptStands c phases.Run fs held a → Stands c phases.Run fs held (Some a) → top_of c.program fs ≡ Some at → TopReads c a.monitor at
 top_reads c [] held a at marked k s e = absurd (cc)
@@ -46,26 +49,29 @@ top_reads c (f ∷ below) held a at marked k s e =
       mode = r.mode;
       o = a.entry.receiver;
       on = on_object c marked a k.monitor f (frames_inside a below) r;
+      number = l.number;
       only = reads c marked a k.uses k.are_uses k.marked f (frames_inside a below) r f.stack this;
     } in
     subst (λ (top : Top). TopReads c a.monitor top) (top_at_standing c marked f below l at e) one
 
 -- ---- what is known of its operands
 
-pub record TopSlots (c : MarkedProgram) (frozen : ℕ → Bool) (now : World) (next t : ℕ) (at : Top) : Type 0 where
+pub record TopSlots (c : MarkedProgram) (frozen : ℕ → Bool) (own : Owning) (now : World) (next t : ℕ) (at : Top) : Type 0 where
   pub height : ℕ
   pub types : TypeFrame
   pub tags : TagShape
   pub receiver : ReceiverIs now next t height (builds frozen at.method) at.frame.receiver
-  pub stack : SlotsAre (SlotOf frozen now next t height Runs at.method at.frame.receiver) types.stack tags.stack at.frame.stack
+  pub stack : StackWith (SlotOf frozen now next t height Runs at.method at.frame.receiver)
+      (λ v. now v ≡ Some (builder t height Unstored))
+      (puts_owned own.owned at.insn.op at.target) types.stack tags.stack at.frame.stack
   pub suit : mistypes at.method (top_row c.program at) types ≡ false
 
-pub top_slots : (c : MarkedProgram) (frozen : ℕ → Bool) (now : World) (next t : ℕ) (fs : List Frame) (at : Top) → IsMarked c → FramesKeep c frozen now next t Runs fs → top_of c.program fs ≡ Some at → TopSlots c frozen now next t at
-top_slots c frozen now next t [] at marked k e = absurd (cc)
-top_slots c frozen now next t (f ∷ below) at marked k e =
+pub top_slots : (c : MarkedProgram) (frozen : ℕ → Bool) (own : Owning) (now : World) (next t : ℕ) (fs : List Frame) (at : Top) → IsMarked c → FramesKeep c frozen own now next t Runs fs → top_of c.program fs ≡ Some at → TopSlots c frozen own now next t at
+top_slots c frozen own now next t [] at marked k e = absurd (cc)
+top_slots c frozen own now next t (f ∷ below) at marked k e =
     let l = k.0.stands in
-    let one : TopSlots c frozen now next t (top_here c f below l) = record { height = length below; types = l.types; tags = l.tags; receiver = k.0.receiver; stack = k.0.stack; suit = (rules_at c marked f l).rules.types } in
-    subst (λ (top : Top). TopSlots c frozen now next t top) (same_some (sym (stand_top c marked f below l) ∙ e)) one
+    let one : TopSlots c frozen own now next t (top_here c f below l) = record { height = length below; types = l.types; tags = l.tags; receiver = k.0.receiver; stack = k.0.stack; suit = (rules_at c marked f l).rules.types } in
+    subst (λ (top : Top). TopSlots c frozen own now next t top) (same_some (sym (stand_top c marked f below l) ∙ e)) one
 
 -- ---- the slot on top of the stack
 
@@ -89,6 +95,85 @@ top_suits m r field g type more row first suit =
     let one : some_taken (λ want t. not (suits m want t)) (get_row (Some field)).takes (type ∷ more) ≡ false
     = subst (λ (ts : List VType). some_taken (λ want t. not (suits m want t)) (get_row (Some field)).takes ts ≡ false) first (subst (λ (o : OpRow). some_taken (λ want t. not (suits m want t)) o.takes g.stack ≡ false) row takes) in
     is_true (is_below type (types.Ref field.class)) (or_parts (not (is_below type (types.Ref field.class))) false one).0
+
+-- ---- the array below the index
+
+-- the slot that it is in, and the object that the method runs on
+pub record TopArray (c : MarkedProgram) (stores : Stores) (objects : List Object) (word : ℕ)
+    (at : Top) : Type 0 where
+  pub array : ℕ
+  pub index : ℕ
+  pub word_is : word ≡ value_word array index
+  pub element : HasElement objects array index
+  pub stands : Standing c at.frame
+  pub type : VType
+  pub slot : IsArraySlot c stores at.frame stands.number 1 type array
+  pub on : is_static stands.method.flags ≡ false
+      → HasClass objects stands.method.class at.frame.receiver
+
+second : (Is : VType → Tag → (v : ℕ) → Type 0) (On : (place : ℕ) → VType → (v : ℕ) → Type 0)
+    (ts : List VType) (gs : List Tag) (i a : ℕ) (rest : List ℕ) → SlotsAre Is ts gs (i ∷ a ∷ rest)
+    → SlotsFrom On 0 ts (i ∷ a ∷ rest) → (type : VType) × On 1 type a
+second Is On (first ∷ type ∷ ts) (g ∷ h ∷ gs) i a rest are on = (type, on.1.0)
+second Is On (first ∷ []) (g ∷ []) i a rest are on = absurd are.1
+second Is On (first ∷ []) (g ∷ h ∷ gs) i a rest are on = absurd are.1
+second Is On (first ∷ type ∷ ts) (g ∷ []) i a rest are on = absurd are.1
+second Is On [] [] i a rest are on = absurd are
+second Is On [] (g ∷ gs) i a rest are on = absurd are
+second Is On (first ∷ ts) [] i a rest are on = absurd are
+
+element_reads : (op : Op) → is_element_op None op ≡ true → op ≡ ops.Iaload
+element_reads ops.Iaload e = refl
+element_reads op e = absurd (let bad : false ≡ true = e in cc)
+
+module _ (c : MarkedProgram) (frozen : ℕ → Bool) (own : Owning) (now : World) (next t : ℕ)
+    (objects : List Object) (word : ℕ) (marked : IsMarked c) where
+  by_stack : (f : Frame) (below : List Frame) (stack : List ℕ) → f.stack ≡ stack
+      → FramesKeep c frozen own now next t Runs (f ∷ below)
+      → FramesHold c (HasClass objects) (f ∷ below) → TopIs c (is_element_op None) (f ∷ below)
+      → HasElementOn objects None stack → IsElementOn word None stack
+      → (l : Standing c f) → TopArray c own.stores objects word (top_here c f below l)
+  by_stack f below (i ∷ a ∷ rest) is keep holds top has on l =
+      let k = keep.0.stands in
+      let op : k.insn.op ≡ ops.Iaload = element_reads k.insn.op
+      (ap (λ (insn : Insn). is_element_op None insn.op) (one_insn c marked f k top.0) ∙ top.1)
+      in
+      let are : SlotsAre (SlotOf frozen now next t (length below) Runs k.method f.receiver)
+      k.types.stack k.tags.stack f.stack =
+      subst (λ (q : Op). StackWith (SlotOf frozen now next t
+      (length below) Runs k.method f.receiver)
+      (λ v. now v ≡ Some (builder t (length below) Unstored))
+      (puts_owned own.owned q k.target) k.types.stack k.tags.stack f.stack) op keep.0.stack in
+      let slot = second (SlotOf frozen now next t (length below) Runs k.method f.receiver)
+      (IsArraySlot c own.stores f k.number) k.types.stack k.tags.stack i a rest
+      (subst (λ (vs : List ℕ). SlotsAre (SlotOf frozen now next t
+      (length below) Runs k.method f.receiver) k.types.stack k.tags.stack vs) is are)
+      (subst (λ (vs : List ℕ). SlotsFrom (IsArraySlot c own.stores f k.number) 0 k.types.stack vs)
+      is keep.0.arrays) in
+      let one = one_standing c marked f holds.0.stands k in
+      record {
+        array = a;
+        index = i;
+        word_is = on;
+        element = has;
+        stands = k;
+        type = slot.0;
+        slot = slot.1;
+        on = subst (λ (m : MethodInfo). is_static m.flags ≡ false
+            → HasClass objects m.class f.receiver) one.method holds.0.receiver;
+      }
+  by_stack f below (i ∷ []) is keep holds top has on l = absurd on
+  by_stack f below [] is keep holds top has on l = absurd on
+
+  pub top_array : (fs : List Frame) (at : Top) → FramesKeep c frozen own now next t Runs fs
+      → FramesHold c (HasClass objects) fs → TopIs c (is_element_op None) fs
+      → HasElementIn objects None fs → ElementStands word None fs → top_of c.program fs ≡ Some at
+      → TopArray c own.stores objects word at
+  top_array [] at keep holds top has on e = absurd top
+  top_array (f ∷ below) at keep holds top has on e =
+      subst (λ (q : Top). TopArray c own.stores objects word q)
+      (same_some (sym (stand_top c marked f below keep.0.stands) ∙ e))
+      (by_stack f below f.stack refl keep holds top has on keep.0.stands)
 
 -- ---- the object that is read
 
@@ -131,16 +216,18 @@ instance_of field reference e = ap (λ (b : Bool). if b then Static field.index 
 
 -- ---- of a thread in an attempt, whose instruction begins
 
-module _ (c : MarkedProgram) (marked : IsMarked c) (frozen : ℕ → Bool) (w : World) (was : ℕ → Phase) (objects : List Object) (s : Core) (built : Construction c frozen w was objects s) (t : ℕ) (x : Thread) (here : slice_get s.threads t ≡ Some x)
-    (a : Attempt) (counted : was t ≡ phases.Run) (at : Top) (at_top : top_of c.program x.frames ≡ Some at) where
+module _ (c : MarkedProgram) (marked : IsMarked c) (frozen : ℕ → Bool) (own : Owning) (w : World) (was : ℕ → Phase) (objects : List Object) (s : Core) (built : Construction c frozen own w was objects s) (t : ℕ) (x : Thread) (here : slice_get s.threads t ≡ Some x)
+    (a : Attempt) (frames_keep : FramesKeep c frozen own (built.each t x here).now
+    (slice_index s.words NEXT_FREE_WORD) t Runs x.frames) (at : Top)
+    (at_top : top_of c.program x.frames ≡ Some at) where
   abbrev next : ℕ
   next = slice_index s.words NEXT_FREE_WORD
 
-  abbrev keeps : ThreadKeeps c frozen w next t (was t) x
+  abbrev keeps : ThreadKeeps c frozen own w next t (was t) x
   keeps = built.each t x here
 
-  slots : TopSlots c frozen keeps.now next t at
-  slots = top_slots c frozen keeps.now next t x.frames at marked (subst (λ (phase : Phase). PhaseKeepsFrames c frozen keeps.now next t phase x.frames) counted keeps.frames) at_top
+  slots : TopSlots c frozen own keeps.now next t at
+  slots = top_slots c frozen own keeps.now next t x.frames at marked frames_keep at_top
 
   receiver_known : (own : Bool) → ReceiverIs keeps.now next t slots.height own at.frame.receiver → (at.frame.receiver < next) × IsOwnIn keeps.now t at.frame.receiver
   receiver_known true e = let inside = (keeps.now_world built.world).inside at.frame.receiver (builder t slots.height Begun) e in (inside.1, inr (builder t slots.height Begun, e, refl))
@@ -151,21 +238,29 @@ module _ (c : MarkedProgram) (marked : IsMarked c) (frozen : ℕ → Bool) (w : 
   known v (inr k) = own_in_all keeps.now w t x.attempt next v keeps.now_is k.0 (inl k.1)
 
   -- the object on top of the stack, where a field of it is read
-  top_known : (field : FieldInfo) (v : ℕ) (rest : List ℕ) → top_row c.program at ≡ get_row (Some field) → at.frame.stack ≡ v ∷ rest → 0 < v → IsOwnOrFinished w next t v
-  top_known field v rest row top some =
+  whole_stack : puts_owned own.owned at.insn.op at.target ≡ false
+      → SlotsAre (SlotOf frozen keeps.now next t slots.height Runs at.method at.frame.receiver)
+      slots.types.stack slots.tags.stack at.frame.stack
+  whole_stack puts = subst (λ (b : Bool). StackWith
+      (SlotOf frozen keeps.now next t slots.height Runs at.method at.frame.receiver)
+      (λ v. keeps.now v ≡ Some (builder t slots.height Unstored)) b slots.types.stack
+      slots.tags.stack at.frame.stack) puts slots.stack
+
+  top_known : (field : FieldInfo) (v : ℕ) (rest : List ℕ) → puts_owned own.owned at.insn.op at.target ≡ false → top_row c.program at ≡ get_row (Some field) → at.frame.stack ≡ v ∷ rest → 0 < v → IsOwnOrFinished w next t v
+  top_known field v rest puts row top some =
       let first = first_slot (SlotOf frozen keeps.now next t slots.height Runs at.method at.frame.receiver) slots.types.stack slots.tags.stack v rest
-      (subst (λ (vs : List ℕ). SlotsAre (SlotOf frozen keeps.now next t slots.height Runs at.method at.frame.receiver) slots.types.stack slots.tags.stack vs) top slots.stack) in
+      (subst (λ (vs : List ℕ). SlotsAre (SlotOf frozen keeps.now next t slots.height Runs at.method at.frame.receiver) slots.types.stack slots.tags.stack vs) top (whole_stack puts)) in
       let below = top_suits at.method (top_row c.program at) field slots.types first.type first.more row first.first slots.suit in
       known v (slot (IsFinished keeps.now next) (IsFresh keeps.now t slots.height Runs) (makes_frozen frozen at.method) at.frame.receiver v some (builds frozen at.method) first.type first.tag (of_object first.type field.class below) first.is)
 
   -- a static field
-  static_stays : (word : ℕ) → IsStayingStatic c a.monitor word → Stays c objects w next t a.monitor word
+  static_stays : (word : ℕ) → IsStayingStatic c a.monitor word → Stays c own.stores objects w next t a.monitor word
   static_stays word k = by_stay k.stays
     where
       at_word : (f : FieldInfo) → slice_get c.program.fields k.number ≡ Some f → word ≡ f.index
       at_word f is = sym k.place ∙ ap (λ (g : FieldInfo). g.index) (same_some (sym k.is ∙ is))
 
-      by_stay : IsFrozenStatic c.program k.number ⊎ (IsGuardedStatic c.program (tags_of c) k.number × (class_object c.program (file_of_class k.field.class) ≡ a.monitor)) → Stays c objects w next t a.monitor word
+      by_stay : IsFrozenStatic c.program k.number ⊎ (IsGuardedStatic c.program (tags_of c) k.number × (class_object c.program (file_of_class k.field.class) ≡ a.monitor)) → Stays c own.stores objects w next t a.monitor word
       by_stay (inl h) = attempts.frozen_static k.number h (at_word h.field h.is)
       by_stay (inr (h, on)) = attempts.guarded_static k.number h (ap (λ (g : FieldInfo). class_object c.program (file_of_class g.class)) (same_some (sym h.is ∙ k.is)) ∙ on) (at_word h.field h.is)
 
@@ -174,9 +269,9 @@ module _ (c : MarkedProgram) (marked : IsMarked c) (frozen : ℕ → Bool) (w : 
     -- a field of an object
     module _ (instance : is_static f.flags ≡ false) where
       abbrev names : GetsField c.program (tags_of c) marks.mode marks.o named.number at.insn.op (top_row c.program at) at.frame.stack
-      names = gets_field c.program (tags_of c) (site_in at.method) at.insn.pc marks.mode marks.o named.number f at.insn.op (top_row c.program at) at.frame.stack named.there instance
+      names = gets_field c.program (tags_of c) (site_in at.method) at.insn.pc marks.mode marks.o at.frame.method marks.number named.number f at.insn.op (top_row c.program at) at.frame.stack named.there instance
           (subst (λ (target : Target). HasRow c.program (site_in at.method) at.insn.pc target at.insn.op (top_row c.program at)) named.named marks.row)
-          (subst (λ (target : Target). ReadsOnly c.program (tags_of c) marks.mode marks.o at.insn.op target at.frame.stack) named.named marks.only)
+          (subst (λ (target : Target). ReadsOnly c.program (tags_of c) marks.mode marks.o at.frame.method marks.number at.insn.op target at.frame.stack) named.named marks.only)
 
       abbrev read : ReadObject c.program names.field at.frame.stack v
       read = read_object c.program at named.number names.constant names.field v named.named names.gets names.is e
@@ -211,26 +306,68 @@ module _ (c : MarkedProgram) (marked : IsMarked c) (frozen : ℕ → Bool) (w : 
         field = names.field;
         is = names.is;
         of_class = of_class;
-        known = subst (IsOwnOrFinished w next t) (sym is_object) (top_known names.field read.value read.rest names.row read.top read.some);
+        known = subst (IsOwnOrFinished w next t) (sym is_object) (top_known names.field read.value read.rest (ap (λ (op : Op). puts_owned own.owned op at.target) names.gets) names.row read.top read.some);
         place = ap (λ (u : Variable). variable_word u) is_variable ∙ ap (λ (r : ℕ). value_word r names.field.index) (sym is_object);
       }
 
-      by_stay : MayStay c.program (tags_of c) marks.mode named.number (slice_index at.frame.stack 0) marks.o → Stays c objects w next t a.monitor (variable_word v)
+      by_stay : MayStay c.program (tags_of c) marks.mode named.number (slice_index at.frame.stack 0) marks.o → Stays c own.stores objects w next t a.monitor (variable_word v)
       by_stay (inl k) = attempts.frozen named.number object k field_at
       by_stay (inr k) = attempts.guarded named.number object k.0 (is_object ∙ sym (ap (λ (vs : List ℕ). slice_index vs 0) read.top) ∙ k.2 ∙ marks.on k.1) field_at
 
-      field_stays : Stays c objects w next t a.monitor (variable_word v)
+      field_stays : Stays c own.stores objects w next t a.monitor (variable_word v)
       field_stays = by_stay names.stays
 
-    pub variable_stays : Stays c objects w next t a.monitor (variable_word v)
+    pub variable_stays : Stays c own.stores objects w next t a.monitor (variable_word v)
     variable_stays = by_sort (is_static f.flags) refl
       where
-        by_sort : (b : Bool) → is_static f.flags ≡ b → Stays c objects w next t a.monitor (variable_word v)
+        by_sort : (b : Bool) → is_static f.flags ≡ b → Stays c own.stores objects w next t a.monitor (variable_word v)
         by_sort false sort = field_stays sort
         by_sort true sort =
             let static : v ≡ Static f.index = named.variable ∙ ap (λ (b : Bool). if b then Static f.index else Instance named.reference f.index) sort in
-            subst (λ (u : Variable). Stays c objects w next t a.monitor (variable_word u)) (sym static) (static_stays f.index (subst (MayRead c a.monitor) static may))
+            subst (λ (u : Variable). Stays c own.stores objects w next t a.monitor (variable_word u)) (sym static) (static_stays f.index (subst (MayRead c a.monitor) static may))
 
   -- the header of an object
-  pub header_stays : (class v : ℕ) → allowed.IsOf (HasClass objects) class v → Stays c objects w next t a.monitor (header_word v)
+  pub header_stays : (class v : ℕ) → allowed.IsOf (HasClass objects) class v → Stays c own.stores objects w next t a.monitor (header_word v)
   header_stays class v k = attempts.header k.2.0 k.2.1 (ap header_word (sym k.2.2))
+
+  -- an element of an array that the monitor's object owns
+  pub element_stays : (heap : HeapFacts c objects s) (word : ℕ)
+      → TopArray c own.stores objects word at → TakesOwned c a.monitor at
+      → Stays c own.stores objects w next t a.monitor word
+  element_stays heap word k o = attempts.element coloured.fi object.0 coloured.owned object.1
+      (object.2 ∙ o.receiver) (record {
+        field_word = field_word;
+        is_field = record { field = coloured.owned.field; is = coloured.owned.is; place = refl };
+        of_class = object.3 ∙ coloured_class c marked at.frame k.stands 1 coloured;
+        array = k.element.object;
+        there = k.element.there;
+        stored = ap own.stores k.element.is ∙ stored
+            (k.slot.owned coloured field_word (record {
+              field = coloured.owned.field;
+              is = coloured.owned.is;
+              place = ap
+                  (λ (r : ℕ). value_word r coloured.owned.field.index) object.2;
+            }));
+        index = k.index;
+        inside = k.element.below;
+        place = k.word_is ∙ ap (λ (r : ℕ). value_word r k.index) (sym k.element.is);
+      })
+    where
+      coloured : IsOwnedAt c.program (tags_of c) at.frame.method k.stands.number 1
+      coloured = subst (λ (number : ℕ). IsOwnedAt c.program (tags_of c) at.frame.method number 1)
+          (one_standing c marked at.frame o.stands k.stands).number o.owned
+
+      object : HasClass objects k.stands.method.class at.frame.receiver
+      object = k.on (coloured_instance c marked at.frame k.stands 1 coloured)
+
+      field_word : ℕ
+      field_word = value_word object.0.reference coloured.owned.field.index
+
+      some : 0 < k.array
+      some = let begins = heap.apart.begin k.element.there.0 k.element.object
+          (contained_got objects k.element.object k.element.there) in omega
+          (arith, begins, k.element.is)
+
+      stored : IsStoredAt own.stores field_word k.array → own.stores k.array ≡ Some field_word
+      stored (inl null) = absurd (omega (arith, some, null))
+      stored (inr is) = is

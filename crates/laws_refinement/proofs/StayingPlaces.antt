@@ -1,14 +1,15 @@
 -- The places that stay for a thread stay so after an event of another thread, and keep their words.
-use Rattle.std.proofs.Common.{◌≡◌, ◌≢◌, ◌⊎◌, inl, inr, ℕ, zero, suc, Bool, true, false, List, Option, Some, None, refl, sym, ap, ◌∙◌, subst, arith, Contains, slice_get, slice_index}
+use Rattle.std.proofs.Common.{◌≡◌, ◌≢◌, ◌⊎◌, inl, inr, ℕ, zero, suc, Bool, true, false, List, [], ◌∷◌, Option, Some, None, refl, sym, ap, ◌∙◌, subst, arith, Contains, slice_get, slice_index}
 use Rattle.lists.proofs.ListLaws.{same_some}
 use Rattle.jvm_types.specs.{ClassNames.file_of_class, Members.{is_final, is_private, is_static}, declared.program.{FieldInfo.FieldInfo, Program.Program}}
-use Rattle.checked_program.specs.MarkedProgram.{MarkedProgram}
-use Rattle.machine_types.specs.{Accesses.words_after, Attempts.{IsFieldAt, Stays, header, frozen, guarded, frozen_static, guarded_static}, Core.{Core, event, event_of}, Events.wanted}
+use Rattle.checked_program.specs.{MarkedProgram.MarkedProgram, SectionLaws.OwnedIsDecided}
+use Rattle.machine_types.specs.{Accesses.words_after, Attempts.{IsFieldAt, Stays, header, frozen, guarded, element, frozen_static, guarded_static}, Construction.{AttemptKeepsIn, Owning}, Core.{Core, event, event_of}, Events.wanted}
 use Rattle.machine_types.specs.{Guards.{Changes, ChangesWord, HoldsMonitor, IsOfClassInit, KeepsGuards, MakesClass, MakesObject}, LockWords.word_of_lock, NewObjects.size_by}
-use Rattle.machine_types.specs.{PlainMemory.{Object, new_object}, Structure.{AttemptStands, AttemptStandsIn, IsAs, IsPhaseInside, IsStructured, Stands}, Threads.{Attempt, Thread}}
+use Rattle.machine_types.specs.{OwnedPlaces.IsElementOf, PlainMemory.{Object, new_object}, Structure.{AttemptStands, AttemptStandsIn, IsAs, IsPhaseInside, IsStructured, Stands}, Threads.{Attempt, Frame, Thread}}
 use Rattle.machine_types.specs.{Words.{class_object, value_word}, Worlds.{Builder, World, IsOwnOrFinished}, declared.{config.Config.Config, phase.Phase.Phase}}
-use Rattle.laws_threads.specs.{InsideEffects.InsideMayDo, InsideMoves.NoElementInside}
+use Rattle.laws_threads.specs.{InsideEffects.InsideMayDo, InsideMoves.ElementsInside}
 use Rattle.laws_states.{specs.{HeapFacts.{objects_after, objects_by, objects_of}, SiteLaws.{EventsReachSites, SitesDiffer, SitesLieInside}}, proofs.Lists.{contains_more, same_or_not}}
+use Rattle.laws_objects.proofs.{ElementWriters.{ElementWriter, StoresElement, element_writer}, PlaceWriters.TopWrites}
 use Rattle.laws_refinement.{specs.ElidedSteps.{EventStands, next_free}, proofs.{FieldWriters.{TopIsOf, field_writer}, LockNoted.held_not, OwnBuilders.{IsOwn, makes_own}, SilentAttempts.silent}}
 use Rattle.machine_types.specs.declared.lock.LockWord.TheVariants as locks
 use Rattle.machine_types.specs.declared.phase.Phase.TheVariants as phases
@@ -19,7 +20,8 @@ more_objects : (p : Program) (phase : Phase) (objects : List Object) (o : Object
 more_objects p (phases.Made a word) objects o k = contains_more (new_object a word (size_by p word)) objects o k
 more_objects p phase objects o k = k
 
-module _ (c : MarkedProgram) (cfg : Config) (objects : List Object) (was : ℕ → Phase) (is_frozen : ℕ → Bool) (w later : World) (s : Core) (t : ℕ) (x : Thread) (turns : EventStands c cfg objects was is_frozen w later s t x) where
+module _ (c : MarkedProgram) (cfg : Config) (objects : List Object) (was : ℕ → Phase) (is_frozen : ℕ → Bool) (own own_after : Owning) (w later : World) (s : Core) (t : ℕ) (x : Thread)
+    (turns : EventStands c cfg objects was is_frozen own own_after w later s t x) where
   abbrev pub after : List ℕ
   after = words_after s.words (wanted c x x.phase)
 
@@ -50,10 +52,26 @@ module _ (c : MarkedProgram) (cfg : Config) (objects : List Object) (was : ℕ �
     still_field : (fi z : ℕ) (o : Object) → IsFieldAt c objects w (next_free s) u fi z o → IsFieldAt c (objects_after c.program s t objects) later (next_free (event c s t)) u fi z o
     still_field fi z o k = record { there = still_object o k.there; field = k.field; is = k.is; of_class = k.of_class; known = still_own o.reference k.known; place = k.place }
 
-    pub still_stays : (m z : ℕ) → Stays c objects w (next_free s) u m z → Stays c (objects_after c.program s t objects) later (next_free (event c s t)) u m z
+    still_element : (fi z : ℕ) (o : Object) → IsElementOf c own.stores objects fi o z
+        → IsElementOf c own_after.stores (objects_after c.program s t objects) fi o z
+    still_element fi z o k = record {
+      field_word = k.field_word;
+      is_field = k.is_field;
+      of_class = k.of_class;
+      array = k.array;
+      there = still_object k.array k.there;
+      stored = turns.kept k.array.reference k.field_word k.stored;
+      index = k.index;
+      inside = k.inside;
+      place = k.place;
+    }
+
+    pub still_stays : (m z : ℕ) → Stays c own.stores objects w (next_free s) u m z → Stays c own_after.stores (objects_after c.program s t objects) later (next_free (event c s t)) u m z
     still_stays m z (header o there at) = header o (still_object o there) at
     still_stays m z (frozen fi o is k) = frozen fi o is (still_field fi z o k)
     still_stays m z (guarded fi o is at k) = guarded fi o is at (still_field fi z o k)
+    still_stays m z (element fi o owned there at k) =
+        element fi o owned (still_object o there) at (still_element fi z o k)
     still_stays m z (frozen_static fi is at) = frozen_static fi is at
     still_stays m z (guarded_static fi is on at) = guarded_static fi is on at
 
@@ -75,14 +93,14 @@ module _ (c : MarkedProgram) (cfg : Config) (objects : List Object) (was : ℕ �
 
     -- ---- their words stay
 
-    module _ (may_do : InsideMayDo) (no_element : NoElementInside) (differ : SitesDiffer) (inside : SitesLieInside) (reach : EventsReachSites) where
+    module _ (may_do : InsideMayDo) (elements : ElementsInside) (decided : OwnedIsDecided) (differ : SitesDiffer) (inside : SitesLieInside) (reach : EventsReachSites) where
       inside_still : (a : Attempt) → x.attempt ≡ Some a → (place : ℕ) → slice_index after place ≡ slice_index s.words place
-      inside_still a e place = ap (λ (words : List ℕ). slice_index words place) (silent may_do no_element c turns.marked x a (was t) s.words (turns.facts.structure t x turns.thread) e)
+      inside_still a e place = ap (λ (words : List ℕ). slice_index words place) (silent may_do elements c turns.marked x a (was t) s.words (turns.facts.structure t x turns.thread) e)
 
       -- no `<init>` that another thread runs is on an object that this one knows
       not_made : (v class : ℕ) → IsOwnOrFinished w (next_free s) u v → is_frozen class ≡ true → x.attempt ≡ None → MakesObject c v x.frames → TopIsOf c.program class x.frames → ⊥
       not_made v class known is outside makes top =
-          let own : IsOwn w t v = makes_own c is_frozen (next_free s) t v class is w (was t) x (turns.built.each t x turns.thread) outside makes top in
+          let own : IsOwn w t v = makes_own c is_frozen own (next_free s) t v class is w (was t) x (turns.built.each t x turns.thread) outside makes top in
           other (sym (known.1 own.0 own.1) ∙ own.2)
 
       -- a field of a frozen class that changes only where its object is made
@@ -94,7 +112,7 @@ module _ (c : MarkedProgram) (cfg : Config) (objects : List Object) (was : ℕ �
         abbrev pub IsStill : Type 0
         IsStill = slice_index after place ≡ slice_index s.words place
 
-        field_stays : (KeepsGuards c objects s (event c s t) x → Changes fi c o s (event c s t) → MakesObject c o.reference x.frames) → IsStill
+        field_stays : (KeepsGuards c own.stores objects s (event c s t) x → Changes fi c o s (event c s t) → MakesObject c o.reference x.frames) → IsStill
         field_stays guards = by_attempt x.attempt refl
           where
             changes : (IsStill → ⊥) → Changes fi c o s (event c s t)
@@ -120,7 +138,7 @@ module _ (c : MarkedProgram) (cfg : Config) (objects : List Object) (was : ℕ �
 
       -- a static field that changes only where its class is made: then no worker has begun, so none is in an attempt, and none moves
       module _ (y : Thread) (there : slice_get s.threads u ≡ Some y) (mine : Attempt) (tries : y.attempt ≡ Some mine) (place class : ℕ) where
-        static_stays : (KeepsGuards c objects s (event c s t) x → ChangesWord place s (event c s t) → MakesClass c class s x) → slice_index (event c s t).words place ≡ slice_index s.words place
+        static_stays : (KeepsGuards c own.stores objects s (event c s t) x → ChangesWord place s (event c s t) → MakesClass c class s x) → slice_index (event c s t).words place ≡ slice_index s.words place
         static_stays guards = by_attempt x.attempt refl
           where
             by_test : x.attempt ≡ None → (slice_index (event c s t).words place ≡ slice_index s.words place) ⊎ ChangesWord place s (event c s t) → slice_index (event c s t).words place ≡ slice_index s.words place
@@ -149,16 +167,16 @@ module _ (c : MarkedProgram) (cfg : Config) (objects : List Object) (was : ℕ �
       not_free m n o free at holds = held_not c cfg objects was s t x turns.facts turns.thread m n free (subst (λ (r : ℕ). HoldsMonitor r x) at holds)
 
       -- for a thread in an attempt
-      pub still_word : (y : Thread) → slice_get s.threads u ≡ Some y → (a : Attempt) → y.attempt ≡ Some a → (m n z : ℕ) → slice_index s.words m ≡ word_of_lock (locks.Free n) → Stays c objects w (next_free s) u m z → slice_index (event c s t).words z ≡ slice_index s.words z
-      still_word y there a tries m n z free (header o known at) =
+      pub still_word : (y : Thread) → slice_get s.threads u ≡ Some y → (a : Attempt) → y.attempt ≡ Some a → (z : ℕ) → slice_index s.words a.monitor ≡ word_of_lock (locks.Free a.noted) → Stays c own.stores objects w (next_free s) u a.monitor z → slice_index (event c s t).words z ≡ slice_index s.words z
+      still_word y there a tries z free (header o known at) =
           ap (slice_index (event c s t).words) at ∙ turns.facts_after.heap.typed.places.headers o (still_object o known) ∙ sym (ap (slice_index s.words) at ∙ turns.facts.heap.typed.places.headers o known)
-      still_word y there a tries m n z free (frozen fi o is k) =
+      still_word y there a tries z free (frozen fi o is k) =
           let one : is.field ≡ k.field = same_field fi is.field k.field is.is k.is in
           same_word z (value_word o.reference k.field.index) k.place
           (field_stays fi z o k (subst (λ (f : FieldInfo). is_static f.flags ≡ false) one is.instance) (inr (subst (λ (f : FieldInfo). is_final f.flags ≡ true) one is.final))
           (subst (λ (f : FieldInfo). is_frozen f.class ≡ true) one (turns.built.frozen_are.with_frozen fi is))
           (λ guards changes. guards.frozen fi o k.there is changes))
-      still_word y there a tries m n z free (guarded fi o is at k) =
+      still_word y there a tries z free (guarded fi o is at k) =
           let one : is.field ≡ k.field = same_field fi is.field k.field is.is k.is in
           same_word z (value_word o.reference k.field.index) k.place
           (field_stays fi z o k (subst (λ (f : FieldInfo). is_static f.flags ≡ false) one is.instance) (inl (subst (λ (f : FieldInfo). is_private f.flags ≡ true) one is.private))
@@ -166,13 +184,88 @@ module _ (c : MarkedProgram) (cfg : Config) (objects : List Object) (was : ℕ �
           (λ guards changes. by_guard (guards.guarded fi o k.there is changes)))
         where
           by_guard : HoldsMonitor o.reference x ⊎ MakesObject c o.reference x.frames → MakesObject c o.reference x.frames
-          by_guard (inl holds) = absurd (not_free m n o.reference free at holds)
+          by_guard (inl holds) = absurd (not_free a.monitor a.noted o.reference free at holds)
           by_guard (inr makes) = makes
-      still_word y there a tries m n z free (frozen_static fi is at) =
+      still_word y there a tries z free (element fi o owned known at k) = by_attempt x.attempt refl
+        where
+          -- the monitor is no object that another thread builds
+          known_here : IsOwnOrFinished w (next_free s) u o.reference
+          known_here = subst (IsOwnOrFinished w (next_free s) u) (sym at)
+              (subst (AttemptKeepsIn c is_frozen own w (next_free s) u y.frames) tries
+              (turns.built.each u y there).attempt).monitor
+
+          frozen_class : is_frozen o.class ≡ true
+          frozen_class = subst (λ (class : ℕ). is_frozen class ≡ true)
+              (sym (k.of_class ∙ ap (λ (f : FieldInfo). f.class)
+              (same_some (sym k.is_field.is ∙ owned.is))))
+              (by_final (is_final owned.field.flags) refl)
+            where
+              by_final : (b : Bool) → is_final owned.field.flags ≡ b
+                  → is_frozen owned.field.class ≡ true
+              by_final true e = turns.built.frozen_are.with_frozen fi
+                  (record {
+                    field = owned.field;
+                    is = owned.is;
+                    final = e;
+                    instance =
+                        owned.instance;
+                    frozen = owned.frozen;
+                  })
+              by_final false e = turns.built.frozen_are.with_guarded fi
+                  (record {
+                    field = owned.field;
+                    is = owned.is;
+                    private = owned.private;
+                    changes =
+                        e;
+                    instance = owned.instance;
+                    frozen = owned.frozen;
+                    written = owned.written;
+                  })
+
+          by_top : (fs : List Frame) → TopWrites (ElementWriter c o) fs
+              → TopIsOf c.program o.class fs
+          by_top [] writer = writer
+          by_top (f ∷ fs) writer = (
+            writer.stands.method,
+            writer.stands.at.in_program,
+            sym
+                writer.of_class,
+          )
+
+          by_guard : x.attempt ≡ None → TopIsOf c.program o.class x.frames
+              → HoldsMonitor o.reference x ⊎ MakesObject c o.reference x.frames → ⊥
+          by_guard e top (inl holds) = not_free a.monitor a.noted o.reference free at holds
+          by_guard e top (inr makes) = not_made o.reference o.class known_here frozen_class e makes
+              top
+
+          by_writer : x.attempt ≡ None → ChangesWord z s (event c s t)
+              → (slice_index after z ≡ slice_index s.words z) ⊎ StoresElement c o z x → ⊥
+          by_writer e changes (inl still) = changes
+              (ap (λ (words : List ℕ). slice_index words z) event_words ∙ still)
+          by_writer e changes (inr stores) = by_guard e (by_top x.frames stores.top)
+              ((turns.guards e).elements fi z o known owned k changes)
+
+          by_test : x.attempt ≡ None → (slice_index (event c s t).words z ≡ slice_index s.words z) ⊎
+              ChangesWord z s (event c s t) → slice_index
+              (event c s t).words z ≡ slice_index s.words z
+          by_test e (inl same) = same
+          by_test e (inr changes) = absurd (by_writer e changes
+              (element_writer decided differ c objects s t x turns.marked turns.facts.heap
+              turns.thread is_frozen own w was turns.built
+              (turns.facts.structure t x turns.thread) fi z o known owned k
+              inside reach (turns.facts.threads.lawful t x turns.thread)))
+
+          by_attempt : (b : Option Attempt) → x.attempt ≡ b
+              → slice_index (event c s t).words z ≡ slice_index s.words z
+          by_attempt None e = by_test e (same_or_not _ _)
+          by_attempt (Some b) e = ap (λ (words : List ℕ). slice_index words z) event_words
+              ∙ inside_still b e z
+      still_word y there a tries z free (frozen_static fi is at) =
           subst (λ (n : ℕ). slice_index (event c s t).words n ≡ slice_index s.words n) (sym at) (static_stays y there a tries is.field.index is.field.class (λ guards changes. guards.frozen_statics fi is changes))
-      still_word y there a tries m n z free (guarded_static fi is on at) =
+      still_word y there a tries z free (guarded_static fi is on at) =
           subst (λ (n : ℕ). slice_index (event c s t).words n ≡ slice_index s.words n) (sym at) (static_stays y there a tries is.field.index is.field.class (λ guards changes. by_guard (guards.statics fi is changes)))
         where
           by_guard : HoldsMonitor (class_object c.program (file_of_class is.field.class)) x ⊎ MakesClass c is.field.class s x → MakesClass c is.field.class s x
-          by_guard (inl holds) = absurd (not_free m n (class_object c.program (file_of_class is.field.class)) free on holds)
+          by_guard (inl holds) = absurd (not_free a.monitor a.noted (class_object c.program (file_of_class is.field.class)) free on holds)
           by_guard (inr makes) = makes

@@ -9,7 +9,7 @@ use Rattle.machine_types.specs.{Accesses.found_by, Core.{Core, Happening, Of, Ne
 use Rattle.machine_types.specs.{Elision.is_same, Events.{wanted, moved}, LockWords.word_of_lock, Parts.{run_roots, done_roots}, Settings.AreSettings}
 use Rattle.machine_types.specs.{Structure.{AttemptStands, AttemptStandsIn, IsStructured}, Threads.{Attempt, Frame, Thread}, declared.{access.Access.TheVariants.Load, config.Config.Config}}
 use Rattle.machine_types.{specs.declared.phase.Phase.Phase, proofs.Lists.{got_when_set, got_other}}
-use Rattle.laws_threads.specs.{InsideEffects.InsideMayDo, InsideMoves.NoElementInside}
+use Rattle.laws_threads.specs.{InsideEffects.InsideMayDo, InsideMoves.ElementsInside}
 use Rattle.laws_states.{specs.{RunFacts.HaveWidth, RunSafety.{IsSafe, RunsAreSafe}}, proofs.GrowingRuns.one_more}
 use Rattle.laws_refinement.{specs.TornRuns.{attempt_in, begun_in, begun_of, begun_by, begun_inside, if_open, IsTorn, NotedNeverReturns, TornRunsAreShort}, proofs.Inside.{Inside, is_inside}}
 use Rattle.laws_refinement.proofs.{InstructionsAhead.all_ahead, LateEvents.{Falls, goes_on_with, late, left_in}, ReachedAhead.reached_ahead}
@@ -80,7 +80,7 @@ differs word other apart = by_test (word == other) refl
     by_test true e = absurd (apart ((Decides-eqb word other).0 e))
     by_test false e = refl
 
-module _ (may_do : InsideMayDo) (no_element : NoElementInside) (safe : RunsAreSafe) (c : MarkedProgram) (cfg : Config) (marked : IsMarked c) (width : HaveWidth cfg) (set : AreSettings cfg) (t : ℕ) where
+module _ (may_do : InsideMayDo) (elements : ElementsInside) (safe : RunsAreSafe) (c : MarkedProgram) (cfg : Config) (marked : IsMarked c) (width : HaveWidth cfg) (set : AreSettings cfg) (t : ℕ) where
   abbrev left_of : Attempt → Thread → ℕ
   left_of a x = left_in c.program a.base x.phase x.frames
 
@@ -109,7 +109,7 @@ module _ (may_do : InsideMayDo) (no_element : NoElementInside) (safe : RunsAreSa
         k = safe c cfg front t x marked width set there
 
         inside : Inside c x a
-        inside = is_inside may_do no_element c marked x a tries k.lawful.was k.lawful.structured
+        inside = is_inside may_do elements c marked x a tries k.lawful.was k.lawful.structured
 
         missed : wanted c x x.phase ≡ Some (Load a.monitor) → is_same a got ≡ false
         missed w =
@@ -178,15 +178,16 @@ fewer_below p base (f ∷ fs) = omega arith
 
 all_within : (p : Program) (base : ℕ) (phase : Phase) (fs : List Frame) (n : ℕ) → all_ahead p base fs ≤ n → left_in p base phase fs ≤ n
 all_within p base phases.Run fs n h = h
+all_within p base (phases.Element word stored) fs n h = omega (arith, h)
 all_within p base (phases.Enter m tried) fs n h = h
 all_within p base (phases.Leave m afters.Next) fs n h = h
 all_within p base (phases.Leave m afters.Return) fs n h = omega (arith, h, fewer_below p base fs)
 all_within p base phase fs n h = omega arith
 
-pub torn_runs_are_short : InsideMayDo → NoElementInside → RunsAreSafe → ApartLaw → NotedNeverReturns → TornRunsAreShort
-torn_runs_are_short may_do no_element safe apart never c cfg hs more t n a k torn reach =
+pub torn_runs_are_short : InsideMayDo → ElementsInside → RunsAreSafe → ApartLaw → NotedNeverReturns → TornRunsAreShort
+torn_runs_are_short may_do elements safe apart never c cfg hs more t n a k torn reach =
     let x : Thread = k.thread in
     let at : IsSafe c (core c cfg hs) x = safe c cfg hs t x k.marked k.width k.settings k.there in
     let whole = reached_ahead apart c n a reach at.lawful.was x.frames x.held (standing c at.lawful.was x a at.lawful.structured k.tries) in
-    let few = each may_do no_element safe c cfg k.marked k.width k.settings t never more hs x a k.there k.tries torn in
+    let few = each may_do elements safe c cfg k.marked k.width k.settings t never more hs x a k.there k.tries torn in
     omega (arith, few, all_within c.program a.base x.phase x.frames n whole)

@@ -3,7 +3,7 @@ use Rattle.std.proofs.{Common.{◌≡◌, ◌≢◌, ℕ, suc, ◌+◌, List, []
 use Rattle.jvm_types.specs.declared.{outcome.End.End, program.Program.Program}
 use Rattle.machine_types.specs.{Agreement.AttemptFits, Counting.{is_free, one_if, run_at, take_at, count_from, count_along}, History.{Past, steps_of}, Onward.{Onward, after}}
 use Rattle.machine_types.specs.PlainState.{Plain, PlainThread, Holding, value_at, holding_at, with_holding, without_holding, let_go, with_thread}
-use Rattle.machine_types.specs.{PlainSteps.{plain_entered, plain_run, plain_step, step_at, step_of}, Replay.{Alone, replayed, at_entry, at_present, status_inside}, Threads.{Attempt, Thread}}
+use Rattle.machine_types.specs.{PlainSteps.{plain_entered, plain_run, plain_step, step_at, step_of}, Replay.{Alone, replayed, at_entry, at_present, begun_and_done, status_inside}, Threads.{Attempt, Thread}}
 use Rattle.machine_types.{specs.declared.{phase.{After.After, Phase.Phase}, plain.Act.Act}, proofs.AttemptReplay.{hold, stands_as, Stands, stands_after}}
 use Rattle.laws_simulation.proofs.{LockPlain.exits, PlainCounts.{none_along, did_enter, not_run, not_taken}}
 use Rattle.laws_refinement.proofs.PlayedDue.{Played, played}
@@ -100,7 +100,8 @@ module _ (p : Program) (q : Plain) (t : ℕ) (x : Thread) (a : Attempt) (z : Pla
               ∙ ap (λ (ts : List PlainThread). Some (record q { holdings = holdings_behind q.holdings a.monitor t a.inner; threads = ts })) threads_are;
           instructions = ap (λ (r : Option Plain). run_at t q (record { thread = t; act = acts.Enter }) + count_from (count_along p (run_at t) (steps_of t (d.due ++ acts.Exit ∷ []))) r) to
               ∙ after_none (run_at t q (record { thread = t; act = acts.Enter })) (count_along p (run_at t) (steps_of t (d.due ++ acts.Exit ∷ [])) inside) d.pending (not_run t q acts.Enter refl)
-              (plays.runs ∙ ap (λ (n : ℕ). n + d.pending) no_runs);
+              (plays.runs ∙ ap (λ (n : ℕ). n + present.begun) no_runs
+              ∙ ap (λ (phase : Phase). 0 + begun_and_done phase d.pending) leaves);
           sections = ap (λ (r : Option Plain). take_at t q (record { thread = t; act = acts.Enter }) + count_from (count_along p (take_at t) (steps_of t (d.due ++ acts.Exit ∷ []))) r) to
               ∙ after_one (take_at t q (record { thread = t; act = acts.Enter })) (count_along p (take_at t) (steps_of t (d.due ++ acts.Exit ∷ [])) inside)
               (did_enter t a.monitor q z here fits.status ∙ ap (λ (h : Option Holding). one_if (is_free h)) free)

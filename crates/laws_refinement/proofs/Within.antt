@@ -1,12 +1,12 @@
 -- What an event inside an attempt makes of it: the thread goes on in the same one, or is about to enter again, or goes on behind
 -- the section, and is then at no entry.
 use Rattle.std.proofs.Common.{◌≡◌, ℕ, zero, suc, ◌+◌, nat_lt, Bool, true, false, cond, drop, List, [], ◌∷◌, Option, Some, None, refl, sym, ap, ◌∙◌, subst, option_map}
-use Rattle.jvm_types.specs.declared.{outcome.Thrown.Thrown, program.Program.Program}
+use Rattle.jvm_types.specs.declared.{outcome.Thrown.{Thrown, TheVariants.ArrayIndexOutOfBoundsException}, program.Program.Program}
 use Rattle.checked_program.{specs.MarkedProgram.MarkedProgram, proofs.FilledTags.some_fewer}
-use Rattle.machine_types.specs.{Elision.{may_try, is_same, is_checked, if_same, put_back, fails, elided}, Events.moved, Frames.{Top, top_of, effect_at, returned}}
+use Rattle.machine_types.specs.{Elision.{may_try, is_same, is_checked, if_same, put_back, fails, elided}, Events.{element_made, moved}, Frames.{Top, top_of, effect_at, returned, went_on}}
 use Rattle.machine_types.specs.{Going.{with_phase, goes_on, goes_on_if, goes_after, root_over}, History.{Fate, GoesOn, Fails, Finishes, fate, fate_by, run_fate, leave_fate}}
-use Rattle.machine_types.specs.{Instructions.{begun, did, instructed, ran}, Monitors.{Claim, finishes, enter_moves, leave_moves}, Onward.{Onward, back, unwound, dispatched, after, done}}
-use Rattle.machine_types.specs.{Threads.{Attempt, Frame, Thread}, declared.{effect.Effect.{Effect, TheVariants.{Writes, Indexes, Makes, Prints, Waits, Notifies, NotifiesAll}}, phase.After.After}}
+use Rattle.machine_types.specs.{Instructions.{begun, did, instructed, ran}, Monitors.{Claim, finishes, enter_moves, leave_moves}, Ints.low, Onward.{Onward, Running, threw, back, unwound, dispatched, after, done}}
+use Rattle.machine_types.specs.{Threads.{Attempt, Frame, Thread}, Words.{header_length, value_word}, declared.{effect.Effect.{Effect, TheVariants.{Writes, Indexes, Makes, Prints, Waits, Notifies, NotifiesAll}}, phase.After.After}}
 use Rattle.machine_types.specs.declared.phase.Phase.{Phase}
 use Rattle.laws_threads.{specs.InsideEffects.MayDo, proofs.ThreadMove.same_onward}
 use Rattle.laws_states.proofs.PlainMoves.{goes_attempt}
@@ -73,7 +73,14 @@ module _ (c : MarkedProgram) (x : Thread) (a : Attempt) (tries : x.attempt ≡ S
   -- an instruction, but for its check
   did_inside : (at : Top) (e : Effect) → MayDo c a.monitor at e → (did c.program (begun x) at e got).attempt ≡ x.attempt
   did_inside at (Writes v word) may = absurd may
-  did_inside at (Indexes array index stored) may = absurd may
+  did_inside at (Indexes array index None) may = by_test (nat_lt (low index) (header_length got))
+    where
+      by_test : (b : Bool) → (cond b (with_phase (begun x)
+          (phases.Element (value_word array (low index)) None))
+          (goes_on (begun x) (threw ArrayIndexOutOfBoundsException at))).attempt ≡ x.attempt
+      by_test true = refl
+      by_test false = refl
+  did_inside at (Indexes array index (Some v)) may = absurd may
   did_inside at (Makes word size) may = absurd may
   did_inside at (Prints n) may = absurd may
   did_inside at (Waits m) may = absurd may
@@ -83,7 +90,16 @@ module _ (c : MarkedProgram) (x : Thread) (a : Attempt) (tries : x.attempt ≡ S
 
   did_no_failure : (at : Top) (e : Effect) → MayDo c a.monitor at e → (did c.program (begun x) at e got).counts.failed ≡ x.counts.failed
   did_no_failure at (Writes v word) may = absurd may
-  did_no_failure at (Indexes array index stored) may = absurd may
+  did_no_failure at (Indexes array index None) may =
+      by_test (nat_lt (low index) (header_length got))
+    where
+      by_test : (b : Bool) → (cond b (with_phase (begun x)
+          (phases.Element (value_word array (low index)) None))
+          (goes_on (begun x) (threw ArrayIndexOutOfBoundsException at))).counts.failed ≡
+          x.counts.failed
+      by_test true = refl
+      by_test false = refl
+  did_no_failure at (Indexes array index (Some v)) may = absurd may
   did_no_failure at (Makes word size) may = absurd may
   did_no_failure at (Prints n) may = absurd may
   did_no_failure at (Waits m) may = absurd may
@@ -114,6 +130,10 @@ module _ (c : MarkedProgram) (x : Thread) (a : Attempt) (tries : x.attempt ≡ S
 
   moves_at : (phase : Phase) → x.phase ≡ phase → KnownInside c x a phase → HasFate x (moved c x phase got) a (fate c x a phase got)
   moves_at phases.Run e k = subst (λ (o : Option Top). HasFate x (ran c.program x o got) a (run_fate c a o got)) (sym k.found) (instructed_inside k.at (effect_at c.program k.at) k.may)
+  moves_at (phases.Element word stored) e k =
+      let o : Option Onward = option_map (λ at. Running
+      (went_on c.program at (element_made stored got))) (top_of c.program x.frames) in
+      same (goes_on_if x o) (goes_attempt x o) (goes_failed x o)
   moves_at (phases.Throw r class) e k =
       let o : Option Onward = dispatched c.program r class x.frames in
       checked x (goes_on_if x o) (put_back_to x refl refl refl refl) (same (goes_on_if x o) (goes_attempt x o) (goes_failed x o))

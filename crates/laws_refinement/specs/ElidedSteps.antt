@@ -1,13 +1,13 @@
 -- What each event keeps of the facts on attempts, and the plain steps of an event inside an
 -- attempt: none, but where the section is done, and then the section as a whole (PLDI 2010
 -- publication, of read-only sections without their lock).
-use Rattle.std.specs.Prelude.{◌≡◌, ◌≢◌, ℕ, ◌+◌, Bool, List, Option, Some, None, slice_get}
+use Rattle.std.specs.Prelude.{◌≡◌, ◌≢◌, ℕ, ◌+◌, Bool, List, Some, None, slice_get}
 use Rattle.std.specs.Prelude.{slice_index}
 use Rattle.checked_program.specs.MarkedProgram.{MarkedProgram, IsMarked}
 use Rattle.jvm_types.specs.declared.fixed_words.TheConstants.{NEXT_FREE_WORD}
 use Rattle.machine_types.specs.Accesses.{found_by}
 use Rattle.machine_types.specs.Attempts.{Owes}
-use Rattle.machine_types.specs.Construction.{Construction}
+use Rattle.machine_types.specs.Construction.{Construction, Owning}
 use Rattle.machine_types.specs.Core.{Core, event, outcome}
 use Rattle.machine_types.specs.Counting.{CountsFit, count_along, run_at, take_at}
 use Rattle.machine_types.specs.Events.{wanted, moved}
@@ -35,19 +35,22 @@ next_free s = slice_index s.words NEXT_FREE_WORD
 -- objects under construction
 
 pub record EventStands (c : MarkedProgram) (cfg : Config) (objects : List Object) (was : ℕ → Phase)
-    (frozen : ℕ → Bool) (w later : World) (s : Core) (t : ℕ) (x : Thread) : Type 0 where
+    (frozen : ℕ → Bool) (own after : Owning) (w later : World) (s : Core) (t : ℕ) (x : Thread)
+    : Type 0 where
   pub marked : IsMarked c
   pub width : HaveWidth cfg
   pub thread : slice_get s.threads t ≡ Some x
   pub facts : StateFacts c cfg objects was s
-  pub built : Construction c frozen w was objects s
+  pub built : Construction c frozen own w was objects s
   pub facts_after : StateFacts c cfg (objects_after c.program s t objects) (counted_after c was s t)
       (event c s t)
-  pub built_after : Construction c frozen later (counted_after c was s t)
+  pub built_after : Construction c frozen after later (counted_after c was s t)
       (objects_after c.program s t objects) (event c s t)
+  -- an array that was stored stays so
+  pub kept : (v word : ℕ) → own.stores v ≡ Some word → after.stores v ≡ Some word
   -- as far as other threads know
   pub goes_on : worlds.GoesOn w later (next_free s) (next_free (event c s t)) t 0
-  pub guards : x.attempt ≡ None → KeepsGuards c objects s (event c s t) x
+  pub guards : x.attempt ≡ None → KeepsGuards c own.stores objects s (event c s t) x
 
 -- the word that the event finds
 abbrev pub found_of : MarkedProgram → Core → Thread → ℕ
@@ -59,20 +62,20 @@ found_of c s x = found_by s.words (wanted c x x.phase)
 abbrev pub OthersKeepAttempts : Type 0
 OthersKeepAttempts =
     (c : MarkedProgram) (cfg : Config) (objects : List Object) (was : ℕ → Phase) (frozen : ℕ → Bool)
-    (w later : World) (s : Core) (t u : ℕ) (x y : Thread) (d : Past)
-    → EventStands c cfg objects was frozen w later s t x → u ≢ t → slice_get s.threads u ≡ Some y
-    → Owes c objects w s u (was u) y y.attempt d
-    → Owes c (objects_after c.program s t objects) later (event c s t) u
+    (own after : Owning) (w later : World) (s : Core) (t u : ℕ) (x y : Thread) (d : Past)
+    → EventStands c cfg objects was frozen own after w later s t x → u ≢ t
+    → slice_get s.threads u ≡ Some y → Owes c own.stores objects w s u (was u) y y.attempt d
+    → Owes c after.stores (objects_after c.program s t objects) later (event c s t) u
     (counted_after c was s t u) y y.attempt d
 
 -- its own, which may begin, go on, fail or be done
 abbrev pub OwnKeepsAttempt : Type 0
 OwnKeepsAttempt =
     (c : MarkedProgram) (cfg : Config) (objects : List Object) (was : ℕ → Phase) (frozen : ℕ → Bool)
-    (w later : World) (s : Core) (t : ℕ) (x : Thread) (d : Past)
-    → EventStands c cfg objects was frozen w later s t x
-    → Owes c objects w s t (was t) x x.attempt d
-    → Owes c (objects_after c.program s t objects) later (event c s t) t
+    (own after : Owning) (w later : World) (s : Core) (t : ℕ) (x : Thread) (d : Past)
+    → EventStands c cfg objects was frozen own after w later s t x
+    → Owes c own.stores objects w s t (was t) x x.attempt d
+    → Owes c after.stores (objects_after c.program s t objects) later (event c s t) t
     (counted_after c was s t t) (moved c x x.phase (found_of c s x))
     (moved c x x.phase (found_of c s x)).attempt (past_after c x x.attempt (found_of c s x) d)
 
@@ -117,9 +120,10 @@ pub record FinishesBeside (c : MarkedProgram) (objects : List Object) (s : Core)
 abbrev pub SectionsFinish : Type 0
 SectionsFinish =
     (c : MarkedProgram) (cfg : Config) (objects : List Object) (was : ℕ → Phase) (frozen : ℕ → Bool)
-    (w later : World) (s : Core) (t : ℕ) (x : Thread) (a : Attempt) (d : Past) (q : Plain)
-    → EventStands c cfg objects was frozen w later s t x → StandsBeside c.program objects s q
-    → x.attempt ≡ Some a → Owes c objects w s t (was t) x x.attempt d
+    (own after : Owning) (w later : World) (s : Core) (t : ℕ) (x : Thread) (a : Attempt)
+    (d : Past) (q : Plain) → EventStands c cfg objects was frozen own after w later s t x
+    → StandsBeside c.program objects s q → x.attempt ≡ Some a
+    → Owes c own.stores objects w s t (was t) x x.attempt d
     → fate c x a x.phase (found_of c s x) ≡ Finishes → FinishesBeside c objects s t x d q
 
 -- ---- counts of an event inside an attempt

@@ -4,7 +4,7 @@ use Rattle.std.specs.Prelude.{◌≡◌, false, List}
 use Rattle.checked_program.specs.MarkedProgram.{MarkedProgram, IsMarked}
 use Rattle.machine_types.specs.Core.{Happening}
 use Rattle.machine_types.specs.Faithful.{IsFaithful}
-use Rattle.machine_types.specs.MarkLaws.{HasFrozenTest}
+use Rattle.machine_types.specs.MarkLaws.{HasFrozenTest, HasOwnedTest}
 use Rattle.machine_types.specs.Settings.{AreSettings}
 use Rattle.machine_types.specs.declared.config.Config.{Config}
 use Rattle.laws_states.specs.RunFacts.{HaveWidth}
@@ -58,6 +58,7 @@ pub record AreElidedLaws : Type 0 where
   pub finish_counted : FinishesAreCounted
   pub print_nothing : AttemptsPrintNothing
   pub frozen_test : HasFrozenTest
+  pub owned_test : HasOwnedTest
 
 -- ---- every run
 

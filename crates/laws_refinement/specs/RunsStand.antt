@@ -4,7 +4,7 @@
 use Rattle.std.specs.Prelude.{◌≡◌, ℕ, ◌+◌, Bool, List, length, Some, None, slice_get}
 use Rattle.checked_program.specs.MarkedProgram.{MarkedProgram, IsMarked}
 use Rattle.machine_types.specs.Attempts.{Attempts}
-use Rattle.machine_types.specs.Construction.{AreFrozen, Construction}
+use Rattle.machine_types.specs.Construction.{AreFrozen, Construction, Owning}
 use Rattle.machine_types.specs.Core.{Happening, core, event, outcome}
 use Rattle.machine_types.specs.Counting.{AreCounted}
 use Rattle.machine_types.specs.Facts.{FactsBeside}
@@ -38,16 +38,18 @@ pub record RunStands (c : MarkedProgram) (cfg : Config) (hs : List Happening) : 
   -- which classes are frozen
   pub frozen : ℕ → Bool
   pub frozen_are : AreFrozen c frozen
+  -- which fields own arrays, and which arrays were stored there
+  pub owning : Owning
   -- threads, words, objects, locks and waiting
   pub facts : StateFacts c cfg objects was (core c cfg hs)
   -- an unfinished object is in no place, in no other thread, and in no frame but the one that
   -- builds it
-  pub built : Construction c frozen world was objects (core c cfg hs)
+  pub built : Construction c frozen owning world was objects (core c cfg hs)
   -- each thread has a past, beside the same state
   pub pasts : length (told_after c cfg hs).pasts ≡ c.program.workers + 1
   pub told_is : (told_after c cfg hs).core ≡ core c cfg hs
   -- what is due of an attempt leads from its entry to where its thread is
-  pub attempts : Attempts c objects world was (told_after c cfg hs)
+  pub attempts : Attempts c owning.stores objects world was (told_after c cfg hs)
   -- the plain state that the shadow leads to stands beside
   pub state : Plain
   pub run : plain_run c.program (plain_start c.program) (shadow c cfg hs) ≡ Some state
@@ -62,7 +64,8 @@ pub record RunStands (c : MarkedProgram) (cfg : Config) (hs : List Happening) : 
   -- the next event of a thread changes guarded and frozen places as it may outside attempts, and no
   -- word inside one
   pub guards : (t : ℕ) (x : Thread) → slice_get (core c cfg hs).threads t ≡ Some x
-      → x.attempt ≡ None → KeepsGuards c objects (core c cfg hs) (event c (core c cfg hs) t) x
+      → x.attempt ≡ None
+      → KeepsGuards c owning.stores objects (core c cfg hs) (event c (core c cfg hs) t) x
   pub silent : (t : ℕ) → IsSilent c (core c cfg hs) t
 
 abbrev pub RunsStand : Type 0

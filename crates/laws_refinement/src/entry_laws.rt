@@ -7,14 +7,14 @@ ghost use Rattle.laws_refinement.specs.EntryLaws.{InstructionsEnter, OnlyFailure
 ghost use Rattle.laws_refinement.specs.EntryLaws.{ThreadsKeepCount};
 
 use laws_states::{parts_keep_threads, runs_have_state};
-use laws_threads::{inside_may_do, no_element_inside};
+use laws_threads::{elements_inside, inside_may_do};
 
 /// The number of tries that a thread keeps at an entry, and in an attempt, is what its events tell.
 pub fn threads_keep_count()
     ensures { ThreadsKeepCount }
 {
     inside_may_do();
-    no_element_inside();
+    elements_inside();
     runs_have_state();
     parts_keep_threads();
 }
@@ -59,7 +59,7 @@ pub fn attempts_stay()
     ensures { AttemptsStay }
 {
     inside_may_do();
-    no_element_inside();
+    elements_inside();
     runs_have_state();
     parts_keep_threads();
 }
@@ -70,7 +70,7 @@ pub fn attempts_end()
     ensures { AttemptsEnd }
 {
     inside_may_do();
-    no_element_inside();
+    elements_inside();
     runs_have_state();
     parts_keep_threads();
 }
@@ -82,7 +82,7 @@ pub fn failures_put_back()
     ensures { FailuresPutBack }
 {
     inside_may_do();
-    no_element_inside();
+    elements_inside();
     runs_have_state();
     parts_keep_threads();
 }
@@ -92,7 +92,7 @@ pub fn only_failures_count()
     ensures { OnlyFailuresCount }
 {
     inside_may_do();
-    no_element_inside();
+    elements_inside();
     runs_have_state();
     parts_keep_threads();
 }
@@ -103,7 +103,7 @@ pub fn attempts_only_look()
     ensures { AttemptsOnlyLook }
 {
     inside_may_do();
-    no_element_inside();
+    elements_inside();
     runs_have_state();
     parts_keep_threads();
 }

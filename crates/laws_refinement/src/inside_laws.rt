@@ -4,7 +4,7 @@ ghost use Rattle.laws_refinement.specs.ElidedSteps.{AttemptsAreSilent, AttemptsS
 
 use laws_states::events_keep_state;
 use laws_threads::{
-    inside_may_do, leaves_keep_entry, no_element_inside, steps_keep_entry, throws_keep_entry,
+    elements_inside, inside_may_do, leaves_keep_entry, steps_keep_entry, throws_keep_entry,
 };
 
 /// An event inside an attempt changes no word.
@@ -12,7 +12,7 @@ pub fn attempts_are_silent()
     ensures { AttemptsAreSilent }
 {
     inside_may_do();
-    no_element_inside();
+    elements_inside();
 }
 
 /// Where it does not end its section, it stands for no plain step: its thread is still about to
@@ -21,7 +21,7 @@ pub fn attempts_stand_beside()
     ensures { AttemptsStandBeside }
 {
     inside_may_do();
-    no_element_inside();
+    elements_inside();
     steps_keep_entry();
     throws_keep_entry();
     leaves_keep_entry();

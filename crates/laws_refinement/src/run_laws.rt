@@ -21,7 +21,7 @@ use laws_states::{
     parts_keep_threads, start_has_no_attempts, start_has_state,
 };
 use laws_threads::given_is_kept;
-use machine_types::{frozen_classes_are_told, instructions_change_memory};
+use machine_types::{frozen_classes_are_told, instructions_change_memory, owned_fields_are_told};
 
 /// Where each event outside attempts stands for plain steps, and each one inside for none but where
 /// its section is done, every run is faithful: its shadow is a plain run, whose steps its counts
@@ -105,4 +105,5 @@ fn event_laws()
     finishes_are_counted();
     attempts_print_nothing();
     frozen_classes_are_told();
+    owned_fields_are_told();
 }

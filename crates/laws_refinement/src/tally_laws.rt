@@ -4,7 +4,7 @@ ghost use Rattle.laws_refinement.specs.ElidedSteps.{AttemptsAreCounted, Attempts
 ghost use Rattle.laws_refinement.specs.ElidedSteps.{FinishesAreCounted};
 
 use laws_threads::{
-    inside_may_do, leaves_keep_entry, no_element_inside, steps_keep_entry, throws_keep_entry,
+    elements_inside, inside_may_do, leaves_keep_entry, steps_keep_entry, throws_keep_entry,
 };
 
 /// Where the section is not done, an instruction that is begun is pending, or in vain where the
@@ -13,7 +13,7 @@ pub fn attempts_are_counted()
     ensures { AttemptsAreCounted }
 {
     inside_may_do();
-    no_element_inside();
+    elements_inside();
     steps_keep_entry();
     throws_keep_entry();
     leaves_keep_entry();
@@ -24,7 +24,7 @@ pub fn finishes_are_counted()
     ensures { FinishesAreCounted }
 {
     inside_may_do();
-    no_element_inside();
+    elements_inside();
     steps_keep_entry();
     throws_keep_entry();
     leaves_keep_entry();
@@ -35,7 +35,7 @@ pub fn attempts_print_nothing()
     ensures { AttemptsPrintNothing }
 {
     inside_may_do();
-    no_element_inside();
+    elements_inside();
     steps_keep_entry();
     throws_keep_entry();
     leaves_keep_entry();

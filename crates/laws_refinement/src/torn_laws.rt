@@ -7,7 +7,7 @@ use laws_states::{
     events_reach_sites, parts_keep_threads, runs_are_safe, runs_have_state, sites_differ,
     sites_lie_inside,
 };
-use laws_threads::{inside_may_do, no_element_inside};
+use laws_threads::{elements_inside, inside_may_do};
 
 /// Once the lock word of an attempt's monitor is no longer as the attempt noted it, it is never so
 /// again while the attempt is open: a release raises the count, and the last count is not noted
@@ -28,7 +28,7 @@ pub fn torn_runs_are_short()
     ensures { TornRunsAreShort }
 {
     inside_may_do();
-    no_element_inside();
+    elements_inside();
     runs_are_safe();
     methods_are_apart();
     noted_never_returns();

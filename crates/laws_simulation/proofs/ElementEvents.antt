@@ -3,14 +3,14 @@ use Rattle.std.proofs.Common.{◌≡◌, ℕ, ◌<◌, nat_lt, Bool, true, false
 use Rattle.std.proofs.lemmas.Bool.Decides.{nat_tests}
 use Rattle.jvm_types.specs.declared.{class_numbers.TheConstants.INT_ARRAY_CLASS, code.{Insn.Insn, Op.Op}, fixed_words.TheConstants.NEXT_FREE_WORD, op_row.OpRow.OpRow}
 use Rattle.jvm_types.specs.declared.{outcome.Thrown.TheVariants.ArrayIndexOutOfBoundsException, program.{MethodInfo.MethodInfo, Program.Program, Target.Target}}
-use Rattle.checked_program.specs.TaggedCode.{row_of}
-use Rattle.machine_types.specs.{Effects.effect, Events.{element_made, wanted, moved}, Frames.{Top, top_of, effect_at, went_on}, Going.{goes_on, goes_on_if}, History.{acts_of, steps_of}, Ints.low}
+use Rattle.checked_program.specs.{MarkedProgram.{MarkedProgram, IsMarked}, TaggedCode.row_of}
+use Rattle.machine_types.specs.{Core.Core, Effects.effect, Events.{element_made, wanted, moved}, Frames.{Top, top_of, effect_at, went_on}, Going.{goes_on, goes_on_if}, History.{acts_of, steps_of}, Ints.low}
 use Rattle.machine_types.specs.{Onward.{Running, threw}, PlainInstructions.{plain_did, indexed_in, plain_instructed, instructed_by}, PlainMemory.Object}
 use Rattle.machine_types.specs.{PlainState.{Plain, PlainThread, value_at, written, with_thread}, PlainSteps.{step_at, plain_run}, Structure.{PhaseShows, TopIs, is_element_op}, Threads.{Frame, Thread}}
 use Rattle.machine_types.specs.{Typed.{FramesHold, HasClass, IsElementOn, ElementStands, HasElement, HasElementOn, HasElementIn}, Words.{header_length, header_word, value_word}}
 use Rattle.machine_types.specs.declared.{access.Access.TheVariants.{Load, Store}, effect.Effect.{Effect, TheVariants.{Throws, Indexes}}, phase.Phase.Phase}
 use Rattle.laws_threads.{specs.Allowed.{Allowed, IsOf}, proofs.{Landing.stand_top, Onwards.same_op, Standings.top_here, TopEffects.allowed_here}}
-use Rattle.laws_states.{specs.{HeapFacts.objects_by, Sites.{HeaderOf, ValueOf}}, proofs.{Accesses.out_there, Found.length_found, Lists.contained_got, Places.same_object}}
+use Rattle.laws_states.{specs.{HeapFacts.{HeapFacts, objects_by}, Sites.{HeaderOf, ValueOf}}, proofs.{Accesses.out_there, Found.length_found, Lists.contained_got, Places.same_object}}
 use Rattle.laws_simulation.{specs.StepsBeside.StepsBeside, proofs.{Assembled.one_step, EventSteps.gone_on, MemoryParts.{stays, writes}, OwnThread.{IsBusy, own, not_ended}, PlainValues.value_found}}
 use Rattle.laws_simulation.proofs.{RunScene.{runs_on, frames_are, status_fits, values}, Scene.{Scene, GoesOn, Memory, awake, counts_as, going, comes_beside, steps_of_event, looked}}
 use Rattle.jvm_types.specs.declared.code.Op.TheVariants as ops
@@ -64,10 +64,8 @@ one_on w v (Some n) [] e f = absurd e
 one_on w v (Some n) (u ∷ []) e f = absurd e
 one_on w v (Some n) (u ∷ i ∷ []) e f = absurd e
 
-module _ (scene : Scene) where
-  open scene use {turn, c, objects, was, s, t, x, q}
-
-  -- the instruction that the event ends, with the element at the word
+-- the instruction that the event ends, with the element at the word
+module _ (c : MarkedProgram) (objects : List Object) (x : Thread) where
   pub record Element (word : ℕ) (stored : Option ℕ) : Type 0 where
     pub at : Top
     pub found : top_of c.program x.frames ≡ Some at
@@ -78,17 +76,19 @@ module _ (scene : Scene) where
     pub element : HasElement objects array (low index)
     pub is_array : IsOf (HasClass objects) INT_ARRAY_CLASS array
 
+module _ (c : MarkedProgram) (objects : List Object) (s : Core) (x : Thread) (marked : IsMarked c)
+    (heap : HeapFacts c objects s) where
   some_object : (o : Object) → Contains objects o → 0 < o.reference
-  some_object o k = omega (arith, scene.facts.heap.apart.begin k.0 o (contained_got objects o k))
+  some_object o k = omega (arith, heap.apart.begin k.0 o (contained_got objects o k))
 
-  element_in : (word : ℕ) (stored : Option ℕ) (fs : List Frame) → x.frames ≡ fs → ElementStands word stored fs → FramesHold c (HasClass objects) fs → HasElementIn objects stored fs → (test : TopIs c (is_element_op stored) fs) → Element word stored
+  pub element_in : (word : ℕ) (stored : Option ℕ) (fs : List Frame) → x.frames ≡ fs → ElementStands word stored fs → FramesHold c (HasClass objects) fs → HasElementIn objects stored fs → (test : TopIs c (is_element_op stored) fs) → Element c objects x word stored
   element_in word stored [] e on h k top = absurd on
   element_in word stored (f ∷ fs) e on h k top =
       let j = h.0.stands in
-      let op = ap (is_element_op stored) (same_op c scene.marked (HasClass objects) f j top.0) ∙ top.1 in
+      let op = ap (is_element_op stored) (same_op c marked (HasClass objects) f j top.0) ∙ top.1 in
       let n = names objects c.program j.insn.next j.target j.insn.op f.locals f.stack word stored op on k some_object in
-      let found : top_of c.program (f ∷ fs) ≡ Some (top_here c f fs j) = stand_top c scene.marked f fs j in
-      let al = allowed_here c scene.marked (HasClass objects) (out_there c scene.marked objects s scene.facts.heap) f h.0 in
+      let found : top_of c.program (f ∷ fs) ≡ Some (top_here c f fs j) = stand_top c marked f fs j in
+      let al = allowed_here c marked (HasClass objects) (out_there c marked objects s heap) f h.0 in
       named f fs e on n.array n.index n.element n.word_is (top_here c f fs j) found n.effect_is (allows n.array n.index (effect_at c.program (top_here c f fs j)) n.effect_is j.method j.insn j.target (row_of c.program j.method j.insn j.target) al)
     where
       allows : (array index : ℕ) (z : Effect) → z ≡ Indexes array index stored → (m : MethodInfo) (insn : Insn) (target : Target) (r : OpRow) → Allowed c.program m (HasClass objects) insn target r f.stack z
@@ -96,7 +96,7 @@ module _ (scene : Scene) where
       allows array index z e m insn target r al = let k : Allowed c.program m (HasClass objects) insn target r f.stack (Indexes array index stored) = subst (λ (w : Effect). Allowed c.program m (HasClass objects) insn target r f.stack w) e al in (k.1, k.2)
 
       named : (f : Frame) (fs : List Frame) → x.frames ≡ f ∷ fs → IsElementOn word stored f.stack → (array index : ℕ) → HasElement objects array index → word ≡ value_word array index
-          → (at : Top) → top_of c.program (f ∷ fs) ≡ Some at → effect_at c.program at ≡ Indexes array index stored → IsOf (HasClass objects) INT_ARRAY_CLASS array × IsElementOn (value_word array (low index)) stored f.stack → Element word stored
+          → (at : Top) → top_of c.program (f ∷ fs) ≡ Some at → effect_at c.program at ≡ Indexes array index stored → IsOf (HasClass objects) INT_ARRAY_CLASS array × IsElementOn (value_word array (low index)) stored f.stack → Element c objects x word stored
       named f fs e on array index k is at found effect_is al =
           let here : word ≡ value_word array (low index) = one_on word (value_word array (low index)) stored f.stack on al.1 in
           let same : low index ≡ index = omega (arith, here, is) in
@@ -111,17 +111,34 @@ module _ (scene : Scene) where
             is_array = al.0;
           }
 
+  -- the array has it
+  pub has_element : (word : ℕ) (stored : Option ℕ) (k : Element c objects x word stored)
+      → nat_lt (low k.index) (header_length (slice_index s.words (header_word k.array))) ≡ true
+  has_element word stored k =
+      let object : Object = k.is_array.2.0 in
+      let one : k.element.object ≡ object = same_object c.program objects
+      (slice_index s.words NEXT_FREE_WORD) heap.apart k.element.object object k.element.there
+      k.is_array.2.1 (k.element.is ∙ sym k.is_array.2.2) in
+      let long : header_length (slice_index s.words (header_word k.array)) ≡ length object.values =
+      length_found c marked objects s heap k.array k.is_array in
+      let below : low k.index < header_length (slice_index s.words (header_word k.array)) =
+      omega (arith, k.element.below, long, ap (λ (o : Object). length o.values) one) in
+      grind (arith, nat_tests, below)
+
+module _ (scene : Scene) where
+  open scene use {turn, c, objects, was, s, t, x, q}
+
   module _ (word : ℕ) (stored : Option ℕ) (phase_is : x.phase ≡ phases.Element word stored) where
     was_so : was t ≡ phases.Element word stored
     was_so = counts_as turn (phases.Element word stored) phase_is
 
-    k : Element word stored
+    k : Element c objects x word stored
     k =
         let own = scene.facts.structure t x scene.here in
         let stands = own.stands in
         let shows : PhaseShows c (phases.Element word stored) x.frames stands.shown x.held x.attempt = subst (λ (z : Phase). PhaseShows c z x.frames stands.shown x.held x.attempt) was_so stands.phase_shows in
         let holds = values turn (phases.Element word stored) phase_is in
-        element_in word stored x.frames refl holds.0 holds.1 (scene.facts.heap.typed.elements t x word stored scene.here phase_is) shows
+        element_in c objects s x scene.marked scene.facts.heap word stored x.frames refl holds.0 holds.1 (scene.facts.heap.typed.elements t x word stored scene.here phase_is) shows
 
     abbrev y : PlainThread
     y = (own turn).plain
@@ -138,14 +155,8 @@ module _ (scene : Scene) where
     stands : value_at q place ≡ Some (slice_index s.words place)
     stands = value_found scene.differ c objects s q scene.marked scene.facts.heap scene.beside (ValueOf k.array (low k.index)) tt (k.element.object, k.element.there, k.element.is, k.element.below)
 
-    -- the array has the element
     has_it : nat_lt (low k.index) (header_length header) ≡ true
-    has_it =
-        let object : Object = k.is_array.2.0 in
-        let one : k.element.object ≡ object = same_object c.program objects (slice_index s.words NEXT_FREE_WORD) scene.facts.heap.apart k.element.object object k.element.there k.is_array.2.1 (k.element.is ∙ sym k.is_array.2.2) in
-        let long : header_length header ≡ length object.values = length_found c scene.marked objects s scene.facts.heap k.array k.is_array in
-        let below : low k.index < header_length header = omega (arith, k.element.below, long, ap (λ (o : Object). length o.values) one) in
-        grind (arith, nat_tests, below)
+    has_it = has_element c objects s x scene.marked scene.facts.heap word stored k
 
     makes_none : (a header : ℕ) → x.phase ≡ phases.Made a header → ⊥
     makes_none a header h = let both : phases.Element word stored ≡ phases.Made a header = sym phase_is ∙ h in cc
@@ -170,7 +181,7 @@ module _ (scene : Scene) where
   -- ---- an element that is read
 
   module _ (word : ℕ) (phase_is : x.phase ≡ phases.Element word None) where
-    abbrev read : Element word None
+    abbrev read : Element c objects x word None
     read = k word None phase_is
 
     abbrev value : ℕ
@@ -201,7 +212,7 @@ module _ (scene : Scene) where
   -- ---- an element that is stored
 
   module _ (word v : ℕ) (phase_is : x.phase ≡ phases.Element word (Some v)) where
-    abbrev store : Element word (Some v)
+    abbrev store : Element c objects x word (Some v)
     store = k word (Some v) phase_is
 
     abbrev at_word : ℕ

@@ -34,4 +34,5 @@ returns-clause-elided c = record {
   finish_counted = c.finishes_are_counted.ensures;
   print_nothing = c.attempts_print_nothing.ensures;
   frozen_test = c.frozen_classes_are_told.ensures;
+  owned_test = c.owned_fields_are_told.ensures;
 }
