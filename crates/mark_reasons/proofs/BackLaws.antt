@@ -2,7 +2,7 @@
 use Rattle.std.proofs.Common.{◌≡◌, ℕ, zero, suc, ◌+◌, ◌-◌, ◌*◌, ◌/◌, ◌<◌, ◌≤◌, Bool, true, false, List, [], ◌∷◌, ◌++◌, length, Option, Some, None, refl, sym, ap, subst, ◌∙◌, arith, nat_lt, replicate, reverse, if◌then◌else◌, slice_get, slice_index_or}
 use Rattle.std.proofs.lemmas.{Bool.Decides.nat_tests, List.{length-replicate, reverse-append, append_assoc}, Option.same_Some}
 use Rattle.jvm_types.specs.{ProgramInvariant.IsProgram, declared.program.{MethodInfo.MethodInfo, Program.Program}}
-use Rattle.checked_program.specs.{Marks.{Callee, Calls, BreaksAt}, Sections.{Section, section_mode}, TaggedCode.{Tagged, tagged_by}, declared.{section.{FieldUse.FieldUse, Mode.Mode}, tag.Tags.Tags}}
+use Rattle.checked_program.specs.{Marks.{Callee, Calls, BreaksAt}, Sections.{Section, section_mode}, TaggedCode.{Tagged, tagged_by}, declared.{section.{Mode.Mode, Uses.Uses}, tag.Tags.Tags}}
 use Rattle.guard_analysis.specs.CallGraph.{node_of, mode_at}
 use Rattle.mark_reasons.specs.{OwnFlags.AreOwn, Reasons.{callee_of, own_callee, mark_by, IsFirstSectionFault, IsShortest, IsWay, BeginsOwn, LeadsToFault}}
 use Rattle.mark_reasons.specs.Searches.{callee_at, class_of_section, calls_of, node_fault_of, node_call, node_fault, node_size, node_visits, own_call, own_site, site_at, visits, AreCalledBefore, IsBack, from_section, from_entry, IsCalled, IsFirstFaultOf, IsSearchSound, Searching, left_of}
@@ -63,48 +63,48 @@ module _ (p : Program) (tags : Tagged) (s : Section) (n : ℕ) (w : Search) (h :
       by_number zero q c = omega arith
       by_number (suc k) q c = let low : k < t = c.0 in omega (arith, low)
 
-  first_called : (uses : List FieldUse) (way : List Site) (site : Site) (rule : ℕ) → ((j r : ℕ) → j < site.at → BreaksAt p tags uses (callee_of site) j r → ⊥) → IsFirstSectionFault p tags uses s way site rule
+  first_called : (uses : Uses) (way : List Site) (site : Site) (rule : ℕ) → ((j r : ℕ) → j < site.at → BreaksAt p tags uses (callee_of site) j r → ⊥) → IsFirstSectionFault p tags uses s way site rule
   first_called uses [] site rule h = λ j l o b. h j rule l b
   first_called uses (x ∷ xs) site rule h = h
 
-  pub leads_to_fault : (uses : List FieldUse) (t i rule : ℕ) (way : List Site) (e : Entry) → IsBack (class_of_section p s) (section_mode p s) s.method w.queue t way → slice_get w.queue t ≡ Some e → BreaksAt p tags uses (callee_at (class_of_section p s) e.node) i rule → ((j r : ℕ) → j < i → BreaksAt p tags uses (callee_at (class_of_section p s) e.node) j r → ⊥) → IsShortest p tags uses s way
+  pub leads_to_fault : (uses : Uses) (t i rule : ℕ) (way : List Site) (e : Entry) → IsBack (class_of_section p s) (section_mode p s) s.method w.queue t way → slice_get w.queue t ≡ Some e → BreaksAt p tags uses (callee_at (class_of_section p s) e.node) i rule → ((j r : ℕ) → j < i → BreaksAt p tags uses (callee_at (class_of_section p s) e.node) j r → ⊥) → IsShortest p tags uses s way
       → LeadsToFault p tags uses s way (site_at (class_of_section p s) e.node i) rule × (mark_by way rule ≡ 6)
   leads_to_fault uses t i rule way e back g b first shortest = let r = way_of t way back e g in
       (record { leads = r.leads; own = own_more p tags s way (site_at (class_of_section p s) e.node i) r.own; breaks = b; first = first_called uses way (site_at (class_of_section p s) e.node i) rule first; shortest = shortest }, r.called rule)
 
 -- ---- the search by its code
 
-module _ (p : Program) (uses : List FieldUse) (tags : List Tags) (is : IsProgram p) where
-  fault_first : (om : Option MethodInfo) (ot : Option Tags) (mode : Mode) (i : ℕ) → IsFirstFaultOf p uses om ot mode (Some i) → 0 < node_fault p uses om ot mode i
-  fault_first (Some m) (Some t) mode i h = let test : nat_lt 0 (node_fault p uses (Some m) (Some t) mode i) ≡ true = h.1 in grind (arith, nat_tests)
-  fault_first (Some m) None mode i h = absurd (cc)
-  fault_first None ot mode i h = absurd (cc)
+module _ (p : Program) (uses : Uses) (tags : List Tags) (is : IsProgram p) where
+  fault_first : (mi : ℕ) (om : Option MethodInfo) (ot : Option Tags) (mode : Mode) (i : ℕ) → IsFirstFaultOf p uses mi om ot mode (Some i) → 0 < node_fault p uses mi om ot mode i
+  fault_first mi (Some m) (Some t) mode i h = let test : nat_lt 0 (node_fault p uses mi (Some m) (Some t) mode i) ≡ true = h.1 in grind (arith, nat_tests)
+  fault_first mi (Some m) None mode i h = absurd (cc)
+  fault_first mi None ot mode i h = absurd (cc)
 
-  fault_none : (om : Option MethodInfo) (ot : Option Tags) (mode : Mode) → IsFirstFaultOf p uses om ot mode None → (i : ℕ) → i < node_size om ot → nat_lt 0 (node_fault p uses om ot mode i) ≡ false
-  fault_none (Some m) (Some t) mode h i l = h i l
-  fault_none (Some m) None mode h i l = absurd (omega (arith, l))
-  fault_none None ot mode h i l = absurd (omega (arith, l))
+  fault_none : (mi : ℕ) (om : Option MethodInfo) (ot : Option Tags) (mode : Mode) → IsFirstFaultOf p uses mi om ot mode None → (i : ℕ) → i < node_size om ot → nat_lt 0 (node_fault p uses mi om ot mode i) ≡ false
+  fault_none mi (Some m) (Some t) mode h i l = h i l
+  fault_none mi (Some m) None mode h i l = absurd (omega (arith, l))
+  fault_none mi None ot mode h i l = absurd (omega (arith, l))
 
-  pub node_is_fault : (class a i : ℕ) → IsFirstFaultOf p uses (slice_get p.methods (a / 3)) (slice_get tags (a / 3)) (mode_at class a) (Some i) → BreaksAt p (tagged_by tags) uses (callee_at class a) i (node_fault_of p uses tags class a i)
-  node_is_fault class a i h = fault_breaks p uses tags is class a i (fault_first (slice_get p.methods (a / 3)) (slice_get tags (a / 3)) (mode_at class a) i h)
+  pub node_is_fault : (class a i : ℕ) → IsFirstFaultOf p uses (a / 3) (slice_get p.methods (a / 3)) (slice_get tags (a / 3)) (mode_at class a) (Some i) → BreaksAt p (tagged_by tags) uses (callee_at class a) i (node_fault_of p uses tags class a i)
+  node_is_fault class a i h = fault_breaks p uses tags is class a i (fault_first (a / 3) (slice_get p.methods (a / 3)) (slice_get tags (a / 3)) (mode_at class a) i h)
 
-  node_is_sane : (class a : ℕ) → IsFirstFaultOf p uses (slice_get p.methods (a / 3)) (slice_get tags (a / 3)) (mode_at class a) None → (i r : ℕ) → BreaksAt p (tagged_by tags) uses (callee_at class a) i r → ⊥
+  node_is_sane : (class a : ℕ) → IsFirstFaultOf p uses (a / 3) (slice_get p.methods (a / 3)) (slice_get tags (a / 3)) (mode_at class a) None → (i r : ℕ) → BreaksAt p (tagged_by tags) uses (callee_at class a) i r → ⊥
   node_is_sane class a h i r b =
       let there = fault_there p uses tags is class a i r b in
-      let none : nat_lt 0 (node_fault_of p uses tags class a i) ≡ false = fault_none (slice_get p.methods (a / 3)) (slice_get tags (a / 3)) (mode_at class a) h i there.0 in
+      let none : nat_lt 0 (node_fault_of p uses tags class a i) ≡ false = fault_none (a / 3) (slice_get p.methods (a / 3)) (slice_get tags (a / 3)) (mode_at class a) h i there.0 in
       let some : 0 < r = b.some in
       let same : node_fault_of p uses tags class a i ≡ r = there.1 in
       grind (arith, nat_tests)
 
-  fault_before : (om : Option MethodInfo) (ot : Option Tags) (mode : Mode) (i : ℕ) → IsFirstFaultOf p uses om ot mode (Some i) → (j : ℕ) → j < i → nat_lt 0 (node_fault p uses om ot mode j) ≡ false
-  fault_before (Some m) (Some t) mode i h j l = h.2 j l
-  fault_before (Some m) None mode i h j l = absurd (cc)
-  fault_before None ot mode i h j l = absurd (cc)
+  fault_before : (mi : ℕ) (om : Option MethodInfo) (ot : Option Tags) (mode : Mode) (i : ℕ) → IsFirstFaultOf p uses mi om ot mode (Some i) → (j : ℕ) → j < i → nat_lt 0 (node_fault p uses mi om ot mode j) ≡ false
+  fault_before mi (Some m) (Some t) mode i h j l = h.2 j l
+  fault_before mi (Some m) None mode i h j l = absurd (cc)
+  fault_before mi None ot mode i h j l = absurd (cc)
 
   -- before the first fault of a node there is none
-  pub none_before : (class a i : ℕ) → IsFirstFaultOf p uses (slice_get p.methods (a / 3)) (slice_get tags (a / 3)) (mode_at class a) (Some i) → (j r : ℕ) → j < i → BreaksAt p (tagged_by tags) uses (callee_at class a) j r → ⊥
+  pub none_before : (class a i : ℕ) → IsFirstFaultOf p uses (a / 3) (slice_get p.methods (a / 3)) (slice_get tags (a / 3)) (mode_at class a) (Some i) → (j r : ℕ) → j < i → BreaksAt p (tagged_by tags) uses (callee_at class a) j r → ⊥
   none_before class a i h j r l b =
-      let none : nat_lt 0 (node_fault_of p uses tags class a j) ≡ false = fault_before (slice_get p.methods (a / 3)) (slice_get tags (a / 3)) (mode_at class a) i h j l in
+      let none : nat_lt 0 (node_fault_of p uses tags class a j) ≡ false = fault_before (a / 3) (slice_get p.methods (a / 3)) (slice_get tags (a / 3)) (mode_at class a) i h j l in
       let some : 0 < r = b.some in
       let same : node_fault_of p uses tags class a j ≡ r = (fault_there p uses tags is class a j r b).1 in
       grind (arith, nat_tests)
@@ -126,7 +126,7 @@ module _ (p : Program) (uses : List FieldUse) (tags : List Tags) (is : IsProgram
       next_is = made ∙ ap (λ c. node_visits p (slice_get p.methods (e.node / 3)) (slice_get tags (e.node / 3)) (mode_at class e.node) w c) (let one : k + 1 ≡ suc k = omega arith in one)
           ∙ visits_are (slice_get p.methods (e.node / 3)) (slice_get tags (e.node / 3)) (mode_at class e.node) w (suc k)
 
-      pub search_goes_on : IsFirstFaultOf p uses (slice_get p.methods (e.node / 3)) (slice_get tags (e.node / 3)) (mode_at class e.node) None → Searches_on (k + 1) v
+      pub search_goes_on : IsFirstFaultOf p uses (e.node / 3) (slice_get p.methods (e.node / 3)) (slice_get tags (e.node / 3)) (mode_at class e.node) None → Searches_on (k + 1) v
       search_goes_on none = subst (λ x. Searches_on (k + 1) x) (sym next_is)
           (goes_on p (tagged_by tags) uses s (3 * length p.methods) k w e (calls_of p tags class e.node) (node_size (slice_get p.methods (e.node / 3)) (slice_get tags (e.node / 3))) h here
           (λ i j q. calls_found p uses tags is class e.node i j q) (λ i b q. calls_there p uses tags is class e.node i b q) (node_is_sane class e.node none))

@@ -3,10 +3,10 @@ use Rattle.std.proofs.Common.{◌≡◌, ℕ, zero, suc, ◌<◌, ◌≤◌, Boo
 use Rattle.std.proofs.lemmas.{Bool.{false_from_ne_true, Decides.nat_tests}, Option.{slice_get_within, slice_get-get_or, same_Some}}
 use Rattle.jvm_types.specs.{Members.{is_private, is_static, is_final, MethodSite, field_rule}, ProgramInvariant.{IsProgram, IsTargetOf, site_in}, declared.code.{Insn.Insn, Op.Op}}
 use Rattle.jvm_types.specs.declared.program.{FieldInfo.FieldInfo, MethodInfo.MethodInfo, Program.Program, Target.Target}
-use Rattle.checked_program.specs.{FrozenPlaces.{AreUses, IsFrozenClass, IsFrozenUse, IsGuardedUse, IsUse}, LockTags.TagShape}
+use Rattle.checked_program.specs.{FrozenPlaces.{IsFrozenClass, IsFrozenUse, IsGuardedUse, IsUse}, LockTags.TagShape}
 use Rattle.checked_program.specs.Marks.{Callee, BreaksAt, call_fault, enter_fault, section_fault, is_locking, is_class_locking, is_own_object, is_own_class, class_of_field, class_of_method, use_fault, receiver_tag}
-use Rattle.checked_program.specs.{TaggedCode.{Tagged, IsAt, tagged_by}, declared.{section.{FieldUse.{FieldUse, TheVariants.{Frozen, Guarded, Open}}, Mode.Mode}, tag.Tag.{Tag, TheVariants.Untagged}}}
-use Rattle.checked_program.{specs.declared.tag.Tags.Tags, proofs.NamedFields.target_named}
+use Rattle.checked_program.specs.{OwnedArrays.{reads_owned, AreUses}, TaggedCode.{Tagged, IsAt, tagged_by}, declared.section.{FieldUse.{FieldUse, TheVariants.{Frozen, Guarded, Open}}, Mode.Mode}}
+use Rattle.checked_program.{specs.declared.{section.Uses.Uses, tag.{Tag.{Tag, TheVariants.Untagged}, Tags.Tags}}, proofs.NamedFields.target_named}
 use Rattle.guard_analysis.{specs.FieldUses.{unguarded_at, unguarded_write}, proofs.{CallEdges.{frames_there, with_tags}, FieldUseLaws.{PutsWell, guarded_if, guarded_not, write_parts}}}
 use Rattle.mark_reasons.specs.Causes.{is_number, place_read, site_place, writes_at, Bars, IsCause, IsFirstWrite, IsFirstWriteOf, IsMutable, IsWriteFound, KeepsPlace, KeepsField, KeepsStatic, WritesUnguarded}
 use Rattle.mark_reasons.specs.{Firsts.IsFirst, declared.cause.{Cause.Cause, Place.Place}}
@@ -158,14 +158,14 @@ pub bars_keep : (p : Program) (tags : Tagged) (fi : ℕ) (own : Bool) (cause : C
 bars_keep p tags fi own causes.Other b = absurd b.2
 bars_keep p tags fi own cause b = b
 
-module _ (p : Program) (tags : Tagged) (uses : List FieldUse) (are : AreUses p tags uses) (fi : ℕ) (there : fi < length p.fields) where
-  use_known : (u : FieldUse) → slice_index_or uses fi Open ≡ u → IsUse p tags fi u
-  use_known u e = are.each fi u (slice_get-get_or uses fi Open (subst (λ (n : ℕ). fi < n) (sym are.long) there) ∙ ap (λ (x : FieldUse). Some x) e)
+module _ (p : Program) (tags : Tagged) (uses : Uses) (are : AreUses p tags uses) (fi : ℕ) (there : fi < length p.fields) where
+  use_known : (u : FieldUse) → slice_index_or uses.fields fi Open ≡ u → IsUse p tags fi u
+  use_known u e = are.fields.each fi u (slice_get-get_or uses.fields fi Open (subst (λ (n : ℕ). fi < n) (sym are.fields.long) there) ∙ ap (λ (x : FieldUse). Some x) e)
 
-  pub open_is : slice_index_or uses fi Open ≡ Open → (IsFrozenUse p tags fi → ⊥) × (IsGuardedUse p tags fi → ⊥)
+  pub open_is : slice_index_or uses.fields fi Open ≡ Open → (IsFrozenUse p tags fi → ⊥) × (IsGuardedUse p tags fi → ⊥)
   open_is e = use_known Open e
 
-  pub guarded_keeps : slice_index_or uses fi Open ≡ Guarded → (own : Bool) → use_fault (slice_index_or uses fi Open) own ≡ 5 → KeepsField p tags fi own causes.Other
+  pub guarded_keeps : slice_index_or uses.fields fi Open ≡ Guarded → (own : Bool) → use_fault (slice_index_or uses.fields fi Open) own ≡ 5 → KeepsField p tags fi own causes.Other
   guarded_keeps e own five = (
     by_own own (subst (λ (u : FieldUse). use_fault u own ≡ 5) e five),
     use_known Guarded e,
@@ -176,15 +176,15 @@ module _ (p : Program) (tags : Tagged) (uses : List FieldUse) (are : AreUses p t
       by_own false k = refl
 
   -- of the section's own class, only an open field breaks M5
-  pub own_is_open : (own : Bool) → own ≡ true → use_fault (slice_index_or uses fi Open) own ≡ 5 → slice_index_or uses fi Open ≡ Open
-  own_is_open own e five = by_use (slice_index_or uses fi Open) refl (subst (λ (b : Bool). use_fault (slice_index_or uses fi Open) b ≡ 5) e five)
+  pub own_is_open : (own : Bool) → own ≡ true → use_fault (slice_index_or uses.fields fi Open) own ≡ 5 → slice_index_or uses.fields fi Open ≡ Open
+  own_is_open own e five = by_use (slice_index_or uses.fields fi Open) refl (subst (λ (b : Bool). use_fault (slice_index_or uses.fields fi Open) b ≡ 5) e five)
     where
-      by_use : (u : FieldUse) → slice_index_or uses fi Open ≡ u → use_fault (slice_index_or uses fi Open) true ≡ 5 → slice_index_or uses fi Open ≡ Open
+      by_use : (u : FieldUse) → slice_index_or uses.fields fi Open ≡ u → use_fault (slice_index_or uses.fields fi Open) true ≡ 5 → slice_index_or uses.fields fi Open ≡ Open
       by_use Open q k = q
       by_use Frozen q k = absurd (let bad : 0 ≡ 5 = subst (λ (u : FieldUse). use_fault u true ≡ 5) q k in omega (arith, bad))
       by_use Guarded q k = absurd (let bad : 0 ≡ 5 = subst (λ (u : FieldUse). use_fault u true ≡ 5) q k in omega (arith, bad))
 
-  pub frozen_not : slice_index_or uses fi Open ≡ Frozen → (own : Bool) → use_fault (slice_index_or uses fi Open) own ≡ 5 → ⊥
+  pub frozen_not : slice_index_or uses.fields fi Open ≡ Frozen → (own : Bool) → use_fault (slice_index_or uses.fields fi Open) own ≡ 5 → ⊥
   frozen_not e own five = let bad : 0 ≡ 5 = subst (λ (u : FieldUse). use_fault u own ≡ 5) e five in omega (arith, bad)
 
 -- ---- an instruction that breaks M5
@@ -198,15 +198,15 @@ call_low true b e = enter_low b e
 call_low false b e = omega (arith, e)
 
 -- it reads a place
-reads : (p : Program) (uses : List FieldUse) (mode : Mode) (op : Op) (target : Target) (stack : List Tag) → section_fault p uses mode op target stack ≡ 5 → place_read op target ≡ None → ⊥
-reads p uses mode ops.Iaload target stack five none = cc
-reads p uses mode (ops.Getstatic i) (targets.Field fi) stack five none = cc
-reads p uses mode (ops.Getfield i) (targets.Field fi) stack five none = cc
-reads p uses mode ops.Monitorenter target stack five none = enter_low (is_own_object mode (slice_index_or stack 0 Untagged)) five
-reads p uses mode (ops.Invokevirtual i) (targets.Method u) stack five none = call_low (is_locking (slice_get p.methods u)) (is_own_object mode (receiver_tag p (ops.Invokevirtual i) (targets.Method u) stack)) five
-reads p uses mode (ops.Invokespecial i) (targets.Method u) stack five none = call_low (is_locking (slice_get p.methods u)) (is_own_object mode (receiver_tag p (ops.Invokespecial i) (targets.Method u) stack)) five
-reads p uses mode (ops.Invokestatic i) (targets.Method u) stack five none = call_low (is_class_locking (slice_get p.methods u)) (is_own_class mode (class_of_method (slice_get p.methods u))) five
-reads p uses mode op target stack five none = omega (arith, five)
+reads : (p : Program) (uses : List FieldUse) (mode : Mode) (op : Op) (target : Target) (stack : List Tag) (owned : Bool) → section_fault p uses mode op target stack owned ≡ 5 → place_read op target ≡ None → ⊥
+reads p uses mode ops.Iaload target stack owned five none = cc
+reads p uses mode (ops.Getstatic i) (targets.Field fi) stack owned five none = cc
+reads p uses mode (ops.Getfield i) (targets.Field fi) stack owned five none = cc
+reads p uses mode ops.Monitorenter target stack owned five none = enter_low (is_own_object mode (slice_index_or stack 0 Untagged)) five
+reads p uses mode (ops.Invokevirtual i) (targets.Method u) stack owned five none = call_low (is_locking (slice_get p.methods u)) (is_own_object mode (receiver_tag p (ops.Invokevirtual i) (targets.Method u) stack)) five
+reads p uses mode (ops.Invokespecial i) (targets.Method u) stack owned five none = call_low (is_locking (slice_get p.methods u)) (is_own_object mode (receiver_tag p (ops.Invokespecial i) (targets.Method u) stack)) five
+reads p uses mode (ops.Invokestatic i) (targets.Method u) stack owned five none = call_low (is_class_locking (slice_get p.methods u)) (is_own_class mode (class_of_method (slice_get p.methods u))) five
+reads p uses mode op target stack owned five none = omega (arith, five)
 
 -- the field of a place, static or not
 field_number : Option Place → ℕ
@@ -222,16 +222,16 @@ same_static : (x fi : ℕ) → Some (places.Static x) ≡ Some (places.Static fi
 unfolding field_number
 same_static x fi e = ap field_number e
 
-reads_field : (p : Program) (uses : List FieldUse) (mode : Mode) (op : Op) (target : Target) (stack : List Tag) (fi : ℕ) → place_read op target ≡ Some (places.Field fi) → section_fault p uses mode op target stack ≡ 5 → use_fault (slice_index_or uses fi Open) (is_own_object mode (slice_index_or stack 0 Untagged)) ≡ 5
-reads_field p uses mode (ops.Getfield i) (targets.Field x) stack fi e five = subst (λ (n : ℕ). use_fault (slice_index_or uses n Open) (is_own_object mode (slice_index_or stack 0 Untagged)) ≡ 5) (same_field x fi e) five
-reads_field p uses mode (ops.Getstatic i) (targets.Field x) stack fi e five = absurd (cc)
-reads_field p uses mode op target stack fi e five = absurd (cc)
+reads_field : (p : Program) (uses : List FieldUse) (mode : Mode) (op : Op) (target : Target) (stack : List Tag) (owned : Bool) (fi : ℕ) → place_read op target ≡ Some (places.Field fi) → section_fault p uses mode op target stack owned ≡ 5 → use_fault (slice_index_or uses fi Open) (is_own_object mode (slice_index_or stack 0 Untagged)) ≡ 5
+reads_field p uses mode (ops.Getfield i) (targets.Field x) stack owned fi e five = subst (λ (n : ℕ). use_fault (slice_index_or uses n Open) (is_own_object mode (slice_index_or stack 0 Untagged)) ≡ 5) (same_field x fi e) five
+reads_field p uses mode (ops.Getstatic i) (targets.Field x) stack owned fi e five = absurd (cc)
+reads_field p uses mode op target stack owned fi e five = absurd (cc)
 
-reads_static : (p : Program) (uses : List FieldUse) (mode : Mode) (op : Op) (target : Target) (stack : List Tag) (fi : ℕ) → place_read op target ≡ Some (places.Static fi) → section_fault p uses mode op target stack ≡ 5
+reads_static : (p : Program) (uses : List FieldUse) (mode : Mode) (op : Op) (target : Target) (stack : List Tag) (owned : Bool) (fi : ℕ) → place_read op target ≡ Some (places.Static fi) → section_fault p uses mode op target stack owned ≡ 5
     → use_fault (slice_index_or uses fi Open) (is_own_class mode (class_of_field (slice_get p.fields fi))) ≡ 5
-reads_static p uses mode (ops.Getstatic i) (targets.Field x) stack fi e five = subst (λ (n : ℕ). use_fault (slice_index_or uses n Open) (is_own_class mode (class_of_field (slice_get p.fields n))) ≡ 5) (same_static x fi e) five
-reads_static p uses mode (ops.Getfield i) (targets.Field x) stack fi e five = absurd (cc)
-reads_static p uses mode op target stack fi e five = absurd (cc)
+reads_static p uses mode (ops.Getstatic i) (targets.Field x) stack owned fi e five = subst (λ (n : ℕ). use_fault (slice_index_or uses n Open) (is_own_class mode (class_of_field (slice_get p.fields n))) ≡ 5) (same_static x fi e) five
+reads_static p uses mode (ops.Getfield i) (targets.Field x) stack owned fi e five = absurd (cc)
+reads_static p uses mode op target stack owned fi e five = absurd (cc)
 
 field_within : (p : Program) (site : MethodSite) (static : Bool) (fi : ℕ) (o : Option FieldInfo) → slice_get p.fields fi ≡ o → IsSomeAnd o (λ f. field_rule static false site f.class f.flags ≡ None) → fi < length p.fields
 field_within p site static fi (Some f) e h = slice_get_within p.fields fi f e
@@ -247,7 +247,7 @@ static_inside p (ops.Getstatic i) (targets.Field x) m fi e h = subst (λ (n : �
 static_inside p (ops.Getfield i) (targets.Field x) m fi e h = absurd (cc)
 static_inside p op target m fi e h = absurd (cc)
 
-module _ (p : Program) (tags : Tagged) (uses : List FieldUse) (a : Callee) (i : ℕ) (b : BreaksAt p tags uses a i 5) where
+module _ (p : Program) (tags : Tagged) (uses : Uses) (a : Callee) (i : ℕ) (b : BreaksAt p tags uses a i 5) where
   place_is : site_place (slice_get p.methods a.method) i ≡ place_read b.insn.op b.target
   place_is = rw (b.at.in_program, b.at.in_code, b.at.names) refl
 
@@ -255,7 +255,7 @@ module _ (p : Program) (tags : Tagged) (uses : List FieldUse) (a : Callee) (i : 
   cause_by place cause e k = record { m = b.m; insn = b.insn; target = b.target; f = b.f; at = b.at; keeps = subst (λ (o : Option Place). KeepsPlace p tags a.mode b.f.stack o cause) (sym e ∙ place_is) k }
 
   pub some_place : site_place (slice_get p.methods a.method) i ≡ None → ⊥
-  some_place e = reads p uses a.mode b.insn.op b.target b.f.stack b.fault_is (sym place_is ∙ e)
+  some_place e = reads p uses.fields a.mode b.insn.op b.target b.f.stack (reads_owned uses a.method i) b.fault_is (sym place_is ∙ e)
 
   pub element_cause : site_place (slice_get p.methods a.method) i ≡ Some places.Element → IsCause p tags a i causes.Element
   element_cause e = cause_by (Some places.Element) causes.Element e refl
@@ -264,8 +264,8 @@ module _ (p : Program) (tags : Tagged) (uses : List FieldUse) (a : Callee) (i : 
     pub static_there : IsProgram p → fi < length p.fields
     static_there is = static_inside p b.insn.op b.target b.m fi (sym place_is ∙ e) (target_named p tags a.method i b.m b.insn b.target b.f is b.at)
 
-    pub static_breaks : use_fault (slice_index_or uses fi Open) (is_own_class a.mode (class_of_field (slice_get p.fields fi))) ≡ 5
-    static_breaks = reads_static p uses a.mode b.insn.op b.target b.f.stack fi (sym place_is ∙ e) b.fault_is
+    pub static_breaks : use_fault (slice_index_or uses.fields fi Open) (is_own_class a.mode (class_of_field (slice_get p.fields fi))) ≡ 5
+    static_breaks = reads_static p uses.fields a.mode b.insn.op b.target b.f.stack (reads_owned uses a.method i) fi (sym place_is ∙ e) b.fault_is
 
     pub static_cause : (cause : Cause) → KeepsStatic p tags fi (is_own_class a.mode (class_of_field (slice_get p.fields fi))) cause → IsCause p tags a i cause
     static_cause cause h = cause_by (Some (places.Static fi)) cause e h
@@ -274,5 +274,5 @@ module _ (p : Program) (tags : Tagged) (uses : List FieldUse) (a : Callee) (i : 
     pub field_there : IsProgram p → fi < length p.fields
     field_there is = field_inside p b.insn.op b.target b.m fi (sym place_is ∙ e) (target_named p tags a.method i b.m b.insn b.target b.f is b.at)
 
-    pub field_cause : (cause : Cause) → ((own : Bool) → use_fault (slice_index_or uses fi Open) own ≡ 5 → KeepsField p tags fi own cause) → IsCause p tags a i cause
-    field_cause cause h = cause_by (Some (places.Field fi)) cause e (h (is_own_object a.mode (slice_index_or b.f.stack 0 Untagged)) (reads_field p uses a.mode b.insn.op b.target b.f.stack fi (sym place_is ∙ e) b.fault_is))
+    pub field_cause : (cause : Cause) → ((own : Bool) → use_fault (slice_index_or uses.fields fi Open) own ≡ 5 → KeepsField p tags fi own cause) → IsCause p tags a i cause
+    field_cause cause h = cause_by (Some (places.Field fi)) cause e (h (is_own_object a.mode (slice_index_or b.f.stack 0 Untagged)) (reads_field p uses.fields a.mode b.insn.op b.target b.f.stack (reads_owned uses a.method i) fi (sym place_is ∙ e) b.fault_is))

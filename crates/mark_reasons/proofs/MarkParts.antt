@@ -3,15 +3,15 @@ use Rattle.std.proofs.Common.{◌≡◌, ℕ, suc, ◌*◌, ◌<◌, ◌≤◌, 
 use Rattle.std.proofs.lemmas.Bool.Decides.{nat_tests}
 use Rattle.jvm_types.specs.{ProgramInvariant.IsProgram, declared.program.{MethodInfo.MethodInfo, Program.Program}}
 use Rattle.graph_closure.specs.Walks.{AreRecurring}
-use Rattle.checked_program.specs.{Marks.{callee, IsOnOwn, OwnBreaks, CalleeBreaks, CalleeRecurs, Applies, elsewhere, itself, called, recurring, HasMark, turn}, Sections.{Section, section_mode}}
-use Rattle.checked_program.specs.{TaggedCode.{Tagged, tagged_by}, declared.{section.FieldUse.FieldUse, tag.Tags.Tags}}
+use Rattle.checked_program.specs.{Marks.{callee, IsOnOwn, OwnBreaks, CalleeBreaks, CalleeRecurs, Applies, elsewhere, itself, called, recurring, HasMark, turn}, OwnedArrays.reads_owned, Sections.{Section, section_mode}}
+use Rattle.checked_program.specs.{TaggedCode.{Tagged, tagged_by}, declared.{section.Uses.Uses, tag.Tags.Tags}}
 use Rattle.guard_analysis.{specs.{CallGraph.{node_of, call_graph}, Faults.LeadsToItself}, proofs.{CallEdges.called_inside, CalleesFound.itself_flagged, Grading.fault_low}}
 use Rattle.mark_reasons.specs.{Firsts.IsFirst, OwnFlags.AreOwn, Reasons.{HasReason, IsSpotReached}, Searches.{own_call, turns}, declared.reason.Reason.TheVariants.{Elsewhere, Unreached}}
-use Rattle.mark_reasons.proofs.Nodes.{calls_known, inside_calls}
+use Rattle.mark_reasons.proofs.Nodes.{no_uses, calls_known, inside_calls}
 
-module _ (p : Program) (tags : Tagged) (uses : List FieldUse) (s : Section) where
+module _ (p : Program) (tags : Tagged) (uses : Uses) (s : Section) where
   own_low : (n : ℕ) → OwnBreaks p tags uses s n → n ≤ 5
-  own_low n o = subst (λ x. x ≤ 5) o.breaks.fault_is (fault_low p uses (section_mode p s) o.breaks.insn.op o.breaks.target o.breaks.f.stack)
+  own_low n o = subst (λ x. x ≤ 5) o.breaks.fault_is (fault_low p uses.fields (section_mode p s) o.breaks.insn.op o.breaks.target o.breaks.f.stack (reads_owned uses s.method o.i))
 
   -- M1 to M5
   pub own_breaks : (n : ℕ) → n ≤ 5 → Applies p tags uses s n → OwnBreaks p tags uses s n
@@ -84,6 +84,6 @@ module _ (p : Program) (tags : List Tags) (is : IsProgram p) (recurs : List Bool
       let leads : LeadsToItself p (tagged_by tags) k.first = record { called = c.called; over = k.over; through = k.through; recurs = c.recurs } in
       let flag : slice_index_or recurs (node_of k.first) false ≡ true = itself_flagged p tags is recurs are k.first (called_inside p (tagged_by tags) is (callee s.method (section_mode p s)) k.first k.i k.calls) leads in
       let own_flag : slice_index_or own k.i false ≡ true = flags.all k.i k.own in
-      let call : own_call p (section_mode p s) m t.frames own k.i ≡ Some (node_of k.first) = rw own_flag (calls_known p [] tags is s.method m t at_m at_t (section_mode p s) k.i k.first k.calls) in
-      let bad : true ≡ false = sym (ap (λ o. turns recurs o) call ∙ flag) ∙ none k.i (inside_calls p [] tags is s.method m t at_m at_t (section_mode p s) k.i k.first k.calls) in
+      let call : own_call p (section_mode p s) m t.frames own k.i ≡ Some (node_of k.first) = rw own_flag (calls_known p no_uses tags is s.method m t at_m at_t (section_mode p s) k.i k.first k.calls) in
+      let bad : true ≡ false = sym (ap (λ o. turns recurs o) call ∙ flag) ∙ none k.i (inside_calls p no_uses tags is s.method m t at_m at_t (section_mode p s) k.i k.first k.calls) in
       cc

@@ -3,7 +3,7 @@ use Rattle.std.proofs.Common.{◌≡◌, ℕ, ◌+◌, ◌*◌, ◌/◌, ◌%◌
 use Rattle.std.proofs.lemmas.{Bool.Decides.nat_tests, Option.{slice_get_within, same_Some}}
 use Rattle.jvm_types.specs.{Members.is_static, ProgramInvariant.IsProgram, declared.program.{MethodInfo.MethodInfo, Program.Program}}
 use Rattle.checked_program.specs.{Marks.{Callee, callee, Calls, CallsThrough, BreaksAt, receiver_tag, class_of_method}, Sections.{Section, mode_of_spot, section_mode}, TaggedCode.{Tagged, tagged_by}}
-use Rattle.checked_program.specs.declared.{section.{FieldUse.FieldUse, Mode.{Mode, TheVariants.{OnThis, OffThis, OnClass}}, Spot.{Spot, TheVariants.{Method, Block}}}, tag.Tags.Tags}
+use Rattle.checked_program.specs.declared.{section.{Mode.{Mode, TheVariants.{OnThis, OffThis, OnClass}}, Spot.{Spot, TheVariants.{Method, Block}}, Uses.Uses}, tag.Tags.Tags}
 use Rattle.guard_analysis.{specs.{CallGraph.{mode_number, node_of, mode_at, call_at}, Faults.IsModeFor}, proofs.CallEdges.{half_of, mode_back, node_low, with_tags}}
 use Rattle.guard_analysis.proofs.{CalleesFound.{breaks_one, fits_called}, Grading.{fault_known, call_known, call_found}}
 use Rattle.mark_reasons.specs.Searches.{callee_at, class_of_section, node_call, node_fault, node_size, calls_of, node_fault_of}
@@ -60,7 +60,11 @@ class_there p s m e = ap class_of_method (sym e)
 pub mode_there : (p : Program) (s : Section) (m : MethodInfo) → slice_get p.methods s.method ≡ Some m → mode_of_spot (Some m) s.spot ≡ section_mode p s
 mode_there p s m e = ap (λ (o : Option MethodInfo). mode_of_spot o s.spot) (sym e)
 
-module _ (p : Program) (uses : List FieldUse) (tags : List Tags) (is : IsProgram p) where
+-- what a method calls is the same whatever sections may read
+abbrev pub no_uses : Uses
+no_uses = record { fields = []; owners = []; elements = [] }
+
+module _ (p : Program) (uses : Uses) (tags : List Tags) (is : IsProgram p) where
   -- ---- of a method with its frames
 
   module _ (mi : ℕ) (m : MethodInfo) (t : Tags) (at_m : slice_get p.methods mi ≡ Some m) (at_t : slice_get tags mi ≡ Some t) where
@@ -95,7 +99,7 @@ module _ (p : Program) (uses : List FieldUse) (tags : List Tags) (is : IsProgram
       let has = with_tags p tags is (a / 3) c.at.frames c.at.of_method in
       (rw (c.at.in_program, has.1) (slice_get_within c.m.code i c.insn c.at.in_code), rw (c.at.in_program, has.1) (calls_known (a / 3) c.m has.0 c.at.in_program has.1 (mode_at class a) i b c))
 
-  node_breaks : (class a i : ℕ) (om : Option MethodInfo) (ot : Option Tags) → slice_get p.methods (a / 3) ≡ om → slice_get tags (a / 3) ≡ ot → 0 < node_fault p uses om ot (mode_at class a) i → BreaksAt p (tagged_by tags) uses (callee_at class a) i (node_fault p uses om ot (mode_at class a) i)
+  node_breaks : (class a i : ℕ) (om : Option MethodInfo) (ot : Option Tags) → slice_get p.methods (a / 3) ≡ om → slice_get tags (a / 3) ≡ ot → 0 < node_fault p uses (a / 3) om ot (mode_at class a) i → BreaksAt p (tagged_by tags) uses (callee_at class a) i (node_fault p uses (a / 3) om ot (mode_at class a) i)
   node_breaks class a i (Some m) (Some t) e f h = breaks_one p uses tags is (callee_at class a) m t i e f h
   node_breaks class a i (Some m) None e f h = absurd (omega (arith, h))
   node_breaks class a i None ot e f h = absurd (omega (arith, h))

@@ -2,7 +2,7 @@
 use Rattle.std.proofs.Common.{◌≡◌, ℕ, zero, suc, ◌+◌, ◌*◌, ◌<◌, ◌≤◌, ◌≢◌, Bool, true, false, not, ◌&&◌, List, [], ◌∷◌, ◌++◌, length, Option, Some, None, refl, sym, ap, subst, ◌∙◌, arith, ⊎_elim, inl, inr, ◌⊎◌, get_or-set_other, cond, nat_lt, if◌then◌else◌, replicate, slice_get, slice_set, slice_index_or}
 use Rattle.std.proofs.lemmas.{Bool.{cases_eq, Decides.nat_tests}, List.{length-append, length-set, Sums.sum_by-set}, Option.{same_Some, slice_get_within}}
 use Rattle.jvm_types.specs.declared.program.Program.{Program}
-use Rattle.checked_program.specs.{Marks.{Callee, Calls, CallsThrough, BreaksAt, CalleeBreaks}, Sections.{Section, IsOwn}, TaggedCode.Tagged, declared.section.FieldUse.FieldUse}
+use Rattle.checked_program.specs.{Marks.{Callee, Calls, CallsThrough, BreaksAt, CalleeBreaks}, Sections.{Section, IsOwn}, TaggedCode.Tagged, declared.section.Uses.Uses}
 use Rattle.guard_analysis.specs.{CallGraph.node_of, Faults.IsModeFor}
 use Rattle.mark_reasons.specs.{Reasons.own_callee, Searches.{callee_at, class_of_section, search_visited, visits, HasNode, HasNodeBy, IsCalled, IsOrdered, IsSearchSound, Searching, unseen, left_of}}
 use Rattle.mark_reasons.{specs.declared.search.{Entry.Entry, Search.Search}, proofs.Nodes.{callee_back, fits_call, fits_through, section_fits}}
@@ -179,7 +179,7 @@ module _ (p : Program) (tags : Tagged) (s : Section) (n : ℕ) where
 
 -- ---- the search
 
-module _ (p : Program) (tags : Tagged) (uses : List FieldUse) (s : Section) (n : ℕ) where
+module _ (p : Program) (tags : Tagged) (uses : Uses) (s : Section) (n : ℕ) where
   pub nothing_yet : (w : Search) → length w.seen ≡ n → ((j : ℕ) → slice_index_or w.seen j false ≡ false) → w.queue ≡ [] → IsSearchSound p tags s n w
   nothing_yet w long none empty = record {
     long = long;

@@ -2,7 +2,7 @@
 use Rattle.std.proofs.Common.{◌≡◌, ℕ, zero, suc, ◌+◌, ◌-◌, ◌<◌, ◌≤◌, Bool, true, false, List, [], ◌∷◌, ◌++◌, length, Option, Some, None, refl, sym, ap, subst, ◌∙◌, arith, ⊎_elim, inl, inr, ◌⊎◌, nat_lt, slice_get}
 use Rattle.std.proofs.lemmas.{Bool.Decides.nat_tests, List.length-append, Option.{same_Some, slice_get_within}}
 use Rattle.jvm_types.specs.declared.program.Program.{Program}
-use Rattle.checked_program.specs.{Marks.{Callee, Calls, BreaksAt}, Sections.Section, TaggedCode.Tagged, declared.section.{FieldUse.FieldUse, Mode.Mode}}
+use Rattle.checked_program.specs.{Marks.{Callee, Calls, BreaksAt}, Sections.Section, TaggedCode.Tagged, declared.section.{Mode.Mode, Uses.Uses}}
 use Rattle.guard_analysis.specs.{CallGraph.node_of, Faults.IsModeFor}
 use Rattle.mark_reasons.specs.{Reasons.{callee_of, own_callee, IsShortest, IsWay}, Searches.{callee_at, class_of_section, site_at, HasNodeBy, IsBack, from_section, from_entry, IsCalled, Searching}}
 use Rattle.mark_reasons.{specs.declared.{reason.Site.Site, search.{Entry.Entry, Search.Search}}, proofs.Nodes.{callee_back, fits_call, section_fits}}
@@ -22,7 +22,7 @@ back_calls class own method queue _ _ (from_entry t c e b front g q got back) =
     subst (λ n. HasCalls queue t n) (let long : suc (length front) ≡ length (front ++ site_at class b.node e.at ∷ []) = omega (arith, length-append front (site_at class b.node e.at ∷ [])) in long)
     (by_entry t c (length front) e g q (back_calls class own method queue c front back))
 
-module _ (p : Program) (tags : Tagged) (uses : List FieldUse) (s : Section) (n k : ℕ) (w : Search) (h : Searching p tags uses s n k w) where
+module _ (p : Program) (tags : Tagged) (uses : Uses) (s : Section) (n k : ℕ) (w : Search) (h : Searching p tags uses s n k w) where
   abbrev class : ℕ
   class = class_of_section p s
 

@@ -8,7 +8,7 @@ use Rattle.checked_program.specs.{Marks.{Callee, Calls}, Sections.{Section, sect
 use Rattle.guard_analysis.{specs.CallGraph.{mode_at, call_graph}, proofs.CallEdges.edges_are_calls}
 use Rattle.mark_reasons.specs.Reasons.{callee_of, own_callee, IsWay, BeginsOwn, ComesBack}
 use Rattle.mark_reasons.specs.{Searches.{callee_at, class_of_section, calls_of, node_call, node_size, turns, site_at, own_site, IsFirstTurn, Walking, unplaced}, declared.reason.Site.Site}
-use Rattle.mark_reasons.proofs.{Nodes.{calls_found, calls_there, node_again}, SearchLaws.{got_before, got_last, all_same}}
+use Rattle.mark_reasons.proofs.{Nodes.{no_uses, calls_found, calls_there, node_again}, SearchLaws.{got_before, got_last, all_same}}
 
 -- ---- ways
 
@@ -36,9 +36,9 @@ module _ (p : Program) (tags : List Tags) (is : IsProgram p) (recurs : List Bool
   turns_on class a l e =
       let on = recurs_on (call_graph p tags).from (call_graph p tags).to a ((are.each a l).0 e) in
       let call = (edges_are_calls p tags is).only (callee_at class a) on.0 (subst (λ x. IsEdge (call_graph p tags).from (call_graph p tags).to x on.0) (sym (node_again class a)) on.1) in
-      let there = calls_there p [] tags is class a call.2.0 call.0 call.2.1 in
+      let there = calls_there p no_uses tags is class a call.2.0 call.0 call.2.1 in
       let is_call : calls_of p tags class a call.2.0 ≡ Some on.0 = there.1 ∙ ap Some call.1 in
-      let low : on.0 < 3 * length p.methods = (calls_found p [] tags is class a call.2.0 on.0 is_call).0 in
+      let low : on.0 < 3 * length p.methods = (calls_found p no_uses tags is class a call.2.0 on.0 is_call).0 in
       (call.2.0, there.0, ap (λ o. turns recurs o) is_call ∙ (are.each on.0 low).1 on.2)
 
   no_turn : (om : Option MethodInfo) (ot : Option Tags) (mode : Mode) → IsFirstTurn p recurs om ot mode None → (i : ℕ) → i < node_size om ot → turns recurs (node_call p om ot mode i) ≡ false
@@ -79,7 +79,7 @@ module _ (p : Program) (tags : List Tags) (is : IsProgram p) (recurs : List Bool
 
     pub walk_goes_on : (node i next : ℕ) (way : List Site) (places : List ℕ) → Walks_on node way places → calls_of p tags class node i ≡ Some next → slice_index_or recurs next false ≡ true → Walks_on next (way ++ site_at class node i ∷ []) (slice_set places node (length way + 1))
     walk_goes_on node i next way places h c flag =
-        let call = calls_found p [] tags is class node i next c in
+        let call = calls_found p no_uses tags is class node i next c in
         record {
           leads = way_more p (tagged_by tags) (own_callee p s) way (callee_at class node) (site_at class node i) (callee_at class next) h.leads refl call.1;
           own = own_more p (tagged_by tags) s way (site_at class node i) h.own;

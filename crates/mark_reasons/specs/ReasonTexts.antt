@@ -66,7 +66,8 @@ fault_line p x rule =
 
 -- what keeps the place of M5 from being read
 abbrev pub cause_words : Program → Cause → List ℕ
-cause_words p causes.Element = codes "it is an element of an array"
+cause_words p causes.Element =
+    codes "it is an element of an array that is not known to be the section's own"
 cause_words p causes.Static = codes "it is a static field, and the section is not on its class"
 cause_words p causes.Shared = codes "the field is not private"
 cause_words p causes.Other = codes "it is the field of another object"

@@ -6,13 +6,13 @@ use Rattle.std.specs.List.{AllZip}
 use Rattle.jvm_types.specs.declared.program.Program.{Program}
 use Rattle.checked_program.specs.LockTags.{TagShape}
 use Rattle.checked_program.specs.TaggedCode.{Tagged}
-use Rattle.checked_program.specs.FrozenPlaces.{AreUses}
+use Rattle.checked_program.specs.OwnedArrays.{AreUses}
 use Rattle.checked_program.specs.Sections.{Section, section_mode, BeginsAt, IsOwn}
 use Rattle.checked_program.specs.Marks.{Callee, callee, Calls, BreaksAt, HasMark, IsOnOwn}
 use Rattle.checked_program.specs.declared.section.SectionMark.{SectionMark}
 use Rattle.checked_program.specs.declared.section.Spot.{Spot}
 use Rattle.checked_program.specs.declared.section.Spot.TheVariants.{Method, Block}
-use Rattle.checked_program.specs.declared.section.FieldUse.{FieldUse}
+use Rattle.checked_program.specs.declared.section.Uses.{Uses}
 use Rattle.mark_reasons.specs.Causes.{IsCause}
 use Rattle.mark_reasons.specs.declared.cause.Cause.{Cause}
 use Rattle.mark_reasons.specs.declared.reason.Site.{Site}
@@ -59,8 +59,8 @@ mark_by (x ∷ xs) rule = 6
 
 -- It is the first of its method: no own instruction before it breaks the rule; of a method that is
 -- called, no instruction before it breaks any.
-abbrev pub IsFirstSectionFault : Program → Tagged → List FieldUse → Section → List Site → Site
-    → (rule : ℕ) → Type 0
+abbrev pub IsFirstSectionFault : Program → Tagged → Uses → Section → List Site → Site → (rule : ℕ)
+    → Type 0
 IsFirstSectionFault p tags uses s [] site rule =
     (j : ℕ) → j < site.at → IsOwn p tags s.method s.spot j
     → BreaksAt p tags uses (callee_of site) j rule → ⊥
@@ -68,15 +68,15 @@ IsFirstSectionFault p tags uses s (x ∷ xs) site rule =
     (j r : ℕ) → j < site.at → BreaksAt p tags uses (callee_of site) j r → ⊥
 
 -- no way of fewer calls leads from the section to a method in which an instruction breaks a rule
-abbrev pub IsShortest : Program → Tagged → List FieldUse → Section → List Site → Type 0
+abbrev pub IsShortest : Program → Tagged → Uses → Section → List Site → Type 0
 IsShortest p tags uses s way =
     (x : Site) (xs : List Site) (site : Site) (rule : ℕ)
     → IsWay p tags (own_callee p s) (x ∷ xs) (callee_of site) → IsOwn p tags s.method s.spot x.at
     → BreaksAt p tags uses (callee_of site) site.at rule → length way ≤ length (x ∷ xs)
 
 -- the way leads to an instruction that breaks a rule
-pub record LeadsToFault (p : Program) (tags : Tagged) (uses : List FieldUse) (s : Section)
-    (way : List Site) (site : Site) (rule : ℕ) : Type 0 where
+pub record LeadsToFault (p : Program) (tags : Tagged) (uses : Uses) (s : Section) (way : List Site)
+    (site : Site) (rule : ℕ) : Type 0 where
   pub leads : IsWay p tags (own_callee p s) way (callee_of site)
   pub own : BeginsOwn p tags s (way ++ site ∷ [])
   pub breaks : BreaksAt p tags uses (callee_of site) site.at rule
@@ -98,7 +98,7 @@ pub record ComesBack (p : Program) (tags : Tagged) (s : Section) (way : List Sit
   pub there : slice_get way again ≡ Some from
   pub same : callee_of from ≡ to
 
-abbrev pub IsReason : Program → Tagged → List FieldUse → Section → (mark : ℕ) → Reason → Type 0
+abbrev pub IsReason : Program → Tagged → Uses → Section → (mark : ℕ) → Reason → Type 0
 IsReason p tags uses s mark Elsewhere =
     (mark ≡ 8) × IsSpotReached p tags s.method s.spot × (IsOnOwn p tags s.method s.spot → ⊥)
 IsReason p tags uses s mark Unreached = (mark ≡ 8) × (IsSpotReached p tags s.method s.spot → ⊥)
@@ -108,32 +108,31 @@ IsReason p tags uses s mark (Breaks way site rule cause) =
 IsReason p tags uses s mark (Recurs way again) = (mark ≡ 7) × ComesBack p tags s way again
 
 -- M0 has no reason, and each other mark has one
-abbrev pub HasReason : Program → Tagged → List FieldUse → Section → (mark : ℕ) → Option Reason
-    → Type 0
+abbrev pub HasReason : Program → Tagged → Uses → Section → (mark : ℕ) → Option Reason → Type 0
 HasReason p tags uses s zero None = Unit {0}
 HasReason p tags uses s zero (Some reason) = ⊥
 HasReason p tags uses s (suc n) None = ⊥
 HasReason p tags uses s (suc n) (Some reason) = IsReason p tags uses s (suc n) reason
 
-abbrev pub IsExplained : Program → Tagged → List FieldUse → SectionMark → Option Reason → Type 0
+abbrev pub IsExplained : Program → Tagged → Uses → SectionMark → Option Reason → Type 0
 IsExplained p tags uses mark reason = HasReason p tags uses (marked_section mark) mark.mark reason
 
 -- of each mark its reason
 pub record AreReasons (p : Program) (tags : Tagged) (marks : List SectionMark)
     (reasons : List (Option Reason)) : Type 0 where
-  pub uses : List FieldUse
+  pub uses : Uses
   pub are_uses : AreUses p tags uses
   pub each : AllZip (IsExplained p tags uses) marks reasons
 
 -- the sections of some marks have them
-abbrev pub AreMarked : Program → Tagged → List FieldUse → List SectionMark → Type 0
+abbrev pub AreMarked : Program → Tagged → Uses → List SectionMark → Type 0
 AreMarked p tags uses marks =
     (i : ℕ) (mark : SectionMark) → slice_get marks i ≡ Some mark
     → HasMark p tags uses (marked_section mark) mark.mark
 
 -- the first of some marks have these reasons
-pub record FirstReasons (p : Program) (tags : Tagged) (uses : List FieldUse)
-    (marks : List SectionMark) (count : ℕ) (reasons : List (Option Reason)) : Type 0 where
+pub record FirstReasons (p : Program) (tags : Tagged) (uses : Uses) (marks : List SectionMark)
+    (count : ℕ) (reasons : List (Option Reason)) : Type 0 where
   pub long : length reasons ≡ count
   pub each : (i : ℕ) (mark : SectionMark) (reason : Option Reason) → slice_get marks i ≡ Some mark
       → slice_get reasons i ≡ Some reason → IsExplained p tags uses mark reason

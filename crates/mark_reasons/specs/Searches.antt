@@ -13,7 +13,7 @@ use Rattle.checked_program.specs.Marks.{Callee, callee, Calls, BreaksAt, CalleeB
 use Rattle.checked_program.specs.Marks.{class_of_method}
 use Rattle.checked_program.specs.declared.tag.Tags.{Tags}
 use Rattle.checked_program.specs.declared.section.Mode.{Mode}
-use Rattle.checked_program.specs.declared.section.FieldUse.{FieldUse}
+use Rattle.checked_program.specs.declared.section.Uses.{Uses}
 use Rattle.guard_analysis.specs.CallGraph.{node_of, mode_at, call_at}
 use Rattle.guard_analysis.specs.Faults.{fault_at}
 use Rattle.mark_reasons.specs.Firsts.{IsFirst}
@@ -59,10 +59,10 @@ node_call p (Some m) (Some t) mode i =
     call_at p mode (slice_get m.code i) (slice_get m.targets i) (slice_get t.frames i)
 node_call p m t mode i = None
 
-abbrev pub node_fault : Program → List FieldUse → Option MethodInfo → Option Tags → Mode → ℕ → ℕ
-node_fault p uses (Some m) (Some t) mode i =
-    fault_at p uses mode (slice_get m.code i) (slice_get m.targets i) (slice_get t.frames i)
-node_fault p uses m t mode i = 0
+abbrev pub node_fault : Program → Uses → (mi : ℕ) → Option MethodInfo → Option Tags → Mode → ℕ → ℕ
+node_fault p uses mi (Some m) (Some t) mode i =
+    fault_at p uses mi i mode (slice_get m.code i) (slice_get m.targets i) (slice_get t.frames i)
+node_fault p uses mi m t mode i = 0
 
 abbrev pub node_size : Option MethodInfo → Option Tags → ℕ
 node_size (Some m) (Some t) = length m.code
@@ -76,11 +76,11 @@ node_visits p (Some m) (Some t) mode w caller =
 node_visits p m t mode w caller = w
 
 -- the first instruction that breaks a rule
-abbrev pub IsFirstFaultOf : Program → List FieldUse → Option MethodInfo → Option Tags → Mode
+abbrev pub IsFirstFaultOf : Program → Uses → (mi : ℕ) → Option MethodInfo → Option Tags → Mode
     → Option ℕ → Type 0
-IsFirstFaultOf p uses (Some m) (Some t) mode found =
-    IsFirst (λ i. nat_lt 0 (node_fault p uses (Some m) (Some t) mode i)) (length m.code) found
-IsFirstFaultOf p uses m t mode found = found ≡ None
+IsFirstFaultOf p uses mi (Some m) (Some t) mode found =
+    IsFirst (λ i. nat_lt 0 (node_fault p uses mi (Some m) (Some t) mode i)) (length m.code) found
+IsFirstFaultOf p uses mi m t mode found = found ≡ None
 
 -- of an own instruction of a section that runs its method so
 abbrev pub own_call : Program → Mode → MethodInfo → List (Option TagShape) → List Bool → ℕ
@@ -94,9 +94,10 @@ abbrev pub calls_of : Program → List Tags → (class node : ℕ) → ℕ → O
 calls_of p tags class a i =
     node_call p (slice_get p.methods (a / 3)) (slice_get tags (a / 3)) (mode_at class a) i
 
-abbrev pub node_fault_of : Program → List FieldUse → List Tags → (class node : ℕ) → ℕ → ℕ
+abbrev pub node_fault_of : Program → Uses → List Tags → (class node : ℕ) → ℕ → ℕ
 node_fault_of p uses tags class a i =
-    node_fault p uses (slice_get p.methods (a / 3)) (slice_get tags (a / 3)) (mode_at class a) i
+    node_fault p uses (a / 3) (slice_get p.methods (a / 3)) (slice_get tags (a / 3))
+    (mode_at class a) i
 
 -- ---- its course
 
@@ -132,7 +133,7 @@ pub record IsSearchSound (p : Program) (tags : Tagged) (s : Section) (n : ℕ) (
       → IsCalled p tags s w.queue t e.caller e.at e.node
 
 -- the first k entries are done: none breaks a rule, and what they call is found
-pub record Searching (p : Program) (tags : Tagged) (uses : List FieldUse) (s : Section) (n k : ℕ)
+pub record Searching (p : Program) (tags : Tagged) (uses : Uses) (s : Section) (n k : ℕ)
     (w : Search) : Type 0 where
   pub sound : IsSearchSound p tags s n w
   pub ordered : IsOrdered w.queue k
@@ -166,7 +167,7 @@ abbrev pub AreCalledBefore : List Entry → Type 0
 AreCalledBefore queue = (t : ℕ) (e : Entry) → slice_get queue t ≡ Some e → e.caller ≤ t
 
 -- None: nothing that the section calls breaks a rule
-abbrev pub IsFaultFound : Program → Tagged → List FieldUse → Section → Option Fault → Type 0
+abbrev pub IsFaultFound : Program → Tagged → Uses → Section → Option Fault → Type 0
 IsFaultFound p tags uses s None = CalleeBreaks p tags uses s → ⊥
 IsFaultFound p tags uses s (Some fault) =
     LeadsToFault p tags uses s fault.way fault.site fault.rule × (mark_by fault.way fault.rule ≡ 6)
@@ -215,7 +216,7 @@ unplaced places = count_by (λ n. n == 0) places
 -- ---- own instructions
 
 -- an own instruction breaks the rule
-abbrev pub own_breaks : Program → List FieldUse → Mode → MethodInfo → Tags → List Bool → (rule : ℕ)
-    → ℕ → Bool
-own_breaks p uses mode m t own rule i =
-    slice_index_or own i false && (node_fault p uses (Some m) (Some t) mode i == rule)
+abbrev pub own_breaks : Program → Uses → Mode → (mi : ℕ) → MethodInfo → Tags → List Bool
+    → (rule : ℕ) → ℕ → Bool
+own_breaks p uses mode mi m t own rule i =
+    slice_index_or own i false && (node_fault p uses mi (Some m) (Some t) mode i == rule)

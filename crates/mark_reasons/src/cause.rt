@@ -4,7 +4,8 @@ ghost use Rattle.std.specs.Prelude.{◌≡◌, ◌<◌, ◌≤◌, Bool, Some, l
 ghost use Rattle.std.specs.Prelude.{IfOk};
 ghost use Rattle.jvm_types.specs.ProgramInvariant.{IsProgram};
 ghost use Rattle.jvm_types.specs.declared.limits.TheConstants.{MOST_INSTRUCTIONS as most};
-ghost use Rattle.checked_program.specs.FrozenPlaces.{AreUses, IsFrozenUse, IsGuardedUse};
+ghost use Rattle.checked_program.specs.FrozenPlaces.{IsFrozenUse, IsGuardedUse};
+ghost use Rattle.checked_program.specs.OwnedArrays.{AreUses};
 ghost use Rattle.checked_program.specs.MarkedProgram.{AreTaggings};
 ghost use Rattle.checked_program.specs.Marks.{class_of_field, is_own_class, use_fault, BreaksAt};
 ghost use Rattle.checked_program.specs.TaggedCode.{tagged_by};
@@ -16,7 +17,7 @@ ghost use Rattle.mark_reasons.specs.Reasons.{callee_of};
 ghost use Rattle.mark_reasons.specs.Firsts.{IsFirst};
 
 use crate::reason::Site;
-use checked_program::{FieldUse, Mode, Tags};
+use checked_program::{FieldUse, Mode, Tags, Uses};
 use frozen_classes::first_out;
 use guard_analysis::calls::is_own_class;
 use guard_analysis::faults::{class_of_field, use_of};
@@ -28,7 +29,7 @@ use std::alloc::{AllocError, Global};
 /// What keeps a section from a place that it reads.
 #[derive(Clone, Copy, Debug, PartialEq, Eq)]
 pub enum Cause {
-    /// It is an element of an array.
+    /// It is an element of an array that is not known to be the section's own.
     Element,
     /// It is a static field of another class than the section's.
     Static,
@@ -208,7 +209,7 @@ fn open_cause(
 fn field_cause(
     alloc: Global,
     p: &Program,
-    uses: &Rows<FieldUse>,
+    uses: &Uses,
     tags: &Rows<Tags>,
     field: u32,
 ) -> Result<Cause, AllocError>
@@ -218,10 +219,10 @@ fn field_cause(
     requires uses { AreUses p.now (tagged_by tags.now) uses.now }
     requires there { field < length p.now.fields }
     ensures { IfOk result (λ cause.
-        (own : Bool) → use_fault (slice_index_or uses.now field open_use) own ≡ 5
+        (own : Bool) → use_fault (slice_index_or uses.now.fields field open_use) own ≡ 5
         → KeepsField p.now (tagged_by tags.now) field own cause) }
 {
-    match use_of(uses, field) {
+    match use_of(&uses.fields, field) {
         FieldUse::Open => open_cause(alloc, p, tags, field),
         FieldUse::Guarded => Ok(Cause::Other),
         FieldUse::Frozen => Ok(Cause::Other),
@@ -232,7 +233,7 @@ fn field_cause(
 fn static_cause(
     alloc: Global,
     p: &Program,
-    uses: &Rows<FieldUse>,
+    uses: &Uses,
     tags: &Rows<Tags>,
     mode: Mode,
     field: u32,
@@ -242,7 +243,7 @@ fn static_cause(
     requires tagged { AreTaggings p.now p.now.methods tags.now }
     requires uses { AreUses p.now (tagged_by tags.now) uses.now }
     requires there { field < length p.now.fields }
-    requires breaks { use_fault (slice_index_or uses.now field open_use)
+    requires breaks { use_fault (slice_index_or uses.now.fields field open_use)
         (is_own_class mode (class_of_field (slice_get p.now.fields field))) ≡ 5 }
     ensures { IfOk result (KeepsStatic p.now (tagged_by tags.now) field
         (is_own_class mode (class_of_field (slice_get p.now.fields field)))) }
@@ -258,7 +259,7 @@ fn static_cause(
 fn place_cause(
     alloc: Global,
     p: &Program,
-    uses: &Rows<FieldUse>,
+    uses: &Uses,
     tags: &Rows<Tags>,
     site: Site,
     place: Place,
@@ -282,7 +283,7 @@ fn place_cause(
 pub fn cause_of(
     alloc: Global,
     p: &Program,
-    uses: &Rows<FieldUse>,
+    uses: &Uses,
     tags: &Rows<Tags>,
     site: Site,
 ) -> Result<Cause, AllocError>

@@ -4,7 +4,7 @@ ghost use Rattle.std.specs.Prelude.{◌≡◌, ◌<◌, ◌≤◌, ◌*◌, Some
 ghost use Rattle.std.specs.List.{AllZip};
 ghost use Rattle.jvm_types.specs.ProgramInvariant.{IsProgram};
 ghost use Rattle.jvm_types.specs.declared.limits.TheConstants.{MOST_INSTRUCTIONS as most};
-ghost use Rattle.checked_program.specs.FrozenPlaces.{AreUses};
+ghost use Rattle.checked_program.specs.OwnedArrays.{AreUses};
 ghost use Rattle.checked_program.specs.MarkedProgram.{AreTaggings};
 ghost use Rattle.checked_program.specs.TaggedCode.{tagged_by};
 ghost use Rattle.checked_program.specs.Marks.{BreaksAt, CalleeBreaks, CalleeRecurs, HasMark};
@@ -23,49 +23,51 @@ use crate::reached::is_spot_reached;
 use crate::reason::{Reason, Site};
 use crate::recursion::{come_back, turns};
 use crate::search::{find_fault, own_call};
-use checked_program::{Checked, FieldUse, Mode, SectionMark, Tags};
+use checked_program::{Checked, Mode, SectionMark, Tags, Uses};
 use frozen_classes::frozen_classes;
 use graph_closure::recurring;
 use guard_analysis::call_graph::call_graph;
 use guard_analysis::faults::fault_at;
-use guard_analysis::field_uses::uses;
 use guard_analysis::flag_at;
 use guard_analysis::marking::section_mode;
+use guard_analysis::readable::uses;
 use jvm_types::{MethodInfo, Program, Rows};
 use std::alloc::{AllocError, Global};
 
 /// Whether an own instruction breaks a rule.
 fn own_breaks(
     p: &Program,
-    uses: &Rows<FieldUse>,
+    uses: &Uses,
     mode: Mode,
+    method: u32,
     m: &MethodInfo,
     t: &Tags,
     own: &[bool],
     rule: u8,
     i: usize,
 ) -> bool
-    ensures { result ≡ own_breaks p.now uses.now mode m.now t.now own.now rule i }
+    ensures { result ≡ own_breaks p.now uses.now mode method m.now t.now own.now rule i }
 {
-    flag_at(own, i) && fault_at(p, uses, mode, m, t, i) == rule
+    flag_at(own, i) && fault_at(p, uses, method as usize, mode, m, t, i) == rule
 }
 
 /// The first own instruction that breaks a rule.
 fn first_own(
     p: &Program,
-    uses: &Rows<FieldUse>,
+    uses: &Uses,
     mode: Mode,
+    method: u32,
     m: &MethodInfo,
     t: &Tags,
     own: &[bool],
     rule: u8,
 ) -> Option<usize>
     ensures { IsFirst (λ i.
-        own_breaks p.now uses.now mode m.now t.now
+        own_breaks p.now uses.now mode method m.now t.now
         own.now rule i) (length m.now.code) result }
 {
     for i in 0..m.code.len() {
-        if own_breaks(p, uses, mode, m, t, own, rule, i) {
+        if own_breaks(p, uses, mode, method, m, t, own, rule, i) {
             return Some(i);
         }
     }
@@ -98,7 +100,7 @@ fn first_own_turn(
 fn cause_if(
     alloc: Global,
     p: &Program,
-    uses: &Rows<FieldUse>,
+    uses: &Uses,
     tags: &Rows<Tags>,
     site: Site,
     rule: u8,
@@ -121,7 +123,7 @@ fn cause_if(
 fn own_reason(
     alloc: Global,
     p: &Program,
-    uses: &Rows<FieldUse>,
+    uses: &Uses,
     tags: &Rows<Tags>,
     mark: SectionMark,
     m: &MethodInfo,
@@ -141,7 +143,7 @@ fn own_reason(
         (IsReason p.now (tagged_by tags.now) uses.now (marked_section mark) mark.mark) }
 {
     let mode = section_mode(m, mark.spot);
-    let Some(at) = first_own(p, uses, mode, m, t, own, mark.mark) else {
+    let Some(at) = first_own(p, uses, mode, mark.method, m, t, own, mark.mark) else {
         unreachable!()
     };
     let site = Site {
@@ -162,7 +164,7 @@ fn own_reason(
 fn called_reason(
     alloc: Global,
     p: &Program,
-    uses: &Rows<FieldUse>,
+    uses: &Uses,
     tags: &Rows<Tags>,
     mark: SectionMark,
     m: &MethodInfo,
@@ -195,7 +197,7 @@ fn called_reason(
 fn recurring_reason(
     alloc: Global,
     p: &Program,
-    uses: &Rows<FieldUse>,
+    uses: &Uses,
     tags: &Rows<Tags>,
     recurs: &[bool],
     mark: SectionMark,
@@ -231,7 +233,7 @@ fn recurring_reason(
 fn rule_reason(
     alloc: Global,
     p: &Program,
-    uses: &Rows<FieldUse>,
+    uses: &Uses,
     tags: &Rows<Tags>,
     recurs: &[bool],
     mark: SectionMark,
@@ -268,7 +270,7 @@ fn rule_reason(
 fn reason_of(
     alloc: Global,
     p: &Program,
-    uses: &Rows<FieldUse>,
+    uses: &Uses,
     tags: &Rows<Tags>,
     recurs: &[bool],
     mark: SectionMark,
@@ -304,7 +306,7 @@ fn reason_of(
 fn reasons_of(
     alloc: Global,
     p: &Program,
-    uses: &Rows<FieldUse>,
+    uses: &Uses,
     tags: &Rows<Tags>,
     recurs: &[bool],
     marks: &Rows<SectionMark>,

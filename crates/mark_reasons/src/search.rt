@@ -15,7 +15,7 @@ ghost use Rattle.mark_reasons.specs.Searches.{AreCalledBefore, IsBack, IsFaultFo
 ghost use Rattle.mark_reasons.specs.Searches.{IsFirstFaultOf};
 
 use crate::reason::Site;
-use checked_program::{FieldUse, Mode, SectionMark, Tags};
+use checked_program::{Mode, SectionMark, Tags, Uses};
 use guard_analysis::call_graph::mode_at;
 use guard_analysis::calls::call_at;
 use guard_analysis::faults::fault_at;
@@ -150,16 +150,18 @@ fn visit_own(
 /// The first instruction of a method that breaks a rule where the method is called so.
 fn first_fault(
     p: &Program,
-    uses: &Rows<FieldUse>,
+    uses: &Uses,
+    method: usize,
     mode: Mode,
     m: &MethodInfo,
     t: &Tags,
 ) -> Option<usize>
-    ensures { IsFirst (λ i. nat_lt 0 (rule_at p.now uses.now (Some m.now) (Some t.now) mode i))
+    ensures { IsFirst (λ i.
+        nat_lt 0 (rule_at p.now uses.now method (Some m.now) (Some t.now) mode i))
         (length m.now.code) result }
 {
     for i in 0..m.code.len() {
-        if fault_at(p, uses, mode, m, t, i) > 0 {
+        if fault_at(p, uses, method, mode, m, t, i) > 0 {
             return Some(i);
         }
     }
@@ -167,21 +169,15 @@ fn first_fault(
 }
 
 /// The same of the method of a node.
-fn node_fault(
-    p: &Program,
-    uses: &Rows<FieldUse>,
-    tags: &Rows<Tags>,
-    class: u16,
-    node: u32,
-) -> Option<usize>
-    ensures { IsFirstFaultOf p.now uses.now
+fn node_fault(p: &Program, uses: &Uses, tags: &Rows<Tags>, class: u16, node: u32) -> Option<usize>
+    ensures { IsFirstFaultOf p.now uses.now (node / 3)
         (slice_get p.now.methods (node / 3)) (slice_get tags.now (node / 3)) (mode_at class node)
         result }
 {
     let place = node as usize / 3;
     match p.methods.get(place) {
         Some(m) => match tags.get(place) {
-            Some(t) => first_fault(p, uses, mode_at(class, node as usize), m, t),
+            Some(t) => first_fault(p, uses, place, mode_at(class, node as usize), m, t),
             None => None,
         },
         None => None,
@@ -259,21 +255,14 @@ pub struct Fault {
 }
 
 /// The rule that an instruction of the method of a node breaks; 0 for none.
-fn rule_at(
-    p: &Program,
-    uses: &Rows<FieldUse>,
-    tags: &Rows<Tags>,
-    class: u16,
-    node: u32,
-    at: usize,
-) -> u8
-    ensures { result ≡ rule_at p.now uses.now (slice_get p.now.methods (node / 3))
+fn rule_at(p: &Program, uses: &Uses, tags: &Rows<Tags>, class: u16, node: u32, at: usize) -> u8
+    ensures { result ≡ rule_at p.now uses.now (node / 3) (slice_get p.now.methods (node / 3))
         (slice_get tags.now (node / 3)) (mode_at class node) at }
 {
     let place = node as usize / 3;
     match p.methods.get(place) {
         Some(m) => match tags.get(place) {
-            Some(t) => fault_at(p, uses, mode_at(class, node as usize), m, t, at),
+            Some(t) => fault_at(p, uses, place, mode_at(class, node as usize), m, t, at),
             None => 0,
         },
         None => 0,
@@ -286,7 +275,7 @@ fn rule_at(
 pub fn find_fault(
     alloc: Global,
     p: &Program,
-    uses: &Rows<FieldUse>,
+    uses: &Uses,
     tags: &Rows<Tags>,
     mark: SectionMark,
     m: &MethodInfo,

@@ -113,7 +113,9 @@ fn write_cause_words(
     ensures { OnOk result (text.new.items ≡ text.old.items ++ cause_words p.now cause) }
 {
     match cause {
-        Cause::Element => text.extend_from_slice(b"it is an element of an array"),
+        Cause::Element => text.extend_from_slice(
+            b"it is an element of an array that is not known to be the section's own",
+        ),
         Cause::Static => {
             text.extend_from_slice(b"it is a static field, and the section is not on its class")
         }
