@@ -33,7 +33,7 @@ Marks.readsStatic()I method M5
     it is a static field, and the section is not on its class
 Marks.readsElement([I)I method M5
   Marks.readsElement([I)I at 2 iaload M5: it reads what the section's lock does not guard
-    it is an element of an array
+    it is an element of an array that is not known to be the section's own
 Marks.readsLoose()I method M5
   Marks.readsLoose()I at 1 getfield M5: it reads what the section's lock does not guard
     Marks.loosen(I)V at 2 putfield writes the field, not under the lock that guards it
@@ -74,7 +74,7 @@ Calls.offThisMakes()LCalls; method M6
 Calls.offThisReadsElement([I)I method M6
   Calls.offThisReadsElement([I)I at 1 invokestatic calls
   Calls.first([I)I at 2 iaload M5: it reads what the section's lock does not guard
-    it is an element of an array
+    it is an element of an array that is not known to be the section's own
 Calls.recurses(I)I method M7
   Calls.recurses(I)I at 12 invokevirtual calls
   Calls.recurses(I)I at 12 invokevirtual calls
@@ -130,7 +130,7 @@ ClassMarks.readsField(LClassMarks;)I method M5
     it is the field of another object
 ClassMarks.readsElement([I)I method M5
   ClassMarks.readsElement([I)I at 2 iaload M5: it reads what the section's lock does not guard
-    it is an element of an array
+    it is an element of an array that is not known to be the section's own
 ClassMarks.callsStores()V method M6
   ClassMarks.callsStores()V at 1 invokestatic calls
   ClassMarks.stores(I)V at 1 putstatic M1: it writes a field, a static field or an element
@@ -152,6 +152,38 @@ ClassMarks.callsTotal()I method M6
   ClassMarks.callsTotal()I at 0 invokestatic calls
   ClassMarks.total()I at 0 getstatic M5: it reads what the section's lock does not guard
     it is a static field, and the section is not on its class
+"""
+# Sections that read elements of arrays which their object owns, and of others.
+OVER_ARRAYS = """\
+Kept.set(I)V method M1
+  Kept.set(I)V at 6 iastore M1: it writes a field, a static field or an element
+Kept.sum()I method M0
+Kept.length()I method M0
+Kept.either(Z)I method M0
+Kept.grow(I)V method M1
+  Kept.grow(I)V at 4 putfield M1: it writes a field, a static field or an element
+Kept.at(I)I method M0
+Kept.calls()I method M0
+Kept.asks(LKept;)I block 3 M6
+  Kept.asks(LKept;)I at 5 invokevirtual calls
+  Kept.last()I at 5 iaload M5: it reads what the section's lock does not guard
+    it is an element of an array that is not known to be the section's own
+Kept.asksItself()I method M0
+Kept.readsHanded()I method M5
+  Kept.readsHanded()I at 5 iaload M5: it reads what the section's lock does not guard
+    it is an element of an array that is not known to be the section's own
+Kept.readsGiven()I method M5
+  Kept.readsGiven()I at 1 getfield M5: it reads what the section's lock does not guard
+    Kept.takes([I)V at 2 putfield writes the field, not under the lock that guards it
+Kept.readsHeld()I method M5
+  Kept.readsHeld()I at 7 iaload M5: it reads what the section's lock does not guard
+    it is an element of an array that is not known to be the section's own
+Kept.readsLoose()I method M5
+  Kept.readsLoose()I at 5 iaload M5: it reads what the section's lock does not guard
+    it is an element of an array that is not known to be the section's own
+Kept.readsOne(Z)I method M5
+  Kept.readsOne(Z)I at 16 iaload M5: it reads what the section's lock does not guard
+    it is an element of an array that is not known to be the section's own
 """
 # The last sections of Marks where `onKey` returns before its block.
 UNREACHED = """\

@@ -18,7 +18,8 @@ ALOAD_0, ALOAD, ASTORE = b"\x2a", b"\x19", b"\x3a"
 IFEQ, IFNE, IF_ICMPNE, GOTO = b"\x99", b"\x9a", b"\xa0", b"\xa7"
 IRETURN, RETURN, ATHROW, ENTER, LEAVE = b"\xac", b"\xb1", b"\xbf", b"\xc2", b"\xc3"
 GETSTATIC, VIRTUAL, SPECIAL, CALL, NEW = b"\xb2", b"\xb6", b"\xb7", b"\xb8", b"\xbb"
-NEWARRAY = b"\xbc"
+GETFIELD, PUTFIELD, NEWARRAY, IALOAD = b"\xb4", b"\xb5", b"\xbc", b"\x2e"
+PRIVATE = 2
 
 
 class Code:
@@ -151,6 +152,30 @@ def sections(number, methods):
     for method in range(methods):
         file.method(SYNCHRONIZED, f"m{method}", "()I", ICONST_1 + IRETURN)
     return file.content()
+
+
+def array_fields(count, size):
+    """Class A with so many private fields of arrays, which its constructor makes, and for each a
+    synchronized method that reads an element of its array. One more, of code of so many bytes at
+    most, reads elements of all in turn."""
+    file = ClassFile("A")
+    fields = [file.member(9, "A", f"v{number}", "[I") for number in range(count)]
+    code = Code(file)
+    code.put(ALOAD_0)
+    code.initialize()
+    for number, field in enumerate(fields):
+        file.field(PRIVATE, f"v{number}", "[I")
+        code.put(ALOAD_0, ICONST_1, NEWARRAY, u1(10), PUTFIELD, u2(field))
+    code.put(RETURN)
+    code.method(flags=0, name="<init>")
+    reads = [ALOAD_0 + GETFIELD + u2(field) + ICONST_0 + IALOAD for field in fields]
+    for number, read in enumerate(reads):
+        file.method(SYNCHRONIZED, f"m{number}", "()I", read + IRETURN)
+    code = Code(file)
+    for number in range((size - 2) // 7):
+        code.put(reads[number % count], POP)
+    code.put(ICONST_0, IRETURN)
+    return code.method(flags=SYNCHRONIZED, name="all", descriptor="()I")
 
 
 def refused_last(number, methods):

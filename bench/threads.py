@@ -29,6 +29,7 @@ ON_LOCKS = [
     ["Span.class", "--threads", "3"],
     ["Share.class", "--threads", "8"],
     ["Steps.class", "--threads", "8"],
+    ["Rail.class", "--threads", "8"],
     ["Total.class", "--threads", "8"],
     ["Stock.class"],
 ]

@@ -1,4 +1,7 @@
-/** Workers that look up numbers in one hash table, and put one in ten times; a table is an array, so its sections lock. */
+/**
+ * Workers that look up numbers in one hash table of two arrays, and put one in ten times; to look
+ * up needs no lock.
+ */
 public class Table {
     static final int SIZE = 200000;
 

@@ -13,7 +13,9 @@ use machine_types::Act;
 use std::alloc::AllocError;
 use std::process::Abort;
 use std::test::*;
-use test_classes::{CLASS_LOCKS, CLASS_PAIR, DIVIDES_AT_REST, INDEXES_AND_THROWS, SHARED, WAITS};
+use test_classes::{
+    ARRAY_PAIR, CLASS_LOCKS, CLASS_PAIR, DIVIDES_AT_REST, INDEXES_AND_THROWS, SHARED, WAITS,
+};
 
 /// A part, a thread, and how that part of it ended.
 type Ended = (usize, u8, End);
@@ -225,6 +227,28 @@ const CLASS_TORN: [Steps; 14] = [
     (0, Act::Begin, 1, false),
 ];
 
+/// An attempt that reads one element before it is set and the other behind it leaves no step; the
+/// section stands as a whole behind the thread that set both.
+const ARRAY_TORN: [Steps; 16] = [
+    (0, Act::Begin, 1, true),
+    (0, Act::Do, 12, true),
+    (1, Act::Begin, 1, true),
+    (1, Act::Do, 6, true),
+    (2, Act::Begin, 1, true),
+    (2, Act::Do, 6, true),
+    (2, Act::Enter, 1, true),
+    // the monitor is held
+    (1, Act::Enter, 1, false),
+    (2, Act::Do, 11, true),
+    (2, Act::Exit, 1, true),
+    (2, Act::Do, 1, true),
+    (1, Act::Enter, 1, true),
+    (1, Act::Do, 10, true),
+    (1, Act::Exit, 1, true),
+    (1, Act::Do, 3, true),
+    (0, Act::Begin, 1, false),
+];
+
 /// Reads how a part of a thread ended.
 fn check_end(rt: &(impl Abort + AllocGlobal), plain: &Plain, ended: &Ended) {
     let (part, thread, end) = *ended;
@@ -302,4 +326,9 @@ fn shadows_with_the_monitor_of_a_class_do_too(rt: HostRuntime) -> Result<(), Fil
         &RETURNED,
     )?;
     play(&rt, CLASS_PAIR, 2, &CLASS_TORN, &[(1, 8)], &RETURNED)
+}
+
+#[test]
+fn shadows_with_elements_do_too(rt: HostRuntime) -> Result<(), FileError> {
+    play(&rt, ARRAY_PAIR, 2, &ARRAY_TORN, &[(1, 8)], &RETURNED)
 }

@@ -1,7 +1,7 @@
 -- A program of one class without members, on which the tests try a thread.
 use Rattle.std.proofs.{Common.{◌≡◌, ℕ, zero, suc, ◌≤◌, false, List, [], ◌∷◌, take, length, Some, refl, subst, arith, codes, slice_get}, lemmas.Option.slice_get_within}
 use Rattle.jvm_types.specs.{LinkFaults.is_taken, ProgramInvariant.IsProgram, declared.program.Program.Program}
-use Rattle.checked_program.specs.MarkedProgram.{IsMarked}
+use Rattle.checked_program.{specs.{MarkedProgram.IsMarked, TaggedCode.tagged_by}, proofs.OwnedChecks.none_are_read}
 
 abbrev empty : Program
 empty = record { names = codes "A" ∷ []; fields = []; methods = []; heap = 4096; workers = 0 }
@@ -34,5 +34,9 @@ pub empty_is_marked : IsMarked (record { program = record { names = codes "A" �
 empty_is_marked = record {
   checked = record { program = empty_is_program; typings = tt };
   tags = tt;
-  marks = record { uses = []; are_uses = record { long = refl; each = λ fi u e. absurd (nothing_there [] fi u (omega arith) e) }; each = tt };
+  marks = record {
+    uses = record { fields = []; owners = []; elements = [] };
+    are_uses = none_are_read empty (tagged_by []) [] refl refl (record { long = refl; each = λ fi u e. absurd (nothing_there [] fi u (omega arith) e) });
+    each = tt;
+  };
 }

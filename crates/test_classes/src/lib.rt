@@ -27,7 +27,9 @@ pub use overflows::{
     OVERFLOWS_TWICE,
 };
 pub use pairs::{SHARED, SHARED_AND_DONE, TWICE, UNLOCKED};
-pub use sections::{CLASS_LOCKS, STORES_THIS, calls, counts_up, marks, stores_this, ticks};
+pub use sections::{
+    ARRAY_PAIR, CLASS_LOCKS, STORES_THIS, calls, counts_up, kept, marks, stores_this, ticks,
+};
 pub use single::{
     ADDS_TWICE, ALL_PARTS, CALLS_ITSELF, CATCHES_BY_CLASS, COMPUTES, DIVIDES_BY_ZERO,
     INDEXES_AND_THROWS, KEEPS_LOW_BIT, LEAVES_BY_EXCEPTION, MAKES_ARRAY, MEASURES_NULL, MOVES,
