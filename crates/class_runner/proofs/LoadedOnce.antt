@@ -1,6 +1,7 @@
 -- Some files are loaded to one program, and no such files are refused.
-use Rattle.std.proofs.Common.{◌≡◌, ℕ, suc, ◌+◌, inl, inr, List, [], ◌∷◌, length, Option, Some, None, Result, Ok, Err, IfOk, IfErr, refl, sym, subst, ap, ◌∙◌}
+use Rattle.std.proofs.Common.{◌≡◌, ℕ, suc, ◌+◌, inl, inr, List, [], ◌∷◌, length, Some, None, Result, Ok, Err, IfOk, IfErr, refl, sym, subst, ap, ◌∙◌}
 use Rattle.std.{specs.List.{AllZip, AllByRecursion, zip}, proofs.lemmas.Slice.Zip.AllZip-long}
+use Rattle.std.proofs.lemmas.Option.{none-some}
 use Rattle.jvm_types.specs.{ClassGrammar.{IsClass, Spells}, LinkFaults.{LinkFault, link_fault, IsLinked}, Linkable.IsDecoded, Linked.{code_of, scope_of, linked_methods, program_of}}
 use Rattle.jvm_types.specs.{Members.{Declared, declared_methods}, ReadingClass.{fault_of, class_fault}, Targets.Scope, Verifying.{IsTypingOf, IsRefused}, declared.class_file.ClassFile.ClassFile}
 use Rattle.jvm_types.specs.declared.{code.Insn.Insn, program.{MethodInfo.MethodInfo, Program.Program}, refusal.{Place.Place, Rule.TheVariants.{C, K, L, V, S, A}, SRule.SRule, VRule.VRule}}
@@ -80,9 +81,6 @@ loaded_once files heap workers c d a b =
 
 -- ---- files that are accepted are not refused
 
-pub never_both : {X : Type 0} (o : Option X) (x : X) → o ≡ None → o ≡ Some x → ⊥
-never_both o x e h = absurd cc
-
 is_faultless : (bytes : List ℕ) (c : ClassFile) → Spells bytes c → class_fault bytes ≡ None
 unfolding class_fault
 is_faultless bytes c h = ap (fault_of (length bytes)) (read_if_spelled bytes c h)
@@ -117,7 +115,7 @@ none_untagged p ds ms ts rule place h k = none_refused (IsTaggingOf p) (IsTagRef
 never_linked : (files : List (List ℕ)) (heap workers : ℕ) (w : IsAccepted files heap workers) (cs : List ClassFile) (code : List (List Insn)) (fault : LinkFault) → AreRead files cs code → link_fault cs code heap workers ≡ Some fault → ⊥
 never_linked files heap workers w cs code fault read refused =
     let same = read_once files w.classes cs w.code code w.read read in
-    never_both (link_fault w.classes w.code heap workers) fault w.passed.linked.unrefused ((λ i. link_fault (same.0 i) (same.1 i) heap workers) ∙ refused)
+    none-some fault (sym w.passed.linked.unrefused ∙ (λ i. link_fault (same.0 i) (same.1 i) heap workers) ∙ refused)
 
 -- files that pass are linked to one program
 pub passed_program : (files : List (List ℕ)) (heap workers : ℕ) (w : IsAccepted files heap workers) (cs : List ClassFile) (code : List (List Insn)) (p : Program) → AreRead files cs code → IsLinked cs code heap workers p → (w.classes ≡ cs) × (w.program ≡ p)
@@ -139,10 +137,10 @@ pub accepted : LoadedAccepted
 accepted files heap workers c l = record { classes = l.classes; code = l.code; program = c.program; typings = c.typings; tags = c.tags; read = l.read; passed = l.checked.passed }
 
 pub never_refused : AcceptedNotRefused
-never_refused files heap workers (C rule) place w r = never_both (read_fault 0 files) (C rule, place) (no_read_fault 0 files w.classes w.read.spelled) r
+never_refused files heap workers (C rule) place w r = none-some (C rule, place) (sym (no_read_fault 0 files w.classes w.read.spelled) ∙ r)
 never_refused files heap workers (K rule) place w (classes, spelled, fault) =
     let same : w.classes ≡ classes = classes_once files w.classes classes w.read.spelled spelled in
-    never_both (decode_fault (declared_methods w.classes)) (K rule, place) (no_decode_fault (declared_methods w.classes) w.code w.read.decoded) (ap (λ (cs : List ClassFile). decode_fault (declared_methods cs)) same ∙ fault)
+    none-some (K rule, place) (sym (no_decode_fault (declared_methods w.classes) w.code w.read.decoded) ∙ ap (λ (cs : List ClassFile). decode_fault (declared_methods cs)) same ∙ fault)
 never_refused files heap workers (L rule) place w u = never_linked files heap workers w u.classes u.code (rule, place) u.read u.fault
 never_refused files heap workers (V rule) place w r = never_untyped files heap workers rule place w r
 never_refused files heap workers (S rule) place w r = never_untagged files heap workers rule place w r

@@ -1,5 +1,6 @@
 -- One rule refuses some files, at one place.
 use Rattle.std.{proofs.Common.{◌≡◌, ℕ, inl, inr, List, [], ◌∷◌, Option, Some, None, refl, sym, subst, ap, ◌∙◌}, specs.List.AllZip}
+use Rattle.std.proofs.lemmas.Option.{none-some}
 use Rattle.jvm_types.specs.{ClassGrammar.Spells, LinkFaults.{LinkFault, link_fault, in_file, in_method, IsLinked}, Members.{Declared, declared_methods}, Verifying.{IsTypingOf, IsRefused}}
 use Rattle.jvm_types.specs.declared.{class_file.ClassFile.ClassFile, code.Insn.Insn, program.{MethodInfo.MethodInfo, Program.Program}, refusal.{CRule.CRule, KRule.KRule, LRule.LRule, Place.Place}}
 use Rattle.jvm_types.specs.declared.refusal.{Rule.{Rule, TheVariants.{C, K, L, V, S, A}}, SRule.SRule, VRule.VRule}
@@ -7,7 +8,7 @@ use Rattle.laws_programs.proofs.OneTyping.{no_refusal, one_refusal}
 use Rattle.checked_program.specs.{CheckedProgram.AreTypings, Tagging.{IsTaggingOf, IsTagRefused}}
 use Rattle.laws_sections.proofs.TagAnswers.{no_refusal as no_tag_refusal, one_refusal_all}
 use Rattle.class_runner.specs.Loading.{AreRead, IsFirstRefused, IsFirstUntyped, IsFirstUntagged, IsUnlinked, IsUntyped, IsUntagged, IsRefusedBy, read_fault, decode_fault}
-use Rattle.class_runner.{specs.LoadingLaws.FilesHaveOneRefusal, proofs.LoadedOnce.{classes_once, read_once, same_program, never_both, no_read_fault, no_decode_fault, none_untyped}}
+use Rattle.class_runner.{specs.LoadingLaws.FilesHaveOneRefusal, proofs.LoadedOnce.{classes_once, read_once, same_program, no_read_fault, no_decode_fault, none_untyped}}
 
 abbrev Same : Rule → Rule → Place → Place → Type 0
 Same rule other place at = (rule ≡ other) × (place ≡ at)
@@ -46,18 +47,18 @@ read_at_s : (files : List (List ℕ)) (heap workers : ℕ) (rule : SRule) (place
 read_at_s files heap workers rule place u = record { classes = u.classes; code = u.code; read = u.read }
 
 never_c : (files classes : _) (rule : CRule) (place : Place) → AllZip Spells files classes → read_fault 0 files ≡ Some (C rule, place) → ⊥
-never_c files classes rule place spelled r = never_both (read_fault 0 files) (C rule, place) (no_read_fault 0 files classes spelled) r
+never_c files classes rule place spelled r = none-some (C rule, place) (sym (no_read_fault 0 files classes spelled) ∙ r)
 
 never_k : (files : List (List ℕ)) (heap workers : ℕ) (rule : KRule) (place : Place) → WereRead files → IsRefusedBy files heap workers (K rule) place → ⊥
 never_k files heap workers rule place w (classes, spelled, found) =
     let same : w.classes ≡ classes = classes_once files w.classes classes w.read.spelled spelled in
-    never_both (decode_fault (declared_methods w.classes)) (K rule, place) (no_decode_fault (declared_methods w.classes) w.code w.read.decoded) (ap (λ (cs : List ClassFile). decode_fault (declared_methods cs)) same ∙ found)
+    none-some (K rule, place) (sym (no_decode_fault (declared_methods w.classes) w.code w.read.decoded) ∙ ap (λ (cs : List ClassFile). decode_fault (declared_methods cs)) same ∙ found)
 
 -- files that are linked are not refused in linking
 never_unlinked : (files : List (List ℕ)) (heap workers : ℕ) (rule : LRule) (place : Place) (cs : List ClassFile) (code : List (List Insn)) (p : Program) → AreRead files cs code → IsLinked cs code heap workers p → IsUnlinked files heap workers rule place → ⊥
 never_unlinked files heap workers rule place cs code p read linked u =
     let same = read_once files cs u.classes code u.code read u.read in
-    never_both (link_fault cs code heap workers) (rule, place) linked.unrefused ((λ i. link_fault (same.0 i) (same.1 i) heap workers) ∙ u.fault)
+    none-some (rule, place) (sym linked.unrefused ∙ (λ i. link_fault (same.0 i) (same.1 i) heap workers) ∙ u.fault)
 
 never_v : (files : List (List ℕ)) (heap workers : ℕ) (rule : LRule) (other : VRule) (place at : Place) → IsUnlinked files heap workers rule place → IsUntyped files heap workers other at → ⊥
 never_v files heap workers rule other place at unlinked u = never_unlinked files heap workers rule place u.classes u.code u.program u.read u.linked unlinked

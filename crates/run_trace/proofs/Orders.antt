@@ -1,8 +1,8 @@
 -- The next number of an order: a live worker has its turn, and any other is passed over.
 use Rattle.std.proofs.Common.{◌≡◌, ◌<◌, ◌≤◌, ℕ, zero, suc, ◌+◌, Bool, true, false, List, [], ◌∷◌, length, refl, ap, ◌∙◌, arith, drop, ◌&&◌, nat_lt, slice_index_or, if◌then◌else◌}
+use Rattle.std.proofs.lemmas.List.{drop_more}
 use Rattle.machine_types.specs.{Core.{Core, Of, lives}, Schedules.{Ordered, is_live_worker, ordered, turn_of}}
 use Rattle.laws_states.proofs.OrdersRun.{second_of}
-use Rattle.replay_runner.proofs.Turns.{drop_next}
 
 pub drop_over : (xs : List ℕ) (i : ℕ) → length xs ≤ i → drop i xs ≡ []
 drop_over [] zero h = refl
@@ -12,7 +12,7 @@ drop_over (x ∷ xs) (suc i) h = drop_over xs i (omega (arith, h))
 
 module _ (s : Core) (order : List ℕ) (place t : ℕ) (there : place < length order) (is : slice_index_or order place 0 ≡ t) where
   here : drop place order ≡ t ∷ drop (place + 1) order
-  here = drop_next order place there ∙ ap (λ (u : ℕ). u ∷ drop (place + 1) order) is
+  here = drop_more order place 0 there ∙ ap (λ (u : ℕ). u ∷ drop (place + 1) order) is
 
   pub has_turn : is_live_worker s t ≡ true → ordered s (drop place order) ≡ turn_of (Of t) (Ordered (drop (place + 1) order))
   has_turn live = ap (ordered s) here ∙ ap (λ (b : Bool). if b then turn_of (Of t) (Ordered (drop (place + 1) order)) else ordered s (drop (place + 1) order)) live

@@ -1,8 +1,8 @@
 -- What a mode takes: files that it takes are not refused in it, and what it makes it makes of files that it takes.
-use Rattle.std.{proofs.Common.{◌≡◌, ℕ, List, [], ◌∷◌, Some, None, sym, subst, ap, ◌∙◌}, specs.List.AllZip}
+use Rattle.std.{proofs.{Common.{◌≡◌, ℕ, List, [], ◌∷◌, Some, None, sym, subst, ap, ◌∙◌}, lemmas.Option.none-some}, specs.List.AllZip}
 use Rattle.jvm_types.specs.{ClassGrammar.Spells, declared.{class_file.ClassFile.ClassFile, refusal.{Place.Place, Rule.Rule}}}
 use Rattle.asm_text.specs.ClassLines.{Lists}
-use Rattle.class_runner.{specs.Loading.{IsRefusedBy, read_fault}, proofs.LoadedOnce.{accepted, never_both, never_refused, no_read_fault}}
+use Rattle.class_runner.{specs.Loading.{IsRefusedBy, read_fault}, proofs.LoadedOnce.{accepted, never_refused, no_read_fault}}
 use Rattle.command_words.specs.{Command.Asked, declared.request.Mode.Mode}
 use Rattle.solero.specs.{Answer.{IsAcceptedIn, IsLoadAccepted, IsLoadRefused, IsMadeIn, IsRefusedIn, IsRefusedText, class_of_load}, declared.answer.Due.{Due, TheVariants.{Output, Report}}}
 use Rattle.jvm_types.specs.declared.refusal.Rule.TheVariants as rules
@@ -28,7 +28,10 @@ no_refused_load asked rule place taken refused =
 
 pub taken_not_refused : (mode : Mode) (asked : Asked) (contents : List (List ℕ)) (rule : Rule) (place : Place) → IsAcceptedIn mode asked contents → IsRefusedIn mode asked contents rule place → ⊥
 taken_not_refused (modes.Program task) asked contents rule place taken refused = never_refused contents asked.heap asked.threads rule place taken refused
-taken_not_refused modes.List asked contents rule place taken refused = never_both (read_fault 0 contents) (rule, place) taken refused
+taken_not_refused modes.List asked contents rule place taken refused =
+    let none : read_fault 0 contents ≡ None = taken in
+    let some : read_fault 0 contents ≡ Some (rule, place) = refused in
+    none-some (rule, place) (sym none ∙ some)
 taken_not_refused modes.Assemble asked contents rule place taken refused = no_refused_text contents taken.0 rule place taken.1 refused
 taken_not_refused modes.Load asked contents rule place taken refused = no_refused_load asked rule place taken refused
 taken_not_refused modes.Cell asked contents rule place taken refused = refused

@@ -8,10 +8,6 @@ got_longer [] ys i x e = let bad : None ≡ Some x = e in absurd (cc)
 got_longer (z ∷ zs) ys zero x e = e
 got_longer (z ∷ zs) ys (suc i) x e = got_longer zs ys i x e
 
-got_end : {A : Type 0} (xs : List A) (x : A) → slice_get (xs ++ x ∷ []) (length xs) ≡ Some x
-got_end [] x = refl
-got_end (z ∷ zs) x = got_end zs x
-
 pub at_most_last : (o : Record) (h : History) (r : Record) → RecordStands o h r → r.count ≤ last_count o h
 at_most_last o h r s = let lt : s.place < suc (length h) = slice_get_within (o.values ∷ h) s.place r.values s.values in let c = s.count in omega arith
 
@@ -45,6 +41,10 @@ new_last o h xs c e =
       count = omega (arith, n, e);
       values = ap (slice_get (o.values ∷ (h ++ xs ∷ []))) n ∙ got_end (o.values ∷ h) xs;
     }
+  where
+    got_end : (ys : List (List ℕ)) (y : List ℕ) → slice_get (ys ++ y ∷ []) (length ys) ≡ Some y
+    got_end [] y = refl
+    got_end (z ∷ zs) y = got_end zs y
 
 -- ---- lists of records
 

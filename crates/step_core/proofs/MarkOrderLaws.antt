@@ -4,7 +4,7 @@ use Rattle.std.proofs.Common.{◌≡◌, ℕ, zero, suc, ◌+◌, ◌<◌, ◌�
 use Rattle.std.{specs.List.AllZip, proofs.{Math.Seq.take-length, lemmas.{Bool.{ne_eqb, Decides.nat_tests}, List.length-drop, Option.slice_get-get_or}}}
 use Rattle.jvm_types.specs.{CodeGrammar.SpellsInsns, Members.is_synchronized, declared.{code.{Insn.Insn, Op.Op}, program.{MethodInfo.MethodInfo, Program.Program}}}
 use Rattle.checked_program.specs.{MarkedProgram.{MarkedProgram, IsMarked}, Marks.IsMarkOf, Sections.{Section, block_at, sections_from}, TaggedCode.{Tagged, tagged_by}}
-use Rattle.checked_program.specs.declared.section.{FieldUse.FieldUse, SectionMark.SectionMark, Spot.{Spot, TheVariants.{Method, Block}}}
+use Rattle.checked_program.specs.declared.section.{SectionMark.SectionMark, Spot.{Spot, TheVariants.{Method, Block}}, Uses.Uses}
 use Rattle.machine_types.specs.Sections.{is_marked, is_same_spot}
 use Rattle.step_core.specs.MarkOrder.{AscendFrom, IsFrom, rank, stands_before}
 use Rattle.jvm_types.specs.declared.code.Op.TheVariants as ops
@@ -52,7 +52,7 @@ block_is : (pc : ℕ) (op : Op) → (block_at pc op ≡ None) ⊎ (block_at pc o
 block_is pc ops.Monitorenter = inr refl
 block_is pc op = inl refl
 
-module _ (p : Program) (tags : Tagged) (uses : List FieldUse) where
+module _ (p : Program) (tags : Tagged) (uses : Uses) where
   abbrev section_in : ℕ → Spot → Section
   section_in mi spot = record { method = mi; spot = spot }
 
