@@ -3,8 +3,8 @@ use Rattle.std.proofs.Common.{◌≡◌, ℕ, Bool, List, Option, Some, None, Ok
 use Rattle.jvm_types.specs.declared.refusal.{Place.Place, Rule.Rule}
 use Rattle.host_io.specs.{Reading.{contents_of, first_long}, declared.shelf.NamedFile.NamedFile}
 use Rattle.command_words.specs.Command.{Asked}
-use Rattle.solero.specs.{Answer.{AreAccepted, IsAcceptedIn, IsDue, IsRefusalInMode, status_of}, Delivery.Delivers, declared.answer.Due.Due}
-use Rattle.solero.specs.declared.{answer.Due.TheVariants.{Report, Output, Usage, Refusal, CannotRead, OutOfMemory}, finish.Finish.TheVariants.{Returned, Uncaught, Limited}}
+use Rattle.program_answers.specs.{Answers.status_of, declared.answer.Due.{Due, TheVariants.{Report, Output, Usage, Refusal, CannotRead, OutOfMemory}}, declared.finish.Finish.TheVariants.{Returned, Uncaught, Limited}}
+use Rattle.solero.specs.Answer.{AreAccepted, Delivers, IsAcceptedIn, IsDue, IsRefusalInMode}
 use Rattle.solero.proofs.Modes.{taken_not_refused}
 
 pub no_refusal : (asked : Asked) (contents : List (List ℕ)) (rule : Rule) (place : Place) → first_long 0 contents ≡ None → IsAcceptedIn asked.mode asked contents → IsRefusalInMode (first_long 0 contents) asked contents rule place → ⊥

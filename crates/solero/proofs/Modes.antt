@@ -4,7 +4,8 @@ use Rattle.jvm_types.specs.{ClassGrammar.Spells, declared.{class_file.ClassFile.
 use Rattle.asm_text.specs.ClassLines.{Lists}
 use Rattle.class_runner.{specs.Loading.{IsRefusedBy, read_fault}, proofs.LoadedOnce.{accepted, never_refused, no_read_fault}}
 use Rattle.command_words.specs.{Command.Asked, declared.request.Mode.Mode}
-use Rattle.solero.specs.{Answer.{IsAcceptedIn, IsLoadAccepted, IsLoadRefused, IsMadeIn, IsRefusedIn, IsRefusedText, class_of_load}, declared.answer.Due.{Due, TheVariants.{Output, Report}}}
+use Rattle.program_answers.specs.declared.answer.Due.{Due, TheVariants.{Output, Report}}
+use Rattle.solero.specs.Answer.{IsAcceptedIn, IsLoadAccepted, IsLoadRefused, IsMadeIn, IsRefusedIn, IsRefusedText, class_of_load}
 use Rattle.jvm_types.specs.declared.refusal.Rule.TheVariants as rules
 use Rattle.command_words.specs.declared.request.Mode.TheVariants as modes
 

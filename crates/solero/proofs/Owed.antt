@@ -1,12 +1,12 @@
 -- What is owed to files that were read, and where one was not.
-use Rattle.std.proofs.Common.{◌≡◌, ℕ, ◌≤◌, Bool, List, Option, Some, None, refl, inl, inr, arith}
+use Rattle.std.proofs.Common.{◌≡◌, ℕ, Bool, List, Option, Some, None, refl, arith}
 use Rattle.jvm_types.specs.{LinkFaults.in_file, declared.{limits.TheConstants.MOST_FILE_BYTES, refusal.{CRule.TheVariants.C10, Place.Place, Rule.Rule}}}
 use Rattle.checked_program.specs.MarkedProgram.{MarkedProgram}
 use Rattle.run_texts.specs.Refusal.{refusal_text}
-use Rattle.host_io.specs.{Faults.CountsFault, Reading.{IsUnread, first_long}, declared.shelf.{NamedFile.NamedFile, ShelfError.{ShelfError, TheVariants.{Memory, Failed, TooLong}}}}
+use Rattle.host_io.specs.{Reading.{IsUnread, first_long}, declared.shelf.{NamedFile.NamedFile, ShelfError.{ShelfError, TheVariants.{Memory, Failed, TooLong}}}}
 use Rattle.command_words.specs.{Command.Asked, declared.request.{Mode.Mode, Task.{Task, TheVariants.{Replay, Run, Record, Mark}}}}
-use Rattle.solero.specs.{Answer.{IsDue, IsMadeBy, IsMadeIn, IsRefusedIn, Refuses}, Parts.{IsRefusalLine, IsContentsDue, IsUnreadDue}, declared.answer.Due.Due}
-use Rattle.solero.specs.declared.answer.Due.TheVariants.{Report, Output, Usage, Refusal, CannotRead, OutOfMemory}
+use Rattle.program_answers.{specs.declared.answer.Due.{Due, TheVariants.{Report, Output, Usage, Refusal, CannotRead, OutOfMemory}}, proofs.Faults.at_least}
+use Rattle.solero.specs.{Answer.{IsDue, IsMadeBy, IsMadeIn, IsRefusedIn, Refuses}, Parts.{IsRefusalLine, IsContentsDue, IsUnreadDue}}
 use Rattle.jvm_types.specs.declared.refusal.Rule.TheVariants as rules
 use Rattle.command_words.specs.declared.request.Mode.TheVariants as modes
 
@@ -50,10 +50,6 @@ long_refused asked contents file text long line = record {
   is_line = line;
 }
 
-at_least : (before after : ℕ) → CountsFault before after → before ≤ after
-at_least before after (inl rose) = omega arith
-at_least before after (inr full) = omega arith
-
 -- what is due where a file was not read is due to the names
 pub unread_due : (files : Option (List NamedFile)) (unreadable : Option (List ℕ → Bool)) (asked : Asked) (before after file : ℕ) (error : ShelfError) (due : Due) → IsUnread files unreadable asked.files before after file error → IsUnreadDue file error due → IsDue (Some asked) files unreadable before after due
 unread_due files unreadable asked before after file TooLong (Refusal text) unread line = (unread.0, record { contents = unread.1.contents; are = unread.1.are; many = unread.1.many; refuses = long_refused asked unread.1.contents file text unread.1.first line })
@@ -61,4 +57,5 @@ unread_due files unreadable asked before after file Failed (CannotRead text) unr
 unread_due files unreadable asked before after file TooLong OutOfMemory unread line = omega arith
 unread_due files unreadable asked before after file Failed OutOfMemory unread line = at_least before after unread.0
 unread_due files unreadable asked before after file Memory OutOfMemory unread line = unread
+unread_due files unreadable asked before after file Memory due unread line = absurd cc
 unread_due files unreadable asked before after file error due unread line = absurd line

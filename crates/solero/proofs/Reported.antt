@@ -7,7 +7,8 @@ use Rattle.run_parts.specs.Ended.{IsEndOfRun}
 use Rattle.record_run.specs.Recordings.{IsRecorded}
 use Rattle.run_texts.specs.{LoadText.summary_text, OrderText.order_line, Report.report_text}
 use Rattle.command_words.specs.Command.{Asked}
-use Rattle.solero.specs.{Answer.{ReportsOver, ReportsRecord, SumsUp, text_with_prints}, Finish.finish_of, declared.finish.Finish.Finish}
+use Rattle.program_answers.specs.{Finish.finish_of, declared.finish.Finish.Finish}
+use Rattle.solero.specs.Answer.{ReportsOver, ReportsRecord, SumsUp, text_with_prints}
 
 -- whatever happens in it, a run stands for one of the plain machine
 abbrev pub ArePlain : MarkedProgram → Config → Type 0

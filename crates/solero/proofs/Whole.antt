@@ -1,13 +1,9 @@
 -- What is answered where nothing outside fails: files that are accepted in full, and others by their refusal.
-use Rattle.std.proofs.Common.{◌≡◌, ℕ, Bool, inl, inr, List, Option, Some, Ok, Err, arith, ◌⊎◌}
-use Rattle.host_io.{specs.{Faults.CountsFault, Reading.contents_of, declared.shelf.NamedFile.NamedFile}, proofs.SoFar.none_long}
+use Rattle.std.proofs.Common.{◌≡◌, ℕ, Bool, inl, inr, List, Option, Some, Ok, Err, ◌⊎◌}
+use Rattle.host_io.{specs.{Reading.contents_of, declared.shelf.NamedFile.NamedFile}, proofs.SoFar.none_long}
 use Rattle.command_words.specs.Command.{Asked}
-use Rattle.solero.specs.{Answer.{AreAccepted, IsDue, IsMadeOf, status_of}, Delivery.Delivers, Whole.{AnswersWhole, IsCalm, IsOwed, IsOwedRefusal}, declared.answer.Due.Due}
-use Rattle.solero.{specs.declared.answer.Due.TheVariants.{Report, Output, Usage, Refusal, CannotRead, OutOfMemory}, proofs.{Accepted.no_refusal, Modes.made_of_taken}}
-
-no_fault : (before after : ℕ) → IsCalm before after → CountsFault before after → ⊥
-no_fault before after calm (inl rose) = omega (arith, calm.0, rose)
-no_fault before after calm (inr still) = omega (arith, calm.1, still.1)
+use Rattle.program_answers.{specs.{Answers.status_of, declared.answer.Due.{Due, TheVariants.{Report, Output, Usage, Refusal, CannotRead, OutOfMemory}}}, proofs.Faults.no_fault}
+use Rattle.solero.{specs.{Answer.{AreAccepted, Delivers, IsDue, IsMadeOf}, Whole.{AnswersWhole, IsCalm, IsOwed, IsOwedRefusal}}, proofs.{Accepted.no_refusal, Modes.made_of_taken}}
 
 -- ---- files that are accepted
 
@@ -15,7 +11,7 @@ owed : (asked : Asked) (files : List NamedFile) (unreadable : Option (List ℕ �
 owed asked files unreadable before after (Report finish text) due accepted calm = due.1
 owed asked files unreadable before after (Output text) due accepted calm = due.1
 owed asked files unreadable before after Usage due accepted calm = absurd due
-owed asked files unreadable before after (CannotRead text) due accepted calm = absurd (no_fault before after calm due.0)
+owed asked files unreadable before after (CannotRead text) due accepted calm = absurd (no_fault before after calm.0 calm.1 due.0)
 owed asked files unreadable before after OutOfMemory due accepted calm = tt
 owed asked files unreadable before after (Refusal text) due accepted calm =
     let r = due.1.refuses in
@@ -25,7 +21,7 @@ pub whole : (asked : Asked) (files : List NamedFile) (unreadable : Option (List 
     → AreAccepted files asked → IsCalm before after → IsCalm from to → AnswersWhole (IsOwed asked files) told now status
 whole asked files unreadable before after due told now from to status is (Ok done, written, answered) accepted shelf sink =
     record { due = due; owed = owed asked files unreadable before after due is accepted shelf; written = written.1; answered = answered }
-whole asked files unreadable before after due told now from to status is (Err e, written, answered) accepted shelf sink = absurd (no_fault from to sink written.0)
+whole asked files unreadable before after due told now from to status is (Err e, written, answered) accepted shelf sink = absurd (no_fault from to sink.0 sink.1 written.0)
 
 -- ---- files that are not
 
@@ -40,7 +36,7 @@ owed_refusal : (asked : Asked) (files : List NamedFile) (unreadable : Option (Li
 owed_refusal asked files unreadable before after (Report finish text) due not_so calm = absurd (not_so (made_of_accepted asked files (Report finish text) due.1))
 owed_refusal asked files unreadable before after (Output text) due not_so calm = absurd (not_so (made_of_accepted asked files (Output text) due.1))
 owed_refusal asked files unreadable before after Usage due not_so calm = absurd due
-owed_refusal asked files unreadable before after (CannotRead text) due not_so calm = absurd (no_fault before after calm due.0)
+owed_refusal asked files unreadable before after (CannotRead text) due not_so calm = absurd (no_fault before after calm.0 calm.1 due.0)
 owed_refusal asked files unreadable before after OutOfMemory due not_so calm = tt
 owed_refusal asked files unreadable before after (Refusal text) due not_so calm = due.1
 
@@ -48,7 +44,7 @@ pub refused_whole : (asked : Asked) (files : List NamedFile) (unreadable : Optio
     → ¬ AreAccepted files asked → IsCalm before after → IsCalm from to → AnswersWhole (IsOwedRefusal asked files) told now status
 refused_whole asked files unreadable before after due told now from to status is (Ok done, written, answered) not_so shelf sink =
     record { due = due; owed = owed_refusal asked files unreadable before after due is not_so shelf; written = written.1; answered = answered }
-refused_whole asked files unreadable before after due told now from to status is (Err e, written, answered) not_so shelf sink = absurd (no_fault from to sink written.0)
+refused_whole asked files unreadable before after due told now from to status is (Err e, written, answered) not_so shelf sink = absurd (no_fault from to sink.0 sink.1 written.0)
 
 -- ---- the status of a refusal
 

@@ -30,40 +30,31 @@ use Rattle.run_texts.specs.OrderText.{order_line}
 use Rattle.run_texts.specs.Report.{counts_lines, end_lines, line, report_text}
 use Rattle.run_texts.specs.Refusal.{refusal_text}
 use Rattle.run_texts.specs.MarksText.{marks_text}
-use Rattle.run_texts.specs.Unread.{unread_line}
 use Rattle.class_runner.specs.Loading.{IsAccepted, IsLoaded, IsRefusedBy, read_fault}
 use Rattle.command_words.specs.Command.{Asked}
-use Rattle.solero.specs.Finish.{cell_finish, finish_of}
 use Rattle.host_io.specs.Faults.{CountsFault}
-use Rattle.host_io.specs.Reading.{CannotBeRead, contents_of, first_long}
+use Rattle.host_io.specs.Reading.{contents_of, first_long}
 use Rattle.host_io.specs.declared.shelf.NamedFile.{NamedFile}
-use Rattle.solero.specs.declared.finish.Finish.{Finish}
-use Rattle.solero.specs.declared.finish.Finish.TheVariants.{Returned, Uncaught, Limited}
+use Rattle.program_answers.specs.Delivery.{IsDelivered}
+use Rattle.program_answers.specs.Finish.{finish_of}
+use Rattle.program_answers.specs.Unread.{SaysUnread}
+use Rattle.program_answers.specs.declared.finish.Finish.{Finish}
+use Rattle.program_answers.specs.declared.finish.Finish.TheVariants.{Returned, Limited}
 use Rattle.command_words.specs.declared.request.Mode.{Mode}
 use Rattle.command_words.specs.declared.request.Mode.TheVariants as modes
 use Rattle.command_words.specs.declared.request.Task.{Task}
 use Rattle.command_words.specs.declared.request.Task.TheVariants.{Replay, Run, Record, Mark}
-use Rattle.solero.specs.declared.answer.Due.{Due}
-use Rattle.solero.specs.declared.answer.Due.TheVariants.{Report, Output, Usage, Refusal, CannotRead}
-use Rattle.solero.specs.declared.answer.Due.TheVariants.{OutOfMemory}
+use Rattle.program_answers.specs.declared.answer.Due.{Due}
+use Rattle.program_answers.specs.declared.answer.Due.TheVariants.{Report, Output, Usage, Refusal}
+use Rattle.program_answers.specs.declared.answer.Due.TheVariants.{CannotRead, OutOfMemory}
 
-abbrev pub status_of : Due → ℕ
-status_of (Report Returned text) = 0
-status_of (Report Uncaught text) = 1
-status_of (Report Limited text) = 7
-status_of (Output text) = 0
-status_of Usage = 2
-status_of (Refusal text) = 3
-status_of (CannotRead text) = 4
-status_of OutOfMemory = 6
+-- the line of use
+abbrev pub usage_line : List ℕ
+usage_line = line (codes "usage: solero [options] FILE...")
 
-abbrev pub due_text : Due → List ℕ
-due_text (Report finish text) = text
-due_text (Output text) = text
-due_text Usage = line (codes "usage: solero [options] FILE...")
-due_text (Refusal text) = text
-due_text (CannotRead text) = text
-due_text OutOfMemory = line (codes "out of memory")
+-- the text due is written, and its status answered; or the sink failed, and 5 is answered
+abbrev pub Delivers : Option (List ℕ) → Option (List ℕ) → ℕ → ℕ → Due → ℕ → Type 0
+Delivers = IsDelivered usage_line
 
 -- ---- what is made of a program
 
@@ -194,6 +185,10 @@ IsLoadRefused asked rule place =
 
 -- ---- a cell
 
+-- a worker stops at the limit of failed turns
+abbrev pub cell_finish : (stopped : ℕ) → Finish
+cell_finish stopped = if nat_lt 0 stopped then Limited else Returned
+
 -- the text reports a run of a cell with the workers, rounds and limit of failed turns that are
 -- asked for, and how it finished
 pub record IsCellReport (asked : Asked) (finish : Finish) (text : List ℕ) : Type 0 where
@@ -275,13 +270,6 @@ pub record RefusesFiles (files : Option (List NamedFile)) (asked : Asked) (text 
   pub are : IfSome files (λ fs. contents ≡ contents_of fs asked.files)
   pub many : length contents ≡ length asked.files
   pub refuses : Refuses asked contents text
-
--- the line of such a file
-pub record SaysUnread (files : Option (List NamedFile)) (unreadable : Option (List ℕ → Bool))
-    (names : List (List ℕ)) (text : List ℕ) : Type 0 where
-  pub file : ℕ
-  pub unread : CannotBeRead files unreadable names file
-  pub is_line : text ≡ unread_line file
 
 -- What is due to the words, of which None are not read, and to the files. The shelf tells its
 -- files, and which it can't read, or None of these. Its count of faults goes from before to after.

@@ -1,5 +1,3 @@
-pub mod Delivery
-pub mod Finish
 pub mod Answer
 pub mod Parts
 pub mod Whole

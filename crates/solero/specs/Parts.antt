@@ -6,15 +6,15 @@ use Rattle.jvm_types.specs.declared.refusal.CRule.TheVariants.{C10}
 use Rattle.class_runner.specs.declared.loading.FileError.{FileError}
 use Rattle.class_runner.specs.declared.loading.FileError.TheVariants as errors
 use Rattle.run_texts.specs.Refusal.{refusal_text}
-use Rattle.run_texts.specs.Unread.{unread_line}
 use Rattle.command_words.specs.Command.{Asked}
+use Rattle.program_answers.specs.Unread.{IsUnreadLine}
 use Rattle.solero.specs.Answer.{IsLoadRefused, IsMadeIn, IsRefusedIn, IsRefusedText, Refuses}
 use Rattle.jvm_types.specs.declared.limits.TheConstants.{MOST_FILE_BYTES}
 use Rattle.host_io.specs.declared.shelf.ShelfError.{ShelfError}
-use Rattle.host_io.specs.declared.shelf.ShelfError.TheVariants.{Failed, TooLong}
+use Rattle.host_io.specs.declared.shelf.ShelfError.TheVariants.{Memory, Failed, TooLong}
 use Rattle.command_words.specs.declared.request.Mode.{Mode}
-use Rattle.solero.specs.declared.answer.Due.{Due}
-use Rattle.solero.specs.declared.answer.Due.TheVariants.{Refusal, CannotRead, OutOfMemory}
+use Rattle.program_answers.specs.declared.answer.Due.{Due}
+use Rattle.program_answers.specs.declared.answer.Due.TheVariants.{Refusal, OutOfMemory}
 
 -- the line of a refusal, or want of memory
 abbrev pub IsRefusalLine : List ℕ → Due → Type 0
@@ -26,9 +26,8 @@ IsRefusalLine refusal due = ⊥
 abbrev pub IsUnreadDue : ℕ → ShelfError → Due → Type 0
 IsUnreadDue file TooLong due =
     IsRefusalLine (refusal_text (rules.C C10) (in_file file MOST_FILE_BYTES)) due
-IsUnreadDue file Failed (CannotRead text) = text ≡ unread_line file
-IsUnreadDue file error OutOfMemory = Unit {0}
-IsUnreadDue file error due = ⊥
+IsUnreadDue file Failed due = IsUnreadLine file due
+IsUnreadDue file Memory due = due ≡ OutOfMemory
 
 -- what is due to the contents of the files, none of which is too long
 abbrev pub IsContentsDue : Asked → List (List ℕ) → Due → Type 0

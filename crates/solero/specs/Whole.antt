@@ -3,11 +3,12 @@
 -- line of want of memory.
 use Rattle.std.specs.Prelude.{◌≡◌, ℕ, ◌-◌, ◌<◌, ◌^◌, List, ◌++◌, Option, Some}
 use Rattle.std.specs.Option.{option_map}
-use Rattle.solero.specs.Answer.{IsMadeOf, RefusesFiles, status_of, due_text}
+use Rattle.program_answers.specs.Answers.{due_text, status_of}
+use Rattle.solero.specs.Answer.{IsMadeOf, RefusesFiles, usage_line}
 use Rattle.command_words.specs.Command.{Asked}
 use Rattle.host_io.specs.declared.shelf.NamedFile.{NamedFile}
-use Rattle.solero.specs.declared.answer.Due.{Due}
-use Rattle.solero.specs.declared.answer.Due.TheVariants.{Refusal, OutOfMemory}
+use Rattle.program_answers.specs.declared.answer.Due.{Due}
+use Rattle.program_answers.specs.declared.answer.Due.TheVariants.{Refusal, OutOfMemory}
 
 -- a count of faults stands still below its end, so no fault came
 abbrev pub IsCalm : (before after : ℕ) → Type 0
@@ -30,5 +31,5 @@ pub record AnswersWhole (Owed : Due → Type 0) (told now : Option (List ℕ)) (
     : Type 0 where
   pub due : Due
   pub owed : Owed due
-  pub written : now ≡ option_map (λ t. t ++ due_text due) told
+  pub written : now ≡ option_map (λ t. t ++ due_text usage_line due) told
   pub answered : status ≡ status_of due

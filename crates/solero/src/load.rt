@@ -7,13 +7,13 @@ ghost use Rattle.solero.specs.Answer.{IsFileOfLoad, IsLoadSummary, SumsUp, class
 ghost use Rattle.solero.specs.Parts.{IsLoadNotMade};
 
 use crate::class_text::bytes_of;
-use crate::finish::{Finish, finish_of};
 use crate::making::{end_of_run, is_plain};
 use checked_program::Checked;
 use class_runner::{FileError, load_program, summary};
 use command_words::Request;
 use jvm_types::{Bytes, ClassFile, Gate, Rows};
 use load_classes::{load_class, loads_are_classes};
+use program_answers::finish::{Finish, finish_of};
 use std::alloc::{AllocError, Global};
 use std::sync::Wait;
 use std::thread::Threads;

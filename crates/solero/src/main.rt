@@ -1,13 +1,9 @@
 //! The program `solero`: runs class files, and writes what came of it.
 #![tactic(auto)]
 
-ghost use Rattle.std.specs.Prelude.{◌≡◌, ◌≢◌};
-
 mod answer;
 mod cell;
 mod class_text;
-mod delivery;
-mod finish;
 mod limits;
 mod load;
 mod making;
@@ -19,38 +15,19 @@ mod tests;
 #[cfg(test)]
 mod thread_tests;
 
-use answer::Due;
+use answer::USAGE;
 use host_io::adapters::{FileShelf, OutputSink};
 use jvm_types::OpenGate;
-use std::io::ErrorKind;
+use program_answers::delivery::deliver;
+use program_answers::start::{without_words, words};
 use std::process::ExitCode;
-use std::rt::Env;
-use std::{env, io};
 
 fn main(rt: HostRuntime) -> ExitCode {
     let mut shelf = FileShelf::new(&rt);
     let mut sink = OutputSink::new(&rt);
     let status = match words(&rt) {
         Ok(words) => program::top(&rt, rt.alloc(), &words, &mut shelf, &mut sink, &OpenGate),
-        Err(error) => delivery::deliver(&mut sink, &without_words(error.kind())),
+        Err(error) => deliver(&mut sink, USAGE, &without_words(error.kind())),
     };
     ExitCode::from(status)
-}
-
-// The words that the program was called with, the first of which is its name.
-fn words<R: Env + AllocGlobal>(rt: &R) -> io::Result<Vec<String>> {
-    let words = env::args(rt)?.collect(rt.alloc())?;
-    Ok(words)
-}
-
-// What is due where the words cannot be had: those that are no text are not read.
-fn without_words(kind: ErrorKind) -> Due
-    ensures memory { kind ≡ ErrorKind.OutOfMemory → result ≡ Due.OutOfMemory }
-    ensures other { kind ≢ ErrorKind.OutOfMemory → result ≡ Due.Usage }
-{
-    if kind == ErrorKind::OutOfMemory {
-        Due::OutOfMemory
-    } else {
-        Due::Usage
-    }
 }

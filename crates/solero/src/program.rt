@@ -6,17 +6,16 @@ ghost use Rattle.command_words.specs.Words.{texts};
 ghost use Rattle.host_io.specs.Reading.{first_long};
 ghost use Rattle.command_words.specs.Requests.{asked_by};
 ghost use Rattle.solero.specs.Answer.{AreAccepted, IsDue, IsMadeIn};
-ghost use Rattle.solero.specs.Delivery.{Delivers};
+ghost use Rattle.solero.specs.Answer.{Delivers};
 ghost use Rattle.solero.specs.Parts.{IsNotMadeIn, IsContentsDue, IsUnreadDue};
 ghost use Rattle.solero.specs.Whole.{AnswersWhole, IsCalm, IsOwed, IsOwedRefusal};
 ghost use Rattle.host_io.specs.declared.shelf.NamedFile.{NamedFile as File};
-ghost use Rattle.solero.specs.declared.answer.Due.{Due as TheDue};
+ghost use Rattle.program_answers.specs.declared.answer.Due.{Due as TheDue};
 ghost use Rattle.command_words.specs.declared.request.Mode.TheVariants.{Program};
 
-use crate::answer::{Due, cannot_read, refused, too_long};
+use crate::answer::{USAGE, refused, too_long};
 use crate::cell::ran_cell;
 use crate::class_text::{assembled, listed};
-use crate::delivery::deliver;
 use crate::load::ran_load;
 use crate::making::made;
 use class_runner::{FileError, load_program};
@@ -25,6 +24,8 @@ use host_io::files::{Unread, read_files};
 use host_io::shelf::{Shelf, ShelfError};
 use host_io::sink::Sink;
 use jvm_types::{Bytes, Gate, Rows};
+use program_answers::answer::{Due, cannot_read};
+use program_answers::delivery::deliver;
 use std::alloc::{AllocError, Global};
 use std::sync::Wait;
 use std::thread::Threads;
@@ -88,7 +89,7 @@ pub fn top<R: Threads + Wait + Sync, S: Shelf, K: Sink, G: Gate + Sync>(
     ensures sink_fault { K.faults sink.old < K.faults sink.new → result ≡ 5 }
 {
     let due = work(rt, alloc, words, shelf, gate);
-    deliver(sink, &due)
+    deliver(sink, USAGE, &due)
 }
 
 // What is due to the words.

@@ -1,16 +1,16 @@
 -- What is owed to files that were read, and where one was not.
-use Rattle.std.proofs.Common.{◌≡◌, ℕ, ◌≤◌, Bool, List, Option, Some, None, refl, inl, inr, arith, slice_get}
+use Rattle.std.proofs.Common.{◌≡◌, ℕ, Bool, List, Option, Some, None, refl, arith, slice_get}
 use Rattle.jvm_types.specs.{LinkFaults.in_file, declared.{limits.TheConstants.MOST_FILE_BYTES, refusal.{CRule.TheVariants.C10, Place.Place, Rule.Rule}}}
 use Rattle.refusal_places.specs.Explained.{Explains}
 use Rattle.class_runner.specs.Loading.{IsRefusedBy}
-use Rattle.host_io.specs.{Faults.CountsFault, Reading.{IsUnread, first_long}, declared.shelf.{NamedFile.NamedFile, ShelfError.{ShelfError, TheVariants.{Memory, Failed, TooLong}}}}
-use Rattle.solero_explain.specs.{Answer.{ExplainsRefusal, IsExplainDue, file_name_at}, Command.Question, Parts.{IsDueToFiles, IsRefusalExplained, IsUnreadExplained}, declared.answer.Due.Due}
-use Rattle.solero_explain.specs.declared.answer.Due.TheVariants.{Refused, CannotRead, OutOfMemory}
+use Rattle.host_io.specs.{Reading.{IsUnread, first_long}, declared.shelf.{NamedFile.NamedFile, ShelfError.{ShelfError, TheVariants.{Memory, Failed, TooLong}}}}
+use Rattle.program_answers.{specs.declared.answer.Due.{Due, TheVariants.{Refusal, CannotRead, OutOfMemory}}, proofs.Faults.at_least}
+use Rattle.solero_explain.specs.{Answer.{ExplainsRefusal, IsExplainDue, file_name_at}, Command.Question, Parts.{IsDueToFiles, IsRefusalExplained, IsUnreadExplained}}
 use Rattle.jvm_types.specs.declared.refusal.Rule.TheVariants as rules
 
 -- what refuses files, none of which is too long, is due to them when it is explained
 pub refused_files : (asked : Question) (contents : List (List ℕ)) (rule : Rule) (place : Place) (due : Due) → first_long 0 contents ≡ None → IsRefusedBy contents asked.heap asked.threads rule place → IsRefusalExplained asked rule place (slice_get contents place.file) due → IsDueToFiles asked contents due
-refused_files asked contents rule place (Refused text) short refused explained = record { rule = rule; place = place; refused = rw short refused; explained = rw short explained }
+refused_files asked contents rule place (Refusal text) short refused explained = record { rule = rule; place = place; refused = rw short refused; explained = rw short explained }
 refused_files asked contents rule place OutOfMemory short refused explained = tt
 refused_files asked contents rule place due short refused explained = absurd explained
 
@@ -24,15 +24,12 @@ long_refused asked contents file text long explained = record {
   explained = rw long explained;
 }
 
-at_least : (before after : ℕ) → CountsFault before after → before ≤ after
-at_least before after (inl rose) = omega arith
-at_least before after (inr full) = omega arith
-
 -- what is due where a file was not read is due to the names
 pub unread_due : (files : Option (List NamedFile)) (unreadable : Option (List ℕ → Bool)) (asked : Question) (before after file : ℕ) (error : ShelfError) (due : Due) → IsUnread files unreadable asked.files before after file error → IsUnreadExplained asked file error due → IsExplainDue (Some asked) files unreadable before after due
-unread_due files unreadable asked before after file TooLong (Refused text) unread explained = (unread.0, record { contents = unread.1.contents; are = unread.1.are; many = unread.1.many; explains = long_refused asked unread.1.contents file text unread.1.first explained })
+unread_due files unreadable asked before after file TooLong (Refusal text) unread explained = (unread.0, record { contents = unread.1.contents; are = unread.1.are; many = unread.1.many; explains = long_refused asked unread.1.contents file text unread.1.first explained })
 unread_due files unreadable asked before after file Failed (CannotRead text) unread line = (unread.0, record { file = file; unread = unread.1; is_line = line })
 unread_due files unreadable asked before after file TooLong OutOfMemory unread line = omega arith
 unread_due files unreadable asked before after file Failed OutOfMemory unread line = at_least before after unread.0
 unread_due files unreadable asked before after file Memory OutOfMemory unread line = unread
+unread_due files unreadable asked before after file Memory due unread line = absurd cc
 unread_due files unreadable asked before after file error due unread line = absurd line

@@ -1,13 +1,14 @@
 -- What is answered where a run is told.
-use Rattle.std.proofs.Common.{◌≡◌, ◌≢◌, ℕ, ◌-◌, ◌<◌, ◌≤◌, ◌^◌, Bool, true, false, List, Option, Some, None, Result, Ok, Err, inr, refl, sym, ◌∙◌, arith, if◌then◌else◌}
+use Rattle.std.proofs.Common.{◌≡◌, ◌≢◌, ℕ, ◌<◌, ◌≤◌, Bool, List, Option, Some, None, Result, Ok, Err, inr, refl, sym, ◌∙◌, arith}
 use Rattle.jvm_types.specs.declared.outcome.Outcome.{Outcome}
 use Rattle.checked_program.specs.MarkedProgram.{MarkedProgram}
 use Rattle.machine_types.specs.declared.config.Config.{Config}
 use Rattle.class_runner.proofs.LoadedOnce.{accepted}
 use Rattle.host_io.{specs.{Faults.CountsFault, declared.shelf.NamedFile.NamedFile}, proofs.SoFar.none_long}
 use Rattle.run_trace.specs.{Traces.IsTraced, declared.{events.Part.Part, traces.TraceError.{TraceError, TheVariants.{Memory, Failed}}}}
+use Rattle.program_answers.specs.{Finish.{finish_of, finish_status}, declared.finish.Finish.{Finish, TheVariants.{Returned, Uncaught, Limited}}}
 use Rattle.solero_explain.specs.{Answer.{AreUnrefused, RunsFiles}, Command.Question, Parts.{IsRunTold, IsWork}, Requests.question_by}
-use Rattle.solero_explain.specs.{Tracing.{IsAnswered, is_limit, is_uncaught, some_end, status_of_run, status_of_trace}, declared.request.Request.Request}
+use Rattle.solero_explain.specs.{Tracing.{IsAnswered, status_of_trace}, declared.request.Request.Request}
 use Rattle.solero_explain.specs.declared.program.Work.TheVariants as works
 
 -- ---- statuses
@@ -20,32 +21,28 @@ record IsRunStatus (n : ℕ) : Type 0 where
   four : n ≢ 4
   five : n ≢ 5
 
-by_tests : (a b : Bool) → IsRunStatus (if a then 7 else if b then 1 else 0)
-by_tests true b = record { few = omega arith; two = λ e. omega (arith, e); three = λ e. omega (arith, e); four = λ e. omega (arith, e); five = λ e. omega (arith, e) }
-by_tests false true = record { few = omega arith; two = λ e. omega (arith, e); three = λ e. omega (arith, e); four = λ e. omega (arith, e); five = λ e. omega (arith, e) }
-by_tests false false = record { few = omega arith; two = λ e. omega (arith, e); three = λ e. omega (arith, e); four = λ e. omega (arith, e); five = λ e. omega (arith, e) }
-
-run_status : (o : Outcome) → IsRunStatus (status_of_run o)
-unfolding status_of_run
-run_status o = by_tests (some_end is_limit o) (some_end is_uncaught o)
+run_status : (finish : Finish) → IsRunStatus (finish_status finish)
+run_status Returned = record { few = omega arith; two = λ e. omega (arith, e); three = λ e. omega (arith, e); four = λ e. omega (arith, e); five = λ e. omega (arith, e) }
+run_status Uncaught = record { few = omega arith; two = λ e. omega (arith, e); three = λ e. omega (arith, e); four = λ e. omega (arith, e); five = λ e. omega (arith, e) }
+run_status Limited = record { few = omega arith; two = λ e. omega (arith, e); three = λ e. omega (arith, e); four = λ e. omega (arith, e); five = λ e. omega (arith, e) }
 
 trace_few : (came : Result Outcome TraceError) → status_of_trace came ≤ 7
-trace_few (Ok o) = (run_status o).few
+trace_few (Ok o) = (run_status (finish_of o)).few
 trace_few (Err Failed) = omega arith
 trace_few (Err Memory) = omega arith
 
 trace_two : (came : Result Outcome TraceError) → status_of_trace came ≢ 2
-trace_two (Ok o) e = (run_status o).two e
+trace_two (Ok o) e = (run_status (finish_of o)).two e
 trace_two (Err Failed) e = omega (arith, e)
 trace_two (Err Memory) e = omega (arith, e)
 
 trace_three : (came : Result Outcome TraceError) → status_of_trace came ≢ 3
-trace_three (Ok o) e = (run_status o).three e
+trace_three (Ok o) e = (run_status (finish_of o)).three e
 trace_three (Err Failed) e = omega (arith, e)
 trace_three (Err Memory) e = omega (arith, e)
 
 trace_four : (came : Result Outcome TraceError) → status_of_trace came ≢ 4
-trace_four (Ok o) e = (run_status o).four e
+trace_four (Ok o) e = (run_status (finish_of o)).four e
 trace_four (Err Failed) e = omega (arith, e)
 trace_four (Err Memory) e = omega (arith, e)
 
@@ -88,7 +85,7 @@ five_is_not_six : (n : ℕ) → n ≡ 5 → n ≡ 6 → ⊥
 five_is_not_six n five six = omega (arith, five, six)
 
 by_came_failed : (c : MarkedProgram) (cfg : Config) (order : List ℕ) (names : List (List ℕ)) (part : Part) (told now : Option (List ℕ)) (from to : ℕ) (came : Result Outcome TraceError) → IsTraced c cfg order names part told now from to came → status_of_trace came ≡ 5 → CountsFault from to
-by_came_failed c cfg order names part told now from to (Ok o) traced five = absurd ((run_status o).five five)
+by_came_failed c cfg order names part told now from to (Ok o) traced five = absurd ((run_status (finish_of o)).five five)
 by_came_failed c cfg order names part told now from to (Err Failed) traced five = traced
 by_came_failed c cfg order names part told now from to (Err Memory) traced five = absurd (five_is_not_six 6 five refl)
 

@@ -9,7 +9,7 @@ use Rattle.std.specs.Option.{unwrap_or}
 use Rattle.checked_program.specs.MarkedProgram.{MarkedProgram}
 use Rattle.class_runner.specs.Loading.{IsAccepted, IsLoaded, IsRefusedBy}
 use Rattle.host_io.specs.Faults.{CountsFault}
-use Rattle.host_io.specs.Reading.{CannotBeRead, contents_of, first_long}
+use Rattle.host_io.specs.Reading.{contents_of, first_long}
 use Rattle.host_io.specs.declared.shelf.NamedFile.{NamedFile}
 use Rattle.json_lines.specs.Json.{text_member}
 use Rattle.jvm_types.specs.LinkFaults.{in_file}
@@ -24,27 +24,17 @@ use Rattle.refusal_places.specs.Explained.{Explains}
 use Rattle.json_lines.specs.declared.form.Form.{Form}
 use Rattle.json_lines.specs.declared.form.Form.TheVariants.{Lines, Json}
 use Rattle.run_texts.specs.Report.{line}
-use Rattle.run_texts.specs.Unread.{unread_line}
+use Rattle.program_answers.specs.Unread.{SaysUnread}
+use Rattle.program_answers.specs.declared.answer.Due.{Due}
+use Rattle.program_answers.specs.declared.answer.Due.TheVariants.{Report, Output, Usage, Refusal}
+use Rattle.program_answers.specs.declared.answer.Due.TheVariants.{CannotRead, OutOfMemory}
 use Rattle.solero_explain.specs.Command.{Question}
-use Rattle.solero_explain.specs.declared.answer.Due.{Due}
-use Rattle.solero_explain.specs.declared.answer.Due.TheVariants.{Told, Usage, Refused, CannotRead}
-use Rattle.solero_explain.specs.declared.answer.Due.TheVariants.{OutOfMemory}
 use Rattle.solero_explain.specs.declared.request.What.{What}
 use Rattle.solero_explain.specs.declared.request.What.TheVariants as whats
 
-abbrev pub explain_status : Due → ℕ
-explain_status (Told text) = 0
-explain_status Usage = 2
-explain_status (Refused text) = 3
-explain_status (CannotRead text) = 4
-explain_status OutOfMemory = 6
-
-abbrev pub explain_text : Due → List ℕ
-explain_text (Told text) = text
-explain_text Usage = line (codes "usage: solero_explain --what WHAT [options] FILE...")
-explain_text (Refused text) = text
-explain_text (CannotRead text) = text
-explain_text OutOfMemory = line (codes "out of memory")
+-- the line of use
+abbrev pub explain_usage : List ℕ
+explain_usage = line (codes "usage: solero_explain --what WHAT [options] FILE...")
 
 -- ---- files that are accepted
 
@@ -118,16 +108,9 @@ pub record ExplainsFiles (files : Option (List NamedFile)) (asked : Question) (t
   pub many : length contents ≡ length asked.files
   pub explains : ExplainsRefusal asked contents text
 
--- the line of a file that can't be read
-pub record SaysUnread (files : Option (List NamedFile)) (unreadable : Option (List ℕ → Bool))
-    (names : List (List ℕ)) (text : List ℕ) : Type 0 where
-  pub file : ℕ
-  pub unread : CannotBeRead files unreadable names file
-  pub is_line : text ≡ unread_line file
-
 -- What is due to the words, of which None are not read, and to the files. The shelf tells its
 -- files, and which it can't read, or None of these. Its count of faults goes from before to after.
--- Want of memory may come to any words.
+-- Want of memory may come to any words. A run is told as it goes, so the report of none is due.
 abbrev pub IsExplainDue : Option Question → Option (List NamedFile) → Option (List ℕ → Bool) → ℕ → ℕ
     → Due → Type 0
 IsExplainDue asked files unreadable before after OutOfMemory = before ≤ after
@@ -135,10 +118,11 @@ IsExplainDue None files unreadable before after due = (due ≡ Usage) × (after 
 IsExplainDue (Some asked) files unreadable before after Usage = ⊥
 IsExplainDue (Some asked) files unreadable before after (CannotRead text) =
     CountsFault before after × SaysUnread files unreadable asked.files text
-IsExplainDue (Some asked) files unreadable before after (Refused text) =
+IsExplainDue (Some asked) files unreadable before after (Refusal text) =
     (after ≡ before) × ExplainsFiles files asked text
-IsExplainDue (Some asked) files unreadable before after (Told text) =
+IsExplainDue (Some asked) files unreadable before after (Output text) =
     (after ≡ before) × TellsFiles files asked text
+IsExplainDue (Some asked) files unreadable before after (Report finish text) = ⊥
 
 -- the program that the files are loaded to, whose run is to be told, with the names of its fields
 pub record IsRunOf (asked : Question) (contents : List (List ℕ)) (checked : MarkedProgram)

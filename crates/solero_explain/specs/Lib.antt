@@ -2,6 +2,5 @@ pub mod Bounds
 pub mod Command
 pub mod Requests
 pub mod Answer
-pub mod Delivery
 pub mod Tracing
 pub mod Parts

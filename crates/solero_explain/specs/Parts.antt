@@ -12,7 +12,7 @@ use Rattle.solero_explain.specs.declared.program.Found.TheVariants as founds
 use Rattle.solero_explain.specs.declared.program.Work.{Work}
 use Rattle.solero_explain.specs.declared.program.Work.TheVariants as works
 use Rattle.host_io.specs.declared.shelf.ShelfError.{ShelfError}
-use Rattle.host_io.specs.declared.shelf.ShelfError.TheVariants.{Failed, TooLong}
+use Rattle.host_io.specs.declared.shelf.ShelfError.TheVariants.{Memory, Failed, TooLong}
 use Rattle.jvm_types.specs.LinkFaults.{in_file}
 use Rattle.jvm_types.specs.declared.limits.TheConstants.{MOST_FILE_BYTES}
 use Rattle.jvm_types.specs.declared.refusal.CRule.TheVariants.{C10}
@@ -20,17 +20,16 @@ use Rattle.jvm_types.specs.declared.refusal.Place.{Place}
 use Rattle.jvm_types.specs.declared.refusal.Rule.{Rule}
 use Rattle.jvm_types.specs.declared.refusal.Rule.TheVariants as rules
 use Rattle.refusal_places.specs.Explained.{Explains}
-use Rattle.run_texts.specs.Unread.{unread_line}
+use Rattle.program_answers.specs.Unread.{IsUnreadLine}
+use Rattle.program_answers.specs.declared.answer.Due.{Due}
+use Rattle.program_answers.specs.declared.answer.Due.TheVariants.{Output, Refusal, OutOfMemory}
 use Rattle.solero_explain.specs.Answer.{ExplainsRefusal, IsExplainDue, IsRunOf, RunsFiles}
 use Rattle.solero_explain.specs.Answer.{TellsProgram, file_name_at}
 use Rattle.solero_explain.specs.Command.{Question}
-use Rattle.solero_explain.specs.declared.answer.Due.{Due}
-use Rattle.solero_explain.specs.declared.answer.Due.TheVariants.{Told, Refused, CannotRead}
-use Rattle.solero_explain.specs.declared.answer.Due.TheVariants.{OutOfMemory}
 
 -- a refusal that is explained, with the content of the file that it names, or want of memory
 abbrev pub IsRefusalExplained : Question → Rule → Place → (content : Option (List ℕ)) → Due → Type 0
-IsRefusalExplained asked rule place content (Refused text) =
+IsRefusalExplained asked rule place content (Refusal text) =
     Explains asked.form rule place (file_name_at asked.files place.file) content text
 IsRefusalExplained asked rule place content OutOfMemory = Unit {0}
 IsRefusalExplained asked rule place content due = ⊥
@@ -39,20 +38,19 @@ IsRefusalExplained asked rule place content due = ⊥
 abbrev pub IsUnreadExplained : Question → ℕ → ShelfError → Due → Type 0
 IsUnreadExplained asked file TooLong due =
     IsRefusalExplained asked (rules.C C10) (in_file file MOST_FILE_BYTES) None due
-IsUnreadExplained asked file Failed (CannotRead text) = text ≡ unread_line file
-IsUnreadExplained asked file error OutOfMemory = Unit {0}
-IsUnreadExplained asked file error due = ⊥
+IsUnreadExplained asked file Failed due = IsUnreadLine file due
+IsUnreadExplained asked file Memory due = due ≡ OutOfMemory
 
 -- what is due to the contents of the files, none of which is too long
 abbrev pub IsDueToFiles : Question → List (List ℕ) → Due → Type 0
-IsDueToFiles asked contents (Told text) = TellsProgram asked contents text
-IsDueToFiles asked contents (Refused text) = ExplainsRefusal asked contents text
+IsDueToFiles asked contents (Output text) = TellsProgram asked contents text
+IsDueToFiles asked contents (Refusal text) = ExplainsRefusal asked contents text
 IsDueToFiles asked contents OutOfMemory = Unit {0}
 IsDueToFiles asked contents due = ⊥
 
 -- a text that is told, or want of memory
 abbrev pub IsDueOf : {E : Type 0} → Result (List ℕ) E → Due → Type 0
-IsDueOf (Ok text) due = due ≡ Told text
+IsDueOf (Ok text) due = due ≡ Output text
 IsDueOf (Err e) due = due ≡ OutOfMemory
 
 -- what is found in the contents of the files, none of which is too long

@@ -1,44 +1,20 @@
 -- What is answered where a run is told.
-use Rattle.std.specs.Prelude.{◌≡◌, ◌⊎◌, ℕ, Bool, true, false, ◌||◌, List, Option, Some, None}
-use Rattle.std.specs.Prelude.{Result, Ok, Err, if◌then◌else◌}
-use Rattle.std.specs.List.{list_any}
+use Rattle.std.specs.Prelude.{◌≡◌, ◌⊎◌, ℕ, Bool, List, Option, Some, None, Result, Ok, Err}
 use Rattle.checked_program.specs.MarkedProgram.{MarkedProgram}
 use Rattle.host_io.specs.declared.shelf.NamedFile.{NamedFile}
-use Rattle.jvm_types.specs.declared.outcome.End.{End}
-use Rattle.jvm_types.specs.declared.outcome.End.TheVariants as ends
 use Rattle.jvm_types.specs.declared.outcome.Outcome.{Outcome}
 use Rattle.run_trace.specs.Traces.{IsTraced}
 use Rattle.run_trace.specs.declared.traces.TraceError.{TraceError}
 use Rattle.run_trace.specs.declared.traces.TraceError.TheVariants.{Memory, Failed}
-use Rattle.solero_explain.specs.Answer.{IsExplainDue, RunsFiles}
+use Rattle.program_answers.specs.Delivery.{IsDelivered}
+use Rattle.program_answers.specs.Finish.{finish_of, finish_status}
+use Rattle.program_answers.specs.declared.answer.Due.{Due}
+use Rattle.solero_explain.specs.Answer.{IsExplainDue, RunsFiles, explain_usage}
 use Rattle.solero_explain.specs.Command.{Question}
-use Rattle.solero_explain.specs.Delivery.{IsDelivered}
-use Rattle.solero_explain.specs.declared.answer.Due.{Due}
-
--- ---- the status of a run, as `solero` has it: a limit goes before an exception
-
-abbrev pub is_limit : End → Bool
-is_limit ends.Steps = true
-is_limit ends.Turns = true
-is_limit ends.Records = true
-is_limit ends.Prints = true
-is_limit end = false
-
-abbrev pub is_uncaught : End → Bool
-is_uncaught (ends.Uncaught x) = true
-is_uncaught end = false
-
-abbrev pub some_end : (End → Bool) → Outcome → Bool
-some_end test o = list_any (λ t. test t.end) o.threads || test o.done
-
-unfoldable pub status_of_run : Outcome → ℕ
-status_of_run o = if some_end is_limit o then 7 else if some_end is_uncaught o then 1 else 0
-
--- ---- the trace
 
 -- where there is no memory, a front of it may have been written
 abbrev pub status_of_trace : Result Outcome TraceError → ℕ
-status_of_trace (Ok o) = status_of_run o
+status_of_trace (Ok o) = finish_status (finish_of o)
 status_of_trace (Err Failed) = 5
 status_of_trace (Err Memory) = 6
 
@@ -64,5 +40,5 @@ abbrev pub IsAnswered : Option Question → Option (List NamedFile) → Option (
     → (before after : ℕ) → (told now : Option (List ℕ)) → (from to status : ℕ) → Type 0
 IsAnswered asked files unreadable before after told now from to status =
     ((due : Due) × IsExplainDue asked files unreadable before after due
-    × IsDelivered told now from to due status)
+    × IsDelivered explain_usage told now from to due status)
     ⊎ IsTraceAnswer asked files before after told now from to status

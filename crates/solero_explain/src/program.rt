@@ -11,19 +11,14 @@ ghost use Rattle.solero_explain.specs.Answer.{AreUnrefused, AreMarksTold, IsExpl
 ghost use Rattle.solero_explain.specs.Answer.{accepted_text as the_accepted_text};
 ghost use Rattle.solero_explain.specs.Answer.{file_name_at as the_name_at};
 ghost use Rattle.solero_explain.specs.Command.{Question, explain_command};
-ghost use Rattle.solero_explain.specs.Delivery.{IsDelivered};
 ghost use Rattle.class_runner.specs.Loading.{IsLoaded};
 ghost use Rattle.solero_explain.specs.Parts.{IsDueOf, IsRefusalExplained, IsFoundInFiles};
 ghost use Rattle.solero_explain.specs.Parts.{IsFoundIn, IsRunTold, IsUnreadExplained, IsWork};
 ghost use Rattle.solero_explain.specs.Tracing.{IsAnswered};
 ghost use Rattle.solero_explain.specs.Requests.{question_by};
-ghost use Rattle.solero_explain.specs.declared.answer.Due.{Due as TheDue};
 
-use crate::answer::Due;
 use crate::command::read_words;
-use crate::delivery::deliver;
 use crate::request::{Request, What};
-use crate::run_status::status_of_run;
 use checked_program::Checked;
 use class_runner::{FileError, load_program};
 use field_names::field_names;
@@ -34,11 +29,16 @@ use json_lines::{Form, write_text_member};
 use jvm_types::limits::MOST_FILE_BYTES;
 use jvm_types::{Bytes, CRule, Place, Rows, Rule, in_file};
 use mark_reasons::marks_explained;
+use program_answers::answer::{Due, cannot_read};
+use program_answers::delivery::deliver;
+use program_answers::finish::finish_of;
 use reason_json::marks_in_json;
 use refusal_places::explained_refusal;
-use run_texts::unread_file;
 use run_trace::{TraceError, explain_run};
 use std::alloc::{AllocError, Global};
+
+/// The line of use.
+pub const USAGE: &str = "usage: solero_explain --what WHAT [options] FILE...\n";
 
 /// What was found to be done.
 #[derive(Drop)]
@@ -87,7 +87,7 @@ pub fn top_explain<S: Shelf, K: Sink>(
     ensures sink_fault { K.faults sink.old < K.faults sink.new → result ≡ 5 }
 {
     match work_for(alloc, words, shelf) {
-        Work::Due(due) => deliver(sink, &due),
+        Work::Due(due) => deliver(sink, USAGE, &due),
         Work::Run(request, checked, names) => traced(alloc, &request, &checked, &names, sink),
     }
 }
@@ -121,7 +121,7 @@ fn traced<K: Sink>(
         request.part,
         sink,
     ) {
-        Ok(outcome) => status_of_run(&outcome),
+        Ok(outcome) => finish_of(&outcome).status(),
         Err(TraceError::Failed) => 5,
         Err(TraceError::Memory) => 6,
     }
@@ -184,16 +184,6 @@ fn not_read(alloc: Global, request: &Request, unread: Unread) -> Due
     }
 }
 
-// The file of that number can't be read.
-fn cannot_read(alloc: Global, file: u16) -> Due
-    ensures { (asked : Question) → IsUnreadExplained asked file ShelfError.Failed result }
-{
-    match unread_file(alloc, file) {
-        Ok(line) => Due::CannotRead(line),
-        Err(AllocError) => Due::OutOfMemory,
-    }
-}
-
 // The name of the file of that number.
 fn name_at(names: &[String], file: u16) -> &[u8]
     ensures { result.now ≡ the_name_at (texts names.now) file }
@@ -217,7 +207,7 @@ fn explained(
 {
     let name = name_at(request.files.as_slice(), place.file);
     match explained_refusal(alloc, request.form, rule, place, name, content) {
-        Ok(text) => Due::Refused(text),
+        Ok(text) => Due::Refusal(text),
         Err(AllocError) => Due::OutOfMemory,
     }
 }
@@ -258,7 +248,7 @@ fn due_of(text: Result<Bytes, AllocError>) -> Due
     ensures { IsDueOf text result }
 {
     match text {
-        Ok(text) => Due::Told(text),
+        Ok(text) => Due::Output(text),
         Err(AllocError) => Due::OutOfMemory,
     }
 }

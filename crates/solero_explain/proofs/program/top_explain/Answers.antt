@@ -16,16 +16,16 @@ pub returns-in-Run-clause-answer : goal.returns-in-Run-clause-answer
 returns-in-Run-clause-answer g c = run_answered _ _ _ _ _ _ _ _ _ _ _ _ _ c.in-Run.ensures.work c.traced.ensures
 
 pub returns-in-Run-clause-status : goal.returns-in-Run-clause-status
-returns-in-Run-clause-status g c = run_few _ _ c.traced.ensures.2
+returns-in-Run-clause-status g c = run_few c.traced.ensures.0 _ c.traced.ensures.2
 
 pub returns-in-Run-clause-words_read : goal.returns-in-Run-clause-words_read
-returns-in-Run-clause-words_read g c = λ two. absurd (run_not_two _ _ c.traced.ensures.2 two)
+returns-in-Run-clause-words_read g c = λ two. absurd (run_not_two c.traced.ensures.0 _ c.traced.ensures.2 two)
 
 pub returns-in-Run-clause-words_not_read : goal.returns-in-Run-clause-words_not_read
 returns-in-Run-clause-words_not_read g c = λ none. absurd (run_is_read _ _ _ _ _ _ _ _ c.in-Run.ensures.work none)
 
 pub returns-in-Run-clause-accepted : goal.returns-in-Run-clause-accepted
-returns-in-Run-clause-accepted g c = λ asked files read told accepted three. run_not_three _ _ c.traced.ensures.2 three
+returns-in-Run-clause-accepted g c = λ asked files read told accepted three. run_not_three c.traced.ensures.0 _ c.traced.ensures.2 three
 
 pub returns-in-Run-clause-not_accepted : goal.returns-in-Run-clause-not_accepted
 returns-in-Run-clause-not_accepted g c = λ asked files read told not_so same below.
@@ -33,7 +33,7 @@ returns-in-Run-clause-not_accepted g c = λ asked files read told not_so same be
     absurd (not_so (run_accepted asked files _ _ work.2))
 
 pub returns-in-Run-clause-shelf_failed : goal.returns-in-Run-clause-shelf_failed
-returns-in-Run-clause-shelf_failed g c = λ four. absurd (run_not_four _ _ c.traced.ensures.2 four)
+returns-in-Run-clause-shelf_failed g c = λ four. absurd (run_not_four c.traced.ensures.0 _ c.traced.ensures.2 four)
 
 pub returns-in-Run-clause-shelf_fault : goal.returns-in-Run-clause-shelf_fault
 returns-in-Run-clause-shelf_fault g c = λ rose. absurd (run_is_calm _ _ _ _ _ _ _ _ c.in-Run.ensures.work rose)

@@ -1,23 +1,45 @@
 ghost use Rattle.std.specs.Prelude.{◌≡◌};
 ghost use Rattle.std.specs.List.{list_any};
-ghost use Rattle.solero_explain.specs.Tracing.{is_limit as ends_at_limit};
-ghost use Rattle.solero_explain.specs.Tracing.{is_uncaught as ends_uncaught, some_end};
-ghost use Rattle.solero_explain.specs.Tracing.{status_of_run as the_status};
+ghost use Rattle.program_answers.specs.Finish.{finish_of as the_finish, finish_status};
+ghost use Rattle.program_answers.specs.Finish.{is_limit as ends_at_limit};
+ghost use Rattle.program_answers.specs.Finish.{is_uncaught as ends_uncaught, some_end};
 
 use jvm_types::{End, Outcome, ThreadReport};
 
-/// The status of a run that came to this: 7 where some part met a limit, else 1 where some part was
-/// ended by an exception that nothing caught, else 0.
-#[tactic(auto, unfolding(crate::specs::Tracing::status_of_run))]
-pub fn status_of_run(outcome: &Outcome) -> u8
-    ensures { result ≡ the_status outcome.now }
+/// How a run finished.
+#[derive(Clone, Copy, Debug, PartialEq, Eq)]
+pub enum Finish {
+    /// Each part that ran returned.
+    Returned,
+    /// No part met a limit, and some part was ended by an exception that nothing caught.
+    Uncaught,
+    /// Some part met a limit.
+    Limited,
+}
+
+impl Finish {
+    /// The status of a run that finished so.
+    pub fn status(self) -> u8
+        ensures { result ≡ finish_status self }
+    {
+        match self {
+            Finish::Returned => 0,
+            Finish::Uncaught => 1,
+            Finish::Limited => 7,
+        }
+    }
+}
+
+/// How a run finished that came to this.
+pub fn finish_of(outcome: &Outcome) -> Finish
+    ensures { result ≡ the_finish outcome.now }
 {
     if meets_limit(outcome) {
-        7
+        Finish::Limited
     } else if is_ended_by_exception(outcome) {
-        1
+        Finish::Uncaught
     } else {
-        0
+        Finish::Returned
     }
 }
 

@@ -1,11 +1,11 @@
 -- How a run finished: at a limit, by an exception, or neither.
-use Rattle.std.specs.Prelude.{ℕ, nat_lt, Bool, true, false, ◌||◌, if◌then◌else◌}
+use Rattle.std.specs.Prelude.{ℕ, Bool, true, false, ◌||◌, if◌then◌else◌}
 use Rattle.std.specs.List.{list_any}
 use Rattle.jvm_types.specs.declared.outcome.End.{End}
 use Rattle.jvm_types.specs.declared.outcome.End.TheVariants as ends
 use Rattle.jvm_types.specs.declared.outcome.Outcome.{Outcome}
-use Rattle.solero.specs.declared.finish.Finish.{Finish}
-use Rattle.solero.specs.declared.finish.Finish.TheVariants.{Returned, Uncaught, Limited}
+use Rattle.program_answers.specs.declared.finish.Finish.{Finish}
+use Rattle.program_answers.specs.declared.finish.Finish.TheVariants.{Returned, Uncaught, Limited}
 
 abbrev pub is_limit : End → Bool
 is_limit ends.Steps = true
@@ -27,6 +27,7 @@ abbrev pub finish_of : Outcome → Finish
 finish_of o =
     if some_end is_limit o then Limited else if some_end is_uncaught o then Uncaught else Returned
 
--- a worker of a cell stops at the limit of failed turns
-abbrev pub cell_finish : (stopped : ℕ) → Finish
-cell_finish stopped = if nat_lt 0 stopped then Limited else Returned
+abbrev pub finish_status : Finish → ℕ
+finish_status Returned = 0
+finish_status Uncaught = 1
+finish_status Limited = 7

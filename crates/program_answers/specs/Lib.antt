@@ -1,0 +1,4 @@
+pub mod Finish
+pub mod Answers
+pub mod Delivery
+pub mod Unread
