@@ -1,10 +1,10 @@
 -- How far a call is, as its view goes on.
-use Rattle.std.proofs.Common.{◌≡◌, ◌≢◌, ℕ, zero, suc, ◌*◌, ◌<◌, ◌≤◌, List, [], ◌∷◌, ◌++◌, length, take, drop, Bool, true, false, Some, None, refl, sym, ap, subst, ◌∙◌, slice_get, slice_set, is_some, if◌then◌else◌}
+use Rattle.std.proofs.Common.{◌≡◌, ◌≢◌, ℕ, zero, suc, ◌*◌, ◌<◌, ◌≤◌, List, [], ◌∷◌, ◌++◌, length, take, drop, Bool, true, false, Some, None, refl, sym, ap, subst, ◌∙◌, slice_get, slice_set, is_some}
 use Rattle.std.{specs.Prelude.unwrap_or, proofs.{Math.Seq.take-suc-set, lemmas.List.length-take-le}}
 use Rattle.atomic_table.specs.Seated.{TableId}
-use Rattle.solero_cell.specs.{Attempts.{IsBehindGot, IsBehindChanged}, CellViews.{IsStill, record_of, has_failed, has_loaded, forgot, has_read, has_stored, one_stored, taken_in}}
+use Rattle.solero_cell.specs.{Attempts.{IsBehindGot, IsBehindChanged}, CellViews.{IsStill, record_of, has_loaded, has_looked, forgot, has_read, has_stored, one_stored, taken_in}}
 use Rattle.solero_cell.specs.{Histories.{AllStand, AreOfOne, IsLast, IsRecordSeen, RecordStands}, Stages.{IsSeatAt, IsLoading, IsStoring}}
-use Rattle.solero_cell.{specs.{Steps.{HasCompared, HasRead, note_of, storing_of, attempt_ended}, declared.views.{Record.Record, Storing.Storing, View.View}}, proofs.Standing.{all_left, all_right}}
+use Rattle.solero_cell.{specs.{Steps.{HasCompared, HasEnded, HasRead, note_of, storing_of, attempt_ended}, declared.views.{Moment.TheVariants.AtRest, Record.Record, Storing.Storing, View.View}}, proofs.Standing.{all_left, all_right}}
 
 -- ---- the seat stays at its table
 
@@ -92,19 +92,19 @@ behind_got v u now c xs e n still h =
     let count = note_is v c n in
     let seen : IsRecordSeen (record v { loaded = xs }) (record_of c xs) = subst (λ (m : ℕ). IsRecordSeen (record v { loaded = xs }) (record_of m xs)) count k.seen in
     record {
-      view = k.view ∙ ap (λ (m : ℕ). has_read (record_of m xs) (forgot v)) count ∙ ap (has_read (record_of c xs)) (forgot_still v still.loaded);
+      place = k.place;
+      view = k.view ∙ ap (λ (m : ℕ). has_read (record_of m xs) (has_looked k.place (AtRest m) (forgot v))) count ∙ ap (λ (u : View). has_read (record_of c xs) (has_looked k.place (AtRest c) u)) (forgot_still v still.loaded);
       seen = seen_as (record v { loaded = xs }) v (record_of c xs) refl refl refl seen;
     }
 
-ended_by : (b : Bool) (found : ℕ) (v : View) → forgot v ≡ v → attempt_ended b found v ≡ (if b then has_failed found v else v)
-ended_by true found v e = ap (has_failed found) e
-ended_by false found v e = e
-
 pub behind_changed : (b : Bool) (v u now : View) (c word found : ℕ) (xs : List ℕ) → u ≡ record v { loaded = xs } → IsStill v
-    → now ≡ attempt_ended b found u → word ≡ 4 * c → word ≢ found → IsBehindChanged b v c word found now
+    → HasEnded b u found now → word ≡ 4 * c → word ≢ found → IsBehindChanged b v c word found now
 behind_changed b v u now c word found xs e still h w d = record {
-  view = h ∙ ap (attempt_ended b found) e ∙ ended_by b found v (forgot_still v still.loaded);
+  place = h.place;
+  moment = h.moment;
+  view = h.view ∙ ap (λ (x : View). attempt_ended b h.place h.moment (forgot x)) e ∙ ap (attempt_ended b h.place h.moment) (forgot_still v still.loaded);
   word_is = w;
+  found_is = h.word_is;
   differ = d;
 }
 

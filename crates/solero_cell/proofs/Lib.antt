@@ -2,6 +2,7 @@ mod Sums
 mod Standing
 mod Shares
 mod Words
+mod Looking
 mod Knowing
 mod Made
 mod ReadSteps

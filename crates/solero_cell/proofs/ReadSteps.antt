@@ -1,12 +1,12 @@
 -- The steps of a read keep the rule: its loads, and what they tell. And the second load of a join.
-use Rattle.std.proofs.Common.{◌≡◌, ◌≢◌, ℕ, suc, ◌*◌, ◌<◌, ⊎_elim, List, [], ◌∷◌, ◌++◌, length, length-append, take, Bool, true, false, Option, Some, None, refl, sym, ap, subst, ◌∙◌, arith, slice_index, slice_set, IsSome}
+use Rattle.std.proofs.Common.{◌≡◌, ◌≢◌, ℕ, suc, ◌*◌, ◌<◌, inl, inr, ⊎_elim, List, [], ◌∷◌, ◌++◌, length, length-append, take, Bool, true, false, Option, Some, None, refl, sym, ap, subst, ◌∙◌, arith, slice_index, slice_set, IsSome}
 use Rattle.std.{specs.Prelude.unwrap_or, proofs.lemmas.List.set-get_or}
 use Rattle.atomic_table.specs.Table.{State, Me, Allows, keeps}
 use Rattle.machine_types.specs.{LockWords.{lock_of, is_lock_word}, declared.lock.LockWord.LockWord}
-use Rattle.solero_cell.specs.CellRules.{cell_values, ViewKnowledge, IsAtRest, IsHeldByWrite, HasOneHistory}
-use Rattle.solero_cell.specs.{CellViews.{record_of, noted, has_failed, has_loaded, forgot, has_read, has_compared, IsStill}, Histories.{last_count, RecordStands, IsLast, OwnStand}}
-use Rattle.solero_cell.specs.{Stages.{IsLoading, IsJoining}, Steps.{note_of, joining_of, NotedBy, TellsNote, attempt_ended, TellsFinish, HasCompared}, declared.views.{Record.Record, View.View}}
-use Rattle.solero_cell.proofs.{Knowing.{calm, knows_of, none_loaded, if_some}, Made.looked, Standing.{at_most_last, last_stands, newest_stands}}
+use Rattle.solero_cell.specs.CellRules.{cell_values, ViewKnowledge, IsAtRest, IsHeldByWrite, HaveLooked, HasOneHistory}
+use Rattle.solero_cell.specs.{CellViews.{record_of, noted, has_failed, has_loaded, has_looked, forgot, has_read, has_compared, IsStill}, Histories.{last_count, RecordStands, IsLast, OwnStand}}
+use Rattle.solero_cell.specs.{Stages.{IsLoading, IsJoining}, Steps.{note_of, joining_of, NotedBy, TellsNote, attempt_ended, TellsFinish, HasCompared}, Moments.{moment_now, word_at}, declared.views.{Moment.Moment, Moment.TheVariants.{AtRest, UnderWay}, Record.Record, View.View}}
+use Rattle.solero_cell.proofs.{Looking.{held_now, look_of, looks_kept, looks_on, rests_now, time_le, word_now}, Knowing.{calm, knows_of, none_loaded, if_some}, Made.looked, Standing.{at_most_last, last_stands, newest_stands}}
 use Rattle.solero_cell.proofs.Words.{free_word, free_is_lock, next_taken, value_index, values_long, all_taken}
 use lib.ListN.{get_elem?}
 use mathlib.Core.{Logic.dite, Option.some}
@@ -38,6 +38,21 @@ module _ (o : Record) (id : ℕ) (v : View) (parts : 0 < v.share.parts) (ws : Li
   pub its : ViewKnowledge o s.history ws v
   its = knows_of o s.history ws v parts (s.each id v at)
 
+  -- ---- a look at the lock word, which leaves it
+
+  -- its place, and what it finds
+  abbrev pub next : ℕ
+  next = length s.looks.moments
+
+  abbrev pub now : Moment
+  now = moment_now o s.history (slice_index ws 0)
+
+  pub stands : slice_index ws 0 ≡ word_at now
+  stands = word_now o s.history (slice_index ws 0) (⊎_elim (λ (r : IsAtRest o s.history ws views). inl r.word) (λ (r : IsHeldByWrite ws views). inr r.word) s.lock)
+
+  pub looks : (w : View) (m : Moment) → m ≡ now → w.looks ≡ v.looks ++ look_of next m ∷ [] → HaveLooked o s.history (slice_index ws 0) (slice_set views id w)
+  looks w m e more = looks_on o s.history s.history (slice_index ws 0) (slice_index ws 0) views id v w s.looks at m e (time_le now m (sym e)) more
+
   -- ---- a note load
 
   pub note_step : IsStill v → Looks o ws views id (TellsNote v (slice_index ws 0))
@@ -46,24 +61,28 @@ module _ (o : Record) (id : ℕ) (v : View) (parts : 0 < v.share.parts) (ws : Li
       at_rest : IsAtRest o s.history ws views → Looks o ws views id (TellsNote v (slice_index ws 0))
       at_rest r =
           let c : ℕ = last_count o s.history in
-          let by : NotedBy (lock_of (4 * c)) (4 * c) v (noted c v) = subst (λ (l : LockWord). NotedBy l (4 * c) v (noted c v)) (sym (free_word c)) (refl, at_most_last o s.history v.latest its.own.latest) in (
-            noted c v,
-            looked o ws views id v (noted c v) s at refl parts refl refl (calm o s.history ws (noted c v) its.opening_is (record { writes = its.own.writes; latest = its.own.latest }) (omega arith) (none_loaded ws (Some c) v.loaded still.loaded) still.storing still.joining),
+          let w : View = noted next c v in
+          let by : NotedBy (lock_of (4 * c)) (4 * c) v w = subst (λ (l : LockWord). NotedBy l (4 * c) v w) (sym (free_word c)) (record { place = next; view = refl; later = at_most_last o s.history v.latest its.own.latest }) in (
+            w,
+            looked o ws views id v w s at refl parts refl refl (calm o s.history ws w its.opening_is (record { writes = its.own.writes; latest = its.own.latest }) (omega arith) (none_loaded ws (Some c) v.loaded still.loaded) still.storing still.joining) (looks w (AtRest c) (sym (rests_now o s.history (slice_index ws 0) c r.word)) refl),
             record {
               lock = subst (λ x. is_lock_word x ≡ true) (sym r.word) (free_is_lock c);
-              noted = subst (λ x. NotedBy (lock_of x) x v (noted c v)) (sym r.word) by;
+              noted = subst (λ x. NotedBy (lock_of x) x v w) (sym r.word) by;
             },
           )
 
       held : IsHeldByWrite ws views → Looks o ws views id (TellsNote v (slice_index ws 0))
-      held r = (
-        has_failed (slice_index ws 0) v,
-        looked o ws views id v (has_failed (slice_index ws 0) v) s at refl parts refl refl (calm o s.history ws (has_failed (slice_index ws 0) v) its.opening_is (record { writes = its.own.writes; latest = its.own.latest }) its.note its.loaded still.storing still.joining),
-        record {
-          lock = subst (λ x. is_lock_word x ≡ true) (sym r.word) refl;
-          noted = subst (λ x. NotedBy (lock_of x) (slice_index ws 0) v (has_failed (slice_index ws 0) v)) (sym r.word) refl;
-        },
-      )
+      held r =
+          let c : ℕ = last_count o s.history in
+          let w : View = has_failed next (UnderWay c) v in
+          let by : NotedBy (lock_of 6) 6 v w = record { place = next; count = c; view = refl; word_is = refl } in (
+            w,
+            looked o ws views id v w s at refl parts refl refl (calm o s.history ws w its.opening_is (record { writes = its.own.writes; latest = its.own.latest }) its.note its.loaded still.storing still.joining) (looks w (UnderWay c) (sym (held_now o s.history (slice_index ws 0) r.word)) refl),
+            record {
+              lock = subst (λ x. is_lock_word x ≡ true) (sym r.word) refl;
+              noted = subst (λ x. NotedBy (lock_of x) x v w) (sym r.word) by;
+            },
+          )
 
   -- ---- a value load
 
@@ -71,7 +90,7 @@ module _ (o : Record) (id : ℕ) (v : View) (parts : 0 < v.share.parts) (ws : Li
   load_step i is lt =
       let x : ℕ = slice_index ws (suc i) in (
         has_loaded x v,
-        looked o ws views id v (has_loaded x v) s at refl parts refl refl (calm o s.history ws (has_loaded x v) its.opening_is (record { writes = its.own.writes; latest = its.own.latest }) its.note more is.storing is.joining),
+        looked o ws views id v (has_loaded x v) s at refl parts refl refl (calm o s.history ws (has_loaded x v) its.opening_is (record { writes = its.own.writes; latest = its.own.latest }) its.note more is.storing is.joining) (looks_kept o s.history s.history (slice_index ws 0) (slice_index ws 0) views id v (has_loaded x v) s.looks at refl refl),
         refl,
       )
     where
@@ -105,11 +124,12 @@ module _ (o : Record) (id : ℕ) (v : View) (parts : 0 < v.share.parts) (ws : Li
           let c : note_of v ≡ last_count o s.history = omega (arith, e, r.word) in
           let all : v.loaded ≡ cell_values ws = all_taken v.loaded (cell_values ws) (its.loaded (note_of v) note e) (is.loaded ∙ sym (values_long ws (length o.values) s.long)) in
           let last : IsLast o s.history got = record { count = c; values = r.values.values ∙ ap Some (sym all) } in
-          let w : View = has_read got (forgot v) in (
+          let w : View = has_read got (has_looked next (AtRest (note_of v)) (forgot v)) in (
             w,
-            looked o ws views id v w s at refl parts refl refl (calm o s.history ws w its.opening_is (record { writes = its.own.writes; latest = last_stands o s.history got last }) its.note (none_loaded ws v.note [] refl) is.storing is.joining),
+            looked o ws views id v w s at refl parts refl refl (calm o s.history ws w its.opening_is (record { writes = its.own.writes; latest = last_stands o s.history got last }) its.note (none_loaded ws v.note [] refl) is.storing is.joining) (looks w (AtRest (note_of v)) (ap AtRest c ∙ sym (rests_now o s.history (slice_index ws 0) (last_count o s.history) r.word)) refl),
             record {
               same = λ e'. record {
+                place = next;
                 view = refl;
                 seen = record {
                   history = s.history;
@@ -124,12 +144,15 @@ module _ (o : Record) (id : ℕ) (v : View) (parts : 0 < v.share.parts) (ws : Li
       same : slice_index ws 0 ≡ 4 * note_of v → Looks o ws views id (TellsFinish is_last v (slice_index ws 0))
       same e = ⊎_elim (same_at e) (λ r. absurd (omega (arith, e, r.word))) s.lock
 
-      ended_step : (b : Bool) → HasOneHistory o ws (slice_set views id (attempt_ended b (slice_index ws 0) v))
-      ended_step true = looked o ws views id v (attempt_ended true (slice_index ws 0) v) s at refl parts refl refl (calm o s.history ws (attempt_ended true (slice_index ws 0) v) its.opening_is (record { writes = its.own.writes; latest = its.own.latest }) its.note (none_loaded ws v.note [] refl) is.storing is.joining)
-      ended_step false = looked o ws views id v (attempt_ended false (slice_index ws 0) v) s at refl parts refl refl (calm o s.history ws (attempt_ended false (slice_index ws 0) v) its.opening_is (record { writes = its.own.writes; latest = its.own.latest }) its.note (none_loaded ws v.note [] refl) is.storing is.joining)
+      ended : Bool → View
+      ended b = attempt_ended b next now (forgot v)
+
+      ended_step : (b : Bool) → HasOneHistory o ws (slice_set views id (ended b))
+      ended_step true = looked o ws views id v (ended true) s at refl parts refl refl (calm o s.history ws (ended true) its.opening_is (record { writes = its.own.writes; latest = its.own.latest }) its.note (none_loaded ws v.note [] refl) is.storing is.joining) (looks (ended true) now refl refl)
+      ended_step false = looked o ws views id v (ended false) s at refl parts refl refl (calm o s.history ws (ended false) its.opening_is (record { writes = its.own.writes; latest = its.own.latest }) its.note (none_loaded ws v.note [] refl) is.storing is.joining) (looks (ended false) now refl refl)
 
       other : slice_index ws 0 ≢ 4 * note_of v → Looks o ws views id (TellsFinish is_last v (slice_index ws 0))
-      other n = (attempt_ended is_last (slice_index ws 0) v, ended_step is_last, record { same = λ e. absurd (n e); other = λ m. refl })
+      other n = (ended is_last, ended_step is_last, record { same = λ e. absurd (n e); other = λ m. record { place = next; moment = now; view = refl; word_is = stands } })
 
   -- ---- the second load of a join
 
@@ -139,7 +162,7 @@ module _ (o : Record) (id : ℕ) (v : View) (parts : 0 < v.share.parts) (ws : Li
       let there : RecordStands o s.history r = if_some (RecordStands o s.history) v.joining r (some_record v.joining is.joining) its.joining in
       let w : View = has_compared r v in (
         w,
-        looked o ws views id v w s at refl parts refl refl (calm o s.history ws w its.opening_is (record { writes = its.own.writes; latest = newest_stands o s.history v.latest r its.own.latest there }) its.note (none_loaded ws v.note v.loaded is.loaded) is.storing refl),
+        looked o ws views id v w s at refl parts refl refl (calm o s.history ws w its.opening_is (record { writes = its.own.writes; latest = newest_stands o s.history v.latest r its.own.latest there }) its.note (none_loaded ws v.note v.loaded is.loaded) is.storing refl) (looks_kept o s.history s.history (slice_index ws 0) (slice_index ws 0) views id v w s.looks at refl refl),
         record {
           view = refl;
           history = s.history;

@@ -1,10 +1,10 @@
 -- A seat that is split, and two that are joined, keep the rule. And a new cell meets it.
-use Rattle.std.proofs.Common.{◌≡◌, ◌≢◌, ℕ, zero, suc, ◌+◌, ◌*◌, ◌-◌, ◌^◌, ◌<◌, ◌⊎◌, inl, inr, ⊎_elim, List, [], ◌∷◌, ◌++◌, length-append, None, refl, sym, ap, subst, ◌∙◌, arith, slice_set, ◌==◌}
+use Rattle.std.proofs.Common.{◌≡◌, ◌≢◌, ℕ, zero, suc, ◌+◌, ◌*◌, ◌-◌, ◌^◌, ◌<◌, ◌⊎◌, inl, inr, ⊎_elim, List, [], ◌∷◌, ◌++◌, length-append, None, refl, sym, ap, subst, ◌∙◌, arith, slice_index, slice_set, ◌==◌}
 use Rattle.std.{specs.List.sum_by, proofs.lemmas.{Bool.Decides.nat_tests, List.Sums.{sum_by_push, sum_by-append}}}
 use Rattle.atomic_table.{specs.Table.{Splits, Joins}, proofs.Lists.{at_set, at_snoc, set_else}}
 use Rattle.solero_cell.specs.CellRules.{ViewKnowledge, ViewFits, one_if, times, storing_count, written_count, is_in_span, IsAtRest, IsHeldByWrite, HasOneHistory}
-use Rattle.solero_cell.specs.{CellViews.{first_view, halved, newcomer, taken_in, spent, IsStill}, Histories.History, declared.views.{Record.Record, View.View}}
-use Rattle.solero_cell.proofs.{Knowing.{calm, none_loaded, is_not_storing}, ReadSteps.{rule, its}, Shares.{whole_cut, whole_joined, sum_pos}, Standing.{all_both, opening_stands}, Sums.sum_set}
+use Rattle.solero_cell.specs.{CellViews.{first_view, halved, newcomer, taken_in, spent, IsStill}, Histories.History, Moments.AllFound, declared.views.{Moment.TheVariants.AtRest, Record.Record, View.View}}
+use Rattle.solero_cell.proofs.{Looking.{looks_cut, looks_joined, none_below, rests_now}, Knowing.{calm, none_loaded, is_not_storing}, ReadSteps.{rule, its}, Shares.{whole_cut, whole_joined, sum_pos}, Standing.{all_both, opening_stands}, Sums.sum_set}
 use lib.ListN.{get_elem?}
 use mathlib.Core.Option.{some, some-injective, some-ne-none}
 
@@ -47,6 +47,7 @@ module _ (o : Record) (id : ℕ) (v : View) (parts : 0 < v.share.parts) (still :
     once = λ n. cut_sum (times n) refl refl ∙ s.once n;
     count = cut_sum written_count refl refl ∙ s.count;
     whole = whole_cut views id v (halved v) (newcomer v) at refl refl s.whole;
+    looks = looks_cut o s.history (slice_index ws 0) views s.looks id v at;
   }
 
 pub splits : {S : Type 0} (o : Record) (id : ℕ) (v : View) → 0 < v.share.parts → IsStill v
@@ -109,6 +110,7 @@ module _ (o : Record) (id other : ℕ) (v w : View) (parts : 0 < v.share.parts) 
         once = λ n. joined_sum (times n) (sum_by-append (λ (r : Record). one_if (r.count == n)) v.writes w.writes) refl ∙ s.once n;
         count = joined_sum written_count (length-append v.writes w.writes) refl ∙ s.count;
         whole = whole_joined views id other v w both at apart at_other refl s.whole;
+        looks = looks_joined o s.history (slice_index ws 0) views s.looks id other v w at apart at_other;
       }
 
 pub joins : {S : Type 0} (o : Record) (id other : ℕ) (v w : View) → 0 < v.share.parts → 0 < w.share.parts → IsStill v → IsStill w
@@ -136,8 +138,18 @@ opening_shows o = record {
   once = λ n. sym (nothing_between n o.count);
   count = refl;
   whole = λ depth have. first_depth depth;
+  looks = record {
+    moments = [];
+    way = sym (rests_now o [] (4 * o.count) o.count refl ∙ ap AtRest (omega arith));
+    found = λ i v g. none_found i v g;
+    once = λ n. sym (none_below n);
+  };
 }
   where
+    none_found : (i : ℕ) (u : View) → get_elem? (first_view o ∷ []) i ≡ some u → AllFound [] u.looks
+    none_found zero u g = subst (λ (y : View). AllFound [] y.looks) (some-injective (first_view o) u g) tt
+    none_found (suc i) u g = absurd (some-ne-none u (sym g))
+
     only : (i : ℕ) (u : View) → get_elem? (first_view o ∷ []) i ≡ some u → ViewFits o [] (4 * o.count ∷ o.values) u
     only zero u g = subst (ViewFits o [] (4 * o.count ∷ o.values)) (some-injective (first_view o) u g) (inr (omega arith, calm o [] (4 * o.count ∷ o.values) (first_view o) refl (record { writes = tt; latest = opening_stands o }) tt (none_loaded (4 * o.count ∷ o.values) None [] refl) refl refl))
     only (suc i) u g = absurd (some-ne-none u (sym g))

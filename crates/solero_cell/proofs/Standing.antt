@@ -3,7 +3,7 @@ use Rattle.std.proofs.Common.{◌≡◌, ℕ, zero, suc, ◌+◌, ◌<◌, ◌�
 use Rattle.std.proofs.lemmas.Option.{slice_get_within}
 use Rattle.solero_cell.specs.{CellViews.{newest, record_of}, Histories.{History, last_count, RecordStands, AllStand, IsLast, OwnStand}, declared.views.{Record.Record, View.View}}
 
-got_longer : {A : Type 0} (xs ys : List A) (i : ℕ) (x : A) → slice_get xs i ≡ Some x → slice_get (xs ++ ys) i ≡ Some x
+pub got_longer : {A : Type 0} (xs ys : List A) (i : ℕ) (x : A) → slice_get xs i ≡ Some x → slice_get (xs ++ ys) i ≡ Some x
 got_longer [] ys i x e = let bad : None ≡ Some x = e in absurd (cc)
 got_longer (z ∷ zs) ys zero x e = e
 got_longer (z ∷ zs) ys (suc i) x e = got_longer zs ys i x e

@@ -3,10 +3,10 @@ use Rattle.std.proofs.Common.{◌≡◌, ◌≢◌, ℕ, suc, ◌+◌, ◌*◌, 
 use Rattle.std.{specs.{List.sum_by, Prelude.unwrap_or}, proofs.lemmas.{Bool.Decides.nat_tests, List.{length-set, set-get_or, Sums.sum_by_push}}}
 use Rattle.atomic_table.{specs.Table.{Me, Allows, keeps}, proofs.Lists.exchanged}
 use Rattle.solero_cell.specs.CellRules.{cell_values, IsUnderWay, ViewKnowledge, one_if, storing_count, is_in_span, IsAtRest, IsHeldByWrite, HasOneHistory}
-use Rattle.solero_cell.specs.{CellViews.{record_of, has_failed, has_taken, one_stored, has_stored, has_written, has_released}, Histories.{History, last_count, IsLast, OwnStand}}
-use Rattle.solero_cell.specs.{Stages.{IsNoted, IsStoring}, Steps.{note_of, storing_of, TellsTake, HasWritten}, declared.views.{Record.Record, Storing.Storing, View.View}}
-use Rattle.solero_cell.proofs.{Knowing.{calm, none_loaded, if_some, some_is, not_storing, is_not_storing, is_storing, taken_knows, held_knows, released_knows}, Made.{looked, made}}
-use Rattle.solero_cell.proofs.{ReadSteps.{rule, some_note, its}, Standing.{at_most_last, last_stands, own_on, all_both, new_last}, Sums.{sum_set, at_most, others_none}}
+use Rattle.solero_cell.specs.{CellViews.{record_of, has_looked, has_failed, has_taken, one_stored, has_stored, has_written, has_released}, Histories.{History, last_count, IsLast, OwnStand}}
+use Rattle.solero_cell.specs.{Stages.{IsNoted, IsStoring}, Steps.{note_of, storing_of, TellsTake, HasWritten}, Moments.moment_now, declared.views.{Moment.Moment, Moment.TheVariants.{AtRest, UnderWay}, Record.Record, Storing.Storing, View.View}}
+use Rattle.solero_cell.proofs.{Looking.{held_now, looks_kept, looks_on, rests_now, time_at}, Knowing.{calm, none_loaded, if_some, some_is, not_storing, is_not_storing, is_storing, taken_knows, held_knows, released_knows}, Made.{looked, made}}
+use Rattle.solero_cell.proofs.{ReadSteps.{rule, some_note, its, next, looks, stands}, Standing.{at_most_last, last_stands, own_on, all_both, new_last}, Sums.{sum_set, at_most, others_none}}
 use Rattle.solero_cell.proofs.Words.{values_long, all_taken, lock_set, values_kept, lock_kept, value_set}
 use lib.ListN.{get_elem?}
 use mathlib.Core.Option.{some}
@@ -42,7 +42,8 @@ module _ (o : Record) (id : ℕ) (v : View) (parts : 0 < v.share.parts) (ws : Li
 
     taken_at : slice_index ws 0 ≡ noted → IsAtRest o s.history ws views → Leads o ws views id 0 6 (TellsTake xs v (slice_index ws 0))
     taken_at e r =
-        let w : View = has_taken xs v in
+        let place : ℕ = next o id v parts ws views s at in
+        let w : View = has_taken xs (has_looked place (UnderWay (note_of v)) v) in
         let c : note_of v ≡ last_count o s.history = omega (arith, e, r.word, is.word_is) in
         let ws' : List ℕ = slice_set ws 0 6 in
         let lock : slice_index ws' 0 ≡ 6 = lock_set ws 6 (omega (arith, s.long)) in
@@ -62,8 +63,9 @@ module _ (o : Record) (id : ℕ) (v : View) (parts : 0 < v.share.parts) (ws : Li
         } in (
           w,
           made o ws views id v w s at refl parts ws' s.history (length-set ws 0 6) (inr (record { word = lock; one = now })) k
-              (λ i u n g q. taken_knows o s.history ws ws' u same not_free q) (λ n. refl) refl,
-          record { same = λ q. refl; other = λ n. absurd (n (e ∙ is.word_is)) },
+              (λ i u n g q. taken_knows o s.history ws ws' u same not_free q) (λ n. refl) refl
+              (looks_on o s.history s.history (slice_index ws 0) (slice_index ws' 0) views id v w s.looks at (UnderWay (note_of v)) (ap UnderWay c ∙ sym (held_now o s.history (slice_index ws' 0) lock)) (time_at (moment_now o s.history (slice_index ws 0)) (AtRest (last_count o s.history)) (UnderWay (note_of v)) (rests_now o s.history (slice_index ws 0) (last_count o s.history) r.word) (omega (arith, c))) refl),
+          record { same = λ q. record { place = place; view = refl }; other = λ n. absurd (n (e ∙ is.word_is)) },
         )
 
     taken : slice_index ws 0 ≡ noted → Leads o ws views id 0 6 (TellsTake xs v (slice_index ws 0))
@@ -71,12 +73,14 @@ module _ (o : Record) (id : ℕ) (v : View) (parts : 0 < v.share.parts) (ws : Li
 
     lost : slice_index ws 0 ≢ noted → Leads o ws views id 0 (slice_index ws 0) (TellsTake xs v (slice_index ws 0))
     lost n =
-        let w : View = has_failed (slice_index ws 0) v in
+        let place : ℕ = next o id v parts ws views s at in
+        let m : Moment = moment_now o s.history (slice_index ws 0) in
+        let w : View = has_failed place m v in
         let k = calm o s.history ws w mine.opening_is (record { writes = mine.own.writes; latest = mine.own.latest }) mine.note mine.loaded is.still.storing is.still.joining in
         let kept : slice_set ws 0 (slice_index ws 0) ≡ ws = set-get_or ws 0 0 in (
           w,
-          subst (λ l. HasOneHistory o l (slice_set views id w)) (sym kept) (looked o ws views id v w s at refl parts refl refl k),
-          record { same = λ e. absurd (n (e ∙ sym is.word_is)); other = λ m. refl },
+          subst (λ l. HasOneHistory o l (slice_set views id w)) (sym kept) (looked o ws views id v w s at refl parts refl refl k (looks o id v parts ws views s at w m refl refl)),
+          record { same = λ e. absurd (n (e ∙ sym is.word_is)); other = λ q. record { place = place; moment = m; view = refl; word_is = stands o id v parts ws views s at } },
         )
 
     pub take_step : Leads o ws views id 0 (either (slice_index ws 0 == noted) 6 (slice_index ws 0)) (TellsTake xs v (slice_index ws 0))
@@ -146,7 +150,8 @@ module _ (o : Record) (id : ℕ) (v : View) (parts : 0 < v.share.parts) (ws : Li
         } in (
           w,
           made o ws views id v w s at refl parts ws' s.history (length-set ws (suc i) x) (inr (record { word = lock; one = after })) k
-              (λ j u m g q. held_knows o s.history ws ws' u (no_other j u m g) not_free q) (λ m. refl) refl,
+              (λ j u m g q. held_knows o s.history ws ws' u (no_other j u m g) not_free q) (λ m. refl) refl
+              (looks_kept o s.history s.history (slice_index ws 0) (slice_index ws' 0) views id v w s.looks at (ap (moment_now o s.history) (lock_kept ws i x)) refl),
           refl,
         )
 
@@ -161,7 +166,8 @@ module _ (o : Record) (id : ℕ) (v : View) (parts : 0 < v.share.parts) (ws : Li
         let c : note_of v ≡ last_count o s.history = some_one (note_of v) (last_count o s.history) (sym note ∙ under_way.note_is) in
         let h' : History = s.history ++ now.stored ∷ [] in
         let r : Record = record_of (note_of v + 1) now.stored in
-        let w : View = has_written r (has_released v) in
+        let place : ℕ = next o id v parts ws views s at in
+        let w : View = has_written r (has_looked place (AtRest (note_of v + 1)) (has_released v)) in
         let ws' : List ℕ = slice_set ws 0 (4 * (note_of v + 1)) in
         let lock : slice_index ws' 0 ≡ 4 * (note_of v + 1) = lock_set ws (4 * (note_of v + 1)) (omega (arith, s.long)) in
         let values : now.stored ≡ cell_values ws' =
@@ -190,8 +196,10 @@ module _ (o : Record) (id : ℕ) (v : View) (parts : 0 < v.share.parts) (ws : Li
               let here : one_if (note_of v + 1 == n) ≡ one_if (last_count o s.history + 1 == n) = ap (λ m. one_if (m + 1 == n)) c in
               let there : one_if (is_in_span n o.count (last_count o h')) ≡ one_if (is_in_span n o.count (last_count o s.history + 1)) = ap (λ m. one_if (is_in_span n o.count m)) more in
               omega (arith, push, between, here, there))
-              (let push = length-append v.writes (r ∷ []) in omega (arith, push, long)),
+              (let push = length-append v.writes (r ∷ []) in omega (arith, push, long))
+              (looks_on o s.history h' (slice_index ws 0) (slice_index ws' 0) views id v w s.looks at (AtRest (note_of v + 1)) (ap AtRest last.count ∙ sym (rests_now o h' (slice_index ws' 0) (note_of v + 1) lock)) (time_at (moment_now o s.history (slice_index ws 0)) (UnderWay (last_count o s.history)) (AtRest (note_of v + 1)) (held_now o s.history (slice_index ws 0) held.word) (omega (arith, c))) refl),
           record {
+            place = place;
             view = refl;
             seen = record {
               history = h';

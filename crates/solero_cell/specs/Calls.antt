@@ -1,22 +1,24 @@
 -- What each answer of a read, of a write and of a join says of the seat.
-use Rattle.std.specs.Prelude.{◌≡◌, ◌≢◌, ℕ, ◌+◌, ◌-◌, ◌^◌, ◌<◌, ◌≤◌, List, false, ◌⊎◌, length}
+use Rattle.std.specs.Prelude.{◌≡◌, ◌≢◌, ℕ, ◌+◌, ◌-◌, ◌^◌, ◌<◌, ◌≤◌, List, ◌⊎◌, length}
 use Rattle.std.specs.Prelude.{slice_index_or, suc}
 use mathlib.Core.Option.{some}
 use lib.ListN.{get_elem?}
 use Rattle.atomic_table.specs.Seated.{TableId}
-use Rattle.machine_types.specs.LockWords.{lock_of, word_of_lock}
-use Rattle.machine_types.specs.declared.lock.LockWord.TheVariants.{Free}
 use Rattle.solero_cell.specs.declared.answers.CellRead.{CellRead}
 use Rattle.solero_cell.specs.declared.answers.CellRead.TheVariants.{Got, NotFree, Changed}
 use Rattle.solero_cell.specs.declared.answers.CellWrite.{CellWrite}
 use Rattle.solero_cell.specs.declared.answers.CellWrite.TheVariants as wrote
+use Rattle.solero_cell.specs.declared.views.Moment.{Moment}
+use Rattle.solero_cell.specs.declared.views.Moment.TheVariants.{AtRest, UnderWay}
 use Rattle.solero_cell.specs.declared.views.Record.{Record}
 use Rattle.solero_cell.specs.declared.views.Share.{Share}
 use Rattle.solero_cell.specs.declared.views.View.{View}
 use Rattle.solero_cell.specs.Histories.{IsRecordSeen}
 use Rattle.solero_cell.specs.CellRules.{HasOneHistory}
-use Rattle.solero_cell.specs.CellViews.{is_free_lock, record_of, noted, has_failed, has_read}
+use Rattle.solero_cell.specs.CellViews.{record_of, noted, has_looked, has_failed, has_read}
 use Rattle.solero_cell.specs.CellViews.{has_written, spent, IsStill}
+use Rattle.solero_cell.specs.Moments.{word_at}
+use Rattle.solero_cell.specs.Steps.{HasFoundHeld}
 
 -- a seat at a cell: of which table, and what it knows
 pub record Seated : Type 0 where
@@ -37,28 +39,46 @@ pub record IsSeat (s : Seated) : Type 0 where
 
 -- ---- a read
 
+-- an attempt has found the free word of a count, and another word at its end
+pub record IsAttemptOver (was now : View) : Type 0 where
+  pub noted_at : ℕ
+  pub count : ℕ
+  pub place : ℕ
+  pub moment : Moment
+  pub view : now ≡ has_looked place moment (noted noted_at count was)
+  pub differ : word_at (AtRest count) ≢ word_at moment
+
 -- the attempt begins at the view, or behind one that ended without an answer
 abbrev pub IsTryBegun : (was now : View) → Type 0
-IsTryBegun was now = (now ≡ was) ⊎ ((c : ℕ) × (now ≡ noted c was))
+IsTryBegun was now = (now ≡ was) ⊎ IsAttemptOver was now
 
 pub record IsGot (was : View) (c : ℕ) (values : List ℕ) (now : View) : Type 0 where
   pub begun : View
   pub begins : IsTryBegun was begun
-  pub view : now ≡ has_read (record_of c values) (noted c begun)
+  pub noted_at : ℕ
+  pub place : ℕ
+  pub view : now
+      ≡ has_read (record_of c values) (has_looked place (AtRest c) (noted noted_at c begun))
   pub later : was.latest.count ≤ c
   pub seen : IsRecordSeen was (record_of c values)
 
+-- the word that was found is the held one: a write was under way
 pub record IsNotFree (was : View) (word : ℕ) (now : View) : Type 0 where
   pub begun : View
   pub begins : IsTryBegun was begun
-  pub view : now ≡ has_failed word begun
-  pub held : is_free_lock (lock_of word) ≡ false
+  pub found : HasFoundHeld begun word now
 
+-- two attempts were over; the words are those that the second one found
 pub record IsChanged (was : View) (word found : ℕ) (now : View) : Type 0 where
-  pub first : ℕ
-  pub second : ℕ
-  pub view : now ≡ has_failed found (noted second (noted first was))
-  pub word_is : word ≡ word_of_lock (Free second)
+  pub begun : View
+  pub begins : IsAttemptOver was begun
+  pub noted_at : ℕ
+  pub count : ℕ
+  pub place : ℕ
+  pub moment : Moment
+  pub view : now ≡ has_failed place moment (noted noted_at count begun)
+  pub word_is : word ≡ word_at (AtRest count)
+  pub found_is : found ≡ word_at moment
   pub differ : word ≢ found
 
 -- `out` has the values after Got, and is unchanged after every other answer
@@ -73,24 +93,32 @@ IsCellRead was out (Changed word found) now filled = IsChanged was word found no
 pub record IsWrote (was : View) (values : List ℕ) (c : ℕ) (now : View) : Type 0 where
   pub before : ℕ
   pub count : c ≡ before + 1
-  pub view : now ≡ has_written (record_of c values) (noted before was)
+  pub noted_at : ℕ
+  pub taken_at : ℕ
+  pub place : ℕ
+  pub view : now
+      ≡ has_written (record_of c values) (has_looked place (AtRest c)
+      (has_looked taken_at (UnderWay before) (noted noted_at before was)))
   pub later : was.latest.count < c
   pub seen : IsRecordSeen was (record_of c values)
   pub fits : c < 2 ^ 62
 
 pub record IsLost (was : View) (expected found : ℕ) (now : View) : Type 0 where
+  pub noted_at : ℕ
   pub count : ℕ
-  pub view : now ≡ has_failed found (noted count was)
-  pub word_is : expected ≡ word_of_lock (Free count)
+  pub place : ℕ
+  pub moment : Moment
+  pub view : now ≡ has_failed place moment (noted noted_at count was)
+  pub word_is : expected ≡ word_at (AtRest count)
+  pub found_is : found ≡ word_at moment
   pub differ : expected ≢ found
   pub fits : count + 1 < 2 ^ 62
 
 abbrev pub IsCellWritten : (was : View) (values : List ℕ) → CellWrite → (now : View) → Type 0
 IsCellWritten was values (wrote.Wrote c) now = IsWrote was values c now
-IsCellWritten was values (wrote.NotFree word) now =
-    (now ≡ has_failed word was) × (is_free_lock (lock_of word) ≡ false)
+IsCellWritten was values (wrote.NotFree word) now = HasFoundHeld was word now
 IsCellWritten was values (wrote.Lost expected found) now = IsLost was expected found now
-IsCellWritten was values wrote.Full now = now ≡ noted (2 ^ 62 - 1) was
+IsCellWritten was values wrote.Full now = (place : ℕ) × (now ≡ noted place (2 ^ 62 - 1) was)
 
 -- the same seat later
 abbrev pub StaysAtTable : Seated → Seated → Type 0

@@ -8,11 +8,14 @@ use mathlib.Core.Option.{some}
 use lib.ListN.{get_elem?}
 use Rattle.machine_types.specs.LockWords.{word_of_lock}
 use Rattle.machine_types.specs.declared.lock.LockWord.TheVariants.{Free, Held}
+use Rattle.solero_cell.specs.declared.views.Moment.{Moment}
+use Rattle.solero_cell.specs.declared.views.Moment.TheVariants.{AtRest}
 use Rattle.solero_cell.specs.declared.views.Record.{Record}
 use Rattle.solero_cell.specs.declared.views.Share.{Share}
 use Rattle.solero_cell.specs.declared.views.Storing.{Storing}
 use Rattle.solero_cell.specs.declared.views.View.{View}
 use Rattle.solero_cell.specs.Histories.{History, last_count, RecordStands, IsLast, OwnStand}
+use Rattle.solero_cell.specs.Moments.{AllFound, IsWay, moment_now}
 use Rattle.solero_cell.specs.CellViews.{record_of, spent}
 
 -- the words of the values
@@ -87,6 +90,18 @@ pub record IsHeldByWrite (words : List ℕ) (views : List View) : Type 0 where
   pub word : slice_index words 0 ≡ word_of_lock (Held 0)
   pub one : sum_by storing_count views ≡ 1
 
+-- how often a seat has looked at a place
+abbrev pub looks_at : (place : ℕ) → View → ℕ
+looks_at n v = sum_by (λ l. one_if (l.place == n)) v.looks
+
+-- the looks of all seats are one row of moments, which ends with what the lock word is now
+pub record HaveLooked (opening : Record) (h : History) (word : ℕ) (views : List View) : Type 0 where
+  pub moments : List Moment
+  pub way : IsWay (AtRest opening.count) moments (moment_now opening h word)
+  -- each seat tells what it found, and each place of the row is that of one look
+  pub found : (i : ℕ) (v : View) → get_elem? views i ≡ some v → AllFound moments v.looks
+  pub once : (n : ℕ) → sum_by (looks_at n) views ≡ one_if (nat_lt n (length moments))
+
 -- ---- the rule
 
 pub record HasOneHistory (opening : Record) (words : List ℕ) (views : List View) : Type 0 where
@@ -99,3 +114,4 @@ pub record HasOneHistory (opening : Record) (words : List ℕ) (views : List Vie
       → sum_by (times n) views ≡ one_if (is_in_span n opening.count (last_count opening history))
   pub count : sum_by written_count views ≡ length history
   pub whole : AreWhole views
+  pub looks : HaveLooked opening history (slice_index words 0) views

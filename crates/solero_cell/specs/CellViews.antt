@@ -1,16 +1,13 @@
 -- What the steps of a seat make of its view.
 use Rattle.std.specs.Prelude.{◌≡◌, ℕ, ◌+◌, ◌*◌, ◌^◌, List, [], ◌∷◌, ◌++◌, Bool, true, false, nat_lt}
 use Rattle.std.specs.Prelude.{if◌then◌else◌, None, Some}
-use Rattle.machine_types.specs.declared.lock.LockWord.{LockWord}
-use Rattle.machine_types.specs.declared.lock.LockWord.TheVariants.{Free}
+use Rattle.solero_cell.specs.declared.views.Moment.{Moment}
+use Rattle.solero_cell.specs.declared.views.Moment.TheVariants.{AtRest}
 use Rattle.solero_cell.specs.declared.views.Record.{Record}
 use Rattle.solero_cell.specs.declared.views.Share.{Share}
 use Rattle.solero_cell.specs.declared.views.Storing.{Storing}
 use Rattle.solero_cell.specs.declared.views.View.{View}
-
-abbrev pub is_free_lock : LockWord → Bool
-is_free_lock (Free c) = true
-is_free_lock lock = false
+use Rattle.solero_cell.specs.Moments.{word_at}
 
 abbrev pub record_of : (count : ℕ) (values : List ℕ) → Record
 record_of c xs = record { count = c; values = xs }
@@ -42,6 +39,7 @@ new_view opening r s = record {
   reads = 0;
   failed = 0;
   found = None;
+  looks = [];
   share = s;
   loaded = [];
   storing = None;
@@ -62,13 +60,18 @@ pub record IsStill (v : View) : Type 0 where
 
 -- ---- the steps
 
--- a note load found count c
-abbrev pub noted : (c : ℕ) → View → View
-noted c v = record v { note = Some c; notes = v.notes + 1 }
+-- a step on the lock word, which is so behind it
+abbrev pub has_looked : (place : ℕ) → Moment → View → View
+has_looked n m v = record v { looks = v.looks ++ record { place = n; moment = m } ∷ [] }
 
--- a try failed, and found this word
-abbrev pub has_failed : (word : ℕ) → View → View
-has_failed word v = record v { failed = v.failed + 1; found = Some word }
+-- a note load found count c
+abbrev pub noted : (place c : ℕ) → View → View
+noted n c v = record (has_looked n (AtRest c) v) { note = Some c; notes = v.notes + 1 }
+
+-- a try failed, and found the word of this moment
+abbrev pub has_failed : (place : ℕ) → Moment → View → View
+has_failed n m v =
+    record (has_looked n m v) { failed = v.failed + 1; found = Some (word_at m) }
 
 abbrev pub has_loaded : (value : ℕ) → View → View
 has_loaded x v = record v { loaded = v.loaded ++ x ∷ [] }
@@ -114,6 +117,7 @@ taken_in v w = record v {
   notes = v.notes + w.notes;
   reads = v.reads + w.reads;
   failed = v.failed + w.failed;
+  looks = v.looks ++ w.looks;
   share = sum_of v.share w.share;
   joining = Some w.latest;
 }

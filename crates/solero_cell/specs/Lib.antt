@@ -1,4 +1,5 @@
 pub mod Histories
+pub mod Moments
 pub mod CellViews
 pub mod CellRules
 pub mod Steps

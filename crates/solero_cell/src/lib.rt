@@ -18,7 +18,7 @@ mod write;
 pub use answers::{CellRead, CellWrite};
 pub use rule::{CellRule, CellTable};
 pub use seat::{CellSeat, MOST_VALUES, cell};
-pub use views::{Record, Share, Storing, View};
+pub use views::{Look, Moment, Record, Share, Storing, View};
 
 #[cfg(test)]
 mod tests;

@@ -22,6 +22,23 @@ pub struct Share {
     pub depth: u64,
 }
 
+/// What the lock word of a cell is.
+#[derive(Clone, Copy)]
+pub enum Moment {
+    /// The free word with this count, which is the cell's last.
+    AtRest(u64),
+    /// The held word: the write behind this count is under way.
+    UnderWay(u64),
+}
+
+/// A step of a seat on the lock word: its place among all such steps of the cell, from 0, and what
+/// the word is behind it. A load leaves the word that it finds.
+#[derive(Clone, Copy)]
+pub struct Look {
+    pub place: u64,
+    pub moment: Moment,
+}
+
 /// What a seat knows of its cell.
 pub struct View {
     /// What the cell was opened with.
@@ -39,6 +56,8 @@ pub struct View {
     /// How many of its tries failed, and the word that the last of them found.
     pub failed: u64,
     pub found: Option<u64>,
+    /// Its steps on the lock word, in their order.
+    pub looks: Rows<Look>,
     /// Its part of the right to know all seats.
     pub share: Share,
     /// In the middle of a read: the values loaded since the note.
