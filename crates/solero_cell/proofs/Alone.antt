@@ -1,7 +1,7 @@
 -- A seat with the share 1 has taken in all others.
-use Rattle.std.{proofs.{Common.{◌≡◌, ℕ, ◌*◌, ◌-◌, ◌^◌, ◌≤◌, inl, inr, List, sym, ap, ◌∙◌, arith}, lemmas.Nat.{pow-add, pow_pos}}, specs.List.sum_by}
-use Rattle.solero_cell.specs.{Calls.{IsOnlySeat, IsAtEnd, IsShown, IsWhole}, CellRules.{ViewFits, HaveDepth, HasOneHistory, in_parts}, CellViews.spent, Histories.History, declared.views.Record.Record}
-use Rattle.solero_cell.{specs.declared.views.View.View, proofs.{Shares.pos_times, Sums.{at_most, others_none}}}
+use Rattle.std.{proofs.{Common.{◌≡◌, ℕ, ◌*◌, ◌-◌, ◌^◌, ◌≤◌, ◌<◌, inl, inr, List, refl, sym, ap, subst, ◌∙◌, arith, slice_index}, lemmas.Nat.{pow-add, pow_pos}}, specs.List.sum_by}
+use Rattle.solero_cell.specs.{Calls.{IsOnlySeat, IsAtEnd, IsWhole}, CellRules.{ViewFits, HaveDepth, HasOneHistory, in_parts}, CellViews.spent, Histories.History, declared.views.Record.Record}
+use Rattle.solero_cell.{specs.declared.views.View.View, proofs.{Looking.looks_kept, Made.looked, ReadSteps.{Looks, its}, Shares.pos_times, Sums.{at_most, others_none}}}
 use lib.ListN.{get_elem?}
 use mathlib.Core.Option.{some}
 
@@ -30,12 +30,25 @@ alone o words views number v s here whole i u apart at =
     let most : sum_by (parts_of depth) views ≤ parts_of depth v = omega (arith, all, mine) in
     nobody depth o s.history words u (others_none (parts_of depth) views number i v u here most apart at) (s.each i u at)
 
-pub at_end : (v : View) (number : ℕ) → IsShown v.opening number v → IsAtEnd v
-at_end v number shown = record {
-  words = shown.0;
-  views = shown.1;
-  number = number;
-  shows = shown.2;
-  here = shown.3;
-  whole = alone v.opening shown.0 shown.1 number v shown.2 shown.3;
-}
+-- a load shows this to a seat
+pub end_step : (o : Record) (number : ℕ) (v : View) → 0 < v.share.parts → v.opening ≡ o
+    → (words : List ℕ) (views : List View) → HasOneHistory o words views → get_elem? views number ≡ some v
+    → Looks o words views number (λ w. (w ≡ v) × IsAtEnd v)
+end_step o number v parts is words views s here =
+    let mine = its o number v parts words views s here in
+    let kept = looks_kept o s.history s.history (slice_index words 0) (slice_index words 0) views number v v s.looks here refl refl in
+    let shows : HasOneHistory v.opening words views = subst (λ (p : Record). HasOneHistory p words views) (sym is) s in (
+      v,
+      looked o words views number v v s here refl parts refl refl mine kept,
+      (
+        refl,
+        record {
+          words = words;
+          views = views;
+          number = number;
+          shows = shows;
+          here = here;
+          whole = alone v.opening words views number v shows here;
+        },
+      ),
+    )

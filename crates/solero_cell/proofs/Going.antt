@@ -1,5 +1,5 @@
 -- How far a call is, as its view goes on.
-use Rattle.std.proofs.Common.{◌≡◌, ◌≢◌, ℕ, zero, suc, ◌*◌, ◌<◌, ◌≤◌, List, [], ◌∷◌, ◌++◌, length, take, drop, Bool, true, false, Some, None, refl, sym, ap, subst, ◌∙◌, slice_get, slice_set, is_some}
+use Rattle.std.proofs.Common.{◌≡◌, ◌≢◌, ℕ, zero, suc, ◌*◌, ◌<◌, ◌≤◌, List, [], ◌∷◌, ◌++◌, length, take, drop, Bool, Some, None, refl, sym, ap, subst, ◌∙◌, slice_get, slice_set, is_some}
 use Rattle.std.{specs.Prelude.unwrap_or, proofs.{Math.Seq.take-suc-set, lemmas.List.length-take-le}}
 use Rattle.atomic_table.specs.Seated.{TableId}
 use Rattle.solero_cell.specs.{Attempts.{IsBehindGot, IsBehindChanged}, CellViews.{IsStill, record_of, has_loaded, has_looked, forgot, has_read, has_stored, one_stored, taken_in}}

@@ -10,3 +10,4 @@ mod WriteSteps
 mod SeatSteps
 mod Going
 mod Alone
+mod Truth

@@ -1,8 +1,8 @@
 -- The looks of all seats at the lock word, when one seat looks once more or none does.
-use Rattle.std.proofs.Common.{◌≡◌, ◌≢◌, ℕ, suc, ◌+◌, ◌*◌, ◌<◌, ◌≤◌, ◌==◌, ◌⊎◌, inl, inr, ⊎_elim, List, [], ◌∷◌, ◌++◌, length, length-append, Bool, true, false, Option, Some, None, refl, sym, ap, subst, ◌∙◌, arith, slice_set, slice_get, nat_lt, if◌then◌else◌}
+use Rattle.std.proofs.Common.{◌≡◌, ◌≢◌, ℕ, ◌+◌, ◌*◌, ◌≤◌, ◌==◌, ◌⊎◌, inl, inr, ⊎_elim, List, [], ◌∷◌, ◌++◌, length, length-append, false, Some, refl, sym, ap, subst, ◌∙◌, arith, slice_set, slice_get, nat_lt, if◌then◌else◌}
 use Rattle.std.{specs.List.sum_by, proofs.lemmas.{Bool.Decides.nat_tests, List.Sums.{sum_by_push, sum_by-append}}}
 use Rattle.atomic_table.proofs.Lists.{at_set, at_snoc, set_else}
-use Rattle.solero_cell.specs.{CellRules.{HaveLooked, looks_at, one_if, IsAtRest, IsHeldByWrite}, CellViews.{halved, newcomer, taken_in, spent}, Histories.{History, last_count}}
+use Rattle.solero_cell.specs.{CellRules.{HaveLooked, looks_at, one_if}, CellViews.{halved, newcomer, taken_in, spent}, Histories.{History, last_count}}
 use Rattle.solero_cell.specs.{Moments.{AllFound, IsWay, moment_now, time_of, word_at}, declared.views.{Look.Look, Moment.Moment, Moment.TheVariants.{AtRest, UnderWay}, Record.Record, View.View}}
 use Rattle.solero_cell.proofs.{Standing.got_longer, Sums.sum_set}
 use lib.ListN.{get_elem?}

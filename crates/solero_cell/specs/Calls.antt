@@ -134,17 +134,11 @@ AreSeatsOf table opening seats =
 abbrev pub IsWhole : Share → Type 0
 IsWhole s = s.parts ≡ 2 ^ s.depth
 
--- some state between two steps has this view at this number
-abbrev pub IsShown : (opening : Record) (number : ℕ) (v : View) → Type 0
-IsShown opening number v =
-    (words : List ℕ) × (views : List View) × HasOneHistory opening words views
-    × (get_elem? views number ≡ some v)
-
 -- the seat with this number has taken in all others
 abbrev pub IsOnlySeat : (number : ℕ) → List View → Type 0
 IsOnlySeat number views = (i : ℕ) (v : View) → i ≢ number → get_elem? views i ≡ some v → v ≡ spent
 
--- the last words of the cell, and what its seats knew then, this one among them
+-- words of the cell, and what its seats knew then, this one among them
 pub record IsAtEnd (v : View) : Type 0 where
   pub words : List ℕ
   pub views : List View

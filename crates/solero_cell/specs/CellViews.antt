@@ -1,5 +1,5 @@
 -- What the steps of a seat make of its view.
-use Rattle.std.specs.Prelude.{◌≡◌, ℕ, ◌+◌, ◌*◌, ◌^◌, List, [], ◌∷◌, ◌++◌, Bool, true, false, nat_lt}
+use Rattle.std.specs.Prelude.{◌≡◌, ℕ, ◌+◌, ◌*◌, ◌^◌, List, [], ◌∷◌, ◌++◌, nat_lt}
 use Rattle.std.specs.Prelude.{if◌then◌else◌, None, Some}
 use Rattle.solero_cell.specs.declared.views.Moment.{Moment}
 use Rattle.solero_cell.specs.declared.views.Moment.TheVariants.{AtRest}

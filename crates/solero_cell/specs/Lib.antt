@@ -7,3 +7,4 @@ pub mod Stages
 pub mod Calls
 pub mod Attempts
 pub mod Filling
+pub mod Looks

@@ -8,6 +8,8 @@
 #![tactic(auto)]
 
 mod answers;
+mod ending;
+mod laws;
 mod read;
 mod rule;
 mod seat;
@@ -16,6 +18,8 @@ mod views;
 mod write;
 
 pub use answers::{CellRead, CellWrite};
+pub use ending::CellEnd;
+pub use laws::added_looks_are_true;
 pub use rule::{CellRule, CellTable};
 pub use seat::{CellSeat, MOST_VALUES, cell};
 pub use views::{Look, Moment, Record, Share, Storing, View};

@@ -144,6 +144,16 @@ impl Join<View> for Joins {
     ghost spent = { spent };
 }
 
+/// The load with which a seat ends its cell: what it knows then.
+pub(crate) struct Ends;
+
+impl Play<(), View> for Ends {
+    ghost use Rattle.std.specs.Prelude.{◌≡◌};
+    ghost use Rattle.solero_cell.specs.Calls.{IsAtEnd};
+
+    ghost then = { λ s m r n. ((n.0 ≡ m.0) × IsAtEnd m.0) × (n.1 ≡ m.1) };
+}
+
 /// The second load of a join.
 pub(crate) struct Compares;
 

@@ -1,13 +1,14 @@
 //! A seat at a cell: it reads and writes.
 
 ghost use Rattle.std.specs.Prelude.{◌≡◌, ◌<◌, ◌≤◌, ◌*◌, ◌^◌, [], ◌∷◌, length, IfOk};
-ghost use Rattle.solero_cell.specs.Calls.{IsAtEnd, IsCellRead, IsShown, IsTableOfSeat};
+ghost use Rattle.solero_cell.specs.Calls.{IsAtEnd, IsCellRead, IsTableOfSeat};
 ghost use Rattle.solero_cell.specs.Calls.{IsCellWritten};
 ghost use Rattle.solero_cell.specs.CellViews.{first_view, halved, joined_views, newcomer};
 ghost use Rattle.solero_cell.specs.CellViews.{record_of};
 ghost use Rattle.solero_cell.specs.Histories.{AreOfOne};
 
 use crate::answers::{CellRead, CellWrite};
+use crate::ending::CellEnd;
 use crate::rule::CellTable;
 use crate::views::{Record, View};
 use crate::{read, steps, write};
@@ -88,15 +89,6 @@ pub fn cell(
             latest: count,
         },
     ))
-}
-
-/// Frees a table. Its last state, between two steps, has the view of its seat.
-fn end_table(table: CellTable, seat: Seat<(), View>)
-    requires table { seat.table_id ≡ table.shared.table_id }
-    requires vacant { table.shared.table_id.slots ≡ 0 }
-    ensures { IsShown table.shared.key seat.id seat.me.0 }
-{
-    table.close_with(seat).free();
 }
 
 impl CellSeat {
@@ -191,14 +183,17 @@ impl CellSeat {
         }
     }
 
-    /// Ends the cell. Its last words and what its seats knew then, as this seat its view, meet the
+    /// Ends the cell. Words of it and what its seats knew then, as this seat its view, meet the
     /// rule of the cell. A seat with the share 1 has taken in all others, so the writes and the
     /// numbers of all seats are its own.
-    pub fn close(self, table: CellTable)
+    pub fn close(self, table: CellTable) -> CellEnd
         requires table { IsTableOfSeat table.shared.table_id table.shared.key self }
-        ensures { IsAtEnd self.view }
+        ensures seat { result ≡ self.view }
+        ensures end { IsAtEnd result }
     {
-        end_table(table, self.seat);
+        let CellSeat { mut seat, .. } = self;
+        steps::end(&table, &mut seat);
+        CellEnd { seat }
     }
 
     /// The count of the seat's latest record.

@@ -1,6 +1,7 @@
 //! The steps of a seat, each of which is one step on one word of the table.
 
 ghost use Rattle.std.specs.Prelude.{◌≡◌, ◌+◌, ◌<◌, ◌^◌, [], length, slice_get, Some};
+ghost use Rattle.solero_cell.specs.Calls.{IsAtEnd};
 ghost use Rattle.solero_cell.specs.CellViews.{IsStill, halved, has_loaded, has_stored, newcomer};
 ghost use Rattle.solero_cell.specs.CellViews.{taken_in};
 ghost use Rattle.solero_cell.specs.Stages.{IsJoining, IsLoading, IsNoted, IsSeatAt, IsStoring};
@@ -8,8 +9,8 @@ ghost use Rattle.solero_cell.specs.Steps.{HasCompared, HasWritten, TellsFinish, 
 ghost use Rattle.solero_cell.specs.Steps.{TellsTake, note_of, storing_of};
 
 use crate::rule::{
-    Attempt, CellTable, Compares, Cuts, Finishes, Joins, Loads, Notes, Releases, Stores, Takes,
-    Writing,
+    Attempt, CellTable, Compares, Cuts, Ends, Finishes, Joins, Loads, Notes, Releases, Stores,
+    Takes, Writing,
 };
 use crate::views::View;
 use atomic_table::Seat;
@@ -150,4 +151,14 @@ pub(crate) fn compare(table: &CellTable, seat: &mut Seat<(), View>)
     ensures tells { HasCompared seat.old.me.0 seat.new.me.0 }
 {
     let _nothing = table.shared.load::<Compares>(seat, LOCK);
+}
+
+/// The last load of a cell, which tells what holds of it and of its seats.
+pub(crate) fn end(table: &CellTable, seat: &mut Seat<(), View>)
+    requires seat { IsSeatAt table.now.shared.table_id table.now.shared.key seat.old.table_id
+        seat.old.me.0 }
+    ensures seat { (seat.new.table_id ≡ seat.old.table_id) × (seat.new.me ≡ seat.old.me) }
+    ensures tells { IsAtEnd seat.old.me.0 }
+{
+    let _nothing = table.shared.load::<Ends>(seat, LOCK);
 }

@@ -1,0 +1,10 @@
+use Rattle.std.proofs.Common.{◌≡◌, arith}
+use Rattle.solero_cell.{specs.Calls.IsAtEnd, proofs.{Alone.end_step, ReadSteps.load_allows}}
+use Rattle.solero_cell.proofs.steps.end.Goals as goal
+
+pub load-nothing-requires : goal.load-nothing-requires
+load-nothing-requires c =
+    let shared = c.args.table.now.shared in
+    let seat = c.args.seat.now in
+    let is = c.requires.seat in
+    (is.of, omega (arith, is.words), load_allows shared.key shared.table_id.slots seat.id 0 seat.me (λ x w. (w ≡ seat.me.0) × IsAtEnd seat.me.0) (λ ws views s at. end_step shared.key seat.id seat.me.0 is.share is.opening_is ws views s at))
