@@ -29,30 +29,30 @@ or_false true c d e f = absurd (let bad : true ≡ false = sym e ∙ f in cc)
 
 over_joined : (k m rounds : ℕ) (h w both : Hand) → HasJoined h w both → AreRoundsOver k rounds h → AreRoundsOver m rounds w → AreRoundsOver (k + m) rounds both
 over_joined k m rounds h w both j o p =
-    let writes : both.report.writes ≡ h.report.writes + w.report.writes = ap (λ r. r.writes) j.report in
-    let reads : both.report.reads ≡ h.report.reads + w.report.reads = ap (λ r. r.reads) j.report in
-    let stopped : both.report.stopped ≡ h.report.stopped + w.report.stopped = ap (λ r. r.stopped) j.report in
+    let writes : both.tally.writes ≡ h.tally.writes + w.tally.writes = ap (λ r. r.writes) j.tally in
+    let reads : both.tally.reads ≡ h.tally.reads + w.tally.reads = ap (λ r. r.reads) j.tally in
+    let stopped : both.tally.stopped ≡ h.tally.stopped + w.tally.stopped = ap (λ r. r.stopped) j.tally in
     record {
       stopped = omega (arith, stopped, o.stopped, p.stopped);
-      writes = rw writes (add_most k m rounds h.report.writes w.report.writes o.writes p.writes);
-      reads = rw reads (add_most k m rounds h.report.reads w.report.reads o.reads p.reads);
+      writes = rw writes (add_most k m rounds h.tally.writes w.tally.writes o.writes p.writes);
+      reads = rw reads (add_most k m rounds h.tally.reads w.tally.reads o.reads p.reads);
       all_writes = λ not_full.
           let both_not = or_false h.is_full w.is_full both.is_full j.full not_full in
-          rw (writes, stopped) (left_le k m h.report.stopped w.report.stopped rounds h.report.writes w.report.writes o.stopped p.stopped (o.all_writes both_not.0) (p.all_writes both_not.1));
+          rw (writes, stopped) (left_le k m h.tally.stopped w.tally.stopped rounds h.tally.writes w.tally.writes o.stopped p.stopped (o.all_writes both_not.0) (p.all_writes both_not.1));
       all_reads = λ not_full.
           let both_not = or_false h.is_full w.is_full both.is_full j.full not_full in
-          rw (reads, stopped) (left_le k m h.report.stopped w.report.stopped rounds h.report.reads w.report.reads o.stopped p.stopped (o.all_reads both_not.0) (p.all_reads both_not.1));
+          rw (reads, stopped) (left_le k m h.tally.stopped w.tally.stopped rounds h.tally.reads w.tally.reads o.stopped p.stopped (o.all_reads both_not.0) (p.all_reads both_not.1));
     }
 
 module _ (table : TableId) (opening : Record) (rounds turns : ℕ) where
   gathered_joined : (k : ℕ) (h w both : Hand) → HasJoined h w both → HasGathered table opening k rounds turns h
       → HasGathered table opening 1 rounds turns w → HasGathered table opening (k + 1) rounds turns both
   gathered_joined k h w both j g l =
-      let stopped : both.report.stopped ≡ h.report.stopped + w.report.stopped = ap (λ r. r.stopped) j.report in
+      let stopped : both.tally.stopped ≡ h.tally.stopped + w.tally.stopped = ap (λ r. r.stopped) j.tally in
       record {
         of = (g.of.0 ∙ sym j.table, g.of.1 ∙ sym j.opening);
         counted = j.counted;
-        stopped = rw (stopped, j.failed) (add_le h.report.stopped w.report.stopped turns h.seat.view.failed w.seat.view.failed g.stopped l.stopped);
+        stopped = rw (stopped, j.failed) (add_le h.tally.stopped w.tally.stopped turns h.seat.view.failed w.seat.view.failed g.stopped l.stopped);
         over = over_joined k 1 rounds h w both j g.over l.over;
       }
 
@@ -64,7 +64,7 @@ module _ (table : TableId) (opening : Record) (rounds turns : ℕ) where
       let count : workers - (n + 1) + 1 ≡ workers - n = omega (arith, le) in
       subst (λ k. HasGathered table opening k rounds turns both) count (gathered_joined (workers - (n + 1)) h w both j g l.gathered)
 
-  pub few_gathered : (k : ℕ) (h : Hand) → k ≤ 8 → rounds ≤ 1000 → HasGathered table opening k rounds turns h → HasFew h.report
+  pub few_gathered : (k : ℕ) (h : Hand) → k ≤ 8 → rounds ≤ 1000 → HasGathered table opening k rounds turns h → HasFew h.tally
   few_gathered k h le le' g = let most = times_le k 8 rounds 1000 le le' in (omega (arith, most, g.over.writes), omega (arith, most, g.over.reads), omega (arith, le, g.over.stopped))
 
   -- ---- the hands in a list
@@ -84,9 +84,9 @@ module _ (table : TableId) (opening : Record) (rounds turns : ℕ) where
   }
 
   pub ready_made : (n : ℕ) (s : Seated) (h : Hand) → h.seat.table_id ≡ s.table_id → h.seat.view ≡ newcomer s.view
-      → h.report ≡ record { writes = 0; reads = 0; stopped = 0 } → h.is_full ≡ false → IsFreshSeat table opening n s
+      → h.tally ≡ record { writes = 0; reads = 0; stopped = 0 } → h.is_full ≡ false → IsFreshSeat table opening n s
       → IsReady table opening (n + 1) h
-  ready_made n s h same view report full f = record { fresh = fresh_made n s h.seat same view f; report = report; full = full }
+  ready_made n s h same view tally full f = record { fresh = fresh_made n s h.seat same view f; tally = tally; full = full }
 
   pub one_more_ready : (hands : List Hand) (h : Hand) (n : ℕ) → length hands ≡ n → AreReady table opening hands
       → IsReady table opening (n + 1) h → AreReady table opening (hands ++ h ∷ [])

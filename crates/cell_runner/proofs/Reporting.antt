@@ -3,7 +3,7 @@ use Rattle.std.{proofs.Common.{◌≡◌, ℕ, zero, suc, ◌+◌, ◌*◌, ◌-
 use Rattle.std.proofs.lemmas.List.Sums.{sum_by-cons}
 use Rattle.atomic_table.specs.Seated.{TableId}
 use Rattle.solero_cell.specs.{Calls.{IsOnlySeat, IsAtEnd, IsWhole}, CellRules.{ViewFits, HasOneHistory, is_in_span, one_if, written_count}, CellViews.spent, declared.views.{Record.Record, View.View}}
-use Rattle.cell_runner.specs.{CellRuns.{IsCellRun, all_zero}, HandsOfCell.HasGathered, declared.hands.Hand.Hand}
+use Rattle.cell_runner.specs.{CellRuns.{IsCellRun, all_zero}, HandsOfCell.HasGathered, declared.{hands.Hand.Hand, report.CellReport.CellReport}}
 use lib.ListN.{get_elem?}
 use mathlib.Core.Option.{some, some-injective, some-ne-none}
 
@@ -47,25 +47,37 @@ not_full false never = refl
 
 -- ---- the report
 
+abbrev pub reports : Hand → CellReport
+reports h = record { writes = h.tally.writes; reads = h.tally.reads; stopped = h.tally.stopped; end = h.seat.view }
+
 pub reported : (workers rounds turns : ℕ) (table : TableId) (h : Hand) → workers * rounds ≤ 8000
     → HasGathered table all_zero workers rounds turns h → IsWhole h.seat.view.share → IsAtEnd h.seat.view
-    → IsCellRun workers rounds turns h.report
+    → IsCellRun workers rounds turns (reports h)
 reported workers rounds turns table h few g whole e =
     let v = h.seat.view in
     let shows : HasOneHistory all_zero e.words e.views = subst (λ (o : Record). HasOneHistory o e.words e.views) (sym g.of.1) e.shows in
     let alone : IsOnlySeat e.number e.views = e.whole whole in
-    let count : length shows.history ≡ h.report.writes =
+    let count : length shows.history ≡ h.tally.writes =
     sym shows.count ∙ sum_of_one written_count refl e.views e.number v e.here alone ∙ sym g.counted.writes in
     let room : h.is_full ≡ false = not_full h.is_full (λ full.
     let le = note_below all_zero e.words e.views e.number v shows e.here (g.counted.full full) in
     absurd (omega (arith, le, count, few, g.over.writes))) in
     record {
+      of = record {
+        opening_is = sym g.of.1;
+        writes_is = g.counted.writes;
+        reads_is = g.counted.reads;
+        failed_most = g.stopped;
+      };
       words = e.words;
       views = e.views;
+      number = e.number;
       shows = shows;
+      here = e.here;
+      alone = alone;
       once = λ n. shows.once n ∙ ap (λ last. one_if (is_in_span n 0 last)) (omega (arith, count));
       got = g.counted.reads ∙ sym (sum_of_one (λ (u : View). u.reads) refl e.views e.number v e.here alone);
-      failed = subst (λ n. h.report.stopped * turns ≤ n) (sym (sum_of_one (λ (u : View). u.failed) refl e.views e.number v e.here alone)) g.stopped;
+      failed = subst (λ n. h.tally.stopped * turns ≤ n) (sym (sum_of_one (λ (u : View). u.failed) refl e.views e.number v e.here alone)) g.stopped;
       stopped = g.over.stopped;
       written = (g.over.all_writes room, g.over.writes);
       read = (g.over.all_reads room, g.over.reads);

@@ -1,8 +1,11 @@
 -- What a run of a cell comes to.
-use Rattle.std.specs.Prelude.{◌≡◌, ℕ, ◌-◌, ◌*◌, ◌≤◌, List, replicate}
+use Rattle.std.specs.Prelude.{◌≡◌, ℕ, ◌-◌, ◌*◌, ◌≤◌, List, length, replicate}
 use Rattle.std.specs.List.{sum_by}
+use mathlib.Core.Option.{some}
+use lib.ListN.{get_elem?}
 use Rattle.solero_cell.specs.declared.views.Record.{Record}
 use Rattle.solero_cell.specs.declared.views.View.{View}
+use Rattle.solero_cell.specs.Calls.{IsOnlySeat}
 use Rattle.solero_cell.specs.CellRules.{HasOneHistory, times, one_if, is_in_span}
 use Rattle.solero_cell.specs.CellViews.{record_of}
 use Rattle.cell_runner.specs.declared.report.CellReport.{CellReport}
@@ -16,12 +19,23 @@ abbrev pub AreRoundsMade : (workers stopped rounds made : ℕ) → Type 0
 AreRoundsMade workers stopped rounds made =
     ((workers - stopped) * rounds ≤ made) × (made ≤ workers * rounds)
 
--- the report of some run: at its end the cell has these words, and its seats know this, by the rule
--- of the cell
+-- the numbers are those of the seat that ended its cell
+pub record IsOfSeat (turns : ℕ) (r : CellReport) : Type 0 where
+  pub opening_is : r.end.opening ≡ all_zero
+  pub writes_is : r.writes ≡ length r.end.writes
+  pub reads_is : r.reads ≡ r.end.reads
+  pub failed_most : r.stopped * turns ≤ r.end.failed
+
+-- the report of a run: at its end the cell has these words, and its seats know this, by the rule of
+-- the cell; of all seats one is left, which has ended it
 pub record IsCellRun (workers rounds turns : ℕ) (r : CellReport) : Type 0 where
+  pub of : IsOfSeat turns r
   pub words : List ℕ
   pub views : List View
+  pub number : ℕ
   pub shows : HasOneHistory all_zero words views
+  pub here : get_elem? views number ≡ some r.end
+  pub alone : IsOnlySeat number views
   -- the seats' own writes have the counts 1 to `writes`, each once
   pub once : (n : ℕ) → sum_by (times n) views ≡ one_if (is_in_span n 0 r.writes)
   -- the reads of all seats that were Got

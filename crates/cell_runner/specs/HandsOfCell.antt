@@ -6,7 +6,7 @@ use Rattle.atomic_table.specs.Seated.{TableId}
 use Rattle.solero_cell.specs.declared.views.Record.{Record}
 use Rattle.solero_cell.specs.Calls.{Seated, IsTableOfSeat}
 use Rattle.solero_cell.specs.CellViews.{new_view, share, sum_of}
-use Rattle.cell_runner.specs.declared.report.CellReport.{CellReport}
+use Rattle.cell_runner.specs.declared.tally.Tally.{Tally}
 use Rattle.cell_runner.specs.declared.hands.Hand.{Hand}
 use Rattle.cell_runner.specs.declared.hands.Task.{Task}
 use Rattle.cell_runner.specs.declared.hands.Task.TheVariants.{Write, Read}
@@ -18,17 +18,17 @@ use Rattle.cell_runner.specs.declared.hands.Tried.TheVariants.{Done, Failed, Ful
 -- the counts are those that the seat knows; a seat that found the cell full has noted its last
 -- count
 pub record IsCountedHand (h : Hand) : Type 0 where
-  pub writes : h.report.writes ≡ length h.seat.view.writes
-  pub reads : h.report.reads ≡ h.seat.view.reads
+  pub writes : h.tally.writes ≡ length h.seat.view.writes
+  pub reads : h.tally.reads ≡ h.seat.view.reads
   pub full : h.is_full ≡ true → h.seat.view.note ≡ Some (2 ^ 62 - 1)
 
 -- each worker that stopped has failed that often
 abbrev pub HasStopped : (turns : ℕ) → Hand → Type 0
-HasStopped turns h = h.report.stopped * turns ≤ h.seat.view.failed
+HasStopped turns h = h.tally.stopped * turns ≤ h.seat.view.failed
 
 -- the worker has not ended
 abbrev pub HasNotEnded : Hand → Type 0
-HasNotEnded h = (h.report.stopped ≡ 0) × (h.is_full ≡ false)
+HasNotEnded h = (h.tally.stopped ≡ 0) × (h.is_full ≡ false)
 
 -- the same seat later
 pub record IsSameSeat (s t : Seated) : Type 0 where
@@ -36,34 +36,34 @@ pub record IsSameSeat (s t : Seated) : Type 0 where
   pub opening : t.view.opening ≡ s.view.opening
   pub share : t.view.share ≡ s.view.share
 
--- the report with one task more
-abbrev pub task_made : Task → CellReport → CellReport
+-- the numbers with one task more
+abbrev pub task_made : Task → Tally → Tally
 task_made Write r = record r { writes = r.writes + 1 }
 task_made Read r = record r { reads = r.reads + 1 }
 
 -- a try: the task is done, or nothing is
 abbrev pub IsTaskTried : Task → (was : Hand) → Tried → (now : Hand) → Type 0
-IsTaskTried task was Done now = (now.report ≡ task_made task was.report) × (now.is_full ≡ false)
+IsTaskTried task was Done now = (now.tally ≡ task_made task was.tally) × (now.is_full ≡ false)
 IsTaskTried task was Failed now =
-    (now.report ≡ was.report) × (now.is_full ≡ false)
+    (now.tally ≡ was.tally) × (now.is_full ≡ false)
     × (now.seat.view.failed ≡ was.seat.view.failed + 1)
-IsTaskTried task was Full now = (now.report ≡ was.report) × (now.is_full ≡ true)
+IsTaskTried task was Full now = (now.tally ≡ was.tally) × (now.is_full ≡ true)
 
 -- the worker has ended, with no more writes and reads than these
 pub record HasEnded (writes reads : ℕ) (h : Hand) : Type 0 where
-  pub writes_below : h.report.writes ≤ writes
-  pub reads_below : h.report.reads ≤ reads
-  pub once : h.report.stopped ≤ 1
-  pub stopped : h.is_full ≡ false → h.report.stopped ≡ 1
+  pub writes_below : h.tally.writes ≤ writes
+  pub reads_below : h.tally.reads ≤ reads
+  pub once : h.tally.stopped ≤ 1
+  pub stopped : h.is_full ≡ false → h.tally.stopped ≡ 1
 
 -- what so many workers came to: none has made more than its rounds, and each that neither stopped
 -- nor found the cell full has made them
 pub record AreRoundsOver (workers rounds : ℕ) (h : Hand) : Type 0 where
-  pub stopped : h.report.stopped ≤ workers
-  pub writes : h.report.writes ≤ workers * rounds
-  pub reads : h.report.reads ≤ workers * rounds
-  pub all_writes : h.is_full ≡ false → (workers - h.report.stopped) * rounds ≤ h.report.writes
-  pub all_reads : h.is_full ≡ false → (workers - h.report.stopped) * rounds ≤ h.report.reads
+  pub stopped : h.tally.stopped ≤ workers
+  pub writes : h.tally.writes ≤ workers * rounds
+  pub reads : h.tally.reads ≤ workers * rounds
+  pub all_writes : h.is_full ≡ false → (workers - h.tally.stopped) * rounds ≤ h.tally.writes
+  pub all_reads : h.is_full ≡ false → (workers - h.tally.stopped) * rounds ≤ h.tally.reads
 
 -- ---- all workers
 
@@ -75,7 +75,7 @@ pub record IsFreshSeat (table : TableId) (opening : Record) (cuts : ℕ) (s : Se
 -- the hand of a worker that has done nothing yet
 pub record IsReady (table : TableId) (opening : Record) (cuts : ℕ) (h : Hand) : Type 0 where
   pub fresh : IsFreshSeat table opening cuts h.seat
-  pub report : h.report ≡ record { writes = 0; reads = 0; stopped = 0 }
+  pub tally : h.tally ≡ record { writes = 0; reads = 0; stopped = 0 }
   pub full : h.is_full ≡ false
 
 -- those of worker 1, of worker 2 and so on
@@ -103,12 +103,12 @@ HaveWorked table opening rounds turns hands =
     → HasWorked table opening (i + 1) rounds turns (slice_index_or hands i d)
 
 -- no more than eight workers with a thousand rounds each
-abbrev pub HasFew : CellReport → Type 0
+abbrev pub HasFew : Tally → Type 0
 HasFew r = (r.writes ≤ 8000) × (r.reads ≤ 8000) × (r.stopped ≤ 8)
 
--- the reports of both
-abbrev pub reports_added : CellReport → CellReport → CellReport
-reports_added r s =
+-- the numbers of both
+abbrev pub tallies_added : Tally → Tally → Tally
+tallies_added r s =
     record
     { writes = r.writes + s.writes; reads = r.reads + s.reads; stopped = r.stopped + s.stopped }
 
@@ -116,7 +116,7 @@ reports_added r s =
 pub record HasJoined (h k both : Hand) : Type 0 where
   pub table : both.seat.table_id ≡ h.seat.table_id
   pub opening : both.seat.view.opening ≡ h.seat.view.opening
-  pub report : both.report ≡ reports_added h.report k.report
+  pub tally : both.tally ≡ tallies_added h.tally k.tally
   pub full : both.is_full ≡ (h.is_full || k.is_full)
   pub counted : IsCountedHand both
   pub failed : both.seat.view.failed ≡ h.seat.view.failed + k.seat.view.failed

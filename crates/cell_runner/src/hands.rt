@@ -5,9 +5,9 @@ ghost use Rattle.solero_cell.specs.Calls.{IsTableOfSeat};
 ghost use Rattle.solero_cell.specs.CellViews.{joined_views};
 ghost use Rattle.cell_runner.specs.HandsOfCell.{HasEnded, HasFew, HasJoined, HasStopped};
 ghost use Rattle.cell_runner.specs.HandsOfCell.{IsCountedHand, HasNotEnded, AreRoundsOver};
-ghost use Rattle.cell_runner.specs.HandsOfCell.{IsSameSeat, IsTaskTried, reports_added, task_made};
+ghost use Rattle.cell_runner.specs.HandsOfCell.{IsSameSeat, IsTaskTried, tallies_added, task_made};
 
-use crate::report::CellReport;
+use crate::tally::Tally;
 use solero_cell::{CellRead, CellSeat, CellTable, CellWrite, MOST_VALUES};
 use std::thread::yield_now;
 
@@ -30,7 +30,7 @@ pub(crate) enum Tried {
 #[derive(Drop)]
 pub(crate) struct Hand {
     pub(crate) seat: CellSeat,
-    pub(crate) report: CellReport,
+    pub(crate) tally: Tally,
     /// The seat's last note found the cell full.
     pub(crate) is_full: bool,
 }
@@ -41,18 +41,18 @@ impl Hand {
         ensures { result
             ≡ record {
               seat = seat;
-              report = record { writes = 0; reads = 0; stopped = 0 };
+              tally = record { writes = 0; reads = 0; stopped = 0 };
               is_full = false;
             } }
     {
-        let report = CellReport {
+        let tally = Tally {
             writes: 0,
             reads: 0,
             stopped: 0,
         };
         Hand {
             seat,
-            report,
+            tally,
             is_full: false,
         }
     }
@@ -64,14 +64,14 @@ impl Hand {
         requires values { length values.now ≡ length self.old.seat.view.opening.values }
         requires going { HasNotEnded self.old }
         requires counted { IsCountedHand self.old }
-        requires few { self.old.report.writes ≤ 1000 }
+        requires few { self.old.tally.writes ≤ 1000 }
         ensures same { IsSameSeat self.old.seat self.new.seat }
         ensures counted { IsCountedHand self.new }
         ensures tried { IsTaskTried Task.Write self.old result self.new }
     {
         match self.seat.write(table, values) {
             CellWrite::Wrote(_) => {
-                self.report.writes += 1;
+                self.tally.writes += 1;
                 Tried::Done
             }
             CellWrite::NotFree(_) | CellWrite::Lost { .. } => Tried::Failed,
@@ -89,14 +89,14 @@ impl Hand {
         requires values { length self.old.seat.view.opening.values ≡ 64 }
         requires going { HasNotEnded self.old }
         requires counted { IsCountedHand self.old }
-        requires few { self.old.report.reads ≤ 1000 }
+        requires few { self.old.tally.reads ≤ 1000 }
         ensures same { IsSameSeat self.old.seat self.new.seat }
         ensures counted { IsCountedHand self.new }
         ensures tried { IsTaskTried Task.Read self.old result self.new }
     {
         match self.seat.read(table, &mut [0; MOST_VALUES]) {
             CellRead::Got(_) => {
-                self.report.reads += 1;
+                self.tally.reads += 1;
                 Tried::Done
             }
             CellRead::NotFree(_) | CellRead::Changed { .. } => Tried::Failed,
@@ -111,7 +111,7 @@ impl Hand {
             × (length self.old.seat.view.opening.values ≡ 64) }
         requires going { HasNotEnded self.old }
         requires counted { IsCountedHand self.old }
-        requires few { (self.old.report.writes ≤ 1000) × (self.old.report.reads ≤ 1000) }
+        requires few { (self.old.tally.writes ≤ 1000) × (self.old.tally.reads ≤ 1000) }
         ensures same { IsSameSeat self.old.seat self.new.seat }
         ensures counted { IsCountedHand self.new }
         ensures tried { IsTaskTried task self.old result self.new }
@@ -131,13 +131,13 @@ impl Hand {
             × (length self.old.seat.view.opening.values ≡ 64) }
         requires going { HasNotEnded self.old }
         requires counted { IsCountedHand self.old }
-        requires few { (self.old.report.writes ≤ 1000) × (self.old.report.reads ≤ 1000) }
+        requires few { (self.old.tally.writes ≤ 1000) × (self.old.tally.reads ≤ 1000) }
         ensures same { IsSameSeat self.old.seat self.new.seat }
         ensures counted { IsCountedHand self.new }
         ensures stopped { HasStopped turns self.new }
         ensures made { MatchBool result
-            (HasNotEnded self.new × (self.new.report ≡ task_made task self.old.report))
-            (HasEnded self.old.report.writes self.old.report.reads self.new) }
+            (HasNotEnded self.new × (self.new.tally ≡ task_made task self.old.tally))
+            (HasEnded self.old.tally.writes self.old.tally.reads self.new) }
     {
         for _ in 0..turns {
             match self.attempt(table, task, values) {
@@ -146,7 +146,7 @@ impl Hand {
                 Tried::Full => return false,
             }
         }
-        self.report.stopped = 1;
+        self.tally.stopped = 1;
         false
     }
 
@@ -158,13 +158,13 @@ impl Hand {
             × (length self.old.seat.view.opening.values ≡ 64) }
         requires going { HasNotEnded self.old }
         requires counted { IsCountedHand self.old }
-        requires few { (self.old.report.writes < 1000) × (self.old.report.reads ≤ 1000) }
+        requires few { (self.old.tally.writes < 1000) × (self.old.tally.reads ≤ 1000) }
         ensures same { IsSameSeat self.old.seat self.new.seat }
         ensures counted { IsCountedHand self.new }
         ensures stopped { HasStopped turns self.new }
         ensures made { MatchBool result (HasNotEnded self.new
-            × (self.new.report ≡ task_made Task.Read (task_made Task.Write self.old.report)))
-            (HasEnded (self.old.report.writes + 1) self.old.report.reads self.new) }
+            × (self.new.tally ≡ task_made Task.Read (task_made Task.Write self.old.tally)))
+            (HasEnded (self.old.tally.writes + 1) self.old.tally.reads self.new) }
     {
         if !self.succeed(table, Task::Write, values, turns) {
             return false;
@@ -178,7 +178,7 @@ impl Hand {
             self.old.seat }
         requires values { length self.old.seat.view.opening.values ≡ 64 }
         requires going { HasNotEnded self.old }
-        requires none { (self.old.report.writes ≡ 0) × (self.old.report.reads ≡ 0) }
+        requires none { (self.old.tally.writes ≡ 0) × (self.old.tally.reads ≡ 0) }
         requires counted { IsCountedHand self.old }
         requires few { rounds ≤ 1000 }
         ensures same { IsSameSeat self.old.seat self.new.seat }
@@ -198,17 +198,17 @@ impl Hand {
     fn take_in(mut self, table: &CellTable, other: Hand) -> Hand
         requires table { IsTableOfSeat table.now.shared.table_id table.now.shared.key self.seat }
         requires other { IsTableOfSeat table.now.shared.table_id table.now.shared.key other.seat }
-        requires few { HasFew self.report × HasFew other.report }
+        requires few { HasFew self.tally × HasFew other.tally }
         ensures seat { (result.seat.table_id ≡ self.seat.table_id)
             × (result.seat.view ≡ joined_views self.seat.view other.seat.view) }
-        ensures report { result.report ≡ reports_added self.report other.report }
+        ensures tally { result.tally ≡ tallies_added self.tally other.tally }
         ensures full { result.is_full ≡ self.is_full }
     {
-        let Hand { seat, report, .. } = other;
+        let Hand { seat, tally, .. } = other;
         self.seat.join(table, seat);
-        self.report.writes += report.writes;
-        self.report.reads += report.reads;
-        self.report.stopped += report.stopped;
+        self.tally.writes += tally.writes;
+        self.tally.reads += tally.reads;
+        self.tally.stopped += tally.stopped;
         self
     }
 
@@ -218,7 +218,7 @@ impl Hand {
         requires table { IsTableOfSeat table.now.shared.table_id table.now.shared.key self.seat }
         requires other { IsTableOfSeat table.now.shared.table_id table.now.shared.key other.seat }
         requires counted { IsCountedHand self × IsCountedHand other }
-        requires few { HasFew self.report × HasFew other.report }
+        requires few { HasFew self.tally × HasFew other.tally }
         ensures { HasJoined self other result }
     {
         if other.is_full {

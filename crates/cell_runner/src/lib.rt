@@ -7,6 +7,7 @@
 mod hands;
 mod report;
 mod running;
+mod tally;
 mod workers;
 
 pub use report::CellReport;

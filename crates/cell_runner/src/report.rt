@@ -1,7 +1,9 @@
 //! What a run of a cell comes to.
 
+use solero_cell::CellEnd;
+
 /// What the workers of a cell came to.
-#[derive(Clone, Copy, Debug, PartialEq, Eq)]
+#[derive(Drop)]
 pub struct CellReport {
     /// How many writes there were, which is the cell's last count.
     pub writes: u64,
@@ -9,4 +11,6 @@ pub struct CellReport {
     pub reads: u64,
     /// How many workers stopped before their last round.
     pub stopped: u8,
+    /// That the cell has ended. The numbers are those of the seat that ended it.
+    pub end: CellEnd,
 }

@@ -27,13 +27,20 @@ fn finish(table: CellTable, all: Hand) -> CellReport
         → HasGathered table.shared.table_id table.shared.key workers rounds turns all
         → IsCellRun workers rounds turns result }
 {
-    let Hand { seat, report, .. } = all;
-    seat.close(table);
-    report
+    let Hand { seat, tally, .. } = all;
+    let end = seat.close(table);
+    CellReport {
+        writes: tally.writes,
+        reads: tally.reads,
+        stopped: tally.stopped,
+        end,
+    }
 }
 
 /// Runs workers on one cell of 64 words, which opens with words 0 under the count 0, each worker on
-/// a thread of its own: what they came to, by the rule of the cell. Its error is want of memory.
+/// a thread of its own: what they came to, by the rule of the cell. The report has what the cell
+/// left when its last seat ended it, and its numbers are those of that seat. Its error is want of
+/// memory.
 ///
 /// Worker `k`, from 1, calls `gate.pass(k)` once, before its first round. In each round it writes
 /// 64 words of the value `k`, and then reads, each again until it succeeds. A try that fails is a

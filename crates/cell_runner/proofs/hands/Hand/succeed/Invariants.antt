@@ -4,5 +4,5 @@ use Rattle.cell_runner.proofs.hands.Hand.succeed.Given as goal
 
 abbrev pub invariant-loop : goal.invariant-loop
 invariant-loop l =
-    IsSameSeat l.fn.self.seat l.self.seat × IsCountedHand l.self × HasNotEnded l.self × (l.self.report ≡ l.fn.self.report)
+    IsSameSeat l.fn.self.seat l.self.seat × IsCountedHand l.self × HasNotEnded l.self × (l.self.tally ≡ l.fn.self.tally)
     × (l.counter ≤ l.self.seat.view.failed)
