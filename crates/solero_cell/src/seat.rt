@@ -1,6 +1,7 @@
 //! A seat at a cell: it reads and writes.
 
 ghost use Rattle.std.specs.Prelude.{◌≡◌, ◌<◌, ◌≤◌, ◌*◌, ◌^◌, [], ◌∷◌, length, IfOk};
+ghost use Rattle.solero_cell.specs.Attempts.{IsTried};
 ghost use Rattle.solero_cell.specs.Calls.{IsAtEnd, IsCellRead, IsTableOfSeat};
 ghost use Rattle.solero_cell.specs.Calls.{IsCellWritten};
 ghost use Rattle.solero_cell.specs.CellViews.{first_view, halved, joined_views, newcomer};
@@ -106,10 +107,54 @@ impl CellSeat {
     {
         let _count = self.latest;
         if out.len() <= FEW_VALUES {
-            self.read_by(table, out, &mut [0; FEW_VALUES])
+            self.read_few(table, out)
         } else {
-            self.read_by(table, out, &mut [0; MOST_VALUES])
+            self.read_many(table, out)
         }
+    }
+
+    /// Reads the values of one count, all of them, straight into `out`, which takes less time.
+    ///
+    /// After another answer than `Got` the words of `out` are any.
+    pub fn read_into(&mut self, table: &CellTable, out: &mut [u64]) -> CellRead
+        requires table { IsTableOfSeat table.now.shared.table_id table.now.shared.key self.old }
+        requires out { length out.old ≡ length self.old.view.opening.values }
+        ensures table { (self.new.table_id ≡ self.old.table_id)
+            × (self.new.view.opening ≡ self.old.view.opening) }
+        ensures long { length out.new ≡ length out.old }
+        ensures read { IsTried self.old.view out.new result self.new.view }
+    {
+        let answer = read::read(table, &mut self.seat, out);
+        if let CellRead::Got(count) = answer {
+            self.latest = count;
+        }
+        answer
+    }
+
+    /// A read of few values. It is a call of its own, so that no other read makes its room.
+    #[inline(never)]
+    fn read_few(&mut self, table: &CellTable, out: &mut [u64]) -> CellRead
+        requires table { IsTableOfSeat table.now.shared.table_id table.now.shared.key self.old }
+        requires out { length out.old ≡ length self.old.view.opening.values }
+        requires few { length out.old ≤ 8 }
+        ensures table { (self.new.table_id ≡ self.old.table_id)
+            × (self.new.view.opening ≡ self.old.view.opening) }
+        ensures read { IsCellRead self.old.view out.old result self.new.view out.new }
+    {
+        self.read_by(table, out, &mut [0; FEW_VALUES])
+    }
+
+    /// A read of up to as many values as a cell may have, in a call of its own.
+    #[inline(never)]
+    fn read_many(&mut self, table: &CellTable, out: &mut [u64]) -> CellRead
+        requires table { IsTableOfSeat table.now.shared.table_id table.now.shared.key self.old }
+        requires out { length out.old ≡ length self.old.view.opening.values }
+        requires many { length out.old ≤ 64 }
+        ensures table { (self.new.table_id ≡ self.old.table_id)
+            × (self.new.view.opening ≡ self.old.view.opening) }
+        ensures read { IsCellRead self.old.view out.old result self.new.view out.new }
+    {
+        self.read_by(table, out, &mut [0; MOST_VALUES])
     }
 
     /// A read that loads into `room`, and fills `out` from there.
