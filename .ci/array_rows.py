@@ -1,66 +1,9 @@
 """The class V with an array that never leaves its object, with one thing changed in each row, and
 the marks of its sections, for `.ci/refused`: `set` writes both elements, `sum` reads them, and
 `init` prints their sum."""
-from limit_classes import OBJECT, STATIC, STREAM, SYNCHRONIZED, ClassFile, u1, u2
+from class_builder import STATIC, SYNCHRONIZED, ClassFile, Code, handler_row
 
 PUBLIC, PRIVATE, FINAL = 1, 2, 16
-# Instructions without operands, or with these.
-PLAIN = {
-    "nop": b"\x00", "aconst_null": b"\x01", "iconst_0": b"\x03", "iconst_1": b"\x04",
-    "iconst_2": b"\x05", "iconst_3": b"\x06", "iconst_4": b"\x07", "iload_0": b"\x1a",
-    "iload_1": b"\x1b", "aload_0": b"\x2a", "aload_1": b"\x2b", "aload_2": b"\x2c",
-    "aload_3": b"\x2d", "iaload": b"\x2e", "istore_1": b"\x3c", "astore_1": b"\x4c",
-    "astore_2": b"\x4d", "astore_3": b"\x4e", "iastore": b"\x4f", "pop": b"\x57", "pop2": b"\x58",
-    "dup": b"\x59", "dup_x1": b"\x5a", "dup_x2": b"\x5b", "dup2": b"\x5c", "swap": b"\x5f",
-    "iadd": b"\x60", "count": b"\x84\x01\xff", "ireturn": b"\xac", "areturn": b"\xb0",
-    "return": b"\xb1", "newarray": b"\xbc\x0a", "arraylength": b"\xbe", "athrow": b"\xbf",
-    "monitorenter": b"\xc2", "monitorexit": b"\xc3",
-}
-BRANCHES = {
-    "ifeq": 0x99, "ifne": 0x9a, "if_acmpeq": 0xa5, "if_acmpne": 0xa6, "goto": 0xa7,
-    "ifnull": 0xc6, "ifnonnull": 0xc7,
-}
-FIELDS = {"getstatic": 0xb2, "putstatic": 0xb3, "getfield": 0xb4, "putfield": 0xb5}
-CALLS = {"virtual": 0xb6, "special": 0xb7, "static": 0xb8}
-
-
-def code_of(file, descriptors, text):
-    """The bytes of a code, and its places. A word is an instruction, one with what it names behind
-    a colon, or, with a colon at its end, a place."""
-    code, places, ways = bytearray(), {}, []
-    for word in text.split():
-        name, colon, named = word.partition(":")
-        if name in PLAIN:
-            code += PLAIN[name]
-        elif name in BRANCHES:
-            ways.append((len(code), 1, 2, named))
-            code += u1(BRANCHES[name]) + u2(0)
-        elif name == "switch":
-            # a `lookupswitch` without pairs
-            ways.append((len(code), 4 - len(code) % 4, 4, named))
-            code += b"\xab" + bytes(11 - len(code) % 4)
-        elif name in FIELDS:
-            code += u1(FIELDS[name]) + u2(file.member(9, "V", named, descriptors[named]))
-        elif name in CALLS:
-            method, _, rest = named.partition("(")
-            code += u1(CALLS[name]) + u2(file.member(10, "V", method, f"({rest}"))
-        elif name == "new":
-            code += b"\xbb" + u2(file.this)
-        elif name == "above":
-            code += b"\xb7" + u2(file.member(10, OBJECT, "<init>", "()V"))
-        elif name == "out":
-            code += b"\xb2" + u2(file.member(9, "java/lang/System", "out", f"L{STREAM};"))
-        elif name == "println":
-            code += b"\xb6" + u2(file.member(10, STREAM, "println", "(I)V"))
-        elif colon and not named:
-            places[name] = len(code)
-        else:
-            raise ValueError(word)
-    for at, behind, size, name in ways:
-        start = at + behind
-        code[start:start + size] = (places[name] - at).to_bytes(size, "big", signed=True)
-    return bytes(code), places
-
 
 # The fields of V, its constructor, and its other methods. A method has flags, a name with its
 # descriptor, and its code; behind it stand rows: from a place to a place, and the place of the
@@ -94,10 +37,11 @@ def array_class(*others, fields=FINAL_ARRAY, more=(), makes=MAKES, methods=METHO
     for field in (*fields, *more):
         file.field(*field)
     for flags, signed, text, *rows in ((0, "<init>()V", makes), *methods, *others):
-        code, places = code_of(file, descriptors, text)
+        code = Code(file)
+        code.read(text, "V", descriptors)
         named, _, rest = signed.partition("(")
-        rows = [b"".join(u2(places[place]) for place in row) + u2(0) for row in rows]
-        file.method(flags, named, f"({rest}", code, 6, 4, rows)
+        rows = [handler_row(*(code.places[place] for place in row)) for row in rows]
+        file.method(flags, named, f"({rest}", code.content(), 6, 4, rows)
     return file.content()
 
 

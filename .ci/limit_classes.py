@@ -1,118 +1,14 @@
 """Class files that come up to a limit, for `.ci/limits` and `.ci/explained`."""
-import os
-import sys
+from class_builder import OBJECT, STATIC, SYNCHRONIZED, Blocks, ClassFile, Code, opcodes, u1, u2, u4
+from worked import worked
 
-TOP = os.path.dirname(os.path.dirname(os.path.abspath(__file__)))
-sys.path.insert(0, os.path.join(TOP, "bench"))
-
-from loading import STATIC, SYNCHRONIZED, ClassFile, u1, u2, u4  # noqa: E402
-from worked import worked  # noqa: E402
-
-OBJECT = "java/lang/Object"
-STREAM = "java/io/PrintStream"
-
-NOP, POP, DUP, IADD = b"\x00", b"\x57", b"\x59", b"\x60"
-ICONST_M1, ICONST_0, ICONST_1, LDC_W = b"\x02", b"\x03", b"\x04", b"\x13"
-ILOAD_0, ILOAD_1, ISTORE_0, ISTORE_1, IINC = b"\x1a", b"\x1b", b"\x3b", b"\x3c", b"\x84"
-ALOAD_0, ALOAD, ASTORE = b"\x2a", b"\x19", b"\x3a"
-IFEQ, IFNE, IF_ICMPNE, GOTO = b"\x99", b"\x9a", b"\xa0", b"\xa7"
-IRETURN, RETURN, ATHROW, ENTER, LEAVE = b"\xac", b"\xb1", b"\xbf", b"\xc2", b"\xc3"
-GETSTATIC, VIRTUAL, SPECIAL, CALL, NEW = b"\xb2", b"\xb6", b"\xb7", b"\xb8", b"\xbb"
-GETFIELD, PUTFIELD, NEWARRAY, IALOAD = b"\xb4", b"\xb5", b"\xbc", b"\x2e"
 PRIVATE = 2
-
-
-class Code:
-    """The code of a method, with names for the places that its branches lead to."""
-
-    def __init__(self, file=None):
-        self.file = file or ClassFile("A")
-        self.bytes = bytearray()
-        self.places = {}
-        self.ways = []
-
-    def put(self, *parts):
-        for part in parts:
-            self.bytes += part
-
-    def place(self, name):
-        self.places[name] = len(self.bytes)
-
-    def branch(self, opcode, name):
-        self.ways.append((len(self.bytes), name))
-        self.put(opcode, u2(0))
-
-    def number(self, number):
-        self.put(LDC_W, u2(self.file.add(u1(3) + u4(number))))
-
-    def out(self):
-        self.put(GETSTATIC, u2(self.file.member(9, "java/lang/System", "out", f"L{STREAM};")))
-
-    def println(self):
-        self.put(VIRTUAL, u2(self.file.member(10, STREAM, "println", "(I)V")))
-
-    def call(self, name, descriptor, owner="A"):
-        self.put(CALL, u2(self.file.member(10, owner, name, descriptor)))
-
-    def initialize(self, owner=OBJECT):
-        self.put(SPECIAL, u2(self.file.member(10, owner, "<init>", "()V")))
-
-    def new(self, owner=OBJECT):
-        self.put(NEW, u2(self.file.of_class(owner)), DUP)
-        self.initialize(owner)
-
-    def content(self):
-        for at, name in self.ways:
-            self.bytes[at + 1 : at + 3] = u2((self.places[name] - at) & 0xFFFF)
-        return bytes(self.bytes)
-
-    def method(self, stack=2, local=1, rows=(), flags=STATIC, name="init", descriptor="()V"):
-        """Gives its file a method of this code."""
-        rows = [u2(start) + u2(end) + u2(handler) + u2(kind) for start, end, handler, kind in rows]
-        self.file.method(flags, name, descriptor, self.content(), stack, local, rows)
-        return self.file.content()
-
-
-class Blocks:
-    """Blocks within each other. Each has a row and a handler, which leaves it and throws on."""
-
-    def __init__(self, code):
-        self.code = code
-        self.loads = []
-        self.starts = []
-
-    def enter(self, load, tag=b""):
-        """Enters one more. `load` loads its monitor; `tag` comes between that and the entry."""
-        self.code.put(load, tag, ENTER)
-        self.loads.append(load)
-        self.starts.append(len(self.code.bytes))
-
-    def enter_local(self, number):
-        """The same on a local, which a `dup` gives its tag."""
-        self.enter(ALOAD + u1(number), DUP + ASTORE + u1(number))
-
-    def leave(self, number):
-        """Leaves a block, and tells where its row ends."""
-        end = len(self.code.bytes)
-        self.code.put(self.loads[number], LEAVE)
-        return end
-
-    def rows(self):
-        """Leaves all of them, and returns; tells the rows, the innermost first."""
-        inwards = list(reversed(range(len(self.loads))))
-        ends = {number: self.leave(number) for number in inwards}
-        self.code.put(RETURN)
-        handlers, throws = {}, {}
-        for number in inwards:
-            handlers[number] = self.leave(number)
-            throws[number] = len(self.code.bytes)
-            self.code.put(ATHROW)
-        rows = []
-        for number in inwards:
-            rows.append((self.starts[number], ends[number], handlers[number], 0))
-            if number > 0:
-                rows.append((throws[number], throws[number] + 1, handlers[number - 1], 0))
-        return rows
+NOP, POP, IADD, ICONST_M1, ICONST_0, ICONST_1 = opcodes("nop pop iadd iconst_m1 iconst_0 iconst_1")
+ILOAD_0, ILOAD_1, ISTORE_0, ISTORE_1 = opcodes("iload_0 iload_1 istore_0 istore_1")
+ALOAD_0, ASTORE, IINC, IALOAD = opcodes("aload_0 astore iinc iaload")
+IFEQ, IFNE, IF_ICMPNE, GOTO = opcodes("ifeq ifne if_icmpne goto")
+GETFIELD, PUTFIELD, NEWARRAY, VIRTUAL = opcodes("getfield putfield newarray invokevirtual")
+IRETURN, RETURN, ATHROW = opcodes("ireturn return athrow")
 
 
 def counts(instructions, name="init"):
@@ -384,7 +280,11 @@ def array_of(length):
     return bytes(content)
 
 
+def with_attribute(content, name, body):
+    """A class without attributes, given one whose name is that constant."""
+    return content[:-2] + u2(1) + u2(name) + u4(len(body)) + body
+
+
 def adds_in(size):
     """The worked class that adds, with an attribute by which its file has so many bytes."""
-    body = size - 223 - 6
-    return worked("ADDS")[:-2] + u2(1) + u2(1) + u4(body) + bytes(body)
+    return with_attribute(worked("ADDS"), 1, bytes(size - 223 - 6))

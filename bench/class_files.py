@@ -13,35 +13,11 @@ between which half of the runs lie.
 import os
 
 import measure
+from class_builder import ClassFile
 
 RUNS = 9
 FILES = (4, 16, 64)
 SIZE = 1024 * 1024
-
-
-def u2(n):
-    return n.to_bytes(2, "big")
-
-
-def u4(n):
-    return n.to_bytes(4, "big")
-
-
-def utf8(text):
-    return b"\x01" + u2(len(text)) + text
-
-
-# Class A below Object; constants 5 and 6 are a name and the type int.
-POOL = [utf8(b"A"), b"\x07" + u2(1), utf8(b"java/lang/Object"), b"\x07" + u2(3), utf8(b"f"), utf8(b"I")]
-
-
-def class_file(constants, fields, attributes):
-    entries = POOL + constants
-    return (
-        b"\xca\xfe\xba\xbe" + u2(0) + u2(50) + u2(len(entries) + 1) + b"".join(entries)
-        + u2(0x21) + u2(2) + u2(4) + u2(0)
-        + u2(len(fields)) + b"".join(fields) + u2(0) + u2(len(attributes)) + b"".join(attributes)
-    )
 
 
 def many(size):
@@ -49,15 +25,24 @@ def many(size):
 
 
 def constants(size):
-    return class_file([utf8(b"%013d" % i) for i in range(many(size) - 10)], [], [])
+    file = ClassFile("A")
+    for number in range(many(size) - 10):
+        file.text(f"{number:013d}")
+    return file.content()
 
 
 def attributes(size):
-    return class_file([], [], [u2(5) + u4(10) + b"0123456789"] * many(size))
+    file = ClassFile("A")
+    file.attributes = [file.attribute("f", b"0123456789")] * many(size)
+    return file.content()
 
 
 def members(size):
-    return class_file([], [u2(2) + u2(5) + u2(6) + u2(1) + u2(5) + u4(2) + b"01"] * many(size), [])
+    file = ClassFile("A")
+    value = file.attribute("f", b"01")
+    for _ in range(many(size)):
+        file.field(2, "f", "I", [value])
+    return file.content()
 
 
 def copying():

@@ -18,13 +18,14 @@ import sys
 import tempfile
 import time
 
-from loading import STATIC, ClassFile, u1, u2
 from measure import PROGRAM, answer_help
+from class_builder import STATIC, ClassFile, handler_row, opcodes, u1, u4
 
 LIMIT = 120
 MOST = 40 * 1024**3
 
-ICONST_0, ACONST_NULL, NOP, POP, RETURN, ATHROW = b"\x03", b"\x01", b"\x00", b"\x57", b"\xb1", b"\xbf"
+ICONST_0, ACONST_NULL, NOP = opcodes("iconst_0 aconst_null nop")
+POP, RETURN, ATHROW = opcodes("pop return athrow")
 
 
 def one_method(code, stack, local):
@@ -94,14 +95,14 @@ def switch_back(arms, instructions=3200):
 
 
 def signed(n):
-    return (n & 0xFFFFFFFF).to_bytes(4, "big")
+    return u4(n & 0xFFFFFFFF)
 
 
 def handler_rows(rows, instructions=2000):
     """Rows that all cover the whole of the code, with the same handler."""
     file = ClassFile("A")
     code = NOP * instructions + RETURN + ATHROW
-    handlers = [u2(0) + u2(instructions) + u2(instructions + 1) + u2(0)] * rows
+    handlers = [handler_row(0, instructions, instructions + 1)] * rows
     file.method(STATIC, "m", "()V", code, 1, 0, handlers)
     file.method(STATIC, "init", "()V", RETURN, 0, 0)
     return [file.content()]

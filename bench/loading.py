@@ -14,71 +14,9 @@ synchronized blocks; both are loaded whole. Each line has the median of the runs
 the runs lie, and the most memory that a run had at a time.
 """
 import measure
+from class_builder import STATIC, SYNCHRONIZED, ClassFile, handler_row, u1, u2
 
 RUNS = 5
-
-
-def u1(n):
-    return n.to_bytes(1, "big")
-
-
-def u2(n):
-    return n.to_bytes(2, "big")
-
-
-def u4(n):
-    return n.to_bytes(4, "big")
-
-
-class ClassFile:
-    """A class file whose constants are added as they are needed."""
-
-    def __init__(self, name, constants=()):
-        self.entries = list(constants)
-        self.places = {}
-        self.fields = []
-        self.methods = []
-        self.this = self.of_class(name)
-        self.super = self.of_class("java/lang/Object")
-        self.code_name = self.text("Code")
-
-    def add(self, entry):
-        if entry not in self.places:
-            self.entries.append(entry)
-            self.places[entry] = len(self.entries)
-        return self.places[entry]
-
-    def text(self, text):
-        data = text.encode()
-        return self.add(u1(1) + u2(len(data)) + data)
-
-    def of_class(self, name):
-        return self.add(u1(7) + u2(self.text(name)))
-
-    def member(self, tag, owner, name, descriptor):
-        pair = self.add(u1(12) + u2(self.text(name)) + u2(self.text(descriptor)))
-        return self.add(u1(tag) + u2(self.of_class(owner)) + u2(pair))
-
-    def field(self, flags, name, descriptor):
-        self.fields.append(u2(flags) + u2(self.text(name)) + u2(self.text(descriptor)) + u2(0))
-
-    def method(self, flags, name, descriptor, code, stack=2, local=1, rows=()):
-        table = u2(len(rows)) + b"".join(rows)
-        body = u2(stack) + u2(local) + u4(len(code)) + code + table + u2(0)
-        attribute = u2(self.code_name) + u4(len(body)) + body
-        self.methods.append(u2(flags) + u2(self.text(name)) + u2(self.text(descriptor)) + u2(1) + attribute)
-
-    def content(self):
-        return (
-            b"\xca\xfe\xba\xbe" + u2(0) + u2(50) + u2(len(self.entries) + 1) + b"".join(self.entries)
-            + u2(0x21) + u2(self.this) + u2(self.super) + u2(0)
-            + u2(len(self.fields)) + b"".join(self.fields)
-            + u2(len(self.methods)) + b"".join(self.methods) + u2(0)
-        )
-
-
-STATIC = 8
-SYNCHRONIZED = 0x20
 
 
 def files_of(codes, stack=2, local=1):
@@ -265,11 +203,6 @@ def loops(files):
             file.method(STATIC, f"method{i}", "(II)I", loop(called), 4, 4)
         contents.append(file.content())
     return contents
-
-
-def handler_row(start, end, handler):
-    """A row that catches all."""
-    return u2(start) + u2(end) + u2(handler) + u2(0)
 
 
 def covered(rows):

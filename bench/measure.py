@@ -7,8 +7,11 @@ import sys
 import tempfile
 import time
 
-TOP = os.path.dirname(os.path.dirname(os.path.abspath(__file__)))
-PROGRAM = os.path.join(TOP, "crates", "solero", "out", "solero")
+# Where the gate's modules stand: `built`, `class_builder`, and `worked`. Scripts import them behind
+# this one.
+sys.path.append(os.path.join(os.path.dirname(os.path.dirname(os.path.abspath(__file__))), ".ci"))
+
+from built import SOLERO as PROGRAM, TOP  # noqa: E402
 
 
 def answer_help(text):

@@ -3,7 +3,7 @@ import glob
 import os
 import re
 
-from measure import TOP
+from built import TOP
 
 TEXT = r'pub (?:const {0}: &str = |fn {0}\(\) -> &\'static str {{\n    )"\\\n(.*?)"'
 
