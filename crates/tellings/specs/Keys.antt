@@ -1,0 +1,60 @@
+-- What a fact is about: a row for each key, with the name of its member in an object, the words
+-- around it on a line, and whether a line shows it.
+use Rattle.std.specs.Prelude.{ℕ, Bool, true, false, List, [], codes}
+use Rattle.tellings.specs.declared.keys.Key.{Key}
+use Rattle.tellings.specs.declared.keys.Key.TheVariants as keys
+use Rattle.tellings.specs.declared.keys.Row.{Row}
+
+pub record KeyRow : Type 0 where
+  pub member : List ℕ
+  pub before : List ℕ
+  pub behind : List ℕ
+  pub is_shown : Bool
+
+-- as the code has it
+abbrev pub row_told : Row → KeyRow
+row_told r = record {
+  member = r.member.now;
+  before = r.before.now;
+  behind = r.behind.now;
+  is_shown = r.is_shown;
+}
+
+abbrev pub shown_row : (member before behind : List ℕ) → KeyRow
+shown_row member before behind =
+    record { member = member; before = before; behind = behind; is_shown = true }
+
+-- in an object alone
+abbrev pub hidden_row : (member : List ℕ) → KeyRow
+hidden_row member = record { member = member; before = []; behind = []; is_shown = false }
+
+abbrev pub key_row : Key → KeyRow
+-- of an event
+key_row keys.Number = shown_row (codes "number") (codes "") (codes "")
+key_row keys.Thread = shown_row (codes "thread") (codes " thread ") (codes "")
+key_row keys.InAttempt = shown_row (codes "in_attempt") (codes " in attempt ") (codes "")
+key_row keys.Class = shown_row (codes "class") (codes " ") (codes "")
+key_row keys.Method = shown_row (codes "method") (codes ".") (codes "")
+key_row keys.Pc = shown_row (codes "pc") (codes " at ") (codes "")
+key_row keys.Instruction = shown_row (codes "instruction") (codes " ") (codes "")
+key_row keys.Does = shown_row (codes "does") (codes ", ") (codes "")
+key_row keys.Access = shown_row (codes "access") (codes ", ") (codes "")
+key_row keys.Word = shown_row (codes "word") (codes "") (codes "")
+key_row keys.Found = shown_row (codes "found") (codes " ") (codes "")
+key_row keys.Left = shown_row (codes "left") (codes " -> ") (codes "")
+key_row keys.AttemptBegins =
+    shown_row (codes "attempt_begins") (codes ", attempt ") (codes " begins by Free(")
+key_row keys.AttemptFails =
+    shown_row (codes "attempt_fails") (codes ", attempt ") (codes " fails: not Free(")
+key_row keys.AttemptFinishes =
+    shown_row (codes "attempt_finishes") (codes ", attempt ") (codes " finishes")
+key_row keys.Noted = shown_row (codes "noted") (codes "") (codes ")")
+key_row keys.NotedThere = hidden_row (codes "noted")
+key_row keys.LockMark = shown_row (codes "lock") (codes ", ") (codes "")
+key_row keys.ComesToEnd =
+    shown_row (codes "comes_to_its_end") (codes ", comes to its end: ") (codes "")
+key_row keys.Plain = shown_row (codes "plain") (codes ", plain: ") (codes "")
+key_row keys.OneStep = hidden_row (codes "plain")
+key_row keys.OwedNone = hidden_row (codes "owed")
+key_row keys.Owed = shown_row (codes "owed") (codes ", ") (codes " owed")
+key_row keys.Between = shown_row (codes "between") (codes ", plain: enter, ") (codes " owed, exit")

@@ -1,0 +1,105 @@
+//! What a fact is about: a row for each key.
+
+ghost use Rattle.std.specs.Prelude.{◌≡◌};
+ghost use Rattle.tellings.specs.Keys.{hidden_row, key_row, row_told, shown_row};
+
+/// What a fact is about.
+#[derive(Clone, Copy, Debug, PartialEq, Eq)]
+pub enum Key {
+    // of an event
+    Number,
+    Thread,
+    InAttempt,
+    Class,
+    Method,
+    Pc,
+    Instruction,
+    Does,
+    Access,
+    Word,
+    Found,
+    Left,
+    AttemptBegins,
+    AttemptFails,
+    AttemptFinishes,
+    Noted,
+    NotedThere,
+    LockMark,
+    ComesToEnd,
+    Plain,
+    OneStep,
+    OwedNone,
+    Owed,
+    Between,
+}
+
+/// A key in both forms.
+#[derive(Clone, Copy, Debug)]
+pub struct Row {
+    /// The name of its member in an object.
+    pub member: &'static str,
+    /// The words before the fact on a line.
+    pub before: &'static str,
+    /// The words behind it.
+    pub behind: &'static str,
+    /// Whether a line shows it.
+    pub is_shown: bool,
+}
+
+// A fact of both forms.
+fn shown(member: &'static str, before: &'static str, behind: &'static str) -> Row
+    ensures { row_told result ≡ shown_row member.now before.now behind.now }
+{
+    Row {
+        member,
+        before,
+        behind,
+        is_shown: true,
+    }
+}
+
+// A fact that an object has alone.
+fn hidden(member: &'static str) -> Row
+    ensures { row_told result ≡ hidden_row member.now }
+{
+    Row {
+        member,
+        before: "",
+        behind: "",
+        is_shown: false,
+    }
+}
+
+impl Key {
+    /// The key in both forms.
+    pub fn row(self) -> Row
+        ensures { row_told result ≡ key_row self }
+    {
+        match self {
+            Key::Number => shown("number", "", ""),
+            Key::Thread => shown("thread", " thread ", ""),
+            Key::InAttempt => shown("in_attempt", " in attempt ", ""),
+            Key::Class => shown("class", " ", ""),
+            Key::Method => shown("method", ".", ""),
+            Key::Pc => shown("pc", " at ", ""),
+            Key::Instruction => shown("instruction", " ", ""),
+            Key::Does => shown("does", ", ", ""),
+            Key::Access => shown("access", ", ", ""),
+            Key::Word => shown("word", "", ""),
+            Key::Found => shown("found", " ", ""),
+            Key::Left => shown("left", " -> ", ""),
+            Key::AttemptBegins => shown("attempt_begins", ", attempt ", " begins by Free("),
+            Key::AttemptFails => shown("attempt_fails", ", attempt ", " fails: not Free("),
+            Key::AttemptFinishes => shown("attempt_finishes", ", attempt ", " finishes"),
+            Key::Noted => shown("noted", "", ")"),
+            Key::NotedThere => hidden("noted"),
+            Key::LockMark => shown("lock", ", ", ""),
+            Key::ComesToEnd => shown("comes_to_its_end", ", comes to its end: ", ""),
+            Key::Plain => shown("plain", ", plain: ", ""),
+            Key::OneStep => hidden("plain"),
+            Key::OwedNone => hidden("owed"),
+            Key::Owed => shown("owed", ", ", " owed"),
+            Key::Between => shown("between", ", plain: enter, ", " owed, exit"),
+        }
+    }
+}
