@@ -1,3 +1,4 @@
 pub mod Opcodes
 pub mod PlaceText
 pub mod PlaceJson
+pub mod PlaceFacts

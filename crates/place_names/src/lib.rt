@@ -2,10 +2,12 @@
 //! as text and as JSON.
 #![tactic(auto)]
 
+pub mod facts;
 pub mod json;
 pub mod opcodes;
 pub mod places;
 
+pub use facts::{add_method, add_pc, add_place};
 pub use json::{
     write_instruction_member, write_method_members, write_method_names, write_place_members,
 };

@@ -7,9 +7,16 @@ use Rattle.json_lines.specs.Json.{json_text, number_member, text_member}
 use Rattle.json_lines.specs.declared.form.Form.{Form}
 use Rattle.json_lines.specs.declared.form.Form.TheVariants as forms
 use Rattle.tellings.specs.Keys.{KeyRow, key_row}
+use Rattle.tellings.specs.declared.keys.Key.{Key}
 use Rattle.tellings.specs.declared.facts.Fact.{Fact}
 use Rattle.tellings.specs.declared.facts.Fact.TheVariants.{Words, Text, Count, Value, Texts}
 use Rattle.tellings.specs.declared.facts.Fact.TheVariants.{Opens, Lists, Item, Closes, Ends}
+
+-- ---- a text where there is one
+
+abbrev pub text_facts : Key → (words : List ℕ) → List Fact
+text_facts key [] = []
+text_facts key words = Text key words ∷ []
 
 -- ---- on a line
 

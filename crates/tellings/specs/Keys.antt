@@ -29,7 +29,7 @@ abbrev pub hidden_row : (member : List ℕ) → KeyRow
 hidden_row member = record { member = member; before = []; behind = []; is_shown = false }
 
 abbrev pub key_row : Key → KeyRow
--- of an event
+-- of an event, of an end, of a part that begins
 key_row keys.Number = shown_row (codes "number") (codes "") (codes "")
 key_row keys.Thread = shown_row (codes "thread") (codes " thread ") (codes "")
 key_row keys.InAttempt = shown_row (codes "in_attempt") (codes " in attempt ") (codes "")
@@ -58,3 +58,15 @@ key_row keys.OneStep = hidden_row (codes "plain")
 key_row keys.OwedNone = hidden_row (codes "owed")
 key_row keys.Owed = shown_row (codes "owed") (codes ", ") (codes " owed")
 key_row keys.Between = shown_row (codes "between") (codes ", plain: enter, ") (codes " owed, exit")
+key_row keys.End = shown_row (codes "end") (codes "") (codes ": ")
+key_row keys.HeldBy = shown_row (codes "held_by") (codes ", held by thread ") (codes "")
+key_row keys.Begins = hidden_row (codes "begins")
+-- of a report
+key_row keys.Ticket = hidden_row (codes "ticket")
+key_row keys.Printed = hidden_row (codes "value")
+key_row keys.ItsEnd = hidden_row (codes "end")
+key_row keys.Instructions = hidden_row (codes "instructions")
+key_row keys.Elided = hidden_row (codes "elided")
+key_row keys.Failed = hidden_row (codes "failed")
+key_row keys.Locked = hidden_row (codes "locked")
+key_row keys.Inflated = hidden_row (codes "inflated")

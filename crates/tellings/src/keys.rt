@@ -6,7 +6,7 @@ ghost use Rattle.tellings.specs.Keys.{hidden_row, key_row, row_told, shown_row};
 /// What a fact is about.
 #[derive(Clone, Copy, Debug, PartialEq, Eq)]
 pub enum Key {
-    // of an event
+    // of an event, of an end, of a part that begins
     Number,
     Thread,
     InAttempt,
@@ -31,6 +31,18 @@ pub enum Key {
     OwedNone,
     Owed,
     Between,
+    End,
+    HeldBy,
+    Begins,
+    // of a report
+    Ticket,
+    Printed,
+    ItsEnd,
+    Instructions,
+    Elided,
+    Failed,
+    Locked,
+    Inflated,
 }
 
 /// A key in both forms.
@@ -100,6 +112,17 @@ impl Key {
             Key::OwedNone => hidden("owed"),
             Key::Owed => shown("owed", ", ", " owed"),
             Key::Between => shown("between", ", plain: enter, ", " owed, exit"),
+            Key::End => shown("end", "", ": "),
+            Key::HeldBy => shown("held_by", ", held by thread ", ""),
+            Key::Begins => hidden("begins"),
+            Key::Ticket => hidden("ticket"),
+            Key::Printed => hidden("value"),
+            Key::ItsEnd => hidden("end"),
+            Key::Instructions => hidden("instructions"),
+            Key::Elided => hidden("elided"),
+            Key::Failed => hidden("failed"),
+            Key::Locked => hidden("locked"),
+            Key::Inflated => hidden("inflated"),
         }
     }
 }

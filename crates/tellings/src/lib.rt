@@ -5,6 +5,6 @@ pub mod facts;
 pub mod forms;
 pub mod keys;
 
-pub use facts::Fact;
+pub use facts::{Fact, add_count, add_text, add_text_if};
 pub use forms::{write_facts, write_members, write_told};
 pub use keys::{Key, Row};
