@@ -3,3 +3,4 @@ mod TopByNumber
 mod ElementStands
 mod NamingWords
 mod ClassesTold
+mod FactsTold

@@ -11,4 +11,7 @@ pub mod Shares
 pub mod Lines
 pub mod EndLines
 pub mod EventJson
+pub mod DoesTexts
+pub mod EventFacts
 pub mod EventForms
+pub mod FactLaws

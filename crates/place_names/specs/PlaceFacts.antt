@@ -21,10 +21,10 @@ abbrev pub insn_facts : Option Insn → List Fact
 insn_facts None = []
 insn_facts (Some insn) = Text keys.Instruction (op_name insn.op) ∷ []
 
-abbrev pub pc_facts : (pc : ℕ) → Option Insn → List Fact
-pc_facts pc insn = Count keys.Pc pc ∷ insn_facts insn
+abbrev pub pc_insn_facts : (pc : ℕ) → Option Insn → List Fact
+pc_insn_facts pc insn = Count keys.Pc pc ∷ insn_facts insn
 
 abbrev pub place_facts : Program → (method pc : ℕ) → List Fact
 place_facts p method pc =
     method_facts p.names (slice_get p.methods method)
-    ++ pc_facts pc (insn_at (slice_get p.methods method) pc)
+    ++ pc_insn_facts pc (insn_at (slice_get p.methods method) pc)

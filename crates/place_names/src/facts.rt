@@ -2,7 +2,7 @@
 
 ghost use Rattle.std.specs.Prelude.{◌≡◌, ◌++◌, ◌∷◌, [], Some, slice_get, OnOk};
 ghost use Rattle.std.specs.Option.{option_copied};
-ghost use Rattle.place_names.specs.PlaceFacts.{insn_facts, method_facts, pc_facts, place_facts};
+ghost use Rattle.place_names.specs.PlaceFacts.{insn_facts, method_facts, pc_insn_facts, place_facts};
 ghost use Rattle.run_texts.specs.MarksText.{class_text};
 ghost use Rattle.tellings.specs.declared.facts.Fact.TheVariants.{Text as TextFact};
 ghost use Rattle.tellings.specs.declared.keys.Key.TheVariants.{Class, Method};
@@ -83,7 +83,7 @@ pub fn add_pc(
     pc: u32,
     insn: Option<&Insn>,
 ) -> Result<(), AllocError>
-    ensures { OnOk result (facts.new ≡ facts.old ++ pc_facts pc (option_copied insn.entry)) }
+    ensures { OnOk result (facts.new ≡ facts.old ++ pc_insn_facts pc (option_copied insn.entry)) }
 {
     add_count(facts, Key::Pc, u64::from(pc))?;
     add_insn(facts, alloc, insn)

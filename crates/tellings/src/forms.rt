@@ -48,7 +48,8 @@ fn write_signed(out: &mut Vec<u8>, alloc: Global, n: i32) -> Result<(), AllocErr
 }
 
 fn write_value(out: &mut Vec<u8>, alloc: Global, key: Key, n: i32) -> Result<(), AllocError>
-    ensures { OnOk result (out.new.items ≡ out.old.items ++ piece (key_row key) (signed_decimal n)) }
+    ensures { OnOk result
+        (out.new.items ≡ out.old.items ++ piece (key_row key) (signed_decimal n)) }
 {
     let mut words = Vec::new(alloc);
     write_signed(&mut words, alloc, n)?;

@@ -1,0 +1,134 @@
+-- An event, fact by fact: its number, the thread and the attempt that it is in, where it stands,
+-- what it does in words where it is no instruction, the word that it accesses with what it found and
+-- left there, what becomes of attempts, locks and the part, and the plain steps that it stands for.
+-- And so an end to which an event led.
+use Rattle.std.specs.Prelude.{ℕ, zero, suc, nat_lt, Bool, true, false, List, [], ◌∷◌, ◌++◌, codes}
+use Rattle.std.specs.Prelude.{map, Option, Some, None}
+use Rattle.jvm_types.specs.declared.outcome.End.{End}
+use Rattle.jvm_types.specs.declared.program.Program.{Program}
+use Rattle.machine_types.specs.declared.access.Access.{Access}
+use Rattle.machine_types.specs.declared.access.Access.TheVariants.{Load, Rest}
+use Rattle.machine_types.specs.declared.attempt.AttemptHead.{AttemptHead}
+use Rattle.machine_types.specs.declared.phase.Phase.{Phase}
+use Rattle.machine_types.specs.declared.phase.Phase.TheVariants as phases
+use Rattle.machine_types.specs.declared.plain.Act.{Act}
+use Rattle.machine_types.specs.declared.plain.Act.TheVariants.{Do, Enter, Exit}
+use Rattle.place_names.specs.PlaceFacts.{place_facts}
+use Rattle.run_texts.specs.Report.{end_text}
+use Rattle.event_texts.specs.EndLines.{holder}
+use Rattle.event_texts.specs.DoesTexts.{does_text}
+use Rattle.event_texts.specs.Shares.{Share, Steps, Owes, Section, act_text}
+use Rattle.event_texts.specs.ValueTexts.{shared_value_text, word_text}
+use Rattle.event_texts.specs.declared.sights.Spot.{Spot}
+use Rattle.event_texts.specs.declared.sights.Before.{Before}
+use Rattle.event_texts.specs.declared.sights.After.{After}
+use Rattle.tellings.specs.Forms.{text_facts}
+use Rattle.tellings.specs.declared.facts.Fact.{Fact}
+use Rattle.tellings.specs.declared.facts.Fact.TheVariants.{Text, Count, Texts, Opens, Closes}
+use Rattle.tellings.specs.declared.keys.Key.{Key}
+use Rattle.tellings.specs.declared.keys.Key.TheVariants as keys
+
+-- ---- which event it is, where its thread stands, and what it does where that is no instruction
+
+abbrev pub inside_facts : Option AttemptHead → List Fact
+inside_facts None = []
+inside_facts (Some a) = Count keys.InAttempt a.number ∷ []
+
+abbrev pub event_spot_facts : Program → Option Spot → List Fact
+event_spot_facts p None = []
+event_spot_facts p (Some spot) = place_facts p spot.method spot.pc
+
+abbrev pub number_facts : (number : ℕ) → (thread : ℕ) → List Fact
+number_facts number thread = Count keys.Number number ∷ Count keys.Thread thread ∷ []
+
+abbrev pub stand_facts : Program → Before → List Fact
+stand_facts p b = event_spot_facts p b.spot ++ text_facts keys.Does (does_text p b.phase)
+
+abbrev pub head_facts : Program → (number : ℕ) → Before → List Fact
+head_facts p number b = number_facts number b.thread ++ inside_facts b.attempt ++ stand_facts p b
+
+-- ---- the word that it accesses, what it found there, and what it left there where it is no load
+
+abbrev pub value_facts : Program → Before → After → (loads : Bool) → List Fact
+value_facts p b a true = Text keys.Found (shared_value_text p b.word b.found) ∷ []
+value_facts p b a false =
+    Text keys.Found (shared_value_text p b.word b.found)
+    ∷ Text keys.Left (shared_value_text p b.word a.left) ∷ []
+
+abbrev pub accessed_facts : Program → (names : List (List ℕ)) → Before → After → (loads : Bool)
+    → List Fact
+accessed_facts p names b a loads =
+    (Opens keys.Access ∷ Text keys.Word (word_text p names b.word) ∷ [])
+    ++ value_facts p b a loads ++ (Closes ∷ [])
+
+abbrev pub access_facts : Program → (names : List (List ℕ)) → Before → After → Option Access
+    → List Fact
+access_facts p names b a None = []
+access_facts p names b a (Some Rest) = []
+access_facts p names b a (Some (Load w)) = accessed_facts p names b a true
+access_facts p names b a (Some access) = accessed_facts p names b a false
+
+-- ---- what becomes of attempts, locks and the part
+
+-- an attempt by its number, with the count of the free lock that it noted
+abbrev pub noted_facts : (key noted : Key) → AttemptHead → List Fact
+noted_facts key noted a = Count key a.number ∷ Count noted a.noted ∷ []
+
+-- before and behind an event, and whether one failed
+abbrev pub attempt_facts : Option AttemptHead → Option AttemptHead → (failed : Bool) → List Fact
+attempt_facts None (Some a) failed = noted_facts keys.AttemptBegins keys.Noted a
+attempt_facts (Some a) None true = noted_facts keys.AttemptFails keys.Noted a
+attempt_facts (Some a) None false = noted_facts keys.AttemptFinishes keys.NotedThere a
+attempt_facts was now failed = []
+
+-- a lock was taken, or made fat
+abbrev pub lock_facts : (locked inflated : Bool) → List Fact
+lock_facts true inflated = Text keys.LockMark (codes "locked") ∷ []
+lock_facts false true = Text keys.LockMark (codes "inflated") ∷ []
+lock_facts false false = []
+
+abbrev pub end_facts : Phase → List Fact
+end_facts (phases.Ending e) = Text keys.ComesToEnd (end_text e) ∷ []
+end_facts phase = []
+
+abbrev pub mark_facts : Before → After → List Fact
+mark_facts b a =
+    attempt_facts b.attempt a.attempt (nat_lt b.counts.failed a.counts.failed)
+    ++ lock_facts (nat_lt b.counts.locked a.counts.locked)
+    (nat_lt b.counts.inflated a.counts.inflated) ++ end_facts a.phase
+
+-- ---- the plain steps that it stands for
+
+-- an instruction outside of attempts is one step, of which a line says nothing
+abbrev pub plain_key : List Act → Key
+plain_key (Do ∷ []) = keys.OneStep
+plain_key acts = keys.Plain
+
+abbrev pub owed_facts : ℕ → List Fact
+owed_facts zero = Texts keys.Plain [] ∷ Count keys.OwedNone 0 ∷ []
+owed_facts n = Texts keys.OneStep [] ∷ Count keys.Owed n ∷ []
+
+-- between the entry and the exit of a section that finishes stand the steps that were owed
+abbrev pub share_facts : Share → List Fact
+share_facts (Steps acts) = Texts (plain_key acts) (map act_text acts) ∷ []
+share_facts (Owes n) = owed_facts n
+share_facts (Section n) =
+    Texts keys.OneStep (map act_text (Enter ∷ Exit ∷ [])) ∷ Count keys.Between n ∷ []
+
+-- ---- the whole
+
+abbrev pub event_facts : Program → (names : List (List ℕ)) → (number : ℕ) → Before → Share → After
+    → List Fact
+event_facts p names number b share a =
+    head_facts p number b ++ access_facts p names b a b.access ++ mark_facts b a
+    ++ share_facts share
+
+-- where a part of a thread came to an end that is no return: the end, the event, and who held the
+-- monitor for which the thread had made all its turns
+abbrev pub holder_facts : ℕ → List Fact
+holder_facts zero = []
+holder_facts (suc t) = Count keys.HeldBy t ∷ []
+
+abbrev pub stop_facts : Program → (number : ℕ) → Before → End → List Fact
+stop_facts p number b end =
+    (Text keys.End (end_text end) ∷ []) ++ head_facts p number b ++ holder_facts (holder end b)
