@@ -1,6 +1,6 @@
 //! One frame.
 
-ghost use Rattle.std.specs.Prelude.{◌≡◌, IfOk};
+ghost use Rattle.std.specs.Prelude.{◌≡◌, IfOk, true};
 
 use jvm_types::Rows;
 use std::alloc::{AllocError, Global};
@@ -91,5 +91,25 @@ impl Frame {
     {
         let locals = Rows::from_slice(alloc, self.locals())?;
         Ok(self.changed(pc, locals, stack))
+    }
+
+    /// The same frame again.
+    pub fn copy(&self, alloc: Global) -> Result<Frame, AllocError>
+        ensures { IfOk result (λ f. f ≡ self.now) }
+    {
+        let locals = Rows::from_slice(alloc, self.locals())?;
+        let stack = Rows::from_slice(alloc, self.stack())?;
+        Ok(Frame::of(self.method, self.pc, self.receiver, locals, stack))
+    }
+
+    /// `true`: the other frame is the same.
+    pub fn is_same(&self, other: &Frame) -> bool
+        ensures { result ≡ true → self.now ≡ other.now }
+    {
+        self.method == other.method
+            && self.pc == other.pc
+            && self.receiver == other.receiver
+            && self.locals() == other.locals()
+            && self.stack() == other.stack()
     }
 }

@@ -4,9 +4,11 @@
 
 mod finding;
 mod memory;
+mod mixing;
 mod object;
 mod places;
 mod start;
 
 pub use memory::Memory;
+pub use mixing::mixed;
 pub use places::{header_place, value_place, variable_place};

@@ -9,7 +9,8 @@ ghost use Rattle.machine_types.specs.PlainMemory.{has_value, new_object, object_
 ghost use Rattle.machine_types.specs.PlainMemory.{object_write, static_value, static_write};
 
 use crate::finding::{are_in_order, object_value, write_object};
-use crate::object::Object;
+use crate::mixing::mixed;
+use crate::object::{Object, are_same, copy_objects};
 use crate::start::{start_objects, start_statics, words_of};
 use heap_words::header_class;
 use jvm_types::Program;
@@ -44,6 +45,39 @@ impl StaticValue {
     {
         self.value = value;
     }
+
+    /// `true`: the other field is the same, with the same value.
+    fn is_same(&self, other: &StaticValue) -> bool
+        ensures { result ≡ true → self.now ≡ other.now }
+    {
+        self.word == other.word && self.value == other.value
+    }
+}
+
+/// The same static fields again.
+fn copy_statics(alloc: Global, statics: &[StaticValue]) -> Result<Vec<StaticValue>, AllocError>
+    ensures { IfOk result (λ v. v.items ≡ statics.now) }
+{
+    let mut copies = Vec::with_capacity(alloc, statics.len())?;
+    for s in statics {
+        copies.push(StaticValue::of(s.word, s.value))?;
+    }
+    Ok(copies)
+}
+
+/// `true`: the others are the same static fields, in the same order.
+fn are_same_statics(a: &[StaticValue], b: &[StaticValue]) -> bool
+    ensures { result ≡ true → a.now ≡ b.now }
+{
+    if a.len() != b.len() {
+        return false;
+    }
+    for i in 0..a.len() {
+        if !a[i].is_same(&b[i]) {
+            return false;
+        }
+    }
+    true
 }
 
 /// What a static field holds.
@@ -195,5 +229,38 @@ impl Memory {
         self.in_order = in_order;
         self.next = next;
         Ok(())
+    }
+
+    /// The same memory again.
+    pub fn copy(&self, alloc: Global) -> Result<Memory, AllocError>
+        ensures { IfOk result (λ m. m ≡ self.now) }
+    {
+        Ok(Memory {
+            objects: copy_objects(alloc, self.objects.as_slice())?,
+            statics: copy_statics(alloc, self.statics.as_slice())?,
+            next: self.next,
+            in_order: self.in_order,
+        })
+    }
+
+    /// `true`: the other memory is the same.
+    pub fn is_same(&self, other: &Memory) -> bool
+        ensures { result ≡ true → self.now ≡ other.now }
+    {
+        self.next == other.next
+            && are_same(self.objects.as_slice(), other.objects.as_slice())
+            && are_same_statics(self.statics.as_slice(), other.statics.as_slice())
+    }
+
+    /// A number by which equal memories are found, from the one of what comes before.
+    pub fn mixed(&self, before: u64) -> u64 {
+        let mut number = mixed(before, self.next);
+        for object in self.objects.as_slice() {
+            number = object.mixed(number);
+        }
+        for field in self.statics.as_slice() {
+            number = mixed(number, field.value);
+        }
+        number
     }
 }

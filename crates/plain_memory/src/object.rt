@@ -5,6 +5,7 @@ ghost use Rattle.std.specs.Prelude.{slice_get, slice_set, IfOk};
 ghost use Rattle.machine_types.specs.PlainMemory.{first_value, has_value, header_of, object_end};
 ghost use Rattle.machine_types.specs.PlainMemory.{value_in};
 
+use crate::mixing::mixed;
 use heap_words::header;
 use jvm_types::Rows;
 use jvm_types::class_numbers::INT_ARRAY_CLASS;
@@ -136,4 +137,59 @@ impl Object {
         let number = self.number_at(place);
         self.values.set(number, value);
     }
+
+    /// The same object again.
+    pub fn copy(&self, alloc: Global) -> Result<Object, AllocError>
+        ensures { IfOk result (λ o. o ≡ self.now) }
+    {
+        Ok(Object {
+            reference: self.reference,
+            class: self.class,
+            values: Rows::from_slice(alloc, self.values.as_slice())?,
+        })
+    }
+
+    /// `true`: the other object is the same.
+    pub fn is_same(&self, other: &Object) -> bool
+        ensures { result ≡ true → self.now ≡ other.now }
+    {
+        self.reference == other.reference
+            && self.class == other.class
+            && self.values.as_slice() == other.values.as_slice()
+    }
+
+    /// A number by which equal objects are found, from the one of what comes before.
+    pub fn mixed(&self, before: u64) -> u64 {
+        let mut number = mixed(before, self.class as u64);
+        for value in self.values.as_slice() {
+            number = mixed(number, *value);
+        }
+        number
+    }
+}
+
+/// The same objects again.
+pub(crate) fn copy_objects(alloc: Global, objects: &[Object]) -> Result<Vec<Object>, AllocError>
+    ensures { IfOk result (λ v. v.items ≡ objects.now) }
+{
+    let mut copies = Vec::with_capacity(alloc, objects.len())?;
+    for o in objects {
+        copies.push(o.copy(alloc)?)?;
+    }
+    Ok(copies)
+}
+
+/// `true`: the others are the same objects, in the same order.
+pub(crate) fn are_same(a: &[Object], b: &[Object]) -> bool
+    ensures { result ≡ true → a.now ≡ b.now }
+{
+    if a.len() != b.len() {
+        return false;
+    }
+    for i in 0..a.len() {
+        if !a[i].is_same(&b[i]) {
+            return false;
+        }
+    }
+    true
 }
