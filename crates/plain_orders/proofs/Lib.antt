@@ -1,0 +1,9 @@
+pub mod Covered
+pub mod OwnSteps
+pub mod Beside
+pub mod Swaps
+pub mod Runs
+pub mod EndedAlone
+pub mod AtRest
+pub mod Ends
+pub mod Prints
