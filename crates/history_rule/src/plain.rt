@@ -1,6 +1,6 @@
 //! The plain machine: a program, its state, and how many steps were made.
 
-ghost use Rattle.std.specs.Prelude.{◌≡◌, ◌<◌, ◌^◌, slice_get, IfOk};
+ghost use Rattle.std.specs.Prelude.{◌≡◌, ◌<◌, ◌^◌, slice_get, IfOk, true};
 ghost use Rattle.std.specs.Option.{option_map};
 ghost use Rattle.machine_types.specs.PlainState.{plain_start};
 ghost use Rattle.machine_types.specs.PlainSteps.{plain_done_end, end_at, plain_step};
@@ -14,7 +14,7 @@ use checked_program::Checked;
 use jvm_types::End;
 use lists::Told;
 use machine_types::PlainStep;
-use plain_threads::Status;
+use plain_threads::{Status, Threads};
 use std::alloc::{AllocError, Global};
 use std::marker::Model;
 
@@ -128,5 +128,38 @@ impl Plain {
         ensures { IfOk result (λ e. e ≡ plain_done_end p.now.program self.now.state) }
     {
         self.state.done_end(alloc, p)
+    }
+}
+
+// What a search over its states asks.
+impl Plain {
+    /// Its threads.
+    pub fn threads(&self) -> &Threads
+        ensures { result.now ≡ self.now.state.threads }
+    {
+        self.state.threads()
+    }
+
+    /// The same machine again.
+    pub fn copy(&self, alloc: Global) -> Result<Plain, AllocError>
+        ensures { IfOk result (λ q. q ≡ self.now) }
+    {
+        Ok(Plain {
+            program: self.program.again(),
+            state: self.state.copy(alloc)?,
+            steps: self.steps,
+        })
+    }
+
+    /// `true`: the other one is in the same state, behind as many steps or others.
+    pub fn is_same(&self, other: &Plain) -> bool
+        ensures { result ≡ true → self.now.state ≡ other.now.state }
+    {
+        self.state.is_same(&other.state)
+    }
+
+    /// A number by which equal memories are found, from the one of what comes before.
+    pub fn mixed_memory(&self, before: u64) -> u64 {
+        self.state.memory.mixed(before)
     }
 }

@@ -1,6 +1,6 @@
 //! The state of the plain machine.
 
-ghost use Rattle.std.specs.Prelude.{◌≡◌, slice_get, IfOk};
+ghost use Rattle.std.specs.Prelude.{◌≡◌, slice_get, IfOk, true};
 ghost use Rattle.std.specs.Option.{option_map};
 ghost use Rattle.machine_types.specs.PlainState.{plain_start};
 ghost use Rattle.machine_types.specs.PlainSteps.{plain_done_end, end_at};
@@ -38,6 +38,21 @@ impl Model for PlainState {
           threads = s.threads;
           prints = s.prints;
         } };
+}
+
+/// `true`: the others are the same prints, in the same order.
+fn are_same(a: &[Printed], b: &[Printed]) -> bool
+    ensures { result ≡ true → a.now ≡ b.now }
+{
+    if a.len() != b.len() {
+        return false;
+    }
+    for i in 0..a.len() {
+        if !a[i].is_same(&b[i]) {
+            return false;
+        }
+    }
+    true
 }
 
 impl PlainState {
@@ -94,5 +109,34 @@ impl PlainState {
         } else {
             Ok(None)
         }
+    }
+
+    /// Its threads.
+    pub fn threads(&self) -> &Threads
+        ensures { result.now ≡ self.now.threads }
+    {
+        &self.threads
+    }
+
+    /// The same state again.
+    pub fn copy(&self, alloc: Global) -> Result<PlainState, AllocError>
+        ensures { IfOk result (λ s. s ≡ self.now) }
+    {
+        Ok(PlainState {
+            memory: self.memory.copy(alloc)?,
+            holdings: self.holdings.copy(alloc)?,
+            threads: self.threads.copy(alloc)?,
+            prints: Rows::from_slice(alloc, self.prints.as_slice())?,
+        })
+    }
+
+    /// `true`: the other state is the same.
+    pub fn is_same(&self, other: &PlainState) -> bool
+        ensures { result ≡ true → self.now ≡ other.now }
+    {
+        self.threads.is_same(&other.threads)
+            && self.holdings.is_same(&other.holdings)
+            && are_same(self.prints.as_slice(), other.prints.as_slice())
+            && self.memory.is_same(&other.memory)
     }
 }

@@ -1,6 +1,6 @@
 //! Numbers that were printed.
 
-ghost use Rattle.std.specs.Prelude.{◌≡◌};
+ghost use Rattle.std.specs.Prelude.{◌≡◌, true};
 
 use std::marker::Model;
 
@@ -38,5 +38,12 @@ impl Printed {
         ensures { result ≡ self.now.value }
     {
         self.value
+    }
+
+    /// `true`: the other one is the same.
+    pub fn is_same(&self, other: &Printed) -> bool
+        ensures { result ≡ true → self.now ≡ other.now }
+    {
+        self.thread == other.thread && self.value == other.value
     }
 }

@@ -1,7 +1,7 @@
 //! Monitors that are held.
 
 ghost use Rattle.std.specs.Prelude.{◌≡◌, ◌==◌, ◌∷◌, ◌++◌, [], not, filter, position, IsSome, Some};
-ghost use Rattle.std.specs.Prelude.{None, OnOk, OnErr};
+ghost use Rattle.std.specs.Prelude.{None, OnOk, OnErr, IfOk, true};
 ghost use Rattle.machine_types.specs.PlainState.{holding_at, with_holding, without_holding};
 ghost use Rattle.plain_threads.specs.Holdings.{left_once};
 
@@ -54,6 +54,28 @@ impl Holding {
     {
         self.depth
     }
+
+    /// `true`: the other one is the same.
+    fn is_same(&self, other: &Holding) -> bool
+        ensures { result ≡ true → self.now ≡ other.now }
+    {
+        self.monitor == other.monitor && self.holder == other.holder && self.depth == other.depth
+    }
+}
+
+/// `true`: the others are the same, in the same order.
+fn are_same(a: &[Holding], b: &[Holding]) -> bool
+    ensures { result ≡ true → a.now ≡ b.now }
+{
+    if a.len() != b.len() {
+        return false;
+    }
+    for i in 0..a.len() {
+        if !a[i].is_same(&b[i]) {
+            return false;
+        }
+    }
+    true
 }
 
 /// The number of the first entry of a monitor.
@@ -150,5 +172,21 @@ impl Holdings {
         } else {
             self.remove(m);
         }
+    }
+
+    /// The same monitors again.
+    pub fn copy(&self, alloc: Global) -> Result<Holdings, AllocError>
+        ensures { IfOk result (λ s. s ≡ self.now) }
+    {
+        let mut holdings = Vec::new(alloc);
+        holdings.extend_from_slice(self.holdings.as_slice())?;
+        Ok(Holdings { holdings })
+    }
+
+    /// `true`: the same monitors are held there, in the same order.
+    pub fn is_same(&self, other: &Holdings) -> bool
+        ensures { result ≡ true → self.now ≡ other.now }
+    {
+        are_same(self.holdings.as_slice(), other.holdings.as_slice())
     }
 }

@@ -1,7 +1,7 @@
 //! One thread.
 
 ghost use Rattle.std.specs.Prelude.{◌≡◌, [], ◌∷◌, ◌++◌, drop, slice_set, slice_get, IfOk, OnOk};
-ghost use Rattle.std.specs.Prelude.{OnErr};
+ghost use Rattle.std.specs.Prelude.{OnErr, true};
 ghost use Rattle.machine_types.specs.PlainState.{Run, Throw, first_thread, plain_goes_on, over};
 ghost use Rattle.machine_types.specs.PlainState.{ready_thread, plain_root_over, plain_start_thread};
 ghost use Rattle.machine_types.specs.PlainSteps.{waits_on, wakes};
@@ -38,6 +38,84 @@ impl Model for Thread {
           roots = x.roots;
           ended = x.ended;
         } };
+}
+
+/// The same frames again, from the same end on.
+fn copy_frames(alloc: Global, frames: &[Frame]) -> Result<Rows<Frame>, AllocError>
+    ensures { IfOk result (λ v. v ≡ frames.now) }
+{
+    let mut copies = Rows::new(alloc);
+    for f in frames {
+        copies.push(f.copy(alloc)?)?;
+    }
+    Ok(copies)
+}
+
+/// `true`: the others are the same frames, in the same order.
+fn are_same_frames(a: &[Frame], b: &[Frame]) -> bool
+    ensures { result ≡ true → a.now ≡ b.now }
+{
+    if a.len() != b.len() {
+        return false;
+    }
+    for i in 0..a.len() {
+        if !a[i].is_same(&b[i]) {
+            return false;
+        }
+    }
+    true
+}
+
+/// The same frames again.
+fn copy_stack(alloc: Global, frames: &Stack<Frame>) -> Result<Stack<Frame>, AllocError>
+    ensures { IfOk result (λ s. s ≡ frames.now) }
+{
+    let mut copies = copy_frames(alloc, frames.as_slice())?;
+    copies.reverse();
+    Ok(Stack::first_on_top(copies))
+}
+
+/// `true`: the others are the same frames.
+fn is_same_stack(a: &Stack<Frame>, b: &Stack<Frame>) -> bool
+    ensures { result ≡ true → a.now ≡ b.now }
+{
+    are_same_frames(a.as_slice(), b.as_slice())
+}
+
+/// `true`: it is the same status.
+fn is_same_status(a: Status, b: Status) -> bool
+    ensures { result ≡ true → a ≡ b }
+{
+    a == b
+}
+
+/// `true`: it is the same end.
+fn is_same_end(a: End, b: End) -> bool
+    ensures { result ≡ true → a ≡ b }
+{
+    a == b
+}
+
+/// `true`: the others are the same ends, in the same order.
+fn are_same_ends(a: &[End], b: &[End]) -> bool
+    ensures { result ≡ true → a.now ≡ b.now }
+{
+    if a.len() != b.len() {
+        return false;
+    }
+    for i in 0..a.len() {
+        if !is_same_end(a[i], b[i]) {
+            return false;
+        }
+    }
+    true
+}
+
+/// `true`: the others are the same roots.
+fn are_same_roots(a: &Stack<u32>, b: &Stack<u32>) -> bool
+    ensures { result ≡ true → a.now ≡ b.now }
+{
+    a.as_slice() == b.as_slice()
 }
 
 impl Thread {
@@ -266,5 +344,27 @@ impl Thread {
             Status::Waiting(n, depth) if n == m => self.status = Status::Woken(n, depth),
             _ => (),
         }
+    }
+
+    /// The same thread again.
+    pub fn copy(&self, alloc: Global) -> Result<Thread, AllocError>
+        ensures { IfOk result (λ x. x ≡ self.now) }
+    {
+        Ok(Thread {
+            frames: copy_stack(alloc, &self.frames)?,
+            status: self.status,
+            roots: self.roots.copy(alloc)?,
+            ended: Rows::from_slice(alloc, self.ended.as_slice())?,
+        })
+    }
+
+    /// `true`: the other thread is the same.
+    pub fn is_same(&self, other: &Thread) -> bool
+        ensures { result ≡ true → self.now ≡ other.now }
+    {
+        is_same_status(self.status, other.status)
+            && is_same_stack(&self.frames, &other.frames)
+            && are_same_roots(&self.roots, &other.roots)
+            && are_same_ends(self.ended(), other.ended())
     }
 }

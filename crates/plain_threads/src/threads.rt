@@ -1,7 +1,7 @@
 //! All threads.
 
 ghost use Rattle.std.specs.Prelude.{◌≡◌, ◌<◌, ◌+◌, drop, length, map, slice_get, slice_set, Some};
-ghost use Rattle.std.specs.Prelude.{IfOk, OnOk, OnErr, OnSome};
+ghost use Rattle.std.specs.Prelude.{IfOk, OnOk, OnErr, OnSome, true};
 ghost use Rattle.std.specs.List.{list_any, list_all, range_with_len};
 ghost use Rattle.std.specs.Option.{option_copied};
 ghost use Rattle.machine_types.specs.PlainState.{PlainThread, plain_goes_on, plain_start_thread};
@@ -78,6 +78,32 @@ fn is_done_due(threads: &[Thread]) -> bool
         [_, workers @ ..] => init_has_returned(threads) && are_over(workers),
         [] => false,
     }
+}
+
+/// The same threads again.
+fn copy_each(alloc: Global, threads: &[Thread]) -> Result<Vec<Thread>, AllocError>
+    ensures { IfOk result (λ v. v.items ≡ threads.now) }
+{
+    let mut copies = Vec::with_capacity(alloc, threads.len())?;
+    for x in threads {
+        copies.push(x.copy(alloc)?)?;
+    }
+    Ok(copies)
+}
+
+/// `true`: the others are the same threads, in the same order.
+fn are_same(a: &[Thread], b: &[Thread]) -> bool
+    ensures { result ≡ true → a.now ≡ b.now }
+{
+    if a.len() != b.len() {
+        return false;
+    }
+    for i in 0..a.len() {
+        if !a[i].is_same(&b[i]) {
+            return false;
+        }
+    }
+    true
 }
 
 impl Threads {
@@ -206,6 +232,22 @@ impl Threads {
         ensures { self.new ≡ map (wakes m) self.old }
     {
         wake_each(&mut self.threads, m);
+    }
+
+    /// The same threads again.
+    pub fn copy(&self, alloc: Global) -> Result<Threads, AllocError>
+        ensures { IfOk result (λ s. s ≡ self.now) }
+    {
+        Ok(Threads {
+            threads: copy_each(alloc, self.threads.as_slice())?,
+        })
+    }
+
+    /// `true`: the others are the same threads.
+    pub fn is_same(&self, other: &Threads) -> bool
+        ensures { result ≡ true → self.now ≡ other.now }
+    {
+        are_same(self.threads.as_slice(), other.threads.as_slice())
     }
 }
 

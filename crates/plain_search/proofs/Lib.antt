@@ -1,0 +1,4 @@
+pub mod LocalRuns
+pub mod NextLists
+pub mod Closing
+pub mod RowLists

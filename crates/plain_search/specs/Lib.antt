@@ -1,0 +1,4 @@
+pub mod Alone
+pub mod Rows
+pub mod Nexts
+pub mod Searched

@@ -1,0 +1,15 @@
+//! The search over the states of the plain machine: all that its steps lead to, in any order, up to
+//! local steps.
+#![tactic(auto)]
+
+mod found;
+mod local;
+mod nexts;
+mod numbers;
+mod row;
+mod rows;
+mod searching;
+mod settling;
+
+pub use found::Found;
+pub use searching::{MOST_STATES, search};

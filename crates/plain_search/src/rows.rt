@@ -1,0 +1,107 @@
+//! The rows that were found, each state once.
+
+ghost use Rattle.std.specs.Prelude.{◌≡◌, ◌++◌, ◌∷◌, [], true, MatchOption, OnOk};
+ghost use Rattle.std.specs.List.{AllByRecursion};
+ghost use Rattle.checked_program.specs.MarkedProgram.{MarkedProgram};
+ghost use Rattle.plain_search.specs.Rows.{AreStatesIn, IsLonger, IsSearchRow, IsStateIn};
+
+use crate::numbers::number_of;
+use crate::row::Row;
+use checked_program::Checked;
+use history_rule::Plain;
+use std::alloc::AllocError;
+
+/// A place of the table: of a state that is found there, or where it may be put.
+#[derive(Clone, Copy)]
+struct Place {
+    at: usize,
+    is_found: bool,
+}
+
+/// Whether a row, by its number counted from 1, has this state.
+fn is_state_of(rows: &[Row], number: u32, q: &Plain) -> bool
+    ensures { result ≡ true → IsStateIn rows.now q.now.state }
+{
+    if number == 0 {
+        return false;
+    }
+    match rows.get((number - 1) as usize) {
+        Some(row) => row.plain.is_same(q),
+        None => false,
+    }
+}
+
+/// The place of a state in the table.
+fn place_of(rows: &[Row], table: &[u32], q: &Plain) -> Place
+    ensures { result.is_found ≡ true → IsStateIn rows.now q.now.state }
+{
+    let mut at = 0;
+    if table.len() > 0 {
+        at = (number_of(q) % table.len() as u64) as usize;
+    }
+    for _ in 0..table.len() {
+        if at >= table.len() {
+            at = 0;
+        }
+        let number = table[at];
+        if number == 0 {
+            return Place {
+                at,
+                is_found: false,
+            };
+        }
+        if is_state_of(rows, number, q) {
+            return Place { at, is_found: true };
+        }
+        at += 1;
+    }
+    Place {
+        at: table.len(),
+        is_found: false,
+    }
+}
+
+/// Adds a row whose state no other has.
+pub(crate) fn add(rows: &mut Vec<Row>, table: &mut [u32], row: Row) -> Result<(), AllocError>
+    ensures there { OnOk result (IsStateIn rows.new.items row.plain.state) }
+    ensures longer { (c : MarkedProgram) → IsSearchRow c row
+        → IsLonger (IsSearchRow c) rows.old.items rows.new.items }
+{
+    let place = place_of(rows.as_slice(), table, &row.plain);
+    if place.is_found {
+        return Ok(());
+    }
+    let number = (rows.len() as u64 + 1) as u32;
+    rows.push(row)?;
+    if place.at < table.len() {
+        table[place.at] = number;
+    }
+    Ok(())
+}
+
+/// Takes the last one.
+fn take_last(rows: &mut Vec<Row>) -> Option<Row>
+    ensures { MatchOption result (rows.old.items ≡ [])
+        (λ row. rows.old.items ≡ rows.new.items ++ row ∷ []) }
+{
+    rows.pop()
+}
+
+/// Adds those rows whose state no other has.
+pub(crate) fn add_all(
+    p: &Checked,
+    rows: &mut Vec<Row>,
+    table: &mut [u32],
+    more: Vec<Row>,
+) -> Result<(), AllocError>
+    requires { AllByRecursion (IsSearchRow p.now) more.items }
+    ensures there { OnOk result (AreStatesIn rows.new.items more.items) }
+    ensures longer { IsLonger (IsSearchRow p.now) rows.old.items rows.new.items }
+{
+    let mut left = more;
+    left.reverse();
+    while let Some(row) = take_last(&mut left) {
+        add(rows, table, row)?;
+    }
+    Ok(())
+}

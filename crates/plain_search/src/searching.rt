@@ -1,0 +1,100 @@
+//! The search.
+
+ghost use Rattle.std.specs.Prelude.{◌≡◌, ◌<◌, ◌≤◌, ◌+◌, ◌^◌, ℕ, true, length, Contains, IfOk, Some};
+ghost use Rattle.std.specs.Prelude.{slice_get};
+ghost use Rattle.machine_types.specs.PlainState.{Plain as State};
+ghost use Rattle.plain_orders.specs.CoveredRuns.{AreAllStates};
+ghost use Rattle.plain_search.specs.Rows.{IsLonger, IsPlainReached, IsSearchRow};
+ghost use Rattle.plain_search.specs.Searched.{AreTaken, HasNoStepAt, IsSoundSearch};
+ghost use Rattle.plain_search.specs.declared.row.Row.{Row as Rows};
+ghost use Rattle.plain_search.specs.declared.searching.TheConstants.{MOST_STATES};
+
+use crate::found::Found;
+use crate::nexts::next_rows;
+use crate::row::{Gathered, Row};
+use crate::rows::{add, add_all};
+use checked_program::Checked;
+use history_rule::{Plain, plain_start};
+use machine_types::{Act, PlainStep};
+use std::alloc::{AllocError, Global};
+
+/// The most states that a search may be asked for.
+pub const MOST_STATES: u32 = 10_000_000;
+
+/// Whether there is room for the numbers of one step more and its local steps.
+fn has_room(q: &Plain) -> bool
+    ensures few { result ≡ true → q.now.steps + 1001 ≤ 2 ^ 40 }
+    ensures threads { result ≡ true → length q.now.state.threads ≤ 256 }
+{
+    q.steps() <= 1_099_511_626_775 && q.threads().len() <= 256
+}
+
+/// Adds the states that come next behind a row. `false`: there is no room for their numbers.
+fn take_up(alloc: Global, p: &Checked, s: &mut Gathered, i: u32) -> Result<bool, AllocError>
+    requires place { i < length s.old.rows.items }
+    requires sound { IsSoundSearch p.now s.old }
+    ensures sound { IsSoundSearch p.now s.new }
+    ensures taken { IfOk result
+        (λ b. b ≡ true → AreTaken p.now s.old i → AreTaken p.now s.new (i + 1)) }
+{
+    let q = &s.rows[i as usize].plain;
+    if !has_room(q) {
+        return Ok(false);
+    }
+    let rows = next_rows(alloc, p, q, i)?;
+    if rows.is_empty() {
+        s.rests.push(i)?;
+    } else {
+        add_all(p, &mut s.rows, &mut s.table, rows)?;
+    }
+    Ok(true)
+}
+
+/// The search at its start.
+fn start(alloc: Global, p: &Checked, most: u32) -> Result<Gathered, AllocError>
+    requires { most ≤ MOST_STATES }
+    ensures sound { IfOk result (IsSoundSearch p.now) }
+    ensures taken { IfOk result (λ s. AreTaken p.now s 0) }
+{
+    let mut s = Gathered {
+        rows: Vec::new(alloc),
+        rests: Vec::new(alloc),
+        table: vec![in alloc; 0; 2 * most as usize + 2]?,
+    };
+    let first = Row {
+        plain: plain_start(alloc, p)?,
+        from: 0,
+        step: PlainStep {
+            thread: 0,
+            act: Act::Begin,
+        },
+        locals: 0,
+    };
+    add(&mut s.rows, &mut s.table, first)?;
+    Ok(s)
+}
+
+/// Searches the states that a program's plain machine comes to, in any order of its steps, until
+/// there are no more, or more than `most`, or no memory is left.
+pub fn search(alloc: Global, p: &Checked, most: u32) -> Result<Found, AllocError>
+    requires { most ≤ MOST_STATES }
+    ensures own { IfOk result (λ f. f.program ≡ p.now) }
+    ensures all { IfOk result (λ f. f.is_whole ≡ true → AreAllStates p.now f.states) }
+    ensures reached { IfOk result (λ f. (q : State) → Contains f.states q
+        → IsPlainReached p.now q) }
+{
+    let mut s = start(alloc, p, most)?;
+    for i in 0..=most {
+        if i as usize >= s.rows.len() {
+            return Ok(Found::whole(p, s));
+        }
+        if s.rows.len() > most as usize {
+            break;
+        }
+        match take_up(alloc, p, &mut s, i) {
+            Ok(true) => (),
+            _ => break,
+        }
+    }
+    Ok(Found::part(p, s))
+}
