@@ -15,11 +15,11 @@ Marks.makesTwo()LMarks; method M2
 Marks.makesArray()[I method M2
   Marks.makesArray()[I at 1 newarray M2: it makes an object or an array
 Marks.entersOther(LMarks;)I block 3 M3
-  Marks.entersOther(LMarks;)I at 7 monitorenter M3: it enters a monitor that is not the section's
+  Marks.entersOther(LMarks;)I at 7 monitorenter M3: it enters a monitor that is not known to be the section's
 Marks.entersOther(LMarks;)I block 7 M8
-  its monitor is not this
+  its monitor is not known to be this
 Marks.callsOther(LMarks;)I method M3
-  Marks.callsOther(LMarks;)I at 2 invokevirtual M3: it enters a monitor that is not the section's
+  Marks.callsOther(LMarks;)I at 2 invokevirtual M3: it enters a monitor that is not known to be the section's
 Marks.prints()V method M4
   Marks.prints()V at 4 invokevirtual M4: it prints, waits or notifies
 Marks.waits()V method M4
@@ -29,21 +29,21 @@ Marks.notifies()V method M4
 Marks.notifiesAll()V method M4
   Marks.notifiesAll()V at 1 invokevirtual M4: it prints, waits or notifies
 Marks.readsStatic()I method M5
-  Marks.readsStatic()I at 0 getstatic M5: it reads what the section's lock does not guard
+  Marks.readsStatic()I at 0 getstatic M5: it reads what the section's lock is not known to guard
     it is a static field, and the section is not on its class
 Marks.readsElement([I)I method M5
-  Marks.readsElement([I)I at 2 iaload M5: it reads what the section's lock does not guard
+  Marks.readsElement([I)I at 2 iaload M5: it reads what the section's lock is not known to guard
     it is an element of an array that is not known to be the section's own
 Marks.readsLoose()I method M5
-  Marks.readsLoose()I at 1 getfield M5: it reads what the section's lock does not guard
-    Marks.loosen(I)V at 2 putfield writes the field, not under the lock that guards it
+  Marks.readsLoose()I at 1 getfield M5: it reads what the section's lock is not known to guard
+    Marks.loosen(I)V at 2 putfield writes the field, not known to be under the lock that guards it
 Marks.readsOther(LMarks;)I method M5
-  Marks.readsOther(LMarks;)I at 1 getfield M5: it reads what the section's lock does not guard
-    it is the field of another object
+  Marks.readsOther(LMarks;)I at 1 getfield M5: it reads what the section's lock is not known to guard
+    it is the field of an object that is not known to be the section's
 Marks.onKey()I block 6 M8
-  its monitor is not this
+  its monitor is not known to be this
 Marks.printsOnKey()I block 6 M8
-  its monitor is not this
+  its monitor is not known to be this
 """
 # Sections that call methods on `this` and off it, some of which call themselves.
 BY_CALLEES = """\
@@ -59,11 +59,11 @@ Calls.offThisStores(LCalls;)V method M6
   Calls.store(I)V at 2 putfield M1: it writes a field, a static field or an element
 Calls.offThisReads(LCalls;)I method M6
   Calls.offThisReads(LCalls;)I at 1 invokespecial calls
-  Calls.total()I at 1 getfield M5: it reads what the section's lock does not guard
-    it is the field of another object
+  Calls.total()I at 1 getfield M5: it reads what the section's lock is not known to guard
+    it is the field of an object that is not known to be the section's
 Calls.offThisEnters(LCalls;)I method M6
   Calls.offThisEnters(LCalls;)I at 1 invokevirtual calls
-  Calls.block()I at 3 monitorenter M3: it enters a monitor that is not the section's
+  Calls.block()I at 3 monitorenter M3: it enters a monitor that is not known to be the section's
 Calls.laterPrints()V method M6
   Calls.laterPrints()V at 1 invokestatic calls
   Calls.printLater(I)V at 1 invokestatic calls
@@ -73,7 +73,7 @@ Calls.offThisMakes()LCalls; method M6
   Calls.make()LCalls; at 0 new M2: it makes an object or an array
 Calls.offThisReadsElement([I)I method M6
   Calls.offThisReadsElement([I)I at 1 invokestatic calls
-  Calls.first([I)I at 2 iaload M5: it reads what the section's lock does not guard
+  Calls.first([I)I at 2 iaload M5: it reads what the section's lock is not known to guard
     it is an element of an array that is not known to be the section's own
 Calls.recurses(I)I method M7
   Calls.recurses(I)I at 12 invokevirtual calls
@@ -95,10 +95,10 @@ Calls.storesAndPrints(I)V method M1
 BY_CLASSES = """\
 Ticks.count()I method M0
 Ticks.calls()I method M3
-  Ticks.calls()I at 0 invokestatic M3: it enters a monitor that is not the section's
+  Ticks.calls()I at 0 invokestatic M3: it enters a monitor that is not known to be the section's
 Ticks.callsLater()I method M6
   Ticks.callsLater()I at 0 invokestatic calls
-  Ticks.later()I at 0 invokestatic M3: it enters a monitor that is not the section's
+  Ticks.later()I at 0 invokestatic M3: it enters a monitor that is not known to be the section's
 """
 # Sections on a class, and one on `this` that reads what the lock of the class guards.
 ON_CLASS = """\
@@ -110,34 +110,34 @@ ClassMarks.stores(I)V method M1
 ClassMarks.makes()[I method M2
   ClassMarks.makes()[I at 1 newarray M2: it makes an object or an array
 ClassMarks.enters(LClassMarks;)I method M3
-  ClassMarks.enters(LClassMarks;)I at 3 monitorenter M3: it enters a monitor that is not the section's
+  ClassMarks.enters(LClassMarks;)I at 3 monitorenter M3: it enters a monitor that is not known to be the section's
 ClassMarks.enters(LClassMarks;)I block 3 M8
-  its monitor is not this
+  its monitor is not known to be this
 ClassMarks.callsOther(LClassMarks;)I method M3
-  ClassMarks.callsOther(LClassMarks;)I at 1 invokevirtual M3: it enters a monitor that is not the section's
+  ClassMarks.callsOther(LClassMarks;)I at 1 invokevirtual M3: it enters a monitor that is not known to be the section's
 ClassMarks.prints()V method M4
   ClassMarks.prints()V at 6 invokevirtual M4: it prints, waits or notifies
 ClassMarks.notifies(Ljava/lang/Object;)V method M4
   ClassMarks.notifies(Ljava/lang/Object;)V at 1 invokevirtual M4: it prints, waits or notifies
 ClassMarks.readsOpen()I method M5
-  ClassMarks.readsOpen()I at 0 getstatic M5: it reads what the section's lock does not guard
+  ClassMarks.readsOpen()I at 0 getstatic M5: it reads what the section's lock is not known to guard
     the field is not private
 ClassMarks.readsLoose()I method M5
-  ClassMarks.readsLoose()I at 0 getstatic M5: it reads what the section's lock does not guard
-    ClassMarks.loosen(I)V at 1 putstatic writes the field, not under the lock that guards it
+  ClassMarks.readsLoose()I at 0 getstatic M5: it reads what the section's lock is not known to guard
+    ClassMarks.loosen(I)V at 1 putstatic writes the field, not known to be under the lock that guards it
 ClassMarks.readsField(LClassMarks;)I method M5
-  ClassMarks.readsField(LClassMarks;)I at 1 getfield M5: it reads what the section's lock does not guard
-    it is the field of another object
+  ClassMarks.readsField(LClassMarks;)I at 1 getfield M5: it reads what the section's lock is not known to guard
+    it is the field of an object that is not known to be the section's
 ClassMarks.readsElement([I)I method M5
-  ClassMarks.readsElement([I)I at 2 iaload M5: it reads what the section's lock does not guard
+  ClassMarks.readsElement([I)I at 2 iaload M5: it reads what the section's lock is not known to guard
     it is an element of an array that is not known to be the section's own
 ClassMarks.callsStores()V method M6
   ClassMarks.callsStores()V at 1 invokestatic calls
   ClassMarks.stores(I)V at 1 putstatic M1: it writes a field, a static field or an element
 ClassMarks.callsReads(LClassMarks;)I method M6
   ClassMarks.callsReads(LClassMarks;)I at 1 invokespecial calls
-  ClassMarks.value()I at 1 getfield M5: it reads what the section's lock does not guard
-    it is the field of another object
+  ClassMarks.value()I at 1 getfield M5: it reads what the section's lock is not known to guard
+    it is the field of an object that is not known to be the section's
 ClassMarks.recurses(I)I method M7
   ClassMarks.recurses(I)I at 1 invokestatic calls
   ClassMarks.down(I)I at 11 invokestatic calls
@@ -146,11 +146,11 @@ ClassMarks.get()I method M0
 ClassMarks.set(I)V method M1
   ClassMarks.set(I)V at 2 putfield M1: it writes a field, a static field or an element
 ClassMarks.readsTotal()I method M5
-  ClassMarks.readsTotal()I at 0 getstatic M5: it reads what the section's lock does not guard
+  ClassMarks.readsTotal()I at 0 getstatic M5: it reads what the section's lock is not known to guard
     it is a static field, and the section is not on its class
 ClassMarks.callsTotal()I method M6
   ClassMarks.callsTotal()I at 0 invokestatic calls
-  ClassMarks.total()I at 0 getstatic M5: it reads what the section's lock does not guard
+  ClassMarks.total()I at 0 getstatic M5: it reads what the section's lock is not known to guard
     it is a static field, and the section is not on its class
 """
 # Sections that read elements of arrays which their object owns, and of others.
@@ -166,23 +166,23 @@ Kept.at(I)I method M0
 Kept.calls()I method M0
 Kept.asks(LKept;)I block 3 M6
   Kept.asks(LKept;)I at 5 invokevirtual calls
-  Kept.last()I at 5 iaload M5: it reads what the section's lock does not guard
+  Kept.last()I at 5 iaload M5: it reads what the section's lock is not known to guard
     it is an element of an array that is not known to be the section's own
 Kept.asksItself()I method M0
 Kept.readsHanded()I method M5
-  Kept.readsHanded()I at 5 iaload M5: it reads what the section's lock does not guard
+  Kept.readsHanded()I at 5 iaload M5: it reads what the section's lock is not known to guard
     it is an element of an array that is not known to be the section's own
 Kept.readsGiven()I method M5
-  Kept.readsGiven()I at 1 getfield M5: it reads what the section's lock does not guard
-    Kept.takes([I)V at 2 putfield writes the field, not under the lock that guards it
+  Kept.readsGiven()I at 1 getfield M5: it reads what the section's lock is not known to guard
+    Kept.takes([I)V at 2 putfield writes the field, not known to be under the lock that guards it
 Kept.readsHeld()I method M5
-  Kept.readsHeld()I at 7 iaload M5: it reads what the section's lock does not guard
+  Kept.readsHeld()I at 7 iaload M5: it reads what the section's lock is not known to guard
     it is an element of an array that is not known to be the section's own
 Kept.readsLoose()I method M5
-  Kept.readsLoose()I at 5 iaload M5: it reads what the section's lock does not guard
+  Kept.readsLoose()I at 5 iaload M5: it reads what the section's lock is not known to guard
     it is an element of an array that is not known to be the section's own
 Kept.readsOne(Z)I method M5
-  Kept.readsOne(Z)I at 16 iaload M5: it reads what the section's lock does not guard
+  Kept.readsOne(Z)I at 16 iaload M5: it reads what the section's lock is not known to guard
     it is an element of an array that is not known to be the section's own
 """
 # The last sections of Marks where `onKey` returns before its block.
@@ -190,7 +190,7 @@ UNREACHED = """\
 Marks.onKey()I block 6 M8
   no path reaches it
 Marks.printsOnKey()I block 6 M8
-  its monitor is not this
+  its monitor is not known to be this
 """
 # Thread 1 enters its section without the lock, reads the first of two fields, and finds at the end that
 # thread 2 set both: the lines from 23 on, and the report.

@@ -49,9 +49,9 @@ abbrev pub rule_words : ℕ → List ℕ
 rule_words rule =
     if rule == 1 then codes "it writes a field, a static field or an element" else
     if rule == 2 then codes "it makes an object or an array" else
-    if rule == 3 then codes "it enters a monitor that is not the section's" else
+    if rule == 3 then codes "it enters a monitor that is not known to be the section's" else
     if rule == 4 then codes "it prints, waits or notifies" else
-    codes "it reads what the section's lock does not guard"
+    codes "it reads what the section's lock is not known to guard"
 
 abbrev pub call_line : Program → Site → List ℕ
 call_line p x = line (codes "  " ++ site_text p x ++ codes " calls")
@@ -70,12 +70,12 @@ cause_words p causes.Element =
     codes "it is an element of an array that is not known to be the section's own"
 cause_words p causes.Static = codes "it is a static field, and the section is not on its class"
 cause_words p causes.Shared = codes "the field is not private"
-cause_words p causes.Other = codes "it is the field of another object"
+cause_words p causes.Other = codes "it is the field of an object that is not known to be the section's"
 cause_words p (causes.Constructor u) =
-    method_words p.names (slice_get p.methods u) ++ codes " lets its object out"
+    method_words p.names (slice_get p.methods u) ++ codes " is not known to keep its object to itself"
 cause_words p (causes.Write method at) =
     insn_text p method at
-    ++ codes " writes the field, not under the lock that guards it"
+    ++ codes " writes the field, not known to be under the lock that guards it"
 
 abbrev pub cause_line : Program → Option Cause → List ℕ
 cause_line p None = []
@@ -88,7 +88,7 @@ again_line p (Some x) =
     line (codes "  " ++ method_words p.names (slice_get p.methods x.method) ++ codes " again")
 
 abbrev pub reason_lines : Program → Reason → List ℕ
-reason_lines p Elsewhere = line (codes "  its monitor is not this")
+reason_lines p Elsewhere = line (codes "  its monitor is not known to be this")
 reason_lines p Unreached = line (codes "  no path reaches it")
 reason_lines p (Breaks way site rule cause) =
     way_lines p way ++ fault_line p site rule ++ cause_line p cause

@@ -24,9 +24,9 @@ fn rule_words(rule: u8) -> &'static str
     match rule {
         1 => "it writes a field, a static field or an element",
         2 => "it makes an object or an array",
-        3 => "it enters a monitor that is not the section's",
+        3 => "it enters a monitor that is not known to be the section's",
         4 => "it prints, waits or notifies",
-        _ => "it reads what the section's lock does not guard",
+        _ => "it reads what the section's lock is not known to guard",
     }
 }
 
@@ -120,14 +120,18 @@ fn write_cause_words(
             text.extend_from_slice(b"it is a static field, and the section is not on its class")
         }
         Cause::Shared => text.extend_from_slice(b"the field is not private"),
-        Cause::Other => text.extend_from_slice(b"it is the field of another object"),
+        Cause::Other => text.extend_from_slice(
+            b"it is the field of an object that is not known to be the section's",
+        ),
         Cause::Constructor(init) => {
             write_method(text, p, init)?;
-            text.extend_from_slice(b" lets its object out")
+            text.extend_from_slice(b" is not known to keep its object to itself")
         }
         Cause::Write { method, at } => {
             write_place(text, alloc, p, method, at)?;
-            text.extend_from_slice(b" writes the field, not under the lock that guards it")
+            text.extend_from_slice(
+                b" writes the field, not known to be under the lock that guards it",
+            )
         }
     }
 }
@@ -173,7 +177,7 @@ fn write_reason(
     ensures { OnOk result (text.new.items ≡ text.old.items ++ reason_lines p.now reason.now) }
 {
     match reason {
-        Reason::Elsewhere => text.extend_from_slice(b"  its monitor is not this\n"),
+        Reason::Elsewhere => text.extend_from_slice(b"  its monitor is not known to be this\n"),
         Reason::Unreached => text.extend_from_slice(b"  no path reaches it\n"),
         Reason::Breaks {
             way,

@@ -2,5 +2,7 @@ pub mod Facts
 pub mod Sentences
 pub mod Spots
 pub mod SourceLines
+pub mod OtherCodes
 pub mod Naming
+pub mod Roots
 pub mod Explained

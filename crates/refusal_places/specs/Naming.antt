@@ -1,9 +1,11 @@
 -- The names of what a place is of, in the class that the file spells.
-use Rattle.std.specs.Prelude.{ℕ, ◌==◌, nat_le, Bool, ◌&&◌, ◌||◌, List, [], ◌∷◌, ◌++◌, drop, codes}
-use Rattle.std.specs.Prelude.{slice_get, Option, Some, None, if◌then◌else◌}
-use Rattle.std.specs.List.{flat_map}
+use Rattle.std.specs.Prelude.{ℕ, ◌==◌, nat_le, Bool, ◌&&◌, ◌||◌, not, List, [], ◌∷◌, ◌++◌, drop}
+use Rattle.std.specs.Prelude.{codes, slice_get, Option, Some, None, is_none, if◌then◌else◌}
+use Rattle.std.specs.List.{find}
+use Rattle.std.specs.Option.{option_or}
 use Rattle.std.specs.Fmt.{decimal, signed_decimal}
-use Rattle.jvm_types.specs.ClassNames.{class_name, class_text_at, text_at}
+use Rattle.jvm_types.specs.ClassNames.{class_name, class_number, class_text_at, text_at}
+use Rattle.jvm_types.specs.Descriptors.{method_signature}
 use Rattle.jvm_types.specs.Linked.{code_of}
 use Rattle.jvm_types.specs.declared.class_file.ClassFile.{ClassFile}
 use Rattle.jvm_types.specs.declared.class_file.Code.{Code}
@@ -12,6 +14,7 @@ use Rattle.jvm_types.specs.declared.class_file.Constant.TheVariants as constants
 use Rattle.jvm_types.specs.declared.class_file.Handler.{Handler}
 use Rattle.jvm_types.specs.declared.class_file.Member.{Member}
 use Rattle.mnemonics.specs.Mnemonics.{mnemonic}
+use Rattle.refusal_places.specs.OtherCodes.{other_name}
 use Rattle.refusal_places.specs.SourceLines.{first_index, latest_among, source_name}
 use Rattle.refusal_places.specs.declared.facts.Fact.{Fact}
 use Rattle.refusal_places.specs.declared.facts.Fact.TheVariants.{Said, Counted}
@@ -73,7 +76,7 @@ abbrev pub index_in : (opcode : ℕ) → List ℕ → Option ℕ
 index_in opcode rest =
     if opcode == 0x12 then first_byte rest else if has_index opcode then first_index rest else None
 
--- the mnemonic of an instruction, or its opcode where this machine does not have it
+-- the mnemonic of an instruction, or its opcode where the standard has none for it
 abbrev pub words_or_opcode : ℕ → Option (List ℕ) → List ℕ
 words_or_opcode opcode (Some name) = name
 words_or_opcode opcode None = codes "opcode " ++ decimal opcode
@@ -86,7 +89,8 @@ pool_entry_at pool (Some i) = slice_get pool i
 unfoldable pub instruction_facts : List Constant → List ℕ → List Fact
 instruction_facts pool [] = []
 instruction_facts pool (opcode ∷ rest) =
-    Said keys.Instruction (words_or_opcode opcode (mnemonic opcode))
+    Said keys.Instruction
+    (words_or_opcode opcode (option_or (mnemonic opcode) (other_name opcode)))
     ∷ constant_facts pool (pool_entry_at pool (index_in opcode rest))
 
 -- ---- methods and their code
@@ -106,12 +110,16 @@ abbrev pub catch_facts : List Constant → Handler → List Fact
 catch_facts pool row =
     if row.catch_type == 0 then [] else Said keys.Catch (class_text_at pool row.catch_type) ∷ []
 
--- of the handler rows that begin at a pc
-abbrev pub begun_fact : List Constant → ℕ → Handler → List Fact
-begun_fact pool pc row = if row.start == pc then catch_facts pool row else []
+-- a handler row begins at a pc, and its class is none of a program whose classes have these names
+abbrev pub catches_unknown : List (List ℕ) → List Constant → ℕ → Handler → Bool
+catches_unknown names pool pc row =
+    (row.start == pc) && not (row.catch_type == 0)
+    && is_none (class_number names (class_text_at pool row.catch_type))
 
-abbrev pub begun_facts : List Constant → ℕ → List Handler → List Fact
-begun_facts pool pc rows = flat_map (begun_fact pool pc) rows
+-- the class of the first such row
+abbrev pub unknown_facts : List Constant → Option Handler → List Fact
+unknown_facts pool None = []
+unknown_facts pool (Some row) = Said keys.Catch (class_text_at pool row.catch_type) ∷ []
 
 -- a handler row: its number, the pcs from which and to which it covers, and that of its handler
 abbrev pub row_facts : List Constant → ℕ → Option Handler → List Fact
@@ -145,27 +153,39 @@ abbrev pub at_instruction : List Constant → ℕ → Option Member → List Fac
 at_instruction pool pc None = []
 at_instruction pool pc (Some m) = method_fact pool m ∷ pc_facts pool pc (code_of m.attrs)
 
-abbrev pub at_use : List Constant → ℕ → Option Member → List Fact
-at_use pool pc None = []
-at_use pool pc (Some m) =
-    method_fact pool m ∷ pc_facts pool pc (code_of m.attrs)
-    ++ begun_facts pool pc (code_of m.attrs).rows
+-- the descriptor of a method has a type that is none of such a program
+abbrev pub has_wrong_descriptor : List (List ℕ) → List Constant → Member → Bool
+has_wrong_descriptor names pool m = is_none (method_signature names (text_at pool m.descriptor))
 
-abbrev pub spot_facts : ClassFile → Spot → List Fact
-spot_facts c (Offset at) = Counted keys.Offset at ∷ []
-spot_facts c Whole = []
-spot_facts c (Field number) = at_field c.constants (slice_get c.fields number)
-spot_facts c (Method method) = at_method c.constants (slice_get c.methods method)
-spot_facts c (Row method number) = at_row c.constants number (slice_get c.methods method)
-spot_facts c (Instruction method pc) = at_instruction c.constants pc (slice_get c.methods method)
-spot_facts c (Use method pc) = at_use c.constants pc (slice_get c.methods method)
+-- What is not there stands in the descriptor, whose place is 0 and which is looked at first, or an
+-- instruction uses it, or a handler row that begins at the place.
+abbrev pub use_facts : List (List ℕ) → List Constant → ℕ → Member → List Fact
+use_facts names pool pc m =
+    if (pc == 0) && has_wrong_descriptor names pool m then []
+    else pc_facts pool pc (code_of m.attrs)
+    ++ unknown_facts pool (find (catches_unknown names pool pc) (code_of m.attrs).rows)
+
+abbrev pub at_use : List (List ℕ) → List Constant → ℕ → Option Member → List Fact
+at_use names pool pc None = []
+at_use names pool pc (Some m) = method_fact pool m ∷ use_facts names pool pc m
+
+-- in a program whose classes have these names
+abbrev pub spot_facts : List (List ℕ) → ClassFile → Spot → List Fact
+spot_facts names c (Offset at) = Counted keys.Offset at ∷ []
+spot_facts names c Whole = []
+spot_facts names c (Field number) = at_field c.constants (slice_get c.fields number)
+spot_facts names c (Method method) = at_method c.constants (slice_get c.methods method)
+spot_facts names c (Row method number) = at_row c.constants number (slice_get c.methods method)
+spot_facts names c (Instruction method pc) =
+    at_instruction c.constants pc (slice_get c.methods method)
+spot_facts names c (Use method pc) = at_use names c.constants pc (slice_get c.methods method)
 
 abbrev pub source_facts : Option (List ℕ) → List Fact
 source_facts None = []
 source_facts (Some name) = Said keys.Source name ∷ []
 
 -- the class, the name of its source where it has that, and what the place is of
-abbrev pub class_facts : ClassFile → Spot → List Fact
-class_facts c s =
+abbrev pub class_facts : List (List ℕ) → ClassFile → Spot → List Fact
+class_facts names c s =
     Said keys.Class (class_name c) ∷ source_facts (source_name c.constants c.attrs)
-    ++ spot_facts c s
+    ++ spot_facts names c s

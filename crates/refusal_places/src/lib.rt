@@ -4,6 +4,8 @@
 pub mod explaining;
 pub mod facts;
 pub mod naming;
+pub mod other_codes;
+pub mod roots;
 pub mod sentences;
 pub mod source_lines;
 pub mod spots;

@@ -1,13 +1,19 @@
 //! The names of what a place is of, in its class.
 
-ghost use Rattle.std.specs.Prelude.{◌≡◌, ◌++◌, ◌∷◌, [], Some, drop, OnOk, option_map, slice_get};
+ghost use Rattle.std.specs.Prelude.{◌≡◌, ◌++◌, ◌∷◌, [], Some, drop, OnOk, IfOk, option_map};
+ghost use Rattle.std.specs.Prelude.{slice_get};
 ghost use Rattle.std.specs.Fmt.{signed_decimal};
-ghost use Rattle.std.specs.List.{flat_map};
 ghost use Rattle.std.specs.Option.{option_copied};
 ghost use Rattle.jvm_types.specs.ClassNames.{text_at as the_text_at};
 ghost use Rattle.jvm_types.specs.Linked.{code_of as the_code_of};
 ghost use Rattle.refusal_places.specs.Naming.{at_field, at_instruction, at_method, at_row, at_use};
-ghost use Rattle.refusal_places.specs.Naming.{begun_fact, begun_facts, catch_facts, class_facts};
+ghost use Rattle.refusal_places.specs.Naming.{catch_facts, catches_unknown as the_unknown};
+ghost use Rattle.refusal_places.specs.Naming.{class_facts, has_wrong_descriptor as is_wrong_text};
+ghost use Rattle.refusal_places.specs.Naming.{unknown_facts, use_facts};
+ghost use Rattle.refusal_places.specs.OtherCodes.{other_name as the_other_name};
+ghost use Rattle.mnemonics.specs.Mnemonics.{mnemonic as the_mnemonic};
+ghost use Rattle.std.specs.Option.{option_or};
+ghost use Rattle.std.specs.List.{find};
 ghost use Rattle.refusal_places.specs.Naming.{constant_facts, constant_words as the_constant_words};
 ghost use Rattle.refusal_places.specs.Naming.{pool_entry_at as the_entry_at, field_fact};
 ghost use Rattle.refusal_places.specs.Naming.{first_byte as the_first_byte};
@@ -19,9 +25,11 @@ ghost use Rattle.refusal_places.specs.declared.facts.Fact.TheVariants.{Said};
 ghost use Rattle.refusal_places.specs.declared.facts.Fact.TheVariants.{Counted as CountedFact};
 
 use crate::facts::{Fact, Key};
+use crate::other_codes::other_name;
 use crate::source_lines::{LineStart, first_index, line_start, source_name};
 use crate::spots::Spot;
 use constant_pools::pool_texts::{class_name, class_text_at, text_at};
+use descriptors::{ClassNumbers, method_signature};
 use jvm_types::code_attribute::code_of;
 use jvm_types::{Attr, Bytes, ClassFile, Constant, Handler, Member, MemberAttr, Rows};
 use mnemonics::mnemonic;
@@ -151,7 +159,7 @@ fn has_index(opcode: u8) -> bool
     matches!(opcode, 0x13..=0x14 | 0xb2..=0xbb | 0xbd | 0xc0..=0xc1 | 0xc5)
 }
 
-fn first_byte(rest: &[u8]) -> Option<u16>
+pub fn first_byte(rest: &[u8]) -> Option<u16>
     ensures { result ≡ the_first_byte rest.now }
 {
     match rest {
@@ -179,6 +187,16 @@ fn entry_at(pool: &Rows<Constant>, index: Option<u16>) -> Option<&Constant>
     match index {
         Some(i) => pool.get(usize::from(i)),
         None => None,
+    }
+}
+
+// The mnemonic of an opcode, where the standard has one.
+fn name_of(opcode: u8) -> Option<&'static str>
+    ensures { option_copied result ≡ option_or (the_mnemonic opcode) (the_other_name opcode) }
+{
+    match mnemonic(opcode) {
+        Some(name) => Some(name),
+        None => other_name(opcode),
     }
 }
 
@@ -215,7 +233,7 @@ fn tell_instruction(
     let [opcode, rest @ ..] = code else {
         return Ok(());
     };
-    tell_opcode(facts, alloc, *opcode, mnemonic(*opcode))?;
+    tell_opcode(facts, alloc, *opcode, name_of(*opcode))?;
     tell_constant(facts, alloc, pool, entry_at(pool, index_in(*opcode, rest)))
 }
 
@@ -228,14 +246,14 @@ fn tell_line(facts: &mut Rows<Fact>, start: Option<LineStart>) -> Result<(), All
     }
 }
 
-fn behind(pc: u32, bytes: &[u8]) -> &[u8]
+pub fn behind(pc: u32, bytes: &[u8]) -> &[u8]
     ensures { result.now ≡ drop pc bytes.now }
 {
     let pc = pc as usize;
     if pc < bytes.len() { &bytes[pc..] } else { &[] }
 }
 
-fn code_bytes(attrs: &[MemberAttr]) -> &[u8]
+pub fn code_bytes(attrs: &[MemberAttr]) -> &[u8]
     ensures { result.now ≡ (the_code_of attrs.now).bytes }
 {
     match code_of(attrs) {
@@ -303,36 +321,57 @@ fn tell_catch(
     )
 }
 
-fn tell_begun_row(
-    facts: &mut Rows<Fact>,
-    alloc: Global,
+// Whether a row begins at a pc, and its class is not there.
+fn catches_unknown(
+    classes: &ClassNumbers<'_>,
     pool: &Rows<Constant>,
     pc: u32,
     row: &Handler,
-) -> Result<(), AllocError>
-    ensures { OnOk result (facts.new ≡ facts.old ++ begun_fact pool.now pc row.now) }
+) -> bool
+    ensures { result ≡ the_unknown classes.now pool.now pc row.now }
 {
-    if u32::from(row.start) == pc {
-        tell_catch(facts, alloc, pool, row)
-    } else {
-        Ok(())
-    }
+    u32::from(row.start) == pc
+        && row.catch_type != 0
+        && classes
+            .number(class_text_at(pool, row.catch_type))
+            .is_none()
 }
 
-// The handler rows that begin at a pc.
-fn tell_begun(
+// The first such row.
+fn unknown_row<'a>(
+    classes: &ClassNumbers<'_>,
+    pool: &Rows<Constant>,
+    pc: u32,
+    rows: &'a [Handler],
+) -> Option<&'a Handler>
+    ensures { option_copied result ≡ find (the_unknown classes.now pool.now pc) rows.now }
+{
+    for row in rows {
+        if catches_unknown(classes, pool, pc, row) {
+            return Some(row);
+        }
+    }
+    None
+}
+
+fn tell_unknown(
     facts: &mut Rows<Fact>,
     alloc: Global,
     pool: &Rows<Constant>,
-    pc: u32,
-    rows: &[Handler],
+    row: Option<&Handler>,
 ) -> Result<(), AllocError>
-    ensures { OnOk result (facts.new ≡ facts.old ++ begun_facts pool.now pc rows.now) }
+    ensures { OnOk result
+        (facts.new ≡ facts.old ++ unknown_facts pool.now (option_copied row.entry)) }
 {
-    for row in rows {
-        tell_begun_row(facts, alloc, pool, pc, row)?;
+    match row {
+        Some(row) => say(
+            facts,
+            alloc,
+            Key::Catch,
+            class_text_at(pool, row.catch_type),
+        ),
+        None => Ok(()),
     }
-    Ok(())
 }
 
 fn tell_row(
@@ -413,27 +452,68 @@ fn tell_at_instruction(
     tell_pc(facts, alloc, pool, pc, method.attrs.as_slice())
 }
 
-fn tell_at_use(
+// Whether a type in the descriptor of a method is not there.
+fn has_wrong_descriptor(
+    alloc: Global,
+    classes: &ClassNumbers<'_>,
+    pool: &Rows<Constant>,
+    method: &Member,
+) -> Result<bool, AllocError>
+    ensures { IfOk result (λ wrong. wrong ≡ is_wrong_text classes.now pool.now method.now) }
+{
+    let signature = method_signature(alloc, classes, text_at(pool, method.descriptor))?;
+    Ok(signature.is_none())
+}
+
+fn tell_use(
     facts: &mut Rows<Fact>,
     alloc: Global,
+    classes: &ClassNumbers<'_>,
     pool: &Rows<Constant>,
     pc: u32,
     method: &Member,
 ) -> Result<(), AllocError>
-    ensures { OnOk result (facts.new ≡ facts.old ++ at_use pool.now pc (Some method.now)) }
+    ensures { OnOk result
+        (facts.new ≡ facts.old ++ use_facts classes.now pool.now pc method.now) }
 {
-    tell_at_instruction(facts, alloc, pool, pc, method)?;
-    tell_begun(facts, alloc, pool, pc, code_rows(method.attrs.as_slice()))
+    let is_wrong = has_wrong_descriptor(alloc, classes, pool, method)?;
+    if pc == 0 && is_wrong {
+        return Ok(());
+    }
+    let attrs = method.attrs.as_slice();
+    tell_pc(facts, alloc, pool, pc, attrs)?;
+    tell_unknown(
+        facts,
+        alloc,
+        pool,
+        unknown_row(classes, pool, pc, code_rows(attrs)),
+    )
+}
+
+fn tell_at_use(
+    facts: &mut Rows<Fact>,
+    alloc: Global,
+    classes: &ClassNumbers<'_>,
+    pool: &Rows<Constant>,
+    pc: u32,
+    method: &Member,
+) -> Result<(), AllocError>
+    ensures { OnOk result
+        (facts.new ≡ facts.old ++ at_use classes.now pool.now pc (Some method.now)) }
+{
+    tell_method(facts, alloc, pool, method)?;
+    tell_use(facts, alloc, classes, pool, pc, method)
 }
 
 // What a place is of, where the class has it.
 fn tell_spot(
     facts: &mut Rows<Fact>,
     alloc: Global,
+    classes: &ClassNumbers<'_>,
     class: &ClassFile,
     spot: Spot,
 ) -> Result<(), AllocError>
-    ensures { OnOk result (facts.new ≡ facts.old ++ spot_facts class.now spot) }
+    ensures { OnOk result (facts.new ≡ facts.old ++ spot_facts classes.now class.now spot) }
 {
     let pool = &class.constants;
     match spot {
@@ -443,7 +523,7 @@ fn tell_spot(
             Some(field) => tell_field(facts, alloc, pool, field),
             None => Ok(()),
         },
-        Spot::Method(method) => match class.methods.get(usize::from(method)) {
+        Spot::Method(method) => match class.methods.get(method) {
             Some(method) => tell_method(facts, alloc, pool, method),
             None => Ok(()),
         },
@@ -456,7 +536,7 @@ fn tell_spot(
             None => Ok(()),
         },
         Spot::Use(method, pc) => match class.methods.get(usize::from(method)) {
-            Some(method) => tell_at_use(facts, alloc, pool, pc, method),
+            Some(method) => tell_at_use(facts, alloc, classes, pool, pc, method),
             None => Ok(()),
         },
     }
@@ -472,17 +552,19 @@ fn tell_source(facts: &mut Rows<Fact>, alloc: Global, name: Option<&[u8]>) -> Re
     }
 }
 
-/// Adds the class, the name of its source where it has that, and what the place is of.
+/// Adds the class, the name of its source where it has that, and what the place is of, in a program
+/// of these classes.
 pub fn tell_class(
     facts: &mut Rows<Fact>,
     alloc: Global,
+    classes: &ClassNumbers<'_>,
     class: &ClassFile,
     spot: Spot,
 ) -> Result<(), AllocError>
-    ensures { OnOk result (facts.new ≡ facts.old ++ class_facts class.now spot) }
+    ensures { OnOk result (facts.new ≡ facts.old ++ class_facts classes.now class.now spot) }
 {
     say(facts, alloc, Key::Class, class_name(class))?;
     let source = source_name(&class.constants, class.attrs.as_slice());
     tell_source(facts, alloc, source)?;
-    tell_spot(facts, alloc, class, spot)
+    tell_spot(facts, alloc, classes, class, spot)
 }

@@ -19,7 +19,7 @@ pub enum Spot {
     /// A field.
     Field(u32),
     /// A method.
-    Method(u16),
+    Method(usize),
     /// A handler row of a method.
     Row(u16, u32),
     /// An instruction of a method.
@@ -33,7 +33,7 @@ fn code_spot(rule: KRule, place: Place) -> Spot
 {
     match rule {
         KRule::K4 => Spot::Row(place.method, place.at),
-        KRule::K5 => Spot::Method(place.method),
+        KRule::K5 => Spot::Method(usize::from(place.method)),
         _ => Spot::Instruction(place.method, place.at),
     }
 }
@@ -53,7 +53,7 @@ fn method_spot(rule: LRule, method: u16, at: u32) -> Spot
     ensures { result ≡ the_method_spot rule method at }
 {
     match rule {
-        LRule::L5 | LRule::L9 => Spot::Method(method),
+        LRule::L5 | LRule::L9 => Spot::Method(usize::from(method)),
         LRule::L1 => Spot::Use(method, at),
         _ => Spot::Instruction(method, at),
     }

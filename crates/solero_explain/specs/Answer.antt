@@ -5,7 +5,6 @@ use Rattle.std.specs.List.{AllByRecursion, AllZip}
 use Rattle.field_names.specs.FieldNames.{all_field_names}
 use Rattle.jvm_types.specs.ClassGrammar.{Spells}
 use Rattle.jvm_types.specs.declared.class_file.ClassFile.{ClassFile}
-use Rattle.std.specs.Option.{unwrap_or}
 use Rattle.checked_program.specs.MarkedProgram.{MarkedProgram}
 use Rattle.class_runner.specs.Loading.{IsAccepted, IsLoaded, IsRefusedBy}
 use Rattle.host_io.specs.Faults.{CountsFault}
@@ -70,14 +69,10 @@ IsRefusalByRule (Some file) asked contents rule place =
 IsRefusalByRule None asked contents rule place =
     IsRefusedBy contents asked.heap asked.threads rule place
 
--- the name of the file of that number
-abbrev pub file_name_at : List (List ℕ) → ℕ → List ℕ
-file_name_at names file = unwrap_or (slice_get names file) []
-
--- the content of the file of that number, where no file is too long
-abbrev pub file_content_at : Option ℕ → List (List ℕ) → ℕ → Option (List ℕ)
-file_content_at (Some long) contents file = None
-file_content_at None contents file = slice_get contents file
+-- the contents of the files, where no file is too long
+abbrev pub contents_read : Option ℕ → List (List ℕ) → List (List ℕ)
+contents_read (Some long) contents = []
+contents_read None contents = contents
 
 -- the text explains the rule and the place that refuse the files
 pub record ExplainsRefusal (asked : Question) (contents : List (List ℕ)) (text : List ℕ)
@@ -85,8 +80,8 @@ pub record ExplainsRefusal (asked : Question) (contents : List (List ℕ)) (text
   pub rule : Rule
   pub place : Place
   pub refused : IsRefusalByRule (first_long 0 contents) asked contents rule place
-  pub explained : Explains asked.form rule place (file_name_at asked.files place.file)
-      (file_content_at (first_long 0 contents) contents place.file) text
+  pub explained : Explains asked.form rule place asked.files
+      (contents_read (first_long 0 contents) contents) text
 
 -- ---- what is due to the words and the shelf
 

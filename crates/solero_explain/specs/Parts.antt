@@ -1,5 +1,5 @@
 -- What the parts of the work find due.
-use Rattle.std.specs.Prelude.{◌≡◌, ℕ, Bool, List, Option, Some, None, Result, Ok, Err}
+use Rattle.std.specs.Prelude.{◌≡◌, ℕ, Bool, List, [], Option, Some, None, Result, Ok, Err}
 use Rattle.checked_program.specs.MarkedProgram.{MarkedProgram}
 use Rattle.host_io.specs.declared.shelf.NamedFile.{NamedFile}
 use Rattle.jvm_types.specs.declared.outcome.Outcome.{Outcome}
@@ -24,20 +24,20 @@ use Rattle.program_answers.specs.Unread.{IsUnreadLine}
 use Rattle.program_answers.specs.declared.answer.Due.{Due}
 use Rattle.program_answers.specs.declared.answer.Due.TheVariants.{Output, Refusal, OutOfMemory}
 use Rattle.solero_explain.specs.Answer.{ExplainsRefusal, IsExplainDue, IsRunOf, RunsFiles}
-use Rattle.solero_explain.specs.Answer.{TellsProgram, file_name_at}
+use Rattle.solero_explain.specs.Answer.{TellsProgram}
 use Rattle.solero_explain.specs.Command.{Question}
 
--- a refusal that is explained, with the content of the file that it names, or want of memory
-abbrev pub IsRefusalExplained : Question → Rule → Place → (content : Option (List ℕ)) → Due → Type 0
-IsRefusalExplained asked rule place content (Refusal text) =
-    Explains asked.form rule place (file_name_at asked.files place.file) content text
-IsRefusalExplained asked rule place content OutOfMemory = Unit {0}
-IsRefusalExplained asked rule place content due = ⊥
+-- a refusal that is explained, with the contents of the files that were read, or want of memory
+abbrev pub IsRefusalExplained : Question → Rule → Place → (contents : List (List ℕ)) → Due → Type 0
+IsRefusalExplained asked rule place contents (Refusal text) =
+    Explains asked.form rule place asked.files contents text
+IsRefusalExplained asked rule place contents OutOfMemory = Unit {0}
+IsRefusalExplained asked rule place contents due = ⊥
 
 -- what is due where the file of this number is not read
 abbrev pub IsUnreadExplained : Question → ℕ → ShelfError → Due → Type 0
 IsUnreadExplained asked file TooLong due =
-    IsRefusalExplained asked (rules.C C10) (in_file file MOST_FILE_BYTES) None due
+    IsRefusalExplained asked (rules.C C10) (in_file file MOST_FILE_BYTES) [] due
 IsUnreadExplained asked file Failed due = IsUnreadLine file due
 IsUnreadExplained asked file Memory due = due ≡ OutOfMemory
 

@@ -1,6 +1,5 @@
 ghost use Rattle.std.specs.Prelude.{◌≡◌, ◌-◌, ◌^◌, ◌<◌, ◌≤◌, ◌≢◌, ◌⊎◌, List, Some, None, IfOk};
 ghost use Rattle.std.specs.Prelude.{length, true};
-ghost use Rattle.std.specs.Option.{option_copied};
 ghost use Rattle.command_words.specs.RunValues.{are_few};
 ghost use Rattle.command_words.specs.Words.{texts};
 ghost use Rattle.host_io.specs.Faults.{CountsFault};
@@ -9,7 +8,6 @@ ghost use Rattle.host_io.specs.declared.shelf.NamedFile.{NamedFile as File};
 ghost use Rattle.json_lines.specs.declared.form.Form.TheVariants.{Json};
 ghost use Rattle.solero_explain.specs.Answer.{AreUnrefused, AreMarksTold, IsExplainDue, IsTold};
 ghost use Rattle.solero_explain.specs.Answer.{accepted_text as the_accepted_text};
-ghost use Rattle.solero_explain.specs.Answer.{file_name_at as the_name_at};
 ghost use Rattle.solero_explain.specs.Command.{Question, explain_command};
 ghost use Rattle.class_runner.specs.Loading.{IsLoaded};
 ghost use Rattle.solero_explain.specs.Parts.{IsDueOf, IsRefusalExplained, IsFoundInFiles};
@@ -26,7 +24,7 @@ use host_io::files::{Unread, read_files};
 use host_io::shelf::{Shelf, ShelfError};
 use host_io::sink::Sink;
 use json_lines::{Form, write_text_member};
-use jvm_types::limits::MOST_FILE_BYTES;
+use jvm_types::limits::{MOST_FILE_BYTES, MOST_FILES};
 use jvm_types::{Bytes, CRule, Place, Rows, Rule, in_file};
 use mark_reasons::marks_explained;
 use program_answers::answer::{Due, cannot_read};
@@ -177,36 +175,20 @@ fn not_read(alloc: Global, request: &Request, unread: Unread) -> Due
             request,
             Rule::C(CRule::C10),
             in_file(unread.file, MOST_FILE_BYTES as u32),
-            None,
+            &[],
         ),
         ShelfError::Failed => cannot_read(alloc, unread.file),
         ShelfError::Memory => Due::OutOfMemory,
     }
 }
 
-// The name of the file of that number.
-fn name_at(names: &[String], file: u16) -> &[u8]
-    ensures { result.now ≡ the_name_at (texts names.now) file }
+// What refuses the files, explained with the contents that were read.
+fn explained(alloc: Global, request: &Request, rule: Rule, place: Place, contents: &[Bytes]) -> Due
+    requires { length contents.now ≤ MOST_FILES }
+    ensures { IsRefusalExplained (question_by request.now) rule place contents.now result }
 {
-    match names.get(usize::from(file)) {
-        Some(name) => name.as_bytes(),
-        None => &[],
-    }
-}
-
-// What refuses the files, explained with the content of the file that the place names.
-fn explained(
-    alloc: Global,
-    request: &Request,
-    rule: Rule,
-    place: Place,
-    content: Option<&Bytes>,
-) -> Due
-    ensures { IsRefusalExplained (question_by request.now) rule place (option_copied content.entry)
-        result }
-{
-    let name = name_at(request.files.as_slice(), place.file);
-    match explained_refusal(alloc, request.form, rule, place, name, content) {
+    let files = request.files.as_slice();
+    match explained_refusal(alloc, request.form, rule, place, files, contents) {
         Ok(text) => Due::Refusal(text),
         Err(AllocError) => Due::OutOfMemory,
     }
@@ -221,8 +203,7 @@ fn found_in(alloc: Global, request: &Request, contents: &Rows<Bytes>) -> Found
     match load_program(alloc, contents, request.heap, request.threads) {
         Ok(checked) => found_of(alloc, request, contents, checked),
         Err(FileError::Refused(rule, place)) => {
-            let content = contents.get(usize::from(place.file));
-            Found::Due(explained(alloc, request, rule, place, content))
+            Found::Due(explained(alloc, request, rule, place, contents.as_slice()))
         }
         Err(FileError::Memory) => Found::Due(Due::OutOfMemory),
     }
