@@ -1,5 +1,5 @@
-//! What a program answers: a text that is due and a status with it, how it reaches the sink, and how
-//! runs finish.
+//! What a program answers: a text that is due and a status with it, how it reaches the sink, and
+//! how runs finish.
 #![tactic(auto)]
 
 pub mod answer;
