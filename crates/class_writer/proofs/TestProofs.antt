@@ -3,12 +3,12 @@
 use Rattle.std.proofs.Common.{◌≡◌, ℕ, suc, ◌+◌, ◌/◌, ◌<◌, ◌≤◌, ◌^◌, Bool, true, false, not, ◌&&◌, ◌==◌, List, [], ◌∷◌, ◌++◌, length, codes, refl, sym, subst, ◌∙◌, arith, get_or, nat_lt, nat_le, cond, Decides, count_by}
 use Rattle.std.{specs.List.{AllByRecursion, flat_map, list_all}, proofs.lemmas.Bool.{leb-true, ltb-true, lt-ltb, and_parts, and_from, Decides.{nat_tests, Decides-eqb}}}
 use Rattle.jvm_types.specs.ClassGrammar.{IsCounted, Names, IsIndex, is_wide, is_gap, GapsFit, IsUtf8Byte, FieldsFit, IndicesFit, IsPool, IsAttr, IsNamed, IsHandler, IsCodeAttr, IsFieldAttr, IsMethodAttr, IsMember, IsField, codes_of, HasBody, IsMethod, IsClass}
-use Rattle.jvm_types.specs.{Counts.{BodyFits, CodeFits, MemberAttrFits, MemberFits}, Numbers.{u2, u4, has_flag}, ReadingPool.names}
+use Rattle.jvm_types.specs.{Counts.{BodyFits, CodeFits, MemberAttrFits, MemberFits}, Numbers.{u2, u4, has_flag}, ReadingClass.has_body, ReadingPool.names}
 use Rattle.jvm_types.specs.{Spelling.{counted, constant, handler, attr, code_body, member_attr, member, class_file}, declared.class_file.{Attr.Attr, ClassFile.ClassFile, Code.Code, Constant.Constant}}
 use Rattle.jvm_types.specs.declared.class_file.{Constant.TheVariants.{Gap, Utf8, Integer, Float, Long, Double, Class, Text, Field, Method, InterfaceMethod, NameAndType}, Handler.Handler}
 use Rattle.jvm_types.{specs.declared.{class_file.{Member.Member, MemberAttr.MemberAttr}, index_kind.IndexKind.IndexKind}, proofs.EachAfter.sum_first}
 use Rattle.jvm_types.proofs.{IndexLaws.{Names-from_test, test_from_Names, IsTextAt-from_test, test_from_IsTextAt, no_IsTextAt, no_test}, StepLaws.IsBytes}
-use Rattle.class_writer.specs.Testing.{has_due_gaps, is_utf8_byte, is_constant, is_pool, is_attr, is_handler, is_text_at, is_pool_code, is_field_attr, is_method_attr, has_names, is_field, is_code_attr, has_body, is_method, has_version, has_classes, has_members, keeps_rules}
+use Rattle.class_writer.specs.Testing.{has_due_gaps, is_utf8_byte, is_constant, is_pool, is_attr, is_handler, is_text_at, is_pool_code, is_field_attr, is_method_attr, has_names, is_field, is_code_attr, is_method, has_version, has_classes, has_members, keeps_rules}
 use Rattle.class_writer.specs.Writing.{IsKnown, IsClassWritten}
 use Rattle.jvm_types.specs.declared.index_kind.IndexKind.TheVariants as kinds
 use Rattle.jvm_types.specs.declared.class_file.MemberAttr.TheVariants as member_attrs
@@ -266,7 +266,7 @@ test_from_field pool m is =
 abbrev one_if_code : MemberAttr → ℕ
 one_if_code a = cond (is_code_attr a) 1 0
 
-codes_counted : (attrs : List MemberAttr) → count_by is_code_attr attrs ≡ length (codes_of attrs)
+pub codes_counted : (attrs : List MemberAttr) → count_by is_code_attr attrs ≡ length (codes_of attrs)
 codes_counted [] = refl
 codes_counted (member_attrs.Code c ∷ attrs) =
     let e : count_by is_code_attr attrs ≡ length (codes_of attrs) = codes_counted attrs in
@@ -283,18 +283,18 @@ codes_counted (member_attrs.Other a ∷ attrs) =
 
 body_from_test : (m : Member) → has_body m ≡ true → HasBody m
 body_from_test m t =
-    let p = and_parts ((count_by is_code_attr m.attrs == 1) && not (has_flag 256 m.flags)) (not (has_flag 1024 m.flags)) t in
-    let q = and_parts (count_by is_code_attr m.attrs == 1) (not (has_flag 256 m.flags)) p.0 in
+    let p = and_parts ((length (codes_of m.attrs) == 1) && not (has_flag 256 m.flags)) (not (has_flag 1024 m.flags)) t in
+    let q = and_parts (length (codes_of m.attrs) == 1) (not (has_flag 256 m.flags)) p.0 in
     record {
-      one = sym (codes_counted m.attrs) ∙ (Decides-eqb (count_by is_code_attr m.attrs) 1).0 q.0;
+      one = (Decides-eqb (length (codes_of m.attrs)) 1).0 q.0;
       not_native = not_true (has_flag 256 m.flags) q.1;
       not_abstract = not_true (has_flag 1024 m.flags) p.1;
     }
 
 test_from_body : (m : Member) → HasBody m → has_body m ≡ true
 test_from_body m is =
-    and_from ((count_by is_code_attr m.attrs == 1) && not (has_flag 256 m.flags)) (not (has_flag 1024 m.flags))
-    (and_from (count_by is_code_attr m.attrs == 1) (not (has_flag 256 m.flags)) ((Decides-eqb (count_by is_code_attr m.attrs) 1).1 (codes_counted m.attrs ∙ is.one)) (true_not (has_flag 256 m.flags) is.not_native))
+    and_from ((length (codes_of m.attrs) == 1) && not (has_flag 256 m.flags)) (not (has_flag 1024 m.flags))
+    (and_from (length (codes_of m.attrs) == 1) (not (has_flag 256 m.flags)) ((Decides-eqb (length (codes_of m.attrs)) 1).1 is.one) (true_not (has_flag 256 m.flags) is.not_native))
     (true_not (has_flag 1024 m.flags) is.not_abstract)
 
 method_from_test : (pool : List Constant) (m : Member) → is_method pool m ≡ true → MemberFits m → IsBytes (member m) → IsMethod pool m

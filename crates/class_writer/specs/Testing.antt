@@ -1,9 +1,9 @@
 -- The rules of the class grammar as tests, of a class whose numbers and lengths fit their fields.
-use Rattle.std.specs.Prelude.{◌==◌, ◌&&◌, ℕ, Bool, true, false, not, List, [], ◌∷◌, slice_get}
-use Rattle.std.specs.Prelude.{codes, nat_lt, nat_le, count_by}
+use Rattle.std.specs.Prelude.{◌&&◌, ℕ, Bool, true, false, not, List, [], ◌∷◌, slice_get, codes}
+use Rattle.std.specs.Prelude.{nat_lt, nat_le}
 use Rattle.std.specs.List.{list_all}
-use Rattle.jvm_types.specs.Numbers.{has_flag}
 use Rattle.jvm_types.specs.ClassGrammar.{is_wide, is_gap}
+use Rattle.jvm_types.specs.ReadingClass.{has_body}
 use Rattle.jvm_types.specs.ReadingPool.{names, is_text}
 use Rattle.jvm_types.specs.declared.index_kind.IndexKind.TheVariants as kinds
 use Rattle.jvm_types.specs.declared.class_file.Constant.{Constant}
@@ -18,7 +18,6 @@ use Rattle.jvm_types.specs.declared.class_file.MemberAttr.TheVariants as member_
 use Rattle.jvm_types.specs.declared.class_file.Member.{Member}
 use Rattle.jvm_types.specs.declared.class_file.ClassFile.{ClassFile}
 use Rattle.jvm_types.specs.declared.class_file.TheConstants.{TEXT_BYTES_END}
-use Rattle.jvm_types.specs.declared.flags.TheConstants.{NATIVE, ABSTRACT}
 
 -- ---- the constant pool
 
@@ -91,12 +90,6 @@ abbrev pub is_code_attr : MemberAttr → Bool
 is_code_attr (member_attrs.Code c) = true
 is_code_attr (member_attrs.ConstantValue name value) = false
 is_code_attr (member_attrs.Other a) = false
-
--- one Code, and neither NATIVE nor ABSTRACT
-abbrev pub has_body : Member → Bool
-has_body m =
-    (count_by is_code_attr m.attrs == 1) && not (has_flag NATIVE m.flags)
-    && not (has_flag ABSTRACT m.flags)
 
 abbrev pub is_method : List Constant → Member → Bool
 is_method pool m = has_names pool m && list_all (is_method_attr pool) m.attrs && has_body m

@@ -1,13 +1,15 @@
 //! Tests of the rules of a class file (JVMS 4.1, 4.5 to 4.7), where its numbers and lengths fit
 //! their fields.
 
-ghost use Rattle.std.specs.Prelude.{◌≡◌};
+ghost use Rattle.std.specs.Prelude.{◌≡◌, length};
 ghost use Rattle.std.specs.List.{list_all};
+ghost use Rattle.jvm_types.specs.ClassGrammar.{codes_of};
+ghost use Rattle.jvm_types.specs.ReadingClass.{has_body};
 ghost use Rattle.jvm_types.specs.ReadingPool.{names};
 ghost use Rattle.jvm_types.specs.declared.index_kind.IndexKind.TheVariants.{Class};
 ghost use Rattle.class_writer.specs.Testing.{is_attr, is_handler, is_pool_code, is_field_attr};
 ghost use Rattle.class_writer.specs.Testing.{is_method_attr, has_names, is_field, is_code_attr};
-ghost use Rattle.class_writer.specs.Testing.{has_body, is_method, has_version, has_classes};
+ghost use Rattle.class_writer.specs.Testing.{is_method, has_version, has_classes};
 ghost use Rattle.class_writer.specs.Testing.{has_members, keeps_rules};
 
 use crate::pool_rules::is_pool;
@@ -110,17 +112,25 @@ fn is_code_attr(attr: &MemberAttr) -> bool
     matches!(attr, MemberAttr::Code(_))
 }
 
+// How many of them are a `Code`.
+#[tactic(auto, using(crate::proofs::TestProofs::codes_counted))]
+fn code_count(attrs: &Rows<MemberAttr>) -> usize
+    ensures { result ≡ length (codes_of attrs.now) }
+{
+    attrs
+        .as_slice()
+        .iter()
+        .filter(|attr| is_code_attr(attr))
+        .count()
+}
+
 /// Whether a method has one `Code`, and is neither `NATIVE` nor `ABSTRACT` (JVMS 4.7.3).
 fn has_body(method: &Member) -> bool
     ensures { result ≡ has_body method.now }
 {
-    let codes = method
-        .attrs
-        .as_slice()
-        .iter()
-        .filter(|attr| is_code_attr(attr))
-        .count();
-    codes == 1 && !has_flag(NATIVE, method.flags) && !has_flag(ABSTRACT, method.flags)
+    code_count(&method.attrs) == 1
+        && !has_flag(NATIVE, method.flags)
+        && !has_flag(ABSTRACT, method.flags)
 }
 
 fn is_method(pool: &Rows<Constant>, method: &Member) -> bool
