@@ -2,7 +2,7 @@
 use Rattle.std.proofs.Common.{◌≡◌, ℕ, ◌≤◌, Bool, false, List, [], ◌∷◌, ◌++◌, map, Option, Some, None, refl, sym, ap, subst, ◌∙◌, arith, append_assoc, nat_lt, if◌then◌else◌}
 use Rattle.std.proofs.lemmas.{Bool.Decides.nat_tests, List.append-nil}
 use Rattle.jvm_types.specs.declared.class_file.{Attr.Attr, ClassFile.ClassFile, Code.Code, Constant.Constant, Handler.Handler, Member.Member}
-use Rattle.asm_text.specs.{Drafting.{line_added, drafted, draft, no_member, no_code, place_or}, Places.{place_after, place_behind, behind_next, class_rank, code_rank}, declared.drafts.Draft.Draft}
+use Rattle.asm_text.specs.{Drafting.{line_added, drafted, draft, no_member, empty_code, place_or}, Places.{place_after, place_behind, behind_next, class_rank, code_rank}, declared.drafts.Draft.Draft}
 use Rattle.asm_text.specs.declared.{items.{Item.{Item, TheVariants.{Entry, Interface, Attribute, Row}}, MemberKind.MemberKind}, places.{ClassPart.ClassPart, CodePart.CodePart, Place.Place}}
 use Rattle.asm_text.specs.declared.places.ClassPart.TheVariants as parts
 use Rattle.asm_text.specs.declared.places.CodePart.TheVariants as code_parts
@@ -63,37 +63,37 @@ pub record LeadsUpTo (n : ℕ) (part : ClassPart) (d : Draft) (items : List Item
 pub entered : (t : Bool) (next : Place) → t ≡ false → (if t then None else Some next) ≡ Some next
 entered t next h = rw h refl
 
-pub constants_lead : (part : ClassPart) (c : ClassFile) (xs : List Constant) → UpTo 0 part → LeadsUpTo 0 part (draft c no_member no_code) (map Entry xs) (draft (record c { constants = c.constants ++ xs }) no_member no_code)
-constants_lead part c [] u = record { next = part; up = u; leads = leads_as _ _ _ _ _ _ (λ i. draft (record c { constants = sym (append-nil c.constants) i }) no_member no_code) (stays _ _) }
+pub constants_lead : (part : ClassPart) (c : ClassFile) (xs : List Constant) → UpTo 0 part → LeadsUpTo 0 part (draft c no_member empty_code) (map Entry xs) (draft (record c { constants = c.constants ++ xs }) no_member empty_code)
+constants_lead part c [] u = record { next = part; up = u; leads = leads_as _ _ _ _ _ _ (λ i. draft (record c { constants = sym (append-nil c.constants) i }) no_member empty_code) (stays _ _) }
 constants_lead part c (x ∷ xs) u =
     let more = constants_lead parts.Constants (record c { constants = c.constants ++ x ∷ [] }) xs refl in
     record {
       next = more.next;
       up = more.up;
-      leads = first_line (places.Class part) (places.Class parts.Constants) (draft c no_member no_code) (Entry x) (map Entry xs) (places.Class more.next) _ (entered _ _ u)
-          (leads_as _ _ _ _ _ _ (λ i. draft (record c { constants = one_behind c.constants x xs i }) no_member no_code) more.leads);
+      leads = first_line (places.Class part) (places.Class parts.Constants) (draft c no_member empty_code) (Entry x) (map Entry xs) (places.Class more.next) _ (entered _ _ u)
+          (leads_as _ _ _ _ _ _ (λ i. draft (record c { constants = one_behind c.constants x xs i }) no_member empty_code) more.leads);
     }
 
-pub interfaces_lead : (part : ClassPart) (c : ClassFile) (xs : List ℕ) → UpTo 1 part → LeadsUpTo 1 part (draft c no_member no_code) (map Interface xs) (draft (record c { interfaces = c.interfaces ++ xs }) no_member no_code)
-interfaces_lead part c [] u = record { next = part; up = u; leads = leads_as _ _ _ _ _ _ (λ i. draft (record c { interfaces = sym (append-nil c.interfaces) i }) no_member no_code) (stays _ _) }
+pub interfaces_lead : (part : ClassPart) (c : ClassFile) (xs : List ℕ) → UpTo 1 part → LeadsUpTo 1 part (draft c no_member empty_code) (map Interface xs) (draft (record c { interfaces = c.interfaces ++ xs }) no_member empty_code)
+interfaces_lead part c [] u = record { next = part; up = u; leads = leads_as _ _ _ _ _ _ (λ i. draft (record c { interfaces = sym (append-nil c.interfaces) i }) no_member empty_code) (stays _ _) }
 interfaces_lead part c (x ∷ xs) u =
     let more = interfaces_lead parts.Interfaces (record c { interfaces = c.interfaces ++ x ∷ [] }) xs refl in
     record {
       next = more.next;
       up = more.up;
-      leads = first_line (places.Class part) (places.Class parts.Interfaces) (draft c no_member no_code) (Interface x) (map Interface xs) (places.Class more.next) _ (entered _ _ u)
-          (leads_as _ _ _ _ _ _ (λ i. draft (record c { interfaces = one_behind c.interfaces x xs i }) no_member no_code) more.leads);
+      leads = first_line (places.Class part) (places.Class parts.Interfaces) (draft c no_member empty_code) (Interface x) (map Interface xs) (places.Class more.next) _ (entered _ _ u)
+          (leads_as _ _ _ _ _ _ (λ i. draft (record c { interfaces = one_behind c.interfaces x xs i }) no_member empty_code) more.leads);
     }
 
-pub attrs_lead : (part : ClassPart) (c : ClassFile) (xs : List Attr) → UpTo 4 part → LeadsUpTo 4 part (draft c no_member no_code) (map Attribute xs) (draft (record c { attrs = c.attrs ++ xs }) no_member no_code)
-attrs_lead part c [] u = record { next = part; up = u; leads = leads_as _ _ _ _ _ _ (λ i. draft (record c { attrs = sym (append-nil c.attrs) i }) no_member no_code) (stays _ _) }
+pub attrs_lead : (part : ClassPart) (c : ClassFile) (xs : List Attr) → UpTo 4 part → LeadsUpTo 4 part (draft c no_member empty_code) (map Attribute xs) (draft (record c { attrs = c.attrs ++ xs }) no_member empty_code)
+attrs_lead part c [] u = record { next = part; up = u; leads = leads_as _ _ _ _ _ _ (λ i. draft (record c { attrs = sym (append-nil c.attrs) i }) no_member empty_code) (stays _ _) }
 attrs_lead part c (x ∷ xs) u =
     let more = attrs_lead parts.Attributes (record c { attrs = c.attrs ++ x ∷ [] }) xs refl in
     record {
       next = more.next;
       up = more.up;
-      leads = first_line (places.Class part) (places.Class parts.Attributes) (draft c no_member no_code) (Attribute x) (map Attribute xs) (places.Class more.next) _ (entered _ _ u)
-          (leads_as _ _ _ _ _ _ (λ i. draft (record c { attrs = one_behind c.attrs x xs i }) no_member no_code) more.leads);
+      leads = first_line (places.Class part) (places.Class parts.Attributes) (draft c no_member empty_code) (Attribute x) (map Attribute xs) (places.Class more.next) _ (entered _ _ u)
+          (leads_as _ _ _ _ _ _ (λ i. draft (record c { attrs = one_behind c.attrs x xs i }) no_member empty_code) more.leads);
     }
 
 -- ---- parts of a code

@@ -2,7 +2,7 @@
 use Rattle.std.{proofs.{Common.{◌≡◌, true, List, [], ◌∷◌, ◌++◌, map, drop, refl, sym, ap, arith}, lemmas.List.append-nil}, specs.List.{AllByRecursion, flat_map}}
 use Rattle.jvm_types.specs.{ClassGrammar.{IsByte, IsClass, IsFieldAttr, IsMethodAttr, IsField, IsMethod, GapsFit, is_gap}, declared.class_file.{ClassFile.ClassFile, Code.Code, Constant.Constant}}
 use Rattle.jvm_types.{specs.declared.class_file.{Constant.TheVariants.Gap, Member.Member, MemberAttr.MemberAttr}, proofs.EachAfter.all_weaker}
-use Rattle.asm_text.specs.{Drafting.{draft, new_draft, no_class, no_member, no_code, member_of, started_code, with_member, with_member_attr, with_bytes}, Places.{part_of, class_rank}}
+use Rattle.asm_text.specs.{Drafting.{draft, new_draft, no_class, no_member, empty_code, member_of, started_code, with_member, with_member_attr, with_bytes}, Places.{part_of, class_rank}}
 use Rattle.asm_text.specs.declared.items.{Item.{Item, TheVariants.{FileHead, Entry, Interface, MemberHead, Attribute, InitialValue, CodeHead, Row, End}}, MemberKind.MemberKind}
 use Rattle.asm_text.specs.declared.places.ClassPart.{ClassPart}
 use Rattle.asm_text.proofs.BuildLaws.{Leads, first_line, both_lead, leads_as, stays, entered, UpTo, up_more, LeadsUpTo, code_up_more, one_behind, constants_lead, interfaces_lead, attrs_lead, rows_lead, code_attrs_lead}
@@ -38,34 +38,34 @@ HasBytes (member_attrs.Code k) = AllByRecursion IsByte k.bytes
 HasBytes attr = Unit {0}
 
 code_attr_leads : (kind : MemberKind) (c : ClassFile) (m : Member) (k : Code) → AllByRecursion IsByte k.bytes
-    → Leads (places.Member kind) (draft c m no_code) (code_attr_items k) (places.Member kind) (draft c (with_member_attr m (member_attrs.Code k)) no_code)
+    → Leads (places.Member kind) (draft c m empty_code) (code_attr_items k) (places.Member kind) (draft c (with_member_attr m (member_attrs.Code k)) empty_code)
 code_attr_leads kind c m k b =
     let head = started_code k.name k.max_stack k.max_locals in
     let x = code_leads kind c m head k.bytes b in
     let y = rows_lead kind x.next c m (with_bytes head k.bytes) k.rows x.up in
     let z = code_attrs_lead kind y.next c m (record (with_bytes head k.bytes) { rows = k.rows }) k.attrs (code_up_more 2 3 y.next (omega arith) y.up) in
-    first_line (places.Member kind) (places.Code kind code_parts.Start) (draft c m no_code) (CodeHead k.name k.max_stack k.max_locals) _ (places.Member kind) _ refl
+    first_line (places.Member kind) (places.Code kind code_parts.Start) (draft c m empty_code) (CodeHead k.name k.max_stack k.max_locals) _ (places.Member kind) _ refl
     (both_lead _ _ (code_items k.bytes) _ _ _ _ _ x.leads (both_lead _ _ (map Row k.rows) _ _ _ _ _ y.leads (both_lead _ _ (map Attribute k.attrs) _ _ _ _ _ z.leads
     (first_line (places.Code kind z.next) (places.Member kind) (draft c m k) End [] (places.Member kind) _ refl (stays _ _)))))
 
-member_attr_leads : (kind : MemberKind) (c : ClassFile) (m : Member) (a : MemberAttr) → HasBytes a → Leads (places.Member kind) (draft c m no_code) (member_attr_items a) (places.Member kind) (draft c (with_member_attr m a) no_code)
+member_attr_leads : (kind : MemberKind) (c : ClassFile) (m : Member) (a : MemberAttr) → HasBytes a → Leads (places.Member kind) (draft c m empty_code) (member_attr_items a) (places.Member kind) (draft c (with_member_attr m a) empty_code)
 member_attr_leads kind c m (member_attrs.Code k) b = code_attr_leads kind c m k b
 member_attr_leads kind c m (member_attrs.ConstantValue name constant) b = first_line _ (places.Member kind) _ _ [] _ _ refl (stays _ _)
 member_attr_leads kind c m (member_attrs.Other a) b = first_line _ (places.Member kind) _ _ [] _ _ refl (stays _ _)
 
 member_attrs_lead : (kind : MemberKind) (c : ClassFile) (m : Member) (xs : List MemberAttr) → AllByRecursion HasBytes xs
-    → Leads (places.Member kind) (draft c m no_code) (flat_map member_attr_items xs) (places.Member kind) (draft c (record m { attrs = m.attrs ++ xs }) no_code)
-member_attrs_lead kind c m [] b = leads_as _ _ _ _ _ _ (λ i. draft c (record m { attrs = sym (append-nil m.attrs) i }) no_code) (stays _ _)
+    → Leads (places.Member kind) (draft c m empty_code) (flat_map member_attr_items xs) (places.Member kind) (draft c (record m { attrs = m.attrs ++ xs }) empty_code)
+member_attrs_lead kind c m [] b = leads_as _ _ _ _ _ _ (λ i. draft c (record m { attrs = sym (append-nil m.attrs) i }) empty_code) (stays _ _)
 member_attrs_lead kind c m (x ∷ xs) b =
     both_lead _ _ (member_attr_items x) _ _ (flat_map member_attr_items xs) _ _ (member_attr_leads kind c m x b.0)
-    (leads_as _ _ _ _ _ _ (λ i. draft c (record m { attrs = one_behind m.attrs x xs i }) no_code) (member_attrs_lead kind c (with_member_attr m x) xs b.1))
+    (leads_as _ _ _ _ _ _ (λ i. draft c (record m { attrs = one_behind m.attrs x xs i }) empty_code) (member_attrs_lead kind c (with_member_attr m x) xs b.1))
 
 member_leads : (kind : MemberKind) (part : ClassPart) (c : ClassFile) (m : Member) → UpTo (class_rank (part_of kind)) part → AllByRecursion HasBytes m.attrs
-    → Leads (places.Class part) (draft c no_member no_code) (member_items kind m) (places.Class (part_of kind)) (draft (with_member kind c m) no_member no_code)
+    → Leads (places.Class part) (draft c no_member empty_code) (member_items kind m) (places.Class (part_of kind)) (draft (with_member kind c m) no_member empty_code)
 member_leads kind part c m u b =
-    first_line (places.Class part) (places.Member kind) (draft c no_member no_code) (MemberHead kind m.flags m.name m.descriptor) _ _ _ (entered _ _ u)
+    first_line (places.Class part) (places.Member kind) (draft c no_member empty_code) (MemberHead kind m.flags m.name m.descriptor) _ _ _ (entered _ _ u)
     (both_lead _ _ (flat_map member_attr_items m.attrs) _ _ (End ∷ []) _ _ (member_attrs_lead kind c (member_of m.flags m.name m.descriptor) m.attrs b)
-    (first_line (places.Member kind) (places.Class (part_of kind)) (draft c m no_code) End [] _ _ refl (stays _ _)))
+    (first_line (places.Member kind) (places.Class (part_of kind)) (draft c m empty_code) End [] _ _ refl (stays _ _)))
 
 abbrev pub with_members : MemberKind → ClassFile → List Member → ClassFile
 with_members kinds.Field c ms = record c { fields = c.fields ++ ms }
@@ -84,15 +84,15 @@ own_part kinds.Field = refl
 own_part kinds.Method = refl
 
 members_lead : (kind : MemberKind) (part : ClassPart) (c : ClassFile) (ms : List Member) → UpTo (class_rank (part_of kind)) part → AllByRecursion (λ m. AllByRecursion HasBytes m.attrs) ms
-    → LeadsUpTo (class_rank (part_of kind)) part (draft c no_member no_code) (flat_map (member_items kind) ms) (draft (with_members kind c ms) no_member no_code)
-members_lead kind part c [] u b = record { next = part; up = u; leads = leads_as _ _ _ _ _ _ (λ i. draft (none_more kind c i) no_member no_code) (stays _ _) }
+    → LeadsUpTo (class_rank (part_of kind)) part (draft c no_member empty_code) (flat_map (member_items kind) ms) (draft (with_members kind c ms) no_member empty_code)
+members_lead kind part c [] u b = record { next = part; up = u; leads = leads_as _ _ _ _ _ _ (λ i. draft (none_more kind c i) no_member empty_code) (stays _ _) }
 members_lead kind part c (m ∷ ms) u b =
     let more = members_lead kind (part_of kind) (with_member kind c m) ms (own_part kind) b.1 in
     record {
       next = more.next;
       up = more.up;
       leads = both_lead _ _ (member_items kind m) _ _ (flat_map (member_items kind) ms) _ _ (member_leads kind part c m u b.0)
-          (leads_as _ _ _ _ _ _ (λ i. draft (one_more kind c m ms i) no_member no_code) more.leads);
+          (leads_as _ _ _ _ _ _ (λ i. draft (one_more kind c m ms i) no_member empty_code) more.leads);
     }
 
 -- ---- classes
@@ -124,7 +124,7 @@ methods_bytes pool ms h = all_weaker (IsMethod pool) (λ m. AllByRecursion HasBy
 -- the lines of a class make it, and the text may end behind them
 pub record Makes (c : ClassFile) : Type 0 where
   pub next : ClassPart
-  pub leads : Leads places.Start new_draft (class_items c) (places.Class next) (draft c no_member no_code)
+  pub leads : Leads places.Start new_draft (class_items c) (places.Class next) (draft c no_member empty_code)
 
 pub class_leads : (c : ClassFile) → IsClass c → Makes c
 class_leads c is =
@@ -143,5 +143,5 @@ class_leads c is =
       leads = first_line places.Start (places.Class parts.Constants) new_draft (FileHead c.minor c.major c.flags c.this_class c.super_class) _ (places.Class w.next) _ refl
           (both_lead _ _ (map Entry (drop 1 c.constants)) _ _ _ _ _ x.leads (both_lead _ _ (map Interface c.interfaces) _ _ _ _ _ y.leads
           (both_lead _ _ (flat_map (member_items kinds.Field) c.fields) _ _ _ _ _ z.leads (both_lead _ _ (flat_map (member_items kinds.Method) c.methods) _ _ _ _ _ v.leads
-          (leads_as _ _ _ _ _ _ (λ i. draft (record c { constants = gap_first c.constants is.pool.gaps i }) no_member no_code) w.leads)))));
+          (leads_as _ _ _ _ _ _ (λ i. draft (record c { constants = gap_first c.constants is.pool.gaps i }) no_member empty_code) w.leads)))));
     }

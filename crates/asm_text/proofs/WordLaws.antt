@@ -5,7 +5,7 @@ use Rattle.std.proofs.lemmas.{Bool.{lt-ltb, and_parts, and_from, Decides.nat_tes
 use Rattle.std.proofs.lemmas.{List.{Elements.All-from_recursion, Folds.list_all-append, Splits.{slice_split_at, slice_split_none}}, Option.unwrap_or-slice_get}
 use Rattle.std.proofs.lemmas.Str.Parse.{IsNumeralModel, numerals_by_fold, not_in_digits}
 use Rattle.jvm_types.specs.ClassGrammar.{IsByte}
-use Rattle.asm_text.specs.{Lines.{Value, Number, Signed, Hex, hex_digit, hex_byte, hex_text, value_text, values_text}, Words.{words, read_on, unsigned, small, signed, hex_digit_of, hex_bytes}}
+use Rattle.asm_text.specs.{Lines.{Value, Number, Signed, Hex, listed_digit, hex_byte, hex_text, value_text, values_text}, Words.{words, read_on, unsigned, small, signed, hex_digit_of, hex_bytes}}
 use lib.IntN.{negsuc}
 
 -- ---- numbers
@@ -69,10 +69,10 @@ read_more n r word i digit l e h =
 
 -- ---- bytes
 
-digit_back : (n : ℕ) → n < 16 → hex_digit_of (hex_digit n) ≡ n
+digit_back : (n : ℕ) → n < 16 → hex_digit_of (listed_digit n) ≡ n
 digit_back n h = grind (arith, nat_tests)
 
-byte_back : (b : ℕ) → b < 256 → 16 * hex_digit_of (hex_digit (b / 16)) + hex_digit_of (hex_digit (b % 16)) ≡ b
+byte_back : (b : ℕ) → b < 256 → 16 * hex_digit_of (listed_digit (b / 16)) + hex_digit_of (listed_digit (b % 16)) ≡ b
 byte_back b h = rw (digit_back (b / 16) (omega arith)) (rw (digit_back (b % 16) (omega arith)) (omega arith))
 
 bytes_back : (bytes : List ℕ) → AllByRecursion IsByte bytes → hex_bytes (flat_map hex_byte bytes) ≡ bytes
@@ -116,7 +116,7 @@ decimal_plain n h = decimal_by_steps (λ n ds. are_plain ds ≡ true) one more n
     more : (n : ℕ) (ds : List ℕ) → 10 ≤ n → are_plain ds ≡ true → are_plain (ds ++ (48 + n % 10) ∷ []) ≡ true
     more n ds h k = list_all-append is_plain ds ((48 + n % 10) ∷ []) ∙ and_from (are_plain ds) _ k (one (n % 10) (omega arith))
 
-digit_plain : (n : ℕ) → is_plain (hex_digit n) ≡ true
+digit_plain : (n : ℕ) → is_plain (listed_digit n) ≡ true
 digit_plain n = grind (arith, nat_tests)
 
 hex_plain : (bytes : List ℕ) → are_plain (flat_map hex_byte bytes) ≡ true

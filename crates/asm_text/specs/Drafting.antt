@@ -33,8 +33,8 @@ started_code name stack locals =
 abbrev pub no_member : Member
 no_member = member_of 0 0 0
 
-abbrev pub no_code : Code
-no_code = started_code 0 0 0
+abbrev pub empty_code : Code
+empty_code = started_code 0 0 0
 
 abbrev pub no_class : ClassFile
 no_class = record {
@@ -55,7 +55,7 @@ abbrev pub draft : ClassFile → Member → Code → Draft
 draft c m k = record { class = c; member = m; code = k }
 
 abbrev pub new_draft : Draft
-new_draft = draft no_class no_member no_code
+new_draft = draft no_class no_member empty_code
 
 -- ---- one more part
 
@@ -95,7 +95,7 @@ attr_added place d x = draft (with_attr d.class x) d.member d.code
 -- the open code or the open member ends
 abbrev pub draft_ended : Place → Draft → Draft
 draft_ended (places.Code kind part) d =
-    draft d.class (with_member_attr d.member (member_attrs.Code d.code)) no_code
+    draft d.class (with_member_attr d.member (member_attrs.Code d.code)) empty_code
 draft_ended (places.Member kind) d = draft (with_member kind d.class d.member) no_member d.code
 draft_ended place d = d
 

@@ -14,11 +14,11 @@ pub record Line : Type 0 where
   pub values : List Value
 
 -- 0 to 9, then a to f
-abbrev pub hex_digit : ℕ → ℕ
-hex_digit n = if nat_lt n 10 then 48 + n else 87 + n
+abbrev pub listed_digit : ℕ → ℕ
+listed_digit n = if nat_lt n 10 then 48 + n else 87 + n
 
 abbrev pub hex_byte : ℕ → List ℕ
-hex_byte b = hex_digit (b / 16) ∷ hex_digit (b % 16) ∷ []
+hex_byte b = listed_digit (b / 16) ∷ listed_digit (b % 16) ∷ []
 
 -- two digits for each byte, or a dash for none
 abbrev pub hex_text : List ℕ → List ℕ

@@ -3,14 +3,14 @@
 ghost use Rattle.std.specs.Prelude.{◌≡◌, ◌++◌, ◌∷◌, ◌<◌, [], codes, OnOk, string_bytes};
 ghost use Rattle.std.specs.List.{flat_map};
 ghost use Rattle.std.specs.Fmt.{decimal, signed_decimal};
-ghost use Rattle.asm_text.specs.Lines.{Number, hex_digit, hex_byte, hex_text, line_text};
+ghost use Rattle.asm_text.specs.Lines.{Number, listed_digit, hex_byte, hex_text, line_text};
 
 use std::alloc::AllocError;
 
 /// A digit of base 16, of a number below 16.
 fn hex_digit(n: u8) -> u8
     requires { n < 16 }
-    ensures is { result ≡ hex_digit n }
+    ensures is { result ≡ listed_digit n }
     ensures ascii { result < 128 }
 {
     if n < 10 { 48 + n } else { 87 + n }
@@ -18,7 +18,7 @@ fn hex_digit(n: u8) -> u8
 
 fn write_hex_digit(text: &mut String, n: u8) -> Result<(), AllocError>
     requires { n < 16 }
-    ensures { OnOk result (string_bytes text.new ≡ string_bytes text.old ++ hex_digit n ∷ []) }
+    ensures { OnOk result (string_bytes text.new ≡ string_bytes text.old ++ listed_digit n ∷ []) }
 {
     text.push(char::from(hex_digit(n)))
 }
