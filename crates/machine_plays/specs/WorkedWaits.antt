@@ -10,7 +10,7 @@ use Rattle.checked_program.specs.MarkedProgram.{MarkedProgram}
 use Rattle.checked_program.specs.declared.section.Spot.TheVariants as spots
 use Rattle.machine_plays.specs.Writing.{InstructionLine, plain_line, line_to, handler_row}
 use Rattle.machine_plays.specs.Writing.{play_method, static_field, mark, loaded}
-use Rattle.machine_plays.specs.WorkedPairs.{play_constructor}
+use Rattle.machine_plays.specs.WorkedPairs.{init, play_constructor}
 
 abbrev pub fields : List FieldInfo
 fields = static_field (kinds.Ref 17) 2070 ∷ []
@@ -20,9 +20,6 @@ make_shared_waiter =
     line_to 0 3 (ops.New 2) (targets.Class 17) ∷ plain_line 3 4 ops.Dup
     ∷ line_to 4 7 (ops.Invokespecial 12) (targets.Method 0)
     ∷ line_to 7 10 (ops.Putstatic 14) (targets.Field 0) ∷ plain_line 10 11 ops.Return ∷ []
-
-abbrev pub init : List InstructionLine → MethodInfo
-init lines = play_method 9 (codes "init") (codes "()V") [] None 4 0 lines []
 
 abbrev pub waiter : (name : List ℕ) → List InstructionLine → MethodInfo
 waiter name lines = play_method 32 name (codes "(I)V") (kinds.Int ∷ []) None 2 2 lines []
