@@ -1,213 +1,331 @@
-//! Reads a second of a cell of `solero_cell`, beside `Mutex` and `RwLock` of the same words.
+//! What a read of the proved cell costs, beside a `Mutex`, an `RwLock` and a sequence lock by hand of the same words.
 //!
-//! This is plain Rust, and not proved: the cell here makes the same loads, exchange and stores, in the same order, as the
-//! proved one. Run it with nothing else on the machine:
+//! The cell is the library itself, which `./cell` proves and builds; the sequence lock by hand is in this file. Run it with
+//! nothing else on the machine:
 //!
 //! ```sh
-//! rustc -O --edition 2021 --out-dir out bench/cell.rs && out/cell 200
+//! ./cell && rustc -O --edition 2021 -L out/cell/lib -o out/cell/bench bench/cell.rs && out/cell/bench 20 7
 //! ```
 //!
-//! The number is how many milliseconds each row is measured, five times; the medians are shown, each as a ratio to the reads
-//! a second of the mutex in the same row.
+//! The numbers are how many milliseconds each cell of the table is measured, and how often; the medians are shown. Measured is
+//! a reader's processor time for each read that succeeded: time that it sleeps in a lock is not in it. It is shown for the
+//! mutex in nanoseconds, and for the others as a part of that.
+
 
 use std::hint::black_box;
-use std::sync::atomic::{AtomicBool, AtomicU64, Ordering::SeqCst};
-use std::sync::{Barrier, Mutex, RwLock};
+use std::sync::atomic::{fence, AtomicBool, AtomicU64, Ordering::*};
+use std::sync::{Arc, Barrier, Mutex, RwLock};
 use std::thread::{scope, sleep};
-use std::time::{Duration, Instant};
+use std::time::Duration;
 
 const MOST: usize = 64;
-const FEW: usize = 8;
-const HELD: u64 = 6;
 
-/// What is read and written by several threads.
-trait Shared: Sync {
-    fn read(&self, out: &mut [u64]) -> bool;
-    fn write(&self, values: &[u64]) -> bool;
+/// What one thread reads and writes by.
+trait Hand: Send {
+    /// Whether it succeeded.
+    fn read(&mut self, out: &mut [u64]) -> bool;
+    fn write(&mut self, values: &[u64]) -> bool;
+    fn another(&mut self) -> Self;
+    fn open(size: usize) -> Self;
 }
 
-struct Cell(Vec<AtomicU64>);
+/// A seat at the proved cell, as the header has it.
+#[repr(C)]
+struct Seat {
+    at: *mut u8,
+}
 
-impl Cell {
-    fn attempt(&self, values: &mut [u64]) -> Option<bool> {
-        let noted = self.0[0].load(SeqCst);
+#[link(name = "cell_c", kind = "static")]
+#[link(name = "libc_c", kind = "static")]
+unsafe extern "C" {
+    fn cell_c_open(values: *const u64, len: usize, count: u64, seat: *mut Seat) -> u32;
+    fn cell_c_close(seat: *mut Seat);
+    fn cell_c_split(seat: *mut Seat, other: *mut Seat) -> u32;
+    fn cell_c_read(seat: *mut Seat, out: *mut u64, len: usize, count: *mut u64) -> u32;
+    fn cell_c_read_into(seat: *mut Seat, out: *mut u64, len: usize, count: *mut u64) -> u32;
+    fn cell_c_write(seat: *mut Seat, values: *const u64, len: usize, count: *mut u64) -> u32;
+}
+
+// SAFETY: a seat may go to another thread.
+unsafe impl Send for Seat {}
+
+impl Seat {
+    const NONE: Seat = Seat {
+        at: std::ptr::null_mut(),
+    };
+
+    fn write_by(&mut self, values: &[u64]) -> bool {
+        let mut count = 0;
+        // SAFETY: the pointers are those of references that are held for the call, here and below.
+        unsafe { cell_c_write(self, values.as_ptr(), values.len(), &mut count) == 0 }
+    }
+
+    fn split(&mut self) -> Seat {
+        let mut other = Seat::NONE;
+        assert_eq!(unsafe { cell_c_split(self, &mut other) }, 0);
+        other
+    }
+
+    fn open_with(size: usize) -> Seat {
+        let mut seat = Seat::NONE;
+        assert_eq!(
+            unsafe { cell_c_open([0; MOST].as_ptr(), size, 0, &mut seat) },
+            0
+        );
+        seat
+    }
+}
+
+impl Drop for Seat {
+    fn drop(&mut self) {
+        unsafe { cell_c_close(self) }
+    }
+}
+
+impl Hand for Seat {
+    fn read(&mut self, out: &mut [u64]) -> bool {
+        let mut count = 0;
+        unsafe { cell_c_read(self, out.as_mut_ptr(), out.len(), &mut count) == 0 }
+    }
+    fn write(&mut self, values: &[u64]) -> bool {
+        self.write_by(values)
+    }
+    fn another(&mut self) -> Seat {
+        self.split()
+    }
+    fn open(size: usize) -> Seat {
+        Seat::open_with(size)
+    }
+}
+
+/// The same cell, read straight into the caller's words.
+struct Into(Seat);
+
+impl Hand for Into {
+    fn read(&mut self, out: &mut [u64]) -> bool {
+        let mut count = 0;
+        unsafe { cell_c_read_into(&mut self.0, out.as_mut_ptr(), out.len(), &mut count) == 0 }
+    }
+    fn write(&mut self, values: &[u64]) -> bool {
+        self.0.write_by(values)
+    }
+    fn another(&mut self) -> Into {
+        Into(self.0.split())
+    }
+    fn open(size: usize) -> Into {
+        Into(Seat::open_with(size))
+    }
+}
+
+/// A sequence lock by hand, with fences and relaxed accesses; it makes one attempt.
+struct ByHand(Arc<Vec<AtomicU64>>);
+
+impl Hand for ByHand {
+    fn read(&mut self, out: &mut [u64]) -> bool {
+        let words = &self.0;
+        let noted = words[0].load(Acquire);
         if noted % 4 != 0 {
-            return None;
-        }
-        for (value, word) in values.iter_mut().zip(&self.0[1..]) {
-            *value = word.load(SeqCst);
-        }
-        Some(self.0[0].load(SeqCst) == noted)
-    }
-}
-
-impl Cell {
-    #[inline(always)]
-    fn read_by(&self, out: &mut [u64], room: &mut [u64]) -> bool {
-        let values = &mut room[..out.len()];
-        for _ in 0..2 {
-            match self.attempt(values) {
-                Some(true) => {
-                    out.copy_from_slice(values);
-                    return true;
-                }
-                Some(false) => {}
-                None => return false,
-            }
-        }
-        false
-    }
-}
-
-impl Shared for Cell {
-    fn read(&self, out: &mut [u64]) -> bool {
-        if out.len() <= FEW {
-            self.read_by(out, &mut [0; FEW])
-        } else {
-            self.read_by(out, &mut [0; MOST])
-        }
-    }
-
-    fn write(&self, values: &[u64]) -> bool {
-        let noted = self.0[0].load(SeqCst);
-        if noted % 4 != 0 || self.0[0].compare_exchange(noted, HELD, SeqCst, SeqCst).is_err() {
             return false;
         }
-        for (word, value) in self.0[1..].iter().zip(values) {
-            word.store(*value, SeqCst);
+        for (value, word) in out.iter_mut().zip(&words[1..]) {
+            *value = word.load(Relaxed);
         }
-        self.0[0].store(noted + 4, SeqCst);
+        fence(Acquire);
+        words[0].load(Relaxed) == noted
+    }
+    fn write(&mut self, values: &[u64]) -> bool {
+        let words = &self.0;
+        let noted = words[0].load(Relaxed);
+        if noted % 4 != 0
+            || words[0]
+                .compare_exchange(noted, noted + 2, Acquire, Relaxed)
+                .is_err()
+        {
+            return false;
+        }
+        fence(Release);
+        for (word, value) in words[1..].iter().zip(values) {
+            word.store(*value, Relaxed);
+        }
+        words[0].store(noted + 4, Release);
         true
+    }
+    fn another(&mut self) -> ByHand {
+        ByHand(self.0.clone())
+    }
+    fn open(size: usize) -> ByHand {
+        ByHand(Arc::new((0..=size).map(|_| AtomicU64::new(0)).collect()))
     }
 }
 
-impl Shared for Mutex<Vec<u64>> {
-    fn read(&self, out: &mut [u64]) -> bool {
+impl Hand for Arc<Mutex<Vec<u64>>> {
+    fn read(&mut self, out: &mut [u64]) -> bool {
         out.copy_from_slice(&self.lock().unwrap());
         true
     }
-
-    fn write(&self, values: &[u64]) -> bool {
+    fn write(&mut self, values: &[u64]) -> bool {
         self.lock().unwrap().copy_from_slice(values);
         true
     }
-}
-
-impl Shared for RwLock<Vec<u64>> {
-    fn read(&self, out: &mut [u64]) -> bool {
-        out.copy_from_slice(&self.read().unwrap());
-        true
+    fn another(&mut self) -> Self {
+        self.clone()
     }
-
-    fn write(&self, values: &[u64]) -> bool {
-        self.write().unwrap().copy_from_slice(values);
-        true
+    fn open(size: usize) -> Self {
+        Arc::new(Mutex::new(vec![0; size]))
     }
 }
 
-/// The loads alone: no lock, and a reader may see half a write.
-struct Plain(Vec<AtomicU64>);
-
-impl Shared for Plain {
-    fn read(&self, out: &mut [u64]) -> bool {
-        for (value, word) in out.iter_mut().zip(&self.0) {
-            *value = word.load(SeqCst);
-        }
+impl Hand for Arc<RwLock<Vec<u64>>> {
+    fn read(&mut self, out: &mut [u64]) -> bool {
+        out.copy_from_slice(&RwLock::read(self).unwrap());
         true
     }
-
-    fn write(&self, values: &[u64]) -> bool {
-        for (word, value) in self.0.iter().zip(values) {
-            word.store(*value, SeqCst);
-        }
+    fn write(&mut self, values: &[u64]) -> bool {
+        RwLock::write(self).unwrap().copy_from_slice(values);
         true
+    }
+    fn another(&mut self) -> Self {
+        self.clone()
+    }
+    fn open(size: usize) -> Self {
+        Arc::new(RwLock::new(vec![0; size]))
     }
 }
 
-#[derive(Clone, Copy)]
+#[derive(Clone, Copy, PartialEq)]
 enum Writer {
     None,
     Rare,
     Constant,
 }
 
-fn write_on(shared: &dyn Shared, size: usize, writer: Writer, over: &AtomicBool) {
+#[repr(C)]
+struct Time(i64, i64);
+
+unsafe extern "C" {
+    fn clock_gettime(clock: i32, time: *mut Time) -> i32;
+}
+
+/// Nanoseconds of processor time of this thread.
+fn busy() -> f64 {
+    let mut time = Time(0, 0);
+    // SAFETY: Linux's `struct timespec` on 64 bits; 3 is CLOCK_THREAD_CPUTIME_ID.
+    unsafe { clock_gettime(3, &mut time) };
+    time.0 as f64 * 1e9 + time.1 as f64
+}
+
+/// Reads that succeeded, tries that failed, and nanoseconds of processor time.
+fn read_on<H: Hand>(hand: &mut H, size: usize, over: &AtomicBool) -> (u64, u64, f64) {
+    let (mut out, mut reads, mut failed) = ([0; MOST], 0, 0);
+    let start = busy();
+    while !over.load(Relaxed) {
+        for _ in 0..64 {
+            if hand.read(black_box(&mut out[..size])) {
+                reads += 1;
+                assert!(out[0] == out[size - 1]);
+            } else {
+                failed += 1;
+            }
+        }
+    }
+    (reads, failed, busy() - start)
+}
+
+fn write_on<H: Hand>(hand: &mut H, size: usize, writer: Writer, over: &AtomicBool) {
     let mut values = [0; MOST];
-    while !over.load(SeqCst) {
+    while !over.load(Relaxed) {
         let next = values[0] + 1;
         values[..size].fill(next);
-        shared.write(&values[..size]);
-        if let Writer::Rare = writer {
+        hand.write(black_box(&values[..size]));
+        if writer == Writer::Rare {
             sleep(Duration::from_millis(1));
         }
     }
 }
 
-fn read_on<S: Shared>(shared: &S, size: usize, over: &AtomicBool) -> u64 {
-    let mut out = [0; MOST];
-    let mut reads = 0;
-    while !over.load(SeqCst) {
-        for _ in 0..64 {
-            reads += u64::from(shared.read(black_box(&mut out[..size])));
-        }
-    }
-    reads
-}
-
-/// Reads that succeeded, a second.
-fn measured<S: Shared>(shared: &S, size: usize, readers: usize, writer: Writer, time: Duration) -> f64 {
-    let over = AtomicBool::new(false);
-    let ready = Barrier::new(readers + 1);
+/// Nanoseconds of readers for each read that succeeded, and the part of their tries that failed.
+fn measured<H: Hand>(size: usize, readers: usize, writer: Writer, time: Duration) -> [f64; 2] {
+    let mut first = H::open(size);
+    let hands: Vec<H> = (0..readers).map(|_| first.another()).collect();
+    let over = &AtomicBool::new(false);
+    let ready = &Barrier::new(readers + 1);
     scope(|s| {
-        let threads: Vec<_> = (0..readers)
-            .map(|_| {
-                s.spawn(|| {
+        let threads: Vec<_> = hands
+            .into_iter()
+            .map(|mut hand| {
+                s.spawn(move || {
                     ready.wait();
-                    read_on(shared, size, &over)
+                    read_on(&mut hand, size, over)
                 })
             })
             .collect();
-        if !matches!(writer, Writer::None) {
-            s.spawn(|| write_on(shared, size, writer, &over));
+        if writer != Writer::None {
+            s.spawn(move || write_on(&mut first, size, writer, over));
         }
         ready.wait();
-        let start = Instant::now();
         sleep(time);
-        over.store(true, SeqCst);
-        let seconds = start.elapsed().as_secs_f64();
-        let reads: u64 = threads.into_iter().map(|t| t.join().unwrap()).sum();
-        reads as f64 / seconds
+        over.store(true, Relaxed);
+        let (mut reads, mut failed, mut time) = (0, 0, 0.);
+        for thread in threads {
+            let (r, f, t) = thread.join().unwrap();
+            reads += r;
+            failed += f;
+            time += t;
+        }
+        [
+            time / (reads as f64).max(1.),
+            failed as f64 / (reads + failed).max(1) as f64,
+        ]
     })
 }
 
-fn median<S: Shared>(shared: &S, size: usize, readers: usize, writer: Writer, time: Duration) -> f64 {
-    let mut all: Vec<f64> = (0..5).map(|_| measured(shared, size, readers, writer, time)).collect();
+fn median(mut all: Vec<f64>) -> f64 {
     all.sort_by(f64::total_cmp);
-    all[2]
+    all[all.len() / 2]
 }
 
-fn words(count: usize) -> Vec<AtomicU64> {
-    (0..count).map(|_| AtomicU64::new(0)).collect()
+type Measure = fn(usize, usize, Writer, Duration) -> [f64; 2];
+
+const ALL: [Measure; 5] = [
+    measured::<Arc<Mutex<Vec<u64>>>>,
+    measured::<Arc<RwLock<Vec<u64>>>>,
+    measured::<Seat>,
+    measured::<Into>,
+    measured::<ByHand>,
+];
+
+/// One row, every way measured once in each round, so that what else runs meets all of them.
+fn row(size: usize, readers: usize, writer: Writer, time: Duration, rounds: usize) -> String {
+    let mut got = vec![vec![]; ALL.len()];
+    for _ in 0..rounds {
+        for (way, measure) in got.iter_mut().zip(ALL) {
+            way.push(measure(size, readers, writer, time));
+        }
+    }
+    let pick = |way: usize, i: usize| median(got[way].iter().map(|x| x[i]).collect());
+    let mutex = pick(0, 0);
+    let parts: Vec<String> = (1..ALL.len())
+        .map(|way| format!("{:.2}", pick(way, 0) / mutex))
+        .collect();
+    let failed = [2, 3, 4].map(|way| format!("{:.0} %", 100. * pick(way, 1)));
+    format!("{mutex:.0} | {} | {}", parts.join(" | "), failed.join(", "))
 }
 
 fn main() {
-    let time = std::env::args().nth(1).and_then(|t| t.parse().ok()).unwrap_or(200);
-    let time = Duration::from_millis(time);
-    println!("| Words | Readers | Writer | Mutex, reads/s | Cell | RwLock | Plain loads |");
-    println!("|---|---|---|---|---|---|---|");
+    let mut args = std::env::args().skip(1).map(|a| a.parse::<u64>().unwrap());
+    let time = Duration::from_millis(args.next().unwrap_or(20));
+    let rounds = args.next().unwrap_or(7) as usize;
+    println!("| Words | Readers | Writer | Mutex, ns | RwLock | Cell | Cell, `read_into` | By hand | Failed tries: cell, `read_into`, by hand |");
+    println!("|{}", "---|".repeat(9));
     for size in [1, 8, 64] {
-        for (name, writer) in [("none", Writer::None), ("rare", Writer::Rare), ("constant", Writer::Constant)] {
+        for (name, writer) in [
+            ("none", Writer::None),
+            ("one a millisecond", Writer::Rare),
+            ("all the time", Writer::Constant),
+        ] {
             for readers in 1..=4 {
-                let mutex = median(&Mutex::new(vec![0; size]), size, readers, writer, time);
-                let cell = median(&Cell(words(size + 1)), size, readers, writer, time);
-                let rw_lock = median(&RwLock::new(vec![0; size]), size, readers, writer, time);
-                let plain = median(&Plain(words(size)), size, readers, writer, time);
-                println!(
-                    "| {size} | {readers} | {name} | {mutex:.2e} | {:.1} | {:.1} | {:.1} |",
-                    cell / mutex,
-                    rw_lock / mutex,
-                    plain / mutex
-                );
+                let numbers = row(size, readers, writer, time, rounds);
+                println!("| {size} | {readers} | {name} | {numbers} |");
             }
         }
     }
