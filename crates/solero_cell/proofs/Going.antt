@@ -4,7 +4,7 @@ use Rattle.std.{specs.Prelude.unwrap_or, proofs.{Math.Seq.take-suc-set, lemmas.L
 use Rattle.atomic_table.specs.Seated.{TableId}
 use Rattle.solero_cell.specs.{Attempts.{IsBehindGot, IsBehindChanged}, CellViews.{IsStill, record_of, has_loaded, has_looked, forgot, has_read, has_stored, one_stored, taken_in}}
 use Rattle.solero_cell.specs.{Histories.{AllStand, AreOfOne, IsLast, IsRecordSeen, RecordStands}, Stages.{IsSeatAt, IsLoading, IsStoring}}
-use Rattle.solero_cell.{specs.{Steps.{HasCompared, HasEnded, HasRead, note_of, storing_of, attempt_ended}, declared.views.{Moment.TheVariants.AtRest, Record.Record, Storing.Storing, View.View}}, proofs.Standing.{all_left, all_right}}
+use Rattle.solero_cell.{specs.{Steps.{HasCompared, EndsAttempt, HasRead, note_of, storing_of, attempt_ended}, declared.views.{Moment.TheVariants.AtRest, Record.Record, Storing.Storing, View.View}}, proofs.Standing.{all_left, all_right}}
 
 -- ---- the seat stays at its table
 
@@ -98,7 +98,7 @@ behind_got v u now c xs e n still h =
     }
 
 pub behind_changed : (b : Bool) (v u now : View) (c word found : ℕ) (xs : List ℕ) → u ≡ record v { loaded = xs } → IsStill v
-    → HasEnded b u found now → word ≡ 4 * c → word ≢ found → IsBehindChanged b v c word found now
+    → EndsAttempt b u found now → word ≡ 4 * c → word ≢ found → IsBehindChanged b v c word found now
 behind_changed b v u now c word found xs e still h w d = record {
   place = h.place;
   moment = h.moment;

@@ -3,14 +3,14 @@ use Rattle.std.proofs.Common.{◌≡◌, ◌≢◌, ℕ, ◌+◌, ◌*◌, ◌�
 use Rattle.std.{specs.List.sum_by, proofs.lemmas.{Bool.Decides.nat_tests, List.Sums.{sum_by_push, sum_by-append}}}
 use Rattle.atomic_table.proofs.Lists.{at_set, at_snoc, set_else}
 use Rattle.solero_cell.specs.{CellRules.{HaveLooked, looks_at, one_if}, CellViews.{halved, newcomer, taken_in, spent}, Histories.{History, last_count}}
-use Rattle.solero_cell.specs.{Moments.{AllFound, IsWay, moment_now, time_of, word_at}, declared.views.{Look.Look, Moment.Moment, Moment.TheVariants.{AtRest, UnderWay}, Record.Record, View.View}}
+use Rattle.solero_cell.specs.{Moments.{AllFound, IsRowOfMoments, moment_now, time_of, word_of_moment}, declared.views.{Look.Look, Moment.Moment, Moment.TheVariants.{AtRest, UnderWay}, Record.Record, View.View}}
 use Rattle.solero_cell.proofs.{Standing.got_longer, Sums.sum_set}
 use lib.ListN.{get_elem?}
 use mathlib.Core.Option.{some}
 
 -- ---- moments
 
-way_on : (a : Moment) (ms : List Moment) (b c : Moment) → IsWay a ms b → time_of b ≤ time_of c → IsWay a (ms ++ c ∷ []) c
+way_on : (a : Moment) (ms : List Moment) (b c : Moment) → IsRowOfMoments a ms b → time_of b ≤ time_of c → IsRowOfMoments a (ms ++ c ∷ []) c
 way_on a [] b c e le = (subst (λ (x : Moment). time_of x ≤ time_of c) (sym e) le, refl)
 way_on a (m ∷ ms) b c w le = (w.0, way_on m ms b c w.1 le)
 
@@ -25,9 +25,9 @@ pub held_now : (o : Record) (h : History) (x : ℕ) → x ≡ 6 → moment_now o
 held_now o h x e = ap (moment_now o h) e
 
 -- the word of the moment is the word
-pub word_now : (o : Record) (h : History) (x : ℕ) → (x ≡ 4 * last_count o h) ⊎ (x ≡ 6) → x ≡ word_at (moment_now o h x)
-word_now o h x (inl e) = e ∙ ap word_at (sym (rests_now o h x (last_count o h) e))
-word_now o h x (inr e) = e ∙ ap word_at (sym (held_now o h x e))
+pub word_now : (o : Record) (h : History) (x : ℕ) → (x ≡ 4 * last_count o h) ⊎ (x ≡ 6) → x ≡ word_of_moment (moment_now o h x)
+word_now o h x (inl e) = e ∙ ap word_of_moment (sym (rests_now o h x (last_count o h) e))
+word_now o h x (inr e) = e ∙ ap word_of_moment (sym (held_now o h x e))
 
 pub time_le : (m n : Moment) → m ≡ n → time_of m ≤ time_of n
 time_le m n e = subst (λ (x : Moment). time_of m ≤ time_of x) e (omega arith)
@@ -65,7 +65,7 @@ module _ (o : Record) (h h' : History) (x x' : ℕ) (views : List View) (id : �
   pub looks_kept : moment_now o h' x' ≡ moment_now o h x → w.looks ≡ v.looks → HaveLooked o h' x' (slice_set views id w)
   looks_kept now same = record {
     moments = s.moments;
-    way = subst (IsWay (AtRest o.count) s.moments) (sym now) s.way;
+    way = subst (IsRowOfMoments (AtRest o.count) s.moments) (sym now) s.way;
     found = λ i u g. ⊎_elim
         (λ k. subst (λ (y : View). AllFound s.moments y.looks) k.1 (subst (AllFound s.moments) (sym same) (s.found id v at)))
         (λ k. s.found i u k.1) (at_set views id i w u g);
@@ -80,7 +80,7 @@ module _ (o : Record) (h h' : History) (x x' : ℕ) (views : List View) (id : �
       → HaveLooked o h' x' (slice_set views id w)
   looks_on m now le more = record {
     moments = s.moments ++ m ∷ [];
-    way = subst (IsWay (AtRest o.count) (s.moments ++ m ∷ [])) now (way_on (AtRest o.count) s.moments (moment_now o h x) m s.way le);
+    way = subst (IsRowOfMoments (AtRest o.count) (s.moments ++ m ∷ [])) now (way_on (AtRest o.count) s.moments (moment_now o h x) m s.way le);
     found = λ i u g. ⊎_elim
         (λ k. subst (λ (y : View). AllFound (s.moments ++ m ∷ []) y.looks) k.1 mine)
         (λ k. found_on s.moments m u.looks (s.found i u k.1)) (at_set views id i w u g);

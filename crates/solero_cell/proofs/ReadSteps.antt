@@ -5,7 +5,7 @@ use Rattle.atomic_table.specs.Table.{State, Me, Allows, keeps}
 use Rattle.machine_types.specs.{LockWords.{lock_of, is_lock_word}, declared.lock.LockWord.LockWord}
 use Rattle.solero_cell.specs.CellRules.{cell_values, ViewKnowledge, IsAtRest, IsHeldByWrite, HaveLooked, HasOneHistory}
 use Rattle.solero_cell.specs.{CellViews.{record_of, noted, has_failed, has_loaded, has_looked, forgot, has_read, has_compared, IsStill}, Histories.{last_count, RecordStands, IsLast, OwnStand}}
-use Rattle.solero_cell.specs.{Stages.{IsLoading, IsJoining}, Steps.{note_of, joining_of, NotedBy, TellsNote, attempt_ended, TellsFinish, HasCompared}, Moments.{moment_now, word_at}, declared.views.{Moment.Moment, Moment.TheVariants.{AtRest, UnderWay}, Record.Record, View.View}}
+use Rattle.solero_cell.specs.{Stages.{IsLoading, IsJoining}, Steps.{note_of, joining_of, NotedBy, TellsNote, attempt_ended, TellsFinish, HasCompared}, Moments.{moment_now, word_of_moment}, declared.views.{Moment.Moment, Moment.TheVariants.{AtRest, UnderWay}, Record.Record, View.View}}
 use Rattle.solero_cell.proofs.{Looking.{held_now, look_of, looks_kept, looks_on, rests_now, time_le, word_now}, Knowing.{calm, knows_of, none_loaded, if_some}, Made.looked, Standing.{at_most_last, last_stands, newest_stands}}
 use Rattle.solero_cell.proofs.Words.{free_word, free_is_lock, next_taken, value_index, values_long, all_taken}
 use lib.ListN.{get_elem?}
@@ -47,7 +47,7 @@ module _ (o : Record) (id : ℕ) (v : View) (parts : 0 < v.share.parts) (ws : Li
   abbrev pub now : Moment
   now = moment_now o s.history (slice_index ws 0)
 
-  pub stands : slice_index ws 0 ≡ word_at now
+  pub stands : slice_index ws 0 ≡ word_of_moment now
   stands = word_now o s.history (slice_index ws 0) (⊎_elim (λ (r : IsAtRest o s.history ws views). inl r.word) (λ (r : IsHeldByWrite ws views). inr r.word) s.lock)
 
   pub looks : (w : View) (m : Moment) → m ≡ now → w.looks ≡ v.looks ++ look_of next m ∷ [] → HaveLooked o s.history (slice_index ws 0) (slice_set views id w)

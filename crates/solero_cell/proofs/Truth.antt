@@ -2,7 +2,7 @@
 use Rattle.std.proofs.Common.{◌≡◌, ℕ, zero, suc, ◌+◌, ◌==◌, inl, inr, ⊎_elim, List, [], ◌∷◌, ◌++◌, length, Some, sym, ap, subst, ◌∙◌, arith, slice_index, slice_set, slice_get, nat_lt}
 use Rattle.std.{specs.List.sum_by, proofs.lemmas.{Bool.Decides.nat_tests, List.Sums.sum_by_push}}
 use Rattle.atomic_table.proofs.Lists.{set_here}
-use Rattle.solero_cell.specs.{CellRules.{IsAtRest, IsHeldByWrite, looks_at, one_if}, Looks.AddedLooksAreTrue, Moments.{AllFound, IsWay, moment_now, word_at}}
+use Rattle.solero_cell.specs.{CellRules.{IsAtRest, IsHeldByWrite, looks_at, one_if}, Looks.AddedLooksAreTrue, Moments.{AllFound, IsRowOfMoments, moment_now, word_of_moment}}
 use Rattle.solero_cell.{specs.declared.views.{Look.Look, Moment.Moment, Moment.TheVariants.AtRest}, proofs.{Looking.{look_of, word_now}, Sums.{sum_set, within}}}
 
 -- of two numbers of places, where one place more is taken
@@ -17,7 +17,7 @@ one_more_place few more a b = grind (arith, nat_tests)
 none_there : (few : ℕ) → one_if (nat_lt few few) ≡ 0
 none_there few = grind (arith, nat_tests)
 
-way_end : (a : Moment) (ms : List Moment) (b m : Moment) (n : ℕ) → IsWay a ms b → length ms ≡ suc n → slice_get ms n ≡ Some m → m ≡ b
+way_end : (a : Moment) (ms : List Moment) (b m : Moment) (n : ℕ) → IsRowOfMoments a ms b → length ms ≡ suc n → slice_get ms n ≡ Some m → m ≡ b
 way_end a [] b m n w long got = absurd (omega (arith, long))
 way_end a (x ∷ []) b m zero w long got = let same : x ≡ m = cc in sym same ∙ w.1
 way_end a (x ∷ []) b m (suc n) w long got = absurd (omega (arith, long))
@@ -45,5 +45,5 @@ added_is_true o ws ws' views seat place m v w s at more s' =
     let now : m ≡ moment_now o s'.history (slice_index ws' 0) = way_end (AtRest o.count) ms' (moment_now o s'.history (slice_index ws' 0)) m (length ms) s'.looks.way long got in
     let word = word_now o s'.history (slice_index ws' 0) (⊎_elim (λ (r : IsAtRest o s'.history ws' (slice_set views seat w)). inl r.word) (λ (r : IsHeldByWrite ws' (slice_set views seat w)). inr r.word) s'.lock) in (
       ap (λ n. sum_by (looks_at n) views) next ∙ s.looks.once (length ms) ∙ none_there (length ms),
-      word ∙ ap word_at (sym now),
+      word ∙ ap word_of_moment (sym now),
     )

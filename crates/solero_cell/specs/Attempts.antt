@@ -7,7 +7,7 @@ use Rattle.solero_cell.specs.declared.views.Moment.TheVariants.{AtRest}
 use Rattle.solero_cell.specs.declared.views.View.{View}
 use Rattle.solero_cell.specs.Histories.{IsRecordSeen}
 use Rattle.solero_cell.specs.CellViews.{record_of, noted, has_looked, has_read}
-use Rattle.solero_cell.specs.Moments.{word_at}
+use Rattle.solero_cell.specs.Moments.{word_of_moment}
 use Rattle.solero_cell.specs.Steps.{HasFoundHeld, attempt_ended}
 use Rattle.solero_cell.specs.Calls.{IsGot, IsNotFree, IsChanged}
 
@@ -25,8 +25,8 @@ pub record HasChanged (is_last : Bool) (was : View) (word found : ℕ) (now : Vi
   pub place : ℕ
   pub moment : Moment
   pub view : now ≡ attempt_ended is_last place moment (noted noted_at count was)
-  pub word_is : word ≡ word_at (AtRest count)
-  pub found_is : found ≡ word_at moment
+  pub word_is : word ≡ word_of_moment (AtRest count)
+  pub found_is : found ≡ word_of_moment moment
   pub differ : word ≢ found
 
 abbrev pub IsAttempt : (is_last : Bool) → (was : View) → (values : List ℕ) → CellRead → (now : View)
@@ -51,8 +51,8 @@ pub record IsBehindChanged (is_last : Bool) (was : View) (c : ℕ) (word found :
   pub place : ℕ
   pub moment : Moment
   pub view : now ≡ attempt_ended is_last place moment was
-  pub word_is : word ≡ word_at (AtRest c)
-  pub found_is : found ≡ word_at moment
+  pub word_is : word ≡ word_of_moment (AtRest c)
+  pub found_is : found ≡ word_of_moment moment
   pub differ : word ≢ found
 
 abbrev pub IsBehindRead : (is_last : Bool) → (was : View) → (c : ℕ) → (values : List ℕ) → CellRead

@@ -17,7 +17,7 @@ use Rattle.solero_cell.specs.Histories.{IsRecordSeen}
 use Rattle.solero_cell.specs.CellRules.{HasOneHistory}
 use Rattle.solero_cell.specs.CellViews.{record_of, noted, has_looked, has_failed, has_read}
 use Rattle.solero_cell.specs.CellViews.{has_written, spent, IsStill}
-use Rattle.solero_cell.specs.Moments.{word_at}
+use Rattle.solero_cell.specs.Moments.{word_of_moment}
 use Rattle.solero_cell.specs.Steps.{HasFoundHeld}
 
 -- a seat at a cell: of which table, and what it knows
@@ -46,7 +46,7 @@ pub record IsAttemptOver (was now : View) : Type 0 where
   pub place : ℕ
   pub moment : Moment
   pub view : now ≡ has_looked place moment (noted noted_at count was)
-  pub differ : word_at (AtRest count) ≢ word_at moment
+  pub differ : word_of_moment (AtRest count) ≢ word_of_moment moment
 
 -- the attempt begins at the view, or behind one that ended without an answer
 abbrev pub IsTryBegun : (was now : View) → Type 0
@@ -77,8 +77,8 @@ pub record IsChanged (was : View) (word found : ℕ) (now : View) : Type 0 where
   pub place : ℕ
   pub moment : Moment
   pub view : now ≡ has_failed place moment (noted noted_at count begun)
-  pub word_is : word ≡ word_at (AtRest count)
-  pub found_is : found ≡ word_at moment
+  pub word_is : word ≡ word_of_moment (AtRest count)
+  pub found_is : found ≡ word_of_moment moment
   pub differ : word ≢ found
 
 -- `out` has the values after Got, and is unchanged after every other answer
@@ -109,8 +109,8 @@ pub record IsLost (was : View) (expected found : ℕ) (now : View) : Type 0 wher
   pub place : ℕ
   pub moment : Moment
   pub view : now ≡ has_failed place moment (noted noted_at count was)
-  pub word_is : expected ≡ word_at (AtRest count)
-  pub found_is : found ≡ word_at moment
+  pub word_is : expected ≡ word_of_moment (AtRest count)
+  pub found_is : found ≡ word_of_moment moment
   pub differ : expected ≢ found
   pub fits : count + 1 < 2 ^ 62
 

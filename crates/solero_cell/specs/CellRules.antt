@@ -15,7 +15,7 @@ use Rattle.solero_cell.specs.declared.views.Share.{Share}
 use Rattle.solero_cell.specs.declared.views.Storing.{Storing}
 use Rattle.solero_cell.specs.declared.views.View.{View}
 use Rattle.solero_cell.specs.Histories.{History, last_count, RecordStands, IsLast, OwnStand}
-use Rattle.solero_cell.specs.Moments.{AllFound, IsWay, moment_now}
+use Rattle.solero_cell.specs.Moments.{AllFound, IsRowOfMoments, moment_now}
 use Rattle.solero_cell.specs.CellViews.{record_of, spent}
 
 -- the words of the values
@@ -97,7 +97,7 @@ looks_at n v = sum_by (λ l. one_if (l.place == n)) v.looks
 -- the looks of all seats are one row of moments, which ends with what the lock word is now
 pub record HaveLooked (opening : Record) (h : History) (word : ℕ) (views : List View) : Type 0 where
   pub moments : List Moment
-  pub way : IsWay (AtRest opening.count) moments (moment_now opening h word)
+  pub way : IsRowOfMoments (AtRest opening.count) moments (moment_now opening h word)
   -- each seat tells what it found, and each place of the row is that of one look
   pub found : (i : ℕ) (v : View) → get_elem? views i ≡ some v → AllFound moments v.looks
   pub once : (n : ℕ) → sum_by (looks_at n) views ≡ one_if (nat_lt n (length moments))

@@ -7,7 +7,7 @@ use Rattle.solero_cell.specs.declared.views.Record.{Record}
 use Rattle.solero_cell.specs.declared.views.Share.{Share}
 use Rattle.solero_cell.specs.declared.views.Storing.{Storing}
 use Rattle.solero_cell.specs.declared.views.View.{View}
-use Rattle.solero_cell.specs.Moments.{word_at}
+use Rattle.solero_cell.specs.Moments.{word_of_moment}
 
 abbrev pub record_of : (count : ℕ) (values : List ℕ) → Record
 record_of c xs = record { count = c; values = xs }
@@ -71,7 +71,7 @@ noted n c v = record (has_looked n (AtRest c) v) { note = Some c; notes = v.note
 -- a try failed, and found the word of this moment
 abbrev pub has_failed : (place : ℕ) → Moment → View → View
 has_failed n m v =
-    record (has_looked n m v) { failed = v.failed + 1; found = Some (word_at m) }
+    record (has_looked n m v) { failed = v.failed + 1; found = Some (word_of_moment m) }
 
 abbrev pub has_loaded : (value : ℕ) → View → View
 has_loaded x v = record v { loaded = v.loaded ++ x ∷ [] }

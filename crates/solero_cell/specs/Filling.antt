@@ -8,7 +8,7 @@ use Rattle.solero_cell.specs.declared.views.View.{View}
 use Rattle.solero_cell.specs.Histories.{IsRecordSeen}
 use Rattle.solero_cell.specs.CellViews.{record_of, has_looked, has_failed, has_written}
 use Rattle.solero_cell.specs.CellViews.{has_released}
-use Rattle.solero_cell.specs.Moments.{word_at}
+use Rattle.solero_cell.specs.Moments.{word_of_moment}
 
 -- the write of these values has the lock, and has stored nothing
 pub record IsLockTaken (count : ℕ) (values : List ℕ) (v : View) : Type 0 where
@@ -35,8 +35,8 @@ pub record IsLostBehind (was : View) (count expected found : ℕ) (now : View) :
   pub place : ℕ
   pub moment : Moment
   pub view : now ≡ has_failed place moment was
-  pub word_is : expected ≡ word_at (AtRest count)
-  pub found_is : found ≡ word_at moment
+  pub word_is : expected ≡ word_of_moment (AtRest count)
+  pub found_is : found ≡ word_of_moment moment
   pub differ : expected ≢ found
   pub fits : count + 1 < 2 ^ 62
 

@@ -7,7 +7,7 @@ use Rattle.solero_cell.specs.declared.views.Moment.{Moment}
 use Rattle.solero_cell.specs.declared.views.Record.{Record}
 use Rattle.solero_cell.specs.declared.views.View.{View}
 use Rattle.solero_cell.specs.CellRules.{HasOneHistory, looks_at}
-use Rattle.solero_cell.specs.Moments.{word_at}
+use Rattle.solero_cell.specs.Moments.{word_of_moment}
 
 -- Whatever a step of a seat does: if it keeps the rule and adds one look to what the seat tells,
 -- then no look had this place before it, and behind it the lock word is that of the look. So a word
@@ -18,4 +18,4 @@ AddedLooksAreTrue =
     (v w : View) → HasOneHistory opening words views → get_elem? views seat ≡ some v
     → w.looks ≡ v.looks ++ record { place = place; moment = m } ∷ []
     → HasOneHistory opening now (slice_set views seat w)
-    → (sum_by (looks_at place) views ≡ 0) × (slice_index now 0 ≡ word_at m)
+    → (sum_by (looks_at place) views ≡ 0) × (slice_index now 0 ≡ word_of_moment m)

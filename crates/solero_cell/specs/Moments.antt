@@ -10,9 +10,9 @@ use Rattle.solero_cell.specs.declared.views.Record.{Record}
 use Rattle.solero_cell.specs.Histories.{History, last_count}
 
 -- the lock word at a moment
-abbrev pub word_at : Moment → ℕ
-word_at (AtRest c) = word_of_lock (Free c)
-word_at (UnderWay c) = word_of_lock (Held 0)
+abbrev pub word_of_moment : Moment → ℕ
+word_of_moment (AtRest c) = word_of_lock (Free c)
+word_of_moment (UnderWay c) = word_of_lock (Held 0)
 
 -- moments in their order: at rest with a count, the next write under way, at rest with its count
 abbrev pub time_of : Moment → ℕ
@@ -26,9 +26,9 @@ moment_now opening h word =
     else AtRest (last_count opening h)
 
 -- moments from one to another, none of them before the one that it follows
-abbrev pub IsWay : (from : Moment) → List Moment → (to : Moment) → Type 0
-IsWay from [] to = from ≡ to
-IsWay from (m ∷ ms) to = (time_of from ≤ time_of m) × IsWay m ms to
+abbrev pub IsRowOfMoments : (from : Moment) → List Moment → (to : Moment) → Type 0
+IsRowOfMoments from [] to = from ≡ to
+IsRowOfMoments from (m ∷ ms) to = (time_of from ≤ time_of m) × IsRowOfMoments m ms to
 
 -- each look has found the moment at its place
 abbrev pub AllFound : (moments : List Moment) → List Look → Type 0

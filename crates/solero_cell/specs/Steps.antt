@@ -12,7 +12,7 @@ use Rattle.solero_cell.specs.declared.views.View.{View}
 use Rattle.solero_cell.specs.Histories.{History, IsRecordSeen, OwnStand, RecordStands}
 use Rattle.solero_cell.specs.CellViews.{record_of, noted, has_failed, forgot, has_read, has_taken}
 use Rattle.solero_cell.specs.CellViews.{has_looked, has_written, has_released, has_compared}
-use Rattle.solero_cell.specs.Moments.{word_at}
+use Rattle.solero_cell.specs.Moments.{word_of_moment}
 
 abbrev pub note_of : View → ℕ
 note_of v = unwrap_or v.note 0
@@ -39,7 +39,7 @@ pub record HasFoundHeld (was : View) (word : ℕ) (now : View) : Type 0 where
   pub place : ℕ
   pub count : ℕ
   pub view : now ≡ has_failed place (UnderWay count) was
-  pub word_is : word ≡ word_at (UnderWay count)
+  pub word_is : word ≡ word_of_moment (UnderWay count)
 
 abbrev pub NotedBy : LockWord → (word : ℕ) → (was now : View) → Type 0
 NotedBy (Free c) word was now = HasNoted was c now
@@ -63,19 +63,19 @@ pub record HasRead (was now : View) : Type 0 where
   pub seen : IsRecordSeen was (record_of (note_of was) was.loaded)
 
 -- the attempt has ended with the word of this moment
-pub record HasEnded (is_last : Bool) (was : View) (word : ℕ) (now : View) : Type 0 where
+pub record EndsAttempt (is_last : Bool) (was : View) (word : ℕ) (now : View) : Type 0 where
   pub place : ℕ
   pub moment : Moment
   pub view : now ≡ attempt_ended is_last place moment (forgot was)
-  pub word_is : word ≡ word_at moment
+  pub word_is : word ≡ word_of_moment moment
 
 pub record TellsFinish (is_last : Bool) (was : View) (word : ℕ) (now : View) : Type 0 where
   pub same : word ≡ noted_word was → HasRead was now
-  pub other : word ≢ noted_word was → HasEnded is_last was word now
+  pub other : word ≢ noted_word was → EndsAttempt is_last was word now
 
 -- ---- a take exchange: another word than the noted one fails the try
 
-pub record HasTaken (values : List ℕ) (was now : View) : Type 0 where
+pub record HasTakenLock (values : List ℕ) (was now : View) : Type 0 where
   pub place : ℕ
   pub view : now ≡ has_taken values (has_looked place (UnderWay (note_of was)) was)
 
@@ -83,10 +83,10 @@ pub record HasLost (was : View) (word : ℕ) (now : View) : Type 0 where
   pub place : ℕ
   pub moment : Moment
   pub view : now ≡ has_failed place moment was
-  pub word_is : word ≡ word_at moment
+  pub word_is : word ≡ word_of_moment moment
 
 pub record TellsTake (values : List ℕ) (was : View) (word : ℕ) (now : View) : Type 0 where
-  pub same : word ≡ noted_word was → HasTaken values was now
+  pub same : word ≡ noted_word was → HasTakenLock values was now
   pub other : word ≢ noted_word was → HasLost was word now
 
 -- ---- a release store
