@@ -7,7 +7,7 @@ use std::process::Abort;
 use std::sync::Wait;
 use std::sync::atomic::{AtomicU64, Ordering};
 use std::test::Fail;
-use std::thread::Threads;
+use std::thread::{Threads, yield_now};
 use test_classes::{
     ADDS, ADDS_TWICE, BANK, CLASS_PAIR, LOCKS_OUT, ROUNDS, SHARED, SHARED_AND_DONE, SPINS, WAITS,
     bytes_of,
@@ -234,17 +234,21 @@ fn threads_under_one_lock(rt: HostRuntime) -> Result<(), Fail> {
 /// Words behind the program's name, and up to which number workers pass the gate then.
 type Crowd = (&'static str, u8);
 
-const CROWDS: [Crowd; 14] = [
+const CROWDS: [Crowd; 18] = [
     ("--mode run --memory table --threads 1 A.class", 1),
+    ("--mode run --memory table --threads 2 A.class", 2),
     ("--mode run --memory table --threads 8 A.class", 8),
     ("--mode run --memory locked --threads 1 A.class", 1),
+    ("--mode run --memory locked --threads 2 A.class", 2),
     ("--mode run --memory locked --threads 8 A.class", 8),
     ("--mode record --threads 1 A.class", 1),
+    ("--mode record --threads 2 A.class", 2),
     ("--mode record --threads 8 A.class", 8),
     ("--mode load --threads 1 --size 1", 1),
     ("--mode load --threads 8 --size 1", 8),
     ("--mode cell --threads 1 --size 1", 1),
     ("--mode cell --threads 8 --size 1", 8),
+    ("--mode run --threads 2 --workers 2 A.class", 2),
     ("--mode run --threads 8 --workers 8 A.class", 8),
     ("--mode run --threads 8 --workers 3 A.class", 3),
     // Where there are more workers than threads the rest have no part in it.
@@ -262,8 +266,8 @@ fn words_in(alloc: Global, text: &str) -> Result<Vec<String>, AllocError> {
     Ok(words)
 }
 
-/// How often a worker looks for the others.
-const LOOKS: u32 = 100_000_000;
+/// How often a worker looks for the others, and lets them go on.
+const LOOKS: u32 = 2_000_000;
 
 /// A gate at which each worker up to a number looks for all the others.
 #[derive(Drop)]
@@ -307,6 +311,7 @@ impl Gate for Meeting {
                 self.met.fetch_add(1, Ordering::SeqCst);
                 return;
             }
+            yield_now();
         }
     }
 }
