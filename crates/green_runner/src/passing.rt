@@ -19,8 +19,8 @@ pub(crate) fn either(first: bool, second: bool) -> bool
 
 /// A turn of thread `t`, which the hands hold: tells whether it was live.
 fn take_turn(hands: &mut Hands, table: &CoreTable, p: &Checked, t: u8, turn: u32) -> bool
-    requires table { IsTableOf table.now.shared.table_id table.now.shared.key.program.told
-        table.now.shared.key.cfg hands.old }
+    requires table { IsTableOf table.now.table_id table.now.program
+        table.now.cfg hands.old }
     requires program { p.now ≡ hands.old.program }
     requires held { IsSome (held_in hands.old.threads t) }
     requires some { 0 < turn }
@@ -38,8 +38,8 @@ fn take_turn(hands: &mut Hands, table: &CoreTable, p: &Checked, t: u8, turn: u32
 
 /// The same where they may not hold it.
 fn give_turn(hands: &mut Hands, table: &CoreTable, p: &Checked, t: u8, turn: u32) -> bool
-    requires table { IsTableOf table.now.shared.table_id table.now.shared.key.program.told
-        table.now.shared.key.cfg hands.old }
+    requires table { IsTableOf table.now.table_id table.now.program
+        table.now.cfg hands.old }
     requires program { p.now ≡ hands.old.program }
     requires some { 0 < turn }
     ensures live { result ≡ is_live_thread (held_in hands.old.threads t) }
@@ -57,8 +57,8 @@ fn give_turn(hands: &mut Hands, table: &CoreTable, p: &Checked, t: u8, turn: u32
 /// before it is not live: `false` exactly where none was live, and then nothing changes. It waits
 /// for nobody and takes no memory.
 pub fn pass(hands: &mut Hands, table: &CoreTable, p: &Checked, turn: u32) -> bool
-    requires table { IsTableOf table.now.shared.table_id table.now.shared.key.program.told
-        table.now.shared.key.cfg hands.old }
+    requires table { IsTableOf table.now.table_id table.now.program
+        table.now.cfg hands.old }
     requires program { p.now ≡ hands.old.program }
     requires some { 0 < turn }
     ensures live { result ≡ true → (t : ℕ) × (is_live_thread (held_in hands.old.threads t) ≡ true) }

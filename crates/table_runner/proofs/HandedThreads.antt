@@ -8,7 +8,7 @@ use Rattle.laws_states.{specs.{GrowingRuns.IsOfRun, RunSafety.RunsAreSafe, State
 use Rattle.local_events.{specs.Locals.Follows, proofs.LocalLaws.{follows_on, follows_itself}}
 use Rattle.table_rule.{specs.Views.{View, held_in}, proofs.Entries.{held_here, held_else, set_held}}
 use Rattle.table_runner.specs.{Accessing.{NextEvent, made_by_event, Happens, IsEventMade, CanRun, IsBehindView}, Going.{HasGoneByEvent, GoesAt, IsBehindViewAt}}
-use Rattle.table_runner.specs.Handed.{Handed, AreHands, EachStands, event_at, viewed, IsEventOf, HasReportRoom, RoomIsThere}
+use Rattle.table_runner.specs.Handed.{Handed, AreHands, EachStands, event_at, steps_behind, viewed, IsEventOf, HasReportRoom, RoomIsThere}
 use mathlib.Core.Logic.{dite}
 use native.Mathlib.Decide.{ℕ_discrete}
 
@@ -129,18 +129,23 @@ module _ (h : Handed) (t : ℕ) (k : AreHands h) where
   hands_kept true was now w is f g = gone was now w is (g refl)
   hands_kept false was now w is f g = subst AreHands (sym (still was now w is (f refl).0 (f refl).1)) k
 
-  pub made_event : (was now : Option Thread) (w : View) → held_in h.threads t ≡ was
+  pub made_event : (was now : Option Thread) (w : View) (n : ℕ) → held_in h.threads t ≡ was
       → GoesAt h.program h.cfg t was h.view now w
-      → IsEventOf h t (record h { threads = slice_set h.threads t now; view = w })
-  made_event None now w is g = absurd g
-  made_event (Some x) None w is g = absurd g
-  made_event (Some x) (Some y) w is g = record {
+      → ((x : Thread) → was ≡ Some x → n ≡ steps_behind (wanted h.program x x.phase) h.steps)
+      → IsEventOf h t (record h { steps = n; threads = slice_set h.threads t now; view = w })
+  made_event None now w n is g counts = absurd g
+  made_event (Some x) None w n is g counts = absurd g
+  made_event (Some x) (Some y) w n is g counts = record {
     state = x;
     held = is;
     got = g.got;
     happens = g.happens;
-    leaves = λ i. record h { threads = slice_set h.threads t (Some (g.state i)); view = g.view i };
+    leaves = λ i. record h { steps = counts x refl i; threads = slice_set h.threads t (Some (g.state i)); view = g.view i };
   }
+
+-- what holds of hands doesn't speak of their steps
+pub counted_hands : (h : Handed) (n : ℕ) → AreHands h → AreHands (record h { steps = n })
+counted_hands h n k = record { run = k.run; vacant = k.vacant; each = k.each }
 
 -- ---- room for the reports
 

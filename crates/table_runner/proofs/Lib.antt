@@ -11,3 +11,4 @@ mod NextHands
 mod StartHands
 pub mod WorkerHands
 pub mod Stages
+mod CountedSteps

@@ -144,11 +144,11 @@ pub room_later : (h : Handed)
     → HasReportRoom (slice_set h.threads t now) room
 room_later h t was now w room k is g m = room_as (held_in h.threads 0) (held_in (slice_set h.threads t now) 0) room (sym (numbers_kept h.threads t now (given_at h t k was now w is g) 0)) m
 
-pub run_on : (h : Handed) (t : ℕ) (was now : Option Thread) (w : View) → AreHands h
+pub run_on : (h : Handed) (t : ℕ) (was now : Option Thread) (w : View) (n : ℕ) → AreHands h
     → held_in h.threads t ≡ was → GoesOnAt h.program h.cfg t was h.view now w
-    → IsRunOn t h (record h { threads = slice_set h.threads t now; view = w })
-run_on h t was now w k is g = record {
+    → IsRunOn t h (record h { steps = n; threads = slice_set h.threads t now; view = w })
+run_on h t was now w n k is g = record {
   same = record { program = refl; cfg = refl; table = refl; numbers = numbers_kept h.threads t now (given_at h t k was now w is g) };
-  others = λ u n. held_else h.threads t u now n;
+  others = λ u other. held_else h.threads t u now other;
   given = given_at h t k was now w is g;
 }

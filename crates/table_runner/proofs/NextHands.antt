@@ -79,17 +79,18 @@ none_next h b k all may none =
       may = may ts held;
       begun = subst (HasThreads h.threads) (sym (next_still h.program.program ts (sym (may ts held) ∙ none))) held;
       known = λ told. absurd (let no : false ≡ true = sym none ∙ told in cc);
+      counted = λ told. absurd (let no : false ≡ true = sym none ∙ told in cc);
       rest = refl;
     }
 
-pub is_next : (h : Handed) (w view : View) (z : TableId) (b : Bool) → AreHands h
+pub is_next : (h : Handed) (w view : View) (z : TableId) (n : ℕ) (b : Bool) → AreHands h
     → HoldsAll h.program h.threads → ((ts : List Thread) → HasThreads h.threads ts → b ≡ may_begin ts)
     → ((ts : List Thread) → HasThreads h.threads ts → HasThreads w (next_threads h.program.program ts)) → z ≡ h.table_id → view ≡ w
-    → IsNextPart h (record h { table_id = z; threads = w; view = view }) b
-is_next h w view z b k all may next same known =
+    → n ≡ suc h.steps → IsNextPart h (record h { table_id = z; steps = n; threads = w; view = view }) b
+is_next h w view z n b k all may next same known counts =
     let ts : List Thread = threads_of h.threads in
     let held : HasThreads h.threads ts = holds_its h k all in
-    record { threads = ts; held = held; may = may ts held; begun = next ts held; known = λ told. known; rest = λ i. record h { table_id = same i; threads = w; view = view } }
+    record { threads = ts; held = held; may = may ts held; begun = next ts held; known = λ told. known; counted = λ told. counts; rest = λ i. record h { table_id = same i; steps = n; threads = w; view = view } }
 
 begun_at : (v w : View) (n : ℕ) → BegunBy n v w → (u : ℕ) → is_some (held_in w u) ≡ is_some (held_in v u)
 begun_at v w zero b u = ap is_some (b u) ∙ sym (mapped_some (held_in v u))
@@ -101,7 +102,7 @@ same_begun : (v w : View) (o : Option Thread) → IsSome o → IsPartBegun o v w
 same_begun v w None some b = absurd (let bad : false ≡ true = some in cc)
 same_begun v w (Some x) some b = begun_at v w x.part b
 
-pub same_next : (h : Handed) (w view : View) (z : TableId) → IsSome (held_in h.threads 0)
+pub same_next : (h : Handed) (w view : View) (z : TableId) (n : ℕ) → IsSome (held_in h.threads 0)
     → IsPartBegun (held_in h.threads 0) h.threads w → z ≡ h.table_id
-    → AreSame h (record h { table_id = z; threads = w; view = view })
-same_next h w view z some b e = record { program = refl; cfg = refl; table = e; numbers = same_begun h.threads w (held_in h.threads 0) some b }
+    → AreSame h (record h { table_id = z; steps = n; threads = w; view = view })
+same_next h w view z n some b e = record { program = refl; cfg = refl; table = e; numbers = same_begun h.threads w (held_in h.threads 0) some b }

@@ -1,5 +1,5 @@
 -- What hands hold: a seat at the table of a run, and some threads of the run.
-use Rattle.std.specs.Prelude.{◌≡◌, ℕ, ◌≤◌, [], Option, Some, None, slice_set}
+use Rattle.std.specs.Prelude.{◌≡◌, ℕ, suc, ◌≤◌, [], Option, Some, None, slice_set}
 use Rattle.atomic_table.specs.Seated.{TableId}
 use Rattle.checked_program.specs.MarkedProgram.{MarkedProgram}
 use Rattle.jvm_types.specs.declared.outcome.ThreadReport.{ThreadReport}
@@ -15,6 +15,8 @@ pub record Handed : Type 0 where
   pub program : MarkedProgram
   pub cfg : Config
   pub table_id : TableId
+  -- how many steps were made from the seat
+  pub steps : ℕ
   -- the threads, by their numbers
   pub threads : View
   -- what the seat knows of them
@@ -57,14 +59,21 @@ abbrev pub viewed : Option Access → View → (t : ℕ) → Thread → View
 viewed None v t y = v
 viewed (Some a) v t y = slice_set v t (Some y)
 
+-- so many steps, with the one of an event that wants this access: an event without one makes none
+abbrev pub steps_behind : Option Access → (steps : ℕ) → ℕ
+steps_behind None n = n
+steps_behind (Some a) n = suc n
+
 abbrev pub hands_after : Handed → (t : ℕ) → Thread → (got : ℕ) → Handed
 hands_after h t x got = record h {
+  steps = steps_behind (wanted h.program x x.phase) h.steps;
   threads = slice_set h.threads t (Some (made_by_event (event_at h t x) got));
   view = viewed (wanted h.program x x.phase) h.view t (made_by_event (event_at h t x) got);
 }
 
--- the next event of thread t has happened in some state that a run reaches, and the hands are as it
--- leaves them
+-- The next event of thread t has happened in some state that a run reaches, and the hands are as it
+-- leaves them: one step more was made from their seat where it wants an access, and none where it
+-- doesn't.
 pub record IsEventOf (h : Handed) (t : ℕ) (after : Handed) : Type 0 where
   pub state : Thread
   pub held : held_in h.threads t ≡ Some state

@@ -1,3 +1,4 @@
+pub mod Stepping
 pub mod Accessing
 pub mod Handed
 pub mod Going

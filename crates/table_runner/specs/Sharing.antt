@@ -1,6 +1,6 @@
 -- Hands that are split and joined, and the begin of a part.
-use Rattle.std.specs.Prelude.{◌≡◌, ℕ, List, [], ◌∷◌, Bool, true, Option, Some, None, replicate}
-use Rattle.std.specs.Prelude.{slice_set}
+use Rattle.std.specs.Prelude.{◌≡◌, ℕ, suc, ◌+◌, List, [], ◌∷◌, Bool, true, Option, Some, None}
+use Rattle.std.specs.Prelude.{replicate, slice_set}
 use Rattle.std.specs.Option.{option_or}
 use Rattle.checked_program.specs.MarkedProgram.{MarkedProgram}
 use Rattle.machine_types.specs.Core.{Happening, core, may_begin, next_threads}
@@ -9,7 +9,7 @@ use Rattle.machine_types.specs.declared.config.Config.{Config}
 use Rattle.table_rule.specs.Views.{View, held_in, AllFollow, HasThreads, HoldsAll}
 use Rattle.table_runner.specs.Handed.{Handed}
 
--- ---- split
+-- ---- split: a step of the seat that is cut, and none of the new one
 
 abbrev pub view_without : (t : ℕ) → View → View
 view_without t v = slice_set v t None
@@ -19,10 +19,18 @@ abbrev pub only_thread : (t : ℕ) → View → View
 only_thread t v = slice_set (replicate 9 None) t (held_in v t)
 
 abbrev pub without_thread : Handed → (t : ℕ) → Handed
-without_thread h t = record h { threads = view_without t h.threads; view = view_without t h.view }
+without_thread h t = record h {
+  steps = suc h.steps;
+  threads = view_without t h.threads;
+  view = view_without t h.view;
+}
 
 abbrev pub thread_alone : Handed → (t : ℕ) → Handed
-thread_alone h t = record h { threads = only_thread t h.threads; view = only_thread t h.view }
+thread_alone h t = record h {
+  steps = 0;
+  threads = only_thread t h.threads;
+  view = only_thread t h.view;
+}
 
 -- ---- joined
 
@@ -32,11 +40,16 @@ merged [] w = w
 merged (o ∷ v) [] = o ∷ v
 merged (o ∷ v) (p ∷ w) = option_or o p ∷ merged v w
 
--- the first hands, when they hold what the others held
+-- the first hands, when they hold what the others held: with the steps of both, and the join's
 pub record AreJoined (h others after : Handed) : Type 0 where
   pub threads : (t : ℕ)
       → held_in after.threads t ≡ option_or (held_in h.threads t) (held_in others.threads t)
-  pub rest : after ≡ record h { threads = after.threads; view = merged h.view others.view }
+  pub rest : after
+      ≡ record h {
+        steps = suc (h.steps + others.steps);
+        threads = after.threads;
+        view = merged h.view others.view;
+      }
 
 -- ---- the begin of a part
 
@@ -47,9 +60,11 @@ pub record IsNextPart (h after : Handed) (begins : Bool) : Type 0 where
   pub held : HasThreads h.threads threads
   pub may : begins ≡ may_begin threads
   pub begun : HasThreads after.threads (next_threads h.program.program threads)
-  -- and then the seat knows its threads as they are
+  -- and then the seat knows its threads as they are, by one step
   pub known : begins ≡ true → after.view ≡ after.threads
-  pub rest : after ≡ record h { threads = after.threads; view = after.view }
+  pub counted : begins ≡ true → after.steps ≡ suc h.steps
+  pub rest : after
+      ≡ record h { steps = after.steps; threads = after.threads; view = after.view }
 
 -- the threads of a seat that has all of the run, and what the begin of a part makes of them
 pub record CanBegin (c : MarkedProgram) (cfg : Config) (v w : View) : Type 0 where

@@ -1,15 +1,11 @@
 //! The end of a run.
 
-ghost use Rattle.std.specs.Prelude.{◌≡◌, ◌≤◌, ◌∷◌, ℕ, List, [], Option, Some, IsSome};
-ghost use mathlib.Core.Option.{some};
-ghost use lib.ListN.{get_elem?};
+ghost use Rattle.std.specs.Prelude.{◌≡◌, ◌≤◌, ◌∷◌, [], Some, IsSome};
 ghost use Rattle.machine_types.specs.Core.{done_end};
 ghost use Rattle.machine_types.specs.Threads.{Thread};
-ghost use Rattle.table_rule.specs.Views.{ShowsRun};
 ghost use Rattle.table_runner.specs.Ending.{reported};
 
-use crate::rule::{CoreTable, MOST_THREADS, View};
-use atomic_table::Seat;
+use crate::rule::MOST_THREADS;
 use frames::ThreadState;
 use jvm_types::{End, Room, Rows, ThreadReport};
 
@@ -38,15 +34,4 @@ pub(crate) fn reports_of(
         }
     }
     room.into_rows()
-}
-
-/// Ends the table: its last words, and the views of its seats, are a state of the run.
-pub(crate) fn end_table(table: CoreTable, seat: Seat<(), View>)
-    requires table { seat.table_id ≡ table.shared.table_id }
-    requires vacant { table.shared.table_id.slots ≡ 0 }
-    ensures shows { (words : List ℕ) × (views : List (List (Option Thread)))
-        × ShowsRun table.shared.key.program.told table.shared.key.cfg words views
-        × (get_elem? views seat.id ≡ some seat.me.0) }
-{
-    table.close_with(seat).free();
 }

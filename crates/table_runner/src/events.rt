@@ -1,15 +1,17 @@
 //! The events of one thread, with their accesses on the table.
 
-ghost use Rattle.std.specs.Prelude.{◌≡◌, ◌<◌, true, false};
+ghost use Rattle.std.specs.Prelude.{◌≡◌, ◌<◌, Some, true, false};
 ghost use Rattle.machine_types.specs.Core.{is_live, is_live_thread};
+ghost use Rattle.machine_types.specs.Events.{wanted};
+ghost use Rattle.machine_types.specs.Threads.{Thread};
 ghost use Rattle.laws_states.specs.WorkLeft.{work_left};
 ghost use Rattle.table_runner.specs.Accessing.{CanRun, IsBehindView};
 ghost use Rattle.table_runner.specs.Going.{HasGoneByEvent, GoesAt, IsLaterThread, GoesOnAt};
 ghost use Rattle.table_runner.specs.Going.{IsBehindViewAt};
+ghost use Rattle.table_runner.specs.Handed.{steps_behind};
 
 use crate::access::access;
-use crate::rule::{CoreTable, View};
-use atomic_table::Seat;
+use crate::stepping::{CoreSeat, CoreTable};
 use checked_program::Checked;
 use frames::ThreadState;
 use laws_states::{events_lessen_work, parts_keep_threads, runs_are_safe, runs_have_state};
@@ -20,19 +22,20 @@ use step_core::{apply_effect, run_local, step_or_want};
 
 /// The next event of thread `t`, which is live, with this state.
 #[inline(always)]
-fn go(s: &mut ThreadState, seat: &mut Seat<(), View>, table: &CoreTable, p: &Checked, t: u8)
+fn go(s: &mut ThreadState, seat: &mut CoreSeat, table: &CoreTable, p: &Checked, t: u8)
     requires live { is_live s.old.phase ≡ true }
-    requires table { seat.old.table_id ≡ table.now.shared.table_id }
-    requires program { table.now.shared.key.program.told ≡ p.now }
-    requires run { CanRun p.now table.now.shared.key.cfg table.now.shared.table_id.words }
+    requires table { seat.old.table_id ≡ table.now.table_id }
+    requires program { table.now.program ≡ p.now }
+    requires run { CanRun p.now table.now.cfg table.now.table_id.words }
     requires stands { IsBehindView
-        (record { program = p.now; cfg = table.now.shared.key.cfg; number = t; state = s.old })
-        seat.old.me.0 }
-    ensures seat { (seat.new.table_id ≡ seat.old.table_id) × (seat.new.id ≡ seat.old.id)
-        × (seat.new.me.1 ≡ seat.old.me.1) }
+        (record { program = p.now; cfg = table.now.cfg; number = t; state = s.old })
+        seat.old.view }
+    ensures seat { (seat.new.table_id ≡ seat.old.table_id) × (seat.new.id ≡ seat.old.id) }
+    ensures counted { seat.new.steps
+        ≡ steps_behind (wanted p.now s.old s.old.phase) seat.old.steps }
     ensures goes { HasGoneByEvent
-        (record { program = p.now; cfg = table.now.shared.key.cfg; number = t; state = s.old })
-        seat.old.me.0 s.new seat.new.me.0 }
+        (record { program = p.now; cfg = table.now.cfg; number = t; state = s.old })
+        seat.old.view s.new seat.new.view }
 {
     runs_are_safe();
     parts_keep_threads();
@@ -48,21 +51,23 @@ fn go(s: &mut ThreadState, seat: &mut Seat<(), View>, table: &CoreTable, p: &Che
 #[inline(always)]
 pub(crate) fn go_at(
     place: &mut Option<ThreadState>,
-    seat: &mut Seat<(), View>,
+    seat: &mut CoreSeat,
     table: &CoreTable,
     p: &Checked,
     t: u8,
 ) -> bool
-    requires table { seat.old.table_id ≡ table.now.shared.table_id }
-    requires program { table.now.shared.key.program.told ≡ p.now }
-    requires run { CanRun p.now table.now.shared.key.cfg table.now.shared.table_id.words }
-    requires stands { IsBehindViewAt p.now table.now.shared.key.cfg t place.old seat.old.me.0 }
+    requires table { seat.old.table_id ≡ table.now.table_id }
+    requires program { table.now.program ≡ p.now }
+    requires run { CanRun p.now table.now.cfg table.now.table_id.words }
+    requires stands { IsBehindViewAt p.now table.now.cfg t place.old seat.old.view }
     ensures live { result ≡ is_live_thread place.old }
-    ensures seat { (seat.new.table_id ≡ seat.old.table_id) × (seat.new.id ≡ seat.old.id)
-        × (seat.new.me.1 ≡ seat.old.me.1) }
-    ensures still { result ≡ false → (place.new ≡ place.old) × (seat.new.me.0 ≡ seat.old.me.0) }
+    ensures seat { (seat.new.table_id ≡ seat.old.table_id) × (seat.new.id ≡ seat.old.id) }
+    ensures still { result ≡ false → (place.new ≡ place.old) × (seat.new.view ≡ seat.old.view)
+        × (seat.new.steps ≡ seat.old.steps) }
+    ensures counted { result ≡ true → (x : Thread) → place.old ≡ Some x
+        → seat.new.steps ≡ steps_behind (wanted p.now x x.phase) seat.old.steps }
     ensures goes { result ≡ true
-        → GoesAt p.now table.now.shared.key.cfg t place.old seat.old.me.0 place.new seat.new.me.0 }
+        → GoesAt p.now table.now.cfg t place.old seat.old.view place.new seat.new.view }
 {
     match place {
         Some(s) => {
@@ -95,19 +100,18 @@ fn give_way(before: u32, turns: u32) {
 /// The next event of thread `t`, which is live, and those behind it that want no access: they leave
 /// less for it to do.
 #[inline(always)]
-fn go_far(s: &mut ThreadState, seat: &mut Seat<(), View>, table: &CoreTable, p: &Checked, t: u8)
+fn go_far(s: &mut ThreadState, seat: &mut CoreSeat, table: &CoreTable, p: &Checked, t: u8)
     requires live { is_live s.old.phase ≡ true }
-    requires table { seat.old.table_id ≡ table.now.shared.table_id }
-    requires program { table.now.shared.key.program.told ≡ p.now }
-    requires run { CanRun p.now table.now.shared.key.cfg table.now.shared.table_id.words }
+    requires table { seat.old.table_id ≡ table.now.table_id }
+    requires program { table.now.program ≡ p.now }
+    requires run { CanRun p.now table.now.cfg table.now.table_id.words }
     requires stands { IsBehindView
-        (record { program = p.now; cfg = table.now.shared.key.cfg; number = t; state = s.old })
-        seat.old.me.0 }
-    ensures seat { (seat.new.table_id ≡ seat.old.table_id) × (seat.new.id ≡ seat.old.id)
-        × (seat.new.me.1 ≡ seat.old.me.1) }
+        (record { program = p.now; cfg = table.now.cfg; number = t; state = s.old })
+        seat.old.view }
+    ensures seat { (seat.new.table_id ≡ seat.old.table_id) × (seat.new.id ≡ seat.old.id) }
     ensures goes { IsLaterThread
-        (record { program = p.now; cfg = table.now.shared.key.cfg; number = t; state = s.old })
-        seat.old.me.0 s.new seat.new.me.0 }
+        (record { program = p.now; cfg = table.now.cfg; number = t; state = s.old })
+        seat.old.view s.new seat.new.view }
     ensures less { work_left s.new < work_left s.old }
 {
     given_is_kept();
@@ -122,19 +126,18 @@ fn go_far(s: &mut ThreadState, seat: &mut Seat<(), View>, table: &CoreTable, p: 
 }
 
 /// The events of thread `t` until it is not live. Each of them leaves less for it to do.
-fn go_on(s: &mut ThreadState, seat: &mut Seat<(), View>, table: &CoreTable, p: &Checked, t: u8)
-    requires table { seat.old.table_id ≡ table.now.shared.table_id }
-    requires program { table.now.shared.key.program.told ≡ p.now }
-    requires run { CanRun p.now table.now.shared.key.cfg table.now.shared.table_id.words }
+fn go_on(s: &mut ThreadState, seat: &mut CoreSeat, table: &CoreTable, p: &Checked, t: u8)
+    requires table { seat.old.table_id ≡ table.now.table_id }
+    requires program { table.now.program ≡ p.now }
+    requires run { CanRun p.now table.now.cfg table.now.table_id.words }
     requires stands { IsBehindView
-        (record { program = p.now; cfg = table.now.shared.key.cfg; number = t; state = s.old })
-        seat.old.me.0 }
+        (record { program = p.now; cfg = table.now.cfg; number = t; state = s.old })
+        seat.old.view }
     ensures over { is_live s.new.phase ≡ false }
-    ensures seat { (seat.new.table_id ≡ seat.old.table_id) × (seat.new.id ≡ seat.old.id)
-        × (seat.new.me.1 ≡ seat.old.me.1) }
+    ensures seat { (seat.new.table_id ≡ seat.old.table_id) × (seat.new.id ≡ seat.old.id) }
     ensures goes { IsLaterThread
-        (record { program = p.now; cfg = table.now.shared.key.cfg; number = t; state = s.old })
-        seat.old.me.0 s.new seat.new.me.0 }
+        (record { program = p.now; cfg = table.now.cfg; number = t; state = s.old })
+        seat.old.view s.new seat.new.view }
 {
     while s.is_live() {
         go_far(s, seat, table, p, t);
@@ -144,20 +147,19 @@ fn go_on(s: &mut ThreadState, seat: &mut Seat<(), View>, table: &CoreTable, p: &
 /// The same where it is here.
 pub(crate) fn go_on_at(
     place: &mut Option<ThreadState>,
-    seat: &mut Seat<(), View>,
+    seat: &mut CoreSeat,
     table: &CoreTable,
     p: &Checked,
     t: u8,
 )
-    requires table { seat.old.table_id ≡ table.now.shared.table_id }
-    requires program { table.now.shared.key.program.told ≡ p.now }
-    requires run { CanRun p.now table.now.shared.key.cfg table.now.shared.table_id.words }
-    requires stands { IsBehindViewAt p.now table.now.shared.key.cfg t place.old seat.old.me.0 }
+    requires table { seat.old.table_id ≡ table.now.table_id }
+    requires program { table.now.program ≡ p.now }
+    requires run { CanRun p.now table.now.cfg table.now.table_id.words }
+    requires stands { IsBehindViewAt p.now table.now.cfg t place.old seat.old.view }
     ensures over { is_live_thread place.new ≡ false }
-    ensures seat { (seat.new.table_id ≡ seat.old.table_id) × (seat.new.id ≡ seat.old.id)
-        × (seat.new.me.1 ≡ seat.old.me.1) }
-    ensures goes { GoesOnAt p.now table.now.shared.key.cfg t place.old seat.old.me.0 place.new
-        seat.new.me.0 }
+    ensures seat { (seat.new.table_id ≡ seat.old.table_id) × (seat.new.id ≡ seat.old.id) }
+    ensures goes { GoesOnAt p.now table.now.cfg t place.old seat.old.view place.new
+        seat.new.view }
 {
     match place {
         Some(s) => go_on(s, seat, table, p, t),

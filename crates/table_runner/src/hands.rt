@@ -13,12 +13,12 @@ ghost use Rattle.table_runner.specs.Running.{AreSame, IsRunOn};
 ghost use Rattle.table_runner.specs.Sharing.{AreJoined, IsNextPart, thread_alone, view_without};
 ghost use Rattle.table_runner.specs.Sharing.{without_thread};
 
-use crate::closing::{done_end, end_table, reports_of};
+use crate::closing::{done_end, reports_of};
 use crate::events::{go_at, go_on_at};
 use crate::parts::{begin_parts, may_begin};
-use crate::rule::{CoreTable, MOST_THREADS, View};
+use crate::rule::MOST_THREADS;
 use crate::sharing::{begin, cut, glue};
-use atomic_table::Seat;
+use crate::stepping::{CoreSeat, CoreTable};
 use checked_program::Checked;
 use frames::ThreadState;
 use jvm_types::{Outcome, Room, ThreadReport};
@@ -36,7 +36,7 @@ use std::marker::Model;
 pub struct Hands {
     program: Told<Checked>,
     cfg: Config,
-    seat: Seat<(), View>,
+    seat: CoreSeat,
     threads: [Option<ThreadState>; MOST_THREADS],
     // with thread 0
     reports: Option<Room<ThreadReport>>,
@@ -53,8 +53,9 @@ impl Model for Hands {
           program = h.program.told;
           cfg = h.cfg;
           table_id = h.seat.table_id;
+          steps = h.seat.steps;
           threads = h.threads;
-          view = h.seat.me.0;
+          view = h.seat.view;
         } };
 
     ghost invariant = { λ h.
@@ -62,10 +63,10 @@ impl Model for Hands {
           program = h.program.told;
           cfg = h.cfg;
           table_id = h.seat.table_id;
+          steps = h.seat.steps;
           threads = h.threads;
-          view = h.seat.me.0;
-        }) × (h.seat.me.1 ≡ [])
-        × HasReportRoom h.threads h.reports };
+          view = h.seat.view;
+        }) × HasReportRoom h.threads h.reports };
 }
 
 impl Hands {
@@ -73,14 +74,14 @@ impl Hands {
     pub(crate) fn held(
         p: &Checked,
         cfg: &Config,
-        seat: Seat<(), View>,
+        seat: CoreSeat,
         threads: [Option<ThreadState>; MOST_THREADS],
         reports: Room<ThreadReport>,
     ) -> Hands
         requires settings { AreSettings cfg.now × HaveWidth cfg.now }
         requires words { (seat.table_id.words ≡ length (start p.now cfg.now).words)
             × (seat.table_id.slots ≡ 0) }
-        requires seat { seat.me ≡ (map Some (start p.now cfg.now).threads, []) }
+        requires seat { seat.view ≡ map Some (start p.now cfg.now).threads }
         requires threads { HasThreads threads (start p.now cfg.now).threads }
         requires room { (reports.items ≡ []) × (9 ≤ reports.spare) }
         ensures { result
@@ -88,8 +89,9 @@ impl Hands {
               program = p.now;
               cfg = cfg.now;
               table_id = seat.table_id;
+              steps = seat.steps;
               threads = threads;
-              view = seat.me.0;
+              view = seat.view;
             } }
     {
         let _checked = p.program();
@@ -121,11 +123,11 @@ impl Hands {
     }
 
     /// The next event of thread `t`: `false` where it is not live, and then nothing changes. It
-    /// happens in a state that the run reaches; where it wants an access, that is one step on one
-    /// word, by which the seat knows what the thread becomes.
+    /// happens in a state that the run reaches; where it wants an access, that is exactly one step
+    /// on one word, by which the seat knows what the thread becomes, and else there is none.
     pub fn event(&mut self, table: &CoreTable, p: &Checked, t: u8) -> bool
-        requires table { IsTableOf table.now.shared.table_id table.now.shared.key.program.told
-            table.now.shared.key.cfg self.old }
+        requires table { IsTableOf table.now.table_id table.now.program
+            table.now.cfg self.old }
         requires program { p.now ≡ self.old.program }
         requires held { IsSome (held_in self.old.threads t) }
         ensures live { result ≡ is_live_thread (held_in self.old.threads t) }
@@ -137,8 +139,8 @@ impl Hands {
 
     /// The events of thread `t` until it is not live.
     pub(crate) fn run(&mut self, table: &CoreTable, p: &Checked, t: u8)
-        requires table { IsTableOf table.now.shared.table_id table.now.shared.key.program.told
-            table.now.shared.key.cfg self.old }
+        requires table { IsTableOf table.now.table_id table.now.program
+            table.now.cfg self.old }
         requires program { p.now ≡ self.old.program }
         requires held { IsSome (held_in self.old.threads t) }
         ensures over { is_live_thread (held_in self.new.threads t) ≡ false }
@@ -149,8 +151,8 @@ impl Hands {
 
     /// Hands that hold thread `t` alone, which these no longer hold.
     pub fn split(&mut self, table: &CoreTable, t: u8) -> Hands
-        requires table { IsTableOf table.now.shared.table_id table.now.shared.key.program.told
-            table.now.shared.key.cfg self.old }
+        requires table { IsTableOf table.now.table_id table.now.program
+            table.now.cfg self.old }
         requires held { IsSome (held_in self.old.threads t) }
         requires another { (u : ℕ) × (u ≢ t) × IsSome (held_in self.old.threads u) }
         ensures rest { self.new ≡ without_thread self.old t }
@@ -172,10 +174,10 @@ impl Hands {
 
     /// These hold what the others held.
     pub fn join(&mut self, table: &CoreTable, other: Hands)
-        requires table { IsTableOf table.now.shared.table_id table.now.shared.key.program.told
-            table.now.shared.key.cfg self.old }
-        requires other { IsTableOf table.now.shared.table_id table.now.shared.key.program.told
-            table.now.shared.key.cfg other }
+        requires table { IsTableOf table.now.table_id table.now.program
+            table.now.cfg self.old }
+        requires other { IsTableOf table.now.table_id table.now.program
+            table.now.cfg other }
         ensures { AreJoined self.old other self.new }
     {
         let Hands {
@@ -193,8 +195,8 @@ impl Hands {
     /// Begins the next part, where these hands hold all threads: `false` where it may not begin,
     /// and then nothing changes.
     pub fn next(&mut self, table: &CoreTable, p: &Checked) -> bool
-        requires table { IsTableOf table.now.shared.table_id table.now.shared.key.program.told
-            table.now.shared.key.cfg self.old }
+        requires table { IsTableOf table.now.table_id table.now.program
+            table.now.cfg self.old }
         requires program { p.now ≡ self.old.program }
         requires all { HoldsAll self.old.program self.old.threads }
         ensures next { IsNextPart self.old self.new result }
@@ -216,8 +218,8 @@ impl Hands {
     /// What the run came to, where these hands hold all of its threads: the outcome of a state that
     /// it reaches, whose threads are these.
     pub fn close(self, table: CoreTable) -> Outcome
-        requires table { IsTableOf table.shared.table_id table.shared.key.program.told
-            table.shared.key.cfg self }
+        requires table { IsTableOf table.table_id table.program
+            table.cfg self }
         requires all { HoldsAll self.program self.threads }
         ensures { IsOutcome self result }
     {
@@ -229,7 +231,7 @@ impl Hands {
             reports,
         } = self;
         let done = done_end(&threads[0]);
-        end_table(table, seat);
+        table.close(seat);
         Outcome {
             threads: reports_of(&mut threads, the_room(reports)),
             done,

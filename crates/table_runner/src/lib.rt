@@ -16,9 +16,11 @@ mod parts;
 mod rule;
 mod running;
 mod sharing;
+mod stepping;
 mod workers;
 
 pub use hands::Hands;
 pub use opening::table;
-pub use rule::{About, CoreRule, CoreTable};
+pub use rule::{About, CoreRule};
 pub use running::{end_run, run_init, run_rest, run_table};
+pub use stepping::CoreTable;

@@ -2,20 +2,23 @@
 
 ghost use Rattle.std.specs.Prelude.{ℕ};
 
-use atomic_table::{Join, Play, Split, Table, TableRule};
+use crate::stepping::{Cutting, Joining, Telling};
+use atomic_table::TableRule;
 use checked_program::Checked;
 use frames::ThreadState;
 use lists::Told;
 use machine_types::Config;
-use std::alloc::Global;
 use std::marker::{Brand, PhantomData};
 
 /// The most threads of a run: thread 0 and the workers.
 pub const MOST_THREADS: usize = 9;
 
-/// What a seat knows: of each thread that its hands hold, the state behind its last access. No
-/// value of it is made.
+/// What a seat knows of each thread that its hands hold: the state behind its last access. No value
+/// of it is made.
 pub type View = [Option<ThreadState>; MOST_THREADS];
+
+/// What a seat knows: how many steps were made from it, and its threads.
+pub type CountedView = (u64, View);
 
 /// The program and the settings of a run. Contracts alone see the program.
 #[derive(Drop)]
@@ -27,18 +30,17 @@ pub struct About {
 /// The rule: the words, and the threads of all views, are those of a state that a run reaches.
 pub struct CoreRule;
 
-impl TableRule<(), View, About> for CoreRule {
+impl TableRule<(), CountedView, About> for CoreRule {
     ghost use Rattle.std.specs.Prelude.{map, Some};
     ghost use Rattle.machine_types.specs.Core.{start};
     ghost use Rattle.table_rule.specs.Views.{ShowsRun};
+    ghost use Rattle.table_runner.specs.Stepping.{threads_seen};
 
-    ghost holds = { λ key s. ShowsRun key.program.told key.cfg s.words s.views };
+    ghost holds = { λ key s.
+        ShowsRun key.program.told key.cfg s.words (map threads_seen s.views) };
 
-    ghost first = { λ key. map Some (start key.program.told key.cfg).threads };
+    ghost first = { λ key. (0, map Some (start key.program.told key.cfg).threads) };
 }
-
-/// The words of a run.
-pub type CoreTable = Table<(), View, About, CoreRule, Global>;
 
 /// Which event has the access. A call at `Brand` picks it.
 pub(crate) trait Making {
@@ -59,11 +61,10 @@ pub(crate) struct Makes<B> {
     of: PhantomData<B>,
 }
 
-impl<B: Making> Play<(), View> for Makes<B> {
-    ghost use Rattle.std.specs.Prelude.{◌≡◌};
+impl<B: Making> Telling for Makes<B> {
     ghost use Rattle.table_runner.specs.Accessing.{Tells};
 
-    ghost then = { λ s m r n. Tells B.event m.0 r n.0 × (n.1 ≡ m.1) };
+    ghost tells = { Tells B.event };
 }
 
 /// The access of an event that ends a part of its thread: it finds nothing.
@@ -71,11 +72,10 @@ pub(crate) struct Rests<B> {
     of: PhantomData<B>,
 }
 
-impl<B: Making> Play<(), View> for Rests<B> {
-    ghost use Rattle.std.specs.Prelude.{◌≡◌};
+impl<B: Making> Telling for Rests<B> {
     ghost use Rattle.table_runner.specs.Accessing.{Tells};
 
-    ghost then = { λ s m r n. Tells B.event m.0 0 n.0 × (n.1 ≡ m.1) };
+    ghost tells = { λ was got now. Tells B.event was 0 now };
 }
 
 /// Which thread goes. A call at `Brand` picks it.
@@ -92,7 +92,7 @@ pub(crate) struct Cuts<B> {
     of: PhantomData<B>,
 }
 
-impl<B: Numbering> Split<View> for Cuts<B> {
+impl<B: Numbering> Cutting for Cuts<B> {
     ghost use Rattle.table_runner.specs.Sharing.{only_thread, view_without};
 
     ghost left = { view_without B.number };
@@ -103,7 +103,7 @@ impl<B: Numbering> Split<View> for Cuts<B> {
 /// Two views become one.
 pub(crate) struct Joins;
 
-impl Join<View> for Joins {
+impl Joining for Joins {
     ghost use Rattle.std.specs.Prelude.{[]};
     ghost use Rattle.table_runner.specs.Sharing.{merged};
 
@@ -131,9 +131,8 @@ pub(crate) struct Begins<B> {
     of: PhantomData<B>,
 }
 
-impl<B: Starting> Play<(), View> for Begins<B> {
-    ghost use Rattle.std.specs.Prelude.{◌≡◌};
+impl<B: Starting> Telling for Begins<B> {
     ghost use Rattle.table_runner.specs.Sharing.{TellsBegin};
 
-    ghost then = { λ s m r n. TellsBegin B.part n.0 × (n.1 ≡ m.1) };
+    ghost tells = { λ was got now. TellsBegin B.part now };
 }

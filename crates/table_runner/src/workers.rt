@@ -1,21 +1,21 @@
 //! The workers of a run, each with hands of its own.
 
-ghost use Rattle.std.specs.Prelude.{◌≡◌, ◌+◌, ◌<◌, ◌≤◌, length, IfOk, OnOk};
+ghost use Rattle.std.specs.Prelude.{◌≡◌, ◌+◌, ◌<◌, ◌≤◌, [], length};
+ghost use Rattle.std.specs.Vec.{vec_capacity};
 ghost use Rattle.table_rule.specs.Views.{held_in};
 ghost use Rattle.table_runner.specs.Running.{AreSame, AreWorkers, IsWorker, RestOf, RunsHere};
 
 use crate::hands::Hands;
-use crate::rule::CoreTable;
+use crate::stepping::CoreTable;
 use checked_program::Checked;
 use jvm_types::Gate;
-use std::alloc::{AllocError, Global};
 use std::thread::{Threads, for_each_mut};
 
 /// A worker: it passes the gate, and makes the events of its thread.
 fn work<G: Gate>(hands: &mut Hands, table: &CoreTable, p: &Checked, gate: &G, t: u8)
-    requires worker { IsWorker table.now.shared.table_id table.now.shared.key.program.told
-        table.now.shared.key.cfg t hands.old }
-    requires program { p.now ≡ table.now.shared.key.program.told }
+    requires worker { IsWorker table.now.table_id table.now.program
+        table.now.cfg t hands.old }
+    requires program { p.now ≡ table.now.program }
     ensures same { AreSame hands.old hands.new }
 {
     gate.pass(t);
@@ -31,11 +31,11 @@ fn run_each<R: Threads + Sync, G: Gate + Sync>(
     hands: &mut [Hands],
 )
     requires few { length hands.old ≤ 8 }
-    requires workers { AreWorkers table.now.shared.table_id table.now.shared.key.program.told
-        table.now.shared.key.cfg hands.old }
-    requires program { p.now ≡ table.now.shared.key.program.told }
-    ensures workers { AreWorkers table.now.shared.table_id table.now.shared.key.program.told
-        table.now.shared.key.cfg hands.new }
+    requires workers { AreWorkers table.now.table_id table.now.program
+        table.now.cfg hands.old }
+    requires program { p.now ≡ table.now.program }
+    ensures workers { AreWorkers table.now.table_id table.now.program
+        table.now.cfg hands.new }
     ensures count { length hands.new ≡ length hands.old }
 {
     let count = hands.len();
@@ -47,72 +47,73 @@ fn run_each<R: Threads + Sync, G: Gate + Sync>(
         hands,
         count,
         &|i: usize, h: &mut Hands|
-            requires { (i < 8) × IsWorker table.now.shared.table_id
-                table.now.shared.key.program.told table.now.shared.key.cfg (i + 1) h.now
-                × (p.now ≡ table.now.shared.key.program.told) }
+            requires { (i < 8) × IsWorker table.now.table_id
+                table.now.program table.now.cfg (i + 1) h.now
+                × (p.now ≡ table.now.program) }
             ensures { AreSame h.entry.now h.exit.now }
         { work(h, table, p, gate, (i + 1) as u8) },
     );
 }
 
-/// Hands for each worker.
+/// Hands for each worker, for whom there is room.
 fn split_workers(
-    alloc: Global,
     table: &CoreTable,
     hands: &mut Hands,
     p: &Checked,
-) -> Result<Vec<Hands>, AllocError>
-    requires program { p.now ≡ table.now.shared.key.program.told }
-    requires here { RunsHere table.now.shared.table_id table.now.shared.key.program.told
-        table.now.shared.key.cfg hands.old }
-    ensures workers { IfOk result (λ ws.
-        AreWorkers table.now.shared.table_id table.now.shared.key.program.told
-        table.now.shared.key.cfg ws.items × (length ws.items ≡ p.now.program.workers)) }
-    ensures rest { OnOk result (RestOf table.now.shared.table_id table.now.shared.key.program.told
-        table.now.shared.key.cfg (p.now.program.workers + 1) (held_in hands.old.threads 0)
-        hands.new) }
-    ensures few { IfOk result (λ ws. length ws.items ≤ 8) }
+    mut workers: Vec<Hands>,
+) -> Vec<Hands>
+    requires program { p.now ≡ table.now.program }
+    requires here { RunsHere table.now.table_id table.now.program
+        table.now.cfg hands.old }
+    requires none { workers.items ≡ [] }
+    requires room { 8 ≤ vec_capacity workers }
+    ensures workers { AreWorkers table.now.table_id table.now.program table.now.cfg result.items
+        × (length result.items ≡ p.now.program.workers) }
+    ensures rest { RestOf table.now.table_id table.now.program table.now.cfg
+        (p.now.program.workers + 1) (held_in hands.old.threads 0) hands.new }
+    ensures few { length result.items ≤ 8 }
 {
-    let mut workers = Vec::new(alloc);
     let count = p.workers();
     for i in 0..count {
-        workers.push(hands.split(table, i + 1))?;
+        workers.push_reserved(hands.split(table, i + 1));
     }
-    Ok(workers)
+    workers
 }
 
 /// Takes in the hands of all workers.
 fn join_workers(table: &CoreTable, hands: &mut Hands, mut workers: Vec<Hands>)
-    requires workers { AreWorkers table.now.shared.table_id table.now.shared.key.program.told
-        table.now.shared.key.cfg workers.items }
-    requires rest { RestOf table.now.shared.table_id table.now.shared.key.program.told
-        table.now.shared.key.cfg (length workers.items + 1) (held_in hands.old.threads 0)
+    requires workers { AreWorkers table.now.table_id table.now.program
+        table.now.cfg workers.items }
+    requires rest { RestOf table.now.table_id table.now.program
+        table.now.cfg (length workers.items + 1) (held_in hands.old.threads 0)
         hands.old }
-    ensures { RestOf table.now.shared.table_id table.now.shared.key.program.told
-        table.now.shared.key.cfg 1 (held_in hands.old.threads 0) hands.new }
+    ensures { RestOf table.now.table_id table.now.program
+        table.now.cfg 1 (held_in hands.old.threads 0) hands.new }
 {
     while let Some(worker) = workers.pop() {
         hands.join(table, worker);
     }
 }
 
-/// The events of the workers, each on a thread of its own. Thread 0 stays as it is.
+/// The events of the workers, each on a thread of its own, for whose hands there is room. Thread 0
+/// stays as it is.
 pub(crate) fn run_apart<R: Threads + Sync, G: Gate + Sync>(
     rt: &R,
-    alloc: Global,
     gate: &G,
     table: &CoreTable,
     hands: &mut Hands,
     p: &Checked,
-) -> Result<(), AllocError>
-    requires program { p.now ≡ table.now.shared.key.program.told }
-    requires here { RunsHere table.now.shared.table_id table.now.shared.key.program.told
-        table.now.shared.key.cfg hands.old }
-    ensures { OnOk result (RestOf table.now.shared.table_id table.now.shared.key.program.told
-        table.now.shared.key.cfg 1 (held_in hands.old.threads 0) hands.new) }
+    workers: Vec<Hands>,
+)
+    requires program { p.now ≡ table.now.program }
+    requires here { RunsHere table.now.table_id table.now.program
+        table.now.cfg hands.old }
+    requires none { workers.items ≡ [] }
+    requires room { 8 ≤ vec_capacity workers }
+    ensures { RestOf table.now.table_id table.now.program table.now.cfg 1
+        (held_in hands.old.threads 0) hands.new }
 {
-    let mut workers = split_workers(alloc, table, hands, p)?;
+    let mut workers = split_workers(table, hands, p, workers);
     run_each(rt, gate, table, p, workers.as_mut_slice());
     join_workers(table, hands, workers);
-    Ok(())
 }

@@ -37,9 +37,9 @@ fn load(alloc: Global, class: &str) -> Result<Checked, FileError> {
 
 /// The events of thread `t` until it is not live.
 fn go_on(hands: &mut Hands, table: &CoreTable, p: &Checked, t: u8)
-    requires worker { IsWorker table.now.shared.table_id table.now.shared.key.program.told
-        table.now.shared.key.cfg t hands.old }
-    requires program { p.now ≡ table.now.shared.key.program.told }
+    requires worker { IsWorker table.now.table_id table.now.program
+        table.now.cfg t hands.old }
+    requires program { p.now ≡ table.now.program }
     ensures { AreSame hands.old hands.new }
 {
     for _ in 0..u64::MAX {
@@ -51,11 +51,11 @@ fn go_on(hands: &mut Hands, table: &CoreTable, p: &Checked, t: u8)
 
 /// The events of thread 0, which the hands hold.
 fn go_alone(rt: &impl Abort, hands: &mut Hands, table: &CoreTable, p: &Checked)
-    requires table { IsTableOf table.now.shared.table_id table.now.shared.key.program.told
-        table.now.shared.key.cfg hands.old }
-    requires program { p.now ≡ table.now.shared.key.program.told }
-    ensures { IsTableOf table.now.shared.table_id table.now.shared.key.program.told
-        table.now.shared.key.cfg hands.new }
+    requires table { IsTableOf table.now.table_id table.now.program
+        table.now.cfg hands.old }
+    requires program { p.now ≡ table.now.program }
+    ensures { IsTableOf table.now.table_id table.now.program
+        table.now.cfg hands.new }
 {
     assert!(rt; hands.holds(0));
     go_on(hands, table, p, 0);
@@ -64,11 +64,11 @@ fn go_alone(rt: &impl Abort, hands: &mut Hands, table: &CoreTable, p: &Checked)
 /// The events of the workers, each on a thread of its own.
 fn go_apart<R: Threads + Sync>(rt: &R, workers: &mut [Hands], table: &CoreTable, p: &Checked)
     requires few { length workers.old ≤ 8 }
-    requires workers { AreWorkers table.now.shared.table_id table.now.shared.key.program.told
-        table.now.shared.key.cfg workers.old }
-    requires program { p.now ≡ table.now.shared.key.program.told }
-    ensures workers { AreWorkers table.now.shared.table_id table.now.shared.key.program.told
-        table.now.shared.key.cfg workers.new }
+    requires workers { AreWorkers table.now.table_id table.now.program
+        table.now.cfg workers.old }
+    requires program { p.now ≡ table.now.program }
+    ensures workers { AreWorkers table.now.table_id table.now.program
+        table.now.cfg workers.new }
     ensures count { length workers.new ≡ length workers.old }
 {
     for_each_mut(
@@ -76,9 +76,9 @@ fn go_apart<R: Threads + Sync>(rt: &R, workers: &mut [Hands], table: &CoreTable,
         workers,
         2,
         &|i: usize, h: &mut Hands|
-            requires { (i < 8) × IsWorker table.now.shared.table_id
-                table.now.shared.key.program.told table.now.shared.key.cfg (i + 1) h.now
-                × (p.now ≡ table.now.shared.key.program.told) }
+            requires { (i < 8) × IsWorker table.now.table_id
+                table.now.program table.now.cfg (i + 1) h.now
+                × (p.now ≡ table.now.program) }
             ensures { AreSame h.entry.now h.exit.now }
         { go_on(h, table, p, (i + 1) as u8) },
     );
@@ -94,12 +94,12 @@ fn hold_all(hands: &Hands) -> bool
 
 /// Begins the next part, where the hands hold all threads.
 fn begin(rt: &impl Abort, hands: &mut Hands, table: &CoreTable, p: &Checked) -> bool
-    requires table { IsTableOf table.now.shared.table_id table.now.shared.key.program.told
-        table.now.shared.key.cfg hands.old }
-    requires program { p.now ≡ table.now.shared.key.program.told }
+    requires table { IsTableOf table.now.table_id table.now.program
+        table.now.cfg hands.old }
+    requires program { p.now ≡ table.now.program }
     requires workers { p.now.program.workers ≤ 2 }
-    ensures { IsTableOf table.now.shared.table_id table.now.shared.key.program.told
-        table.now.shared.key.cfg hands.new }
+    ensures { IsTableOf table.now.table_id table.now.program
+        table.now.cfg hands.new }
 {
     assert!(rt; hold_all(hands));
     hands.next(table, p)
@@ -107,12 +107,12 @@ fn begin(rt: &impl Abort, hands: &mut Hands, table: &CoreTable, p: &Checked) -> 
 
 /// Hands of worker `t`, which these held beside thread 0.
 fn split(rt: &impl Abort, hands: &mut Hands, table: &CoreTable, t: u8) -> Hands
-    requires table { IsTableOf table.now.shared.table_id table.now.shared.key.program.told
-        table.now.shared.key.cfg hands.old }
-    ensures table { IsTableOf table.now.shared.table_id table.now.shared.key.program.told
-        table.now.shared.key.cfg hands.new }
-    ensures worker { IsWorker table.now.shared.table_id table.now.shared.key.program.told
-        table.now.shared.key.cfg t result }
+    requires table { IsTableOf table.now.table_id table.now.program
+        table.now.cfg hands.old }
+    ensures table { IsTableOf table.now.table_id table.now.program
+        table.now.cfg hands.new }
+    ensures worker { IsWorker table.now.table_id table.now.program
+        table.now.cfg t result }
 {
     assert!(rt; t != 0 && hands.holds(0) && hands.holds(t));
     let worker = hands.split(table, t);
@@ -122,23 +122,23 @@ fn split(rt: &impl Abort, hands: &mut Hands, table: &CoreTable, t: u8) -> Hands
 
 /// Takes in the hands of a worker.
 fn join(hands: &mut Hands, table: &CoreTable, worker: Hands)
-    requires table { IsTableOf table.now.shared.table_id table.now.shared.key.program.told
-        table.now.shared.key.cfg hands.old }
-    requires worker { IsTableOf table.now.shared.table_id table.now.shared.key.program.told
-        table.now.shared.key.cfg worker }
-    ensures { IsTableOf table.now.shared.table_id table.now.shared.key.program.told
-        table.now.shared.key.cfg hands.new }
+    requires table { IsTableOf table.now.table_id table.now.program
+        table.now.cfg hands.old }
+    requires worker { IsTableOf table.now.table_id table.now.program
+        table.now.cfg worker }
+    ensures { IsTableOf table.now.table_id table.now.program
+        table.now.cfg hands.new }
 {
     hands.join(table, worker);
 }
 
 /// The workers' part, each worker in hands of its own.
 fn go_split<R: Abort + Threads + Sync>(rt: &R, hands: &mut Hands, table: &CoreTable, p: &Checked)
-    requires table { IsTableOf table.now.shared.table_id table.now.shared.key.program.told
-        table.now.shared.key.cfg hands.old }
-    requires program { p.now ≡ table.now.shared.key.program.told }
-    ensures { IsTableOf table.now.shared.table_id table.now.shared.key.program.told
-        table.now.shared.key.cfg hands.new }
+    requires table { IsTableOf table.now.table_id table.now.program
+        table.now.cfg hands.old }
+    requires program { p.now ≡ table.now.program }
+    ensures { IsTableOf table.now.table_id table.now.program
+        table.now.cfg hands.new }
 {
     let mut workers = [split(rt, hands, table, 1), split(rt, hands, table, 2)];
     go_apart(rt, &mut workers, table, p);

@@ -5,7 +5,7 @@ use Rattle.green_runner.proofs.passing.pass.Goals as goal
 
 pub give_turn-live-requires-clause-table : goal.give_turn-live-requires-clause-table
 give_turn-live-requires-clause-table c =
-    of_still c.args.table.now.shared.table_id c.args.table.now.shared.key.program.told c.args.table.now.shared.key.cfg c.args.hands.now c.loop-t.hands
+    of_still c.args.table.now.table_id c.args.table.now.program c.args.table.now.cfg c.args.hands.now c.loop-t.hands
     (turns_same c.args.turn (range_with_len 0 c.loop-t.t) c.args.hands.now c.loop-t.hands c.loop-t.invariant.turns) c.requires.table
 
 pub give_turn-live-requires-clause-program : goal.give_turn-live-requires-clause-program

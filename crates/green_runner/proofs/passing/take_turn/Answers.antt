@@ -5,7 +5,7 @@ use Rattle.green_runner.proofs.passing.take_turn.Goals as goal
 
 pub event-requires-clause-table : goal.event-requires-clause-table
 event-requires-clause-table c =
-    of_still c.args.table.now.shared.table_id c.args.table.now.shared.key.program.told c.args.table.now.shared.key.cfg c.args.hands.now c.loop-made.hands
+    of_still c.args.table.now.table_id c.args.table.now.program c.args.table.now.cfg c.args.hands.now c.loop-made.hands
     (made_same c.args.t c.loop-made.made c.args.hands.now c.loop-made.hands c.loop-made.invariant) c.requires.table
 
 pub event-requires-clause-program : goal.event-requires-clause-program

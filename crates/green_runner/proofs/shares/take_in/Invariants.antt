@@ -6,8 +6,8 @@ use Rattle.green_runner.proofs.shares.take_in.Given as goal
 
 abbrev pub invariant-loop-share : goal.invariant-loop-share
 invariant-loop-share l =
-    IsTableOf l.table.shared.table_id l.table.shared.key.program.told l.table.shared.key.cfg l.hands
-    × All (IsTableOf l.table.shared.table_id l.table.shared.key.program.told l.table.shared.key.cfg) l.shares.items
+    IsTableOf l.table.table_id l.table.program l.table.cfg l.hands
+    × All (IsTableOf l.table.table_id l.table.program l.table.cfg) l.shares.items
     × (held_in l.hands.threads 0 ≡ held_in l.fn.hands.threads 0)
     × AreTogether l.p.program.workers l.hands l.shares.items
 

@@ -3,10 +3,10 @@ use Rattle.table_runner.proofs.running.run_init.Goals as goal
 
 pub begin_workers-requires-clause-here : goal.begin_workers-requires-clause-here
 begin_workers-requires-clause-here c =
-    let shared = c.args.table.now.shared in
-    here_at_start shared.table_id shared.key.program.told shared.key.cfg c.args.hands.now c.requires.start
+    let table = c.args.table.now in
+    here_at_start table.table_id table.program table.cfg c.args.hands.now c.requires.start
 
 pub begin_workers-requires-clause-alone : goal.begin_workers-requires-clause-alone
 begin_workers-requires-clause-alone c =
-    let shared = c.args.table.now.shared in
-    alone_at_start shared.table_id shared.key.program.told shared.key.cfg c.args.hands.now c.requires.start
+    let table = c.args.table.now in
+    alone_at_start table.table_id table.program table.cfg c.args.hands.now c.requires.start

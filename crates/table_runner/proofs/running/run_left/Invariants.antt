@@ -5,5 +5,5 @@ use Rattle.table_runner.proofs.running.run_left.Given as goal
 
 abbrev pub invariant-loop-i : goal.invariant-loop-i
 invariant-loop-i l =
-    RunsHere l.table.shared.table_id l.table.shared.key.program.told l.table.shared.key.cfg l.hands
+    RunsHere l.table.table_id l.table.program l.table.cfg l.hands
     × (held_in l.hands.threads 0 ≡ held_in l.fn.hands.threads 0) × AreDeadBelow (l.i + 1) l.hands.threads

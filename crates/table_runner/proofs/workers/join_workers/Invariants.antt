@@ -5,8 +5,8 @@ use Rattle.table_runner.proofs.workers.join_workers.Given as goal
 
 abbrev pub invariant-loop-worker : goal.invariant-loop-worker
 invariant-loop-worker l =
-    RestOf l.table.shared.table_id l.table.shared.key.program.told l.table.shared.key.cfg (length l.workers.items + 1) (held_in l.fn.hands.threads 0) l.hands
-    × AreWorkers l.table.shared.table_id l.table.shared.key.program.told l.table.shared.key.cfg l.workers.items
+    RestOf l.table.table_id l.table.program l.table.cfg (length l.workers.items + 1) (held_in l.fn.hands.threads 0) l.hands
+    × AreWorkers l.table.table_id l.table.program l.table.cfg l.workers.items
 
 abbrev pub decreases-loop-worker : goal.decreases-loop-worker
 decreases-loop-worker l = length l.workers.items
