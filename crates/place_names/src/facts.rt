@@ -2,7 +2,8 @@
 
 ghost use Rattle.std.specs.Prelude.{◌≡◌, ◌++◌, ◌∷◌, [], Some, slice_get, OnOk};
 ghost use Rattle.std.specs.Option.{option_copied};
-ghost use Rattle.place_names.specs.PlaceFacts.{insn_facts, method_facts, pc_insn_facts, place_facts};
+ghost use Rattle.place_names.specs.PlaceFacts.{insn_facts, method_facts, pc_insn_facts};
+ghost use Rattle.place_names.specs.PlaceFacts.{place_facts};
 ghost use Rattle.run_texts.specs.MarksText.{class_text};
 ghost use Rattle.tellings.specs.declared.facts.Fact.TheVariants.{Text as TextFact};
 ghost use Rattle.tellings.specs.declared.keys.Key.TheVariants.{Class, Method};
