@@ -1,4 +1,6 @@
 pub mod LocalRuns
-pub mod NextLists
-pub mod Closing
 pub mod RowLists
+pub mod NextLists
+pub mod ReachedRows
+pub mod TakenRows
+pub mod AllFound

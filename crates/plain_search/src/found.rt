@@ -62,7 +62,8 @@ impl Found {
     pub(crate) fn whole(p: &Checked, s: Gathered) -> Found
         requires sound { IsSoundSearch p.now s }
         requires taken { AreTaken p.now s (length s.rows.items) }
-        ensures { result.program ≡ p.now }
+        ensures own { result.program ≡ p.now }
+        ensures searched { IsSearched result }
     {
         Found {
             program: Told::of(p),
@@ -75,7 +76,8 @@ impl Found {
     /// What a search found that was ended before.
     pub(crate) fn part(p: &Checked, s: Gathered) -> Found
         requires { IsSoundSearch p.now s }
-        ensures { result.program ≡ p.now }
+        ensures own { result.program ≡ p.now }
+        ensures searched { IsSearched result }
     {
         Found {
             program: Told::of(p),

@@ -50,10 +50,10 @@ fn mixed_thread(before: u64, x: &Thread) -> u64 {
 pub(crate) fn number_of(q: &Plain) -> u64 {
     let threads = q.threads();
     let mut number = q.mixed_memory(q.prints().len() as u64);
-    for t in 0..threads.len() {
-        match threads.get(t as u8) {
+    for t in 0..=255u8 {
+        match threads.get(t) {
             Some(x) => number = mixed_thread(number, x),
-            None => (),
+            None => break,
         }
     }
     for printed in q.prints() {

@@ -21,5 +21,5 @@ pub struct Gathered {
     /// The rows without a step, by their numbers.
     pub rests: Vec<u32>,
     /// The rows by numbers of their states: 0, or one more than the number of a row.
-    pub table: Vec<u32>,
+    pub table: Vec<u64>,
 }

@@ -19,7 +19,7 @@ struct Place {
 }
 
 /// Whether a row, by its number counted from 1, has this state.
-fn is_state_of(rows: &[Row], number: u32, q: &Plain) -> bool
+fn is_state_of(rows: &[Row], number: u64, q: &Plain) -> bool
     ensures { result ≡ true → IsStateIn rows.now q.now.state }
 {
     if number == 0 {
@@ -32,7 +32,7 @@ fn is_state_of(rows: &[Row], number: u32, q: &Plain) -> bool
 }
 
 /// The place of a state in the table.
-fn place_of(rows: &[Row], table: &[u32], q: &Plain) -> Place
+fn place_of(rows: &[Row], table: &[u64], q: &Plain) -> Place
     ensures { result.is_found ≡ true → IsStateIn rows.now q.now.state }
 {
     let mut at = 0;
@@ -62,7 +62,8 @@ fn place_of(rows: &[Row], table: &[u32], q: &Plain) -> Place
 }
 
 /// Adds a row whose state no other has.
-pub(crate) fn add(rows: &mut Vec<Row>, table: &mut [u32], row: Row) -> Result<(), AllocError>
+#[tactic(auto, using(crate::proofs::RowLists::same_longer, crate::proofs::RowLists::longer_by))]
+pub(crate) fn add(rows: &mut Vec<Row>, table: &mut [u64], row: Row) -> Result<(), AllocError>
     ensures there { OnOk result (IsStateIn rows.new.items row.plain.state) }
     ensures longer { (c : MarkedProgram) → IsSearchRow c row
         → IsLonger (IsSearchRow c) rows.old.items rows.new.items }
@@ -71,7 +72,7 @@ pub(crate) fn add(rows: &mut Vec<Row>, table: &mut [u32], row: Row) -> Result<()
     if place.is_found {
         return Ok(());
     }
-    let number = (rows.len() as u64 + 1) as u32;
+    let number = rows.len() as u64 + 1;
     rows.push(row)?;
     if place.at < table.len() {
         table[place.at] = number;
@@ -91,7 +92,7 @@ fn take_last(rows: &mut Vec<Row>) -> Option<Row>
 pub(crate) fn add_all(
     p: &Checked,
     rows: &mut Vec<Row>,
-    table: &mut [u32],
+    table: &mut [u64],
     more: Vec<Row>,
 ) -> Result<(), AllocError>
     requires { AllByRecursion (IsSearchRow p.now) more.items }
@@ -99,7 +100,6 @@ pub(crate) fn add_all(
     ensures longer { IsLonger (IsSearchRow p.now) rows.old.items rows.new.items }
 {
     let mut left = more;
-    left.reverse();
     while let Some(row) = take_last(&mut left) {
         add(rows, table, row)?;
     }

@@ -1,12 +1,7 @@
 //! The search.
 
-ghost use Rattle.std.specs.Prelude.{◌≡◌, ◌<◌, ◌≤◌, ◌+◌, ◌^◌, ℕ, true, length, Contains, IfOk, Some};
-ghost use Rattle.std.specs.Prelude.{slice_get};
-ghost use Rattle.machine_types.specs.PlainState.{Plain as State};
-ghost use Rattle.plain_orders.specs.CoveredRuns.{AreAllStates};
-ghost use Rattle.plain_search.specs.Rows.{IsLonger, IsPlainReached, IsSearchRow};
-ghost use Rattle.plain_search.specs.Searched.{AreTaken, HasNoStepAt, IsSoundSearch};
-ghost use Rattle.plain_search.specs.declared.row.Row.{Row as Rows};
+ghost use Rattle.std.specs.Prelude.{◌≡◌, ◌≢◌, ◌<◌, ◌≤◌, ◌+◌, ◌^◌, [], true, false, length, IfOk};
+ghost use Rattle.plain_search.specs.Searched.{AreTaken, IsSearched, IsSoundSearch};
 ghost use Rattle.plain_search.specs.declared.searching.TheConstants.{MOST_STATES};
 
 use crate::found::Found;
@@ -29,6 +24,17 @@ fn has_room(q: &Plain) -> bool
     q.steps() <= 1_099_511_626_775 && q.threads().len() <= 256
 }
 
+/// Whether there is no row.
+fn are_none(rows: &Vec<Row>) -> bool
+    ensures none { result ≡ true → rows.now.items ≡ [] }
+    ensures some { result ≡ false → rows.now.items ≢ [] }
+{
+    match rows.as_slice() {
+        [] => true,
+        _ => false,
+    }
+}
+
 /// Adds the states that come next behind a row. `false`: there is no room for their numbers.
 fn take_up(alloc: Global, p: &Checked, s: &mut Gathered, i: u32) -> Result<bool, AllocError>
     requires place { i < length s.old.rows.items }
@@ -42,11 +48,11 @@ fn take_up(alloc: Global, p: &Checked, s: &mut Gathered, i: u32) -> Result<bool,
         return Ok(false);
     }
     let rows = next_rows(alloc, p, q, i)?;
-    if rows.is_empty() {
+    if are_none(&rows) {
         s.rests.push(i)?;
-    } else {
-        add_all(p, &mut s.rows, &mut s.table, rows)?;
+        return Ok(true);
     }
+    add_all(p, &mut s.rows, &mut s.table, rows)?;
     Ok(true)
 }
 
@@ -56,44 +62,44 @@ fn start(alloc: Global, p: &Checked, most: u32) -> Result<Gathered, AllocError>
     ensures sound { IfOk result (IsSoundSearch p.now) }
     ensures taken { IfOk result (λ s. AreTaken p.now s 0) }
 {
-    let mut s = Gathered {
-        rows: Vec::new(alloc),
-        rests: Vec::new(alloc),
-        table: vec![in alloc; 0; 2 * most as usize + 2]?,
+    let mut rows = Vec::new(alloc);
+    let rests = Vec::new(alloc);
+    let mut table = vec![in alloc; 0u64; 2 * most as usize + 2]?;
+    let plain = plain_start(alloc, p)?;
+    let step = PlainStep {
+        thread: 0,
+        act: Act::Begin,
     };
     let first = Row {
-        plain: plain_start(alloc, p)?,
+        plain,
         from: 0,
-        step: PlainStep {
-            thread: 0,
-            act: Act::Begin,
-        },
+        step,
         locals: 0,
     };
-    add(&mut s.rows, &mut s.table, first)?;
-    Ok(s)
+    add(&mut rows, &mut table, first)?;
+    Ok(Gathered { rows, rests, table })
 }
 
 /// Searches the states that a program's plain machine comes to, in any order of its steps, until
-/// there are no more, or more than `most`, or no memory is left.
+/// there are no more, or more than `most`, or no memory is left. An error: there was no memory for
+/// the start.
+#[tactic(auto, using(crate::proofs::TakenRows::all_taken))]
 pub fn search(alloc: Global, p: &Checked, most: u32) -> Result<Found, AllocError>
     requires { most ≤ MOST_STATES }
     ensures own { IfOk result (λ f. f.program ≡ p.now) }
-    ensures all { IfOk result (λ f. f.is_whole ≡ true → AreAllStates p.now f.states) }
-    ensures reached { IfOk result (λ f. (q : State) → Contains f.states q
-        → IsPlainReached p.now q) }
+    ensures searched { IfOk result IsSearched }
 {
     let mut s = start(alloc, p, most)?;
-    for i in 0..=most {
+    for i in 0..most + 1 {
         if i as usize >= s.rows.len() {
             return Ok(Found::whole(p, s));
         }
         if s.rows.len() > most as usize {
-            break;
+            return Ok(Found::part(p, s));
         }
         match take_up(alloc, p, &mut s, i) {
             Ok(true) => (),
-            _ => break,
+            _ => return Ok(Found::part(p, s)),
         }
     }
     Ok(Found::part(p, s))
