@@ -35,4 +35,5 @@ abbrev pub PrintsAreCovered : Type 0
 PrintsAreCovered =
     (c : MarkedProgram) (cfg : Config) (hs : List Happening) (seen : List Plain) → IsMarked c
     → HaveWidth cfg → AreSettings cfg → AreAllStates c seen
-    → (q : Plain) × (z : Plain) × PrintsFit (outcome (core c cfg hs)) q × Contains seen z × (q.prints ≡ z.prints)
+    → (q : Plain) × (z : Plain) × PrintsFit (outcome (core c cfg hs)) q × Contains seen z
+    × (q.prints ≡ z.prints)
