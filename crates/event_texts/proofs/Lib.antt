@@ -3,4 +3,3 @@ mod TopByNumber
 mod ElementStands
 mod NamingWords
 mod ClassesTold
-mod FactsTold

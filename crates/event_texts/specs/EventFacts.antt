@@ -4,7 +4,9 @@
 -- And so an end to which an event led.
 use Rattle.std.specs.Prelude.{ℕ, zero, suc, nat_lt, Bool, true, false, List, [], ◌∷◌, ◌++◌, codes}
 use Rattle.std.specs.Prelude.{map, Option, Some, None}
+use Rattle.json_lines.specs.declared.form.Form.{Form}
 use Rattle.jvm_types.specs.declared.outcome.End.{End}
+use Rattle.jvm_types.specs.declared.outcome.End.TheVariants as ends
 use Rattle.jvm_types.specs.declared.program.Program.{Program}
 use Rattle.machine_types.specs.declared.access.Access.{Access}
 use Rattle.machine_types.specs.declared.access.Access.TheVariants.{Load, Rest}
@@ -15,14 +17,14 @@ use Rattle.machine_types.specs.declared.plain.Act.{Act}
 use Rattle.machine_types.specs.declared.plain.Act.TheVariants.{Do, Enter, Exit}
 use Rattle.place_names.specs.PlaceFacts.{place_facts}
 use Rattle.run_texts.specs.Report.{end_text}
-use Rattle.event_texts.specs.EndLines.{holder}
-use Rattle.event_texts.specs.DoesTexts.{does_text}
+use Rattle.event_texts.specs.Holders.{holder}
+use Rattle.event_texts.specs.PhaseTexts.{phase_text}
 use Rattle.event_texts.specs.Shares.{Share, Steps, Owes, Section, act_text}
 use Rattle.event_texts.specs.ValueTexts.{shared_value_text, word_text}
 use Rattle.event_texts.specs.declared.sights.Spot.{Spot}
 use Rattle.event_texts.specs.declared.sights.Before.{Before}
 use Rattle.event_texts.specs.declared.sights.After.{After}
-use Rattle.tellings.specs.Forms.{text_facts}
+use Rattle.tellings.specs.Forms.{text_facts, told_in}
 use Rattle.tellings.specs.declared.facts.Fact.{Fact}
 use Rattle.tellings.specs.declared.facts.Fact.TheVariants.{Text, Count, Texts, Opens, Closes}
 use Rattle.tellings.specs.declared.keys.Key.{Key}
@@ -42,7 +44,7 @@ abbrev pub number_facts : (number : ℕ) → (thread : ℕ) → List Fact
 number_facts number thread = Count keys.Number number ∷ Count keys.Thread thread ∷ []
 
 abbrev pub stand_facts : Program → Before → List Fact
-stand_facts p b = event_spot_facts p b.spot ++ text_facts keys.Does (does_text p b.phase)
+stand_facts p b = event_spot_facts p b.spot ++ text_facts keys.Does (phase_text p b.phase)
 
 abbrev pub head_facts : Program → (number : ℕ) → Before → List Fact
 head_facts p number b = number_facts number b.thread ++ inside_facts b.attempt ++ stand_facts p b
@@ -132,3 +134,10 @@ holder_facts (suc t) = Count keys.HeldBy t ∷ []
 abbrev pub stop_facts : Program → (number : ℕ) → Before → End → List Fact
 stop_facts p number b end =
     (Text keys.End (end_text end) ∷ []) ++ head_facts p number b ++ holder_facts (holder end b)
+
+-- of an event, by the phase behind it: nothing where no part came to an end, or where it returned
+abbrev pub event_end_in : Form → Program → (number : ℕ) → Before → Phase → List ℕ
+event_end_in form p number b (phases.Ending ends.Returned) = []
+event_end_in form p number b (phases.Ending end) =
+    told_in form (codes "end") (stop_facts p number b end)
+event_end_in form p number b phase = []

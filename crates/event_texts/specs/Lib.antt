@@ -5,13 +5,7 @@ pub mod MonitorTexts
 pub mod PhaseTexts
 pub mod ValueTexts
 pub mod Sights
-pub mod MarkTexts
 pub mod Acts
 pub mod Shares
-pub mod Lines
-pub mod EndLines
-pub mod EventJson
-pub mod DoesTexts
+pub mod Holders
 pub mod EventFacts
-pub mod EventForms
-pub mod FactLaws

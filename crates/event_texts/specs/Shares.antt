@@ -1,6 +1,6 @@
 -- What an event stands for in the plain machine: the steps that its run's shadow has for it, or how
 -- many are owed to the end of an attempt.
-use Rattle.std.specs.Prelude.{ℕ, zero, ◌+◌, ◌-◌, ◌^◌, min, List, [], ◌∷◌, ◌++◌, codes, length}
+use Rattle.std.specs.Prelude.{ℕ, ◌+◌, ◌-◌, ◌^◌, min, List, [], ◌∷◌, ◌++◌, codes, length}
 use Rattle.std.specs.Prelude.{Option, Some, None}
 use Rattle.std.specs.Fmt.{decimal}
 use Rattle.checked_program.specs.MarkedProgram.{MarkedProgram}
@@ -63,16 +63,3 @@ act_text (acts.Notify None) = codes "notify nobody"
 act_text (acts.Notify (Some u)) = codes "notify thread " ++ decimal u
 act_text acts.NotifyAll = codes "notify all"
 act_text acts.Retake = codes "retake"
-
-abbrev pub acts_text : List Act → List ℕ
-acts_text [] = codes "none"
-acts_text (a ∷ []) = act_text a
-acts_text (a ∷ more) = act_text a ++ codes ", " ++ acts_text more
-
--- an instruction outside of attempts is one step, of which nothing is said
-abbrev pub share_text : Share → List ℕ
-share_text (Steps (acts.Do ∷ [])) = codes ""
-share_text (Steps acts) = codes ", plain: " ++ acts_text acts
-share_text (Owes zero) = codes ", plain: none"
-share_text (Owes n) = codes ", " ++ decimal n ++ codes " owed"
-share_text (Section n) = codes ", plain: enter, " ++ decimal n ++ codes " owed, exit"

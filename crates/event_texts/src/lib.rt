@@ -5,13 +5,8 @@
 
 pub mod acts;
 pub mod doing;
-pub mod end_lines;
-pub mod event_json;
-pub mod fact_laws;
+pub mod event_facts;
 pub mod fates;
-pub mod forms;
-pub mod lines;
-pub mod marks;
 pub mod monitors;
 pub mod naming_laws;
 pub mod phases;
@@ -23,9 +18,7 @@ pub mod words;
 
 pub use acts::Acts;
 pub use doing::{Doing, next_doing};
-pub use event_json::{write_end_member, write_what};
-pub use fact_laws::{ends_are_told, events_are_told};
-pub use forms::{write_event, write_event_end};
+pub use event_facts::{add_end_text, write_event, write_event_end};
 pub use naming_laws::{classes_are_told, names_accessed_words};
 pub use shares::{Share, owed_behind, share_of};
 pub use sights::{After, Before, Spot, see_after, see_before};

@@ -3,7 +3,6 @@
 use Rattle.std.specs.Prelude.{ℕ, zero, ◌+◌, ◌-◌, ◌^◌, min, nat_le, nat_lt, ◌&&◌, if◌then◌else◌}
 use Rattle.std.specs.Prelude.{List, [], ◌∷◌, ◌++◌, codes, Option, Some, None, slice_get}
 use Rattle.std.specs.Option.{option_map}
-use Rattle.std.specs.Fmt.{decimal}
 use Rattle.checked_program.specs.MarkedProgram.{MarkedProgram}
 use Rattle.machine_types.specs.Accesses.{found_by}
 use Rattle.machine_types.specs.Core.{Core, Happening, Of, NextPart, core, event, outcome}
@@ -11,16 +10,16 @@ use Rattle.machine_types.specs.Events.{wanted}
 use Rattle.machine_types.specs.History.{Told, found_by_event, past_at, told, told_start}
 use Rattle.machine_types.specs.Threads.{Thread}
 use Rattle.machine_types.specs.declared.config.Config.{Config}
-use Rattle.event_texts.specs.EventForms.{event_end_in, event_in}
-use Rattle.event_texts.specs.EventJson.{what_member}
+use Rattle.event_texts.specs.EventFacts.{event_end_in, event_facts}
 use Rattle.event_texts.specs.Shares.{share_at}
 use Rattle.event_texts.specs.Sights.{after_event, before_of}
 use Rattle.event_texts.specs.declared.shares.Share.{Share}
 use Rattle.event_texts.specs.declared.sights.Before.{Before}
-use Rattle.json_lines.specs.Json.{number_behind, text_behind}
 use Rattle.json_lines.specs.declared.form.Form.{Form}
-use Rattle.json_lines.specs.declared.form.Form.TheVariants.{Lines, Json}
-use Rattle.run_texts.specs.Report.{line}
+use Rattle.tellings.specs.Forms.{told_in}
+use Rattle.tellings.specs.declared.facts.Fact.{Fact}
+use Rattle.tellings.specs.declared.facts.Fact.TheVariants.{Count, Text, Words}
+use Rattle.tellings.specs.declared.keys.Key.TheVariants as keys
 use Rattle.run_trace.specs.ReportJson.{report_in}
 use Rattle.run_trace.specs.declared.events.Part.{Part}
 use Rattle.run_trace.specs.declared.events.Seen.{Seen}
@@ -47,8 +46,9 @@ seen_of_event c w NextPart = None
 abbrev pub line_between : MarkedProgram → Form → (names : List (List ℕ)) → (number : ℕ)
     → (words : List ℕ) → Option Seen → Option Thread → List ℕ
 line_between c form names number words (Some seen) (Some y) =
-    event_in form c.program names number seen.before seen.share
-    (after_event y (found_by words seen.before.access))
+    told_in form (codes "event")
+    (event_facts c.program names number seen.before seen.share
+    (after_event y (found_by words seen.before.access)))
 line_between c form names number words seen y = []
 
 -- the line of the end that it leads to, where that is no return
@@ -67,19 +67,14 @@ abbrev pub part_name : (part : ℕ) → List ℕ
 part_name zero = codes "workers"
 part_name part = codes "done"
 
-unfoldable pub part_object : (number part : ℕ) → List ℕ
-part_object number part =
-    what_member (codes "part") ++ number_behind (codes "number") number
-    ++ text_behind (codes "begins") (part_name part) ++ line (codes "}")
-
-abbrev pub part_begin_in : Form → (number part : ℕ) → List ℕ
-part_begin_in Lines number part = line (decimal number ++ part_text part)
-part_begin_in Json number part = part_object number part
+abbrev pub part_facts : (number part : ℕ) → List Fact
+part_facts number part =
+    Count keys.Number number ∷ Text keys.Begins (part_name part) ∷ Words (part_text part) ∷ []
 
 -- behind so many
 abbrev pub part_line : Form → (number : ℕ) → (begun : Option ℕ) → List ℕ
 part_line form number None = []
-part_line form number (Some begun) = part_begin_in form number begun
+part_line form number (Some begun) = told_in form (codes "part") (part_facts number begun)
 
 -- ---- all of them, which are numbered; the number stands still at the end of 64 bits
 

@@ -1,29 +1,26 @@
 //! One event of a run with its line, and the begin of a part with its own.
 
-ghost use Rattle.std.specs.Prelude.{◌≡◌, ◌<◌, ◌++◌, true, slice_get, slice_set, OnOk};
+ghost use Rattle.std.specs.Prelude.{◌≡◌, ◌<◌, ◌++◌, true, slice_get, slice_set, IfOk, OnOk};
 ghost use Rattle.std.specs.Option.{option_map};
 ghost use Rattle.machine_types.specs.Core.{Of, event, lives, next};
 ghost use Rattle.laws_states.specs.WorkLeft.{all_work};
 ghost use Rattle.machine_types.specs.Accesses.{found_by};
-ghost use Rattle.std.specs.Fmt.{decimal};
-ghost use Rattle.run_texts.specs.Report.{line};
 ghost use Rattle.run_trace.specs.EventLines.{end_between, event_end, event_line, line_between};
-ghost use Rattle.run_trace.specs.EventLines.{line_shown, part_line, part_name, part_object};
+ghost use Rattle.run_trace.specs.EventLines.{line_shown, part_facts, part_line, part_name};
 ghost use Rattle.run_trace.specs.EventLines.{part_text};
 ghost use Rattle.run_trace.specs.Owing.{owed_after, owed_at, seen_by};
 
 use checked_program::Checked;
 use event_texts::{
     Before, Share, owed_behind, see_after, see_before, share_of, write_event, write_event_end,
-    write_what,
 };
-use json_lines::{Form, write_number_behind, write_text_behind};
+use json_lines::Form;
 use jvm_types::{Bytes, Rows};
 use machine_types::Access;
 use replay_runner::Machine;
 use std::alloc::{AllocError, Global};
-use std::fmt;
 use step_core::want;
+use tellings::{Fact, Key, add_count, add_text, write_told};
 
 /// Which lines of a run are told: those from a number on, so many at most. The first line has the
 /// number 1. And in which form they are told, with the ends and the report behind them.
@@ -187,22 +184,14 @@ pub fn make_event(
     write_between(text, ends, alloc, form, p, names, number, &seen, machine, t)
 }
 
-/// Displays which part begins, by how many parts began before.
-#[derive(Clone, Copy)]
-struct PartText(u8);
-
-impl fmt::Display for PartText {
-    ghost use Rattle.std.specs.Prelude.{Some};
-    ghost use Rattle.run_trace.specs.EventLines.{part_text};
-
-    ghost output = { λ p. Some (part_text p.0) };
-
-    fn fmt<W: fmt::Write>(&self, f: &mut fmt::Formatter<W>) -> fmt::Result {
-        if self.0 == 0 {
-            f.write_str(" the workers begin")
-        } else {
-            f.write_str(" done begins")
-        }
+/// The words behind the number of the begin of a part, by how many parts began before.
+fn part_text(part: u8) -> &'static str
+    ensures { result.now ≡ part_text part }
+{
+    if part == 0 {
+        " the workers begin"
+    } else {
+        " done begins"
     }
 }
 
@@ -223,37 +212,14 @@ fn part_name(part: u8) -> &'static str
     if part == 0 { "workers" } else { "done" }
 }
 
-/// Adds the line of the begin of a part.
-fn write_part_line(
-    text: &mut Vec<u8>,
-    alloc: Global,
-    number: u64,
-    part: u8,
-) -> Result<(), AllocError>
-    ensures { OnOk result
-        (text.new.items ≡ text.old.items ++ line (decimal number ++ part_text part)) }
+fn part_facts(alloc: Global, number: u64, part: u8) -> Result<Rows<Fact>, AllocError>
+    ensures { IfOk result (λ facts. facts ≡ part_facts number part) }
 {
-    let part = PartText(part);
-    let mut words = String::new(alloc);
-    writeln!(words, "{number}{part}")?;
-    text.extend_from_slice(words.as_bytes())
-}
-
-/// Adds the object of the begin of a part, on a line. Its members are `what`, which is `part`; its
-/// `number`; and which part `begins`.
-#[tactic(auto, unfolding(crate::specs::EventLines::part_object))]
-fn write_part_object(
-    text: &mut Vec<u8>,
-    alloc: Global,
-    number: u64,
-    part: u8,
-) -> Result<(), AllocError>
-    ensures { OnOk result (text.new.items ≡ text.old.items ++ part_object number part) }
-{
-    write_what(text, "part")?;
-    write_number_behind(text, alloc, "number", number)?;
-    write_text_behind(text, "begins", part_name(part).as_bytes())?;
-    text.extend_from_slice(b"}\n")
+    let mut facts = Rows::new(alloc);
+    add_count(&mut facts, Key::Number, number)?;
+    add_text(&mut facts, alloc, Key::Begins, part_name(part).as_bytes())?;
+    facts.push(Fact::Words(Bytes::from_slice(alloc, part_text(part).as_bytes())?))?;
+    Ok(facts)
 }
 
 /// Adds the line, or the object, of the begin of a part, behind so many.
@@ -266,10 +232,12 @@ fn write_part(
 ) -> Result<(), AllocError>
     ensures { OnOk result (text.new.items ≡ text.old.items ++ part_line form number begun) }
 {
-    match (begun, form) {
-        (Some(begun), Form::Lines) => write_part_line(text, alloc, number, begun),
-        (Some(begun), Form::Json) => write_part_object(text, alloc, number, begun),
-        (None, _) => Ok(()),
+    match begun {
+        Some(begun) => {
+            let facts = part_facts(alloc, number, begun)?;
+            write_told(text, alloc, form, "part", facts.as_slice())
+        }
+        None => Ok(()),
     }
 }
 

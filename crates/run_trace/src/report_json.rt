@@ -1,27 +1,29 @@
 //! The report of a run as objects of JSON, and in the form that is asked for.
 
-ghost use Rattle.std.specs.Prelude.{◌≡◌, ◌<◌, ◌++◌, length, IfOk, OnOk};
-ghost use Rattle.std.specs.Fmt.{signed_decimal};
+ghost use Rattle.std.specs.Prelude.{◌≡◌, ◌<◌, ◌++◌, ◌∷◌, [], codes, length, IfOk, OnOk};
 ghost use Rattle.std.specs.List.{flat_map};
-ghost use Rattle.run_trace.specs.ReportJson.{counts_members, done_object, print_object, report_in};
-ghost use Rattle.run_trace.specs.ReportJson.{report_objects, thread_object, thread_objects};
+ghost use Rattle.tellings.specs.Forms.{object_of};
+ghost use Rattle.run_trace.specs.ReportJson.{count_facts, its_end, print_object, report_in};
+ghost use Rattle.run_trace.specs.ReportJson.{report_objects, thread_facts, thread_objects};
 
-use event_texts::{write_end_member, write_what};
-use json_lines::{Form, write_number_behind};
-use jvm_types::{Bytes, Counts, End, Outcome, Print, ThreadReport};
+use event_texts::add_end_text;
+use json_lines::Form;
+use jvm_types::{Bytes, Counts, End, Outcome, Print, Rows, ThreadReport};
 use run_texts::report;
 use std::alloc::{AllocError, Global};
+use tellings::{Fact, Key, add_count, write_told};
 
-/// Adds the value of a print.
-fn write_print_value(out: &mut Vec<u8>, alloc: Global, value: i32) -> Result<(), AllocError>
-    ensures { OnOk result (out.new.items ≡ out.old.items ++ signed_decimal value) }
+fn write_object(
+    out: &mut Vec<u8>,
+    alloc: Global,
+    what: &str,
+    facts: &[Fact],
+) -> Result<(), AllocError>
+    ensures { OnOk result (out.new.items ≡ out.old.items ++ object_of what.now facts.now) }
 {
-    let mut digits = String::new(alloc);
-    write!(digits, "{value}")?;
-    out.extend_from_slice(digits.as_bytes())
+    write_told(out, alloc, Form::Json, what, facts)
 }
 
-#[tactic(auto, unfolding(crate::specs::ReportJson::print_object))]
 fn write_print(
     out: &mut Vec<u8>,
     alloc: Global,
@@ -30,12 +32,12 @@ fn write_print(
 ) -> Result<(), AllocError>
     ensures { OnOk result (out.new.items ≡ out.old.items ++ print_object thread print) }
 {
-    write_what(out, "print")?;
-    write_number_behind(out, alloc, "thread", thread as u64)?;
-    write_number_behind(out, alloc, "ticket", print.ticket)?;
-    out.extend_from_slice(b",\"value\":")?;
-    write_print_value(out, alloc, print.value)?;
-    out.extend_from_slice(b"}\n")
+    let facts = [
+        Fact::Count(Key::Thread, thread as u64),
+        Fact::Count(Key::Ticket, print.ticket),
+        Fact::Value(Key::Printed, print.value),
+    ];
+    write_object(out, alloc, "print", &facts)
 }
 
 fn write_prints(
@@ -53,31 +55,41 @@ fn write_prints(
     Ok(())
 }
 
-#[tactic(auto, unfolding(crate::specs::ReportJson::counts_members))]
-fn write_counts(out: &mut Vec<u8>, alloc: Global, counts: Counts) -> Result<(), AllocError>
-    ensures { OnOk result (out.new.items ≡ out.old.items ++ counts_members counts) }
+fn add_counts(facts: &mut Rows<Fact>, counts: Counts) -> Result<(), AllocError>
+    ensures { OnOk result (facts.new ≡ facts.old ++ count_facts counts) }
 {
-    write_number_behind(out, alloc, "instructions", u64::from(counts.instructions))?;
-    write_number_behind(out, alloc, "elided", u64::from(counts.elided))?;
-    write_number_behind(out, alloc, "failed", u64::from(counts.failed))?;
-    write_number_behind(out, alloc, "locked", u64::from(counts.locked))?;
-    write_number_behind(out, alloc, "inflated", u64::from(counts.inflated))
+    add_count(facts, Key::Instructions, u64::from(counts.instructions))?;
+    add_count(facts, Key::Elided, u64::from(counts.elided))?;
+    add_count(facts, Key::Failed, u64::from(counts.failed))?;
+    add_count(facts, Key::Locked, u64::from(counts.locked))?;
+    add_count(facts, Key::Inflated, u64::from(counts.inflated))
 }
 
-#[tactic(auto, unfolding(crate::specs::ReportJson::thread_object))]
+fn thread_facts(
+    alloc: Global,
+    thread: usize,
+    report: &ThreadReport,
+) -> Result<Rows<Fact>, AllocError>
+    ensures { IfOk result (λ facts. facts ≡ thread_facts thread report.now) }
+{
+    let mut facts = Rows::new(alloc);
+    add_count(&mut facts, Key::Thread, thread as u64)?;
+    add_end_text(&mut facts, alloc, Key::ItsEnd, report.end)?;
+    add_counts(&mut facts, report.counts)?;
+    Ok(facts)
+}
+
 fn write_thread(
     out: &mut Vec<u8>,
     alloc: Global,
     thread: usize,
     report: &ThreadReport,
 ) -> Result<(), AllocError>
-    ensures { OnOk result (out.new.items ≡ out.old.items ++ thread_object thread report.now) }
+    ensures { OnOk result (out.new.items
+        ≡ out.old.items ++ object_of (codes "thread") (thread_facts thread report.now)) }
 {
-    write_what(out, "thread")?;
-    write_number_behind(out, alloc, "thread", thread as u64)?;
-    write_end_member(out, alloc, "end", report.end)?;
-    write_counts(out, alloc, report.counts)?;
-    out.extend_from_slice(b"}\n")
+    let facts = thread_facts(alloc, thread, report)?;
+    write_object(out, alloc, "thread", facts.as_slice())
 }
 
 fn write_threads(
@@ -94,13 +106,13 @@ fn write_threads(
     Ok(())
 }
 
-#[tactic(auto, unfolding(crate::specs::ReportJson::done_object))]
 fn write_done(out: &mut Vec<u8>, alloc: Global, end: End) -> Result<(), AllocError>
-    ensures { OnOk result (out.new.items ≡ out.old.items ++ done_object end) }
+    ensures { OnOk result
+        (out.new.items ≡ out.old.items ++ object_of (codes "done") (its_end end ∷ [])) }
 {
-    write_what(out, "done")?;
-    write_end_member(out, alloc, "end", end)?;
-    out.extend_from_slice(b"}\n")
+    let mut facts = Rows::new(alloc);
+    add_end_text(&mut facts, alloc, Key::ItsEnd, end)?;
+    write_object(out, alloc, "done", facts.as_slice())
 }
 
 fn objects(alloc: Global, outcome: &Outcome) -> Result<Bytes, AllocError>

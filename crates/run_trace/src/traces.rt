@@ -228,9 +228,9 @@ fn tell_report<K: Sink>(
 /// and left there; where an attempt begins, fails or finishes, a lock is taken or made fat, and how
 /// the thread comes to its end; and the steps of the plain machine that it stands for. Behind them
 /// stands a line for each end that is no return, and the report of the run. Each is a line of
-/// words, or as JSON one object on a line, made of the same (`write_event_object` of `event_texts`
-/// has its members). `names` has the names of the fields of the program in their order; a field
-/// without a name is told by its number.
+/// words, or as JSON one object on a line, made of the same facts (`key_row` of `tellings` has the
+/// members). `names` has the names of the fields of the program in their order; a field without a
+/// name is told by its number.
 ///
 /// It answers the outcome of the run; `Failed` where the sink fails, and `Memory` where there is no
 /// memory. The memory that it takes does not grow with the run.
