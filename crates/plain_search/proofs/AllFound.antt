@@ -1,17 +1,14 @@
 -- The states that a search has found, by its rows.
-use Rattle.std.proofs.Common.{◌≡◌, ◌<◌, ℕ, zero, suc, true, false, List, [], ◌∷◌, map, Option, Some, None, length, refl, sym, ap, ◌∙◌, subst, arith, slice_get, slice_index_or}
+use Rattle.std.proofs.Common.{◌≡◌, ◌<◌, ℕ, zero, suc, true, false, List, [], ◌∷◌, map, Some, length, refl, sym, ap, ◌∙◌, subst, arith, slice_get, slice_index_or}
 use Rattle.std.specs.Prelude.{Contains}
-use Rattle.std.specs.List.{AllByRecursion}
 use Rattle.checked_program.specs.MarkedProgram.{MarkedProgram}
 use Rattle.machine_types.specs.PlainState.{Plain, plain_start}
 use Rattle.machine_types.specs.PlainSteps.{plain_step}
-use Rattle.machine_types.specs.declared.plain.PlainStep.{PlainStep}
 use Rattle.plain_orders.specs.CoveredRuns.{AreAllStates}
 use Rattle.plain_orders.specs.LocalSteps.{is_local}
 use Rattle.plain_orders.specs.Orders.{HasNoStep, LeadsLocally}
 use Rattle.plain_search.specs.declared.row.Row.{Row}
 use Rattle.plain_search.specs.declared.row.Gathered.{Gathered}
-use Rattle.plain_search.specs.Nexts.{HasNexts}
 use Rattle.plain_search.specs.Rows.{IsSearchRow, IsPlainReached, IsStateIn}
 use Rattle.plain_search.specs.Searched.{IsSoundSearch, AreTaken, HasNoStepAt, IsSearched}
 use Rattle.plain_search.proofs.RowLists.{one_of_all, within}

@@ -1,7 +1,6 @@
 -- Local steps, one more at the end.
-use Rattle.std.proofs.Common.{◌≡◌, ◌≤◌, ℕ, ◌+◌, Bool, true, List, [], ◌∷◌, ◌++◌, Option, Some, None, refl, sym, ap, ◌∙◌, subst, arith}
+use Rattle.std.proofs.Common.{◌≡◌, ◌≤◌, ℕ, ◌+◌, Bool, true, List, [], ◌∷◌, ◌++◌, Option, Some, refl, sym, ap, ◌∙◌, subst, arith}
 use Rattle.checked_program.specs.MarkedProgram.{MarkedProgram}
-use Rattle.machine_types.specs.PlainState.{Plain}
 use Rattle.machine_types.specs.PlainSteps.{plain_step}
 use Rattle.machine_types.specs.declared.plain.PlainStep.{PlainStep}
 use Rattle.history_rule.specs.Steps.{Played}

@@ -1,8 +1,7 @@
 -- Lists of the states that come next, as they grow: one step after the other.
-use Rattle.std.proofs.Common.{◌≡◌, ◌≢◌, ◌<◌, ◌≤◌, ◌+◌, ℕ, zero, suc, List, [], ◌∷◌, ◌++◌, Option, Some, None, length, refl, sym, ap, ◌∙◌, subst, arith, slice_get}
+use Rattle.std.proofs.Common.{◌≡◌, ◌≢◌, ◌<◌, ◌≤◌, ◌+◌, ℕ, List, [], ◌∷◌, ◌++◌, Option, Some, None, length, refl, sym, ap, ◌∙◌, subst, arith, slice_get}
 use mathlib.Core.Logic.{dite}
 use native.Mathlib.Decide.{ℕ_discrete}
-use Rattle.std.specs.List.{AllByRecursion}
 use Rattle.jvm_types.specs.declared.program.Program.{Program}
 use Rattle.machine_types.specs.PlainState as plain
 use Rattle.machine_types.specs.PlainState.{Plain, PlainThread, Status}
@@ -12,7 +11,7 @@ use Rattle.machine_types.specs.declared.plain.Act.TheVariants as acts
 use Rattle.machine_types.specs.declared.plain.PlainStep.{PlainStep}
 use Rattle.history_rule.specs.Steps.{Played}
 use Rattle.plain_search.specs.declared.row.Row.{Row}
-use Rattle.plain_search.specs.Nexts.{LeadsLocallyBy, IsNextBy, IsNextRow, HasNextBy, HasNexts}
+use Rattle.plain_search.specs.Nexts.{LeadsLocallyBy, IsNextRow, HasNextBy, HasNexts}
 use Rattle.plain_search.specs.Rows.{IsLonger, IsStateIn, AreStatesIn}
 use Rattle.plain_search.proofs.RowLists.{still_in, last_in, within}
 

@@ -1,5 +1,5 @@
 -- What the search keeps as it takes up one row more.
-use Rattle.std.proofs.Common.{◌≡◌, ◌≢◌, ◌<◌, ◌≤◌, ◌+◌, ℕ, zero, suc, true, ◌⊎◌, inl, inr, ⊎_elim, List, [], ◌∷◌, ◌++◌, Option, Some, None, length, refl, sym, ap, ◌∙◌, subst, arith, slice_get}
+use Rattle.std.proofs.Common.{◌≡◌, ◌≢◌, ◌<◌, ◌≤◌, ◌+◌, ℕ, zero, suc, ⊎_elim, List, [], ◌∷◌, ◌++◌, Option, Some, None, length, refl, sym, ap, ◌∙◌, subst, arith, slice_get}
 use Rattle.std.specs.Prelude.{Contains}
 use Rattle.std.specs.List.{AllByRecursion}
 use Rattle.std.proofs.lemmas.List.Elements.{Contains-append_left, Contains-append_right, Contains-append_cases}
@@ -8,8 +8,6 @@ use native.Mathlib.Decide.{ℕ_discrete}
 use Rattle.checked_program.specs.MarkedProgram.{MarkedProgram}
 use Rattle.machine_types.specs.PlainState.{Plain, plain_start}
 use Rattle.machine_types.specs.PlainSteps.{plain_step}
-use Rattle.machine_types.specs.declared.plain.PlainStep.{PlainStep}
-use Rattle.history_rule.specs.Steps.{Played}
 use Rattle.plain_orders.specs.Orders.{HasNoStep}
 use Rattle.plain_search.specs.declared.row.Row.{Row}
 use Rattle.plain_search.specs.declared.row.Gathered.{Gathered}
@@ -17,7 +15,7 @@ use Rattle.plain_search.specs.Nexts.{IsNextRow, HasNexts}
 use Rattle.plain_search.specs.Rows.{IsLonger, IsSearchRow, IsStateIn, AreStatesIn}
 use Rattle.plain_search.specs.Searched.{IsSoundSearch, AreTaken}
 use Rattle.plain_search.proofs.RowLists.{still_got, still_in, got_before, all_longer, within}
-use Rattle.plain_search.proofs.NextLists.{still_next, next_among, none_next}
+use Rattle.plain_search.proofs.NextLists.{still_next, next_among}
 
 one_row : (rows : List Row) (k i : ℕ) (r x : Row) → k ≡ i → slice_get rows i ≡ Some r → slice_get rows k ≡ Some x → r ≡ x
 one_row rows k i r x e f g = same (slice_get rows i) f (ap (slice_get rows) (sym e) ∙ g)

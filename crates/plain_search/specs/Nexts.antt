@@ -1,5 +1,5 @@
 -- The states that come next, each behind local steps.
-use Rattle.std.specs.Prelude.{◌≡◌, ℕ, List, Some, slice_get}
+use Rattle.std.specs.Prelude.{◌≡◌, List, Some}
 use Rattle.machine_types.specs.PlainState.{Plain}
 use Rattle.machine_types.specs.PlainSteps.{plain_step}
 use Rattle.machine_types.specs.declared.plain.PlainStep.{PlainStep}

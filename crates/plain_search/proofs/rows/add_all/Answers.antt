@@ -1,8 +1,7 @@
-use Rattle.std.proofs.Common.{◌≡◌, ◌++◌, ◌∷◌, [], List, sym, subst, length, arith}
+use Rattle.std.proofs.Common.{◌++◌, ◌∷◌, [], sym, subst}
 use Rattle.std.specs.List.{AllByRecursion}
-use Rattle.plain_search.specs.declared.row.Row.{Row}
 use Rattle.plain_search.specs.Rows.{IsSearchRow}
-use Rattle.plain_search.proofs.RowLists.{append_nil, no_longer, longer_twice, none_in, more_in, moved_over, all_moved, first_part, last_part}
+use Rattle.plain_search.proofs.RowLists.{append_nil, no_longer, longer_twice, none_in, more_in, moved_over, first_part, last_part}
 use Rattle.plain_search.proofs.rows.add_all.Goals as goal
 
 pub loop-row-init : goal.loop-row-init
