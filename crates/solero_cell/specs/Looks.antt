@@ -10,8 +10,7 @@ use Rattle.solero_cell.specs.CellRules.{HasOneHistory, looks_at}
 use Rattle.solero_cell.specs.Moments.{word_of_moment}
 
 -- Whatever a step of a seat does: if it keeps the rule and adds one look to what the seat tells,
--- then no look had this place before it, and behind it the lock word is that of the look. So a word
--- that an answer tells was found by a step of its call.
+-- then no look had this place before it, and behind it the lock word is that of the look.
 abbrev pub AddedLooksAreTrue : Type 0
 AddedLooksAreTrue =
     (opening : Record) (words now : List ℕ) (views : List View) (seat place : ℕ) (m : Moment)

@@ -2,8 +2,8 @@
 
 ghost use Rattle.solero_cell.specs.Looks.{AddedLooksAreTrue};
 
-/// A look that a step adds to what its seat tells is one that this step made, and has found what
-/// the lock word is behind it. So no body can answer a word that its call did not find.
+/// Where a step keeps the rule and adds one look to what its seat tells, no look had its place
+/// before, and the lock word behind the step is that of the look: the step itself has found it.
 pub fn added_looks_are_true()
     ensures { AddedLooksAreTrue }
 {}
