@@ -44,6 +44,7 @@ pub record IsSoundSearch (c : MarkedProgram) (s : Gathered) : Type 0 where
 -- and once the first n rows were taken up
 pub record AreTaken (c : MarkedProgram) (s : Gathered) (n : ℕ) : Type 0 where
   pub first : IsStateIn s.rows.items (plain_start c.program)
-  pub nexts : (k : ℕ) (r : Row) → k < n → slice_get s.rows.items k ≡ Some r → HasNexts r.plain s.rows.items
+  pub nexts : (k : ℕ) (r : Row) → k < n → slice_get s.rows.items k ≡ Some r
+      → HasNexts r.plain s.rows.items
   pub rests : (k : ℕ) (r : Row) → k < n → slice_get s.rows.items k ≡ Some r
       → HasNoStep (plain_step c.program) r.plain.state → Contains s.rests.items k
