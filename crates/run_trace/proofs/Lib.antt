@@ -3,3 +3,4 @@ mod LongerRuns
 mod Orders
 mod Owings
 mod Walks
+mod Fronts

@@ -16,6 +16,14 @@ turn_to h stage = Some (record { happening = h; stage = stage })
 -- ---- one turn
 
 module _ (c : MarkedProgram) (cfg : Config) (order : List ℕ) (names : List (List ℕ)) (part : Part) (first : Option (List ℕ)) where
+  -- its line, of the run so far
+  pub own_line : (m : Tracing) (h : Happening) (next : Option Turn) (told : Option (List ℕ)) (w : TraceWalked c cfg order names part first m next told)
+      → told_line c names part (number_after 1 w.happenings) (all_told c (told_start c cfg) w.happenings).core (seen_of_event c (all_told c (told_start c cfg) w.happenings) h) h ≡ told_line c names part m.number m.machine.core (seen_by c m.machine.core m.owed h) h
+  own_line m h next told w =
+      let u : Told = all_told c (told_start c cfg) w.happenings in
+      let seen_is : seen_by c m.machine.core m.owed h ≡ seen_of_event c u h = (λ i. seen_by c (sym w.core i) (w.owed i) h) ∙ sym (same_seen c u h) in
+      sym (λ i. told_line c names part (w.number i) (sym w.core i) (seen_is i) h)
+
   turned : (m n : Tracing) (h : Happening) (stage : Stage) (told now : Option (List ℕ)) (before after : ℕ) → Happened c names part h m n told now before after
       → TraceWalked c cfg order names part first m (turn_to h stage) told → TraceWalked c cfg order names part first n (turn_at stage n.machine.core) now
   turned m n h stage told now before after did w =
@@ -23,7 +31,7 @@ module _ (c : MarkedProgram) (cfg : Config) (order : List ℕ) (names : List (Li
       let u : Told = all_told c (told_start c cfg) hs in
       let core_is : happened c m.machine.core h ≡ n.machine.core = ap (λ (d : MarkedProgram). happened d m.machine.core h) (sym w.program) ∙ sym (ap (λ (r : Running). r.core) did.machine) in
       let seen_is : seen_by c m.machine.core m.owed h ≡ seen_of_event c u h = (λ i. seen_by c (sym w.core i) (w.owed i) h) ∙ sym (same_seen c u h) in
-      let own : told_line c names part m.number m.machine.core (seen_by c m.machine.core m.owed h) h ≡ told_line c names part (number_after 1 hs) u.core (seen_of_event c u h) h = λ i. told_line c names part (w.number i) (sym w.core i) (seen_is i) h in
+      let own : told_line c names part m.number m.machine.core (seen_by c m.machine.core m.owed h) h ≡ told_line c names part (number_after 1 hs) u.core (seen_of_event c u h) h = sym (own_line m h (turn_to h stage) told w) in
       let owes : n.owed ≡ map shares.owed (history.told c u h).pasts = did.owed ∙ (λ i. owed_after (w.owed i) h (seen_by c (sym w.core i) (w.owed i) h)) ∙ sym (owed_on c u h) in
       record {
         program = ap (λ (r : Running). r.program) did.machine ∙ w.program;

@@ -6,7 +6,7 @@ use Rattle.std.specs.Option.{option_map}
 use Rattle.checked_program.specs.MarkedProgram.{MarkedProgram}
 use Rattle.jvm_types.specs.declared.outcome.Outcome.{Outcome}
 use Rattle.host_io.specs.Faults.{CountsFault}
-use Rattle.machine_types.specs.Core.{Happening, core, happened, outcome, start}
+use Rattle.machine_types.specs.Core.{Core, Happening, core, happened, outcome, start}
 use Rattle.machine_types.specs.History.{all_told, told_start}
 use Rattle.machine_types.specs.Schedules.{IsScheduleOf, Stage, First, Turn, turn_at}
 use Rattle.machine_types.specs.declared.config.Config.{Config}
@@ -21,6 +21,14 @@ use Rattle.run_trace.specs.declared.turns.Next.{Next}
 use Rattle.run_trace.specs.declared.traces.TraceError.{TraceError}
 use Rattle.run_trace.specs.declared.traces.TraceError.TheVariants.{Memory, Failed}
 use Rattle.run_trace.specs.declared.traces.Tracing.{Tracing}
+
+-- ---- a text of which a sink accepted a front
+
+pub record IsFrontTold (told now : Option (List ℕ)) (text : List ℕ) : Type 0 where
+  pub front : List ℕ
+  pub rest : List ℕ
+  pub whole : text ≡ front ++ rest
+  pub accepted : now ≡ option_map (λ t. t ++ front) told
 
 -- ---- one event or part
 
@@ -39,14 +47,18 @@ pub record Happened (c : MarkedProgram) (names : List (List ℕ)) (part : Part) 
       told
   pub calm : after ≡ before
 
--- there was no memory, and the sink had not failed; or it failed
+-- there was no memory, and nothing was written; or the sink failed within the line
 abbrev pub IsHappeningTold : MarkedProgram → (names : List (List ℕ)) → Part → Happening
     → (m n : Tracing) → (told now : Option (List ℕ)) → (before after : ℕ) → {A : Type 0}
     → Result A TraceError → Type 0
 IsHappeningTold c names part h m n told now before after (Ok done) =
     Happened c names part h m n told now before after
-IsHappeningTold c names part h m n told now before after (Err Memory) = after ≡ before
-IsHappeningTold c names part h m n told now before after (Err Failed) = CountsFault before after
+IsHappeningTold c names part h m n told now before after (Err Memory) =
+    (after ≡ before) × (now ≡ told)
+IsHappeningTold c names part h m n told now before after (Err Failed) =
+    CountsFault before after
+    × IsFrontTold told now
+    (told_line c names part m.number m.machine.core (seen_by c m.machine.core m.owed h) h)
 
 -- ---- the run at its start
 
@@ -91,14 +103,40 @@ pub record WalksOn (c : MarkedProgram) (order : List ℕ) (names : List (List �
       → TraceWalked c cfg order names part first n behind now
   pub calm : after ≡ before
 
+-- the order has led the run so far, and a front of the lines of its events was accepted
+pub record IsBrokenOff (c : MarkedProgram) (cfg : Config) (order : List ℕ) (names : List (List ℕ))
+    (part : Part) (told now : Option (List ℕ)) : Type 0 where
+  pub happenings : List Happening
+  pub stage : Stage
+  pub core : Core
+  pub leads : IsLedByTurns c (First order) (start c cfg) happenings stage core
+  pub front : IsFrontTold told now (lines_from c names part 1 (told_start c cfg) happenings)
+
+-- whatever was walked to the turn breaks off behind it
+abbrev pub BreaksOff : MarkedProgram → (order : List ℕ) → (names : List (List ℕ)) → Part
+    → (m : Tracing) → Option Turn → (told now : Option (List ℕ)) → Type 0
+BreaksOff c order names part m next told now =
+    (cfg : Config) (first : Option (List ℕ))
+    → TraceWalked c cfg order names part first m next told
+    → IsBrokenOff c cfg order names part first now
+
+-- for want of memory, where the sink had not failed, or since it failed
+abbrev pub IsBroken : MarkedProgram → (order : List ℕ) → (names : List (List ℕ)) → Part
+    → (m : Tracing) → Option Turn → (told : Option (List ℕ)) → (before : ℕ)
+    → (now : Option (List ℕ)) → (after : ℕ) → TraceError → Type 0
+IsBroken c order names part m turn told before now after Memory =
+    (after ≡ before) × BreaksOff c order names part m turn told now
+IsBroken c order names part m turn told before now after Failed =
+    CountsFault before after × BreaksOff c order names part m turn told now
+
 -- on from a turn, to another
 abbrev pub IsWalk : MarkedProgram → (order : List ℕ) → (names : List (List ℕ)) → Part
     → (m : Tracing) → Option Turn → (told : Option (List ℕ)) → (before : ℕ) → (n : Tracing)
     → (now : Option (List ℕ)) → (after : ℕ) → Result Next TraceError → Type 0
 IsWalk c order names part m turn told before n now after (Ok next) =
     WalksOn c order names part m turn told before n (turn_of_next order next) now after
-IsWalk c order names part m turn told before n now after (Err Memory) = after ≡ before
-IsWalk c order names part m turn told before n now after (Err Failed) = CountsFault before after
+IsWalk c order names part m turn told before n now after (Err e) =
+    IsBroken c order names part m turn told before now after e
 
 -- on from a turn, to the end of the run
 abbrev pub IsWalkToEnd : MarkedProgram → (order : List ℕ) → (names : List (List ℕ)) → Part
@@ -106,9 +144,8 @@ abbrev pub IsWalkToEnd : MarkedProgram → (order : List ℕ) → (names : List 
     → (now : Option (List ℕ)) → (after : ℕ) → {A : Type 0} → Result A TraceError → Type 0
 IsWalkToEnd c order names part m turn told before n now after (Ok done) =
     WalksOn c order names part m turn told before n None now after
-IsWalkToEnd c order names part m turn told before n now after (Err Memory) = after ≡ before
-IsWalkToEnd c order names part m turn told before n now after (Err Failed) =
-    CountsFault before after
+IsWalkToEnd c order names part m turn told before n now after (Err e) =
+    IsBroken c order names part m turn told before now after e
 
 -- ---- a text that is put to the sink
 
@@ -116,8 +153,9 @@ abbrev pub IsPut : (told now : Option (List ℕ)) → (before after : ℕ) → (
     → {A : Type 0} → Result A TraceError → Type 0
 IsPut told now before after text (Ok done) =
     (after ≡ before) × (now ≡ option_map (λ t. t ++ text) told)
-IsPut told now before after text (Err Memory) = after ≡ before
-IsPut told now before after text (Err Failed) = CountsFault before after
+IsPut told now before after text (Err Memory) = (after ≡ before) × (now ≡ told)
+IsPut told now before after text (Err Failed) =
+    CountsFault before after × IsFrontTold told now text
 
 -- ---- the whole
 
@@ -129,11 +167,20 @@ pub record IsWholeTrace (c : MarkedProgram) (cfg : Config) (order : List ℕ) (n
   pub text : now ≡ option_map (λ t. t ++ trace_text c cfg names part happenings) told
   pub calm : after ≡ before
 
--- the trace was written whole, and the outcome of the run is answered; or there was no memory, and
--- the sink had not failed; or it failed
+-- a front of the trace that is due was accepted
+pub record IsTraceFront (c : MarkedProgram) (cfg : Config) (order : List ℕ) (names : List (List ℕ))
+    (part : Part) (told now : Option (List ℕ)) : Type 0 where
+  pub happenings : List Happening
+  pub schedule : IsScheduleOf c cfg order happenings
+  pub front : IsFrontTold told now (trace_text c cfg names part happenings)
+
+-- the trace was written whole, and the outcome of the run is answered; or a front of it, where there
+-- was no memory, and the sink had not failed, or where it failed
 abbrev pub IsTraced : MarkedProgram → Config → (order : List ℕ) → (names : List (List ℕ)) → Part
     → (told now : Option (List ℕ)) → (before after : ℕ) → Result Outcome TraceError → Type 0
 IsTraced c cfg order names part told now before after (Ok o) =
     IsWholeTrace c cfg order names part told now before after o
-IsTraced c cfg order names part told now before after (Err Memory) = after ≡ before
-IsTraced c cfg order names part told now before after (Err Failed) = CountsFault before after
+IsTraced c cfg order names part told now before after (Err Memory) =
+    (after ≡ before) × IsTraceFront c cfg order names part told now
+IsTraced c cfg order names part told now before after (Err Failed) =
+    CountsFault before after × IsTraceFront c cfg order names part told now

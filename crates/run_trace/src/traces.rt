@@ -20,8 +20,10 @@ use host_io::sink::{Sink, SinkFailed};
 use host_io::writing::write_whole;
 use json_lines::Form;
 use jvm_types::{Bytes, Outcome, Rows};
+use laws_states::every_order_has_run;
 use machine_types::Config;
 use replay_runner::Machine;
+use run_parts::have_width;
 use std::alloc::{AllocError, Global};
 
 /// Why a trace was not written whole.
@@ -233,7 +235,8 @@ fn tell_report<K: Sink>(
 /// name is told by its number.
 ///
 /// It answers the outcome of the run; `Failed` where the sink fails, and `Memory` where there is no
-/// memory. The memory that it takes does not grow with the run.
+/// memory, and then the sink has accepted a front of all that. The memory that it takes does not
+/// grow with the run.
 pub fn explain_run<K: Sink>(
     alloc: Global,
     p: &Checked,
@@ -247,6 +250,9 @@ pub fn explain_run<K: Sink>(
     ensures { IsTraced p.now cfg.now order.now names.now part (K.text sink.old) (K.text sink.new)
         (K.faults sink.old) (K.faults sink.new) result }
 {
+    have_width(*cfg);
+    every_order_has_run();
+    let _workers = p.workers();
     let mut trace = start(alloc, p, cfg)?;
     tell_all(alloc, &mut trace, p, names, part, order.as_slice(), sink)?;
     write_text(sink, trace.ends.as_slice())?;

@@ -86,7 +86,7 @@ five_is_not_six n five six = omega (arith, five, six)
 
 by_came_failed : (c : MarkedProgram) (cfg : Config) (order : List ℕ) (names : List (List ℕ)) (part : Part) (told now : Option (List ℕ)) (from to : ℕ) (came : Result Outcome TraceError) → IsTraced c cfg order names part told now from to came → status_of_trace came ≡ 5 → CountsFault from to
 by_came_failed c cfg order names part told now from to (Ok o) traced five = absurd ((run_status (finish_of o)).five five)
-by_came_failed c cfg order names part told now from to (Err Failed) traced five = traced
+by_came_failed c cfg order names part told now from to (Err Failed) traced five = traced.0
 by_came_failed c cfg order names part told now from to (Err Memory) traced five = absurd (five_is_not_six 6 five refl)
 
 pub run_sink_failed : (c : MarkedProgram) (cfg : Config) (order : List ℕ) (names : List (List ℕ)) (part : Part) (told now : Option (List ℕ)) (from to : ℕ) (came : Result Outcome TraceError) (status : ℕ) → IsTraced c cfg order names part told now from to came → status ≡ status_of_trace came → status ≡ 5 → CountsFault from to
@@ -95,7 +95,7 @@ run_sink_failed c cfg order names part told now from to came status traced is fi
 by_came_fault : (c : MarkedProgram) (cfg : Config) (order : List ℕ) (names : List (List ℕ)) (part : Part) (told now : Option (List ℕ)) (from to : ℕ) (came : Result Outcome TraceError) → IsTraced c cfg order names part told now from to came → from < to → status_of_trace came ≡ 5
 by_came_fault c cfg order names part told now from to (Ok o) traced rose = omega (arith, traced.calm, rose)
 by_came_fault c cfg order names part told now from to (Err Failed) traced rose = refl
-by_came_fault c cfg order names part told now from to (Err Memory) traced rose = omega (arith, traced, rose)
+by_came_fault c cfg order names part told now from to (Err Memory) traced rose = omega (arith, traced.0, rose)
 
 pub run_sink_fault : (c : MarkedProgram) (cfg : Config) (order : List ℕ) (names : List (List ℕ)) (part : Part) (told now : Option (List ℕ)) (from to : ℕ) (came : Result Outcome TraceError) (status : ℕ) → IsTraced c cfg order names part told now from to came → status ≡ status_of_trace came → from < to → status ≡ 5
 run_sink_fault c cfg order names part told now from to came status traced is rose = is ∙ by_came_fault c cfg order names part told now from to came traced rose

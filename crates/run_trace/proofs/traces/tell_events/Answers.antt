@@ -1,3 +1,5 @@
+use Rattle.std.proofs.lemmas.Result.{err_from_is_err_and}
+use Rattle.run_trace.proofs.Fronts.{broke_at}
 use Rattle.std.proofs.Common.{sym, ap, ◌∙◌, arith}
 use Rattle.machine_types.specs.{Core.Of, Schedules.turn_at}
 use Rattle.replay_runner.specs.Running.{Running}
@@ -21,3 +23,12 @@ loop-next-preserved g c =
       may = behind.ensures.may;
       ahead = omega (arith, behind.ensures.ahead, inv.ahead, ap next_ahead c.in-Event.is);
     }
+
+pub returns-in_err-tell_event-clause-walk : goal.returns-in_err-tell_event-clause-walk
+returns-in_err-tell_event-clause-walk g c =
+    let p = err_from_is_err_and c.from_residual.result c.from_residual.ensures.1 in
+    let order = c.args.order.now in
+    let m = c.args.trace.now in
+    rw (p.1, p.2) (broke_at c.args.p.now order c.args.names.now c.args.part m c.loop-next.trace c.tell_event.new.trace (turn_at (stage_of order c.args.from) m.machine.core) (turn_of_next order c.loop-next.next) (Of c.in-Event.t) (stage_of order c.in-Event.progress)
+    (g.K.Sink.text c.args.sink.now) (g.K.Sink.text c.loop-next.sink) (g.K.Sink.text c.tell_event.new.sink) (g.K.Sink.faults c.args.sink.now) (g.K.Sink.faults c.loop-next.sink) (g.K.Sink.faults c.tell_event.new.sink) c.in_err-tell_event.field-0.0
+    c.loop-next.invariant.walk (ap (turn_of_next order) c.in-Event.is) c.in_err-tell_event.ensures.told)
