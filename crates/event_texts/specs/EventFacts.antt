@@ -1,7 +1,7 @@
 -- An event, fact by fact: its number, the thread and the attempt that it is in, where it stands,
--- what it does in words where it is no instruction, the word that it accesses with what it found and
--- left there, what becomes of attempts, locks and the part, and the plain steps that it stands for.
--- And so an end to which an event led.
+-- what it does in words where it is no instruction, the word that it accesses with what it found
+-- and left there, what becomes of attempts, locks and the part, and the plain steps that it stands
+-- for. And so an end to which an event led.
 use Rattle.std.specs.Prelude.{ℕ, zero, suc, nat_lt, Bool, true, false, List, [], ◌∷◌, ◌++◌, codes}
 use Rattle.std.specs.Prelude.{map, Option, Some, None}
 use Rattle.json_lines.specs.declared.form.Form.{Form}

@@ -10,7 +10,7 @@ use Rattle.std.specs.Prelude.{Err, take, drop}
 use Rattle.std.proofs.lemmas.List.{take-append-drop}
 use Rattle.host_io.specs.Faults.{CountsFault}
 use Rattle.run_trace.specs.declared.traces.TraceError.{TraceError, TheVariants.{Memory, Failed}}
-use Rattle.run_trace.specs.{Traces.{BreaksOff, IsBroken, IsHappeningTold, IsPut, IsTraced, IsBrokenOff, IsFrontTold, IsStarted, IsTraceFront, WalksOn, number_after}, declared.{events.Part.Part, traces.Tracing.Tracing}}
+use Rattle.run_trace.specs.{Traces.{BreaksOff, IsCutShort, IsHappeningTold, IsPut, IsTraced, IsBrokenOff, IsFrontTold, IsStarted, IsTraceFront, WalksOn, number_after}, declared.{events.Part.Part, traces.Tracing.Tracing}}
 use Rattle.run_trace.proofs.{LongerRuns.{lines_on, told_both}, Walks.{own_line, walked_at_start}}
 
 -- ---- fronts of texts
@@ -88,13 +88,13 @@ module _ (c : MarkedProgram) (order : List ℕ) (names : List (List ℕ)) (part 
 
   -- so it broke off behind what was walked, at a happening
   pub broke_at : (m n r : Tracing) (turn at : Option Turn) (h : Happening) (stage : Stage) (told mid now : Option (List ℕ)) (before between after : ℕ) (e : TraceError) → WalksOn c order names part m turn told before n at mid between
-      → at ≡ Some (record { happening = h; stage = stage }) → IsHappeningTold c names part h n r mid now between after {A = Unit {0}} (Err e) → IsBroken c order names part m turn told before now after e
+      → at ≡ Some (record { happening = h; stage = stage }) → IsHappeningTold c names part h n r mid now between after {A = Unit {0}} (Err e) → IsCutShort c order names part m turn told before now after e
   broke_at m n r turn at h stage told mid now before between after Memory on is did = (did.0 ∙ on.calm, breaks_then m n turn at told mid now before between on (breaks_still n at mid now did.1))
   broke_at m n r turn at h stage told mid now before between after Failed on is did = (subst (λ (k : ℕ). CountsFault k after) on.calm did.0, breaks_then m n turn at told mid now before between on (breaks_within n at h stage mid now is did.1))
 
   -- or later
   pub broke_then : (m n : Tracing) (turn at : Option Turn) (told mid now : Option (List ℕ)) (before between after : ℕ) (e : TraceError) → WalksOn c order names part m turn told before n at mid between
-      → IsBroken c order names part n at mid between now after e → IsBroken c order names part m turn told before now after e
+      → IsCutShort c order names part n at mid between now after e → IsCutShort c order names part m turn told before now after e
   broke_then m n turn at told mid now before between after Memory on b = (b.0 ∙ on.calm, breaks_then m n turn at told mid now before between on b.1)
   broke_then m n turn at told mid now before between after Failed on b = (subst (λ (k : ℕ). CountsFault k after) on.calm b.0, breaks_then m n turn at told mid now before between on b.1)
 
@@ -196,7 +196,7 @@ module _ (c : MarkedProgram) (cfg : Config) (order : List ℕ) (names : List (Li
       failed_is_memory e = cc
 
   -- among the lines of events
-  pub unwalked : (told now : Option (List ℕ)) (before after : ℕ) (m : Tracing) (e : TraceError) → IsStarted c cfg m → IsBroken c order names part m (turn_at (First order) m.machine.core) told before now after e → IsTraced c cfg order names part told now before after (Err e)
+  pub unwalked : (told now : Option (List ℕ)) (before after : ℕ) (m : Tracing) (e : TraceError) → IsStarted c cfg m → IsCutShort c order names part m (turn_at (First order) m.machine.core) told before now after e → IsTraced c cfg order names part told now before after (Err e)
   unwalked told now before after m Memory begun b = (b.0, broken_front c cfg order names part runs marked width settings told now (b.1 cfg told (walked_at_start c cfg order names part told m begun)))
   unwalked told now before after m Failed begun b = (b.0, broken_front c cfg order names part runs marked width settings told now (b.1 cfg told (walked_at_start c cfg order names part told m begun)))
 

@@ -121,12 +121,12 @@ BreaksOff c order names part m next told now =
     → IsBrokenOff c cfg order names part first now
 
 -- for want of memory, where the sink had not failed, or since it failed
-abbrev pub IsBroken : MarkedProgram → (order : List ℕ) → (names : List (List ℕ)) → Part
+abbrev pub IsCutShort : MarkedProgram → (order : List ℕ) → (names : List (List ℕ)) → Part
     → (m : Tracing) → Option Turn → (told : Option (List ℕ)) → (before : ℕ)
     → (now : Option (List ℕ)) → (after : ℕ) → TraceError → Type 0
-IsBroken c order names part m turn told before now after Memory =
+IsCutShort c order names part m turn told before now after Memory =
     (after ≡ before) × BreaksOff c order names part m turn told now
-IsBroken c order names part m turn told before now after Failed =
+IsCutShort c order names part m turn told before now after Failed =
     CountsFault before after × BreaksOff c order names part m turn told now
 
 -- on from a turn, to another
@@ -136,7 +136,7 @@ abbrev pub IsWalk : MarkedProgram → (order : List ℕ) → (names : List (List
 IsWalk c order names part m turn told before n now after (Ok next) =
     WalksOn c order names part m turn told before n (turn_of_next order next) now after
 IsWalk c order names part m turn told before n now after (Err e) =
-    IsBroken c order names part m turn told before now after e
+    IsCutShort c order names part m turn told before now after e
 
 -- on from a turn, to the end of the run
 abbrev pub IsWalkToEnd : MarkedProgram → (order : List ℕ) → (names : List (List ℕ)) → Part
@@ -145,7 +145,7 @@ abbrev pub IsWalkToEnd : MarkedProgram → (order : List ℕ) → (names : List 
 IsWalkToEnd c order names part m turn told before n now after (Ok done) =
     WalksOn c order names part m turn told before n None now after
 IsWalkToEnd c order names part m turn told before n now after (Err e) =
-    IsBroken c order names part m turn told before now after e
+    IsCutShort c order names part m turn told before now after e
 
 -- ---- a text that is put to the sink
 
@@ -174,8 +174,8 @@ pub record IsTraceFront (c : MarkedProgram) (cfg : Config) (order : List ℕ) (n
   pub schedule : IsScheduleOf c cfg order happenings
   pub front : IsFrontTold told now (trace_text c cfg names part happenings)
 
--- the trace was written whole, and the outcome of the run is answered; or a front of it, where there
--- was no memory, and the sink had not failed, or where it failed
+-- the trace was written whole, and the outcome of the run is answered; or a front of it, where
+-- there was no memory, and the sink had not failed, or where it failed
 abbrev pub IsTraced : MarkedProgram → Config → (order : List ℕ) → (names : List (List ℕ)) → Part
     → (told now : Option (List ℕ)) → (before after : ℕ) → Result Outcome TraceError → Type 0
 IsTraced c cfg order names part told now before after (Ok o) =

@@ -1,7 +1,7 @@
 use Rattle.std.{proofs.Common.{◌≡◌, ◌++◌, ℕ, List, None, subst}, specs.Option.option_map}
 use Rattle.machine_types.specs.Schedules.{First, turn_at}
 use Rattle.std.proofs.lemmas.Result.{err_from_is_err_and}
-use Rattle.run_trace.{specs.Traces.{IsBroken, WalksOn}, proofs.{Walks.whole, Fronts.{unended, unreported, unstarted, unwalked}}}
+use Rattle.run_trace.{specs.Traces.{IsCutShort, WalksOn}, proofs.{Walks.whole, Fronts.{unended, unreported, unstarted, unwalked}}}
 use Rattle.run_trace.specs.declared.traces.TraceError.TheVariants.{Memory}
 use Rattle.run_trace.proofs.traces.explain_run.Goals as goal
 
@@ -32,7 +32,7 @@ pub returns-in_err-tell_all : goal.returns-in_err-tell_all
 returns-in_err-tell_all g c =
     let p = err_from_is_err_and c.from_residual-in_err-tell_all.result c.from_residual-in_err-tell_all.ensures.1 in
     let m = c.in_ok-trace.trace in
-    let broken = subst (λ (ts : List ℕ). IsBroken c.args.p.now ts c.args.names.now c.args.part m (turn_at (First ts) m.machine.core) (g.K.Sink.text c.args.sink.now) (g.K.Sink.faults c.args.sink.now) (g.K.Sink.text c.tell_all.new.sink) (g.K.Sink.faults c.tell_all.new.sink) c.in_err-tell_all.field-0.0) c.as_slice.ensures c.in_err-tell_all.ensures in
+    let broken = subst (λ (ts : List ℕ). IsCutShort c.args.p.now ts c.args.names.now c.args.part m (turn_at (First ts) m.machine.core) (g.K.Sink.text c.args.sink.now) (g.K.Sink.faults c.args.sink.now) (g.K.Sink.text c.tell_all.new.sink) (g.K.Sink.faults c.tell_all.new.sink) c.in_err-tell_all.field-0.0) c.as_slice.ensures c.in_err-tell_all.ensures in
     rw (p.1, p.2) (unwalked c.args.p.now c.args.cfg.now c.args.order.now c.args.names.now c.args.part c.every_order_has_run.ensures c.workers-workers.ensures.marked c.have_width.ensures c.requires
     (g.K.Sink.text c.args.sink.now) (g.K.Sink.text c.tell_all.new.sink) (g.K.Sink.faults c.args.sink.now) (g.K.Sink.faults c.tell_all.new.sink) m c.in_err-tell_all.field-0.0 c.in_ok-trace.ensures.ok broken)
 
