@@ -8,9 +8,11 @@ ghost use Rattle.refusal_places.specs.OtherCodes.{conversions as the_conversions
 ghost use Rattle.refusal_places.specs.OtherCodes.{element_name as the_element_name};
 ghost use Rattle.refusal_places.specs.OtherCodes.{object_elements as the_object_elements};
 ghost use Rattle.refusal_places.specs.OtherCodes.{if_named as the_mend_if_named};
-ghost use Rattle.refusal_places.specs.OtherCodes.{opcode_mend as the_mend, or_again as the_or_again};
+ghost use Rattle.refusal_places.specs.OtherCodes.{opcode_mend as the_mend};
+ghost use Rattle.refusal_places.specs.OtherCodes.{or_again as the_or_again};
 ghost use Rattle.refusal_places.specs.OtherCodes.{other_name as the_other_name};
-ghost use Rattle.refusal_places.specs.OtherCodes.{single_codes as the_single_codes, single_mends as the_single_mends};
+ghost use Rattle.refusal_places.specs.OtherCodes.{single_codes as the_single_codes};
+ghost use Rattle.refusal_places.specs.OtherCodes.{single_mends as the_single_mends};
 ghost use Rattle.refusal_places.specs.OtherCodes.{small_elements as the_small_elements};
 ghost use Rattle.refusal_places.specs.OtherCodes.{subroutines as the_subroutines};
 ghost use Rattle.refusal_places.specs.OtherCodes.{wide_arithmetic as the_wide_arithmetic};
@@ -223,7 +225,8 @@ fn single_codes(opcode: u8) -> Option<&'static str>
 
 /// The one of two names that there is.
 fn either(first: Option<&'static str>, second: Option<&'static str>) -> Option<&'static str>
-    ensures { option_copied result ≡ option_or (option_copied first.entry) (option_copied second.entry) }
+    ensures { option_copied result
+        ≡ option_or (option_copied first.entry) (option_copied second.entry) }
 {
     match first {
         Some(name) => Some(name),
