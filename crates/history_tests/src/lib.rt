@@ -5,4 +5,6 @@
 #[cfg(test)]
 mod playing;
 #[cfg(test)]
+mod searches;
+#[cfg(test)]
 mod shadows;
