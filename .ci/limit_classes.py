@@ -84,14 +84,15 @@ def refused_last(number, methods):
     return file.content()
 
 
-def calls_on(count, last):
+def calls_on(count, last, synchronized=1):
     """A synchronized `m0` calls m1, that calls the next, and so on up to the last of so many: it calls
-    the method of that name, or makes an array where there is none."""
+    the method of that name, or makes an array where there is none. The first few are synchronized."""
     code = Code()
     for number in range(count):
         code.call(f"m{number + 1}", "()V")
         code.put(RETURN)
-        code.method(flags=STATIC if number else SYNCHRONIZED, name=f"m{number}")
+        static = STATIC if number or synchronized > 1 else 0
+        code.method(flags=static | (SYNCHRONIZED if number < synchronized else 0), name=f"m{number}")
         code = Code(code.file)
     if last:
         code.call(last, "()V")

@@ -8,3 +8,4 @@ pub mod ShortestLaws
 pub mod BackLaws
 pub mod MarkParts
 pub mod ExplainLaws
+pub mod TellingLaws

@@ -4,4 +4,6 @@ pub mod Reasons
 pub mod OwnFlags
 pub mod ReachedSpots
 pub mod Searches
-pub mod ReasonTexts
+pub mod SharedWays
+pub mod ReasonFacts
+pub mod MarksTold

@@ -13,7 +13,7 @@ ghost use Rattle.graph_closure.specs.Walks.{AreRecurring};
 ghost use Rattle.guard_analysis.specs.CallGraph.{call_graph};
 ghost use Rattle.mark_reasons.specs.Firsts.{IsFirst};
 ghost use Rattle.mark_reasons.specs.OwnFlags.{AreOwn};
-ghost use Rattle.mark_reasons.specs.Reasons.{callee_of, marked_section, AreMarked, AreReasons};
+ghost use Rattle.mark_reasons.specs.Reasons.{callee_of, marked_section};
 ghost use Rattle.mark_reasons.specs.Reasons.{HasCause, IsExplained, IsReason};
 ghost use Rattle.mark_reasons.specs.Searches.{own_breaks, own_call, turns};
 
@@ -23,14 +23,12 @@ use crate::reached::is_spot_reached;
 use crate::reason::{Reason, Site};
 use crate::recursion::{come_back, turns};
 use crate::search::{find_fault, own_call};
-use checked_program::{Checked, Mode, SectionMark, Tags, Uses};
-use frozen_classes::frozen_classes;
+use checked_program::{Mode, SectionMark, Tags, Uses};
 use graph_closure::recurring;
 use guard_analysis::call_graph::call_graph;
 use guard_analysis::faults::fault_at;
 use guard_analysis::flag_at;
 use guard_analysis::marking::section_mode;
-use guard_analysis::readable::uses;
 use jvm_types::{MethodInfo, Program, Rows};
 use std::alloc::{AllocError, Global};
 
@@ -267,7 +265,7 @@ fn rule_reason(
 }
 
 /// The reason of a mark; none of M0.
-fn reason_of(
+pub fn reason_of(
     alloc: Global,
     p: &Program,
     uses: &Uses,
@@ -303,32 +301,12 @@ fn reason_of(
     Ok(Some(reason))
 }
 
-fn reasons_of(
+/// Of each node of the graph of calls, whether it leads to a method that calls itself.
+pub fn recurring_nodes(
     alloc: Global,
     p: &Program,
-    uses: &Uses,
     tags: &Rows<Tags>,
-    recurs: &[bool],
-    marks: &Rows<SectionMark>,
-) -> Result<Rows<Option<Reason>>, AllocError>
-    requires program { IsProgram p.now }
-    requires few { length p.now.methods ≤ most }
-    requires taggings { AreTaggings p.now p.now.methods tags.now }
-    requires uses { AreUses p.now (tagged_by tags.now) uses.now }
-    requires recurs { AreRecurring (call_graph p.now tags.now).from (call_graph p.now tags.now).to
-        (3 * length p.now.methods) recurs.now }
-    requires marked { AreMarked p.now (tagged_by tags.now) uses.now marks.now }
-    ensures { IfOk result (AllZip (IsExplained p.now (tagged_by tags.now) uses.now) marks.now) }
-{
-    let mut reasons = Rows::new(alloc);
-    for mark in marks.as_slice() {
-        reasons.push(reason_of(alloc, p, uses, tags, recurs, *mark)?)?;
-    }
-    Ok(reasons)
-}
-
-/// Of each node of the graph of calls, whether it leads to a method that calls itself.
-fn recurring_nodes(alloc: Global, p: &Program, tags: &Rows<Tags>) -> Result<Vec<bool>, AllocError>
+) -> Result<Vec<bool>, AllocError>
     requires program { IsProgram p.now }
     requires few { length p.now.methods ≤ most }
     ensures { IfOk result (λ v.
@@ -342,16 +320,4 @@ fn recurring_nodes(alloc: Global, p: &Program, tags: &Rows<Tags>) -> Result<Vec<
         graph.to.as_slice(),
         3 * p.methods.len(),
     )
-}
-
-/// The reason of each mark of a program, in the order of the marks; M0 has none.
-pub fn reasons(alloc: Global, c: &Checked) -> Result<Rows<Option<Reason>>, AllocError>
-    ensures { IfOk result (AreReasons c.now.program (tagged_by c.now.tags) c.now.marks) }
-{
-    let p = c.program();
-    let tags = c.tags();
-    let frozen = frozen_classes(alloc, p, tags)?;
-    let uses = uses(alloc, p, tags, &frozen)?;
-    let recurs = recurring_nodes(alloc, p, tags)?;
-    reasons_of(alloc, p, &uses, tags, recurs.as_slice(), c.marks())
 }

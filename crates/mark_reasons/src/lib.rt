@@ -4,14 +4,15 @@
 
 pub mod cause;
 pub mod explain;
+pub mod facts;
 pub mod own;
 pub mod reached;
 pub mod reason;
 pub mod recursion;
 pub mod search;
-pub mod texts;
+pub mod shared;
+pub mod telling;
 
 pub use cause::Cause;
-pub use explain::reasons;
 pub use reason::{Reason, Site};
-pub use texts::marks_explained;
+pub use telling::{MarksError, explain_marks};

@@ -1,5 +1,5 @@
--- What is answered where a run is told.
-use Rattle.std.proofs.Common.{◌≡◌, ◌≢◌, ℕ, ◌<◌, ◌≤◌, Bool, List, Option, Some, None, Result, Ok, Err, inr, refl, sym, ◌∙◌, arith}
+-- What is answered where marks or a run are told.
+use Rattle.std.proofs.Common.{◌≡◌, ◌≢◌, ℕ, ◌<◌, ◌≤◌, Bool, List, Option, Some, None, Result, Ok, Err, inr, refl, sym, subst, ◌∙◌, arith}
 use Rattle.jvm_types.specs.declared.outcome.Outcome.{Outcome}
 use Rattle.checked_program.specs.MarkedProgram.{MarkedProgram}
 use Rattle.machine_types.specs.declared.config.Config.{Config}
@@ -7,8 +7,12 @@ use Rattle.class_runner.proofs.LoadedOnce.{accepted}
 use Rattle.host_io.{specs.{Faults.CountsFault, declared.shelf.NamedFile.NamedFile}, proofs.SoFar.none_long}
 use Rattle.run_trace.specs.{Traces.IsTraced, declared.{events.Part.Part, traces.TraceError.{TraceError, TheVariants.{Memory, Failed}}}}
 use Rattle.program_answers.specs.{Finish.{finish_of, finish_status}, declared.finish.Finish.{Finish, TheVariants.{Returned, Uncaught, Limited}}}
-use Rattle.solero_explain.specs.{Answer.{AreUnrefused, RunsFiles}, Command.Question, Parts.{IsRunTold, IsWork}, Requests.question_by}
-use Rattle.solero_explain.specs.{Tracing.{IsAnswered, status_of_trace}, declared.request.Request.Request}
+use Rattle.json_lines.specs.declared.form.Form.{Form}
+use Rattle.mark_reasons.specs.{MarksTold.AreMarksWritten, declared.telling.MarksError.MarksError}
+use Rattle.mark_reasons.specs.declared.telling.MarksError.TheVariants as errors
+use Rattle.solero_explain.specs.{Answer.{AreUnrefused, IsToldAtLength, RunsFiles}, Command.Question, Parts.IsWork, Requests.question_by}
+use Rattle.solero_explain.specs.{Tracing.{IsAnswered, IsProgramTold, status_of_marks, status_of_trace}, declared.request.{Request.Request, What.What}}
+use Rattle.solero_explain.specs.declared.request.What.TheVariants as whats
 use Rattle.solero_explain.specs.declared.program.Work.TheVariants as works
 
 -- ---- statuses
@@ -46,25 +50,50 @@ trace_four (Ok o) e = (run_status (finish_of o)).four e
 trace_four (Err Failed) e = omega (arith, e)
 trace_four (Err Memory) e = omega (arith, e)
 
--- ---- the clauses, where a run is told
+-- ---- what is told at length, and its status
+
+record IsToldStatus (n : ℕ) : Type 0 where
+  few : n ≤ 7
+  two : n ≢ 2
+  three : n ≢ 3
+  four : n ≢ 4
+
+marks_status : {A : Type 0} (came : Result A MarksError) → IsToldStatus (status_of_marks came)
+marks_status (Ok done) = record { few = omega arith; two = λ e. omega (arith, e); three = λ e. omega (arith, e); four = λ e. omega (arith, e) }
+marks_status (Err errors.Failed) = record { few = omega arith; two = λ e. omega (arith, e); three = λ e. omega (arith, e); four = λ e. omega (arith, e) }
+marks_status (Err errors.Memory) = record { few = omega arith; two = λ e. omega (arith, e); three = λ e. omega (arith, e); four = λ e. omega (arith, e) }
+
+trace_status : (came : Result Outcome TraceError) → IsToldStatus (status_of_trace came)
+trace_status came = record { few = trace_few came; two = trace_two came; three = trace_three came; four = trace_four came }
+
+told_status : (what : What) (asked : Question) (c : MarkedProgram) (names : List (List ℕ)) (told now : Option (List ℕ)) (from to status : ℕ) → IsProgramTold what asked c names told now from to status → IsToldStatus status
+told_status whats.Refusal asked c names told now from to status h = absurd h
+told_status whats.Marks asked c names told now from to status (came, written, is) = subst IsToldStatus (sym is) (marks_status came)
+told_status whats.Run asked c names told now from to status (came, traced, is) = subst IsToldStatus (sym is) (trace_status came)
+
+-- ---- the clauses, where marks or a run are told
 
 pub run_answered : (asked : Option Question) (files : Option (List NamedFile)) (unreadable : Option (List ℕ → Bool)) (before after : ℕ) (r : Request) (c : MarkedProgram) (names : List (List ℕ)) (told now : Option (List ℕ)) (from to status : ℕ)
-    → IsWork asked files unreadable before after (works.Run r c names) → IsRunTold c (question_by r) names told now from to status → IsAnswered asked files unreadable before after told now from to status
+    → IsWork asked files unreadable before after (works.Run r c names) → IsProgramTold r.what (question_by r) c names told now from to status → IsAnswered asked files unreadable before after told now from to status
 run_answered None files unreadable before after r c names told now from to status work run = absurd work
 run_answered (Some asked) files unreadable before after r c names told now from to status work run =
-    inr (work.1, record { checked = c; names = names; runs = work.2; came = run.0; traced = rw work.0 run.1; answered = run.2 })
+    inr (work.1, record { checked = c; names = names; runs = work.2; is_told = subst (λ (q : Question). IsProgramTold q.what q c names told now from to status) (sym work.0) run })
 
-pub run_few : (came : Result Outcome TraceError) (status : ℕ) → status ≡ status_of_trace came → status ≤ 7
-run_few came status is = rw is (trace_few came)
+pub run_few : (what : What) (asked : Question) (c : MarkedProgram) (names : List (List ℕ)) (told now : Option (List ℕ)) (from to status : ℕ) → IsProgramTold what asked c names told now from to status → status ≤ 7
+run_few what asked c names told now from to status h = (told_status what asked c names told now from to status h).few
 
-pub run_not_two : (came : Result Outcome TraceError) (status : ℕ) → status ≡ status_of_trace came → status ≢ 2
-run_not_two came status is two = trace_two came (sym is ∙ two)
+pub run_not_two : (what : What) (asked : Question) (c : MarkedProgram) (names : List (List ℕ)) (told now : Option (List ℕ)) (from to status : ℕ) → IsProgramTold what asked c names told now from to status → status ≢ 2
+run_not_two what asked c names told now from to status h = (told_status what asked c names told now from to status h).two
 
-pub run_not_three : (came : Result Outcome TraceError) (status : ℕ) → status ≡ status_of_trace came → status ≢ 3
-run_not_three came status is three = trace_three came (sym is ∙ three)
+pub run_not_three : (what : What) (asked : Question) (c : MarkedProgram) (names : List (List ℕ)) (told now : Option (List ℕ)) (from to status : ℕ) → IsProgramTold what asked c names told now from to status → status ≢ 3
+run_not_three what asked c names told now from to status h = (told_status what asked c names told now from to status h).three
 
-pub run_not_four : (came : Result Outcome TraceError) (status : ℕ) → status ≡ status_of_trace came → status ≢ 4
-run_not_four came status is four = trace_four came (sym is ∙ four)
+pub run_not_four : (what : What) (asked : Question) (c : MarkedProgram) (names : List (List ℕ)) (told now : Option (List ℕ)) (from to status : ℕ) → IsProgramTold what asked c names told now from to status → status ≢ 4
+run_not_four what asked c names told now from to status h = (told_status what asked c names told now from to status h).four
+
+pub run_at_length : (asked : Option Question) (files : Option (List NamedFile)) (unreadable : Option (List ℕ → Bool)) (before after : ℕ) (r : Request) (c : MarkedProgram) (names : List (List ℕ)) → IsWork asked files unreadable before after (works.Run r c names) → IsToldAtLength r.what
+run_at_length None files unreadable before after r c names work = absurd work
+run_at_length (Some asked) files unreadable before after r c names work = subst (λ (q : Question). IsToldAtLength q.what) work.0 work.2.run.what
 
 pub run_is_read : (asked : Option Question) (files : Option (List NamedFile)) (unreadable : Option (List ℕ → Bool)) (before after : ℕ) (r : Request) (c : MarkedProgram) (names : List (List ℕ)) → IsWork asked files unreadable before after (works.Run r c names) → asked ≡ None → ⊥
 run_is_read None files unreadable before after r c names work none = work
@@ -89,13 +118,27 @@ by_came_failed c cfg order names part told now from to (Ok o) traced five = absu
 by_came_failed c cfg order names part told now from to (Err Failed) traced five = traced.0
 by_came_failed c cfg order names part told now from to (Err Memory) traced five = absurd (five_is_not_six 6 five refl)
 
-pub run_sink_failed : (c : MarkedProgram) (cfg : Config) (order : List ℕ) (names : List (List ℕ)) (part : Part) (told now : Option (List ℕ)) (from to : ℕ) (came : Result Outcome TraceError) (status : ℕ) → IsTraced c cfg order names part told now from to came → status ≡ status_of_trace came → status ≡ 5 → CountsFault from to
-run_sink_failed c cfg order names part told now from to came status traced is five = by_came_failed c cfg order names part told now from to came traced (sym is ∙ five)
+marks_failed : (form : Form) (c : MarkedProgram) (told now : Option (List ℕ)) (from to : ℕ) (came : Result (Unit {0}) MarksError) → AreMarksWritten form c told now from to came → status_of_marks came ≡ 5 → CountsFault from to
+marks_failed form c told now from to (Ok done) written five = absurd (omega (arith, five))
+marks_failed form c told now from to (Err errors.Failed) written five = written.0
+marks_failed form c told now from to (Err errors.Memory) written five = absurd (omega (arith, five))
+
+pub run_sink_failed : (what : What) (asked : Question) (c : MarkedProgram) (names : List (List ℕ)) (told now : Option (List ℕ)) (from to status : ℕ) → IsProgramTold what asked c names told now from to status → status ≡ 5 → CountsFault from to
+run_sink_failed whats.Refusal asked c names told now from to status h five = absurd h
+run_sink_failed whats.Marks asked c names told now from to status (came, written, is) five = marks_failed asked.form c told now from to came written (sym is ∙ five)
+run_sink_failed whats.Run asked c names told now from to status (came, traced, is) five = by_came_failed c asked.cfg asked.order names asked.part told now from to came traced (sym is ∙ five)
 
 by_came_fault : (c : MarkedProgram) (cfg : Config) (order : List ℕ) (names : List (List ℕ)) (part : Part) (told now : Option (List ℕ)) (from to : ℕ) (came : Result Outcome TraceError) → IsTraced c cfg order names part told now from to came → from < to → status_of_trace came ≡ 5
 by_came_fault c cfg order names part told now from to (Ok o) traced rose = omega (arith, traced.calm, rose)
 by_came_fault c cfg order names part told now from to (Err Failed) traced rose = refl
 by_came_fault c cfg order names part told now from to (Err Memory) traced rose = omega (arith, traced.0, rose)
 
-pub run_sink_fault : (c : MarkedProgram) (cfg : Config) (order : List ℕ) (names : List (List ℕ)) (part : Part) (told now : Option (List ℕ)) (from to : ℕ) (came : Result Outcome TraceError) (status : ℕ) → IsTraced c cfg order names part told now from to came → status ≡ status_of_trace came → from < to → status ≡ 5
-run_sink_fault c cfg order names part told now from to came status traced is rose = is ∙ by_came_fault c cfg order names part told now from to came traced rose
+marks_fault : (form : Form) (c : MarkedProgram) (told now : Option (List ℕ)) (from to : ℕ) (came : Result (Unit {0}) MarksError) → AreMarksWritten form c told now from to came → from < to → status_of_marks came ≡ 5
+marks_fault form c told now from to (Ok done) written rose = omega (arith, written.0, rose)
+marks_fault form c told now from to (Err errors.Failed) written rose = refl
+marks_fault form c told now from to (Err errors.Memory) written rose = omega (arith, written.0, rose)
+
+pub run_sink_fault : (what : What) (asked : Question) (c : MarkedProgram) (names : List (List ℕ)) (told now : Option (List ℕ)) (from to status : ℕ) → IsProgramTold what asked c names told now from to status → from < to → status ≡ 5
+run_sink_fault whats.Refusal asked c names told now from to status h rose = absurd h
+run_sink_fault whats.Marks asked c names told now from to status (came, written, is) rose = is ∙ marks_fault asked.form c told now from to came written rose
+run_sink_fault whats.Run asked c names told now from to status (came, traced, is) rose = is ∙ by_came_fault c asked.cfg asked.order names asked.part told now from to came traced rose

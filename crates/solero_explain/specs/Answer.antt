@@ -17,8 +17,6 @@ use Rattle.jvm_types.specs.declared.refusal.CRule.TheVariants.{C10}
 use Rattle.jvm_types.specs.declared.refusal.Place.{Place}
 use Rattle.jvm_types.specs.declared.refusal.Rule.{Rule}
 use Rattle.jvm_types.specs.declared.refusal.Rule.TheVariants as rules
-use Rattle.mark_reasons.specs.ReasonTexts.{IsMarksExplained}
-use Rattle.reason_json.specs.ReasonJson.{AreMarksInJson}
 use Rattle.refusal_places.specs.Explained.{Explains}
 use Rattle.json_lines.specs.declared.form.Form.{Form}
 use Rattle.json_lines.specs.declared.form.Form.TheVariants.{Lines, Json}
@@ -42,22 +40,21 @@ abbrev pub accepted_text : Form → List ℕ
 accepted_text Lines = line (codes "accepted")
 accepted_text Json = codes "{" ++ text_member (codes "what") (codes "accepted") ++ line (codes "}")
 
--- the marks of a program with their reasons
-abbrev pub AreMarksTold : Form → MarkedProgram → List ℕ → Type 0
-AreMarksTold Lines checked text = IsMarksExplained checked text
-AreMarksTold Json checked text = AreMarksInJson checked text
+-- that is all that is told of them where a refusal is asked for
+abbrev pub IsTold : What → Form → List ℕ → Type 0
+IsTold whats.Refusal form text = text ≡ accepted_text form
+IsTold what form text = ⊥
 
--- what is told of a program
-abbrev pub IsTold : What → Form → MarkedProgram → List ℕ → Type 0
-IsTold whats.Refusal form checked text = text ≡ accepted_text form
-IsTold whats.Marks form checked text = AreMarksTold form checked text
-IsTold whats.Run form checked text = ⊥
+-- marks and runs are told as they are found
+abbrev pub IsToldAtLength : What → Type 0
+IsToldAtLength whats.Refusal = ⊥
+IsToldAtLength what = Unit {0}
 
 -- told of the program that the files are loaded to
 pub record TellsProgram (asked : Question) (contents : List (List ℕ)) (text : List ℕ) : Type 0 where
   pub checked : MarkedProgram
   pub loaded : IsLoaded contents asked.heap asked.threads checked
-  pub told : IsTold asked.what asked.form checked text
+  pub told : IsTold asked.what asked.form text
 
 -- ---- files that are refused
 
@@ -119,10 +116,11 @@ IsExplainDue (Some asked) files unreadable before after (Output text) =
     (after ≡ before) × TellsFiles files asked text
 IsExplainDue (Some asked) files unreadable before after (Report finish text) = ⊥
 
--- the program that the files are loaded to, whose run is to be told, with the names of its fields
+-- the program that the files are loaded to, whose marks or whose run is to be told, with the names
+-- of its fields
 pub record IsRunOf (asked : Question) (contents : List (List ℕ)) (checked : MarkedProgram)
     (names : List (List ℕ)) : Type 0 where
-  pub what : asked.what ≡ whats.Run
+  pub what : IsToldAtLength asked.what
   pub loaded : IsLoaded contents asked.heap asked.threads checked
   pub named : (classes : List ClassFile) → AllZip Spells contents classes
       → names ≡ all_field_names classes

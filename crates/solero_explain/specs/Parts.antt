@@ -2,11 +2,7 @@
 use Rattle.std.specs.Prelude.{◌≡◌, ℕ, Bool, List, [], Option, Some, None, Result, Ok, Err}
 use Rattle.checked_program.specs.MarkedProgram.{MarkedProgram}
 use Rattle.host_io.specs.declared.shelf.NamedFile.{NamedFile}
-use Rattle.jvm_types.specs.declared.outcome.Outcome.{Outcome}
-use Rattle.run_trace.specs.Traces.{IsTraced}
-use Rattle.run_trace.specs.declared.traces.TraceError.{TraceError}
 use Rattle.solero_explain.specs.Requests.{question_by}
-use Rattle.solero_explain.specs.Tracing.{status_of_trace}
 use Rattle.solero_explain.specs.declared.program.Found.{Found}
 use Rattle.solero_explain.specs.declared.program.Found.TheVariants as founds
 use Rattle.solero_explain.specs.declared.program.Work.{Work}
@@ -74,11 +70,3 @@ IsWork asked files unreadable before after (works.Due due) =
 IsWork None files unreadable before after (works.Run request checked names) = ⊥
 IsWork (Some asked) files unreadable before after (works.Run request checked names) =
     (asked ≡ question_by request) × (after ≡ before) × RunsFiles files asked checked names
-
--- a run is told as far as it is, and this is answered
-abbrev pub IsRunTold : MarkedProgram → Question → (names : List (List ℕ))
-    → (told now : Option (List ℕ)) → (before after status : ℕ) → Type 0
-IsRunTold checked asked names told now before after status =
-    (came : Result Outcome TraceError)
-    × IsTraced checked asked.cfg asked.order names asked.part told now before after came
-    × (status ≡ status_of_trace came)

@@ -1,8 +1,11 @@
--- What is answered where a run is told.
+-- What is answered where marks or a run are told.
 use Rattle.std.specs.Prelude.{◌≡◌, ◌⊎◌, ℕ, Bool, List, Option, Some, None, Result, Ok, Err}
 use Rattle.checked_program.specs.MarkedProgram.{MarkedProgram}
 use Rattle.host_io.specs.declared.shelf.NamedFile.{NamedFile}
 use Rattle.jvm_types.specs.declared.outcome.Outcome.{Outcome}
+use Rattle.mark_reasons.specs.MarksTold.{AreMarksWritten}
+use Rattle.mark_reasons.specs.declared.telling.MarksError.{MarksError}
+use Rattle.mark_reasons.specs.declared.telling.MarksError.TheVariants as errors
 use Rattle.run_trace.specs.Traces.{IsTraced}
 use Rattle.run_trace.specs.declared.traces.TraceError.{TraceError}
 use Rattle.run_trace.specs.declared.traces.TraceError.TheVariants.{Memory, Failed}
@@ -11,6 +14,8 @@ use Rattle.program_answers.specs.Finish.{finish_of, finish_status}
 use Rattle.program_answers.specs.declared.answer.Due.{Due}
 use Rattle.solero_explain.specs.Answer.{IsExplainDue, RunsFiles, explain_usage}
 use Rattle.solero_explain.specs.Command.{Question}
+use Rattle.solero_explain.specs.declared.request.What.{What}
+use Rattle.solero_explain.specs.declared.request.What.TheVariants as whats
 
 -- where there is no memory, a front of it may have been written
 abbrev pub status_of_trace : Result Outcome TraceError → ℕ
@@ -18,24 +23,40 @@ status_of_trace (Ok o) = finish_status (finish_of o)
 status_of_trace (Err Failed) = 5
 status_of_trace (Err Memory) = 6
 
--- the run of the program is told, as far as it is, and this is answered
+-- the marks, likewise
+abbrev pub status_of_marks : {A : Type 0} → Result A MarksError → ℕ
+status_of_marks (Ok done) = 0
+status_of_marks (Err errors.Failed) = 5
+status_of_marks (Err errors.Memory) = 6
+
+-- what is asked for is told of a program, as far as it is, and this is answered
+abbrev pub IsProgramTold : What → Question → MarkedProgram → (names : List (List ℕ))
+    → (told now : Option (List ℕ)) → (before after status : ℕ) → Type 0
+IsProgramTold whats.Refusal asked checked names told now before after status = ⊥
+IsProgramTold whats.Marks asked checked names told now before after status =
+    (came : Result (Unit {0}) MarksError)
+    × AreMarksWritten asked.form checked told now before after came
+    × (status ≡ status_of_marks came)
+IsProgramTold whats.Run asked checked names told now before after status =
+    (came : Result Outcome TraceError)
+    × IsTraced checked asked.cfg asked.order names asked.part told now before after came
+    × (status ≡ status_of_trace came)
+
 pub record Traces (files : Option (List NamedFile)) (asked : Question) (told now : Option (List ℕ))
     (before after status : ℕ) : Type 0 where
   pub checked : MarkedProgram
   pub names : List (List ℕ)
   pub runs : RunsFiles files asked checked names
-  pub came : Result Outcome TraceError
-  pub traced : IsTraced checked asked.cfg asked.order names asked.part told now before after came
-  pub answered : status ≡ status_of_trace came
+  pub is_told : IsProgramTold asked.what asked checked names told now before after status
 
--- the words ask for the run, and the shelf's count of faults goes from before to after
+-- the words ask for marks or a run, and the shelf's count of faults goes from before to after
 abbrev pub IsTraceAnswer : Option Question → Option (List NamedFile) → (before after : ℕ)
     → (told now : Option (List ℕ)) → (from to status : ℕ) → Type 0
 IsTraceAnswer None files before after told now from to status = ⊥
 IsTraceAnswer (Some asked) files before after told now from to status =
     (after ≡ before) × Traces files asked told now from to status
 
--- what is due is delivered, or the run is told
+-- what is due is delivered, or the marks or the run are told
 abbrev pub IsAnswered : Option Question → Option (List NamedFile) → Option (List ℕ → Bool)
     → (before after : ℕ) → (told now : Option (List ℕ)) → (from to status : ℕ) → Type 0
 IsAnswered asked files unreadable before after told now from to status =

@@ -1,4 +1,4 @@
-ghost use Rattle.std.specs.Prelude.{◌≡◌, ◌-◌, ◌^◌, ◌<◌, ◌≤◌, ◌≢◌, ◌⊎◌, List, Some, None, IfOk};
+ghost use Rattle.std.specs.Prelude.{◌≡◌, ◌-◌, ◌^◌, ◌<◌, ◌≤◌, ◌≢◌, ◌⊎◌, ℕ, List, Some, None, IfOk};
 ghost use Rattle.std.specs.Prelude.{length, true};
 ghost use Rattle.command_words.specs.RunValues.{are_few};
 ghost use Rattle.command_words.specs.Words.{texts};
@@ -6,13 +6,14 @@ ghost use Rattle.host_io.specs.Faults.{CountsFault};
 ghost use Rattle.host_io.specs.Reading.{first_long};
 ghost use Rattle.host_io.specs.declared.shelf.NamedFile.{NamedFile as File};
 ghost use Rattle.json_lines.specs.declared.form.Form.TheVariants.{Json};
-ghost use Rattle.solero_explain.specs.Answer.{AreUnrefused, AreMarksTold, IsExplainDue, IsTold};
+ghost use Rattle.solero_explain.specs.Answer.{AreUnrefused, IsExplainDue, IsTold};
+ghost use Rattle.solero_explain.specs.Answer.{IsToldAtLength};
 ghost use Rattle.solero_explain.specs.Answer.{accepted_text as the_accepted_text};
 ghost use Rattle.solero_explain.specs.Command.{Question, explain_command};
 ghost use Rattle.class_runner.specs.Loading.{IsLoaded};
 ghost use Rattle.solero_explain.specs.Parts.{IsDueOf, IsRefusalExplained, IsFoundInFiles};
-ghost use Rattle.solero_explain.specs.Parts.{IsFoundIn, IsRunTold, IsUnreadExplained, IsWork};
-ghost use Rattle.solero_explain.specs.Tracing.{IsAnswered};
+ghost use Rattle.solero_explain.specs.Parts.{IsFoundIn, IsUnreadExplained, IsWork};
+ghost use Rattle.solero_explain.specs.Tracing.{IsAnswered, IsProgramTold};
 ghost use Rattle.solero_explain.specs.Requests.{question_by};
 
 use crate::command::read_words;
@@ -26,11 +27,10 @@ use host_io::sink::Sink;
 use json_lines::{Form, write_text_member};
 use jvm_types::limits::{MOST_FILE_BYTES, MOST_FILES};
 use jvm_types::{Bytes, CRule, Place, Rows, Rule, in_file};
-use mark_reasons::marks_explained;
+use mark_reasons::{MarksError, explain_marks};
 use program_answers::answer::{Due, cannot_read};
 use program_answers::delivery::deliver;
 use program_answers::finish::finish_of;
-use reason_json::marks_in_json;
 use refusal_places::explained_refusal;
 use run_trace::{TraceError, explain_run};
 use std::alloc::{AllocError, Global};
@@ -43,7 +43,7 @@ pub const USAGE: &str = "usage: solero_explain --what WHAT [options] FILE...\n";
 enum Work {
     /// A text is due.
     Due(Due),
-    /// The run of a program is to be told, with the names of its fields.
+    /// The marks or the run of a program are to be told, with the names of its fields.
     Run(Request, Checked, Rows<Bytes>),
 }
 
@@ -86,7 +86,7 @@ pub fn top_explain<S: Shelf, K: Sink>(
 {
     match work_for(alloc, words, shelf) {
         Work::Due(due) => deliver(sink, USAGE, &due),
-        Work::Run(request, checked, names) => traced(alloc, &request, &checked, &names, sink),
+        Work::Run(request, checked, names) => tell(alloc, &request, &checked, &names, sink),
     }
 }
 
@@ -95,11 +95,24 @@ pub fn top_explain<S: Shelf, K: Sink>(
 enum Found {
     /// A text is due.
     Due(Due),
-    /// A program whose run is to be told, with the names of its fields.
+    /// A program whose marks or whose run is to be told, with the names of its fields.
     Program(Checked, Rows<Bytes>),
 }
 
-// The run is told.
+// The marks are told, and this is answered.
+fn marked<K: Sink>(alloc: Global, request: &Request, checked: &Checked, sink: &mut K) -> u8
+    ensures { (names : List (List ℕ))
+        → IsProgramTold What.Marks (question_by request.now) checked.now names (K.text sink.old)
+        (K.text sink.new) (K.faults sink.old) (K.faults sink.new) result }
+{
+    match explain_marks(alloc, request.form, checked, sink) {
+        Ok(()) => 0,
+        Err(MarksError::Failed) => 5,
+        Err(MarksError::Memory) => 6,
+    }
+}
+
+// The run is told, and this is answered.
 fn traced<K: Sink>(
     alloc: Global,
     request: &Request,
@@ -107,8 +120,8 @@ fn traced<K: Sink>(
     names: &Rows<Bytes>,
     sink: &mut K,
 ) -> u8
-    ensures { IsRunTold checked.now (question_by request.now) names.now (K.text sink.old)
-        (K.text sink.new) (K.faults sink.old) (K.faults sink.new) result }
+    ensures { IsProgramTold What.Run (question_by request.now) checked.now names.now
+        (K.text sink.old) (K.text sink.new) (K.faults sink.old) (K.faults sink.new) result }
 {
     match explain_run(
         alloc,
@@ -122,6 +135,25 @@ fn traced<K: Sink>(
         Ok(outcome) => finish_of(&outcome).status(),
         Err(TraceError::Failed) => 5,
         Err(TraceError::Memory) => 6,
+    }
+}
+
+// What is asked for is told of a program.
+fn tell<K: Sink>(
+    alloc: Global,
+    request: &Request,
+    checked: &Checked,
+    names: &Rows<Bytes>,
+    sink: &mut K,
+) -> u8
+    requires { IsToldAtLength request.now.what }
+    ensures { IsProgramTold request.now.what (question_by request.now) checked.now names.now
+        (K.text sink.old) (K.text sink.new) (K.faults sink.old) (K.faults sink.new) result }
+{
+    match request.what {
+        What::Refusal => unreachable!(),
+        What::Marks => marked(alloc, request, checked, sink),
+        What::Run => traced(alloc, request, checked, names, sink),
     }
 }
 
@@ -215,12 +247,11 @@ fn found_of(alloc: Global, request: &Request, contents: &Rows<Bytes>, checked: C
     ensures { IsFoundIn (question_by request.now) contents.now result }
 {
     match request.what {
-        What::Run => match field_names(alloc, contents) {
+        What::Refusal => Found::Due(due_of(accepted_text(alloc, request.form))),
+        What::Marks | What::Run => match field_names(alloc, contents) {
             Ok(names) => Found::Program(checked, names),
             Err(AllocError) => Found::Due(Due::OutOfMemory),
         },
-        What::Refusal => Found::Due(due_of(accepted_text(alloc, request.form))),
-        What::Marks => Found::Due(due_of(marks_text(alloc, request.form, &checked))),
     }
 }
 
@@ -231,16 +262,6 @@ fn due_of(text: Result<Bytes, AllocError>) -> Due
     match text {
         Ok(text) => Due::Output(text),
         Err(AllocError) => Due::OutOfMemory,
-    }
-}
-
-// The marks with their reasons.
-fn marks_text(alloc: Global, form: Form, checked: &Checked) -> Result<Bytes, AllocError>
-    ensures { IfOk result (AreMarksTold form checked.now) }
-{
-    match form {
-        Form::Lines => marks_explained(alloc, checked),
-        Form::Json => marks_in_json(alloc, checked),
     }
 }
 

@@ -1,0 +1,165 @@
+-- What is told of a section and of its mark: the calls that lead from it to what breaks the rule of
+-- its mark, and what keeps the place from being read where that is M5. On a line of its own stands
+-- each call, and what is behind it, a bit further right.
+use Rattle.std.specs.Prelude.{ℕ, ◌==◌, if◌then◌else◌, List, [], ◌∷◌, ◌++◌, codes, Option, Some}
+use Rattle.std.specs.Prelude.{None, nat_lt, length, take, slice_get, ◌-◌}
+use Rattle.std.specs.List.{flat_map}
+use Rattle.std.specs.Fmt.{decimal}
+use Rattle.jvm_types.specs.declared.code.Insn.{Insn}
+use Rattle.jvm_types.specs.declared.program.MethodInfo.{MethodInfo}
+use Rattle.jvm_types.specs.declared.program.Program.{Program}
+use Rattle.checked_program.specs.declared.section.SectionMark.{SectionMark}
+use Rattle.checked_program.specs.declared.section.Spot.{Spot}
+use Rattle.checked_program.specs.declared.section.Spot.TheVariants.{Method, Block}
+use Rattle.run_texts.specs.MarksText.{class_text}
+use Rattle.place_names.specs.PlaceFacts.{method_facts, pc_insn_facts}
+use Rattle.tellings.specs.declared.facts.Fact.{Fact}
+use Rattle.tellings.specs.declared.facts.Fact.TheVariants.{Words, Text, Count, Opens, Lists, Item}
+use Rattle.tellings.specs.declared.facts.Fact.TheVariants.{Closes, Ends}
+use Rattle.tellings.specs.declared.keys.Key.TheVariants as keys
+use Rattle.mark_reasons.specs.SharedWays.{shared_calls}
+use Rattle.mark_reasons.specs.declared.cause.Cause.{Cause}
+use Rattle.mark_reasons.specs.declared.cause.Cause.TheVariants as causes
+use Rattle.mark_reasons.specs.declared.reason.Site.{Site}
+use Rattle.mark_reasons.specs.declared.reason.Reason.{Reason}
+use Rattle.mark_reasons.specs.declared.reason.Reason.TheVariants.{Elsewhere, Unreached, Breaks}
+use Rattle.mark_reasons.specs.declared.reason.Reason.TheVariants.{Recurs}
+use Rattle.mark_reasons.specs.declared.shared.LastWay.{LastWay}
+
+-- ---- sections
+
+abbrev pub section_spot_facts : Spot → List Fact
+section_spot_facts Method = Text keys.Spot (codes "method") ∷ []
+section_spot_facts (Block pc) = Text keys.Spot (codes "block") ∷ Count keys.SpotPc pc ∷ []
+
+-- its class and method begin a line
+abbrev pub begun_facts : List (List ℕ) → Option MethodInfo → List Fact
+begun_facts names None = []
+begun_facts names (Some m) =
+    Text keys.SectionClass (class_text names m.class) ∷ Text keys.Method (m.name ++ m.descriptor)
+    ∷ []
+
+abbrev pub section_facts : Program → (method : ℕ) → Spot → List Fact
+section_facts p method spot =
+    begun_facts p.names (slice_get p.methods method) ++ section_spot_facts spot
+
+-- a mark, or a rule
+abbrev pub mark_name : ℕ → List ℕ
+mark_name n = codes "M" ++ decimal n
+
+-- ---- places
+
+-- the instruction of a number
+abbrev pub numbered : Option MethodInfo → ℕ → Option Insn
+numbered None i = None
+numbered (Some m) i = slice_get m.code i
+
+abbrev pub site_insn_facts : Option Insn → List Fact
+site_insn_facts None = []
+site_insn_facts (Some insn) = pc_insn_facts insn.pc (Some insn)
+
+abbrev pub site_facts : Program → (method at : ℕ) → List Fact
+site_facts p method at =
+    method_facts p.names (slice_get p.methods method)
+    ++ site_insn_facts (numbered (slice_get p.methods method) at)
+
+-- ---- the way
+
+-- an instruction or a method of the way, on a line of its own
+abbrev pub item_facts : List Fact → (behind : List ℕ) → List Fact
+item_facts facts behind = Words (codes "\n ") ∷ Item ∷ facts ++ Closes ∷ Words behind ∷ []
+
+abbrev pub call_facts : Program → Site → List Fact
+call_facts p x = item_facts (site_facts p x.method x.at) (codes " calls")
+
+abbrev pub calls_facts : Program → List Site → List Fact
+calls_facts p way = flat_map (call_facts p) way
+
+-- calls that stand below another section
+abbrev pub shared_facts : Program → Option LastWay → (calls : ℕ) → List Fact
+shared_facts p None calls = []
+shared_facts p (Some last) calls =
+    Words (codes "\n  ") ∷ Item ∷ Count keys.Calls calls ∷ section_facts p last.method last.spot
+    ++ Closes ∷ []
+
+-- the last of them where they are those of the way before
+abbrev pub way_facts : Program → Option LastWay → List Site → List Fact
+way_facts p before way =
+    calls_facts p (take (length way - shared_calls before way) way)
+    ++ (if nat_lt 0 (shared_calls before way)
+    then shared_facts p before (shared_calls before way) else [])
+
+-- ---- reasons
+
+-- the rules M1 to M5 in words
+abbrev pub rule_words : ℕ → List ℕ
+rule_words rule =
+    if rule == 1 then codes "it writes a field, a static field or an element" else
+    if rule == 2 then codes "it makes an object or an array" else
+    if rule == 3 then codes "it enters a monitor that is not known to be the section's" else
+    if rule == 4 then codes "it prints, waits or notifies" else
+    codes "it reads what the section's lock is not known to guard"
+
+abbrev pub fault_facts : Program → Site → (rule : ℕ) → List Fact
+fault_facts p x rule =
+    item_facts (site_facts p x.method x.at)
+    (codes " " ++ mark_name rule ++ codes ": " ++ rule_words rule)
+
+-- what keeps the place of M5 from being read
+abbrev pub cause_kind : Cause → List ℕ
+cause_kind causes.Element = codes "element"
+cause_kind causes.Static = codes "static"
+cause_kind causes.Shared = codes "shared"
+cause_kind causes.Other = codes "other"
+cause_kind (causes.Constructor u) = codes "constructor"
+cause_kind (causes.Write method at) = codes "write"
+
+abbrev pub cause_place : Program → Cause → List Fact
+cause_place p causes.Element =
+    Words (codes
+    "\n    it is an element of an array that is not known to be the section's own") ∷ []
+cause_place p causes.Static =
+    Words (codes "\n    it is a static field, and the section is not on its class") ∷ []
+cause_place p causes.Shared = Words (codes "\n    the field is not private") ∷ []
+cause_place p causes.Other =
+    Words (codes
+    "\n    it is the field of an object that is not known to be the section's") ∷ []
+cause_place p (causes.Constructor u) =
+    Opens keys.Constructor ∷ method_facts p.names (slice_get p.methods u) ++ Closes
+    ∷ Words (codes " is not known to keep its object to itself") ∷ []
+cause_place p (causes.Write method at) =
+    Opens keys.Write ∷ site_facts p method at ++ Closes
+    ∷ Words (codes " writes the field, not known to be under the lock that guards it") ∷ []
+
+abbrev pub cause_facts : Program → Option Cause → List Fact
+cause_facts p None = []
+cause_facts p (Some cause) = Text keys.Cause (cause_kind cause) ∷ cause_place p cause
+
+-- the method that the way comes back to
+abbrev pub again_facts : Program → Option Site → List Fact
+again_facts p None = []
+again_facts p (Some x) =
+    item_facts (method_facts p.names (slice_get p.methods x.method)) (codes " again")
+
+abbrev pub reason_facts : Program → Option LastWay → Reason → List Fact
+reason_facts p before Elsewhere =
+    Text keys.Reason (codes "elsewhere") ∷ Words (codes "\n  its monitor is not known to be this")
+    ∷ []
+reason_facts p before Unreached =
+    Text keys.Reason (codes "unreached") ∷ Words (codes "\n  no path reaches it") ∷ []
+reason_facts p before (Breaks way site rule cause) =
+    Text keys.Reason (codes "breaks") ∷ Text keys.Rule (mark_name rule) ∷ Lists keys.Way
+    ∷ way_facts p before way ++ fault_facts p site rule ++ Ends ∷ cause_facts p cause
+reason_facts p before (Recurs way again) =
+    Text keys.Reason (codes "recurs") ∷ Lists keys.Way
+    ∷ way_facts p before way ++ again_facts p (slice_get way again) ++ Ends ∷ []
+
+abbrev pub some_reason_facts : Program → Option LastWay → Option Reason → List Fact
+some_reason_facts p before None = []
+some_reason_facts p before (Some reason) = reason_facts p before reason
+
+-- the section, its mark, and why it has it
+abbrev pub marked_facts : Program → Option LastWay → SectionMark → Option Reason → List Fact
+marked_facts p before mark reason =
+    section_facts p mark.method mark.spot ++ Text keys.Mark (mark_name mark.mark)
+    ∷ some_reason_facts p before reason
