@@ -5,7 +5,7 @@ use Rattle.checked_program.specs.{MarkedProgram.MarkedProgram, OwnedArrays.AreUs
 use Rattle.host_io.specs.Faults.{CountsFault}
 use Rattle.json_lines.specs.declared.form.Form.{Form}
 use Rattle.jvm_types.specs.declared.program.Program.{Program}
-use Rattle.mark_reasons.specs.{MarksTold.{AreMarksWritten, AreSectionsTold, AreSectionsWritten, none, more, HasAdded, IsFrontTold, IsSectionWritten, SectionTold, SectionBegun, SectionsSoFar, section_text}, Reasons.{AreReasons}, SharedWays.last_after}
+use Rattle.mark_reasons.specs.{MarksTold.{AreMarksWritten, AreSectionsTold, AreSectionsWritten, none, more, HasAdded, IsFrontOfSections, IsSectionWritten, SectionTold, SectionBegun, SectionsSoFar, section_text}, Reasons.{AreReasons}, SharedWays.last_after}
 use Rattle.mark_reasons.specs.declared.telling.MarksError.{MarksError, TheVariants.{Memory, Failed}}
 use Rattle.mark_reasons.specs.declared.{reason.Reason.Reason, shared.LastWay.LastWay}
 use Rattle.mark_reasons.proofs.ExplainLaws.{all_reasons, no_reasons, one_reason_more}
@@ -74,11 +74,11 @@ module _ (form : Form) (p : Program) (tags : Tagged) (uses : Uses) (marks : List
   }
 
   -- what was written is a front, where nothing more comes
-  pub front_now : (count : ℕ) (last : Option LastWay) (told mid now : Option (List ℕ)) → SectionsSoFar form p tags uses marks count last told mid → now ≡ mid → HasAdded told now (IsFrontTold form p tags uses marks)
+  pub front_now : (count : ℕ) (last : Option LastWay) (told mid now : Option (List ℕ)) → SectionsSoFar form p tags uses marks count last told mid → now ≡ mid → HasAdded told now (IsFrontOfSections form p tags uses marks)
   front_now count last told mid now s e = (s.text, record { count = count; reasons = s.reasons; first = s.first; whole = s.text; last = last; told = s.sections; n = length s.text; is_front = whole_of s.text }, e ∙ s.is)
 
   -- and with a front of the next section
-  pub front_more : (count : ℕ) (mark : SectionMark) (last : Option LastWay) (told mid now : Option (List ℕ)) → SectionsSoFar form p tags uses marks count last told mid → slice_get marks count ≡ Some mark → SectionBegun form p tags uses last mark mid now → HasAdded told now (IsFrontTold form p tags uses marks)
+  pub front_more : (count : ℕ) (mark : SectionMark) (last : Option LastWay) (told mid now : Option (List ℕ)) → SectionsSoFar form p tags uses marks count last told mid → slice_get marks count ≡ Some mark → SectionBegun form p tags uses last mark mid now → HasAdded told now (IsFrontOfSections form p tags uses marks)
   front_more count mark last told mid now s g b = (
     s.text ++ take b.n (section_text form p last mark b.reason),
     record {

@@ -42,7 +42,7 @@ pub record AreMarksTold (form : Form) (c : MarkedProgram) (text : List ℕ) : Ty
   pub told : AreSectionsTold form c.program c.marks reasons text last
 
 -- a front of what is told of the first ones
-pub record IsFrontTold (form : Form) (p : Program) (tags : Tagged) (uses : Uses)
+pub record IsFrontOfSections (form : Form) (p : Program) (tags : Tagged) (uses : Uses)
     (marks : List SectionMark) (text : List ℕ) : Type 0 where
   pub count : ℕ
   pub reasons : List (Option Reason)
@@ -58,7 +58,7 @@ abbrev pub IsFrontOfMarks : Form → MarkedProgram → List ℕ → Type 0
 IsFrontOfMarks form c text =
     (text ≡ [])
     ⊎ ((uses : Uses) × AreUses c.program (tagged_by c.tags) uses
-    × IsFrontTold form c.program (tagged_by c.tags) uses c.marks text)
+    × IsFrontOfSections form c.program (tagged_by c.tags) uses c.marks text)
 
 -- ---- written to a sink, that told some bytes and tells more now
 
@@ -129,6 +129,6 @@ AreSectionsWritten form p tags uses marks told now from to (Ok done) =
     × ((last : Option LastWay)
     × SectionsSoFar form p tags uses marks (length marks) last told now)
 AreSectionsWritten form p tags uses marks told now from to (Err Memory) =
-    (to ≡ from) × HasAdded told now (IsFrontTold form p tags uses marks)
+    (to ≡ from) × HasAdded told now (IsFrontOfSections form p tags uses marks)
 AreSectionsWritten form p tags uses marks told now from to (Err Failed) =
-    CountsFault from to × HasAdded told now (IsFrontTold form p tags uses marks)
+    CountsFault from to × HasAdded told now (IsFrontOfSections form p tags uses marks)

@@ -1,5 +1,5 @@
 -- What the program owes to its words and files: a text, and a status with it.
-use Rattle.std.specs.Prelude.{◌≡◌, ℕ, ◌≤◌, Bool, List, [], ◌++◌, length, codes, slice_get, Option}
+use Rattle.std.specs.Prelude.{◌≡◌, ℕ, ◌≤◌, Bool, List, [], ◌++◌, length, codes, Option}
 use Rattle.std.specs.Prelude.{Some, None, IfSome}
 use Rattle.std.specs.List.{AllByRecursion, AllZip}
 use Rattle.field_names.specs.FieldNames.{all_field_names}
