@@ -7,6 +7,7 @@ mod class_text;
 mod limits;
 mod load;
 mod making;
+mod meeting;
 mod program;
 #[cfg(test)]
 mod row_tests;
@@ -17,7 +18,7 @@ mod thread_tests;
 
 use answer::USAGE;
 use host_io::adapters::{FileShelf, OutputSink};
-use jvm_types::OpenGate;
+use meeting::MeetingGate;
 use program_answers::delivery::deliver;
 use program_answers::start::{without_words, words};
 use std::process::ExitCode;
@@ -26,7 +27,10 @@ fn main(rt: HostRuntime) -> ExitCode {
     let mut shelf = FileShelf::new(&rt);
     let mut sink = OutputSink::new(&rt);
     let status = match words(&rt) {
-        Ok(words) => program::top(&rt, rt.alloc(), &words, &mut shelf, &mut sink, &OpenGate),
+        Ok(words) => {
+            let gate = MeetingGate::new();
+            program::top(&rt, rt.alloc(), &words, &mut shelf, &mut sink, &gate)
+        }
         Err(error) => deliver(&mut sink, USAGE, &without_words(error.kind())),
     };
     ExitCode::from(status)

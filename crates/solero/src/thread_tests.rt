@@ -1,7 +1,8 @@
 //! Runs on threads of the system, with what holds of them in every order.
 
+use crate::meeting::MeetingGate;
 use crate::row_tests::{answer, options_alone, words};
-use jvm_types::{Gate, OpenGate};
+use jvm_types::Gate;
 use std::alloc::{AllocError, Global};
 use std::process::Abort;
 use std::sync::Wait;
@@ -212,7 +213,8 @@ fn check_all<R: Abort + Threads + Wait + Sync + AllocGlobal>(
     let alloc = rt.alloc();
     for run in runs {
         let words = run_words(alloc, run.options, memory)?;
-        let (status, sink) = answer(rt, &words, bytes_of(alloc, run.class)?, &OpenGate)?;
+        let gate = MeetingGate::new();
+        let (status, sink) = answer(rt, &words, bytes_of(alloc, run.class)?, &gate)?;
         assert!(rt; is_one_of(run.ends, status, sink.text().as_slice()));
     }
     Ok(())
