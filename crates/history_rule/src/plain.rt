@@ -14,7 +14,7 @@ use checked_program::Checked;
 use jvm_types::End;
 use lists::Told;
 use machine_types::PlainStep;
-use plain_threads::{Status, Threads};
+use plain_threads::{Holdings, Status, Threads};
 use std::alloc::{AllocError, Global};
 use std::marker::Model;
 
@@ -124,7 +124,6 @@ impl Plain {
     /// How `done` ended, or `None` where it has not. Where the program has none, it has returned as
     /// soon as it is due.
     pub fn done_end(&self, alloc: Global, p: &Checked) -> Result<Option<End>, AllocError>
-        requires { p.now ≡ self.now.program }
         ensures { IfOk result (λ e. e ≡ plain_done_end p.now.program self.now.state) }
     {
         self.state.done_end(alloc, p)
@@ -138,6 +137,13 @@ impl Plain {
         ensures { result.now ≡ self.now.state.threads }
     {
         self.state.threads()
+    }
+
+    /// The monitors that are held.
+    pub fn holdings(&self) -> &Holdings
+        ensures { result.now ≡ self.now.state.holdings }
+    {
+        &self.state.holdings
     }
 
     /// The same machine again.
@@ -156,6 +162,13 @@ impl Plain {
         ensures { result ≡ true → self.now.state ≡ other.now.state }
     {
         self.state.is_same(&other.state)
+    }
+
+    /// `true`: the other one has printed the same numbers, in the same order, by the same threads.
+    pub fn has_same_prints(&self, other: &Plain) -> bool
+        ensures { result ≡ true → self.now.state.prints ≡ other.now.state.prints }
+    {
+        self.state.has_same_prints(&other.state)
     }
 
     /// A number by which equal memories are found, from the one of what comes before.

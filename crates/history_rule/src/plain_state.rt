@@ -130,6 +130,13 @@ impl PlainState {
         })
     }
 
+    /// `true`: the other one has the same prints.
+    pub fn has_same_prints(&self, other: &PlainState) -> bool
+        ensures { result ≡ true → self.now.prints ≡ other.now.prints }
+    {
+        are_same(self.prints(), other.prints())
+    }
+
     /// `true`: the other state is the same.
     pub fn is_same(&self, other: &PlainState) -> bool
         ensures { result ≡ true → self.now ≡ other.now }
