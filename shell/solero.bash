@@ -3,8 +3,8 @@ _solero() {
     local word=${COMP_WORDS[COMP_CWORD]} before=${COMP_WORDS[COMP_CWORD - 1]}
     local program=solero values=
     local solero='--mode --threads --order --memory --workers --turn --events --size --seed
-        --steps --turns --prints --heap --elide --range --what --proved --checked
-        --help --version'
+        --steps --turns --prints --heap --elide --range --what --tries --proved
+        --checked --help --version'
     local explain='--threads --order --steps --turns --prints --heap --elide --range --what --from
         --events --json --proved --checked --help --version'
     [[ " ${COMP_WORDS[*]} " != *" --what"* ]] || program=explain
@@ -25,6 +25,7 @@ _solero() {
         solero:--elide) values='on off' ;;
         solero:--range) values='' ;;
         solero:--what) values='run marks refusal' ;;
+        solero:--tries) values='' ;;
         explain:--threads) values='0 1 2 3 4 5 6 7 8' ;;
         explain:--order) values='' ;;
         explain:--steps) values='' ;;
