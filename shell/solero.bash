@@ -6,7 +6,7 @@ _solero() {
         --steps --turns --prints --heap --elide --range --what --tries --proved
         --checked --help --version'
     local explain='--threads --order --steps --turns --prints --heap --elide --range --what --from
-        --events --json --proved --checked --help --version'
+        --events --page --json --proved --checked --help --version'
     [[ " ${COMP_WORDS[*]} " != *" --what"* ]] || program=explain
     case $program:$before in
         solero:--mode) values='replay run mark list asm record load cell' ;;

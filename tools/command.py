@@ -85,6 +85,12 @@ class Words:
         kept.options.append((name, str(value)))
         return kept
 
+    def with_json(self):
+        """As JSON."""
+        kept = self.without("--json")
+        kept.options.append(("--json", None))
+        return kept
+
     def listed(self):
         """As a program is given them."""
         options = [word for option in self.options for word in option if word is not None]
