@@ -1,7 +1,6 @@
 pub mod Facts
 pub mod Sentences
 pub mod Spots
-pub mod SourceLines
 pub mod OtherCodes
 pub mod Naming
 pub mod Roots

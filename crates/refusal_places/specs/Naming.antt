@@ -13,13 +13,13 @@ use Rattle.jvm_types.specs.declared.class_file.Constant.{Constant}
 use Rattle.jvm_types.specs.declared.class_file.Constant.TheVariants as constants
 use Rattle.jvm_types.specs.declared.class_file.Handler.{Handler}
 use Rattle.jvm_types.specs.declared.class_file.Member.{Member}
+use Rattle.source_lines.specs.SourceLines.{first_index, latest_among, source_name}
+use Rattle.source_lines.specs.declared.line_starts.LineStart.{LineStart}
 use Rattle.mnemonics.specs.Mnemonics.{mnemonic}
 use Rattle.refusal_places.specs.OtherCodes.{other_name}
-use Rattle.refusal_places.specs.SourceLines.{first_index, latest_among, source_name}
 use Rattle.refusal_places.specs.declared.facts.Fact.{Fact}
 use Rattle.refusal_places.specs.declared.facts.Fact.TheVariants.{Said, Counted}
 use Rattle.refusal_places.specs.declared.facts.Key.TheVariants as keys
-use Rattle.refusal_places.specs.declared.source_lines.LineStart.{LineStart}
 use Rattle.refusal_places.specs.declared.spots.Spot.{Spot}
 use Rattle.refusal_places.specs.declared.spots.Spot.TheVariants.{Offset, Whole, Field, Method, Row}
 use Rattle.refusal_places.specs.declared.spots.Spot.TheVariants.{Instruction, Use}

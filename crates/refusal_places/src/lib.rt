@@ -7,7 +7,6 @@ pub mod naming;
 pub mod other_codes;
 pub mod roots;
 pub mod sentences;
-pub mod source_lines;
 pub mod spots;
 pub mod telling;
 

@@ -26,13 +26,13 @@ ghost use Rattle.refusal_places.specs.declared.facts.Fact.TheVariants.{Counted a
 
 use crate::facts::{Fact, Key};
 use crate::other_codes::other_name;
-use crate::source_lines::{LineStart, first_index, line_start, source_name};
 use crate::spots::Spot;
 use constant_pools::pool_texts::{class_name, class_text_at, text_at};
 use descriptors::{ClassNumbers, method_signature};
 use jvm_types::code_attribute::code_of;
 use jvm_types::{Attr, Bytes, ClassFile, Constant, Handler, Member, MemberAttr, Rows};
 use mnemonics::mnemonic;
+use source_lines::{LineStart, first_index, line_start, source_name};
 use std::alloc::{AllocError, Global};
 
 /// Adds a fact that is a text.

@@ -3,12 +3,12 @@
 
 ghost use Rattle.std.specs.Prelude.{◌≡◌, drop, None, option_map};
 ghost use Rattle.std.specs.Option.{option_copied};
-ghost use Rattle.refusal_places.specs.SourceLines.{first_index as the_first_index};
-ghost use Rattle.refusal_places.specs.SourceLines.{is_named as has_name, later as the_later};
-ghost use Rattle.refusal_places.specs.SourceLines.{latest_start, latest_among};
-ghost use Rattle.refusal_places.specs.SourceLines.{name_at as the_name_at};
-ghost use Rattle.refusal_places.specs.SourceLines.{source_name as the_source_name, start_of};
-ghost use Rattle.refusal_places.specs.SourceLines.{starts_in, starts_of};
+ghost use Rattle.source_lines.specs.SourceLines.{first_index as the_first_index};
+ghost use Rattle.source_lines.specs.SourceLines.{is_named as has_name, later as the_later};
+ghost use Rattle.source_lines.specs.SourceLines.{latest_start, latest_among};
+ghost use Rattle.source_lines.specs.SourceLines.{name_at as the_name_at};
+ghost use Rattle.source_lines.specs.SourceLines.{source_name as the_source_name, start_of};
+ghost use Rattle.source_lines.specs.SourceLines.{starts_in, starts_of};
 
 use constant_pools::pool_texts::text_at;
 use jvm_types::{Attr, Constant, Rows};
@@ -20,7 +20,7 @@ pub struct LineStart {
     pub line: u16,
 }
 
-fn is_named(pool: &Rows<Constant>, name: &[u8], attr: &Attr) -> bool
+pub(crate) fn is_named(pool: &Rows<Constant>, name: &[u8], attr: &Attr) -> bool
     ensures { result ≡ has_name pool.now name.now attr.now }
 {
     text_at(pool, attr.name) == name
@@ -38,7 +38,7 @@ fn later(pc: u32, found: Option<LineStart>, start: LineStart) -> Option<LineStar
     }
 }
 
-fn start_at(a: u8, b: u8, c: u8, d: u8) -> LineStart
+pub(crate) fn start_at(a: u8, b: u8, c: u8, d: u8) -> LineStart
     ensures { result ≡ start_of a b c d }
 {
     LineStart {
@@ -60,7 +60,7 @@ fn latest_in(pc: u32, before: Option<LineStart>, starts: &[u8]) -> Option<LineSt
 }
 
 // What stands behind the count of a table.
-fn behind_count(body: &[u8]) -> &[u8]
+pub(crate) fn behind_count(body: &[u8]) -> &[u8]
     ensures { result.now ≡ drop 2 body.now }
 {
     match body {

@@ -5,7 +5,7 @@ use Rattle.std.specs.Prelude.{Option, Some, None, if◌then◌else◌}
 use Rattle.jvm_types.specs.ClassNames.{text_at}
 use Rattle.jvm_types.specs.declared.class_file.Attr.{Attr}
 use Rattle.jvm_types.specs.declared.class_file.Constant.{Constant}
-use Rattle.refusal_places.specs.declared.source_lines.LineStart.{LineStart}
+use Rattle.source_lines.specs.declared.line_starts.LineStart.{LineStart}
 
 abbrev pub number_of_bytes : (high low : ℕ) → ℕ
 number_of_bytes high low = high * 256 + low

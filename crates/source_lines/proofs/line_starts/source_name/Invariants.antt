@@ -1,6 +1,6 @@
 use Rattle.std.proofs.Common.{◌≡◌, drop}
-use Rattle.refusal_places.specs.SourceLines.{source_name}
-use Rattle.refusal_places.proofs.source_lines.source_name.Given as goal
+use Rattle.source_lines.specs.SourceLines.{source_name}
+use Rattle.source_lines.proofs.line_starts.source_name.Given as goal
 
 abbrev pub invariant-loop-attr : goal.invariant-loop-attr
 invariant-loop-attr l = source_name l.pool (drop l.attr-index l.attrs) ≡ source_name l.pool l.attrs

@@ -1,0 +1,3 @@
+mod CarriedLines
+mod MethodOrder
+mod SourcesSoFar

@@ -1,0 +1,3 @@
+pub mod SourceLines
+pub mod LineTables
+pub mod Sources
