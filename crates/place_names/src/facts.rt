@@ -1,9 +1,9 @@
 //! Places of a program, fact by fact.
 
-ghost use Rattle.std.specs.Prelude.{◌≡◌, ◌++◌, ◌∷◌, [], Some, slice_get, OnOk};
+ghost use Rattle.std.specs.Prelude.{◌≡◌, ◌++◌, ◌∷◌, [], Some, option_map, slice_get, OnOk};
 ghost use Rattle.std.specs.Option.{option_copied};
 ghost use Rattle.place_names.specs.PlaceFacts.{insn_facts, method_facts, pc_insn_facts};
-ghost use Rattle.place_names.specs.PlaceFacts.{place_facts};
+ghost use Rattle.place_names.specs.PlaceFacts.{place_facts, source_facts_at, source_line_facts};
 ghost use Rattle.run_texts.specs.MarksText.{class_text};
 ghost use Rattle.tellings.specs.declared.facts.Fact.TheVariants.{Text as TextFact};
 ghost use Rattle.tellings.specs.declared.keys.Key.TheVariants.{Class, Method};
@@ -13,6 +13,7 @@ use crate::places::insn_at;
 use checked_program::Checked;
 use jvm_types::{Insn, MethodInfo, Program, Rows};
 use run_texts::write_class;
+use source_lines::Sources;
 use std::alloc::{AllocError, Global};
 use tellings::{Fact, Key, add_count, add_text};
 
@@ -90,17 +91,54 @@ pub fn add_pc(
     add_insn(facts, alloc, insn)
 }
 
-/// Adds the method of that number, a pc of it and the instruction that begins there; without a
-/// mnemonic where none does.
+fn add_source_line(
+    facts: &mut Rows<Fact>,
+    alloc: Global,
+    file: Option<&[u8]>,
+    line: Option<u16>,
+) -> Result<(), AllocError>
+    ensures { OnOk result (facts.new
+        ≡ facts.old ++ source_line_facts (option_map (λ name. name.now) file.entry) line) }
+{
+    match (file, line) {
+        (Some(file), Some(line)) => {
+            add_text(facts, alloc, Key::SourceOfLine, file)?;
+            add_count(facts, Key::LineOfSource, u64::from(line))
+        }
+        (Some(file), None) => add_text(facts, alloc, Key::SourceAlone, file),
+        (None, Some(line)) => add_count(facts, Key::LineAlone, u64::from(line)),
+        (None, None) => Ok(()),
+    }
+}
+
+/// Adds the file of the source of the method of that number, and the line of a pc of it, where its
+/// class has them.
+pub fn add_source(
+    facts: &mut Rows<Fact>,
+    alloc: Global,
+    sources: &Sources,
+    method: u32,
+    pc: u32,
+) -> Result<(), AllocError>
+    ensures { OnOk result (facts.new ≡ facts.old ++ source_facts_at sources.now method pc) }
+{
+    add_source_line(facts, alloc, sources.file(method), sources.line(method, pc))
+}
+
+/// Adds the method of that number, a pc of it and the instruction that begins there, without a
+/// mnemonic where none does; and where it stands in the source.
 pub fn add_place(
     facts: &mut Rows<Fact>,
     alloc: Global,
     c: &Checked,
+    sources: &Sources,
     method: u32,
     pc: u32,
 ) -> Result<(), AllocError>
-    ensures { OnOk result (facts.new ≡ facts.old ++ place_facts c.now.program method pc) }
+    ensures { OnOk result
+        (facts.new ≡ facts.old ++ place_facts c.now.program sources.now method pc) }
 {
     add_method(facts, alloc, c.program(), method)?;
-    add_pc(facts, alloc, pc, insn_at(c, method, pc))
+    add_pc(facts, alloc, pc, insn_at(c, method, pc))?;
+    add_source(facts, alloc, sources, method, pc)
 }

@@ -37,6 +37,12 @@ key_row keys.Class = shown_row (codes "class") (codes " ") (codes "")
 key_row keys.Method = shown_row (codes "method") (codes ".") (codes "")
 key_row keys.Pc = shown_row (codes "pc") (codes " at ") (codes "")
 key_row keys.Instruction = shown_row (codes "instruction") (codes " ") (codes "")
+-- in the source: a file and a line there, one of them alone
+key_row keys.SourceOfLine = shown_row (codes "source") (codes " (") (codes ":")
+key_row keys.LineOfSource = shown_row (codes "line") (codes "") (codes ")")
+key_row keys.SourceAlone = shown_row (codes "source") (codes " (") (codes ")")
+key_row keys.LineAlone = shown_row (codes "line") (codes " (line ") (codes ")")
+-- what it does
 key_row keys.Does = shown_row (codes "does") (codes ", ") (codes "")
 key_row keys.Access = shown_row (codes "access") (codes ", ") (codes "")
 key_row keys.Word = shown_row (codes "word") (codes "") (codes "")

@@ -14,6 +14,12 @@ pub enum Key {
     Method,
     Pc,
     Instruction,
+    // in the source
+    SourceOfLine,
+    LineOfSource,
+    SourceAlone,
+    LineAlone,
+    // what it does
     Does,
     Access,
     Word,
@@ -129,6 +135,10 @@ impl Key {
             Key::Method => shown("method", ".", ""),
             Key::Pc => shown("pc", " at ", ""),
             Key::Instruction => shown("instruction", " ", ""),
+            Key::SourceOfLine => shown("source", " (", ":"),
+            Key::LineOfSource => shown("line", "", ")"),
+            Key::SourceAlone => shown("source", " (", ")"),
+            Key::LineAlone => shown("line", " (line ", ")"),
             Key::Does => shown("does", ", ", ""),
             Key::Access => shown("access", ", ", ""),
             Key::Word => shown("word", "", ""),
