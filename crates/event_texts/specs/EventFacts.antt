@@ -8,6 +8,7 @@ use Rattle.json_lines.specs.declared.form.Form.{Form}
 use Rattle.jvm_types.specs.declared.outcome.End.{End}
 use Rattle.jvm_types.specs.declared.outcome.End.TheVariants as ends
 use Rattle.jvm_types.specs.declared.program.Program.{Program}
+use Rattle.source_lines.specs.declared.sources.Sources.{Sources}
 use Rattle.machine_types.specs.declared.access.Access.{Access}
 use Rattle.machine_types.specs.declared.access.Access.TheVariants.{Load, Rest}
 use Rattle.machine_types.specs.declared.attempt.AttemptHead.{AttemptHead}
@@ -16,6 +17,7 @@ use Rattle.machine_types.specs.declared.phase.Phase.TheVariants as phases
 use Rattle.machine_types.specs.declared.plain.Act.{Act}
 use Rattle.machine_types.specs.declared.plain.Act.TheVariants.{Do, Enter, Exit}
 use Rattle.place_names.specs.PlaceFacts.{place_facts}
+use Rattle.place_names.specs.declared.names.Names.{Names}
 use Rattle.run_texts.specs.Report.{end_text}
 use Rattle.event_texts.specs.Holders.{holder}
 use Rattle.event_texts.specs.PhaseTexts.{phase_text}
@@ -36,18 +38,20 @@ abbrev pub inside_facts : Option AttemptHead → List Fact
 inside_facts None = []
 inside_facts (Some a) = Count keys.InAttempt a.number ∷ []
 
-abbrev pub event_spot_facts : Program → Option Spot → List Fact
-event_spot_facts p None = []
-event_spot_facts p (Some spot) = place_facts p spot.method spot.pc
+abbrev pub event_spot_facts : Program → Sources → Option Spot → List Fact
+event_spot_facts p sources None = []
+event_spot_facts p sources (Some spot) = place_facts p sources spot.method spot.pc
 
 abbrev pub number_facts : (number : ℕ) → (thread : ℕ) → List Fact
 number_facts number thread = Count keys.Number number ∷ Count keys.Thread thread ∷ []
 
-abbrev pub stand_facts : Program → Before → List Fact
-stand_facts p b = event_spot_facts p b.spot ++ text_facts keys.Does (phase_text p b.phase)
+abbrev pub stand_facts : Program → Sources → Before → List Fact
+stand_facts p sources b =
+    event_spot_facts p sources b.spot ++ text_facts keys.Does (phase_text p b.phase)
 
-abbrev pub head_facts : Program → (number : ℕ) → Before → List Fact
-head_facts p number b = number_facts number b.thread ++ inside_facts b.attempt ++ stand_facts p b
+abbrev pub head_facts : Program → Sources → (number : ℕ) → Before → List Fact
+head_facts p sources number b =
+    number_facts number b.thread ++ inside_facts b.attempt ++ stand_facts p sources b
 
 -- ---- the word that it accesses, what it found there, and what it left there where it is no load
 
@@ -119,11 +123,10 @@ share_facts (Section n) =
 
 -- ---- the whole
 
-abbrev pub event_facts : Program → (names : List (List ℕ)) → (number : ℕ) → Before → Share → After
-    → List Fact
+abbrev pub event_facts : Program → Names → (number : ℕ) → Before → Share → After → List Fact
 event_facts p names number b share a =
-    head_facts p number b ++ access_facts p names b a b.access ++ mark_facts b a
-    ++ share_facts share
+    head_facts p names.sources number b ++ access_facts p names.fields b a b.access
+    ++ mark_facts b a ++ share_facts share
 
 -- where a part of a thread came to an end that is no return: the end, the event, and who held the
 -- monitor for which the thread had made all its turns
@@ -131,13 +134,14 @@ abbrev pub holder_facts : ℕ → List Fact
 holder_facts zero = []
 holder_facts (suc t) = Count keys.HeldBy t ∷ []
 
-abbrev pub stop_facts : Program → (number : ℕ) → Before → End → List Fact
-stop_facts p number b end =
-    (Text keys.End (end_text end) ∷ []) ++ head_facts p number b ++ holder_facts (holder end b)
+abbrev pub stop_facts : Program → Sources → (number : ℕ) → Before → End → List Fact
+stop_facts p sources number b end =
+    (Text keys.End (end_text end) ∷ []) ++ head_facts p sources number b
+    ++ holder_facts (holder end b)
 
 -- of an event, by the phase behind it: nothing where no part came to an end, or where it returned
-abbrev pub event_end_in : Form → Program → (number : ℕ) → Before → Phase → List ℕ
-event_end_in form p number b (phases.Ending ends.Returned) = []
-event_end_in form p number b (phases.Ending end) =
-    told_in form (codes "end") (stop_facts p number b end)
-event_end_in form p number b phase = []
+abbrev pub event_end_in : Form → Program → Sources → (number : ℕ) → Before → Phase → List ℕ
+event_end_in form p sources number b (phases.Ending ends.Returned) = []
+event_end_in form p sources number b (phases.Ending end) =
+    told_in form (codes "end") (stop_facts p sources number b end)
+event_end_in form p sources number b phase = []

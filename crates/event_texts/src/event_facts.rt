@@ -30,8 +30,9 @@ use checked_program::Checked;
 use json_lines::Form;
 use jvm_types::{Bytes, End, Program, Rows};
 use machine_types::{Access, Act, AttemptHead, Phase};
-use place_names::add_place;
+use place_names::{Names, add_place};
 use run_texts::EndText;
+use source_lines::Sources;
 use std::alloc::{AllocError, Global};
 use tellings::{Fact, Key, add_count, add_text, add_text_if, write_told};
 
@@ -57,12 +58,14 @@ fn add_spot(
     facts: &mut Rows<Fact>,
     alloc: Global,
     c: &Checked,
+    sources: &Sources,
     spot: Option<Spot>,
 ) -> Result<(), AllocError>
-    ensures { OnOk result (facts.new ≡ facts.old ++ event_spot_facts c.now.program spot) }
+    ensures { OnOk result
+        (facts.new ≡ facts.old ++ event_spot_facts c.now.program sources.now spot) }
 {
     match spot {
-        Some(spot) => add_place(facts, alloc, c, spot.method, spot.pc),
+        Some(spot) => add_place(facts, alloc, c, sources, spot.method, spot.pc),
         None => Ok(()),
     }
 }
@@ -85,11 +88,13 @@ fn add_stand(
     facts: &mut Rows<Fact>,
     alloc: Global,
     c: &Checked,
+    sources: &Sources,
     before: &Before,
 ) -> Result<(), AllocError>
-    ensures { OnOk result (facts.new ≡ facts.old ++ stand_facts c.now.program before.now) }
+    ensures { OnOk result
+        (facts.new ≡ facts.old ++ stand_facts c.now.program sources.now before.now) }
 {
-    add_spot(facts, alloc, c, before.spot)?;
+    add_spot(facts, alloc, c, sources, before.spot)?;
     add_does(facts, alloc, c, before.phase)
 }
 
@@ -97,14 +102,16 @@ fn add_head(
     facts: &mut Rows<Fact>,
     alloc: Global,
     c: &Checked,
+    sources: &Sources,
     number: u64,
     before: &Before,
 ) -> Result<(), AllocError>
-    ensures { OnOk result (facts.new ≡ facts.old ++ head_facts c.now.program number before.now) }
+    ensures { OnOk result
+        (facts.new ≡ facts.old ++ head_facts c.now.program sources.now number before.now) }
 {
     add_numbers(facts, number, before.thread)?;
     add_inside(facts, before.attempt)?;
-    add_stand(facts, alloc, c, before)
+    add_stand(facts, alloc, c, sources, before)
 }
 
 // ---- the word that it accesses, what it found there, and what it left there where it is no load
@@ -368,11 +375,11 @@ fn add_share(facts: &mut Rows<Fact>, alloc: Global, share: &Share) -> Result<(),
 
 /// The facts of an event of a number: which it is, where its thread stands and what it does, the
 /// word that it accesses, what becomes of attempts, locks and the part, and what it stands for in
-/// the plain machine. `names` has the names of the fields of the program in their order.
+/// the plain machine.
 pub(crate) fn event_facts(
     alloc: Global,
     c: &Checked,
-    names: &Rows<Bytes>,
+    names: &Names,
     number: u64,
     before: &Before,
     share: &Share,
@@ -382,8 +389,8 @@ pub(crate) fn event_facts(
         ≡ event_facts c.now.program names.now number before.now share.now after.now) }
 {
     let mut facts = Rows::new(alloc);
-    add_head(&mut facts, alloc, c, number, before)?;
-    add_access(&mut facts, alloc, c, names, before, after)?;
+    add_head(&mut facts, alloc, c, &names.sources, number, before)?;
+    add_access(&mut facts, alloc, c, &names.fields, before, after)?;
     add_marks(&mut facts, alloc, before, after)?;
     add_share(&mut facts, alloc, share)?;
     Ok(facts)
@@ -395,7 +402,7 @@ pub fn write_event(
     alloc: Global,
     form: Form,
     c: &Checked,
-    names: &Rows<Bytes>,
+    names: &Names,
     number: u64,
     before: &Before,
     share: &Share,
@@ -444,16 +451,17 @@ fn add_holder(facts: &mut Rows<Fact>, holder: u64) -> Result<(), AllocError>
 fn stop_facts(
     alloc: Global,
     c: &Checked,
+    sources: &Sources,
     number: u64,
     before: &Before,
     end: End,
 ) -> Result<Rows<Fact>, AllocError>
     ensures { IfOk result
-        (λ facts. facts ≡ stop_facts c.now.program number before.now end) }
+        (λ facts. facts ≡ stop_facts c.now.program sources.now number before.now end) }
 {
     let mut facts = Rows::new(alloc);
     add_end_text(&mut facts, alloc, Key::End, end)?;
-    add_head(&mut facts, alloc, c, number, before)?;
+    add_head(&mut facts, alloc, c, sources, number, before)?;
     add_holder(&mut facts, holder(end, before))?;
     Ok(facts)
 }
@@ -463,14 +471,15 @@ fn write_stop(
     alloc: Global,
     form: Form,
     c: &Checked,
+    sources: &Sources,
     number: u64,
     before: &Before,
     end: End,
 ) -> Result<(), AllocError>
-    ensures { OnOk result (text.new.items ≡ text.old.items
-        ++ told_in form (codes "end") (stop_facts c.now.program number before.now end)) }
+    ensures { OnOk result (text.new.items ≡ text.old.items ++ told_in form (codes "end")
+        (stop_facts c.now.program sources.now number before.now end)) }
 {
-    let facts = stop_facts(alloc, c, number, before, end)?;
+    let facts = stop_facts(alloc, c, sources, number, before, end)?;
     write_told(text, alloc, form, "end", facts.as_slice())
 }
 
@@ -480,16 +489,17 @@ pub fn write_event_end(
     alloc: Global,
     form: Form,
     c: &Checked,
+    sources: &Sources,
     number: u64,
     before: &Before,
     after: &After,
 ) -> Result<(), AllocError>
-    ensures { OnOk result (text.new.items
-        ≡ text.old.items ++ event_end_in form c.now.program number before.now after.now.phase) }
+    ensures { OnOk result (text.new.items ≡ text.old.items
+        ++ event_end_in form c.now.program sources.now number before.now after.now.phase) }
 {
     match after.phase {
         Phase::Ending(End::Returned) => Ok(()),
-        Phase::Ending(end) => write_stop(text, alloc, form, c, number, before, end),
+        Phase::Ending(end) => write_stop(text, alloc, form, c, sources, number, before, end),
         _ => Ok(()),
     }
 }
