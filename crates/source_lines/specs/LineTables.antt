@@ -18,7 +18,7 @@ lines_of pool code =
     map (λ pc. line_number (latest_among pool pc None code.attrs))
     (range_with_len 0 (length code.bytes))
 
--- ---- how they are found: those of the pcs at which lines begin, and then those of all behind these
+-- ---- how they are found: those of the pcs at which lines begin, then those of all behind these
 
 -- of two lines that begin at one pc the later counts
 abbrev pub marked : List LineStart → List (Option ℕ) → List (Option ℕ)

@@ -1,6 +1,7 @@
 -- The source of each method of some classes, in the order in which a linked program has the
 -- methods: that of the files, and in each that of its methods.
-use Rattle.std.specs.Prelude.{◌≡◌, ℕ, ◌<◌, List, [], ◌∷◌, ◌++◌, length, map, Option, Some, None, slice_get}
+use Rattle.std.specs.Prelude.{◌≡◌, ℕ, ◌<◌, List, [], ◌∷◌, ◌++◌, length, map, Option, Some, None}
+use Rattle.std.specs.Prelude.{slice_get}
 use Rattle.std.specs.Option.{unwrap_or}
 use Rattle.jvm_types.specs.LinkFaults.{IsLinked}
 use Rattle.jvm_types.specs.Linked.{code_of}
