@@ -5,6 +5,7 @@ use Rattle.checked_program.specs.MarkedProgram.{MarkedProgram, IsMarked}
 use Rattle.laws_states.specs.{EveryOrder.EveryOrderHasRun, RunFacts.HaveWidth}
 use Rattle.machine_types.specs.{Core.{Core, Happening, core, happened, outcome, start}, History.{Told, all_told, told, told_start}, Schedules.{IsSchedule, Stage, First, Turn, turn_at}, Settings.AreSettings, declared.config.Config.Config}
 use Rattle.replay_runner.{specs.Replays.IsLedByTurns, proofs.Turns.{led_on, schedule_of}}
+use Rattle.place_names.specs.declared.names.Names.{Names}
 use Rattle.run_trace.specs.{EventLines.{ends_from, lines_from, next_line_number, seen_of_event, told_line, trace_text}, Owing.seen_by, ReportJson.report_in}
 use Rattle.std.specs.Prelude.{Err, take, drop}
 use Rattle.std.proofs.lemmas.List.{take-append-drop}
@@ -50,7 +51,7 @@ same_front told now a b e f = subst (λ (x : List ℕ). IsFrontTold told now x) 
 
 -- ---- within the lines of events
 
-module _ (c : MarkedProgram) (order : List ℕ) (names : List (List ℕ)) (part : Part) where
+module _ (c : MarkedProgram) (order : List ℕ) (names : Names) (part : Part) where
   -- between two
   pub breaks_still : (m : Tracing) (next : Option Turn) (told now : Option (List ℕ)) → now ≡ told → BreaksOff c order names part m next told now
   breaks_still m next told now e cfg first w = record {
@@ -123,14 +124,14 @@ ahead c from s (g ∷ gs) at t (h ∷ hs) led all =
     (on.0, λ i. sym event_is i ∷ on.1 i)
 
 -- the lines of events, and of those behind them
-lines_ahead : (c : MarkedProgram) (names : List (List ℕ)) (part : Part) (n : ℕ) (w : Told) (gs hs : List Happening)
+lines_ahead : (c : MarkedProgram) (names : Names) (part : Part) (n : ℕ) (w : Told) (gs hs : List Happening)
     → lines_from c names part n w (gs ++ hs) ≡ lines_from c names part n w gs ++ lines_from c names part (number_after n gs) (all_told c w gs) hs
 lines_ahead c names part n w [] hs = refl
 lines_ahead c names part n w (g ∷ gs) hs =
     ap (λ (text : List ℕ). told_line c names part n w.core (seen_of_event c w g) g ++ text) (lines_ahead c names part (next_line_number n) (told c w g) gs hs)
     ∙ sym (append_assoc (told_line c names part n w.core (seen_of_event c w g) g) (lines_from c names part (next_line_number n) (told c w g) gs) (lines_from c names part (number_after (next_line_number n) gs) (all_told c (told c w g) gs) hs))
 
-module _ (c : MarkedProgram) (cfg : Config) (order : List ℕ) (names : List (List ℕ)) (part : Part) where
+module _ (c : MarkedProgram) (cfg : Config) (order : List ℕ) (names : Names) (part : Part) where
   -- where it broke off in the line of an event
   pub broken_front : EveryOrderHasRun → IsMarked c → HaveWidth cfg → AreSettings cfg → (told now : Option (List ℕ)) → IsBrokenOff c cfg order names part told now → IsTraceFront c cfg order names part told now
   broken_front runs marked width settings told now b =
@@ -138,7 +139,7 @@ module _ (c : MarkedProgram) (cfg : Config) (order : List ℕ) (names : List (Li
       let cut = ahead c (First order) (start c cfg) b.happenings b.stage b.core all.0 b.leads all.1 in
       let lines = lines_from c names part 1 (told_start c cfg) in
       let more = lines_from c names part (number_after 1 b.happenings) (all_told c (told_start c cfg) b.happenings) cut.0 in
-      let ends = ends_from c part.form 1 (told_start c cfg) all.0 in
+      let ends = ends_from c names part.form 1 (told_start c cfg) all.0 in
       let report = report_in part.form (outcome (core c cfg all.0)) in
       let text_is : lines b.happenings ++ more ≡ lines all.0 = sym (lines_ahead c names part 1 (told_start c cfg) b.happenings cut.0) ∙ ap lines (sym cut.1) in
       record {
@@ -160,7 +161,7 @@ module _ (c : MarkedProgram) (cfg : Config) (order : List ℕ) (names : List (Li
       let w = on.walked cfg told (walked_at_start c cfg order names part told m begun) in
       let all = schedule_of c (First order) (start c cfg) w.happenings w.stage n.machine.core w.leads w.turn in
       let lines = lines_from c names part 1 (told_start c cfg) w.happenings in
-      let ends = ends_from c part.form 1 (told_start c cfg) w.happenings in
+      let ends = ends_from c names part.form 1 (told_start c cfg) w.happenings in
       record {
         happenings = w.happenings;
         schedule = all.0;
@@ -176,7 +177,7 @@ module _ (c : MarkedProgram) (cfg : Config) (order : List ℕ) (names : List (Li
       let all = schedule_of c (First order) (start c cfg) w.happenings w.stage n.machine.core w.leads w.turn in
       let told_is : o ≡ outcome (core c cfg w.happenings) = is ∙ ap outcome (sym all.1) in
       let lines = lines_from c names part 1 (told_start c cfg) w.happenings in
-      let ends = ends_from c part.form 1 (told_start c cfg) w.happenings in
+      let ends = ends_from c names part.form 1 (told_start c cfg) w.happenings in
       let with_ends : late ≡ option_map (λ t. t ++ (lines ++ ends)) told = told_both told mid late lines n.ends.items w.text ended ∙ ap (λ (x : List ℕ). option_map (λ t. t ++ (lines ++ x)) told) w.ends in
       record {
         happenings = w.happenings;
@@ -186,7 +187,7 @@ module _ (c : MarkedProgram) (cfg : Config) (order : List ℕ) (names : List (Li
 
 -- ---- what is answered
 
-module _ (c : MarkedProgram) (cfg : Config) (order : List ℕ) (names : List (List ℕ)) (part : Part) (runs : EveryOrderHasRun) (marked : IsMarked c) (width : HaveWidth cfg) (settings : AreSettings cfg) where
+module _ (c : MarkedProgram) (cfg : Config) (order : List ℕ) (names : Names) (part : Part) (runs : EveryOrderHasRun) (marked : IsMarked c) (width : HaveWidth cfg) (settings : AreSettings cfg) where
   -- there was no memory for the start
   pub unstarted : (told : Option (List ℕ)) (before : ℕ) (e : TraceError) → e ≡ Memory → IsTraced c cfg order names part told told before before (Err e)
   unstarted told before Memory is = (refl, still_trace c cfg order names part runs marked width settings told told refl)
@@ -200,7 +201,7 @@ module _ (c : MarkedProgram) (cfg : Config) (order : List ℕ) (names : List (Li
   unwalked told now before after m Memory begun b = (b.0, broken_front c cfg order names part runs marked width settings told now (b.1 cfg told (walked_at_start c cfg order names part told m begun)))
   unwalked told now before after m Failed begun b = (b.0, broken_front c cfg order names part runs marked width settings told now (b.1 cfg told (walked_at_start c cfg order names part told m begun)))
 
-module _ (c : MarkedProgram) (cfg : Config) (order : List ℕ) (names : List (List ℕ)) (part : Part) where
+module _ (c : MarkedProgram) (cfg : Config) (order : List ℕ) (names : Names) (part : Part) where
   -- among those of the ends
   pub unended : (told mid now : Option (List ℕ)) (before between after : ℕ) (m n : Tracing) (text : List ℕ) (e : TraceError) → IsStarted c cfg m → WalksOn c order names part m (turn_at (First order) m.machine.core) told before n None mid between
       → text ≡ n.ends.items → IsPut mid now between after text {A = Unit {0}} (Err e) → IsTraced c cfg order names part told now before after (Err e)

@@ -3,6 +3,7 @@ use Rattle.std.{proofs.{Common.{◌≡◌, ℕ, List, [], ◌∷◌, ◌++◌, O
 use Rattle.json_lines.specs.declared.form.Form.{Form}
 use Rattle.checked_program.specs.MarkedProgram.{MarkedProgram}
 use Rattle.machine_types.specs.{Core.Happening, History.{Told, all_told, told}}
+use Rattle.place_names.specs.declared.names.Names.{Names}
 use Rattle.run_trace.specs.{EventLines.{ends_from, event_end, lines_from, next_line_number, seen_of_event, told_line}, Traces.number_after, declared.events.Part.Part}
 
 -- where it leads
@@ -11,19 +12,19 @@ told_on c w [] h = refl
 told_on c w (g ∷ gs) h = told_on c (told c w g) gs h
 
 -- its lines, and the number behind them
-pub lines_on : (c : MarkedProgram) (names : List (List ℕ)) (part : Part) (n : ℕ) (w : Told) (hs : List Happening) (h : Happening)
+pub lines_on : (c : MarkedProgram) (names : Names) (part : Part) (n : ℕ) (w : Told) (hs : List Happening) (h : Happening)
     → lines_from c names part n w (hs ++ h ∷ []) ≡ lines_from c names part n w hs ++ told_line c names part (number_after n hs) (all_told c w hs).core (seen_of_event c (all_told c w hs) h) h
 lines_on c names part n w [] h = append-nil (told_line c names part n w.core (seen_of_event c w h) h)
 lines_on c names part n w (g ∷ gs) h =
     ap (λ (text : List ℕ). told_line c names part n w.core (seen_of_event c w g) g ++ text) (lines_on c names part (next_line_number n) (told c w g) gs h)
     ∙ sym (append_assoc (told_line c names part n w.core (seen_of_event c w g) g) (lines_from c names part (next_line_number n) (told c w g) gs) (told_line c names part (number_after (next_line_number n) gs) (all_told c (told c w g) gs).core (seen_of_event c (all_told c (told c w g) gs) h) h))
 
-pub ends_on : (c : MarkedProgram) (form : Form) (n : ℕ) (w : Told) (hs : List Happening) (h : Happening)
-    → ends_from c form n w (hs ++ h ∷ []) ≡ ends_from c form n w hs ++ event_end c form (number_after n hs) (all_told c w hs).core (seen_of_event c (all_told c w hs) h) h
-ends_on c form n w [] h = append-nil (event_end c form n w.core (seen_of_event c w h) h)
-ends_on c form n w (g ∷ gs) h =
-    ap (λ (text : List ℕ). event_end c form n w.core (seen_of_event c w g) g ++ text) (ends_on c form (next_line_number n) (told c w g) gs h)
-    ∙ sym (append_assoc (event_end c form n w.core (seen_of_event c w g) g) (ends_from c form (next_line_number n) (told c w g) gs) (event_end c form (number_after (next_line_number n) gs) (all_told c (told c w g) gs).core (seen_of_event c (all_told c (told c w g) gs) h) h))
+pub ends_on : (c : MarkedProgram) (names : Names) (form : Form) (n : ℕ) (w : Told) (hs : List Happening) (h : Happening)
+    → ends_from c names form n w (hs ++ h ∷ []) ≡ ends_from c names form n w hs ++ event_end c names form (number_after n hs) (all_told c w hs).core (seen_of_event c (all_told c w hs) h) h
+ends_on c names form n w [] h = append-nil (event_end c names form n w.core (seen_of_event c w h) h)
+ends_on c names form n w (g ∷ gs) h =
+    ap (λ (text : List ℕ). event_end c names form n w.core (seen_of_event c w g) g ++ text) (ends_on c names form (next_line_number n) (told c w g) gs h)
+    ∙ sym (append_assoc (event_end c names form n w.core (seen_of_event c w g) g) (ends_from c names form (next_line_number n) (told c w g) gs) (event_end c names form (number_after (next_line_number n) gs) (all_told c (told c w g) gs).core (seen_of_event c (all_told c (told c w g) gs) h) h))
 
 pub number_on : (n : ℕ) (hs : List Happening) (h : Happening) → number_after n (hs ++ h ∷ []) ≡ next_line_number (number_after n hs)
 number_on n [] h = refl

@@ -4,6 +4,7 @@ use Rattle.jvm_types.specs.declared.outcome.Outcome.{Outcome}
 use Rattle.checked_program.specs.MarkedProgram.{MarkedProgram}
 use Rattle.machine_types.specs.{Core.{Core, Happening, core, happened, outcome, start}, History.{Told, all_told, told_start}, Schedules.{Stage, First, Turn, turn_at}, declared.config.Config.Config}
 use Rattle.replay_runner.{specs.{Replays.IsLedByTurns, Running.Running}, proofs.Turns.{led_on, schedule_of}}
+use Rattle.place_names.specs.declared.names.Names.{Names}
 use Rattle.run_trace.specs.{EventLines.{ends_from, event_end, lines_from, next_line_number, seen_of_event, told_line}, Owing.{owed_after, seen_by}, ReportJson.report_in}
 use Rattle.run_trace.specs.{Traces.{Happened, IsStarted, IsWholeTrace, TraceWalked, WalksOn, number_after}, declared.{events.Part.Part, traces.Tracing.Tracing}}
 use Rattle.run_trace.proofs.{LongerRuns.{ends_on, lines_on, number_on, told_both, told_on}, Owings.{nothing_owed, owed_on, same_seen}}
@@ -15,7 +16,7 @@ turn_to h stage = Some (record { happening = h; stage = stage })
 
 -- ---- one turn
 
-module _ (c : MarkedProgram) (cfg : Config) (order : List ℕ) (names : List (List ℕ)) (part : Part) (first : Option (List ℕ)) where
+module _ (c : MarkedProgram) (cfg : Config) (order : List ℕ) (names : Names) (part : Part) (first : Option (List ℕ)) where
   -- its line, of the run so far
   pub own_line : (m : Tracing) (h : Happening) (next : Option Turn) (told : Option (List ℕ)) (w : TraceWalked c cfg order names part first m next told)
       → told_line c names part (number_after 1 w.happenings) (all_told c (told_start c cfg) w.happenings).core (seen_of_event c (all_told c (told_start c cfg) w.happenings) h) h ≡ told_line c names part m.number m.machine.core (seen_by c m.machine.core m.owed h) h
@@ -43,14 +44,14 @@ module _ (c : MarkedProgram) (cfg : Config) (order : List ℕ) (names : List (Li
         number = did.number ∙ ap next_line_number w.number ∙ sym (number_on 1 hs h);
         core = ap (λ (v : Told). v.core) (told_on c (told_start c cfg) hs h) ∙ ap (λ (s : Core). happened c s h) w.core ∙ core_is;
         owed = owes ∙ sym (ap (λ (v : Told). map shares.owed v.pasts) (told_on c (told_start c cfg) hs h));
-        ends = did.ends ∙ (λ i. w.ends i ++ event_end c part.form (w.number i) (sym w.core i) (seen_is i) h) ∙ sym (ends_on c part.form 1 (told_start c cfg) hs h);
+        ends = did.ends ∙ (λ i. w.ends i ++ event_end c names part.form (w.number i) (sym w.core i) (seen_is i) h) ∙ sym (ends_on c names part.form 1 (told_start c cfg) hs h);
         text = told_both first told now (lines_from c names part 1 (told_start c cfg) hs) (told_line c names part m.number m.machine.core (seen_by c m.machine.core m.owed h) h) w.text did.text
             ∙ ap (λ (text : List ℕ). option_map (λ t. t ++ text) first) (ap (λ (text : List ℕ). lines_from c names part 1 (told_start c cfg) hs ++ text) own ∙ sym (lines_on c names part 1 (told_start c cfg) hs h));
       }
 
 -- ---- on from a turn
 
-module _ (c : MarkedProgram) (order : List ℕ) (names : List (List ℕ)) (part : Part) where
+module _ (c : MarkedProgram) (order : List ℕ) (names : Names) (part : Part) where
   -- to the same turn
   pub walks_itself : (m : Tracing) (turn other : Option Turn) (told : Option (List ℕ)) (before : ℕ) → other ≡ turn → WalksOn c order names part m turn told before m other told before
   walks_itself m turn other told before e = subst (λ (o : Option Turn). WalksOn c order names part m turn told before m o told before) (sym e) (record { program = refl; walked = λ cfg first w. w; calm = refl })
@@ -72,7 +73,7 @@ module _ (c : MarkedProgram) (order : List ℕ) (names : List (List ℕ)) (part 
 
 -- ---- the whole run
 
-pub walked_at_start : (c : MarkedProgram) (cfg : Config) (order : List ℕ) (names : List (List ℕ)) (part : Part) (told : Option (List ℕ)) (m : Tracing) → IsStarted c cfg m
+pub walked_at_start : (c : MarkedProgram) (cfg : Config) (order : List ℕ) (names : Names) (part : Part) (told : Option (List ℕ)) (m : Tracing) → IsStarted c cfg m
     → TraceWalked c cfg order names part told m (turn_at (First order) m.machine.core) told
 walked_at_start c cfg order names part told m begun = record {
   program = ap (λ (r : Running). r.program) begun.machine;
@@ -93,7 +94,7 @@ walked_at_start c cfg order names part told m begun = record {
     by_told (Some t) = ap Some (sym (append-nil t))
 
 -- the lines were told, then the ends, and then the report
-pub whole : (c : MarkedProgram) (cfg : Config) (order : List ℕ) (names : List (List ℕ)) (part : Part) (told mid late now : Option (List ℕ)) (before between beyond after : ℕ) (m n : Tracing) (o : Outcome)
+pub whole : (c : MarkedProgram) (cfg : Config) (order : List ℕ) (names : Names) (part : Part) (told mid late now : Option (List ℕ)) (before between beyond after : ℕ) (m n : Tracing) (o : Outcome)
     → IsStarted c cfg m → WalksOn c order names part m (turn_at (First order) m.machine.core) told before n None mid between → late ≡ option_map (λ t. t ++ n.ends.items) mid → beyond ≡ between
     → o ≡ outcome n.machine.core → now ≡ option_map (λ t. t ++ report_in part.form o) late → after ≡ beyond → IsWholeTrace c cfg order names part told now before after o
 unfolding core
@@ -103,13 +104,13 @@ whole c cfg order names part told mid late now before between beyond after m n o
     let all = schedule_of c (First order) (start c cfg) hs w.stage n.machine.core w.leads w.turn in
     let told_is : o ≡ outcome (core c cfg hs) = is ∙ ap outcome (sym all.1) in
     let lines = lines_from c names part 1 (told_start c cfg) hs in
-    let with_ends : late ≡ option_map (λ t. t ++ (lines ++ ends_from c part.form 1 (told_start c cfg) hs)) told =
+    let with_ends : late ≡ option_map (λ t. t ++ (lines ++ ends_from c names part.form 1 (told_start c cfg) hs)) told =
     told_both told mid late lines n.ends.items w.text ended ∙ ap (λ (ends : List ℕ). option_map (λ t. t ++ (lines ++ ends)) told) w.ends in
     record {
       happenings = hs;
       schedule = all.0;
       outcome_is = told_is;
-      text = told_both told late now (lines ++ ends_from c part.form 1 (told_start c cfg) hs) (report_in part.form o) with_ends put
-          ∙ ap (λ (x : Outcome). option_map (λ t. t ++ ((lines ++ ends_from c part.form 1 (told_start c cfg) hs) ++ report_in part.form x)) told) told_is;
+      text = told_both told late now (lines ++ ends_from c names part.form 1 (told_start c cfg) hs) (report_in part.form o) with_ends put
+          ∙ ap (λ (x : Outcome). option_map (λ t. t ++ ((lines ++ ends_from c names part.form 1 (told_start c cfg) hs) ++ report_in part.form x)) told) told_is;
       calm = calm ∙ still ∙ on.calm;
     }

@@ -10,6 +10,7 @@ use Rattle.machine_types.specs.Events.{wanted}
 use Rattle.machine_types.specs.History.{Told, found_by_event, past_at, told, told_start}
 use Rattle.machine_types.specs.Threads.{Thread}
 use Rattle.machine_types.specs.declared.config.Config.{Config}
+use Rattle.place_names.specs.declared.names.Names.{Names}
 use Rattle.event_texts.specs.EventFacts.{event_end_in, event_facts}
 use Rattle.event_texts.specs.Shares.{share_at}
 use Rattle.event_texts.specs.Sights.{after_event, before_of}
@@ -43,7 +44,7 @@ seen_of_event c w (Of t) =
 seen_of_event c w NextPart = None
 
 -- the line of an event by the thread before it, and by the thread and the words behind it
-abbrev pub line_between : MarkedProgram → Form → (names : List (List ℕ)) → (number : ℕ)
+abbrev pub line_between : MarkedProgram → Form → Names → (number : ℕ)
     → (words : List ℕ) → Option Seen → Option Thread → List ℕ
 line_between c form names number words (Some seen) (Some y) =
     told_in form (codes "event")
@@ -52,10 +53,11 @@ line_between c form names number words (Some seen) (Some y) =
 line_between c form names number words seen y = []
 
 -- the line of the end that it leads to, where that is no return
-abbrev pub end_between : MarkedProgram → Form → (number : ℕ) → Option Seen → Option Thread → List ℕ
-end_between c form number (Some seen) (Some y) =
-    event_end_in form c.program number seen.before y.phase
-end_between c form number seen y = []
+abbrev pub end_between : MarkedProgram → Names → Form → (number : ℕ) → Option Seen → Option Thread
+    → List ℕ
+end_between c names form number (Some seen) (Some y) =
+    event_end_in form c.program names.sources number seen.before y.phase
+end_between c names form number seen y = []
 
 -- ---- the begin of a part: the workers behind `init`, `done` behind the workers
 
@@ -78,7 +80,7 @@ part_line form number (Some begun) = told_in form (codes "part") (part_facts num
 
 -- ---- all of them, which are numbered; the number stands still at the end of 64 bits
 
-abbrev pub event_line : MarkedProgram → Form → (names : List (List ℕ)) → (number : ℕ) → Core
+abbrev pub event_line : MarkedProgram → Form → Names → (number : ℕ) → Core
     → Option Seen → Happening → List ℕ
 event_line c form names number s seen (Of t) =
     line_between c form names number (event c s t).words seen (slice_get (event c s t).threads t)
@@ -90,7 +92,7 @@ abbrev pub line_shown : Part → (number : ℕ) → List ℕ → List ℕ
 line_shown part number text =
     if nat_le part.from number && nat_lt (number - part.from) part.count then text else []
 
-abbrev pub told_line : MarkedProgram → (names : List (List ℕ)) → Part → (number : ℕ) → Core
+abbrev pub told_line : MarkedProgram → Names → Part → (number : ℕ) → Core
     → Option Seen → Happening → List ℕ
 told_line c names part number s seen h =
     line_shown part number (event_line c part.form names number s seen h)
@@ -99,7 +101,7 @@ abbrev pub next_line_number : ℕ → ℕ
 next_line_number n = min (n + 1) (2 ^ 64 - 1)
 
 -- each event from the state before it, with the pasts of the threads there
-abbrev pub lines_from : MarkedProgram → (names : List (List ℕ)) → Part → (number : ℕ) → Told
+abbrev pub lines_from : MarkedProgram → Names → Part → (number : ℕ) → Told
     → List Happening → List ℕ
 lines_from c names part number w [] = []
 lines_from c names part number w (h ∷ hs) =
@@ -107,21 +109,22 @@ lines_from c names part number w (h ∷ hs) =
     ++ lines_from c names part (next_line_number number) (told c w h) hs
 
 -- where parts of threads came to an end that is no return
-abbrev pub event_end : MarkedProgram → Form → (number : ℕ) → Core → Option Seen → Happening → List ℕ
-event_end c form number s seen (Of t) =
-    end_between c form number seen (slice_get (event c s t).threads t)
-event_end c form number s seen NextPart = []
+abbrev pub event_end : MarkedProgram → Names → Form → (number : ℕ) → Core → Option Seen → Happening
+    → List ℕ
+event_end c names form number s seen (Of t) =
+    end_between c names form number seen (slice_get (event c s t).threads t)
+event_end c names form number s seen NextPart = []
 
-abbrev pub ends_from : MarkedProgram → Form → (number : ℕ) → Told → List Happening → List ℕ
-ends_from c form number w [] = []
-ends_from c form number w (h ∷ hs) =
-    event_end c form number w.core (seen_of_event c w h) h
-    ++ ends_from c form (next_line_number number) (told c w h) hs
+abbrev pub ends_from : MarkedProgram → Names → Form → (number : ℕ) → Told → List Happening → List ℕ
+ends_from c names form number w [] = []
+ends_from c names form number w (h ∷ hs) =
+    event_end c names form number w.core (seen_of_event c w h) h
+    ++ ends_from c names form (next_line_number number) (told c w h) hs
 
 -- the lines of all events, or of a part of them, those of the ends that are no returns, and then
 -- the report of the run
-abbrev pub trace_text : MarkedProgram → Config → (names : List (List ℕ)) → Part → List Happening
-    → List ℕ
+abbrev pub trace_text : MarkedProgram → Config → Names → Part → List Happening → List ℕ
 trace_text c cfg names part hs =
-    lines_from c names part 1 (told_start c cfg) hs ++ ends_from c part.form 1 (told_start c cfg) hs
+    lines_from c names part 1 (told_start c cfg) hs
+    ++ ends_from c names part.form 1 (told_start c cfg) hs
     ++ report_in part.form (outcome (core c cfg hs))

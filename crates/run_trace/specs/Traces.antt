@@ -10,6 +10,7 @@ use Rattle.machine_types.specs.Core.{Core, Happening, core, happened, outcome, s
 use Rattle.machine_types.specs.History.{all_told, told_start}
 use Rattle.machine_types.specs.Schedules.{IsScheduleOf, Stage, First, Turn, turn_at}
 use Rattle.machine_types.specs.declared.config.Config.{Config}
+use Rattle.place_names.specs.declared.names.Names.{Names}
 use Rattle.event_texts.specs.Shares as shares
 use Rattle.replay_runner.specs.Replays.{IsLedByTurns}
 use Rattle.run_trace.specs.EventLines.{ends_from, event_end, lines_from, next_line_number}
@@ -33,14 +34,14 @@ pub record IsFrontTold (told now : Option (List ℕ)) (text : List ℕ) : Type 0
 -- ---- one event or part
 
 -- it happened to the run, and its line was added to what the sink tells
-pub record Happened (c : MarkedProgram) (names : List (List ℕ)) (part : Part) (h : Happening)
+pub record Happened (c : MarkedProgram) (names : Names) (part : Part) (h : Happening)
     (m n : Tracing) (told now : Option (List ℕ)) (before after : ℕ) : Type 0 where
   pub machine : n.machine ≡ record m.machine { core = happened m.machine.program m.machine.core h }
   pub number : n.number ≡ next_line_number m.number
   pub owed : n.owed ≡ owed_after m.owed h (seen_by c m.machine.core m.owed h)
   pub ends : n.ends.items
       ≡ m.ends.items
-      ++ event_end c part.form m.number m.machine.core (seen_by c m.machine.core m.owed h) h
+      ++ event_end c names part.form m.number m.machine.core (seen_by c m.machine.core m.owed h) h
   pub text : now
       ≡ option_map (λ t.
       t ++ told_line c names part m.number m.machine.core (seen_by c m.machine.core m.owed h) h)
@@ -48,7 +49,7 @@ pub record Happened (c : MarkedProgram) (names : List (List ℕ)) (part : Part) 
   pub calm : after ≡ before
 
 -- there was no memory, and nothing was written; or the sink failed within the line
-abbrev pub IsHappeningTold : MarkedProgram → (names : List (List ℕ)) → Part → Happening
+abbrev pub IsHappeningTold : MarkedProgram → Names → Part → Happening
     → (m n : Tracing) → (told now : Option (List ℕ)) → (before after : ℕ) → {A : Type 0}
     → Result A TraceError → Type 0
 IsHappeningTold c names part h m n told now before after (Ok done) =
@@ -77,7 +78,7 @@ number_after number (h ∷ hs) = number_after (next_line_number number) hs
 
 -- the order has led the run to here, where this turn comes next and each thread owes so many steps;
 -- and a sink that told some bytes has the lines of its events
-pub record TraceWalked (c : MarkedProgram) (cfg : Config) (order : List ℕ) (names : List (List ℕ))
+pub record TraceWalked (c : MarkedProgram) (cfg : Config) (order : List ℕ) (names : Names)
     (part : Part) (told : Option (List ℕ)) (n : Tracing) (next : Option Turn)
     (now : Option (List ℕ)) : Type 0 where
   pub program : n.machine.program ≡ c
@@ -89,12 +90,12 @@ pub record TraceWalked (c : MarkedProgram) (cfg : Config) (order : List ℕ) (na
   pub number : n.number ≡ number_after 1 happenings
   pub core : (all_told c (told_start c cfg) happenings).core ≡ n.machine.core
   pub owed : n.owed ≡ map shares.owed (all_told c (told_start c cfg) happenings).pasts
-  pub ends : n.ends.items ≡ ends_from c part.form 1 (told_start c cfg) happenings
+  pub ends : n.ends.items ≡ ends_from c names part.form 1 (told_start c cfg) happenings
   pub text : now
       ≡ option_map (λ t. t ++ lines_from c names part 1 (told_start c cfg) happenings) told
 
 -- whatever was walked to the one is walked to the other; the sink has not failed
-pub record WalksOn (c : MarkedProgram) (order : List ℕ) (names : List (List ℕ)) (part : Part)
+pub record WalksOn (c : MarkedProgram) (order : List ℕ) (names : Names) (part : Part)
     (m : Tracing) (next : Option Turn) (told : Option (List ℕ)) (before : ℕ) (n : Tracing)
     (behind : Option Turn) (now : Option (List ℕ)) (after : ℕ) : Type 0 where
   pub program : n.machine.program ≡ m.machine.program
@@ -104,7 +105,7 @@ pub record WalksOn (c : MarkedProgram) (order : List ℕ) (names : List (List �
   pub calm : after ≡ before
 
 -- the order has led the run so far, and a front of the lines of its events was accepted
-pub record IsBrokenOff (c : MarkedProgram) (cfg : Config) (order : List ℕ) (names : List (List ℕ))
+pub record IsBrokenOff (c : MarkedProgram) (cfg : Config) (order : List ℕ) (names : Names)
     (part : Part) (told now : Option (List ℕ)) : Type 0 where
   pub happenings : List Happening
   pub stage : Stage
@@ -113,7 +114,7 @@ pub record IsBrokenOff (c : MarkedProgram) (cfg : Config) (order : List ℕ) (na
   pub front : IsFrontTold told now (lines_from c names part 1 (told_start c cfg) happenings)
 
 -- whatever was walked to the turn breaks off behind it
-abbrev pub BreaksOff : MarkedProgram → (order : List ℕ) → (names : List (List ℕ)) → Part
+abbrev pub BreaksOff : MarkedProgram → (order : List ℕ) → Names → Part
     → (m : Tracing) → Option Turn → (told now : Option (List ℕ)) → Type 0
 BreaksOff c order names part m next told now =
     (cfg : Config) (first : Option (List ℕ))
@@ -121,7 +122,7 @@ BreaksOff c order names part m next told now =
     → IsBrokenOff c cfg order names part first now
 
 -- for want of memory, where the sink had not failed, or since it failed
-abbrev pub IsCutShort : MarkedProgram → (order : List ℕ) → (names : List (List ℕ)) → Part
+abbrev pub IsCutShort : MarkedProgram → (order : List ℕ) → Names → Part
     → (m : Tracing) → Option Turn → (told : Option (List ℕ)) → (before : ℕ)
     → (now : Option (List ℕ)) → (after : ℕ) → TraceError → Type 0
 IsCutShort c order names part m turn told before now after Memory =
@@ -130,7 +131,7 @@ IsCutShort c order names part m turn told before now after Failed =
     CountsFault before after × BreaksOff c order names part m turn told now
 
 -- on from a turn, to another
-abbrev pub IsWalk : MarkedProgram → (order : List ℕ) → (names : List (List ℕ)) → Part
+abbrev pub IsWalk : MarkedProgram → (order : List ℕ) → Names → Part
     → (m : Tracing) → Option Turn → (told : Option (List ℕ)) → (before : ℕ) → (n : Tracing)
     → (now : Option (List ℕ)) → (after : ℕ) → Result Next TraceError → Type 0
 IsWalk c order names part m turn told before n now after (Ok next) =
@@ -139,7 +140,7 @@ IsWalk c order names part m turn told before n now after (Err e) =
     IsCutShort c order names part m turn told before now after e
 
 -- on from a turn, to the end of the run
-abbrev pub IsWalkToEnd : MarkedProgram → (order : List ℕ) → (names : List (List ℕ)) → Part
+abbrev pub IsWalkToEnd : MarkedProgram → (order : List ℕ) → Names → Part
     → (m : Tracing) → Option Turn → (told : Option (List ℕ)) → (before : ℕ) → (n : Tracing)
     → (now : Option (List ℕ)) → (after : ℕ) → {A : Type 0} → Result A TraceError → Type 0
 IsWalkToEnd c order names part m turn told before n now after (Ok done) =
@@ -159,7 +160,7 @@ IsPut told now before after text (Err Failed) =
 
 -- ---- the whole
 
-pub record IsWholeTrace (c : MarkedProgram) (cfg : Config) (order : List ℕ) (names : List (List ℕ))
+pub record IsWholeTrace (c : MarkedProgram) (cfg : Config) (order : List ℕ) (names : Names)
     (part : Part) (told now : Option (List ℕ)) (before after : ℕ) (o : Outcome) : Type 0 where
   pub happenings : List Happening
   pub schedule : IsScheduleOf c cfg order happenings
@@ -168,7 +169,7 @@ pub record IsWholeTrace (c : MarkedProgram) (cfg : Config) (order : List ℕ) (n
   pub calm : after ≡ before
 
 -- a front of the trace that is due was accepted
-pub record IsTraceFront (c : MarkedProgram) (cfg : Config) (order : List ℕ) (names : List (List ℕ))
+pub record IsTraceFront (c : MarkedProgram) (cfg : Config) (order : List ℕ) (names : Names)
     (part : Part) (told now : Option (List ℕ)) : Type 0 where
   pub happenings : List Happening
   pub schedule : IsScheduleOf c cfg order happenings
@@ -176,7 +177,7 @@ pub record IsTraceFront (c : MarkedProgram) (cfg : Config) (order : List ℕ) (n
 
 -- the trace was written whole, and the outcome of the run is answered; or a front of it, where
 -- there was no memory, and the sink had not failed, or where it failed
-abbrev pub IsTraced : MarkedProgram → Config → (order : List ℕ) → (names : List (List ℕ)) → Part
+abbrev pub IsTraced : MarkedProgram → Config → (order : List ℕ) → Names → Part
     → (told now : Option (List ℕ)) → (before after : ℕ) → Result Outcome TraceError → Type 0
 IsTraced c cfg order names part told now before after (Ok o) =
     IsWholeTrace c cfg order names part told now before after o

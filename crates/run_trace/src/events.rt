@@ -17,6 +17,7 @@ use event_texts::{
 use json_lines::Form;
 use jvm_types::{Bytes, Rows};
 use machine_types::Access;
+use place_names::Names;
 use replay_runner::Machine;
 use std::alloc::{AllocError, Global};
 use step_core::want;
@@ -120,14 +121,15 @@ fn write_between(
     alloc: Global,
     form: Form,
     p: &Checked,
-    names: &Rows<Bytes>,
+    names: &Names,
     number: u64,
     seen: &Option<Seen>,
     machine: &Machine,
     t: u8,
 ) -> Result<(), AllocError>
     ensures end { OnOk result (ends.new.items ≡ ends.old.items
-        ++ end_between p.now form number seen.now (slice_get machine.now.core.threads t)) }
+        ++ end_between p.now names.now form number seen.now
+        (slice_get machine.now.core.threads t)) }
     ensures line { OnOk result (text.new.items ≡ text.old.items ++ line_between p.now form names.now
         number machine.now.core.words seen.now (slice_get machine.now.core.threads t)) }
 {
@@ -145,7 +147,16 @@ fn write_between(
                 &seen.share,
                 &after,
             )?;
-            write_event_end(ends, alloc, form, p, number, &seen.before, &after)
+            write_event_end(
+                ends,
+                alloc,
+                form,
+                p,
+                &names.sources,
+                number,
+                &seen.before,
+                &after,
+            )
         }
         _ => Ok(()),
     }
@@ -161,7 +172,7 @@ pub fn make_event(
     machine: &mut Machine,
     owed: &mut Rows<u64>,
     p: &Checked,
-    names: &Rows<Bytes>,
+    names: &Names,
     number: u64,
     t: u8,
 ) -> Result<(), AllocError>
@@ -172,8 +183,8 @@ pub fn make_event(
     ensures less { all_work machine.new.core < all_work machine.old.core }
     ensures owed { owed.new
         ≡ owed_after owed.old (Of t) (seen_by p.now machine.old.core owed.old (Of t)) }
-    ensures end { OnOk result (ends.new.items ≡ ends.old.items ++ event_end p.now form number
-        machine.old.core (seen_by p.now machine.old.core owed.old (Of t)) (Of t)) }
+    ensures end { OnOk result (ends.new.items ≡ ends.old.items ++ event_end p.now names.now form
+        number machine.old.core (seen_by p.now machine.old.core owed.old (Of t)) (Of t)) }
     ensures line { OnOk result (text.new.items ≡ text.old.items ++ event_line p.now form names.now
         number machine.old.core (seen_by p.now machine.old.core owed.old (Of t))
         (Of t)) }

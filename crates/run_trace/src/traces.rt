@@ -22,6 +22,7 @@ use json_lines::Form;
 use jvm_types::{Bytes, Outcome, Rows};
 use laws_states::every_order_has_run;
 use machine_types::Config;
+use place_names::Names;
 use replay_runner::Machine;
 use run_parts::have_width;
 use std::alloc::{AllocError, Global};
@@ -99,7 +100,7 @@ fn tell_event<K: Sink>(
     alloc: Global,
     trace: &mut Tracing,
     p: &Checked,
-    names: &Rows<Bytes>,
+    names: &Names,
     part: Part,
     t: u8,
     sink: &mut K,
@@ -136,7 +137,7 @@ fn tell_part<K: Sink>(
     alloc: Global,
     trace: &mut Tracing,
     p: &Checked,
-    names: &Rows<Bytes>,
+    names: &Names,
     part: Part,
     sink: &mut K,
 ) -> Result<(), TraceError>
@@ -161,7 +162,7 @@ fn tell_events<K: Sink>(
     alloc: Global,
     trace: &mut Tracing,
     p: &Checked,
-    names: &Rows<Bytes>,
+    names: &Names,
     part: Part,
     order: &[u8],
     from: Progress,
@@ -187,7 +188,7 @@ fn tell_all<K: Sink>(
     alloc: Global,
     trace: &mut Tracing,
     p: &Checked,
-    names: &Rows<Bytes>,
+    names: &Names,
     part: Part,
     order: &[u8],
     sink: &mut K,
@@ -231,8 +232,8 @@ fn tell_report<K: Sink>(
 /// the thread comes to its end; and the steps of the plain machine that it stands for. Behind them
 /// stands a line for each end that is no return, and the report of the run. Each is a line of
 /// words, or as JSON one object on a line, made of the same facts (`key_row` of `tellings` has the
-/// members). `names` has the names of the fields of the program in their order; a field without a
-/// name is told by its number.
+/// members). A field that `names` has no name for is told by its number, and a place is told with
+/// the line of the source where `names` has one.
 ///
 /// It answers the outcome of the run; `Failed` where the sink fails, and `Memory` where there is no
 /// memory, and then the sink has accepted a front of all that. The memory that it takes does not
@@ -242,7 +243,7 @@ pub fn explain_run<K: Sink>(
     p: &Checked,
     cfg: &Config,
     order: &Bytes,
-    names: &Rows<Bytes>,
+    names: &Names,
     part: Part,
     sink: &mut K,
 ) -> Result<Outcome, TraceError>
