@@ -8,11 +8,12 @@ use Rattle.std.specs.Fmt.{decimal}
 use Rattle.jvm_types.specs.declared.code.Insn.{Insn}
 use Rattle.jvm_types.specs.declared.program.MethodInfo.{MethodInfo}
 use Rattle.jvm_types.specs.declared.program.Program.{Program}
+use Rattle.source_lines.specs.declared.sources.Sources.{Sources}
 use Rattle.checked_program.specs.declared.section.SectionMark.{SectionMark}
 use Rattle.checked_program.specs.declared.section.Spot.{Spot}
 use Rattle.checked_program.specs.declared.section.Spot.TheVariants.{Method, Block}
 use Rattle.run_texts.specs.MarksText.{class_text}
-use Rattle.place_names.specs.PlaceFacts.{method_facts, pc_insn_facts}
+use Rattle.place_names.specs.PlaceFacts.{method_facts, pc_insn_facts, source_facts_at}
 use Rattle.tellings.specs.declared.facts.Fact.{Fact}
 use Rattle.tellings.specs.declared.facts.Fact.TheVariants.{Words, Text, Count, Opens, Lists, Item}
 use Rattle.tellings.specs.declared.facts.Fact.TheVariants.{Closes, Ends}
@@ -43,6 +44,11 @@ abbrev pub section_facts : Program → (method : ℕ) → Spot → List Fact
 section_facts p method spot =
     begun_facts p.names (slice_get p.methods method) ++ section_spot_facts spot
 
+-- the pc at which it begins
+abbrev pub section_pc : Spot → ℕ
+section_pc Method = 0
+section_pc (Block pc) = pc
+
 -- a mark, or a rule
 abbrev pub mark_name : ℕ → List ℕ
 mark_name n = codes "M" ++ decimal n
@@ -54,14 +60,20 @@ abbrev pub numbered : Option MethodInfo → ℕ → Option Insn
 numbered None i = None
 numbered (Some m) i = slice_get m.code i
 
-abbrev pub site_insn_facts : Option Insn → List Fact
-site_insn_facts None = []
-site_insn_facts (Some insn) = pc_insn_facts insn.pc (Some insn)
+abbrev pub site_insn_facts : Sources → (method : ℕ) → Option Insn → List Fact
+site_insn_facts sources method None = []
+site_insn_facts sources method (Some insn) =
+    pc_insn_facts insn.pc (Some insn) ++ source_facts_at sources method insn.pc
 
-abbrev pub site_facts : Program → (method at : ℕ) → List Fact
-site_facts p method at =
+abbrev pub site_facts : Program → Sources → (method at : ℕ) → List Fact
+site_facts p sources method at =
     method_facts p.names (slice_get p.methods method)
-    ++ site_insn_facts (numbered (slice_get p.methods method) at)
+    ++ site_insn_facts sources method (numbered (slice_get p.methods method) at)
+
+-- a method, where its code begins
+abbrev pub method_site_facts : Program → Sources → (method : ℕ) → List Fact
+method_site_facts p sources method =
+    method_facts p.names (slice_get p.methods method) ++ source_facts_at sources method 0
 
 -- ---- the way
 
@@ -69,11 +81,11 @@ site_facts p method at =
 abbrev pub item_facts : List Fact → (behind : List ℕ) → List Fact
 item_facts facts behind = Words (codes "\n ") ∷ Item ∷ facts ++ Closes ∷ Words behind ∷ []
 
-abbrev pub call_facts : Program → Site → List Fact
-call_facts p x = item_facts (site_facts p x.method x.at) (codes " calls")
+abbrev pub call_facts : Program → Sources → Site → List Fact
+call_facts p sources x = item_facts (site_facts p sources x.method x.at) (codes " calls")
 
-abbrev pub calls_facts : Program → List Site → List Fact
-calls_facts p way = flat_map (call_facts p) way
+abbrev pub calls_facts : Program → Sources → List Site → List Fact
+calls_facts p sources way = flat_map (call_facts p sources) way
 
 -- calls that stand below another section
 abbrev pub shared_facts : Program → Option LastWay → (calls : ℕ) → List Fact
@@ -83,9 +95,9 @@ shared_facts p (Some last) calls =
     ++ Closes ∷ []
 
 -- the last of them where they are those of the way before
-abbrev pub way_facts : Program → Option LastWay → List Site → List Fact
-way_facts p before way =
-    calls_facts p (take (length way - shared_calls before way) way)
+abbrev pub way_facts : Program → Sources → Option LastWay → List Site → List Fact
+way_facts p sources before way =
+    calls_facts p sources (take (length way - shared_calls before way) way)
     ++ (if nat_lt 0 (shared_calls before way)
     then shared_facts p before (shared_calls before way) else [])
 
@@ -100,9 +112,9 @@ rule_words rule =
     if rule == 4 then codes "it prints, waits or notifies" else
     codes "it reads what the section's lock is not known to guard"
 
-abbrev pub fault_facts : Program → Site → (rule : ℕ) → List Fact
-fault_facts p x rule =
-    item_facts (site_facts p x.method x.at)
+abbrev pub fault_facts : Program → Sources → Site → (rule : ℕ) → List Fact
+fault_facts p sources x rule =
+    item_facts (site_facts p sources x.method x.at)
     (codes " " ++ mark_name rule ++ codes ": " ++ rule_words rule)
 
 -- what keeps the place of M5 from being read
@@ -114,52 +126,56 @@ cause_kind causes.Other = codes "other"
 cause_kind (causes.Constructor u) = codes "constructor"
 cause_kind (causes.Write method at) = codes "write"
 
-abbrev pub cause_place : Program → Cause → List Fact
-cause_place p causes.Element =
+abbrev pub cause_place : Program → Sources → Cause → List Fact
+cause_place p sources causes.Element =
     Words (codes
     "\n    it is an element of an array that is not known to be the section's own") ∷ []
-cause_place p causes.Static =
+cause_place p sources causes.Static =
     Words (codes "\n    it is a static field, and the section is not on its class") ∷ []
-cause_place p causes.Shared = Words (codes "\n    the field is not private") ∷ []
-cause_place p causes.Other =
+cause_place p sources causes.Shared = Words (codes "\n    the field is not private") ∷ []
+cause_place p sources causes.Other =
     Words (codes
     "\n    it is the field of an object that is not known to be the section's") ∷ []
-cause_place p (causes.Constructor u) =
-    Opens keys.Constructor ∷ method_facts p.names (slice_get p.methods u) ++ Closes
+cause_place p sources (causes.Constructor u) =
+    Opens keys.Constructor ∷ method_site_facts p sources u ++ Closes
     ∷ Words (codes " is not known to keep its object to itself") ∷ []
-cause_place p (causes.Write method at) =
-    Opens keys.Write ∷ site_facts p method at ++ Closes
+cause_place p sources (causes.Write method at) =
+    Opens keys.Write ∷ site_facts p sources method at ++ Closes
     ∷ Words (codes " writes the field, not known to be under the lock that guards it") ∷ []
 
-abbrev pub cause_facts : Program → Option Cause → List Fact
-cause_facts p None = []
-cause_facts p (Some cause) = Text keys.Cause (cause_kind cause) ∷ cause_place p cause
+abbrev pub cause_facts : Program → Sources → Option Cause → List Fact
+cause_facts p sources None = []
+cause_facts p sources (Some cause) =
+    Text keys.Cause (cause_kind cause) ∷ cause_place p sources cause
 
 -- the method that the way comes back to
-abbrev pub again_facts : Program → Option Site → List Fact
-again_facts p None = []
-again_facts p (Some x) =
-    item_facts (method_facts p.names (slice_get p.methods x.method)) (codes " again")
+abbrev pub again_facts : Program → Sources → Option Site → List Fact
+again_facts p sources None = []
+again_facts p sources (Some x) =
+    item_facts (method_site_facts p sources x.method) (codes " again")
 
-abbrev pub reason_facts : Program → Option LastWay → Reason → List Fact
-reason_facts p before Elsewhere =
+abbrev pub reason_facts : Program → Sources → Option LastWay → Reason → List Fact
+reason_facts p sources before Elsewhere =
     Text keys.Reason (codes "elsewhere") ∷ Words (codes "\n  its monitor is not known to be this")
     ∷ []
-reason_facts p before Unreached =
+reason_facts p sources before Unreached =
     Text keys.Reason (codes "unreached") ∷ Words (codes "\n  no path reaches it") ∷ []
-reason_facts p before (Breaks way site rule cause) =
+reason_facts p sources before (Breaks way site rule cause) =
     Text keys.Reason (codes "breaks") ∷ Text keys.Rule (mark_name rule) ∷ Lists keys.Way
-    ∷ way_facts p before way ++ fault_facts p site rule ++ Ends ∷ cause_facts p cause
-reason_facts p before (Recurs way again) =
+    ∷ way_facts p sources before way ++ fault_facts p sources site rule ++ Ends
+    ∷ cause_facts p sources cause
+reason_facts p sources before (Recurs way again) =
     Text keys.Reason (codes "recurs") ∷ Lists keys.Way
-    ∷ way_facts p before way ++ again_facts p (slice_get way again) ++ Ends ∷ []
+    ∷ way_facts p sources before way ++ again_facts p sources (slice_get way again) ++ Ends ∷ []
 
-abbrev pub some_reason_facts : Program → Option LastWay → Option Reason → List Fact
-some_reason_facts p before None = []
-some_reason_facts p before (Some reason) = reason_facts p before reason
+abbrev pub some_reason_facts : Program → Sources → Option LastWay → Option Reason → List Fact
+some_reason_facts p sources before None = []
+some_reason_facts p sources before (Some reason) = reason_facts p sources before reason
 
--- the section, its mark, and why it has it
-abbrev pub marked_facts : Program → Option LastWay → SectionMark → Option Reason → List Fact
-marked_facts p before mark reason =
+-- the section, its mark, where it begins in the source, and why it has the mark
+abbrev pub marked_facts : Program → Sources → Option LastWay → SectionMark → Option Reason
+    → List Fact
+marked_facts p sources before mark reason =
     section_facts p mark.method mark.spot ++ Text keys.Mark (mark_name mark.mark)
-    ∷ some_reason_facts p before reason
+    ∷ source_facts_at sources mark.method (section_pc mark.spot)
+    ++ some_reason_facts p sources before reason

@@ -12,6 +12,7 @@ ghost use Rattle.mark_reasons.specs.ReasonFacts.{numbered as the_numbered, reaso
 ghost use Rattle.mark_reasons.specs.ReasonFacts.{rule_words as the_rule_words, section_facts};
 ghost use Rattle.mark_reasons.specs.ReasonFacts.{shared_facts, site_facts, some_reason_facts};
 ghost use Rattle.mark_reasons.specs.ReasonFacts.{section_spot_facts, way_facts};
+ghost use Rattle.mark_reasons.specs.ReasonFacts.{method_site_facts, section_pc as the_section_pc};
 ghost use Rattle.tellings.specs.declared.facts.Fact.TheVariants.{Closes as closes, Item as item};
 ghost use Rattle.tellings.specs.declared.facts.Fact.TheVariants.{Count as the_count, Ends as ends};
 ghost use Rattle.tellings.specs.declared.facts.Fact.TheVariants.{Lists as lists, Text as the_text};
@@ -22,8 +23,9 @@ use crate::reason::{Reason, Site};
 use crate::shared::{LastWay, shared_calls};
 use checked_program::{SectionMark, Spot};
 use jvm_types::{Bytes, Insn, MethodInfo, Program, Rows};
-use place_names::{add_method, add_pc};
+use place_names::{add_method, add_pc, add_source};
 use run_texts::write_class;
+use source_lines::Sources;
 use std::alloc::{AllocError, Global};
 use tellings::{Fact, Key, add_count, add_text};
 
@@ -102,6 +104,16 @@ fn add_section(
     add_spot(facts, alloc, spot)
 }
 
+// The pc at which it begins.
+fn section_pc(spot: Spot) -> u32
+    ensures { result ≡ the_section_pc spot }
+{
+    match spot {
+        Spot::Method => 0,
+        Spot::Block(pc) => pc,
+    }
+}
+
 fn mark_name(alloc: Global, number: u8) -> Result<String, AllocError>
     ensures { IfOk result (λ name. string_bytes name ≡ the_mark_name number) }
 {
@@ -129,11 +141,21 @@ fn numbered(p: &Program, method: u32, at: usize) -> Option<&Insn>
     }
 }
 
-fn add_insn(facts: &mut Rows<Fact>, alloc: Global, insn: Option<&Insn>) -> Result<(), AllocError>
-    ensures { OnOk result (facts.new ≡ facts.old ++ site_insn_facts (option_copied insn.entry)) }
+fn add_insn(
+    facts: &mut Rows<Fact>,
+    alloc: Global,
+    sources: &Sources,
+    method: u32,
+    insn: Option<&Insn>,
+) -> Result<(), AllocError>
+    ensures { OnOk result (facts.new
+        ≡ facts.old ++ site_insn_facts sources.now method (option_copied insn.entry)) }
 {
     match insn {
-        Some(there) => add_pc(facts, alloc, there.pc, Some(there)),
+        Some(there) => {
+            add_pc(facts, alloc, there.pc, Some(there))?;
+            add_source(facts, alloc, sources, method, there.pc)
+        }
         None => Ok(()),
     }
 }
@@ -142,13 +164,28 @@ fn add_site(
     facts: &mut Rows<Fact>,
     alloc: Global,
     p: &Program,
+    sources: &Sources,
     method: u32,
     at: usize,
 ) -> Result<(), AllocError>
-    ensures { OnOk result (facts.new ≡ facts.old ++ site_facts p.now method at) }
+    ensures { OnOk result (facts.new ≡ facts.old ++ site_facts p.now sources.now method at) }
 {
     add_method(facts, alloc, p, method)?;
-    add_insn(facts, alloc, numbered(p, method, at))
+    add_insn(facts, alloc, sources, method, numbered(p, method, at))
+}
+
+fn add_method_site(
+    facts: &mut Rows<Fact>,
+    alloc: Global,
+    p: &Program,
+    sources: &Sources,
+    method: u32,
+) -> Result<(), AllocError>
+    ensures { OnOk result
+        (facts.new ≡ facts.old ++ method_site_facts p.now sources.now method) }
+{
+    add_method(facts, alloc, p, method)?;
+    add_source(facts, alloc, sources, method, 0)
 }
 
 // ---- the way
@@ -171,12 +208,13 @@ fn add_call(
     facts: &mut Rows<Fact>,
     alloc: Global,
     p: &Program,
+    sources: &Sources,
     site: Site,
 ) -> Result<(), AllocError>
-    ensures { OnOk result (facts.new ≡ facts.old ++ call_facts p.now site) }
+    ensures { OnOk result (facts.new ≡ facts.old ++ call_facts p.now sources.now site) }
 {
     begin_item(facts, alloc, b"\n ")?;
-    add_site(facts, alloc, p, site.method, site.at)?;
+    add_site(facts, alloc, p, sources, site.method, site.at)?;
     close(facts, alloc, b" calls")
 }
 
@@ -184,12 +222,13 @@ fn add_calls(
     facts: &mut Rows<Fact>,
     alloc: Global,
     p: &Program,
+    sources: &Sources,
     way: &[Site],
 ) -> Result<(), AllocError>
-    ensures { OnOk result (facts.new ≡ facts.old ++ calls_facts p.now way.now) }
+    ensures { OnOk result (facts.new ≡ facts.old ++ calls_facts p.now sources.now way.now) }
 {
     for site in way {
-        add_call(facts, alloc, p, *site)?;
+        add_call(facts, alloc, p, sources, *site)?;
     }
     Ok(())
 }
@@ -225,13 +264,14 @@ fn add_way(
     facts: &mut Rows<Fact>,
     alloc: Global,
     p: &Program,
+    sources: &Sources,
     last: &Option<LastWay>,
     way: &[Site],
 ) -> Result<(), AllocError>
-    ensures { OnOk result (facts.new ≡ facts.old ++ way_facts p.now last.now way.now) }
+    ensures { OnOk result (facts.new ≡ facts.old ++ way_facts p.now sources.now last.now way.now) }
 {
     let shared = shared_calls(last, way);
-    add_calls(facts, alloc, p, &way[..way.len() - shared])?;
+    add_calls(facts, alloc, p, sources, &way[..way.len() - shared])?;
     if shared > 0 {
         add_shared(facts, alloc, p, last, shared)
     } else {
@@ -268,14 +308,15 @@ fn add_fault(
     facts: &mut Rows<Fact>,
     alloc: Global,
     p: &Program,
+    sources: &Sources,
     site: Site,
     rule: u8,
 ) -> Result<(), AllocError>
-    ensures { OnOk result (facts.new ≡ facts.old ++ fault_facts p.now site rule) }
+    ensures { OnOk result (facts.new ≡ facts.old ++ fault_facts p.now sources.now site rule) }
 {
     let words = fault_words(alloc, rule)?;
     begin_item(facts, alloc, b"\n ")?;
-    add_site(facts, alloc, p, site.method, site.at)?;
+    add_site(facts, alloc, p, sources, site.method, site.at)?;
     close(facts, alloc, words.as_bytes())
 }
 
@@ -296,12 +337,14 @@ fn add_constructor(
     facts: &mut Rows<Fact>,
     alloc: Global,
     p: &Program,
+    sources: &Sources,
     init: u32,
 ) -> Result<(), AllocError>
-    ensures { OnOk result (facts.new ≡ facts.old ++ cause_place p.now (Cause.Constructor init)) }
+    ensures { OnOk result
+        (facts.new ≡ facts.old ++ cause_place p.now sources.now (Cause.Constructor init)) }
 {
     facts.push(Fact::Opens(Key::Constructor))?;
-    add_method(facts, alloc, p, init)?;
+    add_method_site(facts, alloc, p, sources, init)?;
     close(facts, alloc, b" is not known to keep its object to itself")
 }
 
@@ -309,13 +352,15 @@ fn add_write(
     facts: &mut Rows<Fact>,
     alloc: Global,
     p: &Program,
+    sources: &Sources,
     method: u32,
     at: usize,
 ) -> Result<(), AllocError>
-    ensures { OnOk result (facts.new ≡ facts.old ++ cause_place p.now (Cause.Write method at)) }
+    ensures { OnOk result
+        (facts.new ≡ facts.old ++ cause_place p.now sources.now (Cause.Write method at)) }
 {
     facts.push(Fact::Opens(Key::Write))?;
-    add_site(facts, alloc, p, method, at)?;
+    add_site(facts, alloc, p, sources, method, at)?;
     close(
         facts,
         alloc,
@@ -327,9 +372,10 @@ fn add_cause_place(
     facts: &mut Rows<Fact>,
     alloc: Global,
     p: &Program,
+    sources: &Sources,
     cause: Cause,
 ) -> Result<(), AllocError>
-    ensures { OnOk result (facts.new ≡ facts.old ++ cause_place p.now cause) }
+    ensures { OnOk result (facts.new ≡ facts.old ++ cause_place p.now sources.now cause) }
 {
     match cause {
         Cause::Element => add_words(
@@ -348,8 +394,8 @@ fn add_cause_place(
             alloc,
             b"\n    it is the field of an object that is not known to be the section's",
         ),
-        Cause::Constructor(init) => add_constructor(facts, alloc, p, init),
-        Cause::Write { method, at } => add_write(facts, alloc, p, method, at),
+        Cause::Constructor(init) => add_constructor(facts, alloc, p, sources, init),
+        Cause::Write { method, at } => add_write(facts, alloc, p, sources, method, at),
     }
 }
 
@@ -357,14 +403,15 @@ fn add_cause(
     facts: &mut Rows<Fact>,
     alloc: Global,
     p: &Program,
+    sources: &Sources,
     cause: Option<Cause>,
 ) -> Result<(), AllocError>
-    ensures { OnOk result (facts.new ≡ facts.old ++ cause_facts p.now cause) }
+    ensures { OnOk result (facts.new ≡ facts.old ++ cause_facts p.now sources.now cause) }
 {
     match cause {
         Some(there) => {
             add_text(facts, alloc, Key::Cause, cause_kind(there))?;
-            add_cause_place(facts, alloc, p, there)
+            add_cause_place(facts, alloc, p, sources, there)
         }
         None => Ok(()),
     }
@@ -374,14 +421,16 @@ fn add_again(
     facts: &mut Rows<Fact>,
     alloc: Global,
     p: &Program,
+    sources: &Sources,
     site: Option<&Site>,
 ) -> Result<(), AllocError>
-    ensures { OnOk result (facts.new ≡ facts.old ++ again_facts p.now (option_copied site.entry)) }
+    ensures { OnOk result
+        (facts.new ≡ facts.old ++ again_facts p.now sources.now (option_copied site.entry)) }
 {
     match site {
         Some(x) => {
             begin_item(facts, alloc, b"\n ")?;
-            add_method(facts, alloc, p, x.method)?;
+            add_method_site(facts, alloc, p, sources, x.method)?;
             close(facts, alloc, b" again")
         }
         None => Ok(()),
@@ -422,26 +471,30 @@ fn end_broken(
     facts: &mut Rows<Fact>,
     alloc: Global,
     p: &Program,
+    sources: &Sources,
     site: Site,
     rule: u8,
     cause: Option<Cause>,
 ) -> Result<(), AllocError>
     ensures { OnOk result (facts.new
-        ≡ facts.old ++ fault_facts p.now site rule ++ ends ∷ cause_facts p.now cause) }
+        ≡ facts.old ++ fault_facts p.now sources.now site rule
+        ++ ends ∷ cause_facts p.now sources.now cause) }
 {
-    add_fault(facts, alloc, p, site, rule)?;
+    add_fault(facts, alloc, p, sources, site, rule)?;
     facts.push(Fact::Ends)?;
-    add_cause(facts, alloc, p, cause)
+    add_cause(facts, alloc, p, sources, cause)
 }
 
 fn add_reason(
     facts: &mut Rows<Fact>,
     alloc: Global,
     p: &Program,
+    sources: &Sources,
     last: &Option<LastWay>,
     reason: &Reason,
 ) -> Result<(), AllocError>
-    ensures { OnOk result (facts.new ≡ facts.old ++ reason_facts p.now last.now reason.now) }
+    ensures { OnOk result
+        (facts.new ≡ facts.old ++ reason_facts p.now sources.now last.now reason.now) }
 {
     match reason {
         Reason::Elsewhere => add_said(
@@ -458,13 +511,13 @@ fn add_reason(
             cause,
         } => {
             add_broken(facts, alloc, *rule)?;
-            add_way(facts, alloc, p, last, way.as_slice())?;
-            end_broken(facts, alloc, p, *site, *rule, *cause)
+            add_way(facts, alloc, p, sources, last, way.as_slice())?;
+            end_broken(facts, alloc, p, sources, *site, *rule, *cause)
         }
         Reason::Recurs { way, again } => {
             add_recurring(facts, alloc)?;
-            add_way(facts, alloc, p, last, way.as_slice())?;
-            add_again(facts, alloc, p, way.get(*again))?;
+            add_way(facts, alloc, p, sources, last, way.as_slice())?;
+            add_again(facts, alloc, p, sources, way.get(*again))?;
             facts.push(Fact::Ends)
         }
     }
@@ -474,35 +527,47 @@ fn add_some(
     facts: &mut Rows<Fact>,
     alloc: Global,
     p: &Program,
+    sources: &Sources,
     last: &Option<LastWay>,
     reason: &Option<Reason>,
 ) -> Result<(), AllocError>
-    ensures { OnOk result (facts.new ≡ facts.old ++ some_reason_facts p.now last.now reason.now) }
+    ensures { OnOk result
+        (facts.new ≡ facts.old ++ some_reason_facts p.now sources.now last.now reason.now) }
 {
     match reason {
-        Some(there) => add_reason(facts, alloc, p, last, there),
+        Some(there) => add_reason(facts, alloc, p, sources, last, there),
         None => Ok(()),
     }
 }
 
-/// What is told of a section: its class and method, where it begins, its mark, and where that isn't
-/// M0 why, as lines that are each a bit further right: the calls that lead to what breaks its rule,
-/// and then the instruction with the rule, and for M5 what keeps the place from being read; or the
-/// method that is called again (M7), or that the monitor is not known to be `this`, or that no path
-/// reaches the block (M8). Calls at the end of the way that stand below the section that was told
-/// last are told by their number and that section.
+/// What is told of a section: its class and method, where it begins, its mark, the line of the
+/// source at its begin, and where the mark isn't M0 why, as lines that are each a bit further
+/// right: the calls that lead to what breaks its rule, and then the instruction with the rule, and
+/// for M5 what keeps the place from being read; or the method that is called again (M7), or that
+/// the monitor is not known to be `this`, or that no path reaches the block (M8). Calls at the end
+/// of the way that stand below the section that was told last are told by their number and that
+/// section.
 pub fn section_told(
     alloc: Global,
     p: &Program,
+    sources: &Sources,
     last: &Option<LastWay>,
     mark: SectionMark,
     reason: &Option<Reason>,
 ) -> Result<Rows<Fact>, AllocError>
-    ensures { IfOk result (λ facts. facts ≡ marked_facts p.now last.now mark reason.now) }
+    ensures { IfOk result (λ facts.
+        facts ≡ marked_facts p.now sources.now last.now mark reason.now) }
 {
     let mut facts = Rows::new(alloc);
     add_section(&mut facts, alloc, p, mark.method, mark.spot)?;
     add_mark(&mut facts, alloc, Key::Mark, mark.mark)?;
-    add_some(&mut facts, alloc, p, last, reason)?;
+    add_source(
+        &mut facts,
+        alloc,
+        sources,
+        mark.method,
+        section_pc(mark.spot),
+    )?;
+    add_some(&mut facts, alloc, p, sources, last, reason)?;
     Ok(facts)
 }

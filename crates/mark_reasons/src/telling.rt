@@ -25,6 +25,7 @@ use host_io::sink::{Sink, SinkFailed};
 use host_io::writing::write_whole;
 use json_lines::Form;
 use jvm_types::{Program, Rows};
+use source_lines::Sources;
 use std::alloc::{AllocError, Global};
 use tellings::write_told;
 
@@ -49,14 +50,15 @@ fn section_text(
     alloc: Global,
     form: Form,
     p: &Program,
+    sources: &Sources,
     last: &Option<LastWay>,
     mark: SectionMark,
     reason: &Option<Reason>,
 ) -> Result<Vec<u8>, AllocError>
     ensures { IfOk result (λ text.
-        text.items ≡ the_section_text form p.now last.now mark reason.now) }
+        text.items ≡ the_section_text form p.now sources.now last.now mark reason.now) }
 {
-    let facts = section_told(alloc, p, last, mark, reason)?;
+    let facts = section_told(alloc, p, sources, last, mark, reason)?;
     let mut text = Vec::new(alloc);
     write_told(&mut text, alloc, form, "section", facts.as_slice())?;
     Ok(text)
@@ -66,6 +68,7 @@ fn make_ready(
     alloc: Global,
     form: Form,
     p: &Program,
+    sources: &Sources,
     uses: &Uses,
     tags: &Rows<Tags>,
     recurs: &[bool],
@@ -79,10 +82,11 @@ fn make_ready(
     requires recurs { AreRecurring (call_graph p.now tags.now).from (call_graph p.now tags.now).to
         (3 * length p.now.methods) recurs.now }
     requires marked { HasMark p.now (tagged_by tags.now) uses.now (marked_section mark) mark.mark }
-    ensures { IfOk result (IsSectionReady form p.now (tagged_by tags.now) uses.now last mark) }
+    ensures { IfOk result
+        (IsSectionReady form p.now sources.now (tagged_by tags.now) uses.now last mark) }
 {
     let reason = reason_of(alloc, p, uses, tags, recurs, mark)?;
-    let text = section_text(alloc, form, p, &last, mark, &reason)?;
+    let text = section_text(alloc, form, p, sources, &last, mark, &reason)?;
     let last = last_told(alloc, last, mark, &reason)?;
     Ok(Ready { text, last })
 }
@@ -92,6 +96,7 @@ fn tell_section<K: Sink>(
     alloc: Global,
     form: Form,
     p: &Program,
+    sources: &Sources,
     uses: &Uses,
     tags: &Rows<Tags>,
     recurs: &[bool],
@@ -106,10 +111,10 @@ fn tell_section<K: Sink>(
     requires recurs { AreRecurring (call_graph p.now tags.now).from (call_graph p.now tags.now).to
         (3 * length p.now.methods) recurs.now }
     requires marked { HasMark p.now (tagged_by tags.now) uses.now (marked_section mark) mark.mark }
-    ensures { IsSectionWritten form p.now (tagged_by tags.now) uses.now last mark (K.text sink.old)
-        (K.text sink.new) (K.faults sink.old) (K.faults sink.new) result }
+    ensures { IsSectionWritten form p.now sources.now (tagged_by tags.now) uses.now last mark
+        (K.text sink.old) (K.text sink.new) (K.faults sink.old) (K.faults sink.new) result }
 {
-    match make_ready(alloc, form, p, uses, tags, recurs, last, mark) {
+    match make_ready(alloc, form, p, sources, uses, tags, recurs, last, mark) {
         Ok(ready) => match write_whole(sink, ready.text.as_slice()) {
             Ok(()) => Ok(ready.last),
             Err(SinkFailed) => Err(MarksError::Failed),
@@ -123,6 +128,7 @@ fn tell_sections<K: Sink>(
     alloc: Global,
     form: Form,
     p: &Program,
+    sources: &Sources,
     uses: &Uses,
     tags: &Rows<Tags>,
     recurs: &[bool],
@@ -136,12 +142,14 @@ fn tell_sections<K: Sink>(
     requires recurs { AreRecurring (call_graph p.now tags.now).from (call_graph p.now tags.now).to
         (3 * length p.now.methods) recurs.now }
     requires marked { AreMarked p.now (tagged_by tags.now) uses.now marks.now }
-    ensures { AreSectionsWritten form p.now (tagged_by tags.now) uses.now marks.now
+    ensures { AreSectionsWritten form p.now sources.now (tagged_by tags.now) uses.now marks.now
         (K.text sink.old) (K.text sink.new) (K.faults sink.old) (K.faults sink.new) result }
 {
     let mut last = None;
     for mark in marks {
-        last = tell_section(alloc, form, p, uses, tags, recurs, last, *mark, sink)?;
+        last = tell_section(
+            alloc, form, p, sources, uses, tags, recurs, last, *mark, sink,
+        )?;
     }
     Ok(())
 }
@@ -170,8 +178,9 @@ fn find_known(alloc: Global, p: &Program, tags: &Rows<Tags>) -> Result<Known, Al
 }
 
 /// Writes the marks of a program with their reasons, section by section as they are found: for each
-/// its line as `run_texts::mark_text` has it, and where the mark isn't M0 below it why, as
-/// `section_told` has it; or as JSON one object on a line, made of the same.
+/// its line as `run_texts::mark_text` has it, with where it begins in the source, and where the mark
+/// isn't M0 below it why, as `section_told` has it; or as JSON one object on a line, made of the
+/// same.
 ///
 /// It answers `Failed` where the sink fails, and `Memory` where there is no memory. The memory that
 /// it takes does not grow with the text.
@@ -179,10 +188,11 @@ pub fn explain_marks<K: Sink>(
     alloc: Global,
     form: Form,
     c: &Checked,
+    sources: &Sources,
     sink: &mut K,
 ) -> Result<(), MarksError>
-    ensures { AreMarksWritten form c.now (K.text sink.old) (K.text sink.new) (K.faults sink.old)
-        (K.faults sink.new) result }
+    ensures { AreMarksWritten form c.now sources.now (K.text sink.old) (K.text sink.new)
+        (K.faults sink.old) (K.faults sink.new) result }
 {
     let p = c.program();
     let tags = c.tags();
@@ -191,6 +201,7 @@ pub fn explain_marks<K: Sink>(
             alloc,
             form,
             p,
+            sources,
             &known.uses,
             tags,
             known.recurs.as_slice(),

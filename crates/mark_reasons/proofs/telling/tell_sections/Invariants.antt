@@ -5,6 +5,6 @@ use Rattle.mark_reasons.proofs.telling.tell_sections.Given as goal
 
 abbrev pub invariant-loop-mark : goal.invariant-loop-mark
 invariant-loop-mark g l = record {
-  so_far : SectionsSoFar l.form l.p (tagged_by l.tags) l.uses l.marks l.mark-index l.last (g.K.Sink.text l.fn.sink) (g.K.Sink.text l.sink);
+  so_far : SectionsSoFar l.form l.p l.sources (tagged_by l.tags) l.uses l.marks l.mark-index l.last (g.K.Sink.text l.fn.sink) (g.K.Sink.text l.sink);
   calm : g.K.Sink.faults l.sink ≡ g.K.Sink.faults l.fn.sink;
 }
