@@ -8,7 +8,6 @@ green field where it finishes and a red one where it fails, and one that has its
 line joins a write and a read of one word by different threads, where no other write comes between.
 """
 import json
-import re
 import sys
 from xml.sax.saxutils import escape
 
@@ -18,14 +17,42 @@ LEFT = 70
 COLORS = {"fails": "#f6c9c9", "finishes": "#cfeccf", "open": "#e4e4e4", "lock": "#f7ecc4"}
 
 
+def monitor_of(told):
+    """A monitor by its object, or by its class."""
+    if "monitor_class" in told:
+        return f"class {told['monitor_class']}"
+    return str(told["monitor"]) if "monitor" in told else ""
+
+
+def does_of(told):
+    """What an event does, in words."""
+    woken = f"thread {told['woken']} from" if "woken" in told else ""
+    return " ".join(filter(None, (told.get("does"), woken, monitor_of(told), told.get("made"))))
+
+
+def word_of(access):
+    """The name of a word that threads share."""
+    kind = access["word"]
+    if kind == "field":
+        return f"{access['class']}@{access['object']}.{access['field']}"
+    if kind == "static field":
+        return f"{access['class']}.{access['field']}"
+    if kind == "element":
+        return f"[I@{access['object']}[{access['index']}]"
+    record = f"record {access['record']}" if "record" in access else ""
+    whose = record or monitor_of(access) or str(access.get("object", ""))
+    return f"{kind} of {whose}" if whose else kind
+
+
 class Event:
     """An event by the members of its object."""
 
     def __init__(self, told):
         self.told = told
-        self.thread, self.number, self.does = told["thread"], told["number"], told.get("does", "")
+        self.thread, self.number = told["thread"], told["number"]
+        self.verb, self.monitor, self.does = told.get("does"), monitor_of(told), does_of(told)
         access = told.get("access", {})
-        self.word, self.writes = access.get("word"), "left" in access
+        self.word, self.writes = word_of(access) if access else None, "left" in access
 
     def place(self):
         told = self.told
@@ -100,12 +127,11 @@ def fields_of(rows):
             fields.append((row.thread, attempts.pop(row.thread), at, COLORS[ended]))
         if "attempt_begins" in event.told:
             attempts[row.thread] = at
-        took = re.fullmatch(r"takes the lock of (\d+|class .+)", event.does)
-        left = re.fullmatch(r"leaves (\d+|class .+)", event.does)
-        if took:
-            locks[row.thread, took[1]] = at
-        if left and (row.thread, left[1]) in locks:
-            fields.append((row.thread, locks.pop((row.thread, left[1])), at, COLORS["lock"]))
+        held = row.thread, event.monitor
+        if event.verb == "takes the lock of":
+            locks[held] = at
+        if event.verb == "leaves" and held in locks:
+            fields.append((row.thread, locks.pop(held), at, COLORS["lock"]))
     last = len(rows) - 1
     fields += [(thread, first, last, COLORS["open"]) for thread, first in attempts.items()]
     return fields + [(thread, first, last, COLORS["lock"]) for (thread, _), first in locks.items()]

@@ -1,10 +1,10 @@
 -- The class of each file is told by its name: no class before it stands at the same word.
-use Rattle.std.{proofs.Common.{◌≡◌, ◌≢◌, ℕ, zero, suc, ◌+◌, ◌-◌, ◌<◌, ◌≤◌, Bool, true, false, cond, List, length, Some, refl, sym, ap, subst, ◌∙◌, arith, ◌==◌}, specs.List.{find, range_with_len}}
+use Rattle.std.{proofs.Common.{◌≡◌, ℕ, zero, suc, ◌+◌, ◌-◌, ◌<◌, ◌≤◌, Bool, true, false, cond, length, Some, refl, sym, ap, subst, ◌∙◌, arith, ◌==◌}, specs.List.{find, range_with_len}}
 use Rattle.std.proofs.lemmas.Bool.{eq-eqb, ne_eqb}
-use Rattle.jvm_types.specs.{ClassNames.file_class, declared.{class_numbers.TheConstants.FIRST_FILE_CLASS, program.Program.Program}}
+use Rattle.jvm_types.specs.{ClassNames.file_class, declared.{program.Program.Program}}
 use Rattle.checked_program.specs.CodeIndex.{statics_below}
 use Rattle.machine_types.{specs.Words.class_object, proofs.PlacesAtStart.rises}
-use Rattle.event_texts.specs.MonitorTexts.{ClassesAreTold, monitor_as_text}
+use Rattle.event_texts.specs.MonitorFacts.{ClassesAreTold, monitor_told}
 
 -- the first number of a range that passes a test
 find_first : (test : ℕ → Bool) (a n k : ℕ) → k < n → test (a + k) ≡ true → ((j : ℕ) → j < k → test (a + j) ≡ false) → find test (range_with_len a n) ≡ Some (a + k)
@@ -32,4 +32,4 @@ classes_are_told p file few =
     let found : test file ≡ true = eq-eqb (class_object p file) (class_object p file) refl in
     let earlier : (j : ℕ) → j < file → test j ≡ false = λ j h. ne_eqb (class_object p j) (class_object p file) (λ e. absurd (omega (arith, earlier_below p j file h, e))) in
     let first : find test (range_with_len 0 (length p.names)) ≡ Some (0 + file) = find_first test 0 (length p.names) file few (subst (λ (x : ℕ). test x ≡ true) (sym (same file)) found) (λ j h. subst (λ (x : ℕ). test x ≡ false) (sym (same j)) (earlier j h)) in
-    ap (monitor_as_text p.names (class_object p file)) (first ∙ ap Some (same file))
+    ap (monitor_told p.names (class_object p file)) (first ∙ ap Some (same file))

@@ -20,13 +20,14 @@ use Rattle.place_names.specs.PlaceFacts.{place_facts}
 use Rattle.place_names.specs.declared.names.Names.{Names}
 use Rattle.run_texts.specs.Report.{end_text}
 use Rattle.event_texts.specs.Holders.{holder}
-use Rattle.event_texts.specs.PhaseTexts.{phase_text}
+use Rattle.event_texts.specs.PhaseFacts.{phase_facts}
 use Rattle.event_texts.specs.Shares.{Share, Steps, Owes, Section, act_text}
-use Rattle.event_texts.specs.ValueTexts.{shared_value_text, word_text}
+use Rattle.event_texts.specs.ValueTexts.{shared_value_text}
+use Rattle.event_texts.specs.WordFacts.{word_facts}
 use Rattle.event_texts.specs.declared.sights.Spot.{Spot}
 use Rattle.event_texts.specs.declared.sights.Before.{Before}
 use Rattle.event_texts.specs.declared.sights.After.{After}
-use Rattle.tellings.specs.Forms.{text_facts, told_in}
+use Rattle.tellings.specs.Forms.{told_in}
 use Rattle.tellings.specs.declared.facts.Fact.{Fact}
 use Rattle.tellings.specs.declared.facts.Fact.TheVariants.{Text, Count, Texts, Opens, Closes}
 use Rattle.tellings.specs.declared.keys.Key.{Key}
@@ -46,8 +47,7 @@ abbrev pub number_facts : (number : ℕ) → (thread : ℕ) → List Fact
 number_facts number thread = Count keys.Number number ∷ Count keys.Thread thread ∷ []
 
 abbrev pub stand_facts : Program → Sources → Before → List Fact
-stand_facts p sources b =
-    event_spot_facts p sources b.spot ++ text_facts keys.Does (phase_text p b.phase)
+stand_facts p sources b = event_spot_facts p sources b.spot ++ phase_facts p b.phase
 
 abbrev pub head_facts : Program → Sources → (number : ℕ) → Before → List Fact
 head_facts p sources number b =
@@ -64,8 +64,8 @@ value_facts p b a false =
 abbrev pub accessed_facts : Program → (names : List (List ℕ)) → Before → After → (loads : Bool)
     → List Fact
 accessed_facts p names b a loads =
-    (Opens keys.Access ∷ Text keys.Word (word_text p names b.word) ∷ [])
-    ++ value_facts p b a loads ++ (Closes ∷ [])
+    (Opens keys.Access ∷ []) ++ word_facts p names b.word ++ value_facts p b a loads
+    ++ (Closes ∷ [])
 
 abbrev pub access_facts : Program → (names : List (List ℕ)) → Before → After → Option Access
     → List Fact

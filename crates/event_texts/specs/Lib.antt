@@ -1,8 +1,9 @@
 pub mod Doings
 pub mod SharedWords
 pub mod NamedWords
-pub mod MonitorTexts
-pub mod PhaseTexts
+pub mod MonitorFacts
+pub mod PhaseFacts
+pub mod WordFacts
 pub mod ValueTexts
 pub mod Sights
 pub mod Acts

@@ -10,21 +10,20 @@ ghost use Rattle.event_texts.specs.EventFacts.{event_end_in, event_spot_facts, o
 ghost use Rattle.event_texts.specs.EventFacts.{plain_key, stand_facts, stop_facts};
 ghost use Rattle.event_texts.specs.EventFacts.{value_facts};
 ghost use Rattle.event_texts.specs.Holders.{holder, lock_owner};
-ghost use Rattle.event_texts.specs.PhaseTexts.{phase_text};
 ghost use Rattle.event_texts.specs.Shares.{act_text};
-ghost use Rattle.event_texts.specs.ValueTexts.{shared_value_text, word_text};
+ghost use Rattle.event_texts.specs.ValueTexts.{shared_value_text};
 ghost use Rattle.run_texts.specs.Report.{end_text};
-ghost use Rattle.tellings.specs.Forms.{text_facts, told_in};
-ghost use Rattle.tellings.specs.declared.keys.Key.TheVariants.{Does, Word};
+ghost use Rattle.tellings.specs.Forms.{told_in};
 ghost use Rattle.tellings.specs.declared.facts.Fact.TheVariants.{Text as TextFact};
 ghost use Rattle.tellings.specs.declared.facts.Fact.TheVariants.{Texts as TextsFact};
 
 use crate::acts::Acts;
-use crate::phases::write_phase_text;
+use crate::phases::add_phase;
 use crate::share_texts::ActText;
 use crate::shares::Share;
 use crate::sights::{After, Before, Spot};
-use crate::values::{write_value, write_word};
+use crate::values::write_value;
+use crate::word_facts::add_word;
 use crate::words::SharedWord;
 use checked_program::Checked;
 use json_lines::Form;
@@ -34,7 +33,7 @@ use place_names::{Names, add_place};
 use run_texts::EndText;
 use source_lines::Sources;
 use std::alloc::{AllocError, Global};
-use tellings::{Fact, Key, add_count, add_text, add_text_if, write_told};
+use tellings::{Fact, Key, add_count, add_text, write_told};
 
 // ---- which event it is, where its thread stands, and what it does where that is no instruction
 
@@ -70,20 +69,6 @@ fn add_spot(
     }
 }
 
-fn add_does(
-    facts: &mut Rows<Fact>,
-    alloc: Global,
-    c: &Checked,
-    phase: Phase,
-) -> Result<(), AllocError>
-    ensures { OnOk result
-        (facts.new ≡ facts.old ++ text_facts Does (phase_text c.now.program phase)) }
-{
-    let mut words = Vec::new(alloc);
-    write_phase_text(&mut words, alloc, c, phase)?;
-    add_text_if(facts, alloc, Key::Does, words.as_slice())
-}
-
 fn add_stand(
     facts: &mut Rows<Fact>,
     alloc: Global,
@@ -95,7 +80,7 @@ fn add_stand(
         (facts.new ≡ facts.old ++ stand_facts c.now.program sources.now before.now) }
 {
     add_spot(facts, alloc, c, sources, before.spot)?;
-    add_does(facts, alloc, c, before.phase)
+    add_phase(facts, alloc, c, before.phase)
 }
 
 fn add_head(
@@ -148,21 +133,6 @@ fn add_values(
         return Ok(());
     }
     add_value(facts, alloc, Key::Left, p, before.word, after.left)
-}
-
-fn add_word(
-    facts: &mut Rows<Fact>,
-    alloc: Global,
-    c: &Checked,
-    names: &Rows<Bytes>,
-    word: SharedWord,
-) -> Result<(), AllocError>
-    ensures { OnOk result
-        (facts.new ≡ facts.old ++ TextFact Word (word_text c.now.program names.now word) ∷ []) }
-{
-    let mut words = Vec::new(alloc);
-    write_word(&mut words, alloc, c, names, word)?;
-    add_text(facts, alloc, Key::Word, words.as_slice())
 }
 
 fn add_accessed(

@@ -14,6 +14,7 @@ pub mod share_texts;
 pub mod shares;
 pub mod sights;
 pub mod values;
+pub mod word_facts;
 pub mod words;
 
 pub use acts::Acts;

@@ -1,13 +1,15 @@
-//! A monitor as text.
+//! A monitor as a fact.
 
-ghost use Rattle.std.specs.Prelude.{◌≡◌, ◌<◌, ◌++◌, IfSome, OnOk};
-ghost use Rattle.event_texts.specs.MonitorTexts.{file_of_object, monitor_behind, monitor_text};
+ghost use Rattle.std.specs.Prelude.{◌≡◌, ◌<◌, ◌++◌, ◌∷◌, [], IfSome, IfOk, OnOk};
+ghost use Rattle.event_texts.specs.MonitorFacts.{file_of_object, monitor_fact, on_monitor};
 
 use checked_program::Checked;
 use jvm_types::class_numbers::file_class;
 use jvm_types::limits::MOST_FILES;
+use jvm_types::{Bytes, Rows};
 use run_texts::write_class;
 use std::alloc::{AllocError, Global};
+use tellings::{Fact, Key, add_text};
 
 /// The file whose class a reference stands for.
 fn file_of_object(c: &Checked, m: u32) -> Option<usize>
@@ -22,41 +24,45 @@ fn file_of_object(c: &Checked, m: u32) -> Option<usize>
     )
 }
 
-/// Adds a monitor: that of a class as `class NAME` (JVMS 2.11.10), any other one as the number of
-/// its object.
-pub fn write_monitor(
-    text: &mut Vec<u8>,
+/// A monitor: that of a class by its name (JVMS 2.11.10), any other one by the number of its
+/// object.
+fn monitor_fact(alloc: Global, c: &Checked, m: u32) -> Result<Fact, AllocError>
+    ensures { IfOk result (λ fact. fact ≡ monitor_fact c.now.program m) }
+{
+    match file_of_object(c, m) {
+        Some(file) => {
+            let mut name = Vec::new(alloc);
+            write_class(&mut name, c.program(), file_class(file))?;
+            Ok(Fact::Text(Key::MonitorClass, Bytes::from_vec(name)))
+        }
+        None => Ok(Fact::Count(Key::Monitor, u64::from(m))),
+    }
+}
+
+/// Adds a monitor.
+pub fn add_monitor(
+    facts: &mut Rows<Fact>,
     alloc: Global,
     c: &Checked,
     m: u32,
 ) -> Result<(), AllocError>
-    ensures { OnOk result (text.new.items ≡ text.old.items ++ monitor_text c.now.program m) }
+    ensures { OnOk result (facts.new ≡ facts.old ++ monitor_fact c.now.program m ∷ []) }
 {
-    match file_of_object(c, m) {
-        Some(file) => {
-            text.extend_from_slice(b"class ")?;
-            write_class(text, c.program(), file_class(file))
-        }
-        None => {
-            let mut words = String::new(alloc);
-            write!(words, "{m}")?;
-            text.extend_from_slice(words.as_bytes())
-        }
-    }
+    facts.push(monitor_fact(alloc, c, m)?)
 }
 
 /// Adds words, and then a monitor.
-#[tactic(auto, unfolding(crate::specs::MonitorTexts::monitor_behind))]
-pub fn write_on_monitor(
-    text: &mut Vec<u8>,
+#[tactic(auto, unfolding(crate::specs::MonitorFacts::on_monitor))]
+pub fn add_on_monitor(
+    facts: &mut Rows<Fact>,
     alloc: Global,
+    key: Key,
     c: &Checked,
     words: &[u8],
     m: u32,
 ) -> Result<(), AllocError>
-    ensures { OnOk result
-        (text.new.items ≡ text.old.items ++ monitor_behind words.now c.now.program m) }
+    ensures { OnOk result (facts.new ≡ facts.old ++ on_monitor key words.now c.now.program m) }
 {
-    text.extend_from_slice(words)?;
-    write_monitor(text, alloc, c, m)
+    add_text(facts, alloc, key, words)?;
+    add_monitor(facts, alloc, c, m)
 }

@@ -1,7 +1,7 @@
 //! That the word which the line of an event names is the one that the event accesses, and that each
 //! class is told by its name.
 
-ghost use Rattle.event_texts.specs.MonitorTexts.{ClassesAreTold};
+ghost use Rattle.event_texts.specs.MonitorFacts.{ClassesAreTold};
 ghost use Rattle.event_texts.specs.NamedWords.{NamesAccessedWords};
 
 /// In each state of a run, of any program, the next event of a thread accesses the word that is

@@ -1,16 +1,21 @@
-//! What a thread does, in words, where it is no instruction.
+//! What a thread does where it is no instruction, and to which monitor.
 
-ghost use Rattle.std.specs.Prelude.{◌≡◌, ◌++◌, codes, OnOk};
-ghost use Rattle.event_texts.specs.MonitorTexts.{monitor_behind};
-ghost use Rattle.event_texts.specs.PhaseTexts.{phase_text, plain_phase_text};
-ghost use Rattle.event_texts.specs.PhaseTexts.{wakes_text};
+ghost use Rattle.std.specs.Prelude.{◌≡◌, ◌++◌, ◌∷◌, [], codes, OnOk};
+ghost use Rattle.event_texts.specs.MonitorFacts.{monitor_fact};
+ghost use Rattle.event_texts.specs.PhaseFacts.{does_to, phase_facts, plain_phase_text};
+ghost use Rattle.tellings.specs.Forms.{text_facts};
+ghost use Rattle.tellings.specs.declared.facts.Fact.TheVariants.{Count as CountFact};
+ghost use Rattle.tellings.specs.declared.facts.Fact.TheVariants.{Text as TextFact};
+ghost use Rattle.tellings.specs.declared.keys.Key.TheVariants as keys;
 
-use crate::monitors::write_on_monitor;
+use crate::monitors::{add_monitor, add_on_monitor};
 use checked_program::Checked;
+use jvm_types::Rows;
 use machine_types::Phase;
 use run_texts::{EndText, name_of};
 use std::alloc::{AllocError, Global};
 use std::fmt;
+use tellings::{Fact, Key, add_count, add_text, add_text_if};
 
 /// Displays what a thread of a phase does that has to do with no monitor, in words;
 /// nothing where it is an instruction.
@@ -19,7 +24,7 @@ struct PlainPhase(Phase);
 
 impl fmt::Display for PlainPhase {
     ghost use Rattle.std.specs.Prelude.{Some};
-    ghost use Rattle.event_texts.specs.PhaseTexts.{plain_phase_text};
+    ghost use Rattle.event_texts.specs.PhaseFacts.{plain_phase_text};
 
     ghost output = { λ p. Some (plain_phase_text p.0) };
 
@@ -47,68 +52,80 @@ impl fmt::Display for PlainPhase {
     }
 }
 
-fn write_plain_phase(text: &mut Vec<u8>, alloc: Global, phase: Phase) -> Result<(), AllocError>
-    ensures { OnOk result (text.new.items ≡ text.old.items ++ plain_phase_text phase) }
+fn add_plain_phase(facts: &mut Rows<Fact>, alloc: Global, phase: Phase) -> Result<(), AllocError>
+    ensures { OnOk result (facts.new ≡ facts.old ++ text_facts keys.Does (plain_phase_text phase)) }
 {
     let phase = PlainPhase(phase);
     let mut words = String::new(alloc);
     write!(words, "{phase}")?;
-    text.extend_from_slice(words.as_bytes())
+    add_text_if(facts, alloc, Key::Does, words.as_bytes())
+}
+
+fn add_does(
+    facts: &mut Rows<Fact>,
+    alloc: Global,
+    c: &Checked,
+    words: &[u8],
+    m: u32,
+) -> Result<(), AllocError>
+    ensures { OnOk result (facts.new ≡ facts.old ++ does_to words.now c.now.program m) }
+{
+    add_on_monitor(facts, alloc, Key::Does, c, words, m)
 }
 
 /// Adds that a lock is made fat.
-fn write_fat_in(text: &mut Vec<u8>, alloc: Global, c: &Checked, m: u32) -> Result<(), AllocError>
-    ensures { OnOk result (text.new.items ≡ text.old.items
-        ++ (monitor_behind (codes "makes the lock of ") c.now.program m ++ codes " fat")) }
+fn add_fat_in(facts: &mut Rows<Fact>, alloc: Global, c: &Checked, m: u32) -> Result<(), AllocError>
+    ensures { OnOk result (facts.new ≡ facts.old ++ TextFact keys.Does (codes "makes the lock of")
+        ∷ monitor_fact c.now.program m ∷ TextFact keys.LockMade (codes "fat") ∷ []) }
 {
-    write_on_monitor(text, alloc, c, b"makes the lock of ", m)?;
-    text.extend_from_slice(b" fat")?;
-    Ok(())
+    add_text(facts, alloc, Key::Does, b"makes the lock of")?;
+    add_monitor(facts, alloc, c, m)?;
+    add_text(facts, alloc, Key::LockMade, b"fat")
 }
 
 /// Adds that a thread is woken.
-fn write_notify_one(
-    text: &mut Vec<u8>,
+fn add_notify_one(
+    facts: &mut Rows<Fact>,
     alloc: Global,
     c: &Checked,
     m: u32,
     thread: u8,
 ) -> Result<(), AllocError>
-    ensures { OnOk result (text.new.items
-        ≡ text.old.items ++ monitor_behind (wakes_text thread) c.now.program m) }
+    ensures { OnOk result (facts.new ≡ facts.old ++ TextFact keys.Does (codes "wakes")
+        ∷ CountFact keys.Woken thread ∷ monitor_fact c.now.program m ∷ []) }
 {
-    let mut words = String::new(alloc);
-    write!(words, "wakes thread {thread} from ")?;
-    write_on_monitor(text, alloc, c, words.as_bytes(), m)
+    add_text(facts, alloc, Key::Does, b"wakes")?;
+    add_count(facts, Key::Woken, u64::from(thread))?;
+    add_monitor(facts, alloc, c, m)
 }
 
-/// Adds what a thread of a phase does, in words; nothing where it is an instruction.
-pub fn write_phase_text(
-    text: &mut Vec<u8>,
+/// Adds what a thread of a phase does, and to which monitor; nothing where it is an instruction.
+pub fn add_phase(
+    facts: &mut Rows<Fact>,
     alloc: Global,
     c: &Checked,
     phase: Phase,
 ) -> Result<(), AllocError>
-    ensures { OnOk result (text.new.items ≡ text.old.items ++ phase_text c.now.program phase) }
+    ensures { OnOk result (facts.new ≡ facts.old ++ phase_facts c.now.program phase) }
 {
     match phase {
-        Phase::Enter(m, _) => write_on_monitor(text, alloc, c, b"enters ", m),
-        Phase::Acquire(m) => write_on_monitor(text, alloc, c, b"looks at the lock of ", m),
-        Phase::Take(m, _) => write_on_monitor(text, alloc, c, b"takes the lock of ", m),
-        Phase::Flag(m, _) => write_on_monitor(text, alloc, c, b"flags the lock of ", m),
-        Phase::TakeFat(m, _) => write_on_monitor(text, alloc, c, b"takes the fat lock of ", m),
-        Phase::Leave(m, _) => write_on_monitor(text, alloc, c, b"leaves ", m),
-        Phase::Grow(m, _) => write_on_monitor(text, alloc, c, b"draws a record for ", m),
-        Phase::FlatOut(m, _) => write_on_monitor(text, alloc, c, b"frees the lock of ", m),
-        Phase::Own(m, _, _) => write_on_monitor(text, alloc, c, b"owns the record for ", m),
-        Phase::WaitBit(m, _) => write_on_monitor(text, alloc, c, b"begins to wait on ", m),
-        Phase::WaitOut(m, _) => write_on_monitor(text, alloc, c, b"gives up ", m),
-        Phase::WaitLook(m, _, _) => write_on_monitor(text, alloc, c, b"waits on ", m),
-        Phase::Retake(m, _, _) => write_on_monitor(text, alloc, c, b"takes back ", m),
-        Phase::NotifyLook(m, _) => write_on_monitor(text, alloc, c, b"looks who waits on ", m),
-        Phase::NotifyAll(m, _) => write_on_monitor(text, alloc, c, b"wakes all from ", m),
-        Phase::FatIn(m, _, _) => write_fat_in(text, alloc, c, m),
-        Phase::NotifyOne(m, _, u) => write_notify_one(text, alloc, c, m, u),
-        _ => write_plain_phase(text, alloc, phase),
+        Phase::Enter(m, _) => add_does(facts, alloc, c, b"enters", m),
+        Phase::Acquire(m) => add_does(facts, alloc, c, b"looks at the lock of", m),
+        Phase::Take(m, _) => add_does(facts, alloc, c, b"takes the lock of", m),
+        Phase::Flag(m, _) => add_does(facts, alloc, c, b"flags the lock of", m),
+        Phase::TakeFat(m, _) => add_does(facts, alloc, c, b"takes the fat lock of", m),
+        Phase::Leave(m, _) => add_does(facts, alloc, c, b"leaves", m),
+        Phase::Grow(m, _) => add_does(facts, alloc, c, b"draws a record for", m),
+        Phase::FlatOut(m, _) => add_does(facts, alloc, c, b"frees the lock of", m),
+        Phase::Own(m, _, _) => add_does(facts, alloc, c, b"owns the record for", m),
+        Phase::WaitBit(m, _) => add_does(facts, alloc, c, b"begins to wait on", m),
+        Phase::WaitOut(m, _) => add_does(facts, alloc, c, b"gives up", m),
+        Phase::WaitLook(m, _, _) => add_does(facts, alloc, c, b"waits on", m),
+        Phase::Retake(m, _, _) => add_does(facts, alloc, c, b"takes back", m),
+        Phase::NotifyLook(m, _) => add_does(facts, alloc, c, b"looks who waits on", m),
+        Phase::NotifyAll(m, _) => add_does(facts, alloc, c, b"wakes all from", m),
+        Phase::FatIn(m, _, _) => add_fat_in(facts, alloc, c, m),
+        Phase::NotifyOne(m, _, u) => add_notify_one(facts, alloc, c, m, u),
+        _ => add_plain_phase(facts, alloc, phase),
     }
 }

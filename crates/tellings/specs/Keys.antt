@@ -48,6 +48,22 @@ key_row keys.Access = shown_row (codes "access") (codes ", ") (codes "")
 key_row keys.Word = shown_row (codes "word") (codes "") (codes "")
 key_row keys.Found = shown_row (codes "found") (codes " ") (codes "")
 key_row keys.Left = shown_row (codes "left") (codes " -> ") (codes "")
+-- what an event does, and to which monitor
+key_row keys.Monitor = shown_row (codes "monitor") (codes " ") (codes "")
+key_row keys.MonitorClass = shown_row (codes "monitor_class") (codes " class ") (codes "")
+key_row keys.Woken = shown_row (codes "woken") (codes " thread ") (codes " from")
+key_row keys.LockMade = shown_row (codes "made") (codes " ") (codes "")
+-- a word that threads share
+key_row keys.WordKind = hidden_row (codes "word")
+key_row keys.WordOf = shown_row (codes "word") (codes "") (codes " of")
+key_row keys.FieldClass = shown_row (codes "class") (codes "") (codes "")
+key_row keys.FieldObject = shown_row (codes "object") (codes "@") (codes "")
+key_row keys.FieldName = shown_row (codes "field") (codes ".") (codes "")
+key_row keys.ArrayObject = shown_row (codes "object") (codes "[I@") (codes "")
+key_row keys.Index = shown_row (codes "index") (codes "[") (codes "]")
+key_row keys.HeaderOf = shown_row (codes "object") (codes " of ") (codes "")
+key_row keys.RecordOf = shown_row (codes "record") (codes " of record ") (codes "")
+-- what becomes of attempts, locks and the part
 key_row keys.AttemptBegins =
     shown_row (codes "attempt_begins") (codes ", attempt ") (codes " begins by Free(")
 key_row keys.AttemptFails =
