@@ -4,6 +4,7 @@ pub mod NamedWords
 pub mod MonitorFacts
 pub mod PhaseFacts
 pub mod WordFacts
+pub mod HeaderTexts
 pub mod ValueTexts
 pub mod Sights
 pub mod Acts

@@ -7,7 +7,9 @@ use Rattle.jvm_types.specs.declared.program.Kind.{Kind}
 use Rattle.jvm_types.specs.declared.program.Kind.TheVariants as kinds
 use Rattle.jvm_types.specs.declared.program.Program.{Program}
 use Rattle.machine_types.specs.Ints.{int_of}
-use Rattle.event_texts.specs.SharedWords.{SharedWord, Owner, Lock, Field, StaticField, Element}
+use Rattle.event_texts.specs.HeaderTexts.{header_text}
+use Rattle.event_texts.specs.SharedWords.{SharedWord, Owner, Lock, Header, Field, StaticField}
+use Rattle.event_texts.specs.SharedWords.{Element}
 
 -- a lock word by its kind and what stands above it; threads have their numbers and 1 there
 abbrev pub lock_text : (kind upper : ℕ) → List ℕ
@@ -40,4 +42,5 @@ shared_value_text p (Owner r) n = owner_text n
 shared_value_text p (Field a number) n = field_value (slice_get p.fields number) n
 shared_value_text p (StaticField number) n = field_value (slice_get p.fields number) n
 shared_value_text p (Element a index) n = signed_decimal (int_of n)
+shared_value_text p (Header a) n = header_text p n
 shared_value_text p word n = decimal n

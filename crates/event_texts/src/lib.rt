@@ -7,6 +7,7 @@ pub mod acts;
 pub mod doing;
 pub mod event_facts;
 pub mod fates;
+pub mod headers;
 pub mod monitors;
 pub mod naming_laws;
 pub mod phases;

@@ -3,6 +3,7 @@
 ghost use Rattle.std.specs.Prelude.{◌≡◌, ◌++◌, slice_get, OnOk};
 ghost use Rattle.event_texts.specs.ValueTexts.{field_value, shared_value_text};
 
+use crate::headers::write_header;
 use crate::words::SharedWord;
 use instr_effects::ints::int_of;
 use jvm_types::{FieldInfo, Kind, Program};
@@ -143,6 +144,7 @@ pub fn write_value(
         SharedWord::StaticField(number) => {
             return write_field_value(text, alloc, field_of(p, number), n);
         }
+        SharedWord::Header(_) => return write_header(text, alloc, p, n),
         SharedWord::Lock(_) => {
             let lock = LockText(n);
             write!(words, "{lock}")?;
