@@ -39,8 +39,8 @@ def word_of(access):
         return f"{access['class']}.{access['field']}"
     if kind == "element":
         return f"[I@{access['object']}[{access['index']}]"
-    record = f"record {access['record']}" if "record" in access else ""
-    whose = record or monitor_of(access) or str(access.get("object", ""))
+    record = f"record {access['record']} for " if "record" in access else ""
+    whose = record + (monitor_of(access) or str(access.get("object", "")))
     return f"{kind} of {whose}" if whose else kind
 
 

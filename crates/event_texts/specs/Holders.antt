@@ -14,7 +14,7 @@ lock_owner kind n = n
 
 abbrev pub owner_in : SharedWord → (found : ℕ) → ℕ
 owner_in (Lock m) n = lock_owner (n % 4) (n / 4)
-owner_in (Owner r) n = n
+owner_in (Owner m r) n = n
 owner_in word n = 0
 
 -- where the limit of turns ended it

@@ -62,7 +62,7 @@ element_of (Some d) = element_by d.effect
 
 abbrev pub kept_word : (m : ℕ) → Kept → SharedWord
 kept_word m (keeps.Flat c) = Lock m
-kept_word m (keeps.Fat r) = Owner r
+kept_word m (keeps.Fat r) = Owner m r
 
 abbrev pub leave_word : (m : ℕ) → Option Held → SharedWord
 leave_word m None = Lock m
@@ -79,17 +79,17 @@ shared_word_of s d (phases.Enter m tried) = Lock m
 shared_word_of s d (phases.Acquire m) = Lock m
 shared_word_of s d (phases.Take m count) = Lock m
 shared_word_of s d (phases.Flag m u) = Lock m
-shared_word_of s d (phases.TakeFat m r) = Owner r
+shared_word_of s d (phases.TakeFat m r) = Owner m r
 shared_word_of s d (phases.Leave m a) = leave_word m (held_at s.held m)
 shared_word_of s d (phases.Grow m toward) = NextRecord
 shared_word_of s d (phases.FlatOut m a) = Lock m
-shared_word_of s d (phases.Own m r toward) = Owner r
+shared_word_of s d (phases.Own m r toward) = Owner m r
 shared_word_of s d (phases.FatIn m r toward) = Lock m
-shared_word_of s d (phases.WaitBit m r) = Waiting r
-shared_word_of s d (phases.WaitOut m r) = Owner r
-shared_word_of s d (phases.WaitLook m r depth) = Waiting r
-shared_word_of s d (phases.Retake m r depth) = Owner r
-shared_word_of s d (phases.NotifyLook m r) = Waiting r
-shared_word_of s d (phases.NotifyOne m r u) = Waiting r
-shared_word_of s d (phases.NotifyAll m r) = Waiting r
+shared_word_of s d (phases.WaitBit m r) = Waiting m r
+shared_word_of s d (phases.WaitOut m r) = Owner m r
+shared_word_of s d (phases.WaitLook m r depth) = Waiting m r
+shared_word_of s d (phases.Retake m r depth) = Owner m r
+shared_word_of s d (phases.NotifyLook m r) = Waiting m r
+shared_word_of s d (phases.NotifyOne m r u) = Waiting m r
+shared_word_of s d (phases.NotifyAll m r) = Waiting m r
 shared_word_of s d phase = Null

@@ -4,7 +4,7 @@ use Rattle.std.specs.Fmt.{decimal}
 use Rattle.jvm_types.specs.declared.program.FieldInfo.{FieldInfo}
 use Rattle.jvm_types.specs.declared.program.Program.{Program}
 use Rattle.run_texts.specs.MarksText.{class_text}
-use Rattle.event_texts.specs.MonitorFacts.{on_monitor}
+use Rattle.event_texts.specs.MonitorFacts.{monitor_fact, on_monitor}
 use Rattle.event_texts.specs.SharedWords.{SharedWord, NextFree, NextTicket, NextRecord, Owner}
 use Rattle.event_texts.specs.SharedWords.{Waiting, Lock, Header, Field, StaticField, Element}
 use Rattle.tellings.specs.declared.facts.Fact.{Fact}
@@ -32,13 +32,14 @@ abbrev pub declared_facts : (kind : List ℕ) → Program → (number : ℕ) →
 declared_facts kind p number =
     Text keys.WordKind kind ∷ field_class_facts p.names (slice_get p.fields number)
 
--- ---- a word of an object, of an array, or of a monitor record
+-- ---- a word of an object or of an array, and one of a monitor record
 
 abbrev pub numbered_facts : Key → (kind : List ℕ) → Key → (n : ℕ) → List Fact
 numbered_facts key kind of n = Text key kind ∷ Count of n ∷ []
 
-abbrev pub record_facts : (kind : List ℕ) → (r : ℕ) → List Fact
-record_facts kind r = numbered_facts keys.Word kind keys.RecordOf r
+abbrev pub record_facts : (kind : List ℕ) → Program → (m r : ℕ) → List Fact
+record_facts kind p m r =
+    Text keys.Word kind ∷ Count keys.RecordOf r ∷ monitor_fact p m ∷ []
 
 -- ---- all words
 
@@ -55,8 +56,8 @@ word_facts p names (Field a number) =
 word_facts p names (StaticField number) =
     declared_facts (codes "static field") p number ++ (field_name_fact names number ∷ [])
 word_facts p names (Lock m) = on_monitor keys.WordOf (codes "lock word") p m
-word_facts p names (Owner r) = record_facts (codes "owner") r
-word_facts p names (Waiting r) = record_facts (codes "waiting bits") r
+word_facts p names (Owner m r) = record_facts (codes "owner") p m r
+word_facts p names (Waiting m r) = record_facts (codes "waiting bits") p m r
 word_facts p names (Header a) = numbered_facts keys.Word (codes "header") keys.HeaderOf a
 word_facts p names (Element a index) =
     numbered_facts keys.WordKind (codes "element") keys.ArrayObject a

@@ -403,7 +403,7 @@ fn holder(end: End, before: &Before) -> u64
 {
     match (end, before.word) {
         (End::Turns, SharedWord::Lock(_)) => lock_owner(before.found),
-        (End::Turns, SharedWord::Owner(_)) => before.found,
+        (End::Turns, SharedWord::Owner(_, _)) => before.found,
         _ => 0,
     }
 }

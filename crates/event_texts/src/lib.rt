@@ -15,6 +15,7 @@ pub mod share_texts;
 pub mod shares;
 pub mod sights;
 pub mod values;
+pub mod waiting;
 pub mod word_facts;
 pub mod words;
 

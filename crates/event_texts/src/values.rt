@@ -4,6 +4,7 @@ ghost use Rattle.std.specs.Prelude.{◌≡◌, ◌++◌, slice_get, OnOk};
 ghost use Rattle.event_texts.specs.ValueTexts.{field_value, shared_value_text};
 
 use crate::headers::write_header;
+use crate::waiting::write_waiting;
 use crate::words::SharedWord;
 use instr_effects::ints::int_of;
 use jvm_types::{FieldInfo, Kind, Program};
@@ -149,7 +150,8 @@ pub fn write_value(
             let lock = LockText(n);
             write!(words, "{lock}")?;
         }
-        SharedWord::Owner(_) => {
+        SharedWord::Waiting(_, _) => return write_waiting(text, alloc, n),
+        SharedWord::Owner(_, _) => {
             let owner = OwnerText(n);
             write!(words, "{owner}")?;
         }

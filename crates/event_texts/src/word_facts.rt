@@ -6,7 +6,7 @@ ghost use Rattle.event_texts.specs.WordFacts.{numbered_facts, plain_word, record
 ghost use Rattle.tellings.specs.declared.facts.Fact.TheVariants.{Text as TextFact};
 ghost use Rattle.tellings.specs.declared.keys.Key.TheVariants.{Word};
 
-use crate::monitors::add_on_monitor;
+use crate::monitors::{add_monitor, add_on_monitor};
 use crate::values::field_of;
 use crate::words::SharedWord;
 use checked_program::Checked;
@@ -67,7 +67,7 @@ fn add_field_name(
     }
 }
 
-/// Adds a word of an object, of an array or of a monitor record, by its number.
+/// Adds a word of an object or of an array, by its number.
 fn add_numbered(
     facts: &mut Rows<Fact>,
     alloc: Global,
@@ -82,16 +82,20 @@ fn add_numbered(
     add_count(facts, of, n)
 }
 
+/// Adds a word of a monitor record, by its number and its monitor.
 fn add_record(
     facts: &mut Rows<Fact>,
     alloc: Global,
     kind: &[u8],
+    c: &Checked,
+    m: u32,
     number: u32,
 ) -> Result<(), AllocError>
-    ensures { OnOk result (facts.new ≡ facts.old ++ record_facts kind.now number) }
+    ensures { OnOk result (facts.new ≡ facts.old ++ record_facts kind.now c.now.program m number) }
 {
-    let number = u64::from(number);
-    add_numbered(facts, alloc, Key::Word, kind, Key::RecordOf, number)
+    add_text(facts, alloc, Key::Word, kind)?;
+    add_count(facts, Key::RecordOf, u64::from(number))?;
+    add_monitor(facts, alloc, c, m)
 }
 
 /// The words of one that is told by them alone.
@@ -134,8 +138,8 @@ pub fn add_word(
             add_field_name(facts, alloc, names, number)
         }
         SharedWord::Lock(m) => add_on_monitor(facts, alloc, Key::WordOf, c, b"lock word", m),
-        SharedWord::Owner(record) => add_record(facts, alloc, b"owner", record),
-        SharedWord::Waiting(record) => add_record(facts, alloc, b"waiting bits", record),
+        SharedWord::Owner(m, record) => add_record(facts, alloc, b"owner", c, m, record),
+        SharedWord::Waiting(m, record) => add_record(facts, alloc, b"waiting bits", c, m, record),
         SharedWord::Header(object) => {
             add_numbered(facts, alloc, Key::Word, b"header", Key::HeaderOf, object)
         }

@@ -22,10 +22,10 @@ pub enum SharedWord {
     NextTicket,
     /// The next monitor record.
     NextRecord,
-    /// The owner of the monitor record of this number.
-    Owner(u32),
-    /// The waiting bits of the monitor record of this number.
-    Waiting(u32),
+    /// The owner of the record of this monitor; with the number of the record.
+    Owner(u32, u32),
+    /// The waiting bits of the record of this monitor; with the number of the record.
+    Waiting(u32, u32),
     /// The lock word of this object.
     Lock(u32),
     /// The header of this object.
@@ -105,7 +105,7 @@ fn leave_word(monitor: u32, held: Option<Held>) -> SharedWord
     match held {
         Some(h) => match h.kept {
             Kept::Flat(_) => SharedWord::Lock(monitor),
-            Kept::Fat(record) => SharedWord::Owner(record),
+            Kept::Fat(record) => SharedWord::Owner(monitor, record),
         },
         None => SharedWord::Lock(monitor),
     }
@@ -125,19 +125,19 @@ pub fn word_of(s: &ThreadState, doing: Option<Doing>) -> SharedWord
         Phase::Acquire(m) => SharedWord::Lock(m),
         Phase::Take(m, _) => SharedWord::Lock(m),
         Phase::Flag(m, _) => SharedWord::Lock(m),
-        Phase::TakeFat(_, r) => SharedWord::Owner(r),
+        Phase::TakeFat(m, r) => SharedWord::Owner(m, r),
         Phase::Leave(m, _) => leave_word(m, s.held(m)),
         Phase::Grow(_, _) => SharedWord::NextRecord,
         Phase::FlatOut(m, _) => SharedWord::Lock(m),
-        Phase::Own(_, r, _) => SharedWord::Owner(r),
+        Phase::Own(m, r, _) => SharedWord::Owner(m, r),
         Phase::FatIn(m, _, _) => SharedWord::Lock(m),
-        Phase::WaitBit(_, r) => SharedWord::Waiting(r),
-        Phase::WaitOut(_, r) => SharedWord::Owner(r),
-        Phase::WaitLook(_, r, _) => SharedWord::Waiting(r),
-        Phase::Retake(_, r, _) => SharedWord::Owner(r),
-        Phase::NotifyLook(_, r) => SharedWord::Waiting(r),
-        Phase::NotifyOne(_, r, _) => SharedWord::Waiting(r),
-        Phase::NotifyAll(_, r) => SharedWord::Waiting(r),
+        Phase::WaitBit(m, r) => SharedWord::Waiting(m, r),
+        Phase::WaitOut(m, r) => SharedWord::Owner(m, r),
+        Phase::WaitLook(m, r, _) => SharedWord::Waiting(m, r),
+        Phase::Retake(m, r, _) => SharedWord::Owner(m, r),
+        Phase::NotifyLook(m, r) => SharedWord::Waiting(m, r),
+        Phase::NotifyOne(m, r, _) => SharedWord::Waiting(m, r),
+        Phase::NotifyAll(m, r) => SharedWord::Waiting(m, r),
         Phase::Idle | Phase::Start | Phase::Ending(_) | Phase::Ended(_) => SharedWord::Null,
     }
 }

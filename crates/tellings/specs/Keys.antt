@@ -62,7 +62,7 @@ key_row keys.FieldName = shown_row (codes "field") (codes ".") (codes "")
 key_row keys.ArrayObject = shown_row (codes "object") (codes "[I@") (codes "")
 key_row keys.Index = shown_row (codes "index") (codes "[") (codes "]")
 key_row keys.HeaderOf = shown_row (codes "object") (codes " of ") (codes "")
-key_row keys.RecordOf = shown_row (codes "record") (codes " of record ") (codes "")
+key_row keys.RecordOf = shown_row (codes "record") (codes " of record ") (codes " for")
 -- what becomes of attempts, locks and the part
 key_row keys.AttemptBegins =
     shown_row (codes "attempt_begins") (codes ", attempt ") (codes " begins by Free(")

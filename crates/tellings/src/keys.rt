@@ -172,7 +172,7 @@ impl Key {
             Key::ArrayObject => shown("object", "[I@", ""),
             Key::Index => shown("index", "[", "]"),
             Key::HeaderOf => shown("object", " of ", ""),
-            Key::RecordOf => shown("record", " of record ", ""),
+            Key::RecordOf => shown("record", " of record ", " for"),
             Key::AttemptBegins => shown("attempt_begins", ", attempt ", " begins by Free("),
             Key::AttemptFails => shown("attempt_fails", ", attempt ", " fails: not Free("),
             Key::AttemptFinishes => shown("attempt_finishes", ", attempt ", " finishes"),
