@@ -196,7 +196,7 @@ Marks.printsOnKey()I block 6 M8
 # thread 2 set both: the lines from 23 on, and the report.
 TORN = """\
 23 thread 1 Q.sum()I at 3 monitorenter
-24 thread 1 Q.sum()I at 4 aload, enters 2071, lock word of 2071 Free(0), attempt 1 begins by Free(0), plain: none
+24 thread 1 Q.sum()I at 3 monitorenter, enters 2071, lock word of 2071 Free(0), attempt 1 begins by Free(0), plain: none
 25 thread 1 in attempt 1 Q.sum()I at 4 aload, 1 owed
 26 thread 1 in attempt 1 Q.sum()I at 5 getfield, Q@2071.a 0, 2 owed
 27 thread 1 in attempt 1 Q.sum()I at 8 aload, 3 owed
@@ -207,8 +207,8 @@ TORN = """\
 32 thread 2 Q.run(I)V at 18 getstatic, Q.p @2071
 33 thread 2 Q.run(I)V at 21 iconst_4
 34 thread 2 Q.run(I)V at 22 invokevirtual
-35 thread 2 Q.set(I)V at 0 aload, enters 2071, lock word of 2071 Free(0), plain: none
-36 thread 2 Q.set(I)V at 0 aload, takes the lock of 2071, lock word of 2071 Free(0) -> Held(2), locked, plain: enter
+35 thread 2 Q.run(I)V at 22 invokevirtual, enters 2071, lock word of 2071 Free(0), plain: none
+36 thread 2 Q.run(I)V at 22 invokevirtual, takes the lock of 2071, lock word of 2071 Free(0) -> Held(2), locked, plain: enter
 37 thread 2 Q.set(I)V at 0 aload
 38 thread 2 Q.set(I)V at 1 iload
 39 thread 2 Q.set(I)V at 2 putfield, Q@2071.a 0 -> 4
@@ -218,13 +218,13 @@ TORN = """\
 43 thread 2 Q.set(I)V at 10 return
 44 thread 2 Q.set(I)V at 10 return, leaves 2071, lock word of 2071 Held(2) -> Free(1), plain: exit
 45 thread 2 Q.run(I)V at 25 return, comes to its end: returned
-46 thread 2, ends: returned, plain: none
+46 thread 2 Q.run(I)V at 25 return, ends: returned, plain: none
 47 thread 1 in attempt 1 Q.sum()I at 9 getfield, Q@2071.b 4, 4 owed
 48 thread 1 in attempt 1 Q.sum()I at 12 iadd, 5 owed
 49 thread 1 in attempt 1 Q.sum()I at 13 aload, 6 owed
 50 thread 1 in attempt 1 Q.sum()I at 14 monitorexit, 7 owed
-51 thread 1 in attempt 1 Q.sum()I at 15 ireturn, leaves 2071, lock word of 2071 Free(1), attempt 1 fails: not Free(0), plain: none
-52 thread 1 Q.sum()I at 4 aload, enters 2071, lock word of 2071 Free(1), attempt 2 begins by Free(1), plain: none
+51 thread 1 in attempt 1 Q.sum()I at 14 monitorexit, leaves 2071, lock word of 2071 Free(1), attempt 1 fails: not Free(0), plain: none
+52 thread 1 Q.sum()I at 3 monitorenter, enters 2071, lock word of 2071 Free(1), attempt 2 begins by Free(1), plain: none
 53 thread 1 in attempt 2 Q.sum()I at 4 aload, 1 owed
 54 thread 1 in attempt 2 Q.sum()I at 5 getfield, Q@2071.a 4, 2 owed
 55 thread 1 in attempt 2 Q.sum()I at 8 aload, 3 owed
@@ -232,11 +232,11 @@ TORN = """\
 57 thread 1 in attempt 2 Q.sum()I at 12 iadd, 5 owed
 58 thread 1 in attempt 2 Q.sum()I at 13 aload, 6 owed
 59 thread 1 in attempt 2 Q.sum()I at 14 monitorexit, 7 owed
-60 thread 1 in attempt 2 Q.sum()I at 15 ireturn, leaves 2071, lock word of 2071 Free(1), attempt 2 finishes, plain: enter, 7 owed, exit
+60 thread 1 in attempt 2 Q.sum()I at 14 monitorexit, leaves 2071, lock word of 2071 Free(1), attempt 2 finishes, plain: enter, 7 owed, exit
 61 thread 1 Q.sum()I at 15 ireturn
 62 thread 1 Q.run(I)V at 14 invokevirtual, next ticket 0 -> 1
 63 thread 1 Q.run(I)V at 17 return, comes to its end: returned
-64 thread 1, ends: returned, plain: none
+64 thread 1 Q.run(I)V at 17 return, ends: returned, plain: none
 65 done begins
 8
 init returned
@@ -249,10 +249,10 @@ counts 2 instructions 14 elided 0 failed 0 locked 1 inflated 0
 """
 # Thread 2 takes the lock, and thread 1 makes all its turns for it: the lines from 34 on.
 HELD = """\
-34 thread 1 Q.sum()I at 4 aload, looks at the lock of 2071, lock word of 2071 Held(2), plain: none
-35 thread 1 Q.sum()I at 4 aload, looks at the lock of 2071, lock word of 2071 Held(2), plain: none
-36 thread 1 Q.sum()I at 4 aload, looks at the lock of 2071, lock word of 2071 Held(2), comes to its end: turns, plain: none
-turns: 36 thread 1 Q.sum()I at 4 aload, looks at the lock of 2071, held by thread 2
+34 thread 1 Q.sum()I at 3 monitorenter, looks at the lock of 2071, lock word of 2071 Held(2), plain: none
+35 thread 1 Q.sum()I at 3 monitorenter, looks at the lock of 2071, lock word of 2071 Held(2), plain: none
+36 thread 1 Q.sum()I at 3 monitorenter, looks at the lock of 2071, lock word of 2071 Held(2), comes to its end: turns, plain: none
+turns: 36 thread 1 Q.sum()I at 3 monitorenter, looks at the lock of 2071, held by thread 2
 init returned
 thread 1 turns
 thread 2 returned

@@ -3,6 +3,8 @@ use Rattle.std.specs.Prelude.{ℕ, List, [], ◌∷◌, Option, Some, None}
 use Rattle.std.specs.Option.{option_map}
 use Rattle.jvm_types.specs.declared.program.Program.{Program}
 use Rattle.machine_types.specs.declared.access.Access.{Access}
+use Rattle.machine_types.specs.declared.phase.Phase.{Phase}
+use Rattle.machine_types.specs.declared.phase.Phase.TheVariants as phases
 use Rattle.machine_types.specs.Frames.{top_of}
 use Rattle.machine_types.specs.Threads.{Frame, Thread, head_of}
 use Rattle.event_texts.specs.Doings.{doing_at}
@@ -15,11 +17,21 @@ abbrev pub spot_of : List Frame → Option Spot
 spot_of [] = None
 spot_of (f ∷ below) = Some (record { method = f.method; pc = f.pc })
 
-abbrev pub before_of : Program → Thread → Option Access → (found : ℕ) → Before
-before_of p s access found = record {
+-- where an event is told, by where the frame stands and where the thread made its last instruction:
+-- an instruction, and an exception that comes out of one, where the frame stands; the begin of a
+-- method of the part nowhere; and any other event at the instruction to which it belongs
+abbrev pub own_spot : Phase → (top last : Option Spot) → Option Spot
+own_spot phases.Start top last = None
+own_spot phases.Run top last = top
+own_spot (phases.Throw x class) top last = top
+own_spot phase top last = last
+
+abbrev pub before_of : Program → Thread → (last : Option Spot) → Option Access → (found : ℕ)
+    → Before
+before_of p s last access found = record {
   thread = s.number;
   attempt = option_map head_of s.attempt;
-  spot = spot_of s.frames;
+  spot = own_spot s.phase (spot_of s.frames) last;
   phase = s.phase;
   access = access;
   word = shared_word_of s (option_map (doing_at p) (top_of p s.frames)) s.phase;

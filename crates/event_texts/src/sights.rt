@@ -2,7 +2,7 @@
 
 ghost use Rattle.std.specs.Prelude.{◌≡◌, ◌<◌, length};
 ghost use Rattle.frames.specs.FrameLists.{top};
-ghost use Rattle.event_texts.specs.Sights.{after_event, before_of, spot_of};
+ghost use Rattle.event_texts.specs.Sights.{after_event, before_of, own_spot, spot_of};
 
 use crate::doing::next_doing;
 use crate::words::{SharedWord, word_of};
@@ -11,7 +11,7 @@ use frames::ThreadState;
 use jvm_types::Counts;
 use machine_types::{Access, AttemptHead, Phase};
 
-/// Where the top frame of a thread stands.
+/// A place in the code of a program.
 #[derive(Clone, Copy, Debug, PartialEq, Eq)]
 pub struct Spot {
     /// The number of its method.
@@ -25,6 +25,7 @@ pub struct Before {
     pub thread: u8,
     /// The attempt that it is in.
     pub attempt: Option<AttemptHead>,
+    /// Where its event is told.
     pub spot: Option<Spot>,
     pub phase: Phase,
     /// The access of the event, and its word.
@@ -59,14 +60,33 @@ fn top_spot(s: &ThreadState) -> Option<Spot>
     }
 }
 
-/// A thread before its event, which makes this access and finds this.
-pub fn see_before(s: &ThreadState, p: &Checked, access: Option<Access>, found: u64) -> Before
-    ensures { result ≡ before_of p.now.program s.now access found }
+/// Where the event of a thread is told, which made its last instruction there.
+fn own_spot(s: &ThreadState, last: Option<Spot>) -> Option<Spot>
+    ensures { result ≡ own_spot s.now.phase (spot_of s.now.frames) last }
+{
+    match s.phase() {
+        Phase::Start => None,
+        Phase::Run | Phase::Throw(_, _) => top_spot(s),
+        _ => last,
+    }
+}
+
+/// A thread before its event, which made its last instruction there. The event makes this access
+/// and finds this. It is told where its instruction stands, also where it is a further event of an
+/// instruction behind which the thread stands already.
+pub fn see_before(
+    s: &ThreadState,
+    p: &Checked,
+    last: Option<Spot>,
+    access: Option<Access>,
+    found: u64,
+) -> Before
+    ensures { result ≡ before_of p.now.program s.now last access found }
 {
     Before {
         thread: s.number(),
         attempt: s.attempt(),
-        spot: top_spot(s),
+        spot: own_spot(s, last),
         phase: s.phase(),
         access,
         word: word_of(s, next_doing(s, p)),

@@ -2,29 +2,29 @@
 use Rattle.std.{proofs.{Common.{◌≡◌, ℕ, List, [], ◌∷◌, ◌++◌, Option, Some, None, refl, sym, ap, ◌∙◌, append_assoc}, lemmas.List.append-nil}, specs.Option.option_map}
 use Rattle.json_lines.specs.declared.form.Form.{Form}
 use Rattle.checked_program.specs.MarkedProgram.{MarkedProgram}
-use Rattle.machine_types.specs.{Core.Happening, History.{Told, all_told, told}}
+use Rattle.machine_types.specs.Core.{Happening}
 use Rattle.place_names.specs.declared.names.Names.{Names}
-use Rattle.run_trace.specs.{EventLines.{ends_from, event_end, lines_from, next_line_number, seen_of_event, told_line}, Traces.number_after, declared.events.Part.Part}
+use Rattle.run_trace.specs.{EventLines.{Trail, trail_along, ends_from, event_end, trail_after, lines_from, next_line_number, seen_of_event, told_line}, Traces.number_after, declared.events.Part.Part}
 
 -- where it leads
-pub told_on : (c : MarkedProgram) (w : Told) (hs : List Happening) (h : Happening) → all_told c w (hs ++ h ∷ []) ≡ told c (all_told c w hs) h
-told_on c w [] h = refl
-told_on c w (g ∷ gs) h = told_on c (told c w g) gs h
+pub trail_on : (c : MarkedProgram) (v : Trail) (hs : List Happening) (h : Happening) → trail_along c v (hs ++ h ∷ []) ≡ trail_after c (trail_along c v hs) h
+trail_on c v [] h = refl
+trail_on c v (g ∷ gs) h = trail_on c (trail_after c v g) gs h
 
 -- its lines, and the number behind them
-pub lines_on : (c : MarkedProgram) (names : Names) (part : Part) (n : ℕ) (w : Told) (hs : List Happening) (h : Happening)
-    → lines_from c names part n w (hs ++ h ∷ []) ≡ lines_from c names part n w hs ++ told_line c names part (number_after n hs) (all_told c w hs).core (seen_of_event c (all_told c w hs) h) h
-lines_on c names part n w [] h = append-nil (told_line c names part n w.core (seen_of_event c w h) h)
-lines_on c names part n w (g ∷ gs) h =
-    ap (λ (text : List ℕ). told_line c names part n w.core (seen_of_event c w g) g ++ text) (lines_on c names part (next_line_number n) (told c w g) gs h)
-    ∙ sym (append_assoc (told_line c names part n w.core (seen_of_event c w g) g) (lines_from c names part (next_line_number n) (told c w g) gs) (told_line c names part (number_after (next_line_number n) gs) (all_told c (told c w g) gs).core (seen_of_event c (all_told c (told c w g) gs) h) h))
+pub lines_on : (c : MarkedProgram) (names : Names) (part : Part) (n : ℕ) (v : Trail) (hs : List Happening) (h : Happening)
+    → lines_from c names part n v (hs ++ h ∷ []) ≡ lines_from c names part n v hs ++ told_line c names part (number_after n hs) (trail_along c v hs).told.core (seen_of_event c (trail_along c v hs) h) h
+lines_on c names part n v [] h = append-nil (told_line c names part n v.told.core (seen_of_event c v h) h)
+lines_on c names part n v (g ∷ gs) h =
+    ap (λ (text : List ℕ). told_line c names part n v.told.core (seen_of_event c v g) g ++ text) (lines_on c names part (next_line_number n) (trail_after c v g) gs h)
+    ∙ sym (append_assoc (told_line c names part n v.told.core (seen_of_event c v g) g) (lines_from c names part (next_line_number n) (trail_after c v g) gs) (told_line c names part (number_after (next_line_number n) gs) (trail_along c (trail_after c v g) gs).told.core (seen_of_event c (trail_along c (trail_after c v g) gs) h) h))
 
-pub ends_on : (c : MarkedProgram) (names : Names) (form : Form) (n : ℕ) (w : Told) (hs : List Happening) (h : Happening)
-    → ends_from c names form n w (hs ++ h ∷ []) ≡ ends_from c names form n w hs ++ event_end c names form (number_after n hs) (all_told c w hs).core (seen_of_event c (all_told c w hs) h) h
-ends_on c names form n w [] h = append-nil (event_end c names form n w.core (seen_of_event c w h) h)
-ends_on c names form n w (g ∷ gs) h =
-    ap (λ (text : List ℕ). event_end c names form n w.core (seen_of_event c w g) g ++ text) (ends_on c names form (next_line_number n) (told c w g) gs h)
-    ∙ sym (append_assoc (event_end c names form n w.core (seen_of_event c w g) g) (ends_from c names form (next_line_number n) (told c w g) gs) (event_end c names form (number_after (next_line_number n) gs) (all_told c (told c w g) gs).core (seen_of_event c (all_told c (told c w g) gs) h) h))
+pub ends_on : (c : MarkedProgram) (names : Names) (form : Form) (n : ℕ) (v : Trail) (hs : List Happening) (h : Happening)
+    → ends_from c names form n v (hs ++ h ∷ []) ≡ ends_from c names form n v hs ++ event_end c names form (number_after n hs) (trail_along c v hs).told.core (seen_of_event c (trail_along c v hs) h) h
+ends_on c names form n v [] h = append-nil (event_end c names form n v.told.core (seen_of_event c v h) h)
+ends_on c names form n v (g ∷ gs) h =
+    ap (λ (text : List ℕ). event_end c names form n v.told.core (seen_of_event c v g) g ++ text) (ends_on c names form (next_line_number n) (trail_after c v g) gs h)
+    ∙ sym (append_assoc (event_end c names form n v.told.core (seen_of_event c v g) g) (ends_from c names form (next_line_number n) (trail_after c v g) gs) (event_end c names form (number_after (next_line_number n) gs) (trail_along c (trail_after c v g) gs).told.core (seen_of_event c (trail_along c (trail_after c v g) gs) h) h))
 
 pub number_on : (n : ℕ) (hs : List Happening) (h : Happening) → number_after n (hs ++ h ∷ []) ≡ next_line_number (number_after n hs)
 number_on n [] h = refl

@@ -3,10 +3,10 @@ use Rattle.std.{proofs.Common.{◌≡◌, ℕ, zero, suc, ◌+◌, List, ◌∷�
 use Rattle.std.proofs.{Math.ListN.get_or-map, lemmas.List.{length-append, map-set}}
 use Rattle.checked_program.specs.MarkedProgram.{MarkedProgram}
 use Rattle.machine_types.specs.Core.{Happening, Of, NextPart}
-use Rattle.machine_types.specs.History.{Fate, GoesOn, Fails, Finishes, Past, Told, acts_of, fate, found_by_event, no_past, past_after, past_at, past_by, pasts_after, shown_by, told}
+use Rattle.machine_types.specs.History.{Fate, GoesOn, Fails, Finishes, Past, acts_of, fate, found_by_event, no_past, past_after, past_at, past_by, pasts_after, shown_by, told}
 use Rattle.machine_types.specs.{Threads.{Attempt, Thread}, declared.{phase.Phase.Phase, plain.Act.Act}}
 use Rattle.event_texts.specs.{Shares.{bounded_count, inside_share, owed, owed_behind, share_at, share_by, share_in}, declared.shares.Share.{Share, TheVariants.Owes}}
-use Rattle.run_trace.specs.{EventLines.{seen_of_event, seen_with}, Owing.{owed_after, owed_at, seen_by}}
+use Rattle.run_trace.specs.{EventLines.{Trail, seen_of_event, seen_with}, Owing.{owed_after, owed_at, seen_by}, Stands.stand_at}
 
 -- ---- one event
 
@@ -41,24 +41,24 @@ pub nothing_owed : (n : ℕ) → map owed (replicate n no_past) ≡ replicate n 
 nothing_owed zero = refl
 nothing_owed (suc n) = ap (λ (owed : List ℕ). 0 ∷ owed) (nothing_owed n)
 
-module _ (c : MarkedProgram) (w : Told) where
-  owed_past : (t : ℕ) → owed_at (map owed w.pasts) t ≡ owed (past_at w t)
-  owed_past t = get_or-map owed w.pasts t no_past
+module _ (c : MarkedProgram) (v : Trail) where
+  owed_past : (t : ℕ) → owed_at (map owed v.told.pasts) t ≡ owed (past_at v.told t)
+  owed_past t = get_or-map owed v.told.pasts t no_past
 
-  pub same_seen : (h : Happening) → seen_of_event c w h ≡ seen_by c w.core (map owed w.pasts) h
+  pub same_seen : (h : Happening) → seen_of_event c v h ≡ seen_by c v.told.core (map owed v.told.pasts) v.stands h
   same_seen NextPart = refl
-  same_seen (Of t) = by_thread (slice_get w.core.threads t)
+  same_seen (Of t) = by_thread (slice_get v.told.core.threads t)
     where
-      by_thread : (o : Option Thread) → option_map (λ x. seen_with c w.core.words x (share_at c x x.attempt (found_by_event c w x) (past_at w t))) o ≡ option_map (λ x. seen_with c w.core.words x (share_by c x x.attempt (found_by_event c w x) (owed_at (map owed w.pasts) t))) o
+      by_thread : (o : Option Thread) → option_map (λ x. seen_with c v.told.core.words (stand_at v.stands t) x (share_at c x x.attempt (found_by_event c v.told x) (past_at v.told t))) o ≡ option_map (λ x. seen_with c v.told.core.words (stand_at v.stands t) x (share_by c x x.attempt (found_by_event c v.told x) (owed_at (map owed v.told.pasts) t))) o
       by_thread None = refl
-      by_thread (Some x) = ap (λ (share : Share). Some (seen_with c w.core.words x share)) (same_share c x (found_by_event c w x) (past_at w t) x.attempt ∙ ap (share_by c x x.attempt (found_by_event c w x)) (sym (owed_past t)))
+      by_thread (Some x) = ap (λ (share : Share). Some (seen_with c v.told.core.words (stand_at v.stands t) x share)) (same_share c x (found_by_event c v.told x) (past_at v.told t) x.attempt ∙ ap (share_by c x x.attempt (found_by_event c v.told x)) (sym (owed_past t)))
 
-  pub owed_on : (h : Happening) → map owed (told c w h).pasts ≡ owed_after (map owed w.pasts) h (seen_by c w.core (map owed w.pasts) h)
+  pub owed_on : (h : Happening) → map owed (told c v.told h).pasts ≡ owed_after (map owed v.told.pasts) h (seen_by c v.told.core (map owed v.told.pasts) v.stands h)
   owed_on NextPart = refl
-  owed_on (Of t) = by_thread (slice_get w.core.threads t)
+  owed_on (Of t) = by_thread (slice_get v.told.core.threads t)
     where
-      by_thread : (o : Option Thread) → map owed (pasts_after c w t o) ≡ owed_after (map owed w.pasts) (Of t) (option_map (λ x. seen_with c w.core.words x (share_by c x x.attempt (found_by_event c w x) (owed_at (map owed w.pasts) t))) o)
+      by_thread : (o : Option Thread) → map owed (pasts_after c v.told t o) ≡ owed_after (map owed v.told.pasts) (Of t) (option_map (λ x. seen_with c v.told.core.words (stand_at v.stands t) x (share_by c x x.attempt (found_by_event c v.told x) (owed_at (map owed v.told.pasts) t))) o)
       by_thread None = refl
       by_thread (Some x) =
-          map-set owed w.pasts t (past_after c x x.attempt (found_by_event c w x) (past_at w t))
-          ∙ ap (slice_set (map owed w.pasts) t) (same_owed c x (found_by_event c w x) (past_at w t) x.attempt ∙ ap (λ (n : ℕ). owed_behind (share_by c x x.attempt (found_by_event c w x) n) n) (sym (owed_past t)))
+          map-set owed v.told.pasts t (past_after c x x.attempt (found_by_event c v.told x) (past_at v.told t))
+          ∙ ap (slice_set (map owed v.told.pasts) t) (same_owed c x (found_by_event c v.told x) (past_at v.told t) x.attempt ∙ ap (λ (n : ℕ). owed_behind (share_by c x x.attempt (found_by_event c v.told x) n) n) (sym (owed_past t)))

@@ -2,12 +2,12 @@
 use Rattle.std.{proofs.{Common.{◌≡◌, ℕ, ◌+◌, List, [], ◌∷◌, ◌++◌, map, Option, Some, None, refl, sym, ap, subst, ◌∙◌}, lemmas.List.append-nil}, specs.Option.option_map}
 use Rattle.jvm_types.specs.declared.outcome.Outcome.{Outcome}
 use Rattle.checked_program.specs.MarkedProgram.{MarkedProgram}
-use Rattle.machine_types.specs.{Core.{Core, Happening, core, happened, outcome, start}, History.{Told, all_told, told_start}, Schedules.{Stage, First, Turn, turn_at}, declared.config.Config.Config}
+use Rattle.machine_types.specs.{Core.{Core, Happening, core, happened, outcome, start}, Schedules.{Stage, First, Turn, turn_at}, declared.config.Config.Config}
 use Rattle.replay_runner.{specs.{Replays.IsLedByTurns, Running.Running}, proofs.Turns.{led_on, schedule_of}}
 use Rattle.place_names.specs.declared.names.Names.{Names}
-use Rattle.run_trace.specs.{EventLines.{ends_from, event_end, lines_from, next_line_number, seen_of_event, told_line}, Owing.{owed_after, seen_by}, ReportJson.report_in}
-use Rattle.run_trace.specs.{Traces.{Happened, IsStarted, IsWholeTrace, TraceWalked, WalksOn, number_after}, declared.{events.Part.Part, traces.Tracing.Tracing}}
-use Rattle.run_trace.proofs.{LongerRuns.{ends_on, lines_on, number_on, told_both, told_on}, Owings.{nothing_owed, owed_on, same_seen}}
+use Rattle.run_trace.specs.{EventLines.{Trail, trail_along, ends_from, event_end, trail_after, trail_start, lines_from, next_line_number, seen_of_event, told_line}, Owing.{owed_after, seen_by}, ReportJson.report_in, Stands.stands_after}
+use Rattle.run_trace.specs.{Traces.{Happened, IsStarted, IsWholeTrace, TraceWalked, WalksOn, number_after, seen_next}, declared.{events.Part.Part, traces.Tracing.Tracing}}
+use Rattle.run_trace.proofs.{LongerRuns.{ends_on, lines_on, trail_on, number_on, told_both}, Owings.{nothing_owed, owed_on, same_seen}}
 use Rattle.machine_types.specs.History as history
 use Rattle.event_texts.specs.Shares as shares
 
@@ -17,23 +17,28 @@ turn_to h stage = Some (record { happening = h; stage = stage })
 -- ---- one turn
 
 module _ (c : MarkedProgram) (cfg : Config) (order : List ℕ) (names : Names) (part : Part) (first : Option (List ℕ)) where
+  -- its thread before it, by the run so far
+  seen_in_walk : (m : Tracing) (h : Happening) (next : Option Turn) (told : Option (List ℕ)) (w : TraceWalked c cfg order names part first m next told)
+      → seen_next c m h ≡ seen_of_event c (trail_along c (trail_start c cfg) w.happenings) h
+  seen_in_walk m h next told w = (λ i. seen_by c (sym w.core i) (w.owed i) (w.stands i) h) ∙ sym (same_seen c (trail_along c (trail_start c cfg) w.happenings) h)
+
   -- its line, of the run so far
   pub own_line : (m : Tracing) (h : Happening) (next : Option Turn) (told : Option (List ℕ)) (w : TraceWalked c cfg order names part first m next told)
-      → told_line c names part (number_after 1 w.happenings) (all_told c (told_start c cfg) w.happenings).core (seen_of_event c (all_told c (told_start c cfg) w.happenings) h) h ≡ told_line c names part m.number m.machine.core (seen_by c m.machine.core m.owed h) h
+      → told_line c names part (number_after 1 w.happenings) (trail_along c (trail_start c cfg) w.happenings).told.core (seen_of_event c (trail_along c (trail_start c cfg) w.happenings) h) h ≡ told_line c names part m.number m.machine.core (seen_next c m h) h
   own_line m h next told w =
-      let u : Told = all_told c (told_start c cfg) w.happenings in
-      let seen_is : seen_by c m.machine.core m.owed h ≡ seen_of_event c u h = (λ i. seen_by c (sym w.core i) (w.owed i) h) ∙ sym (same_seen c u h) in
+      let seen_is : seen_next c m h ≡ seen_of_event c (trail_along c (trail_start c cfg) w.happenings) h = seen_in_walk m h next told w in
       sym (λ i. told_line c names part (w.number i) (sym w.core i) (seen_is i) h)
 
   turned : (m n : Tracing) (h : Happening) (stage : Stage) (told now : Option (List ℕ)) (before after : ℕ) → Happened c names part h m n told now before after
       → TraceWalked c cfg order names part first m (turn_to h stage) told → TraceWalked c cfg order names part first n (turn_at stage n.machine.core) now
   turned m n h stage told now before after did w =
       let hs = w.happenings in
-      let u : Told = all_told c (told_start c cfg) hs in
+      let u : Trail = trail_along c (trail_start c cfg) hs in
       let core_is : happened c m.machine.core h ≡ n.machine.core = ap (λ (d : MarkedProgram). happened d m.machine.core h) (sym w.program) ∙ sym (ap (λ (r : Running). r.core) did.machine) in
-      let seen_is : seen_by c m.machine.core m.owed h ≡ seen_of_event c u h = (λ i. seen_by c (sym w.core i) (w.owed i) h) ∙ sym (same_seen c u h) in
-      let own : told_line c names part m.number m.machine.core (seen_by c m.machine.core m.owed h) h ≡ told_line c names part (number_after 1 hs) u.core (seen_of_event c u h) h = sym (own_line m h (turn_to h stage) told w) in
-      let owes : n.owed ≡ map shares.owed (history.told c u h).pasts = did.owed ∙ (λ i. owed_after (w.owed i) h (seen_by c (sym w.core i) (w.owed i) h)) ∙ sym (owed_on c u h) in
+      let seen_is : seen_next c m h ≡ seen_of_event c u h = seen_in_walk m h (turn_to h stage) told w in
+      let own : told_line c names part m.number m.machine.core (seen_next c m h) h ≡ told_line c names part (number_after 1 hs) u.told.core (seen_of_event c u h) h = sym (own_line m h (turn_to h stage) told w) in
+      let owes : n.owed ≡ map shares.owed (history.told c u.told h).pasts = did.owed ∙ (λ i. owed_after (w.owed i) h (seen_by c (sym w.core i) (w.owed i) (w.stands i) h)) ∙ sym (owed_on c u h) in
+      let stood : n.stands ≡ (trail_after c u h).stands = did.stands ∙ (λ i. stands_after c (sym w.core i) (w.stands i) h (seen_is i)) in
       record {
         program = ap (λ (r : Running). r.program) did.machine ∙ w.program;
         settings = ap (λ (r : Running). r.cfg) did.machine ∙ w.settings;
@@ -42,11 +47,12 @@ module _ (c : MarkedProgram) (cfg : Config) (order : List ℕ) (names : Names) (
         leads = subst (λ (s : Core). IsLedByTurns c (First order) (start c cfg) (hs ++ h ∷ []) stage s) core_is (led_on c (First order) (start c cfg) hs w.stage m.machine.core h stage w.leads w.turn);
         turn = refl;
         number = did.number ∙ ap next_line_number w.number ∙ sym (number_on 1 hs h);
-        core = ap (λ (v : Told). v.core) (told_on c (told_start c cfg) hs h) ∙ ap (λ (s : Core). happened c s h) w.core ∙ core_is;
-        owed = owes ∙ sym (ap (λ (v : Told). map shares.owed v.pasts) (told_on c (told_start c cfg) hs h));
-        ends = did.ends ∙ (λ i. w.ends i ++ event_end c names part.form (w.number i) (sym w.core i) (seen_is i) h) ∙ sym (ends_on c names part.form 1 (told_start c cfg) hs h);
-        text = told_both first told now (lines_from c names part 1 (told_start c cfg) hs) (told_line c names part m.number m.machine.core (seen_by c m.machine.core m.owed h) h) w.text did.text
-            ∙ ap (λ (text : List ℕ). option_map (λ t. t ++ text) first) (ap (λ (text : List ℕ). lines_from c names part 1 (told_start c cfg) hs ++ text) own ∙ sym (lines_on c names part 1 (told_start c cfg) hs h));
+        core = ap (λ (v : Trail). v.told.core) (trail_on c (trail_start c cfg) hs h) ∙ ap (λ (s : Core). happened c s h) w.core ∙ core_is;
+        owed = owes ∙ sym (ap (λ (v : Trail). map shares.owed v.told.pasts) (trail_on c (trail_start c cfg) hs h));
+        stands = stood ∙ sym (ap (λ (v : Trail). v.stands) (trail_on c (trail_start c cfg) hs h));
+        ends = did.ends ∙ (λ i. w.ends i ++ event_end c names part.form (w.number i) (sym w.core i) (seen_is i) h) ∙ sym (ends_on c names part.form 1 (trail_start c cfg) hs h);
+        text = told_both first told now (lines_from c names part 1 (trail_start c cfg) hs) (told_line c names part m.number m.machine.core (seen_next c m h) h) w.text did.text
+            ∙ ap (λ (text : List ℕ). option_map (λ t. t ++ text) first) (ap (λ (text : List ℕ). lines_from c names part 1 (trail_start c cfg) hs ++ text) own ∙ sym (lines_on c names part 1 (trail_start c cfg) hs h));
       }
 
 -- ---- on from a turn
@@ -85,6 +91,7 @@ walked_at_start c cfg order names part told m begun = record {
   number = begun.number;
   core = sym (ap (λ (r : Running). r.core) begun.machine);
   owed = begun.owed ∙ sym (nothing_owed (c.program.workers + 1));
+  stands = begun.stands;
   ends = begun.ends;
   text = by_told told;
 }
@@ -103,14 +110,14 @@ whole c cfg order names part told mid late now before between beyond after m n o
     let hs = w.happenings in
     let all = schedule_of c (First order) (start c cfg) hs w.stage n.machine.core w.leads w.turn in
     let told_is : o ≡ outcome (core c cfg hs) = is ∙ ap outcome (sym all.1) in
-    let lines = lines_from c names part 1 (told_start c cfg) hs in
-    let with_ends : late ≡ option_map (λ t. t ++ (lines ++ ends_from c names part.form 1 (told_start c cfg) hs)) told =
+    let lines = lines_from c names part 1 (trail_start c cfg) hs in
+    let with_ends : late ≡ option_map (λ t. t ++ (lines ++ ends_from c names part.form 1 (trail_start c cfg) hs)) told =
     told_both told mid late lines n.ends.items w.text ended ∙ ap (λ (ends : List ℕ). option_map (λ t. t ++ (lines ++ ends)) told) w.ends in
     record {
       happenings = hs;
       schedule = all.0;
       outcome_is = told_is;
-      text = told_both told late now (lines ++ ends_from c names part.form 1 (told_start c cfg) hs) (report_in part.form o) with_ends put
-          ∙ ap (λ (x : Outcome). option_map (λ t. t ++ ((lines ++ ends_from c names part.form 1 (told_start c cfg) hs) ++ report_in part.form x)) told) told_is;
+      text = told_both told late now (lines ++ ends_from c names part.form 1 (trail_start c cfg) hs) (report_in part.form o) with_ends put
+          ∙ ap (λ (x : Outcome). option_map (λ t. t ++ ((lines ++ ends_from c names part.form 1 (trail_start c cfg) hs) ++ report_in part.form x)) told) told_is;
       calm = calm ∙ still ∙ on.calm;
     }

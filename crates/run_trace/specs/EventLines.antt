@@ -1,7 +1,7 @@
 -- What is told of a run, in lines or as objects of JSON, each of which is a line too: one for each
 -- event, made of the state before it and the state behind it, and one for each part that begins.
 use Rattle.std.specs.Prelude.{ℕ, zero, ◌+◌, ◌-◌, ◌^◌, min, nat_le, nat_lt, ◌&&◌, if◌then◌else◌}
-use Rattle.std.specs.Prelude.{List, [], ◌∷◌, ◌++◌, codes, Option, Some, None, slice_get}
+use Rattle.std.specs.Prelude.{List, [], ◌∷◌, ◌++◌, codes, replicate, Option, Some, None, slice_get}
 use Rattle.std.specs.Option.{option_map}
 use Rattle.checked_program.specs.MarkedProgram.{MarkedProgram}
 use Rattle.machine_types.specs.Accesses.{found_by}
@@ -22,26 +22,49 @@ use Rattle.tellings.specs.declared.facts.Fact.{Fact}
 use Rattle.tellings.specs.declared.facts.Fact.TheVariants.{Count, Text, Words}
 use Rattle.tellings.specs.declared.keys.Key.TheVariants as keys
 use Rattle.run_trace.specs.ReportJson.{report_in}
+use Rattle.run_trace.specs.Stands.{Stand, no_stand, stand_at, stands_after}
 use Rattle.run_trace.specs.declared.events.Part.{Part}
-use Rattle.run_trace.specs.declared.events.Seen.{Seen}
+use Rattle.run_trace.specs.declared.stands.Seen.{Seen}
 
 -- ---- one event
 
 -- a thread whose event comes next
-abbrev pub seen_before : MarkedProgram → (words : List ℕ) → Thread → Before
-seen_before c words x =
-    before_of c.program x (wanted c x x.phase) (found_by words (wanted c x x.phase))
+abbrev pub seen_before : MarkedProgram → (words : List ℕ) → Stand → Thread → Before
+seen_before c words d x =
+    before_of c.program x d.last (wanted c x x.phase) (found_by words (wanted c x x.phase))
 
-abbrev pub seen_with : MarkedProgram → (words : List ℕ) → Thread → Share → Seen
-seen_with c words x share = record { before = seen_before c words x; share = share }
+abbrev pub seen_with : MarkedProgram → (words : List ℕ) → Stand → Thread → Share → Seen
+seen_with c words d x share = record { before = seen_before c words d x; share = share }
+
+-- a state with the pasts of its threads, and where these made their last instructions
+pub record Trail : Type 0 where
+  pub told : Told
+  pub stands : List Stand
+
+abbrev pub trail_start : MarkedProgram → Config → Trail
+trail_start c cfg = record {
+  told = told_start c cfg;
+  stands = replicate (c.program.workers + 1) no_stand;
+}
 
 -- with what the shadow of the run has for its event
-abbrev pub seen_of_event : MarkedProgram → Told → Happening → Option Seen
-seen_of_event c w (Of t) =
+abbrev pub seen_of_event : MarkedProgram → Trail → Happening → Option Seen
+seen_of_event c v (Of t) =
     option_map (λ x.
-    seen_with c w.core.words x (share_at c x x.attempt (found_by_event c w x) (past_at w t)))
-    (slice_get w.core.threads t)
-seen_of_event c w NextPart = None
+    seen_with c v.told.core.words (stand_at v.stands t) x
+    (share_at c x x.attempt (found_by_event c v.told x) (past_at v.told t)))
+    (slice_get v.told.core.threads t)
+seen_of_event c v NextPart = None
+
+abbrev pub trail_after : MarkedProgram → Trail → Happening → Trail
+trail_after c v h = record {
+  told = told c v.told h;
+  stands = stands_after c v.told.core v.stands h (seen_of_event c v h);
+}
+
+abbrev pub trail_along : MarkedProgram → Trail → List Happening → Trail
+trail_along c v [] = v
+trail_along c v (h ∷ hs) = trail_along c (trail_after c v h) hs
 
 -- the line of an event by the thread before it, and by the thread and the words behind it
 abbrev pub line_between : MarkedProgram → Form → Names → (number : ℕ)
@@ -101,12 +124,12 @@ abbrev pub next_line_number : ℕ → ℕ
 next_line_number n = min (n + 1) (2 ^ 64 - 1)
 
 -- each event from the state before it, with the pasts of the threads there
-abbrev pub lines_from : MarkedProgram → Names → Part → (number : ℕ) → Told
+abbrev pub lines_from : MarkedProgram → Names → Part → (number : ℕ) → Trail
     → List Happening → List ℕ
-lines_from c names part number w [] = []
-lines_from c names part number w (h ∷ hs) =
-    told_line c names part number w.core (seen_of_event c w h) h
-    ++ lines_from c names part (next_line_number number) (told c w h) hs
+lines_from c names part number v [] = []
+lines_from c names part number v (h ∷ hs) =
+    told_line c names part number v.told.core (seen_of_event c v h) h
+    ++ lines_from c names part (next_line_number number) (trail_after c v h) hs
 
 -- where parts of threads came to an end that is no return
 abbrev pub event_end : MarkedProgram → Names → Form → (number : ℕ) → Core → Option Seen → Happening
@@ -115,16 +138,16 @@ event_end c names form number s seen (Of t) =
     end_between c names form number seen (slice_get (event c s t).threads t)
 event_end c names form number s seen NextPart = []
 
-abbrev pub ends_from : MarkedProgram → Names → Form → (number : ℕ) → Told → List Happening → List ℕ
-ends_from c names form number w [] = []
-ends_from c names form number w (h ∷ hs) =
-    event_end c names form number w.core (seen_of_event c w h) h
-    ++ ends_from c names form (next_line_number number) (told c w h) hs
+abbrev pub ends_from : MarkedProgram → Names → Form → (number : ℕ) → Trail → List Happening → List ℕ
+ends_from c names form number v [] = []
+ends_from c names form number v (h ∷ hs) =
+    event_end c names form number v.told.core (seen_of_event c v h) h
+    ++ ends_from c names form (next_line_number number) (trail_after c v h) hs
 
 -- the lines of all events, or of a part of them, those of the ends that are no returns, and then
 -- the report of the run
 abbrev pub trace_text : MarkedProgram → Config → Names → Part → List Happening → List ℕ
 trace_text c cfg names part hs =
-    lines_from c names part 1 (told_start c cfg) hs
-    ++ ends_from c names part.form 1 (told_start c cfg) hs
+    lines_from c names part 1 (trail_start c cfg) hs
+    ++ ends_from c names part.form 1 (trail_start c cfg) hs
     ++ report_in part.form (outcome (core c cfg hs))

@@ -1,5 +1,6 @@
 pub mod ReportJson
 pub mod EventLines
+pub mod Stands
 pub mod Owing
 pub mod Turns
 pub mod Traces

@@ -7,18 +7,19 @@ use Rattle.machine_types.specs.Core.{Core, Happening, Of, NextPart}
 use Rattle.machine_types.specs.Events.{wanted}
 use Rattle.event_texts.specs.Shares.{owed_behind, share_by}
 use Rattle.run_trace.specs.EventLines.{seen_with}
-use Rattle.run_trace.specs.declared.events.Seen.{Seen}
+use Rattle.run_trace.specs.Stands.{Stand, stand_at}
+use Rattle.run_trace.specs.declared.stands.Seen.{Seen}
 
 abbrev pub owed_at : (owed : List ℕ) → (t : ℕ) → ℕ
 owed_at owed t = slice_index_or owed t 0
 
-abbrev pub seen_by : MarkedProgram → Core → (owed : List ℕ) → Happening → Option Seen
-seen_by c s owed (Of t) =
+abbrev pub seen_by : MarkedProgram → Core → (owed : List ℕ) → List Stand → Happening → Option Seen
+seen_by c s owed stands (Of t) =
     option_map (λ x.
-    seen_with c s.words x
+    seen_with c s.words (stand_at stands t) x
     (share_by c x x.attempt (found_by s.words (wanted c x x.phase)) (owed_at owed t)))
     (slice_get s.threads t)
-seen_by c s owed NextPart = None
+seen_by c s owed stands NextPart = None
 
 -- behind an event
 abbrev pub owed_after : (owed : List ℕ) → Happening → Option Seen → List ℕ

@@ -7,16 +7,17 @@ use Rattle.checked_program.specs.MarkedProgram.{MarkedProgram}
 use Rattle.jvm_types.specs.declared.outcome.Outcome.{Outcome}
 use Rattle.host_io.specs.Faults.{CountsFault}
 use Rattle.machine_types.specs.Core.{Core, Happening, core, happened, outcome, start}
-use Rattle.machine_types.specs.History.{all_told, told_start}
 use Rattle.machine_types.specs.Schedules.{IsScheduleOf, Stage, First, Turn, turn_at}
 use Rattle.machine_types.specs.declared.config.Config.{Config}
 use Rattle.place_names.specs.declared.names.Names.{Names}
 use Rattle.event_texts.specs.Shares as shares
 use Rattle.replay_runner.specs.Replays.{IsLedByTurns}
 use Rattle.run_trace.specs.EventLines.{ends_from, event_end, lines_from, next_line_number}
-use Rattle.run_trace.specs.EventLines.{told_line, trace_text}
+use Rattle.run_trace.specs.EventLines.{told_line, trace_text, trail_along, trail_start}
 use Rattle.run_trace.specs.Owing.{owed_after, seen_by}
+use Rattle.run_trace.specs.Stands.{no_stand, stands_after}
 use Rattle.run_trace.specs.declared.events.Part.{Part}
+use Rattle.run_trace.specs.declared.stands.Seen.{Seen}
 use Rattle.run_trace.specs.Turns.{turn_of_next}
 use Rattle.run_trace.specs.declared.turns.Next.{Next}
 use Rattle.run_trace.specs.declared.traces.TraceError.{TraceError}
@@ -33,18 +34,23 @@ pub record IsFrontTold (told now : Option (List ℕ)) (text : List ℕ) : Type 0
 
 -- ---- one event or part
 
+abbrev pub seen_next : MarkedProgram → Tracing → Happening → Option Seen
+seen_next c m h = seen_by c m.machine.core m.owed m.stands h
+
 -- it happened to the run, and its line was added to what the sink tells
 pub record Happened (c : MarkedProgram) (names : Names) (part : Part) (h : Happening)
     (m n : Tracing) (told now : Option (List ℕ)) (before after : ℕ) : Type 0 where
   pub machine : n.machine ≡ record m.machine { core = happened m.machine.program m.machine.core h }
   pub number : n.number ≡ next_line_number m.number
-  pub owed : n.owed ≡ owed_after m.owed h (seen_by c m.machine.core m.owed h)
+  pub owed : n.owed ≡ owed_after m.owed h (seen_next c m h)
+  pub stands : n.stands
+      ≡ stands_after c m.machine.core m.stands h (seen_next c m h)
   pub ends : n.ends.items
       ≡ m.ends.items
-      ++ event_end c names part.form m.number m.machine.core (seen_by c m.machine.core m.owed h) h
+      ++ event_end c names part.form m.number m.machine.core (seen_next c m h) h
   pub text : now
       ≡ option_map (λ t.
-      t ++ told_line c names part m.number m.machine.core (seen_by c m.machine.core m.owed h) h)
+      t ++ told_line c names part m.number m.machine.core (seen_next c m h) h)
       told
   pub calm : after ≡ before
 
@@ -59,7 +65,7 @@ IsHappeningTold c names part h m n told now before after (Err Memory) =
 IsHappeningTold c names part h m n told now before after (Err Failed) =
     CountsFault before after
     × IsFrontTold told now
-    (told_line c names part m.number m.machine.core (seen_by c m.machine.core m.owed h) h)
+    (told_line c names part m.number m.machine.core (seen_next c m h) h)
 
 -- ---- the run at its start
 
@@ -67,6 +73,7 @@ pub record IsStarted (c : MarkedProgram) (cfg : Config) (m : Tracing) : Type 0 w
   pub machine : m.machine ≡ record { program = c; cfg = cfg; core = start c cfg }
   pub number : m.number ≡ 1
   pub owed : m.owed ≡ replicate (c.program.workers + 1) 0
+  pub stands : m.stands ≡ replicate (c.program.workers + 1) no_stand
   pub ends : m.ends.items ≡ []
 
 -- ---- the run so far
@@ -88,11 +95,12 @@ pub record TraceWalked (c : MarkedProgram) (cfg : Config) (order : List ℕ) (na
   pub leads : IsLedByTurns c (First order) (start c cfg) happenings stage n.machine.core
   pub turn : turn_at stage n.machine.core ≡ next
   pub number : n.number ≡ number_after 1 happenings
-  pub core : (all_told c (told_start c cfg) happenings).core ≡ n.machine.core
-  pub owed : n.owed ≡ map shares.owed (all_told c (told_start c cfg) happenings).pasts
-  pub ends : n.ends.items ≡ ends_from c names part.form 1 (told_start c cfg) happenings
+  pub core : (trail_along c (trail_start c cfg) happenings).told.core ≡ n.machine.core
+  pub owed : n.owed ≡ map shares.owed (trail_along c (trail_start c cfg) happenings).told.pasts
+  pub stands : n.stands ≡ (trail_along c (trail_start c cfg) happenings).stands
+  pub ends : n.ends.items ≡ ends_from c names part.form 1 (trail_start c cfg) happenings
   pub text : now
-      ≡ option_map (λ t. t ++ lines_from c names part 1 (told_start c cfg) happenings) told
+      ≡ option_map (λ t. t ++ lines_from c names part 1 (trail_start c cfg) happenings) told
 
 -- whatever was walked to the one is walked to the other; the sink has not failed
 pub record WalksOn (c : MarkedProgram) (order : List ℕ) (names : Names) (part : Part)
@@ -111,7 +119,7 @@ pub record IsBrokenOff (c : MarkedProgram) (cfg : Config) (order : List ℕ) (na
   pub stage : Stage
   pub core : Core
   pub leads : IsLedByTurns c (First order) (start c cfg) happenings stage core
-  pub front : IsFrontTold told now (lines_from c names part 1 (told_start c cfg) happenings)
+  pub front : IsFrontTold told now (lines_from c names part 1 (trail_start c cfg) happenings)
 
 -- whatever was walked to the turn breaks off behind it
 abbrev pub BreaksOff : MarkedProgram → (order : List ℕ) → Names → Part

@@ -9,11 +9,11 @@ ghost use Rattle.run_trace.specs.EventLines.{end_between, event_end, event_line,
 ghost use Rattle.run_trace.specs.EventLines.{line_shown, part_facts, part_line, part_name};
 ghost use Rattle.run_trace.specs.EventLines.{part_text};
 ghost use Rattle.run_trace.specs.Owing.{owed_after, owed_at, seen_by};
+ghost use Rattle.run_trace.specs.Stands.{stands_after};
 
+use crate::stands::{Seen, Stand, settle_stand, stand_at};
 use checked_program::Checked;
-use event_texts::{
-    Before, Share, owed_behind, see_after, see_before, share_of, write_event, write_event_end,
-};
+use event_texts::{owed_behind, see_after, see_before, share_of, write_event, write_event_end};
 use json_lines::Form;
 use jvm_types::{Bytes, Rows};
 use machine_types::Access;
@@ -59,13 +59,6 @@ fn found_in(machine: &Machine, access: Option<Access>) -> u64
     }
 }
 
-/// A thread before its event, and what the event stands for in the plain machine.
-#[derive(Debug, Drop)]
-pub struct Seen {
-    pub before: Before,
-    pub share: Share,
-}
-
 /// How many steps a thread owes.
 fn owed_at(owed: &Rows<u64>, t: u8) -> u64
     ensures { result ≡ owed_at owed.now t }
@@ -77,16 +70,22 @@ fn owed_at(owed: &Rows<u64>, t: u8) -> u64
 }
 
 /// A thread before its event.
-fn look(machine: &Machine, p: &Checked, owed: &Rows<u64>, t: u8) -> Option<Seen>
+fn look(
+    machine: &Machine,
+    p: &Checked,
+    owed: &Rows<u64>,
+    stands: &Rows<Stand>,
+    t: u8,
+) -> Option<Seen>
     requires { p.now ≡ machine.now.program }
-    ensures { result ≡ seen_by p.now machine.now.core owed.now (Of t) }
+    ensures { result ≡ seen_by p.now machine.now.core owed.now stands.now (Of t) }
 {
     match machine.thread(t) {
         Some(s) => {
             let access = want(s, p);
             let found = found_in(machine, access);
             Some(Seen {
-                before: see_before(s, p, access, found),
+                before: see_before(s, p, stand_at(stands, t).last, access, found),
                 share: share_of(s, p, found, owed_at(owed, t)),
             })
         }
@@ -163,7 +162,7 @@ fn write_between(
 }
 
 /// Makes the next event of a live thread, and adds its line, and to the ends that of an end which
-/// is no return. Behind it the threads owe what they owe.
+/// is no return. Behind it the threads owe what they owe, and stand where they stand.
 pub fn make_event(
     text: &mut Vec<u8>,
     ends: &mut Vec<u8>,
@@ -171,6 +170,7 @@ pub fn make_event(
     form: Form,
     machine: &mut Machine,
     owed: &mut Rows<u64>,
+    stands: &mut Rows<Stand>,
     p: &Checked,
     names: &Names,
     number: u64,
@@ -182,16 +182,19 @@ pub fn make_event(
         ≡ record machine.old { core = event machine.old.program machine.old.core t } }
     ensures less { all_work machine.new.core < all_work machine.old.core }
     ensures owed { owed.new
-        ≡ owed_after owed.old (Of t) (seen_by p.now machine.old.core owed.old (Of t)) }
+        ≡ owed_after owed.old (Of t) (seen_by p.now machine.old.core owed.old stands.old (Of t)) }
+    ensures stands { stands.new ≡ stands_after p.now machine.old.core stands.old (Of t)
+        (seen_by p.now machine.old.core owed.old stands.old (Of t)) }
     ensures end { OnOk result (ends.new.items ≡ ends.old.items ++ event_end p.now names.now form
-        number machine.old.core (seen_by p.now machine.old.core owed.old (Of t)) (Of t)) }
+        number machine.old.core (seen_by p.now machine.old.core owed.old stands.old (Of t)) (Of t)) }
     ensures line { OnOk result (text.new.items ≡ text.old.items ++ event_line p.now form names.now
-        number machine.old.core (seen_by p.now machine.old.core owed.old (Of t))
+        number machine.old.core (seen_by p.now machine.old.core owed.old stands.old (Of t))
         (Of t)) }
 {
-    let seen = look(machine, p, owed, t);
+    let seen = look(machine, p, owed, stands, t);
     machine.event(p, t);
     settle(owed, t, &seen);
+    settle_stand(stands, t, &seen, machine);
     write_between(text, ends, alloc, form, p, names, number, &seen, machine, t)
 }
 

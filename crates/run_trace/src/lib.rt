@@ -4,6 +4,7 @@
 
 pub mod events;
 pub mod report_json;
+pub mod stands;
 pub mod traces;
 pub mod turns;
 

@@ -14,6 +14,7 @@ ghost use Rattle.run_trace.specs.Turns.{IsNoEvent, next_ahead, parts_ahead, stag
 
 use crate::events::{Part, make_event, make_part, told_of};
 use crate::report_json::report_of;
+use crate::stands::{Stand, no_stands};
 use crate::turns::{Next, Progress, next_turn};
 use checked_program::Checked;
 use host_io::sink::{Sink, SinkFailed};
@@ -44,6 +45,8 @@ pub struct Tracing {
     number: u64,
     /// How many steps of the plain machine each thread owes of its open attempt.
     owed: Rows<u64>,
+    /// Where each thread made its last instruction.
+    stands: Rows<Stand>,
     /// The lines of the ends so far that are no returns.
     ends: Vec<u8>,
 }
@@ -65,14 +68,20 @@ fn start(alloc: Global, p: &Checked, cfg: &Config) -> Result<Tracing, TraceError
         Ok(machine) => machine,
         Err(AllocError) => return Err(TraceError::Memory),
     };
-    let owed = match nothing_owed(alloc, p.workers() as usize + 1) {
+    let threads = p.workers() as usize + 1;
+    let owed = match nothing_owed(alloc, threads) {
         Ok(owed) => owed,
+        Err(AllocError) => return Err(TraceError::Memory),
+    };
+    let stands = match no_stands(alloc, threads) {
+        Ok(stands) => stands,
         Err(AllocError) => return Err(TraceError::Memory),
     };
     Ok(Tracing {
         machine,
         number: 1,
         owed,
+        stands,
         ends: Vec::new(alloc),
     })
 }
@@ -120,6 +129,7 @@ fn tell_event<K: Sink>(
         part.form,
         &mut trace.machine,
         &mut trace.owed,
+        &mut trace.stands,
         p,
         names,
         number,
