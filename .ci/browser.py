@@ -22,8 +22,9 @@ class Browser:
             os.dup2(13, 3)
             os.dup2(14, 4)
 
-        words = [program, "--headless=new", "--no-sandbox", "--disable-gpu", "--remote-debugging-pipe",
-                 "--window-size=1500,900", "--user-data-dir=" + folder, "about:blank"]
+        words = [program, "--headless=new", "--no-sandbox", "--disable-gpu",
+                 "--remote-debugging-pipe", "--window-size=1500,900", "--user-data-dir=" + folder,
+                 "about:blank"]
         self.process = subprocess.Popen(words, preexec_fn=pass_pipes, close_fds=False,
                                         stderr=subprocess.DEVNULL)
         os.close(to_read)
@@ -78,7 +79,8 @@ class Browser:
     def press(self, key, shift=False):
         for kind in ("keyDown", "keyUp"):
             text = {"text": key} if len(key) == 1 and kind == "keyDown" else {}
-            self.ask("Input.dispatchKeyEvent", type=kind, key=key, modifiers=8 if shift else 0, **text)
+            held = 8 if shift else 0
+            self.ask("Input.dispatchKeyEvent", type=kind, key=key, modifiers=held, **text)
 
     def picture(self, path):
         with open(path, "wb") as file:

@@ -48,9 +48,12 @@ const Keys = (() => {
 
   // `left` is what stands there behind the event, `stores` whether it is no load.
   function accessOf(a) {
-    const [group, cell, owner] = placeOf(a), stores = "left" in a;
-    return {group, cell, owner, word: `${group} ${cell}`, found: String(a.found), stores,
-      left: String(stores ? a.left : a.found)};
+    const [group, cell, known] = placeOf(a), stores = "left" in a;
+    const found = String(a.found), left = String(stores ? a.left : a.found);
+    // a header has the class of its object, or an array with its length
+    const isNamed = cell === "header" && !/^\d+$/.test(left);
+    const owner = isNamed ? left.replace(/\[\d+\]$/, "[]") : known;
+    return {group, cell, owner, word: `${group} ${cell}`, found, left, stores};
   }
 
   // Whether a thread is among those that wait, by what was found in the waiting bits.
