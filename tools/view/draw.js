@@ -55,11 +55,11 @@ function labelOf(item) {
     case "done":
       return ["✓", `attempt ${s.attempt}, ${s.found}: enter, ${s.between} steps, exit`,
         name(s.monitor)];
-    case "begin": return ["▹", s.does];
+    case "begin": return ["▹", s.does, s.begins];
     case "end": return ["■", s.does];
     case "throw": return ["!", s.does];
     case "stop": return ["✗", s.isLast ? s.does : `comes to its end: ${s.end}`];
-    case "print": return ["P", `prints ${s.value ?? view.run.prints.get(s.found) ?? "?"}`];
+    case "print": return ["P", `prints ${s.prints ?? view.run.prints.get(s.found) ?? "?"}`];
     case "new": return ["+", `new @${s.found}`, s.spot && `${s.spot.class}.${s.spot.method}`];
     case "read": return ["R", `${s.cell} ${s.found}`, name(s.group)];
     case "write": return ["W", `${s.cell} ${s.found}→${s.left}`, name(s.group)];

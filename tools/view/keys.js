@@ -77,7 +77,7 @@ const Keys = (() => {
     const ends = /^ends: (.*)/.exec(o.does || "");
     return {number, thread: o.thread, ...doingOf(o), spot: spotOf(o),
       inAttempt: o.in_attempt, fate, attempt: fate && o[`attempt_${fate}`], noted: o.noted,
-      access: o.access && accessOf(o.access), value: o.value,
+      access: o.access && accessOf(o.access), prints: o.prints, begins: o.begins,
       end: o.comes_to_its_end || (ends ? ends[1] : undefined),
       isLast: Boolean(ends), acts: o.plain || [], between: o.between, owed: o.owed};
   }

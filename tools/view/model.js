@@ -23,7 +23,7 @@ const Model = (() => {
     if (s.fate) return {begins: "try", fails: "fail", finishes: "done"}[s.fate];
     if (s.end && s.end !== "returned") return "stop";
     if (s.isLast) return "end";
-    if (s.does === "begins its next method") return s.thread ? "local" : "begin";
+    if (s.acts.includes("begin")) return s.thread ? "local" : "begin";
     if (s.does.startsWith("throws ")) return "throw";
     if (s.does === "looks at the lock of") return "turn";
     if (TRIES.test(s.does) && s.stores && !s.writes) return "turn";
