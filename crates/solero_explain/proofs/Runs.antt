@@ -5,6 +5,8 @@ use Rattle.checked_program.specs.MarkedProgram.{MarkedProgram}
 use Rattle.machine_types.specs.declared.config.Config.{Config}
 use Rattle.class_runner.proofs.LoadedOnce.{accepted}
 use Rattle.host_io.{specs.{Faults.CountsFault, declared.shelf.NamedFile.NamedFile}, proofs.SoFar.none_long}
+use Rattle.source_lines.specs.declared.sources.Sources.{Sources}
+use Rattle.place_names.specs.declared.names.Names.{Names}
 use Rattle.run_trace.specs.{Traces.IsTraced, declared.{events.Part.Part, traces.TraceError.{TraceError, TheVariants.{Memory, Failed}}}}
 use Rattle.program_answers.specs.{Finish.{finish_of, finish_status}, declared.finish.Finish.{Finish, TheVariants.{Returned, Uncaught, Limited}}}
 use Rattle.json_lines.specs.declared.form.Form.{Form}
@@ -66,45 +68,45 @@ marks_status (Err errors.Memory) = record { few = omega arith; two = λ e. omega
 trace_status : (came : Result Outcome TraceError) → IsToldStatus (status_of_trace came)
 trace_status came = record { few = trace_few came; two = trace_two came; three = trace_three came; four = trace_four came }
 
-told_status : (what : What) (asked : Question) (c : MarkedProgram) (names : List (List ℕ)) (told now : Option (List ℕ)) (from to status : ℕ) → IsProgramTold what asked c names told now from to status → IsToldStatus status
+told_status : (what : What) (asked : Question) (c : MarkedProgram) (names : Names) (told now : Option (List ℕ)) (from to status : ℕ) → IsProgramTold what asked c names told now from to status → IsToldStatus status
 told_status whats.Refusal asked c names told now from to status h = absurd h
 told_status whats.Marks asked c names told now from to status (came, written, is) = subst IsToldStatus (sym is) (marks_status came)
 told_status whats.Run asked c names told now from to status (came, traced, is) = subst IsToldStatus (sym is) (trace_status came)
 
 -- ---- the clauses, where marks or a run are told
 
-pub run_answered : (asked : Option Question) (files : Option (List NamedFile)) (unreadable : Option (List ℕ → Bool)) (before after : ℕ) (r : Request) (c : MarkedProgram) (names : List (List ℕ)) (told now : Option (List ℕ)) (from to status : ℕ)
+pub run_answered : (asked : Option Question) (files : Option (List NamedFile)) (unreadable : Option (List ℕ → Bool)) (before after : ℕ) (r : Request) (c : MarkedProgram) (names : Names) (told now : Option (List ℕ)) (from to status : ℕ)
     → IsWork asked files unreadable before after (works.Run r c names) → IsProgramTold r.what (question_by r) c names told now from to status → IsAnswered asked files unreadable before after told now from to status
 run_answered None files unreadable before after r c names told now from to status work run = absurd work
 run_answered (Some asked) files unreadable before after r c names told now from to status work run =
     inr (work.1, record { checked = c; names = names; runs = work.2; is_told = subst (λ (q : Question). IsProgramTold q.what q c names told now from to status) (sym work.0) run })
 
-pub run_few : (what : What) (asked : Question) (c : MarkedProgram) (names : List (List ℕ)) (told now : Option (List ℕ)) (from to status : ℕ) → IsProgramTold what asked c names told now from to status → status ≤ 7
+pub run_few : (what : What) (asked : Question) (c : MarkedProgram) (names : Names) (told now : Option (List ℕ)) (from to status : ℕ) → IsProgramTold what asked c names told now from to status → status ≤ 7
 run_few what asked c names told now from to status h = (told_status what asked c names told now from to status h).few
 
-pub run_not_two : (what : What) (asked : Question) (c : MarkedProgram) (names : List (List ℕ)) (told now : Option (List ℕ)) (from to status : ℕ) → IsProgramTold what asked c names told now from to status → status ≢ 2
+pub run_not_two : (what : What) (asked : Question) (c : MarkedProgram) (names : Names) (told now : Option (List ℕ)) (from to status : ℕ) → IsProgramTold what asked c names told now from to status → status ≢ 2
 run_not_two what asked c names told now from to status h = (told_status what asked c names told now from to status h).two
 
-pub run_not_three : (what : What) (asked : Question) (c : MarkedProgram) (names : List (List ℕ)) (told now : Option (List ℕ)) (from to status : ℕ) → IsProgramTold what asked c names told now from to status → status ≢ 3
+pub run_not_three : (what : What) (asked : Question) (c : MarkedProgram) (names : Names) (told now : Option (List ℕ)) (from to status : ℕ) → IsProgramTold what asked c names told now from to status → status ≢ 3
 run_not_three what asked c names told now from to status h = (told_status what asked c names told now from to status h).three
 
-pub run_not_four : (what : What) (asked : Question) (c : MarkedProgram) (names : List (List ℕ)) (told now : Option (List ℕ)) (from to status : ℕ) → IsProgramTold what asked c names told now from to status → status ≢ 4
+pub run_not_four : (what : What) (asked : Question) (c : MarkedProgram) (names : Names) (told now : Option (List ℕ)) (from to status : ℕ) → IsProgramTold what asked c names told now from to status → status ≢ 4
 run_not_four what asked c names told now from to status h = (told_status what asked c names told now from to status h).four
 
-pub run_at_length : (asked : Option Question) (files : Option (List NamedFile)) (unreadable : Option (List ℕ → Bool)) (before after : ℕ) (r : Request) (c : MarkedProgram) (names : List (List ℕ)) → IsWork asked files unreadable before after (works.Run r c names) → IsToldAtLength r.what
+pub run_at_length : (asked : Option Question) (files : Option (List NamedFile)) (unreadable : Option (List ℕ → Bool)) (before after : ℕ) (r : Request) (c : MarkedProgram) (names : Names) → IsWork asked files unreadable before after (works.Run r c names) → IsToldAtLength r.what
 run_at_length None files unreadable before after r c names work = absurd work
 run_at_length (Some asked) files unreadable before after r c names work = subst (λ (q : Question). IsToldAtLength q.what) work.0 work.2.run.what
 
-pub run_is_read : (asked : Option Question) (files : Option (List NamedFile)) (unreadable : Option (List ℕ → Bool)) (before after : ℕ) (r : Request) (c : MarkedProgram) (names : List (List ℕ)) → IsWork asked files unreadable before after (works.Run r c names) → asked ≡ None → ⊥
+pub run_is_read : (asked : Option Question) (files : Option (List NamedFile)) (unreadable : Option (List ℕ → Bool)) (before after : ℕ) (r : Request) (c : MarkedProgram) (names : Names) → IsWork asked files unreadable before after (works.Run r c names) → asked ≡ None → ⊥
 run_is_read None files unreadable before after r c names work none = work
 run_is_read (Some asked) files unreadable before after r c names work none = cc
 
-pub run_is_calm : (asked : Option Question) (files : Option (List NamedFile)) (unreadable : Option (List ℕ → Bool)) (before after : ℕ) (r : Request) (c : MarkedProgram) (names : List (List ℕ)) → IsWork asked files unreadable before after (works.Run r c names) → before < after → ⊥
+pub run_is_calm : (asked : Option Question) (files : Option (List NamedFile)) (unreadable : Option (List ℕ → Bool)) (before after : ℕ) (r : Request) (c : MarkedProgram) (names : Names) → IsWork asked files unreadable before after (works.Run r c names) → before < after → ⊥
 run_is_calm None files unreadable before after r c names work rose = work
 run_is_calm (Some asked) files unreadable before after r c names work rose = omega (arith, work.1, rose)
 
 -- a run is that of accepted files
-pub run_accepted : (asked : Question) (files : List NamedFile) (c : MarkedProgram) (names : List (List ℕ)) → RunsFiles (Some files) asked c names → AreUnrefused files asked
+pub run_accepted : (asked : Question) (files : List NamedFile) (c : MarkedProgram) (names : Names) → RunsFiles (Some files) asked c names → AreUnrefused files asked
 run_accepted asked files c names t =
     let short = none_long 0 t.contents t.short in
     let taken = accepted t.contents asked.heap asked.threads c t.run.loaded in
@@ -113,32 +115,32 @@ run_accepted asked files c names t =
 five_is_not_six : (n : ℕ) → n ≡ 5 → n ≡ 6 → ⊥
 five_is_not_six n five six = omega (arith, five, six)
 
-by_came_failed : (c : MarkedProgram) (cfg : Config) (order : List ℕ) (names : List (List ℕ)) (part : Part) (told now : Option (List ℕ)) (from to : ℕ) (came : Result Outcome TraceError) → IsTraced c cfg order names part told now from to came → status_of_trace came ≡ 5 → CountsFault from to
+by_came_failed : (c : MarkedProgram) (cfg : Config) (order : List ℕ) (names : Names) (part : Part) (told now : Option (List ℕ)) (from to : ℕ) (came : Result Outcome TraceError) → IsTraced c cfg order names part told now from to came → status_of_trace came ≡ 5 → CountsFault from to
 by_came_failed c cfg order names part told now from to (Ok o) traced five = absurd ((run_status (finish_of o)).five five)
 by_came_failed c cfg order names part told now from to (Err Failed) traced five = traced.0
 by_came_failed c cfg order names part told now from to (Err Memory) traced five = absurd (five_is_not_six 6 five refl)
 
-marks_failed : (form : Form) (c : MarkedProgram) (told now : Option (List ℕ)) (from to : ℕ) (came : Result (Unit {0}) MarksError) → AreMarksWritten form c told now from to came → status_of_marks came ≡ 5 → CountsFault from to
-marks_failed form c told now from to (Ok done) written five = absurd (omega (arith, five))
-marks_failed form c told now from to (Err errors.Failed) written five = written.0
-marks_failed form c told now from to (Err errors.Memory) written five = absurd (omega (arith, five))
+marks_failed : (form : Form) (c : MarkedProgram) (sources : Sources) (told now : Option (List ℕ)) (from to : ℕ) (came : Result (Unit {0}) MarksError) → AreMarksWritten form c sources told now from to came → status_of_marks came ≡ 5 → CountsFault from to
+marks_failed form c sources told now from to (Ok done) written five = absurd (omega (arith, five))
+marks_failed form c sources told now from to (Err errors.Failed) written five = written.0
+marks_failed form c sources told now from to (Err errors.Memory) written five = absurd (omega (arith, five))
 
-pub run_sink_failed : (what : What) (asked : Question) (c : MarkedProgram) (names : List (List ℕ)) (told now : Option (List ℕ)) (from to status : ℕ) → IsProgramTold what asked c names told now from to status → status ≡ 5 → CountsFault from to
+pub run_sink_failed : (what : What) (asked : Question) (c : MarkedProgram) (names : Names) (told now : Option (List ℕ)) (from to status : ℕ) → IsProgramTold what asked c names told now from to status → status ≡ 5 → CountsFault from to
 run_sink_failed whats.Refusal asked c names told now from to status h five = absurd h
-run_sink_failed whats.Marks asked c names told now from to status (came, written, is) five = marks_failed asked.form c told now from to came written (sym is ∙ five)
+run_sink_failed whats.Marks asked c names told now from to status (came, written, is) five = marks_failed asked.form c names.sources told now from to came written (sym is ∙ five)
 run_sink_failed whats.Run asked c names told now from to status (came, traced, is) five = by_came_failed c asked.cfg asked.order names asked.part told now from to came traced (sym is ∙ five)
 
-by_came_fault : (c : MarkedProgram) (cfg : Config) (order : List ℕ) (names : List (List ℕ)) (part : Part) (told now : Option (List ℕ)) (from to : ℕ) (came : Result Outcome TraceError) → IsTraced c cfg order names part told now from to came → from < to → status_of_trace came ≡ 5
+by_came_fault : (c : MarkedProgram) (cfg : Config) (order : List ℕ) (names : Names) (part : Part) (told now : Option (List ℕ)) (from to : ℕ) (came : Result Outcome TraceError) → IsTraced c cfg order names part told now from to came → from < to → status_of_trace came ≡ 5
 by_came_fault c cfg order names part told now from to (Ok o) traced rose = omega (arith, traced.calm, rose)
 by_came_fault c cfg order names part told now from to (Err Failed) traced rose = refl
 by_came_fault c cfg order names part told now from to (Err Memory) traced rose = omega (arith, traced.0, rose)
 
-marks_fault : (form : Form) (c : MarkedProgram) (told now : Option (List ℕ)) (from to : ℕ) (came : Result (Unit {0}) MarksError) → AreMarksWritten form c told now from to came → from < to → status_of_marks came ≡ 5
-marks_fault form c told now from to (Ok done) written rose = omega (arith, written.0, rose)
-marks_fault form c told now from to (Err errors.Failed) written rose = refl
-marks_fault form c told now from to (Err errors.Memory) written rose = omega (arith, written.0, rose)
+marks_fault : (form : Form) (c : MarkedProgram) (sources : Sources) (told now : Option (List ℕ)) (from to : ℕ) (came : Result (Unit {0}) MarksError) → AreMarksWritten form c sources told now from to came → from < to → status_of_marks came ≡ 5
+marks_fault form c sources told now from to (Ok done) written rose = omega (arith, written.0, rose)
+marks_fault form c sources told now from to (Err errors.Failed) written rose = refl
+marks_fault form c sources told now from to (Err errors.Memory) written rose = omega (arith, written.0, rose)
 
-pub run_sink_fault : (what : What) (asked : Question) (c : MarkedProgram) (names : List (List ℕ)) (told now : Option (List ℕ)) (from to status : ℕ) → IsProgramTold what asked c names told now from to status → from < to → status ≡ 5
+pub run_sink_fault : (what : What) (asked : Question) (c : MarkedProgram) (names : Names) (told now : Option (List ℕ)) (from to status : ℕ) → IsProgramTold what asked c names told now from to status → from < to → status ≡ 5
 run_sink_fault whats.Refusal asked c names told now from to status h rose = absurd h
-run_sink_fault whats.Marks asked c names told now from to status (came, written, is) rose = is ∙ marks_fault asked.form c told now from to came written rose
+run_sink_fault whats.Marks asked c names told now from to status (came, written, is) rose = is ∙ marks_fault asked.form c names.sources told now from to came written rose
 run_sink_fault whats.Run asked c names told now from to status (came, traced, is) rose = is ∙ by_came_fault c asked.cfg asked.order names asked.part told now from to came traced rose

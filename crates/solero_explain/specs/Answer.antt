@@ -3,6 +3,7 @@ use Rattle.std.specs.Prelude.{◌≡◌, ℕ, ◌≤◌, Bool, List, [], ◌++�
 use Rattle.std.specs.Prelude.{Some, None, IfSome}
 use Rattle.std.specs.List.{AllByRecursion, AllZip}
 use Rattle.field_names.specs.FieldNames.{all_field_names}
+use Rattle.source_lines.specs.Sources.{sources_of}
 use Rattle.jvm_types.specs.ClassGrammar.{Spells}
 use Rattle.jvm_types.specs.declared.class_file.ClassFile.{ClassFile}
 use Rattle.checked_program.specs.MarkedProgram.{MarkedProgram}
@@ -21,6 +22,7 @@ use Rattle.refusal_places.specs.Explained.{Explains}
 use Rattle.json_lines.specs.declared.form.Form.{Form}
 use Rattle.json_lines.specs.declared.form.Form.TheVariants.{Lines, Json}
 use Rattle.run_texts.specs.Report.{line}
+use Rattle.place_names.specs.declared.names.Names.{Names}
 use Rattle.program_answers.specs.Unread.{SaysUnread}
 use Rattle.program_answers.specs.declared.answer.Due.{Due}
 use Rattle.program_answers.specs.declared.answer.Due.TheVariants.{Report, Output, Usage, Refusal}
@@ -117,18 +119,20 @@ IsExplainDue (Some asked) files unreadable before after (Output text) =
 IsExplainDue (Some asked) files unreadable before after (Report finish text) = ⊥
 
 -- the program that the files are loaded to, whose marks or whose run is to be told, with the names
--- of its fields
+-- of its fields and the sources of its methods
 pub record IsRunOf (asked : Question) (contents : List (List ℕ)) (checked : MarkedProgram)
-    (names : List (List ℕ)) : Type 0 where
+    (names : Names) : Type 0 where
   pub what : IsToldAtLength asked.what
   pub loaded : IsLoaded contents asked.heap asked.threads checked
   pub named : (classes : List ClassFile) → AllZip Spells contents classes
-      → names ≡ all_field_names classes
+      → names.fields ≡ all_field_names classes
+  pub sourced : (classes : List ClassFile) → AllZip Spells contents classes
+      → names.sources ≡ sources_of classes
 
 -- of the files that are asked for; where the shelf does not tell its files, of some of which there
 -- are as many
 pub record RunsFiles (files : Option (List NamedFile)) (asked : Question) (checked : MarkedProgram)
-    (names : List (List ℕ)) : Type 0 where
+    (names : Names) : Type 0 where
   pub contents : List (List ℕ)
   pub are : IfSome files (λ fs. contents ≡ contents_of fs asked.files)
   pub many : length contents ≡ length asked.files

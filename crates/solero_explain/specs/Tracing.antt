@@ -3,6 +3,7 @@ use Rattle.std.specs.Prelude.{◌≡◌, ◌⊎◌, ℕ, Bool, List, Option, Som
 use Rattle.checked_program.specs.MarkedProgram.{MarkedProgram}
 use Rattle.host_io.specs.declared.shelf.NamedFile.{NamedFile}
 use Rattle.jvm_types.specs.declared.outcome.Outcome.{Outcome}
+use Rattle.place_names.specs.declared.names.Names.{Names}
 use Rattle.mark_reasons.specs.MarksTold.{AreMarksWritten}
 use Rattle.mark_reasons.specs.declared.telling.MarksError.{MarksError}
 use Rattle.mark_reasons.specs.declared.telling.MarksError.TheVariants as errors
@@ -30,12 +31,12 @@ status_of_marks (Err errors.Failed) = 5
 status_of_marks (Err errors.Memory) = 6
 
 -- what is asked for is told of a program, as far as it is, and this is answered
-abbrev pub IsProgramTold : What → Question → MarkedProgram → (names : List (List ℕ))
+abbrev pub IsProgramTold : What → Question → MarkedProgram → Names
     → (told now : Option (List ℕ)) → (before after status : ℕ) → Type 0
 IsProgramTold whats.Refusal asked checked names told now before after status = ⊥
 IsProgramTold whats.Marks asked checked names told now before after status =
     (came : Result (Unit {0}) MarksError)
-    × AreMarksWritten asked.form checked told now before after came
+    × AreMarksWritten asked.form checked names.sources told now before after came
     × (status ≡ status_of_marks came)
 IsProgramTold whats.Run asked checked names told now before after status =
     (came : Result Outcome TraceError)
@@ -45,7 +46,7 @@ IsProgramTold whats.Run asked checked names told now before after status =
 pub record Traces (files : Option (List NamedFile)) (asked : Question) (told now : Option (List ℕ))
     (before after status : ℕ) : Type 0 where
   pub checked : MarkedProgram
-  pub names : List (List ℕ)
+  pub names : Names
   pub runs : RunsFiles files asked checked names
   pub is_told : IsProgramTold asked.what asked checked names told now before after status
 

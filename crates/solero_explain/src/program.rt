@@ -1,11 +1,15 @@
 ghost use Rattle.std.specs.Prelude.{◌≡◌, ◌-◌, ◌^◌, ◌<◌, ◌≤◌, ◌≢◌, ◌⊎◌, ℕ, List, Some, None, IfOk};
 ghost use Rattle.std.specs.Prelude.{length, true};
+ghost use Rattle.std.specs.List.{AllZip};
 ghost use Rattle.command_words.specs.RunValues.{are_few};
 ghost use Rattle.command_words.specs.Words.{texts};
+ghost use Rattle.field_names.specs.FieldNames.{all_field_names};
 ghost use Rattle.host_io.specs.Faults.{CountsFault};
 ghost use Rattle.host_io.specs.Reading.{first_long};
 ghost use Rattle.host_io.specs.declared.shelf.NamedFile.{NamedFile as File};
 ghost use Rattle.json_lines.specs.declared.form.Form.TheVariants.{Json};
+ghost use Rattle.jvm_types.specs.ClassGrammar.{Spells};
+ghost use Rattle.jvm_types.specs.declared.class_file.ClassFile.{ClassFile as Class};
 ghost use Rattle.solero_explain.specs.Answer.{AreUnrefused, IsExplainDue, IsTold};
 ghost use Rattle.solero_explain.specs.Answer.{IsToldAtLength};
 ghost use Rattle.solero_explain.specs.Answer.{accepted_text as the_accepted_text};
@@ -15,6 +19,7 @@ ghost use Rattle.solero_explain.specs.Parts.{IsDueOf, IsRefusalExplained, IsFoun
 ghost use Rattle.solero_explain.specs.Parts.{IsFoundIn, IsUnreadExplained, IsWork};
 ghost use Rattle.solero_explain.specs.Tracing.{IsAnswered, IsProgramTold};
 ghost use Rattle.solero_explain.specs.Requests.{question_by};
+ghost use Rattle.source_lines.specs.Sources.{sources_of as the_sources_of};
 
 use crate::command::read_words;
 use crate::request::{Request, What};
@@ -28,11 +33,13 @@ use json_lines::{Form, write_text_member};
 use jvm_types::limits::{MOST_FILE_BYTES, MOST_FILES};
 use jvm_types::{Bytes, CRule, Place, Rows, Rule, in_file};
 use mark_reasons::{MarksError, explain_marks};
+use place_names::Names;
 use program_answers::answer::{Due, cannot_read};
 use program_answers::delivery::deliver;
 use program_answers::finish::finish_of;
 use refusal_places::explained_refusal;
 use run_trace::{TraceError, explain_run};
+use source_lines::sources_of;
 use std::alloc::{AllocError, Global};
 
 /// The line of use.
@@ -43,8 +50,8 @@ pub const USAGE: &str = "usage: solero_explain --what WHAT [options] FILE...\n";
 enum Work {
     /// A text is due.
     Due(Due),
-    /// The marks or the run of a program are to be told, with the names of its fields.
-    Run(Request, Checked, Rows<Bytes>),
+    /// The marks or the run of a program are to be told, with the names that its classes have.
+    Run(Request, Checked, Names),
 }
 
 /// Explains what the words ask for: reads the files from the shelf, in order, loads them, and
@@ -95,17 +102,22 @@ pub fn top_explain<S: Shelf, K: Sink>(
 enum Found {
     /// A text is due.
     Due(Due),
-    /// A program whose marks or whose run is to be told, with the names of its fields.
-    Program(Checked, Rows<Bytes>),
+    /// A program whose marks or whose run is to be told, with the names that its classes have.
+    Program(Checked, Names),
 }
 
 // The marks are told, and this is answered.
-fn marked<K: Sink>(alloc: Global, request: &Request, checked: &Checked, sink: &mut K) -> u8
-    ensures { (names : List (List ℕ))
-        → IsProgramTold What.Marks (question_by request.now) checked.now names (K.text sink.old)
-        (K.text sink.new) (K.faults sink.old) (K.faults sink.new) result }
+fn marked<K: Sink>(
+    alloc: Global,
+    request: &Request,
+    checked: &Checked,
+    names: &Names,
+    sink: &mut K,
+) -> u8
+    ensures { IsProgramTold What.Marks (question_by request.now) checked.now names.now
+        (K.text sink.old) (K.text sink.new) (K.faults sink.old) (K.faults sink.new) result }
 {
-    match explain_marks(alloc, request.form, checked, sink) {
+    match explain_marks(alloc, request.form, checked, &names.sources, sink) {
         Ok(()) => 0,
         Err(MarksError::Failed) => 5,
         Err(MarksError::Memory) => 6,
@@ -117,7 +129,7 @@ fn traced<K: Sink>(
     alloc: Global,
     request: &Request,
     checked: &Checked,
-    names: &Rows<Bytes>,
+    names: &Names,
     sink: &mut K,
 ) -> u8
     ensures { IsProgramTold What.Run (question_by request.now) checked.now names.now
@@ -143,7 +155,7 @@ fn tell<K: Sink>(
     alloc: Global,
     request: &Request,
     checked: &Checked,
-    names: &Rows<Bytes>,
+    names: &Names,
     sink: &mut K,
 ) -> u8
     requires { IsToldAtLength request.now.what }
@@ -152,7 +164,7 @@ fn tell<K: Sink>(
 {
     match request.what {
         What::Refusal => unreachable!(),
-        What::Marks => marked(alloc, request, checked, sink),
+        What::Marks => marked(alloc, request, checked, names, sink),
         What::Run => traced(alloc, request, checked, names, sink),
     }
 }
@@ -241,6 +253,20 @@ fn found_in(alloc: Global, request: &Request, contents: &Rows<Bytes>) -> Found
     }
 }
 
+// The names that the classes have which the contents spell.
+fn names_of(alloc: Global, contents: &Rows<Bytes>) -> Result<Names, AllocError>
+    ensures fields { IfOk result (λ names.
+        (classes : List Class) → AllZip Spells contents.now classes
+        → names.fields ≡ all_field_names classes) }
+    ensures sources { IfOk result (λ names.
+        (classes : List Class) → AllZip Spells contents.now classes
+        → names.sources ≡ the_sources_of classes) }
+{
+    let fields = field_names(alloc, contents)?;
+    let sources = sources_of(alloc, contents)?;
+    Ok(Names { fields, sources })
+}
+
 // What is found where the files are loaded to a program.
 fn found_of(alloc: Global, request: &Request, contents: &Rows<Bytes>, checked: Checked) -> Found
     requires { IsLoaded contents.now request.now.heap request.now.threads checked }
@@ -248,7 +274,7 @@ fn found_of(alloc: Global, request: &Request, contents: &Rows<Bytes>, checked: C
 {
     match request.what {
         What::Refusal => Found::Due(due_of(accepted_text(alloc, request.form))),
-        What::Marks | What::Run => match field_names(alloc, contents) {
+        What::Marks | What::Run => match names_of(alloc, contents) {
             Ok(names) => Found::Program(checked, names),
             Err(AllocError) => Found::Due(Due::OutOfMemory),
         },
