@@ -3,13 +3,13 @@ use Rattle.std.proofs.Common.{◌≡◌, ◌<◌, ◌≤◌, ◌≢◌, ◌⊎�
 use Rattle.std.{specs.List.AllZip, proofs.lemmas.{Bool.{cases_eq, eqb-true, eq-eqb, true≢false, cases_lt}, List.{length-append, get_or_append_left, get_or_past, get_or_push}, Option.{get_or_from_slice_get, same_Some, slice_get_within}}}
 use Rattle.jvm_types.specs.{ProgramInvariant.{IsProgram, IsTargetOf, site_in}, declared.{code.{Insn.Insn, Op.Op}, program.{MethodInfo.MethodInfo, Program.Program, Target.Target}}}
 use Rattle.laws_programs.proofs.CodeOrder.{have_targets}
-use Rattle.checked_program.specs.{Colours.{ColourShape, is_coloured}, MarkedProgram.AreTaggings, OwnedArrays.{IsOwnedArrayField, IsOwnedAt, ReadsOwned}, TaggedCode.tagged_by, declared.tag.Tags.Tags}
+use Rattle.checked_program.specs.{Colours.{ColourShape, is_coloured}, MarkedProgram.AreTaggings, OwnedArrays.{IsOwnedArrayField, IsOwnedAt, ReadsOwned}, TaggedCode.tagged_by, Tagging.HasTagging, Visits.HasFrames, declared.tag.Tags.Tags}
 use Rattle.laws_sections.proofs.ArrayColours.{other_class}
 use Rattle.frozen_classes.specs.FrozenClasses.{AreFrozenClasses}
-use Rattle.guard_analysis.specs.{ColourVisits.{is_array_field, is_colour_of, of_field, colour_at}, FieldUses.class_flag, declared.{colouring.Colour.Colour, owned_arrays.Owned.Owned}}
+use Rattle.guard_analysis.specs.{ColourVisits.{colour_plan, is_array_field, is_colour_of, of_field, colour_at}, FieldUses.class_flag, declared.{colouring.Colour.Colour, owned_arrays.Owned.Owned}}
 use Rattle.guard_analysis.specs.OwnedFound.{colour_read, read_colour, read_colours_before, is_flagged, element_flags_before, code_length, element_rows_before, fields_left_before, owning_before, AreMethodsChecked, AreOwnedFound}
-use Rattle.guard_analysis.{specs.declared.colouring.Colour.TheVariants.{Plain, Of}, proofs.{CallEdges.frames_there, CheckedMethods.{IsKept, AreKept, methods_kept}, ColourFrames.read_is, ColourPaths.has_colours, FieldColours.{none_of_field, are_there}}}
-use Rattle.guard_analysis.proofs.{FlagsPut.is_set, ListsMade.{made_long, made_at, made_past}, OwnersFound.{left_long, all_tagged, tagging_of, laid_up, checked_method, found_owned, is_array, owned_may, owned_found}}
+use Rattle.guard_analysis.{specs.declared.colouring.Colour.TheVariants.{Plain, Of}, proofs.{CallEdges.frames_there, CheckedMethods.{IsKept, AreKept, methods_kept}, ColourFrames.read_is, ColourPaths.has_colours, FieldColours.{array_whole, none_of_field, are_there}}}
+use Rattle.guard_analysis.proofs.{FlagsPut.is_set, ListsMade.{made_long, made_at, made_past}, OwnersFound.{left_long, all_tagged, tagging_at, tagging_of, laid_up, checked_method, found_owned, is_array, owned_may, owned_found}}
 use Rattle.jvm_types.specs.declared.code.Op.TheVariants as ops
 
 -- ---- two lists
@@ -58,6 +58,42 @@ of_colour fi c e = ap (is_colour_of fi) e ∙ own_test fi
 the_colour : (fi : ℕ) (c : Colour) → is_colour_of fi c ≡ true → c ≡ Of fi
 the_colour fi Plain e = absurd (let bad : false ≡ true = e in cc)
 the_colour fi (Of x) e = ap (λ (n : ℕ). Of n) (eqb-true x fi e)
+
+-- ---- a reached read of an element of an array that was read from an owned field
+
+module _ (p : Program) (tags : List Tags) (program : IsProgram p) (are : AreTaggings p p.methods tags) (mi : ℕ) (m : MethodInfo) (e : slice_get p.methods mi ≡ Some m) (frames : List (Option (List Colour))) (has : HasFrames (colour_plan p m) frames)
+    (i fi : ℕ) (own : IsOwnedArrayField p (tagged_by tags) fi) (insn : Insn) (stack : List Colour) (is_insn : slice_get m.code i ≡ Some insn) (is_frame : slice_get frames i ≡ Some (Some stack)) (reads : insn.op ≡ ops.Iaload) (colour : colour_at stack 1 ≡ Of fi) where
+  its_tags : (t : Tags) × (slice_get tags mi ≡ Some t) × HasTagging p m t.frames
+  its_tags = tagging_at p tags program are mi m e
+
+  array : is_array_field p fi ≡ true
+  array = array_whole p fi own.field own.is (record { array = own.array; private = own.private; instance = own.instance })
+
+  its_target : (target : Target) × (slice_get m.targets i ≡ Some target) × IsTargetOf p (site_in m) insn.op target
+  its_target = have_targets p mi i m insn program e is_insn
+
+  coloured : is_coloured (of_field fi stack) 1 ≡ true
+  coloured = sym (read_is p fi array 1 stack) ∙ of_colour fi (colour_at stack 1) colour
+
+  pub reads_of_owned : ReadsOwned p (tagged_by tags) mi i
+  reads_of_owned = by_class (m.class == own.field.class) refl
+    where
+      by_class : (b : Bool) → (m.class == own.field.class) ≡ b → ReadsOwned p (tagged_by tags) mi i
+      by_class true c =
+          let u = own.used mi m e (eqb-true m.class own.field.class c) in
+          let a = are_there p (tagged_by tags) program mi m e its_tags.0.frames (frames_there p tags program mi its_tags.0 its_tags.1) its_tags.2 (laid_up p tags program are mi m e) frames has fi own.field own.is array
+          (all_tagged p tags program are) own u.colours u.colouring i insn its_target.0 stack is_insn its_target.1 is_frame in
+          record {
+            m = m;
+            insn = insn;
+            target = its_target.0;
+            f = a.f;
+            at = a.at;
+            reads = reads;
+            owned = record { fi = fi; owned = own; colours = u.colours; colouring = u.colouring; coloured = ap (λ (bs : List Bool). is_coloured bs 1) a.so ∙ coloured };
+          }
+      by_class false c = absurd (true≢false (sym coloured ∙ none_of_field p (tagged_by tags) program mi m e its_tags.0.frames (frames_there p tags program mi its_tags.0 its_tags.1) its_tags.2 (laid_up p tags program are mi m e)
+          frames has fi own.field own.is array c i insn its_target.0 stack is_insn its_target.1 is_frame 1))
 
 -- ---- all
 
@@ -123,38 +159,8 @@ module _ (p : Program) (tags : List Tags) (program : IsProgram p) (are : AreTagg
         by_order (inl x) = x
         by_order (inr x) = absurd (true≢false (sym h ∙ ap (λ (flags : List Bool). slice_index_or flags i false) its_row ∙ flags_past (slice_index_or reads mi []) (length m.code) i x))
 
-    module _ (k : IsKept p tags owning outs reads mi m) (i : ℕ) (r : IsRead (slice_get m.code i) (slice_get k.frames i) owners) where
-      own : IsOwnedArrayField p (tagged_by tags) r.fi
-      own = found_owned p tags program are frozen frozen_are outs reads all r.fi r.flagged
-
-      array : is_array_field p r.fi ≡ true
-      array = is_array p tags program are frozen frozen_are outs reads all r.fi own
-
-      its_target : (target : Target) × (slice_get m.targets i ≡ Some target) × IsTargetOf p (site_in m) r.insn.op target
-      its_target = have_targets p mi i m r.insn program e r.is_insn
-
-      read_is_owned : ReadsOwned p (tagged_by tags) mi i
-      read_is_owned = by_class (m.class == own.field.class) refl
-        where
-          coloured : is_coloured (of_field r.fi r.stack) 1 ≡ true
-          coloured = sym (read_is p r.fi array 1 r.stack) ∙ of_colour r.fi (colour_at r.stack 1) r.colour
-
-          by_class : (b : Bool) → (m.class == own.field.class) ≡ b → ReadsOwned p (tagged_by tags) mi i
-          by_class true c =
-              let u = own.used mi m e (eqb-true m.class own.field.class c) in
-              let a = are_there p (tagged_by tags) program mi m e k.t.frames (frames_there p tags program mi k.t k.its_tags) (tagging_of p tags program are mi m k.t e k.its_tags) (laid_up p tags program are mi m e) k.frames k.has r.fi own.field own.is array
-              (all_tagged p tags program are) own u.colours u.colouring i r.insn its_target.0 r.stack r.is_insn its_target.1 r.is_frame in
-              record {
-                m = m;
-                insn = r.insn;
-                target = its_target.0;
-                f = a.f;
-                at = a.at;
-                reads = r.reads;
-                owned = record { fi = r.fi; owned = own; colours = u.colours; colouring = u.colouring; coloured = ap (λ (bs : List Bool). is_coloured bs 1) a.so ∙ coloured };
-              }
-          by_class false c = absurd (true≢false (sym coloured ∙ none_of_field p (tagged_by tags) program mi m e k.t.frames (frames_there p tags program mi k.t k.its_tags) (tagging_of p tags program are mi m k.t e k.its_tags) (laid_up p tags program are mi m e)
-              k.frames k.has r.fi own.field own.is array c i r.insn its_target.0 r.stack r.is_insn its_target.1 r.is_frame 1))
+    read_is_owned : (k : IsKept p tags owning outs reads mi m) (i : ℕ) → IsRead (slice_get m.code i) (slice_get k.frames i) owners → ReadsOwned p (tagged_by tags) mi i
+    read_is_owned k i r = reads_of_owned p tags program are mi m e k.frames k.has i r.fi (found_owned p tags program are frozen frozen_are outs reads all r.fi r.flagged) r.insn r.stack r.is_insn r.is_frame r.reads r.colour
 
     flag_is_read : (i : ℕ) → slice_index_or (slice_index_or rows mi []) i false ≡ true → ReadsOwned p (tagged_by tags) mi i
     flag_is_read i h = by_flag (class_flag owning m.class) refl

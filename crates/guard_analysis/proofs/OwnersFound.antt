@@ -5,12 +5,12 @@ use Rattle.jvm_types.specs.{ClassNames.file_class, ProgramInvariant.{IsProgram, 
 use Rattle.jvm_types.specs.declared.program.{Program.Program, Target.Target}
 use Rattle.laws_programs.proofs.CodeOrder.{methods_laid_out}
 use Rattle.code_table.{specs.PcTables.Ascend, proofs.LaidOut.ascend}
-use Rattle.checked_program.specs.{FrozenPlaces.PutsGuarded, LockTags.TagShape, MarkedProgram.AreTaggings, OwnedArrays.{GetsOnThis, PutsNew, IsOwnedArrayField}, SectionLaws.AreTagged, TaggedCode.{Tagged, IsAt, tagged_by}}
-use Rattle.checked_program.specs.{Tagging.{HasTagging, IsTaggingOf}, declared.tag.Tags.Tags}
+use Rattle.checked_program.specs.{FrozenPlaces.{IsFrozenClass, PutsGuarded}, LockTags.TagShape, MarkedProgram.AreTaggings, OwnedArrays.{GetsOnThis, PutsNew, IsOwnedArrayField}, SectionLaws.AreTagged, TaggedCode.{Tagged, IsAt, tagged_by}}
+use Rattle.checked_program.specs.{Tagging.{HasTagging, IsTaggingOf}, Visits.HasFrames, declared.tag.Tags.Tags}
 use Rattle.checked_program.proofs.NamedFields.{target_named}
 use Rattle.laws_sections.proofs.ArrayColours.{reads_own, writes_own}
 use Rattle.frozen_classes.specs.FrozenClasses.{AreFrozenClasses}
-use Rattle.guard_analysis.specs.{ColourVisits.is_array_field, FieldUses.{class_flag, field_noted}, OwnedFound.{branched_flags, may_own, fields_left_before, owning_with, owning_before}, declared.colouring.Colour.Colour}
+use Rattle.guard_analysis.specs.{ColourVisits.{is_array_field, colour_plan}, FieldUses.{class_flag, field_noted}, OwnedFound.{branched_flags, may_own, fields_left_before, owning_with, owning_before}, declared.colouring.Colour.Colour}
 use Rattle.guard_analysis.proofs.{CallEdges.{with_tags, frames_there}, CheckedMethods.{IsKept, IsOutIn, AreKept}, FieldColours.{IsArrayField, array_parts, array_whole}, FieldUseLaws.{noted_long, noted_keeps, noted_here}, FieldUsesFound.{is_frozen, not_frozen}}
 use Rattle.guard_analysis.proofs.{FieldsLeft.{used_well, reads_well, writes_well, writes_new}, FieldsOut.not_out, FlagsPut.is_set, ListsMade.{made_long, made_at, made_past}, MethodChecks.OtherAt}
 use Rattle.jvm_types.specs.declared.code.Op.TheVariants as ops
@@ -83,6 +83,68 @@ module _ (p : Program) (tags : List Tags) (program : IsProgram p) (are : AreTagg
   pub laid_up : (mi : ℕ) (m : MethodInfo) → slice_get p.methods mi ≡ Some m → Ascend 0 m.code
   laid_up mi m e = ascend m (methods_laid_out p mi m program e)
 
+  -- ---- a field that no instruction of its class puts out is owned
+
+  -- a method in which none does
+  pub record IsLeftIn (fi mi : ℕ) (m : MethodInfo) : Type 0 where
+    pub t : Tags
+    pub its_tags : slice_get tags mi ≡ Some t
+    pub frames : List (Option (List Colour))
+    pub has : HasFrames (colour_plan p m) frames
+    pub none : (i : ℕ) → OtherAt p m t.frames (branched_flags m) frames fi i → ⊥
+
+  module _ (fi : ℕ) (field : FieldInfo) (there : slice_get p.fields fi ≡ Some field) (array : is_array_field p fi ≡ true) (frozen : IsFrozenClass p (tagged_by tags) field.class)
+      (each : (mi : ℕ) (m : MethodInfo) → slice_get p.methods mi ≡ Some m → m.class ≡ field.class → IsLeftIn fi mi m) where
+    -- what holds of the instructions of its class holds of all, where an instruction that uses the field stands there
+    by_class : (mi i : ℕ) (m : MethodInfo) (insn : Insn) (target : Target) (f : TagShape) (P : Type 0) → IsAt p (tagged_by tags) mi i m insn target f → (field.class ≡ m.class → P) → ((field.class ≡ m.class → ⊥) → P) → P
+    by_class mi i m insn target f P at own other = by_test (field.class == m.class) refl
+      where
+        by_test : (t : Bool) → (field.class == m.class) ≡ t → P
+        by_test true e = own (eqb-true field.class m.class e)
+        by_test false e = other (λ same. true≢false (sym (eq-eqb field.class m.class same) ∙ e))
+
+    private : IsArrayField field
+    private = array_parts p fi field there array
+
+    other_reads : (m : MethodInfo) (op : Op) (target : Target) (f : TagShape) → IsTargetOf p (site_in m) op target → (field.class ≡ m.class → ⊥) → GetsOnThis fi op target f
+    other_reads m (ops.Getfield n) (targets.Field x) f named never = λ (e : x ≡ fi). absurd (never (reads_own p fi field m (ops.Getfield n) (targets.Field x) there private.private named (eq-eqb x fi e)))
+    other_reads m op target f named never = tt
+
+    other_writes : (m : MethodInfo) (op : Op) (target : Target) (f : TagShape) → IsTargetOf p (site_in m) op target → (field.class ≡ m.class → ⊥) → PutsGuarded fi m op target f
+    other_writes m (ops.Putfield n) (targets.Field x) f named never = λ (e : x ≡ fi). absurd (never (writes_own p fi field m n x there private.private named e))
+    other_writes m op target f named never = tt
+
+    other_new : (m : MethodInfo) (i pc : ℕ) (op : Op) (target : Target) → IsTargetOf p (site_in m) op target → (field.class ≡ m.class → ⊥) → PutsNew fi m i pc op target
+    other_new m i pc (ops.Putfield n) (targets.Field x) named never = λ (e : x ≡ fi). absurd (never (writes_own p fi field m n x there private.private named e))
+    other_new m i pc op target named never = tt
+
+    its_shapes : (mi : ℕ) (m : MethodInfo) (k : IsLeftIn fi mi m) → slice_get (tagged_by tags) mi ≡ Some k.t.frames
+    its_shapes mi m k = frames_there p tags program mi k.t k.its_tags
+
+    pub owned_if_left : IsOwnedArrayField p (tagged_by tags) fi
+    owned_if_left = record {
+      field = field;
+      is = there;
+      private = private.private;
+      instance = private.instance;
+      array = private.array;
+      frozen = frozen;
+      read = λ mi i m insn target f at. by_class mi i m insn target f (GetsOnThis fi insn.op target f) at
+          (λ own. let k = each mi m at.in_program (sym own) in
+          reads_well p (tagged_by tags) mi m at.in_program k.t.frames (its_shapes mi m k) (tagging_of mi m k.t at.in_program k.its_tags) (laid_up mi m at.in_program) k.frames k.has fi field there array own k.none i insn target f at)
+          (λ never. other_reads m insn.op target f (target_named p (tagged_by tags) mi i m insn target f program at) never);
+      written = λ mi i m insn target f at. by_class mi i m insn target f (PutsGuarded fi m insn.op target f) at
+          (λ own. let k = each mi m at.in_program (sym own) in
+          writes_well p (tagged_by tags) mi m at.in_program k.t.frames (its_shapes mi m k) (tagging_of mi m k.t at.in_program k.its_tags) (laid_up mi m at.in_program) k.frames k.has fi field there array own k.none i insn target f at)
+          (λ never. other_writes m insn.op target f (target_named p (tagged_by tags) mi i m insn target f program at) never);
+      new = λ mi i m insn target f at. by_class mi i m insn target f (PutsNew fi m i insn.pc insn.op target) at
+          (λ own. let k = each mi m at.in_program (sym own) in
+          writes_new p (tagged_by tags) mi m at.in_program k.t.frames (its_shapes mi m k) (tagging_of mi m k.t at.in_program k.its_tags) (laid_up mi m at.in_program) k.frames k.has fi field there array own k.none i insn target f at)
+          (λ never. other_new m i insn.pc insn.op target (target_named p (tagged_by tags) mi i m insn target f program at) never);
+      used = λ mi m at own. let k = each mi m at own in
+          used_well p (tagged_by tags) mi m at k.t.frames (its_shapes mi m k) (tagging_of mi m k.t at k.its_tags) (laid_up mi m at) k.frames k.has fi field there array (sym own) k.none;
+    }
+
   module _ (frozen : List Bool) (frozen_are : AreFrozenClasses p (tagged_by tags) frozen) (outs : List Bool) (reads : List (List Colour))
       (all : AreKept p tags (owning_before p frozen (length p.fields)) (length p.methods) outs reads) where
     abbrev pub owning : List Bool
@@ -109,55 +171,9 @@ module _ (p : Program) (tags : List Tags) (program : IsProgram p) (are : AreTagg
       none_other : (mi : ℕ) (m : MethodInfo) (k : IsKept p tags owning outs reads mi m) (i : ℕ) → OtherAt p m k.t.frames (branched_flags m) k.frames fi i → ⊥
       none_other mi m k i x = true≢false (sym (k.puts fi (slice_get_within p.fields fi field there) (i, slice_get_within m.code i x.insn x.is_insn, x)) ∙ left)
 
-      -- what holds of the instructions of its class holds of all, where an instruction that uses the field stands there
-      by_class : (mi i : ℕ) (m : MethodInfo) (insn : Insn) (target : Target) (f : TagShape) (P : Type 0) → IsAt p (tagged_by tags) mi i m insn target f → (field.class ≡ m.class → P) → ((field.class ≡ m.class → ⊥) → P) → P
-      by_class mi i m insn target f P at own other = by_test (field.class == m.class) refl
-        where
-          by_test : (t : Bool) → (field.class == m.class) ≡ t → P
-          by_test true e = own (eqb-true field.class m.class e)
-          by_test false e = other (λ same. true≢false (sym (eq-eqb field.class m.class same) ∙ e))
-
-      private : IsArrayField field
-      private = array_parts p fi field there array
-
-      other_reads : (m : MethodInfo) (op : Op) (target : Target) (f : TagShape) → IsTargetOf p (site_in m) op target → (field.class ≡ m.class → ⊥) → GetsOnThis fi op target f
-      other_reads m (ops.Getfield n) (targets.Field x) f named never = λ (e : x ≡ fi). absurd (never (reads_own p fi field m (ops.Getfield n) (targets.Field x) there private.private named (eq-eqb x fi e)))
-      other_reads m op target f named never = tt
-
-      other_writes : (m : MethodInfo) (op : Op) (target : Target) (f : TagShape) → IsTargetOf p (site_in m) op target → (field.class ≡ m.class → ⊥) → PutsGuarded fi m op target f
-      other_writes m (ops.Putfield n) (targets.Field x) f named never = λ (e : x ≡ fi). absurd (never (writes_own p fi field m n x there private.private named e))
-      other_writes m op target f named never = tt
-
-      other_new : (m : MethodInfo) (i pc : ℕ) (op : Op) (target : Target) → IsTargetOf p (site_in m) op target → (field.class ≡ m.class → ⊥) → PutsNew fi m i pc op target
-      other_new m i pc (ops.Putfield n) (targets.Field x) named never = λ (e : x ≡ fi). absurd (never (writes_own p fi field m n x there private.private named e))
-      other_new m i pc op target named never = tt
-
-      its_shapes : (mi : ℕ) (m : MethodInfo) (k : IsKept p tags owning outs reads mi m) → slice_get (tagged_by tags) mi ≡ Some k.t.frames
-      its_shapes mi m k = frames_there p tags program mi k.t k.its_tags
-
       left_owned : IsOwnedArrayField p (tagged_by tags) fi
-      left_owned = record {
-        field = field;
-        is = there;
-        private = private.private;
-        instance = private.instance;
-        array = private.array;
-        frozen = is_frozen p tags program frozen frozen_are fi field there flagged;
-        read = λ mi i m insn target f at. by_class mi i m insn target f (GetsOnThis fi insn.op target f) at
-            (λ own. let k = checked_method fi mi field m there may at.in_program (sym own) in
-            reads_well p (tagged_by tags) mi m at.in_program k.t.frames (its_shapes mi m k) (tagging_of mi m k.t at.in_program k.its_tags) (laid_up mi m at.in_program) k.frames k.has fi field there array own (none_other mi m k) i insn target f at)
-            (λ never. other_reads m insn.op target f (target_named p (tagged_by tags) mi i m insn target f program at) never);
-        written = λ mi i m insn target f at. by_class mi i m insn target f (PutsGuarded fi m insn.op target f) at
-            (λ own. let k = checked_method fi mi field m there may at.in_program (sym own) in
-            writes_well p (tagged_by tags) mi m at.in_program k.t.frames (its_shapes mi m k) (tagging_of mi m k.t at.in_program k.its_tags) (laid_up mi m at.in_program) k.frames k.has fi field there array own (none_other mi m k) i insn target f at)
-            (λ never. other_writes m insn.op target f (target_named p (tagged_by tags) mi i m insn target f program at) never);
-        new = λ mi i m insn target f at. by_class mi i m insn target f (PutsNew fi m i insn.pc insn.op target) at
-            (λ own. let k = checked_method fi mi field m there may at.in_program (sym own) in
-            writes_new p (tagged_by tags) mi m at.in_program k.t.frames (its_shapes mi m k) (tagging_of mi m k.t at.in_program k.its_tags) (laid_up mi m at.in_program) k.frames k.has fi field there array own (none_other mi m k) i insn target f at)
-            (λ never. other_new m i insn.pc insn.op target (target_named p (tagged_by tags) mi i m insn target f program at) never);
-        used = λ mi m at own. let k = checked_method fi mi field m there may at own in
-            used_well p (tagged_by tags) mi m at k.t.frames (its_shapes mi m k) (tagging_of mi m k.t at k.its_tags) (laid_up mi m at) k.frames k.has fi field there array (sym own) (none_other mi m k);
-      }
+      left_owned = owned_if_left fi field there array (is_frozen p tags program frozen frozen_are fi field there flagged)
+          (λ mi m at own. let k = checked_method fi mi field m there may at own in record { t = k.t; its_tags = k.its_tags; frames = k.frames; has = k.has; none = none_other mi m k })
         where
           flagged : class_flag frozen field.class ≡ true
           flagged = (and_parts (is_array_field p fi) (class_flag frozen field.class) (subst (λ (o : Option FieldInfo). may_own p frozen fi o ≡ true) there may)).1

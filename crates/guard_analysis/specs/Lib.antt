@@ -1,3 +1,4 @@
+pub mod ArrayFaults
 pub mod BlockWalks
 pub mod CallGraph
 pub mod Faults

@@ -174,7 +174,7 @@ fn compare_caught(
 }
 
 /// The same of all edges of an instruction that finds these colours.
-fn compare_edges(
+pub fn compare_edges(
     alloc: Global,
     p: &Program,
     m: &HandledMethod<'_>,
@@ -255,7 +255,7 @@ fn check_store(outs: &mut Rows<bool>, m: &MethodInfo, tags: &TagFrame, stack: &S
     }
 }
 
-fn check_use(
+pub fn check_use(
     p: &Program,
     outs: &mut Rows<bool>,
     m: &MethodInfo,
@@ -312,7 +312,7 @@ fn check_taken(outs: &mut Rows<bool>, op: &Op, place: usize, stack: &Stack<Colou
     }
 }
 
-fn check_takes(outs: &mut Rows<bool>, op: &Op, count: usize, stack: &Stack<Colour>)
+pub fn check_takes(outs: &mut Rows<bool>, op: &Op, count: usize, stack: &Stack<Colour>)
     ensures { outs.new ≡ taken_before outs.old op.now stack.now count }
 {
     for place in 0..count {
@@ -458,7 +458,7 @@ pub fn branched_to(alloc: Global, m: &HandledMethod<'_>) -> Result<Rows<bool>, A
 
 // The elements that are read.
 
-fn read_colour(insn: Option<&Insn>, frame: Option<&Option<Stack<Colour>>>) -> Colour
+pub fn read_colour(insn: Option<&Insn>, frame: Option<&Option<Stack<Colour>>>) -> Colour
     ensures { result ≡ read_colour (option_copied insn.entry)
         (option_copied frame.entry) }
 {

@@ -1,6 +1,7 @@
 //! Marks of synchronized sections: which of them may run without their lock.
 #![tactic(auto)]
 
+pub mod array_faults;
 mod array_uses;
 pub mod block_walk;
 pub mod call_graph;

@@ -27,7 +27,7 @@ use jvm_types::{MethodInfo, Program, Rows, Stack};
 use std::alloc::{AllocError, Global};
 
 /// The colours before each instruction of a method.
-fn colour_frames(
+pub fn colour_frames(
     alloc: Global,
     p: &Program,
     m: &MethodInfo,
