@@ -171,7 +171,7 @@ Kept.asks(LKept;)I block 3 M6
 Kept.asksItself()I method M0
 Kept.readsHanded()I method M5
   Kept.readsHanded()I at 5 iaload M5: it reads what the section's lock is not known to guard
-    it is an element of an array that is not known to be the section's own
+    Kept.handsOut()[I at 4 areturn takes an array of the field for more than its elements and its length
 Kept.readsGiven()I method M5
   Kept.readsGiven()I at 1 getfield M5: it reads what the section's lock is not known to guard
     Kept.takes([I)V at 2 putfield writes the field, not known to be under the lock that guards it
@@ -180,10 +180,10 @@ Kept.readsHeld()I method M5
     it is an element of an array that is not known to be the section's own
 Kept.readsLoose()I method M5
   Kept.readsLoose()I at 5 iaload M5: it reads what the section's lock is not known to guard
-    it is an element of an array that is not known to be the section's own
+    Kept.writesLoose()V at 6 iastore writes an element, not known to be under the lock that guards it
 Kept.readsOne(Z)I method M5
   Kept.readsOne(Z)I at 16 iaload M5: it reads what the section's lock is not known to guard
-    it is an element of an array that is not known to be the section's own
+    Kept.readsOne(Z)I at 12 getfield leads to where one path brings an array of the field and another does not
 """
 # The last sections of Marks where `onKey` returns before its block.
 UNREACHED = """\

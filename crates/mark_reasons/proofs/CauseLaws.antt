@@ -8,6 +8,7 @@ use Rattle.checked_program.specs.Marks.{Callee, BreaksAt, call_fault, enter_faul
 use Rattle.checked_program.specs.{OwnedArrays.{reads_owned, AreUses}, TaggedCode.{Tagged, IsAt, tagged_by}, declared.section.{FieldUse.{FieldUse, TheVariants.{Frozen, Guarded, Open}}, Mode.Mode}}
 use Rattle.checked_program.{specs.declared.{section.Uses.Uses, tag.{Tag.{Tag, TheVariants.Untagged}, Tags.Tags}}, proofs.NamedFields.target_named}
 use Rattle.guard_analysis.{specs.FieldUses.{unguarded_at, unguarded_write}, proofs.{CallEdges.{frames_there, with_tags}, FieldUseLaws.{PutsWell, guarded_if, guarded_not, write_parts}}}
+use Rattle.mark_reasons.specs.ArrayCauses.{KeepsElement}
 use Rattle.mark_reasons.specs.Causes.{is_number, place_read, site_place, writes_at, Bars, IsCause, IsFirstWrite, IsFirstWriteOf, IsMutable, IsWriteFound, KeepsPlace, KeepsField, KeepsStatic, WritesUnguarded}
 use Rattle.mark_reasons.specs.{Firsts.IsFirst, declared.cause.{Cause.Cause, Place.Place}}
 use Rattle.jvm_types.specs.declared.code.Op.TheVariants as ops
@@ -143,6 +144,7 @@ module _ (p : Program) (tags : Tagged) (fi : ℕ) (field : FieldInfo) (there : s
   pub write_bars : (cause : Cause) → IsMutable p tags field → is_private field.flags ≡ true → IsWriteFound p tags fi (Some cause) → Bars p tags fi cause
   write_bars (causes.Write mi at) mutable private h = (field, there, (mutable, private, h))
   write_bars causes.Element mutable private h = absurd h
+  write_bars (causes.Misused misuse mi at) mutable private h = absurd h
   write_bars causes.Static mutable private h = absurd h
   write_bars causes.Shared mutable private h = absurd h
   write_bars causes.Other mutable private h = absurd h
@@ -251,14 +253,14 @@ module _ (p : Program) (tags : Tagged) (uses : Uses) (a : Callee) (i : ℕ) (b :
   place_is : site_place (slice_get p.methods a.method) i ≡ place_read b.insn.op b.target
   place_is = rw (b.at.in_program, b.at.in_code, b.at.names) refl
 
-  cause_by : (place : Option Place) (cause : Cause) → site_place (slice_get p.methods a.method) i ≡ place → KeepsPlace p tags a.mode b.f.stack place cause → IsCause p tags a i cause
-  cause_by place cause e k = record { m = b.m; insn = b.insn; target = b.target; f = b.f; at = b.at; keeps = subst (λ (o : Option Place). KeepsPlace p tags a.mode b.f.stack o cause) (sym e ∙ place_is) k }
+  cause_by : (place : Option Place) (cause : Cause) → site_place (slice_get p.methods a.method) i ≡ place → KeepsPlace p tags a.mode b.m i b.f.stack place cause → IsCause p tags a i cause
+  cause_by place cause e k = record { m = b.m; insn = b.insn; target = b.target; f = b.f; at = b.at; keeps = subst (λ (o : Option Place). KeepsPlace p tags a.mode b.m i b.f.stack o cause) (sym e ∙ place_is) k }
 
   pub some_place : site_place (slice_get p.methods a.method) i ≡ None → ⊥
   some_place e = reads p uses.fields a.mode b.insn.op b.target b.f.stack (reads_owned uses a.method i) b.fault_is (sym place_is ∙ e)
 
-  pub element_cause : site_place (slice_get p.methods a.method) i ≡ Some places.Element → IsCause p tags a i causes.Element
-  element_cause e = cause_by (Some places.Element) causes.Element e refl
+  pub element_cause : site_place (slice_get p.methods a.method) i ≡ Some places.Element → (cause : Cause) → ((m : MethodInfo) → slice_get p.methods a.method ≡ Some m → KeepsElement p tags a.mode m i cause) → IsCause p tags a i cause
+  element_cause e cause h = cause_by (Some places.Element) cause e (h b.m b.at.in_program)
 
   module _ (fi : ℕ) (e : site_place (slice_get p.methods a.method) i ≡ Some (places.Static fi)) where
     pub static_there : IsProgram p → fi < length p.fields

@@ -9,3 +9,4 @@ pub mod BackLaws
 pub mod MarkParts
 pub mod ExplainLaws
 pub mod TellingLaws
+pub mod ArrayCauseLaws

@@ -20,6 +20,7 @@ use Rattle.checked_program.specs.declared.tag.Tags.{Tags}
 use Rattle.checked_program.specs.declared.section.Mode.{Mode}
 use Rattle.frozen_classes.specs.FrozenClasses.{IsFirstOut}
 use Rattle.guard_analysis.specs.FieldUses.{unguarded_at}
+use Rattle.mark_reasons.specs.ArrayCauses.{KeepsElement}
 use Rattle.mark_reasons.specs.Firsts.{IsFirst}
 use Rattle.mark_reasons.specs.declared.cause.Cause.{Cause}
 use Rattle.mark_reasons.specs.declared.cause.Cause.TheVariants as causes
@@ -101,13 +102,14 @@ KeepsStatic p tags fi own causes.Static = own ≡ false
 KeepsStatic p tags fi own cause = (own ≡ true) × Bars p tags fi cause
 
 -- in a method that is called so, with these tags of its stack
-abbrev pub KeepsPlace : Program → Tagged → Mode → List Tag → Option Place → Cause → Type 0
-KeepsPlace p tags mode stack (Some places.Element) cause = cause ≡ causes.Element
-KeepsPlace p tags mode stack (Some (places.Static fi)) cause =
+abbrev pub KeepsPlace : Program → Tagged → Mode → MethodInfo → (i : ℕ) → List Tag → Option Place
+    → Cause → Type 0
+KeepsPlace p tags mode m i stack (Some places.Element) cause = KeepsElement p tags mode m i cause
+KeepsPlace p tags mode m i stack (Some (places.Static fi)) cause =
     KeepsStatic p tags fi (is_own_class mode (class_of_field (slice_get p.fields fi))) cause
-KeepsPlace p tags mode stack (Some (places.Field fi)) cause =
+KeepsPlace p tags mode m i stack (Some (places.Field fi)) cause =
     KeepsField p tags fi (is_own_object mode (slice_index_or stack 0 Untagged)) cause
-KeepsPlace p tags mode stack None cause = ⊥
+KeepsPlace p tags mode m i stack None cause = ⊥
 
 -- what the instruction i of a method reads is kept from being read by this
 pub record IsCause (p : Program) (tags : Tagged) (a : Callee) (i : ℕ) (cause : Cause) : Type 0 where
@@ -116,7 +118,7 @@ pub record IsCause (p : Program) (tags : Tagged) (a : Callee) (i : ℕ) (cause :
   pub target : Target
   pub f : TagShape
   pub at : IsAt p tags a.method i m insn target f
-  pub keeps : KeepsPlace p tags a.mode f.stack (place_read insn.op target) cause
+  pub keeps : KeepsPlace p tags a.mode m i f.stack (place_read insn.op target) cause
 
 -- ---- how it is found
 

@@ -1,3 +1,4 @@
+pub mod ArrayCauses
 pub mod Firsts
 pub mod Causes
 pub mod Reasons

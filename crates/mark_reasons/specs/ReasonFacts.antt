@@ -18,6 +18,8 @@ use Rattle.tellings.specs.declared.facts.Fact.{Fact}
 use Rattle.tellings.specs.declared.facts.Fact.TheVariants.{Words, Text, Count, Opens, Lists, Item}
 use Rattle.tellings.specs.declared.facts.Fact.TheVariants.{Closes, Ends}
 use Rattle.tellings.specs.declared.keys.Key.TheVariants as keys
+use Rattle.guard_analysis.specs.declared.array_faults.Misuse.{Misuse}
+use Rattle.guard_analysis.specs.declared.array_faults.Misuse.TheVariants as misuses
 use Rattle.mark_reasons.specs.SharedWays.{shared_calls}
 use Rattle.mark_reasons.specs.declared.cause.Cause.{Cause}
 use Rattle.mark_reasons.specs.declared.cause.Cause.TheVariants as causes
@@ -117,9 +119,33 @@ fault_facts p sources x rule =
     item_facts (site_facts p sources x.method x.at)
     (codes " " ++ mark_name rule ++ codes ": " ++ rule_words rule)
 
+-- what counts against the field of an array
+abbrev pub misuse_kind : Misuse → List ℕ
+misuse_kind misuses.Read = codes "array_read"
+misuse_kind misuses.Written = codes "array_written"
+misuse_kind misuses.NotNew = codes "array_not_new"
+misuse_kind misuses.Stored = codes "element_written"
+misuse_kind misuses.Taken = codes "array_taken"
+misuse_kind misuses.Meets = codes "array_meets"
+
+abbrev pub misuse_words : Misuse → List ℕ
+misuse_words misuses.Read =
+    codes " reads the array's field of an object that is not known to be this"
+misuse_words misuses.Written =
+    codes " writes the array's field, not known to be under the lock that guards it"
+misuse_words misuses.NotNew =
+    codes " stores in the array's field what is not known to be a new array"
+misuse_words misuses.Stored =
+    codes " writes an element, not known to be under the lock that guards it"
+misuse_words misuses.Taken =
+    codes " takes an array of the field for more than its elements and its length"
+misuse_words misuses.Meets =
+    codes " leads to where one path brings an array of the field and another does not"
+
 -- what keeps the place of M5 from being read
 abbrev pub cause_kind : Cause → List ℕ
 cause_kind causes.Element = codes "element"
+cause_kind (causes.Misused misuse method at) = misuse_kind misuse
 cause_kind causes.Static = codes "static"
 cause_kind causes.Shared = codes "shared"
 cause_kind causes.Other = codes "other"
@@ -130,7 +156,9 @@ abbrev pub cause_place : Program → Sources → Cause → List Fact
 cause_place p sources causes.Element =
     Words (codes
     "\n    it is an element of an array that is not known to be the section's own") ∷ []
-cause_place p sources causes.Static =
+cause_place p sources (causes.Misused misuse method at) =
+    Opens keys.Array ∷ site_facts p method at ++ Closes ∷ Words (misuse_words misuse) ∷ []
+cause_place p causes.Static =
     Words (codes "\n    it is a static field, and the section is not on its class") ∷ []
 cause_place p sources causes.Shared = Words (codes "\n    the field is not private") ∷ []
 cause_place p sources causes.Other =

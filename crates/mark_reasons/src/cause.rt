@@ -10,15 +10,19 @@ ghost use Rattle.checked_program.specs.MarkedProgram.{AreTaggings};
 ghost use Rattle.checked_program.specs.Marks.{class_of_field, is_own_class, use_fault, BreaksAt};
 ghost use Rattle.checked_program.specs.TaggedCode.{tagged_by};
 ghost use Rattle.checked_program.specs.declared.section.FieldUse.TheVariants.{Open as open_use};
+ghost use Rattle.mark_reasons.specs.ArrayCauses.{KeepsElement};
 ghost use Rattle.mark_reasons.specs.Causes.{is_number, place_at, place_read, site_place, writes_at};
 ghost use Rattle.mark_reasons.specs.Causes.{Bars, IsCause, IsFirstWriteOf, IsMutable, IsWriteFound};
 ghost use Rattle.mark_reasons.specs.Causes.{KeepsField, KeepsStatic};
 ghost use Rattle.mark_reasons.specs.Reasons.{callee_of};
 ghost use Rattle.mark_reasons.specs.Firsts.{IsFirst};
+ghost use Rattle.mark_reasons.specs.declared.cause.Place.TheVariants.{Element as element};
 
+use crate::array_causes::element_cause;
 use crate::reason::Site;
 use checked_program::{FieldUse, Mode, Tags, Uses};
 use frozen_classes::first_out;
+use guard_analysis::array_faults::Misuse;
 use guard_analysis::calls::is_own_class;
 use guard_analysis::faults::{class_of_field, use_of};
 use guard_analysis::field_uses::unguarded_at;
@@ -31,6 +35,13 @@ use std::alloc::{AllocError, Global};
 pub enum Cause {
     /// It is an element of an array that is not known to be the section's own.
     Element,
+    /// It is an element of an array that was read from a field of the section's object, and an
+    /// instruction of a method counts against that field as one whose arrays never leave it.
+    Misused {
+        misuse: Misuse,
+        method: u32,
+        at: usize,
+    },
     /// It is a static field of another class than the section's.
     Static,
     /// The field is neither private nor final.
@@ -41,7 +52,10 @@ pub enum Cause {
     Constructor(u32),
     /// An instruction of a method writes the field on another object than `this` or in another
     /// class, or without its lock.
-    Write { method: u32, at: usize },
+    Write {
+        method: u32,
+        at: usize,
+    },
 }
 
 /// A place that an instruction reads and that others may write.
@@ -255,6 +269,30 @@ fn static_cause(
     }
 }
 
+/// What keeps an element from being read that an instruction reads which breaks M5.
+fn site_element(
+    alloc: Global,
+    p: &Program,
+    uses: &Uses,
+    tags: &Rows<Tags>,
+    site: Site,
+) -> Result<Cause, AllocError>
+    requires program { IsProgram p.now }
+    requires few { length p.now.methods ≤ most }
+    requires tagged { AreTaggings p.now p.now.methods tags.now }
+    requires uses { AreUses p.now (tagged_by tags.now) uses.now }
+    requires breaks { BreaksAt p.now (tagged_by tags.now) uses.now (callee_of site) site.at 5 }
+    requires read { site_place (slice_get p.now.methods site.method) site.at ≡ Some element }
+    ensures { IfOk result (λ cause. (m : MethodInfo)
+        → slice_get p.now.methods site.method ≡ Some m
+        → KeepsElement p.now (tagged_by tags.now) site.mode m site.at cause) }
+{
+    match p.methods.get(site.method as usize) {
+        Some(m) => element_cause(alloc, p, tags, site, m),
+        None => unreachable!(),
+    }
+}
+
 /// What keeps a place from being read, which an instruction reads that breaks M5.
 fn place_cause(
     alloc: Global,
@@ -273,7 +311,7 @@ fn place_cause(
     ensures { IfOk result (IsCause p.now (tagged_by tags.now) (callee_of site) site.at) }
 {
     match place {
-        Place::Element => Ok(Cause::Element),
+        Place::Element => site_element(alloc, p, uses, tags, site),
         Place::Static(field) => static_cause(alloc, p, uses, tags, site.mode, field),
         Place::Field(field) => field_cause(alloc, p, uses, tags, field),
     }

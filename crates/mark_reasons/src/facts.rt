@@ -8,6 +8,8 @@ ghost use Rattle.mark_reasons.specs.ReasonFacts.{again_facts, begun_facts, call_
 ghost use Rattle.mark_reasons.specs.ReasonFacts.{cause_facts, cause_kind as the_kind, cause_place};
 ghost use Rattle.mark_reasons.specs.ReasonFacts.{fault_facts, site_insn_facts, marked_facts};
 ghost use Rattle.mark_reasons.specs.ReasonFacts.{mark_name as the_mark_name};
+ghost use Rattle.mark_reasons.specs.ReasonFacts.{misuse_kind as the_misuse_kind};
+ghost use Rattle.mark_reasons.specs.ReasonFacts.{misuse_words as the_misuse_words};
 ghost use Rattle.mark_reasons.specs.ReasonFacts.{numbered as the_numbered, reason_facts};
 ghost use Rattle.mark_reasons.specs.ReasonFacts.{rule_words as the_rule_words, section_facts};
 ghost use Rattle.mark_reasons.specs.ReasonFacts.{shared_facts, site_facts, some_reason_facts};
@@ -22,6 +24,7 @@ use crate::cause::Cause;
 use crate::reason::{Reason, Site};
 use crate::shared::{LastWay, shared_calls};
 use checked_program::{SectionMark, Spot};
+use guard_analysis::array_faults::Misuse;
 use jvm_types::{Bytes, Insn, MethodInfo, Program, Rows};
 use place_names::{add_method, add_pc, add_source};
 use run_texts::write_class;
@@ -320,11 +323,43 @@ fn add_fault(
     close(facts, alloc, words.as_bytes())
 }
 
+fn misuse_kind(misuse: Misuse) -> &'static [u8]
+    ensures { result.now ≡ the_misuse_kind misuse }
+{
+    match misuse {
+        Misuse::Read => b"array_read",
+        Misuse::Written => b"array_written",
+        Misuse::NotNew => b"array_not_new",
+        Misuse::Stored => b"element_written",
+        Misuse::Taken => b"array_taken",
+        Misuse::Meets => b"array_meets",
+    }
+}
+
+/// What an instruction does that counts against the field of an array.
+fn misuse_words(misuse: Misuse) -> &'static [u8]
+    ensures { result.now ≡ the_misuse_words misuse }
+{
+    match misuse {
+        Misuse::Read => b" reads the array's field of an object that is not known to be this",
+        Misuse::Written => {
+            b" writes the array's field, not known to be under the lock that guards it"
+        }
+        Misuse::NotNew => b" stores in the array's field what is not known to be a new array",
+        Misuse::Stored => b" writes an element, not known to be under the lock that guards it",
+        Misuse::Taken => b" takes an array of the field for more than its elements and its length",
+        Misuse::Meets => {
+            b" leads to where one path brings an array of the field and another does not"
+        }
+    }
+}
+
 fn cause_kind(cause: Cause) -> &'static [u8]
     ensures { result.now ≡ the_kind cause }
 {
     match cause {
         Cause::Element => b"element",
+        Cause::Misused { misuse, .. } => misuse_kind(misuse),
         Cause::Static => b"static",
         Cause::Shared => b"shared",
         Cause::Other => b"other",
@@ -368,6 +403,22 @@ fn add_write(
     )
 }
 
+fn add_misuse(
+    facts: &mut Rows<Fact>,
+    alloc: Global,
+    p: &Program,
+    misuse: Misuse,
+    method: u32,
+    at: usize,
+) -> Result<(), AllocError>
+    ensures { OnOk result
+        (facts.new ≡ facts.old ++ cause_place p.now (Cause.Misused misuse method at)) }
+{
+    facts.push(Fact::Opens(Key::Array))?;
+    add_site(facts, alloc, p, method, at)?;
+    close(facts, alloc, misuse_words(misuse))
+}
+
 fn add_cause_place(
     facts: &mut Rows<Fact>,
     alloc: Global,
@@ -383,6 +434,7 @@ fn add_cause_place(
             alloc,
             b"\n    it is an element of an array that is not known to be the section's own",
         ),
+        Cause::Misused { misuse, method, at } => add_misuse(facts, alloc, p, misuse, method, at),
         Cause::Static => add_words(
             facts,
             alloc,

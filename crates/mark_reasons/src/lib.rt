@@ -2,6 +2,7 @@
 //! calls that lead there.
 #![tactic(auto)]
 
+pub mod array_causes;
 pub mod cause;
 pub mod explain;
 pub mod facts;

@@ -4,7 +4,7 @@ use Rattle.mark_reasons.{specs.{Reasons.callee_of, declared.cause.Place.Place}, 
 use Rattle.mark_reasons.proofs.cause.place_cause.Goals as goal
 
 pub returns-in-Element : goal.returns-in-Element
-returns-in-Element c = element_cause c.args.p.now (tagged_by c.args.tags.now) c.args.uses.now (callee_of c.args.site) c.args.site.at c.requires.breaks (c.requires.read ∙ ap (λ (x : Place). Some x) c.in-Element.is)
+returns-in-Element c = IfOk-weaker c.site_element.result _ _ (λ cause h. element_cause c.args.p.now (tagged_by c.args.tags.now) c.args.uses.now (callee_of c.args.site) c.args.site.at c.requires.breaks (c.requires.read ∙ ap (λ (x : Place). Some x) c.in-Element.is) cause h) c.site_element.ensures
 
 pub static_cause-requires-clause-there : goal.static_cause-requires-clause-there
 static_cause-requires-clause-there c = static_there c.args.p.now (tagged_by c.args.tags.now) c.args.uses.now (callee_of c.args.site) c.args.site.at c.requires.breaks c.in-Static.field (c.requires.read ∙ ap (λ (x : Place). Some x) c.in-Static.is) c.requires.program
