@@ -1,5 +1,6 @@
 -- What is said of a refusal: the names are those of its place in the class that the file spells.
-use Rattle.std.specs.Prelude.{◌≡◌, ℕ, bytes_eq, Bool, ◌&&◌, List, [], ◌∷◌, ◌++◌, drop, map, codes}
+use Rattle.std.specs.Prelude.{◌≡◌, ℕ, ◌==◌, bytes_eq, Bool, ◌&&◌, List, [], ◌∷◌, ◌++◌, drop, map}
+use Rattle.std.specs.Prelude.{codes}
 use Rattle.std.specs.Prelude.{slice_get, Option, Some, None, if◌then◌else◌}
 use Rattle.std.specs.List.{AllZip}
 use Rattle.std.specs.Option.{option_and_then, unwrap_or}
@@ -15,16 +16,18 @@ use Rattle.jvm_types.specs.declared.refusal.LRule.TheVariants.{L1, L4}
 use Rattle.jvm_types.specs.declared.refusal.Rule.{Rule}
 use Rattle.jvm_types.specs.declared.refusal.Rule.TheVariants as rules
 use Rattle.jvm_types.specs.declared.refusal.Place.{Place}
-use Rattle.refusal_places.specs.Facts.{told_text}
+use Rattle.jvm_types.specs.declared.refusal.TheConstants.{NO_METHOD}
+use Rattle.run_texts.specs.Refusal.{refusal_words, rule_text}
+use Rattle.tellings.specs.Forms.{told_in}
 use Rattle.refusal_places.specs.Naming.{class_facts}
 use Rattle.refusal_places.specs.OtherCodes.{opcode_mend}
 use Rattle.refusal_places.specs.Roots.{wrong_root_from}
 use Rattle.refusal_places.specs.Sentences.{instead, means}
 use Rattle.refusal_places.specs.Spots.{spot}
 use Rattle.refusal_places.specs.declared.explaining.Told.{Told}
-use Rattle.refusal_places.specs.declared.facts.Fact.{Fact}
-use Rattle.refusal_places.specs.declared.facts.Fact.TheVariants.{Said, Counted}
-use Rattle.refusal_places.specs.declared.facts.Key.TheVariants as keys
+use Rattle.tellings.specs.declared.facts.Fact.{Fact}
+use Rattle.tellings.specs.declared.facts.Fact.TheVariants.{Words, Text, Count}
+use Rattle.tellings.specs.declared.keys.Key.TheVariants as keys
 use Rattle.refusal_places.specs.declared.roots.Root.{Root}
 use Rattle.refusal_places.specs.declared.spots.Spot.{Spot}
 use Rattle.refusal_places.specs.declared.spots.Spot.TheVariants.{Offset, Method, Instruction, Use}
@@ -61,7 +64,7 @@ told_of rule place found = record { file = place.file; spot = spot rule place }
 
 -- of a file that spells no class there is the offset alone
 abbrev pub offset_facts : Spot → List Fact
-offset_facts (Offset at) = Counted keys.Offset at ∷ []
+offset_facts (Offset at) = Count keys.Offset at ∷ []
 offset_facts s = []
 
 abbrev pub found_facts : (names : List (List ℕ)) → Option ClassFile → Spot → List Fact
@@ -100,12 +103,23 @@ instead_in rule s found = instead rule
 
 -- ---- the whole
 
+-- the line of the refusal; an object has its rule and the numbers of its place
+unfoldable pub method_number_facts : ℕ → List Fact
+method_number_facts method =
+    if method == NO_METHOD then [] else Count keys.MethodNumber method ∷ []
+
+abbrev pub refusal_facts : Rule → Place → List Fact
+refusal_facts rule place =
+    Words (refusal_words rule place) ∷ Text keys.Rule (rule_text rule)
+    ∷ Count keys.FileNumber place.file
+    ∷ method_number_facts place.method ++ Count keys.At place.at ∷ []
+
 -- a file by its name and what there is told of, the rule in a sentence, and what to write instead
 abbrev pub told_facts : Rule → (name : List ℕ) → (names : List (List ℕ)) → Option ClassFile → Spot
     → List Fact
 told_facts rule name names class s =
-    Said keys.File name ∷ found_facts names class s ++ Said keys.Means (means rule)
-    ∷ Said keys.Instead (instead_in rule s class) ∷ []
+    Text keys.File name ∷ found_facts names class s ++ Text keys.Means (means rule)
+    ∷ Text keys.Instead (instead_in rule s class) ∷ []
 
 abbrev pub facts_of : Rule → (files : List (List ℕ)) → List (Option ClassFile) → Told → List Fact
 facts_of rule files found told =
@@ -119,4 +133,5 @@ pub record Explains (form : Form) (rule : Rule) (place : Place) (files : List (L
   pub found : List (Option ClassFile)
   pub are : AllZip IsClassSpelled contents found
   pub told : text
-      ≡ told_text form rule place (facts_of rule files found (told_of rule place found))
+      ≡ told_in form (codes "refusal")
+      (refusal_facts rule place ++ facts_of rule files found (told_of rule place found))

@@ -1,4 +1,3 @@
-pub mod Facts
 pub mod Sentences
 pub mod Spots
 pub mod OtherCodes

@@ -17,9 +17,9 @@ use Rattle.source_lines.specs.SourceLines.{first_index, latest_among, source_nam
 use Rattle.source_lines.specs.declared.line_starts.LineStart.{LineStart}
 use Rattle.mnemonics.specs.Mnemonics.{mnemonic}
 use Rattle.refusal_places.specs.OtherCodes.{other_name}
-use Rattle.refusal_places.specs.declared.facts.Fact.{Fact}
-use Rattle.refusal_places.specs.declared.facts.Fact.TheVariants.{Said, Counted}
-use Rattle.refusal_places.specs.declared.facts.Key.TheVariants as keys
+use Rattle.tellings.specs.declared.facts.Fact.{Fact}
+use Rattle.tellings.specs.declared.facts.Fact.TheVariants.{Text, Count}
+use Rattle.tellings.specs.declared.keys.Key.TheVariants as keys
 use Rattle.refusal_places.specs.declared.spots.Spot.{Spot}
 use Rattle.refusal_places.specs.declared.spots.Spot.TheVariants.{Offset, Whole, Field, Method, Row}
 use Rattle.refusal_places.specs.declared.spots.Spot.TheVariants.{Instruction, Use}
@@ -55,7 +55,7 @@ constant_words pool (constants.NameAndType name descriptor) =
 
 abbrev pub constant_facts : List Constant → Option Constant → List Fact
 constant_facts pool None = []
-constant_facts pool (Some entry) = Said keys.Constant (constant_words pool entry) ∷ []
+constant_facts pool (Some entry) = Text keys.Constant (constant_words pool entry) ∷ []
 
 -- ---- instructions
 
@@ -89,7 +89,7 @@ pool_entry_at pool (Some i) = slice_get pool i
 unfoldable pub instruction_facts : List Constant → List ℕ → List Fact
 instruction_facts pool [] = []
 instruction_facts pool (opcode ∷ rest) =
-    Said keys.Instruction
+    Text keys.InstructionOf
     (words_or_opcode opcode (option_or (mnemonic opcode) (other_name opcode)))
     ∷ constant_facts pool (pool_entry_at pool (index_in opcode rest))
 
@@ -97,18 +97,18 @@ instruction_facts pool (opcode ∷ rest) =
 
 abbrev pub line_facts : Option LineStart → List Fact
 line_facts None = []
-line_facts (Some start) = Counted keys.Line start.line ∷ []
+line_facts (Some start) = Count keys.Line start.line ∷ []
 
 -- a pc: the instruction there, and the line of the source that it comes from
 abbrev pub pc_facts : List Constant → ℕ → Code → List Fact
 pc_facts pool pc code =
-    Counted keys.Pc pc ∷ instruction_facts pool (drop pc code.bytes)
+    Count keys.PcOf pc ∷ instruction_facts pool (drop pc code.bytes)
     ++ line_facts (latest_among pool pc None code.attrs)
 
 -- the class that a handler row catches, where it doesn't catch all
 abbrev pub catch_facts : List Constant → Handler → List Fact
 catch_facts pool row =
-    if row.catch_type == 0 then [] else Said keys.Catch (class_text_at pool row.catch_type) ∷ []
+    if row.catch_type == 0 then [] else Text keys.Catch (class_text_at pool row.catch_type) ∷ []
 
 -- a handler row begins at a pc, and its class is none of a program whose classes have these names
 abbrev pub catches_unknown : List (List ℕ) → List Constant → ℕ → Handler → Bool
@@ -119,20 +119,20 @@ catches_unknown names pool pc row =
 -- the class of the first such row
 abbrev pub unknown_facts : List Constant → Option Handler → List Fact
 unknown_facts pool None = []
-unknown_facts pool (Some row) = Said keys.Catch (class_text_at pool row.catch_type) ∷ []
+unknown_facts pool (Some row) = Text keys.Catch (class_text_at pool row.catch_type) ∷ []
 
 -- a handler row: its number, the pcs from which and to which it covers, and that of its handler
 abbrev pub row_facts : List Constant → ℕ → Option Handler → List Fact
 row_facts pool number None = []
 row_facts pool number (Some row) =
-    Counted keys.Row number ∷ Counted keys.From row.start ∷ Counted keys.To row.end
-    ∷ Counted keys.Handler row.handler ∷ catch_facts pool row
+    Count keys.RowOf number ∷ Count keys.From row.start ∷ Count keys.To row.end
+    ∷ Count keys.Handler row.handler ∷ catch_facts pool row
 
 abbrev pub method_fact : List Constant → Member → Fact
-method_fact pool m = Said keys.Method (text_at pool m.name ++ text_at pool m.descriptor)
+method_fact pool m = Text keys.MethodOf (text_at pool m.name ++ text_at pool m.descriptor)
 
 abbrev pub field_fact : List Constant → Member → Fact
-field_fact pool m = Said keys.Field (text_at pool m.name ++ codes " " ++ text_at pool m.descriptor)
+field_fact pool m = Text keys.FieldOf (text_at pool m.name ++ codes " " ++ text_at pool m.descriptor)
 
 -- ---- what a place is of, where the class has it
 
@@ -171,7 +171,7 @@ at_use names pool pc (Some m) = method_fact pool m ∷ use_facts names pool pc m
 
 -- in a program whose classes have these names
 abbrev pub spot_facts : List (List ℕ) → ClassFile → Spot → List Fact
-spot_facts names c (Offset at) = Counted keys.Offset at ∷ []
+spot_facts names c (Offset at) = Count keys.Offset at ∷ []
 spot_facts names c Whole = []
 spot_facts names c (Field number) = at_field c.constants (slice_get c.fields number)
 spot_facts names c (Method method) = at_method c.constants (slice_get c.methods method)
@@ -182,10 +182,10 @@ spot_facts names c (Use method pc) = at_use names c.constants pc (slice_get c.me
 
 abbrev pub source_facts : Option (List ℕ) → List Fact
 source_facts None = []
-source_facts (Some name) = Said keys.Source name ∷ []
+source_facts (Some name) = Text keys.Source name ∷ []
 
 -- the class, the name of its source where it has that, and what the place is of
 abbrev pub class_facts : List (List ℕ) → ClassFile → Spot → List Fact
 class_facts names c s =
-    Said keys.Class (class_name c) ∷ source_facts (source_name c.constants c.attrs)
+    Text keys.ClassOf (class_name c) ∷ source_facts (source_name c.constants c.attrs)
     ++ spot_facts names c s

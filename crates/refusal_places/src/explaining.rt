@@ -1,7 +1,7 @@
 //! What is said of a refusal.
 
-ghost use Rattle.std.specs.Prelude.{◌≡◌, ◌++◌, ◌≤◌, bytes_eq, length, map, slice_get, string_bytes};
-ghost use Rattle.std.specs.Prelude.{[], IfErr, IfOk, OnOk};
+ghost use Rattle.std.specs.Prelude.{◌≡◌, ◌++◌, ◌∷◌, ◌≤◌, bytes_eq, length, map, slice_get};
+ghost use Rattle.std.specs.Prelude.{string_bytes, [], IfErr, IfOk, OnOk};
 ghost use Rattle.std.specs.List.{AllZip};
 ghost use Rattle.std.specs.Option.{option_copied, unwrap_or};
 ghost use Rattle.descriptors.specs.NameTables.{names_in};
@@ -12,23 +12,26 @@ ghost use Rattle.refusal_places.specs.Explained.{main_mend as the_main_mend};
 ghost use Rattle.refusal_places.specs.Explained.{mend_in as the_mend_in, mend_of as the_mend_of};
 ghost use Rattle.refusal_places.specs.Explained.{offset_facts, spelled_name as the_name};
 ghost use Rattle.refusal_places.specs.Explained.{spelled_names, told_facts};
+ghost use Rattle.refusal_places.specs.Explained.{method_number_facts, refusal_facts};
 ghost use Rattle.refusal_places.specs.Explained.{told_of as the_told_of};
 ghost use Rattle.refusal_places.specs.Explained.{told_root as the_told_root};
+ghost use Rattle.run_texts.specs.Refusal.{refusal_words};
+ghost use Rattle.tellings.specs.declared.facts.Fact.TheVariants.{Words as the_words};
 
-use crate::facts::{Fact, Key};
-use crate::naming::{behind, code_bytes, count, say, tell_class};
+use crate::naming::{behind, code_bytes, tell_class};
 use crate::other_codes::opcode_mend;
 use crate::roots::{Root, is_text, wrong_root};
 use crate::sentences::{instead, means};
 use crate::spots::{Spot, spot_of};
-use crate::telling::told;
 use class_reader::{ReadError, read_class};
 use constant_pools::pool_texts::{class_name, text_at};
 use descriptors::ClassNumbers;
 use json_lines::Form;
 use jvm_types::limits::MOST_FILES;
-use jvm_types::{Bytes, ClassFile, Constant, KRule, LRule, Member, Place, Rows, Rule};
+use jvm_types::{Bytes, ClassFile, Constant, KRule, LRule, Member, NO_METHOD, Place, Rows, Rule};
+use run_texts::{RefusalText, rule_name};
 use std::alloc::{AllocError, Global};
+use tellings::{Fact, Key, add_count, add_text, write_told};
 
 /// What a refusal is told of: a file by its number, and what in its class.
 #[derive(Clone, Copy, Debug, PartialEq, Eq)]
@@ -119,7 +122,7 @@ fn tell_offset(facts: &mut Rows<Fact>, spot: Spot) -> Result<(), AllocError>
     ensures { OnOk result (facts.new ≡ facts.old ++ offset_facts spot) }
 {
     match spot {
-        Spot::Offset(at) => count(facts, Key::Offset, at),
+        Spot::Offset(at) => add_count(facts, Key::Offset, u64::from(at)),
         _ => Ok(()),
     }
 }
@@ -191,24 +194,66 @@ fn instead_in(rule: Rule, spot: Spot, class: Option<&ClassFile>) -> &'static str
     }
 }
 
+#[tactic(auto, unfolding(crate::specs::Explained::method_number_facts))]
+fn tell_method_number(facts: &mut Rows<Fact>, method: u16) -> Result<(), AllocError>
+    ensures { OnOk result (facts.new ≡ facts.old ++ method_number_facts method) }
+{
+    if method == NO_METHOD {
+        Ok(())
+    } else {
+        add_count(facts, Key::MethodNumber, u64::from(method))
+    }
+}
+
+// The words of the line of a refusal.
+fn tell_words(
+    facts: &mut Rows<Fact>,
+    alloc: Global,
+    rule: Rule,
+    place: Place,
+) -> Result<(), AllocError>
+    ensures { OnOk result (facts.new ≡ facts.old ++ the_words (refusal_words rule place) ∷ []) }
+{
+    let refusal = RefusalText(rule, place);
+    let mut words = String::new(alloc);
+    write!(words, "{refusal}")?;
+    facts.push(Fact::Words(Bytes::from_slice(alloc, words.as_bytes())?))
+}
+
+// The line of a refusal, its rule, and the numbers of its place.
+fn tell_refusal(
+    facts: &mut Rows<Fact>,
+    alloc: Global,
+    rule: Rule,
+    place: Place,
+) -> Result<(), AllocError>
+    ensures { OnOk result (facts.new ≡ facts.old ++ refusal_facts rule place) }
+{
+    tell_words(facts, alloc, rule, place)?;
+    let name = rule_name(alloc, rule)?;
+    add_text(facts, alloc, Key::Rule, name.as_slice())?;
+    add_count(facts, Key::FileNumber, u64::from(place.file))?;
+    tell_method_number(facts, place.method)?;
+    add_count(facts, Key::At, u64::from(place.at))
+}
+
 fn tell_all(
+    facts: &mut Rows<Fact>,
     alloc: Global,
     rule: Rule,
     name: &[u8],
     names: &ClassNumbers<'_>,
     class: Option<&ClassFile>,
     spot: Spot,
-) -> Result<Rows<Fact>, AllocError>
-    ensures { IfOk result (λ facts.
-        facts ≡ told_facts rule name.now names.now (option_copied class.entry) spot) }
+) -> Result<(), AllocError>
+    ensures { OnOk result (facts.new
+        ≡ facts.old ++ told_facts rule name.now names.now (option_copied class.entry) spot) }
 {
-    let mut facts = Rows::new(alloc);
-    say(&mut facts, alloc, Key::File, name)?;
-    tell_found(&mut facts, alloc, names, class, spot)?;
-    say(&mut facts, alloc, Key::Means, means(rule).as_bytes())?;
+    add_text(facts, alloc, Key::File, name)?;
+    tell_found(facts, alloc, names, class, spot)?;
+    add_text(facts, alloc, Key::Means, means(rule).as_bytes())?;
     let mend = instead_in(rule, spot, class);
-    say(&mut facts, alloc, Key::Instead, mend.as_bytes())?;
-    Ok(facts)
+    add_text(facts, alloc, Key::Instead, mend.as_bytes())
 }
 
 // The name of the file of a number.
@@ -222,20 +267,22 @@ fn file_name(files: &[String], file: usize) -> &[u8]
     }
 }
 
-fn facts_of_told(
+fn tell_told(
+    facts: &mut Rows<Fact>,
     alloc: Global,
     rule: Rule,
     files: &[String],
     classes: &[Option<ClassFile>],
     told: Told,
-) -> Result<Rows<Fact>, AllocError>
+) -> Result<(), AllocError>
     requires { length classes.now ≤ MOST_FILES }
-    ensures { IfOk result (λ facts. facts
-        ≡ facts_of rule (map (λ word. string_bytes word) files.now) classes.now told) }
+    ensures { OnOk result (facts.new ≡ facts.old
+        ++ facts_of rule (map (λ word. string_bytes word) files.now) classes.now told) }
 {
     let names = ClassNumbers::of(alloc, spelled_names_of(alloc, classes)?)?;
     let name = file_name(files, told.file);
     tell_all(
+        facts,
         alloc,
         rule,
         name,
@@ -265,6 +312,10 @@ pub fn explained_refusal(
 {
     let classes = classes_in(alloc, contents)?;
     let what = told_of(rule, place, classes.as_slice());
-    let facts = facts_of_told(alloc, rule, files, classes.as_slice(), what)?;
-    told(alloc, form, rule, place, &facts)
+    let mut facts = Rows::new(alloc);
+    tell_refusal(&mut facts, alloc, rule, place)?;
+    tell_told(&mut facts, alloc, rule, files, classes.as_slice(), what)?;
+    let mut out = Vec::new(alloc);
+    write_told(&mut out, alloc, form, "refusal", facts.as_slice())?;
+    Ok(Bytes::from_vec(out))
 }

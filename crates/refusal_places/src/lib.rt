@@ -2,13 +2,10 @@
 #![tactic(auto)]
 
 pub mod explaining;
-pub mod facts;
 pub mod naming;
 pub mod other_codes;
 pub mod roots;
 pub mod sentences;
 pub mod spots;
-pub mod telling;
 
 pub use explaining::explained_refusal;
-pub use facts::{Fact, Key};

@@ -21,34 +21,18 @@ ghost use Rattle.refusal_places.specs.Naming.{has_index as has_the_index, index_
 ghost use Rattle.refusal_places.specs.Naming.{instruction_facts, line_facts, member_words};
 ghost use Rattle.refusal_places.specs.Naming.{method_fact, pair_words, pc_facts, row_facts};
 ghost use Rattle.refusal_places.specs.Naming.{source_facts, spot_facts, words_or_opcode};
-ghost use Rattle.refusal_places.specs.declared.facts.Fact.TheVariants.{Said};
-ghost use Rattle.refusal_places.specs.declared.facts.Fact.TheVariants.{Counted as CountedFact};
+ghost use Rattle.tellings.specs.declared.facts.Fact.TheVariants.{Text};
 
-use crate::facts::{Fact, Key};
 use crate::other_codes::other_name;
 use crate::spots::Spot;
 use constant_pools::pool_texts::{class_name, class_text_at, text_at};
 use descriptors::{ClassNumbers, method_signature};
 use jvm_types::code_attribute::code_of;
-use jvm_types::{Attr, Bytes, ClassFile, Constant, Handler, Member, MemberAttr, Rows};
+use jvm_types::{Attr, ClassFile, Constant, Handler, Member, MemberAttr, Rows};
 use mnemonics::mnemonic;
 use source_lines::{LineStart, first_index, line_start, source_name};
 use std::alloc::{AllocError, Global};
-
-/// Adds a fact that is a text.
-pub fn say(facts: &mut Rows<Fact>, alloc: Global, key: Key, text: &[u8]) -> Result<(), AllocError>
-    ensures { OnOk result (facts.new ≡ facts.old ++ Said key text.now ∷ []) }
-{
-    let text = Bytes::from_slice(alloc, text)?;
-    facts.push(Fact::Said(key, text))
-}
-
-/// Adds a fact that is a number.
-pub fn count(facts: &mut Rows<Fact>, key: Key, number: u32) -> Result<(), AllocError>
-    ensures { OnOk result (facts.new ≡ facts.old ++ CountedFact key number ∷ []) }
-{
-    facts.push(Fact::Counted(key, number))
-}
+use tellings::{Fact, Key, add_count, add_text};
 
 // Name and descriptor, with a text between them.
 fn write_pair(
@@ -149,7 +133,7 @@ fn tell_constant(
     };
     let mut words = Vec::new(alloc);
     write_constant(&mut words, alloc, pool, entry)?;
-    say(facts, alloc, Key::Constant, words.as_slice())
+    add_text(facts, alloc, Key::Constant, words.as_slice())
 }
 
 // Whether the two bytes behind an opcode are an index.
@@ -207,15 +191,15 @@ fn tell_opcode(
     name: Option<&str>,
 ) -> Result<(), AllocError>
     ensures { OnOk result (facts.new ≡ facts.old
-        ++ Said Key.Instruction (words_or_opcode opcode (option_copied name.entry))
+        ++ Text Key.InstructionOf (words_or_opcode opcode (option_copied name.entry))
         ∷ []) }
 {
     match name {
-        Some(name) => say(facts, alloc, Key::Instruction, name.as_bytes()),
+        Some(name) => add_text(facts, alloc, Key::InstructionOf, name.as_bytes()),
         None => {
             let mut words = String::new(alloc);
             write!(words, "opcode {opcode}")?;
-            say(facts, alloc, Key::Instruction, words.as_bytes())
+            add_text(facts, alloc, Key::InstructionOf, words.as_bytes())
         }
     }
 }
@@ -241,7 +225,7 @@ fn tell_line(facts: &mut Rows<Fact>, start: Option<LineStart>) -> Result<(), All
     ensures { OnOk result (facts.new ≡ facts.old ++ line_facts start) }
 {
     match start {
-        Some(start) => count(facts, Key::Line, u32::from(start.line)),
+        Some(start) => add_count(facts, Key::Line, u64::from(start.line)),
         None => Ok(()),
     }
 }
@@ -296,7 +280,7 @@ fn tell_pc(
 ) -> Result<(), AllocError>
     ensures { OnOk result (facts.new ≡ facts.old ++ pc_facts pool.now pc (the_code_of attrs.now)) }
 {
-    count(facts, Key::Pc, pc)?;
+    add_count(facts, Key::PcOf, u64::from(pc))?;
     tell_instruction(facts, alloc, pool, behind(pc, code_bytes(attrs)))?;
     tell_line(facts, line_start(pool, pc, code_attrs(attrs)))
 }
@@ -313,7 +297,7 @@ fn tell_catch(
     if row.catch_type == 0 {
         return Ok(());
     }
-    say(
+    add_text(
         facts,
         alloc,
         Key::Catch,
@@ -364,7 +348,7 @@ fn tell_unknown(
         (facts.new ≡ facts.old ++ unknown_facts pool.now (option_copied row.entry)) }
 {
     match row {
-        Some(row) => say(
+        Some(row) => add_text(
             facts,
             alloc,
             Key::Catch,
@@ -387,10 +371,10 @@ fn tell_row(
     let Some(row) = row else {
         return Ok(());
     };
-    count(facts, Key::Row, number)?;
-    count(facts, Key::From, u32::from(row.start))?;
-    count(facts, Key::To, u32::from(row.end))?;
-    count(facts, Key::Handler, u32::from(row.handler))?;
+    add_count(facts, Key::RowOf, u64::from(number))?;
+    add_count(facts, Key::From, u64::from(row.start))?;
+    add_count(facts, Key::To, u64::from(row.end))?;
+    add_count(facts, Key::Handler, u64::from(row.handler))?;
     tell_catch(facts, alloc, pool, row)
 }
 
@@ -404,7 +388,7 @@ fn tell_method(
 {
     let mut words = Vec::new(alloc);
     write_name_and_type(&mut words, pool, b"", method.name, method.descriptor)?;
-    say(facts, alloc, Key::Method, words.as_slice())
+    add_text(facts, alloc, Key::MethodOf, words.as_slice())
 }
 
 fn tell_field(
@@ -417,7 +401,7 @@ fn tell_field(
 {
     let mut words = Vec::new(alloc);
     write_name_and_type(&mut words, pool, b" ", field.name, field.descriptor)?;
-    say(facts, alloc, Key::Field, words.as_slice())
+    add_text(facts, alloc, Key::FieldOf, words.as_slice())
 }
 
 fn tell_at_row(
@@ -517,7 +501,7 @@ fn tell_spot(
 {
     let pool = &class.constants;
     match spot {
-        Spot::Offset(at) => count(facts, Key::Offset, at),
+        Spot::Offset(at) => add_count(facts, Key::Offset, u64::from(at)),
         Spot::Whole => Ok(()),
         Spot::Field(number) => match class.fields.get(number as usize) {
             Some(field) => tell_field(facts, alloc, pool, field),
@@ -547,7 +531,7 @@ fn tell_source(facts: &mut Rows<Fact>, alloc: Global, name: Option<&[u8]>) -> Re
         (facts.new ≡ facts.old ++ source_facts (option_map (λ s. s.now) name.entry)) }
 {
     match name {
-        Some(name) => say(facts, alloc, Key::Source, name),
+        Some(name) => add_text(facts, alloc, Key::Source, name),
         None => Ok(()),
     }
 }
@@ -563,7 +547,7 @@ pub fn tell_class(
 ) -> Result<(), AllocError>
     ensures { OnOk result (facts.new ≡ facts.old ++ class_facts classes.now class.now spot) }
 {
-    say(facts, alloc, Key::Class, class_name(class))?;
+    add_text(facts, alloc, Key::ClassOf, class_name(class))?;
     let source = source_name(&class.constants, class.attrs.as_slice());
     tell_source(facts, alloc, source)?;
     tell_spot(facts, alloc, classes, class, spot)
