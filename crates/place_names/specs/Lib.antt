@@ -1,4 +1,2 @@
 pub mod Opcodes
-pub mod PlaceText
-pub mod PlaceJson
 pub mod PlaceFacts

@@ -4,11 +4,11 @@ use Rattle.std.specs.Prelude.{ℕ, List, [], ◌∷◌, ◌++◌, Option, Some, 
 use Rattle.jvm_types.specs.declared.code.Insn.{Insn}
 use Rattle.jvm_types.specs.declared.program.MethodInfo.{MethodInfo}
 use Rattle.jvm_types.specs.declared.program.Program.{Program}
+use Rattle.code_table.specs.PcTables.{number_at}
 use Rattle.source_lines.specs.Sources.{line_at, source_at}
 use Rattle.source_lines.specs.declared.sources.Sources.{Sources}
 use Rattle.run_texts.specs.MarksText.{class_text}
 use Rattle.place_names.specs.Opcodes.{op_name}
-use Rattle.place_names.specs.PlaceText.{insn_at}
 use Rattle.tellings.specs.declared.facts.Fact.{Fact}
 use Rattle.tellings.specs.declared.facts.Fact.TheVariants.{Count, Text}
 use Rattle.tellings.specs.declared.keys.Key.TheVariants as keys
@@ -25,6 +25,15 @@ insn_facts (Some insn) = Text keys.Instruction (op_name insn.op) ∷ []
 
 abbrev pub pc_insn_facts : (pc : ℕ) → Option Insn → List Fact
 pc_insn_facts pc insn = Count keys.Pc pc ∷ insn_facts insn
+
+-- the instruction at a pc, by its number
+abbrev pub insn_of_number : MethodInfo → Option ℕ → Option Insn
+insn_of_number m None = None
+insn_of_number m (Some i) = slice_get m.code i
+
+abbrev pub insn_at : Option MethodInfo → ℕ → Option Insn
+insn_at None pc = None
+insn_at (Some m) pc = insn_of_number m (number_at m.code pc)
 
 -- the file of the source, and the line there, where the class has them (JVMS 4.7.7, 4.7.8)
 abbrev pub source_line_facts : (file : Option (List ℕ)) → (line : Option ℕ) → List Fact

@@ -2,14 +2,13 @@
 
 ghost use Rattle.std.specs.Prelude.{◌≡◌, ◌++◌, ◌∷◌, [], Some, option_map, slice_get, OnOk};
 ghost use Rattle.std.specs.Option.{option_copied};
-ghost use Rattle.place_names.specs.PlaceFacts.{insn_facts, method_facts, pc_insn_facts};
+ghost use Rattle.place_names.specs.PlaceFacts.{insn_at, insn_facts, method_facts, pc_insn_facts};
 ghost use Rattle.place_names.specs.PlaceFacts.{place_facts, source_facts_at, source_line_facts};
 ghost use Rattle.run_texts.specs.MarksText.{class_text};
 ghost use Rattle.tellings.specs.declared.facts.Fact.TheVariants.{Text as TextFact};
 ghost use Rattle.tellings.specs.declared.keys.Key.TheVariants.{Class, Method};
 
 use crate::opcodes::op_name;
-use crate::places::insn_at;
 use checked_program::Checked;
 use jvm_types::{Insn, MethodInfo, Program, Rows};
 use run_texts::write_class;
@@ -123,6 +122,19 @@ pub fn add_source(
     ensures { OnOk result (facts.new ≡ facts.old ++ source_facts_at sources.now method pc) }
 {
     add_source_line(facts, alloc, sources.file(method), sources.line(method, pc))
+}
+
+/// The instruction at a pc of the method of that number, where one begins there.
+fn insn_at(c: &Checked, method: u32, pc: u32) -> Option<&Insn>
+    ensures { option_copied result ≡ insn_at (slice_get c.now.program.methods method) pc }
+{
+    match c.program().methods.get(method as usize) {
+        Some(m) => match c.number_at(method, pc) {
+            Some(i) => m.code.get(i),
+            None => None,
+        },
+        None => None,
+    }
 }
 
 /// Adds the method of that number, a pc of it and the instruction that begins there, without a
