@@ -157,8 +157,8 @@ cause_place p sources causes.Element =
     Words (codes
     "\n    it is an element of an array that is not known to be the section's own") ∷ []
 cause_place p sources (causes.Misused misuse method at) =
-    Opens keys.Array ∷ site_facts p method at ++ Closes ∷ Words (misuse_words misuse) ∷ []
-cause_place p causes.Static =
+    Opens keys.Array ∷ site_facts p sources method at ++ Closes ∷ Words (misuse_words misuse) ∷ []
+cause_place p sources causes.Static =
     Words (codes "\n    it is a static field, and the section is not on its class") ∷ []
 cause_place p sources causes.Shared = Words (codes "\n    the field is not private") ∷ []
 cause_place p sources causes.Other =

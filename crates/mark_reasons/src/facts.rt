@@ -407,15 +407,16 @@ fn add_misuse(
     facts: &mut Rows<Fact>,
     alloc: Global,
     p: &Program,
+    sources: &Sources,
     misuse: Misuse,
     method: u32,
     at: usize,
 ) -> Result<(), AllocError>
     ensures { OnOk result
-        (facts.new ≡ facts.old ++ cause_place p.now (Cause.Misused misuse method at)) }
+        (facts.new ≡ facts.old ++ cause_place p.now sources.now (Cause.Misused misuse method at)) }
 {
     facts.push(Fact::Opens(Key::Array))?;
-    add_site(facts, alloc, p, method, at)?;
+    add_site(facts, alloc, p, sources, method, at)?;
     close(facts, alloc, misuse_words(misuse))
 }
 
@@ -434,7 +435,9 @@ fn add_cause_place(
             alloc,
             b"\n    it is an element of an array that is not known to be the section's own",
         ),
-        Cause::Misused { misuse, method, at } => add_misuse(facts, alloc, p, misuse, method, at),
+        Cause::Misused { misuse, method, at } => {
+            add_misuse(facts, alloc, p, sources, misuse, method, at)
+        }
         Cause::Static => add_words(
             facts,
             alloc,
