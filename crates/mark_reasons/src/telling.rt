@@ -178,9 +178,9 @@ fn find_known(alloc: Global, p: &Program, tags: &Rows<Tags>) -> Result<Known, Al
 }
 
 /// Writes the marks of a program with their reasons, section by section as they are found: for each
-/// its line as `run_texts::mark_text` has it, with where it begins in the source, and where the mark
-/// isn't M0 below it why, as `section_told` has it; or as JSON one object on a line, made of the
-/// same.
+/// its line as `run_texts::mark_text` has it, with where it begins in the source, and below that
+/// where the mark isn't M0 why, as `section_told` has it; or as JSON one object on a line, made of
+/// the same.
 ///
 /// It answers `Failed` where the sink fails, and `Memory` where there is no memory. The memory that
 /// it takes does not grow with the text.
