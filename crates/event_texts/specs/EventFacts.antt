@@ -19,6 +19,9 @@ use Rattle.machine_types.specs.declared.plain.Act.TheVariants.{Do, Enter, Exit}
 use Rattle.place_names.specs.PlaceFacts.{place_facts}
 use Rattle.place_names.specs.declared.names.Names.{Names}
 use Rattle.run_texts.specs.Report.{end_text}
+use Rattle.checked_program.specs.MarkedProgram.{MarkedProgram}
+use Rattle.event_texts.specs.DeedFacts.{deed_facts, share_steps}
+use Rattle.event_texts.specs.EntryFacts.{begin_facts, entry_facts}
 use Rattle.event_texts.specs.Holders.{holder}
 use Rattle.event_texts.specs.PhaseFacts.{phase_facts}
 use Rattle.event_texts.specs.Shares.{Share, Steps, Owes, Section, act_text}
@@ -123,9 +126,17 @@ share_facts (Section n) =
 
 -- ---- the whole
 
-abbrev pub event_facts : Program → Names → (number : ℕ) → Before → Share → After → List Fact
-event_facts p names number b share a =
-    head_facts p names.sources number b ++ access_facts p names.fields b a b.access
+-- what it does besides: a print or a notification, an entry, a begin
+abbrev pub more_facts : MarkedProgram → Before → Share → After → List Fact
+more_facts c b share a =
+    deed_facts c.program b.effect (share_steps share) ++ entry_facts c.marks b.phase b.spot
+    ++ begin_facts c.program b.phase a.spot
+
+abbrev pub event_facts : MarkedProgram → Names → (number : ℕ) → Before → Share
+    → After → List Fact
+event_facts c names number b share a =
+    head_facts c.program names.sources number b ++ more_facts c b share a
+    ++ access_facts c.program names.fields b a b.access
     ++ mark_facts b a ++ share_facts share
 
 -- where a part of a thread came to an end that is no return: the end, the event, and who held the

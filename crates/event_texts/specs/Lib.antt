@@ -9,5 +9,7 @@ pub mod ValueTexts
 pub mod Sights
 pub mod Acts
 pub mod Shares
+pub mod DeedFacts
+pub mod EntryFacts
 pub mod Holders
 pub mod EventFacts

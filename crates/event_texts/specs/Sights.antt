@@ -5,10 +5,14 @@ use Rattle.jvm_types.specs.declared.program.Program.{Program}
 use Rattle.machine_types.specs.declared.access.Access.{Access}
 use Rattle.machine_types.specs.declared.phase.Phase.{Phase}
 use Rattle.machine_types.specs.declared.phase.Phase.TheVariants as phases
+use Rattle.machine_types.specs.declared.effect.Effect.{Effect}
+use Rattle.machine_types.specs.declared.phase.Phase.{Phase}
+use Rattle.machine_types.specs.declared.phase.Phase.TheVariants as phases
 use Rattle.machine_types.specs.Frames.{top_of}
 use Rattle.machine_types.specs.Threads.{Frame, Thread, head_of}
 use Rattle.event_texts.specs.Doings.{doing_at}
 use Rattle.event_texts.specs.SharedWords.{shared_word_of}
+use Rattle.event_texts.specs.declared.doing.Doing.{Doing}
 use Rattle.event_texts.specs.declared.sights.Spot.{Spot}
 use Rattle.event_texts.specs.declared.sights.Before.{Before}
 use Rattle.event_texts.specs.declared.sights.After.{After}
@@ -26,6 +30,14 @@ own_spot phases.Run top last = top
 own_spot (phases.Throw x class) top last = top
 own_spot phase top last = last
 
+-- what its instruction does, where the event is one
+abbrev pub effect_of : Phase → Option Doing → Option Effect
+effect_of phases.Run doing = option_map (λ d. d.effect) doing
+effect_of phase doing = None
+
+abbrev pub next_doing_of : Program → Thread → Option Doing
+next_doing_of p s = option_map (doing_at p) (top_of p s.frames)
+
 abbrev pub before_of : Program → Thread → (last : Option Spot) → Option Access → (found : ℕ)
     → Before
 before_of p s last access found = record {
@@ -34,7 +46,8 @@ before_of p s last access found = record {
   spot = own_spot s.phase (spot_of s.frames) last;
   phase = s.phase;
   access = access;
-  word = shared_word_of s (option_map (doing_at p) (top_of p s.frames)) s.phase;
+  effect = effect_of s.phase (next_doing_of p s);
+  word = shared_word_of s (next_doing_of p s) s.phase;
   found = found;
   counts = s.counts;
 }
@@ -42,6 +55,7 @@ before_of p s last access found = record {
 abbrev pub after_event : Thread → (left : ℕ) → After
 after_event s left = record {
   attempt = option_map head_of s.attempt;
+  spot = spot_of s.frames;
   phase = s.phase;
   counts = s.counts;
   left = left;

@@ -5,7 +5,8 @@ ghost use Rattle.event_texts.specs.Acts.{listed};
 ghost use Rattle.event_texts.specs.EventFacts.{access_facts, accessed_facts, attempt_facts};
 ghost use Rattle.event_texts.specs.EventFacts.{end_facts, event_facts, head_facts};
 ghost use Rattle.event_texts.specs.EventFacts.{holder_facts, inside_facts, lock_facts};
-ghost use Rattle.event_texts.specs.EventFacts.{mark_facts, noted_facts, number_facts, share_facts};
+ghost use Rattle.event_texts.specs.EventFacts.{mark_facts, more_facts, noted_facts, number_facts};
+ghost use Rattle.event_texts.specs.EventFacts.{share_facts};
 ghost use Rattle.event_texts.specs.EventFacts.{event_end_in, event_spot_facts, owed_facts};
 ghost use Rattle.event_texts.specs.EventFacts.{plain_key, stand_facts, stop_facts};
 ghost use Rattle.event_texts.specs.EventFacts.{value_facts};
@@ -18,6 +19,8 @@ ghost use Rattle.tellings.specs.declared.facts.Fact.TheVariants.{Text as TextFac
 ghost use Rattle.tellings.specs.declared.facts.Fact.TheVariants.{Texts as TextsFact};
 
 use crate::acts::Acts;
+use crate::deeds::{add_deed, share_steps};
+use crate::entries::{add_begin, add_entry};
 use crate::phases::add_phase;
 use crate::share_texts::ActText;
 use crate::shares::Share;
@@ -343,6 +346,23 @@ fn add_share(facts: &mut Rows<Fact>, alloc: Global, share: &Share) -> Result<(),
 
 // ---- the whole
 
+/// Adds what an event does besides: a print or a notification, an entry, a begin.
+fn add_more(
+    facts: &mut Rows<Fact>,
+    alloc: Global,
+    c: &Checked,
+    before: &Before,
+    share: &Share,
+    after: &After,
+) -> Result<(), AllocError>
+    ensures { OnOk result
+        (facts.new ≡ facts.old ++ more_facts c.now before.now share.now after.now) }
+{
+    add_deed(facts, alloc, c, before.effect, share_steps(share))?;
+    add_entry(facts, alloc, c, before.phase, before.spot)?;
+    add_begin(facts, alloc, c.program(), before.phase, after.spot)
+}
+
 /// The facts of an event of a number: which it is, where its thread stands and what it does, the
 /// word that it accesses, what becomes of attempts, locks and the part, and what it stands for in
 /// the plain machine.
@@ -356,10 +376,11 @@ pub(crate) fn event_facts(
     after: &After,
 ) -> Result<Rows<Fact>, AllocError>
     ensures { IfOk result (λ facts. facts
-        ≡ event_facts c.now.program names.now number before.now share.now after.now) }
+        ≡ event_facts c.now names.now number before.now share.now after.now) }
 {
     let mut facts = Rows::new(alloc);
     add_head(&mut facts, alloc, c, &names.sources, number, before)?;
+    add_more(&mut facts, alloc, c, before, share, after)?;
     add_access(&mut facts, alloc, c, &names.fields, before, after)?;
     add_marks(&mut facts, alloc, before, after)?;
     add_share(&mut facts, alloc, share)?;
@@ -379,7 +400,7 @@ pub fn write_event(
     after: &After,
 ) -> Result<(), AllocError>
     ensures { OnOk result (text.new.items ≡ text.old.items ++ told_in form (codes "event")
-        (event_facts c.now.program names.now number before.now share.now after.now)) }
+        (event_facts c.now names.now number before.now share.now after.now)) }
 {
     let facts = event_facts(alloc, c, names, number, before, share, after)?;
     write_told(text, alloc, form, "event", facts.as_slice())

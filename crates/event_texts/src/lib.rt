@@ -4,7 +4,9 @@
 #![tactic(auto)]
 
 pub mod acts;
+pub mod deeds;
 pub mod doing;
+pub mod entries;
 pub mod event_facts;
 pub mod fates;
 pub mod headers;

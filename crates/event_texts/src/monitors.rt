@@ -12,7 +12,7 @@ use std::alloc::{AllocError, Global};
 use tellings::{Fact, Key, add_text};
 
 /// The file whose class a reference stands for.
-fn file_of_object(c: &Checked, m: u32) -> Option<usize>
+fn file_of_object(c: &Checked, m: u64) -> Option<usize>
     ensures file { result ≡ file_of_object c.now.program m }
     ensures few { IfSome result (λ file. file < MOST_FILES) }
 {
@@ -20,13 +20,13 @@ fn file_of_object(c: &Checked, m: u32) -> Option<usize>
     (0..files).find(
         |&file|
             requires { file < MOST_FILES }
-        { c.class_word(file as u16) == m },
+        { u64::from(c.class_word(file as u16)) == m },
     )
 }
 
 /// A monitor: that of a class by its name (JVMS 2.11.10), any other one by the number of its
 /// object.
-fn monitor_fact(alloc: Global, c: &Checked, m: u32) -> Result<Fact, AllocError>
+fn monitor_fact(alloc: Global, c: &Checked, m: u64) -> Result<Fact, AllocError>
     ensures { IfOk result (λ fact. fact ≡ monitor_fact c.now.program m) }
 {
     match file_of_object(c, m) {
@@ -35,7 +35,7 @@ fn monitor_fact(alloc: Global, c: &Checked, m: u32) -> Result<Fact, AllocError>
             write_class(&mut name, c.program(), file_class(file))?;
             Ok(Fact::Text(Key::MonitorClass, Bytes::from_vec(name)))
         }
-        None => Ok(Fact::Count(Key::Monitor, u64::from(m))),
+        None => Ok(Fact::Count(Key::Monitor, m)),
     }
 }
 
@@ -44,7 +44,7 @@ pub fn add_monitor(
     facts: &mut Rows<Fact>,
     alloc: Global,
     c: &Checked,
-    m: u32,
+    m: u64,
 ) -> Result<(), AllocError>
     ensures { OnOk result (facts.new ≡ facts.old ++ monitor_fact c.now.program m ∷ []) }
 {
@@ -59,7 +59,7 @@ pub fn add_on_monitor(
     key: Key,
     c: &Checked,
     words: &[u8],
-    m: u32,
+    m: u64,
 ) -> Result<(), AllocError>
     ensures { OnOk result (facts.new ≡ facts.old ++ on_monitor key words.now c.now.program m) }
 {

@@ -70,7 +70,7 @@ fn add_does(
 ) -> Result<(), AllocError>
     ensures { OnOk result (facts.new ≡ facts.old ++ does_to words.now c.now.program m) }
 {
-    add_on_monitor(facts, alloc, Key::Does, c, words, m)
+    add_on_monitor(facts, alloc, Key::Does, c, words, u64::from(m))
 }
 
 /// Adds that a lock is made fat.
@@ -79,7 +79,7 @@ fn add_fat_in(facts: &mut Rows<Fact>, alloc: Global, c: &Checked, m: u32) -> Res
         ∷ monitor_fact c.now.program m ∷ TextFact keys.LockMade (codes "fat") ∷ []) }
 {
     add_text(facts, alloc, Key::Does, b"makes the lock of")?;
-    add_monitor(facts, alloc, c, m)?;
+    add_monitor(facts, alloc, c, u64::from(m))?;
     add_text(facts, alloc, Key::LockMade, b"fat")
 }
 
@@ -96,7 +96,7 @@ fn add_notify_one(
 {
     add_text(facts, alloc, Key::Does, b"wakes")?;
     add_count(facts, Key::Woken, u64::from(thread))?;
-    add_monitor(facts, alloc, c, m)
+    add_monitor(facts, alloc, c, u64::from(m))
 }
 
 /// Adds what a thread of a phase does, and to which monitor; nothing where it is an instruction.

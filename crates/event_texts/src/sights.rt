@@ -2,14 +2,14 @@
 
 ghost use Rattle.std.specs.Prelude.{◌≡◌, ◌<◌, length};
 ghost use Rattle.frames.specs.FrameLists.{top};
-ghost use Rattle.event_texts.specs.Sights.{after_event, before_of, own_spot, spot_of};
+ghost use Rattle.event_texts.specs.Sights.{after_event, before_of, own_spot, effect_of, spot_of};
 
-use crate::doing::next_doing;
+use crate::doing::{Doing, next_doing};
 use crate::words::{SharedWord, word_of};
 use checked_program::Checked;
 use frames::ThreadState;
 use jvm_types::Counts;
-use machine_types::{Access, AttemptHead, Phase};
+use machine_types::{Access, AttemptHead, Effect, Phase};
 
 /// A place in the code of a program.
 #[derive(Clone, Copy, Debug, PartialEq, Eq)]
@@ -28,6 +28,8 @@ pub struct Before {
     /// Where its event is told.
     pub spot: Option<Spot>,
     pub phase: Phase,
+    /// What its instruction does, where the event is one.
+    pub effect: Option<Effect>,
     /// The access of the event, and its word.
     pub access: Option<Access>,
     pub word: SharedWord,
@@ -40,6 +42,7 @@ pub struct Before {
 #[derive(Clone, Copy, Debug, PartialEq, Eq)]
 pub struct After {
     pub attempt: Option<AttemptHead>,
+    pub spot: Option<Spot>,
     pub phase: Phase,
     pub counts: Counts,
     /// What the event left in its word.
@@ -71,6 +74,16 @@ fn own_spot(s: &ThreadState, last: Option<Spot>) -> Option<Spot>
     }
 }
 
+/// What its instruction does, where the event is one.
+fn effect_of(phase: Phase, doing: Option<Doing>) -> Option<Effect>
+    ensures { result ≡ effect_of phase doing }
+{
+    match (phase, doing) {
+        (Phase::Run, Some(d)) => Some(d.effect),
+        _ => None,
+    }
+}
+
 /// A thread before its event, which made its last instruction there. The event makes this access
 /// and finds this. It is told where its instruction stands, also where it is a further event of an
 /// instruction behind which the thread stands already.
@@ -83,13 +96,15 @@ pub fn see_before(
 ) -> Before
     ensures { result ≡ before_of p.now.program s.now last access found }
 {
+    let doing = next_doing(s, p);
     Before {
         thread: s.number(),
         attempt: s.attempt(),
         spot: own_spot(s, last),
         phase: s.phase(),
+        effect: effect_of(s.phase(), doing),
         access,
-        word: word_of(s, next_doing(s, p)),
+        word: word_of(s, doing),
         found,
         counts: s.counts(),
     }
@@ -101,6 +116,7 @@ pub fn see_after(s: &ThreadState, left: u64) -> After
 {
     After {
         attempt: s.attempt(),
+        spot: top_spot(s),
         phase: s.phase(),
         counts: s.counts(),
         left,

@@ -95,7 +95,7 @@ fn add_record(
 {
     add_text(facts, alloc, Key::Word, kind)?;
     add_count(facts, Key::RecordOf, u64::from(number))?;
-    add_monitor(facts, alloc, c, m)
+    add_monitor(facts, alloc, c, u64::from(m))
 }
 
 /// The words of one that is told by them alone.
@@ -137,7 +137,9 @@ pub fn add_word(
             add_declared(facts, alloc, b"static field", c.program(), number)?;
             add_field_name(facts, alloc, names, number)
         }
-        SharedWord::Lock(m) => add_on_monitor(facts, alloc, Key::WordOf, c, b"lock word", m),
+        SharedWord::Lock(m) => {
+            add_on_monitor(facts, alloc, Key::WordOf, c, b"lock word", u64::from(m))
+        }
         SharedWord::Owner(m, record) => add_record(facts, alloc, b"owner", c, m, record),
         SharedWord::Waiting(m, record) => add_record(facts, alloc, b"waiting bits", c, m, record),
         SharedWord::Header(object) => {

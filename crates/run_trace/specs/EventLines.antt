@@ -71,7 +71,7 @@ abbrev pub line_between : MarkedProgram → Form → Names → (number : ℕ)
     → (words : List ℕ) → Option Seen → Option Thread → List ℕ
 line_between c form names number words (Some seen) (Some y) =
     told_in form (codes "event")
-    (event_facts c.program names number seen.before seen.share
+    (event_facts c names number seen.before seen.share
     (after_event y (found_by words seen.before.access)))
 line_between c form names number words seen y = []
 

@@ -63,6 +63,10 @@ key_row keys.ArrayObject = shown_row (codes "object") (codes "[I@") (codes "")
 key_row keys.Index = shown_row (codes "index") (codes "[") (codes "]")
 key_row keys.HeaderOf = shown_row (codes "object") (codes " of ") (codes "")
 key_row keys.RecordOf = shown_row (codes "record") (codes " of record ") (codes " for")
+-- what an instruction prints, the section of an entry, the method of a begin
+key_row keys.Prints = shown_row (codes "prints") (codes ", prints ") (codes "")
+key_row keys.Section = shown_row (codes "section") (codes ", section ") (codes "")
+key_row keys.BeginsMethod = shown_row (codes "begins") (codes "") (codes "")
 -- what becomes of attempts, locks and the part
 key_row keys.AttemptBegins =
     shown_row (codes "attempt_begins") (codes ", attempt ") (codes " begins by Free(")

@@ -40,6 +40,10 @@ pub enum Key {
     Index,
     HeaderOf,
     RecordOf,
+    // what an instruction prints, the section of an entry, the method of a begin
+    Prints,
+    Section,
+    BeginsMethod,
     // what becomes of attempts, locks and the part
     AttemptBegins,
     AttemptFails,
@@ -173,6 +177,9 @@ impl Key {
             Key::Index => shown("index", "[", "]"),
             Key::HeaderOf => shown("object", " of ", ""),
             Key::RecordOf => shown("record", " of record ", " for"),
+            Key::Prints => shown("prints", ", prints ", ""),
+            Key::Section => shown("section", ", section ", ""),
+            Key::BeginsMethod => shown("begins", "", ""),
             Key::AttemptBegins => shown("attempt_begins", ", attempt ", " begins by Free("),
             Key::AttemptFails => shown("attempt_fails", ", attempt ", " fails: not Free("),
             Key::AttemptFinishes => shown("attempt_finishes", ", attempt ", " finishes"),
