@@ -197,43 +197,43 @@ Marks.printsOnKey()I block 6 M8
 TORN = """\
 23 thread 1 Q.sum()I at 3 monitorenter
 24 thread 1 Q.sum()I at 3 monitorenter, enters 2071, section block 3 M0, lock word of 2071 Free(0), attempt 1 begins by Free(0), plain: none
-25 thread 1 in attempt 1 Q.sum()I at 4 aload, 1 owed
+25 thread 1 in attempt 1 Q.sum()I at 4 aload, top @2071, 1 owed
 26 thread 1 in attempt 1 Q.sum()I at 5 getfield, Q@2071.a 0, 2 owed
-27 thread 1 in attempt 1 Q.sum()I at 8 aload, 3 owed
+27 thread 1 in attempt 1 Q.sum()I at 8 aload, top @2071, 3 owed
 28 thread 2, begins its next method Q.run(I)V, plain: begin
-29 thread 2 Q.run(I)V at 0 iload
-30 thread 2 Q.run(I)V at 1 iconst_1
+29 thread 2 Q.run(I)V at 0 iload, top 2
+30 thread 2 Q.run(I)V at 1 iconst_1, top 1
 31 thread 2 Q.run(I)V at 2 if_icmpne
 32 thread 2 Q.run(I)V at 18 getstatic, Q.p @2071
-33 thread 2 Q.run(I)V at 21 iconst_4
+33 thread 2 Q.run(I)V at 21 iconst_4, top 4
 34 thread 2 Q.run(I)V at 22 invokevirtual
 35 thread 2 Q.run(I)V at 22 invokevirtual, enters 2071, section method M1, lock word of 2071 Free(0), plain: none
 36 thread 2 Q.run(I)V at 22 invokevirtual, takes the lock of 2071, lock word of 2071 Free(0) -> Held(2), locked, plain: enter
-37 thread 2 Q.set(I)V at 0 aload
-38 thread 2 Q.set(I)V at 1 iload
+37 thread 2 Q.set(I)V at 0 aload, top @2071
+38 thread 2 Q.set(I)V at 1 iload, top 4
 39 thread 2 Q.set(I)V at 2 putfield, Q@2071.a 0 -> 4
-40 thread 2 Q.set(I)V at 5 aload
-41 thread 2 Q.set(I)V at 6 iload
+40 thread 2 Q.set(I)V at 5 aload, top @2071
+41 thread 2 Q.set(I)V at 6 iload, top 4
 42 thread 2 Q.set(I)V at 7 putfield, Q@2071.b 0 -> 4
 43 thread 2 Q.set(I)V at 10 return
 44 thread 2 Q.set(I)V at 10 return, leaves 2071, lock word of 2071 Held(2) -> Free(1), plain: exit
 45 thread 2 Q.run(I)V at 25 return, comes to its end: returned
 46 thread 2 Q.run(I)V at 25 return, ends: returned, plain: none
 47 thread 1 in attempt 1 Q.sum()I at 9 getfield, Q@2071.b 4, 4 owed
-48 thread 1 in attempt 1 Q.sum()I at 12 iadd, 5 owed
-49 thread 1 in attempt 1 Q.sum()I at 13 aload, 6 owed
+48 thread 1 in attempt 1 Q.sum()I at 12 iadd, top 4, 5 owed
+49 thread 1 in attempt 1 Q.sum()I at 13 aload, top @2071, 6 owed
 50 thread 1 in attempt 1 Q.sum()I at 14 monitorexit, 7 owed
 51 thread 1 in attempt 1 Q.sum()I at 14 monitorexit, leaves 2071, lock word of 2071 Free(1), attempt 1 fails: not Free(0), plain: none
 52 thread 1 Q.sum()I at 3 monitorenter, enters 2071, section block 3 M0, lock word of 2071 Free(1), attempt 2 begins by Free(1), plain: none
-53 thread 1 in attempt 2 Q.sum()I at 4 aload, 1 owed
+53 thread 1 in attempt 2 Q.sum()I at 4 aload, top @2071, 1 owed
 54 thread 1 in attempt 2 Q.sum()I at 5 getfield, Q@2071.a 4, 2 owed
-55 thread 1 in attempt 2 Q.sum()I at 8 aload, 3 owed
+55 thread 1 in attempt 2 Q.sum()I at 8 aload, top @2071, 3 owed
 56 thread 1 in attempt 2 Q.sum()I at 9 getfield, Q@2071.b 4, 4 owed
-57 thread 1 in attempt 2 Q.sum()I at 12 iadd, 5 owed
-58 thread 1 in attempt 2 Q.sum()I at 13 aload, 6 owed
+57 thread 1 in attempt 2 Q.sum()I at 12 iadd, top 8, 5 owed
+58 thread 1 in attempt 2 Q.sum()I at 13 aload, top @2071, 6 owed
 59 thread 1 in attempt 2 Q.sum()I at 14 monitorexit, 7 owed
 60 thread 1 in attempt 2 Q.sum()I at 14 monitorexit, leaves 2071, lock word of 2071 Free(1), attempt 2 finishes, plain: enter, 7 owed, exit
-61 thread 1 Q.sum()I at 15 ireturn
+61 thread 1 Q.sum()I at 15 ireturn, top 8
 62 thread 1 Q.run(I)V at 14 invokevirtual, prints 8, next ticket 0 -> 1
 63 thread 1 Q.run(I)V at 17 return, comes to its end: returned
 64 thread 1 Q.run(I)V at 17 return, ends: returned, plain: none

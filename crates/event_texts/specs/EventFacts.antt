@@ -25,6 +25,7 @@ use Rattle.event_texts.specs.EntryFacts.{begin_facts, entry_facts}
 use Rattle.event_texts.specs.Holders.{holder}
 use Rattle.event_texts.specs.PhaseFacts.{phase_facts}
 use Rattle.event_texts.specs.Shares.{Share, Steps, Owes, Section, act_text}
+use Rattle.event_texts.specs.TopFacts.{top_facts}
 use Rattle.event_texts.specs.ValueTexts.{shared_value_text}
 use Rattle.event_texts.specs.WordFacts.{word_facts}
 use Rattle.event_texts.specs.declared.sights.Spot.{Spot}
@@ -126,11 +127,11 @@ share_facts (Section n) =
 
 -- ---- the whole
 
--- what it does besides: a print or a notification, an entry, a begin
+-- what it does besides: a print or a notification, an entry, a begin; and what it computed
 abbrev pub more_facts : MarkedProgram → Before → Share → After → List Fact
 more_facts c b share a =
     deed_facts c.program b.effect (share_steps share) ++ entry_facts c.marks b.phase b.spot
-    ++ begin_facts c.program b.phase a.spot
+    ++ begin_facts c.program b.phase a.spot ++ top_facts c b a
 
 abbrev pub event_facts : MarkedProgram → Names → (number : ℕ) → Before → Share
     → After → List Fact

@@ -11,5 +11,6 @@ pub mod Acts
 pub mod Shares
 pub mod DeedFacts
 pub mod EntryFacts
+pub mod TopFacts
 pub mod Holders
 pub mod EventFacts

@@ -1,5 +1,5 @@
 -- What is seen of a thread before its event, and behind it.
-use Rattle.std.specs.Prelude.{ℕ, List, [], ◌∷◌, Option, Some, None}
+use Rattle.std.specs.Prelude.{ℕ, List, [], ◌∷◌, Option, Some, None, slice_get}
 use Rattle.std.specs.Option.{option_map}
 use Rattle.jvm_types.specs.declared.program.Program.{Program}
 use Rattle.machine_types.specs.declared.access.Access.{Access}
@@ -30,6 +30,11 @@ own_spot phases.Run top last = top
 own_spot (phases.Throw x class) top last = top
 own_spot phase top last = last
 
+-- the value on top of the stack of the top frame
+abbrev pub value_at_top : List Frame → Option ℕ
+value_at_top [] = None
+value_at_top (f ∷ below) = slice_get f.stack 0
+
 -- what its instruction does, where the event is one
 abbrev pub effect_of : Phase → Option Doing → Option Effect
 effect_of phases.Run doing = option_map (λ d. d.effect) doing
@@ -56,6 +61,7 @@ abbrev pub after_event : Thread → (left : ℕ) → After
 after_event s left = record {
   attempt = option_map head_of s.attempt;
   spot = spot_of s.frames;
+  top = value_at_top s.frames;
   phase = s.phase;
   counts = s.counts;
   left = left;

@@ -25,6 +25,7 @@ use crate::phases::add_phase;
 use crate::share_texts::ActText;
 use crate::shares::Share;
 use crate::sights::{After, Before, Spot};
+use crate::tops::add_top;
 use crate::values::write_value;
 use crate::word_facts::add_word;
 use crate::words::SharedWord;
@@ -346,7 +347,8 @@ fn add_share(facts: &mut Rows<Fact>, alloc: Global, share: &Share) -> Result<(),
 
 // ---- the whole
 
-/// Adds what an event does besides: a print or a notification, an entry, a begin.
+/// Adds what an event does besides: a print or a notification, an entry, a begin; and what it
+/// computed.
 fn add_more(
     facts: &mut Rows<Fact>,
     alloc: Global,
@@ -360,7 +362,8 @@ fn add_more(
 {
     add_deed(facts, alloc, c, before.effect, share_steps(share))?;
     add_entry(facts, alloc, c, before.phase, before.spot)?;
-    add_begin(facts, alloc, c.program(), before.phase, after.spot)
+    add_begin(facts, alloc, c.program(), before.phase, after.spot)?;
+    add_top(facts, alloc, c, before, after)
 }
 
 /// The facts of an event of a number: which it is, where its thread stands and what it does, the

@@ -16,6 +16,7 @@ pub mod phases;
 pub mod share_texts;
 pub mod shares;
 pub mod sights;
+pub mod tops;
 pub mod values;
 pub mod waiting;
 pub mod word_facts;

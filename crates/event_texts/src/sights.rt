@@ -3,6 +3,7 @@
 ghost use Rattle.std.specs.Prelude.{◌≡◌, ◌<◌, length};
 ghost use Rattle.frames.specs.FrameLists.{top};
 ghost use Rattle.event_texts.specs.Sights.{after_event, before_of, own_spot, effect_of, spot_of};
+ghost use Rattle.event_texts.specs.Sights.{value_at_top};
 
 use crate::doing::{Doing, next_doing};
 use crate::words::{SharedWord, word_of};
@@ -43,6 +44,8 @@ pub struct Before {
 pub struct After {
     pub attempt: Option<AttemptHead>,
     pub spot: Option<Spot>,
+    /// The value on top of the stack of the top frame, where there is one.
+    pub top: Option<u64>,
     pub phase: Phase,
     pub counts: Counts,
     /// What the event left in its word.
@@ -71,6 +74,19 @@ fn own_spot(s: &ThreadState, last: Option<Spot>) -> Option<Spot>
         Phase::Start => None,
         Phase::Run | Phase::Throw(_, _) => top_spot(s),
         _ => last,
+    }
+}
+
+/// The value on top of the stack of the top frame, where there is one.
+fn value_at_top(s: &ThreadState) -> Option<u64>
+    ensures { result ≡ value_at_top s.now.frames }
+{
+    if s.depth() == 0 {
+        return None;
+    }
+    match s.stack().get(0) {
+        Some(value) => Some(*value),
+        None => None,
     }
 }
 
@@ -117,6 +133,7 @@ pub fn see_after(s: &ThreadState, left: u64) -> After
     After {
         attempt: s.attempt(),
         spot: top_spot(s),
+        top: value_at_top(s),
         phase: s.phase(),
         counts: s.counts(),
         left,

@@ -1,7 +1,7 @@
 //! What stands in the words that threads share, as text.
 
 ghost use Rattle.std.specs.Prelude.{◌≡◌, ◌++◌, slice_get, OnOk};
-ghost use Rattle.event_texts.specs.ValueTexts.{field_value, shared_value_text};
+ghost use Rattle.event_texts.specs.ValueTexts.{field_value, reference_text, shared_value_text};
 
 use crate::headers::write_header;
 use crate::waiting::write_waiting;
@@ -95,6 +95,16 @@ impl fmt::Display for KindText {
             }
         }
     }
+}
+
+/// Adds a reference, as text.
+pub fn write_reference(text: &mut Vec<u8>, alloc: Global, reference: u64) -> Result<(), AllocError>
+    ensures { OnOk result (text.new.items ≡ text.old.items ++ reference_text reference) }
+{
+    let reference = ReferenceText(reference);
+    let mut words = String::new(alloc);
+    write!(words, "{reference}")?;
+    text.extend_from_slice(words.as_bytes())
 }
 
 /// The field of that number.

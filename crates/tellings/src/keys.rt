@@ -40,8 +40,9 @@ pub enum Key {
     Index,
     HeaderOf,
     RecordOf,
-    // what an instruction prints, the section of an entry, the method of a begin
+    // what an instruction prints or leaves, the section of an entry, the method of a begin
     Prints,
+    Top,
     Section,
     BeginsMethod,
     // what becomes of attempts, locks and the part
@@ -178,6 +179,7 @@ impl Key {
             Key::HeaderOf => shown("object", " of ", ""),
             Key::RecordOf => shown("record", " of record ", " for"),
             Key::Prints => shown("prints", ", prints ", ""),
+            Key::Top => shown("top", ", top ", ""),
             Key::Section => shown("section", ", section ", ""),
             Key::BeginsMethod => shown("begins", "", ""),
             Key::AttemptBegins => shown("attempt_begins", ", attempt ", " begins by Free("),
