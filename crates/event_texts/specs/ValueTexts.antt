@@ -11,8 +11,8 @@ use Rattle.jvm_types.specs.declared.program.Program.{Program}
 use Rattle.machine_types.specs.Ints.{int_of}
 use Rattle.machine_types.specs.Monitors.{bit_of}
 use Rattle.event_texts.specs.HeaderTexts.{header_text}
-use Rattle.event_texts.specs.SharedWords.{SharedWord, Owner, Waiting, Lock, Header, Field, StaticField}
-use Rattle.event_texts.specs.SharedWords.{Element}
+use Rattle.event_texts.specs.SharedWords.{SharedWord, Owner, Waiting, Lock, Header, Field}
+use Rattle.event_texts.specs.SharedWords.{StaticField, Element}
 
 -- a lock word by its kind and what stands above it; threads have their numbers and 1 there
 abbrev pub lock_text : (kind upper : ℕ) → List ℕ
