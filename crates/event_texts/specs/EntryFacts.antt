@@ -1,7 +1,6 @@
 -- Which section an entry runs, with its mark, and which method a part begins.
-use Rattle.std.specs.Prelude.{ℕ, ◌==◌, ◌&&◌, List, [], ◌∷◌, ◌++◌, codes, Option, Some, None}
+use Rattle.std.specs.Prelude.{ℕ, ◌==◌, ◌&&◌, List, [], ◌∷◌, ◌++◌, Option, Some, None}
 use Rattle.std.specs.Prelude.{slice_get, if◌then◌else◌}
-use Rattle.std.specs.Fmt.{decimal}
 use Rattle.checked_program.specs.declared.section.SectionMark.{SectionMark}
 use Rattle.checked_program.specs.declared.section.Spot.{Spot}
 use Rattle.jvm_types.specs.declared.program.Program.{Program}
@@ -9,7 +8,7 @@ use Rattle.machine_types.specs.Sections.{entered_at, is_same_spot}
 use Rattle.machine_types.specs.declared.phase.Phase.{Phase}
 use Rattle.machine_types.specs.declared.phase.Phase.TheVariants as phases
 use Rattle.place_names.specs.PlaceFacts.{method_facts}
-use Rattle.run_texts.specs.MarksText.{spot_text}
+use Rattle.place_names.specs.SectionFacts.{mark_name, section_spot_facts}
 use Rattle.event_texts.specs.declared.sights.Spot.{Spot as FrameSpot}
 use Rattle.tellings.specs.declared.facts.Fact.{Fact}
 use Rattle.tellings.specs.declared.facts.Fact.TheVariants.{Text, Opens, Closes}
@@ -25,16 +24,18 @@ mark_among (s ∷ ss) method spot =
 
 abbrev pub mark_told : Option ℕ → List Fact
 mark_told None = []
-mark_told (Some mark) = Text keys.Mark (codes "M" ++ decimal mark) ∷ []
+mark_told (Some mark) = Text keys.Mark (mark_name mark) ∷ []
 
-abbrev pub entered_facts : List SectionMark → (method : ℕ) → Spot → List Fact
-entered_facts marks method spot =
-    Text keys.Section (spot_text spot) ∷ mark_told (mark_among marks method spot)
+abbrev pub entered_facts : Program → List SectionMark → (method : ℕ) → Spot → List Fact
+entered_facts p marks method spot =
+    Opens keys.Section ∷ method_facts p.names (slice_get p.methods method)
+    ++ section_spot_facts spot ++ mark_told (mark_among marks method spot) ++ Closes ∷ []
 
-abbrev pub entry_facts : List SectionMark → Phase → Option FrameSpot → List Fact
-entry_facts marks (phases.Enter m tried) (Some at) =
-    entered_facts marks at.method (entered_at at.pc)
-entry_facts marks phase at = []
+-- by the place of the frame that enters it
+abbrev pub entry_facts : Program → List SectionMark → Phase → Option FrameSpot → List Fact
+entry_facts p marks (phases.Enter m tried) (Some at) =
+    entered_facts p marks at.method (entered_at at.pc)
+entry_facts p marks phase at = []
 
 -- ---- the method that a part begins, in which the thread stands behind the event
 

@@ -130,7 +130,7 @@ share_facts (Section n) =
 -- what it does besides: a print or a notification, an entry, a begin; and what it computed
 abbrev pub more_facts : MarkedProgram → Before → Share → After → List Fact
 more_facts c b share a =
-    deed_facts c.program b.effect (share_steps share) ++ entry_facts c.marks b.phase b.spot
+    deed_facts c.program b.effect (share_steps share) ++ entry_facts c.program c.marks b.phase b.frame_spot
     ++ begin_facts c.program b.phase a.spot ++ top_facts c b a
 
 abbrev pub event_facts : MarkedProgram → Names → (number : ℕ) → Before → Share

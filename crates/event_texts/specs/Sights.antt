@@ -6,8 +6,6 @@ use Rattle.machine_types.specs.declared.access.Access.{Access}
 use Rattle.machine_types.specs.declared.phase.Phase.{Phase}
 use Rattle.machine_types.specs.declared.phase.Phase.TheVariants as phases
 use Rattle.machine_types.specs.declared.effect.Effect.{Effect}
-use Rattle.machine_types.specs.declared.phase.Phase.{Phase}
-use Rattle.machine_types.specs.declared.phase.Phase.TheVariants as phases
 use Rattle.machine_types.specs.Frames.{top_of}
 use Rattle.machine_types.specs.Threads.{Frame, Thread, head_of}
 use Rattle.event_texts.specs.Doings.{doing_at}
@@ -49,6 +47,7 @@ before_of p s last access found = record {
   thread = s.number;
   attempt = option_map head_of s.attempt;
   spot = own_spot s.phase (spot_of s.frames) last;
+  frame_spot = spot_of s.frames;
   phase = s.phase;
   access = access;
   effect = effect_of s.phase (next_doing_of p s);

@@ -1,20 +1,17 @@
 //! Which section an entry runs, with its mark, and which method a part begins.
 
-ghost use Rattle.std.specs.Prelude.{◌≡◌, ◌++◌, ◌∷◌, [], OnOk};
+ghost use Rattle.std.specs.Prelude.{◌≡◌, ◌++◌, OnOk};
 ghost use Rattle.event_texts.specs.EntryFacts.{begin_facts, entered_facts, entry_facts};
 ghost use Rattle.event_texts.specs.EntryFacts.{mark_among, mark_told};
 ghost use Rattle.machine_types.specs.Sections.{entered_at, is_same_spot};
-ghost use Rattle.run_texts.specs.MarksText.{spot_text};
-ghost use Rattle.tellings.specs.declared.facts.Fact.TheVariants.{Text as TextFact};
-ghost use Rattle.tellings.specs.declared.keys.Key.TheVariants.{Section};
 
 use crate::sights::Spot as FrameSpot;
 use checked_program::{Checked, SectionMark, Spot};
 use jvm_types::{Program, Rows};
 use machine_types::Phase;
-use place_names::add_method;
+use place_names::{add_mark, add_method, add_section_spot};
 use std::alloc::{AllocError, Global};
-use tellings::{Fact, Key, add_text};
+use tellings::{Fact, Key};
 
 /// The section that a frame enters at a pc.
 fn entered_at(pc: u32) -> Spot
@@ -49,43 +46,30 @@ fn mark_among(marks: &[SectionMark], method: u32, spot: Spot) -> Option<u8>
     None
 }
 
-fn add_mark(facts: &mut Rows<Fact>, alloc: Global, mark: Option<u8>) -> Result<(), AllocError>
+fn add_mark_if(facts: &mut Rows<Fact>, alloc: Global, mark: Option<u8>) -> Result<(), AllocError>
     ensures { OnOk result (facts.new ≡ facts.old ++ mark_told mark) }
 {
     match mark {
-        Some(mark) => {
-            let mut name = String::new(alloc);
-            write!(name, "M{mark}")?;
-            add_text(facts, alloc, Key::Mark, name.as_bytes())
-        }
+        Some(mark) => add_mark(facts, alloc, Key::Mark, mark),
         None => Ok(()),
-    }
-}
-
-fn add_spot(facts: &mut Rows<Fact>, alloc: Global, spot: Spot) -> Result<(), AllocError>
-    ensures { OnOk result (facts.new ≡ facts.old ++ TextFact Section (spot_text spot) ∷ []) }
-{
-    match spot {
-        Spot::Method => add_text(facts, alloc, Key::Section, b"method"),
-        Spot::Block(pc) => {
-            let mut words = String::new(alloc);
-            write!(words, "block {pc}")?;
-            add_text(facts, alloc, Key::Section, words.as_bytes())
-        }
     }
 }
 
 fn add_entered(
     facts: &mut Rows<Fact>,
     alloc: Global,
-    marks: &[SectionMark],
+    c: &Checked,
     method: u32,
     spot: Spot,
 ) -> Result<(), AllocError>
-    ensures { OnOk result (facts.new ≡ facts.old ++ entered_facts marks.now method spot) }
+    ensures { OnOk result
+        (facts.new ≡ facts.old ++ entered_facts c.now.program c.now.marks method spot) }
 {
-    add_spot(facts, alloc, spot)?;
-    add_mark(facts, alloc, mark_among(marks, method, spot))
+    facts.push(Fact::Opens(Key::Section))?;
+    add_method(facts, alloc, c.program(), method)?;
+    add_section_spot(facts, alloc, spot)?;
+    add_mark_if(facts, alloc, mark_among(c.marks().as_slice(), method, spot))?;
+    facts.push(Fact::Closes)
 }
 
 /// Adds the section that is entered, as marks are told.
@@ -96,12 +80,11 @@ pub fn add_entry(
     phase: Phase,
     at: Option<FrameSpot>,
 ) -> Result<(), AllocError>
-    ensures { OnOk result (facts.new ≡ facts.old ++ entry_facts c.now.marks phase at) }
+    ensures { OnOk result (facts.new ≡ facts.old ++ entry_facts c.now.program c.now.marks phase at) }
 {
     match (phase, at) {
         (Phase::Enter(_, _), Some(at)) => {
-            let marks = c.marks().as_slice();
-            add_entered(facts, alloc, marks, at.method, entered_at(at.pc))
+            add_entered(facts, alloc, c, at.method, entered_at(at.pc))
         }
         _ => Ok(()),
     }

@@ -361,7 +361,7 @@ fn add_more(
         (facts.new ≡ facts.old ++ more_facts c.now before.now share.now after.now) }
 {
     add_deed(facts, alloc, c, before.effect, share_steps(share))?;
-    add_entry(facts, alloc, c, before.phase, before.spot)?;
+    add_entry(facts, alloc, c, before.phase, before.frame_spot)?;
     add_begin(facts, alloc, c.program(), before.phase, after.spot)?;
     add_top(facts, alloc, c, before, after)
 }

@@ -28,6 +28,8 @@ pub struct Before {
     pub attempt: Option<AttemptHead>,
     /// Where its event is told.
     pub spot: Option<Spot>,
+    /// Where its top frame stands.
+    pub frame_spot: Option<Spot>,
     pub phase: Phase,
     /// What its instruction does, where the event is one.
     pub effect: Option<Effect>,
@@ -117,6 +119,7 @@ pub fn see_before(
         thread: s.number(),
         attempt: s.attempt(),
         spot: own_spot(s, last),
+        frame_spot: top_spot(s),
         phase: s.phase(),
         effect: effect_of(s.phase(), doing),
         access,

@@ -4,7 +4,6 @@
 use Rattle.std.specs.Prelude.{ℕ, ◌==◌, if◌then◌else◌, List, [], ◌∷◌, ◌++◌, codes, Option, Some}
 use Rattle.std.specs.Prelude.{None, nat_lt, length, take, slice_get, ◌-◌}
 use Rattle.std.specs.List.{flat_map}
-use Rattle.std.specs.Fmt.{decimal}
 use Rattle.jvm_types.specs.declared.code.Insn.{Insn}
 use Rattle.jvm_types.specs.declared.program.MethodInfo.{MethodInfo}
 use Rattle.jvm_types.specs.declared.program.Program.{Program}
@@ -14,6 +13,7 @@ use Rattle.checked_program.specs.declared.section.Spot.{Spot}
 use Rattle.checked_program.specs.declared.section.Spot.TheVariants.{Method, Block}
 use Rattle.run_texts.specs.MarksText.{class_text}
 use Rattle.place_names.specs.PlaceFacts.{method_facts, pc_insn_facts, source_facts_at}
+use Rattle.place_names.specs.SectionFacts.{mark_name, section_spot_facts}
 use Rattle.tellings.specs.declared.facts.Fact.{Fact}
 use Rattle.tellings.specs.declared.facts.Fact.TheVariants.{Words, Text, Count, Opens, Lists, Item}
 use Rattle.tellings.specs.declared.facts.Fact.TheVariants.{Closes, Ends}
@@ -31,10 +31,6 @@ use Rattle.mark_reasons.specs.declared.shared.LastWay.{LastWay}
 
 -- ---- sections
 
-abbrev pub section_spot_facts : Spot → List Fact
-section_spot_facts Method = Text keys.Spot (codes "method") ∷ []
-section_spot_facts (Block pc) = Text keys.Spot (codes "block") ∷ Count keys.SpotPc pc ∷ []
-
 -- its class and method begin a line
 abbrev pub begun_facts : List (List ℕ) → Option MethodInfo → List Fact
 begun_facts names None = []
@@ -50,10 +46,6 @@ section_facts p method spot =
 abbrev pub section_pc : Spot → ℕ
 section_pc Method = 0
 section_pc (Block pc) = pc
-
--- a mark, or a rule
-abbrev pub mark_name : ℕ → List ℕ
-mark_name n = codes "M" ++ decimal n
 
 -- ---- places
 

@@ -7,13 +7,13 @@ ghost use Rattle.run_texts.specs.MarksText.{class_text};
 ghost use Rattle.mark_reasons.specs.ReasonFacts.{again_facts, begun_facts, call_facts, calls_facts};
 ghost use Rattle.mark_reasons.specs.ReasonFacts.{cause_facts, cause_kind as the_kind, cause_place};
 ghost use Rattle.mark_reasons.specs.ReasonFacts.{fault_facts, site_insn_facts, marked_facts};
-ghost use Rattle.mark_reasons.specs.ReasonFacts.{mark_name as the_mark_name};
 ghost use Rattle.mark_reasons.specs.ReasonFacts.{misuse_kind as the_misuse_kind};
 ghost use Rattle.mark_reasons.specs.ReasonFacts.{misuse_words as the_misuse_words};
 ghost use Rattle.mark_reasons.specs.ReasonFacts.{numbered as the_numbered, reason_facts};
 ghost use Rattle.mark_reasons.specs.ReasonFacts.{rule_words as the_rule_words, section_facts};
 ghost use Rattle.mark_reasons.specs.ReasonFacts.{shared_facts, site_facts, some_reason_facts};
-ghost use Rattle.mark_reasons.specs.ReasonFacts.{section_spot_facts, way_facts};
+ghost use Rattle.mark_reasons.specs.ReasonFacts.{way_facts};
+ghost use Rattle.place_names.specs.SectionFacts.{mark_name as the_mark_name};
 ghost use Rattle.mark_reasons.specs.ReasonFacts.{method_site_facts, section_pc as the_section_pc};
 ghost use Rattle.tellings.specs.declared.facts.Fact.TheVariants.{Closes as closes, Item as item};
 ghost use Rattle.tellings.specs.declared.facts.Fact.TheVariants.{Count as the_count, Ends as ends};
@@ -26,7 +26,7 @@ use crate::shared::{LastWay, shared_calls};
 use checked_program::{SectionMark, Spot};
 use guard_analysis::array_faults::Misuse;
 use jvm_types::{Bytes, Insn, MethodInfo, Program, Rows};
-use place_names::{add_method, add_pc, add_source};
+use place_names::{add_mark, add_method, add_pc, add_section_spot, add_source, mark_name};
 use run_texts::write_class;
 use source_lines::Sources;
 use std::alloc::{AllocError, Global};
@@ -38,18 +38,6 @@ fn add_words(facts: &mut Rows<Fact>, alloc: Global, words: &[u8]) -> Result<(), 
     ensures { OnOk result (facts.new ≡ facts.old ++ the_words words.now ∷ []) }
 {
     facts.push(Fact::Words(Bytes::from_slice(alloc, words)?))
-}
-
-fn add_spot(facts: &mut Rows<Fact>, alloc: Global, spot: Spot) -> Result<(), AllocError>
-    ensures { OnOk result (facts.new ≡ facts.old ++ section_spot_facts spot) }
-{
-    match spot {
-        Spot::Method => add_text(facts, alloc, Key::Spot, b"method"),
-        Spot::Block(pc) => {
-            add_text(facts, alloc, Key::Spot, b"block")?;
-            add_count(facts, Key::SpotPc, u64::from(pc))
-        }
-    }
 }
 
 fn add_class(
@@ -104,7 +92,7 @@ fn add_section(
     ensures { OnOk result (facts.new ≡ facts.old ++ section_facts p.now method spot) }
 {
     add_begin(facts, alloc, p, method)?;
-    add_spot(facts, alloc, spot)
+    add_section_spot(facts, alloc, spot)
 }
 
 // The pc at which it begins.
@@ -115,21 +103,6 @@ fn section_pc(spot: Spot) -> u32
         Spot::Method => 0,
         Spot::Block(pc) => pc,
     }
-}
-
-fn mark_name(alloc: Global, number: u8) -> Result<String, AllocError>
-    ensures { IfOk result (λ name. string_bytes name ≡ the_mark_name number) }
-{
-    let mut name = String::new(alloc);
-    write!(name, "M{number}")?;
-    Ok(name)
-}
-
-fn add_mark(facts: &mut Rows<Fact>, alloc: Global, key: Key, number: u8) -> Result<(), AllocError>
-    ensures { OnOk result (facts.new ≡ facts.old ++ the_text key (the_mark_name number) ∷ []) }
-{
-    let name = mark_name(alloc, number)?;
-    add_text(facts, alloc, key, name.as_bytes())
 }
 
 // ---- places

@@ -66,7 +66,7 @@ key_row keys.RecordOf = shown_row (codes "record") (codes " of record ") (codes 
 -- what an instruction prints or leaves, the section of an entry, the method of a begin
 key_row keys.Prints = shown_row (codes "prints") (codes ", prints ") (codes "")
 key_row keys.Top = shown_row (codes "top") (codes ", top ") (codes "")
-key_row keys.Section = shown_row (codes "section") (codes ", section ") (codes "")
+key_row keys.Section = shown_row (codes "section") (codes ", section") (codes "")
 key_row keys.BeginsMethod = shown_row (codes "begins") (codes "") (codes "")
 -- what becomes of attempts, locks and the part
 key_row keys.AttemptBegins =

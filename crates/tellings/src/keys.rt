@@ -180,7 +180,7 @@ impl Key {
             Key::RecordOf => shown("record", " of record ", " for"),
             Key::Prints => shown("prints", ", prints ", ""),
             Key::Top => shown("top", ", top ", ""),
-            Key::Section => shown("section", ", section ", ""),
+            Key::Section => shown("section", ", section", ""),
             Key::BeginsMethod => shown("begins", "", ""),
             Key::AttemptBegins => shown("attempt_begins", ", attempt ", " begins by Free("),
             Key::AttemptFails => shown("attempt_fails", ", attempt ", " fails: not Free("),
