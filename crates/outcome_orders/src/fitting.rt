@@ -51,8 +51,7 @@ fn fits_status(phase: Phase, status: Status) -> bool {
         Status::Enter(_) => is_entering(phase),
         Status::Leave(_, _) => is_leaving(phase),
         Status::Wait(_) => is_to_wait(phase),
-        Status::Notify(_) => matches!(phase, Phase::NotifyLook(_, _) | Phase::NotifyOne(_, _, _)),
-        Status::NotifyAll(_) => matches!(phase, Phase::NotifyAll(_, _)),
+        Status::Notify(_) | Status::NotifyAll(_) => true,
         Status::Waiting(_, _) => matches!(phase, Phase::WaitLook(_, _, _)),
         Status::Woken(_, _) => matches!(phase, Phase::WaitLook(_, _, _) | Phase::Retake(_, _, _)),
         Status::Ended(_) => matches!(phase, Phase::Ended(_)),
@@ -79,8 +78,15 @@ fn fits_frames(s: &ThreadState, x: &Thread) -> bool {
     }
 }
 
+/// Whether a thread of the plain machine is about to notify.
+fn is_to_notify(status: Status) -> bool {
+    matches!(status, Status::Notify(_) | Status::NotifyAll(_))
+}
+
 /// Whether a thread of the running machine stands where one of the plain machine does. One in an
-/// attempt stands in its section, as one that has the lock.
+/// attempt stands in its section, as one that has the lock. One that is to notify stands anywhere:
+/// where nobody has waited yet, it makes one event of it, and no other thread comes in between,
+/// since it holds the monitor.
 pub(crate) fn fits(s: &ThreadState, x: &Thread) -> bool {
-    fits_status(s.phase(), x.status()) && fits_frames(s, x)
+    is_to_notify(x.status()) || (fits_status(s.phase(), x.status()) && fits_frames(s, x))
 }
