@@ -3,6 +3,8 @@
 #![tactic(auto)]
 
 #[cfg(test)]
+mod outcomes;
+#[cfg(test)]
 mod playing;
 #[cfg(test)]
 mod searches;
