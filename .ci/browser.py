@@ -66,11 +66,11 @@ class Browser:
         return answer["result"].get("value")
 
     def open(self, path):
-        """A page of a run, until it is drawn."""
+        """A page of a run or of outcomes, until it is drawn."""
         self.ask("Page.navigate", url="about:blank")
         self.ask("Page.navigate", url="file://" + path)
         for _ in range(600):
-            is_drawn = "typeof view !== 'undefined' && !!view.lay"
+            is_drawn = "typeof view !== 'undefined' && (!!view.lay || !view.run)"
             if self.value(f"document.readyState === 'complete' && {is_drawn}"):
                 return
             time.sleep(0.1)

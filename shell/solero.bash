@@ -3,7 +3,7 @@ _solero() {
     local word=${COMP_WORDS[COMP_CWORD]} before=${COMP_WORDS[COMP_CWORD - 1]}
     local program=solero values=
     local solero='--mode --threads --order --memory --workers --turn --events --size --seed
-        --steps --turns --prints --heap --elide --range --what --tries --proved
+        --steps --turns --prints --heap --elide --range --what --page --tries --proved
         --checked --help --version'
     local explain='--threads --order --steps --turns --prints --heap --elide --range --what --from
         --events --page --json --proved --checked --help --version'

@@ -2,8 +2,9 @@
 import os
 import sys
 
-# What a tool ends with: where the output failed, where somebody ends it by Ctrl-C, or by a signal.
-OUTPUT_FAILED, INTERRUPTED, TERMINATED = 5, 130, 143
+# What a tool ends with: where the output failed, where a build stopped without an answer, where a
+# page is not written, where somebody ends it by Ctrl-C, or by a signal.
+OUTPUT_FAILED, FAULT, NOT_WRITTEN, INTERRUPTED, TERMINATED = 5, 8, 9, 130, 143
 # How a run of a program ends that has a report or a trace: whole, by an exception, by a limit.
 WHOLE, UNCAUGHT, LIMITED = 0, 1, 7
 ENDED = (WHOLE, UNCAUGHT, LIMITED)

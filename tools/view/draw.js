@@ -5,15 +5,16 @@ const ROWS = 40, ROW = 16, MOST_WORDS = 24, MOST_FINDS = 60;
 const HINT = "↓ ↑ the next event and the one before, n p what stands out, o opens a fold, / finds";
 const SVG = "http://www.w3.org/2000/svg";
 const $ = (id) => document.getElementById(id);
-const view = {run: null, lay: null, at: 0, object: "", every: false, wires: false,
-  opened: new Set(), find: -1, layers: [], sources: new Map()};
+// `of` is the number of the run, from 1, where the page has outcomes.
+const view = {run: null, lay: null, at: 0, object: "", every: false, wires: false, of: 0,
+  opened: new Set(), find: -1, layers: [], sources: new Map(), outcomes: []};
 const name = (monitor) => Model.nameOf(view.run, monitor);
 const line = (i) => view.run.lines[i];
 
 function make(tag, cls, text = "", vars = {}) {
   const e = document.createElement(tag);
   e.className = cls;
-  e.append(text);
+  if (text !== "") e.append(text);
   for (const key in vars) e.style.setProperty("--" + key, vars[key]);
   return e;
 }
@@ -249,8 +250,9 @@ function choose(i, scroll = true) {
   drawThreads(i);
   drawWords(i);
   drawBar(i);
+  const of = view.outcomes.length ? `${view.of}:` : "", object = view.object ? `,${view.object}` : "";
   try {
-    history.replaceState(null, "", `#${s.number}${view.object ? `,${view.object}` : ""}`);
+    history.replaceState(null, "", `#${of}${s.number}${object}`);
   } catch { /* some frames refuse it */ }
 }
 
@@ -358,6 +360,7 @@ const KEYS = {
   n: () => toFind(1), p: () => toFind(-1), o: toggleFold,
   Home: () => choose(0), End: () => choose(view.run.steps.length - 1),
   Escape: () => setObject(""), "/": () => $("find").focus(),
+  u: () => { if (view.outcomes.length) location.hash = ""; },
 };
 
 function hear(e) {
@@ -368,7 +371,7 @@ function hear(e) {
     return;
   }
   const act = KEYS[(e.shiftKey && e.key.startsWith("Arrow") ? "Shift " : "") + e.key];
-  if (!act || e.ctrlKey || e.metaKey || e.altKey) return;
+  if (!act || !view.run || e.ctrlKey || e.metaKey || e.altKey) return;
   act();
   e.preventDefault();
 }
@@ -418,26 +421,66 @@ function drawFinds() {
   $("finds").replaceChildren(...rows);
 }
 
-function show() {
-  const run = (view.run = Model.read($("objects").textContent, $("lines").textContent));
+// ---- the runs of the page
+
+// A run, with the event and the object that are asked for.
+function showRun(of, number, object) {
+  const told = (kind) => document.querySelectorAll(`.${kind}`)[of - 1].textContent;
+  const run = (view.run = Model.read(told("objects"), told("lines")));
   const option = (value, label) => Object.assign(make("option", "", label), {value});
-  document.querySelectorAll("pre[data-file]").forEach((e) =>
-    view.sources.set(e.dataset.file, ["", ...e.textContent.split("\n")]));
-  $("title").textContent = document.title = $("told").textContent;
-  if (!run.steps.length) {
-    document.querySelector("main").hidden = true;
-    $("count").textContent = "no events";
-    return;
-  }
+  const outcome = view.outcomes.find((row) => row.run === of);
+  Object.assign(view, {of, opened: new Set(), find: -1});
+  $("title").textContent = document.title =
+    $("told").textContent + (outcome ? ` — ${outcome.what}, ${outcome.order}` : "");
+  document.querySelector("main").hidden = !run.steps.length;
+  $("count").textContent = "no events";
+  if (!run.steps.length) return;
   const all = [...new Set([...run.words.values()].map((word) => word.group))];
   const groups = all.filter((group) => !/^(counters|record)/.test(group));
   $("object").replaceChildren(option("", "all"), ...groups.map((g) => option(g, name(g))));
   drawFinds();
-  const [number, object] = decodeURIComponent(location.hash.slice(1)).split(",");
-  const asked = run.steps.findIndex((s) => s.number === Number(number));
+  const asked = run.steps.findIndex((s) => s.number === number);
   view.at = asked >= 0 ? asked : run.finds.length ? run.finds[0].i : 0;
-  listen();
   setObject(groups.includes(object) ? object : "");
 }
 
-show();
+// What the runs end in, a row each, which opens a run that ends so.
+function showOutcomes() {
+  const head = ["ends in", "tries", "order"].map((text) => ["th", text]);
+  const rows = view.outcomes.map((row) => {
+    const order = row.order.replace(/^order /, "");
+    const tr = rowOf("", ["td", ""], ["td", row.times], ["td", order]);
+    const text = row.run ? Object.assign(make("a", "", row.what), {href: `#${row.run}:`}) : row.what;
+    tr.firstChild.append(text);
+    return tr;
+  });
+  view.run = null;
+  $("title").textContent = document.title = $("told").textContent;
+  $("rows").replaceChildren(rowOf("head", ...head), ...rows);
+}
+
+// Shows what the address says: `58,2071` the event 58 and the object 2071, in a page with outcomes
+// behind the number of the run and a colon.
+function route() {
+  const text = decodeURIComponent(location.hash.slice(1));
+  const [, of, number, object] = /^(?:(\d+):)?(\d*),?(.*)$/.exec(text) || [];
+  const isList = view.outcomes.length > 0 && !view.outcomes.some((row) => row.run === Number(of));
+  $("list").hidden = !isList;
+  $("back").hidden = isList || !view.outcomes.length;
+  const ofRun = document.querySelectorAll(".tools > label, .tools > details, #count");
+  ofRun.forEach((e) => { e.hidden = isList; });
+  $("bar").hidden = document.querySelector("main").hidden = isList;
+  if (isList) showOutcomes();
+  else showRun(view.outcomes.length ? Number(of) : 1, Number(number), object);
+}
+
+function begin() {
+  document.querySelectorAll("pre[data-file]").forEach((e) =>
+    view.sources.set(e.dataset.file, ["", ...e.textContent.split("\n")]));
+  if ($("outcomes")) view.outcomes = JSON.parse($("outcomes").textContent);
+  listen();
+  addEventListener("hashchange", route);
+  route();
+}
+
+begin();
