@@ -130,11 +130,11 @@ share_facts (Section n) =
 -- what it does besides: a print or a notification, an entry, a begin; and what it computed
 abbrev pub more_facts : MarkedProgram → Before → Share → After → List Fact
 more_facts c b share a =
-    deed_facts c.program b.effect (share_steps share) ++ entry_facts c.program c.marks b.phase b.frame_spot
+    deed_facts c.program b.effect (share_steps share)
+    ++ entry_facts c.program c.marks b.phase b.frame_spot
     ++ begin_facts c.program b.phase a.spot ++ top_facts c b a
 
-abbrev pub event_facts : MarkedProgram → Names → (number : ℕ) → Before → Share
-    → After → List Fact
+abbrev pub event_facts : MarkedProgram → Names → (number : ℕ) → Before → Share → After → List Fact
 event_facts c names number b share a =
     head_facts c.program names.sources number b ++ more_facts c b share a
     ++ access_facts c.program names.fields b a b.access

@@ -80,7 +80,8 @@ pub fn add_entry(
     phase: Phase,
     at: Option<FrameSpot>,
 ) -> Result<(), AllocError>
-    ensures { OnOk result (facts.new ≡ facts.old ++ entry_facts c.now.program c.now.marks phase at) }
+    ensures { OnOk result
+        (facts.new ≡ facts.old ++ entry_facts c.now.program c.now.marks phase at) }
 {
     match (phase, at) {
         (Phase::Enter(_, _), Some(at)) => {
