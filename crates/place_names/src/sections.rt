@@ -10,11 +10,7 @@ use std::alloc::{AllocError, Global};
 use tellings::{Fact, Key, add_count, add_text};
 
 /// Adds where a section begins in its method.
-pub fn add_section_spot(
-    facts: &mut Rows<Fact>,
-    alloc: Global,
-    spot: Spot,
-) -> Result<(), AllocError>
+pub fn add_section_spot(facts: &mut Rows<Fact>, alloc: Global, spot: Spot) -> Result<(), AllocError>
     ensures { OnOk result (facts.new ≡ facts.old ++ section_spot_facts spot) }
 {
     match spot {
