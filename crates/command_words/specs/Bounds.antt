@@ -5,6 +5,7 @@ use Rattle.jvm_types.specs.declared.limits.TheConstants.{LEAST_HEAP, MOST_HEAP, 
 use Rattle.machine_types.specs.Settings.{AreSettings}
 use Rattle.machine_types.specs.declared.config.Config.{Config}
 use Rattle.command_words.specs.Command.{takes_files}
+use Rattle.command_words.specs.RunValues.{are_few}
 use Rattle.command_words.specs.declared.request.Green.{Green}
 use Rattle.command_words.specs.declared.request.Mode.{Mode}
 use Rattle.command_words.specs.declared.values.TheConstants.{MOST_EVENTS, MOST_SIZE, MOST_TURN}
@@ -28,3 +29,11 @@ pub record AreInBounds (mode : Mode) (files threads heap size events : ℕ) (cfg
   pub few_events : events ≤ MOST_EVENTS
   pub settings : AreSettings cfg
   pub few_workers : ForSome green IsGreen
+
+-- what explains files takes 1 to 64 of them, and numbers and settings inside the same limits
+pub record AreInExplainBounds (files threads heap : ℕ) (cfg : Config) : Type 0 where
+  pub few : are_few files ≡ true
+  pub few_threads : threads ≤ MOST_WORKERS
+  pub heap_from : LEAST_HEAP ≤ heap
+  pub heap_to : heap ≤ MOST_HEAP
+  pub settings : AreSettings cfg

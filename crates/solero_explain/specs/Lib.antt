@@ -1,4 +1,3 @@
-pub mod Bounds
 pub mod Command
 pub mod Requests
 pub mod Answer

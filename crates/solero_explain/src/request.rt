@@ -1,5 +1,5 @@
 ghost use Rattle.std.specs.Prelude.{length};
-ghost use Rattle.solero_explain.specs.Bounds.{AreInExplainBounds};
+ghost use Rattle.command_words.specs.Bounds.{AreInExplainBounds};
 
 use json_lines::Form;
 use jvm_types::Bytes;
