@@ -7,11 +7,11 @@ use Rattle.machine_types.specs.{Core.{Core, Happening, core, happened, outcome, 
 use Rattle.replay_runner.{specs.Replays.IsLedByTurns, proofs.Turns.{led_on, schedule_of}}
 use Rattle.place_names.specs.declared.names.Names.{Names}
 use Rattle.run_trace.specs.{EventLines.{Trail, trail_along, ends_from, trail_after, trail_start, lines_from, next_line_number, seen_of_event, told_line, trace_text}, ReportJson.report_in}
-use Rattle.std.specs.Prelude.{Err, take, drop}
+use Rattle.std.specs.Prelude.{Ok, Err, Result, take, drop}
 use Rattle.std.proofs.lemmas.List.{take-append-drop}
 use Rattle.host_io.specs.Faults.{CountsFault}
 use Rattle.run_trace.specs.declared.traces.TraceError.{TraceError, TheVariants.{Memory, Failed}}
-use Rattle.run_trace.specs.{Traces.{BreaksOff, IsCutShort, IsHappeningTold, IsPut, IsTraced, IsBrokenOff, IsFrontTold, IsStarted, IsTraceFront, WalksOn, number_after, seen_next}, declared.{events.Part.Part, traces.Tracing.Tracing}}
+use Rattle.run_trace.specs.{Traces.{BreaksOff, IsCutShort, IsHappeningTold, IsPut, IsTracedBehind, IsBrokenOff, IsFrontTold, IsStarted, IsTraceFront, WalksOn, number_after, seen_next}, declared.{events.Part.Part, traces.Tracing.Tracing}}
 use Rattle.run_trace.proofs.{LongerRuns.{lines_on, told_both}, Walks.{own_line, walked_at_start}}
 
 -- ---- fronts of texts
@@ -133,7 +133,7 @@ lines_ahead c names part n v (g ∷ gs) hs =
 
 module _ (c : MarkedProgram) (cfg : Config) (order : List ℕ) (names : Names) (part : Part) where
   -- where it broke off in the line of an event
-  pub broken_front : EveryOrderHasRun → IsMarked c → HaveWidth cfg → AreSettings cfg → (told now : Option (List ℕ)) → IsBrokenOff c cfg order names part told now → IsTraceFront c cfg order names part told now
+  pub broken_front : EveryOrderHasRun → IsMarked c → HaveWidth cfg → AreSettings cfg → (told now : Option (List ℕ)) → IsBrokenOff c cfg order names part told now → IsTraceFront [] c cfg order names part told now
   broken_front runs marked width settings told now b =
       let all = runs c cfg order marked width settings in
       let cut = ahead c (First order) (start c cfg) b.happenings b.stage b.core all.0 b.leads all.1 in
@@ -145,18 +145,18 @@ module _ (c : MarkedProgram) (cfg : Config) (order : List ℕ) (names : Names) (
       record {
         happenings = all.0;
         schedule = all.1;
-        front = front_before told now (lines all.0 ++ ends) report (front_before told now (lines all.0) ends (same_front told now (lines b.happenings ++ more) (lines all.0) text_is (front_before told now (lines b.happenings) more b.front)));
+        accepted = front_before told now (lines all.0 ++ ends) report (front_before told now (lines all.0) ends (same_front told now (lines b.happenings ++ more) (lines all.0) text_is (front_before told now (lines b.happenings) more b.front)));
       }
 
   -- before the first line
-  pub still_trace : EveryOrderHasRun → IsMarked c → HaveWidth cfg → AreSettings cfg → (told now : Option (List ℕ)) → now ≡ told → IsTraceFront c cfg order names part told now
+  pub still_trace : EveryOrderHasRun → IsMarked c → HaveWidth cfg → AreSettings cfg → (told now : Option (List ℕ)) → now ≡ told → IsTraceFront [] c cfg order names part told now
   still_trace runs marked width settings told now e =
       let all = runs c cfg order marked width settings in
-      record { happenings = all.0; schedule = all.1; front = still_front told now (trace_text c cfg names part all.0) e }
+      record { happenings = all.0; schedule = all.1; accepted = still_front told now (trace_text c cfg names part all.0) e }
 
   -- all lines were told: in those of the ends
   pub ends_front : (told mid now : Option (List ℕ)) (before between : ℕ) (m n : Tracing) → IsStarted c cfg m → WalksOn c order names part m (turn_at (First order) m.machine.core) told before n None mid between
-      → IsFrontTold mid now n.ends.items → IsTraceFront c cfg order names part told now
+      → IsFrontTold mid now n.ends.items → IsTraceFront [] c cfg order names part told now
   ends_front told mid now before between m n begun on f =
       let w = on.walked cfg told (walked_at_start c cfg order names part told m begun) in
       let all = schedule_of c (First order) (start c cfg) w.happenings w.stage n.machine.core w.leads w.turn in
@@ -165,12 +165,12 @@ module _ (c : MarkedProgram) (cfg : Config) (order : List ℕ) (names : Names) (
       record {
         happenings = w.happenings;
         schedule = all.0;
-        front = front_before told now (lines ++ ends) (report_in part.form (outcome (core c cfg w.happenings))) (front_behind told mid now lines ends w.text (same_front mid now n.ends.items ends w.ends f));
+        accepted = front_before told now (lines ++ ends) (report_in part.form (outcome (core c cfg w.happenings))) (front_behind told mid now lines ends w.text (same_front mid now n.ends.items ends w.ends f));
       }
 
   -- and these: in the report
   pub report_front : (told mid late now : Option (List ℕ)) (before between : ℕ) (m n : Tracing) (o : Outcome) → IsStarted c cfg m → WalksOn c order names part m (turn_at (First order) m.machine.core) told before n None mid between
-      → late ≡ option_map (λ t. t ++ n.ends.items) mid → o ≡ outcome n.machine.core → IsFrontTold late now (report_in part.form o) → IsTraceFront c cfg order names part told now
+      → late ≡ option_map (λ t. t ++ n.ends.items) mid → o ≡ outcome n.machine.core → IsFrontTold late now (report_in part.form o) → IsTraceFront [] c cfg order names part told now
   unfolding core
   report_front told mid late now before between m n o begun on ended is f =
       let w = on.walked cfg told (walked_at_start c cfg order names part told m begun) in
@@ -182,14 +182,14 @@ module _ (c : MarkedProgram) (cfg : Config) (order : List ℕ) (names : Names) (
       record {
         happenings = w.happenings;
         schedule = all.0;
-        front = front_behind told late now (lines ++ ends) (report_in part.form (outcome (core c cfg w.happenings))) with_ends (same_front late now (report_in part.form o) (report_in part.form (outcome (core c cfg w.happenings))) (ap (report_in part.form) told_is) f);
+        accepted = front_behind told late now (lines ++ ends) (report_in part.form (outcome (core c cfg w.happenings))) with_ends (same_front late now (report_in part.form o) (report_in part.form (outcome (core c cfg w.happenings))) (ap (report_in part.form) told_is) f);
       }
 
 -- ---- what is answered
 
 module _ (c : MarkedProgram) (cfg : Config) (order : List ℕ) (names : Names) (part : Part) (runs : EveryOrderHasRun) (marked : IsMarked c) (width : HaveWidth cfg) (settings : AreSettings cfg) where
   -- there was no memory for the start
-  pub unstarted : (told : Option (List ℕ)) (before : ℕ) (e : TraceError) → e ≡ Memory → IsTraced c cfg order names part told told before before (Err e)
+  pub unstarted : (told : Option (List ℕ)) (before : ℕ) (e : TraceError) → e ≡ Memory → IsTracedBehind [] c cfg order names part told told before before (Err e)
   unstarted told before Memory is = (refl, still_trace c cfg order names part runs marked width settings told told refl)
   unstarted told before Failed is = absurd (failed_is_memory is)
     where
@@ -197,22 +197,51 @@ module _ (c : MarkedProgram) (cfg : Config) (order : List ℕ) (names : Names) (
       failed_is_memory e = cc
 
   -- among the lines of events
-  pub unwalked : (told now : Option (List ℕ)) (before after : ℕ) (m : Tracing) (e : TraceError) → IsStarted c cfg m → IsCutShort c order names part m (turn_at (First order) m.machine.core) told before now after e → IsTraced c cfg order names part told now before after (Err e)
+  pub unwalked : (told now : Option (List ℕ)) (before after : ℕ) (m : Tracing) (e : TraceError) → IsStarted c cfg m → IsCutShort c order names part m (turn_at (First order) m.machine.core) told before now after e → IsTracedBehind [] c cfg order names part told now before after (Err e)
   unwalked told now before after m Memory begun b = (b.0, broken_front c cfg order names part runs marked width settings told now (b.1 cfg told (walked_at_start c cfg order names part told m begun)))
   unwalked told now before after m Failed begun b = (b.0, broken_front c cfg order names part runs marked width settings told now (b.1 cfg told (walked_at_start c cfg order names part told m begun)))
 
 module _ (c : MarkedProgram) (cfg : Config) (order : List ℕ) (names : Names) (part : Part) where
   -- among those of the ends
   pub unended : (told mid now : Option (List ℕ)) (before between after : ℕ) (m n : Tracing) (text : List ℕ) (e : TraceError) → IsStarted c cfg m → WalksOn c order names part m (turn_at (First order) m.machine.core) told before n None mid between
-      → text ≡ n.ends.items → IsPut mid now between after text {A = Unit {0}} (Err e) → IsTraced c cfg order names part told now before after (Err e)
+      → text ≡ n.ends.items → IsPut mid now between after text {A = Unit {0}} (Err e) → IsTracedBehind [] c cfg order names part told now before after (Err e)
   unended told mid now before between after m n text Memory begun on is put = (put.0 ∙ on.calm, ends_front c cfg order names part told mid now before between m n begun on (still_front mid now n.ends.items put.1))
   unended told mid now before between after m n text Failed begun on is put =
       (subst (λ (k : ℕ). CountsFault k after) on.calm put.0, ends_front c cfg order names part told mid now before between m n begun on (same_front mid now text n.ends.items is put.1))
 
   -- in the report
   pub unreported : (told mid late now : Option (List ℕ)) (before between beyond after : ℕ) (m n : Tracing) (o : Outcome) (e : TraceError) → IsStarted c cfg m → WalksOn c order names part m (turn_at (First order) m.machine.core) told before n None mid between
-      → late ≡ option_map (λ t. t ++ n.ends.items) mid → beyond ≡ between → o ≡ outcome n.machine.core → IsPut late now beyond after (report_in part.form o) {A = Unit {0}} (Err e) → IsTraced c cfg order names part told now before after (Err e)
+      → late ≡ option_map (λ t. t ++ n.ends.items) mid → beyond ≡ between → o ≡ outcome n.machine.core → IsPut late now beyond after (report_in part.form o) {A = Unit {0}} (Err e) → IsTracedBehind [] c cfg order names part told now before after (Err e)
   unreported told mid late now before between beyond after m n o Memory begun on ended still is put =
       (put.0 ∙ still ∙ on.calm, report_front c cfg order names part told mid late now before between m n o begun on ended is (still_front late now (report_in part.form o) put.1))
   unreported told mid late now before between beyond after m n o Failed begun on ended still is put =
       (subst (λ (k : ℕ). CountsFault k after) (still ∙ on.calm) put.0, report_front c cfg order names part told mid late now before between m n o begun on ended is put.1)
+
+-- ---- behind a text that was put before
+
+module _ (c : MarkedProgram) (cfg : Config) (order : List ℕ) (names : Names) (part : Part) (text : List ℕ) where
+  front_then : (told mid now : Option (List ℕ)) → mid ≡ option_map (λ t. t ++ text) told → IsTraceFront [] c cfg order names part mid now → IsTraceFront text c cfg order names part told now
+  front_then told mid now is f = record { happenings = f.happenings; schedule = f.schedule; accepted = front_behind told mid now text (trace_text c cfg names part f.happenings) is f.accepted }
+
+  pub traced_then : (told mid now : Option (List ℕ)) (before between after : ℕ) (came : Result Outcome TraceError) → IsPut told mid before between text {A = Unit {0}} (Ok tt)
+      → IsTracedBehind [] c cfg order names part mid now between after came → IsTracedBehind text c cfg order names part told now before after came
+  traced_then told mid now before between after (Ok o) put w = record {
+    happenings = w.happenings;
+    schedule = w.schedule;
+    outcome_is = w.outcome_is;
+    text = told_both told mid now text (trace_text c cfg names part w.happenings) put.1 w.text;
+    calm = w.calm ∙ put.0;
+  }
+  traced_then told mid now before between after (Err Memory) put w = (w.0 ∙ put.0, front_then told mid now put.1 w.1)
+  traced_then told mid now before between after (Err Failed) put w = (subst (λ (k : ℕ). CountsFault k after) put.0 w.0, front_then told mid now put.1 w.1)
+
+  -- or within it
+  module _ (runs : EveryOrderHasRun) (marked : IsMarked c) (width : HaveWidth cfg) (settings : AreSettings cfg) where
+    within : (told now : Option (List ℕ)) → IsFrontTold told now text → IsTraceFront text c cfg order names part told now
+    within told now f =
+        let all = runs c cfg order marked width settings in
+        record { happenings = all.0; schedule = all.1; accepted = front_before told now text (trace_text c cfg names part all.0) f }
+
+    pub unbegun : (told now : Option (List ℕ)) (before after : ℕ) (e : TraceError) → IsPut told now before after text {A = Unit {0}} (Err e) → IsTracedBehind text c cfg order names part told now before after (Err e)
+    unbegun told now before after Memory put = (put.0, within told now (still_front told now text put.1))
+    unbegun told now before after Failed put = (put.0, within told now put.1)

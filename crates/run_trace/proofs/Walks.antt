@@ -103,7 +103,7 @@ walked_at_start c cfg order names part told m begun = record {
 -- the lines were told, then the ends, and then the report
 pub whole : (c : MarkedProgram) (cfg : Config) (order : List ℕ) (names : Names) (part : Part) (told mid late now : Option (List ℕ)) (before between beyond after : ℕ) (m n : Tracing) (o : Outcome)
     → IsStarted c cfg m → WalksOn c order names part m (turn_at (First order) m.machine.core) told before n None mid between → late ≡ option_map (λ t. t ++ n.ends.items) mid → beyond ≡ between
-    → o ≡ outcome n.machine.core → now ≡ option_map (λ t. t ++ report_in part.form o) late → after ≡ beyond → IsWholeTrace c cfg order names part told now before after o
+    → o ≡ outcome n.machine.core → now ≡ option_map (λ t. t ++ report_in part.form o) late → after ≡ beyond → IsWholeTrace [] c cfg order names part told now before after o
 unfolding core
 whole c cfg order names part told mid late now before between beyond after m n o begun on ended still is put calm =
     let w = on.walked cfg told (walked_at_start c cfg order names part told m begun) in

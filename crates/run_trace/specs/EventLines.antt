@@ -17,6 +17,7 @@ use Rattle.event_texts.specs.Sights.{after_event, before_of}
 use Rattle.event_texts.specs.declared.shares.Share.{Share}
 use Rattle.event_texts.specs.declared.sights.Before.{Before}
 use Rattle.json_lines.specs.declared.form.Form.{Form}
+use Rattle.json_lines.specs.declared.form.Form.TheVariants.{Lines, Json}
 use Rattle.tellings.specs.Forms.{told_in}
 use Rattle.tellings.specs.declared.facts.Fact.{Fact}
 use Rattle.tellings.specs.declared.facts.Fact.TheVariants.{Count, Text, Words}
@@ -143,6 +144,11 @@ ends_from c names form number v [] = []
 ends_from c names form number v (h ∷ hs) =
     event_end c names form number v.told.core (seen_of_event c v h) h
     ++ ends_from c names form (next_line_number number) (trail_after c v h) hs
+
+-- what the run was asked by: objects begin with it, and lines don't
+abbrev pub begin_text : Form → (begin : List Fact) → List ℕ
+begin_text Lines begin = []
+begin_text Json begin = told_in Json (codes "run") begin
 
 -- the lines of all events, or of a part of them, those of the ends that are no returns, and then
 -- the report of the run

@@ -12,7 +12,9 @@ use Rattle.machine_types.specs.declared.config.Config.{Config}
 use Rattle.place_names.specs.declared.names.Names.{Names}
 use Rattle.event_texts.specs.Shares as shares
 use Rattle.replay_runner.specs.Replays.{IsLedByTurns}
-use Rattle.run_trace.specs.EventLines.{ends_from, event_end, lines_from, next_line_number}
+use Rattle.tellings.specs.declared.facts.Fact.{Fact}
+use Rattle.run_trace.specs.EventLines.{begin_text, ends_from, event_end, lines_from}
+use Rattle.run_trace.specs.EventLines.{next_line_number}
 use Rattle.run_trace.specs.EventLines.{told_line, trace_text, trail_along, trail_start}
 use Rattle.run_trace.specs.Owing.{owed_after, seen_by}
 use Rattle.run_trace.specs.Stands.{no_stand, stands_after}
@@ -166,30 +168,39 @@ IsPut told now before after text (Err Memory) = (after ≡ before) × (now ≡ t
 IsPut told now before after text (Err Failed) =
     CountsFault before after × IsFrontTold told now text
 
--- ---- the whole
+-- ---- the whole, behind a text that was put to the sink before
 
-pub record IsWholeTrace (c : MarkedProgram) (cfg : Config) (order : List ℕ) (names : Names)
-    (part : Part) (told now : Option (List ℕ)) (before after : ℕ) (o : Outcome) : Type 0 where
+pub record IsWholeTrace (front : List ℕ) (c : MarkedProgram) (cfg : Config) (order : List ℕ)
+    (names : Names) (part : Part) (told now : Option (List ℕ)) (before after : ℕ)
+    (o : Outcome) : Type 0 where
   pub happenings : List Happening
   pub schedule : IsScheduleOf c cfg order happenings
   pub outcome_is : o ≡ outcome (core c cfg happenings)
-  pub text : now ≡ option_map (λ t. t ++ trace_text c cfg names part happenings) told
+  pub text : now ≡ option_map (λ t. t ++ (front ++ trace_text c cfg names part happenings)) told
   pub calm : after ≡ before
 
--- a front of the trace that is due was accepted
-pub record IsTraceFront (c : MarkedProgram) (cfg : Config) (order : List ℕ) (names : Names)
-    (part : Part) (told now : Option (List ℕ)) : Type 0 where
+-- a front of all that is due was accepted
+pub record IsTraceFront (front : List ℕ) (c : MarkedProgram) (cfg : Config) (order : List ℕ)
+    (names : Names) (part : Part) (told now : Option (List ℕ)) : Type 0 where
   pub happenings : List Happening
   pub schedule : IsScheduleOf c cfg order happenings
-  pub front : IsFrontTold told now (trace_text c cfg names part happenings)
+  pub accepted : IsFrontTold told now (front ++ trace_text c cfg names part happenings)
 
 -- the trace was written whole, and the outcome of the run is answered; or a front of it, where
 -- there was no memory, and the sink had not failed, or where it failed
-abbrev pub IsTraced : MarkedProgram → Config → (order : List ℕ) → Names → Part
-    → (told now : Option (List ℕ)) → (before after : ℕ) → Result Outcome TraceError → Type 0
-IsTraced c cfg order names part told now before after (Ok o) =
-    IsWholeTrace c cfg order names part told now before after o
-IsTraced c cfg order names part told now before after (Err Memory) =
-    (after ≡ before) × IsTraceFront c cfg order names part told now
-IsTraced c cfg order names part told now before after (Err Failed) =
-    CountsFault before after × IsTraceFront c cfg order names part told now
+abbrev pub IsTracedBehind : (front : List ℕ) → MarkedProgram → Config → (order : List ℕ)
+    → Names → Part → (told now : Option (List ℕ)) → (before after : ℕ)
+    → Result Outcome TraceError → Type 0
+IsTracedBehind front c cfg order names part told now before after (Ok o) =
+    IsWholeTrace front c cfg order names part told now before after o
+IsTracedBehind front c cfg order names part told now before after (Err Memory) =
+    (after ≡ before) × IsTraceFront front c cfg order names part told now
+IsTracedBehind front c cfg order names part told now before after (Err Failed) =
+    CountsFault before after × IsTraceFront front c cfg order names part told now
+
+-- behind what the run was asked by
+abbrev pub IsTraced : MarkedProgram → Config → (order : List ℕ) → (names : Names)
+    → (begin : List Fact) → Part → (told now : Option (List ℕ)) → (before after : ℕ)
+    → Result Outcome TraceError → Type 0
+IsTraced c cfg order names begin part told now before after came =
+    IsTracedBehind (begin_text part.form begin) c cfg order names part told now before after came

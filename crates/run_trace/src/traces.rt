@@ -1,14 +1,14 @@
 //! The trace of a run.
 
-ghost use Rattle.std.specs.Prelude.{◌≡◌, ◌<◌, ◌≤◌, true, length, replicate, Err, IfOk, OnErr};
+ghost use Rattle.std.specs.Prelude.{◌≡◌, ◌<◌, ◌≤◌, true, length, replicate, [], Err, IfOk, OnErr};
 ghost use Rattle.machine_types.specs.Core.{Of, NextPart, lives};
 ghost use Rattle.machine_types.specs.Schedules.{First, turn_at};
 ghost use Rattle.machine_types.specs.Settings.{AreSettings};
 ghost use Rattle.laws_states.specs.WorkLeft.{all_work};
-ghost use Rattle.run_trace.specs.EventLines.{next_line_number};
+ghost use Rattle.run_trace.specs.EventLines.{begin_text, next_line_number};
 ghost use Rattle.run_trace.specs.ReportJson.{report_in};
 ghost use Rattle.run_trace.specs.Traces.{IsPut, IsStarted, IsTraced, IsWalk, IsWalkToEnd};
-ghost use Rattle.run_trace.specs.Traces.{IsHappeningTold};
+ghost use Rattle.run_trace.specs.Traces.{IsHappeningTold, IsTracedBehind};
 ghost use Rattle.run_trace.specs.declared.traces.TraceError.TheVariants.{Memory};
 ghost use Rattle.run_trace.specs.Turns.{IsNoEvent, next_ahead, parts_ahead, stage_of};
 
@@ -27,6 +27,7 @@ use place_names::Names;
 use replay_runner::Machine;
 use run_parts::have_width;
 use std::alloc::{AllocError, Global};
+use tellings::{Fact, write_told};
 
 /// Why a trace was not written whole.
 #[derive(Clone, Copy, Debug, PartialEq, Eq)]
@@ -233,22 +234,36 @@ fn tell_report<K: Sink>(
     }
 }
 
-/// Runs a program to its end as `replay` does, by an order of steps in which each byte is the
-/// number of the worker that has the next event, and writes to the sink a line for each event of
-/// the run in order, or for those of a part, as the run goes: its number; the thread, and the
-/// attempt that it is in; the class, method and pc where the thread stands, with the mnemonic; what
-/// it does in words, where that is no instruction; the word that it accesses, with what it found
-/// and left there; where an attempt begins, fails or finishes, a lock is taken or made fat, and how
-/// the thread comes to its end; and the steps of the plain machine that it stands for. Behind them
-/// stands a line for each end that is no return, and the report of the run. Each is a line of
-/// words, or as JSON one object on a line, made of the same facts (`key_row` of `tellings` has the
-/// members). A field that `names` has no name for is told by its number, and a place is told with
-/// the line of the source where `names` has one.
-///
-/// It answers the outcome of the run; `Failed` where the sink fails, and `Memory` where there is no
-/// memory, and then the sink has accepted a front of all that. The memory that it takes does not
-/// grow with the run.
-pub fn explain_run<K: Sink>(
+/// What stands before a trace, in a form: of lines nothing.
+fn begin_text(alloc: Global, form: Form, begin: &[Fact]) -> Result<Bytes, AllocError>
+    ensures { IfOk result (λ text. text ≡ begin_text form begin.now) }
+{
+    let mut text = Vec::new(alloc);
+    match form {
+        Form::Lines => {}
+        Form::Json => write_told(&mut text, alloc, form, "run", begin)?,
+    }
+    Ok(Bytes::from_vec(text))
+}
+
+/// Writes what the run was asked by, where the form begins with it.
+fn tell_begin<K: Sink>(
+    alloc: Global,
+    form: Form,
+    begin: &[Fact],
+    sink: &mut K,
+) -> Result<(), TraceError>
+    ensures { IsPut (K.text sink.old) (K.text sink.new) (K.faults sink.old) (K.faults sink.new)
+        (begin_text form begin.now) result }
+{
+    match begin_text(alloc, form, begin) {
+        Ok(text) => write_text(sink, text.as_slice()),
+        Err(AllocError) => Err(TraceError::Memory),
+    }
+}
+
+/// Runs a program to its end, and writes what is told of that behind what it was asked by.
+fn tell_run<K: Sink>(
     alloc: Global,
     p: &Checked,
     cfg: &Config,
@@ -258,8 +273,8 @@ pub fn explain_run<K: Sink>(
     sink: &mut K,
 ) -> Result<Outcome, TraceError>
     requires { AreSettings cfg.now }
-    ensures { IsTraced p.now cfg.now order.now names.now part (K.text sink.old) (K.text sink.new)
-        (K.faults sink.old) (K.faults sink.new) result }
+    ensures { IsTracedBehind [] p.now cfg.now order.now names.now part (K.text sink.old)
+        (K.text sink.new) (K.faults sink.old) (K.faults sink.new) result }
 {
     have_width(*cfg);
     every_order_has_run();
@@ -271,4 +286,41 @@ pub fn explain_run<K: Sink>(
     let outcome = trace.machine.outcome();
     tell_report(alloc, part.form, &outcome, sink)?;
     Ok(outcome)
+}
+
+/// Runs a program to its end as `replay` does, by an order of steps in which each byte is the
+/// number of the worker that has the next event, and writes to the sink a line for each event of
+/// the run in order, or for those of a part, as the run goes: its number; the thread, and the
+/// attempt that it is in; the class, method and pc where the thread stands, with the mnemonic; what
+/// it does in words, where that is no instruction; the word that it accesses, with what it found
+/// and left there; where an attempt begins, fails or finishes, a lock is taken or made fat, and how
+/// the thread comes to its end; and the steps of the plain machine that it stands for. Behind them
+/// stands a line for each end that is no return, and the report of the run. Each is a line of
+/// words, or as JSON one object on a line, made of the same facts (`key_row` of `tellings` has the
+/// members). Objects begin with one of `begin`, the facts of what the run was asked by. `names` has
+/// the names of the fields of the program in their order; a field without a name is told by its
+/// number.
+///
+/// It answers the outcome of the run; `Failed` where the sink fails, and `Memory` where there is no
+/// memory, and then the sink has accepted a front of all that. The memory that it takes does not
+/// grow with the run.
+pub fn explain_run<K: Sink>(
+    alloc: Global,
+    p: &Checked,
+    cfg: &Config,
+    order: &Bytes,
+    names: &Names,
+    begin: &Rows<Fact>,
+    part: Part,
+    sink: &mut K,
+) -> Result<Outcome, TraceError>
+    requires { AreSettings cfg.now }
+    ensures { IsTraced p.now cfg.now order.now names.now begin.now part (K.text sink.old)
+        (K.text sink.new) (K.faults sink.old) (K.faults sink.new) result }
+{
+    have_width(*cfg);
+    every_order_has_run();
+    let _workers = p.workers();
+    tell_begin(alloc, part.form, begin.as_slice(), sink)?;
+    tell_run(alloc, p, cfg, order, names, part, sink)
 }

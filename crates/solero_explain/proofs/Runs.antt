@@ -3,6 +3,7 @@ use Rattle.std.proofs.Common.{◌≡◌, ◌≢◌, ℕ, ◌<◌, ◌≤◌, Boo
 use Rattle.jvm_types.specs.declared.outcome.Outcome.{Outcome}
 use Rattle.checked_program.specs.MarkedProgram.{MarkedProgram}
 use Rattle.machine_types.specs.declared.config.Config.{Config}
+use Rattle.tellings.specs.declared.facts.Fact.{Fact}
 use Rattle.class_runner.proofs.LoadedOnce.{accepted}
 use Rattle.host_io.{specs.{Faults.CountsFault, declared.shelf.NamedFile.NamedFile}, proofs.SoFar.none_long}
 use Rattle.source_lines.specs.declared.sources.Sources.{Sources}
@@ -115,10 +116,10 @@ run_accepted asked files c names t =
 five_is_not_six : (n : ℕ) → n ≡ 5 → n ≡ 6 → ⊥
 five_is_not_six n five six = omega (arith, five, six)
 
-by_came_failed : (c : MarkedProgram) (cfg : Config) (order : List ℕ) (names : Names) (part : Part) (told now : Option (List ℕ)) (from to : ℕ) (came : Result Outcome TraceError) → IsTraced c cfg order names part told now from to came → status_of_trace came ≡ 5 → CountsFault from to
-by_came_failed c cfg order names part told now from to (Ok o) traced five = absurd ((run_status (finish_of o)).five five)
-by_came_failed c cfg order names part told now from to (Err Failed) traced five = traced.0
-by_came_failed c cfg order names part told now from to (Err Memory) traced five = absurd (five_is_not_six 6 five refl)
+by_came_failed : (c : MarkedProgram) (cfg : Config) (order : List ℕ) (names : Names) (begin : List Fact) (part : Part) (told now : Option (List ℕ)) (from to : ℕ) (came : Result Outcome TraceError) → IsTraced c cfg order names begin part told now from to came → status_of_trace came ≡ 5 → CountsFault from to
+by_came_failed c cfg order names begin part told now from to (Ok o) traced five = absurd ((run_status (finish_of o)).five five)
+by_came_failed c cfg order names begin part told now from to (Err Failed) traced five = traced.0
+by_came_failed c cfg order names begin part told now from to (Err Memory) traced five = absurd (five_is_not_six 6 five refl)
 
 marks_failed : (form : Form) (c : MarkedProgram) (sources : Sources) (told now : Option (List ℕ)) (from to : ℕ) (came : Result (Unit {0}) MarksError) → AreMarksWritten form c sources told now from to came → status_of_marks came ≡ 5 → CountsFault from to
 marks_failed form c sources told now from to (Ok done) written five = absurd (omega (arith, five))
@@ -128,12 +129,12 @@ marks_failed form c sources told now from to (Err errors.Memory) written five = 
 pub run_sink_failed : (what : What) (asked : Question) (c : MarkedProgram) (names : Names) (told now : Option (List ℕ)) (from to status : ℕ) → IsProgramTold what asked c names told now from to status → status ≡ 5 → CountsFault from to
 run_sink_failed whats.Refusal asked c names told now from to status h five = absurd h
 run_sink_failed whats.Marks asked c names told now from to status (came, written, is) five = marks_failed asked.form c names.sources told now from to came written (sym is ∙ five)
-run_sink_failed whats.Run asked c names told now from to status (came, traced, is) five = by_came_failed c asked.cfg asked.order names asked.part told now from to came traced (sym is ∙ five)
+run_sink_failed whats.Run asked c names told now from to status (came, traced, is) five = by_came_failed c asked.cfg asked.order names asked.begin asked.part told now from to came traced (sym is ∙ five)
 
-by_came_fault : (c : MarkedProgram) (cfg : Config) (order : List ℕ) (names : Names) (part : Part) (told now : Option (List ℕ)) (from to : ℕ) (came : Result Outcome TraceError) → IsTraced c cfg order names part told now from to came → from < to → status_of_trace came ≡ 5
-by_came_fault c cfg order names part told now from to (Ok o) traced rose = omega (arith, traced.calm, rose)
-by_came_fault c cfg order names part told now from to (Err Failed) traced rose = refl
-by_came_fault c cfg order names part told now from to (Err Memory) traced rose = omega (arith, traced.0, rose)
+by_came_fault : (c : MarkedProgram) (cfg : Config) (order : List ℕ) (names : Names) (begin : List Fact) (part : Part) (told now : Option (List ℕ)) (from to : ℕ) (came : Result Outcome TraceError) → IsTraced c cfg order names begin part told now from to came → from < to → status_of_trace came ≡ 5
+by_came_fault c cfg order names begin part told now from to (Ok o) traced rose = omega (arith, traced.calm, rose)
+by_came_fault c cfg order names begin part told now from to (Err Failed) traced rose = refl
+by_came_fault c cfg order names begin part told now from to (Err Memory) traced rose = omega (arith, traced.0, rose)
 
 marks_fault : (form : Form) (c : MarkedProgram) (sources : Sources) (told now : Option (List ℕ)) (from to : ℕ) (came : Result (Unit {0}) MarksError) → AreMarksWritten form c sources told now from to came → from < to → status_of_marks came ≡ 5
 marks_fault form c sources told now from to (Ok done) written rose = omega (arith, written.0, rose)
@@ -143,4 +144,4 @@ marks_fault form c sources told now from to (Err errors.Memory) written rose = o
 pub run_sink_fault : (what : What) (asked : Question) (c : MarkedProgram) (names : Names) (told now : Option (List ℕ)) (from to status : ℕ) → IsProgramTold what asked c names told now from to status → from < to → status ≡ 5
 run_sink_fault whats.Refusal asked c names told now from to status h rose = absurd h
 run_sink_fault whats.Marks asked c names told now from to status (came, written, is) rose = is ∙ marks_fault asked.form c names.sources told now from to came written rose
-run_sink_fault whats.Run asked c names told now from to status (came, traced, is) rose = is ∙ by_came_fault c asked.cfg asked.order names asked.part told now from to came traced rose
+run_sink_fault whats.Run asked c names told now from to status (came, traced, is) rose = is ∙ by_came_fault c asked.cfg asked.order names asked.begin asked.part told now from to came traced rose

@@ -13,6 +13,8 @@ use Rattle.command_words.specs.Values.{◌>>=◌, number_or}
 use Rattle.command_words.specs.Words.{command_of, found_in_words, gives_any, names_of}
 use Rattle.json_lines.specs.declared.form.Form.{Form}
 use Rattle.json_lines.specs.declared.form.Form.TheVariants.{Lines, Json}
+use Rattle.tellings.specs.declared.facts.Fact.{Fact}
+use Rattle.solero_explain.specs.Begins.{begin_of}
 use Rattle.solero_explain.specs.declared.request.What.{What}
 use Rattle.solero_explain.specs.declared.request.What.TheVariants.{Refusal, Marks, Run}
 
@@ -25,7 +27,8 @@ with_flag a name = with_rule a (record (new_rule name) { long = Some name; actio
 abbrev pub explain_app : App
 explain_app = with_flag (command_of (codes "solero_explain")
     (codes "what" ∷ codes "threads" ∷ codes "order" ∷ codes "steps" ∷ codes "turns" ∷ codes "heap"
-    ∷ codes "prints" ∷ codes "elide" ∷ codes "range" ∷ codes "from" ∷ codes "events" ∷ []))
+    ∷ codes "prints" ∷ codes "elide" ∷ codes "range" ∷ codes "from" ∷ codes "events"
+    ∷ codes "commit" ∷ []))
     (codes "json")
 
 -- ---- values
@@ -37,10 +40,11 @@ what_of (Some text) =
     if bytes_eq text (codes "refusal") then Some Refusal else if bytes_eq text (codes "marks")
     then Some Marks else if bytes_eq text (codes "run") then Some Run else None
 
--- an order, and a part of the lines, are read with a run alone
+-- an order, a part of the lines and a commit are read with a run alone
 abbrev pub not_read_with : What → List Text
 not_read_with Run = []
-not_read_with what = codes "order" ∷ codes "from" ∷ codes "events" ∷ []
+not_read_with what =
+    codes "order" ∷ codes "from" ∷ codes "events" ∷ codes "commit" ∷ []
 
 -- the lines of a run from a number on, so many at most, in that form
 abbrev pub part_asked : (from events : ℕ) → Form → Part
@@ -65,10 +69,11 @@ pub record Question : Type 0 where
   pub heap : ℕ
   pub cfg : Config
   pub order : List ℕ
+  pub begin : List Fact
   pub part : Part
 
-unfoldable pub question : List Row → Option Question
-question rows = do
+unfoldable pub question : (words : List Text) → List Row → Option Question
+question words rows = do
   what ← what_of (first_of (codes "what") rows)
   files ← files_of (names_of rows)
   threads ← threads_of rows
@@ -86,9 +91,10 @@ question rows = do
         heap = heap;
         cfg = cfg;
         order = order;
+        begin = begin_of words files rows;
         part = part_asked from events (form_asked (first_of (codes "json") rows));
       })
 
 -- what the words ask for; None where they are not read
 unfoldable pub explain_command : List Text → Option Question
-explain_command words = found_in_words explain_app words >>= question
+explain_command words = found_in_words explain_app words >>= question words

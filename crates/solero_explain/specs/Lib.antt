@@ -1,3 +1,4 @@
+pub mod Begins
 pub mod Command
 pub mod Requests
 pub mod Answer

@@ -12,5 +12,6 @@ question_by r = record {
   heap = r.heap;
   cfg = r.cfg;
   order = r.order;
+  begin = r.begin;
   part = r.part;
 }

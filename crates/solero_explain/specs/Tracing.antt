@@ -40,7 +40,7 @@ IsProgramTold whats.Marks asked checked names told now before after status =
     × (status ≡ status_of_marks came)
 IsProgramTold whats.Run asked checked names told now before after status =
     (came : Result Outcome TraceError)
-    × IsTraced checked asked.cfg asked.order names asked.part told now before after came
+    × IsTraced checked asked.cfg asked.order names asked.begin asked.part told now before after came
     × (status ≡ status_of_trace came)
 
 pub record Traces (files : Option (List NamedFile)) (asked : Question) (told now : Option (List ℕ))

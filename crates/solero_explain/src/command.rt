@@ -10,6 +10,7 @@ ghost use Rattle.solero_explain.specs.Command.{form_asked as the_form, not_read_
 ghost use Rattle.solero_explain.specs.Command.{what_of as the_what, with_flag as flag_in};
 ghost use Rattle.solero_explain.specs.Requests.{question_by};
 
+use crate::begins::begin_facts;
 use crate::request::{Request, What};
 use clap::{Arg, ArgAction, ArgMatches, Command};
 use command_words::found_words::{found_in, gives_any, names, owned, simple_command, value};
@@ -21,9 +22,9 @@ use run_trace::Part;
 use std::alloc::{AllocError, Global};
 
 // The options, each with one value.
-const OPTIONS: [&str; 11] = [
+const OPTIONS: [&str; 12] = [
     "what", "threads", "order", "steps", "turns", "heap", "prints", "elide", "range", "from",
-    "events",
+    "events", "commit",
 ];
 
 const FROM: Numbers = Numbers {
@@ -73,7 +74,7 @@ fn gives_unread(matches: &ArgMatches<'_>, what: What) -> bool
 {
     match what {
         What::Run => gives_any(matches, &[]),
-        What::Refusal | What::Marks => gives_any(matches, &["order", "from", "events"]),
+        What::Refusal | What::Marks => gives_any(matches, &["order", "from", "events", "commit"]),
     }
 }
 
@@ -103,9 +104,13 @@ fn files(alloc: Global, given: Option<&[&str]>) -> Result<Option<Vec<String>>, A
 
 // What is asked for, where each value follows its rule.
 #[tactic(auto, unfolding(crate::specs::Command::question))]
-fn request(alloc: Global, matches: &ArgMatches<'_>) -> Result<Option<Request>, AllocError>
-    ensures { IfOk result
-        (λ r. option_map question_by r ≡ question (rows_of (found_of matches.now))) }
+fn request(
+    alloc: Global,
+    words: &[String],
+    matches: &ArgMatches<'_>,
+) -> Result<Option<Request>, AllocError>
+    ensures { IfOk result (λ r.
+        option_map question_by r ≡ question (texts words.now) (rows_of (found_of matches.now))) }
 {
     let Some(what) = what_of(value(matches, "what")) else {
         return Ok(None);
@@ -135,6 +140,9 @@ fn request(alloc: Global, matches: &ArgMatches<'_>) -> Result<Option<Request>, A
     if gives_unread(matches, what) {
         return Ok(None);
     }
+    let given = value(matches, "order");
+    let commit = value(matches, "commit");
+    let begin = begin_facts(alloc, words, files.as_slice(), given, commit)?;
     Ok(Some(Request {
         what,
         form,
@@ -143,6 +151,7 @@ fn request(alloc: Global, matches: &ArgMatches<'_>) -> Result<Option<Request>, A
         heap,
         cfg,
         order,
+        begin,
         part: Part {
             from: u64::from(from),
             count: u64::from(events),
@@ -168,7 +177,7 @@ pub fn read_words(alloc: Global, words: &[String]) -> Result<Option<Request>, Al
     ensures { IfOk result (λ r. option_map question_by r ≡ command_of (texts words.now)) }
 {
     match matches_in(alloc, words)? {
-        Some(matches) => request(alloc, &matches),
+        Some(matches) => request(alloc, words, &matches),
         None => Ok(None),
     }
 }

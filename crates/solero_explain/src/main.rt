@@ -2,6 +2,7 @@
 //! marked, and what happens in a run.
 #![tactic(auto)]
 
+mod begins;
 mod command;
 mod program;
 mod request;

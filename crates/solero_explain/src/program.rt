@@ -141,6 +141,7 @@ fn traced<K: Sink>(
         &request.cfg,
         &request.order,
         names,
+        &request.begin,
         request.part,
         sink,
     ) {

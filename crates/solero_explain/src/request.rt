@@ -2,9 +2,10 @@ ghost use Rattle.std.specs.Prelude.{length};
 ghost use Rattle.command_words.specs.Bounds.{AreInExplainBounds};
 
 use json_lines::Form;
-use jvm_types::Bytes;
+use jvm_types::{Bytes, Rows};
 use machine_types::Config;
 use run_trace::Part;
+use tellings::Fact;
 
 /// What is to be explained.
 #[derive(Clone, Copy, Debug, PartialEq, Eq)]
@@ -34,6 +35,8 @@ pub struct Request {
     pub cfg: Config,
     /// The workers that make the next steps, each a number from 1 to 8.
     pub order: Bytes,
+    /// What the run was asked by.
+    pub begin: Rows<Fact>,
     /// The lines of the run that are told, and their form.
     pub part: Part,
     ghost bounds: { AreInExplainBounds (length files.items) threads heap cfg },

@@ -29,6 +29,11 @@ abbrev pub hidden_row : (member : List ℕ) → KeyRow
 hidden_row member = record { member = member; before = []; behind = []; is_shown = false }
 
 abbrev pub key_row : Key → KeyRow
+-- of a run
+key_row keys.RunWords = shown_row (codes "words") (codes "") (codes "")
+key_row keys.Files = shown_row (codes "files") (codes ", files ") (codes "")
+key_row keys.Order = shown_row (codes "order") (codes ", order ") (codes "")
+key_row keys.Commit = shown_row (codes "commit") (codes ", commit ") (codes "")
 -- of an event, of an end, of a part that begins
 key_row keys.Number = shown_row (codes "number") (codes "") (codes "")
 key_row keys.Thread = shown_row (codes "thread") (codes " thread ") (codes "")

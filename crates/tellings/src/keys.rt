@@ -6,6 +6,11 @@ ghost use Rattle.tellings.specs.Keys.{hidden_row, key_row, row_told, shown_row};
 /// What a fact is about.
 #[derive(Clone, Copy, Debug, PartialEq, Eq)]
 pub enum Key {
+    // of a run
+    RunWords,
+    Files,
+    Order,
+    Commit,
     // of an event, of an end, of a part that begins
     Number,
     Thread,
@@ -149,6 +154,10 @@ impl Key {
         ensures { row_told result ≡ key_row self }
     {
         match self {
+            Key::RunWords => shown("words", "", ""),
+            Key::Files => shown("files", ", files ", ""),
+            Key::Order => shown("order", ", order ", ""),
+            Key::Commit => shown("commit", ", commit ", ""),
             Key::Number => shown("number", "", ""),
             Key::Thread => shown("thread", " thread ", ""),
             Key::InAttempt => shown("in_attempt", " in attempt ", ""),
