@@ -55,7 +55,7 @@ fn carried(alloc: Global, starts: &[Option<u16>]) -> Result<Rows<Option<u16>>, A
     ensures { IfOk result (λ lines. lines ≡ the_carried None starts.now) }
 {
     let mut before = None;
-    let mut lines = Rows::new(alloc);
+    let mut lines = Rows::from_vec(Vec::with_capacity(alloc, starts.len())?);
     for start in starts {
         before = start.or(before);
         lines.push(before)?;
