@@ -39,8 +39,8 @@ entry_facts p marks phase at = []
 
 -- ---- the method that a part begins, in which the thread stands behind the event
 
-abbrev pub begin_facts : Program → Phase → Option FrameSpot → List Fact
-begin_facts p phases.Start (Some at) =
+abbrev pub begun_method_facts : Program → Phase → Option FrameSpot → List Fact
+begun_method_facts p phases.Start (Some at) =
     (Opens keys.BeginsMethod ∷ []) ++ method_facts p.names (slice_get p.methods at.method)
     ++ (Closes ∷ [])
-begin_facts p phase at = []
+begun_method_facts p phase at = []

@@ -21,7 +21,7 @@ use Rattle.place_names.specs.declared.names.Names.{Names}
 use Rattle.run_texts.specs.Report.{end_text}
 use Rattle.checked_program.specs.MarkedProgram.{MarkedProgram}
 use Rattle.event_texts.specs.DeedFacts.{deed_facts, share_steps}
-use Rattle.event_texts.specs.EntryFacts.{begin_facts, entry_facts}
+use Rattle.event_texts.specs.EntryFacts.{begun_method_facts, entry_facts}
 use Rattle.event_texts.specs.Holders.{holder}
 use Rattle.event_texts.specs.PhaseFacts.{phase_facts}
 use Rattle.event_texts.specs.Shares.{Share, Steps, Owes, Section, act_text}
@@ -132,7 +132,7 @@ abbrev pub more_facts : MarkedProgram → Before → Share → After → List Fa
 more_facts c b share a =
     deed_facts c.program b.effect (share_steps share)
     ++ entry_facts c.program c.marks b.phase b.frame_spot
-    ++ begin_facts c.program b.phase a.spot ++ top_facts c b a
+    ++ begun_method_facts c.program b.phase a.spot ++ top_facts c b a
 
 abbrev pub event_facts : MarkedProgram → Names → (number : ℕ) → Before → Share → After → List Fact
 event_facts c names number b share a =

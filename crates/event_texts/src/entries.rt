@@ -1,7 +1,7 @@
 //! Which section an entry runs, with its mark, and which method a part begins.
 
 ghost use Rattle.std.specs.Prelude.{◌≡◌, ◌++◌, OnOk};
-ghost use Rattle.event_texts.specs.EntryFacts.{begin_facts, entered_facts, entry_facts};
+ghost use Rattle.event_texts.specs.EntryFacts.{begun_method_facts, entered_facts, entry_facts};
 ghost use Rattle.event_texts.specs.EntryFacts.{mark_among, mark_told};
 ghost use Rattle.machine_types.specs.Sections.{entered_at, is_same_spot};
 
@@ -99,7 +99,7 @@ pub fn add_begin(
     phase: Phase,
     at: Option<FrameSpot>,
 ) -> Result<(), AllocError>
-    ensures { OnOk result (facts.new ≡ facts.old ++ begin_facts p.now phase at) }
+    ensures { OnOk result (facts.new ≡ facts.old ++ begun_method_facts p.now phase at) }
 {
     match (phase, at) {
         (Phase::Start, Some(at)) => {

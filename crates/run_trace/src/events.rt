@@ -146,7 +146,16 @@ fn write_between(
                 &seen.share,
                 &after,
             )?;
-            write_event_end(ends, alloc, form, p, &names.sources, number, &seen.before, &after)
+            write_event_end(
+                ends,
+                alloc,
+                form,
+                p,
+                &names.sources,
+                number,
+                &seen.before,
+                &after,
+            )
         }
         _ => Ok(()),
     }
@@ -177,7 +186,8 @@ pub fn make_event(
     ensures stands { stands.new ≡ stands_after p.now machine.old.core stands.old (Of t)
         (seen_by p.now machine.old.core owed.old stands.old (Of t)) }
     ensures end { OnOk result (ends.new.items ≡ ends.old.items ++ event_end p.now names.now form
-        number machine.old.core (seen_by p.now machine.old.core owed.old stands.old (Of t)) (Of t)) }
+        number machine.old.core (seen_by p.now machine.old.core owed.old stands.old (Of t))
+        (Of t)) }
     ensures line { OnOk result (text.new.items ≡ text.old.items ++ event_line p.now form names.now
         number machine.old.core (seen_by p.now machine.old.core owed.old stands.old (Of t))
         (Of t)) }
