@@ -196,7 +196,7 @@ Marks.printsOnKey()I block 6 M8
 # thread 2 set both: the lines from 23 on, and the report.
 TORN = """\
 23 thread 1 Q.sum()I at 3 monitorenter
-24 thread 1 Q.sum()I at 3 monitorenter, enters 2071, section block 3 M0, lock word of 2071 Free(0), attempt 1 begins by Free(0), plain: none
+24 thread 1 Q.sum()I at 3 monitorenter, enters 2071, section Q.sum()I block 3 M0, lock word of 2071 Free(0), attempt 1 begins by Free(0), plain: none
 25 thread 1 in attempt 1 Q.sum()I at 4 aload, top @2071, 1 owed
 26 thread 1 in attempt 1 Q.sum()I at 5 getfield, Q@2071.a 0, 2 owed
 27 thread 1 in attempt 1 Q.sum()I at 8 aload, top @2071, 3 owed
@@ -207,7 +207,7 @@ TORN = """\
 32 thread 2 Q.run(I)V at 18 getstatic, Q.p @2071
 33 thread 2 Q.run(I)V at 21 iconst_4, top 4
 34 thread 2 Q.run(I)V at 22 invokevirtual
-35 thread 2 Q.run(I)V at 22 invokevirtual, enters 2071, section method M1, lock word of 2071 Free(0), plain: none
+35 thread 2 Q.run(I)V at 22 invokevirtual, enters 2071, section Q.set(I)V method M1, lock word of 2071 Free(0), plain: none
 36 thread 2 Q.run(I)V at 22 invokevirtual, takes the lock of 2071, lock word of 2071 Free(0) -> Held(2), locked, plain: enter
 37 thread 2 Q.set(I)V at 0 aload, top @2071
 38 thread 2 Q.set(I)V at 1 iload, top 4
@@ -224,7 +224,7 @@ TORN = """\
 49 thread 1 in attempt 1 Q.sum()I at 13 aload, top @2071, 6 owed
 50 thread 1 in attempt 1 Q.sum()I at 14 monitorexit, 7 owed
 51 thread 1 in attempt 1 Q.sum()I at 14 monitorexit, leaves 2071, lock word of 2071 Free(1), attempt 1 fails: not Free(0), plain: none
-52 thread 1 Q.sum()I at 3 monitorenter, enters 2071, section block 3 M0, lock word of 2071 Free(1), attempt 2 begins by Free(1), plain: none
+52 thread 1 Q.sum()I at 3 monitorenter, enters 2071, section Q.sum()I block 3 M0, lock word of 2071 Free(1), attempt 2 begins by Free(1), plain: none
 53 thread 1 in attempt 2 Q.sum()I at 4 aload, top @2071, 1 owed
 54 thread 1 in attempt 2 Q.sum()I at 5 getfield, Q@2071.a 4, 2 owed
 55 thread 1 in attempt 2 Q.sum()I at 8 aload, top @2071, 3 owed
