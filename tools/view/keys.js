@@ -2,26 +2,14 @@
 // What an event of `--what run --json` says, by the members of its object. They are read here and
 // nowhere else.
 const Keys = (() => {
-  // A monitor or an object is named by its number, a class as `class NAME`. Where the object has no
-  // member for the monitor, it stands behind the words of what is done.
-  const DONE_TO = new RegExp("^(enters|(?:looks at|takes|flags|frees) the lock of|leaves|" +
-    "takes the fat lock of|draws a record for|owns the record for|begins to wait on|gives up|" +
-    "waits on|takes back|looks who waits on|wakes all from|wakes thread (\\d+) from|" +
-    "makes the lock of) (.+?)(?: fat)?$");
-
+  // A monitor or an object is named by its number, a class as `class NAME`.
   function monitorOf(o) {
     if ("monitor_class" in o) return `class ${o.monitor_class}`;
     return "monitor" in o ? String(o.monitor) : undefined;
   }
 
-  // What is done, to which monitor, and who is woken; `wakes` has the woken thread apart.
-  function doingOf(o) {
-    const does = o.does || "", monitor = monitorOf(o);
-    if (monitor !== undefined) return {does, monitor, woken: o.woken};
-    const [, verb, woken, told] = DONE_TO.exec(does) || [];
-    if (!verb) return {does};
-    return {does: woken ? "wakes" : verb, monitor: told, woken: woken && Number(woken)};
-  }
+  // What is done, to which monitor, and who is woken.
+  const doingOf = (o) => ({does: o.does || "", monitor: monitorOf(o), woken: o.woken});
 
   // What a word belongs to, which word of that it is, and the class that its object then has.
   function placeOf(a) {
@@ -31,19 +19,7 @@ const Keys = (() => {
     if ("object" in a) return [String(a.object), a.word];
     if ("record" in a) return [`record ${a.record}`, a.word];
     if (monitorOf(a) !== undefined) return [monitorOf(a), "lock"];
-    return placeIn(a.word);
-  }
-
-  // The same of a word that is told by one text.
-  function placeIn(word) {
-    let m;
-    if ((m = /^lock word of (.+)$/.exec(word))) return [m[1], "lock"];
-    if ((m = /^header of (.+)$/.exec(word))) return [m[1], "header"];
-    if ((m = /^(owner|waiting bits) of (record \d+)$/.exec(word))) return [m[2], m[1]];
-    if ((m = /^\[I@(\d+)(\[\d+\])$/.exec(word))) return [m[1], m[2], "int[]"];
-    if ((m = /^(.*)@(\d+)\.([^.]*)$/.exec(word))) return [m[2], m[3], m[1]];
-    if ((m = /^(.*)\.([^.]*)$/.exec(word))) return [`class ${m[1]}`, m[2]];
-    return ["counters", word];
+    return ["counters", a.word];
   }
 
   // `left` is what stands there behind the event, `stores` whether it is no load.
@@ -51,16 +27,13 @@ const Keys = (() => {
     const [group, cell, known] = placeOf(a), stores = "left" in a;
     const found = String(a.found), left = String(stores ? a.left : a.found);
     // a header has the class of its object, or an array with its length
-    const isNamed = cell === "header" && !/^\d+$/.test(left);
+    const isNamed = cell === "header" && left !== "none";
     const owner = isNamed ? left.replace(/\[\d+\]$/, "[]") : known;
     return {group, cell, owner, word: `${group} ${cell}`, found, left, stores};
   }
 
   // Whether a thread is among those that wait, by what was found in the waiting bits.
-  function isAmong(thread, found) {
-    if (/^\d+$/.test(found)) return Boolean((BigInt(found) >> BigInt(thread)) & 1n);
-    return found.split(/[^\d]+/).includes(String(thread));
-  }
+  const isAmong = (thread, found) => found.split(/[^\d]+/).includes(String(thread));
 
   function spotOf(o) {
     if (!("pc" in o)) return undefined;
