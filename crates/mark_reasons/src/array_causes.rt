@@ -9,9 +9,11 @@ ghost use Rattle.checked_program.specs.OwnedArrays.{IsOwnedArrayField, ReadsOwne
 ghost use Rattle.checked_program.specs.TaggedCode.{tagged_by};
 ghost use Rattle.checked_program.specs.declared.section.Mode.TheVariants.{OnThis as on_this};
 ghost use Rattle.guard_analysis.specs.ColourVisits.{is_array_field};
-ghost use Rattle.mark_reasons.specs.ArrayCauses.{IsMisuseFound, IsMisuseIf, IsMisuseIn};
-ghost use Rattle.mark_reasons.specs.ArrayCauses.{KeepsArrayFrom, KeepsArrays, KeepsElement};
+ghost use Rattle.mark_reasons.specs.ArrayCauses.{IsArrayMemo, IsMisuseFound, IsMisuseIf};
+ghost use Rattle.mark_reasons.specs.ArrayCauses.{IsMisuseIn, KeepsArrayFrom, KeepsArrays};
+ghost use Rattle.mark_reasons.specs.ArrayCauses.{KeepsElement};
 
+use crate::array_memo::ArrayMemo;
 use crate::cause::Cause;
 use crate::reason::Site;
 use checked_program::{Mode, Tags};
@@ -109,11 +111,39 @@ fn arrays_cause(
     }
 }
 
+/// The same, which is looked for once for each field.
+fn arrays_once(
+    alloc: Global,
+    p: &Program,
+    tags: &Rows<Tags>,
+    memo: &mut ArrayMemo,
+    field: u32,
+    info: &FieldInfo,
+) -> Result<Cause, AllocError>
+    requires program { IsProgram p.now }
+    requires few { length p.now.methods ≤ most }
+    requires tagged { AreTaggings p.now p.now.methods tags.now }
+    requires there { slice_get p.now.fields field ≡ Some info.now }
+    requires array { is_array_field p.now field ≡ true }
+    requires loose { ¬ IsOwnedArrayField p.now (tagged_by tags.now) field }
+    requires memo { IsArrayMemo p.now (tagged_by tags.now) memo.old }
+    ensures memo { IsArrayMemo p.now (tagged_by tags.now) memo.new }
+    ensures cause { IfOk result (KeepsArrays p.now (tagged_by tags.now) field (Some info.now)) }
+{
+    if let Some(found) = memo.get(field) {
+        return Ok(found);
+    }
+    let cause = arrays_cause(alloc, p, tags, field, info)?;
+    memo.keep(field, cause);
+    Ok(cause)
+}
+
 /// What keeps an element of an array that was read from a field, or from none that is known.
 fn array_cause(
     alloc: Global,
     p: &Program,
     tags: &Rows<Tags>,
+    memo: &mut ArrayMemo,
     from: Option<u32>,
 ) -> Result<Cause, AllocError>
     requires program { IsProgram p.now }
@@ -122,11 +152,13 @@ fn array_cause(
     requires arrays { (fi : ℕ) → from ≡ Some fi → is_array_field p.now fi ≡ true }
     requires loose { (fi : ℕ) → from ≡ Some fi
         → ¬ IsOwnedArrayField p.now (tagged_by tags.now) fi }
-    ensures { IfOk result (KeepsArrayFrom p.now (tagged_by tags.now) from) }
+    requires memo { IsArrayMemo p.now (tagged_by tags.now) memo.old }
+    ensures memo { IsArrayMemo p.now (tagged_by tags.now) memo.new }
+    ensures cause { IfOk result (KeepsArrayFrom p.now (tagged_by tags.now) from) }
 {
     match from {
         Some(field) => match p.fields.get(field as usize) {
-            Some(info) => arrays_cause(alloc, p, tags, field, info),
+            Some(info) => arrays_once(alloc, p, tags, memo, field, info),
             None => unreachable!(),
         },
         None => Ok(Cause::Element),
@@ -139,6 +171,7 @@ pub fn element_cause(
     alloc: Global,
     p: &Program,
     tags: &Rows<Tags>,
+    memo: &mut ArrayMemo,
     site: Site,
     m: &MethodInfo,
 ) -> Result<Cause, AllocError>
@@ -148,12 +181,14 @@ pub fn element_cause(
     requires there { slice_get p.now.methods site.method ≡ Some m.now }
     requires loose { site.mode ≡ on_this
         → ¬ ReadsOwned p.now (tagged_by tags.now) site.method site.at }
-    ensures { IfOk result (KeepsElement p.now (tagged_by tags.now) site.mode m.now site.at) }
+    requires memo { IsArrayMemo p.now (tagged_by tags.now) memo.old }
+    ensures memo { IsArrayMemo p.now (tagged_by tags.now) memo.new }
+    ensures cause { IfOk result (KeepsElement p.now (tagged_by tags.now) site.mode m.now site.at) }
 {
     match site.mode {
         Mode::OnThis => {
             let from = read_from(alloc, p, m, site.at)?;
-            array_cause(alloc, p, tags, from)
+            array_cause(alloc, p, tags, memo, from)
         }
         Mode::OffThis => Ok(Cause::Element),
         Mode::OnClass(_) => Ok(Cause::Element),

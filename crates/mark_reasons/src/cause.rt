@@ -10,7 +10,7 @@ ghost use Rattle.checked_program.specs.MarkedProgram.{AreTaggings};
 ghost use Rattle.checked_program.specs.Marks.{class_of_field, is_own_class, use_fault, BreaksAt};
 ghost use Rattle.checked_program.specs.TaggedCode.{tagged_by};
 ghost use Rattle.checked_program.specs.declared.section.FieldUse.TheVariants.{Open as open_use};
-ghost use Rattle.mark_reasons.specs.ArrayCauses.{KeepsElement};
+ghost use Rattle.mark_reasons.specs.ArrayCauses.{IsArrayMemo, KeepsElement};
 ghost use Rattle.mark_reasons.specs.Causes.{is_number, place_at, place_read, site_place, writes_at};
 ghost use Rattle.mark_reasons.specs.Causes.{Bars, IsCause, IsFirstWriteOf, IsMutable, IsWriteFound};
 ghost use Rattle.mark_reasons.specs.Causes.{KeepsField, KeepsStatic};
@@ -19,6 +19,7 @@ ghost use Rattle.mark_reasons.specs.Firsts.{IsFirst};
 ghost use Rattle.mark_reasons.specs.declared.cause.Place.TheVariants.{Element as element};
 
 use crate::array_causes::element_cause;
+use crate::array_memo::ArrayMemo;
 use crate::reason::Site;
 use checked_program::{FieldUse, Mode, Tags, Uses};
 use frozen_classes::first_out;
@@ -275,6 +276,7 @@ fn site_element(
     p: &Program,
     uses: &Uses,
     tags: &Rows<Tags>,
+    memo: &mut ArrayMemo,
     site: Site,
 ) -> Result<Cause, AllocError>
     requires program { IsProgram p.now }
@@ -283,12 +285,14 @@ fn site_element(
     requires uses { AreUses p.now (tagged_by tags.now) uses.now }
     requires breaks { BreaksAt p.now (tagged_by tags.now) uses.now (callee_of site) site.at 5 }
     requires read { site_place (slice_get p.now.methods site.method) site.at ≡ Some element }
-    ensures { IfOk result (λ cause. (m : MethodInfo)
+    requires memo { IsArrayMemo p.now (tagged_by tags.now) memo.old }
+    ensures memo { IsArrayMemo p.now (tagged_by tags.now) memo.new }
+    ensures cause { IfOk result (λ cause. (m : MethodInfo)
         → slice_get p.now.methods site.method ≡ Some m
         → KeepsElement p.now (tagged_by tags.now) site.mode m site.at cause) }
 {
     match p.methods.get(site.method as usize) {
-        Some(m) => element_cause(alloc, p, tags, site, m),
+        Some(m) => element_cause(alloc, p, tags, memo, site, m),
         None => unreachable!(),
     }
 }
@@ -299,6 +303,7 @@ fn place_cause(
     p: &Program,
     uses: &Uses,
     tags: &Rows<Tags>,
+    memo: &mut ArrayMemo,
     site: Site,
     place: Place,
 ) -> Result<Cause, AllocError>
@@ -308,10 +313,12 @@ fn place_cause(
     requires uses { AreUses p.now (tagged_by tags.now) uses.now }
     requires breaks { BreaksAt p.now (tagged_by tags.now) uses.now (callee_of site) site.at 5 }
     requires read { site_place (slice_get p.now.methods site.method) site.at ≡ Some place }
-    ensures { IfOk result (IsCause p.now (tagged_by tags.now) (callee_of site) site.at) }
+    requires memo { IsArrayMemo p.now (tagged_by tags.now) memo.old }
+    ensures memo { IsArrayMemo p.now (tagged_by tags.now) memo.new }
+    ensures cause { IfOk result (IsCause p.now (tagged_by tags.now) (callee_of site) site.at) }
 {
     match place {
-        Place::Element => site_element(alloc, p, uses, tags, site),
+        Place::Element => site_element(alloc, p, uses, tags, memo, site),
         Place::Static(field) => static_cause(alloc, p, uses, tags, site.mode, field),
         Place::Field(field) => field_cause(alloc, p, uses, tags, field),
     }
@@ -323,6 +330,7 @@ pub fn cause_of(
     p: &Program,
     uses: &Uses,
     tags: &Rows<Tags>,
+    memo: &mut ArrayMemo,
     site: Site,
 ) -> Result<Cause, AllocError>
     requires program { IsProgram p.now }
@@ -330,10 +338,12 @@ pub fn cause_of(
     requires tagged { AreTaggings p.now p.now.methods tags.now }
     requires uses { AreUses p.now (tagged_by tags.now) uses.now }
     requires breaks { BreaksAt p.now (tagged_by tags.now) uses.now (callee_of site) site.at 5 }
-    ensures { IfOk result (IsCause p.now (tagged_by tags.now) (callee_of site) site.at) }
+    requires memo { IsArrayMemo p.now (tagged_by tags.now) memo.old }
+    ensures memo { IsArrayMemo p.now (tagged_by tags.now) memo.new }
+    ensures cause { IfOk result (IsCause p.now (tagged_by tags.now) (callee_of site) site.at) }
 {
     match site_place(p, site) {
-        Some(place) => place_cause(alloc, p, uses, tags, site, place),
+        Some(place) => place_cause(alloc, p, uses, tags, memo, site, place),
         None => unreachable!(),
     }
 }

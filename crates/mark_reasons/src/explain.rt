@@ -11,12 +11,14 @@ ghost use Rattle.checked_program.specs.Marks.{BreaksAt, CalleeBreaks, CalleeRecu
 ghost use Rattle.checked_program.specs.Marks.{OwnBreaks};
 ghost use Rattle.graph_closure.specs.Walks.{AreRecurring};
 ghost use Rattle.guard_analysis.specs.CallGraph.{call_graph};
+ghost use Rattle.mark_reasons.specs.ArrayCauses.{IsArrayMemo};
 ghost use Rattle.mark_reasons.specs.Firsts.{IsFirst};
 ghost use Rattle.mark_reasons.specs.OwnFlags.{AreOwn};
 ghost use Rattle.mark_reasons.specs.Reasons.{callee_of, marked_section};
 ghost use Rattle.mark_reasons.specs.Reasons.{HasCause, IsExplained, IsReason};
 ghost use Rattle.mark_reasons.specs.Searches.{own_breaks, own_call, turns};
 
+use crate::array_memo::ArrayMemo;
 use crate::cause::{Cause, cause_of};
 use crate::own::own_flags;
 use crate::reached::is_spot_reached;
@@ -100,6 +102,7 @@ fn cause_if(
     p: &Program,
     uses: &Uses,
     tags: &Rows<Tags>,
+    memo: &mut ArrayMemo,
     site: Site,
     rule: u8,
 ) -> Result<Option<Cause>, AllocError>
@@ -108,10 +111,12 @@ fn cause_if(
     requires taggings { AreTaggings p.now p.now.methods tags.now }
     requires uses { AreUses p.now (tagged_by tags.now) uses.now }
     requires breaks { BreaksAt p.now (tagged_by tags.now) uses.now (callee_of site) site.at rule }
-    ensures { IfOk result (HasCause p.now (tagged_by tags.now) site rule) }
+    requires memo { IsArrayMemo p.now (tagged_by tags.now) memo.old }
+    ensures memo { IsArrayMemo p.now (tagged_by tags.now) memo.new }
+    ensures cause { IfOk result (HasCause p.now (tagged_by tags.now) site rule) }
 {
     if rule == 5 {
-        Ok(Some(cause_of(alloc, p, uses, tags, site)?))
+        Ok(Some(cause_of(alloc, p, uses, tags, memo, site)?))
     } else {
         Ok(None)
     }
@@ -123,6 +128,7 @@ fn own_reason(
     p: &Program,
     uses: &Uses,
     tags: &Rows<Tags>,
+    memo: &mut ArrayMemo,
     mark: SectionMark,
     m: &MethodInfo,
     t: &Tags,
@@ -137,7 +143,9 @@ fn own_reason(
     requires own { AreOwn p.now (tagged_by tags.now) mark.method mark.spot own.now }
     requires breaks { OwnBreaks p.now (tagged_by tags.now) uses.now (marked_section mark)
         mark.mark }
-    ensures { IfOk result
+    requires memo { IsArrayMemo p.now (tagged_by tags.now) memo.old }
+    ensures memo { IsArrayMemo p.now (tagged_by tags.now) memo.new }
+    ensures reason { IfOk result
         (IsReason p.now (tagged_by tags.now) uses.now (marked_section mark) mark.mark) }
 {
     let mode = section_mode(m, mark.spot);
@@ -149,7 +157,7 @@ fn own_reason(
         mode,
         at,
     };
-    let cause = cause_if(alloc, p, uses, tags, site, mark.mark)?;
+    let cause = cause_if(alloc, p, uses, tags, memo, site, mark.mark)?;
     Ok(Reason::Breaks {
         way: Rows::new(alloc),
         site,
@@ -164,6 +172,7 @@ fn called_reason(
     p: &Program,
     uses: &Uses,
     tags: &Rows<Tags>,
+    memo: &mut ArrayMemo,
     mark: SectionMark,
     m: &MethodInfo,
     t: &Tags,
@@ -177,12 +186,15 @@ fn called_reason(
     requires tagged { slice_get tags.now mark.method ≡ Some t.now }
     requires own { AreOwn p.now (tagged_by tags.now) mark.method mark.spot own.now }
     requires breaks { CalleeBreaks p.now (tagged_by tags.now) uses.now (marked_section mark) }
-    ensures { IfOk result (IsReason p.now (tagged_by tags.now) uses.now (marked_section mark) 6) }
+    requires memo { IsArrayMemo p.now (tagged_by tags.now) memo.old }
+    ensures memo { IsArrayMemo p.now (tagged_by tags.now) memo.new }
+    ensures reason { IfOk result
+        (IsReason p.now (tagged_by tags.now) uses.now (marked_section mark) 6) }
 {
     let Some(fault) = find_fault(alloc, p, uses, tags, mark, m, t, own)? else {
         unreachable!()
     };
-    let cause = cause_if(alloc, p, uses, tags, fault.site, fault.rule)?;
+    let cause = cause_if(alloc, p, uses, tags, memo, fault.site, fault.rule)?;
     Ok(Reason::Breaks {
         way: fault.way,
         site: fault.site,
@@ -233,6 +245,7 @@ fn rule_reason(
     p: &Program,
     uses: &Uses,
     tags: &Rows<Tags>,
+    memo: &mut ArrayMemo,
     recurs: &[bool],
     mark: SectionMark,
     m: &MethodInfo,
@@ -249,18 +262,20 @@ fn rule_reason(
     requires some { 0 < mark.mark }
     requires low { mark.mark < 8 }
     requires marked { HasMark p.now (tagged_by tags.now) uses.now (marked_section mark) mark.mark }
-    ensures { IfOk result
+    requires memo { IsArrayMemo p.now (tagged_by tags.now) memo.old }
+    ensures memo { IsArrayMemo p.now (tagged_by tags.now) memo.new }
+    ensures reason { IfOk result
         (IsReason p.now (tagged_by tags.now) uses.now (marked_section mark) mark.mark) }
 {
     let Some(own) = own_flags(alloc, p, tags, mark.method, m, t, mark.spot)? else {
         unreachable!()
     };
     if mark.mark == 6 {
-        called_reason(alloc, p, uses, tags, mark, m, t, own.as_slice())
+        called_reason(alloc, p, uses, tags, memo, mark, m, t, own.as_slice())
     } else if mark.mark == 7 {
         recurring_reason(alloc, p, uses, tags, recurs, mark, m, t, own.as_slice())
     } else {
-        own_reason(alloc, p, uses, tags, mark, m, t, own.as_slice())
+        own_reason(alloc, p, uses, tags, memo, mark, m, t, own.as_slice())
     }
 }
 
@@ -270,6 +285,7 @@ pub fn reason_of(
     p: &Program,
     uses: &Uses,
     tags: &Rows<Tags>,
+    memo: &mut ArrayMemo,
     recurs: &[bool],
     mark: SectionMark,
 ) -> Result<Option<Reason>, AllocError>
@@ -280,7 +296,9 @@ pub fn reason_of(
     requires recurs { AreRecurring (call_graph p.now tags.now).from (call_graph p.now tags.now).to
         (3 * length p.now.methods) recurs.now }
     requires marked { HasMark p.now (tagged_by tags.now) uses.now (marked_section mark) mark.mark }
-    ensures { IfOk result (IsExplained p.now (tagged_by tags.now) uses.now mark) }
+    requires memo { IsArrayMemo p.now (tagged_by tags.now) memo.old }
+    ensures memo { IsArrayMemo p.now (tagged_by tags.now) memo.new }
+    ensures reason { IfOk result (IsExplained p.now (tagged_by tags.now) uses.now mark) }
 {
     if mark.mark == 0 {
         return Ok(None);
@@ -297,7 +315,7 @@ pub fn reason_of(
     let Some(t) = tags.get(mark.method as usize) else {
         unreachable!()
     };
-    let reason = rule_reason(alloc, p, uses, tags, recurs, mark, m, t)?;
+    let reason = rule_reason(alloc, p, uses, tags, memo, recurs, mark, m, t)?;
     Ok(Some(reason))
 }
 

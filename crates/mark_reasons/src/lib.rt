@@ -3,6 +3,7 @@
 #![tactic(auto)]
 
 pub mod array_causes;
+pub mod array_memo;
 pub mod cause;
 pub mod explain;
 pub mod facts;

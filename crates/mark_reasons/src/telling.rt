@@ -9,11 +9,13 @@ ghost use Rattle.checked_program.specs.OwnedArrays.{AreUses};
 ghost use Rattle.checked_program.specs.TaggedCode.{tagged_by};
 ghost use Rattle.graph_closure.specs.Walks.{AreRecurring};
 ghost use Rattle.guard_analysis.specs.CallGraph.{call_graph};
+ghost use Rattle.mark_reasons.specs.ArrayCauses.{IsArrayMemo};
 ghost use Rattle.mark_reasons.specs.MarksTold.{section_text as the_section_text};
 ghost use Rattle.mark_reasons.specs.MarksTold.{AreMarksWritten, AreSectionsWritten};
 ghost use Rattle.mark_reasons.specs.MarksTold.{IsSectionReady, IsSectionWritten};
 ghost use Rattle.mark_reasons.specs.Reasons.{marked_section, AreMarked};
 
+use crate::array_memo::ArrayMemo;
 use crate::explain::{reason_of, recurring_nodes};
 use crate::facts::section_told;
 use crate::reason::Reason;
@@ -71,6 +73,7 @@ fn make_ready(
     sources: &Sources,
     uses: &Uses,
     tags: &Rows<Tags>,
+    memo: &mut ArrayMemo,
     recurs: &[bool],
     last: Option<LastWay>,
     mark: SectionMark,
@@ -82,10 +85,12 @@ fn make_ready(
     requires recurs { AreRecurring (call_graph p.now tags.now).from (call_graph p.now tags.now).to
         (3 * length p.now.methods) recurs.now }
     requires marked { HasMark p.now (tagged_by tags.now) uses.now (marked_section mark) mark.mark }
-    ensures { IfOk result
+    requires memo { IsArrayMemo p.now (tagged_by tags.now) memo.old }
+    ensures memo { IsArrayMemo p.now (tagged_by tags.now) memo.new }
+    ensures ready { IfOk result
         (IsSectionReady form p.now sources.now (tagged_by tags.now) uses.now last mark) }
 {
-    let reason = reason_of(alloc, p, uses, tags, recurs, mark)?;
+    let reason = reason_of(alloc, p, uses, tags, memo, recurs, mark)?;
     let text = section_text(alloc, form, p, sources, &last, mark, &reason)?;
     let last = last_told(alloc, last, mark, &reason)?;
     Ok(Ready { text, last })
@@ -99,6 +104,7 @@ fn tell_section<K: Sink>(
     sources: &Sources,
     uses: &Uses,
     tags: &Rows<Tags>,
+    memo: &mut ArrayMemo,
     recurs: &[bool],
     last: Option<LastWay>,
     mark: SectionMark,
@@ -111,10 +117,14 @@ fn tell_section<K: Sink>(
     requires recurs { AreRecurring (call_graph p.now tags.now).from (call_graph p.now tags.now).to
         (3 * length p.now.methods) recurs.now }
     requires marked { HasMark p.now (tagged_by tags.now) uses.now (marked_section mark) mark.mark }
-    ensures { IsSectionWritten form p.now sources.now (tagged_by tags.now) uses.now last mark
-        (K.text sink.old) (K.text sink.new) (K.faults sink.old) (K.faults sink.new) result }
+    requires memo { IsArrayMemo p.now (tagged_by tags.now) memo.old }
+    ensures memo { IsArrayMemo p.now (tagged_by tags.now) memo.new }
+    ensures written { IsSectionWritten form p.now sources.now (tagged_by tags.now) uses.now last
+        mark (K.text sink.old) (K.text sink.new) (K.faults sink.old) (K.faults sink.new) result }
 {
-    match make_ready(alloc, form, p, sources, uses, tags, recurs, last, mark) {
+    match make_ready(
+        alloc, form, p, sources, uses, tags, memo, recurs, last, mark,
+    ) {
         Ok(ready) => match write_whole(sink, ready.text.as_slice()) {
             Ok(()) => Ok(ready.last),
             Err(SinkFailed) => Err(MarksError::Failed),
@@ -131,6 +141,7 @@ fn tell_sections<K: Sink>(
     sources: &Sources,
     uses: &Uses,
     tags: &Rows<Tags>,
+    memo: &mut ArrayMemo,
     recurs: &[bool],
     marks: &[SectionMark],
     sink: &mut K,
@@ -142,24 +153,29 @@ fn tell_sections<K: Sink>(
     requires recurs { AreRecurring (call_graph p.now tags.now).from (call_graph p.now tags.now).to
         (3 * length p.now.methods) recurs.now }
     requires marked { AreMarked p.now (tagged_by tags.now) uses.now marks.now }
-    ensures { AreSectionsWritten form p.now sources.now (tagged_by tags.now) uses.now marks.now
-        (K.text sink.old) (K.text sink.new) (K.faults sink.old) (K.faults sink.new) result }
+    requires memo { IsArrayMemo p.now (tagged_by tags.now) memo.old }
+    ensures memo { IsArrayMemo p.now (tagged_by tags.now) memo.new }
+    ensures written { AreSectionsWritten form p.now sources.now (tagged_by tags.now) uses.now
+        marks.now (K.text sink.old) (K.text sink.new) (K.faults sink.old) (K.faults sink.new)
+        result }
 {
     let mut last = None;
     for mark in marks {
         last = tell_section(
-            alloc, form, p, sources, uses, tags, recurs, last, *mark, sink,
+            alloc, form, p, sources, uses, tags, memo, recurs, last, *mark, sink,
         )?;
     }
     Ok(())
 }
 
-/// What is known of a program before its marks are explained: how its places may be used, and of
-/// each node of the graph of calls, whether it leads to a method that calls itself.
+/// What is known of a program before its marks are explained: how its places may be used, of each
+/// node of the graph of calls, whether it leads to a method that calls itself, and of no field yet
+/// what keeps its arrays.
 #[derive(Drop)]
 pub struct Known {
     pub uses: Uses,
     pub recurs: Vec<bool>,
+    pub memo: ArrayMemo,
 }
 
 fn find_known(alloc: Global, p: &Program, tags: &Rows<Tags>) -> Result<Known, AllocError>
@@ -170,11 +186,13 @@ fn find_known(alloc: Global, p: &Program, tags: &Rows<Tags>) -> Result<Known, Al
     ensures recurs { IfOk result (λ k.
         AreRecurring (call_graph p.now tags.now).from (call_graph p.now tags.now).to
         (3 * length p.now.methods) k.recurs.items) }
+    ensures memo { IfOk result (λ k. IsArrayMemo p.now (tagged_by tags.now) k.memo) }
 {
     let frozen = frozen_classes(alloc, p, tags)?;
     let uses = uses(alloc, p, tags, &frozen)?;
     let recurs = recurring_nodes(alloc, p, tags)?;
-    Ok(Known { uses, recurs })
+    let memo = ArrayMemo::new(alloc, p.fields.len())?;
+    Ok(Known { uses, recurs, memo })
 }
 
 /// Writes the marks of a program with their reasons, section by section as they are found: for each
@@ -197,13 +215,14 @@ pub fn explain_marks<K: Sink>(
     let p = c.program();
     let tags = c.tags();
     match find_known(alloc, p, tags) {
-        Ok(known) => tell_sections(
+        Ok(mut known) => tell_sections(
             alloc,
             form,
             p,
             sources,
             &known.uses,
             tags,
+            &mut known.memo,
             known.recurs.as_slice(),
             c.marks().as_slice(),
             sink,

@@ -14,4 +14,4 @@ tell_sections-requires-clause-marked g c = marked_shown c.args.c.now c.program-p
 
 pub returns-in-Ok : goal.returns-in-Ok
 returns-in-Ok g c =
-    marks_written c.args.form c.args.c.now c.args.sources.now c.program-p.result.now c.tags-tags.result.now c.in-Ok.known.uses c.as_slice-in-Ok.result.now _ _ _ _ c.tell_sections.result c.program-p.ensures.program c.tags-tags.ensures.tags (c.as_slice-in-Ok.ensures ∙ c.marks.ensures.marks) c.in-Ok.ensures.uses c.tell_sections.ensures
+    marks_written c.args.form c.args.c.now c.args.sources.now c.program-p.result.now c.tags-tags.result.now c.in-Ok.known.uses c.as_slice-in-Ok.result.now _ _ _ _ c.tell_sections.result c.program-p.ensures.program c.tags-tags.ensures.tags (c.as_slice-in-Ok.ensures ∙ c.marks.ensures.marks) c.in-Ok.ensures.uses c.tell_sections.ensures.written

@@ -1,0 +1,42 @@
+//! What keeps the arrays of each field from staying in their objects, as far as it was asked.
+
+ghost use Rattle.std.specs.Prelude.{◌≡◌, ◌<◌, IfOk, None, Some, length, slice_set};
+ghost use Rattle.std.specs.Prelude.{replicate, slice_index_or};
+
+use crate::cause::Cause;
+use std::alloc::{AllocError, Global};
+
+/// For each field of a program what keeps its arrays, where that was asked: so what all methods of
+/// a class do with the field is looked at once, however many sections read elements of its arrays.
+#[derive(Drop)]
+pub struct ArrayMemo {
+    pub causes: Vec<Option<Cause>>,
+}
+
+impl ArrayMemo {
+    /// That of so many fields, of which none was asked.
+    pub fn new(alloc: Global, fields: usize) -> Result<ArrayMemo, AllocError>
+        ensures { IfOk result (λ memo. memo.causes.items ≡ replicate fields None) }
+    {
+        let causes = vec![in alloc; None; fields]?;
+        Ok(ArrayMemo { causes })
+    }
+
+    /// What was found for a field.
+    pub fn get(&self, field: u32) -> Option<Cause>
+        ensures { result ≡ slice_index_or self.now.causes.items field None }
+    {
+        match self.causes.get(field as usize) {
+            Some(found) => *found,
+            None => None,
+        }
+    }
+
+    /// Keeps what was found for a field.
+    pub fn keep(&mut self, field: u32, cause: Cause)
+        requires { field < length self.old.causes.items }
+        ensures { self.new.causes.items ≡ slice_set self.old.causes.items field (Some cause) }
+    {
+        self.causes[field as usize] = Some(cause);
+    }
+}
