@@ -50,7 +50,8 @@ const Keys = (() => {
     const ends = /^ends: (.*)/.exec(o.does || "");
     return {number, thread: o.thread, ...doingOf(o), spot: spotOf(o),
       inAttempt: o.in_attempt, fate, attempt: fate && o[`attempt_${fate}`], noted: o.noted,
-      access: o.access && accessOf(o.access), prints: o.prints, begins: o.begins,
+      access: o.access && accessOf(o.access), prints: o.prints,
+      begins: o.begins && `${o.begins.class}.${o.begins.method}`,
       end: o.comes_to_its_end || (ends ? ends[1] : undefined),
       isLast: Boolean(ends), acts: o.plain || [], between: o.between, owed: o.owed};
   }
