@@ -10,3 +10,4 @@ pub mod MarkParts
 pub mod ExplainLaws
 pub mod TellingLaws
 pub mod ArrayCauseLaws
+pub mod MemoLaws

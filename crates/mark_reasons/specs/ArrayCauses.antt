@@ -14,9 +14,9 @@ use Rattle.frozen_classes.specs.FrozenClasses.{IsFirstOut}
 use Rattle.guard_analysis.specs.ArrayFaults.{IsFirstAgainst, IsReadFrom}
 use Rattle.guard_analysis.specs.declared.array_faults.Against.{Against}
 use Rattle.guard_analysis.specs.declared.array_faults.Misuse.{Misuse}
-use Rattle.mark_reasons.specs.declared.array_memo.ArrayMemo.{ArrayMemo}
 use Rattle.mark_reasons.specs.declared.cause.Cause.{Cause}
 use Rattle.mark_reasons.specs.declared.cause.Cause.TheVariants as causes
+use Rattle.mark_reasons.specs.declared.cause_memo.FieldMemo.{FieldMemo}
 
 -- ---- what counts against a field of a class, in a method of that class
 
@@ -78,7 +78,7 @@ KeepsElement p tags mode m i cause = cause ≡ causes.Element
 
 -- ---- what was found so far: of each field what keeps its arrays, or that nobody asked
 
-pub record IsArrayMemo (p : Program) (tags : Tagged) (memo : ArrayMemo) : Type 0 where
+pub record IsArrayMemo (p : Program) (tags : Tagged) (memo : FieldMemo) : Type 0 where
   pub long : length memo.causes.items ≡ length p.fields
   pub each : (fi : ℕ) (cause : Cause) → slice_get memo.causes.items fi ≡ Some (Some cause)
       → KeepsArrays p tags fi (slice_get p.fields fi) cause

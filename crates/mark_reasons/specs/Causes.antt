@@ -20,12 +20,13 @@ use Rattle.checked_program.specs.declared.tag.Tags.{Tags}
 use Rattle.checked_program.specs.declared.section.Mode.{Mode}
 use Rattle.frozen_classes.specs.FrozenClasses.{IsFirstOut}
 use Rattle.guard_analysis.specs.FieldUses.{unguarded_at}
-use Rattle.mark_reasons.specs.ArrayCauses.{KeepsElement}
+use Rattle.mark_reasons.specs.ArrayCauses.{IsArrayMemo, KeepsElement}
 use Rattle.mark_reasons.specs.Firsts.{IsFirst}
 use Rattle.mark_reasons.specs.declared.cause.Cause.{Cause}
 use Rattle.mark_reasons.specs.declared.cause.Cause.TheVariants as causes
 use Rattle.mark_reasons.specs.declared.cause.Place.{Place}
 use Rattle.mark_reasons.specs.declared.cause.Place.TheVariants as places
+use Rattle.mark_reasons.specs.declared.cause_memo.{CauseMemo.CauseMemo, FieldMemo.FieldMemo}
 
 -- ---- the place that an instruction reads
 
@@ -143,3 +144,15 @@ abbrev pub IsWriteFound : Program → Tagged → ℕ → Option Cause → Type 0
 IsWriteFound p tags fi None = (mi i : ℕ) → WritesUnguarded p tags fi mi i → ⊥
 IsWriteFound p tags fi (Some (causes.Write mi at)) = IsFirstWrite p tags fi mi at
 IsWriteFound p tags fi (Some cause) = ⊥
+
+-- ---- what was found so far: of each field what keeps it from being read, or that nobody asked
+
+pub record IsFieldMemo (p : Program) (tags : Tagged) (memo : FieldMemo) : Type 0 where
+  pub long : length memo.causes.items ≡ length p.fields
+  pub each : (fi : ℕ) (cause : Cause) → slice_get memo.causes.items fi ≡ Some (Some cause)
+      → Bars p tags fi cause
+
+-- and of each what keeps its arrays
+pub record IsCauseMemo (p : Program) (tags : Tagged) (memo : CauseMemo) : Type 0 where
+  pub arrays : IsArrayMemo p tags memo.arrays
+  pub fields : IsFieldMemo p tags memo.fields

@@ -13,8 +13,8 @@ ghost use Rattle.mark_reasons.specs.ArrayCauses.{IsArrayMemo, IsMisuseFound, IsM
 ghost use Rattle.mark_reasons.specs.ArrayCauses.{IsMisuseIn, KeepsArrayFrom, KeepsArrays};
 ghost use Rattle.mark_reasons.specs.ArrayCauses.{KeepsElement};
 
-use crate::array_memo::ArrayMemo;
 use crate::cause::Cause;
+use crate::cause_memo::FieldMemo;
 use crate::reason::Site;
 use checked_program::{Mode, Tags};
 use frozen_classes::first_out;
@@ -116,7 +116,7 @@ fn arrays_once(
     alloc: Global,
     p: &Program,
     tags: &Rows<Tags>,
-    memo: &mut ArrayMemo,
+    memo: &mut FieldMemo,
     field: u32,
     info: &FieldInfo,
 ) -> Result<Cause, AllocError>
@@ -143,7 +143,7 @@ fn array_cause(
     alloc: Global,
     p: &Program,
     tags: &Rows<Tags>,
-    memo: &mut ArrayMemo,
+    memo: &mut FieldMemo,
     from: Option<u32>,
 ) -> Result<Cause, AllocError>
     requires program { IsProgram p.now }
@@ -171,7 +171,7 @@ pub fn element_cause(
     alloc: Global,
     p: &Program,
     tags: &Rows<Tags>,
-    memo: &mut ArrayMemo,
+    memo: &mut FieldMemo,
     site: Site,
     m: &MethodInfo,
 ) -> Result<Cause, AllocError>

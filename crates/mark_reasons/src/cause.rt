@@ -13,13 +13,13 @@ ghost use Rattle.checked_program.specs.declared.section.FieldUse.TheVariants.{Op
 ghost use Rattle.mark_reasons.specs.ArrayCauses.{IsArrayMemo, KeepsElement};
 ghost use Rattle.mark_reasons.specs.Causes.{is_number, place_at, place_read, site_place, writes_at};
 ghost use Rattle.mark_reasons.specs.Causes.{Bars, IsCause, IsFirstWriteOf, IsMutable, IsWriteFound};
-ghost use Rattle.mark_reasons.specs.Causes.{KeepsField, KeepsStatic};
+ghost use Rattle.mark_reasons.specs.Causes.{IsCauseMemo, IsFieldMemo, KeepsField, KeepsStatic};
 ghost use Rattle.mark_reasons.specs.Reasons.{callee_of};
 ghost use Rattle.mark_reasons.specs.Firsts.{IsFirst};
 ghost use Rattle.mark_reasons.specs.declared.cause.Place.TheVariants.{Element as element};
 
 use crate::array_causes::element_cause;
-use crate::array_memo::ArrayMemo;
+use crate::cause_memo::{CauseMemo, FieldMemo};
 use crate::reason::Site;
 use checked_program::{FieldUse, Mode, Tags, Uses};
 use frozen_classes::first_out;
@@ -220,12 +220,39 @@ fn open_cause(
     }
 }
 
+/// The same, which is looked for once for each field.
+fn open_once(
+    alloc: Global,
+    p: &Program,
+    tags: &Rows<Tags>,
+    memo: &mut FieldMemo,
+    field: u32,
+) -> Result<Cause, AllocError>
+    requires program { IsProgram p.now }
+    requires few { length p.now.methods ≤ most }
+    requires tagged { AreTaggings p.now p.now.methods tags.now }
+    requires there { field < length p.now.fields }
+    requires changes { ¬ IsFrozenUse p.now (tagged_by tags.now) field }
+    requires loose { ¬ IsGuardedUse p.now (tagged_by tags.now) field }
+    requires memo { IsFieldMemo p.now (tagged_by tags.now) memo.old }
+    ensures memo { IsFieldMemo p.now (tagged_by tags.now) memo.new }
+    ensures cause { IfOk result (Bars p.now (tagged_by tags.now) field) }
+{
+    if let Some(found) = memo.get(field) {
+        return Ok(found);
+    }
+    let cause = open_cause(alloc, p, tags, field)?;
+    memo.keep(field, cause);
+    Ok(cause)
+}
+
 /// What keeps a field of an object from being read where that breaks M5.
 fn field_cause(
     alloc: Global,
     p: &Program,
     uses: &Uses,
     tags: &Rows<Tags>,
+    memo: &mut FieldMemo,
     field: u32,
 ) -> Result<Cause, AllocError>
     requires program { IsProgram p.now }
@@ -233,12 +260,14 @@ fn field_cause(
     requires tagged { AreTaggings p.now p.now.methods tags.now }
     requires uses { AreUses p.now (tagged_by tags.now) uses.now }
     requires there { field < length p.now.fields }
-    ensures { IfOk result (λ cause.
+    requires memo { IsFieldMemo p.now (tagged_by tags.now) memo.old }
+    ensures memo { IsFieldMemo p.now (tagged_by tags.now) memo.new }
+    ensures cause { IfOk result (λ cause.
         (own : Bool) → use_fault (slice_index_or uses.now.fields field open_use) own ≡ 5
         → KeepsField p.now (tagged_by tags.now) field own cause) }
 {
     match use_of(&uses.fields, field) {
-        FieldUse::Open => open_cause(alloc, p, tags, field),
+        FieldUse::Open => open_once(alloc, p, tags, memo, field),
         FieldUse::Guarded => Ok(Cause::Other),
         FieldUse::Frozen => Ok(Cause::Other),
     }
@@ -250,6 +279,7 @@ fn static_cause(
     p: &Program,
     uses: &Uses,
     tags: &Rows<Tags>,
+    memo: &mut FieldMemo,
     mode: Mode,
     field: u32,
 ) -> Result<Cause, AllocError>
@@ -260,11 +290,13 @@ fn static_cause(
     requires there { field < length p.now.fields }
     requires breaks { use_fault (slice_index_or uses.now.fields field open_use)
         (is_own_class mode (class_of_field (slice_get p.now.fields field))) ≡ 5 }
-    ensures { IfOk result (KeepsStatic p.now (tagged_by tags.now) field
+    requires memo { IsFieldMemo p.now (tagged_by tags.now) memo.old }
+    ensures memo { IsFieldMemo p.now (tagged_by tags.now) memo.new }
+    ensures cause { IfOk result (KeepsStatic p.now (tagged_by tags.now) field
         (is_own_class mode (class_of_field (slice_get p.now.fields field)))) }
 {
     if is_own_class(mode, class_of_field(p, field)) {
-        open_cause(alloc, p, tags, field)
+        open_once(alloc, p, tags, memo, field)
     } else {
         Ok(Cause::Static)
     }
@@ -276,7 +308,7 @@ fn site_element(
     p: &Program,
     uses: &Uses,
     tags: &Rows<Tags>,
-    memo: &mut ArrayMemo,
+    memo: &mut FieldMemo,
     site: Site,
 ) -> Result<Cause, AllocError>
     requires program { IsProgram p.now }
@@ -303,7 +335,7 @@ fn place_cause(
     p: &Program,
     uses: &Uses,
     tags: &Rows<Tags>,
-    memo: &mut ArrayMemo,
+    memo: &mut CauseMemo,
     site: Site,
     place: Place,
 ) -> Result<Cause, AllocError>
@@ -313,14 +345,22 @@ fn place_cause(
     requires uses { AreUses p.now (tagged_by tags.now) uses.now }
     requires breaks { BreaksAt p.now (tagged_by tags.now) uses.now (callee_of site) site.at 5 }
     requires read { site_place (slice_get p.now.methods site.method) site.at ≡ Some place }
-    requires memo { IsArrayMemo p.now (tagged_by tags.now) memo.old }
-    ensures memo { IsArrayMemo p.now (tagged_by tags.now) memo.new }
+    requires memo { IsCauseMemo p.now (tagged_by tags.now) memo.old }
+    ensures memo { IsCauseMemo p.now (tagged_by tags.now) memo.new }
     ensures cause { IfOk result (IsCause p.now (tagged_by tags.now) (callee_of site) site.at) }
 {
     match place {
-        Place::Element => site_element(alloc, p, uses, tags, memo, site),
-        Place::Static(field) => static_cause(alloc, p, uses, tags, site.mode, field),
-        Place::Field(field) => field_cause(alloc, p, uses, tags, field),
+        Place::Element => site_element(alloc, p, uses, tags, &mut memo.arrays, site),
+        Place::Static(field) => static_cause(
+            alloc,
+            p,
+            uses,
+            tags,
+            &mut memo.fields,
+            site.mode,
+            field,
+        ),
+        Place::Field(field) => field_cause(alloc, p, uses, tags, &mut memo.fields, field),
     }
 }
 
@@ -330,7 +370,7 @@ pub fn cause_of(
     p: &Program,
     uses: &Uses,
     tags: &Rows<Tags>,
-    memo: &mut ArrayMemo,
+    memo: &mut CauseMemo,
     site: Site,
 ) -> Result<Cause, AllocError>
     requires program { IsProgram p.now }
@@ -338,8 +378,8 @@ pub fn cause_of(
     requires tagged { AreTaggings p.now p.now.methods tags.now }
     requires uses { AreUses p.now (tagged_by tags.now) uses.now }
     requires breaks { BreaksAt p.now (tagged_by tags.now) uses.now (callee_of site) site.at 5 }
-    requires memo { IsArrayMemo p.now (tagged_by tags.now) memo.old }
-    ensures memo { IsArrayMemo p.now (tagged_by tags.now) memo.new }
+    requires memo { IsCauseMemo p.now (tagged_by tags.now) memo.old }
+    ensures memo { IsCauseMemo p.now (tagged_by tags.now) memo.new }
     ensures cause { IfOk result (IsCause p.now (tagged_by tags.now) (callee_of site) site.at) }
 {
     match site_place(p, site) {

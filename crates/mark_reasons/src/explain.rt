@@ -11,15 +11,15 @@ ghost use Rattle.checked_program.specs.Marks.{BreaksAt, CalleeBreaks, CalleeRecu
 ghost use Rattle.checked_program.specs.Marks.{OwnBreaks};
 ghost use Rattle.graph_closure.specs.Walks.{AreRecurring};
 ghost use Rattle.guard_analysis.specs.CallGraph.{call_graph};
-ghost use Rattle.mark_reasons.specs.ArrayCauses.{IsArrayMemo};
+ghost use Rattle.mark_reasons.specs.Causes.{IsCauseMemo};
 ghost use Rattle.mark_reasons.specs.Firsts.{IsFirst};
 ghost use Rattle.mark_reasons.specs.OwnFlags.{AreOwn};
 ghost use Rattle.mark_reasons.specs.Reasons.{callee_of, marked_section};
 ghost use Rattle.mark_reasons.specs.Reasons.{HasCause, IsExplained, IsReason};
 ghost use Rattle.mark_reasons.specs.Searches.{own_breaks, own_call, turns};
 
-use crate::array_memo::ArrayMemo;
 use crate::cause::{Cause, cause_of};
+use crate::cause_memo::CauseMemo;
 use crate::own::own_flags;
 use crate::reached::is_spot_reached;
 use crate::reason::{Reason, Site};
@@ -102,7 +102,7 @@ fn cause_if(
     p: &Program,
     uses: &Uses,
     tags: &Rows<Tags>,
-    memo: &mut ArrayMemo,
+    memo: &mut CauseMemo,
     site: Site,
     rule: u8,
 ) -> Result<Option<Cause>, AllocError>
@@ -111,8 +111,8 @@ fn cause_if(
     requires taggings { AreTaggings p.now p.now.methods tags.now }
     requires uses { AreUses p.now (tagged_by tags.now) uses.now }
     requires breaks { BreaksAt p.now (tagged_by tags.now) uses.now (callee_of site) site.at rule }
-    requires memo { IsArrayMemo p.now (tagged_by tags.now) memo.old }
-    ensures memo { IsArrayMemo p.now (tagged_by tags.now) memo.new }
+    requires memo { IsCauseMemo p.now (tagged_by tags.now) memo.old }
+    ensures memo { IsCauseMemo p.now (tagged_by tags.now) memo.new }
     ensures cause { IfOk result (HasCause p.now (tagged_by tags.now) site rule) }
 {
     if rule == 5 {
@@ -128,7 +128,7 @@ fn own_reason(
     p: &Program,
     uses: &Uses,
     tags: &Rows<Tags>,
-    memo: &mut ArrayMemo,
+    memo: &mut CauseMemo,
     mark: SectionMark,
     m: &MethodInfo,
     t: &Tags,
@@ -143,8 +143,8 @@ fn own_reason(
     requires own { AreOwn p.now (tagged_by tags.now) mark.method mark.spot own.now }
     requires breaks { OwnBreaks p.now (tagged_by tags.now) uses.now (marked_section mark)
         mark.mark }
-    requires memo { IsArrayMemo p.now (tagged_by tags.now) memo.old }
-    ensures memo { IsArrayMemo p.now (tagged_by tags.now) memo.new }
+    requires memo { IsCauseMemo p.now (tagged_by tags.now) memo.old }
+    ensures memo { IsCauseMemo p.now (tagged_by tags.now) memo.new }
     ensures reason { IfOk result
         (IsReason p.now (tagged_by tags.now) uses.now (marked_section mark) mark.mark) }
 {
@@ -172,7 +172,7 @@ fn called_reason(
     p: &Program,
     uses: &Uses,
     tags: &Rows<Tags>,
-    memo: &mut ArrayMemo,
+    memo: &mut CauseMemo,
     mark: SectionMark,
     m: &MethodInfo,
     t: &Tags,
@@ -186,8 +186,8 @@ fn called_reason(
     requires tagged { slice_get tags.now mark.method ≡ Some t.now }
     requires own { AreOwn p.now (tagged_by tags.now) mark.method mark.spot own.now }
     requires breaks { CalleeBreaks p.now (tagged_by tags.now) uses.now (marked_section mark) }
-    requires memo { IsArrayMemo p.now (tagged_by tags.now) memo.old }
-    ensures memo { IsArrayMemo p.now (tagged_by tags.now) memo.new }
+    requires memo { IsCauseMemo p.now (tagged_by tags.now) memo.old }
+    ensures memo { IsCauseMemo p.now (tagged_by tags.now) memo.new }
     ensures reason { IfOk result
         (IsReason p.now (tagged_by tags.now) uses.now (marked_section mark) 6) }
 {
@@ -245,7 +245,7 @@ fn rule_reason(
     p: &Program,
     uses: &Uses,
     tags: &Rows<Tags>,
-    memo: &mut ArrayMemo,
+    memo: &mut CauseMemo,
     recurs: &[bool],
     mark: SectionMark,
     m: &MethodInfo,
@@ -262,8 +262,8 @@ fn rule_reason(
     requires some { 0 < mark.mark }
     requires low { mark.mark < 8 }
     requires marked { HasMark p.now (tagged_by tags.now) uses.now (marked_section mark) mark.mark }
-    requires memo { IsArrayMemo p.now (tagged_by tags.now) memo.old }
-    ensures memo { IsArrayMemo p.now (tagged_by tags.now) memo.new }
+    requires memo { IsCauseMemo p.now (tagged_by tags.now) memo.old }
+    ensures memo { IsCauseMemo p.now (tagged_by tags.now) memo.new }
     ensures reason { IfOk result
         (IsReason p.now (tagged_by tags.now) uses.now (marked_section mark) mark.mark) }
 {
@@ -285,7 +285,7 @@ pub fn reason_of(
     p: &Program,
     uses: &Uses,
     tags: &Rows<Tags>,
-    memo: &mut ArrayMemo,
+    memo: &mut CauseMemo,
     recurs: &[bool],
     mark: SectionMark,
 ) -> Result<Option<Reason>, AllocError>
@@ -296,8 +296,8 @@ pub fn reason_of(
     requires recurs { AreRecurring (call_graph p.now tags.now).from (call_graph p.now tags.now).to
         (3 * length p.now.methods) recurs.now }
     requires marked { HasMark p.now (tagged_by tags.now) uses.now (marked_section mark) mark.mark }
-    requires memo { IsArrayMemo p.now (tagged_by tags.now) memo.old }
-    ensures memo { IsArrayMemo p.now (tagged_by tags.now) memo.new }
+    requires memo { IsCauseMemo p.now (tagged_by tags.now) memo.old }
+    ensures memo { IsCauseMemo p.now (tagged_by tags.now) memo.new }
     ensures reason { IfOk result (IsExplained p.now (tagged_by tags.now) uses.now mark) }
 {
     if mark.mark == 0 {

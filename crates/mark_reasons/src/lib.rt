@@ -3,8 +3,8 @@
 #![tactic(auto)]
 
 pub mod array_causes;
-pub mod array_memo;
 pub mod cause;
+pub mod cause_memo;
 pub mod explain;
 pub mod facts;
 pub mod own;

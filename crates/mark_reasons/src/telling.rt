@@ -9,13 +9,13 @@ ghost use Rattle.checked_program.specs.OwnedArrays.{AreUses};
 ghost use Rattle.checked_program.specs.TaggedCode.{tagged_by};
 ghost use Rattle.graph_closure.specs.Walks.{AreRecurring};
 ghost use Rattle.guard_analysis.specs.CallGraph.{call_graph};
-ghost use Rattle.mark_reasons.specs.ArrayCauses.{IsArrayMemo};
+ghost use Rattle.mark_reasons.specs.Causes.{IsCauseMemo};
 ghost use Rattle.mark_reasons.specs.MarksTold.{section_text as the_section_text};
 ghost use Rattle.mark_reasons.specs.MarksTold.{AreMarksWritten, AreSectionsWritten};
 ghost use Rattle.mark_reasons.specs.MarksTold.{IsSectionReady, IsSectionWritten};
 ghost use Rattle.mark_reasons.specs.Reasons.{marked_section, AreMarked};
 
-use crate::array_memo::ArrayMemo;
+use crate::cause_memo::CauseMemo;
 use crate::explain::{reason_of, recurring_nodes};
 use crate::facts::section_told;
 use crate::reason::Reason;
@@ -73,7 +73,7 @@ fn make_ready(
     sources: &Sources,
     uses: &Uses,
     tags: &Rows<Tags>,
-    memo: &mut ArrayMemo,
+    memo: &mut CauseMemo,
     recurs: &[bool],
     last: Option<LastWay>,
     mark: SectionMark,
@@ -85,8 +85,8 @@ fn make_ready(
     requires recurs { AreRecurring (call_graph p.now tags.now).from (call_graph p.now tags.now).to
         (3 * length p.now.methods) recurs.now }
     requires marked { HasMark p.now (tagged_by tags.now) uses.now (marked_section mark) mark.mark }
-    requires memo { IsArrayMemo p.now (tagged_by tags.now) memo.old }
-    ensures memo { IsArrayMemo p.now (tagged_by tags.now) memo.new }
+    requires memo { IsCauseMemo p.now (tagged_by tags.now) memo.old }
+    ensures memo { IsCauseMemo p.now (tagged_by tags.now) memo.new }
     ensures ready { IfOk result
         (IsSectionReady form p.now sources.now (tagged_by tags.now) uses.now last mark) }
 {
@@ -104,7 +104,7 @@ fn tell_section<K: Sink>(
     sources: &Sources,
     uses: &Uses,
     tags: &Rows<Tags>,
-    memo: &mut ArrayMemo,
+    memo: &mut CauseMemo,
     recurs: &[bool],
     last: Option<LastWay>,
     mark: SectionMark,
@@ -117,8 +117,8 @@ fn tell_section<K: Sink>(
     requires recurs { AreRecurring (call_graph p.now tags.now).from (call_graph p.now tags.now).to
         (3 * length p.now.methods) recurs.now }
     requires marked { HasMark p.now (tagged_by tags.now) uses.now (marked_section mark) mark.mark }
-    requires memo { IsArrayMemo p.now (tagged_by tags.now) memo.old }
-    ensures memo { IsArrayMemo p.now (tagged_by tags.now) memo.new }
+    requires memo { IsCauseMemo p.now (tagged_by tags.now) memo.old }
+    ensures memo { IsCauseMemo p.now (tagged_by tags.now) memo.new }
     ensures written { IsSectionWritten form p.now sources.now (tagged_by tags.now) uses.now last
         mark (K.text sink.old) (K.text sink.new) (K.faults sink.old) (K.faults sink.new) result }
 {
@@ -141,7 +141,7 @@ fn tell_sections<K: Sink>(
     sources: &Sources,
     uses: &Uses,
     tags: &Rows<Tags>,
-    memo: &mut ArrayMemo,
+    memo: &mut CauseMemo,
     recurs: &[bool],
     marks: &[SectionMark],
     sink: &mut K,
@@ -153,8 +153,8 @@ fn tell_sections<K: Sink>(
     requires recurs { AreRecurring (call_graph p.now tags.now).from (call_graph p.now tags.now).to
         (3 * length p.now.methods) recurs.now }
     requires marked { AreMarked p.now (tagged_by tags.now) uses.now marks.now }
-    requires memo { IsArrayMemo p.now (tagged_by tags.now) memo.old }
-    ensures memo { IsArrayMemo p.now (tagged_by tags.now) memo.new }
+    requires memo { IsCauseMemo p.now (tagged_by tags.now) memo.old }
+    ensures memo { IsCauseMemo p.now (tagged_by tags.now) memo.new }
     ensures written { AreSectionsWritten form p.now sources.now (tagged_by tags.now) uses.now
         marks.now (K.text sink.old) (K.text sink.new) (K.faults sink.old) (K.faults sink.new)
         result }
@@ -170,12 +170,12 @@ fn tell_sections<K: Sink>(
 
 /// What is known of a program before its marks are explained: how its places may be used, of each
 /// node of the graph of calls, whether it leads to a method that calls itself, and of no field yet
-/// what keeps its arrays.
+/// what keeps sections from it.
 #[derive(Drop)]
 pub struct Known {
     pub uses: Uses,
     pub recurs: Vec<bool>,
-    pub memo: ArrayMemo,
+    pub memo: CauseMemo,
 }
 
 fn find_known(alloc: Global, p: &Program, tags: &Rows<Tags>) -> Result<Known, AllocError>
@@ -186,12 +186,12 @@ fn find_known(alloc: Global, p: &Program, tags: &Rows<Tags>) -> Result<Known, Al
     ensures recurs { IfOk result (λ k.
         AreRecurring (call_graph p.now tags.now).from (call_graph p.now tags.now).to
         (3 * length p.now.methods) k.recurs.items) }
-    ensures memo { IfOk result (λ k. IsArrayMemo p.now (tagged_by tags.now) k.memo) }
+    ensures memo { IfOk result (λ k. IsCauseMemo p.now (tagged_by tags.now) k.memo) }
 {
     let frozen = frozen_classes(alloc, p, tags)?;
     let uses = uses(alloc, p, tags, &frozen)?;
     let recurs = recurring_nodes(alloc, p, tags)?;
-    let memo = ArrayMemo::new(alloc, p.fields.len())?;
+    let memo = CauseMemo::new(alloc, p.fields.len())?;
     Ok(Known { uses, recurs, memo })
 }
 

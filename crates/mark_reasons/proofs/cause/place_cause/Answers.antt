@@ -13,10 +13,10 @@ pub static_cause-requires-clause-breaks : goal.static_cause-requires-clause-brea
 static_cause-requires-clause-breaks c = static_breaks c.args.p.now (tagged_by c.args.tags.now) c.args.uses.now (callee_of c.args.site) c.args.site.at c.requires.breaks c.in-Static.field (c.requires.read ∙ ap (λ (x : Place). Some x) c.in-Static.is)
 
 pub returns-in-Static-clause-cause : goal.returns-in-Static-clause-cause
-returns-in-Static-clause-cause c = IfOk-weaker c.static_cause.result _ _ (λ cause h. static_cause c.args.p.now (tagged_by c.args.tags.now) c.args.uses.now (callee_of c.args.site) c.args.site.at c.requires.breaks c.in-Static.field (c.requires.read ∙ ap (λ (x : Place). Some x) c.in-Static.is) cause h) c.static_cause.ensures
+returns-in-Static-clause-cause c = IfOk-weaker c.static_cause.result _ _ (λ cause h. static_cause c.args.p.now (tagged_by c.args.tags.now) c.args.uses.now (callee_of c.args.site) c.args.site.at c.requires.breaks c.in-Static.field (c.requires.read ∙ ap (λ (x : Place). Some x) c.in-Static.is) cause h) c.static_cause.ensures.cause
 
 pub field_cause-requires-clause-there : goal.field_cause-requires-clause-there
 field_cause-requires-clause-there c = field_there c.args.p.now (tagged_by c.args.tags.now) c.args.uses.now (callee_of c.args.site) c.args.site.at c.requires.breaks c.in-Field.field (c.requires.read ∙ ap (λ (x : Place). Some x) c.in-Field.is) c.requires.program
 
 pub returns-in-Field-clause-cause : goal.returns-in-Field-clause-cause
-returns-in-Field-clause-cause c = IfOk-weaker c.field_cause.result _ _ (λ cause h. field_cause c.args.p.now (tagged_by c.args.tags.now) c.args.uses.now (callee_of c.args.site) c.args.site.at c.requires.breaks c.in-Field.field (c.requires.read ∙ ap (λ (x : Place). Some x) c.in-Field.is) cause h) c.field_cause.ensures
+returns-in-Field-clause-cause c = IfOk-weaker c.field_cause.result _ _ (λ cause h. field_cause c.args.p.now (tagged_by c.args.tags.now) c.args.uses.now (callee_of c.args.site) c.args.site.at c.requires.breaks c.in-Field.field (c.requires.read ∙ ap (λ (x : Place). Some x) c.in-Field.is) cause h) c.field_cause.ensures.cause
