@@ -8,7 +8,7 @@ use crate::playing::load;
 use class_runner::FileError;
 use history_rule::Plain;
 use machine_types::Config;
-use outcome_lists::{Outcomes, list_outcomes};
+use outcomes::{Outcomes, list_outcomes};
 use plain_search::search;
 use std::process::Abort;
 use std::test::*;

@@ -1,3 +1,0 @@
-mod Whole
-mod Threads
-mod Found

@@ -1,0 +1,4 @@
+mod Whole
+mod Threads
+mod Found
+mod StopLists

@@ -1,0 +1,4 @@
+pub mod Comes
+pub mod Stops
+pub mod Lists
+pub mod WholeLists

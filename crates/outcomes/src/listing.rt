@@ -1,0 +1,127 @@
+//! The outcomes of the states that a search has found.
+
+ghost use Rattle.std.specs.Prelude.{◌≡◌, ◌<◌, ◌++◌, ℕ, Contains, IfOk, IfSome, OnOk, List, Some};
+ghost use Rattle.std.specs.Prelude.{length, slice_get, true};
+ghost use Rattle.std.specs.List.{AllByRecursion};
+ghost use Rattle.machine_types.specs.PlainState.{Plain as State};
+ghost use Rattle.machine_types.specs.Settings.{AreSettings};
+ghost use Rattle.plain_search.specs.Searched.{HasNoStepAt, IsSearched};
+ghost use Rattle.outcomes.specs.Comes.{LeadsTo};
+ghost use Rattle.outcomes.specs.Lists.{IsListedIn, IsListedOutcome};
+
+use crate::ordering::{Ordered, order_to};
+use crate::reached::{Reached, reached_at};
+use crate::sameness::show_the_same;
+use checked_program::Checked;
+use history_rule::Plain;
+use jvm_types::Rows;
+use machine_types::Config;
+use plain_search::Found;
+use std::alloc::{AllocError, Global};
+
+/// An outcome: a state of the plain machine where no step is left, and an order of the running
+/// machine that comes to what is shown there, where one was found.
+#[derive(Drop)]
+pub struct Listed {
+    pub at: Reached,
+    pub ordered: Option<Ordered>,
+}
+
+/// `true`: an outcome of the list shows what a state does.
+fn is_listed(alloc: Global, p: &Checked, listed: &[Listed], q: &Plain) -> Result<bool, AllocError>
+    ensures { IfOk result (λ b. b ≡ true → IsListedIn p.now.program listed.now q.now.state) }
+{
+    for x in listed {
+        if show_the_same(alloc, p, q, &x.at.plain)? {
+            return Ok(true);
+        }
+    }
+    Ok(false)
+}
+
+/// An order that comes to what a state shows, where steps lead there.
+fn order_of(
+    alloc: Global,
+    p: &Checked,
+    cfg: &Config,
+    at: &Reached,
+) -> Result<Option<Ordered>, AllocError>
+    requires { AreSettings cfg.now }
+    ensures { IfOk result (λ o. IfSome o
+        (λ r. LeadsTo p.now cfg.now at.now.plain.state r.order r.outcome)) }
+{
+    match &at.steps {
+        Some(steps) => order_to(alloc, p, cfg, steps.as_slice(), &at.plain),
+        None => Ok(None),
+    }
+}
+
+/// The outcome of a state without a step.
+fn outcome_of(
+    alloc: Global,
+    p: &Checked,
+    cfg: &Config,
+    found: &Found,
+    k: u32,
+) -> Result<Listed, AllocError>
+    requires program { p.now ≡ found.now.program }
+    requires settings { AreSettings cfg.now }
+    requires searched { IsSearched found.now }
+    requires place { k < length found.now.states }
+    requires rest { HasNoStepAt p.now found.now.states k }
+    ensures outcome { IfOk result (IsListedOutcome p.now cfg.now) }
+    ensures state { IfOk result (λ x. slice_get found.now.states k ≡ Some x.at.plain.state) }
+{
+    let at = reached_at(alloc, p, found, k as usize)?;
+    let ordered = order_of(alloc, p, cfg, &at)?;
+    Ok(Listed { at, ordered })
+}
+
+/// Adds the outcome of a state without a step, where none of the list shows the same.
+fn add_outcome(
+    alloc: Global,
+    p: &Checked,
+    cfg: &Config,
+    found: &Found,
+    listed: &mut Rows<Listed>,
+    k: u32,
+) -> Result<(), AllocError>
+    requires program { p.now ≡ found.now.program }
+    requires settings { AreSettings cfg.now }
+    requires searched { IsSearched found.now }
+    requires place { k < length found.now.states }
+    requires rest { HasNoStepAt p.now found.now.states k }
+    requires listed { AllByRecursion (IsListedOutcome p.now cfg.now) listed.old }
+    ensures listed { OnOk result (AllByRecursion (IsListedOutcome p.now cfg.now) listed.new) }
+    ensures longer { OnOk result ((more : List Listed) × (listed.new ≡ listed.old ++ more)) }
+    ensures there { OnOk result ((q : State) → slice_get found.now.states k ≡ Some q
+        → IsListedIn p.now.program listed.new q) }
+{
+    let q = found.at(k as usize);
+    if is_listed(alloc, p, listed.as_slice(), q)? {
+        return Ok(());
+    }
+    let x = outcome_of(alloc, p, cfg, found, k)?;
+    listed.push(x)
+}
+
+/// The outcomes of the states without a step, each once.
+pub(crate) fn list_rests(
+    alloc: Global,
+    p: &Checked,
+    cfg: &Config,
+    found: &Found,
+) -> Result<Rows<Listed>, AllocError>
+    requires program { p.now ≡ found.now.program }
+    requires settings { AreSettings cfg.now }
+    requires searched { IsSearched found.now }
+    ensures listed { IfOk result (AllByRecursion (IsListedOutcome p.now cfg.now)) }
+    ensures all { IfOk result (λ listed. (k : ℕ) (q : State) → Contains found.now.rests k
+        → slice_get found.now.states k ≡ Some q → IsListedIn p.now.program listed q) }
+{
+    let mut listed = Rows::new(alloc);
+    for k in found.rests() {
+        add_outcome(alloc, p, cfg, found, &mut listed, *k)?;
+    }
+    Ok(listed)
+}

@@ -1,0 +1,46 @@
+//! What the states that a search has found come to.
+
+ghost use Rattle.std.specs.Prelude.{◌≡◌, IfOk, length};
+ghost use Rattle.machine_types.specs.Settings.{AreSettings};
+ghost use Rattle.outcomes.specs.Lists.{AreOutcomes};
+
+use crate::listing::{Listed, list_rests};
+use crate::printing::{Printing, list_prints};
+use checked_program::Checked;
+use jvm_types::Rows;
+use machine_types::Config;
+use plain_search::Found;
+use std::alloc::{AllocError, Global};
+
+/// The outcomes and the printed numbers of so many states, and whether these are all.
+#[derive(Drop)]
+pub struct Outcomes {
+    pub listed: Rows<Listed>,
+    pub printed: Rows<Printing>,
+    pub states: usize,
+    pub is_whole: bool,
+}
+
+/// What the states that a search has found come to, with orders for these settings.
+pub fn list_outcomes(
+    alloc: Global,
+    p: &Checked,
+    cfg: &Config,
+    found: &Found,
+) -> Result<Outcomes, AllocError>
+    requires program { p.now ≡ found.now.program }
+    requires settings { AreSettings cfg.now }
+    ensures outcomes { IfOk result (AreOutcomes p.now cfg.now) }
+    ensures states { IfOk result (λ o. o.states ≡ length found.now.states) }
+    ensures whole { IfOk result (λ o. o.is_whole ≡ found.now.is_whole) }
+{
+    let is_whole = found.is_whole();
+    let listed = list_rests(alloc, p, cfg, found)?;
+    let printed = list_prints(alloc, p, found)?;
+    Ok(Outcomes {
+        listed,
+        printed,
+        states: found.len(),
+        is_whole,
+    })
+}
