@@ -2,7 +2,7 @@
 use Rattle.std.{proofs.Common.{◌≡◌, ℕ, zero, suc, ◌+◌, ◌*◌, ◌-◌, ◌^◌, ◌≤◌, inl, inr, Bool, true, false, List, [], ◌∷◌, length, Some, None, refl, sym, ap, subst, ◌∙◌, arith, IfSome}, specs.List.sum_by}
 use Rattle.std.proofs.lemmas.List.Sums.{sum_by-cons}
 use Rattle.atomic_table.specs.Seated.{TableId}
-use Rattle.solero_cell.specs.{Calls.{IsOnlySeat, IsAtEnd, IsWhole}, CellRules.{ViewFits, HasOneHistory, is_in_span, one_if, written_count}, CellViews.spent, declared.views.{Record.Record, View.View}}
+use Rattle.solero_cell.specs.{Calls.{IsOnlySeat, IsAtEnd, IsWhole}, CellRules.{SeatFits, ViewKnowledge, HasOneHistory, is_in_span, one_if, written_count}, CellViews.spent, declared.views.{Record.Record, View.View}}
 use Rattle.cell_runner.specs.{CellRuns.{IsCellRun, all_zero}, HandsOfCell.HasGathered, declared.{hands.Hand.Hand, report.CellReport.CellReport}}
 use lib.ListN.{get_elem?}
 use mathlib.Core.Option.{some, some-injective, some-ne-none}
@@ -35,9 +35,9 @@ note_spent v e n = let bad : None ≡ Some (2 ^ 62 - 1) = sym (ap (λ (x : View)
 
 note_below : (o : Record) (words : List ℕ) (views : List View) (number : ℕ) (v : View) (s : HasOneHistory o words views)
     → get_elem? views number ≡ some v → v.note ≡ Some (2 ^ 62 - 1) → 2 ^ 62 - 1 ≤ o.count + length s.history
-note_below o words views number v s here n = by (s.each number v here)
+note_below o words views number v s here n = by (s.seats.each number v here)
   where
-    by : ViewFits o s.history words v → 2 ^ 62 - 1 ≤ o.count + length s.history
+    by : SeatFits (ViewKnowledge o s.history words) v → 2 ^ 62 - 1 ≤ o.count + length s.history
     by (inl e) = absurd (note_spent v e n)
     by (inr k) = subst (λ m. IfSome m (λ c. c ≤ o.count + length s.history)) n k.1.note
 
@@ -58,7 +58,7 @@ reported workers rounds turns table h few g whole e =
     let shows : HasOneHistory all_zero e.words e.views = subst (λ (o : Record). HasOneHistory o e.words e.views) (sym g.of.1) e.shows in
     let alone : IsOnlySeat e.number e.views = e.whole whole in
     let count : length shows.history ≡ h.tally.writes =
-    sym shows.count ∙ sum_of_one written_count refl e.views e.number v e.here alone ∙ sym g.counted.writes in
+    sym shows.seats.count ∙ sum_of_one written_count refl e.views e.number v e.here alone ∙ sym g.counted.writes in
     let room : h.is_full ≡ false = not_full h.is_full (λ full.
     let le = note_below all_zero e.words e.views e.number v shows e.here (g.counted.full full) in
     absurd (omega (arith, le, count, few, g.over.writes))) in
@@ -75,7 +75,7 @@ reported workers rounds turns table h few g whole e =
       shows = shows;
       here = e.here;
       alone = alone;
-      once = λ n. shows.once n ∙ ap (λ last. one_if (is_in_span n 0 last)) (omega (arith, count));
+      once = λ n. shows.seats.once n ∙ ap (λ last. one_if (is_in_span n 0 last)) (omega (arith, count));
       got = g.counted.reads ∙ sym (sum_of_one (λ (u : View). u.reads) refl e.views e.number v e.here alone);
       failed = subst (λ n. h.tally.stopped * turns ≤ n) (sym (sum_of_one (λ (u : View). u.failed) refl e.views e.number v e.here alone)) g.stopped;
       stopped = g.over.stopped;

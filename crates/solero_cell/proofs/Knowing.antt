@@ -1,14 +1,10 @@
 -- What each view knows, when the words or the history change.
-use Rattle.std.proofs.Common.{◌≡◌, ◌≢◌, ℕ, ◌+◌, ◌*◌, ◌<◌, ◌≤◌, inl, inr, List, [], ◌∷◌, ◌++◌, length, length-append, take, Option, Some, None, refl, sym, ap, subst, arith, slice_index, IfSome, is_some}
-use Rattle.solero_cell.specs.{CellRules.{cell_values, IsUnderWay, ViewKnowledge, ViewFits, one_if, storing_count}, Histories.{History, last_count, RecordStands, OwnStand}}
+use Rattle.std.proofs.Common.{◌≡◌, ◌≢◌, ℕ, ◌+◌, ◌*◌, ◌<◌, ◌≤◌, inl, inr, List, [], ◌∷◌, ◌++◌, length, length-append, take, Option, Some, None, refl, sym, ap, subst, ◌∙◌, arith, slice_index, IfSome, is_some}
+use Rattle.solero_cell.specs.{CellRules.{cell_values, IsUnderWay, SeatKnowledge, ViewKnowledge, SeatFits, one_if, storing_count}, Histories.{History, last_count, RecordStands, OwnStand}}
 use Rattle.solero_cell.{specs.declared.views.{Record.Record, Storing.Storing, View.View}, proofs.Standing.{own_on, joining_on}}
 
 abbrev pub NoteFits : Record → History → Option ℕ → Type 0
 NoteFits o h p = IfSome p (λ c. c ≤ last_count o h)
-
--- while the word is that of the note, the values that were loaded are those of the words
-abbrev pub LoadedFits : (words : List ℕ) → Option ℕ → List ℕ → Type 0
-LoadedFits ws p xs = (c : ℕ) → p ≡ Some c → slice_index ws 0 ≡ 4 * c → xs ≡ take (length xs) (cell_values ws)
 
 module _ {A : Type 0} where
   pub if_none : (P : A → Type 0) (p : Option A) → p ≡ None → IfSome p P
@@ -19,21 +15,6 @@ module _ {A : Type 0} where
 
   pub some_is : (P : A → Type 0) (p : Option A) (x : A) → p ≡ Some x → P x → IfSome p P
   some_is P p x e k = subst (λ q. IfSome q P) (sym e) k
-
--- a view that is in the middle of neither a write nor a join
-pub calm : (o : Record) (h : History) (ws : List ℕ) (w : View) → w.opening ≡ o → OwnStand o h w → NoteFits o h w.note
-    → LoadedFits ws w.note w.loaded → w.storing ≡ None → w.joining ≡ None → ViewKnowledge o h ws w
-calm o h ws w is own note loaded storing joining = record {
-  opening_is = is;
-  own = own;
-  note = note;
-  loaded = loaded;
-  storing = if_none (IsUnderWay o h ws w.note) w.storing storing;
-  joining = if_none (RecordStands o h) w.joining joining;
-}
-
-pub none_loaded : (ws : List ℕ) (p : Option ℕ) (xs : List ℕ) → xs ≡ [] → LoadedFits ws p xs
-none_loaded ws p xs e c n w = subst (λ l. l ≡ take (length l) (cell_values ws)) (sym e) refl
 
 -- no write of this view is under way
 stores_by : (p : Option Storing) → one_if (is_some p) ≡ 0 → p ≡ None
@@ -49,54 +30,87 @@ is_not_storing v e = ap (λ p. one_if (is_some p)) e
 pub is_storing : (v : View) (s : Storing) → v.storing ≡ Some s → storing_count v ≡ 1
 is_storing v s e = ap (λ p. one_if (is_some p)) e
 
--- ---- the others
+-- ---- of any cell: which counts are left, and where the values of a count stand
 
--- the lock is not free any more, and the values are as they were
-pub taken_knows : (o : Record) (h : History) (ws ws' : List ℕ) (u : View) → cell_values ws' ≡ cell_values ws
-    → ((c : ℕ) → slice_index ws' 0 ≢ 4 * c) → ViewKnowledge o h ws u → ViewKnowledge o h ws' u
-taken_knows o h ws ws' u same held k = record {
-  opening_is = k.opening_is;
-  own = k.own;
-  note = k.note;
-  loaded = λ c n w. absurd (held c w);
-  storing = going u.storing k.storing;
-  joining = k.joining;
-}
-  where
-    going : (p : Option Storing) → IfSome p (IsUnderWay o h ws u.note) → IfSome p (IsUnderWay o h ws' u.note)
-    going None i = tt
-    going (Some s) i = record { note_is = i.note_is; stored = subst (λ l. s.stored ≡ take (length s.stored) l) (sym same) i.stored; long = i.long }
+module _ (IsLeft : ℕ → Type 0) (place : ℕ → List ℕ) where
+  -- while a noted count is left, what was loaded is a beginning of its values
+  abbrev pub LoadedFits : Option ℕ → List ℕ → Type 0
+  LoadedFits p xs = (c : ℕ) → p ≡ Some c → IsLeft c → xs ≡ take (length xs) (place c)
 
--- another one is in the middle of a write, and the lock is not free
-pub held_knows : (o : Record) (h : History) (ws ws' : List ℕ) (u : View) → u.storing ≡ None
-    → ((c : ℕ) → slice_index ws' 0 ≢ 4 * c) → ViewKnowledge o h ws u → ViewKnowledge o h ws' u
-held_knows o h ws ws' u none held k = record {
-  opening_is = k.opening_is;
-  own = k.own;
-  note = k.note;
-  loaded = λ c n w. absurd (held c w);
-  storing = if_none (IsUnderWay o h ws' u.note) u.storing none;
-  joining = k.joining;
-}
+  pub nothing_loaded : (p : Option ℕ) (xs : List ℕ) → xs ≡ [] → LoadedFits p xs
+  nothing_loaded p xs e c n w = subst (λ l. l ≡ take (length l) (place c)) (sym e) refl
+
+  -- a view that is in the middle of neither a write nor a join
+  pub calm_seat : (o : Record) (h : History) (w : View) → w.opening ≡ o → OwnStand o h w → NoteFits o h w.note
+      → LoadedFits w.note w.loaded → w.storing ≡ None → w.joining ≡ None → SeatKnowledge o h IsLeft place w
+  calm_seat o h w is own note loaded storing joining = record {
+    opening_is = is;
+    own = own;
+    note = note;
+    loaded = loaded;
+    storing = if_none (IsUnderWay o h place w.note) w.storing storing;
+    joining = if_none (RecordStands o h) w.joining joining;
+  }
 
 note_on : (o : Record) (h : History) (xs : List ℕ) (p : Option ℕ) → NoteFits o h p → NoteFits o (h ++ xs ∷ []) p
 note_on o h xs None n = tt
 note_on o h xs (Some c) n = let long = length-append h (xs ∷ []) in omega (arith, long, n)
 
+-- another one writes: of the counts up to the cell's, what is left was left, and has its values where they were
+module _ (o : Record) (h : History) (IsLeft IsLeft' : ℕ → Type 0) (place place' : ℕ → List ℕ) (u : View) (none : u.storing ≡ None)
+    (left : (c : ℕ) → c ≤ last_count o h → IsLeft' c → IsLeft c × (place c ≡ place' c)) (k : SeatKnowledge o h IsLeft place u) where
+  loads : LoadedFits IsLeft' place' u.note u.loaded
+  loads c n w =
+      let at = left c (if_some (λ m. m ≤ last_count o h) u.note c n k.note) w in
+      k.loaded c n at.0 ∙ ap (take (length u.loaded)) at.1
+
+  pub still_knows : SeatKnowledge o h IsLeft' place' u
+  still_knows = record {
+    opening_is = k.opening_is;
+    own = k.own;
+    note = k.note;
+    loaded = loads;
+    storing = if_none (IsUnderWay o h place' u.note) u.storing none;
+    joining = k.joining;
+  }
+
+  -- its write stands in the history
+  pub more_knows : (xs : List ℕ) → SeatKnowledge o (h ++ xs ∷ []) IsLeft' place' u
+  more_knows xs = record {
+    opening_is = k.opening_is;
+    own = own_on o h xs u k.own;
+    note = note_on o h xs u.note k.note;
+    loaded = loads;
+    storing = if_none (IsUnderWay o (h ++ xs ∷ []) place' u.note) u.storing none;
+    joining = joining_on o h xs u.joining k.joining;
+  }
+
+-- one's own
+pub knows_of : (Knows : View → Type 0) (v : View) → 0 < v.share.parts → SeatFits Knows v → Knows v
+knows_of Knows v p (inl e) = let none : v.share.parts ≡ 0 = ap (λ (x : View). x.share.parts) e in absurd (omega (arith, p, none))
+knows_of Knows v p (inr k) = k.1
+
+-- ---- of this cell, whose count is left while the lock has its free word
+
+abbrev pub IsFreeAt : (words : List ℕ) → ℕ → Type 0
+IsFreeAt ws c = slice_index ws 0 ≡ 4 * c
+
+abbrev pub one_place : (words : List ℕ) → ℕ → List ℕ
+one_place ws c = cell_values ws
+
+pub none_loaded : (ws : List ℕ) (p : Option ℕ) (xs : List ℕ) → xs ≡ [] → LoadedFits (IsFreeAt ws) (one_place ws) p xs
+none_loaded ws = nothing_loaded (IsFreeAt ws) (one_place ws)
+
+pub calm : (o : Record) (h : History) (ws : List ℕ) (w : View) → w.opening ≡ o → OwnStand o h w → NoteFits o h w.note
+    → LoadedFits (IsFreeAt ws) (one_place ws) w.note w.loaded → w.storing ≡ None → w.joining ≡ None → ViewKnowledge o h ws w
+calm o h ws = calm_seat (IsFreeAt ws) (one_place ws) o h
+
+-- another one is in the middle of a write, and the lock is not free
+pub held_knows : (o : Record) (h : History) (ws ws' : List ℕ) (u : View) → u.storing ≡ None
+    → ((c : ℕ) → slice_index ws' 0 ≢ 4 * c) → ViewKnowledge o h ws u → ViewKnowledge o h ws' u
+held_knows o h ws ws' u none held k = still_knows o h (IsFreeAt ws) (IsFreeAt ws') (one_place ws) (one_place ws') u none (λ c le w. absurd (held c w)) k
+
 -- another one's write has ended
 pub released_knows : (o : Record) (h : History) (ws ws' : List ℕ) (xs : List ℕ) (u : View) → u.storing ≡ None
     → slice_index ws' 0 ≡ 4 * (last_count o h + 1) → ViewKnowledge o h ws u → ViewKnowledge o (h ++ xs ∷ []) ws' u
-released_knows o h ws ws' xs u none word k = record {
-  opening_is = k.opening_is;
-  own = own_on o h xs u k.own;
-  note = note_on o h xs u.note k.note;
-  loaded = λ c n w. let le : c ≤ last_count o h = if_some (λ m. m ≤ last_count o h) u.note c n k.note in absurd (omega (arith, le, w, word));
-  storing = if_none (IsUnderWay o (h ++ xs ∷ []) ws' u.note) u.storing none;
-  joining = joining_on o h xs u.joining k.joining;
-}
-
--- ---- one's own
-
-pub knows_of : (o : Record) (h : History) (ws : List ℕ) (v : View) → 0 < v.share.parts → ViewFits o h ws v → ViewKnowledge o h ws v
-knows_of o h ws v p (inl e) = let none : v.share.parts ≡ 0 = ap (λ (x : View). x.share.parts) e in absurd (omega (arith, p, none))
-knows_of o h ws v p (inr k) = k.1
+released_knows o h ws ws' xs u none word k = more_knows o h (IsFreeAt ws) (IsFreeAt ws') (one_place ws) (one_place ws') u none (λ c le w. absurd (omega (arith, le, w, word))) k xs

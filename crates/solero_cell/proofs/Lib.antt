@@ -1,13 +1,14 @@
-mod Sums
-mod Standing
-mod Shares
-mod Words
-mod Looking
-mod Knowing
-mod Made
-mod ReadSteps
-mod WriteSteps
-mod SeatSteps
-mod Going
-mod Alone
-mod Truth
+pub mod Sums
+pub mod Standing
+pub mod Shares
+pub mod Words
+pub mod Looking
+pub mod Knowing
+pub mod Made
+pub mod Allowing
+pub mod ReadSteps
+pub mod WriteSteps
+pub mod SeatSteps
+pub mod Going
+pub mod Alone
+pub mod Truth

@@ -10,9 +10,9 @@ use mathlib.Core.Option.{some}
 
 -- ---- moments
 
-way_on : (a : Moment) (ms : List Moment) (b c : Moment) → IsRowOfMoments a ms b → time_of b ≤ time_of c → IsRowOfMoments a (ms ++ c ∷ []) c
-way_on a [] b c e le = (subst (λ (x : Moment). time_of x ≤ time_of c) (sym e) le, refl)
-way_on a (m ∷ ms) b c w le = (w.0, way_on m ms b c w.1 le)
+way_on : (time : Moment → ℕ) (a : Moment) (ms : List Moment) (b c : Moment) → IsRowOfMoments time a ms b → time b ≤ time c → IsRowOfMoments time a (ms ++ c ∷ []) c
+way_on time a [] b c e le = (subst (λ (x : Moment). time x ≤ time c) (sym e) le, refl)
+way_on time a (m ∷ ms) b c w le = (w.0, way_on time m ms b c w.1 le)
 
 -- the lock word is free
 is_not_held : (x c : ℕ) → x ≡ 4 * c → (x == 6) ≡ false
@@ -60,27 +60,27 @@ one_place_more n l = grind (arith, nat_tests)
 abbrev pub look_of : ℕ → Moment → Look
 look_of n m = record { place = n; moment = m }
 
-module _ (o : Record) (h h' : History) (x x' : ℕ) (views : List View) (id : ℕ) (v w : View) (s : HaveLooked o h x views) (at : get_elem? views id ≡ some v) where
+module _ (time : Moment → ℕ) (from before after : Moment) (views : List View) (id : ℕ) (v w : View) (s : HaveLooked time from before views) (at : get_elem? views id ≡ some v) where
   -- the seat does not look
-  pub looks_kept : moment_now o h' x' ≡ moment_now o h x → w.looks ≡ v.looks → HaveLooked o h' x' (slice_set views id w)
+  pub looks_kept : after ≡ before → w.looks ≡ v.looks → HaveLooked time from after (slice_set views id w)
   looks_kept now same = record {
     moments = s.moments;
-    way = subst (IsRowOfMoments (AtRest o.count) s.moments) (sym now) s.way;
+    way = subst (IsRowOfMoments time from s.moments) (sym now) s.way;
     found = λ i u g. ⊎_elim
         (λ k. subst (λ (y : View). AllFound s.moments y.looks) k.1 (subst (AllFound s.moments) (sym same) (s.found id v at)))
         (λ k. s.found i u k.1) (at_set views id i w u g);
     once = λ n.
         let sum = sum_set (looks_at n) views id v w at in
         let one : looks_at n w ≡ looks_at n v = ap (λ (ls : List Look). sum_by (λ l. one_if (l.place == n)) ls) same in
-        let before = s.once n in omega arith;
+        let first = s.once n in omega arith;
   }
 
   -- it looks once
-  pub looks_on : (m : Moment) → m ≡ moment_now o h' x' → time_of (moment_now o h x) ≤ time_of m → w.looks ≡ v.looks ++ look_of (length s.moments) m ∷ []
-      → HaveLooked o h' x' (slice_set views id w)
+  pub looks_on : (m : Moment) → m ≡ after → time before ≤ time m → w.looks ≡ v.looks ++ look_of (length s.moments) m ∷ []
+      → HaveLooked time from after (slice_set views id w)
   looks_on m now le more = record {
     moments = s.moments ++ m ∷ [];
-    way = subst (IsRowOfMoments (AtRest o.count) (s.moments ++ m ∷ [])) now (way_on (AtRest o.count) s.moments (moment_now o h x) m s.way le);
+    way = subst (IsRowOfMoments time from (s.moments ++ m ∷ [])) now (way_on time from s.moments before m s.way le);
     found = λ i u g. ⊎_elim
         (λ k. subst (λ (y : View). AllFound (s.moments ++ m ∷ []) y.looks) k.1 mine)
         (λ k. found_on s.moments m u.looks (s.found i u k.1)) (at_set views id i w u g);
@@ -88,7 +88,7 @@ module _ (o : Record) (h h' : History) (x x' : ℕ) (views : List View) (id : �
         let sum = sum_set (looks_at n) views id v w at in
         let push = sum_by_push (λ (l : Look). one_if (l.place == n)) v.looks (look_of (length s.moments) m) in
         let one : looks_at n w ≡ sum_by (λ (l : Look). one_if (l.place == n)) (v.looks ++ look_of (length s.moments) m ∷ []) = ap (λ (ls : List Look). sum_by (λ l. one_if (l.place == n)) ls) more in
-        let before = s.once n in
+        let first = s.once n in
         let here = one_place_more n (length s.moments) in
         let long : one_if (nat_lt n (length (s.moments ++ m ∷ []))) ≡ one_if (nat_lt n (length s.moments + 1)) = ap (λ k. one_if (nat_lt n k)) (length-append s.moments (m ∷ [])) in
         omega arith;
@@ -99,11 +99,11 @@ module _ (o : Record) (h h' : History) (x x' : ℕ) (views : List View) (id : �
 
 -- ---- a split, and a join
 
-module _ (o : Record) (h : History) (x : ℕ) (views : List View) (s : HaveLooked o h x views) where
-  pub looks_cut : (id : ℕ) (v : View) → get_elem? views id ≡ some v → HaveLooked o h x (slice_set views id (halved v) ++ newcomer v ∷ [])
+module _ (time : Moment → ℕ) (from now : Moment) (views : List View) (s : HaveLooked time from now views) where
+  pub looks_cut : (id : ℕ) (v : View) → get_elem? views id ≡ some v → HaveLooked time from now (slice_set views id (halved v) ++ newcomer v ∷ [])
   unfolding looks_kept
   looks_cut id v at =
-      let kept : HaveLooked o h x (slice_set views id (halved v)) = looks_kept o h h x x views id v (halved v) s at refl refl in record {
+      let kept : HaveLooked time from now (slice_set views id (halved v)) = looks_kept time from now now views id v (halved v) s at refl refl in record {
         moments = s.moments;
         way = s.way;
         found = λ i u g. ⊎_elim (λ k. kept.found i u k) (λ k. subst (λ (y : View). AllFound s.moments y.looks) k tt) (at_snoc (slice_set views id (halved v)) (newcomer v) u i g);
@@ -111,7 +111,7 @@ module _ (o : Record) (h : History) (x : ℕ) (views : List View) (s : HaveLooke
       }
 
   pub looks_joined : (id other : ℕ) (v w : View) → get_elem? views id ≡ some v → other ≢ id → get_elem? views other ≡ some w
-      → HaveLooked o h x (slice_set (slice_set views id (taken_in v w)) other spent)
+      → HaveLooked time from now (slice_set (slice_set views id (taken_in v w)) other spent)
   looks_joined id other v w at apart at_other = record {
     moments = s.moments;
     way = s.way;

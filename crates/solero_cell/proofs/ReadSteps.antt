@@ -1,11 +1,12 @@
 -- The steps of a read keep the rule: its loads, and what they tell. And the second load of a join.
 use Rattle.std.proofs.Common.{◌≡◌, ◌≢◌, ℕ, suc, ◌*◌, ◌<◌, inl, inr, ⊎_elim, List, [], ◌∷◌, ◌++◌, length, length-append, take, Bool, true, false, Option, Some, None, refl, sym, ap, subst, ◌∙◌, arith, slice_index, slice_set, IsSome}
-use Rattle.std.{specs.Prelude.unwrap_or, proofs.lemmas.List.set-get_or}
-use Rattle.atomic_table.specs.Table.{State, Me, Allows, keeps}
+use Rattle.std.specs.Prelude.{unwrap_or}
+use Rattle.atomic_table.specs.Table.{State, Me, Allows}
 use Rattle.machine_types.specs.{LockWords.{lock_of, is_lock_word}, declared.lock.LockWord.LockWord}
 use Rattle.solero_cell.specs.CellRules.{cell_values, ViewKnowledge, IsAtRest, IsHeldByWrite, HaveLooked, HasOneHistory}
 use Rattle.solero_cell.specs.{CellViews.{record_of, noted, has_failed, has_loaded, has_looked, forgot, has_read, has_compared, IsStill}, Histories.{last_count, RecordStands, IsLast, OwnStand}}
-use Rattle.solero_cell.specs.{Stages.{IsLoading, IsJoining}, Steps.{note_of, joining_of, NotedBy, TellsNote, attempt_ended, TellsFinish, HasCompared}, Moments.{moment_now, word_of_moment}, declared.views.{Moment.Moment, Moment.TheVariants.{AtRest, UnderWay}, Record.Record, View.View}}
+use Rattle.solero_cell.specs.{Stages.{IsLoading, IsJoining}, Steps.{note_of, joining_of, NotedBy, TellsNote, attempt_ended, TellsFinish, HasCompared}, Moments.{moment_now, time_of, word_of_moment}, declared.views.{Moment.Moment, Moment.TheVariants.{AtRest, UnderWay}, Record.Record, View.View}}
+use Rattle.solero_cell.proofs.Allowing.{LooksTo, any_load_allows}
 use Rattle.solero_cell.proofs.{Looking.{held_now, look_of, looks_kept, looks_on, rests_now, time_le, word_now}, Knowing.{calm, knows_of, none_loaded, if_some}, Made.looked, Standing.{at_most_last, last_stands, newest_stands}}
 use Rattle.solero_cell.proofs.Words.{free_word, free_is_lock, next_taken, value_index, values_long, all_taken}
 use lib.ListN.{get_elem?}
@@ -15,34 +16,31 @@ use native.Mathlib.Decide.{ℕ_discrete}
 abbrev pub rule : {S : Type 0} → Record → State S View → Type 0
 rule o s = HasOneHistory o s.words s.views
 
--- what a step that leaves the words leads to: the rule holds with another view, and it tells this
 abbrev pub Looks : (o : Record) (ws : List ℕ) (views : List View) (id : ℕ) → (View → Type 0) → Type 0
-Looks o ws views id told = (w : View) × HasOneHistory o ws (slice_set views id w) × told w
+Looks o = LooksTo (HasOneHistory o)
 
 pub load_allows : {S : Type 0} (o : Record) (slots id i : ℕ) (me : Me S View) (told : ℕ → View → Type 0)
     → ((ws : List ℕ) (views : List View) → HasOneHistory o ws views → get_elem? views id ≡ some me.0 → Looks o ws views id (told (slice_index ws i)))
     → Allows (rule o) slots id me i (λ n. n) (λ n w. told n w.0 × (w.1 ≡ me.1))
-load_allows o slots id i me told f s run long at small =
-    let r = f s.words s.views run at in
-    (r.0, keeps, tt, subst (λ ws. HasOneHistory o ws (slice_set s.views id r.0)) (sym (set-get_or s.words i 0)) r.1, (r.2, refl))
+load_allows o = any_load_allows (HasOneHistory o)
 
 pub some_note : (p : Option ℕ) → IsSome p → p ≡ Some (unwrap_or p 0)
 some_note None n = let bad : false ≡ true = n in absurd (cc)
 some_note (Some c) n = refl
 
-some_record : (p : Option Record) → IsSome p → p ≡ Some (unwrap_or p (record_of 0 []))
+pub some_record : (p : Option Record) → IsSome p → p ≡ Some (unwrap_or p (record_of 0 []))
 some_record None n = let bad : false ≡ true = n in absurd (cc)
 some_record (Some r) n = refl
 
 module _ (o : Record) (id : ℕ) (v : View) (parts : 0 < v.share.parts) (ws : List ℕ) (views : List View) (s : HasOneHistory o ws views) (at : get_elem? views id ≡ some v) where
   pub its : ViewKnowledge o s.history ws v
-  its = knows_of o s.history ws v parts (s.each id v at)
+  its = knows_of (ViewKnowledge o s.history ws) v parts (s.seats.each id v at)
 
   -- ---- a look at the lock word, which leaves it
 
   -- its place, and what it finds
   abbrev pub next : ℕ
-  next = length s.looks.moments
+  next = length s.seats.looks.moments
 
   abbrev pub now : Moment
   now = moment_now o s.history (slice_index ws 0)
@@ -50,8 +48,8 @@ module _ (o : Record) (id : ℕ) (v : View) (parts : 0 < v.share.parts) (ws : Li
   pub stands : slice_index ws 0 ≡ word_of_moment now
   stands = word_now o s.history (slice_index ws 0) (⊎_elim (λ (r : IsAtRest o s.history ws views). inl r.word) (λ (r : IsHeldByWrite ws views). inr r.word) s.lock)
 
-  pub looks : (w : View) (m : Moment) → m ≡ now → w.looks ≡ v.looks ++ look_of next m ∷ [] → HaveLooked o s.history (slice_index ws 0) (slice_set views id w)
-  looks w m e more = looks_on o s.history s.history (slice_index ws 0) (slice_index ws 0) views id v w s.looks at m e (time_le now m (sym e)) more
+  pub looks : (w : View) (m : Moment) → m ≡ now → w.looks ≡ v.looks ++ look_of next m ∷ [] → HaveLooked time_of (AtRest o.count) now (slice_set views id w)
+  looks w m e more = looks_on time_of (AtRest o.count) now now views id v w s.seats.looks at m e (time_le now m (sym e)) more
 
   -- ---- a note load
 
@@ -90,7 +88,7 @@ module _ (o : Record) (id : ℕ) (v : View) (parts : 0 < v.share.parts) (ws : Li
   load_step i is lt =
       let x : ℕ = slice_index ws (suc i) in (
         has_loaded x v,
-        looked o ws views id v (has_loaded x v) s at refl parts refl refl (calm o s.history ws (has_loaded x v) its.opening_is (record { writes = its.own.writes; latest = its.own.latest }) its.note more is.storing is.joining) (looks_kept o s.history s.history (slice_index ws 0) (slice_index ws 0) views id v (has_loaded x v) s.looks at refl refl),
+        looked o ws views id v (has_loaded x v) s at refl parts refl refl (calm o s.history ws (has_loaded x v) its.opening_is (record { writes = its.own.writes; latest = its.own.latest }) its.note more is.storing is.joining) (looks_kept time_of (AtRest o.count) now now views id v (has_loaded x v) s.seats.looks at refl refl),
         refl,
       )
     where
@@ -162,7 +160,7 @@ module _ (o : Record) (id : ℕ) (v : View) (parts : 0 < v.share.parts) (ws : Li
       let there : RecordStands o s.history r = if_some (RecordStands o s.history) v.joining r (some_record v.joining is.joining) its.joining in
       let w : View = has_compared r v in (
         w,
-        looked o ws views id v w s at refl parts refl refl (calm o s.history ws w its.opening_is (record { writes = its.own.writes; latest = newest_stands o s.history v.latest r its.own.latest there }) its.note (none_loaded ws v.note v.loaded is.loaded) is.storing refl) (looks_kept o s.history s.history (slice_index ws 0) (slice_index ws 0) views id v w s.looks at refl refl),
+        looked o ws views id v w s at refl parts refl refl (calm o s.history ws w its.opening_is (record { writes = its.own.writes; latest = newest_stands o s.history v.latest r its.own.latest there }) its.note (none_loaded ws v.note v.loaded is.loaded) is.storing refl) (looks_kept time_of (AtRest o.count) now now views id v w s.seats.looks at refl refl),
         record {
           view = refl;
           history = s.history;

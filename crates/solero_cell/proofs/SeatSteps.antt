@@ -2,9 +2,9 @@
 use Rattle.std.proofs.Common.{◌≡◌, ◌≢◌, ℕ, zero, suc, ◌+◌, ◌*◌, ◌-◌, ◌^◌, ◌<◌, ◌⊎◌, inl, inr, ⊎_elim, List, [], ◌∷◌, ◌++◌, length-append, None, refl, sym, ap, subst, ◌∙◌, arith, slice_index, slice_set, ◌==◌}
 use Rattle.std.{specs.List.sum_by, proofs.lemmas.{Bool.Decides.nat_tests, List.Sums.{sum_by_push, sum_by-append}}}
 use Rattle.atomic_table.{specs.Table.{Splits, Joins}, proofs.Lists.{at_set, at_snoc, set_else}}
-use Rattle.solero_cell.specs.CellRules.{ViewKnowledge, ViewFits, one_if, times, storing_count, written_count, is_in_span, IsAtRest, IsHeldByWrite, HasOneHistory}
-use Rattle.solero_cell.specs.{CellViews.{first_view, halved, newcomer, taken_in, spent, IsStill}, Histories.History, Moments.AllFound, declared.views.{Moment.TheVariants.AtRest, Record.Record, View.View}}
-use Rattle.solero_cell.proofs.{Looking.{looks_cut, looks_joined, none_below, rests_now}, Knowing.{calm, none_loaded, is_not_storing}, ReadSteps.{rule, its}, Shares.{whole_cut, whole_joined, sum_pos}, Standing.{all_both, opening_stands}, Sums.sum_set}
+use Rattle.solero_cell.specs.CellRules.{SeatKnowledge, ViewKnowledge, SeatFits, one_if, times, storing_count, written_count, is_in_span, IsAtRest, IsHeldByWrite, ShareHistory, HasOneHistory}
+use Rattle.solero_cell.specs.{CellViews.{first_view, halved, newcomer, taken_in, spent, IsStill}, Histories.History, Moments.{AllFound, moment_now, time_of}, declared.views.{Moment.{Moment, TheVariants.AtRest}, Record.Record, View.View}}
+use Rattle.solero_cell.proofs.{Looking.{looks_cut, looks_joined, none_below, rests_now}, Knowing.{IsFreeAt, one_place, calm_seat, nothing_loaded, is_not_storing}, ReadSteps.{rule, its}, Shares.{whole_cut, whole_joined, sum_pos}, Standing.{all_both, opening_stands}, Sums.sum_set}
 use lib.ListN.{get_elem?}
 use mathlib.Core.Option.{some, some-injective, some-ne-none}
 
@@ -16,38 +16,46 @@ lock_as o h ws views views' e (inr r) = inr (record { word = r.word; one = e ∙
 
 -- ---- a split
 
+module _ (views : List View) (id : ℕ) (v : View) (at : get_elem? views id ≡ some v) where
+  abbrev pub cut_views : List View
+  cut_views = slice_set views id (halved v) ++ newcomer v ∷ []
+
+  -- what both views have 0 of, or one of them has
+  pub cut_sum : (f : View → ℕ) → f (halved v) ≡ f v → f (newcomer v) ≡ 0 → sum_by f cut_views ≡ sum_by f views
+  cut_sum f e z = let set = sum_set f views id v (halved v) at in let push = sum_by_push f (slice_set views id (halved v)) (newcomer v) in omega arith
+
+  -- the seats of any cell
+  pub seats_cut : (o : Record) (h : History) (Knows : View → Type 0) (time : Moment → ℕ) (now : Moment) → 0 < v.share.parts
+      → ShareHistory o h Knows time now views → Knows (halved v) → Knows (newcomer v) → ShareHistory o h Knows time now cut_views
+  seats_cut o h Knows time now parts s left right = record {
+    each = λ i u g. ⊎_elim
+        (λ k. ⊎_elim (λ m. subst (SeatFits Knows) m.1 (inr (parts, left))) (λ m. s.each i u m.1) (at_set views id i (halved v) u k))
+        (λ k. subst (SeatFits Knows) k (inr (parts, right))) (at_snoc (slice_set views id (halved v)) (newcomer v) u i g);
+    once = λ n. cut_sum (times n) refl refl ∙ s.once n;
+    count = cut_sum written_count refl refl ∙ s.count;
+    whole = whole_cut views id v (halved v) (newcomer v) at refl refl s.whole;
+    looks = looks_cut time (AtRest o.count) now views s.looks id v at;
+  }
+
+-- what a view that is in the middle of nothing knows, both know
+module _ (IsLeft : ℕ → Type 0) (place : ℕ → List ℕ) (o : Record) (h : History) (v : View) (still : IsStill v) (k : SeatKnowledge o h IsLeft place v) where
+  pub halved_knows : SeatKnowledge o h IsLeft place (halved v)
+  halved_knows = calm_seat IsLeft place o h (halved v) k.opening_is (record { writes = k.own.writes; latest = k.own.latest }) k.note k.loaded still.storing still.joining
+
+  pub newcomer_knows : SeatKnowledge o h IsLeft place (newcomer v)
+  newcomer_knows = calm_seat IsLeft place o h (newcomer v) k.opening_is (record { writes = tt; latest = k.own.latest }) tt (nothing_loaded IsLeft place None [] refl) refl refl
+
 module _ (o : Record) (id : ℕ) (v : View) (parts : 0 < v.share.parts) (still : IsStill v) (ws : List ℕ) (views : List View) (s : HasOneHistory o ws views) (at : get_elem? views id ≡ some v) where
   abbrev mine : ViewKnowledge o s.history ws v
   mine = its o id v parts ws views s at
 
-  abbrev cut : List View
-  cut = slice_set views id (halved v) ++ newcomer v ∷ []
-
-  -- what both views have 0 of, or one of them has
-  cut_sum : (f : View → ℕ) → f (halved v) ≡ f v → f (newcomer v) ≡ 0 → sum_by f cut ≡ sum_by f views
-  cut_sum f e z = let set = sum_set f views id v (halved v) at in let push = sum_by_push f (slice_set views id (halved v)) (newcomer v) in omega arith
-
-  left_fits : ViewFits o s.history ws (halved v)
-  left_fits = inr (parts, calm o s.history ws (halved v) mine.opening_is (record { writes = mine.own.writes; latest = mine.own.latest }) mine.note mine.loaded still.storing still.joining)
-
-  right_fits : ViewFits o s.history ws (newcomer v)
-  right_fits = inr (parts, calm o s.history ws (newcomer v) mine.opening_is (record { writes = tt; latest = mine.own.latest }) tt (none_loaded ws None [] refl) refl refl)
-
-  each_cut : (i : ℕ) (u : View) → get_elem? cut i ≡ some u → ViewFits o s.history ws u
-  each_cut i u g = ⊎_elim
-      (λ k. ⊎_elim (λ m. subst (ViewFits o s.history ws) m.1 left_fits) (λ m. s.each i u m.1) (at_set views id i (halved v) u k))
-      (λ k. subst (ViewFits o s.history ws) k right_fits) (at_snoc (slice_set views id (halved v)) (newcomer v) u i g)
-
-  pub cut_shows : HasOneHistory o ws cut
+  pub cut_shows : HasOneHistory o ws (cut_views views id v at)
   cut_shows = record {
     history = s.history;
     long = s.long;
-    lock = lock_as o s.history ws views cut (cut_sum storing_count refl refl) s.lock;
-    each = each_cut;
-    once = λ n. cut_sum (times n) refl refl ∙ s.once n;
-    count = cut_sum written_count refl refl ∙ s.count;
-    whole = whole_cut views id v (halved v) (newcomer v) at refl refl s.whole;
-    looks = looks_cut o s.history (slice_index ws 0) views s.looks id v at;
+    lock = lock_as o s.history ws views (cut_views views id v at) (cut_sum views id v at storing_count refl refl) s.lock;
+    seats = seats_cut views id v at o s.history (ViewKnowledge o s.history ws) time_of (moment_now o s.history (slice_index ws 0)) parts s.seats
+        (halved_knows (IsFreeAt ws) (one_place ws) o s.history v still mine) (newcomer_knows (IsFreeAt ws) (one_place ws) o s.history v still mine);
   }
 
 pub splits : {S : Type 0} (o : Record) (id : ℕ) (v : View) → 0 < v.share.parts → IsStill v
@@ -56,62 +64,58 @@ splits o id v parts still s run at = cut_shows o id v parts still s.words s.view
 
 -- ---- a join
 
-module _ (o : Record) (id other : ℕ) (v w : View) (parts : 0 < v.share.parts) (parts' : 0 < w.share.parts) (still : IsStill v) (still' : IsStill w)
-    (ws : List ℕ) (views : List View) (s : HasOneHistory o ws views) (at : get_elem? views id ≡ some v) (apart : other ≢ id) (at_other : get_elem? views other ≡ some w) where
-  abbrev one : ViewKnowledge o s.history ws v
-  one = its o id v parts ws views s at
+module _ (views : List View) (id other : ℕ) (v w : View) (at : get_elem? views id ≡ some v) (apart : other ≢ id) (at_other : get_elem? views other ≡ some w) where
+  abbrev pub joined_of : List View
+  joined_of = slice_set (slice_set views id (taken_in v w)) other spent
 
-  abbrev two : ViewKnowledge o s.history ws w
-  two = its o other w parts' ws views s at_other
+  pub joined_sum : (f : View → ℕ) → f (taken_in v w) ≡ f v + f w → f spent ≡ 0 → sum_by f joined_of ≡ sum_by f views
+  joined_sum f e z =
+      let there : get_elem? (slice_set views id (taken_in v w)) other ≡ some w = set_else views id other (taken_in v w) apart ∙ at_other in
+      let first = sum_set f views id v (taken_in v w) at in let second = sum_set f (slice_set views id (taken_in v w)) other w spent there in omega arith
 
-  abbrev both : View
-  both = taken_in v w
-
-  abbrev mid : List View
-  mid = slice_set views id both
-
-  abbrev joined_views : List View
-  joined_views = slice_set mid other spent
-
-  there : get_elem? mid other ≡ some w
-  there = set_else views id other both apart ∙ at_other
-
-  joined_sum : (f : View → ℕ) → f both ≡ f v + f w → f spent ≡ 0 → sum_by f joined_views ≡ sum_by f views
-  joined_sum f e z = let first = sum_set f views id v both at in let second = sum_set f mid other w spent there in omega arith
-
-  both_fits : ViewFits o s.history ws both
-  both_fits = inr (
-    sum_pos v.share w.share parts,
-    record {
-      opening_is = one.opening_is;
-      own = record { writes = all_both o s.history v.writes w.writes one.own.writes two.own.writes; latest = one.own.latest };
-      note = one.note;
-      loaded = one.loaded;
-      storing = one.storing;
-      joining = two.own.latest;
-    },
-  )
-
-  each_joined : (i : ℕ) (u : View) → get_elem? joined_views i ≡ some u → ViewFits o s.history ws u
-  each_joined i u g = ⊎_elim (λ k. inl (sym k.1))
-      (λ k. ⊎_elim (λ m. subst (ViewFits o s.history ws) m.1 both_fits) (λ m. s.each i u m.1) (at_set views id i both u k.1))
-      (at_set mid other i spent u g)
-
-  pub joined_shows : HasOneHistory o ws joined_views
-  joined_shows =
+  -- no write of either is under way
+  pub joined_stores : IsStill v → IsStill w → sum_by storing_count joined_of ≡ sum_by storing_count views
+  joined_stores still still' =
       let none : storing_count v ≡ 0 = is_not_storing v still.storing in
       let none' : storing_count w ≡ 0 = is_not_storing w still'.storing in
-      let of_both : storing_count both ≡ storing_count v = refl in
-      record {
-        history = s.history;
-        long = s.long;
-        lock = lock_as o s.history ws views joined_views (joined_sum storing_count (omega (arith, none, none', of_both)) refl) s.lock;
-        each = each_joined;
-        once = λ n. joined_sum (times n) (sum_by-append (λ (r : Record). one_if (r.count == n)) v.writes w.writes) refl ∙ s.once n;
-        count = joined_sum written_count (length-append v.writes w.writes) refl ∙ s.count;
-        whole = whole_joined views id other v w both at apart at_other refl s.whole;
-        looks = looks_joined o s.history (slice_index ws 0) views s.looks id other v w at apart at_other;
-      }
+      let of_both : storing_count (taken_in v w) ≡ storing_count v = refl in
+      joined_sum storing_count (omega (arith, none, none', of_both)) refl
+
+  -- the seats of any cell
+  pub seats_joined : (o : Record) (h : History) (Knows : View → Type 0) (time : Moment → ℕ) (now : Moment) → 0 < v.share.parts
+      → ShareHistory o h Knows time now views → Knows (taken_in v w) → ShareHistory o h Knows time now joined_of
+  seats_joined o h Knows time now parts s both = record {
+    each = λ i u g. ⊎_elim (λ k. inl (sym k.1))
+        (λ k. ⊎_elim (λ m. subst (SeatFits Knows) m.1 (inr (sum_pos v.share w.share parts, both))) (λ m. s.each i u m.1) (at_set views id i (taken_in v w) u k.1))
+        (at_set (slice_set views id (taken_in v w)) other i spent u g);
+    once = λ n. joined_sum (times n) (sum_by-append (λ (r : Record). one_if (r.count == n)) v.writes w.writes) refl ∙ s.once n;
+    count = joined_sum written_count (length-append v.writes w.writes) refl ∙ s.count;
+    whole = whole_joined views id other v w (taken_in v w) at apart at_other refl s.whole;
+    looks = looks_joined time (AtRest o.count) now views s.looks id other v w at apart at_other;
+  }
+
+-- what two views know, the one that takes in the other knows
+pub both_know : (IsLeft : ℕ → Type 0) (place : ℕ → List ℕ) (o : Record) (h : History) (v w : View) → SeatKnowledge o h IsLeft place v → SeatKnowledge o h IsLeft place w
+    → SeatKnowledge o h IsLeft place (taken_in v w)
+both_know IsLeft place o h v w one two = record {
+  opening_is = one.opening_is;
+  own = record { writes = all_both o h v.writes w.writes one.own.writes two.own.writes; latest = one.own.latest };
+  note = one.note;
+  loaded = one.loaded;
+  storing = one.storing;
+  joining = two.own.latest;
+}
+
+module _ (o : Record) (id other : ℕ) (v w : View) (parts : 0 < v.share.parts) (parts' : 0 < w.share.parts) (still : IsStill v) (still' : IsStill w)
+    (ws : List ℕ) (views : List View) (s : HasOneHistory o ws views) (at : get_elem? views id ≡ some v) (apart : other ≢ id) (at_other : get_elem? views other ≡ some w) where
+  pub joined_shows : HasOneHistory o ws (joined_of views id other v w at apart at_other)
+  joined_shows = record {
+    history = s.history;
+    long = s.long;
+    lock = lock_as o s.history ws views (joined_of views id other v w at apart at_other) (joined_stores views id other v w at apart at_other still still') s.lock;
+    seats = seats_joined views id other v w at apart at_other o s.history (ViewKnowledge o s.history ws) time_of (moment_now o s.history (slice_index ws 0)) parts s.seats
+        (both_know (IsFreeAt ws) (one_place ws) o s.history v w (its o id v parts ws views s at) (its o other w parts' ws views s at_other));
+  }
 
 pub joins : {S : Type 0} (o : Record) (id other : ℕ) (v w : View) → 0 < v.share.parts → 0 < w.share.parts → IsStill v → IsStill w
     → Joins {S = S} (rule o) id v other w (taken_in v w) spent
@@ -129,18 +133,17 @@ once_is n = omega arith
 first_depth : (depth : ℕ) → 0 + 1 * 2 ^ (depth - 0) ≡ 2 ^ depth
 first_depth depth = once_is (2 ^ (depth - 0)) ∙ ap (λ k. 2 ^ k) (omega arith)
 
-pub opening_shows : (o : Record) → HasOneHistory o (4 * o.count ∷ o.values) (first_view o ∷ [])
-opening_shows o = record {
-  history = [];
-  long = refl;
-  lock = inl (record { word = omega arith; values = record { count = refl; values = refl }; nobody = refl });
+-- the seats of any cell
+pub seats_opened : (o : Record) (Knows : View → Type 0) (time : Moment → ℕ) (now : Moment) → Knows (first_view o) → AtRest o.count ≡ now
+    → ShareHistory o [] Knows time now (first_view o ∷ [])
+seats_opened o Knows time now knows way = record {
   each = only;
   once = λ n. sym (nothing_between n o.count);
   count = refl;
   whole = λ depth have. first_depth depth;
   looks = record {
     moments = [];
-    way = sym (rests_now o [] (4 * o.count) o.count refl ∙ ap AtRest (omega arith));
+    way = way;
     found = λ i v g. none_found i v g;
     once = λ n. sym (none_below n);
   };
@@ -150,6 +153,19 @@ opening_shows o = record {
     none_found zero u g = subst (λ (y : View). AllFound [] y.looks) (some-injective (first_view o) u g) tt
     none_found (suc i) u g = absurd (some-ne-none u (sym g))
 
-    only : (i : ℕ) (u : View) → get_elem? (first_view o ∷ []) i ≡ some u → ViewFits o [] (4 * o.count ∷ o.values) u
-    only zero u g = subst (ViewFits o [] (4 * o.count ∷ o.values)) (some-injective (first_view o) u g) (inr (omega arith, calm o [] (4 * o.count ∷ o.values) (first_view o) refl (record { writes = tt; latest = opening_stands o }) tt (none_loaded (4 * o.count ∷ o.values) None [] refl) refl refl))
+    only : (i : ℕ) (u : View) → get_elem? (first_view o ∷ []) i ≡ some u → SeatFits Knows u
+    only zero u g = subst (SeatFits Knows) (some-injective (first_view o) u g) (inr (omega arith, knows))
     only (suc i) u g = absurd (some-ne-none u (sym g))
+
+-- what the first seat knows
+pub first_knows : (IsLeft : ℕ → Type 0) (place : ℕ → List ℕ) (o : Record) → SeatKnowledge o [] IsLeft place (first_view o)
+first_knows IsLeft place o = calm_seat IsLeft place o [] (first_view o) refl (record { writes = tt; latest = opening_stands o }) tt (nothing_loaded IsLeft place None [] refl) refl refl
+
+pub opening_shows : (o : Record) → HasOneHistory o (4 * o.count ∷ o.values) (first_view o ∷ [])
+opening_shows o = record {
+  history = [];
+  long = refl;
+  lock = inl (record { word = omega arith; values = record { count = refl; values = refl }; nobody = refl });
+  seats = seats_opened o (ViewKnowledge o [] (4 * o.count ∷ o.values)) time_of (moment_now o [] (4 * o.count)) (first_knows (IsFreeAt (4 * o.count ∷ o.values)) (one_place (4 * o.count ∷ o.values)) o)
+      (sym (rests_now o [] (4 * o.count) o.count refl ∙ ap AtRest (omega arith)));
+}

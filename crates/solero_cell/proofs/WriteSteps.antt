@@ -1,34 +1,50 @@
 -- The steps of a write keep the rule: its exchange and its stores, and what they tell.
 use Rattle.std.proofs.Common.{◌≡◌, ◌≢◌, ℕ, suc, ◌+◌, ◌*◌, ◌<◌, ◌≤◌, ◌==◌, ◌⊎◌, inl, inr, ⊎_elim, List, [], ◌∷◌, ◌++◌, length, length-append, take, drop, true, false, Option, Some, None, refl, sym, ap, subst, ◌∙◌, arith, slice_index, slice_set, slice_get, IsSome}
 use Rattle.std.{specs.{List.sum_by, Prelude.unwrap_or}, proofs.lemmas.{Bool.Decides.nat_tests, List.{length-set, set-get_or, Sums.sum_by_push}}}
-use Rattle.atomic_table.{specs.Table.{Me, Allows, keeps}, proofs.Lists.exchanged}
+use Rattle.atomic_table.{specs.Table.{Me, Allows}, proofs.Lists.exchanged}
 use Rattle.solero_cell.specs.CellRules.{cell_values, IsUnderWay, ViewKnowledge, one_if, storing_count, is_in_span, IsAtRest, IsHeldByWrite, HasOneHistory}
 use Rattle.solero_cell.specs.{CellViews.{record_of, has_looked, has_failed, has_taken, one_stored, has_stored, has_written, has_released}, Histories.{History, last_count, IsLast, OwnStand}}
-use Rattle.solero_cell.specs.{Stages.{IsNoted, IsStoring}, Steps.{note_of, storing_of, TellsTake, HasWritten}, Moments.moment_now, declared.views.{Moment.Moment, Moment.TheVariants.{AtRest, UnderWay}, Record.Record, Storing.Storing, View.View}}
-use Rattle.solero_cell.proofs.{Looking.{held_now, looks_kept, looks_on, rests_now, time_at}, Knowing.{calm, none_loaded, if_some, some_is, not_storing, is_not_storing, is_storing, taken_knows, held_knows, released_knows}, Made.{looked, made}}
+use Rattle.solero_cell.specs.{Stages.{IsNoted, IsStoring}, Steps.{note_of, storing_of, TellsTake, HasWritten}, Moments.{moment_now, time_of}, declared.views.{Moment.Moment, Moment.TheVariants.{AtRest, UnderWay}, Record.Record, Storing.Storing, View.View}}
+use Rattle.solero_cell.proofs.Allowing.{LeadsTo, any_write_allows}
+use Rattle.solero_cell.proofs.{Looking.{held_now, looks_kept, looks_on, rests_now, time_at}, Knowing.{calm, none_loaded, if_some, some_is, not_storing, is_not_storing, is_storing, one_place, held_knows, released_knows}, Made.{looked, made}}
 use Rattle.solero_cell.proofs.{ReadSteps.{rule, some_note, its, next, looks, stands}, Standing.{at_most_last, last_stands, own_on, all_both, new_last}, Sums.{sum_set, at_most, others_none}}
 use Rattle.solero_cell.proofs.Words.{values_long, all_taken, lock_set, values_kept, lock_kept, value_set}
 use lib.ListN.{get_elem?}
 use mathlib.Core.Option.{some}
 use prog.Atomic.{either}
 
--- what a step that writes a word leads to
 abbrev pub Leads : (o : Record) (ws : List ℕ) (views : List View) (id i x : ℕ) → (View → Type 0) → Type 0
-Leads o ws views id i x told = (w : View) × HasOneHistory o (slice_set ws i x) (slice_set views id w) × told w
+Leads o = LeadsTo (HasOneHistory o)
 
 pub write_allows : {S : Type 0} (o : Record) (slots id i : ℕ) (f : ℕ → ℕ) (me : Me S View) (told : ℕ → View → Type 0)
     → ((ws : List ℕ) (views : List View) → HasOneHistory o ws views → get_elem? views id ≡ some me.0 → Leads o ws views id i (f (slice_index ws i)) (told (slice_index ws i)))
     → Allows (rule o) slots id me i f (λ n w. told n w.0 × (w.1 ≡ me.1))
-write_allows o slots id i f me told g s run long at small =
-    let r = g s.words s.views run at in (r.0, keeps, tt, r.1, (r.2, refl))
+write_allows o = any_write_allows (HasOneHistory o)
 
-some_storing : (p : Option Storing) → IsSome p → p ≡ Some (unwrap_or p (record { stored = []; left = [] }))
+pub some_storing : (p : Option Storing) → IsSome p → p ≡ Some (unwrap_or p (record { stored = []; left = [] }))
 some_storing None n = let bad : false ≡ true = n in absurd (cc)
 some_storing (Some c) n = refl
 
 -- the counts above the first, up to one more
-one_more : (n first last : ℕ) → first ≤ last → one_if (is_in_span n first (last + 1)) ≡ one_if (is_in_span n first last) + one_if (last + 1 == n)
+pub one_more : (n first last : ℕ) → first ≤ last → one_if (is_in_span n first (last + 1)) ≡ one_if (is_in_span n first last) + one_if (last + 1 == n)
 one_more n first last le = grind (arith, nat_tests)
+
+-- ---- what a write has stored
+
+abbrev pub pair : (stored left : List ℕ) → Storing
+pair stored left = record { stored = stored; left = left }
+
+pub one_stored_as : (x : ℕ) (left : List ℕ) → slice_get left 0 ≡ Some x → (stored : List ℕ)
+    → one_stored (pair stored left) ≡ pair (stored ++ x ∷ []) (drop 1 left)
+one_stored_as x [] e stored = let bad : None ≡ Some x = e in absurd (cc)
+one_stored_as x (y ∷ left) e stored = let same : y ≡ x = cc in ap (λ z. pair (stored ++ z ∷ []) left) same
+
+pub shorter : (x : ℕ) (left : List ℕ) → slice_get left 0 ≡ Some x → length left ≡ suc (length (drop 1 left))
+shorter x [] e = let bad : None ≡ Some x = e in absurd (cc)
+shorter x (y ∷ left) e = refl
+
+pub some_one : (a b : ℕ) → Some a ≡ Some b → a ≡ b
+some_one a b e = cc
 
 module _ (o : Record) (id : ℕ) (v : View) (parts : 0 < v.share.parts) (ws : List ℕ) (views : List View) (s : HasOneHistory o ws views) (at : get_elem? views id ≡ some v) where
   abbrev mine : ViewKnowledge o s.history ws v
@@ -47,7 +63,6 @@ module _ (o : Record) (id : ℕ) (v : View) (parts : 0 < v.share.parts) (ws : Li
         let c : note_of v ≡ last_count o s.history = omega (arith, e, r.word, is.word_is) in
         let ws' : List ℕ = slice_set ws 0 6 in
         let lock : slice_index ws' 0 ≡ 6 = lock_set ws 6 (omega (arith, s.long)) in
-        let same = values_kept ws 6 in
         let not_free : (c : ℕ) → slice_index ws' 0 ≢ 4 * c = λ c e. absurd (omega (arith, e, lock)) in
         let sum = sum_set storing_count views id v w at in
         let none : storing_count v ≡ 0 = is_not_storing v is.still.storing in
@@ -63,8 +78,8 @@ module _ (o : Record) (id : ℕ) (v : View) (parts : 0 < v.share.parts) (ws : Li
         } in (
           w,
           made o ws views id v w s at refl parts ws' s.history (length-set ws 0 6) (inr (record { word = lock; one = now })) k
-              (λ i u n g q. taken_knows o s.history ws ws' u same not_free q) (λ n. refl) refl
-              (looks_on o s.history s.history (slice_index ws 0) (slice_index ws' 0) views id v w s.looks at (UnderWay (note_of v)) (ap UnderWay c ∙ sym (held_now o s.history (slice_index ws' 0) lock)) (time_at (moment_now o s.history (slice_index ws 0)) (AtRest (last_count o s.history)) (UnderWay (note_of v)) (rests_now o s.history (slice_index ws 0) (last_count o s.history) r.word) (omega (arith, c))) refl),
+              (λ i u n g q. held_knows o s.history ws ws' u (not_storing u (let most = at_most storing_count views i u g in omega (arith, most, r.nobody))) not_free q) (λ n. refl) refl
+              (looks_on time_of (AtRest o.count) (moment_now o s.history (slice_index ws 0)) (moment_now o s.history (slice_index ws' 0)) views id v w s.seats.looks at (UnderWay (note_of v)) (ap UnderWay c ∙ sym (held_now o s.history (slice_index ws' 0) lock)) (time_at (moment_now o s.history (slice_index ws 0)) (AtRest (last_count o s.history)) (UnderWay (note_of v)) (rests_now o s.history (slice_index ws 0) (last_count o s.history) r.word) (omega (arith, c))) refl),
           record { same = λ q. record { place = place; view = refl }; other = λ n. absurd (n (e ∙ is.word_is)) },
         )
 
@@ -95,8 +110,8 @@ module _ (o : Record) (id : ℕ) (v : View) (parts : 0 < v.share.parts) (ws : Li
     storing : v.storing ≡ Some now
     storing = some_storing v.storing is.storing
 
-    under_way : IsUnderWay o s.history ws v.note now
-    under_way = if_some (IsUnderWay o s.history ws v.note) v.storing now storing mine.storing
+    under_way : IsUnderWay o s.history (one_place ws) v.note now
+    under_way = if_some (IsUnderWay o s.history (one_place ws) v.note) v.storing now storing mine.storing
 
     held_by : IsAtRest o s.history ws views ⊎ IsHeldByWrite ws views → IsHeldByWrite ws views
     held_by (inl r) = let most = at_most storing_count views id v at in let one = is_storing v now storing in absurd (omega (arith, most, one, r.nobody))
@@ -109,18 +124,6 @@ module _ (o : Record) (id : ℕ) (v : View) (parts : 0 < v.share.parts) (ws : Li
     no_other j u n g = not_storing u (others_none storing_count views id j v u at (let one = is_storing v now storing in omega (arith, one, held.one)) n g)
 
     -- ---- a value store
-
-    abbrev pair : (stored left : List ℕ) → Storing
-    pair stored left = record { stored = stored; left = left }
-
-    one_stored_as : (x : ℕ) (left : List ℕ) → slice_get left 0 ≡ Some x → (stored : List ℕ)
-        → one_stored (pair stored left) ≡ pair (stored ++ x ∷ []) (drop 1 left)
-    one_stored_as x [] e stored = let bad : None ≡ Some x = e in absurd (cc)
-    one_stored_as x (y ∷ left) e stored = let same : y ≡ x = cc in ap (λ z. pair (stored ++ z ∷ []) left) same
-
-    shorter : (x : ℕ) (left : List ℕ) → slice_get left 0 ≡ Some x → length left ≡ suc (length (drop 1 left))
-    shorter x [] e = let bad : None ≡ Some x = e in absurd (cc)
-    shorter x (y ∷ left) e = refl
 
     pub store_step : (x : ℕ) → slice_get now.left 0 ≡ Some x → Leads o ws views id (suc i) x (λ w. w ≡ has_stored now v)
     store_step x first =
@@ -139,19 +142,19 @@ module _ (o : Record) (id : ℕ) (v : View) (parts : 0 < v.share.parts) (ws : Li
         let so_far : now.stored ≡ take i (cell_values ws) = under_way.stored ∙ ap (λ k. take k (cell_values ws)) is.stored in
         let at_now : now.stored ++ x ∷ [] ≡ take (length (now.stored ++ x ∷ [])) (cell_values ws') =
         ap (λ l. l ++ x ∷ []) so_far ∙ sym (value_set ws i x (omega (arith, long, under_way.long, is.stored, short))) ∙ ap (λ k. take k (cell_values ws')) (sym n) in
-        let going : IsUnderWay o s.history ws' v.note (pair (now.stored ++ x ∷ []) (drop 1 now.left)) = record { note_is = under_way.note_is; stored = at_now; long = omega (arith, n, short, under_way.long, is.stored) } in
+        let going : IsUnderWay o s.history (one_place ws') v.note (pair (now.stored ++ x ∷ []) (drop 1 now.left)) = record { note_is = under_way.note_is; stored = at_now; long = omega (arith, n, short, under_way.long, is.stored) } in
         let k : ViewKnowledge o s.history ws' w = record {
           opening_is = mine.opening_is;
           own = record { writes = mine.own.writes; latest = mine.own.latest };
           note = mine.note;
           loaded = none_loaded ws' v.note v.loaded is.loaded;
-          storing = subst (IsUnderWay o s.history ws' v.note) (sym next) going;
+          storing = subst (IsUnderWay o s.history (one_place ws') v.note) (sym next) going;
           joining = mine.joining;
         } in (
           w,
           made o ws views id v w s at refl parts ws' s.history (length-set ws (suc i) x) (inr (record { word = lock; one = after })) k
               (λ j u m g q. held_knows o s.history ws ws' u (no_other j u m g) not_free q) (λ m. refl) refl
-              (looks_kept o s.history s.history (slice_index ws 0) (slice_index ws' 0) views id v w s.looks at (ap (moment_now o s.history) (lock_kept ws i x)) refl),
+              (looks_kept time_of (AtRest o.count) (moment_now o s.history (slice_index ws 0)) (moment_now o s.history (slice_index ws' 0)) views id v w s.seats.looks at (ap (moment_now o s.history) (lock_kept ws i x)) refl),
           refl,
         )
 
@@ -197,7 +200,7 @@ module _ (o : Record) (id : ℕ) (v : View) (parts : 0 < v.share.parts) (ws : Li
               let there : one_if (is_in_span n o.count (last_count o h')) ≡ one_if (is_in_span n o.count (last_count o s.history + 1)) = ap (λ m. one_if (is_in_span n o.count m)) more in
               omega (arith, push, between, here, there))
               (let push = length-append v.writes (r ∷ []) in omega (arith, push, long))
-              (looks_on o s.history h' (slice_index ws 0) (slice_index ws' 0) views id v w s.looks at (AtRest (note_of v + 1)) (ap AtRest last.count ∙ sym (rests_now o h' (slice_index ws' 0) (note_of v + 1) lock)) (time_at (moment_now o s.history (slice_index ws 0)) (UnderWay (last_count o s.history)) (AtRest (note_of v + 1)) (held_now o s.history (slice_index ws 0) held.word) (omega (arith, c))) refl),
+              (looks_on time_of (AtRest o.count) (moment_now o s.history (slice_index ws 0)) (moment_now o h' (slice_index ws' 0)) views id v w s.seats.looks at (AtRest (note_of v + 1)) (ap AtRest last.count ∙ sym (rests_now o h' (slice_index ws' 0) (note_of v + 1) lock)) (time_at (moment_now o s.history (slice_index ws 0)) (UnderWay (last_count o s.history)) (AtRest (note_of v + 1)) (held_now o s.history (slice_index ws 0) held.word) (omega (arith, c))) refl),
           record {
             place = place;
             view = refl;
@@ -209,6 +212,3 @@ module _ (o : Record) (id : ℕ) (v : View) (parts : 0 < v.share.parts) (ws : Li
             above = let le' = at_most_last o s.history v.latest mine.own.latest in omega (arith, le', c);
           },
         )
-      where
-        some_one : (a b : ℕ) → Some a ≡ Some b → a ≡ b
-        some_one a b e = cc

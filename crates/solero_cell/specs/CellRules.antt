@@ -15,7 +15,7 @@ use Rattle.solero_cell.specs.declared.views.Share.{Share}
 use Rattle.solero_cell.specs.declared.views.Storing.{Storing}
 use Rattle.solero_cell.specs.declared.views.View.{View}
 use Rattle.solero_cell.specs.Histories.{History, last_count, RecordStands, IsLast, OwnStand}
-use Rattle.solero_cell.specs.Moments.{AllFound, IsRowOfMoments, moment_now}
+use Rattle.solero_cell.specs.Moments.{AllFound, IsRowOfMoments, moment_now, time_of}
 use Rattle.solero_cell.specs.CellViews.{record_of, spent}
 
 -- the words of the values
@@ -24,27 +24,34 @@ cell_values words = drop 1 words
 
 -- ---- what holds of each view
 
--- a write under way has noted the cell's count, and its values stand in the words as far as it has
--- stored them
-pub record IsUnderWay (opening : Record) (h : History) (words : List ℕ) (note : Option ℕ)
-    (s : Storing) : Type 0 where
+-- a write under way has noted the cell's count, and its values stand where those of the next count
+-- belong as far as it has stored them
+pub record IsUnderWay (opening : Record) (h : History) (place : (count : ℕ) → List ℕ)
+    (note : Option ℕ) (s : Storing) : Type 0 where
   pub note_is : note ≡ Some (last_count opening h)
-  pub stored : s.stored ≡ take (length s.stored) (cell_values words)
+  pub stored : s.stored ≡ take (length s.stored) (place (last_count opening h + 1))
   pub long : length s.stored + length s.left ≡ length opening.values
 
-pub record ViewKnowledge (opening : Record) (h : History) (words : List ℕ) (v : View) : Type 0 where
+-- of which counts a read may still go on, and where the values of a count stand
+pub record SeatKnowledge (opening : Record) (h : History) (IsLeft : (count : ℕ) → Type 0)
+    (place : (count : ℕ) → List ℕ) (v : View) : Type 0 where
   pub opening_is : v.opening ≡ opening
   pub own : OwnStand opening h v
   pub note : IfSome v.note (λ c. c ≤ last_count opening h)
-  -- while the word is that of the note, the values that were loaded are those of the words
-  pub loaded : (c : ℕ) → v.note ≡ Some c → slice_index words 0 ≡ word_of_lock (Free c)
-      → v.loaded ≡ take (length v.loaded) (cell_values words)
-  pub storing : IfSome v.storing (IsUnderWay opening h words v.note)
+  -- while the noted count is left, the values that were loaded are a beginning of its values
+  pub loaded : (c : ℕ) → v.note ≡ Some c → IsLeft c → v.loaded ≡ take (length v.loaded) (place c)
+  pub storing : IfSome v.storing (IsUnderWay opening h place v.note)
   pub joining : IfSome v.joining (RecordStands opening h)
 
+-- the word of the lock is the free one of the count, and all values stand in one place
+abbrev pub ViewKnowledge : (opening : Record) → History → (words : List ℕ) → View → Type 0
+ViewKnowledge opening h words v =
+    SeatKnowledge opening h (λ c. slice_index words 0 ≡ word_of_lock (Free c))
+    (λ c. cell_values words) v
+
 -- a view without a share is spent
-abbrev pub ViewFits : (opening : Record) → History → (words : List ℕ) → View → Type 0
-ViewFits opening h words v = (v ≡ spent) ⊎ ((0 < v.share.parts) × ViewKnowledge opening h words v)
+abbrev pub SeatFits : (Knows : View → Type 0) → View → Type 0
+SeatFits Knows v = (v ≡ spent) ⊎ ((0 < v.share.parts) × Knows v)
 
 -- ---- what holds of all views
 
@@ -94,13 +101,25 @@ pub record IsHeldByWrite (words : List ℕ) (views : List View) : Type 0 where
 abbrev pub looks_at : (place : ℕ) → View → ℕ
 looks_at n v = sum_by (λ l. one_if (l.place == n)) v.looks
 
--- the looks of all seats are one row of moments, which ends with what the lock word is now
-pub record HaveLooked (opening : Record) (h : History) (word : ℕ) (views : List View) : Type 0 where
+-- the looks of all seats are one row of moments in the order of these times, which ends with what
+-- is now
+pub record HaveLooked (time : Moment → ℕ) (from now : Moment) (views : List View) : Type 0 where
   pub moments : List Moment
-  pub way : IsRowOfMoments (AtRest opening.count) moments (moment_now opening h word)
+  pub way : IsRowOfMoments time from moments now
   -- each seat tells what it found, and each place of the row is that of one look
   pub found : (i : ℕ) (v : View) → get_elem? views i ≡ some v → AllFound moments v.looks
   pub once : (n : ℕ) → sum_by (looks_at n) views ≡ one_if (nat_lt n (length moments))
+
+-- each seat knows this, or is spent; the counts of all writes are those above the opening one, up to
+-- the cell's, each once; the shares are a whole, and the looks one row
+pub record ShareHistory (opening : Record) (h : History) (Knows : View → Type 0)
+    (time : Moment → ℕ) (now : Moment) (views : List View) : Type 0 where
+  pub each : (i : ℕ) (v : View) → get_elem? views i ≡ some v → SeatFits Knows v
+  pub once : (n : ℕ)
+      → sum_by (times n) views ≡ one_if (is_in_span n opening.count (last_count opening h))
+  pub count : sum_by written_count views ≡ length h
+  pub whole : AreWhole views
+  pub looks : HaveLooked time (AtRest opening.count) now views
 
 -- ---- the rule
 
@@ -108,10 +127,5 @@ pub record HasOneHistory (opening : Record) (words : List ℕ) (views : List Vie
   pub history : History
   pub long : length words ≡ suc (length opening.values)
   pub lock : IsAtRest opening history words views ⊎ IsHeldByWrite words views
-  pub each : (i : ℕ) (v : View) → get_elem? views i ≡ some v → ViewFits opening history words v
-  -- the counts of all writes are those above the opening one, up to the cell's, each once
-  pub once : (n : ℕ)
-      → sum_by (times n) views ≡ one_if (is_in_span n opening.count (last_count opening history))
-  pub count : sum_by written_count views ≡ length history
-  pub whole : AreWhole views
-  pub looks : HaveLooked opening history (slice_index words 0) views
+  pub seats : ShareHistory opening history (ViewKnowledge opening history words) time_of
+      (moment_now opening history (slice_index words 0)) views

@@ -25,10 +25,11 @@ moment_now opening h word =
     if word == word_of_lock (Held 0) then UnderWay (last_count opening h)
     else AtRest (last_count opening h)
 
--- moments from one to another, none of them before the one that it follows
-abbrev pub IsRowOfMoments : (from : Moment) → List Moment → (to : Moment) → Type 0
-IsRowOfMoments from [] to = from ≡ to
-IsRowOfMoments from (m ∷ ms) to = (time_of from ≤ time_of m) × IsRowOfMoments m ms to
+-- moments from one to another, none of them at a time before the one that it follows
+abbrev pub IsRowOfMoments : (time : Moment → ℕ) → (from : Moment) → List Moment → (to : Moment)
+    → Type 0
+IsRowOfMoments time from [] to = from ≡ to
+IsRowOfMoments time from (m ∷ ms) to = (time from ≤ time m) × IsRowOfMoments time m ms to
 
 -- each look has found the moment at its place
 abbrev pub AllFound : (moments : List Moment) → List Look → Type 0

@@ -20,7 +20,8 @@ mod write;
 pub use answers::{CellRead, CellWrite};
 pub use ending::CellEnd;
 pub use laws::added_looks_are_true;
-pub use rule::{CellRule, CellTable};
+pub use rule::{Attempt, CellRule, CellTable, First, Last, Writing};
+pub use rule::{Compares, Cuts, Joins, Loads, Notes, Stores, Takes};
 pub use seat::{CellSeat, MOST_VALUES, cell};
 pub use views::{Look, Moment, Record, Share, Storing, View};
 

@@ -24,7 +24,7 @@ impl TableRule<(), View, Record> for CellRule {
 pub type CellTable = Table<(), View, Record, CellRule, Global>;
 
 /// A note load.
-pub(crate) struct Notes;
+pub struct Notes;
 
 impl Play<(), View> for Notes {
     ghost use Rattle.std.specs.Prelude.{◌≡◌};
@@ -34,7 +34,7 @@ impl Play<(), View> for Notes {
 }
 
 /// A value load.
-pub(crate) struct Loads;
+pub struct Loads;
 
 impl Play<(), View> for Loads {
     ghost use Rattle.std.specs.Prelude.{◌≡◌};
@@ -44,12 +44,12 @@ impl Play<(), View> for Loads {
 }
 
 /// Whether an attempt at a read is its last.
-pub(crate) trait Attempt {
+pub trait Attempt {
     ghost is_last: { Bool };
 }
 
 /// The first attempt.
-pub(crate) struct First;
+pub struct First;
 
 impl Attempt for First {
     ghost use Rattle.std.specs.Prelude.{false};
@@ -58,7 +58,7 @@ impl Attempt for First {
 }
 
 /// The last attempt.
-pub(crate) struct Last;
+pub struct Last;
 
 impl Attempt for Last {
     ghost use Rattle.std.specs.Prelude.{true};
@@ -79,7 +79,7 @@ impl<A: Attempt> Play<(), View> for Finishes<A> {
 }
 
 /// Which values are written. A call at `Brand` picks them.
-pub(crate) trait Writing {
+pub trait Writing {
     ghost values: { List ℕ };
 }
 
@@ -90,7 +90,7 @@ impl Writing for Brand {
 }
 
 /// A take exchange.
-pub(crate) struct Takes<B> {
+pub struct Takes<B> {
     of: PhantomData<B>,
 }
 
@@ -102,7 +102,7 @@ impl<B: Writing> Play<(), View> for Takes<B> {
 }
 
 /// A value store.
-pub(crate) struct Stores;
+pub struct Stores;
 
 impl Play<(), View> for Stores {
     ghost use Rattle.std.specs.Prelude.{◌≡◌};
@@ -123,7 +123,7 @@ impl Play<(), View> for Releases {
 }
 
 /// A view is cut in two.
-pub(crate) struct Cuts;
+pub struct Cuts;
 
 impl Split<View> for Cuts {
     ghost use Rattle.solero_cell.specs.CellViews.{halved, newcomer};
@@ -134,7 +134,7 @@ impl Split<View> for Cuts {
 }
 
 /// Two views become one.
-pub(crate) struct Joins;
+pub struct Joins;
 
 impl Join<View> for Joins {
     ghost use Rattle.solero_cell.specs.CellViews.{spent, taken_in};
@@ -155,7 +155,7 @@ impl Play<(), View> for Ends {
 }
 
 /// The second load of a join.
-pub(crate) struct Compares;
+pub struct Compares;
 
 impl Play<(), View> for Compares {
     ghost use Rattle.std.specs.Prelude.{◌≡◌};

@@ -1,0 +1,4 @@
+mod CopyWords
+mod Latching
+mod LatchReads
+mod Reading
