@@ -1,4 +1,7 @@
 mod CopyWords
 mod Latching
 mod LatchReads
+mod LatchWrites
+mod LatchSeats
 mod Reading
+mod LatchTruth

@@ -1,0 +1,11 @@
+use Rattle.std.proofs.Common.{arith}
+use Rattle.solero_cell.{specs.Steps.TellsNote, proofs.Allowing.{any_load_allows}}
+use Rattle.latch_cell.{specs.LatchRules.HasTwoCopies, proofs.LatchReads.{note_step}}
+use Rattle.latch_cell.proofs.steps.note.Goals as goal
+
+pub load-requires : goal.load-requires
+load-requires c =
+    let shared = c.args.table.now.shared in
+    let seat = c.args.seat.now in
+    let is = c.requires.seat in
+    (is.of, omega (arith, is.words), any_load_allows (HasTwoCopies shared.key) shared.table_id.slots seat.id 0 seat.me (TellsNote seat.me.0) (λ ws views s at. note_step shared.key seat.id seat.me.0 is.share ws views s at c.requires.still))

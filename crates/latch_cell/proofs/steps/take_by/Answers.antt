@@ -1,0 +1,12 @@
+use Rattle.std.proofs.Common.{length, sym, ap, ◌∙◌, subst, arith, ◌==◌, slice_index}
+use Rattle.solero_cell.{specs.Steps.TellsTake, proofs.Allowing.{LeadsTo, any_write_allows}}
+use Rattle.latch_cell.{specs.LatchRules.HasTwoCopies, proofs.LatchWrites.{take_step}}
+use prog.Atomic.{either}
+use Rattle.latch_cell.proofs.steps.take_by.Goals as goal
+
+pub compare_exchange-requires : goal.compare_exchange-requires
+compare_exchange-requires g c =
+    let shared = c.args.table.now.shared in
+    let seat = c.args.seat.now in
+    let is = c.requires.seat in
+    (is.of, omega (arith, is.words), any_write_allows (HasTwoCopies shared.key) shared.table_id.slots seat.id 0 (λ n. either (n == c.args.noted) c.word.result n) seat.me (TellsTake g.B.Writing.values seat.me.0) (λ ws views s at. subst (λ h. LeadsTo (HasTwoCopies shared.key) ws views seat.id 0 (either (slice_index ws 0 == c.args.noted) h (slice_index ws 0)) (TellsTake g.B.Writing.values seat.me.0 (slice_index ws 0))) (sym c.word.ensures.word) (take_step shared.key seat.id seat.me.0 is.share ws views s at c.args.noted g.B.Writing.values c.requires.noted (ap length c.requires.values ∙ c.requires.long))))
