@@ -1,5 +1,5 @@
 -- The copies of a latch cell when one of its words changes.
-use Rattle.std.proofs.{Common.{◌≡◌, ◌≢◌, ℕ, suc, ◌+◌, ◌-◌, ◌*◌, ◌%◌, ◌<◌, ◌≤◌, ◌==◌, ◌⊎◌, inl, inr, ⊎_elim, List, [], ◌∷◌, ◌++◌, length, take, drop, refl, sym, ap, ◌∙◌, arith, slice_index, slice_set, if◌then◌else◌}, Math.Seq.{take-suc-set, take-set-lt, take-append_seam, drop-append_seam, take-length}}
+use Rattle.std.proofs.{Common.{◌≡◌, ◌≢◌, ℕ, suc, ◌+◌, ◌-◌, ◌*◌, ◌%◌, ◌<◌, ◌≤◌, ◌==◌, ◌⊎◌, inl, inr, ⊎_elim, List, [], ◌∷◌, ◌++◌, length, take, drop, ap, ◌∙◌, arith, slice_index, slice_set, if◌then◌else◌}, Math.Seq.{take-suc-set, take-set-lt, take-append_seam, drop-append_seam, take-length}}
 use Rattle.std.proofs.lemmas.List.{get_or-set_other, get_or-take, get_or-drop, drop-set-lt, drop-set-add, take-set-le, length-take-le, length-drop}
 use Rattle.latch_cell.specs.Copies.{copy_start, copy_of}
 use mathlib.Core.Logic.{dite}

@@ -1,12 +1,12 @@
 -- The steps of a read keep the rule: its loads, and what they tell. And a write's note, and the second load of a join.
-use Rattle.std.proofs.Common.{◌≡◌, ◌≢◌, ℕ, suc, ◌+◌, ◌*◌, ◌<◌, ◌≤◌, inl, inr, ⊎_elim, List, [], ◌∷◌, ◌++◌, length, length-append, take, Bool, true, false, Some, None, IfSome, refl, sym, ap, subst, ◌∙◌, arith, slice_index, slice_set}
+use Rattle.std.proofs.Common.{◌≡◌, ◌≢◌, ℕ, suc, ◌+◌, ◌*◌, ◌<◌, ◌≤◌, ⊎_elim, List, [], ◌∷◌, ◌++◌, length, length-append, take, Bool, true, false, Some, None, IfSome, refl, sym, ap, subst, ◌∙◌, arith, slice_index, slice_set}
 use Rattle.std.specs.Prelude.{unwrap_or}
 use Rattle.machine_types.specs.{LockWords.{lock_of, is_lock_word}, declared.lock.LockWord.LockWord}
-use Rattle.solero_cell.specs.{CellRules.{HaveLooked, IsHeldByWrite}, CellViews.{record_of, noted, has_failed, has_loaded, has_looked, forgot, has_read, has_compared, IsStill}, Histories.{last_count, RecordStands, IsLast, OwnStand}}
-use Rattle.solero_cell.specs.{Stages.{IsLoading, IsJoining}, Steps.{note_of, joining_of, NotedBy, TellsNote, HasCompared}, Moments.word_of_moment, declared.views.{Moment.{Moment, TheVariants.{AtRest, UnderWay}}, Record.Record, View.View}}
+use Rattle.solero_cell.specs.{CellRules.{IsHeldByWrite}, CellViews.{record_of, noted, has_failed, has_loaded, has_looked, forgot, has_read, has_compared, IsStill}, Histories.{last_count, RecordStands, IsLast, OwnStand}}
+use Rattle.solero_cell.specs.{Stages.{IsLoading, IsJoining}, Steps.{note_of, joining_of, NotedBy, TellsNote, HasCompared}, declared.views.{Moment.{Moment, TheVariants.{AtRest, UnderWay}}, Record.Record, View.View}}
 use Rattle.solero_cell.proofs.{Allowing.LooksTo, Knowing.{calm_seat, nothing_loaded, if_some, is_not_storing}, Looking.{held_now, looks_kept, rests_now}, ReadSteps.{some_note, some_record}, Standing.{at_most_last, last_stands, newest_stands}, Words.{free_word, free_is_lock, next_taken, all_taken}}
-use Rattle.latch_cell.specs.{Copies.{latch_count, copy_start, copy_of}, LatchRules.{count_of, LatchKnowledge, IsLetGo, HasTwoCopies}, LatchSteps.{counted, HasCounted, HasReadCopy, copy_attempt_ended, EndsCopyAttempt, TellsCopyFinish}}
-use Rattle.latch_cell.proofs.{CopyWords.{copy_long, copy_index}, Latching.{IsCountAt, copy_at, its, next, now, now_is, counted_is, stands, looks, looked}}
+use Rattle.latch_cell.specs.{Copies.{latch_count, copy_start}, LatchRules.{count_of, LatchKnowledge, IsLetGo, HasTwoCopies}, LatchSteps.{counted, HasCounted, copy_attempt_ended, TellsCopyFinish}}
+use Rattle.latch_cell.proofs.{CopyWords.{copy_long, copy_index}, Latching.{IsCountAt, copy_at, its, next, now, now_is, counted_is, looks, looked}}
 use lib.ListN.{get_elem?}
 use mathlib.Core.{Logic.dite, Option.some}
 use native.Mathlib.Decide.{ℕ_discrete}

@@ -1,5 +1,5 @@
 -- A seat that is split, and two that are joined, keep the rule. And a new cell meets it.
-use Rattle.std.proofs.Common.{◌≡◌, ◌≢◌, ℕ, ◌+◌, ◌*◌, ◌<◌, inl, List, [], ◌∷◌, ◌++◌, length, length-append, Some, refl, sym, ap, subst, ◌∙◌, arith}
+use Rattle.std.proofs.Common.{◌≡◌, ℕ, ◌+◌, ◌*◌, ◌<◌, inl, List, [], ◌∷◌, ◌++◌, length-append, Some, refl, sym, ap, subst, ◌∙◌, arith}
 use Rattle.atomic_table.{specs.Table.{Splits, Joins}, proofs.Lists.{set_else}}
 use Rattle.atomic_table.specs.Seated.{TableId}
 use Rattle.solero_cell.specs.{CellRules.{storing_count}, CellViews.{first_view, halved, newcomer, taken_in, spent, IsStill}, Moments.moment_now, declared.views.{Moment.TheVariants.AtRest, Record.Record, View.View}}

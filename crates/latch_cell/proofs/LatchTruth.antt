@@ -1,5 +1,5 @@
 -- A look that a step adds has found what the lock word and the count are behind the step.
-use Rattle.std.proofs.Common.{◌≡◌, inl, inr, ⊎_elim, sym, ap, ◌∙◌, slice_index, slice_set}
+use Rattle.std.proofs.Common.{inl, inr, ⊎_elim, sym, ap, ◌∙◌, slice_index, slice_set}
 use Rattle.solero_cell.specs.{CellRules.IsHeldByWrite, Moments.{moment_now, word_of_moment}, declared.views.Moment.{Moment, TheVariants.AtRest}}
 use Rattle.solero_cell.proofs.{Looking.{word_now}, Truth.{added}}
 use Rattle.latch_cell.specs.{LatchLooks.AddedLatchLooksAreTrue, LatchRules.{count_of, IsLetGo}}

@@ -5,9 +5,9 @@ use Rattle.atomic_table.proofs.Lists.{exchanged}
 use Rattle.solero_cell.specs.{CellRules.{HaveLooked, IsUnderWay, one_if, storing_count, is_in_span, IsHeldByWrite}, CellViews.{record_of, has_looked, has_failed, has_taken, has_stored, has_released}, Histories.{History, last_count, IsLast, OwnStand, RecordStands}}
 use Rattle.solero_cell.specs.{Stages.{IsNoted, IsStoring}, Steps.{note_of, storing_of, TellsTake}, Moments.moment_now, declared.views.{Moment.{Moment, TheVariants.{AtRest, UnderWay}}, Record.Record, Storing.Storing, View.View}}
 use Rattle.solero_cell.proofs.{Allowing.{LeadsTo}, Knowing.{calm_seat, nothing_loaded, if_none, if_some, not_storing, is_not_storing, is_storing, still_knows, more_knows}, Looking.{held_now, looks_kept, looks_on, rests_now}, Made.{seats_kept, seats_made}}
-use Rattle.solero_cell.proofs.{ReadSteps.{some_note}, Standing.{at_most_last, last_stands, own_on, all_both, new_last}, Sums.{sum_set, at_most, others_none}, Words.{all_taken}, WriteSteps.{some_storing, one_more, pair, one_stored_as, shorter, some_one}}
+use Rattle.solero_cell.proofs.{ReadSteps.{some_note}, Standing.{at_most_last, last_stands, own_on, all_both, new_last}, Sums.{sum_set, at_most, others_none}, Words.{all_taken}, WriteSteps.{some_storing, one_more, one_stored_as, shorter, some_one}}
 use Rattle.latch_cell.specs.{Copies.{latch_count, copy_start}, LatchRules.{count_of, LatchKnowledge, IsLetGo, HasTwoCopies}, LatchSteps.{has_published, HasPublished, HasLetGo}}
-use Rattle.latch_cell.proofs.{CopyWords.{copy_long, copy_set, head_kept, other_kept, words_kept}, Latching.{IsCountAt, copy_at, its, next, now, now_is, stands, looks, looked, count_now}}
+use Rattle.latch_cell.proofs.{CopyWords.{copy_long, copy_set, head_kept, other_kept, words_kept}, Latching.{IsCountAt, copy_at, its, next, now, now_is, stands, looks, looked}}
 use lib.ListN.{get_elem?}
 use mathlib.Core.Option.{some}
 use prog.Atomic.{either}

@@ -13,9 +13,7 @@ ghost use Rattle.latch_cell.specs.LatchSteps.{TellsCopyFinish};
 use crate::rule::{Counts, CountsAgain, LatchTable, LetsGo, Publishes};
 use atomic_table::Seat;
 use lock_word::{LockWord, word};
-use solero_cell::{
-    Attempt, Compares, Cuts, Joins, Loads, Notes, Stores, Takes, View, Writing,
-};
+use solero_cell::{Attempt, Compares, Cuts, Joins, Loads, Notes, Stores, Takes, View, Writing};
 use std::marker::Brand;
 
 /// The word of the lock.

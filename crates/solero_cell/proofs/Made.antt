@@ -1,5 +1,5 @@
 -- A step of one seat keeps the rule, where it keeps what the rule says of each view, of the lock and of the counts.
-use Rattle.std.{proofs.Common.{◌≡◌, ◌≢◌, ℕ, ◌+◌, ◌<◌, ◌⊎◌, inl, inr, ⊎_elim, List, length, refl, sym, ap, subst, ◌∙◌, arith, slice_set, ◌==◌, slice_index}, specs.List.sum_by}
+use Rattle.std.{proofs.Common.{◌≡◌, ◌≢◌, ℕ, ◌+◌, ◌<◌, ◌⊎◌, inl, inr, ⊎_elim, List, length, sym, ap, subst, ◌∙◌, arith, slice_set, ◌==◌, slice_index}, specs.List.sum_by}
 use Rattle.atomic_table.proofs.Lists.{at_set}
 use Rattle.solero_cell.specs.{CellRules.{ViewKnowledge, SeatFits, one_if, times, storing_count, written_count, is_in_span, IsAtRest, IsHeldByWrite, HaveLooked, ShareHistory, HasOneHistory}, Histories.{History, last_count}}
 use Rattle.solero_cell.{specs.{Moments.{time_of, moment_now}, declared.views.{Moment.{Moment, TheVariants.AtRest}, Record.Record, View.View}}, proofs.{Shares.whole_same, Sums.sum_set}}

@@ -20,8 +20,10 @@ mod write;
 pub use answers::{CellRead, CellWrite};
 pub use ending::CellEnd;
 pub use laws::added_looks_are_true;
-pub use rule::{Attempt, CellRule, CellTable, First, Last, Writing};
-pub use rule::{Compares, Cuts, Joins, Loads, Notes, Stores, Takes};
+pub use rule::{
+    Attempt, CellRule, CellTable, Compares, Cuts, First, Joins, Last, Loads, Notes, Stores, Takes,
+    Writing,
+};
 pub use seat::{CellSeat, MOST_VALUES, cell};
 pub use views::{Look, Moment, Record, Share, Storing, View};
 
