@@ -1,6 +1,5 @@
-use Rattle.std.proofs.Common.{arith}
 use Rattle.cell_c.proofs.ForC.{opened_for_c}
 use Rattle.cell_c.proofs.cell_c_open_latch.Goals as goal
 
 pub returns-in-Ok : goal.returns-in-Ok
-returns-in-Ok c = opened_for_c c.of.ensures c.in-Ok.ensures (omega (arith, c.if-values-eq0.false)) (omega (arith, c.if-values-gt-MOST_VALUES.false)) (omega (arith, c.if-count.false))
+returns-in-Ok c = opened_for_c c.of.ensures c.in-Ok.ensures c.in_default.ensures.0 c.in_default.ensures.1 c.in_default.ensures.2
