@@ -1,6 +1,6 @@
-//! What a read of the proved cell costs, beside a `Mutex`, an `RwLock` and a sequence lock by hand of the same words.
+//! What a read of the proved cells costs, beside a `Mutex`, an `RwLock` and a sequence lock by hand of the same words.
 //!
-//! The cell is the library itself, which `./cell` proves and builds; the sequence lock by hand is in this file. Run it with
+//! The cells are the library itself, which `./cell` proves and builds; the sequence lock by hand is in this file. Run it with
 //! nothing else on the machine:
 //!
 //! ```sh
@@ -29,7 +29,10 @@ trait Hand: Send {
     fn open(size: usize) -> Self;
 }
 
-/// A seat at the proved cell, as the header has it.
+/// What opens a proved cell of either kind.
+type Open = unsafe extern "C" fn(*const u64, usize, u64, *mut Seat) -> u32;
+
+/// A seat at a proved cell, as the header has it.
 #[repr(C)]
 struct Seat {
     at: *mut u8,
@@ -39,6 +42,7 @@ struct Seat {
 #[link(name = "libc_c", kind = "static")]
 unsafe extern "C" {
     fn cell_c_open(values: *const u64, len: usize, count: u64, seat: *mut Seat) -> u32;
+    fn cell_c_open_latch(values: *const u64, len: usize, count: u64, seat: *mut Seat) -> u32;
     fn cell_c_close(seat: *mut Seat);
     fn cell_c_split(seat: *mut Seat, other: *mut Seat) -> u32;
     fn cell_c_read(seat: *mut Seat, out: *mut u64, len: usize, count: *mut u64) -> u32;
@@ -66,12 +70,9 @@ impl Seat {
         other
     }
 
-    fn open_with(size: usize) -> Seat {
+    fn open_with(open: Open, size: usize) -> Seat {
         let mut seat = Seat::NONE;
-        assert_eq!(
-            unsafe { cell_c_open([0; MOST].as_ptr(), size, 0, &mut seat) },
-            0
-        );
+        assert_eq!(unsafe { open([0; MOST].as_ptr(), size, 0, &mut seat) }, 0);
         seat
     }
 }
@@ -94,7 +95,7 @@ impl Hand for Seat {
         self.split()
     }
     fn open(size: usize) -> Seat {
-        Seat::open_with(size)
+        Seat::open_with(cell_c_open, size)
     }
 }
 
@@ -113,7 +114,25 @@ impl Hand for Into {
         Into(self.0.split())
     }
     fn open(size: usize) -> Into {
-        Into(Seat::open_with(size))
+        Into(Seat::open_with(cell_c_open, size))
+    }
+}
+
+/// The latch cell, read straight into the caller's words.
+struct Latch(Into);
+
+impl Hand for Latch {
+    fn read(&mut self, out: &mut [u64]) -> bool {
+        self.0.read(out)
+    }
+    fn write(&mut self, values: &[u64]) -> bool {
+        self.0.write(values)
+    }
+    fn another(&mut self) -> Latch {
+        Latch(self.0.another())
+    }
+    fn open(size: usize) -> Latch {
+        Latch(Into(Seat::open_with(cell_c_open_latch, size)))
     }
 }
 
@@ -286,11 +305,12 @@ fn median(mut all: Vec<f64>) -> f64 {
 
 type Measure = fn(usize, usize, Writer, Duration) -> [f64; 2];
 
-const ALL: [Measure; 5] = [
+const ALL: [Measure; 6] = [
     measured::<Arc<Mutex<Vec<u64>>>>,
     measured::<Arc<RwLock<Vec<u64>>>>,
     measured::<Seat>,
     measured::<Into>,
+    measured::<Latch>,
     measured::<ByHand>,
 ];
 
@@ -307,7 +327,7 @@ fn row(size: usize, readers: usize, writer: Writer, time: Duration, rounds: usiz
     let parts: Vec<String> = (1..ALL.len())
         .map(|way| format!("{:.2}", pick(way, 0) / mutex))
         .collect();
-    let failed = [2, 3, 4].map(|way| format!("{:.0} %", 100. * pick(way, 1)));
+    let failed = [2, 3, 4, 5].map(|way| format!("{:.0} %", 100. * pick(way, 1)));
     format!("{mutex:.0} | {} | {}", parts.join(" | "), failed.join(", "))
 }
 
@@ -315,8 +335,8 @@ fn main() {
     let mut args = std::env::args().skip(1).map(|a| a.parse::<u64>().unwrap());
     let time = Duration::from_millis(args.next().unwrap_or(20));
     let rounds = args.next().unwrap_or(7) as usize;
-    println!("| Words | Readers | Writer | Mutex, ns | RwLock | Cell | Cell, `read_into` | By hand | Failed tries: cell, `read_into`, by hand |");
-    println!("|{}", "---|".repeat(9));
+    println!("| Words | Readers | Writer | Mutex, ns | RwLock | Cell | Cell, `read_into` | Latch cell, `read_into` | By hand | Failed tries: cell, `read_into`, latch cell, by hand |");
+    println!("|{}", "---|".repeat(10));
     for size in [1, 8, 64] {
         for (name, writer) in [
             ("none", Writer::None),

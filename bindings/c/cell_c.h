@@ -36,7 +36,7 @@ enum {
     CELL_C_WRONG_LENGTH = 2,  /* not as many words as the cell has; at an opening, none or more than 64 */
     CELL_C_WRONG_COUNT = 3,   /* an opening count of 2^62 or more */
     CELL_C_NO_MEMORY = 4,
-    CELL_C_NOT_FREE = 5,      /* another write is under way */
+    CELL_C_NOT_FREE = 5,      /* another write is under way (no read of a latch cell) */
     CELL_C_CHANGED = 6,       /* a read: a write came between, twice; a write: another one came first */
     CELL_C_FULL = 7,          /* the cell has its last count, 2^62 - 1 */
     CELL_C_NULL = 8           /* of the inline functions: a null pointer */
@@ -44,6 +44,10 @@ enum {
 
 /* A new cell with these values under this count. Its first seat comes into `seat`; the seat that was there is closed. */
 uint32_t cell_c_open(const uint64_t *values, size_t len, uint64_t count, cell_c_seat *seat);
+
+/* The same with a latch cell: it has two copies of the values, and no write holds up its reads. A read fails with CELL_C_CHANGED
+ * alone, where in each of two attempts a whole write ended. All calls below are for seats of either kind. */
+uint32_t cell_c_open_latch(const uint64_t *values, size_t len, uint64_t count, cell_c_seat *seat);
 
 /* Gives a seat up. The last one of a cell frees the cell. `seat` is none then. */
 void cell_c_close(cell_c_seat *seat);

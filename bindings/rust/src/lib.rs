@@ -28,12 +28,16 @@ struct RawSeat {
 // In `crates/cell_c/src/lib.rt` a `Global` takes no bytes, and a slice is a pointer and a length.
 unsafe extern "C" {
     fn cell_c_open(values: *const u64, len: usize, count: u64, seat: *mut RawSeat) -> u32;
+    fn cell_c_open_latch(values: *const u64, len: usize, count: u64, seat: *mut RawSeat) -> u32;
     fn cell_c_close(seat: *mut RawSeat);
     fn cell_c_split(seat: *mut RawSeat, other: *mut RawSeat) -> u32;
     fn cell_c_read(seat: *mut RawSeat, out: *mut u64, len: usize, count: *mut u64) -> u32;
     fn cell_c_read_into(seat: *mut RawSeat, out: *mut u64, len: usize, count: *mut u64) -> u32;
     fn cell_c_write(seat: *mut RawSeat, values: *const u64, len: usize, count: *mut u64) -> u32;
 }
+
+/// What opens a cell of either kind.
+type Open = unsafe extern "C" fn(*const u64, usize, u64, *mut RawSeat) -> u32;
 
 /// A seat at a cell, from which one thread at a time reads and writes it.
 pub struct Seat {
@@ -61,7 +65,7 @@ pub enum OpenError {
 pub enum TryError {
     /// The cell has another number of words.
     Length,
-    /// Another write is under way. Try again.
+    /// Another write is under way. Try again. No read of a latch cell answers this.
     NotFree,
     /// Another write came between. Try again.
     Changed,
@@ -113,11 +117,26 @@ impl Seat {
 
     /// A new cell with these words, under this count.
     pub fn open_at(values: &[u64], count: u64) -> Result<Seat, OpenError> {
+        Seat::opened(cell_c_open, values, count)
+    }
+
+    /// A new latch cell with these words, under the count 0. It has two copies of its words, and no write holds up its reads:
+    /// they fail with `Changed` alone, where in each of two attempts a whole write ended.
+    pub fn open_latch(values: &[u64]) -> Result<Seat, OpenError> {
+        Seat::open_latch_at(values, 0)
+    }
+
+    /// A new latch cell with these words, under this count.
+    pub fn open_latch_at(values: &[u64], count: u64) -> Result<Seat, OpenError> {
+        Seat::opened(cell_c_open_latch, values, count)
+    }
+
+    fn opened(open: Open, values: &[u64], count: u64) -> Result<Seat, OpenError> {
         let mut raw = RawSeat {
             at: std::ptr::null_mut(),
         };
         // SAFETY: the pointers are those of references that are held for the call; `raw` is no seat.
-        match unsafe { cell_c_open(values.as_ptr(), values.len(), count, &mut raw) } {
+        match unsafe { open(values.as_ptr(), values.len(), count, &mut raw) } {
             0 => Ok(Seat { raw }),
             2 => Err(OpenError::Length),
             3 => Err(OpenError::Count),
@@ -130,7 +149,7 @@ impl Seat {
         let mut raw = RawSeat {
             at: std::ptr::null_mut(),
         };
-        // SAFETY: as in `open_at`; `&mut self` makes this the one call that has the seat.
+        // SAFETY: as in `opened`; `&mut self` makes this the one call that has the seat.
         match unsafe { cell_c_split(&mut self.raw, &mut raw) } {
             0 => Ok(Seat { raw }),
             _ => Err(OpenError::Memory),

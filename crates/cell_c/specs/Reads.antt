@@ -1,5 +1,5 @@
--- What a read or a write makes of what its seat knows and of the words that it fills, by the kind of
--- the cell and the answer.
+-- What a read or a write makes of what its seat knows and of the words that it fills, by the kind
+-- of the cell and the answer.
 use Rattle.std.specs.Prelude.{◌≡◌, ℕ, List, length, Bool, true, false}
 use Rattle.solero_cell.specs.declared.answers.CellRead.{CellRead}
 use Rattle.solero_cell.specs.declared.answers.CellRead.TheVariants.{Got, NotFree, Changed}

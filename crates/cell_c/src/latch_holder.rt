@@ -77,7 +77,8 @@ impl LatchHolder {
     /// A read straight into `out`.
     pub(crate) fn read_into(&mut self, out: &mut [u64]) -> LatchRead
         requires { length out.old ≡ length self.old.seat.view.opening.values }
-        ensures read { IsLatchReadInto self.old.seat.view out.old result self.new.seat.view out.new }
+        ensures read { IsLatchReadInto self.old.seat.view out.old result self.new.seat.view
+            out.new }
         ensures one { StaysAtTable self.old.seat self.new.seat }
     {
         self.seat.read_into(&self.table, out)

@@ -5,7 +5,7 @@ use Rattle.machine_types.specs.{LockWords.{lock_of, is_lock_word}, declared.lock
 use Rattle.solero_cell.specs.{CellRules.{IsHeldByWrite}, CellViews.{record_of, noted, has_failed, has_loaded, has_looked, forgot, has_read, has_compared, IsStill}, Histories.{last_count, RecordStands, IsLast, OwnStand}}
 use Rattle.solero_cell.specs.{Stages.{IsLoading, IsJoining}, Steps.{note_of, joining_of, NotedBy, TellsNote, HasCompared}, declared.views.{Moment.{Moment, TheVariants.{AtRest, UnderWay}}, Record.Record, View.View}}
 use Rattle.solero_cell.proofs.{Allowing.LooksTo, Knowing.{calm_seat, nothing_loaded, if_some, is_not_storing}, Looking.{held_now, looks_kept, rests_now}, ReadSteps.{some_note, some_record}, Standing.{at_most_last, last_stands, newest_stands}, Words.{free_word, free_is_lock, next_taken, all_taken}}
-use Rattle.latch_cell.specs.{Copies.{latch_count, copy_start}, LatchRules.{count_of, LatchKnowledge, IsLetGo, HasTwoCopies}, LatchSteps.{counted, HasCounted, copy_attempt_ended, TellsCopyFinish}}
+use Rattle.latch_cell.specs.{Copies.{latch_count, copy_start}, LatchRules.{count_of, LatchKnowledge, IsLetGo, HasTwoCopies}, LatchSteps.{has_counted, HasCounted, copy_attempt_ended, TellsCopyFinish}}
 use Rattle.latch_cell.proofs.{CopyWords.{copy_long, copy_index}, Latching.{IsCountAt, copy_at, its, next, now, now_is, counted_is, looks, looked}}
 use lib.ListN.{get_elem?}
 use mathlib.Core.{Logic.dite, Option.some}
@@ -33,7 +33,7 @@ module _ (o : Record) (id : ℕ) (v : View) (parts : 0 < v.share.parts) (ws : Li
 
   pub count_step : IsStill v → Leads (HasCounted v (latch_count ws))
   count_step still =
-      let w : View = counted place here v in
+      let w : View = has_counted place here v in
       let c = now_is o id v parts ws views s at in
       let is = counted_is o id v parts ws views s at in (
         w,

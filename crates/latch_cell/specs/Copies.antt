@@ -1,5 +1,5 @@
--- The words of a latch cell: the lock word, the count of the last write that is done, and two copies
--- of the values, the first for even counts, the second for odd ones.
+-- The words of a latch cell: the lock word, the count of the last write that is done, and two
+-- copies of the values, the first for even counts, the second for odd ones.
 use Rattle.std.specs.Prelude.{ℕ, ◌+◌, ◌%◌, ◌==◌, List, take, drop, slice_index}
 use Rattle.std.specs.Prelude.{if◌then◌else◌}
 

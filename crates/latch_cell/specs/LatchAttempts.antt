@@ -7,7 +7,7 @@ use Rattle.solero_cell.specs.CellViews.{record_of, has_looked, has_read}
 use Rattle.latch_cell.specs.declared.answers.LatchRead.{LatchRead}
 use Rattle.latch_cell.specs.declared.answers.LatchRead.TheVariants.{Got, Changed}
 use Rattle.latch_cell.specs.LatchRules.{count_of}
-use Rattle.latch_cell.specs.LatchSteps.{counted, copy_attempt_ended}
+use Rattle.latch_cell.specs.LatchSteps.{has_counted, copy_attempt_ended}
 
 pub record IsBehindCopyGot (was : View) (c : ℕ) (values : List ℕ) (now : View) : Type 0 where
   pub place : ℕ
@@ -37,7 +37,7 @@ pub record HasGotCopy (was : View) (c : ℕ) (values : List ℕ) (now : View) : 
   pub place : ℕ
   pub found : Moment
   pub view : now
-      ≡ has_read (record_of c values) (has_looked place found (counted noted_at noted was))
+      ≡ has_read (record_of c values) (has_looked place found (has_counted noted_at noted was))
   pub noted_is : c ≡ count_of noted
   pub found_is : c ≡ count_of found
   pub later : was.latest.count ≤ c
@@ -49,7 +49,7 @@ pub record HasChangedCopy (is_last : Bool) (was : View) (noted found : ℕ) (now
   pub first : Moment
   pub place : ℕ
   pub last : Moment
-  pub view : now ≡ copy_attempt_ended is_last place last (counted noted_at first was)
+  pub view : now ≡ copy_attempt_ended is_last place last (has_counted noted_at first was)
   pub noted_is : noted ≡ count_of first
   pub found_is : found ≡ count_of last
   pub above : noted < found

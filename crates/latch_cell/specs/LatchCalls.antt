@@ -13,7 +13,7 @@ use Rattle.solero_cell.specs.Steps.{HasFoundHeld}
 use Rattle.latch_cell.specs.declared.answers.LatchRead.{LatchRead}
 use Rattle.latch_cell.specs.declared.answers.LatchRead.TheVariants.{Got, Changed}
 use Rattle.latch_cell.specs.LatchRules.{count_of}
-use Rattle.latch_cell.specs.LatchSteps.{counted, has_missed, has_published}
+use Rattle.latch_cell.specs.LatchSteps.{has_counted, has_missed, has_published}
 
 -- what holds of every seat between two calls
 pub record IsLatchSeat (s : Seated) : Type 0 where
@@ -31,7 +31,7 @@ pub record IsCopyAttemptOver (was now : View) : Type 0 where
   pub noted : Moment
   pub place : ℕ
   pub found : Moment
-  pub view : now ≡ has_looked place found (counted noted_at noted was)
+  pub view : now ≡ has_looked place found (has_counted noted_at noted was)
   pub above : count_of noted < count_of found
 
 -- the attempt begins at the view, or behind one that ended without an answer
@@ -47,7 +47,7 @@ pub record IsCopyGot (was : View) (c : ℕ) (values : List ℕ) (now : View) : T
   pub place : ℕ
   pub found : Moment
   pub view : now
-      ≡ has_read (record_of c values) (has_looked place found (counted noted_at noted begun))
+      ≡ has_read (record_of c values) (has_looked place found (has_counted noted_at noted begun))
   pub noted_is : c ≡ count_of noted
   pub found_is : c ≡ count_of found
   pub later : was.latest.count ≤ c
@@ -61,7 +61,7 @@ pub record IsCopyChanged (was : View) (noted found : ℕ) (now : View) : Type 0 
   pub first : Moment
   pub place : ℕ
   pub last : Moment
-  pub view : now ≡ has_missed place last (counted noted_at first begun)
+  pub view : now ≡ has_missed place last (has_counted noted_at first begun)
   pub noted_is : noted ≡ count_of first
   pub found_is : found ≡ count_of last
   pub above : noted < found

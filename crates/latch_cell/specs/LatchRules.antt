@@ -26,7 +26,8 @@ LatchKnowledge opening h words v =
     SeatKnowledge opening h (λ c. latch_count words ≡ c) (copy_of (length opening.values) words) v
 
 -- the lock word is the free one of the count, and no write is under way
-pub record IsLetGo (opening : Record) (h : History) (words : List ℕ) (views : List View) : Type 0 where
+pub record IsLetGo (opening : Record) (h : History) (words : List ℕ) (views : List View)
+    : Type 0 where
   pub word : slice_index words 0 ≡ word_of_lock (Free (last_count opening h))
   pub nobody : sum_by storing_count views ≡ 0
 

@@ -13,13 +13,13 @@ use Rattle.latch_cell.specs.LatchRules.{count_of}
 
 -- ---- a read notes the count
 
-abbrev pub counted : (place : ℕ) → Moment → View → View
-counted n m v = record (has_looked n m v) { note = Some (count_of m); notes = v.notes + 1 }
+abbrev pub has_counted : (place : ℕ) → Moment → View → View
+has_counted n m v = record (has_looked n m v) { note = Some (count_of m); notes = v.notes + 1 }
 
 pub record HasCounted (was : View) (c : ℕ) (now : View) : Type 0 where
   pub place : ℕ
   pub moment : Moment
-  pub view : now ≡ counted place moment was
+  pub view : now ≡ has_counted place moment was
   pub count_is : c ≡ count_of moment
   pub later : was.latest.count ≤ c
 

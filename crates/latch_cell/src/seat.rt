@@ -95,8 +95,8 @@ impl LatchSeat {
     /// Reads the values of one count, all of them, into `out`.
     ///
     /// `Got` says their count, which is no less than that of the seat's latest record, and is that
-    /// of the cell at the end of the read. After the other answer `out` is as it was: in each of two
-    /// attempts a whole write ended.
+    /// of the cell at the end of the read. After the other answer `out` is as it was: in each of
+    /// two attempts a whole write ended.
     pub fn read(&mut self, table: &LatchTable, out: &mut [u64]) -> LatchRead
         requires table { IsTableOfSeat table.now.shared.table_id table.now.shared.key self.old }
         requires out { length out.old ≡ length self.old.view.opening.values }

@@ -110,8 +110,8 @@ pub record HaveLooked (time : Moment → ℕ) (from now : Moment) (views : List 
   pub found : (i : ℕ) (v : View) → get_elem? views i ≡ some v → AllFound moments v.looks
   pub once : (n : ℕ) → sum_by (looks_at n) views ≡ one_if (nat_lt n (length moments))
 
--- each seat knows this, or is spent; the counts of all writes are those above the opening one, up to
--- the cell's, each once; the shares are a whole, and the looks one row
+-- each seat knows this, or is spent; the counts of all writes are those above the opening one, up
+-- to the cell's, each once; the shares are a whole, and the looks one row
 pub record ShareHistory (opening : Record) (h : History) (Knows : View → Type 0)
     (time : Moment → ℕ) (now : Moment) (views : List View) : Type 0 where
   pub each : (i : ℕ) (v : View) → get_elem? views i ≡ some v → SeatFits Knows v
