@@ -10,3 +10,4 @@ mod TakenFrames
 mod LocalStretches
 mod SectionEvents
 mod SectionTurns
+mod LoopRuns

@@ -8,3 +8,4 @@ pub mod Wanting
 pub mod Passing
 pub mod Sections
 pub mod Nearby
+pub mod Progress
