@@ -36,6 +36,7 @@ key_row keys.Order = shown_row (codes "order") (codes ", order ") (codes "")
 key_row keys.Commit = shown_row (codes "commit") (codes ", commit ") (codes "")
 -- of an event, of an end, of a part that begins
 key_row keys.Number = shown_row (codes "number") (codes "") (codes "")
+key_row keys.BeforeNumber = shown_row (codes "number") (codes "before ") (codes ":")
 key_row keys.Thread = shown_row (codes "thread") (codes " thread ") (codes "")
 key_row keys.InAttempt = shown_row (codes "in_attempt") (codes " in attempt ") (codes "")
 key_row keys.Class = shown_row (codes "class") (codes " ") (codes "")
@@ -47,8 +48,13 @@ key_row keys.SourceOfLine = shown_row (codes "source") (codes " (") (codes ":")
 key_row keys.LineOfSource = shown_row (codes "line") (codes "") (codes ")")
 key_row keys.SourceAlone = shown_row (codes "source") (codes " (") (codes ")")
 key_row keys.LineAlone = shown_row (codes "line") (codes " (line ") (codes ")")
--- what it does
+-- what it does, and behind how many failed turns that are left out
 key_row keys.Does = shown_row (codes "does") (codes ", ") (codes "")
+key_row keys.Throws = shown_row (codes "throws") (codes ", throws ") (codes "")
+key_row keys.Ends = shown_row (codes "ends") (codes ", ends: ") (codes "")
+key_row keys.Ended = shown_row (codes "ended") (codes ", ended: ") (codes "")
+key_row keys.FailedTurns =
+    shown_row (codes "failed_turns") (codes ", behind ") (codes " failed turns")
 key_row keys.Access = shown_row (codes "access") (codes ", ") (codes "")
 key_row keys.Word = shown_row (codes "word") (codes "") (codes "")
 key_row keys.Found = shown_row (codes "found") (codes " ") (codes "")
