@@ -47,15 +47,20 @@ abbrev pub event_spot_facts : Program → Sources → Option Spot → List Fact
 event_spot_facts p sources None = []
 event_spot_facts p sources (Some spot) = place_facts p sources spot.method spot.pc
 
-abbrev pub number_facts : (number : ℕ) → (thread : ℕ) → List Fact
-number_facts number thread = Count keys.Number number ∷ Count keys.Thread thread ∷ []
-
 abbrev pub stand_facts : Program → Sources → Before → List Fact
 stand_facts p sources b = event_spot_facts p sources b.spot ++ phase_facts p b.phase
 
+abbrev pub thread_facts : Program → Sources → Before → List Fact
+thread_facts p sources b =
+    (Count keys.Thread b.thread ∷ []) ++ inside_facts b.attempt ++ stand_facts p sources b
+
 abbrev pub head_facts : Program → Sources → (number : ℕ) → Before → List Fact
-head_facts p sources number b =
-    number_facts number b.thread ++ inside_facts b.attempt ++ stand_facts p sources b
+head_facts p sources number b = Count keys.Number number ∷ thread_facts p sources b
+
+-- behind how many failed turns of its thread, which are left out
+abbrev pub left_out_facts : (failed_turns : ℕ) → List Fact
+left_out_facts zero = []
+left_out_facts n = Count keys.FailedTurns n ∷ []
 
 -- ---- the word that it accesses, what it found there, and what it left there where it is no load
 
@@ -134,11 +139,21 @@ more_facts c b share a =
     ++ entry_facts c.program c.marks b.phase b.frame_spot
     ++ begun_method_facts c.program b.phase a.spot ++ top_facts c b a
 
-abbrev pub event_facts : MarkedProgram → Names → (number : ℕ) → Before → Share → After → List Fact
-event_facts c names number b share a =
-    head_facts c.program names.sources number b ++ more_facts c b share a
-    ++ access_facts c.program names.fields b a b.access
+abbrev pub event_facts : MarkedProgram → Names → (number failed_turns : ℕ) → Before → Share → After
+    → List Fact
+event_facts c names number failed_turns b share a =
+    head_facts c.program names.sources number b ++ left_out_facts failed_turns
+    ++ more_facts c b share a ++ access_facts c.program names.fields b a b.access
     ++ mark_facts b a ++ share_facts share
+
+-- how a thread stands before the event of a number, where its part has begun
+abbrev pub standing_facts : Program → Sources → (number : ℕ) → Before → List Fact
+standing_facts p sources number b = Count keys.BeforeNumber number ∷ thread_facts p sources b
+
+abbrev pub standing_in : Form → Program → Sources → (number : ℕ) → Before → Phase → List ℕ
+standing_in form p sources number b phases.Idle = []
+standing_in form p sources number b phase =
+    told_in form (codes "before") (standing_facts p sources number b)
 
 -- where a part of a thread came to an end that is no return: the end, the event, and who held the
 -- monitor for which the thread had made all its turns

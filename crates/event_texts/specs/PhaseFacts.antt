@@ -17,9 +17,6 @@ plain_phase_text phases.Start = codes "begins its next method"
 plain_phase_text (phases.Element word None) = codes "loads the element"
 plain_phase_text (phases.Element word (Some v)) = codes "stores the element"
 plain_phase_text (phases.Made a word) = codes "stores the header"
-plain_phase_text (phases.Throw x class) = codes "throws " ++ thrown_name class
-plain_phase_text (phases.Ending e) = codes "ends: " ++ end_text e
-plain_phase_text (phases.Ended e) = codes "ended: " ++ end_text e
 plain_phase_text phase = codes ""
 
 abbrev pub does_to : (words : List ℕ) → Program → (m : ℕ) → List Fact
@@ -46,4 +43,7 @@ phase_facts p (phases.NotifyLook m r) = does_to (codes "looks who waits on") p m
 phase_facts p (phases.NotifyOne m r u) =
     Text keys.Does (codes "wakes") ∷ Count keys.Woken u ∷ monitor_fact p m ∷ []
 phase_facts p (phases.NotifyAll m r) = does_to (codes "wakes all from") p m
+phase_facts p (phases.Throw x class) = Text keys.Throws (thrown_name class) ∷ []
+phase_facts p (phases.Ending e) = Text keys.Ends (end_text e) ∷ []
+phase_facts p (phases.Ended e) = Text keys.Ended (end_text e) ∷ []
 phase_facts p phase = text_facts keys.Does (plain_phase_text phase)

@@ -4,12 +4,13 @@ ghost use Rattle.std.specs.Prelude.{◌≡◌, ◌++◌, ◌∷◌, [], ◌%◌,
 ghost use Rattle.event_texts.specs.Acts.{listed};
 ghost use Rattle.event_texts.specs.EventFacts.{access_facts, accessed_facts, attempt_facts};
 ghost use Rattle.event_texts.specs.EventFacts.{end_facts, event_facts, head_facts};
-ghost use Rattle.event_texts.specs.EventFacts.{holder_facts, inside_facts, lock_facts};
-ghost use Rattle.event_texts.specs.EventFacts.{mark_facts, more_facts, noted_facts, number_facts};
+ghost use Rattle.event_texts.specs.EventFacts.{holder_facts, inside_facts, left_out_facts};
+ghost use Rattle.event_texts.specs.EventFacts.{lock_facts, mark_facts, more_facts, noted_facts};
 ghost use Rattle.event_texts.specs.EventFacts.{share_facts};
 ghost use Rattle.event_texts.specs.EventFacts.{event_end_in, event_spot_facts, owed_facts};
-ghost use Rattle.event_texts.specs.EventFacts.{plain_key, stand_facts, stop_facts};
-ghost use Rattle.event_texts.specs.EventFacts.{value_facts};
+ghost use Rattle.event_texts.specs.EventFacts.{plain_key, stand_facts, standing_facts};
+ghost use Rattle.event_texts.specs.EventFacts.{standing_in, stop_facts};
+ghost use Rattle.event_texts.specs.EventFacts.{thread_facts, value_facts};
 ghost use Rattle.event_texts.specs.Holders.{holder, lock_owner};
 ghost use Rattle.event_texts.specs.Shares.{act_text};
 ghost use Rattle.event_texts.specs.ValueTexts.{shared_value_text};
@@ -21,7 +22,7 @@ ghost use Rattle.tellings.specs.declared.facts.Fact.TheVariants.{Texts as TextsF
 use crate::acts::Acts;
 use crate::deeds::{add_deed, share_steps};
 use crate::entries::{add_begin, add_entry};
-use crate::phases::add_phase;
+use crate::phases::{add_end_text, add_phase};
 use crate::share_texts::ActText;
 use crate::shares::Share;
 use crate::sights::{After, Before, Spot};
@@ -34,19 +35,11 @@ use json_lines::Form;
 use jvm_types::{Bytes, End, Program, Rows};
 use machine_types::{Access, Act, AttemptHead, Phase};
 use place_names::{Names, add_place};
-use run_texts::EndText;
 use source_lines::Sources;
 use std::alloc::{AllocError, Global};
 use tellings::{Fact, Key, add_count, add_text, write_told};
 
 // ---- which event it is, where its thread stands, and what it does where that is no instruction
-
-fn add_numbers(facts: &mut Rows<Fact>, number: u64, thread: u8) -> Result<(), AllocError>
-    ensures { OnOk result (facts.new ≡ facts.old ++ number_facts number thread) }
-{
-    add_count(facts, Key::Number, number)?;
-    add_count(facts, Key::Thread, u64::from(thread))
-}
 
 fn add_inside(facts: &mut Rows<Fact>, attempt: Option<AttemptHead>) -> Result<(), AllocError>
     ensures { OnOk result (facts.new ≡ facts.old ++ inside_facts attempt) }
@@ -87,6 +80,22 @@ fn add_stand(
     add_phase(facts, alloc, c, before.phase)
 }
 
+/// Adds which thread it is, the attempt that it is in, where it stands and what it does.
+fn add_thread(
+    facts: &mut Rows<Fact>,
+    alloc: Global,
+    c: &Checked,
+    sources: &Sources,
+    before: &Before,
+) -> Result<(), AllocError>
+    ensures { OnOk result
+        (facts.new ≡ facts.old ++ thread_facts c.now.program sources.now before.now) }
+{
+    add_count(facts, Key::Thread, u64::from(before.thread))?;
+    add_inside(facts, before.attempt)?;
+    add_stand(facts, alloc, c, sources, before)
+}
+
 fn add_head(
     facts: &mut Rows<Fact>,
     alloc: Global,
@@ -98,9 +107,19 @@ fn add_head(
     ensures { OnOk result
         (facts.new ≡ facts.old ++ head_facts c.now.program sources.now number before.now) }
 {
-    add_numbers(facts, number, before.thread)?;
-    add_inside(facts, before.attempt)?;
-    add_stand(facts, alloc, c, sources, before)
+    add_count(facts, Key::Number, number)?;
+    add_thread(facts, alloc, c, sources, before)
+}
+
+/// Adds how many failed turns are left out before an event.
+fn add_left_out(facts: &mut Rows<Fact>, failed_turns: u64) -> Result<(), AllocError>
+    ensures { OnOk result (facts.new ≡ facts.old ++ left_out_facts failed_turns) }
+{
+    if failed_turns == 0 {
+        Ok(())
+    } else {
+        add_count(facts, Key::FailedTurns, failed_turns)
+    }
 }
 
 // ---- the word that it accesses, what it found there, and what it left there where it is no load
@@ -219,21 +238,6 @@ fn add_lock(
         (false, true) => add_text(facts, alloc, Key::LockMark, b"inflated"),
         (false, false) => Ok(()),
     }
-}
-
-/// Adds how a part came to its end.
-pub fn add_end_text(
-    facts: &mut Rows<Fact>,
-    alloc: Global,
-    key: Key,
-    end: End,
-) -> Result<(), AllocError>
-    ensures { OnOk result (facts.new ≡ facts.old ++ TextFact key (end_text end) ∷ []) }
-{
-    let end = EndText(end);
-    let mut words = String::new(alloc);
-    write!(words, "{end}")?;
-    add_text(facts, alloc, key, words.as_bytes())
 }
 
 fn add_end(facts: &mut Rows<Fact>, alloc: Global, phase: Phase) -> Result<(), AllocError>
@@ -366,23 +370,25 @@ fn add_more(
     add_top(facts, alloc, c, before, after)
 }
 
-/// The facts of an event of a number: which it is, where its thread stands and what it does, the
-/// word that it accesses, what becomes of attempts, locks and the part, and what it stands for in
-/// the plain machine.
+/// The facts of an event of a number, behind so many failed turns that are left out: which it is,
+/// where its thread stands and what it does, the word that it accesses, what becomes of attempts,
+/// locks and the part, and what it stands for in the plain machine.
 pub(crate) fn event_facts(
     alloc: Global,
     c: &Checked,
     names: &Names,
     number: u64,
+    failed_turns: u64,
     before: &Before,
     share: &Share,
     after: &After,
 ) -> Result<Rows<Fact>, AllocError>
     ensures { IfOk result (λ facts. facts
-        ≡ event_facts c.now names.now number before.now share.now after.now) }
+        ≡ event_facts c.now names.now number failed_turns before.now share.now after.now) }
 {
     let mut facts = Rows::new(alloc);
     add_head(&mut facts, alloc, c, &names.sources, number, before)?;
+    add_left_out(&mut facts, failed_turns)?;
     add_more(&mut facts, alloc, c, before, share, after)?;
     add_access(&mut facts, alloc, c, &names.fields, before, after)?;
     add_marks(&mut facts, alloc, before, after)?;
@@ -398,15 +404,55 @@ pub fn write_event(
     c: &Checked,
     names: &Names,
     number: u64,
+    failed_turns: u64,
     before: &Before,
     share: &Share,
     after: &After,
 ) -> Result<(), AllocError>
     ensures { OnOk result (text.new.items ≡ text.old.items ++ told_in form (codes "event")
-        (event_facts c.now names.now number before.now share.now after.now)) }
+        (event_facts c.now names.now number failed_turns before.now share.now after.now)) }
 {
-    let facts = event_facts(alloc, c, names, number, before, share, after)?;
+    let facts = event_facts(alloc, c, names, number, failed_turns, before, share, after)?;
     write_told(text, alloc, form, "event", facts.as_slice())
+}
+
+// ---- how a thread stands
+
+fn standing_facts(
+    alloc: Global,
+    c: &Checked,
+    sources: &Sources,
+    number: u64,
+    before: &Before,
+) -> Result<Rows<Fact>, AllocError>
+    ensures { IfOk result
+        (λ facts. facts ≡ standing_facts c.now.program sources.now number before.now) }
+{
+    let mut facts = Rows::new(alloc);
+    add_count(&mut facts, Key::BeforeNumber, number)?;
+    add_thread(&mut facts, alloc, c, sources, before)?;
+    Ok(facts)
+}
+
+/// Adds the line, or the object, of how a thread stands before the event of a number, where the
+/// thread has begun; else nothing.
+pub fn write_standing(
+    text: &mut Vec<u8>,
+    alloc: Global,
+    form: Form,
+    c: &Checked,
+    sources: &Sources,
+    number: u64,
+    before: &Before,
+) -> Result<(), AllocError>
+    ensures { OnOk result (text.new.items ≡ text.old.items
+        ++ standing_in form c.now.program sources.now number before.now before.now.phase) }
+{
+    if before.phase == Phase::Idle {
+        return Ok(());
+    }
+    let facts = standing_facts(alloc, c, sources, number, before)?;
+    write_told(text, alloc, form, "before", facts.as_slice())
 }
 
 // ---- an end
@@ -477,7 +523,8 @@ fn write_stop(
     write_told(text, alloc, form, "end", facts.as_slice())
 }
 
-/// The same of the end that an event led to, where that is no return; else nothing.
+/// The same of the end that an event led to, by the phase behind it, where that is no return; else
+/// nothing.
 pub fn write_event_end(
     text: &mut Vec<u8>,
     alloc: Global,
@@ -486,12 +533,12 @@ pub fn write_event_end(
     sources: &Sources,
     number: u64,
     before: &Before,
-    after: &After,
+    behind: Phase,
 ) -> Result<(), AllocError>
     ensures { OnOk result (text.new.items ≡ text.old.items
-        ++ event_end_in form c.now.program sources.now number before.now after.now.phase) }
+        ++ event_end_in form c.now.program sources.now number before.now behind) }
 {
-    match after.phase {
+    match behind {
         Phase::Ending(End::Returned) => Ok(()),
         Phase::Ending(end) => write_stop(text, alloc, form, c, sources, number, before, end),
         _ => Ok(()),

@@ -24,8 +24,9 @@ pub mod words;
 
 pub use acts::Acts;
 pub use doing::{Doing, next_doing};
-pub use event_facts::{add_end_text, write_event, write_event_end};
+pub use event_facts::{write_event, write_event_end, write_standing};
 pub use naming_laws::{classes_are_told, names_accessed_words};
+pub use phases::add_end_text;
 pub use shares::{Share, owed_behind, share_of};
 pub use sights::{After, Before, Spot, see_after, see_before};
 pub use words::SharedWord;

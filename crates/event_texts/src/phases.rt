@@ -3,62 +3,47 @@
 ghost use Rattle.std.specs.Prelude.{◌≡◌, ◌++◌, ◌∷◌, [], codes, OnOk};
 ghost use Rattle.event_texts.specs.MonitorFacts.{monitor_fact};
 ghost use Rattle.event_texts.specs.PhaseFacts.{does_to, phase_facts, plain_phase_text};
-ghost use Rattle.tellings.specs.Forms.{text_facts};
+ghost use Rattle.run_texts.specs.Report.{end_text};
 ghost use Rattle.tellings.specs.declared.facts.Fact.TheVariants.{Count as CountFact};
 ghost use Rattle.tellings.specs.declared.facts.Fact.TheVariants.{Text as TextFact};
 ghost use Rattle.tellings.specs.declared.keys.Key.TheVariants as keys;
 
 use crate::monitors::{add_monitor, add_on_monitor};
 use checked_program::Checked;
-use jvm_types::Rows;
+use jvm_types::{End, Rows};
 use machine_types::Phase;
 use run_texts::{EndText, name_of};
 use std::alloc::{AllocError, Global};
-use std::fmt;
 use tellings::{Fact, Key, add_count, add_text, add_text_if};
 
-/// Displays what a thread of a phase does that has to do with no monitor, in words;
-/// nothing where it is an instruction.
-#[derive(Clone, Copy)]
-struct PlainPhase(Phase);
-
-impl fmt::Display for PlainPhase {
-    ghost use Rattle.std.specs.Prelude.{Some};
-    ghost use Rattle.event_texts.specs.PhaseFacts.{plain_phase_text};
-
-    ghost output = { λ p. Some (plain_phase_text p.0) };
-
-    fn fmt<W: fmt::Write>(&self, f: &mut fmt::Formatter<W>) -> fmt::Result {
-        match self.0 {
-            Phase::Idle => f.write_str("idle"),
-            Phase::Start => f.write_str("begins its next method"),
-            Phase::Element(_, None) => f.write_str("loads the element"),
-            Phase::Element(_, Some(_)) => f.write_str("stores the element"),
-            Phase::Made(_, _) => f.write_str("stores the header"),
-            Phase::Throw(_, class) => {
-                let class = name_of(class);
-                write!(f, "throws {class}")
-            }
-            Phase::Ending(e) => {
-                let end = EndText(e);
-                write!(f, "ends: {end}")
-            }
-            Phase::Ended(e) => {
-                let end = EndText(e);
-                write!(f, "ended: {end}")
-            }
-            _ => f.write_str(""),
-        }
+/// What a thread of a phase does that has to do with no monitor, in words; nothing where it is an
+/// instruction.
+fn plain_phase_text(phase: Phase) -> &'static str
+    ensures { result.now ≡ plain_phase_text phase }
+{
+    match phase {
+        Phase::Idle => "idle",
+        Phase::Start => "begins its next method",
+        Phase::Element(_, None) => "loads the element",
+        Phase::Element(_, Some(_)) => "stores the element",
+        Phase::Made(_, _) => "stores the header",
+        _ => "",
     }
 }
 
-fn add_plain_phase(facts: &mut Rows<Fact>, alloc: Global, phase: Phase) -> Result<(), AllocError>
-    ensures { OnOk result (facts.new ≡ facts.old ++ text_facts keys.Does (plain_phase_text phase)) }
+/// Adds how a part came to its end.
+pub fn add_end_text(
+    facts: &mut Rows<Fact>,
+    alloc: Global,
+    key: Key,
+    end: End,
+) -> Result<(), AllocError>
+    ensures { OnOk result (facts.new ≡ facts.old ++ TextFact key (end_text end) ∷ []) }
 {
-    let phase = PlainPhase(phase);
+    let end = EndText(end);
     let mut words = String::new(alloc);
-    write!(words, "{phase}")?;
-    add_text_if(facts, alloc, Key::Does, words.as_bytes())
+    write!(words, "{end}")?;
+    add_text(facts, alloc, key, words.as_bytes())
 }
 
 fn add_does(
@@ -126,6 +111,9 @@ pub fn add_phase(
         Phase::NotifyAll(m, _) => add_does(facts, alloc, c, b"wakes all from", m),
         Phase::FatIn(m, _, _) => add_fat_in(facts, alloc, c, m),
         Phase::NotifyOne(m, _, u) => add_notify_one(facts, alloc, c, m, u),
-        _ => add_plain_phase(facts, alloc, phase),
+        Phase::Throw(_, class) => add_text(facts, alloc, Key::Throws, name_of(class).as_bytes()),
+        Phase::Ending(end) => add_end_text(facts, alloc, Key::Ends, end),
+        Phase::Ended(end) => add_end_text(facts, alloc, Key::Ended, end),
+        _ => add_text_if(facts, alloc, Key::Does, plain_phase_text(phase).as_bytes()),
     }
 }
