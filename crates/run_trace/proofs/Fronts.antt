@@ -6,13 +6,13 @@ use Rattle.laws_states.specs.{EveryOrder.EveryOrderHasRun, RunFacts.HaveWidth}
 use Rattle.machine_types.specs.{Core.{Core, Happening, core, happened, outcome, start}, Schedules.{IsSchedule, Stage, First, Turn, turn_at}, Settings.AreSettings, declared.config.Config.Config}
 use Rattle.replay_runner.{specs.Replays.IsLedByTurns, proofs.Turns.{led_on, schedule_of}}
 use Rattle.place_names.specs.declared.names.Names.{Names}
-use Rattle.run_trace.specs.{EventLines.{Trail, trail_along, ends_from, trail_after, trail_start, lines_from, next_line_number, seen_of_event, told_line, trace_text}, ReportJson.report_in}
+use Rattle.run_trace.specs.{EventLines.{trail_along, ends_from, trail_start, lines_from, trace_text}, Lines.{put_text, shown_text}, ReportJson.report_in}
 use Rattle.std.specs.Prelude.{Ok, Err, Result, take, drop}
 use Rattle.std.proofs.lemmas.List.{take-append-drop}
 use Rattle.host_io.specs.Faults.{CountsFault}
 use Rattle.run_trace.specs.declared.traces.TraceError.{TraceError, TheVariants.{Memory, Failed}}
-use Rattle.run_trace.specs.{Traces.{BreaksOff, IsCutShort, IsHappeningTold, IsPut, IsTracedBehind, IsBrokenOff, IsFrontTold, IsStarted, IsTraceFront, WalksOn, number_after, seen_next}, declared.{events.Part.Part, traces.Tracing.Tracing}}
-use Rattle.run_trace.proofs.{LongerRuns.{lines_on, told_both}, Walks.{own_line, walked_at_start}}
+use Rattle.run_trace.specs.{Traces.{BreaksOff, IsCutShort, IsHappeningTold, IsPut, IsTracedBehind, IsBrokenOff, IsFrontTold, IsStarted, IsTraceFront, WalksOn, next_line, number_after}, declared.{events.Part.Part, traces.Tracing.Tracing}}
+use Rattle.run_trace.proofs.{LongerRuns.{lines_ahead, told_both}, Walks.{text_in_walk, walked_at_start}, ShownLines.shown_more}
 
 -- ---- fronts of texts
 
@@ -60,26 +60,26 @@ module _ (c : MarkedProgram) (order : List ℕ) (names : Names) (part : Part) wh
     core = m.machine.core;
     leads = w.leads;
     front = record {
-      front = lines_from c names part 1 (trail_start c cfg) w.happenings;
+      front = shown_text part (lines_from c names part 1 (trail_start c cfg) w.happenings);
       rest = [];
-      whole = sym (append-nil (lines_from c names part 1 (trail_start c cfg) w.happenings));
+      whole = sym (append-nil (shown_text part (lines_from c names part 1 (trail_start c cfg) w.happenings)));
       accepted = e ∙ w.text;
     };
   }
 
   -- within the line of the next one
   pub breaks_within : (m : Tracing) (next : Option Turn) (h : Happening) (stage : Stage) (told now : Option (List ℕ)) → next ≡ Some (record { happening = h; stage = stage })
-      → IsFrontTold told now (told_line c names part m.number m.machine.core (seen_next c m h) h) → BreaksOff c order names part m next told now
+      → IsFrontTold told now (put_text part m.shown (next_line c names part m h)) → BreaksOff c order names part m next told now
   breaks_within m next h stage told now is f cfg first w =
       let hs = w.happenings in
-      let lines = lines_from c names part 1 (trail_start c cfg) in
-      let line = told_line c names part m.number m.machine.core (seen_next c m h) h in
+      let lines = shown_text part (lines_from c names part 1 (trail_start c cfg) hs) in
+      let line = put_text part m.shown (next_line c names part m h) in
       record {
         happenings = hs ++ h ∷ [];
         stage = stage;
         core = happened c m.machine.core h;
         leads = led_on c (First order) (start c cfg) hs w.stage m.machine.core h stage w.leads (w.turn ∙ is);
-        front = same_front first now (lines hs ++ line) (lines (hs ++ h ∷ [])) (ap (λ (x : List ℕ). lines hs ++ x) (sym (own_line c cfg order names part first m h next told w)) ∙ sym (lines_on c names part 1 (trail_start c cfg) hs h)) (front_behind first told now (lines hs) line w.text f);
+        front = same_front first now (lines ++ line) (shown_text part (lines_from c names part 1 (trail_start c cfg) (hs ++ h ∷ []))) (sym (text_in_walk c cfg order names part first m h next told w)) (front_behind first told now lines line w.text f);
       }
 
   -- behind what was walked
@@ -123,25 +123,18 @@ ahead c from s (g ∷ gs) at t (h ∷ hs) led all =
     let on = ahead c led.0 (happened c s g) gs at t hs led.2 there in
     (on.0, λ i. sym event_is i ∷ on.1 i)
 
--- the lines of events, and of those behind them
-lines_ahead : (c : MarkedProgram) (names : Names) (part : Part) (n : ℕ) (v : Trail) (gs hs : List Happening)
-    → lines_from c names part n v (gs ++ hs) ≡ lines_from c names part n v gs ++ lines_from c names part (number_after n gs) (trail_along c v gs) hs
-lines_ahead c names part n v [] hs = refl
-lines_ahead c names part n v (g ∷ gs) hs =
-    ap (λ (text : List ℕ). told_line c names part n v.told.core (seen_of_event c v g) g ++ text) (lines_ahead c names part (next_line_number n) (trail_after c v g) gs hs)
-    ∙ sym (append_assoc (told_line c names part n v.told.core (seen_of_event c v g) g) (lines_from c names part (next_line_number n) (trail_after c v g) gs) (lines_from c names part (number_after (next_line_number n) gs) (trail_along c (trail_after c v g) gs) hs))
-
 module _ (c : MarkedProgram) (cfg : Config) (order : List ℕ) (names : Names) (part : Part) where
   -- where it broke off in the line of an event
   pub broken_front : EveryOrderHasRun → IsMarked c → HaveWidth cfg → AreSettings cfg → (told now : Option (List ℕ)) → IsBrokenOff c cfg order names part told now → IsTraceFront [] c cfg order names part told now
   broken_front runs marked width settings told now b =
       let all = runs c cfg order marked width settings in
       let cut = ahead c (First order) (start c cfg) b.happenings b.stage b.core all.0 b.leads all.1 in
-      let lines = lines_from c names part 1 (trail_start c cfg) in
-      let more = lines_from c names part (number_after 1 b.happenings) (trail_along c (trail_start c cfg) b.happenings) cut.0 in
+      let lines = λ (hs : List Happening). shown_text part (lines_from c names part 1 (trail_start c cfg) hs) in
+      let on = shown_more part (lines_from c names part 1 (trail_start c cfg) b.happenings) (lines_from c names part (number_after 1 b.happenings) (trail_along c (trail_start c cfg) b.happenings) cut.0) in
+      let more : List ℕ = on.0 in
       let ends = ends_from c names part.form 1 (trail_start c cfg) all.0 in
       let report = report_in part.form (outcome (core c cfg all.0)) in
-      let text_is : lines b.happenings ++ more ≡ lines all.0 = sym (lines_ahead c names part 1 (trail_start c cfg) b.happenings cut.0) ∙ ap lines (sym cut.1) in
+      let text_is : lines b.happenings ++ more ≡ lines all.0 = sym on.1 ∙ ap (shown_text part) (sym (lines_ahead c names part 1 (trail_start c cfg) b.happenings cut.0)) ∙ ap lines (sym cut.1) in
       record {
         happenings = all.0;
         schedule = all.1;
@@ -160,7 +153,7 @@ module _ (c : MarkedProgram) (cfg : Config) (order : List ℕ) (names : Names) (
   ends_front told mid now before between m n begun on f =
       let w = on.walked cfg told (walked_at_start c cfg order names part told m begun) in
       let all = schedule_of c (First order) (start c cfg) w.happenings w.stage n.machine.core w.leads w.turn in
-      let lines = lines_from c names part 1 (trail_start c cfg) w.happenings in
+      let lines = shown_text part (lines_from c names part 1 (trail_start c cfg) w.happenings) in
       let ends = ends_from c names part.form 1 (trail_start c cfg) w.happenings in
       record {
         happenings = w.happenings;
@@ -176,7 +169,7 @@ module _ (c : MarkedProgram) (cfg : Config) (order : List ℕ) (names : Names) (
       let w = on.walked cfg told (walked_at_start c cfg order names part told m begun) in
       let all = schedule_of c (First order) (start c cfg) w.happenings w.stage n.machine.core w.leads w.turn in
       let told_is : o ≡ outcome (core c cfg w.happenings) = is ∙ ap outcome (sym all.1) in
-      let lines = lines_from c names part 1 (trail_start c cfg) w.happenings in
+      let lines = shown_text part (lines_from c names part 1 (trail_start c cfg) w.happenings) in
       let ends = ends_from c names part.form 1 (trail_start c cfg) w.happenings in
       let with_ends : late ≡ option_map (λ t. t ++ (lines ++ ends)) told = told_both told mid late lines n.ends.items w.text ended ∙ ap (λ (x : List ℕ). option_map (λ t. t ++ (lines ++ x)) told) w.ends in
       record {

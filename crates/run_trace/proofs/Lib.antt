@@ -1,4 +1,6 @@
 mod FoundWords
+mod ShownLines
+mod OneMore
 mod LongerRuns
 mod Orders
 mod Owings

@@ -4,20 +4,31 @@ use Rattle.json_lines.specs.declared.form.Form.{Form}
 use Rattle.checked_program.specs.MarkedProgram.{MarkedProgram}
 use Rattle.machine_types.specs.Core.{Happening}
 use Rattle.place_names.specs.declared.names.Names.{Names}
-use Rattle.run_trace.specs.{EventLines.{Trail, trail_along, ends_from, event_end, trail_after, lines_from, next_line_number, seen_of_event, told_line}, Traces.number_after, declared.events.Part.Part}
+use Rattle.run_trace.specs.{EventLines.{Trail, trail_along, ends_from, event_end, trail_after, lines_from, next_line_number, seen_of_event, told_line}, Lines.{TraceLine, with_line}, Traces.number_after, declared.events.Part.Part}
+use Rattle.run_trace.proofs.ShownLines.{with_more}
 
 -- where it leads
 pub trail_on : (c : MarkedProgram) (v : Trail) (hs : List Happening) (h : Happening) → trail_along c v (hs ++ h ∷ []) ≡ trail_after c (trail_along c v hs) h
 trail_on c v [] h = refl
 trail_on c v (g ∷ gs) h = trail_on c (trail_after c v g) gs h
 
--- its lines, and the number behind them
+-- the line of its event, if that has one
+abbrev pub own_line : MarkedProgram → Names → Part → ℕ → Trail → Happening → Option TraceLine
+own_line c names part n v h = told_line c names part n v.told.core v.stands (seen_of_event c v h) h
+
+-- its lines, and those of more
+pub lines_ahead : (c : MarkedProgram) (names : Names) (part : Part) (n : ℕ) (v : Trail) (gs hs : List Happening)
+    → lines_from c names part n v (gs ++ hs) ≡ lines_from c names part n v gs ++ lines_from c names part (number_after n gs) (trail_along c v gs) hs
+lines_ahead c names part n v [] hs = refl
+lines_ahead c names part n v (g ∷ gs) hs =
+    ap (with_line (own_line c names part n v g)) (lines_ahead c names part (next_line_number n) (trail_after c v g) gs hs)
+    ∙ with_more (own_line c names part n v g) (lines_from c names part (next_line_number n) (trail_after c v g) gs) (lines_from c names part (number_after (next_line_number n) gs) (trail_along c (trail_after c v g) gs) hs)
+
 pub lines_on : (c : MarkedProgram) (names : Names) (part : Part) (n : ℕ) (v : Trail) (hs : List Happening) (h : Happening)
-    → lines_from c names part n v (hs ++ h ∷ []) ≡ lines_from c names part n v hs ++ told_line c names part (number_after n hs) (trail_along c v hs).told.core (seen_of_event c (trail_along c v hs) h) h
-lines_on c names part n v [] h = append-nil (told_line c names part n v.told.core (seen_of_event c v h) h)
-lines_on c names part n v (g ∷ gs) h =
-    ap (λ (text : List ℕ). told_line c names part n v.told.core (seen_of_event c v g) g ++ text) (lines_on c names part (next_line_number n) (trail_after c v g) gs h)
-    ∙ sym (append_assoc (told_line c names part n v.told.core (seen_of_event c v g) g) (lines_from c names part (next_line_number n) (trail_after c v g) gs) (told_line c names part (number_after (next_line_number n) gs) (trail_along c (trail_after c v g) gs).told.core (seen_of_event c (trail_along c (trail_after c v g) gs) h) h))
+    → lines_from c names part n v (hs ++ h ∷ []) ≡ lines_from c names part n v hs ++ with_line (own_line c names part (number_after n hs) (trail_along c v hs) h) []
+lines_on c names part n v hs h = lines_ahead c names part n v hs (h ∷ [])
+
+-- its ends, and the number behind it
 
 pub ends_on : (c : MarkedProgram) (names : Names) (form : Form) (n : ℕ) (v : Trail) (hs : List Happening) (h : Happening)
     → ends_from c names form n v (hs ++ h ∷ []) ≡ ends_from c names form n v hs ++ event_end c names form (number_after n hs) (trail_along c v hs).told.core (seen_of_event c (trail_along c v hs) h) h

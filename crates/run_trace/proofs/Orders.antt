@@ -1,5 +1,5 @@
 -- The next number of an order: a live worker has its turn, and any other is passed over.
-use Rattle.std.proofs.Common.{◌≡◌, ◌<◌, ◌≤◌, ℕ, zero, suc, ◌+◌, Bool, true, false, List, [], ◌∷◌, length, refl, ap, ◌∙◌, arith, drop, ◌&&◌, nat_lt, slice_index_or, if◌then◌else◌}
+use Rattle.std.proofs.Common.{◌≡◌, ◌<◌, ◌≤◌, ℕ, zero, suc, ◌+◌, Bool, true, false, List, [], ◌∷◌, length, refl, ap, ◌∙◌, arith, drop, nat_lt, slice_index_or, if◌then◌else◌}
 use Rattle.std.proofs.lemmas.List.{drop_more}
 use Rattle.machine_types.specs.{Core.{Core, Of, lives}, Schedules.{Ordered, is_live_worker, ordered, turn_of}}
 use Rattle.laws_states.proofs.OrdersRun.{second_of}

@@ -1,13 +1,13 @@
 -- What was walked, walked on by a turn, and to the end.
-use Rattle.std.{proofs.{Common.{◌≡◌, ℕ, ◌+◌, List, [], ◌∷◌, ◌++◌, map, Option, Some, None, refl, sym, ap, subst, ◌∙◌}, lemmas.List.append-nil}, specs.Option.option_map}
+use Rattle.std.{proofs.{Common.{◌≡◌, ℕ, ◌+◌, List, [], ◌∷◌, ◌++◌, length, map, Option, Some, None, refl, sym, ap, subst, ◌∙◌}, lemmas.List.append-nil}, specs.Option.option_map}
 use Rattle.jvm_types.specs.declared.outcome.Outcome.{Outcome}
 use Rattle.checked_program.specs.MarkedProgram.{MarkedProgram}
 use Rattle.machine_types.specs.{Core.{Core, Happening, core, happened, outcome, start}, Schedules.{Stage, First, Turn, turn_at}, declared.config.Config.Config}
 use Rattle.replay_runner.{specs.{Replays.IsLedByTurns, Running.Running}, proofs.Turns.{led_on, schedule_of}}
 use Rattle.place_names.specs.declared.names.Names.{Names}
-use Rattle.run_trace.specs.{EventLines.{Trail, trail_along, ends_from, event_end, trail_after, trail_start, lines_from, next_line_number, seen_of_event, told_line}, Owing.{owed_after, seen_by}, ReportJson.report_in, Stands.stands_after}
-use Rattle.run_trace.specs.{Traces.{Happened, IsStarted, IsWholeTrace, TraceWalked, WalksOn, number_after, seen_next}, declared.{events.Part.Part, traces.Tracing.Tracing}}
-use Rattle.run_trace.proofs.{LongerRuns.{ends_on, lines_on, trail_on, number_on, told_both}, Owings.{nothing_owed, owed_on, same_seen}}
+use Rattle.run_trace.specs.{EventLines.{Trail, trail_along, ends_from, event_end, trail_after, trail_start, lines_from, next_line_number, seen_of_event, told_line}, Lines.{TraceLine, lines_shown, lines_text, put_text, shown_behind, shown_text}, Owing.{owed_after, seen_by}, ReportJson.report_in, Stands.stands_after}
+use Rattle.run_trace.specs.{Traces.{Happened, IsStarted, IsWholeTrace, TraceWalked, WalksOn, next_line, number_after, seen_next}, declared.{events.Part.Part, traces.Tracing.Tracing}}
+use Rattle.run_trace.proofs.{LongerRuns.{ends_on, lines_on, own_line, trail_on, number_on, told_both}, ShownLines.{count_with, none_shown, text_with}, Owings.{nothing_owed, owed_on, same_seen}}
 use Rattle.machine_types.specs.History as history
 use Rattle.event_texts.specs.Shares as shares
 
@@ -23,11 +23,26 @@ module _ (c : MarkedProgram) (cfg : Config) (order : List ℕ) (names : Names) (
   seen_in_walk m h next told w = (λ i. seen_by c (sym w.core i) (w.owed i) (w.stands i) h) ∙ sym (same_seen c (trail_along c (trail_start c cfg) w.happenings) h)
 
   -- its line, of the run so far
-  pub own_line : (m : Tracing) (h : Happening) (next : Option Turn) (told : Option (List ℕ)) (w : TraceWalked c cfg order names part first m next told)
-      → told_line c names part (number_after 1 w.happenings) (trail_along c (trail_start c cfg) w.happenings).told.core (seen_of_event c (trail_along c (trail_start c cfg) w.happenings) h) h ≡ told_line c names part m.number m.machine.core (seen_next c m h) h
-  own_line m h next told w =
+  line_in_walk : (m : Tracing) (h : Happening) (next : Option Turn) (told : Option (List ℕ)) (w : TraceWalked c cfg order names part first m next told)
+      → own_line c names part (number_after 1 w.happenings) (trail_along c (trail_start c cfg) w.happenings) h ≡ next_line c names part m h
+  line_in_walk m h next told w =
       let seen_is : seen_next c m h ≡ seen_of_event c (trail_along c (trail_start c cfg) w.happenings) h = seen_in_walk m h next told w in
-      sym (λ i. told_line c names part (w.number i) (sym w.core i) (seen_is i) h)
+      sym (λ i. told_line c names part (w.number i) (sym w.core i) (w.stands i) (seen_is i) h)
+
+  -- so what is shown with it
+  pub text_in_walk : (m : Tracing) (h : Happening) (next : Option Turn) (told : Option (List ℕ)) (w : TraceWalked c cfg order names part first m next told)
+      → shown_text part (lines_from c names part 1 (trail_start c cfg) (w.happenings ++ h ∷ [])) ≡ shown_text part (lines_from c names part 1 (trail_start c cfg) w.happenings) ++ put_text part m.shown (next_line c names part m h)
+  text_in_walk m h next told w =
+      let lines : List TraceLine = lines_from c names part 1 (trail_start c cfg) w.happenings in
+      let line : Option TraceLine = own_line c names part (number_after 1 w.happenings) (trail_along c (trail_start c cfg) w.happenings) h in
+      ap (shown_text part) (lines_on c names part 1 (trail_start c cfg) w.happenings h) ∙ text_with part lines line ∙ (λ i. shown_text part lines ++ put_text part (sym w.shown i) (line_in_walk m h next told w i))
+
+  count_in_walk : (m : Tracing) (h : Happening) (next : Option Turn) (told : Option (List ℕ)) (w : TraceWalked c cfg order names part first m next told)
+      → length (lines_shown part (lines_from c names part 1 (trail_start c cfg) (w.happenings ++ h ∷ []))) ≡ shown_behind part m.shown (next_line c names part m h)
+  count_in_walk m h next told w =
+      let lines : List TraceLine = lines_from c names part 1 (trail_start c cfg) w.happenings in
+      let line : Option TraceLine = own_line c names part (number_after 1 w.happenings) (trail_along c (trail_start c cfg) w.happenings) h in
+      ap (λ (x : List TraceLine). length (lines_shown part x)) (lines_on c names part 1 (trail_start c cfg) w.happenings h) ∙ count_with part lines line ∙ (λ i. shown_behind part (sym w.shown i) (line_in_walk m h next told w i))
 
   turned : (m n : Tracing) (h : Happening) (stage : Stage) (told now : Option (List ℕ)) (before after : ℕ) → Happened c names part h m n told now before after
       → TraceWalked c cfg order names part first m (turn_to h stage) told → TraceWalked c cfg order names part first n (turn_at stage n.machine.core) now
@@ -36,7 +51,6 @@ module _ (c : MarkedProgram) (cfg : Config) (order : List ℕ) (names : Names) (
       let u : Trail = trail_along c (trail_start c cfg) hs in
       let core_is : happened c m.machine.core h ≡ n.machine.core = ap (λ (d : MarkedProgram). happened d m.machine.core h) (sym w.program) ∙ sym (ap (λ (r : Running). r.core) did.machine) in
       let seen_is : seen_next c m h ≡ seen_of_event c u h = seen_in_walk m h (turn_to h stage) told w in
-      let own : told_line c names part m.number m.machine.core (seen_next c m h) h ≡ told_line c names part (number_after 1 hs) u.told.core (seen_of_event c u h) h = sym (own_line m h (turn_to h stage) told w) in
       let owes : n.owed ≡ map shares.owed (history.told c u.told h).pasts = did.owed ∙ (λ i. owed_after (w.owed i) h (seen_by c (sym w.core i) (w.owed i) (w.stands i) h)) ∙ sym (owed_on c u h) in
       let stood : n.stands ≡ (trail_after c u h).stands = did.stands ∙ (λ i. stands_after c (sym w.core i) (w.stands i) h (seen_is i)) in
       record {
@@ -48,11 +62,12 @@ module _ (c : MarkedProgram) (cfg : Config) (order : List ℕ) (names : Names) (
         turn = refl;
         number = did.number ∙ ap next_line_number w.number ∙ sym (number_on 1 hs h);
         core = ap (λ (v : Trail). v.told.core) (trail_on c (trail_start c cfg) hs h) ∙ ap (λ (s : Core). happened c s h) w.core ∙ core_is;
+        shown = did.shown ∙ sym (count_in_walk m h (turn_to h stage) told w);
         owed = owes ∙ sym (ap (λ (v : Trail). map shares.owed v.told.pasts) (trail_on c (trail_start c cfg) hs h));
         stands = stood ∙ sym (ap (λ (v : Trail). v.stands) (trail_on c (trail_start c cfg) hs h));
         ends = did.ends ∙ (λ i. w.ends i ++ event_end c names part.form (w.number i) (sym w.core i) (seen_is i) h) ∙ sym (ends_on c names part.form 1 (trail_start c cfg) hs h);
-        text = told_both first told now (lines_from c names part 1 (trail_start c cfg) hs) (told_line c names part m.number m.machine.core (seen_next c m h) h) w.text did.text
-            ∙ ap (λ (text : List ℕ). option_map (λ t. t ++ text) first) (ap (λ (text : List ℕ). lines_from c names part 1 (trail_start c cfg) hs ++ text) own ∙ sym (lines_on c names part 1 (trail_start c cfg) hs h));
+        text = told_both first told now (shown_text part (lines_from c names part 1 (trail_start c cfg) hs)) (put_text part m.shown (next_line c names part m h)) w.text did.text
+            ∙ ap (λ (text : List ℕ). option_map (λ t. t ++ text) first) (sym (text_in_walk m h (turn_to h stage) told w));
       }
 
 -- ---- on from a turn
@@ -89,11 +104,12 @@ walked_at_start c cfg order names part told m begun = record {
   leads = (refl, sym (ap (λ (r : Running). r.core) begun.machine));
   turn = refl;
   number = begun.number;
+  shown = begun.shown ∙ sym (ap length (none_shown part));
   core = sym (ap (λ (r : Running). r.core) begun.machine);
   owed = begun.owed ∙ sym (nothing_owed (c.program.workers + 1));
   stands = begun.stands;
   ends = begun.ends;
-  text = by_told told;
+  text = by_told told ∙ ap (λ (lines : List TraceLine). option_map (λ t. t ++ lines_text part.from lines) told) (sym (none_shown part));
 }
   where
     by_told : (o : Option (List ℕ)) → o ≡ option_map (λ t. t ++ []) o
@@ -110,7 +126,7 @@ whole c cfg order names part told mid late now before between beyond after m n o
     let hs = w.happenings in
     let all = schedule_of c (First order) (start c cfg) hs w.stage n.machine.core w.leads w.turn in
     let told_is : o ≡ outcome (core c cfg hs) = is ∙ ap outcome (sym all.1) in
-    let lines = lines_from c names part 1 (trail_start c cfg) hs in
+    let lines = shown_text part (lines_from c names part 1 (trail_start c cfg) hs) in
     let with_ends : late ≡ option_map (λ t. t ++ (lines ++ ends_from c names part.form 1 (trail_start c cfg) hs)) told =
     told_both told mid late lines n.ends.items w.text ended ∙ ap (λ (ends : List ℕ). option_map (λ t. t ++ (lines ++ ends)) told) w.ends in
     record {

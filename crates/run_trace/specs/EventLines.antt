@@ -1,6 +1,7 @@
 -- What is told of a run, in lines or as objects of JSON, each of which is a line too: one for each
--- event, made of the state before it and the state behind it, and one for each part that begins.
-use Rattle.std.specs.Prelude.{ℕ, zero, ◌+◌, ◌-◌, ◌^◌, min, nat_le, nat_lt, ◌&&◌, if◌then◌else◌}
+-- event that is told, made of the state before it and the state behind it, and one for each part
+-- that begins.
+use Rattle.std.specs.Prelude.{ℕ, zero, suc, ◌+◌, ◌-◌, ◌^◌, min, Bool, true, false, ◌&&◌, length}
 use Rattle.std.specs.Prelude.{List, [], ◌∷◌, ◌++◌, codes, replicate, Option, Some, None, slice_get}
 use Rattle.std.specs.Option.{option_map}
 use Rattle.checked_program.specs.MarkedProgram.{MarkedProgram}
@@ -11,7 +12,7 @@ use Rattle.machine_types.specs.History.{Told, found_by_event, past_at, told, tol
 use Rattle.machine_types.specs.Threads.{Thread}
 use Rattle.machine_types.specs.declared.config.Config.{Config}
 use Rattle.place_names.specs.declared.names.Names.{Names}
-use Rattle.event_texts.specs.EventFacts.{event_end_in, event_facts}
+use Rattle.event_texts.specs.EventFacts.{event_end_in, event_facts, standing_in}
 use Rattle.event_texts.specs.Shares.{share_at}
 use Rattle.event_texts.specs.Sights.{after_event, before_of}
 use Rattle.event_texts.specs.declared.shares.Share.{Share}
@@ -22,6 +23,8 @@ use Rattle.tellings.specs.Forms.{told_in}
 use Rattle.tellings.specs.declared.facts.Fact.{Fact}
 use Rattle.tellings.specs.declared.facts.Fact.TheVariants.{Count, Text, Words}
 use Rattle.tellings.specs.declared.keys.Key.TheVariants as keys
+use Rattle.run_trace.specs.FailedTurns.{is_left_out, left_out}
+use Rattle.run_trace.specs.Lines.{TraceLine, shown_text, with_line}
 use Rattle.run_trace.specs.ReportJson.{report_in}
 use Rattle.run_trace.specs.Stands.{Stand, no_stand, stand_at, stands_after}
 use Rattle.run_trace.specs.declared.events.Part.{Part}
@@ -35,7 +38,8 @@ seen_before c words d x =
     before_of c.program x d.last (wanted c x x.phase) (found_by words (wanted c x x.phase))
 
 abbrev pub seen_with : MarkedProgram → (words : List ℕ) → Stand → Thread → Share → Seen
-seen_with c words d x share = record { before = seen_before c words d x; share = share }
+seen_with c words d x share =
+    record { before = seen_before c words d x; share = share; turns = x.turns; row = d.row }
 
 -- a state with the pasts of its threads, and where these made their last instructions
 pub record Trail : Type 0 where
@@ -68,13 +72,13 @@ trail_along c v [] = v
 trail_along c v (h ∷ hs) = trail_along c (trail_after c v h) hs
 
 -- the line of an event by the thread before it, and by the thread and the words behind it
-abbrev pub line_between : MarkedProgram → Form → Names → (number : ℕ)
+abbrev pub line_between : MarkedProgram → Part → Names → (number : ℕ)
     → (words : List ℕ) → Option Seen → Option Thread → List ℕ
-line_between c form names number words (Some seen) (Some y) =
-    told_in form (codes "event")
-    (event_facts c names number seen.before seen.share
+line_between c part names number words (Some seen) (Some y) =
+    told_in part.form (codes "event")
+    (event_facts c names number (left_out part.folds seen.row) seen.before seen.share
     (after_event y (found_by words seen.before.access)))
-line_between c form names number words seen y = []
+line_between c part names number words seen y = []
 
 -- the line of the end that it leads to, where that is no return
 abbrev pub end_between : MarkedProgram → Names → Form → (number : ℕ) → Option Seen → Option Thread
@@ -102,35 +106,63 @@ abbrev pub part_line : Form → (number : ℕ) → (begun : Option ℕ) → List
 part_line form number None = []
 part_line form number (Some begun) = told_in form (codes "part") (part_facts number begun)
 
+-- ---- how the threads stand before an event
+
+abbrev pub standing_of : MarkedProgram → Form → Names → (number : ℕ) → Option Before → List ℕ
+standing_of c form names number None = []
+standing_of c form names number (Some b) =
+    standing_in form c.program names.sources number b b.phase
+
+abbrev pub before_at : MarkedProgram → Core → List Stand → (t : ℕ) → Option Before
+before_at c s stands t =
+    option_map (seen_before c s.words (stand_at stands t)) (slice_get s.threads t)
+
+-- the first threads, so many
+abbrev pub standings : MarkedProgram → Form → Names → (number : ℕ) → Core → List Stand
+    → (many : ℕ) → List ℕ
+standings c form names number s stands zero = []
+standings c form names number s stands (suc t) =
+    standings c form names number s stands t
+    ++ standing_of c form names number (before_at c s stands t)
+
 -- ---- all of them, which are numbered; the number stands still at the end of 64 bits
 
-abbrev pub event_line : MarkedProgram → Form → Names → (number : ℕ) → Core
+abbrev pub event_line : MarkedProgram → Part → Names → (number : ℕ) → Core
     → Option Seen → Happening → List ℕ
-event_line c form names number s seen (Of t) =
-    line_between c form names number (event c s t).words seen (slice_get (event c s t).threads t)
-event_line c form names number s seen NextPart =
-    part_line form number (option_map (λ x. x.part) (slice_get s.threads 0))
+event_line c part names number s seen (Of t) =
+    line_between c part names number (event c s t).words seen (slice_get (event c s t).threads t)
+event_line c part names number s seen NextPart =
+    part_line part.form number (option_map (λ x. x.part) (slice_get s.threads 0))
 
--- of a part of the lines alone
-abbrev pub line_shown : Part → (number : ℕ) → List ℕ → List ℕ
-line_shown part number text =
-    if nat_le part.from number && nat_lt (number - part.from) part.count then text else []
+-- an event that is left out has none
+abbrev pub has_no_line : MarkedProgram → (folds : Bool) → Core → Option Seen → Happening → Bool
+has_no_line c folds s seen (Of t) =
+    folds && is_left_out seen (slice_get (event c s t).threads t)
+has_no_line c folds s seen NextPart = false
 
-abbrev pub told_line : MarkedProgram → Names → Part → (number : ℕ) → Core
-    → Option Seen → Happening → List ℕ
-told_line c names part number s seen h =
-    line_shown part number (event_line c part.form names number s seen h)
+abbrev pub line_unless : Bool → TraceLine → Option TraceLine
+line_unless true l = None
+line_unless false l = Some l
+
+abbrev pub told_line : MarkedProgram → Names → Part → (number : ℕ) → Core → List Stand
+    → Option Seen → Happening → Option TraceLine
+told_line c names part number s stands seen h =
+    line_unless (has_no_line c part.folds s seen h) (record {
+      number = number;
+      standings = standings c part.form names number s stands (length s.threads);
+      text = event_line c part names number s seen h;
+    })
 
 abbrev pub next_line_number : ℕ → ℕ
 next_line_number n = min (n + 1) (2 ^ 64 - 1)
 
 -- each event from the state before it, with the pasts of the threads there
 abbrev pub lines_from : MarkedProgram → Names → Part → (number : ℕ) → Trail
-    → List Happening → List ℕ
+    → List Happening → List TraceLine
 lines_from c names part number v [] = []
 lines_from c names part number v (h ∷ hs) =
-    told_line c names part number v.told.core (seen_of_event c v h) h
-    ++ lines_from c names part (next_line_number number) (trail_after c v h) hs
+    with_line (told_line c names part number v.told.core v.stands (seen_of_event c v h) h)
+    (lines_from c names part (next_line_number number) (trail_after c v h) hs)
 
 -- where parts of threads came to an end that is no return
 abbrev pub event_end : MarkedProgram → Names → Form → (number : ℕ) → Core → Option Seen → Happening
@@ -150,10 +182,10 @@ abbrev pub begin_text : Form → (begin : List Fact) → List ℕ
 begin_text Lines begin = []
 begin_text Json begin = told_in Json (codes "run") begin
 
--- the lines of all events, or of a part of them, those of the ends that are no returns, and then
--- the report of the run
+-- the lines of all events that are told, or of a part of them, those of the ends that are no
+-- returns, and then the report of the run
 abbrev pub trace_text : MarkedProgram → Config → Names → Part → List Happening → List ℕ
 trace_text c cfg names part hs =
-    lines_from c names part 1 (trail_start c cfg) hs
+    shown_text part (lines_from c names part 1 (trail_start c cfg) hs)
     ++ ends_from c names part.form 1 (trail_start c cfg) hs
     ++ report_in part.form (outcome (core c cfg hs))

@@ -1,4 +1,6 @@
 pub mod ReportJson
+pub mod FailedTurns
+pub mod Lines
 pub mod EventLines
 pub mod Stands
 pub mod Owing

@@ -28,8 +28,8 @@ count_facts c =
 abbrev pub its_end : End → Fact
 its_end end = Text keys.ItsEnd (end_text end)
 
-abbrev pub thread_facts : (thread : ℕ) → ThreadReport → List Fact
-thread_facts thread t =
+abbrev pub thread_report_facts : (thread : ℕ) → ThreadReport → List Fact
+thread_report_facts thread t =
     (Count keys.Thread thread ∷ its_end t.end ∷ []) ++ count_facts t.counts
 
 abbrev pub print_object : (thread : ℕ) → Print → List ℕ
@@ -38,7 +38,7 @@ print_object thread p = object_of (codes "print") (print_facts thread p)
 abbrev pub thread_objects : (thread : ℕ) → List ThreadReport → List ℕ
 thread_objects thread [] = []
 thread_objects thread (t ∷ ts) =
-    flat_map (print_object thread) t.prints ++ object_of (codes "thread") (thread_facts thread t)
+    flat_map (print_object thread) t.prints ++ object_of (codes "thread") (thread_report_facts thread t)
     ++ thread_objects (thread + 1) ts
 
 abbrev pub report_objects : Outcome → List ℕ

@@ -1,6 +1,7 @@
 -- A trace that was written to a sink: the lines of the events of the one schedule that an order
 -- stands for, those of the ends that are no returns, and the report.
-use Rattle.std.specs.Prelude.{◌≡◌, ◌+◌, ℕ, List, [], ◌∷◌, ◌++◌, map, replicate, Option, None}
+use Rattle.std.specs.Prelude.{◌≡◌, ◌+◌, ℕ, List, [], ◌∷◌, ◌++◌, length, map, replicate, Option}
+use Rattle.std.specs.Prelude.{None}
 use Rattle.std.specs.Prelude.{Result, Ok, Err}
 use Rattle.std.specs.Option.{option_map}
 use Rattle.checked_program.specs.MarkedProgram.{MarkedProgram}
@@ -16,6 +17,7 @@ use Rattle.tellings.specs.declared.facts.Fact.{Fact}
 use Rattle.run_trace.specs.EventLines.{begin_text, ends_from, event_end, lines_from}
 use Rattle.run_trace.specs.EventLines.{next_line_number}
 use Rattle.run_trace.specs.EventLines.{told_line, trace_text, trail_along, trail_start}
+use Rattle.run_trace.specs.Lines.{TraceLine, lines_shown, put_text, shown_behind, shown_text}
 use Rattle.run_trace.specs.Owing.{owed_after, seen_by}
 use Rattle.run_trace.specs.Stands.{no_stand, stands_after}
 use Rattle.run_trace.specs.declared.events.Part.{Part}
@@ -39,11 +41,16 @@ pub record IsFrontTold (told now : Option (List ℕ)) (text : List ℕ) : Type 0
 abbrev pub seen_next : MarkedProgram → Tracing → Happening → Option Seen
 seen_next c m h = seen_by c m.machine.core m.owed m.stands h
 
+abbrev pub next_line : MarkedProgram → Names → Part → Tracing → Happening → Option TraceLine
+next_line c names part m h =
+    told_line c names part m.number m.machine.core m.stands (seen_next c m h) h
+
 -- it happened to the run, and its line was added to what the sink tells
 pub record Happened (c : MarkedProgram) (names : Names) (part : Part) (h : Happening)
     (m n : Tracing) (told now : Option (List ℕ)) (before after : ℕ) : Type 0 where
   pub machine : n.machine ≡ record m.machine { core = happened m.machine.program m.machine.core h }
   pub number : n.number ≡ next_line_number m.number
+  pub shown : n.shown ≡ shown_behind part m.shown (next_line c names part m h)
   pub owed : n.owed ≡ owed_after m.owed h (seen_next c m h)
   pub stands : n.stands
       ≡ stands_after c m.machine.core m.stands h (seen_next c m h)
@@ -51,9 +58,7 @@ pub record Happened (c : MarkedProgram) (names : Names) (part : Part) (h : Happe
       ≡ m.ends.items
       ++ event_end c names part.form m.number m.machine.core (seen_next c m h) h
   pub text : now
-      ≡ option_map (λ t.
-      t ++ told_line c names part m.number m.machine.core (seen_next c m h) h)
-      told
+      ≡ option_map (λ t. t ++ put_text part m.shown (next_line c names part m h)) told
   pub calm : after ≡ before
 
 -- there was no memory, and nothing was written; or the sink failed within the line
@@ -66,14 +71,14 @@ IsHappeningTold c names part h m n told now before after (Err Memory) =
     (after ≡ before) × (now ≡ told)
 IsHappeningTold c names part h m n told now before after (Err Failed) =
     CountsFault before after
-    × IsFrontTold told now
-    (told_line c names part m.number m.machine.core (seen_next c m h) h)
+    × IsFrontTold told now (put_text part m.shown (next_line c names part m h))
 
 -- ---- the run at its start
 
 pub record IsStarted (c : MarkedProgram) (cfg : Config) (m : Tracing) : Type 0 where
   pub machine : m.machine ≡ record { program = c; cfg = cfg; core = start c cfg }
   pub number : m.number ≡ 1
+  pub shown : m.shown ≡ 0
   pub owed : m.owed ≡ replicate (c.program.workers + 1) 0
   pub stands : m.stands ≡ replicate (c.program.workers + 1) no_stand
   pub ends : m.ends.items ≡ []
@@ -97,12 +102,15 @@ pub record TraceWalked (c : MarkedProgram) (cfg : Config) (order : List ℕ) (na
   pub leads : IsLedByTurns c (First order) (start c cfg) happenings stage n.machine.core
   pub turn : turn_at stage n.machine.core ≡ next
   pub number : n.number ≡ number_after 1 happenings
+  pub shown : n.shown
+      ≡ length (lines_shown part (lines_from c names part 1 (trail_start c cfg) happenings))
   pub core : (trail_along c (trail_start c cfg) happenings).told.core ≡ n.machine.core
   pub owed : n.owed ≡ map shares.owed (trail_along c (trail_start c cfg) happenings).told.pasts
   pub stands : n.stands ≡ (trail_along c (trail_start c cfg) happenings).stands
   pub ends : n.ends.items ≡ ends_from c names part.form 1 (trail_start c cfg) happenings
   pub text : now
-      ≡ option_map (λ t. t ++ lines_from c names part 1 (trail_start c cfg) happenings) told
+      ≡ option_map
+      (λ t. t ++ shown_text part (lines_from c names part 1 (trail_start c cfg) happenings)) told
 
 -- whatever was walked to the one is walked to the other; the sink has not failed
 pub record WalksOn (c : MarkedProgram) (order : List ℕ) (names : Names) (part : Part)
@@ -121,7 +129,8 @@ pub record IsBrokenOff (c : MarkedProgram) (cfg : Config) (order : List ℕ) (na
   pub stage : Stage
   pub core : Core
   pub leads : IsLedByTurns c (First order) (start c cfg) happenings stage core
-  pub front : IsFrontTold told now (lines_from c names part 1 (trail_start c cfg) happenings)
+  pub front : IsFrontTold told now
+      (shown_text part (lines_from c names part 1 (trail_start c cfg) happenings))
 
 -- whatever was walked to the turn breaks off behind it
 abbrev pub BreaksOff : MarkedProgram → (order : List ℕ) → Names → Part

@@ -1,19 +1,26 @@
 //! One event of a run with its line, and the begin of a part with its own.
 
-ghost use Rattle.std.specs.Prelude.{◌≡◌, ◌<◌, ◌++◌, true, slice_get, slice_set, IfOk, OnOk};
+ghost use Rattle.std.specs.Prelude.{◌≡◌, ◌<◌, ◌++◌, ◌&&◌, [], true, length, slice_get, slice_set};
+ghost use Rattle.std.specs.Prelude.{IfOk, OnOk};
 ghost use Rattle.std.specs.Option.{option_map};
-ghost use Rattle.machine_types.specs.Core.{Of, event, lives, next};
+ghost use Rattle.machine_types.specs.Core.{NextPart, Of, event, lives, next};
 ghost use Rattle.laws_states.specs.WorkLeft.{all_work};
 ghost use Rattle.machine_types.specs.Accesses.{found_by};
-ghost use Rattle.run_trace.specs.EventLines.{end_between, event_end, event_line, line_between};
-ghost use Rattle.run_trace.specs.EventLines.{line_shown, part_facts, part_line, part_name};
-ghost use Rattle.run_trace.specs.EventLines.{part_text};
+ghost use Rattle.run_trace.specs.EventLines.{end_between, event_end, line_between, part_facts};
+ghost use Rattle.run_trace.specs.EventLines.{part_line, part_name, part_text, standing_of};
+ghost use Rattle.run_trace.specs.EventLines.{standings, before_at, told_line};
+ghost use Rattle.run_trace.specs.FailedTurns.{is_left_out, left_out};
+ghost use Rattle.run_trace.specs.Lines.{has_standings, is_shown, put_text, shown_behind};
+ghost use Rattle.run_trace.specs.Lines.{standings_due};
 ghost use Rattle.run_trace.specs.Owing.{owed_after, owed_at, seen_by};
 ghost use Rattle.run_trace.specs.Stands.{stands_after};
 
-use crate::stands::{Seen, Stand, settle_stand, stand_at};
+use crate::stands::{Seen, Stand, is_failed_turn, settle_stand, stand_at};
 use checked_program::Checked;
-use event_texts::{owed_behind, see_after, see_before, share_of, write_event, write_event_end};
+use event_texts::{
+    Before, owed_behind, see_after, see_before, share_of, write_event, write_event_end,
+    write_standing,
+};
 use json_lines::Form;
 use jvm_types::{Bytes, Rows};
 use machine_types::Access;
@@ -23,24 +30,29 @@ use std::alloc::{AllocError, Global};
 use step_core::want;
 use tellings::{Fact, Key, add_count, add_text, write_told};
 
-/// Which lines of a run are told: those from a number on, so many at most. The first line has the
-/// number 1. And in which form they are told, with the ends and the report behind them.
+/// Which lines of a run are told: those from the event of a number on, so many at most, where the
+/// first event has the number 1; and whether failed turns in a row are folded, so that the first of
+/// them alone is told. And in which form they are told, with the ends and the report behind them.
 #[derive(Clone, Copy, Debug, PartialEq, Eq)]
 pub struct Part {
     pub from: u64,
     pub count: u64,
+    pub folds: bool,
     pub form: Form,
 }
 
-/// The line of that number, where the part has it; else nothing.
-pub fn told_of<'a>(part: Part, number: u64, text: &'a [u8]) -> &'a [u8]
-    ensures { result.now ≡ line_shown part number text.now }
+/// Whether the line of that number is one of the part, behind so many.
+fn is_shown(part: Part, shown: u64, number: u64) -> bool
+    ensures { result ≡ is_shown part shown number }
 {
-    if part.from <= number && number - part.from < part.count {
-        text
-    } else {
-        &text[..0]
-    }
+    part.from <= number && shown < part.count
+}
+
+/// Whether it is the first, and need not be the first of all.
+fn has_standings(part: Part, shown: u64) -> bool
+    ensures { result ≡ has_standings part shown }
+{
+    shown == 0 && 1 < part.from
 }
 
 /// What an access finds in its word; 0 where there is none.
@@ -69,6 +81,21 @@ fn owed_at(owed: &Rows<u64>, t: u8) -> u64
     }
 }
 
+/// How a thread stands, and what its next event accesses.
+fn before_at(machine: &Machine, p: &Checked, stands: &Rows<Stand>, t: u8) -> Option<Before>
+    requires { p.now ≡ machine.now.program }
+    ensures { result ≡ before_at p.now machine.now.core stands.now t }
+{
+    match machine.thread(t) {
+        Some(s) => {
+            let access = want(s, p);
+            let found = found_in(machine, access);
+            Some(see_before(s, p, stand_at(stands, t).last, access, found))
+        }
+        None => None,
+    }
+}
+
 /// A thread before its event.
 fn look(
     machine: &Machine,
@@ -84,12 +111,82 @@ fn look(
         Some(s) => {
             let access = want(s, p);
             let found = found_in(machine, access);
+            let stand = stand_at(stands, t);
             Some(Seen {
-                before: see_before(s, p, stand_at(stands, t).last, access, found),
+                before: see_before(s, p, stand.last, access, found),
                 share: share_of(s, p, found, owed_at(owed, t)),
+                turns: s.turns(),
+                row: stand.row,
             })
         }
         None => None,
+    }
+}
+
+/// Adds how a thread stands before the event of a number.
+fn write_standing_of(
+    text: &mut Vec<u8>,
+    alloc: Global,
+    form: Form,
+    p: &Checked,
+    names: &Names,
+    number: u64,
+    before: Option<Before>,
+) -> Result<(), AllocError>
+    ensures { OnOk result (text.new.items ≡ text.old.items
+        ++ standing_of p.now form names.now number before) }
+{
+    match before {
+        Some(before) => { write_standing(text, alloc, form, p, &names.sources, number, &before) }
+        None => Ok(()),
+    }
+}
+
+/// Adds how all threads stand before the event of a number.
+#[tactic(auto, using(crate::proofs::OneMore::standings_more))]
+fn write_standings(
+    text: &mut Vec<u8>,
+    alloc: Global,
+    form: Form,
+    machine: &Machine,
+    stands: &Rows<Stand>,
+    p: &Checked,
+    names: &Names,
+    number: u64,
+) -> Result<(), AllocError>
+    requires { p.now ≡ machine.now.program }
+    ensures { OnOk result (text.new.items ≡ text.old.items ++ standings p.now form names.now number
+        machine.now.core stands.now (length machine.now.core.threads)) }
+{
+    for t in 0..machine.workers() + 1 {
+        let before = before_at(machine, p, stands, t);
+        write_standing_of(text, alloc, form, p, names, number, before)?;
+    }
+    Ok(())
+}
+
+/// The same where the event has a line that is shown behind so many, and that line begins a part
+/// which need not begin with the first event.
+fn write_standings_due(
+    text: &mut Vec<u8>,
+    alloc: Global,
+    part: Part,
+    shown: u64,
+    machine: &Machine,
+    stands: &Rows<Stand>,
+    p: &Checked,
+    names: &Names,
+    number: u64,
+) -> Result<(), AllocError>
+    requires { p.now ≡ machine.now.program }
+    ensures { OnOk result (is_shown part shown number ≡ true → text.new.items ≡ text.old.items
+        ++ standings_due part shown (standings p.now part.form names.now number
+        machine.now.core stands.now (length machine.now.core.threads))) }
+{
+    if is_shown(part, shown, number) && has_standings(part, shown) {
+        write_standings(text, alloc, part.form, machine, stands, p, names, number)
+    } else {
+        Ok(())
     }
 }
 
@@ -112,10 +209,43 @@ fn settle(owed: &mut Rows<u64>, t: u8, seen: &Option<Seen>)
     }
 }
 
-/// Adds the line of an event by the thread before it, and by the machine behind it; and to the ends
-/// that of the end which it leads to, where that is no return.
+/// Adds the line of an event by the thread before it, and by the machine behind it.
 fn write_between(
     text: &mut Vec<u8>,
+    alloc: Global,
+    part: Part,
+    p: &Checked,
+    names: &Names,
+    number: u64,
+    seen: &Option<Seen>,
+    machine: &Machine,
+    t: u8,
+) -> Result<(), AllocError>
+    ensures { OnOk result (text.new.items ≡ text.old.items ++ line_between p.now part names.now
+        number machine.now.core.words seen.now (slice_get machine.now.core.threads t)) }
+{
+    match (seen, machine.thread(t)) {
+        (Some(seen), Some(s)) => {
+            let after = see_after(s, found_in(machine, seen.before.access));
+            write_event(
+                text,
+                alloc,
+                part.form,
+                p,
+                names,
+                number,
+                left_out(part.folds, seen.row),
+                &seen.before,
+                &seen.share,
+                &after,
+            )
+        }
+        _ => Ok(()),
+    }
+}
+
+/// Adds the line of the end that an event leads to, where that is no return.
+fn write_end(
     ends: &mut Vec<u8>,
     alloc: Global,
     form: Form,
@@ -126,48 +256,57 @@ fn write_between(
     machine: &Machine,
     t: u8,
 ) -> Result<(), AllocError>
-    ensures end { OnOk result (ends.new.items ≡ ends.old.items
-        ++ end_between p.now names.now form number seen.now
-        (slice_get machine.now.core.threads t)) }
-    ensures line { OnOk result (text.new.items ≡ text.old.items ++ line_between p.now form names.now
-        number machine.now.core.words seen.now (slice_get machine.now.core.threads t)) }
+    ensures { OnOk result (ends.new.items ≡ ends.old.items ++ end_between p.now names.now form
+        number seen.now (slice_get machine.now.core.threads t)) }
 {
-    match (seen, machine.thread(t)) {
-        (Some(seen), Some(s)) => {
-            let after = see_after(s, found_in(machine, seen.before.access));
-            write_event(
-                text,
-                alloc,
-                form,
-                p,
-                names,
-                number,
-                &seen.before,
-                &seen.share,
-                &after,
-            )?;
-            write_event_end(
-                ends,
-                alloc,
-                form,
-                p,
-                &names.sources,
-                number,
-                &seen.before,
-                &after,
-            )
-        }
-        _ => Ok(()),
-    }
+    let (Some(seen), Some(s)) = (seen, machine.thread(t)) else {
+        return Ok(());
+    };
+    write_event_end(
+        ends,
+        alloc,
+        form,
+        p,
+        &names.sources,
+        number,
+        &seen.before,
+        s.phase(),
+    )
 }
 
-/// Makes the next event of a live thread, and adds its line, and to the ends that of an end which
-/// is no return. Behind it the threads owe what they owe, and stand where they stand.
+/// Whether an event of a thread is a failed turn behind others.
+fn is_left_out(seen: &Option<Seen>, machine: &Machine, t: u8) -> bool
+    ensures { result ≡ is_left_out seen.now (slice_get machine.now.core.threads t) }
+{
+    let (Some(seen), Some(s)) = (seen, machine.thread(t)) else {
+        return false;
+    };
+    0 < seen.row && is_failed_turn(seen.turns, s.turns(), s.phase())
+}
+
+/// Whether it is left out.
+fn has_no_line(folds: bool, seen: &Option<Seen>, machine: &Machine, t: u8) -> bool
+    ensures { result ≡ folds && is_left_out seen.now (slice_get machine.now.core.threads t) }
+{
+    folds && is_left_out(seen, machine, t)
+}
+
+/// Of failed turns in a row, how many are left out before the event behind them.
+fn left_out(folds: bool, row: u64) -> u64
+    ensures { result ≡ left_out folds row }
+{
+    if folds { row.saturating_sub(1) } else { 0 }
+}
+
+/// Makes the next event of a live thread, and adds its line, where one is shown behind so many, and
+/// to the ends that of an end which is no return; behind it the threads owe what they owe, and
+/// stand where they stand. It answers how many lines are shown.
 pub fn make_event(
     text: &mut Vec<u8>,
     ends: &mut Vec<u8>,
     alloc: Global,
-    form: Form,
+    part: Part,
+    shown: u64,
     machine: &mut Machine,
     owed: &mut Rows<u64>,
     stands: &mut Rows<Stand>,
@@ -175,28 +314,50 @@ pub fn make_event(
     names: &Names,
     number: u64,
     t: u8,
-) -> Result<(), AllocError>
+) -> Result<u64, AllocError>
     requires program { p.now ≡ machine.old.program }
     requires live { lives machine.old.core t ≡ true }
-    ensures event { machine.new
-        ≡ record machine.old { core = event machine.old.program machine.old.core t } }
-    ensures less { all_work machine.new.core < all_work machine.old.core }
-    ensures owed { owed.new
-        ≡ owed_after owed.old (Of t) (seen_by p.now machine.old.core owed.old stands.old (Of t)) }
-    ensures stands { stands.new ≡ stands_after p.now machine.old.core stands.old (Of t)
-        (seen_by p.now machine.old.core owed.old stands.old (Of t)) }
-    ensures end { OnOk result (ends.new.items ≡ ends.old.items ++ event_end p.now names.now form
-        number machine.old.core (seen_by p.now machine.old.core owed.old stands.old (Of t))
+    ensures event { OnOk result (machine.new
+        ≡ record machine.old { core = event machine.old.program machine.old.core t }) }
+    ensures less { OnOk result (all_work machine.new.core < all_work machine.old.core) }
+    ensures owed { OnOk result (owed.new
+        ≡ owed_after owed.old (Of t) (seen_by p.now machine.old.core owed.old stands.old (Of t))) }
+    ensures stands { OnOk result (stands.new ≡ stands_after p.now machine.old.core stands.old
+        (Of t) (seen_by p.now machine.old.core owed.old stands.old (Of t))) }
+    ensures end { OnOk result (ends.new.items ≡ ends.old.items ++ event_end p.now names.now
+        part.form number machine.old.core
+        (seen_by p.now machine.old.core owed.old stands.old (Of t))
         (Of t)) }
-    ensures line { OnOk result (text.new.items ≡ text.old.items ++ event_line p.now form names.now
-        number machine.old.core (seen_by p.now machine.old.core owed.old stands.old (Of t))
-        (Of t)) }
+    ensures line { OnOk result (text.new.items ≡ text.old.items ++ put_text part shown
+        (told_line p.now names.now part number machine.old.core stands.old
+        (seen_by p.now machine.old.core owed.old stands.old (Of t)) (Of t))) }
+    ensures shown { IfOk result (λ n. n ≡ shown_behind part shown
+        (told_line p.now names.now part number machine.old.core stands.old
+        (seen_by p.now machine.old.core owed.old stands.old (Of t)) (Of t))) }
 {
+    let mut standings = Vec::new(alloc);
+    write_standings_due(
+        &mut standings,
+        alloc,
+        part,
+        shown,
+        machine,
+        stands,
+        p,
+        names,
+        number,
+    )?;
     let seen = look(machine, p, owed, stands, t);
     machine.event(p, t);
     settle(owed, t, &seen);
     settle_stand(stands, t, &seen, machine);
-    write_between(text, ends, alloc, form, p, names, number, &seen, machine, t)
+    write_end(ends, alloc, part.form, p, names, number, &seen, machine, t)?;
+    if has_no_line(part.folds, &seen, machine, t) || !is_shown(part, shown, number) {
+        return Ok(shown);
+    }
+    text.extend_from_slice(standings.as_slice())?;
+    write_between(text, alloc, part, p, names, number, &seen, machine, t)?;
+    Ok(shown + 1)
 }
 
 /// The words behind the number of the begin of a part, by how many parts began before.
@@ -256,22 +417,35 @@ fn write_part(
     }
 }
 
-/// Begins the next part where it may begin, and adds its line.
+/// Begins the next part where it may begin, and adds its line, where one is shown behind so many.
+/// It answers how many are.
 pub fn make_part(
     text: &mut Vec<u8>,
     alloc: Global,
-    form: Form,
+    part: Part,
+    shown: u64,
     machine: &mut Machine,
+    stands: &Rows<Stand>,
     p: &Checked,
+    names: &Names,
     number: u64,
-) -> Result<(), AllocError>
+) -> Result<u64, AllocError>
     requires program { p.now ≡ machine.old.program }
-    ensures part { machine.new
-        ≡ record machine.old { core = next machine.old.program machine.old.core } }
-    ensures line { OnOk result (text.new.items ≡ text.old.items ++ part_line form number
-        (option_map (λ x. x.part) (slice_get machine.old.core.threads 0))) }
+    ensures part { OnOk result (machine.new
+        ≡ record machine.old { core = next machine.old.program machine.old.core }) }
+    ensures line { OnOk result (text.new.items ≡ text.old.items ++ put_text part shown
+        (told_line p.now names.now part number machine.old.core stands.now
+        (seen_by p.now machine.old.core [] stands.now NextPart) NextPart)) }
+    ensures shown { IfOk result (λ n. n ≡ shown_behind part shown
+        (told_line p.now names.now part number machine.old.core stands.now
+        (seen_by p.now machine.old.core [] stands.now NextPart) NextPart)) }
 {
-    let written = write_part(text, alloc, form, number, parts_begun(machine));
+    if !is_shown(part, shown, number) {
+        machine.next(p);
+        return Ok(shown);
+    }
+    write_standings_due(text, alloc, part, shown, machine, stands, p, names, number)?;
+    write_part(text, alloc, part.form, number, parts_begun(machine))?;
     machine.next(p);
-    written
+    Ok(shown + 1)
 }

@@ -4,7 +4,7 @@ ghost use Rattle.std.specs.Prelude.{◌≡◌, ◌<◌, ◌++◌, ◌∷◌, [],
 ghost use Rattle.std.specs.List.{flat_map};
 ghost use Rattle.tellings.specs.Forms.{object_of};
 ghost use Rattle.run_trace.specs.ReportJson.{count_facts, its_end, print_object, report_in};
-ghost use Rattle.run_trace.specs.ReportJson.{report_objects, thread_facts, thread_objects};
+ghost use Rattle.run_trace.specs.ReportJson.{report_objects, thread_report_facts, thread_objects};
 
 use event_texts::add_end_text;
 use json_lines::Form;
@@ -65,12 +65,12 @@ fn add_counts(facts: &mut Rows<Fact>, counts: Counts) -> Result<(), AllocError>
     add_count(facts, Key::Inflated, u64::from(counts.inflated))
 }
 
-fn thread_facts(
+fn thread_report_facts(
     alloc: Global,
     thread: usize,
     report: &ThreadReport,
 ) -> Result<Rows<Fact>, AllocError>
-    ensures { IfOk result (λ facts. facts ≡ thread_facts thread report.now) }
+    ensures { IfOk result (λ facts. facts ≡ thread_report_facts thread report.now) }
 {
     let mut facts = Rows::new(alloc);
     add_count(&mut facts, Key::Thread, thread as u64)?;
@@ -86,9 +86,9 @@ fn write_thread(
     report: &ThreadReport,
 ) -> Result<(), AllocError>
     ensures { OnOk result (out.new.items
-        ≡ out.old.items ++ object_of (codes "thread") (thread_facts thread report.now)) }
+        ≡ out.old.items ++ object_of (codes "thread") (thread_report_facts thread report.now)) }
 {
-    let facts = thread_facts(alloc, thread, report)?;
+    let facts = thread_report_facts(alloc, thread, report)?;
     write_object(out, alloc, "thread", facts.as_slice())
 }
 

@@ -1,6 +1,7 @@
 //! The trace of a run.
 
 ghost use Rattle.std.specs.Prelude.{◌≡◌, ◌<◌, ◌≤◌, true, length, replicate, [], Err, IfOk, OnErr};
+ghost use Rattle.std.specs.Prelude.{OnOk};
 ghost use Rattle.machine_types.specs.Core.{Of, NextPart, lives};
 ghost use Rattle.machine_types.specs.Schedules.{First, turn_at};
 ghost use Rattle.machine_types.specs.Settings.{AreSettings};
@@ -12,7 +13,7 @@ ghost use Rattle.run_trace.specs.Traces.{IsHappeningTold, IsTracedBehind};
 ghost use Rattle.run_trace.specs.declared.traces.TraceError.TheVariants.{Memory};
 ghost use Rattle.run_trace.specs.Turns.{IsNoEvent, next_ahead, parts_ahead, stage_of};
 
-use crate::events::{Part, make_event, make_part, told_of};
+use crate::events::{Part, make_event, make_part};
 use crate::report_json::report_of;
 use crate::stands::{Stand, no_stands};
 use crate::turns::{Next, Progress, next_turn};
@@ -42,8 +43,10 @@ pub enum TraceError {
 #[derive(Drop)]
 pub struct Tracing {
     machine: Machine,
-    /// The number of the next line.
+    /// The number of the next event.
     number: u64,
+    /// How many lines are shown.
+    shown: u64,
     /// How many steps of the plain machine each thread owes of its open attempt.
     owed: Rows<u64>,
     /// Where each thread made its last instruction.
@@ -81,13 +84,14 @@ fn start(alloc: Global, p: &Checked, cfg: &Config) -> Result<Tracing, TraceError
     Ok(Tracing {
         machine,
         number: 1,
+        shown: 0,
         owed,
         stands,
         ends: Vec::new(alloc),
     })
 }
 
-/// The number of the line behind one; it stands still at its end.
+/// The number of the event behind one; it stands still at its end.
 fn next_number(number: u64) -> u64
     ensures { result ≡ next_line_number number }
 {
@@ -105,7 +109,7 @@ fn write_text<K: Sink>(sink: &mut K, text: &[u8]) -> Result<(), TraceError>
     }
 }
 
-/// Makes the next event of a live thread, and writes its line.
+/// Makes the next event of a live thread, and writes its line, where one is shown.
 fn tell_event<K: Sink>(
     alloc: Global,
     trace: &mut Tracing,
@@ -119,7 +123,7 @@ fn tell_event<K: Sink>(
     requires live { lives trace.old.machine.core t ≡ true }
     ensures told { IsHappeningTold p.now names.now part (Of t) trace.old trace.new (K.text sink.old)
         (K.text sink.new) (K.faults sink.old) (K.faults sink.new) result }
-    ensures less { all_work trace.new.machine.core < all_work trace.old.machine.core }
+    ensures less { OnOk result (all_work trace.new.machine.core < all_work trace.old.machine.core) }
 {
     let mut text = Vec::new(alloc);
     let number = trace.number;
@@ -127,7 +131,8 @@ fn tell_event<K: Sink>(
         &mut text,
         &mut trace.ends,
         alloc,
-        part.form,
+        part,
+        trace.shown,
         &mut trace.machine,
         &mut trace.owed,
         &mut trace.stands,
@@ -136,14 +141,17 @@ fn tell_event<K: Sink>(
         number,
         t,
     );
-    trace.number = next_number(number);
     match made {
-        Ok(()) => write_text(sink, told_of(part, number, text.as_slice())),
+        Ok(shown) => {
+            trace.number = next_number(number);
+            trace.shown = shown;
+            write_text(sink, text.as_slice())
+        }
         Err(AllocError) => Err(TraceError::Memory),
     }
 }
 
-/// Begins the next part where it may begin, and writes its line.
+/// Begins the next part where it may begin, and writes its line, where it is shown.
 fn tell_part<K: Sink>(
     alloc: Global,
     trace: &mut Tracing,
@@ -156,13 +164,25 @@ fn tell_part<K: Sink>(
     ensures told { IsHappeningTold p.now names.now part NextPart trace.old trace.new
         (K.text sink.old) (K.text sink.new) (K.faults sink.old) (K.faults sink.new) result }
 {
-    let _ = names;
     let mut text = Vec::new(alloc);
     let number = trace.number;
-    let made = make_part(&mut text, alloc, part.form, &mut trace.machine, p, number);
-    trace.number = next_number(number);
+    let made = make_part(
+        &mut text,
+        alloc,
+        part,
+        trace.shown,
+        &mut trace.machine,
+        &trace.stands,
+        p,
+        names,
+        number,
+    );
     match made {
-        Ok(()) => write_text(sink, told_of(part, number, text.as_slice())),
+        Ok(shown) => {
+            trace.number = next_number(number);
+            trace.shown = shown;
+            write_text(sink, text.as_slice())
+        }
         Err(AllocError) => Err(TraceError::Memory),
     }
 }
@@ -290,11 +310,15 @@ fn tell_run<K: Sink>(
 
 /// Runs a program to its end as `replay` does, by an order of steps in which each byte is the
 /// number of the worker that has the next event, and writes to the sink a line for each event of
-/// the run in order, or for those of a part, as the run goes: its number; the thread, and the
+/// the run in order, or for those of a part, as the run goes. Of failed turns in a row of a thread,
+/// which change nothing but their count, the first alone has a line where `part` folds them, and
+/// the next line of the thread says how many were left out. Before a part that need not begin with
+/// the first event stands a line of each thread that has begun: how it stands before the first
+/// line. A line of an event has its number; the thread, and the
 /// attempt that it is in; the class, method and pc where the thread stands, with the mnemonic; what
 /// it does in words, where that is no instruction; the word that it accesses, with what it found
 /// and left there; where an attempt begins, fails or finishes, a lock is taken or made fat, and how
-/// the thread comes to its end; and the steps of the plain machine that it stands for. Behind them
+/// the thread comes to its end; and the steps of the plain machine that it stands for. Behind all
 /// stands a line for each end that is no return, and the report of the run. Each is a line of
 /// words, or as JSON one object on a line, made of the same facts (`key_row` of `tellings` has the
 /// members). Objects begin with one of `begin`, the facts of what the run was asked by. `names` has
