@@ -6,7 +6,7 @@ _solero() {
         --steps --turns --prints --heap --elide --range --what --page --tries --proved
         --checked --help --version'
     local explain='--threads --order --steps --turns --prints --heap --elide --range --what --from
-        --events --page --commit --json --proved --checked --help --version'
+        --events --fold --page --commit --json --proved --checked --help --version'
     [[ " ${COMP_WORDS[*]} " != *" --what"* ]] || program=explain
     case $program:$before in
         solero:--mode) values='replay run mark list asm record load cell' ;;
@@ -37,6 +37,7 @@ _solero() {
         explain:--what) values='run marks refusal' ;;
         explain:--from) values='' ;;
         explain:--events) values='' ;;
+        explain:--fold) values='on off' ;;
         explain:--commit) values='' ;;
         *)
             if [[ $word != -* ]]; then

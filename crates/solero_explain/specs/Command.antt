@@ -1,6 +1,6 @@
 -- What the words of `solero_explain` mean: those of a run, which `solero` has too, with what is to
 -- be explained, and in which form.
-use Rattle.std.specs.Prelude.{ℕ, List, [], ◌∷◌, length, codes, bytes_eq, Option, Some, None}
+use Rattle.std.specs.Prelude.{ℕ, Bool, List, [], ◌∷◌, length, codes, bytes_eq, Option, Some, None}
 use Rattle.std.specs.Prelude.{if◌then◌else◌}
 use Rattle.clap.specs.Walk.{Row, Text, first_of}
 use Rattle.clap.specs.Simple.{App, new_rule, with_rule}
@@ -9,7 +9,7 @@ use Rattle.jvm_types.specs.declared.limits.TheConstants.{MOST_LIMIT}
 use Rattle.run_trace.specs.declared.events.Part.{Part}
 use Rattle.machine_types.specs.declared.config.Config.{Config}
 use Rattle.command_words.specs.RunValues.{are_few, heap_of, order_of, settings_of, threads_of}
-use Rattle.command_words.specs.Values.{◌>>=◌, number_or}
+use Rattle.command_words.specs.Values.{◌>>=◌, number_or, on_or_off}
 use Rattle.command_words.specs.Words.{command_of, found_in_words, gives_any, names_of}
 use Rattle.json_lines.specs.declared.form.Form.{Form}
 use Rattle.json_lines.specs.declared.form.Form.TheVariants.{Lines, Json}
@@ -28,7 +28,7 @@ abbrev pub explain_app : App
 explain_app = with_flag (command_of (codes "solero_explain")
     (codes "what" ∷ codes "threads" ∷ codes "order" ∷ codes "steps" ∷ codes "turns" ∷ codes "heap"
     ∷ codes "prints" ∷ codes "elide" ∷ codes "range" ∷ codes "from" ∷ codes "events"
-    ∷ codes "commit" ∷ []))
+    ∷ codes "fold" ∷ codes "commit" ∷ []))
     (codes "json")
 
 -- ---- values
@@ -40,15 +40,17 @@ what_of (Some text) =
     if bytes_eq text (codes "refusal") then Some Refusal else if bytes_eq text (codes "marks")
     then Some Marks else if bytes_eq text (codes "run") then Some Run else None
 
--- an order, a part of the lines and a commit are read with a run alone
+-- an order, a part of the lines, whether turns are folded and a commit are read with a run alone
 abbrev pub not_read_with : What → List Text
 not_read_with Run = []
 not_read_with what =
-    codes "order" ∷ codes "from" ∷ codes "events" ∷ codes "commit" ∷ []
+    codes "order" ∷ codes "from" ∷ codes "events" ∷ codes "fold" ∷ codes "commit" ∷ []
 
--- the lines of a run from a number on, so many at most, in that form
-abbrev pub part_asked : (from events : ℕ) → Form → Part
-part_asked from events form = record { from = from; count = events; form = form }
+-- the lines of a run from a number on, so many at most, with failed turns folded or not, in that
+-- form
+abbrev pub part_asked : (from events : ℕ) → (folds : Bool) → Form → Part
+part_asked from events folds form =
+    record { from = from; count = events; folds = folds; form = form }
 
 -- clap says of a flag whether it is given
 abbrev pub form_asked : Option Text → Form
@@ -82,6 +84,7 @@ question words rows = do
   order ← order_of rows
   from ← number_or 1 1 MOST_LIMIT (first_of (codes "from") rows)
   events ← number_or MOST_LIMIT 1 MOST_LIMIT (first_of (codes "events") rows)
+  folds ← on_or_off (first_of (codes "fold") rows)
   if gives_any rows (not_read_with what) then None
       else Some (record {
         what = what;
@@ -92,7 +95,7 @@ question words rows = do
         cfg = cfg;
         order = order;
         begin = begin_of words files rows;
-        part = part_asked from events (form_asked (first_of (codes "json") rows));
+        part = part_asked from events folds (form_asked (first_of (codes "json") rows));
       })
 
 -- what the words ask for; None where they are not read

@@ -15,16 +15,16 @@ use crate::request::{Request, What};
 use clap::{Arg, ArgAction, ArgMatches, Command};
 use command_words::found_words::{found_in, gives_any, names, owned, simple_command, value};
 use command_words::run_values::{are_few, heap, order, settings, threads};
-use command_words::values::{Numbers, number_or};
+use command_words::values::{Numbers, number_or, on_or_off};
 use json_lines::Form;
 use jvm_types::limits::MOST_LIMIT;
 use run_trace::Part;
 use std::alloc::{AllocError, Global};
 
 // The options, each with one value.
-const OPTIONS: [&str; 12] = [
+const OPTIONS: [&str; 13] = [
     "what", "threads", "order", "steps", "turns", "heap", "prints", "elide", "range", "from",
-    "events", "commit",
+    "events", "fold", "commit",
 ];
 
 const FROM: Numbers = Numbers {
@@ -74,7 +74,9 @@ fn gives_unread(matches: &ArgMatches<'_>, what: What) -> bool
 {
     match what {
         What::Run => gives_any(matches, &[]),
-        What::Refusal | What::Marks => gives_any(matches, &["order", "from", "events", "commit"]),
+        What::Refusal | What::Marks => {
+            gives_any(matches, &["order", "from", "events", "fold", "commit"])
+        }
     }
 }
 
@@ -137,6 +139,9 @@ fn request(
     let Some(events) = number_or(EVENTS, value(matches, "events")) else {
         return Ok(None);
     };
+    let Some(folds) = on_or_off(value(matches, "fold")) else {
+        return Ok(None);
+    };
     if gives_unread(matches, what) {
         return Ok(None);
     }
@@ -155,6 +160,7 @@ fn request(
         part: Part {
             from: u64::from(from),
             count: u64::from(events),
+            folds,
             form,
         },
     }))
