@@ -195,6 +195,9 @@ Marks.printsOnKey()I block 6 M8
 # Thread 1 enters its section without the lock, reads the first of two fields, and finds at the end that
 # thread 2 set both: the lines from 23 on, and the report.
 TORN = """\
+before 23: thread 0 Q.init()V at 10 return, ended: returned
+before 23: thread 1 Q.sum()I at 3 monitorenter
+before 23: thread 2, begins its next method
 23 thread 1 Q.sum()I at 3 monitorenter
 24 thread 1 Q.sum()I at 3 monitorenter, enters 2071, section Q.sum()I block 3 M0, lock word of 2071 Free(0), attempt 1 begins by Free(0), plain: none
 25 thread 1 in attempt 1 Q.sum()I at 4 aload, top @2071, 1 owed
@@ -249,9 +252,12 @@ counts 2 instructions 14 elided 0 failed 0 locked 1 inflated 0
 """
 # Thread 2 takes the lock, and thread 1 makes all its turns for it: the lines from 34 on.
 HELD = """\
+before 34: thread 0 Q.init()V at 10 return, ended: returned
+before 34: thread 1 Q.sum()I at 3 monitorenter, looks at the lock of 2071
+before 34: thread 2 Q.set(I)V at 0 aload
 34 thread 1 Q.sum()I at 3 monitorenter, looks at the lock of 2071, lock word of 2071 Held(2), plain: none
-35 thread 1 Q.sum()I at 3 monitorenter, looks at the lock of 2071, lock word of 2071 Held(2), plain: none
-36 thread 1 Q.sum()I at 3 monitorenter, looks at the lock of 2071, lock word of 2071 Held(2), comes to its end: turns, plain: none
+36 thread 1 Q.sum()I at 3 monitorenter, looks at the lock of 2071, behind 1 failed turns, lock word of 2071 Held(2), comes to its end: turns, plain: none
+37 thread 1 Q.sum()I at 3 monitorenter, ends: turns, plain: none
 turns: 36 thread 1 Q.sum()I at 3 monitorenter, looks at the lock of 2071, held by thread 2
 init returned
 thread 1 turns

@@ -13,7 +13,8 @@ class Shown:
     """A run as the second program tells it: its objects, and the lines of its events."""
 
     def __init__(self, program, words):
-        """The words ask for a run, as lines. What is no run has no lines."""
+        """The words ask for a run, as lines, and each event has one. What is no run has no lines."""
+        words = words.put("--fold", "off")
         self.status, self.objects = call(program, words.with_json())
         _, lines = call(program, words) if self.status >= 0 else (None, "")
         self.lines = [line for line in lines.splitlines(True) if is_of_event(line)]

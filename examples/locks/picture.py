@@ -24,10 +24,16 @@ def monitor_of(told):
     return str(told["monitor"]) if "monitor" in told else ""
 
 
+def verb_of(told):
+    if "throws" in told:
+        return f"throws {told['throws']}"
+    return f"ends: {told['ends']}" if "ends" in told else told.get("does")
+
+
 def does_of(told):
     """What an event does, in words."""
     woken = f"thread {told['woken']} from" if "woken" in told else ""
-    return " ".join(filter(None, (told.get("does"), woken, monitor_of(told), told.get("made"))))
+    return " ".join(filter(None, (verb_of(told), woken, monitor_of(told), told.get("made"))))
 
 
 def word_of(access):
@@ -50,7 +56,7 @@ class Event:
     def __init__(self, told):
         self.told = told
         self.thread, self.number = told["thread"], told["number"]
-        self.verb, self.monitor, self.does = told.get("does"), monitor_of(told), does_of(told)
+        self.verb, self.monitor, self.does = verb_of(told), monitor_of(told), does_of(told)
         access = told.get("access", {})
         self.word, self.writes = word_of(access) if access else None, "left" in access
 

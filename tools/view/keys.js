@@ -8,8 +8,14 @@ const Keys = (() => {
     return "monitor" in o ? String(o.monitor) : undefined;
   }
 
+  // In words, where the event is no instruction.
+  function saidOf(o) {
+    if ("throws" in o) return `throws ${o.throws}`;
+    return "ends" in o ? `ends: ${o.ends}` : o.does || "";
+  }
+
   // What is done, to which monitor, and who is woken.
-  const doingOf = (o) => ({does: o.does || "", monitor: monitorOf(o), woken: o.woken});
+  const doingOf = (o) => ({does: saidOf(o), monitor: monitorOf(o), woken: o.woken});
 
   // What a word belongs to, which word of that it is, and the class that its object then has.
   function placeOf(a) {
@@ -47,13 +53,12 @@ const Keys = (() => {
     const number = o.number;
     if (o.what === "part") return {number, thread: -1, part: o.begins, does: "", acts: []};
     const fate = ["begins", "fails", "finishes"].find((each) => `attempt_${each}` in o);
-    const ends = /^ends: (.*)/.exec(o.does || "");
     return {number, thread: o.thread, ...doingOf(o), spot: spotOf(o),
       inAttempt: o.in_attempt, fate, attempt: fate && o[`attempt_${fate}`], noted: o.noted,
       access: o.access && accessOf(o.access), prints: o.prints,
       begins: o.begins && `${o.begins.class}.${o.begins.method}`,
-      end: o.comes_to_its_end || (ends ? ends[1] : undefined),
-      isLast: Boolean(ends), acts: o.plain || [], between: o.between, owed: o.owed};
+      throws: "throws" in o, end: o.comes_to_its_end || o.ends,
+      isLast: "ends" in o, acts: o.plain || [], between: o.between, owed: o.owed};
   }
 
   // An end that is no return, and the event by which it came.

@@ -24,7 +24,7 @@ const Model = (() => {
     if (s.end && s.end !== "returned") return "stop";
     if (s.isLast) return "end";
     if (s.acts.includes("begin")) return s.thread ? "local" : "begin";
-    if (s.does.startsWith("throws ")) return "throw";
+    if (s.throws) return "throw";
     if (s.does === "looks at the lock of") return "turn";
     if (TRIES.test(s.does) && s.stores && !s.writes) return "turn";
     if (s.does === "waits on") return Keys.isAmong(s.thread, s.found) ? "turn" : "lock";
