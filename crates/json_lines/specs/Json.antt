@@ -1,7 +1,7 @@
 -- Texts and numbers as JSON (RFC 8259), written in ASCII alone, so that a line can be kept and sent
 -- in any encoding.
 use Rattle.std.specs.Prelude.{ℕ, ◌+◌, ◌-◌, ◌*◌, ◌/◌, ◌%◌, ◌==◌, nat_lt, nat_le, Bool, ◌&&◌, ◌||◌}
-use Rattle.std.specs.Prelude.{List, [], ◌∷◌, ◌++◌, codes, if◌then◌else◌}
+use Rattle.std.specs.Prelude.{List, [], ◌∷◌, ◌++◌, if◌then◌else◌}
 use Rattle.std.specs.Fmt.{decimal}
 use Rattle.json_lines.specs.declared.characters.Character.{Character}
 
@@ -102,11 +102,3 @@ text_member key value = json_text key ++ 58 ∷ json_text value
 
 abbrev pub number_member : (key : List ℕ) → ℕ → List ℕ
 number_member key n = json_text key ++ 58 ∷ decimal n
-
--- ---- members behind others
-
-unfoldable pub text_behind : (key value : List ℕ) → List ℕ
-text_behind key value = codes "," ++ text_member key value
-
-unfoldable pub number_behind : (key : List ℕ) → ℕ → List ℕ
-number_behind key n = codes "," ++ number_member key n

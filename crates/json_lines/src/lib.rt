@@ -6,7 +6,4 @@ pub mod form;
 pub mod members;
 
 pub use form::Form;
-pub use members::{
-    write_json_number, write_json_text, write_number_behind, write_number_member,
-    write_text_behind, write_text_member,
-};
+pub use members::{write_json_number, write_json_text, write_number_member, write_text_member};

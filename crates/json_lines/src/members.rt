@@ -4,8 +4,8 @@ ghost use Rattle.std.specs.Prelude.{◌≡◌, ◌<◌, ◌≤◌, ◌++◌, dro
 ghost use Rattle.std.specs.Fmt.{decimal};
 ghost use Rattle.json_lines.specs.Json.{skip_behind, character as the_character, character_shown};
 ghost use Rattle.json_lines.specs.Json.{hex_digit as the_digit, unit_text, pair_text};
-ghost use Rattle.json_lines.specs.Json.{character_text, escaped, json_text, text_member};
-ghost use Rattle.json_lines.specs.Json.{number_member, text_behind, number_behind};
+ghost use Rattle.json_lines.specs.Json.{character_text, escaped, json_text, number_member};
+ghost use Rattle.json_lines.specs.Json.{text_member};
 
 use crate::characters::{UNKNOWN, front_character};
 use std::alloc::{AllocError, Global};
@@ -129,27 +129,4 @@ pub fn write_number_member(
     write_json_text(out, key.as_bytes())?;
     out.push(b':')?;
     write_json_number(out, alloc, n)
-}
-
-/// A member behind others whose value is a string: `,"KEY":"VALUE"`.
-#[tactic(auto, unfolding(crate::specs::Json::text_behind))]
-pub fn write_text_behind(out: &mut Vec<u8>, key: &str, value: &[u8]) -> Result<(), AllocError>
-    ensures { OnOk result (out.new.items ≡ out.old.items ++ text_behind key.now value.now) }
-{
-    out.extend_from_slice(b",")?;
-    write_text_member(out, key, value)
-}
-
-/// A member behind others whose value is a number: `,"KEY":N`.
-#[tactic(auto, unfolding(crate::specs::Json::number_behind))]
-pub fn write_number_behind(
-    out: &mut Vec<u8>,
-    alloc: Global,
-    key: &str,
-    n: u64,
-) -> Result<(), AllocError>
-    ensures { OnOk result (out.new.items ≡ out.old.items ++ number_behind key.now n) }
-{
-    out.extend_from_slice(b",")?;
-    write_number_member(out, alloc, key, n)
 }
