@@ -1,0 +1,2 @@
+pub mod GraphLaws
+pub mod SearchLaws
