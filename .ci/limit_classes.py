@@ -1,5 +1,7 @@
 """Class files that come up to a limit, for `.ci/limits` and `.ci/explained`."""
-from class_builder import OBJECT, STATIC, SYNCHRONIZED, Blocks, ClassFile, Code, opcodes, u1, u2, u4
+from class_builder import (
+    OBJECT, STATIC, SYNCHRONIZED, Blocks, ClassFile, Code, handler_row, opcodes, u1, u2, u4,
+)
 from worked import worked
 
 PRIVATE = 2
@@ -8,6 +10,7 @@ ILOAD_0, ILOAD_1, ISTORE_0, ISTORE_1 = opcodes("iload_0 iload_1 istore_0 istore_
 ALOAD_0, ASTORE, IINC, IALOAD = opcodes("aload_0 astore iinc iaload")
 IFEQ, IFNE, IF_ICMPNE, GOTO = opcodes("ifeq ifne if_icmpne goto")
 GETFIELD, PUTFIELD, NEWARRAY, VIRTUAL = opcodes("getfield putfield newarray invokevirtual")
+(MONITORENTER,) = opcodes("monitorenter")
 IRETURN, RETURN, ATHROW = opcodes("ireturn return athrow")
 
 
@@ -212,6 +215,38 @@ def nested_on_this(depth):
     code.new("A")
     code.put(VIRTUAL, u2(file.member(10, "A", "nest", "()V")), RETURN)
     return code.method()
+
+
+def deep_blocks(blocks, throwing, plain):
+    """A method that enters its own object so many times, then makes reads that can throw and
+    instructions that cannot, and does not end. The first handler of each entry, and of the reads,
+    does not end either."""
+    file = ClassFile("A")
+    file.field(0, "x", "I")
+    read = ALOAD_0 + GETFIELD + u2(file.member(9, "A", "x", "I"))
+    code = (ALOAD_0 + MONITORENTER) * blocks
+    start = len(code)
+    code += (read + POP) * throwing + NOP * plain
+    end = len(code)
+    forever = GOTO + u2(0)
+    code += forever
+    rows = []
+    for entry in range(1, blocks):
+        rows.append(handler_row(2 * entry + 1, 2 * entry + 2, len(code)))
+        code += forever
+    rows.append(handler_row(start, end, len(code)))
+    file.method(0, "m", "()V", code + forever, 2, 1, rows)
+    file.method(STATIC, "init", "()V", RETURN, 0, 0)
+    return file.content()
+
+
+def plain_code(size):
+    """A class of so many bytes that pushes and drops constants."""
+    file = ClassFile("A")
+    file.method(STATIC, "init", "()V", RETURN, 0, 0)
+    pairs = (size - len(file.content()) - 40) // 2
+    file.method(STATIC, "m", "()V", (ICONST_0 + POP) * pairs + RETURN)
+    return file.content()
 
 
 def held_in_frames(frames, depth):

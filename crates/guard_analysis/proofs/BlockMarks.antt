@@ -1,5 +1,5 @@
 -- What a walk finds are the own instructions of a block, and so its mark is the one that a block has.
-use Rattle.std.proofs.Common.{◌≡◌, ℕ, ◌<◌, Bool, true, false, ◌||◌, cond, List, [], ◌∷◌, ◌++◌, length, map, Option, Some, None, refl, sym, ap, subst, ◌∙◌, arith, ⊎_elim, inl, inr, ◌⊎◌, ◌==◌, nat_lt, if◌then◌else◌, slice_get, slice_index, slice_index_or, IsSomeAnd}
+use Rattle.std.proofs.Common.{◌≡◌, ℕ, ◌<◌, Bool, true, false, cond, List, [], ◌∷◌, ◌++◌, length, map, Option, Some, None, refl, sym, ap, subst, ◌∙◌, arith, ⊎_elim, inl, inr, ◌⊎◌, ◌==◌, if◌then◌else◌, slice_get, slice_index, slice_index_or, IsSomeAnd}
 use Rattle.std.{specs.List.{list_any, filter, filter_map, cons_option}, proofs.lemmas.{Bool.{eq-eqb, lt-ltb, eqb-true, or_right, or_cases, Decides.nat_tests}, Option.{slice_get_within, same_Some}}}
 use Rattle.jvm_types.specs.{CodeTable.can_throw, Numbers.has_number, ProgramInvariant.IsProgram, Verifying.{edges, covers, covering, IsLaidOut}, declared.code.Insn.Insn}
 use Rattle.jvm_types.specs.declared.program.{MethodInfo.MethodInfo, Program.Program, Row.Row, Target.Target}
@@ -12,22 +12,22 @@ use Rattle.checked_program.specs.declared.{section.{Mode.TheVariants.OnThis, Spo
 use Rattle.frozen_classes.proofs.KeptInside.{stands_to}
 use Rattle.guard_analysis.specs.BlockWalks.{handler_pcs, catch_pcs, way_pcs, ways_from, ways_at, deep_at, is_deep, IsPathInBlock, IsInside}
 use Rattle.guard_analysis.{specs.SectionGrades.{depth_on_this, entry_depth_at, AreGrades, IsBlockMark, section_in}, proofs.CallEdges.{with_tags, frames_there}}
-use Rattle.guard_analysis.proofs.SectionMarks.{has_earliest, has_elsewhere}
+use Rattle.guard_analysis.proofs.SectionMarks.{has_first, has_elsewhere}
 use Rattle.jvm_types.specs.declared.code.Op.TheVariants as ops
 
 -- ---- lists
 
-in_append : (x : ℕ) (xs ys : List ℕ) → IsIn x (xs ++ ys) → IsIn x xs ⊎ IsIn x ys
+pub in_append : (x : ℕ) (xs ys : List ℕ) → IsIn x (xs ++ ys) → IsIn x xs ⊎ IsIn x ys
 in_append x [] ys i = inr i
 in_append x (y ∷ xs) ys (inl e) = inl (inl e)
 in_append x (y ∷ xs) ys (inr i) = ⊎_elim (λ k. inl (inr k)) (λ k. inr k) (in_append x xs ys i)
 
-in_left : (x : ℕ) (xs ys : List ℕ) → IsIn x xs → IsIn x (xs ++ ys)
+pub in_left : (x : ℕ) (xs ys : List ℕ) → IsIn x xs → IsIn x (xs ++ ys)
 in_left x [] ys i = absurd i
 in_left x (y ∷ xs) ys (inl e) = inl e
 in_left x (y ∷ xs) ys (inr i) = inr (in_left x xs ys i)
 
-in_right : (x : ℕ) (xs ys : List ℕ) → IsIn x ys → IsIn x (xs ++ ys)
+pub in_right : (x : ℕ) (xs ys : List ℕ) → IsIn x ys → IsIn x (xs ++ ys)
 in_right x [] ys i = i
 in_right x (y ∷ xs) ys i = inr (in_right x xs ys i)
 
@@ -36,7 +36,7 @@ mapped_first f x xs j None e k more = let r = more k in (r.0, inr r.1, r.2)
 mapped_first f x xs j (Some n) e (inl q) more = (x, inl refl, e ∙ ap Some q)
 mapped_first f x xs j (Some n) e (inr k) more = let r = more k in (r.0, inr r.1, r.2)
 
-in_mapped : (f : ℕ → Option ℕ) (xs : List ℕ) (j : ℕ) → IsIn j (filter_map f xs) → (x : ℕ) × (IsIn x xs) × (f x ≡ Some j)
+pub in_mapped : (f : ℕ → Option ℕ) (xs : List ℕ) (j : ℕ) → IsIn j (filter_map f xs) → (x : ℕ) × (IsIn x xs) × (f x ≡ Some j)
 in_mapped f [] j i = absurd i
 in_mapped f (x ∷ xs) j i = mapped_first f x xs j (f x) refl i (λ k. in_mapped f xs j k)
 
@@ -44,7 +44,7 @@ cons_in : (o : Option ℕ) (ys : List ℕ) (j : ℕ) → IsIn j ys → IsIn j (c
 cons_in None ys j i = i
 cons_in (Some n) ys j i = inr i
 
-mapped_in : (f : ℕ → Option ℕ) (xs : List ℕ) (x j : ℕ) → IsIn x xs → f x ≡ Some j → IsIn j (filter_map f xs)
+pub mapped_in : (f : ℕ → Option ℕ) (xs : List ℕ) (x j : ℕ) → IsIn x xs → f x ≡ Some j → IsIn j (filter_map f xs)
 mapped_in f [] x j i e = absurd i
 mapped_in f (y ∷ xs) x j (inl q) e = let here : f y ≡ Some j = ap f q ∙ e in subst (λ o. IsIn j (cons_option o (filter_map f xs))) (sym here) (inl refl)
 mapped_in f (y ∷ xs) x j (inr i) e = cons_in (f y) (filter_map f xs) j (mapped_in f xs x j i e)
@@ -252,11 +252,11 @@ module _ (p : Program) (tags : List Tags) (is : IsProgram p) (mi : ℕ) (m : Met
           let x = entry_parts (slice_get m.code enter) (slice_get m.targets enter) (slice_get t.frames enter) depth e in
           let same : x.0 ≡ insn = same_Some x.0 insn (sym x.3 ∙ at_insn) in
           let at : IsAt p (tagged_by tags) mi enter m insn x.1 x.2 = stands enter insn x.1 x.2 at_insn x.4 x.5 in
-          subst (λ k. HasMark p (tagged_by tags) uses (section_in mi (Block insn.pc)) k) (sym b.3)
-          (has_earliest p (tagged_by tags) uses (section_in mi (Block insn.pc)) (on_this depth x.1 x.2 at x.6 x.7) (length b.0) (λ k. slice_index b.0 k) (λ k. slice_index grades (slice_index b.0 k))
-          (λ k l. are.each (slice_index b.0 k) (in_code depth x.1 x.2 at x.6 x.7 (slice_index b.0 k) (b.1 k l)))
-          (λ k l h. inside_own depth x.1 x.2 at x.6 x.7 (slice_index b.0 k) (b.1 k l))
-          (λ i o. b.2 i (own_inside depth x.1 x.2 at x.6 x.7 i o)))
+          has_first p (tagged_by tags) uses (section_in mi (Block insn.pc)) (on_this depth x.1 x.2 at x.6 x.7) (λ i. IsInside m t.frames depth enter i) (λ i. slice_index grades i)
+          (λ i s. are.each i (in_code depth x.1 x.2 at x.6 x.7 i s))
+          (λ i s h. inside_own depth x.1 x.2 at x.6 x.7 i s)
+          (λ i o. own_inside depth x.1 x.2 at x.6 x.7 i o)
+          n b
         where
           last_deep : (depth i : ℕ) (ks : List ℕ) (j : ℕ) → IsPathInBlock m t.frames depth i ks j → is_deep m t.frames depth j ≡ true
           last_deep depth i [] j s = subst (λ k. is_deep m t.frames depth k ≡ true) s.0 s.1

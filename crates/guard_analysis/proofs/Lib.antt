@@ -24,3 +24,5 @@ pub mod FieldsOut
 pub mod CheckedMethods
 pub mod OwnersFound
 pub mod ElementsFound
+mod BlockGraphs
+mod BlockReaches

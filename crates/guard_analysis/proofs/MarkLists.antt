@@ -4,16 +4,14 @@ use Rattle.std.{specs.{List.{AllZip, filter_map, cons_option}, Option.option_to_
 use Rattle.jvm_types.specs.{Members.is_synchronized, declared.{code.{Insn.Insn, Op.Op}, program.{MethodInfo.MethodInfo, Program.Program}}}
 use Rattle.checked_program.specs.{LockTags.TagShape, MarkedProgram.AreTaggings, Marks.IsMarkOf, Sections.{Section, block_at, spots_of, sections, sections_from}, TaggedCode.Tagged}
 use Rattle.checked_program.specs.declared.{section.{SectionMark.SectionMark, Spot.{Spot, TheVariants.{Method, Block}}, Uses.Uses}, tag.Tags.Tags}
-use Rattle.guard_analysis.specs.{BlockWalks.IsExplored, SectionGrades.{earliest_before, IsBlockMark, section_in, sections_at, whole_of, Continues, Marks, MarksUpTo}, declared.block_walk.Walk.Walk}
+use Rattle.guard_analysis.specs.{BlockWalks.IsInside, SectionGrades.{IsFirstOf, IsBlockMark, section_in, sections_at, whole_of, Continues, Marks, MarksUpTo}}
 use Rattle.guard_analysis.proofs.SectionMarks.{adds_one}
 use Rattle.jvm_types.specs.declared.code.Op.TheVariants as ops
 
 -- ---- one mark
 
-pub explored_mark : (m : MethodInfo) (frames : List (Option TagShape)) (depth stamp enter : ℕ) (w : Walk) (grades own : List ℕ) (n : ℕ) (o : Option ℕ) → IsExplored m frames depth stamp enter w → own ≡ w.own
-    → n ≡ earliest_before (λ t. slice_index grades (slice_index own t)) (length own) → Some depth ≡ o → IsBlockMark m frames grades enter o n
-explored_mark m frames depth stamp enter w grades own n o x e f g =
-    subst (λ d. IsBlockMark m frames grades enter d n) g (w.own, x.own, x.all, subst (λ l. n ≡ earliest_before (λ t. slice_index grades (slice_index l t)) (length l)) e f)
+pub first_mark : (m : MethodInfo) (frames : List (Option TagShape)) (depth enter : ℕ) (grades : List ℕ) (n : ℕ) (o : Option ℕ) → IsFirstOf (IsInside m frames depth enter) (λ i. slice_index grades i) n → Some depth ≡ o → IsBlockMark m frames grades enter o n
+first_mark m frames depth enter grades n o x g = subst (λ d. IsBlockMark m frames grades enter d n) g x
 
 module _ (p : Program) (tags : Tagged) (uses : Uses) (mi : ℕ) where
   pub marks_block : (o : Option Insn) (insn : Insn) (old new : List SectionMark) (n : ℕ) → o ≡ Some insn → insn.op ≡ ops.Monitorenter → new ≡ old ++ record { method = mi; spot = Block insn.pc; mark = n } ∷ []

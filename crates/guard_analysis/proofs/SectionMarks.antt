@@ -4,7 +4,7 @@ use Rattle.std.proofs.lemmas.{Bool.Decides.nat_tests, Option.{slice_get_within, 
 use Rattle.jvm_types.specs.declared.program.{MethodInfo.MethodInfo, Program.Program}
 use Rattle.checked_program.specs.{Marks.{Applies, elsewhere, itself, called, recurring, IsOnOwn, turn, HasMark, IsMarkOf}, Sections.{Section, mode_of_method, section_mode, IsOwn}}
 use Rattle.checked_program.specs.{TaggedCode.{Tagged, IsInstructionReached}, declared.section.{Mode.Mode, SectionMark.SectionMark, Spot.TheVariants.Method, Uses.Uses}}
-use Rattle.guard_analysis.{specs.SectionGrades.{earliest_before, Forbids, breaks, calls, recurs, IsGrade, AreGrades, section_in, Continues}, proofs.Earliest.{IsEarliest, earliest_is}}
+use Rattle.guard_analysis.{specs.SectionGrades.{earliest_before, Forbids, breaks, calls, recurs, IsGrade, AreGrades, IsFirstOf, section_in, Continues}, proofs.Earliest.{earliest_is}}
 use Rattle.guard_analysis.proofs.Grading.{forbids_low}
 
 -- ---- one section
@@ -34,32 +34,29 @@ module _ (p : Program) (tags : Tagged) (uses : Uses) (s : Section) where
   turn_is : (n : ℕ) → n ≤ 7 → turn n ≡ n
   turn_is n l = let test : (n == 8) ≡ false = grind (arith, nat_tests) in rw test refl
 
-  module _ (on : IsOnOwn p tags s.method s.spot) (k : ℕ) (index rule : ℕ → ℕ) (grades : (t : ℕ) → t < k → IsGrade p tags uses (section_mode p s) s.method (index t) (rule t)) (own : (t : ℕ) → t < k → 0 < rule t → IsOwn p tags s.method s.spot (index t))
-      (all : (i : ℕ) → IsOwn p tags s.method s.spot i → (t : ℕ) × (t < k) × (index t ≡ i)) where
-    least : (n x : ℕ) → IsEarliest rule k n → Applies p tags uses s x → (0 < n) × (n ≤ x) × (x ≤ 7)
+  module _ (on : IsOnOwn p tags s.method s.spot) (IsOne : ℕ → Type 0) (rule : ℕ → ℕ) (grades : (i : ℕ) → IsOne i → IsGrade p tags uses (section_mode p s) s.method i (rule i)) (own : (i : ℕ) → IsOne i → 0 < rule i → IsOwn p tags s.method s.spot i)
+      (all : (i : ℕ) → IsOwn p tags s.method s.spot i → IsOne i) where
+    least : (n x : ℕ) → IsFirstOf IsOne rule n → Applies p tags uses s x → (0 < n) × (n ≤ x) × (x ≤ 7)
     least n x e a =
         let f = forbids_of on x a in
-        let t = all f.0 f.1 in
-        let forbids : Forbids p tags uses (section_mode p s) s.method (index t.0) x = subst (λ i. Forbids p tags uses (section_mode p s) s.method i x) (sym t.2) f.2 in
-        let g = (grades t.0 t.1).first x forbids in
-        let r = e.first t.0 t.1 g.0 in
-        let under : n ≤ rule t.0 = r.1 in
-        let below : rule t.0 ≤ x = g.1 in
-        (r.0, omega (arith, under, below), (forbids_low p tags uses (section_mode p s) s.method (index t.0) x forbids).1)
+        let one = all f.0 f.1 in
+        let g = (grades f.0 one).first x f.2 in
+        let low : x ≤ 7 = (forbids_low p tags uses (section_mode p s) s.method f.0 x f.2).1 in
+        let below : rule f.0 ≤ x = g.1 in
+        let r = e.first f.0 one g.0 (omega (arith, below, low)) in
+        let under : n ≤ rule f.0 = r.1 in
+        (r.0, omega (arith, under, below), low)
 
-    has : (n : ℕ) → IsEarliest rule k n → HasMark p tags uses s n
-    has zero e = λ x a. let some : 0 < 0 = (least 0 x e a).0 in omega (arith, some)
-    has (suc n) e =
+    pub has_first : (n : ℕ) → IsFirstOf IsOne rule n → HasMark p tags uses s n
+    has_first zero e = λ x a. let some : 0 < 0 = (least 0 x e a).0 in omega (arith, some)
+    has_first (suc n) e =
         let t = e.some (omega arith) in
         let some : 0 < rule t.0 = omega (arith, t.2) in
-        let forbids : Forbids p tags uses (section_mode p s) s.method (index t.0) (suc n) = subst (λ x. Forbids p tags uses (section_mode p s) s.method (index t.0) x) t.2 ((grades t.0 t.1).forbids some) in
-        let low : suc n ≤ 7 = (forbids_low p tags uses (section_mode p s) s.method (index t.0) (suc n) forbids).1 in (
-          applies_of (index t.0) (suc n) (own t.0 t.1 some) forbids,
+        let forbids : Forbids p tags uses (section_mode p s) s.method t.0 (suc n) = subst (λ x. Forbids p tags uses (section_mode p s) s.method t.0 x) t.2 ((grades t.0 t.1).forbids some) in
+        let low : suc n ≤ 7 = (forbids_low p tags uses (section_mode p s) s.method t.0 (suc n) forbids).1 in (
+          applies_of t.0 (suc n) (own t.0 t.1 some) forbids,
           λ x l a. let r = least (suc n) x e a in let under : suc n ≤ x = r.1 in let small : x ≤ 7 = r.2 in omega (arith, l, under, turn_is (suc n) low, turn_is x small),
         )
-
-    pub has_earliest : HasMark p tags uses s (earliest_before rule k)
-    has_earliest = has (earliest_before rule k) (earliest_is rule k)
 
   -- a block that is not on this
   pub has_elsewhere : (IsOnOwn p tags s.method s.spot → ⊥) → HasMark p tags uses s 8
@@ -83,10 +80,12 @@ module _ (p : Program) (tags : Tagged) (uses : Uses) (mi : ℕ) (m : MethodInfo)
       record {
         method = refl;
         spot = refl;
-        mark_is = has_earliest p tags uses (section_in mi Method) tt (length grades) (λ i. i) (λ i. slice_index grades i)
+        mark_is = has_first p tags uses (section_in mi Method) tt (λ i. i < length grades) (λ i. slice_index grades i)
             (λ t l. are.each t (omega (arith, l, are.long)))
             (λ t l h. reached_of (section_mode p (section_in mi Method)) t (slice_index grades t) ((are.each t (omega (arith, l, are.long))).forbids h))
-            (λ i r. let low : i < length m.code = inside_of i r in (i, omega (arith, low, are.long), refl));
+            (λ i r. let low : i < length m.code = inside_of i r in omega (arith, low, are.long))
+            (earliest_before (λ i. slice_index grades i) (length grades))
+            (let first = earliest_is (λ i. slice_index grades i) (length grades) in record { some = first.some; first = λ t l h low. first.first t l h });
       }
 
 -- ---- marks one behind the other

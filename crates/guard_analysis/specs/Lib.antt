@@ -1,4 +1,5 @@
 pub mod ArrayFaults
+pub mod BlockReach
 pub mod BlockWalks
 pub mod CallGraph
 pub mod Faults

@@ -19,8 +19,7 @@ use Rattle.checked_program.specs.declared.section.Mode.{Mode}
 use Rattle.checked_program.specs.declared.section.Uses.{Uses}
 use Rattle.std.specs.List.{AllZip, filter_map}
 use Rattle.std.specs.Option.{option_to_list}
-use Rattle.guard_analysis.specs.BlockWalks.{Has, IsInside}
-use Rattle.guard_analysis.specs.declared.block_walk.Walk.{Walk}
+use Rattle.guard_analysis.specs.BlockWalks.{IsInside}
 use Rattle.guard_analysis.specs.Faults.{LeadsToBreak, LeadsToItself}
 
 -- of two rules the one that is tested first; 0 is none
@@ -66,24 +65,22 @@ section_in mi spot = record { method = mi; spot = spot }
 
 -- ---- blocks
 
+-- n is the first rule from 1 to 7 of some, or 0
+pub record IsFirstOf (IsOne : ℕ → Type 0) (rule : ℕ → ℕ) (n : ℕ) : Type 0 where
+  pub some : 0 < n → (i : ℕ) × (IsOne i) × (rule i ≡ n)
+  pub first : (i : ℕ) → IsOne i → 0 < rule i → rule i ≤ 7 → (0 < n) × (n ≤ rule i)
+
 -- what the block of a `monitorenter` has for its mark: 8 where it is not on this, else the first
 -- rule that forbids one of its own instructions
 abbrev pub IsBlockMark : MethodInfo → List (Option TagShape) → List ℕ → (enter : ℕ) → Option ℕ → ℕ
     → Type 0
 IsBlockMark m frames grades enter None n = n ≡ 8
 IsBlockMark m frames grades enter (Some depth) n =
-    (own : List ℕ) × ((t : ℕ) → t < length own → IsInside m frames depth enter (slice_index own t))
-    × ((i : ℕ) → IsInside m frames depth enter i → Has own i)
-    × (n ≡ earliest_before (λ t. slice_index grades (slice_index own t)) (length own))
+    IsFirstOf (IsInside m frames depth enter) (λ i. slice_index grades i) n
 
 abbrev pub entry_depth_at : MethodInfo → List (Option TagShape) → ℕ → Option ℕ
 entry_depth_at m frames i =
     depth_on_this (slice_get m.code i) (slice_get m.targets i) (slice_get frames i)
-
--- no walk has used a stamp above a number
-pub record IsFreshWalk (m : MethodInfo) (i : ℕ) (w : Walk) : Type 0 where
-  pub long : length w.seen ≡ length m.code
-  pub low : (j : ℕ) → slice_index w.seen j ≤ i
 
 -- ---- marks, section by section
 

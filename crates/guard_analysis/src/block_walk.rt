@@ -23,7 +23,7 @@ pub struct Walk {
 }
 
 /// Whether a handler row covers a pc (JVMS 2.10).
-fn covers(pc: u32, row: &Row) -> bool
+pub(crate) fn covers(pc: u32, row: &Row) -> bool
     ensures { result ≡ covers pc row.now }
 {
     row.start <= pc && pc < row.end

@@ -3,6 +3,7 @@
 
 pub mod array_faults;
 mod array_uses;
+mod block_reach;
 pub mod block_walk;
 pub mod call_graph;
 mod callees;

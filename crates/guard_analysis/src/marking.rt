@@ -17,13 +17,16 @@ ghost use Rattle.checked_program.specs.Marks.{AreMarks, IsMarkOf};
 ghost use Rattle.jvm_types.specs.Verifying.{IsLaidOut};
 ghost use Rattle.graph_closure.specs.LeastSet.{IsGraph};
 ghost use Rattle.guard_analysis.specs.CallGraph.{call_graph};
-ghost use Rattle.guard_analysis.specs.BlockWalks.{IsExplored};
+ghost use Rattle.guard_analysis.specs.BlockReach.{AreReaches};
+ghost use Rattle.guard_analysis.specs.BlockWalks.{IsInside};
+ghost use Rattle.std.specs.Option.{IfSome};
 ghost use Rattle.guard_analysis.specs.Faults.{AreCallees, FitsMethod, grades_before};
 ghost use Rattle.guard_analysis.specs.SectionGrades.{entry_depth_at, earlier, whole_of};
 ghost use Rattle.guard_analysis.specs.SectionGrades.{earliest_before, section_in, sections_at};
-ghost use Rattle.guard_analysis.specs.SectionGrades.{AreGrades, IsBlockMark, IsFreshWalk, Marks};
+ghost use Rattle.guard_analysis.specs.SectionGrades.{AreGrades, IsBlockMark, IsFirstOf, Marks};
 
-use crate::block_walk::{Walk, explore};
+use crate::block_reach::Reaches;
+use crate::block_walk::Walk;
 use crate::callees::Callees;
 use crate::faults::locks_class;
 use crate::readable::uses;
@@ -67,18 +70,6 @@ fn earliest(rules: &[u8]) -> u8
     first
 }
 
-/// The first of the rules of these instructions.
-fn earliest_of(rules: &[u8], own: &[usize]) -> u8
-    ensures { result
-        ≡ earliest_before (λ t. slice_index rules.now (slice_index own.now t)) (length own.now) }
-{
-    let mut first = 0;
-    for t in 0..own.len() {
-        first = earlier(first, rule_at(rules, own[t]));
-    }
-    first
-}
-
 /// How many monitors are held where a block would begin, where it would be on this.
 fn depth_of(frame: &TagFrame) -> Option<usize>
     ensures { result ≡ (if is_this (slice_index_or frame.now.stack 0 untagged) then Some
@@ -107,27 +98,63 @@ pub fn depth_at(m: &MethodInfo, tags: &Tags, i: usize) -> Option<usize>
     }
 }
 
+/// What the instructions of a method lead to, where that is not known yet.
+fn reaches_of(
+    alloc: Global,
+    known: Option<Reaches>,
+    m: &IndexedMethod<'_>,
+    tags: &Tags,
+    grades: &[u8],
+) -> Result<Reaches, AllocError>
+    requires { IfSome known (AreReaches m.now tags.now.frames grades.now) }
+    ensures { IfOk result (AreReaches m.now tags.now.frames grades.now) }
+{
+    match known {
+        Some(reaches) => Ok(reaches),
+        None => Reaches::of(alloc, m, tags, grades),
+    }
+}
+
+/// The mark of the block on this whose `monitorenter` has this number and stands where so many
+/// monitors are held.
+fn mark_inside(
+    alloc: Global,
+    known: &mut Option<Reaches>,
+    m: &IndexedMethod<'_>,
+    tags: &Tags,
+    grades: &[u8],
+    depth: usize,
+    i: usize,
+) -> Result<u8, AllocError>
+    requires known { IfSome known.old (AreReaches m.now tags.now.frames grades.now) }
+    ensures mark { IfOk result
+        (IsFirstOf (IsInside m.now tags.now.frames depth i) (λ t. slice_index grades.now t)) }
+    ensures known { OnOk result
+        (IfSome known.new (AreReaches m.now tags.now.frames grades.now)) }
+{
+    let reaches = reaches_of(alloc, known.take(), m, tags, grades)?;
+    let mark = reaches.first_rule(alloc, m, depth, i)?;
+    *known = Some(reaches);
+    Ok(mark)
+}
+
 /// The mark of the block whose `monitorenter` has this number.
 fn mark_block(
     alloc: Global,
-    walk: &mut Walk,
+    known: &mut Option<Reaches>,
     m: &IndexedMethod<'_>,
     tags: &Tags,
     grades: &[u8],
     i: usize,
-    stamp: usize,
 ) -> Result<u8, AllocError>
-    requires stamp { stamp ≡ i + 1 }
-    requires fresh { IsFreshWalk m.now i walk.old }
+    requires known { IfSome known.old (AreReaches m.now tags.now.frames grades.now) }
     ensures mark { IfOk result
         (IsBlockMark m.now tags.now.frames grades.now i (entry_depth_at m.now tags.now.frames i)) }
-    ensures fresh { OnOk result (IsFreshWalk m.now (i + 1) walk.new) }
+    ensures known { OnOk result
+        (IfSome known.new (AreReaches m.now tags.now.frames grades.now)) }
 {
     match depth_at(m.method(), tags, i) {
-        Some(depth) => {
-            explore(alloc, walk, m, tags, depth, stamp, i)?;
-            Ok(earliest_of(grades, walk.own.as_slice()))
-        }
+        Some(depth) => mark_inside(alloc, known, m, tags, grades, depth, i),
         None => Ok(8),
     }
 }
@@ -135,7 +162,7 @@ fn mark_block(
 /// Adds the mark of the block that begins at an instruction, where one does.
 fn mark_at(
     alloc: Global,
-    walk: &mut Walk,
+    known: &mut Option<Reaches>,
     p: &Program,
     uses: &Uses,
     method: u32,
@@ -144,7 +171,6 @@ fn mark_at(
     t: &Tags,
     grades: &[u8],
     i: usize,
-    stamp: usize,
     marks: &mut Rows<SectionMark>,
 ) -> Result<(), AllocError>
     requires program { IsProgram p.now }
@@ -152,16 +178,15 @@ fn mark_at(
     requires tagged { slice_get tags.now method ≡ Some t.now }
     requires grades { AreGrades p.now (tagged_by tags.now) uses.now on_this method m.now
         grades.now }
-    requires stamp { stamp ≡ i + 1 }
-    requires fresh { IsFreshWalk m.now i walk.old }
+    requires known { IfSome known.old (AreReaches m.now t.now.frames grades.now) }
     ensures marks { OnOk result (Marks p.now (tagged_by tags.now) uses.now
         (sections_at method (slice_get m.now.code i)) marks.old marks.new) }
-    ensures fresh { OnOk result (IsFreshWalk m.now (i + 1) walk.new) }
+    ensures known { OnOk result (IfSome known.new (AreReaches m.now t.now.frames grades.now)) }
 {
     match m.method().code.get(i) {
         Some(insn) => match insn.op {
             Op::Monitorenter => {
-                let mark = mark_block(alloc, walk, m, t, grades, i, stamp)?;
+                let mark = mark_block(alloc, known, m, t, grades, i)?;
                 marks.push(SectionMark {
                     method,
                     spot: Spot::Block(insn.pc),
@@ -207,21 +232,10 @@ fn mark_blocks(
         marks.old marks.new) }
 {
     let len = m.method().code.len();
-    let mut walk = fresh_walk(alloc, len)?;
+    let mut known = None;
     for i in 0..len {
         mark_at(
-            alloc,
-            &mut walk,
-            p,
-            uses,
-            method,
-            m,
-            tags,
-            t,
-            grades,
-            i,
-            i + 1,
-            marks,
+            alloc, &mut known, p, uses, method, m, tags, t, grades, i, marks,
         )?;
     }
     Ok(())

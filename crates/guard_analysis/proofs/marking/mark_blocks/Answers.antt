@@ -8,7 +8,7 @@ loop-i-preserved c =
     let long : c.len-len.result ≡ length c.args.m.now.code = c.len-len.ensures ∙ ap (λ x. length x.code) c.method.ensures.is in
     let inside : c.loop-i.i < length c.args.m.now.code = omega (arith, c.loop-i-test.true, long) in
     record {
-      fresh = c.in_ok-mark_at.ensures.fresh;
+      known = c.in_ok-mark_at.ensures.known;
       marks = blocks_go_on c.args.p.now (tagged_by c.args.tags.now) c.args.uses.now c.args.method c.args.m.now.code c.loop-i.i c.args.marks.now c.loop-i.marks c.mark_at.new.marks inside c.loop-i.invariant.marks c.in_ok-mark_at.ensures.marks;
     }
 
