@@ -13,7 +13,7 @@ use Rattle.plain_search.specs.Rows.{IsPlainReached}
 use Rattle.plain_search.specs.Searched.{HasNoStepAt, IsSearched, Searched}
 use Rattle.plain_search.proofs.RowLists.{got_index, got_longer}
 use Rattle.outcomes.specs.Lists.{AreAllOutcomes, HasPrinted, IsListedIn, IsPrintedIn, IsReachedBySteps}
-use Rattle.outcomes.specs.declared.lists.Outcomes.{Outcomes}
+use Rattle.outcomes.specs.declared.all_outcomes.Outcomes.{Outcomes}
 use Rattle.outcomes.specs.declared.reached.Reached.{Reached}
 use Rattle.outcomes.specs.declared.listing.Listed.{Listed}
 use Rattle.outcomes.specs.declared.printing.Printing.{Printing}

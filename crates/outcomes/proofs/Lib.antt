@@ -1,4 +1,5 @@
 mod Whole
 mod Threads
 mod Found
+mod Sorted
 mod StopLists

@@ -14,7 +14,7 @@ use Rattle.outcomes.specs.Stops.{stopped_threads}
 use Rattle.outcomes.specs.declared.listing.Listed.{Listed}
 use Rattle.outcomes.specs.declared.printing.Printing.{Printing}
 use Rattle.outcomes.specs.declared.reached.Reached.{Reached}
-use Rattle.outcomes.specs.declared.lists.Outcomes.{Outcomes}
+use Rattle.outcomes.specs.declared.all_outcomes.Outcomes.{Outcomes}
 
 -- two states show the same: the same numbers, printed in the same order by the same threads; parts
 -- that ended in the same way; and threads that stopped at the same places for the same reasons

@@ -1,6 +1,7 @@
 -- Which threads of the plain machine have begun and not ended, where nothing moves, and what keeps
 -- each of them.
-use Rattle.std.specs.Prelude.{ℕ, ◌+◌, List, [], ◌∷◌, ◌++◌, Option, Some, None, option_map}
+use Rattle.std.specs.Prelude.{ℕ, ◌+◌, List, [], ◌∷◌, ◌++◌, Option, Some, None, option_and_then}
+use Rattle.std.specs.Prelude.{option_map, slice_get}
 use Rattle.std.specs.Option.{option_to_list}
 use Rattle.machine_types.specs.PlainState as plain
 use Rattle.machine_types.specs.PlainState.{Holding, Plain, PlainThread, Status, holding_at}
@@ -57,3 +58,9 @@ stopped_from holdings t (x ∷ threads) =
 
 abbrev pub stopped_threads : Plain → List Stopped
 stopped_threads q = stopped_from q.holdings 0 q.threads
+
+-- the thread of that number, where it is there and has begun and not ended
+abbrev pub stopped_thread : Plain → (t : ℕ) → Option Stopped
+stopped_thread q t =
+    option_and_then (λ x. option_map (stopped_by q.holdings t x) (stop_of x.status))
+    (slice_get q.threads t)

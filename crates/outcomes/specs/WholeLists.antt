@@ -14,7 +14,7 @@ use Rattle.plain_orders.specs.Orders.{HasNoStep}
 use Rattle.outcomes.specs.Comes.{ComesTo}
 use Rattle.outcomes.specs.Lists.{AreAllOutcomes, HasPrinted, IsListedIn, IsPrintedIn}
 use Rattle.outcomes.specs.declared.listing.Listed.{Listed}
-use Rattle.outcomes.specs.declared.lists.Outcomes.{Outcomes}
+use Rattle.outcomes.specs.declared.all_outcomes.Outcomes.{Outcomes}
 
 -- a run that is over, and of which no limit ended a part, comes to what one of the list shows
 abbrev pub EndsAreListed : Type 0

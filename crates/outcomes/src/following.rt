@@ -19,7 +19,7 @@ const MOST_EVENTS: u8 = 40;
 const MOST_DIGITS: usize = 100_000;
 
 /// Whether a thread of the running machine stands where that of the plain machine does.
-fn is_beside(machine: &Machine, q: &Plain, t: u8) -> bool {
+pub(crate) fn is_beside(machine: &Machine, q: &Plain, t: u8) -> bool {
     match machine.thread(t) {
         Some(s) => match q.threads().get(t) {
             Some(x) => fits(s, x),

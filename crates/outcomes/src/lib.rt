@@ -5,25 +5,29 @@
 
 ghost use Rattle.outcomes.specs.WholeLists.{EndsAreListed, PrintsAreListed, RestsAreListed};
 
+mod all_outcomes;
 mod comparing;
 mod fitting;
 mod following;
+mod leading;
 mod listing;
-mod lists;
 mod ordering;
 mod printing;
 mod reached;
 mod sameness;
+mod shortening;
+mod standing;
 mod stopping;
 
+pub use all_outcomes::{MOST_OUTCOME_STATES, Outcomes, find_outcomes, list_outcomes};
 pub use comparing::comes_to;
+pub use leading::order_to;
 pub use listing::Listed;
-pub use lists::{Outcomes, list_outcomes};
-pub use ordering::{Ordered, order_to};
+pub use ordering::Ordered;
 use plain_orders::{ends_are_covered, prints_are_covered, runs_are_covered};
 pub use printing::Printing;
 pub use reached::Reached;
-pub use stopping::{Stop, Stopped, stopped_threads};
+pub use stopping::{Stop, Stopped, stopped_thread, stopped_threads};
 
 /// Where lists of outcomes are whole, every run that is over, and of which no limit ended a part,
 /// comes to one of the list; a run that stands where no step is left, at any time, stands at one of

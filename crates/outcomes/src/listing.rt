@@ -9,9 +9,11 @@ ghost use Rattle.plain_search.specs.Searched.{HasNoStepAt, IsSearched};
 ghost use Rattle.outcomes.specs.Comes.{LeadsTo};
 ghost use Rattle.outcomes.specs.Lists.{IsListedIn, IsListedOutcome};
 
-use crate::ordering::{Ordered, order_to};
+use crate::leading::order_to;
+use crate::ordering::Ordered;
 use crate::reached::{Reached, reached_at};
 use crate::sameness::show_the_same;
+use crate::shortening::switches_in;
 use checked_program::Checked;
 use history_rule::Plain;
 use jvm_types::Rows;
@@ -83,7 +85,7 @@ fn add_outcome(
     p: &Checked,
     cfg: &Config,
     found: &Found,
-    listed: &mut Rows<Listed>,
+    listed: &mut Vec<Listed>,
     k: u32,
 ) -> Result<(), AllocError>
     requires program { p.now ≡ found.now.program }
@@ -91,21 +93,54 @@ fn add_outcome(
     requires searched { IsSearched found.now }
     requires place { k < length found.now.states }
     requires rest { HasNoStepAt p.now found.now.states k }
-    requires listed { AllByRecursion (IsListedOutcome p.now cfg.now) listed.old }
-    ensures listed { OnOk result (AllByRecursion (IsListedOutcome p.now cfg.now) listed.new) }
-    ensures longer { OnOk result ((more : List Listed) × (listed.new ≡ listed.old ++ more)) }
+    requires listed { AllByRecursion (IsListedOutcome p.now cfg.now) listed.old.items }
+    ensures listed { OnOk result
+        (AllByRecursion (IsListedOutcome p.now cfg.now) listed.new.items) }
+    ensures longer { OnOk result
+        ((more : List Listed) × (listed.new.items ≡ listed.old.items ++ more)) }
     ensures there { OnOk result ((q : State) → slice_get found.now.states k ≡ Some q
-        → IsListedIn p.now.program listed.new q) }
+        → IsListedIn p.now.program listed.new.items q) }
 {
     let q = found.at(k as usize);
     if is_listed(alloc, p, listed.as_slice(), q)? {
         return Ok(());
     }
     let x = outcome_of(alloc, p, cfg, found, k)?;
-    listed.push(x)
+    listed.push(x)?;
+    Ok(())
 }
 
-/// The outcomes of the states without a step, each once.
+/// The outcomes of the states without a step, each once, in the order of the states.
+fn gather_rests(
+    alloc: Global,
+    p: &Checked,
+    cfg: &Config,
+    found: &Found,
+) -> Result<Vec<Listed>, AllocError>
+    requires program { p.now ≡ found.now.program }
+    requires settings { AreSettings cfg.now }
+    requires searched { IsSearched found.now }
+    ensures listed { IfOk result (λ v. AllByRecursion (IsListedOutcome p.now cfg.now) v.items) }
+    ensures all { IfOk result (λ v. (k : ℕ) (q : State) → Contains found.now.rests k
+        → slice_get found.now.states k ≡ Some q → IsListedIn p.now.program v.items q) }
+{
+    let mut listed = Vec::new(alloc);
+    for k in found.rests() {
+        add_outcome(alloc, p, cfg, found, &mut listed, *k)?;
+    }
+    Ok(listed)
+}
+
+/// How often another worker goes on by the order of an outcome; more than any where it has none.
+fn many_switches(x: &Listed) -> usize {
+    match &x.ordered {
+        Some(ordered) => switches_in(ordered.order.as_slice()),
+        None => usize::MAX,
+    }
+}
+
+/// The outcomes of the states without a step, each once: those with the fewest switches between
+/// workers first.
 pub(crate) fn list_rests(
     alloc: Global,
     p: &Checked,
@@ -119,9 +154,7 @@ pub(crate) fn list_rests(
     ensures all { IfOk result (λ listed. (k : ℕ) (q : State) → Contains found.now.rests k
         → slice_get found.now.states k ≡ Some q → IsListedIn p.now.program listed q) }
 {
-    let mut listed = Rows::new(alloc);
-    for k in found.rests() {
-        add_outcome(alloc, p, cfg, found, &mut listed, *k)?;
-    }
-    Ok(listed)
+    let mut listed = gather_rests(alloc, p, cfg, found)?;
+    listed.sort_by_cached_key(|x| many_switches(x))?;
+    Ok(Rows::from_vec(listed))
 }

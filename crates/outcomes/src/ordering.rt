@@ -1,15 +1,14 @@
-//! An order for a run of the plain machine.
+//! Orders whose runs come to what a state of the plain machine shows.
 
 ghost use Rattle.std.specs.Prelude.{◌≡◌, IfOk, IfSome};
 ghost use Rattle.machine_types.specs.Settings.{AreSettings};
 ghost use Rattle.outcomes.specs.Comes.{LeadsTo};
 
 use crate::comparing::{comes_to, has_no_other_limit};
-use crate::following::follow;
 use checked_program::Checked;
 use history_rule::Plain;
 use jvm_types::{Bytes, Outcome};
-use machine_types::{Config, PlainStep};
+use machine_types::Config;
 use replay_runner::replay;
 use std::alloc::{AllocError, Global};
 
@@ -22,7 +21,7 @@ pub struct Ordered {
 }
 
 /// The outcome of an order, where it is what a state of the plain machine shows.
-fn replayed(
+pub(crate) fn replayed(
     alloc: Global,
     p: &Checked,
     cfg: &Config,
@@ -38,25 +37,5 @@ fn replayed(
         Ok(Some(Ordered { order, outcome }))
     } else {
         Ok(None)
-    }
-}
-
-/// An order by which a run of these settings comes to what a state of the plain machine shows,
-/// found by following steps that lead there. `None`: none was found, which does not say that there
-/// is none.
-pub fn order_to(
-    alloc: Global,
-    p: &Checked,
-    cfg: &Config,
-    steps: &[PlainStep],
-    q: &Plain,
-) -> Result<Option<Ordered>, AllocError>
-    requires { AreSettings cfg.now }
-    ensures { IfOk result
-        (λ o. IfSome o (λ r. LeadsTo p.now cfg.now q.now.state r.order r.outcome)) }
-{
-    match follow(alloc, p, cfg, steps)? {
-        Some(order) => replayed(alloc, p, cfg, order, q),
-        None => Ok(None),
     }
 }

@@ -59,7 +59,7 @@ fn add_printing(
     alloc: Global,
     p: &Checked,
     found: &Found,
-    printed: &mut Rows<Printing>,
+    printed: &mut Vec<Printing>,
     k: usize,
     x: &Printed,
 ) -> Result<(), AllocError>
@@ -68,16 +68,18 @@ fn add_printing(
     requires place { k < length found.now.states }
     requires here { (q : State) → slice_get found.now.states k ≡ Some q
         → HasPrinted q x.now.value }
-    requires printed { AllByRecursion (IsPrinting p.now) printed.old }
-    ensures printed { OnOk result (AllByRecursion (IsPrinting p.now) printed.new) }
-    ensures longer { OnOk result ((more : List Printing) × (printed.new ≡ printed.old ++ more)) }
-    ensures there { OnOk result (IsPrintedIn printed.new x.now.value) }
+    requires printed { AllByRecursion (IsPrinting p.now) printed.old.items }
+    ensures printed { OnOk result (AllByRecursion (IsPrinting p.now) printed.new.items) }
+    ensures longer { OnOk result
+        ((more : List Printing) × (printed.new.items ≡ printed.old.items ++ more)) }
+    ensures there { OnOk result (IsPrintedIn printed.new.items x.now.value) }
 {
     if is_printed(printed.as_slice(), x.value()) {
         return Ok(());
     }
     let printing = printing_of(alloc, p, found, k, x.value())?;
-    printed.push(printing)
+    printed.push(printing)?;
+    Ok(())
 }
 
 /// Adds the numbers that have been printed in a state, and are not listed.
@@ -85,17 +87,18 @@ fn add_printings(
     alloc: Global,
     p: &Checked,
     found: &Found,
-    printed: &mut Rows<Printing>,
+    printed: &mut Vec<Printing>,
     k: usize,
 ) -> Result<(), AllocError>
     requires program { p.now ≡ found.now.program }
     requires searched { IsSearched found.now }
     requires place { k < length found.now.states }
-    requires printed { AllByRecursion (IsPrinting p.now) printed.old }
-    ensures printed { OnOk result (AllByRecursion (IsPrinting p.now) printed.new) }
-    ensures longer { OnOk result ((more : List Printing) × (printed.new ≡ printed.old ++ more)) }
+    requires printed { AllByRecursion (IsPrinting p.now) printed.old.items }
+    ensures printed { OnOk result (AllByRecursion (IsPrinting p.now) printed.new.items) }
+    ensures longer { OnOk result
+        ((more : List Printing) × (printed.new.items ≡ printed.old.items ++ more)) }
     ensures there { OnOk result ((q : State) (value : ℤ) → slice_get found.now.states k ≡ Some q
-        → HasPrinted q value → IsPrintedIn printed.new value) }
+        → HasPrinted q value → IsPrintedIn printed.new.items value) }
 {
     let prints = found.at(k).prints();
     for i in 0..prints.len() {
@@ -104,7 +107,22 @@ fn add_printings(
     Ok(())
 }
 
-/// The numbers that were printed in the states that were found, each once.
+/// The numbers that were printed in the states that were found, each once, as they are found.
+fn gather_prints(alloc: Global, p: &Checked, found: &Found) -> Result<Vec<Printing>, AllocError>
+    requires program { p.now ≡ found.now.program }
+    requires searched { IsSearched found.now }
+    ensures printed { IfOk result (λ v. AllByRecursion (IsPrinting p.now) v.items) }
+    ensures all { IfOk result (λ v. (k : ℕ) (q : State) (value : ℤ)
+        → slice_get found.now.states k ≡ Some q → HasPrinted q value → IsPrintedIn v.items value) }
+{
+    let mut printed = Vec::new(alloc);
+    for k in 0..found.len() {
+        add_printings(alloc, p, found, &mut printed, k)?;
+    }
+    Ok(printed)
+}
+
+/// The numbers that were printed in the states that were found, each once, the least first.
 pub(crate) fn list_prints(
     alloc: Global,
     p: &Checked,
@@ -116,9 +134,7 @@ pub(crate) fn list_prints(
     ensures all { IfOk result (λ printed. (k : ℕ) (q : State) (value : ℤ)
         → slice_get found.now.states k ≡ Some q → HasPrinted q value → IsPrintedIn printed value) }
 {
-    let mut printed = Rows::new(alloc);
-    for k in 0..found.len() {
-        add_printings(alloc, p, found, &mut printed, k)?;
-    }
-    Ok(printed)
+    let mut printed = gather_prints(alloc, p, found)?;
+    printed.sort_by_key(|x| x.value)?;
+    Ok(Rows::from_vec(printed))
 }

@@ -6,6 +6,7 @@ ghost use Rattle.machine_types.specs.PlainState.{PlainThread, holding_at};
 ghost use Rattle.plain_threads.specs.Statuses.{plain_status_of};
 ghost use Rattle.outcomes.specs.Stops.{asked_of, holder_of, top_method, top_pc, stop_of};
 ghost use Rattle.outcomes.specs.Stops.{stopped_by, stopped_from};
+ghost use Rattle.outcomes.specs.Stops.{stopped_thread as the_stopped_thread};
 ghost use Rattle.outcomes.specs.Stops.{stopped_threads as the_stopped};
 
 use history_rule::Plain;
@@ -165,4 +166,15 @@ pub fn stopped_threads(alloc: Global, q: &Plain) -> Result<Rows<Stopped>, AllocE
     ensures { IfOk result (λ rows. rows ≡ the_stopped q.now.state) }
 {
     all_stopped(alloc, q.threads(), q.holdings())
+}
+
+/// The thread of a number, where it has begun and not ended. `None`: it has not, or there is no
+/// such thread.
+pub fn stopped_thread(q: &Plain, t: u8) -> Option<Stopped>
+    ensures { result ≡ the_stopped_thread q.now.state t }
+{
+    match q.threads().get(t) {
+        Some(x) => stopped_at(q.holdings(), t, x),
+        None => None,
+    }
 }

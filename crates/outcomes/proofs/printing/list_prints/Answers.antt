@@ -1,25 +1,16 @@
-use Rattle.std.proofs.Common.{◌≡◌, ℤ, Some, slice_get, arith}
-use Rattle.std.proofs.lemmas.Option.{slice_get_within}
-use Rattle.machine_types.specs.PlainState.{Plain}
-use Rattle.outcomes.specs.Lists.{HasPrinted, IsPrintedIn}
-use Rattle.outcomes.proofs.Found.{below_next, printed_longer}
+use Rattle.std.proofs.Common.{List, subst, sym}
+use Rattle.std.specs.List.{AllByRecursion}
+use Rattle.outcomes.specs.Lists.{IsPrintedIn, IsPrinting}
+use Rattle.outcomes.specs.declared.printing.Printing.{Printing}
+use Rattle.outcomes.proofs.Sorted.{all_sorted, printed_sorted}
 use Rattle.outcomes.proofs.printing.list_prints.Goals as goal
 
--- src/printing.rt:118:5
-pub loop-k-preserved : goal.loop-k-preserved
-loop-k-preserved c =
-    let more = c.in_ok-add_printings.ensures.longer in (
-      c.in_ok-add_printings.ensures.printed,
-      λ j q value l. below_next
-          (λ i. (z : Plain) (v : ℤ) → slice_get c.args.found.now.states i ≡ Some z → HasPrinted z v → IsPrintedIn c.add_printings.new.printed v) c.loop-k.k
-          (λ i m z v e h. printed_longer c.loop-k.printed more.0 c.add_printings.new.printed v more.1 (c.loop-k.invariant.1 i z v m e h))
-          c.in_ok-add_printings.ensures.there j l q value,
-    )
+pub returns-clause-printed : goal.returns-clause-printed
+returns-clause-printed c =
+    subst (AllByRecursion (IsPrinting c.args.p.now)) (sym c.from_vec.ensures)
+    (all_sorted (IsPrinting c.args.p.now) _ _ c.sort_by_key.ensures.permutation c.in_ok-printed.ensures.printed)
 
--- src/printing.rt:106:1
 pub returns-clause-all : goal.returns-clause-all
 returns-clause-all c = λ k q value e h.
-    let w = slice_get_within c.args.found.now.states k q e in
-    let m = c.loop-k-test.false in
-    let n = c.len-k-end.ensures in
-    c.loop-k.invariant.1 k q value (omega (arith, w, m, n)) e h
+    subst (λ (xs : List Printing). IsPrintedIn xs value) (sym c.from_vec.ensures)
+    (printed_sorted _ _ value c.sort_by_key.ensures.permutation (c.in_ok-printed.ensures.all k q value e h))

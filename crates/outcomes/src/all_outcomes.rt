@@ -1,16 +1,20 @@
 //! What the states that a search has found come to.
 
-ghost use Rattle.std.specs.Prelude.{◌≡◌, IfOk, length};
+ghost use Rattle.std.specs.Prelude.{◌≡◌, ◌≤◌, IfOk, length};
 ghost use Rattle.machine_types.specs.Settings.{AreSettings};
 ghost use Rattle.outcomes.specs.Lists.{AreOutcomes};
+ghost use Rattle.outcomes.specs.declared.all_outcomes.TheConstants.{MOST_OUTCOME_STATES};
 
 use crate::listing::{Listed, list_rests};
 use crate::printing::{Printing, list_prints};
 use checked_program::Checked;
 use jvm_types::Rows;
 use machine_types::Config;
-use plain_search::Found;
+use plain_search::{Found, MOST_STATES, search};
 use std::alloc::{AllocError, Global};
+
+/// The most states that may be asked for.
+pub const MOST_OUTCOME_STATES: u32 = MOST_STATES;
 
 /// The outcomes and the printed numbers of so many states, and whether these are all.
 #[derive(Drop)]
@@ -43,4 +47,20 @@ pub fn list_outcomes(
         states: found.len(),
         is_whole,
     })
+}
+
+/// What all runs of a program come to, searched for in so many states at most, with orders for
+/// these settings.
+pub fn find_outcomes(
+    alloc: Global,
+    p: &Checked,
+    cfg: &Config,
+    states: u32,
+) -> Result<Outcomes, AllocError>
+    requires settings { AreSettings cfg.now }
+    requires states { states ≤ MOST_OUTCOME_STATES }
+    ensures { IfOk result (AreOutcomes p.now cfg.now) }
+{
+    let found = search(alloc, p, states)?;
+    list_outcomes(alloc, p, cfg, &found)
 }

@@ -1,8 +1,8 @@
 use Rattle.std.proofs.Common.{◌∙◌, sym}
 use Rattle.outcomes.proofs.Found.{all_outcomes}
-use Rattle.outcomes.proofs.outcomes.list_outcomes.Goals as goal
+use Rattle.outcomes.proofs.all_outcomes.list_outcomes.Goals as goal
 
--- src/outcomes.rt:25:1
+-- src/all_outcomes.rt:25:1
 pub returns-clause-outcomes : goal.returns-clause-outcomes
 returns-clause-outcomes c = record {
   listed = c.in_ok-listed.ensures.listed;
