@@ -6,7 +6,8 @@ _solero() {
         --steps --turns --prints --heap --elide --range --what --page --tries --proved
         --checked --help --version'
     local explain='--threads --order --steps --turns --prints --heap --elide --range --what --from
-        --events --fold --page --commit --json --proved --checked --help --version'
+        --events --fold --states --forbid --page --commit --json --proved --checked
+        --help --version'
     [[ " ${COMP_WORDS[*]} " != *" --what"* ]] || program=explain
     case $program:$before in
         solero:--mode) values='replay run mark list asm record load cell' ;;
@@ -24,7 +25,7 @@ _solero() {
         solero:--heap) values='' ;;
         solero:--elide) values='on off' ;;
         solero:--range) values='' ;;
-        solero:--what) values='run marks refusal' ;;
+        solero:--what) values='run marks outcomes refusal' ;;
         solero:--tries) values='' ;;
         explain:--threads) values='0 1 2 3 4 5 6 7 8' ;;
         explain:--order) values='' ;;
@@ -34,10 +35,12 @@ _solero() {
         explain:--heap) values='' ;;
         explain:--elide) values='on off' ;;
         explain:--range) values='' ;;
-        explain:--what) values='run marks refusal' ;;
+        explain:--what) values='run marks outcomes refusal' ;;
         explain:--from) values='' ;;
         explain:--events) values='' ;;
         explain:--fold) values='on off' ;;
+        explain:--states) values='' ;;
+        explain:--forbid) values='' ;;
         explain:--commit) values='' ;;
         *)
             if [[ $word != -* ]]; then

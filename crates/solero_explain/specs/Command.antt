@@ -14,9 +14,13 @@ use Rattle.command_words.specs.Words.{command_of, found_in_words, gives_any, nam
 use Rattle.json_lines.specs.declared.form.Form.{Form}
 use Rattle.json_lines.specs.declared.form.Form.TheVariants.{Lines, Json}
 use Rattle.tellings.specs.declared.facts.Fact.{Fact}
+use Rattle.outcome_texts.specs.declared.telling.TheConstants.{MOST_STATES}
+use Rattle.outcome_texts.specs.declared.findings.Forbidden.{Forbidden}
 use Rattle.solero_explain.specs.Begins.{begin_of}
+use Rattle.solero_explain.specs.Forbids.{forbidden_or_none}
 use Rattle.solero_explain.specs.declared.request.What.{What}
-use Rattle.solero_explain.specs.declared.request.What.TheVariants.{Refusal, Marks, Run}
+use Rattle.solero_explain.specs.declared.command.TheConstants.{USUAL_OUTCOME_TURNS, USUAL_STATES}
+use Rattle.solero_explain.specs.declared.request.What.TheVariants.{Refusal, Marks, Run, Outcomes}
 
 -- ---- what clap finds
 
@@ -28,7 +32,7 @@ abbrev pub explain_app : App
 explain_app = with_flag (command_of (codes "solero_explain")
     (codes "what" ∷ codes "threads" ∷ codes "order" ∷ codes "steps" ∷ codes "turns" ∷ codes "heap"
     ∷ codes "prints" ∷ codes "elide" ∷ codes "range" ∷ codes "from" ∷ codes "events"
-    ∷ codes "fold" ∷ codes "commit" ∷ []))
+    ∷ codes "fold" ∷ codes "commit" ∷ codes "states" ∷ codes "forbid" ∷ []))
     (codes "json")
 
 -- ---- values
@@ -38,13 +42,23 @@ abbrev pub what_of : Option Text → Option What
 what_of None = None
 what_of (Some text) =
     if bytes_eq text (codes "refusal") then Some Refusal else if bytes_eq text (codes "marks")
-    then Some Marks else if bytes_eq text (codes "run") then Some Run else None
+    then Some Marks else if bytes_eq text (codes "run") then Some Run
+    else if bytes_eq text (codes "outcomes") then Some Outcomes else None
 
--- an order, a part of the lines, whether turns are folded and a commit are read with a run alone
+-- an order, a part of the lines, whether turns are folded and a commit are read with a run alone,
+-- and a bound of states and what no run is to do with outcomes alone
 abbrev pub not_read_with : What → List Text
-not_read_with Run = []
-not_read_with what =
+not_read_with Run = codes "states" ∷ codes "forbid" ∷ []
+not_read_with Outcomes =
     codes "order" ∷ codes "from" ∷ codes "events" ∷ codes "fold" ∷ codes "commit" ∷ []
+not_read_with what =
+    codes "order" ∷ codes "from" ∷ codes "events" ∷ codes "fold" ∷ codes "commit" ∷ codes "states"
+    ∷ codes "forbid" ∷ []
+
+-- where outcomes are asked for and no turns, a thread that waits for ever ends soon
+abbrev pub settings_for : What → (turns : Option Text) → Config → Config
+settings_for Outcomes None cfg = record cfg { turns = USUAL_OUTCOME_TURNS }
+settings_for what turns cfg = cfg
 
 -- the lines of a run from a number on, so many at most, with failed turns folded or not, in that
 -- form
@@ -73,6 +87,8 @@ pub record Question : Type 0 where
   pub order : List ℕ
   pub begin : List Fact
   pub part : Part
+  pub states : ℕ
+  pub forbidden : List Forbidden
 
 unfoldable pub question : (words : List Text) → List Row → Option Question
 question words rows = do
@@ -85,6 +101,8 @@ question words rows = do
   from ← number_or 1 1 MOST_LIMIT (first_of (codes "from") rows)
   events ← number_or MOST_LIMIT 1 MOST_LIMIT (first_of (codes "events") rows)
   folds ← on_or_off (first_of (codes "fold") rows)
+  states ← number_or USUAL_STATES 1 MOST_STATES (first_of (codes "states") rows)
+  forbidden ← forbidden_or_none (first_of (codes "forbid") rows)
   if gives_any rows (not_read_with what) then None
       else Some (record {
         what = what;
@@ -92,10 +110,12 @@ question words rows = do
         files = files;
         threads = threads;
         heap = heap;
-        cfg = cfg;
+        cfg = settings_for what (first_of (codes "turns") rows) cfg;
         order = order;
         begin = begin_of words files rows;
         part = part_asked from events folds (form_asked (first_of (codes "json") rows));
+        states = states;
+        forbidden = forbidden;
       })
 
 -- what the words ask for; None where they are not read

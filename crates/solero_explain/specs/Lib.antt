@@ -1,4 +1,5 @@
 pub mod Begins
+pub mod Forbids
 pub mod Command
 pub mod Requests
 pub mod Answer

@@ -14,4 +14,6 @@ question_by r = record {
   order = r.order;
   begin = r.begin;
   part = r.part;
+  states = r.states;
+  forbidden = r.forbidden;
 }

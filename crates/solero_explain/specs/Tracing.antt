@@ -1,4 +1,4 @@
--- What is answered where marks or a run are told.
+-- What is answered where marks, a run or outcomes are told.
 use Rattle.std.specs.Prelude.{◌≡◌, ◌⊎◌, ℕ, Bool, List, Option, Some, None, Result, Ok, Err}
 use Rattle.checked_program.specs.MarkedProgram.{MarkedProgram}
 use Rattle.host_io.specs.declared.shelf.NamedFile.{NamedFile}
@@ -7,6 +7,11 @@ use Rattle.place_names.specs.declared.names.Names.{Names}
 use Rattle.mark_reasons.specs.MarksTold.{AreMarksWritten}
 use Rattle.mark_reasons.specs.declared.telling.MarksError.{MarksError}
 use Rattle.mark_reasons.specs.declared.telling.MarksError.TheVariants as errors
+use Rattle.outcome_texts.specs.Telling.{AreOutcomesWritten}
+use Rattle.outcome_texts.specs.declared.telling.OutcomesError.{OutcomesError}
+use Rattle.outcome_texts.specs.declared.telling.OutcomesError.TheVariants as outcomes_errors
+use Rattle.outcome_texts.specs.declared.telling.Verdict.{Verdict}
+use Rattle.outcome_texts.specs.declared.telling.Verdict.TheVariants as verdicts
 use Rattle.run_trace.specs.Traces.{IsTraced}
 use Rattle.run_trace.specs.declared.traces.TraceError.{TraceError}
 use Rattle.run_trace.specs.declared.traces.TraceError.TheVariants.{Memory, Failed}
@@ -30,6 +35,18 @@ status_of_marks (Ok done) = 0
 status_of_marks (Err errors.Failed) = 5
 status_of_marks (Err errors.Memory) = 6
 
+-- outcomes: 0 where all orders were tried and nothing was found that no run is to do, 10 where such
+-- a thing was found, and else 11
+abbrev pub status_of_verdict : Verdict → ℕ
+status_of_verdict verdicts.NoOther = 0
+status_of_verdict verdicts.Found = 10
+status_of_verdict verdicts.Unknown = 11
+
+abbrev pub status_of_outcomes : Result Verdict OutcomesError → ℕ
+status_of_outcomes (Ok verdict) = status_of_verdict verdict
+status_of_outcomes (Err outcomes_errors.Failed) = 5
+status_of_outcomes (Err outcomes_errors.Memory) = 6
+
 -- what is asked for is told of a program, as far as it is, and this is answered
 abbrev pub IsProgramTold : What → Question → MarkedProgram → Names
     → (told now : Option (List ℕ)) → (before after status : ℕ) → Type 0
@@ -42,6 +59,11 @@ IsProgramTold whats.Run asked checked names told now before after status =
     (came : Result Outcome TraceError)
     × IsTraced checked asked.cfg asked.order names asked.begin asked.part told now before after came
     × (status ≡ status_of_trace came)
+IsProgramTold whats.Outcomes asked checked names told now before after status =
+    (came : Result Verdict OutcomesError)
+    × AreOutcomesWritten asked.form checked asked.cfg names.sources asked.forbidden told now
+    before after came
+    × (status ≡ status_of_outcomes came)
 
 pub record Traces (files : Option (List NamedFile)) (asked : Question) (told now : Option (List ℕ))
     (before after status : ℕ) : Type 0 where
@@ -50,14 +72,15 @@ pub record Traces (files : Option (List NamedFile)) (asked : Question) (told now
   pub runs : RunsFiles files asked checked names
   pub is_told : IsProgramTold asked.what asked checked names told now before after status
 
--- the words ask for marks or a run, and the shelf's count of faults goes from before to after
+-- the words ask for marks, a run or outcomes, and the shelf's count of faults goes from before to
+-- after
 abbrev pub IsTraceAnswer : Option Question → Option (List NamedFile) → (before after : ℕ)
     → (told now : Option (List ℕ)) → (from to status : ℕ) → Type 0
 IsTraceAnswer None files before after told now from to status = ⊥
 IsTraceAnswer (Some asked) files before after told now from to status =
     (after ≡ before) × Traces files asked told now from to status
 
--- what is due is delivered, or the marks or the run are told
+-- what is due is delivered, or the marks, the run or the outcomes are told
 abbrev pub IsAnswered : Option Question → Option (List NamedFile) → Option (List ℕ → Bool)
     → (before after : ℕ) → (told now : Option (List ℕ)) → (from to status : ℕ) → Type 0
 IsAnswered asked files unreadable before after told now from to status =

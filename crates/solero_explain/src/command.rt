@@ -5,12 +5,15 @@ ghost use Rattle.std.specs.Option.{option_copied, unwrap_or};
 ghost use Rattle.clap.specs.Words.{app_of, found_of, rows_of};
 ghost use Rattle.command_words.specs.RunValues.{are_few as are_few_files};
 ghost use Rattle.command_words.specs.Words.{found_in_words, gives_any as gives_any_of, texts};
+ghost use Rattle.machine_types.specs.Settings.{AreSettings};
 ghost use Rattle.solero_explain.specs.Command.{question, explain_command as command_of, files_of};
 ghost use Rattle.solero_explain.specs.Command.{form_asked as the_form, not_read_with, explain_app};
+ghost use Rattle.solero_explain.specs.Command.{settings_for as the_settings_for};
 ghost use Rattle.solero_explain.specs.Command.{what_of as the_what, with_flag as flag_in};
 ghost use Rattle.solero_explain.specs.Requests.{question_by};
 
 use crate::begins::begin_facts;
+use crate::forbids::forbidden_or_none;
 use crate::request::{Request, What};
 use clap::{Arg, ArgAction, ArgMatches, Command};
 use command_words::found_words::{found_in, gives_any, names, owned, simple_command, value};
@@ -18,13 +21,15 @@ use command_words::run_values::{are_few, heap, order, settings, threads};
 use command_words::values::{Numbers, number_or, on_or_off};
 use json_lines::Form;
 use jvm_types::limits::MOST_LIMIT;
+use machine_types::Config;
+use outcome_texts::MOST_STATES;
 use run_trace::Part;
 use std::alloc::{AllocError, Global};
 
 // The options, each with one value.
-const OPTIONS: [&str; 13] = [
+const OPTIONS: [&str; 15] = [
     "what", "threads", "order", "steps", "turns", "heap", "prints", "elide", "range", "from",
-    "events", "fold", "commit",
+    "events", "fold", "commit", "states", "forbid",
 ];
 
 const FROM: Numbers = Numbers {
@@ -37,6 +42,19 @@ const EVENTS: Numbers = Numbers {
     unless: MOST_LIMIT,
     least: 1,
     most: MOST_LIMIT,
+};
+
+/// The states that are searched at most, where the words say nothing of them.
+pub const USUAL_STATES: u32 = 200_000;
+
+/// The failed turns after which a thread ends where outcomes are asked for, and the words say
+/// nothing of them.
+pub const USUAL_OUTCOME_TURNS: u32 = 1_000;
+
+const STATES: Numbers = Numbers {
+    unless: USUAL_STATES,
+    least: 1,
+    most: MOST_STATES,
 };
 
 // A flag, which has no value.
@@ -64,6 +82,7 @@ fn what_of(given: Option<&str>) -> Option<What>
         Some(text) if text == "refusal" => Some(What::Refusal),
         Some(text) if text == "marks" => Some(What::Marks),
         Some(text) if text == "run" => Some(What::Run),
+        Some(text) if text == "outcomes" => Some(What::Outcomes),
         _ => None,
     }
 }
@@ -73,10 +92,29 @@ fn gives_unread(matches: &ArgMatches<'_>, what: What) -> bool
     ensures { result ≡ gives_any_of (rows_of (found_of matches.now)) (not_read_with what) }
 {
     match what {
-        What::Run => gives_any(matches, &[]),
-        What::Refusal | What::Marks => {
-            gives_any(matches, &["order", "from", "events", "fold", "commit"])
-        }
+        What::Run => gives_any(matches, &["states", "forbid"]),
+        What::Outcomes => { gives_any(matches, &["order", "from", "events", "fold", "commit"]) }
+        What::Refusal | What::Marks => gives_any(
+            matches,
+            &[
+                "order", "from", "events", "fold", "commit", "states", "forbid",
+            ],
+        ),
+    }
+}
+
+// The settings, with fewer turns where outcomes are asked for and the words say nothing of turns.
+fn settings_for(what: What, turns: Option<&str>, cfg: Config) -> Config
+    requires { AreSettings cfg }
+    ensures settings { AreSettings result }
+    ensures value { result ≡ the_settings_for what (option_copied turns.entry) cfg }
+{
+    match (what, turns) {
+        (What::Outcomes, None) => Config {
+            turns: USUAL_OUTCOME_TURNS,
+            ..cfg
+        },
+        _ => cfg,
     }
 }
 
@@ -142,9 +180,16 @@ fn request(
     let Some(folds) = on_or_off(value(matches, "fold")) else {
         return Ok(None);
     };
+    let Some(states) = number_or(STATES, value(matches, "states")) else {
+        return Ok(None);
+    };
+    let Some(forbidden) = forbidden_or_none(alloc, value(matches, "forbid"))? else {
+        return Ok(None);
+    };
     if gives_unread(matches, what) {
         return Ok(None);
     }
+    let cfg = settings_for(what, value(matches, "turns"), cfg);
     let given = value(matches, "order");
     let commit = value(matches, "commit");
     let begin = begin_facts(alloc, words, files.as_slice(), given, commit)?;
@@ -163,6 +208,8 @@ fn request(
             folds,
             form,
         },
+        states,
+        forbidden,
     }))
 }
 

@@ -1,9 +1,10 @@
 //! The program `solero_explain`: says what a refusal of class files means, why a section is not
-//! marked, and what happens in a run.
+//! marked, what happens in a run, and what all runs come to.
 #![tactic(auto)]
 
 mod begins;
 mod command;
+mod forbids;
 mod program;
 mod request;
 

@@ -17,7 +17,7 @@ ghost use Rattle.solero_explain.specs.Command.{Question, explain_command};
 ghost use Rattle.class_runner.specs.Loading.{IsLoaded};
 ghost use Rattle.solero_explain.specs.Parts.{IsDueOf, IsRefusalExplained, IsFoundInFiles};
 ghost use Rattle.solero_explain.specs.Parts.{IsFoundIn, IsUnreadExplained, IsWork};
-ghost use Rattle.solero_explain.specs.Tracing.{IsAnswered, IsProgramTold};
+ghost use Rattle.solero_explain.specs.Tracing.{IsAnswered, IsProgramTold, status_of_verdict};
 ghost use Rattle.solero_explain.specs.Requests.{question_by};
 ghost use Rattle.source_lines.specs.Sources.{sources_of as the_sources_of};
 
@@ -33,6 +33,7 @@ use json_lines::{Form, write_text_member};
 use jvm_types::limits::{MOST_FILE_BYTES, MOST_FILES};
 use jvm_types::{Bytes, CRule, Place, Rows, Rule, in_file};
 use mark_reasons::{MarksError, explain_marks};
+use outcome_texts::{OutcomesError, Verdict, explain_outcomes};
 use place_names::Names;
 use program_answers::answer::{Due, cannot_read};
 use program_answers::delivery::deliver;
@@ -50,15 +51,17 @@ pub const USAGE: &str = "usage: solero_explain --what WHAT [options] FILE...\n";
 enum Work {
     /// A text is due.
     Due(Due),
-    /// The marks or the run of a program are to be told, with the names that its classes have.
+    /// The marks, the run or the outcomes of a program are to be told, with the names that its
+    /// classes have.
     Run(Request, Checked, Names),
 }
 
 /// Explains what the words ask for: reads the files from the shelf, in order, loads them, and
 /// writes to the sink what is to be told of them: a refusal, the marks of the sections with their
-/// reasons, or a run, event by event, as it goes. Files that `solero` refuses are refused by the
-/// same rule, at the same place, with the names of that place. It answers the status that the
-/// process ends with: of a run that is told that of its report.
+/// reasons, a run, event by event, as it goes, or all that runs come to. Files that `solero`
+/// refuses are refused by the same rule, at the same place, with the names of that place. It
+/// answers the status that the process ends with: of a run that is told that of its report; of
+/// outcomes 0 where there is no other, 10 where one does what no run is to do, and else 11.
 pub fn top_explain<S: Shelf, K: Sink>(
     alloc: Global,
     words: &Vec<String>,
@@ -73,7 +76,7 @@ pub fn top_explain<S: Shelf, K: Sink>(
     ensures unreadable { S.unreadable shelf.new ≡ S.unreadable shelf.old }
 
     // Each status comes for its cause, and a fault of the sink goes before all.
-    ensures status { result ≤ 7 }
+    ensures status { result ≤ 11 }
     ensures words_read { result ≡ 2 → explain_command (texts words.now.items) ≡ None }
     ensures words_not_read { explain_command (texts words.now.items) ≡ None
         → (result ≡ 2) ⊎ ((result ≡ 5) ⊎ (result ≡ 6)) }
@@ -102,7 +105,7 @@ pub fn top_explain<S: Shelf, K: Sink>(
 enum Found {
     /// A text is due.
     Due(Due),
-    /// A program whose marks or whose run is to be told, with the names that its classes have.
+    /// A program whose marks, run or outcomes are to be told, with the names that its classes have.
     Program(Checked, Names),
 }
 
@@ -151,6 +154,44 @@ fn traced<K: Sink>(
     }
 }
 
+// What the outcomes come to, as a status.
+fn status_of(verdict: Verdict) -> u8
+    ensures { result ≡ status_of_verdict verdict }
+{
+    match verdict {
+        Verdict::NoOther => 0,
+        Verdict::Found => 10,
+        Verdict::Unknown => 11,
+    }
+}
+
+// The outcomes are told, and this is answered.
+fn searched<K: Sink>(
+    alloc: Global,
+    request: &Request,
+    checked: &Checked,
+    names: &Names,
+    sink: &mut K,
+) -> u8
+    ensures { IsProgramTold What.Outcomes (question_by request.now) checked.now names.now
+        (K.text sink.old) (K.text sink.new) (K.faults sink.old) (K.faults sink.new) result }
+{
+    match explain_outcomes(
+        alloc,
+        request.form,
+        checked,
+        &request.cfg,
+        &names.sources,
+        request.states,
+        request.forbidden.as_slice(),
+        sink,
+    ) {
+        Ok(verdict) => status_of(verdict),
+        Err(OutcomesError::Failed) => 5,
+        Err(OutcomesError::Memory) => 6,
+    }
+}
+
 // What is asked for is told of a program.
 fn tell<K: Sink>(
     alloc: Global,
@@ -167,6 +208,7 @@ fn tell<K: Sink>(
         What::Refusal => unreachable!(),
         What::Marks => marked(alloc, request, checked, names, sink),
         What::Run => traced(alloc, request, checked, names, sink),
+        What::Outcomes => searched(alloc, request, checked, names, sink),
     }
 }
 
@@ -275,7 +317,7 @@ fn found_of(alloc: Global, request: &Request, contents: &Rows<Bytes>, checked: C
 {
     match request.what {
         What::Refusal => Found::Due(due_of(accepted_text(alloc, request.form))),
-        What::Marks | What::Run => match names_of(alloc, contents) {
+        What::Marks | What::Run | What::Outcomes => match names_of(alloc, contents) {
             Ok(names) => Found::Program(checked, names),
             Err(AllocError) => Found::Due(Due::OutOfMemory),
         },

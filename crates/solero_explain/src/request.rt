@@ -1,9 +1,11 @@
-ghost use Rattle.std.specs.Prelude.{length};
+ghost use Rattle.std.specs.Prelude.{◌≤◌, length};
 ghost use Rattle.command_words.specs.Bounds.{AreInExplainBounds};
+ghost use Rattle.outcome_texts.specs.declared.telling.TheConstants.{MOST_STATES};
 
 use json_lines::Form;
 use jvm_types::{Bytes, Rows};
 use machine_types::Config;
+use outcome_texts::Forbidden;
 use run_trace::Part;
 use tellings::Fact;
 
@@ -16,6 +18,8 @@ pub enum What {
     Marks,
     /// What happens in a run, event by event.
     Run,
+    /// What all runs come to.
+    Outcomes,
 }
 
 /// What the words of the command ask for.
@@ -39,5 +43,10 @@ pub struct Request {
     pub begin: Rows<Fact>,
     /// The lines of the run that are told, and their form.
     pub part: Part,
+    /// How many states are searched at most for all that runs come to.
+    pub states: u32,
+    /// What no run is to do.
+    pub forbidden: Rows<Forbidden>,
     ghost bounds: { AreInExplainBounds (length files.items) threads heap cfg },
+    ghost few: { states ≤ MOST_STATES },
 }
