@@ -3,7 +3,9 @@
 #![tactic(auto)]
 
 #[cfg(test)]
-mod outcomes;
+mod outcome_classes;
+#[cfg(test)]
+mod outcome_tests;
 #[cfg(test)]
 mod playing;
 #[cfg(test)]

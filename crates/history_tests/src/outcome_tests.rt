@@ -4,11 +4,12 @@ ghost use Rattle.std.specs.Prelude.{◌≤◌};
 ghost use Rattle.jvm_types.specs.declared.limits.TheConstants.{MOST_WORKERS};
 ghost use Rattle.plain_search.specs.declared.searching.TheConstants.{MOST_STATES};
 
+use crate::outcome_classes::{CLOCK, SLOT};
 use crate::playing::load;
 use class_runner::FileError;
 use history_rule::Plain;
 use machine_types::Config;
-use outcomes::{Outcomes, list_outcomes};
+use outcomes::{Listed, Outcomes, list_outcomes};
 use plain_search::search;
 use std::process::Abort;
 use std::test::*;
@@ -68,6 +69,28 @@ fn many_stuck(o: &Outcomes, workers: u8, stopped: usize) -> usize {
         .count()
 }
 
+/// How often another worker goes on by the order of an outcome; more than any where it has none.
+fn many_switches(x: &Listed) -> usize {
+    match &x.ordered {
+        Some(ordered) => {
+            let order = ordered.order.as_slice();
+            (1..order.len())
+                .filter(|i| order[*i] != order[*i - 1])
+                .count()
+        }
+        None => usize::MAX,
+    }
+}
+
+/// Whether outcomes with fewer switches stand before others, and less numbers before greater ones.
+fn are_in_order(o: &Outcomes) -> bool {
+    let listed = o.listed.as_slice();
+    let printed = o.printed.as_slice();
+    let by_switches = (1..listed.len()).all(|i| many_switches(&listed[i - 1])
+        <= many_switches(&listed[i]));
+    by_switches && (1..printed.len()).all(|i| printed[i - 1].value < printed[i].value)
+}
+
 #[test]
 fn a_locked_sum_has_two_outcomes(rt: HostRuntime) -> Result<(), FileError> {
     let o = outcomes_of(&rt, SHARED, 2, 10_000)?;
@@ -107,5 +130,44 @@ fn a_wait_behind_its_notification_is_for_ever(rt: HostRuntime) -> Result<(), Fil
 fn outcomes_of_a_search_that_was_cut_are_not_all(rt: HostRuntime) -> Result<(), FileError> {
     let o = outcomes_of(&rt, SHARED, 2, 3)?;
     assert!(&rt; !o.is_whole);
+    Ok(())
+}
+
+#[test]
+fn a_clock_is_read_whole_under_its_lock(rt: HostRuntime) -> Result<(), FileError> {
+    let o = outcomes_of(&rt, CLOCK, 2, 10_000)?;
+    assert!(&rt; o.is_whole);
+    assert_eq!(&rt; o.listed.len(), 2);
+    assert_eq!(&rt; o.printed.len(), 2);
+    assert!(&rt; prints(&o, 159));
+    assert!(&rt; prints(&o, 200));
+    Ok(())
+}
+
+#[test]
+fn a_clock_is_seen_torn_without_its_lock(rt: HostRuntime) -> Result<(), FileError> {
+    let o = outcomes_of(&rt, CLOCK, 3, 10_000)?;
+    assert!(&rt; o.is_whole);
+    assert_eq!(&rt; o.listed.len(), 16);
+    assert_eq!(&rt; many_ordered(&o), 16);
+    assert_eq!(&rt; o.printed.len(), 4);
+    assert!(&rt; prints(&o, 100));
+    assert!(&rt; prints(&o, 160));
+    assert!(&rt; are_in_order(&o));
+    Ok(())
+}
+
+/// The one that is woken here is that with the lowest number, so no order comes to the two outcomes
+/// where another one is.
+#[test]
+fn a_notification_may_wake_one_who_waits_again(rt: HostRuntime) -> Result<(), FileError> {
+    let o = outcomes_of(&rt, SLOT, 3, 10_000)?;
+    assert!(&rt; o.is_whole);
+    assert_eq!(&rt; o.listed.len(), 3);
+    assert_eq!(&rt; many_stuck(&o, 3, 0), 1);
+    assert_eq!(&rt; many_stuck(&o, 3, 2), 2);
+    assert_eq!(&rt; many_ordered(&o), 1);
+    assert!(&rt; o.listed.as_slice().iter().all(|x| x.at.steps.is_some()));
+    assert!(&rt; are_in_order(&o));
     Ok(())
 }
