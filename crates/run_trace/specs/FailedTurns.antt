@@ -1,5 +1,5 @@
--- Failed turns: a thread looks in vain for what another one has to give, and changes nothing but
--- their count. Of those in a row the first is told; those behind it are left out, and the next
+-- Failed turns: a thread looks in vain for what another one has to give, and changes no word that
+-- threads share. Of those in a row the first is told; those behind it are left out, and the next
 -- event of the thread that is told says how many.
 use Rattle.std.specs.Prelude.{ℕ, ◌+◌, ◌-◌, nat_lt, Bool, true, false, ◌&&◌, Option, Some}
 use Rattle.machine_types.specs.Threads.{Thread}
