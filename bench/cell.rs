@@ -8,12 +8,12 @@
 //! ```
 //!
 //! The numbers are how many milliseconds each cell of the table is measured, and how often; the medians are shown. Measured is
-//! a reader's processor time for each read that succeeded: time that it sleeps in a lock is not in it. It is shown for the
-//! mutex in nanoseconds, and for the others as a part of that.
-
+//! the time that a reader takes for each read that succeeded, with what it waits for a lock. It is shown for the mutex in
+//! nanoseconds, and for the others as a part of that. With the word `busy` behind the numbers it is a reader's processor time,
+//! in which what it sleeps in a lock is not; on a machine that does other work this says more.
 
 use std::hint::black_box;
-use std::sync::atomic::{fence, AtomicBool, AtomicU64, Ordering::*};
+use std::sync::atomic::{fence, AtomicBool, AtomicI32, AtomicU64, Ordering::*};
 use std::sync::{Arc, Barrier, Mutex, RwLock};
 use std::thread::{scope, sleep};
 use std::time::Duration;
@@ -225,18 +225,25 @@ unsafe extern "C" {
     fn clock_gettime(clock: i32, time: *mut Time) -> i32;
 }
 
-/// Nanoseconds of processor time of this thread.
-fn busy() -> f64 {
+/// Linux's CLOCK_MONOTONIC, and CLOCK_THREAD_CPUTIME_ID.
+const ELAPSED: i32 = 1;
+const BUSY: i32 = 3;
+
+/// The clock that is measured by.
+static CLOCK: AtomicI32 = AtomicI32::new(ELAPSED);
+
+/// Nanoseconds by that clock.
+fn now() -> f64 {
     let mut time = Time(0, 0);
-    // SAFETY: Linux's `struct timespec` on 64 bits; 3 is CLOCK_THREAD_CPUTIME_ID.
-    unsafe { clock_gettime(3, &mut time) };
+    // SAFETY: Linux's `struct timespec` on 64 bits.
+    unsafe { clock_gettime(CLOCK.load(Relaxed), &mut time) };
     time.0 as f64 * 1e9 + time.1 as f64
 }
 
-/// Reads that succeeded, tries that failed, and nanoseconds of processor time.
+/// Reads that succeeded, tries that failed, and nanoseconds.
 fn read_on<H: Hand>(hand: &mut H, size: usize, over: &AtomicBool) -> (u64, u64, f64) {
     let (mut out, mut reads, mut failed) = ([0; MOST], 0, 0);
-    let start = busy();
+    let start = now();
     while !over.load(Relaxed) {
         for _ in 0..64 {
             if hand.read(black_box(&mut out[..size])) {
@@ -247,7 +254,7 @@ fn read_on<H: Hand>(hand: &mut H, size: usize, over: &AtomicBool) -> (u64, u64, 
             }
         }
     }
-    (reads, failed, busy() - start)
+    (reads, failed, now() - start)
 }
 
 fn write_on<H: Hand>(hand: &mut H, size: usize, writer: Writer, over: &AtomicBool) {
@@ -332,9 +339,14 @@ fn row(size: usize, readers: usize, writer: Writer, time: Duration, rounds: usiz
 }
 
 fn main() {
-    let mut args = std::env::args().skip(1).map(|a| a.parse::<u64>().unwrap());
-    let time = Duration::from_millis(args.next().unwrap_or(20));
-    let rounds = args.next().unwrap_or(7) as usize;
+    let (words, numbers): (Vec<String>, Vec<String>) =
+        std::env::args().skip(1).partition(|word| word == "busy");
+    if !words.is_empty() {
+        CLOCK.store(BUSY, Relaxed);
+    }
+    let mut numbers = numbers.iter().map(|number| number.parse::<u64>().unwrap());
+    let time = Duration::from_millis(numbers.next().unwrap_or(20));
+    let rounds = numbers.next().unwrap_or(7) as usize;
     println!("| Words | Readers | Writer | Mutex, ns | RwLock | Cell | Cell, `read_into` | Latch cell, `read_into` | By hand | Failed tries: cell, `read_into`, latch cell, by hand |");
     println!("|{}", "---|".repeat(10));
     for size in [1, 8, 64] {
