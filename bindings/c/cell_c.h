@@ -3,12 +3,12 @@
  * ./cell builds it. Link: cc prog.c libcell_c.a liblibc_c.a -lpthread   (the second calls malloc, realloc and free)
  *
  * What the program owes, since nothing checks it:
- *   - A seat is CELL_C_NO_SEAT before its first call, and is changed by these calls alone. A copy of the struct is no seat:
- *     of a seat and its copies only one may ever be passed on.
+ *   - A seat is CELL_C_NO_SEAT before its first call (an initialiser; `seat.at = NULL` says the same), and is changed by
+ *     these calls alone. It may be moved: of a seat and its copies only one is used from then on.
  *   - One call at a time has a seat. Give each thread one of its own (cell_c_split). A seat may go to another thread over a
  *     thread's start or join, a lock, or a sequentially consistent atomic.
  *   - `seat`, `other`, `out`, `values` and `count` are not null, do not overlap in one call, and point to as much as is said;
- *     no other thread uses that memory during the call. (The inline functions below test for null.)
+ *     no other thread uses that memory during the call. (The three inline functions below test for null.)
  *   - malloc, realloc and free are one allocator, aligned to 16. No call from a signal handler, nor from a child forked by a
  *     process with threads.
  * What the calls test themselves: that there is a seat, the number of words, the opening count, memory. A seat has its cell
@@ -42,17 +42,18 @@ enum {
     CELL_C_NULL = 8           /* of the inline functions: a null pointer */
 };
 
-/* A new cell with these values under this count. Its first seat comes into `seat`; the seat that was there is closed. */
+/* A new cell with these values under this count. Where the answer is CELL_C_DONE its first seat comes into `seat`, and the seat
+ * that was there is closed; else that stays as it was. */
 uint32_t cell_c_open(const uint64_t *values, size_t len, uint64_t count, cell_c_seat *seat);
 
 /* The same with a latch cell: it has two copies of the values, and no write holds up its reads. A read fails with CELL_C_CHANGED
  * alone, where in each of two attempts a whole write ended. All calls below are for seats of either kind. */
 uint32_t cell_c_open_latch(const uint64_t *values, size_t len, uint64_t count, cell_c_seat *seat);
 
-/* Gives a seat up. The last one of a cell frees the cell. `seat` is none then. */
+/* Gives a seat up, if it is one. The last one of a cell frees the cell. `seat` is none then. */
 void cell_c_close(cell_c_seat *seat);
 
-/* One more seat of the same cell, into `other`; the seat that was there is closed. */
+/* One more seat of the same cell, into `other`, whose own seat is closed where the answer is CELL_C_DONE, and else stays. */
 uint32_t cell_c_split(cell_c_seat *seat, cell_c_seat *other);
 
 /* All values of one count into `out`, and that count into `count`: no less than what this seat saw before. After any other
@@ -63,19 +64,20 @@ uint32_t cell_c_read(cell_c_seat *seat, uint64_t *out, size_t len, uint64_t *cou
  * was tried (CELL_C_NO_SEAT_GIVEN, CELL_C_WRONG_LENGTH), its words are any. `count` is then as it was. */
 uint32_t cell_c_read_into(cell_c_seat *seat, uint64_t *out, size_t len, uint64_t *count);
 
-/* These values under the next count, which comes into `count`. After any other answer nothing was written. Waits for nobody. */
+/* These values under the next count, which comes into `count`. After any other answer nothing was written, and `count` is as
+ * it was. Waits for nobody. */
 uint32_t cell_c_write(cell_c_seat *seat, const uint64_t *values, size_t len, uint64_t *count);
 
 static inline uint32_t cell_c_read_checked(cell_c_seat *seat, uint64_t *out, size_t len, uint64_t *count) {
-    return seat && out && count ? cell_c_read(seat, out, len, count) : CELL_C_NULL;
+    return seat && out && count ? cell_c_read(seat, out, len, count) : (uint32_t)CELL_C_NULL;
 }
 
 static inline uint32_t cell_c_read_into_checked(cell_c_seat *seat, uint64_t *out, size_t len, uint64_t *count) {
-    return seat && out && count ? cell_c_read_into(seat, out, len, count) : CELL_C_NULL;
+    return seat && out && count ? cell_c_read_into(seat, out, len, count) : (uint32_t)CELL_C_NULL;
 }
 
 static inline uint32_t cell_c_write_checked(cell_c_seat *seat, const uint64_t *values, size_t len, uint64_t *count) {
-    return seat && values && count ? cell_c_write(seat, values, len, count) : CELL_C_NULL;
+    return seat && values && count ? cell_c_write(seat, values, len, count) : (uint32_t)CELL_C_NULL;
 }
 
 #ifdef __cplusplus
