@@ -10,7 +10,7 @@ use Rattle.checked_program.specs.{Colours.{ColourShape, entry_colours, is_read_o
 use Rattle.checked_program.specs.OwnedArrays.{may_take_array, TakesArrayWell, StoresGuarded, UsesArrayWell, IsOwnedArrayField, IsOwnedAt, owns_arrays, AreUses}
 use Rattle.checked_program.specs.{SectionLaws.{AreTagged, OneColouring, KeepsArray, ArrayLaw, ElementWriteLaw, OwnedIsDecided}, TaggedCode.{Tagged, IsAt, row_of}, Tagging.catchers}
 use Rattle.checked_program.{specs.declared.section.Uses.Uses, proofs.NamedFields.target_named}
-use Rattle.laws_sections.proofs.{FieldWrites.or_three, TaggedPaths.{IsEdgeTo, all_reach}}
+use Rattle.laws_sections.proofs.{FieldWrites.{in_init, or_three}, TaggedPaths.{IsEdgeTo, all_reach}}
 use Rattle.jvm_types.specs.declared.code.Op.TheVariants as ops
 use Rattle.jvm_types.specs.declared.program.Target.TheVariants as targets
 
@@ -131,15 +131,10 @@ no_rule true b c e = absurd (cc)
 no_rule false true c e = absurd (cc)
 no_rule false false c e = refl
 
-shown_to : (private same : Bool) → (private && not same) ≡ false → private ≡ true → same ≡ true
-shown_to true true e f = refl
-shown_to true false e f = absurd (cc)
-shown_to false same e f = absurd (cc)
-
 own_field : (p : Program) (fi : ℕ) (field : FieldInfo) (site : MethodSite) (writes : Bool) → slice_get p.fields fi ≡ Some field → is_private field.flags ≡ true → IsFieldTarget p site false writes (targets.Field fi) → field.class ≡ site.class
 own_field p fi field site writes there private named =
     let rule : field_rule false writes site field.class field.flags ≡ None = subst (λ (o : Option FieldInfo). IsSomeAnd o (λ f. field_rule false writes site f.class f.flags ≡ None)) there named in
-    eqb-true field.class site.class (shown_to (is_private field.flags) (field.class == site.class)
+    eqb-true field.class site.class (in_init (is_private field.flags) (field.class == site.class)
     (no_rule (is_other_sort false field.flags) (is_hidden site field.class field.flags) (writes && is_final field.flags && not (initializes site false field.class)) rule) private)
 
 pub reads_own : (p : Program) (fi : ℕ) (field : FieldInfo) (m : MethodInfo) (op : Op) (target : Target) → slice_get p.fields fi ≡ Some field → is_private field.flags ≡ true → IsTargetOf p (site_in m) op target → is_read_of fi op target ≡ true → field.class ≡ m.class

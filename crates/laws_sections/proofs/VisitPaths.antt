@@ -1,7 +1,7 @@
 -- The course of the visits of any kind: under the last frames each instruction is sound, and what goes along the edges from
 -- the start on holds of every instruction with a frame.
 use Rattle.std.proofs.Common.{◌≡◌, ℕ, zero, suc, length, length-set, Bool, true, false, cond, List, [], ◌∷◌, map, Option, Some, None, Result, Ok, ◌⊎◌, inl, inr, refl, sym, ap, ◌∙◌, subst, ◌==◌, slice_get, slice_set}
-use Rattle.std.{specs.List.AllByRecursion, proofs.lemmas.List.length-map}
+use Rattle.std.{specs.List.AllByRecursion, proofs.lemmas.{List.length-map, Option.same_Some}}
 use Rattle.jvm_types.{specs.declared.code.Insn.Insn, proofs.EachAfter.all_weaker}
 use Rattle.laws_programs.proofs.LocalGoing.{got_set}
 use Rattle.checked_program.specs.Visits.{Act, Break, Bring, PlanNode, Plan, unreached, joined, edge_brought, edges_brought, meeting_clash, unless_meeting_clash, acted, acts_on, visited_node, plan_visited, first_waiting, next_waiting, nodes_for, plan_nodes, PlanVisits, HasFrames}
@@ -16,14 +16,11 @@ set_to (b ∷ xs) zero (suc j) x n a e f = inr f
 set_to (b ∷ xs) (suc i) zero x n a e f = inr f
 set_to (b ∷ xs) (suc i) (suc j) x n a e f = set_to xs i j x n a e f
 
-some_same : {A : Type 0} {x y : A} → Some x ≡ Some y → x ≡ y
-some_same e = cc
-
 -- ---- none waits
 
 pub rests : {A : Type 0} (k : ℕ) (nodes : List (PlanNode A)) (i : ℕ) (node : PlanNode A) → first_waiting k nodes ≡ None → slice_get nodes i ≡ Some node → node.waits ≡ false
 rests k [] i node h e = absurd (cc)
-rests k (a ∷ nodes) zero node h e = ap (λ n. n.waits) (sym (some_same e)) ∙ (unwaiting a.waits (first_waiting (suc k) nodes) h).0
+rests k (a ∷ nodes) zero node h e = ap (λ n. n.waits) (sym (same_Some _ _ e)) ∙ (unwaiting a.waits (first_waiting (suc k) nodes) h).0
   where
     unwaiting : (t : Bool) (more : Option ℕ) → cond t (Some k) more ≡ None → (t ≡ false) × (more ≡ None)
     unwaiting true more h = absurd (cc)
@@ -84,7 +81,7 @@ module _ {A R : Type 0} (p : Plan A R) (Below : A → A → Type 0) (order : Ord
           }
       by_frame (Some g) k made =
           let done : Does p.meeting Below order p.code (p.acts i g) (slice_set nodes i (cleared node)) mid = does p.meeting Below order p.code (p.acts i g) (slice_set nodes i (cleared node)) mid made in
-          record { there = e; risen = done.risen; sound = λ f h. subst (λ (x : A). Sound p.meeting Below order p.code mid (p.acts i x)) (some_same (sym k ∙ h)) done.sound }
+          record { there = e; risen = done.risen; sound = λ f h. subst (λ (x : A). Sound p.meeting Below order p.code mid (p.acts i x)) (same_Some _ _ (sym k ∙ h)) done.sound }
 
   visit_goes : (i : ℕ) (node : PlanNode A) (nodes mid : List (PlanNode A)) → IsGoing nodes → IsVisit i node nodes mid → IsGoing mid
   visit_goes i node nodes mid going v j b f e w k = at (risen_from p.meeting Below order (slice_set nodes i (cleared node)) mid j b v.risen e)
@@ -123,12 +120,12 @@ module _ {A R : Type 0} (p : Plan A R) (Below : A → A → Type 0) (order : Ord
 
   none_framed : (code : List Insn) (i : ℕ) (node : PlanNode A) → slice_get (map (λ other. unreached) code) i ≡ Some node → node.frame ≡ None
   none_framed [] i node e = absurd (cc)
-  none_framed (insn ∷ code) zero node e = sym (ap (λ (n : PlanNode A). n.frame) (some_same e))
+  none_framed (insn ∷ code) zero node e = sym (ap (λ (n : PlanNode A). n.frame) (same_Some _ _ e))
   none_framed (insn ∷ code) (suc i) node e = none_framed code i node e
 
   first_framed : (code : List Insn) (i : ℕ) (node : PlanNode A) (f : A) → slice_get (nodes_for p.first code) i ≡ Some node → node.frame ≡ Some f → (i ≡ 0) × (node.waits ≡ true) × (p.first ≡ f)
   first_framed [] i node f e k = absurd (cc)
-  first_framed (insn ∷ code) zero node f e k = (refl, sym (ap (λ (n : PlanNode A). n.waits) (some_same e)), some_same (ap (λ (n : PlanNode A). n.frame) (some_same e) ∙ k))
+  first_framed (insn ∷ code) zero node f e k = (refl, sym (ap (λ (n : PlanNode A). n.waits) (same_Some _ _ e)), same_Some _ _ (ap (λ (n : PlanNode A). n.frame) (same_Some _ _ e) ∙ k))
   first_framed (insn ∷ code) (suc i) node f e k = let bad : None ≡ Some f = sym (none_framed code i node e) ∙ k in absurd (cc)
 
   first_going : IsGoing (plan_nodes p)
@@ -138,7 +135,7 @@ module _ {A R : Type 0} (p : Plan A R) (Below : A → A → Type 0) (order : Ord
 
   framed_at : (nodes : List (PlanNode A)) (i : ℕ) (f : A) → slice_get (map {B = Option A} (λ node. node.frame) nodes) i ≡ Some (Some f) → (node : PlanNode A) × (slice_get nodes i ≡ Some node) × (node.frame ≡ Some f)
   framed_at [] i f e = absurd (cc)
-  framed_at (a ∷ nodes) zero f e = (a, refl, some_same e)
+  framed_at (a ∷ nodes) zero f e = (a, refl, same_Some _ _ e)
   framed_at (a ∷ nodes) (suc i) f e = framed_at nodes i f e
 
   -- the last nodes are these, and all are sound
@@ -166,7 +163,7 @@ module _ {A R : Type 0} (p : Plan A R) (Below : A → A → Type 0) (order : Ord
 
   at_framed : (nodes : List (PlanNode A)) (i : ℕ) (b : PlanNode A) (f : A) → slice_get nodes i ≡ Some b → IsBelow p.meeting Below order (Some f) b.frame → (g : A) × (slice_get (map {B = Option A} (λ node. node.frame) nodes) i ≡ Some (Some g))
   at_framed [] i b f e h = absurd (cc)
-  at_framed (a ∷ nodes) zero b f e h = some_frame a.frame (subst (λ (n : PlanNode A). IsBelow p.meeting Below order (Some f) n.frame) (sym (some_same e)) h)
+  at_framed (a ∷ nodes) zero b f e h = some_frame a.frame (subst (λ (n : PlanNode A). IsBelow p.meeting Below order (Some f) n.frame) (sym (same_Some _ _ e)) h)
     where
       some_frame : (o : Option A) → IsBelow p.meeting Below order (Some f) o → (g : A) × (Some o ≡ Some (Some g))
       some_frame None h = absurd h
@@ -194,8 +191,8 @@ module _ {A R : Type 0} (p : Plan A R) (Below : A → A → Type 0) (order : Ord
       by_test (insn.pc == to) refl (λ e. brought_live (λ i. L (suc i)) (λ i g f a b. meets (suc i) g f a b) code to f nodes (λ j first. there (suc j) (e, first)) (λ j b g k h. all (suc j) b g k h))
     where
       at_first : (b : PlanNode A) (g : A) → (insn.pc == to) ≡ true → (o : Option A) → node.frame ≡ o → Some (joined p.meeting node.waits o f) ≡ Some b → b.frame ≡ Some g → L 0 g
-      at_first b g t None k e h = subst (L 0) (some_same (ap (λ (n : PlanNode A). n.frame) (some_same e) ∙ h)) (there 0 t)
-      at_first b g t (Some x) k e h = subst (L 0) (some_same (ap (λ (n : PlanNode A). n.frame) (some_same e) ∙ h)) (meets 0 x f (all 0 node x refl k) (there 0 t))
+      at_first b g t None k e h = subst (L 0) (same_Some _ _ (ap (λ (n : PlanNode A). n.frame) (same_Some _ _ e) ∙ h)) (there 0 t)
+      at_first b g t (Some x) k e h = subst (L 0) (same_Some _ _ (ap (λ (n : PlanNode A). n.frame) (same_Some _ _ e) ∙ h)) (meets 0 x f (all 0 node x refl k) (there 0 t))
 
       by_test : (t : Bool) → (insn.pc == to) ≡ t → ((insn.pc == to) ≡ false → AreLive (λ i. L (suc i)) (edge_brought p.meeting code to f nodes)) → AreLive L (cond t (joined p.meeting node.waits node.frame f ∷ nodes) (node ∷ edge_brought p.meeting code to f nodes))
       by_test true t more zero b g k h = at_first b g t node.frame refl k h
@@ -280,7 +277,7 @@ module _ {A R : Type 0} (p : Plan A R) (Below : A → A → Type 0) (order : Ord
   first_below [] (i ∷ is) last b v e = absurd (let bad : None ≡ Some i = v.0 in cc)
   first_below (insn ∷ code) is last b v e =
       let on = framed_on is (nodes_for p.first (insn ∷ code)) last v 0 p.first (record { frame = Some p.first; waits = true }, refl, order.self p.first) in
-      let same : on.0 ≡ b = some_same (sym on.1 ∙ e) in
+      let same : on.0 ≡ b = same_Some _ _ (sym on.1 ∙ e) in
       subst (λ (n : PlanNode A). IsBelow p.meeting Below order (Some p.first) n.frame) same on.2
 
   pub starts_below : (is : List ℕ) (last : List (PlanNode A)) (b : PlanNode A) → PlanVisits p (plan_nodes p) is last → slice_get last 0 ≡ Some b → IsBelow p.meeting Below order (Some p.first) b.frame

@@ -1,7 +1,7 @@
 -- What visits of any kind leave at the nodes, of whatever code: frames only rise, one that has changed waits, and under the
 -- last frames no rule is broken and each edge to a node with a frame fits. Where pcs repeat, an edge leads to the first.
 use Rattle.std.proofs.Common.{◌≡◌, ℕ, zero, suc, length, Bool, true, false, cond, not, ◌&&◌, ◌||◌, List, [], ◌∷◌, Option, Some, None, Result, Ok, refl, sym, ap, ◌∙◌, subst, arith, ◌==◌, slice_get, IsSomeAnd}
-use Rattle.std.{specs.List.{AllByRecursion, AllZip}, proofs.lemmas.Bool.{or_parts, Decides.nat_tests}}
+use Rattle.std.{specs.List.{AllByRecursion, AllZip}, proofs.lemmas.{Bool.{or_parts, Decides.nat_tests}, Option.same_Some}}
 use Rattle.jvm_types.{specs.{Numbers.has_number, declared.code.Insn.Insn}, proofs.EachAfter.all_weaker}
 use Rattle.checked_program.specs.Visits.{Meeting, Act, Break, Bring, PlanNode, joined, edge_brought, edges_brought, clashes_with, meeting_clash, unless_meeting_clash, acted}
 
@@ -21,9 +21,6 @@ pub record Orders {A : Type 0} (d : Meeting A) (Below : A → A → Type 0) : Ty
   -- a frame may meet itself, and one that it met it may meet again
   pub own : (f : A) → d.clashes f f ≡ false
   pub again : (g f : A) → d.clashes g f ≡ false → d.clashes (d.meet g f) f ≡ false
-
-some_same : {A : Type 0} {x y : A} → Some x ≡ Some y → x ≡ y
-some_same e = cc
 
 either_is_false : (t u : Bool) → t ≡ false → u ≡ false → (t || u) ≡ false
 either_is_false true u e f = e
@@ -174,7 +171,7 @@ module _ {A : Type 0} (d : Meeting A) (Below : A → A → Type 0) (order : Orde
           at : (j : ℕ) (b : PlanNode A) → IsFirstOf (insn ∷ code) to j → slice_get (joined d node.waits node.frame f ∷ nodes) j ≡ Some b → IsBelow (Some f) b.frame
           at zero b first e =
               let free : clashes_with d node.frame f ≡ false = here (to == insn.pc) (has_number tos insn.pc) (clashes_with d node.frame f) (same_test true t) c in
-              subst (λ (n : PlanNode A). IsBelow (Some f) n.frame) (some_same e) (joined_rises node.waits node.frame f free).1
+              subst (λ (n : PlanNode A). IsBelow (Some f) n.frame) (same_Some _ _ e) (joined_rises node.waits node.frame f free).1
           at (suc j) b first e = absurd (let bad : true ≡ false = sym t ∙ first.0 in cc)
       by_test false t c k more = record {
         risen = (node_self node, more.risen);

@@ -4,6 +4,7 @@ use Rattle.std.proofs.Common.{◌≡◌, ℕ, zero, suc, Bool, true, false, cond
 use Rattle.std.{specs.List.AllByRecursion, proofs.lemmas.{Bool.{eq-eqb, Decides.nat_tests}, List.length-map}}
 use Rattle.jvm_types.{specs.{CodeGrammar.is_start, declared.code.Insn.Insn}, proofs.EachAfter.all_weaker}
 use Rattle.checked_program.specs.Visits.{Act, Break, Bring, PlanNode, Plan, plan_nodes, HasFrames, frame_at_pc, EdgeFits}
+use Rattle.laws_sections.proofs.TaggedPaths.{first_there}
 use Rattle.laws_sections.proofs.VisitPaths.{AreLive, ActLeads, IsSettled, settled, visits_length, first_length, all_lead, first_live, starts_below}
 use Rattle.laws_sections.proofs.VisitedNodes.{IsFirstOf, Orders, IsBelow, LandsOn, Sound}
 
@@ -68,11 +69,6 @@ landing {A = A} Below (insn ∷ code) (frame ∷ frames) f to h = by_test (insn.
 abbrev pub frames_of : {A : Type 0} → List (PlanNode A) → List (Option A)
 frames_of nodes = map (λ node. node.frame) nodes
 
-first_insn : (code : List Insn) (to j : ℕ) → IsFirstOf code to j → (insn : Insn) × (slice_get code j ≡ Some insn) × (insn.pc ≡ to)
-first_insn [] to j first = absurd first
-first_insn (insn ∷ code) to zero first = (insn, refl, grind (arith, nat_tests, first))
-first_insn (insn ∷ code) to (suc j) first = first_insn code to j first.1
-
 module _ {A R : Type 0} (p : Plan A R) (Below : A → A → Type 0) (o : Orders p.meeting Below) where
   lands_fit : (code : List Insn) (nodes : List (PlanNode A)) (f : A) (to : ℕ) → is_start code to ≡ true → length nodes ≡ length code → LandsOn p.meeting Below o code nodes f to → EdgeFits Below code (frames_of nodes) f to
   lands_fit [] nodes f to s l h = absurd (cc)
@@ -86,7 +82,7 @@ module _ {A R : Type 0} (p : Plan A R) (Below : A → A → Type 0) (o : Orders 
 
   module _ (L : ℕ → A → Type 0) (closed : IsClosed p L) where
     edge_leads : (f : A) (to : ℕ) → Lands L p.code f to → (j : ℕ) → IsFirstOf p.code to j → L j f
-    edge_leads f to h j first = let i = first_insn p.code to j first in h.live j i.0 i.1 i.2
+    edge_leads f to h j first = let i = first_there p.code to j first in h.live j i.0 i.1 i.2
 
     act_leads : (act : Act A R) → ActLands L p.code act → ActLeads p Below o L act
     act_leads (Break rule pc) h = tt
