@@ -5,7 +5,7 @@ use Rattle.jvm_types.specs.{CodeGrammar.{SpellsInsns, SpellsOp, is_start, IsStar
 use Rattle.jvm_types.specs.{Verifying.{IsLaidOut, new_class}, declared.{class_file.Handler.Handler, code.{Insn.Insn, Op.Op}, program.{MethodInfo.MethodInfo, Program.Program, Row.Row, Target.Target}}}
 use Rattle.jvm_types.proofs.EachAfter.{all_weaker}
 use Rattle.laws_programs.specs.CodeLaws.{MethodsAreLaidOut, PcsAscend, OneInsn, PcsAreShort, CodeStarts, NextFollows, Begins, StartsBegin, BranchesBegin, HandlersBegin, InsnsHaveTargets, ClassOfNew}
-use Rattle.laws_programs.proofs.LocalGoing.{at_index}
+use Rattle.laws_programs.proofs.{LeastFrames.some_front, LocalGoing.at_index}
 use Rattle.jvm_types.specs.declared.program.Target.TheVariants as targets
 
 -- ---- a method of a program is laid out
@@ -29,9 +29,6 @@ pub methods_laid_out : MethodsAreLaidOut
 methods_laid_out p number m is e = laid_out p (take number p.methods) m (is.methods number m e)
 
 -- ---- pcs
-
-some_front : (pc : ℕ) (op : Op) (front : List ℕ) → SpellsOp pc op front → 0 < length front
-some_front pc op front s = omega (arith, ap length s.is)
 
 later : (pc : ℕ) (insns : List Insn) (bytes : List ℕ) (i : ℕ) (insn : Insn) → SpellsInsns pc insns bytes → slice_get insns i ≡ Some insn → pc ≤ insn.pc
 later pc [] bytes i insn s e = absurd (cc)

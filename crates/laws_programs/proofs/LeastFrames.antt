@@ -94,19 +94,19 @@ abbrev pub AreDistinct : List Insn → Type 0
 AreDistinct [] = Unit {0}
 AreDistinct (insn ∷ insns) = (is_start insns insn.pc ≡ false) × AreDistinct insns
 
-pub behind : (pc : ℕ) (op : Op) (bytes : List ℕ) → SpellsOp pc op bytes → 0 < length bytes
-behind pc op bytes h = rw h.is (omega arith)
+pub some_front : (pc : ℕ) (op : Op) (bytes : List ℕ) → SpellsOp pc op bytes → 0 < length bytes
+some_front pc op bytes h = rw h.is (omega arith)
 
 starts_later : (pc : ℕ) (insns : List Insn) (bytes : List ℕ) (at : ℕ) → SpellsInsns pc insns bytes → at < pc → is_start insns at ≡ false
 starts_later pc [] bytes at h k = refl
 starts_later pc (insn ∷ insns) bytes at h k =
-    let some : 0 < length h.0 = behind pc insn.op h.0 h.5 in
+    let some : 0 < length h.0 = some_front pc insn.op h.0 h.5 in
     or_from (insn.pc == at) (is_start insns at) (ne_eqb insn.pc at (λ e. omega (arith, e, h.3))) (starts_later insn.next insns h.1 at h.6 (omega (arith, h.4)))
 
 pub distinct : (pc : ℕ) (insns : List Insn) (bytes : List ℕ) → SpellsInsns pc insns bytes → AreDistinct insns
 distinct pc [] bytes h = tt
 distinct pc (insn ∷ insns) bytes h =
-    let some : 0 < length h.0 = behind pc insn.op h.0 h.5 in
+    let some : 0 < length h.0 = some_front pc insn.op h.0 h.5 in
     (starts_later insn.next insns h.1 insn.pc h.6 (omega (arith, h.3, h.4)), distinct insn.next insns h.1 h.6)
 
 -- ---- depths

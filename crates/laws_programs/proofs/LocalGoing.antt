@@ -5,7 +5,7 @@ use Rattle.jvm_types.specs.{CodeGrammar.{is_start, IsStart, SpellsInsns, RowFits
 use Rattle.jvm_types.specs.Verifying.{Node, node_at, covers, first_nodes, visited, waiting_from, next_visit, Visits, frame_at, FrameFits, IsFrameBelow, IsSound, IsAssignment, IsLaidOut, LocalLaw}
 use Rattle.jvm_types.specs.declared.{class_file.Handler.Handler, code.Insn.Insn, program.{MethodInfo.MethodInfo, Program.Program, Row.Row, Target.Target}}
 use Rattle.laws_programs.proofs.{FrameBounds.entry_bounded, LocalBrought.AreBounded, LocalEdges.{Carries, unclashed}, LocalRisen.{frame_self, IsRisen, risen_at, risen_length, frames_of, fits_risen}}
-use Rattle.laws_programs.proofs.LocalVisit.{Leads, sound_risen, cleared, cleared_frames, visit_carries, visit_sound}
+use Rattle.laws_programs.proofs.{LocalVisit.{Leads, sound_risen, cleared_frames, visit_carries, visit_sound}, VisitsEnd.cleared}
 
 -- ---- a method that is laid out
 

@@ -6,7 +6,7 @@ use Rattle.jvm_types.specs.Verifying.{Node, node_at, broken_before, broken_after
 use Rattle.jvm_types.specs.declared.{code.Insn.Insn, op_row.OpRow.OpRow, program.{MethodInfo.MethodInfo, Program.Program, Row.Row, Target.Target}, refusal.VRule.{VRule, TheVariants.{V6, V8}}}
 use Rattle.jvm_types.proofs.EachAfter.{all_append, all_weaker}
 use Rattle.laws_programs.proofs.{FrameBounds.{IsBounded, unbroken, after_bounded}, LocalBrought.{IsFrameBounded, AreBounded}, LocalEdges.{Carries, all_carried, all_fit, edges_deep, Handles, handles}}
-use Rattle.laws_programs.proofs.{LocalRisen.{AreRisen, all_risen_self, all_risen_trans, risen_length, frames_of, fits_risen}, VisitsEnd.unless_broken_ok}
+use Rattle.laws_programs.proofs.{LocalRisen.{AreRisen, all_risen_self, all_risen_trans, risen_length, frames_of, fits_risen}, VisitsEnd.{cleared, unless_broken_ok}}
 
 -- ---- where an instruction leads to
 
@@ -91,9 +91,6 @@ as_row p m insn target frame nodes mid x t f c d g e = rw (c, d, g) at e
 -- ---- the node that is visited
 
 -- it waits no more
-abbrev pub cleared : List Node → ℕ → List Node
-cleared nodes i = slice_set nodes i (record (node_at nodes i) { waits = false })
-
 pub cleared_frames : (nodes : List Node) (i : ℕ) → frames_of (cleared nodes i) ≡ frames_of nodes
 cleared_frames [] i = refl
 cleared_frames (node ∷ nodes) zero = refl

@@ -5,7 +5,7 @@ use Rattle.jvm_types.specs.{CodeGrammar.SpellsInsns, CodeTable.{row, type_of, is
 use Rattle.jvm_types.specs.Verifying.{Node, node_at, first_nodes, node_met, brought, all_brought, handled, covering, frame_at_handler, frame_after, edges, clash, catch_fault, broken_before, broken_after, gone_on, visited_row, visited_insn, visited, Visits}
 use Rattle.jvm_types.specs.declared.{code.Insn.Insn, op_row.OpRow.OpRow, program.{Kind.Kind, MethodInfo.MethodInfo, Program.Program, Row.Row, Target.Target}, typing.VType.VType}
 use Rattle.jvm_types.{specs.declared.typing.VType.TheVariants.{Int, Null, Ref, This, New, Top}, proofs.EachAfter.all_append}
-use Rattle.laws_programs.{specs.NewLaws.{IsNewBefore, AreBehind, NewIsBehind}, proofs.{LeastFrames.behind, LocalEdges.uncaught, LocalRisen.frames_of, LocalVisit.{unclashed, cleared, cleared_frames}}}
+use Rattle.laws_programs.{specs.NewLaws.{IsNewBefore, AreBehind, NewIsBehind}, proofs.{LeastFrames.some_front, LocalEdges.uncaught, LocalRisen.frames_of, LocalVisit.{unclashed, cleared_frames}, VisitsEnd.cleared}}
 use Rattle.laws_programs.proofs.{NewEdges.stays_behind, VisitsEnd.unless_broken_ok}
 use Rattle.jvm_types.specs.declared.program.Kind.TheVariants as kinds
 
@@ -156,7 +156,7 @@ goes_on : (pc : ℕ) (insns : List Insn) (bytes : List ℕ) (i : ℕ) (insn : In
 goes_on pc [] bytes i insn s e = absurd (cc)
 goes_on pc (x ∷ insns) bytes zero insn s e =
     let same : x ≡ insn = cc in
-    omega (arith, s.3, s.4, behind pc x.op s.0 s.5, ap (λ (y : Insn). y.pc) same, ap (λ (y : Insn). y.next) same)
+    omega (arith, s.3, s.4, some_front pc x.op s.0 s.5, ap (λ (y : Insn). y.pc) same, ap (λ (y : Insn). y.next) same)
 goes_on pc (x ∷ insns) bytes (suc i) insn s e = goes_on x.next insns s.1 i insn s.6 e
 
 pub new_behind : NewIsBehind

@@ -196,7 +196,7 @@ insn_lowers p m insn target frame nodes mid h k e =
     subst (λ (n : List Node). Lowers m nodes n) same (same_nodes m nodes k)
 
 -- the nodes where one waits no more
-abbrev cleared : List Node → ℕ → List Node
+abbrev pub cleared : List Node → ℕ → List Node
 cleared nodes i = slice_set nodes i (record (node_at nodes i) { waits = false })
 
 frame_at_kept : (m : MethodInfo) (nodes : List Node) (i : ℕ) → IsKept m nodes → IsFrameKept m (node_at nodes i).frame
