@@ -6,3 +6,4 @@ pub mod StartedLaws
 pub mod OneAnswer
 pub mod VisitLaws
 mod StayLaws
+mod RowsRest

@@ -1,18 +1,22 @@
 -- What the visits keep of the nodes of a method, and what one of them answers.
-use Rattle.std.specs.Prelude.{◌≡◌, ℕ, List, [], ◌∷◌, Option, Some, None, Result, Ok, Err}
+use Rattle.std.specs.Prelude.{◌≡◌, ℕ, true, false, nat_le, List, [], ◌∷◌, Option, Some, None}
+use Rattle.std.specs.Prelude.{Result, Ok, Err}
+use Rattle.std.specs.List.{AllByRecursion}
 use Rattle.jvm_types.specs.Types.{TypeFrame, entry_type_frame}
-use Rattle.jvm_types.specs.Verifying.{covering, broken_before, frame_after, IsRefused}
+use Rattle.jvm_types.specs.Verifying.{covers, covering, broken_before, frame_after, IsRefused}
 use Rattle.jvm_types.specs.declared.code.Insn.{Insn}
 use Rattle.jvm_types.specs.declared.op_row.OpRow.{OpRow}
 use Rattle.jvm_types.specs.declared.program.MethodInfo.{MethodInfo}
 use Rattle.jvm_types.specs.declared.program.Program.{Program}
+use Rattle.jvm_types.specs.declared.program.Row.{Row}
 use Rattle.jvm_types.specs.declared.refusal.VRule.{VRule}
 use Rattle.jvm_types.specs.declared.typing.VType.TheVariants.{Ref}
 use Rattle.checked_program.specs.Visits.{Act, PlanNode, acted}
 use Rattle.code_visits.specs.Level.{AreLevel}
 use Rattle.code_visits.specs.declared.stop.Stop.{Stop}
 use Rattle.code_visits.specs.declared.stop.Stop.TheVariants as stops
-use Rattle.code_visits.specs.TypePlan.{type_local_count, type_meeting}
+use Rattle.code_visits.specs.TypePlan.{type_local_count, type_meeting, caught_acts}
+use Rattle.code_visits.proofs.TypeRests.{AreTypesSound}
 use Rattle.code_verifier.specs.declared.error.VerifyError.{VerifyError}
 use Rattle.code_verifier.specs.declared.error.VerifyError.TheVariants.{Memory, Refused}
 
@@ -30,6 +34,10 @@ HaveLocals m nodes = AreLevel type_local_count (type_local_count (entry_type_fra
 abbrev pub with_object_stack : ℕ → TypeFrame → TypeFrame
 with_object_stack class f = record { stack = Ref class ∷ []; locals = f.locals; ready = f.ready }
 
+-- frames of the same locals, in which `this` is initialised alike
+abbrev pub HasSameLocals : TypeFrame → TypeFrame → Type 0
+HasSameLocals f g = (f.locals ≡ g.locals) × (f.ready ≡ g.ready)
+
 -- ---- one visit
 
 -- some acts of a visit
@@ -42,6 +50,14 @@ type_acts_done m acts nodes = acted type_meeting m.code acts nodes
 abbrev pub KeptTypeFrame : MethodInfo → ℕ → TypeFrame → Option TypeFrame → Type 0
 KeptTypeFrame m pc f None = covering m pc ≡ []
 KeptTypeFrame m pc f (Some g) = g ≡ record { stack = []; locals = f.locals; ready = f.ready }
+
+-- what each row that covers a pc, and begins before another, does with a frame leaves the nodes as
+-- they are
+abbrev pub DoRowsRest : MethodInfo → ℕ → TypeFrame → ℕ → List (PlanNode TypeFrame) → List Row
+    → Type 0
+DoRowsRest m pc f from nodes rows = AllByRecursion
+    (λ handler. covers pc handler ≡ true → nat_le from handler.start ≡ false
+    → AreTypesSound m nodes (caught_acts m pc f handler)) rows
 
 -- a frame breaks no rule at an instruction, and these are the frame after it and what is kept for
 -- handlers

@@ -65,18 +65,18 @@ impl Analysis for Verification {
 
     ghost use Rattle.std.specs.Prelude.{slice_get};
     ghost use Rattle.jvm_types.specs.Types.{entry_type_frame};
-    ghost use Rattle.code_visits.specs.TypePlan.{type_acts_at, TypesKept, types_work};
-    ghost use Rattle.code_visits.proofs.TypesEnd.{types_end};
+    ghost use Rattle.code_visits.specs.TypePlan.{type_acts_at, types_work};
+    ghost use Rattle.code_visits.proofs.TypeRests.{TypesRest, types_rest};
 
     ghost first = { entry_type_frame };
 
     ghost acts = { λ p m i f. type_acts_at p m (slice_get m.code i) (slice_get m.targets i) f };
 
-    ghost is_kept = { λ p m nodes. TypesKept m nodes };
+    ghost is_kept = { λ p m nodes. TypesRest p m nodes };
 
     ghost work = { λ p m nodes. types_work m nodes };
 
-    ghost ends = { types_end };
+    ghost ends = { types_rest };
 
     fn first(alloc: Global, m: &MethodInfo) -> Result<TypeFrame, AllocError> {
         entry_frame(alloc, m)

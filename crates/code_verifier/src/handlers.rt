@@ -6,12 +6,13 @@ ghost use Rattle.jvm_types.specs.Types.{TypeFrame};
 ghost use Rattle.jvm_types.specs.Verifying.{caught_class, catch_fault, covering};
 ghost use Rattle.code_visits.specs.Analyses.{Leaves};
 ghost use Rattle.code_visits.specs.TypePlan.{goes_typed, caught_acts, handled_acts};
-ghost use Rattle.code_verifier.specs.Visiting.{HasLocals, HaveLocals, KeptTypeFrame};
+ghost use Rattle.code_verifier.specs.Visiting.{DoRowsRest, HasLocals, HaveLocals, KeptTypeFrame};
 ghost use Rattle.code_verifier.specs.Visiting.{type_acts_done, with_object_stack};
 
 use crate::analysis::Verification;
 use crate::frames::{with_object, without_stack};
 use crate::meeting::stays;
+use crate::resting::key_of;
 use code_table::is_subclass;
 use code_visits::{Nodes, Stop, go_along};
 use handler_rows::HandledMethod;
@@ -95,23 +96,27 @@ fn catch_row(
     go_along::<Verification, _>(alloc, m, nodes, VRule::V5, &tos, at_handler)
 }
 
-/// The edges to the handlers of the rows that cover a pc, row by row.
+/// The edges to the handlers of the rows that cover a pc, row by row. Those of rows that begin
+/// before another pc change nothing.
 fn handle(
     alloc: Global,
     m: &HandledMethod<'_>,
     nodes: &mut Nodes<TypeFrame>,
     pc: u32,
+    from: u32,
     f: &TypeFrame,
 ) -> Result<(), Stop<VRule>>
     requires level { HaveLocals m.now nodes.old }
     requires locals { HasLocals m.now f.now }
+    requires rest { DoRowsRest m.now pc f.now from nodes.old m.now.rows }
     ensures left { Leaves
         (type_acts_done m.now (handled_acts m.now pc f.now (covering m.now pc)) nodes.old) nodes.new
         result }
     ensures level { OnOk result (HaveLocals m.now nodes.new) }
 {
+    m.laid_out();
     let mut k = 0;
-    while let Some((behind, row)) = m.next_row(k, pc, 0) {
+    while let Some((behind, row)) = m.next_row(k, pc, from) {
         catch_row(alloc, m, nodes, pc, f, row)?;
         k = behind;
     }
@@ -135,23 +140,31 @@ pub fn keep_for_handlers(
     }
 }
 
-/// The edges to the handlers of the rows that cover a pc, with what was kept of the frame there.
+/// The edges to the handlers of the rows that cover the pc of the instruction of this number, with
+/// what was kept of the frame there; those of rows that begin before another pc change nothing. The
+/// number is noted for the locals.
 pub fn handle_kept(
     alloc: Global,
     m: &HandledMethod<'_>,
     nodes: &mut Nodes<TypeFrame>,
+    i: usize,
     pc: u32,
+    from: u32,
     kept: &Option<TypeFrame>,
 ) -> Result<(), Stop<VRule>>
     requires level { HaveLocals m.now nodes.old }
     requires locals { IfSome kept.now (HasLocals m.now) }
+    requires rest { IfSome kept.now (λ f. DoRowsRest m.now pc f from nodes.old m.now.rows) }
     ensures left { (f : TypeFrame) → KeptTypeFrame m.now pc f kept.now → Leaves
         (type_acts_done m.now (handled_acts m.now pc f (covering m.now pc)) nodes.old) nodes.new
         result }
     ensures level { OnOk result (HaveLocals m.now nodes.new) }
 {
     match kept {
-        Some(f) => handle(alloc, m, nodes, pc, f),
+        Some(f) => {
+            nodes.note(key_of(f), i)?;
+            handle(alloc, m, nodes, pc, from, f)
+        }
         None => Ok(()),
     }
 }

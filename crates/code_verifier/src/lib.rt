@@ -9,6 +9,7 @@ mod frames;
 mod handlers;
 mod meeting;
 mod operands;
+mod resting;
 mod rules;
 mod type_lists;
 mod verifying;

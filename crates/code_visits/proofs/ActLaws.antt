@@ -18,7 +18,7 @@ then_acted d code (Bring rule tos f ∷ acts) others nodes mid e = by_clash (mee
     by_clash None e h = h e
     by_clash (Some pc) e h = absurd (cc)
 
-broken_acted : {A R : Type 0} (d : Meeting A) (code : List Insn) (acts others : List (Act A R)) (nodes : List (PlanNode A)) (fault : R × ℕ) → acted d code acts nodes ≡ Err fault → acted d code (acts ++ others) nodes ≡ Err fault
+pub broken_acted : {A R : Type 0} (d : Meeting A) (code : List Insn) (acts others : List (Act A R)) (nodes : List (PlanNode A)) (fault : R × ℕ) → acted d code acts nodes ≡ Err fault → acted d code (acts ++ others) nodes ≡ Err fault
 broken_acted d code [] others nodes fault e = absurd (cc)
 broken_acted d code (Break rule pc ∷ acts) others nodes fault e = e
 broken_acted d code (Bring rule tos f ∷ acts) others nodes fault e = by_clash (meeting_clash d code tos f nodes) e (broken_acted d code acts others (edges_brought d code tos f nodes) fault)

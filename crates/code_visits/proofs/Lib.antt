@@ -7,3 +7,5 @@ pub mod ActLaws
 pub mod TypeVisits
 pub mod TypesEnd
 pub mod MethodsWithin
+pub mod RestLaws
+pub mod TypeRests

@@ -17,7 +17,7 @@ meets_length [] (u ∷ us) e = absurd (omega (arith, e))
 meets_length (t ∷ ts) [] e = absurd (omega (arith, e))
 meets_length (t ∷ ts) (u ∷ us) e = ap suc (meets_length ts us (omega (arith, e)))
 
-as_deep : (m n : ℕ) → not (m == n) ≡ false → m ≡ n
+pub as_deep : (m n : ℕ) → not (m == n) ≡ false → m ≡ n
 as_deep m n e = by_cases (cases_eq m n)
   where
     by_cases : (m ≡ n) ⊎ (m ≢ n) → m ≡ n

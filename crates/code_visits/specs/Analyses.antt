@@ -1,6 +1,6 @@
 -- Analyses by visits: what one does, what a visit leaves, and what all answer.
 use Rattle.std.specs.Prelude.{◌≡◌, ◌<◌, ℕ, min, if◌then◌else◌, List, [], ◌∷◌, Option, Some, None}
-use Rattle.std.specs.Prelude.{Result, Ok, Err}
+use Rattle.std.specs.Prelude.{Result, Ok, Err, false, slice_set}
 use Rattle.jvm_types.specs.declared.code.Insn.{Insn}
 use Rattle.jvm_types.specs.declared.program.MethodInfo.{MethodInfo}
 use Rattle.jvm_types.specs.declared.program.Program.{Program}
@@ -25,6 +25,14 @@ pub record Ends {A R : Type 0} (p : Plan A R) (IsKept : List (PlanNode A) → Ty
       → plan_visited p i nodes ≡ Ok mid → IsKept mid
   pub lessens : (nodes mid : List (PlanNode A)) (i : ℕ) → IsKept nodes → next_waiting nodes ≡ Some i
       → plan_visited p i nodes ≡ Ok mid → work mid < work nodes
+
+-- nodes as the visit of a number finds them: some of which this is kept, but that the one of the
+-- number waits no more
+abbrev pub AreUnderVisit : {A : Type 0} → (List (PlanNode A) → Type 0) → ℕ → List (PlanNode A)
+    → Type 0
+AreUnderVisit {A = A} IsKept i nodes =
+    (before : List (PlanNode A)) × IsKept before
+    × (nodes ≡ slice_set before i (record (plan_node_at before i) { waits = false }))
 
 -- ---- edges
 

@@ -7,7 +7,7 @@ ghost use Rattle.jvm_types.specs.declared.program.Program.{Program as Linked};
 ghost use Rattle.checked_program.specs.Visits.{Act, PlanNode, acted, acts_on};
 ghost use Rattle.code_visits.specs.Waiting.{plan_node_at};
 ghost use Rattle.code_visits.specs.Level.{AreLevel};
-ghost use Rattle.code_visits.specs.Analyses.{plan_of, Ends, Leaves};
+ghost use Rattle.code_visits.specs.Analyses.{plan_of, Ends, AreUnderVisit, Leaves};
 
 use crate::frames::Frames;
 use crate::nodes::Nodes;
@@ -49,6 +49,7 @@ pub trait Analysis: Frames {
         i: usize,
     ) -> Result<(), Stop<Self::Rule>>
         requires level { AreLevel Self.width (Self.width (first m.now)) m.now.code nodes.old }
+        requires kept { AreUnderVisit (is_kept p.now m.now) i nodes.old }
         ensures left { Leaves (acted Self.meeting m.now.code (acts_on
             (plan_of Self.meeting first acts p.now m.now) i
             (plan_node_at nodes.old i).frame) nodes.old) nodes.new result }

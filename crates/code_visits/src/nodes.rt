@@ -1,7 +1,7 @@
 //! What is known of each instruction in the course of the visits.
 
-ghost use Rattle.std.specs.Prelude.{◌≡◌, ◌<◌, length, map, replicate, slice_set, true, false, Some};
-ghost use Rattle.std.specs.Prelude.{IfOk, OnOk};
+ghost use Rattle.std.specs.Prelude.{◌≡◌, ◌<◌, length, map, not, replicate, slice_set, true, false};
+ghost use Rattle.std.specs.Prelude.{IfOk, OnOk, Some};
 ghost use Rattle.std.specs.Option.{option_copied, IfSome, IfNone};
 ghost use Rattle.checked_program.specs.Visits.{next_waiting, unreached};
 ghost use Rattle.code_visits.specs.Waiting.{plan_node_at, met, changes};
@@ -11,7 +11,7 @@ use crate::budget::Budget;
 use crate::frames::Frames;
 use jvm_types::Rows;
 use std::alloc::{AllocError, Global};
-use std::collections::BTreeSet;
+use std::collections::{BTreeMap, BTreeSet};
 use std::marker::Model;
 
 /// What is known of an instruction: the frame that its edges met in, and whether that has changed
@@ -22,12 +22,14 @@ struct StoredNode<F> {
     waits: bool,
 }
 
-/// The nodes of the instructions in order, and the numbers of those that wait.
+/// The nodes of the instructions in order, and the numbers of those that wait; and notes by which
+/// an analysis finds an instruction again, of which contracts see nothing.
 #[derive(Drop)]
 pub struct Nodes<F> {
     nodes: Vec<StoredNode<F>>,
     waiting: BTreeSet<usize>,
     budget: Budget,
+    notes: BTreeMap<u64, usize>,
 }
 
 impl<F> Model for Nodes<F> {
@@ -108,6 +110,7 @@ impl<F: Drop> Nodes<F> {
             nodes,
             waiting: BTreeSet::new(alloc),
             budget,
+            notes: BTreeMap::new(alloc),
         })
     }
 
@@ -124,6 +127,30 @@ impl<F: Drop> Nodes<F> {
             Some(node) => node.frame.as_ref(),
             None => None,
         }
+    }
+
+    /// Whether the instruction of this number does not wait.
+    pub fn rests(&self, i: usize) -> bool
+        ensures { result ≡ not (plan_node_at self.now i).waits }
+    {
+        match self.nodes.get(i) {
+            Some(node) => !node.waits,
+            None => true,
+        }
+    }
+
+    /// The number that was noted last for a key, or none. No clause says which: whoever asks has to
+    /// look whether it serves.
+    pub fn noted(&self, key: u64) -> Option<usize> {
+        self.notes.get(&key).copied()
+    }
+
+    /// Notes a number for a key.
+    pub fn note(&mut self, key: u64, i: usize) -> Result<(), AllocError>
+        ensures { self.new ≡ self.old }
+    {
+        self.notes.insert(key, i)?;
+        Ok(())
     }
 
     /// Takes the waiting instruction of least number, which then waits no more.

@@ -58,7 +58,7 @@ module _ {A R : Type 0} (p : Plan A R) (Below : A → A → Type 0) (order : Ord
   act_cleared nodes i node e (Bring rule tos f) s =
       all_weaker (LandsOn p.meeting Below order p.code nodes f) (LandsOn p.meeting Below order p.code (slice_set nodes i (cleared node)) f) (λ to l. lands_cleared nodes i node f to e l) tos s
 
-  sound_cleared : (nodes : List (PlanNode A)) (i : ℕ) (node : PlanNode A) (acts : List (Act A R)) → slice_get nodes i ≡ Some node → Sound p.meeting Below order p.code nodes acts
+  pub sound_cleared : (nodes : List (PlanNode A)) (i : ℕ) (node : PlanNode A) (acts : List (Act A R)) → slice_get nodes i ≡ Some node → Sound p.meeting Below order p.code nodes acts
       → Sound p.meeting Below order p.code (slice_set nodes i (cleared node)) acts
   sound_cleared nodes i node acts e s = all_weaker (IsActFine p.meeting Below order p.code nodes) (IsActFine p.meeting Below order p.code (slice_set nodes i (cleared node))) (act_cleared nodes i node e) acts s
 
@@ -102,10 +102,13 @@ module _ {A R : Type 0} (p : Plan A R) (Below : A → A → Type 0) (order : Ord
       by_node None e made = none (cc)
       by_node (Some node) e made = some node (is_visit i node nodes mid e made)
 
+  pub goes_on : (i : ℕ) (nodes mid : List (PlanNode A)) → IsGoing nodes → plan_visited p i nodes ≡ Ok mid → IsGoing mid
+  goes_on i nodes mid going made = by_visit (IsGoing mid) i nodes mid made (λ node x. visit_goes i node nodes mid going x) (λ same. subst IsGoing same going)
+
   all_go : (is : List ℕ) (nodes last : List (PlanNode A)) → IsGoing nodes → PlanVisits p nodes is last → IsGoing last × (next_waiting last ≡ None)
   all_go [] nodes last going v = subst (λ (ns : List (PlanNode A)). IsGoing ns × (next_waiting ns ≡ None)) (sym v.1) (going, v.0)
   all_go (i ∷ is) nodes last going v =
-      all_go is v.1 last (by_visit (IsGoing v.1) i nodes v.1 v.2 (λ node x. visit_goes i node nodes v.1 going x) (λ same. subst IsGoing same going)) v.3
+      all_go is v.1 last (goes_on i nodes v.1 going v.2) v.3
 
   pub visits_length : (is : List ℕ) (nodes last : List (PlanNode A)) → PlanVisits p nodes is last → length last ≡ length nodes
   visits_length [] nodes last v = ap length v.1
@@ -128,7 +131,7 @@ module _ {A R : Type 0} (p : Plan A R) (Below : A → A → Type 0) (order : Ord
   first_framed (insn ∷ code) zero node f e k = (refl, sym (ap (λ (n : PlanNode A). n.waits) (same_Some _ _ e)), same_Some _ _ (ap (λ (n : PlanNode A). n.frame) (same_Some _ _ e) ∙ k))
   first_framed (insn ∷ code) (suc i) node f e k = let bad : None ≡ Some f = sym (none_framed code i node e) ∙ k in absurd (cc)
 
-  first_going : IsGoing (plan_nodes p)
+  pub first_going : IsGoing (plan_nodes p)
   first_going i node f e w k = let bad : true ≡ false = sym (first_framed p.code i node f e k).1 ∙ w in absurd (cc)
 
   -- ---- under the last frames

@@ -34,3 +34,6 @@ returns-in_err-visit-clause-broken g c =
     let e = err_from_is_err_and c.from_residual.result c.from_residual.ensures.1 in
     rw (e.1, e.2) (break_of (plan_of g.D.Frames.meeting g.D.Analysis.first g.D.Analysis.acts c.args.p.now c.args.m.now) c.args.nodes.now c.loop-i.nodes c.take_next.new.self c.visit.new.nodes c.in-Some.i c.in_err-visit.field-0.0 (sym c.in-Some.ensures.next) c.in-Some.ensures.some
     c.loop-i.invariant.continues c.in_err-visit.ensures.left)
+
+pub visit-requires-clause-kept : goal.visit-requires-clause-kept
+visit-requires-clause-kept g c = (c.loop-i.nodes, c.loop-i.invariant.kept, c.in-Some.ensures.some)
