@@ -7,3 +7,4 @@ pub mod EndedAlone
 pub mod AtRest
 pub mod Ends
 pub mod Prints
+pub mod Uncaught

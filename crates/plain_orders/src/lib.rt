@@ -6,6 +6,7 @@ ghost use Rattle.plain_orders.specs.CoveredRuns.{PrintsAreCovered, RunsAreCovere
 ghost use Rattle.plain_orders.specs.EndedRuns.{EndsAreCovered};
 ghost use Rattle.plain_orders.specs.LocalSteps.{LocalStepsAreAlone, LocalStepsAreOwn};
 ghost use Rattle.plain_orders.specs.LocalSteps.{LocalStepsSwap};
+ghost use Rattle.plain_orders.specs.UncaughtRuns.{UncaughtIsCovered};
 
 use laws_refinement::{runs_are_faithful, runs_stand};
 
@@ -39,4 +40,12 @@ pub fn prints_are_covered()
     ensures { PrintsAreCovered }
 {
     runs_are_covered();
+}
+
+/// Where the report of a run tells, at any time, of an exception that nothing caught, one has ended a
+/// part of a state of such a list.
+pub fn uncaught_is_covered()
+    ensures { UncaughtIsCovered }
+{
+    runs_stand();
 }
