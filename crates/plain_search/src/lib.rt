@@ -10,6 +10,8 @@ mod row;
 mod rows;
 mod searching;
 mod settling;
+mod watching;
 
 pub use found::Found;
-pub use searching::{MOST_STATES, search};
+pub use searching::{MOST_STATES, search, watched_search};
+pub use watching::{Unwatched, Watch};

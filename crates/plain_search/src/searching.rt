@@ -8,6 +8,7 @@ use crate::found::Found;
 use crate::nexts::next_rows;
 use crate::row::{Gathered, Row};
 use crate::rows::{add, add_all};
+use crate::watching::{Unwatched, Watch};
 use checked_program::Checked;
 use history_rule::{Plain, plain_start};
 use machine_types::{Act, PlainStep};
@@ -80,11 +81,24 @@ fn start(alloc: Global, p: &Checked, most: u32) -> Result<Gathered, AllocError>
     Ok(Gathered { rows, rests, table })
 }
 
-/// Searches the states that a program's plain machine comes to, in any order of its steps, until
-/// there are no more, or more than `most`, or no memory is left. An error: there was no memory for
-/// the start.
+/// Of each so many states it is told how far the search has come.
+const STATES_A_TELLING: u32 = 1024;
+
+/// Tells how far a search has come, that has taken up so many states.
+fn tell_of<W: Watch>(watch: &mut W, states: usize, taken: u32) {
+    if taken % STATES_A_TELLING == 0 && states > taken as usize {
+        watch.tell(states, states - taken as usize);
+    }
+}
+
+/// The search, of which it is told how far it has come.
 #[tactic(auto, using(crate::proofs::TakenRows::all_taken))]
-pub fn search(alloc: Global, p: &Checked, most: u32) -> Result<Found, AllocError>
+fn search_on<W: Watch>(
+    alloc: Global,
+    p: &Checked,
+    most: u32,
+    watch: &mut W,
+) -> Result<Found, AllocError>
     requires { most ≤ MOST_STATES }
     ensures own { IfOk result (λ f. f.program ≡ p.now) }
     ensures searched { IfOk result IsSearched }
@@ -97,10 +111,38 @@ pub fn search(alloc: Global, p: &Checked, most: u32) -> Result<Found, AllocError
         if s.rows.len() > most as usize {
             return Ok(Found::part(p, s));
         }
+        tell_of(watch, s.rows.len(), i);
         match take_up(alloc, p, &mut s, i) {
             Ok(true) => (),
             _ => return Ok(Found::part(p, s)),
         }
     }
     Ok(Found::part(p, s))
+}
+
+/// The same as `search`; who watches it is told how far it has come.
+pub fn watched_search<W: Watch>(
+    alloc: Global,
+    p: &Checked,
+    most: u32,
+    watch: &mut W,
+) -> Result<Found, AllocError>
+    requires { most ≤ MOST_STATES }
+    ensures own { IfOk result (λ f. f.program ≡ p.now) }
+    ensures searched { IfOk result IsSearched }
+{
+    let found = search_on(alloc, p, most, watch);
+    watch.end();
+    found
+}
+
+/// Searches the states that a program's plain machine comes to, in any order of its steps, until
+/// there are no more, or more than `most`, or no memory is left. An error: there was no memory for
+/// the start.
+pub fn search(alloc: Global, p: &Checked, most: u32) -> Result<Found, AllocError>
+    requires { most ≤ MOST_STATES }
+    ensures own { IfOk result (λ f. f.program ≡ p.now) }
+    ensures searched { IfOk result IsSearched }
+{
+    watched_search(alloc, p, most, &mut Unwatched)
 }

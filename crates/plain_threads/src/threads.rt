@@ -121,6 +121,13 @@ impl Threads {
         Ok(Threads { threads })
     }
 
+    /// The threads, in the order of their numbers.
+    pub fn as_slice(&self) -> &[Thread]
+        ensures { result.now ≡ self.now }
+    {
+        self.threads.as_slice()
+    }
+
     /// How many threads there are.
     pub fn len(&self) -> usize
         ensures { result ≡ length self.now }

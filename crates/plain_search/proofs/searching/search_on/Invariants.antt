@@ -1,5 +1,5 @@
 use Rattle.plain_search.specs.Searched.{AreTaken, IsSoundSearch}
-use Rattle.plain_search.proofs.searching.search.Given as goal
+use Rattle.plain_search.proofs.searching.search_on.Given as goal
 
 abbrev pub invariant-loop-i : goal.invariant-loop-i
 invariant-loop-i l = record {
