@@ -1,6 +1,6 @@
 -- States that were found, one by one, and lists of what they come to, which grow.
 use Rattle.std.proofs.Common.{◌≡◌, ◌≢◌, ◌<◌, ◌+◌, ◌⊎◌, inl, inr, ◌++◌, ℕ, ℤ, true, false, eqb, List, Option, Some, None, IfSome, MatchOption, length, sym, subst, arith, slice_get, slice_index_or}
-use Rattle.std.specs.Prelude.{Contains}
+use Rattle.std.specs.Prelude.{Contains, is_some}
 use Rattle.std.proofs.lemmas.Bool.Decides.{eqb_tells}
 use Rattle.std.proofs.lemmas.Option.{get_or_from_slice_get, slice_get-get_or, slice_get_within}
 use Rattle.jvm_types.specs.declared.program.Program.{Program}
@@ -9,6 +9,7 @@ use Rattle.machine_types.specs.PlainState.{Plain, plain_start}
 use Rattle.machine_types.specs.PlainSteps.{plain_run, plain_step}
 use Rattle.plain_orders.specs.CoveredRuns.{AreAllStates}
 use Rattle.plain_orders.specs.Orders.{HasNoStep}
+use Rattle.plain_orders.specs.UncaughtRuns.{has_uncaught_end}
 use Rattle.plain_search.specs.Rows.{IsPlainReached}
 use Rattle.plain_search.specs.Searched.{HasNoStepAt, IsSearched, Searched}
 use Rattle.plain_search.proofs.RowLists.{got_index, got_longer}
@@ -48,8 +49,9 @@ found_reached c f k r own searched got steps = record {
 pub all_outcomes : (c : MarkedProgram) (f : Searched) (o : Outcomes) → c ≡ f.program → IsSearched f → f.is_whole ≡ true → o.states ≡ length f.states
     → ((k : ℕ) (q : Plain) → Contains f.rests k → slice_get f.states k ≡ Some q → IsListedIn c.program o.listed q)
     → ((k : ℕ) (q : Plain) (value : ℤ) → slice_get f.states k ≡ Some q → HasPrinted q value → IsPrintedIn o.printed value)
+    → ((k : ℕ) (q : Plain) → slice_get f.states k ≡ Some q → has_uncaught_end q ≡ true → is_some o.uncaught ≡ true)
     → AreAllOutcomes c o
-all_outcomes c f o own searched whole many listed printed = record {
+all_outcomes c f o own searched whole many listed printed uncaught = record {
   seen = f.states;
   states = subst (λ (d : MarkedProgram). AreAllStates d f.states) (sym own) (searched.all whole);
   many = sym many;
@@ -57,6 +59,7 @@ all_outcomes c f o own searched whole many listed printed = record {
       let e = got_index f.states v.0 q v.1 (sym v.2) in
       listed v.0 q (searched.all_rest whole v.0 (q, e, subst (λ (d : MarkedProgram). HasNoStep (plain_step d.program) q) own none)) e;
   prints = λ q value v h. printed v.0 q value (got_index f.states v.0 q v.1 (sym v.2)) h;
+  uncaught = λ q v h. uncaught v.0 q (got_index f.states v.0 q v.1 (sym v.2)) h;
 }
 
 pub rest_there : (c : MarkedProgram) (f : Searched) (xs : List ℕ) (i : ℕ) → c ≡ f.program → xs ≡ f.rests → IsSearched f → i < length xs → HasNoStepAt c f.states (slice_index_or xs i 0)

@@ -7,9 +7,10 @@ use Rattle.machine_types.specs.Faithful.{EndFits, EndsFit, PrintsFit}
 use Rattle.machine_types.specs.PlainState.{Plain, Printed}
 use Rattle.plain_orders.specs.CoveredRuns.{PrintsAreCovered, RunsAreCovered}
 use Rattle.plain_orders.specs.EndedRuns.{EndsAreCovered}
+use Rattle.plain_orders.specs.UncaughtRuns.{UncaughtIsCovered}
 use Rattle.outcomes.specs.Comes.{ComesTo}
 use Rattle.outcomes.specs.Lists.{ShowTheSame}
-use Rattle.outcomes.specs.WholeLists.{EndsAreListed, PrintsAreListed, RestsAreListed}
+use Rattle.outcomes.specs.WholeLists.{EndsAreListed, PrintsAreListed, RestsAreListed, UncaughtIsListed}
 
 -- a run comes to what a state shows, where it comes to another one that shows the same
 comes_to_same : (p : Program) (q z : Plain) (o : Outcome) → ShowTheSame p q z → PrintsFit o q → EndsFit p o q → ComesTo p z o
@@ -39,3 +40,8 @@ pub prints_are_listed : PrintsAreCovered → PrintsAreListed
 prints_are_listed covered c cfg hs o marked width settings all =
     let v = covered c cfg hs all.seen marked width settings all.states in
     (v.0, v.2, λ value h. all.prints v.1 value v.3 (h.0, h.1, ap (λ (ys : List Printed). slice_get ys h.0) (sym v.4) ∙ h.2, h.3))
+
+pub uncaught_is_listed : UncaughtIsCovered → UncaughtIsListed
+uncaught_is_listed covered c cfg hs o marked width settings all tells =
+    let v = covered c cfg hs all.seen marked width settings all.states tells in
+    all.uncaught v.0 v.1 v.2

@@ -1,5 +1,6 @@
 -- What the states of the plain machine come to: outcomes, and the numbers that are printed.
 use Rattle.std.specs.Prelude.{◌≡◌, ℕ, ℤ, List, Contains, Some, slice_get, IfSome, length, true}
+use Rattle.std.specs.Prelude.{is_some}
 use Rattle.std.specs.List.{AllByRecursion}
 use Rattle.jvm_types.specs.declared.program.Program.{Program}
 use Rattle.checked_program.specs.MarkedProgram.{MarkedProgram}
@@ -8,6 +9,7 @@ use Rattle.machine_types.specs.PlainSteps.{first_end, plain_done_end, plain_run,
 use Rattle.machine_types.specs.declared.config.Config.{Config}
 use Rattle.plain_orders.specs.CoveredRuns.{AreAllStates}
 use Rattle.plain_orders.specs.Orders.{HasNoStep}
+use Rattle.plain_orders.specs.UncaughtRuns.{has_uncaught_end}
 use Rattle.plain_search.specs.Rows.{IsPlainReached}
 use Rattle.outcomes.specs.Comes.{LeadsTo}
 use Rattle.outcomes.specs.Stops.{stopped_threads}
@@ -49,6 +51,11 @@ pub record IsPrinting (c : MarkedProgram) (x : Printing) : Type 0 where
   pub reached : IsReachedBySteps c x.at
   pub printed : HasPrinted x.at.plain.state x.value
 
+-- an exception that nothing caught has ended a part in the state
+pub record IsUncaught (c : MarkedProgram) (r : Reached) : Type 0 where
+  pub reached : IsReachedBySteps c r
+  pub ended : has_uncaught_end r.plain.state ≡ true
+
 -- ---- what is in the lists
 
 abbrev pub IsListedIn : Program → List Listed → Plain → Type 0
@@ -60,8 +67,9 @@ abbrev pub IsPrintedIn : List Printing → (value : ℤ) → Type 0
 IsPrintedIn printed value =
     (i : ℕ) × (x : Printing) × (slice_get printed i ≡ Some x) × (x.value ≡ value)
 
--- so many states cover all runs; each of them that has no step shows what one of the list does, and
--- each number that was printed in one of them is listed
+-- so many states cover all runs; each of them that has no step shows what one of the list does;
+-- each number that was printed in one of them is listed; and where an exception that nothing caught
+-- ended a part in one of them, such a state is listed
 pub record AreAllOutcomes (c : MarkedProgram) (o : Outcomes) : Type 0 where
   pub seen : List Plain
   pub states : AreAllStates c seen
@@ -70,8 +78,11 @@ pub record AreAllOutcomes (c : MarkedProgram) (o : Outcomes) : Type 0 where
       → IsListedIn c.program o.listed q
   pub prints : (q : Plain) (value : ℤ) → Contains seen q → HasPrinted q value
       → IsPrintedIn o.printed value
+  pub uncaught : (q : Plain) → Contains seen q → has_uncaught_end q ≡ true
+      → is_some o.uncaught ≡ true
 
 pub record AreOutcomes (c : MarkedProgram) (cfg : Config) (o : Outcomes) : Type 0 where
   pub listed : AllByRecursion (IsListedOutcome c cfg) o.listed
   pub printed : AllByRecursion (IsPrinting c) o.printed
+  pub uncaught : IfSome o.uncaught (IsUncaught c)
   pub all : o.is_whole ≡ true → AreAllOutcomes c o

@@ -1,6 +1,6 @@
 -- What whole lists of outcomes say of every run of the running machine, by any order of its events,
 -- by any settings, in sections with their lock and without.
-use Rattle.std.specs.Prelude.{◌≡◌, ℕ, ℤ, List, Some, slice_get}
+use Rattle.std.specs.Prelude.{◌≡◌, ℕ, ℤ, true, List, Some, slice_get, is_some}
 use Rattle.checked_program.specs.MarkedProgram.{MarkedProgram, IsMarked}
 use Rattle.machine_types.specs.Core.{Happening, core, outcome}
 use Rattle.machine_types.specs.Faithful.{IsOver, IsPlainRun, PrintsFit}
@@ -11,6 +11,7 @@ use Rattle.machine_types.specs.declared.config.Config.{Config}
 use Rattle.laws_states.specs.RunFacts.{HaveWidth}
 use Rattle.plain_orders.specs.EndedRuns.{HasNoLimit}
 use Rattle.plain_orders.specs.Orders.{HasNoStep}
+use Rattle.plain_orders.specs.UncaughtRuns.{TellsUncaught}
 use Rattle.outcomes.specs.Comes.{ComesTo}
 use Rattle.outcomes.specs.Lists.{AreAllOutcomes, HasPrinted, IsListedIn, IsPrintedIn}
 use Rattle.outcomes.specs.declared.listing.Listed.{Listed}
@@ -42,3 +43,11 @@ PrintsAreListed =
     → HaveWidth cfg → AreSettings cfg → AreAllOutcomes c o
     → (q : Plain) × PrintsFit (outcome (core c cfg hs)) q
     × ((value : ℤ) → HasPrinted q value → IsPrintedIn o.printed value)
+
+-- where the report of a run tells of an exception that nothing caught, at any time, over or not, a
+-- state is listed where one ended a part
+abbrev pub UncaughtIsListed : Type 0
+UncaughtIsListed =
+    (c : MarkedProgram) (cfg : Config) (hs : List Happening) (o : Outcomes) → IsMarked c
+    → HaveWidth cfg → AreSettings cfg → AreAllOutcomes c o
+    → TellsUncaught (outcome (core c cfg hs)) → is_some o.uncaught ≡ true

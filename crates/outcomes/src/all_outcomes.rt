@@ -7,20 +7,24 @@ ghost use Rattle.outcomes.specs.declared.all_outcomes.TheConstants.{MOST_OUTCOME
 
 use crate::listing::{Listed, list_rests};
 use crate::printing::{Printing, list_prints};
+use crate::reached::Reached;
+use crate::uncaught::find_uncaught;
 use checked_program::Checked;
 use jvm_types::Rows;
 use machine_types::Config;
-use plain_search::{Found, MOST_STATES, search};
+use plain_search::{Found, MOST_STATES, Watch, watched_search};
 use std::alloc::{AllocError, Global};
 
 /// The most states that may be asked for.
 pub const MOST_OUTCOME_STATES: u32 = MOST_STATES;
 
-/// The outcomes and the printed numbers of so many states, and whether these are all.
+/// The outcomes and the printed numbers of so many states, one of them where an exception that
+/// nothing caught ended a part, if there is one, and whether these are all.
 #[derive(Drop)]
 pub struct Outcomes {
     pub listed: Rows<Listed>,
     pub printed: Rows<Printing>,
+    pub uncaught: Option<Reached>,
     pub states: usize,
     pub is_whole: bool,
 }
@@ -41,26 +45,29 @@ pub fn list_outcomes(
     let is_whole = found.is_whole();
     let listed = list_rests(alloc, p, cfg, found)?;
     let printed = list_prints(alloc, p, found)?;
+    let uncaught = find_uncaught(alloc, p, found)?;
     Ok(Outcomes {
         listed,
         printed,
+        uncaught,
         states: found.len(),
         is_whole,
     })
 }
 
 /// What all runs of a program come to, searched for in so many states at most, with orders for
-/// these settings.
-pub fn find_outcomes(
+/// these settings; who watches it is told how far the search has come.
+pub fn find_outcomes<W: Watch>(
     alloc: Global,
     p: &Checked,
     cfg: &Config,
     states: u32,
+    watch: &mut W,
 ) -> Result<Outcomes, AllocError>
     requires settings { AreSettings cfg.now }
     requires states { states ≤ MOST_OUTCOME_STATES }
     ensures { IfOk result (AreOutcomes p.now cfg.now) }
 {
-    let found = search(alloc, p, states)?;
+    let found = watched_search(alloc, p, states, watch)?;
     list_outcomes(alloc, p, cfg, &found)
 }

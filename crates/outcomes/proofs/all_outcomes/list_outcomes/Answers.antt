@@ -7,5 +7,6 @@ pub returns-clause-outcomes : goal.returns-clause-outcomes
 returns-clause-outcomes c = record {
   listed = c.in_ok-listed.ensures.listed;
   printed = c.in_ok-printed.ensures.printed;
-  all = λ whole. all_outcomes c.args.p.now c.args.found.now _ c.requires.program c.is_whole-is_whole.ensures.searched (sym c.is_whole-is_whole.ensures.whole ∙ whole) c.len.ensures c.in_ok-listed.ensures.all c.in_ok-printed.ensures.all;
+  uncaught = c.in_ok-uncaught.ensures.uncaught;
+  all = λ whole. all_outcomes c.args.p.now c.args.found.now _ c.requires.program c.is_whole-is_whole.ensures.searched (sym c.is_whole-is_whole.ensures.whole ∙ whole) c.len.ensures c.in_ok-listed.ensures.all c.in_ok-printed.ensures.all c.in_ok-uncaught.ensures.all;
 }
