@@ -1,5 +1,5 @@
--- What is known of exceptions that nothing caught, of any run at any time: where its report tells of
--- one that ended a part, one ended a part of a plain state of the list.
+-- What is known of exceptions that nothing caught, of any run at any time: where its report tells
+-- of one that ended a part, one ended a part of a plain state of the list.
 use Rattle.std.specs.Prelude.{◌≡◌, ◌⊎◌, ℕ, Bool, true, false, List, Some, slice_get, Contains}
 use Rattle.std.specs.List.{list_any}
 use Rattle.checked_program.specs.MarkedProgram.{MarkedProgram, IsMarked}

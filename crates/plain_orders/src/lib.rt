@@ -42,8 +42,8 @@ pub fn prints_are_covered()
     runs_are_covered();
 }
 
-/// Where the report of a run tells, at any time, of an exception that nothing caught, one has ended a
-/// part of a state of such a list.
+/// Where the report of a run tells, at any time, of an exception that nothing caught, one has ended
+/// a part of a state of such a list.
 pub fn uncaught_is_covered()
     ensures { UncaughtIsCovered }
 {
