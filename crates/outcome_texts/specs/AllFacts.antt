@@ -8,17 +8,20 @@ use Rattle.jvm_types.specs.declared.program.Program.{Program}
 use Rattle.outcomes.specs.declared.listing.Listed.{Listed}
 use Rattle.outcomes.specs.declared.all_outcomes.Outcomes.{Outcomes}
 use Rattle.outcomes.specs.declared.printing.Printing.{Printing}
+use Rattle.outcomes.specs.declared.reached.Reached.{Reached}
 use Rattle.source_lines.specs.declared.sources.Sources.{Sources}
 use Rattle.tellings.specs.Forms.{told_in}
 use Rattle.tellings.specs.declared.facts.Fact.{Fact}
 use Rattle.tellings.specs.declared.facts.Fact.TheVariants.{Words, Text, Count, Value, Lists}
 use Rattle.tellings.specs.declared.facts.Fact.TheVariants.{Item, Closes, Ends}
 use Rattle.tellings.specs.declared.keys.Key.TheVariants as keys
-use Rattle.outcome_texts.specs.OutcomeFacts.{dash_if_none, is_stuck, outcome_texts}
+use Rattle.outcome_texts.specs.Expected.{expectation_text}
+use Rattle.outcome_texts.specs.OutcomeFacts.{dash_if_none, ends_facts, is_stuck, outcome_texts}
 use Rattle.outcome_texts.specs.StepFacts.{steps_facts}
 use Rattle.outcome_texts.specs.Findings.{finding}
 use Rattle.outcome_texts.specs.declared.findings.Finding.{Finding}
 use Rattle.outcome_texts.specs.declared.findings.Finding.TheVariants.{InOutcome, InNone, Nowhere}
+use Rattle.outcome_texts.specs.declared.findings.Finding.TheVariants.{UncaughtInNone}
 use Rattle.outcome_texts.specs.declared.findings.Forbidden.{Forbidden}
 use Rattle.outcome_texts.specs.declared.findings.Forbidden.TheVariants as forbidden
 
@@ -73,6 +76,21 @@ never_text_if form false = []
 abbrev pub never_text : Form → Outcomes → List ℕ
 never_text form o = never_text_if form (o.is_whole && stuck_count o.listed == 0)
 
+-- ---- that no run ends, where all orders were tried and no state was found that has no step
+
+unfoldable pub endless_facts : List Fact
+endless_facts = Words (codes "no run ends: in each some thread can always go on") ∷ []
+
+unfoldable pub endless_name : List ℕ
+endless_name = codes "endless"
+
+abbrev pub endless_text_if : Form → (is_endless : Bool) → List ℕ
+endless_text_if form true = told_in form endless_name endless_facts
+endless_text_if form false = []
+
+abbrev pub endless_text : Form → Outcomes → List ℕ
+endless_text form o = endless_text_if form (o.is_whole && length o.listed == 0)
+
 -- ---- what no run is to do, where it was found
 
 abbrev pub forbidden_word : Forbidden → List ℕ
@@ -84,30 +102,48 @@ abbrev pub printing_steps : Option Printing → List Fact
 printing_steps None = []
 printing_steps (Some x) = steps_facts x.at.steps
 
-abbrev pub finding_facts : List Printing → Finding → List Fact
-finding_facts printed (InOutcome number) = Count keys.InOutcome number ∷ []
-finding_facts printed (InNone i) =
-    Words (codes ", in no outcome") ∷ printing_steps (slice_get printed i)
-finding_facts printed Nowhere = []
+-- how the parts ended so far, and the steps that lead there
+abbrev pub uncaught_facts : Program → Option Reached → List Fact
+uncaught_facts p None = []
+uncaught_facts p (Some at) = ends_facts p at.plain.state ++ steps_facts at.steps
+
+abbrev pub finding_facts : Program → Outcomes → Finding → List Fact
+finding_facts p o (InOutcome number) = Count keys.InOutcome number ∷ []
+finding_facts p o (InNone i) =
+    Words (codes ", in no outcome") ∷ printing_steps (slice_get o.printed i)
+finding_facts p o UncaughtInNone =
+    Words (codes ", in no outcome") ∷ uncaught_facts p o.uncaught
+finding_facts p o Nowhere = []
 
 unfoldable pub finding_name : List ℕ
 finding_name = codes "forbidden"
 
-abbrev pub finding_text : Form → List Printing → Forbidden → Finding → List ℕ
-finding_text form printed what Nowhere = []
-finding_text form printed what found =
+abbrev pub finding_text : Form → Program → Outcomes → Forbidden → Finding → List ℕ
+finding_text form p o what Nowhere = []
+finding_text form p o what found =
     told_in form finding_name
-    (Text keys.Forbidden (forbidden_word what) ∷ finding_facts printed found)
+    (Text keys.Forbidden (forbidden_word what) ∷ finding_facts p o found)
 
 abbrev pub forbidden_text : Form → Program → Outcomes → Forbidden → List ℕ
-forbidden_text form p o what = finding_text form o.printed what (finding p o what)
+forbidden_text form p o what = finding_text form p o what (finding p o what)
 
 -- ---- all of it
 
-abbrev pub outcomes_text : Form → Program → Sources → Outcomes → List Forbidden → List ℕ
-outcomes_text form p sources o forbidden =
-    outcome_texts form p sources 1 o.listed
-    ++ told_in form (codes "all") (outcome_count_facts o)
+abbrev pub all_text : Form → Outcomes → List ℕ
+all_text form o =
+    told_in form (codes "all") (outcome_count_facts o)
     ++ told_in form (codes "printed") (printed_facts o.printed)
     ++ never_text form o
-    ++ flat_map (forbidden_text form p o) forbidden
+    ++ endless_text form o
+
+-- by a file of expected outcomes, if one is given
+abbrev pub judged_text : Form → Program → Outcomes → List Forbidden → (file : Option (List ℕ))
+    → List ℕ
+judged_text form p o forbidden file =
+    flat_map (forbidden_text form p o) forbidden ++ expectation_text form p o file
+
+abbrev pub outcomes_text : Form → Program → Sources → Outcomes → List Forbidden
+    → (file : Option (List ℕ)) → List ℕ
+outcomes_text form p sources o forbidden file =
+    outcome_texts form p sources 1 o.listed ++ all_text form o
+    ++ judged_text form p o forbidden file

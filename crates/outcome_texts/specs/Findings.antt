@@ -1,5 +1,5 @@
 -- What no run is to do, and where it was found.
-use Rattle.std.specs.Prelude.{ℕ, Bool, true, false, ◌||◌, List, Option, Some, None}
+use Rattle.std.specs.Prelude.{ℕ, Bool, true, false, ◌||◌, List, Option, Some, None, is_some}
 use Rattle.std.specs.List.{list_any, position_from}
 use Rattle.std.specs.Ordering.{int_eq}
 use Rattle.jvm_types.specs.declared.program.Program.{Program}
@@ -12,6 +12,7 @@ use Rattle.outcomes.specs.declared.printing.Printing.{Printing}
 use Rattle.outcome_texts.specs.OutcomeFacts.{all_threads, is_stuck}
 use Rattle.outcome_texts.specs.declared.findings.Finding.{Finding}
 use Rattle.outcome_texts.specs.declared.findings.Finding.TheVariants.{InOutcome, InNone, Nowhere}
+use Rattle.outcome_texts.specs.declared.findings.Finding.TheVariants.{UncaughtInNone}
 use Rattle.outcome_texts.specs.declared.findings.Forbidden.{Forbidden}
 use Rattle.outcome_texts.specs.declared.findings.Forbidden.TheVariants as forbidden
 
@@ -35,15 +36,21 @@ abbrev pub found_among : Option ℕ → Finding
 found_among None = Nowhere
 found_among (Some i) = InNone i
 
-abbrev pub finding_in : Option ℕ → List Printing → Forbidden → Finding
-finding_in (Some number) printed what = InOutcome number
-finding_in None printed what = found_among (position_from (is_printed what) 0 printed)
+abbrev pub uncaught_if : (is_there : Bool) → Finding
+uncaught_if true = UncaughtInNone
+uncaught_if false = Nowhere
 
--- in the first outcome that shows it, by its number; else in the first printed number that is it,
--- by its place among these
+abbrev pub finding_in : Option ℕ → Outcomes → Forbidden → Finding
+finding_in (Some number) o what = InOutcome number
+finding_in None o forbidden.Uncaught = uncaught_if (is_some o.uncaught)
+finding_in None o what = found_among (position_from (is_printed what) 0 o.printed)
+
+-- In the first outcome that shows it, by its number. Else in the first printed number that is it,
+-- by its place among these, or where an exception that nothing caught ended a part of a run that
+-- may never come to an end.
 abbrev pub finding : Program → Outcomes → Forbidden → Finding
 finding p o what =
-    finding_in (position_from (λ x. shows p what x.at.plain.state) 1 o.listed) o.printed what
+    finding_in (position_from (λ x. shows p what x.at.plain.state) 1 o.listed) o what
 
 abbrev pub is_found : Finding → Bool
 is_found Nowhere = false

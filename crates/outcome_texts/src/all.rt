@@ -8,7 +8,9 @@ ghost use Rattle.outcome_texts.specs.AllFacts.{never_facts as the_never_facts};
 ghost use Rattle.outcome_texts.specs.AllFacts.{printed_facts as the_printed_facts};
 ghost use Rattle.outcome_texts.specs.AllFacts.{stuck_count as the_stuck_count, things};
 ghost use Rattle.outcome_texts.specs.AllFacts.{never_name as the_never_name, never_text_if};
-ghost use Rattle.outcome_texts.specs.AllFacts.{tried_facts};
+ghost use Rattle.outcome_texts.specs.AllFacts.{all_text, endless_text, endless_text_if};
+ghost use Rattle.outcome_texts.specs.AllFacts.{endless_facts as the_endless_facts, tried_facts};
+ghost use Rattle.outcome_texts.specs.AllFacts.{endless_name as the_endless_name};
 ghost use Rattle.outcome_texts.specs.AllFacts.{tried_name as the_tried_name};
 ghost use Rattle.outcome_texts.specs.AllFacts.{tried_words as the_tried_words};
 ghost use Rattle.tellings.specs.Forms.{told_in};
@@ -173,6 +175,67 @@ fn write_never(out: &mut Vec<u8>, alloc: Global, form: Form, o: &Outcomes) -> Re
     write_never_if(out, alloc, form, is_never_stuck(o))
 }
 
+#[tactic(auto, unfolding(crate::specs::AllFacts::endless_facts))]
+fn endless_facts(alloc: Global) -> Result<Rows<Fact>, AllocError>
+    ensures { IfOk result (λ facts. facts ≡ the_endless_facts) }
+{
+    let mut facts = Rows::new(alloc);
+    let words = b"no run ends: in each some thread can always go on";
+    add_words(&mut facts, alloc, words)?;
+    Ok(facts)
+}
+
+/// Whether all orders were tried, and there is no outcome.
+fn is_endless(o: &Outcomes) -> bool
+    ensures { result ≡ (o.now.is_whole && length o.now.listed == 0) }
+{
+    o.is_whole && o.listed.len() == 0
+}
+
+#[tactic(auto, unfolding(crate::specs::AllFacts::endless_name))]
+fn endless_name() -> &'static str
+    ensures { result.now ≡ the_endless_name }
+{
+    "endless"
+}
+
+fn write_endless_facts(out: &mut Vec<u8>, alloc: Global, form: Form) -> Result<(), AllocError>
+    ensures { OnOk result
+        (out.new.items ≡ out.old.items ++ told_in form the_endless_name the_endless_facts) }
+{
+    let facts = endless_facts(alloc)?;
+    write_told(out, alloc, form, endless_name(), facts.as_slice())
+}
+
+/// Adds that no run ends, where that is so.
+fn write_endless_if(
+    out: &mut Vec<u8>,
+    alloc: Global,
+    form: Form,
+    is_endless: bool,
+) -> Result<(), AllocError>
+    ensures { OnOk result (out.new.items ≡ out.old.items ++ endless_text_if form is_endless) }
+{
+    match is_endless {
+        true => write_endless_facts(out, alloc, form),
+        false => Ok(()),
+    }
+}
+
+/// Adds that no run waits for ever, and that none ends, where that is so.
+fn write_always(
+    out: &mut Vec<u8>,
+    alloc: Global,
+    form: Form,
+    o: &Outcomes,
+) -> Result<(), AllocError>
+    ensures { OnOk result
+        (out.new.items ≡ out.old.items ++ never_text form o.now ++ endless_text form o.now) }
+{
+    write_never(out, alloc, form, o)?;
+    write_endless_if(out, alloc, form, is_endless(o))
+}
+
 fn write_counts(
     out: &mut Vec<u8>,
     alloc: Global,
@@ -199,20 +262,17 @@ fn write_printed(
     write_told(out, alloc, form, "printed", facts.as_slice())
 }
 
-/// Adds how many outcomes there are, the printed numbers, and that no run waits for ever, where
-/// that is so.
+/// Adds how many outcomes there are, the printed numbers, and that no run waits for ever, or that
+/// none ends, where that is so.
 pub(crate) fn write_all(
     out: &mut Vec<u8>,
     alloc: Global,
     form: Form,
     o: &Outcomes,
 ) -> Result<(), AllocError>
-    ensures { OnOk result (out.new.items ≡ out.old.items
-        ++ told_in form (codes "all") (the_count_facts o.now)
-        ++ told_in form (codes "printed") (the_printed_facts o.now.printed)
-        ++ never_text form o.now) }
+    ensures { OnOk result (out.new.items ≡ out.old.items ++ all_text form o.now) }
 {
     write_counts(out, alloc, form, o)?;
     write_printed(out, alloc, form, o.printed.as_slice())?;
-    write_never(out, alloc, form, o)
+    write_always(out, alloc, form, o)
 }

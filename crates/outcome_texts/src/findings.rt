@@ -1,12 +1,14 @@
 //! What no run is to do, and where it was found.
 
-ghost use Rattle.std.specs.Prelude.{◌≡◌, ◌<◌, ◌||◌, IfOk, IfSome, length, option_map};
+ghost use Rattle.std.specs.Prelude.{◌≡◌, ◌<◌, ◌||◌, IfOk, IfSome, None, is_some, length};
+ghost use Rattle.std.specs.Prelude.{option_map};
 ghost use Rattle.std.specs.List.{list_any, position_from};
 ghost use Rattle.std.specs.Ordering.{int_eq};
 ghost use Rattle.machine_types.specs.PlainSteps.{first_end};
 ghost use Rattle.outcome_texts.specs.Findings.{finding as the_finding, found_among, finding_in};
 ghost use Rattle.outcome_texts.specs.Findings.{has_uncaught, is_found as is_it_found};
 ghost use Rattle.outcome_texts.specs.Findings.{is_printed as is_it_printed, shows as it_shows};
+ghost use Rattle.outcome_texts.specs.Findings.{uncaught_if as the_uncaught};
 ghost use Rattle.outcome_texts.specs.OutcomeFacts.{all_threads};
 
 use crate::ends::THREADS;
@@ -35,6 +37,8 @@ pub enum Finding {
     InOutcome(u64),
     /// In no outcome, but among the printed numbers, at that place.
     InNone(u64),
+    /// In no outcome, but an exception that nothing caught ended a part before.
+    UncaughtInNone,
     Nowhere,
 }
 
@@ -109,7 +113,26 @@ fn first_printed(printed: &[Printing], what: Forbidden) -> Finding
     Finding::Nowhere
 }
 
-/// Where it was found: in the first outcome that shows it, else among the printed numbers.
+fn uncaught_if(is_there: bool) -> Finding
+    ensures { result ≡ the_uncaught is_there }
+{
+    match is_there {
+        true => Finding::UncaughtInNone,
+        false => Finding::Nowhere,
+    }
+}
+
+/// Where it was found that no outcome shows.
+fn found_in_none(o: &Outcomes, what: Forbidden) -> Finding
+    ensures { result ≡ finding_in None o.now what }
+{
+    match what {
+        Forbidden::Uncaught => uncaught_if(o.uncaught.is_some()),
+        Forbidden::Print(_) | Forbidden::Stuck => first_printed(o.printed.as_slice(), what),
+    }
+}
+
+/// Where it was found: in the first outcome that shows it, else in none.
 pub(crate) fn find_forbidden(
     alloc: Global,
     p: &Checked,
@@ -120,7 +143,7 @@ pub(crate) fn find_forbidden(
 {
     match first_outcome(alloc, p, o.listed.as_slice(), what)? {
         Some(number) => Ok(Finding::InOutcome(number)),
-        None => Ok(first_printed(o.printed.as_slice(), what)),
+        None => Ok(found_in_none(o, what)),
     }
 }
 
@@ -129,7 +152,7 @@ pub(crate) fn is_found(f: Finding) -> bool
     ensures { result ≡ is_it_found f }
 {
     match f {
-        Finding::InOutcome(_) | Finding::InNone(_) => true,
+        Finding::InOutcome(_) | Finding::InNone(_) | Finding::UncaughtInNone => true,
         Finding::Nowhere => false,
     }
 }

@@ -6,15 +6,16 @@ ghost use Rattle.std.specs.Option.{option_copied};
 ghost use Rattle.outcome_texts.specs.AllFacts.{finding_name as the_name, finding_text};
 ghost use Rattle.outcome_texts.specs.AllFacts.{forbidden_text};
 ghost use Rattle.outcome_texts.specs.AllFacts.{forbidden_word as the_word};
-ghost use Rattle.outcome_texts.specs.AllFacts.{finding_facts, printing_steps};
+ghost use Rattle.outcome_texts.specs.AllFacts.{finding_facts, printing_steps, uncaught_facts};
 ghost use Rattle.outcome_texts.specs.Findings.{finding as the_finding, is_found as is_it_found};
 
+use crate::ends::add_ends;
 use crate::findings::{Finding, Forbidden, find_forbidden, is_found};
 use crate::steps::{add_steps, add_words};
 use checked_program::Checked;
 use json_lines::Form;
 use jvm_types::{Bytes, Rows};
-use outcomes::{Outcomes, Printing};
+use outcomes::{Outcomes, Printing, Reached};
 use std::alloc::{AllocError, Global};
 use tellings::{Fact, Key, add_count, write_told};
 
@@ -44,19 +45,44 @@ fn add_steps_of(
     }
 }
 
+/// Adds how parts ended where an exception that nothing caught ended one, and steps that lead
+/// there.
+fn add_uncaught(
+    facts: &mut Rows<Fact>,
+    alloc: Global,
+    p: &Checked,
+    uncaught: &Option<Reached>,
+) -> Result<(), AllocError>
+    ensures { OnOk result
+        (facts.new ≡ facts.old ++ uncaught_facts p.now.program uncaught.now) }
+{
+    match uncaught {
+        Some(at) => {
+            add_ends(facts, alloc, p, &at.plain)?;
+            add_steps(facts, alloc, &at.steps)
+        }
+        None => Ok(()),
+    }
+}
+
 fn add_found(
     facts: &mut Rows<Fact>,
     alloc: Global,
-    printed: &Rows<Printing>,
+    p: &Checked,
+    o: &Outcomes,
     found: Finding,
 ) -> Result<(), AllocError>
-    ensures { OnOk result (facts.new ≡ facts.old ++ finding_facts printed.now found) }
+    ensures { OnOk result (facts.new ≡ facts.old ++ finding_facts p.now.program o.now found) }
 {
     match found {
         Finding::InOutcome(number) => add_count(facts, Key::InOutcome, number),
         Finding::InNone(i) => {
             add_words(facts, alloc, b", in no outcome")?;
-            add_steps_of(facts, alloc, printed.get(i as usize))
+            add_steps_of(facts, alloc, o.printed.get(i as usize))
+        }
+        Finding::UncaughtInNone => {
+            add_words(facts, alloc, b", in no outcome")?;
+            add_uncaught(facts, alloc, p, &o.uncaught)
         }
         Finding::Nowhere => Ok(()),
     }
@@ -74,19 +100,20 @@ fn write_finding(
     out: &mut Vec<u8>,
     alloc: Global,
     form: Form,
-    printed: &Rows<Printing>,
+    p: &Checked,
+    o: &Outcomes,
     what: Forbidden,
     found: Finding,
 ) -> Result<(), AllocError>
-    ensures { OnOk result
-        (out.new.items ≡ out.old.items ++ finding_text form printed.now what found) }
+    ensures { OnOk result (out.new.items
+        ≡ out.old.items ++ finding_text form p.now.program o.now what found) }
 {
     if !is_found(found) {
         return Ok(());
     }
     let mut facts = Rows::new(alloc);
     facts.push(Fact::Text(Key::Forbidden, forbidden_word(alloc, what)?))?;
-    add_found(&mut facts, alloc, printed, found)?;
+    add_found(&mut facts, alloc, p, o, found)?;
     write_told(out, alloc, form, finding_name(), facts.as_slice())
 }
 
@@ -104,7 +131,7 @@ fn write_forbidden(
     ensures found { IfOk result (λ b. b ≡ is_it_found (the_finding p.now.program o.now what)) }
 {
     let found = find_forbidden(alloc, p, o, what)?;
-    write_finding(out, alloc, form, &o.printed, what, found)?;
+    write_finding(out, alloc, form, p, o, what, found)?;
     Ok(is_found(found))
 }
 

@@ -4,14 +4,19 @@
 
 mod all;
 mod ends;
+mod expectations;
+mod expected;
 mod findings;
 mod found_texts;
 mod orders;
 mod outcome;
+mod parts;
 mod prints;
 mod steps;
 mod stops;
 mod telling;
 
 pub use findings::{Finding, Forbidden};
+pub use outcomes::{Unwatched, Watch};
+pub use parts::parts_between;
 pub use telling::{MOST_STATES, OutcomesError, Verdict, explain_outcomes};

@@ -49,7 +49,7 @@ fn add_steps_if_none(
 }
 
 #[tactic(auto, unfolding(crate::specs::OutcomeFacts::outcome_kind))]
-fn outcome_kind(q: &Plain) -> &'static str
+pub(crate) fn outcome_kind(q: &Plain) -> &'static str
     ensures { result.now ≡ the_kind q.now.state }
 {
     if is_stuck(q) { "stuck" } else { "outcome" }
