@@ -6,8 +6,8 @@ _solero() {
         --steps --turns --prints --heap --elide --range --what --page --tries --proved
         --checked --help --version'
     local explain='--threads --order --steps --turns --prints --heap --elide --range --what --from
-        --events --fold --states --forbid --page --commit --json --proved --checked
-        --help --version'
+        --events --fold --states --forbid --expect --page --commit --json --proved
+        --checked --help --version'
     [[ " ${COMP_WORDS[*]} " != *" --what"* ]] || program=explain
     case $program:$before in
         solero:--mode) values='replay run mark list asm record load cell' ;;
@@ -41,6 +41,7 @@ _solero() {
         explain:--fold) values='on off' ;;
         explain:--states) values='' ;;
         explain:--forbid) values='' ;;
+        explain:--expect) values='' ;;
         explain:--commit) values='' ;;
         *)
             if [[ $word != -* ]]; then

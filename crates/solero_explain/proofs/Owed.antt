@@ -1,5 +1,5 @@
 -- What is owed to files that were read, and where one was not.
-use Rattle.std.proofs.Common.{◌≡◌, ℕ, Bool, List, Option, Some, None, refl, arith, []}
+use Rattle.std.proofs.Common.{◌≡◌, ℕ, Bool, List, Option, Some, None, inl, refl, arith, []}
 use Rattle.jvm_types.specs.{LinkFaults.in_file, declared.{limits.TheConstants.MOST_FILE_BYTES, refusal.{CRule.TheVariants.C10, Place.Place, Rule.Rule}}}
 use Rattle.refusal_places.specs.Explained.{Explains}
 use Rattle.class_runner.specs.Loading.{IsRefusedBy}
@@ -27,7 +27,7 @@ long_refused asked contents file text long explained = record {
 -- what is due where a file was not read is due to the names
 pub unread_due : (files : Option (List NamedFile)) (unreadable : Option (List ℕ → Bool)) (asked : Question) (before after file : ℕ) (error : ShelfError) (due : Due) → IsUnread files unreadable asked.files before after file error → IsUnreadExplained asked file error due → IsExplainDue (Some asked) files unreadable before after due
 unread_due files unreadable asked before after file TooLong (Refusal text) unread explained = (unread.0, record { contents = unread.1.contents; are = unread.1.are; many = unread.1.many; explains = long_refused asked unread.1.contents file text unread.1.first explained })
-unread_due files unreadable asked before after file Failed (CannotRead text) unread line = (unread.0, record { file = file; unread = unread.1; is_line = line })
+unread_due files unreadable asked before after file Failed (CannotRead text) unread line = (unread.0, inl (record { file = file; unread = unread.1; is_line = line }))
 unread_due files unreadable asked before after file TooLong OutOfMemory unread line = omega arith
 unread_due files unreadable asked before after file Failed OutOfMemory unread line = at_least before after unread.0
 unread_due files unreadable asked before after file Memory OutOfMemory unread line = unread

@@ -59,12 +59,12 @@ trace_four (Err Memory) e = omega (arith, e)
 -- ---- what is told at length, and its status
 
 record IsToldStatus (n : ℕ) : Type 0 where
-  few : n ≤ 11
+  few : n ≤ 12
   two : n ≢ 2
   three : n ≢ 3
   four : n ≢ 4
 
-seven_is_few : (n : ℕ) → n ≤ 7 → n ≤ 11
+seven_is_few : (n : ℕ) → n ≤ 7 → n ≤ 12
 seven_is_few n low = omega (arith, low)
 
 marks_status : {A : Type 0} (came : Result A MarksError) → IsToldStatus (status_of_marks came)
@@ -78,47 +78,48 @@ trace_status came = record { few = seven_is_few (status_of_trace came) (trace_fe
 outcomes_status : (came : Result Verdict OutcomesError) → IsToldStatus (status_of_outcomes came)
 outcomes_status (Ok verdicts.NoOther) = record { few = omega arith; two = λ e. omega (arith, e); three = λ e. omega (arith, e); four = λ e. omega (arith, e) }
 outcomes_status (Ok verdicts.Found) = record { few = omega arith; two = λ e. omega (arith, e); three = λ e. omega (arith, e); four = λ e. omega (arith, e) }
+outcomes_status (Ok verdicts.Unexpected) = record { few = omega arith; two = λ e. omega (arith, e); three = λ e. omega (arith, e); four = λ e. omega (arith, e) }
 outcomes_status (Ok verdicts.Unknown) = record { few = omega arith; two = λ e. omega (arith, e); three = λ e. omega (arith, e); four = λ e. omega (arith, e) }
 outcomes_status (Err outcomes_errors.Failed) = record { few = omega arith; two = λ e. omega (arith, e); three = λ e. omega (arith, e); four = λ e. omega (arith, e) }
 outcomes_status (Err outcomes_errors.Memory) = record { few = omega arith; two = λ e. omega (arith, e); three = λ e. omega (arith, e); four = λ e. omega (arith, e) }
 
-told_status : (what : What) (asked : Question) (c : MarkedProgram) (names : Names) (told now : Option (List ℕ)) (from to status : ℕ) → IsProgramTold what asked c names told now from to status → IsToldStatus status
-told_status whats.Refusal asked c names told now from to status h = absurd h
-told_status whats.Marks asked c names told now from to status (came, written, is) = subst IsToldStatus (sym is) (marks_status came)
-told_status whats.Run asked c names told now from to status (came, traced, is) = subst IsToldStatus (sym is) (trace_status came)
-told_status whats.Outcomes asked c names told now from to status (came, written, is) = subst IsToldStatus (sym is) (outcomes_status came)
+told_status : (what : What) (asked : Question) (c : MarkedProgram) (names : Names) (file : Option (List ℕ)) (told now : Option (List ℕ)) (from to status : ℕ) → IsProgramTold what asked c names file told now from to status → IsToldStatus status
+told_status whats.Refusal asked c names file told now from to status h = absurd h
+told_status whats.Marks asked c names file told now from to status (came, written, is) = subst IsToldStatus (sym is) (marks_status came)
+told_status whats.Run asked c names file told now from to status (came, traced, is) = subst IsToldStatus (sym is) (trace_status came)
+told_status whats.Outcomes asked c names file told now from to status (came, written, is) = subst IsToldStatus (sym is) (outcomes_status came)
 
 -- ---- the clauses, where marks, a run or outcomes are told
 
-pub run_answered : (asked : Option Question) (files : Option (List NamedFile)) (unreadable : Option (List ℕ → Bool)) (before after : ℕ) (r : Request) (c : MarkedProgram) (names : Names) (told now : Option (List ℕ)) (from to status : ℕ)
-    → IsWork asked files unreadable before after (works.Run r c names) → IsProgramTold r.what (question_by r) c names told now from to status → IsAnswered asked files unreadable before after told now from to status
-run_answered None files unreadable before after r c names told now from to status work run = absurd work
-run_answered (Some asked) files unreadable before after r c names told now from to status work run =
-    inr (work.1, record { checked = c; names = names; runs = work.2; is_told = subst (λ (q : Question). IsProgramTold q.what q c names told now from to status) (sym work.0) run })
+pub run_answered : (asked : Option Question) (files : Option (List NamedFile)) (unreadable : Option (List ℕ → Bool)) (before after : ℕ) (r : Request) (c : MarkedProgram) (names : Names) (file : Option (List ℕ)) (told now : Option (List ℕ)) (from to status : ℕ)
+    → IsWork asked files unreadable before after (works.Run r c names file) → IsProgramTold r.what (question_by r) c names file told now from to status → IsAnswered asked files unreadable before after told now from to status
+run_answered None files unreadable before after r c names file told now from to status work run = absurd work
+run_answered (Some asked) files unreadable before after r c names file told now from to status work run =
+    inr (work.1, record { checked = c; names = names; runs = work.2; expected = file; is_expected = work.3; is_told = subst (λ (q : Question). IsProgramTold q.what q c names file told now from to status) (sym work.0) run })
 
-pub run_few : (what : What) (asked : Question) (c : MarkedProgram) (names : Names) (told now : Option (List ℕ)) (from to status : ℕ) → IsProgramTold what asked c names told now from to status → status ≤ 11
-run_few what asked c names told now from to status h = (told_status what asked c names told now from to status h).few
+pub run_few : (what : What) (asked : Question) (c : MarkedProgram) (names : Names) (file : Option (List ℕ)) (told now : Option (List ℕ)) (from to status : ℕ) → IsProgramTold what asked c names file told now from to status → status ≤ 12
+run_few what asked c names file told now from to status h = (told_status what asked c names file told now from to status h).few
 
-pub run_not_two : (what : What) (asked : Question) (c : MarkedProgram) (names : Names) (told now : Option (List ℕ)) (from to status : ℕ) → IsProgramTold what asked c names told now from to status → status ≢ 2
-run_not_two what asked c names told now from to status h = (told_status what asked c names told now from to status h).two
+pub run_not_two : (what : What) (asked : Question) (c : MarkedProgram) (names : Names) (file : Option (List ℕ)) (told now : Option (List ℕ)) (from to status : ℕ) → IsProgramTold what asked c names file told now from to status → status ≢ 2
+run_not_two what asked c names file told now from to status h = (told_status what asked c names file told now from to status h).two
 
-pub run_not_three : (what : What) (asked : Question) (c : MarkedProgram) (names : Names) (told now : Option (List ℕ)) (from to status : ℕ) → IsProgramTold what asked c names told now from to status → status ≢ 3
-run_not_three what asked c names told now from to status h = (told_status what asked c names told now from to status h).three
+pub run_not_three : (what : What) (asked : Question) (c : MarkedProgram) (names : Names) (file : Option (List ℕ)) (told now : Option (List ℕ)) (from to status : ℕ) → IsProgramTold what asked c names file told now from to status → status ≢ 3
+run_not_three what asked c names file told now from to status h = (told_status what asked c names file told now from to status h).three
 
-pub run_not_four : (what : What) (asked : Question) (c : MarkedProgram) (names : Names) (told now : Option (List ℕ)) (from to status : ℕ) → IsProgramTold what asked c names told now from to status → status ≢ 4
-run_not_four what asked c names told now from to status h = (told_status what asked c names told now from to status h).four
+pub run_not_four : (what : What) (asked : Question) (c : MarkedProgram) (names : Names) (file : Option (List ℕ)) (told now : Option (List ℕ)) (from to status : ℕ) → IsProgramTold what asked c names file told now from to status → status ≢ 4
+run_not_four what asked c names file told now from to status h = (told_status what asked c names file told now from to status h).four
 
-pub run_at_length : (asked : Option Question) (files : Option (List NamedFile)) (unreadable : Option (List ℕ → Bool)) (before after : ℕ) (r : Request) (c : MarkedProgram) (names : Names) → IsWork asked files unreadable before after (works.Run r c names) → IsToldAtLength r.what
-run_at_length None files unreadable before after r c names work = absurd work
-run_at_length (Some asked) files unreadable before after r c names work = subst (λ (q : Question). IsToldAtLength q.what) work.0 work.2.run.what
+pub run_at_length : (asked : Option Question) (files : Option (List NamedFile)) (unreadable : Option (List ℕ → Bool)) (before after : ℕ) (r : Request) (c : MarkedProgram) (names : Names) (file : Option (List ℕ)) → IsWork asked files unreadable before after (works.Run r c names file) → IsToldAtLength r.what
+run_at_length None files unreadable before after r c names file work = absurd work
+run_at_length (Some asked) files unreadable before after r c names file work = subst (λ (q : Question). IsToldAtLength q.what) work.0 work.2.run.what
 
-pub run_is_read : (asked : Option Question) (files : Option (List NamedFile)) (unreadable : Option (List ℕ → Bool)) (before after : ℕ) (r : Request) (c : MarkedProgram) (names : Names) → IsWork asked files unreadable before after (works.Run r c names) → asked ≡ None → ⊥
-run_is_read None files unreadable before after r c names work none = work
-run_is_read (Some asked) files unreadable before after r c names work none = cc
+pub run_is_read : (asked : Option Question) (files : Option (List NamedFile)) (unreadable : Option (List ℕ → Bool)) (before after : ℕ) (r : Request) (c : MarkedProgram) (names : Names) (file : Option (List ℕ)) → IsWork asked files unreadable before after (works.Run r c names file) → asked ≡ None → ⊥
+run_is_read None files unreadable before after r c names file work none = work
+run_is_read (Some asked) files unreadable before after r c names file work none = cc
 
-pub run_is_calm : (asked : Option Question) (files : Option (List NamedFile)) (unreadable : Option (List ℕ → Bool)) (before after : ℕ) (r : Request) (c : MarkedProgram) (names : Names) → IsWork asked files unreadable before after (works.Run r c names) → before < after → ⊥
-run_is_calm None files unreadable before after r c names work rose = work
-run_is_calm (Some asked) files unreadable before after r c names work rose = omega (arith, work.1, rose)
+pub run_is_calm : (asked : Option Question) (files : Option (List NamedFile)) (unreadable : Option (List ℕ → Bool)) (before after : ℕ) (r : Request) (c : MarkedProgram) (names : Names) (file : Option (List ℕ)) → IsWork asked files unreadable before after (works.Run r c names file) → before < after → ⊥
+run_is_calm None files unreadable before after r c names file work rose = work
+run_is_calm (Some asked) files unreadable before after r c names file work rose = omega (arith, work.1, rose)
 
 -- a run is that of accepted files
 pub run_accepted : (asked : Question) (files : List NamedFile) (c : MarkedProgram) (names : Names) → RunsFiles (Some files) asked c names → AreUnrefused files asked
@@ -140,18 +141,19 @@ marks_failed form c sources told now from to (Ok done) written five = absurd (om
 marks_failed form c sources told now from to (Err errors.Failed) written five = written.0
 marks_failed form c sources told now from to (Err errors.Memory) written five = absurd (omega (arith, five))
 
-outcomes_failed : (form : Form) (c : MarkedProgram) (cfg : Config) (sources : Sources) (forbidden : List Forbidden) (told now : Option (List ℕ)) (from to : ℕ) (came : Result Verdict OutcomesError) → AreOutcomesWritten form c cfg sources forbidden told now from to came → status_of_outcomes came ≡ 5 → CountsFault from to
-outcomes_failed form c cfg sources forbidden told now from to (Ok verdicts.NoOther) written five = absurd (omega (arith, five))
-outcomes_failed form c cfg sources forbidden told now from to (Ok verdicts.Found) written five = absurd (omega (arith, five))
-outcomes_failed form c cfg sources forbidden told now from to (Ok verdicts.Unknown) written five = absurd (omega (arith, five))
-outcomes_failed form c cfg sources forbidden told now from to (Err outcomes_errors.Failed) written five = written.0
-outcomes_failed form c cfg sources forbidden told now from to (Err outcomes_errors.Memory) written five = absurd (omega (arith, five))
+outcomes_failed : (form : Form) (c : MarkedProgram) (cfg : Config) (sources : Sources) (forbidden : List Forbidden) (file : Option (List ℕ)) (told now : Option (List ℕ)) (from to : ℕ) (came : Result Verdict OutcomesError) → AreOutcomesWritten form c cfg sources forbidden file told now from to came → status_of_outcomes came ≡ 5 → CountsFault from to
+outcomes_failed form c cfg sources forbidden file told now from to (Ok verdicts.NoOther) written five = absurd (omega (arith, five))
+outcomes_failed form c cfg sources forbidden file told now from to (Ok verdicts.Found) written five = absurd (omega (arith, five))
+outcomes_failed form c cfg sources forbidden file told now from to (Ok verdicts.Unexpected) written five = absurd (omega (arith, five))
+outcomes_failed form c cfg sources forbidden file told now from to (Ok verdicts.Unknown) written five = absurd (omega (arith, five))
+outcomes_failed form c cfg sources forbidden file told now from to (Err outcomes_errors.Failed) written five = written.0
+outcomes_failed form c cfg sources forbidden file told now from to (Err outcomes_errors.Memory) written five = absurd (omega (arith, five))
 
-pub run_sink_failed : (what : What) (asked : Question) (c : MarkedProgram) (names : Names) (told now : Option (List ℕ)) (from to status : ℕ) → IsProgramTold what asked c names told now from to status → status ≡ 5 → CountsFault from to
-run_sink_failed whats.Refusal asked c names told now from to status h five = absurd h
-run_sink_failed whats.Marks asked c names told now from to status (came, written, is) five = marks_failed asked.form c names.sources told now from to came written (sym is ∙ five)
-run_sink_failed whats.Run asked c names told now from to status (came, traced, is) five = by_came_failed c asked.cfg asked.order names asked.begin asked.part told now from to came traced (sym is ∙ five)
-run_sink_failed whats.Outcomes asked c names told now from to status (came, written, is) five = outcomes_failed asked.form c asked.cfg names.sources asked.forbidden told now from to came written (sym is ∙ five)
+pub run_sink_failed : (what : What) (asked : Question) (c : MarkedProgram) (names : Names) (file : Option (List ℕ)) (told now : Option (List ℕ)) (from to status : ℕ) → IsProgramTold what asked c names file told now from to status → status ≡ 5 → CountsFault from to
+run_sink_failed whats.Refusal asked c names file told now from to status h five = absurd h
+run_sink_failed whats.Marks asked c names file told now from to status (came, written, is) five = marks_failed asked.form c names.sources told now from to came written (sym is ∙ five)
+run_sink_failed whats.Run asked c names file told now from to status (came, traced, is) five = by_came_failed c asked.cfg asked.order names asked.begin asked.part told now from to came traced (sym is ∙ five)
+run_sink_failed whats.Outcomes asked c names file told now from to status (came, written, is) five = outcomes_failed asked.form c asked.cfg names.sources asked.forbidden file told now from to came written (sym is ∙ five)
 
 by_came_fault : (c : MarkedProgram) (cfg : Config) (order : List ℕ) (names : Names) (begin : List Fact) (part : Part) (told now : Option (List ℕ)) (from to : ℕ) (came : Result Outcome TraceError) → IsTraced c cfg order names begin part told now from to came → from < to → status_of_trace came ≡ 5
 by_came_fault c cfg order names begin part told now from to (Ok o) traced rose = omega (arith, traced.calm, rose)
@@ -163,13 +165,13 @@ marks_fault form c sources told now from to (Ok done) written rose = omega (arit
 marks_fault form c sources told now from to (Err errors.Failed) written rose = refl
 marks_fault form c sources told now from to (Err errors.Memory) written rose = omega (arith, written.0, rose)
 
-outcomes_fault : (form : Form) (c : MarkedProgram) (cfg : Config) (sources : Sources) (forbidden : List Forbidden) (told now : Option (List ℕ)) (from to : ℕ) (came : Result Verdict OutcomesError) → AreOutcomesWritten form c cfg sources forbidden told now from to came → from < to → status_of_outcomes came ≡ 5
-outcomes_fault form c cfg sources forbidden told now from to (Ok verdict) written rose = omega (arith, written.0, rose)
-outcomes_fault form c cfg sources forbidden told now from to (Err outcomes_errors.Failed) written rose = refl
-outcomes_fault form c cfg sources forbidden told now from to (Err outcomes_errors.Memory) written rose = omega (arith, written.0, rose)
+outcomes_fault : (form : Form) (c : MarkedProgram) (cfg : Config) (sources : Sources) (forbidden : List Forbidden) (file : Option (List ℕ)) (told now : Option (List ℕ)) (from to : ℕ) (came : Result Verdict OutcomesError) → AreOutcomesWritten form c cfg sources forbidden file told now from to came → from < to → status_of_outcomes came ≡ 5
+outcomes_fault form c cfg sources forbidden file told now from to (Ok verdict) written rose = omega (arith, written.0, rose)
+outcomes_fault form c cfg sources forbidden file told now from to (Err outcomes_errors.Failed) written rose = refl
+outcomes_fault form c cfg sources forbidden file told now from to (Err outcomes_errors.Memory) written rose = omega (arith, written.0, rose)
 
-pub run_sink_fault : (what : What) (asked : Question) (c : MarkedProgram) (names : Names) (told now : Option (List ℕ)) (from to status : ℕ) → IsProgramTold what asked c names told now from to status → from < to → status ≡ 5
-run_sink_fault whats.Refusal asked c names told now from to status h rose = absurd h
-run_sink_fault whats.Marks asked c names told now from to status (came, written, is) rose = is ∙ marks_fault asked.form c names.sources told now from to came written rose
-run_sink_fault whats.Run asked c names told now from to status (came, traced, is) rose = is ∙ by_came_fault c asked.cfg asked.order names asked.begin asked.part told now from to came traced rose
-run_sink_fault whats.Outcomes asked c names told now from to status (came, written, is) rose = is ∙ outcomes_fault asked.form c asked.cfg names.sources asked.forbidden told now from to came written rose
+pub run_sink_fault : (what : What) (asked : Question) (c : MarkedProgram) (names : Names) (file : Option (List ℕ)) (told now : Option (List ℕ)) (from to status : ℕ) → IsProgramTold what asked c names file told now from to status → from < to → status ≡ 5
+run_sink_fault whats.Refusal asked c names file told now from to status h rose = absurd h
+run_sink_fault whats.Marks asked c names file told now from to status (came, written, is) rose = is ∙ marks_fault asked.form c names.sources told now from to came written rose
+run_sink_fault whats.Run asked c names file told now from to status (came, traced, is) rose = is ∙ by_came_fault c asked.cfg asked.order names asked.begin asked.part told now from to came traced rose
+run_sink_fault whats.Outcomes asked c names file told now from to status (came, written, is) rose = is ∙ outcomes_fault asked.form c asked.cfg names.sources asked.forbidden file told now from to came written rose

@@ -1,5 +1,5 @@
 -- What the program owes to its words and files: a text, and a status with it.
-use Rattle.std.specs.Prelude.{◌≡◌, ℕ, ◌≤◌, Bool, List, [], ◌++◌, length, codes, Option}
+use Rattle.std.specs.Prelude.{◌≡◌, ◌⊎◌, ℕ, ◌≤◌, Bool, true, List, [], ◌++◌, length, codes, Option}
 use Rattle.std.specs.Prelude.{Some, None, IfSome}
 use Rattle.std.specs.List.{AllByRecursion, AllZip}
 use Rattle.field_names.specs.FieldNames.{all_field_names}
@@ -10,6 +10,7 @@ use Rattle.checked_program.specs.MarkedProgram.{MarkedProgram}
 use Rattle.class_runner.specs.Loading.{IsAccepted, IsLoaded, IsRefusedBy}
 use Rattle.host_io.specs.Faults.{CountsFault}
 use Rattle.host_io.specs.Reading.{contents_of, first_long}
+use Rattle.host_io.specs.Shelf.{IsContentOf}
 use Rattle.host_io.specs.declared.shelf.NamedFile.{NamedFile}
 use Rattle.json_lines.specs.Json.{text_member}
 use Rattle.jvm_types.specs.LinkFaults.{in_file}
@@ -22,6 +23,7 @@ use Rattle.refusal_places.specs.Explained.{Explains}
 use Rattle.json_lines.specs.declared.form.Form.{Form}
 use Rattle.json_lines.specs.declared.form.Form.TheVariants.{Lines, Json}
 use Rattle.run_texts.specs.Report.{line}
+use Rattle.run_texts.specs.Unread.{unread_line}
 use Rattle.place_names.specs.declared.names.Names.{Names}
 use Rattle.program_answers.specs.Unread.{SaysUnread}
 use Rattle.program_answers.specs.declared.answer.Due.{Due}
@@ -82,6 +84,20 @@ pub record ExplainsRefusal (asked : Question) (contents : List (List ℕ)) (text
   pub explained : Explains asked.form rule place asked.files
       (contents_read (first_long 0 contents) contents) text
 
+-- ---- the file of expected outcomes
+
+-- its content, where such a file is asked for
+abbrev pub IsExpected : Option (List NamedFile) → (name file : Option (List ℕ)) → Type 0
+IsExpected files None file = file ≡ None
+IsExpected files (Some name) file =
+    (content : List ℕ) × (file ≡ Some content) × IsContentOf files name content
+
+-- the line of such a file that can't be read, with the number behind those of the classes
+abbrev pub SaysExpectedUnread : Option (List ℕ → Bool) → Question → (text : List ℕ) → Type 0
+SaysExpectedUnread unreadable asked text =
+    (name : List ℕ) × (asked.expect ≡ Some name) × IfSome unreadable (λ test. test name ≡ true)
+    × (text ≡ unread_line (length asked.files))
+
 -- ---- what is due to the words and the shelf
 
 -- told of the files that are asked for; where the shelf does not tell its files, of some of which
@@ -111,7 +127,8 @@ IsExplainDue asked files unreadable before after OutOfMemory = before ≤ after
 IsExplainDue None files unreadable before after due = (due ≡ Usage) × (after ≡ before)
 IsExplainDue (Some asked) files unreadable before after Usage = ⊥
 IsExplainDue (Some asked) files unreadable before after (CannotRead text) =
-    CountsFault before after × SaysUnread files unreadable asked.files text
+    CountsFault before after
+    × (SaysUnread files unreadable asked.files text ⊎ SaysExpectedUnread unreadable asked text)
 IsExplainDue (Some asked) files unreadable before after (Refusal text) =
     (after ≡ before) × ExplainsFiles files asked text
 IsExplainDue (Some asked) files unreadable before after (Output text) =

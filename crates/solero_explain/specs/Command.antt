@@ -32,7 +32,7 @@ abbrev pub explain_app : App
 explain_app = with_flag (command_of (codes "solero_explain")
     (codes "what" ∷ codes "threads" ∷ codes "order" ∷ codes "steps" ∷ codes "turns" ∷ codes "heap"
     ∷ codes "prints" ∷ codes "elide" ∷ codes "range" ∷ codes "from" ∷ codes "events"
-    ∷ codes "fold" ∷ codes "commit" ∷ codes "states" ∷ codes "forbid" ∷ []))
+    ∷ codes "fold" ∷ codes "commit" ∷ codes "states" ∷ codes "forbid" ∷ codes "expect" ∷ []))
     (codes "json")
 
 -- ---- values
@@ -46,14 +46,14 @@ what_of (Some text) =
     else if bytes_eq text (codes "outcomes") then Some Outcomes else None
 
 -- an order, a part of the lines, whether turns are folded and a commit are read with a run alone,
--- and a bound of states and what no run is to do with outcomes alone
+-- and a bound of states, what no run is to do and a file of expected outcomes with outcomes alone
 abbrev pub not_read_with : What → List Text
-not_read_with Run = codes "states" ∷ codes "forbid" ∷ []
+not_read_with Run = codes "states" ∷ codes "forbid" ∷ codes "expect" ∷ []
 not_read_with Outcomes =
     codes "order" ∷ codes "from" ∷ codes "events" ∷ codes "fold" ∷ codes "commit" ∷ []
 not_read_with what =
     codes "order" ∷ codes "from" ∷ codes "events" ∷ codes "fold" ∷ codes "commit" ∷ codes "states"
-    ∷ codes "forbid" ∷ []
+    ∷ codes "forbid" ∷ codes "expect" ∷ []
 
 -- where outcomes are asked for and no turns, a thread that waits for ever ends soon
 abbrev pub settings_for : What → (turns : Option Text) → Config → Config
@@ -89,6 +89,7 @@ pub record Question : Type 0 where
   pub part : Part
   pub states : ℕ
   pub forbidden : List Forbidden
+  pub expect : Option Text
 
 unfoldable pub question : (words : List Text) → List Row → Option Question
 question words rows = do
@@ -116,6 +117,7 @@ question words rows = do
         part = part_asked from events folds (form_asked (first_of (codes "json") rows));
         states = states;
         forbidden = forbidden;
+        expect = first_of (codes "expect") rows;
       })
 
 -- what the words ask for; None where they are not read

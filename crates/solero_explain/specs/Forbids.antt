@@ -1,10 +1,14 @@
 -- What `--forbid` names: parts with commas between, each of which is `stuck`, `uncaught`, or
 -- `print:` and a number of Java.
-use Rattle.std.specs.Prelude.{ℕ, ◌+◌, ◌-◌, ◌*◌, ◌==◌, nat_le, nat_lt, ◌&&◌, ℤ, pos, neg_ℤ, List, []}
+use Rattle.std.specs.Prelude.{ℕ, ◌+◌, ◌-◌, ◌*◌, ◌==◌, nat_le, nat_lt, Bool, true, false, ◌&&◌}
+use Rattle.std.specs.Prelude.{ℤ, pos, neg_ℤ, List, []}
 use Rattle.std.specs.Prelude.{◌∷◌, ◌++◌, codes, bytes_eq, take, drop, Option, Some, None}
 use Rattle.std.specs.Prelude.{if◌then◌else◌, option_map}
+use Rattle.std.specs.List.{list_any}
 use Rattle.std.specs.Option.{option_and_then}
+use Rattle.std.specs.Ordering.{int_eq}
 use Rattle.clap.specs.Walk.{Text}
+use Rattle.outcome_texts.specs.TextParts.{parts_from}
 use Rattle.outcome_texts.specs.declared.findings.Forbidden.{Forbidden}
 use Rattle.outcome_texts.specs.declared.findings.Forbidden.TheVariants.{Print, Stuck, Uncaught}
 
@@ -44,19 +48,24 @@ forbidden_part part =
 
 -- ---- all parts
 
--- of the next part there is this so far
-abbrev pub parts_from : (part : List ℕ) → List ℕ → List (List ℕ)
-parts_from part [] = part ∷ []
-parts_from part (c ∷ cs) =
-    if c == 44 then part ∷ parts_from [] cs else parts_from (part ++ c ∷ []) cs
+abbrev pub forbid_the_same : Forbidden → Forbidden → Bool
+forbid_the_same (Print a) (Print b) = int_eq a b
+forbid_the_same Stuck Stuck = true
+forbid_the_same Uncaught Uncaught = true
+forbid_the_same a b = false
 
--- each of them, where each is one
+-- one more, where it is not there
+abbrev pub with_once : List Forbidden → Forbidden → List Forbidden
+with_once forbidden what =
+    if list_any (forbid_the_same what) forbidden then forbidden else forbidden ++ what ∷ []
+
+-- each of them, where each is one; of equal ones the first
 abbrev pub forbidden_parts : (before : List Forbidden) → List (List ℕ) → Option (List Forbidden)
 forbidden_parts before [] = Some before
 forbidden_parts before (part ∷ parts) =
-    option_and_then (λ f. forbidden_parts (before ++ f ∷ []) parts) (forbidden_part part)
+    option_and_then (λ f. forbidden_parts (with_once before f) parts) (forbidden_part part)
 
 -- none where none is named
 abbrev pub forbidden_or_none : Option Text → Option (List Forbidden)
 forbidden_or_none None = Some []
-forbidden_or_none (Some text) = forbidden_parts [] (parts_from [] text)
+forbidden_or_none (Some text) = forbidden_parts [] (parts_from 44 [] text)

@@ -1,6 +1,8 @@
 -- What the parts of the work find due.
-use Rattle.std.specs.Prelude.{◌≡◌, ℕ, Bool, List, [], Option, Some, None, Result, Ok, Err}
+use Rattle.std.specs.Prelude.{◌≡◌, ◌≤◌, ℕ, Bool, true, List, [], Option, Some, None}
+use Rattle.std.specs.Prelude.{IfSome, Result, Ok, Err}
 use Rattle.checked_program.specs.MarkedProgram.{MarkedProgram}
+use Rattle.host_io.specs.Faults.{CountsFault}
 use Rattle.host_io.specs.declared.shelf.NamedFile.{NamedFile}
 use Rattle.solero_explain.specs.Requests.{question_by}
 use Rattle.solero_explain.specs.declared.program.Found.{Found}
@@ -17,9 +19,12 @@ use Rattle.jvm_types.specs.declared.refusal.Rule.{Rule}
 use Rattle.jvm_types.specs.declared.refusal.Rule.TheVariants as rules
 use Rattle.refusal_places.specs.Explained.{Explains}
 use Rattle.program_answers.specs.Unread.{IsUnreadLine}
+use Rattle.run_texts.specs.Unread.{unread_line}
 use Rattle.program_answers.specs.declared.answer.Due.{Due}
-use Rattle.program_answers.specs.declared.answer.Due.TheVariants.{Output, Refusal, OutOfMemory}
-use Rattle.solero_explain.specs.Answer.{ExplainsRefusal, IsExplainDue, IsRunOf, RunsFiles}
+use Rattle.program_answers.specs.declared.answer.Due.TheVariants.{CannotRead, Output, Refusal}
+use Rattle.program_answers.specs.declared.answer.Due.TheVariants.{OutOfMemory}
+use Rattle.solero_explain.specs.Answer.{ExplainsRefusal, IsExpected, IsExplainDue, IsRunOf}
+use Rattle.solero_explain.specs.Answer.{RunsFiles}
 use Rattle.solero_explain.specs.Answer.{TellsProgram}
 use Rattle.solero_explain.specs.Command.{Question}
 
@@ -62,11 +67,22 @@ IsFoundInFiles files unreadable asked before after (founds.Due due) =
 IsFoundInFiles files unreadable asked before after (founds.Program checked names) =
     (after ≡ before) × RunsFiles files asked checked names
 
+-- what is due where the file of expected outcomes, which is asked for by that name, is not read
+abbrev pub IsDueToExpected : Option (List ℕ → Bool) → (name : Option (List ℕ)) → (number : ℕ)
+    → (before after : ℕ) → Due → Type 0
+IsDueToExpected unreadable None number before after due = ⊥
+IsDueToExpected unreadable (Some name) number before after (CannotRead text) =
+    CountsFault before after × IfSome unreadable (λ test. test name ≡ true)
+    × (text ≡ unread_line number)
+IsDueToExpected unreadable (Some name) number before after OutOfMemory = before ≤ after
+IsDueToExpected unreadable (Some name) number before after due = ⊥
+
 -- what is to be done for the words
 abbrev pub IsWork : Option Question → Option (List NamedFile) → Option (List ℕ → Bool)
     → (before after : ℕ) → Work → Type 0
 IsWork asked files unreadable before after (works.Due due) =
     IsExplainDue asked files unreadable before after due
-IsWork None files unreadable before after (works.Run request checked names) = ⊥
-IsWork (Some asked) files unreadable before after (works.Run request checked names) =
+IsWork None files unreadable before after (works.Run request checked names expected) = ⊥
+IsWork (Some asked) files unreadable before after (works.Run request checked names expected) =
     (asked ≡ question_by request) × (after ≡ before) × RunsFiles files asked checked names
+    × IsExpected files asked.expect expected

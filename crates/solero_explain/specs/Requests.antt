@@ -1,4 +1,5 @@
 -- What a request asks for.
+use Rattle.std.specs.Prelude.{option_map, string_bytes}
 use Rattle.command_words.specs.Words.{texts}
 use Rattle.solero_explain.specs.Command.{Question}
 use Rattle.solero_explain.specs.declared.request.Request.{Request}
@@ -16,4 +17,5 @@ question_by r = record {
   part = r.part;
   states = r.states;
   forbidden = r.forbidden;
+  expect = option_map (λ name. string_bytes name) r.expect;
 }

@@ -18,7 +18,7 @@ use Rattle.run_trace.specs.declared.traces.TraceError.TheVariants.{Memory, Faile
 use Rattle.program_answers.specs.Delivery.{IsDelivered}
 use Rattle.program_answers.specs.Finish.{finish_of, finish_status}
 use Rattle.program_answers.specs.declared.answer.Due.{Due}
-use Rattle.solero_explain.specs.Answer.{IsExplainDue, RunsFiles, explain_usage}
+use Rattle.solero_explain.specs.Answer.{IsExpected, IsExplainDue, RunsFiles, explain_usage}
 use Rattle.solero_explain.specs.Command.{Question}
 use Rattle.solero_explain.specs.declared.request.What.{What}
 use Rattle.solero_explain.specs.declared.request.What.TheVariants as whats
@@ -35,11 +35,12 @@ status_of_marks (Ok done) = 0
 status_of_marks (Err errors.Failed) = 5
 status_of_marks (Err errors.Memory) = 6
 
--- outcomes: 0 where all orders were tried and nothing was found that no run is to do, 10 where such
--- a thing was found, and else 11
+-- outcomes: 10 where something was found that no run is to do; else 12 where an outcome is not
+-- expected; else 0 where all orders were tried, and 11 where they were not
 abbrev pub status_of_verdict : Verdict → ℕ
 status_of_verdict verdicts.NoOther = 0
 status_of_verdict verdicts.Found = 10
+status_of_verdict verdicts.Unexpected = 12
 status_of_verdict verdicts.Unknown = 11
 
 abbrev pub status_of_outcomes : Result Verdict OutcomesError → ℕ
@@ -49,20 +50,20 @@ status_of_outcomes (Err outcomes_errors.Memory) = 6
 
 -- what is asked for is told of a program, as far as it is, and this is answered
 abbrev pub IsProgramTold : What → Question → MarkedProgram → Names
-    → (told now : Option (List ℕ)) → (before after status : ℕ) → Type 0
-IsProgramTold whats.Refusal asked checked names told now before after status = ⊥
-IsProgramTold whats.Marks asked checked names told now before after status =
+    → (expected told now : Option (List ℕ)) → (before after status : ℕ) → Type 0
+IsProgramTold whats.Refusal asked checked names expected told now before after status = ⊥
+IsProgramTold whats.Marks asked checked names expected told now before after status =
     (came : Result (Unit {0}) MarksError)
     × AreMarksWritten asked.form checked names.sources told now before after came
     × (status ≡ status_of_marks came)
-IsProgramTold whats.Run asked checked names told now before after status =
+IsProgramTold whats.Run asked checked names expected told now before after status =
     (came : Result Outcome TraceError)
     × IsTraced checked asked.cfg asked.order names asked.begin asked.part told now before after came
     × (status ≡ status_of_trace came)
-IsProgramTold whats.Outcomes asked checked names told now before after status =
+IsProgramTold whats.Outcomes asked checked names expected told now before after status =
     (came : Result Verdict OutcomesError)
-    × AreOutcomesWritten asked.form checked asked.cfg names.sources asked.forbidden told now
-    before after came
+    × AreOutcomesWritten asked.form checked asked.cfg names.sources asked.forbidden expected
+    told now before after came
     × (status ≡ status_of_outcomes came)
 
 pub record Traces (files : Option (List NamedFile)) (asked : Question) (told now : Option (List ℕ))
@@ -70,7 +71,9 @@ pub record Traces (files : Option (List NamedFile)) (asked : Question) (told now
   pub checked : MarkedProgram
   pub names : Names
   pub runs : RunsFiles files asked checked names
-  pub is_told : IsProgramTold asked.what asked checked names told now before after status
+  pub expected : Option (List ℕ)
+  pub is_expected : IsExpected files asked.expect expected
+  pub is_told : IsProgramTold asked.what asked checked names expected told now before after status
 
 -- the words ask for marks, a run or outcomes, and the shelf's count of faults goes from before to
 -- after

@@ -1,6 +1,7 @@
 //! The words of the command, read by one simple command of `clap`, and then by the rules for the
 //! values.
-ghost use Rattle.std.specs.Prelude.{◌≡◌, IfOk, IfSome, [], length, map, option_map, true};
+ghost use Rattle.std.specs.Prelude.{◌≡◌, IfOk, IfSome, [], length, map, option_map, string_bytes};
+ghost use Rattle.std.specs.Prelude.{true};
 ghost use Rattle.std.specs.Option.{option_copied, unwrap_or};
 ghost use Rattle.clap.specs.Words.{app_of, found_of, rows_of};
 ghost use Rattle.command_words.specs.RunValues.{are_few as are_few_files};
@@ -27,9 +28,9 @@ use run_trace::Part;
 use std::alloc::{AllocError, Global};
 
 // The options, each with one value.
-const OPTIONS: [&str; 15] = [
+const OPTIONS: [&str; 16] = [
     "what", "threads", "order", "steps", "turns", "heap", "prints", "elide", "range", "from",
-    "events", "fold", "commit", "states", "forbid",
+    "events", "fold", "commit", "states", "forbid", "expect",
 ];
 
 const FROM: Numbers = Numbers {
@@ -92,12 +93,12 @@ fn gives_unread(matches: &ArgMatches<'_>, what: What) -> bool
     ensures { result ≡ gives_any_of (rows_of (found_of matches.now)) (not_read_with what) }
 {
     match what {
-        What::Run => gives_any(matches, &["states", "forbid"]),
+        What::Run => gives_any(matches, &["states", "forbid", "expect"]),
         What::Outcomes => { gives_any(matches, &["order", "from", "events", "fold", "commit"]) }
         What::Refusal | What::Marks => gives_any(
             matches,
             &[
-                "order", "from", "events", "fold", "commit", "states", "forbid",
+                "order", "from", "events", "fold", "commit", "states", "forbid", "expect",
             ],
         ),
     }
@@ -140,6 +141,17 @@ fn files(alloc: Global, given: Option<&[&str]>) -> Result<Option<Vec<String>>, A
         return Ok(None);
     }
     Ok(Some(owned(alloc, names)?))
+}
+
+// A text of its own, where one is given.
+fn owned_text(alloc: Global, given: Option<&str>) -> Result<Option<String>, AllocError>
+    ensures { IfOk result
+        (λ text. option_map (λ t. string_bytes t) text ≡ option_copied given.entry) }
+{
+    match given {
+        Some(given) => Ok(Some(String::from_str(alloc, given)?)),
+        None => Ok(None),
+    }
 }
 
 // What is asked for, where each value follows its rule.
@@ -193,6 +205,7 @@ fn request(
     let given = value(matches, "order");
     let commit = value(matches, "commit");
     let begin = begin_facts(alloc, words, files.as_slice(), given, commit)?;
+    let expect = owned_text(alloc, value(matches, "expect"))?;
     Ok(Some(Request {
         what,
         form,
@@ -210,6 +223,7 @@ fn request(
         },
         states,
         forbidden,
+        expect,
     }))
 }
 

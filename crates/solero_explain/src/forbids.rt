@@ -1,15 +1,17 @@
 //! What no run is to do, as the words name it.
 ghost use Rattle.std.specs.Prelude.{◌≡◌, ◌≤◌, IfOk, IfSome, [], drop, neg_ℤ, option_map, pos, take};
-ghost use Rattle.std.specs.Prelude.{bytes_eq, codes};
+ghost use Rattle.std.specs.Prelude.{OnOk, bytes_eq, codes};
+ghost use Rattle.std.specs.List.{list_any};
 ghost use Rattle.std.specs.Option.{option_and_then, option_copied};
 ghost use Rattle.outcome_texts.specs.declared.findings.Forbidden.TheVariants.{Print};
 ghost use Rattle.solero_explain.specs.Forbids.{digits_number, forbidden_part as the_part};
 ghost use Rattle.solero_explain.specs.Forbids.{forbidden_or_none as the_forbidden, forbidden_parts};
 ghost use Rattle.solero_explain.specs.Forbids.{java_number as the_number, with_digit, number_from};
-ghost use Rattle.solero_explain.specs.Forbids.{parts_from, positive as the_positive};
+ghost use Rattle.solero_explain.specs.Forbids.{forbid_the_same, positive as the_positive};
+ghost use Rattle.solero_explain.specs.Forbids.{with_once};
 
 use jvm_types::{Bytes, Rows};
-use outcome_texts::Forbidden;
+use outcome_texts::{Forbidden, parts_between};
 use std::alloc::{AllocError, Global};
 
 // The largest number without its sign.
@@ -134,22 +136,34 @@ fn forbidden_part(part: &[u8]) -> Option<Forbidden>
     }
 }
 
-// The parts of a text, with commas between.
-fn parts(alloc: Global, text: &[u8]) -> Result<Rows<Bytes>, AllocError>
-    ensures { IfOk result (λ parts. parts ≡ parts_from [] text.now) }
+// Whether it is the same.
+fn is_same(a: Forbidden, b: Forbidden) -> bool
+    ensures { result ≡ forbid_the_same a b }
 {
-    let mut parts = Rows::new(alloc);
-    let mut part = Bytes::new(alloc);
-    for c in text {
-        if *c == b',' {
-            parts.push(part)?;
-            part = Bytes::new(alloc);
-        } else {
-            part.push(*c)?;
-        }
+    match (a, b) {
+        (Forbidden::Print(one), Forbidden::Print(other)) => one == other,
+        (Forbidden::Stuck, Forbidden::Stuck) => true,
+        (Forbidden::Uncaught, Forbidden::Uncaught) => true,
+        _ => false,
     }
-    parts.push(part)?;
-    Ok(parts)
+}
+
+// Whether it is among these.
+fn is_among(forbidden: &[Forbidden], what: Forbidden) -> bool
+    ensures { result ≡ list_any (forbid_the_same what) forbidden.now }
+{
+    forbidden.iter().any(|other| is_same(what, *other))
+}
+
+// Adds one thing, where it is not there.
+fn add_once(forbidden: &mut Rows<Forbidden>, what: Forbidden) -> Result<(), AllocError>
+    ensures { OnOk result (forbidden.new ≡ with_once forbidden.old what) }
+{
+    if is_among(forbidden.as_slice(), what) {
+        Ok(())
+    } else {
+        forbidden.push(what)
+    }
 }
 
 fn forbidden_of(alloc: Global, parts: &[Bytes]) -> Result<Option<Rows<Forbidden>>, AllocError>
@@ -158,7 +172,7 @@ fn forbidden_of(alloc: Global, parts: &[Bytes]) -> Result<Option<Rows<Forbidden>
     let mut forbidden = Rows::new(alloc);
     for part in parts {
         match forbidden_part(part.as_slice()) {
-            Some(what) => forbidden.push(what)?,
+            Some(what) => add_once(&mut forbidden, what)?,
             None => return Ok(None),
         }
     }
@@ -166,7 +180,7 @@ fn forbidden_of(alloc: Global, parts: &[Bytes]) -> Result<Option<Rows<Forbidden>
 }
 
 /// What no run is to do: parts with commas between, each of which is `stuck`, `uncaught`, or
-/// `print:` and a number of Java. None where nothing is given.
+/// `print:` and a number of Java; of equal ones the first. None where nothing is given.
 pub fn forbidden_or_none(
     alloc: Global,
     given: Option<&str>,
@@ -175,7 +189,7 @@ pub fn forbidden_or_none(
 {
     match given {
         Some(text) => {
-            let parts = parts(alloc, text.as_bytes())?;
+            let parts = parts_between(alloc, b',', text.as_bytes())?;
             forbidden_of(alloc, parts.as_slice())
         }
         None => Ok(Some(Rows::new(alloc))),

@@ -6,19 +6,23 @@ mod begins;
 mod command;
 mod forbids;
 mod program;
+mod progress;
 mod request;
 
 use host_io::adapters::{FileShelf, OutputSink};
 use program::USAGE;
 use program_answers::delivery::deliver;
 use program_answers::start::{without_words, words};
+use progress::Progress;
+use std::io::IsTerminal;
 use std::process::ExitCode;
 
 fn main(rt: HostRuntime) -> ExitCode {
     let mut shelf = FileShelf::new(&rt);
     let mut sink = OutputSink::new(&rt);
+    let mut watch = Progress::new(&rt, rt.stderr().is_terminal());
     let status = match words(&rt) {
-        Ok(words) => program::top_explain(rt.alloc(), &words, &mut shelf, &mut sink),
+        Ok(words) => program::top_explain(rt.alloc(), &words, &mut shelf, &mut watch, &mut sink),
         Err(error) => deliver(&mut sink, USAGE, &without_words(error.kind())),
     };
     ExitCode::from(status)

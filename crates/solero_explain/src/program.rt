@@ -1,4 +1,5 @@
-ghost use Rattle.std.specs.Prelude.{◌≡◌, ◌-◌, ◌^◌, ◌<◌, ◌≤◌, ◌≢◌, ◌⊎◌, ℕ, List, Some, None, IfOk};
+ghost use Rattle.std.specs.Prelude.{◌≡◌, ◌-◌, ◌^◌, ◌<◌, ◌≤◌, ◌≢◌, ◌⊎◌, ℕ, List, Some, None, IfErr};
+ghost use Rattle.std.specs.Prelude.{IfOk};
 ghost use Rattle.std.specs.Prelude.{length, true};
 ghost use Rattle.std.specs.List.{AllZip};
 ghost use Rattle.command_words.specs.RunValues.{are_few};
@@ -6,17 +7,19 @@ ghost use Rattle.command_words.specs.Words.{texts};
 ghost use Rattle.field_names.specs.FieldNames.{all_field_names};
 ghost use Rattle.host_io.specs.Faults.{CountsFault};
 ghost use Rattle.host_io.specs.Reading.{first_long};
+ghost use Rattle.host_io.specs.Shelf.{IsContentOf};
 ghost use Rattle.host_io.specs.declared.shelf.NamedFile.{NamedFile as File};
 ghost use Rattle.json_lines.specs.declared.form.Form.TheVariants.{Json};
 ghost use Rattle.jvm_types.specs.ClassGrammar.{Spells};
 ghost use Rattle.jvm_types.specs.declared.class_file.ClassFile.{ClassFile as Class};
-ghost use Rattle.solero_explain.specs.Answer.{AreUnrefused, IsExplainDue, IsTold};
-ghost use Rattle.solero_explain.specs.Answer.{IsToldAtLength};
+ghost use Rattle.solero_explain.specs.Answer.{AreUnrefused, IsExpected, IsExplainDue, IsTold};
+ghost use Rattle.solero_explain.specs.Answer.{IsToldAtLength, RunsFiles};
 ghost use Rattle.solero_explain.specs.Answer.{accepted_text as the_accepted_text};
 ghost use Rattle.solero_explain.specs.Command.{Question, explain_command};
 ghost use Rattle.class_runner.specs.Loading.{IsLoaded};
 ghost use Rattle.solero_explain.specs.Parts.{IsDueOf, IsRefusalExplained, IsFoundInFiles};
-ghost use Rattle.solero_explain.specs.Parts.{IsFoundIn, IsUnreadExplained, IsWork};
+ghost use Rattle.solero_explain.specs.Parts.{IsDueToExpected, IsFoundIn, IsUnreadExplained};
+ghost use Rattle.solero_explain.specs.Parts.{IsWork};
 ghost use Rattle.solero_explain.specs.Tracing.{IsAnswered, IsProgramTold, status_of_verdict};
 ghost use Rattle.solero_explain.specs.Requests.{question_by};
 ghost use Rattle.source_lines.specs.Sources.{sources_of as the_sources_of};
@@ -33,7 +36,7 @@ use json_lines::{Form, write_text_member};
 use jvm_types::limits::{MOST_FILE_BYTES, MOST_FILES};
 use jvm_types::{Bytes, CRule, Place, Rows, Rule, in_file};
 use mark_reasons::{MarksError, explain_marks};
-use outcome_texts::{OutcomesError, Verdict, explain_outcomes};
+use outcome_texts::{OutcomesError, Verdict, Watch, explain_outcomes};
 use place_names::Names;
 use program_answers::answer::{Due, cannot_read};
 use program_answers::delivery::deliver;
@@ -52,20 +55,22 @@ enum Work {
     /// A text is due.
     Due(Due),
     /// The marks, the run or the outcomes of a program are to be told, with the names that its
-    /// classes have.
-    Run(Request, Checked, Names),
+    /// classes have, and with the file of expected outcomes, where one is asked for.
+    Run(Request, Checked, Names, Option<Bytes>),
 }
 
 /// Explains what the words ask for: reads the files from the shelf, in order, loads them, and
 /// writes to the sink what is to be told of them: a refusal, the marks of the sections with their
-/// reasons, a run, event by event, as it goes, or all that runs come to. Files that `solero`
-/// refuses are refused by the same rule, at the same place, with the names of that place. It
-/// answers the status that the process ends with: of a run that is told that of its report; of
-/// outcomes 0 where there is no other, 10 where one does what no run is to do, and else 11.
-pub fn top_explain<S: Shelf, K: Sink>(
+/// reasons, a run, event by event, as it goes, or all that runs come to; who watches is told how
+/// far the search for these has come. Files that `solero` refuses are refused by the same rule, at
+/// the same place, with the names of that place. It answers the status that the process ends with:
+/// of a run that is told that of its report; of outcomes 10 where a run does what none is to do,
+/// else 12 where one is not expected, else 0 where there is no other, and 11 where there may be.
+pub fn top_explain<S: Shelf, W: Watch, K: Sink>(
     alloc: Global,
     words: &Vec<String>,
     shelf: &mut S,
+    watch: &mut W,
     sink: &mut K,
 ) -> u8
     // What the words and the files are owed is written, and answered by its status.
@@ -76,7 +81,7 @@ pub fn top_explain<S: Shelf, K: Sink>(
     ensures unreadable { S.unreadable shelf.new ≡ S.unreadable shelf.old }
 
     // Each status comes for its cause, and a fault of the sink goes before all.
-    ensures status { result ≤ 11 }
+    ensures status { result ≤ 12 }
     ensures words_read { result ≡ 2 → explain_command (texts words.now.items) ≡ None }
     ensures words_not_read { explain_command (texts words.now.items) ≡ None
         → (result ≡ 2) ⊎ ((result ≡ 5) ⊎ (result ≡ 6)) }
@@ -96,7 +101,9 @@ pub fn top_explain<S: Shelf, K: Sink>(
 {
     match work_for(alloc, words, shelf) {
         Work::Due(due) => deliver(sink, USAGE, &due),
-        Work::Run(request, checked, names) => tell(alloc, &request, &checked, &names, sink),
+        Work::Run(request, checked, names, expected) => {
+            tell(alloc, &request, &checked, &names, &expected, watch, sink)
+        }
     }
 }
 
@@ -115,10 +122,12 @@ fn marked<K: Sink>(
     request: &Request,
     checked: &Checked,
     names: &Names,
+    expected: &Option<Bytes>,
     sink: &mut K,
 ) -> u8
     ensures { IsProgramTold What.Marks (question_by request.now) checked.now names.now
-        (K.text sink.old) (K.text sink.new) (K.faults sink.old) (K.faults sink.new) result }
+        expected.now (K.text sink.old) (K.text sink.new) (K.faults sink.old) (K.faults sink.new)
+        result }
 {
     match explain_marks(alloc, request.form, checked, &names.sources, sink) {
         Ok(()) => 0,
@@ -133,10 +142,12 @@ fn traced<K: Sink>(
     request: &Request,
     checked: &Checked,
     names: &Names,
+    expected: &Option<Bytes>,
     sink: &mut K,
 ) -> u8
     ensures { IsProgramTold What.Run (question_by request.now) checked.now names.now
-        (K.text sink.old) (K.text sink.new) (K.faults sink.old) (K.faults sink.new) result }
+        expected.now (K.text sink.old) (K.text sink.new) (K.faults sink.old) (K.faults sink.new)
+        result }
 {
     match explain_run(
         alloc,
@@ -161,20 +172,24 @@ fn status_of(verdict: Verdict) -> u8
     match verdict {
         Verdict::NoOther => 0,
         Verdict::Found => 10,
+        Verdict::Unexpected => 12,
         Verdict::Unknown => 11,
     }
 }
 
 // The outcomes are told, and this is answered.
-fn searched<K: Sink>(
+fn searched<W: Watch, K: Sink>(
     alloc: Global,
     request: &Request,
     checked: &Checked,
     names: &Names,
+    expected: &Option<Bytes>,
+    watch: &mut W,
     sink: &mut K,
 ) -> u8
     ensures { IsProgramTold What.Outcomes (question_by request.now) checked.now names.now
-        (K.text sink.old) (K.text sink.new) (K.faults sink.old) (K.faults sink.new) result }
+        expected.now (K.text sink.old) (K.text sink.new) (K.faults sink.old) (K.faults sink.new)
+        result }
 {
     match explain_outcomes(
         alloc,
@@ -184,6 +199,8 @@ fn searched<K: Sink>(
         &names.sources,
         request.states,
         request.forbidden.as_slice(),
+        expected,
+        watch,
         sink,
     ) {
         Ok(verdict) => status_of(verdict),
@@ -193,22 +210,25 @@ fn searched<K: Sink>(
 }
 
 // What is asked for is told of a program.
-fn tell<K: Sink>(
+fn tell<W: Watch, K: Sink>(
     alloc: Global,
     request: &Request,
     checked: &Checked,
     names: &Names,
+    expected: &Option<Bytes>,
+    watch: &mut W,
     sink: &mut K,
 ) -> u8
     requires { IsToldAtLength request.now.what }
     ensures { IsProgramTold request.now.what (question_by request.now) checked.now names.now
-        (K.text sink.old) (K.text sink.new) (K.faults sink.old) (K.faults sink.new) result }
+        expected.now (K.text sink.old) (K.text sink.new) (K.faults sink.old) (K.faults sink.new)
+        result }
 {
     match request.what {
         What::Refusal => unreachable!(),
-        What::Marks => marked(alloc, request, checked, names, sink),
-        What::Run => traced(alloc, request, checked, names, sink),
-        What::Outcomes => searched(alloc, request, checked, names, sink),
+        What::Marks => marked(alloc, request, checked, names, expected, sink),
+        What::Run => traced(alloc, request, checked, names, expected, sink),
+        What::Outcomes => searched(alloc, request, checked, names, expected, watch, sink),
     }
 }
 
@@ -235,7 +255,74 @@ fn work_on<S: Shelf>(alloc: Global, request: Request, shelf: &mut S) -> Work
 {
     match find(alloc, &request, shelf) {
         Found::Due(due) => Work::Due(due),
-        Found::Program(checked, names) => Work::Run(request, checked, names),
+        Found::Program(checked, names) => work_with(alloc, request, checked, names, shelf),
+    }
+}
+
+// What is to be done for a request, of a program.
+#[tactic(auto, using(crate::proofs::Expectation::expected_due))]
+fn work_with<S: Shelf>(
+    alloc: Global,
+    request: Request,
+    checked: Checked,
+    names: Names,
+    shelf: &mut S,
+) -> Work
+    requires { RunsFiles (S.files shelf.old) (question_by request) checked names }
+    ensures work { IsWork (Some (question_by request)) (S.files shelf.old) (S.unreadable shelf.old)
+        (S.faults shelf.old) (S.faults shelf.new) result }
+    ensures files { S.files shelf.new ≡ S.files shelf.old }
+    ensures unreadable { S.unreadable shelf.new ≡ S.unreadable shelf.old }
+{
+    match expected_file(alloc, &request, shelf) {
+        Ok(expected) => Work::Run(request, checked, names, expected),
+        Err(due) => Work::Due(due),
+    }
+}
+
+// The file of expected outcomes, where one is asked for, or what is due where it is not read.
+fn expected_file<S: Shelf>(
+    alloc: Global,
+    request: &Request,
+    shelf: &mut S,
+) -> Result<Option<Bytes>, Due>
+    ensures files { S.files shelf.new ≡ S.files shelf.old }
+    ensures unreadable { S.unreadable shelf.new ≡ S.unreadable shelf.old }
+    ensures ok { IfOk result (λ file. (S.faults shelf.new ≡ S.faults shelf.old)
+        × IsExpected (S.files shelf.old) (question_by request.now).expect file) }
+    ensures err { IfErr result (λ due. IsDueToExpected (S.unreadable shelf.old)
+        (question_by request.now).expect (length (question_by request.now).files)
+        (S.faults shelf.old) (S.faults shelf.new) due) }
+{
+    match &request.expect {
+        Some(name) => {
+            let content = read_expected(alloc, name.as_str(), request.files.len() as u16, shelf)?;
+            Ok(Some(content))
+        }
+        None => Ok(None),
+    }
+}
+
+// The content of the file of that name, which may be of any length, or what is due where it is not
+// read, with a number for the file.
+#[tactic(auto, using(crate::proofs::Expectation::unread_expected))]
+fn read_expected<S: Shelf>(
+    alloc: Global,
+    name: &str,
+    number: u16,
+    shelf: &mut S,
+) -> Result<Bytes, Due>
+    ensures files { S.files shelf.new ≡ S.files shelf.old }
+    ensures unreadable { S.unreadable shelf.new ≡ S.unreadable shelf.old }
+    ensures ok { IfOk result (λ content. (S.faults shelf.new ≡ S.faults shelf.old)
+        × IsContentOf (S.files shelf.old) name.now content) }
+    ensures err { IfErr result (λ due. IsDueToExpected (S.unreadable shelf.old) (Some name.now)
+        number (S.faults shelf.old) (S.faults shelf.new) due) }
+{
+    match shelf.read_file(alloc, name, u64::MAX) {
+        Ok(content) => Ok(content),
+        Err(ShelfError::Failed) => Err(cannot_read(alloc, number)),
+        Err(ShelfError::Memory | ShelfError::TooLong) => Err(Due::OutOfMemory),
     }
 }
 

@@ -47,6 +47,8 @@ pub struct Request {
     pub states: u32,
     /// What no run is to do.
     pub forbidden: Rows<Forbidden>,
+    /// The name of a file of the outcomes that are expected, lines of an earlier text.
+    pub expect: Option<String>,
     ghost bounds: { AreInExplainBounds (length files.items) threads heap cfg },
     ghost few: { states ≤ MOST_STATES },
 }
