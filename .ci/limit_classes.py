@@ -8,6 +8,7 @@ PRIVATE = 2
 NOP, POP, IADD, ICONST_M1, ICONST_0, ICONST_1 = opcodes("nop pop iadd iconst_m1 iconst_0 iconst_1")
 ILOAD_0, ILOAD_1, ISTORE_0, ISTORE_1 = opcodes("iload_0 iload_1 istore_0 istore_1")
 ALOAD_0, ASTORE, IINC, IALOAD = opcodes("aload_0 astore iinc iaload")
+ISTORE, ACONST_NULL, IDIV = opcodes("istore aconst_null idiv")
 IFEQ, IFNE, IF_ICMPNE, GOTO = opcodes("ifeq ifne if_icmpne goto")
 GETFIELD, PUTFIELD, NEWARRAY, VIRTUAL = opcodes("getfield putfield newarray invokevirtual")
 (MONITORENTER,) = opcodes("monitorenter")
@@ -217,10 +218,10 @@ def nested_on_this(depth):
     return code.method()
 
 
-def deep_blocks(blocks, throwing, plain):
+def deep_blocks(blocks, throwing, plain, more=0):
     """A method that enters its own object so many times, then makes reads that can throw and
     instructions that cannot, and does not end. The first handler of each entry, and of the reads,
-    does not end either."""
+    does not end either; so many more rows before that one catch one class of what the reads throw."""
     file = ClassFile("A")
     file.field(0, "x", "I")
     read = ALOAD_0 + GETFIELD + u2(file.member(9, "A", "x", "I"))
@@ -234,9 +235,31 @@ def deep_blocks(blocks, throwing, plain):
     for entry in range(1, blocks):
         rows.append(handler_row(2 * entry + 1, 2 * entry + 2, len(code)))
         code += forever
+    caught = file.of_class("java/lang/ArithmeticException")
+    rows += [handler_row(start, end, len(code), caught)] * more
     rows.append(handler_row(start, end, len(code)))
     file.method(0, "m", "()V", code + forever, 2, 1, rows)
     file.method(STATIC, "init", "()V", RETURN, 0, 0)
+    return file.content()
+
+
+def covered_code(body, rows, handlers, numbers=0):
+    """A method that gives numbers to so many locals; then comes code that so many rows cover, with so
+    many handlers in all. The rows catch one class."""
+    file = ClassFile("A")
+    file.method(STATIC, "init", "()V", RETURN, 0, 0)
+    caught = file.of_class("java/lang/ArithmeticException")
+    code = b"".join(ICONST_0 + ISTORE + u1(local) for local in range(numbers))
+    start = len(code)
+    code += body
+    end = len(code)
+    code += RETURN
+    first = len(code)
+    covering = [
+        handler_row(start, end, first + 2 * (row % handlers), caught) for row in range(rows)
+    ]
+    code += (POP + RETURN) * handlers
+    file.method(STATIC, "m", "()V", code, 2, max(1, numbers), covering)
     return file.content()
 
 

@@ -3,3 +3,4 @@ pub mod VisitLaws
 pub mod HandlerLaws
 pub mod OneAnswer
 mod StayLaws
+mod RowsRest

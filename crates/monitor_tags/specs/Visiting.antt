@@ -1,7 +1,8 @@
 -- What one visit of the nodes of a method answers, and the visits in all.
 use Rattle.std.specs.Prelude.{◌≡◌, ℕ, Bool, false, if◌then◌else◌, List, [], ◌∷◌, map, Option, Some}
 use Rattle.std.specs.Prelude.{None, Result, Ok, Err}
-use Rattle.jvm_types.specs.Verifying.{covering}
+use Rattle.std.specs.List.{AllByRecursion}
+use Rattle.jvm_types.specs.Verifying.{covers, covering}
 use Rattle.jvm_types.specs.declared.code.Insn.{Insn}
 use Rattle.jvm_types.specs.declared.op_row.OpRow.{OpRow}
 use Rattle.jvm_types.specs.declared.program.MethodInfo.{MethodInfo}
@@ -9,11 +10,13 @@ use Rattle.jvm_types.specs.declared.program.Program.{Program}
 use Rattle.jvm_types.specs.declared.program.Row.{Row}
 use Rattle.jvm_types.specs.declared.refusal.SRule.{SRule}
 use Rattle.jvm_types.specs.declared.refusal.SRule.TheVariants.{S1, S2, S3}
-use Rattle.checked_program.specs.LockTags.{TagShape}
+use Rattle.checked_program.specs.LockTags.{TagShape, IsShapeBelow}
 use Rattle.checked_program.specs.Tagging.{tag_meeting, tags_after, tags_at_handler, until_all}
 use Rattle.checked_program.specs.Tagging.{catchers, enters_untagged, exits_other, leaves_held}
 use Rattle.checked_program.specs.Tagging.{IsTagRefused}
 use Rattle.checked_program.specs.Visits.{PlanNode, Act, Bring, acted}
+use Rattle.laws_sections.proofs.TagOrder.{tag_order}
+use Rattle.laws_sections.proofs.VisitedNodes.{LandsOn}
 use Rattle.code_visits.specs.Level.{AreLevel}
 use Rattle.code_visits.specs.declared.stop.Stop.{Stop}
 use Rattle.code_visits.specs.declared.stop.Stop.TheVariants as stops
@@ -45,12 +48,28 @@ goes_along tos f = Bring S3 tos f
 abbrev pub to_handlers : TagShape → List Row → List (Act TagShape SRule)
 to_handlers f rows = map (λ (handler : Row). goes_along (handler.handler ∷ []) f) rows
 
+-- a frame goes to the handler of a row, where that covers a pc
+abbrev pub turn_acts : ℕ → TagShape → Row → List (Act TagShape SRule)
+turn_acts pc f handler =
+    if covers pc handler then goes_along (handler.handler ∷ []) f ∷ [] else []
+
 -- what is kept of a frame for the handlers that an exception of an instruction may go to, where
 -- there are some
 abbrev pub KeptTagShape : MethodInfo → Insn → TagShape → Option TagShape → Type 0
 KeptTagShape m insn f None = catchers m insn ≡ []
 KeptTagShape m insn f (Some g) =
     (g ≡ tags_at_handler f) × (catchers m insn ≡ until_all (covering m insn.pc))
+
+-- the handler of each of some rows has a frame that this one is below: brought there it changes
+-- nothing
+abbrev pub DoRest : MethodInfo → TagShape → Nodes → List Row → Type 0
+DoRest m f nodes rows = AllByRecursion
+    (λ (handler : Row).
+    LandsOn tag_meeting IsShapeBelow tag_order m.code nodes f handler.handler) rows
+
+-- those of the rows that an exception at a pc goes to
+abbrev pub DoCatchersRest : MethodInfo → ℕ → TagShape → Nodes → Type 0
+DoCatchersRest m at f nodes = DoRest m f nodes (until_all (covering m at))
 
 -- a frame breaks neither of the first rules at an instruction, and this is what the instruction
 -- does with it

@@ -63,14 +63,14 @@ impl Analysis for Tagging {
     ghost use Rattle.checked_program.specs.LockTags.{entry_tags};
     ghost use Rattle.checked_program.specs.Tagging.{acts_at, tag_plan};
     ghost use Rattle.laws_sections.proofs.TagRanks.{tag_ranks};
-    ghost use Rattle.laws_sections.proofs.VisitsEnd.{IsKept, work};
-    ghost use Rattle.monitor_tags.specs.TagVisits.{tags_end};
+    ghost use Rattle.laws_sections.proofs.VisitsEnd.{work};
+    ghost use Rattle.monitor_tags.specs.TagVisits.{TagsKept, tags_end};
 
     ghost first = { entry_tags };
 
     ghost acts = { λ p m i f. acts_at p m (slice_get m.code i) (slice_get m.targets i) f };
 
-    ghost is_kept = { λ p m nodes. IsKept (tag_plan p m) (tag_ranks p m) nodes };
+    ghost is_kept = { λ p m nodes. TagsKept p m nodes };
 
     ghost work = { λ p m nodes. work (tag_plan p m) (tag_ranks p m) nodes };
 

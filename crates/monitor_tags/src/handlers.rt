@@ -1,22 +1,28 @@
 //! Edges to the handlers that an exception of an instruction may go to.
 
-ghost use Rattle.std.specs.Prelude.{◌≡◌, ◌&&◌, IfOk, OnOk};
+ghost use Rattle.std.specs.Prelude.{◌≡◌, ◌&&◌, true, [], ◌∷◌, IfOk, OnOk};
 ghost use Rattle.std.specs.List.{list_any};
+ghost use Rattle.std.specs.Option.{IfSome};
 ghost use Rattle.jvm_types.specs.CodeTable.{can_throw};
 ghost use Rattle.jvm_types.specs.Verifying.{covers, covering};
-ghost use Rattle.checked_program.specs.LockTags.{TagShape};
-ghost use Rattle.checked_program.specs.Tagging.{until_all, catchers, tags_at_handler};
+ghost use Rattle.checked_program.specs.LockTags.{TagShape, IsShapeBelow};
+ghost use Rattle.checked_program.specs.Tagging.{catches_all, until_all, catchers};
+ghost use Rattle.checked_program.specs.Tagging.{tag_meeting, tags_at_handler};
+ghost use Rattle.laws_sections.proofs.TagOrder.{tag_order};
+ghost use Rattle.laws_sections.proofs.VisitedNodes.{LandsOn};
 ghost use Rattle.code_visits.specs.Analyses.{Leaves};
-ghost use Rattle.monitor_tags.specs.Visiting.{AreLong, KeptTagShape, does, to_handlers};
+ghost use Rattle.monitor_tags.specs.Visiting.{AreLong, DoCatchersRest, KeptTagShape, does};
+ghost use Rattle.monitor_tags.specs.Visiting.{goes_along, to_handlers, turn_acts};
 
 use crate::after::frame_at_handler;
 use crate::analysis::Tagging;
+use crate::resting::key_of;
 use crate::rules::catches_all;
 use checked_program::TagFrame;
 use code_table::can_throw;
 use code_visits::{Nodes, Stop, go_to};
-use handler_rows::HandledMethod;
-use jvm_types::{Insn, SRule};
+use handler_rows::{HandledMethod, covers};
+use jvm_types::{Insn, Row, SRule};
 use std::alloc::{AllocError, Global};
 
 /// Whether an exception of an instruction may go to some handler.
@@ -66,22 +72,108 @@ fn handle(
     Ok(())
 }
 
-/// What was kept of a frame goes to the handlers that an exception of an instruction may go to.
+/// A frame goes to the handler at a pc, unless it rests there.
+fn reach(
+    alloc: Global,
+    m: &HandledMethod<'_>,
+    nodes: &mut Nodes<TagFrame>,
+    f: &TagFrame,
+    rests: bool,
+    to: u32,
+) -> Result<(), Stop<SRule>>
+    requires level { AreLong m.now nodes.old }
+    requires rest { rests ≡ true
+        → LandsOn tag_meeting IsShapeBelow tag_order m.now.code nodes.old f.now to }
+    ensures left { Leaves (does m.now (goes_along (to ∷ []) f.now ∷ []) nodes.old) nodes.new
+        result }
+    ensures level { OnOk result (AreLong m.now nodes.new) }
+{
+    m.laid_out();
+    if rests {
+        return Ok(());
+    }
+    go_to::<Tagging, _>(alloc, m, nodes, SRule::S3, to, f)
+}
+
+/// A frame goes to the handler of a row where that covers a pc, unless it rests there; answers
+/// whether the row covers the pc and catches all.
+fn turn(
+    alloc: Global,
+    m: &HandledMethod<'_>,
+    nodes: &mut Nodes<TagFrame>,
+    pc: u32,
+    f: &TagFrame,
+    rests: bool,
+    row: &Row,
+) -> Result<bool, Stop<SRule>>
+    requires level { AreLong m.now nodes.old }
+    requires rest { rests ≡ true
+        → LandsOn tag_meeting IsShapeBelow tag_order m.now.code nodes.old f.now row.now.handler }
+    ensures left { Leaves (does m.now (turn_acts pc f.now row.now) nodes.old) nodes.new result }
+    ensures level { OnOk result (AreLong m.now nodes.new) }
+    ensures ends { IfOk result (λ ends. ends ≡ (covers pc row.now && catches_all row.now)) }
+{
+    if !covers(pc, row) {
+        return Ok(false);
+    }
+    reach(alloc, m, nodes, f, rests, row.handler)?;
+    Ok(catches_all(row))
+}
+
+/// A frame goes to the handlers of the rows that cover a pc, up to the first that catches all, but
+/// to none to which an exception at another pc goes, as long as that goes on: they rest.
+fn handle_beside(
+    alloc: Global,
+    m: &HandledMethod<'_>,
+    nodes: &mut Nodes<TagFrame>,
+    pc: u32,
+    at: u32,
+    f: &TagFrame,
+) -> Result<(), Stop<SRule>>
+    requires level { AreLong m.now nodes.old }
+    requires rest { DoCatchersRest m.now at f.now nodes.old }
+    ensures left { Leaves (does m.now (to_handlers f.now (until_all (covering m.now pc))) nodes.old)
+        nodes.new result }
+    ensures level { OnOk result (AreLong m.now nodes.new) }
+{
+    let rows = m.method().rows.as_slice();
+    let mut rests = true;
+    for row in rows {
+        let rests_here = rests & covers(at, row);
+        if turn(alloc, m, nodes, pc, f, rests_here, row)? {
+            return Ok(());
+        }
+        rests &= !(rests_here & catches_all(row));
+    }
+    Ok(())
+}
+
+/// What was kept of a frame goes to the handlers that an exception of the instruction of a number
+/// may go to, but to those where it rests, as an exception at another pc brought it there. The
+/// number is noted for the frame.
 pub fn handle_kept(
     alloc: Global,
     m: &HandledMethod<'_>,
     nodes: &mut Nodes<TagFrame>,
+    i: usize,
     insn: &Insn,
+    resting: Option<u32>,
     kept: &Option<TagFrame>,
 ) -> Result<(), Stop<SRule>>
     requires level { AreLong m.now nodes.old }
+    requires rest { IfSome kept.now
+        (λ f. IfSome resting (λ at. DoCatchersRest m.now at f nodes.old)) }
     ensures left { (f : TagShape) → KeptTagShape m.now insn.now f kept.now → Leaves
         (does m.now (to_handlers (tags_at_handler f) (catchers m.now insn.now)) nodes.old)
         nodes.new result }
     ensures level { OnOk result (AreLong m.now nodes.new) }
 {
-    match kept {
-        Some(f) => handle(alloc, m, nodes, insn.pc, f),
-        None => Ok(()),
+    let Some(f) = kept else {
+        return Ok(());
+    };
+    nodes.note(key_of(f), i)?;
+    match resting {
+        Some(at) => handle_beside(alloc, m, nodes, insn.pc, at, f),
+        None => handle(alloc, m, nodes, insn.pc, f),
     }
 }

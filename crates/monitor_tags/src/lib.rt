@@ -7,6 +7,7 @@ mod analysis;
 mod error;
 mod handlers;
 mod meeting;
+mod resting;
 mod rules;
 mod tag_stacks;
 mod tagging;

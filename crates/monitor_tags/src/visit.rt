@@ -6,12 +6,14 @@ ghost use Rattle.checked_program.specs.LockTags.{TagShape};
 ghost use Rattle.checked_program.specs.Tagging.{tag_acts, tag_plan};
 ghost use Rattle.checked_program.specs.Visits.{acts_on};
 ghost use Rattle.code_visits.specs.Waiting.{plan_node_at};
-ghost use Rattle.code_visits.specs.Analyses.{Leaves};
+ghost use Rattle.code_visits.specs.Analyses.{AreUnderVisit, Leaves};
+ghost use Rattle.monitor_tags.specs.TagVisits.{TagsKept};
 ghost use Rattle.monitor_tags.specs.Visiting.{AreLong, IsGoing, TagsPrepared, does};
 
 use crate::after::frame_after;
 use crate::analysis::Tagging;
 use crate::handlers::{handle_kept, keep_for_handlers};
+use crate::resting::resting_pc;
 use crate::rules::{enters_untagged, exits_other, leaves_held};
 use checked_program::TagFrame;
 use code_table::{edges, row};
@@ -56,19 +58,23 @@ fn prepare(
 /// The edges of an instruction, and S4.
 fn go_on(
     alloc: Global,
+    p: &Program,
     m: &HandledMethod<'_>,
     nodes: &mut Nodes<TagFrame>,
+    i: usize,
     insn: &Insn,
     going: Going,
 ) -> Result<(), Stop<SRule>>
     requires level { AreLong m.now nodes.old }
+    requires kept { AreUnderVisit (TagsKept p.now m.now) i nodes.old }
     ensures left { (r : OpRow) → (f : TagShape) → IsGoing m.now insn.now r f going
         → Leaves (does m.now (tag_acts m.now insn.now r f) nodes.old) nodes.new result }
     ensures level { OnOk result (AreLong m.now nodes.new) }
 {
+    let resting = resting_pc(alloc, p, m, nodes, i, insn.pc, &going.at_handler)?;
     let tos = edges(alloc, insn)?;
     go_along::<Tagging, _>(alloc, m, nodes, SRule::S3, &tos, going.after)?;
-    handle_kept(alloc, m, nodes, insn, &going.at_handler)?;
+    handle_kept(alloc, m, nodes, i, insn, resting, &going.at_handler)?;
     if going.leaves {
         return Err(Stop::Refused(SRule::S4, insn.pc));
     }
@@ -84,6 +90,7 @@ pub fn visit(
     i: usize,
 ) -> Result<(), Stop<SRule>>
     requires level { AreLong m.now nodes.old }
+    requires kept { AreUnderVisit (TagsKept p.now m.now) i nodes.old }
     ensures left { Leaves
         (does m.now (acts_on (tag_plan p.now m.now) i (plan_node_at nodes.old i).frame) nodes.old)
         nodes.new result }
@@ -98,5 +105,5 @@ pub fn visit(
     };
     let row = row(alloc, p, method, insn.pc, *target, &insn.op)?;
     let going = prepare(alloc, m, insn, &row, frame)?;
-    go_on(alloc, m, nodes, insn, going)
+    go_on(alloc, p, m, nodes, i, insn, going)
 }
