@@ -6,15 +6,15 @@ use Rattle.program_answers.{specs.{Unread.IsUnreadLine, declared.answer.Due.{Due
 use Rattle.solero_explain.specs.{Answer.IsExplainDue, Command.Question, Parts.IsDueToExpected}
 
 -- a shelf that tells that it can read a file does not fail there
-fails_true : (A : Type 0) (b : Bool) → FailsBy {A} b (Err Failed) → b ≡ true
+fails_true : (A : Type 0) (b : Bool) → FailsBy {A = A} b (Err Failed) → b ≡ true
 fails_true A true f = refl
 fails_true A false f = absurd f
 
-fails_where_told : (A : Type 0) (unreadable : Option (List ℕ → Bool)) (name : List ℕ) → IfSome unreadable (λ test. FailsBy {A} (test name) (Err Failed)) → IfSome unreadable (λ test. test name ≡ true)
+fails_where_told : (A : Type 0) (unreadable : Option (List ℕ → Bool)) (name : List ℕ) → IfSome unreadable (λ test. FailsBy {A = A} (test name) (Err Failed)) → IfSome unreadable (λ test. test name ≡ true)
 fails_where_told A None name f = tt
 fails_where_told A (Some test) name f = fails_true A (test name) f
 
-pub unread_expected : (A : Type 0) (unreadable : Option (List ℕ → Bool)) (name : List ℕ) (number before after : ℕ) (due : Due) → CountsFault before after → IfSome unreadable (λ test. FailsBy {A} (test name) (Err Failed)) → IsUnreadLine number due → IsDueToExpected unreadable (Some name) number before after due
+pub unread_expected : (A : Type 0) (unreadable : Option (List ℕ → Bool)) (name : List ℕ) (number before after : ℕ) (due : Due) → CountsFault before after → IfSome unreadable (λ test. FailsBy {A = A} (test name) (Err Failed)) → IsUnreadLine number due → IsDueToExpected unreadable (Some name) number before after due
 unread_expected A unreadable name number before after (CannotRead text) counts fails line = (counts, fails_where_told A unreadable name fails, line)
 unread_expected A unreadable name number before after OutOfMemory counts fails line = at_least before after counts
 unread_expected A unreadable name number before after due counts fails line = absurd line
