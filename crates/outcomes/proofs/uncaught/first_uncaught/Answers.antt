@@ -11,7 +11,7 @@ loop-k-preserved c = λ j q l e. below_next
     (λ i. (z : Plain) → slice_get c.args.found.now.states i ≡ Some z → has_uncaught_end z ≡ false) c.loop-k.k
     (λ i m z g. c.loop-k.invariant i z m g)
     (λ z g. ap has_uncaught_end (same_some (sym g ∙ c.at.ensures)) ∙ sym c.has_uncaught_end.ensures ∙ c.if-has_uncaught_end.false)
-    j e q
+    j l q e
 
 pub returns-then-has_uncaught_end : goal.returns-then-has_uncaught_end
 returns-then-has_uncaught_end c =
