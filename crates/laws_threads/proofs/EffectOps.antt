@@ -1,18 +1,17 @@
 -- What an instruction does that breaks no rule of a section, by its effect.
-use Rattle.std.proofs.Common.{◌≡◌, ◌⊎◌, inl, inr, ℕ, Bool, true, false, List, [], ◌∷◌, length, Option, Some, None, refl, sym, ap, ◌∙◌, subst, ◌==◌, nat_lt, slice_get, slice_index, if◌then◌else◌}
+use Rattle.std.proofs.Common.{◌≡◌, ◌⊎◌, inl, inr, ℕ, Bool, true, false, List, [], ◌∷◌, length, Some, None, refl, sym, ap, ◌∙◌, subst, slice_get, slice_index, if◌then◌else◌}
 use Rattle.lists.proofs.ListLaws.{same_some}
 use Rattle.jvm_types.specs.{ClassNames.file_of_class, CodeTable.falls_through, Members.is_static, ProgramInvariant.site_in, Verifying.is_return, declared.{code.Op.Op, op_row.OpRow.OpRow}}
 use Rattle.jvm_types.specs.declared.program.{FieldInfo.FieldInfo, MethodInfo.MethodInfo, Program.Program, Target.Target}
 use Rattle.laws_programs.specs.TargetLaws.{HasRow}
 use Rattle.checked_program.specs.{FrozenPlaces.{IsFrozenField, IsFrozenStatic, IsGuardedField}, MarkedProgram.MarkedProgram, Marks.called_method, SectionLaws.{IsOwnStatic, ReadsOnly}}
 use Rattle.checked_program.specs.declared.section.Mode.{Mode, TheVariants.{OnThis, OnClass}}
-use Rattle.machine_types.specs.{Effects.{at_local, unless_null, unless_zero, variable_of, gets, gets_static, calls_on, calls_instance, calls_static, named, effect}, Ints.{low, divided, remaining}}
-use Rattle.machine_types.specs.{Standing.tags_of, Words.class_object, declared.effect.Effect.Effect}
-use Rattle.machine_types.specs.declared.effect.Effect.TheVariants.{Goes, Throws, Reads, Writes, Indexes, Measures, Makes, Prints, Calls, Returns, Enters, Leaves, Waits, Notifies, NotifiesAll, Stuck}
+use Rattle.machine_types.specs.{Effects.{variable_of, effect}, Standing.tags_of, Words.class_object, declared.effect.Effect.Effect}
+use Rattle.machine_types.specs.declared.effect.Effect.TheVariants.{Reads, Writes, Indexes, Measures, Makes, Prints, Calls, Returns, Enters, Leaves, Waits, Notifies, NotifiesAll, Stuck}
 use Rattle.machine_types.specs.declared.effect.Variable.TheVariants.{Instance, Static}
+use Rattle.machine_types.proofs.EffectCases.{Comes, reads_static, writes_static, reads_field, writes_field, loads_element, stores_element, measures, makes_object, makes_int_array, prints, calls, calls_fixed, returns, enters, leaves, waits, notifies, notifies_all, comes}
 use Rattle.laws_threads.specs.InsideEffects.{IsStayingStatic, MayRead}
 use Rattle.jvm_types.specs.declared.code.Op.TheVariants as ops
-use Rattle.jvm_types.specs.declared.outcome.Thrown.TheVariants as thrown
 use Rattle.jvm_types.specs.declared.program.Target.TheVariants as targets
 
 -- a call of an instance method finds its receiver below the arguments
@@ -38,65 +37,12 @@ Does c m op target s (Notifies n) = ⊥
 Does c m op target s (NotifiesAll n) = ⊥
 Does c m op target s e = Unit {0}
 
+-- a call that is on a receiver finds it
+receiver_there : (p : Program) (op : Op) (number receiver : ℕ) (s : List ℕ) (called : MethodInfo) → slice_get p.methods number ≡ Some called → slice_get s (length called.args) ≡ Some receiver → HasReceiver p op number s
+receiver_there p (ops.Invokestatic i) number receiver s called there on = tt
+receiver_there p op number receiver s called there on = (called, receiver, there, on)
+
 module _ (c : MarkedProgram) (m : ℕ) where
-  module _ (op : Op) (target : Target) (s : List ℕ) where
-    abbrev DoesSo : Effect → Type 0
-    DoesSo e = Does c m op target s e
-
-    local_or : (i : ℕ) (l : List ℕ) (e : Effect) → DoesSo e → DoesSo (at_local i l e)
-    local_or i l e h = by_test (nat_lt i (length l))
-      where
-        by_test : (b : Bool) → DoesSo (if b then e else Stuck)
-        by_test true = h
-        by_test false = tt
-
-    null_or : (a : ℕ) (e : Effect) → DoesSo e → DoesSo (unless_null a e)
-    null_or a e h = by_test (a == 0)
-      where
-        by_test : (b : Bool) → DoesSo (if b then Throws thrown.NullPointerException else e)
-        by_test true = tt
-        by_test false = h
-
-    zero_or : (b : ℕ) (e : Effect) → DoesSo e → DoesSo (unless_zero b e)
-    zero_or b e h = by_test (low b == 0)
-      where
-        by_test : (t : Bool) → DoesSo (if t then Throws thrown.ArithmeticException else e)
-        by_test true = tt
-        by_test false = h
-
-    -- ---- fields
-
-    reads_field : (fi a : ℕ) (field : FieldInfo) → slice_get c.program.fields fi ≡ Some field → is_static field.flags ≡ false → IsFrozenField c.program (tags_of c) fi ⊎ (IsGuardedField c.program (tags_of c) fi × (a ≡ m)) → DoesSo (Reads (variable_of field a))
-    reads_field fi a field e s stays = by_test (is_static field.flags) s
-      where
-        by_test : (b : Bool) → b ≡ false → DoesSo (Reads (if b then Static field.index else Instance a field.index))
-        by_test true q = absurd (cc)
-        by_test false q = record { number = fi; field = field; is = e; place = refl; stays = stays }
-
-    gets_field : (fi : ℕ) (o : Option FieldInfo) (vs : List ℕ) → slice_get c.program.fields fi ≡ o → ((field : FieldInfo) → o ≡ Some field → is_static field.flags ≡ false) → IsFrozenField c.program (tags_of c) fi ⊎ (IsGuardedField c.program (tags_of c) fi × (slice_index vs 0 ≡ m))
-        → DoesSo (gets o vs)
-    gets_field fi None vs e instance stays = tt
-    gets_field fi (Some field) [] e instance stays = tt
-    gets_field fi (Some field) (a ∷ vs) e instance stays = null_or a (Reads (variable_of field a)) (reads_field fi a field e (instance field refl) stays)
-
-    -- ---- calls
-
-    calls_receiver : (o : Option ℕ) (number : ℕ) → ((receiver : ℕ) → o ≡ Some receiver → DoesSo (Calls number)) → DoesSo (calls_on o number)
-    calls_receiver None number h = tt
-    calls_receiver (Some receiver) number h = null_or receiver (Calls number) (h receiver refl)
-
-    calls_method : (o : Option MethodInfo) (number : ℕ) (vs : List ℕ) → ((called : MethodInfo) (receiver : ℕ) → o ≡ Some called → slice_get vs (length called.args) ≡ Some receiver → DoesSo (Calls number)) → DoesSo (calls_instance o number vs)
-    calls_method None number vs h = tt
-    calls_method (Some called) number vs h = calls_receiver (slice_get vs (length called.args)) number (λ receiver e. h called receiver refl e)
-
-    calls_fixed : (o : Option MethodInfo) (number : ℕ) (vs : List ℕ) → DoesSo (Calls number) → DoesSo (calls_static o number vs)
-    calls_fixed None number vs h = tt
-    calls_fixed (Some called) number vs h = by_test (nat_lt (length vs) (length called.args))
-      where
-        by_test : (b : Bool) → DoesSo (if b then Stuck else Calls number)
-        by_test true = tt
-        by_test false = h
-
   -- ---- what a constant names, in a frame that is run so, of a section whose own frame has the receiver o, at a place of a method
 
   module _ (mode : Mode) (o method place : ℕ) (on : mode ≡ OnThis → o ≡ m) (in_class : (class : ℕ) → mode ≡ OnClass class → class_object c.program (file_of_class class) ≡ m) where
@@ -122,109 +68,71 @@ module _ (c : MarkedProgram) (m : ℕ) where
           stays = inr (g, ap (λ (x : FieldInfo). class_object c.program (file_of_class x.class)) (sym same) ∙ in_class g.field.class s.own);
         }
 
-    gets_own : (op : Op) (target : Target) (s : List ℕ) (fi : ℕ) (field : Option FieldInfo) → slice_get c.program.fields fi ≡ field → IsFrozenStatic c.program fi ⊎ IsOwnStatic c.program (tags_of c) mode fi → Does c m op target s (gets_static field)
-    gets_own op target s fi None e h = tt
-    gets_own op target s fi (Some field) e h = by_test (is_static field.flags) (own_sort fi field e h)
+    got_own : (fi : ℕ) (field : FieldInfo) → slice_get c.program.fields fi ≡ Some field → IsFrozenStatic c.program fi ⊎ IsOwnStatic c.program (tags_of c) mode fi → MayRead c m (variable_of field 0)
+    got_own fi field e h = by_test (is_static field.flags) (own_sort fi field e h)
       where
         stays : IsStayingStatic c m field.index
         stays = own_static fi field e h
 
-        by_test : (b : Bool) → b ≡ true → Does c m op target s (Reads (if b then Static field.index else Instance 0 field.index))
+        by_test : (b : Bool) → b ≡ true → MayRead c m (if b then Static field.index else Instance 0 field.index)
         by_test true q = stays
         by_test false q = absurd (cc)
 
-    named_does : (mi : MethodInfo) (pc next : ℕ) (r : OpRow) (target : Target) (op : Op) (s : List ℕ) → HasRow c.program (site_in mi) pc target op r → ReadsOnly c.program (tags_of c) mode o method place op target s → Does c m op target s (named c.program next target op s)
-    named_does mi pc next r (targets.Value n) (ops.Ldc i) s k h = tt
-    named_does mi pc next r (targets.Value n) (ops.LdcW i) s k h = tt
-    named_does mi pc next r (targets.Class class) (ops.New i) s k h = h
-    named_does mi pc next r (targets.Field fi) (ops.Getstatic i) s k h = gets_own (ops.Getstatic i) (targets.Field fi) s fi (slice_get c.program.fields fi) refl h
-    named_does mi pc next r (targets.Field fi) (ops.Putstatic i) s k h = absurd h
-    named_does mi pc next r (targets.Field fi) (ops.Putfield i) s k h = absurd h
-    named_does mi pc next r (targets.Field fi) (ops.Getfield i) s k h =
-        gets_field (ops.Getfield i) (targets.Field fi) s fi (slice_get c.program.fields fi) s refl (λ field e. let same : Some k.field ≡ Some field = sym k.there ∙ e in ap (λ (x : FieldInfo). is_static x.flags) (one same) ∙ k.sort) (own_stays fi (slice_index s 0) h)
+    got_field : (fi a : ℕ) (field : FieldInfo) → slice_get c.program.fields fi ≡ Some field → is_static field.flags ≡ false → IsFrozenField c.program (tags_of c) fi ⊎ (IsGuardedField c.program (tags_of c) fi × (a ≡ m)) → MayRead c m (variable_of field a)
+    got_field fi a field e sort stays = by_test (is_static field.flags) sort
       where
-        one : {x y : FieldInfo} → Some x ≡ Some y → y ≡ x
-        one q = cc
-    named_does mi pc next r (targets.Method number) (ops.Invokevirtual i) s k h = calls_method (ops.Invokevirtual i) (targets.Method number) s (slice_get c.program.methods number) number s (λ called receiver e v. (refl, (called, receiver, e, v)))
-    named_does mi pc next r (targets.Method number) (ops.Invokespecial i) s k h = calls_method (ops.Invokespecial i) (targets.Method number) s (slice_get c.program.methods number) number s (λ called receiver e v. (refl, (called, receiver, e, v)))
-    named_does mi pc next r (targets.Method number) (ops.Invokestatic i) s k h = calls_fixed (ops.Invokestatic i) (targets.Method number) s (slice_get c.program.methods number) number s (refl, tt)
-    named_does mi pc next r (targets.Init class) (ops.Invokespecial i) (a ∷ s) k h = tt
-    named_does mi pc next r (targets.Init class) (ops.Invokespecial i) [] k h = tt
-    named_does mi pc next r targets.Out (ops.Getstatic i) s k h = tt
-    named_does mi pc next r targets.Println (ops.Invokevirtual i) s k h = absurd h
-    named_does mi pc next r targets.Wait (ops.Invokevirtual i) s k h = absurd h
-    named_does mi pc next r targets.Notify (ops.Invokevirtual i) s k h = absurd h
-    named_does mi pc next r targets.NotifyAll (ops.Invokevirtual i) s k h = absurd h
-    named_does mi pc next r targets.Nothing op s k h = tt
-    named_does mi pc next r target op s k h = absurd k
+        by_test : (b : Bool) → b ≡ false → MayRead c m (if b then Static field.index else Instance a field.index)
+        by_test true q = absurd (cc)
+        by_test false q = record { number = fi; field = field; is = e; place = refl; stays = stays }
 
-    -- ---- all instructions
+    module _ (mi : MethodInfo) (pc next : ℕ) (r : OpRow) where
+      abbrev Row : Target → Op → Type 0
+      Row target op = HasRow c.program (site_in mi) pc target op r
+
+      abbrev Reading : Target → Op → List ℕ → Type 0
+      Reading target op s = ReadsOnly c.program (tags_of c) mode o method place op target s
+
+      -- what no instruction of a section names
+      abbrev Barred : Target → Type 0
+      Barred (targets.Class class) = Unit {0}
+      Barred targets.Println = Unit {0}
+      Barred targets.Wait = Unit {0}
+      Barred targets.Notify = Unit {0}
+      Barred targets.NotifyAll = Unit {0}
+      Barred target = ⊥
+
+      barred : (target : Target) (op : Op) (s : List ℕ) → Barred target → Row target op → Reading target op s → ⊥
+      barred (targets.Class class) (ops.New i) s b k h = h
+      barred targets.Println (ops.Invokevirtual i) s b k h = h
+      barred targets.Wait (ops.Invokevirtual i) s b k h = h
+      barred targets.Notify (ops.Invokevirtual i) s b k h = h
+      barred targets.NotifyAll (ops.Invokevirtual i) s b k h = h
+      barred target op s b k h = absurd (assumption)
+
+      does_by : (target : Target) (op : Op) (s : List ℕ) (e : Effect) → Comes c.program pc next target op s e → Row target op → Reading target op s → Does c m op target s e
+      does_by _ _ _ _ (reads_static i number s f there) k h = got_own number f there h
+      does_by _ _ _ _ (reads_field i number a s f there z) k h =
+          got_field number a f there (ap (λ (x : FieldInfo). is_static x.flags) (same_some (sym there ∙ k.there)) ∙ k.sort) (own_stays number a h)
+      does_by _ _ _ _ (writes_static i number v s f there) k h = absurd h
+      does_by _ _ _ _ (writes_field i number v a s f there z) k h = absurd h
+      does_by _ _ _ _ (loads_element target i a s z) k h = refl
+      does_by _ _ _ _ (stores_element target v i a s z) k h = absurd h
+      does_by _ _ _ _ (makes_object class op s named) k h = barred (targets.Class class) op s tt k h
+      does_by _ _ _ _ (makes_int_array target n s room) k h = absurd h
+      does_by _ _ _ _ (prints op n a s named) k h = barred targets.Println op (n ∷ a ∷ s) tt k h
+      does_by _ _ _ _ (calls op number receiver s called names there on top) k h = (names, receiver_there c.program op number receiver s called there on)
+      does_by _ _ _ _ (calls_fixed i number s called there) k h = (refl, tt)
+      does_by _ _ _ _ (returns target op s is top) k h = is
+      does_by _ _ _ _ (enters target n s z) k h = h.1 ∙ on h.0
+      does_by _ _ _ _ (leaves target n s) k h = (refl, refl)
+      does_by _ _ _ _ (waits op n s named t z) k h = barred targets.Wait op (n ∷ s) tt k h
+      does_by _ _ _ _ (notifies op n s named t z) k h = barred targets.Notify op (n ∷ s) tt k h
+      does_by _ _ _ _ (notifies_all op n s named t z) k h = barred targets.NotifyAll op (n ∷ s) tt k h
+      does_by target op s e came k h = tt
 
     pub does : (mi : MethodInfo) (pc next : ℕ) (r : OpRow) (target : Target) (op : Op) (l s : List ℕ) → HasRow c.program (site_in mi) pc target op r → ReadsOnly c.program (tags_of c) mode o method place op target s
         → Does c m op target s (effect c.program next target op l s)
-    does mi pc next r target ops.Nop l s k h = tt
-    does mi pc next r target ops.AconstNull l s k h = tt
-    does mi pc next r target (ops.Iconst i) l s k h = tt
-    does mi pc next r target (ops.Bipush i) l s k h = tt
-    does mi pc next r target (ops.Sipush i) l s k h = tt
-    does mi pc next r target (ops.Iload i) l s k h = local_or (ops.Iload i) target s i l (Goes next 0) tt
-    does mi pc next r target (ops.Aload i) l s k h = local_or (ops.Aload i) target s i l (Goes next 0) tt
-    does mi pc next r target (ops.Istore i) l (a ∷ s) k h = local_or (ops.Istore i) target (a ∷ s) i l (Goes next 0) tt
-    does mi pc next r target (ops.Astore i) l (a ∷ s) k h = local_or (ops.Astore i) target (a ∷ s) i l (Goes next 0) tt
-    does mi pc next r target ops.Iaload l (index ∷ a ∷ s) k h = null_or ops.Iaload target (index ∷ a ∷ s) a (Indexes a index None) refl
-    does mi pc next r target ops.Iastore l s k h = absurd h
-    does mi pc next r target ops.Pop l (a ∷ s) k h = tt
-    does mi pc next r target ops.Pop2 l (b ∷ a ∷ s) k h = tt
-    does mi pc next r target ops.Dup l (a ∷ s) k h = tt
-    does mi pc next r target ops.DupX1 l (b ∷ a ∷ s) k h = tt
-    does mi pc next r target ops.DupX2 l (d ∷ b ∷ a ∷ s) k h = tt
-    does mi pc next r target ops.Dup2 l (b ∷ a ∷ s) k h = tt
-    does mi pc next r target ops.Swap l (b ∷ a ∷ s) k h = tt
-    does mi pc next r target ops.Iadd l (b ∷ a ∷ s) k h = tt
-    does mi pc next r target ops.Isub l (b ∷ a ∷ s) k h = tt
-    does mi pc next r target ops.Imul l (b ∷ a ∷ s) k h = tt
-    does mi pc next r target ops.Idiv l (b ∷ a ∷ s) k h = zero_or ops.Idiv target (b ∷ a ∷ s) b (Goes next (divided a b)) tt
-    does mi pc next r target ops.Irem l (b ∷ a ∷ s) k h = zero_or ops.Irem target (b ∷ a ∷ s) b (Goes next (remaining a b)) tt
-    does mi pc next r target ops.Ineg l (a ∷ s) k h = tt
-    does mi pc next r target ops.Ishl l (b ∷ a ∷ s) k h = tt
-    does mi pc next r target ops.Ishr l (b ∷ a ∷ s) k h = tt
-    does mi pc next r target ops.Iushr l (b ∷ a ∷ s) k h = tt
-    does mi pc next r target ops.Iand l (b ∷ a ∷ s) k h = tt
-    does mi pc next r target ops.Ior l (b ∷ a ∷ s) k h = tt
-    does mi pc next r target ops.Ixor l (b ∷ a ∷ s) k h = tt
-    does mi pc next r target (ops.Iinc i d) l s k h = local_or (ops.Iinc i d) target s i l _ tt
-    does mi pc next r target ops.I2b l (a ∷ s) k h = tt
-    does mi pc next r target ops.I2c l (a ∷ s) k h = tt
-    does mi pc next r target ops.I2s l (a ∷ s) k h = tt
-    does mi pc next r target (ops.If q to) l (a ∷ s) k h = tt
-    does mi pc next r target (ops.IfIcmp q to) l (b ∷ a ∷ s) k h = tt
-    does mi pc next r target (ops.IfAcmpeq to) l (b ∷ a ∷ s) k h = tt
-    does mi pc next r target (ops.IfAcmpne to) l (b ∷ a ∷ s) k h = tt
-    does mi pc next r target (ops.Ifnull to) l (a ∷ s) k h = tt
-    does mi pc next r target (ops.Ifnonnull to) l (a ∷ s) k h = tt
-    does mi pc next r target (ops.Goto to) l s k h = tt
-    does mi pc next r target (ops.GotoW to) l s k h = tt
-    does mi pc next r target (ops.Tableswitch otherwise lowest tos) l (a ∷ s) k h = tt
-    does mi pc next r target (ops.Lookupswitch otherwise cases) l (a ∷ s) k h = tt
-    does mi pc next r target ops.Ireturn l (a ∷ s) k h = refl
-    does mi pc next r target ops.Areturn l (a ∷ s) k h = refl
-    does mi pc next r target ops.Return l s k h = refl
-    does mi pc next r target ops.Newarray l s k h = absurd h
-    does mi pc next r target ops.Arraylength l (a ∷ s) k h = null_or ops.Arraylength target (a ∷ s) a _ tt
-    does mi pc next r target ops.Athrow l (a ∷ s) k h = null_or ops.Athrow target (a ∷ s) a _ tt
-    does mi pc next r target ops.Monitorenter l (a ∷ s) k h = null_or ops.Monitorenter target (a ∷ s) a (Enters a) (h.1 ∙ on h.0)
-    does mi pc next r target ops.Monitorexit l (a ∷ s) k h = (refl, refl)
-    does mi pc next r target (ops.Ldc i) l s k h = named_does mi pc next r target (ops.Ldc i) s k h
-    does mi pc next r target (ops.LdcW i) l s k h = named_does mi pc next r target (ops.LdcW i) s k h
-    does mi pc next r target (ops.Getstatic i) l s k h = named_does mi pc next r target (ops.Getstatic i) s k h
-    does mi pc next r target (ops.Putstatic i) l s k h = named_does mi pc next r target (ops.Putstatic i) s k h
-    does mi pc next r target (ops.Getfield i) l s k h = named_does mi pc next r target (ops.Getfield i) s k h
-    does mi pc next r target (ops.Putfield i) l s k h = named_does mi pc next r target (ops.Putfield i) s k h
-    does mi pc next r target (ops.Invokevirtual i) l s k h = named_does mi pc next r target (ops.Invokevirtual i) s k h
-    does mi pc next r target (ops.Invokespecial i) l s k h = named_does mi pc next r target (ops.Invokespecial i) s k h
-    does mi pc next r target (ops.Invokestatic i) l s k h = named_does mi pc next r target (ops.Invokestatic i) s k h
-    does mi pc next r target (ops.New i) l s k h = named_does mi pc next r target (ops.New i) s k h
-    does mi pc next r target op l s k h = tt
+    does mi pc next r target op l s k h = does_by mi pc next r target op s _ (comes c.program pc next target op l s) k h
 
 -- ---- where an instruction does not go on behind itself
 
@@ -236,35 +144,29 @@ GoesElsewhere (Leaves n) = ⊥
 GoesElsewhere (Calls n) = ⊥
 GoesElsewhere e = Unit {0}
 
-null_elsewhere : (a : ℕ) (e : Effect) → GoesElsewhere e → GoesElsewhere (unless_null a e)
-null_elsewhere a e h = by_test (a == 0)
-  where
-    by_test : (b : Bool) → GoesElsewhere (if b then Throws thrown.NullPointerException else e)
-    by_test true = tt
-    by_test false = h
+-- a call on a receiver goes on behind itself
+calls_fall : (op : Op) (number : ℕ) → called_method op (targets.Method number) ≡ Some number → falls_through op ≡ true
+calls_fall (ops.Invokevirtual i) number e = refl
+calls_fall (ops.Invokespecial i) number e = refl
+calls_fall (ops.Invokestatic i) number e = refl
+calls_fall op number e = absurd (cc)
 
-elsewhere : (p : Program) (next : ℕ) (target : Target) (op : Op) (l s : List ℕ) → falls_through op ≡ false → GoesElsewhere (effect p next target op l s)
-elsewhere p next target (ops.Goto to) l s e = tt
-elsewhere p next target (ops.GotoW to) l s e = tt
-elsewhere p next target (ops.Tableswitch otherwise lowest tos) l (a ∷ s) e = tt
-elsewhere p next target (ops.Tableswitch otherwise lowest tos) l [] e = tt
-elsewhere p next target (ops.Lookupswitch otherwise cases) l (a ∷ s) e = tt
-elsewhere p next target (ops.Lookupswitch otherwise cases) l [] e = tt
-elsewhere p next target ops.Ireturn l (a ∷ s) e = tt
-elsewhere p next target ops.Ireturn l [] e = tt
-elsewhere p next target ops.Areturn l (a ∷ s) e = tt
-elsewhere p next target ops.Areturn l [] e = tt
-elsewhere p next target ops.Return l s e = tt
-elsewhere p next target ops.Athrow l (a ∷ s) e = null_elsewhere a _ tt
-elsewhere p next target ops.Athrow l [] e = tt
-elsewhere p next target op l s e = absurd (let bad : true ≡ false = e in cc)
+elsewhere : (p : Program) (next : ℕ) (target : Target) (op : Op) (s : List ℕ) (e : Effect) → Comes p 0 next target op s e → falls_through op ≡ false → GoesElsewhere e
+elsewhere p next _ _ _ _ (reads_static i number s f there) h = absurd (let bad : true ≡ false = h in cc)
+elsewhere p next _ _ _ _ (reads_field i number a s f there z) h = absurd (let bad : true ≡ false = h in cc)
+elsewhere p next _ _ _ _ (measures target a s z) h = absurd (let bad : true ≡ false = h in cc)
+elsewhere p next _ _ _ _ (calls op number receiver s called names there on top) h = absurd (let bad : true ≡ false = sym (calls_fall op number names) ∙ h in cc)
+elsewhere p next _ _ _ _ (calls_fixed i number s called there) h = absurd (let bad : true ≡ false = h in cc)
+elsewhere p next _ _ _ _ (enters target n s z) h = absurd (let bad : true ≡ false = h in cc)
+elsewhere p next _ _ _ _ (leaves target n s) h = absurd (let bad : true ≡ false = h in cc)
+elsewhere p next target op s e came h = tt
 
 pub goes_behind : (p : Program) (next : ℕ) (target : Target) (op : Op) (l s : List ℕ) → (GoesElsewhere (effect p next target op l s) → ⊥) → falls_through op ≡ true
 goes_behind p next target op l s h = by_test (falls_through op) refl
   where
     by_test : (b : Bool) → falls_through op ≡ b → b ≡ true
     by_test true e = refl
-    by_test false e = absurd (h (elsewhere p next target op l s e))
+    by_test false e = absurd (h (elsewhere p next target op s _ (comes p 0 next target op l s) e))
 
 -- only an exit leaves a monitor as its instruction
 abbrev pub OnlyLeaves : Effect → Type 0

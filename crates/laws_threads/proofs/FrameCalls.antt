@@ -8,7 +8,8 @@ use Rattle.laws_programs.specs.TargetLaws.{HasRow}
 use Rattle.checked_program.specs.{LockTags.entry_tags, MarkedProgram.{MarkedProgram, IsMarked}, Marks.called_method, declared.tag.Tag.TheVariants.{Untagged, This}}
 use Rattle.machine_types.specs.{Frames.{Top, effect_at, waiting, entry_frame, arguments_of, first_or_null, monitor_of}, Onward.root_arguments}
 use Rattle.machine_types.specs.{Shown.{HaveValues, Shows, ShowsAtCall, ShowBelow, Show, own_entry}, Standing.{Standing, Whole, row_at}, Threads.Frame, declared.effect.Effect.TheVariants.Calls}
-use Rattle.laws_threads.{specs.CallLaws.{callee_frame, CalledStand, CallsShow, CallsEnter, RootsShow}, proofs.{EffectsOfInsns.{Fits, HasTop, IsCalling}, FramePlaces.{Lands, lands, top_by}}}
+use Rattle.machine_types.proofs.EffectCases.{HasTop}
+use Rattle.laws_threads.{specs.CallLaws.{callee_frame, CalledStand, CallsShow, CallsEnter, RootsShow}, proofs.{EffectsOfInsns.{Fits, IsCalling}, FramePlaces.{Lands, lands, top_by}}}
 use Rattle.laws_threads.proofs.{MarkedMethods.{MethodAt, method_at}, ShownFrames.{by_top, fits_at, holds_at, whole_landed}, TagValues.dropped}
 use Rattle.jvm_types.specs.declared.code.Op.TheVariants as ops
 use Rattle.jvm_types.specs.declared.program.Target.TheVariants as targets

@@ -6,8 +6,8 @@ use Rattle.checked_program.specs.{LockTags.{TagShape, same_tag, IsShapeBelow}, M
 use Rattle.checked_program.specs.declared.tag.Tag.{Tag, TheVariants.{Untagged, This, At}}
 use Rattle.laws_sections.proofs.TagOrder.{one_tag}
 use Rattle.machine_types.specs.{Frames.{Top, effect_at, frame_on, went_on}, Shown.{tag_value, HaveValues, own_entry, Shows, Show}, Standing.{Standing, Whole}, Structure.{IsBehindEntry, TopEnters}}
-use Rattle.machine_types.specs.{Threads.Frame, declared.effect.Effect.TheVariants.{Enters, Leaves}}
-use Rattle.laws_threads.{specs.MoveLaws.{EntersShow, LeavesShow}, proofs.{EffectsOfInsns.{IsOnTop, next_edge}, FrameMoves.{the_row, edge_fits}, FramePlaces.{sound_at, Lands}}}
+use Rattle.machine_types.{specs.{Threads.Frame, declared.effect.Effect.TheVariants.{Enters, Leaves}}, proofs.EffectCases.next_edge}
+use Rattle.laws_threads.{specs.MoveLaws.{EntersShow, LeavesShow}, proofs.{EffectsOfInsns.IsOnTop, FrameMoves.{the_row, edge_fits}, FramePlaces.{sound_at, Lands}}}
 use Rattle.laws_threads.proofs.{ShownFrames.{landed, whole_landed, by_top, fits_at}, TagValues.{row_stack, row_locals}}
 use Rattle.jvm_types.specs.declared.code.Op.TheVariants as ops
 use Rattle.laws_threads.proofs.EffectsOfInsns as effects

@@ -3,8 +3,8 @@ use Rattle.std.proofs.Common.{◌≡◌, ℕ, true, false, List, [], ◌∷◌, 
 use Rattle.lists.proofs.ListLaws.{same_some}
 use Rattle.jvm_types.specs.{Numbers.has_number, Verifying.edges, declared.{code.{Insn.Insn, Op.Op}, program.{MethodInfo.MethodInfo, Program.Program, Target.Target}}}
 use Rattle.machine_types.specs.{Frames.{Top, effect_at, went, went_on, making}, Shown.Show, Standing.{Whole, Lacking}, Structure.{TopIs, is_element_op}, Threads.Frame, declared.effect.Effect.Effect}
-use Rattle.machine_types.specs.declared.effect.Effect.TheVariants.{Goes, Reads, Writes, Indexes, Measures, Prints, Makes, Waits, Notifies, NotifiesAll}
-use Rattle.laws_threads.{specs.MoveLaws.{is_lock_op, MovesShow, goes_to, EffectsFollowEdges, EffectsShow, ElementsShow, MakingShows, PushedShows}, proofs.EffectsOfInsns.{IsMove, Fits, next_edge}}
+use Rattle.machine_types.{specs.declared.effect.Effect.TheVariants.{Goes, Reads, Writes, Indexes, Measures, Prints, Makes, Waits, Notifies, NotifiesAll}, proofs.EffectCases.next_edge}
+use Rattle.laws_threads.{specs.MoveLaws.{is_lock_op, MovesShow, goes_to, EffectsFollowEdges, EffectsShow, ElementsShow, MakingShows, PushedShows}, proofs.EffectsOfInsns.{IsMove, Fits}}
 use Rattle.laws_threads.proofs.{FrameMoves.{moved, making_frame, pushed_frame}, FramePlaces.{one_standing, top_by}, ShownFrames.{by_top, fits_at}}
 use Rattle.jvm_types.specs.declared.code.Op.TheVariants as ops
 

@@ -33,12 +33,9 @@ part_is_fresh (number ∷ roots) = starts
 
 -- ---- what each thread was given
 
-has_itself : (n : ℕ) → (n == n) ≡ true
-has_itself n = same_number n n refl
-
 pub all_among : (ys xs : List ℕ) → ((n : ℕ) → has_number xs n ≡ true → has_number ys n ≡ true) → AllByRecursion (λ n. IsTrue (has_number ys n)) xs
 all_among ys [] among = tt
-all_among ys (x ∷ xs) among = (among x (first_true (x == x) (has_number xs x) (has_itself x)), all_among ys xs (λ n e. among n (second_true (x == n) (has_number xs n) e)))
+all_among ys (x ∷ xs) among = (among x (first_true (x == x) (has_number xs x) (same_number x x refl)), all_among ys xs (λ n e. among n (second_true (x == n) (has_number xs n) e)))
 
 part_frames : (roots : List ℕ) → FramesFit (part_phase roots) [] roots
 part_frames [] = tt
