@@ -1,10 +1,11 @@
 -- Bytes that break no rule are code: the instructions that are read off them are spelled by them.
 use Rattle.std.proofs.Common.{◌≡◌, ℕ, zero, suc, ◌+◌, ◌<◌, ◌≤◌, ℤ, pos, Bool, true, false, List, [], ◌∷◌, length, map, Option, Some, None, Result, Ok, Err, refl, ap, sym, subst, inl, inr, ◌∙◌, arith, ◌⊎◌, take, drop, nat_abs, int_lt, nat_lt, not, ◌&&◌, ◌||◌, ◌==◌, if◌then◌else◌, IsSomeAnd}
 use Rattle.std.{specs.List.AllByRecursion, proofs.lemmas.{Bool.Decides.nat_tests, List.{take-append-drop, length-take-le}}}
+use Rattle.lists.proofs.TestLaws.{both_are_true}
 use Rattle.jvm_types.specs.CodeFault.{Extent, Outline, known_extent, outline_followed, with_rest, outlines, is_at, all_at, branch_fault, row_fits, handler_fault, or_else, outline_fault, code_fault, FaultlessIsCode}
 use Rattle.jvm_types.specs.{CodeGrammar.{SpellsOperands, SpellsInsns, IsStart, RowFits, IsCode}, CodeTable.{Form, form_of, branches_to}, Numbers.has_number, ReadCode.{op_of, with_insn, insns_of}}
 use Rattle.jvm_types.{specs.declared.{class_file.Handler.Handler, code.Insn.Insn, refusal.KRule.{KRule, TheVariants.{K3, K4, K5}}}, proofs.CodeLaws.{outline_of, outlines_back, starts_of}}
-use Rattle.jvm_types.proofs.CodeWhole.{Lands, AreBytes, IsWhole, whole, both_are, count_is_whole}
+use Rattle.jvm_types.proofs.CodeWhole.{Lands, AreBytes, IsWhole, whole, count_is_whole}
 
 -- ---- the instructions
 
@@ -59,7 +60,7 @@ spelled bytes rs b e l = spelled_from 0 0 bytes rs b (omega arith) e l
 -- ---- targets and rows
 
 lands : (starts : List ℕ) (to : ℤ) → is_at starts to ≡ true → Lands to
-lands starts to e = let both = both_are (not (int_lt to (pos 0))) (has_number starts (nat_abs to)) e in not_below to (int_lt to (pos 0)) refl both.0
+lands starts to e = let both = both_are_true (not (int_lt to (pos 0))) (has_number starts (nat_abs to)) e in not_below to (int_lt to (pos 0)) refl both.0
   where
     not_below : (to : ℤ) (t : Bool) → int_lt to (pos 0) ≡ t → not t ≡ true → Lands to
     not_below to true f g = absurd (cc)
@@ -67,7 +68,7 @@ lands starts to e = let both = both_are (not (int_lt to (pos 0))) (has_number st
 
 all_land : (starts : List ℕ) (tos : List ℤ) → all_at starts tos ≡ true → AllByRecursion Lands tos
 all_land starts [] e = tt
-all_land starts (to ∷ tos) e = let both = both_are (is_at starts to) (all_at starts tos) e in (lands starts to both.0, all_land starts tos both.1)
+all_land starts (to ∷ tos) e = let both = both_are_true (is_at starts to) (all_at starts tos) e in (lands starts to both.0, all_land starts tos both.1)
 
 abbrev AllStart : List ℕ → List Outline → Type 0
 AllStart starts rs = AllByRecursion (λ r. all_at starts r.targets ≡ true) rs
@@ -90,8 +91,8 @@ starts_in insns = map (λ r. r.pc) (map outline_of insns)
 each_start : (all : List Insn) (tos : List ℕ) → all_at (starts_in all) (map pos tos) ≡ true → AllByRecursion (IsStart all) tos
 each_start all [] e = tt
 each_start all (to ∷ tos) e =
-    let both = both_are (is_at (starts_in all) (pos to)) (all_at (starts_in all) (map pos tos)) e in
-    let here = both_are (not (int_lt (pos to) (pos 0))) (has_number (starts_in all) to) both.0 in
+    let both = both_are_true (is_at (starts_in all) (pos to)) (all_at (starts_in all) (map pos tos)) e in
+    let here = both_are_true (not (int_lt (pos to) (pos 0))) (has_number (starts_in all) to) both.0 in
     (sym (starts_of all to) ∙ here.1, each_start all tos both.1)
 
 targets_start : (all insns : List Insn) → AllStart (starts_in all) (map outline_of insns) → AllByRecursion (λ insn. AllByRecursion (IsStart all) (branches_to insn.op)) insns
@@ -107,9 +108,9 @@ is_start_or_end all end size e = by_start (has_number (starts_in all) end) refl 
 
 row_is : (all : List Insn) (size : ℕ) (h : Handler) → row_fits (starts_in all) size h ≡ true → RowFits all size h
 row_is all size h e =
-    let last = both_are (nat_lt h.start h.end && has_number (starts_in all) h.start && (has_number (starts_in all) h.end || h.end == size)) (has_number (starts_in all) h.handler) e in
-    let third = both_are (nat_lt h.start h.end && has_number (starts_in all) h.start) (has_number (starts_in all) h.end || h.end == size) last.0 in
-    let second = both_are (nat_lt h.start h.end) (has_number (starts_in all) h.start) third.0 in
+    let last = both_are_true (nat_lt h.start h.end && has_number (starts_in all) h.start && (has_number (starts_in all) h.end || h.end == size)) (has_number (starts_in all) h.handler) e in
+    let third = both_are_true (nat_lt h.start h.end && has_number (starts_in all) h.start) (has_number (starts_in all) h.end || h.end == size) last.0 in
+    let second = both_are_true (nat_lt h.start h.end) (has_number (starts_in all) h.start) third.0 in
     record { ordered = grind (arith, nat_tests, second.0); start = sym (starts_of all h.start) ∙ second.1; end = is_start_or_end all h.end size third.1; handler = sym (starts_of all h.handler) ∙ last.1 }
 
 rows_are : (all : List Insn) (size number : ℕ) (hs : List Handler) → handler_fault (starts_in all) size number hs ≡ None → AllByRecursion (RowFits all size) hs

@@ -1,6 +1,7 @@
 -- Code breaks no rule, and spells one list of instructions.
 use Rattle.std.proofs.Common.{◌≡◌, ℕ, ◌+◌, ◌<◌, ◌≤◌, pos, Bool, true, false, List, [], ◌∷◌, ◌++◌, length, map, Option, Some, None, Ok, refl, ap, inl, inr, ◌∙◌, arith, ◌⊎◌, ◌&&◌, ◌||◌, ◌==◌, nat_lt, if◌then◌else◌, IsSomeAnd}
 use Rattle.std.{specs.List.AllByRecursion, proofs.lemmas.Bool.Decides.nat_tests}
+use Rattle.lists.proofs.TestLaws.{same_number, second_true}
 use Rattle.jvm_types.specs.CodeFault.{Outline, known_extent, outlines, all_at, branch_fault, row_fits, handler_fault, CodeIsFaultless}
 use Rattle.jvm_types.specs.CodeGrammar.{SpellsOperands, SpellsOp, SpellsInsns, is_start, IsStart, RowFits}
 use Rattle.jvm_types.specs.{CodeTable.{Form, constants, loads, stores, stack_moves, arithmetic, control, references, form_of, branches_to, FormRows, first_row}, Numbers.has_number}
@@ -125,22 +126,15 @@ no_branch_fault : (all insns : List Insn) → AllByRecursion (λ insn. AllByRecu
 no_branch_fault all [] h = refl
 no_branch_fault all (insn ∷ insns) h = rw (all_start all (branches_to insn.op) h.0) (no_branch_fault all insns h.1)
 
-is_same : (m n : ℕ) → m ≡ n → (m == n) ≡ true
-is_same m n e = grind (arith, nat_tests)
-
 is_less : (m n : ℕ) → m < n → nat_lt m n ≡ true
 is_less m n h = grind (arith, nat_tests)
-
-or_true : (a b : Bool) → b ≡ true → (a || b) ≡ true
-or_true true b e = refl
-or_true false b e = e
 
 four_true : (a b c d : Bool) → a ≡ true → b ≡ true → c ≡ true → d ≡ true → (a && b && c && d) ≡ true
 four_true a b c d e f g h = rw e (rw f (rw g (rw h refl)))
 
 end_fits : (all : List Insn) (size end : ℕ) → IsStart all end ⊎ (end ≡ size) → (has_number (map (λ r. r.pc) (map outline_of all)) end || end == size) ≡ true
 end_fits all size end (inl h) = rw (starts_of all end) (rw h refl)
-end_fits all size end (inr e) = or_true _ (end == size) (is_same end size e)
+end_fits all size end (inr e) = second_true _ (end == size) (same_number end size e)
 
 one_row : (all : List Insn) (size : ℕ) (h : Handler) → RowFits all size h → row_fits (map (λ r. r.pc) (map outline_of all)) size h ≡ true
 one_row all size h fit = four_true _ _ _ _ (is_less h.start h.end fit.ordered) (starts_of all h.start ∙ fit.start) (end_fits all size h.end fit.end) (starts_of all h.handler ∙ fit.handler)

@@ -1,6 +1,7 @@
 -- Reading back what instructions spell: so code spells one list of them, and breaks no rule.
-use Rattle.std.proofs.Common.{◌≡◌, ℕ, ◌+◌, ◌*◌, ◌<◌, ◌≤◌, ℤ, pos, Bool, true, false, List, [], ◌∷◌, ◌++◌, length, map, Result, Ok, refl, ap, ◌∙◌, arith, append_assoc, ◌^◌, ◌-ℤ◌, ◌+ℤ◌, ◌<ℤ◌, ◌&&◌, FitsSigned, take, drop, nat_abs, int_lt, nat_lt, length-append}
+use Rattle.std.proofs.Common.{◌≡◌, ℕ, ◌+◌, ◌*◌, ◌<◌, ◌≤◌, ℤ, pos, true, false, List, [], ◌∷◌, ◌++◌, length, map, Result, Ok, refl, ap, ◌∙◌, arith, append_assoc, ◌^◌, ◌-ℤ◌, ◌+ℤ◌, ◌<ℤ◌, FitsSigned, take, drop, nat_abs, int_lt, nat_lt, length-append}
 use Rattle.std.{specs.{Int.{w16, w32, cast_signed, cast_unsigned, from_be_bytes}, List.{AllByRecursion, flat_map}}, proofs.{Math.Seq.drop-append_seam, lemmas.{Bool.Decides.nat_tests, Int.to_z-of_z}}}
+use Rattle.lists.proofs.TestLaws.{both_true}
 use Rattle.jvm_types.specs.CodeFault.{Extent, s2_of, s4_of, landing, sized, offsets, case_offsets, ascend, table_extent, lookup_extent, extent_of}
 use Rattle.jvm_types.specs.CodeGrammar.{s1, s2, offset, padding_size, spelled_case, KeysAscend, SpellsOperands}
 use Rattle.jvm_types.specs.{CodeTable.{Form, Plain, Byte, Short, SignedByte, SignedShort, Branch, WideBranch, LocalAndStep, IntArray, Table, Lookup, branches_to}, Numbers.{u1, u2, u4, s4}}
@@ -70,9 +71,6 @@ count_is k n e = rw (← e) refl
 
 below_by : (m n x y : ℤ) → x ≡ m → y ≡ n → m <ℤ n → int_lt x y ≡ true
 below_by m n x y e f h = rw e (rw f (below_is m n h))
-
-both_true : (a b : Bool) → a ≡ true → b ≡ true → (a && b) ≡ true
-both_true a b e f = rw e (rw f refl)
 
 ascend_back : (pc : ℕ) (cases : List Case) (rest : List ℕ) → AllByRecursion (λ c. FitsSigned w32 c.key × FitsSigned w32 (offset pc c.target)) cases → KeysAscend cases
     → ascend (length cases) (flat_map (spelled_case pc) cases ++ rest) ≡ true

@@ -1,16 +1,14 @@
 -- Bytes that break no rule are code: each form of operands is spelled by what was read of it.
-use Rattle.std.proofs.Common.{◌≡◌, ℕ, zero, suc, ◌+◌, ◌*◌, ◌<◌, ◌≤◌, ℤ, pos, Bool, true, false, List, [], ◌∷◌, ◌++◌, length, map, Result, Ok, Err, refl, ap, sym, subst, ◌∙◌, arith, ◌^◌, ◌-ℤ◌, ◌+ℤ◌, ◌<ℤ◌, FitsSigned, take, drop, nat_abs, int_lt, nat_lt, ◌==◌, not, ◌&&◌, if◌then◌else◌, length-drop}
+use Rattle.std.proofs.Common.{◌≡◌, ℕ, zero, suc, ◌+◌, ◌*◌, ◌<◌, ◌≤◌, ℤ, pos, Bool, true, false, List, [], ◌∷◌, ◌++◌, length, map, Result, Ok, Err, refl, ap, sym, subst, ◌∙◌, arith, ◌^◌, ◌-ℤ◌, ◌+ℤ◌, ◌<ℤ◌, FitsSigned, take, drop, nat_abs, int_lt, nat_lt, ◌==◌, not, if◌then◌else◌, length-drop}
 use Rattle.std.{specs.{Int.{w8, w16, w32, cast_signed}, List.{AllByRecursion, flat_map}}, proofs.{Math.{Facts.sfits_to_z, Seq.take-add}, lemmas.{Bool.Decides.nat_tests, Int.of_z-to_z}}}
 use Rattle.std.proofs.lemmas.List.{length-take-le}
+use Rattle.lists.proofs.TestLaws.{both_are_true}
 use Rattle.jvm_types.specs.CodeFault.{Extent, s2_of, s4_of, landing, sized, offsets, case_offsets, ascend, array_extent, table_of, table_extent, lookup_of, lookup_extent, extent_of}
 use Rattle.jvm_types.specs.CodeGrammar.{s1, s2, offset, padding_size, spelled_case, KeysAscend, SpellsTable, SpellsLookup, SpellsOperands}
 use Rattle.jvm_types.specs.{CodeTable.{Form, Plain, Byte, Short, SignedByte, SignedShort, Branch, WideBranch, LocalAndStep, IntArray, Table, Lookup}, Numbers.{u1, u2, u4, s4}}
-use Rattle.jvm_types.{specs.{ReadCode.{op_of, table_op, lookup_op, cases_of}, declared.{code.Op.Op, refusal.KRule.{KRule, TheVariants.{K1, K2, K6}}}}, proofs.CodeReading.same_cons}
+use Rattle.jvm_types.{specs.{ReadCode.{op_of, table_op, lookup_op, cases_of}, declared.{code.Op.Op, refusal.KRule.{KRule, TheVariants.{K1, K2, K6}}}}, proofs.{ByteOrder.u2_spelled, CodeReading.same_cons}}
 
 -- ---- numbers
-
-two_bytes : (a b : ℕ) → a < 256 → b < 256 → u2 (a * 256 + b) ≡ a ∷ b ∷ []
-two_bytes a b f g = same_cons _ _ _ _ (omega (arith, f, g)) (same_cons _ _ _ _ (omega (arith, f, g)) refl)
 
 four_bytes : (a b c d : ℕ) → a < 256 → b < 256 → c < 256 → d < 256 → u4 (a * 16777216 + b * 65536 + c * 256 + d) ≡ a ∷ b ∷ c ∷ d ∷ []
 four_bytes a b c d f g h i = same_cons _ _ _ _ (omega (arith, f, g, h, i)) (same_cons _ _ _ _ (omega (arith, f, g, h, i)) (same_cons _ _ _ _ (omega (arith, f, g, h, i)) (same_cons _ _ _ _ (omega (arith, f, g, h, i)) refl)))
@@ -19,7 +17,7 @@ s1_whole : (a : ℕ) → a < 256 → s1 (cast_signed w8 a) ≡ a ∷ []
 s1_whole a f = ap u1 (of_z-to_z w8 a f)
 
 s2_whole : (a b : ℕ) (rest : List ℕ) → a < 256 → b < 256 → s2 (s2_of (a ∷ b ∷ rest)) ≡ a ∷ b ∷ []
-s2_whole a b rest f g = ap u2 (of_z-to_z w16 (a * 256 + b) (omega (arith, f, g))) ∙ two_bytes a b f g
+s2_whole a b rest f g = ap u2 (of_z-to_z w16 (a * 256 + b) (omega (arith, f, g))) ∙ u2_spelled a b f g
 
 s4_whole : (a b c d : ℕ) (rest : List ℕ) → a < 256 → b < 256 → c < 256 → d < 256 → s4 (s4_of (a ∷ b ∷ c ∷ d ∷ rest)) ≡ a ∷ b ∷ c ∷ d ∷ []
 s4_whole a b c d rest f g h i = ap u4 (of_z-to_z w32 (a * 16777216 + b * 65536 + c * 256 + d) (omega (arith, f, g, h, i))) ∙ four_bytes a b c d f g h i
@@ -241,17 +239,13 @@ pairs_count : (pc n : ℕ) (bytes : List ℕ) → length (cases_of pc n bytes) �
 pairs_count pc zero bytes = refl
 pairs_count pc (suc n) bytes = omega (arith, pairs_count pc n (drop 8 bytes))
 
-pub both_are : (a b : Bool) → (a && b) ≡ true → (a ≡ true) × (b ≡ true)
-both_are true b e = (refl, e)
-both_are false b e = absurd (cc)
-
 is_below : (m n : ℤ) → int_lt m n ≡ true → m <ℤ n
 is_below m n e = first_of (grind (arith, e), search (arith, e))
 
 pairs_ascend : (pc n : ℕ) (bytes : List ℕ) → ascend n bytes ≡ true → KeysAscend (cases_of pc n bytes)
 pairs_ascend pc zero bytes e = tt
 pairs_ascend pc (suc zero) bytes e = tt
-pairs_ascend pc (suc (suc n)) bytes e = let both = both_are (int_lt (s4_of bytes) (s4_of (drop 8 bytes))) (ascend (suc n) (drop 8 bytes)) e in
+pairs_ascend pc (suc (suc n)) bytes e = let both = both_are_true (int_lt (s4_of bytes) (s4_of (drop 8 bytes))) (ascend (suc n) (drop 8 bytes)) e in
     (is_below (s4_of bytes) (s4_of (drop 8 bytes)) both.0, pairs_ascend pc (suc n) (drop 8 bytes) both.1)
 
 pub count_is_whole : (z : ℤ) → int_lt z (pos 0) ≡ false → pos (nat_abs z) ≡ z
@@ -334,7 +328,7 @@ whole pc (Byte make) (x ∷ rest) e b h l = let is = sized_is 1 [] (x ∷ rest) 
 whole pc (Short make) [] e b h l = absurd (omega (arith, (sized_is 2 [] [] e h).0))
 whole pc (Short make) (x ∷ []) e b h l = absurd (omega (arith, (sized_is 2 [] (x ∷ []) e h).0))
 whole pc (Short make) (x ∷ y ∷ rest) e b h l = let is = sized_is 2 [] (x ∷ y ∷ rest) e h in
-    as_whole pc (Short make) (x ∷ y ∷ rest) e 2 [] is.1 is.0 (x * 256 + y, refl, sym (two_bytes x y b.0 b.1.0), omega (arith, b.0, b.1.0))
+    as_whole pc (Short make) (x ∷ y ∷ rest) e 2 [] is.1 is.0 (x * 256 + y, refl, sym (u2_spelled x y b.0 b.1.0), omega (arith, b.0, b.1.0))
 whole pc (SignedByte make) [] e b h l = absurd (omega (arith, (sized_is 1 [] [] e h).0))
 whole pc (SignedByte make) (x ∷ rest) e b h l = let is = sized_is 1 [] (x ∷ rest) e h in as_whole pc (SignedByte make) (x ∷ rest) e 1 [] is.1 is.0 (cast_signed w8 x, refl, sym (s1_whole x b.0), s1_fits x b.0)
 whole pc (SignedShort make) [] e b h l = absurd (omega (arith, (sized_is 2 [] [] e h).0))

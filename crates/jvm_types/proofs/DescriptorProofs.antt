@@ -1,13 +1,11 @@
 -- A descriptor has a meaning exactly where it is the text of that meaning.
 use Rattle.std.proofs.Common.{◌≡◌, ℕ, Bool, true, false, cond, ◌||◌, List, [], ◌∷◌, ◌++◌, Option, Some, None, refl, sym, ap, ◌∙◌, subst, inl, inr, append_assoc, append-nil, ◌==◌, bytes_eq, codes}
 use Rattle.std.{specs.{List.list_any, Option.{option_map, option_and_then}}, proofs.lemmas.{Bool.{cond_both, eqb-true, or_parts}, Slice.Eq.bytes_eq-Decides}}
+use Rattle.lists.proofs.ListLaws.{same_some}
 use Rattle.jvm_types.specs.{ClassNames.class_number, DescriptorLaws.{SpellsKind, SpellsKinds, SpellsResult, SpellsSignature, FieldsAreSpelled, MethodsAreSpelled}}
 use Rattle.jvm_types.specs.Descriptors.{Types, Reading, followed, array_of, class_kind, types_from, read_from, only_kind, field_kind, Signature, result_kind, signature_returned, method_signature}
 use Rattle.jvm_types.specs.declared.program.Kind.{Kind}
 use Rattle.jvm_types.specs.declared.program.Kind.TheVariants as kinds
-
-some_same : {X : Type 0} {x y : X} → Some x ≡ Some y → x ≡ y
-some_same e = cc
 
 module _ (names : List (List ℕ)) where
   -- ---- what is read is spelled
@@ -45,10 +43,10 @@ module _ (names : List (List ℕ)) where
 
   followed_read : (kind : Kind) (text bytes : List ℕ) (o : Option Types) → SpellsKind names kind text → Fronts bytes o → Fronts (text ++ bytes) (followed (Some kind) o)
   followed_read kind text bytes None h f t e = absurd cc
-  followed_read kind text bytes (Some u) h f t e = front_of (text ++ bytes) (some_same e) (one_more kind text bytes u h (f u refl))
+  followed_read kind text bytes (Some u) h f t e = front_of (text ++ bytes) (same_some e) (one_more kind text bytes u h (f u refl))
 
   array_read : (bytes : List ℕ) (ks : List Kind) (rest : List ℕ) → Front bytes (record { kinds = ks; rest = rest }) → Fronts (91 ∷ bytes) (array_of ks rest)
-  array_read bytes (kinds.Int ∷ ks) rest f t e = front_of (91 ∷ bytes) (some_same e) (record {
+  array_read bytes (kinds.Int ∷ ks) rest f t e = front_of (91 ∷ bytes) (same_some e) (record {
     front = 91 ∷ f.front;
     is = ap (λ b. 91 ∷ b) f.is;
     spelled = (codes "[I", f.spelled.1, ap (λ b. 91 ∷ b) (f.spelled.2 ∙ ap (λ b. b ++ f.spelled.1) f.spelled.3), inl (refl, refl), f.spelled.4);
@@ -66,19 +64,19 @@ module _ (names : List (List ℕ)) where
   class_read bytes name (Some kind) (Some u) k h t e =
       let b : Behind bytes name u = h u refl in
       let whole : 76 ∷ bytes ≡ (76 ∷ (name ++ 59 ∷ [])) ++ b.tail = ap (λ x. 76 ∷ x) (b.is ∙ sym (append_assoc name (59 ∷ []) b.tail)) in
-      front_of (76 ∷ bytes) (some_same e) (subst (λ x. Front x (record { kinds = kind ∷ u.kinds; rest = u.rest })) (sym whole)
+      front_of (76 ∷ bytes) (same_some e) (subst (λ x. Front x (record { kinds = kind ∷ u.kinds; rest = u.rest })) (sym whole)
       (one_more kind (76 ∷ (name ++ 59 ∷ [])) b.tail u (class_spelled kind (class_kind_is (class_number names name) (bytes_eq name (codes "[I")) kind k) k b.plain) b.types))
     where
       class_kind_is : (n : Option ℕ) (b : Bool) (kind : Kind) → cond b None (option_map kinds.Ref n) ≡ Some kind → (class : ℕ) × (kind ≡ kinds.Ref class)
       class_kind_is n true kind e = absurd cc
       class_kind_is None false kind e = absurd cc
-      class_kind_is (Some class) false kind e = (class, sym (some_same e))
+      class_kind_is (Some class) false kind e = (class, sym (same_some e))
 
       class_spelled : (kind : Kind) → ((class : ℕ) × (kind ≡ kinds.Ref class)) → class_kind names name ≡ Some kind → list_any (λ b. b == 59) name ≡ false → SpellsKind names kind (76 ∷ (name ++ 59 ∷ []))
       class_spelled kind c k plain = subst (λ j. SpellsKind names j (76 ∷ (name ++ 59 ∷ []))) (sym c.1) (inr (record { name = name; is = refl; known = k ∙ ap (λ j. Some j) c.1; plain = plain }))
 
   none_read : (bytes : List ℕ) → Fronts bytes (Some (record { kinds = []; rest = bytes }))
-  none_read bytes t e = front_of bytes (some_same e) (record { front = []; is = refl; spelled = refl })
+  none_read bytes t e = front_of bytes (same_some e) (record { front = []; is = refl; spelled = refl })
 
   starts_with : (byte : ℕ) (bytes : List ℕ) (n : ℕ) (o : Option Types) → (byte == n) ≡ true → Fronts (n ∷ bytes) o → Fronts (byte ∷ bytes) o
   starts_with byte bytes n o e h = subst (λ b. Fronts (b ∷ bytes) o) (sym (eqb-true byte n e)) h
@@ -145,7 +143,7 @@ module _ (names : List (List ℕ)) where
   only_read text [] rest kind e f = absurd cc
   only_read text (k ∷ []) [] kind e f =
       let whole : text ≡ f.spelled.0 = f.is ∙ append-nil f.front ∙ f.spelled.2 ∙ ap (λ b. f.spelled.0 ++ b) f.spelled.4 ∙ append-nil f.spelled.0 in
-      subst (λ j. SpellsKind names j text) (some_same e) (subst (SpellsKind names k) (sym whole) f.spelled.3)
+      subst (λ j. SpellsKind names j text) (same_some e) (subst (SpellsKind names k) (sym whole) f.spelled.3)
   only_read text (k ∷ []) (byte ∷ rest) kind e f = absurd cc
   only_read text (k ∷ j ∷ ks) rest kind e f = absurd cc
 
@@ -161,12 +159,12 @@ module _ (names : List (List ℕ)) where
   -- ---- methods
 
   result_at : (text : List ℕ) (b : Bool) → bytes_eq text (codes "V") ≡ b → (r : Option Kind) → cond b (Some None) (option_map (λ k. Some k) (field_kind names text)) ≡ Some r → SpellsResult names r text
-  result_at text true v r e = subst (λ j. SpellsResult names j text) (some_same e) ((bytes_eq-Decides text (codes "V")).0 v)
+  result_at text true v r e = subst (λ j. SpellsResult names j text) (same_some e) ((bytes_eq-Decides text (codes "V")).0 v)
   result_at text false v r e = mapped (field_kind names text) refl e
     where
       mapped : (o : Option Kind) → field_kind names text ≡ o → option_map (λ k. Some k) o ≡ Some r → SpellsResult names r text
       mapped None f e = absurd cc
-      mapped (Some k) f e = subst (λ j. SpellsResult names j text) (some_same e) (field_read text (read_from names text).types k (reads text).types f)
+      mapped (Some k) f e = subst (λ j. SpellsResult names j text) (same_some e) (field_read text (read_from names text).types k (reads text).types f)
 
   result_there : (text : List ℕ) (r : Option Kind) → SpellsResult names r text → result_kind names text ≡ Some r
   result_there text None h = ap (result_kind names) h
@@ -185,7 +183,7 @@ module _ (names : List (List ℕ)) where
     where
       made : (b : (byte == 41) ≡ true) (o : Option (Option Kind)) → result_kind names rest ≡ o → option_map (λ kind. record { args = ks; result = kind }) o ≡ Some s → SpellsSignature names s (40 ∷ bytes)
       made b None r e = absurd cc
-      made b (Some kind) r e = subst (λ (t : Signature). SpellsSignature names t (40 ∷ bytes)) (some_same e) (record {
+      made b (Some kind) r e = subst (λ (t : Signature). SpellsSignature names t (40 ∷ bytes)) (same_some e) (record {
         args = f.front;
         result = rest;
         is = ap (λ x. 40 ∷ x) (f.is ∙ ap (λ n. f.front ++ n ∷ rest) (eqb-true byte 41 b));

@@ -1,12 +1,10 @@
 -- The order of frames: it is one, and where two are of one depth their meet is the least that both are below.
 use Rattle.std.proofs.Common.{◌≡◌, suc, Bool, true, false, List, [], ◌∷◌, length, refl, ap, arith, ◌||◌, ◌&&◌, not}
+use Rattle.lists.proofs.TestLaws.{both_true}
 use Rattle.jvm_types.specs.{Types.{TypeFrame, is_below, meet, all_pairs, meets, frame_below, meet_frames}, declared.typing.VType.VType}
 use Rattle.jvm_types.proofs.TypeOrder.{below_self, below_trans, meet_left, meet_right, meet_least}
 
 -- ---- tests
-
-both_hold : (a b : Bool) → a ≡ true → b ≡ true → (a && b) ≡ true
-both_hold a b e f = rw e f
 
 first_holds : (a b : Bool) → (a && b) ≡ true → a ≡ true
 first_holds true b e = refl
@@ -20,7 +18,7 @@ second_holds false b e = absurd (cc)
 
 pub pairs_self : (ts : List VType) → all_pairs is_below ts ts ≡ true
 pairs_self [] = refl
-pairs_self (t ∷ ts) = both_hold (is_below t t) (all_pairs is_below ts ts) (below_self t) (pairs_self ts)
+pairs_self (t ∷ ts) = both_true (is_below t t) (all_pairs is_below ts ts) (below_self t) (pairs_self ts)
 
 pub pairs_length : (ts us : List VType) → all_pairs is_below ts us ≡ true → length ts ≡ length us
 pairs_length [] [] h = refl
@@ -34,27 +32,27 @@ pairs_trans [] [] (v ∷ vs) h k = k
 pairs_trans [] (u ∷ us) vs h k = absurd (cc)
 pairs_trans (t ∷ ts) [] vs h k = absurd (cc)
 pairs_trans (t ∷ ts) (u ∷ us) [] h k = absurd (cc)
-pairs_trans (t ∷ ts) (u ∷ us) (v ∷ vs) h k = both_hold (is_below t v) (all_pairs is_below ts vs)
+pairs_trans (t ∷ ts) (u ∷ us) (v ∷ vs) h k = both_true (is_below t v) (all_pairs is_below ts vs)
     (below_trans t u v (first_holds (is_below t u) (all_pairs is_below ts us) h) (first_holds (is_below u v) (all_pairs is_below us vs) k))
     (pairs_trans ts us vs (second_holds (is_below t u) (all_pairs is_below ts us) h) (second_holds (is_below u v) (all_pairs is_below us vs) k))
 
 pub meets_left : (ts us : List VType) → length ts ≡ length us → all_pairs is_below ts (meets ts us) ≡ true
 meets_left [] us e = refl
 meets_left (t ∷ ts) [] e = absurd (omega (arith, e))
-meets_left (t ∷ ts) (u ∷ us) e = both_hold (is_below t (meet t u)) (all_pairs is_below ts (meets ts us)) (meet_left t u) (meets_left ts us (omega (arith, e)))
+meets_left (t ∷ ts) (u ∷ us) e = both_true (is_below t (meet t u)) (all_pairs is_below ts (meets ts us)) (meet_left t u) (meets_left ts us (omega (arith, e)))
 
 pub meets_right : (ts us : List VType) → length ts ≡ length us → all_pairs is_below us (meets ts us) ≡ true
 meets_right [] [] e = refl
 meets_right [] (u ∷ us) e = absurd (omega (arith, e))
 meets_right (t ∷ ts) [] e = absurd (omega (arith, e))
-meets_right (t ∷ ts) (u ∷ us) e = both_hold (is_below u (meet t u)) (all_pairs is_below us (meets ts us)) (meet_right t u) (meets_right ts us (omega (arith, e)))
+meets_right (t ∷ ts) (u ∷ us) e = both_true (is_below u (meet t u)) (all_pairs is_below us (meets ts us)) (meet_right t u) (meets_right ts us (omega (arith, e)))
 
 pub meets_least : (ts us vs : List VType) → all_pairs is_below ts vs ≡ true → all_pairs is_below us vs ≡ true → all_pairs is_below (meets ts us) vs ≡ true
 meets_least [] us [] h k = refl
 meets_least [] us (v ∷ vs) h k = absurd (cc)
 meets_least (t ∷ ts) us [] h k = absurd (cc)
 meets_least (t ∷ ts) [] (v ∷ vs) h k = absurd (cc)
-meets_least (t ∷ ts) (u ∷ us) (v ∷ vs) h k = both_hold (is_below (meet t u) v) (all_pairs is_below (meets ts us) vs)
+meets_least (t ∷ ts) (u ∷ us) (v ∷ vs) h k = both_true (is_below (meet t u) v) (all_pairs is_below (meets ts us) vs)
     (meet_least t u v (first_holds (is_below t v) (all_pairs is_below ts vs) h) (first_holds (is_below u v) (all_pairs is_below us vs) k))
     (meets_least ts us vs (second_holds (is_below t v) (all_pairs is_below ts vs) h) (second_holds (is_below u v) (all_pairs is_below us vs) k))
 
@@ -86,8 +84,8 @@ ready_least false b c h k = h
 
 -- a frame is below another by its three parts
 pub parts_below : (f g : TypeFrame) → all_pairs is_below f.stack g.stack ≡ true → all_pairs is_below f.locals g.locals ≡ true → (f.ready || not g.ready) ≡ true → frame_below f g ≡ true
-parts_below f g s l r = both_hold (all_pairs is_below f.stack g.stack && all_pairs is_below f.locals g.locals) (f.ready || not g.ready)
-    (both_hold (all_pairs is_below f.stack g.stack) (all_pairs is_below f.locals g.locals) s l) r
+parts_below f g s l r = both_true (all_pairs is_below f.stack g.stack && all_pairs is_below f.locals g.locals) (f.ready || not g.ready)
+    (both_true (all_pairs is_below f.stack g.stack) (all_pairs is_below f.locals g.locals) s l) r
 
 pub stack_below : (f g : TypeFrame) → frame_below f g ≡ true → all_pairs is_below f.stack g.stack ≡ true
 stack_below f g h = first_holds (all_pairs is_below f.stack g.stack) (all_pairs is_below f.locals g.locals)

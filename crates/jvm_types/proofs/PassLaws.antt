@@ -1,6 +1,7 @@
 -- Where no pass finds a fault, no rule stands anywhere.
 use Rattle.std.proofs.Common.{◌≡◌, ℕ, zero, suc, ◌+◌, ◌<◌, ◌≤◌, Bool, true, false, ◌&&◌, List, [], ◌∷◌, ◌++◌, map, take, length, Option, Some, None, is_none, refl, sym, ap, ◌∙◌, subst, append_assoc, append-nil, arith, ◌==◌, bytes_eq, slice_get}
 use Rattle.std.{specs.{List.AllByRecursion, Option.{option_or, option_map}}, proofs.lemmas.{Bool.{or_parts, ne_eqb, and_left}, List.{take_at, length_push, length-map}}}
+use Rattle.lists.proofs.ListLaws.{same_some}
 use Rattle.jvm_types.specs.{ClassNames.{text_at, class_name, class_names, file_class}, Descriptors.method_signature}
 use Rattle.jvm_types.specs.LinkFaults.{LinkFault, first_fault, first_from, rule_at_place, in_file, in_method, is_outside, is_taken, class_link_fault, class_pass, is_repeated, is_synchronized_root, field_fault, method_fault, members_fault, member_pass}
 use Rattle.jvm_types.specs.{Members.{Declared, class_of_declared, name_of, descriptor_of, declared_from, declared_by, declared_methods, first_rule}, declared.class_file.ClassFile.ClassFile}
@@ -49,12 +50,9 @@ pub from_weaker : {X : Type 0} (P Q : ℕ → X → Type 0) → ((n : ℕ) (x : 
 from_weaker P Q w number [] h = tt
 from_weaker P Q w number (x ∷ xs) h = (w number x h.0, from_weaker P Q w (number + 1) xs h.1)
 
-some_same : {X : Type 0} {x y : X} → Some x ≡ Some y → x ≡ y
-some_same e = cc
-
 pub numbered_one : {X : Type 0} (P : ℕ → X → Type 0) (number : ℕ) (xs : List X) (k : ℕ) (x : X) → AllFrom P number xs → slice_get xs k ≡ Some x → P (number + k) x
 numbered_one P number [] k x h e = absurd cc
-numbered_one P number (y ∷ xs) zero x h e = subst (λ (n : ℕ). P n x) (omega arith) (subst (λ (z : _). P number z) (some_same e) h.0)
+numbered_one P number (y ∷ xs) zero x h e = subst (λ (n : ℕ). P n x) (omega arith) (subst (λ (z : _). P number z) (same_some e) h.0)
 numbered_one P number (y ∷ xs) (suc k) x h e = subst (λ (n : ℕ). P n x) (omega arith) (numbered_one P (number + 1) xs k x h.1 e)
 
 -- ---- names of classes
@@ -66,7 +64,7 @@ named_freely names file c e =
 class_at : (names : List (List ℕ)) (files : List ClassFile) (o : Option ClassFile) (k : ℕ) (name : List ℕ)
     → ((c : ClassFile) → o ≡ Some c → is_taken (take k names) (class_name c) ≡ false) → option_map class_name o ≡ Some name → is_taken (take k names) name ≡ false
 class_at names files None k name h e = absurd cc
-class_at names files (Some c) k name h e = subst (λ (n : List ℕ). is_taken (take k names) n ≡ false) (some_same e) (h c refl)
+class_at names files (Some c) k name h e = subst (λ (n : List ℕ). is_taken (take k names) n ≡ false) (same_some e) (h c refl)
 
 got_map : {X Y : Type 0} (f : X → Y) (xs : List X) (k : ℕ) → slice_get (map f xs) k ≡ option_map f (slice_get xs k)
 got_map f [] k = refl

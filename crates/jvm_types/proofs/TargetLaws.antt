@@ -1,6 +1,7 @@
 -- A name that no rule refuses names something of the program that may stand there.
 use Rattle.std.proofs.Common.{◌≡◌, ℕ, zero, suc, ◌<◌, Bool, true, false, cond, List, [], ◌∷◌, length, Option, Some, None, IfSome, refl, sym, subst, inl, inr, bytes_eq, slice_get}
 use Rattle.std.{specs.{List.{AllByRecursion, find}, Option.option_or, Result.{result_err, result_unwrap_or}, declared.result.Result.{Result, TheVariants.{Ok, Err}}}, proofs.lemmas.Bool.cond_both}
+use Rattle.lists.proofs.ListLaws.{all_weaker}
 use Rattle.jvm_types.specs.{ClassGrammar.FieldsFit, ClassNames.{class_number, named_class, class_text_at, text_at, is_class, can_be_made, system_name}}
 use Rattle.jvm_types.specs.Members.{Entry, MethodSite, member_in, look_up, is_init_name, field_rule, call_rule}
 use Rattle.jvm_types.specs.ProgramInvariant.{IsClassOf, IsFieldTarget, IsMethodTarget, IsValueTarget, IsNewTarget, IsTargetOf, IsCaught}
@@ -62,21 +63,17 @@ pub record ScopeFits (p : Program) (s : Scope) : Type 0 where
   pub fields : AllByRecursion (FieldFits p) s.fields
   pub methods : AllByRecursion (MethodFits p) s.methods
 
-all_of : {X : Type 0} (P Q : X → Type 0) → ((x : X) → P x → Q x) → (xs : List X) → AllByRecursion P xs → AllByRecursion Q xs
-all_of P Q w [] h = tt
-all_of P Q w (x ∷ xs) h = (w x h.0, all_of P Q w xs h.1)
-
 module _ (p : Program) (s : Scope) (fit : ScopeFits p s) (site : MethodSite) (of_file : 0 < site.class) (pool : List Constant) (entries : AllByRecursion FieldsFit pool) where
   field_fits : (static writes : Bool) (o : Option Constant) → Fits (IsFieldTarget p site static writes) (field_target s site pool static writes o)
   field_fits static writes (Some (constants.Field class member)) e =
       member_fits (IsFieldTarget p site static writes) (λ e. field_rule static writes site e.class e.flags) s.fields (class_at_index s pool class) _ _ _
-      (all_of (FieldFits p) (λ e. field_rule static writes site e.class e.flags ≡ None → IsFieldTarget p site static writes e.target) (λ e h. h static writes site of_file) s.fields fit.fields) e
+      (all_weaker (FieldFits p) (λ e. field_rule static writes site e.class e.flags ≡ None → IsFieldTarget p site static writes e.target) (λ e h. h static writes site of_file) s.fields fit.fields) e
   field_fits static writes o e = absurd cc
 
   method_fits : (call : Call) (o : Option Constant) → Fits (IsMethodTarget p site call) (method_target s site pool call o)
   method_fits call (Some (constants.Method class member)) e =
       member_fits (IsMethodTarget p site call) (λ e. call_rule call site e.class e.name e.flags) s.methods (class_at_index s pool class) _ _ _
-      (all_of (MethodFits p) (λ e. call_rule call site e.class e.name e.flags ≡ None → IsMethodTarget p site call e.target) (λ e h. h call site) s.methods fit.methods) e
+      (all_weaker (MethodFits p) (λ e. call_rule call site e.class e.name e.flags ≡ None → IsMethodTarget p site call e.target) (λ e h. h call site) s.methods fit.methods) e
   method_fits call o e = absurd cc
 
   loaded_fits : (o : Option Constant) → IfSome o FieldsFit → Fits IsValueTarget (loaded_target o)
