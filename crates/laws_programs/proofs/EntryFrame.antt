@@ -1,6 +1,6 @@
 -- The locals of the frame that a method begins with, place by place.
 use Rattle.std.proofs.Common.{◌≡◌, ℕ, zero, suc, ◌+◌, ◌-◌, ◌<◌, ◌≤◌, Bool, true, false, cond, List, [], ◌∷◌, ◌++◌, length, map, replicate, Some, refl, ap, ◌∙◌, arith, length-append, slice_get}
-use Rattle.std.proofs.lemmas.List.{length-map}
+use Rattle.std.{specs.Option.option_map, proofs.lemmas.{List.length-map, Option.slice_get-map}}
 use Rattle.jvm_types.specs.{CodeTable.type_of, Members.is_static, Types.receiver_types, declared.{program.MethodInfo.MethodInfo, typing.VType.{VType, TheVariants.Top}}}
 use Rattle.laws_programs.{specs.EntryLaws.{receiver_count, ArgumentsFit, EntryFramesFit, EntryHasReceiver, EntryHasArguments, EntryHasNoMore}, proofs.FrameLast.entry_locals}
 
@@ -15,11 +15,6 @@ behind_at : {X : Type 0} (xs ys : List X) (i : ℕ) (x : X) → length xs ≤ i 
 behind_at [] ys i x h e = ap (slice_get ys) (omega arith) ∙ e
 behind_at (y ∷ xs) ys zero x h e = absurd (omega (arith, h))
 behind_at (y ∷ xs) ys (suc i) x h e = behind_at xs ys i x (omega (arith, h)) (ap (slice_get ys) (omega arith) ∙ e)
-
-mapped_at : {X Y : Type 0} (f : X → Y) (xs : List X) (i : ℕ) (x : X) → slice_get xs i ≡ Some x → slice_get (map f xs) i ≡ Some (f x)
-mapped_at f [] i x e = absurd (cc)
-mapped_at f (y ∷ xs) zero x e = let same : y ≡ x = cc in ap (λ z. Some (f z)) same
-mapped_at f (y ∷ xs) (suc i) x e = mapped_at f xs i x e
 
 repeated_at : {X : Type 0} (n i : ℕ) (x : X) → i < n → slice_get (replicate n x) i ≡ Some x
 repeated_at zero i x h = absurd (omega (arith, h))
@@ -67,7 +62,7 @@ pub has_arguments : EntryHasArguments
 has_arguments m i kind e =
     front_at (given m) _ (receiver_count m + i) (type_of kind)
     (behind_at (receiver_types m) (map type_of m.args) (receiver_count m + i) (type_of kind) (omega (arith, receiver_long m))
-    (ap (slice_get (map type_of m.args)) (omega (arith, receiver_long m)) ∙ mapped_at type_of m.args i kind e))
+    (ap (slice_get (map type_of m.args)) (omega (arith, receiver_long m)) ∙ slice_get-map type_of m.args i ∙ ap (option_map type_of) e))
 
 pub has_no_more : EntryHasNoMore
 has_no_more m i h k =

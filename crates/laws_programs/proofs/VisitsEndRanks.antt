@@ -1,7 +1,7 @@
 -- A meet goes down: each type has a rank of at least 1, which falls where a meet with another changes the type. So the
 -- rank of a frame, the sum over its places, falls where an edge changes the frame, whatever the depths.
 use Rattle.std.proofs.Common.{◌≡◌, ℕ, zero, suc, ◌+◌, ◌-◌, ◌*◌, ◌<◌, ◌≤◌, Bool, true, false, List, [], ◌∷◌, length, refl, sym, subst, inl, inr, arith, ◌⊎◌, ◌&&◌, ◌==◌, if◌then◌else◌, slice_index_or}
-use Rattle.std.{specs.List.AllByRecursion, proofs.lemmas.Bool.Decides.nat_tests}
+use Rattle.std.{specs.List.AllByRecursion, proofs.lemmas.Bool.eq-eqb}
 use Rattle.jvm_types.specs.ClassTree.{super_class, is_subclass, first_above, common_ancestor}
 use Rattle.jvm_types.specs.{Types.{TypeFrame, meet, if_same_place, same_type, all_pairs, meets, same_ready, same_frame, meet_frames}, declared.class_numbers.TheConstants.OBJECT_CLASS}
 use Rattle.jvm_types.{specs.declared.typing.VType.{VType, TheVariants.{Int, Null, Ref, This, New, Top}}, proofs.{ClassCases.by_class, TypeOrder.subclass_object}}
@@ -85,11 +85,8 @@ always : (t : Bool) (a b : ℕ) → a < b → Falls t a b
 always true a b h = omega (arith, h)
 always false a b h = h
 
-same_number : (n : ℕ) → (n == n) ≡ true
-same_number n = grind (arith, nat_tests)
-
 class_same : (c : ℕ) → Falls (c == c) (depth c + 2) (depth c + 2)
-class_same c = subst (λ (t : Bool). Falls t (depth c + 2) (depth c + 2)) (sym (same_number c)) (omega arith)
+class_same c = subst (λ (t : Bool). Falls t (depth c + 2) (depth c + 2)) (sym (eq-eqb c c refl)) (omega arith)
 
 ref_falls : (c d : ℕ) → Falls (c == common_ancestor c d) (depth (common_ancestor c d) + 2) (depth c + 2)
 ref_falls c d = elim (common_falls c d) as (λ _. Falls (c == common_ancestor c d) (depth (common_ancestor c d) + 2) (depth c + 2)) [
@@ -110,7 +107,7 @@ meet_falls Top Top = omega arith
 meet_falls Null (Ref d) = omega (arith, depth_small d)
 meet_falls (Ref c) Null = class_same c
 meet_falls (Ref c) (Ref d) = ref_falls c d
-meet_falls (New p) (New q) = place_falls p (p == q) (same_number p)
+meet_falls (New p) (New q) = place_falls p (p == q) (eq-eqb p p refl)
 meet_falls t u = omega arith
 
 rank_some : (t : VType) → 1 ≤ rank t
