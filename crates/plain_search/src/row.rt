@@ -20,6 +20,7 @@ pub struct Gathered {
     pub rows: Vec<Row>,
     /// The rows without a step, by their numbers.
     pub rests: Vec<u32>,
-    /// The rows by numbers of their states: 0, or one more than the number of a row.
+    /// The rows by numbers of their states: 0, or in the lower half one more than the number of a
+    /// row, and in the upper half that of its state's number.
     pub table: Vec<u64>,
 }

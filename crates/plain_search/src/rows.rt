@@ -18,6 +18,22 @@ struct Place {
     is_found: bool,
 }
 
+/// An entry of the table: the number of a row, counted from 1, below the upper half of the number
+/// of its state.
+fn entry_of(row: u64, state: u64) -> u64 {
+    (state & 0xffff_ffff_0000_0000) | row
+}
+
+/// The number of the row of an entry.
+fn row_of(entry: u64) -> u64 {
+    entry & 0xffff_ffff
+}
+
+/// Whether an entry may be of a state, by the number of that.
+fn may_be_of(entry: u64, state: u64) -> bool {
+    entry >> 32 == state >> 32
+}
+
 /// Whether a row, by its number counted from 1, has this state.
 fn is_state_of(rows: &[Row], number: u64, q: &Plain) -> bool
     ensures { result ≡ true → IsStateIn rows.now q.now.state }
@@ -31,26 +47,26 @@ fn is_state_of(rows: &[Row], number: u64, q: &Plain) -> bool
     }
 }
 
-/// The place of a state in the table.
-fn place_of(rows: &[Row], table: &[u64], q: &Plain) -> Place
+/// The place in the table of a state, whose number is `state`.
+fn place_of(rows: &[Row], table: &[u64], state: u64, q: &Plain) -> Place
     ensures { result.is_found ≡ true → IsStateIn rows.now q.now.state }
 {
     let mut at = 0;
     if table.len() > 0 {
-        at = (number_of(q) % table.len() as u64) as usize;
+        at = (state % table.len() as u64) as usize;
     }
     for _ in 0..table.len() {
         if at >= table.len() {
             at = 0;
         }
-        let number = table[at];
-        if number == 0 {
+        let entry = table[at];
+        if entry == 0 {
             return Place {
                 at,
                 is_found: false,
             };
         }
-        if is_state_of(rows, number, q) {
+        if may_be_of(entry, state) && is_state_of(rows, row_of(entry), q) {
             return Place { at, is_found: true };
         }
         at += 1;
@@ -68,14 +84,15 @@ pub(crate) fn add(rows: &mut Vec<Row>, table: &mut [u64], row: Row) -> Result<()
     ensures longer { (c : MarkedProgram) → IsSearchRow c row
         → IsLonger (IsSearchRow c) rows.old.items rows.new.items }
 {
-    let place = place_of(rows.as_slice(), table, &row.plain);
+    let state = number_of(&row.plain);
+    let place = place_of(rows.as_slice(), table, state, &row.plain);
     if place.is_found {
         return Ok(());
     }
-    let number = rows.len() as u64 + 1;
+    let entry = entry_of(rows.len() as u64 + 1, state);
     rows.push(row)?;
     if place.at < table.len() {
-        table[place.at] = number;
+        table[place.at] = entry;
     }
     Ok(())
 }
