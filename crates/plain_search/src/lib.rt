@@ -2,6 +2,7 @@
 //! local steps.
 #![tactic(auto)]
 
+mod acts;
 mod found;
 mod local;
 mod nexts;

@@ -1,12 +1,13 @@
 //! The states that come next.
 
-ghost use Rattle.std.specs.Prelude.{◌≡◌, ◌≤◌, ◌+◌, ◌^◌, ℕ, length, Some, IfOk, OnOk};
+ghost use Rattle.std.specs.Prelude.{◌≡◌, ◌≤◌, ◌+◌, ◌^◌, ℕ, length, Some, None, IfOk, IfSome, OnOk};
 ghost use Rattle.std.specs.List.{AllByRecursion};
 ghost use Rattle.machine_types.specs.declared.plain.Act.{Act as Acts};
 ghost use Rattle.machine_types.specs.declared.plain.Act.TheVariants as acts;
 ghost use Rattle.plain_search.specs.Nexts.{HasNextBy, HasNexts, IsNextRow};
 ghost use Rattle.plain_search.specs.Rows.{IsLonger};
 
+use crate::acts::may_step;
 use crate::row::Row;
 use crate::settling::settle;
 use checked_program::Checked;
@@ -14,27 +15,41 @@ use history_rule::{Plain, plain_step};
 use machine_types::{Act, PlainStep};
 use std::alloc::{AllocError, Global};
 
+/// The machine again: the spare one, where there is one.
+fn taken(alloc: Global, q: &Plain, spare: &mut Option<Plain>) -> Result<Plain, AllocError>
+    requires { IfSome spare.old (λ z. z ≡ q.now) }
+    ensures same { IfOk result (λ z. z ≡ q.now) }
+    ensures none { spare.new ≡ None }
+{
+    match spare.take() {
+        Some(plain) => Ok(plain),
+        None => q.copy(alloc),
+    }
+}
+
 /// Adds the state behind a step and the local steps of its thread, where there is such a step.
-/// `spare` is the same machine as `q`, and so is what it answers.
-fn add_by(
+/// `spare` is the same machine as `q`, or none, and so it stays.
+#[inline(never)]
+fn add_made(
     alloc: Global,
     p: &Checked,
     q: &Plain,
     from: u32,
-    spare: Plain,
+    spare: &mut Option<Plain>,
     rows: &mut Vec<Row>,
     step: PlainStep,
-) -> Result<Plain, AllocError>
+) -> Result<(), AllocError>
     requires program { p.now ≡ q.now.program }
     requires few { q.now.steps + 1001 ≤ 2 ^ 40 }
-    requires same { spare ≡ q.now }
-    ensures spare { IfOk result (λ z. z ≡ q.now) }
+    requires same { IfSome spare.old (λ z. z ≡ q.now) }
+    ensures spare { OnOk result (IfSome spare.new (λ z. z ≡ q.now)) }
     ensures there { OnOk result (HasNextBy q.now rows.new.items step) }
     ensures longer { OnOk result (IsLonger (IsNextRow q.now) rows.old.items rows.new.items) }
 {
-    let mut plain = spare;
+    let mut plain = taken(alloc, q, spare)?;
     if !plain_step(alloc, &mut plain, p, &step)? {
-        return Ok(plain);
+        *spare = Some(plain);
+        return Ok(());
     }
     let locals = settle(alloc, &mut plain, p, step.thread)?;
     rows.push(Row {
@@ -43,7 +58,30 @@ fn add_by(
         step,
         locals,
     })?;
-    q.copy(alloc)
+    Ok(())
+}
+
+/// The same; nothing is tried where what the thread is about says that there is no such step.
+fn add_by(
+    alloc: Global,
+    p: &Checked,
+    q: &Plain,
+    from: u32,
+    spare: &mut Option<Plain>,
+    rows: &mut Vec<Row>,
+    step: PlainStep,
+) -> Result<(), AllocError>
+    requires program { p.now ≡ q.now.program }
+    requires few { q.now.steps + 1001 ≤ 2 ^ 40 }
+    requires same { IfSome spare.old (λ z. z ≡ q.now) }
+    ensures spare { OnOk result (IfSome spare.new (λ z. z ≡ q.now)) }
+    ensures there { OnOk result (HasNextBy q.now rows.new.items step) }
+    ensures longer { OnOk result (IsLonger (IsNextRow q.now) rows.old.items rows.new.items) }
+{
+    if may_step(q, step) {
+        add_made(alloc, p, q, from, spare, rows, step)?;
+    }
+    Ok(())
 }
 
 /// Adds the states behind a step by which a thread is woken.
@@ -52,28 +90,27 @@ fn add_notifies(
     p: &Checked,
     q: &Plain,
     from: u32,
-    spare: Plain,
+    spare: &mut Option<Plain>,
     rows: &mut Vec<Row>,
     thread: u8,
-) -> Result<Plain, AllocError>
+) -> Result<(), AllocError>
     requires program { p.now ≡ q.now.program }
     requires few { q.now.steps + 1001 ≤ 2 ^ 40 }
     requires threads { length q.now.state.threads ≤ 256 }
-    requires same { spare ≡ q.now }
-    ensures spare { IfOk result (λ z. z ≡ q.now) }
+    requires same { IfSome spare.old (λ z. z ≡ q.now) }
+    ensures spare { OnOk result (IfSome spare.new (λ z. z ≡ q.now)) }
     ensures there { OnOk result ((u : ℕ) → HasNextBy q.now rows.new.items
         (record { thread = thread; act = acts.Notify (Some u) })) }
     ensures longer { OnOk result (IsLonger (IsNextRow q.now) rows.old.items rows.new.items) }
 {
-    let mut spare = spare;
     for u in 0..q.threads().len() {
         let step = PlainStep {
             thread,
             act: Act::Notify(Some(u as u8)),
         };
-        spare = add_by(alloc, p, q, from, spare, rows, step)?;
+        add_by(alloc, p, q, from, spare, rows, step)?;
     }
-    Ok(spare)
+    Ok(())
 }
 
 /// Adds the states behind the steps of a thread.
@@ -82,118 +119,117 @@ fn add_of(
     p: &Checked,
     q: &Plain,
     from: u32,
-    spare: Plain,
+    spare: &mut Option<Plain>,
     rows: &mut Vec<Row>,
     thread: u8,
-) -> Result<Plain, AllocError>
+) -> Result<(), AllocError>
     requires program { p.now ≡ q.now.program }
     requires few { q.now.steps + 1001 ≤ 2 ^ 40 }
     requires threads { length q.now.state.threads ≤ 256 }
-    requires same { spare ≡ q.now }
-    ensures spare { IfOk result (λ z. z ≡ q.now) }
+    requires same { IfSome spare.old (λ z. z ≡ q.now) }
+    ensures spare { OnOk result (IfSome spare.new (λ z. z ≡ q.now)) }
     ensures there { OnOk result ((act : Acts) → HasNextBy q.now rows.new.items
         (record { thread = thread; act = act })) }
     ensures longer { OnOk result (IsLonger (IsNextRow q.now) rows.old.items rows.new.items) }
 {
-    let s = spare;
-    let s = add_by(
+    add_by(
         alloc,
         p,
         q,
         from,
-        s,
+        spare,
         rows,
         PlainStep {
             thread,
             act: Act::Begin,
         },
     )?;
-    let s = add_by(
+    add_by(
         alloc,
         p,
         q,
         from,
-        s,
+        spare,
         rows,
         PlainStep {
             thread,
             act: Act::Do,
         },
     )?;
-    let s = add_by(
+    add_by(
         alloc,
         p,
         q,
         from,
-        s,
+        spare,
         rows,
         PlainStep {
             thread,
             act: Act::Enter,
         },
     )?;
-    let s = add_by(
+    add_by(
         alloc,
         p,
         q,
         from,
-        s,
+        spare,
         rows,
         PlainStep {
             thread,
             act: Act::Exit,
         },
     )?;
-    let s = add_by(
+    add_by(
         alloc,
         p,
         q,
         from,
-        s,
+        spare,
         rows,
         PlainStep {
             thread,
             act: Act::Wait,
         },
     )?;
-    let s = add_by(
+    add_by(
         alloc,
         p,
         q,
         from,
-        s,
+        spare,
         rows,
         PlainStep {
             thread,
             act: Act::Notify(None),
         },
     )?;
-    let s = add_by(
+    add_by(
         alloc,
         p,
         q,
         from,
-        s,
+        spare,
         rows,
         PlainStep {
             thread,
             act: Act::NotifyAll,
         },
     )?;
-    let s = add_by(
+    add_by(
         alloc,
         p,
         q,
         from,
-        s,
+        spare,
         rows,
         PlainStep {
             thread,
             act: Act::Retake,
         },
     )?;
-    let s = add_notifies(alloc, p, q, from, s, rows, thread)?;
-    Ok(s)
+    add_notifies(alloc, p, q, from, spare, rows, thread)?;
+    Ok(())
 }
 
 /// The states that come next behind a row, each behind local steps of the thread that made the
@@ -211,9 +247,9 @@ pub(crate) fn next_rows(
     ensures nexts { IfOk result (λ rows. AllByRecursion (IsNextRow q.now) rows.items) }
 {
     let mut rows = Vec::new(alloc);
-    let mut spare = q.copy(alloc)?;
+    let mut spare: Option<Plain> = None;
     for t in 0..q.threads().len() {
-        spare = add_of(alloc, p, q, from, spare, &mut rows, t as u8)?;
+        add_of(alloc, p, q, from, &mut spare, &mut rows, t as u8)?;
     }
     Ok(rows)
 }

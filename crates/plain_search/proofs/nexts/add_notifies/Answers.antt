@@ -13,9 +13,9 @@ loop-u-init c = record {
 
 pub loop-u-preserved : goal.loop-u-preserved
 loop-u-preserved c = record {
-  same = c.in_ok-spare.ensures.spare;
-  there = one_below (IsNextRow c.args.q.now) c.args.q.now c.loop-u.rows.items c.add_by.new.rows.items c.args.thread c.loop-u.u c.in_ok-spare.ensures.longer c.loop-u.invariant.there c.in_ok-spare.ensures.there;
-  longer = longer_twice (IsNextRow c.args.q.now) c.args.rows.now.items c.loop-u.rows.items c.add_by.new.rows.items c.loop-u.invariant.longer c.in_ok-spare.ensures.longer;
+  same = c.in_ok-add_by.ensures.spare;
+  there = one_below (IsNextRow c.args.q.now) c.args.q.now c.loop-u.rows.items c.add_by.new.rows.items c.args.thread c.loop-u.u c.in_ok-add_by.ensures.longer c.loop-u.invariant.there c.in_ok-add_by.ensures.there;
+  longer = longer_twice (IsNextRow c.args.q.now) c.args.rows.now.items c.loop-u.rows.items c.add_by.new.rows.items c.loop-u.invariant.longer c.in_ok-add_by.ensures.longer;
 }
 
 pub returns-clause-there : goal.returns-clause-there

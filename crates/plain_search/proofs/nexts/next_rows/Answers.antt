@@ -6,9 +6,9 @@ use Rattle.plain_search.proofs.nexts.next_rows.Goals as goal
 
 pub loop-t-preserved : goal.loop-t-preserved
 loop-t-preserved c = record {
-  same = c.in_ok-spare-2.ensures.spare;
-  there = one_thread (IsNextRow c.args.q.now) c.args.q.now c.loop-t.rows.items c.add_of.new.rows.items c.loop-t.t c.in_ok-spare-2.ensures.longer c.loop-t.invariant.there c.in_ok-spare-2.ensures.there;
-  longer = longer_twice (IsNextRow c.args.q.now) [] c.loop-t.rows.items c.add_of.new.rows.items c.loop-t.invariant.longer c.in_ok-spare-2.ensures.longer;
+  same = c.in_ok-add_of.ensures.spare;
+  there = one_thread (IsNextRow c.args.q.now) c.args.q.now c.loop-t.rows.items c.add_of.new.rows.items c.loop-t.t c.in_ok-add_of.ensures.longer c.loop-t.invariant.there c.in_ok-add_of.ensures.there;
+  longer = longer_twice (IsNextRow c.args.q.now) [] c.loop-t.rows.items c.add_of.new.rows.items c.loop-t.invariant.longer c.in_ok-add_of.ensures.longer;
 }
 
 pub returns-clause-there : goal.returns-clause-there
