@@ -44,7 +44,7 @@ impl Model for Thread {
 fn copy_frames(alloc: Global, frames: &[Frame]) -> Result<Rows<Frame>, AllocError>
     ensures { IfOk result (λ v. v ≡ frames.now) }
 {
-    let mut copies = Rows::new(alloc);
+    let mut copies = Rows::from_vec(Vec::with_capacity(alloc, frames.len())?);
     for f in frames {
         copies.push(f.copy(alloc)?)?;
     }
