@@ -3,10 +3,6 @@
 #![tactic(auto)]
 
 #[cfg(test)]
-mod outcome_classes;
-#[cfg(test)]
-mod outcome_tests;
-#[cfg(test)]
 mod playing;
 #[cfg(test)]
 mod searches;
