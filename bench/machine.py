@@ -7,7 +7,7 @@ Run it by hand from the top of the repository, after `./run --proved examples/A.
     python3 bench/machine.py [--program PATH] [name..]
 
 With names, only those programs. Each line is of one program of bench/programs: first the six by which the loop of
-instructions was formed, then six others, to which nothing was fitted, then one that holds two hundred locks. Times are
+instructions was formed, then ten others, to which nothing was fitted, then one that holds two hundred locks. Times are
 processor time, of the user and of the system, and the least of several rounds, in each of which both machines run one
 after the other; the least time of a program that does nothing, on the same machine, is taken off. A time is told for
 one instruction, by the instructions that the report counts, and the ratio is that of solero's time to the other's.
@@ -38,6 +38,7 @@ HARNESS = os.path.join(measure.TOP, "examples", "programs", "Hotspot.java")
 LISTS = (
     ("by which the loop was formed", ("Arithmetic", "Calls", "Fields", "Sieve", "Locks", "Reads")),
     ("others", ("Matrix", "Tree", "Chain", "Transfers", "Automaton", "Failures")),
+    ("others that came later", ("Bits", "Life", "Queens", "Sort")),
     ("many locks held", ("Nested",)),
 )
 MOST_STEPS = 2**32 - 1
