@@ -6,3 +6,4 @@ pub mod RootLaws
 pub mod FewMethods
 pub mod HeldLaws
 pub mod StartLaws
+pub mod RunLaws

@@ -4,3 +4,4 @@ pub mod RootLists
 pub mod KeptAttempts
 pub mod ThreadParts
 pub mod HeldLists
+pub mod Runs

@@ -5,6 +5,8 @@ ghost use Rattle.std.specs.Prelude.{slice_index, slice_set, IfOk};
 ghost use Rattle.frames.specs.FrameLists.{top, below, with_top, max_stack};
 ghost use Rattle.jvm_types.specs.declared.limits.TheConstants.{MOST_SLOTS};
 
+mod running_frames;
+
 use crate::arguments::argument_count;
 use crate::head::{Head, SLOTS, StackOverflow};
 use crate::laying::{copy_slots, lay, lay_root, receiver_at};
@@ -12,6 +14,7 @@ use jvm_types::flags::is_static;
 use jvm_types::limits::MOST_FRAMES;
 use jvm_types::{MethodInfo, Program};
 use lists::Told;
+pub use running_frames::RunningFrames;
 use std::alloc::{AllocError, Global};
 use std::marker::Model;
 
@@ -155,6 +158,16 @@ impl FrameStack {
     {
         let head = self.top;
         (head.room - head.gap) as u32
+    }
+
+    /// How many places of the top frame's stack hold no value.
+    #[inline(always)]
+    pub fn gap(&self) -> usize
+        requires { 0 < length self.now.frames }
+        ensures { result + length (top self.now.frames).stack
+            ≡ max_stack self.now.program (top self.now.frames).method }
+    {
+        self.top.gap
     }
 
     /// The value that lies so many below the top of the top frame's stack.

@@ -14,7 +14,7 @@ mod roots;
 mod thread_state;
 
 pub use counts::{count_elided, count_failed, count_inflated, count_instruction, count_locked};
-pub use frame_stack::FrameStack;
+pub use frame_stack::{FrameStack, RunningFrames};
 pub use head::StackOverflow;
 pub use phases::{fail_turn, runs};
 pub use thread_state::ThreadState;
