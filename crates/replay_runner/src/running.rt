@@ -25,7 +25,7 @@ use run_parts::{
 };
 use std::alloc::{AllocError, Global};
 use std::marker::Model;
-use step_core::{event, run_ahead};
+use step_core::{EntryTables, event, run_ahead};
 
 /// A machine that runs a checked program. Contracts see the program, the settings, and its state.
 ///
@@ -33,6 +33,7 @@ use step_core::{event, run_ahead};
 #[derive(Drop)]
 pub struct Machine {
     program: Told<Checked>,
+    tables: EntryTables,
     cfg: Config,
     words: Rows<u64>,
     threads: Vec<ThreadState>,
@@ -59,7 +60,8 @@ impl Model for Machine {
           cfg = m.cfg;
           core = record { words = m.words; threads = m.threads.items };
         })
-        × (m.reports.items ≡ []) × (length m.threads.items ≤ m.reports.spare) };
+        × (m.reports.items ≡ []) × (length m.threads.items ≤ m.reports.spare)
+        × (m.tables ≡ m.program.told.program) };
 }
 
 /// Each thread takes its share of the begin of a part.
@@ -85,7 +87,8 @@ fn go(s: &mut ThreadState, p: &Checked, words: &mut Rows<u64>)
 
 /// Makes events of a live thread of a machine: those that can be made ahead, and one more. They
 /// leave less for it to do.
-fn go_far(s: &mut ThreadState, p: &Checked, words: &mut Rows<u64>)
+fn go_far(s: &mut ThreadState, p: &Checked, tables: &EntryTables, words: &mut Rows<u64>)
+    requires tables { tables.now ≡ p.now.program }
     requires thread { (m : Running) × (t : ℕ) × IsThreadOf m p.now t s.old words.old }
     requires live { is_live s.old.phase ≡ true }
     ensures on { (m : Running) (t : ℕ) → IsThreadOf m p.now t s.old words.old
@@ -96,20 +99,21 @@ fn go_far(s: &mut ThreadState, p: &Checked, words: &mut Rows<u64>)
     states_have_facts();
     events_keep_state();
     events_lessen_work();
-    let _ahead = run_ahead(s, p, words);
+    let _ahead = run_ahead(s, p, tables, words);
     go(s, p, words);
 }
 
 /// Makes the events of a thread of a machine until it is not live. Each of them leaves less for it
 /// to do.
-fn run_far(s: &mut ThreadState, p: &Checked, words: &mut Rows<u64>)
-    requires { (m : Running) × (t : ℕ) × IsThreadOf m p.now t s.old words.old }
+fn run_far(s: &mut ThreadState, p: &Checked, tables: &EntryTables, words: &mut Rows<u64>)
+    requires tables { tables.now ≡ p.now.program }
+    requires thread { (m : Running) × (t : ℕ) × IsThreadOf m p.now t s.old words.old }
     ensures on { (m : Running) (t : ℕ) → IsThreadOf m p.now t s.old words.old
         → (n : ℕ) × IsThreadOf (run_on m t n) p.now t s.new words.new }
     ensures over { is_live s.new.phase ≡ false }
 {
     while s.is_live() {
-        go_far(s, p, words);
+        go_far(s, p, tables, words);
     }
 }
 
@@ -124,11 +128,14 @@ impl Machine {
         parts_keep_threads();
         start_has_state();
         have_width(*cfg);
+        let tables = EntryTables::of(alloc, p)?;
         let words = start_words(alloc, p.program())?;
         let threads = start_threads(alloc, p, cfg)?;
         let reports = Room::with_room(alloc, threads.len())?;
+        let program = Told::of(p);
         Ok(Machine {
-            program: Told::of(p),
+            program,
+            tables,
             cfg: *cfg,
             words,
             threads,
@@ -231,7 +238,12 @@ impl Machine {
         events_keep_state();
         events_lessen_all_work();
         if self.lives(t) {
-            run_far(&mut self.threads[t as usize], p, &mut self.words);
+            run_far(
+                &mut self.threads[t as usize],
+                p,
+                &self.tables,
+                &mut self.words,
+            );
         }
     }
 

@@ -11,3 +11,7 @@ mod LocalStretches
 mod SectionEvents
 mod SectionTurns
 mod LoopRuns
+mod OpsInCode
+mod OneInstruction
+mod StretchEvents
+mod EntryRuns

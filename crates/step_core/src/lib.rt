@@ -12,6 +12,7 @@ mod moving;
 mod wanting;
 
 pub use ahead::{run_ahead, run_local};
+pub use entry_code::EntryTables;
 pub use halves::{Want, apply_effect, step_or_want};
 pub use instr_effects::perform;
 pub use moving::{apply, event, step_local};

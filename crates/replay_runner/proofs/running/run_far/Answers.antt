@@ -7,8 +7,9 @@ loop-s-init c = λ m t h. (0, h)
 
 pub go_far-requires-clause-thread : goal.go_far-requires-clause-thread
 go_far-requires-clause-thread c =
-    let was = c.loop-s.invariant c.requires.0 c.requires.1 c.requires.2 in
-    (run_on c.requires.0 c.requires.1 was.0, c.requires.1, was.1)
+    let h = c.requires.thread in
+    let was = c.loop-s.invariant h.0 h.1 h.2 in
+    (run_on h.0 h.1 was.0, h.1, was.1)
 
 pub loop-s-preserved : goal.loop-s-preserved
 loop-s-preserved c = λ m t h.

@@ -34,6 +34,7 @@ invariant_of-self c =
       subst AreRunning (sym back) now.runs,
       c.self.invariant.1,
       omega (arith, c.self.invariant.2, length-set c.self.inside.threads.items c.args.t c.go.new.s),
+      c.self.invariant.3,
     )
 
 pub returns-clause-less : goal.returns-clause-less
