@@ -88,15 +88,14 @@ impl<'a> HandledMethod<'a> {
         requires { k < length self.now.rows }
         ensures { AreRowsPassed pc from (drop k self.now.rows) result }
     {
+        if is_picked(pc, from, &self.method().rows.as_slice()[k]) {
+            return 0;
+        }
         let hull = self.hull(k);
         if !hull.may_have(pc, from) {
             return hull.count();
         }
-        if is_picked(pc, from, &self.method().rows.as_slice()[k]) {
-            0
-        } else {
-            1
-        }
+        1
     }
 
     /// The first row, from this number on, that covers a pc and begins at `from` or behind it, with
