@@ -1,10 +1,10 @@
 -- A seat that is split, and two that are joined, keep the rule. And a new cell meets it.
-use Rattle.std.proofs.Common.{◌≡◌, ℕ, ◌+◌, ◌*◌, ◌<◌, inl, List, [], ◌∷◌, ◌++◌, length-append, Some, refl, sym, ap, subst, ◌∙◌, arith}
+use Rattle.std.proofs.Common.{◌≡◌, ℕ, ◌+◌, ◌*◌, ◌<◌, inl, List, [], ◌∷◌, ◌++◌, length, length-append, Some, refl, sym, ap, subst, ◌∙◌, arith}
 use Rattle.atomic_table.{specs.Table.{Splits, Joins}, proofs.Lists.{set_else}}
 use Rattle.atomic_table.specs.Seated.{TableId}
 use Rattle.solero_cell.specs.{CellRules.{storing_count}, CellViews.{first_view, halved, newcomer, taken_in, spent, IsStill}, Moments.moment_now, declared.views.{Moment.TheVariants.AtRest, Record.Record, View.View}}
 use Rattle.solero_cell.proofs.{Allowing.{by_words}, Looking.{rests_now}, SeatSteps.{cut_views, cut_sum, seats_cut, halved_knows, newcomer_knows, joined_of, joined_stores, seats_joined, both_know, seats_opened, first_knows}}
-use Rattle.latch_cell.specs.{LatchRules.{count_of, LatchKnowledge, HasTwoCopies}, LatchStages.{IsLatchSeatAt}}
+use Rattle.latch_cell.specs.{Copies.{copy_gap}, LatchRules.{count_of, LatchKnowledge, HasTwoCopies}, LatchStages.{IsLatchSeatAt}}
 use Rattle.latch_cell.proofs.{CopyWords.{opening_copy}, Latching.{IsCountAt, copy_at, its, now, locks_as}}
 use lib.ListN.{get_elem?}
 use mathlib.Core.Option.{some}
@@ -57,14 +57,19 @@ latch_joins o id other v w parts parts' still still' s run at apart g =
 
 -- ---- a new cell
 
-pub latch_opening : (o : Record) → HasTwoCopies o (4 * o.count ∷ o.count ∷ o.values ++ o.values) (first_view o ∷ [])
-latch_opening o =
-    let ws : List ℕ = 4 * o.count ∷ o.count ∷ o.values ++ o.values in
+pub latch_opening : (o : Record) (gap : List ℕ) → length gap ≡ copy_gap (length o.values)
+    → HasTwoCopies o (4 * o.count ∷ o.count ∷ gap ++ o.values ++ gap ++ o.values) (first_view o ∷ [])
+latch_opening o gap wide =
+    let ws : List ℕ = 4 * o.count ∷ o.count ∷ gap ++ o.values ++ gap ++ o.values in
     record {
       history = [];
-      long = let n = length-append o.values o.values in omega (arith, n);
+      long =
+          let m = length-append (gap ++ o.values ++ gap) o.values in
+          let n = length-append (gap ++ o.values) gap in
+          let p = length-append gap o.values in
+          omega (arith, m, n, p, wide);
       count = omega arith;
-      values = record { count = refl; values = ap Some (sym (opening_copy (4 * o.count) o.count o.values (o.count + 0))) };
+      values = record { count = refl; values = ap Some (sym (opening_copy (4 * o.count) o.count gap o.values (o.count + 0) wide)) };
       lock = inl (record { word = omega arith; nobody = refl });
       seats = seats_opened o (LatchKnowledge o [] ws) count_of (moment_now o [] (4 * o.count)) (first_knows (IsCountAt ws) (copy_at o ws) o)
           (sym (rests_now o [] (4 * o.count) o.count refl ∙ ap AtRest (omega arith)));

@@ -1,5 +1,5 @@
 -- What each answer of a read and of a write says of the seat.
-use Rattle.std.specs.Prelude.{◌≡◌, ℕ, ◌+◌, ◌*◌, ◌-◌, ◌^◌, ◌<◌, ◌≤◌, List, ◌⊎◌, length}
+use Rattle.std.specs.Prelude.{◌≡◌, ℕ, ◌+◌, ◌-◌, ◌^◌, ◌<◌, ◌≤◌, List, ◌⊎◌, length}
 use Rattle.solero_cell.specs.declared.answers.CellWrite.{CellWrite}
 use Rattle.solero_cell.specs.declared.answers.CellWrite.TheVariants as wrote
 use Rattle.solero_cell.specs.declared.views.Moment.{Moment}
@@ -12,6 +12,7 @@ use Rattle.solero_cell.specs.Calls.{Seated, IsLost}
 use Rattle.solero_cell.specs.Steps.{HasFoundHeld}
 use Rattle.latch_cell.specs.declared.answers.LatchRead.{LatchRead}
 use Rattle.latch_cell.specs.declared.answers.LatchRead.TheVariants.{Got, Changed}
+use Rattle.latch_cell.specs.Copies.{latch_words}
 use Rattle.latch_cell.specs.LatchRules.{count_of}
 use Rattle.latch_cell.specs.LatchSteps.{has_counted, has_missed, has_published}
 
@@ -19,7 +20,7 @@ use Rattle.latch_cell.specs.LatchSteps.{has_counted, has_missed, has_published}
 pub record IsLatchSeat (s : Seated) : Type 0 where
   pub still : IsStill s.view
   pub share : 0 < s.view.share.parts
-  pub words : s.table_id.words ≡ 2 + 2 * length s.view.opening.values
+  pub words : s.table_id.words ≡ latch_words (length s.view.opening.values)
   pub slots : s.table_id.slots ≡ 0
   pub few : length s.view.opening.values ≤ 64
 

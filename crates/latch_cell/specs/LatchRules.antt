@@ -1,6 +1,6 @@
 -- The rule of a latch cell's table: what its words and the views of its seats are to one another,
 -- between any two steps.
-use Rattle.std.specs.Prelude.{◌≡◌, ℕ, ◌+◌, ◌*◌, List, length, slice_index, ◌⊎◌}
+use Rattle.std.specs.Prelude.{◌≡◌, ℕ, List, length, slice_index, ◌⊎◌}
 use Rattle.std.specs.List.{sum_by}
 use Rattle.machine_types.specs.LockWords.{word_of_lock}
 use Rattle.machine_types.specs.declared.lock.LockWord.TheVariants.{Free}
@@ -12,7 +12,7 @@ use Rattle.solero_cell.specs.Histories.{History, last_count, IsLast}
 use Rattle.solero_cell.specs.Moments.{moment_now}
 use Rattle.solero_cell.specs.CellViews.{record_of}
 use Rattle.solero_cell.specs.CellRules.{SeatKnowledge, ShareHistory, IsHeldByWrite, storing_count}
-use Rattle.latch_cell.specs.Copies.{latch_count, copy_of}
+use Rattle.latch_cell.specs.Copies.{latch_count, latch_words, copy_of}
 
 -- the count of a moment, by which moments come in order
 abbrev pub count_of : Moment → ℕ
@@ -35,7 +35,7 @@ pub record IsLetGo (opening : Record) (h : History) (words : List ℕ) (views : 
 -- or not.
 pub record HasTwoCopies (opening : Record) (words : List ℕ) (views : List View) : Type 0 where
   pub history : History
-  pub long : length words ≡ 2 + 2 * length opening.values
+  pub long : length words ≡ latch_words (length opening.values)
   pub count : latch_count words ≡ last_count opening history
   pub values : IsLast opening history
       (record_of (last_count opening history)

@@ -25,7 +25,7 @@ fn load_values(table: &LatchTable, seat: &mut Seat<(), View>, start: usize, valu
     requires long { length values.old ≡ length table.now.shared.key.values }
     requires start { start
         ≡ copy_start (length table.now.shared.key.values) (note_of seat.old.me.0) }
-    requires low { start ≤ 66 }
+    requires low { start ≤ 96 }
     ensures seat { (seat.new.table_id ≡ seat.old.table_id) × (seat.new.me.1 ≡ seat.old.me.1) }
     ensures loaded { seat.new.me.0 ≡ record seat.old.me.0 { loaded = values.new } }
     ensures long { length values.new ≡ length values.old }

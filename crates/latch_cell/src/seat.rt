@@ -5,6 +5,7 @@ ghost use Rattle.solero_cell.specs.Calls.{IsTableOfSeat};
 ghost use Rattle.solero_cell.specs.CellViews.{first_view, halved, joined_views, newcomer};
 ghost use Rattle.solero_cell.specs.CellViews.{record_of};
 ghost use Rattle.solero_cell.specs.Histories.{AreOfOne};
+ghost use Rattle.latch_cell.specs.Copies.{copy_gap};
 ghost use Rattle.latch_cell.specs.LatchCalls.{IsLatchRead, IsLatchTried, IsLatchWritten};
 
 use crate::answers::LatchRead;
@@ -13,12 +14,9 @@ use crate::{read, steps, write};
 use atomic_table::Seat;
 use lists::Rows;
 use lock_word::{LockWord, word};
-use solero_cell::{CellWrite, MOST_VALUES, Record, View};
+use solero_cell::{CellWrite, MOST_VALUES, Record, View, copy_values};
 use std::alloc::{AllocError, Global};
 use std::marker::Model;
-
-/// For so many values a read makes a small room, which takes less time.
-const FEW_VALUES: usize = 8;
 
 /// A seat at a latch cell, from which one thread reads and writes it. Contracts see its table and
 /// what it knows.
@@ -45,14 +43,16 @@ impl Model for LatchSeat {
         × (s.seat.me.1 ≡ []) × (s.latest ≡ s.seat.me.0.latest.count) };
 }
 
-/// A table with these words, and its first seat.
+/// A table with these words, and its first seat; `_gap` is what stands before each copy.
 fn opened(
     alloc: Global,
     words: &[u64],
     opening: &Record,
+    _gap: &[u64],
 ) -> Result<(LatchTable, Seat<(), View>), AllocError>
-    requires { words.now ≡ 4 * opening.now.count ∷ opening.now.count
-        ∷ opening.now.values ++ opening.now.values }
+    requires words { words.now ≡ 4 * opening.now.count ∷ opening.now.count
+        ∷ _gap.now ++ opening.now.values ++ _gap.now ++ opening.now.values }
+    requires gap { length _gap.now ≡ copy_gap (length opening.now.values) }
     ensures table { IfOk result (λ t.
         (t.0.shared.key ≡ opening.now) × (t.0.shared.table_id.words ≡ length words.now)
         × (t.0.shared.table_id.slots ≡ 0)) }
@@ -75,13 +75,16 @@ pub fn latch(
     ensures first { IfOk result (λ t. t.1.view ≡ first_view (record_of count values.now)) }
 {
     let mut words = Rows::from_slice(alloc, &[word(LockWord::Free(count)), count])?;
+    let gap = &[0; steps::GAP][..steps::copy_gap(values.len())];
+    words.extend_from_slice(gap)?;
     words.extend_from_slice(values.as_slice())?;
+    words.extend_from_slice(gap)?;
     words.extend_from_slice(values.as_slice())?;
     let opening = Record {
         count,
         values: Rows::from_slice(alloc, values.as_slice())?,
     };
-    let (table, seat) = opened(alloc, words.as_slice(), &opening)?;
+    let (table, seat) = opened(alloc, words.as_slice(), &opening, gap)?;
     Ok((
         table,
         LatchSeat {
@@ -105,10 +108,16 @@ impl LatchSeat {
         ensures read { IsLatchRead self.old.view out.old result self.new.view out.new }
     {
         let _count = self.latest;
-        if out.len() <= FEW_VALUES {
-            self.read_few(table, out)
-        } else {
-            self.read_many(table, out)
+        match out.len() {
+            1 => self.read_few::<1>(table, out),
+            2 => self.read_few::<2>(table, out),
+            3 => self.read_few::<3>(table, out),
+            4 => self.read_few::<4>(table, out),
+            5 => self.read_few::<5>(table, out),
+            6 => self.read_few::<6>(table, out),
+            7 => self.read_few::<7>(table, out),
+            8 => self.read_few::<8>(table, out),
+            _ => self.read_many(table, out),
         }
     }
 
@@ -130,17 +139,22 @@ impl LatchSeat {
         answer
     }
 
-    /// A read of few values. It is a call of its own, so that no other read makes its room.
-    #[inline(never)]
-    fn read_few(&mut self, table: &LatchTable, out: &mut [u64]) -> LatchRead
+    /// A read of just so many values, whose room is of their size, so that registers can be it.
+    fn read_few<const N: usize>(&mut self, table: &LatchTable, out: &mut [u64]) -> LatchRead
         requires table { IsTableOfSeat table.now.shared.table_id table.now.shared.key self.old }
         requires out { length out.old ≡ length self.old.view.opening.values }
-        requires few { length out.old ≤ 8 }
+        requires few { length out.old ≡ N }
         ensures table { (self.new.table_id ≡ self.old.table_id)
             × (self.new.view.opening ≡ self.old.view.opening) }
         ensures read { IsLatchRead self.old.view out.old result self.new.view out.new }
     {
-        self.read_by(table, out, &mut [0; FEW_VALUES])
+        let mut room = [0; N];
+        let answer = read::read(table, &mut self.seat, &mut room);
+        if let LatchRead::Got(count) = answer {
+            self.latest = count;
+            copy_values(out, &room);
+        }
+        answer
     }
 
     /// A read of up to as many values as a cell may have, in a call of its own.
@@ -153,19 +167,7 @@ impl LatchSeat {
             × (self.new.view.opening ≡ self.old.view.opening) }
         ensures read { IsLatchRead self.old.view out.old result self.new.view out.new }
     {
-        self.read_by(table, out, &mut [0; MOST_VALUES])
-    }
-
-    /// A read that loads into `room`, and fills `out` from there.
-    #[inline(always)]
-    fn read_by(&mut self, table: &LatchTable, out: &mut [u64], room: &mut [u64]) -> LatchRead
-        requires table { IsTableOfSeat table.now.shared.table_id table.now.shared.key self.old }
-        requires out { length out.old ≡ length self.old.view.opening.values }
-        requires room { length out.old ≤ length room.old }
-        ensures table { (self.new.table_id ≡ self.old.table_id)
-            × (self.new.view.opening ≡ self.old.view.opening) }
-        ensures read { IsLatchRead self.old.view out.old result self.new.view out.new }
-    {
+        let mut room = [0; MOST_VALUES];
         let values = &mut room[..out.len()];
         let answer = read::read(table, &mut self.seat, values);
         if let LatchRead::Got(count) = answer {

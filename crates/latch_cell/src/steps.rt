@@ -5,7 +5,7 @@ ghost use Rattle.solero_cell.specs.CellViews.{IsStill, halved, has_loaded, has_s
 ghost use Rattle.solero_cell.specs.CellViews.{taken_in};
 ghost use Rattle.solero_cell.specs.Stages.{IsJoining, IsLoading, IsNoted, IsStoring};
 ghost use Rattle.solero_cell.specs.Steps.{HasCompared, TellsNote, TellsTake, note_of, storing_of};
-ghost use Rattle.latch_cell.specs.Copies.{copy_start};
+ghost use Rattle.latch_cell.specs.Copies.{copy_gap, copy_start};
 ghost use Rattle.latch_cell.specs.LatchStages.{IsLatchSeatAt};
 ghost use Rattle.latch_cell.specs.LatchSteps.{HasCounted, HasLetGo, HasPublished};
 ghost use Rattle.latch_cell.specs.LatchSteps.{TellsCopyFinish};
@@ -22,17 +22,39 @@ const LOCK: usize = 0;
 /// The word of the count.
 const COUNT: usize = 1;
 
-/// The first word of the copies.
-const COPIES: usize = 2;
+/// The first word behind it.
+const BEHIND: usize = 2;
+
+/// From so many values on they have unused words before them: with the count, fewer than these take
+/// a line of a processor's cache.
+const MANY_VALUES: usize = 4;
+
+/// So many of them, which are two lines of a cache less a word: processors fetch those by pairs.
+pub(crate) const GAP: usize = 15;
+
+/// How many words before each copy of so many values are unused.
+#[inline(always)]
+#[tactic(auto, unfolding(crate::specs::Copies::copy_gap))]
+pub(crate) fn copy_gap(len: usize) -> usize
+    ensures gap { result ≡ copy_gap len }
+    ensures low { result ≤ 15 }
+{
+    if len < MANY_VALUES { 0 } else { GAP }
+}
 
 /// The first word of the copy for a count, of so many values.
 #[inline(always)]
 pub(crate) fn copy_start(len: usize, count: u64) -> usize
     requires few { len ≤ 64 }
     ensures start { result ≡ copy_start len count }
-    ensures low { result ≤ 66 }
+    ensures low { result ≤ 96 }
 {
-    if count % 2 == 0 { COPIES } else { COPIES + len }
+    let gap = copy_gap(len);
+    if count % 2 == 0 {
+        BEHIND + gap
+    } else {
+        BEHIND + 2 * gap + len
+    }
 }
 
 /// A read's load of the count.
@@ -59,7 +81,7 @@ pub(crate) fn load_value(
     requires within { i < length table.now.shared.key.values }
     requires start { start
         ≡ copy_start (length table.now.shared.key.values) (note_of seat.old.me.0) }
-    requires low { start ≤ 66 }
+    requires low { start ≤ 96 }
     ensures seat { (seat.new.table_id ≡ seat.old.table_id) × (seat.new.me.1 ≡ seat.old.me.1) }
     ensures tells { seat.new.me.0 ≡ has_loaded result seat.old.me.0 }
 {
@@ -135,7 +157,7 @@ pub(crate) fn store_value(
     requires within { i < length table.now.shared.key.values }
     requires start { start
         ≡ copy_start (length table.now.shared.key.values) (note_of seat.old.me.0 + 1) }
-    requires low { start ≤ 66 }
+    requires low { start ≤ 96 }
     ensures seat { (seat.new.table_id ≡ seat.old.table_id) × (seat.new.me.1 ≡ seat.old.me.1) }
     ensures tells { seat.new.me.0 ≡ has_stored (storing_of seat.old.me.0) seat.old.me.0 }
 {

@@ -30,7 +30,7 @@ fn store_values(table: &LatchTable, seat: &mut Seat<(), View>, start: usize, val
     requires long { length values.now ≡ length table.now.shared.key.values }
     requires start { start
         ≡ copy_start (length table.now.shared.key.values) (note_of seat.old.me.0 + 1) }
-    requires low { start ≤ 66 }
+    requires low { start ≤ 96 }
     ensures seat { (seat.new.table_id ≡ seat.old.table_id) × (seat.new.me.1 ≡ seat.old.me.1) }
     ensures stored { seat.new.me.0
         ≡ record seat.old.me.0 { storing = Some (record { stored = values.now; left = [] }) } }

@@ -1,5 +1,5 @@
 -- How far a call is, as its view goes on.
-use Rattle.std.proofs.Common.{◌≡◌, ◌≢◌, ℕ, zero, suc, ◌*◌, ◌<◌, ◌≤◌, List, [], ◌∷◌, ◌++◌, length, take, drop, Bool, Some, None, refl, sym, ap, subst, ◌∙◌, slice_get, slice_set, is_some}
+use Rattle.std.proofs.Common.{◌≡◌, ◌≢◌, ℕ, zero, suc, ◌*◌, ◌<◌, ◌≤◌, List, [], ◌∷◌, ◌++◌, length, take, drop, Bool, Some, None, refl, sym, ap, subst, ◌∙◌, slice_get, slice_set, slice_index_or, arith, is_some}
 use Rattle.std.{specs.Prelude.unwrap_or, proofs.{Math.Seq.take-suc-set, lemmas.List.length-take-le}}
 use Rattle.atomic_table.specs.Seated.{TableId}
 use Rattle.solero_cell.specs.{Attempts.{IsBehindGot, IsBehindChanged}, CellViews.{IsStill, record_of, has_loaded, has_looked, forgot, has_read, has_stored, one_stored, taken_in}}
@@ -26,6 +26,14 @@ loading_on i xs v w e le is = subst (IsLoading i) (sym e) (record { noted = is.n
 pub load_on : (i x : ℕ) (xs : List ℕ) (v w w' : View) → w ≡ record v { loaded = take i xs } → i < length xs → w' ≡ has_loaded x w
     → w' ≡ record v { loaded = take (suc i) (slice_set xs i x) }
 load_on i x xs v w w' e lt e' = e' ∙ ap (has_loaded x) e ∙ ap (λ l. record v { loaded = l }) (sym (take-suc-set xs i x lt))
+
+-- a list of one value, by that value
+pub only_value : (xs ys : List ℕ) → length xs ≡ 1 → length ys ≡ 1 → slice_set xs 0 (slice_index_or ys 0 0) ≡ ys
+only_value (x ∷ []) (y ∷ []) a b = refl
+only_value [] ys a b = absurd (omega (arith, a))
+only_value (x ∷ z ∷ xs) ys a b = absurd (omega (arith, a))
+only_value xs [] a b = absurd (omega (arith, b))
+only_value xs (y ∷ z ∷ ys) a b = absurd (omega (arith, b))
 
 -- ---- stores
 

@@ -20,6 +20,7 @@ mod write;
 pub use answers::{CellRead, CellWrite};
 pub use ending::CellEnd;
 pub use laws::added_looks_are_true;
+pub use read::copy_values;
 pub use rule::{
     Attempt, CellRule, CellTable, Compares, Cuts, First, Joins, Last, Loads, Notes, Stores, Takes,
     Writing,

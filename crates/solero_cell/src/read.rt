@@ -93,3 +93,17 @@ pub(crate) fn read(table: &CellTable, seat: &mut Seat<(), View>, values: &mut [u
         answer => answer,
     }
 }
+
+/// Copies values, of which a single one takes a store and no copying of bytes.
+#[inline(always)]
+#[tactic(auto, using(crate::proofs::Going::only_value))]
+pub fn copy_values(out: &mut [u64], values: &[u64])
+    requires { length out.old ≡ length values.now }
+    ensures { out.new ≡ values.now }
+{
+    if values.len() == 1 {
+        out[0] = values[0];
+    } else {
+        out.copy_from_slice(values);
+    }
+}

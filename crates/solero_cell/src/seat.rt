@@ -10,6 +10,7 @@ ghost use Rattle.solero_cell.specs.Histories.{AreOfOne};
 
 use crate::answers::{CellRead, CellWrite};
 use crate::ending::CellEnd;
+use crate::read::copy_values;
 use crate::rule::CellTable;
 use crate::views::{Record, View};
 use crate::{read, steps, write};
@@ -21,9 +22,6 @@ use std::marker::Model;
 
 /// The most values of a cell.
 pub const MOST_VALUES: usize = 64;
-
-/// For so many values a read makes a small room, which takes less time.
-const FEW_VALUES: usize = 8;
 
 /// A seat at a cell, from which one thread reads and writes it. Contracts see its table and what it
 /// knows.
@@ -106,10 +104,16 @@ impl CellSeat {
         ensures read { IsCellRead self.old.view out.old result self.new.view out.new }
     {
         let _count = self.latest;
-        if out.len() <= FEW_VALUES {
-            self.read_few(table, out)
-        } else {
-            self.read_many(table, out)
+        match out.len() {
+            1 => self.read_few::<1>(table, out),
+            2 => self.read_few::<2>(table, out),
+            3 => self.read_few::<3>(table, out),
+            4 => self.read_few::<4>(table, out),
+            5 => self.read_few::<5>(table, out),
+            6 => self.read_few::<6>(table, out),
+            7 => self.read_few::<7>(table, out),
+            8 => self.read_few::<8>(table, out),
+            _ => self.read_many(table, out),
         }
     }
 
@@ -131,17 +135,22 @@ impl CellSeat {
         answer
     }
 
-    /// A read of few values. It is a call of its own, so that no other read makes its room.
-    #[inline(never)]
-    fn read_few(&mut self, table: &CellTable, out: &mut [u64]) -> CellRead
+    /// A read of just so many values, whose room is of their size, so that registers can be it.
+    fn read_few<const N: usize>(&mut self, table: &CellTable, out: &mut [u64]) -> CellRead
         requires table { IsTableOfSeat table.now.shared.table_id table.now.shared.key self.old }
         requires out { length out.old ≡ length self.old.view.opening.values }
-        requires few { length out.old ≤ 8 }
+        requires few { length out.old ≡ N }
         ensures table { (self.new.table_id ≡ self.old.table_id)
             × (self.new.view.opening ≡ self.old.view.opening) }
         ensures read { IsCellRead self.old.view out.old result self.new.view out.new }
     {
-        self.read_by(table, out, &mut [0; FEW_VALUES])
+        let mut room = [0; N];
+        let answer = read::read(table, &mut self.seat, &mut room);
+        if let CellRead::Got(count) = answer {
+            self.latest = count;
+            copy_values(out, &room);
+        }
+        answer
     }
 
     /// A read of up to as many values as a cell may have, in a call of its own.
@@ -154,19 +163,7 @@ impl CellSeat {
             × (self.new.view.opening ≡ self.old.view.opening) }
         ensures read { IsCellRead self.old.view out.old result self.new.view out.new }
     {
-        self.read_by(table, out, &mut [0; MOST_VALUES])
-    }
-
-    /// A read that loads into `room`, and fills `out` from there.
-    #[inline(always)]
-    fn read_by(&mut self, table: &CellTable, out: &mut [u64], room: &mut [u64]) -> CellRead
-        requires table { IsTableOfSeat table.now.shared.table_id table.now.shared.key self.old }
-        requires out { length out.old ≡ length self.old.view.opening.values }
-        requires room { length out.old ≤ length room.old }
-        ensures table { (self.new.table_id ≡ self.old.table_id)
-            × (self.new.view.opening ≡ self.old.view.opening) }
-        ensures read { IsCellRead self.old.view out.old result self.new.view out.new }
-    {
+        let mut room = [0; MOST_VALUES];
         let values = &mut room[..out.len()];
         let answer = read::read(table, &mut self.seat, values);
         if let CellRead::Got(count) = answer {

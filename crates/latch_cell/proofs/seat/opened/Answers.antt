@@ -5,4 +5,4 @@ use Rattle.latch_cell.proofs.seat.opened.Goals as goal
 
 pub of_words-requires : goal.of_words-requires
 of_words-requires c =
-    subst (λ ws. HasTwoCopies c.args.opening.now ws (first_view c.args.opening.now ∷ [])) (sym c.requires) (latch_opening c.args.opening.now)
+    subst (λ ws. HasTwoCopies c.args.opening.now ws (first_view c.args.opening.now ∷ [])) (sym c.requires.words) (latch_opening c.args.opening.now c.args._gap.now c.requires.gap)

@@ -1,6 +1,6 @@
-use Rattle.std.proofs.Common.{◌≡◌, ◌+◌, ◌*◌, ◌≤◌, length, subst, sym, arith}
+use Rattle.std.proofs.Common.{◌≡◌, ◌+◌, ◌≤◌, length, subst, sym, arith}
 use Rattle.solero_cell.{specs.{CellViews.has_stored, Steps.{note_of, storing_of}}, proofs.Allowing.{any_write_allows}}
-use Rattle.latch_cell.{specs.LatchRules.HasTwoCopies, proofs.{CopyWords.{copy_high}, LatchWrites.{store_step}}}
+use Rattle.latch_cell.{specs.{Copies.latch_words, LatchRules.HasTwoCopies}, proofs.{CopyWords.{copy_high}, LatchWrites.{store_step}}}
 use Rattle.latch_cell.proofs.steps.store_value.Goals as goal
 
 pub store-requires : goal.store-requires
@@ -8,5 +8,5 @@ store-requires c =
     let shared = c.args.table.now.shared in
     let seat = c.args.seat.now in
     let is = c.requires.seat in
-    let high : c.args.start + length shared.key.values ≤ 2 + 2 * length shared.key.values = subst (λ k. k + length shared.key.values ≤ 2 + 2 * length shared.key.values) (sym c.requires.start) (copy_high (length shared.key.values) (note_of seat.me.0 + 1)) in
+    let high : c.args.start + length shared.key.values ≤ latch_words (length shared.key.values) = subst (λ k. k + length shared.key.values ≤ latch_words (length shared.key.values)) (sym c.requires.start) (copy_high (length shared.key.values) (note_of seat.me.0 + 1)) in
     (is.of, omega (arith, is.words, c.requires.within, high), any_write_allows (HasTwoCopies shared.key) shared.table_id.slots seat.id (c.args.start + c.args.i) (λ n. c.args.value) seat.me (λ x w. w ≡ has_stored (storing_of seat.me.0) seat.me.0) (λ ws views s at. store_step shared.key seat.id seat.me.0 is.share ws views s at c.args.i c.requires.storing.0 c.args.value c.args.start c.requires.start c.requires.storing.1))
