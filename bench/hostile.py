@@ -19,7 +19,8 @@ import tempfile
 import time
 
 from measure import PROGRAM, answer_help
-from class_builder import STATIC, ClassFile, handler_row, opcodes, u1, u4
+import dear_classes as dears
+from class_builder import STATIC, ClassFile, handler_row, opcodes, u1
 
 LIMIT = 120
 MOST = 40 * 1024**3
@@ -74,28 +75,8 @@ def one_descriptor(methods):
     return [file.content()]
 
 
-def switch_back(arms, instructions=3200):
-    """A switch whose arms lead back over a body, in which each local takes the value of the next one, so that a type
-    goes from local to local by one more with each time that the switch is visited."""
-    file = ClassFile("A")
-    shift = b"\x2a\x3a\xff" + b"".join(b"\x19" + u1(i + 1) + b"\x3a" + u1(i) for i in range(1, 255))
-    start = b"".join(ACONST_NULL + b"\x3a" + u1(i) for i in range(1, 256))
-    body = shift + NOP * (instructions - 512)
-    code = start + body + ICONST_0
-    at = len(code)
-    pad = b"\0" * (-(at + 1) % 4)
-    # the arms lead to places that begin instructions: the shift's loads, then the nops
-    places = [len(start) + 3 + 4 * i for i in range(254)] + list(range(len(start) + len(shift), at - 1))
-    places = places[:arms]
-    ways = [place - at for place in places]
-    code += b"\xaa" + pad + signed(ways[0]) + signed(0) + signed(len(ways) - 1) + b"".join(signed(way) for way in ways)
-    file.method(STATIC, "m", "(LA;)V", code, 1, 256)
-    file.method(STATIC, "init", "()V", RETURN, 0, 0)
-    return [file.content()]
-
-
-def signed(n):
-    return u4(n & 0xFFFFFFFF)
+def switch_back(arms):
+    return [dears.switch_back(arms, 3200)]
 
 
 def handler_rows(rows, instructions=2000):
@@ -106,6 +87,46 @@ def handler_rows(rows, instructions=2000):
     file.method(STATIC, "m", "()V", code, 1, 0, handlers)
     file.method(STATIC, "init", "()V", RETURN, 0, 0)
     return [file.content()]
+
+
+def deep_stack(depth):
+    """A stack of that depth under 65,000 instructions."""
+    return [dears.deep_stack(depth, 65000)]
+
+
+def coloured_stack(depth):
+    """The same in a class with an array of its own."""
+    return [dears.deep_stack(depth, 65000, coloured=True)]
+
+
+def loops(methods):
+    """Loops of 32,000 instructions, in which no frame shares what the one before it has."""
+    return [dears.rejoined(3, 32000, methods)]
+
+
+def nothing(methods):
+    """Methods of 65,000 instructions that do nothing, 16 a file."""
+    return dears.plain_files((methods + 15) // 16, min(methods, 16), 65000)
+
+
+def empty_methods(files):
+    """Files with 29,000 methods that return."""
+    return dears.plain_files(files, 29000, 1)
+
+
+def fields(files):
+    """Files with 40,000 fields, each of which has an attribute."""
+    return dears.fields(files, 40000, 1)
+
+
+def attributes(files):
+    """Files with two fields of 65,535 attributes."""
+    return dears.fields(files, 2, 65535)
+
+
+def names(files):
+    """Files with 65,000 names of one letter."""
+    return dears.names(files, 65000)
 
 
 def measured(paths):
@@ -145,6 +166,19 @@ FILES = (
     (switch_back, 800),
     (handler_rows, 1000),
     (handler_rows, 4000),
+    (deep_stack, 60),
+    (deep_stack, 61),
+    (coloured_stack, 60),
+    (loops, 2),
+    (loops, 30),
+    (nothing, 16),
+    (nothing, 256),
+    (empty_methods, 9),
+    (empty_methods, 16),
+    (fields, 15),
+    (fields, 16),
+    (attributes, 16),
+    (names, 64),
 )
 
 

@@ -239,16 +239,16 @@ def blocks(count):
 
 
 SHAPES = (
-    (decoding, "methods", (60, 120, 240, 480)),
-    (straight, "methods", (8, 16, 32)),
+    (decoding, "methods", (4, 8, 16)),
+    (straight, "methods", (4, 8, 16)),
     (branches, "methods", (15, 30, 60)),
     (joins, "methods", (8, 16, 32)),
-    (tagging, "methods", (8, 16, 32)),
-    (linking, "files", (16, 32, 64)),
-    (unmarked, "files", (16, 32, 64)),
-    (marking, "files", (16, 32, 64)),
+    (tagging, "methods", (4, 8, 16)),
+    (linking, "files", (1, 2, 4)),
+    (unmarked, "files", (4, 8, 16)),
+    (marking, "files", (4, 8, 16)),
     (shared, "constants", (15000, 30000, 60000)),
-    (small, "files", (16, 32, 64)),
+    (small, "files", (8, 16, 32)),
     (loops, "files", (16, 32, 64)),
     (covered, "rows", (2500, 5000, 10000)),
     (blocks, "blocks", (1000, 2000, 4000)),

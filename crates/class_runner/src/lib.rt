@@ -1,11 +1,13 @@
 //! Loads the files of a program.
 #![tactic(auto)]
 
+mod budget;
 mod decoding;
 mod linking;
 pub mod loading;
 pub mod loading_laws;
 mod reading;
+mod reckoning;
 mod tagging;
 mod verifying;
 

@@ -10,9 +10,10 @@ ghost use Rattle.checked_program.specs.MarkedProgram.{AreTaggings};
 ghost use Rattle.class_runner.specs.Stages.{own_methods, IsTaggedAt, IsUntaggedAt, IsNotTagged};
 ghost use Rattle.class_runner.specs.Stages.{AreTaggedSoFar};
 
+use crate::budget::frames_budget;
 use crate::loading::FileError;
 use checked_program::Tags;
-use code_verifier::{Budget, MOST_KEPT};
+use code_verifier::Budget;
 use jvm_types::limits::{MOST_FILES, MOST_METHODS};
 use jvm_types::{ClassFile, Program, Rows, Rule, in_method};
 use monitor_tags::{TagError, tag_within};
@@ -76,8 +77,8 @@ fn tag_class(
 }
 
 /// The lock tags of each method of the program that the classes are linked to, in order. The
-/// first method that has none refuses the files. All tags together keep at most `MOST_KEPT` bytes;
-/// where they would keep more, memory is wanting.
+/// first method that has none refuses the files. What all tags keep together is taken from one
+/// budget; where that is spent, memory is wanting.
 pub fn tag_files(
     alloc: Global,
     classes: &[ClassFile],
@@ -91,7 +92,7 @@ pub fn tag_files(
     ensures refused { IfErr result
         (λ e. IsNotTagged program.now (declared_methods classes.now) program.now.methods e) }
 {
-    let mut budget = Budget::of(MOST_KEPT);
+    let mut budget = frames_budget(classes, program);
     let mut tags = Rows::new(alloc);
     for (file, class) in classes.iter().enumerate() {
         tag_class(alloc, program, file as u16, class, &mut tags, &mut budget)?;

@@ -10,8 +10,9 @@ ghost use Rattle.checked_program.specs.CheckedProgram.{AreTypings};
 ghost use Rattle.class_runner.specs.Stages.{own_methods, IsTypedAt, IsUntypedAt, IsUnverified};
 ghost use Rattle.class_runner.specs.Stages.{AreTypedSoFar};
 
+use crate::budget::frames_budget;
 use crate::loading::FileError;
-use code_verifier::{Budget, MOST_KEPT, VerifyError, verify_within};
+use code_verifier::{Budget, VerifyError, verify_within};
 use jvm_types::limits::{MOST_FILES, MOST_METHODS};
 use jvm_types::{ClassFile, Program, Rows, Rule, Typing, in_method};
 use std::alloc::Global;
@@ -71,8 +72,8 @@ fn verify_class(
 }
 
 /// The typing of each method of the program that the classes are linked to, in order. The first
-/// method that has none refuses the files. All typings together keep at most `MOST_KEPT` bytes;
-/// where they would keep more, memory is wanting.
+/// method that has none refuses the files. What all typings keep together is taken from one
+/// budget; where that is spent, memory is wanting.
 pub fn verify_files(
     alloc: Global,
     classes: &[ClassFile],
@@ -86,7 +87,7 @@ pub fn verify_files(
     ensures refused { IfErr result
         (λ e. IsUnverified program.now (declared_methods classes.now) program.now.methods e) }
 {
-    let mut budget = Budget::of(MOST_KEPT);
+    let mut budget = frames_budget(classes, program);
     let mut typings = Rows::new(alloc);
     for (file, class) in classes.iter().enumerate() {
         verify_class(

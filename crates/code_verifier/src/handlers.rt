@@ -20,6 +20,9 @@ use jvm_types::class_numbers::THROWABLE_CLASS;
 use jvm_types::{MethodInfo, Row, TypeFrame, VRule};
 use std::alloc::{AllocError, Global};
 
+/// What the look at a row is reckoned at, in bytes, besides one for each local.
+const ROW_BYTES: usize = 4;
+
 /// The class that a handler row catches.
 fn caught_class(row: &Row) -> u16
     ensures { result ≡ caught_class row.now }
@@ -84,6 +87,7 @@ fn catch_row(
         nodes.new result }
     ensures level { OnOk result (HaveLocals m.now nodes.new) }
 {
+    nodes.spend(ROW_BYTES.saturating_add(f.first_locals().len()))?;
     if let Some((rule, at)) = catch_fault(m.method(), pc, row) {
         return Err(Stop::Refused(rule, at));
     }

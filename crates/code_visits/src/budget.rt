@@ -1,18 +1,20 @@
-//! How much memory visits may keep.
+//! How much memory visits may keep, and how much they may do.
 
 ghost use Rattle.std.specs.Prelude.{◌≡◌, ◌+◌, ◌<◌, min, OnOk, OnErr};
 
 use std::alloc::AllocError;
 use std::marker::Model;
 
-/// The bytes that one analysis of a program keeps at most: 512 MiB. Where it would keep more,
-/// memory is wanting.
-pub const MOST_KEPT: usize = 536870912;
+/// The bytes that an analysis of one method alone keeps at most: 64 MiB. Where it would keep more,
+/// memory is wanting. What analyses of all methods keep together has a budget of the program.
+pub const MOST_KEPT: usize = 67108864;
 
-/// How many bytes may still be kept, which contracts see as that number.
+/// How many bytes may still be kept, which contracts see as that number; and for how many more
+/// bytes may be done what is reckoned so, of which contracts see nothing.
 #[derive(Debug, Drop)]
 pub struct Budget {
     left: usize,
+    work: usize,
 }
 
 impl Model for Budget {
@@ -24,16 +26,30 @@ impl Model for Budget {
 }
 
 impl Budget {
+    /// So many bytes may be kept, and work for as many more be done.
     pub fn of(bytes: usize) -> Budget
         ensures { result ≡ bytes }
     {
-        Budget { left: bytes }
+        Budget {
+            left: bytes,
+            work: bytes,
+        }
     }
 
-    pub fn left(&self) -> usize
+    /// So many bytes may be kept, and work for so many done.
+    pub fn with_work(bytes: usize, work: usize) -> Budget
+        ensures { result ≡ bytes }
+    {
+        Budget { left: bytes, work }
+    }
+
+    pub(crate) fn copy(&self) -> Budget
         ensures { result ≡ self.now }
     {
-        self.left
+        Budget {
+            left: self.left,
+            work: self.work,
+        }
     }
 
     /// Takes so many bytes, where there are so many.
@@ -49,10 +65,22 @@ impl Budget {
         Ok(())
     }
 
-    /// No more than so many are left.
-    pub fn lower(&mut self, left: usize)
-        ensures { self.new ≡ min self.old left }
+    /// Takes work for so many bytes, where there is as much.
+    pub fn spend(&mut self, bytes: usize) -> Result<(), AllocError>
+        ensures { self.new ≡ self.old }
     {
-        self.left = self.left.min(left);
+        if self.work < bytes {
+            return Err(AllocError);
+        }
+        self.work -= bytes;
+        Ok(())
+    }
+
+    /// No more is left than of another.
+    pub(crate) fn lower(&mut self, other: &Budget)
+        ensures { self.new ≡ min self.old other.now }
+    {
+        self.left = self.left.min(other.left);
+        self.work = self.work.min(other.work);
     }
 }

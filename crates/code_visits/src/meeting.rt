@@ -10,6 +10,9 @@ use crate::frames::Frames;
 use crate::nodes::{Nodes, meet_at};
 use std::alloc::{AllocError, Global};
 
+/// What an edge is reckoned at, in bytes, besides an eighth of the frame that it brings.
+const EDGE_BYTES: usize = 8;
+
 /// Whether the instruction of this number has a frame that meeting another doesn't change.
 fn stays_at<D: Frames>(nodes: &Nodes<D::Frame>, i: usize, f: &D::Frame) -> bool
     requires { IsAsWide D.meeting D.width (plan_node_at nodes.now i).frame f.now }
@@ -23,8 +26,8 @@ fn stays_at<D: Frames>(nodes: &Nodes<D::Frame>, i: usize, f: &D::Frame) -> bool
     }
 }
 
-/// An edge brings a frame to the instruction of this number.
-pub fn bring_to<D: Frames>(
+/// An edge brings a frame to the instruction of this number: the frame there stays, or both meet.
+fn join_at<D: Frames>(
     alloc: Global,
     nodes: &mut Nodes<D::Frame>,
     i: usize,
@@ -42,6 +45,22 @@ pub fn bring_to<D: Frames>(
         nodes.wait(i)?;
     }
     Ok(())
+}
+
+/// An edge brings a frame to the instruction of this number, which is reckoned by the frame.
+pub fn bring_to<D: Frames>(
+    alloc: Global,
+    nodes: &mut Nodes<D::Frame>,
+    i: usize,
+    f: &D::Frame,
+) -> Result<(), AllocError>
+    requires inside { i < length nodes.old }
+    requires fits { IsAsWide D.meeting D.width (plan_node_at nodes.old i).frame f.now }
+    ensures { OnOk result (nodes.new ≡ slice_set nodes.old i (joined D.meeting
+        (plan_node_at nodes.old i).waits (plan_node_at nodes.old i).frame f.now)) }
+{
+    nodes.spend(EDGE_BYTES.saturating_add(D::bytes_of(f) / 8))?;
+    join_at::<D>(alloc, nodes, i, f)
 }
 
 /// The last edge brings a frame to the instruction of this number; the frame itself is kept where

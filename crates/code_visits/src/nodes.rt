@@ -1,7 +1,7 @@
 //! What is known of each instruction in the course of the visits.
 
 ghost use Rattle.std.specs.Prelude.{◌≡◌, ◌<◌, length, map, not, replicate, slice_set, true, false};
-ghost use Rattle.std.specs.Prelude.{IfOk, OnOk, Some};
+ghost use Rattle.std.specs.Prelude.{◌≤◌, IfOk, OnOk, Some};
 ghost use Rattle.std.specs.Option.{option_copied, IfSome, IfNone};
 ghost use Rattle.checked_program.specs.Visits.{next_waiting, unreached};
 ghost use Rattle.code_visits.specs.Waiting.{plan_node_at, met, changes};
@@ -13,6 +13,9 @@ use jvm_types::Rows;
 use std::alloc::{AllocError, Global};
 use std::collections::{BTreeMap, BTreeSet};
 use std::marker::Model;
+
+/// What a visit is reckoned at, in bytes.
+const VISIT_BYTES: usize = 64;
 
 /// What is known of an instruction: the frame that its edges met in, and whether that has changed
 /// since it was visited.
@@ -114,9 +117,19 @@ impl<F: Drop> Nodes<F> {
         })
     }
 
-    /// How many bytes may still be kept.
-    pub(crate) fn bytes_left(&self) -> usize {
-        self.budget.left()
+    /// Leaves no more in a budget than these visits left of theirs.
+    pub(crate) fn lower(&self, budget: &mut Budget)
+        ensures { budget.new ≤ budget.old }
+    {
+        budget.lower(&self.budget);
+    }
+
+    /// Takes work that is reckoned at so many bytes from what visits may do; where not as much is
+    /// left, memory is wanting.
+    pub fn spend(&mut self, bytes: usize) -> Result<(), AllocError>
+        ensures { self.new ≡ self.old }
+    {
+        self.budget.spend(bytes)
     }
 
     /// The frame of the instruction of this number.
@@ -167,12 +180,13 @@ impl<F: Drop> Nodes<F> {
         Some(i)
     }
 
-    /// The instruction of this number waits.
+    /// The instruction of this number waits for a visit, which is reckoned now.
     pub(crate) fn wait(&mut self, i: usize) -> Result<(), AllocError>
         requires { i < length self.old }
         ensures { OnOk result
             (self.new ≡ slice_set self.old i (record (plan_node_at self.old i) { waits = true })) }
     {
+        self.budget.spend(VISIT_BYTES)?;
         self.waiting.insert(i)?;
         self.nodes[i].waits = true;
         Ok(())
@@ -186,6 +200,7 @@ impl<F: Drop> Nodes<F> {
             (self.new ≡ slice_set self.old i (record { frame = Some f; waits = true })) }
     {
         self.budget.take(bytes)?;
+        self.budget.spend(VISIT_BYTES)?;
         self.waiting.insert(i)?;
         self.nodes[i] = StoredNode {
             frame: Some(f),

@@ -56,8 +56,8 @@ fn settle<D: Analysis>(
 
 /// The last frames of a method whose instructions follow one another, each with a target: the
 /// instruction that is visited next is always the waiting one of least pc. Or the rule and the pc
-/// of the first visit that breaks one. What is kept is taken from the budget; where that is spent,
-/// memory is wanting.
+/// of the first visit that breaks one. What is kept and done is taken from the budget; where that
+/// is spent, memory is wanting.
 pub fn visit_all<D: Analysis>(
     alloc: Global,
     p: &Program,
@@ -70,8 +70,8 @@ pub fn visit_all<D: Analysis>(
     ensures spent { budget.new ≤ budget.old }
 {
     let indexed = HandledMethod::of(alloc, m)?;
-    let mut nodes = first_nodes::<D>(alloc, m, Budget::of(budget.left()))?;
+    let mut nodes = first_nodes::<D>(alloc, m, budget.copy())?;
     settle::<D>(alloc, p, &indexed, &mut nodes)?;
-    budget.lower(nodes.bytes_left());
+    nodes.lower(budget);
     Ok(nodes.into_frames(alloc)?)
 }

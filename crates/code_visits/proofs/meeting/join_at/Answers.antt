@@ -1,7 +1,7 @@
 use Rattle.std.proofs.{Common.{◌≡◌, ◌<◌, ℕ, Bool, true, false, not, List, length, Option, Some, None, refl, sym, ap, ◌∙◌, ◌||◌, slice_get, slice_set}, lemmas.{Bool.or_right, List.set-set}}
 use Rattle.checked_program.specs.Visits.{Meeting, PlanNode, joined}
 use Rattle.code_visits.{specs.Waiting.{plan_node_at, met, changes}, proofs.WaitingLaws.{node_at_get, set_here}}
-use Rattle.code_visits.proofs.meeting.bring_to.Goals as goal
+use Rattle.code_visits.proofs.meeting.join_at.Goals as goal
 
 or_false : (a b : Bool) → b ≡ false → (a || b) ≡ a
 or_false true b e = refl

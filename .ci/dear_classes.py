@@ -1,0 +1,269 @@
+"""Class files that are dear to load for their size, for `.ci/limits` and `bench/hostile.py`."""
+from class_builder import STATIC, ClassFile, Code, handler_row, opcodes, u1, u2, u4
+from limit_classes import PRIVATE
+
+NOP, POP, RETURN = opcodes("nop pop return")
+ICONST_0, ICONST_1, ACONST_NULL = opcodes("iconst_0 iconst_1 aconst_null")
+ALOAD, ALOAD_0, ISTORE, ISTORE_1 = opcodes("aload aload_0 istore istore_1")
+ASTORE, ASTORE_1 = opcodes("astore astore_1")
+MONITORENTER, MONITOREXIT, STATIC_CALL = opcodes("monitorenter monitorexit invokestatic")
+NEWARRAY, IFEQ, IDIV = opcodes("newarray ifeq idiv")
+GETSTATIC, GETFIELD, PUTFIELD = opcodes("getstatic getfield putfield")
+TABLESWITCH = b"\xaa"
+
+
+def with_init(file):
+    """The class, with an `init` that does nothing."""
+    file.method(STATIC, "init", "()V", RETURN, 0, 0)
+    return file.content()
+
+
+def with_array(file):
+    """A private field of an array, which the constructor makes: the stacks of all methods are then
+    coloured."""
+    file.field(PRIVATE, "v", "[I")
+    code = Code(file)
+    code.put(ALOAD_0)
+    code.initialize()
+    field = file.member(9, "A", "v", "[I")
+    code.put(ALOAD_0, ICONST_1, NEWARRAY, u1(10), PUTFIELD, u2(field), RETURN)
+    code.method(flags=0, name="<init>")
+    return field
+
+
+def deep_stack(depth, size, coloured=False):
+    """A method of so many instructions that pushes so many numbers, does nothing for a while, and
+    takes them off."""
+    file = ClassFile("A")
+    if coloured:
+        with_array(file)
+    code = ICONST_0 * depth + NOP * (size - 1 - 2 * depth) + POP * depth + RETURN
+    file.method(STATIC, "m", "()V", code, depth, 0)
+    return with_init(file)
+
+
+def deep_stacks(methods, depth, size):
+    """The same, so many methods of it."""
+    file = ClassFile("A")
+    code = ICONST_0 * depth + NOP * (size - 1 - 2 * depth) + POP * depth + RETURN
+    for method in range(methods):
+        file.method(STATIC, f"m{method}", "()V", code, depth, 0)
+    return with_init(file)
+
+
+def plain_files(files, methods, size):
+    """Files with so many methods, each of so many bytes, that do nothing."""
+    contents = []
+    for number in range(files):
+        file = ClassFile(f"A{number}")
+        for method in range(methods):
+            file.method(STATIC, f"m{method}", "()V", NOP * (size - 1) + RETURN, 0, 0)
+        contents.append(file.content())
+    return contents
+
+
+def fields(files, count, attributes):
+    """Files with so many fields, which have so many empty attributes each."""
+    contents = []
+    for number in range(files):
+        file = ClassFile(f"A{number}")
+        attribute = file.attribute("X", b"")
+        for field in range(count):
+            file.field(0, f"f{field}", "I", [attribute] * attributes)
+        contents.append(file.content())
+    return contents
+
+
+def names(files, count):
+    """Files with so many names of one letter, all the same."""
+    contents = []
+    for number in range(files):
+        file = ClassFile(f"A{number}")
+        file.entries += [u1(1) + u2(1) + b"a"] * count
+        contents.append(file.content())
+    return contents
+
+
+def rejoined(depth, count, methods):
+    """Methods of a loop of so many instructions under a stack of that depth and in a monitor, in
+    which nothing is known of two locals from the second round on, so that no frame shares what the
+    one before it has."""
+    file = ClassFile("A")
+    for method in range(methods):
+        code = (ALOAD_0 + ASTORE_1) + ALOAD_0 + MONITORENTER
+        start = len(code)
+        code += ALOAD_0 * depth + NOP * count + POP * depth + ICONST_0 + ISTORE_1 + ICONST_0
+        code += IFEQ + u2(start - len(code) & 0xFFFF)
+        code += ALOAD_0 + MONITOREXIT + RETURN
+        file.method(0, f"m{method}", "()V", code, depth + 1, 2)
+    return with_init(file)
+
+
+def joins(count, locals_):
+    """Branches over a store, so that a local is null on one way and a number, or unknown, on the
+    other."""
+    code = b""
+    for number in range(count):
+        code += ICONST_0 + IFEQ + u2(6) + ACONST_NULL + ASTORE + u1(number % locals_)
+    file = ClassFile("A")
+    file.method(STATIC, "m", "()V", code + RETURN, 2, locals_)
+    return with_init(file)
+
+
+def written_locals(count, written):
+    """A method of so many constants that are pushed and dropped, behind writes of its first
+    locals."""
+    code = b"".join(ICONST_0 + ISTORE + u1(local) for local in range(written))
+    file = ClassFile("A")
+    file.method(STATIC, "m", "()V", code + (ICONST_0 + POP) * count + RETURN, 1, 65535)
+    return with_init(file)
+
+
+def shared_descriptor(methods, arguments):
+    """Methods that share a descriptor of so many arguments."""
+    file = ClassFile("A")
+    for number in range(methods):
+        file.method(STATIC, f"m{number}", f"({'I' * arguments})V", RETURN, 0, arguments)
+    return with_init(file)
+
+
+def shared_name(constants, length):
+    """Constants of one field, whose name is so long, each used by an instruction."""
+    file = ClassFile("A")
+    name = "n" * length
+    file.field(STATIC, name, "I")
+    file.member(9, "A", name, "I")
+    pair = file.add(u1(12) + u2(file.text(name)) + u2(file.text("I")))
+    first = len(file.entries) + 1
+    file.entries += [u1(9) + u2(file.this) + u2(pair)] * constants
+    code = b"".join(GETSTATIC + u2(first + number) + POP for number in range(constants))
+    file.method(STATIC, "m", "()V", code + RETURN)
+    return with_init(file)
+
+
+def calls(methods):
+    """Methods of which each calls the next two."""
+    file = ClassFile("A")
+    members = [file.member(10, "A", f"m{number}", "()V") for number in range(methods)]
+    for number in range(methods):
+        code = b"".join(STATIC_CALL + u2(member) for member in members[number + 1 : number + 3])
+        file.method(STATIC, f"m{number}", "()V", code + RETURN, 0, 0)
+    return with_init(file)
+
+
+def wide_switch(arms):
+    """A switch with so many arms, which all lead to one place."""
+    pad = bytes(2)
+    size = 1 + 3 + 12 + 4 * arms
+    way = u4(size - 1)
+    code = ICONST_0 + TABLESWITCH + pad + way + u4(0) + u4(arms - 1) + way * arms + RETURN
+    file = ClassFile("A")
+    file.method(STATIC, "m", "()V", code, 1, 0)
+    return with_init(file)
+
+
+def divisions(count):
+    """So many divisions, of which each can throw, in twice as many bytes and two."""
+    return ICONST_1 + (ICONST_1 + IDIV) * count + POP
+
+
+def owned_rows(body, rows, handlers):
+    """A class with a private array field, and a method whose code so many rows cover, with so many
+    handlers in all; the first handler is also reached with the array on the stack."""
+    file = ClassFile("A")
+    field = with_array(file)
+    caught = file.of_class("java/lang/ArithmeticException")
+    end = len(body)
+    code = body + ALOAD_0 + GETFIELD + u2(field)
+    first = len(code)
+    code += (POP + RETURN) * handlers
+    covering = [handler_row(0, end, first + 2 * (row % handlers), caught) for row in range(rows)]
+    file.method(0, "m", "()V", code, 2, 1, covering)
+    return with_init(file)
+
+
+def cut_rows(throws, cuts, rows, handlers, parts):
+    """A method with so many divisions, which so many rows cover that catch one class, with so many
+    handlers. Every second division has a row of its own that catches all, up to so many of these;
+    they stand in so many parts before the other rows, so that what an exception may go to ends at
+    another row from one division to the next."""
+    file = ClassFile("A")
+    caught = file.of_class("java/lang/ArithmeticException")
+    code = divisions(throws)
+    end = len(code)
+    code += RETURN
+    first = len(code)
+    code += (POP + RETURN) * handlers
+    wide = [handler_row(0, end, first + 2 * (row % handlers), caught) for row in range(rows)]
+    ends = [handler_row(4 * number + 2, 4 * number + 3, first) for number in range(cuts)]
+    table = []
+    for part in range(parts):
+        table += ends[part::parts] + wide[part::parts]
+    file.method(STATIC, "m", "()V", code, 2, 1, table)
+    return with_init(file)
+
+
+def covered(file, start, body, rows, handlers, flags, name, places):
+    """A method whose code begins with `start`, and goes on with a body that so many rows cover, with
+    so many handlers. The rows catch one class."""
+    caught = file.of_class("java/lang/ArithmeticException")
+    begin = len(start)
+    end = begin + len(body)
+    first = end + 1
+    covering = [
+        handler_row(begin, end, first + 2 * (row % handlers), caught) for row in range(rows)
+    ]
+    code = start + body + RETURN + (POP + RETURN) * handlers
+    file.method(flags, name, "()V", code, 2, places, covering)
+    return with_init(file)
+
+
+def killed_locals(count, rows, handlers):
+    """Code that gives numbers to so many locals and then null to one after the other, which so many
+    rows cover."""
+    start = b"".join(ICONST_0 + ISTORE + u1(local) for local in range(count))
+    body = b"".join(
+        ACONST_NULL + ASTORE + u1(local) + ICONST_1 * 2 + IDIV + POP for local in range(count)
+    )
+    return covered(ClassFile("A"), start, body, rows, handlers, STATIC, "m", count)
+
+
+def swapped_locals(count, rounds, rows, handlers):
+    """Code whose locals are numbers or null, others before each instruction: as the bits of a count
+    that changes one at a time."""
+    start = b"".join(ICONST_0 + ISTORE + u1(local) for local in range(count))
+    body = b""
+    is_null = [False] * count
+    for number in range(1, rounds + 1):
+        bit = ((number & -number).bit_length() - 1) % count
+        is_null[bit] = not is_null[bit]
+        body += (ACONST_NULL + ASTORE if is_null[bit] else ICONST_0 + ISTORE) + u1(bit)
+    return covered(ClassFile("A"), start, body, rows, handlers, STATIC, "m", count)
+
+
+def switch_back(arms, instructions):
+    """A switch whose arms lead back over a body, in which each local takes the value of the next
+    one, so that a type goes from local to local by one more with each time that the switch is
+    visited."""
+    start = b"".join(ACONST_NULL + ASTORE + u1(local) for local in range(1, 256))
+    shift = ALOAD_0 + ASTORE + u1(255)
+    shift += b"".join(ALOAD + u1(local + 1) + ASTORE + u1(local) for local in range(1, 255))
+    code = start + shift + NOP * (instructions - 512) + ICONST_0
+    at = len(code)
+    # the arms lead to places that begin instructions: the loads of the shift, then what does nothing
+    places = [len(start) + 3 + 4 * local for local in range(254)]
+    places += range(len(start) + len(shift), at - 1)
+    ways = [u4(place - at & 0xFFFFFFFF) for place in places[:arms]]
+    code += TABLESWITCH + bytes(-(at + 1) % 4) + ways[0] + u4(0) + u4(len(ways) - 1)
+    file = ClassFile("A")
+    file.method(STATIC, "m", "(LA;)V", code + b"".join(ways), 1, 256)
+    return with_init(file)
+
+
+def plain_methods(size):
+    """A class of about so many bytes, whose methods push and drop constants."""
+    file = ClassFile("A")
+    for number in range(size // 60000 + 1):
+        pairs = min(size - 60000 * number, 60000) // 2
+        file.method(STATIC, f"m{number}", "()V", (ICONST_0 + POP) * pairs + RETURN)
+    return with_init(file)
