@@ -8,7 +8,7 @@ use Rattle.guard_analysis.specs.{ColourVisits.{colour_meeting, colours_at_handle
 abbrev Nodes : Type 0
 Nodes = List (PlanNode (List Colour))
 
-never_clash : (code : List Insn) (tos : List ℕ) (f : List Colour) (nodes : Nodes) → meeting_clash colour_meeting code tos f nodes ≡ None
+pub never_clash : (code : List Insn) (tos : List ℕ) (f : List Colour) (nodes : Nodes) → meeting_clash colour_meeting code tos f nodes ≡ None
 never_clash [] tos f nodes = refl
 never_clash (insn ∷ code) tos f [] = refl
 never_clash (insn ∷ code) tos f (node ∷ nodes) = ap (λ (t : Bool). cond t (Some insn.pc) (meeting_clash colour_meeting code tos f nodes)) (at (has_number tos insn.pc) node.frame) ∙ never_clash code tos f nodes

@@ -16,6 +16,7 @@ pub mod FlagsPut
 pub mod ColourChecks
 pub mod ColourFrames
 pub mod ColourRuns
+pub mod ColourRests
 pub mod MethodChecks
 pub mod ColourPaths
 pub mod FieldColours

@@ -1,7 +1,7 @@
 //! What a method does with the arrays that it reads from fields: each use that an owned array has
 //! not puts out the field that the array was read from.
 
-ghost use Rattle.std.specs.Prelude.{◌≡◌, if◌then◌else◌, length, slice_get, IfOk, OnOk};
+ghost use Rattle.std.specs.Prelude.{◌≡◌, ◌∷◌, [], if◌then◌else◌, length, slice_get, IfOk, OnOk};
 ghost use Rattle.std.specs.Option.{option_copied};
 ghost use Rattle.checked_program.specs.TaggedCode.{row_of};
 ghost use Rattle.jvm_types.specs.Verifying.{covering};
@@ -21,7 +21,7 @@ ghost use Rattle.guard_analysis.specs.OwnedFound.{taken_before, targets_set, use
 ghost use Rattle.guard_analysis.specs.declared.colouring.Colour.TheVariants.{Plain as plain};
 
 use crate::callees::flag_at;
-use crate::colouring::{Colour, colours_after, colours_at_handler, is_array_field, is_same};
+use crate::colouring::{Colour, colours_after, is_array_field, is_same};
 use crate::field_uses::{no_flags, note, stands_guarded, writes_guarded};
 use crate::tag_reading::{is_this, stack_tag};
 use checked_program::{TagFrame, Tags};
@@ -151,21 +151,63 @@ fn compare_all(
     }
 }
 
-/// The same of the handlers of the rows that cover a pc, up to the first that catches all.
+/// One exception, with what stands at a handler.
+fn compare_exception(p: &Program, class: u16, outs: &mut Rows<bool>, there: &Stack<Colour>)
+    ensures { outs.new ≡ compared p.now class outs.old (plain ∷ []) there.now }
+{
+    if 1 != there.len() {
+        class_out(p, class, outs);
+        return;
+    }
+    differ_out(outs, Colour::Plain, colour_at(there, 0));
+}
+
+fn compare_exception_with(
+    p: &Program,
+    class: u16,
+    outs: &mut Rows<bool>,
+    there: Option<&Option<Stack<Colour>>>,
+)
+    ensures { outs.new
+        ≡ compared_with p.now class outs.old (plain ∷ []) (option_copied there.entry) }
+{
+    match there {
+        Some(Some(frame)) => compare_exception(p, class, outs, frame),
+        Some(None) => {}
+        None => {}
+    }
+}
+
+fn compare_handler(
+    p: &Program,
+    m: &HandledMethod<'_>,
+    outs: &mut Rows<bool>,
+    frames: &Rows<Option<Stack<Colour>>>,
+    to: u32,
+)
+    ensures { outs.new ≡ compared_at p.now m.now frames.now outs.old (plain ∷ []) to }
+{
+    match m.find(to) {
+        Some(j) => compare_exception_with(p, m.method().class, outs, frames.get(j)),
+        None => {}
+    }
+}
+
+/// One exception, with what stands at the handlers of the rows that cover a pc, up to the first
+/// that catches all.
 fn compare_caught(
     p: &Program,
     m: &HandledMethod<'_>,
     outs: &mut Rows<bool>,
     frames: &Rows<Option<Stack<Colour>>>,
     pc: u32,
-    at_handler: &Stack<Colour>,
 )
-    ensures { outs.new ≡ compared_each p.now m.now frames.now outs.old at_handler.now
+    ensures { outs.new ≡ compared_each p.now m.now frames.now outs.old (plain ∷ [])
         (handlers_of (until_all (covering m.now pc))) }
 {
     let mut k = 0;
     while let Some((behind, handler)) = m.next_row(k, pc, 0) {
-        compare_at(p, m, outs, frames, handler.handler, at_handler);
+        compare_handler(p, m, outs, frames, handler.handler);
         if handler.catch_class == 0 {
             return;
         }
@@ -192,8 +234,7 @@ pub fn compare_edges(
     let tos = edges(alloc, insn)?;
     compare_all(p, m, outs, frames, tos.as_slice(), &after);
     if can_throw(&insn.op) {
-        let at_handler = colours_at_handler(alloc)?;
-        compare_caught(p, m, outs, frames, insn.pc, &at_handler);
+        compare_caught(p, m, outs, frames, insn.pc);
     }
     Ok(())
 }

@@ -2,7 +2,7 @@
 //! frame changes where edges meet: where they bring different colours, the fields that these name
 //! are no owned ones, and for every other field the first frame that comes is as good as each.
 
-ghost use Rattle.std.specs.Prelude.{◌≡◌, ◌∷◌, [], List, Some, true, IfOk, OnOk};
+ghost use Rattle.std.specs.Prelude.{◌≡◌, ◌∷◌, [], List, Some, Ok, true, IfOk, OnOk};
 ghost use Rattle.jvm_types.specs.Verifying.{covering};
 ghost use Rattle.checked_program.specs.Tagging.{until_all};
 ghost use Rattle.checked_program.specs.Visits.{acts_on};
@@ -12,6 +12,7 @@ ghost use Rattle.guard_analysis.specs.ColourVisits.{colour_made, colour_plan};
 ghost use Rattle.guard_analysis.specs.ColourVisits.{field_colours_after, is_array_field};
 ghost use Rattle.guard_analysis.specs.ColourVisits.{may_be_owned};
 ghost use Rattle.guard_analysis.specs.ColourVisits.{colour_acts, colours_at_handlers};
+ghost use Rattle.guard_analysis.specs.ColourVisits.{goes_coloured};
 ghost use Rattle.guard_analysis.specs.ColourVisits.{same_colour};
 ghost use Rattle.guard_analysis.specs.ColourVisits.{AreColourNodes, colours_done};
 ghost use Rattle.guard_analysis.specs.declared.colouring.Colour.{Colour as Coloured};
@@ -222,6 +223,43 @@ impl Analysis for Colouring {
     }
 }
 
+/// Whether the instruction at a pc has its frame, so that an edge that leads there changes nothing;
+/// it may be told to have none.
+fn has_frame(m: &HandledMethod<'_>, nodes: &Nodes<Stack<Colour>>, to: u32) -> bool
+    requires { AreColourNodes m.now nodes.now }
+    ensures { result ≡ true → (stack : List Coloured)
+        → colours_done m.now (goes_coloured (to ∷ []) stack ∷ []) nodes.now ≡ Ok nodes.now }
+{
+    m.laid_out();
+    match m.find(to) {
+        Some(i) => match nodes.frame(i) {
+            Some(_frame) => true,
+            None => false,
+        },
+        None => false,
+    }
+}
+
+/// An exception goes to the handler at a pc, unless an edge led there before.
+fn reach(
+    alloc: Global,
+    m: &HandledMethod<'_>,
+    nodes: &mut Nodes<Stack<Colour>>,
+    to: u32,
+    at_handler: &Stack<Colour>,
+) -> Result<(), Stop<NoRule>>
+    requires level { AreColourNodes m.now nodes.old }
+    ensures left { Leaves
+        (colours_done m.now (goes_coloured (to ∷ []) at_handler.now ∷ []) nodes.old) nodes.new
+        result }
+    ensures level { OnOk result (AreColourNodes m.now nodes.new) }
+{
+    if has_frame(m, nodes, to) {
+        return Ok(());
+    }
+    go_to::<Colouring, _>(alloc, m, nodes, NoRule::Nothing, to, at_handler)
+}
+
 /// An exception goes to the handlers of the rows that cover a pc, up to the first that catches all.
 fn handle(
     alloc: Global,
@@ -238,7 +276,7 @@ fn handle(
 {
     let mut k = 0;
     while let Some((behind, row)) = m.next_row(k, pc, 0) {
-        go_to::<Colouring, _>(alloc, m, nodes, NoRule::Nothing, row.handler, at_handler)?;
+        reach(alloc, m, nodes, row.handler, at_handler)?;
         if row.catch_class == 0 {
             return Ok(());
         }
