@@ -5,6 +5,7 @@ pub mod MarkOrderLaws
 mod WordsKept
 mod FoundPlaces
 mod NearPlaces
+mod SwitchKeysHere
 mod EventsMore
 mod TakenFrames
 mod LocalStretches
