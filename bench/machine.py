@@ -7,7 +7,7 @@ Run it by hand from the top of the repository, after `./run --proved examples/A.
     python3 bench/machine.py [--program PATH] [name..]
 
 With names, only those programs. Each line is of one program of bench/programs: first the six by which the loop of
-instructions was formed, then ten others, to which nothing was fitted, then one that holds two hundred locks. Times are
+instructions was formed, then ten others, then one that holds two hundred locks. Times are
 processor time, of the user and of the system, and the least of several rounds, in each of which both machines run one
 after the other; the least time of a program that does nothing, on the same machine, is taken off. A time is told for
 one instruction, by the instructions that the report counts, and the ratio is that of solero's time to the other's.
