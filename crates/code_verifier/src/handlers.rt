@@ -167,6 +167,7 @@ pub fn handle_kept(
     match kept {
         Some(f) => {
             nodes.note(key_of(f), i)?;
+            nodes.spend_steps(m.steps(pc, from, false))?;
             handle(alloc, m, nodes, pc, from, f)
         }
         None => Ok(()),

@@ -59,7 +59,7 @@ fn misuses_object(m: &HandledMethod<'_>, insn: &Insn, row: &OpRow, f: &TypeFrame
 {
     some_operand(m, Fault::Misuse, row, f)
         || (goes_back(insn.pc, &insn.op) && has_uninitialised(f))
-        || (m.is_covered(insn.pc) && has_new_local(f))
+        || (has_new_local(f) && m.is_covered(insn.pc))
         || (is_return(&insn.op) && !f.is_ready())
 }
 

@@ -17,6 +17,9 @@ use std::marker::Model;
 /// What a visit is reckoned at, in bytes.
 const VISIT_BYTES: usize = 64;
 
+/// How many steps of a search for handler rows are reckoned at one byte.
+const STEPS_A_BYTE: usize = 2;
+
 /// What is known of an instruction: the frame that its edges met in, and whether that has changed
 /// since it was visited.
 #[derive(Drop)]
@@ -130,6 +133,13 @@ impl<F: Drop> Nodes<F> {
         ensures { self.new ≡ self.old }
     {
         self.budget.spend(bytes)
+    }
+
+    /// The same for so many steps of a search for handler rows (`HandledMethod::steps`).
+    pub fn spend_steps(&mut self, steps: usize) -> Result<(), AllocError>
+        ensures { self.new ≡ self.old }
+    {
+        self.budget.spend(steps / STEPS_A_BYTE)
     }
 
     /// The frame of the instruction of this number.

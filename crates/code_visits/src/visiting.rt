@@ -2,10 +2,11 @@
 
 ghost use Rattle.std.specs.Prelude.{◌≡◌, ◌≤◌, IfOk, IfErr, OnOk};
 ghost use Rattle.jvm_types.specs.Verifying.{IsLaidOut};
-ghost use Rattle.checked_program.specs.Visits.{nodes_for, HasFrames};
+ghost use Rattle.checked_program.specs.Visits.{acted, acts_on, nodes_for, HasFrames};
 ghost use Rattle.laws_sections.proofs.VisitAnswers.{Settle};
 ghost use Rattle.code_visits.specs.Level.{AreLevel};
-ghost use Rattle.code_visits.specs.Analyses.{plan_of, IsBreak, IsStopped};
+ghost use Rattle.code_visits.specs.Analyses.{plan_of, AreUnderVisit, IsBreak, IsStopped, Leaves};
+ghost use Rattle.code_visits.specs.Waiting.{plan_node_at};
 
 use crate::analysis::Analysis;
 use crate::budget::Budget;
@@ -33,6 +34,39 @@ fn first_nodes<D: Analysis>(
     Ok(nodes)
 }
 
+/// Takes what the search for a row that covers the instruction of this number does.
+fn spend_search<F: Drop>(
+    m: &HandledMethod<'_>,
+    nodes: &mut Nodes<F>,
+    i: usize,
+) -> Result<(), AllocError>
+    ensures { nodes.new ≡ nodes.old }
+{
+    match m.method().code.get(i) {
+        Some(insn) => nodes.spend_steps(m.steps(insn.pc, 0, true)),
+        None => Ok(()),
+    }
+}
+
+/// The visit of the instruction of this number, with what the search for its rows takes.
+fn visit<D: Analysis>(
+    alloc: Global,
+    p: &Program,
+    m: &HandledMethod<'_>,
+    nodes: &mut Nodes<D::Frame>,
+    i: usize,
+) -> Result<(), Stop<D::Rule>>
+    requires level { AreLevel D.width (D.width (D.first m.now)) m.now.code nodes.old }
+    requires kept { AreUnderVisit (D.is_kept p.now m.now) i nodes.old }
+    ensures left { Leaves (acted D.meeting m.now.code (acts_on
+        (plan_of D.meeting D.first D.acts p.now m.now) i (plan_node_at nodes.old i).frame)
+        nodes.old) nodes.new result }
+    ensures level { OnOk result (AreLevel D.width (D.width (D.first m.now)) m.now.code nodes.new) }
+{
+    spend_search(m, nodes, i)?;
+    D::visit(alloc, p, m, nodes, i)
+}
+
 /// Visits until nothing waits, or to the first visit that breaks a rule.
 fn settle<D: Analysis>(
     alloc: Global,
@@ -49,7 +83,7 @@ fn settle<D: Analysis>(
 {
     m.laid_out();
     while let Some(i) = nodes.take_next() {
-        D::visit(alloc, p, m, nodes, i)?;
+        visit::<D>(alloc, p, m, nodes, i)?;
     }
     Ok(())
 }

@@ -116,6 +116,25 @@ impl<'a> HandledMethod<'a> {
         None
     }
 
+    /// How many steps take those who search for all rows that cover a pc and begin at `from` or
+    /// behind it, or for the first such row, besides one for each row that is found. No clause says
+    /// how many: it serves to bound what searches do.
+    pub fn steps(&self, pc: u32, from: u32, to_first: bool) -> usize {
+        let rows = self.method().rows.as_slice();
+        let mut steps: usize = 0;
+        let mut k: usize = 0;
+        while k < rows.len() {
+            let passed = self.passed(k, pc, from);
+            if passed > 0 {
+                steps = steps.saturating_add(1);
+            } else if to_first {
+                return steps;
+            }
+            k = k.saturating_add(passed.max(1));
+        }
+        steps
+    }
+
     /// Whether some handler row covers a pc.
     pub fn is_covered(&self, pc: u32) -> bool
         ensures { result ≡ list_any (covers pc) self.now.rows }

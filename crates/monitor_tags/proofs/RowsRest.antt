@@ -178,12 +178,29 @@ pub record IsTurn (m : MethodInfo) (pc at : ℕ) (f : TagShape) (rests : Bool) (
   pub left : does m (to_handlers f (until_all (filter (covers pc) rows))) nodes ≡ whole
   pub level : AreLong m nodes
 
-module _ (m : MethodInfo) (pc at : ℕ) (f : TagShape) (rests : Bool) (nodes mid : Nodes) (rows : List Row) (i : ℕ) (d : Row) (whole : Result Nodes (SRule × ℕ)) (inside : i < length rows) (t : IsTurn m pc at f rests nodes (drop i rows) whole) where
+-- one row of them
+pub record RowTurn : Type 0 where
+  pub m : MethodInfo
+  pub pc : ℕ
+  pub at : ℕ
+  pub f : TagShape
+  pub rests : Bool
+  pub nodes : Nodes
+  pub rows : List Row
+  pub i : ℕ
+  pub d : Row
+  pub whole : Result Nodes (SRule × ℕ)
+  pub inside : i < length rows
+  pub left : IsTurn m pc at f rests nodes (drop i rows) whole
+
+module _ (turn : RowTurn) (mid : Nodes) where
+  open turn use {m, pc, at, f, rests, nodes, rows, i, d, whole, inside, left}
+
   abbrev pub item : Row
   item = slice_index_or rows i d
 
   here : IsTurn m pc at f rests nodes (item ∷ drop (i + 1) rows) whole
-  here = subst (λ (l : List Row). IsTurn m pc at f rests nodes l whole) (drop_more rows i d inside) t
+  here = subst (λ (l : List Row). IsTurn m pc at f rests nodes l whole) (drop_more rows i d inside) left
 
   pub turn_rests : (b : Bool) → b ≡ (rests && covers at item) → b ≡ true → LandsOn tag_meeting IsShapeBelow tag_order m.code nodes f item.handler
   turn_rests b e h = while_here rests m at f nodes item (drop (i + 1) rows) here.rest (sym e ∙ h)

@@ -25,6 +25,13 @@ use handler_rows::{HandledMethod, covers};
 use jvm_types::{Insn, Row, SRule};
 use std::alloc::{AllocError, Global};
 
+/// How many handler rows are reckoned at one byte where each is looked at.
+const ROWS_IN_BYTE: usize = 4;
+
+/// How many times the rows that cover an instruction are searched for: to tell whether many do, and
+/// to bring its frame to their handlers.
+const SEARCHES: usize = 2;
+
 /// Whether an exception of an instruction may go to some handler.
 fn has_catchers(m: &HandledMethod<'_>, insn: &Insn) -> bool
     ensures { result ≡ (can_throw insn.now.op && list_any (covers insn.now.pc) m.now.rows) }
@@ -137,6 +144,7 @@ fn handle_beside(
     ensures level { OnOk result (AreLong m.now nodes.new) }
 {
     let rows = m.method().rows.as_slice();
+    nodes.spend(rows.len() / ROWS_IN_BYTE)?;
     let mut rests = true;
     for row in rows {
         let rests_here = rests & covers(at, row);
@@ -172,6 +180,7 @@ pub fn handle_kept(
         return Ok(());
     };
     nodes.note(key_of(f), i)?;
+    nodes.spend_steps(m.steps(insn.pc, 0, false).saturating_mul(SEARCHES))?;
     match resting {
         Some(at) => handle_beside(alloc, m, nodes, insn.pc, at, f),
         None => handle(alloc, m, nodes, insn.pc, f),
