@@ -1,13 +1,14 @@
 -- A method passes the tests exactly where it keeps `this` inside.
-use Rattle.std.proofs.Common.{◌≡◌, ℕ, zero, suc, ◌-◌, Bool, true, false, not, ◌&&◌, ◌||◌, cond, List, [], ◌∷◌, length, map, replicate, Option, Some, None, refl, sym, ap, subst, ◌∙◌, arith, ⊎_elim, inl, inr, ◌⊎◌, ◌==◌, if◌then◌else◌, slice_get, slice_index_or, IsSomeAnd}
-use Rattle.std.{specs.List.{list_any, filter}, proofs.lemmas.{Bool.{and_from, or_left, or_right, eq-eqb, eqb-true, and_parts, or_cases, Decides.nat_tests}, Option.{slice_get_within, same_Some}}}
-use Rattle.jvm_types.specs.{CodeTable.can_throw, Members.is_static, Numbers.has_number, Verifying.{edges, covers, covering, IsLaidOut}, declared.{code.{Insn.Insn, Op.Op}, op_row.OpRow.OpRow}}
+use Rattle.std.proofs.Common.{◌≡◌, ℕ, zero, suc, ◌-◌, Bool, true, false, not, ◌&&◌, ◌||◌, cond, List, [], ◌∷◌, length, map, replicate, Option, Some, None, refl, sym, ap, subst, ◌∙◌, ⊎_elim, ◌==◌, if◌then◌else◌, slice_get, slice_index_or, IsSomeAnd}
+use Rattle.std.{specs.List.{list_any, filter}, proofs.lemmas.{Bool.{and_from, or_left, or_right, eq-eqb, eqb-true, and_parts, or_cases}, Option.{slice_get_within, same_Some}}}
+use Rattle.jvm_types.specs.{CodeTable.can_throw, Members.is_static, Numbers.has_number, Verifying.{edges, covers, covering, IsLaidOut}, declared.{code.{Insn.Insn, Op.Op}}}
 use Rattle.jvm_types.specs.declared.program.{MethodInfo.MethodInfo, Program.Program, Row.Row, Target.Target}
 use Rattle.code_table.{specs.PcTables.number_at, proofs.NumbersExact.exact}
 use Rattle.checked_program.specs.{FrozenPlaces.{may_take, KeepThis, KeepsThis, is_final_of, PutsOnThis, KeepsInside}, LockTags.{TagShape, is_this, entry_tags}}
 use Rattle.checked_program.specs.{TaggedCode.{Tagged, IsAt, Goes, onward, caught, row_of}, Tagging.{catches_all, until_all, catchers, tags_after, tags_at_handler}, declared.tag.Tag.Tag}
 use Rattle.checked_program.{specs.declared.tag.Tag.TheVariants.{Untagged, This}, proofs.FrozenChecks.{that_is_this, implied}}
-use Rattle.frozen_classes.specs.KeptThis.{all_before, this_at, keeps_after, keeps_caught, reached_frame, reached_frame_at, passes_test, passes_at, joins_all, catches_well, caught_well, takes_well, puts_well, keeps_here, keeps_at, begins_well, keeps_all}
+use Rattle.frozen_classes.specs.KeptThis.{all_before, this_at, places_after, places_caught, keeps_places, reached_frame, reached_frame_at, passes_test, passes_at, joins_all, catches_well, caught_well, takes_well, puts_well, keeps_here, keeps_at, begins_well, keeps_all}
+use Rattle.frozen_classes.specs.declared.places.Places.{Places}
 use Rattle.frozen_classes.proofs.KeptPlaces.{implies, all_each, all_from, after_from, after_to, caught_from, caught_to}
 use Rattle.jvm_types.specs.declared.code.Op.TheVariants as ops
 use Rattle.jvm_types.specs.declared.program.Target.TheVariants as targets
@@ -38,26 +39,26 @@ leads_same [] pc = refl
 leads_same (h ∷ rows) pc = ap (λ (b : Bool). (h.handler == pc) || b) (leads_same rows pc)
 
 module _ (m : MethodInfo) (frames : List (Option TagShape)) where
-  joins_same : (r : OpRow) (f : TagShape) (pcs : List ℕ) → joins_all m frames r f pcs ≡ all_pass (λ pc. passes_at m frames (keeps_after r f) (number_at m.code pc)) pcs
-  joins_same r f [] = refl
-  joins_same r f (pc ∷ pcs) = ap (λ (b : Bool). passes_at m frames (keeps_after r f) (number_at m.code pc) && b) (joins_same r f pcs)
+  joins_same : (places : Places) (pcs : List ℕ) → joins_all m frames places pcs ≡ all_pass (λ pc. passes_at m frames (keeps_places places) (number_at m.code pc)) pcs
+  joins_same places [] = refl
+  joins_same places (pc ∷ pcs) = ap (λ (b : Bool). passes_at m frames (keeps_places places) (number_at m.code pc) && b) (joins_same places pcs)
 
-  catches_same : (f : TagShape) (at : ℕ) (rows : List Row) → catches_well m frames f at rows ≡ all_pass (λ pc. passes_at m frames (keeps_caught f) (number_at m.code pc)) (pcs_of (until_all (filter (covers at) rows)))
-  catches_same f at [] = refl
-  catches_same f at (h ∷ rows) = by_test (covers at h) (catches_all h) refl (catches_same f at rows)
+  catches_same : (places : Places) (at : ℕ) (rows : List Row) → catches_well m frames places at rows ≡ all_pass (λ pc. passes_at m frames (keeps_places places) (number_at m.code pc)) (pcs_of (until_all (filter (covers at) rows)))
+  catches_same places at [] = refl
+  catches_same places at (h ∷ rows) = by_test (covers at h) (catches_all h) refl (catches_same places at rows)
     where
-      by_test : (b c : Bool) → catches_all h ≡ c → catches_well m frames f at rows ≡ all_pass (λ pc. passes_at m frames (keeps_caught f) (number_at m.code pc)) (pcs_of (until_all (filter (covers at) rows)))
-          → (if b then passes_at m frames (keeps_caught f) (number_at m.code h.handler) && (c || catches_well m frames f at rows) else catches_well m frames f at rows)
-          ≡ all_pass (λ pc. passes_at m frames (keeps_caught f) (number_at m.code pc)) (pcs_of (until_all (cond b (h ∷ filter (covers at) rows) (filter (covers at) rows))))
+      by_test : (b c : Bool) → catches_all h ≡ c → catches_well m frames places at rows ≡ all_pass (λ pc. passes_at m frames (keeps_places places) (number_at m.code pc)) (pcs_of (until_all (filter (covers at) rows)))
+          → (if b then passes_at m frames (keeps_places places) (number_at m.code h.handler) && (c || catches_well m frames places at rows) else catches_well m frames places at rows)
+          ≡ all_pass (λ pc. passes_at m frames (keeps_places places) (number_at m.code pc)) (pcs_of (until_all (cond b (h ∷ filter (covers at) rows) (filter (covers at) rows))))
       by_test true true e r = rw e refl
-      by_test true false e r = rw e (ap (λ (b : Bool). passes_at m frames (keeps_caught f) (number_at m.code h.handler) && b) r)
+      by_test true false e r = rw e (ap (λ (b : Bool). passes_at m frames (keeps_places places) (number_at m.code h.handler) && b) r)
       by_test false c e r = r
 
-  caught_same : (f : TagShape) (insn : Insn) → caught_well m frames f insn ≡ all_pass (λ pc. passes_at m frames (keeps_caught f) (number_at m.code pc)) (pcs_of (catchers m insn))
+  caught_same : (f : TagShape) (insn : Insn) → caught_well m frames f insn ≡ all_pass (λ pc. passes_at m frames (keeps_places (places_caught f)) (number_at m.code pc)) (pcs_of (catchers m insn))
   caught_same f insn = by_test (can_throw insn.op)
     where
-      by_test : (b : Bool) → (if b then catches_well m frames f insn.pc m.rows else true) ≡ all_pass (λ pc. passes_at m frames (keeps_caught f) (number_at m.code pc)) (pcs_of (if b then until_all (covering m insn.pc) else []))
-      by_test true = catches_same f insn.pc m.rows
+      by_test : (b : Bool) → (if b then catches_well m frames (places_caught f) insn.pc m.rows else true) ≡ all_pass (λ pc. passes_at m frames (keeps_places (places_caught f)) (number_at m.code pc)) (pcs_of (if b then until_all (covering m insn.pc) else []))
+      by_test true = catches_same (places_caught f) insn.pc m.rows
       by_test false = refl
 
 -- ---- what stands at a number
@@ -154,21 +155,21 @@ module _ (p : Program) (tags : Tagged) (mi : ℕ) (m : MethodInfo) (frames : Lis
     record Here (insn : Insn) (target : Target) (f : TagShape) : Type 0 where
       pub takes : takes_well p m.class insn.op target f (length (row_of p m insn target).takes) ≡ true
       pub puts : puts_well p m.class insn.op target f ≡ true
-      pub joins : joins_all m frames (row_of p m insn target) f (edges insn) ≡ true
+      pub joins : joins_all m frames (places_after (row_of p m insn target) f) (edges insn) ≡ true
       pub catches : caught_well m frames f insn ≡ true
 
     split : (i : ℕ) (insn : Insn) (target : Target) (f : TagShape) → IsAt p tags mi i m insn target f → Here insn target f
     split i insn target f at =
-        let a = and_parts (takes_well p m.class insn.op target f (length (row_of p m insn target).takes)) (puts_well p m.class insn.op target f && (joins_all m frames (row_of p m insn target) f (edges insn) && caught_well m frames f insn)) (here i insn target f at) in
-        let b = and_parts (puts_well p m.class insn.op target f) (joins_all m frames (row_of p m insn target) f (edges insn) && caught_well m frames f insn) a.1 in
-        let c = and_parts (joins_all m frames (row_of p m insn target) f (edges insn)) (caught_well m frames f insn) b.1 in
+        let a = and_parts (takes_well p m.class insn.op target f (length (row_of p m insn target).takes)) (puts_well p m.class insn.op target f && (joins_all m frames (places_after (row_of p m insn target) f) (edges insn) && caught_well m frames f insn)) (here i insn target f at) in
+        let b = and_parts (puts_well p m.class insn.op target f) (joins_all m frames (places_after (row_of p m insn target) f) (edges insn) && caught_well m frames f insn) a.1 in
+        let c = and_parts (joins_all m frames (places_after (row_of p m insn target) f) (edges insn)) (caught_well m frames f insn) b.1 in
         record { takes = a.0; puts = b.0; joins = c.0; catches = c.1 }
 
     joined : (i j : ℕ) (insn other : Insn) (target next : Target) (f g h : TagShape) → IsAt p tags mi i m insn target f → IsAt p tags mi j m other next g → Goes p m insn target f other h → KeepsThis h g
-    joined i j insn _ target next f g _ from to (onward other goes) = after_from p m insn target f g (pc_each (keeps_after (row_of p m insn target) f) j other next g to
-        (pass_each (λ pc. passes_at m frames (keeps_after (row_of p m insn target) f) (number_at m.code pc)) (edges insn) other.pc (sym (joins_same m frames (row_of p m insn target) f (edges insn)) ∙ (split i insn target f from).joins) goes))
-    joined i j insn _ target next f g _ from to (caught other goes) = caught_from f g (pc_each (keeps_caught f) j other next g to
-        (pass_each (λ pc. passes_at m frames (keeps_caught f) (number_at m.code pc)) (pcs_of (catchers m insn)) other.pc (sym (caught_same m frames f insn) ∙ (split i insn target f from).catches) (sym (leads_same (catchers m insn) other.pc) ∙ goes)))
+    joined i j insn _ target next f g _ from to (onward other goes) = after_from p m insn target f g (pc_each (keeps_places (places_after (row_of p m insn target) f)) j other next g to
+        (pass_each (λ pc. passes_at m frames (keeps_places (places_after (row_of p m insn target) f)) (number_at m.code pc)) (edges insn) other.pc (sym (joins_same m frames (places_after (row_of p m insn target) f) (edges insn)) ∙ (split i insn target f from).joins) goes))
+    joined i j insn _ target next f g _ from to (caught other goes) = caught_from f g (pc_each (keeps_places (places_caught f)) j other next g to
+        (pass_each (λ pc. passes_at m frames (keeps_places (places_caught f)) (number_at m.code pc)) (pcs_of (catchers m insn)) other.pc (sym (caught_same m frames f insn) ∙ (split i insn target f from).catches) (sym (leads_same (catchers m insn) other.pc) ∙ goes)))
 
     entered : (insn : Insn) (target : Target) (f : TagShape) → IsAt p tags mi 0 m insn target f → KeepsThis (entry_tags m) f
     entered insn target f at = record {
@@ -196,20 +197,20 @@ module _ (p : Program) (tags : Tagged) (mi : ℕ) (m : MethodInfo) (frames : Lis
       takes_to = all_from (λ k. not (this_at f.stack k) || may_take p m.class insn.op target k) (length (row_of p m insn target).takes)
           (λ k low. implies (this_at f.stack k) (may_take p m.class insn.op target k) (λ e. inside.taken i insn target f at k low (that_is_this (slice_index_or f.stack k Untagged) e)))
 
-      joins_to : joins_all m frames (row_of p m insn target) f (edges insn) ≡ true
-      joins_to = joins_same m frames (row_of p m insn target) f (edges insn) ∙ pass_from (λ pc. passes_at m frames (keeps_after (row_of p m insn target) f) (number_at m.code pc)) (edges insn)
-          (λ pc e. pc_from (keeps_after (row_of p m insn target) f) pc
+      joins_to : joins_all m frames (places_after (row_of p m insn target) f) (edges insn) ≡ true
+      joins_to = joins_same m frames (places_after (row_of p m insn target) f) (edges insn) ∙ pass_from (λ pc. passes_at m frames (keeps_places (places_after (row_of p m insn target) f)) (number_at m.code pc)) (edges insn)
+          (λ pc e. pc_from (keeps_places (places_after (row_of p m insn target) f)) pc
           (λ j other next g q to. after_to p m insn target f g (inside.joined i j insn other target next f g (tags_after insn (row_of p m insn target) f) at to (onward other (subst (λ (x : ℕ). has_number (edges insn) x ≡ true) (sym q) e)))))
 
       catches_to : caught_well m frames f insn ≡ true
-      catches_to = caught_same m frames f insn ∙ pass_from (λ pc. passes_at m frames (keeps_caught f) (number_at m.code pc)) (pcs_of (catchers m insn))
-          (λ pc e. pc_from (keeps_caught f) pc
+      catches_to = caught_same m frames f insn ∙ pass_from (λ pc. passes_at m frames (keeps_places (places_caught f)) (number_at m.code pc)) (pcs_of (catchers m insn))
+          (λ pc e. pc_from (keeps_places (places_caught f)) pc
           (λ j other next g q to. caught_to f g (inside.joined i j insn other target next f g (tags_at_handler f) at to (caught other (subst (λ (x : ℕ). list_any (λ (handler : Row). handler.handler == x) (catchers m insn) ≡ true) (sym q) (leads_same (catchers m insn) pc ∙ e))))))
 
       here_to : keeps_here p m frames insn target (row_of p m insn target) f ≡ true
-      here_to = and_from (takes_well p m.class insn.op target f (length (row_of p m insn target).takes)) (puts_well p m.class insn.op target f && (joins_all m frames (row_of p m insn target) f (edges insn) && caught_well m frames f insn)) takes_to
-          (and_from (puts_well p m.class insn.op target f) (joins_all m frames (row_of p m insn target) f (edges insn) && caught_well m frames f insn) (puts_to p m insn.op target f (inside.finals i insn target f at))
-          (and_from (joins_all m frames (row_of p m insn target) f (edges insn)) (caught_well m frames f insn) joins_to catches_to))
+      here_to = and_from (takes_well p m.class insn.op target f (length (row_of p m insn target).takes)) (puts_well p m.class insn.op target f && (joins_all m frames (places_after (row_of p m insn target) f) (edges insn) && caught_well m frames f insn)) takes_to
+          (and_from (puts_well p m.class insn.op target f) (joins_all m frames (places_after (row_of p m insn target) f) (edges insn) && caught_well m frames f insn) (puts_to p m insn.op target f (inside.finals i insn target f at))
+          (and_from (joins_all m frames (places_after (row_of p m insn target) f) (edges insn)) (caught_well m frames f insn) joins_to catches_to))
 
     pub passes_all : keeps_all p m frames ≡ true
     passes_all = and_from (begins_well m (reached_frame_at m frames 0)) (all_before (λ i. keeps_at p m frames (slice_get m.code i) (slice_get m.targets i) (slice_get frames i)) (length m.code)) begins

@@ -1,12 +1,12 @@
 -- Where a place has `this`, before an instruction and after it.
 use Rattle.std.proofs.Common.{◌≡◌, ◌≢◌, ℕ, zero, suc, ◌+◌, ◌-◌, ◌<◌, ◌≤◌, Bool, true, false, not, ◌&&◌, ◌||◌, List, [], ◌∷◌, ◌++◌, length, map, drop, Option, Some, None, refl, sym, ap, subst, ◌∙◌, arith, ⊎_elim, ◌==◌, nat_lt, if◌then◌else◌, slice_get, slice_set, slice_index_or}
-use Rattle.std.proofs.lemmas.Bool.{cases_eq, and_from, eq-eqb, ltb-true, ltb-false, ne_eqb, and_parts, Decides.nat_tests}
-use Rattle.std.proofs.lemmas.{List.{length-map, length-set, get_or_append_left, get_or-append-add, get_or-map, get_or-drop, get_or-set_same, get_or-set_other, get_or_past}, Option.slice_get-get_or}
+use Rattle.std.{specs.List.list_all, proofs.{Math.Bool.and-true, lemmas.Bool.{cases_eq, and_from, eq-eqb, ltb-true, ltb-false, ne_eqb, and_parts}}}
+use Rattle.std.proofs.lemmas.{List.{length-map, length-set, get_or_append_left, get_or-append-add, get_or-map, get_or-drop, get_or-set_same, get_or-set_other, get_or_past, Folds.list_all-append}, Option.slice_get-get_or}
 use Rattle.jvm_types.specs.{CodeTable.{row, value_of, stack_after, locals_after}, declared.{code.{Insn.Insn, Op.Op}, op_row.{Given.{Given, TheVariants.{Fresh, Taken, Local}}, OpRow.OpRow}}}
 use Rattle.jvm_types.specs.declared.program.{MethodInfo.MethodInfo, Program.Program, Target.Target}
 use Rattle.checked_program.specs.{FrozenPlaces.{KeepThis, KeepsThis}, LockTags.{TagShape, is_this, same_tag, without}, TaggedCode.row_of, Tagging.{moved_tags, tags_by_op, tags_after, tags_at_handler}}
 use Rattle.checked_program.{specs.declared.tag.Tag.{Tag, TheVariants.{Untagged, This, At}}, proofs.FrozenChecks.{that_is_this, implied}}
-use Rattle.frozen_classes.specs.KeptThis.{all_before, this_at, given_this, some_given_this, stack_this_after, local_this_after, keeps_before, keeps_after, keeps_caught}
+use Rattle.frozen_classes.specs.KeptThis.{all_before, this_at, given_this, some_given_this, stack_this_after, local_this_after, with_number, numbers_where, places_after, places_caught, keeps_places}
 use Rattle.jvm_types.specs.declared.code.Op.TheVariants as ops
 
 -- ---- tests
@@ -32,15 +32,26 @@ this_within [] k e = absurd (let bad : false ≡ true = e in cc)
 this_within (t ∷ ts) zero e = omega arith
 this_within (t ∷ ts) (suc k) e = omega (arith, this_within ts k e)
 
+-- a test of the numbers that pass another
+tests_same : (p q : ℕ → Bool) (n : ℕ) → list_all p (numbers_where q n) ≡ all_before (λ k. not (q k) || p k) n
+tests_same p q zero = refl
+tests_same p q (suc n) = by_test (q n) (tests_same p q n)
+  where
+    by_test : (b : Bool) → list_all p (numbers_where q n) ≡ all_before (λ k. not (q k) || p k) n
+        → list_all p (with_number (numbers_where q n) n b) ≡ (all_before (λ k. not (q k) || p k) n && (not b || p n))
+    by_test true e = list_all-append p (numbers_where q n) (n ∷ []) ∙ ap (λ (b : Bool). list_all p (numbers_where q n) && b) (and-true (p n)) ∙ ap (λ (b : Bool). b && p n) e
+    by_test false e = e ∙ sym (and-true (all_before (λ k. not (q k) || p k) n))
+
 -- a test of places that finds where a list has `this`
 module _ (ts us : List Tag) (test : ℕ → Bool) (n : ℕ) (same : (k : ℕ) → this_at ts k ≡ test k) (within : (k : ℕ) → test k ≡ true → k < n) where
-  pub keep_from : keeps_before test us n ≡ true → KeepThis ts us
+  pub keep_from : list_all (λ k. this_at us k) (numbers_where test n) ≡ true → KeepThis ts us
   keep_from e k h =
       let has : test k ≡ true = sym (same k) ∙ ap is_this h in
-      that_is_this (slice_index_or us k Untagged) (implied (test k) (this_at us k) (all_each (λ k. not (test k) || this_at us k) n k e (within k has)) has)
+      let all : all_before (λ k. not (test k) || this_at us k) n ≡ true = sym (tests_same (λ k. this_at us k) test n) ∙ e in
+      that_is_this (slice_index_or us k Untagged) (implied (test k) (this_at us k) (all_each (λ k. not (test k) || this_at us k) n k all (within k has)) has)
 
-  pub keep_to : KeepThis ts us → keeps_before test us n ≡ true
-  keep_to h = all_from (λ k. not (test k) || this_at us k) n (λ k l. implies (test k) (this_at us k) (λ e. ap is_this (h k (that_is_this (slice_index_or ts k Untagged) (same k ∙ e)))))
+  pub keep_to : KeepThis ts us → list_all (λ k. this_at us k) (numbers_where test n) ≡ true
+  keep_to h = tests_same (λ k. this_at us k) test n ∙ all_from (λ k. not (test k) || this_at us k) n (λ k l. implies (test k) (this_at us k) (λ e. ap is_this (h k (that_is_this (slice_index_or ts k Untagged) (same k ∙ e)))))
 
 -- ---- what an instruction leaves on the stack
 
@@ -149,25 +160,25 @@ module _ (p : Program) (m : MethodInfo) (insn : Insn) (target : Target) (f g : T
   locals_same : (k : ℕ) → this_at (tags_after insn (row_of p m insn target) f).locals k ≡ local_this_after (row_of p m insn target).writes f k
   locals_same k = same_locals p m target insn.pc insn.op f.stack f k ∙ moved_locals (row_of p m insn target).writes f k
 
-  pub after_from : keeps_after (row_of p m insn target) f g ≡ true → KeepsThis (tags_after insn (row_of p m insn target) f) g
+  pub after_from : keeps_places (places_after (row_of p m insn target) f) g ≡ true → KeepsThis (tags_after insn (row_of p m insn target) f) g
   after_from e =
-      let parts = and_parts (keeps_before (stack_this_after (row_of p m insn target) f) g.stack (length (row_of p m insn target).gives + length f.stack)) (keeps_before (local_this_after (row_of p m insn target).writes f) g.locals (length f.locals)) e in
+      let parts = and_parts (list_all (λ k. this_at g.stack k) (places_after (row_of p m insn target) f).stack) (list_all (λ k. this_at g.locals k) (places_after (row_of p m insn target) f).locals) e in
       record {
         stack = keep_from (tags_after insn (row_of p m insn target) f).stack g.stack (stack_this_after (row_of p m insn target) f) (length (row_of p m insn target).gives + length f.stack) stack_same (stack_within (row_of p m insn target) f) parts.0;
         locals = keep_from (tags_after insn (row_of p m insn target) f).locals g.locals (local_this_after (row_of p m insn target).writes f) (length f.locals) locals_same (locals_within (row_of p m insn target).writes f) parts.1;
       }
 
-  pub after_to : KeepsThis (tags_after insn (row_of p m insn target) f) g → keeps_after (row_of p m insn target) f g ≡ true
-  after_to h = and_from (keeps_before (stack_this_after (row_of p m insn target) f) g.stack (length (row_of p m insn target).gives + length f.stack)) (keeps_before (local_this_after (row_of p m insn target).writes f) g.locals (length f.locals))
+  pub after_to : KeepsThis (tags_after insn (row_of p m insn target) f) g → keeps_places (places_after (row_of p m insn target) f) g ≡ true
+  after_to h = and_from (list_all (λ k. this_at g.stack k) (places_after (row_of p m insn target) f).stack) (list_all (λ k. this_at g.locals k) (places_after (row_of p m insn target) f).locals)
       (keep_to (tags_after insn (row_of p m insn target) f).stack g.stack (stack_this_after (row_of p m insn target) f) (length (row_of p m insn target).gives + length f.stack) stack_same (stack_within (row_of p m insn target) f) h.stack)
       (keep_to (tags_after insn (row_of p m insn target) f).locals g.locals (local_this_after (row_of p m insn target).writes f) (length f.locals) locals_same (locals_within (row_of p m insn target).writes f) h.locals)
 
-pub caught_from : (f g : TagShape) → keeps_caught f g ≡ true → KeepsThis (tags_at_handler f) g
+pub caught_from : (f g : TagShape) → keeps_places (places_caught f) g ≡ true → KeepsThis (tags_at_handler f) g
 caught_from f g e = record { stack = no_stack; locals = keep_from f.locals g.locals (λ k. this_at f.locals k) (length f.locals) (λ k. refl) (this_within f.locals) e }
   where
     no_stack : KeepThis (Untagged ∷ []) g.stack
     no_stack zero h = cc
     no_stack (suc k) h = cc
 
-pub caught_to : (f g : TagShape) → KeepsThis (tags_at_handler f) g → keeps_caught f g ≡ true
+pub caught_to : (f g : TagShape) → KeepsThis (tags_at_handler f) g → keeps_places (places_caught f) g ≡ true
 caught_to f g h = keep_to f.locals g.locals (λ k. this_at f.locals k) (length f.locals) (λ k. refl) (this_within f.locals) h.locals

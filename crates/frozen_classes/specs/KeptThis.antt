@@ -1,7 +1,8 @@
 -- Whether an `<init>` keeps `this` inside, tested instruction by instruction.
 use Rattle.std.specs.Prelude.{◌+◌, ◌-◌, ℕ, zero, suc, Bool, true, false, not, ◌&&◌, ◌||◌, ◌==◌}
-use Rattle.std.specs.Prelude.{nat_lt, nat_le, if◌then◌else◌, List, [], ◌∷◌, length, replicate}
+use Rattle.std.specs.Prelude.{nat_lt, nat_le, if◌then◌else◌, List, [], ◌∷◌, ◌++◌, length, replicate}
 use Rattle.std.specs.Prelude.{Option, Some, None, slice_get, slice_set, slice_index_or}
+use Rattle.std.specs.List.{list_all}
 use Rattle.jvm_types.specs.CodeTable.{row, can_throw, is_init}
 use Rattle.jvm_types.specs.ClassNames.{file_class}
 use Rattle.jvm_types.specs.Members.{is_static}
@@ -24,6 +25,7 @@ use Rattle.checked_program.specs.FrozenPlaces.{may_take, is_final_of}
 use Rattle.checked_program.specs.declared.tag.Tag.{Tag}
 use Rattle.checked_program.specs.declared.tag.Tag.TheVariants.{Untagged}
 use Rattle.checked_program.specs.declared.tag.Tags.{Tags}
+use Rattle.frozen_classes.specs.declared.places.Places.{Places}
 
 -- each of the first numbers passes a test
 abbrev pub all_before : (ℕ → Bool) → ℕ → Bool
@@ -56,17 +58,33 @@ local_this_after (Some write) f k =
     if (k == write.0) && nat_lt k (length f.locals) then given_this f write.1
     else this_at f.locals k
 
--- each of the first places that has `this` has it there too
-abbrev pub keeps_before : (ℕ → Bool) → List Tag → ℕ → Bool
-keeps_before test us n = all_before (λ k. not (test k) || this_at us k) n
+-- some numbers, and behind them one more where that passes a test
+abbrev pub with_number : List ℕ → ℕ → Bool → List ℕ
+with_number ks k passes = if passes then ks ++ k ∷ [] else ks
 
-abbrev pub keeps_after : OpRow → TagShape → TagShape → Bool
-keeps_after r f g =
-    keeps_before (stack_this_after r f) g.stack (length r.gives + length f.stack)
-    && keeps_before (local_this_after r.writes f) g.locals (length f.locals)
+-- those of the first numbers that pass a test
+abbrev pub numbers_where : (ℕ → Bool) → ℕ → List ℕ
+numbers_where q zero = []
+numbers_where q (suc k) = with_number (numbers_where q k) k (q k)
 
-abbrev pub keeps_caught : TagShape → TagShape → Bool
-keeps_caught f g = keeps_before (λ k. this_at f.locals k) g.locals (length f.locals)
+-- the places that have `this` after an instruction
+abbrev pub places_after : OpRow → TagShape → Places
+places_after r f =
+    record {
+      stack = numbers_where (stack_this_after r f) (length r.gives + length f.stack);
+      locals = numbers_where (local_this_after r.writes f) (length f.locals);
+    }
+
+-- and those that have it where an exception of it is caught
+abbrev pub places_caught : TagShape → Places
+places_caught f =
+    record { stack = []; locals = numbers_where (λ k. this_at f.locals k) (length f.locals) }
+
+-- some places have `this` there too
+abbrev pub keeps_places : Places → TagShape → Bool
+keeps_places places g =
+    list_all (λ k. this_at g.stack k) places.stack
+    && list_all (λ k. this_at g.locals k) places.locals
 
 -- ---- the edges of one instruction
 
@@ -87,23 +105,24 @@ abbrev pub passes_at : MethodInfo → List (Option TagShape) → (TagShape → B
 passes_at m frames test None = true
 passes_at m frames test (Some j) = passes_test test (reached_frame_at m frames j)
 
-abbrev pub joins_all : MethodInfo → List (Option TagShape) → OpRow → TagShape → List ℕ → Bool
-joins_all m frames r f [] = true
-joins_all m frames r f (pc ∷ pcs) =
-    passes_at m frames (keeps_after r f) (number_at m.code pc) && joins_all m frames r f pcs
+abbrev pub joins_all : MethodInfo → List (Option TagShape) → Places → List ℕ → Bool
+joins_all m frames places [] = true
+joins_all m frames places (pc ∷ pcs) =
+    passes_at m frames (keeps_places places) (number_at m.code pc)
+    && joins_all m frames places pcs
 
 -- of handler rows those that cover a pc, up to the first that catches all
-abbrev pub catches_well : MethodInfo → List (Option TagShape) → TagShape → ℕ → List Row → Bool
-catches_well m frames f pc [] = true
-catches_well m frames f pc (handler ∷ handlers) =
+abbrev pub catches_well : MethodInfo → List (Option TagShape) → Places → ℕ → List Row → Bool
+catches_well m frames places pc [] = true
+catches_well m frames places pc (handler ∷ handlers) =
     if covers pc handler
-    then passes_at m frames (keeps_caught f) (number_at m.code handler.handler)
-    && (catches_all handler || catches_well m frames f pc handlers)
-    else catches_well m frames f pc handlers
+    then passes_at m frames (keeps_places places) (number_at m.code handler.handler)
+    && (catches_all handler || catches_well m frames places pc handlers)
+    else catches_well m frames places pc handlers
 
 abbrev pub caught_well : MethodInfo → List (Option TagShape) → TagShape → Insn → Bool
 caught_well m frames f insn =
-    if can_throw insn.op then catches_well m frames f insn.pc m.rows else true
+    if can_throw insn.op then catches_well m frames (places_caught f) insn.pc m.rows else true
 
 -- ---- one instruction
 
@@ -121,7 +140,7 @@ abbrev pub keeps_here : Program → MethodInfo → List (Option TagShape) → In
 keeps_here p m frames insn target r f =
     takes_well p m.class insn.op target f (length r.takes)
     && (puts_well p m.class insn.op target f
-    && (joins_all m frames r f (edges insn) && caught_well m frames f insn))
+    && (joins_all m frames (places_after r f) (edges insn) && caught_well m frames f insn))
 
 abbrev pub keeps_at : Program → MethodInfo → List (Option TagShape) → Option Insn → Option Target
     → Option (Option TagShape) → Bool

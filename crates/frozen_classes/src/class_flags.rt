@@ -10,20 +10,28 @@ ghost use Rattle.frozen_classes.specs.FrozenClasses.{AreFrozenClasses, IsFirstOu
 ghost use Rattle.frozen_classes.specs.KeptThis.{frozen_upto, is_method_of, leak_of, class_noted};
 
 use crate::insn_kept::keeps_all;
+use crate::looks::looks_budget;
 use checked_program::Tags;
 use code_table::{IndexedMethod, is_init};
+use code_visits::Budget;
 use jvm_types::class_numbers::FIRST_FILE_CLASS;
 use jvm_types::{MethodInfo, Program, Rows};
 use std::alloc::{AllocError, Global};
 
 /// The class of a method, where this is an `<init>` that lets its object out.
-fn leak_of(alloc: Global, p: &Program, m: &MethodInfo, t: &Tags) -> Result<Option<u16>, AllocError>
+fn leak_of(
+    alloc: Global,
+    budget: &mut Budget,
+    p: &Program,
+    m: &MethodInfo,
+    t: &Tags,
+) -> Result<Option<u16>, AllocError>
     requires laid { IsLaidOut m.now }
     ensures { IfOk result (λ c. c ≡ leak_of p.now (Some m.now) (Some t.now)) }
 {
     if is_init(m) {
         let indexed = IndexedMethod::of(alloc, m)?;
-        let keeps = keeps_all(alloc, p, &indexed, t)?;
+        let keeps = keeps_all(alloc, budget, p, &indexed, t)?;
         if keeps { Ok(None) } else { Ok(Some(m.class)) }
     } else {
         Ok(None)
@@ -32,6 +40,7 @@ fn leak_of(alloc: Global, p: &Program, m: &MethodInfo, t: &Tags) -> Result<Optio
 
 fn leak_at(
     alloc: Global,
+    budget: &mut Budget,
     p: &Program,
     tags: &Rows<Tags>,
     u: usize,
@@ -42,7 +51,7 @@ fn leak_at(
 {
     match p.methods.get(u) {
         Some(m) => match tags.get(u) {
-            Some(t) => leak_of(alloc, p, m, t),
+            Some(t) => leak_of(alloc, budget, p, m, t),
             None => Ok(None),
         },
         None => Ok(None),
@@ -75,9 +84,10 @@ fn frozen_upto(
     requires program { IsProgram p.now }
     ensures { IfOk result (λ flags. flags ≡ frozen_upto p.now tags.now methods) }
 {
+    let mut budget = looks_budget(p);
     let mut flags = Rows::from_vec(vec![in alloc; true; p.names.len()]?);
     for u in 0..methods {
-        let leak = leak_at(alloc, p, tags, u)?;
+        let leak = leak_at(alloc, &mut budget, p, tags, u)?;
         note(&mut flags, leak);
     }
     Ok(flags)
@@ -85,7 +95,8 @@ fn frozen_upto(
 
 /// For the class of each file, in order, whether it is frozen: no `<init>` of it lets its object
 /// out, loses sight of it, or writes a final field on another object. `tags` has the lock tags of
-/// each method. It fails only where memory is refused.
+/// each method. It fails only where memory is refused, or where there is more to look at than is
+/// reckoned for the code of the program.
 pub fn frozen_classes(
     alloc: Global,
     p: &Program,
@@ -112,6 +123,7 @@ fn is_method_of(p: &Program, class: u16, u: usize) -> bool
 /// Whether the method of a number is an `<init>` of a class that lets its object out.
 fn lets_out(
     alloc: Global,
+    budget: &mut Budget,
     p: &Program,
     tags: &Rows<Tags>,
     class: u16,
@@ -122,7 +134,7 @@ fn lets_out(
     ensures { IfOk result (TellsOut p.now (tagged_by tags.now) class u) }
 {
     if is_method_of(p, class, u) {
-        let leak = leak_at(alloc, p, tags, u)?;
+        let leak = leak_at(alloc, budget, p, tags, u)?;
         Ok(leak.is_some())
     } else {
         Ok(false)
@@ -130,7 +142,8 @@ fn lets_out(
 }
 
 /// The number of the first `<init>` of a class that lets its object out; `None` where the class is
-/// frozen. `tags` has the lock tags of each method. It fails only where memory is refused.
+/// frozen. `tags` has the lock tags of each method. It fails only where memory is refused, or where
+/// there is more to look at than is reckoned for the code of the program.
 pub fn first_out(
     alloc: Global,
     p: &Program,
@@ -142,8 +155,9 @@ pub fn first_out(
     requires few { length p.now.methods ≤ most }
     ensures { IfOk result (IsFirstOut p.now (tagged_by tags.now) class) }
 {
+    let mut budget = looks_budget(p);
     for u in 0..p.methods.len() {
-        if lets_out(alloc, p, tags, class, u)? {
+        if lets_out(alloc, &mut budget, p, tags, class, u)? {
             return Ok(Some(u as u32));
         }
     }

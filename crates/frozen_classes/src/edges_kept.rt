@@ -5,15 +5,22 @@ ghost use Rattle.std.specs.Prelude.{◌≡◌, IfOk};
 ghost use Rattle.std.specs.Option.{option_copied};
 ghost use Rattle.jvm_types.specs.Verifying.{covers, edges};
 ghost use Rattle.code_table.specs.PcTables.{number_at};
-ghost use Rattle.frozen_classes.specs.KeptThis.{catches_well, caught_well, reached_frame_at};
-ghost use Rattle.frozen_classes.specs.KeptThis.{joins_all, keeps_after, keeps_caught, passes_test};
-ghost use Rattle.frozen_classes.specs.KeptThis.{passes_at};
+ghost use Rattle.frozen_classes.specs.KeptThis.{catches_well, caught_well, joins_all};
+ghost use Rattle.frozen_classes.specs.KeptThis.{keeps_places, passes_at, passes_test, places_after};
+ghost use Rattle.frozen_classes.specs.KeptThis.{reached_frame_at};
 
-use crate::places::{keeps_after, keeps_caught};
+use crate::places::{Places, places_after, places_caught};
 use checked_program::{TagFrame, Tags};
 use code_table::{IndexedMethod, can_throw, edges};
+use code_visits::Budget;
 use jvm_types::{Insn, MethodInfo, OpRow, Row};
 use std::alloc::{AllocError, Global};
+
+/// What finding the frame at the end of an edge is reckoned at, in looks at a place.
+const EDGE_LOOKS: usize = 8;
+
+/// How many handler rows are reckoned at one look at a place, where it is told which cover a pc.
+const ROWS_IN_LOOK: usize = 4;
 
 /// The tags of the instruction of a number, where it is reached.
 pub(crate) fn reached_tags<'a>(m: &MethodInfo, t: &'a Tags, j: usize) -> Option<&'a TagFrame>
@@ -32,68 +39,67 @@ pub(crate) fn reached_tags<'a>(m: &MethodInfo, t: &'a Tags, j: usize) -> Option<
     }
 }
 
-fn joins_one(row: &OpRow, f: &TagFrame, m: &MethodInfo, t: &Tags, j: usize) -> bool
+fn keeps_one(places: &Places, m: &MethodInfo, t: &Tags, j: usize) -> bool
     ensures { result
-        ≡ passes_test (keeps_after row.now f.now) (reached_frame_at m.now t.now.frames j) }
+        ≡ passes_test (keeps_places places.now) (reached_frame_at m.now t.now.frames j) }
 {
     match reached_tags(m, t, j) {
-        Some(g) => keeps_after(row, f, g),
+        Some(g) => places.keep(g),
         None => true,
     }
 }
 
-fn catches_one(f: &TagFrame, m: &MethodInfo, t: &Tags, j: usize) -> bool
-    ensures { result ≡ passes_test (keeps_caught f.now) (reached_frame_at m.now t.now.frames j) }
+/// Whether some places have `this` at a pc, where that is reached.
+fn keeps_pc(
+    budget: &mut Budget,
+    places: &Places,
+    m: &IndexedMethod<'_>,
+    t: &Tags,
+    pc: u32,
+) -> Result<bool, AllocError>
+    ensures { IfOk result (λ b.
+        b ≡ passes_at m.now t.now.frames (keeps_places places.now) (number_at m.now.code pc)) }
 {
-    match reached_tags(m, t, j) {
-        Some(g) => keeps_caught(f, g),
-        None => true,
-    }
-}
-
-fn joins_pc(row: &OpRow, f: &TagFrame, m: &IndexedMethod<'_>, t: &Tags, pc: u32) -> bool
-    ensures { result
-        ≡ passes_at m.now t.now.frames (keeps_after row.now f.now) (number_at m.now.code pc) }
-{
+    budget.spend(EDGE_LOOKS.saturating_add(places.count()))?;
     match m.find(pc) {
-        Some(j) => joins_one(row, f, m.method(), t, j),
-        None => true,
+        Some(j) => Ok(keeps_one(places, m.method(), t, j)),
+        None => Ok(true),
     }
 }
 
-fn catches_pc(f: &TagFrame, m: &IndexedMethod<'_>, t: &Tags, pc: u32) -> bool
-    ensures { result ≡ passes_at m.now t.now.frames (keeps_caught f.now) (number_at m.now.code pc) }
+fn joins_pcs(
+    budget: &mut Budget,
+    places: &Places,
+    m: &IndexedMethod<'_>,
+    t: &Tags,
+    pcs: &[u32],
+) -> Result<bool, AllocError>
+    ensures { IfOk result (λ b. b ≡ joins_all m.now t.now.frames places.now pcs.now) }
 {
-    match m.find(pc) {
-        Some(j) => catches_one(f, m.method(), t, j),
-        None => true,
-    }
-}
-
-fn joins_pcs(row: &OpRow, f: &TagFrame, m: &IndexedMethod<'_>, t: &Tags, pcs: &[u32]) -> bool
-    ensures { result ≡ joins_all m.now t.now.frames row.now f.now pcs.now }
-{
-    let mut keeps = true;
     for pc in pcs {
-        let well = joins_pc(row, f, m, t, *pc);
-        keeps = keeps && well;
+        if !keeps_pc(budget, places, m, t, *pc)? {
+            return Ok(false);
+        }
     }
-    keeps
+    Ok(true)
 }
 
 /// Whether the instructions that an instruction goes on at have `this` where it leaves it.
 pub(crate) fn joins_all(
     alloc: Global,
+    budget: &mut Budget,
     row: &OpRow,
     f: &TagFrame,
     m: &IndexedMethod<'_>,
     t: &Tags,
     insn: &Insn,
 ) -> Result<bool, AllocError>
-    ensures { IfOk result (λ b. b ≡ joins_all m.now t.now.frames row.now f.now (edges insn.now)) }
+    ensures { IfOk result
+        (λ b. b ≡ joins_all m.now t.now.frames (places_after row.now f.now) (edges insn.now)) }
 {
+    let places = places_after(alloc, budget, row, f)?;
     let pcs = edges(alloc, insn)?;
-    Ok(joins_pcs(row, f, m, t, pcs.as_slice()))
+    joins_pcs(budget, &places, m, t, pcs.as_slice())
 }
 
 /// Whether a handler row covers a pc (JVMS 2.10).
@@ -103,29 +109,45 @@ fn covers(pc: u32, row: &Row) -> bool
     row.start <= pc && pc < row.end
 }
 
-fn catches_well(f: &TagFrame, m: &IndexedMethod<'_>, t: &Tags, pc: u32, rows: &[Row]) -> bool
-    ensures { result ≡ catches_well m.now t.now.frames f.now pc rows.now }
+fn catches_well(
+    budget: &mut Budget,
+    places: &Places,
+    m: &IndexedMethod<'_>,
+    t: &Tags,
+    pc: u32,
+    rows: &[Row],
+) -> Result<bool, AllocError>
+    ensures { IfOk result (λ b. b ≡ catches_well m.now t.now.frames places.now pc rows.now) }
 {
+    budget.spend(rows.len() / ROWS_IN_LOOK)?;
     for row in rows {
         if covers(pc, row) {
-            if !catches_pc(f, m, t, row.handler) {
-                return false;
+            if !keeps_pc(budget, places, m, t, row.handler)? {
+                return Ok(false);
             }
             if row.catch_class == 0 {
-                return true;
+                return Ok(true);
             }
         }
     }
-    true
+    Ok(true)
 }
 
 /// Whether the handlers that an exception of an instruction may go to have `this` where it is.
-pub(crate) fn caught_well(f: &TagFrame, m: &IndexedMethod<'_>, t: &Tags, insn: &Insn) -> bool
-    ensures { result ≡ caught_well m.now t.now.frames f.now insn.now }
+pub(crate) fn caught_well(
+    alloc: Global,
+    budget: &mut Budget,
+    f: &TagFrame,
+    m: &IndexedMethod<'_>,
+    t: &Tags,
+    insn: &Insn,
+) -> Result<bool, AllocError>
+    ensures { IfOk result (λ b. b ≡ caught_well m.now t.now.frames f.now insn.now) }
 {
     if can_throw(&insn.op) {
-        catches_well(f, m, t, insn.pc, m.method().rows.as_slice())
+        let places = places_caught(alloc, budget, f)?;
+        catches_well(budget, &places, m, t, insn.pc, m.method().rows.as_slice())
     } else {
-        true
+        Ok(true)
     }
 }

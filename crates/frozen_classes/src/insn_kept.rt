@@ -10,6 +10,7 @@ use crate::edges_kept::{caught_well, joins_all, reached_tags};
 use crate::places::{local_this, stack_this};
 use checked_program::{TagFrame, Tags};
 use code_table::{IndexedMethod, row};
+use code_visits::Budget;
 use jvm_types::class_numbers::OBJECT_CLASS;
 use jvm_types::flags::{is_final, is_static};
 use jvm_types::{Insn, MethodInfo, Op, OpRow, Program, Target};
@@ -88,6 +89,7 @@ fn puts_well(p: &Program, class: u16, op: &Op, target: Target, f: &TagFrame) -> 
 
 fn keeps_here(
     alloc: Global,
+    budget: &mut Budget,
     p: &Program,
     m: &IndexedMethod<'_>,
     t: &Tags,
@@ -100,16 +102,18 @@ fn keeps_here(
         (λ b. b ≡ keeps_here p.now m.now t.now.frames insn.now target row.now f.now) }
 {
     let method = m.method();
+    budget.spend(row.takes.len())?;
     let takes = takes_well(p, method.class, &insn.op, target, f, row.takes.len());
     let puts = puts_well(p, method.class, &insn.op, target, f);
-    let joins = joins_all(alloc, row, f, m, t, insn)?;
-    let catches = caught_well(f, m, t, insn);
+    let joins = joins_all(alloc, budget, row, f, m, t, insn)?;
+    let catches = caught_well(alloc, budget, f, m, t, insn)?;
     Ok(takes && (puts && (joins && catches)))
 }
 
 /// Whether the instruction of a number keeps `this` inside.
 fn keeps_at(
     alloc: Global,
+    budget: &mut Budget,
     p: &Program,
     m: &IndexedMethod<'_>,
     t: &Tags,
@@ -125,7 +129,7 @@ fn keeps_at(
             Some(target) => match t.frames.get(i) {
                 Some(Some(f)) => {
                     let moves = row(alloc, p, method, insn.pc, *target, &insn.op)?;
-                    keeps_here(alloc, p, m, t, insn, *target, &moves, f)
+                    keeps_here(alloc, budget, p, m, t, insn, *target, &moves, f)
                 }
                 Some(None) => Ok(true),
                 None => Ok(true),
@@ -153,6 +157,7 @@ fn both(first: bool, second: bool) -> bool
 
 fn keeps_each(
     alloc: Global,
+    budget: &mut Budget,
     p: &Program,
     m: &IndexedMethod<'_>,
     t: &Tags,
@@ -165,7 +170,7 @@ fn keeps_each(
 {
     let mut keeps = true;
     for i in 0..len {
-        let well = keeps_at(alloc, p, m, t, i)?;
+        let well = keeps_at(alloc, budget, p, m, t, i)?;
         keeps = both(keeps, well);
     }
     Ok(keeps)
@@ -174,6 +179,7 @@ fn keeps_each(
 /// Whether a method keeps `this` inside.
 pub(crate) fn keeps_all(
     alloc: Global,
+    budget: &mut Budget,
     p: &Program,
     m: &IndexedMethod<'_>,
     t: &Tags,
@@ -182,6 +188,6 @@ pub(crate) fn keeps_all(
 {
     let method = m.method();
     let begins = begins_well(method, t);
-    let keeps = keeps_each(alloc, p, m, t, method.code.len())?;
+    let keeps = keeps_each(alloc, budget, p, m, t, method.code.len())?;
     Ok(begins && keeps)
 }

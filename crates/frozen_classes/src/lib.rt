@@ -5,6 +5,7 @@
 mod class_flags;
 mod edges_kept;
 mod insn_kept;
+mod looks;
 mod places;
 
 pub use class_flags::{first_out, frozen_classes};

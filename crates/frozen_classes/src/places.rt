@@ -1,14 +1,25 @@
 //! Places that have `this`, before an instruction and after it.
 
 ghost use Rattle.std.specs.Prelude.{◌≡◌, ◌<◌, ◌+◌, length, slice_get, slice_index_or};
+ghost use Rattle.std.specs.Prelude.{IfOk, OnOk};
+ghost use Rattle.std.specs.List.{list_all};
 ghost use Rattle.checked_program.specs.LockTags.{is_this};
 ghost use Rattle.checked_program.specs.declared.tag.Tag.TheVariants.{Untagged as untagged};
-ghost use Rattle.frozen_classes.specs.KeptThis.{given_this, keeps_after, keeps_before};
-ghost use Rattle.frozen_classes.specs.KeptThis.{keeps_caught, local_this_after, stack_this_after};
-ghost use Rattle.frozen_classes.specs.KeptThis.{this_at};
+ghost use Rattle.frozen_classes.specs.KeptThis.{given_this, keeps_places, local_this_after};
+ghost use Rattle.frozen_classes.specs.KeptThis.{numbers_where, places_after, places_caught};
+ghost use Rattle.frozen_classes.specs.KeptThis.{stack_this_after, this_at, with_number};
 
 use checked_program::{Tag, TagFrame};
-use jvm_types::{Given, OpRow, Want};
+use code_visits::Budget;
+use jvm_types::{Given, OpRow, Rows, Want};
+use std::alloc::{AllocError, Global};
+
+/// Some places: of the stack, counted from the top, and locals.
+#[derive(Debug, Drop)]
+pub(crate) struct Places {
+    stack: Rows<usize>,
+    locals: Rows<usize>,
+}
 
 fn is_this(tag: Tag) -> bool
     ensures { result ≡ is_this tag }
@@ -72,7 +83,7 @@ fn sum_of_lens(gives: &[Given], stack: &[Tag]) -> usize
 
 /// How many places the stack has at most after an instruction with this row.
 #[tactic(auto, using(crate::proofs::StackLengths::length_reversed))]
-fn places_after(row: &OpRow, f: &TagFrame) -> usize
+fn places_above(row: &OpRow, f: &TagFrame) -> usize
     ensures { result ≡ length row.now.gives + length f.now.stack }
 {
     sum_of_lens(row.gives.as_slice(), f.stack().as_slice())
@@ -126,46 +137,114 @@ fn local_this_after(writes: Option<(u16, Given)>, f: &TagFrame, k: usize) -> boo
     }
 }
 
-fn keeps_stack(row: &OpRow, f: &TagFrame, g: &TagFrame) -> bool
-    ensures { result ≡ keeps_before (stack_this_after row.now f.now) g.now.stack
-        (length row.now.gives + length f.now.stack) }
+/// A number is put behind some where it passes a test.
+fn add_number(numbers: &mut Rows<usize>, k: usize, passes: bool) -> Result<(), AllocError>
+    ensures { OnOk result (numbers.new ≡ with_number numbers.old k passes) }
 {
-    let count = places_after(row, f);
-    let mut keeps = true;
-    for k in 0..count {
-        let well = !stack_this_after(row, f, k) || stack_this(g, k);
-        keeps = keeps && well;
+    if passes {
+        numbers.push(k)?;
     }
-    keeps
+    Ok(())
 }
 
-fn keeps_locals(writes: Option<(u16, Given)>, f: &TagFrame, g: &TagFrame) -> bool
-    ensures { result
-        ≡ keeps_before (local_this_after writes f.now) g.now.locals (length f.now.locals) }
+fn stack_after(alloc: Global, row: &OpRow, f: &TagFrame) -> Result<Rows<usize>, AllocError>
+    ensures { IfOk result (λ places. places ≡ (places_after row.now f.now).stack) }
 {
-    let mut keeps = true;
+    let mut places = Rows::new(alloc);
+    for k in 0..places_above(row, f) {
+        add_number(&mut places, k, stack_this_after(row, f, k))?;
+    }
+    Ok(places)
+}
+
+fn locals_after(
+    alloc: Global,
+    writes: Option<(u16, Given)>,
+    f: &TagFrame,
+) -> Result<Rows<usize>, AllocError>
+    ensures { IfOk result (λ places.
+        places ≡ numbers_where (local_this_after writes f.now) (length f.now.locals)) }
+{
+    let mut places = Rows::new(alloc);
     for k in 0..f.locals().len() {
-        let well = !local_this_after(writes, f, k) || local_this(g, k);
-        keeps = keeps && well;
+        add_number(&mut places, k, local_this_after(writes, f, k))?;
     }
-    keeps
+    Ok(places)
 }
 
-/// Whether what has `this` after an instruction has it at the instruction that follows.
-pub(crate) fn keeps_after(row: &OpRow, f: &TagFrame, g: &TagFrame) -> bool
-    ensures { result ≡ keeps_after row.now f.now g.now }
+fn locals_of(alloc: Global, f: &TagFrame) -> Result<Rows<usize>, AllocError>
+    ensures { IfOk result (λ places. places ≡ (places_caught f.now).locals) }
 {
-    keeps_stack(row, f, g) && keeps_locals(row.writes, f, g)
-}
-
-/// Whether the locals that have `this` have it at a handler.
-pub(crate) fn keeps_caught(f: &TagFrame, g: &TagFrame) -> bool
-    ensures { result ≡ keeps_caught f.now g.now }
-{
-    let mut keeps = true;
+    let mut places = Rows::new(alloc);
     for k in 0..f.locals().len() {
-        let well = !local_this(f, k) || local_this(g, k);
-        keeps = keeps && well;
+        add_number(&mut places, k, local_this(f, k))?;
     }
-    keeps
+    Ok(places)
+}
+
+/// The places that have `this` after an instruction with this row.
+pub(crate) fn places_after(
+    alloc: Global,
+    budget: &mut Budget,
+    row: &OpRow,
+    f: &TagFrame,
+) -> Result<Places, AllocError>
+    ensures { IfOk result (λ places. places ≡ places_after row.now f.now) }
+{
+    budget.spend(f.locals().len().saturating_add(places_above(row, f)))?;
+    Ok(Places {
+        stack: stack_after(alloc, row, f)?,
+        locals: locals_after(alloc, row.writes, f)?,
+    })
+}
+
+/// The places that have `this` where an exception is caught.
+pub(crate) fn places_caught(
+    alloc: Global,
+    budget: &mut Budget,
+    f: &TagFrame,
+) -> Result<Places, AllocError>
+    ensures { IfOk result (λ places. places ≡ places_caught f.now) }
+{
+    budget.spend(f.locals().len())?;
+    Ok(Places {
+        stack: Rows::new(alloc),
+        locals: locals_of(alloc, f)?,
+    })
+}
+
+fn keeps_stack(places: &[usize], g: &TagFrame) -> bool
+    ensures { result ≡ list_all (λ k. this_at g.now.stack k) places.now }
+{
+    for k in places {
+        if !stack_this(g, *k) {
+            return false;
+        }
+    }
+    true
+}
+
+fn keeps_locals(places: &[usize], g: &TagFrame) -> bool
+    ensures { result ≡ list_all (λ k. this_at g.now.locals k) places.now }
+{
+    for k in places {
+        if !local_this(g, *k) {
+            return false;
+        }
+    }
+    true
+}
+
+impl Places {
+    /// How many there are.
+    pub(crate) fn count(&self) -> usize {
+        self.stack.len().saturating_add(self.locals.len())
+    }
+
+    /// Whether they have `this` before an instruction too.
+    pub(crate) fn keep(&self, g: &TagFrame) -> bool
+        ensures { result ≡ keeps_places self.now g.now }
+    {
+        keeps_stack(self.stack.as_slice(), g) && keeps_locals(self.locals.as_slice(), g)
+    }
 }

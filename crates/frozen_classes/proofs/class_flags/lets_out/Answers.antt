@@ -1,4 +1,4 @@
-use Rattle.std.{proofs.Common.{sym, ap, ◌∙◌, subst, Bool}, specs.Option.is_some}
+use Rattle.std.{proofs.Common.{sym, ◌∙◌, subst, Bool}}
 use Rattle.checked_program.specs.TaggedCode.{tagged_by}
 use Rattle.frozen_classes.{specs.FrozenClasses.TellsOut, proofs.ClassFlags.told_out}
 use Rattle.frozen_classes.proofs.class_flags.lets_out.Goals as goal

@@ -1,6 +1,7 @@
-use Rattle.std.proofs.Common.{◌≡◌}
-use Rattle.frozen_classes.specs.KeptThis.{keeps_before, local_this_after}
+use Rattle.std.proofs.Common.{◌≡◌, drop}
+use Rattle.std.specs.List.{list_all}
+use Rattle.frozen_classes.specs.KeptThis.{this_at}
 use Rattle.frozen_classes.proofs.places.keeps_locals.Given as goal
 
 abbrev pub invariant-loop-k : goal.invariant-loop-k
-invariant-loop-k l = l.keeps ≡ keeps_before (local_this_after l.writes l.f) l.g.locals l.k
+invariant-loop-k l = list_all (λ k. this_at l.g.locals k) (drop l.k-index l.places) ≡ list_all (λ k. this_at l.g.locals k) l.places
