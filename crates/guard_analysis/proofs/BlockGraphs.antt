@@ -214,8 +214,22 @@ levels_long m frames n = before_long (λ x. level_at m frames x) (λ k. levels_b
 
 -- ---- the whole graph
 
-module _ (m : MethodInfo) (laid : IsLaidOut m) (frames : List (Option TagShape)) (first next last : Graph) (levels : first.levels ≡ levels_before m frames (length m.code)) (turns : first.turns ≡ turns_before m frames (length m.code))
-    (none : HasNoEdges first) (onward : AddsEdges first next (λ x k. (0 < level_at m frames x) × (0 < slice_index first.turns x) × IsOnward m x k)) (thrown : AddsEdges next last (λ i k. IsThrownBefore m next (length m.rows) i k)) where
+-- the graph as it is made: without edges, then with those onward, then with those to handlers
+pub record GraphsMade : Type 0 where
+  pub m : MethodInfo
+  pub frames : List (Option TagShape)
+  pub first : Graph
+  pub next : Graph
+  pub last : Graph
+  pub levels : first.levels ≡ levels_before m frames (length m.code)
+  pub turns : first.turns ≡ turns_before m frames (length m.code)
+  pub none : HasNoEdges first
+  pub onward : AddsEdges first next (λ x k. (0 < level_at m frames x) × (0 < slice_index first.turns x) × IsOnward m x k)
+  pub thrown : AddsEdges next last (λ i k. IsThrownBefore m next (length m.rows) i k)
+
+module _ (made : GraphsMade) (laid : IsLaidOut made.m) where
+  open made use {m, frames, first, next, last, levels, turns, none, onward, thrown}
+
   levels_are : (i : ℕ) → slice_index last.levels i ≡ level_at m frames i
   levels_are i = ap (λ l. slice_index l i) (thrown.levels ∙ onward.levels ∙ levels) ∙ by_insn (slice_get m.code i) refl
     where

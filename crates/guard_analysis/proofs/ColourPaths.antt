@@ -108,8 +108,23 @@ module _ (p : Program) (m : MethodInfo) where
 
 -- ---- the paths
 
-module _ (p : Program) (tags : Tagged) (mi : ℕ) (m : MethodInfo) (is : slice_get p.methods mi ≡ Some m) (shapes : List (Option TagShape)) (of_method : slice_get tags mi ≡ Some shapes) (tagged : HasTagging p m shapes)
-    (up : Ascend 0 m.code) (frames : List (Option (List Colour))) (has : HasFrames (colour_plan p m) frames) where
+-- a method of a tagged program, with the frames of its colouring
+pub record ColouredMethod : Type 0 where
+  pub p : Program
+  pub tags : Tagged
+  pub mi : ℕ
+  pub m : MethodInfo
+  pub is : slice_get p.methods mi ≡ Some m
+  pub shapes : List (Option TagShape)
+  pub of_method : slice_get tags mi ≡ Some shapes
+  pub tagged : HasTagging p m shapes
+  pub up : Ascend 0 m.code
+  pub frames : List (Option (List Colour))
+  pub has : HasFrames (colour_plan p m) frames
+
+module _ (method : ColouredMethod) where
+  open method use {p, tags, mi, m, is, shapes, of_method, tagged, up, frames, has}
+
   at : (i : ℕ) (insn : Insn) (target : Target) (f : TagShape) → slice_get m.code i ≡ Some insn → slice_get m.targets i ≡ Some target → slice_get shapes i ≡ Some (Some f) → IsAt p tags mi i m insn target f
   at i insn target f c t e = record { in_program = is; in_code = c; names = t; frames = shapes; of_method = of_method; frame = e }
 

@@ -3,13 +3,13 @@ use Rattle.std.proofs.Common.{◌≡◌, ◌<◌, ◌≤◌, ◌≢◌, ◌⊎�
 use Rattle.std.{specs.List.AllZip, proofs.lemmas.{Bool.{cases_eq, eqb-true, eq-eqb, true≢false, cases_lt}, List.{length-append, get_or_append_left, get_or_past, get_or_push}, Option.{get_or_from_slice_get, same_Some, slice_get_within}}}
 use Rattle.jvm_types.specs.{ProgramInvariant.{IsProgram, IsTargetOf, site_in}, declared.{code.{Insn.Insn, Op.Op}, program.{MethodInfo.MethodInfo, Program.Program, Target.Target}}}
 use Rattle.laws_programs.proofs.CodeOrder.{have_targets}
-use Rattle.checked_program.specs.{Colours.{ColourShape, is_coloured}, MarkedProgram.AreTaggings, OwnedArrays.{IsOwnedArrayField, IsOwnedAt, ReadsOwned}, TaggedCode.tagged_by, Tagging.HasTagging, Visits.HasFrames, declared.tag.Tags.Tags}
+use Rattle.checked_program.specs.{Colours.{ColourShape, is_coloured}, MarkedProgram.AreTaggings, SectionLaws.AreTagged, OwnedArrays.{IsOwnedArrayField, IsOwnedAt, ReadsOwned}, TaggedCode.tagged_by, Visits.HasFrames, declared.tag.Tags.Tags}
 use Rattle.laws_sections.proofs.ArrayColours.{other_class}
 use Rattle.frozen_classes.specs.FrozenClasses.{AreFrozenClasses}
 use Rattle.guard_analysis.specs.{ColourVisits.{colour_plan, is_array_field, is_colour_of, of_field, colour_at}, FieldUses.class_flag, declared.{colouring.Colour.Colour, owned_arrays.Owned.Owned}}
 use Rattle.guard_analysis.specs.OwnedFound.{colour_read, read_colour, read_colours_before, is_flagged, element_flags_before, code_length, element_rows_before, fields_left_before, owning_before, AreMethodsChecked, AreOwnedFound}
-use Rattle.guard_analysis.{specs.declared.colouring.Colour.TheVariants.{Plain, Of}, proofs.{CallEdges.frames_there, CheckedMethods.{IsKept, AreKept, methods_kept}, ColourFrames.read_is, ColourPaths.has_colours, FieldColours.{array_whole, none_of_field, are_there}}}
-use Rattle.guard_analysis.proofs.{FlagsPut.is_set, ListsMade.{made_long, made_at, made_past}, OwnersFound.{left_long, all_tagged, tagging_at, tagging_of, laid_up, checked_method, found_owned, is_array, owned_may, owned_found}}
+use Rattle.guard_analysis.{specs.declared.colouring.Colour.TheVariants.{Plain, Of}, proofs.{CheckedMethods.{IsKept, AreKept, methods_kept}, ColourFrames.read_is, ColourPaths.{ColouredMethod, has_colours}, FieldColours.{ColouredField, array_whole, none_of_field, are_there}}}
+use Rattle.guard_analysis.proofs.{FlagsPut.is_set, ListsMade.{made_long, made_at, made_past}, OwnersFound.{left_long, all_tagged, tagging_at, coloured_method, checked_method, found_owned, is_array, owned_may, owned_found}}
 use Rattle.jvm_types.specs.declared.code.Op.TheVariants as ops
 
 -- ---- two lists
@@ -22,14 +22,18 @@ zip_by R (x ∷ xs) (y ∷ ys) l each = (each 0 x y refl refl, zip_by R xs ys (o
 
 -- ---- one instruction
 
-record IsRead (oi : Option Insn) (of : Option (Option (List Colour))) (flags : List Bool) : Type 0 where
+-- it reads an element of an array that was read from a field
+pub record IsElementOf (oi : Option Insn) (of : Option (Option (List Colour))) (fi : ℕ) : Type 0 where
   pub insn : Insn
   pub stack : List Colour
-  pub fi : ℕ
   pub is_insn : oi ≡ Some insn
   pub is_frame : of ≡ Some (Some stack)
   pub reads : insn.op ≡ ops.Iaload
   pub colour : colour_at stack 1 ≡ Of fi
+
+record IsRead (oi : Option Insn) (of : Option (Option (List Colour))) (flags : List Bool) : Type 0 where
+  pub fi : ℕ
+  pub element : IsElementOf oi of fi
   pub flagged : is_set flags fi ≡ true
 
 read_parts : (oi : Option Insn) (of : Option (Option (List Colour))) (flags : List Bool) → is_flagged flags (read_colour oi of) ≡ true → IsRead oi of flags
@@ -39,7 +43,7 @@ read_parts (Some insn) (Some None) flags e = absurd (let bad : false ≡ true = 
 read_parts (Some insn) (Some (Some stack)) flags e =
     let op = by_op insn.op e in
     let c = by_colour (colour_at stack 1) op.1 in
-    record { insn = insn; stack = stack; fi = c.0; is_insn = refl; is_frame = refl; reads = op.0; colour = c.1; flagged = c.2 }
+    record { fi = c.0; element = record { insn = insn; stack = stack; is_insn = refl; is_frame = refl; reads = op.0; colour = c.1 }; flagged = c.2 }
   where
     by_op : (op : Op) → is_flagged flags (colour_read op stack) ≡ true → (op ≡ ops.Iaload) × (is_flagged flags (colour_at stack 1) ≡ true)
     by_op ops.Iaload h = (refl, h)
@@ -61,39 +65,45 @@ the_colour fi (Of x) e = ap (λ (n : ℕ). Of n) (eqb-true x fi e)
 
 -- ---- a reached read of an element of an array that was read from an owned field
 
-module _ (p : Program) (tags : List Tags) (program : IsProgram p) (are : AreTaggings p p.methods tags) (mi : ℕ) (m : MethodInfo) (e : slice_get p.methods mi ≡ Some m) (frames : List (Option (List Colour))) (has : HasFrames (colour_plan p m) frames)
-    (i fi : ℕ) (own : IsOwnedArrayField p (tagged_by tags) fi) (insn : Insn) (stack : List Colour) (is_insn : slice_get m.code i ≡ Some insn) (is_frame : slice_get frames i ≡ Some (Some stack)) (reads : insn.op ≡ ops.Iaload) (colour : colour_at stack 1 ≡ Of fi) where
-  its_tags : (t : Tags) × (slice_get tags mi ≡ Some t) × HasTagging p m t.frames
-  its_tags = tagging_at p tags program are mi m e
+module _ (method : ColouredMethod) (program : IsProgram method.p) (all : AreTagged method.p method.tags) (i fi : ℕ) (own : IsOwnedArrayField method.p method.tags fi) (element : IsElementOf (slice_get method.m.code i) (slice_get method.frames i) fi) where
+  open method use {p, tags, mi, m, is}
+  open element use {insn, stack, is_insn, is_frame}
 
   array : is_array_field p fi ≡ true
   array = array_whole p fi own.field own.is (record { array = own.array; private = own.private; instance = own.instance })
 
+  abbrev place : ColouredField
+  place = record { method = method; program = program; fi = fi; field = own.field; there = own.is; array = array }
+
   its_target : (target : Target) × (slice_get m.targets i ≡ Some target) × IsTargetOf p (site_in m) insn.op target
-  its_target = have_targets p mi i m insn program e is_insn
+  its_target = have_targets p mi i m insn program is is_insn
 
   coloured : is_coloured (of_field fi stack) 1 ≡ true
-  coloured = sym (read_is p fi array 1 stack) ∙ of_colour fi (colour_at stack 1) colour
+  coloured = sym (read_is p fi array 1 stack) ∙ of_colour fi (colour_at stack 1) element.colour
 
-  pub reads_of_owned : ReadsOwned p (tagged_by tags) mi i
-  reads_of_owned = by_class (m.class == own.field.class) refl
+  element_of_owned : ReadsOwned p tags mi i
+  element_of_owned = by_class (m.class == own.field.class) refl
     where
-      by_class : (b : Bool) → (m.class == own.field.class) ≡ b → ReadsOwned p (tagged_by tags) mi i
+      by_class : (b : Bool) → (m.class == own.field.class) ≡ b → ReadsOwned p tags mi i
       by_class true c =
-          let u = own.used mi m e (eqb-true m.class own.field.class c) in
-          let a = are_there p (tagged_by tags) program mi m e its_tags.0.frames (frames_there p tags program mi its_tags.0 its_tags.1) its_tags.2 (laid_up p tags program are mi m e) frames has fi own.field own.is array
-          (all_tagged p tags program are) own u.colours u.colouring i insn its_target.0 stack is_insn its_target.1 is_frame in
+          let u = own.used mi m is (eqb-true m.class own.field.class c) in
+          let a = are_there place all own u.colours u.colouring i insn its_target.0 stack is_insn its_target.1 is_frame in
           record {
             m = m;
             insn = insn;
             target = its_target.0;
             f = a.f;
             at = a.at;
-            reads = reads;
+            reads = element.reads;
             owned = record { fi = fi; owned = own; colours = u.colours; colouring = u.colouring; coloured = ap (λ (bs : List Bool). is_coloured bs 1) a.so ∙ coloured };
           }
-      by_class false c = absurd (true≢false (sym coloured ∙ none_of_field p (tagged_by tags) program mi m e its_tags.0.frames (frames_there p tags program mi its_tags.0 its_tags.1) its_tags.2 (laid_up p tags program are mi m e)
-          frames has fi own.field own.is array c i insn its_target.0 stack is_insn its_target.1 is_frame 1))
+      by_class false c = absurd (true≢false (sym coloured ∙ none_of_field place c i insn its_target.0 stack is_insn its_target.1 is_frame 1))
+
+pub reads_of_owned : (p : Program) (tags : List Tags) (program : IsProgram p) (are : AreTaggings p p.methods tags) (mi : ℕ) (m : MethodInfo) (e : slice_get p.methods mi ≡ Some m) (frames : List (Option (List Colour))) → HasFrames (colour_plan p m) frames → (i fi : ℕ)
+    → IsOwnedArrayField p (tagged_by tags) fi → (insn : Insn) (stack : List Colour) → slice_get m.code i ≡ Some insn → slice_get frames i ≡ Some (Some stack) → insn.op ≡ ops.Iaload → colour_at stack 1 ≡ Of fi → ReadsOwned p (tagged_by tags) mi i
+reads_of_owned p tags program are mi m e frames has i fi own insn stack is_insn is_frame reads colour =
+    let t = tagging_at p tags program are mi m e in
+    element_of_owned (coloured_method p tags program are mi m e t.0 t.1 frames has) program (all_tagged p tags program are) i fi own (record { insn = insn; stack = stack; is_insn = is_insn; is_frame = is_frame; reads = reads; colour = colour })
 
 -- ---- all
 
@@ -160,7 +170,7 @@ module _ (p : Program) (tags : List Tags) (program : IsProgram p) (are : AreTagg
         by_order (inr x) = absurd (true≢false (sym h ∙ ap (λ (flags : List Bool). slice_index_or flags i false) its_row ∙ flags_past (slice_index_or reads mi []) (length m.code) i x))
 
     read_is_owned : (k : IsKept p tags owning outs reads mi m) (i : ℕ) → IsRead (slice_get m.code i) (slice_get k.frames i) owners → ReadsOwned p (tagged_by tags) mi i
-    read_is_owned k i r = reads_of_owned p tags program are mi m e k.frames k.has i r.fi (found_owned p tags program are frozen frozen_are outs reads all r.fi r.flagged) r.insn r.stack r.is_insn r.is_frame r.reads r.colour
+    read_is_owned k i r = element_of_owned (coloured_method p tags program are mi m e k.t k.its_tags k.frames k.has) program (all_tagged p tags program are) i r.fi (found_owned p tags program are frozen frozen_are outs reads all r.fi r.flagged) r.element
 
     flag_is_read : (i : ℕ) → slice_index_or (slice_index_or rows mi []) i false ≡ true → ReadsOwned p (tagged_by tags) mi i
     flag_is_read i h = by_flag (class_flag owning m.class) refl
@@ -186,11 +196,9 @@ module _ (p : Program) (tags : List Tags) (program : IsProgram p) (are : AreTagg
           ∙ (other_class p (tagged_by tags) program (all_tagged p tags program are) r.owned.fi o mi r.owned.colours r.owned.colouring r.m e c i r.insn r.target r.f r.at).stack 1))
       by_class true c =
           let k = checked_method p tags program are frozen frozen_are outs reads all r.owned.fi mi o.field r.m o.is (owned_may p tags program are frozen frozen_are outs reads all r.owned.fi o) e (eqb-true r.m.class o.field.class c) in
-          let shapes = frames_there p tags program mi k.t k.its_tags in
-          let tagged = tagging_of p tags program are mi r.m k.t e k.its_tags in
-          let up = laid_up p tags program are mi r.m e in
-          let cs = has_colours p (tagged_by tags) mi r.m e k.t.frames shapes tagged up k.frames k.has i r.insn r.target r.f r.at in
-          let a = are_there p (tagged_by tags) program mi r.m e k.t.frames shapes tagged up k.frames k.has r.owned.fi o.field o.is array (all_tagged p tags program are) o r.owned.colours r.owned.colouring i r.insn r.target cs.0 r.at.in_code r.at.names cs.1 in
+          let method : ColouredMethod = coloured_method p tags program are mi r.m e k.t k.its_tags k.frames k.has in
+          let cs = has_colours method i r.insn r.target r.f r.at in
+          let a = are_there (record { method = method; program = program; fi = r.owned.fi; field = o.field; there = o.is; array = array }) (all_tagged p tags program are) o r.owned.colours r.owned.colouring i r.insn r.target cs.0 r.at.in_code r.at.names cs.1 in
           let colour : colour_at cs.0 1 ≡ Of r.owned.fi =
           the_colour r.owned.fi (colour_at cs.0 1) (read_is p r.owned.fi array 1 cs.0 ∙ ap (λ (bs : List Bool). is_coloured bs 1) (sym a.so) ∙ r.owned.coloured) in
           kept_flag mi r.m e k i (slice_get_within r.m.code i r.insn r.at.in_code)

@@ -3,13 +3,12 @@
 use Rattle.std.proofs.Common.{◌≡◌, ℕ, Bool, true, false, not, ◌&&◌, List, [], ◌∷◌, Option, Some, None, refl, sym, ap, ◌∙◌, subst, ◌==◌, slice_get}
 use Rattle.std.proofs.lemmas.{Bool.{and_parts, eqb-true, eq-eqb, not-true}, Option.same_Some}
 use Rattle.jvm_types.specs.{CodeTable.stack_after, Members.{is_private, is_static}, ProgramInvariant.IsProgram, Verifying.edges}
-use Rattle.jvm_types.specs.declared.{class_numbers.TheConstants.INT_ARRAY_CLASS, code.{Insn.Insn, Op.Op}, program.{FieldInfo.FieldInfo, Kind.Kind, MethodInfo.MethodInfo, Program.Program, Target.Target}}
-use Rattle.code_table.specs.PcTables.{Ascend}
-use Rattle.checked_program.specs.{Colours.{ColourShape, is_read_of, colours_after, IsColouring}, LockTags.TagShape, OwnedArrays.IsOwnedArrayField, SectionLaws.AreTagged, TaggedCode.{Tagged, IsAt, row_of}, Tagging.HasTagging, Visits.HasFrames}
+use Rattle.jvm_types.specs.declared.{class_numbers.TheConstants.INT_ARRAY_CLASS, code.{Insn.Insn, Op.Op}, program.{FieldInfo.FieldInfo, Kind.Kind, Program.Program, Target.Target}}
+use Rattle.checked_program.specs.{Colours.{ColourShape, is_read_of, colours_after, IsColouring}, LockTags.TagShape, OwnedArrays.IsOwnedArrayField, SectionLaws.AreTagged, TaggedCode.{IsAt, row_of}}
 use Rattle.checked_program.proofs.NamedFields.{target_named}
 use Rattle.laws_sections.proofs.ArrayColours.{reads_own, NoneOf, none_at_all, none_first, none_after, array_law}
-use Rattle.guard_analysis.specs.{ColourVisits.{is_int_array, may_be_owned, is_array_field, field_colours_after, is_colour_of, of_field, colour_plan}, OwnedFound.named_by, declared.colouring.Colour.Colour}
-use Rattle.guard_analysis.{specs.declared.colouring.Colour.TheVariants.{Plain, Of}, proofs.{ColourFrames.after_is, ColourPaths.colours_reached}}
+use Rattle.guard_analysis.specs.{ColourVisits.{is_int_array, may_be_owned, is_array_field, field_colours_after, is_colour_of, of_field}, OwnedFound.named_by, declared.colouring.Colour.Colour}
+use Rattle.guard_analysis.{specs.declared.colouring.Colour.TheVariants.{Plain, Of}, proofs.{ColourFrames.after_is, ColourPaths.{ColouredMethod, colours_reached}}}
 use Rattle.jvm_types.specs.declared.program.Kind.TheVariants as kinds
 
 -- ---- one colour
@@ -49,8 +48,19 @@ array_whole p fi field there a = ap may_be_owned there ∙ whole field.kind (is_
 
 -- ---- in a method
 
-module _ (p : Program) (tags : Tagged) (program : IsProgram p) (mi : ℕ) (m : MethodInfo) (is : slice_get p.methods mi ≡ Some m) (shapes : List (Option TagShape)) (of_method : slice_get tags mi ≡ Some shapes) (tagged : HasTagging p m shapes)
-    (up : Ascend 0 m.code) (frames : List (Option (List Colour))) (has : HasFrames (colour_plan p m) frames) (fi : ℕ) (field : FieldInfo) (there : slice_get p.fields fi ≡ Some field) (array : is_array_field p fi ≡ true) where
+-- beside a field of arrays
+pub record ColouredField : Type 0 where
+  pub method : ColouredMethod
+  pub open method use *
+  pub program : IsProgram p
+  pub fi : ℕ
+  pub field : FieldInfo
+  pub there : slice_get p.fields fi ≡ Some field
+  pub array : is_array_field p fi ≡ true
+
+module _ (place : ColouredField) where
+  open place use {method, p, tags, mi, m, frames, program, fi, field, there, array}
+
   is_false : (b : Bool) → (b ≡ true → ⊥) → b ≡ false
   is_false true h = absurd (h refl)
   is_false false h = refl
@@ -69,7 +79,7 @@ module _ (p : Program) (tags : Tagged) (program : IsProgram p) (mi : ℕ) (m : M
 
     pub none_of_field : (i : ℕ) (insn : Insn) (target : Target) (cs : List Colour) → slice_get m.code i ≡ Some insn → slice_get m.targets i ≡ Some target → slice_get frames i ≡ Some (Some cs) → NoneOf (of_field fi cs)
     none_of_field i insn target cs c t e =
-        (colours_reached p tags mi m is shapes of_method tagged up frames has (λ i cs. NoneOf (of_field fi cs)) (λ x y f at. none_at_all) (λ i j a b x y f g ds from to goes q. none_brought i a x f ds from q) (λ i j a b x y f g ds from to goes q. none_first [] none_at_all)
+        (colours_reached method (λ i cs. NoneOf (of_field fi cs)) (λ x y f at. none_at_all) (λ i j a b x y f g ds from to goes q. none_brought i a x f ds from q) (λ i j a b x y f g ds from to goes q. none_first [] none_at_all)
         i insn target cs c t e).so
 
   -- of an owned field
@@ -91,7 +101,7 @@ module _ (p : Program) (tags : Tagged) (program : IsProgram p) (mi : ℕ) (m : M
 
     pub are_there : (i : ℕ) (insn : Insn) (target : Target) (cs : List Colour) → slice_get m.code i ≡ Some insn → slice_get m.targets i ≡ Some target → slice_get frames i ≡ Some (Some cs) → AreThere i insn target cs
     are_there i insn target cs k t e =
-        let r = colours_reached p tags mi m is shapes of_method tagged up frames has HasColours (λ x y f at. ap (λ (s : ColourShape). s.stack) (c.entry m x y f at))
+        let r = colours_reached method HasColours (λ x y f at. ap (λ (s : ColourShape). s.stack) (c.entry m x y f at))
         (λ i j a b x y f g ds from to goes q. colours_brought i j a x f ds from q (c.onward i j m a b x y f g from to goes))
         (λ i j a b x y f g ds from to goes q. ap (λ (s : ColourShape). s.stack) (c.caught i j m a b x y f g from to goes))
         i insn target cs k t e in

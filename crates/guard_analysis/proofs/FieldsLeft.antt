@@ -3,17 +3,17 @@
 use Rattle.std.proofs.Common.{◌≡◌, ◌<◌, ℕ, zero, suc, Bool, true, false, not, ◌&&◌, List, [], ◌∷◌, length, length-set, replicate, Option, Some, None, refl, sym, ap, ◌∙◌, subst, arith, ◌==◌, slice_get, slice_set, slice_index_or}
 use Rattle.std.{specs.List.list_any, proofs.lemmas.{Bool.{and_from, and_parts, eqb-true, eq-eqb, true≢false, not-true}, List.length-replicate, Option.same_Some}}
 use Rattle.jvm_types.specs.{CodeTable.{row, stack_after, locals_after}, Numbers.has_number, ProgramInvariant.IsProgram, Verifying.edges, declared.{code.{Insn.Insn, Op.Op}, op_row.Given.Given}}
-use Rattle.jvm_types.specs.declared.{program.{FieldInfo.FieldInfo, MethodInfo.MethodInfo, Program.Program, Row.Row, Target.Target}}
+use Rattle.jvm_types.specs.declared.{program.{MethodInfo.MethodInfo, Program.Program, Row.Row, Target.Target}}
 use Rattle.code_table.{specs.PcTables.{number_at, Ascend}, proofs.NumbersExact.number_here}
 use Rattle.checked_program.specs.{Colours.{ColourShape, entry_colours, is_read_of, colours_after, colours_at_handler, is_coloured, IsColouring}, FrozenPlaces.{is_field_of, stands_guarded, PutsGuarded, WritesGuarded}, LockTags.{TagShape, is_this}}
 use Rattle.checked_program.specs.OwnedArrays.{GetsOnThis, is_branched_to, StoresNew, PutsNew, may_take_array, TakesArrayWell, StoresGuarded, UsesArrayWell}
-use Rattle.checked_program.specs.{TaggedCode.{Tagged, IsAt, row_of}, Tagging.{catchers, HasTagging}, Visits.HasFrames, declared.tag.Tag.TheVariants.{Untagged, This}}
+use Rattle.checked_program.specs.{TaggedCode.{IsAt, row_of}, Tagging.catchers, declared.tag.Tag.TheVariants.{Untagged, This}}
 use Rattle.checked_program.proofs.FrozenChecks.{that_is_this}
 use Rattle.laws_sections.proofs.ArrayColours.{NoneOf, none_replicate, locals_kept}
-use Rattle.guard_analysis.specs.{ColourVisits.{is_array_field, field_colours_after, is_colour_of, of_field, colour_at, colour_plan}, FieldUses.writes_guarded, OwnedFound.{colours_of, is_making_array, is_newarray, stores_new, branched_flags, handlers_of}}
+use Rattle.guard_analysis.specs.{ColourVisits.{is_array_field, field_colours_after, is_colour_of, of_field, colour_at}, FieldUses.writes_guarded, OwnedFound.{colours_of, is_making_array, is_newarray, stores_new, branched_flags, handlers_of}}
 use Rattle.guard_analysis.specs.declared.colouring.Colour.{Colour, TheVariants.Plain}
 use Rattle.guard_analysis.proofs.ColourChecks.{HaveNotOneColour, IsOther, coloured, deeper, BringsOther, GetsOther, PutsOther, UsesOther, InsnOther, uses, takes, onward, caught}
-use Rattle.guard_analysis.proofs.{ColourFrames.{read_is, after_is}, ColourPaths.{first_stays, shape_of, has_colours}, FieldColours.field_named, FieldUseLaws.guard_parts, FlagsPut.is_set, MethodChecks.{branched_is, handler_there, OtherAt}}
+use Rattle.guard_analysis.proofs.{ColourFrames.{read_is, after_is}, ColourPaths.{first_stays, shape_of, has_colours}, FieldColours.{ColouredField, field_named}, FieldUseLaws.guard_parts, FlagsPut.is_set, MethodChecks.{branched_is, handler_there, OtherAt}}
 use Rattle.jvm_types.specs.declared.code.Op.TheVariants as ops
 use Rattle.jvm_types.specs.declared.program.Target.TheVariants as targets
 
@@ -104,9 +104,9 @@ abbrev stack_or : Option (Option (List Colour)) → List Colour
 stack_or (Some (Some cs)) = cs
 stack_or o = []
 
-module _ (p : Program) (tags : Tagged) (mi : ℕ) (m : MethodInfo) (is : slice_get p.methods mi ≡ Some m) (shapes : List (Option TagShape)) (of_method : slice_get tags mi ≡ Some shapes) (tagged : HasTagging p m shapes)
-    (up : Ascend 0 m.code) (frames : List (Option (List Colour))) (has : HasFrames (colour_plan p m) frames) (fi : ℕ) (field : FieldInfo) (there : slice_get p.fields fi ≡ Some field) (array : is_array_field p fi ≡ true)
-    (own : field.class ≡ m.class) (none : (i : ℕ) → OtherAt p m shapes (branched_flags m) frames fi i → ⊥) where
+module _ (place : ColouredField) (own : place.field.class ≡ place.m.class) (none : (i : ℕ) → OtherAt place.p place.m place.shapes (branched_flags place.m) place.frames place.fi i → ⊥) where
+  open place use {method, p, tags, mi, m, is, up, frames, has, fi, there, array}
+
   -- an instruction with its colours
   record IsHere (i : ℕ) (insn : Insn) (target : Target) (f : TagShape) : Type 0 where
     pub stack : List Colour
@@ -115,11 +115,11 @@ module _ (p : Program) (tags : Tagged) (mi : ℕ) (m : MethodInfo) (is : slice_g
 
   here : (i : ℕ) (insn : Insn) (target : Target) (f : TagShape) → IsAt p tags mi i m insn target f → IsHere i insn target f
   here i insn target f at =
-      let cs = has_colours p tags mi m is shapes of_method tagged up frames has i insn target f at in
+      let cs = has_colours method i insn target f at in
       record {
         stack = cs.0;
         stands = cs.1;
-        not_other = λ x. none i (record { insn = insn; target = target; f = f; stack = cs.0; is_insn = at.in_code; is_target = at.names; is_frame = shape_of p tags mi m is shapes of_method tagged up frames has i insn target f at; is_stack = cs.1; other = x });
+        not_other = λ x. none i (record { insn = insn; target = target; f = f; stack = cs.0; is_insn = at.in_code; is_target = at.names; is_frame = shape_of method i insn target f at; is_stack = cs.1; other = x });
       }
 
   abbrev stack_at : ℕ → List Colour
@@ -140,7 +140,7 @@ module _ (p : Program) (tags : Tagged) (mi : ℕ) (m : MethodInfo) (is : slice_g
 
       by_length : (t : Bool) → (length cs == length ds) ≡ t → of_field fi cs ≡ of_field fi ds
       by_length true l = same_flags (of_field fi cs) (of_field fi ds) (λ h. not_one (coloured (eqb-true (length cs) (length ds) l) h))
-      by_length false l = absurd (not_one (deeper l (ap (is_field_of m.class) there ∙ eq-eqb field.class m.class own)))
+      by_length false l = absurd (not_one (deeper l (ap (is_field_of m.class) there ∙ eq-eqb place.field.class m.class own)))
 
   takes_well : (i : ℕ) (insn : Insn) (target : Target) (f : TagShape) → IsAt p tags mi i m insn target f → TakesArrayWell p m insn target (shape i)
   takes_well i insn target f at k low h = by_test (may_take_array insn.op k) refl

@@ -7,13 +7,13 @@ use Rattle.laws_programs.proofs.CodeOrder.{have_targets}
 use Rattle.code_table.{specs.PcTables.{number_at, Ascend}, proofs.NumbersExact.exact}
 use Rattle.checked_program.specs.{Colours.{ColourShape, is_coloured, IsColouring}, FrozenPlaces.{is_field_of, stands_guarded, PutsGuarded}, LockTags.{TagShape, is_this}}
 use Rattle.checked_program.specs.OwnedArrays.{GetsOnThis, is_branched_to, StoresNew, PutsNew, may_take_array, StoresGuarded, UsesArrayWell, IsOwnedArrayField}
-use Rattle.checked_program.specs.{SectionLaws.AreTagged, TaggedCode.{Tagged, IsAt, row_of}, Tagging.{catchers, HasTagging}, Visits.HasFrames, declared.tag.Tag.TheVariants.{Untagged, This}}
+use Rattle.checked_program.specs.{SectionLaws.AreTagged, TaggedCode.{IsAt, row_of}, Tagging.catchers, declared.tag.Tag.TheVariants.{Untagged, This}}
 use Rattle.checked_program.proofs.NamedFields.{target_named}
 use Rattle.laws_sections.proofs.ArrayColours.{reads_own, writes_own, NoneOf, none_at_all, none_first}
-use Rattle.guard_analysis.specs.{ColourVisits.{is_array_field, field_colours_after, is_colour_of, of_field, colour_at, colour_plan}, FieldUses.writes_guarded, OwnedFound.{named_by, colours_of, is_making_array, is_newarray, stores_new, branched_flags, handlers_of}}
+use Rattle.guard_analysis.specs.{ColourVisits.{is_array_field, field_colours_after, is_colour_of, of_field, colour_at}, FieldUses.writes_guarded, OwnedFound.{named_by, colours_of, is_making_array, is_newarray, stores_new, branched_flags, handlers_of}}
 use Rattle.guard_analysis.specs.declared.colouring.Colour.{Colour, TheVariants.Plain}
 use Rattle.guard_analysis.proofs.ColourChecks.{IsOther, coloured, deeper, BringsOther, BringsOtherTo, TakesOther, UsesOther, InsnOther, uses, takes, onward, caught}
-use Rattle.guard_analysis.proofs.{ColourFrames.read_is, FieldColours.{names_field, array_parts, no_class, none_brought, none_of_field, HasColours, colours_brought, are_there}, FieldUseLaws.guard_whole, MethodChecks.{pc_of, branched_is, handler_there, OtherAt}}
+use Rattle.guard_analysis.proofs.{ColourFrames.read_is, ColourPaths.ColouredMethod, FieldColours.{ColouredField, names_field, array_parts, no_class, none_brought, none_of_field, HasColours, colours_brought, are_there}, FieldUseLaws.guard_whole, MethodChecks.{pc_of, branched_is, handler_there, OtherAt}}
 use Rattle.jvm_types.specs.declared.code.Op.TheVariants as ops
 use Rattle.jvm_types.specs.declared.program.Target.TheVariants as targets
 
@@ -41,8 +41,12 @@ module _ (p : Program) (m : MethodInfo) (i fi : ℕ) where
   no_use pc ops.Iastore target f stack shape new e named g w s k u = true≢false (sym (k (named u.1)) ∙ u.0)
   no_use pc op target f stack shape new e named g w s k u = u
 
-module _ (p : Program) (tags : Tagged) (program : IsProgram p) (mi : ℕ) (m : MethodInfo) (is : slice_get p.methods mi ≡ Some m) (shapes : List (Option TagShape)) (of_method : slice_get tags mi ≡ Some shapes) (tagged : HasTagging p m shapes)
-    (up : Ascend 0 m.code) (frames : List (Option (List Colour))) (has : HasFrames (colour_plan p m) frames) (fi : ℕ) (array : is_array_field p fi ≡ true) (laid : IsLaidOut m) (all : AreTagged p tags) (o : IsOwnedArrayField p tags fi) where
+module _ (method : ColouredMethod) (program : IsProgram method.p) (fi : ℕ) (array : is_array_field method.p fi ≡ true) (laid : IsLaidOut method.m) (all : AreTagged method.p method.tags) (o : IsOwnedArrayField method.p method.tags fi) where
+  open method use {p, tags, mi, m, is, shapes, of_method, up, frames}
+
+  abbrev place : ColouredField
+  place = record { method = method; program = program; fi = fi; field = o.field; there = o.is; array = array }
+
   -- the instruction that an edge leads to, with its colours
   record IsThere (pc : ℕ) (stack : List Colour) : Type 0 where
     pub j : ℕ
@@ -74,7 +78,7 @@ module _ (p : Program) (tags : Tagged) (program : IsProgram p) (mi : ℕ) (m : M
     not_brought : (cs : List Colour) (pc : ℕ) → ((j : ℕ) (other : Insn) (next : Target) (g : TagShape) → IsAt p tags mi j m other next g → other.pc ≡ pc → Has j cs) → BringsOther p m frames fi cs pc → ⊥
     not_brought cs pc brought b =
         let t = is_there pc b.there b.is in
-        let a = are_there p tags program mi m is shapes of_method tagged up frames has fi o.field o.is array all o u.colours u.colouring t.j t.other t.next b.there t.in_code t.names t.stands in
+        let a = are_there place all o u.colours u.colouring t.j t.other t.next b.there t.in_code t.names t.stands in
         by_other (sym (brought t.j t.other t.next a.f a.at t.its_pc) ∙ a.so) b.other
       where
         by_other : {ds : List Colour} → of_field fi cs ≡ of_field fi ds → IsOther p m.class fi cs ds → ⊥
@@ -91,7 +95,7 @@ module _ (p : Program) (tags : Tagged) (program : IsProgram p) (mi : ℕ) (m : M
         let there : is_coloured (u.colours i).stack k ≡ true = ap (λ (bs : List Bool). is_coloured bs k) h ∙ sym (read_is p fi array k stack) ∙ names_field fi (colour_at stack k) named in
         true≢false (sym (u.taken i m insn target f at k low there) ∙ never)
     class_not_out i insn target f stack at h (onward (to, goes, b)) = not_brought (field_colours_after p insn target (row_of p m insn target) stack) to
-        (λ j other next g there same. colours_brought p tags program mi m is shapes of_method tagged up frames has fi o.field o.is array all o u.colours u.colouring i j insn target f stack at h
+        (λ j other next g there same. colours_brought place all o u.colours u.colouring i j insn target f stack at h
         (u.colouring.onward i j m insn other target next f g at there (subst (λ (pc : ℕ). has_number (edges insn) pc ≡ true) (sym same) goes))) b
     class_not_out i insn target f stack at h (caught (to, goes, b)) = not_brought (Plain ∷ []) to
         (λ j other next g there same. ap (λ (s : ColourShape). s.stack) (u.colouring.caught i j m insn other target next f g at there (sym (handler_there (catchers m insn) other.pc) ∙ subst (λ (pc : ℕ). has_number (handlers_of (catchers m insn)) pc ≡ true) (sym same) goes))) b
@@ -114,19 +118,19 @@ module _ (p : Program) (tags : Tagged) (program : IsProgram p) (mi : ℕ) (m : M
     none_differ : (cs : List Colour) (pc : ℕ) → NoneOf (of_field fi cs) → BringsOther p m frames fi cs pc → ⊥
     none_differ cs pc none b =
         let t = is_there pc b.there b.is in
-        by_other (none_of_field p tags program mi m is shapes of_method tagged up frames has fi o.field o.is array other t.j t.other t.next b.there t.in_code t.names t.stands) b.other
+        by_other (none_of_field place other t.j t.other t.next b.there t.in_code t.names t.stands) b.other
       where
         by_other : {ds : List Colour} → NoneOf (of_field fi ds) → IsOther p m.class fi cs ds → ⊥
         by_other {ds = ds} there (coloured l h) =
             h (none_same (of_field fi cs) (of_field fi ds) (length-map cs (is_colour_of fi) ∙ l ∙ sym (length-map ds (is_colour_of fi))) none there)
-        by_other there (deeper d h) = no_class p tags program mi m is shapes of_method tagged up frames has fi o.field o.is array other (eqb-true o.field.class m.class (ap (is_field_of m.class) (sym o.is) ∙ h))
+        by_other there (deeper d h) = no_class place other (eqb-true o.field.class m.class (ap (is_field_of m.class) (sym o.is) ∙ h))
 
     other_use : (op : Op) (target : Target) (f : TagShape) (stack : List Colour) (i : ℕ) → NoneOf (of_field fi stack) → IsTargetOf p (site_in m) op target → UsesOther p m (branched_flags m) i op target f stack fi → ⊥
     other_use (ops.Getfield n) (targets.Field x) f stack i none named u =
-        no_class p tags program mi m is shapes of_method tagged up frames has fi o.field o.is array other
+        no_class place other
         (reads_own p fi o.field m (ops.Getfield n) (targets.Field x) o.is o.private named (eq-eqb x fi (same_Some x fi u.1)))
     other_use (ops.Putfield n) (targets.Field x) f stack i none named u =
-        no_class p tags program mi m is shapes of_method tagged up frames has fi o.field o.is array other (writes_own p fi o.field m n x o.is o.private named (same_Some x fi u.1))
+        no_class place other (writes_own p fi o.field m n x o.is o.private named (same_Some x fi u.1))
     other_use ops.Iastore target f stack i none named u = none_named stack 2 none u.1
     other_use op target f stack i none named u = u
 
@@ -134,7 +138,7 @@ module _ (p : Program) (tags : Tagged) (program : IsProgram p) (mi : ℕ) (m : M
     other_not_out i insn target f stack at none (uses x) = other_use insn.op target f stack i none (target_named p tags mi i m insn target f program at) x
     other_not_out i insn target f stack at none (takes (k, low, never, named)) = none_named stack k none named
     other_not_out i insn target f stack at none (onward (to, goes, b)) = none_differ (field_colours_after p insn target (row_of p m insn target) stack) to
-        (none_brought p tags program mi m is shapes of_method tagged up frames has fi o.field o.is array other i insn target f stack at none) b
+        (none_brought place other i insn target f stack at none) b
     other_not_out i insn target f stack at none (caught (to, goes, b)) = none_differ (Plain ∷ []) to (none_first [] none_at_all) b
 
   -- ---- in any
@@ -148,7 +152,7 @@ module _ (p : Program) (tags : Tagged) (program : IsProgram p) (mi : ℕ) (m : M
       by_class : (t : Bool) → (m.class == o.field.class) ≡ t → ⊥
       by_class true e =
           let u = o.used mi m is (eqb-true m.class o.field.class e) in
-          let a = are_there p tags program mi m is shapes of_method tagged up frames has fi o.field o.is array all o u.colours u.colouring i x.insn x.target x.stack x.is_insn x.is_target x.is_stack in
+          let a = are_there place all o u.colours u.colouring i x.insn x.target x.stack x.is_insn x.is_target x.is_stack in
           class_not_out u i x.insn x.target x.f x.stack at a.so x.other
       by_class false e =
-          other_not_out e i x.insn x.target x.f x.stack at (none_of_field p tags program mi m is shapes of_method tagged up frames has fi o.field o.is array e i x.insn x.target x.stack x.is_insn x.is_target x.is_stack) x.other
+          other_not_out e i x.insn x.target x.f x.stack at (none_of_field place e i x.insn x.target x.stack x.is_insn x.is_target x.is_stack) x.other

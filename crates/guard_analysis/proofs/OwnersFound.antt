@@ -11,7 +11,7 @@ use Rattle.checked_program.proofs.NamedFields.{target_named}
 use Rattle.laws_sections.proofs.ArrayColours.{reads_own, writes_own}
 use Rattle.frozen_classes.specs.FrozenClasses.{AreFrozenClasses}
 use Rattle.guard_analysis.specs.{ColourVisits.{is_array_field, colour_plan}, FieldUses.{class_flag, field_noted}, OwnedFound.{branched_flags, may_own, fields_left_before, owning_with, owning_before}, declared.colouring.Colour.Colour}
-use Rattle.guard_analysis.proofs.{CallEdges.{with_tags, frames_there}, CheckedMethods.{IsKept, IsOutIn, AreKept}, FieldColours.{IsArrayField, array_parts, array_whole}, FieldUseLaws.{noted_long, noted_keeps, noted_here}, FieldUsesFound.{is_frozen, not_frozen}}
+use Rattle.guard_analysis.proofs.{CallEdges.{with_tags, frames_there}, CheckedMethods.{IsKept, IsOutIn, AreKept}, ColourPaths.ColouredMethod, FieldColours.{IsArrayField, ColouredField, array_parts, array_whole}, FieldUseLaws.{noted_long, noted_keeps, noted_here}, FieldUsesFound.{is_frozen, not_frozen}}
 use Rattle.guard_analysis.proofs.{FieldsLeft.{used_well, reads_well, writes_well, writes_new}, FieldsOut.not_out, FlagsPut.is_set, ListsMade.{made_long, made_at, made_past}, MethodChecks.OtherAt}
 use Rattle.jvm_types.specs.declared.code.Op.TheVariants as ops
 use Rattle.jvm_types.specs.declared.program.Target.TheVariants as targets
@@ -83,6 +83,22 @@ module _ (p : Program) (tags : List Tags) (program : IsProgram p) (are : AreTagg
   pub laid_up : (mi : ℕ) (m : MethodInfo) → slice_get p.methods mi ≡ Some m → Ascend 0 m.code
   laid_up mi m e = ascend m (methods_laid_out p mi m program e)
 
+  -- a method with the frames of its colouring
+  abbrev pub coloured_method : (mi : ℕ) (m : MethodInfo) (e : slice_get p.methods mi ≡ Some m) (t : Tags) (its_tags : slice_get tags mi ≡ Some t) (frames : List (Option (List Colour))) → HasFrames (colour_plan p m) frames → ColouredMethod
+  coloured_method mi m e t its_tags frames has = record {
+    p = p;
+    tags = tagged_by tags;
+    mi = mi;
+    m = m;
+    is = e;
+    shapes = t.frames;
+    of_method = frames_there p tags program mi t its_tags;
+    tagged = tagging_of mi m t e its_tags;
+    up = laid_up mi m e;
+    frames = frames;
+    has = has;
+  }
+
   -- ---- a field that no instruction of its class puts out is owned
 
   -- a method in which none does
@@ -118,8 +134,8 @@ module _ (p : Program) (tags : List Tags) (program : IsProgram p) (are : AreTagg
     other_new m i pc (ops.Putfield n) (targets.Field x) named never = λ (e : x ≡ fi). absurd (never (writes_own p fi field m n x there private.private named e))
     other_new m i pc op target named never = tt
 
-    its_shapes : (mi : ℕ) (m : MethodInfo) (k : IsLeftIn fi mi m) → slice_get (tagged_by tags) mi ≡ Some k.t.frames
-    its_shapes mi m k = frames_there p tags program mi k.t k.its_tags
+    abbrev place : (mi : ℕ) (m : MethodInfo) → slice_get p.methods mi ≡ Some m → IsLeftIn fi mi m → ColouredField
+    place mi m e k = record { method = coloured_method mi m e k.t k.its_tags k.frames k.has; program = program; fi = fi; field = field; there = there; array = array }
 
     pub owned_if_left : IsOwnedArrayField p (tagged_by tags) fi
     owned_if_left = record {
@@ -131,18 +147,18 @@ module _ (p : Program) (tags : List Tags) (program : IsProgram p) (are : AreTagg
       frozen = frozen;
       read = λ mi i m insn target f at. by_class mi i m insn target f (GetsOnThis fi insn.op target f) at
           (λ own. let k = each mi m at.in_program (sym own) in
-          reads_well p (tagged_by tags) mi m at.in_program k.t.frames (its_shapes mi m k) (tagging_of mi m k.t at.in_program k.its_tags) (laid_up mi m at.in_program) k.frames k.has fi field there array own k.none i insn target f at)
+          reads_well (place mi m at.in_program k) own k.none i insn target f at)
           (λ never. other_reads m insn.op target f (target_named p (tagged_by tags) mi i m insn target f program at) never);
       written = λ mi i m insn target f at. by_class mi i m insn target f (PutsGuarded fi m insn.op target f) at
           (λ own. let k = each mi m at.in_program (sym own) in
-          writes_well p (tagged_by tags) mi m at.in_program k.t.frames (its_shapes mi m k) (tagging_of mi m k.t at.in_program k.its_tags) (laid_up mi m at.in_program) k.frames k.has fi field there array own k.none i insn target f at)
+          writes_well (place mi m at.in_program k) own k.none i insn target f at)
           (λ never. other_writes m insn.op target f (target_named p (tagged_by tags) mi i m insn target f program at) never);
       new = λ mi i m insn target f at. by_class mi i m insn target f (PutsNew fi m i insn.pc insn.op target) at
           (λ own. let k = each mi m at.in_program (sym own) in
-          writes_new p (tagged_by tags) mi m at.in_program k.t.frames (its_shapes mi m k) (tagging_of mi m k.t at.in_program k.its_tags) (laid_up mi m at.in_program) k.frames k.has fi field there array own k.none i insn target f at)
+          writes_new (place mi m at.in_program k) own k.none i insn target f at)
           (λ never. other_new m i insn.pc insn.op target (target_named p (tagged_by tags) mi i m insn target f program at) never);
       used = λ mi m at own. let k = each mi m at own in
-          used_well p (tagged_by tags) mi m at k.t.frames (its_shapes mi m k) (tagging_of mi m k.t at k.its_tags) (laid_up mi m at) k.frames k.has fi field there array (sym own) k.none;
+          used_well (place mi m at k) (sym own) k.none;
     }
 
   module _ (frozen : List Bool) (frozen_are : AreFrozenClasses p (tagged_by tags) frozen) (outs : List Bool) (reads : List (List Colour))
@@ -202,7 +218,7 @@ module _ (p : Program) (tags : List Tags) (program : IsProgram p) (are : AreTagg
       owned_may = ap (may_own p frozen fi) o.is ∙ and_from (is_array_field p fi) (class_flag frozen o.field.class) is_array (class_frozen (class_flag frozen o.field.class) refl)
 
       not_in : IsOutIn p tags owning fi → ⊥
-      not_in x = not_out p (tagged_by tags) program x.u x.m x.in_program x.t.frames (frames_there p tags program x.u x.t x.its_tags) (tagging_of x.u x.m x.t x.in_program x.its_tags) (laid_up x.u x.m x.in_program) x.frames x.has fi is_array
+      not_in x = not_out (coloured_method x.u x.m x.in_program x.t x.its_tags x.frames x.has) program fi is_array
           (methods_laid_out p x.u x.m program x.in_program) all_tagged o x.other.0 x.other.2
 
       stays_in : (b : Bool) → is_set outs fi ≡ b → not b ≡ true

@@ -14,6 +14,7 @@ pub mod field_uses;
 pub mod marking;
 mod owned_arrays;
 pub mod readable;
+mod row_work;
 mod tag_reading;
 
 pub use callees::flag_at;

@@ -30,6 +30,7 @@ use crate::block_walk::Walk;
 use crate::callees::Callees;
 use crate::faults::locks_class;
 use crate::readable::uses;
+use crate::row_work::{row_budget, spend_for_blocks};
 use crate::tag_reading::{is_this, stack_tag};
 use checked_program::{Mode, SectionMark, Spot, TagFrame, Tags, Uses};
 use code_table::IndexedMethod;
@@ -378,9 +379,11 @@ fn mark_all(
 {
     let mut callees = Callees::of(alloc, p, uses, tags, 0)?;
     let mut marks = Rows::new(alloc);
+    let mut budget = row_budget(p);
     for u in 0..p.methods.len() {
         let m = &p.methods.as_slice()[u];
         let t = &tags.as_slice()[u];
+        spend_for_blocks(&mut budget, m)?;
         callees = callees_for(alloc, p, uses, tags, m, callees)?;
         mark_method(alloc, p, uses, &callees, u as u32, m, tags, t, &mut marks)?;
     }

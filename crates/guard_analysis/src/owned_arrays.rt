@@ -19,6 +19,7 @@ use crate::array_uses::{branched_to, check_insns, read_colours, set_flag};
 use crate::callees::flag_at;
 use crate::colouring::{Colour, Colouring, may_be_owned};
 use crate::field_uses::{class_flag, no_flags};
+use crate::row_work::{row_budget, spend_rows};
 use checked_program::Tags;
 use code_visits::{Budget, MOST_KEPT, Stop, visit_all};
 use handler_rows::HandledMethod;
@@ -51,10 +52,12 @@ fn check_method(
     method: &MethodInfo,
     tags: &Tags,
     outs: &mut Rows<bool>,
+    budget: &mut Budget,
 ) -> Result<Rows<Colour>, AllocError>
     requires { IsLaidOut method.now }
     ensures { IfOk result (IsMethodChecked p.now method.now tags.now.frames outs.old outs.new) }
 {
+    spend_rows(budget, method)?;
     let m = HandledMethod::of(alloc, method)?;
     let frames = colour_frames(alloc, p, method)?;
     let branched = branched_to(alloc, &m)?;
@@ -103,11 +106,12 @@ fn check_methods(
         outs.new) }
 {
     let mut reads = Rows::new(alloc);
+    let mut budget = row_budget(p);
     for u in 0..p.methods.len() {
         let m = &p.methods.as_slice()[u];
         let t = &tags.as_slice()[u];
         let colours = if class_flag(owning, m.class) {
-            check_method(alloc, p, m, t, outs)?
+            check_method(alloc, p, m, t, outs, &mut budget)?
         } else {
             Rows::new(alloc)
         };

@@ -9,7 +9,15 @@ pub add_rows-requires : goal.add_rows-requires
 add_rows-requires c = record { nodes = c.in_ok-add_insns.ensures.nodes ∙ c.in_ok-g.ensures.nodes ∙ ap length c.in_ok-levels.ensures ∙ levels_long c.method-method.result.now c.args.tags.now.frames (length c.method-method.result.now.code) ∙ ap (λ x. length x.code) c.method-method.ensures.is }
 
 pub returns : goal.returns
-returns c = graph_of c.args.m.now c.method-method.ensures.laid c.args.tags.now.frames c.in_ok-g.g c.add_insns.new.g c.add_rows.new.g
-    (c.in_ok-g.ensures.levels ∙ c.in_ok-levels.ensures ∙ ap (λ x. levels_before x c.args.tags.now.frames (length x.code)) c.method-method.ensures.is)
-    (c.in_ok-g.ensures.turns ∙ c.in_ok-turns.ensures ∙ ap (λ x. turns_before x c.args.tags.now.frames (length x.code)) c.method-method.ensures.is)
-    c.in_ok-g.ensures.edges c.in_ok-add_insns.ensures c.in_ok-add_rows.ensures
+returns c = graph_of (record {
+  m = c.args.m.now;
+  frames = c.args.tags.now.frames;
+  first = c.in_ok-g.g;
+  next = c.add_insns.new.g;
+  last = c.add_rows.new.g;
+  levels = c.in_ok-g.ensures.levels ∙ c.in_ok-levels.ensures ∙ ap (λ x. levels_before x c.args.tags.now.frames (length x.code)) c.method-method.ensures.is;
+  turns = c.in_ok-g.ensures.turns ∙ c.in_ok-turns.ensures ∙ ap (λ x. turns_before x c.args.tags.now.frames (length x.code)) c.method-method.ensures.is;
+  none = c.in_ok-g.ensures.edges;
+  onward = c.in_ok-add_insns.ensures;
+  thrown = c.in_ok-add_rows.ensures;
+}) c.method-method.ensures.laid
