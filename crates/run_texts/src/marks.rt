@@ -10,6 +10,10 @@ use jvm_types::{Bytes, Program};
 use std::alloc::{AllocError, Global};
 use std::fmt;
 
+/// The bytes that the marks of a program take as text, but for the last line: 64 MiB. Where they
+/// would take more, memory is wanting.
+const MOST_MARK_BYTES: usize = 67108864;
+
 /// The marks of a program: for each synchronized section, in order, a line `CLASS.NAMEDESCRIPTOR
 /// SPOT MARK`, where the spot is `method` for a synchronized method's own section and `block PC`
 /// for a block, and the mark is `M0` where the section may run without its lock, else the first
@@ -27,8 +31,17 @@ fn lines(alloc: Global, p: &Program, marks: &[SectionMark]) -> Result<Vec<u8>, A
     let mut text = Vec::new(alloc);
     for mark in marks {
         write_mark_line(&mut text, alloc, p, *mark)?;
+        allow_bytes(text.len())?;
     }
     Ok(text)
+}
+
+/// Whether the marks may have so many bytes; the error is that they may not.
+fn allow_bytes(bytes: usize) -> Result<(), AllocError> {
+    if bytes > MOST_MARK_BYTES {
+        return Err(AllocError);
+    }
+    Ok(())
 }
 
 /// Adds the line of a mark.
