@@ -2,11 +2,11 @@
 use Rattle.std.proofs.Common.{◌≡◌, ℕ, zero, suc, ◌+◌, ◌<◌, Bool, true, false, List, [], ◌∷◌, ◌++◌, length, map, drop, replicate, Option, Some, None, refl, sym, ap, ◌∙◌, subst, arith, slice_set, slice_index_or}
 use Rattle.std.specs.List.{AllByRecursion}
 use Rattle.jvm_types.specs.{CodeTable.{value_of, stack_after, locals_after}, Numbers.has_number, Verifying.edges}
-use Rattle.jvm_types.specs.declared.{code.{Insn.Insn}, op_row.{Given.{Given, TheVariants.{Fresh, Taken, Local}}, OpRow.OpRow}, program.{MethodInfo.MethodInfo, Target.Target}, typing.VType.VType}
+use Rattle.jvm_types.specs.declared.{code.Insn.Insn, op_row.{Given.{Given, TheVariants.{Fresh, Taken, Local}}, OpRow.OpRow}, program.Target.Target, typing.VType.VType}
 use Rattle.checked_program.specs.{Colours.{ColourShape, is_read_of, is_coloured, IsColouring}, LockTags.TagShape, MarkedProgram.{MarkedProgram, IsMarked}, OwnedArrays.{may_take_array, IsOwnedArrayField, IsOwnedAt}, SectionLaws.KeepsArray, TaggedCode.{IsAt, row_of}}
 use Rattle.checked_program.proofs.NamedFields.{target_named}
 use Rattle.laws_sections.proofs.ArrayColours.{array_law, locals_kept, none_replicate, reads_own}
-use Rattle.machine_types.specs.{Construction.{IsNoStored, IsArraySlot, SlotsFrom}, OwnedPlaces.{Stores, IsFieldWord, IsStoredAt, IsStoredNowhere}, Standing.tags_of, Threads.Frame}
+use Rattle.machine_types.specs.{Construction.{IsNoStored, IsArraySlot, SlotsFrom}, OwnedPlaces.{Stores, IsFieldWord, IsStoredAt, IsStoredNowhere}, Standing.{Standing, tags_of}, Threads.Frame}
 use Rattle.laws_threads.proofs.Standings.{are_tagged}
 use Rattle.laws_objects.proofs.{ArraySlots.{from_each, local_set}, BuiltEffects.{TypeOld, GivenOld, WriteOld, RowOld}}
 use Rattle.jvm_types.specs.declared.typing.VType.TheVariants as types
@@ -85,7 +85,9 @@ at_set (suc n) b = at_set n b
 
 -- ---- at one instruction
 
-module _ (c : MarkedProgram) (marked : IsMarked c) (stores : Stores) (null : stores 0 ≡ None) (f : Frame) (i : ℕ) (m : MethodInfo) (insn : Insn) (target : Target) (u : TagShape) (at : IsAt c.program (tags_of c) f.method i m insn target u) where
+module _ (c : MarkedProgram) (marked : IsMarked c) (stores : Stores) (f : Frame) (k : Standing c f) where
+  open k use {number as i, method as m, insn, target, tags as u, at}
+
   abbrev pub r : OpRow
   r = row_of c.program m insn target
 
@@ -142,70 +144,70 @@ module _ (c : MarkedProgram) (marked : IsMarked c) (stores : Stores) (null : sto
 
     -- ---- the stack, at an instruction that an edge leads to
 
-    module _ (pc : ℕ) (rest locals : List ℕ) (same : (q : ℕ) → slice_index_or sv (length (row_of c.program m insn target).takes + q) 0 ≡ slice_index_or rest q 0) (is_made : IsMadeWell made)
-        (j : ℕ) (other : Insn) (next : Target) (v : TagShape) (to : IsAt c.program (tags_of c) f.method j m other next v) (edge : has_number (edges insn) other.pc ≡ true) where
-      abbrev stack : List ℕ
-      stack = map (value_of 0 (λ t. made) sv lv) (row_of c.program m insn target).gives ++ rest
+    module _ (pc : ℕ) (rest locals : List ℕ) (same : (q : ℕ) → slice_index_or sv (length (row_of c.program m insn target).takes + q) 0 ≡ slice_index_or rest q 0) (is_made : IsMadeWell made) where
+      module _ (j : ℕ) (other : Insn) (next : Target) (v : TagShape) (to : IsAt c.program (tags_of c) f.method j m other next v) (edge : has_number (edges insn) other.pc ≡ true) where
+        abbrev stack : List ℕ
+        stack = map (value_of 0 (λ t. made) sv lv) (row_of c.program m insn target).gives ++ rest
 
-      abbrev g : Frame
-      g = record f { pc = pc; stack = map (value_of 0 (λ t. made) sv lv) (row_of c.program m insn target).gives ++ rest; locals = locals }
+        abbrev g : Frame
+        g = record f { pc = pc; stack = map (value_of 0 (λ t. made) sv lv) (row_of c.program m insn target).gives ++ rest; locals = locals }
 
-      coloured_by : (k fi : ℕ) (colours : ℕ → ColourShape) → IsColouring c.program (tags_of c) f.method fi colours
-          → is_coloured (colours j).stack k ≡ value_of false (λ type. is_read_of fi insn.op target) (colours i).stack (colours i).locals (source (row_of c.program m insn target).gives (length (row_of c.program m insn target).takes) k)
-      coloured_by k fi colours colouring =
-          ap (λ (s : ColourShape). is_coloured s.stack k) (colouring.onward i j m insn other target next u v at to edge)
-          ∙ stack_source false (λ type. is_read_of fi insn.op target) (row_of c.program m insn target) (colours i).stack (colours i).locals k
+        coloured_by : (k fi : ℕ) (colours : ℕ → ColourShape) → IsColouring c.program (tags_of c) f.method fi colours
+            → is_coloured (colours j).stack k ≡ value_of false (λ type. is_read_of fi insn.op target) (colours i).stack (colours i).locals (source (row_of c.program m insn target).gives (length (row_of c.program m insn target).takes) k)
+        coloured_by k fi colours colouring =
+            ap (λ (s : ColourShape). is_coloured s.stack k) (colouring.onward i j m insn other target next u v at to edge)
+            ∙ stack_source false (λ type. is_read_of fi insn.op target) (row_of c.program m insn target) (colours i).stack (colours i).locals k
 
-      abbrev from : ℕ → Given
-      from k = source (row_of c.program m insn target).gives (length (row_of c.program m insn target).takes) k
+        abbrev from : ℕ → Given
+        from k = source (row_of c.program m insn target).gives (length (row_of c.program m insn target).takes) k
 
-      slot : (k : ℕ) (x : Given) → source (row_of c.program m insn target).gives (length (row_of c.program m insn target).takes) k ≡ x → SourceFine x
-          → IsArraySlot c stores (record f { pc = pc; stack = map (value_of 0 (λ t. made) sv lv) (row_of c.program m insn target).gives ++ rest; locals = locals }) j k (value_of types.Top (λ t. t) ts lt x) (value_of 0 (λ t. made) sv lv x)
-      slot k (Fresh t) e fine = record {
-        owned = λ o word is. is_made.read o.fi (o.owned, sym (coloured_as o) ∙ o.coloured) word is;
-        other = λ none. subst (GivenClean stores made) e (each_source (GivenClean stores made) (length (row_of c.program m insn target).takes) (λ q. tt) (row_of c.program m insn target).gives (is_made.other (λ fi reads. none (here fi reads))).0 k);
-      }
-        where
-          coloured_as : (o : IsOwnedAt c.program (tags_of c) f.method j k) → is_coloured (o.colours j).stack k ≡ is_read_of o.fi insn.op target
-          coloured_as o = coloured_by k o.fi o.colours o.colouring ∙ ap (value_of false (λ type. is_read_of o.fi insn.op target) (o.colours i).stack (o.colours i).locals) e
+        slot : (k : ℕ) (x : Given) → source (row_of c.program m insn target).gives (length (row_of c.program m insn target).takes) k ≡ x → SourceFine x
+            → IsArraySlot c stores (record f { pc = pc; stack = map (value_of 0 (λ t. made) sv lv) (row_of c.program m insn target).gives ++ rest; locals = locals }) j k (value_of types.Top (λ t. t) ts lt x) (value_of 0 (λ t. made) sv lv x)
+        slot k (Fresh t) e fine = record {
+          owned = λ o word is. is_made.read o.fi (o.owned, sym (coloured_as o) ∙ o.coloured) word is;
+          other = λ none. subst (GivenClean stores made) e (each_source (GivenClean stores made) (length (row_of c.program m insn target).takes) (λ q. tt) (row_of c.program m insn target).gives (is_made.other (λ fi reads. none (here fi reads))).0 k);
+        }
+          where
+            coloured_as : (o : IsOwnedAt c.program (tags_of c) f.method j k) → is_coloured (o.colours j).stack k ≡ is_read_of o.fi insn.op target
+            coloured_as o = coloured_by k o.fi o.colours o.colouring ∙ ap (value_of false (λ type. is_read_of o.fi insn.op target) (o.colours i).stack (o.colours i).locals) e
 
-          here : (fi : ℕ) → ReadsField fi → IsOwnedAt c.program (tags_of c) f.method j k
-          here fi reads =
-              let class = reads_own c.program fi reads.0.field m insn.op target reads.0.is reads.0.private (target_named c.program (tags_of c) f.method i m insn target u marked.checked.program at) reads.1 in
-              let used = reads.0.used f.method m at.in_program (sym class) in
-              record {
-                fi = fi;
-                owned = reads.0;
-                colours = used.colours;
-                colouring = used.colouring;
-                coloured = coloured_by k fi used.colours used.colouring ∙ (ap (value_of false (λ type. is_read_of fi insn.op target) (used.colours i).stack (used.colours i).locals) e ∙ reads.1);
-              }
-      slot k (Taken q) e fine = record { owned = λ o word is. fine.owned (back o) word is; other = λ none. fine.other (λ o. none (forth o)) }
-        where
-          as_before : (fi : ℕ) (colours : ℕ → ColourShape) → IsColouring c.program (tags_of c) f.method fi colours → is_coloured (colours j).stack k ≡ is_coloured (colours i).stack q
-          as_before fi colours colouring = coloured_by k fi colours colouring ∙ ap (value_of false (λ type. is_read_of fi insn.op target) (colours i).stack (colours i).locals) e
+            here : (fi : ℕ) → ReadsField fi → IsOwnedAt c.program (tags_of c) f.method j k
+            here fi reads =
+                let class = reads_own c.program fi reads.0.field m insn.op target reads.0.is reads.0.private (target_named c.program (tags_of c) f.method i m insn target u marked.checked.program at) reads.1 in
+                let used = reads.0.used f.method m at.in_program (sym class) in
+                record {
+                  fi = fi;
+                  owned = reads.0;
+                  colours = used.colours;
+                  colouring = used.colouring;
+                  coloured = coloured_by k fi used.colours used.colouring ∙ (ap (value_of false (λ type. is_read_of fi insn.op target) (used.colours i).stack (used.colours i).locals) e ∙ reads.1);
+                }
+        slot k (Taken q) e fine = record { owned = λ o word is. fine.owned (back o) word is; other = λ none. fine.other (λ o. none (forth o)) }
+          where
+            as_before : (fi : ℕ) (colours : ℕ → ColourShape) → IsColouring c.program (tags_of c) f.method fi colours → is_coloured (colours j).stack k ≡ is_coloured (colours i).stack q
+            as_before fi colours colouring = coloured_by k fi colours colouring ∙ ap (value_of false (λ type. is_read_of fi insn.op target) (colours i).stack (colours i).locals) e
 
-          back : IsOwnedAt c.program (tags_of c) f.method j k → IsOwnedAt c.program (tags_of c) f.method i q
-          back o = record { fi = o.fi; owned = o.owned; colours = o.colours; colouring = o.colouring; coloured = sym (as_before o.fi o.colours o.colouring) ∙ o.coloured }
+            back : IsOwnedAt c.program (tags_of c) f.method j k → IsOwnedAt c.program (tags_of c) f.method i q
+            back o = record { fi = o.fi; owned = o.owned; colours = o.colours; colouring = o.colouring; coloured = sym (as_before o.fi o.colours o.colouring) ∙ o.coloured }
 
-          forth : IsOwnedAt c.program (tags_of c) f.method i q → IsOwnedAt c.program (tags_of c) f.method j k
-          forth o = record { fi = o.fi; owned = o.owned; colours = o.colours; colouring = o.colouring; coloured = as_before o.fi o.colours o.colouring ∙ o.coloured }
-      slot k (Local y) e fine = record { owned = λ o word is. absurd (none o); other = λ none. fine }
-        where
-          none : IsOwnedAt c.program (tags_of c) f.method j k → ⊥
-          none o =
-              let as_before : is_coloured (o.colours j).stack k ≡ is_coloured (o.colours i).locals y = coloured_by k o.fi o.colours o.colouring ∙ ap (value_of false (λ type. is_read_of o.fi insn.op target) (o.colours i).stack (o.colours i).locals) e in
-              let bad : true ≡ false = sym o.coloured ∙ (as_before ∙ (keeps_array o.fi o.colours o.owned o.colouring).locals y) in
-              cc
+            forth : IsOwnedAt c.program (tags_of c) f.method i q → IsOwnedAt c.program (tags_of c) f.method j k
+            forth o = record { fi = o.fi; owned = o.owned; colours = o.colours; colouring = o.colouring; coloured = as_before o.fi o.colours o.colouring ∙ o.coloured }
+        slot k (Local y) e fine = record { owned = λ o word is. absurd (none o); other = λ none. fine }
+          where
+            none : IsOwnedAt c.program (tags_of c) f.method j k → ⊥
+            none o =
+                let as_before : is_coloured (o.colours j).stack k ≡ is_coloured (o.colours i).locals y = coloured_by k o.fi o.colours o.colouring ∙ ap (value_of false (λ type. is_read_of o.fi insn.op target) (o.colours i).stack (o.colours i).locals) e in
+                let bad : true ≡ false = sym o.coloured ∙ (as_before ∙ (keeps_array o.fi o.colours o.owned o.colouring).locals y) in
+                cc
 
-      pub stack_clean : ((k : ℕ) → SourceFine (source (row_of c.program m insn target).gives (length (row_of c.program m insn target).takes) k))
-          → SlotsFrom (IsArraySlot c stores (record f { pc = pc; stack = map (value_of 0 (λ t. made) sv lv) (row_of c.program m insn target).gives ++ rest; locals = locals }) j) 0
-          (stack_after types.Top (λ t. t) (row_of c.program m insn target) ts lt) (map (value_of 0 (λ t. made) sv lv) (row_of c.program m insn target).gives ++ rest)
-      stack_clean fine =
-          from_each (IsArraySlot c stores g j) 0 (stack_after types.Top (λ t. t) (row_of c.program m insn target) ts lt) stack
-          (λ k n e.
-          let place : n ≡ k = omega (arith, e) in
-          subst (λ (x : ℕ). IsArraySlot c stores g j x (slice_index_or (stack_after types.Top (λ t. t) (row_of c.program m insn target) ts lt) k types.Top) (slice_index_or stack k 0)) (sym place)
-          (subst (λ (t : VType). IsArraySlot c stores g j k t (slice_index_or stack k 0)) (sym (stack_source types.Top (λ t. t) (row_of c.program m insn target) ts lt k))
-          (subst (λ (x : ℕ). IsArraySlot c stores g j k (value_of types.Top (λ t. t) ts lt (from k)) x) (sym (source_is 0 (λ t. made) sv lv rest (length (row_of c.program m insn target).takes) same (row_of c.program m insn target).gives k))
-          (slot k (from k) refl (fine k)))))
+        pub stack_clean : ((k : ℕ) → SourceFine (source (row_of c.program m insn target).gives (length (row_of c.program m insn target).takes) k))
+            → SlotsFrom (IsArraySlot c stores (record f { pc = pc; stack = map (value_of 0 (λ t. made) sv lv) (row_of c.program m insn target).gives ++ rest; locals = locals }) j) 0
+            (stack_after types.Top (λ t. t) (row_of c.program m insn target) ts lt) (map (value_of 0 (λ t. made) sv lv) (row_of c.program m insn target).gives ++ rest)
+        stack_clean fine =
+            from_each (IsArraySlot c stores g j) 0 (stack_after types.Top (λ t. t) (row_of c.program m insn target) ts lt) stack
+            (λ k n e.
+            let place : n ≡ k = omega (arith, e) in
+            subst (λ (x : ℕ). IsArraySlot c stores g j x (slice_index_or (stack_after types.Top (λ t. t) (row_of c.program m insn target) ts lt) k types.Top) (slice_index_or stack k 0)) (sym place)
+            (subst (λ (t : VType). IsArraySlot c stores g j k t (slice_index_or stack k 0)) (sym (stack_source types.Top (λ t. t) (row_of c.program m insn target) ts lt k))
+            (subst (λ (x : ℕ). IsArraySlot c stores g j k (value_of types.Top (λ t. t) ts lt (from k)) x) (sym (source_is 0 (λ t. made) sv lv rest (length (row_of c.program m insn target).takes) same (row_of c.program m insn target).gives k))
+            (slot k (from k) refl (fine k)))))

@@ -1,9 +1,10 @@
 -- Slots without an array that was stored in an owned field, but for coloured ones: along types, starts and edges.
-use Rattle.std.proofs.Common.{◌≡◌, ◌≢◌, ℕ, zero, suc, ◌+◌, ◌≤◌, Bool, true, false, ◌&&◌, List, [], ◌∷◌, length, drop, Option, Some, None, refl, sym, ap, ◌∙◌, subst, arith, if◌then◌else◌, slice_set, slice_index_or}
-use Rattle.std.proofs.lemmas.Bool.Decides.{nat_tests}
+use Rattle.std.proofs.Common.{◌≡◌, ◌≢◌, ℕ, zero, suc, ◌+◌, ◌≤◌, Bool, true, false, List, [], ◌∷◌, length, drop, Option, Some, None, refl, sym, ◌∙◌, subst, arith, if◌then◌else◌, slice_set, slice_index_or}
+use Rattle.lists.proofs.TestLaws.{both_are_true}
 use Rattle.jvm_types.specs.{Types.{TypeFrame, is_below, same_type, all_pairs}, Verifying.{initialised, after_start}, declared.typing.VType.VType}
 use Rattle.checked_program.specs.MarkedProgram.{MarkedProgram}
-use Rattle.machine_types.specs.{Construction.{IsNoStored, IsArraySlot, SlotsFrom}, OwnedPlaces.{Stores}, ReadyObjects.out_object, Threads.Frame}
+use Rattle.machine_types.specs.{Construction.{IsNoStored, IsArraySlot, SlotsFrom}, OwnedPlaces.Stores, ReadyObjects.out_object, Threads.Frame}
+use Rattle.laws_objects.proofs.Slots.{same_is}
 use Rattle.jvm_types.specs.declared.typing.VType.TheVariants as types
 
 -- ---- slots one by one; where there is none its type says nothing, and its value is null
@@ -72,12 +73,8 @@ module _ (Is : (place : ℕ) → VType → (v : ℕ) → Type 0) (along : AlongT
   edge_from n [] [] vs b a = tt
   edge_from n (t ∷ ts) (u ∷ us) [] b a = tt
   edge_from n (t ∷ ts) (u ∷ us) (v ∷ vs) b a =
-      let parts = both (is_below t u) (all_pairs is_below ts us) b in
+      let parts = both_are_true (is_below t u) (all_pairs is_below ts us) b in
       (along.rises n t u v parts.0 a.0, edge_from (suc n) ts us vs parts.1 a.1)
-    where
-      both : (a b : Bool) → (a && b) ≡ true → (a ≡ true) × (b ≡ true)
-      both true b e = (refl, e)
-      both false b e = absurd (cc)
   edge_from n [] (u ∷ us) vs b a = absurd (cc)
   edge_from n (t ∷ ts) [] vs b a = absurd (cc)
 
@@ -104,19 +101,7 @@ no_stored_along stores = record { rises = λ k t u v b h. rises t u v b h; begin
     as_reference : (class : ℕ) (t : VType) (v : ℕ) → t ≢ types.Int → t ≢ types.Top → IsNoStored stores t v → IsNoStored stores (types.Ref class) v
     as_reference class types.Int v i n h = absurd (i refl)
     as_reference class types.Top v i n h = absurd (n refl)
-    as_reference class types.Null v i n h = h
-    as_reference class (types.Ref d) v i n h = h
-    as_reference class types.This v i n h = h
-    as_reference class (types.New q) v i n h = h
-
-    same_is : (o t : VType) → same_type o t ≡ true → o ≡ t
-    same_is types.Int types.Int e = refl
-    same_is types.Null types.Null e = refl
-    same_is (types.Ref c) (types.Ref d) e = ap types.Ref (grind (arith, nat_tests, e))
-    same_is types.This types.This e = refl
-    same_is (types.New p) (types.New q) e = ap types.New (grind (arith, nat_tests, e))
-    same_is types.Top types.Top e = refl
-    same_is o t e = absurd (cc)
+    as_reference class t v i n h = h
 
     begins : (class : ℕ) (o t : VType) (v : ℕ) → o ≢ types.Int → o ≢ types.Top → IsNoStored stores t v → IsNoStored stores (if same_type o t then types.Ref class else t) v
     begins class o t v i n h = by_test (same_type o t) refl
@@ -146,19 +131,13 @@ module _ (Is : (place : ℕ) → VType → (v : ℕ) → Type 0) (along : AlongT
   stack_begun None s g n vs a = a
   stack_begun (Some (types.This, class)) s g n vs a = begun_from Is along n class types.This g.stack vs (λ z. cc) (λ z. cc) a
   stack_begun (Some (types.New q, class)) s g n vs a = begun_from Is along n class (types.New q) g.stack vs (λ z. cc) (λ z. cc) a
-  stack_begun (Some (types.Int, class)) s g n vs a = absurd s
-  stack_begun (Some (types.Null, class)) s g n vs a = absurd s
-  stack_begun (Some (types.Ref d, class)) s g n vs a = absurd s
-  stack_begun (Some (types.Top, class)) s g n vs a = absurd s
+  stack_begun o s g n vs a = absurd s
 
   pub locals_begun : (o : Option (VType × ℕ)) → IsStart o → (g : TypeFrame) (n : ℕ) (vs : List ℕ) → SlotsFrom Is n g.locals vs → SlotsFrom Is n (after_start o g).locals vs
   locals_begun None s g n vs a = a
   locals_begun (Some (types.This, class)) s g n vs a = begun_from Is along n class types.This g.locals vs (λ z. cc) (λ z. cc) a
   locals_begun (Some (types.New q, class)) s g n vs a = begun_from Is along n class (types.New q) g.locals vs (λ z. cc) (λ z. cc) a
-  locals_begun (Some (types.Int, class)) s g n vs a = absurd s
-  locals_begun (Some (types.Null, class)) s g n vs a = absurd s
-  locals_begun (Some (types.Ref d, class)) s g n vs a = absurd s
-  locals_begun (Some (types.Top, class)) s g n vs a = absurd s
+  locals_begun o s g n vs a = absurd s
 
 -- ---- a local is written
 

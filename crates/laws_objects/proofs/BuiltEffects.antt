@@ -1,5 +1,5 @@
 -- What an effect makes, stores, throws or locks is finished, where what its instruction takes is.
-use Rattle.std.proofs.Common.{◌≡◌, ℕ, Bool, true, false, List, [], ◌∷◌, Option, Some, None, refl, ap, sym, subst, ◌∙◌, slice_get}
+use Rattle.std.proofs.Common.{◌≡◌, ℕ, true, false, List, [], ◌∷◌, Option, Some, None, refl, ap, sym, subst, ◌∙◌, slice_get}
 use Rattle.std.specs.List.{AllByRecursion}
 use Rattle.lists.proofs.ListLaws.{all_weaker, same_some}
 use Rattle.jvm_types.specs.CodeTable.{type_of, want_of, row, constant_row, stack_row, get_static_row, put_static_row, get_row, put_row}

@@ -3,16 +3,16 @@ use Rattle.std.proofs.Common.{◌≡◌, ℕ, inl, Bool, true, false, List, [], 
 use Rattle.std.proofs.lemmas.Bool.{eq-eqb, eqb-true}
 use Rattle.jvm_types.specs.declared.fixed_words.TheConstants.{NEXT_FREE_WORD}
 use Rattle.checked_program.specs.{FrozenPlaces.IsFrozenClass, MarkedProgram.{MarkedProgram, IsMarked}}
-use Rattle.machine_types.specs.{Accesses.{found_by, words_after}, Construction.{Owning, AreFrozen, Construction, ThreadKeeps}}
+use Rattle.machine_types.specs.{Accesses.{found_by, words_after}, Construction.{Owning, AreFrozen, Construction}}
 use Rattle.machine_types.specs.{Core.{Core, Happening, Of, NextPart, start, event, event_of, next, all_happened, core}, Events.{wanted, moved}, MarkLaws.{HasFrozenTest, HasOwnedTest}}
 use Rattle.machine_types.specs.{OwnedPlaces.nowhere, PlainMemory.{Object, start_objects}, Settings.AreSettings, Standing.tags_of, StartLaws.{StartLiesApart, phase_at_start}, Threads.Thread}
 use Rattle.machine_types.specs.{Worlds.{Begun, Builder, builder, World}, declared.{config.Config.Config, phase.Phase.Phase}}
 use Rattle.laws_threads.specs.{PartLaws.{NextKeepsStructure, counted_next}, StateLaws.{counted_phase_at, counted_after}, StructureLaws.StructureIsKept}
 use Rattle.laws_states.specs.{ChangeLaws.{EventsLeaveOthers, all_objects, run_objects}, HeapFacts.{objects_of, objects_after}, RunFacts.HaveWidth, StateFacts.StateFacts}
 use Rattle.laws_states.{specs.StateLaws.{ProgramsKeepThreads, StartHasState, EventsKeepState, NextKeepsState}, proofs.GrowingRuns.all_append}
-use Rattle.laws_objects.{specs.{ConstructionLaws.{no_builders, StartHasConstruction}, UnfinishedObjects.{IsInitOn, NobodyHas}}, proofs.Events.{BuildsFor, builds_for, unwound_stores, usual_built, usual_loses, grows}}
-use Rattle.laws_objects.proofs.{FrameChanges.IsUnwound, LosingInits.{losing_here, leaves_lost}, LostObjects.LostIn, PartBegins.next_builds, Unused.{lost_strange, uses_not, places_have_not}}
-use Rattle.laws_objects.proofs.WorldChanges.{lost}
+use Rattle.laws_objects.{specs.{ConstructionLaws.{no_builders, StartHasConstruction}, UnfinishedObjects.{IsInitOn, NobodyHas}}, proofs.Buildings.{ThreadIn, BuiltState, building_in}}
+use Rattle.laws_objects.proofs.{Events.{BuildsFor, builds_for, unwound_stores, usual_built, usual_loses, grows}, FrameChanges.IsUnwound, LosingInits.{losing_here, leaves_lost}, LostObjects.LostIn}
+use Rattle.laws_objects.proofs.{PartBegins.next_builds, Unused.{lost_strange, uses_not, places_have_not}, WorldChanges.lost}
 
 -- ---- a test that tells a frozen class
 
@@ -72,14 +72,35 @@ pub record BuiltThere (c : MarkedProgram) (cfg : Config) (frozen : ℕ → Bool)
 pub record LostThere (c : MarkedProgram) (cfg : Config) (frozen : ℕ → Bool) (v : ℕ) (objects : List Object) (was : ℕ → Phase) (s : Core) : Type 0 where
   pub there : BuiltThere c cfg frozen objects was s
   pub builder : Builder
-  pub lost : LostIn c frozen there.owning there.world was objects s there.built v builder
+  pub lost : LostIn (record { c = c; frozen = frozen; owning = there.owning; w = there.world; was = was; objects = objects; s = s; con = there.built }) v builder
 
 -- whichever phases count
 pub record BuiltIn (c : MarkedProgram) (cfg : Config) (frozen : ℕ → Bool) (objects : List Object) (s : Core) : Type 0 where
   pub was : ℕ → Phase
   pub there : BuiltThere c cfg frozen objects was s
 
-module _ (laws : AreBuiltLaws) (c : MarkedProgram) (cfg : Config) (frozen : ℕ → Bool) (are : AreFrozen c frozen) (marked : IsMarked c) (width : HaveWidth cfg) (settings : AreSettings cfg) where
+-- the run of a program whose frozen classes the test tells
+pub record Run : Type 0 where
+  pub laws : AreBuiltLaws
+  pub c : MarkedProgram
+  pub cfg : Config
+  pub frozen : ℕ → Bool
+  pub are : AreFrozen c frozen
+  pub marked : IsMarked c
+  pub width : HaveWidth cfg
+  pub settings : AreSettings cfg
+
+module _ (run : Run) where
+  open run use {laws, c, cfg, frozen, are, marked, width, settings}
+
+  abbrev pub state_of : (objects : List Object) (was : ℕ → Phase) (s : Core) → BuiltThere c cfg frozen objects was s → BuiltState
+  state_of objects was s k = record {
+    constructed = record { c = c; frozen = frozen; owning = k.owning; w = k.world; was = was; objects = objects; s = s; con = k.built };
+    cfg = cfg;
+    marked = marked;
+    facts = k.facts;
+  }
+
   pub start_there : BuiltThere c cfg frozen (start_objects c.program) (phase_at_start c cfg) (start c cfg)
   start_there =
       let test = laws.owned_test c marked.marks in
@@ -91,14 +112,14 @@ module _ (laws : AreBuiltLaws) (c : MarkedProgram) (cfg : Config) (frozen : ℕ 
       }
 
   module _ (objects : List Object) (was : ℕ → Phase) (s : Core) (k : BuiltThere c cfg frozen objects was s) where
-    abbrev builds : (t : ℕ) → BuildsFor laws.lies laws.structure c cfg marked frozen k.owning k.world objects was s t k.facts k.built (slice_get s.threads t)
-    builds t = builds_for laws.lies laws.structure c cfg marked frozen k.owning k.world objects was s t k.facts k.built
+    abbrev builds : (t : ℕ) → BuildsFor laws.lies laws.structure (state_of objects was s k) t (slice_get s.threads t)
+    builds t = builds_for laws.lies laws.structure (state_of objects was s k) t
 
     pub event_there : (t : ℕ) → BuiltThere c cfg frozen (objects_after c.program s t objects) (counted_after c was s t) (event c s t)
     event_there t = record { facts = laws.events_state c cfg objects was s t marked width k.facts; owning = record k.owning { stores = (builds t).stores }; world = (builds t).later; built = (builds t).keeps }
 
     pub next_there : BuiltThere c cfg frozen objects (counted_next c was s) (next c s)
-    next_there = record { facts = laws.next_state c cfg objects was s marked (laws.parts c cfg marked settings) k.facts; owning = k.owning; world = k.world; built = (next_builds laws.next_structure c cfg objects was s frozen k.owning k.world k.facts k.built).keeps }
+    next_there = record { facts = laws.next_state c cfg objects was s marked (laws.parts c cfg marked settings) k.facts; owning = k.owning; world = k.world; built = (next_builds laws.next_structure (state_of objects was s k)).keeps }
 
   -- ---- what is lost stays so
 
@@ -108,12 +129,12 @@ module _ (laws : AreBuiltLaws) (c : MarkedProgram) (cfg : Config) (frozen : ℕ 
 
   pub next_lost : (objects : List Object) (was : ℕ → Phase) (s : Core) (v : ℕ) → LostThere c cfg frozen v objects was s → LostThere c cfg frozen v objects (counted_next c was s) (next c s)
   unfolding next_there
-  next_lost objects was s v k = record { there = next_there objects was s k.there; builder = k.builder; lost = (next_builds laws.next_structure c cfg objects was s frozen k.there.owning k.there.world k.there.facts k.there.built).lost v k.builder k.lost }
+  next_lost objects was s v k = record { there = next_there objects was s k.there; builder = k.builder; lost = (next_builds laws.next_structure (state_of objects was s k.there)).lost v k.builder k.lost }
 
   pub nobody_has : (objects : List Object) (was : ℕ → Phase) (s : Core) (v : ℕ) → LostThere c cfg frozen v objects was s → NobodyHas c v objects s
   nobody_has objects was s v k = record {
     places = places_have_not c k.there.owning k.there.world (slice_index s.words NEXT_FREE_WORD) v objects s.words k.builder k.lost.is k.there.built.places;
-    threads = λ u x here. (let keeps = k.there.built.each u x here in uses_not c marked frozen k.there.owning k.there.world (slice_index s.words NEXT_FREE_WORD) u v (was u) x keeps k.there.built.world (k.there.facts.structure u x here).is_as (lost_strange keeps.now u v k.builder (k.lost.seen u x here) k.lost.item));
+    threads = λ u x here. (let keeps = k.there.built.each u x here in uses_not (building_in (state_of objects was s k.there) u) v (was u) x keeps k.there.built.world (k.there.facts.structure u x here).is_as (lost_strange keeps.now u v k.builder (k.lost.seen u x here) k.lost.item));
   }
 
   -- whatever happens
@@ -134,6 +155,9 @@ module _ (laws : AreBuiltLaws) (c : MarkedProgram) (cfg : Config) (frozen : ℕ 
   -- ---- an exception leaves the `<init>` of a frozen class
 
   module _ (objects : List Object) (was : ℕ → Phase) (s : Core) (k : BuiltThere c cfg frozen objects was s) (t v : ℕ) (x : Thread) (here : slice_get s.threads t ≡ Some x) where
+    abbrev state : BuiltState
+    state = state_of objects was s k
+
     abbrev found : ℕ
     found = found_by s.words (wanted c x x.phase)
 
@@ -146,17 +170,16 @@ module _ (laws : AreBuiltLaws) (c : MarkedProgram) (cfg : Config) (frozen : ℕ 
     pub lost_behind : (u : IsUnwound (was t) x (moved c x x.phase found)) → (moved c x x.phase found).attempt ≡ None → (i : IsInitOn c v u.frame) → frozen i.method.class ≡ true → k.world v ≡ Some (builder t (length u.below) Begun)
         → LostThere c cfg frozen v (objects_after c.program s t objects) (counted_after c was s t) (event c s t)
     lost_behind u none i young is =
-        let keeps : ThreadKeeps c frozen k.owning k.world (slice_index s.words NEXT_FREE_WORD) t (was t) x = k.built.each t x here in
+        let keeps : ThreadIn (building_in state t) (was t) x = k.built.each t x here in
         let b : Builder = builder t (length u.below) Begun in
-        let to = leaves_lost c frozen k.owning k.world (slice_index s.words NEXT_FREE_WORD) (slice_index (words_after s.words (wanted c x x.phase)) NEXT_FREE_WORD) t v (was t) x (moved c x x.phase found) keeps k.built.world
-        (grows laws.lies laws.structure c cfg marked frozen k.owning k.world objects was s t k.facts k.built x here) u none i young in
-        let plain = unwound_stores laws.lies laws.structure c cfg marked frozen k.owning k.world objects was s t k.facts k.built x here u in
+        let to = leaves_lost (building_in state t) (was t) x keeps k.built.world (slice_index (words_after s.words (wanted c x x.phase)) NEXT_FREE_WORD) v (moved c x x.phase found) (grows laws.lies laws.structure state t x here) u none i young in
+        let plain = unwound_stores laws.lies laws.structure state t x here u in
         let behind : to.moves.later v ≡ Some (lost (builder t (length u.below) Begun)) = ap (λ (z : World). z v) to.is_later ∙ losing_here keeps.now v (builder t (length u.below) Begun) in
         let view : to.moves.keeps.now v ≡ Some (lost (builder t (length u.below) Begun)) = ap (λ (z : World). z v) to.is_now ∙ losing_here keeps.now v (builder t (length u.below) Begun) in
         subst Behind (sym here) (record {
-          there = record { facts = facts_so; owning = k.owning; world = to.moves.later; built = usual_built laws.lies laws.structure c cfg marked frozen k.owning k.world objects was s t k.facts k.built x here plain to.moves };
+          there = record { facts = facts_so; owning = k.owning; world = to.moves.later; built = usual_built laws.lies laws.structure state t x here plain to.moves };
           builder = lost (builder t (length u.below) Begun);
-          lost = usual_loses laws.lies laws.structure c cfg marked frozen k.owning k.world objects was s t k.facts k.built x here plain to.moves v (lost (builder t (length u.below) Begun)) (record {
+          lost = usual_loses laws.lies laws.structure state t x here plain to.moves v (lost (builder t (length u.below) Begun)) (record {
             item = refl;
             before = builder t (length u.below) Begun;
             was_so = is;

@@ -4,12 +4,12 @@ use Rattle.std.proofs.Common.{◌≡◌, ◌≢◌, ℕ, suc, ◌<◌, Bool, tru
 use Rattle.std.{specs.List.AllByRecursion, proofs.lemmas.Bool.{or_parts, eqb-false, Decides.Decides-eqb}}
 use Rattle.lists.proofs.TestLaws.{is_true}
 use Rattle.jvm_types.specs.{CodeTable.{arguments, want_of}, Verifying.{suits, some_taken, started}, declared.{code.Op.Op, op_row.Want.Want, program.Target.Target}}
-use Rattle.jvm_types.specs.declared.{op_row.Want.TheVariants.{AnyValue, AnInt, AnObject, AnyReference, AHolder, ToStart}, program.{Kind.Kind, MethodInfo.MethodInfo}, typing.VType.VType}
+use Rattle.jvm_types.specs.declared.{op_row.Want.TheVariants.ToStart, program.{Kind.Kind, MethodInfo.MethodInfo}, typing.VType.VType}
 use Rattle.checked_program.specs.{MarkedProgram.MarkedProgram, Marks.called_method, OwnedArrays.may_take_array, declared.tag.Tag.{Tag, TheVariants.Untagged}}
-use Rattle.machine_types.specs.Construction.{Owning, puts_owned, builds, makes_frozen, if_so, SlotsAre, Runs, WaitsFor, FreshAtCall, IsFresh, ReceiverIs, SlotOf, IsArraySlot, SlotsFrom, FrameKeeps, WaitKeeps, KeepBelow}
+use Rattle.machine_types.specs.Construction.{puts_owned, builds, makes_frozen, if_so, SlotsAre, Runs, WaitsFor, FreshAtCall, IsFresh, ReceiverIs, SlotOf, IsArraySlot, SlotsFrom}
 use Rattle.machine_types.specs.{Standing.{Standing, row_at}, Threads.Frame, Worlds.{Made, Begun, Lost, Builder, builder, World, IsFinished, with_builder}}
-use Rattle.laws_objects.proofs.{BuiltEffects.StartsNone, KeptFrames.{KeepsUnder, below_kept, plain_stack}, Moves.{StartsOld, Suit, suits_later}, Slots.{slots_map, slots_drop, slot_later}}
-use Rattle.laws_objects.proofs.{ArraySlots.{from_drop, from_map}, Operands.takes_any, PutPlaces.is_newarray}
+use Rattle.laws_objects.proofs.{ArraySlots.{from_drop, from_map}, Buildings.{Building, in_world, FrameIn, WaitIn, BelowIn}, BuiltEffects.StartsNone, KeptFrames.{KeepsUnder, below_kept, plain_stack}}
+use Rattle.laws_objects.proofs.{Moves.{StartsOld, Suit, suits_later}, Operands.takes_any, PutPlaces.is_newarray, Slots.{slots_map, slots_drop, slot_later}}
 use Rattle.laws_objects.proofs.WorldChanges.{item_is, none_some, given_keeps, given_none}
 use Rattle.jvm_types.specs.declared.code.Op.TheVariants as ops
 use Rattle.jvm_types.specs.declared.program.Kind.TheVariants as kinds
@@ -17,9 +17,10 @@ use Rattle.jvm_types.specs.declared.typing.VType.TheVariants as types
 
 -- ---- below a frame it counts which method it is of, and its receiver
 
-pub below_moved : (c : MarkedProgram) (frozen : ℕ → Bool) (owning : Owning) (w : World) (next t : ℕ) (f : Frame) (pc : ℕ) (stack locals : List ℕ) (fs : List Frame) → KeepBelow c frozen owning w next t f fs → KeepBelow c frozen owning w next t (record f { pc = pc; stack = stack; locals = locals }) fs
-below_moved c frozen owning w next t f pc stack locals [] k = tt
-below_moved c frozen owning w next t f pc stack locals (g ∷ fs) k = k
+module _ (building : Building) where
+  pub below_moved : (f : Frame) (pc : ℕ) (stack locals : List ℕ) (fs : List Frame) → BelowIn building f fs → BelowIn building (record f { pc = pc; stack = stack; locals = locals }) fs
+  below_moved f pc stack locals [] k = tt
+  below_moved f pc stack locals (g ∷ fs) k = k
 
 -- ---- the caller
 
@@ -41,59 +42,65 @@ abbrev pub stands_waiting : (c : MarkedProgram) (f : Frame) (k : Standing c f) �
 stands_waiting c f k = record { number = k.number; method = k.method; insn = k.insn; target = k.target; tags = k.tags; at = k.at; frames = k.frames; types_of_method = k.types_of_method; types = k.types; types_are = k.types_are; pc_is = k.pc_is }
 
 -- the arrays below what it takes
-arrays_wait : (c : MarkedProgram) (frozen : ℕ → Bool) (owning : Owning) (w : World) (next t h : ℕ) (f : Frame) (k : FrameKeeps c frozen owning w next t h Runs f)
-    → SlotsFrom (IsArraySlot c owning.stores (waits_on c f k.stands) k.stands.number) (length (row_at c f k.stands).takes) (drop (length (row_at c f k.stands).takes) k.stands.types.stack) (drop (length (row_at c f k.stands).takes) f.stack)
-arrays_wait c frozen owning w next t h f k =
-    let n : ℕ = length (row_at c f k.stands).takes in
-    from_map (IsArraySlot c owning.stores f k.stands.number) (IsArraySlot c owning.stores (waits_on c f k.stands) k.stands.number) (λ i u v a. record { owned = λ o word is. a.owned o word is; other = λ none. a.other none }) n (drop n k.stands.types.stack) (drop n f.stack)
-    (from_drop (IsArraySlot c owning.stores f k.stands.number) n 0 n k.stands.types.stack f.stack (omega arith) k.arrays)
+module _ (building : Building) where
+  open building use {c, owning}
 
-module _ (c : MarkedProgram) (frozen : ℕ → Bool) (owning : Owning) (w : World) (next t h : ℕ) (f : Frame) (k : FrameKeeps c frozen owning w next t h Runs f) (callee : ℕ) (calls : called_method k.stands.insn.op k.stands.target ≡ Some callee) where
+  arrays_wait : (h : ℕ) (f : Frame) (k : FrameIn building h Runs f)
+      → SlotsFrom (IsArraySlot c owning.stores (waits_on c f k.stands) k.stands.number) (length (row_at c f k.stands).takes) (drop (length (row_at c f k.stands).takes) k.stands.types.stack) (drop (length (row_at c f k.stands).takes) f.stack)
+  arrays_wait h f k =
+      let n : ℕ = length (row_at c f k.stands).takes in
+      from_map (IsArraySlot c owning.stores f k.stands.number) (IsArraySlot c owning.stores (waits_on c f k.stands) k.stands.number) (λ i u v a. record { owned = λ o word is. a.owned o word is; other = λ none. a.other none }) n (drop n k.stands.types.stack) (drop n f.stack)
+      (from_drop (IsArraySlot c owning.stores f k.stands.number) n 0 n k.stands.types.stack f.stack (omega arith) k.arrays)
+
+module _ (building : Building) (h : ℕ) (f : Frame) (k : FrameIn building h Runs f) (callee : ℕ) (calls : called_method k.stands.insn.op k.stands.target ≡ Some callee) where
+  open building use {c, frozen, owning, w, next, t}
+
   -- of a method that is no `<init>` of a frozen class, or of one on `this`
   wait_fresh : (young : ℕ → Bool) (receiver : ℕ) (o : Option (VType × ℕ)) → StartsOld young o → (q v : ℕ) → young q ≡ true → w v ≡ Some (builder t h (Made q)) → FreshAtCall w t h receiver o q v
-  wait_fresh young receiver None s q v y e = e
   wait_fresh young receiver (Some (types.New r, class)) s q v y e = by_test (q == r) refl
     where
       by_test : (b : Bool) → (q == r) ≡ b → if_so b (v ≡ receiver) (w v ≡ Some (builder t h (Made q)))
       by_test true z = absurd (let bad : true ≡ false = sym y ∙ ap young ((Decides-eqb q r).0 z) ∙ s in cc)
       by_test false z = e
-  wait_fresh young receiver (Some (types.This, class)) s q v y e = e
-  wait_fresh young receiver (Some (types.Int, class)) s q v y e = e
-  wait_fresh young receiver (Some (types.Null, class)) s q v y e = e
-  wait_fresh young receiver (Some (types.Ref d, class)) s q v y e = e
-  wait_fresh young receiver (Some (types.Top, class)) s q v y e = e
+  wait_fresh young receiver o s q v y e = e
 
   plain : puts_owned owning.owned k.stands.insn.op k.stands.target ≡ false
   plain = call_stores owning.owned k.stands.insn.op k.stands.target callee calls
 
-  pub caller_waits : (receiver : ℕ) → StartsOld (makes_frozen frozen k.stands.method) (started k.stands.method.class (row_at c f k.stands).takes k.stands.types.stack)
-      → WaitKeeps c frozen owning w next t h callee receiver (waits_on c f k.stands)
-  caller_waits receiver old = record {
-    begun = started k.stands.method.class (row_at c f k.stands).takes k.stands.types.stack;
+  -- in a world that keeps what it has, where its slots are as it waits
+  pub waits_in : (z : World) (receiver : ℕ) (o : Option (VType × ℕ)) → o ≡ started k.stands.method.class (row_at c f k.stands).takes k.stands.types.stack → ((v : ℕ) → IsFinished w next v → IsFinished z next v)
+      → ((q v : ℕ) → makes_frozen frozen k.stands.method q ≡ true → w v ≡ Some (builder t h (Made q)) → FreshAtCall z t h receiver o q v) → ReceiverIs z next t h (builds frozen k.stands.method) f.receiver → WaitIn (in_world building z) h callee receiver (waits_on c f k.stands)
+  waits_in z receiver o begun old fresh own = record {
+    begun = o;
     keeps = record {
       stands = stands_waiting c f k.stands;
-      receiver = k.receiver;
-      stack = moved (drop n k.stands.types.stack) (drop n k.stands.tags.stack) (drop n f.stack) (slots_drop (SlotOf frozen w next t h Runs k.stands.method f.receiver) n k.stands.types.stack k.stands.tags.stack f.stack (plain_stack c frozen owning w next t h f k plain));
+      receiver = own;
+      stack = moved (drop n k.stands.types.stack) (drop n k.stands.tags.stack) (drop n f.stack) (slots_drop (SlotOf frozen w next t h Runs k.stands.method f.receiver) n k.stands.types.stack k.stands.tags.stack f.stack (plain_stack building h f k plain));
       locals = moved k.stands.types.locals k.stands.tags.locals f.locals k.locals;
-      arrays = arrays_wait c frozen owning w next t h f k;
+      arrays = arrays_wait building h f k;
       no_arrays = k.no_arrays;
     };
     calls = calls;
-    begun_is = refl;
+    begun_is = begun;
   }
     where
       n : ℕ
       n = length (row_at c f k.stands).takes
 
-      moved : (ts : List VType) (gs : List Tag) (vs : List ℕ) → SlotsAre (SlotOf frozen w next t h Runs k.stands.method f.receiver) ts gs vs
-          → SlotsAre (SlotOf frozen w next t h (WaitsFor receiver (started k.stands.method.class (row_at c f k.stands).takes k.stands.types.stack)) k.stands.method f.receiver) ts gs vs
-      moved = slots_map (SlotOf frozen w next t h Runs k.stands.method f.receiver) (SlotOf frozen w next t h (WaitsFor receiver (started k.stands.method.class (row_at c f k.stands).takes k.stands.types.stack)) k.stands.method f.receiver)
-          (slot_later (IsFinished w next) (IsFinished w next) (IsFresh w t h Runs) (IsFresh w t h (WaitsFor receiver (started k.stands.method.class (row_at c f k.stands).takes k.stands.types.stack))) (λ v o. o) (makes_frozen frozen k.stands.method)
-          (wait_fresh (makes_frozen frozen k.stands.method) receiver (started k.stands.method.class (row_at c f k.stands).takes k.stands.types.stack) old) (builds frozen k.stands.method) f.receiver)
+      moved : (ts : List VType) (gs : List Tag) (vs : List ℕ) → SlotsAre (SlotOf frozen w next t h Runs k.stands.method f.receiver) ts gs vs → SlotsAre (SlotOf frozen z next t h (WaitsFor receiver o) k.stands.method f.receiver) ts gs vs
+      moved = slots_map (SlotOf frozen w next t h Runs k.stands.method f.receiver) (SlotOf frozen z next t h (WaitsFor receiver o) k.stands.method f.receiver)
+          (slot_later (IsFinished w next) (IsFinished z next) (IsFresh w t h Runs) (IsFresh z t h (WaitsFor receiver o)) old (makes_frozen frozen k.stands.method) fresh (builds frozen k.stands.method) f.receiver)
+
+  pub caller_waits : (receiver : ℕ) → StartsOld (makes_frozen frozen k.stands.method) (started k.stands.method.class (row_at c f k.stands).takes k.stands.types.stack) → WaitIn building h callee receiver (waits_on c f k.stands)
+  caller_waits receiver old =
+      let o = started k.stands.method.class (row_at c f k.stands).takes k.stands.types.stack in
+      waits_in w receiver o refl (λ v k. k) (wait_fresh (makes_frozen frozen k.stands.method) receiver o old) k.receiver
 
 -- ---- in the world where an object of the caller is begun
 
-module _ (c : MarkedProgram) (frozen : ℕ → Bool) (owning : Owning) (w : World) (next t h a q : ℕ) (one : (v u : ℕ) (b : Builder) → b.item ≢ Lost → w v ≡ Some b → w u ≡ Some b → v ≡ u) (is : w a ≡ Some (builder t h (Made q))) where
+module _ (building : Building) (h a q : ℕ) (one : (v u : ℕ) (b : Builder) → b.item ≢ Lost → building.w v ≡ Some b → building.w u ≡ Some b → v ≡ u) (is : building.w a ≡ Some (builder building.t h (Made q))) where
+  open building use {c, frozen, w, next, t}
+
   abbrev pub begun_world : World
   begun_world = with_builder w a (builder t (suc h) Begun)
 
@@ -115,34 +122,14 @@ module _ (c : MarkedProgram) (frozen : ℕ → Bool) (owning : Owning) (w : Worl
       (λ s. (let i : h ≡ suc h = ap (λ (b : Builder). b.height) s in omega (arith, i)))
   receiver_begun false b r = old_begun b r
 
-  pub young_waits : (f : Frame) (k : FrameKeeps c frozen owning w next t h Runs f) (callee class : ℕ) → called_method k.stands.insn.op k.stands.target ≡ Some callee
-      → started k.stands.method.class (row_at c f k.stands).takes k.stands.types.stack ≡ Some (types.New q, class) → WaitKeeps c frozen owning begun_world next t h callee a (waits_on c f k.stands)
-  young_waits f k callee class calls begun = record {
-    begun = Some (types.New q, class);
-    keeps = record {
-      stands = stands_waiting c f k.stands;
-      receiver = receiver_begun (builds frozen k.stands.method) f.receiver k.receiver;
-      stack = moved (drop n k.stands.types.stack) (drop n k.stands.tags.stack) (drop n f.stack) (slots_drop (SlotOf frozen w next t h Runs k.stands.method f.receiver) n k.stands.types.stack k.stands.tags.stack f.stack (plain_stack c frozen owning w next t h f k (call_stores owning.owned k.stands.insn.op k.stands.target callee calls)));
-      locals = moved k.stands.types.locals k.stands.tags.locals f.locals k.locals;
-      arrays = arrays_wait c frozen owning w next t h f k;
-      no_arrays = k.no_arrays;
-    };
-    calls = calls;
-    begun_is = sym begun;
-  }
-    where
-      n : ℕ
-      n = length (row_at c f k.stands).takes
-
-      moved : (ts : List VType) (gs : List Tag) (vs : List ℕ) → SlotsAre (SlotOf frozen w next t h Runs k.stands.method f.receiver) ts gs vs
-          → SlotsAre (SlotOf frozen begun_world next t h (WaitsFor a (Some (types.New q, class))) k.stands.method f.receiver) ts gs vs
-      moved = slots_map (SlotOf frozen w next t h Runs k.stands.method f.receiver) (SlotOf frozen begun_world next t h (WaitsFor a (Some (types.New q, class))) k.stands.method f.receiver)
-          (slot_later (IsFinished w next) (IsFinished begun_world next) (IsFresh w t h Runs) (IsFresh begun_world t h (WaitsFor a (Some (types.New q, class)))) old_begun (makes_frozen frozen k.stands.method)
-          (λ r v y e. fresh_begun r v e) (builds frozen k.stands.method) f.receiver)
+  pub young_waits : (f : Frame) (k : FrameIn building h Runs f) (callee class : ℕ) → called_method k.stands.insn.op k.stands.target ≡ Some callee
+      → started k.stands.method.class (row_at c f k.stands).takes k.stands.types.stack ≡ Some (types.New q, class) → WaitIn (in_world building begun_world) h callee a (waits_on c f k.stands)
+  young_waits f k callee class calls begun =
+      waits_in building h f k callee calls begun_world a (Some (types.New q, class)) (sym begun) old_begun (λ r v y e. fresh_begun r v e) (receiver_begun (builds frozen k.stands.method) f.receiver k.receiver)
 
   -- the frames below wait on
-  pub below_begun : (g : Frame) (fs : List Frame) → length fs ≡ h → KeepBelow c frozen owning w next t g fs → KeepBelow c frozen owning begun_world next t g fs
-  below_begun g fs l k = below_kept c frozen owning w begun_world next next t old_begun g fs keeps k
+  pub below_begun : (g : Frame) (fs : List Frame) → length fs ≡ h → BelowIn building g fs → BelowIn (in_world building begun_world) g fs
+  below_begun g fs l k = below_kept building begun_world next old_begun g fs keeps k
     where
       keeps : KeepsUnder w begun_world t (length fs)
       keeps i less v x e = given_keeps w a (builder t (suc h) Begun) v (builder t i x) e
@@ -178,21 +165,10 @@ start_slot m R own class [] (u ∷ us) (g ∷ gs) (v ∷ vs) none l slots s = re
   where
     same : (u : VType) → started own (ToStart class ∷ []) (u ∷ us) ≡ started own (ToStart class ∷ []) (u ∷ [])
     same types.This = refl
-    same types.Int = refl
-    same types.Null = refl
-    same types.Top = refl
-    same (types.Ref d) = refl
-    same (types.New q) = refl
+    same u = refl
 start_slot m R own class (ToStart d ∷ front) us gs vs none l slots s = absurd none.0
-start_slot m R own class (AnyValue ∷ front) (u ∷ us) (g ∷ gs) (v ∷ vs) none l slots s = let k = start_slot m R own class front us gs vs none.1 (omega (arith, l)) slots.1 (suits_later m AnyValue u (front ++ ToStart class ∷ []) us s) in
-    record { type = k.type; tag = k.tag; value = k.value; type_is = k.type_is; tag_is = k.tag_is; value_is = k.value_is; slot = k.slot; suits_it = k.suits_it; begun = k.begun }
-start_slot m R own class (AnInt ∷ front) (u ∷ us) (g ∷ gs) (v ∷ vs) none l slots s = let k = start_slot m R own class front us gs vs none.1 (omega (arith, l)) slots.1 (suits_later m AnInt u (front ++ ToStart class ∷ []) us s) in
-    record { type = k.type; tag = k.tag; value = k.value; type_is = k.type_is; tag_is = k.tag_is; value_is = k.value_is; slot = k.slot; suits_it = k.suits_it; begun = k.begun }
-start_slot m R own class (AnObject d ∷ front) (u ∷ us) (g ∷ gs) (v ∷ vs) none l slots s = let k = start_slot m R own class front us gs vs none.1 (omega (arith, l)) slots.1 (suits_later m (AnObject d) u (front ++ ToStart class ∷ []) us s) in
-    record { type = k.type; tag = k.tag; value = k.value; type_is = k.type_is; tag_is = k.tag_is; value_is = k.value_is; slot = k.slot; suits_it = k.suits_it; begun = k.begun }
-start_slot m R own class (AnyReference ∷ front) (u ∷ us) (g ∷ gs) (v ∷ vs) none l slots s = let k = start_slot m R own class front us gs vs none.1 (omega (arith, l)) slots.1 (suits_later m AnyReference u (front ++ ToStart class ∷ []) us s) in
-    record { type = k.type; tag = k.tag; value = k.value; type_is = k.type_is; tag_is = k.tag_is; value_is = k.value_is; slot = k.slot; suits_it = k.suits_it; begun = k.begun }
-start_slot m R own class (AHolder d ∷ front) (u ∷ us) (g ∷ gs) (v ∷ vs) none l slots s = let k = start_slot m R own class front us gs vs none.1 (omega (arith, l)) slots.1 (suits_later m (AHolder d) u (front ++ ToStart class ∷ []) us s) in
+start_slot m R own class (want ∷ front) (u ∷ us) (g ∷ gs) (v ∷ vs) none l slots s =
+    let k = start_slot m R own class front us gs vs none.1 (omega (arith, l)) slots.1 (suits_later m want u (front ++ ToStart class ∷ []) us s) in
     record { type = k.type; tag = k.tag; value = k.value; type_is = k.type_is; tag_is = k.tag_is; value_is = k.value_is; slot = k.slot; suits_it = k.suits_it; begun = k.begun }
 start_slot m R own class front us gs [] none l slots s = absurd (omega (arith, l))
 start_slot m R own class front [] [] (v ∷ vs) none l slots s = absurd slots
@@ -203,8 +179,7 @@ start_slot m R own class front (u ∷ us) [] (v ∷ vs) none l slots s = absurd 
 kinds_start : (ks : List Kind) → AllByRecursion StartsNone (map want_of ks)
 kinds_start [] = tt
 kinds_start (kinds.Int ∷ ks) = (tt, kinds_start ks)
-kinds_start (kinds.Bool ∷ ks) = (tt, kinds_start ks)
-kinds_start (kinds.Ref class ∷ ks) = (tt, kinds_start ks)
+kinds_start (kind ∷ ks) = (tt, kinds_start ks)
 
 pub arguments_start : (called : MethodInfo) → AllByRecursion StartsNone (arguments called)
 arguments_start called = kinds_start (reverse called.args)
@@ -213,16 +188,8 @@ arguments_start called = kinds_start (reverse called.args)
 pub none_started : (own : ℕ) (wants : List Want) (us : List VType) → AllByRecursion StartsNone wants → started own wants us ≡ None
 none_started own [] us n = refl
 none_started own (ToStart class ∷ wants) us n = absurd n.0
-none_started own (AnyValue ∷ wants) [] n = refl
-none_started own (AnInt ∷ wants) [] n = refl
-none_started own (AnObject d ∷ wants) [] n = refl
-none_started own (AnyReference ∷ wants) [] n = refl
-none_started own (AHolder d ∷ wants) [] n = refl
-none_started own (AnyValue ∷ wants) (u ∷ us) n = none_started own wants us n.1
-none_started own (AnInt ∷ wants) (u ∷ us) n = none_started own wants us n.1
-none_started own (AnObject d ∷ wants) (u ∷ us) n = none_started own wants us n.1
-none_started own (AnyReference ∷ wants) (u ∷ us) n = none_started own wants us n.1
-none_started own (AHolder d ∷ wants) (u ∷ us) n = none_started own wants us n.1
+none_started own (want ∷ wants) [] n = refl
+none_started own (want ∷ wants) (u ∷ us) n = none_started own wants us n.1
 
 pub none_append : (front : List Want) (want : Want) → AllByRecursion StartsNone front → StartsNone want → AllByRecursion StartsNone (front ++ want ∷ [])
 none_append [] want a n = (n, tt)

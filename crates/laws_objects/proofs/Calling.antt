@@ -1,21 +1,22 @@
 -- A method is called: the caller waits below the frame of the called method.
 use Rattle.std.proofs.Common.{◌≡◌, ◌≢◌, ℕ, zero, suc, ◌+◌, ◌<◌, ◌≤◌, ◌⊎◌, inl, inr, Bool, true, false, not, ◌&&◌, ◌||◌, List, [], ◌∷◌, ◌++◌, length, Option, Some, None, refl, sym, ap, ◌∙◌, subst, arith, ◌==◌, nat_lt, slice_get, slice_index_or, reverse, take, if◌then◌else◌}
-use Rattle.std.{specs.List.AllByRecursion, proofs.lemmas.{Bool.Decides.nat_tests, List.length-append}}
+use Rattle.std.{specs.List.AllByRecursion, proofs.lemmas.{Bool.{eqb-true, Decides.nat_tests}, List.length-append}}
 use Rattle.lists.proofs.ListLaws.{same_some}
 use Rattle.jvm_types.specs.{CodeTable.{arguments, is_init}, Members.{MethodSite, is_static, is_init_name, is_class_init_name}, ProgramInvariant.site_in}
 use Rattle.jvm_types.specs.{Verifying.{suits, new_class, is_class_of, started}, declared.{class_numbers.TheConstants.OBJECT_CLASS, code.Op.Op, op_row.{OpRow.OpRow, Want.Want}}}
 use Rattle.jvm_types.specs.declared.{op_row.Want.TheVariants.{AnObject, ToStart}, program.{MethodInfo.MethodInfo, Program.Program, Target.Target}, typing.VType.VType}
 use Rattle.laws_programs.{specs.{EntryLaws.receiver_count, TargetLaws.HasRow}, proofs.LocalGoing.at_index}
-use Rattle.checked_program.specs.{CheckedLaws.receiver_want, FrozenPlaces.may_take, MarkedProgram.{MarkedProgram, IsMarked, checked_part}, Marks.called_method, declared.tag.Tag.Tag}
+use Rattle.checked_program.specs.{CheckedLaws.receiver_want, FrozenPlaces.may_take, MarkedProgram.checked_part, Marks.called_method, declared.tag.Tag.Tag}
 use Rattle.checked_program.{specs.declared.tag.Tag.TheVariants.{Untagged, This}, proofs.CheckedPlaces.called_fit_all}
-use Rattle.machine_types.specs.Construction.{Owning, AreOwned, puts_owned, AreFrozen, is_frozen_class, builds, makes_frozen, if_so, SlotByType, SlotIs, Runs, IsFresh, ReceiverIs, SlotOf, IsNoStored, FrameKeeps, WaitKeeps, KeepBelow, FramesKeep}
-use Rattle.machine_types.specs.{Frames.{entry_frame, first_or_null}, OwnedPlaces.IsStoredNowhere, Standing.row_at, Threads.Frame, Worlds.{Made, Begun, Builder, builder, World, IsFinished, IsOwnOrFinished, IsWorld, with_builder}}
+use Rattle.machine_types.specs.Construction.{puts_owned, is_frozen_class, builds, makes_frozen, if_so, SlotByType, SlotIs, Runs, IsFresh, ReceiverIs, SlotOf, IsNoStored}
+use Rattle.machine_types.specs.{Frames.{entry_frame, first_or_null}, OwnedPlaces.IsStoredNowhere, Standing.row_at, Threads.Frame, Worlds.{Made, Begun, Builder, builder, World, IsFinished, IsOwnOrFinished, with_builder}}
 use Rattle.laws_threads.proofs.{Callers.row_of_call, Calls.{CallRow, deepest_first}, Landing.rules_at}
-use Rattle.laws_objects.proofs.{ArrayFrames.{stack_long, slot_of, takes_clean}, ArrayMoves.not_owned, ArraySlots.StoresFine, BuiltEffects.StartsNone}
+use Rattle.laws_objects.proofs.{ArrayFrames.{stack_long, slot_of, takes_clean}, ArrayMoves.not_owned, Buildings.{LawfulBuilding, in_world, FrameIn, WaitIn, BelowIn, FramesIn, null}}
+use Rattle.laws_objects.proofs.BuiltEffects.{StartsNone}
 use Rattle.laws_objects.proofs.CalledFrames.{call_stores, call_takes, below_moved, waits_on, caller_waits, begun_world, old_begun, young_waits, below_begun, ReceiverAt, start_slot, arguments_start, none_started, none_append}
 use Rattle.laws_objects.proofs.{EnteredFrames.{ArgsOld, args_map, static_args, instance_args, static_enters, instance_enters}, KeptFrames.plain_stack, Landing.{inside_at, no_this_at}}
 use Rattle.laws_objects.proofs.{Moves.{Steps, stays, StartsOld, Suit, suit_at}, Operands.{TakenOld, is_getfield, takes_old}, Slots.plainly}
-use Rattle.laws_objects.proofs.WorldChanges.{none_some, given_here, world_given, goes_given, lost_given, not_lost}
+use Rattle.laws_objects.proofs.WorldChanges.{finished_known, none_some, given_here, world_given, goes_given, lost_given, not_lost}
 use Rattle.jvm_types.specs.declared.code.Op.TheVariants as ops
 use Rattle.jvm_types.specs.declared.program.Target.TheVariants as targets
 use Rattle.jvm_types.specs.declared.typing.VType.TheVariants as types
@@ -68,18 +69,15 @@ not_built frozen m e = ap (λ (b : Bool). b && frozen m.class) e
 built : (frozen : ℕ → Bool) (m : MethodInfo) → is_init m ≡ true → builds frozen m ≡ frozen m.class
 built frozen m e = ap (λ (b : Bool). b && frozen m.class) e
 
-class_frozen : (frozen : ℕ → Bool) (o : Option ℕ) (class : ℕ) → is_class_of o class ≡ true → is_frozen_class frozen o ≡ frozen class
+pub class_frozen : (frozen : ℕ → Bool) (o : Option ℕ) (class : ℕ) → is_class_of o class ≡ true → is_frozen_class frozen o ≡ frozen class
 class_frozen frozen None class e = absurd (cc)
-class_frozen frozen (Some d) class e = ap frozen (same d class e)
-  where
-    same : (d class : ℕ) → (d == class) ≡ true → d ≡ class
-    same d class e = grind (arith, nat_tests)
+class_frozen frozen (Some d) class e = ap frozen (eqb-true d class e)
 
-module _ (c : MarkedProgram) (marked : IsMarked c) (frozen : ℕ → Bool) (are : AreFrozen c frozen) (owning : Owning) (owns : AreOwned c owning.owned) (w : World) (next t : ℕ) (null : IsFinished w next 0) (first : ℕ) (is_world : IsWorld w first next) (fine : StoresFine owning.stores next)
-    (f : Frame) (fs : List Frame) (k : FrameKeeps c frozen owning w next t (length fs) Runs f) (below : KeepBelow c frozen owning w next t f fs)
-    (number : ℕ) (called : MethodInfo) (there : slice_get c.program.methods number ≡ Some called) (calls : called_method k.stands.insn.op k.stands.target ≡ Some number) where
+module _ (lawful : LawfulBuilding) (f : Frame) (fs : List Frame) (k : FrameIn lawful.building (length fs) Runs f) (below : BelowIn lawful.building f fs) (number : ℕ) (called : MethodInfo) (there : slice_get lawful.c.program.methods number ≡ Some called) (calls : called_method k.stands.insn.op k.stands.target ≡ Some number) where
+  open lawful use {building, design, c, marked, frozen, owning, w, next, t, is_world}
+
   abbrev pub CallKeeps : (args : List ℕ) → World → Type 0
-  CallKeeps args z = FramesKeep c frozen owning z next t Runs (entry_frame number called args ∷ waits_on c f k.stands ∷ fs) × IsOwnOrFinished z next t (entry_frame number called args).receiver
+  CallKeeps args z = FramesIn (in_world building z) Runs (entry_frame number called args ∷ waits_on c f k.stands ∷ fs) × IsOwnOrFinished z next t (entry_frame number called args).receiver
 
   abbrev m : MethodInfo
   m = k.stands.method
@@ -91,7 +89,7 @@ module _ (c : MarkedProgram) (marked : IsMarked c) (frozen : ℕ → Bool) (are 
   call = row_of_call c marked f k.stands number called calls there
 
   tall : length r.takes ≤ length f.stack
-  tall = at_least (length k.stands.types.stack) (length r.takes) (length f.stack) (rules_at c marked f k.stands).rules.takes (stack_long c marked frozen owning fine.null w next t (length fs) f k)
+  tall = at_least (length k.stands.types.stack) (length r.takes) (length f.stack) (rules_at c marked f k.stands).rules.takes (stack_long building (length fs) f k)
     where
       at_least : (a b d : ℕ) → nat_lt a b ≡ false → a ≡ d → b ≤ d
       at_least a b d e s = grind (arith, nat_tests, e, s)
@@ -100,25 +98,22 @@ module _ (c : MarkedProgram) (marked : IsMarked c) (frozen : ℕ → Bool) (are 
   plain_here = call_stores owning.owned k.stands.insn.op k.stands.target number calls
 
   taken : TakenOld (IsFinished w next) r.takes f.stack
-  taken = takes_old c marked frozen are owning owns w next t (length fs) f k null (calls_no_getfield k.stands.insn.op k.stands.target number calls) plain_here
+  taken = takes_old building (length fs) f k (null lawful) (calls_no_getfield k.stands.insn.op k.stands.target number calls) plain_here
 
   taken_clean : TakenOld (IsStoredNowhere owning.stores) r.takes f.stack
-  taken_clean = takes_clean c marked frozen owning fine.null w next t (length fs) f k (call_takes k.stands.insn.op k.stands.target number calls).0
+  taken_clean = takes_clean building (length fs) f k (call_takes k.stands.insn.op k.stands.target number calls).0
 
   fits : receiver_count called + length called.args ≤ called.max_locals
   fits = called_fit_all (checked_part c) number called marked.checked there
 
   -- the frames below the caller
-  waits_below : KeepBelow c frozen owning w next t (waits_on c f k.stands) fs
-  waits_below = below_moved c frozen owning w next t f f.pc (waits_on c f k.stands).stack f.locals fs below
+  waits_below : BelowIn building (waits_on c f k.stands) fs
+  waits_below = below_moved building f f.pc (waits_on c f k.stands).stack f.locals fs below
 
   -- in the same world
-  same_world : (args : List ℕ) → StartsOld (makes_frozen frozen m) (started m.class r.takes k.stands.types.stack) → FrameKeeps c frozen owning w next t (suc (length fs)) Runs (entry_frame number called args)
+  same_world : (args : List ℕ) → StartsOld (makes_frozen frozen m) (started m.class r.takes k.stands.types.stack) → FrameIn building (suc (length fs)) Runs (entry_frame number called args)
       → IsOwnOrFinished w next t (entry_frame number called args).receiver → Steps w next t (CallKeeps args)
-  same_world args old callee known = stays w next t (CallKeeps args) ((callee, (caller_waits c frozen owning w next t (length fs) f k number calls (entry_frame number called args).receiver old, waits_below)), known)
-
-  finished_known : (v : ℕ) → IsFinished w next v → IsOwnOrFinished w next t v
-  finished_known v o = (o.0, λ b e. absurd (none_some (w v) b o.1 e))
+  same_world args old callee known = stays w next t (CallKeeps args) ((callee, (caller_waits building (length fs) f k number calls (entry_frame number called args).receiver old, waits_below)), known)
 
   nothing_started : AllByRecursion StartsNone r.takes → StartsOld (makes_frozen frozen m) (started m.class r.takes k.stands.types.stack)
   nothing_started none = subst (StartsOld (makes_frozen frozen m)) (sym (none_started m.class r.takes k.stands.types.stack none)) tt
@@ -132,8 +127,8 @@ module _ (c : MarkedProgram) (marked : IsMarked c) (frozen : ℕ → Bool) (are 
       subst (λ (n : ℕ). ArgsOld Old called.args (reverse (take n f.stack))) (sym (ap (length {A = Want}) takes))
       (static_args Old called f.stack (subst (λ (ws : List Want). length ws ≤ length f.stack) takes tall) (subst (λ (ws : List Want). TakenOld Old ws f.stack) takes taken)) in
       same_world (reverse (take (length r.takes) f.stack)) (nothing_started (subst (AllByRecursion StartsNone) (sym takes) (arguments_start called)))
-      (static_enters c marked frozen are owning owns w next t (suc (length fs)) null number called there (reverse (take (length r.takes) f.stack)) static (not_built frozen called init) (omega (arith, fits)) (args_all (IsFinished w next) taken) (args_all (IsStoredNowhere owning.stores) taken_clean))
-      (subst (IsOwnOrFinished w next t) (sym (ap (λ (b : Bool). if b then 0 else first_or_null (reverse (take (length r.takes) f.stack))) static)) (finished_known 0 null))
+      (static_enters building (suc (length fs)) (null lawful) number called there (reverse (take (length r.takes) f.stack)) static (not_built frozen called init) (omega (arith, fits)) (args_all (IsFinished w next) taken) (args_all (IsStoredNowhere owning.stores) taken_clean))
+      (subst (IsOwnOrFinished w next t) (sym (ap (λ (b : Bool). if b then 0 else first_or_null (reverse (take (length r.takes) f.stack))) static)) (finished_known w next t 0 (null lawful)))
 
   -- ---- an instance method
 
@@ -157,8 +152,8 @@ module _ (c : MarkedProgram) (marked : IsMarked c) (frozen : ℕ → Bool) (are 
     -- a receiver that is finished
     calls_old : builds frozen called ≡ false → IsFinished w next a → IsStoredNowhere owning.stores a → StartsOld (makes_frozen frozen m) (started m.class r.takes k.stands.types.stack) → Steps w next t (CallKeeps (a ∷ rest))
     calls_old own old clean starts =
-        same_world (a ∷ rest) starts (instance_enters c marked frozen are owning owns w next t (suc (length fs)) null number called there a rest static one_more rest_old (subst (λ (b : Bool). ReceiverIs w next t (suc (length fs)) b a) (sym own) old) clean rest_clean)
-        (subst (IsOwnOrFinished w next t) (sym receiver_is) (finished_known a old))
+        same_world (a ∷ rest) starts (instance_enters building (suc (length fs)) (null lawful) number called there a rest static one_more rest_old (subst (λ (b : Bool). ReceiverIs w next t (suc (length fs)) b a) (sym own) old) clean rest_clean)
+        (subst (IsOwnOrFinished w next t) (sym receiver_is) (finished_known w next t a old))
 
     calls_plain : is_init called ≡ false → Steps w next t (CallKeeps (a ∷ rest))
     calls_plain init =
@@ -174,21 +169,21 @@ module _ (c : MarkedProgram) (marked : IsMarked c) (frozen : ℕ → Bool) (are 
 
       place : ReceiverAt m (SlotOf frozen w next t (length fs) Runs m f.receiver) m.class called.class (length (arguments called)) k.stands.types.stack k.stands.tags.stack f.stack (started m.class (arguments called ++ ToStart called.class ∷ []) k.stands.types.stack)
       place = start_slot m (SlotOf frozen w next t (length fs) Runs m f.receiver) m.class called.class (arguments called) k.stands.types.stack k.stands.tags.stack f.stack (arguments_start called)
-          (omega (arith, tall, ap (length {A = Want}) takes_start, length-append (arguments called) (ToStart called.class ∷ []))) (plain_stack c frozen owning w next t (length fs) f k plain_here)
+          (omega (arith, tall, ap (length {A = Want}) takes_start, length-append (arguments called) (ToStart called.class ∷ []))) (plain_stack building (length fs) f k plain_here)
           (subst (λ (ws : List Want). Suit m ws k.stands.types.stack) takes_start (suit_at c marked f k.stands))
 
       -- in an `<init>` of a frozen class it is not `this`
       other_tag : builds frozen m ≡ true → (g : Tag) → slice_index_or k.stands.tags.stack (length (arguments called)) Untagged ≡ g → g ≢ This
       other_tag own g e s =
           let inside : length (arguments called) < length r.takes = omega (arith, ap (length {A = Want}) takes_start, length-append (arguments called) (ToStart called.class ∷ [])) in
-          let may = (inside_at c marked frozen are owning owns f k.stands own).taken k.stands.number k.stands.insn k.stands.target k.stands.tags k.stands.at (length (arguments called)) inside (e ∙ s) in
+          let may = (inside_at design f k.stands own).taken k.stands.number k.stands.insn k.stands.target k.stands.tags k.stands.at (length (arguments called)) inside (e ∙ s) in
           let free = calls_take_none c.program m.class k.stands.insn.op k.stands.target number (length (arguments called)) calls in
           (let bad : true ≡ false = sym may ∙ free in cc)
 
       -- so the slot goes by its type, which is not `this` there
       plain : (own : Bool) → builds frozen m ≡ own → (u : VType) (g : Tag) (v : ℕ) → (own ≡ true → g ≢ This) → SlotIs (IsFinished w next) (IsFresh w t (length fs) Runs) own (makes_frozen frozen m) f.receiver u g v
           → (own ≡ true → u ≢ types.This) × SlotByType (IsFinished w next) (IsFresh w t (length fs) Runs) (makes_frozen frozen m) u v
-      plain true e u g v n s = let p = plainly (IsFinished w next) null (IsFresh w t (length fs) Runs) true (makes_frozen frozen m) f.receiver u g v (n refl) s in (λ o. p.0, p.1)
+      plain true e u g v n s = let p = plainly (IsFinished w next) (IsFresh w t (length fs) Runs) (makes_frozen frozen m) f.receiver u g v (n refl) s in (λ o. p.0, p.1)
       plain false e u g v n s = (λ o. absurd (let bad : false ≡ true = o in cc), s)
 
       begun_is : (o : Option (VType × ℕ)) → started m.class (arguments called ++ ToStart called.class ∷ []) k.stands.types.stack ≡ o → started m.class r.takes k.stands.types.stack ≡ o
@@ -199,10 +194,10 @@ module _ (c : MarkedProgram) (marked : IsMarked c) (frozen : ℕ → Bool) (are 
       receiver_clean u type =
           let n : ℕ = length (arguments called) in
           let inside : length (arguments called) < length r.takes = omega (arith, ap (length {A = Want}) takes_start, length-append (arguments called) (ToStart called.class ∷ [])) in
-          let slot = slot_of c marked frozen owning fine.null w next t (length fs) f k n in
+          let slot = slot_of building (length fs) f k n in
           subst (λ (x : VType). IsNoStored owning.stores x a) (index_got types.Top k.stands.types.stack n u type)
           (subst (IsNoStored owning.stores (slice_index_or k.stands.types.stack n types.Top)) (index_got 0 f.stack n a at)
-          (slot.other (not_owned c marked owning.stores fine.null f k.stands.number m k.stands.insn k.stands.target k.stands.tags k.stands.at n inside ((call_takes k.stands.insn.op k.stands.target number calls).1 n))))
+          (slot.other (not_owned c marked owning.stores f k.stands n inside ((call_takes k.stands.insn.op k.stands.target number calls).1 n))))
 
       -- what a `new` of the caller made
       calls_new : (y : Bool) → frozen called.class ≡ y → (q : ℕ) → is_class_of (new_class m.code m.targets q) called.class ≡ true → started m.class r.takes k.stands.types.stack ≡ Some (types.New q, called.class)
@@ -214,8 +209,8 @@ module _ (c : MarkedProgram) (marked : IsMarked c) (frozen : ℕ → Bool) (are 
       calls_new true e q of begun s clean =
           let young : makes_frozen frozen m q ≡ true = class_frozen frozen (new_class m.code m.targets q) called.class of ∙ e in
           let is : w a ≡ Some (builder t (length fs) (Made q)) = subst (λ (b : Bool). if_so b (w a ≡ Some (builder t (length fs) (Made q))) (IsFinished w next a)) young s in
-          let now : begun_world c frozen owning w next t (length fs) a q is_world.one is a ≡ Some (builder t (suc (length fs)) Begun) = given_here w a (builder t (suc (length fs)) Begun) in
-          let old = old_begun c frozen owning w next t (length fs) a q is_world.one is in
+          let now : begun_world building (length fs) a q is_world.one is a ≡ Some (builder t (suc (length fs)) Begun) = given_here w a (builder t (suc (length fs)) Begun) in
+          let old = old_begun building (length fs) a q is_world.one is in
           let inside = is_world.inside a (builder t (length fs) (Made q)) is in
           record {
             later = with_builder w a (builder t (suc (length fs)) Begun);
@@ -224,12 +219,12 @@ module _ (c : MarkedProgram) (marked : IsMarked c) (frozen : ℕ → Bool) (are 
             lost = lost_given w a (builder t (suc (length fs)) Begun) (λ b h. not_lost (w a) (builder t (length fs) (Made q)) b (λ e. cc) is h);
             keeps = (
               (
-                instance_enters c marked frozen are owning owns (with_builder w a (builder t (suc (length fs)) Begun)) next t (suc (length fs)) (old 0 null) number called there a rest static one_more (args_map (IsFinished w next) (IsFinished (with_builder w a (builder t (suc (length fs)) Begun)) next) old called.args rest rest_old)
+                instance_enters (in_world building (with_builder w a (builder t (suc (length fs)) Begun))) (suc (length fs)) (old 0 (null lawful)) number called there a rest static one_more (args_map (IsFinished w next) (IsFinished (with_builder w a (builder t (suc (length fs)) Begun)) next) old called.args rest rest_old)
                     (subst (λ (b : Bool). ReceiverIs (with_builder w a (builder t (suc (length fs)) Begun)) next t (suc (length fs)) b a) (sym (built frozen called init ∙ e)) now) clean rest_clean,
                 (
-                  subst (λ (x : ℕ). WaitKeeps c frozen owning (with_builder w a (builder t (suc (length fs)) Begun)) next t (length fs) number x (waits_on c f k.stands)) (sym receiver_is)
-                      (young_waits c frozen owning w next t (length fs) a q is_world.one is f k number called.class calls begun),
-                  below_begun c frozen owning w next t (length fs) a q is_world.one is (waits_on c f k.stands) fs refl waits_below,
+                  subst (λ (x : ℕ). WaitIn (in_world building (with_builder w a (builder t (suc (length fs)) Begun))) (length fs) number x (waits_on c f k.stands)) (sym receiver_is)
+                      (young_waits building (length fs) a q is_world.one is f k number called.class calls begun),
+                  below_begun building (length fs) a q is_world.one is (waits_on c f k.stands) fs refl waits_below,
                 ),
               ),
               subst (IsOwnOrFinished (with_builder w a (builder t (suc (length fs)) Begun)) next t) (sym receiver_is) (inside.1, λ b h. (let same : builder t (suc (length fs)) Begun ≡ b = cc in ap (λ (x : Builder). x.thread) (sym same))),
@@ -250,7 +245,7 @@ module _ (c : MarkedProgram) (marked : IsMarked c) (frozen : ℕ → Bool) (are 
 
               by_init : (b : Bool) → is_init m ≡ b → ⊥
               by_init true i = own (built frozen m i ∙ sym (ap frozen same) ∙ e)
-              by_init false i = at_index (λ u. u ≢ types.This) k.stands.types.stack (length (arguments called)) types.This (no_this_at c marked frozen are owning owns f k.stands i).stack type refl
+              by_init false i = at_index (λ u. u ≢ types.This) k.stands.types.stack (length (arguments called)) types.This (no_this_at design f k.stands i).stack type refl
           by_class false q h =
               let object : called.class ≡ OBJECT_CLASS = grind (arith, nat_tests, h) in
               let file : 17 ≤ called.class = (marked.checked.program.methods number called there).class.0 in

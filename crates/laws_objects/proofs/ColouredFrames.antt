@@ -49,11 +49,7 @@ hides_drop (suc n) (t ∷ ts) h k = hides_drop n ts (λ j. h (suc j)) k
 
 hides_without : (pc : ℕ) (ts : List Tag) → Hides ts → Hides (without pc ts)
 hides_without pc [] h k = refl
-hides_without pc (t ∷ ts) h zero = by_test (same_tag t (At pc))
-  where
-    by_test : (b : Bool) → is_this (if b then Untagged else t) ≡ false
-    by_test true = refl
-    by_test false = h zero
+hides_without pc (t ∷ ts) h zero = elim (same_tag t (At pc)) as (λ (b : Bool). is_this (if b then Untagged else t) ≡ false) [ true ↦ refl | false ↦ h zero ]
 hides_without pc (t ∷ ts) h (suc k) = hides_without pc ts (λ j. h (suc j)) k
 
 hides_value : (stack locals : List Tag) (given : Given) → Hides stack → Hides locals

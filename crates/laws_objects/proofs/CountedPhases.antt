@@ -1,18 +1,18 @@
 -- What a phase says of the frames and of what it carries, the phase that counts says too.
-use Rattle.std.proofs.Common.{ℕ, Bool, List, subst}
+use Rattle.std.proofs.Common.{List, subst}
 use Rattle.jvm_types.specs.declared.outcome.End.{End}
-use Rattle.checked_program.specs.MarkedProgram.{MarkedProgram}
-use Rattle.machine_types.specs.{Construction.{Owning, PhaseKeepsFrames, PhaseKeeps}, Structure.{IsLimitAt, IsAs, CountsTurns}, Threads.Frame, Worlds.World, declared.phase.Phase.Phase}
+use Rattle.machine_types.specs.{Construction.PhaseKeeps, Structure.{IsLimitAt, IsAs, CountsTurns}, Threads.Frame, declared.phase.Phase.Phase}
 use Rattle.laws_threads.specs.StructureLaws.{counted_by, turned_from}
+use Rattle.laws_objects.proofs.Buildings.{Building, PhaseIn}
 use Rattle.jvm_types.specs.declared.outcome.End.TheVariants as ends
 use Rattle.machine_types.specs.declared.phase.Phase.TheVariants as phases
 
 -- of frames in a world
-abbrev pub PhaseFits : MarkedProgram → (frozen : ℕ → Bool) → Owning → World → (next t : ℕ) → List Frame → Phase → Type 0
-PhaseFits c frozen owning w next t fs phase = PhaseKeepsFrames c frozen owning w next t phase fs × PhaseKeeps w next t phase
+abbrev pub PhaseFits : Building → List Frame → Phase → Type 0
+PhaseFits b fs phase = PhaseIn b phase fs × PhaseKeeps b.w b.next b.t phase
 
-module _ (c : MarkedProgram) (frozen : ℕ → Bool) (owning : Owning) (w : World) (next t : ℕ) (fs : List Frame) where
-  turned_fits : (was : Phase) → CountsTurns was → PhaseFits c frozen owning w next t fs was → PhaseFits c frozen owning w next t fs (turned_from was)
+module _ (building : Building) (fs : List Frame) where
+  turned_fits : (was : Phase) → CountsTurns was → PhaseFits building fs was → PhaseFits building fs (turned_from was)
   turned_fits (phases.Acquire m) is k = k
   turned_fits (phases.Take m count) is k = (k.0, k.1)
   turned_fits (phases.Flag m u) is k = k
@@ -21,21 +21,21 @@ module _ (c : MarkedProgram) (frozen : ℕ → Bool) (owning : Owning) (w : Worl
   turned_fits (phases.Retake m r depth) is k = k
   turned_fits was is k = absurd is
 
-  pub counted_fits : (was phase : Phase) → IsAs phase was → PhaseFits c frozen owning w next t fs was → PhaseFits c frozen owning w next t fs (counted_by was phase)
+  pub counted_fits : (was phase : Phase) → IsAs phase was → PhaseFits building fs was → PhaseFits building fs (counted_by was phase)
   counted_fits was (phases.Ending e) is k = at_end e is
     where
-      at_end : (e : End) → IsLimitAt e (phases.Ending e) was → PhaseFits c frozen owning w next t fs (counted_by was (phases.Ending e))
-      at_end ends.Steps is = subst (PhaseFits c frozen owning w next t fs) is k
-      at_end ends.Prints is = subst (PhaseFits c frozen owning w next t fs) is k
+      at_end : (e : End) → IsLimitAt e (phases.Ending e) was → PhaseFits building fs (counted_by was (phases.Ending e))
+      at_end ends.Steps is = subst (PhaseFits building fs) is k
+      at_end ends.Prints is = subst (PhaseFits building fs) is k
       at_end ends.Turns is = turned_fits was is k
       at_end ends.Records is = k
-      at_end e is = subst (PhaseFits c frozen owning w next t fs) is k
+      at_end e is = subst (PhaseFits building fs) is k
   counted_fits was (phases.Ended e) is k = at_end e is
     where
-      at_end : (e : End) → IsLimitAt e (phases.Ended e) was → PhaseFits c frozen owning w next t fs (counted_by was (phases.Ended e))
+      at_end : (e : End) → IsLimitAt e (phases.Ended e) was → PhaseFits building fs (counted_by was (phases.Ended e))
       at_end ends.Steps is = k
       at_end ends.Prints is = k
       at_end ends.Turns is = k
       at_end ends.Records is = k
-      at_end e is = subst (PhaseFits c frozen owning w next t fs) is k
-  counted_fits was phase is k = subst (PhaseFits c frozen owning w next t fs) is k
+      at_end e is = subst (PhaseFits building fs) is k
+  counted_fits was phase is k = subst (PhaseFits building fs) is k

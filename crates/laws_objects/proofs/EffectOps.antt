@@ -48,21 +48,11 @@ module _ (p : Program) (next : ℕ) where
   get_fits : (o : Option FieldInfo) (s : List ℕ) (i : ℕ) → FitsOp (gets o s) (ops.Getfield i)
   get_fits None s i = tt
   get_fits (Some f) [] i = tt
-  get_fits (Some f) (a ∷ s) i = by_test (a == 0)
-    where
-      by_test : (b : Bool) → FitsOp (if b then Throws thrown.NullPointerException else Reads (variable_of f a)) (ops.Getfield i)
-      by_test true = tt
-      by_test false = (refl, refl)
+  get_fits (Some f) (a ∷ s) i = elim (a == 0) as (λ (b : Bool). FitsOp (if b then Throws thrown.NullPointerException else Reads (variable_of f a)) (ops.Getfield i)) [ true ↦ tt | false ↦ (refl, refl) ]
 
   put_fits : (o : Option FieldInfo) (s : List ℕ) (i : ℕ) → FitsOp (puts o s) (ops.Putfield i)
-  put_fits None s i = tt
-  put_fits (Some f) [] i = tt
-  put_fits (Some f) (v ∷ []) i = tt
-  put_fits (Some f) (v ∷ a ∷ s) i = by_test (a == 0)
-    where
-      by_test : (b : Bool) → FitsOp (if b then Throws thrown.NullPointerException else Writes (variable_of f a) (kept f.kind v)) (ops.Putfield i)
-      by_test true = tt
-      by_test false = (refl, refl)
+  put_fits (Some f) (v ∷ a ∷ s) i = elim (a == 0) as (λ (b : Bool). FitsOp (if b then Throws thrown.NullPointerException else Writes (variable_of f a) (kept f.kind v)) (ops.Putfield i)) [ true ↦ tt | false ↦ (refl, refl) ]
+  put_fits o s i = tt
 
   array_fits : (l s : List ℕ) (target : Target) → FitsOp (effect p next target ops.Newarray l s) ops.Newarray
   array_fits l [] target = tt

@@ -1,17 +1,18 @@
 -- An event that changes an element of an array that an object owns is an `iastore` of a method that runs on the object.
-use Rattle.std.proofs.Common.{◌≡◌, ◌⊎◌, inl, inr, ℕ, ◌<◌, Bool, true, false, not, List, [], ◌∷◌, Some, None, refl, sym, ap, ◌∙◌, subst, arith, ⊎_elim, ◌||◌, Contains, slice_get, slice_index, if◌then◌else◌}
+use Rattle.std.proofs.Common.{◌≡◌, ◌⊎◌, inl, inr, ℕ, ◌<◌, Bool, true, false, not, List, [], ◌∷◌, length, Some, None, refl, sym, ap, ◌∙◌, subst, arith, ⊎_elim, ◌||◌, Contains, slice_index, if◌then◌else◌}
 use Rattle.std.{specs.List.AllZip, proofs.lemmas.Bool.or_parts}
 use Rattle.lists.proofs.{ListLaws.same_some, TestLaws.is_true}
 use Rattle.jvm_types.specs.{CodeTable.row, Members.is_static, ProgramInvariant.IsProgram, Types.{TypeFrame, is_below}, Verifying.{suits, some_taken, some_read, mistypes}, declared.{class_numbers.TheConstants.INT_ARRAY_CLASS, code.{Insn.Insn, Op.Op}}}
-use Rattle.jvm_types.specs.declared.{fixed_words.TheConstants.NEXT_FREE_WORD, op_row.Want.Want, program.{FieldInfo.FieldInfo, MethodInfo.MethodInfo, Program.Program, Target.Target}, typing.VType.VType}
-use Rattle.checked_program.specs.{MarkedProgram.{MarkedProgram, IsMarked}, OwnedArrays.{IsOwnedArrayField, IsOwnedAt}, SectionLaws.OwnedIsDecided}
-use Rattle.machine_types.specs.{Accesses.words_after, Construction.{Construction, FramesKeep, IsArraySlot, IsNoStored, Owning, PhaseKeepsFrames, Runs, SlotsFrom, ThreadKeeps}}
-use Rattle.machine_types.specs.{Core.Core, Events.wanted, Lawful.IsLawful, OwnedPlaces.{Stores, IsElementOf}, PlainMemory.Object, Standing.{Standing, tags_of}}
-use Rattle.machine_types.specs.{Structure.{IsAs, IsStructured, TopIs, is_element_op}, Threads.{Frame, Thread}, Typed.{FramesHold, Holds, HasClass, HasElementIn, HasElementOn, ElementStands, IsElementOn}}
-use Rattle.machine_types.specs.{Words.{value_word, variable_word}, Worlds.World, declared.{effect.Variable.{Variable, TheVariants.{Instance, Static}}, phase.Phase.Phase}}
+use Rattle.jvm_types.specs.declared.{op_row.Want.Want, program.{FieldInfo.FieldInfo, MethodInfo.MethodInfo, Program.Program, Target.Target}, typing.VType.VType}
+use Rattle.checked_program.specs.{MarkedProgram.MarkedProgram, OwnedArrays.{IsOwnedArrayField, IsOwnedAt}, SectionLaws.OwnedIsDecided}
+use Rattle.machine_types.specs.{Accesses.words_after, Construction.{IsArraySlot, IsNoStored, Runs, SlotsFrom}}
+use Rattle.machine_types.specs.{Events.wanted, OwnedPlaces.{Stores, IsElementOf}, PlainMemory.Object, Standing.{Standing, tags_of}}
+use Rattle.machine_types.specs.{Structure.{IsAs, TopIs, is_element_op}, Threads.{Frame, Thread}, Typed.{FramesHold, Holds, HasClass, HasElementIn, HasElementOn, ElementStands, IsElementOn}}
+use Rattle.machine_types.specs.{Words.{value_word, variable_word}, declared.{effect.Variable.{Variable, TheVariants.{Instance, Static}}, phase.Phase.Phase}}
 use Rattle.laws_threads.{specs.Allowed.IsNamedField, proofs.{FramePlaces.one_standing, Landing.rules_at, Standings.{are_tagged, one_insn}}}
-use Rattle.laws_states.{specs.{HeapFacts.HeapFacts, SiteLaws.{EventsReachSites, SitesDiffer, SitesLieInside}, Sites.{ValueOf, StaticAt, IsThere}}, proofs.{Lists.contained_got, Places.same_object}}
-use Rattle.laws_objects.proofs.{ColouredFrames.{coloured_class, coloured_instance}, PlaceWriters.{IsWriter, TopWrites, has_field, holder_of, place_changer}}
+use Rattle.laws_states.{specs.Sites.{ValueOf, StaticAt, IsThere}, proofs.{Lists.contained_got, Movers.HeapState, Places.same_object}}
+use Rattle.laws_objects.proofs.{Buildings.{Building, in_world, FrameIn, FramesIn, PhaseIn, ThreadIn, building_in}, ColouredFrames.{coloured_class, coloured_instance}}
+use Rattle.laws_objects.proofs.PlaceWriters.{BuiltEvent, place_event, IsWriter, TopWrites, has_field, holder_of, place_changer}
 use Rattle.jvm_types.specs.declared.code.Op.TheVariants as ops
 use Rattle.jvm_types.specs.declared.typing.VType.TheVariants as types
 use Rattle.machine_types.specs.declared.phase.Phase.TheVariants as phases
@@ -87,14 +88,14 @@ pub record StoresElement (c : MarkedProgram) (o : Object) (word : ℕ) (x : Thre
   pub stores : x.phase ≡ phases.Element word (Some value)
   pub top : TopWrites (ElementWriter c o) x.frames
 
-module _ (decided : OwnedIsDecided) (differ : SitesDiffer) (c : MarkedProgram)
-    (objects : List Object) (s : Core) (t : ℕ) (x : Thread) (marked : IsMarked c)
-    (heap : HeapFacts c objects s) (there : slice_get s.threads t ≡ Some x)
-    (frozen : ℕ → Bool) (own : Owning) (w : World) (was : ℕ → Phase)
-    (built : Construction c frozen own w was objects s) (structured : IsStructured c (was t) x)
-    (fi word : ℕ) (o : Object) (here : Contains objects o)
-    (owned : IsOwnedArrayField c.program (tags_of c) fi)
-    (e : IsElementOf c own.stores objects fi o word) where
+module _ (decided : OwnedIsDecided) (event : BuiltEvent) (fi word : ℕ) (o : Object) (here : Contains event.objects o) (owned : IsOwnedArrayField event.c.program (tags_of event.c) fi) (e : IsElementOf event.c event.owning.stores event.objects fi o word) where
+  open event use {state, c, marked, owning as own, was, objects, s, con as built, t, x, there}
+  open event.state.facts use {heap}
+  open event.sites use {differ}
+
+  abbrev heap_state : HeapState
+  heap_state = (place_event event).mover.state
+
   program : IsProgram c.program
   program = marked.checked.program
 
@@ -129,7 +130,7 @@ module _ (decided : OwnedIsDecided) (differ : SitesDiffer) (c : MarkedProgram)
           (k.0, k.1, k.2) is_there q in
           cc
       by_flag false flag q =
-          let from = holder_of c objects s marked heap at.number f at.reference at.there flag
+          let from = holder_of heap_state at.number f at.reference at.there flag
           (at.holder flag) in
           let site : ValueOf at.reference f.index ≡ ValueOf e.array.reference e.index =
           differ c objects s (ValueOf at.reference f.index)
@@ -142,182 +143,150 @@ module _ (decided : OwnedIsDecided) (differ : SitesDiffer) (c : MarkedProgram)
 
   -- ---- the frame that stores
 
-  module _ (f : Frame) (fs : List Frame) (now : World) (next : ℕ)
-      (keep : FramesKeep c frozen own now next t Runs (f ∷ fs))
-      (holds : FramesHold c (HasClass objects) (f ∷ fs)) (n v u i a : ℕ) (rest : List ℕ)
-      (stack : f.stack ≡ u ∷ i ∷ a ∷ rest)
-      (top : TopIs c (is_element_op (Some v)) (f ∷ fs))
-      (has : HasElementOn objects (Some v) (u ∷ i ∷ a ∷ rest))
-      (on : IsElementOn n (Some v) (u ∷ i ∷ a ∷ rest))
-      (same : n ≡ value_word e.array.reference e.index) where
-    reference : a ≡ e.array.reference
-    reference =
-        let site : ValueOf a i ≡ ValueOf e.array.reference e.index =
-        differ c objects s (ValueOf a i) (ValueOf e.array.reference e.index) marked heap
-        (has.object, has.there, has.is, has.below) is_there (sym on.0 ∙ same) in
-        cc
+  keeps : ThreadIn (building_in state t) (was t) x
+  keeps = built.each t x there
 
-    stored : own.stores a ≡ Some e.field_word
-    stored = ap own.stores reference ∙ e.stored
+  abbrev seen : Building
+  seen = in_world (building_in state t) keeps.now
 
-    op : keep.0.stands.insn.op ≡ ops.Iastore
-    op = iastore_is v keep.0.stands.insn.op (ap (λ (insn : Insn). is_element_op (Some v) insn.op)
-        (one_insn c marked f keep.0.stands top.0) ∙ top.1)
+  module _ (f : Frame) (fs : List Frame) (kept : FrameIn seen (length fs) Runs f) (holds : FramesHold c (HasClass objects) (f ∷ fs)) (v : ℕ) (top : TopIs c (is_element_op (Some v)) (f ∷ fs)) where
+    module _ (n u i a : ℕ) (rest : List ℕ) (stack : f.stack ≡ u ∷ i ∷ a ∷ rest) (has : HasElementOn objects (Some v) (u ∷ i ∷ a ∷ rest)) (on : IsElementOn n (Some v) (u ∷ i ∷ a ∷ rest)) (same : n ≡ value_word e.array.reference e.index) where
+      reference : a ≡ e.array.reference
+      reference =
+          let site : ValueOf a i ≡ ValueOf e.array.reference e.index =
+          differ c objects s (ValueOf a i) (ValueOf e.array.reference e.index) marked heap
+          (has.object, has.there, has.is, has.below) is_there (sym on.0 ∙ same) in
+          cc
 
-    slot : Third (IsArraySlot c own.stores f keep.0.stands.number) keep.0.stands.types.stack a
-    slot = third (Holds holds.0.stands.method (HasClass objects))
-        (IsArraySlot c own.stores f keep.0.stands.number) keep.0.stands.types.stack u i a rest
-        (subst (λ (vs : List ℕ). AllZip (Holds holds.0.stands.method (HasClass objects))
-        keep.0.stands.types.stack vs) stack
-        (subst (λ (g : TypeFrame). AllZip (Holds holds.0.stands.method (HasClass objects)) g.stack
-        f.stack) (one_standing c marked f holds.0.stands keep.0.stands).types holds.0.stack))
-        (subst (λ (vs : List ℕ). SlotsFrom (IsArraySlot c own.stores f keep.0.stands.number) 0
-        keep.0.stands.types.stack vs) stack keep.0.arrays)
+      stored : own.stores a ≡ Some e.field_word
+      stored = ap own.stores reference ∙ e.stored
 
-    below : is_below slot.type (types.Ref INT_ARRAY_CLASS) ≡ true
-    below = type_suits c.program keep.0.stands.method keep.0.stands.insn.pc keep.0.stands.target
-        keep.0.stands.types slot.first slot.second slot.type slot.more slot.are
-        (subst (λ (q : Op). mistypes keep.0.stands.method
-        (row c.program keep.0.stands.method keep.0.stands.insn.pc keep.0.stands.target q)
-        keep.0.stands.types ≡ false) op (rules_at c marked f keep.0.stands).rules.types)
+      op : kept.stands.insn.op ≡ ops.Iastore
+      op = iastore_is v kept.stands.insn.op (ap (λ (insn : Insn). is_element_op (Some v) insn.op)
+          (one_insn c marked f kept.stands top.0) ∙ top.1)
 
-    coloured : IsOwnedAt c.program (tags_of c) f.method keep.0.stands.number 2
-    coloured = ⊎_elim (λ q. q)
-        (λ none. absurd (not_stored own.stores slot.type a e.field_word below
-        (slot.on.other none) stored))
-        (decided c.program (tags_of c) marked.marks.uses f.method keep.0.stands.number 2
-        keep.0.stands.method keep.0.stands.insn keep.0.stands.target keep.0.stands.tags program
-        (are_tagged c marked) marked.marks.are_uses keep.0.stands.at)
+      slot : Third (IsArraySlot c own.stores f kept.stands.number) kept.stands.types.stack a
+      slot = third (Holds holds.0.stands.method (HasClass objects))
+          (IsArraySlot c own.stores f kept.stands.number) kept.stands.types.stack u i a rest
+          (subst (λ (vs : List ℕ). AllZip (Holds holds.0.stands.method (HasClass objects))
+          kept.stands.types.stack vs) stack
+          (subst (λ (g : TypeFrame). AllZip (Holds holds.0.stands.method (HasClass objects)) g.stack
+          f.stack) (one_standing c marked f holds.0.stands kept.stands).types holds.0.stack))
+          (subst (λ (vs : List ℕ). SlotsFrom (IsArraySlot c own.stores f kept.stands.number) 0
+          kept.stands.types.stack vs) stack kept.arrays)
 
-    same_word : value_word f.receiver coloured.owned.field.index ≡ e.field_word
-    same_word = by_case (slot.on.owned coloured (value_word f.receiver coloured.owned.field.index)
-        (record { field = coloured.owned.field; is = coloured.owned.is; place = refl }))
-      where
-        by_case : (a ≡ 0) ⊎ (own.stores a ≡ Some (value_word f.receiver coloured.owned.field.index))
-            → value_word f.receiver coloured.owned.field.index ≡ e.field_word
-        by_case (inl null) = absurd (omega (arith, null, reference, some_array))
-        by_case (inr is) = same_some (sym is ∙ stored)
+      below : is_below slot.type (types.Ref INT_ARRAY_CLASS) ≡ true
+      below = type_suits c.program kept.stands.method kept.stands.insn.pc kept.stands.target
+          kept.stands.types slot.first slot.second slot.type slot.more slot.are
+          (subst (λ (q : Op). mistypes kept.stands.method
+          (row c.program kept.stands.method kept.stands.insn.pc kept.stands.target q)
+          kept.stands.types ≡ false) op (rules_at c marked f kept.stands).rules.types)
 
-    instance : is_static keep.0.stands.method.flags ≡ false
-    instance = coloured_instance c marked f keep.0.stands 2 coloured
+      coloured : IsOwnedAt c.program (tags_of c) f.method kept.stands.number 2
+      coloured = ⊎_elim (λ q. q)
+          (λ none. absurd (not_stored own.stores slot.type a e.field_word below
+          (slot.on.other none) stored))
+          (decided c.program (tags_of c) marked.marks.uses f.method kept.stands.number 2
+          kept.stands.method kept.stands.insn kept.stands.target kept.stands.tags program
+          (are_tagged c marked) marked.marks.are_uses kept.stands.at)
 
-    class : keep.0.stands.method.class ≡ coloured.owned.field.class
-    class = coloured_class c marked f keep.0.stands 2 coloured
+      same_word : value_word f.receiver coloured.owned.field.index ≡ e.field_word
+      same_word = by_case (slot.on.owned coloured (value_word f.receiver coloured.owned.field.index)
+          (record { field = coloured.owned.field; is = coloured.owned.is; place = refl }))
+        where
+          by_case : (a ≡ 0) ⊎ (own.stores a ≡ Some (value_word f.receiver coloured.owned.field.index))
+              → value_word f.receiver coloured.owned.field.index ≡ e.field_word
+          by_case (inl null) = absurd (omega (arith, null, reference, some_array))
+          by_case (inr is) = same_some (sym is ∙ stored)
 
-    -- the object that the method runs on
-    on_object : HasClass objects keep.0.stands.method.class f.receiver
-    on_object =
-        let one : holds.0.stands.method ≡ keep.0.stands.method =
-        (one_standing c marked f holds.0.stands keep.0.stands).method in
-        subst (λ (m : MethodInfo). is_static m.flags ≡ false → HasClass objects m.class f.receiver)
-        one holds.0.receiver instance
+      instance : is_static kept.stands.method.flags ≡ false
+      instance = coloured_instance c marked f kept.stands 2 coloured
 
-    receiver : f.receiver ≡ o.reference
-    receiver =
-        let r = on_object in
-        let field : e.is_field.field ≡ owned.field = same_some (sym e.is_field.is ∙ owned.is) in
-        let first : f.receiver ≡ r.0.reference = sym r.2 in
-        let its : IsThere c.program objects s (ValueOf f.receiver coloured.owned.field.index) = (
-          r.0,
-          r.1,
-          r.2,
-          has_field c objects s marked heap r.0 coloured.fi coloured.owned.field
-              r.1 coloured.owned.is coloured.owned.instance (r.3 ∙ class),
-        ) in
-        let other : IsThere c.program objects s (ValueOf o.reference e.is_field.field.index)
-        = (
-          o,
-          here,
-          refl,
-          has_field c objects s marked heap o fi e.is_field.field here e.is_field.is
-              (subst (λ (g : FieldInfo). is_static g.flags ≡ false) (sym field) owned.instance)
-              e.of_class,
-        ) in
-        let site : ValueOf f.receiver coloured.owned.field.index ≡ ValueOf o.reference
-        e.is_field.field.index
-        = differ c objects s (ValueOf f.receiver coloured.owned.field.index)
-        (ValueOf o.reference e.is_field.field.index) marked heap its other
-        (same_word ∙ e.is_field.place) in
-        cc
+      class : kept.stands.method.class ≡ coloured.owned.field.class
+      class = coloured_class c marked f kept.stands 2 coloured
 
-    of_class : keep.0.stands.method.class ≡ o.class
-    of_class = let r = on_object in sym r.3 ∙ ap (λ (b : Object). b.class)
-        (same_object c.program objects _ heap.apart r.0 o r.1 here (r.2 ∙ receiver))
+      -- the object that the method runs on
+      on_object : HasClass objects kept.stands.method.class f.receiver
+      on_object =
+          let one : holds.0.stands.method ≡ kept.stands.method =
+          (one_standing c marked f holds.0.stands kept.stands).method in
+          subst (λ (m : MethodInfo). is_static m.flags ≡ false → HasClass objects m.class f.receiver)
+          one holds.0.receiver instance
 
-    writer : ElementWriter c o f
-    writer = record {
-      stands = keep.0.stands;
-      is = op;
-      owned = coloured;
-      receiver = receiver;
-      instance = instance;
-      of_class = of_class;
-    }
+      receiver : f.receiver ≡ o.reference
+      receiver =
+          let r = on_object in
+          let field : e.is_field.field ≡ owned.field = same_some (sym e.is_field.is ∙ owned.is) in
+          let first : f.receiver ≡ r.0.reference = sym r.2 in
+          let its : IsThere c.program objects s (ValueOf f.receiver coloured.owned.field.index) = (
+            r.0,
+            r.1,
+            r.2,
+            has_field heap_state r.0 coloured.fi coloured.owned.field
+                r.1 coloured.owned.is coloured.owned.instance (r.3 ∙ class),
+          ) in
+          let other : IsThere c.program objects s (ValueOf o.reference e.is_field.field.index)
+          = (
+            o,
+            here,
+            refl,
+            has_field heap_state o fi e.is_field.field here e.is_field.is
+                (subst (λ (g : FieldInfo). is_static g.flags ≡ false) (sym field) owned.instance)
+                e.of_class,
+          ) in
+          let site : ValueOf f.receiver coloured.owned.field.index ≡ ValueOf o.reference
+          e.is_field.field.index
+          = differ c objects s (ValueOf f.receiver coloured.owned.field.index)
+          (ValueOf o.reference e.is_field.field.index) marked heap its other
+          (same_word ∙ e.is_field.place) in
+          cc
 
-  by_stack : (f : Frame) (fs : List Frame) (now : World) (next n v : ℕ) (stack : List ℕ)
-      → f.stack ≡ stack → FramesKeep c frozen own now next t Runs (f ∷ fs)
-      → FramesHold c (HasClass objects) (f ∷ fs) → TopIs c (is_element_op (Some v)) (f ∷ fs)
-      → HasElementOn objects (Some v) stack → IsElementOn n (Some v) stack
-      → n ≡ value_word e.array.reference e.index → ElementWriter c o f
-  by_stack f fs now next n v (u ∷ i ∷ a ∷ rest) stack keep holds top has on same =
-      writer f fs now next keep holds n v u i a rest stack top has on same
-  by_stack f fs now next n v (u ∷ i ∷ []) stack keep holds top has on same = absurd on
-  by_stack f fs now next n v (u ∷ []) stack keep holds top has on same = absurd on
-  by_stack f fs now next n v [] stack keep holds top has on same = absurd on
+      of_class : kept.stands.method.class ≡ o.class
+      of_class = let r = on_object in sym r.3 ∙ ap (λ (b : Object). b.class)
+          (same_object c.program objects _ heap.apart r.0 o r.1 here (r.2 ∙ receiver))
 
-  by_frames : (fs : List Frame) (now : World) (next n v : ℕ)
-      → FramesKeep c frozen own now next t Runs fs → FramesHold c (HasClass objects) fs
-      → TopIs c (is_element_op (Some v)) fs → HasElementIn objects (Some v) fs
-      → ElementStands n (Some v) fs
+      writer : ElementWriter c o f
+      writer = record {
+        stands = kept.stands;
+        is = op;
+        owned = coloured;
+        receiver = receiver;
+        instance = instance;
+        of_class = of_class;
+      }
+
+    by_stack : (n : ℕ) (stack : List ℕ) → f.stack ≡ stack → HasElementOn objects (Some v) stack → IsElementOn n (Some v) stack → n ≡ value_word e.array.reference e.index → ElementWriter c o f
+    by_stack n (u ∷ i ∷ a ∷ rest) stack has on same = writer n u i a rest stack has on same
+    by_stack n vs stack has on same = absurd on
+
+  by_frames : (fs : List Frame) (n v : ℕ) → FramesIn seen Runs fs → FramesHold c (HasClass objects) fs → TopIs c (is_element_op (Some v)) fs → HasElementIn objects (Some v) fs → ElementStands n (Some v) fs
       → n ≡ value_word e.array.reference e.index → TopWrites (ElementWriter c o) fs
-  by_frames [] now next n v keep holds top has on same = top
-  by_frames (f ∷ fs) now next n v keep holds top has on same =
-      by_stack f fs now next n v f.stack refl keep holds top has on same
+  by_frames [] n v keep holds top has on same = top
+  by_frames (f ∷ fs) n v keep holds top has on same = by_stack f fs keep.0 holds v top n f.stack refl has on same
 
-  stores : (n v : ℕ) → x.phase ≡ phases.Element n (Some v)
-      → FramesHold c (HasClass objects) x.frames → TopIs c (is_element_op (Some v)) x.frames
-      → HasElementIn objects (Some v) x.frames → ElementStands n (Some v) x.frames
+  stores : (n v : ℕ) → x.phase ≡ phases.Element n (Some v) → FramesHold c (HasClass objects) x.frames → TopIs c (is_element_op (Some v)) x.frames → HasElementIn objects (Some v) x.frames → ElementStands n (Some v) x.frames
       → n ≡ value_word e.array.reference e.index → StoresElement c o word x
-  stores n v q holds top has on same = record {
-    value = v;
-    stores = q ∙ ap (λ (m : ℕ). phases.Element m (Some v)) (same ∙ sym e.place);
-    top = by_frames x.frames keeps.now (slice_index s.words NEXT_FREE_WORD) n v frames holds top has
-        on same;
-  }
+  stores n v q holds top has on same = record { value = v; stores = q ∙ ap (λ (m : ℕ). phases.Element m (Some v)) (same ∙ sym e.place); top = by_frames x.frames n v frames holds top has on same }
     where
-      keeps : ThreadKeeps c frozen own w (slice_index s.words NEXT_FREE_WORD) t (was t) x
-      keeps = built.each t x there
-
       counted : was t ≡ phases.Element n (Some v)
-      counted = subst (λ (phase : Phase). IsAs phase (was t)) q structured.is_as
+      counted = subst (λ (phase : Phase). IsAs phase (was t)) q (place_event event).structured.is_as
 
-      frames : FramesKeep c frozen own keeps.now
-          (slice_index s.words NEXT_FREE_WORD) t Runs x.frames
-      frames = subst (λ (phase : Phase). PhaseKeepsFrames c frozen own keeps.now
-          (slice_index s.words NEXT_FREE_WORD) t phase x.frames) counted keeps.frames
+      frames : FramesIn seen Runs x.frames
+      frames = subst (λ (phase : Phase). PhaseIn seen phase x.frames) counted keeps.frames
+
+  abbrev Stay : Type 0
+  Stay = slice_index (words_after s.words (wanted c x x.phase)) (value_word e.array.reference e.index) ≡ slice_index s.words (value_word e.array.reference e.index)
 
   -- the word is as it was, or the thread stores it
-  pub element_writer : SitesLieInside → EventsReachSites → IsLawful c x
-      → (slice_index (words_after s.words (wanted c x x.phase)) word ≡ slice_index s.words word) ⊎
-      StoresElement c o word x
-  element_writer inside reach lawful = subst (λ (n : ℕ).
-      (slice_index (words_after s.words (wanted c x x.phase)) n ≡ slice_index s.words n) ⊎
-      StoresElement c o word x) (sym e.place)
-      (by_change (place_changer differ c objects s t x marked heap there
-      (ValueOf e.array.reference e.index) tt is_there (λ f. ⊥) (StoresElement c o word x)
-      (λ f k v n is g at same. no_field k.target v g at same) stores inside reach lawful
-      (was t) structured))
+  pub element_writer : (slice_index (words_after s.words (wanted c x x.phase)) word ≡ slice_index s.words word) ⊎ StoresElement c o word x
+  element_writer = subst (λ (n : ℕ). (slice_index (words_after s.words (wanted c x x.phase)) n ≡ slice_index s.words n) ⊎ StoresElement c o word x) (sym e.place)
+      (by_change (place_changer (place_event event) (ValueOf e.array.reference e.index) tt is_there (λ f. ⊥) (StoresElement c o word x) (λ f k v n is g at same. no_field k.target v g at same) stores))
     where
       never : (fs : List Frame) → TopWrites (λ f. ⊥) fs → ⊥
       never [] k = k
       never (f ∷ fs) k = k
 
-      by_change : (slice_index (words_after s.words (wanted c x x.phase))
-          (value_word e.array.reference e.index) ≡ slice_index s.words
-          (value_word e.array.reference e.index)) ⊎ IsWriter (λ f. ⊥) x ⊎ StoresElement c o word x
-          → (slice_index (words_after s.words (wanted c x x.phase))
-          (value_word e.array.reference e.index) ≡ slice_index s.words
-          (value_word e.array.reference e.index)) ⊎ StoresElement c o word x
+      by_change : Stay ⊎ IsWriter (λ f. ⊥) x ⊎ StoresElement c o word x → Stay ⊎ StoresElement c o word x
       by_change (inl still) = inl still
       by_change (inr (inl writer)) = absurd (never x.frames writer.top)
       by_change (inr (inr stored)) = inr stored

@@ -5,11 +5,11 @@ use Rattle.lists.proofs.TestLaws.{both_are_true}
 use Rattle.jvm_types.specs.{CodeTable.{type_of, want_of, arguments, is_init}, Members.is_static, declared.{code.Insn.Insn, op_row.Want.Want, program.{Kind.Kind, MethodInfo.MethodInfo, Target.Target}}}
 use Rattle.jvm_types.specs.declared.typing.VType.{VType}
 use Rattle.laws_programs.proofs.{CodeOrder.one_number, LocalGoing.begins}
-use Rattle.checked_program.specs.{LockTags.{TagShape, entry_tags}, MarkedProgram.{MarkedProgram, IsMarked}, TaggedCode.IsAt, declared.tag.Tag.{Tag, TheVariants.{Untagged, This}}}
-use Rattle.machine_types.specs.{Construction.{Owning, AreOwned, AreFrozen, builds, makes_frozen, SlotIs, SlotsAre, Runs, IsFresh, ReceiverIs, SlotOf, IsNoStored, SlotsFrom, FrameKeeps}, Frames.{entry_frame, first_or_null}, OwnedPlaces.{Stores, IsStoredNowhere}, Standing.tags_of}
-use Rattle.machine_types.specs.Worlds.{World, IsFinished}
+use Rattle.checked_program.specs.{LockTags.{TagShape, entry_tags}, TaggedCode.IsAt, declared.tag.Tag.{Tag, TheVariants.{Untagged, This}}}
+use Rattle.machine_types.specs.{Construction.{builds, makes_frozen, SlotIs, SlotsAre, Runs, IsFresh, ReceiverIs, SlotOf, IsNoStored, SlotsFrom}, Frames.{entry_frame, first_or_null}, OwnedPlaces.{Stores, IsStoredNowhere}, Standing.tags_of}
+use Rattle.machine_types.specs.Worlds.{IsFinished}
 use Rattle.laws_threads.proofs.{Lists.{zip_reverse, reverse_map}, MarkedMethods.method_at}
-use Rattle.laws_objects.proofs.{Landing.{IsJoined, land}, Operands.{WantOld, TakenOld}, PutPlaces.first_plain, Slots.{top_slot, ref_slot}}
+use Rattle.laws_objects.proofs.{Buildings.{Building, FrameIn}, Landing.{IsJoined, land}, Operands.{WantOld, TakenOld}, PutPlaces.first_plain, Slots.{top_slot, ref_slot}}
 use Rattle.jvm_types.specs.Types as types
 use Rattle.jvm_types.specs.declared.program.Kind.TheVariants as kinds
 use Rattle.jvm_types.specs.declared.typing.VType.TheVariants as vtypes
@@ -25,13 +25,9 @@ ArgsOld Old args vs = ⊥
 
 pub args_map : (Old More : ℕ → Type 0) → ((v : ℕ) → Old v → More v) → (args : List Kind) (vs : List ℕ) → ArgsOld Old args vs → ArgsOld More args vs
 args_map Old More f [] [] h = tt
-args_map Old More f (kinds.Int ∷ args) (v ∷ vs) h = args_map Old More f args vs h
-args_map Old More f (kinds.Bool ∷ args) (v ∷ vs) h = args_map Old More f args vs h
 args_map Old More f (kinds.Ref class ∷ args) (v ∷ vs) h = (f v h.0, args_map Old More f args vs h.1)
-args_map Old More f [] (v ∷ vs) h = absurd h
-args_map Old More f (kinds.Int ∷ args) [] h = absurd h
-args_map Old More f (kinds.Bool ∷ args) [] h = absurd h
-args_map Old More f (kinds.Ref class ∷ args) [] h = absurd h
+args_map Old More f (kind ∷ args) (v ∷ vs) h = args_map Old More f args vs h
+args_map Old More f args vs h = absurd h
 
 module _ (Old : ℕ → Type 0) where
   taken_zip : (wants : List Want) (vs : List ℕ) → length wants ≤ length vs → TakenOld Old wants vs → AllZip (WantOld Old) wants (take (length wants) vs)
@@ -44,9 +40,8 @@ module _ (Old : ℕ → Type 0) where
 
   args_zip : (args : List Kind) (vs : List ℕ) → AllZip (WantOld Old) (map want_of args) vs → ArgsOld Old args vs
   args_zip [] [] f = tt
-  args_zip (kinds.Int ∷ args) (v ∷ vs) f = args_zip args vs f.1
-  args_zip (kinds.Bool ∷ args) (v ∷ vs) f = args_zip args vs f.1
   args_zip (kinds.Ref class ∷ args) (v ∷ vs) f = (f.0, args_zip args vs f.1)
+  args_zip (kind ∷ args) (v ∷ vs) f = args_zip args vs f.1
   args_zip [] (v ∷ vs) f = absurd f
   args_zip (kind ∷ args) [] f = absurd f
 
@@ -81,8 +76,7 @@ module _ (Old : ℕ → Type 0) (null : Old 0) (Fresh : ℕ → ℕ → Type 0) 
       → SlotsAre R (map type_of args ++ replicate (n - length args) vtypes.Top) (replicate n Untagged) (vs ++ replicate (n - length vs) 0)
   args_slots [] [] n l h = let e : n - 0 ≡ n = omega arith in rw e (rest_slots n)
   args_slots (kinds.Ref c ∷ args) (v ∷ vs) (suc n) l h = let e : suc n - suc (length args) ≡ n - length args = omega arith in let f : suc n - suc (length vs) ≡ n - length vs = omega arith in rw (e, f) (ref_slot Old null Fresh own young receiver own c v h.0, args_slots args vs n (omega (arith, l)) h.1)
-  args_slots (kinds.Int ∷ args) (v ∷ vs) (suc n) l h = let e : suc n - suc (length args) ≡ n - length args = omega arith in let f : suc n - suc (length vs) ≡ n - length vs = omega arith in rw (e, f) (int_slot own v, args_slots args vs n (omega (arith, l)) h)
-  args_slots (kinds.Bool ∷ args) (v ∷ vs) (suc n) l h = let e : suc n - suc (length args) ≡ n - length args = omega arith in let f : suc n - suc (length vs) ≡ n - length vs = omega arith in rw (e, f) (int_slot own v, args_slots args vs n (omega (arith, l)) h)
+  args_slots (kind ∷ args) (v ∷ vs) (suc n) l h = let e : suc n - suc (length args) ≡ n - length args = omega arith in let f : suc n - suc (length vs) ≡ n - length vs = omega arith in rw (e, f) (int_slot own v, args_slots args vs n (omega (arith, l)) h)
   args_slots (kind ∷ args) vs zero l h = absurd (omega (arith, l))
   args_slots args vs n l h = absurd h
 
@@ -97,8 +91,7 @@ module _ (stores : Stores) where
       → SlotsFrom (λ place. IsNoStored stores) k (map type_of args ++ replicate (n - length args) vtypes.Top) (vs ++ replicate (n - length vs) 0)
   args_none [] [] n k l h = let e : n - 0 ≡ n = omega arith in rw e (rest_none n k)
   args_none (kinds.Ref c ∷ args) (v ∷ vs) (suc n) k l h = let e : suc n - suc (length args) ≡ n - length args = omega arith in let f : suc n - suc (length vs) ≡ n - length vs = omega arith in rw (e, f) (h.0, args_none args vs n (suc k) (omega (arith, l)) h.1)
-  args_none (kinds.Int ∷ args) (v ∷ vs) (suc n) k l h = let e : suc n - suc (length args) ≡ n - length args = omega arith in let f : suc n - suc (length vs) ≡ n - length vs = omega arith in rw (e, f) (tt, args_none args vs n (suc k) (omega (arith, l)) h)
-  args_none (kinds.Bool ∷ args) (v ∷ vs) (suc n) k l h = let e : suc n - suc (length args) ≡ n - length args = omega arith in let f : suc n - suc (length vs) ≡ n - length vs = omega arith in rw (e, f) (tt, args_none args vs n (suc k) (omega (arith, l)) h)
+  args_none (kind ∷ args) (v ∷ vs) (suc n) k l h = let e : suc n - suc (length args) ≡ n - length args = omega arith in let f : suc n - suc (length vs) ≡ n - length vs = omega arith in rw (e, f) (tt, args_none args vs n (suc k) (omega (arith, l)) h)
   args_none (kind ∷ args) vs zero k l h = absurd (omega (arith, l))
   args_none args vs n k l h = absurd h
 
@@ -108,7 +101,9 @@ module _ (stores : Stores) where
 
 -- ---- the frame
 
-module _ (c : MarkedProgram) (marked : IsMarked c) (frozen : ℕ → Bool) (are : AreFrozen c frozen) (owning : Owning) (owns : AreOwned c owning.owned) (w : World) (next t h : ℕ) (null : IsFinished w next 0) (number : ℕ) (called : MethodInfo) (there : slice_get c.program.methods number ≡ Some called) where
+module _ (building : Building) (h : ℕ) (null : IsFinished building.w building.next 0) (number : ℕ) (called : MethodInfo) (there : slice_get building.c.program.methods number ≡ Some called) where
+  open building use {design, c, marked, frozen, are, owning, owns, w, next, t}
+
   is_first : (j : ℕ) (other : Insn) (target : Target) (u : TagShape) → IsAt c.program (tags_of c) number j called other target u → other.pc ≡ 0 → j ≡ 0
   is_first j other target u at starts =
       let laid = (method_at c marked number called there).holds.laid in
@@ -116,7 +111,7 @@ module _ (c : MarkedProgram) (marked : IsMarked c) (frozen : ℕ → Bool) (are 
       let first : slice_get called.code 0 ≡ Some b.0 = ap (λ (code : List Insn). slice_get code 0) b.2 in
       one_number called j 0 other b.0 laid at.in_code first (starts ∙ sym b.3)
 
-  entry_joined : (args : List ℕ) → IsJoined c marked frozen are owning owns (entry_frame number called args) called (entry_tags called)
+  entry_joined : (args : List ℕ) → IsJoined design (entry_frame number called args) called (entry_tags called)
   entry_joined args own j other next' u at starts =
       let parts = both_are_true (is_init called) (frozen called.class) own in
       let zero_is : j ≡ 0 = is_first j other next' u at starts in
@@ -126,10 +121,10 @@ module _ (c : MarkedProgram) (marked : IsMarked c) (frozen : ℕ → Bool) (are 
   enters : (args : List ℕ) → ReceiverIs w next t h (builds frozen called) (entry_frame number called args).receiver
       → SlotsAre (SlotOf frozen w next t h Runs called (entry_frame number called args).receiver) (types.entry_type_frame called).locals (entry_tags called).locals (entry_frame number called args).locals
       → SlotsFrom (λ place. IsNoStored owning.stores) 0 (types.entry_type_frame called).locals (entry_frame number called args).locals
-      → FrameKeeps c frozen owning w next t h Runs (entry_frame number called args)
+      → FrameIn building h Runs (entry_frame number called args)
   enters args receiver locals none =
       let at = method_at c marked number called there in
-      land c marked frozen are owning owns w next t h null false (entry_frame number called args) called at.frames at.tags (types.entry_type_frame called) (entry_tags called) there at.its_types at.its_tags at.holds.types.entry at.holds.sound.entry
+      land building h null false (entry_frame number called args) called at.frames at.tags (types.entry_type_frame called) (entry_tags called) there at.its_types at.its_tags at.holds.types.entry at.holds.sound.entry
       (entry_joined args)
       (record {
         put = λ j other next u at starts. first_plain c marked owning owns number j called other next u at (is_first j other next u at starts);
@@ -139,7 +134,7 @@ module _ (c : MarkedProgram) (marked : IsMarked c) (frozen : ℕ → Bool) (are 
       receiver tt locals
 
   -- a static method, also a root
-  pub static_enters : (args : List ℕ) → is_static called.flags ≡ true → builds frozen called ≡ false → length called.args ≤ called.max_locals → ArgsOld (IsFinished w next) called.args args → ArgsOld (IsStoredNowhere owning.stores) called.args args → FrameKeeps c frozen owning w next t h Runs (entry_frame number called args)
+  pub static_enters : (args : List ℕ) → is_static called.flags ≡ true → builds frozen called ≡ false → length called.args ≤ called.max_locals → ArgsOld (IsFinished w next) called.args args → ArgsOld (IsStoredNowhere owning.stores) called.args args → FrameIn building h Runs (entry_frame number called args)
   static_enters args static own few old clean =
       enters args
       (subst (λ (b : Bool). ReceiverIs w next t h b (entry_frame number called args).receiver) (sym own) (subst (IsFinished w next) (sym receiver) null))
@@ -172,7 +167,7 @@ module _ (c : MarkedProgram) (marked : IsMarked c) (frozen : ℕ → Bool) (are 
 
   -- of an instance: an `<init>` that is begun, or any other
   pub instance_enters : (a : ℕ) (args : List ℕ) → is_static called.flags ≡ false → 1 + length called.args ≤ called.max_locals → ArgsOld (IsFinished w next) called.args args → ReceiverIs w next t h (builds frozen called) a → IsStoredNowhere owning.stores a → ArgsOld (IsStoredNowhere owning.stores) called.args args
-      → FrameKeeps c frozen owning w next t h Runs (entry_frame number called (a ∷ args))
+      → FrameIn building h Runs (entry_frame number called (a ∷ args))
   instance_enters a args static few old stands a_clean clean =
       enters (a ∷ args) (subst (ReceiverIs w next t h (builds frozen called)) (sym receiver) stands)
       (subst (λ (gs : List Tag). SlotsAre (Is (entry_frame number called (a ∷ args)).receiver) (types.entry_type_frame called).locals gs (entry_frame number called (a ∷ args)).locals) (sym tags_are)

@@ -3,15 +3,15 @@ use Rattle.std.proofs.Common.{◌≡◌, ◌⊎◌, inl, inr, ℕ, Bool, true, f
 use Rattle.jvm_types.specs.{CodeTable.row, Members.is_static, ProgramInvariant.{IsProgram, site_in}, declared.{class_numbers.TheConstants.INT_ARRAY_CLASS, code.Op.Op, program.FieldInfo.FieldInfo}}
 use Rattle.jvm_types.specs.declared.program.{MethodInfo.MethodInfo, Target.Target}
 use Rattle.laws_programs.proofs.{ClassTreeLaws.leaves_alone, FieldOrder.one_instance_field}
-use Rattle.checked_program.specs.MarkedProgram.{MarkedProgram, IsMarked}
-use Rattle.machine_types.specs.{Accesses.words_after, Core.Core, Effects.{variable_of, effect}, Events.wanted, FoundWords.leave_content, Lawful.IsLawful, Monitors.Claim, PlainMemory.Object}
-use Rattle.machine_types.specs.{Standing.Standing, Structure.{IsStructured, TopIs, is_element_op}, Threads.{Frame, Thread}}
+use Rattle.checked_program.specs.MarkedProgram.{MarkedProgram}
+use Rattle.machine_types.specs.{Accesses.words_after, Effects.{variable_of, effect}, Events.wanted, FoundWords.leave_content, Monitors.Claim, PlainMemory.Object}
+use Rattle.machine_types.specs.{Standing.Standing, Structure.{TopIs, is_element_op}, Threads.Frame}
 use Rattle.machine_types.specs.{Typed.{IsNullOr, FramesHold, HasClass, HasElementIn, ElementStands, IsElementOn, HasElementOn}, Words.{value_word, variable_word}}
-use Rattle.machine_types.specs.declared.{effect.{Effect.TheVariants.Writes, Variable.{Variable, TheVariants.{Instance, Static}}}, phase.Phase.Phase}
+use Rattle.machine_types.specs.declared.{effect.{Effect.TheVariants.Writes, Variable.{Variable, TheVariants.{Instance, Static}}}}
 use Rattle.laws_threads.{specs.Allowed.{IsNamedField, TakenHold}, proofs.{Onwards.same_op, TopEffects.taken_here}}
-use Rattle.laws_states.{specs.{HeapFacts.HeapFacts, SiteLaws.{EventsReachSites, SitesDiffer, SitesLieInside}, Sites.{Site, ValueOf, StaticAt, IsThere, Suits}}, proofs.Accesses.out_there}
+use Rattle.laws_states.{specs.Sites.{Site, ValueOf, StaticAt, IsThere, Suits}, proofs.Accesses.out_there}
 use Rattle.laws_states.proofs.{Lists.contained_got, Places.same_object}
-use Rattle.laws_objects.proofs.{PlaceWriters.{IsWriter, holder_of, has_field, leave_of_none, names_field, place_suits, place_writer}, WrittenFields.{Puts, PutsOnClass, field_put}}
+use Rattle.laws_objects.proofs.{PlaceWriters.{PlaceEvent, IsWriter, holder_of, has_field, leave_of_none, names_field, place_suits, place_writer}, WrittenFields.{Puts, PutsOnClass, field_put}}
 use Rattle.jvm_types.specs.declared.code.Op.TheVariants as ops
 use Rattle.jvm_types.specs.declared.program.Target.TheVariants as targets
 
@@ -40,8 +40,11 @@ one_reference f v a b flag e h = same_instance (sym (of_flag a) ∙ (sym e ∙ h
 pub leave_suits_none : (claimed : Claim) (reference index : ℕ) → Suits (leave_content claimed) (ValueOf reference index) → ⊥
 leave_suits_none claimed reference index suits = leave_of_none claimed (place_suits (leave_content claimed) (ValueOf reference index) tt suits)
 
-module _ (differ : SitesDiffer) (c : MarkedProgram) (objects : List Object) (s : Core) (t : ℕ) (x : Thread) (marked : IsMarked c) (heap : HeapFacts c objects s) (there : slice_get s.threads t ≡ Some x)
-    (fi : ℕ) (field : FieldInfo) (is : slice_get c.program.fields fi ≡ Some field) (instance : is_static field.flags ≡ false) (o : Object) (here : Contains objects o) (of_class : o.class ≡ field.class) where
+module _ (event : PlaceEvent) (fi : ℕ) (field : FieldInfo) (is : slice_get event.mover.state.c.program.fields fi ≡ Some field) (instance : is_static field.flags ≡ false) (o : Object) (here : Contains event.mover.state.objects o) (of_class : o.class ≡ field.class) where
+  open event.mover use {t, x, state}
+  open event.mover.state use {c, marked, objects, s, facts as heap}
+  open event.sites use {differ}
+
   is_program : IsProgram c.program
   is_program = marked.checked.program
 
@@ -49,7 +52,7 @@ module _ (differ : SitesDiffer) (c : MarkedProgram) (objects : List Object) (s :
   place = ValueOf o.reference field.index
 
   is_there : IsThere c.program objects s (ValueOf o.reference field.index)
-  is_there = (o, here, refl, has_field c objects s marked heap o fi field here is instance of_class)
+  is_there = (o, here, refl, has_field state o fi field here is instance of_class)
 
   -- ---- the place of a variable is that of one field of one object
 
@@ -68,7 +71,7 @@ module _ (differ : SitesDiffer) (c : MarkedProgram) (objects : List Object) (s :
             let site : StaticAt f.index ≡ ValueOf o.reference field.index = differ c objects s (StaticAt f.index) (ValueOf o.reference field.index) marked heap (k.0, k.1, k.2) is_there e in
             absurd (cc)
         by_flag false flag e =
-            let from = holder_of c objects s marked heap at.number f at.reference at.there flag (at.holder flag) in
+            let from = holder_of state at.number f at.reference at.there flag (at.holder flag) in
             let site : ValueOf at.reference f.index ≡ ValueOf o.reference field.index = differ c objects s (ValueOf at.reference f.index) (ValueOf o.reference field.index) marked heap from.there is_there e in
             let reference : at.reference ≡ o.reference = cc in
             let index : f.index ≡ field.index = cc in
@@ -113,9 +116,7 @@ module _ (differ : SitesDiffer) (c : MarkedProgram) (objects : List Object) (s :
           let alone : d ≡ INT_ARRAY_CLASS = leaves_alone d INT_ARRAY_CLASS refl below in
           let from = (is_program.fields fi field is).class.0 in
           omega (arith, from, of_class, ap (λ (e : Object). e.class) one, class, alone)
-  no_element n m pc target ops.Iastore w v (u ∷ i ∷ []) e taken has on same = absurd on
-  no_element n m pc target ops.Iastore w v (u ∷ []) e taken has on same = absurd on
-  no_element n m pc target ops.Iastore w v [] e taken has on same = absurd on
+  no_element n m pc target ops.Iastore w v stack e taken has on same = absurd on
   no_element n m pc target op w v stack e taken has on same = absurd (let bad : false ≡ true = e in cc)
 
   element_writes : (fs : List Frame) (w v : ℕ) → FramesHold c (HasClass objects) fs → TopIs c (is_element_op (Some v)) fs → HasElementIn objects (Some v) fs → ElementStands w (Some v) fs → w ≡ value_word o.reference field.index → ⊥
@@ -127,6 +128,5 @@ module _ (differ : SitesDiffer) (c : MarkedProgram) (objects : List Object) (s :
 
   -- ---- the word is as it was, or the thread writes the field
 
-  module _ (inside : SitesLieInside) (reach : EventsReachSites) (lawful : IsLawful c x) (was : Phase) (structured : IsStructured c was x) where
-    pub field_writer : (slice_index (words_after s.words (wanted c x x.phase)) (value_word o.reference field.index) ≡ slice_index s.words (value_word o.reference field.index)) ⊎ IsWriter (Writer c fi o.reference) x
-    field_writer = place_writer differ c objects s t x marked heap there place tt is_there (Writer c fi o.reference) writes element_writes inside reach lawful was structured
+  pub field_writer : (slice_index (words_after s.words (wanted c x x.phase)) (value_word o.reference field.index) ≡ slice_index s.words (value_word o.reference field.index)) ⊎ IsWriter (Writer c fi o.reference) x
+  field_writer = place_writer event place tt is_there (Writer c fi o.reference) writes element_writes

@@ -3,16 +3,16 @@ use Rattle.std.proofs.Common.{◌≡◌, ◌≢◌, ℕ, zero, suc, ◌<◌, ◌
 use Rattle.std.proofs.lemmas.Bool.{eqb-true, eqb-false}
 use Rattle.lists.proofs.ListLaws.{same_some}
 use Rattle.jvm_types.specs.declared.{fixed_words.TheConstants.NEXT_FREE_WORD, program.Program.Program}
-use Rattle.checked_program.specs.MarkedProgram.{MarkedProgram, IsMarked}
-use Rattle.machine_types.specs.{Accesses.found_by, Construction.{Owning, AreFrozen, PhaseKeepsFrames, ThreadKeeps}}
+use Rattle.checked_program.specs.MarkedProgram.{MarkedProgram}
+use Rattle.machine_types.specs.Accesses.{found_by}
 use Rattle.machine_types.specs.{Core.{Core, Happening, Of, NextPart, how_ended, with_roots, part_begins, next_threads, may_begin, event, event_of, next, all_happened, core}, Events.{wanted, moved}}
-use Rattle.machine_types.specs.{Frames.{Top, top_of, frames_of, given, given_back, returned}, Parts.{run_roots, done_roots}, PlainMemory.Object, Settings.AreSettings, Standing.Standing}
-use Rattle.machine_types.specs.{Structure.IsStructured, Threads.{Frame, Attempt, Thread}, Worlds.{Begun, Builder, builder, World}, declared.{config.Config.Config, phase.Phase.Phase}}
+use Rattle.machine_types.specs.{Frames.{Top, top_of, frames_of, given, given_back, returned}, Parts.{run_roots, done_roots}, PlainMemory.Object, Standing.Standing}
+use Rattle.machine_types.specs.{Structure.IsStructured, Threads.{Frame, Attempt, Thread}, Worlds.{Begun, Builder, builder}, declared.{config.Config.Config, phase.Phase.Phase}}
 use Rattle.machine_types.proofs.{Lists.got_when_set, PlainPartLaws.frames_are}
 use Rattle.laws_threads.{specs.{PartLaws.counted_next, StateLaws.counted_after}, proofs.Landing.stand_top}
-use Rattle.laws_states.{specs.{ChangeLaws.{all_objects, run_objects}, HeapFacts.objects_after, RunFacts.HaveWidth}, proofs.Lists.contained_got}
-use Rattle.laws_objects.specs.UnfinishedObjects.{ReturnsFrom, NeverReturns, NoOtherHas, FinishedByOwnReturn}
-use Rattle.laws_objects.proofs.BuiltRuns.{TellsClass, tells_class, AreBuiltLaws, BuiltThere, LostThere, BuiltIn, event_there, next_there, event_lost, next_lost, nobody_has, reached, lost_behind, core_more, objects_more}
+use Rattle.laws_states.{specs.{ChangeLaws.{all_objects, run_objects}, HeapFacts.objects_after}, proofs.Lists.contained_got}
+use Rattle.laws_objects.{specs.UnfinishedObjects.{ReturnsFrom, NeverReturns, NoOtherHas, FinishedByOwnReturn}, proofs.Buildings.{Building, in_world, PhaseIn, ThreadIn, building_in}}
+use Rattle.laws_objects.proofs.BuiltRuns.{Run, state_of, TellsClass, tells_class, AreBuiltLaws, BuiltThere, LostThere, BuiltIn, event_there, next_there, event_lost, next_lost, nobody_has, reached, lost_behind, core_more, objects_more}
 use Rattle.laws_objects.proofs.{FrameChanges.{frame_at, under, top_here, in_place, TriesGo, IsUnwound, FramesGo, frames_go}, ThreadMoves.BasedIn}
 use Rattle.laws_objects.proofs.UnreturnedInits.{IsYoung, HasInit, init_stays, init_splits, Splits, HasBack, IsInside, world_begun, put_back_low, based_of, has_back_on, back_frames, away_frames}
 use Rattle.laws_objects.proofs.Unused.{others_strange, uses_not, places_have_not}
@@ -21,19 +21,21 @@ use Rattle.machine_types.specs.declared.phase.Phase.TheVariants as phases
 -- ---- the thread behind an event of its own
 
 -- the second frame stands, whatever phase counts
-second_stands : (c : MarkedProgram) (frozen : ℕ → Bool) (owning : Owning) (w : World) (next t : ℕ) (phase : Phase) (f g : Frame) (fs : List Frame) → PhaseKeepsFrames c frozen owning w next t phase (f ∷ g ∷ fs) → Standing c g
-second_stands c frozen owning w next t (phases.Made a word) f g fs k = k.keep.1.0.keeps.stands
-second_stands c frozen owning w next t phase f g fs k = k.1.0.keeps.stands
+second_stands : (b : Building) (phase : Phase) (f g : Frame) (fs : List Frame) → PhaseIn b phase (f ∷ g ∷ fs) → Standing b.c g
+second_stands b (phases.Made a word) f g fs k = k.keep.1.0.keeps.stands
+second_stands b phase f g fs k = k.1.0.keeps.stands
 
-module _ (c : MarkedProgram) (marked : IsMarked c) (frozen : ℕ → Bool) (owning : Owning) (w : World) (next t h v : ℕ) (was : Phase) (x : Thread) (keeps : ThreadKeeps c frozen owning w next t was x) (inside : IsInside c frozen h v x) where
+module _ (building : Building) (h v : ℕ) (was : Phase) (x : Thread) (keeps : ThreadIn building was x) (inside : IsInside building.c building.frozen h v x) where
+  open building use {c, marked, frozen}
+
   returned_has : (at : Top) → x.frames ≡ frames_of at → HasInit c frozen h v at.below → HasInit c frozen h v (returned c.program at)
   returned_has at there k = by_below at.below refl k
     where
       by_below : (fs : List Frame) → at.below ≡ fs → HasInit c frozen h v fs → HasInit c frozen h v (given (given_back at.insn.op at.frame.stack) (top_of c.program fs))
       by_below [] e k = absurd (let none = k.there in cc)
       by_below (g ∷ gs) e k =
-          let frames : PhaseKeepsFrames c frozen owning keeps.now next t was (at.frame ∷ g ∷ gs) = subst (PhaseKeepsFrames c frozen owning keeps.now next t was) (there ∙ ap (λ (fs : List Frame). at.frame ∷ fs) e) keeps.frames in
-          let stands : Standing c g = second_stands c frozen owning keeps.now next t was at.frame g gs frames in
+          let frames : PhaseIn (in_world building keeps.now) was (at.frame ∷ g ∷ gs) = subst (PhaseIn (in_world building keeps.now) was) (there ∙ ap (λ (fs : List Frame). at.frame ∷ fs) e) keeps.frames in
+          let stands : Standing c g = second_stands (in_world building keeps.now) was at.frame g gs frames in
           subst (λ (o : Option Top). HasInit c frozen h v (given (given_back at.insn.op at.frame.stack) o)) (sym (stand_top c marked g gs stands))
           (init_stays c frozen h v (g ∷ gs) (record g { pc = stands.insn.next; stack = given_back at.insn.op at.frame.stack ++ g.stack } ∷ gs) (in_place g (record g { pc = stands.insn.next; stack = given_back at.insn.op at.frame.stack ++ g.stack }) gs (refl, refl)) k)
 
@@ -126,13 +128,15 @@ record InsideThere (c : MarkedProgram) (cfg : Config) (frozen : ℕ → Bool) (t
   here : slice_get s.threads t ≡ Some thread
   inside : IsInside c frozen h v thread
 
-module _ (laws : AreBuiltLaws) (c : MarkedProgram) (cfg : Config) (frozen : ℕ → Bool) (are : AreFrozen c frozen) (marked : IsMarked c) (width : HaveWidth cfg) (settings : AreSettings cfg) (t h v : ℕ) where
+module _ (run : Run) (t h v : ℕ) where
+  open run use {laws, c, cfg, frozen}
+
   abbrev Unfinished : List Object → (ℕ → Phase) → Core → Type 0
   Unfinished objects was s = InsideThere c cfg frozen t h v objects was s ⊎ LostThere c cfg frozen v objects was s
 
   module _ (objects : List Object) (was : ℕ → Phase) (s : Core) (k : InsideThere c cfg frozen t h v objects was s) where
     begun : k.there.world v ≡ Some (builder t h Begun)
-    begun = world_begun c frozen k.there.owning k.there.world (slice_index s.words NEXT_FREE_WORD) t h v (was t) k.thread (k.there.built.each t k.thread k.here) k.inside
+    begun = world_begun (building_in (state_of run objects was s k.there) t) h v (was t) k.thread (k.there.built.each t k.thread k.here) k.inside
 
     no_other : NoOtherHas c v t objects s
     no_other = record {
@@ -140,29 +144,29 @@ module _ (laws : AreBuiltLaws) (c : MarkedProgram) (cfg : Config) (frozen : ℕ 
       threads = λ u x apart here. (
           let keeps = k.there.built.each u x here in
           let seen : keeps.now v ≡ Some (builder t h Begun) = keeps.now_is.others v (λ b e. (let same : builder t h Begun ≡ b = same_some (sym begun ∙ e) in λ z. apart (sym z ∙ sym (ap (λ (i : Builder). i.thread) same)))) ∙ begun in
-          uses_not c marked frozen k.there.owning k.there.world (slice_index s.words NEXT_FREE_WORD) u v (was u) x keeps k.there.built.world (k.there.facts.structure u x here).is_as (others_strange keeps.now u v (builder t h Begun) seen (λ e. apart (sym e)))
+          uses_not (building_in (state_of run objects was s k.there) u) v (was u) x keeps k.there.built.world (k.there.facts.structure u x here).is_as (others_strange keeps.now u v (builder t h Begun) seen (λ e. apart (sym e)))
           );
     }
 
     -- an event of another thread
     other_event : (u : ℕ) → u ≢ t → InsideThere c cfg frozen t h v (objects_after c.program s u objects) (counted_after c was s u) (event c s u)
-    other_event u apart = record { there = event_there laws c cfg frozen are marked width settings objects was s k.there u; thread = k.thread; here = laws.others c s u t (λ e. apart (sym e)) ∙ k.here; inside = k.inside }
+    other_event u apart = record { there = event_there run objects was s k.there u; thread = k.thread; here = laws.others c s u t (λ e. apart (sym e)) ∙ k.here; inside = k.inside }
 
     -- and of the thread itself
     is_now : slice_get (event c s t).threads t ≡ Some (moved c k.thread k.thread.phase (found_by s.words (wanted c k.thread k.thread.phase)))
     is_now = ap (λ (o : Option Thread). slice_get (event_of c s t o).threads t) k.here ∙ got_when_set s.threads t k.thread (moved c k.thread k.thread.phase (found_by s.words (wanted c k.thread k.thread.phase))) k.here
 
     behind : BuiltThere c cfg frozen (objects_after c.program s t objects) (counted_after c was s t) (event c s t)
-    behind = event_there laws c cfg frozen are marked width settings objects was s k.there t
+    behind = event_there run objects was s k.there t
 
     own_event : (ReturnsFrom c v s t → ⊥) → Unfinished (objects_after c.program s t objects) (counted_after c was s t) (event c s t)
-    own_event never = by_move (goes_inside c marked frozen k.there.owning k.there.world (slice_index s.words NEXT_FREE_WORD) t h v (was t) k.thread keeps k.inside (moved c k.thread k.thread.phase (found_by s.words (wanted c k.thread k.thread.phase)))
+    own_event never = by_move (goes_inside (building_in (state_of run objects was s k.there) t) h v (was t) k.thread keeps k.inside (moved c k.thread k.thread.phase (found_by s.words (wanted c k.thread k.thread.phase)))
         (based_of c (was t) k.thread stood)
         (based_of c (counted_after c was s t t) (moved c k.thread k.thread.phase (found_by s.words (wanted c k.thread k.thread.phase))) stands)
         (frames_go c (was t) k.thread (found_by s.words (wanted c k.thread k.thread.phase)) stood)
         (λ at top is frames. never (record { thread = k.thread; there = k.here; top = at; is_top = top; init = is.init; later = moved c k.thread k.thread.phase (found_by s.words (wanted c k.thread k.thread.phase)); behind = is_now; gone = frames })))
       where
-        keeps : ThreadKeeps c frozen k.there.owning k.there.world (slice_index s.words NEXT_FREE_WORD) t (was t) k.thread
+        keeps : ThreadIn (building_in (state_of run objects was s k.there) t) (was t) k.thread
         keeps = k.there.built.each t k.thread k.here
 
         stood : IsStructured c (was t) k.thread
@@ -172,17 +176,17 @@ module _ (laws : AreBuiltLaws) (c : MarkedProgram) (cfg : Config) (frozen : ℕ 
         stands = behind.facts.structure t (moved c k.thread k.thread.phase (found_by s.words (wanted c k.thread k.thread.phase))) is_now
 
         by_move : IsInside c frozen h v (moved c k.thread k.thread.phase (found_by s.words (wanted c k.thread k.thread.phase)))
-            ⊎ HasLeft c marked frozen k.there.owning k.there.world (slice_index s.words NEXT_FREE_WORD) t h v (was t) k.thread keeps k.inside (moved c k.thread k.thread.phase (found_by s.words (wanted c k.thread k.thread.phase)))
+            ⊎ HasLeft (building_in (state_of run objects was s k.there) t) h v (was t) k.thread keeps k.inside (moved c k.thread k.thread.phase (found_by s.words (wanted c k.thread k.thread.phase)))
             → Unfinished (objects_after c.program s t objects) (counted_after c was s t) (event c s t)
         by_move (inl inside) = inl (record { there = behind; thread = moved c k.thread k.thread.phase (found_by s.words (wanted c k.thread k.thread.phase)); here = is_now; inside = inside })
-        by_move (inr left) = inr (lost_behind laws c cfg frozen are marked width settings objects was s k.there t v k.thread k.here left.unwound_by left.ended left.is.init left.is.young
+        by_move (inr left) = inr (lost_behind run objects was s k.there t v k.thread k.here left.unwound_by left.ended left.is.init left.is.young
             (subst (λ (n : ℕ). k.there.world v ≡ Some (builder t n Begun)) (sym left.high) begun))
 
     next_part : InsideThere c cfg frozen t h v objects (counted_next c was s) (next c s)
     next_part =
         let on = next_on c.program s.threads t k.thread k.here in
         record {
-          there = next_there laws c cfg frozen are marked width settings objects was s k.there;
+          there = next_there run objects was s k.there;
           thread = on.0;
           here = on.1;
           inside = record {
@@ -194,7 +198,7 @@ module _ (laws : AreBuiltLaws) (c : MarkedProgram) (cfg : Config) (frozen : ℕ 
   -- ---- whatever happens
 
   one_event : (objects : List Object) (was : ℕ → Phase) (s : Core) (u : ℕ) → (ReturnsFrom c v s u → ⊥) → Unfinished objects was s → Unfinished (objects_after c.program s u objects) (counted_after c was s u) (event c s u)
-  one_event objects was s u never (inr lost) = inr (event_lost laws c cfg frozen are marked width settings objects was s v u lost)
+  one_event objects was s u never (inr lost) = inr (event_lost run objects was s v u lost)
   one_event objects was s u never (inl k) = by_number (u == t) refl
     where
       by_number : (b : Bool) → (u == t) ≡ b → Unfinished (objects_after c.program s u objects) (counted_after c was s u) (event c s u)
@@ -203,10 +207,10 @@ module _ (laws : AreBuiltLaws) (c : MarkedProgram) (cfg : Config) (frozen : ℕ 
 
   all_unfinished : (es : List Happening) (objects : List Object) (was : ℕ → Phase) (s : Core) → NeverReturns c v s es → InsideThere c cfg frozen t h v objects was s ⊎ LostThere c cfg frozen v objects was s → NoOtherHas c v t (all_objects c s objects es) (all_happened c s es)
   all_unfinished [] objects was s never (inl k) = no_other objects was s k
-  all_unfinished [] objects was s never (inr lost) = let all = nobody_has laws c cfg frozen are marked width settings objects was s v lost in record { places = all.places; threads = λ u x apart here. all.threads u x here }
+  all_unfinished [] objects was s never (inr lost) = let all = nobody_has run objects was s v lost in record { places = all.places; threads = λ u x apart here. all.threads u x here }
   all_unfinished (Of u ∷ es) objects was s never k = all_unfinished es (objects_after c.program s u objects) (counted_after c was s u) (event c s u) never.1 (one_event objects was s u never.0 k)
   all_unfinished (NextPart ∷ es) objects was s never (inl k) = all_unfinished es objects (counted_next c was s) (next c s) never (inl (next_part objects was s k))
-  all_unfinished (NextPart ∷ es) objects was s never (inr lost) = all_unfinished es objects (counted_next c was s) (next c s) never (inr (next_lost laws c cfg frozen are marked width settings objects was s v lost))
+  all_unfinished (NextPart ∷ es) objects was s never (inr lost) = all_unfinished es objects (counted_next c was s) (next c s) never (inr (next_lost run objects was s v lost))
 
 -- ---- a frame of a list is at some height
 
@@ -218,7 +222,8 @@ at_height (g ∷ fs) (suc i) f e = let k = at_height fs i f e in (k.0, under k.0
 pub finished_by_return : AreBuiltLaws → FinishedByOwnReturn
 finished_by_return laws c cfg hs t v es marked width settings k never =
     let test : TellsClass c k.init.method.class = tells_class laws.frozen_test c marked k.init.method.class k.init.frozen in
-    let state : BuiltIn c cfg test.frozen (run_objects c cfg hs) (core c cfg hs) = reached laws c cfg test.frozen test.are marked width settings hs in
+    let run : Run = record { laws = laws; c = c; cfg = cfg; frozen = test.frozen; are = test.are; marked = marked; width = width; settings = settings } in
+    let state : BuiltIn c cfg test.frozen (run_objects c cfg hs) (core c cfg hs) = reached run hs in
     let high = at_height k.thread.frames k.among.0 k.frame (contained_got k.thread.frames k.frame k.among) in
     let there : InsideThere c cfg test.frozen t high.0 v (run_objects c cfg hs) state.was (core c cfg hs) = record {
       there = state.there;
@@ -228,4 +233,4 @@ finished_by_return laws c cfg hs t v es marked width settings k never =
     } in
     subst (λ (r : Core). NoOtherHas c v t (run_objects c cfg (hs ++ es)) r) (sym (core_more c cfg hs es))
     (subst (λ (os : List Object). NoOtherHas c v t os (all_happened c (core c cfg hs) es)) (sym (objects_more c cfg hs es))
-    (all_unfinished laws c cfg test.frozen test.are marked width settings t high.0 v es (run_objects c cfg hs) state.was (core c cfg hs) never (inl there)))
+    (all_unfinished run t high.0 v es (run_objects c cfg hs) state.was (core c cfg hs) never (inl there)))

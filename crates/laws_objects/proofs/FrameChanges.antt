@@ -5,17 +5,17 @@ use Rattle.std.proofs.lemmas.Bool.{eq-eqb, eqb-true, ne_eqb}
 use Rattle.lists.proofs.ListLaws.{same_some}
 use Rattle.jvm_types.specs.{Members.is_synchronized, declared.{outcome.Thrown.Thrown, program.{MethodInfo.MethodInfo, Program.Program, Row.Row}}}
 use Rattle.checked_program.specs.MarkedProgram.{MarkedProgram}
-use Rattle.machine_types.specs.{Construction.{Owning, Throws as Loose, FramesKeep, PhaseKeepsFrames, PhaseKeeps}, Elision.{put_back, fails, elided}, Events.{element_made, moved}}
+use Rattle.machine_types.specs.{Construction.{Throws as Loose, PhaseKeeps}, Elision.{put_back, fails, elided}, Events.{element_made, moved}}
 use Rattle.machine_types.specs.Frames.{Top, top_of, frames_of, went, went_on, waiting, taken_from, making, pushed, has_room, entry_frame, arguments_of, monitor_of, returned, handler_at}
 use Rattle.machine_types.specs.{Going.{runs, goes_on, goes_on_if}, HeldMonitors.{held_at, with_held, without_held, shallower}, Instructions.{made, printed}}
 use Rattle.machine_types.specs.{Onward.{Onward, Running, Throwing, Entering, Leaving, threw, entered, called, rooted, back, unwound, handed, after, done}, ReadyObjects.{class_of, thrown_of}}
 use Rattle.machine_types.specs.{Structure.{IsStructured, IsAs, Stands, AttemptStandsIn}, Threads.{Frame, Attempt, Thread}, Words.{header_class, header_length}, Worlds.{World, IsFinished}}
 use Rattle.machine_types.specs.declared.effect.Effect.{Effect}
-use Rattle.machine_types.specs.declared.effect.Effect.TheVariants.{Goes, Throws, Reads, Writes, Indexes, Measures, Raises, Makes, Prints, Calls, Returns, Enters, Leaves, Waits, Notifies, NotifiesAll, Stuck}
+use Rattle.machine_types.specs.declared.effect.Effect.TheVariants.{Goes, Throws, Reads, Writes, Measures, Raises, Prints, Calls, Returns, Enters, Leaves}
 use Rattle.machine_types.{specs.declared.phase.{After.After, Phase.Phase}, proofs.PlainPartLaws.frames_are}
 use Rattle.laws_threads.{specs.EntryFrames.{frames_in, KeepsEntry}, proofs.{AttemptMoves.put_back_top, EntryKept.{steps_kept, throws_kept, leaves_kept}, Inside.base_below, MonitorEntries.none_tried}}
 use Rattle.laws_threads.proofs.ThreadMove.{GoesBy, Move, becomes, begun_attempt, counting, any_move, gives_up_in, tried_attempt, goes_attempt}
-use Rattle.laws_objects.proofs.ThreadMoves.{AreKnown, AttemptFrom, from_same, known_at, known_with, known_without, goes_frames}
+use Rattle.laws_objects.proofs.{Buildings.{Building, FramesIn, PhaseIn}, ThreadMoves.{AreKnown, AttemptFrom, from_same, known_at, known_with, known_without, goes_frames}}
 use Rattle.jvm_types.specs.declared.outcome.Thrown.TheVariants as thrown
 use Rattle.machine_types.specs.declared.phase.After.TheVariants as afters
 use Rattle.machine_types.specs.declared.phase.Phase.TheVariants as phases
@@ -60,11 +60,7 @@ pub stay_same : (fs : List Frame) → Stay fs fs
 stay_same fs h f e = (f, e, (refl, refl))
 
 pub in_place : (f g : Frame) (fs : List Frame) → AreAlike f g → Stay (f ∷ fs) (g ∷ fs)
-in_place f g fs alike h k e = by_place (top_or h f fs k e)
-  where
-    by_place : ((length fs ≡ h) × (f ≡ k)) ⊎ (frame_at h fs ≡ Some k) → (n : Frame) × (frame_at h (g ∷ fs) ≡ Some n) × AreAlike k n
-    by_place (inl p) = (g, subst (λ (i : ℕ). frame_at i (g ∷ fs) ≡ Some g) p.0 (top_here g fs), subst (λ (n : Frame). AreAlike n g) p.1 alike)
-    by_place (inr p) = (k, under h g fs k p, (refl, refl))
+in_place f g fs alike h k e = elim (top_or h f fs k e) [ inl p ↦ (g, subst (λ (i : ℕ). frame_at i (g ∷ fs) ≡ Some g) p.0 (top_here g fs), subst (λ (n : Frame). AreAlike n g) p.1 alike) | inr p ↦ (k, under h g fs k p, (refl, refl)) ]
 
 above : (f g n : Frame) (fs : List Frame) → AreAlike f g → Stay (f ∷ fs) (n ∷ g ∷ fs)
 above f g n fs alike h k e = let s = in_place f g fs alike h k e in (s.0, under h n (g ∷ fs) s.0 s.1, s.2)
@@ -115,19 +111,14 @@ module _ (p : Program) (at : Top) where
   instruction_goes top (Throws x) got = inl (stay_same (frames_of at))
   instruction_goes top (Reads v) got = inl (went_goes at.insn.next got)
   instruction_goes top (Writes v word) got = inl (went_goes at.insn.next 0)
-  instruction_goes top (Indexes array index stored) got = tt
   instruction_goes top (Measures array) got = inl (went_goes at.insn.next (header_length got))
   instruction_goes top (Raises x) got = raises (thrown_of (header_class got)) x
-  instruction_goes top (Makes word size) got = tt
   instruction_goes top (Prints n) got = inl (went_goes at.insn.next 0)
   instruction_goes top (Calls number) got = calls number (slice_get p.methods number)
   instruction_goes top Returns got = returns_goes top (is_synchronized at.method.flags)
   instruction_goes top (Enters n) got = inl (went_goes at.insn.next 0)
   instruction_goes top (Leaves n) got = inl (went_goes at.insn.next 0)
-  instruction_goes top (Waits n) got = tt
-  instruction_goes top (Notifies n) got = tt
-  instruction_goes top (NotifiesAll n) got = tt
-  instruction_goes top Stuck got = tt
+  instruction_goes top e got = tt
 
   -- an exception
   handed_goes : (x : ℕ) (class : Thrown) (o : Option Row) → Stay (frames_of at) (frames_in (handed p x class at o)) ⊎ IsAway x class (frames_of at) (handed p x class at o)
@@ -168,7 +159,7 @@ pub record HasReturned (c : MarkedProgram) (x y : Thread) : Type 0 where
 -- what a thread of this phase throws, and its frames, as construction has them
 pub record Carries (was : Phase) (fs : List Frame) (v : ℕ) : Type 0 where
   pub finished : (w : World) (next t : ℕ) → PhaseKeeps w next t was → IsFinished w next v
-  pub frames : (c : MarkedProgram) (frozen : ℕ → Bool) (owning : Owning) (w : World) (next t : ℕ) → PhaseKeepsFrames c frozen owning w next t was fs → FramesKeep c frozen owning w next t Loose fs
+  pub frames : (b : Building) → PhaseIn b was fs → FramesIn b Loose fs
 
 -- an exception has left it; what the thread holds was known before
 pub record IsUnwound (was : Phase) (x y : Thread) : Type 0 where
@@ -266,20 +257,20 @@ module _ (c : MarkedProgram) (was : Phase) (x : Thread) where
 
   -- in a phase that throws behind a monitor, or may
   carries : (to : After → Phase) → ((w : World) (next t v : ℕ) (class : Thrown) → PhaseKeeps w next t (to (afters.Unwind v class)) → IsFinished w next v)
-      → ((c : MarkedProgram) (frozen : ℕ → Bool) (owning : Owning) (w : World) (next t v : ℕ) (class : Thrown) → PhaseKeepsFrames c frozen owning w next t (to (afters.Unwind v class)) x.frames → FramesKeep c frozen owning w next t Loose x.frames)
+      → ((b : Building) (v : ℕ) (class : Thrown) → PhaseIn b (to (afters.Unwind v class)) x.frames → FramesIn b Loose x.frames)
       → (a : After) → was ≡ to a → CarriesIn a
   carries to finished frames a e v class is =
       let now : was ≡ to (afters.Unwind v class) = e ∙ ap to is in
       record {
         finished = λ w next t k. finished w next t v class (subst (λ (p : Phase). PhaseKeeps w next t p) now k);
-        frames = λ c frozen owning w next t k. frames c frozen owning w next t v class (subst (λ (p : Phase). PhaseKeepsFrames c frozen owning w next t p x.frames) now k);
+        frames = λ b k. frames b v class (subst (λ (p : Phase). PhaseIn b p x.frames) now k);
       }
 
   leaves_carry : (m : ℕ) (a : After) → was ≡ phases.Leave m a → CarriesIn a
-  leaves_carry m = carries (phases.Leave m) (λ w next t v class k. k.1) (λ c frozen owning w next t v class k. k)
+  leaves_carry m = carries (phases.Leave m) (λ w next t v class k. k.1) (λ b v class k. k)
 
   flat_carry : (m : ℕ) (a : After) → was ≡ phases.FlatOut m a → CarriesIn a
-  flat_carry m = carries (phases.FlatOut m) (λ w next t v class k. k.1) (λ c frozen owning w next t v class k. k)
+  flat_carry m = carries (phases.FlatOut m) (λ w next t v class k. k.1) (λ b v class k. k)
 
   -- ---- all moves, whatever it has counted
 
@@ -340,7 +331,7 @@ module _ (c : MarkedProgram) (was : Phase) (x : Thread) where
     goes_go _ _ (moves.by_element word stored at top) is = goes_next at top (element_made stored got)
     goes_go _ _ (moves.by_object a word) is = pushed_goes a x.frames refl
     goes_go _ _ (moves.by_handler v class at top) is = throws_on v class
-        (record { finished = λ w next t k. subst (λ (p : Phase). PhaseKeeps w next t p) is k; frames = λ c frozen owning w next t k. subst (λ (p : Phase). PhaseKeepsFrames c frozen owning w next t p x.frames) is k }) at top
+        (record { finished = λ w next t k. subst (λ (p : Phase). PhaseKeeps w next t p) is k; frames = λ b k. subst (λ (p : Phase). PhaseIn b p x.frames) is k }) at top
     goes_go _ _ (moves.by_none m r e) is = goes_still
     goes_go _ _ (moves.by_one m r u) is = goes_still
     goes_go _ _ (moves.by_all m r) is = goes_still

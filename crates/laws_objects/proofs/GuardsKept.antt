@@ -1,17 +1,18 @@
 -- What an event changes of guarded fields, of elements of owned arrays, of final fields of frozen classes, and of static fields
 -- that are guarded or final.
-use Rattle.std.{proofs.Common.{◌≡◌, ◌⊎◌, inl, inr, ℕ, Bool, true, false, List, [], ◌∷◌, Option, Some, None, sym, ap, ◌∙◌, subst, Contains, slice_get, slice_index}, specs.List.list_any}
+use Rattle.std.{proofs.Common.{◌≡◌, ◌⊎◌, inl, inr, ℕ, true, false, List, [], ◌∷◌, Option, Some, None, sym, ap, ◌∙◌, subst, Contains, slice_get, slice_index}, specs.List.list_any}
 use Rattle.lists.proofs.ListLaws.{same_some}
 use Rattle.jvm_types.specs.{ClassNames.file_of_class, CodeTable.is_init, Members.{is_static, is_class_init_name}, declared.program.FieldInfo.FieldInfo}
 use Rattle.checked_program.specs.{FrozenPlaces.{IsFrozenField, IsFrozenStatic, IsGuardedField, IsGuardedStatic, locks_this, locks_class}, LockTags.is_this, MarkedProgram.{MarkedProgram, IsMarked}}
 use Rattle.checked_program.specs.{OwnedArrays.IsOwnedArrayField, SectionLaws.{HasThis, ElementWriteLaw, FinalLaw, FinalStaticLaw, OwnedIsDecided, StaticWriteLaw, WriteLaw}}
-use Rattle.machine_types.specs.{Accesses.words_after, Construction.{Construction, Owning}, Core.{Core, event, event_of}, Events.wanted, Guards.{MakesObject, IsOfClassInit, MakesClass, HoldsMonitor, ChangesWord, Changes, KeepsGuards}}
-use Rattle.machine_types.specs.{HeldMonitors.held_at, Lawful.IsLawful, OwnedPlaces.IsElementOf, PlainMemory.Object, Standing.tags_of, Structure.{HasFrame, IsStructured, Stands, TopIs, is_element_op}, Threads.{Attempt, Frame, Thread}}
-use Rattle.machine_types.specs.{Words.{class_object, value_word}, Worlds.World, declared.{config.Config.Config, lock.Held.Held, phase.Phase.Phase}}
+use Rattle.machine_types.specs.{Accesses.words_after, Core.{event, event_of}, Events.wanted, Guards.{MakesObject, IsOfClassInit, MakesClass, HoldsMonitor, ChangesWord, Changes, KeepsGuards}}
+use Rattle.machine_types.specs.{HeldMonitors.held_at, OwnedPlaces.IsElementOf, PlainMemory.Object, Standing.tags_of, Structure.{HasFrame, IsStructured, Stands, TopIs, is_element_op}, Threads.{Attempt, Frame, Thread}}
+use Rattle.machine_types.specs.{Words.{class_object, value_word}, declared.{lock.Held.Held, phase.Phase.Phase}}
 use Rattle.laws_threads.proofs.{Inside.stack_this, Standings.are_tagged}
-use Rattle.laws_states.specs.{HeapFacts.HeapFacts, PartsLaws.ClassInitsRunAlone, SiteLaws.{EventsReachSites, SitesDiffer, SitesLieInside}, StateFacts.StateFacts}
-use Rattle.laws_objects.{specs.GuardLaws.EventsKeepGuards, proofs.{ElementWriters.{ElementWriter, StoresElement, element_writer}, FieldWriters.{Writer, field_writer}, PlaceWriters.{TopWrites, IsWriter}, ShownMonitors.{holds_receiver, holds_class}}}
-use Rattle.laws_objects.proofs.StaticWriters.{StaticWriter, static_writer}
+use Rattle.laws_states.specs.PartsLaws.{ClassInitsRunAlone}
+use Rattle.laws_states.proofs.Movers.{KnownSites}
+use Rattle.laws_objects.{specs.GuardLaws.EventsKeepGuards, proofs.{ElementWriters.{ElementWriter, StoresElement, element_writer}, FieldWriters.{Writer, field_writer}}}
+use Rattle.laws_objects.proofs.{PlaceWriters.{BuiltEvent, place_event, TopWrites, IsWriter}, ShownMonitors.{holds_receiver, holds_class}, StaticWriters.{StaticWriter, static_writer}}
 use Rattle.machine_types.specs.declared.phase.Phase.TheVariants as phases
 
 abbrev IsHeld : (m : ℕ) → List Held → Type 0
@@ -136,80 +137,81 @@ module _ (c : MarkedProgram) (was : Phase) (x : Thread) (structured : IsStructur
 
 -- ---- the law
 
-module _ (write : WriteLaw) (element_write : ElementWriteLaw) (decided : OwnedIsDecided) (static_write : StaticWriteLaw) (final : FinalLaw) (static_final : FinalStaticLaw) (differ : SitesDiffer) (inside : SitesLieInside) (reach : EventsReachSites) (alone : ClassInitsRunAlone) where
-  module _ (c : MarkedProgram) (cfg : Config) (objects : List Object) (was : ℕ → Phase) (s : Core) (t : ℕ) (x : Thread) (marked : IsMarked c) (facts : StateFacts c cfg objects was s) (there : slice_get s.threads t ≡ Some x) where
-    heap : HeapFacts c objects s
-    heap = facts.heap
+pub record GuardLaws : Type 0 where
+  pub write : WriteLaw
+  pub element_write : ElementWriteLaw
+  pub decided : OwnedIsDecided
+  pub static_write : StaticWriteLaw
+  pub final : FinalLaw
+  pub static_final : FinalStaticLaw
+  pub sites : KnownSites
+  pub alone : ClassInitsRunAlone
 
-    lawful : IsLawful c x
-    lawful = facts.threads.lawful t x there
+-- its instruction begins outside attempts
+module _ (laws : GuardLaws) (turn : BuiltEvent) (outside : turn.x.attempt ≡ None) where
+  open laws use {write, element_write, decided, static_write, final, static_final, alone}
+  open turn use {c, cfg, marked, owning as own, was, objects, s, facts, t, x, there}
 
-    structured : IsStructured c (was t) x
-    structured = facts.structure t x there
+  abbrev structured : IsStructured c (was t) x
+  structured = facts.structure t x there
 
-    words : (event c s t).words ≡ words_after s.words (wanted c x x.phase)
-    words = ap (λ (o : Option Thread). (event_of c s t o).words) there
+  words : (event c s t).words ≡ words_after s.words (wanted c x x.phase)
+  words = ap (λ (o : Option Thread). (event_of c s t o).words) there
 
-    -- who changes a word of a place writes it
-    changer : (IsSuch : Frame → Type 0) (word : ℕ) → ChangesWord word s (event c s t) → (slice_index (words_after s.words (wanted c x x.phase)) word ≡ slice_index s.words word) ⊎ IsWriter IsSuch x → IsWriter IsSuch x
-    changer IsSuch word changes (inl e) = absurd (changes (ap (λ (ws : List ℕ). slice_index ws word) words ∙ e))
-    changer IsSuch word changes (inr writer) = writer
+  -- who changes a word of a place writes it
+  changer : (IsSuch : Frame → Type 0) (word : ℕ) → ChangesWord word s (event c s t) → (slice_index (words_after s.words (wanted c x x.phase)) word ≡ slice_index s.words word) ⊎ IsWriter IsSuch x → IsWriter IsSuch x
+  changer IsSuch word changes (inl e) = absurd (changes (ap (λ (ws : List ℕ). slice_index ws word) words ∙ e))
+  changer IsSuch word changes (inr writer) = writer
 
-    writer : (fi : ℕ) (o : Object) → Contains objects o → Changes fi c o s (event c s t) → (field : FieldInfo) → slice_get c.program.fields fi ≡ Some field → is_static field.flags ≡ false → IsWriter (Writer c fi o.reference) x
-    writer fi o here k field is instance =
-        changer (Writer c fi o.reference) (value_word o.reference k.field.index) k.changes (field_writer differ c objects s t x marked heap there fi k.field k.is instance_too o here k.of_class inside reach lawful (was t) structured)
-      where
-        instance_too : is_static k.field.flags ≡ false
-        instance_too = subst (λ (f : FieldInfo). is_static f.flags ≡ false) (same_some (sym is ∙ k.is)) instance
+  writer : (fi : ℕ) (o : Object) → Contains objects o → Changes fi c o s (event c s t) → (field : FieldInfo) → slice_get c.program.fields fi ≡ Some field → is_static field.flags ≡ false → IsWriter (Writer c fi o.reference) x
+  writer fi o here k field is instance =
+      changer (Writer c fi o.reference) (value_word o.reference k.field.index) k.changes (field_writer (place_event turn) fi k.field k.is instance_too o here k.of_class)
+    where
+      instance_too : is_static k.field.flags ≡ false
+      instance_too = subst (λ (f : FieldInfo). is_static f.flags ≡ false) (same_some (sym is ∙ k.is)) instance
 
-    on_class : (fi : ℕ) (field : FieldInfo) → slice_get c.program.fields fi ≡ Some field → is_static field.flags ≡ true → ChangesWord field.index s (event c s t) → IsWriter (StaticWriter c fi) x
-    on_class fi field is static changes = changer (StaticWriter c fi) field.index changes (static_writer differ c objects s t x marked heap there fi field is static inside reach lawful (was t) structured)
+  on_class : (fi : ℕ) (field : FieldInfo) → slice_get c.program.fields fi ≡ Some field → is_static field.flags ≡ true → ChangesWord field.index s (event c s t) → IsWriter (StaticWriter c fi) x
+  on_class fi field is static changes = changer (StaticWriter c fi) field.index changes (static_writer (place_event turn) fi field is static)
 
-    makes_class : (fi class : ℕ) → IsWriter (StaticWriter c fi) x → IsOfClassInit c class x.frames → MakesClass c class s x
-    makes_class fi class k init = alone c cfg s t class x facts.threads facts.class_inits there k.runs init
+  makes_class : (fi class : ℕ) → IsWriter (StaticWriter c fi) x → IsOfClassInit c class x.frames → MakesClass c class s x
+  makes_class fi class k init = alone c cfg s t class x facts.threads facts.class_inits there k.runs init
 
-    -- its instruction begins outside attempts
-    module _ (frozen : ℕ → Bool) (own : Owning) (w : World)
-        (built : Construction c frozen own w was objects s) (outside : x.attempt ≡ None) where
-      element_changed : (fi word : ℕ) (o : Object) → Contains objects o
-          → IsOwnedArrayField c.program (tags_of c) fi → IsElementOf c own.stores objects fi o word
-          → ChangesWord word s (event c s t) → HoldsMonitor o.reference x ⊎ MakesObject c
-          o.reference x.frames
-      element_changed fi word o here g e changes =
-          by_change (element_writer decided differ c objects s t x marked heap there frozen own w
-          was built structured fi word o here g e inside reach lawful)
-        where
-          by_change : (slice_index (words_after s.words (wanted c x x.phase)) word ≡ slice_index
-              s.words word) ⊎ StoresElement c o word x
-              → HoldsMonitor o.reference x ⊎ MakesObject c o.reference x.frames
-          by_change (inl still) = absurd (changes
-              (ap (λ (ws : List ℕ). slice_index ws word) words ∙ still))
-          by_change (inr k) = element_stored c
-              (was t) x structured outside o word k marked element_write
+  element_changed : (fi word : ℕ) (o : Object) → Contains objects o → IsOwnedArrayField c.program (tags_of c) fi → IsElementOf c own.stores objects fi o word → ChangesWord word s (event c s t) → HoldsMonitor o.reference x ⊎ MakesObject c o.reference x.frames
+  element_changed fi word o here g e changes = by_change (element_writer decided turn fi word o here g e)
+    where
+      by_change : (slice_index (words_after s.words (wanted c x x.phase)) word ≡ slice_index s.words word) ⊎ StoresElement c o word x → HoldsMonitor o.reference x ⊎ MakesObject c o.reference x.frames
+      by_change (inl still) = absurd (changes (ap (λ (ws : List ℕ). slice_index ws word) words ∙ still))
+      by_change (inr k) = element_stored c (was t) x structured outside o word k marked element_write
 
-      static_changed : (fi : ℕ) (g : IsGuardedStatic c.program (tags_of c) fi) → IsWriter (StaticWriter c fi) x → HoldsMonitor (class_monitor c g.field) x ⊎ MakesClass c g.field.class s x
-      static_changed fi g k =
-          by_case (by_writer c (was t) x structured outside (StaticWriter c fi) k (λ fs. IsHeld (class_monitor c g.field) x.held ⊎ IsOfClassInit c g.field.class fs) (λ f fs stands k. guarded_static_top c marked fi f fs x.held stands k static_write g))
-        where
-          by_case : IsHeld (class_monitor c g.field) x.held ⊎ IsOfClassInit c g.field.class x.frames → HoldsMonitor (class_monitor c g.field) x ⊎ MakesClass c g.field.class s x
-          by_case (inl holds) = inl holds
-          by_case (inr init) = inr (makes_class fi g.field.class k init)
+  static_changed : (fi : ℕ) (g : IsGuardedStatic c.program (tags_of c) fi) → IsWriter (StaticWriter c fi) x → HoldsMonitor (class_monitor c g.field) x ⊎ MakesClass c g.field.class s x
+  static_changed fi g k =
+      by_case (by_writer c (was t) x structured outside (StaticWriter c fi) k (λ fs. IsHeld (class_monitor c g.field) x.held ⊎ IsOfClassInit c g.field.class fs) (λ f fs stands k. guarded_static_top c marked fi f fs x.held stands k static_write g))
+    where
+      by_case : IsHeld (class_monitor c g.field) x.held ⊎ IsOfClassInit c g.field.class x.frames → HoldsMonitor (class_monitor c g.field) x ⊎ MakesClass c g.field.class s x
+      by_case (inl holds) = inl holds
+      by_case (inr init) = inr (makes_class fi g.field.class k init)
 
-      final_changed : (fi : ℕ) (g : IsFrozenStatic c.program fi) → IsWriter (StaticWriter c fi) x → MakesClass c g.field.class s x
-      final_changed fi g k =
-          makes_class fi g.field.class k (by_writer c (was t) x structured outside (StaticWriter c fi) k (IsOfClassInit c g.field.class) (λ f fs stands k. final_static_top c marked fi f fs x.held stands k static_final g))
+  final_changed : (fi : ℕ) (g : IsFrozenStatic c.program fi) → IsWriter (StaticWriter c fi) x → MakesClass c g.field.class s x
+  final_changed fi g k =
+      makes_class fi g.field.class k (by_writer c (was t) x structured outside (StaticWriter c fi) k (IsOfClassInit c g.field.class) (λ f fs stands k. final_static_top c marked fi f fs x.held stands k static_final g))
 
-      guards_kept : KeepsGuards c own.stores objects s (event c s t) x
-      guards_kept = record {
-        guarded = λ fi o here g k.
-            by_writer c (was t) x structured outside (Writer c fi o.reference) (writer fi o here k g.field g.is g.instance) (λ fs. IsHeld o.reference x.held ⊎ MakesObject c o.reference fs)
-            (λ f fs stands k. guarded_top c marked fi o.reference f fs x.held stands k write g);
-        elements = λ fi word o here g e changes. element_changed fi word o here g e changes;
-        statics = λ fi g changes. static_changed fi g (on_class fi g.field g.is g.static changes);
-        frozen = λ fi o here g k.
-            by_writer c (was t) x structured outside (Writer c fi o.reference) (writer fi o here k g.field g.is g.instance) (MakesObject c o.reference) (λ f fs stands k. frozen_top c marked fi o.reference f fs x.held stands k final g);
-        frozen_statics = λ fi g changes. final_changed fi g (on_class fi g.field g.is g.static changes);
-      }
+  guards_kept : KeepsGuards c own.stores objects s (event c s t) x
+  guards_kept = record {
+    guarded = λ fi o here g k.
+        by_writer c (was t) x structured outside (Writer c fi o.reference) (writer fi o here k g.field g.is g.instance) (λ fs. IsHeld o.reference x.held ⊎ MakesObject c o.reference fs)
+        (λ f fs stands k. guarded_top c marked fi o.reference f fs x.held stands k write g);
+    elements = λ fi word o here g e changes. element_changed fi word o here g e changes;
+    statics = λ fi g changes. static_changed fi g (on_class fi g.field g.is g.static changes);
+    frozen = λ fi o here g k.
+        by_writer c (was t) x structured outside (Writer c fi o.reference) (writer fi o here k g.field g.is g.instance) (MakesObject c o.reference) (λ f fs stands k. frozen_top c marked fi o.reference f fs x.held stands k final g);
+    frozen_statics = λ fi g changes. final_changed fi g (on_class fi g.field g.is g.static changes);
+  }
 
-  pub events_keep_guards : EventsKeepGuards
-  events_keep_guards c cfg objects was frozen own w s t x marked width facts built there outside = guards_kept c cfg objects was s t x marked facts there frozen own w built outside
+pub events_keep_guards : GuardLaws → EventsKeepGuards
+events_keep_guards laws c cfg objects was frozen own w s t x marked width facts built there outside = guards_kept laws (record {
+  sites = laws.sites;
+  state = record { constructed = record { c = c; frozen = frozen; owning = own; w = w; was = was; objects = objects; s = s; con = built }; cfg = cfg; marked = marked; facts = facts };
+  t = t;
+  x = x;
+  there = there;
+}) outside

@@ -1,18 +1,20 @@
 -- The event that begins an instruction keeps what construction says of its thread.
-use Rattle.std.proofs.Common.{◌≡◌, ℕ, ◌+◌, ◌-◌, ◌<◌, ◌≤◌, Bool, true, false, List, [], ◌∷◌, length, Option, Some, None, refl, sym, ap, ◌∙◌, subst, arith, ◌==◌, if◌then◌else◌}
+use Rattle.std.proofs.Common.{◌≡◌, ℕ, ◌+◌, ◌-◌, ◌<◌, Bool, true, false, List, [], ◌∷◌, length, Option, Some, None, refl, sym, ap, ◌∙◌, subst, arith, ◌==◌, if◌then◌else◌}
 use Rattle.lists.proofs.ListLaws.{same_some}
 use Rattle.jvm_types.specs.{ProgramInvariant.words_of, Verifying.edges, declared.{code.Op.Op, outcome.Thrown.Thrown, program.{FieldInfo.FieldInfo, Kind.Kind, Target.Target}}}
 use Rattle.checked_program.specs.{MarkedProgram.{MarkedProgram, IsMarked}, OwnedArrays.IsOwnedArrayField}
-use Rattle.machine_types.specs.{Construction.{Owning, AreOwned, puts_owned, AreFrozen, Runs, KeepBelow, FrameKeeps, FramesKeep, MadeKeeps, ThreadKeeps}, Effects.{effect, puts, kept, variable_of}, Elision.put_back, Frames.{Top, top_of, effect_at, went_on, making}, Going.goes_on}
-use Rattle.machine_types.specs.{Instructions.printed, Onward.{Onward, Running, threw, done}, OwnedPlaces.{with_stored, IsStoredNowhere}, Standing.{row_at, tags_of}, Structure.{IsStructured, Stands, AttemptStandsIn}, Threads.{Frame, Attempt, Thread}}
+use Rattle.machine_types.specs.{Construction.{puts_owned, Runs}, Effects.{effect, puts, kept, variable_of}, Elision.put_back, Frames.{Top, top_of, effect_at, went_on, making}, Going.goes_on}
+use Rattle.machine_types.specs.{Instructions.printed, Onward.{Onward, Running, threw, done}, OwnedPlaces.{Stores, with_stored, IsStoredNowhere}, Standing.{row_at, tags_of}, Structure.{Stands, AttemptStandsIn}, Threads.{Frame, Attempt, Thread}}
 use Rattle.machine_types.specs.{Typed.Classes, Words.variable_word, Worlds.{Header, Unstored, builder, World, IsFinished, IsOwnOrFinished, IsWorld, with_builder, GoesOn}, declared.effect.{Effect.Effect, Variable.Variable}}
-use Rattle.machine_types.specs.declared.{effect.Effect.TheVariants.{Goes, Throws, Reads, Writes, Indexes, Measures, Raises, Makes, Prints, Calls, Returns, Enters, Leaves, Waits, Notifies, NotifiesAll, Stuck}, lock.Kept.Kept, phase.Phase.Phase}
+use Rattle.machine_types.specs.declared.{effect.Effect.TheVariants.{Throws, Reads, Writes, Indexes, Makes, Prints, Waits, Notifies, NotifiesAll, Stuck}, lock.Kept.Kept, phase.Phase.Phase}
 use Rattle.laws_threads.{specs.{Allowed.{Allowed, OneOf, IsByMachine}, EntryFrames.KeepsEntry, InsideEffects.MayDo, StructureLaws.{StaysStructured, counted_by}}, proofs.EntryKept.steps_kept}
 use Rattle.laws_threads.proofs.{Inside.inside_may, Landing.stand_top, Standings.top_here, ThreadMove.{Refuses, IsNotify, Asks, WaitsFrom, counting}, TopEffects.made_size}
-use Rattle.laws_objects.proofs.{ArraySlots.StoresFine, BuiltEffects.{Built, RowOld}, CountedPhases.PhaseFits, EffectOps.{FitsOp, IsUsual, is_putfield, stores_none}, Moves.{Steps, stays}, NewFrames.makes_it, Operands.is_getfield, StoredArrays.{stores_it, is_new, unstored, later_finished}}
-use Rattle.laws_objects.proofs.Onwards.{OnwardKeeps, IfKeeps, FoundOld, FoundStored, null, throws_it, runs_usual, does_it, built_here, built_clean, fits_op, finished_known}
+use Rattle.laws_objects.proofs.{Buildings.{Moving, in_world, in_later, with_stores, FrameIn, BelowIn, FramesIn, MadeIn, sees}, BuiltEffects.{Built, RowOld}, CountedPhases.PhaseFits}
+use Rattle.laws_objects.proofs.{EffectOps.{FitsOp, IsUsual, is_putfield, stores_none}, Moves.{Steps, stays}, NewFrames.makes_it}
+use Rattle.laws_objects.proofs.{Onwards.{OnwardKeeps, IfKeeps, FoundOld, FoundStored, throws_it, runs_usual, does_it, built_here, built_clean, fits_op}, Operands.is_getfield}
+use Rattle.laws_objects.proofs.StoredArrays.{PutsOwned, stores_it, is_new, unstored, later_finished}
 use Rattle.laws_objects.proofs.{ThreadMoves.{Moved, AreKnown, AttemptFrom, from_same, now_world, held_known, outside, runs_to, onward_moves, moved_more, moved_more_to}, Views.finished_on}
-use Rattle.laws_objects.proofs.WorldChanges.{goes_given, world_given, lost_given}
+use Rattle.laws_objects.proofs.WorldChanges.{finished_known, goes_given, world_given, lost_given}
 use Rattle.jvm_types.specs.declared.code.Op.TheVariants as ops
 use Rattle.jvm_types.specs.declared.outcome.Thrown.TheVariants as thrown
 use Rattle.jvm_types.specs.declared.program.Target.TheVariants as targets
@@ -32,14 +34,8 @@ IsOutside (NotifiesAll m) = Unit {0}
 IsOutside e = ⊥
 
 may_not : (c : MarkedProgram) (m : ℕ) (at : Top) (e : Effect) → IsOutside e → MayDo c m at e → ⊥
-may_not c m at (Writes v word) o k = k
 may_not c m at (Indexes a i (Some v)) o k = k
-may_not c m at (Makes word size) o k = k
-may_not c m at (Prints n) o k = k
-may_not c m at (Waits n) o k = k
-may_not c m at (Notifies n) o k = k
-may_not c m at (NotifiesAll n) o k = k
-may_not c m at e o k = o
+may_not c m at e o k = assumption
 
 pub none_outside : (c : MarkedProgram) (marked : IsMarked c) (x : Thread) (at : Top) → Stands c phases.Run x.frames x.held x.attempt → AttemptStandsIn c phases.Run x.frames x.held x.attempt → top_of c.program x.frames ≡ Some at → IsOutside (effect_at c.program at) → x.attempt ≡ None
 none_outside c marked x at stands inside top out = by_attempt x.attempt refl stands inside
@@ -53,19 +49,20 @@ abbrev pub Gets : (next more : ℕ) → Effect → (got : ℕ) → Type 0
 Gets next more (Makes word size) got = (got ≡ next) × (more ≡ next + size)
 Gets next more e got = Unit {0}
 
-module _ (c : MarkedProgram) (marked : IsMarked c) (frozen : ℕ → Bool) (are : AreFrozen c frozen) (owning : Owning) (owns : AreOwned c owning.owned) (is : Classes) (w : World) (next more t : ℕ) (was : Phase) (x : Thread) (k : ThreadKeeps c frozen owning w next t was x) (is_world : IsWorld w (words_of c.program) next) (fine : StoresFine owning.stores next) (grows : next ≤ more)
-    (stood : IsStructured c was x) where
+module _ (moving : Moving) (is : Classes) where
+  open moving use {design, building, c, marked, owning, owns, w, next, t, is_world, more, was, x, k, grows, stood}
+
   pub now_is : IsWorld k.now (words_of c.program) next
-  now_is = now_world c frozen owning w next t was x k is_world
+  now_is = now_world building was x k is_world
 
   held : AreKnown w next t x.held
-  held = held_known c frozen owning w next t was x k is_world
+  held = held_known building was x k is_world
 
   abbrev pub Goal : Thread → Type 0
-  Goal y = Moved c frozen owning w k.now next more t (counted_by was y.phase) y
+  Goal y = Moved building k.now more (counted_by was y.phase) y
 
-  also : (y : Thread) → Moved c frozen owning w k.now next next t (counted_by was y.phase) y → Goal y
-  also y m = moved_more c frozen owning w k.now next more t (counted_by was y.phase) y is_world grows m
+  also : (y : Thread) → Moved building k.now next (counted_by was y.phase) y → Goal y
+  also y m = moved_more building k.now more (counted_by was y.phase) y is_world grows m
 
   -- ---- what is known of the frame at the top, and of the word that its instruction finds
 
@@ -73,11 +70,11 @@ module _ (c : MarkedProgram) (marked : IsMarked c) (frozen : ℕ → Bool) (are 
     pub frame : Frame
     pub below : List Frame
     pub there : x.frames ≡ frame ∷ below
-    pub keeps : FrameKeeps c frozen owning k.now next t (length below) Runs frame
-    pub waits : KeepBelow c frozen owning k.now next t frame below
+    pub keeps : FrameIn (in_world building k.now) (length below) Runs frame
+    pub waits : BelowIn (in_world building k.now) frame below
     pub allowed : Allowed c.program keeps.stands.method is keeps.stands.insn keeps.stands.target (row_at c frame keeps.stands) frame.stack (effect_at c.program (top_here c frame below keeps.stands))
-    pub found : FoundOld c marked frozen are owning owns k.now next t now_is fine is keeps.stands.target (effect_at c.program (top_here c frame below keeps.stands)) got
-    pub stored : FoundStored c marked frozen are owning owns k.now next t now_is fine is frame keeps.stands (effect_at c.program (top_here c frame below keeps.stands)) got
+    pub found : FoundOld (sees moving) is keeps.stands.target (effect_at c.program (top_here c frame below keeps.stands)) got
+    pub stored : FoundStored (sees moving) is frame keeps.stands (effect_at c.program (top_here c frame below keeps.stands)) got
     pub gets : Gets next more (effect_at c.program (top_here c frame below keeps.stands)) got
 
   abbrev pub known_top : (got : ℕ) → KnownTop got → Top
@@ -107,16 +104,16 @@ module _ (c : MarkedProgram) (marked : IsMarked c) (frozen : ℕ → Bool) (are 
     allowed_as e same = subst AllowedAs same a.allowed
 
     built_as : (e : Effect) → effect_at c.program at ≡ e → puts_owned owning.owned a.keeps.stands.insn.op a.keeps.stands.target ≡ false → BuiltAs e
-    built_as e same plain = subst BuiltAs same (built_here c marked frozen are owning owns k.now next t now_is fine a.frame a.below a.keeps a.waits plain)
+    built_as e same plain = subst BuiltAs same (built_here (sees moving) a.frame a.below a.keeps a.waits plain)
 
     abbrev CleanAs : Effect → Type 0
     CleanAs e = Built (IsStoredNowhere owning.stores) c.program a.keeps.stands.target (row_at c a.frame a.keeps.stands) e
 
     clean_as : (e : Effect) → effect_at c.program at ≡ e → CleanAs e
-    clean_as e same = subst CleanAs same (built_clean c marked frozen are owning owns k.now next t now_is fine a.frame a.below a.keeps a.waits)
+    clean_as e same = subst CleanAs same (built_clean (sees moving) a.frame a.below a.keeps a.waits)
 
     fits_as : (e : Effect) → effect_at c.program at ≡ e → FitsOp e a.keeps.stands.insn.op
-    fits_as e same = subst (λ (e : Effect). FitsOp e a.keeps.stands.insn.op) same (fits_op c marked frozen are owning owns k.now next t now_is fine a.frame a.below a.keeps a.waits)
+    fits_as e same = subst (λ (e : Effect). FitsOp e a.keeps.stands.insn.op) same (fits_op (sees moving) a.frame a.below a.keeps a.waits)
 
     none : IsOutside (effect_at c.program at) → x.attempt ≡ None
     none out = none_outside c marked x at (subst (λ (phase : Phase). Stands c phase x.frames x.held x.attempt) is_run stood.stands) (subst (λ (phase : Phase). AttemptStandsIn c phase x.frames x.held x.attempt) is_run stood.attempt) (top_is got a) out
@@ -126,41 +123,35 @@ module _ (c : MarkedProgram) (marked : IsMarked c) (frozen : ℕ → Bool) (are 
 
     -- ---- it goes on, within the structure that it has
 
-    onward : (y : Thread) (o : Onward) → y.attempt ≡ x.attempt → y.held ≡ x.held → StaysStructured c was (goes_on y o) → ((a : Attempt) → x.attempt ≡ Some a → KeepsEntry a x.frames o) → Steps k.now next t (λ z. OnwardKeeps c frozen owning z next t o) → Goal (goes_on y o)
+    onward : (y : Thread) (o : Onward) → y.attempt ≡ x.attempt → y.held ≡ x.held → StaysStructured c was (goes_on y o) → ((a : Attempt) → x.attempt ≡ Some a → KeepsEntry a x.frames o) → Steps k.now next t (λ z. OnwardKeeps (in_world building z) o) → Goal (goes_on y o)
     onward y o attempt hs stands keeps step = also (goes_on y o)
-        (onward_moves c frozen owning w next t was x k is_world y o stood stands (subst (AreKnown w next t) (sym hs) held) (subst (AttemptFrom x.attempt) (sym attempt) (from_same x.attempt)) keeps step)
+        (onward_moves building was x k is_world y o stood stands (subst (AreKnown w next t) (sym hs) held) (subst (AttemptFrom x.attempt) (sym attempt) (from_same x.attempt)) keeps step)
 
     outside_keeps : (o : Onward) → x.attempt ≡ None → (a : Attempt) → x.attempt ≡ Some a → KeepsEntry a x.frames o
     outside_keeps o none a some = absurd (let bad : None ≡ Some a = sym none ∙ some in cc)
 
-    found_as : (e : Effect) → effect_at c.program at ≡ e → FoundOld c marked frozen are owning owns k.now next t now_is fine is a.keeps.stands.target e got
-    found_as e same = subst (λ (e : Effect). FoundOld c marked frozen are owning owns k.now next t now_is fine is a.keeps.stands.target e got) same a.found
+    found_as : (e : Effect) → effect_at c.program at ≡ e → FoundOld (sees moving) is a.keeps.stands.target e got
+    found_as e same = subst (λ (e : Effect). FoundOld (sees moving) is a.keeps.stands.target e got) same a.found
 
-    stored_as : (e : Effect) → effect_at c.program at ≡ e → FoundStored c marked frozen are owning owns k.now next t now_is fine is a.frame a.keeps.stands e got
-    stored_as e same = subst (λ (e : Effect). FoundStored c marked frozen are owning owns k.now next t now_is fine is a.frame a.keeps.stands e got) same a.stored
+    stored_as : (e : Effect) → effect_at c.program at ≡ e → FoundStored (sees moving) is a.frame a.keeps.stands e got
+    stored_as e same = subst (λ (e : Effect). FoundStored (sees moving) is a.frame a.keeps.stands e got) same a.stored
 
     does_plain : (e : Effect) (o : Onward) → puts_owned owning.owned a.keeps.stands.insn.op a.keeps.stands.target ≡ false → effect_at c.program at ≡ e → done c.program at e got ≡ Some o → StaysStructured c was (goes_on s o) → Goal (goes_on s o)
     does_plain e o plain same d stands = onward s o refl refl stands (λ b some. steps_kept c.program x.frames b at e got o (top_is got a) d)
-        (subst (IfKeeps c frozen owning k.now next t) d
-        (does_it c marked frozen are owning owns k.now next t now_is fine a.frame a.below a.keeps a.waits is e got plain (allowed_as e same) (built_as e same plain) (clean_as e same) (fits_as e same) (found_as e same) (stored_as e same)))
+        (subst (IfKeeps (in_world building k.now)) d
+        (does_it (sees moving) a.frame a.below a.keeps a.waits is e got plain (allowed_as e same) (built_as e same plain) (clean_as e same) (fits_as e same) (found_as e same) (stored_as e same)))
 
     -- ---- a new array is stored in an owned field
 
     pub record StoresNewArray (v : Variable) (put : ℕ) (y : Thread) : Type 0 where
       pub same : effect_at c.program at ≡ Writes v put
-      pub fi : ℕ
-      pub index : ℕ
-      pub op_is : a.keeps.stands.insn.op ≡ ops.Putfield index
-      pub target_is : a.keeps.stands.target ≡ targets.Field fi
-      pub owned : owning.owned fi ≡ true
-      pub array : ℕ
-      pub rest : List ℕ
-      pub stack_is : a.frame.stack ≡ array ∷ rest
+      pub puts : PutsOwned design a.frame a.keeps.stands
+      pub open puts use *
       pub value : put ≡ array
       pub outside : x.attempt ≡ None
       pub built : k.now array ≡ Some (builder t (length a.below) Unstored)
       pub unstored : owning.stores array ≡ None
-      pub moves : Moved c frozen (record owning { stores = with_stored owning.stores array (variable_word v) }) w k.now next more t (counted_by was y.phase) y
+      pub moves : Moved (with_stores building (with_stored owning.stores array (variable_word v))) k.now more (counted_by was y.phase) y
       pub finished : moves.later array ≡ None
 
     -- a `putfield` of an owned field
@@ -192,27 +183,20 @@ module _ (c : MarkedProgram) (marked : IsMarked c) (frozen : ℕ → Bool) (are 
         let names = put_names a.keeps.stands.insn.op a.keeps.stands.target puts in
         let stack = put_stack names.0 names.1 v put names.2 names.3 names.4 same in
         let none : x.attempt ≡ None = none_as (Writes v put) same tt in
-        let null_is = null c marked frozen are owning owns k.now next t now_is fine in
-        let it = stores_it c marked frozen are owning owns k.now next t null_is fine a.frame a.below a.keeps a.waits names.1 names.0 names.2 names.3 names.4 stack.0 stack.1 stack.2 (allowed_as (Writes v put) same).0 (variable_word v) in
-        let after : Owning = record owning { stores = with_stored owning.stores stack.0 (variable_word v) } in
+        let here : PutsOwned design a.frame a.keeps.stands = record { fi = names.1; index = names.0; op_is = names.2; target_is = names.3; owned = names.4; array = stack.0; rest = stack.1; stack_is = stack.2; edge = (allowed_as (Writes v put) same).0 } in
+        let it = stores_it (sees moving) a.frame a.below a.keeps a.waits here (variable_word v) in
+        let after : Stores = with_stored owning.stores stack.0 (variable_word v) in
         let y : Thread = goes_on s (Running (went_on c.program at 0)) in
-        let moved = moved_more_to c frozen after w k.now next more t (counted_by was y.phase) y it.later is_world grows (runs_to c frozen owning w next t was x k is_world after s (went_on c.program at 0) it none held) in
+        let moved = moved_more_to (with_stores building after) k.now more (counted_by was y.phase) y it.later is_world grows (runs_to building was x k is_world after s (went_on c.program at 0) it none held) in
         record {
           same = same;
-          fi = names.1;
-          index = names.0;
-          op_is = names.2;
-          target_is = names.3;
-          owned = names.4;
-          array = stack.0;
-          rest = stack.1;
-          stack_is = stack.2;
+          puts = here;
           value = stack.3;
           outside = none;
-          built = is_new c marked frozen are owning owns k.now next t null_is fine a.frame a.below a.keeps a.waits names.1 names.0 names.2 names.3 names.4 stack.0 stack.1 stack.2 (allowed_as (Writes v put) same).0 (variable_word v);
-          unstored = unstored c marked frozen are owning owns k.now next t null_is fine a.frame a.below a.keeps a.waits names.1 names.0 names.2 names.3 names.4 stack.0 stack.1 stack.2 (allowed_as (Writes v put) same).0 (variable_word v);
+          built = is_new (sees moving) a.frame a.below a.keeps a.waits here (variable_word v);
+          unstored = unstored (sees moving) a.frame a.below a.keeps a.waits here (variable_word v);
           moves = moved.moves;
-          finished = (λ i. moved.is_later i stack.0) ∙ later_finished c marked frozen are owning owns k.now next t null_is fine a.frame a.below a.keeps a.waits names.1 names.0 names.2 names.3 names.4 stack.0 stack.1 stack.2 (allowed_as (Writes v put) same).0 (variable_word v);
+          finished = (λ i. moved.is_later i stack.0) ∙ later_finished (sees moving) a.frame a.below a.keeps a.waits here (variable_word v);
         }
 
     -- of an instruction that stores no new array in an owned field
@@ -226,22 +210,10 @@ module _ (c : MarkedProgram) (marked : IsMarked c) (frozen : ℕ → Bool) (are 
         by_effect (Writes v put) same d puts fits = absurd (let bad : true ≡ false = sym puts ∙ stores_none_here v put same in cc)
         by_effect (Throws class) same d puts fits =
             onward s o refl refl stands (λ b some. steps_kept c.program x.frames b at (Throws class) got o (top_is got a) d)
-            (subst (IfKeeps c frozen owning k.now next t) d (stays k.now next t (λ z. OnwardKeeps c frozen owning z next t (threw class at)) (throws_it c marked frozen are owning owns k.now next t now_is fine a.frame a.below a.keeps a.waits class (allowed_as (Throws class) same).1)))
+            (subst (IfKeeps (in_world building k.now)) d (stays k.now next t (λ z. OnwardKeeps (in_world building z) (threw class at)) (throws_it (sees moving) a.frame a.below a.keeps a.waits class (allowed_as (Throws class) same).1)))
         by_effect Stuck same d puts fits = absurd (cc)
         by_effect (Reads v) same d puts fits = absurd (never (Reads v) fits puts fits.0)
-        by_effect (Makes word size) same d puts fits = absurd (never (Makes word size) fits puts fits.1)
-        by_effect (Goes to made) same d puts fits = absurd (never (Goes to made) fits puts fits.1)
-        by_effect (Indexes array i v) same d puts fits = absurd (never (Indexes array i v) fits puts fits.1)
-        by_effect (Measures array) same d puts fits = absurd (never (Measures array) fits puts fits.1)
-        by_effect (Raises v) same d puts fits = absurd (never (Raises v) fits puts fits.1)
-        by_effect (Prints v) same d puts fits = absurd (never (Prints v) fits puts fits.1)
-        by_effect (Calls number) same d puts fits = absurd (never (Calls number) fits puts fits.1)
-        by_effect Returns same d puts fits = absurd (never Returns fits puts fits.1)
-        by_effect (Enters m) same d puts fits = absurd (never (Enters m) fits puts fits.1)
-        by_effect (Leaves m) same d puts fits = absurd (never (Leaves m) fits puts fits.1)
-        by_effect (Waits m) same d puts fits = absurd (never (Waits m) fits puts fits.1)
-        by_effect (Notifies m) same d puts fits = absurd (never (Notifies m) fits puts fits.1)
-        by_effect (NotifiesAll m) same d puts fits = absurd (never (NotifiesAll m) fits puts fits.1)
+        by_effect e same d puts fits = absurd (never e fits puts fits.1)
 
         by_puts : (b : Bool) → puts_owned owning.owned a.keeps.stands.insn.op a.keeps.stands.target ≡ b → Goal (goes_on s o)
         by_puts false plain = does_plain e o plain same d stands
@@ -257,17 +229,17 @@ module _ (c : MarkedProgram) (marked : IsMarked c) (frozen : ℕ → Bool) (are 
     pub refuses_as : (class : Thrown) → Refuses c.program got at class → StaysStructured c was (goes_on s (threw class at)) → Goal (goes_on s (threw class at))
     refuses_as class why stands =
         onward s (threw class at) refl refl stands (λ b some low high. ap (put_back b) (sym a.there))
-        (stays k.now next t (λ z. OnwardKeeps c frozen owning z next t (threw class at)) (throws_it c marked frozen are owning owns k.now next t now_is fine a.frame a.below a.keeps a.waits class (by_machine class why)))
+        (stays k.now next t (λ z. OnwardKeeps (in_world building z) (threw class at)) (throws_it (sees moving) a.frame a.below a.keeps a.waits class (by_machine class why)))
 
     -- the frames with the instruction done
     abbrev Next : World → Type 0
-    Next z = FramesKeep c frozen owning z next t Runs (went_on c.program at 0)
+    Next z = FramesIn (in_world building z) Runs (went_on c.program at 0)
 
     usual_plain : IsUsual a.keeps.stands.insn.op → puts_owned owning.owned a.keeps.stands.insn.op a.keeps.stands.target ≡ false
     usual_plain usual = stores_none owning.owned a.keeps.stands.insn.op a.keeps.stands.target usual.1
 
     next_step : IsUsual a.keeps.stands.insn.op → OneOf (edges a.keeps.stands.insn) a.keeps.stands.insn.next → RowOld (IsFinished k.now next) (row_at c a.frame a.keeps.stands) 0 → RowOld (IsStoredNowhere owning.stores) (row_at c a.frame a.keeps.stands) 0 → Steps k.now next t Next
-    next_step usual edge old clean = runs_usual c marked frozen are owning owns k.now next t now_is fine a.frame a.below a.keeps a.waits a.keeps.stands.insn.next 0 edge usual old clean
+    next_step usual edge old clean = runs_usual (sees moving) a.frame a.below a.keeps a.waits a.keeps.stands.insn.next 0 edge usual old clean
 
     pub prints_as : (v : ℕ) → effect_at c.program at ≡ Prints v → StaysStructured c was (goes_on (printed s got v) (Running (went_on c.program at 0))) → Goal (goes_on (printed s got v) (Running (went_on c.program at 0)))
     prints_as v same stands = onward (printed s got v) (Running (went_on c.program at 0)) refl refl stands (outside_keeps (Running (went_on c.program at 0)) (none_as (Prints v) same tt))
@@ -278,13 +250,13 @@ module _ (c : MarkedProgram) (marked : IsMarked c) (frozen : ℕ → Bool) (are 
     pub makes_as : (word size : ℕ) → effect_at c.program at ≡ Makes word size → Goal (record s { frames = making c.program at; phase = phases.Made got word })
     makes_as word size same =
         subst (λ (v : ℕ). Goal (record s { frames = making c.program at; phase = phases.Made v word })) (sym gets.0)
-        (outside c frozen owning w next t was x k is_world owning more (phases.Made next word) (record s { frames = making c.program at; phase = phases.Made next word }) no_attempt no_attempt held
+        (outside building was x k is_world owning.stores more (phases.Made next word) (record s { frames = making c.program at; phase = phases.Made next word }) no_attempt no_attempt held
         (record {
           later = with_builder k.now next (builder t (length a.below) Header);
           goes = goes_given k.now next more t next (builder t (length a.below) Header) grows refl (λ o. (let l = o.0 in omega (arith, l))) (λ j h. absurd (let l = (now_is.inside next j h).1 in omega (arith, l)));
           world = λ z. world_given k.now (words_of c.program) next more next (builder t (length a.below) Header) z grows z.room longer;
           lost = lost_given k.now next (builder t (length a.below) Header) (λ b h. absurd (let l = (now_is.inside next b h).1 in omega (arith, l)));
-          fits = (subst (λ (h : ℕ). MadeKeeps c frozen owning (with_builder k.now next (builder t (length a.below) Header)) more t next h (making c.program at)) (sym one_less) keeps_it, tt);
+          fits = (subst (λ (h : ℕ). MadeIn (in_later building (with_builder k.now next (builder t (length a.below) Header)) more) next h (making c.program at)) (sym one_less) keeps_it, tt);
         }))
       where
         no_attempt : x.attempt ≡ None
@@ -299,8 +271,8 @@ module _ (c : MarkedProgram) (marked : IsMarked c) (frozen : ℕ → Bool) (are 
         longer : next < more
         longer = let sizes = made_size c marked a.keeps.stands.method al.1 word size al.4 in omega (arith, gets.1, sizes.0)
 
-        keeps_it : MadeKeeps c frozen owning (with_builder k.now next (builder t (length a.below) Header)) more t next (length a.below) (making c.program at)
-        keeps_it = makes_it c marked frozen are owning owns k.now (words_of c.program) next more t now_is fine (null c marked frozen are owning owns k.now next t now_is fine) longer a.frame a.below a.keeps a.waits al.1 word size al.0 al.2 al.3 al.4 (built_as (Makes word size) same plain) fits
+        keeps_it : MadeIn (in_later building (with_builder k.now next (builder t (length a.below) Header)) more) next (length a.below) (making c.program at)
+        keeps_it = makes_it (sees moving) more longer a.frame a.below a.keeps a.waits al.1 word size al.0 al.2 al.3 al.4 (built_as (Makes word size) same plain) fits
           where
             fits : (is_getfield a.keeps.stands.insn.op ≡ false) × (is_putfield a.keeps.stands.insn.op ≡ false)
             fits = fits_as (Makes word size) same
@@ -313,11 +285,11 @@ module _ (c : MarkedProgram) (marked : IsMarked c) (frozen : ℕ → Bool) (are 
 
     -- ---- to a phase of a monitor, with the instruction done
 
-    to_phase : (y : Thread) (now : Phase) → x.attempt ≡ None → y.attempt ≡ x.attempt → y.held ≡ x.held → y.frames ≡ went_on c.program at 0 → ((z : World) → GoesOn k.now z next next t 0 → Next z → PhaseFits c frozen owning z next t (went_on c.program at 0) now) → Steps k.now next t Next → Moved c frozen owning w k.now next more t now y
+    to_phase : (y : Thread) (now : Phase) → x.attempt ≡ None → y.attempt ≡ x.attempt → y.held ≡ x.held → y.frames ≡ went_on c.program at 0 → ((z : World) → GoesOn k.now z next next t 0 → Next z → PhaseFits (in_world building z) (went_on c.program at 0) now) → Steps k.now next t Next → Moved building k.now more now y
     to_phase y now none attempt hs frames is_fit step =
-        moved_more c frozen owning w k.now next more t now y is_world grows
-        (outside c frozen owning w next t was x k is_world owning next now y none (attempt ∙ none) (subst (AreKnown w next t) (sym hs) held)
-        (record { later = step.later; goes = step.goes; world = step.world (words_of c.program); lost = step.lost; fits = subst (λ (gs : List Frame). PhaseFits c frozen owning step.later next t gs now) (sym frames) (is_fit step.later step.goes step.keeps) }))
+        moved_more building k.now more now y is_world grows
+        (outside building was x k is_world owning.stores next now y none (attempt ∙ none) (subst (AreKnown w next t) (sym hs) held)
+        (record { later = step.later; goes = step.goes; world = step.world (words_of c.program); lost = step.lost; fits = subst (λ (gs : List Frame). PhaseFits (in_world building step.later) gs now) (sym frames) (is_fit step.later step.goes step.keeps) }))
 
     known : (m : ℕ) → IsFinished k.now next m → (z : World) → GoesOn k.now z next next t 0 → IsOwnOrFinished z next t m
     known m old z g = finished_known z next t m (finished_on k.now z next next t g m old)

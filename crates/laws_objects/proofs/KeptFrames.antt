@@ -1,11 +1,12 @@
 -- Frames and threads that an event does not touch stand as they did in the world that it leaves.
 use Rattle.std.proofs.Common.{◌≡◌, ℕ, ◌-◌, ◌<◌, ◌≤◌, inl, inr, Bool, true, false, List, [], ◌∷◌, length, drop, Option, Some, None, refl, sym, ap, ◌∙◌, subst, arith, ◌==◌, if◌then◌else◌}
 use Rattle.jvm_types.specs.declared.{program.MethodInfo.MethodInfo, typing.VType.VType}
-use Rattle.checked_program.specs.{MarkedProgram.MarkedProgram, declared.tag.Tag.Tag}
-use Rattle.machine_types.specs.Construction.{Owning, if_so, builds, makes_frozen, SlotsAre, BuilderTurn, Runs, WaitsFor, Throws, FreshAtCall, IsFresh, ReceiverIs, SlotOf, StackWith, StackIs, puts_owned, FrameKeeps, WaitKeeps, KeepBelow, FramesKeep, made_world, MadeKeeps, PhaseKeepsFrames, turn_by, AfterKeeps, TowardKeeps, PhaseKeeps, AttemptKeepsIn}
+use Rattle.checked_program.specs.declared.tag.Tag.{Tag}
+use Rattle.machine_types.specs.Construction.{if_so, builds, makes_frozen, SlotsAre, BuilderTurn, Runs, WaitsFor, Throws, FreshAtCall, IsFresh, ReceiverIs, SlotOf, StackWith, StackIs, puts_owned, made_world, turn_by, AfterKeeps, TowardKeeps, PhaseKeeps}
 use Rattle.machine_types.specs.{Elision.put_back, Frames.pushed, Standing.row_at, Structure.operands_in, Threads.{Frame, Attempt}}
 use Rattle.machine_types.specs.{Worlds.{Item, Header, Made, Begun, Unstored, Builder, builder, World, IsFinished, IsOwnOrFinished, with_builder}, declared.phase.{After.After, Phase.Phase, Toward.Toward}}
-use Rattle.laws_objects.proofs.{Slots.{slots_map, slot_later}, WorldChanges.{given_here, given_keeps, given_none, given_gone, given_back, given_none_back, GivenBack}}
+use Rattle.laws_objects.proofs.{Buildings.{Building, in_world, in_later, FrameIn, WaitIn, BelowIn, FramesIn, MadeIn, PhaseIn, TriesIn}, Slots.{slots_map, slot_later}}
+use Rattle.laws_objects.proofs.WorldChanges.{given_here, given_keeps, given_none, given_gone, given_back, given_none_back, GivenBack}
 use Rattle.jvm_types.specs.declared.typing.VType.TheVariants as types
 use Rattle.machine_types.specs.declared.phase.After.TheVariants as afters
 use Rattle.machine_types.specs.declared.phase.Phase.TheVariants as phases
@@ -21,19 +22,16 @@ KeepsUnder w z t height = (h : ℕ) → h < height → KeepsAt w z t h
 
 -- ---- frames
 
-module _ (c : MarkedProgram) (frozen : ℕ → Bool) (owning : Owning) (w z : World) (next more t : ℕ) (old : (v : ℕ) → IsFinished w next v → IsFinished z more v) where
+module _ (building : Building) (z : World) (more : ℕ) (old : (v : ℕ) → IsFinished building.w building.next v → IsFinished z more v) where
+  open building use {c, frozen, owning, w, next, t}
+
   at_call_kept : (h receiver : ℕ) (begun : Option (VType × ℕ)) → KeepsAt w z t h → (q v : ℕ) → FreshAtCall w t h receiver begun q v → FreshAtCall z t h receiver begun q v
   at_call_kept h receiver (Some (types.New r, class)) keeps q v f = by_test (q == r) f
     where
       by_test : (b : Bool) → if_so b (v ≡ receiver) (w v ≡ Some (builder t h (Made q))) → if_so b (v ≡ receiver) (z v ≡ Some (builder t h (Made q)))
       by_test true f = f
       by_test false f = keeps v (Made q) f
-  at_call_kept h receiver None keeps q v f = keeps v (Made q) f
-  at_call_kept h receiver (Some (types.This, class)) keeps q v f = keeps v (Made q) f
-  at_call_kept h receiver (Some (types.Int, class)) keeps q v f = keeps v (Made q) f
-  at_call_kept h receiver (Some (types.Null, class)) keeps q v f = keeps v (Made q) f
-  at_call_kept h receiver (Some (types.Ref d, class)) keeps q v f = keeps v (Made q) f
-  at_call_kept h receiver (Some (types.Top, class)) keeps q v f = keeps v (Made q) f
+  at_call_kept h receiver begun keeps q v f = keeps v (Made q) f
 
   fresh_kept : (h : ℕ) (turn : BuilderTurn) → KeepsAt w z t h → (q v : ℕ) → IsFresh w t h turn q v → IsFresh z t h turn q v
   fresh_kept h Runs keeps q v f = keeps v (Made q) f
@@ -61,7 +59,7 @@ module _ (c : MarkedProgram) (frozen : ℕ → Bool) (owning : Owning) (w z : Wo
   stack_kept h Runs keeps m receiver puts n ts gs vs a = with_kept h keeps m receiver puts ts gs vs a
   stack_kept h (WaitsFor b o) keeps m receiver puts n ts gs vs a = slots_kept h (WaitsFor b o) keeps m receiver (drop n ts) (drop n gs) vs a
 
-  pub frame_kept : (h : ℕ) (turn : BuilderTurn) (f : Frame) → KeepsAt w z t h → FrameKeeps c frozen owning w next t h turn f → FrameKeeps c frozen owning z more t h turn f
+  pub frame_kept : (h : ℕ) (turn : BuilderTurn) (f : Frame) → KeepsAt w z t h → FrameIn building h turn f → FrameIn (in_later building z more) h turn f
   frame_kept h turn f keeps k = record {
     stands = k.stands;
     receiver = receiver_kept h keeps (builds frozen k.stands.method) f.receiver k.receiver;
@@ -71,22 +69,25 @@ module _ (c : MarkedProgram) (frozen : ℕ → Bool) (owning : Owning) (w z : Wo
     no_arrays = k.no_arrays;
   }
 
-  pub wait_kept : (h callee receiver : ℕ) (f : Frame) → KeepsAt w z t h → WaitKeeps c frozen owning w next t h callee receiver f → WaitKeeps c frozen owning z more t h callee receiver f
+  pub wait_kept : (h callee receiver : ℕ) (f : Frame) → KeepsAt w z t h → WaitIn building h callee receiver f → WaitIn (in_later building z more) h callee receiver f
   unfolding frame_kept
   wait_kept h callee receiver f keeps k = record { begun = k.begun; keeps = frame_kept h (WaitsFor receiver k.begun) f keeps k.keeps; calls = k.calls; begun_is = k.begun_is }
 
-  pub below_kept : (g : Frame) (fs : List Frame) → KeepsUnder w z t (length fs) → KeepBelow c frozen owning w next t g fs → KeepBelow c frozen owning z more t g fs
+  pub below_kept : (g : Frame) (fs : List Frame) → KeepsUnder w z t (length fs) → BelowIn building g fs → BelowIn (in_later building z more) g fs
   below_kept g [] keeps k = tt
   below_kept g (f ∷ fs) keeps k = (wait_kept (length fs) g.method g.receiver f (keeps (length fs) (omega arith)) k.0, below_kept f fs (λ h l. keeps h (omega (arith, l))) k.1)
 
-  pub frames_kept : (turn : BuilderTurn) (fs : List Frame) → KeepsUnder w z t (length fs) → FramesKeep c frozen owning w next t turn fs → FramesKeep c frozen owning z more t turn fs
+  pub frames_kept : (turn : BuilderTurn) (fs : List Frame) → KeepsUnder w z t (length fs) → FramesIn building turn fs → FramesIn (in_later building z more) turn fs
   frames_kept turn [] keeps k = tt
   frames_kept turn (f ∷ fs) keeps k = (frame_kept (length fs) turn f (keeps (length fs) (omega arith)) k.0, below_kept f fs (λ h l. keeps h (omega (arith, l))) k.1)
 
 -- where the top is not to be stored
-pub plain_stack : (c : MarkedProgram) (frozen : ℕ → Bool) (owning : Owning) (w : World) (next t h : ℕ) (f : Frame) (k : FrameKeeps c frozen owning w next t h Runs f) → puts_owned owning.owned k.stands.insn.op k.stands.target ≡ false
-    → SlotsAre (SlotOf frozen w next t h Runs k.stands.method f.receiver) k.stands.types.stack k.stands.tags.stack f.stack
-plain_stack c frozen owning w next t h f k plain = subst (λ (b : Bool). StackWith (SlotOf frozen w next t h Runs k.stands.method f.receiver) (λ v. w v ≡ Some (builder t h Unstored)) b k.stands.types.stack k.stands.tags.stack f.stack) plain k.stack
+module _ (building : Building) where
+  open building use {frozen, owning, w, next, t}
+
+  pub plain_stack : (h : ℕ) (f : Frame) (k : FrameIn building h Runs f) → puts_owned owning.owned k.stands.insn.op k.stands.target ≡ false
+      → SlotsAre (SlotOf frozen w next t h Runs k.stands.method f.receiver) k.stands.types.stack k.stands.tags.stack f.stack
+  plain_stack h f k plain = subst (λ (b : Bool). StackWith (SlotOf frozen w next t h Runs k.stands.method f.receiver) (λ v. w v ≡ Some (builder t h Unstored)) b k.stands.types.stack k.stands.tags.stack f.stack) plain k.stack
 
 -- ---- the same with the object of a header that is still to be stored
 
@@ -102,11 +103,7 @@ made_keeps w z t h a height (Some item) keeps v x e = by_given (given_back w a k
     by_given (inr (inr g)) =
         let is : builder t h k.item ≡ k = rw (ap (λ (i : Builder). i.thread) g.2, ap (λ (i : Builder). i.height) g.2) refl in
         given_gone z a k v (subst (λ (i : Builder). z v ≡ Some i) is (keeps v k.item (subst (λ (i : Builder). w v ≡ Some i) (sym is) g.1))) g.0 ∙ ap (λ (i : Builder). Some i) (sym g.2)
-made_keeps w z t h a height None keeps v x e = by_test (v == a) e
-  where
-    by_test : (b : Bool) → (if b then None else w v) ≡ Some (builder t h x) → (if b then None else z v) ≡ Some (builder t h x)
-    by_test true e = e
-    by_test false e = keeps v x e
+made_keeps w z t h a height None keeps v x e = (elim (v == a) as (λ (b : Bool). (if b then None else w v) ≡ Some (builder t h x) → (if b then None else z v) ≡ Some (builder t h x)) [ true ↦ λ e. e | false ↦ λ e. keeps v x e ]) e
 
 made_old : (w z : World) (next more a t height : ℕ) (item : Option Item) → ((v : ℕ) → IsFinished w next v → IsFinished z more v) → next ≤ more → (v : ℕ) → IsFinished (made_world w a t height item) next v → IsFinished (made_world z a t height item) more v
 made_old w z next more a t height (Some item) old grows v o =
@@ -119,20 +116,21 @@ made_old w z next more a t height None old grows v o = ((let l = o.0 in omega (a
 
 -- ---- what a thread holds
 
-module _ (c : MarkedProgram) (frozen : ℕ → Bool) (owning : Owning) (w z : World) (next more t : ℕ) (grows : next ≤ more) (old : (v : ℕ) → IsFinished w next v → IsFinished z more v) (keeps : (h : ℕ) → KeepsAt w z t h)
-    (known : (v : ℕ) → IsOwnOrFinished w next t v → IsOwnOrFinished z more t v) where
-  made_kept : (a height : ℕ) (fs : List Frame) → MadeKeeps c frozen owning w next t a height fs → MadeKeeps c frozen owning z more t a height fs
+module _ (building : Building) (z : World) (more : ℕ) (grows : building.next ≤ more) (old : (v : ℕ) → IsFinished building.w building.next v → IsFinished z more v) (keeps : (h : ℕ) → KeepsAt building.w z building.t h) (known : (v : ℕ) → IsOwnOrFinished building.w building.next building.t v → IsOwnOrFinished z more building.t v) where
+  open building use {w, next, t}
+
+  made_kept : (a height : ℕ) (fs : List Frame) → MadeIn building a height fs → MadeIn (in_later building z more) a height fs
   made_kept a height fs k = record {
     item = k.item;
     not_begun = k.not_begun;
     now = keeps height a Header k.now;
-    keep = frames_kept c frozen owning (made_world w a t height k.item) (made_world z a t height k.item) next more t (made_old w z next more a t height k.item old grows) Runs (pushed a fs)
+    keep = frames_kept (in_world building (made_world w a t height k.item)) (made_world z a t height k.item) more (made_old w z next more a t height k.item old grows) Runs (pushed a fs)
         (λ h l. made_keeps w z t h a height k.item (keeps h)) k.keep;
   }
 
-  pub phase_frames_kept : (phase : Phase) (fs : List Frame) → PhaseKeepsFrames c frozen owning w next t phase fs → PhaseKeepsFrames c frozen owning z more t phase fs
+  pub phase_frames_kept : (phase : Phase) (fs : List Frame) → PhaseIn building phase fs → PhaseIn (in_later building z more) phase fs
   phase_frames_kept (phases.Made a word) fs k = made_kept a (length fs - 1) fs k
-  phase_frames_kept phase fs k = frames_kept c frozen owning w z next more t old (turn_by (operands_in phase)) fs (λ h l. keeps h) k
+  phase_frames_kept phase fs k = frames_kept building z more old (turn_by (operands_in phase)) fs (λ h l. keeps h) k
 
   after_kept : (a : After) → AfterKeeps w next a → AfterKeeps z more a
   after_kept (afters.Unwind x class) k = old x k
@@ -163,6 +161,6 @@ module _ (c : MarkedProgram) (frozen : ℕ → Bool) (owning : Owning) (w z : Wo
   phase_kept (phases.NotifyAll m r) k = known m k
   phase_kept phase k = tt
 
-  pub attempt_kept : (fs : List Frame) (o : Option Attempt) → AttemptKeepsIn c frozen owning w next t fs o → AttemptKeepsIn c frozen owning z more t fs o
+  pub attempt_kept : (fs : List Frame) (o : Option Attempt) → TriesIn building fs o → TriesIn (in_later building z more) fs o
   attempt_kept fs None k = tt
-  attempt_kept fs (Some a) k = record { monitor = known a.monitor k.monitor; goes_back = frames_kept c frozen owning w z next more t old Runs (put_back a fs) (λ h l. keeps h) k.goes_back }
+  attempt_kept fs (Some a) k = record { monitor = known a.monitor k.monitor; goes_back = frames_kept building z more old Runs (put_back a fs) (λ h l. keeps h) k.goes_back }

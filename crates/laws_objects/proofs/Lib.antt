@@ -4,6 +4,7 @@ pub mod NoThis
 pub mod WorldChanges
 pub mod Slots
 pub mod ArraySlots
+pub mod Buildings
 pub mod KeptFrames
 pub mod RestoredFrames
 pub mod Views

@@ -1,9 +1,11 @@
 -- An object that was never finished, and whose frame is gone: each thread sees it so.
-use Rattle.std.proofs.Common.{◌≡◌, ℕ, Bool, List, Some, slice_get}
-use Rattle.checked_program.specs.MarkedProgram.{MarkedProgram}
-use Rattle.machine_types.specs.{Construction.{Owning, Construction}, Core.Core, PlainMemory.Object, Threads.Thread, Worlds.{Lost, Builder, World}, declared.phase.Phase.Phase}
+use Rattle.std.proofs.Common.{◌≡◌, ℕ, Some, slice_get}
+use Rattle.machine_types.specs.{Threads.Thread, Worlds.{Lost, Builder}}
+use Rattle.laws_objects.proofs.Buildings.{Constructed}
 
-module _ (c : MarkedProgram) (frozen : ℕ → Bool) (owning : Owning) (w : World) (was : ℕ → Phase) (objects : List Object) (s : Core) (con : Construction c frozen owning w was objects s) where
+module _ (constructed : Constructed) where
+  open constructed use {w, s, con}
+
   -- as each thread sees the world
   abbrev pub SeenByAll : (v : ℕ) (b : Builder) → Type 0
   SeenByAll v b = (u : ℕ) (y : Thread) (there : slice_get s.threads u ≡ Some y) → (con.each u y there).now v ≡ Some b

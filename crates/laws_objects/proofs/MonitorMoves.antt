@@ -1,18 +1,18 @@
 -- The moves of a thread, but those of an instruction and of a root, keep what construction says of it.
-use Rattle.std.proofs.Common.{◌≡◌, ℕ, ◌+◌, ◌-◌, ◌≤◌, inl, Bool, true, false, List, [], ◌∷◌, ◌++◌, length, Option, Some, None, refl, sym, ap, ◌∙◌, subst, arith, ◌==◌, nat_lt, option_map, if◌then◌else◌}
+use Rattle.std.proofs.Common.{◌≡◌, ℕ, ◌+◌, ◌-◌, inl, Bool, true, false, List, [], ◌∷◌, ◌++◌, length, Option, Some, None, refl, sym, ap, ◌∙◌, subst, arith, ◌==◌, nat_lt, option_map, if◌then◌else◌}
 use Rattle.std.proofs.lemmas.Bool.{eqb-true, eqb-false}
 use Rattle.jvm_types.specs.{CodeTable.{row, branches_to, falls_through}, ProgramInvariant.words_of, declared.{code.Op.Op, outcome.End.End, program.{MethodInfo.MethodInfo, Program.Program}}}
 use Rattle.jvm_types.specs.declared.program.Target.{Target}
-use Rattle.checked_program.specs.MarkedProgram.{MarkedProgram, IsMarked}
-use Rattle.machine_types.specs.{Construction.{Owning, AreOwned, AreFrozen, Runs, FramesKeep, MadeKeeps, ThreadKeeps, made_world}, Elision.{fails, elided}, Frames.{went_on, top_of, pushed, Top, handler_at}}
+use Rattle.machine_types.specs.{Construction.{Runs, made_world}, Elision.{fails, elided}, Frames.{went_on, top_of, pushed, Top, handler_at}}
 use Rattle.machine_types.specs.{Going.{with_phase, runs, failed_turn, goes_on, goes_on_if, goes_after}, HeldMonitors.{held_at, with_held, without_held, deeper, shallower}, Ints.low}
 use Rattle.machine_types.specs.{Monitors.{HasNot, claim, takes, lets_go, fattens, goes_to_wait, retakes, lowest_of}, Onward.{Onward, Running, after, handed}, OwnedPlaces.IsStoredNowhere, ReadyObjects.class_of}
-use Rattle.machine_types.specs.{Structure.{IsStructured, Stands, AttemptStandsIn, IsPhaseInside, IsLimitAt, TopIs, AfterShows, is_element_op, IsAs}, Threads.{Frame, Attempt, Thread}, Words.value_word}
+use Rattle.machine_types.specs.{Structure.{Stands, AttemptStandsIn, IsPhaseInside, IsLimitAt, TopIs, AfterShows, is_element_op, IsAs}, Threads.{Frame, Attempt, Thread}, Words.value_word}
 use Rattle.machine_types.specs.{Worlds.{Item, Header, Builder, builder, World, IsFinished, IsOwnOrFinished, IsWorld, IsViewOf, with_builder, finished}, declared.lock.{Held.Held, Kept.Kept}}
 use Rattle.machine_types.specs.declared.{effect.Effect.TheVariants.Goes, phase.{After.After, Phase.Phase, Toward.Toward}}
 use Rattle.laws_threads.{specs.{Allowed.OneOf, EntryFrames.KeepsEntry, StructureLaws.{StaysStructured, counted_by, turned_from}}, proofs.{EntryKept.{steps_kept, throws_kept, leaves_kept}, Landing.stand_top}}
-use Rattle.laws_threads.proofs.{MonitorEntries.none_tried, ThreadMove.{Looks, LeadsTo, TurnsTo, Takes, GivesUp, begun_attempt, counting, takes_in, gives_up_in}, Turns.{outside as none_outside}}
-use Rattle.laws_objects.proofs.{ArraySlots.StoresFine, BuiltEffects.RowOld, CountedPhases.{PhaseFits, counted_fits}, EffectOps.IsUsual, Moves.Steps, Onwards.{OnwardKeeps, IfKeeps, runs_usual, dispatches, goes_after_it, same_op}}
+use Rattle.laws_threads.proofs.{MonitorEntries.none_tried, ThreadMove.{Looks, LeadsTo, TurnsTo, Takes, GivesUp, begun_attempt, counting, takes_in, gives_up_in}, Turns.outside as none_outside}
+use Rattle.laws_objects.proofs.{Buildings.{LawfulBuilding, Moving, in_world, FramesIn, MadeIn, sees}, BuiltEffects.RowOld, CountedPhases.{PhaseFits, counted_fits}, EffectOps.IsUsual, Moves.Steps}
+use Rattle.laws_objects.proofs.Onwards.{OnwardKeeps, IfKeeps, runs_usual, dispatches, goes_after_it, same_op}
 use Rattle.laws_objects.proofs.ThreadMoves.{Moved, AreKnown, AttemptFrom, EntryKept, from_same, entry_same, now_world, held_known, moved_on, failed, begun, onward_moves, moved_more, known_at, known_with, known_without}
 use Rattle.laws_objects.proofs.WorldChanges.{none_some, goes_same, goes_given, goes_finished, world_given, world_finished, lost_given, lost_finished, lost_same, not_lost}
 use Rattle.jvm_types.specs.declared.code.Op.TheVariants as ops
@@ -43,25 +43,27 @@ element_row Old p m pc target made (Some v) ops.Iastore e = (tt, tt)
 element_row Old p m pc target made None op e = absurd (let bad : false ≡ true = e in cc)
 element_row Old p m pc target made (Some v) op e = absurd (let bad : false ≡ true = e in cc)
 
-module _ (c : MarkedProgram) (marked : IsMarked c) (frozen : ℕ → Bool) (are : AreFrozen c frozen) (owning : Owning) (owns : AreOwned c owning.owned) (w : World) (next t : ℕ) (is_world : IsWorld w (words_of c.program) next) (fine : StoresFine owning.stores next) where
-  element_if : (stored : Option ℕ) (value : ℕ) (fs : List Frame) → FramesKeep c frozen owning w next t Runs fs → TopIs c (is_element_op stored) fs → IfKeeps c frozen owning w next t (option_map (λ at. Running (went_on c.program at value)) (top_of c.program fs))
+module _ (lawful : LawfulBuilding) where
+  open lawful use {building, c, marked, owning, w, next, t}
+
+  element_if : (stored : Option ℕ) (value : ℕ) (fs : List Frame) → FramesIn building Runs fs → TopIs c (is_element_op stored) fs → IfKeeps building (option_map (λ at. Running (went_on c.program at value)) (top_of c.program fs))
   element_if stored value [] k top = absurd top
   element_if stored value (f ∷ fs) k top =
-      let op : is_element_op stored k.0.stands.insn.op ≡ true = ap (is_element_op stored) (same_op c marked frozen are owning owns w next t is_world fine f k.0.stands top.0) ∙ top.1 in
-      subst (λ o. IfKeeps c frozen owning w next t (option_map (λ at. Running (went_on c.program at value)) o)) (sym (stand_top c marked f fs k.0.stands))
-      (runs_usual c marked frozen are owning owns w next t is_world fine f fs k.0 k.1 k.0.stands.insn.next value (element_edge stored k.0.stands.insn.op k.0.stands.insn.next op) (element_usual stored k.0.stands.insn.op op)
+      let op : is_element_op stored k.0.stands.insn.op ≡ true = ap (is_element_op stored) (same_op lawful f k.0.stands top.0) ∙ top.1 in
+      subst (λ o. IfKeeps building (option_map (λ at. Running (went_on c.program at value)) o)) (sym (stand_top c marked f fs k.0.stands))
+      (runs_usual lawful f fs k.0 k.1 k.0.stands.insn.next value (element_edge stored k.0.stands.insn.op k.0.stands.insn.next op) (element_usual stored k.0.stands.insn.op op)
       (element_row (IsFinished w next) c.program k.0.stands.method k.0.stands.insn.pc k.0.stands.target value stored k.0.stands.insn.op op)
       (element_row (IsStoredNowhere owning.stores) c.program k.0.stands.method k.0.stands.insn.pc k.0.stands.target value stored k.0.stands.insn.op op))
 
   -- ---- a new object
 
-  made_if : (a : ℕ) (fs : List Frame) → MadeKeeps c frozen owning w next t a (length fs - 1) fs → Steps w next t (λ z. OnwardKeeps c frozen owning z next t (Running (pushed a fs)))
+  made_if : (a : ℕ) (fs : List Frame) → MadeIn building a (length fs - 1) fs → Steps w next t (λ z. OnwardKeeps (in_world building z) (Running (pushed a fs)))
   made_if a fs k = by_item k.item k.keep
     where
       h : ℕ
       h = length fs - 1
 
-      by_item : (o : Option Item) → FramesKeep c frozen owning (made_world w a t h o) next t Runs (pushed a fs) → Steps w next t (λ z. OnwardKeeps c frozen owning z next t (Running (pushed a fs)))
+      by_item : (o : Option Item) → FramesIn (in_world building (made_world w a t h o)) Runs (pushed a fs) → Steps w next t (λ z. OnwardKeeps (in_world building z) (Running (pushed a fs)))
       by_item (Some y) keep = record {
         later = with_builder w a (builder t h y);
         goes = goes_given w next next t a (builder t h y) (omega arith) refl (λ o. none_some (w a) (builder t h Header) o.1 k.now) (λ j e. (let same : builder t h Header ≡ j = cc in ap (λ (x : Builder). x.thread) (sym same)));
@@ -90,15 +92,17 @@ known_back w now next t o v view k = (k.0, λ b e. by_thread b e (b.thread == t)
 
 -- ---- phases
 
-module _ (c : MarkedProgram) (marked : IsMarked c) (frozen : ℕ → Bool) (are : AreFrozen c frozen) (owning : Owning) (owns : AreOwned c owning.owned) (w : World) (next more t : ℕ) (was : Phase) (x : Thread) (k : ThreadKeeps c frozen owning w next t was x) (is_world : IsWorld w (words_of c.program) next) (fine : StoresFine owning.stores next) (grows : next ≤ more) (stood : IsStructured c was x) where
+module _ (moving : Moving) where
+  open moving use {building, c, owning, w, next, t, is_world, more, was, x, k, grows, stood}
+
   abbrev pub Goal : Thread → Type 0
-  Goal y = Moved c frozen owning w k.now next more t (counted_by was y.phase) y
+  Goal y = Moved building k.now more (counted_by was y.phase) y
 
   abbrev Fits : Phase → Type 0
-  Fits phase = PhaseFits c frozen owning k.now next t x.frames phase
+  Fits phase = PhaseFits (in_world building k.now) x.frames phase
 
   pub fits : (phase : Phase) → was ≡ phase → Fits phase
-  fits phase e = subst (PhaseFits c frozen owning k.now next t x.frames) e (k.frames, k.phase)
+  fits phase e = subst (PhaseFits (in_world building k.now) x.frames) e (k.frames, k.phase)
 
   at_phase : (phase : Phase) → was ≡ phase → Stands c phase x.frames x.held x.attempt
   at_phase phase e = subst (λ (p : Phase). Stands c p x.frames x.held x.attempt) e stood.stands
@@ -110,26 +114,26 @@ module _ (c : MarkedProgram) (marked : IsMarked c) (frozen : ℕ → Bool) (are 
   none_in phase never e = none_outside c phase x.frames x.held x.attempt never (within phase e)
 
   pub held : AreKnown w next t x.held
-  held = held_known c frozen owning w next t was x k is_world
+  held = held_known building was x k is_world
 
   now_is : IsWorld k.now (words_of c.program) next
-  now_is = now_world c frozen owning w next t was x k is_world
+  now_is = now_world building was x k is_world
 
   back : (v : ℕ) → IsOwnOrFinished k.now next t v → IsOwnOrFinished w next t v
   back v o = known_back w k.now next t x.attempt v k.now_is o
 
-  also : (y : Thread) → Moved c frozen owning w k.now next next t (counted_by was y.phase) y → Goal y
-  also y m = moved_more c frozen owning w k.now next more t (counted_by was y.phase) y is_world grows m
+  also : (y : Thread) → Moved building k.now next (counted_by was y.phase) y → Goal y
+  also y m = moved_more building k.now more (counted_by was y.phase) y is_world grows m
 
   -- the phase changes, and what it holds
-  to : (now : Phase) (y : Thread) → y.frames ≡ x.frames → AttemptFrom x.attempt y.attempt → AreKnown w next t y.held → Fits now → Moved c frozen owning w k.now next more t now y
+  to : (now : Phase) (y : Thread) → y.frames ≡ x.frames → AttemptFrom x.attempt y.attempt → AreKnown w next t y.held → Fits now → Moved building k.now more now y
   to now y frames from hs fit =
-      moved_more c frozen owning w k.now next more t now y is_world grows
-      (moved_on c frozen owning w next t was x k is_world now y hs from (subst (λ (fs : List Frame). EntryKept x.attempt y.attempt x.frames fs) (sym frames) (entry_same x.attempt y.attempt x.frames))
-      (record { later = k.now; goes = goes_same k.now next next t (omega arith); world = λ z. z; lost = lost_same k.now; fits = subst (λ (fs : List Frame). PhaseFits c frozen owning k.now next t fs now) (sym frames) fit }))
+      moved_more building k.now more now y is_world grows
+      (moved_on building was x k is_world now y hs from (subst (λ (fs : List Frame). EntryKept x.attempt y.attempt x.frames fs) (sym frames) (entry_same x.attempt y.attempt x.frames))
+      (record { later = k.now; goes = goes_same k.now next next t (omega arith); world = λ z. z; lost = lost_same k.now; fits = subst (λ (fs : List Frame). PhaseFits (in_world building k.now) fs now) (sym frames) fit }))
 
   pub still : (s : Thread) → s.phase ≡ x.phase → s.frames ≡ x.frames → AttemptFrom x.attempt s.attempt → AreKnown w next t s.held → Goal s
-  still s phase frames from hs = subst (λ (p : Phase). Moved c frozen owning w k.now next more t (counted_by was p) s) (sym phase) (to (counted_by was x.phase) s frames from hs (counted_fits c frozen owning k.now next t x.frames was x.phase stood.is_as (k.frames, k.phase)))
+  still s phase frames from hs = subst (λ (p : Phase). Moved building k.now more (counted_by was p) s) (sym phase) (to (counted_by was x.phase) s frames from hs (counted_fits (in_world building k.now) x.frames was x.phase stood.is_as (k.frames, k.phase)))
 
   runs_as : (s : Thread) → s.frames ≡ x.frames → AttemptFrom x.attempt s.attempt → AreKnown w next t s.held → Fits phases.Run → Goal (runs s)
   runs_as s frames from hs fit = by_left (nat_lt s.counts.instructions s.cfg.steps)
@@ -145,9 +149,9 @@ module _ (c : MarkedProgram) (marked : IsMarked c) (frozen : ℕ → Bool) (are 
   -- ---- it goes on
 
   pub goes_if : (s : Thread) (o : Option Onward) → s.phase ≡ x.phase → s.frames ≡ x.frames → AttemptFrom x.attempt s.attempt → AreKnown w next t s.held → StaysStructured c was (goes_on_if s o)
-      → ((a : Attempt) (onward : Onward) → x.attempt ≡ Some a → o ≡ Some onward → KeepsEntry a x.frames onward) → IfKeeps c frozen owning k.now next t o → Goal (goes_on_if s o)
+      → ((a : Attempt) (onward : Onward) → x.attempt ≡ Some a → o ≡ Some onward → KeepsEntry a x.frames onward) → IfKeeps (in_world building k.now) o → Goal (goes_on_if s o)
   goes_if s None phase frames from hs stands entry keeps = still s phase frames from hs
-  goes_if s (Some onward) phase frames from hs stands entry keeps = also (goes_on s onward) (onward_moves c frozen owning w next t was x k is_world s onward stood stands hs from (λ a e. entry a onward e refl) keeps)
+  goes_if s (Some onward) phase frames from hs stands entry keeps = also (goes_on s onward) (onward_moves building was x k is_world s onward stood stands hs from (λ a e. entry a onward e refl) keeps)
 
   pub never : (o : Option Onward) → x.attempt ≡ None → (a : Attempt) (onward : Onward) → x.attempt ≡ Some a → o ≡ Some onward → KeepsEntry a x.frames onward
   never o none a onward some e = absurd (none_some x.attempt a none some)
@@ -162,10 +166,10 @@ module _ (c : MarkedProgram) (marked : IsMarked c) (frozen : ℕ → Bool) (are 
     stays_as = still s refl refl (from_same x.attempt) held
 
     pub fails_as : (a : Attempt) → x.attempt ≡ Some a → Goal (fails s a)
-    fails_as a e = also (fails s a) (failed c frozen owning w next t was x k is_world a (fails s a) e refl refl refl)
+    fails_as a e = also (fails s a) (failed building was x k is_world a (fails s a) e refl refl refl)
 
     -- its phase alone
-    changed : (now : Phase) → Fits now → Moved c frozen owning w k.now next more t now (with_phase s now)
+    changed : (now : Phase) → Fits now → Moved building k.now more now (with_phase s now)
     changed now fit = to now (with_phase s now) refl (from_same x.attempt) held fit
 
     turns_as : (phase : Phase) → Fits (counted_by was phase) → Fits (turned_from was) → Goal (failed_turn s phase)
@@ -178,24 +182,24 @@ module _ (c : MarkedProgram) (marked : IsMarked c) (frozen : ℕ → Bool) (are 
     -- ---- what is thrown, an element and a new object
 
     -- where it is in no attempt
-    goes_outside : (o : Onward) → x.attempt ≡ None → StaysStructured c was (goes_on s o) → IfKeeps c frozen owning k.now next t (Some o) → Goal (goes_on s o)
+    goes_outside : (o : Onward) → x.attempt ≡ None → StaysStructured c was (goes_on s o) → IfKeeps (in_world building k.now) (Some o) → Goal (goes_on s o)
     goes_outside o none stands keeps = goes_if s (Some o) refl refl (from_same x.attempt) held stands (never (Some o) none) keeps
 
     pub throws_as : (v : ℕ) (class : outcomes.Thrown) (at : Top) → IsStoredNowhere owning.stores v → top_of c.program x.frames ≡ Some at → was ≡ phases.Throw v class → StaysStructured c was (goes_on s (handed c.program v class at (handler_at (class_of class) at))) → Goal (goes_on s (handed c.program v class at (handler_at (class_of class) at)))
     throws_as v class at clean top e stands =
         goes_if s (Some (handed c.program v class at (handler_at (class_of class) at))) refl refl (from_same x.attempt) held stands
         (λ a onward some f. throws_kept c.program x.frames a v class onward (ap (option_map (λ at. handed c.program v class at (handler_at (class_of class) at))) top ∙ f))
-        (subst (λ o. IfKeeps c frozen owning k.now next t (option_map (λ at. handed c.program v class at (handler_at (class_of class) at)) o)) top
-        (dispatches c marked frozen are owning owns k.now next t now_is fine v class x.frames (fits (phases.Throw v class) e).1 clean (fits (phases.Throw v class) e).0 (at_phase (phases.Throw v class) e).phase_shows))
+        (subst (λ o. IfKeeps (in_world building k.now) (option_map (λ at. handed c.program v class at (handler_at (class_of class) at)) o)) top
+        (dispatches (sees moving) v class x.frames (fits (phases.Throw v class) e).1 clean (fits (phases.Throw v class) e).0 (at_phase (phases.Throw v class) e).phase_shows))
 
     pub element_as : (word : ℕ) (stored : Option ℕ) (value : ℕ) (at : Top) → top_of c.program x.frames ≡ Some at → was ≡ phases.Element word stored → StaysStructured c was (goes_on s (Running (went_on c.program at value))) → Goal (goes_on s (Running (went_on c.program at value)))
     element_as word stored value at top e stands =
         goes_if s (Some (Running (went_on c.program at value))) refl refl (from_same x.attempt) held stands (λ a onward some f. steps_kept c.program x.frames a at (Goes at.insn.next value) 0 onward top f)
-        (subst (λ o. IfKeeps c frozen owning k.now next t (option_map (λ at. Running (went_on c.program at value)) o)) top
-        (element_if c marked frozen are owning owns k.now next t now_is fine stored value x.frames (fits (phases.Element word stored) e).0 (at_phase (phases.Element word stored) e).phase_shows))
+        (subst (λ o. IfKeeps (in_world building k.now) (option_map (λ at. Running (went_on c.program at value)) o)) top
+        (element_if (sees moving) stored value x.frames (fits (phases.Element word stored) e).0 (at_phase (phases.Element word stored) e).phase_shows))
 
     pub made_as : (a word : ℕ) → was ≡ phases.Made a word → StaysStructured c was (goes_on s (Running (pushed a x.frames))) → Goal (goes_on s (Running (pushed a x.frames)))
-    made_as a word e stands = goes_outside (Running (pushed a x.frames)) (none_in (phases.Made a word) (λ m q. q) e) stands (made_if c marked frozen are owning owns k.now next t now_is fine a x.frames (fits (phases.Made a word) e).0)
+    made_as a word e stands = goes_outside (Running (pushed a x.frames)) (none_in (phases.Made a word) (λ m q. q) e) stands (made_if (sees moving) a x.frames (fits (phases.Made a word) e).0)
 
     pub notified_as : (phase : Phase) → was ≡ phase → (Fits phase → Fits phases.Run) → Goal (runs s)
     notified_as phase e fit = runs_as s refl (from_same x.attempt) held (fit (fits phase e))
@@ -259,8 +263,8 @@ module _ (c : MarkedProgram) (marked : IsMarked c) (frozen : ℕ → Bool) (are 
         none : x.attempt ≡ None
         none = none_tried c m tried x.frames x.held (held_at x.held m) x.attempt free (within (phases.Enter m tried) e)
 
-        begin : (y : Thread) → y.frames ≡ x.frames → y.held ≡ x.held → y.attempt ≡ Some a → Moved c frozen owning w k.now next more t phases.Run y
-        begin y frames hs attempt = moved_more c frozen owning w k.now next more t phases.Run y is_world grows (begun c frozen owning w next t was x k is_world m tried a f below y e none there frames hs attempt refl refl refl)
+        begin : (y : Thread) → y.frames ≡ x.frames → y.held ≡ x.held → y.attempt ≡ Some a → Moved building k.now more phases.Run y
+        begin y frames hs attempt = moved_more building k.now more phases.Run y is_world grows (begun building was x k is_world m tried a f below y e none there frames hs attempt refl refl refl)
 
         by_left : (left : Bool) → Goal (record s { attempt = Some a; phase = if left then phases.Run else phases.Ending ends.Steps })
         by_left true = begin (record s { attempt = Some a; phase = phases.Run }) refl refl refl
@@ -278,7 +282,7 @@ module _ (c : MarkedProgram) (marked : IsMarked c) (frozen : ℕ → Bool) (are 
       behind : (y : Thread) → y.phase ≡ x.phase → y.frames ≡ x.frames → AttemptFrom x.attempt y.attempt → AreKnown w next t y.held → StaysStructured c was (goes_on_if y (after c.program x.frames a)) → Goal (goes_on_if y (after c.program x.frames a))
       behind y phase frames from hs stands =
           goes_if y (after c.program x.frames a) phase frames from hs stands (λ b onward some f. leaves_kept c.program x.frames b a onward f)
-          (goes_after_it c marked frozen are owning owns k.now next t now_is fine m a x.frames fit.1.1 fit.0 shows)
+          (goes_after_it (sees moving) m a x.frames fit.1.1 fit.0 shows)
 
     pub gives_up_as : (m : ℕ) (a : After) (phase : Phase) → GivesUp s m a phase → IsAs phase was → StaysStructured c was (lets_go c.program s m a) → Goal (lets_go c.program s m a)
     gives_up_as m a phase up e stands =

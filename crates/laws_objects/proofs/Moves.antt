@@ -4,14 +4,14 @@ use Rattle.std.{specs.List.AllByRecursion, proofs.lemmas.Bool.{or_parts, eqb-tru
 use Rattle.lists.proofs.TestLaws.{is_true}
 use Rattle.jvm_types.specs.{CodeTable.{row, stack_after, locals_after}, Numbers.has_number, Types.{TypeFrame, same_type}}
 use Rattle.jvm_types.specs.{Verifying.{suits, some_taken, some_read, new_class, is_class_of, started, initialised, after_start, frame_after, edges}, declared.{code.Op.Op, op_row.OpRow.OpRow}}
-use Rattle.jvm_types.specs.declared.{op_row.Want.{Want, TheVariants.{AnyValue, AnInt, AnObject, AnyReference, AHolder, ToStart}}, program.{MethodInfo.MethodInfo, Program.Program, Target.Target}}
+use Rattle.jvm_types.specs.declared.{op_row.Want.{Want, TheVariants.ToStart}, program.{MethodInfo.MethodInfo, Program.Program, Target.Target}}
 use Rattle.jvm_types.specs.declared.typing.VType.{VType}
-use Rattle.checked_program.specs.{LockTags.TagShape, MarkedProgram.{MarkedProgram, IsMarked}, Tagging.{moved_tags, tags_by_op, tags_after}, declared.tag.Tag.{Tag, TheVariants.{Untagged, This, At}}}
-use Rattle.machine_types.specs.{Construction.{Owning, AreOwned, puts_owned, AreFrozen, builds, makes_frozen, if_so, SlotByType, OwnSlot, SlotIs, SlotsAre, Runs, IsFresh, ReceiverIs, SlotOf, FrameKeeps}, Frames.frame_on}
-use Rattle.machine_types.specs.{Lawful.within, Standing.{Standing, row_at}, Threads.Frame, Worlds.{Made, Begun, Builder, builder, World, IsFinished, IsWorld, GoesOn}}
+use Rattle.checked_program.specs.{LockTags.TagShape, MarkedProgram.{MarkedProgram, IsMarked}, Tagging.{moved_tags, tags_by_op, tags_after}, declared.tag.Tag.{Tag, TheVariants.{Untagged, At}}}
+use Rattle.machine_types.specs.{Construction.{puts_owned, builds, makes_frozen, if_so, SlotByType, SlotIs, SlotsAre, StackWith, Runs, IsFresh, ReceiverIs, SlotOf}, Frames.frame_on}
+use Rattle.machine_types.specs.{Lawful.within, Standing.{Standing, row_at}, Threads.Frame, Worlds.{Made, Begun, Unstored, Builder, builder, World, IsFinished, IsWorld, GoesOn}}
 use Rattle.laws_threads.{specs.Allowed.OneOf, proofs.{FrameMoves.edge_fits, Landing.rules_at, TopEffects.number_in, Typing.edge_at}}
-use Rattle.laws_objects.proofs.{ArraySlots.IsStart, KeptFrames.{KeepsUnder, plain_stack}, Landing.{LandsWell, land, joined_onward}}
-use Rattle.laws_objects.proofs.Slots.{IsMade, IsWriteMade, stack_moves, local_moves, top_slot, plainly, plain_slot, not_this, slots_started, slot_retag, slots_without, StartOk}
+use Rattle.laws_objects.proofs.{ArraySlots.IsStart, Buildings.{Building, in_world, FrameIn}, KeptFrames.{KeepsUnder, plain_stack}, Landing.{LandsWell, land, joined_onward}}
+use Rattle.laws_objects.proofs.Slots.{IsMade, IsWriteMade, stack_moves, local_moves, top_slot, slot_by, slots_started, slot_retag, slots_without, StartOk}
 use Rattle.laws_objects.proofs.WorldChanges.{without, without_gone, without_keeps, without_none, world_without, goes_without, goes_same, KeepsLost, lost_same, lost_without}
 use Rattle.jvm_types.specs.declared.code.Op.TheVariants as ops
 use Rattle.jvm_types.specs.declared.typing.VType.TheVariants as types
@@ -55,18 +55,10 @@ module _ (m : MethodInfo) (young : ℕ → Bool) where
   starts (ToStart class ∷ wants) (types.This ∷ ts) h = inl tt
   starts (ToStart class ∷ wants) (types.New q ∷ ts) h =
       new_starts q class (is_true (is_class_of (new_class m.code m.targets q) class) (or_parts (not (is_class_of (new_class m.code m.targets q) class)) (some_taken (λ want t. not (suits m want t)) wants ts) h).0)
-  starts (AnyValue ∷ wants) (t ∷ ts) h = starts wants ts (suits_later m AnyValue t wants ts h)
-  starts (AnInt ∷ wants) (t ∷ ts) h = starts wants ts (suits_later m AnInt t wants ts h)
-  starts (AnyReference ∷ wants) (t ∷ ts) h = starts wants ts (suits_later m AnyReference t wants ts h)
-  starts (AnObject class ∷ wants) (t ∷ ts) h = starts wants ts (suits_later m (AnObject class) t wants ts h)
-  starts (AHolder class ∷ wants) (t ∷ ts) h = starts wants ts (suits_later m (AHolder class) t wants ts h)
   starts (ToStart class ∷ wants) (t ∷ ts) h = absurd (cc)
+  starts (want ∷ wants) (t ∷ ts) h = starts wants ts (suits_later m want t wants ts h)
   starts (ToStart class ∷ wants) [] h = inl tt
-  starts (AnyValue ∷ wants) [] h = inl tt
-  starts (AnInt ∷ wants) [] h = inl tt
-  starts (AnObject class ∷ wants) [] h = inl tt
-  starts (AnyReference ∷ wants) [] h = inl tt
-  starts (AHolder class ∷ wants) [] h = inl tt
+  starts (want ∷ wants) [] h = inl tt
 
 pub is_start : (m : MethodInfo) (young : ℕ → Bool) (o : Option (VType × ℕ)) → Starts m young o → IsStart o
 is_start m young o (inl s) = by_type o s
@@ -75,10 +67,7 @@ is_start m young o (inl s) = by_type o s
     by_type None s = tt
     by_type (Some (types.This, class)) s = tt
     by_type (Some (types.New q, class)) s = tt
-    by_type (Some (types.Int, class)) s = absurd s
-    by_type (Some (types.Null, class)) s = absurd s
-    by_type (Some (types.Ref d, class)) s = absurd s
-    by_type (Some (types.Top, class)) s = absurd s
+    by_type o s = absurd s
 is_start m young o (inr y) = subst IsStart (sym y.is) tt
 
 pub suit_at : (c : MarkedProgram) (marked : IsMarked c) (f : Frame) (k : Standing c f) → Suit k.method (row_at c f k).takes k.types.stack
@@ -106,12 +95,13 @@ module _ (Old : ℕ → Type 0) (null : Old 0) (Fresh : ℕ → ℕ → Type 0) 
   dup_fine pc (t ∷ ts) ls s l held [] us h k = absurd h
   dup_fine pc [] ls s l held vs us h k = absurd h
 
-  pub tags_fine : (p : Program) (m : MethodInfo) (pc : ℕ) (target : Target) (op : Op) (s l held : List Tag) (ts ls : List VType) (vs us : List ℕ)
-      → TagsFine ts ls vs us (moved_tags (row p m pc target op) (record { stack = s; locals = l; held = held })) → TagsFine ts ls vs us (tags_by_op pc (row p m pc target op) op s (record { stack = s; locals = l; held = held }))
-  tags_fine p m pc target ops.Dup (Untagged ∷ s) l held ts ls vs us h = dup_fine pc ts ls s l held vs us h.0 h.1
-  tags_fine p m pc target ops.Monitorenter (g ∷ s) l held ts ls vs us h = h
-  tags_fine p m pc target ops.Monitorexit s l held ts ls vs us h = h
-  tags_fine p m pc target op s l held ts ls vs us h = h
+  module _ (p : Program) (m : MethodInfo) (pc : ℕ) (target : Target) where
+    pub tags_fine : (op : Op) (s l held : List Tag) (ts ls : List VType) (vs us : List ℕ)
+        → TagsFine ts ls vs us (moved_tags (row p m pc target op) (record { stack = s; locals = l; held = held })) → TagsFine ts ls vs us (tags_by_op pc (row p m pc target op) op s (record { stack = s; locals = l; held = held }))
+    tags_fine ops.Dup (Untagged ∷ s) l held ts ls vs us h = dup_fine pc ts ls s l held vs us h.0 h.1
+    tags_fine ops.Monitorenter (g ∷ s) l held ts ls vs us h = h
+    tags_fine ops.Monitorexit s l held ts ls vs us h = h
+    tags_fine op s l held ts ls vs us h = h
 
   -- ---- by the row
 
@@ -131,14 +121,7 @@ module _ (Old : ℕ → Type 0) (null : Old 0) (Fresh : ℕ → ℕ → Type 0) 
   start_ok true (types.New q) class s = inr (λ v h. subst (λ (x : Bool). if_so x (Fresh q v) (Old v)) s h)
   start_ok false types.This class s = λ v h. h
   start_ok false (types.New q) class s = λ v h. subst (λ (x : Bool). if_so x (Fresh q v) (Old v)) s h
-  start_ok true types.Int class s = absurd s
-  start_ok true types.Null class s = absurd s
-  start_ok true (types.Ref d) class s = absurd s
-  start_ok true types.Top class s = absurd s
-  start_ok false types.Int class s = absurd s
-  start_ok false types.Null class s = absurd s
-  start_ok false (types.Ref d) class s = absurd s
-  start_ok false types.Top class s = absurd s
+  start_ok b o class s = absurd s
 
   pub old_started : (o : Option (VType × ℕ)) → StartsOld young o → (g : TypeFrame) (f : TagShape) (vs us : List ℕ) → TagsFine g.stack g.locals vs us f → TagsFine (after_start o g).stack (after_start o g).locals vs us f
   old_started None s g f vs us h = h
@@ -150,48 +133,33 @@ module _ (Old : ℕ → Type 0) (null : Old 0) (Fresh : ℕ → ℕ → Type 0) 
 -- ---- what is started, in a world where it is finished
 
 -- from slots in one world to slots in another, where those of the `new` at q are finished
-module _ (Old More : ℕ → Type 0) (null : Old 0) (Fresh Later : ℕ → ℕ → Type 0) (young : ℕ → Bool) (receiver q class : ℕ) (old : (v : ℕ) → Old v → More v) (here : (v : ℕ) → young q ≡ true → Fresh q v → More v) (there : (r v : ℕ) → r ≢ q → young r ≡ true → Fresh r v → Later r v) where
-  abbrev pub after_type : VType → VType
-  after_type u = if same_type (types.New q) u then types.Ref class else u
+module _ (Old More : ℕ → Type 0) (Fresh Later : ℕ → ℕ → Type 0) (young : ℕ → Bool) (q : ℕ) (old : (v : ℕ) → Old v → More v) (here : (v : ℕ) → young q ≡ true → Fresh q v → More v) (there : (r v : ℕ) → r ≢ q → young r ≡ true → Fresh r v → Later r v) where
+  abbrev pub after_type : (class : ℕ) → VType → VType
+  after_type class u = if same_type (types.New q) u then types.Ref class else u
 
-  new_finished : (r v : ℕ) (b : Bool) → (q == r) ≡ b → (y : Bool) → young r ≡ y → if_so y (Fresh r v) (Old v) → SlotByType More Later young (if b then types.Ref class else types.New r) v
-  new_finished r v true e true z f = let same : r ≡ q = sym (eqb-true q r e) in here v (sym (ap young same) ∙ z) (subst (λ (x : ℕ). Fresh x v) same f)
-  new_finished r v true e false z f = old v f
-  new_finished r v false e true z f = rw z (there r v (λ s. eqb-false q r e (sym s)) z f)
-  new_finished r v false e false z f = rw z (old v f)
+  new_finished : (class r v : ℕ) (b : Bool) → (q == r) ≡ b → (y : Bool) → young r ≡ y → if_so y (Fresh r v) (Old v) → SlotByType More Later young (if b then types.Ref class else types.New r) v
+  new_finished class r v true e true z f = let same : r ≡ q = sym (eqb-true q r e) in here v (sym (ap young same) ∙ z) (subst (λ (x : ℕ). Fresh x v) same f)
+  new_finished class r v true e false z f = old v f
+  new_finished class r v false e true z f = rw z (there r v (λ s. eqb-false q r e (sym s)) z f)
+  new_finished class r v false e false z f = rw z (old v f)
 
-  type_finished : (u : VType) (v : ℕ) → SlotByType Old Fresh young u v → SlotByType More Later young (after_type u) v
-  type_finished (types.New r) v f = new_finished r v (q == r) refl (young r) refl f
-  type_finished types.Null v f = f
-  type_finished (types.Ref d) v f = old v f
-  type_finished types.This v f = old v f
-  type_finished types.Int v f = tt
-  type_finished types.Top v f = tt
+  type_finished : (class : ℕ) (u : VType) (v : ℕ) → SlotByType Old Fresh young u v → SlotByType More Later young (after_type class u) v
+  type_finished class (types.New r) v f = new_finished class r v (q == r) refl (young r) refl f
+  type_finished class types.Null v f = f
+  type_finished class types.Int v f = tt
+  type_finished class types.Top v f = tt
+  type_finished class u v f = old v f
 
-  not_this_after : (u : VType) → u ≢ types.This → after_type u ≢ types.This
-  not_this_after u n = by_test (same_type (types.New q) u)
-    where
-      by_test : (b : Bool) → (if b then types.Ref class else u) ≢ types.This
-      by_test true = λ e. cc
-      by_test false = n
+  not_this_after : (class : ℕ) (u : VType) → u ≢ types.This → after_type class u ≢ types.This
+  not_this_after class u n = elim (same_type (types.New q) u) as (λ (b : Bool). (if b then types.Ref class else u) ≢ types.This) [ true ↦ λ e. cc | false ↦ n ]
 
-  own_finished : (u : VType) (g : Tag) (v : ℕ) → OwnSlot Old Fresh young receiver u g v → OwnSlot More Later young receiver (after_type u) g v
-  own_finished u g v f = by_tag (not_this Old null Fresh true young receiver g)
-    where
-      by_tag : (g ≡ This) ⊎ (g ≢ This) → OwnSlot More Later young receiver (after_type u) g v
-      by_tag (inl e) = rw e (subst (λ (x : Tag). OwnSlot Old Fresh young receiver u x v) e f)
-      by_tag (inr n) =
-          let k = plainly Old null Fresh true young receiver u g v n f in
-          plain_slot More (old 0 null) Later true young receiver (after_type u) g v n (not_this_after u k.0) (type_finished u v k.1)
+  slot_finished : (class receiver : ℕ) (own : Bool) (u : VType) (g : Tag) (v : ℕ) → SlotIs Old Fresh own young receiver u g v → SlotIs More Later own young receiver (after_type class u) g v
+  slot_finished class receiver own u g v f = slot_by Old More Fresh Later young receiver own u (after_type class u) g v (not_this_after class u) (type_finished class u v) f
 
-  slot_finished : (own : Bool) (u : VType) (g : Tag) (v : ℕ) → SlotIs Old Fresh own young receiver u g v → SlotIs More Later own young receiver (after_type u) g v
-  slot_finished true u g v f = own_finished u g v f
-  slot_finished false u g v f = type_finished u v f
-
-  pub slots_finished : (own : Bool) (us : List VType) (gs : List Tag) (vs : List ℕ) → SlotsAre (SlotIs Old Fresh own young receiver) us gs vs → SlotsAre (SlotIs More Later own young receiver) (initialised (types.New q) class us) gs vs
-  slots_finished own [] [] [] f = tt
-  slots_finished own (u ∷ us) (g ∷ gs) (v ∷ vs) f = (slot_finished own u g v f.0, slots_finished own us gs vs f.1)
-  slots_finished own us gs vs f = absurd f
+  pub slots_finished : (class receiver : ℕ) (own : Bool) (us : List VType) (gs : List Tag) (vs : List ℕ) → SlotsAre (SlotIs Old Fresh own young receiver) us gs vs → SlotsAre (SlotIs More Later own young receiver) (initialised (types.New q) class us) gs vs
+  slots_finished class receiver own [] [] [] f = tt
+  slots_finished class receiver own (u ∷ us) (g ∷ gs) (v ∷ vs) f = (slot_finished class receiver own u g v f.0, slots_finished class receiver own us gs vs f.1)
+  slots_finished class receiver own us gs vs f = absurd f
 
 -- ---- a frame goes on
 
@@ -209,9 +177,29 @@ stays w next t P k = record { later = w; goes = goes_same w next next t (omega a
 pub steps_map : (w : World) (next t : ℕ) (P Q : World → Type 0) → ((v : World) → GoesOn w v next next t 0 → P v → Q v) → Steps w next t P → Steps w next t Q
 steps_map w next t P Q f k = record { later = k.later; goes = k.goes; world = k.world; lost = k.lost; keeps = f k.later k.goes k.keeps }
 
-module _ (c : MarkedProgram) (marked : IsMarked c) (frozen : ℕ → Bool) (are : AreFrozen c frozen) (owning : Owning) (owns : AreOwned c owning.owned) (w : World) (next t h : ℕ) (null : IsFinished w next 0) (inside : (v : ℕ) (b : Builder) → w v ≡ Some b → v < next) where
-  module _ (f : Frame) (k : FrameKeeps c frozen owning w next t h Runs f) (to made : ℕ) (edge : OneOf (edges k.stands.insn) to) (plain : puts_owned owning.owned k.stands.insn.op k.stands.target ≡ false)
-      (well : LandsWell c marked frozen are owning owns false (frame_on (row_at c f k.stands) to made f) k.stands.method (frame_after k.stands.method (row_at c f k.stands) k.stands.types)) where
+-- it lands behind its instruction, where its slots are of the types and tags there
+module _ (building : Building) (h : ℕ) (null : IsFinished building.w building.next 0) (f : Frame) (s : Standing building.c f) (to : ℕ) (stack locals : List ℕ) (edge : OneOf (edges s.insn) to) where
+  open building use {design, c, marked, frozen, w, next, t}
+
+  abbrev g : Frame
+  g = record f { pc = to; stack = stack; locals = locals }
+
+  abbrev a : TypeFrame
+  a = frame_after s.method (row_at c f s) s.types
+
+  pub lands_behind : (puts : Bool) → LandsWell design puts (record f { pc = to; stack = stack; locals = locals }) s.method (frame_after s.method (row_at c f s) s.types) → ReceiverIs w next t h (builds frozen s.method) f.receiver
+      → StackWith (SlotOf frozen w next t h Runs s.method f.receiver) (λ v. w v ≡ Some (builder t h Unstored)) puts (frame_after s.method (row_at c f s) s.types).stack (tags_after s.insn (row_at c f s) s.tags).stack stack
+      → SlotsAre (SlotOf frozen w next t h Runs s.method f.receiver) (frame_after s.method (row_at c f s) s.types).locals (tags_after s.insn (row_at c f s) s.tags).locals locals → FrameIn building h Runs (record f { pc = to; stack = stack; locals = locals })
+  lands_behind puts well receiver stands kept =
+      let edge_is : has_number (edges s.insn) to ≡ true = number_in (edges s.insn) to edge in
+      land building h null puts g s.method s.frames s.at.frames a (tags_after s.insn (row_at c f s) s.tags) s.at.in_program s.types_of_method s.at.of_method
+      (edge_at s.method (within c.program) s.method.code s.frames a (edges s.insn) to (rules_at c marked f s).sound.edges_fit edge) (edge_fits c marked f s to edge_is) (joined_onward design f g s refl edge_is) well receiver stands kept
+
+module _ (building : Building) (h : ℕ) (null : IsFinished building.w building.next 0) (inside : (v : ℕ) (b : Builder) → building.w v ≡ Some b → v < building.next) where
+  open building use {design, c, marked, frozen, owning, w, next, t}
+
+  module _ (f : Frame) (k : FrameIn building h Runs f) (to made : ℕ) (edge : OneOf (edges k.stands.insn) to) (plain : puts_owned owning.owned k.stands.insn.op k.stands.target ≡ false)
+      (well : LandsWell design false (frame_on (row_at c f k.stands) to made f) k.stands.method (frame_after k.stands.method (row_at c f k.stands) k.stands.types)) where
     abbrev m : MethodInfo
     m = k.stands.method
 
@@ -223,23 +211,19 @@ module _ (c : MarkedProgram) (marked : IsMarked c) (frozen : ℕ → Bool) (are 
 
     moved : Row → SlotsAre (SlotOf frozen w next t h Runs m f.receiver) (stack_after types.Top (λ t. t) r k.stands.types.stack k.stands.types.locals) (moved_tags r k.stands.tags).stack (frame_on r to made f).stack
         × SlotsAre (SlotOf frozen w next t h Runs m f.receiver) (locals_after types.Top (λ t. t) r.writes k.stands.types.stack k.stands.types.locals) (moved_tags r k.stands.tags).locals (frame_on r to made f).locals
-    moved makes = row_moves (IsFinished w next) null (IsFresh w t h Runs) (builds frozen m) (makes_frozen frozen m) f.receiver r made k.stands.types.stack k.stands.types.locals k.stands.tags f.stack f.locals (plain_stack c frozen owning w next t h f k plain) k.locals makes
+    moved makes = row_moves (IsFinished w next) null (IsFresh w t h Runs) (builds frozen m) (makes_frozen frozen m) f.receiver r made k.stands.types.stack k.stands.types.locals k.stands.tags f.stack f.locals (plain_stack building h f k plain) k.locals makes
 
     -- in a world where the slots are of the types behind the instruction
     landed : (z : World) → IsFinished z next 0 → ReceiverIs z next t h (builds frozen m) f.receiver
         → SlotsAre (SlotOf frozen z next t h Runs m f.receiver) (frame_after m r k.stands.types).stack (moved_tags r k.stands.tags).stack (frame_on r to made f).stack
         → SlotsAre (SlotOf frozen z next t h Runs m f.receiver) (frame_after m r k.stands.types).locals (moved_tags r k.stands.tags).locals (frame_on r to made f).locals
-        → FrameKeeps c frozen owning z next t h Runs (frame_on r to made f)
+        → FrameIn (in_world building z) h Runs (frame_on r to made f)
     landed z none receiver stack locals =
-        let edge_is : has_number (edges k.stands.insn) to ≡ true = number_in (edges k.stands.insn) to edge in
         let fine = tags_fine (IsFinished z next) none (IsFresh z t h Runs) (builds frozen m) (makes_frozen frozen m) f.receiver c.program m k.stands.insn.pc k.stands.target k.stands.insn.op k.stands.tags.stack k.stands.tags.locals k.stands.tags.held
         (frame_after m r k.stands.types).stack (frame_after m r k.stands.types).locals (frame_on r to made f).stack (frame_on r to made f).locals (stack, locals) in
-        land c marked frozen are owning owns z next t h none false (frame_on r to made f) m k.stands.frames k.stands.at.frames (frame_after m r k.stands.types) (tags_after k.stands.insn r k.stands.tags) k.stands.at.in_program k.stands.types_of_method k.stands.at.of_method
-        (edge_at m (within c.program) m.code k.stands.frames (frame_after m r k.stands.types) (edges k.stands.insn) to (rules_at c marked f k.stands).sound.edges_fit edge)
-        (edge_fits c marked f k.stands to edge_is)
-        (joined_onward c marked frozen are owning owns f (frame_on r to made f) k.stands refl edge_is) well receiver fine.0 fine.1
+        lands_behind (in_world building z) h none f k.stands to (frame_on r to made f).stack (frame_on r to made f).locals edge false well receiver fine.0 fine.1
 
-    pub goes_old : Row → StartsOld (makes_frozen frozen m) (started m.class r.takes k.stands.types.stack) → FrameKeeps c frozen owning w next t h Runs (frame_on r to made f)
+    pub goes_old : Row → StartsOld (makes_frozen frozen m) (started m.class r.takes k.stands.types.stack) → FrameIn building h Runs (frame_on r to made f)
     goes_old makes old =
         let s = moved makes in
         let after = old_started (IsFinished w next) null (IsFresh w t h Runs) (builds frozen m) (makes_frozen frozen m) f.receiver (started m.class r.takes k.stands.types.stack) old
@@ -262,12 +246,12 @@ module _ (c : MarkedProgram) (marked : IsMarked c) (frozen : ℕ → Bool) (are 
       receiver_on false e = old_on f.receiver e
 
       finish : (us : List VType) (gs : List Tag) (vs : List ℕ) → SlotsAre (SlotOf frozen w next t h Runs m f.receiver) us gs vs → SlotsAre (SlotOf frozen z next t h Runs m f.receiver) (initialised (types.New y.pc) y.class us) gs vs
-      finish us gs vs s = slots_finished (IsFinished w next) (IsFinished z next) null (IsFresh w t h Runs) (IsFresh z t h Runs) (makes_frozen frozen m) f.receiver y.pc y.class old_on
+      finish us gs vs s = slots_finished (IsFinished w next) (IsFinished z next) (IsFresh w t h Runs) (IsFresh z t h Runs) (makes_frozen frozen m) y.pc old_on
           (λ v young e. (inside v gone e, without_gone w gone v e))
           (λ r v n young e. without_keeps w gone v (builder t h (Made r)) e (λ s. n (let i : Made r ≡ Made y.pc = ap (λ (b : Builder). b.item) s in cc)))
-          (builds frozen m) us gs vs s
+          y.class f.receiver (builds frozen m) us gs vs s
 
-      goes_young : Row → FrameKeeps c frozen owning z next t h Runs (frame_on r to made f)
+      goes_young : Row → FrameIn (in_world building z) h Runs (frame_on r to made f)
       goes_young makes =
           let s = moved makes in
           let after : (a : TypeFrame) × (a ≡ frame_after m r k.stands.types) × SlotsAre (SlotOf frozen z next t h Runs m f.receiver) a.stack (moved_tags r k.stands.tags).stack (frame_on r to made f).stack × SlotsAre (SlotOf frozen z next t h Runs m f.receiver) a.locals (moved_tags r k.stands.tags).locals (frame_on r to made f).locals = (
@@ -280,11 +264,11 @@ module _ (c : MarkedProgram) (marked : IsMarked c) (frozen : ℕ → Bool) (are 
           (subst (λ (a : TypeFrame). SlotsAre (SlotOf frozen z next t h Runs m f.receiver) a.stack (moved_tags r k.stands.tags).stack (frame_on r to made f).stack) after.1 after.2)
           (subst (λ (a : TypeFrame). SlotsAre (SlotOf frozen z next t h Runs m f.receiver) a.locals (moved_tags r k.stands.tags).locals (frame_on r to made f).locals) after.1 after.3)
 
-    pub goes : Row → Steps w next t (λ z. FrameKeeps c frozen owning z next t h Runs (frame_on r to made f) × KeepsUnder w z t h)
+    pub goes : Row → Steps w next t (λ z. FrameIn (in_world building z) h Runs (frame_on r to made f) × KeepsUnder w z t h)
     goes makes = by_start (starts m (makes_frozen frozen m) r.takes k.stands.types.stack (suit_at c marked f k.stands))
       where
-        by_start : Starts m (makes_frozen frozen m) (started m.class r.takes k.stands.types.stack) → Steps w next t (λ z. FrameKeeps c frozen owning z next t h Runs (frame_on r to made f) × KeepsUnder w z t h)
-        by_start (inl old) = stays w next t (λ z. FrameKeeps c frozen owning z next t h Runs (frame_on r to made f) × KeepsUnder w z t h) (goes_old makes old, λ i l v x e. e)
+        by_start : Starts m (makes_frozen frozen m) (started m.class r.takes k.stands.types.stack) → Steps w next t (λ z. FrameIn (in_world building z) h Runs (frame_on r to made f) × KeepsUnder w z t h)
+        by_start (inl old) = stays w next t (λ z. FrameIn (in_world building z) h Runs (frame_on r to made f) × KeepsUnder w z t h) (goes_old makes old, λ i l v x e. e)
         by_start (inr y) = record {
           later = without w (builder t h (Made y.pc));
           goes = goes_without w next t (builder t h (Made y.pc)) refl;

@@ -1,16 +1,18 @@
 -- A new object: its frame lacks it until its header is stored, and then has it.
 use Rattle.std.proofs.Common.{◌≡◌, ◌≢◌, ℕ, ◌<◌, ◌⊎◌, inl, inr, Bool, true, false, List, [], ◌∷◌, ◌++◌, length, map, drop, Option, Some, None, refl, sym, ap, ◌∙◌, subst, arith, option_map}
 use Rattle.std.specs.List.{AllByRecursion}
-use Rattle.jvm_types.specs.{CodeTable.{row, value_of, stack_after, locals_after}, Numbers.has_number, Types.TypeFrame, Verifying.{started, after_start, frame_after, edges}, declared.{code.{Insn.Insn, Op.Op}, op_row.{Given.{Given, TheVariants.{Fresh as Anew}}, OpRow.OpRow}, program.{MethodInfo.MethodInfo, Target.Target}, typing.VType.VType}}
+use Rattle.lists.proofs.ListLaws.{same_some}
+use Rattle.jvm_types.specs.{ProgramInvariant.words_of, CodeTable.{row, value_of, stack_after, locals_after}, Numbers.has_number, Types.TypeFrame, Verifying.{started, after_start, frame_after, edges}, declared.{code.{Insn.Insn, Op.Op}, op_row.{Given.{Given, TheVariants.Fresh as Anew}, OpRow.OpRow}, program.{MethodInfo.MethodInfo, Target.Target}, typing.VType.VType}}
 use Rattle.laws_programs.{specs.NewLaws.{IsNewBefore, AreBehind}, proofs.RowsKeep.{IsFine, row_fine}}
-use Rattle.checked_program.specs.{Colours.is_read_of, LockTags.TagShape, MarkedProgram.{MarkedProgram, IsMarked}, TaggedCode.IsAt, Tagging.{moved_tags, tags_by_op, tags_after}, declared.tag.Tag.{Tag, TheVariants.{Untagged, This, At}}}
-use Rattle.machine_types.specs.Construction.{Owning, AreOwned, puts_owned, AreFrozen, builds, makes_frozen, if_so, SlotByType, OwnSlot, SlotIs, SlotsAre, StackWith, Runs, IsFresh, ReceiverIs, SlotOf, IsNoStored, FrameKeeps, KeepBelow, FramesKeep, made_world, MadeKeeps}
-use Rattle.machine_types.specs.{Frames.{frame_on, making, pushed}, Lawful.within, Standing.{Standing, row_at, tags_of}, Threads.Frame}
+use Rattle.checked_program.specs.{LockTags.TagShape, MarkedProgram.MarkedProgram, TaggedCode.IsAt, Tagging.{moved_tags, tags_by_op, tags_after}, declared.tag.Tag.{Tag, TheVariants.Untagged}}
+use Rattle.machine_types.specs.Construction.{puts_owned, builds, makes_frozen, if_so, SlotByType, SlotIs, SlotsAre, StackWith, Runs, IsFresh, ReceiverIs, SlotOf, IsNoStored, made_world}
+use Rattle.machine_types.specs.{Frames.{frame_on, making, pushed}, Standing.{Standing, row_at, tags_of}, Threads.Frame}
 use Rattle.machine_types.specs.Worlds.{Item, Header, Made, Begun, Unstored, Builder, builder, World, IsFinished, IsWorld, with_builder}
-use Rattle.laws_threads.{specs.Allowed.{OneOf, MadeAs}, proofs.{FrameMoves.edge_fits, Landing.rules_at, Standings.top_here, TopEffects.number_in, Typing.edge_at}}
-use Rattle.laws_objects.proofs.{ArrayFrames.{goes_well, goes_plain}, ArrayMoves.{GivenClean, WriteClean, IsMadeWell}, ArraySlots.StoresFine, EffectOps.{is_putfield, stores_none}, Landing.{LandsWell, land, joined_onward}, Operands.is_getfield, PutPlaces.{is_newarray, next_puts}}
-use Rattle.laws_objects.proofs.{BuiltEffects.StartsNone, CalledFrames.{below_moved, none_started}, KeptFrames.{below_kept, plain_stack}, Moves.{StartsOld, goes_old}}
-use Rattle.laws_objects.proofs.Slots.{slots_map_if, slots_drop, IsMade, IsWriteMade, made_slot}
+use Rattle.laws_threads.{specs.Allowed.{OneOf, MadeAs}, proofs.{Landing.rules_at, Standings.top_here, TopEffects.number_in}}
+use Rattle.laws_objects.proofs.{ArrayFrames.{goes_well, goes_plain}, ArrayMoves.{GivenClean, WriteClean, IsMadeWell}, Buildings.{LawfulBuilding, in_later, FrameIn, BelowIn, FramesIn, MadeIn, null}}
+use Rattle.laws_objects.proofs.{BuiltEffects.StartsNone, CalledFrames.{below_moved, none_started}, EffectOps.{is_putfield, stores_none}, KeptFrames.{below_kept, plain_stack}, Landing.LandsWell}
+use Rattle.laws_objects.proofs.{Moves.{StartsOld, lands_behind, goes_old}, Operands.{is_getfield, no_read}, PutPlaces.{is_newarray, next_puts}}
+use Rattle.laws_objects.proofs.Slots.{slot_by, slots_map_if, slots_drop, IsMade, IsWriteMade, made_slot}
 use Rattle.laws_objects.proofs.WorldChanges.{none_some, given_here, given_keeps, given_none, finished_here, finished_there, world_given, world_finished}
 use Rattle.jvm_types.specs.declared.code.Op.TheVariants as ops
 use Rattle.jvm_types.specs.declared.typing.VType.TheVariants as types
@@ -25,29 +27,12 @@ module _ (Old More : ℕ → Type 0) (Fresh Later : ℕ → ℕ → Type 0) (old
   type_behind : (u : VType) (v : ℕ) → IsNewBefore pc u → SlotByType Old Fresh young u v → SlotByType More Later young u v
   type_behind (types.New q) v l h = new_behind (young q) q v l h
   type_behind types.Null v l h = h
-  type_behind (types.Ref c) v l h = old v h
-  type_behind types.This v l h = old v h
   type_behind types.Int v l h = tt
   type_behind types.Top v l h = tt
-
-  own_behind : (u : VType) (g : Tag) (v : ℕ) → IsNewBefore pc u → OwnSlot Old Fresh young receiver u g v → OwnSlot More Later young receiver u g v
-  own_behind u This v l h = h
-  own_behind (types.New q) Untagged v l h = new_behind (young q) q v l h
-  own_behind (types.New q) (At k) v l h = new_behind (young q) q v l h
-  own_behind types.Null Untagged v l h = h
-  own_behind types.Null (At k) v l h = h
-  own_behind (types.Ref c) Untagged v l h = old v h
-  own_behind (types.Ref c) (At k) v l h = old v h
-  own_behind types.This Untagged v l h = h
-  own_behind types.This (At k) v l h = h
-  own_behind types.Int Untagged v l h = tt
-  own_behind types.Int (At k) v l h = tt
-  own_behind types.Top Untagged v l h = tt
-  own_behind types.Top (At k) v l h = tt
+  type_behind u v l h = old v h
 
   pub slot_behind : (own : Bool) (u : VType) (g : Tag) (v : ℕ) → IsNewBefore pc u → SlotIs Old Fresh own young receiver u g v → SlotIs More Later own young receiver u g v
-  slot_behind true u g v l h = own_behind u g v l h
-  slot_behind false u g v l h = type_behind u v l h
+  slot_behind own u g v l h = slot_by Old More Fresh Later young receiver own u u g v (λ n. n) (type_behind u v l) h
 
 -- ---- memory is taken: the object is the next free word
 
@@ -56,13 +41,11 @@ abbrev pub IsNewItem : (pc : ℕ) → Option Item → Type 0
 IsNewItem pc item = (x : Item) → item ≡ Some x → (x ≡ Made pc) ⊎ (x ≡ Unstored)
 
 new_item : (pc : ℕ) (item : Option Item) → IsNewItem pc item → item ≡ Some Begun → ⊥
-new_item pc item sort e = by_sort (sort Begun e)
-  where
-    by_sort : (Begun ≡ Made pc) ⊎ (Begun ≡ Unstored) → ⊥
-    by_sort (inl same) = cc
-    by_sort (inr same) = cc
+new_item pc item sort e = elim (sort Begun e) [ inl same ↦ cc | inr same ↦ cc ]
 
-module _ (c : MarkedProgram) (marked : IsMarked c) (frozen : ℕ → Bool) (are : AreFrozen c frozen) (owning : Owning) (owns : AreOwned c owning.owned) (w : World) (first next more t h : ℕ) (is_world : IsWorld w first next) (null : IsFinished w next 0) (grows : next < more) (pc : ℕ) (item : Option Item) (sort : IsNewItem pc item) where
+module _ (lawful : LawfulBuilding) (more h : ℕ) (grows : lawful.next < more) (pc : ℕ) (item : Option Item) (sort : IsNewItem pc item) where
+  open lawful use {building, design, c, frozen, owning, w, next, t, is_world}
+
   abbrev pub header_world : World
   header_world = with_builder w next (builder t h Header)
 
@@ -110,18 +93,18 @@ module _ (c : MarkedProgram) (marked : IsMarked c) (frozen : ℕ → Bool) (are 
   receiver_made false b e = old_made b e
 
   -- the frame before the instruction stands in that world too: a stale object of this `new` is in no slot
-  module _ (f : Frame) (k : FrameKeeps c frozen owning w next t h Runs f) (behind : AreBehind pc k.stands.types) (plain : puts_owned owning.owned k.stands.insn.op k.stands.target ≡ false) where
+  module _ (f : Frame) (k : FrameIn building h Runs f) (behind : AreBehind pc k.stands.types) (plain : puts_owned owning.owned k.stands.insn.op k.stands.target ≡ false) where
     moved : (us : List VType) (gs : List Tag) (vs : List ℕ) → AllByRecursion (IsNewBefore pc) us → SlotsAre (SlotOf frozen w next t h Runs k.stands.method f.receiver) us gs vs → SlotsAre (SlotOf frozen stored_world more t h Runs k.stands.method f.receiver) us gs vs
     moved = slots_map_if (IsNewBefore pc) (SlotOf frozen w next t h Runs k.stands.method f.receiver) (SlotOf frozen stored_world more t h Runs k.stands.method f.receiver)
         (slot_behind (IsFinished w next) (IsFinished stored_world more) (IsFresh w t h Runs) (IsFresh stored_world t h Runs) old_made (makes_frozen frozen k.stands.method) f.receiver pc fresh_made (builds frozen k.stands.method))
 
     stack_renewed : SlotsAre (SlotOf frozen stored_world more t h Runs k.stands.method f.receiver) k.stands.types.stack k.stands.tags.stack f.stack
-    stack_renewed = moved k.stands.types.stack k.stands.tags.stack f.stack behind.stack (plain_stack c frozen owning w next t h f k plain)
+    stack_renewed = moved k.stands.types.stack k.stands.tags.stack f.stack behind.stack (plain_stack building h f k plain)
 
     locals_renewed : SlotsAre (SlotOf frozen stored_world more t h Runs k.stands.method f.receiver) k.stands.types.locals k.stands.tags.locals f.locals
     locals_renewed = moved k.stands.types.locals k.stands.tags.locals f.locals behind.locals k.locals
 
-    frame_renewed : FrameKeeps c frozen owning stored_world more t h Runs f
+    frame_renewed : FrameIn (in_later building stored_world more) h Runs f
     frame_renewed = record {
       stands = k.stands;
       receiver = receiver_made (builds frozen k.stands.method) f.receiver k.receiver;
@@ -138,16 +121,16 @@ module _ (c : MarkedProgram) (marked : IsMarked c) (frozen : ℕ → Bool) (are 
   inside_made : (o : Option Item) (v : ℕ) (b : Builder) → made_world header_world next t h o v ≡ Some b → v < more
   inside_made o v b e = ((stored o).inside v b e).1
     where
-      header : IsWorld header_world first more
-      header = world_given w first next more next (builder t h Header) is_world (omega (arith, grows)) is_world.room grows
+      header : IsWorld header_world (words_of c.program) more
+      header = world_given w (words_of c.program) next more next (builder t h Header) is_world (omega (arith, grows)) is_world.room grows
 
-      stored : (o : Option Item) → IsWorld (made_world header_world next t h o) first more
-      stored (Some y) = world_given header_world first more more next (builder t h y) header (omega arith) is_world.room grows
-      stored None = world_finished header_world first more more next header (omega arith)
+      stored : (o : Option Item) → IsWorld (made_world header_world next t h o) (words_of c.program) more
+      stored (Some y) = world_given header_world (words_of c.program) more more next (builder t h y) header (omega arith) is_world.room grows
+      stored None = world_finished header_world (words_of c.program) more more next header (omega arith)
 
   -- ---- the frame with the object pushed
 
-  module _ (f : Frame) (k : FrameKeeps c frozen owning w next t h Runs f) (type : VType) (edge : OneOf (edges k.stands.insn) k.stands.insn.next) (behind : AreBehind pc k.stands.types) (gives : (row_at c f k.stands).gives ≡ Anew type ∷ []) (writes : (row_at c f k.stands).writes ≡ None)
+  module _ (f : Frame) (k : FrameIn building h Runs f) (type : VType) (edge : OneOf (edges k.stands.insn) k.stands.insn.next) (behind : AreBehind pc k.stands.types) (gives : (row_at c f k.stands).gives ≡ Anew type ∷ []) (writes : (row_at c f k.stands).writes ≡ None)
       (none : AllByRecursion StartsNone (row_at c f k.stands).takes) (plain : puts_owned owning.owned k.stands.insn.op k.stands.target ≡ false) where
     abbrev m : MethodInfo
     m = k.stands.method
@@ -167,14 +150,14 @@ module _ (c : MarkedProgram) (marked : IsMarked c) (frozen : ℕ → Bool) (are 
     nothing : started k.stands.method.class (row_at c f k.stands).takes k.stands.types.stack ≡ None
     nothing = none_started k.stands.method.class (row_at c f k.stands).takes k.stands.types.stack none
 
-    pub made_pushed : LandsWell c marked frozen are owning owns false (frame_on (row_at c f k.stands) k.stands.insn.next next f) k.stands.method (frame_after k.stands.method (row_at c f k.stands) k.stands.types)
+    pub made_pushed : LandsWell design false (frame_on (row_at c f k.stands) k.stands.insn.next next f) k.stands.method (frame_after k.stands.method (row_at c f k.stands) k.stands.types)
         → type ≢ types.This → SlotByType (IsFinished stored_world more) (IsFresh stored_world t h Runs) (makes_frozen frozen k.stands.method) type next
-        → FrameKeeps c frozen owning stored_world more t h Runs (record f { pc = k.stands.insn.next; stack = next ∷ drop (length (row_at c f k.stands).takes) f.stack })
+        → FrameIn (in_later building stored_world more) h Runs (record f { pc = k.stands.insn.next; stack = next ∷ drop (length (row_at c f k.stands).takes) f.stack })
     unfolding frame_renewed
     made_pushed well other slot =
-        subst (λ (g : Frame). FrameKeeps c frozen owning stored_world more t h Runs g) same
-        (goes_old c marked frozen are owning owns stored_world more t h (old_made 0 null) (inside_made item) f (frame_renewed f k behind plain) k.stands.insn.next next edge plain well (
-          subst (λ (xs : List Given). AllByRecursion (IsMade (SlotOf frozen stored_world more t h Runs k.stands.method f.receiver) next) xs) (sym gives) (made_slot (IsFinished stored_world more) (old_made 0 null) (IsFresh stored_world t h Runs) (builds frozen k.stands.method) (makes_frozen frozen k.stands.method) f.receiver (builds frozen k.stands.method) type next other slot, tt),
+        subst (λ (g : Frame). FrameIn (in_later building stored_world more) h Runs g) same
+        (goes_old (in_later building stored_world more) h (old_made 0 (null lawful)) (inside_made item) f (frame_renewed f k behind plain) k.stands.insn.next next edge plain well (
+          subst (λ (xs : List Given). AllByRecursion (IsMade (SlotOf frozen stored_world more t h Runs k.stands.method f.receiver) next) xs) (sym gives) (made_slot (IsFinished stored_world more) (old_made 0 (null lawful)) (IsFresh stored_world t h Runs) (builds frozen k.stands.method) (makes_frozen frozen k.stands.method) f.receiver (builds frozen k.stands.method) type next other slot, tt),
           subst (λ (o : Option (ℕ × Given)). IsWriteMade (SlotOf frozen stored_world more t h Runs k.stands.method f.receiver) next o) (sym writes) tt,
         )
         (subst (StartsOld (makes_frozen frozen k.stands.method)) (sym nothing) tt))
@@ -205,19 +188,15 @@ module _ (c : MarkedProgram) (marked : IsMarked c) (frozen : ℕ → Bool) (are 
       abbrev Locals : TypeFrame → TagShape → List ℕ → Type 0
       Locals a g vs = SlotsAre (SlotOf frozen stored_world more t h Runs k.stands.method f.receiver) a.locals g.locals vs
 
-      pub made_unstored : LandsWell c marked frozen are owning owns true (frame_on (row_at c f k.stands) k.stands.insn.next next f) k.stands.method (frame_after k.stands.method (row_at c f k.stands) k.stands.types)
-          → stored_world next ≡ Some (builder t h Unstored) → FrameKeeps c frozen owning stored_world more t h Runs (record f { pc = k.stands.insn.next; stack = next ∷ drop (length (row_at c f k.stands).takes) f.stack })
+      pub made_unstored : LandsWell design true (frame_on (row_at c f k.stands) k.stands.insn.next next f) k.stands.method (frame_after k.stands.method (row_at c f k.stands) k.stands.types)
+          → stored_world next ≡ Some (builder t h Unstored) → FrameIn (in_later building stored_world more) h Runs (record f { pc = k.stands.insn.next; stack = next ∷ drop (length (row_at c f k.stands).takes) f.stack })
       made_unstored well is =
-          let edge_is : has_number (edges k.stands.insn) k.stands.insn.next ≡ true = number_in (edges k.stands.insn) k.stands.insn.next edge in
           let n : ℕ = length (row_at c f k.stands).takes in
           let stack : Stack (record { stack = type ∷ drop n k.stands.types.stack; locals = k.stands.types.locals; ready = k.stands.types.ready }) (record { stack = Untagged ∷ drop n k.stands.tags.stack; locals = k.stands.tags.locals; held = k.stands.tags.held }) (next ∷ drop n f.stack)
           = (is, slots_drop (SlotOf frozen stored_world more t h Runs k.stands.method f.receiver) n k.stands.types.stack k.stands.tags.stack f.stack (stack_renewed f k behind plain)) in
-          subst (λ (g : Frame). FrameKeeps c frozen owning stored_world more t h Runs g) same
-          (land c marked frozen are owning owns stored_world more t h (old_made 0 null) true (frame_on (row_at c f k.stands) k.stands.insn.next next f) k.stands.method k.stands.frames k.stands.at.frames (frame_after k.stands.method (row_at c f k.stands) k.stands.types) (tags_after k.stands.insn (row_at c f k.stands) k.stands.tags)
-          k.stands.at.in_program k.stands.types_of_method k.stands.at.of_method
-          (edge_at k.stands.method (within c.program) k.stands.method.code k.stands.frames (frame_after k.stands.method (row_at c f k.stands) k.stands.types) (edges k.stands.insn) k.stands.insn.next (rules_at c marked f k.stands).sound.edges_fit edge)
-          (edge_fits c marked f k.stands k.stands.insn.next edge_is)
-          (joined_onward c marked frozen are owning owns f (frame_on (row_at c f k.stands) k.stands.insn.next next f) k.stands refl edge_is) well (receiver_made (builds frozen k.stands.method) f.receiver k.receiver)
+          subst (λ (g : Frame). FrameIn (in_later building stored_world more) h Runs g) same
+          (lands_behind (in_later building stored_world more) h (old_made 0 (null lawful)) f k.stands k.stands.insn.next (frame_on (row_at c f k.stands) k.stands.insn.next next f).stack (frame_on (row_at c f k.stands) k.stands.insn.next next f).locals edge true
+          well (receiver_made (builds frozen k.stands.method) f.receiver k.receiver)
           (subst (λ (a : TypeFrame). Stack a (tags_after k.stands.insn (row_at c f k.stands) k.stands.tags) (stack_after 0 (λ t. next) (row_at c f k.stands) f.stack f.locals)) (sym types_are)
           (subst (λ (g : TagShape). Stack (record { stack = type ∷ drop n k.stands.types.stack; locals = k.stands.types.locals; ready = k.stands.types.ready }) g (stack_after 0 (λ t. next) (row_at c f k.stands) f.stack f.locals)) (sym tags_are)
           (subst (Stack (record { stack = type ∷ drop n k.stands.types.stack; locals = k.stands.types.locals; ready = k.stands.types.ready }) (record { stack = Untagged ∷ drop n k.stands.tags.stack; locals = k.stands.tags.locals; held = k.stands.tags.held })) (sym stack_is) stack)))
@@ -240,35 +219,29 @@ type_pc c f k q e =
     let all : AllByRecursion (IsFine (HasPc k.insn.pc) (no_pc k.insn.pc)) (Anew (types.New q) ∷ []) = subst (AllByRecursion (IsFine (HasPc k.insn.pc) (no_pc k.insn.pc))) e fine.0 in
     all.0 q refl
 
-module _ (c : MarkedProgram) (marked : IsMarked c) (frozen : ℕ → Bool) (are : AreFrozen c frozen) (owning : Owning) (owns : AreOwned c owning.owned) (w : World) (first next more t : ℕ) (is_world : IsWorld w first next) (fine : StoresFine owning.stores next) (null : IsFinished w next 0) (grows : next < more)
-    (f : Frame) (fs : List Frame) (k : FrameKeeps c frozen owning w next t (length fs) Runs f) (b : KeepBelow c frozen owning w next t f fs) where
+module _ (lawful : LawfulBuilding) (more : ℕ) (grows : lawful.next < more) (f : Frame) (fs : List Frame) (k : FrameIn lawful.building (length fs) Runs f) (b : BelowIn lawful.building f fs) where
+  open lawful use {building, design, c, marked, frozen, owning, owns, w, next, t, fine}
+
   -- the frames once the header is stored
   made_frames : (pc : ℕ) (item : Option Item) (sort : IsNewItem pc item)
-      → FrameKeeps c frozen owning (stored_world c marked frozen are owning owns w first next more t (length fs) is_world null grows pc item sort) more t (length fs) Runs (record f { pc = k.stands.insn.next; stack = next ∷ drop (length (row_at c f k.stands).takes) f.stack })
-      → FramesKeep c frozen owning (stored_world c marked frozen are owning owns w first next more t (length fs) is_world null grows pc item sort) more t Runs (pushed next (making c.program (top_here c f fs k.stands)))
+      → FrameIn (in_later building (stored_world lawful more (length fs) grows pc item sort) more) (length fs) Runs (record f { pc = k.stands.insn.next; stack = next ∷ drop (length (row_at c f k.stands).takes) f.stack })
+      → FramesIn (in_later building (stored_world lawful more (length fs) grows pc item sort) more) Runs (pushed next (making c.program (top_here c f fs k.stands)))
   made_frames pc item sort top = (
     top,
-    below_moved c frozen owning (stored_world c marked frozen are owning owns w first next more t (length fs) is_world null grows pc item sort) more t f k.stands.insn.next (next ∷ drop (length (row_at c f k.stands).takes) f.stack) f.locals fs
-        (below_kept c frozen owning w (stored_world c marked frozen are owning owns w first next more t (length fs) is_world null grows pc item sort) next more t (old_made c marked frozen are owning owns w first next more t (length fs) is_world null grows pc item sort) f fs
-        (λ i less v x e. keeps c marked frozen are owning owns w first next more t (length fs) is_world null grows pc item sort v i x e (λ s. (let z : i ≡ length fs = ap (λ (b : Builder). b.height) s in omega (arith, z, less))) item (λ y is s. (let z : i ≡ length fs = ap (λ (b : Builder). b.height) s in omega (arith, z, less)))) b),
+    below_moved (in_later building (stored_world lawful more (length fs) grows pc item sort) more) f k.stands.insn.next (next ∷ drop (length (row_at c f k.stands).takes) f.stack) f.locals fs
+        (below_kept building (stored_world lawful more (length fs) grows pc item sort) more (old_made lawful more (length fs) grows pc item sort) f fs
+        (λ i less v x e. keeps lawful more (length fs) grows pc item sort v i x e (λ s. (let z : i ≡ length fs = ap (λ (b : Builder). b.height) s in omega (arith, z, less))) item (λ y is s. (let z : i ≡ length fs = ap (λ (b : Builder). b.height) s in omega (arith, z, less)))) b),
   )
 
   -- what is made is new, and was stored nowhere
   made_well : (type : VType) → is_getfield k.stands.insn.op ≡ false → (row_at c f k.stands).gives ≡ Anew type ∷ [] → (row_at c f k.stands).writes ≡ None
-      → IsMadeWell c marked owning.stores fine.null f k.stands.number k.stands.method k.stands.insn k.stands.target k.stands.tags k.stands.at next
+      → IsMadeWell c marked owning.stores f k.stands next
   made_well type op gives writes = record { read = λ fi reads word is. absurd (no_read fi k.stands.insn.op k.stands.target op reads.1); other = λ none. (subst (AllByRecursion (GivenClean owning.stores next)) (sym gives) (new type, tt), written); written = written }
     where
-      no_read : (fi : ℕ) (op : Op) (target : Target) → is_getfield op ≡ false → is_read_of fi op target ≡ true → ⊥
-      no_read fi (ops.Getfield i) target e h = (let bad : true ≡ false = e in cc)
-      no_read fi op target e h = (let bad : false ≡ true = h in cc)
-
       new : (type : VType) → IsNoStored owning.stores type next
       new types.Int = tt
       new types.Top = tt
-      new types.Null = fine.fresh next (omega arith)
-      new (types.Ref class) = fine.fresh next (omega arith)
-      new types.This = fine.fresh next (omega arith)
-      new (types.New q) = fine.fresh next (omega arith)
+      new type = fine.fresh next (omega arith)
 
       written : WriteClean owning.stores next (row_at c f k.stands).writes
       written = subst (WriteClean owning.stores next) (sym writes) tt
@@ -282,37 +255,34 @@ module _ (c : MarkedProgram) (marked : IsMarked c) (frozen : ℕ → Bool) (are 
     edge_is : has_number (edges k.stands.insn) k.stands.insn.next ≡ true
     edge_is = number_in (edges k.stands.insn) k.stands.insn.next edge
 
-    pub usual_well : is_newarray k.stands.insn.op ≡ false → LandsWell c marked frozen are owning owns false (frame_on (row_at c f k.stands) k.stands.insn.next next f) k.stands.method (frame_after k.stands.method (row_at c f k.stands) k.stands.types)
-    usual_well op = goes_plain c marked frozen owning fine.null w next t (length fs) f k are owns k.stands.insn.next next edge_is (made_well type get gives writes) op
+    pub usual_well : is_newarray k.stands.insn.op ≡ false → LandsWell design false (frame_on (row_at c f k.stands) k.stands.insn.next next f) k.stands.method (frame_after k.stands.method (row_at c f k.stands) k.stands.types)
+    usual_well op = goes_plain building (length fs) f k k.stands.insn.next next edge_is (made_well type get gives writes) op
 
     makes_as : (pc : ℕ) (item : Option Item) (sort : IsNewItem pc item) → AreBehind pc k.stands.types
-        → LandsWell c marked frozen are owning owns false (frame_on (row_at c f k.stands) k.stands.insn.next next f) k.stands.method (frame_after k.stands.method (row_at c f k.stands) k.stands.types)
+        → LandsWell design false (frame_on (row_at c f k.stands) k.stands.insn.next next f) k.stands.method (frame_after k.stands.method (row_at c f k.stands) k.stands.types)
         → type ≢ types.This
-        → SlotByType (IsFinished (stored_world c marked frozen are owning owns w first next more t (length fs) is_world null grows pc item sort) more) (IsFresh (stored_world c marked frozen are owning owns w first next more t (length fs) is_world null grows pc item sort) t (length fs) Runs) (makes_frozen frozen k.stands.method) type next
-        → MadeKeeps c frozen owning (with_builder w next (builder t (length fs) Header)) more t next (length fs) (making c.program (top_here c f fs k.stands))
+        → SlotByType (IsFinished (stored_world lawful more (length fs) grows pc item sort) more) (IsFresh (stored_world lawful more (length fs) grows pc item sort) t (length fs) Runs) (makes_frozen frozen k.stands.method) type next
+        → MadeIn (in_later building (with_builder w next (builder t (length fs) Header)) more) next (length fs) (making c.program (top_here c f fs k.stands))
     makes_as pc item sort behind well other slot = record {
       item = item;
       not_begun = new_item pc item sort;
       now = given_here w next (builder t (length fs) Header);
-      keep = made_frames pc item sort (made_pushed c marked frozen are owning owns w first next more t (length fs) is_world null grows pc item sort f k type edge behind gives writes none plain well other slot);
+      keep = made_frames pc item sort (made_pushed lawful more (length fs) grows pc item sort f k type edge behind gives writes none plain well other slot);
     }
 
     makes_unstored : (is_array : k.stands.insn.op ≡ ops.Newarray)
-        → LandsWell c marked frozen are owning owns true (frame_on (row_at c f k.stands) k.stands.insn.next next f) k.stands.method (frame_after k.stands.method (row_at c f k.stands) k.stands.types)
-        → MadeKeeps c frozen owning (with_builder w next (builder t (length fs) Header)) more t next (length fs) (making c.program (top_here c f fs k.stands))
+        → LandsWell design true (frame_on (row_at c f k.stands) k.stands.insn.next next f) k.stands.method (frame_after k.stands.method (row_at c f k.stands) k.stands.types)
+        → MadeIn (in_later building (with_builder w next (builder t (length fs) Header)) more) next (length fs) (making c.program (top_here c f fs k.stands))
     makes_unstored is_array well =
-        let sort : IsNewItem k.stands.insn.pc (Some Unstored) = λ x e. inr (same x e) in
+        let sort : IsNewItem k.stands.insn.pc (Some Unstored) = λ x e. inr (sym (same_some e)) in
         record {
           item = Some Unstored;
           not_begun = λ e. cc;
           now = given_here w next (builder t (length fs) Header);
           keep = made_frames k.stands.insn.pc (Some Unstored) sort
-              (made_unstored c marked frozen are owning owns w first next more t (length fs) is_world null grows k.stands.insn.pc (Some Unstored) sort f k type edge (rules_at c marked f k.stands).behind gives writes none plain is_array well
-              (here c marked frozen are owning owns w first next more t (length fs) is_world null grows k.stands.insn.pc (Some Unstored) sort (Some Unstored)));
+              (made_unstored lawful more (length fs) grows k.stands.insn.pc (Some Unstored) sort f k type edge (rules_at c marked f k.stands).behind gives writes none plain is_array well
+              (here lawful more (length fs) grows k.stands.insn.pc (Some Unstored) sort (Some Unstored)));
         }
-      where
-        same : (x : Item) → Some Unstored ≡ Some x → x ≡ Unstored
-        same x e = cc
 
   no_item : (pc : ℕ) → IsNewItem pc None
   no_item pc x e = absurd (cc)
@@ -326,26 +296,26 @@ module _ (c : MarkedProgram) (marked : IsMarked c) (frozen : ℕ → Bool) (are 
   sort_of q false x e = absurd (cc)
 
   pub makes_it : (type : VType) (word size : ℕ) → OneOf (edges k.stands.insn) k.stands.insn.next → (row_at c f k.stands).gives ≡ Anew type ∷ [] → (row_at c f k.stands).writes ≡ None → MadeAs c.program k.stands.method type word size
-      → AllByRecursion StartsNone (row_at c f k.stands).takes → (is_getfield k.stands.insn.op ≡ false) × (is_putfield k.stands.insn.op ≡ false) → MadeKeeps c frozen owning (with_builder w next (builder t (length fs) Header)) more t next (length fs) (making c.program (top_here c f fs k.stands))
+      → AllByRecursion StartsNone (row_at c f k.stands).takes → (is_getfield k.stands.insn.op ≡ false) × (is_putfield k.stands.insn.op ≡ false) → MadeIn (in_later building (with_builder w next (builder t (length fs) Header)) more) next (length fs) (making c.program (top_here c f fs k.stands))
   makes_it (types.New q) word size edge gives writes sort none op = by_young (makes_frozen frozen k.stands.method q) refl
     where
       behind : AreBehind q k.stands.types
       behind = subst (λ (pc : ℕ). AreBehind pc k.stands.types) (sym (type_pc c f k.stands q gives)) (rules_at c marked f k.stands).behind
 
-      well : LandsWell c marked frozen are owning owns false (frame_on (row_at c f k.stands) k.stands.insn.next next f) k.stands.method (frame_after k.stands.method (row_at c f k.stands) k.stands.types)
+      well : LandsWell design false (frame_on (row_at c f k.stands) k.stands.insn.next next f) k.stands.method (frame_after k.stands.method (row_at c f k.stands) k.stands.types)
       well = usual_well (types.New q) edge gives writes none op.0 op.1 (no_array k.stands.insn.op gives)
         where
           no_array : (x : Op) → (row c.program k.stands.method k.stands.insn.pc k.stands.target x).gives ≡ Anew (types.New q) ∷ [] → is_newarray x ≡ false
           no_array ops.Newarray e = absurd (cc)
           no_array x e = refl
 
-      by_young : (y : Bool) → makes_frozen frozen k.stands.method q ≡ y → MadeKeeps c frozen owning (with_builder w next (builder t (length fs) Header)) more t next (length fs) (making c.program (top_here c f fs k.stands))
+      by_young : (y : Bool) → makes_frozen frozen k.stands.method q ≡ y → MadeIn (in_later building (with_builder w next (builder t (length fs) Header)) more) next (length fs) (making c.program (top_here c f fs k.stands))
       by_young y e = makes_as (types.New q) edge gives writes none op.0 op.1 q (item_of q y) (sort_of q y) behind well (λ s. cc) (slot y e)
         where
           slot : (y : Bool) → makes_frozen frozen k.stands.method q ≡ y
-              → if_so (makes_frozen frozen k.stands.method q) (stored_world c marked frozen are owning owns w first next more t (length fs) is_world null grows q (item_of q y) (sort_of q y) next ≡ Some (builder t (length fs) (Made q))) (IsFinished (stored_world c marked frozen are owning owns w first next more t (length fs) is_world null grows q (item_of q y) (sort_of q y)) more next)
-          slot true e = rw e (here c marked frozen are owning owns w first next more t (length fs) is_world null grows q (item_of q true) (sort_of q true) (Some (Made q)))
-          slot false e = rw e (grows, here c marked frozen are owning owns w first next more t (length fs) is_world null grows q (item_of q false) (sort_of q false) None)
+              → if_so (makes_frozen frozen k.stands.method q) (stored_world lawful more (length fs) grows q (item_of q y) (sort_of q y) next ≡ Some (builder t (length fs) (Made q))) (IsFinished (stored_world lawful more (length fs) grows q (item_of q y) (sort_of q y)) more next)
+          slot true e = rw e (here lawful more (length fs) grows q (item_of q true) (sort_of q true) (Some (Made q)))
+          slot false e = rw e (grows, here lawful more (length fs) grows q (item_of q false) (sort_of q false) None)
   makes_it (types.Ref class) word size edge gives writes sort none op = by_op (is_newarray k.stands.insn.op) refl
     where
       array : is_newarray k.stands.insn.op ≡ true → k.stands.insn.op ≡ ops.Newarray
@@ -355,12 +325,12 @@ module _ (c : MarkedProgram) (marked : IsMarked c) (frozen : ℕ → Bool) (are 
           by_name ops.Newarray e = refl
           by_name x e = absurd (let bad : false ≡ true = e in cc)
 
-      finished_one : LandsWell c marked frozen are owning owns false (frame_on (row_at c f k.stands) k.stands.insn.next next f) k.stands.method (frame_after k.stands.method (row_at c f k.stands) k.stands.types)
-          → MadeKeeps c frozen owning (with_builder w next (builder t (length fs) Header)) more t next (length fs) (making c.program (top_here c f fs k.stands))
+      finished_one : LandsWell design false (frame_on (row_at c f k.stands) k.stands.insn.next next f) k.stands.method (frame_after k.stands.method (row_at c f k.stands) k.stands.types)
+          → MadeIn (in_later building (with_builder w next (builder t (length fs) Header)) more) next (length fs) (making c.program (top_here c f fs k.stands))
       finished_one well = makes_as (types.Ref class) edge gives writes none op.0 op.1 k.stands.insn.pc None (no_item k.stands.insn.pc) (rules_at c marked f k.stands).behind well (λ s. cc)
-          (grows, here c marked frozen are owning owns w first next more t (length fs) is_world null grows k.stands.insn.pc None (no_item k.stands.insn.pc) None)
+          (grows, here lawful more (length fs) grows k.stands.insn.pc None (no_item k.stands.insn.pc) None)
 
-      by_op : (b : Bool) → is_newarray k.stands.insn.op ≡ b → MadeKeeps c frozen owning (with_builder w next (builder t (length fs) Header)) more t next (length fs) (making c.program (top_here c f fs k.stands))
+      by_op : (b : Bool) → is_newarray k.stands.insn.op ≡ b → MadeIn (in_later building (with_builder w next (builder t (length fs) Header)) more) next (length fs) (making c.program (top_here c f fs k.stands))
       by_op false e = finished_one (usual_well (types.Ref class) edge gives writes none op.0 op.1 e)
       by_op true e = by_puts after.0 after.1
         where
@@ -368,14 +338,11 @@ module _ (c : MarkedProgram) (marked : IsMarked c) (frozen : ℕ → Bool) (are 
           after = next_puts c marked owning owns f.method k.stands.number k.stands.method k.stands.insn k.stands.at.in_program k.stands.at.in_code
 
           well : (puts : Bool) → ((j : ℕ) (other : Insn) (target : Target) (u : TagShape) → IsAt c.program (tags_of c) f.method j k.stands.method other target u → other.pc ≡ k.stands.insn.next → puts_owned owning.owned other.op target ≡ puts)
-              → LandsWell c marked frozen are owning owns puts (frame_on (row_at c f k.stands) k.stands.insn.next next f) k.stands.method (frame_after k.stands.method (row_at c f k.stands) k.stands.types)
-          well puts put = goes_well c marked frozen owning fine.null w next t (length fs) f k are owns k.stands.insn.next next (number_in (edges k.stands.insn) k.stands.insn.next edge) (made_well (types.Ref class) op.0 gives writes) puts put
+              → LandsWell design puts (frame_on (row_at c f k.stands) k.stands.insn.next next f) k.stands.method (frame_after k.stands.method (row_at c f k.stands) k.stands.types)
+          well puts put = goes_well building (length fs) f k k.stands.insn.next next (number_in (edges k.stands.insn) k.stands.insn.next edge) (made_well (types.Ref class) op.0 gives writes) puts put
 
           by_puts : (puts : Bool) → ((j : ℕ) (other : Insn) (target : Target) (u : TagShape) → IsAt c.program (tags_of c) f.method j k.stands.method other target u → other.pc ≡ k.stands.insn.next → puts_owned owning.owned other.op target ≡ puts)
-              → MadeKeeps c frozen owning (with_builder w next (builder t (length fs) Header)) more t next (length fs) (making c.program (top_here c f fs k.stands))
+              → MadeIn (in_later building (with_builder w next (builder t (length fs) Header)) more) next (length fs) (making c.program (top_here c f fs k.stands))
           by_puts true put = makes_unstored (types.Ref class) edge gives writes none op.0 op.1 (array e) (well true put)
           by_puts false put = finished_one (well false put)
-  makes_it types.Int word size edge gives writes sort none op = absurd sort
-  makes_it types.Null word size edge gives writes sort none op = absurd sort
-  makes_it types.This word size edge gives writes sort none op = absurd sort
-  makes_it types.Top word size edge gives writes sort none op = absurd sort
+  makes_it type word size edge gives writes sort none op = absurd sort

@@ -1,8 +1,9 @@
 -- Outside an `<init>` no value has the type of an uninitialised `this`.
-use Rattle.std.{proofs.Common.{◌≡◌, ◌≢◌, ℕ, zero, suc, ◌-◌, Bool, true, false, cond, ◌&&◌, List, [], ◌∷◌, ◌++◌, length, map, replicate, Option, Some, refl, slice_get}, specs.List.AllByRecursion}
+use Rattle.std.{proofs.Common.{◌≡◌, ◌≢◌, ℕ, zero, suc, ◌-◌, Bool, true, false, cond, List, [], ◌∷◌, ◌++◌, length, map, replicate, Option, Some, refl, slice_get}, specs.List.AllByRecursion}
+use Rattle.lists.proofs.TestLaws.{both_are_true}
 use Rattle.jvm_types.specs.{CodeTable.{row, is_init, type_of}, Members.is_static, Types.{TypeFrame, is_below, all_pairs, entry_type_frame, receiver_types}}
 use Rattle.jvm_types.specs.{Verifying.{frame_after, HasTyping, IsLaidOut}, declared.{code.Insn.Insn, program.{Kind.Kind, MethodInfo.MethodInfo, Program.Program, Target.Target}, typing.VType.VType}}
-use Rattle.jvm_types.{specs.declared.typing.VType.TheVariants.{Int, Null, Ref, This, New, Top}, proofs.{EachAfter.all_append, FrameOrder.{stack_below, locals_below}}}
+use Rattle.jvm_types.{specs.declared.typing.VType.TheVariants.{Ref, This, Top}, proofs.{EachAfter.all_append, FrameOrder.{stack_below, locals_below}}}
 use Rattle.laws_programs.proofs.RowsKeep.{types_fine, row_fine}
 use Rattle.checked_program.specs.{LockTags.TagShape, Tagging.HasTagging}
 use Rattle.laws_objects.proofs.TaggedTypes.{all_have}
@@ -18,31 +19,18 @@ pub record HaveNoThis (g : TypeFrame) : Type 0 where
 -- only `this` is below `this`
 pub other_above : (t u : VType) → is_below t u ≡ true → t ≢ This → u ≢ This
 other_above This u b n = absurd (n refl)
-other_above t Int b n = λ e. cc
-other_above t Null b n = λ e. cc
-other_above t (Ref c) b n = λ e. cc
-other_above t (New q) b n = λ e. cc
-other_above t Top b n = λ e. cc
-other_above Int This b n = absurd (cc)
-other_above Null This b n = absurd (cc)
-other_above (Ref c) This b n = absurd (cc)
-other_above (New q) This b n = absurd (cc)
-other_above Top This b n = absurd (cc)
+other_above t This b n = absurd (cc)
+other_above t u b n = λ e. cc
 
 others_above : (ts us : List VType) → all_pairs is_below ts us ≡ true → AllByRecursion IsOther ts → AllByRecursion IsOther us
 others_above [] [] e a = tt
-others_above (t ∷ ts) (u ∷ us) e a = let parts = both (is_below t u) (all_pairs is_below ts us) e in (other_above t u parts.0 a.0, others_above ts us parts.1 a.1)
-  where
-    both : (a b : Bool) → (a && b) ≡ true → (a ≡ true) × (b ≡ true)
-    both true b e = (refl, e)
-    both false b e = absurd (cc)
+others_above (t ∷ ts) (u ∷ us) e a = let parts = both_are_true (is_below t u) (all_pairs is_below ts us) e in (other_above t u parts.0 a.0, others_above ts us parts.1 a.1)
 others_above [] (u ∷ us) e a = absurd (cc)
 others_above (t ∷ ts) [] e a = absurd (cc)
 
 kind_other : (kind : Kind) → IsOther (type_of kind)
 kind_other kinds.Int = λ e. cc
-kind_other kinds.Bool = λ e. cc
-kind_other (kinds.Ref class) = λ e. cc
+kind_other kind = λ e. cc
 
 kinds_other : (ks : List Kind) → AllByRecursion IsOther (map type_of ks)
 kinds_other [] = tt
@@ -74,5 +62,10 @@ after_other p m insn target g k =
 pub no_this : (p : Program) (m : MethodInfo) (frames : List (Option TypeFrame)) (tags : List (Option TagShape)) → IsLaidOut m → HasTyping p m frames → HasTagging p m tags → is_init m ≡ false
     → (i : ℕ) (g : TypeFrame) (f : TagShape) → slice_get frames i ≡ Some (Some g) → slice_get tags i ≡ Some (Some f) → HaveNoThis g
 no_this p m frames tags laid typed tagged init =
-    all_have p m frames laid typed (λ g f. HaveNoThis g) (entry_other m init) (λ g h f e k. record { stack = others_above g.stack h.stack (stack_below g h e) k.stack; locals = others_above g.locals h.locals (locals_below g h e) k.locals })
-    (λ g f h a b. a) (λ insn target g f k. after_other p m insn target g k) (λ handler g f k. record { stack = ((λ e. cc), tt); locals = k.locals }) tags tagged
+    all_have p m frames laid typed (λ g f. HaveNoThis g) (record {
+      start = entry_other m init;
+      rises = λ g h f e k. record { stack = others_above g.stack h.stack (stack_below g h e) k.stack; locals = others_above g.locals h.locals (locals_below g h e) k.locals };
+      meets = λ g f h a b. a;
+      onward = λ insn target g f k. after_other p m insn target g k;
+      caught = λ handler g f k. record { stack = ((λ e. cc), tt); locals = k.locals };
+    }) tags tagged

@@ -6,19 +6,21 @@ use Rattle.jvm_types.specs.{ClassNames.file_of_class, CodeTable.{can_throw, row}
 use Rattle.jvm_types.specs.declared.{code.Op.Op, op_row.{Given.{Given, TheVariants.{Fresh as Anew, Taken, Local}}, OpRow.OpRow}, outcome.Thrown.Thrown, program.FieldInfo.FieldInfo}
 use Rattle.jvm_types.specs.declared.{program.{MethodInfo.MethodInfo, Program.Program, Row.Row, Target.Target}, typing.VType.VType}
 use Rattle.laws_programs.specs.TargetLaws.{HasRow}
-use Rattle.checked_program.specs.{Colours.is_read_of, MarkedProgram.{MarkedProgram, IsMarked}, Marks.called_method, declared.tag.Tag.TheVariants.Untagged}
-use Rattle.machine_types.specs.Construction.{Owning, AreOwned, puts_owned, AreFrozen, builds, makes_frozen, SlotByType, Runs, Throws as Loose, IsFresh, ReceiverIs, SlotOf, FrameKeeps, KeepBelow, FramesKeep, turn_by, AfterKeeps}
+use Rattle.checked_program.specs.{Marks.called_method, declared.tag.Tag.TheVariants.Untagged}
+use Rattle.machine_types.specs.Construction.{puts_owned, builds, makes_frozen, SlotByType, Runs, Throws as Loose, IsFresh, ReceiverIs, SlotOf, turn_by, AfterKeeps}
 use Rattle.machine_types.specs.Frames.{Top, effect_at, frame_on, went, went_on, waiting, has_room, entry_frame, arguments_of, monitor_of, given_back, given, returned, handler_of, handler_at}
 use Rattle.machine_types.specs.Onward.{Onward, Running, Throwing, Entering, Leaving, RootReturned, Uncaught, threw, entered, called, returns, back, unwound, handed, dispatched, after, done}
 use Rattle.machine_types.specs.{OwnedPlaces.{IsFieldWord, IsStoredAt, IsStoredNowhere}, ReadyObjects.{ready, class_of, thrown_of, out_object}, Standing.{Standing, row_at}, Structure.{TopIs, AfterShows, operands_after}, Threads.Frame, Typed.Classes}
-use Rattle.machine_types.specs.{Words.{header_class, header_length, class_object}, Worlds.{Begun, Builder, builder, World, IsFinished, IsOwnOrFinished, IsWorld, GoesOn}, declared.effect.{Effect.Effect, Variable.Variable}}
-use Rattle.machine_types.specs.declared.effect.Effect.TheVariants.{Goes, Throws, Reads, Writes, Indexes, Measures, Raises, Makes, Prints, Calls, Returns, Enters, Leaves, Waits, Notifies, NotifiesAll, Stuck}
+use Rattle.machine_types.specs.{Words.{header_class, header_length, class_object}, Worlds.{Begun, Builder, builder, World, IsFinished, IsOwnOrFinished, GoesOn}, declared.effect.{Effect.Effect, Variable.Variable}}
+use Rattle.machine_types.specs.declared.effect.Effect.TheVariants.{Goes, Throws, Reads, Writes, Measures, Raises, Prints, Calls, Returns, Enters, Leaves}
 use Rattle.machine_types.{specs.declared.phase.After.{After, TheVariants.{Next, Return, Unwind}}, proofs.ClassObjects.class_object_below}
 use Rattle.laws_threads.{specs.Allowed.{OneOf, IsNamedField, IsByMachine, Allowed}, proofs.{Landing.{stand_top, rules_at}, Standings.top_here, TopEffects.number_in}}
-use Rattle.laws_objects.proofs.{ArrayFrames.{takes_clean, goes_plain}, ArrayMoves.{WriteClean, row_clean, ReadsField, IsMadeWell}, ArraySlots.StoresFine, EffectOps.{FitsOp, IsUsual, effect_fits, names_a_field, stores_none, get_writes}, PutPlaces.is_newarray}
-use Rattle.laws_objects.proofs.{BuiltEffects.{KindOld, TypeOld, GivenOld, RowOld, Built, effect_built, NamesField}, CalledFrames.below_moved, Calling.{CallKeeps, calls_it}}
-use Rattle.laws_objects.proofs.{KeptFrames.{KeepsUnder, below_kept}, Moves.{RowMakes, Steps, stays, steps_map, goes}, Operands.{is_getfield, no_getfield, takes_old}, ReturnedFrames.{result_old, result_clean, resumes}}
-use Rattle.laws_objects.proofs.{Slots.{IsMade, made_slot}, ThrowingFrames.{frames_throw, frames_unwound, handled}, Views.finished_on, WorldChanges.none_some}
+use Rattle.laws_objects.proofs.{ArrayFrames.{takes_clean, goes_plain}, ArrayMoves.{WriteClean, row_clean, ReadsField, IsMadeWell}}
+use Rattle.laws_objects.proofs.Buildings.{Building, LawfulBuilding, in_world, FrameIn, BelowIn, FramesIn, first_finished, null, inside}
+use Rattle.laws_objects.proofs.{BuiltEffects.{KindOld, TypeOld, GivenOld, RowOld, Built, effect_built}, CalledFrames.below_moved, Calling.{CallKeeps, calls_it}}
+use Rattle.laws_objects.proofs.{EffectOps.{FitsOp, IsUsual, effect_fits, names_a_field, stores_none, get_writes}, KeptFrames.{KeepsUnder, below_kept}, Moves.{RowMakes, Steps, stays, steps_map, goes}}
+use Rattle.laws_objects.proofs.{Operands.{is_getfield, no_read, no_getfield, takes_old}, PutPlaces.is_newarray, ReturnedFrames.{result_old, result_clean, resumes}, Slots.{IsMade, made_slot}}
+use Rattle.laws_objects.proofs.{ThrowingFrames.{frames_throw, frames_unwound, handled}, Views.finished_on, WorldChanges.finished_known}
 use Rattle.jvm_types.specs.declared.code.Op.TheVariants as ops
 use Rattle.jvm_types.specs.declared.outcome.Thrown.TheVariants as thrown
 use Rattle.jvm_types.specs.declared.program.Target.TheVariants as targets
@@ -26,41 +28,30 @@ use Rattle.jvm_types.specs.declared.typing.VType.TheVariants as types
 
 -- ---- what is kept
 
-abbrev pub OnwardKeeps : MarkedProgram → (frozen : ℕ → Bool) → Owning → World → (next t : ℕ) → Onward → Type 0
-OnwardKeeps c frozen owning w next t (Running fs) = FramesKeep c frozen owning w next t Runs fs
-OnwardKeeps c frozen owning w next t (Throwing x class fs) = IsFinished w next x × FramesKeep c frozen owning w next t Loose fs
-OnwardKeeps c frozen owning w next t (Entering m fs) = IsOwnOrFinished w next t m × FramesKeep c frozen owning w next t Runs fs
-OnwardKeeps c frozen owning w next t (Leaving m a fs) = IsOwnOrFinished w next t m × AfterKeeps w next a × FramesKeep c frozen owning w next t (turn_by (operands_after a)) fs
-OnwardKeeps c frozen owning w next t RootReturned = Unit {0}
-OnwardKeeps c frozen owning w next t (Uncaught class) = Unit {0}
+module _ (building : Building) where
+  open building use {w, next, t}
 
-abbrev pub IfKeeps : MarkedProgram → (frozen : ℕ → Bool) → Owning → World → (next t : ℕ) → Option Onward → Type 0
-IfKeeps c frozen owning w next t None = Unit {0}
-IfKeeps c frozen owning w next t (Some o) = Steps w next t (λ z. OnwardKeeps c frozen owning z next t o)
+  abbrev pub OnwardKeeps : Onward → Type 0
+  OnwardKeeps (Running fs) = FramesIn building Runs fs
+  OnwardKeeps (Throwing x class fs) = IsFinished w next x × FramesIn building Loose fs
+  OnwardKeeps (Entering m fs) = IsOwnOrFinished w next t m × FramesIn building Runs fs
+  OnwardKeeps (Leaving m a fs) = IsOwnOrFinished w next t m × AfterKeeps w next a × FramesIn building (turn_by (operands_after a)) fs
+  OnwardKeeps RootReturned = Unit {0}
+  OnwardKeeps (Uncaught class) = Unit {0}
 
--- what is there from the start is finished
-pub first_finished : (w : World) (first next v : ℕ) → IsWorld w first next → v < first → IsFinished w next v
-first_finished w first next v is l = ((let r = is.room in omega (arith, r, l)), by_was (w v) refl)
-  where
-    by_was : (o : Option Builder) → w v ≡ o → w v ≡ None
-    by_was None e = e
-    by_was (Some b) e = absurd (let i = (is.inside v b e).0 in omega (arith, i, l))
+module _ (building : Building) where
+  open building use {w, next, t}
+
+  abbrev pub IfKeeps : Option Onward → Type 0
+  IfKeeps None = Unit {0}
+  IfKeeps (Some o) = Steps w next t (λ z. OnwardKeeps (in_world building z) o)
 
 pub ready_first : (p : Program) (x : Thrown) → IsByMachine x → ready x < words_of p
 ready_first p thrown.ArithmeticException own = omega arith
-ready_first p thrown.NullPointerException own = omega arith
-ready_first p thrown.ArrayIndexOutOfBoundsException own = omega arith
-ready_first p thrown.NegativeArraySizeException own = omega arith
-ready_first p thrown.IllegalMonitorStateException own = omega arith
-ready_first p thrown.OutOfMemoryError own = omega arith
-ready_first p thrown.StackOverflowError own = omega arith
-ready_first p x own = absurd own
+ready_first p x own = first_of (assumption, omega arith)
 
 pub out_first : (p : Program) → out_object < words_of p
 out_first p = omega arith
-
-pub finished_known : (w : World) (next t v : ℕ) → IsFinished w next v → IsOwnOrFinished w next t v
-finished_known w next t v o = (o.0, λ b e. absurd (none_some (w v) b o.1 e))
 
 -- a `getfield` names a field
 getfield_names : (p : Program) (site : MethodSite) (pc : ℕ) (target : Target) (op : Op) (r : OpRow) → HasRow p site pc target op r → is_getfield op ≡ true → (number : ℕ) × (target ≡ targets.Field number)
@@ -69,15 +60,11 @@ getfield_names p site pc targets.Nothing (ops.Getfield i) r h e = absurd (let ba
 getfield_names p site pc target (ops.Getfield i) r h e = absurd h
 getfield_names p site pc target op r h e = absurd (let bad : false ≡ true = e in cc)
 
-module _ (c : MarkedProgram) (marked : IsMarked c) (frozen : ℕ → Bool) (are : AreFrozen c frozen) (owning : Owning) (owns : AreOwned c owning.owned) (w : World) (next t : ℕ) (is_world : IsWorld w (words_of c.program) next) (fine : StoresFine owning.stores next) where
-  pub null : IsFinished w next 0
-  null = first_finished w (words_of c.program) next 0 is_world (omega arith)
-
-  inside : (v : ℕ) (b : Builder) → w v ≡ Some b → v < next
-  inside v b e = (is_world.inside v b e).1
+module _ (lawful : LawfulBuilding) where
+  open lawful use {building, c, marked, frozen, owning, w, next, t, is_world, fine}
 
   pub receiver_known : (h : ℕ) (own : Bool) (v : ℕ) → ReceiverIs w next t h own v → IsOwnOrFinished w next t v
-  receiver_known h true v e = (inside v (builder t h Begun) e, λ b g. (let same : builder t h Begun ≡ b = cc in ap (λ (x : Builder). x.thread) (sym same)))
+  receiver_known h true v e = (inside lawful v (builder t h Begun) e, λ b g. (let same : builder t h Begun ≡ b = cc in ap (λ (x : Builder). x.thread) (sym same)))
   receiver_known h false v o = finished_known w next t v o
 
   -- the monitor of a synchronized method: that of its receiver, or of its class
@@ -95,16 +82,16 @@ module _ (c : MarkedProgram) (marked : IsMarked c) (frozen : ℕ → Bool) (are 
 
   -- ---- exceptions
 
-  pub ends_above : (x : ℕ) (class : Thrown) (f : Frame) (fs : List Frame) → IsFinished w next x → KeepBelow c frozen owning w next t f fs → OnwardKeeps c frozen owning w next t (unwound x class fs)
+  pub ends_above : (x : ℕ) (class : Thrown) (f : Frame) (fs : List Frame) → IsFinished w next x → BelowIn building f fs → OnwardKeeps building (unwound x class fs)
   ends_above x class f [] old b = tt
-  ends_above x class f (g ∷ gs) old b = (old, frames_unwound c frozen owning w next t f (g ∷ gs) b)
+  ends_above x class f (g ∷ gs) old b = (old, frames_unwound building f (g ∷ gs) b)
 
-  hands : (x : ℕ) (class : Thrown) (f : Frame) (fs : List Frame) (k : FrameKeeps c frozen owning w next t (length fs) Loose f) → KeepBelow c frozen owning w next t f fs → IsFinished w next x → IsStoredNowhere owning.stores x → can_throw k.stands.insn.op ≡ true
-      → (o : Option Row) → handler_of f.pc (class_of class) k.stands.method.rows ≡ o → OnwardKeeps c frozen owning w next t (handed c.program x class (top_here c f fs k.stands) o)
-  hands x class f fs k b old clean throws (Some r) e = (handled c marked frozen are owning owns w next t (length fs) null f k x (class_of class) r throws old clean e, below_moved c frozen owning w next t f r.handler (x ∷ []) f.locals fs b)
+  hands : (x : ℕ) (class : Thrown) (f : Frame) (fs : List Frame) (k : FrameIn building (length fs) Loose f) → BelowIn building f fs → IsFinished w next x → IsStoredNowhere owning.stores x → can_throw k.stands.insn.op ≡ true
+      → (o : Option Row) → handler_of f.pc (class_of class) k.stands.method.rows ≡ o → OnwardKeeps building (handed c.program x class (top_here c f fs k.stands) o)
+  hands x class f fs k b old clean throws (Some r) e = (handled building (length fs) (null lawful) f k x (class_of class) r throws old clean e, below_moved building f r.handler (x ∷ []) f.locals fs b)
   hands x class f fs k b old clean throws None e = by_flag (is_synchronized k.stands.method.flags)
     where
-      by_flag : (s : Bool) → OnwardKeeps c frozen owning w next t (if s then Leaving (monitor_of c.program k.stands.method f) (Unwind x class) (f ∷ fs) else unwound x class fs)
+      by_flag : (s : Bool) → OnwardKeeps building (if s then Leaving (monitor_of c.program k.stands.method f) (Unwind x class) (f ∷ fs) else unwound x class fs)
       by_flag true = (monitor_known (length fs) f.method (builds frozen k.stands.method) k.stands.method f k.stands.at.in_program k.receiver, old, (k, b))
       by_flag false = ends_above x class f fs old b
 
@@ -114,40 +101,53 @@ module _ (c : MarkedProgram) (marked : IsMarked c) (frozen : ℕ → Bool) (are 
       let same : top_here c f [] k ≡ top_here c f [] h = same_some (sym (stand_top c marked f [] k) ∙ stand_top c marked f [] h) in
       ap (λ (at : Top). at.insn.op) same
 
-  pub dispatches : (x : ℕ) (class : Thrown) (fs : List Frame) → IsFinished w next x → IsStoredNowhere owning.stores x → FramesKeep c frozen owning w next t Loose fs → TopIs c can_throw fs → IfKeeps c frozen owning w next t (dispatched c.program x class fs)
+  pub dispatches : (x : ℕ) (class : Thrown) (fs : List Frame) → IsFinished w next x → IsStoredNowhere owning.stores x → FramesIn building Loose fs → TopIs c can_throw fs → IfKeeps building (dispatched c.program x class fs)
   dispatches x class [] old clean k top = absurd top
   dispatches x class (f ∷ fs) old clean k top =
-      subst (λ o. IfKeeps c frozen owning w next t (option_map (λ at. handed c.program x class at (handler_at (class_of class) at)) o)) (sym (stand_top c marked f fs k.0.stands))
-      (stays w next t (λ z. OnwardKeeps c frozen owning z next t (handed c.program x class (top_here c f fs k.0.stands) (handler_of f.pc (class_of class) k.0.stands.method.rows)))
+      subst (λ o. IfKeeps building (option_map (λ at. handed c.program x class at (handler_at (class_of class) at)) o)) (sym (stand_top c marked f fs k.0.stands))
+      (stays w next t (λ z. OnwardKeeps (in_world building z) (handed c.program x class (top_here c f fs k.0.stands) (handler_of f.pc (class_of class) k.0.stands.method.rows)))
       (hands x class f fs k.0 k.1 old clean (ap can_throw (same_op f k.0.stands top.0) ∙ top.1) (handler_of f.pc (class_of class) k.0.stands.method.rows) refl))
 
   -- ---- returns
 
-  pub goes_below : (f : Frame) (fs : List Frame) (k : FrameKeeps c frozen owning w next t (length fs) Runs f) → KeepBelow c frozen owning w next t f fs → is_return k.stands.insn.op ≡ true
-      → Steps w next t (λ z. OnwardKeeps c frozen owning z next t (back (returned c.program (top_here c f fs k.stands))))
-  goes_below f [] k b r = stays w next t (λ z. OnwardKeeps c frozen owning z next t RootReturned) tt
+  pub goes_below : (f : Frame) (fs : List Frame) (k : FrameIn building (length fs) Runs f) → BelowIn building f fs → is_return k.stands.insn.op ≡ true
+      → Steps w next t (λ z. OnwardKeeps (in_world building z) (back (returned c.program (top_here c f fs k.stands))))
+  goes_below f [] k b r = stays w next t (λ z. OnwardKeeps (in_world building z) RootReturned) tt
   goes_below f (g ∷ gs) k b r =
       let result : List ℕ = given_back k.stands.insn.op f.stack in
-      subst (λ o. Steps w next t (λ z. OnwardKeeps c frozen owning z next t (back (given result o)))) (sym (stand_top c marked g gs b.0.keeps.stands))
-      (resumes c marked frozen are owning owns w next t null inside f.method f.receiver k.stands.method k.stands.at.in_program g gs b.0 b.1 k.receiver result (result_old c marked frozen are owning owns w next t (length (g ∷ gs)) null f k r) fine.null (result_clean c marked frozen are owning owns w next t (length (g ∷ gs)) null f k fine.null r))
+      subst (λ o. Steps w next t (λ z. OnwardKeeps (in_world building z) (back (given result o)))) (sym (stand_top c marked g gs b.0.keeps.stands))
+      (resumes lawful (record {
+        number = f.method;
+        receiver = f.receiver;
+        called = k.stands.method;
+        there = k.stands.at.in_program;
+        g = g;
+        gs = gs;
+        wait = b.0;
+        below = b.1;
+        stands = k.receiver;
+        result = result;
+        old_result = (result_old building (length (g ∷ gs)) (null lawful) f k r);
+        clean_result = result_clean building (length (g ∷ gs)) (null lawful) f k r;
+      }))
 
-  pub goes_out : (f : Frame) (fs : List Frame) (k : FrameKeeps c frozen owning w next t (length fs) Runs f) → KeepBelow c frozen owning w next t f fs → is_return k.stands.insn.op ≡ true
-      → Steps w next t (λ z. OnwardKeeps c frozen owning z next t (returns c.program (top_here c f fs k.stands)))
+  pub goes_out : (f : Frame) (fs : List Frame) (k : FrameIn building (length fs) Runs f) → BelowIn building f fs → is_return k.stands.insn.op ≡ true
+      → Steps w next t (λ z. OnwardKeeps (in_world building z) (returns c.program (top_here c f fs k.stands)))
   goes_out f fs k b r = by_flag (is_synchronized k.stands.method.flags)
     where
-      by_flag : (s : Bool) → Steps w next t (λ z. OnwardKeeps c frozen owning z next t (if s then Leaving (monitor_of c.program k.stands.method f) Return (f ∷ fs) else back (returned c.program (top_here c f fs k.stands))))
-      by_flag true = stays w next t (λ z. OnwardKeeps c frozen owning z next t (Leaving (monitor_of c.program k.stands.method f) Return (f ∷ fs))) (monitor_known (length fs) f.method (builds frozen k.stands.method) k.stands.method f k.stands.at.in_program k.receiver, tt, (k, b))
+      by_flag : (s : Bool) → Steps w next t (λ z. OnwardKeeps (in_world building z) (if s then Leaving (monitor_of c.program k.stands.method f) Return (f ∷ fs) else back (returned c.program (top_here c f fs k.stands))))
+      by_flag true = stays w next t (λ z. OnwardKeeps (in_world building z) (Leaving (monitor_of c.program k.stands.method f) Return (f ∷ fs))) (monitor_known (length fs) f.method (builds frozen k.stands.method) k.stands.method f k.stands.at.in_program k.receiver, tt, (k, b))
       by_flag false = goes_below f fs k b r
 
   -- ---- when a monitor was left
 
-  pub goes_after_it : (m : ℕ) (a : After) (fs : List Frame) → AfterKeeps w next a → FramesKeep c frozen owning w next t (turn_by (operands_after a)) fs → AfterShows c m a fs → IfKeeps c frozen owning w next t (after c.program fs a)
-  goes_after_it m Next fs old k s = stays w next t (λ z. OnwardKeeps c frozen owning z next t (Running fs)) k
+  pub goes_after_it : (m : ℕ) (a : After) (fs : List Frame) → AfterKeeps w next a → FramesIn building (turn_by (operands_after a)) fs → AfterShows c m a fs → IfKeeps building (after c.program fs a)
+  goes_after_it m Next fs old k s = stays w next t (λ z. OnwardKeeps (in_world building z) (Running fs)) k
   goes_after_it m Return [] old k s = tt
   goes_after_it m Return (f ∷ fs) old k s =
-      subst (λ o. IfKeeps c frozen owning w next t (option_map (λ at. back (returned c.program at)) o)) (sym (stand_top c marked f fs k.0.stands)) (goes_below f fs k.0 k.1 (ap is_return (same_op f k.0.stands s.0) ∙ s.2))
-  goes_after_it m (Unwind x class) [] old k s = stays w next t (λ z. OnwardKeeps c frozen owning z next t (Uncaught class)) tt
-  goes_after_it m (Unwind x class) (f ∷ fs) old k s = stays w next t (λ z. OnwardKeeps c frozen owning z next t (unwound x class fs)) (ends_above x class f fs old k.1)
+      subst (λ o. IfKeeps building (option_map (λ at. back (returned c.program at)) o)) (sym (stand_top c marked f fs k.0.stands)) (goes_below f fs k.0 k.1 (ap is_return (same_op f k.0.stands s.0) ∙ s.2))
+  goes_after_it m (Unwind x class) [] old k s = stays w next t (λ z. OnwardKeeps (in_world building z) (Uncaught class)) tt
+  goes_after_it m (Unwind x class) (f ∷ fs) old k s = stays w next t (λ z. OnwardKeeps (in_world building z) (unwound x class fs)) (ends_above x class f fs old k.1)
 
   -- ---- one instruction
 
@@ -160,11 +160,11 @@ module _ (c : MarkedProgram) (marked : IsMarked c) (frozen : ℕ → Bool) (are 
   abbrev pub FoundStored : Classes → (f : Frame) (k : Standing c f) → Effect → (got : ℕ) → Type 0
   FoundStored is f k (Reads v) got =
       (field : FieldInfo) → IsNamedField c.program is k.target v field
-      → ((fi : ℕ) → ReadsField c marked owning.stores fine.null f k.number k.method k.insn k.target k.tags k.at fi → (word : ℕ) → IsFieldWord c fi f.receiver word → IsStoredAt owning.stores word got)
-      × (((fi : ℕ) → ReadsField c marked owning.stores fine.null f k.number k.method k.insn k.target k.tags k.at fi → ⊥) → KindOld (IsStoredNowhere owning.stores) field.kind got)
+      → ((fi : ℕ) → ReadsField c marked owning.stores f k fi → (word : ℕ) → IsFieldWord c fi f.receiver word → IsStoredAt owning.stores word got)
+      × (((fi : ℕ) → ReadsField c marked owning.stores f k fi → ⊥) → KindOld (IsStoredNowhere owning.stores) field.kind got)
   FoundStored is f k e got = Unit {0}
 
-  module _ (f : Frame) (fs : List Frame) (k : FrameKeeps c frozen owning w next t (length fs) Runs f) (b : KeepBelow c frozen owning w next t f fs) where
+  module _ (f : Frame) (fs : List Frame) (k : FrameIn building (length fs) Runs f) (b : BelowIn building f fs) where
     abbrev pub at : Top
     at = top_here c f fs k.stands
 
@@ -175,7 +175,7 @@ module _ (c : MarkedProgram) (marked : IsMarked c) (frozen : ℕ → Bool) (are 
     given_made made (Anew type) h = of_type type h
       where
         slot : (type : VType) → type ≢ types.This → SlotByType (IsFinished w next) (IsFresh w t (length fs) Runs) (makes_frozen frozen k.stands.method) type made → SlotOf frozen w next t (length fs) Runs k.stands.method f.receiver type Untagged made
-        slot type n s = made_slot (IsFinished w next) null (IsFresh w t (length fs) Runs) (builds frozen k.stands.method) (makes_frozen frozen k.stands.method) f.receiver (builds frozen k.stands.method) type made n s
+        slot type n s = made_slot (IsFinished w next) (null lawful) (IsFresh w t (length fs) Runs) (builds frozen k.stands.method) (makes_frozen frozen k.stands.method) f.receiver (builds frozen k.stands.method) type made n s
 
         of_type : (type : VType) → TypeOld (IsFinished w next) type made → SlotOf frozen w next t (length fs) Runs k.stands.method f.receiver type Untagged made
         of_type types.Null h = slot types.Null (λ e. cc) h
@@ -191,7 +191,7 @@ module _ (c : MarkedProgram) (marked : IsMarked c) (frozen : ℕ → Bool) (are 
     all_made made [] h = tt
     all_made made (x ∷ xs) h = (given_made made x h.0, all_made made xs h.1)
 
-    row_made : (made : ℕ) → RowOld (IsFinished w next) r made → RowMakes (IsFinished w next) null (IsFresh w t (length fs) Runs) (builds frozen k.stands.method) (makes_frozen frozen k.stands.method) f.receiver r made
+    row_made : (made : ℕ) → RowOld (IsFinished w next) r made → RowMakes (IsFinished w next) (null lawful) (IsFresh w t (length fs) Runs) (builds frozen k.stands.method) (makes_frozen frozen k.stands.method) f.receiver r made
     row_made made h = (all_made made r.gives h.0, write r.writes h.1)
       where
         write : (o : Option (ℕ × Given)) → Rattle.laws_objects.proofs.BuiltEffects.WriteOld (IsFinished w next) made o → Rattle.laws_objects.proofs.Slots.IsWriteMade (SlotOf frozen w next t (length fs) Runs k.stands.method f.receiver) made o
@@ -200,47 +200,43 @@ module _ (c : MarkedProgram) (marked : IsMarked c) (frozen : ℕ → Bool) (are 
 
     -- what is made, as arrays that were stored have it
     abbrev pub MadeWell : ℕ → Type 0
-    MadeWell made = IsMadeWell c marked owning.stores fine.null f k.stands.number k.stands.method k.stands.insn k.stands.target k.stands.tags k.stands.at made
+    MadeWell made = IsMadeWell c marked owning.stores f k.stands made
 
     pub well_by : (made : ℕ) → is_getfield k.stands.insn.op ≡ false → RowOld (IsStoredNowhere owning.stores) r made → MadeWell made
     well_by made op clean = record { read = λ fi reads word is. absurd (no_read fi k.stands.insn.op k.stands.target op reads.1); other = λ none. row_clean owning.stores r made fine.null clean; written = (row_clean owning.stores r made fine.null clean).1 }
-      where
-        no_read : (fi : ℕ) (op : Op) (target : Target) → is_getfield op ≡ false → is_read_of fi op target ≡ true → ⊥
-        no_read fi (ops.Getfield i) target e h = (let bad : true ≡ false = e in cc)
-        no_read fi op target e h = (let bad : false ≡ true = h in cc)
 
     pub runs_on : (to made : ℕ) → OneOf (edges k.stands.insn) to → puts_owned owning.owned k.stands.insn.op k.stands.target ≡ false → is_newarray k.stands.insn.op ≡ false → RowOld (IsFinished w next) r made → MadeWell made
-        → Steps w next t (λ z. FramesKeep c frozen owning z next t Runs (went c.program at to made))
+        → Steps w next t (λ z. FramesIn (in_world building z) Runs (went c.program at to made))
     runs_on to made edge plain op old well =
-        steps_map w next t (λ z. FrameKeeps c frozen owning z next t (length fs) Runs (frame_on r to made f) × KeepsUnder w z t (length fs)) (λ z. FramesKeep c frozen owning z next t Runs (went c.program at to made))
-        (λ z g p. (p.0, below_moved c frozen owning z next t f to (frame_on r to made f).stack (frame_on r to made f).locals fs (below_kept c frozen owning w z next next t (finished_on w z next next t g) f fs p.1 b)))
-        (goes c marked frozen are owning owns w next t (length fs) null inside f k to made edge plain (goes_plain c marked frozen owning fine.null w next t (length fs) f k are owns to made (number_in (edges k.stands.insn) to edge) well op) (row_made made old))
+        steps_map w next t (λ z. FrameIn (in_world building z) (length fs) Runs (frame_on r to made f) × KeepsUnder w z t (length fs)) (λ z. FramesIn (in_world building z) Runs (went c.program at to made))
+        (λ z g p. (p.0, below_moved (in_world building z) f to (frame_on r to made f).stack (frame_on r to made f).locals fs (below_kept building z next (finished_on w z next next t g) f fs p.1 b)))
+        (goes building (length fs) (null lawful) (inside lawful) f k to made edge plain (goes_plain building (length fs) f k to made (number_in (edges k.stands.insn) to edge) well op) (row_made made old))
 
-    pub throws_it : (x : Thrown) → IsByMachine x → OnwardKeeps c frozen owning w next t (threw x at)
-    throws_it x own = (first_finished w (words_of c.program) next (ready x) is_world (ready_first c.program x own), frames_throw c frozen owning w next t Runs (f ∷ fs) (k, b))
+    pub throws_it : (x : Thrown) → IsByMachine x → OnwardKeeps building (threw x at)
+    throws_it x own = (first_finished w (words_of c.program) next (ready x) is_world (ready_first c.program x own), frames_throw building Runs (f ∷ fs) (k, b))
 
     pub built_here : puts_owned owning.owned k.stands.insn.op k.stands.target ≡ false → Built (IsFinished w next) c.program k.stands.target r (effect_at c.program at)
     built_here plain = effect_built (IsFinished w next) (first_finished w (words_of c.program) next out_object is_world (out_first c.program)) c.program k.stands.method k.stands.insn.pc k.stands.insn.next k.stands.target k.stands.insn.op f.locals f.stack
         (getfield_names c.program (site_in k.stands.method) k.stands.insn.pc k.stands.target k.stands.insn.op r (rules_at c marked f k.stands).has_row)
-        (λ any. takes_old c marked frozen are owning owns w next t (length fs) f k null (no_getfield k.stands.insn.op any) plain)
+        (λ any. takes_old building (length fs) f k (null lawful) (no_getfield k.stands.insn.op any) plain)
 
     pub built_clean : Built (IsStoredNowhere owning.stores) c.program k.stands.target r (effect_at c.program at)
     built_clean = effect_built (IsStoredNowhere owning.stores) fine.out c.program k.stands.method k.stands.insn.pc k.stands.insn.next k.stands.target k.stands.insn.op f.locals f.stack
         (getfield_names c.program (site_in k.stands.method) k.stands.insn.pc k.stands.target k.stands.insn.op r (rules_at c marked f k.stands).has_row)
-        (takes_clean c marked frozen owning fine.null w next t (length fs) f k)
+        (takes_clean building (length fs) f k)
 
     pub fits_op : FitsOp (effect_at c.program at) k.stands.insn.op
     fits_op = effect_fits c.program k.stands.insn.next k.stands.target k.stands.insn.op f.locals f.stack (names_a_field c.program (site_in k.stands.method) k.stands.insn.pc k.stands.target k.stands.insn.op r (rules_at c marked f k.stands).has_row)
 
     -- the usual instruction
-    pub runs_usual : (to made : ℕ) → OneOf (edges k.stands.insn) to → IsUsual k.stands.insn.op → RowOld (IsFinished w next) r made → RowOld (IsStoredNowhere owning.stores) r made → Steps w next t (λ z. FramesKeep c frozen owning z next t Runs (went c.program at to made))
+    pub runs_usual : (to made : ℕ) → OneOf (edges k.stands.insn) to → IsUsual k.stands.insn.op → RowOld (IsFinished w next) r made → RowOld (IsStoredNowhere owning.stores) r made → Steps w next t (λ z. FramesIn (in_world building z) Runs (went c.program at to made))
     runs_usual to made edge usual old clean = runs_on to made edge (stores_none owning.owned k.stands.insn.op k.stands.target usual.1) usual.2 old (well_by made usual.0 clean)
 
     known_on : (m : ℕ) (z : World) → GoesOn w z next next t 0 → IsFinished w next m → IsOwnOrFinished z next t m
     known_on m z g old = finished_known z next t m (finished_on w z next next t g m old)
 
     -- a call
-    calls_keep : (number : ℕ) (m : MethodInfo) → slice_get c.program.methods number ≡ Some m → called_method k.stands.insn.op k.stands.target ≡ Some number → Steps w next t (λ z. OnwardKeeps c frozen owning z next t (called c.program at number m))
+    calls_keep : (number : ℕ) (m : MethodInfo) → slice_get c.program.methods number ≡ Some m → called_method k.stands.insn.op k.stands.target ≡ Some number → Steps w next t (λ z. OnwardKeeps (in_world building z) (called c.program at number m))
     calls_keep number m there calls = by_room (has_room c.program (f ∷ fs) m)
       where
         args : List ℕ
@@ -256,15 +252,15 @@ module _ (c : MarkedProgram) (marked : IsMarked c) (frozen : ℕ → Bool) (are 
             by_static true = known_on (class_object c.program (file_of_class m.class)) z g (class_finished number m there)
             by_static false = own
 
-        by_flag : (s : Bool) → Steps w next t (λ z. OnwardKeeps c frozen owning z next t (if s then Entering (monitor_of c.program m entry) (entry ∷ waiting c.program at) else Running (entry ∷ waiting c.program at)))
-        by_flag true = steps_map w next t (CallKeeps c marked frozen are owning owns w next t null (words_of c.program) is_world fine f fs k b number m there calls (arguments_of c.program at)) (λ z. OnwardKeeps c frozen owning z next t (Entering (monitor_of c.program m entry) (entry ∷ waiting c.program at)))
-            (λ z g p. (entry_known z g p.1, p.0)) (calls_it c marked frozen are owning owns w next t null (words_of c.program) is_world fine f fs k b number m there calls)
-        by_flag false = steps_map w next t (CallKeeps c marked frozen are owning owns w next t null (words_of c.program) is_world fine f fs k b number m there calls (arguments_of c.program at)) (λ z. OnwardKeeps c frozen owning z next t (Running (entry_frame number m (arguments_of c.program at) ∷ waiting c.program at)))
-            (λ z g p. p.0) (calls_it c marked frozen are owning owns w next t null (words_of c.program) is_world fine f fs k b number m there calls)
+        by_flag : (s : Bool) → Steps w next t (λ z. OnwardKeeps (in_world building z) (if s then Entering (monitor_of c.program m entry) (entry ∷ waiting c.program at) else Running (entry ∷ waiting c.program at)))
+        by_flag true = steps_map w next t (CallKeeps lawful f fs k b number m there calls (arguments_of c.program at)) (λ z. OnwardKeeps (in_world building z) (Entering (monitor_of c.program m entry) (entry ∷ waiting c.program at)))
+            (λ z g p. (entry_known z g p.1, p.0)) (calls_it lawful f fs k b number m there calls)
+        by_flag false = steps_map w next t (CallKeeps lawful f fs k b number m there calls (arguments_of c.program at)) (λ z. OnwardKeeps (in_world building z) (Running (entry_frame number m (arguments_of c.program at) ∷ waiting c.program at)))
+            (λ z g p. p.0) (calls_it lawful f fs k b number m there calls)
 
-        by_room : (room : Bool) → Steps w next t (λ z. OnwardKeeps c frozen owning z next t (if room then entered c.program m (entry_frame number m (arguments_of c.program at)) (waiting c.program at) else threw thrown.StackOverflowError at))
+        by_room : (room : Bool) → Steps w next t (λ z. OnwardKeeps (in_world building z) (if room then entered c.program m (entry_frame number m (arguments_of c.program at)) (waiting c.program at) else threw thrown.StackOverflowError at))
         by_room true = by_flag (is_synchronized m.flags)
-        by_room false = stays w next t (λ z. OnwardKeeps c frozen owning z next t (threw thrown.StackOverflowError at)) (throws_it thrown.StackOverflowError tt)
+        by_room false = stays w next t (λ z. OnwardKeeps (in_world building z) (threw thrown.StackOverflowError at)) (throws_it thrown.StackOverflowError tt)
 
     call_named : (site : MethodSite) (pc number : ℕ) (op : Op) (target : Target) (row : OpRow) → HasRow c.program site pc target op row → target ≡ targets.Method number → called_method op target ≡ Some number
     call_named site pc number op target row h e = subst (λ (x : Target). called_method op x ≡ Some number) (sym e) (by_op op (subst (λ (x : Target). HasRow c.program site pc x op row) e h))
@@ -275,9 +271,9 @@ module _ (c : MarkedProgram) (marked : IsMarked c) (frozen : ℕ → Bool) (are 
         by_op (ops.Invokestatic i) h = refl
         by_op op h = absurd (assumption)
 
-    raises_it : (x got : ℕ) (o : Option Thrown) → IsFinished w next x → IfKeeps c frozen owning w next t (option_map (λ class. Throwing x class (f ∷ fs)) o)
+    raises_it : (x got : ℕ) (o : Option Thrown) → IsFinished w next x → IfKeeps building (option_map (λ class. Throwing x class (f ∷ fs)) o)
     raises_it x got None old = tt
-    raises_it x got (Some class) old = stays w next t (λ z. OnwardKeeps c frozen owning z next t (Throwing x class (f ∷ fs))) (old, frames_throw c frozen owning w next t Runs (f ∷ fs) (k, b))
+    raises_it x got (Some class) old = stays w next t (λ z. OnwardKeeps (in_world building z) (Throwing x class (f ∷ fs))) (old, frames_throw building Runs (f ∷ fs) (k, b))
 
     abbrev AllowedAs : Classes → Effect → Type 0
     AllowedAs is e = Allowed c.program k.stands.method is k.stands.insn k.stands.target (row_at c f k.stands) f.stack e
@@ -292,20 +288,16 @@ module _ (c : MarkedProgram) (marked : IsMarked c) (frozen : ℕ → Bool) (are 
         let it = found a.1 a.2 in
         record { read = it.0; other = λ none. row_clean owning.stores r got fine.null (clean field.number a.1 field.named field.there got (it.1 none)); written = by_op (is_getfield k.stands.insn.op) refl it.1 }
       where
-        by_op : (b : Bool) → is_getfield k.stands.insn.op ≡ b → (((fi : ℕ) → ReadsField c marked owning.stores fine.null f k.stands.number k.stands.method k.stands.insn k.stands.target k.stands.tags k.stands.at fi → ⊥) → KindOld (IsStoredNowhere owning.stores) a.1.kind got)
+        by_op : (b : Bool) → is_getfield k.stands.insn.op ≡ b → (((fi : ℕ) → ReadsField c marked owning.stores f k.stands fi → ⊥) → KindOld (IsStoredNowhere owning.stores) a.1.kind got)
             → WriteClean owning.stores got r.writes
         by_op true e h = subst (WriteClean owning.stores got) (sym (get_writes c.program k.stands.method k.stands.insn.pc k.stands.target k.stands.insn.op e)) tt
         by_op false e h = (row_clean owning.stores r got fine.null (clean a.2.number a.1 a.2.named a.2.there got (h (λ fi reads. no_read fi k.stands.insn.op k.stands.target e reads.1)))).1
-          where
-            no_read : (fi : ℕ) (op : Op) (target : Target) → is_getfield op ≡ false → is_read_of fi op target ≡ true → ⊥
-            no_read fi (ops.Getfield i) target e h = (let bad : true ≡ false = e in cc)
-            no_read fi op target e h = (let bad : false ≡ true = h in cc)
 
     -- of an instruction that does not store a new array in an owned field
     pub does_it : (is : Classes) (e : Effect) (got : ℕ) → puts_owned owning.owned k.stands.insn.op k.stands.target ≡ false → AllowedAs is e → Built (IsFinished w next) c.program k.stands.target r e → CleanAs e → FitsOp e k.stands.insn.op
-        → FoundOld is k.stands.target e got → FoundStored is f k.stands e got → IfKeeps c frozen owning w next t (done c.program at e got)
+        → FoundOld is k.stands.target e got → FoundStored is f k.stands e got → IfKeeps building (done c.program at e got)
     does_it is (Goes to made) got plain a built clean fits found stored = runs_usual to made a.0 fits built clean
-    does_it is (Throws x) got plain a built clean fits found stored = stays w next t (λ z. OnwardKeeps c frozen owning z next t (threw x at)) (throws_it x a.1)
+    does_it is (Throws x) got plain a built clean fits found stored = stays w next t (λ z. OnwardKeeps (in_world building z) (threw x at)) (throws_it x a.1)
     does_it is (Reads v) got plain a built clean fits found stored =
         let field = a.2 in
         runs_on k.stands.insn.next got a.0 plain fits.1 (built field.number a.1 field.named field.there got (found a.1 a.2)) (read_well v got is a clean stored)
@@ -313,16 +305,11 @@ module _ (c : MarkedProgram) (marked : IsMarked c) (frozen : ℕ → Bool) (are 
     does_it is (Measures x) got plain a built clean fits found stored = runs_usual k.stands.insn.next (header_length got) a.0 fits (built (header_length got)) (clean (header_length got))
     does_it is (Raises x) got plain a built clean fits found stored = raises_it x got (thrown_of (header_class got)) built
     does_it is (Prints n) got plain a built clean fits found stored = runs_usual k.stands.insn.next 0 a.0 fits built clean
-    does_it is (Calls number) got plain a built clean fits found stored = subst (λ o. IfKeeps c frozen owning w next t (option_map (called c.program at number) o)) (sym a.2)
+    does_it is (Calls number) got plain a built clean fits found stored = subst (λ o. IfKeeps building (option_map (called c.program at number) o)) (sym a.2)
         (calls_keep number a.0 a.2 (call_named (site_in k.stands.method) k.stands.insn.pc number k.stands.insn.op k.stands.target r (rules_at c marked f k.stands).has_row a.1))
     does_it is Returns got plain a built clean fits found stored = goes_out f fs k b a
-    does_it is (Enters m) got plain a built clean fits found stored = steps_map w next t (λ z. FramesKeep c frozen owning z next t Runs (went_on c.program at 0)) (λ z. OnwardKeeps c frozen owning z next t (Entering m (went_on c.program at 0)))
+    does_it is (Enters m) got plain a built clean fits found stored = steps_map w next t (λ z. FramesIn (in_world building z) Runs (went_on c.program at 0)) (λ z. OnwardKeeps (in_world building z) (Entering m (went_on c.program at 0)))
         (λ z g p. (known_on m z g built.0, p)) (runs_usual k.stands.insn.next 0 a.0 fits built.1 clean.1)
-    does_it is (Leaves m) got plain a built clean fits found stored = steps_map w next t (λ z. FramesKeep c frozen owning z next t Runs (went_on c.program at 0)) (λ z. OnwardKeeps c frozen owning z next t (Leaving m Next (went_on c.program at 0)))
+    does_it is (Leaves m) got plain a built clean fits found stored = steps_map w next t (λ z. FramesIn (in_world building z) Runs (went_on c.program at 0)) (λ z. OnwardKeeps (in_world building z) (Leaving m Next (went_on c.program at 0)))
         (λ z g p. (known_on m z g built.0, tt, p)) (runs_usual k.stands.insn.next 0 a.0 fits built.1 clean.1)
-    does_it is (Indexes x i stored) got plain a built clean fits found well = tt
-    does_it is (Makes word size) got plain a built clean fits found stored = tt
-    does_it is (Waits m) got plain a built clean fits found stored = tt
-    does_it is (Notifies m) got plain a built clean fits found stored = tt
-    does_it is (NotifiesAll m) got plain a built clean fits found stored = tt
-    does_it is Stuck got plain a built clean fits found stored = tt
+    does_it is e got plain a built clean fits found stored = tt

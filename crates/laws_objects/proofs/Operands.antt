@@ -3,12 +3,12 @@ use Rattle.std.proofs.Common.{◌≡◌, ◌≢◌, ℕ, zero, suc, ◌<◌, Boo
 use Rattle.std.proofs.lemmas.Bool.{or_parts}
 use Rattle.lists.proofs.TestLaws.{is_true}
 use Rattle.jvm_types.specs.{CodeTable.{put_row, row}, Types.is_below, Verifying.{suits, some_taken}, declared.{code.Op.Op, op_row.Want.Want}}
-use Rattle.jvm_types.specs.declared.{op_row.Want.TheVariants.{AnyValue, AnInt, AnObject, AnyReference, AHolder, ToStart}, program.{FieldInfo.FieldInfo, MethodInfo.MethodInfo, Program.Program}}
+use Rattle.jvm_types.specs.declared.{op_row.Want.TheVariants.{AnyValue, AnObject}, program.{FieldInfo.FieldInfo, MethodInfo.MethodInfo, Program.Program}}
 use Rattle.jvm_types.specs.declared.{program.Target.Target, typing.VType.VType}
-use Rattle.checked_program.specs.{FrozenPlaces.may_take, MarkedProgram.{MarkedProgram, IsMarked}, OwnedArrays.may_take_array, declared.tag.Tag.{Tag, TheVariants.{Untagged, This}}}
-use Rattle.machine_types.specs.{Construction.{Owning, AreOwned, puts_owned, AreFrozen, builds, makes_frozen, SlotByType, SlotIs, SlotsAre, Runs, IsFresh, FrameKeeps}, Standing.{Standing, row_at}, Threads.Frame}
-use Rattle.machine_types.specs.Worlds.{World, IsFinished}
-use Rattle.laws_objects.proofs.{KeptFrames.plain_stack, Landing.inside_at, Moves.{Suit, suit_at}, Slots.plainly}
+use Rattle.checked_program.specs.{Colours.is_read_of, FrozenPlaces.may_take, OwnedArrays.may_take_array, declared.tag.Tag.{Tag, TheVariants.{Untagged, This}}}
+use Rattle.machine_types.specs.{Construction.{puts_owned, builds, makes_frozen, SlotByType, SlotIs, SlotsAre, Runs, IsFresh}, Standing.{Standing, row_at}, Threads.Frame}
+use Rattle.machine_types.specs.Worlds.{IsFinished}
+use Rattle.laws_objects.proofs.{Buildings.{Design, Building, FrameIn}, KeptFrames.plain_stack, Landing.inside_at, Moves.{Suit, suit_at}, Slots.plainly}
 use Rattle.jvm_types.specs.declared.code.Op.TheVariants as ops
 use Rattle.jvm_types.specs.declared.program.Target.TheVariants as targets
 use Rattle.jvm_types.specs.declared.typing.VType.TheVariants as types
@@ -39,16 +39,12 @@ module _ (m : MethodInfo) (Old : ℕ → Type 0) (null : Old 0) (Fresh : ℕ →
   ref_old u class v b h = absurd (cc)
 
   object_old : (o : Bool) (u : VType) (g : Tag) (class v : ℕ) → (o ≡ true → g ≢ This) → is_below u (types.Ref class) ≡ true → SlotIs Old Fresh o young receiver u g v → Old v
-  object_old true u g class v n b h = ref_old u class v b (plainly Old null Fresh true young receiver u g v (n refl) h).1
+  object_old true u g class v n b h = ref_old u class v b (plainly Old Fresh young receiver u g v (n refl) h).1
   object_old false u g class v n b h = ref_old u class v b h
 
   want_old : (want : Want) (u : VType) (g : Tag) (v : ℕ) → (own ≡ true → NoThis want g) → suits m want u ≡ true → SlotIs Old Fresh own young receiver u g v → WantOld Old want v
   want_old (AnObject class) u g v n s h = object_old own u g class v n s h
-  want_old AnyValue u g v n s h = tt
-  want_old AnInt u g v n s h = tt
-  want_old AnyReference u g v n s h = tt
-  want_old (AHolder class) u g v n s h = tt
-  want_old (ToStart class) u g v n s h = tt
+  want_old want u g v n s h = tt
 
   pub taken_old : (wants : List Want) (us : List VType) (gs : List Tag) (vs : List ℕ) → (own ≡ true → TakesNoThis wants gs) → Suit m wants us → SlotsAre (SlotIs Old Fresh own young receiver) us gs vs → TakenOld Old wants vs
   taken_old [] us gs vs n s h = tt
@@ -132,6 +128,10 @@ pub no_getfield : (op : Op) → takes_any op ≡ false → is_getfield op ≡ fa
 no_getfield (ops.Getfield i) e = absurd (cc)
 no_getfield op e = refl
 
+pub no_read : (fi : ℕ) (op : Op) (target : Target) → is_getfield op ≡ false → is_read_of fi op target ≡ true → ⊥
+no_read fi (ops.Getfield i) target e h = (let bad : true ≡ false = e in cc)
+no_read fi op target e h = (let bad : false ≡ true = h in cc)
+
 takes_no_this : (wants : List Want) (gs : List Tag) → ((k : ℕ) → k < length wants → object_at wants k ≡ true → slice_index_or gs k Untagged ≢ This) → TakesNoThis wants gs
 takes_no_this [] gs f = tt
 takes_no_this (want ∷ wants) [] f = tt
@@ -139,21 +139,22 @@ takes_no_this (want ∷ wants) (g ∷ gs) f = (one want (λ e. f 0 (omega arith)
   where
     one : (want : Want) → (is_object want ≡ true → g ≢ This) → NoThis want g
     one (AnObject class) f = f refl
-    one AnyValue f = tt
-    one AnInt f = tt
-    one AnyReference f = tt
-    one (AHolder class) f = tt
-    one (ToStart class) f = tt
+    one want f = tt
 
-module _ (c : MarkedProgram) (marked : IsMarked c) (frozen : ℕ → Bool) (are : AreFrozen c frozen) (owning : Owning) (owns : AreOwned c owning.owned) where
+module _ (design : Design) where
+  open design use {c, frozen}
+
   own_takes_no_this : (f : Frame) (k : Standing c f) → is_getfield k.insn.op ≡ false → builds frozen k.method ≡ true → TakesNoThis (row_at c f k).takes k.tags.stack
   own_takes_no_this f k get own =
       takes_no_this (row_at c f k).takes k.tags.stack
-      (λ n l e this. (let may = (inside_at c marked frozen are owning owns f k own).taken k.number k.insn k.target k.tags k.at n l this in
+      (λ n l e this. (let may = (inside_at design f k own).taken k.number k.insn k.target k.tags k.at n l this in
       let free = object_free c.program k.method k.insn.pc k.method.class k.insn.op k.target n get e in cc))
 
-  -- so each object that is taken is finished
-  pub takes_old : (w : World) (next t h : ℕ) (f : Frame) (k : FrameKeeps c frozen owning w next t h Runs f) → IsFinished w next 0 → is_getfield k.stands.insn.op ≡ false → puts_owned owning.owned k.stands.insn.op k.stands.target ≡ false → TakenOld (IsFinished w next) (row_at c f k.stands).takes f.stack
-  takes_old w next t h f k null get plain =
+-- so each object that is taken is finished
+module _ (building : Building) where
+  open building use {design, c, marked, frozen, owning, w, next, t}
+
+  pub takes_old : (h : ℕ) (f : Frame) (k : FrameIn building h Runs f) → IsFinished w next 0 → is_getfield k.stands.insn.op ≡ false → puts_owned owning.owned k.stands.insn.op k.stands.target ≡ false → TakenOld (IsFinished w next) (row_at c f k.stands).takes f.stack
+  takes_old h f k null get plain =
       taken_old k.stands.method (IsFinished w next) null (IsFresh w t h Runs) (builds frozen k.stands.method) (makes_frozen frozen k.stands.method) f.receiver (row_at c f k.stands).takes k.stands.types.stack k.stands.tags.stack f.stack
-      (λ own. own_takes_no_this f k.stands get own) (suit_at c marked f k.stands) (plain_stack c frozen owning w next t h f k plain)
+      (λ own. own_takes_no_this design f k.stands get own) (suit_at c marked f k.stands) (plain_stack building h f k plain)

@@ -1,24 +1,24 @@
 -- Each event of a thread keeps what construction says of it.
-use Rattle.std.proofs.Common.{◌≡◌, ℕ, ◌+◌, ◌≤◌, Bool, true, false, List, [], ◌∷◌, length, Option, Some, refl, sym, ap, ◌∙◌, subst, arith, drop, ◌==◌, slice_get, slice_index, if◌then◌else◌, IsTrue}
+use Rattle.std.proofs.Common.{◌≡◌, ℕ, ◌+◌, Bool, true, false, List, [], ◌∷◌, length, Option, Some, refl, sym, ap, ◌∙◌, subst, arith, drop, ◌==◌, slice_get, slice_index, if◌then◌else◌, IsTrue}
 use Rattle.std.{specs.List.{AllZip, AllByRecursion}, proofs.lemmas.Bool.{eqb-true, eq-eqb}}
 use Rattle.lists.proofs.ListLaws.{same_some}
-use Rattle.jvm_types.specs.{Members.is_static, Numbers.has_number, ProgramInvariant.{words_of, site_in}, Types.TypeFrame, declared.{code.Op.Op, fixed_words.TheConstants.NEXT_FREE_WORD, outcome.Thrown.Thrown, program.FieldInfo.FieldInfo}}
+use Rattle.jvm_types.specs.{Members.is_static, Numbers.has_number, ProgramInvariant.site_in, Types.TypeFrame, declared.{code.Op.Op, fixed_words.TheConstants.NEXT_FREE_WORD, outcome.Thrown.Thrown, program.FieldInfo.FieldInfo}}
 use Rattle.jvm_types.specs.declared.program.{Kind.Kind, MethodInfo.MethodInfo, Target.Target}
 use Rattle.laws_programs.{specs.TargetLaws.HasRow, proofs.ClassTreeLaws.files_alone}
 use Rattle.checked_program.specs.{Colours.is_read_of, MarkedProgram.{MarkedProgram, IsMarked}, OwnedArrays.GetsOnThis, SectionLaws.HasThis}
-use Rattle.machine_types.specs.{Accesses.{found_by, words_after}, Bounds.{IsRooted, part_roots}, Construction.{Owning, AreOwned, puts_owned, AreFrozen, Runs, FrameKeeps, KeepBelow, FramesKeep, ThreadKeeps, KindKeeps, PlaceStores, PlacesKeep}}
+use Rattle.machine_types.specs.{Accesses.{found_by, words_after}, Bounds.{IsRooted, part_roots}, Construction.{puts_owned, Runs, KindKeeps, PlaceStores, PlacesKeep}}
 use Rattle.machine_types.specs.{Core.Core, Effects.{effect, gets, variable_of}, Events.{element_made, moved}, Frames.{Top, top_of, effect_at, went_on, making}, Going.goes_on, HeldMonitors.held_at}
 use Rattle.machine_types.specs.{Instructions.{effect_wants, run_wants, printed}, Onward.{Onward, Running, threw, done}, OwnedPlaces.{IsFieldWord, IsStoredAt, IsStoredNowhere}, PlainMemory.Object, Standing.{Standing, Whole, row_at}}
-use Rattle.machine_types.specs.{Structure.{IsStructured, IsAs, Stands}, Threads.{Frame, Thread}, Typed.{Classes, Holds, FrameHolds, FramesHold, HasClass}}
-use Rattle.machine_types.specs.{Words.{value_word, variable_word}, Worlds.{World, IsFinished, IsWorld}, declared.effect.{Effect.{Effect, TheVariants.{Throws, Reads, Writes, Makes, Prints, Waits}}, Variable.Variable}}
+use Rattle.machine_types.specs.{Structure.{IsAs, Stands}, Threads.{Frame, Thread}, Typed.{Classes, Holds, FrameHolds, FramesHold, HasClass}}
+use Rattle.machine_types.specs.{Words.{value_word, variable_word}, Worlds.{World, IsFinished}, declared.effect.{Effect.{Effect, TheVariants.{Throws, Reads, Writes, Makes, Prints, Waits}}, Variable.Variable}}
 use Rattle.machine_types.specs.declared.{effect.Variable.TheVariants.{Instance, Static}, phase.Phase.Phase}
 use Rattle.laws_threads.{specs.{Allowed.{IsNamedField, Allowed}, StructureLaws.{StaysStructured, counted_by}}, proofs.{FramePlaces.one_standing_law, Landing.{stand_top, rules_at}, Standings.top_here}}
 use Rattle.laws_threads.proofs.{Inside.{stack_this, top_shows}, ThreadMove.{GoesBy, Refuses, IsNotify, Move, becomes, counting, any_move, tried_attempt}, TopEffects.allowed_here}
 use Rattle.laws_states.{specs.HeapFacts.HeapFacts, proofs.{Accesses.out_there, Lists.set_here}}
-use Rattle.laws_objects.proofs.{ArrayMoves.ReadsField, ArraySlots.StoresFine, EffectOps.{FitsOp, is_putfield}}
-use Rattle.laws_objects.proofs.{BuiltEffects.KindOld, InstructionMoves.{Gets, KnownTop, known_top, by_top, does_as, refuses_as, nobody_as, prints_as, makes_as, waits_as, asks_as}}
+use Rattle.laws_objects.proofs.{ArrayMoves.ReadsField, Buildings.{Moving, in_world, FrameIn, BelowIn, FramesIn, sees}, BuiltEffects.KindOld, EffectOps.{FitsOp, is_putfield}}
+use Rattle.laws_objects.proofs.InstructionMoves.{Gets, KnownTop, known_top, by_top, does_as, refuses_as, nobody_as, prints_as, makes_as, waits_as, asks_as}
 use Rattle.laws_objects.proofs.MonitorMoves.{fits, stays_as, fails_as, throws_as, element_as, made_as, notified_as, leads_as, turned_as, again_as, inside_as, begins_as, takes_as, gives_up_as, outer_as, inner_as, elided_as, fattens_as, waits_as as waits_in, retakes_as}
-use Rattle.laws_objects.proofs.{Onwards.{FoundOld, FoundStored, fits_op}, RootMoves.starts_as, ThreadMoves.{Moved, now_world}, WorldChanges.none_some}
+use Rattle.laws_objects.proofs.{Onwards.{FoundOld, FoundStored, fits_op}, RootMoves.starts_as, ThreadMoves.Moved, WorldChanges.none_some}
 use Rattle.jvm_types.specs.declared.code.Op.TheVariants as ops
 use Rattle.jvm_types.specs.declared.outcome.Thrown.TheVariants as outcomes
 use Rattle.jvm_types.specs.declared.program.Kind.TheVariants as kinds
@@ -28,68 +28,69 @@ use Rattle.laws_threads.proofs.ThreadMove as moves
 
 -- ---- all moves
 
-module _ (c : MarkedProgram) (marked : IsMarked c) (frozen : ℕ → Bool) (are : AreFrozen c frozen) (owning : Owning) (owns : AreOwned c owning.owned) (w : World) (next more t : ℕ) (was : Phase) (x : Thread) (k : ThreadKeeps c frozen owning w next t was x) (is_world : IsWorld w (words_of c.program) next) (fine : StoresFine owning.stores next) (grows : next ≤ more) (stood : IsStructured c was x)
-    (rooted : IsRooted c.program x) (got : ℕ) where
+module _ (moving : Moving) (rooted : IsRooted moving.c.program moving.x) (got : ℕ) where
+  open moving use {building, c, owning, more, was, x, k, stood}
+
   -- the top frame stores no new array in an owned field
   abbrev pub StoresNone : Classes → Type 0
   StoresNone is =
-      x.phase ≡ phases.Run → (a : KnownTop c marked frozen are owning owns is w next more t was x k is_world fine grows stood got) (v : Variable) (put : ℕ) → effect_at c.program (top_here c a.frame a.below a.keeps.stands) ≡ Writes v put
+      x.phase ≡ phases.Run → (a : KnownTop moving is got) (v : Variable) (put : ℕ) → effect_at c.program (top_here c a.frame a.below a.keeps.stands) ≡ Writes v put
       → puts_owned owning.owned a.keeps.stands.insn.op a.keeps.stands.target ≡ false
 
   abbrev Keeps : Thread → Type 0
-  Keeps y = Moved c frozen owning w k.now next more t (counted_by was y.phase) y
+  Keeps y = Moved building k.now more (counted_by was y.phase) y
 
-  module _ (is : Classes) (none : StoresNone is) (thrown : (v : ℕ) (class : Thrown) → x.phase ≡ phases.Throw v class → IsStoredNowhere owning.stores v) (n : ℕ) (known : x.phase ≡ phases.Run → was ≡ phases.Run → (at : Top) → top_of c.program x.frames ≡ Some at → KnownTop c marked frozen are owning owns is w next more t was x k is_world fine grows stood got) where
+  module _ (is : Classes) (none : StoresNone is) (thrown : (v : ℕ) (class : Thrown) → x.phase ≡ phases.Throw v class → IsStoredNowhere owning.stores v) (n : ℕ) (known : x.phase ≡ phases.Run → was ≡ phases.Run → (at : Top) → top_of c.program x.frames ≡ Some at → KnownTop moving is got) where
     abbrev s : Thread
     s = counting n x
 
     -- at an instruction
-    at_top : (P : Top → Type 0) → x.phase ≡ phases.Run → was ≡ phases.Run → ((a : KnownTop c marked frozen are owning owns is w next more t was x k is_world fine grows stood got) → P (known_top c marked frozen are owning owns is w next more t was x k is_world fine grows stood got a)) → (at : Top) → top_of c.program x.frames ≡ Some at → P at
-    at_top P here e h at found = by_top c marked frozen are owning owns is w next more t was x k is_world fine grows stood P got h (known here e at found) at found
+    at_top : (P : Top → Type 0) → x.phase ≡ phases.Run → was ≡ phases.Run → ((a : KnownTop moving is got) → P (known_top moving is got a)) → (at : Top) → top_of c.program x.frames ≡ Some at → P at
+    at_top P here e h at found = by_top moving is P got h (known here e at found) at found
 
     goes_keep : (phase : Phase) (o : Onward) → GoesBy c.program s got phase o → x.phase ≡ phase → IsAs phase was → StaysStructured c was (goes_on s o) → Keeps (goes_on s o)
     goes_keep _ o (moves.by_effect at f _ found same silent d) here e stands =
-        at_top (λ at. effect_at c.program at ≡ f → done c.program at f got ≡ Some o → StaysStructured c was (goes_on s o) → Keeps (goes_on s o)) here e (λ a. does_as c marked frozen are owning owns is w next more t was x k is_world fine grows stood e n got a (none here a) f o) at found same d stands
+        at_top (λ at. effect_at c.program at ≡ f → done c.program at f got ≡ Some o → StaysStructured c was (goes_on s o) → Keeps (goes_on s o)) here e (λ a. does_as moving is e n got a (none here a) f o) at found same d stands
     goes_keep _ _ (moves.by_machine at class found why) here e stands =
-        at_top (λ at. Refuses c.program got at class → StaysStructured c was (goes_on s (threw class at)) → Keeps (goes_on s (threw class at))) here e (λ a. refuses_as c marked frozen are owning owns is w next more t was x k is_world fine grows stood e n got a class) at found why stands
+        at_top (λ at. Refuses c.program got at class → StaysStructured c was (goes_on s (threw class at)) → Keeps (goes_on s (threw class at))) here e (λ a. refuses_as moving is e n got a class) at found why stands
     goes_keep _ _ (moves.by_nobody at m count h found y there l) here e stands =
-        at_top (λ at. IsNotify c.program at m → StaysStructured c was (goes_on s (Running (went_on c.program at 0))) → Keeps (goes_on s (Running (went_on c.program at 0)))) here e (λ a. nobody_as c marked frozen are owning owns is w next more t was x k is_world fine grows stood e n got a m) at found y stands
-    goes_keep _ _ (moves.by_element word stored at found) here e stands = element_as c marked frozen are owning owns w next more t was x k is_world fine grows stood n got word stored (element_made stored got) at found e stands
-    goes_keep _ _ (moves.by_object a word) here e stands = made_as c marked frozen are owning owns w next more t was x k is_world fine grows stood n got a word e stands
-    goes_keep _ _ (moves.by_handler v class at found) here e stands = throws_as c marked frozen are owning owns w next more t was x k is_world fine grows stood n got v class at (thrown v class here) found e stands
-    goes_keep _ _ (moves.by_none m r f) here e stands = notified_as c marked frozen are owning owns w next more t was x k is_world fine grows stood n got (phases.NotifyLook m r) e (λ fit. (fit.0, tt))
-    goes_keep _ _ (moves.by_one m r u) here e stands = notified_as c marked frozen are owning owns w next more t was x k is_world fine grows stood n got (phases.NotifyOne m r u) e (λ fit. (fit.0, tt))
-    goes_keep _ _ (moves.by_all m r) here e stands = notified_as c marked frozen are owning owns w next more t was x k is_world fine grows stood n got (phases.NotifyAll m r) e (λ fit. (fit.0, tt))
+        at_top (λ at. IsNotify c.program at m → StaysStructured c was (goes_on s (Running (went_on c.program at 0))) → Keeps (goes_on s (Running (went_on c.program at 0)))) here e (λ a. nobody_as moving is e n got a m) at found y stands
+    goes_keep _ _ (moves.by_element word stored at found) here e stands = element_as moving n got word stored (element_made stored got) at found e stands
+    goes_keep _ _ (moves.by_object a word) here e stands = made_as moving n got a word e stands
+    goes_keep _ _ (moves.by_handler v class at found) here e stands = throws_as moving n got v class at (thrown v class here) found e stands
+    goes_keep _ _ (moves.by_none m r f) here e stands = notified_as moving n got (phases.NotifyLook m r) e (λ fit. (fit.0, tt))
+    goes_keep _ _ (moves.by_one m r u) here e stands = notified_as moving n got (phases.NotifyOne m r u) e (λ fit. (fit.0, tt))
+    goes_keep _ _ (moves.by_all m r) here e stands = notified_as moving n got (phases.NotifyAll m r) e (λ fit. (fit.0, tt))
 
     move_keeps : (phase : Phase) (m : Move c s got phase) → x.phase ≡ phase → IsAs phase was → StaysStructured c was (becomes c s got phase m) → Keeps (becomes c s got phase m)
-    move_keeps phase (moves.stays l) here e stands = stays_as c marked frozen are owning owns w next more t was x k is_world fine grows stood n got
+    move_keeps phase (moves.stays l) here e stands = stays_as moving n got
     move_keeps phase (moves.goes o l) here e stands = goes_keep phase o l here e stands
-    move_keeps phase (moves.fails_in a f d l) here e stands = fails_as c marked frozen are owning owns w next more t was x k is_world fine grows stood n got a f
-    move_keeps phase (moves.leads now l) here e stands = leads_as c marked frozen are owning owns w next more t was x k is_world fine grows stood n got phase now l e
-    move_keeps phase (moves.turns now l) here e stands = turned_as c marked frozen are owning owns w next more t was x k is_world fine grows stood n got phase now l e
+    move_keeps phase (moves.fails_in a f d l) here e stands = fails_as moving n got a f
+    move_keeps phase (moves.leads now l) here e stands = leads_as moving n got phase now l e
+    move_keeps phase (moves.turns now l) here e stands = turned_as moving n got phase now l e
     move_keeps _ (moves.makes at word size found f l) here e stands =
-        at_top (λ at. effect_at c.program at ≡ Makes word size → Keeps (record s { frames = making c.program at; phase = phases.Made got word })) here e (λ a. makes_as c marked frozen are owning owns is w next more t was x k is_world fine grows stood e n got a word size) at found f
+        at_top (λ at. effect_at c.program at ≡ Makes word size → Keeps (record s { frames = making c.program at; phase = phases.Made got word })) here e (λ a. makes_as moving is e n got a word size) at found f
     move_keeps _ (moves.prints at v found f l) here e stands =
-        at_top (λ at. effect_at c.program at ≡ Prints v → StaysStructured c was (goes_on (printed s got v) (Running (went_on c.program at 0))) → Keeps (goes_on (printed s got v) (Running (went_on c.program at 0)))) here e (λ a. prints_as c marked frozen are owning owns is w next more t was x k is_world fine grows stood e n got a v) at found f stands
+        at_top (λ at. effect_at c.program at ≡ Prints v → StaysStructured c was (goes_on (printed s got v) (Running (went_on c.program at 0))) → Keeps (goes_on (printed s got v) (Running (went_on c.program at 0)))) here e (λ a. prints_as moving is e n got a v) at found f stands
     move_keeps _ (moves.asks_to_wait at m h now found f l q) here e stands =
-        at_top (λ at. effect_at c.program at ≡ Waits m → Keeps (record s { frames = went_on c.program at 0; phase = now; turns = 0 })) here e (λ a same. waits_as c marked frozen are owning owns is w next more t was x k is_world fine grows stood e n got a m h.kept now same q) at found f
+        at_top (λ at. effect_at c.program at ≡ Waits m → Keeps (record s { frames = went_on c.program at 0; phase = now; turns = 0 })) here e (λ a same. waits_as moving is e n got a m h.kept now same q) at found f
     move_keeps _ (moves.asks at m h now found y l q) here e stands =
-        at_top (λ at. IsNotify c.program at m → Keeps (record s { frames = went_on c.program at 0; phase = now })) here e (λ a y. asks_as c marked frozen are owning owns is w next more t was x k is_world fine grows stood e n got a m h.kept now y q) at found y
-    move_keeps _ (moves.enters_again m tried h f) here e stands = again_as c marked frozen are owning owns w next more t was x k is_world fine grows stood n got m tried h f e
-    move_keeps _ (moves.enters_inside m tried a f) here e stands = inside_as c marked frozen are owning owns w next more t was x k is_world fine grows stood n got m tried a (tried_attempt m (held_at x.held m) x.attempt a f) e
-    move_keeps _ (moves.begins_to_try m tried noted f below there may l fits free) here e stands = begins_as c marked frozen are owning owns w next more t was x k is_world fine grows stood n got m tried noted f below there free e
-    move_keeps phase (moves.takes_lock m kept l) here e stands = takes_as c marked frozen are owning owns w next more t was x k is_world fine grows stood n got m kept phase l e
-    move_keeps phase (moves.gives_up m a l) here e stands = gives_up_as c marked frozen are owning owns w next more t was x k is_world fine grows stood n got m a phase l e stands
-    move_keeps _ (moves.leaves_outer m a h f l) here e stands = outer_as c marked frozen are owning owns w next more t was x k is_world fine grows stood n got m a e h f stands
-    move_keeps _ (moves.leaves_inside m a b inner f l) here e stands = inner_as c marked frozen are owning owns w next more t was x k is_world fine grows stood n got m a e b inner (tried_attempt m (held_at x.held m) x.attempt b f) stands
-    move_keeps _ (moves.finishes_try m a b f l y) here e stands = elided_as c marked frozen are owning owns w next more t was x k is_world fine grows stood n got m a e b (tried_attempt m (held_at x.held m) x.attempt b f) stands
-    move_keeps _ (moves.fattens_lock m r toward h f) here e stands = fattens_as c marked frozen are owning owns w next more t was x k is_world fine grows stood n got m r toward h f e
-    move_keeps _ (moves.gives_up_to_wait m r h f) here e stands = waits_in c marked frozen are owning owns w next more t was x k is_world fine grows stood n got m r h e
-    move_keeps _ (moves.retakes_lock m r depth f) here e stands = retakes_as c marked frozen are owning owns w next more t was x k is_world fine grows stood n got m r depth e
-    move_keeps _ (moves.starts number roots f) here e stands = starts_as c marked frozen are owning owns w next more t was x k is_world fine grows stood n roots number (subst (AllByRecursion (λ (number : ℕ). IsTrue (has_number (part_roots c.program x.number x.part) number))) f rooted.roots) e stands
+        at_top (λ at. IsNotify c.program at m → Keeps (record s { frames = went_on c.program at 0; phase = now })) here e (λ a y. asks_as moving is e n got a m h.kept now y q) at found y
+    move_keeps _ (moves.enters_again m tried h f) here e stands = again_as moving n got m tried h f e
+    move_keeps _ (moves.enters_inside m tried a f) here e stands = inside_as moving n got m tried a (tried_attempt m (held_at x.held m) x.attempt a f) e
+    move_keeps _ (moves.begins_to_try m tried noted f below there may l fits free) here e stands = begins_as moving n got m tried noted f below there free e
+    move_keeps phase (moves.takes_lock m kept l) here e stands = takes_as moving n got m kept phase l e
+    move_keeps phase (moves.gives_up m a l) here e stands = gives_up_as moving n got m a phase l e stands
+    move_keeps _ (moves.leaves_outer m a h f l) here e stands = outer_as moving n got m a e h f stands
+    move_keeps _ (moves.leaves_inside m a b inner f l) here e stands = inner_as moving n got m a e b inner (tried_attempt m (held_at x.held m) x.attempt b f) stands
+    move_keeps _ (moves.finishes_try m a b f l y) here e stands = elided_as moving n got m a e b (tried_attempt m (held_at x.held m) x.attempt b f) stands
+    move_keeps _ (moves.fattens_lock m r toward h f) here e stands = fattens_as moving n got m r toward h f e
+    move_keeps _ (moves.gives_up_to_wait m r h f) here e stands = waits_in moving n got m r h e
+    move_keeps _ (moves.retakes_lock m r depth f) here e stands = retakes_as moving n got m r depth e
+    move_keeps _ (moves.starts number roots f) here e stands = starts_as moving n roots number (subst (AllByRecursion (λ (number : ℕ). IsTrue (has_number (part_roots c.program x.number x.part) number))) f rooted.roots) e stands
 
   -- where the frame at the top is known if an instruction begins
-  pub moves_keep : (is : Classes) → StoresNone is → ((v : ℕ) (class : Thrown) → x.phase ≡ phases.Throw v class → IsStoredNowhere owning.stores v) → (x.phase ≡ phases.Run → was ≡ phases.Run → (at : Top) → top_of c.program x.frames ≡ Some at → KnownTop c marked frozen are owning owns is w next more t was x k is_world fine grows stood got) → StaysStructured c was (moved c x x.phase got) → Keeps (moved c x x.phase got)
+  pub moves_keep : (is : Classes) → StoresNone is → ((v : ℕ) (class : Thrown) → x.phase ≡ phases.Throw v class → IsStoredNowhere owning.stores v) → (x.phase ≡ phases.Run → was ≡ phases.Run → (at : Top) → top_of c.program x.frames ≡ Some at → KnownTop moving is got) → StaysStructured c was (moved c x x.phase got) → Keeps (moved c x x.phase got)
   moves_keep is none thrown known = any_move (λ (y : Thread). StaysStructured c was y → Keeps y) c x x.phase got (λ n m. move_keeps is none thrown n known x.phase m refl stood.is_as)
 
 -- ---- the frame at the top
@@ -113,29 +114,27 @@ kind_map Old w next f (kinds.Ref class) v k = f v k
 kind_map Old w next f kinds.Int v k = tt
 kind_map Old w next f kinds.Bool v k = tt
 
-module _ (c : MarkedProgram) (marked : IsMarked c) (frozen : ℕ → Bool) (are : AreFrozen c frozen) (owning : Owning) (owns : AreOwned c owning.owned) (objects : List Object) (s : Core) (facts : HeapFacts c objects s) (w : World) (more t : ℕ) (was : Phase) (x : Thread) (k : ThreadKeeps c frozen owning w (slice_index s.words NEXT_FREE_WORD) t was x)
-    (is_world : IsWorld w (words_of c.program) (slice_index s.words NEXT_FREE_WORD)) (fine : StoresFine owning.stores (slice_index s.words NEXT_FREE_WORD)) (grows : slice_index s.words NEXT_FREE_WORD ≤ more) (stood : IsStructured c was x) (places : PlacesKeep c owning w (slice_index s.words NEXT_FREE_WORD) objects s.words) where
-  abbrev next : ℕ
-  next = slice_index s.words NEXT_FREE_WORD
+module _ (moving : Moving) (objects : List Object) (s : Core) (facts : HeapFacts moving.c objects s) (next_is : slice_index s.words NEXT_FREE_WORD ≡ moving.next) (places : PlacesKeep moving.c moving.owning moving.w moving.next objects s.words) where
+  open moving use {building, c, marked, owning, owns, w, next, t, more, was, x, k, stood}
 
-  seen : (v : ℕ) → IsFinished w (slice_index s.words NEXT_FREE_WORD) v → IsFinished k.now (slice_index s.words NEXT_FREE_WORD) v
+  seen : (v : ℕ) → IsFinished w next v → IsFinished k.now next v
   seen v o = (o.0, k.now_is.others v (λ b e. absurd (none_some (w v) b o.1 e)) ∙ o.1)
 
-  field_found : (target : Target) (v : Variable) (f : FieldInfo) → IsNamedField c.program (HasClass objects) target v f → KindOld (IsFinished k.now (slice_index s.words NEXT_FREE_WORD)) f.kind (slice_index s.words (variable_word v))
-  field_found target v f at = kind_map (IsFinished k.now (slice_index s.words NEXT_FREE_WORD)) w (slice_index s.words NEXT_FREE_WORD) seen f.kind (slice_index s.words (variable_word v))
-      (subst (λ (u : Variable). KindKeeps w (slice_index s.words NEXT_FREE_WORD) f.kind (slice_index s.words (variable_word u))) (sym at.variable) (by_flag (is_static f.flags) refl))
+  field_found : (target : Target) (v : Variable) (f : FieldInfo) → IsNamedField c.program (HasClass objects) target v f → KindOld (IsFinished k.now next) f.kind (slice_index s.words (variable_word v))
+  field_found target v f at = kind_map (IsFinished k.now next) w next seen f.kind (slice_index s.words (variable_word v))
+      (subst (λ (u : Variable). KindKeeps w next f.kind (slice_index s.words (variable_word u))) (sym at.variable) (by_flag (is_static f.flags) refl))
     where
-      by_flag : (b : Bool) → is_static f.flags ≡ b → KindKeeps w (slice_index s.words NEXT_FREE_WORD) f.kind (slice_index s.words (variable_word (if b then Static f.index else Instance at.reference f.index)))
+      by_flag : (b : Bool) → is_static f.flags ≡ b → KindKeeps w next f.kind (slice_index s.words (variable_word (if b then Static f.index else Instance at.reference f.index)))
       by_flag true e = places.statics at.number f at.there e
       by_flag false e =
           let holder = at.holder e in
           let from = (marked.checked.program.fields at.number f at.there).class.0 in
           let class : holder.1 ≡ f.class = files_alone holder.1 f.class from holder.3 in
           let object = holder.2.0 in
-          subst (λ (a : ℕ). KindKeeps w (slice_index s.words NEXT_FREE_WORD) f.kind (slice_index s.words (value_word a f.index))) holder.2.2 (places.fields object at.number f holder.2.1 at.there e (holder.2.3 ∙ class))
+          subst (λ (a : ℕ). KindKeeps w next f.kind (slice_index s.words (value_word a f.index))) holder.2.2 (places.fields object at.number f holder.2.1 at.there e (holder.2.3 ∙ class))
 
   module _ (here : x.phase ≡ phases.Run) (is_run : was ≡ phases.Run) where
-    module _ (f : Frame) (fs : List Frame) (there : x.frames ≡ f ∷ fs) (kf : FrameKeeps c frozen owning k.now (slice_index s.words NEXT_FREE_WORD) t (length fs) Runs f) (b : KeepBelow c frozen owning k.now (slice_index s.words NEXT_FREE_WORD) t f fs) (h : FrameHolds c (HasClass objects) 0 f) where
+    module _ (f : Frame) (fs : List Frame) (there : x.frames ≡ f ∷ fs) (kf : FrameIn (in_world building k.now) (length fs) Runs f) (b : BelowIn (in_world building k.now) f fs) (h : FrameHolds c (HasClass objects) 0 f) where
       abbrev at : Top
       at = top_here c f fs kf.stands
 
@@ -143,7 +142,7 @@ module _ (c : MarkedProgram) (marked : IsMarked c) (frozen : ℕ → Bool) (are 
       unfolding restands
       allowed = allowed_here c marked (HasClass objects) (out_there c marked objects s facts) f (restands c marked (HasClass objects) f h kf.stands).0
 
-      found : (e : Effect) → FoundOld c marked frozen are owning owns k.now (slice_index s.words NEXT_FREE_WORD) t (now_world c frozen owning w (slice_index s.words NEXT_FREE_WORD) t was x k is_world) fine (HasClass objects) kf.stands.target e (found_by s.words (effect_wants x f.pc e))
+      found : (e : Effect) → FoundOld (sees moving) (HasClass objects) kf.stands.target e (found_by s.words (effect_wants x f.pc e))
       found (Reads v) = λ g named. field_found kf.stands.target v g named
       found e = tt
 
@@ -155,7 +154,7 @@ module _ (c : MarkedProgram) (marked : IsMarked c) (frozen : ℕ → Bool) (are 
           of_stands stands = let shows = top_shows c marked Whole f fs stands.shown stands.show in stack_this c marked f kf.stands shows.0 shows.1
 
       abbrev Reads_it : ℕ → Type 0
-      Reads_it n = ReadsField c marked owning.stores fine.null f kf.stands.number kf.stands.method kf.stands.insn kf.stands.target kf.stands.tags kf.stands.at n
+      Reads_it n = ReadsField c marked owning.stores f kf.stands n
 
       place_kind : (kind : Kind) (word v : ℕ) → PlaceStores owning.stores word false kind v → KindOld (IsStoredNowhere owning.stores) kind v
       place_kind (kinds.Ref class) word v h = h
@@ -240,7 +239,7 @@ module _ (c : MarkedProgram) (marked : IsMarked c) (frozen : ℕ → Bool) (are 
 
                 reads : is_read_of named.number kf.stands.insn.op kf.stands.target ≡ true
                 reads =
-                    let fits : FitsOp (Reads v) kf.stands.insn.op = subst (λ (e : Effect). FitsOp e kf.stands.insn.op) same (fits_op c marked frozen are owning owns k.now (slice_index s.words NEXT_FREE_WORD) t (now_world c frozen owning w (slice_index s.words NEXT_FREE_WORD) t was x k is_world) fine f fs kf b) in
+                    let fits : FitsOp (Reads v) kf.stands.insn.op = subst (λ (e : Effect). FitsOp e kf.stands.insn.op) same (fits_op (sees moving) f fs kf b) in
                     let rows : HasRow c.program (site_in kf.stands.method) kf.stands.insn.pc (targets.Field named.number) kf.stands.insn.op (row_at c f kf.stands) = subst (λ (u : Target). HasRow c.program (site_in kf.stands.method) kf.stands.insn.pc u kf.stands.insn.op (row_at c f kf.stands)) named.named (rules_at c marked f kf.stands).has_row in
                     subst (λ (u : Target). is_read_of named.number kf.stands.insn.op u ≡ true) (sym named.named) (is_get kf.stands.insn.op rows fits.0)
 
@@ -248,23 +247,23 @@ module _ (c : MarkedProgram) (marked : IsMarked c) (frozen : ℕ → Bool) (are 
                 not_owned true h = absurd (none named.number (owns.those named.number h, reads))
                 not_owned false h = h
 
-      found_stored : (e : Effect) → effect_at c.program at ≡ e → FoundStored c marked frozen are owning owns k.now (slice_index s.words NEXT_FREE_WORD) t (now_world c frozen owning w (slice_index s.words NEXT_FREE_WORD) t was x k is_world) fine (HasClass objects) f kf.stands e (found_by s.words (effect_wants x f.pc e))
+      found_stored : (e : Effect) → effect_at c.program at ≡ e → FoundStored (sees moving) (HasClass objects) f kf.stands e (found_by s.words (effect_wants x f.pc e))
       found_stored (Reads v) same = λ field named. (reads_own_array v same field named, reads_none v same field named)
       found_stored e same = tt
 
-      known_here : more ≡ slice_index (words_after s.words (run_wants c.program x (Some at))) NEXT_FREE_WORD → KnownTop c marked frozen are owning owns (HasClass objects) w next more t was x k is_world fine grows stood (found_by s.words (run_wants c.program x (Some at)))
+      known_here : more ≡ slice_index (words_after s.words (run_wants c.program x (Some at))) NEXT_FREE_WORD → KnownTop moving (HasClass objects) (found_by s.words (run_wants c.program x (Some at)))
       known_here is = record { frame = f; below = fs; there = there; keeps = kf; waits = b; allowed = allowed; found = found (effect_at c.program at); stored = found_stored (effect_at c.program at) refl; gets = gets (effect_at c.program at) is }
         where
           gets : (e : Effect) → more ≡ slice_index (words_after s.words (effect_wants x f.pc e)) NEXT_FREE_WORD → Gets next more e (found_by s.words (effect_wants x f.pc e))
-          gets (Makes word size) is = (refl, is ∙ set_here s.words NEXT_FREE_WORD (slice_index s.words NEXT_FREE_WORD + size) (omega (arith, facts.unused.many, marked.checked.program.heap_from)))
+          gets (Makes word size) is = (next_is, is ∙ (set_here s.words NEXT_FREE_WORD (slice_index s.words NEXT_FREE_WORD + size) (omega (arith, facts.unused.many, marked.checked.program.heap_from)) ∙ ap (λ (n : ℕ). n + size) next_is))
           gets e is = tt
 
     abbrev KnownAt : Option Top → Type 0
-    KnownAt o = more ≡ slice_index (words_after s.words (run_wants c.program x o)) NEXT_FREE_WORD → KnownTop c marked frozen are owning owns (HasClass objects) w next more t was x k is_world fine grows stood (found_by s.words (run_wants c.program x o))
+    KnownAt o = more ≡ slice_index (words_after s.words (run_wants c.program x o)) NEXT_FREE_WORD → KnownTop moving (HasClass objects) (found_by s.words (run_wants c.program x o))
 
-    by_frames : (fs : List Frame) → x.frames ≡ fs → FramesKeep c frozen owning k.now next t Runs fs → FramesHold c (HasClass objects) fs → (at : Top) → top_of c.program fs ≡ Some at → KnownAt (top_of c.program fs)
+    by_frames : (fs : List Frame) → x.frames ≡ fs → FramesIn (in_world building k.now) Runs fs → FramesHold c (HasClass objects) fs → (at : Top) → top_of c.program fs ≡ Some at → KnownAt (top_of c.program fs)
     by_frames [] there kept h at found = absurd (cc)
     by_frames (f ∷ fs) there kept h at found = subst KnownAt (sym (stand_top c marked f fs kept.0.stands)) (known_here f fs there kept.0 kept.1 h.0)
 
     pub run_known : FramesHold c (HasClass objects) x.frames → (at : Top) → top_of c.program x.frames ≡ Some at → KnownAt (top_of c.program x.frames)
-    run_known h at found = by_frames x.frames refl (fits c marked frozen are owning owns w next more t was x k is_world fine grows stood phases.Run is_run).0 h at found
+    run_known h at found = by_frames x.frames refl (fits moving phases.Run is_run).0 h at found

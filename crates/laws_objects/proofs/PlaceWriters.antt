@@ -4,15 +4,16 @@ use Rattle.lists.proofs.ListLaws.{same_some}
 use Rattle.jvm_types.specs.{Members.is_static, ProgramInvariant.{IsTargetOf, instances_among, site_in}, declared.program.FieldInfo.FieldInfo}
 use Rattle.laws_programs.proofs.{ClassTreeLaws.files_alone, CodeOrder.have_targets, FieldOrder.instances_inside}
 use Rattle.checked_program.specs.{MarkedProgram.{MarkedProgram, IsMarked}, TaggedCode.row_of}
-use Rattle.machine_types.specs.{Accesses.{accessed, left_by, words_after}, Core.Core, Effects.effect, Events.wanted}
+use Rattle.machine_types.specs.{Accesses.{accessed, left_by, words_after}, Effects.effect, Events.wanted}
 use Rattle.machine_types.specs.{FoundWords.{Content, IntPlace, ReferencePlace, effect_content, run_content, leave_content, content_at}, Frames.{Top, top_of, effect_at}}
-use Rattle.machine_types.specs.{Instructions.{effect_wants, run_wants}, Lawful.IsLawful, Monitors.{Claim, Has, Tries, HasNot, claim}, PlainMemory.Object, Standing.Standing}
+use Rattle.machine_types.specs.{Instructions.{effect_wants, run_wants}, Monitors.{Claim, Has, Tries, HasNot, claim}, PlainMemory.Object, Standing.Standing}
 use Rattle.machine_types.specs.{Structure.{IsStructured, Stands, TopIs, is_element_op}, Threads.{Frame, Thread}, Typed.{FramesHold, HasClass, HasElementIn, ElementStands, PhaseHolds}}
 use Rattle.machine_types.specs.{Words.variable_word, declared.{access.Access.{Access, TheVariants.Store}, effect.{Effect.{Effect, TheVariants.{Reads, Writes}}, Variable.Variable}, lock.Kept.Kept}}
 use Rattle.machine_types.specs.declared.phase.Phase.{Phase}
 use Rattle.laws_threads.{specs.Allowed.{IsOf, IsNamedField, Allowed}, proofs.{Landing.stand_top, Standings.top_here, TopEffects.allowed_here}}
-use Rattle.laws_states.{specs.{HeapFacts.HeapFacts, SiteLaws.{EventsReachSites, SitesDiffer, SitesLieInside}, Sites.{Site, ValueOf, StaticAt, site_word, IsThere, Suits}}, proofs.Accesses.out_there}
-use Rattle.laws_states.proofs.{EventWords.{IsLeft, word_at}, LeftStands.loaded, Lists.contained_got, Movers.{known_sites, heap_mover}}
+use Rattle.laws_states.{specs.Sites.{Site, ValueOf, StaticAt, site_word, IsThere, Suits}, proofs.Accesses.out_there}
+use Rattle.laws_states.proofs.{EventWords.{IsLeft, word_at}, LeftStands.loaded, Lists.contained_got, Movers.{HeapState, HeapMover, KnownSites, heap_mover}}
+use Rattle.laws_objects.proofs.Buildings.{BuiltState}
 use Rattle.jvm_types.specs.declared.program.Target.TheVariants as targets
 use Rattle.machine_types.specs.declared.lock.Kept.TheVariants as keeps
 use Rattle.machine_types.specs.declared.phase.Phase.TheVariants as phases
@@ -56,7 +57,9 @@ names_field c f k number marked named =
 
 -- ---- the place of an instance field
 
-module _ (c : MarkedProgram) (objects : List Object) (s : Core) (marked : IsMarked c) (heap : HeapFacts c objects s) where
+module _ (state : HeapState) where
+  open state use {c, marked, objects, s, facts as heap}
+
   pub has_field : (e : Object) (number : ℕ) (f : FieldInfo) → Contains objects e → slice_get c.program.fields number ≡ Some f → is_static f.flags ≡ false → e.class ≡ f.class → f.index < length e.values
   has_field e number f k g flag same =
       let from = (marked.checked.program.fields number f g).class.0 in
@@ -89,51 +92,79 @@ pub record IsWriter (IsSuch : Frame → Type 0) (x : Thread) : Type 0 where
   pub runs : x.phase ≡ phases.Run
   pub top : TopWrites IsSuch x.frames
 
--- or one that stores an element, which gives Stored
-module _ (differ : SitesDiffer) (c : MarkedProgram) (objects : List Object) (s : Core) (t : ℕ) (x : Thread) (marked : IsMarked c) (heap : HeapFacts c objects s) (there : slice_get s.threads t ≡ Some x)
-    (place : Site) (is_place : IsPlace place) (is_there : IsThere c.program objects s place) (IsSuch : Frame → Type 0) (Stored : Type 0)
-    (writes : (f : Frame) (k : Standing c f) (v : Variable) (n : ℕ) (e : effect c.program k.insn.next k.target k.insn.op f.locals f.stack ≡ Writes v n) (g : FieldInfo) → IsNamedField c.program (HasClass objects) k.target v g
-    → variable_word v ≡ site_word place → IsSuch f)
-    (stores : (w v : ℕ) → x.phase ≡ phases.Element w (Some v) → FramesHold c (HasClass objects) x.frames → TopIs c (is_element_op (Some v)) x.frames → HasElementIn objects (Some v) x.frames → ElementStands w (Some v) x.frames → w ≡ site_word place → Stored) where
-  -- ---- an instruction
+-- ---- an event, and what is known of sites
 
-  module _ (access : Access) (got : ℕ) (word : accessed access ≡ site_word place) where
-    run_writes : (fs : List Frame) → FramesHold c (HasClass objects) fs → run_wants c.program x (top_of c.program fs) ≡ Some access → IsOfPlace (run_content c.program (top_of c.program fs))
-        → (left_by access got ≡ got) ⊎ TopWrites IsSuch fs
-    run_writes [] h w is = absurd is
-    run_writes (f ∷ fs) h w is =
-        let k = h.0.stands in
-        let top : top_of c.program (f ∷ fs) ≡ Some (top_here c f fs k) = stand_top c marked f fs k in
-        let out = out_there c marked objects s heap in
-        by_effect k (effect_at c.program (top_here c f fs k)) refl (allowed_here c marked (HasClass objects) out f h.0) (ap (run_wants c.program x) (sym top) ∙ w) (subst (λ (at : Option Top). IsOfPlace (run_content c.program at)) top is)
-      where
-        by_effect : (k : Standing c f) (e : Effect) → effect_at c.program (top_here c f fs k) ≡ e → Allowed c.program k.method (HasClass objects) k.insn k.target (row_of c.program k.method k.insn k.target) f.stack e
-            → effect_wants x f.pc e ≡ Some access → IsOfPlace (effect_content c.program k.target e) → (left_by access got ≡ got) ⊎ TopWrites IsSuch (f ∷ fs)
-        by_effect k (Reads v) e a w is = inl (loaded (λ n. n ≡ got) access got refl _ w)
-        by_effect k (Writes v n) e a w is =
-            let same : Store (variable_word v) n ≡ access = same_some w in
-            inr (writes f k v n e a.1 a.2 (ap accessed same ∙ word))
-        by_effect k e e' a w is = absurd is
+pub record PlaceEvent : Type 0 where
+  pub sites : KnownSites
+  pub mover : HeapMover
+  pub was : Phase
+  pub structured : IsStructured mover.state.c was mover.x
 
-    -- ---- all phases
+-- the same in a state that construction holds of
+pub record BuiltEvent : Type 0 where
+  pub sites : KnownSites
+  pub state : BuiltState
+  pub open state use *
+  pub t : ℕ
+  pub x : Thread
+  pub there : slice_get s.threads t ≡ Some x
 
-    phase_writes : (phase : Phase) → x.phase ≡ phase → wanted c x phase ≡ Some access → IsOfPlace (content_at c x phase) → PhaseHolds c (HasClass objects) phase x.frames
-        → ((w v : ℕ) → phase ≡ phases.Element w (Some v) → TopIs c (is_element_op (Some v)) x.frames) → (left_by access got ≡ got) ⊎ IsWriter IsSuch x ⊎ Stored
-    phase_writes phases.Run e w is h top = by_top (run_writes x.frames h w is)
-      where
-        by_top : (left_by access got ≡ got) ⊎ TopWrites IsSuch x.frames → (left_by access got ≡ got) ⊎ IsWriter IsSuch x ⊎ Stored
-        by_top (inl same) = inl same
-        by_top (inr k) = inr (inl (record { runs = e; top = k }))
-    phase_writes (phases.Element n None) e w is h top = inl (loaded (λ n. n ≡ got) access got refl n w)
-    phase_writes (phases.Element n (Some v)) e w is h top =
-        let same : Store n v ≡ access = same_some w in
-        inr (inr (stores n v e h.1 (top n v refl) (heap.typed.elements t x n (Some v) there e) h.0 (ap accessed same ∙ word)))
-    phase_writes (phases.Leave m after) e w is h top = absurd (leave_of_none (claim x m) is)
-    phase_writes phase e w is h top = absurd is
+abbrev pub place_event : BuiltEvent → PlaceEvent
+place_event e = record {
+  sites = e.sites;
+  mover = heap_mover e.c e.marked e.objects e.s e.facts.heap e.t e.x e.there (e.facts.threads.lawful e.t e.x e.there);
+  was = e.was e.t;
+  structured = e.facts.structure e.t e.x e.there;
+}
 
-  -- ---- the word is as it was, or the thread writes the place
+module _ (event : PlaceEvent) where
+  open event use {sites, mover, was, structured}
+  open event.mover use {t, x, there}
+  open event.mover.state use {c, marked, objects, s, facts as heap}
 
-  module _ (inside : SitesLieInside) (reach : EventsReachSites) (lawful : IsLawful c x) (was : Phase) (structured : IsStructured c was x) where
+  -- a frame that writes the word of the place is such a one
+  abbrev pub Write : Site → (Frame → Type 0) → Type 0
+  Write place IsSuch =
+      (f : Frame) (k : Standing c f) (v : Variable) (n : ℕ) (e : effect c.program k.insn.next k.target k.insn.op f.locals f.stack ≡ Writes v n) (g : FieldInfo) → IsNamedField c.program (HasClass objects) k.target v g
+      → variable_word v ≡ site_word place → IsSuch f
+
+  -- or one that stores an element, which gives Stored
+  module _ (place : Site) (is_place : IsPlace place) (is_there : IsThere c.program objects s place) (IsSuch : Frame → Type 0) (Stored : Type 0) (writes : Write place IsSuch)
+      (stores : (w v : ℕ) → x.phase ≡ phases.Element w (Some v) → FramesHold c (HasClass objects) x.frames → TopIs c (is_element_op (Some v)) x.frames → HasElementIn objects (Some v) x.frames → ElementStands w (Some v) x.frames → w ≡ site_word place → Stored) where
+    -- ---- an instruction
+
+    module _ (access : Access) (got : ℕ) (word : accessed access ≡ site_word place) where
+      run_writes : (fs : List Frame) → FramesHold c (HasClass objects) fs → run_wants c.program x (top_of c.program fs) ≡ Some access → IsOfPlace (run_content c.program (top_of c.program fs))
+          → (left_by access got ≡ got) ⊎ TopWrites IsSuch fs
+      run_writes [] h w is = absurd is
+      run_writes (f ∷ fs) h w is =
+          let k = h.0.stands in
+          let top : top_of c.program (f ∷ fs) ≡ Some (top_here c f fs k) = stand_top c marked f fs k in
+          let out = out_there c marked objects s heap in
+          by_effect k (effect_at c.program (top_here c f fs k)) refl (allowed_here c marked (HasClass objects) out f h.0) (ap (run_wants c.program x) (sym top) ∙ w) (subst (λ (at : Option Top). IsOfPlace (run_content c.program at)) top is)
+        where
+          by_effect : (k : Standing c f) (e : Effect) → effect_at c.program (top_here c f fs k) ≡ e → Allowed c.program k.method (HasClass objects) k.insn k.target (row_of c.program k.method k.insn k.target) f.stack e
+              → effect_wants x f.pc e ≡ Some access → IsOfPlace (effect_content c.program k.target e) → (left_by access got ≡ got) ⊎ TopWrites IsSuch (f ∷ fs)
+          by_effect k (Reads v) e a w is = inl (loaded (λ n. n ≡ got) access got refl _ w)
+          by_effect k (Writes v n) e a w is =
+              let same : Store (variable_word v) n ≡ access = same_some w in
+              inr (writes f k v n e a.1 a.2 (ap accessed same ∙ word))
+          by_effect k e e' a w is = absurd is
+
+      -- ---- all phases
+
+      phase_writes : (phase : Phase) → x.phase ≡ phase → wanted c x phase ≡ Some access → IsOfPlace (content_at c x phase) → PhaseHolds c (HasClass objects) phase x.frames
+          → ((w v : ℕ) → phase ≡ phases.Element w (Some v) → TopIs c (is_element_op (Some v)) x.frames) → (left_by access got ≡ got) ⊎ IsWriter IsSuch x ⊎ Stored
+      phase_writes phases.Run e w is h top = elim (run_writes x.frames h w is) [ inl same ↦ inl same | inr k ↦ inr (inl (record { runs = e; top = k })) ]
+      phase_writes (phases.Element n None) e w is h top = inl (loaded (λ n. n ≡ got) access got refl n w)
+      phase_writes (phases.Element n (Some v)) e w is h top =
+          let same : Store n v ≡ access = same_some w in
+          inr (inr (stores n v e h.1 (top n v refl) (heap.typed.elements t x n (Some v) there e) h.0 (ap accessed same ∙ word)))
+      phase_writes (phases.Leave m after) e w is h top = absurd (leave_of_none (claim x m) is)
+      phase_writes phase e w is h top = absurd is
+
+    -- ---- the word is as it was, or the thread writes the place
+
     abbrev pub Stays : Type 0
     Stays = slice_index (words_after s.words (wanted c x x.phase)) (site_word place) ≡ slice_index s.words (site_word place)
 
@@ -151,37 +182,15 @@ module _ (differ : SitesDiffer) (c : MarkedProgram) (objects : List Object) (s :
         by_write (inr wrote) = inr wrote
 
     pub place_changer : Stays ⊎ IsWriter IsSuch x ⊎ Stored
-    place_changer = by_word (word_at (heap_mover c marked objects s heap t x there lawful) (known_sites differ inside reach) place is_there)
-      where
-        by_word : Stays ⊎ IsLeft c s.words x place → Stays ⊎ IsWriter IsSuch x ⊎ Stored
-        by_word (inl e) = inl e
-        by_word (inr k) = by_left k
+    place_changer = elim (word_at mover sites place is_there) [ inl e ↦ inl e | inr k ↦ by_left k ]
 
--- of a place that is no element
-module _ (differ : SitesDiffer) (c : MarkedProgram) (objects : List Object) (s : Core) (t : ℕ)
-    (x : Thread) (marked : IsMarked c) (heap : HeapFacts c objects s)
-    (there : slice_get s.threads t ≡ Some x)
-    (place : Site) (is_place : IsPlace place) (is_there : IsThere c.program objects s place)
-    (IsSuch : Frame → Type 0)
-    (writes : (f : Frame) (k : Standing c f) (v : Variable) (n : ℕ)
-    (e : effect c.program k.insn.next k.target k.insn.op f.locals f.stack ≡ Writes v n)
-    (g : FieldInfo) → IsNamedField c.program (HasClass objects) k.target v g
-    → variable_word v ≡ site_word place → IsSuch f)
-    (no_element : (fs : List Frame) (w v : ℕ) → FramesHold c (HasClass objects) fs
-    → TopIs c (is_element_op (Some v)) fs → HasElementIn objects (Some v) fs
-    → ElementStands w (Some v) fs → w ≡ site_word place → ⊥)
-    (inside : SitesLieInside) (reach : EventsReachSites) (lawful : IsLawful c x) (was : Phase)
-    (structured : IsStructured c was x) where
-  pub place_writer : (slice_index (words_after s.words (wanted c x x.phase))
-      (site_word place) ≡ slice_index s.words (site_word place)) ⊎ IsWriter IsSuch x
-  place_writer = by_change (place_changer differ c objects s t x marked heap there place is_place
-      is_there IsSuch ⊥ writes (λ w v e. no_element x.frames w v) inside reach lawful was
-      structured)
-    where
-      by_change : (slice_index (words_after s.words (wanted c x x.phase))
-          (site_word place) ≡ slice_index s.words (site_word place)) ⊎ IsWriter IsSuch x ⊎ ⊥
-          → (slice_index (words_after s.words (wanted c x x.phase))
-          (site_word place) ≡ slice_index s.words (site_word place)) ⊎ IsWriter IsSuch x
-      by_change (inl e) = inl e
-      by_change (inr (inl writer)) = inr writer
-      by_change (inr (inr none)) = absurd none
+  -- of a place that is no element
+  module _ (place : Site) (is_place : IsPlace place) (is_there : IsThere c.program objects s place) (IsSuch : Frame → Type 0) (writes : Write place IsSuch)
+      (no_element : (fs : List Frame) (w v : ℕ) → FramesHold c (HasClass objects) fs → TopIs c (is_element_op (Some v)) fs → HasElementIn objects (Some v) fs → ElementStands w (Some v) fs → w ≡ site_word place → ⊥) where
+    pub place_writer : (slice_index (words_after s.words (wanted c x x.phase)) (site_word place) ≡ slice_index s.words (site_word place)) ⊎ IsWriter IsSuch x
+    place_writer = by_change (place_changer place is_place is_there IsSuch ⊥ writes (λ w v e. no_element x.frames w v))
+      where
+        by_change : Stays place is_place is_there IsSuch ⊥ writes (λ w v e. no_element x.frames w v) ⊎ IsWriter IsSuch x ⊎ ⊥ → (slice_index (words_after s.words (wanted c x x.phase)) (site_word place) ≡ slice_index s.words (site_word place)) ⊎ IsWriter IsSuch x
+        by_change (inl e) = inl e
+        by_change (inr (inl writer)) = inr writer
+        by_change (inr (inr none)) = absurd none

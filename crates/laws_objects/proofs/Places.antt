@@ -5,18 +5,17 @@ use Rattle.lists.proofs.ListLaws.{same_some}
 use Rattle.jvm_types.specs.{Members.is_static, ProgramInvariant.{IsProgram, words_of, instances_among}, declared.{class_numbers.TheConstants.INT_ARRAY_CLASS, code.Insn.Insn}}
 use Rattle.jvm_types.specs.declared.{fixed_words.TheConstants.{NEXT_FREE_WORD, NEXT_TICKET_WORD}, op_row.OpRow.OpRow, program.{FieldInfo.FieldInfo, Kind.Kind, MethodInfo.MethodInfo, Target.Target}}
 use Rattle.laws_programs.proofs.{ClassTreeLaws.files_alone, FieldOrder.{instances_inside, one_instance_field, one_static_field}}
-use Rattle.checked_program.specs.MarkedProgram.{MarkedProgram, IsMarked}
-use Rattle.machine_types.specs.{Accesses.words_after, Construction.{Owning, KindKeeps, PlaceStores, PlacesKeep}, Core.Core, Elision.looks, Events.element_wants}
+use Rattle.machine_types.specs.{Accesses.words_after, Construction.{Owning, KindKeeps, PlaceStores, PlacesKeep}, Elision.looks, Events.element_wants}
 use Rattle.machine_types.specs.{FoundWords.{Content, IntPlace, ReferencePlace, leave_content}, Instructions.{has_print_left, effect_wants}, Monitors.{Claim, Has, Tries, HasNot}, NewObjects.size_by}
 use Rattle.machine_types.specs.{OwnedPlaces.Stores, PlainMemory.{Object, new_object}, StartLaws.StartLiesApart, Threads.{Attempt, Thread}, Typed.HasClass}
 use Rattle.machine_types.specs.{Words.{header_word, header_class, value_word, variable_word, object_size, array_size}, Worlds.{World, IsFinished, IsWorld, GoesOn}, declared.access.Access.Access}
 use Rattle.machine_types.specs.declared.{access.Access.TheVariants.{Load, Store, Cas, Add, Or, And, Rest}, effect.Effect.Effect}
 use Rattle.machine_types.specs.declared.effect.{Effect.TheVariants.{Goes, Reads, Writes, Indexes, Measures, Raises, Makes, Prints, Calls}, Variable.{Variable, TheVariants.{Instance, Static}}}
-use Rattle.machine_types.specs.declared.{lock.Kept.Kept}
+use Rattle.machine_types.specs.declared.lock.Kept.{Kept}
 use Rattle.laws_threads.{specs.Allowed.{IsNamedField, Allowed}, proofs.MonitorMoves.contains_got}
-use Rattle.laws_states.specs.{HeapFacts.HeapFacts, Sites.{Site, Counter, OwnerOf, BitsOf, LockOf, HeaderOf, ValueOf, NewHeaderOf, StaticAt, site_word, IsThere, Suits, ReachesIf}}
-use Rattle.laws_states.proofs.{Accesses.ElementSite, Lists.{contained_got, contains_more, same_or_not, set_here, set_there}, Places.same_object, Sites.{sites_apart, sites_inside}, WordViews.set_self}
-use Rattle.laws_objects.proofs.{BuiltEffects.KindOld, Onwards.first_finished, Views.finished_on}
+use Rattle.laws_states.specs.Sites.{Site, Counter, ValueOf, NewHeaderOf, StaticAt, site_word, IsThere, Suits, ReachesIf}
+use Rattle.laws_states.proofs.{Accesses.ElementSite, Movers.HeapState, Lists.{contained_got, contains_more, same_or_not, set_here, set_there}, Places.same_object, Sites.{sites_apart, sites_inside}, WordViews.set_self}
+use Rattle.laws_objects.proofs.{Buildings.first_finished, BuiltEffects.KindOld, Views.finished_on}
 use Rattle.jvm_types.specs.declared.program.Kind.TheVariants as kinds
 use Rattle.machine_types.specs.Words as words
 use Rattle.machine_types.specs.declared.lock.Kept.TheVariants as keeps
@@ -37,11 +36,25 @@ leave_plain (Has h) = by_kept h.kept
 leave_plain (Tries a) = tt
 leave_plain HasNot = tt
 
--- own, after: what is owned, and what was stored before the event and behind it
-module _ (lies : StartLiesApart) (c : MarkedProgram) (marked : IsMarked c) (objects : List Object) (s : Core) (facts : HeapFacts c objects s) (own : Owning) (after : Stores) (w later : World) (more t : ℕ) (goes : GoesOn w later (slice_index s.words NEXT_FREE_WORD) more t 0)
-    (places : PlacesKeep c own w (slice_index s.words NEXT_FREE_WORD) objects s.words)
-    (on : (word : ℕ) (owned : Bool) (kind : Kind) (v : ℕ) → KindKeeps w (slice_index s.words NEXT_FREE_WORD) kind v → PlaceStores own.stores word owned kind v → PlaceStores after word owned kind v)
-    (arrays_are : (v word : ℕ) → after v ≡ Some word → (o : Object) × (Contains objects o) × (o.reference ≡ v) × (o.class ≡ INT_ARRAY_CLASS)) where
+-- an event, in a world: what is owned, and what was stored before it and behind it
+pub record PlaceChange : Type 0 where
+  pub lies : StartLiesApart
+  pub heap : HeapState
+  pub open heap use *
+  pub own : Owning
+  pub after : Stores
+  pub w : World
+  pub later : World
+  pub more : ℕ
+  pub t : ℕ
+  pub goes : GoesOn w later (slice_index s.words NEXT_FREE_WORD) more t 0
+  pub places : PlacesKeep c own w (slice_index s.words NEXT_FREE_WORD) objects s.words
+  pub on : (word : ℕ) (owned : Bool) (kind : Kind) (v : ℕ) → KindKeeps w (slice_index s.words NEXT_FREE_WORD) kind v → PlaceStores own.stores word owned kind v → PlaceStores after word owned kind v
+  pub arrays_are : (v word : ℕ) → after v ≡ Some word → (o : Object) × (Contains objects o) × (o.reference ≡ v) × (o.class ≡ INT_ARRAY_CLASS)
+
+module _ (change : PlaceChange) where
+  open change use {lies, c, marked, objects, s, facts, own, after, w, later, more, t, goes, places, on, arrays_are}
+
   is_program : IsProgram c.program
   is_program = marked.checked.program
 
@@ -117,14 +130,9 @@ module _ (lies : StartLiesApart) (c : MarkedProgram) (marked : IsMarked c) (obje
   plain_left : (content : Content) (site : Site) (v : ℕ) → IsPlain content → Suits content site → LeftKeeps site v
   plain_left IntPlace site v p u = absurd p
   plain_left ReferencePlace site v p u = absurd p
-  plain_left content (Counter word) v p u = tt
-  plain_left content (OwnerOf r) v p u = tt
-  plain_left content (BitsOf r) v p u = tt
-  plain_left content (LockOf a) v p u = tt
-  plain_left content (HeaderOf a) v p u = tt
-  plain_left content (NewHeaderOf a) v p u = tt
   plain_left content (ValueOf a i) v p u = absurd u
   plain_left content (StaticAt word) v p u = absurd u
+  plain_left content site v p u = tt
 
   pub plain : (content : Content) → IsPlain content → (access : Option Access) → ReachesIf c.program objects s content access → Behind (words_after s.words access)
   plain content p None r = same_words
@@ -192,11 +200,7 @@ module _ (lies : StartLiesApart) (c : MarkedProgram) (marked : IsMarked c) (obje
   WritesFine target e = Unit {0}
 
   pub effect_places : (x : Thread) (m : MethodInfo) (insn : Insn) (target : Target) (r : OpRow) (stack : List ℕ) (pc : ℕ) (e : Effect) → Allowed c.program m (HasClass objects) insn target r stack e → WritesFine target e → Behind (words_after s.words (effect_wants x pc e))
-  effect_places x m insn target r stack pc (Goes to made) al left = by_test (nat_le to pc)
-    where
-      by_test : (b : Bool) → Behind (words_after s.words (if b then looks x.attempt else None))
-      by_test true = looked x.attempt
-      by_test false = same_words
+  effect_places x m insn target r stack pc (Goes to made) al left = elim (nat_le to pc) as (λ (b : Bool). Behind (words_after s.words (if b then looks x.attempt else None))) [ true ↦ looked x.attempt | false ↦ same_words ]
   effect_places x m insn target r stack pc (Calls number) al left = looked x.attempt
   effect_places x m insn target r stack pc (Reads v) al left = loaded (variable_word v)
   effect_places x m insn target r stack pc (Writes v n) al left = field_written target v al.1 n al.2 left

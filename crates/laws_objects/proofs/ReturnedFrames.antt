@@ -1,21 +1,23 @@
 -- A return: the caller goes on behind its call. Where an `<init>` of a frozen class returns, its object is finished.
-use Rattle.std.proofs.Common.{◌≡◌, ◌≢◌, ℕ, zero, suc, ◌+◌, ◌<◌, ◌⊎◌, inl, inr, Bool, true, false, not, ◌&&◌, List, [], ◌∷◌, ◌++◌, length, map, drop, Option, Some, None, refl, sym, ap, ◌∙◌, subst, arith, ◌==◌, slice_get, slice_index_or}
-use Rattle.std.{specs.{List.AllByRecursion, Option.{option_map, option_to_list}}, proofs.lemmas.Bool.{or_parts, eq-eqb, eqb-true, ne_eqb, Decides.nat_tests}}
+use Rattle.std.proofs.Common.{◌≡◌, ◌≢◌, ℕ, zero, suc, ◌+◌, ◌⊎◌, inl, inr, Bool, true, false, not, ◌&&◌, List, [], ◌∷◌, ◌++◌, length, map, drop, Option, Some, None, refl, sym, ap, ◌∙◌, subst, arith, ◌==◌, slice_get, slice_index_or}
+use Rattle.std.{specs.{List.AllByRecursion, Option.{option_map, option_to_list}}, proofs.lemmas.Bool.{or_parts, eq-eqb, eqb-true, ne_eqb}}
 use Rattle.lists.proofs.{ListLaws.same_some, TestLaws.is_true}
 use Rattle.jvm_types.specs.{CodeTable.{type_of, arguments, is_init, result_of, value_of, stack_after, locals_after, row}, Members.is_static, Numbers.has_number, Types.{TypeFrame, is_below}}
-use Rattle.jvm_types.specs.{Verifying.{suits, some_taken, new_class, is_class_of, started, initialised, after_start, frame_after, edges, is_return}, declared.{code.Op.Op, op_row.Given.Given}}
-use Rattle.jvm_types.specs.declared.{op_row.{Given.TheVariants.{Fresh as Anew}, OpRow.OpRow, Want.{Want, TheVariants.{AnyValue, AnInt, AnObject, AnyReference, AHolder, ToStart}}}, program.Kind.Kind}
+use Rattle.jvm_types.specs.{Verifying.{suits, some_taken, new_class, started, initialised, after_start, frame_after, edges, is_return}, declared.{code.Op.Op, op_row.Given.Given}}
+use Rattle.jvm_types.specs.declared.{op_row.{Given.TheVariants.Fresh as Anew, OpRow.OpRow, Want.{Want, TheVariants.{AnInt, AnObject, ToStart}}}, program.Kind.Kind}
 use Rattle.jvm_types.specs.declared.{code.Insn.Insn, program.{MethodInfo.MethodInfo, Target.Target}, typing.VType.VType}
 use Rattle.laws_programs.{specs.RuleLaws.{ReturnsWell, ReturnsTop}, proofs.RuleUses.returns_suit_all}
-use Rattle.checked_program.specs.{CheckedLaws.receiver_want, Colours.is_read_of, LockTags.TagShape, MarkedProgram.{MarkedProgram, IsMarked}, Marks.called_method, TaggedCode.IsAt, Tagging.{moved_tags, tags_after}, declared.tag.Tag.{Tag, TheVariants.Untagged}}
-use Rattle.machine_types.specs.Construction.{Owning, AreOwned, puts_owned, AreFrozen, is_frozen_class, builds, makes_frozen, if_so, SlotsAre, Runs, WaitsFor, FreshAtCall, IsFresh, ReceiverIs, SlotOf, IsNoStored, IsArraySlot, SlotsFrom, FrameKeeps, WaitKeeps, KeepBelow, FramesKeep}
-use Rattle.machine_types.specs.{Frames.given_back, Lawful.within, OwnedPlaces.IsStoredNowhere, Standing.{Standing, row_at, tags_of}, Threads.Frame, Worlds.{Made, Begun, Builder, builder, World, IsFinished}}
-use Rattle.laws_threads.{specs.Allowed.OneOf, proofs.{Callers.{call_edge, row_of_call}, Calls.CallRow, FrameMoves.edge_fits, Landing.rules_at, Typing.edge_at}}
-use Rattle.laws_objects.proofs.ArrayMoves.{GivenClean, WriteClean, SourceFine, stack_clean, each_source, dropped_at}
-use Rattle.laws_objects.proofs.{ArrayFrames.takes_clean, ArraySlots.{IsStart, each_from, no_stored_along, array_along, stack_begun, locals_begun}, PutPlaces.edge_plain}
-use Rattle.laws_objects.proofs.{BuiltEffects.{KindOld, StartsNone}, CalledFrames.{call_takes, below_moved, arguments_start, none_started, none_append}, KeptFrames.{below_kept, plain_stack}, Landing.{land, joined_onward}}
-use Rattle.laws_objects.proofs.{Moves.{Steps, stays, StartsOld, StartsYoung, Starts, starts, is_start, Suit, suit_at, tags_fine, old_started, slots_finished}, Operands.{TakenOld, takes_any, no_getfield, takes_old}}
-use Rattle.laws_objects.proofs.{Slots.{slots_map, slots_long, slot_later, made_slot}, WorldChanges.{without, without_gone, without_keeps, without_none, world_without, goes_without, lost_without}}
+use Rattle.checked_program.specs.{CheckedLaws.receiver_want, Colours.is_read_of, LockTags.TagShape, Marks.called_method, TaggedCode.IsAt, Tagging.moved_tags, declared.tag.Tag.{Tag, TheVariants.Untagged}}
+use Rattle.machine_types.specs.Construction.{puts_owned, builds, makes_frozen, if_so, SlotsAre, Runs, WaitsFor, FreshAtCall, IsFresh, ReceiverIs, SlotOf, IsNoStored, IsArraySlot, SlotsFrom}
+use Rattle.machine_types.specs.{Frames.given_back, OwnedPlaces.IsStoredNowhere, Standing.{Standing, row_at, tags_of}, Threads.Frame, Worlds.{Made, Begun, Builder, builder, World, IsFinished}}
+use Rattle.laws_threads.proofs.{Callers.{call_edge, row_of_call}, Calls.CallRow, Landing.rules_at, TopEffects.number_in}
+use Rattle.laws_objects.proofs.{ArrayFrames.takes_clean, ArrayMoves.{GivenClean, WriteClean, SourceFine, stack_clean, each_source, dropped_at}}
+use Rattle.laws_objects.proofs.ArraySlots.{IsStart, each_from, no_stored_along, array_along, stack_begun, locals_begun}
+use Rattle.laws_objects.proofs.{Buildings.{Building, LawfulBuilding, in_world, FrameIn, WaitIn, BelowIn, FramesIn, null, inside}, BuiltEffects.{KindOld, StartsNone}}
+use Rattle.laws_objects.proofs.{CalledFrames.{call_takes, below_moved, arguments_start, none_started, none_append}, Calling.class_frozen, KeptFrames.{below_kept, plain_stack}}
+use Rattle.laws_objects.proofs.Moves.{Steps, stays, StartsOld, StartsYoung, Starts, starts, is_start, Suit, suit_at, tags_fine, old_started, lands_behind, slots_finished}
+use Rattle.laws_objects.proofs.{Operands.{TakenOld, takes_any, no_getfield, takes_old}, PutPlaces.edge_plain, Slots.{slots_map, slots_long, slot_later, made_slot}}
+use Rattle.laws_objects.proofs.WorldChanges.{without, without_gone, without_keeps, without_none, world_without, goes_without, lost_without}
 use Rattle.jvm_types.specs.declared.code.Op.TheVariants as ops
 use Rattle.jvm_types.specs.declared.program.Kind.TheVariants as kinds
 use Rattle.jvm_types.specs.declared.typing.VType.TheVariants as types
@@ -38,7 +40,9 @@ top_result m Old R (u ∷ us) gs [] w slots k = absurd (none gs slots)
     none (g ∷ gs) h = h
 top_result m Old R (u ∷ us) gs (a ∷ s) w slots k = (a, s, refl, subst (λ (o : Option Kind). ResultOld Old o (a ∷ [])) (sym w.described) (k w.kind a s w.described refl))
 
-module _ (c : MarkedProgram) (marked : IsMarked c) (frozen : ℕ → Bool) (are : AreFrozen c frozen) (owning : Owning) (owns : AreOwned c owning.owned) (w : World) (next t h : ℕ) (null : IsFinished w next 0) (f : Frame) (k : FrameKeeps c frozen owning w next t h Runs f) where
+module _ (building : Building) (h : ℕ) (null : IsFinished building.w building.next 0) (f : Frame) (k : FrameIn building h Runs f) where
+  open building use {c, marked, frozen, owning, w, next, t}
+
   abbrev m : MethodInfo
   m = k.stands.method
 
@@ -52,7 +56,7 @@ module _ (c : MarkedProgram) (marked : IsMarked c) (frozen : ℕ → Bool) (are 
       → Suit m (row c.program m k.stands.insn.pc k.stands.target op).takes k.stands.types.stack → ResultOld Old m.result (given_back op f.stack)
   result_of_op Old ops.Return r well plain old suit = subst (λ (o : Option Kind). ResultOld Old o []) (sym well) tt
   result_of_op Old ops.Ireturn r well plain old suit =
-      let top = top_result m Old (SlotOf frozen w next t h Runs m f.receiver) k.stands.types.stack k.stands.tags.stack f.stack well (plain_stack c frozen owning w next t h f k plain) (λ kind a rest e s. an_int kind a e) in
+      let top = top_result m Old (SlotOf frozen w next t h Runs m f.receiver) k.stands.types.stack k.stands.tags.stack f.stack well (plain_stack building h f k plain) (λ kind a rest e s. an_int kind a e) in
       subst (λ (s : List ℕ). ResultOld Old m.result (given_back ops.Ireturn s)) (sym top.2) top.3
     where
       an_int : (kind : Kind) (a : ℕ) → m.result ≡ Some kind → KindOld Old kind a
@@ -62,11 +66,7 @@ module _ (c : MarkedProgram) (marked : IsMarked c) (frozen : ℕ → Bool) (are 
         where
           below_both : (u : VType) → is_below u types.Int ≡ true → is_below u (types.Ref class) ≡ true → ⊥
           below_both types.Int i b = cc
-          below_both types.Null i b = cc
-          below_both types.This i b = cc
-          below_both types.Top i b = cc
-          below_both (types.Ref d) i b = cc
-          below_both (types.New q) i b = cc
+          below_both u i b = cc
 
           no_reference : (us : List VType) → ReturnsTop m us → Suit m (AnInt ∷ []) us → ⊥
           no_reference [] w s = (let e = w.top in cc)
@@ -76,7 +76,7 @@ module _ (c : MarkedProgram) (marked : IsMarked c) (frozen : ℕ → Bool) (are 
               let int : is_below u types.Int ≡ true = is_true (is_below u types.Int) (or_parts (not (is_below u types.Int)) (some_taken (λ want t. not (suits m want t)) [] us) s).0 in
               below_both u int (subst (λ (x : VType). is_below x (types.Ref class) ≡ true) (sym same) (subst (λ (x : Kind). is_below w.type (type_of x) ≡ true) kind w.fits))
   result_of_op Old ops.Areturn r well plain old suit =
-      let top = top_result m Old (SlotOf frozen w next t h Runs m f.receiver) k.stands.types.stack k.stands.tags.stack f.stack well (plain_stack c frozen owning w next t h f k plain) (λ kind a rest e s. an_object kind a rest s (subst (λ (o : Option Kind). TakenOld Old (Rattle.jvm_types.specs.CodeTable.returned_want o ∷ []) f.stack) e old)) in
+      let top = top_result m Old (SlotOf frozen w next t h Runs m f.receiver) k.stands.types.stack k.stands.tags.stack f.stack well (plain_stack building h f k plain) (λ kind a rest e s. an_object kind a rest s (subst (λ (o : Option Kind). TakenOld Old (Rattle.jvm_types.specs.CodeTable.returned_want o ∷ []) f.stack) e old)) in
       subst (λ (s : List ℕ). ResultOld Old m.result (given_back ops.Areturn s)) (sym top.2) top.3
     where
       an_object : (kind : Kind) (a : ℕ) (rest : List ℕ) → f.stack ≡ a ∷ rest → TakenOld Old (Rattle.jvm_types.specs.CodeTable.returned_want (Some kind) ∷ []) f.stack → KindOld Old kind a
@@ -100,12 +100,12 @@ module _ (c : MarkedProgram) (marked : IsMarked c) (frozen : ℕ → Bool) (are 
   pub result_old : is_return k.stands.insn.op ≡ true → ResultOld (IsFinished w next) m.result (given_back k.stands.insn.op f.stack)
   result_old r =
       let plain = return_stores k.stands.insn.op k.stands.target r in
-      result_of_op (IsFinished w next) k.stands.insn.op r returns_well plain (takes_old c marked frozen are owning owns w next t h f k null (no_getfield k.stands.insn.op (return_takes k.stands.insn.op r)) plain) (suit_at c marked f k.stands)
+      result_of_op (IsFinished w next) k.stands.insn.op r returns_well plain (takes_old building h f k null (no_getfield k.stands.insn.op (return_takes k.stands.insn.op r)) plain) (suit_at c marked f k.stands)
 
   -- and was stored nowhere
-  pub result_clean : owning.stores 0 ≡ None → is_return k.stands.insn.op ≡ true → ResultOld (IsStoredNowhere owning.stores) m.result (given_back k.stands.insn.op f.stack)
-  result_clean unstored r =
-      result_of_op (IsStoredNowhere owning.stores) k.stands.insn.op r returns_well (return_stores k.stands.insn.op k.stands.target r) (takes_clean c marked frozen owning unstored w next t h f k (return_takes k.stands.insn.op r)) (suit_at c marked f k.stands)
+  pub result_clean : is_return k.stands.insn.op ≡ true → ResultOld (IsStoredNowhere owning.stores) m.result (given_back k.stands.insn.op f.stack)
+  result_clean r =
+      result_of_op (IsStoredNowhere owning.stores) k.stands.insn.op r returns_well (return_stores k.stands.insn.op k.stands.target r) (takes_clean building h f k (return_takes k.stands.insn.op r)) (suit_at c marked f k.stands)
 
 -- ---- what started stands below the arguments
 
@@ -116,42 +116,14 @@ started_class own q d class [] (types.This ∷ us) n e = absurd (let same : type
     first_of : Option (VType × ℕ) → VType
     first_of None = types.This
     first_of (Some x) = x.0
-started_class own q d class [] (types.New r ∷ us) n e = ap second_of (sym e)
-  where
-    second_of : Option (VType × ℕ) → ℕ
-    second_of None = class
-    second_of (Some x) = x.1
-started_class own q d class [] (types.Int ∷ us) n e = ap second_of (sym e)
-  where
-    second_of : Option (VType × ℕ) → ℕ
-    second_of None = class
-    second_of (Some x) = x.1
-started_class own q d class [] (types.Null ∷ us) n e = ap second_of (sym e)
-  where
-    second_of : Option (VType × ℕ) → ℕ
-    second_of None = class
-    second_of (Some x) = x.1
-started_class own q d class [] (types.Ref r ∷ us) n e = ap second_of (sym e)
-  where
-    second_of : Option (VType × ℕ) → ℕ
-    second_of None = class
-    second_of (Some x) = x.1
-started_class own q d class [] (types.Top ∷ us) n e = ap second_of (sym e)
+started_class own q d class [] (u ∷ us) n e = ap second_of (sym e)
   where
     second_of : Option (VType × ℕ) → ℕ
     second_of None = class
     second_of (Some x) = x.1
 started_class own q d class (ToStart x ∷ front) us n e = absurd n.0
-started_class own q d class (AnyValue ∷ front) [] n e = absurd (cc)
-started_class own q d class (AnInt ∷ front) [] n e = absurd (cc)
-started_class own q d class (AnObject x ∷ front) [] n e = absurd (cc)
-started_class own q d class (AnyReference ∷ front) [] n e = absurd (cc)
-started_class own q d class (AHolder x ∷ front) [] n e = absurd (cc)
-started_class own q d class (AnyValue ∷ front) (u ∷ us) n e = started_class own q d class front us n.1 e
-started_class own q d class (AnInt ∷ front) (u ∷ us) n e = started_class own q d class front us n.1 e
-started_class own q d class (AnObject x ∷ front) (u ∷ us) n e = started_class own q d class front us n.1 e
-started_class own q d class (AnyReference ∷ front) (u ∷ us) n e = started_class own q d class front us n.1 e
-started_class own q d class (AHolder x ∷ front) (u ∷ us) n e = started_class own q d class front us n.1 e
+started_class own q d class (want ∷ front) [] n e = absurd (cc)
+started_class own q d class (want ∷ front) (u ∷ us) n e = started_class own q d class front us n.1 e
 
 -- ---- places below those that a call took
 
@@ -167,9 +139,25 @@ at_padded (suc n) xs q (suc m) e = at_padded n xs q m (omega (arith, e))
 
 -- ---- the caller
 
-module _ (c : MarkedProgram) (marked : IsMarked c) (frozen : ℕ → Bool) (are : AreFrozen c frozen) (owning : Owning) (owns : AreOwned c owning.owned) (w : World) (next t : ℕ) (null : IsFinished w next 0) (inside : (v : ℕ) (b : Builder) → w v ≡ Some b → v < next)
-    (number receiver : ℕ) (called : MethodInfo) (there : slice_get c.program.methods number ≡ Some called) (g : Frame) (gs : List Frame) (wait : WaitKeeps c frozen owning w next t (length gs) number receiver g) (below : KeepBelow c frozen owning w next t g gs)
-    (stands : ReceiverIs w next t (suc (length gs)) (builds frozen called) receiver) (result : List ℕ) (old_result : ResultOld (IsFinished w next) called.result result) (unstored : owning.stores 0 ≡ None) (clean_result : ResultOld (IsStoredNowhere owning.stores) called.result result) where
+-- the frame g that waited, its method called, and what that gives back
+pub record Resuming (lawful : LawfulBuilding) : Type 0 where
+  pub number : ℕ
+  pub receiver : ℕ
+  pub called : MethodInfo
+  pub there : slice_get lawful.c.program.methods number ≡ Some called
+  pub g : Frame
+  pub gs : List Frame
+  pub wait : WaitIn lawful.building (length gs) number receiver g
+  pub below : BelowIn lawful.building g gs
+  pub stands : ReceiverIs lawful.w lawful.next lawful.t (suc (length gs)) (builds lawful.frozen called) receiver
+  pub result : List ℕ
+  pub old_result : ResultOld (IsFinished lawful.w lawful.next) called.result result
+  pub clean_result : ResultOld (IsStoredNowhere lawful.owning.stores) called.result result
+
+module _ (lawful : LawfulBuilding) (resuming : Resuming lawful) where
+  open lawful use {building, c, marked, frozen, owning, owns, w, next, t, fine}
+  open resuming use {number, receiver, called, there, g, gs, wait, below, stands, result, old_result, clean_result}
+
   abbrev k : Standing c g
   k = wait.keeps.stands
 
@@ -185,41 +173,37 @@ module _ (c : MarkedProgram) (marked : IsMarked c) (frozen : ℕ → Bool) (are 
   call : CallRow called r
   call = row_of_call c marked g k number called wait.calls there
 
-  -- with the result on the stack
-  abbrev IsWaiting : VType → Tag → ℕ → Type 0
-  IsWaiting = SlotOf frozen w next t (length gs) (WaitsFor receiver wait.begun) wait.keeps.stands.method g.receiver
-
-  kind_slot : (kind : Kind) (v : ℕ) → KindOld (IsFinished w next) kind v → IsWaiting (type_of kind) Untagged v
-  kind_slot kinds.Int v o = made_slot (IsFinished w next) null (IsFresh w t (length gs) (WaitsFor receiver wait.begun)) (builds frozen k.method) (makes_frozen frozen k.method) g.receiver (builds frozen k.method) types.Int v (λ e. cc) tt
-  kind_slot kinds.Bool v o = made_slot (IsFinished w next) null (IsFresh w t (length gs) (WaitsFor receiver wait.begun)) (builds frozen k.method) (makes_frozen frozen k.method) g.receiver (builds frozen k.method) types.Int v (λ e. cc) tt
-  kind_slot (kinds.Ref class) v o = made_slot (IsFinished w next) null (IsFresh w t (length gs) (WaitsFor receiver wait.begun)) (builds frozen k.method) (makes_frozen frozen k.method) g.receiver (builds frozen k.method) (types.Ref class) v (λ e. cc) o
-
-  pushed : (o : Option Kind) (vs : List ℕ) → ResultOld (IsFinished w next) o vs → (st lt : List VType) (sg lg : List Tag) (us : List VType) (hs : List Tag) (ns : List ℕ) → SlotsAre IsWaiting us hs ns
-      → SlotsAre IsWaiting (map (value_of types.Top (λ t. t) st lt) (option_to_list (option_map (λ kind. Anew (type_of kind)) o)) ++ us) (map (value_of Untagged (λ t. Untagged) sg lg) (option_to_list (option_map (λ kind. Anew (type_of kind)) o)) ++ hs) (vs ++ ns)
-  pushed None [] e st lt sg lg us hs ns s = s
-  pushed None (v ∷ vs) e st lt sg lg us hs ns s = absurd e
-  pushed (Some kind) [] e st lt sg lg us hs ns s = absurd e
-  pushed (Some kind) (v ∷ []) e st lt sg lg us hs ns s = (kind_slot kind v e, s)
-  pushed (Some kind) (v ∷ x ∷ vs) e st lt sg lg us hs ns s = absurd e
-
-  stack_waits : SlotsAre IsWaiting (stack_after types.Top (λ t. t) r k.types.stack k.types.locals) (moved_tags r k.tags).stack (result ++ g.stack)
-  stack_waits =
-      let gives : r.gives ≡ result_of called = ap (λ (x : OpRow). x.gives) call.is in
-      subst (λ (xs : List Given). SlotsAre IsWaiting (map (value_of types.Top (λ t. t) k.types.stack k.types.locals) xs ++ drop (length r.takes) k.types.stack) (map (value_of Untagged (λ t. Untagged) k.tags.stack k.tags.locals) xs ++ drop (length r.takes) k.tags.stack) (result ++ g.stack)) (sym gives)
-      (pushed called.result result old_result k.types.stack k.types.locals k.tags.stack k.tags.locals (drop (length r.takes) k.types.stack) (drop (length r.takes) k.tags.stack) g.stack wait.keeps.stack)
-
-  locals_wait : SlotsAre IsWaiting (locals_after types.Top (λ t. t) r.writes k.types.stack k.types.locals) (moved_tags r k.tags).locals g.locals
-  locals_wait =
-      let none : r.writes ≡ None = ap (λ (x : OpRow). x.writes) call.is in
-      subst (λ (o : Option (ℕ × Given)). SlotsAre IsWaiting (locals_after types.Top (λ t. t) o k.types.stack k.types.locals) (locals_after Untagged (λ t. Untagged) o k.tags.stack k.tags.locals) g.locals) (sym none) wait.keeps.locals
-
-  -- ---- arrays that were stored: the result is none, and the others are where they were
-
   gives_are : r.gives ≡ result_of called
   gives_are = ap (λ (x : OpRow). x.gives) call.is
 
   writes_none : r.writes ≡ None
   writes_none = ap (λ (x : OpRow). x.writes) call.is
+
+  -- with the result on the stack
+  abbrev IsWaiting : VType → Tag → ℕ → Type 0
+  IsWaiting = SlotOf frozen w next t (length gs) (WaitsFor receiver wait.begun) wait.keeps.stands.method g.receiver
+
+  kind_slot : (kind : Kind) (v : ℕ) → KindOld (IsFinished w next) kind v → IsWaiting (type_of kind) Untagged v
+  kind_slot kinds.Int v o = made_slot (IsFinished w next) (null lawful) (IsFresh w t (length gs) (WaitsFor receiver wait.begun)) (builds frozen k.method) (makes_frozen frozen k.method) g.receiver (builds frozen k.method) types.Int v (λ e. cc) tt
+  kind_slot kinds.Bool v o = made_slot (IsFinished w next) (null lawful) (IsFresh w t (length gs) (WaitsFor receiver wait.begun)) (builds frozen k.method) (makes_frozen frozen k.method) g.receiver (builds frozen k.method) types.Int v (λ e. cc) tt
+  kind_slot (kinds.Ref class) v o = made_slot (IsFinished w next) (null lawful) (IsFresh w t (length gs) (WaitsFor receiver wait.begun)) (builds frozen k.method) (makes_frozen frozen k.method) g.receiver (builds frozen k.method) (types.Ref class) v (λ e. cc) o
+
+  pushed : (o : Option Kind) (vs : List ℕ) → ResultOld (IsFinished w next) o vs → (st lt : List VType) (sg lg : List Tag) (us : List VType) (hs : List Tag) (ns : List ℕ) → SlotsAre IsWaiting us hs ns
+      → SlotsAre IsWaiting (map (value_of types.Top (λ t. t) st lt) (option_to_list (option_map (λ kind. Anew (type_of kind)) o)) ++ us) (map (value_of Untagged (λ t. Untagged) sg lg) (option_to_list (option_map (λ kind. Anew (type_of kind)) o)) ++ hs) (vs ++ ns)
+  pushed None [] e st lt sg lg us hs ns s = s
+  pushed (Some kind) (v ∷ []) e st lt sg lg us hs ns s = (kind_slot kind v e, s)
+  pushed o vs e st lt sg lg us hs ns s = absurd e
+
+  stack_waits : SlotsAre IsWaiting (stack_after types.Top (λ t. t) r k.types.stack k.types.locals) (moved_tags r k.tags).stack (result ++ g.stack)
+  stack_waits =
+      subst (λ (xs : List Given). SlotsAre IsWaiting (map (value_of types.Top (λ t. t) k.types.stack k.types.locals) xs ++ drop (length r.takes) k.types.stack) (map (value_of Untagged (λ t. Untagged) k.tags.stack k.tags.locals) xs ++ drop (length r.takes) k.tags.stack) (result ++ g.stack)) (sym gives_are)
+      (pushed called.result result old_result k.types.stack k.types.locals k.tags.stack k.tags.locals (drop (length r.takes) k.types.stack) (drop (length r.takes) k.tags.stack) g.stack wait.keeps.stack)
+
+  locals_wait : SlotsAre IsWaiting (locals_after types.Top (λ t. t) r.writes k.types.stack k.types.locals) (moved_tags r k.tags).locals g.locals
+  locals_wait =
+      subst (λ (o : Option (ℕ × Given)). SlotsAre IsWaiting (locals_after types.Top (λ t. t) o k.types.stack k.types.locals) (locals_after Untagged (λ t. Untagged) o k.tags.stack k.tags.locals) g.locals) (sym writes_none) wait.keeps.locals
+
+  -- ---- arrays that were stored: the result is none, and the others are where they were
 
   before : TypeFrame
   before = record { stack = stack_after types.Top (λ t. t) r k.types.stack k.types.locals; locals = locals_after types.Top (λ t. t) r.writes k.types.stack k.types.locals; ready = k.types.ready }
@@ -240,10 +224,8 @@ module _ (c : MarkedProgram) (marked : IsMarked c) (frozen : ℕ → Bool) (are 
       → (made : ℕ) × ((sv lv : List ℕ) → map (value_of 0 (λ t. made) sv lv) (option_to_list (option_map (λ kind. Anew (type_of kind)) o)) ≡ vs)
       × AllByRecursion (GivenClean owning.stores made) (option_to_list (option_map (λ kind. Anew (type_of kind)) o))
   made_by None [] h = (0, λ sv lv. refl, tt)
-  made_by None (v ∷ vs) h = absurd h
-  made_by (Some kind) [] h = absurd h
   made_by (Some kind) (v ∷ []) h = (v, λ sv lv. refl, (kind_type kind v h, tt))
-  made_by (Some kind) (v ∷ x ∷ vs) h = absurd h
+  made_by o vs h = absurd h
 
   fresh_only : (P : Given → Type 0) → ((t : VType) → P (Anew t)) → (o : Option Kind) → AllByRecursion P (option_to_list (option_map (λ kind. Anew (type_of kind)) o))
   fresh_only P f None = tt
@@ -267,12 +249,12 @@ module _ (c : MarkedProgram) (marked : IsMarked c) (frozen : ℕ → Bool) (are 
         stack_begun (IsArraySlot c owning.stores (record g { pc = wait.keeps.stands.insn.next; stack = result ++ g.stack }) j) (array_along c owning.stores (record g { pc = wait.keeps.stands.insn.next; stack = result ++ g.stack }) j)
         (started k.method.class r.takes k.types.stack) is_begun_type before 0 (result ++ g.stack)
         (subst (λ (vs : List ℕ). SlotsFrom (IsArraySlot c owning.stores (record g { pc = wait.keeps.stands.insn.next; stack = vs ++ g.stack }) j) 0 (stack_after types.Top (λ t. t) r k.types.stack k.types.locals) (vs ++ g.stack)) same
-        (stack_clean c marked owning.stores unstored g k.number k.method k.insn k.target k.tags k.at k.types.stack k.types.locals (padded (length r.takes) g.stack) g.locals made.0 k.insn.next g.stack g.locals
+        (stack_clean c marked owning.stores g k k.types.stack k.types.locals (padded (length r.takes) g.stack) g.locals made.0 k.insn.next g.stack g.locals
         (λ q. at_padded (length r.takes) g.stack q (length r.takes + q) refl)
         (record { read = λ fi reads word is. absurd (no_read fi k.insn.op k.target wait.calls reads.1); other = λ none. (clean, written); written = written })
         j other target u at edge
-        (each_source (SourceFine c marked owning.stores unstored g k.number k.method k.insn k.target k.tags k.at k.types.stack k.types.locals (padded (length r.takes) g.stack) g.locals made.0) (length r.takes) slot_behind r.gives
-        (subst (AllByRecursion (SourceFine c marked owning.stores unstored g k.number k.method k.insn k.target k.tags k.at k.types.stack k.types.locals (padded (length r.takes) g.stack) g.locals made.0)) (sym gives_are) (fresh_only _ (λ t. tt) called.result)))))
+        (each_source (SourceFine c marked owning.stores g k k.types.stack k.types.locals (padded (length r.takes) g.stack) g.locals made.0) (length r.takes) slot_behind r.gives
+        (subst (AllByRecursion (SourceFine c marked owning.stores g k k.types.stack k.types.locals (padded (length r.takes) g.stack) g.locals made.0)) (sym gives_are) (fresh_only _ (λ t. tt) called.result)))))
 
   locals_on : SlotsFrom (λ place. IsNoStored owning.stores) 0 (frame_after k.method r k.types).locals g.locals
   unfolding before
@@ -282,48 +264,36 @@ module _ (c : MarkedProgram) (marked : IsMarked c) (frozen : ℕ → Bool) (are 
   -- in a world where the slots are of the types behind the call
   landed : (z : World) → IsFinished z next 0 → ReceiverIs z next t (length gs) (builds frozen k.method) g.receiver
       → SlotsAre (SlotOf frozen z next t (length gs) Runs k.method g.receiver) (frame_after k.method r k.types).stack (moved_tags r k.tags).stack (result ++ g.stack)
-      → SlotsAre (SlotOf frozen z next t (length gs) Runs k.method g.receiver) (frame_after k.method r k.types).locals (moved_tags r k.tags).locals g.locals → FrameKeeps c frozen owning z next t (length gs) Runs resumed
+      → SlotsAre (SlotOf frozen z next t (length gs) Runs k.method g.receiver) (frame_after k.method r k.types).locals (moved_tags r k.tags).locals g.locals → FrameIn (in_world building z) (length gs) Runs resumed
   landed z none own stack locals =
       let edge = call_edge k.insn k.target number wait.calls in
-      let edge_is : has_number (edges k.insn) k.insn.next ≡ true = edge_has (edges k.insn) k.insn.next edge in
+      let edge_is : has_number (edges k.insn) k.insn.next ≡ true = number_in (edges k.insn) k.insn.next edge in
       let fine = tags_fine (IsFinished z next) none (IsFresh z t (length gs) Runs) (builds frozen k.method) (makes_frozen frozen k.method) g.receiver c.program k.method k.insn.pc k.target k.insn.op k.tags.stack k.tags.locals k.tags.held
       (frame_after k.method r k.types).stack (frame_after k.method r k.types).locals (result ++ g.stack) g.locals (stack, locals) in
-      land c marked frozen are owning owns z next t (length gs) none false resumed k.method k.frames k.at.frames (frame_after k.method r k.types) (tags_after k.insn r k.tags) k.at.in_program k.types_of_method k.at.of_method
-      (edge_at k.method (within c.program) k.method.code k.frames (frame_after k.method r k.types) (edges k.insn) k.insn.next (rules_at c marked g k).sound.edges_fit edge)
-      (edge_fits c marked g k k.insn.next edge_is) (joined_onward c marked frozen are owning owns g resumed k refl edge_is)
+      lands_behind (in_world building z) (length gs) none g k k.insn.next (result ++ g.stack) g.locals edge false
       (record {
         put = λ j other target u at same. edge_plain c marked owning owns g.method j k.method other target u at k.number k.insn k.at.in_code (subst (λ (pc : ℕ). has_number (edges k.insn) pc ≡ true) (sym same) edge_is) (call_takes k.insn.op k.target number wait.calls).2;
         arrays = λ j other target u at same. arrays_on j other target u at (subst (λ (pc : ℕ). has_number (edges k.insn) pc ≡ true) (sym same) edge_is);
         locals = locals_on;
       })
       own fine.0 fine.1
-    where
-      edge_has : (tos : List ℕ) (to : ℕ) → OneOf tos to → has_number tos to ≡ true
-      edge_has [] to h = absurd h
-      edge_has (x ∷ xs) to (inl e) = Rattle.lists.proofs.TestLaws.first_true (x == to) (has_number xs to) (grind (arith, nat_tests, e))
-      edge_has (x ∷ xs) to (inr h) = Rattle.lists.proofs.TestLaws.second_true (x == to) (has_number xs to) (edge_has xs to h)
 
   -- ---- of a method that is no `<init>` of a frozen class, or of one on `this`
 
   again : (o : Option (VType × ℕ)) → StartsOld (makes_frozen frozen k.method) o → (q v : ℕ) → makes_frozen frozen k.method q ≡ true → FreshAtCall w t (length gs) receiver o q v → w v ≡ Some (builder t (length gs) (Made q))
-  again None s q v y e = e
   again (Some (types.New x, class)) s q v y e = by_test (q == x) refl e
     where
       by_test : (b : Bool) → (q == x) ≡ b → if_so b (v ≡ receiver) (w v ≡ Some (builder t (length gs) (Made q))) → w v ≡ Some (builder t (length gs) (Made q))
       by_test true z e = absurd (let bad : true ≡ false = sym y ∙ ap (makes_frozen frozen k.method) (eqb-true q x z) ∙ s in cc)
       by_test false z e = e
-  again (Some (types.This, class)) s q v y e = e
-  again (Some (types.Int, class)) s q v y e = e
-  again (Some (types.Null, class)) s q v y e = e
-  again (Some (types.Ref d, class)) s q v y e = e
-  again (Some (types.Top, class)) s q v y e = e
+  again o s q v y e = e
 
-  resumes_old : StartsOld (makes_frozen frozen k.method) (started k.method.class r.takes k.types.stack) → FrameKeeps c frozen owning w next t (length gs) Runs resumed
+  resumes_old : StartsOld (makes_frozen frozen k.method) (started k.method.class r.takes k.types.stack) → FrameIn building (length gs) Runs resumed
   resumes_old old =
-      let after = old_started (IsFinished w next) null (IsFresh w t (length gs) Runs) (builds frozen k.method) (makes_frozen frozen k.method) g.receiver (started k.method.class r.takes k.types.stack) old
+      let after = old_started (IsFinished w next) (null lawful) (IsFresh w t (length gs) Runs) (builds frozen k.method) (makes_frozen frozen k.method) g.receiver (started k.method.class r.takes k.types.stack) old
       (record { stack = stack_after types.Top (λ t. t) r k.types.stack k.types.locals; locals = locals_after types.Top (λ t. t) r.writes k.types.stack k.types.locals; ready = k.types.ready })
       (moved_tags r k.tags) (result ++ g.stack) g.locals (runs _ _ _ stack_waits, runs _ _ _ locals_wait) in
-      landed w null wait.keeps.receiver after.0 after.1
+      landed w (null lawful) wait.keeps.receiver after.0 after.1
     where
       runs : (us : List VType) (hs : List Tag) (ns : List ℕ) → SlotsAre IsWaiting us hs ns → SlotsAre (SlotOf frozen w next t (length gs) Runs k.method g.receiver) us hs ns
       runs = slots_map IsWaiting (SlotOf frozen w next t (length gs) Runs k.method g.receiver)
@@ -353,14 +323,7 @@ module _ (c : MarkedProgram) (marked : IsMarked c) (frozen : ℕ → Bool) (are 
         by_init false e takes = absurd (nothing (subst (AllByRecursion StartsNone) (sym takes) (none_append (arguments called) (AnObject called.class) (arguments_start called) tt)))
         by_init true e takes =
             let class : y.class ≡ called.class = started_class k.method.class y.pc y.class called.class (arguments called) k.types.stack (arguments_start called) (ap (λ (ws : List Want). started k.method.class ws k.types.stack) (sym takes) ∙ y.is) in
-            ap (λ (b : Bool). b && frozen called.class) e ∙ sym (ap frozen class) ∙ sym (class_frozen (new_class k.method.code k.method.targets y.pc) y.class y.of_class) ∙ y.young_is
-          where
-            class_frozen : (o : Option ℕ) (class : ℕ) → is_class_of o class ≡ true → is_frozen_class frozen o ≡ frozen class
-            class_frozen None class e = absurd (cc)
-            class_frozen (Some d) class e = ap frozen (same d class e)
-              where
-                same : (d class : ℕ) → (d == class) ≡ true → d ≡ class
-                same d class e = grind (arith, nat_tests)
+            ap (λ (b : Bool). b && frozen called.class) e ∙ sym (ap frozen class) ∙ sym (class_frozen frozen (new_class k.method.code k.method.targets y.pc) y.class y.of_class) ∙ y.young_is
 
         by_kind : ((is_static called.flags ≡ false) × (call.takes ≡ arguments called ++ receiver_want (is_init called) called.class ∷ [])) ⊎ ((is_static called.flags ≡ true) × (call.takes ≡ arguments called)) → builds frozen called ≡ true
         by_kind (inl s) = by_init (is_init called) refl (takes_are (arguments called ++ receiver_want (is_init called) called.class ∷ []) s.1)
@@ -378,40 +341,40 @@ module _ (c : MarkedProgram) (marked : IsMarked c) (frozen : ℕ → Bool) (are 
 
     finish : (us : List VType) (hs : List Tag) (ns : List ℕ) → SlotsAre IsWaiting us hs ns → SlotsAre (SlotOf frozen z next t (length gs) Runs k.method g.receiver) (initialised (types.New y.pc) y.class us) hs ns
     finish us hs ns s =
-        slots_finished (IsFinished w next) (IsFinished z next) null (IsFresh w t (length gs) (WaitsFor receiver (Some (types.New y.pc, y.class)))) (IsFresh z t (length gs) Runs) (makes_frozen frozen k.method) g.receiver y.pc y.class old_on
-        (λ v young e. here v e) (λ x v n young e. others x v n e) (builds frozen k.method) us hs ns
+        slots_finished (IsFinished w next) (IsFinished z next) (IsFresh w t (length gs) (WaitsFor receiver (Some (types.New y.pc, y.class)))) (IsFresh z t (length gs) Runs) (makes_frozen frozen k.method) y.pc old_on
+        (λ v young e. here v e) (λ x v n young e. others x v n e) y.class g.receiver (builds frozen k.method) us hs ns
         (subst (λ (o : Option (VType × ℕ)). SlotsAre (SlotOf frozen w next t (length gs) (WaitsFor receiver o) k.method g.receiver) us hs ns) (wait.begun_is ∙ y.is) s)
       where
         here : (v : ℕ) → if_so (y.pc == y.pc) (v ≡ receiver) (w v ≡ Some (builder t (length gs) (Made y.pc))) → IsFinished z next v
         here v e =
             let same : v ≡ receiver = subst (λ (b : Bool). if_so b (v ≡ receiver) (w v ≡ Some (builder t (length gs) (Made y.pc)))) (eq-eqb y.pc y.pc refl) e in
-            subst (IsFinished z next) (sym same) (inside receiver gone is_begun, without_gone w gone receiver is_begun)
+            subst (IsFinished z next) (sym same) (inside lawful receiver gone is_begun, without_gone w gone receiver is_begun)
 
         others : (x v : ℕ) → x ≢ y.pc → if_so (x == y.pc) (v ≡ receiver) (w v ≡ Some (builder t (length gs) (Made x))) → z v ≡ Some (builder t (length gs) (Made x))
         others x v n e =
             let built = subst (λ (b : Bool). if_so b (v ≡ receiver) (w v ≡ Some (builder t (length gs) (Made x)))) (ne_eqb x y.pc n) e in
             without_keeps w gone v (builder t (length gs) (Made x)) built (λ s. (let i : length gs ≡ suc (length gs) = ap (λ (b : Builder). b.height) s in omega (arith, i)))
 
-    resumes_young : FrameKeeps c frozen owning z next t (length gs) Runs resumed
+    resumes_young : FrameIn (in_world building z) (length gs) Runs resumed
     resumes_young =
         let before : TypeFrame = record { stack = stack_after types.Top (λ t. t) r k.types.stack k.types.locals; locals = locals_after types.Top (λ t. t) r.writes k.types.stack k.types.locals; ready = k.types.ready } in
         let same : after_start (Some (types.New y.pc, y.class)) before ≡ frame_after k.method r k.types = ap (λ o. after_start o before) (sym y.is) in
-        landed z (old_on 0 null) (receiver_on (builds frozen k.method) wait.keeps.receiver)
+        landed z (old_on 0 (null lawful)) (receiver_on (builds frozen k.method) wait.keeps.receiver)
         (subst (λ (a : TypeFrame). SlotsAre (SlotOf frozen z next t (length gs) Runs k.method g.receiver) a.stack (moved_tags r k.tags).stack (result ++ g.stack)) same (finish _ _ _ stack_waits))
         (subst (λ (a : TypeFrame). SlotsAre (SlotOf frozen z next t (length gs) Runs k.method g.receiver) a.locals (moved_tags r k.tags).locals g.locals) same (finish _ _ _ locals_wait))
 
-    below_on : KeepBelow c frozen owning z next t g gs
-    below_on = below_kept c frozen owning w z next next t old_on g gs (λ i less v x e. without_keeps w gone v (builder t i x) e (λ s. (let n : i ≡ suc (length gs) = ap (λ (b : Builder). b.height) s in omega (arith, n, less)))) below
+    below_on : BelowIn (in_world building z) g gs
+    below_on = below_kept building z next old_on g gs (λ i less v x e. without_keeps w gone v (builder t i x) e (λ s. (let n : i ≡ suc (length gs) = ap (λ (b : Builder). b.height) s in omega (arith, n, less)))) below
 
-  pub resumes : Steps w next t (λ z. FramesKeep c frozen owning z next t Runs (resumed ∷ gs))
+  pub resumes : Steps w next t (λ z. FramesIn (in_world building z) Runs (resumed ∷ gs))
   resumes = by_start (starts k.method (makes_frozen frozen k.method) r.takes k.types.stack (suit_at c marked g k))
     where
-      by_start : Starts k.method (makes_frozen frozen k.method) (started k.method.class r.takes k.types.stack) → Steps w next t (λ z. FramesKeep c frozen owning z next t Runs (resumed ∷ gs))
-      by_start (inl old) = stays w next t (λ z. FramesKeep c frozen owning z next t Runs (resumed ∷ gs)) (resumes_old old, below_moved c frozen owning w next t g k.insn.next (result ++ g.stack) g.locals gs below)
+      by_start : Starts k.method (makes_frozen frozen k.method) (started k.method.class r.takes k.types.stack) → Steps w next t (λ z. FramesIn (in_world building z) Runs (resumed ∷ gs))
+      by_start (inl old) = stays w next t (λ z. FramesIn (in_world building z) Runs (resumed ∷ gs)) (resumes_old old, below_moved building g k.insn.next (result ++ g.stack) g.locals gs below)
       by_start (inr y) = record {
         later = without w (builder t (suc (length gs)) Begun);
         goes = goes_without w next t (builder t (suc (length gs)) Begun) refl;
         world = λ first is. world_without w first next (builder t (suc (length gs)) Begun) is;
         lost = lost_without w (builder t (suc (length gs)) Begun) (λ e. cc);
-        keeps = (resumes_young y, below_moved c frozen owning (without w (builder t (suc (length gs)) Begun)) next t g k.insn.next (result ++ g.stack) g.locals gs (below_on y));
+        keeps = (resumes_young y, below_moved (in_world building (without w (builder t (suc (length gs)) Begun))) g k.insn.next (result ++ g.stack) g.locals gs (below_on y));
       }

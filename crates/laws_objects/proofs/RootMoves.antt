@@ -2,15 +2,15 @@
 use Rattle.std.proofs.Common.{◌≡◌, ℕ, zero, suc, ◌+◌, ◌≤◌, inl, inr, Bool, true, false, ◌&&◌, ◌||◌, List, [], ◌∷◌, ◌++◌, length, Option, Some, None, refl, ap, sym, subst, ◌∙◌, arith, ◌==◌, nat_lt, codes, bytes_eq, slice_get, option_map, if◌then◌else◌, IsTrue}
 use Rattle.std.{specs.List.AllByRecursion, proofs.lemmas.Slice.Eq.bytes_eq-Decides}
 use Rattle.lists.proofs.{ListLaws.same_some, TestLaws.{both_are_true, second_true, first_true}}
-use Rattle.jvm_types.specs.{ClassNames.file_class, CodeTable.is_init, Members.{is_static, is_class_init_name}, Numbers.has_number, ProgramInvariant.words_of}
+use Rattle.jvm_types.specs.{ClassNames.file_class, CodeTable.is_init, Members.{is_static, is_class_init_name}, Numbers.has_number}
 use Rattle.jvm_types.specs.declared.{outcome.Thrown.TheVariants.StackOverflowError, program.{Kind.Kind, MethodInfo.MethodInfo, Program.Program}}
 use Rattle.laws_programs.specs.EntryLaws.{receiver_count}
-use Rattle.checked_program.{specs.MarkedProgram.{MarkedProgram, IsMarked, checked_part}, proofs.CheckedPlaces.called_fit_all}
-use Rattle.machine_types.specs.{Bounds.part_roots, Construction.{Owning, AreOwned, AreFrozen, ThreadKeeps}, Events.thread_started, Frames.{has_room, entry_frame}, Onward.{Running, Uncaught, root_arguments, rooted}, OwnedPlaces.IsStoredNowhere}
-use Rattle.machine_types.specs.{Parts.{numbers_of, is_entry_named, entries_named, init_roots}, Structure.IsStructured, Threads.Thread, Worlds.{World, IsFinished, IsWorld}, declared.phase.Phase.Phase}
+use Rattle.checked_program.{specs.MarkedProgram.checked_part, proofs.CheckedPlaces.called_fit_all}
+use Rattle.machine_types.specs.{Bounds.part_roots, Events.thread_started, Frames.{has_room, entry_frame}, Onward.{Running, Uncaught, root_arguments, rooted}, OwnedPlaces.IsStoredNowhere}
+use Rattle.machine_types.specs.{Parts.{numbers_of, is_entry_named, entries_named, init_roots}, Worlds.IsFinished}
 use Rattle.laws_threads.{specs.StructureLaws.StaysStructured, proofs.{Roots.{IsSomeRoot, part_root, numbered}, ThreadMove.counting}}
-use Rattle.laws_objects.proofs.{ArraySlots.StoresFine, Calling.not_built, EnteredFrames.{ArgsOld, static_enters}, MonitorMoves.{Goal, none_in, held, goes_if, never}, Moves.stays, Onwards.{OnwardKeeps, IfKeeps, null}}
-use Rattle.laws_objects.proofs.ThreadMoves.{from_same, now_world}
+use Rattle.laws_objects.proofs.{Buildings.{LawfulBuilding, Moving, in_world, null, sees}, Calling.not_built, EnteredFrames.{ArgsOld, static_enters}, MonitorMoves.{Goal, none_in, held, goes_if, never}}
+use Rattle.laws_objects.proofs.{Moves.stays, Onwards.{OnwardKeeps, IfKeeps}, ThreadMoves.from_same}
 use Rattle.machine_types.specs.declared.phase.Phase.TheVariants as phases
 
 -- ---- the methods with these numbers
@@ -54,45 +54,44 @@ module _ (p : Program) where
 
 -- ---- their frames
 
-module _ (c : MarkedProgram) (marked : IsMarked c) (frozen : ℕ → Bool) (are : AreFrozen c frozen) (owning : Owning) (owns : AreOwned c owning.owned) (w : World) (next t : ℕ) (is_world : IsWorld w (words_of c.program) next) (fine : StoresFine owning.stores next) where
-  root_keeps : (thread part number : ℕ) (m : MethodInfo) → has_number (part_roots c.program thread part) number ≡ true → slice_get c.program.methods number ≡ Some m → OnwardKeeps c frozen owning w next t (rooted c.program thread number m)
+module _ (lawful : LawfulBuilding) where
+  open lawful use {building, c, marked, frozen, owning, w, next, t}
+
+  root_keeps : (thread part number : ℕ) (m : MethodInfo) → has_number (part_roots c.program thread part) number ≡ true → slice_get c.program.methods number ≡ Some m → OnwardKeeps building (rooted c.program thread number m)
   root_keeps thread part number m h e = by_room (has_room c.program [] m)
     where
       fits : receiver_count m + length m.args ≤ m.max_locals
       fits = called_fit_all (checked_part c) number m marked.checked e
 
-      given : IsSomeRoot m → (is_static m.flags ≡ true) × ArgsOld (IsFinished w next) m.args (root_arguments thread m) × ArgsOld (IsStoredNowhere owning.stores) m.args (root_arguments thread m)
-      given (inl r) = (
-        r.static,
-        subst (λ (args : List Kind). ArgsOld (IsFinished w next) args (if nat_lt 0 (length args) then thread ∷ [] else [])) (sym r.args) tt,
-        subst (λ (args : List Kind). ArgsOld (IsStoredNowhere owning.stores) args (if nat_lt 0 (length args) then thread ∷ [] else [])) (sym r.args) tt,
-      )
-      given (inr r) = (
-        r.static,
-        subst (λ (args : List Kind). ArgsOld (IsFinished w next) args (if nat_lt 0 (length args) then thread ∷ [] else [])) (sym r.args) tt,
-        subst (λ (args : List Kind). ArgsOld (IsStoredNowhere owning.stores) args (if nat_lt 0 (length args) then thread ∷ [] else [])) (sym r.args) tt,
-      )
+      args_old : (Old : ℕ → Type 0) → IsSomeRoot m → ArgsOld Old m.args (root_arguments thread m)
+      args_old Old (inl r) = subst (λ (args : List Kind). ArgsOld Old args (if nat_lt 0 (length args) then thread ∷ [] else [])) (sym r.args) tt
+      args_old Old (inr r) = subst (λ (args : List Kind). ArgsOld Old args (if nat_lt 0 (length args) then thread ∷ [] else [])) (sym r.args) tt
 
-      by_room : (b : Bool) → OnwardKeeps c frozen owning w next t (if b then Running (entry_frame number m (root_arguments thread m) ∷ []) else Uncaught StackOverflowError)
+      static : IsSomeRoot m → is_static m.flags ≡ true
+      static root = elim root [ inl r ↦ r.static | inr r ↦ r.static ]
+
+      by_room : (b : Bool) → OnwardKeeps building (if b then Running (entry_frame number m (root_arguments thread m) ∷ []) else Uncaught StackOverflowError)
       by_room true =
-          let g = given (part_root c.program marked.checked.program thread part number m h e) in
-          (static_enters c marked frozen are owning owns w next t 0 (null c marked frozen are owning owns w next t is_world fine) number m e (root_arguments thread m) g.0 (not_built frozen m (no_init c.program thread part number m h e)) (omega (arith, fits)) g.1 g.2, tt)
+          let root = part_root c.program marked.checked.program thread part number m h e in
+          (static_enters building 0 (null lawful) number m e (root_arguments thread m) (static root) (not_built frozen m (no_init c.program thread part number m h e)) (omega (arith, fits)) (args_old (IsFinished w next) root) (args_old (IsStoredNowhere owning.stores) root), tt)
       by_room false = tt
 
-  root_if : (thread part number : ℕ) → has_number (part_roots c.program thread part) number ≡ true → IfKeeps c frozen owning w next t (option_map (rooted c.program thread number) (slice_get c.program.methods number))
+  root_if : (thread part number : ℕ) → has_number (part_roots c.program thread part) number ≡ true → IfKeeps building (option_map (rooted c.program thread number) (slice_get c.program.methods number))
   root_if thread part number h = by_method (slice_get c.program.methods number) refl
     where
-      by_method : (o : Option MethodInfo) → slice_get c.program.methods number ≡ o → IfKeeps c frozen owning w next t (option_map (rooted c.program thread number) o)
+      by_method : (o : Option MethodInfo) → slice_get c.program.methods number ≡ o → IfKeeps building (option_map (rooted c.program thread number) o)
       by_method None e = tt
-      by_method (Some m) e = stays w next t (λ z. OnwardKeeps c frozen owning z next t (rooted c.program thread number m)) (root_keeps thread part number m h e)
+      by_method (Some m) e = stays w next t (λ z. OnwardKeeps (in_world building z) (rooted c.program thread number m)) (root_keeps thread part number m h e)
 
 -- ---- a part begins with them
 
-module _ (c : MarkedProgram) (marked : IsMarked c) (frozen : ℕ → Bool) (are : AreFrozen c frozen) (owning : Owning) (owns : AreOwned c owning.owned) (w : World) (next more t : ℕ) (was : Phase) (x : Thread) (k : ThreadKeeps c frozen owning w next t was x) (is_world : IsWorld w (words_of c.program) next) (fine : StoresFine owning.stores next) (grows : next ≤ more) (stood : IsStructured c was x) where
+module _ (moving : Moving) where
+  open moving use {c, was, x}
+
   pub starts_as : (n : ℕ) (roots : List ℕ) (number : ℕ) → AllByRecursion (λ (number : ℕ). IsTrue (has_number (part_roots c.program x.number x.part) number)) (number ∷ roots) → was ≡ phases.Start → StaysStructured c was (thread_started c.program (counting n x) (number ∷ roots))
-      → Goal c marked frozen are owning owns w next more t was x k is_world fine grows stood (thread_started c.program (counting n x) (number ∷ roots))
+      → Goal moving (thread_started c.program (counting n x) (number ∷ roots))
   starts_as n roots number all e stands =
       let o = option_map (rooted c.program x.number number) (slice_get c.program.methods number) in
-      goes_if c marked frozen are owning owns w next more t was x k is_world fine grows stood (record x { roots = roots; counts = record x.counts { instructions = n } }) o refl refl (from_same x.attempt) (held c marked frozen are owning owns w next more t was x k is_world fine grows stood) stands
-      (never c marked frozen are owning owns w next more t was x k is_world fine grows stood o (none_in c marked frozen are owning owns w next more t was x k is_world fine grows stood phases.Start (λ m q. q) e))
-      (root_if c marked frozen are owning owns k.now next t (now_world c frozen owning w next t was x k is_world) fine x.number x.part number all.0)
+      goes_if moving (record x { roots = roots; counts = record x.counts { instructions = n } }) o refl refl (from_same x.attempt) (held moving) stands
+      (never moving o (none_in moving phases.Start (λ m q. q) e))
+      (root_if (sees moving) x.number x.part number all.0)

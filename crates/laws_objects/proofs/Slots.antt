@@ -1,8 +1,10 @@
 -- What slots are along moves, starts and edges.
-use Rattle.std.proofs.Common.{◌≡◌, ◌≢◌, ℕ, zero, suc, ◌⊎◌, inl, inr, Bool, true, false, ◌&&◌, List, [], ◌∷◌, ◌++◌, length, map, drop, Option, Some, None, refl, sym, ap, ◌∙◌, subst, arith, ◌==◌, if◌then◌else◌, slice_set, slice_index_or}
+use Rattle.std.proofs.Common.{◌≡◌, ◌≢◌, ℕ, zero, suc, ◌⊎◌, inl, inr, Bool, true, false, List, [], ◌∷◌, ◌++◌, length, map, drop, Option, Some, None, refl, sym, ap, ◌∙◌, subst, arith, ◌==◌, if◌then◌else◌, slice_set, slice_index_or}
 use Rattle.std.{specs.List.AllByRecursion, proofs.lemmas.Bool.Decides.nat_tests}
+use Rattle.lists.proofs.TestLaws.{both_are_true, both_true}
 use Rattle.jvm_types.specs.{CodeTable.{value_of, stack_after, locals_after}, Types.{is_below, same_type, all_pairs}, Verifying.initialised, declared.op_row.Given.Given}
 use Rattle.jvm_types.specs.declared.{op_row.{Given.TheVariants.{Fresh as Anew, Taken, Local}, OpRow.OpRow}, typing.VType.VType}
+use Rattle.laws_programs.proofs.LocalRisen.{same_lists}
 use Rattle.checked_program.specs.{FrozenPlaces.KeepThis, LockTags.{same_tag, without, IsTagBelow, AreTagsBelow}, declared.tag.Tag.{Tag, TheVariants.{Untagged, This, At}}}
 use Rattle.machine_types.specs.Construction.{if_so, SlotByType, OwnSlot, SlotIs, SlotsAre, StackWith}
 use Rattle.laws_objects.proofs.NoThis.{other_above}
@@ -81,7 +83,39 @@ module _ (R : VType → Tag → ℕ → Type 0) (top : R types.Top Untagged 0) w
     local_moves None h = l
     local_moves (Some x) h = slots_set lt lg lv x.0 (value_of types.Top (λ t. t) st lt x.1) (value_of Untagged (λ t. Untagged) sg lg x.1) (value_of 0 (λ t. made) sv lv x.1) (given x.1 h) l
 
+pub same_is : (o t : VType) → same_type o t ≡ true → o ≡ t
+same_is o t e = let both = same_lists (o ∷ []) (t ∷ []) (both_true (same_type o t) true e refl) in cc
+
+-- ---- slots with no `this` go by their type, which is not `this`
+
+pub not_this : (k : Tag) → (k ≡ This) ⊎ (k ≢ This)
+not_this Untagged = inr (λ e. cc)
+not_this This = inl refl
+not_this (At p) = inr (λ e. cc)
+
+module _ (Old : ℕ → Type 0) (Fresh : ℕ → ℕ → Type 0) (young : ℕ → Bool) (receiver : ℕ) where
+  pub plainly : (t : VType) (g : Tag) (v : ℕ) → g ≢ This → OwnSlot Old Fresh young receiver t g v → (t ≢ types.This) × SlotByType Old Fresh young t v
+  plainly t This v n h = absurd (n refl)
+  plainly types.This g v n h = absurd h
+  plainly t g v n h = (λ e. cc, h)
+
+  pub plain_slot : (t : VType) (g : Tag) (v : ℕ) → g ≢ This → t ≢ types.This → SlotByType Old Fresh young t v → OwnSlot Old Fresh young receiver t g v
+  plain_slot t This v n m h = absurd (n refl)
+  plain_slot types.This g v n m h = absurd (m refl)
+  plain_slot t g v n m h = h
+
 -- ---- one slot in another world
+
+module _ (Old More : ℕ → Type 0) (Fresh Later : ℕ → ℕ → Type 0) (young : ℕ → Bool) (receiver : ℕ) where
+  -- a slot that goes by its type is what that becomes
+  pub slot_by : (own : Bool) (t u : VType) (g : Tag) (v : ℕ) → (t ≢ types.This → u ≢ types.This) → (SlotByType Old Fresh young t v → SlotByType More Later young u v)
+      → SlotIs Old Fresh own young receiver t g v → SlotIs More Later own young receiver u g v
+  slot_by false t u g v n f h = f h
+  slot_by true t u g v n f h = by_tag (not_this g)
+    where
+      by_tag : (g ≡ This) ⊎ (g ≢ This) → OwnSlot More Later young receiver u g v
+      by_tag (inl e) = rw e (subst (λ (x : Tag). OwnSlot Old Fresh young receiver t x v) e h)
+      by_tag (inr m) = let p = plainly Old Fresh young receiver t g v m h in plain_slot More Later young receiver u g v m (n p.0) (f p.1)
 
 module _ (Old More : ℕ → Type 0) (Fresh Later : ℕ → ℕ → Type 0) (old : (v : ℕ) → Old v → More v) (young : ℕ → Bool) (fresh : (q v : ℕ) → young q ≡ true → Fresh q v → Later q v) where
   new_slot : (b : Bool) (q v : ℕ) → young q ≡ b → if_so b (Fresh q v) (Old v) → if_so b (Later q v) (More v)
@@ -90,30 +124,13 @@ module _ (Old More : ℕ → Type 0) (Fresh Later : ℕ → ℕ → Type 0) (old
 
   pub by_type : (t : VType) (v : ℕ) → SlotByType Old Fresh young t v → SlotByType More Later young t v
   by_type types.Null v h = h
-  by_type (types.Ref c) v h = old v h
-  by_type types.This v h = old v h
   by_type (types.New q) v h = new_slot (young q) q v refl h
   by_type types.Int v h = tt
   by_type types.Top v h = tt
-
-  own_slot : (receiver : ℕ) (t : VType) (g : Tag) (v : ℕ) → OwnSlot Old Fresh young receiver t g v → OwnSlot More Later young receiver t g v
-  own_slot receiver t This v h = h
-  own_slot receiver types.This Untagged v h = h
-  own_slot receiver types.This (At pc) v h = h
-  own_slot receiver types.Null Untagged v h = h
-  own_slot receiver types.Null (At pc) v h = h
-  own_slot receiver (types.Ref c) Untagged v h = old v h
-  own_slot receiver (types.Ref c) (At pc) v h = old v h
-  own_slot receiver (types.New q) Untagged v h = new_slot (young q) q v refl h
-  own_slot receiver (types.New q) (At pc) v h = new_slot (young q) q v refl h
-  own_slot receiver types.Int Untagged v h = tt
-  own_slot receiver types.Int (At pc) v h = tt
-  own_slot receiver types.Top Untagged v h = tt
-  own_slot receiver types.Top (At pc) v h = tt
+  by_type t v h = old v h
 
   pub slot_later : (own : Bool) (receiver : ℕ) (t : VType) (g : Tag) (v : ℕ) → SlotIs Old Fresh own young receiver t g v → SlotIs More Later own young receiver t g v
-  slot_later true receiver t g v h = own_slot receiver t g v h
-  slot_later false receiver t g v h = by_type t v h
+  slot_later own receiver t g v h = slot_by Old More Fresh Later young receiver own t t g v (λ n. n) (by_type t v) h
 
 -- ---- edges
 
@@ -135,41 +152,6 @@ module _ (Old : ℕ → Type 0) (null : Old 0) (Fresh : ℕ → ℕ → Type 0) 
   type_edge (types.New p) (types.New q) v b h = subst (λ (r : ℕ). if_so (young r) (Fresh r v) (Old v)) (grind (arith, nat_tests, b)) h
   type_edge t u v b h = absurd (cc)
 
-  -- slots with no `this` go by their type, which is not `this`
-  pub plainly : (t : VType) (g : Tag) (v : ℕ) → g ≢ This → OwnSlot Old Fresh young receiver t g v → (t ≢ types.This) × SlotByType Old Fresh young t v
-  plainly t This v n h = absurd (n refl)
-  plainly types.This Untagged v n h = absurd h
-  plainly types.This (At p) v n h = absurd h
-  plainly types.Null Untagged v n h = (λ e. cc, h)
-  plainly types.Null (At p) v n h = (λ e. cc, h)
-  plainly (types.Ref c) Untagged v n h = (λ e. cc, h)
-  plainly (types.Ref c) (At p) v n h = (λ e. cc, h)
-  plainly (types.New c) Untagged v n h = (λ e. cc, h)
-  plainly (types.New c) (At p) v n h = (λ e. cc, h)
-  plainly types.Int Untagged v n h = (λ e. cc, h)
-  plainly types.Int (At p) v n h = (λ e. cc, h)
-  plainly types.Top Untagged v n h = (λ e. cc, h)
-  plainly types.Top (At p) v n h = (λ e. cc, h)
-
-  pub plain_slot : (t : VType) (g : Tag) (v : ℕ) → g ≢ This → t ≢ types.This → SlotByType Old Fresh young t v → OwnSlot Old Fresh young receiver t g v
-  plain_slot t This v n m h = absurd (n refl)
-  plain_slot types.This g v n m h = absurd (m refl)
-  plain_slot types.Null Untagged v n m h = h
-  plain_slot types.Null (At p) v n m h = h
-  plain_slot (types.Ref c) Untagged v n m h = h
-  plain_slot (types.Ref c) (At p) v n m h = h
-  plain_slot (types.New c) Untagged v n m h = h
-  plain_slot (types.New c) (At p) v n m h = h
-  plain_slot types.Int Untagged v n m h = h
-  plain_slot types.Int (At p) v n m h = h
-  plain_slot types.Top Untagged v n m h = h
-  plain_slot types.Top (At p) v n m h = h
-
-  pub not_this : (k : Tag) → (k ≡ This) ⊎ (k ≢ This)
-  not_this Untagged = inr (λ e. cc)
-  not_this This = inl refl
-  not_this (At p) = inr (λ e. cc)
-
   kept_this : (g : Tag) → IsTagBelow g This → g ≡ This
   kept_this g e = e
 
@@ -179,8 +161,8 @@ module _ (Old : ℕ → Type 0) (null : Old 0) (Fresh : ℕ → ℕ → Type 0) 
       by_tag : (g ≡ This) ⊎ (g ≢ This) → OwnSlot Old Fresh young receiver u k v
       by_tag (inl e) = rw (keeps e) (subst (λ (x : Tag). OwnSlot Old Fresh young receiver t x v) e h)
       by_tag (inr n) =
-          let p = plainly t g v n h in
-          plain_slot u k v (λ e. n (kept_this g (subst (λ (x : Tag). IsTagBelow g x) e kept))) (other_above t u b p.0) (type_edge t u v b p.1)
+          let p = plainly Old Fresh young receiver t g v n h in
+          plain_slot Old Fresh young receiver u k v (λ e. n (kept_this g (subst (λ (x : Tag). IsTagBelow g x) e kept))) (other_above t u b p.0) (type_edge t u v b p.1)
 
   slot_edge : (o : Bool) (t u : VType) (g k : Tag) (v : ℕ) → is_below t u ≡ true → IsTagBelow g k → (o ≡ true → g ≡ This → k ≡ This) → SlotIs Old Fresh o young receiver t g v → SlotIs Old Fresh o young receiver u k v
   slot_edge true t u g k v b kept keeps h = own_edge t u g k v b kept (keeps refl) h
@@ -189,12 +171,8 @@ module _ (Old : ℕ → Type 0) (null : Old 0) (Fresh : ℕ → ℕ → Type 0) 
   pub slots_edge : (ts us : List VType) (gs ks : List Tag) (vs : List ℕ) → all_pairs is_below ts us ≡ true → AreTagsBelow gs ks → length ks ≡ length us → (own ≡ true → KeepThis gs ks) → SlotsAre R ts gs vs → SlotsAre R us ks vs
   slots_edge [] [] [] [] [] b kept long keeps h = tt
   slots_edge (t ∷ ts) (u ∷ us) (g ∷ gs) (k ∷ ks) (v ∷ vs) b kept long keeps h =
-      let parts = both (is_below t u) (all_pairs is_below ts us) b in
+      let parts = both_are_true (is_below t u) (all_pairs is_below ts us) b in
       (slot_edge own t u g k v parts.0 kept.0 (λ o e. keeps o 0 e) h.0, slots_edge ts us gs ks vs parts.1 kept.1 (omega (arith, long)) (λ o n e. keeps o (suc n) e) h.1)
-    where
-      both : (a b : Bool) → (a && b) ≡ true → (a ≡ true) × (b ≡ true)
-      both true b e = (refl, e)
-      both false b e = absurd (cc)
   slots_edge ts us gs [] (v ∷ vs) b kept long keeps h = absurd (first_of (assumption, cc, omega (arith, long)))
   slots_edge ts us gs ks vs b kept long keeps h = absurd (first_of (assumption, cc, omega (arith, long)))
 
@@ -208,26 +186,13 @@ module _ (Old : ℕ → Type 0) (null : Old 0) (Fresh : ℕ → ℕ → Type 0) 
   with_edge New true (t ∷ ts) (u ∷ us) (g ∷ gs) ks [] b kept long keeps h = absurd h
   with_edge New true (t ∷ ts) (u ∷ us) (g ∷ gs) [] (v ∷ vs) b kept long keeps h = absurd (omega (arith, long))
   with_edge New true (t ∷ ts) (u ∷ us) (g ∷ gs) (k ∷ ks) (v ∷ vs) b kept long keeps h =
-      (h.0, slots_edge ts us gs ks vs (second (is_below t u) (all_pairs is_below ts us) b) kept.1 (omega (arith, long)) (λ o n e. keeps o (suc n) e) h.1)
-    where
-      second : (a b : Bool) → (a && b) ≡ true → b ≡ true
-      second true b e = e
-      second false b e = absurd (cc)
+      (h.0, slots_edge ts us gs ks vs (both_are_true (is_below t u) (all_pairs is_below ts us) b).1 kept.1 (omega (arith, long)) (λ o n e. keeps o (suc n) e) h.1)
 
   -- ---- an `<init>` that is started: its object is finished, or `this` of an `<init>` of a frozen class
 
   -- a start of a type: where slots of that type go to a class, they are what a finished reference is, or have the tag of `this`
   abbrev pub StartFine : VType → Type 0
   StartFine o = (v : ℕ) → SlotByType Old Fresh young o v → Old v
-
-  same_is : (o t : VType) → same_type o t ≡ true → o ≡ t
-  same_is types.Int types.Int e = refl
-  same_is types.Null types.Null e = refl
-  same_is (types.Ref c) (types.Ref d) e = ap types.Ref (grind (arith, nat_tests, e))
-  same_is types.This types.This e = refl
-  same_is (types.New p) (types.New q) e = ap types.New (grind (arith, nat_tests, e))
-  same_is types.Top types.Top e = refl
-  same_is o t e = absurd (cc)
 
   type_started : (o : VType) (class : ℕ) (t : VType) (v : ℕ) → StartFine o → SlotByType Old Fresh young t v → SlotByType Old Fresh young (if same_type o t then types.Ref class else t) v
   type_started o class t v fine h = by_test (same_type o t) refl
@@ -241,12 +206,12 @@ module _ (Old : ℕ → Type 0) (null : Old 0) (Fresh : ℕ → ℕ → Type 0) 
     where
       start : (b : Bool) → same_type o t ≡ b → g ≢ This → (t ≢ types.This) × SlotByType Old Fresh young t v → (o ≡ types.This) ⊎ StartFine o → OwnSlot Old Fresh young receiver (if b then types.Ref class else t) g v
       start true e n p (inl is) = absurd (p.0 (sym (same_is o t e) ∙ is))
-      start true e n p (inr f) = plain_slot (types.Ref class) g v n (λ x. cc) (f v (subst (λ (x : VType). SlotByType Old Fresh young x v) (sym (same_is o t e)) p.1))
-      start false e n p f = plain_slot t g v n p.0 p.1
+      start true e n p (inr f) = plain_slot Old Fresh young receiver (types.Ref class) g v n (λ x. cc) (f v (subst (λ (x : VType). SlotByType Old Fresh young x v) (sym (same_is o t e)) p.1))
+      start false e n p f = plain_slot Old Fresh young receiver t g v n p.0 p.1
 
       by_tag : (g ≡ This) ⊎ (g ≢ This) → OwnSlot Old Fresh young receiver (if same_type o t then types.Ref class else t) g v
       by_tag (inl e) = rw e (subst (λ (x : Tag). OwnSlot Old Fresh young receiver t x v) e h)
-      by_tag (inr n) = start (same_type o t) refl n (plainly t g v n h) fine
+      by_tag (inr n) = start (same_type o t) refl n (plainly Old Fresh young receiver t g v n h) fine
 
   abbrev pub StartOk : Bool → VType → Type 0
   StartOk true o = (o ≡ types.This) ⊎ StartFine o
@@ -264,7 +229,7 @@ module _ (Old : ℕ → Type 0) (null : Old 0) (Fresh : ℕ → ℕ → Type 0) 
   -- ---- tags that a `dup` makes and takes away
 
   untag : (t : VType) (g k : Tag) (v : ℕ) → g ≢ This → k ≢ This → OwnSlot Old Fresh young receiver t g v → OwnSlot Old Fresh young receiver t k v
-  untag t g k v n m h = let p = plainly t g v n h in plain_slot t k v m p.0 p.1
+  untag t g k v n m h = let p = plainly Old Fresh young receiver t g v n h in plain_slot Old Fresh young receiver t k v m p.0 p.1
 
   pub slot_retag : (b : Bool) (t : VType) (g k : Tag) (v : ℕ) → g ≢ This → k ≢ This → SlotIs Old Fresh b young receiver t g v → SlotIs Old Fresh b young receiver t k v
   slot_retag true t g k v n m h = untag t g k v n m h
@@ -273,11 +238,7 @@ module _ (Old : ℕ → Type 0) (null : Old 0) (Fresh : ℕ → ℕ → Type 0) 
   without_slot : (pc : ℕ) (b : Bool) (t : VType) (g : Tag) (v : ℕ) → SlotIs Old Fresh b young receiver t g v → SlotIs Old Fresh b young receiver t (if same_tag g (At pc) then Untagged else g) v
   without_slot pc b t Untagged v h = h
   without_slot pc b t This v h = h
-  without_slot pc b t (At q) v h = by_test (q == pc)
-    where
-      by_test : (x : Bool) → SlotIs Old Fresh b young receiver t (if x then Untagged else At q) v
-      by_test true = slot_retag b t (At q) Untagged v (λ e. cc) (λ e. cc) h
-      by_test false = h
+  without_slot pc b t (At q) v h = elim (q == pc) as (λ (x : Bool). SlotIs Old Fresh b young receiver t (if x then Untagged else At q) v) [ true ↦ slot_retag b t (At q) Untagged v (λ e. cc) (λ e. cc) h | false ↦ h ]
 
   pub slots_without : (pc : ℕ) (ts : List VType) (gs : List Tag) (vs : List ℕ) → SlotsAre R ts gs vs → SlotsAre R ts (without pc gs) vs
   slots_without pc [] [] [] h = tt
@@ -287,7 +248,7 @@ module _ (Old : ℕ → Type 0) (null : Old 0) (Fresh : ℕ → ℕ → Type 0) 
   -- ---- a value that is made
 
   pub made_slot : (o : Bool) (t : VType) (v : ℕ) → t ≢ types.This → SlotByType Old Fresh young t v → SlotIs Old Fresh o young receiver t Untagged v
-  made_slot true t v n h = plain_slot t Untagged v (λ e. cc) n h
+  made_slot true t v n h = plain_slot Old Fresh young receiver t Untagged v (λ e. cc) n h
   made_slot false t v n h = h
 
   pub ref_slot : (o : Bool) (c v : ℕ) → Old v → SlotIs Old Fresh o young receiver (types.Ref c) Untagged v

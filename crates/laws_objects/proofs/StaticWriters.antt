@@ -3,13 +3,13 @@ use Rattle.std.proofs.Common.{◌≡◌, ◌⊎◌, inl, inr, ℕ, Bool, true, f
 use Rattle.lists.proofs.ListLaws.{same_some}
 use Rattle.jvm_types.specs.{CodeTable.put_row, Members.is_static, ProgramInvariant.site_in, declared.{code.Op.Op, program.{FieldInfo.FieldInfo, Target.Target}}}
 use Rattle.laws_programs.{specs.TargetLaws.{HasRow, NamesField}, proofs.FieldOrder.one_static_field}
-use Rattle.checked_program.specs.{MarkedProgram.{MarkedProgram, IsMarked}, TaggedCode.row_of}
-use Rattle.machine_types.specs.{Accesses.words_after, Core.Core, Effects.effect, Events.wanted, Lawful.IsLawful, PlainMemory.Object, Standing.Standing, Structure.{IsStructured, TopIs, is_element_op}}
-use Rattle.machine_types.specs.{Threads.{Frame, Thread}, Typed.{FramesHold, HasClass, HasElementIn, HasElementOn, ElementStands, IsElementOn}, Words.variable_word}
-use Rattle.machine_types.specs.declared.{effect.{Effect.TheVariants.Writes, Variable.{Variable, TheVariants.{Instance, Static}}}, phase.Phase.Phase}
+use Rattle.checked_program.specs.{MarkedProgram.MarkedProgram, TaggedCode.row_of}
+use Rattle.machine_types.specs.{Accesses.words_after, Effects.effect, Events.wanted, Standing.Standing, Structure.{TopIs, is_element_op}}
+use Rattle.machine_types.specs.{Threads.Frame, Typed.{FramesHold, HasClass, HasElementIn, HasElementOn, ElementStands, IsElementOn}, Words.variable_word}
+use Rattle.machine_types.specs.declared.{effect.{Effect.TheVariants.Writes, Variable.{Variable, TheVariants.{Instance, Static}}}}
 use Rattle.laws_threads.{specs.Allowed.IsNamedField, proofs.Landing.rules_at}
-use Rattle.laws_states.specs.{HeapFacts.HeapFacts, SiteLaws.{EventsReachSites, SitesDiffer, SitesLieInside}, Sites.{ValueOf, StaticAt, IsThere}}
-use Rattle.laws_objects.proofs.{PlaceWriters.{IsWriter, holder_of, names_field, place_writer}, WrittenFields.{Puts, PutsOnClass, field_put}}
+use Rattle.laws_states.specs.Sites.{ValueOf, StaticAt, IsThere}
+use Rattle.laws_objects.proofs.{PlaceWriters.{PlaceEvent, IsWriter, holder_of, names_field, place_writer}, WrittenFields.{Puts, PutsOnClass, field_put}}
 use Rattle.jvm_types.specs.declared.code.Op.TheVariants as ops
 use Rattle.jvm_types.specs.declared.program.Target.TheVariants as targets
 
@@ -20,8 +20,11 @@ pub record StaticWriter (c : MarkedProgram) (fi : ℕ) (f : Frame) : Type 0 wher
   pub is : stands.insn.op ≡ ops.Putstatic index
   pub names : stands.target ≡ targets.Field fi
 
-module _ (differ : SitesDiffer) (c : MarkedProgram) (objects : List Object) (s : Core) (t : ℕ) (x : Thread) (marked : IsMarked c) (heap : HeapFacts c objects s) (there : slice_get s.threads t ≡ Some x)
-    (fi : ℕ) (field : FieldInfo) (is : slice_get c.program.fields fi ≡ Some field) (static : is_static field.flags ≡ true) where
+module _ (event : PlaceEvent) (fi : ℕ) (field : FieldInfo) (is : slice_get event.mover.state.c.program.fields fi ≡ Some field) (static : is_static field.flags ≡ true) where
+  open event.mover use {t, x, state}
+  open event.mover.state use {c, marked, objects, s, facts as heap}
+  open event.sites use {differ}
+
   is_there : IsThere c.program objects s (StaticAt field.index)
   is_there = let k = heap.apart.there fi field is static in (k.0, k.1, k.2)
 
@@ -35,7 +38,7 @@ module _ (differ : SitesDiffer) (c : MarkedProgram) (objects : List Object) (s :
         by_flag : (b : Bool) → is_static g.flags ≡ b → variable_word (if b then Static g.index else Instance at.reference g.index) ≡ field.index → (is_static g.flags ≡ true) × (at.number ≡ fi)
         by_flag true flag e = (flag, one_static_field c.program at.number fi g field marked.checked.program at.there is flag static e)
         by_flag false flag e =
-            let from = holder_of c objects s marked heap at.number g at.reference at.there flag (at.holder flag) in
+            let from = holder_of state at.number g at.reference at.there flag (at.holder flag) in
             let site : ValueOf at.reference g.index ≡ StaticAt field.index = differ c objects s (ValueOf at.reference g.index) (StaticAt field.index) marked heap from.there is_there e in
             absurd (cc)
 
@@ -65,9 +68,7 @@ module _ (differ : SitesDiffer) (c : MarkedProgram) (objects : List Object) (s :
   no_element w v (u ∷ i ∷ a ∷ stack) has on same =
       let site : ValueOf a i ≡ StaticAt field.index = differ c objects s (ValueOf a i) (StaticAt field.index) marked heap (has.object, has.there, has.is, has.below) is_there (sym on.0 ∙ same) in
       cc
-  no_element w v (u ∷ i ∷ []) has on same = on
-  no_element w v (u ∷ []) has on same = on
-  no_element w v [] has on same = on
+  no_element w v stack has on same = on
 
   element_writes : (fs : List Frame) (w v : ℕ) → FramesHold c (HasClass objects) fs → TopIs c (is_element_op (Some v)) fs → HasElementIn objects (Some v) fs → ElementStands w (Some v) fs → w ≡ field.index → ⊥
   element_writes [] w v h top has on same = top
@@ -75,6 +76,5 @@ module _ (differ : SitesDiffer) (c : MarkedProgram) (objects : List Object) (s :
 
   -- ---- the word is as it was, or the thread writes the field
 
-  module _ (inside : SitesLieInside) (reach : EventsReachSites) (lawful : IsLawful c x) (was : Phase) (structured : IsStructured c was x) where
-    pub static_writer : (slice_index (words_after s.words (wanted c x x.phase)) field.index ≡ slice_index s.words field.index) ⊎ IsWriter (StaticWriter c fi) x
-    static_writer = place_writer differ c objects s t x marked heap there (StaticAt field.index) tt is_there (StaticWriter c fi) writes element_writes inside reach lawful was structured
+  pub static_writer : (slice_index (words_after s.words (wanted c x x.phase)) field.index ≡ slice_index s.words field.index) ⊎ IsWriter (StaticWriter c fi) x
+  static_writer = place_writer event (StaticAt field.index) tt is_there (StaticWriter c fi) writes element_writes

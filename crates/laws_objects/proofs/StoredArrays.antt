@@ -1,16 +1,20 @@
 -- A new array is stored in an owned field of its object: it is finished then, and no frame has it any more.
 use Rattle.std.proofs.Common.{◌≡◌, ◌≢◌, ℕ, ◌+◌, inl, Bool, true, false, List, [], ◌∷◌, ◌++◌, length, map, drop, Option, Some, None, refl, sym, ap, ◌∙◌, subst, arith, slice_index_or}
 use Rattle.std.specs.List.{AllByRecursion}
-use Rattle.jvm_types.specs.{CodeTable.{row, want_of, put_row, value_of, stack_after, locals_after}, Numbers.has_number, Types.TypeFrame, Verifying.{started, after_start, frame_after, edges}, declared.{class_numbers.TheConstants.INT_ARRAY_CLASS, code.{Op.Op}}}
-use Rattle.jvm_types.specs.declared.{op_row.{Given.{Given}, OpRow.OpRow}, program.{Kind.Kind, MethodInfo.MethodInfo}, typing.VType.VType}
-use Rattle.checked_program.specs.{Colours.is_read_of, LockTags.TagShape, MarkedProgram.{MarkedProgram, IsMarked}, OwnedArrays.IsOwnedArrayField, Tagging.{moved_tags, tags_by_op, tags_after}, declared.tag.Tag.{Tag, TheVariants.Untagged}}
-use Rattle.machine_types.specs.Construction.{Owning, AreOwned, puts_owned, AreFrozen, builds, makes_frozen, SlotsAre, StackWith, Runs, IsFresh, ReceiverIs, SlotOf, IsNoStored, IsArraySlot, SlotsFrom, FrameKeeps, KeepBelow, FramesKeep}
-use Rattle.machine_types.specs.{Frames.{frame_on, went_on}, Lawful.within, OwnedPlaces.{with_stored, IsStoredNowhere}, Standing.{row_at, tags_of}, Threads.Frame}
+use Rattle.jvm_types.specs.{CodeTable.{row, want_of, put_row, value_of, stack_after, locals_after}, Numbers.has_number, Types.TypeFrame, Verifying.{started, after_start, frame_after, edges}, declared.{class_numbers.TheConstants.INT_ARRAY_CLASS, code.Op.Op}}
+use Rattle.jvm_types.specs.declared.{op_row.{Given.Given, OpRow.OpRow}, program.{Kind.Kind, MethodInfo.MethodInfo}, typing.VType.VType}
+use Rattle.checked_program.specs.{Colours.is_read_of, LockTags.TagShape, OwnedArrays.IsOwnedArrayField, Tagging.{moved_tags, tags_by_op, tags_after}, declared.tag.Tag.{Tag, TheVariants.Untagged}}
+use Rattle.machine_types.specs.Construction.{puts_owned, builds, makes_frozen, SlotsAre, StackWith, Runs, IsFresh, ReceiverIs, SlotOf, IsNoStored, IsArraySlot, SlotsFrom}
+use Rattle.machine_types.specs.{Frames.{frame_on, went_on}, OwnedPlaces.{with_stored, IsStoredNowhere}, Standing.{Standing, row_at, tags_of}, Threads.Frame}
 use Rattle.machine_types.specs.Worlds.{Made, Begun, Unstored, Builder, builder, World, IsFinished}
-use Rattle.laws_threads.{specs.Allowed.OneOf, proofs.{FrameMoves.edge_fits, Landing.rules_at, Standings.top_here, TopEffects.number_in, Typing.edge_at}}
-use Rattle.laws_objects.proofs.{ArrayFrames.takes_clean, ArrayMoves.{GivenClean, WriteClean, SourceFine, stack_clean, each_source, dropped_at}, ArraySlots.{StoresFine, from_drop, each_from, no_stored_along, array_along, stack_begun, locals_begun, IsStart}, BuiltEffects.StartsNone}
-use Rattle.laws_objects.proofs.{CalledFrames.{below_moved, none_started}, KeptFrames.below_kept, Landing.{LandsWell, land, joined_onward}, Moves.Steps, Operands.{WantOld, TakenOld, takes_any}, PutPlaces.{is_newarray, edge_plain}, RestoredFrames.{stored, kept_there, receiver_apart, arrays_from, locals_from, below_on}}
-use Rattle.laws_objects.proofs.{Slots.{slots_map, slots_drop, slots_long, slot_later}, WorldChanges.{none_some, without, without_gone, without_keeps, without_none, world_without, goes_without, lost_without}}
+use Rattle.laws_threads.{specs.Allowed.OneOf, proofs.{Standings.top_here, TopEffects.number_in}}
+use Rattle.laws_objects.proofs.{ArrayFrames.takes_clean, ArrayMoves.{GivenClean, WriteClean, SourceFine, stack_clean, each_source, dropped_at}}
+use Rattle.laws_objects.proofs.ArraySlots.{from_drop, each_from, no_stored_along, array_along, stack_begun, locals_begun, IsStart}
+use Rattle.laws_objects.proofs.{Buildings.{Building, FramesIn, Design, LawfulBuilding, in_world, with_stores, FrameIn, BelowIn, null}, BuiltEffects.StartsNone}
+use Rattle.laws_objects.proofs.{CalledFrames.{below_moved, none_started}, KeptFrames.below_kept, Landing.LandsWell, Moves.{Steps, lands_behind}, Operands.{WantOld, TakenOld, takes_any}}
+use Rattle.laws_objects.proofs.{PutPlaces.{is_newarray, edge_plain}, RestoredFrames.{NewArray, receiver_apart, arrays_from, locals_from, below_on}}
+use Rattle.laws_objects.proofs.Slots.{slots_map, slots_drop, slots_long, slot_later}
+use Rattle.laws_objects.proofs.WorldChanges.{none_some, without, without_gone, without_keeps, without_none, world_without, goes_without, lost_without}
 use Rattle.jvm_types.specs.declared.code.Op.TheVariants as ops
 use Rattle.jvm_types.specs.declared.program.Kind.TheVariants as kinds
 use Rattle.jvm_types.specs.declared.program.Target.TheVariants as targets
@@ -23,20 +27,28 @@ split R New [] [] (v ∷ vs) array rest h e = absurd h
 split R New [] (g ∷ gs) (v ∷ vs) array rest h e = absurd h
 split R New (u ∷ us) [] vs array rest h e = absurd h
 split R New (u ∷ us) (g ∷ gs) [] array rest h e = absurd h
-split R New (u ∷ us) (g ∷ gs) (v ∷ vs) array rest h e = (subst New (first e) h.0, slots_drop R 1 us gs vs h.1)
-  where
-    first : v ∷ vs ≡ array ∷ rest → v ≡ array
-    first e = cc
+split R New (u ∷ us) (g ∷ gs) (v ∷ vs) array rest h e = (let same : v ≡ array = cc in subst New same h.0, slots_drop R 1 us gs vs h.1)
 
 want_starts : (kind : Kind) → StartsNone (want_of kind)
 want_starts kinds.Int = tt
-want_starts kinds.Bool = tt
-want_starts (kinds.Ref class) = tt
+want_starts kind = tt
 
-module _ (c : MarkedProgram) (marked : IsMarked c) (frozen : ℕ → Bool) (are : AreFrozen c frozen) (owning : Owning) (owns : AreOwned c owning.owned) (w : World) (next t : ℕ) (null : IsFinished w next 0) (fine : StoresFine owning.stores next)
-    (f : Frame) (fs : List Frame) (k : FrameKeeps c frozen owning w next t (length fs) Runs f) (b : KeepBelow c frozen owning w next t f fs)
-    (fi index : ℕ) (op_is : k.stands.insn.op ≡ ops.Putfield index) (target_is : k.stands.target ≡ targets.Field fi) (is_owned : owning.owned fi ≡ true)
-    (array : ℕ) (rest : List ℕ) (stack_is : f.stack ≡ array ∷ rest) (edge : OneOf (edges k.stands.insn) k.stands.insn.next) (word : ℕ) where
+-- the frame stands at a `putfield` of an owned field, with an array on the top
+pub record PutsOwned (design : Design) (f : Frame) (stands : Standing design.c f) : Type 0 where
+  pub fi : ℕ
+  pub index : ℕ
+  pub op_is : stands.insn.op ≡ ops.Putfield index
+  pub target_is : stands.target ≡ targets.Field fi
+  pub owned : design.owning.owned fi ≡ true
+  pub array : ℕ
+  pub rest : List ℕ
+  pub stack_is : f.stack ≡ array ∷ rest
+  pub edge : OneOf (edges stands.insn) stands.insn.next
+
+module _ (lawful : LawfulBuilding) (f : Frame) (fs : List Frame) (k : FrameIn lawful.building (length fs) Runs f) (b : BelowIn lawful.building f fs) (put : PutsOwned lawful.design f k.stands) (word : ℕ) where
+  open lawful use {building, c, marked, frozen, owning, owns, w, next, t}
+  open put use {fi, op_is, target_is, owned as is_owned, array, rest, stack_is, edge}
+
   field : IsOwnedArrayField c.program (tags_of c) fi
   field = owns.those fi is_owned
 
@@ -87,20 +99,20 @@ module _ (c : MarkedProgram) (marked : IsMarked c) (frozen : ℕ → Bool) (are 
   pub unstored : owning.stores array ≡ None
   unstored =
       let any : takes_any k.stands.insn.op ≡ false = ap takes_any op_is in
-      let taken = takes_clean c marked frozen owning fine.null w next t (length fs) f k any in
+      let taken = takes_clean building (length fs) f k any in
       let kind : field.field.kind ≡ kinds.Ref INT_ARRAY_CLASS = field.array in
       let taken_row : TakenOld (IsStoredNowhere owning.stores) (put_row (Some field.field)).takes (array ∷ rest) = subst (TakenOld (IsStoredNowhere owning.stores) (put_row (Some field.field)).takes) stack_is (subst (λ (x : OpRow). TakenOld (IsStoredNowhere owning.stores) x.takes f.stack) row_is taken) in
       let first : WantOld (IsStoredNowhere owning.stores) (want_of field.field.kind) array = taken_row.0 in
       subst (λ (x : Kind). WantOld (IsStoredNowhere owning.stores) (want_of x) array) kind first
 
   pub zero_apart : 0 ≢ array
-  zero_apart s = none_some (w array) new (subst (λ (x : ℕ). w x ≡ None) s null.1) is_new
+  zero_apart s = none_some (w array) new (subst (λ (x : ℕ). w x ≡ None) s (null lawful).1) is_new
 
-  abbrev pub behind : Owning
-  behind = stored c frozen owning array word unstored zero_apart new refl
+  abbrev it : NewArray owning.stores
+  it = record { array = array; word = word; unstored = unstored; zero_apart = zero_apart; k = builder t (length fs) Unstored; is_new = refl }
 
-  null_behind : behind.stores 0 ≡ None
-  null_behind = kept_there owning.stores array word unstored 0 zero_apart ∙ fine.null
+  abbrev pub behind : Building
+  behind = with_stores building (with_stored owning.stores array word)
 
   -- ---- the world in that it is finished
 
@@ -146,22 +158,19 @@ module _ (c : MarkedProgram) (marked : IsMarked c) (frozen : ℕ → Bool) (are 
   locals_are = ap (λ (o : Option (ℕ × Given)). locals_after 0 (λ t. 0) o f.stack f.locals) writes_none
 
   apart : f.receiver ≢ array
-  apart = receiver_apart c frozen owning array word unstored zero_apart new refl w next t is_new (length fs) (builds frozen k.stands.method) f.receiver k.receiver
+  apart = receiver_apart building it is_new (length fs) (builds frozen k.stands.method) f.receiver k.receiver
+
+  fresh_apart : (q v : ℕ) → w v ≡ Some (builder t (length fs) (Made q)) → v ≢ array
+  fresh_apart q v e s = (let at : w array ≡ Some (builder t (length fs) (Made q)) = subst (λ (x : ℕ). w x ≡ Some (builder t (length fs) (Made q))) s e in let both : Some (builder t (length fs) (Made q)) ≡ Some (builder t (length fs) Unstored) = sym at ∙ is_new in let one : builder t (length fs) (Made q) ≡ builder t (length fs) Unstored = cc in let i : Made q ≡ Unstored = ap (λ (x : Builder). x.item) one in cc)
 
   -- the arrays below the two values
   arrays_below : SlotsFrom (IsArraySlot c (with_stored owning.stores array word) f k.stands.number) (length (row_at c f k.stands).takes) (drop (length (row_at c f k.stands).takes) k.stands.types.stack) (drop (length (row_at c f k.stands).takes) f.stack)
-  arrays_below = arrays_from c frozen owning array word unstored zero_apart new refl w next t is_new (length fs) f k.stands.method apart k.stands.number Runs fresh_apart (length (row_at c f k.stands).takes)
+  arrays_below = arrays_from building it is_new (length fs) f k.stands.method apart k.stands.number Runs fresh_apart (length (row_at c f k.stands).takes)
       (drop (length (row_at c f k.stands).takes) k.stands.types.stack) (drop (length (row_at c f k.stands).takes) k.stands.tags.stack) (drop (length (row_at c f k.stands).takes) f.stack) below_two
       (from_drop (IsArraySlot c owning.stores f k.stands.number) (length (row_at c f k.stands).takes) 0 (length (row_at c f k.stands).takes) k.stands.types.stack f.stack (omega arith) k.arrays)
-    where
-      fresh_apart : (q v : ℕ) → w v ≡ Some (builder t (length fs) (Made q)) → v ≢ array
-      fresh_apart q v e s = (let at : w array ≡ Some (builder t (length fs) (Made q)) = subst (λ (x : ℕ). w x ≡ Some (builder t (length fs) (Made q))) s e in let both : Some (builder t (length fs) (Made q)) ≡ Some (builder t (length fs) Unstored) = sym at ∙ is_new in let one : builder t (length fs) (Made q) ≡ builder t (length fs) Unstored = cc in let i : Made q ≡ Unstored = ap (λ (x : Builder). x.item) one in cc)
 
   locals_stay : SlotsFrom (λ place. IsNoStored (with_stored owning.stores array word)) 0 k.stands.types.locals f.locals
-  locals_stay = locals_from c frozen owning array word unstored zero_apart new refl w next t is_new (length fs) f k.stands.method apart k.stands.number Runs fresh_apart 0 k.stands.types.locals k.stands.tags.locals f.locals k.locals k.no_arrays
-    where
-      fresh_apart : (q v : ℕ) → w v ≡ Some (builder t (length fs) (Made q)) → v ≢ array
-      fresh_apart q v e s = (let at : w array ≡ Some (builder t (length fs) (Made q)) = subst (λ (x : ℕ). w x ≡ Some (builder t (length fs) (Made q))) s e in let both : Some (builder t (length fs) (Made q)) ≡ Some (builder t (length fs) Unstored) = sym at ∙ is_new in let one : builder t (length fs) (Made q) ≡ builder t (length fs) Unstored = cc in let i : Made q ≡ Unstored = ap (λ (x : Builder). x.item) one in cc)
+  locals_stay = locals_from building it is_new (length fs) f k.stands.method apart k.stands.number Runs fresh_apart 0 k.stands.types.locals k.stands.tags.locals f.locals k.locals k.no_arrays
 
   edge_is : has_number (edges k.stands.insn) k.stands.insn.next ≡ true
   edge_is = number_in (edges k.stands.insn) k.stands.insn.next edge
@@ -180,23 +189,23 @@ module _ (c : MarkedProgram) (marked : IsMarked c) (frozen : ℕ → Bool) (are 
   no_read : (fi : ℕ) → is_read_of fi k.stands.insn.op k.stands.target ≡ true → ⊥
   no_read other e = (let bad : false ≡ true = sym (ap (λ (op : Op). is_read_of other op k.stands.target) op_is) ∙ e in cc)
 
-  well : LandsWell c marked frozen are behind owns false (frame_on (row_at c f k.stands) k.stands.insn.next 0 f) k.stands.method (frame_after k.stands.method (row_at c f k.stands) k.stands.types)
+  well : LandsWell behind.design false (frame_on (row_at c f k.stands) k.stands.insn.next 0 f) k.stands.method (frame_after k.stands.method (row_at c f k.stands) k.stands.types)
   well = record {
-    put = λ j other target u at same. edge_plain c marked behind owns f.method j k.stands.method other target u at k.stands.number k.stands.insn k.stands.at.in_code (subst (λ (pc : ℕ). has_number (edges k.stands.insn) pc ≡ true) (sym same) edge_is) (ap is_newarray op_is);
+    put = λ j other target u at same. edge_plain c marked behind.owning owns f.method j k.stands.method other target u at k.stands.number k.stands.insn k.stands.at.in_code (subst (λ (pc : ℕ). has_number (edges k.stands.insn) pc ≡ true) (sym same) edge_is) (ap is_newarray op_is);
     arrays = λ j other target u at same.
-        stack_begun (IsArraySlot c behind.stores (frame_on (row_at c f k.stands) k.stands.insn.next 0 f) j) (array_along c behind.stores (frame_on (row_at c f k.stands) k.stands.insn.next 0 f) j) (started k.stands.method.class (row_at c f k.stands).takes k.stands.types.stack) started_none before 0 (frame_on (row_at c f k.stands) k.stands.insn.next 0 f).stack
-        (stack_clean c marked behind.stores null_behind f k.stands.number k.stands.method k.stands.insn k.stands.target k.stands.tags k.stands.at k.stands.types.stack k.stands.types.locals f.stack f.locals 0 k.stands.insn.next (drop (length (row_at c f k.stands).takes) f.stack)
+        stack_begun (IsArraySlot c behind.owning.stores (frame_on (row_at c f k.stands) k.stands.insn.next 0 f) j) (array_along c behind.owning.stores (frame_on (row_at c f k.stands) k.stands.insn.next 0 f) j) (started k.stands.method.class (row_at c f k.stands).takes k.stands.types.stack) started_none before 0 (frame_on (row_at c f k.stands) k.stands.insn.next 0 f).stack
+        (stack_clean c marked behind.owning.stores f k.stands k.stands.types.stack k.stands.types.locals f.stack f.locals 0 k.stands.insn.next (drop (length (row_at c f k.stands).takes) f.stack)
         (frame_on (row_at c f k.stands) k.stands.insn.next 0 f).locals (λ q. dropped_at 0 (length (row_at c f k.stands).takes) f.stack q (length (row_at c f k.stands).takes + q) refl)
         (record {
           read = λ other reads place is. absurd (no_read other reads.1);
-          other = λ none. (subst (AllByRecursion (GivenClean behind.stores 0)) (sym gives_none) tt, subst (WriteClean behind.stores 0) (sym writes_none) tt);
-          written = subst (WriteClean behind.stores 0) (sym writes_none) tt;
+          other = λ none. (subst (AllByRecursion (GivenClean behind.owning.stores 0)) (sym gives_none) tt, subst (WriteClean behind.owning.stores 0) (sym writes_none) tt);
+          written = subst (WriteClean behind.owning.stores 0) (sym writes_none) tt;
         })
         j other target u at (subst (λ (pc : ℕ). has_number (edges k.stands.insn) pc ≡ true) (sym same) edge_is)
-        (each_source (SourceFine c marked behind.stores null_behind f k.stands.number k.stands.method k.stands.insn k.stands.target k.stands.tags k.stands.at k.stands.types.stack k.stands.types.locals f.stack f.locals 0) (length (row_at c f k.stands).takes) slot_there (row_at c f k.stands).gives
-        (subst (AllByRecursion (SourceFine c marked behind.stores null_behind f k.stands.number k.stands.method k.stands.insn k.stands.target k.stands.tags k.stands.at k.stands.types.stack k.stands.types.locals f.stack f.locals 0)) (sym gives_none) tt)));
-    locals = locals_begun (λ place. IsNoStored behind.stores) (no_stored_along behind.stores) (started k.stands.method.class (row_at c f k.stands).takes k.stands.types.stack) started_none before 0 (frame_on (row_at c f k.stands) k.stands.insn.next 0 f).locals
-        (subst (λ (o : Option (ℕ × Given)). SlotsFrom (λ place. IsNoStored behind.stores) 0 (locals_after types.Top (λ t. t) o k.stands.types.stack k.stands.types.locals) (locals_after 0 (λ t. 0) o f.stack f.locals)) (sym writes_none) locals_stay);
+        (each_source (SourceFine c marked behind.owning.stores f k.stands k.stands.types.stack k.stands.types.locals f.stack f.locals 0) (length (row_at c f k.stands).takes) slot_there (row_at c f k.stands).gives
+        (subst (AllByRecursion (SourceFine c marked behind.owning.stores f k.stands k.stands.types.stack k.stands.types.locals f.stack f.locals 0)) (sym gives_none) tt)));
+    locals = locals_begun (λ place. IsNoStored behind.owning.stores) (no_stored_along behind.owning.stores) (started k.stands.method.class (row_at c f k.stands).takes k.stands.types.stack) started_none before 0 (frame_on (row_at c f k.stands) k.stands.insn.next 0 f).locals
+        (subst (λ (o : Option (ℕ × Given)). SlotsFrom (λ place. IsNoStored behind.owning.stores) 0 (locals_after types.Top (λ t. t) o k.stands.types.stack k.stands.types.locals) (locals_after 0 (λ t. 0) o f.stack f.locals)) (sym writes_none) locals_stay);
   }
 
   abbrev After : TypeFrame
@@ -205,13 +214,10 @@ module _ (c : MarkedProgram) (marked : IsMarked c) (frozen : ℕ → Bool) (are 
   abbrev Tags : TagShape
   Tags = record { stack = drop (length (row_at c f k.stands).takes) k.stands.tags.stack; locals = k.stands.tags.locals; held = k.stands.tags.held }
 
-  frame_stored : FrameKeeps c frozen behind z next t (length fs) Runs (frame_on (row_at c f k.stands) k.stands.insn.next 0 f)
+  frame_stored : FrameIn (in_world behind z) (length fs) Runs (frame_on (row_at c f k.stands) k.stands.insn.next 0 f)
   frame_stored =
-      land c marked frozen are behind owns z next t (length fs) (old_on 0 null) false (frame_on (row_at c f k.stands) k.stands.insn.next 0 f) k.stands.method k.stands.frames k.stands.at.frames (frame_after k.stands.method (row_at c f k.stands) k.stands.types) (tags_after k.stands.insn (row_at c f k.stands) k.stands.tags)
-      k.stands.at.in_program k.stands.types_of_method k.stands.at.of_method
-      (edge_at k.stands.method (within c.program) k.stands.method.code k.stands.frames (frame_after k.stands.method (row_at c f k.stands) k.stands.types) (edges k.stands.insn) k.stands.insn.next (rules_at c marked f k.stands).sound.edges_fit edge)
-      (edge_fits c marked f k.stands k.stands.insn.next edge_is)
-      (joined_onward c marked frozen are behind owns f (frame_on (row_at c f k.stands) k.stands.insn.next 0 f) k.stands refl edge_is) well (receiver_on (builds frozen k.stands.method) k.receiver)
+      lands_behind (in_world behind z) (length fs) (old_on 0 (null lawful)) f k.stands k.stands.insn.next (frame_on (row_at c f k.stands) k.stands.insn.next 0 f).stack (frame_on (row_at c f k.stands) k.stands.insn.next 0 f).locals put.edge false
+      well (receiver_on (builds frozen k.stands.method) k.receiver)
       (subst (λ (a : TypeFrame). SlotsAre (SlotOf frozen z next t (length fs) Runs k.stands.method f.receiver) a.stack (tags_after k.stands.insn (row_at c f k.stands) k.stands.tags).stack (stack_after 0 (λ t. 0) (row_at c f k.stands) f.stack f.locals)) (sym types_are)
       (subst (λ (g : TagShape). SlotsAre (SlotOf frozen z next t (length fs) Runs k.stands.method f.receiver) After.stack g.stack (stack_after 0 (λ t. 0) (row_at c f k.stands) f.stack f.locals)) (sym tags_are)
       (subst (SlotsAre (SlotOf frozen z next t (length fs) Runs k.stands.method f.receiver) After.stack Tags.stack) (sym values_are) (slots_on After.stack Tags.stack (drop (length (row_at c f k.stands).takes) f.stack) below_two))))
@@ -221,18 +227,18 @@ module _ (c : MarkedProgram) (marked : IsMarked c) (frozen : ℕ → Bool) (are 
 
   -- ---- all frames
 
-  below_stored : KeepBelow c frozen behind z next t f fs
+  below_stored : BelowIn (in_world behind z) f fs
   below_stored =
-      below_kept c frozen behind w z next next t old_on f fs (λ i less v x e. without_keeps w new v (builder t i x) e (λ s. (let same : i ≡ length fs = ap (λ (x : Builder). x.height) s in omega (arith, same, less))))
-      (below_on c frozen owning array word unstored zero_apart new refl w next t is_new f fs (λ i less s. (let same : i ≡ length fs = ap (λ (x : Builder). x.height) s in omega (arith, same, less))) apart b)
+      below_kept behind z next old_on f fs (λ i less v x e. without_keeps w new v (builder t i x) e (λ s. (let same : i ≡ length fs = ap (λ (x : Builder). x.height) s in omega (arith, same, less))))
+      (below_on building it is_new f fs (λ i less s. (let same : i ≡ length fs = ap (λ (x : Builder). x.height) s in omega (arith, same, less))) apart b)
 
-  pub stores_it : Steps w next t (λ z. FramesKeep c frozen behind z next t Runs (went_on c.program (top_here c f fs k.stands) 0))
+  pub stores_it : Steps w next t (λ z. FramesIn (in_world behind z) Runs (went_on c.program (top_here c f fs k.stands) 0))
   stores_it = record {
     later = without w (builder t (length fs) Unstored);
     goes = goes_without w next t (builder t (length fs) Unstored) refl;
     world = λ first is. world_without w first next (builder t (length fs) Unstored) is;
     lost = lost_without w (builder t (length fs) Unstored) (λ e. cc);
-    keeps = (frame_stored, below_moved c frozen behind z next t f k.stands.insn.next (frame_on (row_at c f k.stands) k.stands.insn.next 0 f).stack (frame_on (row_at c f k.stands) k.stands.insn.next 0 f).locals fs below_stored);
+    keeps = (frame_stored, below_moved (in_world behind z) f k.stands.insn.next (frame_on (row_at c f k.stands) k.stands.insn.next 0 f).stack (frame_on (row_at c f k.stands) k.stands.insn.next 0 f).locals fs below_stored);
   }
 
   -- it is finished behind it

@@ -4,7 +4,7 @@ use Rattle.std.proofs.Common.{◌≡◌, ℕ, suc, ◌+◌, ◌-◌, Bool, true,
 use Rattle.std.{specs.List.AllByRecursion, proofs.lemmas.List.{length-append, length-map, length-drop, length-set, length-replicate}}
 use Rattle.jvm_types.specs.{CodeGrammar.is_start, CodeTable.{row, is_init, type_of, value_of, stack_after, locals_after}, Members.is_static}
 use Rattle.jvm_types.specs.Types.{TypeFrame, frame_below, entry_type_frame, receiver_types}
-use Rattle.jvm_types.specs.{Verifying.{edges, covering, started, after_start, initialised, frame_after, frame_at_handler, HasTyping, IsLaidOut}, declared.{code.{Insn.Insn, Op.Op}, op_row.Given.Given}}
+use Rattle.jvm_types.specs.{Verifying.{edges, covering, started, after_start, frame_after, frame_at_handler, HasTyping, IsLaidOut}, declared.{code.{Insn.Insn, Op.Op}, op_row.Given.Given}}
 use Rattle.jvm_types.specs.declared.{op_row.OpRow.OpRow, program.{MethodInfo.MethodInfo, Program.Program, Row.Row, Target.Target}, typing.VType.{VType, TheVariants.{Ref, This, Top}}}
 use Rattle.jvm_types.proofs.{EachAfter.all_weaker, FrameOrder.{stack_below, locals_below, pairs_length}}
 use Rattle.laws_programs.proofs.{CodeOrder.one_number, EdgeTargets.lands, LocalGoing.{begins, local_law}, VisitsEnd.initialised_length}
@@ -17,10 +17,20 @@ use Rattle.jvm_types.specs.declared.code.Op.TheVariants as ops
 
 -- ---- any such fact
 
-module _ (p : Program) (m : MethodInfo) (frames : List (Option TypeFrame)) (laid : IsLaidOut m) (typed : HasTyping p m frames) (P : TypeFrame → TagShape → Type 0)
-    (start : P (entry_type_frame m) (entry_tags m)) (rises : (g h : TypeFrame) (f : TagShape) → frame_below g h ≡ true → P g f → P h f) (meets : (g : TypeFrame) (f h : TagShape) → P g f → P g h → P g (tag_meeting.meet f h))
-    (onward : (insn : Insn) (target : Target) (g : TypeFrame) (f : TagShape) → P g f → P (frame_after m (row p m insn.pc target insn.op) g) (tags_after insn (row p m insn.pc target insn.op) f))
-    (caught : (handler : Row) (g : TypeFrame) (f : TagShape) → P g f → P (frame_at_handler handler g) (tags_at_handler f)) where
+-- one that holds where a method begins, and goes on from types and tags to those behind
+pub record GoesAlong (p : Program) (m : MethodInfo) (P : TypeFrame → TagShape → Type 0) : Type 0 where
+  pub start : P (entry_type_frame m) (entry_tags m)
+  pub rises : (g h : TypeFrame) (f : TagShape) → frame_below g h ≡ true → P g f → P h f
+  pub meets : (g : TypeFrame) (f h : TagShape) → P g f → P g h → P g (tag_meeting.meet f h)
+  pub onward : (insn : Insn) (target : Target) (g : TypeFrame) (f : TagShape) → P g f → P (frame_after m (row p m insn.pc target insn.op) g) (tags_after insn (row p m insn.pc target insn.op) f)
+  pub caught : (handler : Row) (g : TypeFrame) (f : TagShape) → P g f → P (frame_at_handler handler g) (tags_at_handler f)
+
+one_there : (o : Option (Option TypeFrame)) (x y : TypeFrame) → o ≡ Some (Some x) → o ≡ Some (Some y) → x ≡ y
+one_there o x y d e = cc
+
+module _ (p : Program) (m : MethodInfo) (frames : List (Option TypeFrame)) (laid : IsLaidOut m) (typed : HasTyping p m frames) (P : TypeFrame → TagShape → Type 0) (along : GoesAlong p m P) where
+  open along use {start, rises, meets, onward, caught}
+
   typing : types.IsAssignment p m frames
   typing = local_law p m frames laid typed
 
@@ -83,9 +93,6 @@ module _ (p : Program) (m : MethodInfo) (frames : List (Option TypeFrame)) (laid
   meets_have i g f a b =
       let same : b.0 ≡ a.0 = one_there (slice_get frames i) b.0 a.0 b.1 a.1 in
       (a.0, a.1, meets a.0 g f a.2 (subst (λ (x : TypeFrame). P x f) same b.2))
-    where
-      one_there : (o : Option (Option TypeFrame)) (x y : TypeFrame) → o ≡ Some (Some x) → o ≡ Some (Some y) → x ≡ y
-      one_there o x y d e = cc
 
   pub all_have : (tags : List (Option TagShape)) → HasTagging p m tags → (i : ℕ) (g : TypeFrame) (f : TagShape) → slice_get frames i ≡ Some (Some g) → slice_get tags i ≡ Some (Some f) → P g f
   all_have tags tagged i g f t e =
@@ -93,9 +100,6 @@ module _ (p : Program) (m : MethodInfo) (frames : List (Option TypeFrame)) (laid
       let has = (local (tag_plan p m) IsShapeBelow tag_order HasIt closed (begins m laid) tags tagged).live i f e in
       let same : has.0 ≡ g = one_there (slice_get frames i) has.0 g has.1 t in
       subst (λ (x : TypeFrame). P x f) same has.2
-    where
-      one_there : (o : Option (Option TypeFrame)) (x y : TypeFrame) → o ≡ Some (Some x) → o ≡ Some (Some y) → x ≡ y
-      one_there o x y d e = cc
 
 -- ---- there are as many tags as types
 
@@ -184,4 +188,4 @@ entry_many m fits = record { stack = refl; locals = by_flag (is_static m.flags) 
 pub tags_many : (p : Program) (m : MethodInfo) (frames : List (Option TypeFrame)) (tags : List (Option TagShape)) → IsLaidOut m → HasTyping p m frames → HasTagging p m tags → length (entry_type_frame m).locals ≡ m.max_locals
     → (i : ℕ) (g : TypeFrame) (f : TagShape) → slice_get frames i ≡ Some (Some g) → slice_get tags i ≡ Some (Some f) → AreAsMany g f
 tags_many p m frames tags laid typed tagged fits =
-    all_have p m frames laid typed AreAsMany (entry_many m fits) rises_many meets_many (onward_many p m) (λ handler g f k. record { stack = refl; locals = k.locals }) tags tagged
+    all_have p m frames laid typed AreAsMany (record { start = entry_many m fits; rises = rises_many; meets = meets_many; onward = onward_many p m; caught = λ handler g f k. record { stack = refl; locals = k.locals } }) tags tagged

@@ -4,40 +4,42 @@ use Rattle.std.{specs.List.AllByRecursion, proofs.lemmas.Bool.{eqb-true, eqb-fal
 use Rattle.jvm_types.specs.ProgramInvariant.{words_of}
 use Rattle.laws_programs.proofs.LocalGoing.{at_index}
 use Rattle.checked_program.specs.MarkedProgram.{MarkedProgram}
-use Rattle.machine_types.specs.{Construction.{Owning, Runs, FramesKeep, PhaseKeepsFrames, PhaseKeeps, AttemptKeeps, AttemptKeepsIn, ThreadKeeps}, Elision.put_back, Going.{root_over, runs, goes_on}}
+use Rattle.machine_types.specs.{Construction.{Runs, PhaseKeeps}, Elision.put_back, OwnedPlaces.Stores, Going.{root_over, runs, goes_on}}
 use Rattle.machine_types.specs.{HeldMonitors.{held_at, with_held, without_held}, Onward.{Onward, Running, Throwing, Entering, Leaving, RootReturned, Uncaught}}
 use Rattle.machine_types.specs.{Structure.{IsStructured, AttemptStandsIn}, Threads.{Frame, Attempt, Thread}, Worlds.{Lost, Builder, World, IsFinished, IsOwnOrFinished, IsWorld, IsViewOf, GoesOn}}
 use Rattle.machine_types.specs.declared.{lock.Held.Held, phase.Phase.Phase}
 use Rattle.laws_threads.{specs.{EntryFrames.{frames_in, KeepsEntry}, StructureLaws.counted_by}, proofs.ThreadMove.{goes_held, goes_attempt}}
 use Rattle.laws_states.proofs.Lists.{contained_got, contains_first, contains_more}
-use Rattle.laws_objects.proofs.{CountedPhases.PhaseFits, KeptFrames.{KeepsAt, phase_frames_kept, phase_kept, attempt_kept}, Moves.Steps, Onwards.OnwardKeeps}
-use Rattle.laws_objects.proofs.{Views.{IsOwnIn, IsNoneOf, own_or_not, known_on}, WorldChanges.{none_some, goes_same, goes_both, world_same, KeepsLost, lost_same}}
+use Rattle.laws_objects.proofs.{Buildings.{Building, in_world, in_later, with_stores, FramesIn, PhaseIn, TriesIn, AttemptIn, ThreadIn}, CountedPhases.PhaseFits}
+use Rattle.laws_objects.proofs.{KeptFrames.{KeepsAt, phase_frames_kept, phase_kept, attempt_kept}, Moves.Steps, Onwards.OnwardKeeps, Views.{IsOwnIn, IsNoneOf, own_or_not, known_on}}
+use Rattle.laws_objects.proofs.WorldChanges.{none_some, goes_same, goes_both, world_same, KeepsLost, lost_same}
 use Rattle.jvm_types.specs.declared.outcome.End.TheVariants as ends
 use Rattle.machine_types.specs.declared.phase.Phase.TheVariants as phases
 
 -- ---- what is kept of a thread, in a world that it leaves
 
 -- seen: the world as the thread saw it before
-pub record Moved (c : MarkedProgram) (frozen : ℕ → Bool) (owning : Owning) (w seen : World) (next more t : ℕ) (was : Phase) (y : Thread) : Type 0 where
+pub record Moved (b : Building) (seen : World) (more : ℕ) (was : Phase) (y : Thread) : Type 0 where
   pub later : World
-  pub goes : GoesOn w later next more t 0
-  pub world : IsWorld w (words_of c.program) next → IsWorld later (words_of c.program) more
-  pub keeps : ThreadKeeps c frozen owning later more t was y
-  pub lost : (v : ℕ) (b : Builder) → b.item ≡ Lost → w v ≡ Some b → seen v ≡ Some b → (later v ≡ Some b) × (keeps.now v ≡ Some b)
+  pub goes : GoesOn b.w later b.next more b.t 0
+  pub world : IsWorld b.w (words_of b.c.program) b.next → IsWorld later (words_of b.c.program) more
+  pub keeps : ThreadIn (in_later b later more) was y
+  pub lost : (v : ℕ) (d : Builder) → d.item ≡ Lost → b.w v ≡ Some d → seen v ≡ Some d → (later v ≡ Some d) × (keeps.now v ≡ Some d)
 
 -- into this world, which the thread sees
-pub record MovedTo (c : MarkedProgram) (frozen : ℕ → Bool) (owning : Owning) (w seen : World) (next more t : ℕ) (was : Phase) (y : Thread) (z : World) : Type 0 where
-  pub moves : Moved c frozen owning w seen next more t was y
+pub record MovedTo (b : Building) (seen : World) (more : ℕ) (was : Phase) (y : Thread) (z : World) : Type 0 where
+  pub moves : Moved b seen more was y
   pub is_later : moves.later ≡ z
   pub is_now : moves.keeps.now ≡ z
 
 -- as the thread sees it
-pub record Sees (c : MarkedProgram) (frozen : ℕ → Bool) (owning : Owning) (now : World) (next more t : ℕ) (was : Phase) (y : Thread) : Type 0 where
+-- b: in the world as it was
+pub record Sees (b : Building) (more : ℕ) (was : Phase) (y : Thread) : Type 0 where
   pub later : World
-  pub goes : GoesOn now later next more t 0
-  pub world : IsWorld now (words_of c.program) next → IsWorld later (words_of c.program) more
-  pub lost : KeepsLost now later
-  pub fits : PhaseFits c frozen owning later more t y.frames was
+  pub goes : GoesOn b.w later b.next more b.t 0
+  pub world : IsWorld b.w (words_of b.c.program) b.next → IsWorld later (words_of b.c.program) more
+  pub lost : KeepsLost b.w later
+  pub fits : PhaseFits (in_later b later more) y.frames was
 
 -- ---- monitors that are held
 
@@ -107,11 +109,7 @@ entry_same None p fs = tt
 
 pub goes_frames : (s : Thread) (o : Onward) → (goes_on s o).frames ≡ frames_in o
 goes_frames s (Running fs) = refl
-goes_frames s (Throwing e class fs) = refl
-goes_frames s (Entering m fs) = refl
-goes_frames s (Leaving m a fs) = refl
-goes_frames s RootReturned = refl
-goes_frames s (Uncaught class) = refl
+goes_frames s o = refl
 
 -- ---- an attempt is based below the frames inside it
 
@@ -163,7 +161,9 @@ module _ (w now : World) (t : ℕ) (o : Option Attempt) (view : IsViewOf now w t
 
 -- ---- a thread
 
-module _ (c : MarkedProgram) (frozen : ℕ → Bool) (owning : Owning) (w : World) (next t : ℕ) (was : Phase) (x : Thread) (k : ThreadKeeps c frozen owning w next t was x) (is_world : IsWorld w (words_of c.program) next) where
+module _ (building : Building) (was : Phase) (x : Thread) (k : ThreadIn building was x) (is_world : IsWorld building.w (words_of building.c.program) building.next) where
+  open building use {c, owning, w, next, t}
+
   pub held_known : AreKnown w next t x.held
   held_known = all_of (λ (h : Held). IsOwnOrFinished w next t h.monitor) x.held k.held
 
@@ -171,10 +171,10 @@ module _ (c : MarkedProgram) (frozen : ℕ → Bool) (owning : Owning) (w : Worl
   now_world = k.now_world is_world
 
   -- outside an attempt; more words may be taken then
-  pub outside : (after : Owning) (more : ℕ) (now : Phase) (y : Thread) → x.attempt ≡ None → y.attempt ≡ None → AreKnown w next t y.held → Sees c frozen after k.now next more t now y → Moved c frozen after w k.now next more t now y
+  pub outside : (after : Stores) (more : ℕ) (now : Phase) (y : Thread) → x.attempt ≡ None → y.attempt ≡ None → AreKnown w next t y.held → Sees (in_world (with_stores building after) k.now) more now y → Moved (with_stores building after) k.now more now y
   outside after more now y none still held s = by_world w (view_same w k.now t x.attempt k.now_is none) is_world
     where
-      by_world : (v : World) → k.now ≡ v → IsWorld v (words_of c.program) next → Moved c frozen after w k.now next more t now y
+      by_world : (v : World) → k.now ≡ v → IsWorld v (words_of c.program) next → Moved (with_stores building after) k.now more now y
       by_world v e is =
           let back : k.now ≡ w = view_same w k.now t x.attempt k.now_is none in
           let goes : GoesOn w s.later next more t 0 = subst (λ (z : World). GoesOn z s.later next more t 0) back s.goes in
@@ -189,13 +189,13 @@ module _ (c : MarkedProgram) (frozen : ℕ → Bool) (owning : Owning) (w : Worl
               frames = s.fits.0;
               phase = s.fits.1;
               held = λ h there. known_on w s.later next more t t goes h.monitor (of_all (λ (h : Held). IsOwnOrFinished w next t h.monitor) y.held held h there);
-              attempt = subst (AttemptKeepsIn c frozen after s.later more t y.frames) (sym still) tt;
+              attempt = subst (TriesIn (in_later (with_stores building after) s.later more) y.frames) (sym still) tt;
             };
             lost = λ v b item e f. (s.lost v b item f, s.lost v b item f);
           }
 
   -- it is in no attempt then, or no longer
-  pub in_none : (after : Owning) (now : Phase) (y : Thread) → y.attempt ≡ None → AreKnown w next t y.held → (s : Sees c frozen after k.now next next t now y) → MovedTo c frozen after w k.now next next t now y s.later
+  pub in_none : (after : Stores) (now : Phase) (y : Thread) → y.attempt ≡ None → AreKnown w next t y.held → (s : Sees (in_world (with_stores building after) k.now) next now y) → MovedTo (with_stores building after) k.now next now y s.later
   in_none after now y f held s =
       let goes = goes_both w k.now s.later next next next t (view_goes w k.now t x.attempt k.now_is next) s.goes in
       record {
@@ -210,7 +210,7 @@ module _ (c : MarkedProgram) (frozen : ℕ → Bool) (owning : Owning) (w : Worl
             frames = s.fits.0;
             phase = s.fits.1;
             held = λ h there. known_on w s.later next next t t goes h.monitor (of_all (λ (h : Held). IsOwnOrFinished w next t h.monitor) y.held held h there);
-            attempt = subst (AttemptKeepsIn c frozen after s.later next t y.frames) (sym f) tt;
+            attempt = subst (TriesIn (in_world (with_stores building after) s.later) y.frames) (sym f) tt;
           };
           lost = λ v b item e h. (s.lost v b item h, s.lost v b item h);
         };
@@ -218,15 +218,15 @@ module _ (c : MarkedProgram) (frozen : ℕ → Bool) (owning : Owning) (w : Worl
         is_now = refl;
       }
 
-  pub moved_on : (now : Phase) (y : Thread) → AreKnown w next t y.held → AttemptFrom x.attempt y.attempt → EntryKept x.attempt y.attempt x.frames y.frames → Sees c frozen owning k.now next next t now y → Moved c frozen owning w k.now next next t now y
+  pub moved_on : (now : Phase) (y : Thread) → AreKnown w next t y.held → AttemptFrom x.attempt y.attempt → EntryKept x.attempt y.attempt x.frames y.frames → Sees (in_world building k.now) next now y → Moved building k.now next now y
   moved_on now y held from entry s = by_both x.attempt refl y.attempt refl from entry
     where
-      by_both : (o : Option Attempt) → x.attempt ≡ o → (p : Option Attempt) → y.attempt ≡ p → AttemptFrom o p → EntryKept o p x.frames y.frames → Moved c frozen owning w k.now next next t now y
-      by_both None e None f from entry = outside owning next now y e f held s
+      by_both : (o : Option Attempt) → x.attempt ≡ o → (p : Option Attempt) → y.attempt ≡ p → AttemptFrom o p → EntryKept o p x.frames y.frames → Moved building k.now next now y
+      by_both None e None f from entry = outside owning.stores next now y e f held s
       by_both None e (Some b) f from entry = absurd from
-      by_both (Some a) e None f from entry = (in_none owning now y f held s).moves
+      by_both (Some a) e None f from entry = (in_none owning.stores now y f held s).moves
       by_both (Some a) e (Some b) f from entry =
-          let kept : AttemptKeeps c frozen owning w next t x.frames a = subst (AttemptKeepsIn c frozen owning w next t x.frames) e k.attempt in
+          let kept : AttemptIn building x.frames a = subst (TriesIn building x.frames) e k.attempt in
           let same : put_back b y.frames ≡ put_back a y.frames = λ i. from.2 i ∷ drop (length y.frames - from.1 i) y.frames in
           record {
             later = w;
@@ -239,15 +239,15 @@ module _ (c : MarkedProgram) (frozen : ℕ → Bool) (owning : Owning) (w : Worl
               frames = s.fits.0;
               phase = s.fits.1;
               held = of_all (λ (h : Held). IsOwnOrFinished w next t h.monitor) y.held held;
-              attempt = subst (AttemptKeepsIn c frozen owning w next t y.frames) (sym f) (record { monitor = subst (IsOwnOrFinished w next t) (sym from.0) kept.monitor; goes_back = subst (FramesKeep c frozen owning w next t Runs) (sym (same ∙ entry)) kept.goes_back });
+              attempt = subst (TriesIn building y.frames) (sym f) (record { monitor = subst (IsOwnOrFinished w next t) (sym from.0) kept.monitor; goes_back = subst (FramesIn building Runs) (sym (same ∙ entry)) kept.goes_back });
             };
             lost = λ v d item e h. (e, s.lost v d item h);
           }
 
   -- an attempt fails
-  pub failed : (a : Attempt) (y : Thread) → x.attempt ≡ Some a → y.frames ≡ put_back a x.frames → y.held ≡ x.held → y.attempt ≡ None → Moved c frozen owning w k.now next next t (phases.Enter a.monitor a.number) y
+  pub failed : (a : Attempt) (y : Thread) → x.attempt ≡ Some a → y.frames ≡ put_back a x.frames → y.held ≡ x.held → y.attempt ≡ None → Moved building k.now next (phases.Enter a.monitor a.number) y
   failed a y e frames held none =
-      let kept : AttemptKeeps c frozen owning w next t x.frames a = subst (AttemptKeepsIn c frozen owning w next t x.frames) e k.attempt in
+      let kept : AttemptIn building x.frames a = subst (TriesIn building x.frames) e k.attempt in
       record {
         later = w;
         goes = goes_same w next next t (omega arith);
@@ -256,20 +256,20 @@ module _ (c : MarkedProgram) (frozen : ℕ → Bool) (owning : Owning) (w : Worl
           now = w;
           now_is = same_view w t y.attempt;
           now_world = λ z. z;
-          frames = subst (FramesKeep c frozen owning w next t Runs) (sym frames) kept.goes_back;
+          frames = subst (FramesIn building Runs) (sym frames) kept.goes_back;
           phase = kept.monitor;
           held = subst (λ (hs : List Held). (h : Held) → Contains hs h → IsOwnOrFinished w next t h.monitor) (sym held) k.held;
-          attempt = subst (AttemptKeepsIn c frozen owning w next t y.frames) (sym none) tt;
+          attempt = subst (TriesIn building y.frames) (sym none) tt;
         };
         lost = λ v b item e f. (e, e);
       }
 
   -- an attempt begins
   pub begun : (m tried : ℕ) (a : Attempt) (f : Frame) (below : List Frame) (y : Thread) → was ≡ phases.Enter m tried → x.attempt ≡ None → x.frames ≡ f ∷ below → y.frames ≡ x.frames → y.held ≡ x.held → y.attempt ≡ Some a → a.monitor ≡ m → a.base ≡ length below → a.entry ≡ f
-      → Moved c frozen owning w k.now next next t phases.Run y
+      → Moved building k.now next phases.Run y
   begun m tried a f below y is none there frames held e monitor base entry =
       let back : k.now ≡ w = view_same w k.now t x.attempt k.now_is none in
-      let stood : FramesKeep c frozen owning w next t Runs x.frames = subst (λ (z : World). FramesKeep c frozen owning z next t Runs x.frames) back (subst (λ (phase : Phase). PhaseKeepsFrames c frozen owning k.now next t phase x.frames) is k.frames) in
+      let stood : FramesIn building Runs x.frames = subst (λ (z : World). FramesIn (in_world building z) Runs x.frames) back (subst (λ (phase : Phase). PhaseIn (in_world building k.now) phase x.frames) is k.frames) in
       let known : IsOwnOrFinished w next t m = subst (λ (z : World). IsOwnOrFinished z next t m) back (subst (PhaseKeeps k.now next t) is k.phase) in
       let one : length (f ∷ below) - length below ≡ 1 = omega arith in
       let whole : put_back a y.frames ≡ x.frames = ap (put_back a) (frames ∙ there) ∙ (λ i. entry i ∷ drop (length (f ∷ below) - base i) (f ∷ below)) ∙ ap (λ (n : ℕ). f ∷ drop n (f ∷ below)) one ∙ sym there in
@@ -281,46 +281,46 @@ module _ (c : MarkedProgram) (frozen : ℕ → Bool) (owning : Owning) (w : Worl
           now = w;
           now_is = same_view w t y.attempt;
           now_world = λ z. z;
-          frames = subst (FramesKeep c frozen owning w next t Runs) (sym frames) stood;
+          frames = subst (FramesIn building Runs) (sym frames) stood;
           phase = tt;
           held = subst (λ (hs : List Held). (h : Held) → Contains hs h → IsOwnOrFinished w next t h.monitor) (sym held) k.held;
-          attempt = subst (AttemptKeepsIn c frozen owning w next t y.frames) (sym e) (record { monitor = subst (IsOwnOrFinished w next t) (sym monitor) known; goes_back = subst (FramesKeep c frozen owning w next t Runs) (sym whole) stood });
+          attempt = subst (TriesIn building y.frames) (sym e) (record { monitor = subst (IsOwnOrFinished w next t) (sym monitor) known; goes_back = subst (FramesIn building Runs) (sym whole) stood });
         };
         lost = λ v b item e f. (e, e);
       }
 
   -- ---- it goes on
 
-  runs_sees : (s : Thread) (fs : List Frame) → Steps k.now next t (λ z. FramesKeep c frozen owning z next t Runs fs) → Sees c frozen owning k.now next next t (counted_by was (runs (record s { frames = fs })).phase) (runs (record s { frames = fs }))
+  runs_sees : (s : Thread) (fs : List Frame) → Steps k.now next t (λ z. FramesIn (in_world building z) Runs fs) → Sees (in_world building k.now) next (counted_by was (runs (record s { frames = fs })).phase) (runs (record s { frames = fs }))
   runs_sees s fs o = by_limit (nat_lt s.counts.instructions s.cfg.steps)
     where
-      by_limit : (left : Bool) → Sees c frozen owning k.now next next t (counted_by was (cond left phases.Run (phases.Ending ends.Steps))) (record s { frames = fs; phase = cond left phases.Run (phases.Ending ends.Steps) })
+      by_limit : (left : Bool) → Sees (in_world building k.now) next (counted_by was (cond left phases.Run (phases.Ending ends.Steps))) (record s { frames = fs; phase = cond left phases.Run (phases.Ending ends.Steps) })
       by_limit true = record { later = o.later; goes = o.goes; world = o.world (words_of c.program); lost = o.lost; fits = (o.keeps, tt) }
       by_limit false = record { later = o.later; goes = o.goes; world = o.world (words_of c.program); lost = o.lost; fits = (o.keeps, tt) }
 
   -- outside an attempt, where other arrays were stored then
-  pub runs_to : (after : Owning) (s : Thread) (fs : List Frame) (o : Steps k.now next t (λ z. FramesKeep c frozen after z next t Runs fs)) → s.attempt ≡ None → AreKnown w next t s.held
-      → MovedTo c frozen after w k.now next next t (counted_by was (runs (record s { frames = fs })).phase) (runs (record s { frames = fs })) o.later
+  pub runs_to : (after : Stores) (s : Thread) (fs : List Frame) (o : Steps k.now next t (λ z. FramesIn (in_world (with_stores building after) z) Runs fs)) → s.attempt ≡ None → AreKnown w next t s.held
+      → MovedTo (with_stores building after) k.now next (counted_by was (runs (record s { frames = fs })).phase) (runs (record s { frames = fs })) o.later
   runs_to after s fs o none held = by_limit (nat_lt s.counts.instructions s.cfg.steps)
     where
-      by_limit : (left : Bool) → MovedTo c frozen after w k.now next next t (counted_by was (cond left phases.Run (phases.Ending ends.Steps))) (record s { frames = fs; phase = cond left phases.Run (phases.Ending ends.Steps) }) o.later
+      by_limit : (left : Bool) → MovedTo (with_stores building after) k.now next (counted_by was (cond left phases.Run (phases.Ending ends.Steps))) (record s { frames = fs; phase = cond left phases.Run (phases.Ending ends.Steps) }) o.later
       by_limit true = in_none after phases.Run (record s { frames = fs; phase = phases.Run }) none held (record { later = o.later; goes = o.goes; world = o.world (words_of c.program); lost = o.lost; fits = (o.keeps, tt) })
       by_limit false = in_none after (counted_by was (phases.Ending ends.Steps)) (record s { frames = fs; phase = phases.Ending ends.Steps }) none held (record { later = o.later; goes = o.goes; world = o.world (words_of c.program); lost = o.lost; fits = (o.keeps, tt) })
 
-  pub onward_sees : (s : Thread) (o : Onward) → Steps k.now next t (λ z. OnwardKeeps c frozen owning z next t o) → Sees c frozen owning k.now next next t (counted_by was (goes_on s o).phase) (goes_on s o)
+  pub onward_sees : (s : Thread) (o : Onward) → Steps k.now next t (λ z. OnwardKeeps (in_world building z) o) → Sees (in_world building k.now) next (counted_by was (goes_on s o).phase) (goes_on s o)
   onward_sees s (Running fs) o = runs_sees s fs o
   onward_sees s (Throwing e class fs) o = record { later = o.later; goes = o.goes; world = o.world (words_of c.program); lost = o.lost; fits = (o.keeps.1, o.keeps.0) }
   onward_sees s (Entering m fs) o = record { later = o.later; goes = o.goes; world = o.world (words_of c.program); lost = o.lost; fits = (o.keeps.1, o.keeps.0) }
   onward_sees s (Leaving m a fs) o = record { later = o.later; goes = o.goes; world = o.world (words_of c.program); lost = o.lost; fits = (o.keeps.2, (o.keeps.0, o.keeps.1)) }
   onward_sees s RootReturned o = by_roots s.roots
     where
-      by_roots : (roots : List ℕ) → Sees c frozen owning k.now next next t (counted_by was (root_over roots)) (record s { frames = []; phase = root_over roots })
+      by_roots : (roots : List ℕ) → Sees (in_world building k.now) next (counted_by was (root_over roots)) (record s { frames = []; phase = root_over roots })
       by_roots [] = record { later = o.later; goes = o.goes; world = o.world (words_of c.program); lost = o.lost; fits = (tt, tt) }
       by_roots (number ∷ roots) = record { later = o.later; goes = o.goes; world = o.world (words_of c.program); lost = o.lost; fits = (tt, tt) }
   onward_sees s (Uncaught class) o = record { later = o.later; goes = o.goes; world = o.world (words_of c.program); lost = o.lost; fits = (tt, tt) }
 
   pub onward_moves : (s : Thread) (o : Onward) → IsStructured c was x → IsStructured c (counted_by was (goes_on s o).phase) (goes_on s o) → AreKnown w next t s.held → AttemptFrom x.attempt s.attempt → ((a : Attempt) → x.attempt ≡ Some a → KeepsEntry a x.frames o)
-      → Steps k.now next t (λ z. OnwardKeeps c frozen owning z next t o) → Moved c frozen owning w k.now next next t (counted_by was (goes_on s o).phase) (goes_on s o)
+      → Steps k.now next t (λ z. OnwardKeeps (in_world building z) o) → Moved building k.now next (counted_by was (goes_on s o).phase) (goes_on s o)
   onward_moves s o stood stands held from keeps step =
       moved_on (counted_by was (goes_on s o).phase) (goes_on s o) (subst (AreKnown w next t) (sym (goes_held s o)) held) (subst (AttemptFrom x.attempt) (sym (goes_attempt s o)) from)
       (entry x.attempt refl (goes_on s o).attempt (subst (AttemptFrom x.attempt) (sym (goes_attempt s o)) from) (based_in c was x.frames x.held x.attempt stood.attempt) (based_in c (counted_by was (goes_on s o).phase) (goes_on s o).frames (goes_on s o).held (goes_on s o).attempt stands.attempt))
@@ -335,35 +335,38 @@ module _ (c : MarkedProgram) (frozen : ℕ → Bool) (owning : Owning) (w : Worl
 
   -- ---- it changes its phase alone
 
-  pub phase_moves : (now : Phase) (y : Thread) → y.frames ≡ x.frames → y.attempt ≡ x.attempt → AreKnown w next t y.held → PhaseFits c frozen owning k.now next t x.frames now → Moved c frozen owning w k.now next next t now y
+  pub phase_moves : (now : Phase) (y : Thread) → y.frames ≡ x.frames → y.attempt ≡ x.attempt → AreKnown w next t y.held → PhaseFits (in_world building k.now) x.frames now → Moved building k.now next now y
   phase_moves now y frames attempt held fits =
       moved_on now y held (subst (AttemptFrom x.attempt) (sym attempt) (from_same x.attempt)) (subst (λ (fs : List Frame). EntryKept x.attempt y.attempt x.frames fs) (sym frames) (entry_same x.attempt y.attempt x.frames))
-      (record { later = k.now; goes = goes_same k.now next next t (omega arith); world = λ z. z; lost = lost_same k.now; fits = subst (λ (fs : List Frame). PhaseFits c frozen owning k.now next t fs now) (sym frames) fits })
+      (record { later = k.now; goes = goes_same k.now next next t (omega arith); world = λ z. z; lost = lost_same k.now; fits = subst (λ (fs : List Frame). PhaseFits (in_world building k.now) fs now) (sym frames) fits })
 
 -- ---- more words are taken meanwhile
 
-pub moved_more : (c : MarkedProgram) (frozen : ℕ → Bool) (owning : Owning) (w seen : World) (next more t : ℕ) (was : Phase) (y : Thread) → IsWorld w (words_of c.program) next → next ≤ more → Moved c frozen owning w seen next next t was y → Moved c frozen owning w seen next more t was y
-moved_more c frozen owning w seen next more t was y is grows m =
-    let k = m.keeps in
-    let old : (v : World) (u : ℕ) → IsFinished v next u → IsFinished v more u = λ v u o. ((let l = o.0 in omega (arith, l, grows)), o.1) in
-    let known : (v : World) (u : ℕ) → IsOwnOrFinished v next t u → IsOwnOrFinished v more t u = λ v u o. ((let l = o.0 in omega (arith, l, grows)), o.1) in
-    let same : (v : World) (h : ℕ) → KeepsAt v v t h = λ v h u i e. e in
-    record {
-      later = m.later;
-      goes = record { grows = grows; finished = m.goes.finished; others = m.goes.others; no_more = m.goes.no_more; lower = m.goes.lower };
-      world = λ z. world_same m.later (words_of c.program) next more (m.world is) grows;
-      keeps = record {
-        now = k.now;
-        now_is = k.now_is;
-        now_world = λ z. world_same k.now (words_of c.program) next more (k.now_world (m.world is)) grows;
-        frames = phase_frames_kept c frozen owning k.now k.now next more t grows (old k.now) (same k.now) (known k.now) was y.frames k.frames;
-        phase = phase_kept c frozen owning k.now k.now next more t grows (old k.now) (same k.now) (known k.now) was k.phase;
-        held = λ h there. known m.later h.monitor (k.held h there);
-        attempt = attempt_kept c frozen owning m.later m.later next more t grows (old m.later) (same m.later) (known m.later) y.frames y.attempt k.attempt;
-      };
-      lost = m.lost;
-    }
+module _ (building : Building) (seen : World) (more : ℕ) (was : Phase) (y : Thread) where
+  open building use {c, w, next, t}
 
-pub moved_more_to : (c : MarkedProgram) (frozen : ℕ → Bool) (owning : Owning) (w seen : World) (next more t : ℕ) (was : Phase) (y : Thread) (z : World) → IsWorld w (words_of c.program) next → next ≤ more → MovedTo c frozen owning w seen next next t was y z → MovedTo c frozen owning w seen next more t was y z
-unfolding moved_more
-moved_more_to c frozen owning w seen next more t was y z is grows m = record { moves = moved_more c frozen owning w seen next more t was y is grows m.moves; is_later = m.is_later; is_now = m.is_now }
+  pub moved_more : IsWorld w (words_of c.program) next → next ≤ more → Moved building seen next was y → Moved building seen more was y
+  moved_more is grows m =
+      let k = m.keeps in
+      let old : (v : World) (u : ℕ) → IsFinished v next u → IsFinished v more u = λ v u o. ((let l = o.0 in omega (arith, l, grows)), o.1) in
+      let known : (v : World) (u : ℕ) → IsOwnOrFinished v next t u → IsOwnOrFinished v more t u = λ v u o. ((let l = o.0 in omega (arith, l, grows)), o.1) in
+      let same : (v : World) (h : ℕ) → KeepsAt v v t h = λ v h u i e. e in
+      record {
+        later = m.later;
+        goes = record { grows = grows; finished = m.goes.finished; others = m.goes.others; no_more = m.goes.no_more; lower = m.goes.lower };
+        world = λ z. world_same m.later (words_of c.program) next more (m.world is) grows;
+        keeps = record {
+          now = k.now;
+          now_is = k.now_is;
+          now_world = λ z. world_same k.now (words_of c.program) next more (k.now_world (m.world is)) grows;
+          frames = phase_frames_kept (in_world building k.now) k.now more grows (old k.now) (same k.now) (known k.now) was y.frames k.frames;
+          phase = phase_kept (in_world building k.now) k.now more grows (old k.now) (same k.now) (known k.now) was k.phase;
+          held = λ h there. known m.later h.monitor (k.held h there);
+          attempt = attempt_kept (in_world building m.later) m.later more grows (old m.later) (same m.later) (known m.later) y.frames y.attempt k.attempt;
+        };
+        lost = m.lost;
+      }
+
+  pub moved_more_to : (z : World) → IsWorld w (words_of c.program) next → next ≤ more → MovedTo building seen next was y z → MovedTo building seen more was y z
+  unfolding moved_more
+  moved_more_to z is grows m = record { moves = moved_more is grows m.moves; is_later = m.is_later; is_now = m.is_now }

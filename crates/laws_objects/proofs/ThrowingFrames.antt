@@ -5,12 +5,13 @@ use Rattle.lists.proofs.{ListLaws.same_some, TestLaws.{first_true, second_true}}
 use Rattle.jvm_types.specs.{ClassTree.is_subclass, CodeTable.{can_throw, row}, Types.{is_new, is_uninitialised}}
 use Rattle.jvm_types.specs.{Verifying.{some_operand, misuses, frame_at_handler, caught_class, covers, covering, is_return}, declared.{code.Insn.Insn, op_row.OpRow.OpRow, program.{Row.Row, Target.Target}, typing.VType.VType}}
 use Rattle.laws_programs.proofs.{LocalEdges.second_false, LocalGoing.at_index, NewEdges.none_of}
-use Rattle.checked_program.specs.{Colours.{ColourShape, is_coloured}, LockTags.{TagShape, IsShapeBelow}, MarkedProgram.{MarkedProgram, IsMarked}, OwnedArrays.IsOwnedAt, TaggedCode.{IsAt, caught}, Tagging.{until_all, catchers, tags_at_handler}, declared.tag.Tag.Tag}
-use Rattle.checked_program.{specs.declared.tag.Tag.TheVariants.{Untagged, This, At}, proofs.CheckedPlaces.catchers_among}
-use Rattle.machine_types.specs.Construction.{Owning, AreOwned, AreFrozen, builds, makes_frozen, SlotByType, OwnSlot, SlotIs, BuilderTurn, Runs, WaitsFor, Throws, IsFresh, SlotOf, IsNoStored, IsNoStoredLocal, SlotsFrom, FrameKeeps, KeepBelow, FramesKeep}
-use Rattle.machine_types.specs.{Frames.handler_of, OwnedPlaces.{Stores, IsStoredNowhere}, Standing.{Standing, row_at, tags_of}, Threads.Frame, Worlds.{World, IsFinished}}
+use Rattle.checked_program.specs.{Colours.{ColourShape, is_coloured}, LockTags.{TagShape, IsShapeBelow}, OwnedArrays.IsOwnedAt, TaggedCode.{IsAt, caught}, Tagging.{until_all, catchers, tags_at_handler}, declared.tag.Tag.Tag}
+use Rattle.checked_program.proofs.CheckedPlaces.{catchers_among}
+use Rattle.machine_types.specs.Construction.{builds, makes_frozen, SlotByType, SlotIs, BuilderTurn, Runs, WaitsFor, Throws, IsFresh, SlotOf, IsNoStored, IsNoStoredLocal, SlotsFrom}
+use Rattle.machine_types.specs.{Frames.handler_of, OwnedPlaces.{Stores, IsStoredNowhere}, Standing.{Standing, row_at, tags_of}, Threads.Frame, Worlds.IsFinished}
 use Rattle.laws_threads.proofs.{Callers.handler_in, Landing.{rules_at, tag_rules_at}, TypedMoves.handler_found}
-use Rattle.laws_objects.proofs.{ArraySlots.from_map, Landing.{inside_at, IsJoined, LandsWell, land}, PutPlaces.handler_plain, Slots.{slots_map, slots_map_if, slot_later, ref_slot}}
+use Rattle.laws_objects.proofs.{ArraySlots.from_map, Buildings.{Building, FrameIn, BelowIn, FramesIn}, Landing.{inside_at, IsJoined, LandsWell, land}, PutPlaces.handler_plain}
+use Rattle.laws_objects.proofs.Slots.{slots_map, slots_map_if, slot_by, slot_later, ref_slot}
 use Rattle.jvm_types.specs.Verifying as types
 use Rattle.jvm_types.specs.CodeTable as table
 use Rattle.jvm_types.specs.declared.typing.VType.TheVariants as vtypes
@@ -19,39 +20,33 @@ use Rattle.checked_program.specs.Visits as visits
 local_loosened : (stores : Stores) (turn : BuilderTurn) (u : VType) (v : ℕ) → IsNoStoredLocal stores turn u v → IsNoStoredLocal stores Throws u v
 local_loosened stores turn (vtypes.New q) v h = tt
 local_loosened stores Throws u v h = h
-local_loosened stores Runs vtypes.Int v h = tt
-local_loosened stores Runs vtypes.Top v h = tt
-local_loosened stores Runs vtypes.Null v h = h
-local_loosened stores Runs vtypes.This v h = h
-local_loosened stores Runs (vtypes.Ref c) v h = h
-local_loosened stores (WaitsFor receiver begun) vtypes.Int v h = tt
-local_loosened stores (WaitsFor receiver begun) vtypes.Top v h = tt
-local_loosened stores (WaitsFor receiver begun) vtypes.Null v h = h
-local_loosened stores (WaitsFor receiver begun) vtypes.This v h = h
-local_loosened stores (WaitsFor receiver begun) (vtypes.Ref c) v h = h
+local_loosened stores turn u v h = h
 
 -- whatever the frame was about to do, its stack says nothing more, nor do its slots with what a `new` made
-pub loosened : (c : MarkedProgram) (frozen : ℕ → Bool) (owning : Owning) (w : World) (next t h : ℕ) (turn : BuilderTurn) (f : Frame) → FrameKeeps c frozen owning w next t h turn f → FrameKeeps c frozen owning w next t h Throws f
-loosened c frozen owning w next t h turn f k = record {
-  stands = k.stands;
-  receiver = k.receiver;
-  stack = tt;
-  locals = slots_map (SlotOf frozen w next t h turn k.stands.method f.receiver) (SlotOf frozen w next t h Throws k.stands.method f.receiver)
-      (slot_later (IsFinished w next) (IsFinished w next) (IsFresh w t h turn) (IsFresh w t h Throws) (λ v o. o) (makes_frozen frozen k.stands.method) (λ q v y f. tt) (builds frozen k.stands.method) f.receiver)
-      k.stands.types.locals k.stands.tags.locals f.locals k.locals;
-  arrays = tt;
-  no_arrays = from_map (λ place. IsNoStoredLocal owning.stores turn) (λ place. IsNoStoredLocal owning.stores Throws) (λ n u v a. local_loosened owning.stores turn u v a) 0 k.stands.types.locals f.locals k.no_arrays;
-}
+module _ (building : Building) where
+  open building use {frozen, owning, w, next, t}
 
--- an instruction throws
-pub frames_throw : (c : MarkedProgram) (frozen : ℕ → Bool) (owning : Owning) (w : World) (next t : ℕ) (turn : BuilderTurn) (fs : List Frame) → FramesKeep c frozen owning w next t turn fs → FramesKeep c frozen owning w next t Throws fs
-frames_throw c frozen owning w next t turn [] k = tt
-frames_throw c frozen owning w next t turn (f ∷ fs) k = (loosened c frozen owning w next t (length fs) turn f k.0, k.1)
+  pub loosened : (h : ℕ) (turn : BuilderTurn) (f : Frame) → FrameIn building h turn f → FrameIn building h Throws f
+  loosened h turn f k = record {
+    stands = k.stands;
+    receiver = k.receiver;
+    stack = tt;
+    locals = slots_map (SlotOf frozen w next t h turn k.stands.method f.receiver) (SlotOf frozen w next t h Throws k.stands.method f.receiver)
+        (slot_later (IsFinished w next) (IsFinished w next) (IsFresh w t h turn) (IsFresh w t h Throws) (λ v o. o) (makes_frozen frozen k.stands.method) (λ q v y f. tt) (builds frozen k.stands.method) f.receiver)
+        k.stands.types.locals k.stands.tags.locals f.locals k.locals;
+    arrays = tt;
+    no_arrays = from_map (λ place. IsNoStoredLocal owning.stores turn) (λ place. IsNoStoredLocal owning.stores Throws) (λ n u v a. local_loosened owning.stores turn u v a) 0 k.stands.types.locals f.locals k.no_arrays;
+  }
 
--- an exception leaves the top frame, also one of an `<init>`: the world stays as it is
-pub frames_unwound : (c : MarkedProgram) (frozen : ℕ → Bool) (owning : Owning) (w : World) (next t : ℕ) (f : Frame) (fs : List Frame) → KeepBelow c frozen owning w next t f fs → FramesKeep c frozen owning w next t Throws fs
-frames_unwound c frozen owning w next t f [] k = tt
-frames_unwound c frozen owning w next t f (g ∷ fs) k = (loosened c frozen owning w next t (length fs) (WaitsFor f.receiver k.0.begun) g k.0.keeps, k.1)
+  -- an instruction throws
+  pub frames_throw : (turn : BuilderTurn) (fs : List Frame) → FramesIn building turn fs → FramesIn building Throws fs
+  frames_throw turn [] k = tt
+  frames_throw turn (f ∷ fs) k = (loosened (length fs) turn f k.0, k.1)
+
+  -- an exception leaves the top frame, also one of an `<init>`: the world stays as it is
+  pub frames_unwound : (f : Frame) (fs : List Frame) → BelowIn building f fs → FramesIn building Throws fs
+  frames_unwound f [] k = tt
+  frames_unwound f (g ∷ fs) k = (loosened (length fs) (WaitsFor f.receiver k.0.begun) g k.0.keeps, k.1)
 
 -- ---- where a row covers no local has what a `new` made
 
@@ -66,30 +61,10 @@ found_covers pc class (q ∷ rows) r e = by_tests (covers pc q) (q.catch_class =
 module _ (Old : ℕ → Type 0) (Fresh Later : ℕ → ℕ → Type 0) (young : ℕ → Bool) (receiver : ℕ) where
   type_if : (u : VType) (v : ℕ) → is_new u ≡ false → SlotByType Old Fresh young u v → SlotByType Old Later young u v
   type_if (vtypes.New q) v n h = absurd (cc)
-  type_if vtypes.Null v n h = h
-  type_if (vtypes.Ref c) v n h = h
-  type_if vtypes.This v n h = h
-  type_if vtypes.Int v n h = tt
-  type_if vtypes.Top v n h = tt
-
-  own_if : (u : VType) (g : Tag) (v : ℕ) → is_new u ≡ false → OwnSlot Old Fresh young receiver u g v → OwnSlot Old Later young receiver u g v
-  own_if u This v n h = h
-  own_if (vtypes.New q) Untagged v n h = absurd (cc)
-  own_if (vtypes.New q) (At pc) v n h = absurd (cc)
-  own_if vtypes.Null Untagged v n h = h
-  own_if vtypes.Null (At pc) v n h = h
-  own_if (vtypes.Ref c) Untagged v n h = h
-  own_if (vtypes.Ref c) (At pc) v n h = h
-  own_if vtypes.This Untagged v n h = h
-  own_if vtypes.This (At pc) v n h = h
-  own_if vtypes.Int Untagged v n h = tt
-  own_if vtypes.Int (At pc) v n h = tt
-  own_if vtypes.Top Untagged v n h = tt
-  own_if vtypes.Top (At pc) v n h = tt
+  type_if u v n h = h
 
   pub slot_if : (own : Bool) (u : VType) (g : Tag) (v : ℕ) → is_new u ≡ false → SlotIs Old Fresh own young receiver u g v → SlotIs Old Later own young receiver u g v
-  slot_if true u g v n h = own_if u g v n h
-  slot_if false u g v n h = type_if u v n h
+  slot_if own u g v n h = slot_by Old Old Fresh Later young receiver own u u g v (λ m. m) (type_if u v n) h
 
 -- where none has what a `new` made
 locals_back : (stores : Stores) (n : ℕ) (us : List VType) (vs : List ℕ) → AllByRecursion (λ u. is_new u ≡ false) us → SlotsFrom (λ place. IsNoStoredLocal stores Throws) n us vs → SlotsFrom (λ place. IsNoStored stores) n us vs
@@ -99,11 +74,7 @@ locals_back stores n (u ∷ us) (v ∷ vs) all a = (back u all.0 a.0, locals_bac
   where
     back : (u : VType) → is_new u ≡ false → IsNoStoredLocal stores Throws u v → IsNoStored stores u v
     back (vtypes.New q) e h = absurd (cc)
-    back vtypes.Int e h = tt
-    back vtypes.Top e h = tt
-    back vtypes.Null e h = h
-    back vtypes.This e h = h
-    back (vtypes.Ref c) e h = h
+    back u e h = h
 
 -- ---- a handler
 
@@ -112,7 +83,9 @@ any_got test [] i r e h = absurd (cc)
 any_got test (q ∷ rows) zero r e h = let same : q ≡ r = same_some e in first_true (test q) (list_any test rows) (subst (λ (x : Row). test x ≡ true) (sym same) h)
 any_got test (q ∷ rows) (suc i) r e h = second_true (test q) (list_any test rows) (any_got test rows i r e h)
 
-module _ (c : MarkedProgram) (marked : IsMarked c) (frozen : ℕ → Bool) (are : AreFrozen c frozen) (owning : Owning) (owns : AreOwned c owning.owned) (w : World) (next t h : ℕ) (null : IsFinished w next 0) where
+module _ (building : Building) (h : ℕ) (null : IsFinished building.w building.next 0) where
+  open building use {design, c, marked, frozen, owning, owns, w, next, t}
+
   no_new : (f : Frame) (k : Standing c f) (class : ℕ) (r : Row) → handler_of k.insn.pc class k.method.rows ≡ Some r → AllByRecursion (λ u. is_new u ≡ false) k.types.locals
   no_new f k class r e =
       let row : OpRow = row_at c f k in
@@ -123,8 +96,8 @@ module _ (c : MarkedProgram) (marked : IsMarked c) (frozen : ℕ → Bool) (are 
       let y = or_parts (s || a) b x.0 in
       none_of is_new k.types.locals (second_false (list_any (covers k.insn.pc) k.method.rows) (list_any is_new k.types.locals) y.1 (found_covers k.insn.pc class k.method.rows r e))
 
-  pub handled : (f : Frame) (k : FrameKeeps c frozen owning w next t h Throws f) (x class : ℕ) (r : Row) → can_throw k.stands.insn.op ≡ true → IsFinished w next x → IsStoredNowhere owning.stores x → handler_of f.pc class k.stands.method.rows ≡ Some r
-      → FrameKeeps c frozen owning w next t h Runs (record f { pc = r.handler; stack = x ∷ [] })
+  pub handled : (f : Frame) (k : FrameIn building h Throws f) (x class : ℕ) (r : Row) → can_throw k.stands.insn.op ≡ true → IsFinished w next x → IsStoredNowhere owning.stores x → handler_of f.pc class k.stands.method.rows ≡ Some r
+      → FrameIn building h Runs (record f { pc = r.handler; stack = x ∷ [] })
   handled f k x class r throws old clean e =
       let s = k.stands in
       let rules = rules_at c marked f s in
@@ -134,7 +107,7 @@ module _ (c : MarkedProgram) (marked : IsMarked c) (frozen : ℕ → Bool) (are 
       let among = catchers_among s.method s.insn.pc class r (sym (handler_found s.insn.pc class s.method.rows) ∙ here) in
       let handlers : AllByRecursion (λ handler. visits.EdgeFits IsShapeBelow s.method.code s.at.frames (tags_at_handler s.tags) handler.handler) (until_all (covering s.method s.insn.pc)) =
       subst (λ b. AllByRecursion (λ handler. visits.EdgeFits IsShapeBelow s.method.code s.at.frames (tags_at_handler s.tags) handler.handler) (if b then until_all (covering s.method s.insn.pc) else [])) throws tags.handlers_fit in
-      land c marked frozen are owning owns w next t h null false (record f { pc = r.handler; stack = x ∷ [] }) s.method s.frames s.at.frames (frame_at_handler r s.types) (tags_at_handler s.tags) s.at.in_program s.types_of_method s.at.of_method
+      land building h null false (record f { pc = r.handler; stack = x ∷ [] }) s.method s.frames s.at.frames (frame_at_handler r s.types) (tags_at_handler s.tags) s.at.in_program s.types_of_method s.at.of_method
       found.0
       (at_index (λ (handler : Row). visits.EdgeFits IsShapeBelow s.method.code s.at.frames (tags_at_handler s.tags) handler.handler) (until_all (covering s.method s.insn.pc)) among.0 r handlers among.1)
       (joined among.0 among.1) (well among.0 among.1) k.receiver
@@ -148,13 +121,13 @@ module _ (c : MarkedProgram) (marked : IsMarked c) (frozen : ℕ → Bool) (are 
           let any : list_any (λ handler. handler.handler == other.pc) (until_all (covering s.method s.insn.pc)) ≡ true = any_got (λ handler. handler.handler == other.pc) (until_all (covering s.method s.insn.pc)) i r got (grind (arith, nat_tests, starts)) in
           subst (λ b. list_any (λ handler. handler.handler == other.pc) (if b then until_all (covering s.method s.insn.pc) else []) ≡ true) (sym throws) any
 
-      joined : (i : ℕ) → slice_get (until_all (covering k.stands.method k.stands.insn.pc)) i ≡ Some r → IsJoined c marked frozen are owning owns (record f { pc = r.handler; stack = x ∷ [] }) k.stands.method (tags_at_handler k.stands.tags)
+      joined : (i : ℕ) → slice_get (until_all (covering k.stands.method k.stands.insn.pc)) i ≡ Some r → IsJoined design (record f { pc = r.handler; stack = x ∷ [] }) k.stands.method (tags_at_handler k.stands.tags)
       joined i got own j other next u at starts =
           let s = k.stands in
-          (inside_at c marked frozen are owning owns f s own).joined s.number j s.insn other s.target next s.tags u (tags_at_handler s.tags) s.at at (caught other (caught_there i got other starts))
+          (inside_at design f s own).joined s.number j s.insn other s.target next s.tags u (tags_at_handler s.tags) s.at at (caught other (caught_there i got other starts))
 
       -- the exception has no colour
-      well : (i : ℕ) → slice_get (until_all (covering k.stands.method k.stands.insn.pc)) i ≡ Some r → LandsWell c marked frozen are owning owns false (record f { pc = r.handler; stack = x ∷ [] }) k.stands.method (frame_at_handler r k.stands.types)
+      well : (i : ℕ) → slice_get (until_all (covering k.stands.method k.stands.insn.pc)) i ≡ Some r → LandsWell design false (record f { pc = r.handler; stack = x ∷ [] }) k.stands.method (frame_at_handler r k.stands.types)
       well i got = record {
         put = λ j other next u at same. handler_plain c marked owning owns f.method j k.stands.method other next u at f.pc class r e same;
         arrays = λ j other next u at same. (record { owned = λ o word is. absurd (uncoloured j other next u at same o); other = λ none. clean }, tt);

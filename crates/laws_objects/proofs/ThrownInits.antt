@@ -1,15 +1,15 @@
 -- Once the `<init>` of a frozen class has thrown, nobody has its object.
-use Rattle.std.proofs.Common.{◌≡◌, ℕ, inl, inr, Bool, true, false, List, [], ◌∷◌, ◌++◌, length, Option, Some, None, refl, sym, ap, ◌∙◌, subst, arith, nat_lt, if◌then◌else◌, slice_get, slice_index}
+use Rattle.std.proofs.Common.{◌≡◌, ℕ, inl, inr, Bool, true, false, List, [], ◌∷◌, ◌++◌, length, Option, Some, None, refl, sym, ap, ◌∙◌, subst, arith, nat_lt, if◌then◌else◌, slice_get}
 use Rattle.lists.proofs.ListLaws.{same_some}
-use Rattle.jvm_types.specs.declared.{fixed_words.TheConstants.NEXT_FREE_WORD, outcome.Thrown.Thrown, program.MethodInfo.MethodInfo}
-use Rattle.checked_program.specs.MarkedProgram.{MarkedProgram, IsMarked}
-use Rattle.machine_types.specs.{Accesses.found_by, Construction.{Throws as Loose, FramesKeep, ThreadKeeps}, Core.{Core, Happening, Of, event, event_of, all_happened, core}, Events.{wanted, moved}}
-use Rattle.machine_types.specs.{Frames.returned, Going.{root_over, goes_on}, Onward.back, PlainMemory.Object, Settings.AreSettings, Threads.{Frame, Attempt, Thread}, Worlds.{Begun, builder}}
-use Rattle.machine_types.{specs.declared.{config.Config.Config, phase.Phase.Phase}, proofs.Lists.got_when_set}
+use Rattle.jvm_types.specs.declared.{outcome.Thrown.Thrown, program.MethodInfo.MethodInfo}
+use Rattle.checked_program.specs.MarkedProgram.{MarkedProgram}
+use Rattle.machine_types.specs.{Accesses.found_by, Construction.Throws as Loose, Core.{Core, Happening, Of, event, event_of, all_happened, core}, Events.{wanted, moved}}
+use Rattle.machine_types.specs.{Frames.returned, Going.{root_over, goes_on}, Onward.back, PlainMemory.Object, Threads.{Frame, Attempt, Thread}, Worlds.{Begun, builder}}
+use Rattle.machine_types.{specs.declared.phase.Phase.Phase, proofs.Lists.got_when_set}
 use Rattle.laws_threads.specs.StateLaws.{counted_after}
-use Rattle.laws_states.specs.{ChangeLaws.run_objects, HeapFacts.objects_after, RunFacts.HaveWidth}
-use Rattle.laws_objects.specs.UnfinishedObjects.{IsInitOn, ThrowsOut, NobodyHas, ThrownInitsLeaveNoUse}
-use Rattle.laws_objects.proofs.BuiltRuns.{TellsClass, tells_class, AreBuiltLaws, BuiltThere, LostThere, BuiltIn, reached, all_lost, lost_behind, core_more, objects_more}
+use Rattle.laws_states.specs.{ChangeLaws.run_objects, HeapFacts.objects_after}
+use Rattle.laws_objects.{specs.UnfinishedObjects.{IsInitOn, ThrowsOut, NobodyHas, ThrownInitsLeaveNoUse}, proofs.Buildings.{Building, in_world, FramesIn, ThreadIn, building_in}}
+use Rattle.laws_objects.proofs.BuiltRuns.{Run, state_of, TellsClass, tells_class, AreBuiltLaws, BuiltThere, LostThere, BuiltIn, reached, all_lost, lost_behind, core_more, objects_more}
 use Rattle.laws_objects.proofs.{FrameChanges.{frame_at, counted_below, top_here, Stay, TriesGo, IsUnwound, FramesGo, frames_go}, LosingInits.init_begun, WorldChanges.none_some}
 use Rattle.jvm_types.specs.declared.outcome.End.TheVariants as ends
 use Rattle.machine_types.specs.declared.phase.Phase.TheVariants as phases
@@ -28,11 +28,7 @@ back_throws_not s [] x class = by_roots s.roots
     by_roots : (roots : List ℕ) → root_over roots ≡ phases.Throw x class → ⊥
     by_roots [] e = cc
     by_roots (number ∷ roots) e = cc
-back_throws_not s (f ∷ fs) x class = by_limit (nat_lt s.counts.instructions s.cfg.steps)
-  where
-    by_limit : (b : Bool) → (if b then phases.Run else phases.Ending ends.Steps) ≡ phases.Throw x class → ⊥
-    by_limit true e = cc
-    by_limit false e = cc
+back_throws_not s (f ∷ fs) x class = elim (nat_lt s.counts.instructions s.cfg.steps) as (λ (b : Bool). (if b then phases.Run else phases.Ending ends.Steps) ≡ phases.Throw x class → ⊥) [ true ↦ λ e. cc | false ↦ λ e. cc ]
 
 -- frames are more than those below their top
 no_fewer : (fs below : List Frame) (f : Frame) → fs ≡ f ∷ below → Stay fs below → ⊥
@@ -68,17 +64,19 @@ module _ (c : MarkedProgram) (was : Phase) (v : ℕ) (s : Core) (t : ℕ) (k : T
 
 -- ---- every run
 
-module _ (laws : AreBuiltLaws) (c : MarkedProgram) (cfg : Config) (hs : List Happening) (t v : ℕ) (es : List Happening) (marked : IsMarked c) (width : HaveWidth cfg) (settings : AreSettings cfg) (k : ThrowsOut c v (core c cfg hs) t) where
-  test : TellsClass c k.init.method.class
-  test = tells_class laws.frozen_test c marked k.init.method.class k.init.frozen
+module _ (run : Run) (hs : List Happening) (t v : ℕ) (es : List Happening) (k : ThrowsOut run.c v (core run.c run.cfg hs) t) (tells : run.frozen k.init.method.class ≡ true) where
+  open run use {c, cfg, frozen}
 
-  state : BuiltIn c cfg test.frozen (run_objects c cfg hs) (core c cfg hs)
-  state = reached laws c cfg test.frozen test.are marked width settings hs
+  state : BuiltIn c cfg frozen (run_objects c cfg hs) (core c cfg hs)
+  state = reached run hs
 
-  stood : BuiltThere c cfg test.frozen (run_objects c cfg hs) state.was (core c cfg hs)
+  stood : BuiltThere c cfg frozen (run_objects c cfg hs) state.was (core c cfg hs)
   stood = state.there
 
-  keeps : ThreadKeeps c test.frozen stood.owning stood.world (slice_index (core c cfg hs).words NEXT_FREE_WORD) t (state.was t) k.thread
+  abbrev building : Building
+  building = building_in (state_of run (run_objects c cfg hs) state.was (core c cfg hs) stood) t
+
+  keeps : ThreadIn building (state.was t) k.thread
   keeps = stood.built.each t k.thread k.there
 
   is_later : moved c k.thread k.thread.phase (found_by (core c cfg hs).words (wanted c k.thread k.thread.phase)) ≡ k.later
@@ -88,27 +86,30 @@ module _ (laws : AreBuiltLaws) (c : MarkedProgram) (cfg : Config) (hs : List Hap
   away = goes_away c (state.was t) v (core c cfg hs) t k (subst (FramesGo c (state.was t) k.thread) is_later
       (frames_go c (state.was t) k.thread (found_by (core c cfg hs).words (wanted c k.thread k.thread.phase)) (stood.facts.structure t k.thread k.there)))
 
-  young : test.frozen away.init.method.class ≡ true
+  young : frozen away.init.method.class ≡ true
   young =
       let same : k.init.method ≡ away.init.method = same_some (sym k.init.there ∙ ap (λ (f : Frame). slice_get c.program.methods f.method) (top_of_both c (state.was t) v (core c cfg hs) t k away.unwound.frame away.unwound.below away.unwound.frames) ∙ away.init.there) in
-      ap (λ (m : MethodInfo). test.frozen m.class) (sym same) ∙ test.tells
+      ap (λ (m : MethodInfo). frozen m.class) (sym same) ∙ tells
 
   begun : stood.world v ≡ Some (builder t (length away.unwound.below) Begun)
   begun =
-      let frames : FramesKeep c test.frozen stood.owning keeps.now (slice_index (core c cfg hs).words NEXT_FREE_WORD) t Loose (away.unwound.frame ∷ away.unwound.below) = subst (FramesKeep c test.frozen stood.owning keeps.now (slice_index (core c cfg hs).words NEXT_FREE_WORD) t Loose) away.unwound.frames (away.unwound.carries.frames c test.frozen stood.owning keeps.now (slice_index (core c cfg hs).words NEXT_FREE_WORD) t keeps.frames) in
-      sym (keeps.now_is.same k.outside v) ∙ init_begun c test.frozen stood.owning keeps.now (slice_index (core c cfg hs).words NEXT_FREE_WORD) t (length away.unwound.below) v Loose away.unwound.frame frames.0 away.init young
+      let seen : Building = in_world building keeps.now in
+      let frames : FramesIn seen Loose (away.unwound.frame ∷ away.unwound.below) = subst (FramesIn seen Loose) away.unwound.frames (away.unwound.carries.frames seen keeps.frames) in
+      sym (keeps.now_is.same k.outside v) ∙ init_begun seen (length away.unwound.below) v Loose away.unwound.frame frames.0 away.init young
 
-  lost_now : LostThere c cfg test.frozen v (objects_after c.program (core c cfg hs) t (run_objects c cfg hs)) (counted_after c state.was (core c cfg hs) t) (event c (core c cfg hs) t)
+  lost_now : LostThere c cfg frozen v (objects_after c.program (core c cfg hs) t (run_objects c cfg hs)) (counted_after c state.was (core c cfg hs) t) (event c (core c cfg hs) t)
   lost_now =
-      subst (λ (y : Thread). (u : IsUnwound (state.was t) k.thread y) → y.attempt ≡ None → (i : IsInitOn c v u.frame) → test.frozen i.method.class ≡ true → stood.world v ≡ Some (builder t (length u.below) Begun)
-      → LostThere c cfg test.frozen v (objects_after c.program (core c cfg hs) t (run_objects c cfg hs)) (counted_after c state.was (core c cfg hs) t) (event c (core c cfg hs) t)) is_later
-      (lost_behind laws c cfg test.frozen test.are marked width settings (run_objects c cfg hs) state.was (core c cfg hs) stood t v k.thread k.there) away.unwound away.ended away.init young begun
+      subst (λ (y : Thread). (u : IsUnwound (state.was t) k.thread y) → y.attempt ≡ None → (i : IsInitOn c v u.frame) → frozen i.method.class ≡ true → stood.world v ≡ Some (builder t (length u.below) Begun)
+      → LostThere c cfg frozen v (objects_after c.program (core c cfg hs) t (run_objects c cfg hs)) (counted_after c state.was (core c cfg hs) t) (event c (core c cfg hs) t)) is_later
+      (lost_behind run (run_objects c cfg hs) state.was (core c cfg hs) stood t v k.thread k.there) away.unwound away.ended away.init young begun
 
   nobody : NobodyHas c v (run_objects c cfg (hs ++ Of t ∷ es)) (core c cfg (hs ++ Of t ∷ es))
   nobody =
       subst (λ (r : Core). NobodyHas c v (run_objects c cfg (hs ++ Of t ∷ es)) r) (sym (core_more c cfg hs (Of t ∷ es)))
       (subst (λ (os : List Object). NobodyHas c v os (all_happened c (core c cfg hs) (Of t ∷ es))) (sym (objects_more c cfg hs (Of t ∷ es)))
-      (all_lost laws c cfg test.frozen test.are marked width settings es (objects_after c.program (core c cfg hs) t (run_objects c cfg hs)) (counted_after c state.was (core c cfg hs) t) (event c (core c cfg hs) t) v lost_now))
+      (all_lost run es (objects_after c.program (core c cfg hs) t (run_objects c cfg hs)) (counted_after c state.was (core c cfg hs) t) (event c (core c cfg hs) t) v lost_now))
 
 pub thrown_leave_no_use : AreBuiltLaws → ThrownInitsLeaveNoUse
-thrown_leave_no_use laws c cfg hs t v es marked width settings k = nobody laws c cfg hs t v es marked width settings k
+thrown_leave_no_use laws c cfg hs t v es marked width settings k =
+    let test : TellsClass c k.init.method.class = tells_class laws.frozen_test c marked k.init.method.class k.init.frozen in
+    nobody (record { laws = laws; c = c; cfg = cfg; frozen = test.frozen; are = test.are; marked = marked; width = width; settings = settings }) hs t v es k test.tells

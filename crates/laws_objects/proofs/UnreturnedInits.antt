@@ -3,10 +3,11 @@ use Rattle.std.proofs.Common.{◌≡◌, ℕ, suc, ◌-◌, ◌<◌, ◌⊎◌, 
 use Rattle.std.proofs.lemmas.List.{length-drop}
 use Rattle.jvm_types.specs.declared.outcome.Thrown.{Thrown}
 use Rattle.checked_program.specs.MarkedProgram.{MarkedProgram}
-use Rattle.machine_types.specs.{Construction.{Owning, BuilderTurn, Runs, WaitsFor, KeepBelow, FramesKeep, PhaseKeepsFrames, made_world, turn_by, AttemptKeeps, AttemptKeepsIn, ThreadKeeps}, Core.next}
+use Rattle.machine_types.specs.Construction.{BuilderTurn, Runs, WaitsFor, made_world, turn_by}
 use Rattle.machine_types.specs.{Elision.put_back, Going.goes_on, Onward.{back, unwound}, Structure.{operands_in, IsStructured}, Threads.{Frame, Attempt, Thread}}
-use Rattle.machine_types.specs.{Worlds.{Item, Begun, Lost, Builder, builder, World}, declared.phase.Phase.Phase}
-use Rattle.laws_objects.{specs.UnfinishedObjects.IsInitOn, proofs.{FrameChanges.{frame_at, counted_below, top_or, in_place, Stay, TriesGo}, LosingInits.init_begun, ThreadMoves.{BasedIn, based_in}}}
+use Rattle.machine_types.specs.{Worlds.{Item, Begun, Lost, Builder, builder}, declared.phase.Phase.Phase}
+use Rattle.laws_objects.{specs.UnfinishedObjects.IsInitOn, proofs.Buildings.{Building, in_world, BelowIn, FramesIn, PhaseIn, AttemptIn, TriesIn, ThreadIn}}
+use Rattle.laws_objects.proofs.{FrameChanges.{frame_at, counted_below, top_or, in_place, Stay, TriesGo}, LosingInits.init_begun, ThreadMoves.{BasedIn, based_in}}
 use Rattle.laws_objects.proofs.WorldChanges.{GivenBack, given_back, finished_back}
 use Rattle.machine_types.specs.declared.phase.Phase.TheVariants as phases
 
@@ -39,48 +40,45 @@ abbrev pub Splits : MarkedProgram → (frozen : ℕ → Bool) → (h v : ℕ) �
 Splits c frozen h v f fs = ((length fs ≡ h) × IsYoung c frozen v f) ⊎ HasInit c frozen h v fs
 
 pub init_splits : (c : MarkedProgram) (frozen : ℕ → Bool) (h v : ℕ) (f : Frame) (fs : List Frame) → HasInit c frozen h v (f ∷ fs) → Splits c frozen h v f fs
-init_splits c frozen h v f fs k = by_place (top_or h f fs k.frame k.there)
-  where
-    by_place : ((length fs ≡ h) × (f ≡ k.frame)) ⊎ (frame_at h fs ≡ Some k.frame) → Splits c frozen h v f fs
-    by_place (inl p) = inl (p.0, subst (IsYoung c frozen v) (sym p.1) k.is)
-    by_place (inr p) = inr (record { frame = k.frame; there = p; is = k.is })
+init_splits c frozen h v f fs k = elim (top_or h f fs k.frame k.there) [ inl p ↦ inl (p.0, subst (IsYoung c frozen v) (sym p.1) k.is) | inr p ↦ inr (record { frame = k.frame; there = p; is = k.is }) ]
 
 -- ---- its object is begun
 
-module _ (c : MarkedProgram) (frozen : ℕ → Bool) (owning : Owning) (t h v : ℕ) where
-  below_begun : (w : World) (next : ℕ) (g : Frame) (fs : List Frame) → KeepBelow c frozen owning w next t g fs → HasInit c frozen h v fs → w v ≡ Some (builder t h Begun)
-  below_begun w next g [] keeps k = absurd (let e = k.there in cc)
-  below_begun w next g (f ∷ fs) keeps k = by_place (init_splits c frozen h v f fs k) (below_begun w next f fs keeps.1)
+module _ (building : Building) (h v : ℕ) where
+  open building use {c, frozen, w, t}
+
+  below_begun : (g : Frame) (fs : List Frame) → BelowIn building g fs → HasInit c frozen h v fs → w v ≡ Some (builder t h Begun)
+  below_begun g [] keeps k = absurd (let e = k.there in cc)
+  below_begun g (f ∷ fs) keeps k = by_place (init_splits c frozen h v f fs k) (below_begun f fs keeps.1)
     where
       by_place : Splits c frozen h v f fs → (HasInit c frozen h v fs → w v ≡ Some (builder t h Begun)) → w v ≡ Some (builder t h Begun)
-      by_place (inl p) more = subst (λ (i : ℕ). w v ≡ Some (builder t i Begun)) p.0 (init_begun c frozen owning w next t (length fs) v (WaitsFor g.receiver keeps.0.begun) f keeps.0.keeps p.1.init p.1.young)
+      by_place (inl p) more = subst (λ (i : ℕ). w v ≡ Some (builder t i Begun)) p.0 (init_begun building (length fs) v (WaitsFor g.receiver keeps.0.begun) f keeps.0.keeps p.1.init p.1.young)
       by_place (inr k) more = more k
 
-  frames_begun : (w : World) (next : ℕ) (turn : BuilderTurn) (fs : List Frame) → FramesKeep c frozen owning w next t turn fs → HasInit c frozen h v fs → w v ≡ Some (builder t h Begun)
-  frames_begun w next turn [] keeps k = absurd (let e = k.there in cc)
-  frames_begun w next turn (f ∷ fs) keeps k = by_place (init_splits c frozen h v f fs k)
-    where
-      by_place : Splits c frozen h v f fs → w v ≡ Some (builder t h Begun)
-      by_place (inl p) = subst (λ (i : ℕ). w v ≡ Some (builder t i Begun)) p.0 (init_begun c frozen owning w next t (length fs) v turn f keeps.0 p.1.init p.1.young)
-      by_place (inr k) = below_begun w next f fs keeps.1 k
+  frames_begun : (turn : BuilderTurn) (fs : List Frame) → FramesIn building turn fs → HasInit c frozen h v fs → w v ≡ Some (builder t h Begun)
+  frames_begun turn [] keeps k = absurd (let e = k.there in cc)
+  frames_begun turn (f ∷ fs) keeps k = elim (init_splits c frozen h v f fs k) [ inl p ↦ subst (λ (i : ℕ). w v ≡ Some (builder t i Begun)) p.0 (init_begun building (length fs) v turn f keeps.0 p.1.init p.1.young) | inr k ↦ below_begun f fs keeps.1 k ]
 
   -- also before the header of a new object is stored
-  made_begun : (w : World) (a height : ℕ) (item : Option Item) → (item ≡ Some Begun → ⊥) → made_world w a t height item v ≡ Some (builder t h Begun) → w v ≡ Some (builder t h Begun)
-  made_begun w a height (Some x) other e = by_given (given_back w a (builder t height x) v (builder t h Begun) e)
+  made_begun : (a height : ℕ) (item : Option Item) → (item ≡ Some Begun → ⊥) → made_world w a t height item v ≡ Some (builder t h Begun) → w v ≡ Some (builder t h Begun)
+  made_begun a height (Some x) other e = by_given (given_back w a (builder t height x) v (builder t h Begun) e)
     where
       by_given : GivenBack w a (builder t height x) v (builder t h Begun) → w v ≡ Some (builder t h Begun)
       by_given (inl g) = absurd (other (ap (λ (b : Builder). Some b.item) (sym g.1)))
       by_given (inr (inl g)) = g.1
       by_given (inr (inr g)) = absurd (let i : Begun ≡ Lost = ap (λ (b : Builder). b.item) g.2 in cc)
-  made_begun w a height None other e = finished_back w a v (builder t h Begun) e
+  made_begun a height None other e = finished_back w a v (builder t h Begun) e
 
-  phase_begun : (w : World) (next : ℕ) (phase : Phase) (fs : List Frame) → PhaseKeepsFrames c frozen owning w next t phase fs → HasInit c frozen h v fs → w v ≡ Some (builder t h Begun)
-  phase_begun w next (phases.Made a word) [] keeps k = absurd (let e = k.there in cc)
-  phase_begun w next (phases.Made a word) (f ∷ fs) keeps k =
-      made_begun w a (length (f ∷ fs) - 1) keeps.item keeps.not_begun
-      (frames_begun (made_world w a t (length (f ∷ fs) - 1) keeps.item) next Runs (record f { stack = a ∷ f.stack } ∷ fs) keeps.keep
+module _ (building : Building) (h v : ℕ) where
+  open building use {c, frozen, w, t}
+
+  phase_begun : (phase : Phase) (fs : List Frame) → PhaseIn building phase fs → HasInit c frozen h v fs → w v ≡ Some (builder t h Begun)
+  phase_begun (phases.Made a word) [] keeps k = absurd (let e = k.there in cc)
+  phase_begun (phases.Made a word) (f ∷ fs) keeps k =
+      made_begun building h v a (length (f ∷ fs) - 1) keeps.item keeps.not_begun
+      (frames_begun (in_world building (made_world w a t (length (f ∷ fs) - 1) keeps.item)) h v Runs (record f { stack = a ∷ f.stack } ∷ fs) keeps.keep
       (init_stays c frozen h v (f ∷ fs) (record f { stack = a ∷ f.stack } ∷ fs) (in_place f (record f { stack = a ∷ f.stack }) fs (refl, refl)) k))
-  phase_begun w next phase fs keeps k = frames_begun w next (turn_by (operands_in phase)) fs keeps k
+  phase_begun phase fs keeps k = frames_begun building h v (turn_by (operands_in phase)) fs keeps k
 
 -- ---- a thread is inside it, and so it would be if its attempt failed
 
@@ -93,14 +91,14 @@ pub record IsInside (c : MarkedProgram) (frozen : ℕ → Bool) (h v : ℕ) (x :
   pub goes_back : HasBack c frozen h v x.attempt x.frames
 
 -- in the world, as well as the thread sees it
-pub world_begun : (c : MarkedProgram) (frozen : ℕ → Bool) (owning : Owning) (w : World) (next t h v : ℕ) (was : Phase) (x : Thread) (k : ThreadKeeps c frozen owning w next t was x) → IsInside c frozen h v x → w v ≡ Some (builder t h Begun)
-world_begun c frozen owning w next t h v was x k i = by_attempt x.attempt refl
+pub world_begun : (b : Building) (h v : ℕ) (was : Phase) (x : Thread) (k : ThreadIn b was x) → IsInside b.c b.frozen h v x → b.w v ≡ Some (builder b.t h Begun)
+world_begun b h v was x k i = by_attempt x.attempt refl
   where
-    by_attempt : (o : Option Attempt) → x.attempt ≡ o → w v ≡ Some (builder t h Begun)
-    by_attempt None e = sym (k.now_is.same e v) ∙ phase_begun c frozen owning t h v k.now next was x.frames k.frames i.now
+    by_attempt : (o : Option Attempt) → x.attempt ≡ o → b.w v ≡ Some (builder b.t h Begun)
+    by_attempt None e = sym (k.now_is.same e v) ∙ phase_begun (in_world b k.now) h v was x.frames k.frames i.now
     by_attempt (Some a) e =
-        let keeps : AttemptKeeps c frozen owning w next t x.frames a = subst (AttemptKeepsIn c frozen owning w next t x.frames) e k.attempt in
-        frames_begun c frozen owning t h v w next Runs (put_back a x.frames) keeps.goes_back (subst (λ (o : Option Attempt). HasBack c frozen h v o x.frames) e i.goes_back)
+        let keeps : AttemptIn b x.frames a = subst (TriesIn b x.frames) e k.attempt in
+        frames_begun b h v Runs (put_back a x.frames) keeps.goes_back (subst (λ (o : Option Attempt). HasBack b.c b.frozen h v o x.frames) e i.goes_back)
 
 -- ---- an attempt that begins or goes on
 

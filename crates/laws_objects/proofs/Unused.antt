@@ -1,12 +1,13 @@
 -- What is lost, or built by another thread, is in no slot of a thread that an instruction may use, and in no place.
-use Rattle.std.{proofs.Common.{◌≡◌, ◌≢◌, ℕ, Bool, true, false, List, [], ◌∷◌, length, Some, None, refl, sym, ap, ◌∙◌, subst, arith}, specs.List.AllZip}
+use Rattle.std.{proofs.Common.{◌≡◌, ◌≢◌, ◌⊎◌, inl, inr, ℕ, Bool, true, false, List, [], ◌∷◌, length, Some, None, refl, sym, ap, ◌∙◌, subst, arith}, specs.List.AllZip}
 use Rattle.jvm_types.specs.{ProgramInvariant.words_of, Types.TypeFrame, declared.{program.Kind.Kind, typing.VType.VType}}
-use Rattle.checked_program.specs.{MarkedProgram.{MarkedProgram, IsMarked}, declared.tag.Tag.{Tag, TheVariants.{Untagged, This, At}}}
-use Rattle.machine_types.specs.Construction.{Owning, puts_owned, if_so, builds, makes_frozen, StackWith, SlotByType, OwnSlot, SlotIs, SlotsAre, Runs, IsFresh, ReceiverIs, FrameKeeps, FramesKeep, PhaseKeepsFrames, ThreadKeeps, KindKeeps, PlacesKeep}
+use Rattle.checked_program.specs.{MarkedProgram.{MarkedProgram, IsMarked}, declared.tag.Tag.{Tag, TheVariants.This}}
+use Rattle.machine_types.specs.Construction.{Owning, puts_owned, if_so, builds, makes_frozen, StackWith, SlotByType, OwnSlot, SlotIs, SlotsAre, Runs, IsFresh, ReceiverIs, FrameKeeps, KindKeeps, PlacesKeep}
 use Rattle.machine_types.specs.{PlainMemory.Object, Standing.Standing, Structure.IsAs, Threads.{Frame, Thread}, Worlds.{Item, Lost, Made, Begun, Unstored, Builder, builder, World, IsFinished, IsWorld}}
 use Rattle.machine_types.specs.declared.phase.Phase.{Phase}
 use Rattle.laws_threads.proofs.FramePlaces.{one_standing_law}
-use Rattle.laws_objects.{specs.UnfinishedObjects.{IsOther, UsesNot, KindHasNot, PlacesHaveNot}, proofs.{Onwards.first_finished, WorldChanges.none_some}}
+use Rattle.laws_objects.{specs.UnfinishedObjects.{IsOther, UsesNot, KindHasNot, PlacesHaveNot}, proofs.Buildings.{Building, in_world, FramesIn, PhaseIn, ThreadIn, first_finished}}
+use Rattle.laws_objects.proofs.{Slots.{not_this, plainly}, WorldChanges.none_some}
 use Rattle.jvm_types.specs.declared.program.Kind.TheVariants as kinds
 use Rattle.jvm_types.specs.declared.typing.VType.TheVariants as types
 use Rattle.machine_types.specs.declared.phase.Phase.TheVariants as phases
@@ -38,10 +39,7 @@ module _ (now : World) (next t v : ℕ) (strange : IsStrange now t v) (null : Is
   other_so : (u : VType) (word : ℕ) → word ≢ v → IsOther v u word
   other_so types.Int word n = tt
   other_so types.Top word n = tt
-  other_so types.Null word n = n
-  other_so (types.Ref class) word n = n
-  other_so types.This word n = n
-  other_so (types.New pc) word n = n
+  other_so u word n = n
 
   module _ (h : ℕ) (own : Bool) (young : ℕ → Bool) (receiver : ℕ) (receives : ReceiverIs now next t h own receiver) where
     abbrev Is : VType → Tag → (word : ℕ) → Type 0
@@ -60,21 +58,14 @@ module _ (now : World) (next t v : ℕ) (strange : IsStrange now t v) (null : Is
     type_other (types.New pc) word s = new_other pc word (young pc) s
 
     own_other : (ours : own ≡ true) (u : VType) (g : Tag) (word : ℕ) → OwnSlot (IsFinished now next) (IsFresh now t h Runs) young receiver u g word → IsOther v u word
-    own_other ours u This word s =
-        let mine : now receiver ≡ Some (builder t h Begun) = subst (λ (b : Bool). ReceiverIs now next t h b receiver) ours receives in
-        other_so u word (λ e. not_built h receiver Begun (λ z. cc) mine (sym s ∙ e))
-    own_other ours types.This Untagged word s = absurd s
-    own_other ours types.This (At pc) word s = absurd s
-    own_other ours types.Int Untagged word s = tt
-    own_other ours types.Int (At pc) word s = tt
-    own_other ours types.Top Untagged word s = tt
-    own_other ours types.Top (At pc) word s = tt
-    own_other ours types.Null Untagged word s = type_other types.Null word s
-    own_other ours types.Null (At pc) word s = type_other types.Null word s
-    own_other ours (types.Ref class) Untagged word s = type_other (types.Ref class) word s
-    own_other ours (types.Ref class) (At pc) word s = type_other (types.Ref class) word s
-    own_other ours (types.New q) Untagged word s = type_other (types.New q) word s
-    own_other ours (types.New q) (At pc) word s = type_other (types.New q) word s
+    own_other ours u g word s = by_tag (not_this g)
+      where
+        by_tag : (g ≡ This) ⊎ (g ≢ This) → IsOther v u word
+        by_tag (inl e) =
+            let mine : now receiver ≡ Some (builder t h Begun) = subst (λ (b : Bool). ReceiverIs now next t h b receiver) ours receives in
+            let same : word ≡ receiver = subst (λ (x : Tag). OwnSlot (IsFinished now next) (IsFresh now t h Runs) young receiver u x word) e s in
+            other_so u word (λ e. not_built h receiver Begun (λ z. cc) mine (sym same ∙ e))
+        by_tag (inr n) = type_other u word (plainly (IsFinished now next) (IsFresh now t h Runs) young receiver u g word n s).1
 
     slot_other : (b : Bool) → own ≡ b → (u : VType) (g : Tag) (word : ℕ) → SlotIs (IsFinished now next) (IsFresh now t h Runs) b young receiver u g word → IsOther v u word
     slot_other true e u g word s = own_other e u g word s
@@ -107,12 +98,16 @@ module _ (now : World) (next t v : ℕ) (strange : IsStrange now t v) (null : Is
 
 -- ---- a thread
 
-pub uses_not : (c : MarkedProgram) (marked : IsMarked c) (frozen : ℕ → Bool) (owning : Owning) (w : World) (next t v : ℕ) (was : Phase) (x : Thread) (k : ThreadKeeps c frozen owning w next t was x) → IsWorld w (words_of c.program) next → IsAs x.phase was → IsStrange k.now t v → UsesNot c v x
-uses_not c marked frozen owning w next t v was x k world is_as strange run f below frames stands =
-    let is_run : was ≡ phases.Run = subst (λ (p : Phase). IsAs p was) run is_as in
-    let kept : FramesKeep c frozen owning k.now next t Runs x.frames = subst (λ (p : Phase). PhaseKeepsFrames c frozen owning k.now next t p x.frames) is_run k.frames in
-    let top : FramesKeep c frozen owning k.now next t Runs (f ∷ below) = subst (FramesKeep c frozen owning k.now next t Runs) frames kept in
-    frame_other k.now next t v strange (first_finished k.now (words_of c.program) next 0 (k.now_world world) (omega arith)) c marked frozen owning (length below) f top.0 stands
+module _ (building : Building) where
+  open building use {c, marked, frozen, owning, w, next, t}
+
+  pub uses_not : (v : ℕ) (was : Phase) (x : Thread) (k : ThreadIn building was x) → IsWorld w (words_of c.program) next → IsAs x.phase was → IsStrange k.now t v → UsesNot c v x
+  uses_not v was x k world is_as strange run f below frames stands =
+      let is_run : was ≡ phases.Run = subst (λ (p : Phase). IsAs p was) run is_as in
+      let seen : Building = in_world building k.now in
+      let kept : FramesIn seen Runs x.frames = subst (λ (p : Phase). PhaseIn seen p x.frames) is_run k.frames in
+      let top : FramesIn seen Runs (f ∷ below) = subst (FramesIn seen Runs) frames kept in
+      frame_other k.now next t v strange (first_finished k.now (words_of c.program) next 0 (k.now_world world) (omega arith)) c marked frozen owning (length below) f top.0 stands
 
 -- ---- places
 

@@ -1,11 +1,10 @@
 -- What a thread sees of the world, as another thread's event or one of its own changes it.
-use Rattle.std.proofs.Common.{◌≡◌, ◌≢◌, ℕ, ◌≤◌, ◌<◌, ◌⊎◌, inl, inr, Bool, true, false, Option, Some, None, refl, sym, ap, ◌∙◌, arith, ◌==◌, if◌then◌else◌}
+use Rattle.std.proofs.Common.{◌≡◌, ◌≢◌, ℕ, ◌≤◌, ◌<◌, ◌⊎◌, inl, inr, Bool, true, false, Option, Some, None, refl, sym, ap, ◌∙◌, subst, arith, ◌==◌, if◌then◌else◌}
 use Rattle.std.proofs.lemmas.Bool.{eq-eqb, eqb-true, ne_eqb, eqb-false}
 use Rattle.jvm_types.specs.ProgramInvariant.{words_of}
-use Rattle.checked_program.specs.MarkedProgram.{MarkedProgram}
-use Rattle.machine_types.specs.{Construction.{Owning, ThreadKeeps}, Threads.{Attempt, Thread}, Worlds.{Lost, Builder, builder, World, IsFinished, IsOwnOrFinished, IsWorld, IsViewOf, GoesOn}}
+use Rattle.machine_types.specs.{Threads.{Attempt, Thread}, Worlds.{Lost, Builder, builder, World, IsFinished, IsOwnOrFinished, IsWorld, IsViewOf, GoesOn}}
 use Rattle.machine_types.specs.declared.phase.Phase.{Phase}
-use Rattle.laws_objects.proofs.{KeptFrames.{KeepsAt, phase_frames_kept, phase_kept, attempt_kept}, WorldChanges.none_some}
+use Rattle.laws_objects.proofs.{Buildings.{Building, in_world, in_later, ThreadIn}, KeptFrames.{KeepsAt, phase_frames_kept, phase_kept, attempt_kept}, WorldChanges.none_some}
 
 -- ---- whether a thread builds an object
 
@@ -64,110 +63,102 @@ own_or u (Some b) mine rest = if b.thread == u then mine else rest
 abbrev pub merged : (u : ℕ) (w now later : World) → World
 merged u w now later v = own_or u (w v) (now v) (later v)
 
-module _ (w now later : World) (next more t u first : ℕ) (goes : GoesOn w later next more t 0) (differ : u ≢ t) (attempt : Option Attempt) (view : IsViewOf now w u attempt) where
-  merged_own : (v : ℕ) → IsOwnIn w u v → merged u w now later v ≡ now v
-  merged_own v k = ap (λ o. own_or u o (now v) (later v)) k.1 ∙ ap (λ (x : Bool). if x then now v else later v) (eq-eqb k.0.thread u k.2)
+-- building: the world before the event of thread t; another thread stands in it
+module _ (building : Building) (later : World) (more t : ℕ) (goes : GoesOn building.w later building.next more t 0) (differ : building.t ≢ t) where
+  open building use {c, w, next, t as u}
 
-  merged_rest : (v : ℕ) → IsNoneOf w u v → merged u w now later v ≡ later v
-  merged_rest v n = by_was (w v) refl
-    where
-      by_was : (o : Option Builder) → w v ≡ o → own_or u o (now v) (later v) ≡ later v
-      by_was None e = refl
-      by_was (Some b) e = ap (λ (x : Bool). if x then now v else later v) (ne_eqb b.thread u (n b e))
+  -- ---- as the thread sees it
 
-  -- what u builds stays
-  own_later : (v : ℕ) (b : Builder) → b.thread ≡ u → w v ≡ Some b → later v ≡ Some b
-  own_later v b m e = goes.others v b (λ s. differ (sym m ∙ s)) e
+  module _ (now : World) (attempt : Option Attempt) (view : IsViewOf now w u attempt) where
+    merged_own : (v : ℕ) → IsOwnIn w u v → merged u w now later v ≡ now v
+    merged_own v k = ap (λ o. own_or u o (now v) (later v)) k.1 ∙ ap (λ (x : Bool). if x then now v else later v) (eq-eqb k.0.thread u k.2)
 
-  own_before : (v : ℕ) (b : Builder) → b.thread ≡ u → later v ≡ Some b → w v ≡ Some b
-  own_before v b m e = goes.no_more v b (λ s. differ (sym m ∙ s)) e
+    merged_rest : (v : ℕ) → IsNoneOf w u v → merged u w now later v ≡ later v
+    merged_rest v n = by_was (w v) refl
+      where
+        by_was : (o : Option Builder) → w v ≡ o → own_or u o (now v) (later v) ≡ later v
+        by_was None e = refl
+        by_was (Some b) e = ap (λ (x : Bool). if x then now v else later v) (ne_eqb b.thread u (n b e))
 
-  none_later : (v : ℕ) → IsNoneOf later u v → IsNoneOf w u v
-  none_later v n b e m = n b (own_later v b m e) m
+    merged_by : (v : ℕ) (P : Option Builder → Type 0) → (IsOwnIn w u v → P (now v)) → (IsNoneOf w u v → P (later v)) → P (merged u w now later v)
+    merged_by v P own rest = elim (own_or_not w u v) [ inl k ↦ subst P (sym (merged_own v k)) (own k) | inr n ↦ subst P (sym (merged_rest v n)) (rest n) ]
 
-  merged_view : IsViewOf (merged u w now later) later u attempt
-  merged_view = record {
-    same = λ none v. by_own v none (own_or_not w u v);
-    others = λ v n. merged_rest v (none_later v n);
-    own = λ v b d e m f. let was = own_before v b m e in view.own v b d was m (sym (merged_own v (b, was, m)) ∙ f);
-  }
-    where
-      by_own : (v : ℕ) → attempt ≡ None → IsOwnIn w u v ⊎ IsNoneOf w u v → merged u w now later v ≡ later v
-      by_own v none (inl k) = merged_own v k ∙ view.same none v ∙ k.1 ∙ sym (own_later v k.0 k.2 k.1)
-      by_own v none (inr n) = merged_rest v n
+    -- what u builds stays
+    own_later : (v : ℕ) (b : Builder) → b.thread ≡ u → w v ≡ Some b → later v ≡ Some b
+    own_later v b m e = goes.others v b (λ s. differ (sym m ∙ s)) e
 
-  merged_world : IsWorld now first next → IsWorld later first more → IsWorld (merged u w now later) first more
-  merged_world a b = record {
-    one = λ v x d n e f. both v x d n (own_or_not w u v) (own_or_not w u x) e f;
-    inside = λ v d e. inside v d (own_or_not w u v) e;
-    room = b.room;
-  }
-    where
-      mixed : (v x : ℕ) (d : Builder) → IsOwnIn w u v → IsNoneOf w u x → merged u w now later v ≡ Some d → merged u w now later x ≡ Some d → ⊥
-      mixed v x d k n e f =
-          let mine : d.thread ≡ u = view.own v k.0 d k.1 k.2 (sym (merged_own v k) ∙ e) in
-          n d (own_before x d mine (sym (merged_rest x n) ∙ f)) mine
+    own_before : (v : ℕ) (b : Builder) → b.thread ≡ u → later v ≡ Some b → w v ≡ Some b
+    own_before v b m e = goes.no_more v b (λ s. differ (sym m ∙ s)) e
 
-      both : (v x : ℕ) (d : Builder) → d.item ≢ Lost → IsOwnIn w u v ⊎ IsNoneOf w u v → IsOwnIn w u x ⊎ IsNoneOf w u x → merged u w now later v ≡ Some d → merged u w now later x ≡ Some d → v ≡ x
-      both v x d n (inl k) (inl l) e f = a.one v x d n (sym (merged_own v k) ∙ e) (sym (merged_own x l) ∙ f)
-      both v x d n (inl k) (inr l) e f = absurd (mixed v x d k l e f)
-      both v x d n (inr k) (inl l) e f = absurd (mixed x v d l k f e)
-      both v x d n (inr k) (inr l) e f = b.one v x d n (sym (merged_rest v k) ∙ e) (sym (merged_rest x l) ∙ f)
+    none_later : (v : ℕ) → IsNoneOf later u v → IsNoneOf w u v
+    none_later v n b e m = n b (own_later v b m e) m
 
-      inside : (v : ℕ) (d : Builder) → IsOwnIn w u v ⊎ IsNoneOf w u v → merged u w now later v ≡ Some d → (first ≤ v) × (v < more)
-      inside v d (inl k) e = let i = a.inside v d (sym (merged_own v k) ∙ e) in (i.0, (let l = i.1 in let g = goes.grows in omega (arith, l, g)))
-      inside v d (inr n) e = b.inside v d (sym (merged_rest v n) ∙ e)
-
-  merged_keeps : (h : ℕ) → KeepsAt now (merged u w now later) u h
-  merged_keeps h v x e = by_own (own_or_not w u v)
-    where
-      by_own : IsOwnIn w u v ⊎ IsNoneOf w u v → merged u w now later v ≡ Some (builder u h x)
-      by_own (inl k) = merged_own v k ∙ e
-      by_own (inr n) = absurd (n (builder u h x) (sym (view.others v n) ∙ e) refl)
-
-  merged_old : (v : ℕ) → IsFinished now next v → IsFinished (merged u w now later) more v
-  merged_old v k = ((let l = k.0 in let g = goes.grows in omega (arith, l, g)), by_own (own_or_not w u v))
-    where
-      by_own : IsOwnIn w u v ⊎ IsNoneOf w u v → merged u w now later v ≡ None
-      by_own (inl o) = merged_own v o ∙ k.1
-      by_own (inr n) = merged_rest v n ∙ goes.finished v (k.0, sym (view.others v n) ∙ k.1)
-
-  merged_known : (v : ℕ) → IsOwnOrFinished now next u v → IsOwnOrFinished (merged u w now later) more u v
-  merged_known v k = ((let l = k.0 in let g = goes.grows in omega (arith, l, g)), λ b e. by_own b (own_or_not w u v) e)
-    where
-      by_own : (b : Builder) → IsOwnIn w u v ⊎ IsNoneOf w u v → merged u w now later v ≡ Some b → b.thread ≡ u
-      by_own b (inl o) e = k.1 b (sym (merged_own v o) ∙ e)
-      by_own b (inr n) e = by_now (now v) refl
-        where
-          by_now : (o : Option Builder) → now v ≡ o → b.thread ≡ u
-          by_now None f = absurd (none_some (later v) b (goes.finished v (k.0, sym (view.others v n) ∙ f)) (sym (merged_rest v n) ∙ e))
-          by_now (Some d) f = absurd (n d (sym (view.others v n) ∙ f) (k.1 d f))
-
--- ---- so another thread keeps what it has
-
-pub other_keeps : (c : MarkedProgram) (frozen : ℕ → Bool) (owning : Owning) (w later : World) (next more t u : ℕ) (was : Phase) (x : Thread) → GoesOn w later next more t 0 → u ≢ t → IsWorld w (words_of c.program) next
-    → ThreadKeeps c frozen owning w next u was x → ThreadKeeps c frozen owning later more u was x
-other_keeps c frozen owning w later next more t u was x goes differ world k =
-    let old = merged_old w k.now later next more t u (words_of c.program) goes differ x.attempt k.now_is in
-    let keeps = merged_keeps w k.now later next more t u (words_of c.program) goes differ x.attempt k.now_is in
-    let known = merged_known w k.now later next more t u (words_of c.program) goes differ x.attempt k.now_is in
-    record {
-      now = merged u w k.now later;
-      now_is = merged_view w k.now later next more t u (words_of c.program) goes differ x.attempt k.now_is;
-      now_world = λ is. merged_world w k.now later next more t u (words_of c.program) goes differ x.attempt k.now_is (k.now_world world) is;
-      frames = phase_frames_kept c frozen owning k.now (merged u w k.now later) next more u goes.grows old keeps known was x.frames k.frames;
-      phase = phase_kept c frozen owning k.now (merged u w k.now later) next more u goes.grows old keeps known was k.phase;
-      held = λ h there. known_on w later next more t u goes h.monitor (k.held h there);
-      attempt = attempt_kept c frozen owning w later next more u goes.grows (finished_on w later next more t goes) (λ h v i e. goes.others v (builder u h i) differ e) (known_on w later next more t u goes) x.frames x.attempt k.attempt;
+    merged_view : IsViewOf (merged u w now later) later u attempt
+    merged_view = record {
+      same = λ none v. by_own v none (own_or_not w u v);
+      others = λ v n. merged_rest v (none_later v n);
+      own = λ v b d e m f. let was = own_before v b m e in view.own v b d was m (sym (merged_own v (b, was, m)) ∙ f);
     }
+      where
+        by_own : (v : ℕ) → attempt ≡ None → IsOwnIn w u v ⊎ IsNoneOf w u v → merged u w now later v ≡ later v
+        by_own v none (inl k) = merged_own v k ∙ view.same none v ∙ k.1 ∙ sym (own_later v k.0 k.2 k.1)
+        by_own v none (inr n) = merged_rest v n
 
--- what is lost behind the event is so for another thread that did not build it, or that saw it lost
-pub other_lost : (c : MarkedProgram) (frozen : ℕ → Bool) (owning : Owning) (w later : World) (next more t u : ℕ) (was : Phase) (x : Thread) (goes : GoesOn w later next more t 0) (differ : u ≢ t) (world : IsWorld w (words_of c.program) next) (k : ThreadKeeps c frozen owning w next u was x)
-    → (v : ℕ) (b before : Builder) → w v ≡ Some before → later v ≡ Some b → (before.thread ≢ u) ⊎ (k.now v ≡ Some b) → (other_keeps c frozen owning w later next more t u was x goes differ world k).now v ≡ Some b
-unfolding other_keeps
-other_lost c frozen owning w later next more t u was x goes differ world k v b before e f g = ap (λ (o : Option Builder). own_or u o (k.now v) (later v)) e ∙ by_view (before.thread == u) refl g
-  where
-    by_view : (y : Bool) → (before.thread == u) ≡ y → (before.thread ≢ u) ⊎ (k.now v ≡ Some b) → (if y then k.now v else later v) ≡ Some b
-    by_view true s (inl n) = absurd (n (eqb-true before.thread u s))
-    by_view true s (inr g) = g
-    by_view false s g = f
+    merged_world : (first : ℕ) → IsWorld now first next → IsWorld later first more → IsWorld (merged u w now later) first more
+    merged_world first a b = record {
+      one = λ v x d n e f. both v x d n (own_or_not w u v) (own_or_not w u x) e f;
+      inside = λ v d. merged_by v (λ (o : Option Builder). o ≡ Some d → (first ≤ v) × (v < more)) (λ k e. (let i = a.inside v d e in (i.0, (let l = i.1 in let g = goes.grows in omega (arith, l, g))))) (λ n. b.inside v d);
+      room = b.room;
+    }
+      where
+        mixed : (v x : ℕ) (d : Builder) → IsOwnIn w u v → IsNoneOf w u x → merged u w now later v ≡ Some d → merged u w now later x ≡ Some d → ⊥
+        mixed v x d k n e f =
+            let mine : d.thread ≡ u = view.own v k.0 d k.1 k.2 (sym (merged_own v k) ∙ e) in
+            n d (own_before x d mine (sym (merged_rest x n) ∙ f)) mine
+
+        both : (v x : ℕ) (d : Builder) → d.item ≢ Lost → IsOwnIn w u v ⊎ IsNoneOf w u v → IsOwnIn w u x ⊎ IsNoneOf w u x → merged u w now later v ≡ Some d → merged u w now later x ≡ Some d → v ≡ x
+        both v x d n (inl k) (inl l) e f = a.one v x d n (sym (merged_own v k) ∙ e) (sym (merged_own x l) ∙ f)
+        both v x d n (inl k) (inr l) e f = absurd (mixed v x d k l e f)
+        both v x d n (inr k) (inl l) e f = absurd (mixed x v d l k f e)
+        both v x d n (inr k) (inr l) e f = b.one v x d n (sym (merged_rest v k) ∙ e) (sym (merged_rest x l) ∙ f)
+
+    merged_keeps : (h : ℕ) → KeepsAt now (merged u w now later) u h
+    merged_keeps h v x e = merged_by v (λ (o : Option Builder). o ≡ Some (builder u h x)) (λ k. e) (λ n. absurd (n (builder u h x) (sym (view.others v n) ∙ e) refl))
+
+    merged_old : (v : ℕ) → IsFinished now next v → IsFinished (merged u w now later) more v
+    merged_old v k = ((let l = k.0 in let g = goes.grows in omega (arith, l, g)), merged_by v (λ (o : Option Builder). o ≡ None) (λ o. k.1) (λ n. goes.finished v (k.0, sym (view.others v n) ∙ k.1)))
+
+    merged_known : (v : ℕ) → IsOwnOrFinished now next u v → IsOwnOrFinished (merged u w now later) more u v
+    merged_known v k = ((let l = k.0 in let g = goes.grows in omega (arith, l, g)), λ b. merged_by v (λ (o : Option Builder). o ≡ Some b → b.thread ≡ u) (λ o. k.1 b) (λ n e. by_now b n e (now v) refl))
+      where
+        by_now : (b : Builder) → IsNoneOf w u v → later v ≡ Some b → (o : Option Builder) → now v ≡ o → b.thread ≡ u
+        by_now b n e None f = absurd (none_some (later v) b (goes.finished v (k.0, sym (view.others v n) ∙ f)) e)
+        by_now b n e (Some d) f = absurd (n d (sym (view.others v n) ∙ f) (k.1 d f))
+
+  -- ---- so it keeps what it has
+
+  pub other_keeps : (was : Phase) (x : Thread) → IsWorld w (words_of c.program) next → ThreadIn building was x → ThreadIn (in_later building later more) was x
+  other_keeps was x world k =
+      let old = merged_old k.now x.attempt k.now_is in
+      let keeps = merged_keeps k.now x.attempt k.now_is in
+      let known = merged_known k.now x.attempt k.now_is in
+      record {
+        now = merged u w k.now later;
+        now_is = merged_view k.now x.attempt k.now_is;
+        now_world = λ is. merged_world k.now x.attempt k.now_is (words_of c.program) (k.now_world world) is;
+        frames = phase_frames_kept (in_world building k.now) (merged u w k.now later) more goes.grows old keeps known was x.frames k.frames;
+        phase = phase_kept (in_world building k.now) (merged u w k.now later) more goes.grows old keeps known was k.phase;
+        held = λ h there. known_on w later next more t u goes h.monitor (k.held h there);
+        attempt = attempt_kept building later more goes.grows (finished_on w later next more t goes) (λ h v i e. goes.others v (builder u h i) differ e) (known_on w later next more t u goes) x.frames x.attempt k.attempt;
+      }
+
+  -- what is lost behind the event is so for a thread that did not build it, or that saw it lost
+  pub other_lost : (was : Phase) (x : Thread) (world : IsWorld w (words_of c.program) next) (k : ThreadIn building was x) (v : ℕ) (b before : Builder) → w v ≡ Some before → later v ≡ Some b → (before.thread ≢ u) ⊎ (k.now v ≡ Some b)
+      → (other_keeps was x world k).now v ≡ Some b
+  unfolding other_keeps
+  other_lost was x world k v b before e f g = ap (λ (o : Option Builder). own_or u o (k.now v) (later v)) e ∙ by_view (before.thread == u) refl g
+    where
+      by_view : (y : Bool) → (before.thread == u) ≡ y → (before.thread ≢ u) ⊎ (k.now v ≡ Some b) → (if y then k.now v else later v) ≡ Some b
+      by_view true s (inl n) = absurd (n (eqb-true before.thread u s))
+      by_view true s (inr g) = g
+      by_view false s g = f

@@ -1,7 +1,7 @@
 -- What the changes of a world leave.
 use Rattle.std.proofs.Common.{◌≡◌, ◌≢◌, ℕ, ◌≤◌, ◌<◌, ◌⊎◌, inl, inr, Bool, true, false, ◌&&◌, Option, Some, None, refl, sym, ap, ◌∙◌, subst, arith, ◌==◌, if◌then◌else◌}
 use Rattle.std.proofs.lemmas.Bool.{eq-eqb, eqb-true, ne_eqb, eqb-false}
-use Rattle.machine_types.specs.Worlds.{Item, Header, Made, Begun, Unstored, Lost, Builder, builder, World, IsFinished, IsWorld, finished, same_item, same_builder, lost_if, with_builder, GoesOn}
+use Rattle.machine_types.specs.Worlds.{Item, Header, Made, Begun, Unstored, Lost, Builder, builder, World, IsFinished, IsOwnOrFinished, IsWorld, finished, same_item, same_builder, lost_if, with_builder, GoesOn}
 
 item_same : (x y : Item) → same_item x y ≡ true → x ≡ y
 item_same Header Header e = refl
@@ -12,20 +12,15 @@ item_same Lost Lost e = refl
 item_same x y e = absurd (cc)
 
 item_self : (x : Item) → same_item x x ≡ true
-item_self Header = refl
 item_self (Made q) = eq-eqb q q refl
-item_self Begun = refl
-item_self Unstored = refl
-item_self Lost = refl
+item_self x = refl
 
 pub builder_same : (j k : Builder) → same_builder j k ≡ true → j ≡ k
 builder_same j k e = by_tests (j.thread == k.thread) (j.height == k.height) (same_item j.item k.item) refl refl refl e
   where
     by_tests : (a b c : Bool) → (j.thread == k.thread) ≡ a → (j.height == k.height) ≡ b → same_item j.item k.item ≡ c → (a && b && c) ≡ true → j ≡ k
     by_tests true true true x y z e = rw (← eqb-true j.thread k.thread x, ← eqb-true j.height k.height y, ← item_same j.item k.item z) refl
-    by_tests true true false x y z e = absurd (cc)
-    by_tests true false c x y z e = absurd (cc)
-    by_tests false b c x y z e = absurd (cc)
+    by_tests a b c x y z e = absurd (cc)
 
 pub builder_self : (k : Builder) → same_builder k k ≡ true
 builder_self k = rw (eq-eqb k.thread k.thread refl, eq-eqb k.height k.height refl, item_self k.item) refl
@@ -42,6 +37,9 @@ none_some o k e f = cc
 
 pub item_is : (o : Option Builder) (t h t' h' : ℕ) (x y : Item) → o ≡ Some (builder t h x) → o ≡ Some (builder t' h' y) → (h ≡ h') × (x ≡ y)
 item_is o t h t' h' x y e f = let same : builder t h x ≡ builder t' h' y = cc in (ap (λ (k : Builder). k.height) same, ap (λ (k : Builder). k.item) same)
+
+pub finished_known : (w : World) (next t v : ℕ) → IsFinished w next v → IsOwnOrFinished w next t v
+finished_known w next t v o = (o.0, λ b e. absurd (none_some (w v) b o.1 e))
 
 abbrev pub lost : Builder → Builder
 lost b = record b { item = Lost }
@@ -84,11 +82,7 @@ given_back w a k v j = by_test (v == a) refl
 
 lost_none : (k : Builder) (o : Option Builder) → lost_if k o ≡ None → o ≡ None
 lost_none k None e = refl
-lost_none k (Some i) e = by_test (same_builder k i) e
-  where
-    by_test : (b : Bool) → (if b then Some (lost i) else Some i) ≡ None → Some i ≡ None
-    by_test true e = absurd (cc)
-    by_test false e = absurd (cc)
+lost_none k (Some i) e = (elim (same_builder k i) as (λ (b : Bool). (if b then Some (lost i) else Some i) ≡ None → Some i ≡ None) [ true ↦ λ e. absurd (cc) | false ↦ λ e. absurd (cc) ]) e
 
 pub given_none_back : (w : World) (a : ℕ) (k : Builder) (v : ℕ) → with_builder w a k v ≡ None → (v ≢ a) × (w v ≡ None)
 given_none_back w a k v = by_test (v == a) refl
@@ -152,18 +146,10 @@ pub finished_there : (w : World) (a v : ℕ) → v ≢ a → finished w a v ≡ 
 finished_there w a v n = rw (ne_eqb v a n) refl
 
 pub finished_back : (w : World) (a v : ℕ) (j : Builder) → finished w a v ≡ Some j → w v ≡ Some j
-finished_back w a v j = by_test (v == a)
-  where
-    by_test : (b : Bool) → (if b then None else w v) ≡ Some j → w v ≡ Some j
-    by_test true e = absurd (cc)
-    by_test false e = e
+finished_back w a v j = elim (v == a) as (λ (b : Bool). (if b then None else w v) ≡ Some j → w v ≡ Some j) [ true ↦ λ e. absurd (cc) | false ↦ λ e. e ]
 
 pub finished_none : (w : World) (a v : ℕ) → w v ≡ None → finished w a v ≡ None
-finished_none w a v n = by_test (v == a)
-  where
-    by_test : (b : Bool) → (if b then None else w v) ≡ None
-    by_test true = refl
-    by_test false = n
+finished_none w a v n = elim (v == a) as (λ (b : Bool). (if b then None else w v) ≡ None) [ true ↦ refl | false ↦ n ]
 
 pub world_finished : (w : World) (first next more a : ℕ) → IsWorld w first next → next ≤ more → IsWorld (finished w a) first more
 world_finished w first next more a is grows = record {
@@ -228,11 +214,7 @@ without_back w b v j = by_was (w v)
   where
     by_was : (o : Option Builder) → drop_if b o ≡ Some j → o ≡ Some j
     by_was None e = e
-    by_was (Some d) e = by_test (same_builder b d) e
-      where
-        by_test : (x : Bool) → (if x then None else Some d) ≡ Some j → Some d ≡ Some j
-        by_test true e = absurd (cc)
-        by_test false e = e
+    by_was (Some d) e = (elim (same_builder b d) as (λ (x : Bool). (if x then None else Some d) ≡ Some j → Some d ≡ Some j) [ true ↦ λ e. absurd (cc) | false ↦ λ e. e ]) e
 
 pub world_without : (w : World) (first next : ℕ) (b : Builder) → IsWorld w first next → IsWorld (without w b) first next
 world_without w first next b is = record {

@@ -44,14 +44,42 @@ free_word word count e = by_kind (word % 4) (word / 4) refl refl e
     by_kind (suc (suc zero)) upper k u f = absurd (cc)
     by_kind (suc (suc (suc kind))) upper k u f = absurd (cc)
 
+-- a thread that keeps how many attempts have failed since it came to its entry
+record Entering : Type 0 where
+  c : MarkedProgram
+  is_marked : IsMarked c
+  cfg : Config
+  s : Core
+  x : Thread
+  failed : ℕ
+  settings : x.cfg ≡ cfg
+  kept : KeepsCount x.attempt x.phase failed
+
+abbrev entering_at : RunsHaveState → ProgramsKeepThreads → ThreadsKeepCount → (c : MarkedProgram) (cfg : Config) (hs : List Happening) (t : ℕ) (x : Thread) → IsMarked c → HaveWidth cfg → AreSettings cfg → slice_get (core c cfg hs).threads t ≡ Some x → Entering
+entering_at runs parts counted c cfg hs t x marked width settings here = record {
+  c = c;
+  is_marked = marked;
+  cfg = cfg;
+  s = core c cfg hs;
+  x = x;
+  failed = failed_here c cfg hs t;
+  settings = ((runs c cfg hs marked width (parts c cfg marked settings)).facts.threads.own t x here).settings;
+  kept = (counted c cfg hs t marked width settings).kept x here;
+}
+
+tried_are : (entering : Entering) (m tried : ℕ) → entering.x.phase ≡ phases.Enter m tried → entering.x.attempt ≡ None → tried ≡ entering.failed
+tried_are k m tried enters outside = subst (λ (phase : Phase). KeepsCount None phase k.failed) enters (subst (λ (o : Option Attempt). KeepsCount o k.x.phase k.failed) outside k.kept)
+
 -- ---- where one is due
 
-module _ (c : MarkedProgram) (cfg : Config) (s : Core) (x : Thread) (failed m count : ℕ) (settings : x.cfg ≡ cfg) (kept : KeepsCount x.attempt x.phase failed) (is_marked : IsMarked c) (due : IsAttemptDue c cfg s x failed m count) where
+module _ (entering : Entering) (m count : ℕ) (due : IsAttemptDue entering.c entering.cfg entering.s entering.x entering.failed m count) where
+  open entering use {c, is_marked, cfg, s, x, failed, settings}
+
   marked_there : enters_marked c x.frames ≡ true
   marked_there = enters_by_mark c is_marked x.frames due.marked
 
   same_count : due.tried ≡ failed
-  same_count = subst (λ (phase : Phase). KeepsCount None phase failed) due.enters (subst (λ (o : Option Attempt). KeepsCount o x.phase failed) due.outside kept)
+  same_count = tried_are entering m due.tried due.enters due.outside
 
   may : may_try c x due.tried ≡ true
   may =
@@ -99,25 +127,24 @@ module _ (c : MarkedProgram) (cfg : Config) (s : Core) (x : Thread) (failed m co
           ∙ ap (tries x m due.tried) free
           ∙ ap (λ (b : Bool). cond b (begins x x.frames m count (due.tried + 1)) (with_phase x (phases.Acquire m))) below_last
 
-  pub begun : HasBegunAttempt c x (moved c x x.phase (found_by s.words (wanted c x x.phase))) failed m count
+  begun : HasBegunAttempt c x (moved c x x.phase (found_by s.words (wanted c x x.phase))) failed m count
   begun = subst (λ (y : Thread). HasBegunAttempt c x y failed m count) (sym moves) (begun_at x.frames refl)
 
 pub due_begin : RunsHaveState → ProgramsKeepThreads → ThreadsKeepCount → DueBegin
 due_begin runs parts counted c cfg hs t x y m count marked width settings here there due =
-    let s : Core = core c cfg hs in
-    let state : IsInState c cfg s = runs c cfg hs marked width (parts c cfg marked settings) in
-    let kept = (counted c cfg hs t marked width settings).kept x here in
-    subst (λ (z : Thread). HasBegunAttempt c x z (failed_here c cfg hs t) m count) (moved_is c s t x y here there)
-    (begun c cfg s x (failed_here c cfg hs t) m count (state.facts.threads.own t x here).settings kept marked due)
+    subst (λ (z : Thread). HasBegunAttempt c x z (failed_here c cfg hs t) m count) (moved_is c (core c cfg hs) t x y here there)
+    (begun (entering_at runs parts counted c cfg hs t x marked width settings here) m count due)
 
 -- ---- where one has begun
 
-module _ (c : MarkedProgram) (cfg : Config) (s : Core) (x y : Thread) (a : Attempt) (failed : ℕ) (settings : x.cfg ≡ cfg) (kept : KeepsCount x.attempt x.phase failed) (outside : x.attempt ≡ None) where
+module _ (entering : Entering) (y : Thread) (a : Attempt) (outside : entering.x.attempt ≡ None) where
+  open entering use {c, cfg, s, x, failed, settings}
+
   was_due : Begins c x y (found_by s.words (wanted c x x.phase)) a → IsAttemptDue c cfg s x failed a.monitor a.noted
   was_due b =
       let elides_few = both_are_true (x.cfg.elide && nat_lt b.tried 2) (enters_marked c x.frames) b.may in
       let elides = both_are_true x.cfg.elide (nat_lt b.tried 2) elides_few.0 in
-      let same : b.tried ≡ failed = subst (λ (phase : Phase). KeepsCount None phase failed) b.enters (subst (λ (o : Option Attempt). KeepsCount o x.phase failed) outside kept) in
+      let same : b.tried ≡ failed = tried_are entering a.monitor b.tried b.enters outside in
       record {
         tried = b.tried;
         enters = b.enters;
@@ -135,11 +162,10 @@ begun_are_due runs parts counted c cfg hs t x y a marked width settings here the
     let s : Core = core c cfg hs in
     let got : ℕ = found_by s.words (wanted c x x.phase) in
     let z : Thread = moved c x x.phase got in
-    let state : IsInState c cfg s = runs c cfg hs marked width (parts c cfg marked settings) in
     let same : z ≡ y = moved_is c s t x y here there in
     let tries : z.attempt ≡ Some a = ap (λ (k : Thread). k.attempt) same ∙ begins in
     let begun : Begins c x z got a = subst (MovesTo c x z got) tries (outside_moves c x got outside x.phase refl) in (
-      was_due c cfg s x z a (failed_here c cfg hs t) (state.facts.threads.own t x here).settings ((counted c cfg hs t marked width settings).kept x here) outside begun,
+      was_due (entering_at runs parts counted c cfg hs t x marked width settings here) z a outside begun,
       wants_load c x a.monitor begun.tried begun.enters outside begun.not_held,
     )
 

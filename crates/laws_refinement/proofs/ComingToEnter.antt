@@ -12,11 +12,7 @@ use Rattle.machine_types.specs.declared.phase.Phase.TheVariants as phases
 -- behind a check that fails no attempt
 if_same_goes : (z y : Thread) (o : Option Attempt) (got : ℕ) → ((a : Attempt) → o ≡ Some a → fate_by (is_same a got) GoesOn ≡ Fails → ⊥) → if_same z o got y ≡ y
 if_same_goes z y None got never = refl
-if_same_goes z y (Some a) got never = by_test (is_same a got) (never a refl)
-  where
-    by_test : (b : Bool) → (fate_by b GoesOn ≡ Fails → ⊥) → cond b y (fails z a) ≡ y
-    by_test true passes = refl
-    by_test false passes = absurd (passes refl)
+if_same_goes z y (Some a) got never = (elim (is_same a got) as (λ (b : Bool). (fate_by b GoesOn ≡ Fails → ⊥) → cond b y (fails z a) ≡ y) [ true ↦ λ passes. refl | false ↦ λ passes. absurd (passes refl) ]) (never a refl)
 
 module _ (p : Program) (at : Top) (got m : ℕ) (fs : List Frame) where
   did_enter : (s : Thread) (e : Effect) → done p at e got ≡ Some (Entering m fs) → did p s at e got ≡ goes_on s (Entering m fs)

@@ -1,13 +1,13 @@
 -- What an event of a thread does to the plain run: outside an attempt it makes its own steps; inside none, but where the section
 -- is done, which then stands there as a whole.
-use Rattle.std.proofs.Common.{◌≡◌, ℕ, ◌+◌, Bool, List, [], Option, Some, None, refl, sym, ap, ◌∙◌, subst, arith}
+use Rattle.std.proofs.Common.{◌≡◌, ℕ, ◌+◌, List, [], Option, Some, None, refl, sym, ap, ◌∙◌, subst, arith}
 use Rattle.checked_program.specs.MarkedProgram.{MarkedProgram}
-use Rattle.machine_types.specs.{Attempts.Owes, Construction.Owning, Core.{Core, event, outcome}, Counting.{run_at, take_at, count_along, CountsFit}, Events.moved, Faithful.PrintsFit}
+use Rattle.machine_types.specs.{Attempts.Owes, Core.{Core, event, outcome}, Counting.{run_at, take_at, count_along, CountsFit}, Events.moved, Faithful.PrintsFit}
 use Rattle.machine_types.specs.{History.{Past, Fate, GoesOn, Fails, Finishes, fate, past_after, shown_by, shown_at, steps_of}, PlainLaws.InstructionsChangeMemory, PlainMemory.Object, PlainState.Plain}
-use Rattle.machine_types.specs.{PlainSteps.plain_run, Threads.{Attempt, Thread}, Worlds.World, declared.{config.Config.Config, phase.Phase.Phase, plain.PlainStep.PlainStep}}
+use Rattle.machine_types.specs.{PlainSteps.plain_run, Threads.{Attempt, Thread}, declared.{plain.PlainStep.PlainStep}}
 use Rattle.laws_states.specs.HeapFacts.{objects_after}
 use Rattle.laws_simulation.{specs.{OutcomeLaws.StandsToMove, StandsBeside.StandsBeside, StepsBeside.StepsBeside}, proofs.{EventCounts.events_are_counted, EventPrints.prints_are_kept}}
-use Rattle.laws_refinement.{specs.{ElidedSteps.{EventStands, found_of, IsNotFinished, FinishesBeside}, FaithfulRuns.{AreEventLaws, AreElidedLaws}}, proofs.EventSteps.steps_beside}
+use Rattle.laws_refinement.{specs.{ElidedSteps.{found_of, IsNotFinished, FinishesBeside}, FaithfulRuns.{AreEventLaws, AreElidedLaws}}, proofs.{Attempting.Event, EventSteps.steps_beside}}
 use Rattle.laws_refinement.proofs.MoreSteps.{recounted}
 
 -- the steps of the event of thread t, which is x with the past d, are a plain run to a state that stands beside the next one;
@@ -24,12 +24,20 @@ pub record MovesBy (c : MarkedProgram) (objects : List Object) (s : Core) (t : �
 abbrev pub MovesIn : (c : MarkedProgram) (objects : List Object) (s : Core) (t : ℕ) (x : Thread) (d : Past) (q : Plain) → Option Attempt → Type 0
 MovesIn c objects s t x d q attempt = MovesBy c objects s t x d q (steps_of t (shown_at c x attempt (found_of c s x) d)) (past_after c x attempt (found_of c s x) d)
 
-module _ (memory : InstructionsChangeMemory) (laws : AreEventLaws) (elided : AreElidedLaws) (c : MarkedProgram) (cfg : Config) (objects : List Object) (was : ℕ → Phase) (frozen : ℕ → Bool) (own after : Owning) (w later : World) (s : Core) (t : ℕ) (x : Thread) (d : Past) (q : Plain)
-    (turns : EventStands c cfg objects was frozen own after w later s t x) (beside : StandsBeside c.program objects s q) (owes : Owes c own.stores objects w s t (was t) x x.attempt d) where
+module _ (memory : InstructionsChangeMemory) (laws : AreEventLaws) (elided : AreElidedLaws) (its : Event) (d : Past) (q : Plain) (beside : StandsBeside its.c.program its.objects its.s q)
+    (owes : Owes its.c its.owning.stores its.objects its.w its.s its.t (its.was its.t) its.x its.x.attempt d) where
+  open its use {c, cfg, objects, was, frozen, owning as own, own_after, w, later, s, t, x, turns}
+
   -- outside an attempt
   outside : x.attempt ≡ None → MovesIn c objects s t x d q None
   outside e =
-      let moves : StepsBeside c objects s t x q = steps_beside laws c cfg objects was s t x q turns.marked turns.width turns.facts beside turns.thread e in
+      let moves : StepsBeside c objects s t x q = steps_beside laws (record {
+        states = record { c = c; cfg = cfg; objects = objects; was = was; s = s; q = q; marked = turns.marked; facts = turns.facts; beside = beside };
+        t = t;
+        x = x;
+        here = turns.thread;
+        outside = e;
+      }) turns.width in
       let stands : StandsToMove c cfg objects was s t x q moves.after =
       record { marked = turns.marked; width = turns.width; facts = turns.facts; beside = beside; thread = turns.thread; outside = e; run = moves.run } in
       record {
@@ -59,7 +67,7 @@ module _ (memory : InstructionsChangeMemory) (laws : AreEventLaws) (elided : Are
     -- where it finishes, the section
     done : fate c x a x.phase (found_of c s x) ≡ Finishes → MovesIn c objects s t x d q x.attempt
     done is =
-        let finish : FinishesBeside c objects s t x d q = elided.finish c cfg objects was frozen own after w later s t x a d q turns beside e owes is in
+        let finish : FinishesBeside c objects s t x d q = elided.finish c cfg objects was frozen own own_after w later s t x a d q turns beside e owes is in
         record {
           after = finish.after;
           run = finish.run;

@@ -1,10 +1,10 @@
 -- A run stands for a plain run, event by event, with the objects that are under construction and with what is due of attempts.
 use Rattle.std.proofs.Common.{◌≡◌, ◌≢◌, ℕ, ◌+◌, Bool, true, false, List, [], ◌∷◌, ◌++◌, length, Option, Some, None, refl, sym, ap, ◌∙◌, subst, arith, append_assoc, ◌==◌, replicate, slice_get, slice_set, slice_index, slice_index_or, if◌then◌else◌}
-use Rattle.std.{specs.List.range_with_len, proofs.lemmas.{Bool.Decides.{nat_tests, Decides-eqb}, List.{append-nil, length-replicate}, Option.slice_get_within}}
+use Rattle.std.{specs.List.range_with_len, proofs.lemmas.{Bool.Decides.{nat_tests, Decides-eqb}, List.{append-nil, get_or-set_other, get_or-set_same, length-replicate, length-set}, Option.slice_get_within}}
 use Rattle.lists.proofs.ListLaws.{same_some}
 use Rattle.jvm_types.specs.declared.fixed_words.TheConstants.{NEXT_FREE_WORD}
 use Rattle.checked_program.specs.MarkedProgram.{MarkedProgram, IsMarked}
-use Rattle.machine_types.specs.{Attempts.{Stays, IsLedToPresent, OwesNothing, Owes, Attempts}, Construction.{AreFrozen, AreOwned, Construction}, OwnedPlaces.{Stores, nowhere}}
+use Rattle.machine_types.specs.{Attempts.{Stays, IsLedToPresent, OwesNothing, Owes, Attempts}, Construction.{AreFrozen, AreOwned, Construction, Owning}, OwnedPlaces.{Stores, nowhere}}
 use Rattle.machine_types.specs.Core.{Core, Happening, Of, NextPart, start, event, event_of, may_begin, next, all_happened, core, outcome}
 use Rattle.machine_types.specs.{Counting.{run_at, take_at, count_along, CountsFit, AreCounted}, Events.moved, Facts.FactsBeside}
 use Rattle.machine_types.specs.Faithful.{EndsFit, PrintsFit, IsPlainRun, IsSilent, IsOver, IsFaithful}
@@ -18,8 +18,8 @@ use Rattle.laws_objects.specs.ConstructionLaws.{no_builders, BuildsOn}
 use Rattle.laws_simulation.{specs.{OutcomeLaws.WorkersKeepNone, StandsBeside.StandsBeside}, proofs.{EndedParts.ends_are_those, OutcomePrints.{next_keeps_prints, start_has_prints}}}
 use Rattle.laws_simulation.proofs.{PlainCounts.others_are_not_counted, WorkerEnds.{events_keep_none, next_keeps_none, start_keeps_none}}
 use Rattle.laws_refinement.specs.{ElidedSteps.{EventStands, found_of}, FaithfulRuns.{AreEventLaws, AreElidedLaws, RunsFollow}, RunsStand.{told_after, RunStands, RunsStand}}
-use Rattle.laws_refinement.proofs.{EventMoves.{MovesIn, event_moves}, MoreSteps.{run_on, count_on, all_one, recounted, counted_at_start}, NextUntried.{none_tries, same_threads}}
-use Rattle.laws_refinement.proofs.{Pasts.{set_there, set_other, set_many}, SameCounts.{came_from, counted_same}}
+use Rattle.laws_refinement.proofs.{Attempting.{Event, event_at}, EventMoves.{MovesIn, event_moves}, MoreSteps.{run_on, count_on, all_one, recounted, counted_at_start}, NextUntried.{none_tries, same_threads}}
+use Rattle.laws_refinement.proofs.{SameCounts.{came_from, counted_same}}
 
 -- ---- what holds after a list of events, with its plain steps
 
@@ -55,10 +55,34 @@ owes_over : (c : MarkedProgram) (stores : Stores) (objects : List Object) (w : W
 owes_over c stores objects w s r t was x None d e k = k
 owes_over c stores objects w s r t was x (Some a) d e k = (k.0, subst (λ (words : List ℕ). IsLedToPresent c (Stays c stores objects w (slice_index words NEXT_FREE_WORD) t a.monitor) words was x a d) (sym e) k.1)
 
-module _ (given : GivenIsKept) (memory : InstructionsChangeMemory) (laws : AreEventLaws) (elided : AreElidedLaws) (c : MarkedProgram) (cfg : Config) (frozen : ℕ → Bool) (frozen_are : AreFrozen c frozen) (owned : ℕ → Bool) (owned_are : AreOwned c owned) (marked : IsMarked c) (width : HaveWidth cfg) (settings : AreSettings cfg) where
+-- the laws that a run follows from, and what it begins with
+record Beginning : Type 0 where
+  given : GivenIsKept
+  memory : InstructionsChangeMemory
+  laws : AreEventLaws
+  elided : AreElidedLaws
+  c : MarkedProgram
+  cfg : Config
+  frozen : ℕ → Bool
+  frozen_are : AreFrozen c frozen
+  owned : ℕ → Bool
+  owned_are : AreOwned c owned
+  marked : IsMarked c
+  width : HaveWidth cfg
+  settings : AreSettings cfg
+
+module _ (beginning : Beginning) where
+  open beginning use {given, memory, laws, elided, c, cfg, frozen, frozen_are, owned, owned_are, marked, width, settings}
+
+  abbrev Follows : Core → List Past → List PlainStep → Type 0
+  Follows = Shadowed c cfg frozen owned
+
+  abbrev owning : Stores → Owning
+  owning stores = record { owned = owned; stores = stores }
+
   -- ---- an event of a thread
 
-  module _ (s : Core) (pasts : List Past) (steps : List PlainStep) (l : Shadowed c cfg frozen owned s pasts steps) (t : ℕ) (x : Thread) (there : slice_get s.threads t ≡ Some x) where
+  module _ (s : Core) (pasts : List Past) (steps : List PlainStep) (l : Follows s pasts steps) (t : ℕ) (x : Thread) (there : slice_get s.threads t ≡ Some x) where
     abbrev now : Thread
     now = moved c x x.phase (found_of c s x)
 
@@ -69,14 +93,14 @@ module _ (given : GivenIsKept) (memory : InstructionsChangeMemory) (laws : AreEv
     more = steps_of t (shown_at c x x.attempt (found_of c s x) (slice_index_or pasts t no_past))
 
     builds : BuildsOn c l.objects l.was s t frozen
-        (record { owned = owned; stores = l.stores }) l.world
-    builds = elided.events_built c cfg l.objects l.was s t frozen (record { owned = owned; stores = l.stores }) l.world marked width l.facts l.built
+        (owning l.stores) l.world
+    builds = elided.events_built c cfg l.objects l.was s t frozen (owning l.stores) l.world marked width l.facts l.built
 
     facts_after : StateFacts c cfg (objects_after c.program s t l.objects) (counted_after c l.was s t) (event c s t)
     facts_after = laws.events_state c cfg l.objects l.was s t marked width l.facts
 
-    turns : EventStands c cfg l.objects l.was frozen (record { owned = owned; stores = l.stores })
-        (record { owned = owned; stores = builds.stores }) l.world builds.later s t x
+    turns : EventStands c cfg l.objects l.was frozen (owning l.stores)
+        (owning builds.stores) l.world builds.later s t x
     turns = record {
       marked = marked;
       width = width;
@@ -87,11 +111,14 @@ module _ (given : GivenIsKept) (memory : InstructionsChangeMemory) (laws : AreEv
       built_after = builds.keeps;
       kept = builds.kept;
       goes_on = builds.goes_on;
-      guards = λ outside. elided.guards c cfg l.objects l.was frozen (record { owned = owned; stores = l.stores }) l.world s t x marked width l.facts l.built there outside;
+      guards = λ outside. elided.guards c cfg l.objects l.was frozen (owning l.stores) l.world s t x marked width l.facts l.built there outside;
     }
 
+    abbrev its : Event
+    its = event_at c cfg l.objects l.was frozen (owning l.stores) (owning builds.stores) l.world builds.later s t x turns
+
     moves : MovesIn c l.objects s t x (slice_index_or pasts t no_past) l.state x.attempt
-    moves = event_moves memory laws elided c cfg l.objects l.was frozen (record { owned = owned; stores = l.stores }) (record { owned = owned; stores = builds.stores }) l.world builds.later s t x (slice_index_or pasts t no_past) l.state turns l.beside (l.owes t x there)
+    moves = event_moves memory laws elided its (slice_index_or pasts t no_past) l.state l.beside (l.owes t x there)
 
     after_threads : (event c s t).threads ≡ slice_set s.threads t (moved c x x.phase (found_of c s x))
     after_threads = ap (λ (o : Option Thread). (event_of c s t o).threads) there
@@ -118,23 +145,23 @@ module _ (given : GivenIsKept) (memory : InstructionsChangeMemory) (laws : AreEv
         let within = slice_get_within s.threads t x there in
         let count = l.facts.threads.count in
         let many = l.many in
-        set_there pasts t past_now no_past (omega (arith, within, count, many))
+        get_or-set_same pasts t past_now no_past (omega (arith, within, count, many))
 
     past_other : (u : ℕ) → (u == t) ≡ false → slice_index_or (slice_set pasts t past_now) u no_past ≡ slice_index_or pasts u no_past
-    past_other u e = set_other pasts t u past_now no_past e
+    past_other u e = get_or-set_other pasts t u past_now no_past (apart u t e)
 
     abbrev owed : ℕ → Thread → Type 0
     owed u z = Owes c builds.stores (objects_after c.program s t l.objects) builds.later (event c s t) u (counted_after c l.was s t u) z z.attempt (slice_index_or (slice_set pasts t past_now) u no_past)
 
     owed_here : owed t now
     owed_here = subst (λ (p : Past). Owes c builds.stores (objects_after c.program s t l.objects) builds.later (event c s t) t (counted_after c l.was s t t) now now.attempt p) (sym past_here)
-        (elided.own_keeps c cfg l.objects l.was frozen (record { owned = owned; stores = l.stores })
-        (record { owned = owned; stores = builds.stores }) l.world builds.later s t x
+        (elided.own_keeps c cfg l.objects l.was frozen (owning l.stores)
+        (owning builds.stores) l.world builds.later s t x
         (slice_index_or pasts t no_past) turns (l.owes t x there))
 
     owed_other : (u : ℕ) (z : Thread) → (u == t) ≡ false → slice_get s.threads u ≡ Some z → owed u z
     owed_other u z e f = subst (λ (p : Past). Owes c builds.stores (objects_after c.program s t l.objects) builds.later (event c s t) u (counted_after c l.was s t u) z z.attempt p) (sym (past_other u e))
-        (elided.others_keep c cfg l.objects l.was frozen (record { owned = owned; stores = l.stores }) (record { owned = owned; stores = builds.stores }) l.world builds.later s t u x z (slice_index_or pasts u no_past) turns (apart u t e) f (l.owes u z f))
+        (elided.others_keep c cfg l.objects l.was frozen (owning l.stores) (owning builds.stores) l.world builds.later s t u x z (slice_index_or pasts u no_past) turns (apart u t e) f (l.owes u z f))
 
     abbrev counted : ℕ → Thread → Type 0
     counted u z = Counted c (steps ++ more) u z (slice_index_or (slice_set pasts t past_now) u no_past)
@@ -158,7 +185,7 @@ module _ (given : GivenIsKept) (memory : InstructionsChangeMemory) (laws : AreEv
         let no_takes : count_along c.program (take_at u) more l.state ≡ 0 = nothing.takes in
         subst (λ (p : Past). Counted c (steps ++ more) u z p) (sym (past_other u e)) (recounted z k (omega (arith, runs, no_runs)) (omega (arith, takes, no_takes)))
 
-    goes_on : Shadowed c cfg frozen owned (event c s t) (slice_set pasts t past_now) (steps ++ more)
+    goes_on : Follows (event c s t) (slice_set pasts t past_now) (steps ++ more)
     goes_on = record {
       objects = objects_after c.program s t l.objects;
       was = counted_after c l.was s t;
@@ -169,7 +196,7 @@ module _ (given : GivenIsKept) (memory : InstructionsChangeMemory) (laws : AreEv
       state = moves.after;
       run = run_on c.program steps more (plain_start c.program) l.state l.run ∙ moves.run;
       beside = moves.beside;
-      many = set_many pasts t past_now ∙ l.many;
+      many = length-set pasts t past_now ∙ l.many;
       owes = λ u z e. by_thread owed owed_here owed_other u z e;
       counts = λ u z e. by_thread counted counted_here counted_other u z e;
       prints = moves.prints l.prints;
@@ -178,7 +205,7 @@ module _ (given : GivenIsKept) (memory : InstructionsChangeMemory) (laws : AreEv
 
   -- ---- where a part begins
 
-  module _ (s : Core) (pasts : List Past) (steps : List PlainStep) (l : Shadowed c cfg frozen owned s pasts steps) where
+  module _ (s : Core) (pasts : List Past) (steps : List PlainStep) (l : Follows s pasts steps) where
     abbrev IsKept : (t : ℕ) → Thread → Type 0
     IsKept t z = Owes c l.stores l.objects l.world (next c s) t (counted_next c l.was s t) z z.attempt (slice_index_or pasts t no_past) × Counted c steps t z (slice_index_or pasts t no_past)
 
@@ -205,14 +232,14 @@ module _ (given : GivenIsKept) (memory : InstructionsChangeMemory) (laws : AreEv
     kept true may t z e = kept_begun may t z e
     kept false may t z e = kept_same may t z (ap (λ (threads : List Thread). slice_get threads t) (sym (same_threads c.program s.threads may)) ∙ e)
 
-    begins : Shadowed c cfg frozen owned (next c s) pasts steps
+    begins : Follows (next c s) pasts steps
     begins = record {
       objects = l.objects;
       was = counted_next c l.was s;
       world = l.world;
       facts = laws.next_state c cfg l.objects l.was s marked (laws.parts c cfg marked settings) l.facts;
       stores = l.stores;
-      built = elided.next_built c cfg l.objects l.was s frozen (record { owned = owned; stores = l.stores }) l.world marked l.facts l.built;
+      built = elided.next_built c cfg l.objects l.was s frozen (owning l.stores) l.world marked l.facts l.built;
       state = l.state;
       run = l.run;
       beside = laws.next_beside c cfg l.objects l.was s l.state marked l.facts l.beside;
@@ -225,7 +252,7 @@ module _ (given : GivenIsKept) (memory : InstructionsChangeMemory) (laws : AreEv
 
   -- ---- the start
 
-  start_stands : Shadowed c cfg frozen owned (start c cfg) (replicate (c.program.workers + 1) no_past) []
+  start_stands : Follows (start c cfg) (replicate (c.program.workers + 1) no_past) []
   start_stands = record {
     objects = start_objects c.program;
     was = phase_at_start c cfg;
@@ -248,22 +275,22 @@ module _ (given : GivenIsKept) (memory : InstructionsChangeMemory) (laws : AreEv
 
   -- ---- a list of events
 
-  one_of : (w : Told) (steps : List PlainStep) (t : ℕ) → Shadowed c cfg frozen owned w.core w.pasts steps
-      → Shadowed c cfg frozen owned (event c w.core t) (pasts_after c w t (slice_get w.core.threads t)) (steps ++ shown_of c w t (slice_get w.core.threads t))
+  one_of : (w : Told) (steps : List PlainStep) (t : ℕ) → Follows w.core w.pasts steps
+      → Follows (event c w.core t) (pasts_after c w t (slice_get w.core.threads t)) (steps ++ shown_of c w t (slice_get w.core.threads t))
   one_of w steps t l = by_thread_of (slice_get w.core.threads t) refl
     where
-      by_thread_of : (o : Option Thread) → slice_get w.core.threads t ≡ o → Shadowed c cfg frozen owned (event c w.core t) (pasts_after c w t o) (steps ++ shown_of c w t o)
-      by_thread_of None e = subst (λ (s : Core). Shadowed c cfg frozen owned s w.pasts (steps ++ [])) (sym (ap (event_of c w.core t) e)) (subst (λ (ss : List PlainStep). Shadowed c cfg frozen owned w.core w.pasts ss) (sym (append-nil steps)) l)
+      by_thread_of : (o : Option Thread) → slice_get w.core.threads t ≡ o → Follows (event c w.core t) (pasts_after c w t o) (steps ++ shown_of c w t o)
+      by_thread_of None e = subst (λ (s : Core). Follows s w.pasts (steps ++ [])) (sym (ap (event_of c w.core t) e)) (subst (λ (ss : List PlainStep). Follows w.core w.pasts ss) (sym (append-nil steps)) l)
       by_thread_of (Some x) e = goes_on w.core w.pasts steps l t x e
 
-  one : (w : Told) (steps : List PlainStep) (h : Happening) → Shadowed c cfg frozen owned w.core w.pasts steps → Shadowed c cfg frozen owned (told c w h).core (told c w h).pasts (steps ++ shown c w h)
+  one : (w : Told) (steps : List PlainStep) (h : Happening) → Follows w.core w.pasts steps → Follows (told c w h).core (told c w h).pasts (steps ++ shown c w h)
   one w steps (Of t) l = one_of w steps t l
-  one w steps NextPart l = subst (λ (ss : List PlainStep). Shadowed c cfg frozen owned (next c w.core) w.pasts ss) (sym (append-nil steps)) (begins w.core w.pasts steps l)
+  one w steps NextPart l = subst (λ (ss : List PlainStep). Follows (next c w.core) w.pasts ss) (sym (append-nil steps)) (begins w.core w.pasts steps l)
 
-  all : (hs : List Happening) (w : Told) (steps : List PlainStep) → Shadowed c cfg frozen owned w.core w.pasts steps → Shadowed c cfg frozen owned (all_told c w hs).core (all_told c w hs).pasts (steps ++ shadow_from c w hs)
-  all [] w steps l = subst (λ (ss : List PlainStep). Shadowed c cfg frozen owned w.core w.pasts ss) (sym (append-nil steps)) l
+  all : (hs : List Happening) (w : Told) (steps : List PlainStep) → Follows w.core w.pasts steps → Follows (all_told c w hs).core (all_told c w hs).pasts (steps ++ shadow_from c w hs)
+  all [] w steps l = subst (λ (ss : List PlainStep). Follows w.core w.pasts ss) (sym (append-nil steps)) l
   all (h ∷ hs) w steps l =
-      subst (λ (ss : List PlainStep). Shadowed c cfg frozen owned (all_told c (told c w h) hs).core (all_told c (told c w h) hs).pasts ss) (append_assoc steps (shown c w h) (shadow_from c (told c w h) hs))
+      subst (λ (ss : List PlainStep). Follows (all_told c (told c w h) hs).core (all_told c (told c w h) hs).pasts ss) (append_assoc steps (shown c w h) (shadow_from c (told c w h) hs))
       (all hs (told c w h) (steps ++ shown c w h) (one w steps h l))
 
   core_told : (hs : List Happening) (w : Told) → (all_told c w hs).core ≡ all_happened c w.core hs
@@ -275,9 +302,9 @@ module _ (given : GivenIsKept) (memory : InstructionsChangeMemory) (laws : AreEv
   unfolding core
   told_is hs = core_told hs (told_start c cfg)
 
-  reached : (hs : List Happening) → Shadowed c cfg frozen owned (core c cfg hs) (told_after c cfg hs).pasts (shadow c cfg hs)
+  reached : (hs : List Happening) → Follows (core c cfg hs) (told_after c cfg hs).pasts (shadow c cfg hs)
   unfolding shadow
-  reached hs = subst (λ (s : Core). Shadowed c cfg frozen owned s (told_after c cfg hs).pasts (shadow_from c (told_start c cfg) hs)) (told_is hs) (all hs (told_start c cfg) [] start_stands)
+  reached hs = subst (λ (s : Core). Follows s (told_after c cfg hs).pasts (shadow_from c (told_start c cfg) hs)) (told_is hs) (all hs (told_start c cfg) [] start_stands)
 
   -- ---- a run is faithful
 
@@ -309,14 +336,14 @@ module _ (given : GivenIsKept) (memory : InstructionsChangeMemory) (laws : AreEv
   abbrev with_pasts : (hs : List Happening) (s : Core) → Told
   with_pasts hs s = record { core = s; pasts = (told_after c cfg hs).pasts }
 
-  joined_of : (w : Told) (steps : List PlainStep) (l : Shadowed c cfg frozen owned w.core w.pasts steps) → FactsBeside c cfg w l.state
+  joined_of : (w : Told) (steps : List PlainStep) (l : Follows w.core w.pasts steps) → FactsBeside c cfg w l.state
   joined_of w steps l = record {
     facts = record {
       was = l.was;
       objects = l.objects;
       world = l.world;
       frozen = frozen;
-      owning = record { owned = owned; stores = l.stores };
+      owning = owning l.stores;
       own = l.facts.threads.own;
       started = l.facts.heap.started;
       apart = l.facts.heap.apart;
@@ -341,7 +368,7 @@ module _ (given : GivenIsKept) (memory : InstructionsChangeMemory) (laws : AreEv
     world = l.world;
     frozen = frozen;
     frozen_are = frozen_are;
-    owning = record { owned = owned; stores = l.stores };
+    owning = owning l.stores;
     facts = l.facts;
     built = l.built;
     pasts = l.many;
@@ -354,18 +381,32 @@ module _ (given : GivenIsKept) (memory : InstructionsChangeMemory) (laws : AreEv
     counts = counted_of_all hs;
     prints = l.prints;
     keep_none = l.keep_none;
-    guards = λ t x there outside. elided.guards c cfg l.objects l.was frozen (record { owned = owned; stores = l.stores }) l.world (core c cfg hs) t x marked width l.facts l.built there outside;
+    guards = λ t x there outside. elided.guards c cfg l.objects l.was frozen (owning l.stores) l.world (core c cfg hs) t x marked width l.facts l.built there outside;
     silent = silent_of hs;
   }
 
-pub runs_follow : GivenIsKept → InstructionsChangeMemory → RunsFollow
-runs_follow given memory laws elided c cfg hs marked width settings =
+abbrev beginning_of : GivenIsKept → InstructionsChangeMemory → AreEventLaws → AreElidedLaws → (c : MarkedProgram) (cfg : Config) → IsMarked c → HaveWidth cfg → AreSettings cfg → Beginning
+beginning_of given memory laws elided c cfg marked width settings =
     let test = elided.frozen_test c marked.marks in
     let owned = elided.owned_test c marked.marks in
-    faithful given memory laws elided c cfg test.0 test.1 owned.0 owned.1 marked width settings hs
+    record {
+      given = given;
+      memory = memory;
+      laws = laws;
+      elided = elided;
+      c = c;
+      cfg = cfg;
+      frozen = test.0;
+      frozen_are = test.1;
+      owned = owned.0;
+      owned_are = owned.1;
+      marked = marked;
+      width = width;
+      settings = settings;
+    }
+
+pub runs_follow : GivenIsKept → InstructionsChangeMemory → RunsFollow
+runs_follow given memory laws elided c cfg hs marked width settings = faithful (beginning_of given memory laws elided c cfg marked width settings) hs
 
 pub runs_stand : GivenIsKept → InstructionsChangeMemory → AreEventLaws → AreElidedLaws → RunsStand
-runs_stand given memory laws elided c cfg hs marked width settings =
-    let test = elided.frozen_test c marked.marks in
-    let owned = elided.owned_test c marked.marks in
-    stands given memory laws elided c cfg test.0 test.1 owned.0 owned.1 marked width settings hs
+runs_stand given memory laws elided c cfg hs marked width settings = stands (beginning_of given memory laws elided c cfg marked width settings) hs

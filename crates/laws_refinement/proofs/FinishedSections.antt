@@ -1,21 +1,20 @@
 -- Where a section is done that ran without its lock, its entry, what it did and its exit are a run of the plain machine, to a state
 -- that the new one stands beside.
-use Rattle.std.proofs.Common.{◌≡◌, ◌≢◌, ◌⊎◌, inl, inr, ℕ, suc, ◌≤◌, false, cond, List, [], ◌∷◌, Option, Some, None, refl, sym, ap, ◌∙◌, subst, arith, slice_get, slice_index, slice_set}
+use Rattle.std.proofs.Common.{◌≡◌, ◌≢◌, ◌⊎◌, inl, inr, ℕ, suc, ◌≤◌, false, cond, List, [], ◌∷◌, Option, Some, None, refl, sym, ap, ◌∙◌, subst, arith, slice_index, slice_set}
 use Rattle.jvm_types.specs.declared.fixed_words.TheConstants.{FIRST_READY_WORD, NEXT_FREE_WORD}
-use Rattle.checked_program.specs.MarkedProgram.{MarkedProgram, IsMarked}
-use Rattle.machine_types.specs.{Accesses.found_by, Agreement.{AttemptFits, ThreadFits, depth_for, has_wait_bit}, Attempts.Owes, Core.{Core, event}, Counting.{run_at, take_at, count_along}}
+use Rattle.machine_types.specs.{Accesses.found_by, Agreement.{ThreadFits, depth_for}, Attempts.Owes, Core.{Core, event}, Counting.{run_at, take_at, count_along}}
 use Rattle.machine_types.specs.{Elision.elided, Events.wanted, Going.goes_on, HeldMonitors.{depth_at, held_at}, History.{Fate, Finishes, Past, fate, shown_at, shown_by, steps_of}, LockWords.lock_of}
 use Rattle.machine_types.specs.{Onward.{Onward, after}, OwnedPlaces.Stores, Owners.{hold_by_word, lock_at, owner_at, references_of}, PlainMemory.Object, PlainState.{Plain, PlainThread, Holding, value_at, holding_at}}
 use Rattle.machine_types.specs.{PlainSteps.plain_run, Replay.{replayed, at_entry, at_present}, Structure.{IsAs, Stands}, Threads.{Attempt, Thread}, Typed.{AttemptHolds, HasClass, PhaseHolds}}
-use Rattle.machine_types.{specs.{Worlds.World, declared.{config.Config.Config, lock.{Held.Held, LockWord.LockWord}, phase.Phase.Phase, plain.Act.Act}}, proofs.AttemptReplay.hold}
+use Rattle.machine_types.{specs.{Worlds.World, declared.{lock.{Held.Held, LockWord.LockWord}, phase.Phase.Phase, plain.Act.Act}}, proofs.AttemptReplay.hold}
 use Rattle.machine_types.proofs.PlainStepLaws.{none_left}
 use Rattle.laws_threads.proofs.{Releases.goes_behind, ThreadMove.{goes_held, goes_attempt}}
-use Rattle.laws_states.{specs.{HeapFacts.{objects_after, objects_by, objects_of}, SiteLaws.SitesDiffer, Sites.HasObject, StateFacts.StateFacts}, proofs.Lists.{contained_got, same_or_not}}
+use Rattle.laws_states.{specs.{HeapFacts.{objects_after, objects_by, objects_of}, SiteLaws.SitesDiffer, Sites.HasObject}, proofs.Lists.{contained_got, same_or_not}}
 use Rattle.laws_states.proofs.{LockViews.not_held, Phases.IsOldPhase, WordViews.{lock_of_word, object_has}}
-use Rattle.laws_simulation.{specs.StandsBeside.{StandsBeside, end_of_done}, proofs.{Assembled.{got_same_length, moved_beside}, GoingOnAlike.{IsUnderWay, OwnFits, going_alike, none_ends}}}
+use Rattle.laws_simulation.{specs.StandsBeside.{StandsBeside, end_of_done}, proofs.{Assembled.{moved_beside}, GoingOnAlike.{IsUnderWay, OwnFits, going_alike, none_ends}}}
 use Rattle.laws_simulation.proofs.{HoldingsAlike.{depth_is_held, free_then, put_else, without_else}, Landing.never_made, Moving.{goes_old, goes_part}, OwnBits.{IsAwake, no_own_bit}}
 use Rattle.laws_simulation.proofs.WaitBits.{same_wait_bit}
-use Rattle.laws_refinement.{specs.ElidedSteps.{FinishesBeside, SectionsFinish, found_of}, proofs.{DoneSections.{IsDone, is_done, as_noted, event_is}, FinishedPlaces.staying_value}}
+use Rattle.laws_refinement.{specs.ElidedSteps.{FinishesBeside, SectionsFinish, found_of}, proofs.{Playing.{Player, has_bit, plain_fits, plain_there}, DoneSections.{IsDone, is_done, as_noted, event_is}, FinishedPlaces.staying_value}}
 use Rattle.laws_refinement.proofs.{PartsUnderWay.part_runs, WholeSections.{IsWhole, whole, holdings_behind, at_end, behind_section, section_acts}}
 use Rattle.jvm_types.specs.declared.outcome.End.TheVariants as ends
 use Rattle.machine_types.specs.PlainState as plain
@@ -31,8 +30,9 @@ same_behind hs m t inner n free = by_monitor (same_or_not m n)
     by_monitor (inl e) = subst (λ (i : ℕ). holding_at (holdings_behind hs m t inner) i ≡ holding_at hs i) e (none_left m _ ∙ sym free)
     by_monitor (inr d) = without_else n m _ d ∙ put_else n (hold m t (suc inner)) _ d ∙ put_else n (hold m t 1) hs d
 
-module _ (differ : SitesDiffer) (c : MarkedProgram) (cfg : Config) (objects : List Object) (was : ℕ → Phase) (s : Core) (t : ℕ) (x : Thread) (a : Attempt) (q : Plain) (marked : IsMarked c) (facts : StateFacts c cfg objects was s)
-    (beside : StandsBeside c.program objects s q) (there : slice_get s.threads t ≡ Some x) (tries : x.attempt ≡ Some a) (d : IsDone x a x.phase (found_by s.words (wanted c x x.phase))) where
+module _ (differ : SitesDiffer) (player : Player) (d : IsDone player.x player.a player.x.phase (found_by player.s.words (wanted player.c player.x player.x.phase))) where
+  open player use {states, c, objects, was, s, t, x, a, q, marked, facts, beside, here as there, tries}
+
   -- ---- the phase that counts
 
   counts : was t ≡ phases.Leave a.monitor d.after_it
@@ -62,22 +62,19 @@ module _ (differ : SitesDiffer) (c : MarkedProgram) (cfg : Config) (objects : Li
 
   -- ---- its plain thread
 
-  plain_there : (z : PlainThread) × (slice_get q.threads t ≡ Some z)
-  plain_there = got_same_length s.threads q.threads t x beside.agrees.many there
+  abbrev twin : PlainThread
+  twin = (plain_there player).0
 
-  fits : AttemptFits x a plain_there.0
-  fits = subst (λ (o : Option Attempt). ThreadFits c.program (has_wait_bit (references_of q.objects) s.words t) x o plain_there.0) tries (beside.agrees.threads t x plain_there.0 there plain_there.1)
-
-  awake : (m : ℕ) → has_wait_bit (references_of q.objects) s.words t m ≡ false
+  awake : (m : ℕ) → has_bit player m ≡ false
   awake m = same_wait_bit c.program objects s q beside.known beside.others facts.heap.new_objects t m
       ∙ no_own_bit (references_of objects) was s facts.owners facts.waiting t x there (subst IsAwake (sym counts) tt) m
 
-  under_way : (n : Past) → IsUnderWay c.program x.part x.roots (at_end x a (was t) n plain_there.0.ended)
+  under_way : (n : Past) → IsUnderWay c.program x.part x.roots (at_end x a (was t) n twin.ended)
   under_way n =
-      let runs = part_runs c cfg objects was s t x q facts beside there a.monitor d.after_it d.leaves in
+      let runs = part_runs player a.monitor d.after_it d.leaves in
       record {
         roots = refl;
-        ended = beside.ends t x plain_there.0 there plain_there.1 ∙ none_ends c.program x.part x.roots x.phase runs (ap (λ (phase : Phase). end_of_done (0 ∷ []) phase) d.leaves);
+        ended = beside.ends t x twin there (plain_there player).1 ∙ none_ends c.program x.part x.roots x.phase runs (ap (λ (phase : Phase). end_of_done (0 ∷ []) phase) d.leaves);
         runs = runs;
       }
 
@@ -96,22 +93,22 @@ module _ (differ : SitesDiffer) (c : MarkedProgram) (cfg : Config) (objects : Li
 
   module _ (n : Past) where
     abbrev after_all : Plain
-    after_all = behind_section q t x a (was t) n plain_there.0.ended goes.0
+    after_all = behind_section q t x a (was t) n twin.ended goes.0
 
     abbrev behind : Thread
     behind = goes_on (elided x) goes.0
 
-    alike : OwnFits c.program (has_wait_bit (references_of q.objects) s.words t) behind (plain.plain_goes_on (at_end x a (was t) n plain_there.0.ended) goes.0)
-    alike = going_alike c.program (has_wait_bit (references_of q.objects) s.words t) awake (elided x) (at_end x a (was t) n plain_there.0.ended) goes.0 (under_way n)
+    alike : OwnFits c.program (has_bit player) behind (plain.plain_goes_on (at_end x a (was t) n twin.ended) goes.0)
+    alike = going_alike c.program (has_bit player) awake (elided x) (at_end x a (was t) n twin.ended) goes.0 (under_way n)
 
-    fits_behind : (b : Option Attempt) → b ≡ None → ThreadFits c.program (has_wait_bit (references_of q.objects) s.words t) behind b (plain.plain_goes_on (at_end x a (was t) n plain_there.0.ended) goes.0)
-    fits_behind b e = subst (λ (o : Option Attempt). ThreadFits c.program (has_wait_bit (references_of q.objects) s.words t) behind o (plain.plain_goes_on (at_end x a (was t) n plain_there.0.ended) goes.0)) (sym e) alike.outside
+    fits_behind : (b : Option Attempt) → b ≡ None → ThreadFits c.program (has_bit player) behind b (plain.plain_goes_on (at_end x a (was t) n twin.ended) goes.0)
+    fits_behind b e = subst (λ (o : Option Attempt). ThreadFits c.program (has_bit player) behind o (plain.plain_goes_on (at_end x a (was t) n twin.ended) goes.0)) (sym e) alike.outside
 
     not_left : (phase : Phase) → phase ≡ phases.Leave a.monitor d.after_it → IsOldPhase phase
     not_left phase e = subst IsOldPhase (sym e) tt
 
     stands_then : StandsBeside c.program objects (record { words = s.words; threads = slice_set s.threads t behind }) after_all
-    stands_then = moved_beside c.program objects s q t s.words x behind (holdings_behind q.holdings a.monitor t a.inner) (plain.plain_goes_on (at_end x a (was t) n plain_there.0.ended) goes.0) q.prints beside there (record {
+    stands_then = moved_beside c.program objects s q t s.words x behind (holdings_behind q.holdings a.monitor t a.inner) (plain.plain_goes_on (at_end x a (was t) n twin.ended) goes.0) q.prints beside there (record {
       fits = fits_behind behind.attempt (goes_attempt (elided x) goes.0);
       ended = alike.ended;
       places = λ i v e. refl;
@@ -135,13 +132,27 @@ module _ (differ : SitesDiffer) (c : MarkedProgram) (cfg : Config) (objects : Li
     -- ---- the section as a whole
 
     module _ (stores : Stores) (w : World) (owes : Owes c stores objects w s t (was t) x x.attempt n) where
-      leads : replayed c.program a.monitor (value_at q) n.due (at_entry x a plain_there.0.ended) ≡ Some (at_present x a (was t) n.pending plain_there.0.ended)
+      leads : replayed c.program a.monitor (value_at q) n.due (at_entry x a twin.ended) ≡ Some (at_present x a (was t) n.pending twin.ended)
       leads =
           let due : Owes c stores objects w s t (was t) x (Some a) n = subst (λ (o : Option Attempt). Owes c stores objects w s t (was t) x o n) tries owes in
-          due.1 (as_noted c s t x a there d) (value_at q) (λ i k. staying_value differ c objects s q marked facts.heap beside stores w (slice_index s.words NEXT_FREE_WORD) t a.monitor i k) plain_there.0.ended
+          due.1 (as_noted c s t x a there d) (value_at q) (λ i k. staying_value differ states stores w (slice_index s.words NEXT_FREE_WORD) t a.monitor i k) twin.ended
 
-      is_whole : IsWhole c.program q t x a (was t) n plain_there.0.ended goes.0
-      is_whole = whole c.program q t x a plain_there.0 plain_there.1 fits free some_monitor (was t) n leads d.after_it goes.0 counts d.outermost goes.1
+      is_whole : IsWhole c.program q t x a (was t) n twin.ended goes.0
+      is_whole = whole (record {
+        p = c.program;
+        q = q;
+        t = t;
+        x = x;
+        a = a;
+        z = twin;
+        here = (plain_there player).1;
+        fits = plain_fits player;
+        free = free;
+        some = some_monitor;
+        was = was t;
+        d = n;
+        leads = leads;
+      }) d.after_it goes.0 counts d.outermost goes.1
 
       pub finishes_beside : fate c x a x.phase (found_by s.words (wanted c x x.phase)) ≡ Finishes → FinishesBeside c objects s t x n q
       finishes_beside ends_so =
@@ -159,4 +170,12 @@ module _ (differ : SitesDiffer) (c : MarkedProgram) (cfg : Config) (objects : Li
 pub sections_finish : SitesDiffer → SectionsFinish
 sections_finish differ c cfg objects was frozen own after w later s t x a d q k beside tries owes ends_so =
     let done = is_done c x a x.phase (found_of c s x) tries ends_so in
-    finishes_beside differ c cfg objects was s t x a q k.marked k.facts beside k.thread tries done d own.stores w owes ends_so
+    let player : Player = record {
+      states = record { c = c; cfg = cfg; objects = objects; was = was; s = s; q = q; marked = k.marked; facts = k.facts; beside = beside };
+      t = t;
+      x = x;
+      here = k.thread;
+      a = a;
+      tries = tries;
+    } in
+    finishes_beside differ player done d own.stores w owes ends_so

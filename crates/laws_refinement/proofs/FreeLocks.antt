@@ -18,8 +18,7 @@ use Rattle.machine_types.specs.declared.phase.Phase.TheVariants as phases
 
 kind_suits_none : (k : Kind) (m : ℕ) → Suits (kind_content k) (LockOf m) → ⊥
 kind_suits_none (kinds.Ref class) m suits = suits
-kind_suits_none kinds.Int m suits = suits
-kind_suits_none kinds.Bool m suits = suits
+kind_suits_none k m suits = suits
 
 field_suits_none : (f : Option FieldInfo) (m : ℕ) → Suits (field_content f) (LockOf m) → ⊥
 field_suits_none None m suits = suits
@@ -60,11 +59,7 @@ module _ (c : MarkedProgram) (x : Thread) (m n got : ℕ) (last : n < x.cfg.rang
   never now d e = absurd (d e)
 
   swapped : (is now : ℕ) → now ≢ word_of_lock (locks.Free n) → WasNoted (if got == is then now else got)
-  swapped is now d = by_test (got == is)
-    where
-      by_test : (b : Bool) → WasNoted (if b then now else got)
-      by_test true = never now d
-      by_test false = λ e. e
+  swapped is now d = elim (got == is) as (λ (b : Bool). WasNoted (if b then now else got)) [ true ↦ never now d | false ↦ λ e. e ]
 
   module _ (access : Access) (at : accessed access ≡ m) where
     stays : WasNoted got

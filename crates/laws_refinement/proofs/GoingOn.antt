@@ -1,10 +1,10 @@
 -- A thread inside an attempt goes on as its replay does.
-use Rattle.std.proofs.Common.{◌≡◌, ℕ, ◌<◌, Bool, true, false, cond, List, [], ◌∷◌, ◌++◌, length, Option, Some, None, refl, sym, ap, ◌∙◌, subst, arith, ◌==◌, nat_lt, option_and_then, slice_index}
+use Rattle.std.proofs.Common.{◌≡◌, ℕ, suc, ◌<◌, Bool, true, false, cond, List, [], ◌∷◌, ◌++◌, length, Option, Some, None, refl, sym, ap, ◌∙◌, subst, arith, ◌==◌, nat_lt, option_and_then, slice_index}
 use Rattle.lists.proofs.TestLaws.{same_number}
 use Rattle.jvm_types.specs.declared.{outcome.End.End, program.Program.Program}
 use Rattle.checked_program.specs.MarkedProgram.{MarkedProgram}
 use Rattle.machine_types.specs.{Attempts.IsReadBegun, Elision.put_back, Going.goes_on, History.with_begun, Onward.{Onward, Running, Throwing, Entering, Leaving, RootReturned, Uncaught}, PlainState.{PlainThread, Status}}
-use Rattle.machine_types.specs.{Replay.{Alone, only_on, replay_act, replayed, begun_and_done, status_inside, at_entry, at_present}, Structure.{IsAs, IsStructured, IsPhaseInside, AttemptStands, AttemptStandsIn}}
+use Rattle.machine_types.specs.{Replay.{Alone, goes, only_on, replay_act, replayed, begun_and_done, status_inside, at_entry, at_present}, Structure.{IsAs, IsStructured, IsPhaseInside, AttemptStands, AttemptStandsIn}}
 use Rattle.machine_types.specs.{Threads.{Attempt, Thread}, declared.{phase.Phase.Phase, plain.Act.Act}}
 use Rattle.laws_threads.specs.EntryFrames.{KeepsEntry}
 use Rattle.laws_states.proofs.PlainMoves.{goes_attempt}
@@ -86,46 +86,44 @@ module _ (c : MarkedProgram) (x : Thread) (a : Attempt) (now : Phase) where
     inside_as : (phase : Phase) → now ≡ phase → IsPhaseInside a.monitor now → IsPhaseInside a.monitor phase
     inside_as phase e k = subst (IsPhaseInside a.monitor) e k
 
-    status_is : (phase : Phase) → now ≡ phase → status_inside phase ≡ status_inside now
-    status_is phase e = ap status_inside (sym e)
-
-    read_by : (phase : Phase) → now ≡ phase → IsElementRead phase → IsElementRead now
-    read_by phase e k = subst IsElementRead (sym e) k
+    -- where it comes to the phase, with the same roots
+    by_phase : (o : Onward) (phase : Phase) → now ≡ phase → IsElementRead phase → only_on a.monitor o ≡ Some o → put_back a (goes_on z o).frames ≡ put_back a x.frames → (goes_on z o).roots ≡ z.roots
+        → ((status : Status) (ended : List End) → plain.plain_goes_on (plain_as x status ended) o ≡ record { frames = (goes_on z o).frames; status = status_inside phase; roots = x.roots; ended = ended }) → GoesAlike z o
+    by_phase o phase e read only keeps roots goes_so = record {
+      only = only;
+      thread = λ status ended. goes_so status ended ∙ (λ j. record { frames = (goes_on z o).frames; status = status_inside (sym e j); roots = sym (roots ∙ same_roots) j; ended = ended });
+      read = subst IsElementRead (sym e) read;
+      frames = keeps;
+      roots = roots ∙ same_roots;
+    }
 
     by_onward : (o : Onward) → AttemptStands c now (goes_on z o).frames (goes_on z o).held (inner_as a i) → IsAs (goes_on z o).phase now → KeepsEntry a x.frames o → GoesAlike z o
-    by_onward (Running frames) k is_as keeps =
-        let phase = running_now (nat_lt z.counts.instructions z.cfg.steps) now is_as in
-        record {
-          only = refl;
-          thread = λ status ended j. record { frames = frames; status = status_is phases.Run phase j; roots = sym same_roots j; ended = ended };
-          read = read_by phases.Run phase tt;
-          frames = keeps based k.based;
-          roots = same_roots;
-        }
-    by_onward (Throwing y class frames) k is_as keeps = record {
-      only = refl;
-      thread = λ status ended j. record { frames = frames; status = status_is (phases.Throw y class) is_as j; roots = sym same_roots j; ended = ended };
-      read = read_by (phases.Throw y class) is_as tt;
-      frames = keeps based k.based;
-      roots = same_roots;
-    }
-    by_onward (Entering m frames) k is_as keeps = record {
-      only = only_if m (Entering m frames) (inside_as (phases.Enter m 0) is_as k.inside);
-      thread = λ status ended j. record { frames = frames; status = status_is (phases.Enter m 0) is_as j; roots = sym same_roots j; ended = ended };
-      read = read_by (phases.Enter m 0) is_as tt;
-      frames = keeps based k.based;
-      roots = same_roots;
-    }
-    by_onward (Leaving m e frames) k is_as keeps = record {
-      only = only_if m (Leaving m e frames) (inside_as (phases.Leave m e) is_as k.inside);
-      thread = λ status ended j. record { frames = frames; status = status_is (phases.Leave m e) is_as j; roots = sym same_roots j; ended = ended };
-      read = read_by (phases.Leave m e) is_as tt;
-      frames = keeps based k.based;
-      roots = same_roots;
-    }
+    by_onward (Running frames) k is_as keeps = by_phase (Running frames) phases.Run (running_now (nat_lt z.counts.instructions z.cfg.steps) now is_as) tt refl (keeps based k.based) refl (λ status ended. refl)
+    by_onward (Throwing y class frames) k is_as keeps = by_phase (Throwing y class frames) (phases.Throw y class) is_as tt refl (keeps based k.based) refl (λ status ended. refl)
+    by_onward (Entering m frames) k is_as keeps = by_phase (Entering m frames) (phases.Enter m 0) is_as tt (only_if m (Entering m frames) (inside_as (phases.Enter m 0) is_as k.inside)) (keeps based k.based) refl (λ status ended. refl)
+    by_onward (Leaving m e frames) k is_as keeps = by_phase (Leaving m e frames) (phases.Leave m e) is_as tt (only_if m (Leaving m e frames) (inside_as (phases.Leave m e) is_as k.inside)) (keeps based k.based) refl (λ status ended. refl)
     by_onward RootReturned k is_as keeps = let none = k.based in absurd (omega (arith, none))
     by_onward (Uncaught class) k is_as keeps = let none = k.based in absurd (omega (arith, none))
 
     pub going_alike : (o : Onward) → z.attempt ≡ Some (inner_as a i) → KeepsEntry a x.frames o → IsStructured c now (goes_on z o) → GoesAlike z o
     going_alike o tries keeps k =
         by_onward o (subst (λ (q : Option Attempt). AttemptStandsIn c now (goes_on z o).frames (goes_on z o).held q) (goes_attempt z (Some o) ∙ tries) k.attempt) k.is_as keeps
+
+  -- and its replay comes to where it is by one act
+  module _ (z : Thread) (o : Onward) (i : ℕ) (alike : GoesAlike z o) where
+    pub comes_there : (status : Status) (ended : List End) (n : ℕ) → goes (record { thread = plain_as x status ended; depth = suc i; begun = n }) (Some o) ≡ Some (at_present (goes_on z o) (inner_as a i) now n ended)
+    comes_there status ended n =
+        let count : n ≡ begun_and_done now n = sym (all_done now n alike.read) in
+        (λ j. Some (let next : Alone = record { thread = alike.thread status ended j; depth = suc i; begun = count j } in next))
+
+    pub grown : (Keeps : (n : ℕ) → Type 0) (words : List ℕ) (was phase : Phase) (act : Act) → was ≡ phase → z.attempt ≡ Some (inner_as a i)
+        → ((memory : ℕ → Option ℕ) → Knows Keeps words memory → (n : ℕ) → IsReadBegun phase n → (ended : List End)
+        → replay_act c.program a.monitor memory (at_present x a phase n ended) act (status_inside phase) ≡ Some (at_present (goes_on z o) (inner_as a i) now (with_begun n phase) ended))
+        → Grows c.program Keeps words x a was now phase (goes_on z o) (act ∷ [])
+    grown Keeps words was phase act counted tries acted = subst (λ (p : Phase). Grows c.program Keeps words x a p now phase (goes_on z o) (act ∷ [])) (sym counted) (record {
+      inner = i;
+      attempt = goes_attempt z (Some o) ∙ tries;
+      entry = λ ended j. record { thread = record { frames = alike.frames j; status = plain.Run; roots = alike.roots j; ended = ended }; depth = 1; begun = 0 };
+      begun = λ n. none_begun now (with_begun n phase) alike.read;
+      replays = λ memory knows n some ended. one_act c.program a.monitor memory act (at_present x a phase n ended) _ (acted memory knows n some ended);
+    })

@@ -3,13 +3,13 @@
 use Rattle.std.proofs.Common.{◌≡◌, ℕ, zero, suc, ◌<◌, Bool, true, false, List, [], ◌∷◌, length, Option, Some, refl, sym, ap, ◌∙◌, subst, slice_get, slice_set, if◌then◌else◌}
 use Rattle.jvm_types.specs.declared.{outcome.End.End, program.Program.Program}
 use Rattle.checked_program.specs.MarkedProgram.{MarkedProgram}
-use Rattle.machine_types.specs.{Agreement.{AttemptFits, StatusFits, ThreadFits, depth_of, frames_shown, has_wait_bit, roots_shown}, Core.{Core, event, event_of}, Events.moved, HeldMonitors.depth_at}
-use Rattle.machine_types.specs.{History.{Fate, GoesOn, Fails, Finishes, fate}, Owners.references_of, Parts.{done_roots, has_finished}, PlainMemory.Object, PlainState.{Plain, PlainThread}}
+use Rattle.machine_types.specs.{Agreement.{AttemptFits, StatusFits, ThreadFits, depth_of, frames_shown, roots_shown}, Core.{Core, event, event_of}, Events.moved, HeldMonitors.depth_at}
+use Rattle.machine_types.specs.{History.{Fate, GoesOn, Fails, Finishes, fate}, Parts.{done_roots, has_finished}, PlainMemory.Object, PlainState.{Plain, PlainThread}}
 use Rattle.machine_types.{specs.{Threads.{Attempt, Thread}, declared.{lock.Held.Held, phase.Phase.Phase}}, proofs.Lists.{set_as_it_is, got_when_set}}
 use Rattle.laws_threads.specs.{EntryFrames.{StepsKeepEntry, ThrowsKeepEntry, LeavesKeepEntry}, InsideEffects.InsideMayDo, InsideMoves.ElementsInside, StateLaws.counted_after}
 use Rattle.laws_states.specs.{HeapFacts.{objects_by, objects_of}, StateLaws.EventsKeepState}
-use Rattle.laws_simulation.{specs.StandsBeside.{StandsBeside, end_of_done, ends_shown, own_end}, proofs.Assembled.{got_same_length, moved_beside}}
-use Rattle.laws_refinement.{specs.ElidedSteps.{AttemptsStandBeside, IsNotFinished, found_of}, proofs.{Inside.{Inside, KnownInside, is_inside}, InsideMoves.{Moves, moves_inside}}}
+use Rattle.laws_simulation.{specs.StandsBeside.{StandsBeside, end_of_done, ends_shown, own_end}, proofs.Assembled.{moved_beside}}
+use Rattle.laws_refinement.{specs.ElidedSteps.{AttemptsStandBeside, IsNotFinished, found_of}, proofs.{Playing.{Player, has_bit, plain_fits, plain_there}, Inside.{Inside, KnownInside, is_inside}, InsideMoves.{Moves, moves_inside}}}
 use Rattle.laws_refinement.proofs.InsideWords.{words_stay}
 use Rattle.jvm_types.specs.declared.outcome.End.TheVariants as ends
 use Rattle.machine_types.specs.PlainState as plain
@@ -70,17 +70,18 @@ fits_still p bit c x y a Finishes v way m based fits = absurd way
 
 -- ---- the whole
 
-module _ (c : MarkedProgram) (objects : List Object) (s : Core) (t : ℕ) (x y : Thread) (a : Attempt) (f : Fate) (q : Plain) (v : PlainThread) (beside : StandsBeside c.program objects s q) (here : slice_get s.threads t ≡ Some x)
-    (twin : slice_get q.threads t ≡ Some v) (tried : x.attempt ≡ Some a) (before : IsStill c.program objects x.phase) (m : Moves c x y a x.phase f) where
-  abbrev bit_now : ℕ → Bool
-  bit_now = has_wait_bit (references_of q.objects) s.words t
+module _ (player : Player) (y : Thread) (f : Fate) (before : IsStill player.c.program player.objects player.x.phase) (m : Moves player.c player.x y player.a player.x.phase f) where
+  open player use {c, objects, s, t, x, a, q, beside, here}
+
+  abbrev v : PlainThread
+  v = (plain_there player).0
 
   pub same_beside : IsNotFinished f → ((b : Attempt) → y.attempt ≡ Some b → b.base < length y.frames) → IsStill c.program objects y.phase → StandsBeside c.program objects (record { words = s.words; threads = slice_set s.threads t y }) q
   same_beside way based still =
-      subst (λ (plains : List PlainThread). StandsBeside c.program objects (record { words = s.words; threads = slice_set s.threads t y }) (record q { threads = plains })) (set_as_it_is q.threads t v twin)
+      subst (λ (plains : List PlainThread). StandsBeside c.program objects (record { words = s.words; threads = slice_set s.threads t y }) (record q { threads = plains })) (set_as_it_is q.threads t v (plain_there player).1)
       (moved_beside c.program objects s q t s.words x y q.holdings v q.prints beside here (record {
-        fits = fits_still c.program bit_now c x y a f v way m based (subst (λ (o : Option Attempt). ThreadFits c.program bit_now x o v) tried (beside.agrees.threads t x v here twin));
-        ended = beside.ends t x v here twin ∙ sym (ap (λ (part : ℕ). ends_shown c.program part y.phase) m.keeps.part ∙ ends_alike c.program x.part y.phase x.phase still.own before.own);
+        fits = fits_still c.program (has_bit player) c x y a f v way m based (plain_fits player);
+        ended = beside.ends t x v here (plain_there player).1 ∙ sym (ap (λ (part : ℕ). ends_shown c.program part y.phase) m.keeps.part ∙ ends_alike c.program x.part y.phase x.phase still.own before.own);
         places = λ n w e. refl;
         next = refl;
         printed = beside.agrees.prints;
@@ -108,6 +109,14 @@ later_by c objects x y a phase Finishes way m inside = absurd way
 
 pub attempts_stand_beside : InsideMayDo → ElementsInside → StepsKeepEntry → ThrowsKeepEntry → LeavesKeepEntry → EventsKeepState → AttemptsStandBeside
 attempts_stand_beside may_do elements steps throws leaves keep c cfg objects was s t x a q marked width facts beside here tried way =
+    let player : Player = record {
+      states = record { c = c; cfg = cfg; objects = objects; was = was; s = s; q = q; marked = marked; facts = facts; beside = beside };
+      t = t;
+      x = x;
+      here = here;
+      a = a;
+      tries = tried;
+    } in
     let y = moved c x x.phase (found_of c s x) in
     let inside = is_inside may_do elements c marked x a tried (was t) (facts.structure t x here) in
     let m = moves_inside steps throws leaves c x a inside (found_of c s x) in
@@ -115,8 +124,7 @@ attempts_stand_beside may_do elements steps throws leaves keep c cfg objects was
     let after = keep c cfg objects was s t marked width facts in
     let there : slice_get (event c s t).threads t ≡ Some y = ap (λ (o : Option Thread). slice_get (event_of c s t o).threads t) here ∙ got_when_set s.threads t x y here in
     let later = later_by c objects x y a x.phase (fate c x a x.phase (found_of c s x)) way m (λ b e. is_inside may_do elements c marked y b e (counted_after c was s t t) (after.structure t y there)) in
-    let twin = got_same_length s.threads q.threads t x beside.agrees.many here in
-    let stands = same_beside c objects s t x y a (fate c x a x.phase (found_of c s x)) q twin.0 beside here twin.1 tried before m way later.based later.still in
+    let stands = same_beside player y (fate c x a x.phase (found_of c s x)) before m way later.based later.still in
     subst (λ (os : List Object). StandsBeside c.program os (event c s t) q) (sym (ap (λ (o : Option Thread). objects_of c.program o objects) here ∙ before.same))
     (subst (λ (r : Core). StandsBeside c.program objects r q) (sym (ap (event_of c s t) here))
     (subst (λ (words : List ℕ). StandsBeside c.program objects (record { words = words; threads = slice_set s.threads t y }) q) (sym (words_stay s.words c x a inside)) stands))

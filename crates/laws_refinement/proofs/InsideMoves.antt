@@ -1,15 +1,14 @@
 -- What a thread becomes by an event inside an attempt: it goes on in frames that are those of the entry but for what the section
 -- added, or the attempt fails, or the section is done.
 use Rattle.std.proofs.Common.{◌≡◌, ℕ, zero, suc, ◌+◌, ◌<◌, nat_lt, Bool, true, false, cond, length, Option, Some, None, refl, sym, ap, ◌∙◌, subst, arith, option_map}
-use Rattle.jvm_types.specs.declared.outcome.Thrown.TheVariants.{ArrayIndexOutOfBoundsException}
 use Rattle.checked_program.{specs.MarkedProgram.MarkedProgram, proofs.FilledTags.some_fewer}
-use Rattle.machine_types.specs.{Elision.{may_try, put_back, is_same, is_checked, if_same, fails, elided}, Events.{element_made, moved}, Frames.{Top, top_of, effect_at, went_on}}
+use Rattle.machine_types.specs.{Elision.{may_try, put_back, is_same, is_checked, fails, elided}, Events.{element_made, moved}, Frames.{Top, top_of, effect_at, went_on}}
 use Rattle.machine_types.specs.{Going.{with_phase, goes_on, goes_on_if, goes_after}, History.{Fate, GoesOn, Fails, Finishes, fate, fate_by, run_fate, leave_fate, with_begun}}
 use Rattle.machine_types.specs.{Instructions.{begun, did, instructed, ran}, Monitors.{Claim, finishes, enter_moves, leave_moves}}
-use Rattle.machine_types.specs.{Ints.low, Onward.{Onward, Running, Throwing, Entering, Leaving, RootReturned, Uncaught, threw, dispatched, after, done}, Threads.{Attempt, Thread}, Words.{header_length, value_word}, declared.effect.{Effect.Effect, Variable.TheVariants.Static}}
-use Rattle.machine_types.specs.declared.{effect.Effect.TheVariants.{Throws, Reads, Writes, Indexes, Makes, Prints, Waits, Notifies, NotifiesAll}, phase.{After.After, Phase.Phase}}
+use Rattle.machine_types.specs.{Onward.{Onward, Running, dispatched, after, done}, Threads.{Attempt, Thread}, declared.effect.{Effect.Effect, Variable.TheVariants.Static}}
+use Rattle.machine_types.specs.declared.{effect.Effect.TheVariants.{Reads}, phase.{After.After, Phase.Phase}}
 use Rattle.laws_threads.specs.{EntryFrames.{KeepsEntry, StepsKeepEntry, ThrowsKeepEntry, LeavesKeepEntry}, InsideEffects.MayDo}
-use Rattle.laws_refinement.proofs.Inside.{Inside, KnownInside}
+use Rattle.laws_refinement.proofs.{Checks.{checked, did_by, instructed_by}, Inside.{Inside, KnownInside}}
 use Rattle.machine_types.specs.declared.phase.Phase.TheVariants as phases
 
 -- ---- what a thread x is when it has become y
@@ -70,11 +69,7 @@ same_keeps z = record { held = refl; roots = refl; part = refl; prints = refl; b
 
 pub went : (b : Attempt) (z : Thread) (o : Onward) → b.base < length z.frames → KeepsEntry b z.frames o → Went b z (goes_on z o)
 went b z (Running frames) based k = record { keeps = record { held = refl; roots = refl; part = refl; prints = refl; begun = refl; done = refl }; attempt = refl; frames = k based }
-went b z (Throwing r class frames) based k = record { keeps = record { held = refl; roots = refl; part = refl; prints = refl; begun = refl; done = refl }; attempt = refl; frames = k based }
-went b z (Entering m frames) based k = record { keeps = record { held = refl; roots = refl; part = refl; prints = refl; begun = refl; done = refl }; attempt = refl; frames = k based }
-went b z (Leaving m e frames) based k = record { keeps = record { held = refl; roots = refl; part = refl; prints = refl; begun = refl; done = refl }; attempt = refl; frames = k based }
-went b z RootReturned based k = record { keeps = record { held = refl; roots = refl; part = refl; prints = refl; begun = refl; done = refl }; attempt = refl; frames = k based }
-went b z (Uncaught class) based k = record { keeps = record { held = refl; roots = refl; part = refl; prints = refl; begun = refl; done = refl }; attempt = refl; frames = k based }
+went b z o based k = record { keeps = record { held = refl; roots = refl; part = refl; prints = refl; begun = refl; done = refl }; attempt = refl; frames = k based }
 
 pub went_if : (b : Attempt) (z : Thread) (o : Option Onward) → b.base < length z.frames → ((onward : Onward) → o ≡ Some onward → KeepsEntry b z.frames onward) → Went b z (goes_on_if z o)
 went_if b z None based k = record { keeps = same_keeps z; attempt = refl; frames = λ l. refl }
@@ -104,62 +99,20 @@ module _ (c : MarkedProgram) (x : Thread) (a : Attempt) (phase : Phase) where
     has = record { attempt = refl; frames = ap (put_back a) frames; phase = refl };
   }
 
-  -- behind a check
-  checked : (z y : Thread) (got : ℕ) → z.attempt ≡ Some a → Keeps x z (with_begun x.counts.instructions phase) (sections_of x) → z.frames ≡ x.frames → Moves c x y a phase GoesOn → Moves c x (if_same z z.attempt got y) a phase (fate_by (is_same a got) GoesOn)
-  checked z y got tried first frames k = subst (λ (o : Option Attempt). Moves c x (if_same z o got y) a phase (fate_by (is_same a got) GoesOn)) (sym tried) (by_test (is_same a got))
-    where
-      by_test : (b : Bool) → Moves c x (cond b y (fails z a)) a phase (fate_by b GoesOn)
-      by_test true = k
-      by_test false = fails_inside z first frames
-
 -- ---- all phases
 
 module _ (steps : StepsKeepEntry) (throws : ThrowsKeepEntry) (leaves : LeavesKeepEntry) (c : MarkedProgram) (x : Thread) (a : Attempt) (tried : x.attempt ≡ Some a) (based : a.base < length x.frames) (got : ℕ) where
   now_begun : Keeps x (begun x) (x.counts.instructions + 1) (sections_of x)
   now_begun = record { held = refl; roots = refl; part = refl; prints = refl; begun = refl; done = refl }
 
-  -- an instruction, but for its check
-  did_inside : (at : Top) (e : Effect) → top_of c.program x.frames ≡ Some at → MayDo c a.monitor at e → Went a (begun x) (did c.program (begun x) at e got)
-  did_inside at (Writes v word) f may = absurd may
-  did_inside at (Indexes array index None) f may = by_test (nat_lt (low index) (header_length got))
-    where
-      by_test : (b : Bool) → Went a (begun x)
-          (cond b (with_phase (begun x) (phases.Element (value_word array (low index)) None))
-          (goes_on (begun x) (threw ArrayIndexOutOfBoundsException at)))
-      by_test true = record {
-        keeps = record {
-          held = refl;
-          roots = refl;
-          part = refl;
-          prints =
-              refl;
-          begun = refl;
-          done = refl;
-        };
-        attempt = refl;
-        frames = λ l. refl;
-      }
-      by_test false = went a (begun x) (threw ArrayIndexOutOfBoundsException at) based
-          (steps c.program x.frames a at (Throws ArrayIndexOutOfBoundsException) 0
-          (threw ArrayIndexOutOfBoundsException at) f refl)
-  did_inside at (Indexes array index (Some v)) f may = absurd may
-  did_inside at (Makes word size) f may = absurd may
-  did_inside at (Prints n) f may = absurd may
-  did_inside at (Waits m) f may = absurd may
-  did_inside at (Notifies m) f may = absurd may
-  did_inside at (NotifiesAll m) f may = absurd may
-  did_inside at e f may = went_if a (begun x) (done c.program at e got) based (λ onward is. steps c.program x.frames a at e got onward f is)
-
   instructed_inside : (at : Top) (e : Effect) → top_of c.program x.frames ≡ Some at → MayDo c a.monitor at e
       → Moves c x (instructed c.program (begun x) at e got) a phases.Run (cond (is_checked at.frame.pc e) (fate_by (is_same a got) GoesOn) GoesOn)
-  instructed_inside at e f may = by_check (is_checked at.frame.pc e)
+  instructed_inside at e f may = instructed_by (λ y fate. Moves c x y a phases.Run fate) c.program a (begun x) at e got tried
+      (goes_inside c x a phases.Run (begun x) (did c.program (begun x) at e got) a now_begun tried refl refl refl on) (fails_inside c x a phases.Run (begun x) now_begun refl)
     where
-      on : Moves c x (did c.program (begun x) at e got) a phases.Run GoesOn
-      on = goes_inside c x a phases.Run (begun x) (did c.program (begun x) at e got) a now_begun tried refl refl refl (did_inside at e f may)
-
-      by_check : (b : Bool) → Moves c x (cond b (if_same (begun x) x.attempt got (did c.program (begun x) at e got)) (did c.program (begun x) at e got)) a phases.Run (cond b (fate_by (is_same a got) GoesOn) GoesOn)
-      by_check true = checked c x a phases.Run (begun x) (did c.program (begun x) at e got) got tried now_begun refl on
-      by_check false = on
+      on : Went a (begun x) (did c.program (begun x) at e got)
+      on = did_by (Went a (begun x)) c a.monitor (begun x) at got (λ word. record { keeps = record { held = refl; roots = refl; part = refl; prints = refl; begun = refl; done = refl }; attempt = refl; frames = λ l. refl })
+          (λ by n. went_if a (begun x) (done c.program at by n) based (λ onward is. steps c.program x.frames a at by n onward f is)) e may
 
   -- an exit, which may be the last
   finishes_inside : (n : ℕ) (e : After) (inner : ℕ) → Moves c x (finishes c.program x e a inner got) a (phases.Leave n e) (cond (nat_lt 0 inner) GoesOn (fate_by (is_same a got) Finishes))
@@ -209,9 +162,10 @@ module _ (steps : StepsKeepEntry) (throws : ThrowsKeepEntry) (leaves : LeavesKee
       (sym (ap (option_map (λ at. Running (went_on c.program at made))) k.found) ∙ is)))
   moves_at (phases.Throw r class) k =
       let phase : Phase = phases.Throw r class in
-      checked c x a phase x (goes_on_if x (dispatched c.program r class x.frames)) got tried (same_keeps x) refl
+      checked (λ y fate. Moves c x y a phase fate) a x (goes_on_if x (dispatched c.program r class x.frames)) got x.attempt tried
       (goes_inside c x a phase x (goes_on_if x (dispatched c.program r class x.frames)) a (same_keeps x) tried refl refl refl
       (went_if a x (dispatched c.program r class x.frames) based (λ onward is. throws c.program x.frames a r class onward is)))
+      (fails_inside c x a phase x (same_keeps x) refl)
   moves_at (phases.Enter n number) k = subst (λ (claim : Claim). Moves c x (enter_moves x n number (may_try c x number) claim got) a (phases.Enter n number) GoesOn) (sym k) (enters_inside n number)
   moves_at (phases.Leave n e) k = subst (λ (claim : Claim). Moves c x (leave_moves c.program x n e claim got) a (phases.Leave n e) (leave_fate claim got)) (sym k) (finishes_inside n e a.inner)
   moves_at (phases.Ending e) k = goes_inside c x a (phases.Ending e) x (with_phase x (phases.Ended e)) a (same_keeps x) tried refl refl refl

@@ -1,13 +1,13 @@
 -- What an event inside an attempt counts, and that it prints nothing.
-use Rattle.std.proofs.Common.{◌≡◌, ℕ, ◌+◌, Bool, true, false, cond, List, Option, Some, None, refl, sym, ap, ◌∙◌, subst, arith}
+use Rattle.std.proofs.Common.{◌≡◌, ℕ, ◌+◌, List, Option, Some, None, refl, sym, ap, ◌∙◌, subst, arith}
 use Rattle.checked_program.specs.MarkedProgram.{MarkedProgram}
 use Rattle.machine_types.specs.{Core.{Core, event_of, event_by, outcome}, Counting.{CountsFit, extra_of}, Elision.elided, Events.{moved, wanted}, Faithful.PrintsFit, Frames.top_of}
-use Rattle.machine_types.specs.{History.{Fate, GoesOn, Fails, Finishes, Past, acts_of, fate, fate_by, past_after, past_by, with_begun}, Onward.after, Threads.{Attempt, Thread}}
+use Rattle.machine_types.specs.{History.{Fate, GoesOn, Fails, Finishes, Past, acts_of, fate, past_after, past_by, with_begun}, Onward.after, Threads.{Attempt, Thread}}
 use Rattle.machine_types.specs.declared.{phase.Phase.Phase, plain.Act.Act}
 use Rattle.laws_threads.specs.{EntryFrames.{StepsKeepEntry, ThrowsKeepEntry, LeavesKeepEntry}, InsideEffects.InsideMayDo, InsideMoves.ElementsInside}
 use Rattle.laws_simulation.proofs.{CalmEvents.{IsCalm, goes_if, no_extra}, OutcomePrints.{fit_of, prints_of, printed_none}}
 use Rattle.laws_refinement.{specs.ElidedSteps.{AttemptsAreCounted, AttemptsPrintNothing, FinishesAreCounted, IsNotFinished, found_of}, proofs.{DoneSections.never_runs, Inside.is_inside}}
-use Rattle.laws_refinement.proofs.InsideMoves.{Moves, moves_inside}
+use Rattle.laws_refinement.proofs.InsideMoves.{Moves, moves_inside, sections_by, sections_of}
 use Rattle.machine_types.specs.declared.phase.Phase.TheVariants as phases
 
 more_begun : (n : ℕ) (phase : Phase) → with_begun n phase ≡ n + with_begun 0 phase
@@ -19,27 +19,22 @@ no_extra_inside : (o : Option Attempt) (b : Attempt) (phase : Phase) → o ≡ S
 no_extra_inside o b phase e = ap (λ (k : Option Attempt). extra_of k phase) e
 
 module _ (c : MarkedProgram) (x y : Thread) (a : Attempt) (tried : x.attempt ≡ Some a) (d : Past) (acts : List Act) (runs takes : ℕ) where
+  -- what began is pending still, or in vain
+  still_counted : (later : Past) → later.wasted + later.pending ≡ d.wasted + with_begun d.pending x.phase → (f : Fate) → Moves c x y a x.phase f → sections_by (sections_of x) f ≡ sections_of x → extra_of y.attempt y.phase ≡ 0
+      → CountsFit x d runs takes → CountsFit y later runs takes
+  still_counted later same f m no_section none fit =
+      let before = no_extra_inside x.attempt a x.phase tried in
+      let more = more_begun x.counts.instructions x.phase in
+      let now = more_begun d.pending x.phase in
+      let i = m.keeps.begun in
+      let n = m.keeps.done in
+      let g = fit.instructions in
+      let h = fit.sections in
+      record { instructions = omega (arith, before, none, more, now, same, i, g); sections = omega (arith, n, no_section, h) }
+
   counted_by : (f : Fate) → Moves c x y a x.phase f → IsNotFinished f → CountsFit x d runs takes → CountsFit y (past_by d x.phase acts f) runs takes
-  counted_by GoesOn m way fit =
-      let before = no_extra_inside x.attempt a x.phase tried in
-      let later = no_extra_inside y.attempt m.has.attempt y.phase m.has.is in
-      let more = more_begun x.counts.instructions x.phase in
-      let now = more_begun d.pending x.phase in
-      let i = m.keeps.begun in
-      let n = m.keeps.done in
-      let f = fit.instructions in
-      let g = fit.sections in
-      record { instructions = omega (arith, before, later, more, now, i, f); sections = omega (arith, n, g) }
-  counted_by Fails m way fit =
-      let before = no_extra_inside x.attempt a x.phase tried in
-      let later : extra_of y.attempt y.phase ≡ 0 = ap (λ (o : Option Attempt). extra_of o y.phase) m.has.attempt ∙ ap (λ (phase : Phase). extra_of None phase) m.has.phase in
-      let more = more_begun x.counts.instructions x.phase in
-      let now = more_begun d.pending x.phase in
-      let i = m.keeps.begun in
-      let n = m.keeps.done in
-      let f = fit.instructions in
-      let g = fit.sections in
-      record { instructions = omega (arith, before, later, more, now, i, f); sections = omega (arith, n, g) }
+  counted_by GoesOn m way fit = still_counted (past_by d x.phase acts GoesOn) refl GoesOn m refl (no_extra_inside y.attempt m.has.attempt y.phase m.has.is) fit
+  counted_by Fails m way fit = still_counted (past_by d x.phase acts Fails) (omega arith) Fails m refl (ap (λ (o : Option Attempt). extra_of o y.phase) m.has.attempt ∙ ap (λ (phase : Phase). extra_of None phase) m.has.phase) fit
   counted_by Finishes m way fit = absurd way
 
   -- no instruction begins with the last exit
@@ -53,11 +48,6 @@ module _ (c : MarkedProgram) (x y : Thread) (a : Attempt) (tried : x.attempt ≡
       record { instructions = omega (arith, none, before, later, i, f); sections = omega (arith, n, g) }
 
 -- ---- the last exit
-
-not_by_check : (a : Attempt) (got : ℕ) (b same : Bool) → cond b (fate_by same GoesOn) GoesOn ≡ Finishes → ⊥
-not_by_check a got true true e = cc
-not_by_check a got true false e = cc
-not_by_check a got false same e = cc
 
 at_finish : (c : MarkedProgram) (x : Thread) (a : Attempt) (got : ℕ) (phase : Phase) → fate c x a phase got ≡ Finishes → IsCalm phase × (with_begun x.counts.instructions phase ≡ x.counts.instructions)
 at_finish c x a got phases.Run e = absurd (never_runs c a (top_of c.program x.frames) got e)

@@ -1,21 +1,20 @@
--- An instruction inside an attempt: it leaves the words, and it is one more act of the replay, which finds in every memory that
--- has the places that stay what the thread found.
-use Rattle.std.proofs.Common.{◌≡◌, ◌⊎◌, inl, inr, ℕ, suc, ◌+◌, ◌-◌, ◌<◌, nat_le, nat_lt, Bool, true, false, cond, List, [], ◌∷◌, Option, Some, None, refl, sym, ap, ◌∙◌, subst, arith, IsSome, slice_get, slice_index, option_map, option_and_then, if◌then◌else◌}
-use Rattle.jvm_types.specs.declared.{fixed_words.TheConstants.NEXT_FREE_WORD, outcome.{End.End, Thrown.{Thrown, TheVariants.ArrayIndexOutOfBoundsException}}, program.{MethodInfo.MethodInfo, Program.Program}}
-use Rattle.checked_program.specs.MarkedProgram.{MarkedProgram, IsMarked}
-use Rattle.machine_types.specs.{Accesses.found_by, Attempts.{IsReadBegun, Stays}, Construction.{Construction, FramesKeep, Owning, PhaseKeepsFrames, Runs, ThreadKeeps}, Core.Core, Effects.read_by, Elision.{is_checked, is_same, looks, if_same, fails}, Events.wanted}
+-- An instruction inside an attempt is one more act of the replay, which finds in every memory that has the places that stay what the
+-- thread found.
+use Rattle.std.proofs.Common.{◌≡◌, ◌⊎◌, inl, inr, ℕ, suc, ◌+◌, ◌-◌, ◌<◌, nat_lt, Bool, true, false, List, [], ◌∷◌, Option, Some, None, refl, sym, ap, ◌∙◌, subst, arith, IsSome, slice_get, slice_index, option_map, option_and_then, if◌then◌else◌}
+use Rattle.jvm_types.specs.declared.{outcome.{End.End, Thrown.{Thrown, TheVariants.ArrayIndexOutOfBoundsException}}, program.{MethodInfo.MethodInfo, Program.Program}}
+use Rattle.machine_types.specs.{Accesses.found_by, Attempts.{IsReadBegun}, Effects.read_by, Events.wanted}
 use Rattle.machine_types.specs.{FoundWords.{WordFits, effect_content, run_content, content_at}, Frames.{Top, frames_of, top_of, effect_at, went, went_on}, Going.{goes_on, goes_on_if, with_phase}}
-use Rattle.machine_types.specs.{History.{Fate, GoesOn, Fails, Finishes, fate_by, run_fate, instruction_acts, run_acts}, Instructions.{effect_wants, run_wants, begun, did, instructed, ran}}
-use Rattle.machine_types.specs.{Ints.low, Lawful.within, Onward.{Onward, Running, Throwing, Entering, Leaving, threw, called, returns, done}, PlainInstructions.got_by, PlainMemory.Object}
-use Rattle.machine_types.specs.{ReadyObjects.thrown_of, Replay.{Alone, only_on, reads_only, goes, instructs, replay_act, replayed, begun_and_done, status_inside, at_present}}
-use Rattle.machine_types.specs.{Structure.{IsAs, IsStructured, Stands, AttemptStands, AttemptStandsIn}, Threads.{Attempt, Thread}, Typed.{FramesHold, PhaseHolds, HasClass}}
-use Rattle.machine_types.specs.{Words.{header_class, header_length, header_word, value_word, variable_word}, Worlds.World, declared.{config.Config.Config, effect.Effect.Effect}}
-use Rattle.machine_types.specs.declared.effect.Effect.TheVariants.{Goes, Throws, Reads, Writes, Indexes, Measures, Raises, Makes, Prints, Calls, Returns, Enters, Leaves, Waits, Notifies, NotifiesAll, Stuck}
+use Rattle.machine_types.specs.{History.{Fate, GoesOn, Fails, Finishes, run_fate, instruction_acts, run_acts}, Instructions.{effect_wants, run_wants, begun, did, instructed, ran}}
+use Rattle.machine_types.specs.{Ints.low, Lawful.within, Onward.{Onward, Running, Throwing, Entering, Leaving, threw, called, returns, done}, PlainInstructions.got_by}
+use Rattle.machine_types.specs.{ReadyObjects.thrown_of, Replay.{Alone, only_on, reads_only, goes, instructs, replay_act, begun_and_done, status_inside, at_present}}
+use Rattle.machine_types.specs.{Structure.{IsAs, IsStructured, Stands, AttemptStands}, Threads.{Attempt, Thread}, Typed.{FramesHold, PhaseHolds, HasClass}}
+use Rattle.machine_types.specs.{Words.{header_class, header_length, header_word, value_word, variable_word}, declared.{effect.Effect.Effect}}
+use Rattle.machine_types.specs.declared.effect.Effect.TheVariants.{Goes, Throws, Reads, Indexes, Measures, Raises, Calls, Returns, Enters, Leaves, Stuck}
 use Rattle.machine_types.specs.declared.{phase.Phase.Phase, plain.Act.Act}
 use Rattle.laws_threads.{specs.{Allowed.Allowed, InsideEffects.MayDo, TopFrames.{IsAllowed, EffectsAreAllowed}}, proofs.{EntryKept.steps_kept, Inside.inside_may}}
-use Rattle.laws_states.{specs.{FoundLaws.{IsOfHeap, HeapWordsFit}, StateFacts.StateFacts}, proofs.PlainMoves.goes_attempt}
-use Rattle.laws_simulation.proofs.{EventSteps.{LeavesWords, load_leaves}, FrameEffects.is_some_thrown}
-use Rattle.laws_refinement.proofs.{GoingOn.{Grows, GoesAlike, Knows, all_done, going_alike, none_begun, one_act}, StayPlaces.{TopReads, top_reads, variable_stays, header_stays}}
+use Rattle.laws_states.{specs.{FoundLaws.{IsOfHeap, HeapWordsFit}}}
+use Rattle.laws_simulation.proofs.{FrameEffects.is_some_thrown}
+use Rattle.laws_refinement.proofs.{Checks.instructed_by, Attempting.{Trying, StaysNow, attempt_as, stands_as, frames_as, holds_as}, GoingOn.{Grows, GoesAlike, Knows, comes_there, going_alike, grown}, StayPlaces.{TopReads, top_reads, variable_stays, header_stays}}
 use Rattle.machine_types.specs.PlainState as plain
 use Rattle.machine_types.specs.declared.phase.After.TheVariants as afters
 use Rattle.machine_types.specs.declared.phase.Phase.TheVariants as phases
@@ -29,22 +28,11 @@ ByFate p Keeps words x a was now phase GoesOn y acts = Grows p Keeps words x a w
 ByFate p Keeps words x a was now phase Fails y acts = y.attempt ≡ None
 ByFate p Keeps words x a was now phase Finishes y acts = y.attempt ≡ None
 
--- ---- the lock word is looked at
-
-pub look_leaves : (words : List ℕ) (o : Option Attempt) → LeavesWords words (looks o)
-look_leaves words None = refl
-look_leaves words (Some a) = load_leaves words a.monitor
-
-look_leaves_if : (words : List ℕ) (b : Bool) (o : Option Attempt) → LeavesWords words (if b then looks o else None)
-look_leaves_if words true o = look_leaves words o
-look_leaves_if words false o = refl
-
 -- ---- one effect
 
 -- it goes on, and so does a replay with the word that it reads in its memory
 pub record DoesAlike (p : Program) (Keeps : (n : ℕ) → Type 0) (words : List ℕ) (x : Thread) (at : Top) (e : Effect) : Type 0 where
   pub onward : Onward
-  pub leaves : LeavesWords words (effect_wants x at.frame.pc e)
   pub moves : did p (begun x) at e (found_by words (effect_wants x at.frame.pc e)) ≡ goes_on (begun x) onward
   -- it goes on as some effect does
   pub step : (by : Effect) × (got : ℕ) × (done p at by got ≡ Some onward)
@@ -55,44 +43,32 @@ pub record DoesAlike (p : Program) (Keeps : (n : ℕ) → Type 0) (words : List 
 pub record ComesToElement (p : Program) (words : List ℕ) (x : Thread) (at : Top)
     (e : Effect) : Type 0 where
   pub word : ℕ
-  pub leaves : LeavesWords words (effect_wants x at.frame.pc e)
   pub moves : did p (begun x) at e (found_by words (effect_wants x at.frame.pc e)) ≡ with_phase
       (begun x) (phases.Element word None)
   pub act : instruction_acts x e (found_by words (effect_wants x at.frame.pc e)) ≡ []
 
 -- ---- of a thread in an attempt, whose instruction begins
 
-module _ (fit : HeapWordsFit) (allowed : EffectsAreAllowed) (c : MarkedProgram) (cfg : Config) (objects : List Object) (was : ℕ → Phase) (frozen : ℕ → Bool) (own : Owning) (w : World) (s : Core) (t : ℕ) (x : Thread) (marked : IsMarked c)
-    (facts : StateFacts c cfg objects was s) (built : Construction c frozen own w was objects s) (here : slice_get s.threads t ≡ Some x) (a : Attempt) (tries : x.attempt ≡ Some a) (runs : x.phase ≡ phases.Run) (at : Top)
-    (at_top : top_of c.program x.frames ≡ Some at) where
-  abbrev pub StaysNow : (n : ℕ) → Type 0
-  StaysNow n = Stays c own.stores objects w (slice_index s.words NEXT_FREE_WORD) t a.monitor n
+module _ (fit : HeapWordsFit) (allowed : EffectsAreAllowed) (trying : Trying) (runs : trying.x.phase ≡ phases.Run) (at : Top) (at_top : top_of trying.c.program trying.x.frames ≡ Some at) where
+  open trying use {c, objects, was, s, t, x, marked, facts, here, a, tries}
 
-  abbrev keeps : ThreadKeeps c frozen own w (slice_index s.words NEXT_FREE_WORD) t (was t) x
-  keeps = built.each t x here
+  abbrev Keeps : (n : ℕ) → Type 0
+  Keeps = StaysNow trying
 
   counted : was t ≡ phases.Run
   counted = subst (λ (now : Phase). IsAs now (was t)) runs (facts.structure t x here).is_as
 
   stands : Stands c phases.Run x.frames x.held (Some a)
-  stands = subst (λ (o : Option Attempt). Stands c phases.Run x.frames x.held o) tries (subst (λ (now : Phase). Stands c now x.frames x.held x.attempt) counted (facts.structure t x here).stands)
-
-  frames_keep : FramesKeep c frozen own keeps.now
-      (slice_index s.words NEXT_FREE_WORD) t Runs x.frames
-  frames_keep = subst (λ (phase : Phase). PhaseKeepsFrames c frozen own keeps.now
-      (slice_index s.words NEXT_FREE_WORD) t phase x.frames) counted keeps.frames
+  stands = stands_as trying phases.Run counted
 
   attempt_stands : AttemptStands c phases.Run x.frames x.held a
-  attempt_stands = subst (λ (o : Option Attempt). AttemptStandsIn c phases.Run x.frames x.held o) tries (subst (λ (now : Phase). AttemptStandsIn c now x.frames x.held x.attempt) counted (facts.structure t x here).attempt)
+  attempt_stands = attempt_as trying phases.Run counted
 
   marks : TopReads c a.monitor at
   marks = top_reads c x.frames x.held a at marked attempt_stands stands at_top
 
-  frames_hold : FramesHold c (HasClass objects) x.frames
-  frames_hold = subst (λ (now : Phase). PhaseHolds c (HasClass objects) now x.frames) runs (facts.heap.typed.threads t x here).phase
-
   top : agreement.MayDo c objects at
-  top = agreement.may_do c objects s x.frames at marked facts.heap frames_hold at_top
+  top = agreement.may_do c objects s x.frames at marked facts.heap (holds_as trying phases.Run runs) at_top
 
   -- what it may do
   does_at : (e : Effect) → effect_at c.program at ≡ e → Allowed c.program at.method (HasClass objects) at.insn at.target top.row at.frame.stack e
@@ -119,7 +95,7 @@ module _ (fit : HeapWordsFit) (allowed : EffectsAreAllowed) (c : MarkedProgram) 
   -- ---- by its effect
 
   abbrev DoesSo : Effect → Type 0
-  DoesSo e = DoesAlike c.program StaysNow s.words x at e ⊎ ComesToElement c.program s.words x at e
+  DoesSo e = DoesAlike c.program Keeps s.words x at e ⊎ ComesToElement c.program s.words x at e
 
   -- an element of an array that the monitor's object owns
   indexes : (array index : ℕ) → effect_at c.program at ≡ Indexes array index None
@@ -142,80 +118,61 @@ module _ (fit : HeapWordsFit) (allowed : EffectsAreAllowed) (c : MarkedProgram) 
           → DoesSo (Indexes array index None)
       by_test true e = inr (record {
         word = value_word array (low index);
-        leaves = load_leaves s.words (header_word array);
         moves = moves_by true e;
         act = ap (λ (b : Bool). if b then [] else acts.Do ∷ []) e;
       })
       by_test false e = inl (record {
         onward = threw ArrayIndexOutOfBoundsException at;
-        leaves = load_leaves s.words (header_word array);
         moves = moves_by false e;
         step = (Throws ArrayIndexOutOfBoundsException, 0, refl);
         act = ap (λ (b : Bool). if b then [] else acts.Do ∷ []) e;
         reads = λ memory knows. (
           header,
-          knows (header_word array) (header_stays c marked frozen own w was objects s built t x here
-              a frames_keep at at_top _ array (does_at (Indexes array index None) f).1),
+          knows (header_word array) (header_stays trying (frames_as trying phases.Run counted)
+              at at_top _ array (does_at (Indexes array index None) f).1),
           ap (λ (b : Bool). if b then option_map (λ value. Running (went_on c.program at value))
               (memory (value_word array (low index))) else Some
               (threw ArrayIndexOutOfBoundsException at)) e,
         );
       })
 
+  -- an effect that loads the word of a place that stays
+  loads : (e : Effect) (word : ℕ) (onward : Onward) → Keeps word → did c.program (begun x) at e (found_by s.words (effect_wants x at.frame.pc e)) ≡ goes_on (begun x) onward → done c.program at e (slice_index s.words word) ≡ Some onward
+      → instruction_acts x e (found_by s.words (effect_wants x at.frame.pc e)) ≡ acts.Do ∷ [] → ((memory : ℕ → Option ℕ) → got_by memory (read_by e) ≡ memory word)
+      → ((memory : ℕ → Option ℕ) → reads_only c.program memory at e (slice_index s.words word) ≡ Some onward) → DoesSo e
+  loads e word onward stays moves step act reads only = inl (record {
+    onward = onward;
+    moves = moves;
+    step = (e, slice_index s.words word, step);
+    act = act;
+    reads = λ memory knows. (slice_index s.words word, reads memory ∙ knows word stays, only memory);
+  })
+
   does : (e : Effect) → effect_at c.program at ≡ e → MayDo c a.monitor at e → DoesSo e
-  does (Goes to made) f k = inl (record { onward = Running (went c.program at to made); leaves = look_leaves_if s.words (nat_le to at.frame.pc) x.attempt; moves = refl; step = (Goes to made, 0, refl); act = refl; reads = λ memory knows. (0, refl, refl) })
-  does (Throws class) f k = inl (record { onward = threw class at; leaves = refl; moves = refl; step = (Throws class, 0, refl); act = refl; reads = λ memory knows. (0, refl, refl) })
+  does (Goes to made) f k = inl (record { onward = Running (went c.program at to made); moves = refl; step = (Goes to made, 0, refl); act = refl; reads = λ memory knows. (0, refl, refl) })
+  does (Throws class) f k = inl (record { onward = threw class at; moves = refl; step = (Throws class, 0, refl); act = refl; reads = λ memory knows. (0, refl, refl) })
   does (Reads v) f k =
-      let named = (does_at (Reads v) f) in
-      inl (record {
-        onward = Running (went_on c.program at (slice_index s.words (variable_word v)));
-        leaves = load_leaves s.words (variable_word v);
-        moves = refl;
-        step = (Reads v, slice_index s.words (variable_word v), refl);
-        act = refl;
-        reads = λ memory knows. (slice_index s.words (variable_word v), knows (variable_word v) (variable_stays c marked frozen own w was objects s built t x here a frames_keep at at_top v named.1 marks f k named.2), refl);
-      })
+      let named = does_at (Reads v) f in
+      loads (Reads v) (variable_word v) (Running (went_on c.program at (slice_index s.words (variable_word v))))
+      (variable_stays trying (frames_as trying phases.Run counted) at at_top v named.1 marks f k named.2) refl refl refl (λ memory. refl) (λ memory. refl)
   does (Measures v) f k =
-      let named = does_at (Measures v) f in
-      inl (record {
-        onward = Running (went_on c.program at (header_length (slice_index s.words (header_word v))));
-        leaves = load_leaves s.words (header_word v);
-        moves = refl;
-        step = (Measures v, slice_index s.words (header_word v), refl);
-        act = refl;
-        reads = λ memory knows. (slice_index s.words (header_word v), knows (header_word v) (header_stays c marked frozen own w was objects s built t x here a frames_keep at at_top _ v named.1), refl);
-      })
+      loads (Measures v) (header_word v) (Running (went_on c.program at (header_length (slice_index s.words (header_word v)))))
+      (header_stays trying (frames_as trying phases.Run counted) at at_top _ v (does_at (Measures v) f).1) refl refl refl (λ memory. refl) (λ memory. refl)
   does (Raises v) f k =
-      let named = does_at (Raises v) f in
       let class = is_some_thrown (thrown_of (header_class (slice_index s.words (header_word v)))) (raised v f) in
-      inl (record {
-        onward = Throwing v class.0 (frames_of at);
-        leaves = load_leaves s.words (header_word v);
-        moves = ap (λ (o : Option Thrown). goes_on_if (begun x) (option_map (λ kind. Throwing v kind (frames_of at)) o)) class.1;
-        step = (Raises v, slice_index s.words (header_word v), ap (λ (o : Option Thrown). option_map (λ kind. Throwing v kind (frames_of at)) o) class.1);
-        act = refl;
-        reads = λ memory knows. (
-          slice_index s.words (header_word v),
-          knows (header_word v) (header_stays c marked frozen own w was objects s built t x here a frames_keep at at_top _ v named.1),
-          ap (λ (o : Option Thrown). option_map (λ kind. Throwing v kind (frames_of at)) o) class.1,
-        );
-      })
+      let step = ap (λ (o : Option Thrown). option_map (λ kind. Throwing v kind (frames_of at)) o) class.1 in
+      loads (Raises v) (header_word v) (Throwing v class.0 (frames_of at))
+      (header_stays trying (frames_as trying phases.Run counted) at at_top _ v (does_at (Raises v) f).1) (ap (goes_on_if (begun x)) step) step refl (λ memory. refl) (λ memory. step)
   does (Calls number) f k =
       let call = allowed_at (Calls number) f in
       let step : option_map (called c.program at number) (slice_get c.program.methods number) ≡ Some (called c.program at number call.called) = ap (λ (o : Option MethodInfo). option_map (called c.program at number) o) call.there in
-      inl (record { onward = called c.program at number call.called; leaves = look_leaves s.words x.attempt; moves = ap (goes_on_if (begun x)) step; step = (Calls number, 0, step); act = refl; reads = λ memory knows. (0, refl, step) })
-  does Returns f k = inl (record { onward = returns c.program at; leaves = refl; moves = refl; step = (Returns, 0, refl); act = refl; reads = λ memory knows. (0, refl, refl) })
-  does (Enters m) f k = inl (record { onward = Entering m (went_on c.program at 0); leaves = refl; moves = refl; step = (Enters m, 0, refl); act = refl; reads = λ memory knows. (0, refl, refl) })
-  does (Leaves m) f k = inl (record { onward = Leaving m afters.Next (went_on c.program at 0); leaves = refl; moves = refl; step = (Leaves m, 0, refl); act = refl; reads = λ memory knows. (0, refl, refl) })
+      inl (record { onward = called c.program at number call.called; moves = ap (goes_on_if (begun x)) step; step = (Calls number, 0, step); act = refl; reads = λ memory knows. (0, refl, step) })
+  does Returns f k = inl (record { onward = returns c.program at; moves = refl; step = (Returns, 0, refl); act = refl; reads = λ memory knows. (0, refl, refl) })
+  does (Enters m) f k = inl (record { onward = Entering m (went_on c.program at 0); moves = refl; step = (Enters m, 0, refl); act = refl; reads = λ memory knows. (0, refl, refl) })
+  does (Leaves m) f k = inl (record { onward = Leaving m afters.Next (went_on c.program at 0); moves = refl; step = (Leaves m, 0, refl); act = refl; reads = λ memory knows. (0, refl, refl) })
   does Stuck f k = absurd (allowed_at Stuck f)
-  does (Writes v word) f k = absurd k
   does (Indexes array index None) f k = indexes array index f
-  does (Indexes array index (Some v)) f k = absurd k
-  does (Makes word size) f k = absurd k
-  does (Prints n) f k = absurd k
-  does (Waits m) f k = absurd k
-  does (Notifies m) f k = absurd k
-  does (NotifiesAll m) f k = absurd k
+  does e f k = absurd k
 
   -- ---- the instruction
 
@@ -228,62 +185,34 @@ module _ (fit : HeapWordsFit) (allowed : EffectsAreAllowed) (c : MarkedProgram) 
   abbrev got : ℕ
   got = found_by s.words (effect_wants x at.frame.pc its)
 
-  leaves_by : DoesSo its → LeavesWords s.words (effect_wants x at.frame.pc its)
-  leaves_by (inl d) = d.leaves
-  leaves_by (inr d) = d.leaves
-
-  pub leaves_words : LeavesWords s.words (run_wants c.program x (top_of c.program x.frames))
-  leaves_words = subst (λ (o : Option Top). LeavesWords s.words (run_wants c.program x o)) (sym at_top) (leaves_by done_so)
-
   module _ (now : Phase) where
     abbrev GrowsTo : Thread → List Act → Type 0
-    GrowsTo y act = Grows c.program StaysNow s.words x a (was t) now phases.Run y act
+    GrowsTo y act = Grows c.program Keeps s.words x a (was t) now phases.Run y act
 
     -- it is done
-    module _ (d : DoesAlike c.program StaysNow s.words x at its)
+    module _ (d : DoesAlike c.program Keeps s.words x at its)
         (k : IsStructured c now (goes_on (begun x) d.onward)) where
       alike : GoesAlike c x a now (begun x) d.onward
       alike = going_alike c x a now (begun x) a.inner refl attempt_stands.based d.onward tries
           (steps_kept c.program x.frames a at d.step.0 d.step.1 d.onward at_top d.step.2) k
 
-      acted : (memory : ℕ → Option ℕ) (n : ℕ) (ended : List End) (word : ℕ)
-          → got_by memory (read_by its) ≡ Some word
-          → reads_only c.program memory at its word ≡ Some d.onward
-          → replay_act c.program a.monitor memory
-          (at_present x a phases.Run n ended) acts.Do plain.Run ≡ Some
+      acted : (memory : ℕ → Option ℕ) → Knows Keeps s.words memory → (n : ℕ) (ended : List End)
+          → replay_act c.program a.monitor memory (at_present x a phases.Run n ended) acts.Do plain.Run ≡ Some
           (at_present (goes_on (begun x) d.onward) a now (n + 1) ended)
-      acted memory n ended word read only =
+      acted memory knows n ended =
           let z : Alone = at_present x a phases.Run n ended in
           let more : Alone = record z { begun = n + 1 } in
-          let count : n + 1 ≡ begun_and_done now (n + 1) = sym (all_done now (n + 1) alike.read) in
+          let found = d.reads memory knows in
           ap (instructs c.program a.monitor memory z) at_top
           ∙ ap (λ (o : Option ℕ). goes more (option_and_then
           (λ word. option_and_then (only_on a.monitor)
-          (reads_only c.program memory at its word)) o)) read
-          ∙ ap (λ (o : Option Onward). goes more (option_and_then (only_on a.monitor) o)) only
+          (reads_only c.program memory at its word)) o)) found.1
+          ∙ ap (λ (o : Option Onward). goes more (option_and_then (only_on a.monitor) o)) found.2
           ∙ ap (goes more) alike.only
-          ∙ (λ i. Some (let next : Alone = record
-          { thread = alike.thread plain.Run ended i; depth = suc a.inner; begun = count i } in
-          next))
+          ∙ comes_there c x a now (begun x) d.onward a.inner alike plain.Run ended (n + 1)
 
-      grown : GrowsTo (goes_on (begun x) d.onward) (acts.Do ∷ [])
-      grown = record {
-        inner = a.inner;
-        attempt = goes_attempt (begun x) (Some d.onward) ∙ tries;
-        entry = λ ended i. record {
-          thread = record
-              { frames = alike.frames i; status = plain.Run; roots = alike.roots i; ended = ended };
-          depth = 1;
-          begun = 0;
-        };
-        begun = λ n. none_begun now (n + 1) alike.read;
-        replays = λ memory knows n some ended. (let read = d.reads memory knows in
-            subst (λ (phase : Phase). replayed c.program a.monitor memory (acts.Do ∷ [])
-            (at_present x a phase n ended) ≡ Some
-            (at_present (goes_on (begun x) d.onward) a now (n + 1) ended)) (sym counted)
-            (one_act c.program a.monitor memory acts.Do (at_present x a phases.Run n ended) _
-            (acted memory n ended read.0 read.1 read.2)));
-      }
+      its_grown : GrowsTo (goes_on (begun x) d.onward) (acts.Do ∷ [])
+      its_grown = grown c x a now (begun x) d.onward a.inner alike Keeps s.words (was t) phases.Run acts.Do counted tries (λ memory knows n some ended. acted memory knows n ended)
 
     -- it is still to be done
     comes : (word : ℕ) → IsStructured c now (with_phase (begun x) (phases.Element word None))
@@ -323,7 +252,7 @@ module _ (fit : HeapWordsFit) (allowed : EffectsAreAllowed) (c : MarkedProgram) 
     grows_by (inl d) k = subst (λ (y : Thread). GrowsTo y (instruction_acts x its got))
         (sym d.moves)
         (subst (λ (act : List Act). GrowsTo (goes_on (begun x) d.onward) act) (sym d.act)
-        (grown d (subst (IsStructured c now) d.moves k)))
+        (its_grown d (subst (IsStructured c now) d.moves k)))
     grows_by (inr d) k = subst (λ (y : Thread). GrowsTo y (instruction_acts x its got))
         (sym d.moves)
         (subst (λ (act : List Act). GrowsTo (with_phase (begun x) (phases.Element d.word None)) act)
@@ -334,26 +263,14 @@ module _ (fit : HeapWordsFit) (allowed : EffectsAreAllowed) (c : MarkedProgram) 
     did_grow = grows_by done_so
 
     abbrev By : Fate → Thread → Type 0
-    By fate y = ByFate c.program StaysNow s.words x a (was t) now phases.Run fate y (instruction_acts x its got)
-
-    by_look : (b : Bool) → is_same a got ≡ b → IsStructured c now (cond b (did c.program (begun x) at its got) (fails (begun x) a)) → By (fate_by b GoesOn) (cond b (did c.program (begun x) at its got) (fails (begun x) a))
-    by_look true e k = did_grow k
-    by_look false e k = refl
-
-    by_check : (b : Bool) → IsStructured c now (cond b (if_same (begun x) (Some a) got (did c.program (begun x) at its got)) (did c.program (begun x) at its got))
-        → By (cond b (fate_by (is_same a got) GoesOn) GoesOn) (cond b (if_same (begun x) (Some a) got (did c.program (begun x) at its got)) (did c.program (begun x) at its got))
-    by_check true k = by_look (is_same a got) refl k
-    by_check false k = did_grow k
+    By fate y = ByFate c.program Keeps s.words x a (was t) now phases.Run fate y (instruction_acts x its got)
 
     at_the_top : IsStructured c now (instructed c.program (begun x) at its got) → By (run_fate c a (Some at) got) (instructed c.program (begun x) at its got)
-    at_the_top k =
-        subst (λ (o : Option Attempt). IsStructured c now (cond (is_checked at.frame.pc its) (if_same (begun x) o got (did c.program (begun x) at its got)) (did c.program (begun x) at its got))
-        → By (cond (is_checked at.frame.pc its) (fate_by (is_same a got) GoesOn) GoesOn) (cond (is_checked at.frame.pc its) (if_same (begun x) o got (did c.program (begun x) at its got)) (did c.program (begun x) at its got)))
-        (sym tries) (by_check (is_checked at.frame.pc its)) k
+    at_the_top = instructed_by (λ y fate. IsStructured c now y → By fate y) c.program a (begun x) at its got tries did_grow (λ k. refl)
 
     abbrev RunsBy : Option Top → Type 0
     RunsBy o = IsStructured c now (ran c.program x o (found_by s.words (run_wants c.program x o)))
-        → ByFate c.program StaysNow s.words x a (was t) now phases.Run (run_fate c a o (found_by s.words (run_wants c.program x o))) (ran c.program x o (found_by s.words (run_wants c.program x o))) (run_acts c x o (found_by s.words (run_wants c.program x o)))
+        → ByFate c.program Keeps s.words x a (was t) now phases.Run (run_fate c a o (found_by s.words (run_wants c.program x o))) (ran c.program x o (found_by s.words (run_wants c.program x o))) (run_acts c x o (found_by s.words (run_wants c.program x o)))
 
     pub runs_by_fate : RunsBy (top_of c.program x.frames)
     runs_by_fate = subst RunsBy (sym at_top) at_the_top

@@ -16,11 +16,9 @@ at_or_behind pc (insn ∷ insns) = (if nat_le pc insn.pc then 1 else 0) + at_or_
 
 pub no_more_than : (pc : ℕ) (code : List Insn) → at_or_behind pc code ≤ length code
 no_more_than pc [] = omega arith
-no_more_than pc (insn ∷ insns) = by_test (nat_le pc insn.pc) (no_more_than pc insns)
-  where
-    by_test : (b : Bool) → at_or_behind pc insns ≤ length insns → (if b then 1 else 0) + at_or_behind pc insns ≤ suc (length insns)
-    by_test true h = omega (arith, h)
-    by_test false h = omega (arith, h)
+no_more_than pc (insn ∷ insns) =
+    (elim (nat_le pc insn.pc) as (λ (b : Bool). at_or_behind pc insns ≤ length insns → (if b then 1 else 0) + at_or_behind pc insns ≤ suc (length insns))
+    [ true ↦ λ h. omega (arith, h) | false ↦ λ h. omega (arith, h) ]) (no_more_than pc insns)
 
 one_later : (pc to k : ℕ) → pc ≤ to → (if nat_le to k then 1 else 0) ≤ (if nat_le pc k then 1 else 0)
 one_later pc to k h = by_tests (nat_le to k) (nat_le pc k) refl refl

@@ -11,7 +11,7 @@ use Rattle.machine_types.specs.{Going.{with_phase, runs, root_over, goes_on, goe
 use Rattle.machine_types.specs.Monitors.{Claim, Tries, claim, enter_moves, finishes, leave_moves, finish_wants, leave_wants}
 use Rattle.machine_types.specs.{Onward.{Onward, Running, Throwing, Entering, Leaving, RootReturned, Uncaught, threw, back, unwound}, ReadyObjects.thrown_of, Threads.{Attempt, Frame, Thread}}
 use Rattle.machine_types.specs.{Words.{header_class, header_length, value_word}, declared.{access.Access.TheVariants.Load, effect.Effect.Effect}}
-use Rattle.machine_types.specs.declared.effect.Effect.TheVariants.{Goes, Throws, Reads, Writes, Indexes, Measures, Raises, Makes, Prints, Calls, Returns, Enters, Leaves, Waits, Notifies, NotifiesAll, Stuck}
+use Rattle.machine_types.specs.declared.effect.Effect.TheVariants.{Goes, Throws, Reads, Indexes, Measures, Raises, Calls, Returns, Enters, Leaves, Stuck}
 use Rattle.machine_types.{specs.declared.phase.{After.{After, TheVariants.{Next, Return}}, Phase.Phase}, proofs.PlainPartLaws.frames_are}
 use Rattle.laws_threads.specs.{InsideEffects.MayDo, TopFrames.IsAllowed}
 use Rattle.laws_states.{specs.RunSafety.{GoesOnBy, HasAfter, HasEvent, HasInstruction}, proofs.HeldOrTried.tried_at}
@@ -54,11 +54,7 @@ module _ (p : Program) (a : Attempt) where
   goes_on_with n k inner y is h = record { few = omega (arith, h); same = λ b e. (inner, same_some (sym e ∙ is)); fewer = λ b e. h }
 
   ran_left : (s : Thread) → left_in p a.base (runs s).phase s.frames ≤ all_ahead p a.base s.frames
-  ran_left s = by_limit (nat_lt s.counts.instructions s.cfg.steps)
-    where
-      by_limit : (b : Bool) → left_in p a.base (if b then phases.Run else phases.Ending ends.Steps) s.frames ≤ all_ahead p a.base s.frames
-      by_limit true = omega arith
-      by_limit false = omega arith
+  ran_left s = elim (nat_lt s.counts.instructions s.cfg.steps) as (λ (b : Bool). left_in p a.base (if b then phases.Run else phases.Ending ends.Steps) s.frames ≤ all_ahead p a.base s.frames) [ true ↦ omega arith | false ↦ omega arith ]
 
   runs_with : (n k inner : ℕ) (s : Thread) → s.attempt ≡ Some (record a { inner = inner }) → k + all_ahead p a.base s.frames ≤ n → Falls n k (runs s)
   runs_with n k inner s is h = goes_on_with n k inner (runs s) is (omega (arith, h, ran_left s))
@@ -137,21 +133,15 @@ module _ (c : MarkedProgram) (marked : IsMarked c) (x : Thread) (a : Attempt) (t
         on (Running (went c.program at to made)) (top_goes_on c.program a.base at.frame at.below at k (frame_on (top_row c.program at) to made at.frame) based refl later)
     does (Throws z) got free may allowed some = on (threw z at) (omega (arith, left_behind))
     does (Reads v) got free may allowed some = on (Running (went_on c.program at got)) (on_next got)
-    does (Writes v word) got free may allowed some = absurd may
     does (Indexes array index None) got free may allowed some = indexes array (low index) (header_length got)
-    does (Indexes array index (Some v)) got free may allowed some = absurd may
     does (Measures array) got free may allowed some = on (Running (went_on c.program at (header_length got))) (on_next (header_length got))
     does (Raises z) got free may allowed some = thrown z (thrown_of (header_class got)) some
-    does (Makes word size) got free may allowed some = absurd may
-    does (Prints v) got free may allowed some = absurd may
     does (Calls number) got free may allowed some = absurd (cc)
     does Returns got free may allowed some = gives_back (is_synchronized at.method.flags)
     does (Enters m) got free may allowed some = on (Entering m (went_on c.program at 0)) (on_next 0)
     does (Leaves m) got free may allowed some = on (Leaving m Next (went_on c.program at 0)) (on_next 0)
-    does (Waits m) got free may allowed some = absurd may
-    does (Notifies m) got free may allowed some = absurd may
-    does (NotifiesAll m) got free may allowed some = absurd may
     does Stuck got free may allowed some = absurd allowed
+    does e got free may allowed some = absurd may
 
     -- behind its check, where it has one, which fails
     instruction : (e : Effect) (got : ℕ) → (is_checked at.frame.pc e ≡ true → is_same a got ≡ false) → MayDo c a.monitor at e → IsAllowed c.program at e → GoesOnBy c.program at e got → Lessens whole 1 (instructed c.program (begun x) at e got)

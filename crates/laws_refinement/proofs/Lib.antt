@@ -1,11 +1,11 @@
-mod OutsideAttempts
 mod GoingOn
 mod ReadPlaces
+pub mod Attempting
+mod StayingOn
 mod StayPlaces
 mod Instructions
 mod Phases
 mod Growth
-pub mod SilentAttempts
 pub mod FreeLocks
 pub mod FieldRules
 pub mod FieldWriters
@@ -14,8 +14,10 @@ pub mod LockNoted
 pub mod StayingPlaces
 pub mod OthersKeep
 pub mod Inside
+mod Checks
 pub mod InsideWords
 pub mod InsideMoves
+pub mod Playing
 pub mod InsideBeside
 pub mod InsideTallies
 mod CountedActs
@@ -46,7 +48,6 @@ mod ScheduleEnds
 pub mod EventSteps
 pub mod SameCounts
 pub mod MoreSteps
-pub mod Pasts
 pub mod NextUntried
 pub mod EventMoves
 pub mod FaithfulRuns

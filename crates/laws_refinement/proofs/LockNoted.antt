@@ -7,8 +7,8 @@ use Rattle.machine_types.specs.{Accesses.words_after, Attempts.IsAsNoted, Core.C
 use Rattle.machine_types.specs.{Owners.{Locks, NotHeld, HeldFlat, hold_by_word, hold_by_kept, hold_by_list, AttemptSawIn, IsKeptCount, IsKeptIn, lock_at, locks_in, references_of}, PlainMemory.Object}
 use Rattle.machine_types.specs.{Structure.{IsFlat, IsStructured, Stands}, Threads.{Attempt, Thread}, Typed.{HasClass, AttemptHolds, IsObject}, declared.{config.Config.Config, lock.Held.Held}}
 use Rattle.machine_types.specs.declared.{lock.{Kept.Kept, LockWord.LockWord}, phase.Phase.Phase}
-use Rattle.laws_states.{specs.{SiteLaws.{EventsReachSites, SitesDiffer, SitesLieInside}, Sites.{LockOf, HasObject}, StateFacts.StateFacts}, proofs.EventWords.{IsLeft, word_at}}
-use Rattle.laws_states.proofs.{LockViews.{not_held, thin_if_flat}, LockWritten.thin_seen, Movers.{known_sites, heap_mover}, WordViews.lock_of_word}
+use Rattle.laws_states.{specs.{Sites.{LockOf, HasObject}, StateFacts.StateFacts}, proofs.EventWords.{IsLeft, word_at}}
+use Rattle.laws_states.proofs.{LockViews.{not_held, thin_if_flat}, LockWritten.thin_seen, Movers.{KnownSites, heap_mover}, WordViews.lock_of_word}
 use Rattle.laws_refinement.proofs.FreeLocks.{phase_leaves}
 use Rattle.machine_types.specs.declared.lock.Kept.TheVariants as keeps
 use Rattle.machine_types.specs.declared.lock.LockWord.TheVariants as locks
@@ -17,11 +17,7 @@ use Rattle.machine_types.specs.declared.phase.Phase.TheVariants as phases
 -- ---- nobody holds a free lock
 
 free_at : (references words : List ℕ) (m n : ℕ) → slice_index words m ≡ word_of_lock (locks.Free n) → (l : ℕ) × (lock_at references words m ≡ locks.Free l)
-free_at references words m n e = by_test (has_number references m)
-  where
-    by_test : (b : Bool) → (l : ℕ) × ((if b then lock_of (slice_index words m) else locks.Free 0) ≡ locks.Free l)
-    by_test true = (n, ap lock_of e ∙ lock_of_word (locks.Free n))
-    by_test false = (0, refl)
+free_at references words m n e = elim (has_number references m) as (λ (b : Bool). (l : ℕ) × ((if b then lock_of (slice_index words m) else locks.Free 0) ≡ locks.Free l)) [ true ↦ (n, ap lock_of e ∙ lock_of_word (locks.Free n)) | false ↦ (0, refl) ]
 
 module _ (c : MarkedProgram) (cfg : Config) (objects : List Object) (was : ℕ → Phase) (s : Core) (t : ℕ) (x : Thread) (facts : StateFacts c cfg objects was s) (there : slice_get s.threads t ≡ Some x) where
   abbrev v : Locks
@@ -64,8 +60,8 @@ module _ (c : MarkedProgram) (cfg : Config) (objects : List Object) (was : ℕ �
         let stands : Stands c (phases.FlatOut b after) x.frames x.held x.attempt = subst (λ (phase : Phase). Stands c phase x.frames x.held x.attempt) st.is_as st.stands in
         stands.phase_shows.flat
 
-    pub noted_before : SitesDiffer → SitesLieInside → EventsReachSites → IsMarked c → IsAsNoted (words_after s.words (wanted c x x.phase)) a → IsAsNoted s.words a
-    noted_before differ inside reach marked now = by_cases (word_at (heap_mover c marked objects s facts.heap t x there (facts.threads.lawful t x there)) (known_sites differ inside reach) (LockOf a.monitor) has_monitor)
+    pub noted_before : KnownSites → IsMarked c → IsAsNoted (words_after s.words (wanted c x x.phase)) a → IsAsNoted s.words a
+    noted_before sites marked now = by_cases (word_at (heap_mover c marked objects s facts.heap t x there (facts.threads.lawful t x there)) sites (LockOf a.monitor) has_monitor)
       where
         by_cases : (slice_index (words_after s.words (wanted c x x.phase)) a.monitor ≡ slice_index s.words a.monitor) ⊎ IsLeft c s.words x (LockOf a.monitor)
             → IsAsNoted s.words a

@@ -1,14 +1,14 @@
 -- What an event outside an attempt leaves: the thread in no attempt, and at an entry only where an instruction brings it to a new
 -- one; or in the attempt that it begins at the entry where it is. No attempt has failed by it.
-use Rattle.std.proofs.Common.{◌≡◌, ℕ, ◌+◌, nat_lt, Bool, true, false, cond, drop, List, [], ◌∷◌, Option, Some, None, refl, sym, subst, ◌∙◌, option_map, slice_get, if◌then◌else◌}
+use Rattle.std.proofs.Common.{◌≡◌, ◌⊎◌, inl, inr, ℕ, suc, ◌+◌, ◌-◌, arith, length, nat_lt, Bool, true, false, cond, drop, List, [], ◌∷◌, Option, Some, None, refl, sym, subst, ◌∙◌, option_map, slice_get, if◌then◌else◌}
 use Rattle.jvm_types.specs.{Members.is_synchronized, declared.{outcome.Thrown.{Thrown, TheVariants.StackOverflowError}, program.{MethodInfo.MethodInfo, Program.Program, Row.Row}}}
 use Rattle.checked_program.specs.MarkedProgram.{MarkedProgram}
-use Rattle.machine_types.specs.{Elision.may_try, Events.moved, Frames.{Top, frames_of, top_of, went_on, has_room, entry_frame, monitor_of, returned, handler_at}}
+use Rattle.machine_types.specs.{Elision.{may_try, put_back}, Events.moved, Frames.{Top, frames_of, top_of, went_on, has_room, entry_frame, monitor_of, returned, handler_at}}
 use Rattle.machine_types.specs.{Going.{with_phase, runs, failed_turn, goes_on, goes_on_if, goes_after}, HeldMonitors.{held_at, with_held, without_held, shallower, deeper}, Instructions.printed}
 use Rattle.machine_types.specs.{LockWords.lock_of, Monitors.{takes, retakes, Tries, claim, grown}}
 use Rattle.machine_types.specs.{Onward.{Onward, Running, Throwing, Entering, Leaving, RootReturned, Uncaught, root_arguments, rooted, back, unwound, handed, after}, ReadyObjects.class_of}
 use Rattle.machine_types.specs.{Threads.{Frame, Attempt, Thread}, declared.{lock.Kept.Kept, phase.{After.After, Phase.Phase, Toward.Toward}}}
-use Rattle.laws_threads.proofs.ThreadMove.{Lacks, GoesBy, LeadsTo, TurnsTo, GivesUp, Asks, WaitsFrom, Move, becomes, tried_attempt, counting, any_move, runs_to, turns_to, over_to, same_onward}
+use Rattle.laws_threads.proofs.ThreadMove.{Lacks, GoesBy, LeadsTo, TurnsTo, GivesUp, Asks, WaitsFrom, Move, begun_attempt, becomes, tried_attempt, counting, any_move, runs_to, turns_to, over_to, same_onward}
 use Rattle.jvm_types.specs.declared.outcome.End.TheVariants as ends
 use Rattle.machine_types.specs.declared.lock.LockWord.TheVariants as locks
 use Rattle.machine_types.specs.declared.phase.After.TheVariants as afters
@@ -26,6 +26,15 @@ abbrev pub ComesNew : (was now : Phase) → Type 0
 ComesNew was (phases.Enter m tried) = (was ≡ phases.Run) × (tried ≡ 0)
 ComesNew was now = Unit {0}
 
+-- the thread runs, or the limit of instructions has ended it
+abbrev pub IsAtInstruction : Phase → Type 0
+IsAtInstruction phase = (phase ≡ phases.Run) ⊎ (phase ≡ phases.Ending ends.Steps)
+
+entry_put_back : (f : Frame) (below : List Frame) (m noted number : ℕ) → put_back (record { monitor = m; noted = noted; base = length below; number = number; inner = 0; entry = f }) (f ∷ below) ≡ f ∷ below
+entry_put_back f below m noted number =
+    let one : suc (length below) - length below ≡ 1 = omega arith in
+    rw one refl
+
 -- thread x begins the attempt a by the word that it found, and is y then
 pub record Begins (c : MarkedProgram) (x y : Thread) (got : ℕ) (a : Attempt) : Type 0 where
   pub tried : ℕ
@@ -36,6 +45,9 @@ pub record Begins (c : MarkedProgram) (x y : Thread) (got : ℕ) (a : Attempt) :
   pub not_last : nat_lt a.noted x.cfg.range ≡ true
   pub number : a.number ≡ tried + 1
   pub failed : y.counts.failed ≡ x.counts.failed
+  pub frames : put_back a y.frames ≡ y.frames
+  pub inner : a.inner ≡ 0
+  pub phase : IsAtInstruction y.phase
 
 abbrev pub MovesTo : MarkedProgram → (x y : Thread) → (got : ℕ) → Option Attempt → Type 0
 MovesTo c x y got None = ComesNew x.phase y.phase × (y.counts.failed ≡ x.counts.failed)
@@ -69,11 +81,9 @@ module _ (was : Phase) where
 
   handed_comes : (p : Program) (x : ℕ) (class : Thrown) (at : Top) (r : Option Row) → MayCome was (Some (handed p x class at r))
   handed_comes p x class at (Some r) = tt
-  handed_comes p x class at None = by_flag (is_synchronized at.method.flags)
-    where
-      by_flag : (b : Bool) → MayCome was (Some (if b then Leaving (monitor_of p at.method at.frame) (afters.Unwind x class) (frames_of at) else unwound x class at.below))
-      by_flag true = tt
-      by_flag false = unwound_comes x class at.below
+  handed_comes p x class at None =
+      elim (is_synchronized at.method.flags) as (λ (b : Bool). MayCome was (Some (if b then Leaving (monitor_of p at.method at.frame) (afters.Unwind x class) (frames_of at) else unwound x class at.below)))
+      [ true ↦ tt | false ↦ unwound_comes x class at.below ]
 
   after_comes : (p : Program) (fs : List Frame) (a : After) → MayCome was (after p fs a)
   after_comes p fs afters.Next = tt
@@ -86,24 +96,14 @@ module _ (was : Phase) where
 
   rooted_comes : (p : Program) (t number : ℕ) (o : Option MethodInfo) → MayCome was (option_map (rooted p t number) o)
   rooted_comes p t number None = tt
-  rooted_comes p t number (Some m) = by_room (has_room p [] m)
-    where
-      by_room : (b : Bool) → MayCome was (Some (if b then Running (entry_frame number m (root_arguments t m) ∷ []) else Uncaught StackOverflowError))
-      by_room true = tt
-      by_room false = tt
+  rooted_comes p t number (Some m) = elim (has_room p [] m) as (λ (b : Bool). MayCome was (Some (if b then Running (entry_frame number m (root_arguments t m) ∷ []) else Uncaught StackOverflowError))) [ true ↦ tt | false ↦ tt ]
 
 -- ---- by its move
 
 goes_come : (p : Program) (s : Thread) (got : ℕ) (was : Phase) (o : Onward) → GoesBy p s got was o → MayCome was (Some o)
 goes_come p s got _ o (moves.by_effect at e _ found is silent d) = from_run phases.Run refl (Some o)
-goes_come p s got _ _ (moves.by_machine at class found y) = tt
-goes_come p s got _ _ (moves.by_nobody at m count h found y there l) = tt
-goes_come p s got _ _ (moves.by_element word stored at found) = tt
-goes_come p s got _ _ (moves.by_object a word) = tt
 goes_come p s got _ _ (moves.by_handler z class at found) = handed_comes _ p z class at (handler_at (class_of class) at)
-goes_come p s got _ _ (moves.by_none m r t) = tt
-goes_come p s got _ _ (moves.by_one m r u) = tt
-goes_come p s got _ _ (moves.by_all m r) = tt
+goes_come p s got was o k = tt
 
 lacks_new : (c : MarkedProgram) (s : Thread) (got : ℕ) (was : Phase) → Lacks c s got was → ComesNew was was
 lacks_new c s got _ moves.idle = tt
@@ -187,6 +187,9 @@ module _ (c : MarkedProgram) (x : Thread) (got : ℕ) (none : x.attempt ≡ None
     not_last = last;
     number = refl;
     failed = refl;
+    frames = subst (λ (gs : List Frame). put_back (begun_attempt m noted tried f below) gs ≡ gs) (sym l) (entry_put_back f below m noted (tried + 1));
+    inner = refl;
+    phase = runs_to IsAtInstruction (counting n x) (inl refl) (inr refl);
   }
   move_enters n was (moves.takes_lock m kept k) e = out was e (takes (counting n x) m kept) none refl (runs_to (ComesNew was) (counting n x) tt tt)
   move_enters n was (moves.gives_up m a k) e = left was e (gives_up_new (counting n x) m a was k) (record (counting n x) { held = without_held m x.held }) a none refl refl

@@ -1,14 +1,15 @@
 -- The part of a thread in an attempt is under way.
-use Rattle.std.proofs.Common.{◌≡◌, ◌≢◌, ◌⊎◌, inl, inr, ℕ, zero, suc, List, Some, refl, sym, ap, ◌∙◌, subst, arith, slice_get}
-use Rattle.checked_program.specs.MarkedProgram.{MarkedProgram}
-use Rattle.machine_types.specs.{Core.Core, PlainMemory.Object, PlainState.Plain, Threads.Thread, declared.{config.Config.Config, phase.{After.After, Phase.Phase}}}
-use Rattle.laws_states.{specs.{PartsStand.DoneRoots, StateFacts.StateFacts}, proofs.Lists.same_or_not}
-use Rattle.laws_simulation.{specs.StandsBeside.StandsBeside, proofs.{GoingOnAlike.PartRuns, PartsDue.rests_between}}
+use Rattle.std.proofs.Common.{◌≡◌, ◌≢◌, ◌⊎◌, inl, inr, ℕ, zero, suc, Some, refl, sym, ap, ◌∙◌, subst, arith, slice_get}
+use Rattle.machine_types.specs.{declared.{phase.{After.After, Phase.Phase}}}
+use Rattle.laws_states.{specs.{PartsStand.DoneRoots}, proofs.Lists.same_or_not}
+use Rattle.laws_simulation.proofs.{GoingOnAlike.PartRuns, PartsDue.rests_between}
+use Rattle.laws_refinement.proofs.Playing.{Player}
 use Rattle.jvm_types.specs.declared.outcome.End.TheVariants as ends
 use Rattle.machine_types.specs.declared.phase.Phase.TheVariants as phases
 
-module _ (c : MarkedProgram) (cfg : Config) (objects : List Object) (was : ℕ → Phase) (s : Core) (t : ℕ) (x : Thread) (q : Plain) (facts : StateFacts c cfg objects was s) (beside : StandsBeside c.program objects s q)
-    (there : slice_get s.threads t ≡ Some x) (m : ℕ) (a : After) (leaves : x.phase ≡ phases.Leave m a) where
+module _ (player : Player) (m : ℕ) (a : After) (leaves : player.x.phase ≡ phases.Leave m a) where
+  open player use {c, s, t, x, facts, beside, here}
+
   not_ended : x.phase ≡ phases.Ended ends.Returned → ⊥
   not_ended e = let bad : phases.Leave m a ≡ phases.Ended ends.Returned = sym leaves ∙ e in cc
 
@@ -17,7 +18,7 @@ module _ (c : MarkedProgram) (cfg : Config) (objects : List Object) (was : ℕ �
   part_runs = by_number (same_or_not t 0)
     where
       first : t ≡ 0 → slice_get s.threads 0 ≡ Some x
-      first e = ap (slice_get s.threads) (sym e) ∙ there
+      first e = ap (slice_get s.threads) (sym e) ∙ here
 
       by_part : (part : ℕ) → x.part ≡ part → t ≡ 0 → PartRuns c.program part x.roots
       by_part zero e z = tt
@@ -29,4 +30,4 @@ module _ (c : MarkedProgram) (cfg : Config) (objects : List Object) (was : ℕ �
 
       by_number : (t ≡ 0) ⊎ (t ≢ 0) → PartRuns c.program x.part x.roots
       by_number (inl e) = by_part x.part refl e
-      by_number (inr n) = subst (λ (part : ℕ). PartRuns c.program part x.roots) (sym ((facts.threads.own t x there).part n)) tt
+      by_number (inr n) = subst (λ (part : ℕ). PartRuns c.program part x.roots) (sym ((facts.threads.own t x here).part n)) tt

@@ -72,19 +72,13 @@ IsOfObject type = ⊥
 pub of_object : (type : VType) (class : ℕ) → is_below type (types.Ref class) ≡ true → IsOfObject type
 of_object types.Null class e = tt
 of_object (types.Ref d) class e = tt
-of_object types.Int class e = absurd (cc)
-of_object types.This class e = absurd (cc)
-of_object (types.New pc) class e = absurd (cc)
-of_object types.Top class e = absurd (cc)
+of_object type class e = absurd (cc)
 
 module _ (Old : ℕ → Type 0) (Fresh : (pc v : ℕ) → Type 0) (young : ℕ → Bool) (receiver v : ℕ) (some : 0 < v) where
   typed_slot : (type : VType) → IsOfObject type → SlotByType Old Fresh young type v → Old v
   typed_slot types.Null k h = absurd (omega (arith, some, h))
   typed_slot (types.Ref class) k h = h
-  typed_slot types.Int k h = absurd k
-  typed_slot types.This k h = absurd k
-  typed_slot (types.New pc) k h = absurd k
-  typed_slot types.Top k h = absurd k
+  typed_slot type k h = absurd k
 
   own_slot : (type : VType) (tag : Tag) → IsOfObject type → OwnSlot Old Fresh young receiver type tag v → (v ≡ receiver) ⊎ Old v
   own_slot type This k h = inl h

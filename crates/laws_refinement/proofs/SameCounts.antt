@@ -1,26 +1,31 @@
 -- Where a part of the run begins, no thread counts, tries or prints anything.
-use Rattle.std.{proofs.Common.{◌≡◌, ℕ, zero, suc, Bool, true, false, cond, List, [], ◌∷◌, map, Option, Some, None, refl, sym, ap, ◌∙◌, subst, arith, slice_get}, specs.List.AllByRecursion}
+use Rattle.std.{proofs.Common.{◌≡◌, ◌⊎◌, inl, inr, ℕ, zero, suc, Bool, true, false, cond, List, [], ◌∷◌, map, Option, Some, None, refl, sym, ap, ◌∙◌, subst, arith, slice_get}, specs.List.AllByRecursion}
 use Rattle.lists.proofs.ListLaws.{same_some}
 use Rattle.jvm_types.specs.declared.{outcome.Counts.Counts, program.Program.Program}
 use Rattle.machine_types.specs.{Core.{part_phase, may_begin, may_begin_by, with_roots, part_begins, next_threads}, Counting.{CountsFit, extra_of}, History.Past, Parts.{run_roots, done_roots}}
-use Rattle.machine_types.specs.Threads.{Attempt, Thread}
+use Rattle.machine_types.specs.{Threads.{Attempt, Thread}, declared.phase.Phase.Phase}
 use Rattle.laws_threads.specs.PartLaws.{PartFits, PartsFit}
 use Rattle.machine_types.specs.declared.phase.Phase.TheVariants as phases
+
+-- its phase is as it was, or a part of its own begins
+abbrev pub IsPassedOn : (was now : Phase) → Type 0
+IsPassedOn was now = (now ≡ was) ⊎ ((roots : List ℕ) × (now ≡ part_phase roots))
 
 pub record SameCounts (x z : Thread) : Type 0 where
   pub counts : z.counts ≡ x.counts
   pub attempt : z.attempt ≡ x.attempt
   pub extra : extra_of None z.phase ≡ extra_of None x.phase
+  pub phase : IsPassedOn x.phase z.phase
 
 as_it_is : (x z : Thread) → x ≡ z → SameCounts x z
-as_it_is x z e = subst (λ (y : Thread). SameCounts x y) e (record { counts = refl; attempt = refl; extra = refl })
+as_it_is x z e = subst (λ (y : Thread). SameCounts x y) e (record { counts = refl; attempt = refl; extra = refl; phase = inl refl })
 
 pub part_extra : (roots : List ℕ) → extra_of None (part_phase roots) ≡ 0
 part_extra [] = refl
 part_extra (number ∷ roots) = refl
 
 begins_same : (roots : List ℕ) (x z : Thread) → extra_of None x.phase ≡ 0 → with_roots roots x ≡ z → SameCounts x z
-begins_same roots x z none e = subst (λ (y : Thread). SameCounts x y) e (record { counts = refl; attempt = refl; extra = part_extra roots ∙ sym none })
+begins_same roots x z none e = subst (λ (y : Thread). SameCounts x y) e (record { counts = refl; attempt = refl; extra = part_extra roots ∙ sym none; phase = inr (roots, refl) })
 
 -- which thread it was
 pub record CameFrom (threads : List Thread) (t : ℕ) (z : Thread) : Type 0 where
@@ -34,9 +39,9 @@ workers_same roots (x ∷ workers) zero z idle e = record { old = x; there = ref
 workers_same roots (x ∷ workers) (suc t) z idle e = let k = workers_same roots workers t z idle.1 e in record { old = k.old; there = k.there; same = k.same }
 
 begun : (p : Program) (n : ℕ) (x : Thread) (workers : List Thread) (t : ℕ) (z : Thread) → may_begin_by n x.phase workers ≡ true → PartFits n x.phase workers → slice_get (part_begins p n x workers) t ≡ Some z → CameFrom (x ∷ workers) t z
-begun p zero x workers zero z may fits e = record { old = x; there = refl; same = subst (λ (y : Thread). SameCounts x y) (same_some e) (record { counts = refl; attempt = refl; extra = refl }) }
+begun p zero x workers zero z may fits e = record { old = x; there = refl; same = subst (λ (y : Thread). SameCounts x y) (same_some e) (record { counts = refl; attempt = refl; extra = refl; phase = inl refl }) }
 begun p zero x workers (suc t) z may fits e = let k = workers_same (run_roots p) workers t z fits e in record { old = k.old; there = k.there; same = k.same }
-begun p (suc zero) x workers zero z may fits e = record { old = x; there = refl; same = subst (λ (y : Thread). SameCounts x y) (same_some e) (record { counts = refl; attempt = refl; extra = part_extra (done_roots p) ∙ sym (ap (extra_of None) fits) }) }
+begun p (suc zero) x workers zero z may fits e = record { old = x; there = refl; same = subst (λ (y : Thread). SameCounts x y) (same_some e) (record { counts = refl; attempt = refl; extra = part_extra (done_roots p) ∙ sym (ap (extra_of None) fits); phase = inr (done_roots p, refl) }) }
 begun p (suc zero) x workers (suc t) z may fits e = record { old = z; there = e; same = as_it_is z z refl }
 begun p (suc (suc n)) x workers t z may fits e = absurd (cc)
 

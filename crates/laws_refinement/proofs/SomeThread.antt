@@ -1,5 +1,5 @@
 -- What a run comes to has a report of a thread.
-use Rattle.std.proofs.{Common.{ℕ, ◌+◌, ◌<◌, List, length, arith}, lemmas.List.length-map}
+use Rattle.std.proofs.{Common.{◌<◌, List, length, arith}, lemmas.List.length-map}
 use Rattle.checked_program.specs.MarkedProgram.{MarkedProgram}
 use Rattle.machine_types.specs.{Core.{Happening, core, outcome, report_of}, declared.config.Config.Config}
 use Rattle.laws_states.proofs.GrowingRuns.{runs_keep_sizes}

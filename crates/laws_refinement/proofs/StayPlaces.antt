@@ -8,15 +8,16 @@ use Rattle.jvm_types.specs.declared.{program.{MethodInfo.MethodInfo, Program.Pro
 use Rattle.laws_programs.{specs.TargetLaws.HasRow, proofs.ClassTreeLaws.files_alone}
 use Rattle.checked_program.specs.{FrozenPlaces.{IsFrozenStatic, IsGuardedStatic}, LockTags.TagShape, MarkedProgram.{MarkedProgram, IsMarked}, OwnedArrays.IsOwnedAt, SectionLaws.ReadsOnly, declared.section.Mode.Mode}
 use Rattle.checked_program.specs.declared.{section.Mode.TheVariants.OnThis, tag.Tag.Tag}
-use Rattle.machine_types.specs.{Attempts.{IsFieldAt, Stays}, Construction.{Construction, FramesKeep, IsArraySlot, Owning, ReceiverIs, Runs, SlotOf, SlotsAre, SlotsFrom, StackWith, IsFresh, ThreadKeeps, builds, makes_frozen, puts_owned}}
-use Rattle.machine_types.specs.{Core.Core, Effects.{gets, effect, variable_of}, Frames.{Top, top_of, effect_at, top_row}, OwnedPlaces.{Stores, IsStoredAt}, PlainMemory.Object, Standing.{Standing, Whole, tags_of}}
-use Rattle.machine_types.specs.{Structure.{Stands, AttemptStands, TopIs, frames_inside, is_element_op}, Threads.{Frame, Attempt, Thread}, Typed.{ElementStands, FramesHold, HasClass, HasElement, HasElementIn, HasElementOn, IsElementOn}, Words.{class_object, header_word, value_word, variable_word}}
+use Rattle.machine_types.specs.{Attempts.{IsFieldAt, Stays}, Construction.{FramesKeep, IsArraySlot, Owning, ReceiverIs, Runs, SlotOf, SlotsAre, SlotsFrom, StackWith, IsFresh, ThreadKeeps, builds, makes_frozen, puts_owned}}
+use Rattle.machine_types.specs.{Effects.{gets, effect, variable_of}, Frames.{Top, top_of, effect_at, top_row}, OwnedPlaces.{Stores, IsStoredAt}, PlainMemory.Object, Standing.{Standing, Whole, tags_of}}
+use Rattle.machine_types.specs.{Structure.{Stands, AttemptStands, TopIs, frames_inside, is_element_op}, Threads.{Frame, Attempt}, Typed.{ElementStands, FramesHold, HasClass, HasElement, HasElementIn, HasElementOn, IsElementOn}, Words.{class_object, header_word, value_word, variable_word}}
 use Rattle.machine_types.specs.{Worlds.{Begun, Unstored, World, IsFinished, IsOwnOrFinished, builder}, declared.effect.{Effect.TheVariants.{Reads, Throws}, Variable.{Variable, TheVariants.{Instance, Static}}}}
-use Rattle.machine_types.specs.declared.{lock.Held.Held, phase.Phase.Phase}
+use Rattle.machine_types.specs.declared.{lock.Held.Held}
 use Rattle.laws_threads.{specs.InsideEffects.{IsStayingStatic, MayRead, TakesOwned}, proofs.{FramePlaces.one_standing, Inside.{runs_inside, not_finished, top_shows, stack_this}, Landing.{rules_at, stand_top}}}
 use Rattle.laws_threads.proofs.{SectionFrames.{on_object, reads, row_stands}, Standings.{one_insn, top_here, top_at_standing}}
-use Rattle.laws_states.{specs.HeapFacts.HeapFacts, proofs.Lists.contained_got}
+use Rattle.laws_states.{proofs.Lists.contained_got}
 use Rattle.laws_objects.proofs.ColouredFrames.{coloured_class, coloured_instance}
+use Rattle.laws_refinement.{specs.ElidedSteps.next_free, proofs.Attempting.Trying}
 use Rattle.laws_refinement.proofs.ReadPlaces.{MayStay, GetsField, gets_field, IsOwnIn, own_in_all, of_object, slot}
 use Rattle.jvm_types.specs.declared.code.Op.TheVariants as ops
 use Rattle.jvm_types.specs.declared.outcome.Thrown.TheVariants as thrown
@@ -216,10 +217,10 @@ instance_of field reference e = ap (λ (b : Bool). if b then Static field.index 
 
 -- ---- of a thread in an attempt, whose instruction begins
 
-module _ (c : MarkedProgram) (marked : IsMarked c) (frozen : ℕ → Bool) (own : Owning) (w : World) (was : ℕ → Phase) (objects : List Object) (s : Core) (built : Construction c frozen own w was objects s) (t : ℕ) (x : Thread) (here : slice_get s.threads t ≡ Some x)
-    (a : Attempt) (frames_keep : FramesKeep c frozen own (built.each t x here).now
-    (slice_index s.words NEXT_FREE_WORD) t Runs x.frames) (at : Top)
-    (at_top : top_of c.program x.frames ≡ Some at) where
+module _ (trying : Trying) (frames_keep : FramesKeep trying.c trying.frozen trying.owning (trying.con.each trying.t trying.x trying.here).now (next_free trying.s) trying.t Runs trying.x.frames)
+    (at : Top) (at_top : top_of trying.c.program trying.x.frames ≡ Some at) where
+  open trying use {c, marked, frozen, owning as own, w, was, objects, s, con as built, facts, t, x, here, a}
+
   abbrev next : ℕ
   next = slice_index s.words NEXT_FREE_WORD
 
@@ -331,10 +332,9 @@ module _ (c : MarkedProgram) (marked : IsMarked c) (frozen : ℕ → Bool) (own 
   header_stays class v k = attempts.header k.2.0 k.2.1 (ap header_word (sym k.2.2))
 
   -- an element of an array that the monitor's object owns
-  pub element_stays : (heap : HeapFacts c objects s) (word : ℕ)
-      → TopArray c own.stores objects word at → TakesOwned c a.monitor at
+  pub element_stays : (word : ℕ) → TopArray c own.stores objects word at → TakesOwned c a.monitor at
       → Stays c own.stores objects w next t a.monitor word
-  element_stays heap word k o = attempts.element coloured.fi object.0 coloured.owned object.1
+  element_stays word k o = attempts.element coloured.fi object.0 coloured.owned object.1
       (object.2 ∙ o.receiver) (record {
         field_word = field_word;
         is_field = record { field = coloured.owned.field; is = coloured.owned.is; place = refl };
@@ -364,7 +364,7 @@ module _ (c : MarkedProgram) (marked : IsMarked c) (frozen : ℕ → Bool) (own 
       field_word = value_word object.0.reference coloured.owned.field.index
 
       some : 0 < k.array
-      some = let begins = heap.apart.begin k.element.there.0 k.element.object
+      some = let begins = facts.heap.apart.begin k.element.there.0 k.element.object
           (contained_got objects k.element.object k.element.there) in omega
           (arith, begins, k.element.is)
 

@@ -1,7 +1,7 @@
 -- Once the lock word of an attempt is no longer as it was noted, each instruction that it begins takes one away of those ahead of its
 -- frames, whatever happens.
-use Rattle.std.proofs.Common.{◌≡◌, ◌≢◌, ◌⊎◌, inl, inr, ℕ, zero, suc, ◌+◌, ◌≤◌, Bool, true, false, List, [], ◌∷◌, ◌++◌, map, drop, Option, Some, None, refl, sym, ap, subst, ◌∙◌, arith, ◌==◌, slice_get, slice_index, if◌then◌else◌}
-use Rattle.std.proofs.lemmas.Bool.{eqb-false, Decides.Decides-eqb}
+use Rattle.std.proofs.Common.{◌≡◌, ◌≢◌, inl, inr, ℕ, zero, suc, ◌+◌, ◌≤◌, Bool, true, false, List, [], ◌∷◌, ◌++◌, map, drop, Option, Some, None, refl, sym, ap, subst, ◌∙◌, arith, ◌==◌, slice_get, slice_index, if◌then◌else◌}
+use Rattle.std.proofs.lemmas.Bool.{eqb-false, ne_eqb, Decides.Decides-eqb}
 use Rattle.lists.proofs.ListLaws.{same_some}
 use Rattle.jvm_types.specs.declared.program.Program.{Program}
 use Rattle.checked_program.specs.{MarkedProgram.{MarkedProgram, IsMarked}, SectionLaws.ApartLaw}
@@ -12,7 +12,7 @@ use Rattle.machine_types.{specs.declared.phase.Phase.Phase, proofs.Lists.{got_wh
 use Rattle.laws_threads.specs.{InsideEffects.InsideMayDo, InsideMoves.ElementsInside}
 use Rattle.laws_states.{specs.{RunFacts.HaveWidth, RunSafety.{IsSafe, RunsAreSafe}}, proofs.GrowingRuns.one_more}
 use Rattle.laws_refinement.{specs.TornRuns.{attempt_in, begun_in, begun_of, begun_by, begun_inside, if_open, IsTorn, NotedNeverReturns, TornRunsAreShort}, proofs.Inside.{Inside, is_inside}}
-use Rattle.laws_refinement.proofs.{InstructionsAhead.all_ahead, LateEvents.{Falls, goes_on_with, late, left_in}, ReachedAhead.reached_ahead}
+use Rattle.laws_refinement.proofs.{InstructionsAhead.all_ahead, LateEvents.{Falls, goes_on_with, late, left_in}, ReachedAhead.reached_ahead, SameCounts.IsPassedOn}
 use Rattle.machine_types.specs.declared.lock.LockWord.TheVariants as locks
 use Rattle.machine_types.specs.declared.phase.After.TheVariants as afters
 use Rattle.machine_types.specs.declared.phase.Phase.TheVariants as phases
@@ -29,7 +29,7 @@ none_begun c s t (h ∷ hs) e = ap (λ (o : Option Attempt). if_open o (begun_by
 pub record IsPassed (x y : Thread) : Type 0 where
   pub attempt : y.attempt ≡ x.attempt
   pub frames : y.frames ≡ x.frames
-  pub phase : (y.phase ≡ x.phase) ⊎ ((roots : List ℕ) × (y.phase ≡ part_phase roots))
+  pub phase : IsPassedOn x.phase y.phase
 
 abbrev HasPassed : List Thread → (t : ℕ) → Thread → Type 0
 HasPassed threads t x = (y : Thread) × (slice_get threads t ≡ Some y) × IsPassed x y
@@ -54,11 +54,7 @@ passed p (suc part) z workers (suc t) x e = (x, e, stays x x refl refl refl)
 
 next_passed : (p : Program) (threads : List Thread) (t : ℕ) (x : Thread) → slice_get threads t ≡ Some x → HasPassed (next_threads p threads) t x
 next_passed p [] t x e = absurd (cc)
-next_passed p (z ∷ workers) t x e = by_test (may_begin (z ∷ workers))
-  where
-    by_test : (b : Bool) → HasPassed (if b then part_begins p z.part z workers else z ∷ workers) t x
-    by_test true = passed p z.part z workers t x e
-    by_test false = (x, e, stays x x refl refl refl)
+next_passed p (z ∷ workers) t x e = elim (may_begin (z ∷ workers)) as (λ (b : Bool). HasPassed (if b then part_begins p z.part z workers else z ∷ workers) t x) [ true ↦ passed p z.part z workers t x e | false ↦ (x, e, stays x x refl refl refl) ]
 
 part_left : (p : Program) (base : ℕ) (x y : Thread) → IsPassed x y → left_in p base y.phase y.frames ≤ left_in p base x.phase x.frames
 part_left p base x y k = rw k.frames (by_phase k.phase)
@@ -67,18 +63,11 @@ part_left p base x y k = rw k.frames (by_phase k.phase)
     by_roots [] = omega arith
     by_roots (number ∷ roots) = omega arith
 
-    by_phase : (y.phase ≡ x.phase) ⊎ ((roots : List ℕ) × (y.phase ≡ part_phase roots)) → left_in p base y.phase x.frames ≤ left_in p base x.phase x.frames
+    by_phase : IsPassedOn x.phase y.phase → left_in p base y.phase x.frames ≤ left_in p base x.phase x.frames
     by_phase (inl e) = rw e (omega arith)
     by_phase (inr k) = rw k.1 (by_roots k.0)
 
 -- ---- what happens next
-
-differs : (word other : ℕ) → (word ≡ other → ⊥) → (word == other) ≡ false
-differs word other apart = by_test (word == other) refl
-  where
-    by_test : (b : Bool) → (word == other) ≡ b → b ≡ false
-    by_test true e = absurd (apart ((Decides-eqb word other).0 e))
-    by_test false e = refl
 
 module _ (may_do : InsideMayDo) (elements : ElementsInside) (safe : RunsAreSafe) (c : MarkedProgram) (cfg : Config) (marked : IsMarked c) (width : HaveWidth cfg) (set : AreSettings cfg) (t : ℕ) where
   abbrev left_of : Attempt → Thread → ℕ
@@ -114,7 +103,7 @@ module _ (may_do : InsideMayDo) (elements : ElementsInside) (safe : RunsAreSafe)
         missed : wanted c x x.phase ≡ Some (Load a.monitor) → is_same a got ≡ false
         missed w =
             let word : got ≡ slice_index s.words a.monitor = ap (found_by s.words) w in
-            differs got (word_of_lock (locks.Free a.noted)) (λ same. torn (sym word ∙ same))
+            ne_eqb got (word_of_lock (locks.Free a.noted)) (λ same. torn (sym word ∙ same))
 
         falls : Falls c.program a (left_of a x) (begun_in x.phase) now
         falls = late c marked x a tries x.phase got refl inside.known inside.based k.goes k.access.found missed

@@ -129,11 +129,9 @@ module _ (given : GivenIsKept) (c : MarkedProgram) (s : Core) where
 
   ordered_fits : (order : List ℕ) → IsWaiting s → TurnFits c s (ordered s order)
   ordered_fits [] h = round_fits 1 h
-  ordered_fits (t ∷ order) h = by_live (is_live_worker s t) (ordered_fits order h)
-    where
-      by_live : (b : Bool) → TurnFits c s (ordered s order) → TurnFits c s (if b then turn_of (Of t) (Ordered order) else ordered s order)
-      by_live true rest = event_waits given c s t h
-      by_live false rest = rest
+  ordered_fits (t ∷ order) h =
+      (elim (is_live_worker s t) as (λ (b : Bool). TurnFits c s (ordered s order) → TurnFits c s (if b then turn_of (Of t) (Ordered order) else ordered s order))
+      [ true ↦ λ rest. event_waits given c s t h | false ↦ λ rest. rest ]) (ordered_fits order h)
 
   done_turn : IsAlone (λ n. 2 ≤ n) s → TurnFits c s (turn_at Last s)
   done_turn h = by_live (lives s 0) refl

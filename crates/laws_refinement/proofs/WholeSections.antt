@@ -37,8 +37,25 @@ after_none first rest last e f = omega (arith, e, f)
 after_one : (first rest : ℕ) → first ≡ 1 → rest ≡ 0 → first + rest ≡ 1
 after_one first rest e f = omega (arith, e, f)
 
-module _ (p : Program) (q : Plain) (t : ℕ) (x : Thread) (a : Attempt) (z : PlainThread) (here : slice_get q.threads t ≡ Some z) (fits : AttemptFits x a z) (free : holding_at q.holdings a.monitor ≡ None) (some : a.monitor ≢ 0)
-    (was : Phase) (d : Past) (leads : replayed p a.monitor (value_at q) d.due (at_entry x a z.ended) ≡ Some (at_present x a was d.pending z.ended)) where
+-- where the plain thread z of an attempt on a free monitor comes by what is due
+pub record Section : Type 0 where
+  pub p : Program
+  pub q : Plain
+  pub t : ℕ
+  pub x : Thread
+  pub a : Attempt
+  pub z : PlainThread
+  pub here : slice_get q.threads t ≡ Some z
+  pub fits : AttemptFits x a z
+  pub free : holding_at q.holdings a.monitor ≡ None
+  pub some : a.monitor ≢ 0
+  pub was : Phase
+  pub d : Past
+  pub leads : replayed p a.monitor (value_at q) d.due (at_entry x a z.ended) ≡ Some (at_present x a was d.pending z.ended)
+
+module _ (section : Section) where
+  open section use {p, q, t, x, a, z, here, fits, free, some, was, d, leads}
+
   abbrev first : Alone
   first = at_entry x a z.ended
 

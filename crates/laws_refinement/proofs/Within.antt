@@ -1,16 +1,16 @@
 -- What an event inside an attempt makes of it: the thread goes on in the same one, or is about to enter again, or goes on behind
 -- the section, and is then at no entry.
 use Rattle.std.proofs.Common.{◌≡◌, ℕ, zero, suc, ◌+◌, nat_lt, Bool, true, false, cond, drop, List, [], ◌∷◌, Option, Some, None, refl, sym, ap, ◌∙◌, subst, option_map}
-use Rattle.jvm_types.specs.declared.{outcome.Thrown.{Thrown, TheVariants.ArrayIndexOutOfBoundsException}, program.Program.Program}
+use Rattle.jvm_types.specs.declared.{outcome.Thrown.{Thrown}, program.Program.Program}
 use Rattle.checked_program.{specs.MarkedProgram.MarkedProgram, proofs.FilledTags.some_fewer}
-use Rattle.machine_types.specs.{Elision.{may_try, is_same, is_checked, if_same, put_back, fails, elided}, Events.{element_made, moved}, Frames.{Top, top_of, effect_at, returned, went_on}}
+use Rattle.machine_types.specs.{Elision.{may_try, is_same, is_checked, put_back, fails, elided}, Events.{element_made, moved}, Frames.{Top, top_of, effect_at, returned, went_on}}
 use Rattle.machine_types.specs.{Going.{with_phase, goes_on, goes_on_if, goes_after, root_over}, History.{Fate, GoesOn, Fails, Finishes, fate, fate_by, run_fate, leave_fate}}
-use Rattle.machine_types.specs.{Instructions.{begun, did, instructed, ran}, Monitors.{Claim, finishes, enter_moves, leave_moves}, Ints.low, Onward.{Onward, Running, threw, back, unwound, dispatched, after, done}}
-use Rattle.machine_types.specs.{Threads.{Attempt, Frame, Thread}, Words.{header_length, value_word}, declared.{effect.Effect.{Effect, TheVariants.{Writes, Indexes, Makes, Prints, Waits, Notifies, NotifiesAll}}, phase.After.After}}
+use Rattle.machine_types.specs.{Instructions.{begun, did, instructed, ran}, Monitors.{Claim, finishes, enter_moves, leave_moves}, Onward.{Onward, Running, back, unwound, dispatched, after, done}}
+use Rattle.machine_types.specs.{Threads.{Attempt, Frame, Thread}, declared.{effect.Effect.{Effect}, phase.After.After}}
 use Rattle.machine_types.specs.declared.phase.Phase.{Phase}
 use Rattle.laws_threads.{specs.InsideEffects.MayDo, proofs.ThreadMove.same_onward}
 use Rattle.laws_states.proofs.PlainMoves.{goes_attempt}
-use Rattle.laws_refinement.{specs.EntryLaws.HasFailed, proofs.{Inside.{Inside, KnownInside}, OutsideEntries.{is_entering, in_run}}}
+use Rattle.laws_refinement.{specs.EntryLaws.HasFailed, proofs.{Checks.{checked, did_by, instructed_by}, Inside.{Inside, KnownInside}, OutsideEntries.{is_entering, in_run}}}
 use Rattle.machine_types.specs.declared.phase.After.TheVariants as afters
 use Rattle.machine_types.specs.declared.phase.Phase.TheVariants as phases
 
@@ -62,68 +62,20 @@ module _ (c : MarkedProgram) (x : Thread) (a : Attempt) (tries : x.attempt ≡ S
   put_back_to : (z : Thread) → z.frames ≡ x.frames → z.held ≡ x.held → z.turns ≡ x.turns → z.counts.failed ≡ x.counts.failed → HasFailed x (fails z a) a
   put_back_to z frames held turns failed = record { outside = refl; enters = refl; frames = ap (put_back a) frames; held = held; turns = turns; counted = ap (λ (n : ℕ). n + 1) failed }
 
-  -- behind a check
-  checked : (z y : Thread) → HasFailed x (fails z a) a → HasFate x y a GoesOn → HasFate x (if_same z x.attempt got y) a (fate_by (is_same a got) GoesOn)
-  checked z y back k = subst (λ (o : Option Attempt). HasFate x (if_same z o got y) a (fate_by (is_same a got) GoesOn)) (sym tries) (by_test (is_same a got))
-    where
-      by_test : (b : Bool) → HasFate x (cond b y (fails z a)) a (fate_by b GoesOn)
-      by_test true = k
-      by_test false = back
-
-  -- an instruction, but for its check
-  did_inside : (at : Top) (e : Effect) → MayDo c a.monitor at e → (did c.program (begun x) at e got).attempt ≡ x.attempt
-  did_inside at (Writes v word) may = absurd may
-  did_inside at (Indexes array index None) may = by_test (nat_lt (low index) (header_length got))
-    where
-      by_test : (b : Bool) → (cond b (with_phase (begun x)
-          (phases.Element (value_word array (low index)) None))
-          (goes_on (begun x) (threw ArrayIndexOutOfBoundsException at))).attempt ≡ x.attempt
-      by_test true = refl
-      by_test false = refl
-  did_inside at (Indexes array index (Some v)) may = absurd may
-  did_inside at (Makes word size) may = absurd may
-  did_inside at (Prints n) may = absurd may
-  did_inside at (Waits m) may = absurd may
-  did_inside at (Notifies m) may = absurd may
-  did_inside at (NotifiesAll m) may = absurd may
-  did_inside at e may = goes_attempt (begun x) (done c.program at e got)
-
-  did_no_failure : (at : Top) (e : Effect) → MayDo c a.monitor at e → (did c.program (begun x) at e got).counts.failed ≡ x.counts.failed
-  did_no_failure at (Writes v word) may = absurd may
-  did_no_failure at (Indexes array index None) may =
-      by_test (nat_lt (low index) (header_length got))
-    where
-      by_test : (b : Bool) → (cond b (with_phase (begun x)
-          (phases.Element (value_word array (low index)) None))
-          (goes_on (begun x) (threw ArrayIndexOutOfBoundsException at))).counts.failed ≡
-          x.counts.failed
-      by_test true = refl
-      by_test false = refl
-  did_no_failure at (Indexes array index (Some v)) may = absurd may
-  did_no_failure at (Makes word size) may = absurd may
-  did_no_failure at (Prints n) may = absurd may
-  did_no_failure at (Waits m) may = absurd may
-  did_no_failure at (Notifies m) may = absurd may
-  did_no_failure at (NotifiesAll m) may = absurd may
-  did_no_failure at e may = goes_failed (begun x) (done c.program at e got)
+  abbrev IsAlike : Thread → Type 0
+  IsAlike y = (y.attempt ≡ x.attempt) × (y.counts.failed ≡ x.counts.failed)
 
   instructed_inside : (at : Top) (e : Effect) → MayDo c a.monitor at e → HasFate x (instructed c.program (begun x) at e got) a (cond (is_checked at.frame.pc e) (fate_by (is_same a got) GoesOn) GoesOn)
-  instructed_inside at e may = by_check (is_checked at.frame.pc e)
+  instructed_inside at e may = instructed_by (λ y f. HasFate x y a f) c.program a (begun x) at e got tries (same (did c.program (begun x) at e got) on.0 on.1) (put_back_to (begun x) refl refl refl refl)
     where
-      on : HasFate x (did c.program (begun x) at e got) a GoesOn
-      on = same (did c.program (begun x) at e got) (did_inside at e may) (did_no_failure at e may)
-
-      by_check : (b : Bool) → HasFate x (cond b (if_same (begun x) x.attempt got (did c.program (begun x) at e got)) (did c.program (begun x) at e got)) a (cond b (fate_by (is_same a got) GoesOn) GoesOn)
-      by_check true = checked (begun x) _ (put_back_to (begun x) refl refl refl refl) on
-      by_check false = on
+      on : IsAlike (did c.program (begun x) at e got)
+      on = did_by IsAlike c a.monitor (begun x) at got (λ word. (refl, refl)) (λ by n. (goes_attempt (begun x) (done c.program at by n), goes_failed (begun x) (done c.program at by n))) e may
 
   -- an exit, which may be the last
   finishes_inside : (e : After) (inner : ℕ) → is_entering x.phase ≡ false → HasFate x (finishes c.program x e a inner got) a (cond (nat_lt 0 inner) GoesOn (fate_by (is_same a got) Finishes))
-  finishes_inside e zero k = by_test (is_same a got)
-    where
-      by_test : (b : Bool) → HasFate x (cond b (goes_after c.program (elided x) e) (fails x a)) a (fate_by b Finishes)
-      by_test true = (goes_attempt (elided x) (after c.program x.frames e), after_elsewhere (elided x) c.program x.frames e k, goes_failed (elided x) (after c.program x.frames e))
-      by_test false = put_back_to x refl refl refl refl
+  finishes_inside e zero k =
+      elim (is_same a got) as (λ (b : Bool). HasFate x (cond b (goes_after c.program (elided x) e) (fails x a)) a (fate_by b Finishes))
+      [ true ↦ (goes_attempt (elided x) (after c.program x.frames e), after_elsewhere (elided x) c.program x.frames e k, goes_failed (elided x) (after c.program x.frames e)) | false ↦ put_back_to x refl refl refl refl ]
   finishes_inside e (suc inner) k =
       let z : Thread = record x { attempt = Some (record a { inner = inner }) } in
       subst (λ (some : Bool). HasFate x (goes_after c.program z e) a (cond some GoesOn (fate_by (is_same a got) Finishes))) (sym (some_fewer inner)) (inner, goes_attempt z (after c.program x.frames e), goes_failed z (after c.program x.frames e))
@@ -136,7 +88,7 @@ module _ (c : MarkedProgram) (x : Thread) (a : Attempt) (tries : x.attempt ≡ S
       same (goes_on_if x o) (goes_attempt x o) (goes_failed x o)
   moves_at (phases.Throw r class) e k =
       let o : Option Onward = dispatched c.program r class x.frames in
-      checked x (goes_on_if x o) (put_back_to x refl refl refl refl) (same (goes_on_if x o) (goes_attempt x o) (goes_failed x o))
+      checked (λ y f. HasFate x y a f) a x (goes_on_if x o) got x.attempt tries (same (goes_on_if x o) (goes_attempt x o) (goes_failed x o)) (put_back_to x refl refl refl refl)
   moves_at (phases.Enter n number) e k = subst (λ (claim : Claim). HasFate x (enter_moves x n number (may_try c x number) claim got) a GoesOn) (sym k) (a.inner + 1, refl, refl)
   moves_at (phases.Leave n b) e k = subst (λ (claim : Claim). HasFate x (leave_moves c.program x n b claim got) a (leave_fate claim got)) (sym k) (finishes_inside b a.inner (subst (λ (phase : Phase). is_entering phase ≡ false) (sym e) refl))
   moves_at (phases.Ending reason) e k = same (with_phase x (phases.Ended reason)) refl refl
