@@ -1,5 +1,5 @@
 """Class files that are dear to load for their size, for `.ci/limits` and `bench/hostile.py`."""
-from class_builder import STATIC, ClassFile, Code, handler_row, opcodes, u1, u2, u4
+from class_builder import STATIC, SYNCHRONIZED, ClassFile, Code, handler_row, opcodes, u1, u2, u4
 from limit_classes import PRIVATE
 
 NOP, POP, RETURN = opcodes("nop pop return")
@@ -8,6 +8,7 @@ ALOAD, ALOAD_0, ISTORE, ISTORE_1 = opcodes("aload aload_0 istore istore_1")
 ASTORE, ASTORE_1 = opcodes("astore astore_1")
 MONITORENTER, MONITOREXIT, STATIC_CALL = opcodes("monitorenter monitorexit invokestatic")
 NEWARRAY, IFEQ, IDIV = opcodes("newarray ifeq idiv")
+DUP, GOTO = opcodes("dup goto")
 GETSTATIC, GETFIELD, PUTFIELD = opcodes("getstatic getfield putfield")
 TABLESWITCH = b"\xaa"
 
@@ -260,6 +261,116 @@ def switch_back(arms, instructions):
     return with_init(file)
 
 
+# Handler rows in marking, rows that hide, and long names.
+
+GOTO = b"\xa7"
+
+
+def jump(code, start):
+    """A jump back from the end of some code."""
+    return GOTO + u2(start - len(code) & 0xFFFF)
+
+
+def one_block(file, body, rows):
+    """A method that enters its own object and goes over and over through a body, all of which so
+    many rows cover that catch one class, and behind them one that catches all; their handler leads
+    back to the body."""
+    code = ALOAD_0 + MONITORENTER
+    start = len(code)
+    code += body
+    end = len(code)
+    code += jump(code, start)
+    handler = len(code)
+    code += POP
+    code += jump(code, start)
+    caught = file.of_class("java/lang/ArithmeticException")
+    table = [handler_row(start, end, handler, caught)] * rows + [handler_row(start, end, handler)]
+    file.method(0, "m", "()V", code, 2, 1, table)
+    return with_init(file)
+
+
+def block_rows(throws, rows):
+    """A block with so many divisions, which so many rows cover."""
+    return one_block(ClassFile("A"), divisions(throws), rows)
+
+
+def ruled_rows(plain, rows):
+    """A block that breaks every rule of marking and does nothing for a while, which so many rows
+    cover."""
+    file = ClassFile("A")
+    file.field(0, "x", "I")
+    field = u2(file.member(9, "A", "x", "I"))
+    methods = [file.member(10, "A", name, "()V") for name in ("again", "makes")]
+    file.method(STATIC, "again", "()V", STATIC_CALL + u2(methods[0]) + RETURN, 0, 0)
+    make = ICONST_1 + NEWARRAY + u1(10) + POP
+    file.method(STATIC, "makes", "()V", make + RETURN, 1, 0)
+    code = Code(file)
+    code.put(ALOAD_0, ICONST_1, PUTFIELD, field, make, ALOAD_0, GETFIELD, field, POP)
+    code.put(*(STATIC_CALL + u2(method) for method in methods))
+    code.out()
+    code.put(ICONST_1)
+    code.println()
+    return one_block(file, code.content() + NOP * plain, rows)
+
+
+def entered_rows(blocks, rows):
+    """So many blocks that a branch leads to or not, whose entries so many rows cover; all leave at
+    one place, which no row covers."""
+    leave = 9 * blocks + 1
+    code = b""
+    for _ in range(blocks):
+        code += ICONST_0 + IFEQ + u2(8) + ALOAD_0 + MONITORENTER
+        code += GOTO + u2(leave - len(code))
+    code += RETURN + ALOAD_0 + MONITOREXIT + RETURN
+    handler = len(code)
+    file = ClassFile("A")
+    caught = file.of_class("java/lang/ArithmeticException")
+    table = [handler_row(0, leave - 1, handler, caught)] * rows
+    file.method(0, "m", "()V", code + POP + RETURN, 2, 1, table)
+    return with_init(file)
+
+
+def hidden_rows(locals_, plain, rows):
+    """A loop in which a type goes from local to local, by one more in each round, with so many rows
+    of which one by turns covers what stands before it and what stands behind it, and none covers
+    the loop."""
+    start = ICONST_0 + POP
+    start += b"".join(ACONST_NULL + ASTORE + u1(local) for local in range(1, locals_ + 1))
+    shift = b"".join(
+        ALOAD + u1(local + 1) + ASTORE + u1(local) for local in range(1, locals_)
+    )
+    code = start + shift + ALOAD_0 + ASTORE + u1(locals_) + NOP * plain
+    code += jump(code, len(start))
+    end = len(code)
+    file = ClassFile("A")
+    caught = file.of_class("java/lang/ArithmeticException")
+    table = [handler_row(0, 1, end, caught), handler_row(end, end + 1, end, caught)]
+    file.method(
+        STATIC, "m", "(LA;)V", code + POP + RETURN, 1, locals_ + 1, table * (rows // 2)
+    )
+    return with_init(file)
+
+
+def long_names(blocks, length):
+    """So many blocks of a method whose name is so long."""
+    file = ClassFile("A")
+    code = (ALOAD_0 + MONITORENTER + ALOAD_0 + MONITOREXIT) * blocks + RETURN
+    file.method(0, "n" * length, "()V", code, 2, 1)
+    return with_init(file)
+
+
+def locked_classes(count, calls):
+    """So many classes of a synchronized static method with so many calls of the next one's."""
+    contents = []
+    for number in range(count):
+        file = ClassFile(f"A{number}")
+        called = file.member(10, f"A{(number + 1) % count}", "m", "()V")
+        code = (STATIC_CALL + u2(called)) * calls + RETURN
+        file.method(STATIC | SYNCHRONIZED, "m", "()V", code, 0, 0)
+        contents.append(file.content() if number else with_init(file))
+    return contents
+
+
 def plain_methods(size):
     """A class of about so many bytes, whose methods push and drop constants."""
     file = ClassFile("A")
@@ -267,3 +378,89 @@ def plain_methods(size):
         pairs = min(size - 60000 * number, 60000) // 2
         file.method(STATIC, f"m{number}", "()V", (ICONST_0 + POP) * pairs + RETURN)
     return with_init(file)
+
+
+# ---- what an `<init>` lets out, and tags at handlers
+
+
+def init_start(file):
+    """The code that a constructor begins with."""
+    code = Code(file)
+    code.put(ALOAD_0)
+    code.initialize()
+    return bytes(code.bytes)
+
+
+def init_rows(throws, rows, handlers, places):
+    """A constructor of so many divisions, which so many rows cover, with so many handlers. It has so
+    many locals, of which one has `this`."""
+    file = ClassFile("A")
+    return covered(
+        file, init_start(file), divisions(throws), rows, handlers, 0, "<init>", places
+    )
+
+
+def init_locals(count, places, methods=1):
+    """So many constructors of so many instructions that do nothing, with so many locals."""
+    file = ClassFile("A")
+    code = init_start(file) + NOP * count + RETURN
+    for number in range(methods):
+        file.method(0, "<init>", f"({'I' * number})V", code, 1, places)
+    return with_init(file)
+
+
+def init_switch(arms, depth):
+    """A constructor with `this` on its stack so many times, under a switch of so many arms, which all
+    lead to one place."""
+    file = ClassFile("A")
+    code = init_start(file) + ALOAD_0 * depth + ICONST_0
+    at = len(code)
+    pad = bytes(-(at + 1) % 4)
+    way = u4(1 + len(pad) + 12 + 4 * arms)
+    code += TABLESWITCH + pad + way + u4(0) + u4(arms - 1) + way * arms + RETURN
+    file.method(0, "<init>", "()V", code, depth + 1, 1)
+    return with_init(file)
+
+
+def tagged_rows(monitors, rounds, written, rows, handlers):
+    """A method that enters its own object so many times; then it divides, and before each division
+    gives a tag of its own to a local, the next of so many, which no other division finds there. So
+    many rows cover that, with so many handlers, and one more that catches all. None of it ends."""
+    file = ClassFile("A")
+    caught = file.of_class("java/lang/ArithmeticException")
+    forever = GOTO + u2(0)
+    code = (ALOAD_0 + MONITORENTER) * monitors + ICONST_1
+    start = len(code)
+    for number in range(rounds):
+        code += ACONST_NULL + DUP + ASTORE + u1(1 + number % written) + POP + ICONST_1 + IDIV
+    end = len(code)
+    code += forever
+    table = []
+    for entry in range(1, monitors):
+        table.append(handler_row(2 * entry + 1, 2 * entry + 2, len(code)))
+        code += forever
+    first = len(code)
+    code += forever * (handlers + 1)
+    table += [handler_row(start, end, first + 3 * (row % handlers), caught) for row in range(rows)]
+    table.append(handler_row(start, end, first + 3 * handlers))
+    file.method(0, "m", "()V", code, 3, 1 + written, table)
+    return with_init(file)
+
+
+def far_rows(rows, count):
+    """A method of so many divisions, and so many rows, which cover its first instruction and its last
+    in turn, and none of what stands between."""
+    file = ClassFile("A")
+    code = NOP + divisions(count)[:-1] + NOP
+    end = len(code)
+    code += POP + RETURN
+    handler = len(code)
+    code += POP + RETURN
+    ends = [handler_row(0, 1, handler), handler_row(end - 1, end, handler)]
+    file.method(STATIC, "m", "()V", code, 2, 0, (ends * rows)[:rows])
+    return with_init(file)
+
+
+def divided_rows(throws, rows, handlers):
+    """A method of so many divisions, which so many rows cover, with so many handlers."""
+    return covered(ClassFile("A"), b"", divisions(throws), rows, handlers, STATIC, "m", 0)

@@ -129,6 +129,31 @@ def names(files):
     return dears.names(files, 65000)
 
 
+def owned_rows(rows):
+    """So many rows over the divisions of a class with an array of its own."""
+    return [dears.owned_rows(dears.divisions(12000 if rows < 10000 else 29000), rows, 2)]
+
+
+def block_rows(rows):
+    """So many rows over the divisions of a block."""
+    return [dears.block_rows(12000 if rows < 10000 else 16000, rows)]
+
+
+def ruled_rows(rows):
+    """So many rows over a block that breaks each rule of marking."""
+    return [dears.ruled_rows(29000, rows)]
+
+
+def entered_rows(rows):
+    """So many rows over the entries of blocks."""
+    return [dears.entered_rows(2800, rows)]
+
+
+def hidden_rows(rows):
+    """So many rows that cover no instruction of a loop between them."""
+    return [dears.hidden_rows(20, 16000, rows)]
+
+
 def measured(paths):
     """Seconds, peak megabytes, status and the first line that was written."""
     out_read, out_write = os.pipe()
@@ -179,6 +204,14 @@ FILES = (
     (fields, 16),
     (attributes, 16),
     (names, 64),
+    (owned_rows, 3900),
+    (owned_rows, 65000),
+    (block_rows, 3900),
+    (block_rows, 65000),
+    (ruled_rows, 3900),
+    (ruled_rows, 65000),
+    (entered_rows, 3900),
+    (hidden_rows, 5000),
 )
 
 
