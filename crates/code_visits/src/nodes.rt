@@ -17,9 +17,6 @@ use std::marker::Model;
 /// What a visit is reckoned at, in bytes.
 const VISIT_BYTES: usize = 64;
 
-/// How many steps of a search for handler rows are reckoned at one byte.
-const STEPS_A_BYTE: usize = 2;
-
 /// What is known of an instruction: the frame that its edges met in, and whether that has changed
 /// since it was visited.
 #[derive(Drop)]
@@ -135,11 +132,12 @@ impl<F: Drop> Nodes<F> {
         self.budget.spend(bytes)
     }
 
-    /// The same for so many steps of a search for handler rows (`HandledMethod::steps`).
+    /// The same for so many steps of a search for handler rows (`HandledMethod::steps`), each
+    /// reckoned at one byte.
     pub fn spend_steps(&mut self, steps: usize) -> Result<(), AllocError>
         ensures { self.new ≡ self.old }
     {
-        self.budget.spend(steps / STEPS_A_BYTE)
+        self.budget.spend(steps)
     }
 
     /// The frame of the instruction of this number.

@@ -7,7 +7,7 @@ use jvm_types::{MethodInfo, Program};
 const LEAST_LOOKS: usize = 33554432;
 
 /// How many there may be besides for each byte of code.
-const LOOKS_BY_CODE: usize = 4096;
+const LOOKS_BY_CODE: usize = 2048;
 
 fn code_length(m: &MethodInfo) -> usize {
     match m.code.as_slice().last() {
