@@ -461,6 +461,34 @@ def far_rows(rows, count):
     return with_init(file)
 
 
+def near_bounds(throws, far, rows, handlers, places):
+    """A constructor of so many divisions, which so many rows cover, with so many handlers; among
+    these stand rows that cover what is before the divisions or behind them, in turn. It has so many
+    locals. Verifying it, tagging it, and looking for where `this` goes each come near to what they
+    may do."""
+    file = ClassFile("A")
+    caught = file.of_class("java/lang/ArithmeticException")
+    code = init_start(file)
+    before = len(code)
+    code += NOP
+    begin = len(code)
+    code += divisions(throws)
+    end = len(code)
+    code += NOP + RETURN
+    first = len(code)
+    code += (POP + RETURN) * handlers
+    ends = [handler_row(at, at + 1, first, caught) for at in (before, end)]
+    table = []
+    for row in range(far + rows):
+        covering = row * rows // (far + rows)
+        if covering < (row + 1) * rows // (far + rows):
+            table.append(handler_row(begin, end, first + 2 * (covering % handlers), caught))
+        else:
+            table.append(ends[row % 2])
+    file.method(0, "<init>", "()V", code, 3, places, table)
+    return with_init(file)
+
+
 def divided_rows(throws, rows, handlers):
     """A method of so many divisions, which so many rows cover, with so many handlers."""
     return covered(ClassFile("A"), b"", divisions(throws), rows, handlers, STATIC, "m", 0)

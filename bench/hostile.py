@@ -1,5 +1,6 @@
 #!/usr/bin/env python3
-"""Measures what small files that are made to be dear cost the built program: seconds, peak megabytes and status.
+"""Measures what files that are made to be dear cost the built program: seconds, and how many times those of a plain file
+of their size up to 1 MB, peak megabytes and status.
 
 Run it by hand from the top of the repository, after `./run --proved examples/A.class`:
 
@@ -8,7 +9,7 @@ Run it by hand from the top of the repository, after `./run --proved examples/A.
 With words, only the files whose names have one of them. A run is cut off after LIMIT seconds, or where the system
 refuses it memory beyond MOST bytes (as `ulimit -v` does; the program then answers with status 6).
 
-Each file has an empty `init`, so that what is measured is reading, linking and verifying; the first line that the
+Each file has an empty `init` and is marked, so that what is measured is all of loading; the first line that the
 program wrote stands beside the numbers.
 """
 import os
@@ -16,7 +17,6 @@ import resource
 import signal
 import sys
 import tempfile
-import time
 
 from measure import PROGRAM, answer_help
 import dear_classes as dears
@@ -24,6 +24,8 @@ from class_builder import STATIC, ClassFile, handler_row, opcodes, u1
 
 LIMIT = 120
 MOST = 40 * 1024**3
+# A plain file has as many instructions as bytes, of which some 1.2 million can be loaded.
+MOST_PLAIN = 1_100_000
 
 ICONST_0, ACONST_NULL, NOP = opcodes("iconst_0 aconst_null nop")
 POP, RETURN, ATHROW = opcodes("pop return athrow")
@@ -154,10 +156,29 @@ def hidden_rows(rows):
     return [dears.hidden_rows(20, 16000, rows)]
 
 
+def near_bounds(places):
+    """A constructor that comes near to all bounds of loading, with so many locals."""
+    return [dears.near_bounds(19600, 500, 30, 255, places)]
+
+
+def constructor_rows(rows):
+    """A constructor of 14,000 divisions in so many rows, or of 30,000 where they are many."""
+    return [dears.init_rows(14000 if rows < 10000 else 30000, rows, 1000, 1)]
+
+
+def constructor_locals(places):
+    """A constructor that does nothing for a while, with so many locals."""
+    return [dears.init_locals(60000, places)]
+
+
+def divided_rows(rows):
+    """14,000 divisions in so many rows, or 29,000 where they are many."""
+    return [dears.divided_rows(14000 if rows < 10000 else 29000, rows, 1000)]
+
+
 def measured(paths):
-    """Seconds, peak megabytes, status and the first line that was written."""
+    """Seconds of the processor, peak megabytes, status and the first line that was written."""
     out_read, out_write = os.pipe()
-    start = time.perf_counter()
     child = os.fork()
     if child == 0:
         os.dup2(out_write, 1)
@@ -165,12 +186,12 @@ def measured(paths):
         resource.setrlimit(resource.RLIMIT_CPU, (LIMIT, LIMIT))
         resource.setrlimit(resource.RLIMIT_AS, (MOST, MOST))
         resource.setrlimit(resource.RLIMIT_CORE, (0, 0))
-        os.execv(PROGRAM, [PROGRAM, *paths])
+        os.execv(PROGRAM, [PROGRAM, "--mode=mark", *paths])
     os.close(out_write)
     with os.fdopen(out_read, "rb") as out:
         written = out.read(65536)
     _, status, usage = os.wait4(child, 0)
-    took = time.perf_counter() - start
+    took = usage.ru_utime + usage.ru_stime
     if os.WIFSIGNALED(status):
         ended = signal.Signals(os.WTERMSIG(status)).name
     else:
@@ -212,7 +233,29 @@ FILES = (
     (ruled_rows, 65000),
     (entered_rows, 3900),
     (hidden_rows, 5000),
+    (near_bounds, 2550),
+    (constructor_rows, 3500),
+    (constructor_rows, 65000),
+    (constructor_locals, 65535),
+    (divided_rows, 3500),
+    (divided_rows, 65000),
 )
+
+
+def written(folder, contents):
+    """The paths of files with these contents."""
+    paths = []
+    for number, content in enumerate(contents):
+        paths.append(os.path.join(folder, f"{number}.class"))
+        with open(paths[-1], "wb") as out:
+            out.write(content)
+    return paths
+
+
+def plain_time(folder, size):
+    """The seconds of a plain file of about this size, the middle of three runs."""
+    paths = written(folder, [dears.plain_methods(size)])
+    return sorted(measured(paths)[0] for _ in range(3))[1]
 
 
 def main():
@@ -226,14 +269,14 @@ def main():
             if words and not any(word in name for word in words):
                 continue
             contents = shape(size)
-            paths = []
-            for number, content in enumerate(contents):
-                paths.append(os.path.join(folder, f"{number}.class"))
-                with open(paths[-1], "wb") as out:
-                    out.write(content)
+            paths = written(folder, contents)
             took, megabytes, ended, first = measured(paths)
             whole = sum(len(content) for content in contents)
-            print(f"{name:>22}: {whole:>8} bytes {took:8.2f} s {megabytes:8.1f} MB  {ended}  {first}", flush=True)
+            times = f"{took / plain_time(folder, whole):6.1f}" if whole <= MOST_PLAIN else f"{'-':>6}"
+            print(
+                f"{name:>24}: {whole:>8} bytes {took:8.2f} s {times} times {megabytes:8.1f} MB  {ended}  {first}",
+                flush=True,
+            )
 
 
 if __name__ == "__main__":
