@@ -7,11 +7,13 @@ use Rattle.jvm_types.specs.{Members.{is_static, MethodSite, field_rule}, Numbers
 use Rattle.jvm_types.specs.declared.{class_numbers.TheConstants.{OBJECT_CLASS, INT_ARRAY_CLASS, PRINT_STREAM_CLASS, THROWABLE_CLASS}, code.{Insn.Insn, Op.Op}, op_row.{Given.{Given, TheVariants.Fresh}, OpRow.OpRow, Want.{Want, TheVariants.AnObject}}}
 use Rattle.jvm_types.specs.declared.{outcome.Thrown.Thrown, program.{FieldInfo.FieldInfo, Kind.Kind, MethodInfo.MethodInfo, Program.Program, Target.Target}, refusal.LRule.{LRule, TheVariants.L2}}
 use Rattle.jvm_types.proofs.TypeOrder.{subclass_self}
+use Rattle.laws_programs.proofs.TargetRows.{targets_rows}
 use Rattle.machine_types.specs.{Effects.{variable_of, kept, at_local, effect}, Ints.{low, word_of, added}, ReadyObjects.out_object, Typed.{Classes, IsNullOr, KindHolds, Holds, IsElementOn}}
 use Rattle.machine_types.specs.{Words.value_word, declared.effect.Effect.{Effect, TheVariants.{Goes, Reads, Writes}}}
 use Rattle.machine_types.proofs.EffectCases.{Comes, lacks, goes, refuses, reads_static, writes_static, reads_field, writes_field, loads_element, stores_element, measures, raises, makes_object, makes_int_array, prints, calls, calls_fixed}
-use Rattle.machine_types.proofs.EffectCases.{returns, enters, leaves, waits, notifies, notifies_all, GivenMade, WriteMade, RowMade, HasConstant, HasTaken, IsRefusal, suits, uses_local, low_lt, comes}
+use Rattle.machine_types.proofs.EffectCases.{returns, enters, leaves, waits, notifies, notifies_all, GivenMade, WriteMade, RowMade, HasConstant, HasTaken, IsRefusal, uses_local, low_lt, comes}
 use Rattle.laws_threads.specs.Allowed.{IsOf, IsNamedField, WantHolds, TakenHold, GivenHolds, WriteHolds, HasRowTypes, HasLocal, IsByMachine, OneOf, Allowed}
+use Rattle.laws_threads.proofs.EffectsOfInsns.{suited}
 use Rattle.jvm_types.specs.declared.code.Op.TheVariants as ops
 use Rattle.jvm_types.specs.declared.outcome.Thrown.TheVariants as thrown
 use Rattle.jvm_types.specs.declared.program.Kind.TheVariants as kinds
@@ -35,18 +37,6 @@ one_of (x ∷ xs) n h = by_test (x == n) refl h (one_of xs n)
     by_test : (b : Bool) → (x == n) ≡ b → (b || has_number xs n) ≡ true → (has_number xs n ≡ true → OneOf xs n) → (n ≡ x) ⊎ OneOf xs n
     by_test true e k more = inl (grind (arith, nat_tests, e))
     by_test false e k more = inr (more k)
-
--- a target fits its instruction
-suited : (p : Program) (site : MethodSite) (target : Target) (op : Op) → IsTargetOf p site op target → suits target op ≡ true
-suited p site targets.Println (ops.Invokevirtual i) k = refl
-suited p site targets.Wait (ops.Invokevirtual i) k = refl
-suited p site targets.Notify (ops.Invokevirtual i) k = refl
-suited p site targets.NotifyAll (ops.Invokevirtual i) k = refl
-suited p site targets.Println op k = absurd (first_of (assumption, cc))
-suited p site targets.Wait op k = absurd (first_of (assumption, cc))
-suited p site targets.Notify op k = absurd (first_of (assumption, cc))
-suited p site targets.NotifyAll op k = absurd (first_of (assumption, cc))
-suited p site target op k = refl
 
 module _ (p : Program) (m : MethodInfo) (is : Classes) (stack : List ℕ) where
   abbrev Allows : Insn → Target → OpRow → Effect → Type 0
@@ -156,7 +146,7 @@ module _ (p : Program) (m : MethodInfo) (is : Classes) (stack : List ℕ) where
     allowed : (target : Target) (op : Op) (s : List ℕ) (e : Effect) → Comes p pc next target op s e → stack ≡ s → Takes target op s → uses_local op ≡ false → MakesAt target → IsTargetOf p (site_in m) op target → Allows (at op) target (row p m pc target op) e
     allowed _ _ _ _ (lacks target op s lack) q h u n k = absurd (lack m k (has_taken (row p m pc target op).takes s h) u)
     allowed _ _ _ _ (goes target op s to made leads r) q h u n k = (one_of (edges (at op)) to leads.1, row_types (row p m pc target op) made (r m))
-    allowed _ _ _ _ (refuses target op s x own t) q h u n k = (t (suited p (site_in m) target op k), by_machine x own)
+    allowed _ _ _ _ (refuses target op s x own t) q h u n k = (t (suited p m pc next target op (targets_rows p m pc target op k)), by_machine x own)
     allowed _ _ _ _ (reads_static i number s f there) q h u n k =
         at_field number f there get_static_row (ops.Getstatic i) (Reads (variable_of f 0)) (inl refl, f, static_variable f number there (sort_of number f there true false k), λ v o. ((kind_given f.kind v o, tt), tt))
     allowed _ _ _ _ (writes_static i number v s f there) q h u n k =

@@ -51,11 +51,8 @@ module _ (c : MarkedProgram) (marked : IsMarked c) (f : Frame) (k : Standing c f
       begins : BeginsAt c.program (tags_of c) f.method pc enter g
       begins = b
 
-      same_method : begins.m ≡ k.method
-      same_method = same_some (sym begins.at.in_program ∙ k.at.in_program)
-
       there : slice_get k.method.code enter ≡ Some begins.insn
-      there = subst (λ (m : MethodInfo). slice_get m.code enter ≡ Some begins.insn) same_method begins.at.in_code
+      there = subst (λ (m : MethodInfo). slice_get m.code enter ≡ Some begins.insn) (same_some (sym begins.at.in_program ∙ k.at.in_program)) begins.at.in_code
 
       same : enter ≡ e.at
       same = just_before c marked f k e enter begins.insn there (ap suc begins.pc_is ∙ before)
@@ -142,16 +139,13 @@ begins marked_mark c m tried noted number f below held marked stands not_held en
     reached : IsInstructionReached c.program (tags_of c) f.method k.number
     reached = record { m = k.method; insn = k.insn; target = k.target; f = k.tags; at = k.at }
 
-    receiver_of : (held : List Tag) → k.tags.held ≡ This ∷ held → f.receiver ≡ m
-    receiver_of held e = let shows = stands.show in innermost c marked f k shows.0 shows.1 stands.phase_shows.outer m held shows.3 e (sym shows.2 ∙ stands.phase_shows.innermost)
-
     behind : (e : Entered c f k) (n : ℕ) → f.pc ≡ n → Begins
     behind e zero q = absurd (let up = next_later k.method e.at e.insn (laid c marked f k) e.there in omega (arith, up, q, e.next))
     behind e (suc pc) q =
         let spot : (section_of a).spot ≡ Block pc = ap entered_at q in
         let x = by_mark c marked f k e pc marked.marks.uses (sym q) (subst (λ s. HasMark c.program (tags_of c) marked.marks.uses (record { method = f.method; spot = s }) 0) spot mark) in
         let b = block_begins c marked f k e pc x in
-        let receiver : f.receiver ≡ m = receiver_of b.outer b.held in
+        let receiver : f.receiver ≡ m = (let shows = stands.show in innermost c marked f k shows.0 shows.1 stands.phase_shows.outer m b.outer shows.3 b.held (sym shows.2 ∙ stands.phase_shows.innermost)) in
         let on_this : section_monitor c.program (section_of a) f.receiver ≡ f.receiver = ap (λ s. mode_monitor c.program f.receiver (mode_of_spot (slice_get c.program.methods f.method) s)) spot in
         (sym (on_this ∙ receiver), part (subst (λ s. IsOwn c.program (tags_of c) f.method s k.number) (sym spot) b.own))
 

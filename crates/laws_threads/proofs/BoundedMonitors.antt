@@ -59,6 +59,10 @@ without_fits m held instructions inflated locked f = record {
 pub at_found : (P : Held → Type 0) (o : Option Held) (h : Held) → o ≡ Some h → IfSome o P → P h
 at_found P o h e all = subst (λ (x : Option Held). IfSome x P) e all
 
+at_least : (attempt : Option Attempt) → 1 ≤ by_attempt 1 2 attempt
+at_least None = omega arith
+at_least (Some a) = omega arith
+
 module _ (p : Program) where
   -- ---- a lock is taken
 
@@ -71,10 +75,6 @@ module _ (p : Program) where
       running p (record s { held = with_held e s.held; counts = record s.counts { locked = s.counts.locked + 1 } }) (record { limits = f.limits; held = held; tried = f.tried })
       (record { few = let few = k.few in let less = one_less s.attempt in omega arith })
     where
-      at_least : (attempt : Option Attempt) → 1 ≤ by_attempt 1 2 attempt
-      at_least None = omega arith
-      at_least (Some a) = omega arith
-
       one_less : (attempt : Option Attempt) → by_attempt 0 1 attempt + 1 ≡ by_attempt 1 2 attempt
       one_less None = refl
       one_less (Some a) = refl
@@ -85,10 +85,6 @@ module _ (p : Program) where
   began s m noted number x below f k fits =
       running p (record s { attempt = Some (begun_attempt m noted number x below) }) (record { limits = f.limits; held = f.held; tried = record { noted = fits; inner = omega arith } })
       (record { few = let few = k.few in let some = at_least s.attempt in omega arith })
-    where
-      at_least : (attempt : Option Attempt) → 1 ≤ by_attempt 1 2 attempt
-      at_least None = omega arith
-      at_least (Some a) = omega arith
 
   -- ---- entry
 

@@ -1,5 +1,5 @@
 -- What keeps a thread within its bounds whatever its phase, and that it stays within them as it goes on.
-use Rattle.std.proofs.Common.{◌≡◌, ℕ, ◌+◌, ◌<◌, ◌≤◌, nat_lt, Bool, true, false, List, [], ◌∷◌, length, drop, Option, Some, None, refl, arith, if◌then◌else◌, option_map, IfSome}
+use Rattle.std.proofs.Common.{◌≡◌, ℕ, ◌+◌, ◌<◌, ◌≤◌, nat_lt, Bool, true, false, List, [], ◌∷◌, length, drop, Option, Some, None, refl, arith, if◌then◌else◌, IfSome}
 use Rattle.std.proofs.lemmas.Bool.Decides.{nat_tests}
 use Rattle.jvm_types.specs.{Members.is_synchronized, declared.{outcome.{Print.Print, Thrown.Thrown}, program.{Program.Program, Row.Row}}}
 use Rattle.machine_types.specs.{Bounds.{PhaseFits, TurnsFit, StepsFit, WaitFits, EntryFits, entry_under_way, attempt_under_way, under_way, IsBounded}, FoundWords.most_count}
@@ -7,6 +7,7 @@ use Rattle.machine_types.specs.{Frames.{Top, top_of, frames_of, monitor_of, retu
 use Rattle.machine_types.specs.{Onward.{Onward, Running, Throwing, Entering, Leaving, RootReturned, Uncaught, back, unwound, handed, after}, Threads.{Frame, Attempt, Thread}}
 use Rattle.machine_types.specs.declared.{config.Config.Config, phase.{After.After, Phase.Phase}}
 use Rattle.laws_threads.proofs.HeldBounds.{HeldFit}
+use Rattle.laws_threads.proofs.ThreadMove.{if_either, if_mapped}
 use Rattle.jvm_types.specs.declared.outcome.End.TheVariants as ends
 use Rattle.machine_types.specs.declared.phase.After.TheVariants as afters
 use Rattle.machine_types.specs.declared.phase.Phase.TheVariants as phases
@@ -51,6 +52,11 @@ under_way_by (Some a) phase = refl
 
 -- ---- in a phase
 
+-- it enters nothing
+abbrev pub EntersNone : Onward → Type 0
+EntersNone (Entering m fs) = ⊥
+EntersNone o = Unit {0}
+
 module _ (p : Program) where
   pub bounded : (s : Thread) (phase : Phase) → Fit p s → PhaseFits phase → TurnsFit phase s.turns s.cfg.turns → StepsFit phase s.counts.instructions s.cfg.steps → WaitFits phase s.counts.instructions
       → EntryFits phase s.held s.attempt s.counts.instructions → Spends s (entry_under_way phase) (attempt_under_way phase) → IsBounded p (with_phase s phase)
@@ -79,10 +85,6 @@ module _ (p : Program) where
 
   pub spends_of : (s : Thread) (phase : Phase) → IsBounded p (with_phase s phase) → Spends s (entry_under_way phase) (attempt_under_way phase)
   spends_of s phase b = record { few = let few = b.sections in let same = under_way_by s.attempt phase in omega arith }
-
-  pub bounded_by : (b : Bool) (x y : Thread) → IsBounded p x → IsBounded p y → IsBounded p (if b then x else y)
-  bounded_by true x y h k = h
-  bounded_by false x y h k = k
 
   -- ---- going on
 
@@ -118,11 +120,6 @@ module _ (p : Program) where
         sections = let few = l.few in let same = under_way_by s.attempt (phases.Ending ends.Turns) in omega arith;
       }
 
-  -- it enters nothing
-  abbrev pub EntersNone : Onward → Type 0
-  EntersNone (Entering m fs) = ⊥
-  EntersNone o = Unit {0}
-
   pub goes : (s : Thread) (o : Onward) → EntersNone o → Fit p s → Spends s 0 2 → IsBounded p (goes_on s o)
   goes s (Running fs) n f k = running (record s { frames = fs }) (record { limits = f.limits; held = f.held; tried = f.tried }) (record { few = let less = spends_less s 0 2 0 1 k (omega arith) (omega arith) in less.few })
   goes s (Throwing x class fs) n f k = bounded (record s { frames = fs }) (phases.Throw x class) (record { limits = f.limits; held = f.held; tried = f.tried }) tt f.limits.few_turns f.limits.few_steps tt tt (record { few = k.few })
@@ -145,14 +142,6 @@ module _ (p : Program) where
 
   -- ---- returns and exceptions enter nothing
 
-  pub none_if : {A : Type 0} (o : Option A) (more : A → Onward) → ((a : A) → EntersNone (more a)) → IfSome (option_map more o) EntersNone
-  none_if None more f = tt
-  none_if (Some a) more f = f a
-
-  pub none_by : (b : Bool) (x y : Onward) → EntersNone x → EntersNone y → EntersNone (if b then x else y)
-  none_by true x y f g = f
-  none_by false x y f g = g
-
   pub back_enters_none : (fs : List Frame) → EntersNone (back fs)
   back_enters_none [] = tt
   back_enters_none (f ∷ fs) = tt
@@ -163,11 +152,11 @@ module _ (p : Program) where
 
   pub handed_enters_none : (x : ℕ) (class : Thrown) (at : Top) (row : Option Row) → EntersNone (handed p x class at row)
   handed_enters_none x class at (Some r) = tt
-  handed_enters_none x class at None = none_by (is_synchronized at.method.flags) (Leaving (monitor_of p at.method at.frame) (afters.Unwind x class) (frames_of at)) (unwound x class at.below) tt (unwound_enters_none x class at.below)
+  handed_enters_none x class at None = if_either EntersNone (is_synchronized at.method.flags) (Leaving (monitor_of p at.method at.frame) (afters.Unwind x class) (frames_of at)) (unwound x class at.below) tt (unwound_enters_none x class at.below)
 
   after_enters_none : (fs : List Frame) (a : After) → IfSome (after p fs a) EntersNone
   after_enters_none fs afters.Next = tt
-  after_enters_none fs afters.Return = none_if (top_of p fs) (λ at. back (returned p at)) (λ at. back_enters_none (returned p at))
+  after_enters_none fs afters.Return = if_mapped EntersNone (top_of p fs) (λ at. back (returned p at)) (λ at. back_enters_none (returned p at))
   after_enters_none fs (afters.Unwind x class) = unwound_enters_none x class (drop 1 fs)
 
   pub goes_behind : (s : Thread) (a : After) → IsBounded p s → Fit p s → Spends s 0 2 → IsBounded p (goes_after p s a)

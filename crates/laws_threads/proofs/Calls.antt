@@ -29,9 +29,6 @@ special_call called s = by_init (is_init called) refl
     by_init true e = record { takes = arguments called ++ ToStart called.class ∷ []; is = rw e refl; by = inl (s, ap (λ b. arguments called ++ receiver_want b called.class ∷ []) (sym e)) }
     by_init false e = record { takes = arguments called ++ AnObject called.class ∷ []; is = rw e refl; by = inl (s, ap (λ b. arguments called ++ receiver_want b called.class ∷ []) (sym e)) }
 
-static_call : (called : MethodInfo) → is_static called.flags ≡ true → CallRow called (static_row (Some called))
-static_call called s = record { takes = arguments called; is = refl; by = inr (s, refl) }
-
 pub call_row : (p : Program) (site : MethodSite) (pc number : ℕ) (op : Op) (r : OpRow) (called : MethodInfo) → slice_get p.methods number ≡ Some called → HasRow p site pc (targets.Method number) op r → CallRow called r
 call_row p site pc number (ops.Invokevirtual i) r called e h =
     let same : h.method ≡ called = same_some (sym h.there ∙ e) in
@@ -42,7 +39,7 @@ call_row p site pc number (ops.Invokespecial i) r called e h =
     subst (λ (x : OpRow). CallRow called x) (sym h.its) (subst (λ (x : MethodInfo). CallRow x (special_row (Some h.method))) same (special_call h.method h.sort))
 call_row p site pc number (ops.Invokestatic i) r called e h =
     let same : h.method ≡ called = same_some (sym h.there ∙ e) in
-    subst (λ (x : OpRow). CallRow called x) (sym h.its) (subst (λ (x : MethodInfo). CallRow x (static_row (Some h.method))) same (static_call h.method h.sort))
+    subst (λ (x : OpRow). CallRow called x) (sym h.its) (subst (λ (x : MethodInfo). CallRow x (static_row (Some h.method))) same (record { takes = arguments h.method; is = refl; by = inr (h.sort, refl) }))
 call_row p site pc number op r called e h = absurd (assumption)
 
 -- as many values as the method has arguments, with its receiver

@@ -7,7 +7,7 @@ use Rattle.checked_program.specs.{MarkedProgram.{MarkedProgram, IsMarked}, Marks
 use Rattle.machine_types.specs.{Effects.effect, Frames.{first_or_null, monitor_of, effect_at, frame_on, went, went_on, waiting, has_room, entry_frame, arguments_of}}
 use Rattle.machine_types.specs.{Onward.{Running, Throwing, Entering, threw, entered, called, done}, ReadyObjects.{class_of, thrown_of}, Threads.Frame}
 use Rattle.machine_types.specs.{Typed.{Classes, FrameHolds, HoldBelow, FramesHold, IsObject}, Words.{class_object, header_class, header_length}, declared.effect.Effect.Effect}
-use Rattle.machine_types.specs.declared.effect.Effect.TheVariants.{Goes, Throws, Reads, Writes, Indexes, Measures, Raises, Makes, Prints, Calls, Returns, Enters, Leaves, Waits, Notifies, NotifiesAll, Stuck}
+use Rattle.machine_types.specs.declared.effect.Effect.TheVariants.{Goes, Throws, Reads, Writes, Measures, Raises, Prints, Calls, Returns, Enters, Leaves}
 use Rattle.laws_threads.{specs.Allowed.{OneOf, HasRowTypes, IsByMachine, Allowed}, proofs.{CalledEntries.{call_values, enters}, Calls.{call_row, call_receiver}, Landing.rules_at}}
 use Rattle.laws_threads.proofs.{Onwards.{keeps_all, keeps_top, keeps_push, HasObjects, FoundHolds, Onwards, IfOnwards, goes_out}, Standings.top_here, TopEffects.taken_here, TypedMoves.{goes, waits}}
 use Rattle.laws_threads.proofs.Values.{ValuesHold}
@@ -136,9 +136,4 @@ module _ (c : MarkedProgram) (marked : IsMarked c) (is : Classes) (has : HasObje
     keeps = keeps_top f (frame_on (row_of c.program h.stands.method h.stands.insn h.stands.target) h.stands.insn.next 0 f) fs;
     inside = λ all. all;
   }
-  does_it (Indexes x i stored) got e a found = tt
-  does_it (Makes word size) got e a found = tt
-  does_it (Waits m) got e a found = tt
-  does_it (Notifies m) got e a found = tt
-  does_it (NotifiesAll m) got e a found = tt
-  does_it Stuck got e a found = tt
+  does_it w got e a found = tt

@@ -7,7 +7,7 @@ use Rattle.jvm_types.specs.declared.typing.VType.{VType}
 use Rattle.laws_programs.specs.TargetLaws.{HasRow}
 use Rattle.checked_program.specs.Marks.{called_method}
 use Rattle.machine_types.specs.{Effects.effect, declared.effect.Effect.{Effect, TheVariants.{Goes, Throws, Reads, Writes, Indexes, Measures, Raises, Makes, Prints, Calls, Returns, Enters, Leaves, Waits, Notifies, NotifiesAll, Stuck}}}
-use Rattle.machine_types.proofs.EffectCases.{Comes, lacks, goes, refuses, reads_static, writes_static, reads_field, writes_field, loads_element, stores_element, measures, raises, makes_object, makes_int_array}
+use Rattle.machine_types.proofs.EffectCases.{Comes, lacks, goes, refuses, loads_element, stores_element, raises, makes_object, makes_int_array}
 use Rattle.machine_types.proofs.EffectCases.{prints, calls, calls_fixed, returns, enters, leaves, waits, notifies, notifies_all, HasTop, HasReturned, LeadsTo, locks, suits, next_edge, comes}
 use Rattle.laws_threads.specs.MoveLaws.{is_lock_op}
 use Rattle.jvm_types.specs.declared.code.Op.TheVariants as ops
@@ -80,7 +80,7 @@ module _ (p : Program) (m : MethodInfo) (pc next : ℕ) where
   moves : (op : Op) (to : ℕ) → LeadsTo pc next op to → IsMove (at op) to
   moves op to k = (lock_op op ∙ k.0, k.1)
 
-  suited : (target : Target) (op : Op) → Row op target → suits target op ≡ true
+  pub suited : (target : Target) (op : Op) → Row op target → suits target op ≡ true
   suited targets.Println (ops.Invokevirtual i) h = refl
   suited targets.Wait (ops.Invokevirtual i) h = refl
   suited targets.Notify (ops.Invokevirtual i) h = refl
@@ -99,13 +99,8 @@ module _ (p : Program) (m : MethodInfo) (pc next : ℕ) where
   fits _ _ _ _ (lacks target op s lack) h = tt
   fits _ _ _ _ (goes target op s to made k r) h = moves op to k
   fits _ _ _ _ (refuses target op s x is t) h = t (suited target op h)
-  fits _ _ _ _ (reads_static i number s f there) h = (refl, next_edge next)
-  fits _ _ _ _ (writes_static i number v s f there) h = (refl, next_edge next)
-  fits _ _ _ _ (reads_field i number a s f there z) h = (refl, next_edge next)
-  fits _ _ _ _ (writes_field i number v a s f there z) h = (refl, next_edge next)
   fits _ _ _ _ (loads_element target i a s z) h = ((refl, next_edge next), refl)
   fits _ _ _ _ (stores_element target v i a s z) h = ((refl, next_edge next), refl)
-  fits _ _ _ _ (measures target a s z) h = (refl, next_edge next)
   fits _ _ _ _ (raises target x s z) h = refl
   fits _ _ _ _ (makes_object class op s k) h = new_made class op h
   fits _ _ _ _ (makes_int_array target n s room) h = record { move = (refl, next_edge next); no_dup = refl; throws = refl; type = types.Ref INT_ARRAY_CLASS; gives = refl; writes = refl }
@@ -121,6 +116,7 @@ module _ (p : Program) (m : MethodInfo) (pc next : ℕ) where
   fits _ _ _ _ (waits op n s k t z) h = (moves op next k.0, t (suited targets.Wait op h))
   fits _ _ _ _ (notifies op n s k t z) h = (moves op next k.0, t (suited targets.Notify op h))
   fits _ _ _ _ (notifies_all op n s k t z) h = (moves op next k.0, t (suited targets.NotifyAll op h))
+  fits _ _ _ _ k h = (refl, next_edge next)
 
   pub effect_fits : (target : Target) (op : Op) (l s : List ℕ) → Row op target → Fits p m (at op) target s (effect p next target op l s)
   effect_fits target op l s h = fits target op s _ (comes p pc next target op l s) h

@@ -118,10 +118,7 @@ call_enters_law c fs at number called is e d y =
     let l = entry_lands c is number called (arguments_of c.program at) d a in
     (l.stands, inl (refl, ap (λ (m : MethodInfo). is_synchronized m.flags) l.method ∙ y, ap (λ (m : MethodInfo). monitor_of c.program m (callee_frame c.program at number called)) l.method))
 
-no_own : (p : Program) (m : MethodInfo) (f : Frame) → is_synchronized m.flags ≡ false → own_entry p m f ≡ []
-no_own p m f e = ap (λ (b : Bool). cond b (monitor_of p m f ∷ []) []) e
-
 pub roots_law : RootsShow
 roots_law c t number m is e s free =
-    let own : own_entry c.program m (entry_frame number m (root_arguments t m)) ≡ [] = no_own c.program m (entry_frame number m (root_arguments t m)) free in
+    let own : own_entry c.program m (entry_frame number m (root_arguments t m)) ≡ [] = ap (λ (b : Bool). cond b (monitor_of c.program m (entry_frame number m (root_arguments t m)) ∷ []) []) free in
     (own_entry c.program m (entry_frame number m (root_arguments t m)), [], ap (λ (xs : List ℕ). xs ++ []) (sym own), entry_shows c is number m (root_arguments t m) e (λ q. absurd (let bad : true ≡ false = sym s ∙ q in cc)), refl)

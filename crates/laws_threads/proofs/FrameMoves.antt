@@ -63,9 +63,6 @@ module _ (c : MarkedProgram) (is : IsMarked c) where
   doubled f own top to made dup edge =
       by_tags top.stands.tags.stack refl (subst (λ (op : Op). EdgeFits IsShapeBelow top.stands.method.code top.stands.at.frames (tags_by_op top.stands.insn.pc (the_row f top.stands) op top.stands.tags.stack top.stands.tags) to) dup (edge_fits f top.stands to edge)) top.stack
     where
-      row_is : dup_row ≡ the_row f top.stands
-      row_is = sym (ap (λ (op : Op). row c.program top.stands.method top.stands.insn.pc top.stands.target op) dup)
-
       on_stack : (v : ℕ) (vs : List ℕ) (ts : List Tag) → HaveValues top.choice f.receiver ts vs
           → HaveValues (chosen top.stands.insn.pc v top.choice) f.receiver (At top.stands.insn.pc ∷ At top.stands.insn.pc ∷ without top.stands.insn.pc ts) (stack_after 0 (λ type. made) dup_row (v ∷ vs) f.locals)
       on_stack v vs ts h = (chosen_there top.choice f.receiver top.stands.insn.pc v, (chosen_there top.choice f.receiver top.stands.insn.pc v, rechosen top.choice f.receiver top.stands.insn.pc v ts vs h))
@@ -74,7 +71,7 @@ module _ (c : MarkedProgram) (is : IsMarked c) where
           → EdgeFits IsShapeBelow top.stands.method.code top.stands.at.frames (record { stack = At top.stands.insn.pc ∷ At top.stands.insn.pc ∷ without top.stands.insn.pc ts; locals = without top.stands.insn.pc top.stands.tags.locals; held = top.stands.tags.held }) to
           → Shows c Whole (frame_on (the_row f top.stands) to made f) own
       tagged v vs ts e h fits =
-          subst (λ (x : OpRow). Shows c Whole (frame_on x to made f) own) row_is
+          subst (λ (x : OpRow). Shows c Whole (frame_on x to made f) own) (sym (ap (λ (op : Op). row c.program top.stands.method top.stands.insn.pc top.stands.target op) dup))
           (again f own top (record { stack = At top.stands.insn.pc ∷ At top.stands.insn.pc ∷ without top.stands.insn.pc ts; locals = without top.stands.insn.pc top.stands.tags.locals; held = top.stands.tags.held }) (chosen top.stands.insn.pc v top.choice) to f.locals (stack_after 0 (λ type. made) dup_row f.stack f.locals) fits
           (rechosen top.choice f.receiver top.stands.insn.pc v top.stands.tags.locals f.locals top.locals)
           (subst (λ (ws : List ℕ). HaveValues (chosen top.stands.insn.pc v top.choice) f.receiver (At top.stands.insn.pc ∷ At top.stands.insn.pc ∷ without top.stands.insn.pc ts) (stack_after 0 (λ type. made) dup_row ws f.locals)) (sym e) (on_stack v vs ts h))

@@ -135,16 +135,13 @@ module _ (c : MarkedProgram) (is : IsMarked c) where
 
   -- ---- a return
 
-  call_at : (callee : ℕ) (g : Frame) (own : List ℕ) (w : ShowsAtCall c callee g own) → IsCall c.program w.shows.stands.method w.shows.stands.insn w.shows.stands.target callee
-  call_at callee g own w = is_call c.program w.shows.stands.method w.shows.stands.insn.pc w.shows.stands.insn.next w.shows.stands.insn.op w.shows.stands.target callee w.calls
-
   -- the caller goes on behind its call, with the result
   resumed : (callee : ℕ) (g : Frame) (own : List ℕ) (w : ShowsAtCall c callee g own) (called : MethodInfo) → slice_get c.program.methods callee ≡ Some called → (pushed : List ℕ) → length pushed ≡ length (result_of called)
       → Shows c Whole (record g { pc = w.shows.stands.insn.next; stack = pushed ++ g.stack }) own
   resumed callee g own w called there pushed many =
       let k = w.shows.stands in
       let r : OpRow = row_at c g k in
-      let call = call_at callee g own w in
+      let call = is_call c.program w.shows.stands.method w.shows.stands.insn.pc w.shows.stands.insn.next w.shows.stands.insn.op w.shows.stands.target callee w.calls in
       let gives : r.gives ≡ result_of called = call.gives called there in
       let fits : EdgeFits IsShapeBelow k.method.code k.at.frames (moved_tags r k.tags) k.insn.next =
       subst (λ (t : TagShape). EdgeFits IsShapeBelow k.method.code k.at.frames t k.insn.next) (plain_after k.insn.pc r k.insn.op k.tags.stack k.tags call.lock call.no_dup) (edge_fits c is g k k.insn.next call.edge) in

@@ -2,10 +2,10 @@
 use Rattle.std.proofs.Common.{◌≡◌, ℕ, ◌+◌, List, [], ◌∷◌, Option, Some, None, refl, sym, ap, ◌∙◌, arith}
 use Rattle.jvm_types.specs.CodeTable.{can_throw}
 use Rattle.checked_program.specs.MarkedProgram.{MarkedProgram}
-use Rattle.machine_types.specs.{Going.{root_over, goes_on}, Onward.{Onward, Running, Throwing, Entering, Leaving, RootReturned, Uncaught}, Shown.Show, Standing.{Operands, Whole, Thrown}}
-use Rattle.machine_types.specs.Structure.{HasFrame, TopIs, TopEnters, AfterShows, AreHeldOnce, AttemptStandsIn, count_in, held_depth, tried_depth, entries_left, operands_after}
+use Rattle.machine_types.specs.{Frames.pushed, Going.{root_over, goes_on}, Onward.{Onward, Running, Throwing, Entering, Leaving, RootReturned, Uncaught, back, unwound}, Shown.Show, Standing.{Operands, Whole, Thrown}}
+use Rattle.machine_types.specs.Structure.{HasFrame, TopIs, TopEnters, AfterShows, AreHeldOnce, AttemptStands, AttemptStandsIn, count_in, held_depth, tried_depth, entries_left, operands_after}
 use Rattle.machine_types.specs.{Threads.{Frame, Attempt, Thread}, declared.{lock.Held.Held, phase.{After.After, Phase.Phase}}}
-use Rattle.laws_threads.{specs.{InsideMoves.{GoesOnInside, OnwardStands, TopStands}, StructureLaws.StaysStructured}, proofs.Turns.running}
+use Rattle.laws_threads.{specs.{InsideMoves.{GoesOnInside, OnwardStands, TopStands}, StructureLaws.StaysStructured, ThrowLaws.ThrowsOn}, proofs.Turns.running}
 use Rattle.jvm_types.specs.declared.outcome.End.TheVariants as ends
 use Rattle.jvm_types.specs.declared.outcome.Thrown as outcomes
 use Rattle.machine_types.specs.declared.phase.After.TheVariants as afters
@@ -52,6 +52,18 @@ onward_stands c (Leaving m a fs) shown k = top_stands c (operands_after a) fs k.
 onward_stands c RootReturned shown k = tt
 onward_stands c (Uncaught class) shown k = tt
 
+pub back_shows : (c : MarkedProgram) (fs : List Frame) (shown : List ℕ) → Show c Whole fs shown → OnwardShows c (back fs) shown
+back_shows c [] shown k = k
+back_shows c (f ∷ fs) shown k = (tt, k)
+
+pub unwound_shows : (c : MarkedProgram) (x : ℕ) (class : outcomes.Thrown) (fs : List Frame) (shown : List ℕ) → Show c Thrown fs shown → ThrowsOn c fs → OnwardShows c (unwound x class fs) shown
+unwound_shows c x class [] shown k on = k
+unwound_shows c x class (f ∷ fs) shown k on = (on, k)
+
+pub pushed_frame : (a : ℕ) (fs : List Frame) → HasFrame fs → HasFrame (pushed a fs)
+pushed_frame a [] k = absurd k
+pushed_frame a (f ∷ fs) k = tt
+
 -- ---- the thread goes on
 
 abbrev pub AttemptGoesOn : MarkedProgram → Onward → List Held → Option Attempt → Type 0
@@ -62,47 +74,32 @@ pub none_goes_on : (c : MarkedProgram) (onward : Onward) (held : List Held) (o :
 none_goes_on c onward held None e = tt
 none_goes_on c onward held (Some a) e = absurd (cc)
 
-running_inside : (c : MarkedProgram) (fs : List Frame) (held : List Held) (o : Option Attempt) → AttemptGoesOn c (Running fs) held o → AttemptStandsIn c phases.Run fs held o
-running_inside c fs held None k = tt
-running_inside c fs held (Some a) k = k
+-- inside an attempt that goes on, in the phase that the thread comes to
+goes_inside : (c : MarkedProgram) (onward : Onward) (phase : Phase) (fs : List Frame) (held : List Held) (o : Option Attempt) → ((a : Attempt) → GoesOnInside c onward held a → AttemptStands c phase fs held a) → AttemptGoesOn c onward held o → AttemptStandsIn c phase fs held o
+goes_inside c onward phase fs held None f k = tt
+goes_inside c onward phase fs held (Some a) f k = f a k
 
 module _ (c : MarkedProgram) (was : Phase) (s : Thread) (once : AreHeldOnce s.held) where
-  throwing_inside : (x : ℕ) (class : outcomes.Thrown) (fs : List Frame) (o : Option Attempt) → AttemptGoesOn c (Throwing x class fs) s.held o → AttemptStandsIn c (phases.Throw x class) fs s.held o
-  throwing_inside x class fs None k = tt
-  throwing_inside x class fs (Some a) k = k
-
-  entering_inside : (m : ℕ) (fs : List Frame) (o : Option Attempt) → AttemptGoesOn c (Entering m fs) s.held o → AttemptStandsIn c (phases.Enter m 0) fs s.held o
-  entering_inside m fs None k = tt
-  entering_inside m fs (Some a) k = k
-
-  leaving_inside : (m : ℕ) (e : After) (fs : List Frame) (o : Option Attempt) → AttemptGoesOn c (Leaving m e fs) s.held o → AttemptStandsIn c (phases.Leave m e) fs s.held o
-  leaving_inside m e fs None k = tt
-  leaving_inside m e fs (Some a) k = k
-
-  over_inside : (phase : Phase) (o : Option Attempt) → AttemptGoesOn c RootReturned s.held o → AttemptStandsIn c phase [] s.held o
-  over_inside phase None k = tt
-  over_inside phase (Some a) k = absurd k
-
   none_shown : (shown : List ℕ) → shown ≡ [] → ((m : ℕ) → count_in m shown ≡ held_depth m s.held + tried_depth m s.attempt) → (m : ℕ) → 0 ≡ held_depth m s.held + tried_depth m s.attempt
   none_shown shown e d m = sym (ap (count_in m) e) ∙ d m
 
   pub going : (onward : Onward) (shown : List ℕ) → OnwardShows c onward shown → ((m : ℕ) → count_in m shown ≡ held_depth m s.held + tried_depth m s.attempt) → AttemptGoesOn c onward s.held s.attempt
       → StaysStructured c was (goes_on s onward)
-  going (Running fs) shown k d inside = running c was (record s { frames = fs }) (record { shown = shown; show = k.1; depths = λ m. let e = d m in omega arith; once = once; phase_shows = k.0 }) (running_inside c fs s.held s.attempt inside)
+  going (Running fs) shown k d inside = running c was (record s { frames = fs }) (record { shown = shown; show = k.1; depths = λ m. let e = d m in omega arith; once = once; phase_shows = k.0 }) (goes_inside c (Running fs) phases.Run fs s.held s.attempt (λ a k. k) inside)
   going (Throwing x class fs) shown k d inside = record {
     is_as = refl;
     stands = record { shown = shown; show = k.1; depths = λ m. let e = d m in omega arith; once = once; phase_shows = k.0 };
-    attempt = throwing_inside x class fs s.attempt inside;
+    attempt = goes_inside c (Throwing x class fs) (phases.Throw x class) fs s.held s.attempt (λ a k. k) inside;
   }
   going (Entering m fs) shown k d inside = record {
     is_as = refl;
     stands = record { shown = m ∷ shown; show = k.1; depths = λ n. let e = d n in omega arith; once = once; phase_shows = record { outer = shown; innermost = refl; enters = k.0 } };
-    attempt = entering_inside m fs s.attempt inside;
+    attempt = goes_inside c (Entering m fs) (phases.Enter m 0) fs s.held s.attempt (λ a k. k) inside;
   }
   going (Leaving m a fs) shown k d inside = record {
     is_as = refl;
     stands = record { shown = k.now; show = k.show; depths = λ n. let e = d n in let f = k.counts n in omega arith; once = once; phase_shows = k.leaves };
-    attempt = leaving_inside m a fs s.attempt inside;
+    attempt = goes_inside c (Leaving m a fs) (phases.Leave m a) fs s.held s.attempt (λ a k. k) inside;
   }
   going RootReturned shown k d inside = by_roots s.roots
     where
@@ -110,14 +107,10 @@ module _ (c : MarkedProgram) (was : Phase) (s : Thread) (once : AreHeldOnce s.he
       zero_deep = none_shown shown k d
 
       by_roots : (roots : List ℕ) → StaysStructured c was (record s { frames = []; phase = root_over roots })
-      by_roots [] = record { is_as = refl; stands = record { shown = []; show = refl; depths = λ m. let e = zero_deep m in omega arith; once = once; phase_shows = refl }; attempt = over_inside (phases.Ending ends.Returned) s.attempt inside }
-      by_roots (number ∷ roots) = record { is_as = refl; stands = record { shown = []; show = refl; depths = λ m. let e = zero_deep m in omega arith; once = once; phase_shows = refl }; attempt = over_inside phases.Start s.attempt inside }
+      by_roots [] = record { is_as = refl; stands = record { shown = []; show = refl; depths = λ m. let e = zero_deep m in omega arith; once = once; phase_shows = refl }; attempt = goes_inside c RootReturned (phases.Ending ends.Returned) [] s.held s.attempt (λ a k. absurd k) inside }
+      by_roots (number ∷ roots) = record { is_as = refl; stands = record { shown = []; show = refl; depths = λ m. let e = zero_deep m in omega arith; once = once; phase_shows = refl }; attempt = goes_inside c RootReturned phases.Start [] s.held s.attempt (λ a k. absurd k) inside }
   going (Uncaught class) shown k d inside = record {
     is_as = refl;
     stands = record { shown = []; show = refl; depths = λ m. let e = none_shown shown k d m in omega arith; once = once; phase_shows = refl };
-    attempt = over_inside (phases.Ending (ends.Uncaught class)) s.attempt (uncaught_inside s.attempt inside);
+    attempt = goes_inside c (Uncaught class) (phases.Ending (ends.Uncaught class)) [] s.held s.attempt (λ a k. absurd k) inside;
   }
-    where
-      uncaught_inside : (o : Option Attempt) → AttemptGoesOn c (Uncaught class) s.held o → AttemptGoesOn c RootReturned s.held o
-      uncaught_inside None k = tt
-      uncaught_inside (Some a) k = absurd k

@@ -155,11 +155,8 @@ lowered n held h a e d = record { depths = λ m. depth_now m; once = once_put (s
         at : h.monitor ≡ n
         at = held_monitor n held h e
 
-        deep : held_depth n held ≡ h.depth
-        deep = depth_some n held h e
-
         by_test : (b : Bool) → (h.monitor == m) ≡ b → (x : Bool) → (n == m) ≡ x → cond b (h.depth - 1) (held_depth m held) + cond x 1 0 ≡ held_depth m held
-        by_test true t true u = let one : n ≡ m = grind (arith, nat_tests, u) in let e2 : held_depth n held ≡ held_depth m held = depth_at_same n m held one in let k = deep in omega (arith, k)
+        by_test true t true u = let one : n ≡ m = grind (arith, nat_tests, u) in let e2 : held_depth n held ≡ held_depth m held = depth_at_same n m held one in let k = depth_some n held h e in omega (arith, k)
         by_test true t false u = let one : h.monitor ≡ m = grind (arith, nat_tests, t) in absurd (grind (arith, nat_tests, u, one, at))
         by_test false t true u = let one : n ≡ m = grind (arith, nat_tests, u) in absurd (grind (arith, nat_tests, t, one, at))
         by_test false t false u = omega arith

@@ -6,7 +6,7 @@ use Rattle.checked_program.specs.{LockTags.TagShape, MarkedProgram.{MarkedProgra
 use Rattle.laws_sections.proofs.MarkedReads.{on_receiver}
 use Rattle.machine_types.specs.{Elision.put_back, Frames.{Top, effect_at, monitor_of, top_row}, Shown.{Shows, Show}, Standing.{Standing, Operands, Whole, tags_of}}
 use Rattle.machine_types.specs.{Structure.{IsPhaseInside, Stands, AttemptStands, AttemptStandsIn, Finishes, RunsSection, frames_inside, section_of}, Threads.{Frame, Attempt}, declared.effect.Effect.Effect}
-use Rattle.machine_types.specs.declared.effect.Effect.TheVariants.{Goes, Throws, Reads, Writes, Indexes, Measures, Raises, Makes, Prints, Calls, Returns, Enters, Leaves, Waits, Notifies, NotifiesAll, Stuck}
+use Rattle.machine_types.specs.declared.effect.Effect.TheVariants.{Indexes, Calls, Returns, Leaves}
 use Rattle.machine_types.specs.declared.{lock.Held.Held, phase.Phase.Phase}
 use Rattle.laws_threads.{specs.InsideEffects.{MayDo, InsideMayDo, TakesOwned}, proofs.{Base.{entry_of, of_monitor}, CallOps.called_on, EffectOps.{Does, does}, FrameReturns.leaves_none, FramesInside.one_more}}
 use Rattle.laws_threads.proofs.{SectionFrames.{have_this, part_of, Runs, runs_of, row_stands, on_object, on_class, reads, exits, locking_on}, Standings.{top_here, top_at_standing, one_tags}}
@@ -20,6 +20,15 @@ base_below a f below l = omega (arith, l)
 
 pub runs_inside : (c : MarkedProgram) (phase : Phase) (f : Frame) (below : List Frame) (held : List Held) (a : Attempt) (k : AttemptStands c phase (f ∷ below) held a) → (Finishes a phase (frames_inside a (f ∷ below)) → ⊥) → Runs c a f (frames_inside a below)
 runs_inside c phase f below held a k never = runs_of c a f (frames_inside a below) (subst (RunsSection c a) (one_more a f below (base_below a f below k.based)) (⊎_elim (λ x. absurd (never x)) (λ x. x) k.frames))
+
+-- a thread inside an attempt: its top frame and those below, what it holds, and how the attempt and the thread stand in its phase
+pub record InAttempt (c : MarkedProgram) (phase : Phase) : Type 0 where
+  pub frame : Frame
+  pub below : List Frame
+  pub held : List Held
+  pub attempt : Attempt
+  pub tries : AttemptStands c phase (frame ∷ below) held attempt
+  pub agrees : Stands c phase (frame ∷ below) held (Some attempt)
 
 -- in another phase, and with other frames inside
 pub stands_on : (c : MarkedProgram) (phase other : Phase) (fs gs : List Frame) (held : List Held) (a : Attempt) → AttemptStands c phase fs held a → IsPhaseInside a.monitor other → a.base < length gs → put_back a gs ≡ put_back a fs → Finishes a other (frames_inside a gs) ⊎ RunsSection c a (frames_inside a gs)
@@ -86,24 +95,11 @@ module _ (c : MarkedProgram) (marked : IsMarked c) where
         }
 
     may : (e : Effect) → Does c a.monitor r.stands.insn.op r.stands.target f.stack e → MayDo c a.monitor top e
-    may (Goes to made) d = tt
-    may (Throws x) d = tt
-    may (Reads v) d = d
-    may (Writes v word) d = d
     may (Indexes array index None) d = takes_owned d
-    may (Indexes array index (Some v)) d = d
-    may (Measures array) d = tt
-    may (Raises x) d = tt
-    may (Makes word size) d = d
-    may (Prints n) d = d
     may (Calls number) d = calls_on number d
     may Returns d = locking phase f below held a k (frames_inside a below) r (leaves_none c marked f r.stands (first_true (is_return r.stands.insn.op) _ d))
-    may (Enters n) d = d
     may (Leaves n) d = leaves_on n d
-    may (Waits n) d = d
-    may (Notifies n) d = d
-    may (NotifiesAll n) d = d
-    may Stuck d = tt
+    may e d = d
 
     pub top_may : MayDo c a.monitor top (effect_at c.program top)
     top_may = may (effect_at c.program top) top_does

@@ -5,12 +5,12 @@ use Rattle.jvm_types.specs.declared.{outcome.Thrown.TheVariants.{StackOverflowEr
 use Rattle.checked_program.specs.MarkedProgram.{MarkedProgram, IsMarked}
 use Rattle.machine_types.specs.{Frames.{Top, top_of, frames_of, effect_at, went, went_on, waiting, making, has_room, monitor_of, returned}, Going.{with_phase, goes_on, goes_on_if}}
 use Rattle.machine_types.specs.{HeldMonitors.held_at, Instructions.{made, printed}, Ints.low, Onward.{Onward, Running, Throwing, Entering, Leaving, threw, called, entered, returns, back, done}}
-use Rattle.machine_types.specs.{ReadyObjects.{ready, thrown_of}, Shown.{Show, own_entry}, Standing.Whole}
+use Rattle.machine_types.specs.{ReadyObjects.{ready, thrown_of}, Shown.Show, Standing.Whole}
 use Rattle.machine_types.specs.{Structure.{TopIs, AreHeldOnce, IsFlat, IsFat, Stands, AttemptStandsIn, is_element_op, count_in, held_depth, tried_depth, once_at}, Threads.{Frame, Attempt, Thread}}
 use Rattle.machine_types.specs.{Words.{header_class, header_length, value_word}, declared.{effect.Effect.Effect, lock.{Held.Held, Kept.Kept}, phase.Phase.Phase}}
 use Rattle.laws_threads.specs.{CallLaws.{IsLeft, callee_frame}, InsideEffects.MayDo, InsideMoves.GoesAlong, MoveLaws.goes_to, StructureLaws.StaysStructured, ThrowLaws.may_throw}
 use Rattle.laws_threads.proofs.{ElementEffects.element_at, FrameCalls.{calls_law, call_enters_law}, FramePlaces.tops_stand_law, FrameReturns.returns_law, FrameThrows.{effects_throw_law, throws_law}}
-use Rattle.laws_threads.proofs.{GoingOn.{OnwardShows, AttemptGoesOn, none_goes_on, onward_stands, going}, Inside.{inside_may, stays_in}, MonitorMoves.{enters_law, leaves_law}}
+use Rattle.laws_threads.proofs.{GoingOn.{back_shows, OnwardShows, AttemptGoesOn, none_goes_on, onward_stands, going}, Inside.{inside_may, stays_in}, MonitorMoves.{enters_law, leaves_law}}
 use Rattle.laws_threads.proofs.{MoveProofs.{follow_law, effects_law, making_law}, Steps.steps_inside}
 use Rattle.laws_threads.proofs.{ThreadMove.{Asks, WaitsFrom, IsNotify, of_one, of_all, Refuses, past_end, no_memory, waits_unheld, notifies_unheld}, Turns.{running, no_attempt}}
 use Rattle.jvm_types.specs.declared.outcome.End.TheVariants as ends
@@ -60,21 +60,14 @@ module _ (c : MarkedProgram) (marked : IsMarked c) (fs : List Frame) (shown : Li
       frame : Frame
       frame = callee_frame c.program at number m
 
-      all_shown : Show c Whole (frame ∷ waiting c.program at) (own_entry c.program m frame ++ shown)
-      all_shown = calls_law c fs shown at number m marked t show f g
-
       by_flag : (b : Bool) → is_synchronized m.flags ≡ b → Show c Whole (frame ∷ waiting c.program at) (cond b (monitor_of c.program m frame ∷ []) [] ++ shown)
           → OnwardShows c (cond b (Entering (monitor_of c.program m frame) (frame ∷ waiting c.program at)) (Running (frame ∷ waiting c.program at))) shown
       by_flag true e k = (call_enters_law c fs at number m marked t g e, k)
       by_flag false e k = (tt, k)
 
       by_room : (room : Bool) → OnwardShows c (cond room (entered c.program m frame (waiting c.program at)) (threw StackOverflowError at)) shown
-      by_room true = by_flag (is_synchronized m.flags) refl all_shown
+      by_room true = by_flag (is_synchronized m.flags) refl (calls_law c fs shown at number m marked t show f g)
       by_room false = threw_shows StackOverflowError (effects.Calls number) f refl
-
-  back_shows : (now : List Frame) (rest : List ℕ) → Show c Whole now rest → OnwardShows c (back now) rest
-  back_shows [] rest k = k
-  back_shows (f ∷ now) rest k = (tt, k)
 
   returns_shows : effect_at c.program at ≡ effects.Returns → OnwardShows c (returns c.program at) shown
   returns_shows f = by_flag (is_synchronized at.method.flags) refl left.own
@@ -85,7 +78,7 @@ module _ (c : MarkedProgram) (marked : IsMarked c) (fs : List Frame) (shown : Li
       by_flag : (b : Bool) → is_synchronized at.method.flags ≡ b → shown ≡ cond b (monitor_of c.program at.method at.frame ∷ []) [] ++ left.rest
           → OnwardShows c (cond b (Leaving (monitor_of c.program at.method at.frame) afters.Return (frames_of at)) (back (returned c.program at))) shown
       by_flag true e own = record { leaves = left.leaves e; now = shown; counts = λ n. omega arith; show = subst (λ (gs : List Frame). Show c Whole gs shown) is_top show }
-      by_flag false e own = subst (λ (ns : List ℕ). OnwardShows c (back (returned c.program at)) ns) (sym own) (back_shows (returned c.program at) left.rest left.show)
+      by_flag false e own = subst (λ (ns : List ℕ). OnwardShows c (back (returned c.program at)) ns) (sym own) (back_shows c (returned c.program at) left.rest left.show)
 
   left_shows : (m : ℕ) → effect_at c.program at ≡ effects.Leaves m → OnwardShows c (Leaving m afters.Next (went_on c.program at 0)) shown
   left_shows m f = let k = leaves_law c fs shown at m marked t show f in
@@ -103,12 +96,7 @@ module _ (c : MarkedProgram) (marked : IsMarked c) (fs : List Frame) (shown : Li
   done_shows effects.Returns f got = returns_shows f
   done_shows (effects.Enters m) f got = let k = enters_law c fs shown at m marked t show f in (k.1, k.0)
   done_shows (effects.Leaves m) f got = left_shows m f
-  done_shows (effects.Indexes array index stored) f got = tt
-  done_shows (effects.Makes word size) f got = tt
-  done_shows (effects.Waits m) f got = tt
-  done_shows (effects.Notifies m) f got = tt
-  done_shows (effects.NotifiesAll m) f got = tt
-  done_shows effects.Stuck f got = tt
+  done_shows e f got = tt
 
 -- ---- the instruction of a thread
 

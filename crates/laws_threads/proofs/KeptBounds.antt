@@ -13,8 +13,8 @@ use Rattle.machine_types.specs.declared.{effect.Effect.TheVariants.{Raises, Call
 use Rattle.laws_threads.specs.{BoundLaws.BoundsAreKept, TopFrames.IsAllowed}
 use Rattle.laws_threads.proofs.BoundedInstructions.{attempt_fails, Begins, begins_here, calm, goes_any, HasDone, does_all, waited, asked, made_bounded, printed_bounded}
 use Rattle.laws_threads.proofs.BoundedMonitors.{LockFits, lock_fits, at_found, taken, began, deeper_fits, inner_fits, Leaves, let_go, shallower_fits, finished, left_inner, fattened, gone_to_wait, taken_back}
-use Rattle.laws_threads.proofs.{BoundedOnward.{Fit, Spends, spends_less, bounded, fit_of, spends_of, failing, goes, goes_if, none_if, none_by, handed_enters_none}, HeldBounds.{found as found_held}}
-use Rattle.laws_threads.proofs.ThreadMove.{Looks, Lacks, GoesBy, Checks, LeadsTo, TurnsTo, Takes, Move, becomes, tried_attempt, tried_monitor, ran_made, by_move, looks_in, gives_up_in}
+use Rattle.laws_threads.proofs.{BoundedOnward.{Fit, Spends, spends_less, bounded, fit_of, spends_of, failing, goes, goes_if, EntersNone, handed_enters_none}, HeldBounds.{found as found_held}}
+use Rattle.laws_threads.proofs.ThreadMove.{if_either, if_mapped, Looks, Lacks, GoesBy, Checks, LeadsTo, TurnsTo, Takes, Move, becomes, tried_attempt, tried_monitor, ran_made, by_move, looks_in, gives_up_in}
 use Rattle.laws_threads.proofs.TopEffects.{effects_allowed}
 use Rattle.jvm_types.specs.declared.outcome.End.TheVariants as ends
 use Rattle.machine_types.specs.declared.lock.Kept.TheVariants as keeps
@@ -255,7 +255,7 @@ module _ (c : MarkedProgram) (s : Thread) (got : ℕ) where
       let g : Fit c.program (record s { roots = roots; phase = phases.Start }) = record { limits = f.limits; held = f.held; tried = f.tried } in
       subst (λ (w : Phase). IsBounded c.program (goes_on_if (record s { roots = roots; phase = w }) o)) (sym same)
       (goes_if c.program (record s { roots = roots; phase = phases.Start }) o
-      (none_if c.program (slice_get c.program.methods number) (rooted c.program s.number number) (λ m. none_by c.program (has_room c.program [] m) (Running (entry_frame number m (root_arguments s.number m) ∷ [])) (Uncaught StackOverflowError) tt tt))
+      (if_mapped EntersNone (slice_get c.program.methods number) (rooted c.program s.number number) (λ m. if_either EntersNone (has_room c.program [] m) (Running (entry_frame number m (root_arguments s.number m) ∷ [])) (Uncaught StackOverflowError) tt tt))
       (bounded c.program (record s { roots = roots }) phases.Start (record { limits = f.limits; held = f.held; tried = f.tried }) tt f.limits.few_turns f.limits.few_steps tt tt (record { few = k.few })) g (record { few = k.few }))
 
 -- ---- all phases

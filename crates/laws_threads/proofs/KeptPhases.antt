@@ -103,9 +103,7 @@ module _ (c : MarkedProgram) (marked : IsMarked c) (is : Classes) (has : HasObje
     goes_holds _ o (moves.by_element word stored at found) t = subst (λ w. IfOnwards c is s.frames (option_map (λ at. Running (went_on c.program at (element_made stored got))) w)) found (element_kept word stored s.frames got t.holds.1 t.shows t.finds)
     goes_holds _ _ (moves.by_object a word) t = made_kept a word s.frames t.finds t.holds
     goes_holds _ o (moves.by_handler x class at found) t = subst (λ w. IfOnwards c is s.frames (option_map (λ at. handed c.program x class at (handler_at (class_of class) at)) w)) found (thrown_kept x class s.frames t.holds.0 t.holds.1 t.shows)
-    goes_holds _ _ (moves.by_none m r e) t = runs_still s.frames t.holds
-    goes_holds _ _ (moves.by_one m r u) t = runs_still s.frames t.holds
-    goes_holds _ _ (moves.by_all m r) t = runs_still s.frames t.holds
+    goes_holds _ _ k t = runs_still s.frames t.holds
 
     -- ---- to another phase
 
@@ -117,29 +115,17 @@ module _ (c : MarkedProgram) (marked : IsMarked c) (is : Classes) (has : HasObje
     looks_holds m _ moves.acquiring h = h
 
     leads_holds : (was now : Phase) → LeadsTo c.program s got was now → PhaseHolds c is was s.frames → Holds now
-    leads_holds _ _ (moves.to_acquire m tried free) h = (h, tt)
     leads_holds was _ (moves.to_take m count k e) h = (looks_holds m was k h, tt)
     leads_holds was _ (moves.to_take_fat m r k e) h = (looks_holds m was k h, tt)
-    leads_holds _ _ (moves.from_flag m u) h = (h, tt)
-    leads_holds _ _ (moves.to_grow m count a x e t l) h = (h, tt)
-    leads_holds _ _ (moves.to_own m toward e) h = (h, tt)
-    leads_holds _ _ (moves.to_flat_out m a e) h = (h, tt)
-    leads_holds _ _ (moves.to_no_record m e) h = (h, tt)
-    leads_holds _ _ (moves.to_fat_in m r toward) h = (h, tt)
-    leads_holds _ _ (moves.to_wait_out m r) h = (h, tt)
-    leads_holds _ _ (moves.to_retake m r depth e) h = (h, tt)
-    leads_holds _ _ (moves.to_notify_one m r e) h = (h, tt)
-    leads_holds _ _ (moves.to_end e) h = (h, tt)
     leads_holds _ _ (moves.to_element at array index stored found same e) h = ((finds_element c marked is has array index stored s.frames at h found same, h), tt)
-    leads_holds _ _ (moves.to_no_print at v found l e) h = (h, tt)
+    leads_holds _ _ k h = (h, tt)
 
     turns_holds : (was now : Phase) → TurnsTo s got was now → PhaseHolds c is was s.frames → Holds now × FramesHold c is s.frames
     turns_holds was _ (moves.looks_again m k) h = let l = looks_holds m was k h in ((l, tt), l.1)
     turns_holds was _ (moves.flags m u k e) h = let l = looks_holds m was k h in ((l, tt), l.1)
     turns_holds _ _ (moves.takes_not m count e) h = ((h, tt), h.1)
     turns_holds _ _ (moves.takes_not_fat m r e) h = ((h, tt), h.1)
-    turns_holds _ _ (moves.waits_on m r depth e) h = ((h, tt), h)
-    turns_holds _ _ (moves.retakes_not m r depth e) h = ((h, tt), h)
+    turns_holds _ _ k h = ((h, tt), h)
 
     -- behind an instruction that waits or notifies
     module _ (fs : List Frame) (h : FramesHold c is fs) where
@@ -219,15 +205,13 @@ module _ (c : MarkedProgram) (marked : IsMarked c) (is : Classes) (has : HasObje
         runs_typed c is (record s { attempt = Some (record x { inner = x.inner + 1 }) }) t.holds.1 (record { attempt = h.0; inside = t.rests.inside; entry = h.1 })
     move_typed _ (moves.begins_to_try m tried noted f below e y l x free) t start new =
         let own : FramesHold c is (f ∷ below) = subst (FramesHold c is) e t.holds.1 in
+        let one : suc (length below) - length below ≡ 1 = omega arith in
         runs_typed c is (record s { attempt = Some (begun_attempt m noted tried f below) }) t.holds.1
         (record {
           attempt = (t.holds.0, subst (λ fs. FramesHold c is (f ∷ drop (length fs - length below) fs)) (sym e) (subst (λ n. FramesHold c is (f ∷ drop n (f ∷ below))) (sym one) own));
           inside = t.rests.inside;
           entry = (subst (AreInside c.program) e t.rests.inside).0;
         })
-      where
-        one : suc (length below) - length below ≡ 1
-        one = omega arith
     move_typed was (moves.takes_lock m kept k) t start new =
         runs_held s got was t (with_held (record { monitor = m; kept = kept; depth = 1 }) s.held) (record s.counts { locked = s.counts.locked + 1 })
         (takes_in (λ phase. PhaseHolds c is phase s.frames → FramesHold c is s.frames) got m was kept k (λ count h. h.1) (λ r h. h.1) t.holds)

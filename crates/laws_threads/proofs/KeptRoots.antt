@@ -6,14 +6,15 @@ use Rattle.jvm_types.specs.{Members.{is_synchronized, is_class_init_name}, Numbe
 use Rattle.jvm_types.specs.declared.program.{MethodInfo.MethodInfo, Program.Program, Row.Row}
 use Rattle.checked_program.specs.MarkedProgram.{MarkedProgram}
 use Rattle.machine_types.specs.{Bounds.{part_roots, FramesFit, IsRooted}, Events.thread_started}
-use Rattle.machine_types.specs.Frames.{Top, top_of, frames_of, pushed, went_on, has_room, waiting, entry_frame, arguments_of, monitor_of, returned, handler_at}
-use Rattle.machine_types.specs.{Going.{with_phase, runs, failed_turn, goes_on, goes_on_if, goes_after, root_over}, HeldMonitors.{with_held, without_held, shallower}, Instructions.{made, printed}}
+use Rattle.machine_types.specs.Frames.{Top, top_of, frames_of, went_on, has_room, waiting, entry_frame, arguments_of, monitor_of, returned, handler_at}
+use Rattle.machine_types.specs.{Going.{with_phase, runs, goes_on, goes_on_if, goes_after, root_over}, HeldMonitors.{with_held, without_held, shallower}, Instructions.printed}
 use Rattle.machine_types.specs.Monitors.{grown}
-use Rattle.machine_types.specs.Onward.{Onward, Running, Throwing, Entering, Leaving, RootReturned, Uncaught, threw, done, entered, called, rooted, root_arguments, back, returns, unwound, handed, after}
+use Rattle.machine_types.specs.Onward.{Onward, Running, Throwing, Entering, Leaving, RootReturned, Uncaught, threw, done, entered, called, rooted, root_arguments, back, unwound, handed, after}
 use Rattle.machine_types.specs.{Parts.{numbers_of, entries_named, init_roots}, ReadyObjects.{class_of, thrown_of}, Structure.HasFrame, Threads.{Frame, Attempt, Thread}, Words.header_class}
-use Rattle.machine_types.specs.declared.{effect.Effect.{Effect, TheVariants.{Goes, Throws, Reads, Writes, Measures, Raises, Prints, Calls, Returns, Enters, Leaves}}, lock.{Held.Held, Kept.Kept}}
+use Rattle.machine_types.specs.declared.{effect.Effect.{Effect, TheVariants.{Raises, Calls, Returns}}, lock.{Held.Held, Kept.Kept}}
 use Rattle.machine_types.specs.declared.phase.{After.After, Phase.Phase, Toward.Toward}
-use Rattle.laws_threads.{specs.RootLaws.RootsAreKept, proofs.ThreadMove.{Looks, GoesBy, LeadsTo, TurnsTo, Takes, GivesUp, Asks, WaitsFrom, Move, becomes, mover, by_move, of_mover, runs_to, turns_to}}
+use Rattle.laws_threads.{specs.RootLaws.RootsAreKept, proofs.ThreadMove.{if_either, if_mapped, Looks, GoesBy, LeadsTo, TurnsTo, Takes, GivesUp, Asks, WaitsFrom, Move, becomes, mover, by_move, of_mover, runs_to, turns_to}}
+use Rattle.laws_threads.proofs.GoingOn.{pushed_frame}
 use Rattle.jvm_types.specs.declared.outcome.End.TheVariants as ends
 use Rattle.machine_types.specs.declared.phase.After.TheVariants as afters
 use Rattle.machine_types.specs.declared.phase.Phase.TheVariants as phases
@@ -41,10 +42,6 @@ framed phases.Start (f ∷ fs) roots n h = absurd n
 framed phase (f ∷ fs) roots n h = tt
 
 module _ (p : Program) where
-  by_test : (b : Bool) (x y : Thread) → IsRooted p x → IsRooted p y → IsRooted p (if b then x else y)
-  by_test true x y h k = h
-  by_test false x y h k = k
-
   -- a thread with a frame, whatever its phase
   record Stays (s : Thread) : Type 0 where
     roots : AreRoots p s.number s.part s.roots
@@ -58,13 +55,6 @@ module _ (p : Program) where
     where
       by_limit : (b : Bool) → IsNoStart (if b then phases.Run else phases.Ending ends.Steps)
       by_limit true = tt
-      by_limit false = tt
-
-  turned : (s : Thread) (phase : Phase) → IsNoStart phase → Stays s → IsRooted p (failed_turn s phase)
-  turned s phase n k = in_phase (record s { turns = s.turns + 1 }) (if nat_lt (s.turns + 1) s.cfg.turns then phase else phases.Ending ends.Turns) (by_limit (nat_lt (s.turns + 1) s.cfg.turns)) (record { roots = k.roots; frame = k.frame })
-    where
-      by_limit : (b : Bool) → IsNoStart (if b then phase else phases.Ending ends.Turns)
-      by_limit true = n
       by_limit false = tt
 
   over : (s : Thread) → AreRoots p s.number s.part s.roots → IsRooted p (goes_on s RootReturned)
@@ -88,17 +78,9 @@ module _ (p : Program) where
 
   -- ---- how an instruction, a call, a return or an exception goes on
 
-  if_some : {A : Type 0} (o : Option A) (more : A → Onward) → ((a : A) → OnwardFits (more a)) → IfSome (option_map more o) OnwardFits
-  if_some None more f = tt
-  if_some (Some a) more f = f a
-
-  onward_by : (b : Bool) (x y : Onward) → OnwardFits x → OnwardFits y → OnwardFits (if b then x else y)
-  onward_by true x y f g = f
-  onward_by false x y f g = g
-
   calls : (at : Top) (number : ℕ) (m : MethodInfo) → OnwardFits (called p at number m)
-  calls at number m = onward_by (has_room p (frames_of at) m) (entered p m (entry_frame number m (arguments_of p at)) (waiting p at)) (threw StackOverflowError at)
-      (onward_by (is_synchronized m.flags) (Entering (monitor_of p m (entry_frame number m (arguments_of p at))) (entry_frame number m (arguments_of p at) ∷ waiting p at)) (Running (entry_frame number m (arguments_of p at) ∷ waiting p at)) tt tt)
+  calls at number m = if_either OnwardFits (has_room p (frames_of at) m) (entered p m (entry_frame number m (arguments_of p at)) (waiting p at)) (threw StackOverflowError at)
+      (if_either OnwardFits (is_synchronized m.flags) (Entering (monitor_of p m (entry_frame number m (arguments_of p at))) (entry_frame number m (arguments_of p at) ∷ waiting p at)) (Running (entry_frame number m (arguments_of p at) ∷ waiting p at)) tt tt)
       tt
 
   goes_back : (fs : List Frame) → OnwardFits (back fs)
@@ -109,30 +91,19 @@ module _ (p : Program) where
   goes_out x class [] = tt
   goes_out x class (f ∷ fs) = tt
 
-  gives_back : (at : Top) → OnwardFits (returns p at)
-  gives_back at = onward_by (is_synchronized at.method.flags) (Leaving (monitor_of p at.method at.frame) afters.Return (frames_of at)) (back (returned p at)) tt (goes_back (returned p at))
-
   hands : (x : ℕ) (class : Thrown) (at : Top) (row : Option Row) → OnwardFits (handed p x class at row)
   hands x class at (Some r) = tt
-  hands x class at None = onward_by (is_synchronized at.method.flags) (Leaving (monitor_of p at.method at.frame) (afters.Unwind x class) (frames_of at)) (unwound x class at.below) tt (goes_out x class at.below)
+  hands x class at None = if_either OnwardFits (is_synchronized at.method.flags) (Leaving (monitor_of p at.method at.frame) (afters.Unwind x class) (frames_of at)) (unwound x class at.below) tt (goes_out x class at.below)
 
   goes_behind : (fs : List Frame) (a : After) → HasFrame fs → IfSome (after p fs a) OnwardFits
   goes_behind fs afters.Next h = h
-  goes_behind fs afters.Return h = if_some (top_of p fs) (λ at. back (returned p at)) (λ at. goes_back (returned p at))
+  goes_behind fs afters.Return h = if_mapped OnwardFits (top_of p fs) (λ at. back (returned p at)) (λ at. goes_back (returned p at))
   goes_behind fs (afters.Unwind x class) h = goes_out x class (drop 1 fs)
 
   does : (at : Top) (e : Effect) (got : ℕ) → IfSome (done p at e got) OnwardFits
-  does at (Goes to made) got = tt
-  does at (Throws x) got = tt
-  does at (Reads v) got = tt
-  does at (Writes v word) got = tt
-  does at (Measures array) got = tt
-  does at (Raises x) got = if_some (thrown_of (header_class got)) (λ class. Throwing x class (frames_of at)) (λ class. tt)
-  does at (Prints n) got = tt
-  does at (Calls number) got = if_some (slice_get p.methods number) (called p at number) (λ m. calls at number m)
-  does at Returns got = gives_back at
-  does at (Enters m) got = tt
-  does at (Leaves m) got = tt
+  does at (Raises x) got = if_mapped OnwardFits (thrown_of (header_class got)) (λ class. Throwing x class (frames_of at)) (λ class. tt)
+  does at (Calls number) got = if_mapped OnwardFits (slice_get p.methods number) (called p at number) (λ m. calls at number m)
+  does at Returns got = if_either OnwardFits (is_synchronized at.method.flags) (Leaving (monitor_of p at.method at.frame) afters.Return (frames_of at)) (back (returned p at)) tt (goes_back (returned p at))
   does at e got = tt
 
 -- ---- the next root
@@ -180,7 +151,7 @@ begun_root p s (root ∷ roots) r f =
     let found = there p.methods root (roots_within p s.number s.part root r.0) in
     let now : Thread = record s { roots = roots } in
     subst (λ (o : Option MethodInfo). IsRooted p (goes_on_if now (option_map (rooted p s.number root) o))) (sym found.1)
-    (goes p now (rooted p s.number root found.0) r.1 (onward_by p (has_room p [] found.0) (Running (entry_frame root found.0 (root_arguments s.number found.0) ∷ [])) (Uncaught StackOverflowError) tt tt))
+    (goes p now (rooted p s.number root found.0) r.1 (if_either OnwardFits (has_room p [] found.0) (Running (entry_frame root found.0 (root_arguments s.number found.0) ∷ [])) (Uncaught StackOverflowError) tt tt))
 
 -- ---- all moves
 
@@ -194,15 +165,8 @@ HasFrames phase = Unit {0}
 
 frame_in : (phase : Phase) (fs : List Frame) (roots : List ℕ) → HasFrames phase → FramesFit phase fs roots → HasFrame fs
 frame_in phases.Idle fs roots n f = absurd n
-frame_in phases.Start fs roots n f = absurd n
-frame_in (phases.Ending e) fs roots n f = absurd n
-frame_in (phases.Ended e) fs roots n f = absurd n
-frame_in phase [] roots n f = absurd f
 frame_in phase (x ∷ fs) roots n f = tt
-
-framed_push : (a : ℕ) (fs : List Frame) → HasFrame fs → HasFrame (pushed a fs)
-framed_push a [] f = absurd f
-framed_push a (x ∷ fs) f = tt
+frame_in phase [] roots n f = absurd (assumption)
 
 looks_framed : {s : Thread} (m : ℕ) (was : Phase) → Looks s m was → HasFrames was
 looks_framed m _ (moves.entering tried free) = tt
@@ -236,14 +200,12 @@ module _ (c : MarkedProgram) (s : Thread) (got : ℕ) (h : IsRooted c.program s)
 
   goes_framed : (was : Phase) (o : Onward) → GoesBy c.program s got was o → FramesFit was s.frames s.roots → OnwardFits o
   goes_framed _ o (moves.by_effect at e _ found is silent d) f = subst (λ (w : Option Onward). IfSome w OnwardFits) d (does c.program at e got)
-  goes_framed _ _ (moves.by_machine at class found y) f = tt
-  goes_framed _ _ (moves.by_nobody at m count e found y there l) f = tt
-  goes_framed _ _ (moves.by_element word stored at found) f = tt
-  goes_framed _ _ (moves.by_object a word) f = framed_push a s.frames (frame_in (phases.Made a word) s.frames s.roots tt f)
+  goes_framed _ _ (moves.by_object a word) f = pushed_frame a s.frames (frame_in (phases.Made a word) s.frames s.roots tt f)
   goes_framed _ _ (moves.by_handler x class at found) f = hands c.program x class at (handler_at (class_of class) at)
   goes_framed was _ (moves.by_none m r t) f = frame_in (phases.NotifyLook m r) s.frames s.roots tt f
   goes_framed was _ (moves.by_one m r u) f = frame_in (phases.NotifyOne m r u) s.frames s.roots tt f
   goes_framed was _ (moves.by_all m r) f = frame_in (phases.NotifyAll m r) s.frames s.roots tt f
+  goes_framed _ _ k f = tt
 
   runs_framed : (was : Phase) → HasFrames was → FramesFit was s.frames s.roots → FramesFit (runs s).phase s.frames s.roots
   runs_framed was n f = runs_to (λ (phase : Phase). FramesFit phase s.frames s.roots) s (framed phases.Run s.frames s.roots tt (frame_in was s.frames s.roots n f)) tt

@@ -1,29 +1,23 @@
 -- The event that begins an instruction keeps the types of all that its thread holds.
-use Rattle.std.{proofs.Common.{◌≡◌, ℕ, ◌<◌, ◌≤◌, inl, inr, true, List, [], ◌∷◌, ◌++◌, length, Option, Some, None, refl, ap, sym, subst, ◌∙◌, arith, map, drop}, specs.List.AllByRecursion}
+use Rattle.std.{proofs.Common.{◌≡◌, ℕ, ◌<◌, ◌≤◌, inl, inr, List, [], ◌∷◌, ◌++◌, length, Option, Some, None, refl, ap, sym, subst, ◌∙◌, arith, map, drop}, specs.List.AllByRecursion}
 use Rattle.std.proofs.lemmas.Bool.Decides.{nat_tests}
 use Rattle.lists.proofs.ListLaws.{same_some}
-use Rattle.jvm_types.specs.{ClassNames.is_class, CodeTable.{value_of, locals_after}, ProgramInvariant.IsProgram, Verifying.edges, declared.class_numbers.TheConstants.INT_ARRAY_CLASS}
+use Rattle.jvm_types.specs.{CodeTable.{value_of, locals_after}, ProgramInvariant.IsProgram, Verifying.edges}
 use Rattle.jvm_types.specs.declared.{op_row.{Given.{Given, TheVariants.Fresh}, OpRow.OpRow}, outcome.Thrown.Thrown, program.{MethodInfo.MethodInfo, Program.Program}, typing.VType.VType}
 use Rattle.jvm_types.{specs.declared.typing.VType.TheVariants.{Ref, New}, proofs.TypeOrder.subclass_self}
 use Rattle.checked_program.specs.{MarkedProgram.{MarkedProgram, IsMarked}, TaggedCode.row_of}
 use Rattle.machine_types.specs.{Frames.{effect_at, went_on, making, pushed, Top, top_of}, Ints.low, Onward.{Onward, Running, threw, done}, Threads.Frame}
-use Rattle.machine_types.specs.{Typed.{Classes, Holds, FrameHolds, HoldBelow, FramesHold, ElementStands, with_object}, Words.{header, header_class, value_word}, declared.effect.Effect.Effect}
+use Rattle.machine_types.specs.{Typed.{Classes, Holds, FrameHolds, HoldBelow, FramesHold, ElementStands, with_object}, Words.{header_class, value_word}, declared.effect.Effect.Effect}
 use Rattle.machine_types.specs.declared.effect.Effect.TheVariants.{Indexes, Makes, Prints, Waits, Notifies, NotifiesAll}
 use Rattle.laws_threads.{specs.Allowed.{OneOf, HasRowTypes, GivenHolds, WriteHolds, MadeAs, Allowed, IsByMachine}, proofs.{Doing.{runs_on, throws_it, does_it}, Landing.stand_top}}
 use Rattle.laws_threads.proofs.{Lifts.{frame_up, below_up}, Onwards.{Keeps, keeps_top, HasObjects, FoundHolds, AreInside, Onwards, IfOnwards}, Standings.top_here}
-use Rattle.laws_threads.proofs.{ThreadMove.{IsNotify, of_one, of_all, Refuses, past_end, no_memory, waits_unheld, notifies_unheld}, TopEffects.{made_size, allowed_here}, TypedMoves.goes}
+use Rattle.laws_threads.proofs.{ThreadMove.{IsNotify, of_one, of_all, Refuses, past_end}, TopEffects.{made_size, allowed_here}, TypedMoves.goes}
 
 -- ---- a new object is of its class
 
-class_of_object : (files class : ℕ) → files ≤ 64 → is_class files class ≡ true → class ≡ header_class (header class 0)
-class_of_object files class few e = let small : class < 65536 = grind (arith, nat_tests, few, e) in omega (arith, small)
-
-class_of_array : (count : ℕ) → INT_ARRAY_CLASS ≡ header_class (header INT_ARRAY_CLASS count)
-class_of_array count = omega arith
-
 made_holds : (p : Program) (m : MethodInfo) (is : Classes) (type : VType) (word size a : ℕ) → IsProgram p → MadeAs p m type word size → Holds m (with_object is (header_class word) a) type a
-made_holds p m is (New pc) word size a program h = (h.0, h.1, inr (class_of_object (length p.names) h.0 program.files h.2 ∙ ap header_class (sym h.3), refl))
-made_holds p m is (Ref class) word size a program h = inr (class, inr (h.0 ∙ class_of_array h.1 ∙ ap header_class (sym h.3), refl), subclass_self class)
+made_holds p m is (New pc) word size a program h = (h.0, h.1, inr ((let small : h.0 < 65536 = grind (arith, nat_tests, program.files, h.2) in omega (arith, small)) ∙ ap header_class (sym h.3), refl))
+made_holds p m is (Ref class) word size a program h = inr (class, inr (h.0 ∙ omega arith ∙ ap header_class (sym h.3), refl), subclass_self class)
 made_holds p m is type word size a program h = absurd (assumption)
 
 module _ (c : MarkedProgram) (marked : IsMarked c) (is : Classes) (has : HasObjects c.program is) where
@@ -52,9 +46,7 @@ module _ (c : MarkedProgram) (marked : IsMarked c) (is : Classes) (has : HasObje
 
   refused : (class : Thrown) (got : ℕ) (at : Top) → Refuses c.program got at class → IsByMachine class
   refused _ got at (past_end array index stored e t) = tt
-  refused _ got at (no_memory word size e) = tt
-  refused _ got at (waits_unheld m e) = tt
-  refused _ got at (notifies_unheld m y) = tt
+  refused _ got at k = tt
 
   pub refuses_at : (class : Thrown) (got : ℕ) (fs : List Frame) (at : Top) → FramesHold c is fs → top_of c.program fs ≡ Some at → Refuses c.program got at class → Onwards c is fs (threw class at)
   refuses_at class got fs at h found k = let own = refused class got at k in at_top (λ fs at. Onwards c is fs (threw class at)) (λ f fs h b. throws_it c marked is has f fs h b class own) fs at h found

@@ -32,9 +32,6 @@ module _ (c : MarkedProgram) (s : Thread) (m : ℕ) where
   acquire_turns : Stands c (phases.Acquire m) s.frames s.held s.attempt → TurnsIn c (phases.Acquire m) s
   acquire_turns k = record { counts = tt; stands = k; inside = no_attempt c (phases.Acquire m) s.frames s.held s.attempt k.phase_shows.no_attempt }
 
-  flag_turns : (u : ℕ) → Stands c (phases.Acquire m) s.frames s.held s.attempt → TurnsIn c (phases.Flag m u) s
-  flag_turns u k = record { counts = tt; stands = to_flag u k; inside = no_attempt c (phases.Flag m u) s.frames s.held s.attempt k.phase_shows.no_attempt }
-
   -- by what the lock word says
   module _ (was : Phase) (from : turned_from was ≡ phases.Acquire m) (k : Stands c (phases.Acquire m) s.frames s.held s.attempt) where
     limit : TurnsIn c (turned_from was) s
@@ -50,7 +47,7 @@ module _ (c : MarkedProgram) (s : Thread) (m : ℕ) where
     looks_again = turning c was s (phases.Acquire m) (acquire_turns k) limit
 
     pub flags : (u : ℕ) → StaysStructured c was (failed_turn s (phases.Flag m u))
-    flags u = turning c was s (phases.Flag m u) (flag_turns u k) limit
+    flags u = turning c was s (phases.Flag m u) (record { counts = tt; stands = to_flag u k; inside = no_attempt c (phases.Flag m u) s.frames s.held s.attempt k.phase_shows.no_attempt }) limit
 
   -- the lock was not free
   pub turned_back : (count : ℕ) → Stands c (phases.Acquire m) s.frames s.held s.attempt → StaysStructured c (phases.Take m count) (failed_turn s (phases.Acquire m))

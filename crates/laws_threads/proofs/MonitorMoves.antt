@@ -46,6 +46,10 @@ module _ (c : MarkedProgram) (is : IsMarked c) (f : Frame) (own : List ℕ) (top
       (row_locals top.choice f.receiver 0 (λ type. 0) k.tags.stack k.tags.locals f.stack f.locals top.stack top.locals r.writes)
       (row_stack top.choice f.receiver 0 (λ type. 0) k.tags.stack k.tags.locals f.stack f.locals top.stack top.locals r)
 
+  -- the value on top has the tag on top
+  top_value : (m : ℕ) (on : IsOnTop m f.stack) (t : Tag) (ts : List Tag) → k.tags.stack ≡ t ∷ ts → HaveValues top.choice f.receiver (t ∷ ts) (m ∷ on.0)
+  top_value m on t ts q = subst (λ (us : List Tag). HaveValues top.choice f.receiver us (m ∷ on.0)) q (subst (λ (vs : List ℕ). HaveValues top.choice f.receiver k.tags.stack vs) on.1 top.stack)
+
   -- ---- an entry
 
   pub record Entered (m : ℕ) : Type 0 where
@@ -55,7 +59,7 @@ module _ (c : MarkedProgram) (is : IsMarked c) (f : Frame) (own : List ℕ) (top
     pub holds : stands.tags.held ≢ []
 
   pub entered : (m : ℕ) → k.insn.op ≡ ops.Monitorenter → IsOnTop m f.stack → Entered m
-  entered m e on = by_tags k.tags.stack refl (subst (λ (op : Op). enters_untagged op k.tags.stack ≡ false) e (sound_at c is f k).enters)
+  entered m e on = cases k.tags.stack refl (subst (λ (op : Op). enters_untagged op k.tags.stack ≡ false) e (sound_at c is f k).enters)
     where
       finished : (t : Tag) (ts : List Tag) → k.tags.stack ≡ t ∷ ts → m ≡ tag_value top.choice f.receiver t → Entered m
       finished t ts q v =
@@ -70,23 +74,16 @@ module _ (c : MarkedProgram) (is : IsMarked c) (f : Frame) (own : List ℕ) (top
             holds = λ none. let bad : t ∷ k.tags.held ≡ [] = l.below.held ∙ none in cc;
           }
 
-      -- the value on top has the tag on top
-      top_value : (t : Tag) (ts : List Tag) → k.tags.stack ≡ t ∷ ts → HaveValues top.choice f.receiver (t ∷ ts) (m ∷ on.0)
-      top_value t ts q = subst (λ (us : List Tag). HaveValues top.choice f.receiver us (m ∷ on.0)) q (subst (λ (vs : List ℕ). HaveValues top.choice f.receiver k.tags.stack vs) on.1 top.stack)
-
-      by_tags : (ts : List Tag) → k.tags.stack ≡ ts → enters_untagged ops.Monitorenter k.tags.stack ≡ false → Entered m
-      by_tags ts q n = cases ts q (subst (λ (us : List Tag). enters_untagged ops.Monitorenter us ≡ false) q n)
-        where
-          cases : (ts : List Tag) → k.tags.stack ≡ ts → enters_untagged ops.Monitorenter ts ≡ false → Entered m
-          cases [] q n = absurd (cc)
-          cases (Untagged ∷ ts) q n = absurd (cc)
-          cases (This ∷ ts) q n = finished This ts q (top_value This ts q).0
-          cases (At pc ∷ ts) q n = finished (At pc) ts q (top_value (At pc) ts q).0
+      cases : (ts : List Tag) → k.tags.stack ≡ ts → enters_untagged ops.Monitorenter ts ≡ false → Entered m
+      cases [] q n = absurd (cc)
+      cases (Untagged ∷ ts) q n = absurd (cc)
+      cases (This ∷ ts) q n = finished This ts q (top_value m on This ts q).0
+      cases (At pc ∷ ts) q n = finished (At pc) ts q (top_value m on (At pc) ts q).0
 
   -- ---- an exit
 
   pub exited : (m : ℕ) → k.insn.op ≡ ops.Monitorexit → IsOnTop m f.stack → (less : List ℕ) × (own ≡ m ∷ less) × Shows c Whole next_frame less
-  exited m e on = cases k.tags.stack k.tags.held refl refl (subst (λ (op : Op). exits_other op k.tags.stack k.tags.held ≡ false) e (sound_at c is f k).exits)
+  exited m e on = by_tags k.tags.stack k.tags.held refl refl (subst (λ (op : Op). exits_other op k.tags.stack k.tags.held ≡ false) e (sound_at c is f k).exits)
     where
       finished : (t : Tag) (ts hs : List Tag) → k.tags.stack ≡ t ∷ ts → k.tags.held ≡ t ∷ hs → m ≡ tag_value top.choice f.receiver t → (less : List ℕ) × (own ≡ m ∷ less) × Shows c Whole next_frame less
       finished t ts hs q h v =
@@ -96,19 +93,13 @@ module _ (c : MarkedProgram) (is : IsMarked c) (f : Frame) (own : List ℕ) (top
           let same : own ≡ m ∷ less = top.shown_are ∙ ap (λ (us : List Tag). map (tag_value top.choice f.receiver) us ++ own_entry c.program k.method f) h ∙ ap (λ (n : ℕ). n ∷ less) (sym v) in
           (less, same, shows_with hs (lands_with hs fits))
 
-      top_value : (t : Tag) (ts : List Tag) → k.tags.stack ≡ t ∷ ts → HaveValues top.choice f.receiver (t ∷ ts) (m ∷ on.0)
-      top_value t ts q = subst (λ (us : List Tag). HaveValues top.choice f.receiver us (m ∷ on.0)) q (subst (λ (vs : List ℕ). HaveValues top.choice f.receiver k.tags.stack vs) on.1 top.stack)
-
-      cases : (ts hs : List Tag) → k.tags.stack ≡ ts → k.tags.held ≡ hs → exits_other ops.Monitorexit k.tags.stack k.tags.held ≡ false → (less : List ℕ) × (own ≡ m ∷ less) × Shows c Whole next_frame less
-      cases ts hs q h n = by_tags ts hs q h (subst (λ (us : List Tag). exits_other ops.Monitorexit ts us ≡ false) h (subst (λ (us : List Tag). exits_other ops.Monitorexit us k.tags.held ≡ false) q n))
-        where
-          by_tags : (ts hs : List Tag) → k.tags.stack ≡ ts → k.tags.held ≡ hs → exits_other ops.Monitorexit ts hs ≡ false → (less : List ℕ) × (own ≡ m ∷ less) × Shows c Whole next_frame less
-          by_tags [] hs q h n = absurd (cc)
-          by_tags (Untagged ∷ ts) hs q h n = absurd (cc)
-          by_tags (This ∷ ts) [] q h n = absurd (cc)
-          by_tags (This ∷ ts) (u ∷ hs) q h n = finished This ts hs q (h ∙ ap (λ (x : Tag). x ∷ hs) (sym (one_tag This u (is_true (same_tag This u) n)))) (top_value This ts q).0
-          by_tags (At pc ∷ ts) [] q h n = absurd (cc)
-          by_tags (At pc ∷ ts) (u ∷ hs) q h n = finished (At pc) ts hs q (h ∙ ap (λ (x : Tag). x ∷ hs) (sym (one_tag (At pc) u (is_true (same_tag (At pc) u) n)))) (top_value (At pc) ts q).0
+      by_tags : (ts hs : List Tag) → k.tags.stack ≡ ts → k.tags.held ≡ hs → exits_other ops.Monitorexit ts hs ≡ false → (less : List ℕ) × (own ≡ m ∷ less) × Shows c Whole next_frame less
+      by_tags [] hs q h n = absurd (cc)
+      by_tags (Untagged ∷ ts) hs q h n = absurd (cc)
+      by_tags (This ∷ ts) [] q h n = absurd (cc)
+      by_tags (This ∷ ts) (u ∷ hs) q h n = finished This ts hs q (h ∙ ap (λ (x : Tag). x ∷ hs) (sym (one_tag This u (is_true (same_tag This u) n)))) (top_value m on This ts q).0
+      by_tags (At pc ∷ ts) [] q h n = absurd (cc)
+      by_tags (At pc ∷ ts) (u ∷ hs) q h n = finished (At pc) ts hs q (h ∙ ap (λ (x : Tag). x ∷ hs) (sym (one_tag (At pc) u (is_true (same_tag (At pc) u) n)))) (top_value m on (At pc) ts q).0
 
 -- ---- the laws
 

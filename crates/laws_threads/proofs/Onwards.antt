@@ -94,17 +94,7 @@ IfOnwards c is fs (Some o) = Onwards c is fs o
 pub below_throwable : (x : Thrown) → is_subclass (class_of x) THROWABLE_CLASS ≡ true
 unfolding is_subclass
 below_throwable thrown.Throwable = refl
-below_throwable thrown.Exception = refl
-below_throwable thrown.Error = refl
-below_throwable thrown.RuntimeException = refl
-below_throwable thrown.InterruptedException = refl
-below_throwable thrown.ArithmeticException = refl
-below_throwable thrown.NullPointerException = refl
-below_throwable thrown.ArrayIndexOutOfBoundsException = refl
-below_throwable thrown.NegativeArraySizeException = refl
-below_throwable thrown.IllegalMonitorStateException = refl
-below_throwable thrown.OutOfMemoryError = refl
-below_throwable thrown.StackOverflowError = refl
+below_throwable x = refl
 
 module _ (c : MarkedProgram) (marked : IsMarked c) (is : Classes) where
   pub ends_above : (x : ℕ) (class : Thrown) (f : Frame) (fs : List Frame) → IsException is x class → HoldBelow c is f.method fs → Onwards c is (f ∷ fs) (unwound x class fs)

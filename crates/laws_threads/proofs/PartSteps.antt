@@ -63,9 +63,6 @@ worker_fits (suc zero) phase workers i x now e k fits = fits
 worker_fits (suc (suc part)) phase workers i x now e k fits = tt
 
 module _ (c : MarkedProgram) (x : Thread) (got : ℕ) where
-  stays_idle : x.phase ≡ phases.Idle → (moved c x x.phase got).phase ≡ phases.Idle
-  stays_idle e = ap (λ (phase : Phase). (moved c x phase got).phase) e ∙ e
-
   stays_over : x.phase ≡ phases.Ended ends.Returned → (moved c x x.phase got).phase ≡ phases.Ended ends.Returned
   stays_over e = ap (λ (phase : Phase). (moved c x phase got).phase) e ∙ e
 
@@ -75,7 +72,7 @@ module _ (c : MarkedProgram) (x : Thread) (got : ℕ) where
       let same : y ≡ x = cc in
       let here : PartFits x.part x.phase workers = subst (λ (z : Thread). PartFits z.part z.phase workers) same fits in
       subst (λ (n : ℕ). PartFits n (moved c x x.phase got).phase workers) (sym part) (first_fits x.part x.phase (moved c x x.phase got).phase workers stays_over here)
-  moved_fits (y ∷ workers) (suc t) e part fits = worker_fits y.part y.phase workers t x (moved c x x.phase got) e stays_idle fits
+  moved_fits (y ∷ workers) (suc t) e part fits = worker_fits y.part y.phase workers t x (moved c x x.phase got) e (λ e. ap (λ (phase : Phase). (moved c x phase got).phase) e ∙ e) fits
 
 pub event_fits : EventsFitParts
 event_fits c s t part fits = by_thread (slice_get s.threads t) refl

@@ -4,13 +4,12 @@ use Rattle.std.{specs.List.AllZip, proofs.lemmas.Bool.{ltb-true, Decides.nat_tes
 use Rattle.jvm_types.specs.Types.{TypeFrame}
 use Rattle.checked_program.specs.MarkedProgram.{MarkedProgram, IsMarked}
 use Rattle.machine_types.specs.{Elision.elided, Frames.{Top, frames_of, returned}, Going.{with_phase, goes_on, goes_on_if, goes_after}, HeldMonitors.{held_at, with_held, without_held, shallower}}
-use Rattle.machine_types.specs.{Monitors.lets_go, Onward.{Onward, Running, after, back, unwound}, Shown.Show, Standing.{Whole, Thrown}}
+use Rattle.machine_types.specs.{Monitors.lets_go, Onward.{Onward, Running, after, back, unwound}, Shown.Show, Standing.Whole}
 use Rattle.machine_types.specs.Structure.{AfterShows, AreHeldOnce, IsFlat, Stands, AttemptStandsIn, count_in, held_depth, tried_depth, once_at, entries_left, operands_after}
 use Rattle.machine_types.specs.{Threads.{Frame, Attempt, Thread}, Typed.{Classes, Holds, AfterHolds, FrameHolds, FramesHold}, declared.{lock.Held.Held, phase.{After.After, Phase.Phase}}}
-use Rattle.laws_threads.{specs.{CallLaws.HasHeight, StructureLaws.StaysStructured, ThrowLaws.ThrowsOn}, proofs.FramePlaces.{one_standing_law, tops_stand_law, have_tops_law}}
-use Rattle.laws_threads.proofs.{FrameReturns.return_behind_law, FrameThrows.unwind_behind_law, GoingOn.{OnwardShows, AttemptGoesOn, none_goes_on, onward_stands, going}}
+use Rattle.laws_threads.{specs.{CallLaws.HasHeight, StructureLaws.StaysStructured}, proofs.FramePlaces.{one_standing_law, tops_stand_law, have_tops_law}}
+use Rattle.laws_threads.proofs.{FrameReturns.return_behind_law, FrameThrows.unwind_behind_law, GoingOn.{back_shows, unwound_shows, OnwardShows, AttemptGoesOn, none_goes_on, onward_stands, going}}
 use Rattle.laws_threads.proofs.{HeldLists.{OneLess, lowered, depth_some, held_positive}, Leaves.leaves_inside, Turns.{no_attempt, held_outside}}
-use Rattle.jvm_types.specs.declared.outcome.Thrown as outcomes
 use Rattle.machine_types.specs.declared.lock.Kept.TheVariants as keeps
 use Rattle.machine_types.specs.declared.phase.After.TheVariants as afters
 use Rattle.machine_types.specs.declared.phase.Phase.TheVariants as phases
@@ -41,14 +40,6 @@ module _ (is : Classes) (c : MarkedProgram) (marked : IsMarked c) (m : ℕ) (sho
   less_shown : (rest : List ℕ) → shown ≡ m ∷ rest → (n : ℕ) → count_in n rest + once_at m n ≡ count_in n shown + 0
   less_shown rest e n = let all : count_in n shown ≡ once_at m n + count_in n rest = ap (count_in n) e in omega arith
 
-  back_shows : (fs : List Frame) (rest : List ℕ) → Show c Whole fs rest → OnwardShows c (back fs) rest
-  back_shows [] rest k = k
-  back_shows (f ∷ fs) rest k = (tt, k)
-
-  unwound_shows : (x : ℕ) (class : outcomes.Thrown) (fs : List Frame) (rest : List ℕ) → Show c Thrown fs rest → ThrowsOn c fs → OnwardShows c (unwound x class fs) rest
-  unwound_shows x class [] rest k t = k
-  unwound_shows x class (f ∷ fs) rest k t = (t, k)
-
   pub goes_behind : (a : After) (fs : List Frame) → Show c (operands_after a) fs shown → AfterShows c m a fs → AfterHolds c is a fs → GoesBehind c m a fs shown
   goes_behind afters.Next fs show leaves holds = record { onward = Running fs; is = refl; rest = shown; counts = λ n. refl; shows = (leaves, show) }
   goes_behind afters.Return [] show leaves holds = absurd leaves
@@ -57,10 +48,10 @@ module _ (is : Classes) (c : MarkedProgram) (marked : IsMarked c) (m : ℕ) (sho
       let stands = tops_stand_law c (f ∷ fs) Whole shown top.0 marked show top.1 in
       let typed : FramesHold c is (frames_of top.0) = subst (λ (gs : List Frame). FramesHold c is gs) stands.1.frames holds in
       let k = return_behind_law c (f ∷ fs) shown top.0 m marked top.1 show (has_height c is top.0.frame marked typed.0) leaves in
-      record { onward = back (returned c.program top.0); is = ap (λ (o : Option Top). option_map (λ (at : Top). back (returned c.program at)) o) top.1; rest = k.0; counts = less_shown k.0 k.1; shows = back_shows (returned c.program top.0) k.0 k.2 }
+      record { onward = back (returned c.program top.0); is = ap (λ (o : Option Top). option_map (λ (at : Top). back (returned c.program at)) o) top.1; rest = k.0; counts = less_shown k.0 k.1; shows = back_shows c (returned c.program top.0) k.0 k.2 }
   goes_behind (afters.Unwind x class) fs show leaves holds =
       let k = unwind_behind_law c fs shown m marked show leaves in
-      record { onward = unwound x class (drop 1 fs); is = refl; rest = k.0; counts = less_shown k.0 k.1; shows = unwound_shows x class (drop 1 fs) k.0 k.2 k.3 }
+      record { onward = unwound x class (drop 1 fs); is = refl; rest = k.0; counts = less_shown k.0 k.1; shows = unwound_shows c x class (drop 1 fs) k.0 k.2 k.3 }
 
 -- ---- one entry is given up
 
@@ -87,8 +78,15 @@ module _ (is : Classes) (c : MarkedProgram) (marked : IsMarked c) (was : Phase) 
       let now : StaysStructured c was (goes_on s g.onward) = going c was s k.once g.onward g.rest g.shows (λ n. let d = k.depths n in let e = g.counts n in omega arith) (inside g.onward g.rest g.is g.shows) in
       subst (λ (o : Option Onward). StaysStructured c was (goes_on_if s o)) (sym g.is) now
 
-module _ (is : Classes) (c : MarkedProgram) (marked : IsMarked c) (was : Phase) (s : Thread) (m : ℕ) (a : After) (k : Stands c (phases.Leave m a) s.frames s.held s.attempt) (inside : AttemptStandsIn c (phases.Leave m a) s.frames s.held s.attempt)
-    (holds : AfterHolds c is a s.frames) where
+-- a thread at the exit of a monitor
+pub record AtExit (is : Classes) (c : MarkedProgram) (m : ℕ) (a : After) (s : Thread) : Type 0 where
+  pub stands : Stands c (phases.Leave m a) s.frames s.held s.attempt
+  pub inside : AttemptStandsIn c (phases.Leave m a) s.frames s.held s.attempt
+  pub holds : AfterHolds c is a s.frames
+
+module _ (is : Classes) (c : MarkedProgram) (marked : IsMarked c) (was : Phase) (s : Thread) (m : ℕ) (a : After) (exit : AtExit is c m a s) where
+  open exit use {stands as k, inside, holds}
+
   -- of a monitor that is held
   pub left_with : (less : List Held) → OneLess m s.held less → s.attempt ≡ None → StaysStructured c was (goes_after c.program (record s { held = less }) a)
   left_with less one none = left is c marked was m a (record s { held = less }) k.shown

@@ -7,7 +7,7 @@ use Rattle.jvm_types.specs.declared.{outcome.Thrown.TheVariants.StackOverflowErr
 use Rattle.laws_programs.{specs.RootLaws.IsRoot, proofs.RootMethods.{class_inits, entries, run_root}}
 use Rattle.checked_program.specs.MarkedProgram.{MarkedProgram, IsMarked}
 use Rattle.machine_types.specs.{Bounds.part_roots, Events.thread_started, Frames.{has_room, entry_frame, first_or_null}, Onward.{Running, Uncaught, root_arguments, rooted}}
-use Rattle.machine_types.specs.{Parts.{numbers_of, is_entry_named, entries_named, init_roots, run_roots, done_roots}, Threads.Thread, Typed.{Classes, Holds}}
+use Rattle.machine_types.specs.{Parts.{numbers_of, is_entry_named, entries_named, init_roots}, Threads.Thread, Typed.{Classes, Holds}}
 use Rattle.laws_threads.proofs.{CalledEntries.{static_values, enters}, Onwards.{keeps_none, Onwards, IfOnwards}, ThreadTypes.{IsBasedIn, Rests, TypedBy, goes_if_typed}}
 use Rattle.jvm_types.specs.declared.program.Kind.TheVariants as kinds
 
@@ -27,11 +27,8 @@ numbered test (m ∷ ms) n k e = by_test (test m) refl e (numbered test ms (suc 
     later : Numbered test ms (suc n) k → Numbered test (m ∷ ms) n k
     later x = record { at = suc x.at; method = x.method; number = omega (arith, x.number); there = x.there; passes = x.passes }
 
-    here : (n == k) ≡ true → k ≡ n + 0
-    here h = grind (arith, nat_tests, h)
-
     by_here : (b : Bool) → (n == k) ≡ b → test m ≡ true → (b || has_number (numbers_of test (suc n) ms) k) ≡ true → (has_number (numbers_of test (suc n) ms) k ≡ true → Numbered test ms (suc n) k) → Numbered test (m ∷ ms) n k
-    by_here true h t e more = record { at = 0; method = m; number = here h; there = refl; passes = t }
+    by_here true h t e more = record { at = 0; method = m; number = grind (arith, nat_tests, h); there = refl; passes = t }
     by_here false h t e more = later (more e)
 
     by_test : (b : Bool) → test m ≡ b → has_number (if b then n ∷ numbers_of test (suc n) ms else numbers_of test (suc n) ms) k ≡ true → (has_number (numbers_of test (suc n) ms) k ≡ true → Numbered test ms (suc n) k) → Numbered test (m ∷ ms) n k
@@ -94,9 +91,6 @@ module _ (p : Program) (is : IsProgram p) where
       later true b e = refl
       later false b e = e
 
-      first : (a b : Bool) → a ≡ true → (a || b) ≡ true
-      first a b e = rw e refl
-
       by_first : (b : Bool) → (x == k) ≡ b → (b || has_number (xs ++ ys) k) ≡ true → (has_number (xs ++ ys) k ≡ true → IsSomeRoot m) → IsSomeRoot m
       by_first true t h more = f k m (first_true (x == k) (has_number xs k) t) e
       by_first false t h more = more h
@@ -109,17 +103,11 @@ module _ (p : Program) (is : IsProgram p) where
       (of_numbers (λ m. is_class_init_name m.name) (λ at m e h. inl (class_inits p at m is e h)))
       (of_numbers (is_entry_named (codes "init") (codes "()V")) (λ at m e h. entry_root (codes "init") at m refl (same_text m.name (codes "init")) e h))
 
-  runs : Roots (run_roots p)
-  runs = of_numbers (is_entry_named (codes "run") (codes "(I)V")) run_root_of
-
-  dones : Roots (done_roots p)
-  dones = of_numbers (is_entry_named (codes "done") (codes "()V")) (λ at m e h. entry_root (codes "done") at m refl (same_text m.name (codes "done")) e h)
-
   pub part_root : (number part k : ℕ) (m : MethodInfo) → has_number (part_roots p number part) k ≡ true → slice_get p.methods k ≡ Some m → IsSomeRoot m
   part_root zero zero k m h e = inits k m h e
   part_root zero (suc zero) k m h e = inits k m h e
-  part_root zero (suc (suc part)) k m h e = dones k m h e
-  part_root (suc number) part k m h e = runs k m h e
+  part_root zero (suc (suc part)) k m h e = of_numbers (is_entry_named (codes "done") (codes "()V")) (λ at m e h. entry_root (codes "done") at m refl (same_text m.name (codes "done")) e h) k m h e
+  part_root (suc number) part k m h e = of_numbers (is_entry_named (codes "run") (codes "(I)V")) run_root_of k m h e
 
 -- ---- their frames
 

@@ -6,21 +6,23 @@ use Rattle.jvm_types.specs.declared.{outcome.Thrown.{Thrown, TheVariants.StackOv
 use Rattle.checked_program.specs.{MarkedProgram.{MarkedProgram, IsMarked}, SectionLaws.{HasThis, ReadsOnly}, TaggedCode.{onward, row_of}, Tagging.tags_after, declared.section.Mode.Mode}
 use Rattle.machine_types.specs.Frames.{Top, effect_at, top_row, frame_on, went, went_on, waiting, taken_from, frames_of, has_room, entry_frame, arguments_of, monitor_of, given_back, returned}
 use Rattle.machine_types.specs.{Onward.{Onward, Running, Throwing, Entering, Leaving, threw, entered, called, back, returns, done}, ReadyObjects.{ready, thrown_of}}
-use Rattle.machine_types.specs.{Standing.{Standing, Whole, tags_of}, Structure.{IsPhaseInside, Stands, AttemptStands, Finishes, RunsSection, frames_inside, is_element_op}, Threads.{Frame, Attempt}}
+use Rattle.machine_types.specs.{Standing.{Standing, Whole, tags_of}, Structure.{IsPhaseInside, AttemptStands, Finishes, RunsSection, frames_inside, is_element_op}, Threads.{Frame, Attempt}}
 use Rattle.machine_types.specs.{Words.{header_class, header_length}, declared.effect.Effect.Effect}
-use Rattle.machine_types.specs.declared.effect.Effect.TheVariants.{Goes, Throws, Reads, Writes, Indexes, Measures, Raises, Makes, Prints, Calls, Returns, Enters, Leaves, Waits, Notifies, NotifiesAll, Stuck}
-use Rattle.machine_types.specs.declared.{lock.Held.Held, phase.Phase.Phase}
+use Rattle.machine_types.specs.declared.effect.Effect.TheVariants.{Goes, Throws, Reads, Measures, Raises, Calls, Returns, Enters, Leaves}
+use Rattle.machine_types.specs.declared.phase.Phase.{Phase}
 use Rattle.laws_threads.specs.InsideMoves.{GoesOnInside, OnwardStands, GoesAlong, StepsInside, ReadsElement, ElementsInside}
 use Rattle.laws_threads.proofs.{AttemptMoves.{next_edge, stands_inner, put_back_top, only_entry, along, returned_on}, Base.{own_part, entry_of, of_synchronized, as_many_at_exit, none_inside}}
 use Rattle.laws_threads.proofs.{CallOps.is_receiver, EffectOps.{Does, GoesElsewhere, goes_behind, OnlyLeaves, exit_leaves}, FrameReturns.leaves_none}
 use Rattle.laws_threads.proofs.FramesInside.{one_more, put_back_over, alone_inside}
-use Rattle.laws_threads.proofs.{Inside.{base_below, runs_inside, stands_on, stays, stack_this, top_shows, top_does, takes_owned, locking, calls_on, leaves_on, not_finished}, Leaves.lands}
+use Rattle.laws_threads.proofs.{Inside.{InAttempt, base_below, runs_inside, stands_on, stays, stack_this, top_shows, top_does, takes_owned, locking, calls_on, leaves_on, not_finished}, Leaves.lands}
 use Rattle.laws_threads.proofs.{SectionFrames.{Runs, IsExitOf, moved, invoked, reads, row_stands}, Standings.{top_here, top_at_standing, stands_too, one_insn}}
 use Rattle.jvm_types.specs.declared.code.Op.TheVariants as ops
 use Rattle.machine_types.specs.declared.phase.After.TheVariants as afters
 use Rattle.machine_types.specs.declared.phase.Phase.TheVariants as phases
 
-module _ (c : MarkedProgram) (marked : IsMarked c) (f : Frame) (below : List Frame) (held : List Held) (a : Attempt) (k : AttemptStands c phases.Run (f ∷ below) held a) (s : Stands c phases.Run (f ∷ below) held (Some a)) where
+module _ (c : MarkedProgram) (marked : IsMarked c) (thread : InAttempt c phases.Run) where
+  open thread use {frame as f, below, held, attempt as a, tries as k, agrees as s}
+
   abbrev r : Runs c a f (frames_inside a below)
   r = runs_inside c phases.Run f below held a k (not_finished a (frames_inside a (f ∷ below)))
 
@@ -154,20 +156,13 @@ module _ (c : MarkedProgram) (marked : IsMarked c) (f : Frame) (below : List Fra
   onwards (Goes to made) is d edge got result e l = lands c held a (Running (went c.program top to made)) result (goes to made edge (no_exit (Goes to made) is)) e l
   onwards (Throws x) is d edge got result e l = lands c held a (threw x top) result (λ st. throws (ready x) x) e l
   onwards (Reads v) is d edge got result e l = lands c held a (Running (went_on c.program top got)) result (goes_on (Reads v) got is (λ x. x) (λ x. x)) e l
-  onwards (Writes v word) is d edge got result e l = absurd d
-  onwards (Indexes array index stored) is d edge got result e l = absurd (cc)
   onwards (Measures array) is d edge got result e l = lands c held a (Running (went_on c.program top (header_length got))) result (goes_on (Measures array) (header_length got) is (λ x. x) (λ x. x)) e l
   onwards (Raises x) is d edge got result e l = raises (thrown_of (header_class got)) x result e
-  onwards (Makes word size) is d edge got result e l = absurd d
-  onwards (Prints n) is d edge got result e l = absurd d
   onwards (Calls number) is d edge got result e l = called_by number (slice_get c.program.methods number) refl d result e l
   onwards Returns is d edge got result e l = lands c held a (returns c.program top) result (returns_by (is_synchronized r.stands.method.flags) refl d) e l
   onwards (Enters n) is d edge got result e l = lands c held a (Entering n (went_on c.program top 0)) result (enters n is d) e l
   onwards (Leaves n) is d edge got result e l = lands c held a (Leaving n afters.Next (went_on c.program top 0)) result (leaves n is d) e l
-  onwards (Waits n) is d edge got result e l = absurd d
-  onwards (Notifies n) is d edge got result e l = absurd d
-  onwards (NotifiesAll n) is d edge got result e l = absurd d
-  onwards Stuck is d edge got result e l = absurd (cc)
+  onwards w is d edge got result e l = absurd (first_of (assumption, cc))
 
   pub steps : (got : ℕ) (result : Onward) → GoesAlong r.stands.insn (effect_at c.program top) → done c.program top (effect_at c.program top) got ≡ Some result → OnwardStands c result → GoesOnInside c result held a
   steps got result edge e l = onwards (effect_at c.program top) refl (top_does c marked phases.Run f below held a k r this) edge got result e l
@@ -175,8 +170,9 @@ module _ (c : MarkedProgram) (marked : IsMarked c) (f : Frame) (below : List Fra
 pub steps_inside : StepsInside
 steps_inside c [] held a at got result marked k s t edge e l = absurd (cc)
 steps_inside c (f ∷ below) held a at got result marked k s t edge e l =
-    let same = top_at_standing c marked f below (r c marked f below held a k s).stands at t in
-    subst (λ x. GoesAlong x.insn (effect_at c.program x) → done c.program x (effect_at c.program x) got ≡ Some result → OnwardStands c result → GoesOnInside c result held a) same (steps c marked f below held a k s got result) edge e l
+    let thread : InAttempt c phases.Run = record { frame = f; below = below; held = held; attempt = a; tries = k; agrees = s } in
+    let same = top_at_standing c marked f below (r c marked thread).stands at t in
+    subst (λ x. GoesAlong x.insn (effect_at c.program x) → done c.program x (effect_at c.program x) got ≡ Some result → OnwardStands c result → GoesOnInside c result held a) same (steps c marked thread got result) edge e l
 
 -- ---- elements
 
@@ -189,30 +185,38 @@ reads_element c mode o method place stored op target vs e h = absurd (cc)
 element_not_finished : (a : Attempt) (word : ℕ) (stored : Option ℕ) (fs : List Frame) → Finishes a (phases.Element word stored) fs → ⊥
 element_not_finished a word stored fs x = let bad = x.leaves in cc
 
-module _ (c : MarkedProgram) (marked : IsMarked c) (word : ℕ) (stored : Option ℕ) (f : Frame) (below : List Frame) (held : List Held) (a : Attempt) (k : AttemptStands c (phases.Element word stored) (f ∷ below) held a) (s : Stands c (phases.Element word stored) (f ∷ below) held (Some a)) where
-  -- it stands as before the instruction
-  attempt_before : AttemptStands c phases.Run (f ∷ below) held a
-  attempt_before = stays c (phases.Element word stored) phases.Run f below held a k tt (element_not_finished a word stored (frames_inside a (f ∷ below)))
+module _ (c : MarkedProgram) (marked : IsMarked c) (word : ℕ) (stored : Option ℕ) (thread : InAttempt c (phases.Element word stored)) where
+  open thread use {frame as f, below, held, attempt as a, tries as k, agrees as s}
 
-  before : Stands c phases.Run (f ∷ below) held (Some a)
-  before = record { shown = s.shown; show = s.show; depths = s.depths; once = s.once; phase_shows = tt }
+  -- it stands as before the instruction
+  abbrev before : InAttempt c phases.Run
+  before = record {
+    frame = f;
+    below = below;
+    held = held;
+    attempt = a;
+    tries = stays c (phases.Element word stored) phases.Run f below held a k tt (element_not_finished a word stored (frames_inside a (f ∷ below)));
+    agrees = record { shown = s.shown; show = s.show; depths = s.depths; once = s.once; phase_shows = tt };
+  }
 
   abbrev runs : Runs c a f (frames_inside a below)
-  runs = r c marked f below held a attempt_before before
+  runs = r c marked before
 
   at_element : (stored ≡ None) × (runs.stands.insn.op ≡ ops.Iaload)
   at_element =
       reads_element c runs.mode a.entry.receiver f.method runs.stands.number stored runs.stands.insn.op runs.stands.target f.stack
       (ap (λ (i : Insn). is_element_op stored i.op) (one_insn c marked f runs.stands s.phase_shows.0) ∙ s.phase_shows.1)
-      (reads c marked a k.uses k.are_uses k.marked f (frames_inside a below) runs f.stack (this c marked f below held a attempt_before before))
+      (reads c marked a k.uses k.are_uses k.marked f (frames_inside a below) runs f.stack (this c marked before))
 
   element : ReadsElement c stored held a (top_here c f below runs.stands)
   element = record {
     read = at_element.0;
-    owned = takes_owned c marked phases.Run f below held a attempt_before runs (this c marked f below held a attempt_before before) at_element.1;
-    goes_on = λ value l. goes c marked f below held a attempt_before before runs.stands.insn.next value (next_edge runs.stands.insn (ap falls_through at_element.1)) (λ x. let bad : ops.Iaload ≡ ops.Monitorexit = sym at_element.1 ∙ x in cc) l;
+    owned = takes_owned c marked phases.Run f below held a before.tries runs (this c marked before) at_element.1;
+    goes_on = λ value l. goes c marked before runs.stands.insn.next value (next_edge runs.stands.insn (ap falls_through at_element.1)) (λ x. let bad : ops.Iaload ≡ ops.Monitorexit = sym at_element.1 ∙ x in cc) l;
   }
 
 pub elements_inside : ElementsInside
 elements_inside c word stored [] held a at marked k s t = absurd s.phase_shows
-elements_inside c word stored (f ∷ below) held a at marked k s t = subst (λ x. ReadsElement c stored held a x) (top_at_standing c marked f below (runs c marked word stored f below held a k s).stands at t) (element c marked word stored f below held a k s)
+elements_inside c word stored (f ∷ below) held a at marked k s t =
+    let thread : InAttempt c (phases.Element word stored) = record { frame = f; below = below; held = held; attempt = a; tries = k; agrees = s } in
+    subst (λ x. ReadsElement c stored held a x) (top_at_standing c marked f below (runs c marked word stored thread).stands at t) (element c marked word stored thread)

@@ -1,6 +1,6 @@
 -- What an event makes of its thread: one of these moves, each with what led to it. A law that every event keeps something is a
 -- match on them.
-use Rattle.std.proofs.Common.{◌≡◌, ℕ, zero, suc, ◌+◌, ◌==◌, nat_lt, Bool, true, false, List, [], ◌∷◌, length, Option, Some, None, refl, sym, subst, arith, nat_le, slice_get, option_map, ◌&&◌, if◌then◌else◌}
+use Rattle.std.proofs.Common.{◌≡◌, ℕ, zero, suc, ◌+◌, ◌==◌, nat_lt, Bool, true, false, List, [], ◌∷◌, length, Option, Some, None, refl, sym, subst, arith, nat_le, slice_get, option_map, ◌&&◌, if◌then◌else◌, IfSome}
 use Rattle.std.proofs.lemmas.Bool.Decides.{Decides-eqb}
 use Rattle.lists.proofs.TestLaws.{both_are_true}
 use Rattle.jvm_types.specs.{Numbers.has_flag, declared.{fixed_words.TheConstants.MONITOR_RECORDS, limits.TheConstants.{FLAG_FROM, MOST_ATTEMPTS}, outcome.{End.End, Thrown.Thrown}}}
@@ -13,7 +13,7 @@ use Rattle.machine_types.specs.{Ints.low, LockWords.{word_of_lock, lock_of}}
 use Rattle.machine_types.specs.Monitors.{Claim, Has, Tries, HasNot, claim_by, claim, acquires, enter_moves, takes, finishes, released, lets_go, leave_moves, grows_not, grown, fattens, bit_of, goes_to_wait, retakes, lowest_of}
 use Rattle.machine_types.specs.{Onward.{Onward, Running, Throwing, Entering, Leaving, RootReturned, Uncaught, threw, rooted, handed, done}, ReadyObjects.class_of, Threads.{Frame, Attempt, Thread}}
 use Rattle.machine_types.specs.{Words.{header_length, value_word}, declared.effect.Effect.Effect}
-use Rattle.machine_types.specs.declared.effect.Effect.TheVariants.{Goes, Throws, Reads, Writes, Indexes, Measures, Raises, Makes, Prints, Calls, Returns, Enters, Leaves, Waits, Notifies, NotifiesAll, Stuck}
+use Rattle.machine_types.specs.declared.effect.Effect.TheVariants.{Indexes, Makes, Prints, Waits, Notifies, NotifiesAll}
 use Rattle.machine_types.specs.declared.{lock.{Held.Held, Kept.Kept, LockWord.LockWord}, phase.{After.After, Phase.Phase, Toward.Toward}}
 use Rattle.jvm_types.specs.declared.outcome.End.TheVariants as ends
 use Rattle.machine_types.specs.declared.lock.Kept.TheVariants as keeps
@@ -277,17 +277,7 @@ module _ (c : MarkedProgram) (s : Thread) (got : ℕ) where
     did_made (Waits m) is = if_held_made m (held_at s.held m) refl (waits_unheld m is) (waits (record s { frames = went_on c.program at 0 }) m) (waits_made m is)
     did_made (Notifies m) is = if_held_made m (held_at s.held m) refl (notifies_unheld m (of_one is)) (notifies (record s { frames = went_on c.program at 0 }) (phases.NotifyLook m)) (notifies_made m (phases.NotifyLook m) (of_one is) looks_who)
     did_made (NotifiesAll m) is = if_held_made m (held_at s.held m) refl (notifies_unheld m (of_all is)) (notifies (record s { frames = went_on c.program at 0 }) (phases.NotifyAll m)) (notifies_made m (phases.NotifyAll m) (of_all is) clears_all)
-    did_made (Goes to made) is = done_made (Goes to made) is tt (done c.program at (Goes to made) got) refl
-    did_made (Throws x) is = done_made (Throws x) is tt (done c.program at (Throws x) got) refl
-    did_made (Reads v) is = done_made (Reads v) is tt (done c.program at (Reads v) got) refl
-    did_made (Writes v word) is = done_made (Writes v word) is tt (done c.program at (Writes v word) got) refl
-    did_made (Measures array) is = done_made (Measures array) is tt (done c.program at (Measures array) got) refl
-    did_made (Raises x) is = done_made (Raises x) is tt (done c.program at (Raises x) got) refl
-    did_made (Calls number) is = done_made (Calls number) is tt (done c.program at (Calls number) got) refl
-    did_made Returns is = done_made Returns is tt (done c.program at Returns got) refl
-    did_made (Enters m) is = done_made (Enters m) is tt (done c.program at (Enters m) got) refl
-    did_made (Leaves m) is = done_made (Leaves m) is tt (done c.program at (Leaves m) got) refl
-    did_made Stuck is = done_made Stuck is tt (done c.program at Stuck got) refl
+    did_made e is = done_made e is tt (done c.program at e got) refl
 
   -- behind a check
   checked_made : (was : Phase) (o : Option Attempt) → s.attempt ≡ o → ((t : Attempt) → Checks c.program s t was) → (more : Thread) → Made was more → Made was (if_same s o got more)
@@ -466,6 +456,11 @@ counted_move P c s phase got f = by_move P c s phase got (by_count phase (f s.co
 -- either way
 pub if_either : {A : Type 0} (P : A → Type 0) (b : Bool) (x y : A) → P x → P y → P (if b then x else y)
 if_either P b x y h k = by_test P b x y (λ t. h) (λ t. k)
+
+-- whatever an option is mapped to
+pub if_mapped : {A B : Type 0} (P : B → Type 0) (o : Option A) (more : A → B) → ((a : A) → P (more a)) → IfSome (option_map more o) P
+if_mapped P None more f = tt
+if_mapped P (Some a) more f = f a
 
 -- ---- the phases that led to a move
 

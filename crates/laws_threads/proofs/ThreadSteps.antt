@@ -1,19 +1,19 @@
 -- Each event of a thread keeps its locking structured.
 use Rattle.std.proofs.Common.{◌≡◌, inl, inr, ℕ, ◌<◌, Bool, true, false, cond, List, [], ◌∷◌, ◌++◌, length, Option, Some, None, refl, sym, ap, ◌∙◌, subst, arith, ◌+◌, nat_lt, slice_get, option_map, ◌&&◌, IsTrue}
 use Rattle.std.specs.List.{AllByRecursion}
-use Rattle.jvm_types.specs.{CodeTable.can_throw, Members.is_synchronized, Numbers.has_number, declared.{limits.TheConstants.MOST_ATTEMPTS, outcome.{End.End, Thrown.TheVariants.StackOverflowError}}}
+use Rattle.jvm_types.specs.{Members.is_synchronized, Numbers.has_number, declared.{limits.TheConstants.MOST_ATTEMPTS, outcome.{End.End, Thrown.TheVariants.StackOverflowError}}}
 use Rattle.jvm_types.specs.declared.program.{MethodInfo.MethodInfo, Row.Row}
 use Rattle.checked_program.specs.MarkedProgram.{MarkedProgram, IsMarked}
 use Rattle.machine_types.specs.{Bounds.{IsRooted, part_roots}, Elision.{may_try, enters_marked}, Events.{thread_started, element_made, moved}}
 use Rattle.machine_types.specs.{Frames.{Top, top_of, frames_of, went_on, pushed, has_room, entry_frame, monitor_of, handler_at}, Going.{with_phase, failed_turn, goes_on, goes_on_if}}
 use Rattle.machine_types.specs.{HeldMonitors.{held_at, without_held}, Monitors.{lets_go, lowest_of, HasNot, claim}}
 use Rattle.machine_types.specs.{Onward.{Running, Leaving, Uncaught, rooted, root_arguments, handed, unwound, Onward}, ReadyObjects.class_of, Shown.Show, Standing.{Whole, Thrown}}
-use Rattle.machine_types.specs.{Structure.{HasFrame, TopIs, Stands, AttemptStandsIn, IsStructured, IsAs, IsLimitAt, IsPhaseInside, count_in, any_op}, Threads.{Frame, Attempt, Thread}}
+use Rattle.machine_types.specs.{Structure.{Stands, AttemptStandsIn, IsStructured, IsAs, IsLimitAt, IsPhaseInside, count_in, any_op}, Threads.{Frame, Attempt, Thread}}
 use Rattle.machine_types.specs.{Typed.{Classes, AfterHolds, PhaseHolds, ThreadHolds}, declared.{lock.{Held.Held, Kept.Kept}, phase.{After.After, Phase.Phase}}}
 use Rattle.laws_threads.specs.{CallLaws.IsLeft, InsideMoves.{BeginsAttempt, EntersInside}, StructureLaws.{StaysStructured, StructureIsKept, counted_by, turned_from}, ThrowLaws.ThrowsOn}
-use Rattle.laws_threads.proofs.{FrameCalls.roots_law, FramePlaces.tops_stand_law, FrameThrows.{caught_law, unwound_law}, GoingOn.{OnwardShows, AttemptGoesOn, none_goes_on, onward_stands, going}}
+use Rattle.laws_threads.proofs.{FrameCalls.roots_law, FramePlaces.tops_stand_law, FrameThrows.{caught_law, unwound_law}, GoingOn.{unwound_shows, pushed_frame, OnwardShows, AttemptGoesOn, none_goes_on, onward_stands, going}}
 use Rattle.laws_threads.proofs.MonitorEntries.{from_take, from_flag, from_take_fat, takes_next, takes_fat_next, looks_again, flags, turned_back, turned_back_fat, looks_at_lock, taken, again, to_acquire, begun, deeper_inside, none_tried}
-use Rattle.laws_threads.proofs.{MoveProofs.{elements_law, pushed_law}, Releases.{left_with, left_deeper, left_last, grows_first, left_elided, left_inside}, Roots.{IsSomeRoot, part_root}}
+use Rattle.laws_threads.proofs.{MoveProofs.{elements_law, pushed_law}, Releases.{AtExit, left_with, left_deeper, left_last, grows_first, left_elided, left_inside}, Roots.{IsSomeRoot, part_root}}
 use Rattle.laws_threads.proofs.Steps.{elements_inside}
 use Rattle.laws_threads.proofs.ThreadMove.{Looks, Lacks, GoesBy, Checks, LeadsTo, TurnsTo, Takes, GivesUp, Move, becomes, mover, by_move, of_mover, not_held, tried_attempt, tried_monitor}
 use Rattle.laws_threads.proofs.{Throws.throws_inside, Turns.{failing, no_attempt, outside}}
@@ -28,40 +28,33 @@ use Rattle.laws_threads.proofs.HeldLists as lists
 use Rattle.laws_threads.proofs.Instructions as instruction
 use Rattle.laws_threads.proofs.ThreadMove as moves
 
--- ---- an exception and one frame
-
-module _ (c : MarkedProgram) (marked : IsMarked c) (fs : List Frame) (shown : List ℕ) (at : Top) (t : top_of c.program fs ≡ Some at) (show : Show c Thrown fs shown) (throws : TopIs c can_throw fs) (x : ℕ) (class : outcomes.Thrown) where
-  unwound_onward : (below : List Frame) (rest : List ℕ) → Show c Thrown below rest → ThrowsOn c below → OnwardShows c (unwound x class below) rest
-  unwound_onward [] rest k on = k
-  unwound_onward (f ∷ below) rest k on = (on, k)
-
-  handed_shows : (r : Option Row) → handler_at (class_of class) at ≡ r → OnwardShows c (handed c.program x class at r) shown
-  handed_shows (Some r) e = (tt, caught_law c fs shown at (class_of class) x r marked t show throws e)
-  handed_shows None e = by_flag (is_synchronized at.method.flags) refl left.0.own
-    where
-      left : IsLeft c at any_op Thrown at.below shown × ThrowsOn c at.below
-      left = unwound_law c fs shown at (class_of class) marked t show throws e
-
-      is_top : fs ≡ frames_of at
-      is_top = (tops_stand_law c fs Thrown shown at marked show t).1.frames
-
-      by_flag : (b : Bool) → is_synchronized at.method.flags ≡ b → shown ≡ cond b (monitor_of c.program at.method at.frame ∷ []) [] ++ left.0.rest
-          → OnwardShows c (cond b (Leaving (monitor_of c.program at.method at.frame) (afters.Unwind x class) (frames_of at)) (unwound x class at.below)) shown
-      by_flag true f own = record { leaves = left.0.leaves f; now = shown; counts = λ n. omega arith; show = subst (λ (gs : List Frame). Show c Thrown gs shown) is_top show }
-      by_flag false f own = subst (λ (ns : List ℕ). OnwardShows c (unwound x class at.below) ns) (sym own) (unwound_onward at.below left.0.rest left.0.show left.1)
-
 module _ (c : MarkedProgram) (marked : IsMarked c) (was : Phase) (s : Thread) where
-  throw_keeps : (x : ℕ) (class : outcomes.Thrown) → Stands c (phases.Throw x class) s.frames s.held s.attempt → AttemptStandsIn c (phases.Throw x class) s.frames s.held s.attempt → (at : Top) → top_of c.program s.frames ≡ Some at
-      → StaysStructured c was (goes_on s (handed c.program x class at (handler_at (class_of class) at)))
-  throw_keeps x class k inside at t = going c was s k.once (handed c.program x class at (handler_at (class_of class) at)) k.shown shows (λ m. let d = k.depths m in omega arith) (by_attempt s.attempt refl)
-    where
-      shows : OnwardShows c (handed c.program x class at (handler_at (class_of class) at)) k.shown
-      shows = handed_shows c marked s.frames k.shown at t k.show k.phase_shows x class (handler_at (class_of class) at) refl
+  -- ---- an exception and one frame
 
-      by_attempt : (o : Option Attempt) → s.attempt ≡ o → AttemptGoesOn c (handed c.program x class at (handler_at (class_of class) at)) s.held o
-      by_attempt None e = tt
-      by_attempt (Some a) e = throws_inside c x class s.frames s.held a at marked (subst (λ (o : Option Attempt). AttemptStandsIn c (phases.Throw x class) s.frames s.held o) e inside)
-          (subst (λ (o : Option Attempt). Stands c (phases.Throw x class) s.frames s.held o) e k) t (onward_stands c (handed c.program x class at (handler_at (class_of class) at)) k.shown shows)
+  module _ (x : ℕ) (class : outcomes.Thrown) (k : Stands c (phases.Throw x class) s.frames s.held s.attempt) (at : Top) (t : top_of c.program s.frames ≡ Some at) where
+    handed_shows : (r : Option Row) → handler_at (class_of class) at ≡ r → OnwardShows c (handed c.program x class at r) k.shown
+    handed_shows (Some r) e = (tt, caught_law c s.frames k.shown at (class_of class) x r marked t k.show k.phase_shows e)
+    handed_shows None e = by_flag (is_synchronized at.method.flags) refl left.0.own
+      where
+        left : IsLeft c at any_op Thrown at.below k.shown × ThrowsOn c at.below
+        left = unwound_law c s.frames k.shown at (class_of class) marked t k.show k.phase_shows e
+
+        by_flag : (b : Bool) → is_synchronized at.method.flags ≡ b → k.shown ≡ cond b (monitor_of c.program at.method at.frame ∷ []) [] ++ left.0.rest
+            → OnwardShows c (cond b (Leaving (monitor_of c.program at.method at.frame) (afters.Unwind x class) (frames_of at)) (unwound x class at.below)) k.shown
+        by_flag true f own =
+            record { leaves = left.0.leaves f; now = k.shown; counts = λ n. omega arith; show = subst (λ (gs : List Frame). Show c Thrown gs k.shown) (tops_stand_law c s.frames Thrown k.shown at marked k.show t).1.frames k.show }
+        by_flag false f own = subst (λ (ns : List ℕ). OnwardShows c (unwound x class at.below) ns) (sym own) (unwound_shows c x class at.below left.0.rest left.0.show left.1)
+
+    throw_keeps : AttemptStandsIn c (phases.Throw x class) s.frames s.held s.attempt → StaysStructured c was (goes_on s (handed c.program x class at (handler_at (class_of class) at)))
+    throw_keeps inside = going c was s k.once (handed c.program x class at (handler_at (class_of class) at)) k.shown shows (λ m. let d = k.depths m in omega arith) (by_attempt s.attempt refl)
+      where
+        shows : OnwardShows c (handed c.program x class at (handler_at (class_of class) at)) k.shown
+        shows = handed_shows (handler_at (class_of class) at) refl
+
+        by_attempt : (o : Option Attempt) → s.attempt ≡ o → AttemptGoesOn c (handed c.program x class at (handler_at (class_of class) at)) s.held o
+        by_attempt None e = tt
+        by_attempt (Some a) e = throws_inside c x class s.frames s.held a at marked (subst (λ (o : Option Attempt). AttemptStandsIn c (phases.Throw x class) s.frames s.held o) e inside)
+            (subst (λ (o : Option Attempt). Stands c (phases.Throw x class) s.frames s.held o) e k) t (onward_stands c (handed c.program x class at (handler_at (class_of class) at)) k.shown shows)
 
   -- ---- an element, and a new object
 
@@ -76,10 +69,6 @@ module _ (c : MarkedProgram) (marked : IsMarked c) (was : Phase) (s : Thread) wh
       by_attempt None e = tt
       by_attempt (Some a) e = (elements_inside c word stored s.frames s.held a at marked (subst (λ (o : Option Attempt). AttemptStandsIn c (phases.Element word stored) s.frames s.held o) e inside)
           (subst (λ (o : Option Attempt). Stands c (phases.Element word stored) s.frames s.held o) e k) t).goes_on value (onward_stands c (Running (went_on c.program at value)) k.shown shows)
-
-  pushed_frame : (a : ℕ) (fs : List Frame) → HasFrame fs → HasFrame (pushed a fs)
-  pushed_frame a [] k = absurd k
-  pushed_frame a (f ∷ fs) k = tt
 
   made_keeps : (a word : ℕ) → Stands c (phases.Made a word) s.frames s.held s.attempt → s.attempt ≡ None → StaysStructured c was (goes_on s (Running (pushed a s.frames)))
   made_keeps a word k none = going c was s k.once (Running (pushed a s.frames)) k.shown (pushed_frame a s.frames k.phase_shows, pushed_law c s.frames k.shown a k.show) (λ m. let d = k.depths m in omega arith)
@@ -139,8 +128,7 @@ over_counts was e l = sym l
 
 -- ---- all moves
 
-module _ (begin : BeginsAttempt) (entered_again : EntersInside) (is : Classes) (c : MarkedProgram) (marked : IsMarked c) (was : Phase) (s : Thread) (got : ℕ) (structured : IsStructured c was s)
-    (roots : AllByRecursion (λ (number : ℕ). IsTrue (has_number (part_roots c.program s.number s.part) number)) s.roots) where
+module _ (begin : BeginsAttempt) (entered_again : EntersInside) (is : Classes) (c : MarkedProgram) (marked : IsMarked c) (was : Phase) (s : Thread) (got : ℕ) (structured : IsStructured c was s) where
   abbrev Keeps : Thread → Type 0
   Keeps y = StaysStructured c was y
 
@@ -161,11 +149,14 @@ module _ (begin : BeginsAttempt) (entered_again : EntersInside) (is : Classes) (
   from : (phase : Phase) (now : Thread) → was ≡ phase → StaysStructured c phase now → StaysStructured c was now
   from phase now e k = subst (λ (x : Phase). StaysStructured c x now) (sym e) k
 
+  leaving : (m : ℕ) (a : After) → was ≡ phases.Leave m a → AfterHolds c is a s.frames → AtExit is c m a s
+  leaving m a e h = record { stands = at (phases.Leave m a) e; inside = within (phases.Leave m a) e; holds = h }
+
   left_flat : (m : ℕ) (a : After) → Stands c (phases.FlatOut m a) s.frames s.held s.attempt → s.attempt ≡ None → AfterHolds c is a s.frames → StaysStructured c was (lets_go c.program s m a)
-  left_flat m a k none holds = left_with is c marked was s m a leaves (no_attempt c (phases.Leave m a) s.frames s.held s.attempt none) holds (without_held m s.held) (lists.released m s.held k.once k.phase_shows.once) none
+  left_flat m a k none h = left_with is c marked was s m a exit (without_held m s.held) (lists.released m s.held k.once k.phase_shows.once) none
     where
-      leaves : Stands c (phases.Leave m a) s.frames s.held s.attempt
-      leaves = record { shown = k.shown; show = k.show; depths = k.depths; once = k.once; phase_shows = k.phase_shows.toward_shows }
+      exit : AtExit is c m a s
+      exit = record { stands = record { shown = k.shown; show = k.show; depths = k.depths; once = k.once; phase_shows = k.phase_shows.toward_shows }; inside = no_attempt c (phases.Leave m a) s.frames s.held s.attempt none; holds = h }
 
   may_marked : (tried : ℕ) → may_try c s tried ≡ true → enters_marked c s.frames ≡ true
   may_marked tried e = last_of s.cfg.elide (nat_lt tried MOST_ATTEMPTS) (enters_marked c s.frames) e
@@ -178,16 +169,8 @@ module _ (begin : BeginsAttempt) (entered_again : EntersInside) (is : Classes) (
 
   -- where its event takes nothing
   lacks_keeps : (phase : Phase) → Lacks c s got phase → s.phase ≡ phase → IsAs phase was → Keeps s
-  lacks_keeps _ moves.idle here e = same phases.Idle here (sym e)
   lacks_keeps _ (moves.over reason) here e = same (phases.Ended reason) here (over_counts was reason e)
-  lacks_keeps _ (moves.no_root r) here e = same phases.Start here (sym e)
-  lacks_keeps _ (moves.no_instruction t) here e = same phases.Run here (sym e)
-  lacks_keeps _ (moves.no_way top x t f silent d) here e = same phases.Run here (sym e)
-  lacks_keeps _ (moves.no_place word stored t) here e = same (phases.Element word stored) here (sym e)
-  lacks_keeps _ (moves.no_catcher x class t) here e = same (phases.Throw x class) here (sym e)
-  lacks_keeps _ (moves.no_claim m a f) here e = same (phases.Leave m a) here (sym e)
-  lacks_keeps _ (moves.not_fat m r toward f) here e = same (phases.FatIn m r toward) here (sym e)
-  lacks_keeps _ (moves.not_waiting m r f) here e = same (phases.WaitOut m r) here (sym e)
+  lacks_keeps phase k here e = same phase here (sym e)
 
   goes_keeps : (phase : Phase) (o : Onward) → GoesBy c.program s got phase o → s.phase ≡ phase → IsAs phase was → Keeps (goes_on s o)
   goes_keeps _ o (moves.by_effect top x _ t f silent d) here e = instruction.does c marked s top t (at phases.Run e) (within phases.Run e) was (same phases.Run here (sym e)) x got o f d
@@ -195,7 +178,7 @@ module _ (begin : BeginsAttempt) (entered_again : EntersInside) (is : Classes) (
   goes_keeps _ _ (moves.by_nobody top m count h t y there l) here e = instruction.notifies_nobody c marked s top t (at phases.Run e) (within phases.Run e) was (same phases.Run here (sym e)) m y
   goes_keeps _ _ (moves.by_element word stored top t) here e = element_keeps c marked was s word stored (element_made stored got) (at (phases.Element word stored) e) (within (phases.Element word stored) e) top t
   goes_keeps _ _ (moves.by_object a word) here e = made_keeps c marked was s a word (at (phases.Made a word) e) (none_in (phases.Made a word) (λ m k. k) e)
-  goes_keeps _ _ (moves.by_handler x class top t) here e = throw_keeps c marked was s x class (at (phases.Throw x class) e) (within (phases.Throw x class) e) top t
+  goes_keeps _ _ (moves.by_handler x class top t) here e = throw_keeps c marked was s x class (at (phases.Throw x class) e) top t (within (phases.Throw x class) e)
   goes_keeps _ _ (moves.by_none m r f) here e = from (phases.NotifyLook m r) _ e (notified c s m r (none_in (phases.NotifyLook m r) (λ n k. k) e) (at (phases.NotifyLook m r) e))
   goes_keeps _ _ (moves.by_one m r u) here e = from (phases.NotifyOne m r u) _ e (notified_one c s m r (none_in (phases.NotifyOne m r u) (λ n k. k) e) u (at (phases.NotifyOne m r u) e))
   goes_keeps _ _ (moves.by_all m r) here e = from (phases.NotifyAll m r) _ e (notified_all c s m r (none_in (phases.NotifyAll m r) (λ n k. k) e) (at (phases.NotifyAll m r) e))
@@ -233,7 +216,7 @@ module _ (begin : BeginsAttempt) (entered_again : EntersInside) (is : Classes) (
   leads_keeps phase _ (moves.to_take m count k f) here e h = let l = looks_stands m phase k e in takes_next c s m was l.0 l.1 count
   leads_keeps phase _ (moves.to_take_fat m r k f) here e h = let l = looks_stands m phase k e in takes_fat_next c s m was l.0 l.1 r
   leads_keeps _ _ (moves.from_flag m u) here e h = looks_at_lock c s m was (from_flag c s m u (at (phases.Flag m u) e))
-  leads_keeps _ _ (moves.to_grow m count a x f last l) here e h = grows_first is c marked was s m a (at (phases.Leave m a) e) (within (phases.Leave m a) e) h x f count last l
+  leads_keeps _ _ (moves.to_grow m count a x f last l) here e h = grows_first is c marked was s m a (leaving m a e h) x f count last l
   leads_keeps _ _ (moves.to_own m toward f) here e h = from (phases.Grow m toward) _ e (to_own c s m (none_in (phases.Grow m toward) (λ n k. k) e) got toward (at (phases.Grow m toward) e))
   leads_keeps _ _ (moves.to_flat_out m a f) here e h = from (phases.Grow m (towards.Leave a)) _ e (not_grown c s m (none_in (phases.Grow m (towards.Leave a)) (λ n k. k) e) (towards.Leave a) (at (phases.Grow m (towards.Leave a)) e))
   leads_keeps _ _ (moves.to_no_record m f) here e h = from (phases.Grow m towards.Wait) _ e (not_grown c s m (none_in (phases.Grow m towards.Wait) (λ n k. k) e) towards.Wait (at (phases.Grow m towards.Wait) e))
@@ -254,36 +237,37 @@ module _ (begin : BeginsAttempt) (entered_again : EntersInside) (is : Classes) (
   turns_keeps _ _ (moves.retakes_not m r depth f) e = from (phases.Retake m r depth) _ e (retakes_not c s m r (none_in (phases.Retake m r depth) (λ n k. k) e) depth (at (phases.Retake m r depth) e))
 
   gives_up_keeps : (m : ℕ) (a : After) (phase : Phase) → GivesUp s m a phase → IsAs phase was → PhaseHolds c is phase s.frames → Keeps (lets_go c.program s m a)
-  gives_up_keeps m a _ (moves.on_leave x f t) e h = left_last is c marked was s m a (at (phases.Leave m a) e) (within (phases.Leave m a) e) h x f t
+  gives_up_keeps m a _ (moves.on_leave x f t) e h = left_last is c marked was s m a (leaving m a e h) x f t
   gives_up_keeps m a _ moves.flat_out e h = left_flat m a (at (phases.FlatOut m a) e) (none_in (phases.FlatOut m a) (λ m k. k) e) h
 
-  move_keeps : (phase : Phase) (k : Move c s got phase) → s.phase ≡ phase → IsAs phase was → PhaseHolds c is phase s.frames → Keeps (becomes c s got phase k)
-  move_keeps phase (moves.stays k) here e h = lacks_keeps phase k here e
-  move_keeps phase (moves.goes o k) here e h = goes_keeps phase o k here e
-  move_keeps phase (moves.fails_in t f d k) here e h = failing c was phase s t (subst (λ (o : Option Attempt). AttemptStandsIn c phase s.frames s.held o) f (checks_inside phase t k e))
-  move_keeps phase (moves.leads now k) here e h = leads_keeps phase now k here e h
-  move_keeps phase (moves.turns now k) here e h = turns_keeps phase now k e
-  move_keeps _ (moves.makes top word size t f x) here e h = instruction.object_begins c marked s top t (at phases.Run e) (within phases.Run e) was (same phases.Run here (sym e)) word size got f
-  move_keeps _ (moves.prints top n t f x) here e h = instruction.prints_one c marked s top t (at phases.Run e) (within phases.Run e) was (same phases.Run here (sym e)) n got f
-  move_keeps _ (moves.asks_to_wait top m x now t f l k) here e h = instruction.waits_for c marked s top t (at phases.Run e) (within phases.Run e) was (same phases.Run here (sym e)) m x now f l k
-  move_keeps _ (moves.asks top m x now t y l k) here e h = instruction.notifies_some c marked s top t (at phases.Run e) (within phases.Run e) was (same phases.Run here (sym e)) m x now y l k
-  move_keeps _ (moves.enters_again m tried x f) here e h = from (phases.Enter m tried) _ e (again begin entered_again c s m tried (at (phases.Enter m tried) e) (within (phases.Enter m tried) e) x f)
-  move_keeps _ (moves.enters_inside m tried t k) here e h =
-      from (phases.Enter m tried) _ e (deeper_inside begin entered_again c s m tried (at (phases.Enter m tried) e) (within (phases.Enter m tried) e) t (tried_attempt m (held_at s.held m) s.attempt t k) (tried_monitor m (held_at s.held m) s.attempt t k))
-  move_keeps _ (moves.begins_to_try m tried noted f below there may l x free) here e h =
-      from (phases.Enter m tried) _ e (begun begin entered_again c s m tried (at (phases.Enter m tried) e) (within (phases.Enter m tried) e) marked (not_held_on m tried free e) (none_on m tried free e) (may_marked tried may) noted (tried + 1) f below there)
-  move_keeps phase (moves.takes_lock m kept k) here e h = taken c s m was kept (takes_stands m phase kept k e)
-  move_keeps phase (moves.gives_up m a k) here e h = gives_up_keeps m a phase k e h
-  move_keeps _ (moves.leaves_outer m a x f t) here e h = left_deeper is c marked was s m a (at (phases.Leave m a) e) (within (phases.Leave m a) e) h x f t
-  move_keeps _ (moves.leaves_inside m a t inner k f) here e h =
-      left_inside is c marked was s m a (at (phases.Leave m a) e) (within (phases.Leave m a) e) h t (tried_attempt m (held_at s.held m) s.attempt t k) (tried_monitor m (held_at s.held m) s.attempt t k) inner f
-  move_keeps _ (moves.finishes_try m a t k f y) here e h =
-      left_elided is c marked was s m a (at (phases.Leave m a) e) (within (phases.Leave m a) e) h t (tried_attempt m (held_at s.held m) s.attempt t k) (tried_monitor m (held_at s.held m) s.attempt t k) f
-  move_keeps _ (moves.fattens_lock m r toward x f) here e h = from (phases.FatIn m r toward) _ e (fattened c s m (none_in (phases.FatIn m r toward) (λ n k. k) e) r toward (Some x) f (at (phases.FatIn m r toward) e))
-  move_keeps _ (moves.gives_up_to_wait m r x f) here e h = from (phases.WaitOut m r) _ e (given_up c s m r (none_in (phases.WaitOut m r) (λ n k. k) e) (Some x) f (at (phases.WaitOut m r) e))
-  move_keeps _ (moves.retakes_lock m r depth f) here e h = from (phases.Retake m r depth) _ e (retaken c s m r (none_in (phases.Retake m r depth) (λ n k. k) e) depth (at (phases.Retake m r depth) e))
-  move_keeps _ (moves.starts number more f) here e h =
-      start_keeps c marked was s (same phases.Start here (sym e)) (number ∷ more) (subst (AllByRecursion (λ (number : ℕ). IsTrue (has_number (part_roots c.program s.number s.part) number))) f roots) (at phases.Start e) (none_in phases.Start (λ m k. k) e)
+  module _ (roots : AllByRecursion (λ (number : ℕ). IsTrue (has_number (part_roots c.program s.number s.part) number)) s.roots) where
+    move_keeps : (phase : Phase) (k : Move c s got phase) → s.phase ≡ phase → IsAs phase was → PhaseHolds c is phase s.frames → Keeps (becomes c s got phase k)
+    move_keeps phase (moves.stays k) here e h = lacks_keeps phase k here e
+    move_keeps phase (moves.goes o k) here e h = goes_keeps phase o k here e
+    move_keeps phase (moves.fails_in t f d k) here e h = failing c was phase s t (subst (λ (o : Option Attempt). AttemptStandsIn c phase s.frames s.held o) f (checks_inside phase t k e))
+    move_keeps phase (moves.leads now k) here e h = leads_keeps phase now k here e h
+    move_keeps phase (moves.turns now k) here e h = turns_keeps phase now k e
+    move_keeps _ (moves.makes top word size t f x) here e h = instruction.object_begins c marked s top t (at phases.Run e) (within phases.Run e) was (same phases.Run here (sym e)) word size got f
+    move_keeps _ (moves.prints top n t f x) here e h = instruction.prints_one c marked s top t (at phases.Run e) (within phases.Run e) was (same phases.Run here (sym e)) n got f
+    move_keeps _ (moves.asks_to_wait top m x now t f l k) here e h = instruction.waits_for c marked s top t (at phases.Run e) (within phases.Run e) was (same phases.Run here (sym e)) m x now f l k
+    move_keeps _ (moves.asks top m x now t y l k) here e h = instruction.notifies_some c marked s top t (at phases.Run e) (within phases.Run e) was (same phases.Run here (sym e)) m x now y l k
+    move_keeps _ (moves.enters_again m tried x f) here e h = from (phases.Enter m tried) _ e (again begin entered_again c s m tried (at (phases.Enter m tried) e) (within (phases.Enter m tried) e) x f)
+    move_keeps _ (moves.enters_inside m tried t k) here e h =
+        from (phases.Enter m tried) _ e (deeper_inside begin entered_again c s m tried (at (phases.Enter m tried) e) (within (phases.Enter m tried) e) t (tried_attempt m (held_at s.held m) s.attempt t k) (tried_monitor m (held_at s.held m) s.attempt t k))
+    move_keeps _ (moves.begins_to_try m tried noted f below there may l x free) here e h =
+        from (phases.Enter m tried) _ e (begun begin entered_again c s m tried (at (phases.Enter m tried) e) (within (phases.Enter m tried) e) marked (not_held_on m tried free e) (none_on m tried free e) (may_marked tried may) noted (tried + 1) f below there)
+    move_keeps phase (moves.takes_lock m kept k) here e h = taken c s m was kept (takes_stands m phase kept k e)
+    move_keeps phase (moves.gives_up m a k) here e h = gives_up_keeps m a phase k e h
+    move_keeps _ (moves.leaves_outer m a x f t) here e h = left_deeper is c marked was s m a (leaving m a e h) x f t
+    move_keeps _ (moves.leaves_inside m a t inner k f) here e h =
+        left_inside is c marked was s m a (leaving m a e h) t (tried_attempt m (held_at s.held m) s.attempt t k) (tried_monitor m (held_at s.held m) s.attempt t k) inner f
+    move_keeps _ (moves.finishes_try m a t k f y) here e h =
+        left_elided is c marked was s m a (leaving m a e h) t (tried_attempt m (held_at s.held m) s.attempt t k) (tried_monitor m (held_at s.held m) s.attempt t k) f
+    move_keeps _ (moves.fattens_lock m r toward x f) here e h = from (phases.FatIn m r toward) _ e (fattened c s m (none_in (phases.FatIn m r toward) (λ n k. k) e) r toward (Some x) f (at (phases.FatIn m r toward) e))
+    move_keeps _ (moves.gives_up_to_wait m r x f) here e h = from (phases.WaitOut m r) _ e (given_up c s m r (none_in (phases.WaitOut m r) (λ n k. k) e) (Some x) f (at (phases.WaitOut m r) e))
+    move_keeps _ (moves.retakes_lock m r depth f) here e h = from (phases.Retake m r depth) _ e (retaken c s m r (none_in (phases.Retake m r depth) (λ n k. k) e) depth (at (phases.Retake m r depth) e))
+    move_keeps _ (moves.starts number more f) here e h =
+        start_keeps c marked was s (same phases.Start here (sym e)) (number ∷ more) (subst (AllByRecursion (λ (number : ℕ). IsTrue (has_number (part_roots c.program s.number s.part) number))) f roots) (at phases.Start e) (none_in phases.Start (λ m k. k) e)
 
 -- the thread that makes the move
 abbrev Before : Classes → MarkedProgram → (was phase : Phase) → Thread → Type 0

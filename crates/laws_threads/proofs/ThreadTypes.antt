@@ -2,7 +2,7 @@
 use Rattle.std.proofs.Common.{◌≡◌, ℕ, zero, suc, ◌+◌, ◌-◌, ◌<◌, Bool, true, false, List, [], ◌∷◌, length, Option, Some, None, sym, subst, nat_lt, drop, IfSome, if◌then◌else◌}
 use Rattle.jvm_types.specs.declared.program.Program.{Program}
 use Rattle.checked_program.specs.MarkedProgram.{MarkedProgram}
-use Rattle.machine_types.specs.{Elision.{put_back, is_same, fails, if_same}, Going.{with_phase, runs, failed_turn, root_over, goes_on, goes_on_if}, Lawful.NewFits}
+use Rattle.machine_types.specs.{Elision.{put_back, fails}, Going.{with_phase, runs, failed_turn, root_over, goes_on, goes_on_if}, Lawful.NewFits}
 use Rattle.machine_types.specs.{Onward.{Onward, Running, Throwing, Entering, Leaving, RootReturned, Uncaught}, Threads.{Frame, Attempt, Thread}}
 use Rattle.machine_types.specs.{Typed.{Classes, FramesHold, AttemptHolds, ThreadHolds, PhaseHolds, IsObject}, declared.phase.Phase.Phase}
 use Rattle.laws_threads.proofs.Onwards.{Keeps, AreInside, Onwards, IfOnwards}
@@ -85,12 +85,3 @@ module _ (c : MarkedProgram) (is : Classes) where
       let back : IsObject is a.monitor × FramesHold c is (put_back a s.frames) = subst (AttemptHolds c is s.frames) e r.attempt in
       let entry : a.entry.receiver < c.program.heap = subst (EntryInside c.program) e r.entry in
       record { values = record { phase = back; attempt = tt }; new = tt; receivers = (entry, inside_below c.program (length s.frames - a.base) s.frames r.inside); entry = tt }
-
-  pub same_typed : (s : Thread) (attempt : Option Attempt) (got : ℕ) (more : Thread) → s.attempt ≡ attempt → Rests c is s → IsBasedIn (if_same s attempt got more).frames (if_same s attempt got more).attempt
-      → (IsBasedIn more.frames more.attempt → TypedBy c is more) → TypedBy c is (if_same s attempt got more)
-  same_typed s None got more e r new typed = typed new
-  same_typed s (Some a) got more e r new typed = by_test (is_same a got) new
-    where
-      by_test : (b : Bool) → IsBasedIn (if b then more else fails s a).frames (if b then more else fails s a).attempt → TypedBy c is (if b then more else fails s a)
-      by_test true new = typed new
-      by_test false new = fails_typed s a e r

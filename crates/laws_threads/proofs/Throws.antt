@@ -5,10 +5,10 @@ use Rattle.lists.proofs.ListLaws.{same_some}
 use Rattle.jvm_types.specs.{ClassTree.is_subclass, CodeTable.can_throw, Members.is_synchronized, Verifying.{covers, covering, is_return}, declared.{code.Insn.Insn, outcome.Thrown.Thrown}}
 use Rattle.jvm_types.specs.declared.program.{MethodInfo.MethodInfo, Row.Row}
 use Rattle.checked_program.specs.{MarkedProgram.{MarkedProgram, IsMarked}, TaggedCode.caught, Tagging.{catches_all, until_all, catchers, may_leave, tags_at_handler}}
-use Rattle.machine_types.specs.{Frames.{Top, handler_of, handler_at, monitor_of}, Onward.{Leaving, handed, unwound}, ReadyObjects.class_of, Structure.{Stands, AttemptStands, Finishes, frames_inside}}
-use Rattle.machine_types.specs.{Threads.{Frame, Attempt}, declared.lock.Held.Held}
+use Rattle.machine_types.specs.{Frames.{Top, handler_of, handler_at, monitor_of}, Onward.{Leaving, handed, unwound}, ReadyObjects.class_of, Structure.{Finishes, frames_inside}}
+use Rattle.machine_types.specs.{Threads.{Frame, Attempt}}
 use Rattle.laws_threads.{specs.InsideMoves.{GoesOnInside, OnwardStands, ThrowsInside}, proofs.{AttemptMoves.{only_entry, along, unwound_on}, Base.{entry_of, of_synchronized}}}
-use Rattle.laws_threads.proofs.{FrameReturns.leaves_none, FrameThrows.none_catches, Inside.{locking, runs_inside, stays}, SectionFrames.Runs, Standings.{top_here, top_at_standing, one_insn}}
+use Rattle.laws_threads.proofs.{FrameReturns.leaves_none, FrameThrows.none_catches, Inside.{InAttempt, locking, runs_inside, stays}, SectionFrames.Runs, Standings.{top_here, top_at_standing, one_insn}}
 use Rattle.jvm_types.specs.declared.code.Op.TheVariants as ops
 use Rattle.machine_types.specs.declared.phase.After.TheVariants as afters
 use Rattle.machine_types.specs.declared.phase.Phase.TheVariants as phases
@@ -62,7 +62,9 @@ leaves_by_throw m insn t n = by_tests (is_return insn.op) (can_throw insn.op) (l
 not_finished : (a : Attempt) (x : ℕ) (class : Thrown) (fs : List Frame) → Finishes a (phases.Throw x class) fs → ⊥
 not_finished a x class fs f = let bad = f.leaves in cc
 
-module _ (c : MarkedProgram) (marked : IsMarked c) (x : ℕ) (class : Thrown) (f : Frame) (below : List Frame) (held : List Held) (a : Attempt) (k : AttemptStands c (phases.Throw x class) (f ∷ below) held a) (s : Stands c (phases.Throw x class) (f ∷ below) held (Some a)) where
+module _ (c : MarkedProgram) (marked : IsMarked c) (x : ℕ) (class : Thrown) (thread : InAttempt c (phases.Throw x class)) where
+  open thread use {frame as f, below, held, attempt as a, tries as k, agrees as s}
+
   never_finished : Finishes a (phases.Throw x class) (frames_inside a (f ∷ below)) → ⊥
   never_finished = not_finished a x class (frames_inside a (f ∷ below))
 
@@ -120,6 +122,7 @@ module _ (c : MarkedProgram) (marked : IsMarked c) (x : ℕ) (class : Thrown) (f
 pub throws_inside : ThrowsInside
 throws_inside c x class [] held a at marked k s e l = absurd (cc)
 throws_inside c x class (f ∷ below) held a at marked k s e l =
-    let r' = r c marked x class f below held a k s in
+    let thread : InAttempt c (phases.Throw x class) = record { frame = f; below = below; held = held; attempt = a; tries = k; agrees = s } in
+    let r' = r c marked x class thread in
     let same = top_at_standing c marked f below r'.stands at e in
-    subst (λ t. OnwardStands c (handed c.program x class t (handler_at (class_of class) t)) → GoesOnInside c (handed c.program x class t (handler_at (class_of class) t)) held a) same (by_handler c marked x class f below held a k s (handler_of f.pc (class_of class) r'.stands.method.rows) refl) l
+    subst (λ t. OnwardStands c (handed c.program x class t (handler_at (class_of class) t)) → GoesOnInside c (handed c.program x class t (handler_at (class_of class) t)) held a) same (by_handler c marked x class thread (handler_of f.pc (class_of class) r'.stands.method.rows) refl) l

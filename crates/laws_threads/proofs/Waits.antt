@@ -39,16 +39,13 @@ module _ (c : MarkedProgram) (s : Thread) (m : ℕ) (none : s.attempt ≡ None) 
       }
   fattened r towards.Wait (Some h) e k = record { is_as = refl; stands = stands; attempt = no_attempt c (phases.WaitBit m r) s.frames (with_held (record h { kept = keeps.Fat r }) s.held) s.attempt none }
     where
-      now_fat : held_at (with_held (record h { kept = keeps.Fat r }) s.held) m ≡ Some (record h { kept = keeps.Fat r })
-      now_fat = held_there m (record h { kept = keeps.Fat r }) s.held (held_monitor m s.held h e)
-
       stands : Stands c (phases.WaitBit m r) s.frames (with_held (record h { kept = keeps.Fat r }) s.held) s.attempt
       stands = record {
         shown = k.shown;
         show = k.show;
         depths = λ n. let d = k.depths n in let same = refitted_depth m n (keeps.Fat r) s.held h e in omega arith;
         once = once_put (record h { kept = keeps.Fat r }) s.held (held_positive m s.held h k.once e) k.once;
-        phase_shows = (k.phase_shows.toward_shows, subst (λ (o : Option Held). IsFat r o) (sym now_fat) refl);
+        phase_shows = (k.phase_shows.toward_shows, subst (λ (o : Option Held). IsFat r o) (sym (held_there m (record h { kept = keeps.Fat r }) s.held (held_monitor m s.held h e))) refl);
       }
 
 -- ---- waits
