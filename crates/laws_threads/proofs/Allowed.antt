@@ -14,6 +14,7 @@ use Rattle.machine_types.proofs.EffectCases.{Comes, lacks, goes, refuses, reads_
 use Rattle.machine_types.proofs.EffectCases.{returns, enters, leaves, waits, notifies, notifies_all, GivenMade, WriteMade, RowMade, HasConstant, HasTaken, IsRefusal, uses_local, low_lt, comes}
 use Rattle.laws_threads.specs.Allowed.{IsOf, IsNamedField, WantHolds, TakenHold, GivenHolds, WriteHolds, HasRowTypes, HasLocal, IsByMachine, OneOf, Allowed}
 use Rattle.laws_threads.proofs.EffectsOfInsns.{suited}
+use Rattle.laws_threads.proofs.Tests.{either_way}
 use Rattle.jvm_types.specs.declared.code.Op.TheVariants as ops
 use Rattle.jvm_types.specs.declared.outcome.Thrown.TheVariants as thrown
 use Rattle.jvm_types.specs.declared.program.Kind.TheVariants as kinds
@@ -32,11 +33,9 @@ by_machine x h = absurd h
 
 one_of : (ns : List ℕ) (n : ℕ) → has_number ns n ≡ true → OneOf ns n
 one_of [] n h = absurd (cc)
-one_of (x ∷ xs) n h = by_test (x == n) refl h (one_of xs n)
-  where
-    by_test : (b : Bool) → (x == n) ≡ b → (b || has_number xs n) ≡ true → (has_number xs n ≡ true → OneOf xs n) → (n ≡ x) ⊎ OneOf xs n
-    by_test true e k more = inl (grind (arith, nat_tests, e))
-    by_test false e k more = inr (more k)
+one_of (x ∷ xs) n h = either_way (λ (b : Bool). (x == n) ≡ b → (b || has_number xs n) ≡ true → (has_number xs n ≡ true → OneOf xs n) → (n ≡ x) ⊎ OneOf xs n) (x == n)
+    (λ e k more. inl (grind (arith, nat_tests, e)))
+    (λ e k more. inr (more k)) refl h (one_of xs n)
 
 module _ (p : Program) (m : MethodInfo) (is : Classes) (stack : List ℕ) where
   abbrev Allows : Insn → Target → OpRow → Effect → Type 0
@@ -53,11 +52,7 @@ module _ (p : Program) (m : MethodInfo) (is : Classes) (stack : List ℕ) where
   rule_holds false rule rest e = refl
 
   is_static_of : (static writes : Bool) (site : MethodSite) (class flags : ℕ) → field_rule static writes site class flags ≡ None → is_static flags ≡ static
-  is_static_of true writes site class flags e = turned (is_static flags) (rule_holds (not (is_static flags)) L2 _ e)
-    where
-      turned : (b : Bool) → not b ≡ false → b ≡ true
-      turned true e = refl
-      turned false e = absurd (cc)
+  is_static_of true writes site class flags e = either_way (λ (b : Bool). not b ≡ false → b ≡ true) (is_static flags) (λ e. refl) (λ e. absurd (cc)) (rule_holds (not (is_static flags)) L2 _ e)
   is_static_of false writes site class flags e = rule_holds (is_static flags) L2 _ e
 
   kind_given : (kind : Kind) (v : ℕ) → KindHolds is kind v → Holds m is (type_of kind) v

@@ -29,14 +29,8 @@ module _ (c : MarkedProgram) (marked : IsMarked c) (f : Frame) (k : Standing c f
     this : slice_index_or tags.stack 0 Untagged ≡ This
 
   decided : (pc : ℕ) (o : Option (Option TagShape)) → slice_get k.at.frames e.at ≡ o → IsOnReceiver pc ⊎ (IsOnReceiver pc → ⊥)
-  decided pc None q = inr (λ x. none (sym q ∙ x.there))
-    where
-      none : {x : TagShape} → None ≡ Some (Some x) → ⊥
-      none z = cc
-  decided pc (Some None) q = inr (λ x. none (sym q ∙ x.there))
-    where
-      none : {x : TagShape} → Some None ≡ Some (Some x) → ⊥
-      none z = cc
+  decided pc None q = inr (λ x. let z : None ≡ Some (Some x.tags) = sym q ∙ x.there in cc)
+  decided pc (Some None) q = inr (λ x. let z : Some None ≡ Some (Some x.tags) = sym q ∙ x.there in cc)
   decided pc (Some (Some tags)) q = ⊎_elim
       (λ (p : e.insn.pc ≡ pc). ⊎_elim
       (λ (t : slice_index_or tags.stack 0 Untagged ≡ This). inl (record { pc_is = p; tags = tags; there = q; this = t }))

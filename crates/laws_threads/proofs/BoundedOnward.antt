@@ -8,6 +8,7 @@ use Rattle.machine_types.specs.{Onward.{Onward, Running, Throwing, Entering, Lea
 use Rattle.machine_types.specs.declared.{config.Config.Config, phase.{After.After, Phase.Phase}}
 use Rattle.laws_threads.proofs.HeldBounds.{HeldFit}
 use Rattle.laws_threads.proofs.ThreadMove.{if_either, if_mapped}
+use Rattle.laws_threads.proofs.Tests.{either_way}
 use Rattle.jvm_types.specs.declared.outcome.End.TheVariants as ends
 use Rattle.machine_types.specs.declared.phase.After.TheVariants as afters
 use Rattle.machine_types.specs.declared.phase.Phase.TheVariants as phases
@@ -89,11 +90,9 @@ module _ (p : Program) where
   -- ---- going on
 
   pub running : (s : Thread) → Fit p s → Spends s 0 1 → IsBounded p (runs s)
-  running s f k = by_limit (nat_lt s.counts.instructions s.cfg.steps) refl
-    where
-      by_limit : (b : Bool) → nat_lt s.counts.instructions s.cfg.steps ≡ b → IsBounded p (with_phase s (if b then phases.Run else phases.Ending ends.Steps))
-      by_limit true e = bounded s phases.Run f tt f.limits.few_turns (grind (arith, nat_tests, e)) tt tt k
-      by_limit false e = bounded s (phases.Ending ends.Steps) f tt f.limits.few_turns f.limits.few_steps tt tt k
+  running s f k = either_way (λ (b : Bool). nat_lt s.counts.instructions s.cfg.steps ≡ b → IsBounded p (with_phase s (if b then phases.Run else phases.Ending ends.Steps))) (nat_lt s.counts.instructions s.cfg.steps)
+      (λ e. bounded s phases.Run f tt f.limits.few_turns (grind (arith, nat_tests, e)) tt tt k)
+      (λ e. bounded s (phases.Ending ends.Steps) f tt f.limits.few_turns f.limits.few_steps tt tt k) refl
 
   pub failing : (s : Thread) (phase : Phase) → Fit p s → PhaseFits phase → (s.turns + 1 < s.cfg.turns → TurnsFit phase (s.turns + 1) s.cfg.turns) → StepsFit phase s.counts.instructions s.cfg.steps → WaitFits phase s.counts.instructions
       → EntryFits phase s.held s.attempt s.counts.instructions → Spends s (entry_under_way phase) (attempt_under_way phase) → Spends s 0 1 → IsBounded p (failed_turn s phase)

@@ -9,6 +9,7 @@ use Rattle.laws_programs.specs.{EntryLaws.receiver_count, TargetLaws.HasRow}
 use Rattle.checked_program.{specs.CheckedLaws.receiver_want, proofs.CheckedPlaces.no_init}
 use Rattle.laws_sections.proofs.HiddenThis.{long_arguments}
 use Rattle.machine_types.specs.{Effects.{calls_on, calls_instance, effect}, Frames.first_or_null, declared.effect.Effect.TheVariants.{Throws, Calls}}
+use Rattle.laws_threads.proofs.Tests.{either_way}
 use Rattle.jvm_types.specs.declared.code.Op.TheVariants as ops
 use Rattle.jvm_types.specs.declared.program.Target.TheVariants as targets
 
@@ -23,11 +24,9 @@ virtual_call : (called : MethodInfo) → is_static called.flags ≡ false → is
 virtual_call called s e = record { takes = arguments called ++ AnObject called.class ∷ []; is = refl; by = inl (s, ap (λ b. arguments called ++ receiver_want b called.class ∷ []) (sym e)) }
 
 special_call : (called : MethodInfo) → is_static called.flags ≡ false → CallRow called (special_row (Some called))
-special_call called s = by_init (is_init called) refl
-  where
-    by_init : (b : Bool) → is_init called ≡ b → CallRow called (special_row (Some called))
-    by_init true e = record { takes = arguments called ++ ToStart called.class ∷ []; is = rw e refl; by = inl (s, ap (λ b. arguments called ++ receiver_want b called.class ∷ []) (sym e)) }
-    by_init false e = record { takes = arguments called ++ AnObject called.class ∷ []; is = rw e refl; by = inl (s, ap (λ b. arguments called ++ receiver_want b called.class ∷ []) (sym e)) }
+special_call called s = either_way (λ (b : Bool). is_init called ≡ b → CallRow called (special_row (Some called))) (is_init called)
+    (λ e. record { takes = arguments called ++ ToStart called.class ∷ []; is = rw e refl; by = inl (s, ap (λ b. arguments called ++ receiver_want b called.class ∷ []) (sym e)) })
+    (λ e. record { takes = arguments called ++ AnObject called.class ∷ []; is = rw e refl; by = inl (s, ap (λ b. arguments called ++ receiver_want b called.class ∷ []) (sym e)) }) refl
 
 pub call_row : (p : Program) (site : MethodSite) (pc number : ℕ) (op : Op) (r : OpRow) (called : MethodInfo) → slice_get p.methods number ≡ Some called → HasRow p site pc (targets.Method number) op r → CallRow called r
 call_row p site pc number (ops.Invokevirtual i) r called e h =
@@ -62,11 +61,9 @@ HasReceiver called s = (v : ℕ) × (slice_get s (length called.args) ≡ Some v
 
 on_receiver : (o : Option ℕ) (number n : ℕ) → calls_on o number ≡ Calls n → (v : ℕ) × (o ≡ Some v) × (0 < v)
 on_receiver None number n e = absurd (cc)
-on_receiver (Some v) number n e = by_test (v == 0) refl e
-  where
-    by_test : (b : Bool) → (v == 0) ≡ b → (if b then Throws NullPointerException else Calls number) ≡ Calls n → (w : ℕ) × (Some v ≡ Some w) × (0 < w)
-    by_test true t e = absurd (cc)
-    by_test false t e = (v, refl, grind (arith, nat_tests, t))
+on_receiver (Some v) number n e = either_way (λ (b : Bool). (v == 0) ≡ b → (if b then Throws NullPointerException else Calls number) ≡ Calls n → (w : ℕ) × (Some v ≡ Some w) × (0 < w)) (v == 0)
+    (λ t e. absurd (cc))
+    (λ t e. (v, refl, grind (arith, nat_tests, t))) refl e
 
 pub call_receiver : (p : Program) (site : MethodSite) (pc next number n : ℕ) (op : Op) (r : OpRow) (called : MethodInfo) (l s : List ℕ) → slice_get p.methods number ≡ Some called → HasRow p site pc (targets.Method number) op r
     → effect p next (targets.Method number) op l s ≡ Calls n → is_static called.flags ≡ false → HasReceiver called s

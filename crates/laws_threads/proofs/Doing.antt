@@ -11,6 +11,7 @@ use Rattle.machine_types.specs.declared.effect.Effect.TheVariants.{Goes, Throws,
 use Rattle.laws_threads.{specs.Allowed.{OneOf, HasRowTypes, IsByMachine, Allowed}, proofs.{CalledEntries.{call_values, enters}, Calls.{call_row, call_receiver}, Landing.rules_at}}
 use Rattle.laws_threads.proofs.{Onwards.{keeps_all, keeps_top, keeps_push, HasObjects, FoundHolds, Onwards, IfOnwards, goes_out}, Standings.top_here, TopEffects.taken_here, TypedMoves.{goes, waits}}
 use Rattle.laws_threads.proofs.Values.{ValuesHold}
+use Rattle.laws_threads.proofs.Tests.{either_way}
 use Rattle.jvm_types.specs.declared.code.Op.TheVariants as ops
 use Rattle.jvm_types.specs.declared.outcome.Thrown.TheVariants as thrown
 use Rattle.jvm_types.specs.declared.program.Target.TheVariants as targets
@@ -58,11 +59,9 @@ module _ (c : MarkedProgram) (marked : IsMarked c) (is : Classes) (has : HasObje
 
     -- the receiver of the new frame lies in the heap, also the 0 of a static method
     entry_inside : (entry_frame number m (arguments_of c.program (top_here c f fs h.stands))).receiver < c.program.heap
-    entry_inside = by_flag (is_static m.flags) refl
-      where
-        by_flag : (s : Bool) → is_static m.flags ≡ s → (entry_frame number m (arguments_of c.program (top_here c f fs h.stands))).receiver < c.program.heap
-        by_flag true s = subst (λ b. (if b then 0 else first_or_null (arguments_of c.program (top_here c f fs h.stands))) < c.program.heap) (sym s) (omega (arith, marked.checked.program.heap_from))
-        by_flag false s = has.inside m.class _ (entry_values.receiver s)
+    entry_inside = either_way (λ (s : Bool). is_static m.flags ≡ s → (entry_frame number m (arguments_of c.program (top_here c f fs h.stands))).receiver < c.program.heap) (is_static m.flags)
+        (λ s. subst (λ b. (if b then 0 else first_or_null (arguments_of c.program (top_here c f fs h.stands))) < c.program.heap) (sym s) (omega (arith, marked.checked.program.heap_from)))
+        (λ s. has.inside m.class _ (entry_values.receiver s)) refl
 
     -- the monitor of the new frame, where its method is synchronized, is an object that is there
     entry_object : IsObject is (monitor_of c.program m (entry_frame number m (arguments_of c.program (top_here c f fs h.stands))))

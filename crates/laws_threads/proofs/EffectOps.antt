@@ -11,6 +11,7 @@ use Rattle.machine_types.specs.declared.effect.Effect.TheVariants.{Reads, Writes
 use Rattle.machine_types.specs.declared.effect.Variable.TheVariants.{Instance, Static}
 use Rattle.machine_types.proofs.EffectCases.{Comes, reads_static, writes_static, reads_field, writes_field, loads_element, stores_element, measures, makes_object, makes_int_array, prints, calls, calls_fixed, returns, enters, leaves, waits, notifies, notifies_all, comes}
 use Rattle.laws_threads.specs.InsideEffects.{IsStayingStatic, MayRead}
+use Rattle.laws_threads.proofs.Tests.{either_way}
 use Rattle.jvm_types.specs.declared.code.Op.TheVariants as ops
 use Rattle.jvm_types.specs.declared.program.Target.TheVariants as targets
 
@@ -79,11 +80,9 @@ module _ (c : MarkedProgram) (m : ℕ) where
         by_test false q = absurd (cc)
 
     got_field : (fi a : ℕ) (field : FieldInfo) → slice_get c.program.fields fi ≡ Some field → is_static field.flags ≡ false → IsFrozenField c.program (tags_of c) fi ⊎ (IsGuardedField c.program (tags_of c) fi × (a ≡ m)) → MayRead c m (variable_of field a)
-    got_field fi a field e sort stays = by_test (is_static field.flags) sort
-      where
-        by_test : (b : Bool) → b ≡ false → MayRead c m (if b then Static field.index else Instance a field.index)
-        by_test true q = absurd (cc)
-        by_test false q = record { number = fi; field = field; is = e; place = refl; stays = stays }
+    got_field fi a field e sort stays = either_way (λ (b : Bool). b ≡ false → MayRead c m (if b then Static field.index else Instance a field.index)) (is_static field.flags)
+        (λ q. absurd (cc))
+        (λ q. record { number = fi; field = field; is = e; place = refl; stays = stays }) sort
 
     module _ (mi : MethodInfo) (pc next : ℕ) (r : OpRow) where
       abbrev Row : Target → Op → Type 0
@@ -162,11 +161,9 @@ elsewhere p next _ _ _ _ (leaves target n s) h = absurd (let bad : true ≡ fals
 elsewhere p next target op s e came h = tt
 
 pub goes_behind : (p : Program) (next : ℕ) (target : Target) (op : Op) (l s : List ℕ) → (GoesElsewhere (effect p next target op l s) → ⊥) → falls_through op ≡ true
-goes_behind p next target op l s h = by_test (falls_through op) refl
-  where
-    by_test : (b : Bool) → falls_through op ≡ b → b ≡ true
-    by_test true e = refl
-    by_test false e = absurd (h (elsewhere p next target op s _ (comes p 0 next target op l s) e))
+goes_behind p next target op l s h = either_way (λ (b : Bool). falls_through op ≡ b → b ≡ true) (falls_through op)
+    (λ e. refl)
+    (λ e. absurd (h (elsewhere p next target op s _ (comes p 0 next target op l s) e))) refl
 
 -- only an exit leaves a monitor as its instruction
 abbrev pub OnlyLeaves : Effect → Type 0

@@ -8,17 +8,16 @@ use Rattle.checked_program.specs.declared.tag.Tag.{Tag, TheVariants.{Untagged, T
 use Rattle.machine_types.specs.{Frames.frame_on, Shown.{tag_value, HaveValues, own_entry, Shows}, Standing.{Standing, Whole, Lacking}, Threads.Frame}
 use Rattle.laws_threads.{specs.MoveLaws.is_lock_op, proofs.{EffectsOfInsns.{is_dup, IsMaking}, FramePlaces.{of_standing, sound_at}, MarkedMethods.free_at}}
 use Rattle.laws_threads.proofs.{ShownFrames.{landed, whole_landed, shows_landed}, TagValues.{weaker, dropped, row_stack, row_locals, chosen, rechosen, values_kept, chosen_there}}
+use Rattle.laws_threads.proofs.Tests.{either_way}
 use Rattle.jvm_types.specs.declared.code.Op.TheVariants as ops
 
 -- ---- edges
 
 pub picked : (P : ℕ → Type 0) (to : ℕ) (tos : List ℕ) → AllByRecursion P tos → has_number tos to ≡ true → P to
 picked P to [] h e = absurd (cc)
-picked P to (x ∷ tos) h e = by_test (x == to) refl e (λ e. picked P to tos h.1 e)
-  where
-    by_test : (b : Bool) → (x == to) ≡ b → (b || has_number tos to) ≡ true → (has_number tos to ≡ true → P to) → P to
-    by_test true t e more = let same : x ≡ to = grind (arith, nat_tests, t) in subst P same h.0
-    by_test false t e more = more e
+picked P to (x ∷ tos) h e = either_way (λ (b : Bool). (x == to) ≡ b → (b || has_number tos to) ≡ true → (has_number tos to ≡ true → P to) → P to) (x == to)
+    (λ t e more. let same : x ≡ to = grind (arith, nat_tests, t) in subst P same h.0)
+    (λ t e more. more e) refl e (λ e. picked P to tos h.1 e)
 
 pub plain_after : (pc : ℕ) (r : OpRow) (op : Op) (ts : List Tag) (f : TagShape) → is_lock_op op ≡ false → is_dup op ≡ false → tags_by_op pc r op ts f ≡ moved_tags r f
 plain_after pc r ops.Dup ts f e d = absurd (cc)

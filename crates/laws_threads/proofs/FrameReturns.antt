@@ -1,5 +1,5 @@
 -- The end of a frame: by a return, or by an exception that it does not catch.
-use Rattle.std.{proofs.Common.{◌≡◌, ℕ, suc, Bool, true, false, cond, List, [], ◌∷◌, ◌++◌, map, drop, length, Option, Some, None, refl, sym, ap, ◌∙◌, subst, arith, slice_get}, specs.List.AllZip}
+use Rattle.std.{proofs.Common.{◌≡◌, ℕ, Bool, true, false, cond, List, [], ◌∷◌, ◌++◌, map, drop, length, Option, Some, None, refl, sym, ap, ◌∙◌, subst, arith, slice_get}}
 use Rattle.std.specs.Option.{option_map, option_to_list}
 use Rattle.lists.proofs.{ListLaws.same_some, TestLaws.first_true}
 use Rattle.jvm_types.specs.{CodeTable.{row, result_of, type_of, value_of, locals_after, can_throw, virtual_row, special_row, static_row}, Members.is_synchronized, Numbers.has_number, Types.TypeFrame}
@@ -13,6 +13,7 @@ use Rattle.machine_types.specs.{Standing.{Standing, Operands, Whole, row_at}, St
 use Rattle.machine_types.{specs.declared.effect.Effect.TheVariants.Returns, proofs.EffectCases.{HasTop, HasReturned, next_edge}}
 use Rattle.laws_threads.{specs.{CallLaws.{IsLeft, HasHeight, ReturnsShow, ReturnsBehindRelease}, MoveLaws.is_lock_op}, proofs.EffectsOfInsns.is_dup}
 use Rattle.laws_threads.proofs.{FrameMoves.{plain_after, edge_fits}, FramePlaces.{one_standing, sound_at, top_by, has_top}, ShownFrames.{by_top, fits_at, holds_at, landed, whole_landed}}
+use Rattle.laws_threads.proofs.Lists.{zip_length}
 use Rattle.jvm_types.specs.declared.code.Op.TheVariants as ops
 use Rattle.jvm_types.specs.declared.program.Target.TheVariants as targets
 use Rattle.laws_threads.proofs.EffectsOfInsns as effects
@@ -37,39 +38,26 @@ pub record IsCall (p : Program) (m : MethodInfo) (insn : Insn) (target : Target)
   pub writes : (row p m insn.pc target insn.op).writes ≡ None
   pub gives : (called : MethodInfo) → slice_get p.methods callee ≡ Some called → (row p m insn.pc target insn.op).gives ≡ result_of called
 
--- a row that hangs on a method
-by_method : (rows : Option MethodInfo → OpRow) → ((m : MethodInfo) → (rows (Some m)).gives ≡ result_of m) → (o : Option MethodInfo) (called : MethodInfo) → o ≡ Some called → (rows o).gives ≡ result_of called
-by_method rows h o called e = ap (λ (x : Option MethodInfo). (rows x).gives) e ∙ h called
-
 no_writes : (rows : Option MethodInfo → OpRow) → (rows None).writes ≡ None → ((m : MethodInfo) → (rows (Some m)).writes ≡ None) → (o : Option MethodInfo) → (rows o).writes ≡ None
 no_writes rows none some None = none
 no_writes rows none some (Some m) = some m
 
+-- whose row hangs on the method
+call_by : (p : Program) (m : MethodInfo) (insn : Insn) (target : Target) (callee : ℕ) (rows : Option MethodInfo → OpRow) → row p m insn.pc target insn.op ≡ rows (slice_get p.methods callee) → ((x : MethodInfo) → (rows (Some x)).gives ≡ result_of x)
+    → (rows None).writes ≡ None → ((x : MethodInfo) → (rows (Some x)).writes ≡ None) → is_lock_op insn.op ≡ false → is_dup insn.op ≡ false → has_number (edges insn) insn.next ≡ true → can_throw insn.op ≡ true → IsCall p m insn target callee
+call_by p m insn target callee rows is gives none writes lock no_dup edge throws = record {
+  lock = lock;
+  no_dup = no_dup;
+  edge = edge;
+  throws = throws;
+  writes = ap (λ (r : OpRow). r.writes) is ∙ no_writes rows none writes (slice_get p.methods callee);
+  gives = λ called there. ap (λ (r : OpRow). r.gives) is ∙ ap (λ (o : Option MethodInfo). (rows o).gives) there ∙ gives called;
+}
+
 pub is_call : (p : Program) (m : MethodInfo) (pc next : ℕ) (op : Op) (target : Target) (callee : ℕ) → called_method op target ≡ Some callee → IsCall p m (record { pc = pc; next = next; op = op }) target callee
-is_call p m pc next (ops.Invokevirtual i) (targets.Method u) callee e = record {
-  lock = refl;
-  no_dup = refl;
-  edge = next_edge next;
-  throws = refl;
-  writes = no_writes virtual_row refl (λ m. refl) (slice_get p.methods u);
-  gives = λ called there. by_method virtual_row (λ m. refl) (slice_get p.methods u) called (ap (slice_get p.methods) (same_some e) ∙ there);
-}
-is_call p m pc next (ops.Invokespecial i) (targets.Method u) callee e = record {
-  lock = refl;
-  no_dup = refl;
-  edge = next_edge next;
-  throws = refl;
-  writes = no_writes special_row refl (λ m. refl) (slice_get p.methods u);
-  gives = λ called there. by_method special_row (λ m. refl) (slice_get p.methods u) called (ap (slice_get p.methods) (same_some e) ∙ there);
-}
-is_call p m pc next (ops.Invokestatic i) (targets.Method u) callee e = record {
-  lock = refl;
-  no_dup = refl;
-  edge = next_edge next;
-  throws = refl;
-  writes = no_writes static_row refl (λ m. refl) (slice_get p.methods u);
-  gives = λ called there. by_method static_row (λ m. refl) (slice_get p.methods u) called (ap (slice_get p.methods) (same_some e) ∙ there);
-}
+is_call p m pc next (ops.Invokevirtual i) (targets.Method u) callee e = call_by p m (record { pc = pc; next = next; op = ops.Invokevirtual i }) (targets.Method u) callee virtual_row (ap (λ n. virtual_row (slice_get p.methods n)) (same_some e)) (λ x. refl) refl (λ x. refl) refl refl (next_edge next) refl
+is_call p m pc next (ops.Invokespecial i) (targets.Method u) callee e = call_by p m (record { pc = pc; next = next; op = ops.Invokespecial i }) (targets.Method u) callee special_row (ap (λ n. special_row (slice_get p.methods n)) (same_some e)) (λ x. refl) refl (λ x. refl) refl refl (next_edge next) refl
+is_call p m pc next (ops.Invokestatic i) (targets.Method u) callee e = call_by p m (record { pc = pc; next = next; op = ops.Invokestatic i }) (targets.Method u) callee static_row (ap (λ n. static_row (slice_get p.methods n)) (same_some e)) (λ x. refl) refl (λ x. refl) refl refl (next_edge next) refl
 is_call p m pc next op target callee e = absurd (cc)
 
 -- ---- what a method gives back
@@ -186,12 +174,6 @@ pub has_height : (c : MarkedProgram) (marked : IsMarked c) (is : Classes) (f : F
 has_height c marked is f h k =
     let same = one_standing c marked f h.stands k in
     sym (zip_length (Holds h.stands.method is) h.stands.types.stack f.stack h.stack) ∙ ap (λ (t : TypeFrame). length t.stack) same.types
-  where
-    zip_length : {A B : Type 0} (P : A → B → Type 0) (xs : List A) (ys : List B) → AllZip P xs ys → length xs ≡ length ys
-    zip_length P [] [] h = refl
-    zip_length P [] (y ∷ ys) h = absurd h
-    zip_length P (x ∷ xs) [] h = absurd h
-    zip_length P (x ∷ xs) (y ∷ ys) h = ap suc (zip_length P xs ys h.1)
 
 -- ---- the laws
 

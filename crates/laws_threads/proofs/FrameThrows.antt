@@ -2,11 +2,14 @@
 use Rattle.std.{proofs.Common.{◌≡◌, ℕ, Bool, true, false, cond, not, ◌&&◌, ◌||◌, List, [], ◌∷◌, ◌++◌, Some, None, refl, sym, ap, ◌∙◌, subst, ◌==◌}, specs.List.{AllByRecursion, list_any, filter}}
 use Rattle.jvm_types.specs.{ClassTree.is_subclass, CodeTable.can_throw, Verifying.{is_return, covers, covering}, declared.{code.Insn.Insn, program.{MethodInfo.MethodInfo, Program.Program, Row.Row}}}
 use Rattle.jvm_types.specs.declared.program.Target.{Target}
+use Rattle.laws_programs.proofs.LocalGoing.{at_index}
 use Rattle.checked_program.specs.{LockTags.IsShapeBelow, MarkedProgram.{MarkedProgram, IsMarked}, Tagging.{catches_all, until_all, tags_at_handler}, Visits.EdgeFits}
+use Rattle.checked_program.proofs.CheckedPlaces.{catchers_among}
 use Rattle.machine_types.specs.{Frames.{Top, effect_at, frames_of, handler_of, handler_at, caught}, Shown.{Shows, ShowsAtCall, ShowBelow, Show}, Standing.{Standing, Whole, Thrown}}
 use Rattle.machine_types.specs.{Structure.{TopIs, any_op}, Threads.Frame, declared.effect.Effect.{Effect, TheVariants.{Throws, Raises, Indexes, Makes, Calls, Waits, Notifies, NotifiesAll}}}
 use Rattle.laws_threads.specs.{CallLaws.IsLeft, ThrowLaws.{may_throw, EffectsThrow, ThrowsShow, CaughtShows, ThrowsOn, UnwoundShows, UnwindsBehindRelease}}
 use Rattle.laws_threads.proofs.{FramePlaces.{one_standing, sound_at, top_by}, FrameReturns.{is_call, left, leaves_one}, ShownFrames.{by_top, fits_at, landed, whole_landed}}
+use Rattle.laws_threads.proofs.TypedMoves.{handler_found}
 use Rattle.laws_threads.proofs.EffectsOfInsns as effects
 
 -- ---- effects
@@ -35,22 +38,6 @@ throws_law c fs shown at is e s t =
 
 -- ---- rows
 
--- the row that catches is one of those up to the first that catches all
-among : (P : Row → Type 0) (pc class : ℕ) (rows : List Row) (r : Row) → handler_of pc class rows ≡ Some r → AllByRecursion P (until_all (filter (covers pc) rows)) → P r
-among P pc class [] r e h = absurd (cc)
-among P pc class (x ∷ rows) r e h = by_cover (covers pc x) e h (among P pc class rows r)
-  where
-    by_catch : (b d : Bool) → cond (b || d) (Some x) (handler_of pc class rows) ≡ Some r → AllByRecursion P (cond b (x ∷ []) (x ∷ until_all (filter (covers pc) rows)))
-        → (handler_of pc class rows ≡ Some r → AllByRecursion P (until_all (filter (covers pc) rows)) → P r) → P r
-    by_catch true d e h more = let same : x ≡ r = cc in subst P same h.0
-    by_catch false true e h more = let same : x ≡ r = cc in subst P same h.0
-    by_catch false false e h more = more e h.1
-
-    by_cover : (a : Bool) → cond (a && (x.catch_class == 0 || is_subclass class x.catch_class)) (Some x) (handler_of pc class rows) ≡ Some r → AllByRecursion P (until_all (cond a (x ∷ filter (covers pc) rows) (filter (covers pc) rows)))
-        → (handler_of pc class rows ≡ Some r → AllByRecursion P (until_all (filter (covers pc) rows)) → P r) → P r
-    by_cover true e h more = by_catch (x.catch_class == 0) (is_subclass class x.catch_class) e h more
-    by_cover false e h more = more e h
-
 -- where none catches there is none that catches all
 pub none_catches : (pc class : ℕ) (rows : List Row) → handler_of pc class rows ≡ None → list_any catches_all (filter (covers pc) rows) ≡ false
 none_catches pc class [] e = refl
@@ -66,7 +53,7 @@ none_catches pc class (x ∷ rows) e = by_cover (covers pc x) e (none_catches pc
     by_cover true e more = by_catch (x.catch_class == 0) (is_subclass class x.catch_class) e more
     by_cover false e more = more e
 
-may_leave_by : (a b d : Bool) → b ≡ true → d ≡ false → (a || (b && not d)) ≡ true
+pub may_leave_by : (a b d : Bool) → b ≡ true → d ≡ false → (a || (b && not d)) ≡ true
 may_leave_by true b d e f = refl
 may_leave_by false true false e f = refl
 may_leave_by false true true e f = absurd (cc)
@@ -80,8 +67,9 @@ module _ (c : MarkedProgram) (is : IsMarked c) where
       let k = top.stands in
       let all : AllByRecursion (λ (handler : Row). EdgeFits IsShapeBelow k.method.code k.at.frames (tags_at_handler k.tags) handler.handler) (until_all (covering k.method k.insn.pc)) =
       subst (λ (b : Bool). AllByRecursion (λ (handler : Row). EdgeFits IsShapeBelow k.method.code k.at.frames (tags_at_handler k.tags) handler.handler) (cond b (until_all (covering k.method k.insn.pc)) [])) t (sound_at c is f k).handlers_fit in
+      let among = catchers_among k.method k.insn.pc class r (sym (handler_found k.insn.pc class k.method.rows) ∙ ap (λ (n : ℕ). handler_of n class k.method.rows) k.pc_is ∙ e) in
       let fits : EdgeFits IsShapeBelow k.method.code k.at.frames (tags_at_handler k.tags) r.handler =
-      among (λ (handler : Row). EdgeFits IsShapeBelow k.method.code k.at.frames (tags_at_handler k.tags) handler.handler) k.insn.pc class k.method.rows r (ap (λ (n : ℕ). handler_of n class k.method.rows) k.pc_is ∙ e) all in
+      at_index (λ (handler : Row). EdgeFits IsShapeBelow k.method.code k.at.frames (tags_at_handler k.tags) handler.handler) (until_all (covering k.method k.insn.pc)) among.0 r all among.1 in
       subst (λ (xs : List ℕ). Shows c Whole (record f { pc = r.handler; stack = x ∷ [] }) xs) (sym top.shown_are)
       (whole_landed c is (record f { pc = r.handler; stack = x ∷ [] }) k.method k.at.frames (tags_at_handler k.tags) top.choice (landed c is f k (tags_at_handler k.tags) r.handler f.locals (x ∷ []) fits) top.locals (tt, tt))
 

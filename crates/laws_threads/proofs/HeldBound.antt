@@ -6,6 +6,7 @@ use Rattle.checked_program.specs.{LockTags.TagShape, MarkedProgram.MarkedProgram
 use Rattle.machine_types.specs.{Frames.monitor_of, HeldMonitors.{held_at, held_in_frame, most_in, most_held, places_of}, Shown.{Shows, ShowBelow, Show, own_entry, tag_value}}
 use Rattle.machine_types.specs.{Standing.{Operands, Whole}, Structure.{AreHeldOnce, Stands, IsAs, count_in, held_depth, once_at}, Threads.Frame, declared.{lock.Held.Held, phase.Phase.Phase}}
 use Rattle.laws_threads.{specs.HeldLaws.{AddsHeld, HeldHasRoom}, proofs.HeldLists.{depth_by, depth_none}}
+use Rattle.laws_threads.proofs.Tests.{either_way}
 use Rattle.machine_types.specs.declared.lock.Kept.TheVariants as keeps
 use Rattle.machine_types.specs.declared.phase.Phase.TheVariants as phases
 
@@ -17,11 +18,9 @@ without_all m (n ∷ ns) = cond (n == m) (without_all m ns) (n ∷ without_all m
 
 without_length : (m : ℕ) (ns : List ℕ) → length (without_all m ns) + count_in m ns ≡ length ns
 without_length m [] = refl
-without_length m (n ∷ ns) = by_test (n == m) (without_length m ns)
-  where
-    by_test : (b : Bool) → length (without_all m ns) + count_in m ns ≡ length ns → length (cond b (without_all m ns) (n ∷ without_all m ns)) + (cond b 1 0 + count_in m ns) ≡ length (n ∷ ns)
-    by_test true e = omega arith
-    by_test false e = omega arith
+without_length m (n ∷ ns) = either_way (λ (b : Bool). length (without_all m ns) + count_in m ns ≡ length ns → length (cond b (without_all m ns) (n ∷ without_all m ns)) + (cond b 1 0 + count_in m ns) ≡ length (n ∷ ns)) (n == m)
+    (λ e. omega arith)
+    (λ e. omega arith) (without_length m ns)
 
 added : (b : Bool) (x y : ℕ) → b ≡ false → x ≡ y → x ≡ cond b 1 0 + y
 added true x y e f = absurd (cc)
@@ -29,18 +28,12 @@ added false x y e f = omega arith
 
 without_count : (m k : ℕ) (ns : List ℕ) → (m == k) ≡ false → count_in k (without_all m ns) ≡ count_in k ns
 without_count m k [] d = refl
-without_count m k (n ∷ ns) d = by_test (n == m) refl (without_count m k ns d)
-  where
-    by_test : (b : Bool) → (n == m) ≡ b → count_in k (without_all m ns) ≡ count_in k ns → count_in k (cond b (without_all m ns) (n ∷ without_all m ns)) ≡ cond (n == k) 1 0 + count_in k ns
-    by_test true t e = let same : n ≡ m = grind (arith, nat_tests, t) in let other : (n == k) ≡ false = ap (λ (i : ℕ). i == k) same ∙ d in added (n == k) (count_in k (without_all m ns)) (count_in k ns) other e
-    by_test false t e = ap (λ (i : ℕ). cond (n == k) 1 0 + i) e
+without_count m k (n ∷ ns) d = either_way (λ (b : Bool). (n == m) ≡ b → count_in k (without_all m ns) ≡ count_in k ns → count_in k (cond b (without_all m ns) (n ∷ without_all m ns)) ≡ cond (n == k) 1 0 + count_in k ns) (n == m)
+    (λ t e. let same : n ≡ m = grind (arith, nat_tests, t) in let other : (n == k) ≡ false = ap (λ (i : ℕ). i == k) same ∙ d in added (n == k) (count_in k (without_all m ns)) (count_in k ns) other e)
+    (λ t e. ap (λ (i : ℕ). cond (n == k) 1 0 + i) e) refl (without_count m k ns d)
 
 depth_first : (m : ℕ) (h : Held) (held : List Held) → held_depth m (h ∷ held) ≡ cond (h.monitor == m) h.depth (held_depth m held)
-depth_first m h held = by_test (h.monitor == m)
-  where
-    by_test : (b : Bool) → depth_by (cond b (Some h) (held_at held m)) ≡ cond b h.depth (held_depth m held)
-    by_test true = refl
-    by_test false = refl
+depth_first m h held = either_way (λ (b : Bool). depth_by (cond b (Some h) (held_at held m)) ≡ cond b h.depth (held_depth m held)) (h.monitor == m) refl refl
 
 pub few_held : (held : List Held) (shown : List ℕ) → AreHeldOnce held → ((m : ℕ) → held_depth m held ≤ count_in m shown) → length held ≤ length shown
 few_held [] shown a d = omega arith
@@ -76,11 +69,7 @@ module _ (c : MarkedProgram) where
   most = most_held c.tags
 
   own_few : (m : MethodInfo) (f : Frame) → length (own_entry c.program m f) ≤ 1
-  own_few m f = by_test (is_synchronized m.flags)
-    where
-      by_test : (b : Bool) → length (cond b (monitor_of c.program m f ∷ []) []) ≤ 1
-      by_test true = omega arith
-      by_test false = omega arith
+  own_few m f = either_way (λ (b : Bool). length (cond b (monitor_of c.program m f ∷ []) []) ≤ 1) (is_synchronized m.flags) (omega arith) (omega arith)
 
   frame_few : (operands : Operands) (f : Frame) (own : List ℕ) → Shows c operands f own → length own ≤ 1 + most
   frame_few operands f own s =
@@ -122,11 +111,9 @@ module _ (c : MarkedProgram) where
       h = record { monitor = m; kept = keeps.Flat 0; depth = 1 }
 
       at_each : (k : ℕ) (b : Bool) → (m == k) ≡ b → held_depth k held + cond b 1 0 ≤ count_in k shown → held_depth k (h ∷ held) ≤ count_in k shown
-      at_each k b e d = by_test b (depth_first k h held ∙ ap (λ (x : Bool). cond x 1 (held_depth k held)) e) d
-        where
-          by_test : (x : Bool) → held_depth k (h ∷ held) ≡ cond x 1 (held_depth k held) → held_depth k held + cond x 1 0 ≤ count_in k shown → held_depth k (h ∷ held) ≤ count_in k shown
-          by_test true f d = omega arith
-          by_test false f d = omega arith
+      at_each k b e d = either_way (λ (x : Bool). held_depth k (h ∷ held) ≡ cond x 1 (held_depth k held) → held_depth k held + cond x 1 0 ≤ count_in k shown → held_depth k (h ∷ held) ≤ count_in k shown) b
+          (λ f d. omega arith)
+          (λ f d. omega arith) (depth_first k h held ∙ ap (λ (x : Bool). cond x 1 (held_depth k held)) e) d
 
 entered_once : (b : Bool) (depth : ℕ) → 0 < depth → cond b 1 0 ≤ cond b depth 0
 entered_once true depth d = omega arith

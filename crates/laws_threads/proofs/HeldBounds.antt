@@ -2,6 +2,7 @@
 use Rattle.std.{proofs.{Common.{◌≡◌, ℕ, ◌+◌, ◌≤◌, Bool, true, false, List, [], ◌∷◌, Some, refl, subst, arith, ◌==◌, IfSome, if◌then◌else◌}, lemmas.Bool.Decides.nat_tests}, specs.List.AllByRecursion}
 use Rattle.machine_types.specs.{Bounds.{KeptFits, flat_held}, HeldMonitors.{held_at, with_held, without_held}, declared.lock.{Held.Held, Kept.Kept}}
 use Rattle.laws_threads.proofs.HeldLists.{held_monitor}
+use Rattle.laws_threads.proofs.Tests.{either_way}
 use Rattle.machine_types.specs.declared.lock.Kept.TheVariants as keeps
 
 -- ---- each monitor
@@ -9,27 +10,19 @@ use Rattle.machine_types.specs.declared.lock.Kept.TheVariants as keeps
 module _ (P : Held → Type 0) where
   pub each_put : (e : Held) (hs : List Held) → P e → AllByRecursion P hs → AllByRecursion P (with_held e hs)
   each_put e [] h all = (h, tt)
-  each_put e (g ∷ hs) h all = by_test (g.monitor == e.monitor) (each_put e hs h all.1)
-    where
-      by_test : (b : Bool) → AllByRecursion P (with_held e hs) → AllByRecursion P (if b then e ∷ hs else g ∷ with_held e hs)
-      by_test true more = (h, all.1)
-      by_test false more = (all.0, more)
+  each_put e (g ∷ hs) h all = either_way (λ (b : Bool). AllByRecursion P (with_held e hs) → AllByRecursion P (if b then e ∷ hs else g ∷ with_held e hs)) (g.monitor == e.monitor)
+      (λ more. (h, all.1))
+      (λ more. (all.0, more)) (each_put e hs h all.1)
 
   pub each_without : (m : ℕ) (hs : List Held) → AllByRecursion P hs → AllByRecursion P (without_held m hs)
   each_without m [] all = tt
-  each_without m (g ∷ hs) all = by_test (g.monitor == m) (each_without m hs all.1)
-    where
-      by_test : (b : Bool) → AllByRecursion P (without_held m hs) → AllByRecursion P (if b then hs else g ∷ without_held m hs)
-      by_test true more = all.1
-      by_test false more = (all.0, more)
+  each_without m (g ∷ hs) all = either_way (λ (b : Bool). AllByRecursion P (without_held m hs) → AllByRecursion P (if b then hs else g ∷ without_held m hs)) (g.monitor == m)
+      (λ more. all.1)
+      (λ more. (all.0, more)) (each_without m hs all.1)
 
   pub found : (m : ℕ) (hs : List Held) → AllByRecursion P hs → IfSome (held_at hs m) P
   found m [] all = tt
-  found m (g ∷ hs) all = by_test (g.monitor == m) (found m hs all.1)
-    where
-      by_test : (b : Bool) → IfSome (held_at hs m) P → IfSome (if b then Some g else held_at hs m) P
-      by_test true more = all.0
-      by_test false more = more
+  found m (g ∷ hs) all = either_way (λ (b : Bool). IfSome (held_at hs m) P → IfSome (if b then Some g else held_at hs m) P) (g.monitor == m) (λ more. all.0) (λ more. more) (found m hs all.1)
 
 -- ---- flat locks
 
@@ -38,19 +31,15 @@ flat h = flat_held (h ∷ [])
 
 pub flat_put : (e : Held) (hs : List Held) → flat_held (with_held e hs) ≤ flat e + flat_held hs
 flat_put e [] = omega arith
-flat_put e (g ∷ hs) = by_test (g.monitor == e.monitor) (flat_put e hs)
-  where
-    by_test : (b : Bool) → flat_held (with_held e hs) ≤ flat e + flat_held hs → flat_held (if b then e ∷ hs else g ∷ with_held e hs) ≤ flat e + flat_held (g ∷ hs)
-    by_test true more = omega arith
-    by_test false more = omega arith
+flat_put e (g ∷ hs) = either_way (λ (b : Bool). flat_held (with_held e hs) ≤ flat e + flat_held hs → flat_held (if b then e ∷ hs else g ∷ with_held e hs) ≤ flat e + flat_held (g ∷ hs)) (g.monitor == e.monitor)
+    (λ more. omega arith)
+    (λ more. omega arith) (flat_put e hs)
 
 pub flat_without : (m : ℕ) (hs : List Held) → flat_held (without_held m hs) ≤ flat_held hs
 flat_without m [] = omega arith
-flat_without m (g ∷ hs) = by_test (g.monitor == m) (flat_without m hs)
-  where
-    by_test : (b : Bool) → flat_held (without_held m hs) ≤ flat_held hs → flat_held (if b then hs else g ∷ without_held m hs) ≤ flat_held (g ∷ hs)
-    by_test true more = omega arith
-    by_test false more = omega arith
+flat_without m (g ∷ hs) = either_way (λ (b : Bool). flat_held (without_held m hs) ≤ flat_held hs → flat_held (if b then hs else g ∷ without_held m hs) ≤ flat_held (g ∷ hs)) (g.monitor == m)
+    (λ more. omega arith)
+    (λ more. omega arith) (flat_without m hs)
 
 -- what stands in place of the entry of its monitor
 pub flat_refit : (m : ℕ) (hs : List Held) (h e : Held) → held_at hs m ≡ Some h → e.monitor ≡ h.monitor → flat_held (with_held e hs) + flat h ≡ flat e + flat_held hs

@@ -1,5 +1,5 @@
 -- An event keeps the numbers of a thread within their bounds.
-use Rattle.std.proofs.Common.{◌≡◌, ℕ, zero, suc, ◌+◌, ◌≤◌, Bool, true, false, List, [], ◌∷◌, Option, Some, None, refl, sym, subst, ◌<◌, ◌∙◌, arith, ap, if◌then◌else◌, option_map, slice_get, find, IfSome}
+use Rattle.std.proofs.Common.{◌≡◌, ℕ, zero, suc, ◌+◌, ◌≤◌, Bool, true, List, [], ◌∷◌, Option, Some, None, refl, sym, subst, ◌<◌, ◌∙◌, arith, ap, if◌then◌else◌, option_map, slice_get, find, IfSome}
 use Rattle.std.{specs.{List.{AllByRecursion, range_with_len}, Prelude.unwrap_or}, proofs.lemmas.Bool.Decides.nat_tests}
 use Rattle.lists.proofs.ListLaws.{same_some}
 use Rattle.jvm_types.specs.{Numbers.has_flag, declared.{limits.TheConstants.MOST_WORKERS, outcome.{End.End, Thrown.TheVariants.StackOverflowError}, program.Program.Program}}
@@ -16,6 +16,7 @@ use Rattle.laws_threads.proofs.BoundedMonitors.{LockFits, lock_fits, at_found, t
 use Rattle.laws_threads.proofs.{BoundedOnward.{Fit, Spends, spends_less, bounded, fit_of, spends_of, failing, goes, goes_if, EntersNone, handed_enters_none}, HeldBounds.{found as found_held}}
 use Rattle.laws_threads.proofs.ThreadMove.{if_either, if_mapped, Looks, Lacks, GoesBy, Checks, LeadsTo, TurnsTo, Takes, Move, becomes, tried_attempt, tried_monitor, ran_made, by_move, looks_in, gives_up_in}
 use Rattle.laws_threads.proofs.TopEffects.{effects_allowed}
+use Rattle.laws_threads.proofs.Tests.{either_way}
 use Rattle.jvm_types.specs.declared.outcome.End.TheVariants as ends
 use Rattle.machine_types.specs.declared.lock.Kept.TheVariants as keeps
 use Rattle.machine_types.specs.declared.phase.Phase.TheVariants as phases
@@ -44,11 +45,9 @@ lowest_few bits = first_few (λ t. has_flag (bit_of t) bits) (range_with_len 0 9
 
     first_few : (test : ℕ → Bool) (ns : List ℕ) → AllByRecursion (λ n. n ≤ 8) ns → unwrap_or (find test ns) 0 ≤ 8
     first_few test [] all = omega arith
-    first_few test (n ∷ ns) all = by_test (test n) (first_few test ns all.1)
-      where
-        by_test : (b : Bool) → unwrap_or (find test ns) 0 ≤ 8 → unwrap_or (if b then Some n else find test ns) 0 ≤ 8
-        by_test true more = all.0
-        by_test false more = more
+    first_few test (n ∷ ns) all = either_way (λ (b : Bool). unwrap_or (find test ns) 0 ≤ 8 → unwrap_or (if b then Some n else find test ns) 0 ≤ 8) (test n)
+        (λ more. all.0)
+        (λ more. more) (first_few test ns all.1)
 
 -- the monitor of an attempt is not held
 not_held : (c : MarkedProgram) (was : Phase) (fs : List Frame) (held : List Held) (attempt : Option Attempt) → AttemptStandsIn c was fs held attempt → IfSome attempt (λ a. held_at held a.monitor ≡ None)

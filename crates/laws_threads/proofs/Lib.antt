@@ -1,3 +1,4 @@
+pub mod Tests
 pub mod ThreadMove
 pub mod MarkedMethods
 pub mod FramePlaces

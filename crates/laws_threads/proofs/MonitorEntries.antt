@@ -6,6 +6,7 @@ use Rattle.machine_types.specs.{Structure.{Stands, AttemptStands, AttemptStandsI
 use Rattle.machine_types.specs.declared.phase.Phase.{Phase}
 use Rattle.laws_threads.{specs.{InsideMoves.{BeginsAttempt, EntersInside}, StructureLaws.{StaysStructured, turned_from}}, proofs.GoingOn.entered_frame}
 use Rattle.laws_threads.proofs.{HeldLists.{held_monitor, depth_some, depth_none, raised, once_put}, Turns.{TurnsIn, running, turning, no_attempt, held_outside}}
+use Rattle.laws_threads.proofs.Tests.{either_way}
 use Rattle.machine_types.specs.declared.phase.Phase.TheVariants as phases
 
 -- ---- the lock is looked at, taken or flagged: the phases of that are alike
@@ -95,11 +96,9 @@ tried_deeper false inner = omega arith
 pub none_tried : (c : MarkedProgram) (m tried : ℕ) (fs : List Frame) (held : List Held) (h : Option Held) (o : Option Attempt) → claim_by m h o ≡ HasNot → AttemptStandsIn c (phases.Enter m tried) fs held o → o ≡ None
 none_tried c m tried fs held (Some h) o e k = absurd (cc)
 none_tried c m tried fs held None None e k = refl
-none_tried c m tried fs held None (Some a) e k = absurd (by_monitor (a.monitor == m) (eq-eqb a.monitor m (sym k.inside)) e)
-  where
-    by_monitor : (b : Bool) → b ≡ true → cond b (Tries a) HasNot ≡ HasNot → ⊥
-    by_monitor true f e = cc
-    by_monitor false f e = cc
+none_tried c m tried fs held None (Some a) e k = absurd (either_way (λ (b : Bool). b ≡ true → cond b (Tries a) HasNot ≡ HasNot → ⊥) (a.monitor == m)
+    (λ f e. cc)
+    (λ f e. cc) (eq-eqb a.monitor m (sym k.inside)) e)
 
 -- the monitor is held
 module _ (begin : BeginsAttempt) (entered_again : EntersInside) (c : MarkedProgram) (s : Thread) (m tried : ℕ) (k : Stands c (phases.Enter m tried) s.frames s.held s.attempt) (inside : AttemptStandsIn c (phases.Enter m tried) s.frames s.held s.attempt) where

@@ -1,31 +1,19 @@
 -- A thread leaves a monitor.
-use Rattle.std.proofs.Common.{◌≡◌, ℕ, suc, ◌+◌, ◌<◌, Bool, true, false, cond, List, [], ◌∷◌, length, drop, Option, Some, None, refl, sym, ap, ◌∙◌, subst, arith, ◌==◌, nat_lt, option_map}
-use Rattle.std.{specs.List.AllZip, proofs.lemmas.Bool.{ltb-true, Decides.nat_tests}}
-use Rattle.jvm_types.specs.Types.{TypeFrame}
+use Rattle.std.proofs.Common.{◌≡◌, ℕ, suc, ◌+◌, ◌<◌, Bool, true, false, cond, List, [], ◌∷◌, drop, Option, Some, None, refl, sym, ap, ◌∙◌, subst, arith, ◌==◌, nat_lt, option_map}
+use Rattle.std.{proofs.lemmas.Bool.{ltb-true, Decides.nat_tests}}
 use Rattle.checked_program.specs.MarkedProgram.{MarkedProgram, IsMarked}
 use Rattle.machine_types.specs.{Elision.elided, Frames.{Top, frames_of, returned}, Going.{with_phase, goes_on, goes_on_if, goes_after}, HeldMonitors.{held_at, with_held, without_held, shallower}}
 use Rattle.machine_types.specs.{Monitors.lets_go, Onward.{Onward, Running, after, back, unwound}, Shown.Show, Standing.Whole}
 use Rattle.machine_types.specs.Structure.{AfterShows, AreHeldOnce, IsFlat, Stands, AttemptStandsIn, count_in, held_depth, tried_depth, once_at, entries_left, operands_after}
-use Rattle.machine_types.specs.{Threads.{Frame, Attempt, Thread}, Typed.{Classes, Holds, AfterHolds, FrameHolds, FramesHold}, declared.{lock.Held.Held, phase.{After.After, Phase.Phase}}}
-use Rattle.laws_threads.{specs.{CallLaws.HasHeight, StructureLaws.StaysStructured}, proofs.FramePlaces.{one_standing_law, tops_stand_law, have_tops_law}}
-use Rattle.laws_threads.proofs.{FrameReturns.return_behind_law, FrameThrows.unwind_behind_law, GoingOn.{back_shows, unwound_shows, OnwardShows, AttemptGoesOn, none_goes_on, onward_stands, going}}
+use Rattle.machine_types.specs.{Threads.{Frame, Attempt, Thread}, Typed.{Classes, AfterHolds, FramesHold}, declared.{lock.Held.Held, phase.{After.After, Phase.Phase}}}
+use Rattle.laws_threads.{specs.StructureLaws.StaysStructured, proofs.FramePlaces.{tops_stand_law, have_tops_law}}
+use Rattle.laws_threads.proofs.{FrameReturns.{has_height, return_behind_law}, FrameThrows.unwind_behind_law, GoingOn.{back_shows, unwound_shows, OnwardShows, AttemptGoesOn, none_goes_on, onward_stands, going}}
 use Rattle.laws_threads.proofs.{HeldLists.{OneLess, lowered, depth_some, held_positive}, Leaves.leaves_inside, Turns.{no_attempt, held_outside}}
 use Rattle.machine_types.specs.declared.lock.Kept.TheVariants as keeps
 use Rattle.machine_types.specs.declared.phase.After.TheVariants as afters
 use Rattle.machine_types.specs.declared.phase.Phase.TheVariants as phases
 use Rattle.machine_types.specs.declared.phase.Toward.TheVariants as towards
 use Rattle.laws_threads.proofs.HeldLists as lists
-
--- ---- the height of a stack
-
-zipped_length : {A B : Type 0} (R : A → B → Type 0) (xs : List A) (ys : List B) → AllZip R xs ys → length ys ≡ length xs
-zipped_length R [] [] z = refl
-zipped_length R [] (y ∷ ys) z = absurd z
-zipped_length R (x ∷ xs) [] z = absurd z
-zipped_length R (x ∷ xs) (y ∷ ys) z = ap suc (zipped_length R xs ys z.1)
-
-has_height : (c : MarkedProgram) (is : Classes) (f : Frame) → IsMarked c → FrameHolds c is 0 f → HasHeight c f
-has_height c is f marked h k = zipped_length (Holds h.stands.method is) h.stands.types.stack f.stack h.stack ∙ ap (λ (types : TypeFrame). length types.stack) (one_standing_law c f h.stands k marked).types
 
 -- ---- how it goes on behind the monitor: with one entry less, where that is shown still, and with the others
 
@@ -47,7 +35,7 @@ module _ (is : Classes) (c : MarkedProgram) (marked : IsMarked c) (m : ℕ) (sho
       let top = have_tops_law c f fs Whole shown marked show in
       let stands = tops_stand_law c (f ∷ fs) Whole shown top.0 marked show top.1 in
       let typed : FramesHold c is (frames_of top.0) = subst (λ (gs : List Frame). FramesHold c is gs) stands.1.frames holds in
-      let k = return_behind_law c (f ∷ fs) shown top.0 m marked top.1 show (has_height c is top.0.frame marked typed.0) leaves in
+      let k = return_behind_law c (f ∷ fs) shown top.0 m marked top.1 show (has_height c marked is top.0.frame typed.0) leaves in
       record { onward = back (returned c.program top.0); is = ap (λ (o : Option Top). option_map (λ (at : Top). back (returned c.program at)) o) top.1; rest = k.0; counts = less_shown k.0 k.1; shows = back_shows c (returned c.program top.0) k.0 k.2 }
   goes_behind (afters.Unwind x class) fs show leaves holds =
       let k = unwind_behind_law c fs shown m marked show leaves in

@@ -5,16 +5,13 @@ use Rattle.checked_program.specs.{LockTags.TagShape, MarkedProgram.{MarkedProgra
 use Rattle.machine_types.specs.{Frames.monitor_of, Shown.{tag_value, own_entry, Shows, ShowBelow, Show}, Standing.{Operands, Whole}, Structure.{count_in, once_at, held_depth, tried_depth}}
 use Rattle.machine_types.specs.{Threads.{Frame, Attempt}, declared.lock.Held.Held}
 use Rattle.laws_threads.proofs.{Counts.longer_by, Standings.{one_method, one_tags}}
+use Rattle.laws_threads.proofs.Tests.{either_way}
 
 abbrev pub own_count : MethodInfo → ℕ
 own_count m = if is_synchronized m.flags then 1 else 0
 
 own_length : (p : Program) (m : MethodInfo) (f : Frame) → length (own_entry p m f) ≡ own_count m
-own_length p m f = by_test (is_synchronized m.flags)
-  where
-    by_test : (b : Bool) → length (if b then monitor_of p m f ∷ [] else []) ≡ (if b then 1 else 0)
-    by_test true = refl
-    by_test false = refl
+own_length p m f = either_way (λ (b : Bool). length (if b then monitor_of p m f ∷ [] else []) ≡ (if b then 1 else 0)) (is_synchronized m.flags) refl refl
 
 pub shown_length : (c : MarkedProgram) (o : Operands) (f : Frame) (own : List ℕ) (s : Shows c o f own) → length own ≡ length s.stands.tags.held + own_count s.stands.method
 shown_length c o f own s =

@@ -6,6 +6,7 @@ use Rattle.machine_types.specs.{Accesses.found_by, Bounds.IsRooted, Core.{Core, 
 use Rattle.machine_types.specs.{Typed.{HasClass, ThreadHolds}, declared.phase.Phase.Phase}
 use Rattle.laws_threads.specs.{InsideMoves.{BeginsAttempt, EntersInside}, StateLaws.{counted_of, counted_phase_at, EventsKeepStructure}, StructureLaws.StaysStructured}
 use Rattle.laws_threads.proofs.ThreadSteps.{structure_kept}
+use Rattle.laws_threads.proofs.Tests.{either_way}
 
 -- ---- one thread of a list is changed
 
@@ -42,11 +43,9 @@ module _ (begin : BeginsAttempt) (entered_again : EntersInside) (c : MarkedProgr
       by_number false g = structure u y (sym (set_other s.threads t u now g) ∙ f)
 
   unmoved : slice_get s.threads t ≡ None → Structure c (counted_phase_at was t s.threads) s.threads
-  unmoved e u y f = by_number (u == t) refl
-    where
-      by_number : (b : Bool) → (u == t) ≡ b → IsStructured c (cond b (counted_of (was t) (slice_get s.threads t)) (was u)) y
-      by_number true g = let same : u ≡ t = grind (arith, nat_tests, g) in let bad : Some y ≡ None = sym f ∙ ap (slice_get s.threads) same ∙ e in absurd (cc)
-      by_number false g = structure u y f
+  unmoved e u y f = either_way (λ (b : Bool). (u == t) ≡ b → IsStructured c (cond b (counted_of (was t) (slice_get s.threads t)) (was u)) y) (u == t)
+      (λ g. let same : u ≡ t = grind (arith, nat_tests, g) in let bad : Some y ≡ None = sym f ∙ ap (slice_get s.threads) same ∙ e in absurd (cc))
+      (λ g. structure u y f) refl
 
   event_keeps : ((x : Thread) → slice_get s.threads t ≡ Some x → ThreadHolds c (HasClass objects) x × IsRooted c.program x) → Structure c (counted_phase_at was t (event c s t).threads) (event c s t).threads
   event_keeps k = by_thread (slice_get s.threads t) refl

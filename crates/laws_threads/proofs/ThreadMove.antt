@@ -15,6 +15,7 @@ use Rattle.machine_types.specs.{Onward.{Onward, Running, Throwing, Entering, Lea
 use Rattle.machine_types.specs.{Words.{header_length, value_word}, declared.effect.Effect.Effect}
 use Rattle.machine_types.specs.declared.effect.Effect.TheVariants.{Indexes, Makes, Prints, Waits, Notifies, NotifiesAll}
 use Rattle.machine_types.specs.declared.{lock.{Held.Held, Kept.Kept, LockWord.LockWord}, phase.{After.After, Phase.Phase, Toward.Toward}}
+use Rattle.laws_threads.proofs.Tests.{either_way}
 use Rattle.jvm_types.specs.declared.outcome.End.TheVariants as ends
 use Rattle.machine_types.specs.declared.lock.Kept.TheVariants as keeps
 use Rattle.machine_types.specs.declared.lock.LockWord.TheVariants as locks
@@ -209,29 +210,19 @@ by_test P false x y f g = g refl
 pub has_held : (m : ℕ) (held : Option Held) (attempt : Option Attempt) (h : Held) → claim_by m held attempt ≡ Has h → held ≡ Some h
 has_held m (Some k) attempt h e = cc
 has_held m None None h e = absurd (cc)
-has_held m None (Some a) h e = by_monitor (a.monitor == m) e
-  where
-    by_monitor : (b : Bool) → (if b then Tries a else HasNot) ≡ Has h → None ≡ Some h
-    by_monitor true e = absurd (cc)
-    by_monitor false e = absurd (cc)
+has_held m None (Some a) h e = either_way (λ (b : Bool). (if b then Tries a else HasNot) ≡ Has h → None ≡ Some h) (a.monitor == m) (λ e. absurd (cc)) (λ e. absurd (cc)) e
 
 pub tried_attempt : (m : ℕ) (held : Option Held) (attempt : Option Attempt) (a : Attempt) → claim_by m held attempt ≡ Tries a → attempt ≡ Some a
 tried_attempt m (Some h) attempt a e = absurd (cc)
 tried_attempt m None None a e = absurd (cc)
-tried_attempt m None (Some b) a e = by_monitor (b.monitor == m) e
-  where
-    by_monitor : (t : Bool) → (if t then Tries b else HasNot) ≡ Tries a → Some b ≡ Some a
-    by_monitor true e = cc
-    by_monitor false e = absurd (cc)
+tried_attempt m None (Some b) a e = either_way (λ (t : Bool). (if t then Tries b else HasNot) ≡ Tries a → Some b ≡ Some a) (b.monitor == m) (λ e. cc) (λ e. absurd (cc)) e
 
 pub tried_monitor : (m : ℕ) (held : Option Held) (attempt : Option Attempt) (a : Attempt) → claim_by m held attempt ≡ Tries a → a.monitor ≡ m
 tried_monitor m (Some h) attempt a e = absurd (cc)
 tried_monitor m None None a e = absurd (cc)
-tried_monitor m None (Some b) a e = by_monitor (b.monitor == m) refl e
-  where
-    by_monitor : (t : Bool) → (b.monitor == m) ≡ t → (if t then Tries b else HasNot) ≡ Tries a → a.monitor ≡ m
-    by_monitor true t e = let same : b ≡ a = cc in subst (λ (x : Attempt). x.monitor ≡ m) same ((Decides-eqb b.monitor m).0 t)
-    by_monitor false t e = absurd (cc)
+tried_monitor m None (Some b) a e = either_way (λ (t : Bool). (b.monitor == m) ≡ t → (if t then Tries b else HasNot) ≡ Tries a → a.monitor ≡ m) (b.monitor == m)
+    (λ t e. let same : b ≡ a = cc in subst (λ (x : Attempt). x.monitor ≡ m) same ((Decides-eqb b.monitor m).0 t))
+    (λ t e. absurd (cc)) refl e
 
 pub not_held : (m : ℕ) (held : Option Held) (attempt : Option Attempt) → claim_by m held attempt ≡ HasNot → held ≡ None
 not_held m (Some h) attempt e = absurd (cc)
@@ -292,11 +283,9 @@ module _ (c : MarkedProgram) (s : Thread) (got : ℕ) where
 
   acquired_made : (m : ℕ) (was : Phase) → Looks s m was → (lock : LockWord) → lock_of got ≡ lock → Made was (acquires s m lock)
   acquired_made m was k (locks.Free count) e = record { move = leads (phases.Take m count) (to_take m count k e); is = refl }
-  acquired_made m was k (locks.Held u) e = by_turns (nat_lt (s.turns + 1) FLAG_FROM)
-    where
-      by_turns : (b : Bool) → Made was (failed_turn s (if b then phases.Acquire m else phases.Flag m u))
-      by_turns true = record { move = turns (phases.Acquire m) (looks_again m k); is = refl }
-      by_turns false = record { move = turns (phases.Flag m u) (flags m u k e); is = refl }
+  acquired_made m was k (locks.Held u) e = either_way (λ (b : Bool). Made was (failed_turn s (if b then phases.Acquire m else phases.Flag m u))) (nat_lt (s.turns + 1) FLAG_FROM)
+      (record { move = turns (phases.Acquire m) (looks_again m k); is = refl })
+      (record { move = turns (phases.Flag m u) (flags m u k e); is = refl })
   acquired_made m was k (locks.Flagged u) e = record { move = turns (phases.Acquire m) (looks_again m k); is = refl }
   acquired_made m was k (locks.Fat r) e = record { move = leads (phases.TakeFat m r) (to_take_fat m r k e); is = refl }
 

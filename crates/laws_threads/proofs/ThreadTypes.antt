@@ -1,11 +1,12 @@
 -- A thread that goes on keeps the types of all that it holds.
-use Rattle.std.proofs.Common.{◌≡◌, ℕ, zero, suc, ◌+◌, ◌-◌, ◌<◌, Bool, true, false, List, [], ◌∷◌, length, Option, Some, None, sym, subst, nat_lt, drop, IfSome, if◌then◌else◌}
+use Rattle.std.proofs.Common.{◌≡◌, ℕ, zero, suc, ◌+◌, ◌-◌, ◌<◌, Bool, List, [], ◌∷◌, length, Option, Some, None, sym, subst, nat_lt, drop, IfSome, if◌then◌else◌}
 use Rattle.jvm_types.specs.declared.program.Program.{Program}
 use Rattle.checked_program.specs.MarkedProgram.{MarkedProgram}
 use Rattle.machine_types.specs.{Elision.{put_back, fails}, Going.{with_phase, runs, failed_turn, root_over, goes_on, goes_on_if}, Lawful.NewFits}
 use Rattle.machine_types.specs.{Onward.{Onward, Running, Throwing, Entering, Leaving, RootReturned, Uncaught}, Threads.{Frame, Attempt, Thread}}
 use Rattle.machine_types.specs.{Typed.{Classes, FramesHold, AttemptHolds, ThreadHolds, PhaseHolds, IsObject}, declared.phase.Phase.Phase}
 use Rattle.laws_threads.proofs.Onwards.{Keeps, AreInside, Onwards, IfOnwards}
+use Rattle.laws_threads.proofs.Tests.{either_way}
 use Rattle.jvm_types.specs.declared.outcome.End.TheVariants as ends
 use Rattle.machine_types.specs.declared.phase.Phase.TheVariants as phases
 
@@ -37,22 +38,18 @@ module _ (c : MarkedProgram) (is : Classes) where
   carries (Some a) fs after k old new h = (h.0, subst (λ (below : List Frame). FramesHold c is (a.entry ∷ below)) (sym (k a.base old new)) h.1)
 
   pub runs_typed : (s : Thread) → FramesHold c is s.frames → Rests c is s → TypedBy c is (runs s)
-  runs_typed s h r = by_test (nat_lt s.counts.instructions s.cfg.steps)
-    where
-      by_test : (b : Bool) → TypedBy c is (with_phase s (if b then phases.Run else phases.Ending ends.Steps))
-      by_test true = record { values = record { phase = h; attempt = r.attempt }; new = tt; receivers = r.inside; entry = r.entry }
-      by_test false = record { values = record { phase = h; attempt = r.attempt }; new = tt; receivers = r.inside; entry = r.entry }
+  runs_typed s h r = either_way (λ (b : Bool). TypedBy c is (with_phase s (if b then phases.Run else phases.Ending ends.Steps))) (nat_lt s.counts.instructions s.cfg.steps)
+      (record { values = record { phase = h; attempt = r.attempt }; new = tt; receivers = r.inside; entry = r.entry })
+      (record { values = record { phase = h; attempt = r.attempt }; new = tt; receivers = r.inside; entry = r.entry })
 
   -- to a phase of a monitor
   pub phase_typed : (s : Thread) (phase : Phase) → PhaseHolds c is phase s.frames → NewFits phase c.program.heap → Rests c is s → TypedBy c is (with_phase s phase)
   phase_typed s phase h n r = record { values = record { phase = h; attempt = r.attempt }; new = n; receivers = r.inside; entry = r.entry }
 
   pub turn_typed : (s : Thread) (phase : Phase) → PhaseHolds c is phase s.frames → NewFits phase c.program.heap → FramesHold c is s.frames → Rests c is s → TypedBy c is (failed_turn s phase)
-  turn_typed s phase h n f r = by_test (nat_lt (s.turns + 1) s.cfg.turns)
-    where
-      by_test : (b : Bool) → TypedBy c is (record s { turns = s.turns + 1; phase = if b then phase else phases.Ending ends.Turns })
-      by_test true = record { values = record { phase = h; attempt = r.attempt }; new = n; receivers = r.inside; entry = r.entry }
-      by_test false = record { values = record { phase = f; attempt = r.attempt }; new = tt; receivers = r.inside; entry = r.entry }
+  turn_typed s phase h n f r = either_way (λ (b : Bool). TypedBy c is (record s { turns = s.turns + 1; phase = if b then phase else phases.Ending ends.Turns })) (nat_lt (s.turns + 1) s.cfg.turns)
+      (record { values = record { phase = h; attempt = r.attempt }; new = n; receivers = r.inside; entry = r.entry })
+      (record { values = record { phase = f; attempt = r.attempt }; new = tt; receivers = r.inside; entry = r.entry })
 
   -- ---- how it goes on
 

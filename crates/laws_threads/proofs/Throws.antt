@@ -1,61 +1,25 @@
 -- An attempt stands as an exception goes to a handler, or leaves the top frame.
-use Rattle.std.proofs.Common.{◌≡◌, ℕ, Bool, true, false, cond, not, ◌&&◌, ◌||◌, List, [], ◌∷◌, length, Option, Some, None, refl, sym, ap, ◌∙◌, subst, arith, ◌==◌, if◌then◌else◌}
-use Rattle.std.{specs.List.{list_any, filter}, proofs.lemmas.Bool.Decides.nat_tests}
-use Rattle.lists.proofs.ListLaws.{same_some}
-use Rattle.jvm_types.specs.{ClassTree.is_subclass, CodeTable.can_throw, Members.is_synchronized, Verifying.{covers, covering, is_return}, declared.{code.Insn.Insn, outcome.Thrown.Thrown}}
-use Rattle.jvm_types.specs.declared.program.{MethodInfo.MethodInfo, Row.Row}
-use Rattle.checked_program.specs.{MarkedProgram.{MarkedProgram, IsMarked}, TaggedCode.caught, Tagging.{catches_all, until_all, catchers, may_leave, tags_at_handler}}
+use Rattle.std.proofs.Common.{◌≡◌, ℕ, zero, suc, slice_get, Bool, true, false, ◌&&◌, ◌||◌, List, [], ◌∷◌, length, Option, Some, None, refl, sym, ap, ◌∙◌, subst, arith, ◌==◌, if◌then◌else◌}
+use Rattle.std.{specs.List.list_any, proofs.lemmas.Bool.Decides.nat_tests}
+use Rattle.lists.proofs.{ListLaws.same_some, TestLaws.{first_true, second_true}}
+use Rattle.jvm_types.specs.{CodeTable.can_throw, Members.is_synchronized, Verifying.{covering, is_return}, declared.{code.Insn.Insn, outcome.Thrown.Thrown}}
+use Rattle.jvm_types.specs.declared.program.Row.{Row}
+use Rattle.checked_program.specs.{MarkedProgram.{MarkedProgram, IsMarked}, TaggedCode.caught, Tagging.{catches_all, until_all, catchers, tags_at_handler}}
+use Rattle.checked_program.proofs.CheckedPlaces.{catchers_among}
 use Rattle.machine_types.specs.{Frames.{Top, handler_of, handler_at, monitor_of}, Onward.{Leaving, handed, unwound}, ReadyObjects.class_of, Structure.{Finishes, frames_inside}}
 use Rattle.machine_types.specs.{Threads.{Frame, Attempt}}
 use Rattle.laws_threads.{specs.InsideMoves.{GoesOnInside, OnwardStands, ThrowsInside}, proofs.{AttemptMoves.{only_entry, along, unwound_on}, Base.{entry_of, of_synchronized}}}
-use Rattle.laws_threads.proofs.{FrameReturns.leaves_none, FrameThrows.none_catches, Inside.{InAttempt, locking, runs_inside, stays}, SectionFrames.Runs, Standings.{top_here, top_at_standing, one_insn}}
+use Rattle.laws_threads.proofs.{FrameReturns.leaves_none, FrameThrows.{may_leave_by, none_catches}, Inside.{InAttempt, locking, runs_inside, stays}, SectionFrames.Runs, Standings.{top_here, top_at_standing, one_insn}}
+use Rattle.laws_threads.proofs.TypedMoves.{handler_found}
 use Rattle.jvm_types.specs.declared.code.Op.TheVariants as ops
 use Rattle.machine_types.specs.declared.phase.After.TheVariants as afters
 use Rattle.machine_types.specs.declared.phase.Phase.TheVariants as phases
 
--- ---- handlers
-
--- the row that catches is one of those up to the first that catches all
-caught_among : (pc class : ℕ) (rows : List Row) (row : Row) → handler_of pc class rows ≡ Some row → list_any (λ h. h.handler == row.handler) (until_all (filter (covers pc) rows)) ≡ true
-caught_among pc class [] row e = absurd (cc)
-caught_among pc class (r ∷ rows) row e = by_cover (covers pc r) e (caught_among pc class rows row)
-  where
-    later : List Row
-    later = filter (covers pc) rows
-
-    Among : List Row → Type 0
-    Among xs = list_any (λ (h : Row). h.handler == row.handler) (until_all xs) ≡ true
-
-    here : r ≡ row → (r.handler == row.handler) ≡ true
-    here q = let same : r.handler ≡ row.handler = ap (λ (x : Row). x.handler) q in grind (arith, nat_tests, same)
-
-    first : (b : Bool) → (r.handler == row.handler) ≡ true → list_any (λ (h : Row). h.handler == row.handler) (cond b (r ∷ []) (r ∷ until_all later)) ≡ true
-    first true q = rw q refl
-    first false q = rw q refl
-
-    second : (b t : Bool) → list_any (λ (h : Row). h.handler == row.handler) (until_all later) ≡ true → (t || list_any (λ (h : Row). h.handler == row.handler) (until_all later)) ≡ true
-    second b true q = refl
-    second b false q = q
-
-    by_catch : (b s : Bool) → cond (b || s) (Some r) (handler_of pc class rows) ≡ Some row → (handler_of pc class rows ≡ Some row → Among later) → list_any (λ (h : Row). h.handler == row.handler) (cond b (r ∷ []) (r ∷ until_all later)) ≡ true
-    by_catch true s q more = first true (here (same_some q))
-    by_catch false true q more = first false (here (same_some q))
-    by_catch false false q more = second false (r.handler == row.handler) (more q)
-
-    by_cover : (a : Bool) → cond (a && (r.catch_class == 0 || is_subclass class r.catch_class)) (Some r) (handler_of pc class rows) ≡ Some row → (handler_of pc class rows ≡ Some row → Among later) → Among (cond a (r ∷ later) later)
-    by_cover true q more = by_catch (catches_all r) (is_subclass class r.catch_class) q more
-    by_cover false q more = more q
-
--- ---- an instruction that may leave its method holds no tag
-
-leaves_by_throw : (m : MethodInfo) (insn : Insn) → can_throw insn.op ≡ true → list_any catches_all (covering m insn.pc) ≡ false → may_leave m insn ≡ true
-leaves_by_throw m insn t n = by_tests (is_return insn.op) (can_throw insn.op) (list_any catches_all (covering m insn.pc)) t n
-  where
-    by_tests : (a b d : Bool) → b ≡ true → d ≡ false → (a || (b && not d)) ≡ true
-    by_tests true b d t n = refl
-    by_tests false true false t n = refl
-    by_tests false true true t n = cc
-    by_tests false false d t n = cc
+-- the row that catches has its handler among the catchers
+any_at : {A : Type 0} (test : A → Bool) (xs : List A) (i : ℕ) (x : A) → slice_get xs i ≡ Some x → test x ≡ true → list_any test xs ≡ true
+any_at test [] i x e t = absurd (cc)
+any_at test (y ∷ xs) zero x e t = first_true (test y) (list_any test xs) (subst (λ z. test z ≡ true) (sym (same_some e)) t)
+any_at test (y ∷ xs) (suc i) x e t = second_true (test y) (list_any test xs) (any_at test xs i x e t)
 
 -- ---- the law
 
@@ -85,7 +49,8 @@ module _ (c : MarkedProgram) (marked : IsMarked c) (x : ℕ) (class : Thrown) (t
       let m = r.stands.method in
       let insn = r.stands.insn in
       let at : handler_of insn.pc (class_of class) m.rows ≡ Some row = ap (λ pc. handler_of pc (class_of class) m.rows) r.stands.pc_is ∙ e in
-      let among : list_any (λ h. h.handler == row.handler) (catchers m insn) ≡ true = subst (λ b. list_any (λ h. h.handler == row.handler) (if b then until_all (covering m insn.pc) else []) ≡ true) (sym throws) (caught_among insn.pc (class_of class) m.rows row at) in
+      let found = catchers_among m insn.pc (class_of class) row (sym (handler_found insn.pc (class_of class) m.rows) ∙ at) in
+      let among : list_any (λ h. h.handler == row.handler) (catchers m insn) ≡ true = subst (λ b. list_any (λ h. h.handler == row.handler) (if b then until_all (covering m insn.pc) else []) ≡ true) (sym throws) (any_at (λ h. h.handler == row.handler) (until_all (covering m insn.pc)) found.0 row found.1 (grind (arith, nat_tests))) in
       let there : list_any (λ h. h.handler == l.insn.pc) (catchers m insn) ≡ true = subst (λ pc. list_any (λ h. h.handler == pc) (catchers m insn) ≡ true) (sym l.pc_is) among in
       along c marked (phases.Throw x class) f held a below phases.Run k r (record f { pc = row.handler; stack = x ∷ [] }) l (tags_at_handler r.stands.tags) refl refl (caught l.insn there) tt no_exit
 
@@ -95,7 +60,7 @@ module _ (c : MarkedProgram) (marked : IsMarked c) (x : ℕ) (class : Thrown) (t
       let m = r.stands.method in
       let insn = r.stands.insn in
       let at : handler_of insn.pc (class_of class) m.rows ≡ None = ap (λ pc. handler_of pc (class_of class) m.rows) r.stands.pc_is ∙ e in
-      leaves_none c marked f r.stands (leaves_by_throw m insn throws (none_catches insn.pc (class_of class) m.rows at))
+      leaves_none c marked f r.stands (may_leave_by (is_return insn.op) (can_throw insn.op) (list_any catches_all (covering m insn.pc)) throws (none_catches insn.pc (class_of class) m.rows at))
 
   -- only a synchronized method's frame is that of an entry
   not_alone : r.stands.tags.held ≡ [] → is_synchronized r.stands.method.flags ≡ false → a.base ≡ length below → ⊥

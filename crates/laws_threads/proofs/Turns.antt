@@ -4,17 +4,16 @@ use Rattle.checked_program.specs.MarkedProgram.{MarkedProgram}
 use Rattle.machine_types.specs.{Elision.fails, Going.{with_phase, runs, failed_turn}, HeldMonitors.held_at, Structure.{CountsTurns, IsPhaseInside, Stands, AttemptStands, AttemptStandsIn}}
 use Rattle.machine_types.specs.{Threads.{Frame, Attempt, Thread}, declared.{lock.Held.Held, phase.Phase.Phase}}
 use Rattle.laws_threads.specs.StructureLaws.{StaysStructured, turned_from}
+use Rattle.laws_threads.proofs.Tests.{either_way}
 use Rattle.jvm_types.specs.declared.outcome.End.TheVariants as ends
 use Rattle.machine_types.specs.declared.phase.Phase.TheVariants as phases
 
 -- ---- to another phase
 
 pub running : (c : MarkedProgram) (was : Phase) (s : Thread) → Stands c phases.Run s.frames s.held s.attempt → AttemptStandsIn c phases.Run s.frames s.held s.attempt → StaysStructured c was (runs s)
-running c was s stands inside = by_limit (nat_lt s.counts.instructions s.cfg.steps)
-  where
-    by_limit : (left : Bool) → StaysStructured c was (with_phase s (cond left phases.Run (phases.Ending ends.Steps)))
-    by_limit true = record { is_as = refl; stands = stands; attempt = inside }
-    by_limit false = record { is_as = refl; stands = stands; attempt = inside }
+running c was s stands inside = either_way (λ (left : Bool). StaysStructured c was (with_phase s (cond left phases.Run (phases.Ending ends.Steps)))) (nat_lt s.counts.instructions s.cfg.steps)
+    (record { is_as = refl; stands = stands; attempt = inside })
+    (record { is_as = refl; stands = stands; attempt = inside })
 
 -- it stands in a phase of turns
 pub record TurnsIn (c : MarkedProgram) (phase : Phase) (s : Thread) : Type 0 where

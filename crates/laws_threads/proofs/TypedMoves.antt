@@ -11,6 +11,7 @@ use Rattle.checked_program.proofs.CheckedPlaces.{catchers_among}
 use Rattle.machine_types.specs.{Frames.{frame_on, given_back, handler_of}, Standing.Standing, Threads.Frame, Typed.{Classes, Holds, FrameHolds, WaitHolds}}
 use Rattle.laws_threads.{specs.Allowed.{OneOf, HasRowTypes}, proofs.{Callers.{handler_in, call_edge}, Calls.CallRow, Landing.{rules_at, tag_rules_at, land}}}
 use Rattle.laws_threads.proofs.{Typing.{start_holds, started_frame, values_after}, Values.{ValuesHold, holds_below, rest_holds}}
+use Rattle.laws_threads.proofs.Tests.{either_way}
 use Rattle.jvm_types.specs.Verifying as types
 use Rattle.jvm_types.specs.declared.code.Op.TheVariants as ops
 use Rattle.jvm_types.specs.declared.program.Kind.TheVariants as kinds
@@ -140,11 +141,13 @@ module _ (c : MarkedProgram) (marked : IsMarked c) (is : Classes) where
 
   catches_in : (m : MethodInfo) (is : Classes) (x class : ℕ) (r : Row) → is class x → is_subclass class THROWABLE_CLASS ≡ true → (r.catch_class == 0 || is_subclass class r.catch_class) ≡ true
       → Holds m is (Ref (caught_class r)) x
-  catches_in m is x class r k below e = inr (class, k, by_test (r.catch_class == 0) e)
-    where
-      by_test : (b : Bool) → (b || is_subclass class r.catch_class) ≡ true → is_subclass class (if b then THROWABLE_CLASS else r.catch_class) ≡ true
-      by_test true e = below
-      by_test false e = e
+  catches_in m is x class r k below e = inr (
+    class,
+    k,
+    either_way (λ (b : Bool). (b || is_subclass class r.catch_class) ≡ true → is_subclass class (if b then THROWABLE_CLASS else r.catch_class) ≡ true) (r.catch_class == 0)
+        (λ e. below)
+        (λ e. e) e,
+  )
 
   pub catches : (f : Frame) (count : ℕ) (h : FrameHolds c is count f) (x class : ℕ) (r : Row) → can_throw h.stands.insn.op ≡ true → is class x → is_subclass class THROWABLE_CLASS ≡ true
       → handler_of f.pc class h.stands.method.rows ≡ Some r → FrameHolds c is 0 (record f { pc = r.handler; stack = x ∷ [] })

@@ -9,6 +9,7 @@ use Rattle.jvm_types.{specs.declared.typing.VType.{VType, TheVariants.{Ref, This
 use Rattle.laws_programs.proofs.MonoTypes.{same_object}
 use Rattle.machine_types.specs.{Frames.frame_on, Threads.Frame, Typed.{Classes, IsMadeAt, Holds}}
 use Rattle.laws_threads.{specs.Allowed.{TakenHold, HasRowTypes, OneOf}, proofs.Values.{ValuesHold, taken_hold, moved_stack, moved_locals}}
+use Rattle.laws_threads.proofs.Tests.{either_way}
 
 module _ (m : MethodInfo) (is : Classes) where
   -- ---- the object that an `<init>` is called on
@@ -53,11 +54,9 @@ module _ (m : MethodInfo) (is : Classes) where
 
   one_started : (o : VType) (class : ℕ) (t : VType) (v : ℕ) → is_uninitialised o ≡ true → ((v : ℕ) → Holds m is o v → is class v) → Holds m is t v
       → Holds m is (if same_type o t then Ref class else t) v
-  one_started o class t v u h k = by_test (same_type o t) refl
-    where
-      by_test : (b : Bool) → same_type o t ≡ b → Holds m is (if b then Ref class else t) v
-      by_test true e = inr (class, h v (subst (λ (x : VType). Holds m is x v) (sym (same_object o t u e)) k), subclass_self class)
-      by_test false e = k
+  one_started o class t v u h k = either_way (λ (b : Bool). same_type o t ≡ b → Holds m is (if b then Ref class else t) v) (same_type o t)
+      (λ e. inr (class, h v (subst (λ (x : VType). Holds m is x v) (sym (same_object o t u e)) k), subclass_self class))
+      (λ e. k) refl
 
   all_started : (o : VType) (class : ℕ) (ts : List VType) (s : List ℕ) → is_uninitialised o ≡ true → ((v : ℕ) → Holds m is o v → is class v) → AllZip (Holds m is) ts s
       → AllZip (Holds m is) (initialised o class ts) s

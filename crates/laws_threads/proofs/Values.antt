@@ -8,6 +8,7 @@ use Rattle.jvm_types.specs.declared.{op_row.{OpRow.OpRow, Want.{Want, TheVariant
 use Rattle.jvm_types.{specs.declared.typing.VType.TheVariants.{Int, Null, Ref, This, New, Top}, proofs.{FrameOrder.{stack_below, locals_below}, TypeOrder.{subclass_self, subclass_trans}}}
 use Rattle.machine_types.specs.{Threads.Frame, Typed.{Classes, IsNullOr, Holds}}
 use Rattle.laws_threads.specs.Allowed.{WantHolds, TakenHold, GivenHolds, WriteHolds, HasRowTypes}
+use Rattle.laws_threads.proofs.Tests.{either_way}
 
 -- the values of a frame have the types of a typing
 pub record ValuesHold (m : MethodInfo) (is : Classes) (g : TypeFrame) (f : Frame) : Type 0 where
@@ -63,11 +64,9 @@ module _ (m : MethodInfo) (is : Classes) where
   want_holds (AHolder class) This v h k = inr (class, this_is class v h k, subclass_self class)
   want_holds (AHolder class) Null v h k = inl k
   want_holds (AHolder class) (Ref c) v h k = up v c class h k
-  want_holds (ToStart class) This v h k = start_this (class == m.class) refl h
-    where
-      start_this : (b : Bool) → (class == m.class) ≡ b → (b || (class == OBJECT_CLASS)) ≡ true → (is class v) ⊎ (class ≡ OBJECT_CLASS)
-      start_this true e h = inl (this_is class v e k)
-      start_this false e h = inr (grind (arith, nat_tests, h))
+  want_holds (ToStart class) This v h k = either_way (λ (b : Bool). (class == m.class) ≡ b → (b || (class == OBJECT_CLASS)) ≡ true → (is class v) ⊎ (class ≡ OBJECT_CLASS)) (class == m.class)
+      (λ e h. inl (this_is class v e k))
+      (λ e h. inr (grind (arith, nat_tests, h))) refl h
   want_holds (ToStart class) (New pc) v h k = inl (subst (λ (c : ℕ). is c v) (sym (same_class (new_class m.code m.targets pc) k.1 h)) k.2)
     where
       same_class : (c : Option ℕ) → c ≡ Some k.0 → is_class_of c class ≡ true → class ≡ k.0

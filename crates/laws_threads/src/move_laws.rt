@@ -26,11 +26,13 @@ pub fn elements_show()
 {}
 
 /// It stays where an object was made whose reference is still to be pushed.
+#[tactic(auto, using(crate::proofs::MoveProofs::making_law))]
 pub fn making_shows()
     ensures { MakingShows }
 {}
 
 /// And when it is pushed.
+#[tactic(auto, using(crate::proofs::MoveProofs::pushed_law))]
 pub fn pushed_shows()
     ensures { PushedShows }
 {}
