@@ -57,8 +57,7 @@ module _ (p : Program) (m : MethodInfo) (is : Classes) (stack : List ℕ) where
 
   kind_given : (kind : Kind) (v : ℕ) → KindHolds is kind v → Holds m is (type_of kind) v
   kind_given kinds.Int v h = h
-  kind_given kinds.Bool v h = h
-  kind_given (kinds.Ref class) v h = h
+  kind_given kind v h = h
 
   kind_kept : (kind : Kind) (v : ℕ) → WantHolds m is (want_of kind) v → KindHolds is kind (kept kind v)
   kind_kept kinds.Int v h = h

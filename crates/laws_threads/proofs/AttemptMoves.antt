@@ -1,14 +1,14 @@
 -- An attempt stands as its top frame goes along an edge, calls, returns to the frame below, or ends by an exception.
-use Rattle.std.proofs.Common.{◌≡◌, ◌≢◌, inr, ⊎_elim, ℕ, ◌-◌, ◌<◌, ◌≤◌, Bool, true, false, List, [], ◌∷◌, ◌++◌, length, take, Some, None, refl, sym, ap, ◌∙◌, subst, arith, ◌==◌, ◌||◌, slice_get, if◌then◌else◌}
+use Rattle.std.proofs.Common.{◌≡◌, ◌≢◌, inr, ⊎_elim, ℕ, ◌-◌, ◌<◌, ◌≤◌, true, List, [], ◌∷◌, ◌++◌, length, take, Some, refl, sym, ap, ◌∙◌, subst, arith, ◌==◌, ◌||◌, slice_get, if◌then◌else◌}
 use Rattle.std.proofs.lemmas.Bool.{cases_eq, Decides.nat_tests}
-use Rattle.lists.proofs.ListLaws.{same_some}
+use Rattle.lists.proofs.{ListLaws.same_some, TestLaws.second_true}
 use Rattle.jvm_types.specs.{CodeTable.{branches_to, falls_through}, Numbers.has_number, Verifying.edges, declared.{code.{Insn.Insn, Op.Op}, outcome.Thrown.Thrown, program.MethodInfo.MethodInfo}}
 use Rattle.jvm_types.specs.declared.program.Target.{Target}
 use Rattle.checked_program.specs.{LockTags.TagShape, MarkedProgram.{MarkedProgram, IsMarked}, Marks.called_method, TaggedCode.{Goes, onward, row_of}, Tagging.tags_after}
 use Rattle.laws_sections.proofs.SectionCalls.{no_exit}
-use Rattle.machine_types.specs.{Elision.put_back, Frames.{top_of, given}, Onward.{back, unwound}, Standing.Standing, Structure.{IsPhaseInside, Stands, AttemptStands, RunsSection, frames_inside}}
+use Rattle.machine_types.specs.{Elision.put_back, Frames.{top_of, given}, Onward.{back, unwound}, Standing.Standing, Structure.{IsPhaseInside, AttemptStands, RunsSection, frames_inside}}
 use Rattle.machine_types.specs.{Threads.{Frame, Attempt}, declared.{lock.Held.Held, phase.Phase.Phase}}
-use Rattle.laws_threads.{specs.InsideMoves.{GoesOnInside, OnwardStands}, proofs.{FramesInside.{one_more, put_back_over}, Inside.base_below}}
+use Rattle.laws_threads.{specs.InsideMoves.{GoesOnInside, OnwardStands}, proofs.{FramesInside.{one_more, put_back_over}, Inside.{base_below, stands_on}}}
 use Rattle.laws_threads.proofs.{SectionFrames.{Runs, Caller, IsExitOf, section_of_runs, moved, caller}, Standings.top_is}
 use Rattle.jvm_types.specs.declared.code.Op.TheVariants as ops
 use Rattle.machine_types.specs.declared.phase.Phase.TheVariants as phases
@@ -17,11 +17,7 @@ use Rattle.machine_types.specs.declared.phase.Phase.TheVariants as phases
 
 last_number : (xs : List ℕ) (n : ℕ) → has_number (xs ++ n ∷ []) n ≡ true
 last_number [] n = let e : (n == n) ≡ true = grind (arith, nat_tests) in rw e refl
-last_number (x ∷ xs) n = or_true (x == n) (has_number (xs ++ n ∷ []) n) (last_number xs n)
-  where
-    or_true : (a b : Bool) → b ≡ true → (a || b) ≡ true
-    or_true true b e = refl
-    or_true false b e = e
+last_number (x ∷ xs) n = second_true (x == n) (has_number (xs ++ n ∷ []) n) (last_number xs n)
 
 -- an instruction that falls through has an edge to the next
 pub next_edge : (insn : Insn) → falls_through insn.op ≡ true → has_number (edges insn) insn.next ≡ true
@@ -39,17 +35,7 @@ call_falls op target u e = absurd (cc)
 -- with other frames inside, and so many entries
 pub stands_inner : (c : MarkedProgram) (phase other : Phase) (fs gs : List Frame) (held : List Held) (a : Attempt) (n : ℕ) → AttemptStands c phase fs held a → IsPhaseInside a.monitor other → a.base < length gs → put_back a gs ≡ put_back a fs → RunsSection c a (frames_inside a gs)
     → AttemptStands c other gs held (record a { inner = n })
-stands_inner c phase other fs gs held a n k inside based same runs = record {
-  inside = inside;
-  not_held = k.not_held;
-  based = based;
-  goes_back = subst (λ hs. Stands c (phases.Enter a.monitor a.number) hs held None) (sym same) k.goes_back;
-  monitor = k.monitor;
-  uses = k.uses;
-  are_uses = k.are_uses;
-  marked = k.marked;
-  frames = inr runs;
-}
+stands_inner c phase other fs gs held a n k inside based same runs = stands_on c phase other fs gs held a n k inside based same (inr runs)
 
 -- another top frame in place of one
 pub put_back_top : (a : Attempt) (f g : Frame) (below : List Frame) → a.base ≤ length below → put_back a (g ∷ below) ≡ put_back a (f ∷ below)
@@ -57,10 +43,7 @@ put_back_top a f g below l = put_back_over a g below l ∙ sym (put_back_over a 
 
 -- where the frame of the entry is the top one there is none but it
 pub only_entry : (a : Attempt) (below : List Frame) → a.base ≡ length below → frames_inside a below ≡ []
-only_entry a below e = none (length below - a.base) (omega (arith, e))
-  where
-    none : (n : ℕ) → n ≡ 0 → take n below ≡ []
-    none n z = ap (λ i. take i below) z
+only_entry a below e = let zero_more : length below - a.base ≡ 0 = omega (arith, e) in ap (λ i. take i below) zero_more
 
 module _ (c : MarkedProgram) (marked : IsMarked c) (phase : Phase) (f : Frame) (held : List Held) (a : Attempt) where
   -- ---- along an edge

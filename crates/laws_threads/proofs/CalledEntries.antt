@@ -32,8 +32,7 @@ module _ (m : MethodInfo) (is : Classes) where
 
     kind_arg : (kind : Kind) (v : ℕ) → WantHolds m is (want_of kind) v → Holds called is (type_of kind) v
     kind_arg kinds.Int v h = h
-    kind_arg kinds.Bool v h = h
-    kind_arg (kinds.Ref class) v h = h
+    kind_arg kind v h = h
 
     kind_args : (args : List Kind) (s : List ℕ) → AllZip (WantHolds m is) (map want_of args) s → AllZip (Holds called is) (map type_of args) s
     kind_args [] [] h = h

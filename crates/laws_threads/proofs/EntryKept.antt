@@ -7,7 +7,7 @@ use Rattle.machine_types.specs.Elision.{put_back}
 use Rattle.machine_types.specs.Frames.{Top, at_pc, top_at, top_in, top_of, frames_of, went, went_on, waiting, taken_from, has_room, entry_frame, arguments_of, monitor_of, given_back, given, returned, handler_at}
 use Rattle.machine_types.specs.{Onward.{Onward, Running, Throwing, Entering, Leaving, threw, entered, called, back, returns, unwound, handed, done}, ReadyObjects.{class_of, thrown_of}}
 use Rattle.machine_types.specs.{Threads.{Frame, Attempt}, Words.{header_class, header_length}, declared.effect.Effect.Effect}
-use Rattle.machine_types.specs.declared.effect.Effect.TheVariants.{Goes, Throws, Reads, Writes, Indexes, Measures, Raises, Makes, Prints, Calls, Returns, Enters, Leaves, Waits, Notifies, NotifiesAll, Stuck}
+use Rattle.machine_types.specs.declared.effect.Effect.TheVariants.{Goes, Throws, Reads, Writes, Measures, Raises, Prints, Calls, Returns, Enters, Leaves}
 use Rattle.laws_threads.{specs.EntryFrames.{frames_in, KeepsEntry, StepsKeepEntry, ThrowsKeepEntry, LeavesKeepEntry}, proofs.{AttemptMoves.put_back_top, FramesInside.put_back_over, Inside.base_below}}
 use Rattle.machine_types.specs.declared.phase.After.TheVariants as afters
 
@@ -93,19 +93,14 @@ module _ (p : Program) (a : Attempt) where
     steps (Throws x) got onward e = is (threw x at) onward (in_same (threw x at) refl) e
     steps (Reads v) got onward e = is (Running (went_on p at got)) onward (went_keeps at.insn.next got) e
     steps (Writes v word) got onward e = is (Running (went_on p at 0)) onward (went_keeps at.insn.next 0) e
-    steps (Indexes array index stored) got onward e = absurd (cc)
     steps (Measures array) got onward e = is (Running (went_on p at (header_length got))) onward (went_keeps at.insn.next (header_length got)) e
     steps (Raises x) got onward e = raises (thrown_of (header_class got)) x onward e
-    steps (Makes word size) got onward e = absurd (cc)
     steps (Prints n) got onward e = is (Running (went_on p at 0)) onward (went_keeps at.insn.next 0) e
     steps (Calls number) got onward e = calls number (slice_get p.methods number) onward e
     steps Returns got onward e = is (returns p at) onward (returned_keeps (is_synchronized at.method.flags)) e
     steps (Enters n) got onward e = is (Entering n (went_on p at 0)) onward (went_keeps at.insn.next 0) e
     steps (Leaves n) got onward e = is (Leaving n afters.Next (went_on p at 0)) onward (went_keeps at.insn.next 0) e
-    steps (Waits n) got onward e = absurd (cc)
-    steps (Notifies n) got onward e = absurd (cc)
-    steps (NotifiesAll n) got onward e = absurd (cc)
-    steps Stuck got onward e = absurd (cc)
+    steps w got onward e = absurd (cc)
 
     -- an exception
     not_caught : (x : ℕ) (class : Thrown) (b : Bool) → Keeps (if b then Leaving (monitor_of p at.method at.frame) (afters.Unwind x class) (frames_of at) else unwound x class at.below)

@@ -30,10 +30,10 @@ pub record InAttempt (c : MarkedProgram) (phase : Phase) : Type 0 where
   pub tries : AttemptStands c phase (frame ∷ below) held attempt
   pub agrees : Stands c phase (frame ∷ below) held (Some attempt)
 
--- in another phase, and with other frames inside
-pub stands_on : (c : MarkedProgram) (phase other : Phase) (fs gs : List Frame) (held : List Held) (a : Attempt) → AttemptStands c phase fs held a → IsPhaseInside a.monitor other → a.base < length gs → put_back a gs ≡ put_back a fs → Finishes a other (frames_inside a gs) ⊎ RunsSection c a (frames_inside a gs)
-    → AttemptStands c other gs held a
-stands_on c phase other fs gs held a k inside based same frames = record {
+-- in another phase, with other frames inside, and so many entries
+pub stands_on : (c : MarkedProgram) (phase other : Phase) (fs gs : List Frame) (held : List Held) (a : Attempt) (n : ℕ) → AttemptStands c phase fs held a → IsPhaseInside a.monitor other → a.base < length gs → put_back a gs ≡ put_back a fs → Finishes (record a { inner = n }) other (frames_inside a gs) ⊎ RunsSection c a (frames_inside a gs)
+    → AttemptStands c other gs held (record a { inner = n })
+stands_on c phase other fs gs held a n k inside based same frames = record {
   inside = inside;
   not_held = k.not_held;
   based = based;
@@ -47,7 +47,7 @@ stands_on c phase other fs gs held a k inside based same frames = record {
 
 -- with the same frames
 pub stays : (c : MarkedProgram) (phase other : Phase) (f : Frame) (below : List Frame) (held : List Held) (a : Attempt) → AttemptStands c phase (f ∷ below) held a → IsPhaseInside a.monitor other → (Finishes a phase (frames_inside a (f ∷ below)) → ⊥) → AttemptStands c other (f ∷ below) held a
-stays c phase other f below held a k inside never = stands_on c phase other (f ∷ below) (f ∷ below) held a k inside k.based refl (inr (⊎_elim (λ x. absurd (never x)) (λ x. x) k.frames))
+stays c phase other f below held a k inside never = stands_on c phase other (f ∷ below) (f ∷ below) held a a.inner k inside k.based refl (inr (⊎_elim (λ x. absurd (never x)) (λ x. x) k.frames))
 
 -- ---- what the top frame may do
 

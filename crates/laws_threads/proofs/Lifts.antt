@@ -1,6 +1,6 @@
 -- What holds of values where some objects are there holds where more are.
 use Rattle.std.{proofs.Common.{ℕ, inl, inr, List, [], ◌∷◌, drop}, specs.List.AllZip}
-use Rattle.jvm_types.specs.declared.{program.MethodInfo.MethodInfo, typing.VType.{VType, TheVariants.{Int, Null, Ref, This, New, Top}}}
+use Rattle.jvm_types.specs.declared.{program.MethodInfo.MethodInfo, typing.VType.{VType, TheVariants.{Ref, This, New}}}
 use Rattle.checked_program.specs.MarkedProgram.{MarkedProgram}
 use Rattle.machine_types.specs.{Threads.Frame, Typed.{Classes, IsNullOr, Holds, FrameHolds, WaitHolds, HoldBelow, FramesHold}}
 
@@ -10,12 +10,10 @@ module _ (is more : Classes) (up : (class v : ℕ) → is class v → more class
   null_or_up class v (inr k) = inr (k.0, up k.0 v k.1, k.2)
 
   pub holds_up : (m : MethodInfo) (t : VType) (v : ℕ) → Holds m is t v → Holds m more t v
-  holds_up m Int v h = h
-  holds_up m Null v h = h
   holds_up m (Ref class) v h = null_or_up class v h
   holds_up m This v h = up m.class v h
   holds_up m (New pc) v h = (h.0, h.1, up h.0 v h.2)
-  holds_up m Top v h = h
+  holds_up m t v h = h
 
   pub zip_up : (m : MethodInfo) (ts : List VType) (vs : List ℕ) → AllZip (Holds m is) ts vs → AllZip (Holds m more) ts vs
   zip_up m [] [] h = h

@@ -1,13 +1,13 @@
 -- What a method of a marked program has: its types and its tags, under their local laws.
-use Rattle.std.{proofs.Common.{◌≡◌, ℕ, zero, suc, Bool, true, false, cond, List, [], ◌∷◌, map, Option, Some, None, refl, sym, ap, ◌∙◌, subst, arith, ◌==◌, slice_get}, specs.List.AllByRecursion}
+use Rattle.std.{proofs.Common.{◌≡◌, ℕ, suc, Bool, true, false, cond, List, [], ◌∷◌, map, Option, Some, None, refl, sym, ap, ◌∙◌, subst, arith, ◌==◌, slice_get}, specs.List.AllByRecursion}
 use Rattle.std.proofs.lemmas.Bool.{or_parts, Decides.nat_tests}
 use Rattle.lists.proofs.ListLaws.{same_some}
 use Rattle.jvm_types.specs.{Types.TypeFrame, Verifying.{IsLaidOut, HasTyping}, declared.{code.Insn.Insn, program.{MethodInfo.MethodInfo, Program.Program}, typing.Typing.Typing}}
-use Rattle.checked_program.specs.{LockTags.{TagShape, same_tag}, MarkedProgram.{MarkedProgram, IsMarked, AreTaggings, checked_part}, Tagging.{HasTagging, IsTaggingOf, IsTagAssignment}}
+use Rattle.checked_program.specs.{LockTags.{TagShape, same_tag}, MarkedProgram.{MarkedProgram, IsMarked, checked_part}, Tagging.{HasTagging, IsTaggingOf, IsTagAssignment}}
 use Rattle.checked_program.{specs.{Visits.frame_at_pc, declared.tag.{Tag.{Tag, TheVariants.{Untagged, This, At}}, Tags.Tags}}, proofs.CheckedPlaces.checked_sound}
 use Rattle.laws_sections.{specs.ReachLaws.is_held, proofs.{TagFree.own_tag_free, TagLocal.tag_local_law}}
 use Rattle.machine_types.specs.{Shown.{IsMade, AreMade, held_tags}, Standing.tags_of}
-use Rattle.laws_threads.proofs.Lists.{map_at}
+use Rattle.laws_threads.proofs.Lists.{zip_at, zip_has, map_at}
 use Rattle.jvm_types.specs.Verifying as types
 
 -- ---- a method
@@ -18,12 +18,6 @@ pub record IsMethod (p : Program) (m : MethodInfo) (tags : List (Option TagShape
   pub types : types.IsAssignment p m frames
   pub tagged : HasTagging p m tags
   pub sound : IsTagAssignment p m tags
-
-tagging_at : (p : Program) (ms : List MethodInfo) (ts : List Tags) (i : ℕ) (m : MethodInfo) → AreTaggings p ms ts → slice_get ms i ≡ Some m → (t : Tags) × (slice_get ts i ≡ Some t) × IsTaggingOf p m t
-tagging_at p [] ts i m all e = absurd (cc)
-tagging_at p (n ∷ ms) [] i m all e = absurd all
-tagging_at p (n ∷ ms) (t ∷ ts) zero m all e = let same : n ≡ m = same_some e in (t, refl, subst (λ (x : MethodInfo). IsTaggingOf p x t) same all.0)
-tagging_at p (n ∷ ms) (t ∷ ts) (suc i) m all e = tagging_at p ms ts i m all.1 e
 
 module _ (c : MarkedProgram) (is : IsMarked c) where
   -- each method, at its number
@@ -37,13 +31,14 @@ module _ (c : MarkedProgram) (is : IsMarked c) where
   pub method_at : (mi : ℕ) (m : MethodInfo) → slice_get c.program.methods mi ≡ Some m → MethodAt mi m
   method_at mi m e =
       let s = checked_sound (checked_part c) mi m is.checked e in
-      let t = tagging_at c.program c.program.methods c.tags mi m is.tags e in
+      let t = zip_has (IsTaggingOf c.program) c.program.methods c.tags mi m is.tags e in
+      let tagged = zip_at (IsTaggingOf c.program) c.program.methods c.tags mi m t.0 is.tags e t.1 in
       record {
         tags = t.0.frames;
         frames = s.0.frames;
         its_tags = map_at (λ (x : Tags). x.frames) c.tags mi t.0 t.1;
         its_types = map_at (λ (x : Typing). x.frames) c.typings mi s.0 s.1;
-        holds = record { laid = s.2.laid; typed = s.2.typed; types = s.2.sound; tagged = t.2; sound = tag_local_law c.program m s.0.frames t.0.frames s.2.laid s.2.typed t.2 };
+        holds = record { laid = s.2.laid; typed = s.2.typed; types = s.2.sound; tagged = tagged; sound = tag_local_law c.program m s.0.frames t.0.frames s.2.laid s.2.typed tagged };
       }
 
   -- with the lists of tags and of types that are found there

@@ -1,5 +1,5 @@
 -- The threads of a part that begins are structured.
-use Rattle.std.proofs.Common.{◌≡◌, ℕ, zero, suc, ◌+◌, ◌<◌, Bool, true, false, cond, List, [], ◌∷◌, length, map, Option, Some, None, refl, sym, ap, ◌∙◌, subst, arith, slice_get, slice_set}
+use Rattle.std.proofs.Common.{◌≡◌, ℕ, zero, suc, ◌+◌, ◌<◌, Bool, true, false, cond, List, [], ◌∷◌, map, Option, Some, None, refl, sym, ap, ◌∙◌, subst, arith, slice_get, slice_set}
 use Rattle.std.specs.List.{AllByRecursion, list_all, range_with_len}
 use Rattle.lists.proofs.TestLaws.{both_are_true}
 use Rattle.jvm_types.specs.declared.{outcome.End.End, program.Program.Program}
@@ -7,10 +7,10 @@ use Rattle.checked_program.specs.MarkedProgram.{MarkedProgram}
 use Rattle.machine_types.specs.Accesses.{found_by}
 use Rattle.machine_types.specs.Core.{event_of, start_thread, part_phase, ended_by, may_begin_by, may_begin, with_roots, how_ended, workers_begin, done_begins, part_begins, next_threads}
 use Rattle.machine_types.specs.{Events.{wanted, moved}, Parts.{run_roots, done_roots, has_returned, has_finished}, Shown.Show, Standing.Whole}
-use Rattle.machine_types.specs.{Structure.{AreHeldOnce, Stands, AttemptStandsIn, IsAs, IsStructured, Structure, count_in, held_depth, tried_depth}, Threads.{Frame, Attempt, Thread}}
-use Rattle.machine_types.specs.declared.{config.Config.Config, lock.Held.Held, phase.Phase.Phase}
+use Rattle.machine_types.specs.{Structure.{AreHeldOnce, Stands, IsAs, IsStructured, Structure, count_in, held_depth, tried_depth}, Threads.Thread}
+use Rattle.machine_types.specs.declared.{config.Config.Config, phase.Phase.Phase}
 use Rattle.laws_threads.specs.{PartLaws.{PartFits, PartsFit, StartFitsParts, EventsFitParts, NextFitsParts, NextKeepsStructure}, StateLaws.counted_of, StructureLaws.counted_by}
-use Rattle.laws_threads.proofs.{Lists.mapped_at, ThreadSteps.over_counts, Turns.no_attempt}
+use Rattle.laws_threads.proofs.{Lists.mapped_at, ThreadSteps.over_counts, Turns.{no_attempt, no_try}}
 use Rattle.jvm_types.specs.declared.outcome.End.TheVariants as ends
 use Rattle.machine_types.specs.declared.phase.Phase.TheVariants as phases
 
@@ -106,10 +106,6 @@ pub record Rests (c : MarkedProgram) (w : Thread) : Type 0 where
   pub once : AreHeldOnce w.held
   pub empty : w.frames ≡ []
   pub none : w.attempt ≡ None
-
-no_try : (c : MarkedProgram) (phase : Phase) (fs : List Frame) (held : List Held) (o : Option Attempt) → fs ≡ [] → AttemptStandsIn c phase fs held o → o ≡ None
-no_try c phase fs held None e k = refl
-no_try c phase fs held (Some a) e k = let short : length fs ≡ 0 = ap (length {A = Frame}) e in let deep : a.base < length fs = k.based in absurd (omega arith)
 
 module _ (c : MarkedProgram) (was : Phase) (w : Thread) (k : IsStructured c was w) where
   idle_rests : w.phase ≡ phases.Idle → Rests c w

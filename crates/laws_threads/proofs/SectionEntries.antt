@@ -88,10 +88,7 @@ module _ (c : MarkedProgram) (marked : IsMarked c) where
       by_stack (t ∷ ts) q z = (t, ts, q, ap (λ o. (tags_by_op pc row o f.stack f).held) is ∙ ap (λ s. (tags_by_op pc row ops.Monitorenter s f).held) q)
 
   goes_next : (op : Op) (next pc : ℕ) → op ≡ ops.Monitorenter → next ≡ pc → has_number (branches_to op ++ (if falls_through op then next ∷ [] else [])) pc ≡ true
-  goes_next op next pc is p = subst (λ o. has_number (branches_to o ++ (if falls_through o then next ∷ [] else [])) pc ≡ true) (sym is) (one (grind (arith, nat_tests, p)))
-    where
-      one : (next == pc) ≡ true → ((next == pc) || false) ≡ true
-      one q = rw q refl
+  goes_next op next pc is p = subst (λ o. has_number (branches_to o ++ (if falls_through o then next ∷ [] else [])) pc ≡ true) (sym is) (let same : (next == pc) ≡ true = grind (arith, nat_tests, p) in rw same refl)
 
   -- the tags of the `monitorenter`, the tag that it took, and the edge
   pub record Took (f : Frame) (k : Standing c f) (g : TagShape) (insn : Insn) (target : Target) : Type 0 where

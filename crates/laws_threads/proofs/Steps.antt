@@ -86,7 +86,7 @@ module _ (c : MarkedProgram) (marked : IsMarked c) (thread : InAttempt c phases.
       let on : n ≡ a.monitor = leaves_on c marked phases.Run f below held a k r this n d in
       let edge : has_number (edges r.stands.insn) l.insn.pc ≡ true = subst (λ pc. has_number (edges r.stands.insn) pc ≡ true) (sym l.pc_is) (next_edge r.stands.insn (falls (Leaves n) is (λ x. x))) in
       let inside : frames_inside a (g ∷ below) ≡ g ∷ frames_inside a below = one_more a g below low in
-      stands_on c phases.Run (phases.Leave n afters.Next) (f ∷ below) (g ∷ below) held a k on k.based (put_back_top a f g below low)
+      stands_on c phases.Run (phases.Leave n afters.Next) (f ∷ below) (g ∷ below) held a a.inner k on k.based (put_back_top a f g below low)
       (⊎_elim
       (λ (runs : RunsSection c a (g ∷ frames_inside a below)). inr (subst (RunsSection c a) (sym inside) runs))
       (λ (x : (frames_inside a below ≡ []) × IsExitOf c marked a f r.stands).

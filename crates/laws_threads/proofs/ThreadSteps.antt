@@ -1,5 +1,5 @@
 -- Each event of a thread keeps its locking structured.
-use Rattle.std.proofs.Common.{◌≡◌, inl, inr, ℕ, ◌<◌, Bool, true, false, cond, List, [], ◌∷◌, ◌++◌, length, Option, Some, None, refl, sym, ap, ◌∙◌, subst, arith, ◌+◌, nat_lt, slice_get, option_map, ◌&&◌, IsTrue}
+use Rattle.std.proofs.Common.{◌≡◌, inl, inr, ℕ, ◌<◌, Bool, true, false, cond, List, [], ◌∷◌, ◌++◌, Option, Some, None, refl, sym, ap, ◌∙◌, subst, arith, ◌+◌, nat_lt, slice_get, option_map, ◌&&◌, IsTrue}
 use Rattle.std.specs.List.{AllByRecursion}
 use Rattle.jvm_types.specs.{Members.is_synchronized, Numbers.has_number, declared.{limits.TheConstants.MOST_ATTEMPTS, outcome.{End.End, Thrown.TheVariants.StackOverflowError}}}
 use Rattle.jvm_types.specs.declared.program.{MethodInfo.MethodInfo, Row.Row}
@@ -16,7 +16,7 @@ use Rattle.laws_threads.proofs.MonitorEntries.{from_take, from_flag, from_take_f
 use Rattle.laws_threads.proofs.{MoveProofs.{elements_law, pushed_law}, Releases.{AtExit, left_with, left_deeper, left_last, grows_first, left_elided, left_inside}, Roots.{IsSomeRoot, part_root}}
 use Rattle.laws_threads.proofs.Steps.{elements_inside}
 use Rattle.laws_threads.proofs.ThreadMove.{Looks, Lacks, GoesBy, Checks, LeadsTo, TurnsTo, Takes, GivesUp, Move, becomes, mover, by_move, of_mover, not_held, tried_attempt, tried_monitor}
-use Rattle.laws_threads.proofs.{Throws.throws_inside, Turns.{failing, no_attempt, outside}}
+use Rattle.laws_threads.proofs.{Throws.throws_inside, Turns.{no_try, failing, no_attempt, outside}}
 use Rattle.laws_threads.proofs.Waits.{to_own, not_grown, to_fat_in, fattened, to_wait_out, given_up, waits_on, to_retake, retakes_not, retaken, notified, to_notify_one, notified_one, notified_all}
 use Rattle.jvm_types.specs.declared.outcome.End.TheVariants as ends
 use Rattle.jvm_types.specs.declared.outcome.Thrown as outcomes
@@ -105,10 +105,6 @@ module _ (c : MarkedProgram) (marked : IsMarked c) (was : Phase) (s : Thread) wh
 over_stands : (c : MarkedProgram) (e : End) (fs : List Frame) (held : List Held) (o : Option Attempt) → Stands c (phases.Ending e) fs held o → Stands c (phases.Ended e) fs held o
 over_stands c e fs held o k = record { shown = k.shown; show = k.show; depths = k.depths; once = k.once; phase_shows = k.phase_shows }
 
-over_inside : (c : MarkedProgram) (e : End) (fs : List Frame) (held : List Held) (o : Option Attempt) → fs ≡ [] → AttemptStandsIn c (phases.Ending e) fs held o → AttemptStandsIn c (phases.Ended e) fs held o
-over_inside c e fs held None none k = tt
-over_inside c e fs held (Some a) none k = let zero_long : length fs ≡ 0 = ap (length {A = Frame}) none in let deep : a.base < length fs = k.based in absurd (omega arith)
-
 ends_keeps : (c : MarkedProgram) (was : Phase) (s : Thread) (e : End) → IsLimitAt e (phases.Ending e) was → Stands c was s.frames s.held s.attempt → AttemptStandsIn c was s.frames s.held s.attempt → StaysStructured c was (with_phase s (phases.Ended e))
 ends_keeps c was s ends.Steps l k inside = record { is_as = l; stands = k; attempt = inside }
 ends_keeps c was s ends.Prints l k inside = record { is_as = l; stands = k; attempt = inside }
@@ -117,7 +113,7 @@ ends_keeps c was s ends.Records l k inside = record { is_as = l; stands = k; att
 ends_keeps c was s e l k inside =
     let at : Stands c (phases.Ending e) s.frames s.held s.attempt = subst (λ (phase : Phase). Stands c phase s.frames s.held s.attempt) l k in
     let within : AttemptStandsIn c (phases.Ending e) s.frames s.held s.attempt = subst (λ (phase : Phase). AttemptStandsIn c phase s.frames s.held s.attempt) l inside in
-    record { is_as = refl; stands = over_stands c e s.frames s.held s.attempt at; attempt = over_inside c e s.frames s.held s.attempt at.phase_shows within }
+    record { is_as = refl; stands = over_stands c e s.frames s.held s.attempt at; attempt = no_attempt c (phases.Ended e) s.frames s.held s.attempt (no_try c (phases.Ending e) s.frames s.held s.attempt at.phase_shows within) }
 
 pub over_counts : (was : Phase) (e : End) → IsLimitAt e (phases.Ended e) was → counted_by was (phases.Ended e) ≡ was
 over_counts was ends.Steps l = refl

@@ -1,5 +1,5 @@
 -- How a thread goes on from an event: to its next instruction, to another turn, or to the limit that it made.
-use Rattle.std.proofs.Common.{◌≡◌, ℕ, ◌+◌, Bool, true, false, cond, List, Option, Some, None, refl, sym, ◌∙◌, subst, nat_lt}
+use Rattle.std.proofs.Common.{◌≡◌, ℕ, ◌+◌, ◌<◌, Bool, true, false, cond, List, [], length, ap, arith, Option, Some, None, refl, sym, ◌∙◌, subst, nat_lt}
 use Rattle.checked_program.specs.MarkedProgram.{MarkedProgram}
 use Rattle.machine_types.specs.{Elision.fails, Going.{with_phase, runs, failed_turn}, HeldMonitors.held_at, Structure.{CountsTurns, IsPhaseInside, Stands, AttemptStands, AttemptStandsIn}}
 use Rattle.machine_types.specs.{Threads.{Frame, Attempt, Thread}, declared.{lock.Held.Held, phase.Phase.Phase}}
@@ -45,6 +45,11 @@ turning c was s phase k limit = by_limit (nat_lt (s.turns + 1) s.cfg.turns)
 pub no_attempt : (c : MarkedProgram) (phase : Phase) (fs : List Frame) (held : List Held) (o : Option Attempt) → o ≡ None → AttemptStandsIn c phase fs held o
 no_attempt c phase fs held None e = tt
 no_attempt c phase fs held (Some a) e = absurd (cc)
+
+-- without frames
+pub no_try : (c : MarkedProgram) (phase : Phase) (fs : List Frame) (held : List Held) (o : Option Attempt) → fs ≡ [] → AttemptStandsIn c phase fs held o → o ≡ None
+no_try c phase fs held None e k = refl
+no_try c phase fs held (Some a) e k = let short : length fs ≡ 0 = ap (length {A = Frame}) e in let deep : a.base < length fs = k.based in absurd (omega arith)
 
 -- in a phase that no attempt is in
 pub outside : (c : MarkedProgram) (phase : Phase) (fs : List Frame) (held : List Held) (o : Option Attempt) → ((m : ℕ) → IsPhaseInside m phase → ⊥) → AttemptStandsIn c phase fs held o → o ≡ None

@@ -1,14 +1,14 @@
 -- The frame after an instruction has the types that verification gives it: generic in the row.
-use Rattle.std.{proofs.Common.{◌≡◌, ℕ, inl, inr, Bool, true, false, not, List, [], ◌∷◌, Option, Some, None, refl, sym, subst, arith, if◌then◌else◌}, specs.List.{AllZip, AllByRecursion}}
-use Rattle.std.proofs.lemmas.Bool.{or_parts, Decides.nat_tests}
+use Rattle.std.{proofs.Common.{◌≡◌, ℕ, inl, inr, Bool, true, false, not, List, [], ◌∷◌, Option, Some, None, refl, sym, subst, if◌then◌else◌}, specs.List.{AllZip, AllByRecursion}}
+use Rattle.std.proofs.lemmas.Bool.{or_parts}
 use Rattle.lists.proofs.TestLaws.{is_true}
 use Rattle.jvm_types.specs.Types.{TypeFrame, is_uninitialised, same_type}
 use Rattle.jvm_types.specs.Verifying.{suits, some_taken, some_read, new_class, is_class_of, takes_too_many, mistypes, started, initialised, after_start, frame_after, FrameFits}
-use Rattle.jvm_types.specs.declared.{code.Insn.Insn, op_row.{OpRow.OpRow, Want.{Want, TheVariants.{AnyValue, AnInt, AnObject, AnyReference, AHolder, ToStart}}}, program.MethodInfo.MethodInfo}
+use Rattle.jvm_types.specs.declared.{code.Insn.Insn, op_row.{OpRow.OpRow, Want.{Want, TheVariants.ToStart}}, program.MethodInfo.MethodInfo}
 use Rattle.jvm_types.{specs.declared.typing.VType.{VType, TheVariants.{Ref, This, New}}, proofs.TypeOrder.subclass_self}
 use Rattle.laws_programs.proofs.MonoTypes.{same_object}
 use Rattle.machine_types.specs.{Frames.frame_on, Threads.Frame, Typed.{Classes, IsMadeAt, Holds}}
-use Rattle.laws_threads.{specs.Allowed.{TakenHold, HasRowTypes, OneOf}, proofs.Values.{ValuesHold, taken_hold, moved_stack, moved_locals}}
+use Rattle.laws_threads.{specs.Allowed.{TakenHold, HasRowTypes, OneOf}, proofs.Values.{same_class, ValuesHold, taken_hold, moved_stack, moved_locals}}
 use Rattle.laws_threads.proofs.Tests.{either_way}
 
 module _ (m : MethodInfo) (is : Classes) where
@@ -17,10 +17,6 @@ module _ (m : MethodInfo) (is : Classes) where
   abbrev pub StartHolds : Option (VType × ℕ) → Type 0
   StartHolds None = Unit {0}
   StartHolds (Some object) = (is_uninitialised object.0 ≡ true) × ((v : ℕ) → Holds m is object.0 v → is object.1 v)
-
-  same_class : (c : Option ℕ) (d class : ℕ) → c ≡ Some d → is_class_of c class ≡ true → class ≡ d
-  same_class None d class e h = absurd (cc)
-  same_class (Some c) d class e h = let same : c ≡ d = cc in grind (arith, nat_tests, same, h)
 
   new_start : (class pc : ℕ) → is_class_of (new_class m.code m.targets pc) class ≡ true → (v : ℕ) → IsMadeAt m is pc v → is class v
   new_start class pc h v k = subst (λ (c : ℕ). is c v) (sym (same_class (new_class m.code m.targets pc) k.0 class k.1 h)) k.2
@@ -39,18 +35,10 @@ module _ (m : MethodInfo) (is : Classes) where
     new_start class pc (is_true (is_class_of (new_class m.code m.targets pc) class)
         (or_parts (not (is_class_of (new_class m.code m.targets pc) class)) (some_taken (λ want t. not (suits m want t)) wants ts) h).0),
   )
-  start_holds (AnyValue ∷ wants) (t ∷ ts) h = start_holds wants ts (later AnyValue t wants ts h)
-  start_holds (AnInt ∷ wants) (t ∷ ts) h = start_holds wants ts (later AnInt t wants ts h)
-  start_holds (AnObject class ∷ wants) (t ∷ ts) h = start_holds wants ts (later (AnObject class) t wants ts h)
-  start_holds (AnyReference ∷ wants) (t ∷ ts) h = start_holds wants ts (later AnyReference t wants ts h)
-  start_holds (AHolder class ∷ wants) (t ∷ ts) h = start_holds wants ts (later (AHolder class) t wants ts h)
   start_holds (ToStart class ∷ wants) (t ∷ ts) h = absurd (cc)
+  start_holds (want ∷ wants) (t ∷ ts) h = start_holds wants ts (later want t wants ts h)
   start_holds (ToStart class ∷ wants) [] h = tt
-  start_holds (AnyValue ∷ wants) [] h = tt
-  start_holds (AnInt ∷ wants) [] h = tt
-  start_holds (AnObject class ∷ wants) [] h = tt
-  start_holds (AnyReference ∷ wants) [] h = tt
-  start_holds (AHolder class ∷ wants) [] h = tt
+  start_holds (want ∷ wants) [] h = tt
 
   one_started : (o : VType) (class : ℕ) (t : VType) (v : ℕ) → is_uninitialised o ≡ true → ((v : ℕ) → Holds m is o v → is class v) → Holds m is t v
       → Holds m is (if same_type o t then Ref class else t) v

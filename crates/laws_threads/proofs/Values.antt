@@ -1,7 +1,7 @@
 -- Values and the order of types; what a row asks of values is there under a typing.
 use Rattle.std.proofs.Common.{◌≡◌, ℕ, zero, suc, ◌⊎◌, inl, inr, Bool, true, false, not, ◌||◌, ◌&&◌, List, [], ◌∷◌, length, Option, Some, None, refl, ap, sym, subst, ◌∙◌, arith, nat_lt, ◌==◌, slice_set, slice_index_or, map, drop, ◌++◌}
 use Rattle.std.{specs.List.{AllZip, AllByRecursion}, proofs.lemmas.Bool.{or_parts, Decides.nat_tests}}
-use Rattle.lists.proofs.TestLaws.{is_true}
+use Rattle.lists.proofs.TestLaws.{is_true, both_are_true}
 use Rattle.jvm_types.specs.{ClassTree.is_subclass, CodeTable.{value_of, stack_after, locals_after}, Members.is_static, Types.{TypeFrame, is_below, all_pairs, frame_below}}
 use Rattle.jvm_types.specs.{Verifying.{suits, some_taken, new_class, is_class_of}, declared.{class_numbers.TheConstants.OBJECT_CLASS, op_row.Given.{Given, TheVariants.{Fresh, Taken, Local}}}}
 use Rattle.jvm_types.specs.declared.{op_row.{OpRow.OpRow, Want.{Want, TheVariants.{AnyValue, AnInt, AnObject, AnyReference, AHolder, ToStart}}}, program.MethodInfo.MethodInfo, typing.VType.VType}
@@ -15,6 +15,10 @@ pub record ValuesHold (m : MethodInfo) (is : Classes) (g : TypeFrame) (f : Frame
   pub stack : AllZip (Holds m is) g.stack f.stack
   pub locals : AllZip (Holds m is) g.locals f.locals
   pub receiver : is_static m.flags ≡ false → is m.class f.receiver
+
+pub same_class : (c : Option ℕ) (d class : ℕ) → c ≡ Some d → is_class_of c class ≡ true → class ≡ d
+same_class None d class e h = absurd (cc)
+same_class (Some c) d class e h = let same : c ≡ d = cc in grind (arith, nat_tests, same, h)
 
 module _ (m : MethodInfo) (is : Classes) where
   -- ---- a value of a type is of every type above it
@@ -36,12 +40,8 @@ module _ (m : MethodInfo) (is : Classes) where
   pub all_below : (ts us : List VType) (s : List ℕ) → all_pairs is_below ts us ≡ true → AllZip (Holds m is) ts s → AllZip (Holds m is) us s
   all_below [] [] s h k = k
   all_below (t ∷ ts) (u ∷ us) (v ∷ s) h k =
-      let parts = and_both (is_below t u) (all_pairs is_below ts us) h in
+      let parts = both_are_true (is_below t u) (all_pairs is_below ts us) h in
       (holds_below t u v parts.0 k.0, all_below ts us s parts.1 k.1)
-    where
-      and_both : (a b : Bool) → (a && b) ≡ true → (a ≡ true) × (b ≡ true)
-      and_both true b e = (refl, e)
-      and_both false b e = absurd (cc)
   all_below ts us s h k = absurd (first_of (assumption, cc))
 
   pub values_below : (g h : TypeFrame) (f : Frame) → frame_below g h ≡ true → ValuesHold m is g f → ValuesHold m is h f
@@ -67,11 +67,7 @@ module _ (m : MethodInfo) (is : Classes) where
   want_holds (ToStart class) This v h k = either_way (λ (b : Bool). (class == m.class) ≡ b → (b || (class == OBJECT_CLASS)) ≡ true → (is class v) ⊎ (class ≡ OBJECT_CLASS)) (class == m.class)
       (λ e h. inl (this_is class v e k))
       (λ e h. inr (grind (arith, nat_tests, h))) refl h
-  want_holds (ToStart class) (New pc) v h k = inl (subst (λ (c : ℕ). is c v) (sym (same_class (new_class m.code m.targets pc) k.1 h)) k.2)
-    where
-      same_class : (c : Option ℕ) → c ≡ Some k.0 → is_class_of c class ≡ true → class ≡ k.0
-      same_class None e h = absurd (cc)
-      same_class (Some c) e h = let same : c ≡ k.0 = cc in grind (arith, nat_tests, same, h)
+  want_holds (ToStart class) (New pc) v h k = inl (subst (λ (c : ℕ). is c v) (sym (same_class (new_class m.code m.targets pc) k.0 class k.1 h)) k.2)
   want_holds want t v h k = absurd (cc)
 
   -- where no rule is broken, the values on top are what the row takes
