@@ -1,8 +1,8 @@
 -- An attempt stands as its top frame goes along an edge, calls, returns to the frame below, or ends by an exception.
-use Rattle.std.proofs.Common.{◌≡◌, ◌≢◌, inr, ⊎_elim, ℕ, ◌-◌, ◌<◌, ◌≤◌, true, List, [], ◌∷◌, ◌++◌, length, take, Some, refl, sym, ap, ◌∙◌, subst, arith, ◌==◌, ◌||◌, slice_get, if◌then◌else◌}
+use Rattle.std.proofs.Common.{false, ◌≡◌, ◌≢◌, inr, ⊎_elim, ℕ, ◌-◌, ◌<◌, ◌≤◌, true, List, [], ◌∷◌, ◌++◌, length, take, Some, refl, sym, ap, ◌∙◌, subst, arith, ◌==◌, ◌||◌, slice_get, if◌then◌else◌}
 use Rattle.std.proofs.lemmas.Bool.{cases_eq, Decides.nat_tests}
 use Rattle.lists.proofs.{ListLaws.same_some, TestLaws.second_true}
-use Rattle.jvm_types.specs.{CodeTable.{branches_to, falls_through}, Numbers.has_number, Verifying.edges, declared.{code.{Insn.Insn, Op.Op}, outcome.Thrown.Thrown, program.MethodInfo.MethodInfo}}
+use Rattle.jvm_types.specs.{CodeTable.{branches_to, falls_through}, Members.is_synchronized, Numbers.has_number, Verifying.edges, declared.{code.{Insn.Insn, Op.Op}, outcome.Thrown.Thrown, program.MethodInfo.MethodInfo}}
 use Rattle.jvm_types.specs.declared.program.Target.{Target}
 use Rattle.checked_program.specs.{LockTags.TagShape, MarkedProgram.{MarkedProgram, IsMarked}, Marks.called_method, TaggedCode.{Goes, onward, row_of}, Tagging.tags_after}
 use Rattle.laws_sections.proofs.SectionCalls.{no_exit}
@@ -10,6 +10,7 @@ use Rattle.machine_types.specs.{Elision.put_back, Frames.{top_of, given}, Onward
 use Rattle.machine_types.specs.{Threads.{Frame, Attempt}, declared.{lock.Held.Held, phase.Phase.Phase}}
 use Rattle.laws_threads.{specs.InsideMoves.{GoesOnInside, OnwardStands}, proofs.{FramesInside.{one_more, put_back_over}, Inside.{base_below, stands_on}}}
 use Rattle.laws_threads.proofs.{SectionFrames.{Runs, Caller, IsExitOf, section_of_runs, moved, caller}, Standings.top_is}
+use Rattle.laws_threads.proofs.Base.{entry_of, of_synchronized}
 use Rattle.jvm_types.specs.declared.code.Op.TheVariants as ops
 use Rattle.machine_types.specs.declared.phase.Phase.TheVariants as phases
 
@@ -63,6 +64,14 @@ module _ (c : MarkedProgram) (marked : IsMarked c) (phase : Phase) (f : Frame) (
 
   not_base : (b : Frame) (more : List Frame) → a.base ≤ length (b ∷ more) → (a.base ≡ length (b ∷ more) → ⊥) → a.base ≤ length more
   not_base b more l never = ⊎_elim (λ (e : a.base ≡ length (b ∷ more)). absurd (never e)) (λ (e : a.base ≢ length (b ∷ more)). omega (arith, l, e)) (cases_eq a.base (length (b ∷ more)))
+
+  -- only a synchronized method's frame is that of an entry
+  pub not_alone : (below : List Frame) (k : AttemptStands c phase (f ∷ below) held a) (r : Runs c a f (frames_inside a below)) → r.stands.tags.held ≡ [] → is_synchronized r.stands.method.flags ≡ false → a.base ≡ length below → ⊥
+  not_alone below k r none plain base = let bad : true ≡ false = sym (alone (frames_inside a below) r (only_entry a below base) none) ∙ plain in cc
+    where
+      alone : (rest : List Frame) (q : Runs c a f rest) → rest ≡ [] → q.stands.tags.held ≡ [] → is_synchronized q.stands.method.flags ≡ true
+      alone [] q e h = of_synchronized c marked a f q (entry_of c marked a phase (f ∷ below) held k) h
+      alone (b ∷ rest) q e h = absurd (cc)
 
   pub returned_on : (below : List Frame) (n : ℕ) (result : List ℕ) (k : AttemptStands c phase (f ∷ below) held a) → Runs c a f (frames_inside a below) → (a.base ≡ length below → ⊥) → OnwardStands c (back (given result (top_of c.program below)))
       → GoesOnInside c (back (given result (top_of c.program below))) held (record a { inner = n })

@@ -10,7 +10,8 @@ use Rattle.machine_types.specs.{Frames.{Top, effect_at, waiting, entry_frame, ar
 use Rattle.machine_types.specs.{Shown.{HaveValues, Shows, ShowsAtCall, ShowBelow, Show, own_entry}, Standing.{Standing, Whole, row_at}, Threads.Frame, declared.effect.Effect.TheVariants.Calls}
 use Rattle.machine_types.proofs.EffectCases.{HasTop}
 use Rattle.laws_threads.{specs.CallLaws.{callee_frame, CalledStand, CallsShow, CallsEnter, RootsShow}, proofs.{EffectsOfInsns.{Fits, IsCalling}, FramePlaces.{Lands, lands, top_by}}}
-use Rattle.laws_threads.proofs.{MarkedMethods.{MethodAt, method_at}, ShownFrames.{by_top, fits_at, holds_at, whole_landed}, TagValues.dropped}
+use Rattle.laws_threads.proofs.{MarkedMethods.{MethodAt, method_at}, ShownFrames.{by_top, fits_at, whole_landed}, TagValues.dropped}
+use Rattle.laws_threads.proofs.Landing.{rules_at}
 use Rattle.jvm_types.specs.declared.code.Op.TheVariants as ops
 use Rattle.jvm_types.specs.declared.program.Target.TheVariants as targets
 
@@ -95,7 +96,7 @@ module _ (c : MarkedProgram) (is : IsMarked c) where
       let same : a.called ≡ called = same_some (sym a.there ∙ d) in
       let some : is_static called.flags ≡ false → HasTop (reverse (take (length (row_at c f k).takes) f.stack)) =
       (λ s.
-      let n = takes_some c.program (site_in k.method) k.insn.pc k.insn.op k.target (row_at c f k) number called a.names d s (holds_at c is f k).has_row in
+      let n = takes_some c.program (site_in k.method) k.insn.pc k.insn.op k.target (row_at c f k) number called a.names d s (rules_at c is f k).has_row in
       some_taken n.0 (row_at c f k).takes f.stack n.1 (a.receiver (ap (λ (m : MethodInfo). is_static m.flags) same ∙ s))) in
       (own_entry c.program called (callee_frame c.program (top_by c is f below k) number called), own ++ rest, refl, entry_shows number called (reverse (take (length (row_at c f k).takes) f.stack)) d some, (own, rest, refl, waits f own top number a.names, b))
 

@@ -12,8 +12,9 @@ use Rattle.machine_types.specs.{Frames.{Top, effect_at, given, given_back, retur
 use Rattle.machine_types.specs.{Standing.{Standing, Operands, Whole, row_at}, Structure.{IsLeaving, TopLeaves}, Threads.Frame, Typed.{Classes, Holds, FrameHolds}}
 use Rattle.machine_types.{specs.declared.effect.Effect.TheVariants.Returns, proofs.EffectCases.{HasTop, HasReturned, next_edge}}
 use Rattle.laws_threads.{specs.{CallLaws.{IsLeft, HasHeight, ReturnsShow, ReturnsBehindRelease}, MoveLaws.is_lock_op}, proofs.EffectsOfInsns.is_dup}
-use Rattle.laws_threads.proofs.{FrameMoves.{plain_after, edge_fits}, FramePlaces.{one_standing, sound_at, top_by, has_top}, ShownFrames.{by_top, fits_at, holds_at, landed, whole_landed}}
+use Rattle.laws_threads.proofs.{FrameMoves.{plain_after, edge_fits}, FramePlaces.{one_standing, sound_at, top_by, has_top}, ShownFrames.{by_top, fits_at, landed, whole_landed}}
 use Rattle.laws_threads.proofs.Lists.{zip_length}
+use Rattle.laws_threads.proofs.Landing.{rules_at}
 use Rattle.jvm_types.specs.declared.code.Op.TheVariants as ops
 use Rattle.jvm_types.specs.declared.program.Target.TheVariants as targets
 use Rattle.laws_threads.proofs.EffectsOfInsns as effects
@@ -145,7 +146,7 @@ module _ (c : MarkedProgram) (is : IsMarked c) where
   returned_show f [] rest k b r h = b
   returned_show f (g ∷ gs) rest k b r h =
       let w : ShowsAtCall c f.method g b.0 = b.3 in
-      let holds = holds_at c is f k in
+      let holds = rules_at c is f k in
       let well : ReturnsWell k.method k.insn.op k.types.stack = returns_suit_all c.program k.method k.insn k.target k.types holds.rules holds.sound.after in
       let many : length (given_back k.insn.op f.stack) ≡ length (result_of k.method) = given_length k.method k.insn.op k.types.stack f.stack r well h in
       subst (λ (o : Option Top). Show c Whole (given (given_back k.insn.op f.stack) o) rest) (sym (has_top c is g gs w.shows.stands))
@@ -191,6 +192,6 @@ return_behind_law c fs shown at m is e s h l =
     let k = top.stands in
     let same = one_standing c is f l.0 k in
     let r : is_return k.insn.op ≡ true = ap (λ (x : Insn). is_return x.op) (sym same.insn) ∙ l.2 in
-    let holds = holds_at c is f k in
+    let holds = rules_at c is f k in
     let well : ReturnsWell k.method k.insn.op k.types.stack = returns_suit_all c.program k.method k.insn k.target k.types holds.rules holds.sound.after in
     (rest, ap (λ (xs : List ℕ). xs ++ rest) (leaves_one c is Whole m f own top l.0 l.1), returned_show c is f below rest k b r (returned_there c is k.method k.insn.op k.types.stack f.stack r well (h k)))) fs shown at e s h l

@@ -23,13 +23,7 @@ heap_objects p is = record { out = omega (arith, is.heap_from); ready = ready_in
     ready_inside thrown.Error own = absurd own
     ready_inside thrown.RuntimeException own = absurd own
     ready_inside thrown.InterruptedException own = absurd own
-    ready_inside thrown.ArithmeticException own = omega (arith, is.heap_from)
-    ready_inside thrown.NullPointerException own = omega (arith, is.heap_from)
-    ready_inside thrown.ArrayIndexOutOfBoundsException own = omega (arith, is.heap_from)
-    ready_inside thrown.NegativeArraySizeException own = omega (arith, is.heap_from)
-    ready_inside thrown.IllegalMonitorStateException own = omega (arith, is.heap_from)
-    ready_inside thrown.OutOfMemoryError own = omega (arith, is.heap_from)
-    ready_inside thrown.StackOverflowError own = omega (arith, is.heap_from)
+    ready_inside x own = omega (arith, is.heap_from)
 
 -- ---- the word that is found
 

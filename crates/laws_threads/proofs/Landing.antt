@@ -2,12 +2,13 @@
 use Rattle.std.proofs.Common.{◌≡◌, ℕ, List, ◌∷◌, Option, Some, ap, sym, subst, ◌∙◌, slice_get, map}
 use Rattle.lists.proofs.ListLaws.{same_some}
 use Rattle.jvm_types.specs.{Types.TypeFrame, Verifying.IsLaidOut, declared.{program.MethodInfo.MethodInfo, typing.Typing.Typing}}
-use Rattle.laws_programs.proofs.{CodeOrder.{methods_laid_out, one_number, have_targets}, EdgeTargets.lands, LeastFrames.distinct}
+use Rattle.laws_programs.proofs.{CodeOrder.{methods_laid_out, one_number, have_targets}, EdgeTargets.lands}
 use Rattle.checked_program.specs.{CheckedLaws.{AreFramesOf, IsPlace, HoldsAtInstruction}, LockTags.{TagShape, IsShapeBelow}, MarkedProgram.{MarkedProgram, IsMarked, checked_part}, TaggedCode.row_of}
-use Rattle.checked_program.{specs.{Tagging.{IsTagAssignment, IsTaggingOf}, declared.tag.Tags.Tags}, proofs.CheckedPlaces.{checked_sound, places_hold_all}}
-use Rattle.laws_sections.proofs.{TagLocal.tag_local_law, VisitsLocal.landing}
-use Rattle.machine_types.specs.{Frames.{top_at, top_in, top_of, at_pc}, Standing.{Standing, tags_of}, Threads.Frame, Typed.{Classes, FrameHolds}}
-use Rattle.laws_threads.proofs.{FramePlaces.at_number, Lists.{zip_at, mapped_at}, Values.{ValuesHold, values_below}}
+use Rattle.checked_program.{specs.Tagging.IsTagAssignment, proofs.CheckedPlaces.{checked_sound, places_hold_all}}
+use Rattle.laws_sections.proofs.VisitsLocal.{landing}
+use Rattle.machine_types.specs.{Frames.top_of, Standing.{Standing, tags_of}, Threads.Frame, Typed.{Classes, FrameHolds}}
+use Rattle.laws_threads.proofs.{FramePlaces.has_top, Lists.mapped_at, Values.{ValuesHold, values_below}}
+use Rattle.laws_threads.proofs.MarkedMethods.{method_at}
 use Rattle.jvm_types.specs.Verifying as types
 use Rattle.checked_program.specs.Tagging as tagging
 use Rattle.checked_program.specs.Visits as visits
@@ -22,11 +23,7 @@ module _ (c : MarkedProgram) (marked : IsMarked c) where
 
   -- what the frame stands at is found by its pc
   pub stand_top : (f : Frame) (fs : List Frame) (k : Standing c f) → top_of c.program (f ∷ fs) ≡ Some (record { frame = f; below = fs; method = k.method; insn = k.insn; target = k.target })
-  stand_top f fs k =
-      let d = distinct 0 k.method.code (laid_at f.method k.method k.at.in_program).bytes (laid_at f.method k.method k.at.in_program).code.spelled in
-      let insn : at_pc k.method.code k.method.code f.pc ≡ Some k.insn = subst (λ (pc : ℕ). at_pc k.method.code k.method.code pc ≡ Some k.insn) k.pc_is (at_number k.method.code k.method.code k.number k.insn k.insn d k.at.in_code k.at.in_code) in
-      let target : at_pc k.method.code k.method.targets f.pc ≡ Some k.target = subst (λ (pc : ℕ). at_pc k.method.code k.method.targets pc ≡ Some k.target) k.pc_is (at_number k.method.code k.method.targets k.number k.insn k.target d k.at.in_code k.at.names) in
-      ap (top_in f fs) k.at.in_program ∙ ap (λ o. top_at f fs k.method o (at_pc k.method.code k.method.targets f.pc)) insn ∙ ap (top_at f fs k.method (Some k.insn)) target
+  stand_top f fs k = has_top c marked f fs k
 
   -- ---- what holds there
 
@@ -40,10 +37,8 @@ module _ (c : MarkedProgram) (marked : IsMarked c) where
 
   pub tags_at : (number : ℕ) (m : MethodInfo) (frames : List (Option TagShape)) → slice_get c.program.methods number ≡ Some m → slice_get (tags_of c) number ≡ Some frames → IsTagAssignment c.program m frames
   tags_at number m frames e t =
-      let there = mapped_at (λ (t : Tags). t.frames) c.tags number frames t in
-      let s = checked_sound (checked_part c) number m marked.checked e in
-      let has : IsTaggingOf c.program m there.0 = zip_at (IsTaggingOf c.program) c.program.methods c.tags number m there.0 marked.tags e there.1 in
-      subst (λ (fs : List (Option TagShape)). IsTagAssignment c.program m fs) there.2 (tag_local_law c.program m s.0.frames there.0.frames s.2.laid s.2.typed has)
+      let a = method_at c marked number m e in
+      subst (λ (fs : List (Option TagShape)). IsTagAssignment c.program m fs) (same_some (sym a.its_tags ∙ t)) a.holds.sound
 
   pub place_of : (f : Frame) (k : Standing c f) → IsPlace (checked_part c) k.method k.frames k.number k.insn k.target k.types
   place_of f k =

@@ -2,11 +2,11 @@
 use Rattle.std.proofs.Common.{◌≡◌, ℕ, List, [], ◌∷◌, ◌++◌, map, Option, Some, sym, ap, ◌∙◌, subst}
 use Rattle.lists.proofs.ListLaws.{same_some}
 use Rattle.jvm_types.specs.declared.program.MethodInfo.{MethodInfo}
-use Rattle.checked_program.specs.{CheckedLaws.HoldsAtInstruction, LockTags.{TagShape, AreTagsBelow, IsShapeBelow}, MarkedProgram.{MarkedProgram, IsMarked, checked_part}, declared.tag.Tag.Tag}
-use Rattle.checked_program.proofs.CheckedPlaces.{checked_sound, places_hold_all}
+use Rattle.checked_program.specs.{LockTags.{TagShape, AreTagsBelow, IsShapeBelow}, MarkedProgram.{MarkedProgram, IsMarked}, declared.tag.Tag.Tag}
 use Rattle.machine_types.specs.{Frames.{Top, top_of, effect_at}, Shown.{tag_value, HaveValues, StackShows, shown_entries, Shows, ShowBelow, Show, own_entry}, Standing.{Standing, Operands, Whole}}
 use Rattle.machine_types.specs.Threads.{Frame}
-use Rattle.laws_threads.proofs.{EffectsOfInsns.{Fits, effect_fits}, FramePlaces.{of_standing, Lands, lands, top_by, has_top}, Lists.map_at, MarkedMethods.are_made, TagValues.weaker}
+use Rattle.laws_threads.proofs.{EffectsOfInsns.{Fits, effect_fits}, FramePlaces.{of_standing, Lands, lands, top_by, has_top}, MarkedMethods.are_made, TagValues.weaker}
+use Rattle.laws_threads.proofs.Landing.{rules_at}
 use Rattle.checked_program.specs.Visits as visits
 
 module _ (c : MarkedProgram) (is : IsMarked c) where
@@ -44,12 +44,5 @@ module _ (c : MarkedProgram) (is : IsMarked c) where
 
   -- ---- the checks at an instruction
 
-  pub holds_at : (f : Frame) (k : Standing c f) → HoldsAtInstruction c.program k.method k.frames k.insn k.target k.types
-  holds_at f k =
-      let s = checked_sound (checked_part c) f.method k.method is.checked k.at.in_program in
-      let frames : k.frames ≡ s.0.frames = same_some (sym k.types_of_method ∙ map_at (λ t. t.frames) c.typings f.method s.0 s.1) in
-      places_hold_all (checked_part c) k.method k.frames k.number k.insn k.target k.types is.checked
-      (record { method = f.method; typing = s.0; in_program = k.at.in_program; its_typing = s.1; its_frames = frames; in_code = k.at.in_code; its_target = k.at.names; has = k.types_are })
-
   pub fits_at : (f : Frame) (below : List Frame) (k : Standing c f) → Fits c.program k.method k.insn k.target f.stack (effect_at c.program (top_by c is f below k))
-  fits_at f below k = effect_fits c.program k.method k.insn.pc k.insn.next k.target k.insn.op f.locals f.stack (holds_at f k).has_row
+  fits_at f below k = effect_fits c.program k.method k.insn.pc k.insn.next k.target k.insn.op f.locals f.stack (rules_at c is f k).has_row

@@ -11,7 +11,7 @@ use Rattle.machine_types.specs.{Words.{header_class, header_length}, declared.ef
 use Rattle.machine_types.specs.declared.effect.Effect.TheVariants.{Goes, Throws, Reads, Measures, Raises, Calls, Returns, Enters, Leaves}
 use Rattle.machine_types.specs.declared.phase.Phase.{Phase}
 use Rattle.laws_threads.specs.InsideMoves.{GoesOnInside, OnwardStands, GoesAlong, StepsInside, ReadsElement, ElementsInside}
-use Rattle.laws_threads.proofs.{AttemptMoves.{next_edge, stands_inner, put_back_top, only_entry, along, returned_on}, Base.{own_part, entry_of, of_synchronized, as_many_at_exit, none_inside}}
+use Rattle.laws_threads.proofs.{AttemptMoves.{not_alone, next_edge, stands_inner, put_back_top, along, returned_on}, Base.{own_part, entry_of, as_many_at_exit, none_inside}}
 use Rattle.laws_threads.proofs.{CallOps.is_receiver, EffectOps.{Does, GoesElsewhere, goes_behind, OnlyLeaves, exit_leaves}, FrameReturns.leaves_none}
 use Rattle.laws_threads.proofs.FramesInside.{one_more, put_back_over, alone_inside}
 use Rattle.laws_threads.proofs.{Inside.{InAttempt, base_below, runs_inside, stands_on, stays, stack_this, top_shows, top_does, takes_owned, locking, calls_on, leaves_on, not_finished}, Leaves.lands}
@@ -138,17 +138,10 @@ module _ (c : MarkedProgram) (marked : IsMarked c) (thread : InAttempt c phases.
   none_held : is_return r.stands.insn.op ≡ true → r.stands.tags.held ≡ []
   none_held q = leaves_none c marked f r.stands (first_true (is_return r.stands.insn.op) _ q)
 
-  not_alone : r.stands.tags.held ≡ [] → is_synchronized r.stands.method.flags ≡ false → a.base ≡ length below → ⊥
-  not_alone none plain base = let bad : true ≡ false = sym (alone (frames_inside a below) r (only_entry a below base) none) ∙ plain in cc
-    where
-      alone : (rest : List Frame) (q : Runs c a f rest) → rest ≡ [] → q.stands.tags.held ≡ [] → is_synchronized q.stands.method.flags ≡ true
-      alone [] q e h = of_synchronized c marked a f q (entry_of c marked a phases.Run (f ∷ below) held k) h
-      alone (b ∷ rest) q e h = absurd (cc)
-
   returns_by : (b : Bool) → is_synchronized r.stands.method.flags ≡ b → DoesIt Returns → OnwardStands c (if b then Leaving (monitor_of c.program r.stands.method f) afters.Return (f ∷ below) else back (returned c.program top))
       → GoesOnInside c (if b then Leaving (monitor_of c.program r.stands.method f) afters.Return (f ∷ below) else back (returned c.program top)) held a
   returns_by true q d l = stays c phases.Run (phases.Leave (monitor_of c.program r.stands.method f) afters.Return) f below held a k (locking c marked phases.Run f below held a k (frames_inside a below) r (none_held d) q) (not_finished a (frames_inside a (f ∷ below)))
-  returns_by false q d l = returned_on c marked phases.Run f held a below a.inner (given_back r.stands.insn.op f.stack) k r (not_alone (none_held d) q) l
+  returns_by false q d l = returned_on c marked phases.Run f held a below a.inner (given_back r.stands.insn.op f.stack) k r (not_alone c marked phases.Run f held a below k r (none_held d) q) l
 
   -- ---- all effects
 

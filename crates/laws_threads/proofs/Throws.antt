@@ -1,5 +1,5 @@
 -- An attempt stands as an exception goes to a handler, or leaves the top frame.
-use Rattle.std.proofs.Common.{◌≡◌, ℕ, zero, suc, slice_get, Bool, true, false, ◌&&◌, ◌||◌, List, [], ◌∷◌, length, Option, Some, None, refl, sym, ap, ◌∙◌, subst, arith, ◌==◌, if◌then◌else◌}
+use Rattle.std.proofs.Common.{◌≡◌, ℕ, zero, suc, slice_get, Bool, true, false, ◌&&◌, ◌||◌, List, [], ◌∷◌, Option, Some, None, refl, sym, ap, ◌∙◌, subst, arith, ◌==◌, if◌then◌else◌}
 use Rattle.std.{specs.List.list_any, proofs.lemmas.Bool.Decides.nat_tests}
 use Rattle.lists.proofs.{ListLaws.same_some, TestLaws.{first_true, second_true}}
 use Rattle.jvm_types.specs.{CodeTable.can_throw, Members.is_synchronized, Verifying.{covering, is_return}, declared.{code.Insn.Insn, outcome.Thrown.Thrown}}
@@ -8,7 +8,7 @@ use Rattle.checked_program.specs.{MarkedProgram.{MarkedProgram, IsMarked}, Tagge
 use Rattle.checked_program.proofs.CheckedPlaces.{catchers_among}
 use Rattle.machine_types.specs.{Frames.{Top, handler_of, handler_at, monitor_of}, Onward.{Leaving, handed, unwound}, ReadyObjects.class_of, Structure.{Finishes, frames_inside}}
 use Rattle.machine_types.specs.{Threads.{Frame, Attempt}}
-use Rattle.laws_threads.{specs.InsideMoves.{GoesOnInside, OnwardStands, ThrowsInside}, proofs.{AttemptMoves.{only_entry, along, unwound_on}, Base.{entry_of, of_synchronized}}}
+use Rattle.laws_threads.{specs.InsideMoves.{GoesOnInside, OnwardStands, ThrowsInside}, proofs.{AttemptMoves.{not_alone, along, unwound_on}}}
 use Rattle.laws_threads.proofs.{FrameReturns.leaves_none, FrameThrows.{may_leave_by, none_catches}, Inside.{InAttempt, locking, runs_inside, stays}, SectionFrames.Runs, Standings.{top_here, top_at_standing, one_insn}}
 use Rattle.laws_threads.proofs.TypedMoves.{handler_found}
 use Rattle.jvm_types.specs.declared.code.Op.TheVariants as ops
@@ -62,14 +62,6 @@ module _ (c : MarkedProgram) (marked : IsMarked c) (x : ℕ) (class : Thrown) (t
       let at : handler_of insn.pc (class_of class) m.rows ≡ None = ap (λ pc. handler_of pc (class_of class) m.rows) r.stands.pc_is ∙ e in
       leaves_none c marked f r.stands (may_leave_by (is_return insn.op) (can_throw insn.op) (list_any catches_all (covering m insn.pc)) throws (none_catches insn.pc (class_of class) m.rows at))
 
-  -- only a synchronized method's frame is that of an entry
-  not_alone : r.stands.tags.held ≡ [] → is_synchronized r.stands.method.flags ≡ false → a.base ≡ length below → ⊥
-  not_alone none plain base = let bad : true ≡ false = sym (alone (frames_inside a below) r (only_entry a below base) none) ∙ plain in cc
-    where
-      alone : (rest : List Frame) (q : Runs c a f rest) → rest ≡ [] → q.stands.tags.held ≡ [] → is_synchronized q.stands.method.flags ≡ true
-      alone [] q e h = of_synchronized c marked a f q (entry_of c marked a (phases.Throw x class) (f ∷ below) held k) h
-      alone (b ∷ rest) q e h = absurd (cc)
-
   by_none : handler_of f.pc (class_of class) r.stands.method.rows ≡ None → GoesOnInside c (handed c.program x class top None) held a
   by_none e = by_flag (is_synchronized r.stands.method.flags) refl
     where
@@ -78,7 +70,7 @@ module _ (c : MarkedProgram) (marked : IsMarked c) (x : ℕ) (class : Thrown) (t
 
       by_flag : (b : Bool) → is_synchronized r.stands.method.flags ≡ b → GoesOnInside c (if b then Leaving (monitor_of c.program r.stands.method f) (afters.Unwind x class) (f ∷ below) else unwound x class below) held a
       by_flag true q = stays c (phases.Throw x class) (phases.Leave (monitor_of c.program r.stands.method f) (afters.Unwind x class)) f below held a k (locking c marked (phases.Throw x class) f below held a k (frames_inside a below) r none q) never_finished
-      by_flag false q = unwound_on c marked (phases.Throw x class) f held a below a.inner x class k r (not_alone none q)
+      by_flag false q = unwound_on c marked (phases.Throw x class) f held a below a.inner x class k r (not_alone c marked (phases.Throw x class) f held a below k r none q)
 
   by_handler : (o : Option Row) → handler_of f.pc (class_of class) r.stands.method.rows ≡ o → OnwardStands c (handed c.program x class top o) → GoesOnInside c (handed c.program x class top o) held a
   by_handler (Some row) e l = by_row row e l

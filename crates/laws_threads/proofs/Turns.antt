@@ -22,13 +22,9 @@ pub record TurnsIn (c : MarkedProgram) (phase : Phase) (s : Thread) : Type 0 whe
   pub inside : AttemptStandsIn c phase s.frames s.held s.attempt
 
 to_turn : (c : MarkedProgram) (was : Phase) (s : Thread) (phase : Phase) → TurnsIn c phase s → StaysStructured c was (with_phase s phase)
-to_turn c was s (phases.Acquire m) k = record { is_as = refl; stands = k.stands; attempt = k.inside }
-to_turn c was s (phases.Take m count) k = record { is_as = refl; stands = k.stands; attempt = k.inside }
-to_turn c was s (phases.Flag m u) k = record { is_as = refl; stands = k.stands; attempt = k.inside }
-to_turn c was s (phases.TakeFat m r) k = record { is_as = refl; stands = k.stands; attempt = k.inside }
-to_turn c was s (phases.WaitLook m r depth) k = record { is_as = refl; stands = k.stands; attempt = k.inside }
-to_turn c was s (phases.Retake m r depth) k = record { is_as = refl; stands = k.stands; attempt = k.inside }
-to_turn c was s phase k = absurd k.counts
+to_turn c was s (phases.Ending e) k = absurd k.counts
+to_turn c was s (phases.Ended e) k = absurd k.counts
+to_turn c was s phase k = record { is_as = refl; stands = k.stands; attempt = k.inside }
 
 pub turning : (c : MarkedProgram) (was : Phase) (s : Thread) (phase : Phase) → TurnsIn c phase s → TurnsIn c (turned_from was) s → StaysStructured c was (failed_turn s phase)
 turning c was s phase k limit = by_limit (nat_lt (s.turns + 1) s.cfg.turns)
