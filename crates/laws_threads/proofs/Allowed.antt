@@ -60,9 +60,8 @@ module _ (p : Program) (m : MethodInfo) (is : Classes) (stack : List ℕ) where
   kind_given kind v h = h
 
   kind_kept : (kind : Kind) (v : ℕ) → WantHolds m is (want_of kind) v → KindHolds is kind (kept kind v)
-  kind_kept kinds.Int v h = h
   kind_kept kinds.Bool v h = omega arith
-  kind_kept (kinds.Ref class) v h = h
+  kind_kept kind v h = h
 
   static_variable : (f : FieldInfo) (number : ℕ) → slice_get p.fields number ≡ Some f → is_static f.flags ≡ true → IsNamedField p is (targets.Field number) (variable_of f 0) f
   static_variable f number e s = record { number = number; named = refl; there = e; reference = 0; variable = refl; holder = λ h. absurd (let bad : true ≡ false = sym s ∙ h in cc) }

@@ -2,8 +2,7 @@
 use Rattle.std.proofs.Common.{false, ◌≡◌, ◌≢◌, inr, ⊎_elim, ℕ, ◌-◌, ◌<◌, ◌≤◌, true, List, [], ◌∷◌, ◌++◌, length, take, Some, refl, sym, ap, ◌∙◌, subst, arith, ◌==◌, ◌||◌, slice_get, if◌then◌else◌}
 use Rattle.std.proofs.lemmas.Bool.{cases_eq, Decides.nat_tests}
 use Rattle.lists.proofs.{ListLaws.same_some, TestLaws.second_true}
-use Rattle.jvm_types.specs.{CodeTable.{branches_to, falls_through}, Members.is_synchronized, Numbers.has_number, Verifying.edges, declared.{code.{Insn.Insn, Op.Op}, outcome.Thrown.Thrown, program.MethodInfo.MethodInfo}}
-use Rattle.jvm_types.specs.declared.program.Target.{Target}
+use Rattle.jvm_types.specs.{CodeTable.{branches_to, falls_through}, Members.is_synchronized, Numbers.has_number, Verifying.edges, declared.{code.Insn.Insn, outcome.Thrown.Thrown, program.MethodInfo.MethodInfo}}
 use Rattle.checked_program.specs.{LockTags.TagShape, MarkedProgram.{MarkedProgram, IsMarked}, Marks.called_method, TaggedCode.{Goes, onward, row_of}, Tagging.tags_after}
 use Rattle.laws_sections.proofs.SectionCalls.{no_exit}
 use Rattle.machine_types.specs.{Elision.put_back, Frames.{top_of, given}, Onward.{back, unwound}, Standing.Standing, Structure.{IsPhaseInside, AttemptStands, RunsSection, frames_inside}}
@@ -11,6 +10,7 @@ use Rattle.machine_types.specs.{Threads.{Frame, Attempt}, declared.{lock.Held.He
 use Rattle.laws_threads.{specs.InsideMoves.{GoesOnInside, OnwardStands}, proofs.{FramesInside.{one_more, put_back_over}, Inside.{base_below, stands_on}}}
 use Rattle.laws_threads.proofs.{SectionFrames.{Runs, Caller, IsExitOf, section_of_runs, moved, caller}, Standings.top_is}
 use Rattle.laws_threads.proofs.Base.{entry_of, of_synchronized}
+use Rattle.laws_threads.proofs.EffectOps.{call_falls}
 use Rattle.jvm_types.specs.declared.code.Op.TheVariants as ops
 use Rattle.machine_types.specs.declared.phase.Phase.TheVariants as phases
 
@@ -23,13 +23,6 @@ last_number (x ∷ xs) n = second_true (x == n) (has_number (xs ++ n ∷ []) n) 
 -- an instruction that falls through has an edge to the next
 pub next_edge : (insn : Insn) → falls_through insn.op ≡ true → has_number (edges insn) insn.next ≡ true
 next_edge insn e = subst (λ b. has_number (branches_to insn.op ++ (if b then insn.next ∷ [] else [])) insn.next ≡ true) (sym e) (last_number (branches_to insn.op) insn.next)
-
--- an instruction that calls a method falls through, and is no `monitorexit`
-pub call_falls : (op : Op) (target : Target) (u : ℕ) → called_method op target ≡ Some u → falls_through op ≡ true
-call_falls (ops.Invokevirtual i) target u e = refl
-call_falls (ops.Invokespecial i) target u e = refl
-call_falls (ops.Invokestatic i) target u e = refl
-call_falls op target u e = absurd (cc)
 
 -- ---- frames come and go
 

@@ -5,7 +5,7 @@ use Rattle.jvm_types.specs.declared.{outcome.{Print.Print, Thrown.Thrown}, progr
 use Rattle.machine_types.specs.{Bounds.{KeptFits, EntryFits, IsInner, IsBounded}, Elision.{put_back, fails}, Frames.{Top, frames_of}, Going.{with_phase, goes_on}, HeldMonitors.{held_at, depth_at}}
 use Rattle.machine_types.specs.{Instructions.{has_print_left, begun, printed}, Ints.int_of, Onward.{Onward, Running, Throwing, Entering, Leaving, RootReturned, Uncaught, called, done}}
 use Rattle.machine_types.specs.{ReadyObjects.thrown_of, Threads.{Frame, Attempt, Thread}, Words.header_class, declared.effect.Effect.Effect}
-use Rattle.machine_types.specs.declared.{effect.Effect.TheVariants.{Indexes, Raises, Makes, Prints, Calls, Waits, Notifies, NotifiesAll, Stuck}, lock.{Held.Held, Kept.Kept}, phase.Phase.Phase}
+use Rattle.machine_types.specs.declared.{effect.Effect.TheVariants.{Raises, Calls, Stuck}, lock.{Held.Held, Kept.Kept}, phase.Phase.Phase}
 use Rattle.laws_threads.proofs.{BoundedOnward.{LimitsFit, Fit, by_attempt, Spends, spends_less, bounded, goes, fit_of, spends_of}, HeldBounds.found, ThreadMove.{IsByDone, Asks, WaitsFrom}}
 use Rattle.machine_types.specs.declared.phase.Phase.TheVariants as phases
 use Rattle.machine_types.specs.declared.phase.Toward.TheVariants as towards
@@ -104,14 +104,7 @@ module _ (p : Program) where
       no_thrown (Some class) h e = cc
   does_all at (Calls number) got h is none =
       let bad : Some (called p at number h.0) ≡ None = ap (option_map (called p at number)) (sym h.1) ∙ none in cc
-  does_all at Stuck got h is none = h
-  does_all at (Indexes array index stored) got h is none = is
-  does_all at (Makes word size) got h is none = is
-  does_all at (Prints n) got h is none = is
-  does_all at (Waits m) got h is none = is
-  does_all at (Notifies m) got h is none = is
-  does_all at (NotifiesAll m) got h is none = is
-  does_all at e got h is none = cc
+  does_all at e got h is none = absurd (first_of (assumption, cc))
 
   refit : (s : Thread) (fs : List Frame) → Fit p s → Fit p (record s { frames = fs })
   refit s fs f = record { limits = f.limits; held = f.held; tried = f.tried }

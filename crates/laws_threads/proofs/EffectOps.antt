@@ -143,18 +143,18 @@ GoesElsewhere (Leaves n) = ⊥
 GoesElsewhere (Calls n) = ⊥
 GoesElsewhere e = Unit {0}
 
--- a call on a receiver goes on behind itself
-calls_fall : (op : Op) (number : ℕ) → called_method op (targets.Method number) ≡ Some number → falls_through op ≡ true
-calls_fall (ops.Invokevirtual i) number e = refl
-calls_fall (ops.Invokespecial i) number e = refl
-calls_fall (ops.Invokestatic i) number e = refl
-calls_fall op number e = absurd (cc)
+-- an instruction that calls a method falls through, and is no `monitorexit`
+pub call_falls : (op : Op) (target : Target) (u : ℕ) → called_method op target ≡ Some u → falls_through op ≡ true
+call_falls (ops.Invokevirtual i) target u e = refl
+call_falls (ops.Invokespecial i) target u e = refl
+call_falls (ops.Invokestatic i) target u e = refl
+call_falls op target u e = absurd (cc)
 
 elsewhere : (p : Program) (next : ℕ) (target : Target) (op : Op) (s : List ℕ) (e : Effect) → Comes p 0 next target op s e → falls_through op ≡ false → GoesElsewhere e
 elsewhere p next _ _ _ _ (reads_static i number s f there) h = absurd (let bad : true ≡ false = h in cc)
 elsewhere p next _ _ _ _ (reads_field i number a s f there z) h = absurd (let bad : true ≡ false = h in cc)
 elsewhere p next _ _ _ _ (measures target a s z) h = absurd (let bad : true ≡ false = h in cc)
-elsewhere p next _ _ _ _ (calls op number receiver s called names there on top) h = absurd (let bad : true ≡ false = sym (calls_fall op number names) ∙ h in cc)
+elsewhere p next _ _ _ _ (calls op number receiver s called names there on top) h = absurd (let bad : true ≡ false = sym (call_falls op (targets.Method number) number names) ∙ h in cc)
 elsewhere p next _ _ _ _ (calls_fixed i number s called there) h = absurd (let bad : true ≡ false = h in cc)
 elsewhere p next _ _ _ _ (enters target n s z) h = absurd (let bad : true ≡ false = h in cc)
 elsewhere p next _ _ _ _ (leaves target n s) h = absurd (let bad : true ≡ false = h in cc)

@@ -1,31 +1,15 @@
 -- The frames of an attempt's entry stay as frames come and go above them.
 use Rattle.std.proofs.Common.{◌≡◌, ℕ, ◌<◌, Bool, true, false, List, [], ◌∷◌, ◌++◌, length, Option, Some, None, refl, sym, ap, ◌∙◌, subst, arith, slice_get, option_map, if◌then◌else◌}
 use Rattle.lists.proofs.ListLaws.{same_some}
-use Rattle.jvm_types.specs.{Members.is_synchronized, declared.{code.Insn.Insn, outcome.Thrown.{Thrown, TheVariants.StackOverflowError}, program.{MethodInfo.MethodInfo, Program.Program, Row.Row}}}
-use Rattle.jvm_types.specs.declared.program.Target.{Target}
+use Rattle.jvm_types.specs.{Members.is_synchronized, declared.{outcome.Thrown.{Thrown, TheVariants.StackOverflowError}, program.{MethodInfo.MethodInfo, Program.Program, Row.Row}}}
 use Rattle.machine_types.specs.Elision.{put_back}
-use Rattle.machine_types.specs.Frames.{Top, at_pc, top_at, top_in, top_of, frames_of, went, went_on, waiting, taken_from, has_room, entry_frame, arguments_of, monitor_of, given_back, given, returned, handler_at}
+use Rattle.machine_types.specs.Frames.{Top, top_of, frames_of, went, went_on, waiting, taken_from, has_room, entry_frame, arguments_of, monitor_of, given_back, given, returned, handler_at}
 use Rattle.machine_types.specs.{Onward.{Onward, Running, Throwing, Entering, Leaving, threw, entered, called, back, returns, unwound, handed, done}, ReadyObjects.{class_of, thrown_of}}
 use Rattle.machine_types.specs.{Threads.{Frame, Attempt}, Words.{header_class, header_length}, declared.effect.Effect.Effect}
 use Rattle.machine_types.specs.declared.effect.Effect.TheVariants.{Goes, Throws, Reads, Writes, Measures, Raises, Prints, Calls, Returns, Enters, Leaves}
+use Rattle.machine_types.proofs.PlainPartLaws.{frames_are}
 use Rattle.laws_threads.{specs.EntryFrames.{frames_in, KeepsEntry, StepsKeepEntry, ThrowsKeepEntry, LeavesKeepEntry}, proofs.{AttemptMoves.put_back_top, FramesInside.put_back_over, Inside.base_below}}
 use Rattle.machine_types.specs.declared.phase.After.TheVariants as afters
-
--- ---- the top frame
-
--- what is found at the top of frames is their top
-frames_at : (f : Frame) (below : List Frame) (m : MethodInfo) (o : Option Insn) (q : Option Target) (at : Top) → top_at f below m o q ≡ Some at → f ∷ below ≡ frames_of at
-frames_at f below m None q at e = absurd (cc)
-frames_at f below m (Some insn) None at e = absurd (cc)
-frames_at f below m (Some insn) (Some target) at e = ap (λ (x : Top). frames_of x) (same_some e)
-
-frames_in_method : (f : Frame) (below : List Frame) (o : Option MethodInfo) (at : Top) → top_in f below o ≡ Some at → f ∷ below ≡ frames_of at
-frames_in_method f below None at e = absurd (cc)
-frames_in_method f below (Some m) at e = frames_at f below m (at_pc m.code m.code f.pc) (at_pc m.code m.targets f.pc) at e
-
-frames_are : (p : Program) (fs : List Frame) (at : Top) → top_of p fs ≡ Some at → fs ≡ frames_of at
-frames_are p [] at e = absurd (cc)
-frames_are p (f ∷ below) at e = frames_in_method f below (slice_get p.methods f.method) at e
 
 -- ---- frames come and go
 
@@ -45,7 +29,7 @@ module _ (p : Program) (a : Attempt) where
   given_to : (f : Frame) (below : List Frame) (result : List ℕ) (o : Option Top) → top_of p below ≡ o → KeepsEntry a (f ∷ below) (back (given result o))
   given_to f below result None e l m = absurd (omega (arith, m))
   given_to f below result (Some at) e l m =
-      let there : below ≡ frames_of at = frames_are p below at e in
+      let there : below ≡ frames_of at = sym (frames_are p below at e) in
       let more : a.base < length (frames_of at) = m in
       in_place at.frame (record at.frame { pc = at.insn.next; stack = result ++ at.frame.stack }) at.below more ∙ ap (put_back a) (sym there) ∙ without f below (subst (λ fs. a.base < length fs) (sym there) more)
 
@@ -114,7 +98,7 @@ module _ (p : Program) (a : Attempt) where
   -- ---- by frames
 
   of_top : (fs : List Frame) (at : Top) (onward : Onward) → top_of p fs ≡ Some at → KeepsEntry a (frames_of at) onward → KeepsEntry a fs onward
-  of_top fs at onward e h = subst (λ gs. KeepsEntry a gs onward) (sym (frames_are p fs at e)) h
+  of_top fs at onward e h = subst (λ gs. KeepsEntry a gs onward) (frames_are p fs at e) h
 
   mapped : (fs : List Frame) (go : Top → Onward) → ((at : Top) → KeepsEntry a (frames_of at) (go at)) → (o : Option Top) → top_of p fs ≡ o → (onward : Onward) → option_map go o ≡ Some onward → KeepsEntry a fs onward
   mapped fs go keeps None t onward e = absurd (cc)

@@ -4,7 +4,7 @@ use Rattle.std.proofs.lemmas.Bool.Decides.{nat_tests}
 use Rattle.jvm_types.specs.{CodeTable.{row, value_of, stack_after, locals_after, any_values}, Numbers.has_number, Verifying.edges, declared.{code.Op.Op, op_row.Given.{Given, TheVariants.Taken}}}
 use Rattle.jvm_types.specs.declared.op_row.OpRow.{OpRow}
 use Rattle.checked_program.specs.{LockTags.{TagShape, without, IsShapeBelow}, MarkedProgram.{MarkedProgram, IsMarked}, TaggedCode.row_of, Tagging.{moved_tags, tags_by_op, tags_after}, Visits.EdgeFits}
-use Rattle.checked_program.specs.declared.tag.Tag.{Tag, TheVariants.{Untagged, This, At}}
+use Rattle.checked_program.specs.declared.tag.Tag.{Tag, TheVariants.{Untagged, At}}
 use Rattle.machine_types.specs.{Frames.frame_on, Shown.{tag_value, HaveValues, own_entry, Shows}, Standing.{Standing, Whole, Lacking}, Threads.Frame}
 use Rattle.laws_threads.{specs.MoveLaws.is_lock_op, proofs.{EffectsOfInsns.{is_dup, IsMaking}, FramePlaces.{of_standing, sound_at}, MarkedMethods.free_at}}
 use Rattle.laws_threads.proofs.{ShownFrames.{landed, whole_landed, shows_landed}, TagValues.{weaker, dropped, row_stack, row_locals, chosen, rechosen, values_kept, chosen_there}}
@@ -89,10 +89,8 @@ module _ (c : MarkedProgram) (is : IsMarked c) where
         where
           cases : (ts : List Tag) → EdgeFits IsShapeBelow top.stands.method.code top.stands.at.frames (tags_by_op top.stands.insn.pc (the_row f top.stands) ops.Dup ts top.stands.tags) to → HaveValues top.choice f.receiver ts f.stack
               → Shows c Whole (frame_on (the_row f top.stands) to made f) own
-          cases [] fits h = by_row f own top to made fits
           cases (Untagged ∷ ts) fits h = by_stack f.stack ts refl h fits
-          cases (This ∷ ts) fits h = by_row f own top to made fits
-          cases (At q ∷ ts) fits h = by_row f own top to made fits
+          cases ts fits h = by_row f own top to made fits
 
   pub moved : (f : Frame) (own : List ℕ) (top : Shows c Whole f own) (to made : ℕ) → is_lock_op top.stands.insn.op ≡ false → has_number (edges top.stands.insn) to ≡ true → Shows c Whole (frame_on (the_row f top.stands) to made f) own
   moved f own top to made free edge = by_test (is_dup top.stands.insn.op) refl

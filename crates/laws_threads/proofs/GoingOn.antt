@@ -41,8 +41,7 @@ entered_frame c m (f ∷ fs) k = tt
 pub left_frame : (c : MarkedProgram) (m : ℕ) (a : After) (fs : List Frame) → AfterShows c m a fs → HasFrame fs
 left_frame c m a (f ∷ fs) k = tt
 left_frame c m afters.Next [] k = absurd k
-left_frame c m afters.Return [] k = absurd k
-left_frame c m (afters.Unwind x class) [] k = absurd k
+left_frame c m a [] k = absurd k
 
 pub onward_stands : (c : MarkedProgram) (onward : Onward) (shown : List ℕ) → OnwardShows c onward shown → OnwardStands c onward
 onward_stands c (Running fs) shown k = top_stands c Whole fs shown k.0 k.1

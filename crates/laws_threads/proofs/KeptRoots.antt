@@ -1,6 +1,6 @@
 -- An event leaves a thread roots of its part, and a frame wherever one is needed.
 use Rattle.std.proofs.Common.{◌≡◌, ℕ, zero, suc, ◌+◌, ◌<◌, ◌==◌, nat_lt, Bool, true, false, ◌||◌, List, [], ◌∷◌, ◌++◌, drop, length, Option, Some, None, refl, sym, ap, subst, arith, codes, if◌then◌else◌, option_map, slice_get, IfSome, IsTrue}
-use Rattle.std.{specs.List.AllByRecursion, proofs.lemmas.Bool.Decides.nat_tests}
+use Rattle.std.{specs.List.AllByRecursion, proofs.lemmas.Option.slice_get_within}
 use Rattle.lists.proofs.TestLaws.{first_true, second_true}
 use Rattle.jvm_types.specs.{Members.{is_synchronized, is_class_init_name}, Numbers.has_number, declared.outcome.{Counts.Counts, Thrown.{Thrown, TheVariants.StackOverflowError}}}
 use Rattle.jvm_types.specs.declared.program.{MethodInfo.MethodInfo, Program.Program, Row.Row}
@@ -15,6 +15,7 @@ use Rattle.machine_types.specs.declared.{effect.Effect.{Effect, TheVariants.{Rai
 use Rattle.machine_types.specs.declared.phase.{After.After, Phase.Phase, Toward.Toward}
 use Rattle.laws_threads.{specs.RootLaws.RootsAreKept, proofs.ThreadMove.{if_either, if_mapped, Looks, GoesBy, LeadsTo, TurnsTo, Takes, GivesUp, Asks, WaitsFrom, Move, becomes, mover, by_move, of_mover, runs_to, turns_to}}
 use Rattle.laws_threads.proofs.GoingOn.{pushed_frame}
+use Rattle.laws_threads.proofs.Roots.{numbered}
 use Rattle.jvm_types.specs.declared.outcome.End.TheVariants as ends
 use Rattle.machine_types.specs.declared.phase.After.TheVariants as afters
 use Rattle.machine_types.specs.declared.phase.Phase.TheVariants as phases
@@ -114,12 +115,7 @@ number_first false b e f g = g e
 
 -- the number of a method that passes a test is one of the program
 numbers_within : (test : MethodInfo → Bool) (n : ℕ) (ms : List MethodInfo) (k : ℕ) → has_number (numbers_of test n ms) k ≡ true → k < n + length ms
-numbers_within test n [] k e = absurd (cc)
-numbers_within test n (m ∷ ms) k e = by_pass (test m) (λ e. let more : k < suc n + length ms = numbers_within test (suc n) ms k e in omega arith) e
-  where
-    by_pass : (b : Bool) → (has_number (numbers_of test (suc n) ms) k ≡ true → k < n + length (m ∷ ms)) → has_number (if b then n ∷ numbers_of test (suc n) ms else numbers_of test (suc n) ms) k ≡ true → k < n + length (m ∷ ms)
-    by_pass true more e = number_first (n == k) (has_number (numbers_of test (suc n) ms) k) e (λ e. let same : n ≡ k = grind (arith, nat_tests, e) in omega arith) more
-    by_pass false more e = more e
+numbers_within test n ms k e = let x = numbered test ms n k e in let low = slice_get_within ms x.at x.method x.there in omega (arith, x.number, low)
 
 numbers_in : (xs ys : List ℕ) (k : ℕ) {P : Type 0} → has_number (xs ++ ys) k ≡ true → (has_number xs k ≡ true → P) → (has_number ys k ≡ true → P) → P
 numbers_in [] ys k e f g = g e

@@ -28,9 +28,8 @@ heap_objects p is = record { out = omega (arith, is.heap_from); ready = ready_in
 -- ---- the word that is found
 
 kind_found : (p : Program) (kind : Kind) (got : ℕ) → WordFits p (kind_content kind) got → KindHolds (within p) kind got
-kind_found p kinds.Int got h = h
-kind_found p kinds.Bool got h = h
 kind_found p (kinds.Ref class) got h = inr (class, h, subclass_self class)
+kind_found p kind got h = h
 
 effect_found : (p : Program) (at : Top) (e : Effect) (got : ℕ) → IsProgram p → IsAllowed p at e → WordFits p (effect_content p at.target e) got → FoundHolds p (within p) at.target e got
 effect_found p at (Reads v) got is a h = λ f field. kind_found p f.kind got

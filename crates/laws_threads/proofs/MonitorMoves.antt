@@ -3,7 +3,7 @@ use Rattle.std.{proofs.Common.{◌≡◌, ℕ, zero, suc, true, false, List, [],
 use Rattle.lists.proofs.{ListLaws.same_some, TestLaws.is_true}
 use Rattle.jvm_types.specs.{CodeTable.{stack_after, locals_after}, Numbers.has_number, Verifying.edges, declared.{code.Op.Op, op_row.OpRow.OpRow, program.MethodInfo.MethodInfo}}
 use Rattle.checked_program.specs.{LockTags.{TagShape, same_tag, IsShapeBelow}, MarkedProgram.{MarkedProgram, IsMarked}, Tagging.{moved_tags, tags_by_op, enters_untagged, exits_other}, Visits.EdgeFits}
-use Rattle.checked_program.specs.declared.tag.Tag.{Tag, TheVariants.{Untagged, This, At}}
+use Rattle.checked_program.specs.declared.tag.Tag.{Tag, TheVariants.{This, At}}
 use Rattle.laws_sections.proofs.TagOrder.{one_tag}
 use Rattle.machine_types.specs.{Frames.{Top, effect_at, frame_on, went_on}, Shown.{tag_value, HaveValues, own_entry, Shows, Show}, Standing.{Standing, Whole}, Structure.{IsBehindEntry, TopEnters}}
 use Rattle.machine_types.{specs.{Threads.Frame, declared.effect.Effect.TheVariants.{Enters, Leaves}}, proofs.EffectCases.next_edge}
@@ -75,10 +75,9 @@ module _ (c : MarkedProgram) (is : IsMarked c) (f : Frame) (own : List ℕ) (top
           }
 
       cases : (ts : List Tag) → k.tags.stack ≡ ts → enters_untagged ops.Monitorenter ts ≡ false → Entered m
-      cases [] q n = absurd (cc)
-      cases (Untagged ∷ ts) q n = absurd (cc)
       cases (This ∷ ts) q n = finished This ts q (top_value m on This ts q).0
       cases (At pc ∷ ts) q n = finished (At pc) ts q (top_value m on (At pc) ts q).0
+      cases ts q n = absurd (cc)
 
   -- ---- an exit
 
@@ -94,12 +93,9 @@ module _ (c : MarkedProgram) (is : IsMarked c) (f : Frame) (own : List ℕ) (top
           (less, same, shows_with hs (lands_with hs fits))
 
       by_tags : (ts hs : List Tag) → k.tags.stack ≡ ts → k.tags.held ≡ hs → exits_other ops.Monitorexit ts hs ≡ false → (less : List ℕ) × (own ≡ m ∷ less) × Shows c Whole next_frame less
-      by_tags [] hs q h n = absurd (cc)
-      by_tags (Untagged ∷ ts) hs q h n = absurd (cc)
-      by_tags (This ∷ ts) [] q h n = absurd (cc)
       by_tags (This ∷ ts) (u ∷ hs) q h n = finished This ts hs q (h ∙ ap (λ (x : Tag). x ∷ hs) (sym (one_tag This u (is_true (same_tag This u) n)))) (top_value m on This ts q).0
-      by_tags (At pc ∷ ts) [] q h n = absurd (cc)
       by_tags (At pc ∷ ts) (u ∷ hs) q h n = finished (At pc) ts hs q (h ∙ ap (λ (x : Tag). x ∷ hs) (sym (one_tag (At pc) u (is_true (same_tag (At pc) u) n)))) (top_value m on (At pc) ts q).0
+      by_tags ts hs q h n = absurd (cc)
 
 -- ---- the laws
 

@@ -41,8 +41,7 @@ element_moves insn stored e = by_op stored insn.op e
     by_op : (stored : Option ℕ) (op : Op) → is_element_op stored op ≡ true → IsMove (record { pc = insn.pc; next = insn.next; op = op }) insn.next
     by_op None ops.Iaload e = (refl, next_edge insn.next)
     by_op (Some v) ops.Iastore e = (refl, next_edge insn.next)
-    by_op None op e = absurd (cc)
-    by_op (Some v) op e = absurd (cc)
+    by_op stored op e = absurd (cc)
 
 pub elements_law : ElementsShow
 elements_law c fs shown at stored made is e s is_at =

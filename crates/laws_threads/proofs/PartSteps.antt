@@ -3,6 +3,7 @@ use Rattle.std.proofs.Common.{◌≡◌, ℕ, zero, suc, ◌+◌, ◌<◌, Bool,
 use Rattle.std.specs.List.{AllByRecursion, list_all, range_with_len}
 use Rattle.lists.proofs.TestLaws.{both_are_true}
 use Rattle.jvm_types.specs.declared.{outcome.End.End, program.Program.Program}
+use Rattle.laws_programs.proofs.LocalGoing.{at_index}
 use Rattle.checked_program.specs.MarkedProgram.{MarkedProgram}
 use Rattle.machine_types.specs.Accesses.{found_by}
 use Rattle.machine_types.specs.Core.{event_of, start_thread, part_phase, ended_by, may_begin_by, may_begin, with_roots, how_ended, workers_begin, done_begins, part_begins, next_threads}
@@ -30,9 +31,7 @@ one_of_all test (y ∷ xs) zero x e f = let same : y ≡ x = cc in subst (λ z. 
 one_of_all test (y ∷ xs) (suc i) x e f = one_of_all test xs i x (both_are_true (test y) (list_all test xs) e).1 f
 
 pub one_idle : (xs : List Thread) (i : ℕ) (x : Thread) → AllByRecursion (λ w. w.phase ≡ phases.Idle) xs → slice_get xs i ≡ Some x → x.phase ≡ phases.Idle
-one_idle [] i x e f = absurd (cc)
-one_idle (y ∷ xs) zero x e f = let same : y ≡ x = cc in subst (λ (z : Thread). z.phase ≡ phases.Idle) same e.0
-one_idle (y ∷ xs) (suc i) x e f = one_idle xs i x e.1 f
+one_idle xs i x e f = at_index (λ w. w.phase ≡ phases.Idle) xs i x e f
 
 -- ---- at the start
 

@@ -2,7 +2,7 @@
 use Rattle.std.proofs.Common.{◌≡◌, ℕ, List, [], ◌∷◌, ◌++◌, map, Option, Some, sym, ap, ◌∙◌, subst}
 use Rattle.lists.proofs.ListLaws.{same_some}
 use Rattle.jvm_types.specs.declared.program.MethodInfo.{MethodInfo}
-use Rattle.checked_program.specs.{LockTags.{TagShape, AreTagsBelow, IsShapeBelow}, MarkedProgram.{MarkedProgram, IsMarked}, declared.tag.Tag.Tag}
+use Rattle.checked_program.specs.{CheckedLaws.HoldsAtInstruction, LockTags.{TagShape, AreTagsBelow, IsShapeBelow}, MarkedProgram.{MarkedProgram, IsMarked}, declared.tag.Tag.Tag}
 use Rattle.machine_types.specs.{Frames.{Top, top_of, effect_at}, Shown.{tag_value, HaveValues, StackShows, shown_entries, Shows, ShowBelow, Show, own_entry}, Standing.{Standing, Operands, Whole}}
 use Rattle.machine_types.specs.Threads.{Frame}
 use Rattle.laws_threads.proofs.{EffectsOfInsns.{Fits, effect_fits}, FramePlaces.{of_standing, Lands, lands, top_by, has_top}, MarkedMethods.are_made, TagValues.weaker}
@@ -43,6 +43,9 @@ module _ (c : MarkedProgram) (is : IsMarked c) where
       subst (λ (x : Top). P (f ∷ below) shown x) same (subst (λ (xs : List ℕ). P (f ∷ below) xs (top_by c is f below s.3.stands)) (sym s.2) (each f below s.0 s.1 s.3 s.4))
 
   -- ---- the checks at an instruction
+
+  pub holds_at : (f : Frame) (k : Standing c f) → HoldsAtInstruction c.program k.method k.frames k.insn k.target k.types
+  holds_at f k = rules_at c is f k
 
   pub fits_at : (f : Frame) (below : List Frame) (k : Standing c f) → Fits c.program k.method k.insn k.target f.stack (effect_at c.program (top_by c is f below k))
   fits_at f below k = effect_fits c.program k.method k.insn.pc k.insn.next k.target k.insn.op f.locals f.stack (rules_at c is f k).has_row

@@ -302,9 +302,7 @@ module _ (c : MarkedProgram) (s : Thread) (got : ℕ) where
 
     tried_made : may_try c s tried ≡ true → claim s m ≡ HasNot → (lock : LockWord) → lock_of got ≡ lock → Made (phases.Enter m tried) (tries s m tried lock)
     tried_made y free (locks.Free count) e = by_test (Made (phases.Enter m tried)) (nat_lt count s.cfg.range) _ _ (begins_made count s.frames refl y free e) (λ t. acquires_next free)
-    tried_made y free (locks.Held u) e = acquires_next free
-    tried_made y free (locks.Flagged u) e = acquires_next free
-    tried_made y free (locks.Fat r) e = acquires_next free
+    tried_made y free lock e = acquires_next free
 
     entered_made : (may : Bool) → may_try c s tried ≡ may → (k : Claim) → claim s m ≡ k → Made (phases.Enter m tried) (enter_moves s m tried may k got)
     entered_made may y (Has h) e = record { move = enters_again m tried h (has_held m (held_at s.held m) s.attempt h e); is = refl }

@@ -11,7 +11,7 @@ use Rattle.checked_program.{specs.{CheckedLaws.receiver_want, MarkedProgram.{Mar
 use Rattle.laws_sections.proofs.HiddenThis.{long_arguments}
 use Rattle.machine_types.specs.{Effects.effect, Frames.{Top, effect_at, first_or_null}, Lawful.within, ReadyObjects.out_object, Standing.Standing, Threads.Frame, Typed.{Classes, IsNullOr, FrameHolds}}
 use Rattle.machine_types.specs.{Words.variable_word, declared.effect.Effect.Effect}
-use Rattle.machine_types.specs.declared.effect.Effect.TheVariants.{Goes, Throws, Reads, Writes, Indexes, Measures, Raises, Makes, Prints, Calls, Returns, Enters, Leaves, Waits, Notifies, NotifiesAll, Stuck}
+use Rattle.machine_types.specs.declared.effect.Effect.TheVariants.{Goes, Throws, Reads, Writes, Raises, Makes, Prints, Calls, Returns, Leaves, Stuck}
 use Rattle.machine_types.specs.declared.effect.Variable.{Variable, TheVariants.{Instance, Static}}
 use Rattle.laws_threads.specs.{Allowed.{IsOf, IsNamedField, WantHolds, TakenHold, OneOf, MadeAs, Allowed}, TopFrames.{GoesTo, IsReference, CallFits, MakesFit, IsAllowed, EffectsAreAllowed}}
 use Rattle.laws_threads.proofs.{Allowed.{MakesAt, below_args, effect_allowed}, Calls.{CallRow, call_row, takes_arguments, HasReceiver, call_receiver, receiver_first}}
@@ -175,23 +175,18 @@ module _ (c : MarkedProgram) (marked : IsMarked c) where
     allowed_as (Throws x) e a = a.0
     allowed_as (Reads v) e a = (goes_to c marked f fs h.stands h.stands.insn.next a.0, variable_small h.stands.target v a.1 a.2)
     allowed_as (Writes v word) e a = (goes_to c marked f fs h.stands h.stands.insn.next a.0, variable_small h.stands.target v a.1 a.2)
-    allowed_as (Indexes x i stored) e a = (goes_to c marked f fs h.stands h.stands.insn.next a.0, of_heap _ x a.1)
-    allowed_as (Measures x) e a = (goes_to c marked f fs h.stands h.stands.insn.next a.0, of_heap _ x a.1)
     allowed_as (Raises x) e a = (a.0, of_heap _ x a.1)
     allowed_as (Makes word size) e a = makes_fit word size a.1 a.0 a.2 a.4
     allowed_as (Prints n) e a = (goes_to c marked f fs h.stands h.stands.insn.next a.0, a.1)
     allowed_as (Calls number) e a = call_fits number a.0 a.1 a.2 e
     allowed_as Returns e a = a
-    allowed_as (Enters m) e a = (goes_to c marked f fs h.stands h.stands.insn.next a.0, of_heap _ m a.1)
     allowed_as (Leaves m) e a = (goes_to c marked f fs h.stands h.stands.insn.next a.0, left a.1)
       where
         left : IsNullOr (within c.program) OBJECT_CLASS m → m < c.program.heap
         left (inl z) = omega (arith, z, marked.checked.program.heap_from)
         left (inr o) = o.1
-    allowed_as (Waits m) e a = (goes_to c marked f fs h.stands h.stands.insn.next a.0, of_heap _ m a.1)
-    allowed_as (Notifies m) e a = (goes_to c marked f fs h.stands h.stands.insn.next a.0, of_heap _ m a.1)
-    allowed_as (NotifiesAll m) e a = (goes_to c marked f fs h.stands h.stands.insn.next a.0, of_heap _ m a.1)
     allowed_as Stuck e a = absurd a
+    allowed_as w e a = (goes_to c marked f fs h.stands h.stands.insn.next a.0, of_heap _ _ a.1)
 
 pub effects_allowed : EffectsAreAllowed
 effects_allowed c [] at marked h e = absurd (cc)

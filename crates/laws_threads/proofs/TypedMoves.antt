@@ -29,8 +29,7 @@ all_at P [] to all h = absurd h
 -- a type of a kind has the same values in every method
 kind_moves : (m other : MethodInfo) (is : Classes) (kind : Kind) (v : ℕ) → Holds m is (type_of kind) v → Holds other is (type_of kind) v
 kind_moves m other is kinds.Int v h = h
-kind_moves m other is kinds.Bool v h = h
-kind_moves m other is (kinds.Ref class) v h = h
+kind_moves m other is kind v h = h
 
 abbrev pub result_types : Option Kind → List VType
 result_types None = []
