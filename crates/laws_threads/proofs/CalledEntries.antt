@@ -54,36 +54,24 @@ module _ (m : MethodInfo) (is : Classes) where
     pub static_values : (number : ℕ) (vs : List ℕ) → is_static called.flags ≡ true → AllZip (Holds called is) (map type_of called.args) vs → ValuesHold called is (types.entry_type_frame called) (entry_frame number called vs)
     static_values number vs s zip = record {
       stack = tt;
-      locals = by_flag (is_static called.flags) s;
+      locals = subst (λ (b : Bool). AllZip (Holds called is) (filled called.max_locals ((if b then [] else (if is_init called then This else Ref called.class) ∷ []) ++ map type_of called.args)) (vs ++ replicate (called.max_locals - length vs) 0))
+          (sym s) (locals_filled (map type_of called.args) vs zip);
       receiver = λ e. absurd (let bad : true ≡ false = sym s ∙ e in cc);
     }
-      where
-        by_flag : (b : Bool) → b ≡ true
-            → AllZip (Holds called is) (filled called.max_locals ((if b then [] else (if is_init called then This else Ref called.class) ∷ []) ++ map type_of called.args)) (vs ++ replicate (called.max_locals - length vs) 0)
-        by_flag true e = locals_filled (map type_of called.args) vs zip
-        by_flag false e = absurd (cc)
 
     -- those of the frame of an instance method
     instance_values : (number v : ℕ) (args : List ℕ) → is_static called.flags ≡ false → is called.class v → AllZip (Holds called is) (map type_of called.args) args
         → ValuesHold called is (types.entry_type_frame called) (entry_frame number called (v ∷ args))
     instance_values number v args s k zip = record {
       stack = tt;
-      locals = by_flag (is_static called.flags) (is_init called) s;
-      receiver = λ e. by_static (is_static called.flags) s;
+      locals = subst (λ (b : Bool). AllZip (Holds called is) (filled called.max_locals ((if b then [] else (if is_init called then This else Ref called.class) ∷ []) ++ map type_of called.args)) ((v ∷ args) ++ replicate (called.max_locals - length (v ∷ args)) 0))
+          (sym s) (locals_filled ((if is_init called then This else Ref called.class) ∷ map type_of called.args) (v ∷ args) (typed (is_init called), zip));
+      receiver = λ e. subst (λ (b : Bool). is called.class (if b then 0 else v)) (sym s) k;
     }
       where
         typed : (b : Bool) → Holds called is (if b then This else Ref called.class) v
         typed true = k
         typed false = inr (called.class, k, subclass_self called.class)
-
-        by_flag : (b d : Bool) → b ≡ false
-            → AllZip (Holds called is) (filled called.max_locals ((if b then [] else (if d then This else Ref called.class) ∷ []) ++ map type_of called.args)) ((v ∷ args) ++ replicate (called.max_locals - length (v ∷ args)) 0)
-        by_flag true d e = absurd (cc)
-        by_flag false d e = locals_filled ((if d then This else Ref called.class) ∷ map type_of called.args) (v ∷ args) (typed d, zip)
-
-        by_static : (b : Bool) → b ≡ false → is called.class (if b then 0 else v)
-        by_static true e = absurd (cc)
-        by_static false e = k
 
     -- ---- a call
 

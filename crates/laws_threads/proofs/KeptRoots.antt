@@ -13,7 +13,7 @@ use Rattle.machine_types.specs.Onward.{Onward, Running, Throwing, Entering, Leav
 use Rattle.machine_types.specs.{Parts.{numbers_of, entries_named, init_roots}, ReadyObjects.{class_of, thrown_of}, Structure.HasFrame, Threads.{Frame, Attempt, Thread}, Words.header_class}
 use Rattle.machine_types.specs.declared.{effect.Effect.{Effect, TheVariants.{Raises, Calls, Returns}}, lock.{Held.Held, Kept.Kept}}
 use Rattle.machine_types.specs.declared.phase.{After.After, Phase.Phase, Toward.Toward}
-use Rattle.laws_threads.{specs.RootLaws.RootsAreKept, proofs.ThreadMove.{if_either, if_mapped, Looks, GoesBy, LeadsTo, TurnsTo, Takes, GivesUp, Asks, WaitsFrom, Move, becomes, mover, by_move, of_mover, runs_to, turns_to}}
+use Rattle.laws_threads.{specs.RootLaws.RootsAreKept, proofs.ThreadMove.{looks_in, takes_in, if_either, if_mapped, GoesBy, LeadsTo, TurnsTo, GivesUp, Asks, WaitsFrom, Move, becomes, mover, by_move, of_mover, runs_to, turns_to}}
 use Rattle.laws_threads.proofs.GoingOn.{pushed_frame}
 use Rattle.laws_threads.proofs.Roots.{numbered}
 use Rattle.jvm_types.specs.declared.outcome.End.TheVariants as ends
@@ -164,14 +164,6 @@ frame_in phases.Idle fs roots n f = absurd n
 frame_in phase (x ∷ fs) roots n f = tt
 frame_in phase [] roots n f = absurd (assumption)
 
-looks_framed : {s : Thread} (m : ℕ) (was : Phase) → Looks s m was → HasFrames was
-looks_framed m _ (moves.entering tried free) = tt
-looks_framed m _ moves.acquiring = tt
-
-takes_framed : (got m : ℕ) (was : Phase) (kept : Kept) → Takes got m was kept → HasFrames was
-takes_framed got m _ _ (moves.a_flat count t) = tt
-takes_framed got m _ _ (moves.a_fat r t) = tt
-
 waits_framed : (m : ℕ) (kept : Kept) (now : Phase) → WaitsFrom m kept now → (fs : List Frame) (roots : List ℕ) → HasFrame fs → FramesFit now fs roots
 waits_framed m _ _ (moves.grows_first count) fs roots h = framed (phases.Grow m towards.Wait) fs roots tt h
 waits_framed m _ _ (moves.waits_fat r) fs roots h = framed (phases.WaitBit m r) fs roots tt h
@@ -185,13 +177,13 @@ module _ (c : MarkedProgram) (s : Thread) (got : ℕ) (h : IsRooted c.program s)
   leads_framed _ _ (moves.to_end e) f = tt
   leads_framed _ _ (moves.to_no_record m t) f = tt
   leads_framed _ _ (moves.to_no_print at v e l t) f = tt
-  leads_framed was _ (moves.to_take m count k e) f = framed (phases.Take m count) s.frames s.roots tt (frame_in was s.frames s.roots (looks_framed m was k) f)
-  leads_framed was _ (moves.to_take_fat m r k e) f = framed (phases.TakeFat m r) s.frames s.roots tt (frame_in was s.frames s.roots (looks_framed m was k) f)
+  leads_framed was _ (moves.to_take m count k e) f = framed (phases.Take m count) s.frames s.roots tt (frame_in was s.frames s.roots (looks_in HasFrames m was k (λ tried. tt) tt) f)
+  leads_framed was _ (moves.to_take_fat m r k e) f = framed (phases.TakeFat m r) s.frames s.roots tt (frame_in was s.frames s.roots (looks_in HasFrames m was k (λ tried. tt) tt) f)
   leads_framed was now k f = f
 
   turns_framed : (was now : Phase) → TurnsTo s got was now → FramesFit was s.frames s.roots → FramesFit now s.frames s.roots
-  turns_framed was _ (moves.looks_again m k) f = framed (phases.Acquire m) s.frames s.roots tt (frame_in was s.frames s.roots (looks_framed m was k) f)
-  turns_framed was _ (moves.flags m u k e) f = framed (phases.Flag m u) s.frames s.roots tt (frame_in was s.frames s.roots (looks_framed m was k) f)
+  turns_framed was _ (moves.looks_again m k) f = framed (phases.Acquire m) s.frames s.roots tt (frame_in was s.frames s.roots (looks_in HasFrames m was k (λ tried. tt) tt) f)
+  turns_framed was _ (moves.flags m u k e) f = framed (phases.Flag m u) s.frames s.roots tt (frame_in was s.frames s.roots (looks_in HasFrames m was k (λ tried. tt) tt) f)
   turns_framed was now k f = f
 
   goes_framed : (was : Phase) (o : Onward) → GoesBy c.program s got was o → FramesFit was s.frames s.roots → OnwardFits o
@@ -223,10 +215,7 @@ module _ (c : MarkedProgram) (s : Thread) (got : ℕ) (h : IsRooted c.program s)
   moved_framed _ (moves.prints at n e l t) f = goes c.program (printed s got n) (Running (went_on c.program at 0)) h.roots tt
   moved_framed _ (moves.asks_to_wait at m e now found is l k) f = record { roots = h.roots; frames = waits_framed m e.kept now k (went_on c.program at 0) s.roots tt }
   moved_framed _ (moves.asks at m e now found y l k) f = record { roots = h.roots; frames = asked_framed m e.kept now k (went_on c.program at 0) s.roots tt }
-  moved_framed _ (moves.enters_again m tried e l) f = record { roots = h.roots; frames = runs_framed (phases.Enter m tried) tt f }
-  moved_framed _ (moves.enters_inside m tried t k) f = record { roots = h.roots; frames = runs_framed (phases.Enter m tried) tt f }
-  moved_framed _ (moves.begins_to_try m tried noted x below e y l t free) f = record { roots = h.roots; frames = runs_framed (phases.Enter m tried) tt f }
-  moved_framed was (moves.takes_lock m kept k) f = record { roots = h.roots; frames = runs_framed was (takes_framed got m was kept k) f }
+  moved_framed was (moves.takes_lock m kept k) f = record { roots = h.roots; frames = runs_framed was (takes_in HasFrames got m was kept k (λ count. tt) (λ r. tt)) f }
   moved_framed was (moves.gives_up m a k) f = left_framed (without_held m s.held) s.attempt s.counts a (gives_up_framed m a was k f)
   moved_framed _ (moves.leaves_outer m a e l t) f = left_framed (with_held (shallower e) s.held) s.attempt s.counts a (frame_in (phases.Leave m a) s.frames s.roots tt f)
   moved_framed _ (moves.leaves_inside m a t inner k e) f = left_framed s.held (Some (record t { inner = inner })) s.counts a (frame_in (phases.Leave m a) s.frames s.roots tt f)
@@ -237,8 +226,8 @@ module _ (c : MarkedProgram) (s : Thread) (got : ℕ) (h : IsRooted c.program s)
       grown_framed (towards.Leave a) = framed (phases.Leave m a) s.frames s.roots tt (frame_in (phases.FatIn m r toward) s.frames s.roots tt f)
       grown_framed towards.Wait = framed (phases.WaitBit m r) s.frames s.roots tt (frame_in (phases.FatIn m r toward) s.frames s.roots tt f)
   moved_framed _ (moves.gives_up_to_wait m r e l) f = record { roots = h.roots; frames = framed (phases.WaitLook m r e.depth) s.frames s.roots tt (frame_in (phases.WaitOut m r) s.frames s.roots tt f) }
-  moved_framed _ (moves.retakes_lock m r depth e) f = record { roots = h.roots; frames = runs_framed (phases.Retake m r depth) tt f }
   moved_framed _ (moves.starts number roots e) f = subst (IsRooted c.program) (ap (thread_started c.program s) e) (begun_root c.program s s.roots h.roots f)
+  moved_framed was k f = record { roots = h.roots; frames = runs_framed was tt f }
 
 pub roots_kept : RootsAreKept
 roots_kept c s got h = by_move (IsRooted c.program) c s s.phase got (λ k. moved_framed c _ got (counted h) s.phase k (of_mover (λ y. FramesFit s.phase y.frames y.roots) c.program s.phase s h.frames h.frames))

@@ -84,10 +84,6 @@ module _ (c : MarkedProgram) (s : Thread) (m : ℕ) where
 
 -- ---- an entry begins
 
-tried_once : (b : Bool) → cond b (0 + 1) 0 ≡ cond b 1 0
-tried_once true = refl
-tried_once false = refl
-
 tried_deeper : (b : Bool) (inner : ℕ) → cond b (inner + 1 + 1) 0 ≡ cond b (inner + 1) 0 + cond b 1 0
 tried_deeper true inner = omega arith
 tried_deeper false inner = omega arith
@@ -139,7 +135,7 @@ module _ (begin : BeginsAttempt) (entered_again : EntersInside) (c : MarkedProgr
       stands = record {
         shown = k.shown;
         show = k.show;
-        depths = λ n. let d = k.depths n in let now : tried_depth n s.attempt ≡ 0 = ap (tried_depth n) none in let here = tried_once (m == n) in omega arith;
+        depths = λ n. let d = k.depths n in let now : tried_depth n s.attempt ≡ 0 = ap (tried_depth n) none in let here : cond (m == n) (0 + 1) 0 ≡ once_at m n = refl in omega arith;
         once = k.once;
         phase_shows = entered_frame c m s.frames k.phase_shows.enters;
       }

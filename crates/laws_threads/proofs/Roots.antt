@@ -47,18 +47,11 @@ module _ (p : Program) (is : IsProgram p) where
   entry_root name at m one same e h =
       let parts = both_are_true ((m.class == file_class 0) && bytes_eq m.name name) (bytes_eq m.descriptor (codes "()V")) h in
       let names = both_are_true (m.class == file_class 0) (bytes_eq m.name name) parts.0 in
-      let class : m.class ≡ file_class 0 = equal m.class (file_class 0) names.0 in
+      let class : m.class ≡ file_class 0 = grind (arith, nat_tests, names.0) in
       let name_is = same names.1 in
       by_run (is_run m.name m.descriptor) refl class
-      (third (is_run m.name m.descriptor) (bytes_eq m.descriptor (codes "()V")) (bytes_eq m.name (codes "init") || bytes_eq m.name (codes "done")) parts.1 (subst (λ (n : List ℕ). (bytes_eq n (codes "init") || bytes_eq n (codes "done")) ≡ true) (sym name_is) one))
+      (second_true (is_run m.name m.descriptor) _ (both_true (bytes_eq m.descriptor (codes "()V")) (bytes_eq m.name (codes "init") || bytes_eq m.name (codes "done")) parts.1 (subst (λ (n : List ℕ). (bytes_eq n (codes "init") || bytes_eq n (codes "done")) ≡ true) (sym name_is) one)))
     where
-      equal : (a b : ℕ) → (a == b) ≡ true → a ≡ b
-      equal a b e = grind (arith, nat_tests, e)
-
-      third : (a b d : Bool) → b ≡ true → d ≡ true → (a || (b && d)) ≡ true
-      third true b d e f = refl
-      third false b d e f = rw (e, f) refl
-
       by_run : (b : Bool) → is_run m.name m.descriptor ≡ b → m.class ≡ file_class 0 → is_entry m.name m.descriptor ≡ true → IsSomeRoot m
       by_run true r class entry = inr (run_root p at m is e class r)
       by_run false r class entry = inl (entries p at m is e class entry r)
@@ -67,10 +60,8 @@ module _ (p : Program) (is : IsProgram p) where
   run_root_of at m e h =
       let parts = both_are_true ((m.class == file_class 0) && bytes_eq m.name (codes "run")) (bytes_eq m.descriptor (codes "(I)V")) h in
       let names = both_are_true (m.class == file_class 0) (bytes_eq m.name (codes "run")) parts.0 in
-      inr (run_root p at m is e (equal m.class (file_class 0) names.0) (both_true (bytes_eq m.name (codes "run")) (bytes_eq m.descriptor (codes "(I)V")) names.1 parts.1))
-    where
-      equal : (a b : ℕ) → (a == b) ≡ true → a ≡ b
-      equal a b e = grind (arith, nat_tests, e)
+      let class : m.class ≡ file_class 0 = grind (arith, nat_tests, names.0) in
+      inr (run_root p at m is e class (both_true (bytes_eq m.name (codes "run")) (bytes_eq m.descriptor (codes "(I)V")) names.1 parts.1))
 
   -- the method of a number that is in a list
   abbrev Roots : List ℕ → Type 0
@@ -87,10 +78,6 @@ module _ (p : Program) (is : IsProgram p) where
   either [] ys f g k m h e = g k m h e
   either (x ∷ xs) ys f g k m h e = by_first (x == k) refl h (λ rest. either xs ys (λ k m h e. f k m (second_true (x == k) (has_number xs k) h) e) g k m rest e)
     where
-      later : (a b : Bool) → b ≡ true → (a || b) ≡ true
-      later true b e = refl
-      later false b e = e
-
       by_first : (b : Bool) → (x == k) ≡ b → (b || has_number (xs ++ ys) k) ≡ true → (has_number (xs ++ ys) k ≡ true → IsSomeRoot m) → IsSomeRoot m
       by_first true t h more = f k m (first_true (x == k) (has_number xs k) t) e
       by_first false t h more = more h

@@ -1,6 +1,7 @@
 -- Each event of a thread keeps its locking structured.
 use Rattle.std.proofs.Common.{◌≡◌, inl, inr, ℕ, ◌<◌, Bool, true, false, cond, List, [], ◌∷◌, ◌++◌, Option, Some, None, refl, sym, ap, ◌∙◌, subst, arith, ◌+◌, nat_lt, slice_get, option_map, ◌&&◌, IsTrue}
 use Rattle.std.specs.List.{AllByRecursion}
+use Rattle.lists.proofs.TestLaws.{both_are_true}
 use Rattle.jvm_types.specs.{Members.is_synchronized, Numbers.has_number, declared.{limits.TheConstants.MOST_ATTEMPTS, outcome.{End.End, Thrown.TheVariants.StackOverflowError}}}
 use Rattle.jvm_types.specs.declared.program.{MethodInfo.MethodInfo, Row.Row}
 use Rattle.checked_program.specs.MarkedProgram.{MarkedProgram, IsMarked}
@@ -155,13 +156,7 @@ module _ (begin : BeginsAttempt) (entered_again : EntersInside) (is : Classes) (
       exit = record { stands = record { shown = k.shown; show = k.show; depths = k.depths; once = k.once; phase_shows = k.phase_shows.toward_shows }; inside = no_attempt c (phases.Leave m a) s.frames s.held s.attempt none; holds = h }
 
   may_marked : (tried : ℕ) → may_try c s tried ≡ true → enters_marked c s.frames ≡ true
-  may_marked tried e = last_of s.cfg.elide (nat_lt tried MOST_ATTEMPTS) (enters_marked c s.frames) e
-    where
-      last_of : (a b d : Bool) → (a && b && d) ≡ true → d ≡ true
-      last_of a b true e = refl
-      last_of true true false e = e
-      last_of true false false e = e
-      last_of false b false e = e
+  may_marked tried e = (both_are_true (s.cfg.elide && nat_lt tried MOST_ATTEMPTS) (enters_marked c s.frames) e).1
 
   -- where its event takes nothing
   lacks_keeps : (phase : Phase) → Lacks c s got phase → s.phase ≡ phase → IsAs phase was → Keeps s
