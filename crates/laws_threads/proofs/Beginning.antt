@@ -1,5 +1,5 @@
 -- An attempt stands as it begins: its frame is at the first own instruction of a marked section, on its receiver.
-use Rattle.std.proofs.Common.{◌≡◌, ◌≢◌, ◌⊎◌, inl, inr, ⊎_elim, ℕ, zero, suc, Bool, true, false, not, cond, ◌-◌, List, [], ◌∷◌, ◌++◌, length, map, take, Option, Some, None, refl, sym, ap, ◌∙◌, subst, arith, slice_get, slice_index_or, if◌then◌else◌}
+use Rattle.std.proofs.Common.{◌≡◌, ◌≢◌, ◌⊎◌, inl, inr, ⊎_elim, ℕ, zero, suc, Bool, true, false, not, cond, ◌-◌, List, [], ◌∷◌, ◌++◌, length, map, Option, Some, None, refl, sym, ap, ◌∙◌, subst, arith, slice_get, slice_index_or, if◌then◌else◌}
 use Rattle.std.proofs.lemmas.Bool.{cases_eq}
 use Rattle.lists.proofs.ListLaws.{same_some}
 use Rattle.jvm_types.specs.{ClassNames.file_of_class, Members.{is_static, is_synchronized}, declared.{code.Insn.Insn, program.MethodInfo.MethodInfo}}
@@ -12,6 +12,7 @@ use Rattle.machine_types.specs.{Frames.monitor_of, MarkLaws.MarkedHasMark, Secti
 use Rattle.machine_types.specs.{Structure.{IsBehindEntry, Stands, RunsSection, mode_monitor, section_monitor, section_of, frames_inside}, Threads.{Frame, Attempt}, Words.class_object}
 use Rattle.laws_threads.{specs.InsideMoves.BeginsAttempt, proofs.{FramesInside.{put_back_alone, one_more}, SectionEntries.{Entered, entered_before, just_before, next_later, Took, took}}}
 use Rattle.laws_threads.proofs.{SectionFrames.part_of, Standings.{laid, one_tags}}
+use Rattle.laws_threads.proofs.AttemptMoves.{only_entry}
 use Rattle.machine_types.specs.declared.phase.Phase.TheVariants as phases
 
 -- a tag is `this` or not
@@ -117,11 +118,8 @@ begins marked_mark c m tried noted number f below held marked stands not_held en
     back : Stands c (phases.Enter m number) (f ∷ below) held None
     back = record { shown = stands.shown; show = stands.show; depths = stands.depths; once = stands.once; phase_shows = stands.phase_shows }
 
-    none_more : (n : ℕ) → n ≡ 0 → take n below ≡ []
-    none_more n e = ap (λ i. take i below) e
-
     inside : frames_inside a (f ∷ below) ≡ f ∷ []
-    inside = one_more a f below (omega arith) ∙ ap (λ fs. f ∷ fs) (none_more (length below - length below) (omega arith))
+    inside = one_more a f below (omega arith) ∙ ap (λ fs. f ∷ fs) (only_entry a below refl)
 
     part : IsOwn c.program (tags_of c) f.method (section_of a).spot k.number → IsSectionPart c.program (tags_of c) (section_of a) f.receiver (part_of f k.number) (section_mode c.program (section_of a))
     part own = record { method = refl; receiver = refl; own = own; mode_is = refl }

@@ -92,9 +92,6 @@ module _ (c : MarkedProgram) (marked : IsMarked c) (is : Classes) (has : HasObje
   thrown_kept x class [] k h top = tt
   thrown_kept x class (f ∷ fs) k h top = dispatches c marked is x class f fs k h.0 h.1 top
 
-  runs_still : (fs : List Frame) → FramesHold c is fs → Onwards c is fs (Running fs)
-  runs_still fs h = record { holds = h; keeps = keeps_all fs; inside = λ all. all }
-
   module _ (s : Thread) (got : ℕ) where
     goes_holds : (was : Phase) (o : Onward) → GoesBy c.program s got was o → IsTypedIn c is s got was → Onwards c is s.frames o
     goes_holds _ o (moves.by_effect at e _ found same silent d) t = does_at c marked is has e got o s.frames at t.holds found same (t.finds at found) d
@@ -103,7 +100,7 @@ module _ (c : MarkedProgram) (marked : IsMarked c) (is : Classes) (has : HasObje
     goes_holds _ o (moves.by_element word stored at found) t = subst (λ w. IfOnwards c is s.frames (option_map (λ at. Running (went_on c.program at (element_made stored got))) w)) found (element_kept word stored s.frames got t.holds.1 t.shows t.finds)
     goes_holds _ _ (moves.by_object a word) t = made_kept a word s.frames t.finds t.holds
     goes_holds _ o (moves.by_handler x class at found) t = subst (λ w. IfOnwards c is s.frames (option_map (λ at. handed c.program x class at (handler_at (class_of class) at)) w)) found (thrown_kept x class s.frames t.holds.0 t.holds.1 t.shows)
-    goes_holds _ _ k t = runs_still s.frames t.holds
+    goes_holds _ _ k t = record { holds = t.holds; keeps = keeps_all s.frames; inside = λ all. all }
 
     -- ---- to another phase
 

@@ -1,7 +1,7 @@
 -- What an event makes of its thread: one of these moves, each with what led to it. A law that every event keeps something is a
 -- match on them.
 use Rattle.std.proofs.Common.{◌≡◌, ℕ, zero, suc, ◌+◌, ◌==◌, nat_lt, Bool, true, false, List, [], ◌∷◌, length, Option, Some, None, refl, sym, subst, arith, nat_le, slice_get, option_map, ◌&&◌, if◌then◌else◌, IfSome}
-use Rattle.std.proofs.lemmas.Bool.Decides.{Decides-eqb}
+use Rattle.std.proofs.lemmas.Bool.{cond_both, Decides.Decides-eqb}
 use Rattle.lists.proofs.TestLaws.{both_are_true}
 use Rattle.jvm_types.specs.{Numbers.has_flag, declared.{fixed_words.TheConstants.MONITOR_RECORDS, limits.TheConstants.{FLAG_FROM, MOST_ATTEMPTS}, outcome.{End.End, Thrown.Thrown}}}
 use Rattle.jvm_types.specs.declared.{outcome.Thrown.TheVariants.{ArrayIndexOutOfBoundsException, OutOfMemoryError, IllegalMonitorStateException}, program.Program.Program}
@@ -202,11 +202,6 @@ pub record IsMoved (c : MarkedProgram) (s : Thread) (got : ℕ) (was : Phase) (y
   pub move : Move c s got was
   pub is : y ≡ becomes c s got was move
 
--- a test, with its answer
-by_test : {A : Type 0} (P : A → Type 0) (b : Bool) (x y : A) → (b ≡ true → P x) → (b ≡ false → P y) → P (if b then x else y)
-by_test P true x y f g = f refl
-by_test P false x y f g = g refl
-
 pub has_held : (m : ℕ) (held : Option Held) (attempt : Option Attempt) (h : Held) → claim_by m held attempt ≡ Has h → held ≡ Some h
 has_held m (Some k) attempt h e = cc
 has_held m None None h e = absurd (cc)
@@ -261,10 +256,10 @@ module _ (c : MarkedProgram) (s : Thread) (got : ℕ) where
         by_kept (keeps.Fat r) l = record { move = asks at m h (phase r) found y e (subst (λ (k : Kept). Asks m k (phase r)) (sym l) (asked r)); is = refl }
 
     did_made : (e : Effect) → effect_at c.program at ≡ e → Made phases.Run (did c.program s at e got)
-    did_made (Indexes array index stored) is = by_test (Made phases.Run) (nat_lt (low index) (header_length got)) _ _
+    did_made (Indexes array index stored) is = cond_both (nat_lt (low index) (header_length got)) _ _ (Made phases.Run)
         (λ t. record { move = leads (phases.Element (value_word array (low index)) stored) (to_element at array index stored found is t); is = refl }) (λ t. thrown_made ArrayIndexOutOfBoundsException (past_end array index stored is t))
-    did_made (Makes word size) is = by_test (Made phases.Run) (nat_le (got + size) c.program.heap) _ _ (λ t. record { move = makes at word size found is t; is = refl }) (λ t. thrown_made OutOfMemoryError (no_memory word size is))
-    did_made (Prints n) is = by_test (Made phases.Run) (has_print_left s) _ _ (λ t. record { move = prints at n found is t; is = refl }) (λ t. record { move = leads (phases.Ending ends.Prints) (to_no_print at n found is t); is = refl })
+    did_made (Makes word size) is = cond_both (nat_le (got + size) c.program.heap) _ _ (Made phases.Run) (λ t. record { move = makes at word size found is t; is = refl }) (λ t. thrown_made OutOfMemoryError (no_memory word size is))
+    did_made (Prints n) is = cond_both (has_print_left s) _ _ (Made phases.Run) (λ t. record { move = prints at n found is t; is = refl }) (λ t. record { move = leads (phases.Ending ends.Prints) (to_no_print at n found is t); is = refl })
     did_made (Waits m) is = if_held_made m (held_at s.held m) refl (waits_unheld m is) (waits (record s { frames = went_on c.program at 0 }) m) (waits_made m is)
     did_made (Notifies m) is = if_held_made m (held_at s.held m) refl (notifies_unheld m (of_one is)) (notifies (record s { frames = went_on c.program at 0 }) (phases.NotifyLook m)) (notifies_made m (phases.NotifyLook m) (of_one is) looks_who)
     did_made (NotifiesAll m) is = if_held_made m (held_at s.held m) refl (notifies_unheld m (of_all is)) (notifies (record s { frames = went_on c.program at 0 }) (phases.NotifyAll m)) (notifies_made m (phases.NotifyAll m) (of_all is) clears_all)
@@ -273,10 +268,10 @@ module _ (c : MarkedProgram) (s : Thread) (got : ℕ) where
   -- behind a check
   checked_made : (was : Phase) (o : Option Attempt) → s.attempt ≡ o → ((t : Attempt) → Checks c.program s t was) → (more : Thread) → Made was more → Made was (if_same s o got more)
   checked_made was None e k more f = f
-  checked_made was (Some t) e k more f = by_test (Made was) (is_same t got) _ _ (λ y. f) (λ y. record { move = fails_in t e y (k t); is = refl })
+  checked_made was (Some t) e k more f = cond_both (is_same t got) _ _ (Made was) (λ y. f) (λ y. record { move = fails_in t e y (k t); is = refl })
 
   instructed_made : (at : Top) → top_of c.program s.frames ≡ Some at → Made phases.Run (instructed c.program s at (effect_at c.program at) got)
-  instructed_made at found = by_test (Made phases.Run) (is_checked at.frame.pc (effect_at c.program at)) _ _
+  instructed_made at found = cond_both (is_checked at.frame.pc (effect_at c.program at)) _ _ (Made phases.Run)
       (λ t. checked_made phases.Run s.attempt refl (λ a. at_instruction at found t) _ (did_made at found (effect_at c.program at) refl)) (λ t. did_made at found (effect_at c.program at) refl)
 
   -- ---- an entry
@@ -301,7 +296,7 @@ module _ (c : MarkedProgram) (s : Thread) (got : ℕ) where
     acquires_next free = record { move = leads (phases.Acquire m) (to_acquire m tried free); is = refl }
 
     tried_made : may_try c s tried ≡ true → claim s m ≡ HasNot → (lock : LockWord) → lock_of got ≡ lock → Made (phases.Enter m tried) (tries s m tried lock)
-    tried_made y free (locks.Free count) e = by_test (Made (phases.Enter m tried)) (nat_lt count s.cfg.range) _ _ (begins_made count s.frames refl y free e) (λ t. acquires_next free)
+    tried_made y free (locks.Free count) e = cond_both (nat_lt count s.cfg.range) _ _ (Made (phases.Enter m tried)) (begins_made count s.frames refl y free e) (λ t. acquires_next free)
     tried_made y free lock e = acquires_next free
 
     entered_made : (may : Bool) → may_try c s tried ≡ may → (k : Claim) → claim s m ≡ k → Made (phases.Enter m tried) (enter_moves s m tried may k got)
@@ -314,18 +309,18 @@ module _ (c : MarkedProgram) (s : Thread) (got : ℕ) where
 
   module _ (m : ℕ) (a : After) where
     released_made : (h : Held) → held_at s.held m ≡ Some h → nat_lt 1 h.depth ≡ false → (k : Kept) → h.kept ≡ k → Made (phases.Leave m a) (released c.program s m a k got)
-    released_made h e t (keeps.Flat count) l = by_test (Made (phases.Leave m a)) (got == word_of_lock (locks.Held s.number)) _ _
+    released_made h e t (keeps.Flat count) l = cond_both (got == word_of_lock (locks.Held s.number)) _ _ (Made (phases.Leave m a))
         (λ y. record { move = gives_up m a (on_leave h e t); is = refl }) (λ y. record { move = leads (phases.Grow m (towards.Leave a)) (to_grow m count a h e t l); is = refl })
     released_made h e t (keeps.Fat r) l = record { move = gives_up m a (on_leave h e t); is = refl }
 
     finished_made : (t : Attempt) → claim s m ≡ Tries t → (inner : ℕ) → t.inner ≡ inner → Made (phases.Leave m a) (finishes c.program s a t inner got)
-    finished_made t k zero i = by_test (Made (phases.Leave m a)) (is_same t got) _ _
+    finished_made t k zero i = cond_both (is_same t got) _ _ (Made (phases.Leave m a))
         (λ y. record { move = finishes_try m a t k i y; is = refl }) (λ y. record { move = fails_in t (tried_attempt m (held_at s.held m) s.attempt t k) y (at_end m a k i); is = refl })
     finished_made t k (suc inner) i = record { move = leaves_inside m a t inner k i; is = refl }
 
     left_made : (k : Claim) → claim s m ≡ k → Made (phases.Leave m a) (leave_moves c.program s m a k got)
     left_made (Has h) e = let there = has_held m (held_at s.held m) s.attempt h e in
-        by_test (Made (phases.Leave m a)) (nat_lt 1 h.depth) _ _ (λ t. record { move = leaves_outer m a h there t; is = refl }) (λ t. released_made h there t h.kept refl)
+        cond_both (nat_lt 1 h.depth) _ _ (Made (phases.Leave m a)) (λ t. record { move = leaves_outer m a h there t; is = refl }) (λ t. released_made h there t h.kept refl)
     left_made (Tries t) e = finished_made t e t.inner refl
     left_made HasNot e = record { move = stays (no_claim m a e); is = refl }
 
@@ -370,24 +365,24 @@ moved_is c s (phases.Made a word) got = record { move = goes (Running (pushed a 
 moved_is c s (phases.Throw x class) got = checked_made c s got (phases.Throw x class) s.attempt refl (λ t. at_throw x class) _ (thrown_at c s got x class (top_of c.program s.frames) refl)
 moved_is c s (phases.Enter m tried) got = entered_made c s got m tried (may_try c s tried) refl (claim s m) refl
 moved_is c s (phases.Acquire m) got = acquired_made c s got m (phases.Acquire m) acquiring (lock_of got) refl
-moved_is c s (phases.Take m count) got = by_test (IsMoved c s got (phases.Take m count)) (got == word_of_lock (locks.Free count)) _ _
+moved_is c s (phases.Take m count) got = cond_both (got == word_of_lock (locks.Free count)) _ _ (IsMoved c s got (phases.Take m count))
     (λ t. record { move = takes_lock m (keeps.Flat count) (a_flat count t); is = refl }) (λ t. record { move = turns (phases.Acquire m) (takes_not m count t); is = refl })
 moved_is c s (phases.Flag m u) got = record { move = leads (phases.Acquire m) (from_flag m u); is = refl }
-moved_is c s (phases.TakeFat m r) got = by_test (IsMoved c s got (phases.TakeFat m r)) (got == 0) _ _
+moved_is c s (phases.TakeFat m r) got = cond_both (got == 0) _ _ (IsMoved c s got (phases.TakeFat m r))
     (λ t. record { move = takes_lock m (keeps.Fat r) (a_fat r t); is = refl }) (λ t. record { move = turns (phases.TakeFat m r) (takes_not_fat m r t); is = refl })
 moved_is c s (phases.Leave m a) got = left_made c s got m a (claim s m) refl
-moved_is c s (phases.Grow m toward) got = by_test (IsMoved c s got (phases.Grow m toward)) (nat_lt got MONITOR_RECORDS) _ _
+moved_is c s (phases.Grow m toward) got = cond_both (nat_lt got MONITOR_RECORDS) _ _ (IsMoved c s got (phases.Grow m toward))
     (λ t. record { move = leads (phases.Own m got toward) (to_own m toward t); is = refl }) (not_grown_made c s got m toward)
 moved_is c s (phases.FlatOut m a) got = record { move = gives_up m a flat_out; is = refl }
 moved_is c s (phases.Own m r toward) got = record { move = leads (phases.FatIn m r toward) (to_fat_in m r toward); is = refl }
 moved_is c s (phases.FatIn m r toward) got = fattened_made c s got m r toward (held_at s.held m) refl
 moved_is c s (phases.WaitBit m r) got = record { move = leads (phases.WaitOut m r) (to_wait_out m r); is = refl }
 moved_is c s (phases.WaitOut m r) got = gone_to_wait_made c s got m r (held_at s.held m) refl
-moved_is c s (phases.WaitLook m r depth) got = by_test (IsMoved c s got (phases.WaitLook m r depth)) (has_flag (bit_of s.number) got) _ _
+moved_is c s (phases.WaitLook m r depth) got = cond_both (has_flag (bit_of s.number) got) _ _ (IsMoved c s got (phases.WaitLook m r depth))
     (λ t. record { move = turns (phases.WaitLook m r depth) (waits_on m r depth t); is = refl }) (λ t. record { move = leads (phases.Retake m r depth) (to_retake m r depth t); is = refl })
-moved_is c s (phases.Retake m r depth) got = by_test (IsMoved c s got (phases.Retake m r depth)) (got == 0) _ _
+moved_is c s (phases.Retake m r depth) got = cond_both (got == 0) _ _ (IsMoved c s got (phases.Retake m r depth))
     (λ t. record { move = retakes_lock m r depth t; is = refl }) (λ t. record { move = turns (phases.Retake m r depth) (retakes_not m r depth t); is = refl })
-moved_is c s (phases.NotifyLook m r) got = by_test (IsMoved c s got (phases.NotifyLook m r)) (got == 0) _ _
+moved_is c s (phases.NotifyLook m r) got = cond_both (got == 0) _ _ (IsMoved c s got (phases.NotifyLook m r))
     (λ t. record { move = goes (Running s.frames) (by_none m r t); is = refl }) (λ t. record { move = leads (phases.NotifyOne m r (lowest_of got)) (to_notify_one m r t); is = refl })
 moved_is c s (phases.NotifyOne m r u) got = record { move = goes (Running s.frames) (by_one m r u); is = refl }
 moved_is c s (phases.NotifyAll m r) got = record { move = goes (Running s.frames) (by_all m r); is = refl }
@@ -442,7 +437,7 @@ counted_move P c s phase got f = by_move P c s phase got (by_count phase (f s.co
 
 -- either way
 pub if_either : {A : Type 0} (P : A → Type 0) (b : Bool) (x y : A) → P x → P y → P (if b then x else y)
-if_either P b x y h k = by_test P b x y (λ t. h) (λ t. k)
+if_either P b x y h k = cond_both b x y P (λ t. h) (λ t. k)
 
 -- whatever an option is mapped to
 pub if_mapped : {A B : Type 0} (P : B → Type 0) (o : Option A) (more : A → B) → ((a : A) → P (more a)) → IfSome (option_map more o) P
@@ -466,10 +461,10 @@ gives_up_in P s m a _ flat_out k l = l
 -- ---- the phases that a thread may come to as it goes on
 
 pub runs_to : (P : Phase → Type 0) (s : Thread) → P phases.Run → P (phases.Ending ends.Steps) → P (runs s).phase
-runs_to P s h k = by_test P (nat_lt s.counts.instructions s.cfg.steps) phases.Run (phases.Ending ends.Steps) (λ t. h) (λ t. k)
+runs_to P s h k = cond_both (nat_lt s.counts.instructions s.cfg.steps) phases.Run (phases.Ending ends.Steps) P (λ t. h) (λ t. k)
 
 pub turns_to : (P : Phase → Type 0) (s : Thread) (phase : Phase) → P phase → P (phases.Ending ends.Turns) → P (failed_turn s phase).phase
-turns_to P s phase h k = by_test P (nat_lt (s.turns + 1) s.cfg.turns) phase (phases.Ending ends.Turns) (λ t. h) (λ t. k)
+turns_to P s phase h k = cond_both (nat_lt (s.turns + 1) s.cfg.turns) phase (phases.Ending ends.Turns) P (λ t. h) (λ t. k)
 
 pub over_to : (P : Phase → Type 0) (roots : List ℕ) → (roots ≡ [] → P (phases.Ending ends.Returned)) → ((number : ℕ) (rest : List ℕ) → roots ≡ number ∷ rest → P phases.Start) → P (root_over roots)
 over_to P [] h k = h refl
