@@ -18,8 +18,6 @@ use Rattle.jvm_types.specs.declared.typing.VType.TheVariants as types
 module _ (c : MarkedProgram) (stores : Stores) (m : MethodInfo) (f : Frame) (number : ℕ) where
   pub taken_clean : (wants : List Want) (us : List VType) (vs : List ℕ) (n : ℕ) → length us ≡ length vs → Suit m wants us → SlotsFrom (IsArraySlot c stores f number) n us vs
       → ((k q : ℕ) → q ≡ n + k → k < length wants → object_at wants k ≡ true → IsOwnedAt c.program (tags_of c) f.method number q → ⊥) → TakenOld (IsStoredNowhere stores) wants vs
-  taken_clean [] us vs n l s a free = tt
-  taken_clean (want ∷ wants) us [] n l s a free = tt
   taken_clean (want ∷ wants) [] (v ∷ vs) n l s a free = absurd (omega (arith, l))
   taken_clean (want ∷ wants) (u ∷ us) (v ∷ vs) n l s a free =
       (one want s (λ is. free 0 n (omega arith) (omega arith) is), taken_clean wants us vs (suc n) (omega (arith, l)) (suits_later m want u wants us s) a.1 (λ k q e less is. free (suc k) q (omega (arith, e)) (omega (arith, less)) is))
@@ -28,6 +26,7 @@ module _ (c : MarkedProgram) (stores : Stores) (m : MethodInfo) (f : Frame) (num
       one (AnObject class) s free =
           (no_stored_along stores).rises 0 u (types.Ref class) v (is_true (suits m (AnObject class) u) (or_parts (not (suits m (AnObject class) u)) (some_taken (λ want u. not (suits m want u)) wants us) s).0) (a.0.other (free refl))
       one want s free = tt
+  taken_clean wants us vs n l s a free = tt
 
 -- ---- a frame that begins an instruction
 

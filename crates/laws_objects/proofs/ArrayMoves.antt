@@ -45,12 +45,11 @@ each_source P count rest (g ∷ gives) all (suc k) = each_source P count rest gi
 
 -- of a type, null or stored nowhere
 pub made_clean : (stores : Stores) (t : VType) (made : ℕ) → stores 0 ≡ None → TypeOld (IsStoredNowhere stores) t made → IsNoStored stores t made
-made_clean stores types.Int made null h = tt
-made_clean stores types.Top made null h = tt
 made_clean stores types.Null made null h = ap stores h ∙ null
 made_clean stores (types.Ref class) made null h = h
 made_clean stores types.This made null h = absurd h
 made_clean stores (types.New q) made null h = absurd h
+made_clean stores t made null h = tt
 
 abbrev pub GivenClean : Stores → (made : ℕ) → Given → Type 0
 GivenClean stores made (Fresh t) = IsNoStored stores t made
@@ -68,8 +67,7 @@ row_clean stores r made null old = (all r.gives old.0, write r.writes old.1)
   where
     one : (x : Given) → GivenOld (IsStoredNowhere stores) made x → GivenClean stores made x
     one (Fresh t) h = made_clean stores t made null h
-    one (Taken q) h = tt
-    one (Local y) h = tt
+    one x h = tt
 
     all : (xs : List Given) → AllByRecursion (GivenOld (IsStoredNowhere stores) made) xs → AllByRecursion (GivenClean stores made) xs
     all [] h = tt

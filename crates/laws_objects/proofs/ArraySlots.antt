@@ -16,10 +16,9 @@ module _ (Is : (place : ℕ) → VType → (v : ℕ) → Type 0) where
   pub from_each : (n : ℕ) (ts : List VType) (vs : List ℕ)
       → ((k m : ℕ) → m ≡ n + k → Is m (slice_index_or ts k types.Top) (slice_index_or vs k 0))
       → SlotsFrom Is n ts vs
-  from_each n [] vs f = tt
-  from_each n (t ∷ ts) [] f = tt
   from_each n (t ∷ ts) (v ∷ vs) f =
       (f 0 n (omega arith), from_each (suc n) ts vs (λ k m e. f (suc k) m (omega (arith, e))))
+  from_each n ts vs f = tt
 
   pub each_from : ((k : ℕ) → Is k types.Top 0) → (n : ℕ) (ts : List VType) (vs : List ℕ)
       → length ts ≡ length vs → SlotsFrom Is n ts vs → (k m : ℕ) → m ≡ n + k
@@ -29,28 +28,25 @@ module _ (Is : (place : ℕ) → VType → (v : ℕ) → Type 0) where
       let same : m ≡ n = omega (arith, e) in subst (λ (i : ℕ). Is i t v) (sym same) a.0
   each_from top n (t ∷ ts) (v ∷ vs) l a (suc k) m e =
       each_from top (suc n) ts vs (omega (arith, l)) a.1 k m (omega (arith, e))
-  each_from top n [] (v ∷ vs) l a k m e = absurd (omega (arith, l))
-  each_from top n (t ∷ ts) [] l a k m e = absurd (omega (arith, l))
+  each_from top n ts vs l a k m e = absurd (omega (arith, l))
 
   -- without those on top
   pub from_drop : (count n m : ℕ) (ts : List VType) (vs : List ℕ) → m ≡ count + n → SlotsFrom Is n ts vs
       → SlotsFrom Is m (drop count ts) (drop count vs)
   from_drop zero n m ts vs e a =
       let same : m ≡ n = omega (arith, e) in subst (λ (i : ℕ). SlotsFrom Is i ts vs) (sym same) a
-  from_drop (suc count) n m [] [] e a = tt
-  from_drop (suc count) n m [] (v ∷ vs) e a = tt
   from_drop (suc count) n m (t ∷ ts) [] e a = no_values (drop count ts)
     where
       no_values : (us : List VType) → SlotsFrom Is m us []
       no_values [] = tt
       no_values (u ∷ us) = tt
   from_drop (suc count) n m (t ∷ ts) (v ∷ vs) e a = from_drop count (suc n) m ts vs (omega (arith, e)) a.1
+  from_drop (suc count) n m [] vs e a = tt
 
 pub from_map : (Is Be : (place : ℕ) → VType → (v : ℕ) → Type 0) → ((k : ℕ) (t : VType) (v : ℕ) → Is k t v → Be k t v)
     → (n : ℕ) (ts : List VType) (vs : List ℕ) → SlotsFrom Is n ts vs → SlotsFrom Be n ts vs
-from_map Is Be f n [] vs a = tt
-from_map Is Be f n (t ∷ ts) [] a = tt
 from_map Is Be f n (t ∷ ts) (v ∷ vs) a = (f n t v a.0, from_map Is Be f (suc n) ts vs a.1)
+from_map Is Be f n ts vs a = tt
 
 -- ---- what was never stored
 
@@ -70,19 +66,17 @@ pub record AlongTypes (Is : (place : ℕ) → VType → (v : ℕ) → Type 0) : 
 module _ (Is : (place : ℕ) → VType → (v : ℕ) → Type 0) (along : AlongTypes Is) where
   pub edge_from : (n : ℕ) (ts us : List VType) (vs : List ℕ) → all_pairs is_below ts us ≡ true
       → SlotsFrom Is n ts vs → SlotsFrom Is n us vs
-  edge_from n [] [] vs b a = tt
-  edge_from n (t ∷ ts) (u ∷ us) [] b a = tt
   edge_from n (t ∷ ts) (u ∷ us) (v ∷ vs) b a =
       let parts = both_are_true (is_below t u) (all_pairs is_below ts us) b in
       (along.rises n t u v parts.0 a.0, edge_from (suc n) ts us vs parts.1 a.1)
   edge_from n [] (u ∷ us) vs b a = absurd (cc)
   edge_from n (t ∷ ts) [] vs b a = absurd (cc)
+  edge_from n ts us vs b a = tt
 
   begun_from : (n class : ℕ) (o : VType) (ts : List VType) (vs : List ℕ) → o ≢ types.Int → o ≢ types.Top
       → SlotsFrom Is n ts vs → SlotsFrom Is n (initialised o class ts) vs
-  begun_from n class o [] vs i t a = tt
-  begun_from n class o (u ∷ us) [] i t a = tt
   begun_from n class o (u ∷ us) (v ∷ vs) i t a = (along.begins n class o u v i t a.0, begun_from (suc n) class o us vs i t a.1)
+  begun_from n class o ts vs i t a = tt
 
 pub no_stored_along : (stores : Stores) → AlongTypes (λ place. IsNoStored stores)
 no_stored_along stores = record { rises = λ k t u v b h. rises t u v b h; begins = λ k class o t v i n h. begins class o t v i n h }

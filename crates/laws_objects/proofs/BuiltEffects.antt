@@ -72,14 +72,12 @@ module _ (Old : ℕ → Type 0) (out : Old out_object) (p : Program) (m : Method
   Is target r e = Built Old p target r e
 
   kind_old : (kind : Kind) (v : ℕ) → KindOld Old kind v → TypeOld Old (type_of kind) v
-  kind_old kinds.Int v h = tt
-  kind_old kinds.Bool v h = tt
   kind_old (kinds.Ref class) v h = h
+  kind_old kind v h = tt
 
   kept_old : (kind : Kind) (v : ℕ) → WantOld Old (want_of kind) v → KindOld Old kind (kept kind v)
-  kept_old kinds.Int v h = tt
-  kept_old kinds.Bool v h = tt
   kept_old (kinds.Ref class) v h = h
+  kept_old kind v h = tt
 
   same_field : (number other : ℕ) (f g : FieldInfo) → targets.Field number ≡ targets.Field other → slice_get p.fields number ≡ Some f → slice_get p.fields other ≡ Some g → f ≡ g
   same_field number other f g t e h = let same : number ≡ other = cc in same_some (sym e ∙ ap (slice_get p.fields) same ∙ h)
@@ -95,9 +93,6 @@ module _ (Old : ℕ → Type 0) (out : Old out_object) (p : Program) (m : Method
   write_old : (made : ℕ) (write : Option (ℕ × Given)) → WriteMade made write → WriteOld Old made write
   write_old made None h = tt
   write_old made (Some write) h = given_old made write.1 h
-
-  row_old : (r : OpRow) (made : ℕ) → RowMade r made → RowOld Old r made
-  row_old r made h = (all_weaker (GivenMade made) (GivenOld Old made) (given_old made) r.gives h.0, write_old made r.writes h.1)
 
   -- the row of a field
   field_got : (number : ℕ) (f : FieldInfo) → slice_get p.fields number ≡ Some f → (other : ℕ) (g : FieldInfo) → targets.Field number ≡ targets.Field other → slice_get p.fields other ≡ Some g → (got : ℕ) → KindOld Old g.kind got → TypeOld Old (type_of f.kind) got
@@ -131,7 +126,7 @@ module _ (Old : ℕ → Type 0) (out : Old out_object) (p : Program) (m : Method
 
   built : (target : Target) (op : Op) (s : List ℕ) (e : Effect) → Comes p pc next target op s e → NamesField target op → Takes target op s → Is target (row p m pc target op) e
   built _ _ _ _ (lacks target op s lack) n h = tt
-  built _ _ _ _ (goes target op s to made k r) n h = row_old (row p m pc target op) made (r m)
+  built _ _ _ _ (goes target op s to made k r) n h = (all_weaker (GivenMade made) (GivenOld Old made) (given_old made) (row p m pc target op).gives (r m).0, write_old made (row p m pc target op).writes (r m).1)
   built _ _ _ _ (refuses target op s x is t) n h = tt
   built _ _ _ _ (reads_static i number s f there) n h =
       subst (λ (o : Option FieldInfo). Is (targets.Field number) (get_static_row o) (Reads (variable_of f 0))) (sym there) (λ other g t k got o. ((field_got number f there other g t k got o, tt), tt))

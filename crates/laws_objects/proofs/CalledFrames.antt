@@ -186,10 +186,9 @@ arguments_start called = kinds_start (reverse called.args)
 
 -- a row that starts nothing
 pub none_started : (own : ℕ) (wants : List Want) (us : List VType) → AllByRecursion StartsNone wants → started own wants us ≡ None
-none_started own [] us n = refl
 none_started own (ToStart class ∷ wants) us n = absurd n.0
-none_started own (want ∷ wants) [] n = refl
 none_started own (want ∷ wants) (u ∷ us) n = none_started own wants us n.1
+none_started own wants us n = refl
 
 pub none_append : (front : List Want) (want : Want) → AllByRecursion StartsNone front → StartsNone want → AllByRecursion StartsNone (front ++ want ∷ [])
 none_append [] want a n = (n, tt)

@@ -39,10 +39,9 @@ index_got none (y ∷ xs) zero x e = same_some e
 index_got none (y ∷ xs) (suc n) x e = index_got none xs n x e
 
 taken_at : (Old : ℕ → Type 0) (front : List Want) (class : ℕ) (s : List ℕ) (v : ℕ) → TakenOld Old (front ++ AnObject class ∷ []) s → slice_get s (length front) ≡ Some v → Old v
-taken_at Old [] class [] v h e = absurd (cc)
 taken_at Old [] class (x ∷ s) v h e = subst Old (same_some e) h.0
-taken_at Old (want ∷ front) class [] v h e = absurd (cc)
 taken_at Old (want ∷ front) class (x ∷ s) v h e = taken_at Old front class s v h.1 e
+taken_at Old front class [] v h e = absurd (cc)
 
 -- a static method that is called is no `<init>`
 static_no_init : (p : Program) (site : MethodSite) (pc number : ℕ) (op : Op) (target : Target) (r : OpRow) (called : MethodInfo) → called_method op target ≡ Some number → slice_get p.methods number ≡ Some called → HasRow p site pc target op r
@@ -59,8 +58,7 @@ static_no_init p site pc number (ops.Invokestatic i) (targets.Method u) r called
   where
     no_init : (a b d : Bool) → (a && not (b || d)) ≡ true → b ≡ false
     no_init true false d e = refl
-    no_init true true d e = absurd (cc)
-    no_init false b d e = absurd (cc)
+    no_init a b d e = absurd (cc)
 static_no_init p site pc number op target r called e there h s = absurd (let bad : None ≡ Some number = e in cc)
 
 pub not_built : (frozen : ℕ → Bool) (m : MethodInfo) → is_init m ≡ false → builds frozen m ≡ false
@@ -257,11 +255,8 @@ module _ (lawful : LawfulBuilding) (f : Frame) (fs : List Frame) (k : FrameIn la
           p : ReceiverAt m (SlotOf frozen w next t (length fs) Runs m f.receiver) m.class called.class (length (arguments called)) k.stands.types.stack k.stands.tags.stack f.stack (started m.class (arguments called ++ ToStart called.class ∷ []) k.stands.types.stack)
           p = place
 
-          same_value : p.value ≡ a
-          same_value = same_some (sym p.value_is ∙ at)
-
           by_plain : (builds frozen m ≡ true → p.type ≢ types.This) × SlotByType (IsFinished w next) (IsFresh w t (length fs) Runs) (makes_frozen frozen m) p.type a
-          by_plain = subst (λ (v : ℕ). (builds frozen m ≡ true → p.type ≢ types.This) × SlotByType (IsFinished w next) (IsFresh w t (length fs) Runs) (makes_frozen frozen m) p.type v) same_value
+          by_plain = subst (λ (v : ℕ). (builds frozen m ≡ true → p.type ≢ types.This) × SlotByType (IsFinished w next) (IsFresh w t (length fs) Runs) (makes_frozen frozen m) p.type v) (same_some (sym p.value_is ∙ at))
               (plain (builds frozen m) refl p.type p.tag p.value (λ own. other_tag own p.tag p.tag_is) p.slot)
 
           by_type : (u : VType) → p.type ≡ u → suits m (ToStart called.class) u ≡ true → Steps w next t (CallKeeps (a ∷ rest))

@@ -25,9 +25,8 @@ hides_first t ts e h zero = e
 hides_first t ts e h (suc k) = h k
 
 hides_untagged : (n : ℕ) → Hides (replicate n Untagged)
-hides_untagged zero k = refl
-hides_untagged (suc n) zero = refl
 hides_untagged (suc n) (suc k) = hides_untagged n k
+hides_untagged n k = refl
 
 hides_set : (ts : List Tag) (i : ℕ) (t : Tag) → is_this t ≡ false → Hides ts
     → Hides (slice_set ts i t)
@@ -43,9 +42,8 @@ hides_both (t ∷ ts) us a b zero = a zero
 hides_both (t ∷ ts) us a b (suc k) = hides_both ts us (λ j. a (suc j)) b k
 
 hides_drop : (n : ℕ) (ts : List Tag) → Hides ts → Hides (drop n ts)
-hides_drop zero ts h k = h k
-hides_drop (suc n) [] h k = h k
 hides_drop (suc n) (t ∷ ts) h k = hides_drop n ts (λ j. h (suc j)) k
+hides_drop n ts h k = h k
 
 hides_without : (pc : ℕ) (ts : List Tag) → Hides ts → Hides (without pc ts)
 hides_without pc [] h k = refl
@@ -67,9 +65,8 @@ hides_values stack locals (given ∷ gives) a b (suc k) = hides_values stack loc
 -- ---- along edges
 
 tag_falls : (t u : Tag) → IsTagBelow t u → is_this t ≡ false → is_this u ≡ false
-tag_falls t Untagged b h = refl
 tag_falls t This b h = ap is_this (sym b) ∙ h
-tag_falls t (At pc) b h = refl
+tag_falls t u b h = refl
 
 tags_fall : (ts us : List Tag) → AreTagsBelow ts us → Hides ts → Hides us
 tags_fall ts [] b h k = refl

@@ -25,8 +25,6 @@ module _ (building : Building) (fs : List Frame) where
   counted_fits was (phases.Ending e) is k = at_end e is
     where
       at_end : (e : End) → IsLimitAt e (phases.Ending e) was → PhaseFits building fs (counted_by was (phases.Ending e))
-      at_end ends.Steps is = subst (PhaseFits building fs) is k
-      at_end ends.Prints is = subst (PhaseFits building fs) is k
       at_end ends.Turns is = turned_fits was is k
       at_end ends.Records is = k
       at_end e is = subst (PhaseFits building fs) is k

@@ -46,9 +46,8 @@ names_a_field p site pc target op r h e = absurd (let bad : false ≡ true = e i
 
 module _ (p : Program) (next : ℕ) where
   get_fits : (o : Option FieldInfo) (s : List ℕ) (i : ℕ) → FitsOp (gets o s) (ops.Getfield i)
-  get_fits None s i = tt
-  get_fits (Some f) [] i = tt
   get_fits (Some f) (a ∷ s) i = elim (a == 0) as (λ (b : Bool). FitsOp (if b then Throws thrown.NullPointerException else Reads (variable_of f a)) (ops.Getfield i)) [ true ↦ tt | false ↦ (refl, refl) ]
+  get_fits o s i = tt
 
   put_fits : (o : Option FieldInfo) (s : List ℕ) (i : ℕ) → FitsOp (puts o s) (ops.Putfield i)
   put_fits (Some f) (v ∷ a ∷ s) i = elim (a == 0) as (λ (b : Bool). FitsOp (if b then Throws thrown.NullPointerException else Writes (variable_of f a) (kept f.kind v)) (ops.Putfield i)) [ true ↦ tt | false ↦ (refl, refl) ]
@@ -59,9 +58,8 @@ module _ (p : Program) (next : ℕ) where
   array_fits l (a ∷ s) target = by_test (int_lt (int_of a) (pos 0)) (nat_lt p.heap (low a))
     where
       by_test : (b c : Bool) → FitsOp (if b then Throws thrown.NegativeArraySizeException else if c then Throws thrown.OutOfMemoryError else Makes (header INT_ARRAY_CLASS (low a)) (array_size (low a))) ops.Newarray
-      by_test true c = tt
-      by_test false true = tt
       by_test false false = (refl, refl)
+      by_test b c = tt
 
   pub effect_fits : (target : Target) (op : Op) (l s : List ℕ) → ((is_getfield op || is_putfield op) ≡ true → (number : ℕ) × (target ≡ targets.Field number)) → FitsOp (effect p next target op l s) op
   effect_fits target (ops.Getfield i) l s names =

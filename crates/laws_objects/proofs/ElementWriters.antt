@@ -202,9 +202,6 @@ module _ (decided : OwnedIsDecided) (event : BuiltEvent) (fi word : ℕ) (o : Ob
       instance : is_static kept.stands.method.flags ≡ false
       instance = coloured_instance c marked f kept.stands 2 coloured
 
-      class : kept.stands.method.class ≡ coloured.owned.field.class
-      class = coloured_class c marked f kept.stands 2 coloured
-
       -- the object that the method runs on
       on_object : HasClass objects kept.stands.method.class f.receiver
       on_object =
@@ -223,7 +220,7 @@ module _ (decided : OwnedIsDecided) (event : BuiltEvent) (fi word : ℕ) (o : Ob
             r.1,
             r.2,
             has_field heap_state r.0 coloured.fi coloured.owned.field
-                r.1 coloured.owned.is coloured.owned.instance (r.3 ∙ class),
+                r.1 coloured.owned.is coloured.owned.instance (r.3 ∙ (coloured_class c marked f kept.stands 2 coloured)),
           ) in
           let other : IsThere c.program objects s (ValueOf o.reference e.is_field.field.index)
           = (
@@ -268,11 +265,8 @@ module _ (decided : OwnedIsDecided) (event : BuiltEvent) (fi word : ℕ) (o : Ob
       → n ≡ value_word e.array.reference e.index → StoresElement c o word x
   stores n v q holds top has on same = record { value = v; stores = q ∙ ap (λ (m : ℕ). phases.Element m (Some v)) (same ∙ sym e.place); top = by_frames x.frames n v frames holds top has on same }
     where
-      counted : was t ≡ phases.Element n (Some v)
-      counted = subst (λ (phase : Phase). IsAs phase (was t)) q (place_event event).structured.is_as
-
       frames : FramesIn seen Runs x.frames
-      frames = subst (λ (phase : Phase). PhaseIn seen phase x.frames) counted keeps.frames
+      frames = subst (λ (phase : Phase). PhaseIn seen phase x.frames) (subst (λ (phase : Phase). IsAs phase (was t)) q (place_event event).structured.is_as) keeps.frames
 
   abbrev Stay : Type 0
   Stay = slice_index (words_after s.words (wanted c x x.phase)) (value_word e.array.reference e.index) ≡ slice_index s.words (value_word e.array.reference e.index)

@@ -42,8 +42,7 @@ module _ (Old : ℕ → Type 0) where
   args_zip [] [] f = tt
   args_zip (kinds.Ref class ∷ args) (v ∷ vs) f = (f.0, args_zip args vs f.1)
   args_zip (kind ∷ args) (v ∷ vs) f = args_zip args vs f.1
-  args_zip [] (v ∷ vs) f = absurd f
-  args_zip (kind ∷ args) [] f = absurd f
+  args_zip args vs f = absurd f
 
   pub static_args : (called : MethodInfo) (s : List ℕ) → length (arguments called) ≤ length s → TakenOld Old (arguments called) s → ArgsOld Old called.args (reverse (take (length (arguments called)) s))
   static_args called s l h = args_zip called.args _ (subst (λ (ws : List Want). AllZip (WantOld Old) ws (reverse (take (length (arguments called)) s))) (reverse_map want_of called.args) (in_order (arguments called) s l h))
@@ -137,15 +136,12 @@ module _ (building : Building) (h : ℕ) (null : IsFinished building.w building.
   pub static_enters : (args : List ℕ) → is_static called.flags ≡ true → builds frozen called ≡ false → length called.args ≤ called.max_locals → ArgsOld (IsFinished w next) called.args args → ArgsOld (IsStoredNowhere owning.stores) called.args args → FrameIn building h Runs (entry_frame number called args)
   static_enters args static own few old clean =
       enters args
-      (subst (λ (b : Bool). ReceiverIs w next t h b (entry_frame number called args).receiver) (sym own) (subst (IsFinished w next) (sym receiver) null))
+      (subst (λ (b : Bool). ReceiverIs w next t h b (entry_frame number called args).receiver) (sym own) (subst (IsFinished w next) (sym (ap (λ (b : Bool). if b then 0 else first_or_null args) static)) null))
       (subst (λ (gs : List Tag). SlotsAre (SlotOf frozen w next t h Runs called (entry_frame number called args).receiver) (types.entry_type_frame called).locals gs (entry_frame number called args).locals) (sym tags_are)
       (subst (λ (us : List VType). SlotsAre (SlotOf frozen w next t h Runs called (entry_frame number called args).receiver) us (replicate called.max_locals Untagged) (entry_frame number called args).locals) (sym types_are)
       (args_slots (IsFinished w next) null (IsFresh w t h Runs) (builds frozen called) (makes_frozen frozen called) (entry_frame number called args).receiver called.args args called.max_locals few old)))
       (subst (λ (us : List VType). SlotsFrom (λ place. IsNoStored owning.stores) 0 us (entry_frame number called args).locals) (sym types_are) (args_none owning.stores called.args args called.max_locals 0 few clean))
     where
-      receiver : (entry_frame number called args).receiver ≡ 0
-      receiver = ap (λ (b : Bool). if b then 0 else first_or_null args) static
-
       tags_are : (entry_tags called).locals ≡ replicate called.max_locals Untagged
       tags_are = ap (λ (b : Bool). if b then replicate called.max_locals Untagged else This ∷ replicate (called.max_locals - 1) Untagged) static
 

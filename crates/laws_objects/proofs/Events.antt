@@ -106,9 +106,6 @@ module _ (lies : StartLiesApart) (structure : StructureIsKept) (state : BuiltSta
     holds : (phase : Phase) → x.phase ≡ phase → PhaseHolds c (HasClass objects) phase x.frames
     holds phase e = subst (λ (p : Phase). PhaseHolds c (HasClass objects) p x.frames) e (facts.heap.typed.threads t x there).phase
 
-    stays : StaysStructured c (was t) now
-    stays = structure c (was t) x got marked stood lawful.typed lawful.rooted
-
     -- ---- what was never stored in an owned field
 
     -- an object of another class than that of arrays
@@ -171,7 +168,7 @@ module _ (lies : StartLiesApart) (structure : StructureIsKept) (state : BuiltSta
 
     usual : StoresNothing → Moved (building_in state t) keeps.now more (counted_by (was t) now.phase) now
     usual none = moves_keep moving lawful.rooted got (HasClass objects)
-        (λ here a v n e. none here a.frame a.below a.there a.keeps.stands v n e) thrown known stays
+        (λ here a v n e. none here a.frame a.below a.there a.keeps.stands v n e) thrown known (structure c (was t) x got marked stood lawful.typed lawful.rooted)
 
     reaches : (phase : Phase) → x.phase ≡ phase → ReachesIf c.program objects s (content_at c x phase) (wanted c x phase)
     reaches phase e = subst (λ (p : Phase). ReachesIf c.program objects s (content_at c x p) (wanted c x p)) e (events_reach c objects s t x marked facts.heap there lawful)
@@ -301,13 +298,11 @@ module _ (lies : StartLiesApart) (structure : StructureIsKept) (state : BuiltSta
 
         old_kinds : x.attempt ≡ None → (kind : Kind) (n : ℕ) → KindOld (IsFinished keeps.now next) kind n → KindOld (IsFinished w next) kind n
         old_kinds outside (kinds.Ref class) n o = (o.0, sym (keeps.now_is.same outside n) ∙ o.1)
-        old_kinds outside kinds.Int n o = tt
-        old_kinds outside kinds.Bool n o = tt
+        old_kinds outside kind n o = tt
 
         place_kind : (kind : Kind) (word n : ℕ) → KindOld (IsStoredNowhere owning.stores) kind n → PlaceStores owning.stores word false kind n
         place_kind (kinds.Ref class) word n o = o
-        place_kind kinds.Int word n o = tt
-        place_kind kinds.Bool word n o = tt
+        place_kind kind word n o = tt
 
         -- an instance field is written by a `putfield`
         is_put : (number : ℕ) (g : FieldInfo) → slice_get c.program.fields number ≡ Some g → is_static g.flags ≡ false → (op : Op) → HasRow c.program (site_in kept.stands.method) kept.stands.insn.pc (targets.Field number) op (row_at c f kept.stands) → is_getfield op ≡ false
@@ -393,8 +388,7 @@ module _ (lies : StartLiesApart) (structure : StructureIsKept) (state : BuiltSta
       on : (word : ℕ) (owned : Bool) (kind : Kind) (n : ℕ) → KindKeeps w next kind n → PlaceStores owning.stores word owned kind n → PlaceStores behind word owned kind n
       on word true kind n k p = at_on owning.stores new word n p
       on word false (kinds.Ref class) n k p = nowhere_on owning.stores new n (λ s. none_some (w it.array) (builder t (length a.below) Unstored) (subst (λ (y : ℕ). w y ≡ None) s k.1) is_new) p
-      on word false kinds.Int n k p = tt
-      on word false kinds.Bool n k p = tt
+      on word false kind n k p = tt
 
       -- ---- the field
 

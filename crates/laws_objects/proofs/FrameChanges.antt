@@ -139,10 +139,9 @@ TriesGo None (Some b) fs gs = (gs ≡ fs) × (put_back b fs ≡ fs)
 TriesGo (Some a) (Some b) fs gs = (b.base ≡ a.base) × (b.entry ≡ a.entry) × (a.base < length fs → a.base < length gs → put_back a gs ≡ put_back a fs)
 
 tries_from : (o p : Option Attempt) (fs gs : List Frame) → AttemptFrom o p → ((a : Attempt) → a.base < length fs → a.base < length gs → put_back a gs ≡ put_back a fs) → TriesGo o p fs gs
-tries_from None None fs gs from k = tt
-tries_from (Some a) None fs gs from k = tt
 tries_from None (Some b) fs gs from k = absurd from
 tries_from (Some a) (Some b) fs gs from k = (from.1, from.2, k a)
+tries_from o None fs gs from k = tt
 
 pub record StaysSo (x y : Thread) : Type 0 where
   pub frames : Stay x.frames y.frames
@@ -269,9 +268,6 @@ module _ (c : MarkedProgram) (was : Phase) (x : Thread) where
   leaves_carry : (m : ℕ) (a : After) → was ≡ phases.Leave m a → CarriesIn a
   leaves_carry m = carries (phases.Leave m) (λ w next t v class k. k.1) (λ b v class k. k)
 
-  flat_carry : (m : ℕ) (a : After) → was ≡ phases.FlatOut m a → CarriesIn a
-  flat_carry m = carries (phases.FlatOut m) (λ w next t v class k. k.1) (λ b v class k. k)
-
   -- ---- all moves, whatever it has counted
 
   module _ (n got : ℕ) where
@@ -372,9 +368,6 @@ module _ (c : MarkedProgram) (was : Phase) (x : Thread) where
     deeper_from : (t : Attempt) (inner : ℕ) → x.attempt ≡ Some t → AttemptFrom x.attempt (Some (record t { inner = inner }))
     deeper_from t inner e = subst (λ (o : Option Attempt). AttemptFrom o (Some (record t { inner = inner }))) (sym e) (refl, refl, refl)
 
-    ended_from : (t : Attempt) → x.attempt ≡ Some t → AttemptFrom x.attempt None
-    ended_from t e = subst (λ (o : Option Attempt). AttemptFrom o None) (sym e) tt
-
     -- ---- each of them
 
     move_goes : (phase : Phase) (k : Move c s got phase) → IsAs phase was → Stands c was x.frames x.held x.attempt → AttemptStandsIn c was x.frames x.held x.attempt → Go (becomes c s got phase k)
@@ -390,13 +383,13 @@ module _ (c : MarkedProgram) (was : Phase) (x : Thread) where
         begins_go m noted tried f below e (none_tried c m tried x.frames x.held (held_at x.held m) x.attempt free (subst (λ (p : Phase). AttemptStandsIn c p x.frames x.held x.attempt) is inside))
     move_goes phase (moves.gives_up m a k) is stands inside =
         goes_behind a (record s { held = without_held m x.held }) (record { frames = refl; tries = from_same x.attempt; known = λ w next t k. known_without w next t m x.held k })
-        (gives_up_in (λ (phase : Phase). IsAs phase was → CarriesIn a) s m a phase k (leaves_carry m a) (flat_carry m a) is)
+        (gives_up_in (λ (phase : Phase). IsAs phase was → CarriesIn a) s m a phase k (leaves_carry m a) (carries (phases.FlatOut m) (λ w next t v class k. k.1) (λ b v class k. k) a) is)
     move_goes _ (moves.leaves_outer m a h e t) is stands inside = goes_behind a (record s { held = with_held (shallower h) x.held })
         (record { frames = refl; tries = from_same x.attempt; known = λ w next t k. known_with w next t (shallower h) x.held (known_at w next t m x.held h k e) k }) (leaves_carry m a is)
     move_goes _ (moves.leaves_inside m a t inner k e) is stands inside = goes_behind a (record s { attempt = Some (record t { inner = inner }) })
         (record { frames = refl; tries = deeper_from t inner (tried_attempt m (held_at x.held m) x.attempt t k); known = λ w next t k. k }) (leaves_carry m a is)
     move_goes _ (moves.finishes_try m a t k e y) is stands inside = goes_behind a (elided s)
-        (record { frames = refl; tries = ended_from t (tried_attempt m (held_at x.held m) x.attempt t k); known = λ w next t k. k }) (leaves_carry m a is)
+        (record { frames = refl; tries = (subst (λ (o : Option Attempt). AttemptFrom o None) (sym (tried_attempt m (held_at x.held m) x.attempt t k)) tt); known = λ w next t k. k }) (leaves_carry m a is)
     move_goes _ (moves.starts number roots e) is stands inside =
         starts_go (subst (λ (p : Phase). Stands c p x.frames x.held x.attempt) is stands).phase_shows (record s { roots = roots }) (as_it_was (record s { roots = roots }) refl refl refl) (option_map (rooted c.program x.number number) (slice_get c.program.methods number))
     move_goes phase k is stands inside = same (becomes c s got phase k) refl refl

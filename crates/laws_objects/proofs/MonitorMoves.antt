@@ -40,8 +40,7 @@ element_usual (Some v) op e = absurd (let bad : false ≡ true = e in cc)
 element_row : (Old : ℕ → Type 0) (p : Program) (m : MethodInfo) (pc : ℕ) (target : Target) (made : ℕ) (stored : Option ℕ) (op : Op) → is_element_op stored op ≡ true → RowOld Old (row p m pc target op) made
 element_row Old p m pc target made None ops.Iaload e = ((tt, tt), tt)
 element_row Old p m pc target made (Some v) ops.Iastore e = (tt, tt)
-element_row Old p m pc target made None op e = absurd (let bad : false ≡ true = e in cc)
-element_row Old p m pc target made (Some v) op e = absurd (let bad : false ≡ true = e in cc)
+element_row Old p m pc target made stored op e = absurd (let bad : false ≡ true = e in cc)
 
 module _ (lawful : LawfulBuilding) where
   open lawful use {building, c, marked, owning, w, next, t}

@@ -100,7 +100,6 @@ module _ (Old : ℕ → Type 0) (null : Old 0) (Fresh : ℕ → ℕ → Type 0) 
         → TagsFine ts ls vs us (moved_tags (row p m pc target op) (record { stack = s; locals = l; held = held })) → TagsFine ts ls vs us (tags_by_op pc (row p m pc target op) op s (record { stack = s; locals = l; held = held }))
     tags_fine ops.Dup (Untagged ∷ s) l held ts ls vs us h = dup_fine pc ts ls s l held vs us h.0 h.1
     tags_fine ops.Monitorenter (g ∷ s) l held ts ls vs us h = h
-    tags_fine ops.Monitorexit s l held ts ls vs us h = h
     tags_fine op s l held ts ls vs us h = h
 
   -- ---- by the row

@@ -252,11 +252,8 @@ module _ (lawful : LawfulBuilding) (more : ℕ) (grows : lawful.next < more) (f 
     plain : puts_owned owning.owned k.stands.insn.op k.stands.target ≡ false
     plain = stores_none owning.owned k.stands.insn.op k.stands.target put
 
-    edge_is : has_number (edges k.stands.insn) k.stands.insn.next ≡ true
-    edge_is = number_in (edges k.stands.insn) k.stands.insn.next edge
-
     pub usual_well : is_newarray k.stands.insn.op ≡ false → LandsWell design false (frame_on (row_at c f k.stands) k.stands.insn.next next f) k.stands.method (frame_after k.stands.method (row_at c f k.stands) k.stands.types)
-    usual_well op = goes_plain building (length fs) f k k.stands.insn.next next edge_is (made_well type get gives writes) op
+    usual_well op = goes_plain building (length fs) f k k.stands.insn.next next (number_in (edges k.stands.insn) k.stands.insn.next edge) (made_well type get gives writes) op
 
     makes_as : (pc : ℕ) (item : Option Item) (sort : IsNewItem pc item) → AreBehind pc k.stands.types
         → LandsWell design false (frame_on (row_at c f k.stands) k.stands.insn.next next f) k.stands.method (frame_after k.stands.method (row_at c f k.stands) k.stands.types)

@@ -25,8 +25,7 @@ other_above t u b n = λ e. cc
 others_above : (ts us : List VType) → all_pairs is_below ts us ≡ true → AllByRecursion IsOther ts → AllByRecursion IsOther us
 others_above [] [] e a = tt
 others_above (t ∷ ts) (u ∷ us) e a = let parts = both_are_true (is_below t u) (all_pairs is_below ts us) e in (other_above t u parts.0 a.0, others_above ts us parts.1 a.1)
-others_above [] (u ∷ us) e a = absurd (cc)
-others_above (t ∷ ts) [] e a = absurd (cc)
+others_above ts us e a = absurd (cc)
 
 kind_other : (kind : Kind) → IsOther (type_of kind)
 kind_other kinds.Int = λ e. cc

@@ -182,10 +182,8 @@ module _ (lawful : LawfulBuilding) where
         of_type (types.Ref class) h = slot (types.Ref class) (λ e. cc) h
         of_type types.Int h = slot types.Int (λ e. cc) tt
         of_type types.Top h = slot types.Top (λ e. cc) tt
-        of_type types.This h = absurd h
-        of_type (types.New pc) h = absurd h
-    given_made made (Taken place) h = tt
-    given_made made (Local i) h = tt
+        of_type type h = absurd h
+    given_made made x h = tt
 
     all_made : (made : ℕ) (xs : List Given) → AllByRecursion (GivenOld (IsFinished w next) made) xs → AllByRecursion (IsMade (SlotOf frozen w next t (length fs) Runs k.stands.method f.receiver) made) xs
     all_made made [] h = tt

@@ -133,13 +133,12 @@ no_read fi (ops.Getfield i) target e h = (let bad : true ≡ false = e in cc)
 no_read fi op target e h = (let bad : false ≡ true = h in cc)
 
 takes_no_this : (wants : List Want) (gs : List Tag) → ((k : ℕ) → k < length wants → object_at wants k ≡ true → slice_index_or gs k Untagged ≢ This) → TakesNoThis wants gs
-takes_no_this [] gs f = tt
-takes_no_this (want ∷ wants) [] f = tt
 takes_no_this (want ∷ wants) (g ∷ gs) f = (one want (λ e. f 0 (omega arith) e), takes_no_this wants gs (λ k l e. f (suc k) (omega (arith, l)) e))
   where
     one : (want : Want) → (is_object want ≡ true → g ≢ This) → NoThis want g
     one (AnObject class) f = f refl
     one want f = tt
+takes_no_this wants gs f = tt
 
 module _ (design : Design) where
   open design use {c, frozen}

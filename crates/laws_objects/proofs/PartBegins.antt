@@ -54,9 +54,6 @@ module _ (structured : NextKeepsStructure) (state : BuiltState) where
     keeps : ThreadIn (building_in state u) phase y
     lost : (v : ℕ) (b : Builder) → SeenByAll constructed v b → keeps.now v ≡ Some b
 
-  structure : Structure c (counted_next c was s) (next c s).threads
-  structure = structured c was s facts.threads.parts facts.structure
-
   as_now : (u : ℕ) (y : Thread) (now : Phase) (z : Thread) (g : slice_get s.threads u ≡ Some z) (b : Begins z y) → PhaseFits (in_world (building_in state u) (k.each u z g).now) y.frames now → Kept u now y
   unfolding stays
   as_now u y now z g b fits = record { keeps = stays (building_in state u) (was u) z y b (k.each u z g) now fits; lost = λ v d all. all u z g }
@@ -64,7 +61,7 @@ module _ (structured : NextKeepsStructure) (state : BuiltState) where
   each : (u : ℕ) (y : Thread) → slice_get (next c s).threads u ≡ Some y → Kept u (counted_next c was s u) y
   each u y e =
       let b = begun c.program s.threads u y e in
-      by_test (may_begin s.threads) b.0 b.1 b.2 (structure u y e)
+      by_test (may_begin s.threads) b.0 b.1 b.2 (structured c was s facts.threads.parts facts.structure u y e)
     where
       by_test : (may : Bool) (z : Thread) → slice_get s.threads u ≡ Some z → Begins z y → IsStructured c (if may then counted_of (was u) (slice_get (next c s).threads u) else was u) y
           → Kept u (if may then counted_of (was u) (slice_get (next c s).threads u) else was u) y

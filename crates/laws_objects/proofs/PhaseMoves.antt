@@ -111,17 +111,13 @@ restands c marked is f h k =
 -- a field is as the world that the thread sees has it
 pub kind_map : (Old : ℕ → Type 0) (w : World) (next : ℕ) → ((v : ℕ) → IsFinished w next v → Old v) → (kind : Kind) (v : ℕ) → KindKeeps w next kind v → KindOld Old kind v
 kind_map Old w next f (kinds.Ref class) v k = f v k
-kind_map Old w next f kinds.Int v k = tt
-kind_map Old w next f kinds.Bool v k = tt
+kind_map Old w next f kind v k = tt
 
 module _ (moving : Moving) (objects : List Object) (s : Core) (facts : HeapFacts moving.c objects s) (next_is : slice_index s.words NEXT_FREE_WORD ≡ moving.next) (places : PlacesKeep moving.c moving.owning moving.w moving.next objects s.words) where
   open moving use {building, c, marked, owning, owns, w, next, t, more, was, x, k, stood}
 
-  seen : (v : ℕ) → IsFinished w next v → IsFinished k.now next v
-  seen v o = (o.0, k.now_is.others v (λ b e. absurd (none_some (w v) b o.1 e)) ∙ o.1)
-
   field_found : (target : Target) (v : Variable) (f : FieldInfo) → IsNamedField c.program (HasClass objects) target v f → KindOld (IsFinished k.now next) f.kind (slice_index s.words (variable_word v))
-  field_found target v f at = kind_map (IsFinished k.now next) w next seen f.kind (slice_index s.words (variable_word v))
+  field_found target v f at = kind_map (IsFinished k.now next) w next (λ v o. (o.0, k.now_is.others v (λ b e. absurd (none_some (w v) b o.1 e)) ∙ o.1)) f.kind (slice_index s.words (variable_word v))
       (subst (λ (u : Variable). KindKeeps w next f.kind (slice_index s.words (variable_word u))) (sym at.variable) (by_flag (is_static f.flags) refl))
     where
       by_flag : (b : Bool) → is_static f.flags ≡ b → KindKeeps w next f.kind (slice_index s.words (variable_word (if b then Static f.index else Instance at.reference f.index)))
@@ -158,8 +154,7 @@ module _ (moving : Moving) (objects : List Object) (s : Core) (facts : HeapFacts
 
       place_kind : (kind : Kind) (word v : ℕ) → PlaceStores owning.stores word false kind v → KindOld (IsStoredNowhere owning.stores) kind v
       place_kind (kinds.Ref class) word v h = h
-      place_kind kinds.Int word v h = tt
-      place_kind kinds.Bool word v h = tt
+      place_kind kind word v h = tt
 
       module _ (v : Variable) (same : effect_at c.program at ≡ Reads v) (field : FieldInfo) (named : IsNamedField c.program (HasClass objects) kf.stands.target v field) where
         -- where the field is one of an object

@@ -44,8 +44,7 @@ leave_of_none (Has h) is = by_kept h.kept is
     by_kept : (k : Kept) → IsOfPlace (leave_content (Has (record h { kept = k }))) → ⊥
     by_kept (keeps.Flat count) is = is
     by_kept (keeps.Fat r) is = is
-leave_of_none (Tries a) is = is
-leave_of_none HasNot is = is
+leave_of_none claimed is = is
 
 -- ---- the field that an instruction names
 

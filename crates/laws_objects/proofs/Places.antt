@@ -33,8 +33,7 @@ leave_plain (Has h) = by_kept h.kept
     by_kept : (kept : Kept) → IsPlain (leave_content (Has (record h { kept = kept })))
     by_kept (keeps.Flat n) = tt
     by_kept (keeps.Fat r) = tt
-leave_plain (Tries a) = tt
-leave_plain HasNot = tt
+leave_plain claim = tt
 
 -- an event, in a world: what is owned, and what was stored before it and behind it
 pub record PlaceChange : Type 0 where
@@ -71,13 +70,11 @@ module _ (change : PlaceChange) where
 
   kind_on : (kind : Kind) (v : ℕ) → KindKeeps w (slice_index s.words NEXT_FREE_WORD) kind v → KindKeeps later more kind v
   kind_on (kinds.Ref class) v k = finished_on w later (slice_index s.words NEXT_FREE_WORD) more t goes v k
-  kind_on kinds.Int v k = tt
-  kind_on kinds.Bool v k = tt
+  kind_on kind v k = tt
 
   pub old_kind : (kind : Kind) (v : ℕ) → KindOld (IsFinished w (slice_index s.words NEXT_FREE_WORD)) kind v → KindKeeps later more kind v
   old_kind (kinds.Ref class) v k = finished_on w later (slice_index s.words NEXT_FREE_WORD) more t goes v k
-  old_kind kinds.Int v k = tt
-  old_kind kinds.Bool v k = tt
+  old_kind kind v k = tt
 
   pub same_words : Behind s.words
   same_words = record {
@@ -234,14 +231,12 @@ module _ (change : PlaceChange) where
 
       null_kind : (kind : Kind) (v : ℕ) → v ≡ 0 → KindKeeps later more kind v
       null_kind (kinds.Ref class) v e = subst (IsFinished later more) (sym e) (first_finished later (words_of c.program) more 0 is (omega arith))
-      null_kind kinds.Int v e = tt
-      null_kind kinds.Bool v e = tt
+      null_kind kind v e = tt
 
       null_place : (at : ℕ) (owned : Bool) (kind : Kind) → PlaceStores after at owned kind 0
       null_place at true kind = inl refl
       null_place at false (kinds.Ref class) = null
-      null_place at false kinds.Int = tt
-      null_place at false kinds.Bool = tt
+      null_place at false kind = tt
 
       -- its fields are null, and the others as before
       of_each : (P : Object → ℕ → FieldInfo → ℕ → Type 0) → ((o : Object) (number : ℕ) (f : FieldInfo) → P o number f 0)

@@ -56,11 +56,10 @@ module _ (stores : Stores) (new : NewArray stores) where
   module _ (Fresh : ℕ → ℕ → Type 0) (young : ℕ → Bool) (receiver : ℕ) (receiver_apart : receiver ≢ array) where
     clear_type : (t : VType) (v : ℕ) → SlotByType Apart Fresh young t v → IsSure Fresh t → Apart v
     clear_type types.Null v h s = subst Apart (sym h) zero_apart
-    clear_type (types.Ref c) v h s = h
-    clear_type types.This v h s = h
     clear_type (types.New q) v h s = (elim (young q) as (λ (b : Bool). if_so b (Fresh q v) (Apart v) → Apart v) [ true ↦ λ h. s v h | false ↦ λ h. h ]) h
     clear_type types.Int v h s = absurd s
     clear_type types.Top v h s = absurd s
+    clear_type t v h s = h
 
     clear_slot : (own : Bool) (t : VType) (g : Tag) (v : ℕ) → SlotIs Apart Fresh own young receiver t g v → IsSure Fresh t → Apart v
     clear_slot false t g v h s = clear_type t v h s
@@ -92,10 +91,9 @@ module _ (stores : Stores) (new : NewArray stores) where
 
   pub from_on : (R : VType → Tag → ℕ → Type 0) (Is Be : (place : ℕ) → VType → (v : ℕ) → Type 0) → ((n : ℕ) (t : VType) (g : Tag) (v : ℕ) → R t g v → Is n t v → Be n t v)
       → (n : ℕ) (ts : List VType) (gs : List Tag) (vs : List ℕ) → SlotsAre R ts gs vs → SlotsFrom Is n ts vs → SlotsFrom Be n ts vs
-  from_on R Is Be f n [] gs vs s a = tt
-  from_on R Is Be f n (t ∷ ts) gs [] s a = tt
   from_on R Is Be f n (t ∷ ts) [] (v ∷ vs) s a = absurd s
   from_on R Is Be f n (t ∷ ts) (g ∷ gs) (v ∷ vs) s a = (f n t g v s.0 a.0, from_on R Is Be f (suc n) ts gs vs s.1 a.1)
+  from_on R Is Be f n ts gs vs s a = tt
 
   pub array_on : (c : MarkedProgram) (f : Frame) (number n : ℕ) (t : VType) (v : ℕ) → (IsNoStored stores t v → IsNoStored after t v) → IsArraySlot c stores f number n t v → IsArraySlot c after f number n t v
   array_on c f number n t v on a = record { owned = λ o place is. at_on place v (a.owned o place is); other = λ none. on (a.other none) }

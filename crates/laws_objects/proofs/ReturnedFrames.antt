@@ -60,8 +60,6 @@ module _ (building : Building) (h : ℕ) (null : IsFinished building.w building.
       subst (λ (s : List ℕ). ResultOld Old m.result (given_back ops.Ireturn s)) (sym top.2) top.3
     where
       an_int : (kind : Kind) (a : ℕ) → m.result ≡ Some kind → KindOld Old kind a
-      an_int kinds.Int a e = tt
-      an_int kinds.Bool a e = tt
       an_int (kinds.Ref class) a e = absurd (no_reference k.stands.types.stack well suit)
         where
           below_both : (u : VType) → is_below u types.Int ≡ true → is_below u (types.Ref class) ≡ true → ⊥
@@ -75,14 +73,14 @@ module _ (building : Building) (h : ℕ) (null : IsFinished building.w building.
               let kind : w.kind ≡ kinds.Ref class = same_some (sym w.described ∙ e) in
               let int : is_below u types.Int ≡ true = is_true (is_below u types.Int) (or_parts (not (is_below u types.Int)) (some_taken (λ want t. not (suits m want t)) [] us) s).0 in
               below_both u int (subst (λ (x : VType). is_below x (types.Ref class) ≡ true) (sym same) (subst (λ (x : Kind). is_below w.type (type_of x) ≡ true) kind w.fits))
+      an_int kind a e = tt
   result_of_op Old ops.Areturn r well plain old suit =
       let top = top_result m Old (SlotOf frozen w next t h Runs m f.receiver) k.stands.types.stack k.stands.tags.stack f.stack well (plain_stack building h f k plain) (λ kind a rest e s. an_object kind a rest s (subst (λ (o : Option Kind). TakenOld Old (Rattle.jvm_types.specs.CodeTable.returned_want o ∷ []) f.stack) e old)) in
       subst (λ (s : List ℕ). ResultOld Old m.result (given_back ops.Areturn s)) (sym top.2) top.3
     where
       an_object : (kind : Kind) (a : ℕ) (rest : List ℕ) → f.stack ≡ a ∷ rest → TakenOld Old (Rattle.jvm_types.specs.CodeTable.returned_want (Some kind) ∷ []) f.stack → KindOld Old kind a
-      an_object kinds.Int a rest e h = tt
-      an_object kinds.Bool a rest e h = tt
       an_object (kinds.Ref class) a rest e h = (subst (TakenOld Old (AnObject class ∷ [])) e h).0
+      an_object kind a rest e h = tt
   result_of_op Old op r well plain old suit = absurd (let bad : false ≡ true = r in cc)
 
   return_takes : (op : Op) → is_return op ≡ true → takes_any op ≡ false
@@ -110,7 +108,6 @@ module _ (building : Building) (h : ℕ) (null : IsFinished building.w building.
 -- ---- what started stands below the arguments
 
 started_class : (own q d class : ℕ) (front : List Want) (us : List VType) → AllByRecursion StartsNone front → started own (front ++ ToStart class ∷ []) us ≡ Some (types.New q, d) → d ≡ class
-started_class own q d class [] [] n e = absurd (cc)
 started_class own q d class [] (types.This ∷ us) n e = absurd (let same : types.This ≡ types.New q = ap first_of e in cc)
   where
     first_of : Option (VType × ℕ) → VType
@@ -122,8 +119,8 @@ started_class own q d class [] (u ∷ us) n e = ap second_of (sym e)
     second_of None = class
     second_of (Some x) = x.1
 started_class own q d class (ToStart x ∷ front) us n e = absurd n.0
-started_class own q d class (want ∷ front) [] n e = absurd (cc)
 started_class own q d class (want ∷ front) (u ∷ us) n e = started_class own q d class front us n.1 e
+started_class own q d class front [] n e = absurd (cc)
 
 -- ---- places below those that a call took
 
@@ -184,9 +181,8 @@ module _ (lawful : LawfulBuilding) (resuming : Resuming lawful) where
   IsWaiting = SlotOf frozen w next t (length gs) (WaitsFor receiver wait.begun) wait.keeps.stands.method g.receiver
 
   kind_slot : (kind : Kind) (v : ℕ) → KindOld (IsFinished w next) kind v → IsWaiting (type_of kind) Untagged v
-  kind_slot kinds.Int v o = made_slot (IsFinished w next) (null lawful) (IsFresh w t (length gs) (WaitsFor receiver wait.begun)) (builds frozen k.method) (makes_frozen frozen k.method) g.receiver (builds frozen k.method) types.Int v (λ e. cc) tt
-  kind_slot kinds.Bool v o = made_slot (IsFinished w next) (null lawful) (IsFresh w t (length gs) (WaitsFor receiver wait.begun)) (builds frozen k.method) (makes_frozen frozen k.method) g.receiver (builds frozen k.method) types.Int v (λ e. cc) tt
   kind_slot (kinds.Ref class) v o = made_slot (IsFinished w next) (null lawful) (IsFresh w t (length gs) (WaitsFor receiver wait.begun)) (builds frozen k.method) (makes_frozen frozen k.method) g.receiver (builds frozen k.method) (types.Ref class) v (λ e. cc) o
+  kind_slot kind v o = made_slot (IsFinished w next) (null lawful) (IsFresh w t (length gs) (WaitsFor receiver wait.begun)) (builds frozen k.method) (makes_frozen frozen k.method) g.receiver (builds frozen k.method) types.Int v (λ e. cc) tt
 
   pushed : (o : Option Kind) (vs : List ℕ) → ResultOld (IsFinished w next) o vs → (st lt : List VType) (sg lg : List Tag) (us : List VType) (hs : List Tag) (ns : List ℕ) → SlotsAre IsWaiting us hs ns
       → SlotsAre IsWaiting (map (value_of types.Top (λ t. t) st lt) (option_to_list (option_map (λ kind. Anew (type_of kind)) o)) ++ us) (map (value_of Untagged (λ t. Untagged) sg lg) (option_to_list (option_map (λ kind. Anew (type_of kind)) o)) ++ hs) (vs ++ ns)
@@ -216,9 +212,8 @@ module _ (lawful : LawfulBuilding) (resuming : Resuming lawful) where
   no_read fi op target e h = (let bad : false ≡ true = h in cc)
 
   kind_type : (kind : Kind) (v : ℕ) → KindOld (IsStoredNowhere owning.stores) kind v → IsNoStored owning.stores (type_of kind) v
-  kind_type kinds.Int v h = tt
-  kind_type kinds.Bool v h = tt
   kind_type (kinds.Ref class) v h = h
+  kind_type kind v h = tt
 
   made_by : (o : Option Kind) (vs : List ℕ) → ResultOld (IsStoredNowhere owning.stores) o vs
       → (made : ℕ) × ((sv lv : List ℕ) → map (value_of 0 (λ t. made) sv lv) (option_to_list (option_map (λ kind. Anew (type_of kind)) o)) ≡ vs)

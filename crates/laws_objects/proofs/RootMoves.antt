@@ -67,13 +67,10 @@ module _ (lawful : LawfulBuilding) where
       args_old Old (inl r) = subst (λ (args : List Kind). ArgsOld Old args (if nat_lt 0 (length args) then thread ∷ [] else [])) (sym r.args) tt
       args_old Old (inr r) = subst (λ (args : List Kind). ArgsOld Old args (if nat_lt 0 (length args) then thread ∷ [] else [])) (sym r.args) tt
 
-      static : IsSomeRoot m → is_static m.flags ≡ true
-      static root = elim root [ inl r ↦ r.static | inr r ↦ r.static ]
-
       by_room : (b : Bool) → OnwardKeeps building (if b then Running (entry_frame number m (root_arguments thread m) ∷ []) else Uncaught StackOverflowError)
       by_room true =
           let root = part_root c.program marked.checked.program thread part number m h e in
-          (static_enters building 0 (null lawful) number m e (root_arguments thread m) (static root) (not_built frozen m (no_init c.program thread part number m h e)) (omega (arith, fits)) (args_old (IsFinished w next) root) (args_old (IsStoredNowhere owning.stores) root), tt)
+          (static_enters building 0 (null lawful) number m e (root_arguments thread m) (elim root [ inl r ↦ r.static | inr r ↦ r.static ]) (not_built frozen m (no_init c.program thread part number m h e)) (omega (arith, fits)) (args_old (IsFinished w next) root) (args_old (IsStoredNowhere owning.stores) root), tt)
       by_room false = tt
 
   root_if : (thread part number : ℕ) → has_number (part_roots c.program thread part) number ≡ true → IfKeeps building (option_map (rooted c.program thread number) (slice_get c.program.methods number))

@@ -40,8 +40,7 @@ method_counted p m f e = by_flags (is_synchronized m.flags) (is_static m.flags) 
   where
     by_flags : (b s : Bool) → (b && not s) ≡ true → 0 < count_in f.receiver (if b then (if s then class_object p (file_of_class m.class) else f.receiver) ∷ [] else [])
     by_flags true false e = once_in f.receiver []
-    by_flags true true e = absurd (cc)
-    by_flags false s e = absurd (cc)
+    by_flags b s e = absurd (cc)
 
 -- ---- what it shows of its class
 
@@ -50,8 +49,7 @@ class_counted p m f e = by_flags (is_synchronized m.flags) (is_static m.flags) e
   where
     by_flags : (b s : Bool) → (b && s) ≡ true → 0 < count_in (class_object p (file_of_class m.class)) (if b then (if s then class_object p (file_of_class m.class) else f.receiver) ∷ [] else [])
     by_flags true true e = once_in (class_object p (file_of_class m.class)) []
-    by_flags true false e = absurd (cc)
-    by_flags false s e = absurd (cc)
+    by_flags b s e = absurd (cc)
 
 pub entries_counted : (p : Program) (choice : ℕ → ℕ) (m : MethodInfo) (tags : TagShape) (f : Frame) → (list_any is_this tags.held ≡ true) ⊎ (locks_this m ≡ true) → 0 < count_in f.receiver (shown_entries p choice m tags f)
 entries_counted p choice m tags f (inl e) = front_counted f.receiver (map (tag_value choice f.receiver) tags.held) (own_entry p m f) (tag_counted choice f.receiver tags.held e)
@@ -68,11 +66,7 @@ held_of m held l = by_held (held_at held m) refl
 
 module _ (c : MarkedProgram) (marked : IsMarked c) where
   shown_held : (m : ℕ) (f : Frame) (fs : List Frame) (held : List Held) (stands : Stands c phases.Run (f ∷ fs) held None) → 0 < count_in m stands.show.0 → (h : Held) × (held_at held m ≡ Some h)
-  shown_held m f fs held stands own = held_of m held (omega (arith, stands.depths m, counted))
-    where
-      counted : 0 < count_in m stands.shown
-      counted = subst (λ (ns : List ℕ). 0 < count_in m ns) (sym stands.show.2) (front_counted m stands.show.0 stands.show.1 own)
-
+  shown_held m f fs held stands own = held_of m held (omega (arith, stands.depths m, (subst (λ (ns : List ℕ). 0 < count_in m ns) (sym stands.show.2) (front_counted m stands.show.0 stands.show.1 own))))
   pub holds_receiver : (f : Frame) (fs : List Frame) (held : List Held) (k : Standing c f) → Stands c phases.Run (f ∷ fs) held None → (list_any is_this k.tags.held ≡ true) ⊎ (locks_this k.method ≡ true)
       → (h : Held) × (held_at held f.receiver ≡ Some h)
   holds_receiver f fs held k stands shows = shown_held f.receiver f fs held stands (subst (λ (ns : List ℕ). 0 < count_in f.receiver ns) (sym top.shown_are) (entries_counted c.program top.choice top.stands.method top.stands.tags f shows_there))

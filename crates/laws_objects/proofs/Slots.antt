@@ -89,9 +89,8 @@ same_is o t e = let both = same_lists (o ∷ []) (t ∷ []) (both_true (same_typ
 -- ---- slots with no `this` go by their type, which is not `this`
 
 pub not_this : (k : Tag) → (k ≡ This) ⊎ (k ≢ This)
-not_this Untagged = inr (λ e. cc)
 not_this This = inl refl
-not_this (At p) = inr (λ e. cc)
+not_this k = inr (λ e. cc)
 
 module _ (Old : ℕ → Type 0) (Fresh : ℕ → ℕ → Type 0) (young : ℕ → Bool) (receiver : ℕ) where
   pub plainly : (t : VType) (g : Tag) (v : ℕ) → g ≢ This → OwnSlot Old Fresh young receiver t g v → (t ≢ types.This) × SlotByType Old Fresh young t v
@@ -152,9 +151,6 @@ module _ (Old : ℕ → Type 0) (null : Old 0) (Fresh : ℕ → ℕ → Type 0) 
   type_edge (types.New p) (types.New q) v b h = subst (λ (r : ℕ). if_so (young r) (Fresh r v) (Old v)) (grind (arith, nat_tests, b)) h
   type_edge t u v b h = absurd (cc)
 
-  kept_this : (g : Tag) → IsTagBelow g This → g ≡ This
-  kept_this g e = e
-
   own_edge : (t u : VType) (g k : Tag) (v : ℕ) → is_below t u ≡ true → IsTagBelow g k → (g ≡ This → k ≡ This) → OwnSlot Old Fresh young receiver t g v → OwnSlot Old Fresh young receiver u k v
   own_edge t u g k v b kept keeps h = by_tag (not_this g)
     where
@@ -162,7 +158,7 @@ module _ (Old : ℕ → Type 0) (null : Old 0) (Fresh : ℕ → ℕ → Type 0) 
       by_tag (inl e) = rw (keeps e) (subst (λ (x : Tag). OwnSlot Old Fresh young receiver t x v) e h)
       by_tag (inr n) =
           let p = plainly Old Fresh young receiver t g v n h in
-          plain_slot Old Fresh young receiver u k v (λ e. n (kept_this g (subst (λ (x : Tag). IsTagBelow g x) e kept))) (other_above t u b p.0) (type_edge t u v b p.1)
+          plain_slot Old Fresh young receiver u k v (λ e. n ((subst (λ (x : Tag). IsTagBelow g x) e kept))) (other_above t u b p.0) (type_edge t u v b p.1)
 
   slot_edge : (o : Bool) (t u : VType) (g k : Tag) (v : ℕ) → is_below t u ≡ true → IsTagBelow g k → (o ≡ true → g ≡ This → k ≡ This) → SlotIs Old Fresh o young receiver t g v → SlotIs Old Fresh o young receiver u k v
   slot_edge true t u g k v b kept keeps h = own_edge t u g k v b kept (keeps refl) h
@@ -173,20 +169,18 @@ module _ (Old : ℕ → Type 0) (null : Old 0) (Fresh : ℕ → ℕ → Type 0) 
   slots_edge (t ∷ ts) (u ∷ us) (g ∷ gs) (k ∷ ks) (v ∷ vs) b kept long keeps h =
       let parts = both_are_true (is_below t u) (all_pairs is_below ts us) b in
       (slot_edge own t u g k v parts.0 kept.0 (λ o e. keeps o 0 e) h.0, slots_edge ts us gs ks vs parts.1 kept.1 (omega (arith, long)) (λ o n e. keeps o (suc n) e) h.1)
-  slots_edge ts us gs [] (v ∷ vs) b kept long keeps h = absurd (first_of (assumption, cc, omega (arith, long)))
   slots_edge ts us gs ks vs b kept long keeps h = absurd (first_of (assumption, cc, omega (arith, long)))
 
   -- with what is still to be stored on the top
   pub with_edge : (New : ℕ → Type 0) (puts : Bool) (ts us : List VType) (gs ks : List Tag) (vs : List ℕ) → all_pairs is_below ts us ≡ true → AreTagsBelow gs ks → length ks ≡ length us → (own ≡ true → KeepThis gs ks) → StackWith R New puts ts gs vs → StackWith R New puts us ks vs
   with_edge New false ts us gs ks vs b kept long keeps h = slots_edge ts us gs ks vs b kept long keeps h
   with_edge New true [] [] gs ks vs b kept long keeps h = slots_edge [] [] gs ks vs b kept long keeps h
-  with_edge New true [] (u ∷ us) gs ks vs b kept long keeps h = absurd (cc)
-  with_edge New true (t ∷ ts) [] gs ks vs b kept long keeps h = absurd (cc)
   with_edge New true (t ∷ ts) (u ∷ us) [] ks vs b kept long keeps h = absurd h
   with_edge New true (t ∷ ts) (u ∷ us) (g ∷ gs) ks [] b kept long keeps h = absurd h
   with_edge New true (t ∷ ts) (u ∷ us) (g ∷ gs) [] (v ∷ vs) b kept long keeps h = absurd (omega (arith, long))
   with_edge New true (t ∷ ts) (u ∷ us) (g ∷ gs) (k ∷ ks) (v ∷ vs) b kept long keeps h =
       (h.0, slots_edge ts us gs ks vs (both_are_true (is_below t u) (all_pairs is_below ts us) b).1 kept.1 (omega (arith, long)) (λ o n e. keeps o (suc n) e) h.1)
+  with_edge New true ts us gs ks vs b kept long keeps h = absurd (cc)
 
   -- ---- an `<init>` that is started: its object is finished, or `this` of an `<init>` of a frozen class
 
@@ -228,17 +222,13 @@ module _ (Old : ℕ → Type 0) (null : Old 0) (Fresh : ℕ → ℕ → Type 0) 
 
   -- ---- tags that a `dup` makes and takes away
 
-  untag : (t : VType) (g k : Tag) (v : ℕ) → g ≢ This → k ≢ This → OwnSlot Old Fresh young receiver t g v → OwnSlot Old Fresh young receiver t k v
-  untag t g k v n m h = let p = plainly Old Fresh young receiver t g v n h in plain_slot Old Fresh young receiver t k v m p.0 p.1
-
   pub slot_retag : (b : Bool) (t : VType) (g k : Tag) (v : ℕ) → g ≢ This → k ≢ This → SlotIs Old Fresh b young receiver t g v → SlotIs Old Fresh b young receiver t k v
-  slot_retag true t g k v n m h = untag t g k v n m h
+  slot_retag true t g k v n m h = let p = plainly Old Fresh young receiver t g v n h in plain_slot Old Fresh young receiver t k v m p.0 p.1
   slot_retag false t g k v n m h = h
 
   without_slot : (pc : ℕ) (b : Bool) (t : VType) (g : Tag) (v : ℕ) → SlotIs Old Fresh b young receiver t g v → SlotIs Old Fresh b young receiver t (if same_tag g (At pc) then Untagged else g) v
-  without_slot pc b t Untagged v h = h
-  without_slot pc b t This v h = h
   without_slot pc b t (At q) v h = elim (q == pc) as (λ (x : Bool). SlotIs Old Fresh b young receiver t (if x then Untagged else At q) v) [ true ↦ slot_retag b t (At q) Untagged v (λ e. cc) (λ e. cc) h | false ↦ h ]
+  without_slot pc b t g v h = h
 
   pub slots_without : (pc : ℕ) (ts : List VType) (gs : List Tag) (vs : List ℕ) → SlotsAre R ts gs vs → SlotsAre R ts (without pc gs) vs
   slots_without pc [] [] [] h = tt

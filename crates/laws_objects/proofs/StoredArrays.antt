@@ -82,17 +82,11 @@ module _ (lawful : LawfulBuilding) (f : Frame) (fs : List Frame) (k : FrameIn la
   writes_none : (row_at c f k.stands).writes ≡ None
   writes_none = ap (λ (x : OpRow). x.writes) row_is
 
-  takes_two : length (row_at c f k.stands).takes ≡ 2
-  takes_two = ap (λ (x : OpRow). length x.takes) row_is
-
-  starts_none : AllByRecursion StartsNone (row_at c f k.stands).takes
-  starts_none = subst (λ (x : OpRow). AllByRecursion StartsNone x.takes) (sym row_is) (want_starts field.field.kind, (tt, tt))
-
   nothing : started k.stands.method.class (row_at c f k.stands).takes k.stands.types.stack ≡ None
-  nothing = none_started k.stands.method.class (row_at c f k.stands).takes k.stands.types.stack starts_none
+  nothing = none_started k.stands.method.class (row_at c f k.stands).takes k.stands.types.stack (subst (λ (x : OpRow). AllByRecursion StartsNone x.takes) (sym row_is) (want_starts field.field.kind, (tt, tt)))
 
   below_two : SlotsAre (SlotOf frozen w next t (length fs) Runs k.stands.method f.receiver) (drop (length (row_at c f k.stands).takes) k.stands.types.stack) (drop (length (row_at c f k.stands).takes) k.stands.tags.stack) (drop (length (row_at c f k.stands).takes) f.stack)
-  below_two = subst (λ (n : ℕ). SlotsAre (SlotOf frozen w next t (length fs) Runs k.stands.method f.receiver) (drop n k.stands.types.stack) (drop n k.stands.tags.stack) (drop n f.stack)) (sym takes_two) top.1
+  below_two = subst (λ (n : ℕ). SlotsAre (SlotOf frozen w next t (length fs) Runs k.stands.method f.receiver) (drop n k.stands.types.stack) (drop n k.stands.tags.stack) (drop n f.stack)) (sym (ap (λ (x : OpRow). length x.takes) row_is)) top.1
 
   -- ---- it was stored nowhere
 
@@ -186,9 +180,6 @@ module _ (lawful : LawfulBuilding) (f : Frame) (fs : List Frame) (k : FrameIn la
       subst (λ (u : VType). IsArraySlot c (with_stored owning.stores array word) f k.stands.number (length (row_at c f k.stands).takes + q) u (slice_index_or f.stack (length (row_at c f k.stands).takes + q) 0)) (sym (dropped_at types.Top (length (row_at c f k.stands).takes) k.stands.types.stack q (length (row_at c f k.stands).takes + q) refl))
       (subst (IsArraySlot c (with_stored owning.stores array word) f k.stands.number (length (row_at c f k.stands).takes + q) (slice_index_or (drop (length (row_at c f k.stands).takes) k.stands.types.stack) q types.Top)) (sym (dropped_at 0 (length (row_at c f k.stands).takes) f.stack q (length (row_at c f k.stands).takes + q) refl)) there)
 
-  no_read : (fi : ℕ) → is_read_of fi k.stands.insn.op k.stands.target ≡ true → ⊥
-  no_read other e = (let bad : false ≡ true = sym (ap (λ (op : Op). is_read_of other op k.stands.target) op_is) ∙ e in cc)
-
   well : LandsWell behind.design false (frame_on (row_at c f k.stands) k.stands.insn.next 0 f) k.stands.method (frame_after k.stands.method (row_at c f k.stands) k.stands.types)
   well = record {
     put = λ j other target u at same. edge_plain c marked behind.owning owns f.method j k.stands.method other target u at k.stands.number k.stands.insn k.stands.at.in_code (subst (λ (pc : ℕ). has_number (edges k.stands.insn) pc ≡ true) (sym same) edge_is) (ap is_newarray op_is);
@@ -197,7 +188,7 @@ module _ (lawful : LawfulBuilding) (f : Frame) (fs : List Frame) (k : FrameIn la
         (stack_clean c marked behind.owning.stores f k.stands k.stands.types.stack k.stands.types.locals f.stack f.locals 0 k.stands.insn.next (drop (length (row_at c f k.stands).takes) f.stack)
         (frame_on (row_at c f k.stands) k.stands.insn.next 0 f).locals (λ q. dropped_at 0 (length (row_at c f k.stands).takes) f.stack q (length (row_at c f k.stands).takes + q) refl)
         (record {
-          read = λ other reads place is. absurd (no_read other reads.1);
+          read = λ other reads place is. absurd (let bad : false ≡ true = sym (ap (λ (op : Op). is_read_of other op k.stands.target) op_is) ∙ reads.1 in cc);
           other = λ none. (subst (AllByRecursion (GivenClean behind.owning.stores 0)) (sym gives_none) tt, subst (WriteClean behind.owning.stores 0) (sym writes_none) tt);
           written = subst (WriteClean behind.owning.stores 0) (sym writes_none) tt;
         })

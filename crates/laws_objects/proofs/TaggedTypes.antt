@@ -57,11 +57,8 @@ module _ (p : Program) (m : MethodInfo) (frames : List (Option TypeFrame)) (laid
 
   catchers_land : (insn : Insn) (g : TypeFrame) (f : TagShape) → P g f → AllByRecursion (λ handler. types.FrameFits m.code frames (frame_at_handler handler g) handler.handler) (covering m insn.pc)
       → AllByRecursion (λ handler. Lands HasIt m.code (tags_at_handler f) handler.handler) (catchers m insn)
-  catchers_land insn g f k h = by_test (types_throw insn)
+  catchers_land insn g f k h = by_test (Rattle.jvm_types.specs.CodeTable.can_throw insn.op)
     where
-      types_throw : Insn → Bool
-      types_throw i = Rattle.jvm_types.specs.CodeTable.can_throw i.op
-
       by_test : (b : Bool) → AllByRecursion (λ handler. Lands HasIt m.code (tags_at_handler f) handler.handler) (if b then until_all (covering m insn.pc) else [])
       by_test true = rows_land g f (covering m insn.pc) k h
       by_test false = tt
@@ -79,9 +76,8 @@ module _ (p : Program) (m : MethodInfo) (frames : List (Option TypeFrame)) (laid
           (catchers_land insn g f has.2 sound.handlers_fit)
 
       by_both : (o : Option Insn) → slice_get m.code i ≡ o → (q : Option Target) → slice_get m.targets i ≡ q → AllByRecursion (ActLands HasIt m.code) (acts_at p m o q f)
-      by_both None c q t = tt
-      by_both (Some insn) c None t = tt
       by_both (Some insn) c (Some target) t = insn_lands insn target c t
+      by_both o c q t = tt
 
   first_has : HasIt 0 (entry_tags m)
   first_has =

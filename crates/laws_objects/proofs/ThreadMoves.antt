@@ -92,8 +92,7 @@ from_same (Some a) = (refl, refl, refl)
 
 pub from_none : (o p : Option Attempt) → o ≡ None → p ≡ None → AttemptFrom o p
 from_none None None e f = tt
-from_none None (Some b) e f = absurd (cc)
-from_none (Some a) p e f = absurd (cc)
+from_none o p e f = absurd (cc)
 
 -- the frames below its section are the same
 abbrev pub EntryKept : Option Attempt → Option Attempt → (fs gs : List Frame) → Type 0
@@ -102,8 +101,7 @@ EntryKept o p fs gs = Unit {0}
 
 pub entry_same : (o p : Option Attempt) (fs : List Frame) → EntryKept o p fs fs
 entry_same (Some a) (Some b) fs = refl
-entry_same (Some a) None fs = tt
-entry_same None p fs = tt
+entry_same o p fs = tt
 
 -- ---- how a thread goes on
 
@@ -327,11 +325,10 @@ module _ (building : Building) (was : Phase) (x : Thread) (k : ThreadIn building
       (onward_sees s o step)
     where
       entry : (p : Option Attempt) → x.attempt ≡ p → (q : Option Attempt) → AttemptFrom p q → BasedIn p x.frames → BasedIn q (goes_on s o).frames → EntryKept p q x.frames (goes_on s o).frames
-      entry None e q from low high = tt
-      entry (Some a) e None from low high = tt
       entry (Some a) e (Some b) from low high =
           let there : a.base < length (frames_in o) = subst (λ (fs : List Frame). a.base < length fs) (goes_frames s o) (subst (λ (n : ℕ). n < length (goes_on s o).frames) from.1 high) in
           subst (λ (fs : List Frame). put_back a fs ≡ put_back a x.frames) (sym (goes_frames s o)) (keeps a e low there)
+      entry p e q from low high = tt
 
   -- ---- it changes its phase alone
 

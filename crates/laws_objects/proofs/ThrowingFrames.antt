@@ -68,13 +68,12 @@ module _ (Old : ℕ → Type 0) (Fresh Later : ℕ → ℕ → Type 0) (young : 
 
 -- where none has what a `new` made
 locals_back : (stores : Stores) (n : ℕ) (us : List VType) (vs : List ℕ) → AllByRecursion (λ u. is_new u ≡ false) us → SlotsFrom (λ place. IsNoStoredLocal stores Throws) n us vs → SlotsFrom (λ place. IsNoStored stores) n us vs
-locals_back stores n [] vs all a = tt
-locals_back stores n (u ∷ us) [] all a = tt
 locals_back stores n (u ∷ us) (v ∷ vs) all a = (back u all.0 a.0, locals_back stores (suc n) us vs all.1 a.1)
   where
     back : (u : VType) → is_new u ≡ false → IsNoStoredLocal stores Throws u v → IsNoStored stores u v
     back (vtypes.New q) e h = absurd (cc)
     back u e h = h
+locals_back stores n us vs all a = tt
 
 -- ---- a handler
 

@@ -109,13 +109,12 @@ put_back_low c frozen h v a fs k =
     omega (arith, low, long)
 
 pub has_back_on : (c : MarkedProgram) (frozen : ℕ → Bool) (h v : ℕ) (o p : Option Attempt) (fs gs : List Frame) → TriesGo o p fs gs → BasedIn o fs → BasedIn p gs → HasInit c frozen h v fs → HasBack c frozen h v o fs → HasBack c frozen h v p gs
-has_back_on c frozen h v None None fs gs tries low high k back = tt
-has_back_on c frozen h v (Some a) None fs gs tries low high k back = tt
 has_back_on c frozen h v None (Some b) fs gs tries low high k back = subst (HasInit c frozen h v) (sym (ap (put_back b) tries.0 ∙ tries.1)) k
 has_back_on c frozen h v (Some a) (Some b) fs gs tries low high k back =
     let there : a.base < length gs = subst (λ (n : ℕ). n < length gs) tries.0 high in
     let same : put_back b gs ≡ put_back a gs = λ i. tries.1 i ∷ drop (length gs - tries.0 i) gs in
     subst (HasInit c frozen h v) (sym (same ∙ tries.2 low there)) back
+has_back_on c frozen h v o None fs gs tries low high k back = tt
 
 pub based_of : (c : MarkedProgram) (was : Phase) (x : Thread) → IsStructured c was x → BasedIn x.attempt x.frames
 based_of c was x k = based_in c was x.frames x.held x.attempt k.attempt

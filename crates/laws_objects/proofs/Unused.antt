@@ -50,12 +50,11 @@ module _ (now : World) (next t v : ℕ) (strange : IsStrange now t v) (null : Is
     new_other pc word false o = not_finished word o
 
     type_other : (u : VType) (word : ℕ) → SlotByType (IsFinished now next) (IsFresh now t h Runs) young u word → IsOther v u word
-    type_other types.Int word s = tt
-    type_other types.Top word s = tt
     type_other types.Null word s = λ e. not_finished 0 null (sym s ∙ e)
     type_other (types.Ref class) word s = not_finished word s
     type_other types.This word s = not_finished word s
     type_other (types.New pc) word s = new_other pc word (young pc) s
+    type_other u word s = tt
 
     own_other : (ours : own ≡ true) (u : VType) (g : Tag) (word : ℕ) → OwnSlot (IsFinished now next) (IsFresh now t h Runs) young receiver u g word → IsOther v u word
     own_other ours u g word s = by_tag (not_this g)
@@ -81,9 +80,8 @@ module _ (now : World) (next t v : ℕ) (strange : IsStrange now t v) (null : Is
         → StackWith (SlotIs (IsFinished now next) (IsFresh now t h Runs) own young receiver) (λ word. now word ≡ Some (builder t h Unstored)) puts us gs words → AllZip (IsOther v) us words
     stack_other true (u ∷ us) (g ∷ gs) (word ∷ words) s = (other_so u word (not_built h word Unstored (λ e. cc) s.0), slots_other us gs words s.1)
     stack_other true [] gs words s = slots_other [] gs words s
-    stack_other true (u ∷ us) [] words s = absurd s
-    stack_other true (u ∷ us) (g ∷ gs) [] s = absurd s
     stack_other false us gs words s = slots_other us gs words s
+    stack_other true (u ∷ us) gs words s = absurd s
 
   -- ---- a frame, wherever it is said to stand
 
@@ -113,8 +111,7 @@ module _ (building : Building) where
 
 kind_has_not : (w : World) (next v : ℕ) (b : Builder) → w v ≡ Some b → (kind : Kind) (word : ℕ) → KindKeeps w next kind word → KindHasNot v kind word
 kind_has_not w next v b e (kinds.Ref class) word k = λ s. none_some (w v) b (subst (λ (u : ℕ). w u ≡ None) s k.1) e
-kind_has_not w next v b e kinds.Int word k = tt
-kind_has_not w next v b e kinds.Bool word k = tt
+kind_has_not w next v b e kind word k = tt
 
 pub places_have_not : (c : MarkedProgram) (owning : Owning) (w : World) (next v : ℕ) (objects : List Object) (words : List ℕ) (b : Builder) → w v ≡ Some b → PlacesKeep c owning w next objects words → PlacesHaveNot c v objects words
 places_have_not c owning w next v objects words b e k = record {

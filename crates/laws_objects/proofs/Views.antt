@@ -90,13 +90,10 @@ module _ (building : Building) (later : World) (more t : ℕ) (goes : GoesOn bui
     own_before : (v : ℕ) (b : Builder) → b.thread ≡ u → later v ≡ Some b → w v ≡ Some b
     own_before v b m e = goes.no_more v b (λ s. differ (sym m ∙ s)) e
 
-    none_later : (v : ℕ) → IsNoneOf later u v → IsNoneOf w u v
-    none_later v n b e m = n b (own_later v b m e) m
-
     merged_view : IsViewOf (merged u w now later) later u attempt
     merged_view = record {
       same = λ none v. by_own v none (own_or_not w u v);
-      others = λ v n. merged_rest v (none_later v n);
+      others = λ v n. merged_rest v (λ b e m. n b (own_later v b m e) m);
       own = λ v b d e m f. let was = own_before v b m e in view.own v b d was m (sym (merged_own v (b, was, m)) ∙ f);
     }
       where

@@ -27,9 +27,8 @@ no_static_read None v word e = cc
 no_static_read (Some f) v word e = cc
 
 pub no_read : (f : Option FieldInfo) (stack : List ℕ) (v : Variable) (word : ℕ) → gets f stack ≡ Writes v word → ⊥
-no_read None stack v word e = cc
-no_read (Some f) [] v word e = cc
 no_read (Some f) (a ∷ stack) v word e = (elim (a == 0) as (λ (b : Bool). (if b then Throws thrown.NullPointerException else Reads (variable_of f a)) ≡ Writes v word → ⊥) [ true ↦ λ e. cc | false ↦ λ e. cc ]) e
+no_read f stack v word e = cc
 
 puts_static_of : (f : FieldInfo) (stack : List ℕ) (v : Variable) (word : ℕ) → puts_static (Some f) stack ≡ Writes v word → v ≡ variable_of f 0
 puts_static_of f [] v word e = absurd (cc)
