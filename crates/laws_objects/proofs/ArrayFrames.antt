@@ -9,7 +9,7 @@ use Rattle.machine_types.specs.Construction.{puts_owned, makes_frozen, Runs, Slo
 use Rattle.machine_types.specs.{Frames.frame_on, OwnedPlaces.{Stores, IsStoredNowhere}, Standing.{row_at, tags_of}, Threads.Frame, Worlds.{Unstored, builder}}
 use Rattle.laws_objects.proofs.ArrayMoves.{source, IsMadeWell, SourceFine, not_owned, stack_clean, locals_clean, dropped_at}
 use Rattle.laws_objects.proofs.{ArraySlots.{each_from, no_stored_along, array_along, stack_begun, locals_begun}, Buildings.{Building, FrameIn}, Landing.LandsWell}
-use Rattle.laws_objects.proofs.{Moves.{Suit, suits_later, suit_at, Starts, starts, is_start}, Operands.{WantOld, TakenOld, takes_any, object_at, array_free}, PutPlaces.{is_newarray, edge_plain}}
+use Rattle.laws_objects.proofs.{Moves.{Suit, suits_later, suit_at, Starts, starts, is_start}, Operands.{WantOld, TakenOld, takes_any, object_at, object_free}, PutPlaces.{is_newarray, edge_plain}}
 use Rattle.laws_objects.proofs.Slots.{slots_long, with_long}
 use Rattle.jvm_types.specs.declared.typing.VType.TheVariants as types
 
@@ -47,7 +47,7 @@ module _ (building : Building) (h : ℕ) (f : Frame) (k : FrameIn building h Run
       (λ n q e less is o.
       let same : q ≡ n = omega (arith, e) in
       not_owned c marked owning.stores f k.stands n less
-      (array_free c.program k.stands.method k.stands.insn.pc k.stands.method.class k.stands.insn.op k.stands.target n any is) (subst (IsOwnedAt c.program (tags_of c) f.method k.stands.number) same o))
+      ((object_free c.program k.stands.method k.stands.insn.pc k.stands.method.class k.stands.insn.op k.stands.target n is).1 any) (subst (IsOwnedAt c.program (tags_of c) f.method k.stands.number) same o))
 
   -- ---- where it goes on
 

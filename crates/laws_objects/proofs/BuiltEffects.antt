@@ -7,9 +7,9 @@ use Rattle.jvm_types.specs.declared.{class_numbers.TheConstants.OBJECT_CLASS, co
 use Rattle.jvm_types.specs.declared.{program.{FieldInfo.FieldInfo, Kind.Kind, MethodInfo.MethodInfo, Program.Program, Target.Target}, typing.VType.VType}
 use Rattle.laws_programs.specs.TargetLaws.{has_constant}
 use Rattle.machine_types.specs.{Effects.{effect, kept, variable_of}, ReadyObjects.out_object, declared.effect.Effect.Effect}
-use Rattle.machine_types.specs.declared.effect.Effect.TheVariants.{Goes, Throws, Reads, Writes, Indexes, Measures, Raises, Makes, Prints, Calls, Returns, Enters, Leaves, Waits, Notifies, NotifiesAll, Stuck}
-use Rattle.machine_types.proofs.EffectCases.{Comes, lacks, goes, refuses, reads_static, writes_static, reads_field, writes_field, loads_element, stores_element, measures, raises, makes_object, makes_int_array}
-use Rattle.machine_types.proofs.EffectCases.{prints, calls, calls_fixed, returns, enters, leaves, waits, notifies, notifies_all, GivenMade, WriteMade, RowMade, HasConstant, comes}
+use Rattle.machine_types.specs.declared.effect.Effect.TheVariants.{Goes, Reads, Writes, Indexes, Measures, Raises, Makes, Prints, Enters, Leaves, Waits, Notifies, NotifiesAll}
+use Rattle.machine_types.proofs.EffectCases.{Comes, goes, reads_static, writes_static, reads_field, writes_field, loads_element, stores_element, measures, raises, makes_object, makes_int_array}
+use Rattle.machine_types.proofs.EffectCases.{prints, enters, leaves, waits, notifies, notifies_all, GivenMade, WriteMade, HasConstant, comes}
 use Rattle.laws_objects.proofs.Operands.{TakenOld, WantOld, takes_any, is_getfield}
 use Rattle.jvm_types.specs.declared.code.Op.TheVariants as ops
 use Rattle.jvm_types.specs.declared.program.Kind.TheVariants as kinds
@@ -50,7 +50,6 @@ StartsNone want = Unit {0}
 
 abbrev pub Built : (ℕ → Type 0) → Program → Target → OpRow → Effect → Type 0
 Built Old p target r (Goes to made) = RowOld Old r made
-Built Old p target r (Throws x) = Unit {0}
 Built Old p target r (Reads v) = (number : ℕ) (f : FieldInfo) → target ≡ targets.Field number → slice_get p.fields number ≡ Some f → (got : ℕ) → KindOld Old f.kind got → RowOld Old r got
 Built Old p target r (Writes v word) = ((number : ℕ) (f : FieldInfo) → target ≡ targets.Field number → slice_get p.fields number ≡ Some f → KindOld Old f.kind word) × RowOld Old r 0
 Built Old p target r (Indexes a i stored) = (got : ℕ) → RowOld Old r got
@@ -58,14 +57,12 @@ Built Old p target r (Measures a) = (got : ℕ) → RowOld Old r got
 Built Old p target r (Raises x) = Old x
 Built Old p target r (Makes word size) = AllByRecursion StartsNone r.takes
 Built Old p target r (Prints n) = RowOld Old r 0
-Built Old p target r (Calls number) = Unit {0}
-Built Old p target r Returns = Unit {0}
 Built Old p target r (Enters m) = Old m × RowOld Old r 0
 Built Old p target r (Leaves m) = Old m × RowOld Old r 0
 Built Old p target r (Waits m) = Old m × RowOld Old r 0
 Built Old p target r (Notifies m) = Old m × RowOld Old r 0
 Built Old p target r (NotifiesAll m) = Old m × RowOld Old r 0
-Built Old p target r Stuck = Unit {0}
+Built Old p target r e = Unit {0}
 
 module _ (Old : ℕ → Type 0) (out : Old out_object) (p : Program) (m : MethodInfo) (pc next : ℕ) where
   abbrev Is : Target → OpRow → Effect → Type 0
@@ -125,9 +122,7 @@ module _ (Old : ℕ → Type 0) (out : Old out_object) (p : Program) (m : Method
       (taken.0, subst (λ (r : OpRow). RowOld Old r 0) (sym its) (tt, tt))
 
   built : (target : Target) (op : Op) (s : List ℕ) (e : Effect) → Comes p pc next target op s e → NamesField target op → Takes target op s → Is target (row p m pc target op) e
-  built _ _ _ _ (lacks target op s lack) n h = tt
   built _ _ _ _ (goes target op s to made k r) n h = (all_weaker (GivenMade made) (GivenOld Old made) (given_old made) (row p m pc target op).gives (r m).0, write_old made (row p m pc target op).writes (r m).1)
-  built _ _ _ _ (refuses target op s x is t) n h = tt
   built _ _ _ _ (reads_static i number s f there) n h =
       subst (λ (o : Option FieldInfo). Is (targets.Field number) (get_static_row o) (Reads (variable_of f 0))) (sym there) (λ other g t k got o. ((field_got number f there other g t k got o, tt), tt))
   built _ _ _ _ (writes_static i number v s f there) n h =
@@ -145,14 +140,12 @@ module _ (Old : ℕ → Type 0) (out : Old out_object) (p : Program) (m : Method
   built _ _ _ _ (makes_object class op s k) n h = subst (λ (r : OpRow). AllByRecursion StartsNone r.takes) (sym (k.2 m)) tt
   built _ _ _ _ (makes_int_array target count s room) n h = (tt, tt)
   built _ _ _ _ (prints op v a s k) n h = subst (λ (r : OpRow). RowOld Old r 0) (sym (k.2 m)) (tt, tt)
-  built _ _ _ _ (calls op number receiver s called names there on top) n h = tt
-  built _ _ _ _ (calls_fixed i number s called there) n h = tt
-  built _ _ _ _ (returns target op s is top) n h = tt
   built _ _ _ _ (enters target a s z) n h = ((h refl).0, (tt, tt))
   built _ _ _ _ (leaves target a s) n h = ((h refl).0, (tt, tt))
   built _ _ _ _ (waits op a s k t z) n h = on_top targets.Wait op a s k (λ number e. cc) refl n h
   built _ _ _ _ (notifies op a s k t z) n h = on_top targets.Notify op a s k (λ number e. cc) refl n h
   built _ _ _ _ (notifies_all op a s k t z) n h = on_top targets.NotifyAll op a s k (λ number e. cc) refl n h
+  built target op s e k n h = tt
 
   pub effect_built : (target : Target) (op : Op) (l s : List ℕ) → NamesField target op → (takes_any op ≡ false → TakenOld Old (row p m pc target op).takes s) → Is target (row p m pc target op) (effect p next target op l s)
   effect_built target op l s n h = built target op s _ (comes p pc next target op l s) n h

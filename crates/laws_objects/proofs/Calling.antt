@@ -1,6 +1,6 @@
 -- A method is called: the caller waits below the frame of the called method.
-use Rattle.std.proofs.Common.{◌≡◌, ◌≢◌, ℕ, zero, suc, ◌+◌, ◌<◌, ◌≤◌, ◌⊎◌, inl, inr, Bool, true, false, not, ◌&&◌, ◌||◌, List, [], ◌∷◌, ◌++◌, length, Option, Some, None, refl, sym, ap, ◌∙◌, subst, arith, ◌==◌, nat_lt, slice_get, slice_index_or, reverse, take, if◌then◌else◌}
-use Rattle.std.{specs.List.AllByRecursion, proofs.lemmas.{Bool.{eqb-true, Decides.nat_tests}, List.length-append}}
+use Rattle.std.proofs.Common.{◌≡◌, ◌≢◌, ℕ, zero, suc, ◌+◌, ◌<◌, ◌≤◌, inl, inr, Bool, true, false, not, ◌&&◌, ◌||◌, List, [], ◌∷◌, ◌++◌, length, Option, Some, None, refl, sym, ap, ◌∙◌, subst, arith, ◌==◌, nat_lt, slice_get, slice_index_or, reverse, take, if◌then◌else◌}
+use Rattle.std.{specs.List.AllByRecursion, proofs.lemmas.{Bool.{cases_Bool, eqb-true, Decides.nat_tests}, List.length-append}}
 use Rattle.lists.proofs.ListLaws.{same_some}
 use Rattle.jvm_types.specs.{CodeTable.{arguments, is_init}, Members.{MethodSite, is_static, is_init_name, is_class_init_name}, ProgramInvariant.site_in}
 use Rattle.jvm_types.specs.{Verifying.{suits, new_class, is_class_of, started}, declared.{class_numbers.TheConstants.OBJECT_CLASS, code.Op.Op, op_row.{OpRow.OpRow, Want.Want}}}
@@ -236,14 +236,13 @@ module _ (lawful : LawfulBuilding) (f : Frame) (fs : List Frame) (k : FrameIn la
       calls_this true e begun type suits_it own old clean = absurd (by_class (called.class == m.class) refl suits_it)
         where
           by_class : (b : Bool) → (called.class == m.class) ≡ b → (b || (called.class == OBJECT_CLASS)) ≡ true → ⊥
-          by_class true q h = by_init (is_init m) refl
+          by_class true q h = elim (cases_Bool (is_init m)) [
+            | inl i ↦ own (built frozen m i ∙ sym (ap frozen same) ∙ e)
+            | inr i ↦ at_index (λ u. u ≢ types.This) k.stands.types.stack (length (arguments called)) types.This (no_this_at design f k.stands i).stack type refl
+          ]
             where
               same : called.class ≡ m.class
               same = grind (arith, nat_tests, q)
-
-              by_init : (b : Bool) → is_init m ≡ b → ⊥
-              by_init true i = own (built frozen m i ∙ sym (ap frozen same) ∙ e)
-              by_init false i = at_index (λ u. u ≢ types.This) k.stands.types.stack (length (arguments called)) types.This (no_this_at design f k.stands i).stack type refl
           by_class false q h =
               let object : called.class ≡ OBJECT_CLASS = grind (arith, nat_tests, h) in
               let file : 17 ≤ called.class = (marked.checked.program.methods number called there).class.0 in
@@ -269,14 +268,18 @@ module _ (lawful : LawfulBuilding) (f : Frame) (fs : List Frame) (k : FrameIn la
           by_type u e s = absurd (cc)
 
     calls_instance : Steps w next t (CallKeeps (a ∷ rest))
-    calls_instance = by_init (is_init called) refl
-      where
-        by_init : (b : Bool) → is_init called ≡ b → Steps w next t (CallKeeps (a ∷ rest))
-        by_init true e = calls_init e
-        by_init false e = calls_plain e
+    calls_instance = elim (cases_Bool (is_init called)) [ inl e ↦ calls_init e | inr e ↦ calls_plain e ]
 
   pub calls_it : Steps w next t (CallKeeps (reverse (take (length r.takes) f.stack)))
-  calls_it = by_kind call.by
+  calls_it = elim call.by [
+    | inl s ↦ let takes = takes_are (arguments called ++ receiver_want (is_init called) called.class ∷ []) s.1 in
+        let count : length r.takes ≡ suc (length (arguments called)) = omega (arith, ap (length {A = Want}) takes, length-append (arguments called) (receiver_want (is_init called) called.class ∷ [])) in
+        let v = got (length (arguments called)) f.stack (omega (arith, tall, count)) in
+        let deepest = deepest_first (length (arguments called)) f.stack v.0 v.1 in
+        let args : reverse (take (length r.takes) f.stack) ≡ v.0 ∷ deepest.0 = ap (λ (n : ℕ). reverse (take n f.stack)) count ∙ deepest.1 in
+        subst (λ (xs : List ℕ). Steps w next t (CallKeeps xs)) (sym args) (calls_instance s.0 takes v.0 deepest.0 v.1 args)
+    | inr s ↦ calls_static s.0 (takes_are (arguments called) s.1)
+  ]
     where
       takes_are : (ws : List Want) → call.takes ≡ ws → r.takes ≡ ws
       takes_are ws e = ap (λ (x : OpRow). x.takes) call.is ∙ e
@@ -285,14 +288,3 @@ module _ (lawful : LawfulBuilding) (f : Frame) (fs : List Frame) (k : FrameIn la
       got n [] l = absurd (omega (arith, l))
       got zero (v ∷ s) l = (v, refl)
       got (suc n) (v ∷ s) l = got n s (omega (arith, l))
-
-      by_kind : ((is_static called.flags ≡ false) × (call.takes ≡ arguments called ++ receiver_want (is_init called) called.class ∷ [])) ⊎ ((is_static called.flags ≡ true) × (call.takes ≡ arguments called))
-          → Steps w next t (CallKeeps (reverse (take (length r.takes) f.stack)))
-      by_kind (inl s) =
-          let takes = takes_are (arguments called ++ receiver_want (is_init called) called.class ∷ []) s.1 in
-          let count : length r.takes ≡ suc (length (arguments called)) = omega (arith, ap (length {A = Want}) takes, length-append (arguments called) (receiver_want (is_init called) called.class ∷ [])) in
-          let v = got (length (arguments called)) f.stack (omega (arith, tall, count)) in
-          let deepest = deepest_first (length (arguments called)) f.stack v.0 v.1 in
-          let args : reverse (take (length r.takes) f.stack) ≡ v.0 ∷ deepest.0 = ap (λ (n : ℕ). reverse (take n f.stack)) count ∙ deepest.1 in
-          subst (λ (xs : List ℕ). Steps w next t (CallKeeps xs)) (sym args) (calls_instance s.0 takes v.0 deepest.0 v.1 args)
-      by_kind (inr s) = calls_static s.0 (takes_are (arguments called) s.1)

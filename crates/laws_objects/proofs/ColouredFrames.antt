@@ -1,6 +1,6 @@
 -- A frame whose stack has a colour is of a method of the field's class, and no static one.
 use Rattle.std.proofs.Common.{◌≡◌, ℕ, zero, suc, ◌-◌, Bool, true, false, List, [], ◌∷◌, ◌++◌, map, drop, length, replicate, Option, Some, None, refl, sym, ap, ◌∙◌, subst, ◌==◌, if◌then◌else◌, slice_get, slice_set, slice_index_or}
-use Rattle.std.proofs.lemmas.Bool.{eqb-true}
+use Rattle.std.proofs.lemmas.Bool.{eqb-true, false_from_ne_true, true_from_ne_false}
 use Rattle.lists.proofs.ListLaws.{same_some}
 use Rattle.jvm_types.specs.{CodeTable.{row, value_of, locals_after}, Members.is_static, declared.{code.{Insn.Insn, Op.Op}, op_row.{Given.{Given, TheVariants.{Fresh, Taken, Local}}, OpRow.OpRow}}}
 use Rattle.jvm_types.specs.declared.program.{MethodInfo.MethodInfo, Target.Target}
@@ -151,14 +151,11 @@ module _ (c : MarkedProgram) (marked : IsMarked c) (mi : ℕ) where
     reads_none : (i : ℕ) (m : MethodInfo) (insn : Insn) (target : Target) (f : TagShape)
         → IsAt c.program (tags_of c) mi i m insn target f → is_static m.flags ≡ true
         → is_read_of fi insn.op target ≡ false
-    reads_none i m insn target f at static = by_test (is_read_of fi insn.op target) refl
-      where
-        by_test : (b : Bool) → is_read_of fi insn.op target ≡ b → b ≡ false
-        by_test true e =
-            let on : slice_index_or f.stack 0 Untagged ≡ This =
-            reads_this insn.op target f e (o.read mi i m insn target f at) in
-            sym (ap is_this on) ∙ (static_hides i m insn target f at static).stack 0
-        by_test false e = refl
+    reads_none i m insn target f at static = false_from_ne_true (is_read_of fi insn.op target) (λ e.
+        let on : slice_index_or f.stack 0 Untagged ≡ This =
+        reads_this insn.op target f e (o.read mi i m insn target f at) in
+        let bad : true ≡ false = sym (ap is_this on) ∙ (static_hides i m insn target f at static).stack 0 in
+        cc)
 
     static_none : (colours : ℕ → ColourShape) → IsColouring c.program (tags_of c) mi fi colours
         → (i : ℕ) (m : MethodInfo) (insn : Insn) (target : Target) (f : TagShape)
@@ -186,19 +183,10 @@ module _ (c : MarkedProgram) (marked : IsMarked c) (f : Frame) (k : Standing c f
   no_colour none = let bad : true ≡ false = sym o.coloured ∙ none.stack place in cc
 
   pub coloured_instance : is_static k.method.flags ≡ false
-  coloured_instance = by_flag (is_static k.method.flags) refl
-    where
-      by_flag : (b : Bool) → is_static k.method.flags ≡ b → b ≡ false
-      by_flag true e = absurd (no_colour (static_none c marked f.method o.fi o.owned o.colours
-          o.colouring k.number k.method k.insn k.target k.tags k.at e))
-      by_flag false e = refl
+  coloured_instance = false_from_ne_true (is_static k.method.flags)
+      (λ e. no_colour (static_none c marked f.method o.fi o.owned o.colours o.colouring k.number k.method k.insn k.target k.tags k.at e))
 
   pub coloured_class : k.method.class ≡ o.owned.field.class
-  coloured_class = by_class (k.method.class == o.owned.field.class) refl
-    where
-      by_class : (b : Bool) → (k.method.class == o.owned.field.class) ≡ b
-          → k.method.class ≡ o.owned.field.class
-      by_class true e = eqb-true k.method.class o.owned.field.class e
-      by_class false e = absurd (no_colour (other_class c.program (tags_of c) marked.checked.program
-          (are_tagged c marked) o.fi o.owned f.method o.colours o.colouring k.method k.at.in_program
-          e k.number k.insn k.target k.tags k.at))
+  coloured_class = eqb-true k.method.class o.owned.field.class (true_from_ne_false (k.method.class == o.owned.field.class)
+      (λ e. no_colour (other_class c.program (tags_of c) marked.checked.program (are_tagged c marked) o.fi o.owned f.method o.colours
+      o.colouring k.method k.at.in_program e k.number k.insn k.target k.tags k.at)))

@@ -191,13 +191,11 @@ module _ (decided : OwnedIsDecided) (event : BuiltEvent) (fi word : ℕ) (o : Ob
           (are_tagged c marked) marked.marks.are_uses kept.stands.at)
 
       same_word : value_word f.receiver coloured.owned.field.index ≡ e.field_word
-      same_word = by_case (slot.on.owned coloured (value_word f.receiver coloured.owned.field.index)
-          (record { field = coloured.owned.field; is = coloured.owned.is; place = refl }))
-        where
-          by_case : (a ≡ 0) ⊎ (own.stores a ≡ Some (value_word f.receiver coloured.owned.field.index))
-              → value_word f.receiver coloured.owned.field.index ≡ e.field_word
-          by_case (inl null) = absurd (omega (arith, null, reference, some_array))
-          by_case (inr is) = same_some (sym is ∙ stored)
+      same_word = elim (slot.on.owned coloured (value_word f.receiver coloured.owned.field.index)
+          (record { field = coloured.owned.field; is = coloured.owned.is; place = refl })) [
+            | inl null ↦ absurd (omega (arith, null, reference, some_array))
+            | inr is ↦ same_some (sym is ∙ stored)
+          ]
 
       instance : is_static kept.stands.method.flags ≡ false
       instance = coloured_instance c marked f kept.stands 2 coloured

@@ -10,7 +10,7 @@ use Rattle.machine_types.specs.{FoundWords.content_at, Frames.{Top, top_of, effe
 use Rattle.machine_types.specs.{PlainMemory.Object, ReadyObjects.{class_of, out_object}, Standing.{Standing, row_at, tags_of}, StartLaws.StartLiesApart, Structure.{IsStructured, IsAs, Stands, AttemptStandsIn}, Threads.{Frame, Thread}}
 use Rattle.machine_types.specs.{Typed.{IsNullOr, KindHolds, FrameHolds, FramesHold, PhaseHolds, HasClass}, Words.{value_word, variable_word}, Worlds.{Lost, Unstored, Builder, builder, World, IsFinished, IsWorld, GoesOn}, declared.{effect.Effect.Effect, phase.Phase.Phase}}
 use Rattle.machine_types.specs.declared.effect.{Effect.TheVariants.Writes, Variable.{Variable, TheVariants.{Instance, Static}}}
-use Rattle.laws_threads.{specs.{Allowed.{Allowed, IsNamedField}, StateLaws.{counted_of, counted_phase_at}, StructureLaws.{StaysStructured, StructureIsKept, counted_by}}, proofs.{Landing.{stand_top, rules_at}, Standings.top_here, ThreadMove.counting}}
+use Rattle.laws_threads.{specs.{Allowed.{Allowed, IsNamedField}, StateLaws.{counted_of, counted_phase_at}, StructureLaws.{StructureIsKept, counted_by}}, proofs.{Landing.{stand_top, rules_at}, Standings.top_here, ThreadMove.counting}}
 use Rattle.laws_states.{specs.{HeapFacts.{objects_by, objects_of}, Sites.ReachesIf}, proofs.{Accesses.{element_site, out_there}, Assembled.got_set, Lists.contained_got, NewHeader.behind_new, Places.same_object}}
 use Rattle.laws_states.proofs.{Movers.{HeapMover, heap_mover, heap_state}, Phases.{IsOldPhase, old_fits, events_reach}, WordSteps.words_go_on}
 use Rattle.laws_objects.{specs.ConstructionLaws.{BuildsOn, EventsKeepConstruction}, proofs.ArraySlots.StoresFine}

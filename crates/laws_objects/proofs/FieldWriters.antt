@@ -4,14 +4,14 @@ use Rattle.jvm_types.specs.{CodeTable.row, Members.is_static, ProgramInvariant.{
 use Rattle.jvm_types.specs.declared.program.{MethodInfo.MethodInfo, Target.Target}
 use Rattle.laws_programs.proofs.{ClassTreeLaws.leaves_alone, FieldOrder.one_instance_field}
 use Rattle.checked_program.specs.MarkedProgram.{MarkedProgram}
-use Rattle.machine_types.specs.{Accesses.words_after, Effects.{variable_of, effect}, Events.wanted, FoundWords.leave_content, Monitors.Claim, PlainMemory.Object}
+use Rattle.machine_types.specs.{Accesses.words_after, Effects.{variable_of, effect}, Events.wanted, PlainMemory.Object}
 use Rattle.machine_types.specs.{Standing.Standing, Structure.{TopIs, is_element_op}, Threads.Frame}
 use Rattle.machine_types.specs.{Typed.{IsNullOr, FramesHold, HasClass, HasElementIn, ElementStands, IsElementOn, HasElementOn}, Words.{value_word, variable_word}}
 use Rattle.machine_types.specs.declared.{effect.{Effect.TheVariants.Writes, Variable.{Variable, TheVariants.{Instance, Static}}}}
 use Rattle.laws_threads.{specs.Allowed.{IsNamedField, TakenHold}, proofs.{Onwards.same_op, TopEffects.taken_here}}
-use Rattle.laws_states.{specs.Sites.{Site, ValueOf, StaticAt, IsThere, Suits}, proofs.Accesses.out_there}
+use Rattle.laws_states.{specs.Sites.{Site, ValueOf, StaticAt, IsThere}, proofs.Accesses.out_there}
 use Rattle.laws_states.proofs.{Lists.contained_got, Places.same_object}
-use Rattle.laws_objects.proofs.{PlaceWriters.{PlaceEvent, IsWriter, holder_of, has_field, leave_of_none, names_field, place_suits, place_writer}, WrittenFields.{Puts, PutsOnClass, field_put}}
+use Rattle.laws_objects.proofs.{PlaceWriters.{PlaceEvent, IsWriter, holder_of, has_field, names_field, place_writer}, WrittenFields.field_put}
 use Rattle.jvm_types.specs.declared.code.Op.TheVariants as ops
 use Rattle.jvm_types.specs.declared.program.Target.TheVariants as targets
 
@@ -34,11 +34,6 @@ one_reference f v a b flag e h = same_instance (sym (of_flag a) ∙ (sym e ∙ h
 
     same_instance : Instance a f.index ≡ Instance b f.index → a ≡ b
     same_instance e = cc
-
--- ---- a monitor is left at no place
-
-pub leave_suits_none : (claimed : Claim) (reference index : ℕ) → Suits (leave_content claimed) (ValueOf reference index) → ⊥
-leave_suits_none claimed reference index suits = leave_of_none claimed (place_suits (leave_content claimed) (ValueOf reference index) tt suits)
 
 module _ (event : PlaceEvent) (fi : ℕ) (field : FieldInfo) (is : slice_get event.mover.state.c.program.fields fi ≡ Some field) (instance : is_static field.flags ≡ false) (o : Object) (here : Contains event.mover.state.objects o) (of_class : o.class ≡ field.class) where
   open event.mover use {t, x, state}
@@ -83,20 +78,19 @@ module _ (event : PlaceEvent) (fi : ℕ) (field : FieldInfo) (is : slice_get eve
 
   module _ (f : Frame) (k : Standing c f) (v : Variable) (n : ℕ) (e : effect c.program k.insn.next k.target k.insn.op f.locals f.stack ≡ Writes v n) (g : FieldInfo) (at : IsNamedField c.program (HasClass objects) k.target v g) where
     writes : variable_word v ≡ value_word o.reference field.index → Writer c fi o.reference f
-    writes same = by_put (field_put c.program (site_in k.method) at.number k.insn.next g v n at.there k.insn.op f.locals f.stack (names_field c f k at.number marked at.named) (ap (λ (t : Target). effect c.program k.insn.next t k.insn.op f.locals f.stack) (sym at.named) ∙ e))
+    writes same = elim (field_put c.program (site_in k.method) at.number k.insn.next g v n at.there k.insn.op f.locals f.stack (names_field c f k at.number marked at.named) (ap (λ (t : Target). effect c.program k.insn.next t k.insn.op f.locals f.stack) (sym at.named) ∙ e)) [
+      | inl put ↦ absurd (let zero_there = one_reference g v at.reference 0 it.instance_too at.variable put.variable in let some = (at.holder it.instance_too).0 in omega (arith, zero_there, some))
+      | inr put ↦ record {
+        stands = k;
+        index = put.index;
+        is = put.is;
+        names = at.named ∙ ap (λ (i : ℕ). targets.Field i) it.number_is;
+        on = one_reference g v (slice_index f.stack 1) at.reference it.instance_too put.variable at.variable ∙ it.reference_is;
+      }
+    ]
       where
         it : IsThisField at.number g at.reference
         it = same_place k.target v g at same
-
-        by_put : PutsOnClass k.insn.op g v ⊎ Puts k.insn.op g f.stack v → Writer c fi o.reference f
-        by_put (inl put) = absurd (let zero_there = one_reference g v at.reference 0 it.instance_too at.variable put.variable in let some = (at.holder it.instance_too).0 in omega (arith, zero_there, some))
-        by_put (inr put) = record {
-          stands = k;
-          index = put.index;
-          is = put.is;
-          names = at.named ∙ ap (λ (i : ℕ). targets.Field i) it.number_is;
-          on = one_reference g v (slice_index f.stack 1) at.reference it.instance_too put.variable at.variable ∙ it.reference_is;
-        }
 
   -- ---- an element is no field
 

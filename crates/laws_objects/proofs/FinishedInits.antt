@@ -1,6 +1,6 @@
 -- In every run an object is finished by the return of its own `<init>` alone: until then no place and no other thread has it.
 use Rattle.std.proofs.Common.{◌≡◌, ◌≢◌, ℕ, zero, suc, ◌<◌, ◌⊎◌, inl, inr, Bool, true, false, List, [], ◌∷◌, ◌++◌, length, map, Option, Some, None, refl, sym, ap, ◌∙◌, subst, arith, ◌==◌, if◌then◌else◌, slice_get, slice_index}
-use Rattle.std.proofs.lemmas.Bool.{eqb-true, eqb-false}
+use Rattle.std.proofs.lemmas.Bool.{cases_Bool, eqb-true, eqb-false}
 use Rattle.lists.proofs.ListLaws.{same_some}
 use Rattle.jvm_types.specs.declared.{fixed_words.TheConstants.NEXT_FREE_WORD, program.Program.Program}
 use Rattle.checked_program.specs.MarkedProgram.{MarkedProgram}
@@ -199,11 +199,10 @@ module _ (run : Run) (t h v : ℕ) where
 
   one_event : (objects : List Object) (was : ℕ → Phase) (s : Core) (u : ℕ) → (ReturnsFrom c v s u → ⊥) → Unfinished objects was s → Unfinished (objects_after c.program s u objects) (counted_after c was s u) (event c s u)
   one_event objects was s u never (inr lost) = inr (event_lost run objects was s v u lost)
-  one_event objects was s u never (inl k) = by_number (u == t) refl
-    where
-      by_number : (b : Bool) → (u == t) ≡ b → Unfinished (objects_after c.program s u objects) (counted_after c was s u) (event c s u)
-      by_number true e = subst (λ (n : ℕ). Unfinished (objects_after c.program s n objects) (counted_after c was s n) (event c s n)) (sym (eqb-true u t e)) (own_event objects was s k (subst (λ (n : ℕ). ReturnsFrom c v s n → ⊥) (eqb-true u t e) never))
-      by_number false e = inl (other_event objects was s k u (eqb-false u t e))
+  one_event objects was s u never (inl k) = elim (cases_Bool (u == t)) [
+    | inl e ↦ subst (λ (n : ℕ). Unfinished (objects_after c.program s n objects) (counted_after c was s n) (event c s n)) (sym (eqb-true u t e)) (own_event objects was s k (subst (λ (n : ℕ). ReturnsFrom c v s n → ⊥) (eqb-true u t e) never))
+    | inr e ↦ inl (other_event objects was s k u (eqb-false u t e))
+  ]
 
   all_unfinished : (es : List Happening) (objects : List Object) (was : ℕ → Phase) (s : Core) → NeverReturns c v s es → InsideThere c cfg frozen t h v objects was s ⊎ LostThere c cfg frozen v objects was s → NoOtherHas c v t (all_objects c s objects es) (all_happened c s es)
   all_unfinished [] objects was s never (inl k) = no_other objects was s k

@@ -299,25 +299,24 @@ module _ (c : MarkedProgram) (was : Phase) (x : Thread) where
         (λ b l m. put_back_top b f (record f { stack = v ∷ f.stack }) below (base_below b f below m) ∙ ap (put_back b) (sym e))
 
     throws_on : (v : ℕ) (class : Thrown) → Carries was x.frames v → (at : Top) → top_of c.program x.frames ≡ Some at → Go (goes_on s (handed c.program v class at (handler_at (class_of class) at)))
-    throws_on v class carried at top = by_row (handed_goes c.program at v class (handler_at (class_of class) at))
+    throws_on v class carried at top = elim (handed_goes c.program at v class (handler_at (class_of class) at)) [
+      | inl stay ↦ onward at top (handed c.program v class at (handler_at (class_of class) at)) (inl stay) entry
+      | inr away ↦ inr (inr (inl (record {
+        frame = away.0;
+        below = away.1;
+        frames = sym (there at top) ∙ away.2;
+        from = s;
+        thrown = v;
+        class = class;
+        is = ap (goes_on s) away.3;
+        tries = tries_on s stood (handed c.program v class at (handler_at (class_of class) at)) entry;
+        known = λ w next t k. k;
+        carries = carried;
+      })))
+    ]
       where
         entry : (a : Attempt) → KeepsEntry a x.frames (handed c.program v class at (handler_at (class_of class) at))
         entry a = throws_kept c.program x.frames a v class (handed c.program v class at (handler_at (class_of class) at)) (ap (option_map (λ at. handed c.program v class at (handler_at (class_of class) at))) top)
-
-        by_row : Stay (frames_of at) (frames_in (handed c.program v class at (handler_at (class_of class) at))) ⊎ IsAway v class (frames_of at) (handed c.program v class at (handler_at (class_of class) at)) → Go (goes_on s (handed c.program v class at (handler_at (class_of class) at)))
-        by_row (inl stay) = onward at top (handed c.program v class at (handler_at (class_of class) at)) (inl stay) entry
-        by_row (inr away) = inr (inr (inl (record {
-          frame = away.0;
-          below = away.1;
-          frames = sym (there at top) ∙ away.2;
-          from = s;
-          thrown = v;
-          class = class;
-          is = ap (goes_on s) away.3;
-          tries = tries_on s stood (handed c.program v class at (handler_at (class_of class) at)) entry;
-          known = λ w next t k. k;
-          carries = carried;
-        })))
 
     goes_go : (phase : Phase) (o : Onward) → GoesBy c.program s got phase o → IsAs phase was → Go (goes_on s o)
     goes_go _ o (moves.by_effect at e _ top same silent d) is =

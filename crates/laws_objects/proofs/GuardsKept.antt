@@ -31,14 +31,10 @@ module _ (c : MarkedProgram) (marked : IsMarked c) (fi reference : ℕ) (f : Fra
   holds this shows = subst (λ (m : ℕ). IsHeld m held) (sym this ∙ k.on) (holds_receiver c marked f fs held k.stands stands shows)
 
   pub guarded_top : WriteLaw → IsGuardedField c.program (tags_of c) fi → IsHeld reference held ⊎ MakesObject c reference (f ∷ fs)
-  guarded_top law g = by_case written.1
+  guarded_top law g = elim written.1 [ inl init ↦ inr (makes written.0 init) | inr shows ↦ inl (holds written.0 shows) ]
     where
       written : (slice_index f.stack 1 ≡ f.receiver) × ((is_init k.stands.method ≡ true) ⊎ (list_any is_this k.stands.tags.held ≡ true) ⊎ (locks_this k.stands.method ≡ true))
       written = law c.program (tags_of c) fi f.method k.stands.number k.index f.receiver k.stands.method k.stands.insn k.stands.target k.stands.tags f.stack g k.stands.at k.is k.names on_this
-
-      by_case : (is_init k.stands.method ≡ true) ⊎ (list_any is_this k.stands.tags.held ≡ true) ⊎ (locks_this k.stands.method ≡ true) → IsHeld reference held ⊎ MakesObject c reference (f ∷ fs)
-      by_case (inl init) = inr (makes written.0 init)
-      by_case (inr shows) = inl (holds written.0 shows)
 
   pub frozen_top : FinalLaw → IsFrozenField c.program (tags_of c) fi → MakesObject c reference (f ∷ fs)
   frozen_top law g =
@@ -51,16 +47,13 @@ module _ (c : MarkedProgram) (marked : IsMarked c) (o : Object) (f : Frame) (fs 
     (held : List Held) (stands : Stands c phases.Run (f ∷ fs) held None)
     (k : ElementWriter c o f) where
   pub element_top : ElementWriteLaw → IsHeld o.reference held ⊎ MakesObject c o.reference (f ∷ fs)
-  element_top law = by_case (law c.program (tags_of c) f.method k.stands.number k.stands.method
+  element_top law = elim (law c.program (tags_of c) f.method k.stands.number k.stands.method
       k.stands.insn k.stands.target k.stands.tags marked.checked.program
-      (are_tagged c marked) k.stands.at k.is k.owned)
-    where
-      by_case : (is_init k.stands.method ≡ true) ⊎ (list_any is_this k.stands.tags.held ≡ true) ⊎
-          (locks_this k.stands.method ≡ true)
-          → IsHeld o.reference held ⊎ MakesObject c o.reference (f ∷ fs)
-      by_case (inl init) = inr (k.stands.method, k.stands.at.in_program, init, k.receiver)
-      by_case (inr shows) = inl (subst (λ (m : ℕ). IsHeld m held) k.receiver
-          (holds_receiver c marked f fs held k.stands stands shows))
+      (are_tagged c marked) k.stands.at k.is k.owned) [
+        | inl init ↦ inr (k.stands.method, k.stands.at.in_program, init, k.receiver)
+        | inr shows ↦ inl (subst (λ (m : ℕ). IsHeld m held) k.receiver
+            (holds_receiver c marked f fs held k.stands stands shows))
+      ]
 
 -- ---- a frame that writes a static field
 
@@ -69,14 +62,13 @@ class_monitor c field = class_object c.program (file_of_class field.class)
 
 module _ (c : MarkedProgram) (marked : IsMarked c) (fi : ℕ) (f : Frame) (fs : List Frame) (held : List Held) (stands : Stands c phases.Run (f ∷ fs) held None) (k : StaticWriter c fi f) where
   pub guarded_static_top : StaticWriteLaw → (g : IsGuardedStatic c.program (tags_of c) fi) → IsHeld (class_monitor c g.field) held ⊎ IsOfClassInit c g.field.class (f ∷ fs)
-  guarded_static_top law g = by_case written.1
+  guarded_static_top law g = elim written.1 [
+    | inl init ↦ inr (k.stands.method, k.stands.at.in_program, init, written.0)
+    | inr locks ↦ inl (subst (λ (class : ℕ). IsHeld (class_object c.program (file_of_class class)) held) written.0 (holds_class c marked f fs held k.stands stands locks))
+  ]
     where
       written : (k.stands.method.class ≡ g.field.class) × ((is_class_init_name k.stands.method.name ≡ true) ⊎ (locks_class k.stands.method ≡ true))
       written = law c.program (tags_of c) fi f.method k.stands.number k.index k.stands.method k.stands.insn k.stands.target k.stands.tags g k.stands.at k.is k.names
-
-      by_case : (is_class_init_name k.stands.method.name ≡ true) ⊎ (locks_class k.stands.method ≡ true) → IsHeld (class_monitor c g.field) held ⊎ IsOfClassInit c g.field.class (f ∷ fs)
-      by_case (inl init) = inr (k.stands.method, k.stands.at.in_program, init, written.0)
-      by_case (inr locks) = inl (subst (λ (class : ℕ). IsHeld (class_object c.program (file_of_class class)) held) written.0 (holds_class c marked f fs held k.stands stands locks))
 
   pub final_static_top : FinalStaticLaw → (g : IsFrozenStatic c.program fi) → IsOfClassInit c g.field.class (f ∷ fs)
   final_static_top law g =
@@ -177,11 +169,10 @@ module _ (laws : GuardLaws) (turn : BuiltEvent) (outside : turn.x.attempt ≡ No
   makes_class fi class k init = alone c cfg s t class x facts.threads facts.class_inits there k.runs init
 
   element_changed : (fi word : ℕ) (o : Object) → Contains objects o → IsOwnedArrayField c.program (tags_of c) fi → IsElementOf c own.stores objects fi o word → ChangesWord word s (event c s t) → HoldsMonitor o.reference x ⊎ MakesObject c o.reference x.frames
-  element_changed fi word o here g e changes = by_change (element_writer decided turn fi word o here g e)
-    where
-      by_change : (slice_index (words_after s.words (wanted c x x.phase)) word ≡ slice_index s.words word) ⊎ StoresElement c o word x → HoldsMonitor o.reference x ⊎ MakesObject c o.reference x.frames
-      by_change (inl still) = absurd (changes (ap (λ (ws : List ℕ). slice_index ws word) words ∙ still))
-      by_change (inr k) = element_stored c (was t) x structured outside o word k marked element_write
+  element_changed fi word o here g e changes = elim (element_writer decided turn fi word o here g e) [
+    | inl still ↦ absurd (changes (ap (λ (ws : List ℕ). slice_index ws word) words ∙ still))
+    | inr k ↦ element_stored c (was t) x structured outside o word k marked element_write
+  ]
 
   static_changed : (fi : ℕ) (g : IsGuardedStatic c.program (tags_of c) fi) → IsWriter (StaticWriter c fi) x → HoldsMonitor (class_monitor c g.field) x ⊎ MakesClass c g.field.class s x
   static_changed fi g k =

@@ -1,5 +1,6 @@
 -- The event that begins an instruction keeps what construction says of its thread.
-use Rattle.std.proofs.Common.{◌≡◌, ℕ, ◌+◌, ◌-◌, ◌<◌, Bool, true, false, List, [], ◌∷◌, length, Option, Some, None, refl, sym, ap, ◌∙◌, subst, arith, ◌==◌, if◌then◌else◌}
+use Rattle.std.proofs.Common.{◌≡◌, ℕ, ◌+◌, ◌-◌, ◌<◌, inl, inr, Bool, true, false, List, [], ◌∷◌, length, Option, Some, None, refl, sym, ap, ◌∙◌, subst, arith, ◌==◌, if◌then◌else◌}
+use Rattle.std.proofs.lemmas.Bool.{cases_Bool}
 use Rattle.lists.proofs.ListLaws.{same_some}
 use Rattle.jvm_types.specs.{ProgramInvariant.words_of, Verifying.edges, declared.{code.Op.Op, outcome.Thrown.Thrown, program.{FieldInfo.FieldInfo, Kind.Kind, Target.Target}}}
 use Rattle.checked_program.specs.{MarkedProgram.{MarkedProgram, IsMarked}, OwnedArrays.IsOwnedArrayField}
@@ -13,7 +14,7 @@ use Rattle.laws_objects.proofs.{Buildings.{Moving, in_world, in_later, with_stor
 use Rattle.laws_objects.proofs.{EffectOps.{FitsOp, IsUsual, is_putfield, stores_none}, Moves.{Steps, stays}, NewFrames.makes_it}
 use Rattle.laws_objects.proofs.{Onwards.{OnwardKeeps, IfKeeps, FoundOld, FoundStored, throws_it, runs_usual, does_it, built_here, built_clean, fits_op}, Operands.is_getfield}
 use Rattle.laws_objects.proofs.StoredArrays.{PutsOwned, stores_it, is_new, unstored, later_finished}
-use Rattle.laws_objects.proofs.{ThreadMoves.{Moved, AreKnown, AttemptFrom, from_same, now_world, held_known, outside, runs_to, onward_moves, moved_more, moved_more_to}, Views.finished_on}
+use Rattle.laws_objects.proofs.{ThreadMoves.{Moved, AreKnown, AttemptFrom, from_same, now_world, held_known, in_none, runs_to, onward_moves, moved_more, moved_more_to}, Views.finished_on}
 use Rattle.laws_objects.proofs.WorldChanges.{finished_known, goes_given, world_given, lost_given}
 use Rattle.jvm_types.specs.declared.code.Op.TheVariants as ops
 use Rattle.jvm_types.specs.declared.outcome.Thrown.TheVariants as thrown
@@ -201,7 +202,10 @@ module _ (moving : Moving) (is : Classes) where
 
     -- of an instruction that stores no new array in an owned field
     pub does_as : ((v : Variable) (put : ℕ) → effect_at c.program at ≡ Writes v put → puts_owned owning.owned a.keeps.stands.insn.op a.keeps.stands.target ≡ false) → (e : Effect) (o : Onward) → effect_at c.program at ≡ e → done c.program at e got ≡ Some o → StaysStructured c was (goes_on s o) → Goal (goes_on s o)
-    does_as stores_none_here e o same d stands = by_puts (puts_owned owning.owned a.keeps.stands.insn.op a.keeps.stands.target) refl
+    does_as stores_none_here e o same d stands = elim (cases_Bool (puts_owned owning.owned a.keeps.stands.insn.op a.keeps.stands.target)) [
+      | inl puts ↦ by_effect e same d puts (fits_as e same)
+      | inr plain ↦ does_plain e o plain same d stands
+    ]
       where
         never : (e : Effect) → FitsOp e a.keeps.stands.insn.op → puts_owned owning.owned a.keeps.stands.insn.op a.keeps.stands.target ≡ true → is_putfield a.keeps.stands.insn.op ≡ false → ⊥
         never e f puts usual = (let bad : true ≡ false = sym puts ∙ stores_none owning.owned a.keeps.stands.insn.op a.keeps.stands.target usual in cc)
@@ -214,10 +218,6 @@ module _ (moving : Moving) (is : Classes) where
         by_effect Stuck same d puts fits = absurd (cc)
         by_effect (Reads v) same d puts fits = absurd (never (Reads v) fits puts fits.0)
         by_effect e same d puts fits = absurd (never e fits puts fits.1)
-
-        by_puts : (b : Bool) → puts_owned owning.owned a.keeps.stands.insn.op a.keeps.stands.target ≡ b → Goal (goes_on s o)
-        by_puts false plain = does_plain e o plain same d stands
-        by_puts true puts = by_effect e same d puts (fits_as e same)
 
     by_machine : (class : Thrown) → Refuses c.program got at class → IsByMachine class
     by_machine _ (moves.past_end array index stored same t) = tt
@@ -250,14 +250,14 @@ module _ (moving : Moving) (is : Classes) where
     pub makes_as : (word size : ℕ) → effect_at c.program at ≡ Makes word size → Goal (record s { frames = making c.program at; phase = phases.Made got word })
     makes_as word size same =
         subst (λ (v : ℕ). Goal (record s { frames = making c.program at; phase = phases.Made v word })) (sym gets.0)
-        (outside building was x k is_world owning.stores more (phases.Made next word) (record s { frames = making c.program at; phase = phases.Made next word }) no_attempt no_attempt held
+        (in_none building was x k is_world owning.stores more (phases.Made next word) (record s { frames = making c.program at; phase = phases.Made next word }) no_attempt held
         (record {
           later = with_builder k.now next (builder t (length a.below) Header);
           goes = goes_given k.now next more t next (builder t (length a.below) Header) grows refl (λ o. (let l = o.0 in omega (arith, l))) (λ j h. absurd (let l = (now_is.inside next j h).1 in omega (arith, l)));
           world = λ z. world_given k.now (words_of c.program) next more next (builder t (length a.below) Header) z grows z.room longer;
           lost = lost_given k.now next (builder t (length a.below) Header) (λ b h. absurd (let l = (now_is.inside next b h).1 in omega (arith, l)));
           fits = (subst (λ (h : ℕ). MadeIn (in_later building (with_builder k.now next (builder t (length a.below) Header)) more) next h (making c.program at)) (sym one_less) keeps_it, tt);
-        }))
+        })).moves
       where
         no_attempt : x.attempt ≡ None
         no_attempt = none_as (Makes word size) same tt
@@ -288,8 +288,8 @@ module _ (moving : Moving) (is : Classes) where
     to_phase : (y : Thread) (now : Phase) → x.attempt ≡ None → y.attempt ≡ x.attempt → y.held ≡ x.held → y.frames ≡ went_on c.program at 0 → ((z : World) → GoesOn k.now z next next t 0 → Next z → PhaseFits (in_world building z) (went_on c.program at 0) now) → Steps k.now next t Next → Moved building k.now more now y
     to_phase y now none attempt hs frames is_fit step =
         moved_more building k.now more now y is_world grows
-        (outside building was x k is_world owning.stores next now y none (attempt ∙ none) (subst (AreKnown w next t) (sym hs) held)
-        (record { later = step.later; goes = step.goes; world = step.world (words_of c.program); lost = step.lost; fits = subst (λ (gs : List Frame). PhaseFits (in_world building step.later) gs now) (sym frames) (is_fit step.later step.goes step.keeps) }))
+        (in_none building was x k is_world owning.stores next now y (attempt ∙ none) (subst (AreKnown w next t) (sym hs) held)
+        (record { later = step.later; goes = step.goes; world = step.world (words_of c.program); lost = step.lost; fits = subst (λ (gs : List Frame). PhaseFits (in_world building step.later) gs now) (sym frames) (is_fit step.later step.goes step.keeps) })).moves
 
     known : (m : ℕ) → IsFinished k.now next m → (z : World) → GoesOn k.now z next next t 0 → IsOwnOrFinished z next t m
     known m old z g = finished_known z next t m (finished_on k.now z next next t g m old)

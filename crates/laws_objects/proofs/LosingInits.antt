@@ -100,10 +100,10 @@ module _ (building : Building) (was : Phase) (x : Thread) (k : ThreadIn building
     unfolding sees_lost
     away_to s thrown class [] keeps none held =
         let y : Thread = record s { frames = []; phase = phases.Ending (ends.Uncaught class) } in
-        in_none building was x k world owning.stores (counted_by was (phases.Ending (ends.Uncaught class))) y none held (sees_lost (counted_by was (phases.Ending (ends.Uncaught class))) y (tt, tt))
+        in_none building was x k world owning.stores next (counted_by was (phases.Ending (ends.Uncaught class))) y none held (sees_lost (counted_by was (phases.Ending (ends.Uncaught class))) y (tt, tt))
     away_to s thrown class (g ∷ gs) keeps none held =
         let y : Thread = record s { frames = g ∷ gs; phase = phases.Throw thrown class } in
-        in_none building was x k world owning.stores (counted_by was (phases.Throw thrown class)) y none held (sees_lost (counted_by was (phases.Throw thrown class)) y (keeps.1, keeps.0))
+        in_none building was x k world owning.stores next (counted_by was (phases.Throw thrown class)) y none held (sees_lost (counted_by was (phases.Throw thrown class)) y (keeps.1, keeps.0))
 
   pub leaves_lost : (more v : ℕ) (y : Thread) → next ≤ more → (u : IsUnwound was x y) → y.attempt ≡ None → (i : IsInitOn c v u.frame) → frozen i.method.class ≡ true
       → MovedTo building k.now more (counted_by was y.phase) y (losing k.now v (builder t (length u.below) Begun))

@@ -1,6 +1,6 @@
 -- A frame that goes on behind its instruction. An `<init>` of a class that no file has, as that of Object, finishes its object.
 use Rattle.std.proofs.Common.{◌≡◌, ◌≢◌, ℕ, ◌<◌, ◌⊎◌, inl, inr, Bool, true, false, not, List, [], ◌∷◌, Option, Some, None, refl, sym, ap, ◌∙◌, subst, arith, ◌==◌, if◌then◌else◌}
-use Rattle.std.{specs.List.AllByRecursion, proofs.lemmas.Bool.{or_parts, eqb-true, eqb-false}}
+use Rattle.std.{specs.List.AllByRecursion, proofs.lemmas.Bool.{cases_Bool, or_parts, eqb-true, eqb-false}}
 use Rattle.lists.proofs.TestLaws.{is_true}
 use Rattle.jvm_types.specs.{CodeTable.{row, stack_after, locals_after}, Numbers.has_number, Types.{TypeFrame, same_type}}
 use Rattle.jvm_types.specs.{Verifying.{suits, some_taken, some_read, new_class, is_class_of, started, initialised, after_start, frame_after, edges}, declared.{code.Op.Op, op_row.OpRow.OpRow}}
@@ -44,11 +44,7 @@ module _ (m : MethodInfo) (young : ℕ → Bool) where
   Starts o = StartsOld young o ⊎ StartsYoung m young o
 
   new_starts : (q class : ℕ) → is_class_of (new_class m.code m.targets q) class ≡ true → Starts (Some (types.New q, class))
-  new_starts q class e = by_test (young q) refl
-    where
-      by_test : (b : Bool) → young q ≡ b → Starts (Some (types.New q, class))
-      by_test true y = inr (record { pc = q; class = class; is = refl; young_is = y; of_class = e })
-      by_test false y = inl y
+  new_starts q class e = elim (cases_Bool (young q)) [ inl y ↦ inr (record { pc = q; class = class; is = refl; young_is = y; of_class = e }) | inr y ↦ inl y ]
 
   pub starts : (wants : List Want) (ts : List VType) → Suit m wants ts → Starts (started m.class wants ts)
   starts [] ts h = inl tt

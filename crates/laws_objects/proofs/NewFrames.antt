@@ -2,7 +2,7 @@
 use Rattle.std.proofs.Common.{◌≡◌, ◌≢◌, ℕ, ◌<◌, ◌⊎◌, inl, inr, Bool, true, false, List, [], ◌∷◌, ◌++◌, length, map, drop, Option, Some, None, refl, sym, ap, ◌∙◌, subst, arith, option_map}
 use Rattle.std.specs.List.{AllByRecursion}
 use Rattle.lists.proofs.ListLaws.{same_some}
-use Rattle.jvm_types.specs.{ProgramInvariant.words_of, CodeTable.{row, value_of, stack_after, locals_after}, Numbers.has_number, Types.TypeFrame, Verifying.{started, after_start, frame_after, edges}, declared.{code.{Insn.Insn, Op.Op}, op_row.{Given.{Given, TheVariants.Fresh as Anew}, OpRow.OpRow}, program.{MethodInfo.MethodInfo, Target.Target}, typing.VType.VType}}
+use Rattle.jvm_types.specs.{ProgramInvariant.words_of, CodeTable.{row, value_of, stack_after, locals_after}, Types.TypeFrame, Verifying.{started, after_start, frame_after, edges}, declared.{code.{Insn.Insn, Op.Op}, op_row.{Given.{Given, TheVariants.Fresh as Anew}, OpRow.OpRow}, program.{MethodInfo.MethodInfo, Target.Target}, typing.VType.VType}}
 use Rattle.laws_programs.{specs.NewLaws.{IsNewBefore, AreBehind}, proofs.RowsKeep.{IsFine, row_fine}}
 use Rattle.checked_program.specs.{LockTags.TagShape, MarkedProgram.MarkedProgram, TaggedCode.IsAt, Tagging.{moved_tags, tags_by_op, tags_after}, declared.tag.Tag.{Tag, TheVariants.Untagged}}
 use Rattle.machine_types.specs.Construction.{puts_owned, builds, makes_frozen, if_so, SlotByType, SlotIs, SlotsAre, StackWith, Runs, IsFresh, ReceiverIs, SlotOf, IsNoStored, made_world}
@@ -76,14 +76,10 @@ module _ (lawful : LawfulBuilding) (more h : ℕ) (grows : lawful.next < more) (
 
   -- another item than the new one
   apart_from : (x : Item) → x ≢ Made pc → x ≢ Unstored → (y : Item) → item ≡ Some y → builder t h x ≢ builder t h y
-  apart_from x n m y e s = by_sort (sort y e)
+  apart_from x n m y e s = elim (sort y e) [ inl is ↦ n (same ∙ is) | inr is ↦ m (same ∙ is) ]
     where
       same : x ≡ y
       same = ap (λ (b : Builder). b.item) s
-
-      by_sort : (y ≡ Made pc) ⊎ (y ≡ Unstored) → ⊥
-      by_sort (inl is) = n (same ∙ is)
-      by_sort (inr is) = m (same ∙ is)
 
   fresh_made : (q v : ℕ) → q < pc → w v ≡ Some (builder t h (Made q)) → stored_world v ≡ Some (builder t h (Made q))
   fresh_made q v l e = keeps v h (Made q) e (λ s. (let i : Made q ≡ Header = ap (λ (b : Builder). b.item) s in cc)) item (apart_from (Made q) (λ s. (let j : q ≡ pc = cc in omega (arith, j, l))) (λ s. cc))

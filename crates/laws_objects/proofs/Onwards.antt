@@ -1,9 +1,9 @@
 -- How a thread goes on keeps what construction says of its frames and of what it carries.
 use Rattle.std.proofs.Common.{◌≡◌, ◌≢◌, ℕ, ◌<◌, Bool, true, false, List, [], ◌∷◌, length, Option, Some, None, refl, sym, ap, ◌∙◌, subst, arith, slice_get, option_map, reverse, take, if◌then◌else◌}
 use Rattle.std.specs.List.{AllByRecursion}
-use Rattle.lists.proofs.ListLaws.{same_some}
+use Rattle.lists.proofs.{ListLaws.same_some, TestLaws.first_true}
 use Rattle.jvm_types.specs.{ClassNames.file_of_class, CodeTable.{can_throw, row}, Members.{MethodSite, is_static, is_synchronized}, ProgramInvariant.{words_of, site_in}, Verifying.{edges, is_return}}
-use Rattle.jvm_types.specs.declared.{code.Op.Op, op_row.{Given.{Given, TheVariants.{Fresh as Anew, Taken, Local}}, OpRow.OpRow}, outcome.Thrown.Thrown, program.FieldInfo.FieldInfo}
+use Rattle.jvm_types.specs.declared.{code.Op.Op, op_row.{Given.{Given, TheVariants.Fresh as Anew}, OpRow.OpRow}, outcome.Thrown.Thrown, program.FieldInfo.FieldInfo}
 use Rattle.jvm_types.specs.declared.{program.{MethodInfo.MethodInfo, Program.Program, Row.Row, Target.Target}, typing.VType.VType}
 use Rattle.laws_programs.specs.TargetLaws.{HasRow}
 use Rattle.checked_program.specs.{Marks.called_method, declared.tag.Tag.TheVariants.Untagged}
@@ -18,7 +18,7 @@ use Rattle.laws_threads.{specs.Allowed.{OneOf, IsNamedField, IsByMachine, Allowe
 use Rattle.laws_objects.proofs.{ArrayFrames.{takes_clean, goes_plain}, ArrayMoves.{WriteClean, row_clean, ReadsField, IsMadeWell}}
 use Rattle.laws_objects.proofs.Buildings.{Building, LawfulBuilding, in_world, FrameIn, BelowIn, FramesIn, first_finished, null, inside}
 use Rattle.laws_objects.proofs.{BuiltEffects.{KindOld, TypeOld, GivenOld, RowOld, Built, effect_built}, CalledFrames.below_moved, Calling.{CallKeeps, calls_it}}
-use Rattle.laws_objects.proofs.{EffectOps.{FitsOp, IsUsual, effect_fits, names_a_field, stores_none, get_writes}, KeptFrames.{KeepsUnder, below_kept}, Moves.{RowMakes, Steps, stays, steps_map, goes}}
+use Rattle.laws_objects.proofs.{EffectOps.{FitsOp, IsUsual, is_putfield, effect_fits, names_a_field, stores_none, get_writes}, KeptFrames.{KeepsUnder, below_kept}, Moves.{RowMakes, Steps, stays, steps_map, goes}}
 use Rattle.laws_objects.proofs.{Operands.{is_getfield, no_read, no_getfield, takes_old}, PutPlaces.is_newarray, ReturnedFrames.{result_old, result_clean, resumes}, Slots.{IsMade, made_slot}}
 use Rattle.laws_objects.proofs.{ThrowingFrames.{frames_throw, frames_unwound, handled}, Views.finished_on, WorldChanges.finished_known}
 use Rattle.jvm_types.specs.declared.code.Op.TheVariants as ops
@@ -52,13 +52,6 @@ ready_first p x own = first_of (assumption, omega arith)
 
 pub out_first : (p : Program) → out_object < words_of p
 out_first p = omega arith
-
--- a `getfield` names a field
-getfield_names : (p : Program) (site : MethodSite) (pc : ℕ) (target : Target) (op : Op) (r : OpRow) → HasRow p site pc target op r → is_getfield op ≡ true → (number : ℕ) × (target ≡ targets.Field number)
-getfield_names p site pc (targets.Field number) (ops.Getfield i) r h e = (number, refl)
-getfield_names p site pc targets.Nothing (ops.Getfield i) r h e = absurd (let bad : true ≡ false = h in cc)
-getfield_names p site pc target (ops.Getfield i) r h e = absurd h
-getfield_names p site pc target op r h e = absurd (let bad : false ≡ true = e in cc)
 
 module _ (lawful : LawfulBuilding) where
   open lawful use {building, c, marked, frozen, owning, w, next, t, is_world, fine}
@@ -213,14 +206,17 @@ module _ (lawful : LawfulBuilding) where
     pub throws_it : (x : Thrown) → IsByMachine x → OnwardKeeps building (threw x at)
     throws_it x own = (first_finished w (words_of c.program) next (ready x) is_world (ready_first c.program x own), frames_throw building Runs (f ∷ fs) (k, b))
 
+    names : is_getfield k.stands.insn.op ≡ true → (number : ℕ) × (k.stands.target ≡ targets.Field number)
+    names e = names_a_field c.program (site_in k.stands.method) k.stands.insn.pc k.stands.target k.stands.insn.op r (rules_at c marked f k.stands).has_row (first_true (is_getfield k.stands.insn.op) (is_putfield k.stands.insn.op) e)
+
     pub built_here : puts_owned owning.owned k.stands.insn.op k.stands.target ≡ false → Built (IsFinished w next) c.program k.stands.target r (effect_at c.program at)
     built_here plain = effect_built (IsFinished w next) (first_finished w (words_of c.program) next out_object is_world (out_first c.program)) c.program k.stands.method k.stands.insn.pc k.stands.insn.next k.stands.target k.stands.insn.op f.locals f.stack
-        (getfield_names c.program (site_in k.stands.method) k.stands.insn.pc k.stands.target k.stands.insn.op r (rules_at c marked f k.stands).has_row)
+        names
         (λ any. takes_old building (length fs) f k (null lawful) (no_getfield k.stands.insn.op any) plain)
 
     pub built_clean : Built (IsStoredNowhere owning.stores) c.program k.stands.target r (effect_at c.program at)
     built_clean = effect_built (IsStoredNowhere owning.stores) fine.out c.program k.stands.method k.stands.insn.pc k.stands.insn.next k.stands.target k.stands.insn.op f.locals f.stack
-        (getfield_names c.program (site_in k.stands.method) k.stands.insn.pc k.stands.target k.stands.insn.op r (rules_at c marked f k.stands).has_row)
+        names
         (takes_clean building (length fs) f k)
 
     pub fits_op : FitsOp (effect_at c.program at) k.stands.insn.op

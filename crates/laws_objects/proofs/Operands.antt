@@ -1,6 +1,6 @@
 -- Values that an instruction takes as references to objects are finished: an `<init>` of a frozen class gives its `this` to none.
 use Rattle.std.proofs.Common.{◌≡◌, ◌≢◌, ℕ, zero, suc, ◌<◌, Bool, true, false, not, ◌&&◌, List, [], ◌∷◌, length, Option, Some, None, refl, subst, sym, arith, ◌==◌, slice_get, slice_index_or}
-use Rattle.std.proofs.lemmas.Bool.{or_parts}
+use Rattle.std.{specs.List.AllByRecursion, proofs.lemmas.Bool.or_parts}
 use Rattle.lists.proofs.TestLaws.{is_true}
 use Rattle.jvm_types.specs.{CodeTable.{put_row, row}, Types.is_below, Verifying.{suits, some_taken}, declared.{code.Op.Op, op_row.Want.Want}}
 use Rattle.jvm_types.specs.declared.{op_row.Want.TheVariants.{AnyValue, AnObject}, program.{FieldInfo.FieldInfo, MethodInfo.MethodInfo, Program.Program}}
@@ -78,17 +78,10 @@ is_getfield (ops.Getfield i) = true
 is_getfield op = false
 
 module _ (p : Program) (m : MethodInfo) (pc class : ℕ) where
-  any_one : (k : ℕ) → object_at (AnyValue ∷ []) k ≡ false
-  any_one zero = refl
-  any_one (suc k) = refl
-
-  any_two : (k : ℕ) → object_at (AnyValue ∷ AnyValue ∷ []) k ≡ false
-  any_two zero = refl
-  any_two (suc k) = any_one k
-
-  any_three : (k : ℕ) → object_at (AnyValue ∷ AnyValue ∷ AnyValue ∷ []) k ≡ false
-  any_three zero = refl
-  any_three (suc k) = any_two k
+  none_at : (wants : List Want) → AllByRecursion (λ want. is_object want ≡ false) wants → (k : ℕ) → object_at wants k ≡ false
+  none_at [] a k = refl
+  none_at (want ∷ wants) a zero = a.0
+  none_at (want ∷ wants) a (suc k) = none_at wants a.1 k
 
   put_free : (f : Option FieldInfo) (o : Bool) (k : ℕ) → object_at (put_row f).takes k ≡ true → ((k == 1) && o) ≡ false
   put_free None o k e = absurd (cc)
@@ -96,32 +89,24 @@ module _ (p : Program) (m : MethodInfo) (pc class : ℕ) where
   put_free (Some f) o (suc zero) e = absurd (cc)
   put_free (Some f) o (suc (suc k)) e = absurd (cc)
 
-  object_free : (op : Op) (target : Target) (k : ℕ) → is_getfield op ≡ false → object_at (row p m pc target op).takes k ≡ true → may_take p class op target k ≡ false
-  object_free ops.Dup target k g e = absurd (let z = any_one k in cc)
-  object_free ops.DupX1 target k g e = absurd (let z = any_two k in cc)
-  object_free ops.DupX2 target k g e = absurd (let z = any_three k in cc)
-  object_free ops.Dup2 target k g e = absurd (let z = any_two k in cc)
-  object_free ops.Swap target k g e = absurd (let z = any_two k in cc)
-  object_free ops.Pop target k g e = absurd (let z = any_one k in cc)
-  object_free ops.Pop2 target k g e = absurd (let z = any_two k in cc)
-  object_free (ops.Getfield i) target k g e = absurd (cc)
-  object_free (ops.Putfield i) (targets.Field f) k g e = put_free (slice_get p.fields f) _ k e
-  object_free (ops.Invokespecial i) (targets.Init started) zero g e = absurd (cc)
-  object_free (ops.Invokespecial i) (targets.Init started) (suc k) g e = absurd (cc)
-  object_free op target k g e = refl
-
-  pub array_free : (op : Op) (target : Target) (k : ℕ) → takes_any op ≡ false → object_at (row p m pc target op).takes k ≡ true → may_take_array op k ≡ false
-  array_free ops.Dup target k g e = absurd (let z = any_one k in cc)
-  array_free ops.DupX1 target k g e = absurd (let z = any_two k in cc)
-  array_free ops.DupX2 target k g e = absurd (let z = any_three k in cc)
-  array_free ops.Dup2 target k g e = absurd (let z = any_two k in cc)
-  array_free ops.Swap target k g e = absurd (let z = any_two k in cc)
-  array_free ops.Pop target k g e = absurd (let z = any_one k in cc)
-  array_free ops.Pop2 target k g e = absurd (let z = any_two k in cc)
-  array_free ops.Iaload target k g e = absurd (cc)
-  array_free ops.Iastore target k g e = absurd (cc)
-  array_free ops.Arraylength target k g e = absurd (cc)
-  array_free op target k g e = refl
+  -- what is taken as an object has no tag of `this`, but by `getfield`, and is no array of an owned field, but by four instructions
+  pub object_free : (op : Op) (target : Target) (k : ℕ) → object_at (row p m pc target op).takes k ≡ true
+      → (is_getfield op ≡ false → may_take p class op target k ≡ false) × (takes_any op ≡ false → may_take_array op k ≡ false)
+  object_free ops.Dup target k e = absurd (let z = none_at (AnyValue ∷ []) (refl, tt) k in cc)
+  object_free ops.DupX1 target k e = absurd (let z = none_at (AnyValue ∷ AnyValue ∷ []) (refl, (refl, tt)) k in cc)
+  object_free ops.DupX2 target k e = absurd (let z = none_at (AnyValue ∷ AnyValue ∷ AnyValue ∷ []) (refl, (refl, (refl, tt))) k in cc)
+  object_free ops.Dup2 target k e = absurd (let z = none_at (AnyValue ∷ AnyValue ∷ []) (refl, (refl, tt)) k in cc)
+  object_free ops.Swap target k e = absurd (let z = none_at (AnyValue ∷ AnyValue ∷ []) (refl, (refl, tt)) k in cc)
+  object_free ops.Pop target k e = absurd (let z = none_at (AnyValue ∷ []) (refl, tt) k in cc)
+  object_free ops.Pop2 target k e = absurd (let z = none_at (AnyValue ∷ AnyValue ∷ []) (refl, (refl, tt)) k in cc)
+  object_free (ops.Getfield i) target k e = (λ g. absurd (cc), λ g. absurd (cc))
+  object_free (ops.Putfield i) (targets.Field f) k e = (λ g. put_free (slice_get p.fields f) _ k e, λ g. refl)
+  object_free (ops.Invokespecial i) (targets.Init started) zero e = absurd (cc)
+  object_free (ops.Invokespecial i) (targets.Init started) (suc k) e = absurd (cc)
+  object_free ops.Iaload target k e = (λ g. refl, λ g. absurd (cc))
+  object_free ops.Iastore target k e = (λ g. refl, λ g. absurd (cc))
+  object_free ops.Arraylength target k e = (λ g. refl, λ g. absurd (cc))
+  object_free op target k e = (λ g. refl, λ g. refl)
 
 -- a `getfield` is among them
 pub no_getfield : (op : Op) → takes_any op ≡ false → is_getfield op ≡ false
@@ -147,7 +132,7 @@ module _ (design : Design) where
   own_takes_no_this f k get own =
       takes_no_this (row_at c f k).takes k.tags.stack
       (λ n l e this. (let may = (inside_at design f k own).taken k.number k.insn k.target k.tags k.at n l this in
-      let free = object_free c.program k.method k.insn.pc k.method.class k.insn.op k.target n get e in cc))
+      let free = (object_free c.program k.method k.insn.pc k.method.class k.insn.op k.target n e).0 get in cc))
 
 -- so each object that is taken is finished
 module _ (building : Building) where

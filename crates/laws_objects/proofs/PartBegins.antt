@@ -1,6 +1,6 @@
 -- Where a part of the run begins, no object is made or finished.
-use Rattle.std.proofs.Common.{◌≡◌, ◌⊎◌, inl, inr, ℕ, Bool, true, false, List, Some, refl, ap, sym, subst, Contains, slice_get, if◌then◌else◌}
-use Rattle.machine_types.specs.{Construction.Construction, Core.{may_begin, next}, Structure.{IsAs, IsStructured, Structure}}
+use Rattle.std.proofs.Common.{◌≡◌, inl, inr, ℕ, Bool, true, false, List, Some, refl, ap, sym, subst, Contains, slice_get, if◌then◌else◌}
+use Rattle.machine_types.specs.{Construction.Construction, Core.{may_begin, next}, Structure.{IsAs, IsStructured}}
 use Rattle.machine_types.specs.{Threads.{Frame, Thread}, Worlds.{Builder, IsViewOf, IsOwnOrFinished}, declared.{lock.Held.Held, phase.Phase.Phase}}
 use Rattle.laws_threads.specs.{PartLaws.{NextKeepsStructure, counted_next}, StateLaws.counted_of, StructureLaws.counted_by}
 use Rattle.laws_states.proofs.BegunThreads.{StartsOrEnded, Begins, begun}
@@ -33,16 +33,15 @@ module _ (building : Building) (was : Phase) (z y : Thread) (begins : Begins z y
 
   -- of the same phase, or without frames
   fits_now : IsAs z.phase was → IsStructured c (counted_by was y.phase) y → Fits y.frames (counted_by was y.phase)
-  fits_now is_as stands = by_side begins.phase
+  fits_now is_as stands = elim begins.phase [
+    | inl e ↦ subst (λ (phase : Phase). Fits y.frames (counted_by was phase)) (sym e) (same_fits (counted_by was z.phase) (counted_fits (in_world building k.now) z.frames was z.phase is_as (k.frames, k.phase)))
+    | inr f ↦ fresh y.phase refl f stands
+  ]
     where
       fresh : (phase : Phase) → y.phase ≡ phase → StartsOrEnded phase → IsStructured c (counted_by was phase) y → Fits y.frames (counted_by was phase)
       fresh phases.Start e f s = subst (λ (fs : List Frame). Fits fs phases.Start) (sym s.stands.phase_shows) (tt, tt)
       fresh (phases.Ended ends.Returned) e f s = subst (λ (fs : List Frame). Fits fs (phases.Ended ends.Returned)) (sym s.stands.phase_shows) (tt, tt)
       fresh phase e f s = absurd f
-
-      by_side : (y.phase ≡ z.phase) ⊎ StartsOrEnded y.phase → Fits y.frames (counted_by was y.phase)
-      by_side (inl e) = subst (λ (phase : Phase). Fits y.frames (counted_by was phase)) (sym e) (same_fits (counted_by was z.phase) (counted_fits (in_world building k.now) z.frames was z.phase is_as (k.frames, k.phase)))
-      by_side (inr f) = fresh y.phase refl f stands
 
 -- ---- all of them
 

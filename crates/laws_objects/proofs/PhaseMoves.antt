@@ -1,6 +1,6 @@
 -- Each event of a thread keeps what construction says of it.
 use Rattle.std.proofs.Common.{◌≡◌, ℕ, ◌+◌, Bool, true, false, List, [], ◌∷◌, length, Option, Some, refl, sym, ap, ◌∙◌, subst, arith, drop, ◌==◌, slice_get, slice_index, if◌then◌else◌, IsTrue}
-use Rattle.std.{specs.List.{AllZip, AllByRecursion}, proofs.lemmas.Bool.{eqb-true, eq-eqb}}
+use Rattle.std.{specs.List.{AllZip, AllByRecursion}, proofs.lemmas.Bool.{eqb-true, eq-eqb, false_from_ne_true}}
 use Rattle.lists.proofs.ListLaws.{same_some}
 use Rattle.jvm_types.specs.{Members.is_static, Numbers.has_number, ProgramInvariant.site_in, Types.TypeFrame, declared.{code.Op.Op, fixed_words.TheConstants.NEXT_FREE_WORD, outcome.Thrown.Thrown, program.FieldInfo.FieldInfo}}
 use Rattle.jvm_types.specs.declared.program.{Kind.Kind, MethodInfo.MethodInfo, Target.Target}
@@ -222,7 +222,7 @@ module _ (moving : Moving) (objects : List Object) (s : Core) (facts : HeapFacts
             by_flag false e =
                 subst (λ (x : ℕ). KindOld (IsStoredNowhere owning.stores) field.kind (slice_index s.words x)) (sym (instance_word e))
                 (place_kind field.kind (value_word named.reference field.index) (slice_index s.words (value_word named.reference field.index))
-                (subst (λ (b : Bool). PlaceStores owning.stores (value_word named.reference field.index) b field.kind (slice_index s.words (value_word named.reference field.index))) (not_owned (owning.owned named.number) refl) (at_place e)))
+                (subst (λ (b : Bool). PlaceStores owning.stores (value_word named.reference field.index) b field.kind (slice_index s.words (value_word named.reference field.index))) (false_from_ne_true (owning.owned named.number) (λ h. none named.number (owns.those named.number h, reads))) (at_place e)))
               where
                 -- an instance field is read by a `getfield`
                 is_get : (op : Op) → HasRow c.program (site_in kf.stands.method) kf.stands.insn.pc (targets.Field named.number) op (row_at c f kf.stands) → is_putfield op ≡ false → is_read_of named.number op (targets.Field named.number) ≡ true
@@ -237,10 +237,6 @@ module _ (moving : Moving) (objects : List Object) (s : Core) (facts : HeapFacts
                     let fits : FitsOp (Reads v) kf.stands.insn.op = subst (λ (e : Effect). FitsOp e kf.stands.insn.op) same (fits_op (sees moving) f fs kf b) in
                     let rows : HasRow c.program (site_in kf.stands.method) kf.stands.insn.pc (targets.Field named.number) kf.stands.insn.op (row_at c f kf.stands) = subst (λ (u : Target). HasRow c.program (site_in kf.stands.method) kf.stands.insn.pc u kf.stands.insn.op (row_at c f kf.stands)) named.named (rules_at c marked f kf.stands).has_row in
                     subst (λ (u : Target). is_read_of named.number kf.stands.insn.op u ≡ true) (sym named.named) (is_get kf.stands.insn.op rows fits.0)
-
-                not_owned : (b : Bool) → owning.owned named.number ≡ b → owning.owned named.number ≡ false
-                not_owned true h = absurd (none named.number (owns.those named.number h, reads))
-                not_owned false h = h
 
       found_stored : (e : Effect) → effect_at c.program at ≡ e → FoundStored (sees moving) (HasClass objects) f kf.stands e (found_by s.words (effect_wants x f.pc e))
       found_stored (Reads v) same = λ field named. (reads_own_array v same field named, reads_none v same field named)

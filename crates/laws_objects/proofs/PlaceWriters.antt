@@ -6,7 +6,7 @@ use Rattle.laws_programs.proofs.{ClassTreeLaws.files_alone, CodeOrder.have_targe
 use Rattle.checked_program.specs.{MarkedProgram.{MarkedProgram, IsMarked}, TaggedCode.row_of}
 use Rattle.machine_types.specs.{Accesses.{accessed, left_by, words_after}, Effects.effect, Events.wanted}
 use Rattle.machine_types.specs.{FoundWords.{Content, IntPlace, ReferencePlace, effect_content, run_content, leave_content, content_at}, Frames.{Top, top_of, effect_at}}
-use Rattle.machine_types.specs.{Instructions.{effect_wants, run_wants}, Monitors.{Claim, Has, Tries, HasNot, claim}, PlainMemory.Object, Standing.Standing}
+use Rattle.machine_types.specs.{Instructions.{effect_wants, run_wants}, Monitors.{Claim, Has, claim}, PlainMemory.Object, Standing.Standing}
 use Rattle.machine_types.specs.{Structure.{IsStructured, Stands, TopIs, is_element_op}, Threads.{Frame, Thread}, Typed.{FramesHold, HasClass, HasElementIn, ElementStands, PhaseHolds}}
 use Rattle.machine_types.specs.{Words.variable_word, declared.{access.Access.{Access, TheVariants.Store}, effect.{Effect.{Effect, TheVariants.{Reads, Writes}}, Variable.Variable}, lock.Kept.Kept}}
 use Rattle.machine_types.specs.declared.phase.Phase.{Phase}
@@ -174,11 +174,10 @@ module _ (event : PlaceEvent) where
         stands.phase_shows
 
     by_left : IsLeft c s.words x place → Stays ⊎ IsWriter IsSuch x ⊎ Stored
-    by_left k = by_write (phase_writes k.access (slice_index s.words (site_word place)) k.word x.phase refl k.wants (place_suits (content_at c x x.phase) place is_place k.suits) (heap.typed.threads t x there).phase at_element)
-      where
-        by_write : (left_by k.access (slice_index s.words (site_word place)) ≡ slice_index s.words (site_word place)) ⊎ IsWriter IsSuch x ⊎ Stored → Stays ⊎ IsWriter IsSuch x ⊎ Stored
-        by_write (inl e) = inl (k.left ∙ e)
-        by_write (inr wrote) = inr wrote
+    by_left k = elim (phase_writes k.access (slice_index s.words (site_word place)) k.word x.phase refl k.wants (place_suits (content_at c x x.phase) place is_place k.suits) (heap.typed.threads t x there).phase at_element) [
+      | inl e ↦ inl (k.left ∙ e)
+      | inr wrote ↦ inr wrote
+    ]
 
     pub place_changer : Stays ⊎ IsWriter IsSuch x ⊎ Stored
     place_changer = elim (word_at mover sites place is_there) [ inl e ↦ inl e | inr k ↦ by_left k ]
@@ -187,9 +186,4 @@ module _ (event : PlaceEvent) where
   module _ (place : Site) (is_place : IsPlace place) (is_there : IsThere c.program objects s place) (IsSuch : Frame → Type 0) (writes : Write place IsSuch)
       (no_element : (fs : List Frame) (w v : ℕ) → FramesHold c (HasClass objects) fs → TopIs c (is_element_op (Some v)) fs → HasElementIn objects (Some v) fs → ElementStands w (Some v) fs → w ≡ site_word place → ⊥) where
     pub place_writer : (slice_index (words_after s.words (wanted c x x.phase)) (site_word place) ≡ slice_index s.words (site_word place)) ⊎ IsWriter IsSuch x
-    place_writer = by_change (place_changer place is_place is_there IsSuch ⊥ writes (λ w v e. no_element x.frames w v))
-      where
-        by_change : Stays place is_place is_there IsSuch ⊥ writes (λ w v e. no_element x.frames w v) ⊎ IsWriter IsSuch x ⊎ ⊥ → (slice_index (words_after s.words (wanted c x x.phase)) (site_word place) ≡ slice_index s.words (site_word place)) ⊎ IsWriter IsSuch x
-        by_change (inl e) = inl e
-        by_change (inr (inl writer)) = inr writer
-        by_change (inr (inr none)) = absurd none
+    place_writer = elim (place_changer place is_place is_there IsSuch ⊥ writes (λ w v e. no_element x.frames w v)) [ inl e ↦ inl e | inr (inl writer) ↦ inr writer | inr (inr none) ↦ absurd none ]

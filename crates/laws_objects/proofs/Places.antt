@@ -1,12 +1,12 @@
 -- No place has an unfinished object after an event.
-use Rattle.std.proofs.Common.{◌≡◌, ◌≢◌, ℕ, zero, suc, ◌+◌, ◌<◌, ◌⊎◌, inl, inr, Bool, true, false, List, ◌∷◌, length, Option, Some, None, refl, sym, ap, ◌∙◌, subst, arith, ◌==◌, nat_le, bit_or, bit_and, Contains, slice_get, slice_set, slice_index, if◌then◌else◌}
+use Rattle.std.proofs.Common.{◌≡◌, ℕ, zero, suc, ◌+◌, ◌<◌, inl, inr, Bool, true, false, List, ◌∷◌, length, Option, Some, None, refl, sym, ap, ◌∙◌, subst, arith, ◌==◌, nat_le, bit_or, bit_and, Contains, slice_get, slice_set, slice_index, if◌then◌else◌}
 use Rattle.std.proofs.lemmas.Bool.{ne_eqb}
 use Rattle.lists.proofs.ListLaws.{same_some}
 use Rattle.jvm_types.specs.{Members.is_static, ProgramInvariant.{IsProgram, words_of, instances_among}, declared.{class_numbers.TheConstants.INT_ARRAY_CLASS, code.Insn.Insn}}
 use Rattle.jvm_types.specs.declared.{fixed_words.TheConstants.{NEXT_FREE_WORD, NEXT_TICKET_WORD}, op_row.OpRow.OpRow, program.{FieldInfo.FieldInfo, Kind.Kind, MethodInfo.MethodInfo, Target.Target}}
-use Rattle.laws_programs.proofs.{ClassTreeLaws.files_alone, FieldOrder.{instances_inside, one_instance_field, one_static_field}}
+use Rattle.laws_programs.proofs.FieldOrder.{instances_inside, one_instance_field, one_static_field}
 use Rattle.machine_types.specs.{Accesses.words_after, Construction.{Owning, KindKeeps, PlaceStores, PlacesKeep}, Elision.looks, Events.element_wants}
-use Rattle.machine_types.specs.{FoundWords.{Content, IntPlace, ReferencePlace, leave_content}, Instructions.{has_print_left, effect_wants}, Monitors.{Claim, Has, Tries, HasNot}, NewObjects.size_by}
+use Rattle.machine_types.specs.{FoundWords.{Content, IntPlace, ReferencePlace, leave_content}, Instructions.{has_print_left, effect_wants}, Monitors.{Claim, Has}, NewObjects.size_by}
 use Rattle.machine_types.specs.{OwnedPlaces.Stores, PlainMemory.{Object, new_object}, StartLaws.StartLiesApart, Threads.{Attempt, Thread}, Typed.HasClass}
 use Rattle.machine_types.specs.{Words.{header_word, header_class, value_word, variable_word, object_size, array_size}, Worlds.{World, IsFinished, IsWorld, GoesOn}, declared.access.Access.Access}
 use Rattle.machine_types.specs.declared.{access.Access.TheVariants.{Load, Store, Cas, Add, Or, And, Rest}, effect.Effect.Effect}
@@ -15,7 +15,7 @@ use Rattle.machine_types.specs.declared.lock.Kept.{Kept}
 use Rattle.laws_threads.{specs.Allowed.{IsNamedField, Allowed}, proofs.MonitorMoves.contains_got}
 use Rattle.laws_states.specs.Sites.{Site, Counter, ValueOf, NewHeaderOf, StaticAt, site_word, IsThere, Suits, ReachesIf}
 use Rattle.laws_states.proofs.{Accesses.ElementSite, Movers.HeapState, Lists.{contained_got, contains_more, same_or_not, set_here, set_there}, Places.same_object, Sites.{sites_apart, sites_inside}, WordViews.set_self}
-use Rattle.laws_objects.proofs.{Buildings.first_finished, BuiltEffects.KindOld, Views.finished_on}
+use Rattle.laws_objects.proofs.{Buildings.first_finished, BuiltEffects.KindOld, PlaceWriters.{has_field, holder_of}, Views.finished_on}
 use Rattle.jvm_types.specs.declared.program.Kind.TheVariants as kinds
 use Rattle.machine_types.specs.Words as words
 use Rattle.machine_types.specs.declared.lock.Kept.TheVariants as keeps
@@ -52,7 +52,7 @@ pub record PlaceChange : Type 0 where
   pub arrays_are : (v word : ℕ) → after v ≡ Some word → (o : Object) × (Contains objects o) × (o.reference ≡ v) × (o.class ≡ INT_ARRAY_CLASS)
 
 module _ (change : PlaceChange) where
-  open change use {lies, c, marked, objects, s, facts, own, after, w, later, more, t, goes, places, on, arrays_are}
+  open change use {lies, heap, c, marked, objects, s, facts, own, after, w, later, more, t, goes, places, on, arrays_are}
 
   is_program : IsProgram c.program
   is_program = marked.checked.program
@@ -88,12 +88,6 @@ module _ (change : PlaceChange) where
   pub loaded : (word : ℕ) → Behind (words_after s.words (Some (Load word)))
   loaded word = subst Behind (sym (set_self s.words word)) same_words
 
-  field_there : (o : Object) (number : ℕ) (f : FieldInfo) → Contains objects o → slice_get c.program.fields number ≡ Some f → is_static f.flags ≡ false → o.class ≡ f.class → f.index < length o.values
-  field_there o number f k g n class =
-      let from = (is_program.fields number f g).class.0 in
-      let sized = facts.apart.sized k.0 o (contained_got objects o k) (λ array. absurd (omega (arith, array, class, from))) in
-      subst (λ (i : ℕ). f.index < i) (sym sized) (subst (λ (d : ℕ). f.index < instances_among d c.program.fields) (sym class) (instances_inside c.program number f is_program g n))
-
   -- a word is stored
   module _ (word value : ℕ) (site : Site) (there : IsThere c.program objects s site) (word_is : word ≡ site_word site) (left : LeftKeeps site value) where
     abbrev set : List ℕ
@@ -104,20 +98,18 @@ module _ (change : PlaceChange) where
 
     -- at another site than this one the word stays
     at : (P : ℕ → Type 0) (mine : Site) → IsThere c.program objects s mine → P (slice_index s.words (site_word mine)) → (LeftKeeps mine value → P value) → P (slice_index (slice_set s.words word value) (site_word mine))
-    at P mine is old new = by_word (same_or_not (site_word mine) word)
-      where
-        by_word : (site_word mine ≡ word) ⊎ (site_word mine ≢ word) → P (slice_index (slice_set s.words word value) (site_word mine))
-        by_word (inl e) =
-            let one : mine ≡ site = sites_apart lies c objects s mine site marked facts is there (e ∙ word_is) in
-            subst P (sym (ap (slice_index (slice_set s.words word value)) e ∙ set_here s.words word value there_to)) (new (subst (λ (x : Site). LeftKeeps x value) (sym one) left))
-        by_word (inr n) = subst P (sym (set_there s.words word (site_word mine) value n)) old
+    at P mine is old new = elim (same_or_not (site_word mine) word) [
+      | inl e ↦ let one : mine ≡ site = sites_apart lies c objects s mine site marked facts is there (e ∙ word_is) in
+          subst P (sym (ap (slice_index (slice_set s.words word value)) e ∙ set_here s.words word value there_to)) (new (subst (λ (x : Site). LeftKeeps x value) (sym one) left))
+      | inr n ↦ subst P (sym (set_there s.words word (site_word mine) value n)) old
+    ]
 
     pub stored : Behind (slice_set s.words word value)
     stored = record {
-      fields = λ o number f k g n class. at (KindKeeps later more f.kind) (ValueOf o.reference f.index) (o, k, refl, field_there o number f k g n class) (same_words.fields o number f k g n class) (λ l. (l o number f k g n class refl refl).0);
+      fields = λ o number f k g n class. at (KindKeeps later more f.kind) (ValueOf o.reference f.index) (o, k, refl, has_field heap o number f k g n class) (same_words.fields o number f k g n class) (λ l. (l o number f k g n class refl refl).0);
       statics = λ number f g n. (let v = facts.apart.there number f g n in at (KindKeeps later more f.kind) (StaticAt f.index) (v.0, v.1, v.2) (same_words.statics number f g n) (λ l. (l number f g n refl).0));
       arrays = λ o number f k g n class.
-          at (PlaceStores after (value_word o.reference f.index) (own.owned number) f.kind) (ValueOf o.reference f.index) (o, k, refl, field_there o number f k g n class) (same_words.arrays o number f k g n class) (λ l. (l o number f k g n class refl refl).1);
+          at (PlaceStores after (value_word o.reference f.index) (own.owned number) f.kind) (ValueOf o.reference f.index) (o, k, refl, has_field heap o number f k g n class) (same_words.arrays o number f k g n class) (λ l. (l o number f k g n class refl refl).1);
       static_arrays = λ number f g n. (let v = facts.apart.there number f g n in at (PlaceStores after f.index false f.kind) (StaticAt f.index) (v.0, v.1, v.2) (same_words.static_arrays number f g n) (λ l. (l number f g n refl).1));
       stored = arrays_are;
     }
@@ -172,14 +164,10 @@ module _ (change : PlaceChange) where
           (let one : g ≡ f = same_info other g there (one_static_field c.program other at.number g f is_program there at.there is e index) in
           subst (λ (x : FieldInfo). KindKeeps later more x.kind n × PlaceStores after x.index false x.kind n) (sym one) ((left f at).0, (left f at).2 e)))
       by_flag false e =
-          let holder = at.holder e in
-          let from = (is_program.fields at.number f at.there).class.0 in
-          let object = holder.2.0 in
-          let there : Contains objects object = holder.2.1 in
-          let of_class : object.class ≡ f.class = holder.2.3 ∙ files_alone holder.1 f.class from holder.3 in
-          stored (value_word at.reference f.index) n (ValueOf at.reference f.index) (object, there, holder.2.2, field_there object at.number f there at.there e of_class) refl (λ o other g l there_too is class same index.
-          (let one : o ≡ object = same_object c.program objects (slice_index s.words NEXT_FREE_WORD) facts.apart o object l there (same ∙ sym holder.2.2) in
-          let classes : g.class ≡ f.class = sym class ∙ (ap (λ (x : Object). x.class) one ∙ of_class) in
+          let holder = holder_of heap at.number f at.reference at.there e (at.holder e) in
+          stored (value_word at.reference f.index) n (ValueOf at.reference f.index) holder.there refl (λ o other g l there_too is class same index.
+          (let one : o ≡ holder.object = same_object c.program objects (slice_index s.words NEXT_FREE_WORD) facts.apart o holder.object l holder.known (same ∙ sym holder.is) in
+          let classes : g.class ≡ f.class = sym class ∙ (ap (λ (x : Object). x.class) one ∙ holder.of_class) in
           let number : other ≡ at.number = one_instance_field c.program other at.number g f is_program there_too at.there classes is e index in
           let info : g ≡ f = same_info other g there_too number in
           subst (λ (r : ℕ). KindKeeps later more g.kind n × PlaceStores after (value_word r g.index) (own.owned other) g.kind n) (sym same)

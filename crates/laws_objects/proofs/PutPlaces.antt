@@ -28,11 +28,7 @@ by_append (x ∷ xs) ys n e = by_test (x == n) refl e (by_append xs ys n)
   where
     by_test : (b : Bool) → (x == n) ≡ b → (b || has_number (xs ++ ys) n) ≡ true → (has_number (xs ++ ys) n ≡ true → (has_number xs n ≡ true) ⊎ (has_number ys n ≡ true)) → (has_number (x ∷ xs) n ≡ true) ⊎ (has_number ys n ≡ true)
     by_test true t e more = inl (first_true (x == n) (has_number xs n) t)
-    by_test false t e more = further (more e)
-      where
-        further : (has_number xs n ≡ true) ⊎ (has_number ys n ≡ true) → (has_number (x ∷ xs) n ≡ true) ⊎ (has_number ys n ≡ true)
-        further (inl h) = inl (second_true (x == n) (has_number xs n) h)
-        further (inr h) = inr h
+    by_test false t e more = elim (more e) [ inl h ↦ inl (second_true (x == n) (has_number xs n) h) | inr h ↦ inr h ]
 
 by_fall : (b : Bool) (next n : ℕ) → has_number (if b then next ∷ [] else []) n ≡ true → n ≡ next
 by_fall true next n e = by_test (next == n) refl e
@@ -67,7 +63,10 @@ module _ (c : MarkedProgram) (marked : IsMarked c) (owning : Owning) (owns : Are
     edge_plain i insn e edge op = false_from_ne_true (puts_owned owning.owned other.op next) (λ puts. by_new (stores_new mi j m other next u at puts))
       where
         by_new : StoresNew m j other.pc → ⊥
-        by_new s = by_side (by_append (branches_to insn.op) (if falls_through insn.op then insn.next ∷ [] else []) other.pc edge)
+        by_new s = elim (by_append (branches_to insn.op) (if falls_through insn.op then insn.next ∷ [] else []) other.pc edge) [
+          | inl h ↦ (let bad : true ≡ false = sym (first_true (list_any (λ (x : Insn). has_number (branches_to x.op) other.pc) m.code) (list_any (λ (q : Row). q.handler == other.pc) m.rows) (in_code m.code i insn (λ (x : Insn). has_number (branches_to x.op) other.pc) e h)) ∙ s.only in cc)
+          | inr h ↦ by_next (follows m i insn laid e) (by_fall (falls_through insn.op) insn.next other.pc h)
+        ]
           where
             by_next : ((x : Insn) × (slice_get m.code (suc i) ≡ Some x) × (x.pc ≡ insn.next)) ⊎ ((suc i ≡ length m.code) × (insn.next ≡ length laid.bytes)) → other.pc ≡ insn.next → ⊥
             by_next (inl x) same =
@@ -76,11 +75,6 @@ module _ (c : MarkedProgram) (marked : IsMarked c) (owning : Owning) (owns : Are
                 let one : s.insn ≡ insn = same_some (sym s.is ∙ (ap (slice_get m.code) before ∙ e)) in
                 (let bad : false ≡ true = sym op ∙ (ap (λ (x : Insn). is_newarray x.op) (sym one) ∙ ap is_newarray s.makes) in cc)
             by_next (inr x) same = let below = (short m j other laid at.in_code).0 in omega (arith, below, same, x.1)
-
-            by_side : (has_number (branches_to insn.op) other.pc ≡ true) ⊎ (has_number (if falls_through insn.op then insn.next ∷ [] else []) other.pc ≡ true) → ⊥
-            by_side (inl h) =
-                (let bad : true ≡ false = sym (first_true (list_any (λ (x : Insn). has_number (branches_to x.op) other.pc) m.code) (list_any (λ (q : Row). q.handler == other.pc) m.rows) (in_code m.code i insn (λ (x : Insn). has_number (branches_to x.op) other.pc) e h)) ∙ s.only in cc)
-            by_side (inr h) = by_next (follows m i insn laid e) (by_fall (falls_through insn.op) insn.next other.pc h)
 
     -- at a handler
     pub handler_plain : (pc class : ℕ) (r : Row) → handler_of pc class m.rows ≡ Some r → other.pc ≡ r.handler → puts_owned owning.owned other.op next ≡ false
@@ -96,20 +90,17 @@ module _ (c : MarkedProgram) (marked : IsMarked c) (owning : Owning) (owns : Are
   -- what follows an instruction may store what that makes
   pub next_puts : (mi i : ℕ) (m : MethodInfo) (insn : Insn) → slice_get c.program.methods mi ≡ Some m → slice_get m.code i ≡ Some insn
       → (puts : Bool) × ((j : ℕ) (other : Insn) (next : Target) (u : TagShape) → IsAt c.program (tags_of c) mi j m other next u → other.pc ≡ insn.next → puts_owned owning.owned other.op next ≡ puts)
-  next_puts mi i m insn there e = by_next (follows m i insn whole e)
+  next_puts mi i m insn there e = elim (follows m i insn whole e) [
+    | inl x ↦ let target = have_targets c.program mi (suc i) m x.0 marked.checked.program there x.1 in (
+      puts_owned owning.owned x.0.op target.0,
+      λ j other next u at same.
+          (let number : j ≡ suc i = one_number m j (suc i) other x.0 whole at.in_code x.1 (same ∙ sym x.2) in
+          let one : other ≡ x.0 = same_some (sym at.in_code ∙ (ap (slice_get m.code) number ∙ x.1)) in
+          let names : next ≡ target.0 = same_some (sym at.names ∙ (ap (slice_get m.targets) number ∙ target.1)) in
+          ap (λ (y : Insn). puts_owned owning.owned y.op next) one ∙ ap (puts_owned owning.owned x.0.op) names),
+    )
+    | inr x ↦ (false, λ j other next u at same. absurd (let below = (short m j other whole at.in_code).0 in omega (arith, below, same, x.1)))
+  ]
     where
       whole : IsLaidOut m
       whole = (method_at c marked mi m there).holds.laid
-
-      by_next : ((x : Insn) × (slice_get m.code (suc i) ≡ Some x) × (x.pc ≡ insn.next)) ⊎ ((suc i ≡ length m.code) × (insn.next ≡ length whole.bytes))
-          → (puts : Bool) × ((j : ℕ) (other : Insn) (next : Target) (u : TagShape) → IsAt c.program (tags_of c) mi j m other next u → other.pc ≡ insn.next → puts_owned owning.owned other.op next ≡ puts)
-      by_next (inl x) =
-          let target = have_targets c.program mi (suc i) m x.0 marked.checked.program there x.1 in (
-            puts_owned owning.owned x.0.op target.0,
-            λ j other next u at same.
-                (let number : j ≡ suc i = one_number m j (suc i) other x.0 whole at.in_code x.1 (same ∙ sym x.2) in
-                let one : other ≡ x.0 = same_some (sym at.in_code ∙ (ap (slice_get m.code) number ∙ x.1)) in
-                let names : next ≡ target.0 = same_some (sym at.names ∙ (ap (slice_get m.targets) number ∙ target.1)) in
-                ap (λ (y : Insn). puts_owned owning.owned y.op next) one ∙ ap (puts_owned owning.owned x.0.op) names),
-          )
-      by_next (inr x) = (false, λ j other next u at same. absurd (let below = (short m j other whole at.in_code).0 in omega (arith, below, same, x.1)))

@@ -1,9 +1,9 @@
 -- An array is stored in an owned field: frames and threads that do not have it stand as before.
-use Rattle.std.proofs.Common.{◌≡◌, ◌≢◌, ℕ, suc, ◌-◌, ◌<◌, ◌⊎◌, inl, inr, Bool, true, false, List, [], ◌∷◌, length, drop, Option, Some, None, refl, sym, ap, ◌∙◌, subst, arith, ◌==◌}
+use Rattle.std.proofs.Common.{◌≡◌, ◌≢◌, ℕ, suc, ◌-◌, ◌<◌, inl, inr, Bool, true, false, List, [], ◌∷◌, length, drop, Option, Some, None, refl, sym, ap, ◌∙◌, subst, arith, ◌==◌}
 use Rattle.std.proofs.lemmas.Bool.{ne_eqb}
 use Rattle.lists.proofs.ListLaws.{same_some}
 use Rattle.jvm_types.specs.declared.{program.MethodInfo.MethodInfo, typing.VType.VType}
-use Rattle.checked_program.specs.{MarkedProgram.MarkedProgram, declared.tag.Tag.{Tag, TheVariants.This}}
+use Rattle.checked_program.specs.{MarkedProgram.MarkedProgram, declared.tag.Tag.Tag}
 use Rattle.machine_types.specs.Construction.{puts_owned, builds, makes_frozen, if_so, SlotByType, OwnSlot, SlotIs, SlotsAre, StackWith, StackIs, BuilderTurn, Runs, WaitsFor, Throws, FreshAtCall, IsFresh, ReceiverIs, SlotOf, IsNoStored, IsNoStoredLocal, IsArraySlot, SlotsFrom, ArraysIn}
 use Rattle.machine_types.specs.Construction.{made_world, turn_by}
 use Rattle.machine_types.specs.{Elision.put_back, Frames.pushed, OwnedPlaces.{Stores, with_stored, IsStoredAt, IsStoredNowhere}, Standing.{Operands, Thrown, row_at}, Structure.operands_in, Threads.{Frame, Attempt, Thread}}
@@ -63,11 +63,10 @@ module _ (stores : Stores) (new : NewArray stores) where
 
     clear_slot : (own : Bool) (t : VType) (g : Tag) (v : ℕ) → SlotIs Apart Fresh own young receiver t g v → IsSure Fresh t → Apart v
     clear_slot false t g v h s = clear_type t v h s
-    clear_slot true t g v h s = by_tag (not_this g)
-      where
-        by_tag : (g ≡ This) ⊎ (g ≢ This) → Apart v
-        by_tag (inl e) = let same : v ≡ receiver = subst (λ (x : Tag). OwnSlot Apart Fresh young receiver t x v) e h in subst Apart (sym same) receiver_apart
-        by_tag (inr n) = clear_type t v (plainly Apart Fresh young receiver t g v n h).1 s
+    clear_slot true t g v h s = elim (not_this g) [
+      | inl e ↦ let same : v ≡ receiver = subst (λ (x : Tag). OwnSlot Apart Fresh young receiver t x v) e h in subst Apart (sym same) receiver_apart
+      | inr n ↦ clear_type t v (plainly Apart Fresh young receiver t g v n h).1 s
+    ]
 
     slot_on : ((q v : ℕ) → Fresh q v → Apart v) → (own : Bool) (t : VType) (g : Tag) (v : ℕ) → SlotIs Apart Fresh own young receiver t g v → IsNoStored stores t v → IsNoStored after t v
     slot_on fresh own types.Int g v s h = tt

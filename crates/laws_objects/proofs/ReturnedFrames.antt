@@ -1,8 +1,8 @@
 -- A return: the caller goes on behind its call. Where an `<init>` of a frozen class returns, its object is finished.
-use Rattle.std.proofs.Common.{◌≡◌, ◌≢◌, ℕ, zero, suc, ◌+◌, ◌⊎◌, inl, inr, Bool, true, false, not, ◌&&◌, List, [], ◌∷◌, ◌++◌, length, map, drop, Option, Some, None, refl, sym, ap, ◌∙◌, subst, arith, ◌==◌, slice_get, slice_index_or}
+use Rattle.std.proofs.Common.{◌≡◌, ◌≢◌, ℕ, zero, suc, ◌+◌, inl, inr, Bool, true, false, not, ◌&&◌, List, [], ◌∷◌, ◌++◌, length, map, drop, Option, Some, None, refl, sym, ap, ◌∙◌, subst, arith, ◌==◌, slice_get, slice_index_or}
 use Rattle.std.{specs.{List.AllByRecursion, Option.{option_map, option_to_list}}, proofs.lemmas.Bool.{or_parts, eq-eqb, eqb-true, ne_eqb}}
 use Rattle.lists.proofs.{ListLaws.same_some, TestLaws.is_true}
-use Rattle.jvm_types.specs.{CodeTable.{type_of, arguments, is_init, result_of, value_of, stack_after, locals_after, row}, Members.is_static, Numbers.has_number, Types.{TypeFrame, is_below}}
+use Rattle.jvm_types.specs.{CodeTable.{type_of, arguments, is_init, result_of, value_of, stack_after, locals_after, row}, Numbers.has_number, Types.{TypeFrame, is_below}}
 use Rattle.jvm_types.specs.{Verifying.{suits, some_taken, new_class, started, initialised, after_start, frame_after, edges, is_return}, declared.{code.Op.Op, op_row.Given.Given}}
 use Rattle.jvm_types.specs.declared.{op_row.{Given.TheVariants.Fresh as Anew, OpRow.OpRow, Want.{Want, TheVariants.{AnInt, AnObject, ToStart}}}, program.Kind.Kind}
 use Rattle.jvm_types.specs.declared.{code.Insn.Insn, program.{MethodInfo.MethodInfo, Target.Target}, typing.VType.VType}
@@ -306,7 +306,10 @@ module _ (lawful : LawfulBuilding) (resuming : Resuming lawful) where
 
     -- the method is such an `<init>`
     called_builds : builds frozen called ≡ true
-    called_builds = by_kind call.by
+    called_builds = elim call.by [
+      | inl s ↦ by_init (is_init called) refl (takes_are (arguments called ++ receiver_want (is_init called) called.class ∷ []) s.1)
+      | inr s ↦ absurd (nothing (subst (AllByRecursion StartsNone) (sym (takes_are (arguments called) s.1)) (arguments_start called)))
+    ]
       where
         takes_are : (ws : List Want) → call.takes ≡ ws → r.takes ≡ ws
         takes_are ws e = ap (λ (x : OpRow). x.takes) call.is ∙ e
@@ -319,10 +322,6 @@ module _ (lawful : LawfulBuilding) (resuming : Resuming lawful) where
         by_init true e takes =
             let class : y.class ≡ called.class = started_class k.method.class y.pc y.class called.class (arguments called) k.types.stack (arguments_start called) (ap (λ (ws : List Want). started k.method.class ws k.types.stack) (sym takes) ∙ y.is) in
             ap (λ (b : Bool). b && frozen called.class) e ∙ sym (ap frozen class) ∙ sym (class_frozen frozen (new_class k.method.code k.method.targets y.pc) y.class y.of_class) ∙ y.young_is
-
-        by_kind : ((is_static called.flags ≡ false) × (call.takes ≡ arguments called ++ receiver_want (is_init called) called.class ∷ [])) ⊎ ((is_static called.flags ≡ true) × (call.takes ≡ arguments called)) → builds frozen called ≡ true
-        by_kind (inl s) = by_init (is_init called) refl (takes_are (arguments called ++ receiver_want (is_init called) called.class ∷ []) s.1)
-        by_kind (inr s) = absurd (nothing (subst (AllByRecursion StartsNone) (sym (takes_are (arguments called) s.1)) (arguments_start called)))
 
     is_begun : w receiver ≡ Some (builder t (suc (length gs)) Begun)
     is_begun = subst (λ (b : Bool). ReceiverIs w next t (suc (length gs)) b receiver) called_builds stands

@@ -2,7 +2,7 @@
 use Rattle.std.proofs.Common.{◌≡◌, ℕ, zero, suc, ◌+◌, ◌≤◌, inl, inr, Bool, true, false, ◌&&◌, ◌||◌, List, [], ◌∷◌, ◌++◌, length, Option, Some, None, refl, ap, sym, subst, ◌∙◌, arith, ◌==◌, nat_lt, codes, bytes_eq, slice_get, option_map, if◌then◌else◌, IsTrue}
 use Rattle.std.{specs.List.AllByRecursion, proofs.lemmas.Slice.Eq.bytes_eq-Decides}
 use Rattle.lists.proofs.{ListLaws.same_some, TestLaws.{both_are_true, second_true, first_true}}
-use Rattle.jvm_types.specs.{ClassNames.file_class, CodeTable.is_init, Members.{is_static, is_class_init_name}, Numbers.has_number}
+use Rattle.jvm_types.specs.{ClassNames.file_class, CodeTable.is_init, Members.is_class_init_name, Numbers.has_number}
 use Rattle.jvm_types.specs.declared.{outcome.Thrown.TheVariants.StackOverflowError, program.{Kind.Kind, MethodInfo.MethodInfo, Program.Program}}
 use Rattle.laws_programs.specs.EntryLaws.{receiver_count}
 use Rattle.checked_program.{specs.MarkedProgram.checked_part, proofs.CheckedPlaces.called_fit_all}

@@ -67,6 +67,7 @@ held_of m held l = by_held (held_at held m) refl
 module _ (c : MarkedProgram) (marked : IsMarked c) where
   shown_held : (m : ℕ) (f : Frame) (fs : List Frame) (held : List Held) (stands : Stands c phases.Run (f ∷ fs) held None) → 0 < count_in m stands.show.0 → (h : Held) × (held_at held m ≡ Some h)
   shown_held m f fs held stands own = held_of m held (omega (arith, stands.depths m, (subst (λ (ns : List ℕ). 0 < count_in m ns) (sym stands.show.2) (front_counted m stands.show.0 stands.show.1 own))))
+
   pub holds_receiver : (f : Frame) (fs : List Frame) (held : List Held) (k : Standing c f) → Stands c phases.Run (f ∷ fs) held None → (list_any is_this k.tags.held ≡ true) ⊎ (locks_this k.method ≡ true)
       → (h : Held) × (held_at held f.receiver ≡ Some h)
   holds_receiver f fs held k stands shows = shown_held f.receiver f fs held stands (subst (λ (ns : List ℕ). 0 < count_in f.receiver ns) (sym top.shown_are) (entries_counted c.program top.choice top.stands.method top.stands.tags f shows_there))

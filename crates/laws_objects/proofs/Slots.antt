@@ -110,11 +110,10 @@ module _ (Old More : ℕ → Type 0) (Fresh Later : ℕ → ℕ → Type 0) (you
   pub slot_by : (own : Bool) (t u : VType) (g : Tag) (v : ℕ) → (t ≢ types.This → u ≢ types.This) → (SlotByType Old Fresh young t v → SlotByType More Later young u v)
       → SlotIs Old Fresh own young receiver t g v → SlotIs More Later own young receiver u g v
   slot_by false t u g v n f h = f h
-  slot_by true t u g v n f h = by_tag (not_this g)
-    where
-      by_tag : (g ≡ This) ⊎ (g ≢ This) → OwnSlot More Later young receiver u g v
-      by_tag (inl e) = rw e (subst (λ (x : Tag). OwnSlot Old Fresh young receiver t x v) e h)
-      by_tag (inr m) = let p = plainly Old Fresh young receiver t g v m h in plain_slot More Later young receiver u g v m (n p.0) (f p.1)
+  slot_by true t u g v n f h = elim (not_this g) [
+    | inl e ↦ rw e (subst (λ (x : Tag). OwnSlot Old Fresh young receiver t x v) e h)
+    | inr m ↦ let p = plainly Old Fresh young receiver t g v m h in plain_slot More Later young receiver u g v m (n p.0) (f p.1)
+  ]
 
 module _ (Old More : ℕ → Type 0) (Fresh Later : ℕ → ℕ → Type 0) (old : (v : ℕ) → Old v → More v) (young : ℕ → Bool) (fresh : (q v : ℕ) → young q ≡ true → Fresh q v → Later q v) where
   new_slot : (b : Bool) (q v : ℕ) → young q ≡ b → if_so b (Fresh q v) (Old v) → if_so b (Later q v) (More v)
@@ -152,13 +151,11 @@ module _ (Old : ℕ → Type 0) (null : Old 0) (Fresh : ℕ → ℕ → Type 0) 
   type_edge t u v b h = absurd (cc)
 
   own_edge : (t u : VType) (g k : Tag) (v : ℕ) → is_below t u ≡ true → IsTagBelow g k → (g ≡ This → k ≡ This) → OwnSlot Old Fresh young receiver t g v → OwnSlot Old Fresh young receiver u k v
-  own_edge t u g k v b kept keeps h = by_tag (not_this g)
-    where
-      by_tag : (g ≡ This) ⊎ (g ≢ This) → OwnSlot Old Fresh young receiver u k v
-      by_tag (inl e) = rw (keeps e) (subst (λ (x : Tag). OwnSlot Old Fresh young receiver t x v) e h)
-      by_tag (inr n) =
-          let p = plainly Old Fresh young receiver t g v n h in
-          plain_slot Old Fresh young receiver u k v (λ e. n ((subst (λ (x : Tag). IsTagBelow g x) e kept))) (other_above t u b p.0) (type_edge t u v b p.1)
+  own_edge t u g k v b kept keeps h = elim (not_this g) [
+    | inl e ↦ rw (keeps e) (subst (λ (x : Tag). OwnSlot Old Fresh young receiver t x v) e h)
+    | inr n ↦ let p = plainly Old Fresh young receiver t g v n h in
+        plain_slot Old Fresh young receiver u k v (λ e. n ((subst (λ (x : Tag). IsTagBelow g x) e kept))) (other_above t u b p.0) (type_edge t u v b p.1)
+  ]
 
   slot_edge : (o : Bool) (t u : VType) (g k : Tag) (v : ℕ) → is_below t u ≡ true → IsTagBelow g k → (o ≡ true → g ≡ This → k ≡ This) → SlotIs Old Fresh o young receiver t g v → SlotIs Old Fresh o young receiver u k v
   slot_edge true t u g k v b kept keeps h = own_edge t u g k v b kept (keeps refl) h
@@ -196,16 +193,15 @@ module _ (Old : ℕ → Type 0) (null : Old 0) (Fresh : ℕ → ℕ → Type 0) 
       by_test false e = h
 
   own_started : (o : VType) (class : ℕ) (t : VType) (g : Tag) (v : ℕ) → ((o ≡ types.This) ⊎ StartFine o) → OwnSlot Old Fresh young receiver t g v → OwnSlot Old Fresh young receiver (if same_type o t then types.Ref class else t) g v
-  own_started o class t g v fine h = by_tag (not_this g)
+  own_started o class t g v fine h = elim (not_this g) [
+    | inl e ↦ rw e (subst (λ (x : Tag). OwnSlot Old Fresh young receiver t x v) e h)
+    | inr n ↦ start (same_type o t) refl n (plainly Old Fresh young receiver t g v n h) fine
+  ]
     where
       start : (b : Bool) → same_type o t ≡ b → g ≢ This → (t ≢ types.This) × SlotByType Old Fresh young t v → (o ≡ types.This) ⊎ StartFine o → OwnSlot Old Fresh young receiver (if b then types.Ref class else t) g v
       start true e n p (inl is) = absurd (p.0 (sym (same_is o t e) ∙ is))
       start true e n p (inr f) = plain_slot Old Fresh young receiver (types.Ref class) g v n (λ x. cc) (f v (subst (λ (x : VType). SlotByType Old Fresh young x v) (sym (same_is o t e)) p.1))
       start false e n p f = plain_slot Old Fresh young receiver t g v n p.0 p.1
-
-      by_tag : (g ≡ This) ⊎ (g ≢ This) → OwnSlot Old Fresh young receiver (if same_type o t then types.Ref class else t) g v
-      by_tag (inl e) = rw e (subst (λ (x : Tag). OwnSlot Old Fresh young receiver t x v) e h)
-      by_tag (inr n) = start (same_type o t) refl n (plainly Old Fresh young receiver t g v n h) fine
 
   abbrev pub StartOk : Bool → VType → Type 0
   StartOk true o = (o ≡ types.This) ⊎ StartFine o

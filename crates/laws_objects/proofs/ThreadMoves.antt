@@ -1,6 +1,6 @@
 -- A thread that has moved keeps what construction says of it, in and outside of an attempt.
 use Rattle.std.proofs.Common.{◌≡◌, ◌≢◌, ℕ, ◌-◌, ◌<◌, ◌≤◌, ◌⊎◌, inl, inr, Bool, true, false, cond, List, [], ◌∷◌, length, drop, Option, Some, None, refl, sym, ap, ◌∙◌, subst, arith, ◌==◌, nat_lt, Contains}
-use Rattle.std.{specs.List.AllByRecursion, proofs.lemmas.Bool.{eqb-true, eqb-false}}
+use Rattle.std.{specs.List.AllByRecursion, proofs.lemmas.Bool.{cases_Bool, eqb-true, eqb-false}}
 use Rattle.jvm_types.specs.ProgramInvariant.{words_of}
 use Rattle.laws_programs.proofs.LocalGoing.{at_index}
 use Rattle.checked_program.specs.MarkedProgram.{MarkedProgram}
@@ -12,7 +12,7 @@ use Rattle.laws_threads.{specs.{EntryFrames.{frames_in, KeepsEntry}, StructureLa
 use Rattle.laws_states.proofs.Lists.{contained_got, contains_first, contains_more}
 use Rattle.laws_objects.proofs.{Buildings.{Building, in_world, in_later, with_stores, FramesIn, PhaseIn, TriesIn, AttemptIn, ThreadIn}, CountedPhases.PhaseFits}
 use Rattle.laws_objects.proofs.{KeptFrames.{KeepsAt, phase_frames_kept, phase_kept, attempt_kept}, Moves.Steps, Onwards.OnwardKeeps, Views.{IsOwnIn, IsNoneOf, own_or_not, known_on}}
-use Rattle.laws_objects.proofs.WorldChanges.{none_some, goes_same, goes_both, world_same, KeepsLost, lost_same}
+use Rattle.laws_objects.proofs.WorldChanges.{none_some, goes_same, goes_both, world_same, KeepsLost}
 use Rattle.jvm_types.specs.declared.outcome.End.TheVariants as ends
 use Rattle.machine_types.specs.declared.phase.Phase.TheVariants as phases
 
@@ -90,10 +90,6 @@ pub from_same : (o : Option Attempt) → AttemptFrom o o
 from_same None = tt
 from_same (Some a) = (refl, refl, refl)
 
-pub from_none : (o p : Option Attempt) → o ≡ None → p ≡ None → AttemptFrom o p
-from_none None None e f = tt
-from_none o p e f = absurd (cc)
-
 -- the frames below its section are the same
 abbrev pub EntryKept : Option Attempt → Option Attempt → (fs gs : List Frame) → Type 0
 EntryKept (Some a) (Some b) fs gs = put_back a gs ≡ put_back a fs
@@ -140,7 +136,7 @@ module _ (w now : World) (t : ℕ) (o : Option Attempt) (view : IsViewOf now w t
 
   -- as long as the attempt goes on
   view_on : (later : World) (first next : ℕ) (b : Attempt) → GoesOn now later next next t 0 → IsWorld later first next → IsViewOf later w t (Some b)
-  view_on later first next b goes is = record { same = λ e. absurd (cc); others = λ v n. by_was v n (w v) refl; own = λ v d x e m f. by_thread v d x e m f (x.thread == t) refl }
+  view_on later first next b goes is = record { same = λ e. absurd (cc); others = λ v n. by_was v n (w v) refl; own = λ v d x e m f. elim (cases_Bool (x.thread == t)) [ inl s ↦ eqb-true x.thread t s | inr s ↦ view.own v d x e m (goes.no_more v x (eqb-false x.thread t s) f) ] }
     where
       by_later : (v : ℕ) → now v ≡ None → (o : Option Builder) → later v ≡ o → later v ≡ None
       by_later v e None f = f
@@ -149,10 +145,6 @@ module _ (w now : World) (t : ℕ) (o : Option Attempt) (view : IsViewOf now w t
       by_was : (v : ℕ) → ((d : Builder) → w v ≡ Some d → d.thread ≢ t) → (o : Option Builder) → w v ≡ o → later v ≡ w v
       by_was v n None e = by_later v (view.others v n ∙ e) (later v) refl ∙ sym e
       by_was v n (Some d) e = goes.others v d (n d e) (view.others v n ∙ e) ∙ sym e
-
-      by_thread : (v : ℕ) (d x : Builder) → w v ≡ Some d → d.thread ≡ t → later v ≡ Some x → (y : Bool) → (x.thread == t) ≡ y → x.thread ≡ t
-      by_thread v d x e m f true s = eqb-true x.thread t s
-      by_thread v d x e m f false s = view.own v d x e m (goes.no_more v x (eqb-false x.thread t s) f)
 
   view_same : o ≡ None → now ≡ w
   view_same e = λ i. λ v. view.same e v i
@@ -168,34 +160,10 @@ module _ (building : Building) (was : Phase) (x : Thread) (k : ThreadIn building
   pub now_world : IsWorld k.now (words_of c.program) next
   now_world = k.now_world is_world
 
-  -- outside an attempt; more words may be taken then
-  pub outside : (after : Stores) (more : ℕ) (now : Phase) (y : Thread) → x.attempt ≡ None → y.attempt ≡ None → AreKnown w next t y.held → Sees (in_world (with_stores building after) k.now) more now y → Moved (with_stores building after) k.now more now y
-  outside after more now y none still held s = by_world w (view_same w k.now t x.attempt k.now_is none) is_world
-    where
-      by_world : (v : World) → k.now ≡ v → IsWorld v (words_of c.program) next → Moved (with_stores building after) k.now more now y
-      by_world v e is =
-          let back : k.now ≡ w = view_same w k.now t x.attempt k.now_is none in
-          let goes : GoesOn w s.later next more t 0 = subst (λ (z : World). GoesOn z s.later next more t 0) back s.goes in
-          record {
-            later = s.later;
-            goes = goes;
-            world = λ z. s.world (subst (λ (u : World). IsWorld u (words_of c.program) next) (sym back) z);
-            keeps = record {
-              now = s.later;
-              now_is = same_view s.later t y.attempt;
-              now_world = λ z. z;
-              frames = s.fits.0;
-              phase = s.fits.1;
-              held = λ h there. known_on w s.later next more t t goes h.monitor (of_all (λ (h : Held). IsOwnOrFinished w next t h.monitor) y.held held h there);
-              attempt = subst (TriesIn (in_later (with_stores building after) s.later more) y.frames) (sym still) tt;
-            };
-            lost = λ v b item e f. (s.lost v b item f, s.lost v b item f);
-          }
-
-  -- it is in no attempt then, or no longer
-  pub in_none : (after : Stores) (now : Phase) (y : Thread) → y.attempt ≡ None → AreKnown w next t y.held → (s : Sees (in_world (with_stores building after) k.now) next now y) → MovedTo (with_stores building after) k.now next now y s.later
-  in_none after now y f held s =
-      let goes = goes_both w k.now s.later next next next t (view_goes w k.now t x.attempt k.now_is next) s.goes in
+  -- it is in no attempt then, or no longer; more words may be taken then
+  pub in_none : (after : Stores) (more : ℕ) (now : Phase) (y : Thread) → y.attempt ≡ None → AreKnown w next t y.held → (s : Sees (in_world (with_stores building after) k.now) more now y) → MovedTo (with_stores building after) k.now more now y s.later
+  in_none after more now y f held s =
+      let goes = goes_both w k.now s.later next next more t (view_goes w k.now t x.attempt k.now_is next) s.goes in
       record {
         moves = record {
           later = s.later;
@@ -207,8 +175,8 @@ module _ (building : Building) (was : Phase) (x : Thread) (k : ThreadIn building
             now_world = λ z. z;
             frames = s.fits.0;
             phase = s.fits.1;
-            held = λ h there. known_on w s.later next next t t goes h.monitor (of_all (λ (h : Held). IsOwnOrFinished w next t h.monitor) y.held held h there);
-            attempt = subst (TriesIn (in_world (with_stores building after) s.later) y.frames) (sym f) tt;
+            held = λ h there. known_on w s.later next more t t goes h.monitor (of_all (λ (h : Held). IsOwnOrFinished w next t h.monitor) y.held held h there);
+            attempt = subst (TriesIn (in_later (with_stores building after) s.later more) y.frames) (sym f) tt;
           };
           lost = λ v b item e h. (s.lost v b item h, s.lost v b item h);
         };
@@ -220,9 +188,7 @@ module _ (building : Building) (was : Phase) (x : Thread) (k : ThreadIn building
   moved_on now y held from entry s = by_both x.attempt refl y.attempt refl from entry
     where
       by_both : (o : Option Attempt) → x.attempt ≡ o → (p : Option Attempt) → y.attempt ≡ p → AttemptFrom o p → EntryKept o p x.frames y.frames → Moved building k.now next now y
-      by_both None e None f from entry = outside owning.stores next now y e f held s
       by_both None e (Some b) f from entry = absurd from
-      by_both (Some a) e None f from entry = (in_none owning.stores now y f held s).moves
       by_both (Some a) e (Some b) f from entry =
           let kept : AttemptIn building x.frames a = subst (TriesIn building x.frames) e k.attempt in
           let same : put_back b y.frames ≡ put_back a y.frames = λ i. from.2 i ∷ drop (length y.frames - from.1 i) y.frames in
@@ -241,6 +207,7 @@ module _ (building : Building) (was : Phase) (x : Thread) (k : ThreadIn building
             };
             lost = λ v d item e h. (e, s.lost v d item h);
           }
+      by_both o e None f from entry = (in_none owning.stores next now y f held s).moves
 
   -- an attempt fails
   pub failed : (a : Attempt) (y : Thread) → x.attempt ≡ Some a → y.frames ≡ put_back a x.frames → y.held ≡ x.held → y.attempt ≡ None → Moved building k.now next (phases.Enter a.monitor a.number) y
@@ -302,8 +269,8 @@ module _ (building : Building) (was : Phase) (x : Thread) (k : ThreadIn building
   runs_to after s fs o none held = by_limit (nat_lt s.counts.instructions s.cfg.steps)
     where
       by_limit : (left : Bool) → MovedTo (with_stores building after) k.now next (counted_by was (cond left phases.Run (phases.Ending ends.Steps))) (record s { frames = fs; phase = cond left phases.Run (phases.Ending ends.Steps) }) o.later
-      by_limit true = in_none after phases.Run (record s { frames = fs; phase = phases.Run }) none held (record { later = o.later; goes = o.goes; world = o.world (words_of c.program); lost = o.lost; fits = (o.keeps, tt) })
-      by_limit false = in_none after (counted_by was (phases.Ending ends.Steps)) (record s { frames = fs; phase = phases.Ending ends.Steps }) none held (record { later = o.later; goes = o.goes; world = o.world (words_of c.program); lost = o.lost; fits = (o.keeps, tt) })
+      by_limit true = in_none after next phases.Run (record s { frames = fs; phase = phases.Run }) none held (record { later = o.later; goes = o.goes; world = o.world (words_of c.program); lost = o.lost; fits = (o.keeps, tt) })
+      by_limit false = in_none after next (counted_by was (phases.Ending ends.Steps)) (record s { frames = fs; phase = phases.Ending ends.Steps }) none held (record { later = o.later; goes = o.goes; world = o.world (words_of c.program); lost = o.lost; fits = (o.keeps, tt) })
 
   pub onward_sees : (s : Thread) (o : Onward) → Steps k.now next t (λ z. OnwardKeeps (in_world building z) o) → Sees (in_world building k.now) next (counted_by was (goes_on s o).phase) (goes_on s o)
   onward_sees s (Running fs) o = runs_sees s fs o
@@ -329,13 +296,6 @@ module _ (building : Building) (was : Phase) (x : Thread) (k : ThreadIn building
           let there : a.base < length (frames_in o) = subst (λ (fs : List Frame). a.base < length fs) (goes_frames s o) (subst (λ (n : ℕ). n < length (goes_on s o).frames) from.1 high) in
           subst (λ (fs : List Frame). put_back a fs ≡ put_back a x.frames) (sym (goes_frames s o)) (keeps a e low there)
       entry p e q from low high = tt
-
-  -- ---- it changes its phase alone
-
-  pub phase_moves : (now : Phase) (y : Thread) → y.frames ≡ x.frames → y.attempt ≡ x.attempt → AreKnown w next t y.held → PhaseFits (in_world building k.now) x.frames now → Moved building k.now next now y
-  phase_moves now y frames attempt held fits =
-      moved_on now y held (subst (AttemptFrom x.attempt) (sym attempt) (from_same x.attempt)) (subst (λ (fs : List Frame). EntryKept x.attempt y.attempt x.frames fs) (sym frames) (entry_same x.attempt y.attempt x.frames))
-      (record { later = k.now; goes = goes_same k.now next next t (omega arith); world = λ z. z; lost = lost_same k.now; fits = subst (λ (fs : List Frame). PhaseFits (in_world building k.now) fs now) (sym frames) fits })
 
 -- ---- more words are taken meanwhile
 

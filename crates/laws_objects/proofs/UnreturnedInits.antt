@@ -49,11 +49,10 @@ module _ (building : Building) (h v : ℕ) where
 
   below_begun : (g : Frame) (fs : List Frame) → BelowIn building g fs → HasInit c frozen h v fs → w v ≡ Some (builder t h Begun)
   below_begun g [] keeps k = absurd (let e = k.there in cc)
-  below_begun g (f ∷ fs) keeps k = by_place (init_splits c frozen h v f fs k) (below_begun f fs keeps.1)
-    where
-      by_place : Splits c frozen h v f fs → (HasInit c frozen h v fs → w v ≡ Some (builder t h Begun)) → w v ≡ Some (builder t h Begun)
-      by_place (inl p) more = subst (λ (i : ℕ). w v ≡ Some (builder t i Begun)) p.0 (init_begun building (length fs) v (WaitsFor g.receiver keeps.0.begun) f keeps.0.keeps p.1.init p.1.young)
-      by_place (inr k) more = more k
+  below_begun g (f ∷ fs) keeps k = elim (init_splits c frozen h v f fs k) [
+    | inl p ↦ subst (λ (i : ℕ). w v ≡ Some (builder t i Begun)) p.0 (init_begun building (length fs) v (WaitsFor g.receiver keeps.0.begun) f keeps.0.keeps p.1.init p.1.young)
+    | inr k ↦ below_begun f fs keeps.1 k
+  ]
 
   frames_begun : (turn : BuilderTurn) (fs : List Frame) → FramesIn building turn fs → HasInit c frozen h v fs → w v ≡ Some (builder t h Begun)
   frames_begun turn [] keeps k = absurd (let e = k.there in cc)

@@ -1,5 +1,5 @@
 -- What is lost, or built by another thread, is in no slot of a thread that an instruction may use, and in no place.
-use Rattle.std.{proofs.Common.{◌≡◌, ◌≢◌, ◌⊎◌, inl, inr, ℕ, Bool, true, false, List, [], ◌∷◌, length, Some, None, refl, sym, ap, ◌∙◌, subst, arith}, specs.List.AllZip}
+use Rattle.std.{proofs.Common.{◌≡◌, ◌≢◌, inl, inr, ℕ, Bool, true, false, List, [], ◌∷◌, length, Some, None, refl, sym, ap, ◌∙◌, subst, arith}, specs.List.AllZip}
 use Rattle.jvm_types.specs.{ProgramInvariant.words_of, Types.TypeFrame, declared.{program.Kind.Kind, typing.VType.VType}}
 use Rattle.checked_program.specs.{MarkedProgram.{MarkedProgram, IsMarked}, declared.tag.Tag.{Tag, TheVariants.This}}
 use Rattle.machine_types.specs.Construction.{Owning, puts_owned, if_so, builds, makes_frozen, StackWith, SlotByType, OwnSlot, SlotIs, SlotsAre, Runs, IsFresh, ReceiverIs, FrameKeeps, KindKeeps, PlacesKeep}
@@ -57,14 +57,12 @@ module _ (now : World) (next t v : ℕ) (strange : IsStrange now t v) (null : Is
     type_other u word s = tt
 
     own_other : (ours : own ≡ true) (u : VType) (g : Tag) (word : ℕ) → OwnSlot (IsFinished now next) (IsFresh now t h Runs) young receiver u g word → IsOther v u word
-    own_other ours u g word s = by_tag (not_this g)
-      where
-        by_tag : (g ≡ This) ⊎ (g ≢ This) → IsOther v u word
-        by_tag (inl e) =
-            let mine : now receiver ≡ Some (builder t h Begun) = subst (λ (b : Bool). ReceiverIs now next t h b receiver) ours receives in
-            let same : word ≡ receiver = subst (λ (x : Tag). OwnSlot (IsFinished now next) (IsFresh now t h Runs) young receiver u x word) e s in
-            other_so u word (λ e. not_built h receiver Begun (λ z. cc) mine (sym same ∙ e))
-        by_tag (inr n) = type_other u word (plainly (IsFinished now next) (IsFresh now t h Runs) young receiver u g word n s).1
+    own_other ours u g word s = elim (not_this g) [
+      | inl e ↦ let mine : now receiver ≡ Some (builder t h Begun) = subst (λ (b : Bool). ReceiverIs now next t h b receiver) ours receives in
+          let same : word ≡ receiver = subst (λ (x : Tag). OwnSlot (IsFinished now next) (IsFresh now t h Runs) young receiver u x word) e s in
+          other_so u word (λ e. not_built h receiver Begun (λ z. cc) mine (sym same ∙ e))
+      | inr n ↦ type_other u word (plainly (IsFinished now next) (IsFresh now t h Runs) young receiver u g word n s).1
+    ]
 
     slot_other : (b : Bool) → own ≡ b → (u : VType) (g : Tag) (word : ℕ) → SlotIs (IsFinished now next) (IsFresh now t h Runs) b young receiver u g word → IsOther v u word
     slot_other true e u g word s = own_other e u g word s

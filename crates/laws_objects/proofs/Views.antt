@@ -1,6 +1,6 @@
 -- What a thread sees of the world, as another thread's event or one of its own changes it.
 use Rattle.std.proofs.Common.{◌≡◌, ◌≢◌, ℕ, ◌≤◌, ◌<◌, ◌⊎◌, inl, inr, Bool, true, false, Option, Some, None, refl, sym, ap, ◌∙◌, subst, arith, ◌==◌, if◌then◌else◌}
-use Rattle.std.proofs.lemmas.Bool.{eq-eqb, eqb-true, ne_eqb, eqb-false}
+use Rattle.std.proofs.lemmas.Bool.{cases_Bool, true_from_ne_false, eq-eqb, eqb-true, ne_eqb, eqb-false}
 use Rattle.jvm_types.specs.ProgramInvariant.{words_of}
 use Rattle.machine_types.specs.{Threads.{Attempt, Thread}, Worlds.{Lost, Builder, builder, World, IsFinished, IsOwnOrFinished, IsWorld, IsViewOf, GoesOn}}
 use Rattle.machine_types.specs.declared.phase.Phase.{Phase}
@@ -19,37 +19,29 @@ own_or_not w u v = by_was (w v) refl
   where
     by_was : (o : Option Builder) → w v ≡ o → IsOwnIn w u v ⊎ IsNoneOf w u v
     by_was None e = inr (λ b f. absurd (none_some (w v) b e f))
-    by_was (Some b) e = by_test (b.thread == u) refl
-      where
-        by_test : (x : Bool) → (b.thread == u) ≡ x → IsOwnIn w u v ⊎ IsNoneOf w u v
-        by_test true t = inl (b, e, eqb-true b.thread u t)
-        by_test false t = inr (λ d f s. eqb-false b.thread u t (let same : b ≡ d = cc in ap (λ (x : Builder). x.thread) same ∙ s))
+    by_was (Some b) e = elim (cases_Bool (b.thread == u)) [
+      | inl t ↦ inl (b, e, eqb-true b.thread u t)
+      | inr t ↦ inr (λ d f s. eqb-false b.thread u t (let same : b ≡ d = cc in ap (λ (x : Builder). x.thread) same ∙ s))
+    ]
 
 -- a number below the next word is known to a thread or another builds it
 pub known_on : (w later : World) (next more t u : ℕ) → GoesOn w later next more t 0 → (v : ℕ) → IsOwnOrFinished w next u v → IsOwnOrFinished later more u v
-known_on w later next more t u goes v k = ((let l = k.0 in let g = goes.grows in omega (arith, l, g)), λ b e. by_thread b e (b.thread == u) refl)
+known_on w later next more t u goes v k = ((let l = k.0 in let g = goes.grows in omega (arith, l, g)), λ b e. eqb-true b.thread u (true_from_ne_false (b.thread == u) (λ s. was b (eqb-false b.thread u s) e (w v) refl)))
   where
     was : (b : Builder) → b.thread ≢ u → later v ≡ Some b → (o : Option Builder) → w v ≡ o → ⊥
     was b n e None f = none_some (later v) b (goes.finished v (k.0, f)) e
-    was b n e (Some d) f = by_own (d.thread == t) refl
+    was b n e (Some d) f = elim (cases_Bool (d.thread == t)) [
+      | inl o ↦  -- its builder is t, and so u is; b is another's, who built it before
+          let before = goes.no_more v b (λ s. n (s ∙ sym (eqb-true d.thread t o) ∙ mine)) e in
+          let same : d ≡ b = cc in
+          n (sym (ap (λ (x : Builder). x.thread) same) ∙ mine)
+      | inr o ↦ let stays = goes.others v d (eqb-false d.thread t o) f in
+          let same : d ≡ b = cc in
+          n (sym (ap (λ (x : Builder). x.thread) same) ∙ mine)
+    ]
       where
         mine : d.thread ≡ u
         mine = k.1 d f
-
-        by_own : (x : Bool) → (d.thread == t) ≡ x → ⊥
-        by_own false o =
-            let stays = goes.others v d (eqb-false d.thread t o) f in
-            let same : d ≡ b = cc in
-            n (sym (ap (λ (x : Builder). x.thread) same) ∙ mine)
-        by_own true o =
-            -- its builder is t, and so u is; b is another's, who built it before
-            let before = goes.no_more v b (λ s. n (s ∙ sym (eqb-true d.thread t o) ∙ mine)) e in
-            let same : d ≡ b = cc in
-            n (sym (ap (λ (x : Builder). x.thread) same) ∙ mine)
-
-    by_thread : (b : Builder) → later v ≡ Some b → (x : Bool) → (b.thread == u) ≡ x → b.thread ≡ u
-    by_thread b e true t = eqb-true b.thread u t
-    by_thread b e false t = absurd (was b (eqb-false b.thread u t) e (w v) refl)
 
 pub finished_on : (w later : World) (next more t : ℕ) → GoesOn w later next more t 0 → (v : ℕ) → IsFinished w next v → IsFinished later more v
 finished_on w later next more t goes v k = ((let l = k.0 in let g = goes.grows in omega (arith, l, g)), goes.finished v k)

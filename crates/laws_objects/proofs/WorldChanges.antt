@@ -1,6 +1,6 @@
 -- What the changes of a world leave.
 use Rattle.std.proofs.Common.{◌≡◌, ◌≢◌, ℕ, ◌≤◌, ◌<◌, ◌⊎◌, inl, inr, Bool, true, false, ◌&&◌, Option, Some, None, refl, sym, ap, ◌∙◌, subst, arith, ◌==◌, if◌then◌else◌}
-use Rattle.std.proofs.lemmas.Bool.{eq-eqb, eqb-true, ne_eqb, eqb-false}
+use Rattle.std.proofs.lemmas.Bool.{cases_Bool, eq-eqb, eqb-true, ne_eqb, eqb-false, false_from_ne_true}
 use Rattle.machine_types.specs.Worlds.{Item, Header, Made, Begun, Unstored, Lost, Builder, builder, World, IsFinished, IsOwnOrFinished, IsWorld, finished, same_item, same_builder, lost_if, with_builder, GoesOn}
 
 item_same : (x y : Item) → same_item x y ≡ true → x ≡ y
@@ -26,11 +26,7 @@ pub builder_self : (k : Builder) → same_builder k k ≡ true
 builder_self k = rw (eq-eqb k.thread k.thread refl, eq-eqb k.height k.height refl, item_self k.item) refl
 
 builder_other : (j k : Builder) → j ≢ k → same_builder j k ≡ false
-builder_other j k n = by_test (same_builder j k) refl
-  where
-    by_test : (b : Bool) → same_builder j k ≡ b → same_builder j k ≡ false
-    by_test true e = absurd (n (builder_same j k e))
-    by_test false e = e
+builder_other j k n = false_from_ne_true (same_builder j k) (λ e. n (builder_same j k e))
 
 pub none_some : {A : Type 0} (o : Option A) (k : A) → o ≡ None → o ≡ Some k → ⊥
 none_some o k e f = cc
@@ -241,16 +237,14 @@ pub lost_same : (w : World) → KeepsLost w w
 lost_same w v b item e = e
 
 pub lost_given : (w : World) (a : ℕ) (k : Builder) → ((b : Builder) → w a ≡ Some b → b.item ≢ Lost) → KeepsLost w (with_builder w a k)
-lost_given w a k was v b item e = by_test (same_builder k b) refl
+lost_given w a k was v b item e = elim (cases_Bool (same_builder k b)) [
+  | inl t ↦ let same : k ≡ b = builder_same k b t in
+      given_gone w a k v (e ∙ ap (λ (i : Builder). Some i) (sym same)) other ∙ (ap (λ (i : Builder). Some (lost i)) same ∙ (λ i. Some (record b { item = sym item i })))
+  | inr t ↦ given_keeps w a k v b e other (λ s. (let bad : true ≡ false = sym (builder_self b) ∙ (ap (λ (i : Builder). same_builder i b) s ∙ t) in cc))
+]
   where
     other : v ≢ a
     other s = was b (subst (λ (x : ℕ). w x ≡ Some b) s e) item
-
-    by_test : (x : Bool) → same_builder k b ≡ x → with_builder w a k v ≡ Some b
-    by_test true t =
-        let same : k ≡ b = builder_same k b t in
-        given_gone w a k v (e ∙ ap (λ (i : Builder). Some i) (sym same)) other ∙ (ap (λ (i : Builder). Some (lost i)) same ∙ (λ i. Some (record b { item = sym item i })))
-    by_test false t = given_keeps w a k v b e other (λ s. (let bad : true ≡ false = sym (builder_self b) ∙ (ap (λ (i : Builder). same_builder i b) s ∙ t) in cc))
 
 pub lost_finished : (w : World) (a : ℕ) → ((b : Builder) → w a ≡ Some b → b.item ≢ Lost) → KeepsLost w (finished w a)
 lost_finished w a was v b item e = finished_there w a v (λ s. was b (subst (λ (x : ℕ). w x ≡ Some b) s e) item) ∙ e
