@@ -1,12 +1,12 @@
 -- What the laws of objects begin with: a program with its frozen classes and owned fields, the world of unfinished objects,
 -- and a thread that moves in it.
-use Rattle.std.proofs.Common.{◌≡◌, ℕ, ◌<◌, ◌≤◌, Bool, List, Option, Some, None, refl, arith, slice_index}
+use Rattle.std.proofs.Common.{◌≡◌, ℕ, ◌<◌, ◌≤◌, Bool, List, Option, Some, arith, slice_index}
 use Rattle.jvm_types.specs.{ProgramInvariant.words_of, declared.fixed_words.TheConstants.NEXT_FREE_WORD}
 use Rattle.checked_program.specs.MarkedProgram.{MarkedProgram, IsMarked}
 use Rattle.machine_types.specs.Construction.{Owning, AreFrozen, AreOwned, BuilderTurn, FrameKeeps, WaitKeeps, KeepBelow, FramesKeep, MadeKeeps, PhaseKeepsFrames, AttemptKeeps, AttemptKeepsIn, ThreadKeeps, Construction}
 use Rattle.machine_types.specs.{Core.Core, OwnedPlaces.Stores, PlainMemory.Object, Structure.IsStructured, Threads.{Attempt, Frame, Thread}, Worlds.{Builder, World, IsFinished, IsWorld}, declared.{config.Config.Config, phase.Phase.Phase}}
 use Rattle.laws_states.specs.StateFacts.{StateFacts}
-use Rattle.laws_objects.proofs.ArraySlots.{StoresFine}
+use Rattle.laws_objects.proofs.{ArraySlots.StoresFine, WorldChanges.none_from}
 
 -- a marked program, its frozen classes, and its owned fields with what was stored in them
 pub record Design : Type 0 where
@@ -84,11 +84,7 @@ lawful_in lawful z is = record { building = in_world lawful.building z; is_world
 
 -- what is there from the start is finished
 pub first_finished : (w : World) (first next v : ℕ) → IsWorld w first next → v < first → IsFinished w next v
-first_finished w first next v is l = ((let r = is.room in omega (arith, r, l)), by_was (w v) refl)
-  where
-    by_was : (o : Option Builder) → w v ≡ o → w v ≡ None
-    by_was None e = e
-    by_was (Some b) e = absurd (let i = (is.inside v b e).0 in omega (arith, i, l))
+first_finished w first next v is l = ((let r = is.room in omega (arith, r, l)), none_from (w v) (λ b e. (let i = (is.inside v b e).0 in omega (arith, i, l))))
 
 module _ (lawful : LawfulBuilding) where
   open lawful use {c, w, next, is_world}

@@ -76,8 +76,7 @@ module _ (Old : ℕ → Type 0) (null : Old 0) (Fresh : ℕ → ℕ → Type 0) 
   args_slots [] [] n l h = let e : n - 0 ≡ n = omega arith in rw e (rest_slots n)
   args_slots (kinds.Ref c ∷ args) (v ∷ vs) (suc n) l h = let e : suc n - suc (length args) ≡ n - length args = omega arith in let f : suc n - suc (length vs) ≡ n - length vs = omega arith in rw (e, f) (ref_slot Old null Fresh own young receiver own c v h.0, args_slots args vs n (omega (arith, l)) h.1)
   args_slots (kind ∷ args) (v ∷ vs) (suc n) l h = let e : suc n - suc (length args) ≡ n - length args = omega arith in let f : suc n - suc (length vs) ≡ n - length vs = omega arith in rw (e, f) (int_slot own v, args_slots args vs n (omega (arith, l)) h)
-  args_slots (kind ∷ args) vs zero l h = absurd (omega (arith, l))
-  args_slots args vs n l h = absurd h
+  args_slots args vs n l h = absurd (first_of (assumption, omega (arith, l)))
 
 -- ---- none of them was stored
 
@@ -91,8 +90,7 @@ module _ (stores : Stores) where
   args_none [] [] n k l h = let e : n - 0 ≡ n = omega arith in rw e (rest_none n k)
   args_none (kinds.Ref c ∷ args) (v ∷ vs) (suc n) k l h = let e : suc n - suc (length args) ≡ n - length args = omega arith in let f : suc n - suc (length vs) ≡ n - length vs = omega arith in rw (e, f) (h.0, args_none args vs n (suc k) (omega (arith, l)) h.1)
   args_none (kind ∷ args) (v ∷ vs) (suc n) k l h = let e : suc n - suc (length args) ≡ n - length args = omega arith in let f : suc n - suc (length vs) ≡ n - length vs = omega arith in rw (e, f) (tt, args_none args vs n (suc k) (omega (arith, l)) h)
-  args_none (kind ∷ args) vs zero k l h = absurd (omega (arith, l))
-  args_none args vs n k l h = absurd h
+  args_none args vs n k l h = absurd (first_of (assumption, omega (arith, l)))
 
   receiver_none : (class : ℕ) (init : Bool) (a : ℕ) → IsStoredNowhere stores a → IsNoStored stores (if init then vtypes.This else vtypes.Ref class) a
   receiver_none class true a h = h

@@ -19,7 +19,7 @@ use Rattle.laws_objects.proofs.{EffectOps.FitsOp, FrameChanges.IsUnwound, Instru
 use Rattle.laws_objects.proofs.{MonitorMoves.fits, Onwards.{built_here, built_clean, fits_op}, Operands.is_getfield, PhaseMoves.{moves_keep, allowed, run_known}}
 use Rattle.laws_objects.proofs.Places.{PlaceChange, leave_plain, same_words, plain, element, old_kind, IsLeft, WritesFine, effect_places, made_places}
 use Rattle.laws_objects.proofs.{RestoredFrames.{NewArray, kept_there, stored_on, at_on, nowhere_on, thread_on, thread_sees}, ThreadMoves.Moved, UnreturnedInits.away_frames}
-use Rattle.laws_objects.proofs.{Views.{other_keeps, other_lost}, WorldChanges.{none_some, goes_same}}
+use Rattle.laws_objects.proofs.{Views.{other_keeps, other_lost}, WorldChanges.{none_from, none_some, goes_same}}
 use Rattle.jvm_types.specs.declared.code.Op.TheVariants as ops
 use Rattle.jvm_types.specs.declared.outcome.Thrown.TheVariants as outcomes
 use Rattle.jvm_types.specs.declared.program.Kind.TheVariants as kinds
@@ -110,25 +110,17 @@ module _ (lies : StartLiesApart) (structure : StructureIsKept) (state : BuiltSta
 
     -- an object of another class than that of arrays
     stored_class : (v d : ℕ) → HasClass objects d v → d ≢ INT_ARRAY_CLASS → owning.stores v ≡ None
-    stored_class v d k n = by_was (owning.stores v) refl
-      where
-        by_was : (o : Option ℕ) → owning.stores v ≡ o → owning.stores v ≡ None
-        by_was None e = e
-        by_was (Some place) e =
-            let a = con.places.stored v place e in
-            let one : a.0 ≡ k.0 = same_object c.program objects next facts.heap.apart a.0 k.0 a.1 k.1 (a.2 ∙ sym k.2) in
-            absurd (n (sym k.3 ∙ (ap (λ (o : Object). o.class) (sym one) ∙ a.3)))
+    stored_class v d k n = none_from (owning.stores v) (λ place e.
+        let a = con.places.stored v place e in
+        let one : a.0 ≡ k.0 = same_object c.program objects next facts.heap.apart a.0 k.0 a.1 k.1 (a.2 ∙ sym k.2) in
+        n (sym k.3 ∙ (ap (λ (o : Object). o.class) (sym one) ∙ a.3)))
 
     pub fine : StoresFine owning.stores next
-    fine = record { null = by_null (owning.stores 0) refl; out = stored_class out_object PRINT_STREAM_CLASS (out_there c marked objects s facts.heap) (λ e. omega (arith, e)); fresh = λ v l. by_fresh v l (owning.stores v) refl }
-      where
-        by_null : (o : Option ℕ) → owning.stores 0 ≡ o → owning.stores 0 ≡ None
-        by_null None e = e
-        by_null (Some place) e = (let a = con.places.stored 0 place e in let from = facts.heap.apart.begin a.1.0 a.0 (contained_got objects a.0 a.1) in absurd (omega (arith, from, a.2)))
-
-        by_fresh : (v : ℕ) → next ≤ v → (o : Option ℕ) → owning.stores v ≡ o → owning.stores v ≡ None
-        by_fresh v l None e = e
-        by_fresh v l (Some place) e = (let a = con.places.stored v place e in let to = facts.heap.apart.below a.1.0 a.0 (contained_got objects a.0 a.1) in absurd (omega (arith, to, a.2, l)))
+    fine = record {
+      null = none_from (owning.stores 0) (λ place e. (let a = con.places.stored 0 place e in let from = facts.heap.apart.begin a.1.0 a.0 (contained_got objects a.0 a.1) in omega (arith, from, a.2)));
+      out = stored_class out_object PRINT_STREAM_CLASS (out_there c marked objects s facts.heap) (λ e. omega (arith, e));
+      fresh = λ v l. none_from (owning.stores v) (λ place e. (let a = con.places.stored v place e in let to = facts.heap.apart.below a.1.0 a.0 (contained_got objects a.0 a.1) in omega (arith, to, a.2, l)));
+    }
 
     abbrev moving : Moving
     moving = record {

@@ -221,10 +221,7 @@ module _ (moving : Moving) (is : Classes) where
 
     by_machine : (class : Thrown) → Refuses c.program got at class → IsByMachine class
     by_machine _ (moves.past_end array index stored same t) = tt
-    by_machine _ (moves.no_memory word size same) = tt
-    by_machine _ (moves.waits_unheld m same) = tt
-    by_machine _ (moves.notifies_unheld m (moves.of_one same)) = tt
-    by_machine _ (moves.notifies_unheld m (moves.of_all same)) = tt
+    by_machine class why = tt
 
     pub refuses_as : (class : Thrown) → Refuses c.program got at class → StaysStructured c was (goes_on s (threw class at)) → Goal (goes_on s (threw class at))
     refuses_as class why stands =
@@ -250,7 +247,7 @@ module _ (moving : Moving) (is : Classes) where
     pub makes_as : (word size : ℕ) → effect_at c.program at ≡ Makes word size → Goal (record s { frames = making c.program at; phase = phases.Made got word })
     makes_as word size same =
         subst (λ (v : ℕ). Goal (record s { frames = making c.program at; phase = phases.Made v word })) (sym gets.0)
-        (in_none building was x k is_world owning.stores more (phases.Made next word) (record s { frames = making c.program at; phase = phases.Made next word }) no_attempt held
+        (in_none building was x k is_world owning.stores more (phases.Made next word) (record s { frames = making c.program at; phase = phases.Made next word }) (none_as (Makes word size) same tt) held
         (record {
           later = with_builder k.now next (builder t (length a.below) Header);
           goes = goes_given k.now next more t next (builder t (length a.below) Header) grows refl (λ o. (let l = o.0 in omega (arith, l))) (λ j h. absurd (let l = (now_is.inside next j h).1 in omega (arith, l)));
@@ -259,9 +256,6 @@ module _ (moving : Moving) (is : Classes) where
           fits = (subst (λ (h : ℕ). MadeIn (in_later building (with_builder k.now next (builder t (length a.below) Header)) more) next h (making c.program at)) (sym one_less) keeps_it, tt);
         })).moves
       where
-        no_attempt : x.attempt ≡ None
-        no_attempt = none_as (Makes word size) same tt
-
         al : AllowedAs (Makes word size)
         al = allowed_as (Makes word size) same
 

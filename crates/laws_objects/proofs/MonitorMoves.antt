@@ -1,6 +1,6 @@
 -- The moves of a thread, but those of an instruction and of a root, keep what construction says of it.
-use Rattle.std.proofs.Common.{◌≡◌, ℕ, ◌+◌, ◌-◌, inl, Bool, true, false, List, [], ◌∷◌, ◌++◌, length, Option, Some, None, refl, sym, ap, ◌∙◌, subst, arith, ◌==◌, nat_lt, option_map, if◌then◌else◌}
-use Rattle.std.proofs.lemmas.Bool.{eqb-true, eqb-false}
+use Rattle.std.proofs.Common.{◌≡◌, ℕ, ◌+◌, ◌-◌, inl, inr, Bool, true, false, List, [], ◌∷◌, ◌++◌, length, Option, Some, None, refl, sym, ap, ◌∙◌, subst, arith, ◌==◌, nat_lt, option_map, if◌then◌else◌}
+use Rattle.std.proofs.lemmas.Bool.{cases_Bool, eqb-true, eqb-false}
 use Rattle.jvm_types.specs.{CodeTable.{row, branches_to, falls_through}, ProgramInvariant.words_of, declared.{code.Op.Op, outcome.End.End, program.{MethodInfo.MethodInfo, Program.Program}}}
 use Rattle.jvm_types.specs.declared.program.Target.{Target}
 use Rattle.machine_types.specs.{Construction.{Runs, made_world}, Elision.{fails, elided}, Frames.{went_on, top_of, pushed, Top, handler_at}}
@@ -25,22 +25,11 @@ use Rattle.laws_threads.proofs.ThreadMove as moves
 
 -- ---- an element
 
-element_edge : (stored : Option ℕ) (op : Op) (next : ℕ) → is_element_op stored op ≡ true → OneOf (branches_to op ++ (if falls_through op then next ∷ [] else [])) next
-element_edge None ops.Iaload next e = inl refl
-element_edge (Some v) ops.Iastore next e = inl refl
-element_edge None op next e = absurd (let bad : false ≡ true = e in cc)
-element_edge (Some v) op next e = absurd (let bad : false ≡ true = e in cc)
-
-element_usual : (stored : Option ℕ) (op : Op) → is_element_op stored op ≡ true → IsUsual op
-element_usual None ops.Iaload e = (refl, refl, refl)
-element_usual (Some v) ops.Iastore e = (refl, refl, refl)
-element_usual None op e = absurd (let bad : false ≡ true = e in cc)
-element_usual (Some v) op e = absurd (let bad : false ≡ true = e in cc)
-
-element_row : (Old : ℕ → Type 0) (p : Program) (m : MethodInfo) (pc : ℕ) (target : Target) (made : ℕ) (stored : Option ℕ) (op : Op) → is_element_op stored op ≡ true → RowOld Old (row p m pc target op) made
-element_row Old p m pc target made None ops.Iaload e = ((tt, tt), tt)
-element_row Old p m pc target made (Some v) ops.Iastore e = (tt, tt)
-element_row Old p m pc target made stored op e = absurd (let bad : false ≡ true = e in cc)
+element_fits : (stored : Option ℕ) (op : Op) → is_element_op stored op ≡ true → ((next : ℕ) → OneOf (branches_to op ++ (if falls_through op then next ∷ [] else [])) next) × IsUsual op
+    × ((Old : ℕ → Type 0) (p : Program) (m : MethodInfo) (pc : ℕ) (target : Target) (made : ℕ) → RowOld Old (row p m pc target op) made)
+element_fits None ops.Iaload e = (λ next. inl refl, (refl, refl, refl), λ Old p m pc target made. ((tt, tt), tt))
+element_fits (Some v) ops.Iastore e = (λ next. inl refl, (refl, refl, refl), λ Old p m pc target made. (tt, tt))
+element_fits stored op e = absurd (let bad : false ≡ true = e in cc)
 
 module _ (lawful : LawfulBuilding) where
   open lawful use {building, c, marked, owning, w, next, t}
@@ -49,10 +38,10 @@ module _ (lawful : LawfulBuilding) where
   element_if stored value [] k top = absurd top
   element_if stored value (f ∷ fs) k top =
       let op : is_element_op stored k.0.stands.insn.op ≡ true = ap (is_element_op stored) (same_op lawful f k.0.stands top.0) ∙ top.1 in
+      let fit = element_fits stored k.0.stands.insn.op op in
       subst (λ o. IfKeeps building (option_map (λ at. Running (went_on c.program at value)) o)) (sym (stand_top c marked f fs k.0.stands))
-      (runs_usual lawful f fs k.0 k.1 k.0.stands.insn.next value (element_edge stored k.0.stands.insn.op k.0.stands.insn.next op) (element_usual stored k.0.stands.insn.op op)
-      (element_row (IsFinished w next) c.program k.0.stands.method k.0.stands.insn.pc k.0.stands.target value stored k.0.stands.insn.op op)
-      (element_row (IsStoredNowhere owning.stores) c.program k.0.stands.method k.0.stands.insn.pc k.0.stands.target value stored k.0.stands.insn.op op))
+      (runs_usual lawful f fs k.0 k.1 k.0.stands.insn.next value (fit.0 k.0.stands.insn.next) fit.1
+      (fit.2 (IsFinished w next) c.program k.0.stands.method k.0.stands.insn.pc k.0.stands.target value) (fit.2 (IsStoredNowhere owning.stores) c.program k.0.stands.method k.0.stands.insn.pc k.0.stands.target value))
 
   -- ---- a new object
 
@@ -81,13 +70,13 @@ module _ (lawful : LawfulBuilding) where
 -- ---- what is a thread's own or finished as it sees the world is so in the world
 
 known_back : (w now : World) (next t : ℕ) (o : Option Attempt) (v : ℕ) → IsViewOf now w t o → IsOwnOrFinished now next t v → IsOwnOrFinished w next t v
-known_back w now next t o v view k = (k.0, λ b e. by_thread b e (b.thread == t) refl)
-  where
-    by_thread : (b : Builder) → w v ≡ Some b → (y : Bool) → (b.thread == t) ≡ y → b.thread ≡ t
-    by_thread b e true s = eqb-true b.thread t s
-    by_thread b e false s =
-        let n = eqb-false b.thread t s in
-        k.1 b (view.others v (λ d f. (let same : b ≡ d = cc in λ q. n (ap (λ (x : Builder). x.thread) same ∙ q))) ∙ e)
+known_back w now next t o v view k = (
+  k.0,
+  λ b e. elim (cases_Bool (b.thread == t)) [
+    | inl s ↦ eqb-true b.thread t s
+    | inr s ↦ k.1 b (view.others v (λ d f. (let same : b ≡ d = cc in λ q. eqb-false b.thread t s (ap (λ (x : Builder). x.thread) same ∙ q))) ∙ e)
+  ],
+)
 
 -- ---- phases
 

@@ -12,7 +12,7 @@ use Rattle.machine_types.specs.{Lawful.within, Standing.{Standing, row_at}, Thre
 use Rattle.laws_threads.{specs.Allowed.OneOf, proofs.{FrameMoves.edge_fits, Landing.rules_at, TopEffects.number_in, Typing.edge_at}}
 use Rattle.laws_objects.proofs.{ArraySlots.IsStart, Buildings.{Building, in_world, FrameIn}, KeptFrames.{KeepsUnder, plain_stack}, Landing.{LandsWell, land, joined_onward}}
 use Rattle.laws_objects.proofs.Slots.{IsMade, IsWriteMade, stack_moves, local_moves, top_slot, slot_by, slots_started, slot_retag, slots_without, StartOk}
-use Rattle.laws_objects.proofs.WorldChanges.{without, without_gone, without_keeps, without_none, world_without, goes_without, goes_same, KeepsLost, lost_same, lost_without}
+use Rattle.laws_objects.proofs.WorldChanges.{without, without_gone, without_keeps, finished_without, world_without, goes_without, goes_same, KeepsLost, lost_same, lost_without}
 use Rattle.jvm_types.specs.declared.code.Op.TheVariants as ops
 use Rattle.jvm_types.specs.declared.typing.VType.TheVariants as types
 
@@ -156,6 +156,11 @@ module _ (Old More : ℕ → Type 0) (Fresh Later : ℕ → ℕ → Type 0) (you
   slots_finished class receiver own (u ∷ us) (g ∷ gs) (v ∷ vs) f = (slot_finished class receiver own u g v f.0, slots_finished class receiver own us gs vs f.1)
   slots_finished class receiver own us gs vs f = absurd f
 
+-- a receiver that is no such object
+pub receiver_without : (w : World) (next t h : ℕ) (b : Builder) → builder t h Begun ≢ b → (own : Bool) (a : ℕ) → ReceiverIs w next t h own a → ReceiverIs (without w b) next t h own a
+receiver_without w next t h b other true a e = without_keeps w b a (builder t h Begun) e other
+receiver_without w next t h b other false a e = finished_without w next b a e
+
 -- ---- a frame goes on
 
 -- in a world that the thread leaves
@@ -233,15 +238,8 @@ module _ (building : Building) (h : ℕ) (null : IsFinished building.w building.
       abbrev z : World
       z = without w (builder t h (Made y.pc))
 
-      old_on : (v : ℕ) → IsFinished w next v → IsFinished z next v
-      old_on v o = (o.0, without_none w gone v o.1)
-
-      receiver_on : (own : Bool) → ReceiverIs w next t h own f.receiver → ReceiverIs z next t h own f.receiver
-      receiver_on true e = without_keeps w gone f.receiver (builder t h Begun) e (λ s. (let i : Begun ≡ Made y.pc = ap (λ (b : Builder). b.item) s in cc))
-      receiver_on false e = old_on f.receiver e
-
       finish : (us : List VType) (gs : List Tag) (vs : List ℕ) → SlotsAre (SlotOf frozen w next t h Runs m f.receiver) us gs vs → SlotsAre (SlotOf frozen z next t h Runs m f.receiver) (initialised (types.New y.pc) y.class us) gs vs
-      finish us gs vs s = slots_finished (IsFinished w next) (IsFinished z next) (IsFresh w t h Runs) (IsFresh z t h Runs) (makes_frozen frozen m) y.pc old_on
+      finish us gs vs s = slots_finished (IsFinished w next) (IsFinished z next) (IsFresh w t h Runs) (IsFresh z t h Runs) (makes_frozen frozen m) y.pc (finished_without w next gone)
           (λ v young e. (inside v gone e, without_gone w gone v e))
           (λ r v n young e. without_keeps w gone v (builder t h (Made r)) e (λ s. n (let i : Made r ≡ Made y.pc = ap (λ (b : Builder). b.item) s in cc)))
           y.class f.receiver (builds frozen m) us gs vs s
@@ -255,7 +253,7 @@ module _ (building : Building) (h : ℕ) (null : IsFinished building.w building.
             finish _ _ _ s.0,
             finish _ _ _ s.1,
           ) in
-          landed z (old_on 0 null) (receiver_on (builds frozen m) k.receiver)
+          landed z (finished_without w next gone 0 null) (receiver_without w next t h gone (λ s. (let i : Begun ≡ Made y.pc = ap (λ (b : Builder). b.item) s in cc)) (builds frozen m) f.receiver k.receiver)
           (subst (λ (a : TypeFrame). SlotsAre (SlotOf frozen z next t h Runs m f.receiver) a.stack (moved_tags r k.stands.tags).stack (frame_on r to made f).stack) after.1 after.2)
           (subst (λ (a : TypeFrame). SlotsAre (SlotOf frozen z next t h Runs m f.receiver) a.locals (moved_tags r k.stands.tags).locals (frame_on r to made f).locals) after.1 after.3)
 

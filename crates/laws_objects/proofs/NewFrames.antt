@@ -13,7 +13,7 @@ use Rattle.laws_objects.proofs.{ArrayFrames.{goes_well, goes_plain}, ArrayMoves.
 use Rattle.laws_objects.proofs.{BuiltEffects.StartsNone, CalledFrames.{below_moved, none_started}, EffectOps.{is_putfield, stores_none}, KeptFrames.{below_kept, plain_stack}, Landing.LandsWell}
 use Rattle.laws_objects.proofs.{Moves.{StartsOld, lands_behind, goes_old}, Operands.{is_getfield, no_read}, PutPlaces.{is_newarray, next_puts}}
 use Rattle.laws_objects.proofs.Slots.{slot_by, slots_map_if, slots_drop, IsMade, IsWriteMade, made_slot}
-use Rattle.laws_objects.proofs.WorldChanges.{none_some, given_here, given_keeps, given_none, finished_here, finished_there, world_given, world_finished}
+use Rattle.laws_objects.proofs.WorldChanges.{none_from, none_some, given_here, given_keeps, given_none, finished_here, finished_there, world_given, world_finished}
 use Rattle.jvm_types.specs.declared.code.Op.TheVariants as ops
 use Rattle.jvm_types.specs.declared.typing.VType.TheVariants as types
 
@@ -54,11 +54,7 @@ module _ (lawful : LawfulBuilding) (more h : ℕ) (grows : lawful.next < more) (
   stored_world = made_world (with_builder w next (builder t h Header)) next t h item
 
   fresh_word : w next ≡ None
-  fresh_word = by_was (w next) refl
-    where
-      by_was : (o : Option Builder) → w next ≡ o → w next ≡ None
-      by_was None e = e
-      by_was (Some b) e = absurd (let l = (is_world.inside next b e).1 in omega (arith, l))
+  fresh_word = none_from (w next) (λ b e. (let l = (is_world.inside next b e).1 in omega (arith, l)))
 
   not_new : (v : ℕ) (k : Builder) → w v ≡ Some k → v ≢ next
   not_new v k e s = none_some (w next) k fresh_word (subst (λ (x : ℕ). w x ≡ Some k) s e)

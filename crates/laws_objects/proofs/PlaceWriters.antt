@@ -34,8 +34,7 @@ pub place_suits : (content : Content) (place : Site) → IsPlace place → Suits
 place_suits IntPlace place is suits = tt
 place_suits ReferencePlace place is suits = tt
 place_suits content (ValueOf reference index) is suits = absurd suits
-place_suits content (StaticAt word) is suits = absurd suits
-place_suits content place is suits = absurd is
+place_suits content place is suits = absurd (assumption)
 
 -- a monitor is left at none
 pub leave_of_none : (claimed : Claim) → IsOfPlace (leave_content claimed) → ⊥

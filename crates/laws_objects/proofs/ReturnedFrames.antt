@@ -15,9 +15,9 @@ use Rattle.laws_objects.proofs.{ArrayFrames.takes_clean, ArrayMoves.{GivenClean,
 use Rattle.laws_objects.proofs.ArraySlots.{IsStart, each_from, no_stored_along, array_along, stack_begun, locals_begun}
 use Rattle.laws_objects.proofs.{Buildings.{Building, LawfulBuilding, in_world, FrameIn, WaitIn, BelowIn, FramesIn, null, inside}, BuiltEffects.{KindOld, StartsNone}}
 use Rattle.laws_objects.proofs.{CalledFrames.{call_takes, below_moved, arguments_start, none_started, none_append}, Calling.class_frozen, KeptFrames.{below_kept, plain_stack}}
-use Rattle.laws_objects.proofs.Moves.{Steps, stays, StartsOld, StartsYoung, Starts, starts, is_start, Suit, suit_at, tags_fine, old_started, lands_behind, slots_finished}
+use Rattle.laws_objects.proofs.Moves.{Steps, stays, StartsOld, StartsYoung, Starts, starts, is_start, Suit, suit_at, tags_fine, old_started, lands_behind, receiver_without, slots_finished}
 use Rattle.laws_objects.proofs.{Operands.{TakenOld, takes_any, no_getfield, takes_old}, PutPlaces.edge_plain, Slots.{slots_map, slots_long, slot_later, made_slot}}
-use Rattle.laws_objects.proofs.WorldChanges.{without, without_gone, without_keeps, without_none, world_without, goes_without, lost_without}
+use Rattle.laws_objects.proofs.WorldChanges.{without, without_gone, without_keeps, finished_without, world_without, goes_without, lost_without}
 use Rattle.jvm_types.specs.declared.code.Op.TheVariants as ops
 use Rattle.jvm_types.specs.declared.program.Kind.TheVariants as kinds
 use Rattle.jvm_types.specs.declared.typing.VType.TheVariants as types
@@ -326,16 +326,9 @@ module _ (lawful : LawfulBuilding) (resuming : Resuming lawful) where
     is_begun : w receiver ≡ Some (builder t (suc (length gs)) Begun)
     is_begun = subst (λ (b : Bool). ReceiverIs w next t (suc (length gs)) b receiver) called_builds stands
 
-    old_on : (v : ℕ) → IsFinished w next v → IsFinished z next v
-    old_on v o = (o.0, without_none w gone v o.1)
-
-    receiver_on : (own : Bool) → ReceiverIs w next t (length gs) own g.receiver → ReceiverIs z next t (length gs) own g.receiver
-    receiver_on true e = without_keeps w gone g.receiver (builder t (length gs) Begun) e (λ s. (let i : length gs ≡ suc (length gs) = ap (λ (b : Builder). b.height) s in omega (arith, i)))
-    receiver_on false e = old_on g.receiver e
-
     finish : (us : List VType) (hs : List Tag) (ns : List ℕ) → SlotsAre IsWaiting us hs ns → SlotsAre (SlotOf frozen z next t (length gs) Runs k.method g.receiver) (initialised (types.New y.pc) y.class us) hs ns
     finish us hs ns s =
-        slots_finished (IsFinished w next) (IsFinished z next) (IsFresh w t (length gs) (WaitsFor receiver (Some (types.New y.pc, y.class)))) (IsFresh z t (length gs) Runs) (makes_frozen frozen k.method) y.pc old_on
+        slots_finished (IsFinished w next) (IsFinished z next) (IsFresh w t (length gs) (WaitsFor receiver (Some (types.New y.pc, y.class)))) (IsFresh z t (length gs) Runs) (makes_frozen frozen k.method) y.pc (finished_without w next gone)
         (λ v young e. here v e) (λ x v n young e. others x v n e) y.class g.receiver (builds frozen k.method) us hs ns
         (subst (λ (o : Option (VType × ℕ)). SlotsAre (SlotOf frozen w next t (length gs) (WaitsFor receiver o) k.method g.receiver) us hs ns) (wait.begun_is ∙ y.is) s)
       where
@@ -353,12 +346,12 @@ module _ (lawful : LawfulBuilding) (resuming : Resuming lawful) where
     resumes_young =
         let before : TypeFrame = record { stack = stack_after types.Top (λ t. t) r k.types.stack k.types.locals; locals = locals_after types.Top (λ t. t) r.writes k.types.stack k.types.locals; ready = k.types.ready } in
         let same : after_start (Some (types.New y.pc, y.class)) before ≡ frame_after k.method r k.types = ap (λ o. after_start o before) (sym y.is) in
-        landed z (old_on 0 (null lawful)) (receiver_on (builds frozen k.method) wait.keeps.receiver)
+        landed z (finished_without w next gone 0 (null lawful)) (receiver_without w next t (length gs) gone (λ s. (let i : length gs ≡ suc (length gs) = ap (λ (b : Builder). b.height) s in omega (arith, i))) (builds frozen k.method) g.receiver wait.keeps.receiver)
         (subst (λ (a : TypeFrame). SlotsAre (SlotOf frozen z next t (length gs) Runs k.method g.receiver) a.stack (moved_tags r k.tags).stack (result ++ g.stack)) same (finish _ _ _ stack_waits))
         (subst (λ (a : TypeFrame). SlotsAre (SlotOf frozen z next t (length gs) Runs k.method g.receiver) a.locals (moved_tags r k.tags).locals g.locals) same (finish _ _ _ locals_wait))
 
     below_on : BelowIn (in_world building z) g gs
-    below_on = below_kept building z next old_on g gs (λ i less v x e. without_keeps w gone v (builder t i x) e (λ s. (let n : i ≡ suc (length gs) = ap (λ (b : Builder). b.height) s in omega (arith, n, less)))) below
+    below_on = below_kept building z next (finished_without w next gone) g gs (λ i less v x e. without_keeps w gone v (builder t i x) e (λ s. (let n : i ≡ suc (length gs) = ap (λ (b : Builder). b.height) s in omega (arith, n, less)))) below
 
   pub resumes : Steps w next t (λ z. FramesIn (in_world building z) Runs (resumed ∷ gs))
   resumes = by_start (starts k.method (makes_frozen frozen k.method) r.takes k.types.stack (suit_at c marked g k))

@@ -172,12 +172,9 @@ module _ (Old : ℕ → Type 0) (null : Old 0) (Fresh : ℕ → ℕ → Type 0) 
   pub with_edge : (New : ℕ → Type 0) (puts : Bool) (ts us : List VType) (gs ks : List Tag) (vs : List ℕ) → all_pairs is_below ts us ≡ true → AreTagsBelow gs ks → length ks ≡ length us → (own ≡ true → KeepThis gs ks) → StackWith R New puts ts gs vs → StackWith R New puts us ks vs
   with_edge New false ts us gs ks vs b kept long keeps h = slots_edge ts us gs ks vs b kept long keeps h
   with_edge New true [] [] gs ks vs b kept long keeps h = slots_edge [] [] gs ks vs b kept long keeps h
-  with_edge New true (t ∷ ts) (u ∷ us) [] ks vs b kept long keeps h = absurd h
-  with_edge New true (t ∷ ts) (u ∷ us) (g ∷ gs) ks [] b kept long keeps h = absurd h
-  with_edge New true (t ∷ ts) (u ∷ us) (g ∷ gs) [] (v ∷ vs) b kept long keeps h = absurd (omega (arith, long))
   with_edge New true (t ∷ ts) (u ∷ us) (g ∷ gs) (k ∷ ks) (v ∷ vs) b kept long keeps h =
       (h.0, slots_edge ts us gs ks vs (both_are_true (is_below t u) (all_pairs is_below ts us) b).1 kept.1 (omega (arith, long)) (λ o n e. keeps o (suc n) e) h.1)
-  with_edge New true ts us gs ks vs b kept long keeps h = absurd (cc)
+  with_edge New true ts us gs ks vs b kept long keeps h = absurd (first_of (assumption, cc, omega (arith, long)))
 
   -- ---- an `<init>` that is started: its object is finished, or `this` of an `<init>` of a frozen class
 

@@ -4,17 +4,17 @@ use Rattle.std.specs.List.{AllByRecursion}
 use Rattle.jvm_types.specs.{CodeTable.{row, want_of, put_row, value_of, stack_after, locals_after}, Numbers.has_number, Types.TypeFrame, Verifying.{started, after_start, frame_after, edges}, declared.{class_numbers.TheConstants.INT_ARRAY_CLASS, code.Op.Op}}
 use Rattle.jvm_types.specs.declared.{op_row.{Given.Given, OpRow.OpRow}, program.{Kind.Kind, MethodInfo.MethodInfo}, typing.VType.VType}
 use Rattle.checked_program.specs.{Colours.is_read_of, LockTags.TagShape, OwnedArrays.IsOwnedArrayField, Tagging.{moved_tags, tags_by_op, tags_after}, declared.tag.Tag.{Tag, TheVariants.Untagged}}
-use Rattle.machine_types.specs.Construction.{puts_owned, builds, makes_frozen, SlotsAre, StackWith, Runs, IsFresh, ReceiverIs, SlotOf, IsNoStored, IsArraySlot, SlotsFrom}
+use Rattle.machine_types.specs.Construction.{puts_owned, builds, makes_frozen, SlotsAre, StackWith, Runs, IsFresh, SlotOf, IsNoStored, IsArraySlot, SlotsFrom}
 use Rattle.machine_types.specs.{Frames.{frame_on, went_on}, OwnedPlaces.{with_stored, IsStoredNowhere}, Standing.{Standing, row_at, tags_of}, Threads.Frame}
 use Rattle.machine_types.specs.Worlds.{Made, Begun, Unstored, Builder, builder, World, IsFinished}
 use Rattle.laws_threads.{specs.Allowed.OneOf, proofs.{Standings.top_here, TopEffects.number_in}}
 use Rattle.laws_objects.proofs.{ArrayFrames.takes_clean, ArrayMoves.{GivenClean, WriteClean, SourceFine, stack_clean, each_source, dropped_at}}
 use Rattle.laws_objects.proofs.ArraySlots.{from_drop, each_from, no_stored_along, array_along, stack_begun, locals_begun, IsStart}
 use Rattle.laws_objects.proofs.{Buildings.{Building, FramesIn, Design, LawfulBuilding, in_world, with_stores, FrameIn, BelowIn, null}, BuiltEffects.StartsNone}
-use Rattle.laws_objects.proofs.{CalledFrames.{below_moved, none_started}, KeptFrames.below_kept, Landing.LandsWell, Moves.{Steps, lands_behind}, Operands.{WantOld, TakenOld, takes_any}}
+use Rattle.laws_objects.proofs.{CalledFrames.{below_moved, none_started}, KeptFrames.below_kept, Landing.LandsWell, Moves.{Steps, lands_behind, receiver_without}, Operands.{WantOld, TakenOld, takes_any}}
 use Rattle.laws_objects.proofs.{PutPlaces.{is_newarray, edge_plain}, RestoredFrames.{NewArray, receiver_apart, arrays_from, locals_from, below_on}}
 use Rattle.laws_objects.proofs.Slots.{slots_map, slots_drop, slots_long, slot_later}
-use Rattle.laws_objects.proofs.WorldChanges.{none_some, without, without_gone, without_keeps, without_none, world_without, goes_without, lost_without}
+use Rattle.laws_objects.proofs.WorldChanges.{none_some, without, without_gone, without_keeps, finished_without, world_without, goes_without, lost_without}
 use Rattle.jvm_types.specs.declared.code.Op.TheVariants as ops
 use Rattle.jvm_types.specs.declared.program.Kind.TheVariants as kinds
 use Rattle.jvm_types.specs.declared.program.Target.TheVariants as targets
@@ -24,10 +24,8 @@ use Rattle.jvm_types.specs.declared.typing.VType.TheVariants as types
 split : (R : VType → Tag → ℕ → Type 0) (New : ℕ → Type 0) (us : List VType) (gs : List Tag) (vs : List ℕ) (array : ℕ) (rest : List ℕ) → StackWith R New true us gs vs → vs ≡ array ∷ rest → New array × SlotsAre R (drop 2 us) (drop 2 gs) (drop 2 vs)
 split R New [] gs [] array rest h e = absurd (cc)
 split R New [] [] (v ∷ vs) array rest h e = absurd h
-split R New [] (g ∷ gs) (v ∷ vs) array rest h e = absurd h
-split R New (u ∷ us) [] vs array rest h e = absurd h
-split R New (u ∷ us) (g ∷ gs) [] array rest h e = absurd h
 split R New (u ∷ us) (g ∷ gs) (v ∷ vs) array rest h e = (let same : v ≡ array = cc in subst New same h.0, slots_drop R 1 us gs vs h.1)
+split R New us gs vs array rest h e = absurd (assumption)
 
 want_starts : (kind : Kind) → StartsNone (want_of kind)
 want_starts kinds.Int = tt
@@ -113,16 +111,9 @@ module _ (lawful : LawfulBuilding) (f : Frame) (fs : List Frame) (k : FrameIn la
   abbrev pub z : World
   z = without w (builder t (length fs) Unstored)
 
-  old_on : (v : ℕ) → IsFinished w next v → IsFinished z next v
-  old_on v o = (o.0, without_none w new v o.1)
-
-  receiver_on : (own : Bool) → ReceiverIs w next t (length fs) own f.receiver → ReceiverIs z next t (length fs) own f.receiver
-  receiver_on true e = without_keeps w new f.receiver (builder t (length fs) Begun) e (λ s. (let i : Begun ≡ Unstored = ap (λ (x : Builder). x.item) s in cc))
-  receiver_on false e = old_on f.receiver e
-
   slots_on : (us : List VType) (gs : List Tag) (vs : List ℕ) → SlotsAre (SlotOf frozen w next t (length fs) Runs k.stands.method f.receiver) us gs vs → SlotsAre (SlotOf frozen z next t (length fs) Runs k.stands.method f.receiver) us gs vs
   slots_on = slots_map (SlotOf frozen w next t (length fs) Runs k.stands.method f.receiver) (SlotOf frozen z next t (length fs) Runs k.stands.method f.receiver)
-      (slot_later (IsFinished w next) (IsFinished z next) (IsFresh w t (length fs) Runs) (IsFresh z t (length fs) Runs) old_on (makes_frozen frozen k.stands.method)
+      (slot_later (IsFinished w next) (IsFinished z next) (IsFresh w t (length fs) Runs) (IsFresh z t (length fs) Runs) (finished_without w next new) (makes_frozen frozen k.stands.method)
       (λ q v young e. without_keeps w new v (builder t (length fs) (Made q)) e (λ s. (let i : Made q ≡ Unstored = ap (λ (x : Builder). x.item) s in cc))) (builds frozen k.stands.method) f.receiver)
 
   -- ---- the frame behind the instruction
@@ -207,8 +198,8 @@ module _ (lawful : LawfulBuilding) (f : Frame) (fs : List Frame) (k : FrameIn la
 
   frame_stored : FrameIn (in_world behind z) (length fs) Runs (frame_on (row_at c f k.stands) k.stands.insn.next 0 f)
   frame_stored =
-      lands_behind (in_world behind z) (length fs) (old_on 0 (null lawful)) f k.stands k.stands.insn.next (frame_on (row_at c f k.stands) k.stands.insn.next 0 f).stack (frame_on (row_at c f k.stands) k.stands.insn.next 0 f).locals put.edge false
-      well (receiver_on (builds frozen k.stands.method) k.receiver)
+      lands_behind (in_world behind z) (length fs) (finished_without w next new 0 (null lawful)) f k.stands k.stands.insn.next (frame_on (row_at c f k.stands) k.stands.insn.next 0 f).stack (frame_on (row_at c f k.stands) k.stands.insn.next 0 f).locals put.edge false
+      well (receiver_without w next t (length fs) new (λ s. (let i : Begun ≡ Unstored = ap (λ (x : Builder). x.item) s in cc)) (builds frozen k.stands.method) f.receiver k.receiver)
       (subst (λ (a : TypeFrame). SlotsAre (SlotOf frozen z next t (length fs) Runs k.stands.method f.receiver) a.stack (tags_after k.stands.insn (row_at c f k.stands) k.stands.tags).stack (stack_after 0 (λ t. 0) (row_at c f k.stands) f.stack f.locals)) (sym types_are)
       (subst (λ (g : TagShape). SlotsAre (SlotOf frozen z next t (length fs) Runs k.stands.method f.receiver) After.stack g.stack (stack_after 0 (λ t. 0) (row_at c f k.stands) f.stack f.locals)) (sym tags_are)
       (subst (SlotsAre (SlotOf frozen z next t (length fs) Runs k.stands.method f.receiver) After.stack Tags.stack) (sym values_are) (slots_on After.stack Tags.stack (drop (length (row_at c f k.stands).takes) f.stack) below_two))))
@@ -220,7 +211,7 @@ module _ (lawful : LawfulBuilding) (f : Frame) (fs : List Frame) (k : FrameIn la
 
   below_stored : BelowIn (in_world behind z) f fs
   below_stored =
-      below_kept behind z next old_on f fs (λ i less v x e. without_keeps w new v (builder t i x) e (λ s. (let same : i ≡ length fs = ap (λ (x : Builder). x.height) s in omega (arith, same, less))))
+      below_kept behind z next (finished_without w next new) f fs (λ i less v x e. without_keeps w new v (builder t i x) e (λ s. (let same : i ≡ length fs = ap (λ (x : Builder). x.height) s in omega (arith, same, less))))
       (below_on building it is_new f fs (λ i less s. (let same : i ≡ length fs = ap (λ (x : Builder). x.height) s in omega (arith, same, less))) apart b)
 
   pub stores_it : Steps w next t (λ z. FramesIn (in_world behind z) Runs (went_on c.program (top_here c f fs k.stands) 0))

@@ -31,6 +31,10 @@ builder_other j k n = false_from_ne_true (same_builder j k) (λ e. n (builder_sa
 pub none_some : {A : Type 0} (o : Option A) (k : A) → o ≡ None → o ≡ Some k → ⊥
 none_some o k e f = cc
 
+pub none_from : {A : Type 0} (o : Option A) → ((x : A) → o ≡ Some x → ⊥) → o ≡ None
+none_from None never = refl
+none_from (Some x) never = absurd (never x refl)
+
 pub item_is : (o : Option Builder) (t h t' h' : ℕ) (x y : Item) → o ≡ Some (builder t h x) → o ≡ Some (builder t' h' y) → (h ≡ h') × (x ≡ y)
 item_is o t h t' h' x y e f = let same : builder t h x ≡ builder t' h' y = cc in (ap (λ (k : Builder). k.height) same, ap (λ (k : Builder). k.item) same)
 
@@ -204,6 +208,9 @@ without_keeps w b v j e n = ap (drop_if b) e ∙ rw (builder_other b j (λ z. n 
 
 pub without_none : (w : World) (b : Builder) (v : ℕ) → w v ≡ None → without w b v ≡ None
 without_none w b v e = ap (drop_if b) e
+
+pub finished_without : (w : World) (next : ℕ) (b : Builder) (v : ℕ) → IsFinished w next v → IsFinished (without w b) next v
+finished_without w next b v o = (o.0, without_none w b v o.1)
 
 pub without_back : (w : World) (b : Builder) (v : ℕ) (j : Builder) → without w b v ≡ Some j → w v ≡ Some j
 without_back w b v j = by_was (w v)

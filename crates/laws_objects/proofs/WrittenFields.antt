@@ -46,14 +46,8 @@ puts_of i f (n ∷ a ∷ stack) v word e = by_test (a == 0) e
 -- an instruction that names the field, and writes a variable
 module _ (p : Program) (site : MethodSite) (number next : ℕ) (f : FieldInfo) (v : Variable) (word : ℕ) (there : slice_get p.fields number ≡ Some f) where
   pub field_put : (op : Op) (locals stack : List ℕ) → IsTargetOf p site op (targets.Field number) → effect p next (targets.Field number) op locals stack ≡ Writes v word → PutsOnClass op f v ⊎ Puts op f stack v
-  field_put (ops.Ldc i) locals stack h e = absurd h
-  field_put (ops.LdcW i) locals stack h e = absurd h
   field_put (ops.Getstatic i) locals stack h e = absurd (no_static_read (slice_get p.fields number) v word e)
   field_put (ops.Putstatic i) locals stack h e = inl (record { index = i; is = refl; variable = puts_static_of f stack v word (ap (λ (o : Option FieldInfo). puts_static o stack) (sym there) ∙ e) })
   field_put (ops.Getfield i) locals stack h e = absurd (no_read (slice_get p.fields number) stack v word e)
   field_put (ops.Putfield i) locals stack h e = inr (puts_of i f stack v word (ap (λ (o : Option FieldInfo). puts o stack) (sym there) ∙ e))
-  field_put (ops.Invokevirtual i) locals stack h e = absurd h
-  field_put (ops.Invokespecial i) locals stack h e = absurd h
-  field_put (ops.Invokestatic i) locals stack h e = absurd h
-  field_put (ops.New i) locals stack h e = absurd h
-  field_put op locals stack h e = absurd (cc)
+  field_put op locals stack h e = absurd (first_of (assumption, cc))
