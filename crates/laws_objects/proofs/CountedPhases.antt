@@ -15,11 +15,7 @@ module _ (building : Building) (fs : List Frame) where
   turned_fits : (was : Phase) → CountsTurns was → PhaseFits building fs was → PhaseFits building fs (turned_from was)
   turned_fits (phases.Acquire m) is k = k
   turned_fits (phases.Take m count) is k = (k.0, k.1)
-  turned_fits (phases.Flag m u) is k = k
-  turned_fits (phases.TakeFat m r) is k = k
-  turned_fits (phases.WaitLook m r depth) is k = k
-  turned_fits (phases.Retake m r depth) is k = k
-  turned_fits was is k = absurd is
+  turned_fits was is k = assumption
 
   pub counted_fits : (was phase : Phase) → IsAs phase was → PhaseFits building fs was → PhaseFits building fs (counted_by was phase)
   counted_fits was (phases.Ending e) is k = at_end e is

@@ -15,7 +15,7 @@ use Rattle.machine_types.specs.declared.effect.Effect.TheVariants.{Goes, Throws,
 use Rattle.machine_types.{specs.declared.phase.{After.After, Phase.Phase}, proofs.PlainPartLaws.frames_are}
 use Rattle.laws_threads.{specs.EntryFrames.{frames_in, KeepsEntry}, proofs.{AttemptMoves.put_back_top, EntryKept.{steps_kept, throws_kept, leaves_kept}, Inside.base_below, MonitorEntries.none_tried}}
 use Rattle.laws_threads.proofs.ThreadMove.{GoesBy, Move, becomes, begun_attempt, counting, any_move, gives_up_in, tried_attempt, goes_attempt}
-use Rattle.laws_objects.proofs.{Buildings.{Building, FramesIn, PhaseIn}, ThreadMoves.{AreKnown, AttemptFrom, from_same, known_at, known_with, known_without, goes_frames}}
+use Rattle.laws_objects.proofs.{Buildings.{Building, FramesIn, PhaseIn}, ThreadMoves.{AreKnown, AttemptFrom, deeper_from, from_same, known_at, known_with, known_without, goes_frames}}
 use Rattle.jvm_types.specs.declared.outcome.Thrown.TheVariants as thrown
 use Rattle.machine_types.specs.declared.phase.After.TheVariants as afters
 use Rattle.machine_types.specs.declared.phase.Phase.TheVariants as phases
@@ -363,10 +363,6 @@ module _ (c : MarkedProgram) (was : Phase) (x : Thread) where
         whole : (f : Frame) (below : List Frame) → f ∷ drop (length (f ∷ below) - length below) (f ∷ below) ≡ f ∷ below
         whole f below = let one : length (f ∷ below) - length below ≡ 1 = omega arith in ap (λ (n : ℕ). f ∷ drop n (f ∷ below)) one
 
-    -- with so many entries inside it
-    deeper_from : (t : Attempt) (inner : ℕ) → x.attempt ≡ Some t → AttemptFrom x.attempt (Some (record t { inner = inner }))
-    deeper_from t inner e = subst (λ (o : Option Attempt). AttemptFrom o (Some (record t { inner = inner }))) (sym e) (refl, refl, refl)
-
     -- ---- each of them
 
     move_goes : (phase : Phase) (k : Move c s got phase) → IsAs phase was → Stands c was x.frames x.held x.attempt → AttemptStandsIn c was x.frames x.held x.attempt → Go (becomes c s got phase k)
@@ -377,7 +373,7 @@ module _ (c : MarkedProgram) (was : Phase) (x : Thread) where
     move_goes _ (moves.asks_to_wait at m h now top e l k) is stands inside = did_so at top _ refl refl
     move_goes _ (moves.asks at m h now top y l k) is stands inside = did_so at top _ refl refl
     move_goes _ (moves.enters_inside m tried t k) is stands inside =
-        still (runs (record s { attempt = Some (record t { inner = t.inner + 1 }) })) refl (deeper_from t (t.inner + 1) (tried_attempt m (held_at x.held m) x.attempt t k))
+        still (runs (record s { attempt = Some (record t { inner = t.inner + 1 }) })) refl (deeper_from x.attempt t (t.inner + 1) (tried_attempt m (held_at x.held m) x.attempt t k))
     move_goes _ (moves.begins_to_try m tried noted f below e y l t free) is stands inside =
         begins_go m noted tried f below e (none_tried c m tried x.frames x.held (held_at x.held m) x.attempt free (subst (λ (p : Phase). AttemptStandsIn c p x.frames x.held x.attempt) is inside))
     move_goes phase (moves.gives_up m a k) is stands inside =
@@ -386,7 +382,7 @@ module _ (c : MarkedProgram) (was : Phase) (x : Thread) where
     move_goes _ (moves.leaves_outer m a h e t) is stands inside = goes_behind a (record s { held = with_held (shallower h) x.held })
         (record { frames = refl; tries = from_same x.attempt; known = λ w next t k. known_with w next t (shallower h) x.held (known_at w next t m x.held h k e) k }) (leaves_carry m a is)
     move_goes _ (moves.leaves_inside m a t inner k e) is stands inside = goes_behind a (record s { attempt = Some (record t { inner = inner }) })
-        (record { frames = refl; tries = deeper_from t inner (tried_attempt m (held_at x.held m) x.attempt t k); known = λ w next t k. k }) (leaves_carry m a is)
+        (record { frames = refl; tries = deeper_from x.attempt t inner (tried_attempt m (held_at x.held m) x.attempt t k); known = λ w next t k. k }) (leaves_carry m a is)
     move_goes _ (moves.finishes_try m a t k e y) is stands inside = goes_behind a (elided s)
         (record { frames = refl; tries = (subst (λ (o : Option Attempt). AttemptFrom o None) (sym (tried_attempt m (held_at x.held m) x.attempt t k)) tt); known = λ w next t k. k }) (leaves_carry m a is)
     move_goes _ (moves.starts number roots e) is stands inside =

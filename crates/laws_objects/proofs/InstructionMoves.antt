@@ -15,7 +15,7 @@ use Rattle.laws_objects.proofs.{EffectOps.{FitsOp, IsUsual, is_putfield, stores_
 use Rattle.laws_objects.proofs.{Onwards.{OnwardKeeps, IfKeeps, FoundOld, FoundStored, throws_it, runs_usual, does_it, built_here, built_clean, fits_op}, Operands.is_getfield}
 use Rattle.laws_objects.proofs.StoredArrays.{PutsOwned, stores_it, is_new, unstored, later_finished}
 use Rattle.laws_objects.proofs.{ThreadMoves.{Moved, AreKnown, AttemptFrom, from_same, now_world, held_known, in_none, runs_to, onward_moves, moved_more, moved_more_to}, Views.finished_on}
-use Rattle.laws_objects.proofs.WorldChanges.{finished_known, goes_given, world_given, lost_given}
+use Rattle.laws_objects.proofs.WorldChanges.{none_from, finished_known, goes_given, world_given, lost_given}
 use Rattle.jvm_types.specs.declared.code.Op.TheVariants as ops
 use Rattle.jvm_types.specs.declared.outcome.Thrown.TheVariants as thrown
 use Rattle.jvm_types.specs.declared.program.Target.TheVariants as targets
@@ -39,11 +39,8 @@ may_not c m at (Indexes a i (Some v)) o k = k
 may_not c m at e o k = assumption
 
 pub none_outside : (c : MarkedProgram) (marked : IsMarked c) (x : Thread) (at : Top) → Stands c phases.Run x.frames x.held x.attempt → AttemptStandsIn c phases.Run x.frames x.held x.attempt → top_of c.program x.frames ≡ Some at → IsOutside (effect_at c.program at) → x.attempt ≡ None
-none_outside c marked x at stands inside top out = by_attempt x.attempt refl stands inside
-  where
-    by_attempt : (o : Option Attempt) → x.attempt ≡ o → Stands c phases.Run x.frames x.held o → AttemptStandsIn c phases.Run x.frames x.held o → x.attempt ≡ None
-    by_attempt None e stands inside = e
-    by_attempt (Some a) e stands inside = absurd (may_not c a.monitor at (effect_at c.program at) out (inside_may c x.frames x.held a at marked inside stands top))
+none_outside c marked x at stands inside top out = none_from x.attempt (λ a e. may_not c a.monitor at (effect_at c.program at) out
+    (inside_may c x.frames x.held a at marked (subst (AttemptStandsIn c phases.Run x.frames x.held) e inside) (subst (Stands c phases.Run x.frames x.held) e stands) top))
 
 -- what the event of a new object finds and leaves
 abbrev pub Gets : (next more : ℕ) → Effect → (got : ℕ) → Type 0

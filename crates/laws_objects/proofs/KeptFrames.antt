@@ -142,24 +142,12 @@ module _ (building : Building) (z : World) (more : ℕ) (grows : building.next �
 
   pub phase_kept : (phase : Phase) → PhaseKeeps w next t phase → PhaseKeeps z more t phase
   phase_kept (phases.Throw x class) k = old x k
-  phase_kept (phases.Enter m tried) k = known m k
-  phase_kept (phases.Acquire m) k = known m k
-  phase_kept (phases.Take m count) k = known m k
-  phase_kept (phases.Flag m u) k = known m k
-  phase_kept (phases.TakeFat m r) k = known m k
   phase_kept (phases.Leave m a) k = (known m k.0, after_kept a k.1)
   phase_kept (phases.Grow m toward) k = (known m k.0, toward_kept toward k.1)
   phase_kept (phases.FlatOut m a) k = (known m k.0, after_kept a k.1)
   phase_kept (phases.Own m r toward) k = (known m k.0, toward_kept toward k.1)
   phase_kept (phases.FatIn m r toward) k = (known m k.0, toward_kept toward k.1)
-  phase_kept (phases.WaitBit m r) k = known m k
-  phase_kept (phases.WaitOut m r) k = known m k
-  phase_kept (phases.WaitLook m r depth) k = known m k
-  phase_kept (phases.Retake m r depth) k = known m k
-  phase_kept (phases.NotifyLook m r) k = known m k
-  phase_kept (phases.NotifyOne m r u) k = known m k
-  phase_kept (phases.NotifyAll m r) k = known m k
-  phase_kept phase k = tt
+  phase_kept phase k = first_of (assumption, search known)
 
   pub attempt_kept : (fs : List Frame) (o : Option Attempt) → TriesIn building fs o → TriesIn (in_later building z more) fs o
   attempt_kept fs None k = tt

@@ -13,7 +13,7 @@ use Rattle.laws_threads.{specs.{Allowed.OneOf, EntryFrames.KeepsEntry, Structure
 use Rattle.laws_threads.proofs.{MonitorEntries.none_tried, ThreadMove.{Looks, LeadsTo, TurnsTo, Takes, GivesUp, begun_attempt, counting, takes_in, gives_up_in}, Turns.outside as none_outside}
 use Rattle.laws_objects.proofs.{Buildings.{LawfulBuilding, Moving, in_world, FramesIn, MadeIn, sees}, BuiltEffects.RowOld, CountedPhases.{PhaseFits, counted_fits}, EffectOps.IsUsual, Moves.Steps}
 use Rattle.laws_objects.proofs.Onwards.{OnwardKeeps, IfKeeps, runs_usual, dispatches, goes_after_it, same_op}
-use Rattle.laws_objects.proofs.ThreadMoves.{Moved, AreKnown, AttemptFrom, EntryKept, from_same, entry_same, now_world, held_known, moved_on, failed, begun, onward_moves, moved_more, known_at, known_with, known_without}
+use Rattle.laws_objects.proofs.ThreadMoves.{Moved, AreKnown, AttemptFrom, deeper_from, EntryKept, from_same, entry_same, now_world, held_known, moved_on, failed, begun, onward_moves, moved_more, known_at, known_with, known_without}
 use Rattle.laws_objects.proofs.WorldChanges.{none_some, goes_same, goes_given, goes_finished, world_given, world_finished, lost_given, lost_finished, lost_same, not_lost}
 use Rattle.jvm_types.specs.declared.code.Op.TheVariants as ops
 use Rattle.jvm_types.specs.declared.outcome.End.TheVariants as ends
@@ -232,15 +232,11 @@ module _ (moving : Moving) where
 
     -- ---- entry
 
-    -- its attempt, with so many entries inside
-    deeper_from : (a : Attempt) (inner : ℕ) → x.attempt ≡ Some a → AttemptFrom x.attempt (Some (record a { inner = inner }))
-    deeper_from a inner e = subst (λ (o : Option Attempt). AttemptFrom o (Some (record a { inner = inner }))) (sym e) (refl, refl, refl)
-
     pub again_as : (m tried : ℕ) (h : Held) → held_at x.held m ≡ Some h → was ≡ phases.Enter m tried → Goal (runs (record s { held = with_held (deeper h) s.held }))
     again_as m tried h l e = runs_as (record s { held = with_held (deeper h) s.held }) refl (from_same x.attempt) (known_with w next t (deeper h) x.held (known_at w next t m x.held h held l) held) ((fits (phases.Enter m tried) e).0, tt)
 
     pub inside_as : (m tried : ℕ) (a : Attempt) → x.attempt ≡ Some a → was ≡ phases.Enter m tried → Goal (runs (record s { attempt = Some (record a { inner = a.inner + 1 }) }))
-    inside_as m tried a q e = runs_as (record s { attempt = Some (record a { inner = a.inner + 1 }) }) refl (deeper_from a (a.inner + 1) q) held ((fits (phases.Enter m tried) e).0, tt)
+    inside_as m tried a q e = runs_as (record s { attempt = Some (record a { inner = a.inner + 1 }) }) refl (deeper_from x.attempt a (a.inner + 1) q) held ((fits (phases.Enter m tried) e).0, tt)
 
     pub begins_as : (m tried noted : ℕ) (f : Frame) (below : List Frame) → x.frames ≡ f ∷ below → claim x m ≡ HasNot → was ≡ phases.Enter m tried → Goal (runs (record s { attempt = Some (begun_attempt m noted tried f below) }))
     begins_as m tried noted f below there free e = by_left (nat_lt n x.cfg.steps)
@@ -286,7 +282,7 @@ module _ (moving : Moving) where
       outer_as h f stands = left (record s { held = with_held (shallower h) s.held }) refl refl (from_same x.attempt) (known_with w next t (shallower h) x.held (known_at w next t m x.held h held f) held) stands
 
       pub inner_as : (b : Attempt) (inner : ℕ) → x.attempt ≡ Some b → StaysStructured c was (goes_after c.program (record s { attempt = Some (record b { inner = inner }) }) a) → Goal (goes_after c.program (record s { attempt = Some (record b { inner = inner }) }) a)
-      inner_as b inner q stands = left (record s { attempt = Some (record b { inner = inner }) }) refl refl (deeper_from b inner q) held stands
+      inner_as b inner q stands = left (record s { attempt = Some (record b { inner = inner }) }) refl refl (deeper_from x.attempt b inner q) held stands
 
       pub elided_as : (b : Attempt) → x.attempt ≡ Some b → StaysStructured c was (goes_after c.program (elided s) a) → Goal (goes_after c.program (elided s) a)
       elided_as b q stands = left (elided s) refl refl (subst (λ (o : Option Attempt). AttemptFrom o None) (sym q) tt) held stands

@@ -50,9 +50,6 @@ pub ready_first : (p : Program) (x : Thrown) → IsByMachine x → ready x < wor
 ready_first p thrown.ArithmeticException own = omega arith
 ready_first p x own = first_of (assumption, omega arith)
 
-pub out_first : (p : Program) → out_object < words_of p
-out_first p = omega arith
-
 module _ (lawful : LawfulBuilding) where
   open lawful use {building, c, marked, frozen, owning, w, next, t, is_world, fine}
 
@@ -210,7 +207,7 @@ module _ (lawful : LawfulBuilding) where
     names e = names_a_field c.program (site_in k.stands.method) k.stands.insn.pc k.stands.target k.stands.insn.op r (rules_at c marked f k.stands).has_row (first_true (is_getfield k.stands.insn.op) (is_putfield k.stands.insn.op) e)
 
     pub built_here : puts_owned owning.owned k.stands.insn.op k.stands.target ≡ false → Built (IsFinished w next) c.program k.stands.target r (effect_at c.program at)
-    built_here plain = effect_built (IsFinished w next) (first_finished w (words_of c.program) next out_object is_world (out_first c.program)) c.program k.stands.method k.stands.insn.pc k.stands.insn.next k.stands.target k.stands.insn.op f.locals f.stack
+    built_here plain = effect_built (IsFinished w next) (first_finished w (words_of c.program) next out_object is_world (omega arith)) c.program k.stands.method k.stands.insn.pc k.stands.insn.next k.stands.target k.stands.insn.op f.locals f.stack
         names
         (λ any. takes_old building (length fs) f k (null lawful) (no_getfield k.stands.insn.op any) plain)
 

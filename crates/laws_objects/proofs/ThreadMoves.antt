@@ -95,6 +95,10 @@ abbrev pub EntryKept : Option Attempt → Option Attempt → (fs gs : List Frame
 EntryKept (Some a) (Some b) fs gs = put_back a gs ≡ put_back a fs
 EntryKept o p fs gs = Unit {0}
 
+-- one with so many entries inside
+pub deeper_from : (o : Option Attempt) (a : Attempt) (inner : ℕ) → o ≡ Some a → AttemptFrom o (Some (record a { inner = inner }))
+deeper_from o a inner e = subst (λ (o : Option Attempt). AttemptFrom o (Some (record a { inner = inner }))) (sym e) (refl, refl, refl)
+
 pub entry_same : (o p : Option Attempt) (fs : List Frame) → EntryKept o p fs fs
 entry_same (Some a) (Some b) fs = refl
 entry_same o p fs = tt

@@ -148,9 +148,6 @@ finished_there w a v n = rw (ne_eqb v a n) refl
 pub finished_back : (w : World) (a v : ℕ) (j : Builder) → finished w a v ≡ Some j → w v ≡ Some j
 finished_back w a v j = elim (v == a) as (λ (b : Bool). (if b then None else w v) ≡ Some j → w v ≡ Some j) [ true ↦ λ e. absurd (cc) | false ↦ λ e. e ]
 
-pub finished_none : (w : World) (a v : ℕ) → w v ≡ None → finished w a v ≡ None
-finished_none w a v n = elim (v == a) as (λ (b : Bool). (if b then None else w v) ≡ None) [ true ↦ refl | false ↦ n ]
-
 pub world_finished : (w : World) (first next more a : ℕ) → IsWorld w first next → next ≤ more → IsWorld (finished w a) first more
 world_finished w first next more a is grows = record {
   one = λ v u j n e f. is.one v u j n (finished_back w a v j e) (finished_back w a u j f);
@@ -162,7 +159,7 @@ world_finished w first next more a is grows = record {
 pub goes_finished : (w : World) (next more t a : ℕ) → next ≤ more → ((j : Builder) → w a ≡ Some j → j.thread ≡ t) → GoesOn w (finished w a) next more t 0
 goes_finished w next more t a grows was = record {
   grows = grows;
-  finished = λ v o. finished_none w a v o.1;
+  finished = λ v o. elim (v == a) as (λ (b : Bool). (if b then None else w v) ≡ None) [ true ↦ refl | false ↦ o.1 ];
   others = λ v j n e. finished_there w a v (λ s. n (was j (subst (λ (x : ℕ). w x ≡ Some j) s e))) ∙ e;
   no_more = λ v j n e. finished_back w a v j e;
   lower = λ v j m l e. absurd (omega (arith, l));
