@@ -300,10 +300,9 @@ module _ (lies : StartLiesApart) (structure : StructureIsKept) (state : BuiltSta
         is_put : (number : ℕ) (g : FieldInfo) → slice_get c.program.fields number ≡ Some g → is_static g.flags ≡ false → (op : Op) → HasRow c.program (site_in kept.stands.method) kept.stands.insn.pc (targets.Field number) op (row_at c f kept.stands) → is_getfield op ≡ false
             → puts_owned owning.owned op (targets.Field number) ≡ owning.owned number
         is_put number g named static (ops.Putfield i) rows get = refl
-        is_put number g named static (ops.Getfield i) rows get = absurd (cc)
         is_put number g named static (ops.Getstatic i) rows get = absurd (let same : rows.field ≡ g = same_some (sym rows.there ∙ named) in let bad : true ≡ false = sym rows.sort ∙ (ap (λ (y : FieldInfo). is_static y.flags) same ∙ static) in cc)
         is_put number g named static (ops.Putstatic i) rows get = absurd (let same : rows.field ≡ g = same_some (sym rows.there ∙ named) in let bad : true ≡ false = sym rows.sort ∙ (ap (λ (y : FieldInfo). is_static y.flags) same ∙ static) in cc)
-        is_put number g named static op rows get = absurd (assumption)
+        is_put number g named static op rows get = absurd (first_of (assumption, cc))
 
         writes_it : (v : Variable) (n : ℕ) → effect_at c.program at ≡ Writes v n → IsLeft (change owning.stores m.later m.goes same_places con.places.stored) kept.stands.target v n
         writes_it v n same field named =

@@ -327,9 +327,7 @@ module _ (c : MarkedProgram) (was : Phase) (x : Thread) where
     goes_go _ _ (moves.by_object a word) is = pushed_goes a x.frames refl
     goes_go _ _ (moves.by_handler v class at top) is = throws_on v class
         (record { finished = λ w next t k. subst (λ (p : Phase). PhaseKeeps w next t p) is k; frames = λ b k. subst (λ (p : Phase). PhaseIn b p x.frames) is k }) at top
-    goes_go _ _ (moves.by_none m r e) is = goes_still
-    goes_go _ _ (moves.by_one m r u) is = goes_still
-    goes_go _ _ (moves.by_all m r) is = goes_still
+    goes_go phase o k is = goes_still
 
     -- the next root, with no frame yet
     starts_go : x.frames ≡ [] → (y : Thread) → Stood y → (o : Option Onward) → Go (goes_on_if y o)

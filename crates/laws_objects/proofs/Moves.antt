@@ -140,10 +140,7 @@ module _ (Old More : ℕ → Type 0) (Fresh Later : ℕ → ℕ → Type 0) (you
 
   type_finished : (class : ℕ) (u : VType) (v : ℕ) → SlotByType Old Fresh young u v → SlotByType More Later young (after_type class u) v
   type_finished class (types.New r) v f = new_finished class r v (q == r) refl (young r) refl f
-  type_finished class types.Null v f = f
-  type_finished class types.Int v f = tt
-  type_finished class types.Top v f = tt
-  type_finished class u v f = old v f
+  type_finished class u v f = first_of (assumption, search old)
 
   not_this_after : (class : ℕ) (u : VType) → u ≢ types.This → after_type class u ≢ types.This
   not_this_after class u n = elim (same_type (types.New q) u) as (λ (b : Bool). (if b then types.Ref class else u) ≢ types.This) [ true ↦ λ e. cc | false ↦ n ]

@@ -26,10 +26,7 @@ module _ (Old More : ℕ → Type 0) (Fresh Later : ℕ → ℕ → Type 0) (old
 
   type_behind : (u : VType) (v : ℕ) → IsNewBefore pc u → SlotByType Old Fresh young u v → SlotByType More Later young u v
   type_behind (types.New q) v l h = new_behind (young q) q v l h
-  type_behind types.Null v l h = h
-  type_behind types.Int v l h = tt
-  type_behind types.Top v l h = tt
-  type_behind u v l h = old v h
+  type_behind u v l h = first_of (assumption, search old)
 
   pub slot_behind : (own : Bool) (u : VType) (g : Tag) (v : ℕ) → IsNewBefore pc u → SlotIs Old Fresh own young receiver u g v → SlotIs More Later own young receiver u g v
   slot_behind own u g v l h = slot_by Old More Fresh Later young receiver own u u g v (λ n. n) (type_behind u v l) h

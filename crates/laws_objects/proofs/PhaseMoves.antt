@@ -227,10 +227,9 @@ module _ (moving : Moving) (objects : List Object) (s : Core) (facts : HeapFacts
                 -- an instance field is read by a `getfield`
                 is_get : (op : Op) → HasRow c.program (site_in kf.stands.method) kf.stands.insn.pc (targets.Field named.number) op (row_at c f kf.stands) → is_putfield op ≡ false → is_read_of named.number op (targets.Field named.number) ≡ true
                 is_get (ops.Getfield i) h p = eq-eqb named.number named.number refl
-                is_get (ops.Putfield i) h p = absurd (cc)
                 is_get (ops.Getstatic i) h p = absurd (let same : h.field ≡ field = same_some (sym h.there ∙ named.there) in let bad : true ≡ false = sym h.sort ∙ (ap (λ (x : FieldInfo). is_static x.flags) same ∙ e) in cc)
                 is_get (ops.Putstatic i) h p = absurd (let same : h.field ≡ field = same_some (sym h.there ∙ named.there) in let bad : true ≡ false = sym h.sort ∙ (ap (λ (x : FieldInfo). is_static x.flags) same ∙ e) in cc)
-                is_get op h p = absurd (assumption)
+                is_get op h p = absurd (first_of (assumption, cc))
 
                 reads : is_read_of named.number kf.stands.insn.op kf.stands.target ≡ true
                 reads =

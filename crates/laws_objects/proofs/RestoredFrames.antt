@@ -83,8 +83,7 @@ module _ (stores : Stores) (new : NewArray stores) where
   -- a value that is another, of any type
   other_on : (t : VType) (v : ℕ) → Apart v → IsNoStored stores t v → IsNoStored after t v
   other_on types.Int v n h = tt
-  other_on types.Top v n h = tt
-  other_on t v n h = nowhere_on v n h
+  other_on t v n h = first_of (assumption, search nowhere_on)
 
   -- ---- lists of slots
 

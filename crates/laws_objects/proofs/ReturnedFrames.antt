@@ -85,10 +85,7 @@ module _ (building : Building) (h : ℕ) (null : IsFinished building.w building.
 
   return_takes : (op : Op) → is_return op ≡ true → takes_any op ≡ false
   return_takes (ops.Getfield i) r = absurd (cc)
-  return_takes ops.Iaload r = absurd (cc)
-  return_takes ops.Iastore r = absurd (cc)
-  return_takes ops.Arraylength r = absurd (cc)
-  return_takes op r = refl
+  return_takes op r = cc
 
   return_stores : (op : Op) (target : Target) → is_return op ≡ true → puts_owned owning.owned op target ≡ false
   return_stores (ops.Putfield i) target r = absurd (cc)

@@ -121,11 +121,8 @@ module _ (Old More : ℕ → Type 0) (Fresh Later : ℕ → ℕ → Type 0) (old
   new_slot false q v e h = old v h
 
   pub by_type : (t : VType) (v : ℕ) → SlotByType Old Fresh young t v → SlotByType More Later young t v
-  by_type types.Null v h = h
   by_type (types.New q) v h = new_slot (young q) q v refl h
-  by_type types.Int v h = tt
-  by_type types.Top v h = tt
-  by_type t v h = old v h
+  by_type t v h = first_of (assumption, search old)
 
   pub slot_later : (own : Bool) (receiver : ℕ) (t : VType) (g : Tag) (v : ℕ) → SlotIs Old Fresh own young receiver t g v → SlotIs More Later own young receiver t g v
   slot_later own receiver t g v h = slot_by Old More Fresh Later young receiver own t t g v (λ n. n) (by_type t v) h

@@ -51,10 +51,8 @@ module _ (now : World) (next t v : ℕ) (strange : IsStrange now t v) (null : Is
 
     type_other : (u : VType) (word : ℕ) → SlotByType (IsFinished now next) (IsFresh now t h Runs) young u word → IsOther v u word
     type_other types.Null word s = λ e. not_finished 0 null (sym s ∙ e)
-    type_other (types.Ref class) word s = not_finished word s
-    type_other types.This word s = not_finished word s
     type_other (types.New pc) word s = new_other pc word (young pc) s
-    type_other u word s = tt
+    type_other u word s = first_of (assumption, search not_finished)
 
     own_other : (ours : own ≡ true) (u : VType) (g : Tag) (word : ℕ) → OwnSlot (IsFinished now next) (IsFresh now t h Runs) young receiver u g word → IsOther v u word
     own_other ours u g word s = elim (not_this g) [
