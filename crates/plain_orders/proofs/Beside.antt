@@ -20,6 +20,13 @@ use native.Mathlib.Decide.{ℕ_discrete}
 
 -- ---- lists
 
+and_false : (b : Bool) → b && false ≡ false
+and_false false = refl
+and_false true = refl
+
+got_same : {A : Type 0} (a b : A) → Some a ≡ Some b → a ≡ b
+got_same a b e = cc
+
 module _ {A : Type 0} where
   pub got_here : (xs : List A) (i : ℕ) (x y : A) → slice_get xs i ≡ Some x → slice_get (slice_set xs i y) i ≡ Some y
   got_here [] i x y e = cc
@@ -27,48 +34,32 @@ module _ {A : Type 0} where
   got_here (z ∷ zs) (suc i) x y e = got_here zs i x y e
 
   pub got_else : (xs : List A) (i j : ℕ) (y : A) → j ≢ i → slice_get (slice_set xs i y) j ≡ slice_get xs j
-  got_else [] i j y n = refl
   got_else (z ∷ zs) zero zero y n = absurd (n refl)
-  got_else (z ∷ zs) zero (suc j) y n = refl
-  got_else (z ∷ zs) (suc i) zero y n = refl
   got_else (z ∷ zs) (suc i) (suc j) y n = got_else zs i j y (λ e. n (ap suc e))
+  got_else xs i j y n = refl
 
   pub set_swaps : (xs : List A) (i j : ℕ) (a b : A) → j ≢ i → slice_set (slice_set xs i a) j b ≡ slice_set (slice_set xs j b) i a
-  set_swaps [] i j a b n = refl
   set_swaps (z ∷ zs) zero zero a b n = absurd (n refl)
-  set_swaps (z ∷ zs) zero (suc j) a b n = refl
-  set_swaps (z ∷ zs) (suc i) zero a b n = refl
   set_swaps (z ∷ zs) (suc i) (suc j) a b n = ap (λ l. z ∷ l) (set_swaps zs i j a b (λ e. n (ap suc e)))
+  set_swaps xs i j a b n = refl
 
   map_set : (f : A → A) (xs : List A) (i : ℕ) (a : A) → map f (slice_set xs i a) ≡ slice_set (map f xs) i (f a)
-  map_set f [] i a = refl
-  map_set f (z ∷ zs) zero a = refl
   map_set f (z ∷ zs) (suc i) a = ap (λ l. f z ∷ l) (map_set f zs i a)
+  map_set f xs i a = refl
 
   map_got : (f : A → A) (xs : List A) (i : ℕ) (a : A) → slice_get xs i ≡ Some a → slice_get (map f xs) i ≡ Some (f a)
-  map_got f [] i a e = cc
-  map_got f (z ∷ zs) zero a e = cc
   map_got f (z ∷ zs) (suc i) a e = map_got f zs i a e
+  map_got f xs i a e = cc
 
   any_set : (f : A → Bool) (xs : List A) (i : ℕ) (x y : A) → slice_get xs i ≡ Some x → f y ≡ f x → list_any f (slice_set xs i y) ≡ list_any f xs
   any_set f [] i x y e k = refl
-  any_set f (z ∷ zs) zero x y e k = ap (λ b. b || list_any f zs) (k ∙ ap f (same z x e))
-    where
-      same : (a b : A) → Some a ≡ Some b → b ≡ a
-      same a b h = cc
+  any_set f (z ∷ zs) zero x y e k = ap (λ b. b || list_any f zs) (k ∙ ap f (sym (got_same z x e)))
   any_set f (z ∷ zs) (suc i) x y e k = ap (λ b. f z || b) (any_set f zs i x y e k)
 
   not_all : (f : A → Bool) (xs : List A) (i : ℕ) (x : A) → slice_get xs i ≡ Some x → f x ≡ false → list_all f xs ≡ false
   not_all f [] i x e k = cc
-  not_all f (z ∷ zs) zero x e k = ap (λ b. b && list_all f zs) (ap f (same z x e) ∙ k)
-    where
-      same : (a b : A) → Some a ≡ Some b → a ≡ b
-      same a b h = cc
-  not_all f (z ∷ zs) (suc i) x e k = by_head (f z) (not_all f zs i x e k)
-    where
-      by_head : (b : Bool) → list_all f zs ≡ false → b && list_all f zs ≡ false
-      by_head false h = refl
-      by_head true h = h
+  not_all f (z ∷ zs) zero x e k = ap (λ b. b && list_all f zs) (ap f (got_same z x e) ∙ k)
+  not_all f (z ∷ zs) (suc i) x e k = ap (λ b. f z && b) (not_all f zs i x e k) ∙ and_false (f z)
 
 -- ---- a thread that is about no waiting, and whose part has not ended
 
@@ -81,16 +72,8 @@ pub record IsQuiet (x : PlainThread) : Type 0 where
 
 init_same : (ts : List PlainThread) (t : ℕ) (x y : PlainThread) → slice_get ts t ≡ Some x → y.ended ≡ x.ended
     → init_has_returned (slice_set ts t y) ≡ init_has_returned ts
-init_same [] t x y e k = refl
-init_same (z ∷ zs) zero x y e k = ap first_is_return (k ∙ ap (λ (w : PlainThread). w.ended) (same z x e))
-  where
-    same : (a b : PlainThread) → Some a ≡ Some b → b ≡ a
-    same a b h = cc
-init_same (z ∷ zs) (suc t) x y e k = refl
-
-and_false : (b : Bool) → b && false ≡ false
-and_false false = refl
-and_false true = refl
+init_same (z ∷ zs) zero x y e k = ap first_is_return (k ∙ ap (λ (w : PlainThread). w.ended) (sym (got_same z x e)))
+init_same ts t x y e k = refl
 
 done_same : (ts : List PlainThread) (t : ℕ) (x y : PlainThread) → slice_get ts t ≡ Some x → y.ended ≡ x.ended
     → is_over x.status ≡ false → is_over y.status ≡ false → is_done_due (slice_set ts t y) ≡ is_done_due ts
@@ -106,10 +89,21 @@ due_same ts t zero x y [] e k a b = refl
 due_same ts t zero x y (v ∷ vs) e k a b = done_same ts t x y e k a b
 due_same ts t (suc u) x y ended e k a b = init_same ts t x y e k
 
--- ---- one step of thread u, where thread t is x, or y instead
+-- ---- one step of thread u, beside a local step of another
 
-module _ (p : Program) (q : Plain) (t u : ℕ) (x y w : PlainThread) (apart : u ≢ t) (here : slice_get q.threads t ≡ Some x)
-    (quiet : IsQuiet x) (quiet_too : IsQuiet y) (ends : y.ended ≡ x.ended) where
+-- what a local step changes: thread t is x, or y instead
+pub record Changed (q : Plain) : Type 0 where
+  pub t : ℕ
+  pub x : PlainThread
+  pub y : PlainThread
+  pub here : slice_get q.threads t ≡ Some x
+  pub quiet : IsQuiet x
+  pub quiet_too : IsQuiet y
+  pub ends : y.ended ≡ x.ended
+
+module _ (p : Program) (q : Plain) (changed : Changed q) (u : ℕ) (w : PlainThread) (apart : u ≢ changed.t) where
+  open changed use {t, x, y, here, quiet, quiet_too, ends}
+
   abbrev put : Plain → Plain
   put s = with_thread s t y
 
@@ -155,8 +149,7 @@ module _ (p : Program) (q : Plain) (t u : ℕ) (x y w : PlainThread) (apart : u 
       → Beside (if b then option_map (with_thread q u) o else None) (if c then option_map (with_thread r u) o else None)
   by_due true true o e = by_thread o
   by_due false false o e = none
-  by_due true false o e = cc
-  by_due false true o e = cc
+  by_due b c o e = cc
 
   -- instructions
   by_written : (o : Option ℕ) (place word : ℕ) (z : PlainThread)
@@ -219,9 +212,8 @@ module _ (p : Program) (q : Plain) (t u : ℕ) (x y w : PlainThread) (apart : u 
   by_left : (m depth : ℕ) (o : Option Onward)
       → Beside (option_map (λ k. with_thread (left q u m depth) u (plain_goes_on w k)) o) (option_map (λ k. with_thread (left r u m depth) u (plain_goes_on w k)) o)
   by_left m depth None = none
-  by_left m zero (Some k) = one (let_go q m) (plain_goes_on w k) here
-  by_left m (suc zero) (Some k) = one (let_go q m) (plain_goes_on w k) here
   by_left m (suc (suc depth)) (Some k) = one (held_by q m u (suc depth)) (plain_goes_on w k) here
+  by_left m depth (Some k) = one (let_go q m) (plain_goes_on w k) here
 
   by_exit : (b : Bool) (m depth : ℕ) (o : Option Onward)
       → Beside (if b then option_map (λ k. with_thread (left q u m depth) u (plain_goes_on w k)) o else None) (if b then option_map (λ k. with_thread (left r u m depth) u (plain_goes_on w k)) o else None)
@@ -244,8 +236,7 @@ module _ (p : Program) (q : Plain) (t u : ℕ) (x y w : PlainThread) (apart : u 
   by_any : (b c : Bool) → c ≡ b → Beside (if b then None else at_q (with_status w plain.Run)) (if c then None else at_r (with_status w plain.Run))
   by_any true true e = none
   by_any false false e = one q (with_status w plain.Run) here
-  by_any true false e = cc
-  by_any false true e = cc
+  by_any b c e = cc
 
   abbrev then_runs : Option Plain → Option Plain
   then_runs o = option_map (λ k. with_thread k u (with_status w plain.Run)) o

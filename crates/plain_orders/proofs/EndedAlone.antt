@@ -25,9 +25,6 @@ finished_phase phase f = absurd (not_so f)
     not_so : false ≡ true → ⊥
     not_so g = cc
 
-not_false : (b : Bool) → b ≡ true → b ≡ false → ⊥
-not_false b e f = cc
-
 not_less : (n : ℕ) → nat_lt (suc (suc n)) 2 ≡ false
 not_less n = grind (arith, nat_tests)
 

@@ -12,13 +12,10 @@ use Rattle.machine_types.specs.Onward as onward
 use Rattle.plain_orders.specs.LocalSteps.{onward_alone, stays_live, gone_alone, is_there, is_local_of, is_local, LocalStepsSwap, LocalStepsAreAlone}
 use Rattle.plain_orders.specs.Orders.{AreLocal}
 use Rattle.plain_orders.proofs.OwnSteps.{live_onward, local_steps_are_own}
-use Rattle.plain_orders.proofs.Beside.{IsQuiet, step_beside, got_else}
+use Rattle.plain_orders.proofs.Beside.{Changed, IsQuiet, step_beside, got_else}
 
 no_onward : (o : Onward) → None ≡ Some o → ⊥
 no_onward o e = cc
-
-no_thread : (x : PlainThread) → None ≡ Some x → ⊥
-no_thread x e = cc
 
 no_state : (s : Plain) → None ≡ Some s → ⊥
 no_state s e = cc
@@ -59,7 +56,6 @@ there (Some y) e = (y, refl)
 
 known_by : (p : Program) (act : Act) (o : Option PlainThread) → is_local_of p act o ≡ true
     → (x : PlainThread) × (y : PlainThread) × (o ≡ Some x) × (gone_alone p x ≡ Some y) × (act ≡ acts.Do)
-known_by p acts.Do None e = absurd (not_true e)
 known_by p acts.Do (Some x) e = let k = there (gone_alone p x) e in (x, k.0, refl, k.1, refl)
 known_by p act o e = absurd (not_true e)
 
@@ -76,9 +72,16 @@ swapped p q s t u act x y None n here gone e = absurd (no_state s e)
 swapped p q s t u act x y (Some w) n here gone e =
     let k = live_onward (onward_alone p x x.status) x y gone in
     let after = behind x k.0 k.2 in
-    let quiet_y : IsQuiet y = subst IsQuiet k.3 after.0 in
-    let ends : y.ended ≡ x.ended = subst (λ (z : PlainThread). z.ended ≡ x.ended) k.3 after.1 in
-    let both = step_beside p q t u x y w n here (before p x x.status k.0 refl k.1) quiet_y ends act w.status in
+    let changed : Changed q = record {
+      t = t;
+      x = x;
+      y = y;
+      here = here;
+      quiet = before p x x.status k.0 refl k.1;
+      quiet_too = subst IsQuiet k.3 after.0;
+      ends = subst (λ (z : PlainThread). z.ended ≡ x.ended) k.3 after.1;
+    } in
+    let both = step_beside p q changed u w n act w.status in
     (both.1 s e, both.0 ∙ ap (option_map (λ (z : Plain). with_thread z t y)) e)
 
 pub local_steps_swap : LocalStepsSwap

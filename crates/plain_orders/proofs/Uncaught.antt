@@ -40,10 +40,7 @@ any_there f (z ∷ zs) (suc t) x e is = ap (λ (b : Bool). f z || b) (any_there 
 ended_kept : (x : PlainThread) (o : Onward) → stays_live o ≡ Some o → (plain_goes_on x o).ended ≡ x.ended
 ended_kept x onward.RootReturned e = absurd (cc)
 ended_kept x (onward.Uncaught class) e = absurd (cc)
-ended_kept x (onward.Running fs) e = refl
-ended_kept x (onward.Throwing r class fs) e = refl
-ended_kept x (onward.Entering m fs) e = refl
-ended_kept x (onward.Leaving m a fs) e = refl
+ended_kept x o e = refl
 
 gone_ended : (p : Program) (x y : PlainThread) → gone_alone p x ≡ Some y → y.ended ≡ x.ended
 gone_ended p x y e =
@@ -66,7 +63,6 @@ all_keep p q z (a ∷ xs) v = all_keep p v.1 z xs v.3 ∙ one_keeps p q v.1 a v.
 
 by_phase : (phase : Phase) → is_by_uncaught (end_or_not_run phase) ≡ true → list_any is_by_uncaught (own_end phase) ≡ true
 by_phase (phases.Ended (ends.Uncaught class)) e = refl
-by_phase (phases.Ended end) e = absurd (cc)
 by_phase phase e = absurd (cc)
 
 by_first : (p : Program) (part : ℕ) (phase : Phase) (first : Option End) → FirstFits part first → is_by_uncaught (reported_end phase first) ≡ true → list_any is_by_uncaught (ends_shown p part phase) ≡ true
