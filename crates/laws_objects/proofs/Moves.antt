@@ -47,14 +47,12 @@ module _ (m : MethodInfo) (young : ℕ → Bool) where
   new_starts q class e = elim (cases_Bool (young q)) [ inl y ↦ inr (record { pc = q; class = class; is = refl; young_is = y; of_class = e }) | inr y ↦ inl y ]
 
   pub starts : (wants : List Want) (ts : List VType) → Suit m wants ts → Starts (started m.class wants ts)
-  starts [] ts h = inl tt
   starts (ToStart class ∷ wants) (types.This ∷ ts) h = inl tt
   starts (ToStart class ∷ wants) (types.New q ∷ ts) h =
       new_starts q class (is_true (is_class_of (new_class m.code m.targets q) class) (or_parts (not (is_class_of (new_class m.code m.targets q) class)) (some_taken (λ want t. not (suits m want t)) wants ts) h).0)
   starts (ToStart class ∷ wants) (t ∷ ts) h = absurd (cc)
   starts (want ∷ wants) (t ∷ ts) h = starts wants ts (suits_later m want t wants ts h)
-  starts (ToStart class ∷ wants) [] h = inl tt
-  starts (want ∷ wants) [] h = inl tt
+  starts wants ts h = inl tt
 
 pub is_start : (m : MethodInfo) (young : ℕ → Bool) (o : Option (VType × ℕ)) → Starts m young o → IsStart o
 is_start m young o (inl s) = by_type o s

@@ -146,13 +146,11 @@ by_op_many p m pc target ops.Dup g f k = by_tags f.stack refl
     moved = moved_many (row p m pc target ops.Dup) g f k
 
     by_tags : (ts : List Tag) → f.stack ≡ ts → AreAsMany (record { stack = stack_after Top (λ t. t) (row p m pc target ops.Dup) g.stack g.locals; locals = g.locals; ready = g.ready }) (tags_by_op pc (row p m pc target ops.Dup) ops.Dup ts f)
-    by_tags [] e = moved
-    by_tags (Own ∷ ts) e = moved
-    by_tags (At q ∷ ts) e = moved
     by_tags (Untagged ∷ ts) e = record {
       stack = ap (λ (n : ℕ). suc (suc n)) (without_long pc ts) ∙ (let long : length g.stack ≡ suc (length ts) = sym k.stack ∙ ap (length {A = Tag}) e in ap (λ (n : ℕ). suc (suc n)) (omega (arith, long, length-drop 1 g.stack)));
       locals = without_long pc f.locals ∙ k.locals;
     }
+    by_tags ts e = moved
 by_op_many p m pc target ops.Monitorenter g f k = by_tags f.stack
   where
     moved : AreAsMany (record { stack = stack_after Top (λ t. t) (row p m pc target ops.Monitorenter) g.stack g.locals; locals = g.locals; ready = g.ready }) (moved_tags (row p m pc target ops.Monitorenter) f)
