@@ -30,7 +30,6 @@ module _ (p : Program) (tags : Tagged) (program : IsProgram p) (all : AreTagged 
     pub each_reached : (i : ℕ) → AtEach Q i
     each_reached i m insn target f at =
         let t = all mi m at.in_program in
-        let same : at.frames ≡ t.0 = same_Some at.frames t.0 (sym at.of_method ∙ t.1) in
         let from : (i j : ℕ) (a b : Insn) (x : Target) (u v : TagShape) → IsEdgeTo p m t.0 t.2 i j a b x u v → IsAt p tags mi i m a x u =
         λ i j a b x u v e. record { in_program = at.in_program; in_code = e.code; names = e.names; frames = t.0; of_method = t.1; frame = e.frame } in
         let moved : (i j : ℕ) (a b : Insn) (x : Target) (u v : TagShape) (e : IsEdgeTo p m t.0 t.2 i j a b x u v)
@@ -38,8 +37,7 @@ module _ (p : Program) (tags : Tagged) (program : IsProgram p) (all : AreTagged 
         λ i j a b x u v e step before n o y w to.
         let is_m : n ≡ m = same_Some n m (sym to.in_program ∙ at.in_program) in
         let is_insn : o ≡ b = same_Some o b (sym to.in_code ∙ ap (λ (k : MethodInfo). slice_get k.code j) is_m ∙ e.to_code) in
-        let is_frames : to.frames ≡ t.0 = same_Some to.frames t.0 (sym to.of_method ∙ t.1) in
-        let is_frame : w ≡ v = same_frame w v (sym to.frame ∙ ap (λ (l : List (Option TagShape)). slice_get l j) is_frames ∙ e.to_frame) in
+        let is_frame : w ≡ v = same_frame w v (sym to.frame ∙ ap (λ (l : List (Option TagShape)). slice_get l j) (same_Some to.frames t.0 (sym to.of_method ∙ t.1)) ∙ e.to_frame) in
         let shown : IsAt p tags mi j m b y v = record {
           in_program = at.in_program;
           in_code = e.to_code;
@@ -52,7 +50,7 @@ module _ (p : Program) (tags : Tagged) (program : IsProgram p) (all : AreTagged 
         all_reach p m t.0 t.2 (AtEach Q) start
         (λ i j a b x u v e goes before. moved i j a b x u v e (λ y to q. onward i j m a b x y u v (from i j a b x u v e) to goes q) before)
         (λ i j a b x u v e goes before. moved i j a b x u v e (λ y to q. caught i j m a b x y u v (from i j a b x u v e) to goes q) before)
-        i f (ap (λ (l : List (Option TagShape)). slice_get l i) (sym same) ∙ at.frame) m insn target f at
+        i f (ap (λ (l : List (Option TagShape)). slice_get l i) (sym (same_Some at.frames t.0 (sym at.of_method ∙ t.1))) ∙ at.frame) m insn target f at
       where
         same_frame : (u v : TagShape) → Some (Some u) ≡ Some (Some v) → u ≡ v
         same_frame u v e = cc
@@ -233,8 +231,7 @@ module _ (p : Program) (tags : Tagged) (program : IsProgram p) (all : AreTagged 
       no_read : (i : ℕ) (n : MethodInfo) (insn : Insn) (target : Target) (f : TagShape) → IsAt p tags mi i n insn target f → is_read_of fi insn.op target ≡ false
       no_read i n insn target f at = is_false (is_read_of fi insn.op target) (λ e.
           let own : o.field.class ≡ n.class = reads_own p fi o.field n insn.op target o.is o.private (target_named p tags mi i n insn target f program at) e in
-          let same : n ≡ m = same_Some n m (sym at.in_program ∙ there) in
-          let bad : true ≡ false = sym (eq-eqb m.class o.field.class (sym (own ∙ ap (λ (x : MethodInfo). x.class) same))) ∙ other in
+          let bad : true ≡ false = sym (eq-eqb m.class o.field.class (sym (own ∙ ap (λ (x : MethodInfo). x.class) (same_Some n m (sym at.in_program ∙ there))))) ∙ other in
           cc)
 
   -- in one of the class it is used well
@@ -294,8 +291,7 @@ module _ (p : Program) (tags : Tagged) (uses : Uses) (program : IsProgram p) (al
   by_colour fi own u false e = inr (λ o same.
       let there : IsColouring p tags mi fi o.colours = subst (λ (n : ℕ). IsColouring p tags mi n o.colours) same o.colouring in
       let one : o.colours i ≡ u.colours i = one_colouring p tags mi fi i m insn target f o.colours u.colours program all there u.colouring at in
-      let bad : true ≡ false = sym o.coloured ∙ ap (λ (s : ColourShape). is_coloured s.stack k) one ∙ e in
-      by_sorts bad)
+      by_sorts (sym o.coloured ∙ ap (λ (s : ColourShape). is_coloured s.stack k) one ∙ e))
     where
       by_sorts : true ≡ false → ⊥
       by_sorts x = cc
@@ -313,8 +309,7 @@ module _ (p : Program) (tags : Tagged) (uses : Uses) (program : IsProgram p) (al
   by_owner : (fi : ℕ) (b : Bool) → owns_arrays uses fi ≡ b → Found ⊎ IsNotBy fi
   by_owner fi true e = let own = (a.owners fi).0 e in by_class fi own (m.class == own.field.class) refl
   by_owner fi false e = inr (λ o same.
-      let bad : true ≡ false = sym ((a.owners fi).1 (subst (λ (n : ℕ). IsOwnedArrayField p tags n) same o.owned)) ∙ e in
-      by_sorts bad)
+      by_sorts (sym ((a.owners fi).1 (subst (λ (n : ℕ). IsOwnedArrayField p tags n) same o.owned)) ∙ e))
     where
       by_sorts : true ≡ false → ⊥
       by_sorts x = cc

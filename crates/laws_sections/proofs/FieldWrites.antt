@@ -79,11 +79,9 @@ pub final_law : FinalLaw
 final_law p tags fi mi i index receiver m insn target f stack program g at is names_field this =
     let named : IsTargetOf p (site_in m) (ops.Putfield index) (targets.Field fi) = field_named p tags fi mi i m insn target f (ops.Putfield index) program at is names_field in
     let allowed = may_write g.field.class g.field.flags m (of_field p false fi g.field m named g.is) g.final in
-    let inside = g.frozen mi m at.in_program (sym allowed.0) allowed.1 in
-    let here : PutsOnThis p m insn.op target f = inside.finals i insn target f at in
+    let here : PutsOnThis p m insn.op target f = (g.frozen mi m at.in_program (sym allowed.0) allowed.1).finals i insn target f at in
     let here : PutsOnThis p m (ops.Putfield index) (targets.Field fi) f = subst (λ t. PutsOnThis p m (ops.Putfield index) t f) names_field (subst (λ op. PutsOnThis p m op target f) is here) in
-    let final : is_final_of m.class (slice_get p.fields fi) ≡ true = subst (λ o. is_final_of m.class o ≡ true) (sym g.is) (is_final_field m.class g.field allowed.0 g.final) in
-    (allowed.1, this 1 (here final))
+    (allowed.1, this 1 (here (subst (λ o. is_final_of m.class o ≡ true) (sym g.is) (is_final_field m.class g.field allowed.0 g.final))))
 
 pub final_static_law : FinalStaticLaw
 final_static_law p tags fi mi i index m insn target f g program at is names_field =

@@ -74,11 +74,7 @@ module _ (p : Program) (m : MethodInfo) where
     landed : (h g : TagShape) (pc j : ℕ) → TagLands ends.last h pc → IsFirstOf m.code pc j → slice_get frames j ≡ Some (Some g) → h.held ≡ g.held
     landed h g pc j lands first e =
         let b = ends.framed j g e in
-        let below : IsBelow tag_meeting IsShapeBelow tag_order (Some h) (Some g) = subst (λ o. IsBelow tag_meeting IsShapeBelow tag_order (Some h) o) b.2 (lands j b.0 first b.1) in
-        held_of h g below
-      where
-        held_of : (h g : TagShape) → IsShapeBelow h g → h.held ≡ g.held
-        held_of h g below = below.held
+        (subst (λ o. IsBelow tag_meeting IsShapeBelow tag_order (Some h) o) b.2 (lands j b.0 first b.1)).held
 
     -- ---- each instruction with a frame is the first of its pc
 

@@ -137,8 +137,7 @@ own_no_fault p tags uses s i m insn target f k own at = ⊎_elim (λ q. q)
     (λ (q : section_fault p uses.fields (section_mode p s) insn.op target f.stack (reads_owned uses s.method i) ≢ 0).
     let n : ℕ = section_fault p uses.fields (section_mode p s) insn.op target f.stack (reads_owned uses s.method i) in
     let breaks : BreaksAt p tags uses (callee s.method (section_mode p s)) i n = record { m = m; insn = insn; target = target; f = f; at = at; fault_is = refl; some = omega (arith, q) } in
-    let breaks : OwnBreaks p tags uses s n = record { i = i; own = own; breaks = breaks } in
-    absurd (k n (itself breaks)))
+    absurd (k n (itself (record { i = i; own = own; breaks = breaks }))))
     (cases_eq (section_fault p uses.fields (section_mode p s) insn.op target f.stack (reads_owned uses s.method i)) 0)
 
 -- nor does a method that it calls

@@ -29,9 +29,7 @@ innermost mode t [] e own = absurd (none t e)
     none This e = cc
     none (At pc) e = cc
 innermost mode This (u ∷ held) e own = ((own_object mode u (own (omega arith))).0, refl)
-innermost mode (At pc) (u ∷ held) e own =
-    let is : u ≡ This = (own_object mode u (own (omega arith))).1 in
-    absurd (let bad : true ≡ false = subst (λ x. not (same_tag (At pc) x) ≡ false) is e in cc)
+innermost mode (At pc) (u ∷ held) e own = absurd (let bad : true ≡ false = subst (λ x. not (same_tag (At pc) x) ≡ false) ((own_object mode u (own (omega arith))).1) e in cc)
 
 exits_innermost : (mode : Mode) (ts held : List Tag) → exits_other ops.Monitorexit ts held ≡ false → (0 < length held → is_own_object mode (slice_index_or held 0 Untagged) ≡ true) → (mode ≡ OnThis) × (slice_index_or ts 0 Untagged ≡ This)
 exits_innermost mode [] held e own = absurd (let bad : true ≡ false = e in cc)
@@ -43,13 +41,10 @@ module _ (p : Program) (tags : Tagged) (tagged : AreTagged p tags) where
   tagging_at : (mi i : ℕ) (m : MethodInfo) (insn : Insn) (target : Target) (f : TagShape) (at : IsAt p tags mi i m insn target f) → HasTagging p m at.frames
   tagging_at mi i m insn target f at =
       let t = tagged mi m at.in_program in
-      let same : t.0 ≡ at.frames = (let e : Some t.0 ≡ Some at.frames = sym t.1 ∙ at.of_method in cc) in
-      subst (HasTagging p m) same t.2
+      subst (HasTagging p m) (let e : Some t.0 ≡ Some at.frames = sym t.1 ∙ at.of_method in cc) t.2
 
   exit_at : (mi i : ℕ) (m : MethodInfo) (insn : Insn) (target : Target) (f : TagShape) → IsAt p tags mi i m insn target f → exits_other insn.op f.stack f.held ≡ false
-  exit_at mi i m insn target f at =
-      let sound = sound_at p m at.frames (tagging_at mi i m insn target f at) i insn target f at.in_code at.names at.frame in
-      sound.exits
+  exit_at mi i m insn target f at = (sound_at p m at.frames (tagging_at mi i m insn target f at) i insn target f at.in_code at.names at.frame).exits
 
   -- the number of an instruction with tags is known by its pc
   one_start : (mi i j : ℕ) (m n : MethodInfo) (insn other : Insn) (target next : Target) (f g : TagShape) → IsAt p tags mi i m insn target f → IsAt p tags mi j n other next g → insn.pc ≡ other.pc → i ≡ j

@@ -21,8 +21,7 @@ not_both : (p : Program) (tags : Tagged) (fi : ℕ) → IsFrozenUse p tags fi �
 not_both p tags fi frozen guarded =
     let a = frozen_is_final p tags fi frozen in
     let b = guarded_changes p tags fi guarded in
-    let same : a.0 ≡ b.0 = same_Some a.0 b.0 (sym a.1 ∙ b.1) in
-    let bad : true ≡ false = sym a.2 ∙ ap (λ (f : FieldInfo). is_final f.flags) same ∙ b.2 in
+    let bad : true ≡ false = sym a.2 ∙ ap (λ (f : FieldInfo). is_final f.flags) (same_Some a.0 b.0 (sym a.1 ∙ b.1)) ∙ b.2 in
     cc
 
 one_use_at : (p : Program) (tags : Tagged) (fi : ℕ) (u v : FieldUse) → IsUse p tags fi u → IsUse p tags fi v → u ≡ v
@@ -124,5 +123,4 @@ all_marked p tags uses (s ∷ ss) (m ∷ marks) (n ∷ others) a b =
 
 pub one_mark : OneMark
 one_mark p tags marks others a b =
-    let same : b.uses ≡ a.uses = one_use p tags b.uses a.uses b.are_uses a.are_uses in
-    all_marked p tags a.uses (sections p) marks others a.each (subst (λ us. AllZip (IsMarkOf p tags us) (sections p) others) same b.each)
+    all_marked p tags a.uses (sections p) marks others a.each (subst (λ us. AllZip (IsMarkOf p tags us) (sections p) others) (one_use p tags b.uses a.uses b.are_uses a.are_uses) b.each)

@@ -12,15 +12,12 @@ use Rattle.jvm_types.specs.declared.program.Target.TheVariants as targets
 
 -- ---- a block begins
 
-entered_held : (pc : ℕ) (r : OpRow) (top : Tag) (below : List Tag) (f : TagShape) → length f.held < length (tags_by_op pc r ops.Monitorenter (top ∷ below) f).held
-entered_held pc r top below f = omega arith
-
 pub begin_law : BeginLaw
 begin_law p tags mi i j m insn other target next f g top below from to enters stack goes held =
     let begins : BeginsAt p tags mi insn.pc i f = record { m = m; insn = insn; target = target; at = from; pc_is = refl; enters = enters } in
     let more : length f.held < length (tags_after insn (row_of p m insn target) f).held =
     subst (λ op. length f.held < length (tags_by_op insn.pc (row_of p m insn target) op f.stack f).held) (sym enters)
-    (subst (λ ts. length f.held < length (tags_by_op insn.pc (row_of p m insn target) ops.Monitorenter ts f).held) (sym stack) (entered_held insn.pc (row_of p m insn target) top below f)) in
+    (subst (λ ts. length f.held < length (tags_by_op insn.pc (row_of p m insn target) ops.Monitorenter ts f).held) (sym stack) (omega arith)) in
     let deep : length f.held < length g.held = subst (λ ts. length f.held < length ts) held more in
     record {
       enter = i;

@@ -111,12 +111,10 @@ module _ (m : MethodInfo) (frames : List (Option TagShape)) (laid : IsLaidOut m)
 
   free_by_op : (pc : ℕ) (r : OpRow) (op : Op) (ts : List Tag) (f : TagShape) → ts ≡ f.stack → IsFree (At pc) → AreFree f → AreFree (tags_by_op pc r op ts f)
   free_by_op pc r ops.Dup (Untagged ∷ ts) f e own h =
-      let behind : AllByRecursion IsFree (Untagged ∷ ts) = subst (AllByRecursion IsFree) (sym e) h.stack in
-      record { stack = (own, (own, free_without pc ts behind.1)); locals = free_without pc f.locals h.locals; held = h.held }
+      record { stack = (own, (own, free_without pc ts (subst (AllByRecursion IsFree) (sym e) h.stack).1)); locals = free_without pc f.locals h.locals; held = h.held }
   free_by_op pc r ops.Monitorenter (t ∷ ts) f e own h =
-      let top : AllByRecursion IsFree (t ∷ ts) = subst (AllByRecursion IsFree) (sym e) h.stack in
       let moved = free_moved r f h in
-      record { stack = moved.stack; locals = moved.locals; held = (top.0, h.held) }
+      record { stack = moved.stack; locals = moved.locals; held = ((subst (AllByRecursion IsFree) (sym e) h.stack).0, h.held) }
   free_by_op pc r ops.Monitorexit ts f e own h =
       let moved = free_moved r f h in
       record { stack = moved.stack; locals = moved.locals; held = free_drop 1 f.held h.held }
@@ -126,8 +124,7 @@ module _ (m : MethodInfo) (frames : List (Option TagShape)) (laid : IsLaidOut m)
   made_free : (i : ℕ) (insn : Insn) (f : TagShape) → slice_get m.code i ≡ Some insn → slice_get frames i ≡ Some (Some f) → AreFree f → IsFree (At insn.pc)
   made_free i insn f c e h j other g d at k =
       let same : j ≡ i = one_number m j i other insn laid d c at in
-      let is : f ≡ g = one_there (slice_get frames i) f g e (ap (slice_get frames) (sym same) ∙ k) in
-      subst (λ (x : TagShape). is_held (At insn.pc) x.held ≡ false) is (own_free i insn f c e h)
+      subst (λ (x : TagShape). is_held (At insn.pc) x.held ≡ false) (one_there (slice_get frames i) f g e (ap (slice_get frames) (sym same) ∙ k)) (own_free i insn f c e h)
     where
       one_there : (o : Option (Option TagShape)) (g h : TagShape) → o ≡ Some (Some g) → o ≡ Some (Some h) → g ≡ h
       one_there o g h d e = cc

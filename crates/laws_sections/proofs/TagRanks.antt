@@ -123,9 +123,6 @@ rank_by_op pc r ops.Monitorenter (t ∷ ts) f e h = rank_moved r f h
 rank_by_op pc r ops.Monitorexit ts f e h = rank_moved r f h
 rank_by_op pc r op ts f e h = rank_moved r f h
 
-rank_after : (p : Program) (m : MethodInfo) (insn : Insn) (target : Target) (f : TagShape) → frame_rank (tags_after insn (row p m insn.pc target insn.op) f) ≤ frame_rank f + 9
-rank_after p m insn target f = rank_by_op insn.pc (row p m insn.pc target insn.op) insn.op f.stack f refl (few_given p m insn.pc target insn.op)
-
 -- ---- all that an instruction does
 
 breaks_up : (bound : ℕ) (b : Bool) (rule : SRule) (pc : ℕ) → AllByRecursion (BringsUpTo frame_rank bound) (break_if b rule pc)
@@ -142,12 +139,11 @@ acts_up p m (Some insn) (Some target) f =
     let enters = break_if (enters_untagged insn.op f.stack) S1 insn.pc in
     let exits = break_if (exits_other insn.op f.stack f.held) S2 insn.pc in
     let brings : List (Act TagShape SRule) = Bring S3 (edges insn) (tags_after insn (row p m insn.pc target insn.op) f) ∷ map (λ (handler : Row). Bring S3 (handler.handler ∷ []) (tags_at_handler f)) (catchers m insn) in
-    let leaves = break_if (leaves_held m insn f.held) S4 insn.pc in
     let P : Act TagShape SRule → Type 0 = BringsUpTo frame_rank most in
-    all_append P (enters ++ exits ++ brings) leaves
+    all_append P (enters ++ exits ++ brings) (break_if (leaves_held m insn f.held) S4 insn.pc)
     (all_append P (enters ++ exits) brings
     (all_append P enters exits (breaks_up most (enters_untagged insn.op f.stack) S1 insn.pc) (breaks_up most (exits_other insn.op f.stack f.held) S2 insn.pc))
-    (rank_after p m insn target f, handlers_up f (catchers m insn)))
+    ((rank_by_op insn.pc (row p m insn.pc target insn.op) insn.op f.stack f refl (few_given p m insn.pc target insn.op)), handlers_up f (catchers m insn)))
     (breaks_up most (leaves_held m insn f.held) S4 insn.pc)
 acts_up p m o q f = tt
 

@@ -55,8 +55,7 @@ module _ (p : Program) (m : MethodInfo) (frames : List (Option TagShape)) (laid 
   all_have tagged i f e =
       let closed : IsClosed (tag_plan p m) HasIt = record { first = first_has; meets = λ i g f a b. a; lands = plan_lands } in
       let has = (local (tag_plan p m) IsShapeBelow tag_order HasIt closed (begins m laid) frames tagged).live i f e in
-      let same : has.0 ≡ f = one_there (slice_get frames i) has.0 f has.1 e in
-      subst P same has.2
+      subst P (one_there (slice_get frames i) has.0 f has.1 e) has.2
     where
       one_there : (o : Option (Option TagShape)) (g h : TagShape) → o ≡ Some (Some g) → o ≡ Some (Some h) → g ≡ h
       one_there o g h d e = cc

@@ -38,9 +38,8 @@ module _ {A R : Type 0} (plan : Plan A R) (Below : A → A → Type 0) (order : 
   node_there : (j : ℕ) (insn : Insn) → slice_get plan.code j ≡ Some insn → (node : PlanNode A) × (slice_get all_settled.last j ≡ Some node)
   node_there j insn e =
       let long : length all_settled.last ≡ length plan.code = visits_length plan Below order all_settled.visits (plan_nodes plan) all_settled.last all_settled.made ∙ first_length plan Below order plan.code in
-      let low : j < length all_settled.last = subst (λ (n : ℕ). j < n) (sym long) (slice_get_within plan.code j insn e) in
       let none : PlanNode A = record { frame = None; waits = true } in
-      (get_or all_settled.last j none, slice_get-get_or all_settled.last j none low)
+      (get_or all_settled.last j none, slice_get-get_or all_settled.last j none (subst (λ (n : ℕ). j < n) (sym long) (slice_get_within plan.code j insn e)))
 
   pub framed_there : (f : A) (to : ℕ) → LandsOn plan.meeting Below order plan.code all_settled.last f to → (j : ℕ) → IsFirstOf plan.code to j → (g : A) × (slice_get frames j ≡ Some (Some g))
   framed_there f to lands j first =

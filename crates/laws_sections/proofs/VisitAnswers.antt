@@ -22,8 +22,7 @@ one_last p nodes last other [] [] v w = v.1 ∙ sym w.1
 one_last p nodes last other [] (j ∷ js) v w = absurd (some_waits (next_waiting nodes) j v.0 w.0)
 one_last p nodes last other (i ∷ is) [] v w = absurd (some_waits (next_waiting nodes) i w.0 v.0)
 one_last {A = A} p nodes last other (i ∷ is) (j ∷ js) v w =
-    let here : j ≡ i = one_waits (next_waiting nodes) j i w.0 v.0 in
-    let mid : w.1 ≡ v.1 = one_mid (plan_visited p i nodes) w.1 v.1 (subst (λ (k : ℕ). plan_visited p k nodes ≡ Ok w.1) here w.2) v.2 in
+    let mid : w.1 ≡ v.1 = one_mid (plan_visited p i nodes) w.1 v.1 (subst (λ (k : ℕ). plan_visited p k nodes ≡ Ok w.1) (one_waits (next_waiting nodes) j i w.0 v.0) w.2) v.2 in
     one_last p v.1 last other is js v.3 (subst (λ (n : List (PlanNode A)). PlanVisits p n js other) mid w.3)
 
 -- visits that end break no rule
@@ -32,28 +31,22 @@ none_breaks p nodes last is [] fault v b = b
 none_breaks p nodes last [] (j ∷ []) fault v b = some_waits (next_waiting nodes) j v.0 b.0
 none_breaks p nodes last [] (j ∷ k ∷ js) fault v b = some_waits (next_waiting nodes) j v.0 b.0
 none_breaks p nodes last (i ∷ is) (j ∷ []) fault v b =
-    let here : j ≡ i = one_waits (next_waiting nodes) j i b.0 v.0 in
-    goes_on (plan_visited p i nodes) v.1 fault v.2 (subst (λ (k : ℕ). plan_visited p k nodes ≡ Err fault) here b.1)
+    goes_on (plan_visited p i nodes) v.1 fault v.2 (subst (λ (k : ℕ). plan_visited p k nodes ≡ Err fault) (one_waits (next_waiting nodes) j i b.0 v.0) b.1)
 none_breaks {A = A} p nodes last (i ∷ is) (j ∷ k ∷ js) fault v b =
-    let here : j ≡ i = one_waits (next_waiting nodes) j i b.0 v.0 in
-    let mid : b.1 ≡ v.1 = one_mid (plan_visited p i nodes) b.1 v.1 (subst (λ (n : ℕ). plan_visited p n nodes ≡ Ok b.1) here b.2) v.2 in
+    let mid : b.1 ≡ v.1 = one_mid (plan_visited p i nodes) b.1 v.1 (subst (λ (n : ℕ). plan_visited p n nodes ≡ Ok b.1) (one_waits (next_waiting nodes) j i b.0 v.0) b.2) v.2 in
     none_breaks p v.1 last is (k ∷ js) fault v.3 (subst (λ (n : List (PlanNode A)). PlanBreaks p n (k ∷ js) fault) mid b.3)
 
 pub one_break : {A R : Type 0} (p : Plan A R) (nodes : List (PlanNode A)) (is js : List ℕ) (fault other : R × ℕ) → PlanBreaks p nodes is fault → PlanBreaks p nodes js other → fault ≡ other
 one_break p nodes [] js fault other a b = absurd a
 one_break p nodes (i ∷ is) [] fault other a b = absurd b
 one_break p nodes (i ∷ []) (j ∷ []) fault other a b =
-    let here : j ≡ i = one_waits (next_waiting nodes) j i b.0 a.0 in
-    one_fault (plan_visited p i nodes) fault other a.1 (subst (λ (n : ℕ). plan_visited p n nodes ≡ Err other) here b.1)
+    one_fault (plan_visited p i nodes) fault other a.1 (subst (λ (n : ℕ). plan_visited p n nodes ≡ Err other) (one_waits (next_waiting nodes) j i b.0 a.0) b.1)
 one_break p nodes (i ∷ []) (j ∷ k ∷ js) fault other a b =
-    let here : j ≡ i = one_waits (next_waiting nodes) j i b.0 a.0 in
-    absurd (goes_on (plan_visited p i nodes) b.1 fault (subst (λ (n : ℕ). plan_visited p n nodes ≡ Ok b.1) here b.2) a.1)
+    absurd (goes_on (plan_visited p i nodes) b.1 fault (subst (λ (n : ℕ). plan_visited p n nodes ≡ Ok b.1) (one_waits (next_waiting nodes) j i b.0 a.0) b.2) a.1)
 one_break p nodes (i ∷ h ∷ is) (j ∷ []) fault other a b =
-    let here : j ≡ i = one_waits (next_waiting nodes) j i b.0 a.0 in
-    absurd (goes_on (plan_visited p i nodes) a.1 other a.2 (subst (λ (n : ℕ). plan_visited p n nodes ≡ Err other) here b.1))
+    absurd (goes_on (plan_visited p i nodes) a.1 other a.2 (subst (λ (n : ℕ). plan_visited p n nodes ≡ Err other) (one_waits (next_waiting nodes) j i b.0 a.0) b.1))
 one_break {A = A} p nodes (i ∷ h ∷ is) (j ∷ k ∷ js) fault other a b =
-    let here : j ≡ i = one_waits (next_waiting nodes) j i b.0 a.0 in
-    let mid : b.1 ≡ a.1 = one_mid (plan_visited p i nodes) b.1 a.1 (subst (λ (n : ℕ). plan_visited p n nodes ≡ Ok b.1) here b.2) a.2 in
+    let mid : b.1 ≡ a.1 = one_mid (plan_visited p i nodes) b.1 a.1 (subst (λ (n : ℕ). plan_visited p n nodes ≡ Ok b.1) (one_waits (next_waiting nodes) j i b.0 a.0) b.2) a.2 in
     one_break p a.1 (h ∷ is) (k ∷ js) fault other a.3 (subst (λ (n : List (PlanNode A)). PlanBreaks p n (k ∷ js) other) mid b.3)
 
 pub one_frames : {A R : Type 0} (p : Plan A R) (frames others : List (Option A)) → HasFrames p frames → HasFrames p others → frames ≡ others
@@ -101,11 +94,3 @@ settled p start now n c = c.settles now ([], (n, refl))
 
 pub broken : {A R : Type 0} (p : Plan A R) (start now : List (PlanNode A)) (i : ℕ) (fault : R × ℕ) → next_waiting now ≡ Some i → plan_visited p i now ≡ Err fault → Continues p start now → Break p start fault
 broken p start now i fault n v c = c.breaks fault (i ∷ [], (n, v))
-
--- ---- the answer
-
-pub has_frames : {A R : Type 0} (p : Plan A R) (last : List (PlanNode A)) → Settle p (plan_nodes p) last → HasFrames p (map (λ node. node.frame) last)
-has_frames p last s = record { visits = s.0; last = last; made = s.1; are = refl }
-
-pub is_broken : {A R : Type 0} (p : Plan A R) (rule : R) (pc : ℕ) → Break p (plan_nodes p) (rule, pc) → IsBroken p rule pc
-is_broken p rule pc b = record { visits = b.0; broken = b.1 }

@@ -280,8 +280,7 @@ module _ {A R : Type 0} (p : Plan A R) (Below : A → A → Type 0) (order : Ord
   first_below [] (i ∷ is) last b v e = absurd (let bad : None ≡ Some i = v.0 in cc)
   first_below (insn ∷ code) is last b v e =
       let on = framed_on is (nodes_for p.first (insn ∷ code)) last v 0 p.first (record { frame = Some p.first; waits = true }, refl, order.self p.first) in
-      let same : on.0 ≡ b = same_Some _ _ (sym on.1 ∙ e) in
-      subst (λ (n : PlanNode A). IsBelow p.meeting Below order (Some p.first) n.frame) same on.2
+      subst (λ (n : PlanNode A). IsBelow p.meeting Below order (Some p.first) n.frame) (same_Some _ _ (sym on.1 ∙ e)) on.2
 
   pub starts_below : (is : List ℕ) (last : List (PlanNode A)) (b : PlanNode A) → PlanVisits p (plan_nodes p) is last → slice_get last 0 ≡ Some b → IsBelow p.meeting Below order (Some p.first) b.frame
   starts_below is last b v e = first_below p.code is last b v e

@@ -22,10 +22,6 @@ pub record Orders {A : Type 0} (d : Meeting A) (Below : A → A → Type 0) : Ty
   pub own : (f : A) → d.clashes f f ≡ false
   pub again : (g f : A) → d.clashes g f ≡ false → d.clashes (d.meet g f) f ≡ false
 
-either_is_false : (t u : Bool) → t ≡ false → u ≡ false → (t || u) ≡ false
-either_is_false true u e f = e
-either_is_false false u e f = f
-
 module _ {A : Type 0} (d : Meeting A) (Below : A → A → Type 0) (order : Orders d Below) where
   abbrev pub IsBelow : Option A → Option A → Type 0
   IsBelow None g = Unit {0}
@@ -160,10 +156,9 @@ module _ {A : Type 0} (d : Meeting A) (Below : A → A → Type 0) (order : Orde
           → Brings (insn ∷ code) tos f to (node ∷ nodes) (cond t (joined d node.waits node.frame f ∷ nodes) (node ∷ edge_brought d code to f nodes))
       by_test true t c k more =
           let free : clashes_with d node.frame f ≡ false = here (to == insn.pc) (has_number tos insn.pc) (clashes_with d node.frame f) (same_test true t) c in
-          let one = joined_rises node.waits node.frame f free in
           let test : (has_number tos insn.pc && clashes_with d (joined d node.waits node.frame f).frame f) ≡ false = both_false (has_number tos insn.pc) (clashes_with d (joined d node.waits node.frame f).frame f) (joined_clashes node.waits node.frame f free) in
           record {
-            risen = (one.0, risen_self nodes);
+            risen = ((joined_rises node.waits node.frame f free).0, risen_self nodes);
             lands = λ j b first e. at j b first e;
             rest = ap (λ t. cond t (Some insn.pc) (meeting_clash d code tos f nodes)) test ∙ fewer_clash code nodes k;
           }
