@@ -164,10 +164,9 @@ module _ (state : HeapState) where
       by_flag false e =
           let holder = at.holder e in
           let from = (is_program.fields at.number f at.there).class.0 in
-          let class : holder.1 ≡ f.class = files_alone holder.1 f.class from holder.3 in
           let object = holder.2.0 in
           let there : Contains objects object = holder.2.1 in
-          let of_class : object.class ≡ f.class = holder.2.3 ∙ class in
+          let of_class : object.class ≡ f.class = holder.2.3 ∙ (files_alone holder.1 f.class from holder.3) in
           let sized = facts.apart.sized there.0 object (contained_got objects object there) (λ array. absurd (omega (arith, array, of_class, from))) in
           let below : f.index < length object.values = subst (λ n. f.index < n) (sym sized) (subst (λ d. f.index < instances_among d c.program.fields) (sym of_class) (instances_inside c.program at.number f is_program at.there e)) in
           record {
@@ -240,10 +239,9 @@ module _ (state : HeapState) where
 
   array_class : (a i : ℕ) → IsOf (HasClass objects) INT_ARRAY_CLASS a → (k : HasElement objects a i) → k.object.class ≡ INT_ARRAY_CLASS
   array_class a i array k =
-      let class : array.1 ≡ INT_ARRAY_CLASS = leaves_alone array.1 INT_ARRAY_CLASS refl array.3 in
       let object : Object = array.2.0 in
       let one : k.object ≡ object = same_object c.program objects (slice_index s.words NEXT_FREE_WORD) facts.apart k.object object k.there array.2.1 (k.is ∙ sym array.2.2) in
-      ap (λ (o : Object). o.class) one ∙ (array.2.3 ∙ class)
+      ap (λ (o : Object). o.class) one ∙ (array.2.3 ∙ (leaves_alone array.1 INT_ARRAY_CLASS refl array.3))
 
   site_on : (word : ℕ) (stored : Option ℕ) (stack : List ℕ) → (HasReference stored stack → ReadsArray (HasClass objects) stored stack) → IsElementOn word stored stack → HasElementOn objects stored stack → ElementSite objects word stored
   site_on word None (i ∷ a ∷ stack) array on k = record {

@@ -68,9 +68,6 @@ module _ (event : HeapEvent) where
         by_side (inl k) = subst P (sym k.1) own
         by_side (inr k) = other k.1 k.0
 
-  low_end : (o : Object) → Contains later o → object_end o ≤ slice_index s.words NEXT_FREE_WORD
-  low_end o k = behind.apart.below k.0 o (contained_got later o k)
-
   zero_there : (n : ℕ) → slice_index s.words NEXT_FREE_WORD ≤ n → n < c.program.heap → slice_index after n ≡ 0
   zero_there n le lt = behind.unused n le ∙ facts.unused.empty n le lt
 
@@ -79,7 +76,7 @@ module _ (event : HeapEvent) where
     begins = omega (arith, facts.begins, k.at);
     below = omega (arith, k.next);
     inside = k.room;
-    beside = λ o there. inl (omega (arith, low_end o there, k.at));
+    beside = λ o there. inl (omega (arith, (behind.apart.below there.0 o (contained_got later o there)), k.at));
     empty = λ n from to. zero_there n (omega (arith, k.at, from)) (omega (arith, to, k.room));
   }
 

@@ -58,8 +58,7 @@ entry_none : (p : Program) (name descriptor : List ℕ) (number : ℕ) → is_cl
 entry_none p name descriptor number other h m e =
     let x = numbered (is_entry_named name descriptor) p.methods 0 number h in
     let there : slice_get p.methods number ≡ Some x.method = ap (slice_get p.methods) (omega (arith, x.number)) ∙ x.there in
-    let same : x.method ≡ m = same_some (sym there ∙ e) in
-    let passes : is_entry_named name descriptor m ≡ true = subst (λ (y : MethodInfo). is_entry_named name descriptor y ≡ true) same x.passes in
+    let passes : is_entry_named name descriptor m ≡ true = subst (λ (y : MethodInfo). is_entry_named name descriptor y ≡ true) (same_some (sym there ∙ e)) x.passes in
     let parts = both_are_true ((m.class == file_class 0) && bytes_eq m.name name) (bytes_eq m.descriptor descriptor) passes in
     ap is_class_init_name ((bytes_eq-Decides m.name name).0 (both_are_true (m.class == file_class 0) (bytes_eq m.name name) parts.0).1) ∙ other
 

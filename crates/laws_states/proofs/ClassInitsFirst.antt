@@ -40,8 +40,7 @@ events_put_first given c cfg s t marked threads first = all_kept (slice_get s.th
 
     now_none : (x : Thread) → slice_get s.threads t ≡ Some x → IsBehindInit t (now x).part → RunsNoClassInit c.program (now x)
     now_none x there behind =
-        let part : (now x).part ≡ x.part = ap (λ (g : Given). g.part) (given c x x.phase (found_by s.words (wanted c x x.phase))) in
-        let was_behind : IsBehindInit t x.part = subst (IsBehindInit t) part behind in
+        let was_behind : IsBehindInit t x.part = subst (IsBehindInit t) (ap (λ (g : Given). g.part) (given c x x.phase (found_by s.words (wanted c x x.phase)))) behind in
         let lawful = threads.lawful t x there in
         moved_none c marked lawful.was x (found_by s.words (wanted c x x.phase)) lawful.structured (first t x there was_behind) (roots_none x there was_behind)
 
@@ -100,9 +99,7 @@ class_inits_alone c cfg s t class x threads first there runs init = by_number t 
   where
     workers_wait : (part : ℕ) → x.part ≡ part → (ts : List Thread) → PartsFit ts → slice_get ts 0 ≡ Some x → (IsBehindInit 0 part → ⊥) → (u : ℕ) (y : Thread) → slice_get ts (suc u) ≡ Some y → y.phase ≡ phases.Idle
     workers_wait part e [] fits at early u y f = absurd (cc)
-    workers_wait zero e (z ∷ workers) fits at early u y f =
-        let same : z ≡ x = same_some at in
-        one_idle workers u y (subst (λ (n : ℕ). PartFits n z.phase workers) (ap (λ (q : Thread). q.part) same ∙ e) fits) f
+    workers_wait zero e (z ∷ workers) fits at early u y f = one_idle workers u y (subst (λ (n : ℕ). PartFits n z.phase workers) (ap (λ (q : Thread). q.part) (same_some at) ∙ e) fits) f
     workers_wait (suc zero) e (z ∷ workers) fits at early u y f =
         let same : z ≡ x = same_some at in
         let ended : z.phase ≡ phases.Ended ends.Returned = subst (λ (n : ℕ). PartFits n z.phase workers) (ap (λ (q : Thread). q.part) same ∙ e) fits in

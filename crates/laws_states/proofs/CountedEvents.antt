@@ -104,8 +104,7 @@ module _ (c : MarkedProgram) (s : Thread) (got began i : ℕ) (few : s.counts.in
       let same = goes_if z o in
       let held : flat_held (goes_on_if z o).held ≡ flat_held z.held = ap (λ (t : Tally). flat_held t.held) same in
       let locked : (goes_on_if z o).counts.locked ≡ z.counts.locked = ap (λ (t : Tally). t.locked) same in
-      let count : (goes_on_if z o).counts.instructions ≡ z.counts.instructions = ap (λ (t : Tally). t.instructions) same in
-      record { instructions = omega (arith, n, few, count); taken = omega (arith, k, held, locked) }
+      record { instructions = omega (arith, n, few, (ap (λ (t : Tally). t.instructions) same)); taken = omega (arith, k, held, locked) }
 
   as_before : (was : Phase) (z : Thread) (o : Option Onward) → z.held ≡ s.held → z.counts.locked ≡ s.counts.locked → z.counts.instructions ≡ i → drawn_in was ≤ 0 → Counts was (goes_on_if z o)
   as_before was z o e l n d = let held : flat_held z.held ≡ flat_held s.held = ap flat_held e in onward was z o n (omega (arith, held, l, d))
@@ -124,9 +123,8 @@ module _ (c : MarkedProgram) (s : Thread) (got began i : ℕ) (few : s.counts.in
   move_counts _ (moves.enters_inside m n t k) e h = record { instructions = few; taken = omega arith }
   move_counts _ (moves.begins_to_try m n noted f below l may free last unheld) e h = record { instructions = few; taken = omega arith }
   move_counts was (moves.takes_lock m kept k) e h =
-      let new : Held = record { monitor = m; kept = kept; depth = 1 } in
       let none : drawn_in was ≤ 0 = takes_in (λ (w : Phase). drawn_in w ≤ 0) got m was kept k (λ count. omega arith) (λ r. omega arith) in
-      record { instructions = few; taken = omega (arith, none, flat_put new s.held, at_most_one m kept) }
+      record { instructions = few; taken = omega (arith, none, flat_put (record { monitor = m; kept = kept; depth = 1 }) s.held, at_most_one m kept) }
   move_counts _ (moves.gives_up m a (moves.on_leave g l t)) e h = onward (phases.Leave m a) (record (counting i s) { held = without_held m s.held }) (after c.program s.frames a) refl (omega (arith, flat_without m s.held))
   move_counts _ (moves.gives_up m a moves.flat_out) e h = let one = flat_of m s.held h in onward (phases.FlatOut m a) (record (counting i s) { held = without_held m s.held }) (after c.program s.frames a) refl (omega (arith, one))
     where
@@ -140,10 +138,7 @@ module _ (c : MarkedProgram) (s : Thread) (got began i : ℕ) (few : s.counts.in
   move_counts _ (moves.leaves_inside m a t inner k l) e h = as_before (phases.Leave m a) (record (counting i s) { attempt = Some (record t { inner = inner }) }) (after c.program s.frames a) refl refl refl (omega arith)
   move_counts _ (moves.finishes_try m a t k l y) e h = as_before (phases.Leave m a) (elided (counting i s)) (after c.program s.frames a) refl refl refl (omega arith)
   move_counts _ (moves.fattens_lock m r toward g l) e h =
-      let fat : Held = record g { kept = keeps.Fat r } in
-      let same = flat_refit m s.held g fat l refl in
-      let one = flat_is_one g (subst IsFlat l h) in
-      record { instructions = few; taken = omega (arith, same, one) }
+      record { instructions = few; taken = omega (arith, (flat_refit m s.held g (record g { kept = keeps.Fat r }) l refl), (flat_is_one g (subst IsFlat l h))) }
   move_counts _ (moves.gives_up_to_wait m r g l) e h = record { instructions = few; taken = omega (arith, flat_without m s.held) }
   move_counts _ (moves.retakes_lock m r depth t) e h = let new : Held = record { monitor = m; kept = keeps.Fat r; depth = depth } in record { instructions = few; taken = omega (arith, flat_put new s.held) }
   move_counts _ (moves.starts number roots l) e h = as_before phases.Start (record (counting i s) { roots = roots }) _ refl refl refl (omega arith)

@@ -14,9 +14,7 @@ none_of : (u : ℕ) → 0 * 2 ^ u ≡ 0
 none_of u = omega arith
 
 pub no_flag : (n u : ℕ) → bit_at n u ≡ 0 → has_flag (bit_of u) n ≡ false
-no_flag n u e =
-    let none : bit_and n (2 ^ u) ≡ 0 = and_pow n u ∙ ap (λ (b : ℕ). b * 2 ^ u) e ∙ none_of u in
-    ap (λ (k : ℕ). not (k == 0)) none
+no_flag n u e = ap (λ (k : ℕ). not (k == 0)) (and_pow n u ∙ ap (λ (b : ℕ). b * 2 ^ u) e ∙ none_of u)
 
 -- the bits of few threads
 few_set : (n u : ℕ) → n < 2 ^ 9 → has_flag (bit_of u) n ≡ true → u < 9
@@ -25,16 +23,14 @@ few_set n u few set = by_place (nat_lt u 9) refl
     by_place : (b : Bool) → nat_lt u 9 ≡ b → u < 9
     by_place true e = grind (arith, nat_tests, e)
     by_place false e =
-        let high : 9 ≤ u = grind (arith, nat_tests, e) in
-        let bad : true ≡ false = sym set ∙ no_flag n u (bit_at_above n 9 u few high) in
+        let bad : true ≡ false = sym set ∙ no_flag n u (bit_at_above n 9 u few (grind (arith, nat_tests, e))) in
         absurd (cc)
 
 -- the others stay
 others_stay : (n u w : ℕ) → u < 9 → w < 9 → u ≢ w → has_flag (bit_of u) n ≡ true → has_flag (bit_of u) (bit_and n (2 ^ 64 - 1 - bit_of w)) ≡ true
 others_stay n u w few low differ set =
-    let mask : 2 ^ w ≤ 2 ^ 64 - 1 = omega (arith, pow_below w 64 (omega (arith, low))) in
     let apart : bit_and (2 ^ w) (2 ^ u) ≡ 0 = and_pow (2 ^ w) u ∙ ap (λ (b : ℕ). b * 2 ^ u) (bit_at-pow_other w u differ) ∙ none_of u in
-    ap (λ (k : ℕ). not (k == 0)) (and_not_bit n (2 ^ 64 - 1) (2 ^ w) u refl mask (omega (arith, few)) apart) ∙ set
+    ap (λ (k : ℕ). not (k == 0)) (and_not_bit n (2 ^ 64 - 1) (2 ^ w) u refl (omega (arith, pow_below w 64 (omega (arith, low)))) (omega (arith, few)) apart) ∙ set
 
 -- ---- all phases
 
@@ -108,11 +104,8 @@ module _ (sites : KnownSites) (mover : LockMover) (records : RecordsFit mover.st
           let bad : true ≡ false = sym stays ∙ out in
           absurd (cc)
 
-  all_cleared : (m r : ℕ) → x.phase ≡ phases.NotifyAll m r → was t ≡ phases.NotifyAll m r → Done (phases.NotifyAll m r)
-  all_cleared m r e k = written (phases.NotifyAll m r) r 0 (fits_bounds mover (phases.NotifyAll m r) e) k refl (λ u out in'. absurd (cc)) (λ u in' out. refl)
-
   pub bits_by_phase : (phase : Phase) → x.phase ≡ phase → IsAs phase (was t) → Done phase
   bits_by_phase (phases.WaitBit m r) e k = wait_set m r e k
   bits_by_phase (phases.NotifyOne m r u) e k = one_cleared m r u e k
-  bits_by_phase (phases.NotifyAll m r) e k = all_cleared m r e k
+  bits_by_phase (phases.NotifyAll m r) e k = written (phases.NotifyAll m r) r 0 (fits_bounds mover (phases.NotifyAll m r) e) k refl (λ u out in'. absurd (cc)) (λ u in' out. refl)
   bits_by_phase phase e k = still phase e tt

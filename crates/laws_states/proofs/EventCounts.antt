@@ -16,9 +16,6 @@ module _ (sites : KnownSites) (mover : LockMover) where
   abbrev Follows : List Held → Type 0
   Follows later = CountsFollow (locks_in (references_of objects) s.words) x.held later
 
-  once : AreHeldOnce x.held
-  once = structured.stands.once
-
   -- ---- the list as it was, with an entry put, or without one
 
   same : Follows x.held
@@ -32,10 +29,7 @@ module _ (sites : KnownSites) (mover : LockMover) where
       at m n false g e = inl e
 
   put_fat : (k : Held) (r : ℕ) → k.kept ≡ keeps.Fat r → Follows (with_held k x.held)
-  put_fat k r fat = put k (λ n e. absurd (apart n e))
-    where
-      apart : (n : ℕ) → k.kept ≡ keeps.Flat n → ⊥
-      apart n e = let bad : keeps.Fat r ≡ keeps.Flat n = sym fat ∙ e in cc
+  put_fat k r fat = put k (λ n e. absurd (let bad : keeps.Fat r ≡ keeps.Flat n = sym fat ∙ e in cc))
 
   put_again : (m : ℕ) (h k : Held) → held_at x.held m ≡ Some h → k.monitor ≡ h.monitor → k.kept ≡ h.kept → Follows (with_held k x.held)
   put_again m h k at same_monitor same_kept = put k (λ n e. inl (subst (λ (o : Option Held). KeepsFlat o n) (sym here) (sym same_kept ∙ e)))
@@ -44,7 +38,7 @@ module _ (sites : KnownSites) (mover : LockMover) where
       here = ap (held_at x.held) (same_monitor ∙ held_monitor m x.held h at) ∙ at
 
   drop_one : (n : ℕ) → Follows (without_held n x.held)
-  drop_one n = λ m k e. at m k (n == m) (subst (λ (o : Option Held). KeepsFlat o k) (held_without m n x.held once) e)
+  drop_one n = λ m k e. at m k (n == m) (subst (λ (o : Option Held). KeepsFlat o k) (held_without m n x.held structured.stands.once) e)
     where
       at : (m k : ℕ) (b : Bool) → KeepsFlat (cond b None (held_at x.held m)) k → KeepsFlat (held_at x.held m) k ⊎ ((locks_in (references_of objects) s.words).lock m ≡ locks.Free k)
       at m k true e = absurd e

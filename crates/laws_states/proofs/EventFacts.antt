@@ -20,13 +20,10 @@ module _ (laws : WordLaws) (state : RunState) (t : ℕ) where
   -- ---- each word stays a number of 64 bits
 
   module _ (x : Thread) (there : slice_get s.threads t ≡ Some x) where
-    set_small : (a : Access) → wanted c x x.phase ≡ Some a → (i : ℕ) → slice_index (slice_set s.words (accessed a) (left_by a (slice_index s.words (accessed a)))) i < 2 ^ 64
-    set_small a e i = set_each (λ n. n < 2 ^ 64) s.words (accessed a) (left_by a (slice_index s.words (accessed a))) (leaves_small laws state t x there a e) facts.small i
-
     small_by : (o : Option Access) → wanted c x x.phase ≡ o → (i : ℕ) → slice_index (words_after s.words o) i < 2 ^ 64
     small_by None e i = facts.small i
     small_by (Some Rest) e i = facts.small i
-    small_by (Some a) e i = set_small a e i
+    small_by (Some a) e i = set_each (λ n. n < 2 ^ 64) s.words (accessed a) (left_by a (slice_index s.words (accessed a))) (leaves_small laws state t x there a e) facts.small i
 
   words_small : (o : Option Thread) → slice_get s.threads t ≡ o → (i : ℕ) → slice_index (event_of c s t o).words i < 2 ^ 64
   words_small None e i = facts.small i

@@ -54,9 +54,6 @@ module _ (sites : KnownSites) (mover : LockMover) where
   open mover use {t, x, there, lawful, structured, number, own, state.{was, owners, base.{cfg, threads, heap.{c, marked, objects, s, facts}}}}
   open sites use {differ, inside, reach}
 
-  settings : x.cfg ≡ cfg
-  settings = (threads.own t x there).settings
-
   -- an event that leaves these words, where no header is stored for the first time
   abbrev Leaves : List ℕ → Type 0
   Leaves words = LocksFollow (locks_in (references_of objects) s.words) (locks_in (references_of objects) words) t cfg.range x.held
@@ -109,7 +106,7 @@ module _ (sites : KnownSites) (mover : LockMover) where
     let_go n kept is = by_lock (own_lock n kept)
       where
         count : IsFreed (held_at x.held m) cfg.range (next_count n x.cfg.range)
-        count = subst (λ (o : Option Held). IsFreed o cfg.range (next_count n x.cfg.range)) (sym at) (n, kept, ap (λ (g : Config). next_count n g.range) settings)
+        count = subst (λ (o : Option Held). IsFreed o cfg.range (next_count n x.cfg.range)) (sym at) (n, kept, ap (λ (g : Config). next_count n g.range) ((threads.own t x there).settings))
 
         by_lock : ((locks_in (references_of objects) s.words).lock m ≡ locks.Held t) ⊎ ((locks_in (references_of objects) s.words).lock m ≡ locks.Flagged t) → Leaves (slice_set s.words m (freed x n))
         by_lock (inl e) = lock_from m (locks.Held t) (locks.Free (next_count n x.cfg.range)) is e (refl, count)
@@ -167,8 +164,7 @@ module _ (sites : KnownSites) (mover : LockMover) where
   let_out : (m : ℕ) (o : Option Held) → held_at x.held m ≡ o → IsFlat o → HasObject objects m → Leaves (slice_set s.words m (freed x (count_kept o)))
   let_out m None at flat is = absurd flat
   let_out m (Some h) at flat is =
-      let same : count_kept (Some h) ≡ flat.0 = ap (λ (k : Kept). count_kept (Some (record h { kept = k }))) flat.1 in
-      subst (λ (n : ℕ). Leaves (slice_set s.words m (freed x n))) (sym same) (let_go m h at flat.0 flat.1 is)
+      subst (λ (n : ℕ). Leaves (slice_set s.words m (freed x n))) (sym (ap (λ (k : Kept). count_kept (Some (record h { kept = k }))) flat.1)) (let_go m h at flat.0 flat.1 is)
 
   made_fat : (m r : ℕ) (o : Option Held) → held_at x.held m ≡ o → IsFlat o → HasObject objects m → Leaves (slice_set s.words m (word_of_lock (locks.Fat r)))
   made_fat m r None at flat is = absurd flat

@@ -77,9 +77,6 @@ module _ (sites : KnownSites) (waiter : WaitMover) where
   set_before : (phase : Phase) → x.phase ≡ phase → IsStill phase → (r u : ℕ) → r < MONITOR_RECORDS → is_bit_set (words_after s.words (wanted c x phase)) r u ≡ true → is_bit_set s.words r u ≡ true
   set_before phase e is r u few set = ap (has_flag (bit_of u)) (sym (still_bits sites (on_heap mover) phase e is r few)) ∙ set
 
-  set_after : (phase : Phase) → x.phase ≡ phase → IsStill phase → (r u : ℕ) → r < MONITOR_RECORDS → is_bit_set s.words r u ≡ true → is_bit_set (words_after s.words (wanted c x phase)) r u ≡ true
-  set_after phase e is r u few set = ap (has_flag (bit_of u)) (still_bits sites (on_heap mover) phase e is r few) ∙ set
-
   -- a thread that did not wait
   calmly : (phase : Phase) → x.phase ≡ phase → was t ≡ phase → IsStill phase → GoesCalm phase → IsCalm phase → ((r : ℕ) → MayWait phase r → ⊥) → Done phase
   calmly phase e k is goes calm none =
@@ -134,8 +131,7 @@ module _ (sites : KnownSites) (waiter : WaitMover) where
     where
       no_more : (i : ℕ) → i < MONITOR_RECORDS → is_bit_set s.words i t ≡ true → ⊥
       no_more i few set =
-          let here : i ≡ r = (waits_as (phases.WaitLook m r depth) k).only i few set in
-          let at : is_bit_set s.words r t ≡ true = subst (λ (n : ℕ). is_bit_set s.words n t ≡ true) here set in
+          let at : is_bit_set s.words r t ≡ true = subst (λ (n : ℕ). is_bit_set s.words n t ≡ true) ((waits_as (phases.WaitLook m r depth) k).only i few set) set in
           let not_at : is_bit_set s.words r t ≡ false = subst (λ (n : ℕ). is_bit_set s.words r n ≡ false) number g in
           absurd (cc)
 
@@ -181,7 +177,7 @@ module _ (sites : KnownSites) (waiter : WaitMover) where
       (looked m r depth (words_after s.words (wanted c x (phases.WaitLook m r depth))) (has_flag (bit_of x.number) (slice_index s.words (bits_word r))) refl k (λ i few set. set_before (phases.WaitLook m r depth) e tt i t few set)))
   by_phase (phases.NotifyLook m r) e k = from (phases.NotifyLook m r) _ _ k (still (phases.NotifyLook m r) _ e tt
       (notify_looks m r (words_after s.words (wanted c x (phases.NotifyLook m r))) (slice_index s.words (bits_word r) == 0) refl e k (λ i u few set. set_before (phases.NotifyLook m r) e tt i u few set)
-      (λ i u few set. set_after (phases.NotifyLook m r) e tt i u few set)))
+      (λ i u few set. (ap (has_flag (bit_of u)) (still_bits sites (on_heap mover) (phases.NotifyLook m r) e tt i few) ∙ set))))
   by_phase (phases.NotifyOne m r u) e k = from (phases.NotifyOne m r u) _ _ k
       (cleared (phases.NotifyOne m r u) r (bit_and (slice_index s.words (bits_word r)) (2 ^ 64 - 1 - bit_of u)) k refl (fits_bounds mover (phases.NotifyOne m r u) e).0 (λ i h. h) (λ w set. left_was_set (slice_index s.words (bits_word r)) (2 ^ 64 - 1 - bit_of u) w set))
   by_phase (phases.NotifyAll m r) e k = from (phases.NotifyAll m r) _ _ k (cleared (phases.NotifyAll m r) r 0 k refl (fits_bounds mover (phases.NotifyAll m r) e) (λ i h. h) (λ w set. absurd (cc)))

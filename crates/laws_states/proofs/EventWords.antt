@@ -42,9 +42,6 @@ some_words a p word = by_test (header_class word == INT_ARRAY_CLASS)
     by_test true = omega arith
     by_test false = omega arith
 
-header_small : (c : MarkedProgram) (word : ℕ) → IsProgram c.program → IsHeader c.program word → word < 2 ^ 64
-header_small c word is h = omega (arith, h.fits, is.heap_to)
-
 -- an event has left the word of the site so
 pub record IsLeft (c : MarkedProgram) (words : List ℕ) (x : Thread) (site : Site) : Type 0 where
   pub access : Access
@@ -61,14 +58,12 @@ module _ (mover : HeapMover) where
     where
       by_phase : (phase : Phase) → x.phase ≡ phase → IsStructured c lawful.was (record x { phase = phase }) → PhaseHolds c (within c.program) phase x.frames → PhaseStores c x phase
       by_phase phases.Run e st h = λ at top. stores_fit c marked x.frames at h top
-      by_phase (phases.Element word stored) e st h =
-          let stands : Stands c (phases.Element word stored) x.frames x.held x.attempt = subst (λ (phase : Phase). Stands c phase x.frames x.held x.attempt) st.is_as st.stands in
-          by_stored word stored stands h
+      by_phase (phases.Element word stored) e st h = by_stored word stored (subst (λ (phase : Phase). Stands c phase x.frames x.held x.attempt) st.is_as st.stands) h
         where
           by_stored : (word : ℕ) (stored : Option ℕ) → Stands c (phases.Element word stored) x.frames x.held x.attempt → PhaseHolds c (within c.program) (phases.Element word stored) x.frames → (v : ℕ) → stored ≡ Some v → v < 2 ^ 64
           by_stored word None stands h v e = absurd (cc)
           by_stored word (Some u) stands h v e = let same : u ≡ v = cc in subst (λ (n : ℕ). n < 2 ^ 64) same (stored_small c marked x.frames word u h.1 stands.phase_shows h.0)
-      by_phase (phases.Made a word) e st h = header_small c word marked.checked.program (facts.new_headers t x a word there e)
+      by_phase (phases.Made a word) e st h = omega (arith, (facts.new_headers t x a word there e).fits, marked.checked.program.heap_to)
       by_phase phase e st h = tt
 
   abbrev pub after : List ℕ
@@ -90,13 +85,12 @@ module _ (mover : HeapMover) where
         by_word : (site_word site ≡ accessed a) ⊎ (site_word site ≢ accessed a) → (slice_index after (site_word site) ≡ slice_index s.words (site_word site)) ⊎ IsLeft c s.words x site
         by_word (inr d) = inl (ap (λ (ws : List ℕ). slice_index ws (site_word site)) sets ∙ set_there s.words (accessed a) (site_word site) (left_by a (slice_index s.words (accessed a))) d)
         by_word (inl d) =
-            let same : k.site ≡ site = differ c objects s k.site site marked facts k.there is (sym k.word ∙ sym d) in
             let here : slice_index (slice_set s.words (accessed a) (left_by a (slice_index s.words (accessed a)))) (accessed a) ≡ left_by a (slice_index s.words (accessed a)) =
             set_here s.words (accessed a) _ (subst (λ (n : ℕ). n < length s.words) (sym k.word) (inside c objects s k.site marked facts k.there)) in
             inr (record {
               access = a;
               wants = e;
-              suits = subst (Suits (content_at c x x.phase)) same k.suits;
+              suits = subst (Suits (content_at c x x.phase)) (differ c objects s k.site site marked facts k.there is (sym k.word ∙ sym d)) k.suits;
               word = sym d;
               left = ap (λ (ws : List ℕ). slice_index ws (site_word site)) sets
                   ∙ subst (λ (n : ℕ). slice_index (slice_set s.words (accessed a) (left_by a (slice_index s.words (accessed a)))) n ≡ left_by a (slice_index s.words n)) (sym d) here;
@@ -139,9 +133,8 @@ module _ (mover : HeapMover) where
       new_lock : (a word : ℕ) → x.phase ≡ phases.Made a word → IsLock x.cfg.range (slice_index after a)
       new_lock a word e =
           let new = facts.new_objects.each t x a word there e in
-          let zero_there : slice_index s.words a ≡ 0 = new.empty a (omega arith) (some_words a c.program word) in
           let stays : slice_index after a ≡ slice_index s.words a = ap (λ (phase : Phase). slice_index (words_after s.words (wanted c x phase)) a) e ∙ set_there s.words (header_word a) a word (λ k. omega (arith, k)) in
-          subst (IsLock x.cfg.range) (sym (stays ∙ zero_there)) (word_is_lock x.cfg.range (locks.Free 0) (omega arith))
+          subst (IsLock x.cfg.range) (sym (stays ∙ (new.empty a (omega arith) (some_words a c.program word)))) (word_is_lock x.cfg.range (locks.Free 0) (omega arith))
 
       pub locks_fit : LocksFit x.cfg.range objects s.words → LocksFit x.cfg.range (objects_by c.program x.phase objects) after
       locks_fit h = by_phase x.phase refl
@@ -167,8 +160,7 @@ module _ (mover : HeapMover) where
         made_not : IsLeft c s.words x (Counter w) → (phase : Phase) → x.phase ≡ phase → IsMade phase → ⊥
         made_not k (phases.Made a word) e made =
             let wants : Some (Store (header_word a) word) ≡ Some k.access = ap (λ (phase : Phase). wanted c x phase) (sym e) ∙ k.wants in
-            let same : header_word a ≡ w = ap accessed (same_some wants) ∙ k.word in
-            let sites : NewHeaderOf a ≡ Counter w = differ c objects s (NewHeaderOf a) (Counter w) marked facts (t, x, word, there, e) is same in
+            let sites : NewHeaderOf a ≡ Counter w = differ c objects s (NewHeaderOf a) (Counter w) marked facts (t, x, word, there, e) is (ap accessed (same_some wants) ∙ k.word) in
             absurd (cc)
         made_not k phase e made = absurd made
 

@@ -27,8 +27,7 @@ pub length_found : (c : MarkedProgram) (marked : IsMarked c) (objects : List Obj
     → HeapFacts c objects s → (a : ℕ) (k : IsOf (HasClass objects) INT_ARRAY_CLASS a)
     → header_length (slice_index s.words (header_word a)) ≡ length k.2.0.values
 length_found c marked objects s facts a k =
-    let class : k.1 ≡ INT_ARRAY_CLASS = leaves_alone k.1 INT_ARRAY_CLASS refl k.3 in
-    ap header_length (header_found c objects s facts INT_ARRAY_CLASS a k) ∙ array_length k.2.0 (k.2.3 ∙ class)
+    ap header_length (header_found c objects s facts INT_ARRAY_CLASS a k) ∙ array_length k.2.0 (k.2.3 ∙ (leaves_alone k.1 INT_ARRAY_CLASS refl k.3))
 
 module _ (state : HeapState) where
   open state use {c, marked, objects, s, facts}
@@ -61,18 +60,14 @@ module _ (state : HeapState) where
   thrown_class : (a : ℕ) (k : IsOf (HasClass objects) THROWABLE_CLASS a) → (is_throwable k.1 ≡ true) × (header_class (slice_index s.words (header_word a)) ≡ k.1)
   thrown_class a k =
       let below : is_throwable k.1 ≡ true = sym (throwables_below k.1) ∙ k.3 in
-      let small = throwable_small k.1 below in
       let class : k.2.0.class ≡ k.1 = k.2.3 in
-      (below, ap header_class (header_found c objects s facts THROWABLE_CLASS a k) ∙ (class_small k.2.0 (omega (arith, class, small.1)) ∙ class))
+      (below, ap header_class (header_found c objects s facts THROWABLE_CLASS a k) ∙ (class_small k.2.0 (omega (arith, class, (throwable_small k.1 below).1)) ∙ class))
 
   raise_fits : (a : ℕ) → IsOf (HasClass objects) THROWABLE_CLASS a → IsSome (thrown_of (header_class (slice_index s.words (header_word a))))
   raise_fits a k = let t = thrown_class a k in subst (λ d. IsSome (thrown_of d)) (sym t.1) (thrown_some k.1 t.0)
 
   raise_holds : (a : ℕ) → IsOf (HasClass objects) THROWABLE_CLASS a → (class : Thrown) → thrown_of (header_class (slice_index s.words (header_word a))) ≡ Some class → HasClass objects (class_of class) a
-  raise_holds a k class e =
-      let t = thrown_class a k in
-      let same : class_of class ≡ k.1 = thrown_is (header_class (slice_index s.words (header_word a))) class e ∙ t.1 in
-      subst (λ d. HasClass objects d a) (sym same) k.2
+  raise_holds a k class e = subst (λ d. HasClass objects d a) (sym (thrown_is (header_class (slice_index s.words (header_word a))) class e ∙ (thrown_class a k).1)) k.2
 
   -- ---- what the event that begins an instruction finds
 
@@ -93,8 +88,7 @@ module _ (state : HeapState) where
   run_found x [] h heap = tt
   run_found x (f ∷ fs) h heap =
       let k = h.0.stands in
-      let top = stand_top c marked f fs k in
-      subst (λ o. IsOfHeap (run_content c.program o) → WordFits c.program (run_content c.program o) (found_by s.words (run_wants c.program x o))) (sym top)
+      subst (λ o. IsOfHeap (run_content c.program o) → WordFits c.program (run_content c.program o) (found_by s.words (run_wants c.program x o))) (sym (stand_top c marked f fs k))
       (λ heap. effect_found x k.method k.insn k.target (row_of c.program k.method k.insn k.target) f.stack f.pc (effect_at c.program (top_here c f fs k)) (allowed_here c marked (HasClass objects) (out_there c marked objects s facts) f h.0) heap) heap
 
   -- ---- as the types of the thread ask it
@@ -110,8 +104,7 @@ module _ (state : HeapState) where
   run_finds x [] h = λ at e. absurd (cc)
   run_finds x (f ∷ fs) h = λ at e.
       let k = h.0.stands in
-      let top = stand_top c marked f fs k in
-      let one : top_here c f fs k ≡ at = same_some (sym top ∙ e) in
+      let one : top_here c f fs k ≡ at = same_some (sym (stand_top c marked f fs k) ∙ e) in
       let holds : FoundHolds c.program (HasClass objects) k.target (effect_at c.program (top_here c f fs k)) (found_by s.words (run_wants c.program x (Some (top_here c f fs k)))) =
       effect_holds x k.method k.insn k.target (row_of c.program k.method k.insn k.target) f.stack f.pc (effect_at c.program (top_here c f fs k)) (allowed_here c marked (HasClass objects) (out_there c marked objects s facts) f h.0) in
       let there : FoundHolds c.program (HasClass objects) at.target (effect_at c.program at) (found_by s.words (run_wants c.program x (Some at))) =
@@ -139,12 +132,9 @@ module _ (mover : HeapMover) where
   open mover use {t, x, there, state, state.{c, objects, s, facts}}
 
   found_fits : (phase : Phase) → x.phase ≡ phase → IsOfHeap (content_at c x phase) → WordFits c.program (content_at c x phase) (found_by s.words (wanted c x phase))
-  found_fits phases.Run e heap =
-      let typed = facts.typed.threads t x there in
-      run_found state x x.frames (subst (λ y. PhaseHolds c (HasClass objects) y x.frames) e typed.phase) heap
+  found_fits phases.Run e heap = run_found state x x.frames (subst (λ y. PhaseHolds c (HasClass objects) y x.frames) e (facts.typed.threads t x there).phase) heap
   found_fits (phases.Element word stored) e heap =
-      let typed = facts.typed.threads t x there in
-      let h : PhaseHolds c (HasClass objects) (phases.Element word stored) x.frames = subst (λ y. PhaseHolds c (HasClass objects) y x.frames) e typed.phase in
+      let h : PhaseHolds c (HasClass objects) (phases.Element word stored) x.frames = subst (λ y. PhaseHolds c (HasClass objects) y x.frames) e (facts.typed.threads t x there).phase in
       let k = asked mover (phases.Element word stored) e in
       element_found state word stored (element_site state word stored x.frames h.0 h.1 k.0 k.1)
   found_fits (phases.Leave m a) e heap = absurd (no_heap_left state (claim x m) heap)

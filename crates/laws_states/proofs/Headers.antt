@@ -84,9 +84,6 @@ module _ (p : Program) (is_program : IsProgram p) where
       same : (n : ℕ) (b : Bool) → (n == INT_ARRAY_CLASS) && b ≡ true → n ≡ INT_ARRAY_CLASS
       same n b e = grind (arith, nat_tests, e)
 
-  no_array_fields : instances_among INT_ARRAY_CLASS p.fields ≤ 0
-  no_array_fields = counts_few (λ f. (f.class == INT_ARRAY_CLASS) && not (is_static f.flags)) 0 p.fields (λ i f e passes. absurd (no_field i f e passes))
-
   -- an object of a class, also if it were that of arrays
   size_of_class : (class : ℕ) → class < 65536 → size_by p (header class 0) ≡ object_size p class
   size_of_class class h = by_test (header_class (header class 0) == INT_ARRAY_CLASS) refl
@@ -96,9 +93,8 @@ module _ (p : Program) (is_program : IsProgram p) where
 
       by_test : (b : Bool) → (header_class (header class 0) == INT_ARRAY_CLASS) ≡ b → (if b then array_size (header_length (header class 0)) else object_size p (header_class (header class 0))) ≡ object_size p class
       by_test true t =
-          let array : header_class (header class 0) ≡ INT_ARRAY_CLASS = grind (arith, nat_tests, t) in
-          let none : instances_among class p.fields ≡ instances_among INT_ARRAY_CLASS p.fields = ap (λ n. instances_among n p.fields) (sym is ∙ array) in
-          omega (arith, length_is class 0 h, none, no_array_fields)
+          let none : instances_among class p.fields ≡ instances_among INT_ARRAY_CLASS p.fields = ap (λ n. instances_among n p.fields) (sym is ∙ (grind (arith, nat_tests, t))) in
+          omega (arith, length_is class 0 h, none, (counts_few (λ f. (f.class == INT_ARRAY_CLASS) && not (is_static f.flags)) 0 p.fields (λ i f e passes. absurd (no_field i f e passes))))
       by_test false t = ap (object_size p) is
 
   size_of_array : (count : ℕ) → size_by p (header INT_ARRAY_CLASS count) ≡ array_size count
@@ -110,18 +106,14 @@ module _ (p : Program) (is_program : IsProgram p) where
 
   pub class_header : (class : ℕ) → IsClassOf p class → IsHeader p (header class 0)
   class_header class h =
-      let is = class_is class 0 (class_below class h) in
       let none = length_is class 0 (class_below class h) in
-      record { class = λ other. subst (IsClassOf p) (sym is) h; unsized = λ other. none; fits = omega (arith, none) }
-
-  array_is : (files : ℕ) → is_class files INT_ARRAY_CLASS ≡ true
-  array_is files = grind (arith, nat_tests)
+      record { class = λ other. subst (IsClassOf p) (sym (class_is class 0 (class_below class h))) h; unsized = λ other. none; fits = omega (arith, none) }
 
   array_header : (count : ℕ) → count ≤ p.heap → IsHeader p (header INT_ARRAY_CLASS count)
   array_header count h =
       let is = class_is INT_ARRAY_CLASS count (omega arith) in
       record {
-        class = λ other. subst (IsClassOf p) (sym is) (array_is (length p.names));
+        class = λ other. subst (IsClassOf p) (sym is) (grind (arith, nat_tests));
         unsized = λ other. absurd (other is);
         fits = omega (arith, h, length_is INT_ARRAY_CLASS count (omega arith));
       }

@@ -25,8 +25,7 @@ claimed m None (Some a) some = by_test (a.monitor == m) some
 pub leaves_claimed : (is : Classes) (c : MarkedProgram) (m : ℕ) (a : After) (fs : List Frame) (held : List Held) (attempt : Option Attempt) → IsMarked c → Stands c (Leave m a) fs held attempt → AfterHolds c is a fs
     → claim_by m (held_at held m) attempt ≢ HasNot
 leaves_claimed is c m a fs held attempt marked k holds =
-    let g = goes_behind is c marked m k.shown a fs k.show k.phase_shows holds in
-    claimed m (held_at held m) attempt (omega (arith, once_here m, g.counts m, k.depths m))
+    claimed m (held_at held m) attempt (omega (arith, once_here m, (goes_behind is c marked m k.shown a fs k.show k.phase_shows holds).counts m, k.depths m))
 
 -- that of an attempt is its monitor
 pub tried_at : (m : ℕ) (held : Option Held) (attempt : Option Attempt) (a : Attempt) → claim_by m held attempt ≡ Tries a → (attempt ≡ Some a) × (a.monitor ≡ m)
@@ -37,6 +36,5 @@ tried_at m None (Some b) a e = by_test (b.monitor == m) refl e
     by_test : (t : Bool) → (b.monitor == m) ≡ t → (if t then Tries b else HasNot) ≡ Tries a → (Some b ≡ Some a) × (a.monitor ≡ m)
     by_test true t e =
         let one : b ≡ a = cc in
-        let same : b.monitor ≡ m = grind (arith, nat_tests, t) in
-        (ap Some one, subst (λ (k : Attempt). k.monitor ≡ m) one same)
+        (ap Some one, subst (λ (k : Attempt). k.monitor ≡ m) one (grind (arith, nat_tests, t)))
     by_test false t e = absurd (cc)

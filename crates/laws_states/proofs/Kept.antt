@@ -96,12 +96,11 @@ module _ (keeps : StructureIsKept) (lies : StartLiesApart) (mover : HeapMover) w
     new_became : Became c later s after now
     new_became =
         let b = behind in
-        let has = has_objects mover.state later (slice_index s.words NEXT_FREE_WORD) b.up b.apart in
         let values = thread_up (HasClass objects) (HasClass later) up c x (facts.typed.threads t x there) in
         let finds = subst (λ phase. PhaseFinds c (HasClass later) phase x.frames got) (sym made) (class_new lies maker) in
         let l = leads in
         record {
-          values = moved_values keeps c marked (HasClass later) has x lawful values got finds;
+          values = moved_values keeps c marked (HasClass later) (has_objects mover.state later (slice_index s.words NEXT_FREE_WORD) b.up b.apart) x lawful values got finds;
           monitors = monitors_up (HasClass objects) (HasClass later) up now l.monitors;
           element = λ w stored e. element_up objects later b.up stored now.frames (l.element w stored e);
           made = l.made;
@@ -144,12 +143,6 @@ no_frame c was y k fresh is = by_phase y.phase k.is_as fresh
     by_phase (phases.Ended ends.Returned) e fresh = nothing y.frames (shown (phases.Ended ends.Returned) e)
     by_phase phase e fresh = absurd fresh
 
-no_element : (phase : Phase) (word : ℕ) (stored : Option ℕ) → StartsOrEnded phase → phase ≡ phases.Element word stored → ⊥
-no_element phase word stored fresh e = subst StartsOrEnded e fresh
-
-no_object : (phase : Phase) (a word : ℕ) → StartsOrEnded phase → phase ≡ phases.Made a word → ⊥
-no_object phase a word fresh e = subst StartsOrEnded e fresh
-
 no_wait : (is : Classes) (phase : Phase) → StartsOrEnded phase → IsWaitOn is phase
 no_wait is phases.Start fresh = tt
 no_wait is (phases.Ended ends.Returned) fresh = tt
@@ -186,7 +179,7 @@ next_keeps c objects was s facts structure = record {
       where
         by_side : (y.phase ≡ z.phase) ⊎ StartsOrEnded y.phase → z.phase ≡ phases.Made a word
         by_side (inl e) = sym e ∙ m
-        by_side (inr fresh) = absurd (no_object y.phase a word fresh m)
+        by_side (inr fresh) = absurd (subst StartsOrEnded m fresh)
 
     values : (u : ℕ) (y z : Thread) → slice_get (next c s).threads u ≡ Some y → slice_get s.threads u ≡ Some z → Begins z y → ThreadHolds c (HasClass objects) y
     values u y z e g k =
@@ -205,12 +198,10 @@ next_keeps c objects was s facts structure = record {
       where
         by_side : (y.phase ≡ z.phase) ⊎ StartsOrEnded y.phase → HasElementIn objects stored y.frames
         by_side (inl same) = subst (HasElementIn objects stored) (sym k.frames) (facts.typed.elements u z word stored g (sym same ∙ m))
-        by_side (inr fresh) = absurd (no_element y.phase word stored fresh m)
+        by_side (inr fresh) = absurd (subst StartsOrEnded m fresh)
 
     monitors : (u : ℕ) (y z : Thread) → slice_get s.threads u ≡ Some z → Begins z y → HoldsObjects (HasClass objects) y
-    monitors u y z g k =
-        let m = facts.monitors u z g in
-        record { held = subst (AllHeld (HasClass objects)) (sym k.held) m.held; waits = by_side k.phase }
+    monitors u y z g k = record { held = subst (AllHeld (HasClass objects)) (sym k.held) (facts.monitors u z g).held; waits = by_side k.phase }
       where
         by_side : (y.phase ≡ z.phase) ⊎ StartsOrEnded y.phase → IsWaitOn (HasClass objects) y.phase
         by_side (inl same) = let m = facts.monitors u z g in subst (IsWaitOn (HasClass objects)) (sym same) m.waits

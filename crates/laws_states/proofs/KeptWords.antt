@@ -27,9 +27,8 @@ module _ (state : LawfulState) (t : ℕ) where
       locks_kept None there fit = fit
       locks_kept (Some x) there fit =
           let same = settings x there in
-          let before = subst (λ (n : ℕ). LocksFit n objects s.words) (sym same) fit in
           subst (λ (n : ℕ). LocksFit n (objects_of c.program (Some x) objects) (words_after s.words (wanted c x x.phase))) same
-          (locks_fit (lawful_mover state t x there) sites leaves before)
+          (locks_fit (lawful_mover state t x there) sites leaves (subst (λ (n : ℕ). LocksFit n objects s.words) (sym same) fit))
 
       records_kept : (o : Option Thread) → slice_get s.threads t ≡ o → RecordsFit s.words → RecordsFit (event_of c s t o).words
       records_kept None there fit = fit

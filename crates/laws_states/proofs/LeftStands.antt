@@ -156,12 +156,6 @@ bit_is_small (suc (suc (suc (suc (suc (suc (suc zero))))))) h = omega arith
 bit_is_small (suc (suc (suc (suc (suc (suc (suc (suc zero)))))))) h = omega arith
 bit_is_small (suc (suc (suc (suc (suc (suc (suc (suc (suc t))))))))) h = absurd (omega (arith, h))
 
-bits_set : (n t : ℕ) → n < 512 → t ≤ 8 → bit_or n (bit_of t) < 512
-bits_set n t h few = or_lt 9 n (bit_of t) h (bit_is_small t few)
-
-bits_kept : (n mask : ℕ) → n < 512 → bit_and n mask < 512
-bits_kept n mask h = let less = and_le_l n mask in omega (arith, less, h)
-
 -- ---- all phases
 
 pub left_may_stand : LeftMayStand
@@ -190,11 +184,11 @@ left_may_stand c s access got number b w may = by_phase s.phase b.phase w may
     by_phase (phases.FlatOut m a) f w may = leaves (IsLock s.cfg.range) access got may _ w (freed_is_lock s (count_kept (held_at s.held m)))
     by_phase (phases.Own m r toward) f w may = leaves IsOwner access got may _ w (omega (arith, number))
     by_phase (phases.FatIn m r toward) f w may = leaves (IsLock s.cfg.range) access got may _ w (word_is_lock s.cfg.range (locks.Fat r) f)
-    by_phase (phases.WaitBit m r) f w may = leaves AreBits access got may _ w (bits_set got s.number may number)
+    by_phase (phases.WaitBit m r) f w may = leaves AreBits access got may _ w (or_lt 9 got (bit_of s.number) may (bit_is_small s.number number))
     by_phase (phases.WaitOut m r) f w may = leaves IsOwner access got may _ w (omega arith)
     by_phase (phases.WaitLook m r depth) f w may = loaded AreBits access got may _ w
     by_phase (phases.Retake m r depth) f w may = leaves IsOwner access got may _ w (swapped IsOwner 0 (s.number + 1) got (omega (arith, number)) may)
     by_phase (phases.NotifyLook m r) f w may = loaded AreBits access got may _ w
-    by_phase (phases.NotifyOne m r u) f w may = leaves AreBits access got may _ w (bits_kept got (2 ^ 64 - 1 - bit_of u) may)
+    by_phase (phases.NotifyOne m r u) f w may = leaves AreBits access got may _ w (let less = and_le_l got (2 ^ 64 - 1 - bit_of u) in omega (arith, less, may))
     by_phase (phases.NotifyAll m r) f w may = leaves AreBits access got may _ w (omega arith)
     by_phase phase f w may = tt

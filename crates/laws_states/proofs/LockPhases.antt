@@ -31,8 +31,7 @@ refit_same h k hs n m e same kept = ap hold_by_list (held_put m k hs) ∙ by_tes
   where
     by_test : (b : Bool) → (k.monitor == m) ≡ b → hold_by_list (cond b (Some k) (held_at hs m)) ≡ hold_by_list (held_at hs m)
     by_test true g =
-        let at : n ≡ m = sym (held_monitor n hs h e) ∙ sym same ∙ (Decides-eqb k.monitor m).0 g in
-        ap hold_by_kept kept ∙ ap hold_by_list (sym e) ∙ ap (λ (i : ℕ). hold_by_list (held_at hs i)) at
+        ap hold_by_kept kept ∙ ap hold_by_list (sym e) ∙ ap (λ (i : ℕ). hold_by_list (held_at hs i)) (sym (held_monitor n hs h e) ∙ sym same ∙ (Decides-eqb k.monitor m).0 g)
     by_test false g = refl
 
 refit_keeps : (h k : Held) (hs : List Held) (n m count : ℕ) → held_at hs n ≡ Some h → k.monitor ≡ h.monitor → k.kept ≡ h.kept → IsKeptIn (held_at hs m) count → IsKeptIn (held_at (with_held k hs) m) count

@@ -27,9 +27,7 @@ module _ (v : Locks) (count : ℕ → ℕ) (n k : ℕ) (l : LockWord) (thin : (r
     where
       by_test : (b : Bool) → (n == m) ≡ b → IsSeen (cond b l (v.lock m)) seen (cond b k (count m))
       by_test true e =
-          let same : n ≡ m = (Decides-eqb n m).0 e in
-          let old : seen ≤ count n = thin_seen (v.lock n) seen (count n) thin (subst (λ (i : ℕ). IsSeen (v.lock i) seen (count i)) (sym same) h) in
-          seen_any l seen k (omega (arith, old, grows))
+          seen_any l seen k (omega (arith, (thin_seen (v.lock n) seen (count n) thin (subst (λ (i : ℕ). IsSeen (v.lock i) seen (count i)) (sym ((Decides-eqb n m).0 e)) h)), grows))
       by_test false e = h
 
   drawn_after : (r : ℕ) → l ≢ locks.Fat r → IsDrawn v r → IsDrawn (set_lock n l v) r

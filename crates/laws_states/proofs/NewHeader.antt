@@ -167,13 +167,11 @@ module _ (lies : StartLiesApart) (maker : Maker) where
         where
           inside_new : new.class ≡ f.class → f.index < length new.values
           inside_new class =
-              let from = (is_program.fields number f e).class.0 in
-              let sized = sized_new (λ array. absurd (omega (arith, array, class, from))) in
+              let sized = sized_new (λ array. absurd (omega (arith, array, class, ((is_program.fields number f e).class.0)))) in
               subst (λ i. f.index < i) (sym sized) (subst (λ d. f.index < instances_among d c.program.fields) (sym class) (instances_inside c.program number f is_program e n))
       fields_of (suc j) o number f g e n class =
           let l = contains_got objects j o g in
-          let from = (is_program.fields number f e).class.0 in
-          let sized = facts.apart.sized j o g (λ array. absurd (omega (arith, array, class, from))) in
+          let sized = facts.apart.sized j o g (λ array. absurd (omega (arith, array, class, ((is_program.fields number f e).class.0)))) in
           let inside : f.index < length o.values = subst (λ i. f.index < i) (sym sized) (subst (λ d. f.index < instances_among d c.program.fields) (sym class) (instances_inside c.program number f is_program e n)) in
           let same = unchanged (value_word o.reference f.index) (elsewhere o (value_word o.reference f.index) l (omega arith) (omega (arith, inside))) in
           subst (KindHolds (HasClass later) f.kind) (sym same) (kind_up (HasClass objects) (HasClass later) up_class f.kind (slice_index s.words (value_word o.reference f.index)) (facts.typed.places.fields o number f l e n class))
@@ -187,8 +185,7 @@ module _ (lies : StartLiesApart) (maker : Maker) where
 
       statics_of : (number : ℕ) (f : FieldInfo) → slice_get c.program.fields number ≡ Some f → is_static f.flags ≡ true → KindHolds (HasClass later) f.kind (slice_index after f.index)
       statics_of number f e s_is =
-          let low = (statics_inside c.program number f is_program e s_is).1 in
-          let same = unchanged f.index (λ q. omega (arith, q, low, k.begins)) in
+          let same = unchanged f.index (λ q. omega (arith, q, ((statics_inside c.program number f is_program e s_is).1), k.begins)) in
           subst (KindHolds (HasClass later) f.kind) (sym same) (kind_up (HasClass objects) (HasClass later) up_class f.kind (slice_index s.words f.index) (facts.typed.places.statics number f e s_is))
 
   -- ---- the whole

@@ -29,8 +29,7 @@ by_kind test x y was e out in' = λ same.
 
 one_more_turn : (x : Thread) (phase : Phase) → failed_turn x phase ≢ x
 one_more_turn x phase = λ same.
-    let turns : x.turns + 1 ≡ x.turns = ap (λ (s : Thread). s.turns) same in
-    omega (arith, turns)
+    omega (arith, (ap (λ (s : Thread). s.turns) same))
 
 -- ---- where a thread goes on
 
@@ -101,8 +100,7 @@ module _ (c : MarkedProgram) (x : Thread) where
   instructed_more : (got : ℕ) (at : Top) → top_of c.program x.frames ≡ Some at → moved c x phases.Run got ≢ x
   instructed_more got at found = λ same.
       let tally : tally_of x ≡ tally_of (begun x) = ap tally_of (sym same) ∙ same_tally c x phases.Run got tt ∙ ap (λ (o : Option Top). tally_of (counted_at o x)) found in
-      let count : x.counts.instructions ≡ x.counts.instructions + 1 = ap (λ (t : Tally). t.instructions) tally in
-      omega (arith, count)
+      omega (arith, (ap (λ (t : Tally). t.instructions) tally))
 
 -- ---- an exception
 
@@ -120,9 +118,7 @@ below_in f below (Some m) at e = below_at f below m (at_pc m.code m.code f.pc) (
 fewer_below : (p : Program) (frames : List Frame) (at : Top) → top_of p frames ≡ Some at → frames ≢ at.below
 fewer_below p [] at e = absurd (cc)
 fewer_below p (f ∷ below) at e = λ same.
-    let shorter : length at.below ≡ length below = ap length (below_in f below (slice_get p.methods f.method) at e) in
-    let as_long : suc (length below) ≡ length at.below = ap length same in
-    omega (arith, shorter, as_long)
+    omega (arith, (ap length (below_in f below (slice_get p.methods f.method) at e)), (ap length same))
 
 module _ (c : MarkedProgram) (x : Thread) (r : ℕ) (class : Thrown) where
   unwinds : x.phase ≡ phases.Throw r class → (below : List Frame) → x.frames ≢ below → goes_on x (unwound r class below) ≢ x

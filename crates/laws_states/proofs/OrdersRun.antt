@@ -57,13 +57,10 @@ module _ (c : MarkedProgram) (states : KeptStates c) where
   abbrev Runs : Stage → Core → Type 0
   Runs stage s = (hs : List Happening) × IsSchedule c stage s hs
 
-  less : (n : ℕ) (s : Core) (t : ℕ) → Good s → lives s t ≡ true → all_work s < suc n → all_work (event c s t) < n
-  less n s t good live h = omega (arith, h, takes s t good live)
-
   -- by what an event leaves to do
   event_next : (n : ℕ) (stage after : Stage) (s : Core) (t : ℕ) → Good s → lives s t ≡ true → all_work s < suc n → turn_at stage s ≡ turn_of (Of t) after
       → ((r : Core) → Good r → all_work r < n → Runs after r) → Runs stage s
-  event_next n stage after s t good live h e more = goes_on c stage after s (Of t) e (more (event c s t) (by_event s t good) (less n s t good live h))
+  event_next n stage after s t good live h e more = goes_on c stage after s (Of t) e (more (event c s t) (by_event s t good) (omega (arith, h, takes s t good live)))
 
   -- the next part, where it may begin
   part_next : (stage after : Stage) (s : Core) → turn_at stage s ≡ part_turn s after → Good s → ((r : Core) → Good r → Runs after r) → Runs stage s

@@ -152,12 +152,7 @@ module _ (mover : LockMover) (was : Phase) (o : OwnsAs mover was) (y : Thread) (
       few m true e g =
           let none : flat_in m y ≡ 0 = ap one_if_flat g in
           let same : n ≡ m = (Decides-eqb n m).0 e in
-          let one : flat_in n x ≡ 1 = ap one_if_flat (sym (o.holds n) ∙ flat) in
-          let here : flat_in n x ≡ flat_in m x = ap (λ (i : ℕ). flat_in i x) same in
-          let counted : count n ≡ count m = ap count same in
-          let more = one_more (nat_lt c x.cfg.range) refl in
-          let locked = b.locked in
-          omega (arith, none, one, here, counted, more, locked)
+          omega (arith, none, (ap one_if_flat (sym (o.holds n) ∙ flat)), (ap (λ (i : ℕ). flat_in i x) same), (ap count same), (one_more (nat_lt c x.cfg.range) refl), b.locked)
       few m false e g = let same : flat_in m y ≡ flat_in m x = ap one_if_flat g in let locked = b.locked in omega (arith, same, locked)
 
   -- ---- the lock word names the record
@@ -188,11 +183,7 @@ module _ (mover : LockMover) (was : Phase) (o : OwnsAs mover was) (y : Thread) (
 
       few : (m : ℕ) (q : Bool) → (n == m) ≡ q → hold_by_list (held_at y.held m) ≡ cond q (hold_by_word t (locks.Fat r) v.owner) (hold_by_list (held_at x.held m))
           → recounted n (count n) count m + flat_in m y + x.counts.locked ≤ count m + flat_in m x + y.counts.locked
-      few m true e g =
-          let none : flat_in m y ≡ 0 = ap one_if_flat (g ∙ owned) in
-          let same = recount_same n m count in
-          let locked = b.locked in
-          omega (arith, none, same, locked)
+      few m true e g = omega (arith, (ap one_if_flat (g ∙ owned)), (recount_same n m count), b.locked)
       few m false e g = let flat_same : flat_in m y ≡ flat_in m x = ap one_if_flat g in let same = recount_same n m count in let locked = b.locked in omega (arith, flat_same, same, locked)
 
   -- ---- a record is drawn

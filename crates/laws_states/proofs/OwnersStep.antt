@@ -43,9 +43,6 @@ module _ (mover : LockMover) (owed : Owed mover) where
   open mover use {t, x, there, state.{was, structure, owners, base.{threads, heap.s}}}
   open owed use {later, after, y, same_cfg, more, owes}
 
-  settings : (u : ℕ) (z : Thread) → slice_get s.threads u ≡ Some z → z.cfg ≡ x.cfg
-  settings u z e = (threads.own u z e).settings ∙ sym (threads.own t x there).settings
-
   here : (u : ℕ) (z : Thread) → (u == t) ≡ true → slice_get (slice_set s.threads t y) u ≡ Some z → y ≡ z
   here u z g e = set_there s.threads t x y z there (ap (λ (n : ℕ). slice_get (slice_set s.threads t y) n) (sym ((Decides-eqb u t).0 g)) ∙ e)
 
@@ -54,9 +51,7 @@ module _ (mover : LockMover) (owed : Owed mover) where
 
   was_apart : (u : ℕ) (z : Thread) → (u == t) ≡ false → slice_get s.threads u ≡ Some z → (r : ℕ) → drawn_by (was t) ≡ Some r → drawn_by (was u) ≡ Some r → ⊥
   was_apart u z g e r a b =
-      let st = structure t x there in
-      let sz = structure u z e in
-      owners.apart t u x z there e (λ q. eqb-false u t g (sym q)) r (was_draws x.phase (was t) r st.is_as a) (was_draws z.phase (was u) r sz.is_as b)
+      owners.apart t u x z there e (λ q. eqb-false u t g (sym q)) r (was_draws x.phase (was t) r (structure t x there).is_as a) (was_draws z.phase (was u) r (structure u z e).is_as b)
 
   each_owns : (u : ℕ) (z : Thread) → slice_get (slice_set s.threads t y) u ≡ Some z → Owns (locks_in later after) more u (counted_phase_at was t (slice_set s.threads t y) u) z
   each_owns u z e = by_number (u == t) refl
@@ -64,8 +59,7 @@ module _ (mover : LockMover) (owed : Owed mover) where
       by_number : (b : Bool) → (u == t) ≡ b → Owns (locks_in later after) more u (cond b (counted_of (was t) (slice_get (slice_set s.threads t y) t)) (was u)) z
       by_number true g =
           let same : u ≡ t = (Decides-eqb u t).0 g in
-          let at : slice_get (slice_set s.threads t y) t ≡ Some z = ap (λ (n : ℕ). slice_get (slice_set s.threads t y) n) (sym same) ∙ e in
-          subst (λ (o : Option Thread). Owns (locks_in later after) more u (counted_of (was t) o) z) (sym at)
+          subst (λ (o : Option Thread). Owns (locks_in later after) more u (counted_of (was t) o) z) (sym (ap (λ (n : ℕ). slice_get (slice_set s.threads t y) n) (sym same) ∙ e))
           (subst (λ (n : ℕ). Owns (locks_in later after) more n (counted_by (was t) z.phase) z) (sym same)
           (subst (λ (q : Thread). Owns (locks_in later after) more t (counted_by (was t) q.phase) q) (here u z g e) owes.own))
       by_number false g =
@@ -78,11 +72,7 @@ module _ (mover : LockMover) (owed : Owed mover) where
       by_old : (drawn_by (was t) ≡ Some r) ⊎ ((locks_of mover.state.base.heap).next ≤ r) → ⊥
       by_old (inl d) = let st = structure t x there in owners.apart t u x z there e (λ q. eqb-false u t g (sym q)) r (was_draws x.phase (was t) r st.is_as d) b
       by_old (inr d) =
-          let sz = structure u z e in
-          let owns = owners.each u z e in
-          let drawn : drawn_by (was u) ≡ Some r = phase_draws z.phase (was u) r sz.is_as b in
-          let below = drawn_below (locks_of mover.state.base.heap) u r (was u) owns.knows drawn in
-          absurd (omega (arith, below, d))
+          absurd (omega (arith, (drawn_below (locks_of mover.state.base.heap) u r (was u) (owners.each u z e).knows (phase_draws z.phase (was u) r (structure u z e).is_as b)), d))
 
   pub owned_on : Owners later (counted_phase_at was t (slice_set s.threads t y)) (record { words = after; threads = slice_set s.threads t y })
   owned_on = record {
@@ -108,12 +98,7 @@ module _ (mover : LockMover) (owed : Owed mover) where
         where
           by_number : (b : Bool) → (u == t) ≡ b → more m ≤ z.cfg.range
           by_number true g = subst (λ (q : Thread). more m ≤ q.cfg.range) (here u z g e) (subst (λ (cfg : Config). more m ≤ cfg.range) (sym same_cfg) (owes.within m))
-          by_number false g = subst (λ (cfg : Config). more m ≤ cfg.range) (sym (settings u z (there_too u z g e))) (owes.within m)
+          by_number false g = subst (λ (cfg : Config). more m ≤ cfg.range) (sym ((threads.own u z (there_too u z g e)).settings ∙ sym (threads.own t x there).settings)) (owes.within m)
 
       few_at : (m : ℕ) → more m + flat_holders m (slice_set s.threads t y) ≤ sum_by (λ z. z.counts.locked) (slice_set s.threads t y)
-      few_at m =
-          let flat = sum_set (flat_in m) s.threads t x y there in
-          let locked = sum_set (λ (z : Thread). z.counts.locked) s.threads t x y there in
-          let few = owners.few m in
-          let now = owes.few m in
-          omega (arith, flat, locked, few, now)
+      few_at m = omega (arith, (sum_set (flat_in m) s.threads t x y there), (sum_set (λ (z : Thread). z.counts.locked) s.threads t x y there), (owners.few m), (owes.few m))

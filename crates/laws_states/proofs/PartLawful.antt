@@ -45,9 +45,6 @@ module _ (c : MarkedProgram) (s : Thread) (part : ℕ) (first : Option End) wher
   is_as_itself [] = refl
   is_as_itself (number ∷ roots) = refl
 
-  none_stands : (phase : Phase) (a : Option Attempt) → a ≡ None → AttemptStandsIn c phase s.frames s.held a
-  none_stands phase a e = subst (λ (o : Option Attempt). AttemptStandsIn c phase s.frames s.held o) (sym e) tt
-
   structured_anew : (was : Phase) (roots : List ℕ) → IsBetween s.phase → IsStructured c was s → IsStructured c (part_phase roots) (new_part roots)
   structured_anew was roots b h =
       let e : was ≡ s.phase = was_itself s.phase was b h.is_as in
@@ -57,7 +54,7 @@ module _ (c : MarkedProgram) (s : Thread) (part : ℕ) (first : Option End) wher
       record {
         is_as = is_as_itself roots;
         stands = stands_anew s.phase (part_phase roots) b (part_is roots) stands;
-        attempt = none_stands (part_phase roots) s.attempt (no_attempt c was s.held s.attempt attempt);
+        attempt = subst (λ (o : Option Attempt). AttemptStandsIn c (part_phase roots) s.frames s.held o) (sym (no_attempt c was s.held s.attempt attempt)) tt;
       }
 
   pub between_frames : (was : Phase) → IsBetween s.phase → IsStructured c was s → s.frames ≡ []
@@ -111,11 +108,8 @@ lawful_seen c s first e k h = record {
   structured = record { is_as = h.structured.is_as; stands = h.structured.stands; attempt = h.structured.attempt };
   typed = record { values = record { phase = h.typed.values.phase; attempt = h.typed.values.attempt }; new = h.typed.new; receivers = h.typed.receivers; entry = h.typed.entry };
   bounded = record { number = h.bounded.number; kept = h.bounded.kept; noted = h.bounded.noted; phase = h.bounded.phase; prints = h.bounded.prints; turns = h.bounded.turns; steps = h.bounded.steps; depths = h.bounded.depths; waits = h.bounded.waits; inner = h.bounded.inner; entry = h.bounded.entry; inflated = h.bounded.inflated; sections = h.bounded.sections };
-  rooted = record { roots = same_roots; frames = h.rooted.frames };
+  rooted = record { roots = subst (λ (ns : List ℕ). AllByRecursion (λ number. IsTrue (has_number ns number)) s.roots) (sym roots_are) h.rooted.roots; frames = h.rooted.frames };
 }
   where
     roots_are : part_roots c.program s.number 1 ≡ part_roots c.program s.number s.part
     roots_are = rw (e, k) refl
-
-    same_roots : AllByRecursion (λ number. IsTrue (has_number (part_roots c.program s.number 1) number)) s.roots
-    same_roots = subst (λ (ns : List ℕ). AllByRecursion (λ number. IsTrue (has_number ns number)) s.roots) (sym roots_are) h.rooted.roots

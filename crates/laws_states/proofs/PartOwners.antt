@@ -82,9 +82,7 @@ next_keeps_owners c references was s structure owners = record {
   within = λ m t x e. let k = begun c.program s.threads t x e in subst (λ (cfg : Config). owners.count m ≤ cfg.range) (sym k.2.cfg) (owners.within m t k.0 k.1);
   few = λ m.
       let flat = next_sum (λ x. one_if_flat (hold_by_list (held_at x.held m))) (λ roots x. refl) (λ n first x. refl) c.program s.threads in
-      let locked = next_sum (λ x. x.counts.locked) (λ roots x. refl) (λ n first x. refl) c.program s.threads in
-      let few = owners.few m in
-      omega (arith, flat, locked, few);
+      omega (arith, flat, (next_sum (λ x. x.counts.locked) (λ roots x. refl) (λ n first x. refl) c.program s.threads), (owners.few m));
 }
   where
     each_owns : (u : ℕ) (y : Thread) → slice_get (next_threads c.program s.threads) u ≡ Some y → Owns (locks_in references s.words) owners.count u (counted_next c was s u) y

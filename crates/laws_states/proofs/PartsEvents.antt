@@ -21,8 +21,7 @@ at_each threads t x now P there here others u y e = by_number (same_or_not u t)
     by_number : (u ≡ t) ⊎ (u ≢ t) → P u y
     by_number (inl k) =
         let at : slice_get (slice_set threads t now) t ≡ Some y = subst (λ (n : ℕ). slice_get (slice_set threads t now) n ≡ Some y) k e in
-        let same : now ≡ y = same_some (sym (got_when_set threads t x now there) ∙ at) in
-        subst (λ (n : ℕ). P n y) (sym k) (subst (P t) same here)
+        subst (λ (n : ℕ). P n y) (sym k) (subst (P t) (same_some (sym (got_when_set threads t x now there) ∙ at)) here)
     by_number (inr d) = others u y (sym (got_other threads t u now d) ∙ e)
 
 -- ---- roots by the phase
@@ -89,8 +88,7 @@ module _ (c : MarkedProgram) (x : Thread) (got : ℕ) where
         let k = begun number rest e (slice_get c.program.methods number) now.frames in (
           k.fits,
           λ h.
-              let all : done_roots c.program ≡ number ∷ rest = sym (subst (λ (p : Phase). DoneRoots c.program p x.roots) e h) ∙ f in
-              let last = k.last (one_done one c.program number rest marked.checked.program all) in
+              let last = k.last (one_done one c.program number rest marked.checked.program (sym (subst (λ (p : Phase). DoneRoots c.program p x.roots) e h) ∙ f)) in
               done_at c.program (thread_started c.program x (number ∷ rest)).phase (thread_started c.program x (number ∷ rest)).roots last.0 last.1,
         )
 
@@ -120,16 +118,13 @@ module _ (one : OneMethod) (given : GivenIsKept) (rooted_on : RootsAreKept) (c :
     part : now.part ≡ x.part
     part = ap (λ (g : Given). g.part) same
 
-    first_same : now.first ≡ x.first
-    first_same = ap (λ (g : Given). g.first) same
-
     at_zero : t ≡ 0 → slice_get s.threads 0 ≡ Some x
     at_zero e = subst (λ (n : ℕ). slice_get s.threads n ≡ Some x) e there
 
     kept : PartsStand c.program (slice_set s.threads t now)
     kept = record {
       first = λ y e. at_each s.threads t x now (λ u y. u ≡ 0 → FirstFits y.part y.first) there
-          (λ k. subst (λ (n : ℕ). FirstFits n now.first) (sym part) (subst (FirstFits x.part) (sym first_same) (stand.first x (at_zero k))))
+          (λ k. subst (λ (n : ℕ). FirstFits n now.first) (sym part) (subst (FirstFits x.part) (sym (ap (λ (g : Given). g.first) same)) (stand.first x (at_zero k))))
           (λ u y e k. stand.first y (subst (λ (n : ℕ). slice_get s.threads n ≡ Some y) k e)) 0 y e refl;
       few = λ y e. at_each s.threads t x now (λ u y. u ≡ 0 → y.part ≤ 2) there
           (λ k. subst (λ (n : ℕ). n ≤ 2) (sym part) (stand.few x (at_zero k)))

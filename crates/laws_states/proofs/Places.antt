@@ -55,8 +55,7 @@ module _ (p : Program) (is_program : IsProgram p) (objects : List Object) (words
   module _ (s : Core) (next least : ℕ) (apart : LieApart p objects (start_statics p) next) (each : (site : Site) → IsThere p objects s site → SiteHolds p objects least site (slice_index words (site_word site))) where
     field_there : (o : Object) (number : ℕ) (f : FieldInfo) → Contains objects o → slice_get p.fields number ≡ Some f → is_static f.flags ≡ false → o.class ≡ f.class → f.index < length o.values
     field_there o number f k g s same =
-        let from = (is_program.fields number f g).class.0 in
-        let sized = apart.sized k.0 o (contained_got objects o k) (λ array. absurd (omega (arith, array, same, from))) in
+        let sized = apart.sized k.0 o (contained_got objects o k) (λ array. absurd (omega (arith, array, same, ((is_program.fields number f g).class.0)))) in
         subst (λ n. f.index < n) (sym sized) (subst (λ class. f.index < instances_among class p.fields) (sym same) (instances_inside p number f is_program g s))
 
     pub places_typed : PlacesHold p objects words
@@ -75,20 +74,16 @@ module _ (p : Program) (is_program : IsProgram p) (objects : List Object) (next 
 
   pub static_stored : (v : ℕ) → is_static f.flags ≡ true → KindHolds (HasClass objects) f.kind v → IsStaticValue p objects f.index v
   static_stored v s h other g e static index =
-      let one = same_field other g e (one_static_field p other number g f is_program e there static s index) in
-      subst (λ (x : FieldInfo). KindHolds (HasClass objects) x.kind v) (sym one) h
+      subst (λ (x : FieldInfo). KindHolds (HasClass objects) x.kind v) (sym (same_field other g e (one_static_field p other number g f is_program e there static s index))) h
 
   pub field_stored : (o : Object) (v : ℕ) → Contains objects o → o.class ≡ f.class → is_static f.flags ≡ false → KindHolds (HasClass objects) f.kind v → IsValue p objects o.reference f.index v
   field_stored o v k class s h = record {
     field = λ e other g l same there_too instance of_class index.
-        let one : e ≡ o = same_object p objects next apart e o l k same in
-        let classes : g.class ≡ f.class = sym of_class ∙ (ap (λ (x : Object). x.class) one ∙ class) in
+        let classes : g.class ≡ f.class = sym of_class ∙ (ap (λ (x : Object). x.class) (same_object p objects next apart e o l k same) ∙ class) in
         let field = same_field other g there_too (one_instance_field p other number g f is_program there_too there classes instance s index) in
         subst (λ (x : FieldInfo). KindHolds (HasClass objects) x.kind v) (sym field) h;
     element = λ e l same array below.
-        let one : e ≡ o = same_object p objects next apart e o l k same in
-        let from = (is_program.fields number f there).class.0 in
-        absurd (omega (arith, from, class, array, ap (λ (x : Object). x.class) one));
+        absurd (omega (arith, ((is_program.fields number f there).class.0), class, array, ap (λ (x : Object). x.class) (same_object p objects next apart e o l k same)));
   }
 
 -- ---- an element that is stored
@@ -97,8 +92,6 @@ pub element_stored : (p : Program) → IsProgram p → (objects : List Object) (
     → IsValue p objects o.reference i v
 element_stored p is_program objects next apart o i v k class h = record {
   field = λ e other g l same there instance of_class index.
-      let one : e ≡ o = same_object p objects next apart e o l k same in
-      let from = (is_program.fields other g there).class.0 in
-      absurd (omega (arith, from, of_class, class, ap (λ (x : Object). x.class) one));
+      absurd (omega (arith, ((is_program.fields other g there).class.0), of_class, class, ap (λ (x : Object). x.class) (same_object p objects next apart e o l k same)));
   element = λ e l same array below. h;
 }

@@ -67,12 +67,9 @@ module _ (laws : WordLaws) (state : RunState) where
 
     -- ---- it is inside
 
-    by_site : (a : Access) → IsAccessOf c.program facts.objects s (content_at c x x.phase) a → accessed a < length s.words
-    by_site a k = subst (λ (n : ℕ). n < length s.words) (sym k.word) (inside c facts.objects s k.site marked facts.heap k.there)
-
     lies_inside : (a : Access) → Reaches c.program facts.objects s (content_at c x x.phase) a → accessed a < length s.words
     lies_inside Rest k = omega (arith, facts.heap.unused.many, marked.checked.program.heap_from)
-    lies_inside a k = by_site a k
+    lies_inside a k = subst (λ (n : ℕ). n < length s.words) (sym k.word) (inside c facts.objects s k.site marked facts.heap k.there)
 
     -- ---- what it finds may stand there
 
@@ -106,12 +103,10 @@ module _ (laws : WordLaws) (state : RunState) where
     left_at_site : (a : Access) → wanted c x x.phase ≡ Some a → IsAccessOf c.program facts.objects s (content_at c x x.phase) a → left_by a (slice_index s.words (accessed a)) < 2 ^ 64
     left_at_site a e k =
         let stores = phase_stores (lawful_mover lawful_one t x there) in
-        let adds = adds_few c x x.phase a e stores in
-        let sum = sums_fit lawful_one width facts.counters a _ _ (begun_once x.phase (top_of c.program x.frames)) (drawn_now_once x.phase) adds in
-        let few : x.cfg.range < 2 ^ 61 = omega (arith, settings, width.range) in
+        let sum = sums_fit lawful_one width facts.counters a _ _ (begun_once x.phase (top_of c.program x.frames)) (drawn_now_once x.phase) (adds_few c x x.phase a e stores) in
         let found = subst (λ (n : ℕ). MayStand n (content_at c x x.phase) (slice_index s.words (accessed a))) (sym settings) (word_stands a k) in
         let left = leaves c x a (slice_index s.words (accessed a)) (few_threads (lawful_mover lawful_one t x there)) lawful.bounded e found in
-        left_small c x x.phase a (slice_index s.words (accessed a)) few e (facts.small (accessed a)) sum stores left
+        left_small c x x.phase a (slice_index s.words (accessed a)) (omega (arith, settings, width.range)) e (facts.small (accessed a)) sum stores left
 
     left_small_by : (a : Access) → wanted c x x.phase ≡ Some a → Reaches c.program facts.objects s (content_at c x x.phase) a → left_by a (slice_index s.words (accessed a)) < 2 ^ 64
     left_small_by Rest e k = facts.small 0

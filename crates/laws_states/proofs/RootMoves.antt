@@ -79,8 +79,7 @@ module _ (c : MarkedProgram) (thread : BareThread) (got : ℕ) where
   -- that a section may be tried is the only way to an attempt
   never_tries : {P : Type 0} (n : ℕ) → may_try c s n ≡ true → Bare → P
   never_tries n may q =
-      let never : may_try c s n ≡ false = ap (λ (b : Bool). b && nat_lt n MOST_ATTEMPTS && enters_marked c s.frames) (not q) in
-      let bad : true ≡ false = sym may ∙ never in absurd (cc)
+      let bad : true ≡ false = sym may ∙ (ap (λ (b : Bool). b && nat_lt n MOST_ATTEMPTS && enters_marked c s.frames) (not q)) in absurd (cc)
 
   -- what a thread without an attempt claims is no attempt
   claims_none : {P : Type 0} (m : ℕ) (t : Attempt) → claim s m ≡ Tries t → Bare → P

@@ -168,8 +168,7 @@ module _ (lies_apart : StartLiesApart) (c : MarkedProgram) (objects : List Objec
   one_site (ValueOf x i) (HeaderOf y) k l b e = absurd (omega (arith, one_old x y b, e))
   one_site (ValueOf x i) (ValueOf y j) k l b e =
       let one = one_old x y b in
-      let index : i ≡ j = omega (arith, one, e) in
-      ap (λ z. ValueOf z i) one ∙ ap (ValueOf y) index
+      ap (λ z. ValueOf z i) one ∙ ap (ValueOf y) (omega (arith, one, e))
   one_site (NewHeaderOf x) (NewHeaderOf y) k l b e = ap NewHeaderOf (omega (arith, e))
   one_site (StaticAt w) (StaticAt v) k l b e = ap StaticAt e
   one_site site other k l b e = absurd (cc)

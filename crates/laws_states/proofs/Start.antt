@@ -107,10 +107,7 @@ module _ (p : Program) (is_program : IsProgram p) where
   IsStartClass class = (class ≤ CLASS_ITSELF) × IsHeader p (header class 0)
 
   built_in : (class : ℕ) → 0 < class → class < CLASS_ITSELF → IsStartClass class
-  built_in class from to = (omega (arith, to), class_header p is_program class (numbered (length p.names) class from to))
-    where
-      numbered : (files class : ℕ) → 0 < class → class < CLASS_ITSELF → is_class files class ≡ true
-      numbered files class from to = grind (arith, nat_tests, from, to)
+  built_in class from to = (omega (arith, to), class_header p is_program class (grind (arith, nat_tests, from, to)))
 
   itself : IsStartClass CLASS_ITSELF
   itself = (
@@ -241,13 +238,11 @@ module _ (laws : KnownStart) (c : MarkedProgram) (cfg : Config) (marked : IsMark
       let from = mapped_at (λ (h : FieldInfo). record { word = h.index; value = word_of h.start }) (filter (λ h. is_static h.flags) c.program.fields) v.1.0 v.0 there in
       let own = filtered (λ (h : FieldInfo). is_static h.flags) c.program.fields v.1.0 from.0 from.1 in
       let word : from.0.index ≡ f.index = ap (λ (z : StaticValue). z.word) from.2 ∙ v.2 in
-      let one : own.0 ≡ number = one_static_field c.program own.0 number from.0 f is_program own.1 g own.2 s word in
-      let same : from.0 ≡ f = same_some (sym own.1 ∙ (ap (slice_get c.program.fields) one ∙ g)) in
-      let value : v.0.value ≡ word_of f.start = sym (ap (λ (z : StaticValue). z.value) from.2) ∙ ap (λ (h : FieldInfo). word_of h.start) same in
+      let same : from.0 ≡ f = same_some (sym own.1 ∙ (ap (slice_get c.program.fields) (one_static_field c.program own.0 number from.0 f is_program own.1 g own.2 s word) ∙ g)) in
       let none : object_value (start_objects c.program) v.0.word ≡ None = outside_all (start_objects c.program) v.0.word (λ i o e. a.mixed i v.1.0 o v.0 e there) in
       let at : value_at (plain_start c.program) v.0.word ≡ Some v.0.value =
       ap (λ o. option_or o (static_value (start_statics c.program) v.0.word)) none ∙ static_at (start_statics c.program) v.1.0 v.0 a.differ there in
-      ap (slice_index (start c cfg).words) (sym v.2) ∙ (found v.0.word v.0.value at ∙ value)
+      ap (slice_index (start c cfg).words) (sym v.2) ∙ (found v.0.word v.0.value at ∙ (sym (ap (λ (z : StaticValue). z.value) from.2) ∙ ap (λ (h : FieldInfo). word_of h.start) same))
 
   -- an int of 32 bits, or null
   low_below : (n : ℕ) → n % 2 ^ 32 < 2 ^ 32
@@ -263,13 +258,10 @@ module _ (laws : KnownStart) (c : MarkedProgram) (cfg : Config) (marked : IsMark
   -- no object of the start has a field or an element
   no_field : (o : Object) (number : ℕ) (f : FieldInfo) → Contains (start_objects c.program) o → slice_get c.program.fields number ≡ Some f → o.class ≡ f.class → ⊥
   no_field o number f k g class =
-      let s = start_object c.program is_program k.0 o (contained_got (start_objects c.program) o k) in
-      omega (arith, s.low, class, (is_program.fields number f g).class.0)
+      omega (arith, (start_object c.program is_program k.0 o (contained_got (start_objects c.program) o k)).low, class, (is_program.fields number f g).class.0)
 
   no_value : (o : Object) (i : ℕ) → Contains (start_objects c.program) o → i < length o.values → ⊥
-  no_value o i k lt =
-      let s = start_object c.program is_program k.0 o (contained_got (start_objects c.program) o k) in
-      omega (arith, lt, ap (λ (vs : List ℕ). length vs) s.empty)
+  no_value o i k lt = omega (arith, lt, ap (λ (vs : List ℕ). length vs) (start_object c.program is_program k.0 o (contained_got (start_objects c.program) o k)).empty)
 
   places : PlacesHold c.program (start_objects c.program) (start c cfg).words
   places = record {

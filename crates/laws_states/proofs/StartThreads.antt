@@ -39,13 +39,10 @@ starts_lawful c cfg t x set few e = record {
 count_of : (c : MarkedProgram) (cfg : Config) → length (start c cfg).threads ≡ c.program.workers + 1
 count_of c cfg = length-map-range_with_len (start_thread c cfg) 0 (c.program.workers + 1)
 
-few_threads : (c : MarkedProgram) (cfg : Config) (t : ℕ) (x : Thread) → slice_get (start c cfg).threads t ≡ Some x → t ≤ c.program.workers
-few_threads c cfg t x e = let lt = slice_get_within (start c cfg).threads t x e in omega (arith, lt, count_of c cfg)
-
 pub start_threads : (c : MarkedProgram) (cfg : Config) → AreSettings cfg → AreThreads c cfg (start c cfg)
 start_threads c cfg set = record {
   count = count_of c cfg;
   own = λ t x e. has_threads c cfg t x e;
-  lawful = λ t x e. starts_lawful c cfg t x set (few_threads c cfg t x e) e;
+  lawful = λ t x e. starts_lawful c cfg t x set (let lt = slice_get_within (start c cfg).threads t x e in omega (arith, lt, count_of c cfg)) e;
   parts = start_fits c cfg;
 }

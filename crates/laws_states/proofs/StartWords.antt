@@ -29,8 +29,7 @@ class_free : (fields : List FieldInfo) (reference : ℕ) (classes more : List �
 class_free fields reference [] more i o e = absurd (cc)
 class_free fields reference (class ∷ classes) more zero o e = record { offset = 0; place = let same = ap (λ (x : Object). x.reference) (same_some e) in omega (arith, same); free = refl }
 class_free fields reference (class ∷ classes) more (suc i) o e =
-    let count : ℕ = length (statics_of fields class) in
-    let rest = class_free fields (reference + 2 + count) classes more i o e in
+    let rest = class_free fields (reference + 2 + (length (statics_of fields class))) classes more i o e in
     let statics : List ℕ = map (λ (f : FieldInfo). word_of f.start) (statics_of fields class) in
     let behind_statics : ℕ = length statics + rest.offset in
     record {
@@ -69,8 +68,7 @@ from_ready p records = from_classes p records ∙ append_assoc (records_part p r
 
 free_in : (words front back : List ℕ) (reference : ℕ) (o : Object) → words ≡ front ++ back → length front ≡ reference → IsFreeAt reference back o → slice_index words o.reference ≡ 0
 free_in words front back reference o is many h =
-    let at : o.reference ≡ length front + h.offset = omega (arith, h.place, many) in
-    ap (λ (l : List ℕ). slice_index l o.reference) is ∙ ap (slice_index (front ++ back)) at ∙ behind front back h.offset ∙ h.free
+    ap (λ (l : List ℕ). slice_index l o.reference) is ∙ ap (slice_index (front ++ back)) (omega (arith, h.place, many)) ∙ behind front back h.offset ∙ h.free
 
 split : {X : Type 0} (xs ys : List X) (i : ℕ) (x : X) → slice_get (xs ++ ys) i ≡ Some x → ((slice_get xs i ≡ Some x) ⊎ ((j : ℕ) × (slice_get ys j ≡ Some x)))
 split [] ys i x e = inr (i, e)

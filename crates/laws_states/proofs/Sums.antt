@@ -48,14 +48,10 @@ module _ (state : LawfulState) (width : HaveWidth state.cfg) where
 
   few_instructions : (t : ℕ) (x : Thread) → slice_get s.threads t ≡ Some x → x.counts.instructions < 4294967296
   few_instructions t x e =
-      let bounded : IsBounded c.program x = (threads.lawful t x e).bounded in
-      let steps : x.cfg.steps ≡ cfg.steps = ap (λ (k : Config). k.steps) (threads.own t x e).settings in
-      omega (arith, steps_few x.phase x.counts.instructions x.cfg.steps bounded.steps, steps, width.steps)
+      omega (arith, steps_few x.phase x.counts.instructions x.cfg.steps ((threads.lawful t x e).bounded).steps, (ap (λ (k : Config). k.steps) (threads.own t x e).settings), width.steps)
 
   few_taken : (t : ℕ) (x : Thread) → slice_get s.threads t ≡ Some x → x.counts.locked + drawn_for_flat x.phase ≤ 4294967296
-  few_taken t x e =
-      let bounded : IsBounded c.program x = (threads.lawful t x e).bounded in
-      omega (arith, bounded.sections, drawn_once x.phase, few_instructions t x e)
+  few_taken t x e = omega (arith, ((threads.lawful t x e).bounded).sections, drawn_once x.phase, few_instructions t x e)
 
   few_threads : length s.threads ≤ 9
   few_threads = omega (arith, threads.count, marked.checked.program.workers)
@@ -93,10 +89,8 @@ pub counters_after : (p : Program) (threads : List Thread) (words after : List �
 counters_after p threads words after t x y phase began e at fit counted free tickets records =
     let instructions = sum_set (λ z. z.counts.instructions) threads t x y e in
     let flat = sum_set (λ z. flat_held z.held) threads t x y e in
-    let taken = sum_set (λ z. z.counts.locked + drawn_for_flat z.phase) threads t x y e in
-    let drawn : drawn_for_flat x.phase ≡ drawn_for_flat phase = ap drawn_for_flat at in
     record {
       free = omega (arith, free, fit.free, instructions, counted.instructions);
       tickets = omega (arith, tickets, fit.tickets, instructions, counted.instructions);
-      records = omega (arith, records, fit.records, flat, taken, counted.taken, drawn);
+      records = omega (arith, records, fit.records, flat, (sum_set (λ z. z.counts.locked + drawn_for_flat z.phase) threads t x y e), counted.taken, (ap drawn_for_flat at));
     }

@@ -57,8 +57,7 @@ module _ (c : MarkedProgram) (marked : IsMarked c) where
   pub stores_fit : (fs : List Frame) (at : Top) → FramesHold c (within c.program) fs → top_of c.program fs ≡ Some at → StoresFit c.program at.target (effect_at c.program at)
   stores_fit [] at h e = absurd (cc)
   stores_fit (f ∷ fs) at h e =
-      let same : top_here c f fs h.0.stands ≡ at = same_some (sym (stand_top c marked f fs h.0.stands) ∙ e) in
-      subst (λ (x : Top). StoresFit c.program x.target (effect_at c.program x)) same
+      subst (λ (x : Top). StoresFit c.program x.target (effect_at c.program x)) (same_some (sym (stand_top c marked f fs h.0.stands) ∙ e))
       (allowed_fits h.0.stands.method h.0.stands.insn h.0.stands.target (row_of c.program h.0.stands.method h.0.stands.insn h.0.stands.target) f.stack (effect_at c.program (top_here c f fs h.0.stands)) (allowed_here c marked (within c.program) out f h.0))
 
   -- ---- an element

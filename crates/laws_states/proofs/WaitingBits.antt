@@ -52,12 +52,9 @@ found_or_none : (f : ℕ → Bool) (xs : List ℕ) → (f (unwrap_or (find f xs)
 found_or_none f [] = inr tt
 found_or_none f (x ∷ xs) = by_test (f x) refl (found_or_none f xs)
   where
-    more : AllByRecursion (λ x. f x ≡ false) xs → f x ≡ false → AllByRecursion (λ x. f x ≡ false) (x ∷ xs)
-    more h e = (e, h)
-
     by_rest : f x ≡ false → (f (unwrap_or (find f xs) 0) ≡ true) ⊎ AllByRecursion (λ x. f x ≡ false) xs → (f (unwrap_or (find f xs) 0) ≡ true) ⊎ AllByRecursion (λ x. f x ≡ false) (x ∷ xs)
     by_rest e (inl h) = inl h
-    by_rest e (inr h) = inr (more h e)
+    by_rest e (inr h) = inr (e, h)
 
     by_test : (b : Bool) → f x ≡ b → (f (unwrap_or (find f xs) 0) ≡ true) ⊎ AllByRecursion (λ x. f x ≡ false) xs → (f (unwrap_or (cond b (Some x) (find f xs)) 0) ≡ true) ⊎ AllByRecursion (λ x. f x ≡ false) (x ∷ xs)
     by_test true e rest = inl e

@@ -83,12 +83,9 @@ module _ (waiter : WaitMover) (behind : BitsBehind waiter.mover) where
       let w : Waits s.words u (was u) = waiting.each u z e in
       record {
         only = λ r low set. w.only r low (changes.less r u low d set);
-        must = must_stay s.words after u (was u) (λ r k at set. stays r k (owned r at) set) w.must;
+        must = must_stay s.words after u (was u) (λ r k at set. stays r k (owned_record (mover_of waiter.mover.state u z e) (was u) r at refl) set) w.must;
       }
     where
-      owned : (r : ℕ) → record_of (was u) ≡ Some r → OwnsRecord (locks_of waiter.mover.state.base.heap) u r
-      owned r at = owned_record (mover_of waiter.mover.state u z e) (was u) r at refl
-
       stays : (r k : ℕ) → OwnsRecord (locks_of waiter.mover.state.base.heap) u r → is_bit_set s.words r k ≡ true → is_bit_set after r k ≡ true
       stays r k o set = changes.stays r k o.low (λ q. d (omega (arith, q, o.owner))) set
 

@@ -21,26 +21,8 @@ use Rattle.laws_threads.proofs.ThreadMove as moves
 
 -- ---- sums
 
-fewer_chains : (n k p q : ℕ) → n < k → q < 24 → 24 * n + q < 24 * k + p
-fewer_chains n k p q h l = omega (arith, h, l)
-
-nearer_end : (n k p q : ℕ) → n ≡ k → q < p → 24 * n + q < 24 * k + p
-nearer_end n k p q h l = omega (arith, h, l)
-
-less_behind : (a f g n : ℕ) → a + f ≡ n → g < f → a + g < n
-less_behind a f g n e h = omega (arith, e, h)
-
 as_many : (a f g n : ℕ) → a + f ≡ n → g ≡ f → a + g ≡ n
 as_many a f g n e h = omega (arith, e, h)
-
-one_turn : (a m t r f : ℕ) → t < m → a + (m - (t + 1)) + r + f < a + (m - t) + r + f
-one_turn a m t r f h = omega (arith, h)
-
-one_root : (a l k f : ℕ) → k ≡ suc l → a + 2 * l + 1 < a + 2 * k + f
-one_root a l k f e = omega (arith, e)
-
-no_root : (a l k f : ℕ) → k ≡ suc l → a + 2 * l + 0 < a + 2 * k + f
-no_root a l k f e = omega (arith, e)
 
 spread : (m k : ℕ) → m * suc k ≡ m * k + m
 spread m k = grind arith
@@ -116,10 +98,10 @@ module _ (x : Thread) (phase : Phase) where
   either false y z h k = k
 
   by_chains : (y : Thread) → chains_left y < chains_left x → Lessens y
-  by_chains y h = fewer_chains (chains_left y) (chains_left x) (chain x.held phase + inside phase x.attempt) (chain y.held y.phase + inside y.phase y.attempt) h (small y)
+  by_chains y h = omega (arith, h, (small y))
 
   by_place : (y : Thread) → chains_left y ≡ chains_left x → chain y.held y.phase + inside y.phase y.attempt < chain x.held phase + inside phase x.attempt → Lessens y
-  by_place y e h = nearer_end (chains_left y) (chains_left x) (chain x.held phase + inside phase x.attempt) (chain y.held y.phase + inside y.phase y.attempt) e h
+  by_place y e h = omega (arith, e, h)
 
   to_phase : (now : Phase) → chain x.held now + inside now x.attempt < chain x.held phase + inside phase x.attempt → Lessens (with_phase x now)
   to_phase now h = by_place (with_phase x now) refl h
@@ -132,7 +114,7 @@ module _ (x : Thread) (phase : Phase) where
       by_limit false = by_place (with_phase s (phases.Ending ends.Steps)) e (omega (arith, h))
 
   turned : (now : Phase) → x.turns < x.cfg.turns → Lessens (failed_turn x now)
-  turned now h = by_chains (failed_turn x now) (one_turn ((x.cfg.turns + 2) * (x.cfg.steps - x.counts.instructions)) x.cfg.turns x.turns (2 * length x.roots) (length x.frames) h)
+  turned now h = by_chains (failed_turn x now) (omega (arith, h))
 
   -- fewer frames
   module _ (s : Thread) (e : chains_left s ≡ chains_left x) where
@@ -140,7 +122,7 @@ module _ (x : Thread) (phase : Phase) where
     rest = (s.cfg.turns + 2) * (s.cfg.steps - s.counts.instructions) + (s.cfg.turns - s.turns) + 2 * length s.roots
 
     in_fewer : (frames : List Frame) (now : Phase) → length frames < length s.frames → Lessens (record s { frames = frames; phase = now })
-    in_fewer frames now h = by_chains (record s { frames = frames; phase = now }) (less_behind rest (length s.frames) (length frames) (chains_left x) e h)
+    in_fewer frames now h = by_chains (record s { frames = frames; phase = now }) (omega (arith, e, h))
 
     in_as_many : (frames : List Frame) → length frames ≡ length s.frames → 2 < chain x.held phase + inside phase x.attempt → Lessens (runs (record s { frames = frames }))
     in_as_many frames h far = ran_on (record s { frames = frames }) (as_many rest (length s.frames) (length frames) (chains_left x) e h) far
@@ -157,8 +139,7 @@ module _ (x : Thread) (phase : Phase) where
     goes_behind : (p : Program) (a : After) → HasAfter p a s.frames → 2 < chain x.held phase + inside phase x.attempt → Lessens (goes_after p s a)
     goes_behind p afters.Next k far = ran_on s e far
     goes_behind p afters.Return k far =
-        let same : suc (length k.0.below) ≡ length s.frames = ap length (frames_are p s.frames k.0 k.1) in
-        let few : length (returned p k.0) < length s.frames = omega (arith, same, returned_fewer p k.0) in
+        let few : length (returned p k.0) < length s.frames = omega (arith, (ap length (frames_are p s.frames k.0 k.1)), returned_fewer p k.0) in
         subst (λ (o : Option Top). Lessens (goes_on_if s (option_map (λ at. back (returned p at)) o))) (sym k.1) (comes_back (returned p k.0) few)
     goes_behind p (afters.Unwind r class) k far = unwinds r class (drop 1 s.frames) (one_less s.frames k)
       where
@@ -195,8 +176,8 @@ starts p x (number ∷ roots) e has = by_method (slice_get p.methods number) has
     rest = (x.cfg.turns + 2) * (x.cfg.steps - x.counts.instructions) + (x.cfg.turns - x.turns)
 
     by_room : (m : MethodInfo) (b : Bool) → Lessens x phases.Start (goes_on y (if b then Running (entry_frame number m (root_arguments x.number m) ∷ []) else Uncaught StackOverflowError))
-    by_room m true = by_chains x phases.Start (goes_on y (Running (entry_frame number m (root_arguments x.number m) ∷ []))) (one_root rest (length roots) (length x.roots) (length x.frames) one)
-    by_room m false = by_chains x phases.Start (goes_on y (Uncaught StackOverflowError)) (no_root rest (length roots) (length x.roots) (length x.frames) one)
+    by_room m true = by_chains x phases.Start (goes_on y (Running (entry_frame number m (root_arguments x.number m) ∷ []))) (omega (arith, one))
+    by_room m false = by_chains x phases.Start (goes_on y (Uncaught StackOverflowError)) (omega (arith, one))
 
     by_method : (o : Option MethodInfo) → IsSome o → Lessens x phases.Start (goes_on_if y (option_map (rooted p x.number number) o))
     by_method None has = absurd (cc)
@@ -234,16 +215,13 @@ module _ (p : Program) (x : Thread) (r : ℕ) (class : Thrown) where
       fewer : length at.below < length x.frames
       fewer = omega (arith, same)
 
-      near : leaving_held (held_at x.held (monitor_of p at.method at.frame)) + trying x.attempt < 11 + trying x.attempt
-      near = omega (arith, leaving_near (held_at x.held (monitor_of p at.method at.frame)))
-
       rest : ℕ
       rest = (x.cfg.turns + 2) * (x.cfg.steps - x.counts.instructions) + (x.cfg.turns - x.turns) + 2 * length x.roots
 
       by_method : (b : Bool) → Throws (goes_on x (if b then Leaving (monitor_of p at.method at.frame) (afters.Unwind r class) (frames_of at) else unwound r class at.below))
       by_method true =
           by_place x (phases.Throw r class) (record x { frames = frames_of at; phase = phases.Leave (monitor_of p at.method at.frame) (afters.Unwind r class) })
-          (as_many rest (length x.frames) (length (frames_of at)) (chains_left x) refl same) near
+          (as_many rest (length x.frames) (length (frames_of at)) (chains_left x) refl same) (omega (arith, leaving_near (held_at x.held (monitor_of p at.method at.frame))))
       by_method false = unwinds x (phases.Throw r class) x refl r class at.below fewer
 
 -- ---- all moves but those of an instruction and of a root
@@ -292,9 +270,7 @@ module _ (c : MarkedProgram) (x : Thread) (got : ℕ) where
   leads_less : (phase now : Phase) → LeadsTo c.program x got phase now → BeginsNothing phase → Lessens x phase (with_phase x now)
   leads_less phase _ (moves.to_take m count k e) i = to_phase x phase (phases.Take m count) (looks_in (λ (w : Phase). place (phases.Take m count) < place w) m phase k (λ tried. omega arith) (omega arith))
   leads_less phase _ (moves.to_take_fat m r k e) i = to_phase x phase (phases.TakeFat m r) (looks_in (λ (w : Phase). place (phases.TakeFat m r) < place w) m phase k (λ tried. omega arith) (omega arith))
-  leads_less _ _ (moves.to_grow m count a h e t kept) i =
-      let far : leaving_held (held_at x.held m) ≡ leaving_work (keeps.Flat count) = ap leaving_held e ∙ ap leaving_work kept in
-      to_phase x (phases.Leave m a) (phases.Grow m (towards.Leave a)) (omega (arith, far))
+  leads_less _ _ (moves.to_grow m count a h e t kept) i = to_phase x (phases.Leave m a) (phases.Grow m (towards.Leave a)) (omega (arith, (ap leaving_held e ∙ ap leaving_work kept)))
   leads_less _ _ (moves.to_element at array index stored e f t) i = absurd i
   leads_less _ _ (moves.to_no_print at v e l t) i = absurd i
   leads_less phase now k i = to_phase x phase now (omega arith)

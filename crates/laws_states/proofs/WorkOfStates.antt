@@ -19,9 +19,6 @@ events_lessen_all_work law c cfg s t marked threads live = states law c cfg s t 
 
 -- ---- the bound
 
-spread : (m k : ℕ) → m * (k + 1) ≡ m * k + m
-spread m k = grind arith
-
 no_more : (m j k : ℕ) → j ≤ k → m * j ≤ m * k
 no_more m j k h = grind (arith, h)
 
@@ -29,7 +26,7 @@ pub work_is_bounded : WorkIsBounded
 work_is_bounded x =
     let few : (x.cfg.turns + 2) * (x.cfg.steps - x.counts.instructions) ≤ (x.cfg.turns + 2) * x.cfg.steps = no_more (x.cfg.turns + 2) (x.cfg.steps - x.counts.instructions) x.cfg.steps (omega arith) in
     by_sum ((x.cfg.turns + 2) * (x.cfg.steps - x.counts.instructions)) ((x.cfg.turns + 2) * x.cfg.steps) x.cfg.turns x.turns (2 * length x.roots) (length x.frames) (chain x.held x.phase + inside x.phase x.attempt) few (small x)
-    (spread (x.cfg.turns + 2) x.cfg.steps)
+    (grind arith)
   where
     by_sum : (a b m t r f p : ℕ) → a ≤ b → p < 24 → (m + 2) * (x.cfg.steps + 1) ≡ b + (m + 2) → 24 * (a + (m - t) + r + f) + p < 24 * ((m + 2) * (x.cfg.steps + 1) + r + f)
     by_sum a b m t r f p h q e = rw e (omega (arith, h, q))
