@@ -8,7 +8,7 @@ use Rattle.jvm_types.specs.declared.{program.{Program.Program, Target.Target}, r
 use Rattle.laws_programs.proofs.CodeOrder.{have_targets}
 use Rattle.checked_program.specs.{Colours.{ColourShape, entry_colours, is_read_of, colours_after, colours_at_handler, is_coloured, IsColouring}, FrozenPlaces.stands_guarded, LockTags.TagShape}
 use Rattle.checked_program.specs.OwnedArrays.{may_take_array, TakesArrayWell, StoresGuarded, UsesArrayWell, IsOwnedArrayField, IsOwnedAt, owns_arrays, AreUses}
-use Rattle.checked_program.specs.{SectionLaws.{AreTagged, OneColouring, KeepsArray, ArrayLaw, ElementWriteLaw, OwnedIsDecided}, TaggedCode.{Tagged, IsAt, row_of}, Tagging.catchers}
+use Rattle.checked_program.specs.{SectionLaws.{AreTagged, OneColouring, KeepsArray, ArrayLaw, ElementWriteLaw, OwnedIsDecided}, TaggedCode.{Tagged, IsAt, IsInstructionReached, row_of}, Tagging.catchers}
 use Rattle.checked_program.{specs.declared.section.Uses.Uses, proofs.NamedFields.target_named}
 use Rattle.laws_sections.proofs.{FieldWrites.{in_init, or_three}, TaggedPaths.{IsEdgeTo, all_reach}}
 use Rattle.jvm_types.specs.declared.code.Op.TheVariants as ops
@@ -278,9 +278,14 @@ element_write_law p tags mi i m insn target f program all at e k =
 
 -- ---- a place of a stack is coloured for some owned field, or for none: a search through the fields
 
-module _ (p : Program) (tags : Tagged) (uses : Uses) (program : IsProgram p) (all : AreTagged p tags) (a : AreUses p tags uses) (mi i k : ℕ) (m : MethodInfo) (insn : Insn) (target : Target) (f : TagShape) (at : IsAt p tags mi i m insn target f) where
+module _ (p : Program) (tags : Tagged) (program : IsProgram p) (all : AreTagged p tags) (mi i k : ℕ) (here : IsInstructionReached p tags mi i) where
+  open here use {m, insn, target, f, at}
+
   abbrev Found : Type 0
   Found = IsOwnedAt p tags mi i k
+
+  by_sorts : true ≡ false → ⊥
+  by_sorts x = cc
 
   -- for this field
   abbrev IsNotBy : ℕ → Type 0
@@ -292,9 +297,6 @@ module _ (p : Program) (tags : Tagged) (uses : Uses) (program : IsProgram p) (al
       let there : IsColouring p tags mi fi o.colours = subst (λ (n : ℕ). IsColouring p tags mi n o.colours) same o.colouring in
       let one : o.colours i ≡ u.colours i = one_colouring p tags mi fi i m insn target f o.colours u.colours program all there u.colouring at in
       by_sorts (sym o.coloured ∙ ap (λ (s : ColourShape). is_coloured s.stack k) one ∙ e))
-    where
-      by_sorts : true ≡ false → ⊥
-      by_sorts x = cc
 
   by_class : (fi : ℕ) (own : IsOwnedArrayField p tags fi) (b : Bool) → (m.class == own.field.class) ≡ b → Found ⊎ IsNotBy fi
   by_class fi own true e = let u = own.used mi m at.in_program (eqb-true m.class own.field.class e) in by_colour fi own u (is_coloured (u.colours i).stack k) refl
@@ -302,33 +304,28 @@ module _ (p : Program) (tags : Tagged) (uses : Uses) (program : IsProgram p) (al
       let there : IsColouring p tags mi fi o.colours = subst (λ (n : ℕ). IsColouring p tags mi n o.colours) same o.colouring in
       let bad : true ≡ false = sym o.coloured ∙ (other_class p tags program all fi own mi o.colours there m at.in_program e i insn target f at).stack k in
       by_sorts bad)
-    where
-      by_sorts : true ≡ false → ⊥
-      by_sorts x = cc
 
-  by_owner : (fi : ℕ) (b : Bool) → owns_arrays uses fi ≡ b → Found ⊎ IsNotBy fi
-  by_owner fi true e = let own = (a.owners fi).0 e in by_class fi own (m.class == own.field.class) refl
-  by_owner fi false e = inr (λ o same.
-      by_sorts (sym ((a.owners fi).1 (subst (λ (n : ℕ). IsOwnedArrayField p tags n) same o.owned)) ∙ e))
-    where
-      by_sorts : true ≡ false → ⊥
-      by_sorts x = cc
+  module _ (uses : Uses) (a : AreUses p tags uses) where
+    by_owner : (fi : ℕ) (b : Bool) → owns_arrays uses fi ≡ b → Found ⊎ IsNotBy fi
+    by_owner fi true e = let own = (a.owners fi).0 e in by_class fi own (m.class == own.field.class) refl
+    by_owner fi false e = inr (λ o same.
+        by_sorts (sym ((a.owners fi).1 (subst (λ (n : ℕ). IsOwnedArrayField p tags n) same o.owned)) ∙ e))
 
-  search : (n : ℕ) → Found ⊎ ((o : Found) → o.fi < n → ⊥)
-  search zero = inr (λ o l. omega (arith, l))
-  search (suc n) = either (search n) (by_owner n (owns_arrays uses n) refl)
-    where
-      either : Found ⊎ ((o : Found) → o.fi < n → ⊥) → Found ⊎ IsNotBy n → Found ⊎ ((o : Found) → o.fi < suc n → ⊥)
-      either (inl x) y = inl x
-      either (inr none) (inl x) = inl x
-      either (inr none) (inr last) = inr (λ o l. ⊎_elim (λ (q : o.fi ≡ n). last o q) (λ (q : o.fi ≢ n). none o (omega (arith, l, q))) (cases_eq o.fi n))
+    search : (n : ℕ) → Found ⊎ ((o : Found) → o.fi < n → ⊥)
+    search zero = inr (λ o l. omega (arith, l))
+    search (suc n) = either (search n) (by_owner n (owns_arrays uses n) refl)
+      where
+        either : Found ⊎ ((o : Found) → o.fi < n → ⊥) → Found ⊎ IsNotBy n → Found ⊎ ((o : Found) → o.fi < suc n → ⊥)
+        either (inl x) y = inl x
+        either (inr none) (inl x) = inl x
+        either (inr none) (inr last) = inr (λ o l. ⊎_elim (λ (q : o.fi ≡ n). last o q) (λ (q : o.fi ≢ n). none o (omega (arith, l, q))) (cases_eq o.fi n))
 
-  decided : Found ⊎ (Found → ⊥)
-  decided = either (search (length p.fields))
-    where
-      either : Found ⊎ ((o : Found) → o.fi < length p.fields → ⊥) → Found ⊎ (Found → ⊥)
-      either (inl x) = inl x
-      either (inr none) = inr (λ o. none o (slice_get_within p.fields o.fi o.owned.field o.owned.is))
+    decided : Found ⊎ (Found → ⊥)
+    decided = either (search (length p.fields))
+      where
+        either : Found ⊎ ((o : Found) → o.fi < length p.fields → ⊥) → Found ⊎ (Found → ⊥)
+        either (inl x) = inl x
+        either (inr none) = inr (λ o. none o (slice_get_within p.fields o.fi o.owned.field o.owned.is))
 
 pub owned_is_decided : OwnedIsDecided
-owned_is_decided p tags uses mi i k m insn target f program all a at = decided p tags uses program all a mi i k m insn target f at
+owned_is_decided p tags uses mi i k m insn target f program all a at = decided p tags program all mi i k (record { m = m; insn = insn; target = target; f = f; at = at }) uses a

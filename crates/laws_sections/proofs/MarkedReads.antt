@@ -38,7 +38,19 @@ use_at p tags uses fi a x e n = a.each fi x (got uses fi e)
 
 -- ---- what an instruction that breaks no rule does
 
-module _ (p : Program) (tags : Tagged) (uses : Uses) (a : AreUses p tags uses) (o receiver : ℕ) (mode : Mode) (is : mode ≡ OnThis → receiver ≡ o) (ts : List Tag) (vs : List ℕ) (names : HasThis receiver ts vs) where
+-- a frame that is run so in a section whose own frame has the receiver o, with its stack
+record InSection : Type 0 where
+  o : ℕ
+  receiver : ℕ
+  mode : Mode
+  is : mode ≡ OnThis → receiver ≡ o
+  tags : List Tag
+  values : List ℕ
+  names : HasThis receiver tags values
+
+module _ (p : Program) (tags : Tagged) (uses : Uses) (a : AreUses p tags uses) (frame : InSection) where
+  open frame use {o, receiver, mode, is, tags as ts, values as vs, names}
+
   own_place : (k : ℕ) → is_own_object mode (slice_index_or ts k Untagged) ≡ true → (mode ≡ OnThis) × (slice_index vs k ≡ o)
   own_place k e = let h = own_object mode (slice_index_or ts k Untagged) e in (h.0, names k h.1 ∙ is h.0)
 
@@ -160,4 +172,4 @@ no_fault p tags uses s o a (b ∷ parts) mode m insn target f k h at = called_no
 
 pub read_law : ReadLaw
 read_law p tags uses s o a parts mode m insn target f stack program u k h at names =
-    reads_only p tags uses u o a.receiver mode (on_receiver p tags s o a parts mode h) f.stack stack names a.method a.at m insn.op target (target_named p tags a.method a.at m insn target f program at) (no_fault p tags uses s o a parts mode m insn target f k h at)
+    reads_only p tags uses u (record { o = o; receiver = a.receiver; mode = mode; is = on_receiver p tags s o a parts mode h; tags = f.stack; values = stack; names = names }) a.method a.at m insn.op target (target_named p tags a.method a.at m insn target f program at) (no_fault p tags uses s o a parts mode m insn target f k h at)

@@ -13,9 +13,15 @@ tagged_typed p m types frames laid typed tagged i f e = (tag_local p m types lai
 
 -- ---- along the edges of an assignment
 
-module _ (p : Program) (m : MethodInfo) (frames : List (Option TagShape)) (laid : IsLaidOut m) (law : IsTagAssignment p m frames) (P : TagShape → Type 0)
-    (start : P (entry_tags m)) (falls : (f g : TagShape) → IsShapeBelow f g → P f → P g) (caught : (f : TagShape) → P f → P (tags_at_handler f))
-    (onward : (i : ℕ) (insn : Insn) (target : Target) (f : TagShape) → slice_get m.code i ≡ Some insn → slice_get m.targets i ≡ Some target → slice_get frames i ≡ Some (Some f) → P f → P (tags_after insn (row p m insn.pc target insn.op) f)) where
+record GoesAlong (p : Program) (m : MethodInfo) (frames : List (Option TagShape)) (P : TagShape → Type 0) : Type 0 where
+  start : P (entry_tags m)
+  falls : (f g : TagShape) → IsShapeBelow f g → P f → P g
+  caught : (f : TagShape) → P f → P (tags_at_handler f)
+  onward : (i : ℕ) (insn : Insn) (target : Target) (f : TagShape) → slice_get m.code i ≡ Some insn → slice_get m.targets i ≡ Some target → slice_get frames i ≡ Some (Some f) → P f → P (tags_after insn (row p m insn.pc target insn.op) f)
+
+module _ (p : Program) (m : MethodInfo) (frames : List (Option TagShape)) (laid : IsLaidOut m) (law : IsTagAssignment p m frames) (P : TagShape → Type 0) (along : GoesAlong p m frames P) where
+  open along use {start, falls, caught, onward}
+
   abbrev HasIt : ℕ → TagShape → Type 0
   HasIt i f = (g : TagShape) × (slice_get frames i ≡ Some (Some g)) × P g
 
@@ -51,11 +57,16 @@ module _ (p : Program) (m : MethodInfo) (frames : List (Option TagShape)) (laid 
       let b = begins m laid in
       (l.frame, ap (slice_get frames) (one_number m 0 l.number b.0 l.insn laid (ap (λ (code : List Insn). slice_get code 0) b.2) l.there (b.3 ∙ sym l.starts)) ∙ l.has, falls (entry_tags m) l.frame l.fits start)
 
-  pub all_have : HasTagging p m frames → (i : ℕ) (f : TagShape) → slice_get frames i ≡ Some (Some f) → P f
-  all_have tagged i f e =
+  have_all : HasTagging p m frames → (i : ℕ) (f : TagShape) → slice_get frames i ≡ Some (Some f) → P f
+  have_all tagged i f e =
       let closed : IsClosed (tag_plan p m) HasIt = record { first = first_has; meets = λ i g f a b. a; lands = plan_lands } in
       let has = (local (tag_plan p m) IsShapeBelow tag_order HasIt closed (begins m laid) frames tagged).live i f e in
       subst P (one_there (slice_get frames i) has.0 f has.1 e) has.2
     where
       one_there : (o : Option (Option TagShape)) (g h : TagShape) → o ≡ Some (Some g) → o ≡ Some (Some h) → g ≡ h
       one_there o g h d e = cc
+
+pub all_have : (p : Program) (m : MethodInfo) (frames : List (Option TagShape)) → IsLaidOut m → IsTagAssignment p m frames → (P : TagShape → Type 0) → P (entry_tags m) → ((f g : TagShape) → IsShapeBelow f g → P f → P g) → ((f : TagShape) → P f → P (tags_at_handler f))
+    → ((i : ℕ) (insn : Insn) (target : Target) (f : TagShape) → slice_get m.code i ≡ Some insn → slice_get m.targets i ≡ Some target → slice_get frames i ≡ Some (Some f) → P f → P (tags_after insn (row p m insn.pc target insn.op) f))
+    → HasTagging p m frames → (i : ℕ) (f : TagShape) → slice_get frames i ≡ Some (Some f) → P f
+all_have p m frames laid law P start falls caught onward = have_all p m frames laid law P (record { start = start; falls = falls; caught = caught; onward = onward })
