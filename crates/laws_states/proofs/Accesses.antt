@@ -47,13 +47,11 @@ FitsIf p objects s content (Some access) = FitsAccess p objects s content access
 
 value_suits : (kind : Kind) (reference index : ℕ) → Suits (kind_content kind) (ValueOf reference index)
 value_suits kinds.Int reference index = tt
-value_suits kinds.Bool reference index = tt
-value_suits (kinds.Ref class) reference index = tt
+value_suits kind reference index = tt
 
 static_suits : (kind : Kind) (word : ℕ) → Suits (kind_content kind) (StaticAt word)
 static_suits kinds.Int word = tt
-static_suits kinds.Bool word = tt
-static_suits (kinds.Ref class) word = tt
+static_suits kind word = tt
 
 -- an element that is read or to be stored is one of an array
 abbrev ReadsArray : Classes → Option ℕ → List ℕ → Type 0
@@ -69,8 +67,7 @@ HasReference stored s = ⊥
 array_read : (p : Program) (m : MethodInfo) (is : Classes) (insn : Insn) (target : Target) (r : OpRow) (op : Op) (next : ℕ) (locals : List ℕ) (stored : Option ℕ) (stack : List ℕ) → is_element_op stored op ≡ true → HasReference stored stack
     → Allowed p m is insn target r stack (effect p next target op locals stack) → ReadsArray is stored stack
 array_read p m is insn target r ops.Iaload next locals None (i ∷ a ∷ s) e some al =
-    let k = subst (λ b. Allowed p m is insn target r (i ∷ a ∷ s) (if b then Throws thrown.NullPointerException else Indexes a i None)) some al in
-    k.1
+    (subst (λ b. Allowed p m is insn target r (i ∷ a ∷ s) (if b then Throws thrown.NullPointerException else Indexes a i None)) some al).1
 array_read p m is insn target r ops.Iastore next locals (Some v) (w ∷ i ∷ a ∷ s) e some al =
     let k = subst (λ b. Allowed p m is insn target r (w ∷ i ∷ a ∷ s) (if b then Throws thrown.NullPointerException else Indexes a i (Some w))) some al in
     (k.1, k.3)

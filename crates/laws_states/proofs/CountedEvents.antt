@@ -65,8 +65,6 @@ drawn_in was = drawn_by was + drawn_for_flat was
 leads_drawn : (p : Program) (s : Thread) (got : ℕ) (was now : Phase) → LeadsTo p s got was now → drawn_in was ≤ drawn_for_flat now
 leads_drawn p s got was _ (moves.to_take m count k e) = looks_in (λ (w : Phase). drawn_in w ≤ 0) m was k (λ tried. omega arith) (omega arith)
 leads_drawn p s got was _ (moves.to_take_fat m r k e) = looks_in (λ (w : Phase). drawn_in w ≤ 0) m was k (λ tried. omega arith) (omega arith)
-leads_drawn p s got _ _ (moves.to_end ends.Records) = omega arith
-leads_drawn p s got _ _ (moves.to_end e) = omega arith
 leads_drawn p s got was now k = omega arith
 
 turns_drawn : (s : Thread) (got : ℕ) (was now : Phase) → TurnsTo s got was now → drawn_in was ≤ 0

@@ -100,8 +100,7 @@ module _ (sites : KnownSites) (mover : LockMover) (records : RecordsFit mover.st
       by_number u (inl same) in' out = same
       by_number u (inr other) in' out =
           let few = few_set (slice_index s.words (bits_word r)) u (records.bits r low) in' in
-          let stays = others_stay (slice_index s.words (bits_word r)) u w few (omega (arith, (fits_bounds mover (phases.NotifyOne m r w) e).1)) (λ q. other (sym q)) in' in
-          let bad : true ≡ false = sym stays ∙ out in
+          let bad : true ≡ false = sym (others_stay (slice_index s.words (bits_word r)) u w few (omega (arith, (fits_bounds mover (phases.NotifyOne m r w) e).1)) (λ q. other (sym q)) in') ∙ out in
           absurd (cc)
 
   pub bits_by_phase : (phase : Phase) → x.phase ≡ phase → IsAs phase (was t) → Done phase

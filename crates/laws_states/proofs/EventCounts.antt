@@ -32,10 +32,7 @@ module _ (sites : KnownSites) (mover : LockMover) where
   put_fat k r fat = put k (λ n e. absurd (let bad : keeps.Fat r ≡ keeps.Flat n = sym fat ∙ e in cc))
 
   put_again : (m : ℕ) (h k : Held) → held_at x.held m ≡ Some h → k.monitor ≡ h.monitor → k.kept ≡ h.kept → Follows (with_held k x.held)
-  put_again m h k at same_monitor same_kept = put k (λ n e. inl (subst (λ (o : Option Held). KeepsFlat o n) (sym here) (sym same_kept ∙ e)))
-    where
-      here : held_at x.held k.monitor ≡ Some h
-      here = ap (held_at x.held) (same_monitor ∙ held_monitor m x.held h at) ∙ at
+  put_again m h k at same_monitor same_kept = put k (λ n e. inl (subst (λ (o : Option Held). KeepsFlat o n) (sym (ap (held_at x.held) (same_monitor ∙ held_monitor m x.held h at) ∙ at)) (sym same_kept ∙ e)))
 
   drop_one : (n : ℕ) → Follows (without_held n x.held)
   drop_one n = λ m k e. at m k (n == m) (subst (λ (o : Option Held). KeepsFlat o k) (held_without m n x.held structured.stands.once) e)

@@ -20,10 +20,9 @@ stays_fat t range held was now (inl e) r f = e ∙ f
 stays_fat t range held was now (inr g) r f = absurd (subst (λ (l : LockWord). LockGoes t range held l now) f g)
 
 frees : (t range : ℕ) (held : Option Held) (was : LockWord) (seen : ℕ) → LockGoes t range held was (locks.Free seen) → IsFreed held range seen
-frees t range held (locks.Free n) seen g = absurd g
 frees t range held (locks.Held u) seen g = g.1
 frees t range held (locks.Flagged u) seen g = g.1
-frees t range held (locks.Fat r) seen g = absurd g
+frees t range held was seen g = absurd g
 
 was_freed : (t range : ℕ) (held : Option Held) (was now : LockWord) → (now ≡ was) ⊎ LockGoes t range held was now → (seen : ℕ) → now ≡ locks.Free seen → (was ≡ locks.Free seen) ⊎ IsFreed held range seen
 was_freed t range held was now (inl e) seen f = inl (sym e ∙ f)

@@ -63,9 +63,6 @@ module _ (state : HeapState) where
       let class : k.2.0.class ≡ k.1 = k.2.3 in
       (below, ap header_class (header_found c objects s facts THROWABLE_CLASS a k) ∙ (class_small k.2.0 (omega (arith, class, (throwable_small k.1 below).1)) ∙ class))
 
-  raise_fits : (a : ℕ) → IsOf (HasClass objects) THROWABLE_CLASS a → IsSome (thrown_of (header_class (slice_index s.words (header_word a))))
-  raise_fits a k = let t = thrown_class a k in subst (λ d. IsSome (thrown_of d)) (sym t.1) (thrown_some k.1 t.0)
-
   raise_holds : (a : ℕ) → IsOf (HasClass objects) THROWABLE_CLASS a → (class : Thrown) → thrown_of (header_class (slice_index s.words (header_word a))) ≡ Some class → HasClass objects (class_of class) a
   raise_holds a k class e = subst (λ d. HasClass objects d a) (sym (thrown_is (header_class (slice_index s.words (header_word a))) class e ∙ (thrown_class a k).1)) k.2
 
@@ -79,7 +76,7 @@ module _ (state : HeapState) where
   effect_found x m insn target r stack pc (Writes v n) al heap = variable_fits target v al.1 al.2
   effect_found x m insn target r stack pc (Indexes a i stored) al heap = header_fits INT_ARRAY_CLASS a al.1
   effect_found x m insn target r stack pc (Measures a) al heap = header_fits INT_ARRAY_CLASS a al.1
-  effect_found x m insn target r stack pc (Raises a) al heap = (header_fits THROWABLE_CLASS a al.1, raise_fits a al.1)
+  effect_found x m insn target r stack pc (Raises a) al heap = (header_fits THROWABLE_CLASS a al.1, (let t = thrown_class a al.1 in subst (λ d. IsSome (thrown_of d)) (sym t.1) (thrown_some al.1.1 t.0)))
   effect_found x m insn target r stack pc Stuck al heap = absurd al
   effect_found x m insn target r stack pc e al heap = tt
 

@@ -113,8 +113,7 @@ module _ (state : HeapState) (after : List ℕ) where
     allowed : (at : Top) (e : Effect) → top_of c.program x.frames ≡ Some at → effect_at c.program at ≡ e
         → (effect_at c.program (top_here c f fs h.stands) ≡ e) × Allowed c.program h.stands.method (HasClass objects) h.stands.insn h.stands.target (row_of c.program h.stands.method h.stands.insn h.stands.target) f.stack e
     allowed at e found is =
-        let same : at ≡ top_here c f fs h.stands = same_some (sym found ∙ ap (top_of c.program) there ∙ stand_top c marked f fs h.stands) in
-        let here : effect_at c.program (top_here c f fs h.stands) ≡ e = ap (effect_at c.program) (sym same) ∙ is in
+        let here : effect_at c.program (top_here c f fs h.stands) ≡ e = ap (effect_at c.program) (sym (same_some (sym found ∙ ap (top_of c.program) there ∙ stand_top c marked f fs h.stands))) ∙ is in
         (here, subst (λ (e : Effect). Allowed c.program h.stands.method (HasClass objects) h.stands.insn h.stands.target (row_of c.program h.stands.method h.stands.insn h.stands.target) f.stack e) here (allowed_here c marked (HasClass objects) (out_there c marked objects s facts) f h))
 
   -- ---- all moves

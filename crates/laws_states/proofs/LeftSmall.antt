@@ -21,8 +21,7 @@ use Rattle.machine_types.specs.declared.phase.Phase.TheVariants as phases
 upper_small : (range kind upper : ℕ) → range < 2 ^ 61 → is_lock_by kind upper ≡ true → CountsTo range (lock_by kind upper) → upper < 2 ^ 61
 upper_small range zero n few is counts = omega (arith, few, counts)
 upper_small range (suc zero) n few is counts = let h : n < 1024 = grind (arith, nat_tests, is) in omega (arith, h)
-upper_small range (suc (suc zero)) n few is counts = let h : n ≤ 9 = grind (arith, nat_tests, is) in omega (arith, h)
-upper_small range (suc (suc (suc kind))) n few is counts = let h : n ≤ 9 = grind (arith, nat_tests, is) in omega (arith, h)
+upper_small range kind n few is counts = let h : n ≤ 9 = grind (arith, nat_tests, is) in omega (arith, h)
 
 pub lock_small : (range word : ℕ) → range < 2 ^ 61 → IsLock range word → word < 2 ^ 64
 lock_small range word few h = let upper : word / 4 < 2 ^ 61 = upper_small range (word % 4) (word / 4) few h.is h.counts in omega (arith, upper)

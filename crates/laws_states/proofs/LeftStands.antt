@@ -93,8 +93,7 @@ module _ (P : ℕ → Type 0) (access : Access) (got : ℕ) (may : P got) where
 
 kind_may : (range : ℕ) (k : Kind) (n : ℕ) → MayStand range (kind_content k) n
 kind_may range (kinds.Ref class) n = tt
-kind_may range kinds.Int n = tt
-kind_may range kinds.Bool n = tt
+kind_may range k n = tt
 
 field_may : (range : ℕ) (f : Option FieldInfo) (n : ℕ) → MayStand range (field_content f) n
 field_may range None n = tt

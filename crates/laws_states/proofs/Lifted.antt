@@ -48,8 +48,7 @@ module _ (is more : Classes) (up : (class v : ℕ) → is class v → more class
 
     after_up : (a : After) (fs : List Frame) → AfterHolds c is a fs → AfterHolds c more a fs
     after_up (afters.Unwind x class) fs h = (up _ x h.0, throws_up fs h.1)
-    after_up afters.Next fs h = frames_up is more up c fs h
-    after_up afters.Return fs h = frames_up is more up c fs h
+    after_up a fs h = frames_up is more up c fs h
 
     toward_up : (toward : Toward) (fs : List Frame) → TowardHolds c is toward fs → TowardHolds c more toward fs
     toward_up (towards.Leave a) fs h = after_up a fs h

@@ -39,8 +39,7 @@ refit_keeps h k hs n m count e same kept had = subst (λ (q : Option Held). IsKe
   where
     by_test : (b : Bool) → (k.monitor == m) ≡ b → IsKeptIn (cond b (Some k) (held_at hs m)) count
     by_test true g =
-        let at : n ≡ m = sym (held_monitor n hs h e) ∙ sym same ∙ (Decides-eqb k.monitor m).0 g in
-        let here : IsKeptIn (Some h) count = subst (λ (q : Option Held). IsKeptIn q count) (ap (held_at hs) (sym at) ∙ e) had in
+        let here : IsKeptIn (Some h) count = subst (λ (q : Option Held). IsKeptIn q count) (ap (held_at hs) (sym (sym (held_monitor n hs h e) ∙ sym same ∙ (Decides-eqb k.monitor m).0 g)) ∙ e) had in
         subst (λ (q : Kept). IsKeptIn (Some (record k { kept = q })) count) (sym kept) here
     by_test false g = had
 

@@ -77,8 +77,7 @@ module _ (v : Locks) (count : ℕ → ℕ) (n k : ℕ) (l : LockWord) (thin : (r
       keeps : (m : ℕ) (b : Bool) → (n == m) ≡ b → (hold_by_word u (v.lock n) v.owner ≡ NotHeld) ⊎ (k ≡ count n) → IsKeptIn (held_at z.held m) (cond b k (count m))
       keeps m true e (inr c) = subst (λ (i : ℕ). IsKeptIn (held_at z.held m) i) (ap count (sym ((Decides-eqb n m).0 e)) ∙ sym c) (o.keeps_count m)
       keeps m true e (inl old) =
-          let none : held_at z.held m ≡ None = not_held (held_at z.held m) (sym (o.holds m) ∙ ap (λ (i : ℕ). hold_by_word u (v.lock i) v.owner) (sym ((Decides-eqb n m).0 e)) ∙ old) in
-          subst (λ (q : Option Held). IsKeptIn q k) (sym none) tt
+          subst (λ (q : Option Held). IsKeptIn q k) (sym (not_held (held_at z.held m) (sym (o.holds m) ∙ ap (λ (i : ℕ). hold_by_word u (v.lock i) v.owner) (sym ((Decides-eqb n m).0 e)) ∙ old))) tt
       keeps m false e q = o.keeps_count m
 
   words_after : ((r : ℕ) → l ≡ locks.Fat r → IsDrawn v r × (r < MONITOR_RECORDS)) → ((c : ℕ) → l ≡ locks.Free c → c ≡ k) → AreLocks v count → AreLocks (set_lock n l v) (recounted n k count)

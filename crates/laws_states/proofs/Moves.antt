@@ -78,5 +78,4 @@ module _ (keeps : StructureIsKept) (c : MarkedProgram) (marked : IsMarked c) (is
       let after = keeps c lawful.was x got marked lawful.structured lawful.typed lawful.rooted in
       let new = based_in c (counted_by lawful.was (moved c x x.phase got).phase) (moved c x x.phase got).frames (moved c x x.phase got).held (moved c x x.phase got).attempt after.attempt in
       let shows = needs_shown c lawful.was x.phase x.frames x.held x.attempt lawful.structured.is_as lawful.structured.stands in
-      let t = moved_typed c marked is has x stays rests based x.phase got (starts x.phase shows) values.phase shows finds new in
-      t.values
+      (moved_typed c marked is has x stays rests based x.phase got (starts x.phase shows) values.phase shows finds new).values

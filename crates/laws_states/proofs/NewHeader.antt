@@ -78,9 +78,6 @@ module _ (lies : StartLiesApart) (maker : Maker) where
       by_test true e = absurd (other (grind (arith, nat_tests, e)))
       by_test false e = length-replicate {A = ℕ} (object_size c.program (header_class word) - OBJECT_HEAD_WORDS) 0 ∙ omega arith
 
-  outside_new : (v : StaticValue) (j : ℕ) → slice_get (start_statics c.program) j ≡ Some v → IsOutside new v.word
-  outside_new v j e = inl (omega (arith, (static_low lies c objects s marked facts v.word (v, contains_got (start_statics c.program) j v e, refl)).1, k.begins))
-
   -- of the first one of the objects
   first : (P : Object → Type 0) (o : Object) → slice_get later 0 ≡ Some o → P new → P o
   first P o e h = subst P (same_some e) h
@@ -106,7 +103,7 @@ module _ (lies : StartLiesApart) (maker : Maker) where
       beside (suc i) (suc j) o e g h n = facts.apart.beside i j o e g h (λ same. n (ap suc same))
 
       mixed : (i j : ℕ) (o : Object) (v : StaticValue) → slice_get later i ≡ Some o → slice_get (start_statics c.program) j ≡ Some v → IsOutside o v.word
-      mixed zero j o v g h = first (λ z. IsOutside z v.word) o g (outside_new v j h)
+      mixed zero j o v g h = first (λ z. IsOutside z v.word) o g (inl (omega (arith, (static_low lies c objects s marked facts v.word (v, contains_got (start_statics c.program) j v h, refl)).1, k.begins)))
       mixed (suc i) j o v g h = facts.apart.mixed i j o v g h
 
       begin : (i : ℕ) (o : Object) → slice_get later i ≡ Some o → FIRST_READY_WORD ≤ o.reference
@@ -180,8 +177,7 @@ module _ (lies : StartLiesApart) (maker : Maker) where
       elements_of zero o i g array lt = first (λ z. i < length z.values → slice_index after (value_word z.reference i) < 2 ^ 32) o g (λ lt. omega (arith, empty_value i lt)) lt
       elements_of (suc j) o i g array lt =
           let l = contains_got objects j o g in
-          let same = unchanged (value_word o.reference i) (elsewhere o (value_word o.reference i) l (omega arith) (omega (arith, lt))) in
-          subst (λ v. v < 2 ^ 32) (sym same) (facts.typed.places.elements o i l array lt)
+          subst (λ v. v < 2 ^ 32) (sym (unchanged (value_word o.reference i) (elsewhere o (value_word o.reference i) l (omega arith) (omega (arith, lt))))) (facts.typed.places.elements o i l array lt)
 
       statics_of : (number : ℕ) (f : FieldInfo) → slice_get c.program.fields number ≡ Some f → is_static f.flags ≡ true → KindHolds (HasClass later) f.kind (slice_index after f.index)
       statics_of number f e s_is =

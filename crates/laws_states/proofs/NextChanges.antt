@@ -99,8 +99,7 @@ module _ (c : MarkedProgram) (x : Thread) where
 
   instructed_more : (got : ℕ) (at : Top) → top_of c.program x.frames ≡ Some at → moved c x phases.Run got ≢ x
   instructed_more got at found = λ same.
-      let tally : tally_of x ≡ tally_of (begun x) = ap tally_of (sym same) ∙ same_tally c x phases.Run got tt ∙ ap (λ (o : Option Top). tally_of (counted_at o x)) found in
-      omega (arith, (ap (λ (t : Tally). t.instructions) tally))
+      omega (arith, (ap (λ (t : Tally). t.instructions) (ap tally_of (sym same) ∙ same_tally c x phases.Run got tt ∙ ap (λ (o : Option Top). tally_of (counted_at o x)) found)))
 
 -- ---- an exception
 

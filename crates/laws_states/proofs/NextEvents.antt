@@ -105,8 +105,7 @@ module _ (c : MarkedProgram) (marked : IsMarked c) where
     in_phase phases.Run live is holds fit roots = has_instruction x.frames holds (has_frame phases.Run x.frames x.roots (λ h. h) fit)
     in_phase (phases.Element word stored) live is holds fit roots = has_top x.frames holds.1 (has_frame (phases.Element word stored) x.frames x.roots (λ h. h) fit)
     in_phase (phases.Made a word) live is holds fit roots =
-        let k = made_stand c x.frames a word marked holds (some_frames x.frames (has_frame (phases.Made a word) x.frames x.roots (λ h. h) fit)) in
-        there _ _ k.stands.found
+        there _ _ (made_stand c x.frames a word marked holds (some_frames x.frames (has_frame (phases.Made a word) x.frames x.roots (λ h. h) fit))).stands.found
     in_phase (phases.Throw r class) live is holds fit roots =
         let k = thrown_stand c x.frames marked holds.1 (some_frames x.frames (has_frame (phases.Throw r class) x.frames x.roots (λ h. h) fit)) in
         mapped (λ at. handed c.program r class at (handler_at (class_of class) at)) (top_of c.program x.frames) (there _ _ k.1.found)

@@ -1,7 +1,7 @@
 -- Every order has its run: whatever the stage, the work of the threads falls with each event, and behind the last one comes the
 -- next part, or nothing.
 use Rattle.std.proofs.Common.{◌≡◌, ℕ, zero, suc, ◌+◌, ◌<◌, Bool, true, false, List, [], ◌∷◌, length, Option, Some, None, refl, subst, ◌∙◌, arith, ◌&&◌, nat_le, nat_lt, find, if◌then◌else◌}
-use Rattle.std.specs.{List.range_with_len, Option.option_or}
+use Rattle.std.{specs.{List.range_with_len, Option.option_or}, proofs.lemmas.Bool.and_parts}
 use Rattle.checked_program.specs.MarkedProgram.{MarkedProgram}
 use Rattle.machine_types.specs.Core.{Core, Happening, Of, NextPart, happened, event, next, lives, may_begin, start}
 use Rattle.machine_types.specs.Schedules.{IsSchedule, Stage, First, Ordered, Rounds, Last, turn_of, turn_at, part_turn, round_turn, live_from, is_live_worker}
@@ -18,12 +18,8 @@ finds_passing test (x ∷ xs) t e = by_test (test x) refl e (λ e. finds_passing
     by_test true k e more = let same : x ≡ t = cc in subst (λ (n : ℕ). test n ≡ true) same k
     by_test false k e more = more e
 
-pub second_of : (a b : Bool) → (a && b) ≡ true → b ≡ true
-second_of true b e = e
-second_of false b e = absurd (cc)
-
 from_lives : (s : Core) (from t : ℕ) → live_from s from ≡ Some t → lives s t ≡ true
-from_lives s from t e = second_of (nat_le from t) (lives s t) (finds_passing (λ k. nat_le from k && lives s k) (range_with_len 1 (length s.threads)) t e)
+from_lives s from t e = (and_parts (nat_le from t) (lives s t) (finds_passing (λ k. nat_le from k && lives s k) (range_with_len 1 (length s.threads)) t e)).1
 
 one_of : (s : Core) (a b : Option ℕ) (t : ℕ) → (a ≡ Some t → lives s t ≡ true) → (b ≡ Some t → lives s t ≡ true) → option_or a b ≡ Some t → lives s t ≡ true
 one_of s None b t h k e = k e
@@ -92,7 +88,7 @@ module _ (c : MarkedProgram) (states : KeptStates c) where
   ordered_by n s good h more (t ∷ order) = by_live (is_live_worker s t) refl refl (ordered_by n s good h more order)
     where
       by_live : (b : Bool) → is_live_worker s t ≡ b → turn_at (Ordered (t ∷ order)) s ≡ (if b then turn_of (Of t) (Ordered order) else turn_at (Ordered order) s) → Runs (Ordered order) s → Runs (Ordered (t ∷ order)) s
-      by_live true live e skipped = event_next n (Ordered (t ∷ order)) (Ordered order) s t good (second_of (nat_lt 0 t) (lives s t) live) h e (more order)
+      by_live true live e skipped = event_next n (Ordered (t ∷ order)) (Ordered order) s t good (and_parts (nat_lt 0 t) (lives s t) live).1 h e (more order)
       by_live false live e skipped = as_at c (Ordered (t ∷ order)) (Ordered order) s e skipped
 
   ordered_run : (n : ℕ) (order : List ℕ) (s : Core) → Good s → all_work s < n → Runs (Ordered order) s

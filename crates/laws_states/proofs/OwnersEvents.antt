@@ -31,8 +31,7 @@ recount_same n m count = by_test (n == m) refl
 
 flat_once : (h : Hold) → one_if_flat h ≤ 1
 flat_once NotHeld = omega arith
-flat_once HeldFlat = omega arith
-flat_once (HeldFat r) = omega arith
+flat_once h = omega arith
 
 none_drawn : (phase : Phase) (i : ℕ) → IsPlain phase → drawn_by phase ≡ Some i → ⊥
 none_drawn phase i is e = let none : drawn_by phase ≡ None = plain_draws_none phase is in cc
@@ -92,6 +91,19 @@ module _ (mover : LockMover) (was : Phase) (o : OwnsAs mover was) (y : Thread) (
 
   -- ---- a lock that another thread holds is flagged
 
+  -- ---- what its list says of it behind the event
+
+  held_kept : Became x y x.held 0 → (m : ℕ) → hold_by_list (held_at y.held m) ≡ hold_by_list (held_at x.held m)
+  held_kept b m = ap (λ (hs : List Held). hold_by_list (held_at hs m)) b.held_is
+
+  dropped : (n : ℕ) → AreHeldOnce x.held → Became x y (without_held n x.held) 0 → (m : ℕ) → hold_by_list (held_at y.held m) ≡ cond (n == m) NotHeld (hold_by_list (held_at x.held m))
+  dropped n once b m = ap (λ (hs : List Held). hold_by_list (held_at hs m)) b.held_is ∙ drop_holds x.held n m once
+
+  -- where it holds no flat lock more
+  no_flat : {hs : List Held} {taken : ℕ} → Became x y hs taken → (l : Hold) → one_if_flat l ≡ 0 → (m : ℕ) (q : Bool) → hold_by_list (held_at y.held m) ≡ cond q l (hold_by_list (held_at x.held m)) → count m + flat_in m y + x.counts.locked ≤ count m + flat_in m x + y.counts.locked
+  no_flat b l none m true g = omega (arith, ap one_if_flat g, none, b.locked)
+  no_flat b l none m false g = omega (arith, ap one_if_flat g, b.locked)
+
   pub flag_won : (n u : ℕ) → v.lock n ≡ locks.Held u → Became x y x.held 0 → IsPlain now → Owes v (set_lock n (locks.Flagged u) v) count (recounted n (count n) count) t was now x y
   flag_won n u f b plain = lock_written v count n (count n) (locks.Flagged u) (λ i e. none_fat (sym f ∙ e)) (omega arith) t was now x y a o b.cfg
       (λ i e. absurd (cc)) (λ i e. absurd (cc)) (λ i e. absurd (cc))
@@ -116,11 +128,11 @@ module _ (mover : LockMover) (was : Phase) (o : OwnsAs mover was) (y : Thread) (
   let_go n c h k f once b plain = lock_written v count n (next_count c x.cfg.range) (locks.Free (next_count c x.cfg.range)) (thin_if_flat t (v.lock n) v.owner flat) (grows (nat_lt c x.cfg.range) refl) t was now x y a o b.cfg
       (λ i e. absurd (cc)) (λ i e. absurd (cc)) (λ i e. let same : next_count c x.cfg.range ≡ i = cc in sym same)
       (λ u d. (sym (flat_alone t u (v.lock n) v.owner flat d), inl (flat_alone t u (v.lock n) v.owner flat d)))
-      holds
+      (dropped n once b)
       (λ m. subst (λ (hs : List Held). IsKeptIn (held_at hs m) (recounted n (next_count c x.cfg.range) count m)) (sym b.held_is) (drop_keeps x.held n (next_count c x.cfg.range) m count once (o.keeps_count m)))
       (plain_knows (set_lock n (locks.Free (next_count c x.cfg.range)) v) t now plain) (plain_saw (set_lock n (locks.Free (next_count c x.cfg.range)) v) (recounted n (next_count c x.cfg.range) count) now plain) b.attempt (λ i e. none_drawn now i plain e)
       (λ m. within (n == m) m)
-      (λ m. few m (n == m) refl (holds m))
+      (λ m. few m (n == m) refl (dropped n once b m))
     where
       flat : hold_by_word t (v.lock n) v.owner ≡ HeldFlat
       flat = o.holds n ∙ ap hold_by_list k ∙ ap hold_by_kept f
@@ -144,15 +156,11 @@ module _ (mover : LockMover) (was : Phase) (o : OwnsAs mover was) (y : Thread) (
       within true m = in_range (nat_lt c x.cfg.range) refl
       within false m = most m
 
-      holds : (m : ℕ) → hold_by_list (held_at y.held m) ≡ cond (n == m) NotHeld (hold_by_list (held_at x.held m))
-      holds m = ap (λ (hs : List Held). hold_by_list (held_at hs m)) b.held_is ∙ drop_holds x.held n m once
-
       few : (m : ℕ) (q : Bool) → (n == m) ≡ q → hold_by_list (held_at y.held m) ≡ cond q NotHeld (hold_by_list (held_at x.held m))
           → cond q (next_count c x.cfg.range) (count m) + flat_in m y + x.counts.locked ≤ count m + flat_in m x + y.counts.locked
       few m true e g =
-          let none : flat_in m y ≡ 0 = ap one_if_flat g in
           let same : n ≡ m = (Decides-eqb n m).0 e in
-          omega (arith, none, (ap one_if_flat (sym (o.holds n) ∙ flat)), (ap (λ (i : ℕ). flat_in i x) same), (ap count same), (one_more (nat_lt c x.cfg.range) refl), b.locked)
+          omega (arith, (ap one_if_flat g), (ap one_if_flat (sym (o.holds n) ∙ flat)), (ap (λ (i : ℕ). flat_in i x) same), (ap count same), (one_more (nat_lt c x.cfg.range) refl), b.locked)
       few m false e g = let same : flat_in m y ≡ flat_in m x = ap one_if_flat g in let locked = b.locked in omega (arith, same, locked)
 
   -- ---- the lock word names the record
@@ -210,7 +218,7 @@ module _ (mover : LockMover) (was : Phase) (o : OwnsAs mover was) (y : Thread) (
   pub drawn_next : Became x y x.held 0 → Knows (set_next (v.next + 1) v) t now → PhaseSaw (set_next (v.next + 1) v) count now → ((i : ℕ) → drawn_by now ≡ Some i → v.next ≤ i) → Owes v (set_next (v.next + 1) v) count count t was now x y
   drawn_next b knows take draws = record {
     own = record {
-      holds = λ m. o.holds m ∙ sym (held m);
+      holds = λ m. o.holds m ∙ sym (held_kept b m);
       knows = knows;
       keeps_count = λ m. subst (λ (hs : List Held). IsKeptIn (held_at hs m) (count m)) (sym b.held_is) (o.keeps_count m);
       take = take;
@@ -220,11 +228,8 @@ module _ (mover : LockMover) (was : Phase) (o : OwnsAs mover was) (y : Thread) (
     words = record { one = a.one; below = λ m r e. (let below = (a.below m r e).0 in omega (arith, below), (a.below m r e).1); free = a.free };
     draws = λ i e. inr (draws i e);
     within = most;
-    few = λ m. let same : flat_in m y ≡ flat_in m x = ap one_if_flat (held m) in let locked = b.locked in omega (arith, same, locked);
+    few = λ m. let same : flat_in m y ≡ flat_in m x = ap one_if_flat (held_kept b m) in let locked = b.locked in omega (arith, same, locked);
   }
-    where
-      held : (m : ℕ) → hold_by_list (held_at y.held m) ≡ hold_by_list (held_at x.held m)
-      held m = ap (λ (hs : List Held). hold_by_list (held_at hs m)) b.held_is
 
   pub fresh_record : IsDrawn (set_next (v.next + 1) v) v.next
   fresh_record = record { unnamed = λ m e. let below : v.next < v.next = (a.below m v.next e).0 in absurd (omega (arith, below)); below = omega arith }
@@ -235,7 +240,7 @@ module _ (mover : LockMover) (was : Phase) (o : OwnsAs mover was) (y : Thread) (
       → Owes v (set_owner r (t + 1) v) count count t was now x y
   own_stored r dr d b knows take draws = record {
     own = record {
-      holds = λ m. words_apart v count r (t + 1) t (v.lock m) (dr.unnamed m) ∙ o.holds m ∙ sym (held m);
+      holds = λ m. words_apart v count r (t + 1) t (v.lock m) (dr.unnamed m) ∙ o.holds m ∙ sym (held_kept b m);
       knows = knows (set_owner r (t + 1) v) (record { unnamed = dr.unnamed; below = dr.below }) (ap (λ (b : Bool). cond b (t + 1) (v.owner r)) (is_same r));
       keeps_count = λ m. subst (λ (hs : List Held). IsKeptIn (held_at hs m) (count m)) (sym b.held_is) (o.keeps_count m);
       take = take (set_owner r (t + 1) v);
@@ -251,12 +256,9 @@ module _ (mover : LockMover) (was : Phase) (o : OwnsAs mover was) (y : Thread) (
     words = record { one = a.one; below = a.below; free = a.free };
     draws = λ i e. inl (draws i e);
     within = most;
-    few = λ m. let same : flat_in m y ≡ flat_in m x = ap one_if_flat (held m) in let locked = b.locked in omega (arith, same, locked);
+    few = λ m. let same : flat_in m y ≡ flat_in m x = ap one_if_flat (held_kept b m) in let locked = b.locked in omega (arith, same, locked);
   }
     where
-      held : (m : ℕ) → hold_by_list (held_at y.held m) ≡ hold_by_list (held_at x.held m)
-      held m = ap (λ (hs : List Held). hold_by_list (held_at hs m)) b.held_is
-
       known : (u : ℕ) (phase : Phase) → (drawn_by phase ≡ Some r → ⊥) → Knows v u phase → Knows (set_owner r (t + 1) v) u phase
       known u (phases.Own m i toward) never h = record { unnamed = h.unnamed; below = h.below }
       known u (phases.FatIn m i toward) never h = (record { unnamed = h.0.unnamed; below = h.0.below }, ap (λ (b : Bool). cond b (t + 1) (v.owner i)) (ne_eqb r i (λ e. never (ap Some (sym e)))) ∙ h.1)
@@ -274,7 +276,7 @@ module _ (mover : LockMover) (was : Phase) (o : OwnsAs mover was) (y : Thread) (
       (λ m. subst (λ (hs : List Held). IsKeptIn (held_at hs m) (count m)) (sym b.held_is) (saved m))
       (plain_knows (set_owner r (t + 1) v) t now plain) (plain_saw (set_owner r (t + 1) v) count now plain) b.attempt (λ i e. absurd (none_drawn now i plain e))
       most
-      (λ m. few m (n == m) (holds m))
+      (λ m. no_flat b (HeldFat r) refl m (n == m) (holds m))
     where
       holds : (m : ℕ) → hold_by_list (held_at y.held m) ≡ cond (n == m) (HeldFat r) (hold_by_list (held_at x.held m))
       holds m = ap (λ (hs : List Held). hold_by_list (held_at hs m)) b.held_is ∙ put_holds (record { monitor = n; kept = keeps.Fat r; depth = depth }) x.held n m refl
@@ -292,27 +294,20 @@ module _ (mover : LockMover) (was : Phase) (o : OwnsAs mover was) (y : Thread) (
           at true = tt
           at false = o.keeps_count m
 
-      few : (m : ℕ) (q : Bool) → hold_by_list (held_at y.held m) ≡ cond q (HeldFat r) (hold_by_list (held_at x.held m)) → count m + flat_in m y + x.counts.locked ≤ count m + flat_in m x + y.counts.locked
-      few m true g = let none : flat_in m y ≡ 0 = ap one_if_flat g in let locked = b.locked in omega (arith, none, locked)
-      few m false g = let same : flat_in m y ≡ flat_in m x = ap one_if_flat g in let locked = b.locked in omega (arith, same, locked)
-
   -- ---- a record that the thread owns loses its owner
 
   pub record_left : (n r : ℕ) (h : Held) → held_at x.held n ≡ Some h → h.kept ≡ keeps.Fat r → AreHeldOnce x.held → Became x y (without_held n x.held) 0
       → ((w : Locks) → w.lock n ≡ locks.Fat r → Knows w t now) → ((w : Locks) → PhaseSaw w count now) → ((i : ℕ) → drawn_by now ≡ Some i → ⊥) → Owes v (set_owner r 0 v) count count t was now x y
   record_left n r h k f once b knows take none = owner_written v count r 0 t was now x y a o b.cfg
       (λ u e. (ne_eqb 0 (u + 1) (λ q. absurd (omega (arith, q))), ap (λ (i : ℕ). i == u + 1) fat.1 ∙ ne_eqb (t + 1) (u + 1) (λ q. e (omega (arith, q)))))
-      (λ m. by_test m (n == m) refl ∙ sym (holds m))
+      (λ m. by_test m (n == m) refl ∙ sym (dropped n once b m))
       (λ m. subst (λ (hs : List Held). IsKeptIn (held_at hs m) (count m)) (sym b.held_is) (subst (λ (q : Option Held). IsKeptIn q (count m)) (sym (held_without m n x.held once)) (saved m (n == m))))
       (knows (set_owner r 0 v) fat.0) (take (set_owner r 0 v)) b.attempt (λ i e. absurd (none i e))
       most
-      (λ m. few m (n == m) (holds m))
+      (λ m. no_flat b NotHeld refl m (n == m) (dropped n once b m))
     where
       fat : (v.lock n ≡ locks.Fat r) × (v.owner r ≡ t + 1)
       fat = fatly t (v.lock n) v.owner r (o.holds n ∙ ap hold_by_list k ∙ ap hold_by_kept f)
-
-      holds : (m : ℕ) → hold_by_list (held_at y.held m) ≡ cond (n == m) NotHeld (hold_by_list (held_at x.held m))
-      holds m = ap (λ (hs : List Held). hold_by_list (held_at hs m)) b.held_is ∙ drop_holds x.held n m once
 
       saved : (m : ℕ) (q : Bool) → IsKeptIn (cond q None (held_at x.held m)) (count m)
       saved m true = tt
@@ -323,7 +318,3 @@ module _ (mover : LockMover) (was : Phase) (o : OwnsAs mover was) (y : Thread) (
           ap (λ (i : ℕ). hold_by_word t (v.lock i) (set_owner r 0 v).owner) (sym ((Decides-eqb n m).0 e)) ∙ ap (λ (l : LockWord). hold_by_word t l (set_owner r 0 v).owner) fat.0
           ∙ ap (λ (q : Bool). cond (cond q 0 (v.owner r) == t + 1) (HeldFat r) NotHeld) (is_same r) ∙ another 0 (t + 1) (HeldFat r) (λ q. absurd (omega (arith, q)))
       by_test m false e = words_apart v count r 0 t (v.lock m) (λ q. eqb-false n m e (a.one n m r fat.0 q)) ∙ o.holds m
-
-      few : (m : ℕ) (q : Bool) → hold_by_list (held_at y.held m) ≡ cond q NotHeld (hold_by_list (held_at x.held m)) → count m + flat_in m y + x.counts.locked ≤ count m + flat_in m x + y.counts.locked
-      few m true g = let none : flat_in m y ≡ 0 = ap one_if_flat g in let locked = b.locked in omega (arith, none, locked)
-      few m false g = let same : flat_in m y ≡ flat_in m x = ap one_if_flat g in let locked = b.locked in omega (arith, same, locked)

@@ -70,14 +70,12 @@ one_more x y xs ys i f k h = record {
 workers_same : (roots : List ℕ) (workers : List Thread) → AllByRecursion (λ w. w.phase ≡ phases.Idle) workers → SameSums workers (map (with_roots roots) workers)
 workers_same roots [] idle = same_sums []
 workers_same roots (w ∷ workers) idle =
-    let before : drawn_for_flat w.phase ≡ 0 = ap drawn_for_flat idle.0 in
-    one_more w (with_roots roots w) workers (map (with_roots roots) workers) refl refl (omega (arith, part_draws_none roots, before)) (workers_same roots workers idle.1)
+    one_more w (with_roots roots w) workers (map (with_roots roots) workers) refl refl (omega (arith, part_draws_none roots, (ap drawn_for_flat idle.0))) (workers_same roots workers idle.1)
 
 part_same : (p : Program) (part : ℕ) (x : Thread) (workers : List Thread) → PartFits part x.phase workers → may_begin_by part x.phase workers ≡ true → SameSums (x ∷ workers) (part_begins p part x workers)
 part_same p zero x workers fits may = one_more x _ workers (map (with_roots (run_roots p)) workers) refl refl refl (workers_same (run_roots p) workers fits)
 part_same p (suc zero) x workers fits may =
-    let before : drawn_for_flat x.phase ≡ 0 = ap drawn_for_flat fits in
-    one_more x (with_roots (done_roots p) (record x { part = 2 })) workers workers refl refl (omega (arith, part_draws_none (done_roots p), before)) (same_sums workers)
+    one_more x (with_roots (done_roots p) (record x { part = 2 })) workers workers refl refl (omega (arith, part_draws_none (done_roots p), (ap drawn_for_flat fits))) (same_sums workers)
 part_same p (suc (suc part)) x workers fits may = cc
 
 next_same : (p : Program) (threads : List Thread) → PartsFit threads → SameSums threads (next_threads p threads)

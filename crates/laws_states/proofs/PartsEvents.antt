@@ -28,7 +28,6 @@ at_each threads t x now P there here others u y e = by_number (same_or_not u t)
 
 pub fits_of : (phase : Phase) (frames : List Frame) (roots : List ℕ) → FramesFit phase frames roots → (HasReturned phase → roots ≡ []) → RootFits phase roots
 fits_of phases.Start frames [] fits none = absurd fits
-fits_of phases.Start frames (number ∷ roots) fits none = tt
 fits_of (phases.Ending ends.Returned) frames roots fits none = none tt
 fits_of (phases.Ended ends.Returned) frames roots fits none = none tt
 fits_of phase frames roots fits none = tt
@@ -103,7 +102,15 @@ finished_stays c x got phase e h = absurd h
 
 -- ---- all threads
 
-module _ (one : OneMethod) (given : GivenIsKept) (rooted_on : RootsAreKept) (c : MarkedProgram) (cfg : Config) (s : Core) (t : ℕ) (marked : IsMarked c) (threads : AreThreads c cfg s) (stand : PartsStand c.program s.threads) where
+-- what is known of every event
+record KnownParts : Type 0 where
+  one : OneMethod
+  given : GivenIsKept
+  rooted_on : RootsAreKept
+
+module _ (laws : KnownParts) (c : MarkedProgram) (cfg : Config) (s : Core) (t : ℕ) (marked : IsMarked c) (threads : AreThreads c cfg s) (stand : PartsStand c.program s.threads) where
+  open laws use {one, given, rooted_on}
+
   module _ (x : Thread) (there : slice_get s.threads t ≡ Some x) where
     abbrev now : Thread
     now = moved c x x.phase (found_by s.words (wanted c x x.phase))
@@ -154,4 +161,4 @@ module _ (one : OneMethod) (given : GivenIsKept) (rooted_on : RootsAreKept) (c :
   all_kept (Some x) e = kept x e
 
 pub events_keep_parts : OneMethod → GivenIsKept → RootsAreKept → EventsKeepParts
-events_keep_parts one given rooted_on c cfg s t marked threads stand = all_kept one given rooted_on c cfg s t marked threads stand (slice_get s.threads t) refl
+events_keep_parts one given rooted_on c cfg s t marked threads stand = all_kept (record { one = one; given = given; rooted_on = rooted_on }) c cfg s t marked threads stand (slice_get s.threads t) refl

@@ -131,8 +131,6 @@ module _ (mover : HeapMover) where
   by_phase (phases.Made a word) e fits = record { site = NewHeaderOf a; there = (t, x, word, there, e); word = refl; suits = tt }
   by_phase phases.Idle e fits = tt
   by_phase phases.Start e fits = tt
-  by_phase phases.Run e fits = reaches_if (content_at c x phases.Run) (wanted c x phases.Run) (fits tt)
-  by_phase (phases.Element word stored) e fits = reaches_if (content_at c x (phases.Element word stored)) (wanted c x (phases.Element word stored)) (fits tt)
   by_phase phase e fits = reaches_if (content_at c x phase) (wanted c x phase) (fits tt)
 
   pub event_reaches : ReachesIf c.program objects s (content_at c x x.phase) (wanted c x x.phase)

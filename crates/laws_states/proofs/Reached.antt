@@ -128,5 +128,4 @@ module _ (laws : WordLaws) (state : RunState) where
 
 pub reached_fits : SitesLieInside → EventsReachSites → HeapWordsFit → LeftMayStand → ReachedFits
 reached_fits inside reach fit leaves c cfg s t x marked width threads facts there =
-    let state : RunState = record { c = c; cfg = cfg; s = s; marked = marked; width = width; threads = threads; facts = facts } in
-    fits_so (record { inside = inside; reach = reach; fit = fit; leaves = leaves }) state t x there
+    fits_so (record { inside = inside; reach = reach; fit = fit; leaves = leaves }) (record { c = c; cfg = cfg; s = s; marked = marked; width = width; threads = threads; facts = facts }) t x there

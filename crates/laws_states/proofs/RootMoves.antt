@@ -51,7 +51,6 @@ IsNoStart phase = Unit {0}
 
 leads_fits : (p : Program) (s : Thread) (got : ℕ) (was now : Phase) → LeadsTo p s got was now → RootFits was s.roots → RootFits now s.roots
 leads_fits p s got _ _ (moves.to_end ends.Returned) f = f
-leads_fits p s got _ _ (moves.to_end e) f = tt
 leads_fits p s got was now k f = tt
 
 turns_fit : (s : Thread) (got : ℕ) (was now : Phase) → TurnsTo s got was now → RootFits now s.roots

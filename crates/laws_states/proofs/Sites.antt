@@ -86,8 +86,7 @@ module _ (lies_apart : StartLiesApart) (c : MarkedProgram) (objects : List Objec
     where
       by_index : (k.there.0 ≡ l.there.0) ⊎ (k.there.0 ≢ l.there.0) → a ≡ b
       by_index (inl e) =
-          let one : k.object ≡ l.object = same_some (sym (contained_got objects k.object k.there) ∙ (ap (slice_get objects) e ∙ contained_got objects l.object l.there)) in
-          sym k.is ∙ (ap (λ (o : Object). o.reference) one ∙ l.is)
+          sym k.is ∙ (ap (λ (o : Object). o.reference) (same_some (sym (contained_got objects k.object k.there) ∙ (ap (slice_get objects) e ∙ contained_got objects l.object l.there))) ∙ l.is)
       by_index (inr n) = by_side (facts.apart.beside k.there.0 l.there.0 k.object l.object (contained_got objects k.object k.there) (contained_got objects l.object l.there) n)
         where
           by_side : IsBeside k.object l.object → a ≡ b

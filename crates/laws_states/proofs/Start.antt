@@ -225,9 +225,8 @@ module _ (laws : KnownStart) (c : MarkedProgram) (cfg : Config) (marked : IsMark
 
   header_found : (o : Object) → Contains (start_objects c.program) o → slice_index (start c cfg).words (header_word o.reference) ≡ header_of o
   header_found o k =
-      let a = apart in
       found (header_word o.reference) (header_of o)
-      (ap (λ v. option_or v (static_value (start_statics c.program) (header_word o.reference))) (header_at (start_objects c.program) k.0 o a.beside (contained_got (start_objects c.program) o k)))
+      (ap (λ v. option_or v (static_value (start_statics c.program) (header_word o.reference))) (header_at (start_objects c.program) k.0 o apart.beside (contained_got (start_objects c.program) o k)))
 
   -- a static field has the value that it begins with
   static_found : (number : ℕ) (f : FieldInfo) → slice_get c.program.fields number ≡ Some f → is_static f.flags ≡ true → slice_index (start c cfg).words f.index ≡ word_of f.start
@@ -252,22 +251,18 @@ module _ (laws : KnownStart) (c : MarkedProgram) (cfg : Config) (marked : IsMark
   static_holds number f kinds.Int g s k = subst (λ (v : ℕ). v < 2 ^ 32) (sym (static_found number f g s)) (low_below (cast_unsigned w32 f.start))
   static_holds number f kinds.Bool g s k = subst (λ (v : ℕ). v < 2 ^ 32) (sym (static_found number f g s)) (low_below (cast_unsigned w32 f.start))
   static_holds number f (kinds.Ref class) g s k =
-      let kept : f.start ≡ kept_int f.kind f.start = (is_program.fields number f g).start_kept ∙ ap (λ b. cond b (kept_int f.kind f.start) (pos 0)) s in
-      inl (static_found number f g s ∙ ap word_of (kept ∙ ap (λ (kind : Kind). kept_int kind f.start) k))
+      inl (static_found number f g s ∙ ap word_of (((is_program.fields number f g).start_kept ∙ ap (λ b. cond b (kept_int f.kind f.start) (pos 0)) s) ∙ ap (λ (kind : Kind). kept_int kind f.start) k))
 
   -- no object of the start has a field or an element
   no_field : (o : Object) (number : ℕ) (f : FieldInfo) → Contains (start_objects c.program) o → slice_get c.program.fields number ≡ Some f → o.class ≡ f.class → ⊥
   no_field o number f k g class =
       omega (arith, (start_object c.program is_program k.0 o (contained_got (start_objects c.program) o k)).low, class, (is_program.fields number f g).class.0)
 
-  no_value : (o : Object) (i : ℕ) → Contains (start_objects c.program) o → i < length o.values → ⊥
-  no_value o i k lt = omega (arith, lt, ap (λ (vs : List ℕ). length vs) (start_object c.program is_program k.0 o (contained_got (start_objects c.program) o k)).empty)
-
   places : PlacesHold c.program (start_objects c.program) (start c cfg).words
   places = record {
     headers = header_found;
     fields = λ o number f k g s class. absurd (no_field o number f k g class);
-    elements = λ o i k array lt. absurd (no_value o i k lt);
+    elements = λ o i k array lt. absurd (omega (arith, lt, ap (λ (vs : List ℕ). length vs) (start_object c.program is_program k.0 o (contained_got (start_objects c.program) o k)).empty));
     statics = λ number f g s. static_holds number f f.kind g s refl;
   }
 

@@ -26,13 +26,8 @@ variable_not p (targets.Field number) r suits = field_not (slice_get p.fields nu
 variable_not p target r suits = suits
 
 effect_not : (p : Program) (target : Target) (e : Effect) (r : ℕ) → Suits (effect_content p target e) (BitsOf r) → ⊥
-effect_not p target (Goes to made) r suits = suits
-effect_not p target (Calls number) r suits = suits
 effect_not p target (Reads v) r suits = variable_not p target r suits
 effect_not p target (Writes v word) r suits = variable_not p target r suits
-effect_not p target (Indexes array index stored) r suits = suits
-effect_not p target (Measures array) r suits = suits
-effect_not p target (Raises x) r suits = suits
 effect_not p target e r suits = suits
 
 run_not : (p : Program) (top : Option Top) (r : ℕ) → Suits (run_content p top) (BitsOf r) → ⊥

@@ -36,7 +36,6 @@ steps_few phase n most h = h
 
 pub begun_once : (phase : Phase) (at : Option Top) → begun_by phase at ≤ 1
 begun_once phases.Run None = omega arith
-begun_once phases.Run (Some at) = omega arith
 begun_once phase at = omega arith
 
 pub drawn_now_once : (phase : Phase) → drawn_by phase ≤ 1

@@ -25,8 +25,7 @@ StoresFit p target e = Unit {0}
 
 kind_is_place : (k : Kind) → IsPlace (kind_content k)
 kind_is_place (kinds.Ref class) = tt
-kind_is_place kinds.Int = tt
-kind_is_place kinds.Bool = tt
+kind_is_place k = tt
 
 field_is_place : (p : Program) (is : Classes) (target : Target) (v : _) (f : FieldInfo) → IsNamedField p is target v f → IsPlace (variable_content p target)
 field_is_place p is target v f at = subst (λ (t : Target). IsPlace (variable_content p t)) (sym at.named) (subst (λ (o : Option FieldInfo). IsPlace (field_content o)) (sym at.there) (kind_is_place f.kind))
@@ -38,8 +37,7 @@ module _ (c : MarkedProgram) (marked : IsMarked c) where
   value_small : (k : Kind) (v : ℕ) → KindHolds (within c.program) k v → v < 2 ^ 64
   value_small (kinds.Ref class) v (inl e) = omega (arith, e)
   value_small (kinds.Ref class) v (inr o) = omega (arith, o.1, is_program.heap_to)
-  value_small kinds.Int v h = omega (arith, h)
-  value_small kinds.Bool v h = omega (arith, h)
+  value_small k v h = omega (arith, h)
 
   size_small : (m : MethodInfo) (type : VType) (word size : ℕ) → MadeAs c.program m type word size → size ≤ most_size
   size_small m (New pc) word size h = omega (arith, h.4, few_fields c.program h.0 is_program)

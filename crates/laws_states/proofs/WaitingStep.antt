@@ -96,9 +96,8 @@ module _ (waiter : WaitMover) (behind : BitsBehind waiter.mover) where
       by_number true g =
           let same : u ≡ t = (Decides-eqb u t).0 g in
           let at : slice_get (slice_set s.threads t y) t ≡ Some z = ap (λ (n : ℕ). slice_get (slice_set s.threads t y) n) (sym same) ∙ e in
-          let here : y ≡ z = set_there s.threads t x y z there at in
           subst (λ (o : Option Thread). Waits after u (counted_of (was t) o)) (sym at)
-          (subst (λ (n : ℕ). Waits after n (counted_by (was t) z.phase)) (sym same) (subst (λ (q : Thread). Waits after t (counted_by (was t) q.phase)) here own))
+          (subst (λ (n : ℕ). Waits after n (counted_by (was t) z.phase)) (sym same) (subst (λ (q : Thread). Waits after t (counted_by (was t) q.phase)) (set_there s.threads t x y z there at) own))
       by_number false g = others_wait u z (eqb-false u t g) (sym (set_other s.threads t u y g) ∙ e)
 
   others_there : (r u : ℕ) → r < MONITOR_RECORDS → is_bit_set after r u ≡ true → IsSome (slice_get (slice_set s.threads t y) u)

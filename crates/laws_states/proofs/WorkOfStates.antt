@@ -6,13 +6,10 @@ use Rattle.laws_states.{specs.{RunFacts.AreThreads, WorkLeft.{chain, inside, wor
 
 -- ---- the sum
 
-less_of_all : (f : Thread → ℕ) (xs : List Thread) (t : ℕ) (x y : Thread) → slice_get xs t ≡ Some x → f y < f x → sum_by f (slice_set xs t y) < sum_by f xs
-less_of_all f xs t x y e h = omega (arith, h, sum_set f xs t x y e)
-
 states : EventsLessenWork → (c : MarkedProgram) (cfg : Config) (s : Core) (t : ℕ) (o : Option Thread) → slice_get s.threads t ≡ o → IsMarked c → AreThreads c cfg s → is_live_thread o ≡ true → all_work (event_of c s t o) < all_work s
 states law c cfg s t None e marked threads live = absurd (cc)
 states law c cfg s t (Some x) e marked threads live =
-    less_of_all work_left s.threads t x (moved c x x.phase (found_by s.words (wanted c x x.phase))) e (law c x (found_by s.words (wanted c x x.phase)) marked (threads.lawful t x e) live)
+    omega (arith, (law c x (found_by s.words (wanted c x x.phase)) marked (threads.lawful t x e) live), sum_set work_left s.threads t x (moved c x x.phase (found_by s.words (wanted c x x.phase))) e)
 
 pub events_lessen_all_work : EventsLessenWork → EventsLessenAllWork
 events_lessen_all_work law c cfg s t marked threads live = states law c cfg s t (slice_get s.threads t) refl marked threads live
