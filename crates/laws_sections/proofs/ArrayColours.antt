@@ -1,12 +1,11 @@
 -- A colouring is determined from the entry; and what is coloured for an owned array field stays on the stack.
-use Rattle.std.proofs.Common.{◌≡◌, ◌<◌, ℕ, zero, suc, length, Bool, true, false, List, [], ◌∷◌, ◌++◌, map, drop, replicate, Option, Some, None, ◌≢◌, ◌⊎◌, inl, inr, ⊎_elim, refl, sym, ap, ◌∙◌, subst, arith, ◌==◌, not, ◌&&◌, IsSomeAnd, slice_get, slice_set, slice_index_or}
+use Rattle.std.proofs.Common.{◌≡◌, ◌<◌, ℕ, zero, suc, length, Bool, true, false, List, [], ◌∷◌, ◌++◌, map, drop, replicate, Option, Some, None, ◌≢◌, ◌⊎◌, inl, inr, ⊎_elim, refl, sym, ap, ◌∙◌, subst, arith, ◌==◌, not, ◌&&◌, IsSomeAnd, slice_get, slice_set}
 use Rattle.std.{specs.List.list_any, proofs.lemmas.{Bool.{cases_eq, eqb-true, eq-eqb}, Option.{same_Some, slice_get_within}}}
 use Rattle.jvm_types.specs.CodeTable.{row, constant_row, get_row, get_static_row, put_row, put_static_row, virtual_row, special_row, static_row, value_of, stack_after, locals_after}
 use Rattle.jvm_types.specs.{Members.{MethodSite, is_private, is_final, is_hidden, is_other_sort, initializes, first_rule, field_rule}, Numbers.has_number, ProgramInvariant.{IsProgram, IsFieldTarget, IsTargetOf, site_in}, Verifying.edges}
 use Rattle.jvm_types.specs.declared.{code.{Insn.Insn, Op.Op}, op_row.{Given.{Given, TheVariants.{Fresh, Taken, Local}}, OpRow.OpRow}, program.{FieldInfo.FieldInfo, MethodInfo.MethodInfo}}
 use Rattle.jvm_types.specs.declared.{program.{Program.Program, Target.Target}, refusal.LRule.TheVariants.{L2, L3, L7}}
-use Rattle.laws_programs.proofs.CodeOrder.{have_targets}
-use Rattle.checked_program.specs.{Colours.{ColourShape, entry_colours, is_read_of, colours_after, colours_at_handler, is_coloured, IsColouring}, FrozenPlaces.stands_guarded, LockTags.TagShape}
+use Rattle.checked_program.specs.{Colours.{ColourShape, is_read_of, colours_after, colours_at_handler, is_coloured, IsColouring}, FrozenPlaces.stands_guarded, LockTags.TagShape}
 use Rattle.checked_program.specs.OwnedArrays.{may_take_array, TakesArrayWell, StoresGuarded, UsesArrayWell, IsOwnedArrayField, IsOwnedAt, owns_arrays, AreUses}
 use Rattle.checked_program.specs.{SectionLaws.{AreTagged, OneColouring, KeepsArray, ArrayLaw, ElementWriteLaw, OwnedIsDecided}, TaggedCode.{Tagged, IsAt, IsInstructionReached, row_of}, Tagging.catchers}
 use Rattle.checked_program.{specs.declared.section.Uses.Uses, proofs.NamedFields.target_named}
@@ -76,16 +75,14 @@ none_first xs h zero = refl
 none_first xs h (suc k) = h k
 
 pub none_replicate : (n : ℕ) → NoneOf (replicate n false)
-none_replicate zero k = refl
-none_replicate (suc n) zero = refl
 none_replicate (suc n) (suc k) = none_replicate n k
+none_replicate n _ = refl
 
 pub none_set : (xs : List Bool) (i : ℕ) (b : Bool) → b ≡ false → NoneOf xs → NoneOf (slice_set xs i b)
-none_set [] i b e h k = h k
 none_set (x ∷ xs) zero b e h zero = e
-none_set (x ∷ xs) zero b e h (suc k) = h (suc k)
 none_set (x ∷ xs) (suc i) b e h zero = h zero
 none_set (x ∷ xs) (suc i) b e h (suc k) = none_set xs i b e (λ j. h (suc j)) k
+none_set xs i b e h x = h x
 
 pub none_append : (xs ys : List Bool) → NoneOf xs → NoneOf ys → NoneOf (xs ++ ys)
 none_append [] ys a b k = b k
@@ -93,9 +90,8 @@ none_append (x ∷ xs) ys a b zero = a zero
 none_append (x ∷ xs) ys a b (suc k) = none_append xs ys (λ j. a (suc j)) b k
 
 pub none_drop : (n : ℕ) (xs : List Bool) → NoneOf xs → NoneOf (drop n xs)
-none_drop zero xs h k = h k
-none_drop (suc n) [] h k = h k
 none_drop (suc n) (x ∷ xs) h k = none_drop n xs (λ j. h (suc j)) k
+none_drop n xs h k = h k
 
 none_value : (stack locals : List Bool) (given : Given) → NoneOf stack → NoneOf locals → value_of false (λ type. false) stack locals given ≡ false
 none_value stack locals (Fresh type) a b = refl
@@ -125,9 +121,8 @@ none_after fi insn target r f e h = record {
 -- ---- only a method of the class reads a private field
 
 no_rule : (a b c : Bool) → first_rule ((a, L2) ∷ (b, L3) ∷ (c, L7) ∷ []) ≡ None → b ≡ false
-no_rule true b c e = absurd (cc)
-no_rule false true c e = absurd (cc)
 no_rule false false c e = refl
+no_rule a b c e = absurd (cc)
 
 own_field : (p : Program) (fi : ℕ) (field : FieldInfo) (site : MethodSite) (writes : Bool) → slice_get p.fields fi ≡ Some field → is_private field.flags ≡ true → IsFieldTarget p site false writes (targets.Field fi) → field.class ≡ site.class
 own_field p fi field site writes there private named =
@@ -146,42 +141,19 @@ writes_own p fi field m i other there private named same = own_field p fi field 
 
 -- ---- an instruction writes a colour to no local, if it takes no coloured value but as an array
 
+-- a row by what is found, which writes nothing whether it is found or not
+none_written : {A : Type 0} (row_by : Option A → OpRow) → (row_by None).writes ≡ None → ((x : A) → (row_by (Some x)).writes ≡ None) → (o : Option A) → (row_by o).writes ≡ None
+none_written row_by e each None = e
+none_written row_by e each (Some x) = each x
+
 no_constant_write : (p : Program) (pc : ℕ) (target : Target) (op : Op) → (constant_row p pc target op).writes ≡ None
-no_constant_write p pc (targets.Field fi) (ops.Getstatic i) = by_field (slice_get p.fields fi)
-  where
-    by_field : (o : Option FieldInfo) → (get_static_row o).writes ≡ None
-    by_field None = refl
-    by_field (Some field) = refl
-no_constant_write p pc (targets.Field fi) (ops.Putstatic i) = by_field (slice_get p.fields fi)
-  where
-    by_field : (o : Option FieldInfo) → (put_static_row o).writes ≡ None
-    by_field None = refl
-    by_field (Some field) = refl
-no_constant_write p pc (targets.Field fi) (ops.Getfield i) = by_field (slice_get p.fields fi)
-  where
-    by_field : (o : Option FieldInfo) → (get_row o).writes ≡ None
-    by_field None = refl
-    by_field (Some field) = refl
-no_constant_write p pc (targets.Field fi) (ops.Putfield i) = by_field (slice_get p.fields fi)
-  where
-    by_field : (o : Option FieldInfo) → (put_row o).writes ≡ None
-    by_field None = refl
-    by_field (Some field) = refl
-no_constant_write p pc (targets.Method u) (ops.Invokevirtual i) = by_method (slice_get p.methods u)
-  where
-    by_method : (o : Option MethodInfo) → (virtual_row o).writes ≡ None
-    by_method None = refl
-    by_method (Some m) = refl
-no_constant_write p pc (targets.Method u) (ops.Invokespecial i) = by_method (slice_get p.methods u)
-  where
-    by_method : (o : Option MethodInfo) → (special_row o).writes ≡ None
-    by_method None = refl
-    by_method (Some m) = refl
-no_constant_write p pc (targets.Method u) (ops.Invokestatic i) = by_method (slice_get p.methods u)
-  where
-    by_method : (o : Option MethodInfo) → (static_row o).writes ≡ None
-    by_method None = refl
-    by_method (Some m) = refl
+no_constant_write p pc (targets.Field fi) (ops.Getstatic i) = none_written get_static_row refl (λ field. refl) (slice_get p.fields fi)
+no_constant_write p pc (targets.Field fi) (ops.Putstatic i) = none_written put_static_row refl (λ field. refl) (slice_get p.fields fi)
+no_constant_write p pc (targets.Field fi) (ops.Getfield i) = none_written get_row refl (λ field. refl) (slice_get p.fields fi)
+no_constant_write p pc (targets.Field fi) (ops.Putfield i) = none_written put_row refl (λ field. refl) (slice_get p.fields fi)
+no_constant_write p pc (targets.Method u) (ops.Invokevirtual i) = none_written virtual_row refl (λ m. refl) (slice_get p.methods u)
+no_constant_write p pc (targets.Method u) (ops.Invokespecial i) = none_written special_row refl (λ m. refl) (slice_get p.methods u)
+no_constant_write p pc (targets.Method u) (ops.Invokestatic i) = none_written static_row refl (λ m. refl) (slice_get p.methods u)
 no_constant_write p pc target op = refl
 
 -- such an instruction
@@ -192,24 +164,24 @@ not_taken : (b : Bool) → (b ≡ true → false ≡ true) → b ≡ false
 not_taken true h = absurd (let bad : false ≡ true = h refl in cc)
 not_taken false h = refl
 
-unwritten : (fi : ℕ) (w : Option (ℕ × Given)) (made : Bool) (f : ColourShape) → w ≡ None → NoneOf f.locals → NoneOf (locals_after false (λ type. made) w f.stack f.locals)
-unwritten fi w made f e h = subst (λ (o : Option (ℕ × Given)). NoneOf (locals_after false (λ type. made) o f.stack f.locals)) (sym e) h
+unwritten : (w : Option (ℕ × Given)) (made : Bool) (f : ColourShape) → w ≡ None → NoneOf f.locals → NoneOf (locals_after false (λ type. made) w f.stack f.locals)
+unwritten w made f e h = subst (λ (o : Option (ℕ × Given)). NoneOf (locals_after false (λ type. made) o f.stack f.locals)) (sym e) h
 
 pub locals_kept : (p : Program) (m : MethodInfo) (pc fi : ℕ) (target : Target) (op : Op) (f : ColourShape) → NoneOf f.locals → TakesWell (row p m pc target op) op f
     → NoneOf (locals_after false (λ type. is_read_of fi op target) (row p m pc target op).writes f.stack f.locals)
 locals_kept p m pc fi target (ops.Istore i) f h t = none_set f.locals i (is_coloured f.stack 0) (not_taken (is_coloured f.stack 0) (λ c. t 0 (omega arith) c)) h
 locals_kept p m pc fi target (ops.Astore i) f h t = none_set f.locals i (is_coloured f.stack 0) (not_taken (is_coloured f.stack 0) (λ c. t 0 (omega arith) c)) h
 locals_kept p m pc fi target (ops.Iinc i n) f h t = none_set f.locals i false refl h
-locals_kept p m pc fi target (ops.Ldc i) f h t = unwritten fi _ _ f (no_constant_write p pc target (ops.Ldc i)) h
-locals_kept p m pc fi target (ops.LdcW i) f h t = unwritten fi _ _ f (no_constant_write p pc target (ops.LdcW i)) h
-locals_kept p m pc fi target (ops.Getstatic i) f h t = unwritten fi _ _ f (no_constant_write p pc target (ops.Getstatic i)) h
-locals_kept p m pc fi target (ops.Putstatic i) f h t = unwritten fi _ _ f (no_constant_write p pc target (ops.Putstatic i)) h
-locals_kept p m pc fi target (ops.Getfield i) f h t = unwritten fi _ _ f (no_constant_write p pc target (ops.Getfield i)) h
-locals_kept p m pc fi target (ops.Putfield i) f h t = unwritten fi _ _ f (no_constant_write p pc target (ops.Putfield i)) h
-locals_kept p m pc fi target (ops.Invokevirtual i) f h t = unwritten fi _ _ f (no_constant_write p pc target (ops.Invokevirtual i)) h
-locals_kept p m pc fi target (ops.Invokespecial i) f h t = unwritten fi _ _ f (no_constant_write p pc target (ops.Invokespecial i)) h
-locals_kept p m pc fi target (ops.Invokestatic i) f h t = unwritten fi _ _ f (no_constant_write p pc target (ops.Invokestatic i)) h
-locals_kept p m pc fi target (ops.New i) f h t = unwritten fi _ _ f (no_constant_write p pc target (ops.New i)) h
+locals_kept p m pc fi target (ops.Ldc i) f h t = unwritten _ _ f (no_constant_write p pc target (ops.Ldc i)) h
+locals_kept p m pc fi target (ops.LdcW i) f h t = unwritten _ _ f (no_constant_write p pc target (ops.LdcW i)) h
+locals_kept p m pc fi target (ops.Getstatic i) f h t = unwritten _ _ f (no_constant_write p pc target (ops.Getstatic i)) h
+locals_kept p m pc fi target (ops.Putstatic i) f h t = unwritten _ _ f (no_constant_write p pc target (ops.Putstatic i)) h
+locals_kept p m pc fi target (ops.Getfield i) f h t = unwritten _ _ f (no_constant_write p pc target (ops.Getfield i)) h
+locals_kept p m pc fi target (ops.Putfield i) f h t = unwritten _ _ f (no_constant_write p pc target (ops.Putfield i)) h
+locals_kept p m pc fi target (ops.Invokevirtual i) f h t = unwritten _ _ f (no_constant_write p pc target (ops.Invokevirtual i)) h
+locals_kept p m pc fi target (ops.Invokespecial i) f h t = unwritten _ _ f (no_constant_write p pc target (ops.Invokespecial i)) h
+locals_kept p m pc fi target (ops.Invokestatic i) f h t = unwritten _ _ f (no_constant_write p pc target (ops.Invokestatic i)) h
+locals_kept p m pc fi target (ops.New i) f h t = unwritten _ _ f (no_constant_write p pc target (ops.New i)) h
 locals_kept p m pc fi target op f h t = h
 
 -- ---- the laws
@@ -295,15 +267,13 @@ module _ (p : Program) (tags : Tagged) (program : IsProgram p) (all : AreTagged 
   by_colour fi own u true e = inl (record { fi = fi; owned = own; colours = u.colours; colouring = u.colouring; coloured = e })
   by_colour fi own u false e = inr (λ o same.
       let there : IsColouring p tags mi fi o.colours = subst (λ (n : ℕ). IsColouring p tags mi n o.colours) same o.colouring in
-      let one : o.colours i ≡ u.colours i = one_colouring p tags mi fi i m insn target f o.colours u.colours program all there u.colouring at in
-      by_sorts (sym o.coloured ∙ ap (λ (s : ColourShape). is_coloured s.stack k) one ∙ e))
+      by_sorts (sym o.coloured ∙ ap (λ (s : ColourShape). is_coloured s.stack k) (one_colouring p tags mi fi i m insn target f o.colours u.colours program all there u.colouring at) ∙ e))
 
   by_class : (fi : ℕ) (own : IsOwnedArrayField p tags fi) (b : Bool) → (m.class == own.field.class) ≡ b → Found ⊎ IsNotBy fi
   by_class fi own true e = let u = own.used mi m at.in_program (eqb-true m.class own.field.class e) in by_colour fi own u (is_coloured (u.colours i).stack k) refl
   by_class fi own false e = inr (λ o same.
       let there : IsColouring p tags mi fi o.colours = subst (λ (n : ℕ). IsColouring p tags mi n o.colours) same o.colouring in
-      let bad : true ≡ false = sym o.coloured ∙ (other_class p tags program all fi own mi o.colours there m at.in_program e i insn target f at).stack k in
-      by_sorts bad)
+      by_sorts (sym o.coloured ∙ (other_class p tags program all fi own mi o.colours there m at.in_program e i insn target f at).stack k))
 
   module _ (uses : Uses) (a : AreUses p tags uses) where
     by_owner : (fi : ℕ) (b : Bool) → owns_arrays uses fi ≡ b → Found ⊎ IsNotBy fi

@@ -1,5 +1,5 @@
 -- Where guarded fields, final fields of frozen classes, and final static fields are written.
-use Rattle.std.{proofs.Common.{◌≡◌, ℕ, Bool, true, false, not, ◌&&◌, ◌||◌, [], ◌∷◌, Some, None, refl, sym, ◌∙◌, subst, inl, inr, ◌⊎◌, arith, ◌==◌, slice_get, IsSomeAnd}, specs.List.list_any}
+use Rattle.std.{proofs.Common.{◌≡◌, ℕ, Bool, true, false, not, ◌&&◌, ◌||◌, [], ◌∷◌, Some, None, refl, sym, subst, inl, inr, ◌⊎◌, arith, ◌==◌, slice_get, IsSomeAnd}, specs.List.list_any}
 use Rattle.std.proofs.lemmas.Bool.{and_parts, eqb-true, Decides.nat_tests}
 use Rattle.jvm_types.specs.{CodeTable.is_init, Members.{is_final, is_hidden, is_other_sort, is_class_init_name, initializes, first_rule, field_rule}, ProgramInvariant.{IsProgram, IsTargetOf, site_in}}
 use Rattle.jvm_types.specs.declared.{code.{Insn.Insn, Op.Op}, program.{FieldInfo.FieldInfo, MethodInfo.MethodInfo, Program.Program, Target.Target}, refusal.LRule.TheVariants.{L2, L3, L7}}
@@ -34,15 +34,12 @@ static_write_law p tags fi mi i index m insn target f g at is names_field =
 
 -- only a rule that does not stand lets the others be tested
 last_rule : (a b c : Bool) → first_rule ((a, L2) ∷ (b, L3) ∷ (c, L7) ∷ []) ≡ None → c ≡ false
-last_rule true b c e = absurd (cc)
-last_rule false true c e = absurd (cc)
-last_rule false false true e = absurd (cc)
 last_rule false false false e = refl
+last_rule a b c e = absurd (cc)
 
 pub in_init : (final initializes : Bool) → (final && not initializes) ≡ false → final ≡ true → initializes ≡ true
 in_init true true e f = refl
-in_init true false e f = absurd (cc)
-in_init false initializes e f = absurd (cc)
+in_init final _ e f = absurd (cc)
 
 initializing : (static : Bool) (class flags : ℕ) (m : MethodInfo) → field_rule static true (site_in m) class flags ≡ None → is_final flags ≡ true → initializes (site_in m) static class ≡ true
 initializing static class flags m rule final =
@@ -77,8 +74,7 @@ field_named p tags fi mi i m insn target f op program at is names_field =
 
 pub final_law : FinalLaw
 final_law p tags fi mi i index receiver m insn target f stack program g at is names_field this =
-    let named : IsTargetOf p (site_in m) (ops.Putfield index) (targets.Field fi) = field_named p tags fi mi i m insn target f (ops.Putfield index) program at is names_field in
-    let allowed = may_write g.field.class g.field.flags m (of_field p false fi g.field m named g.is) g.final in
+    let allowed = may_write g.field.class g.field.flags m (of_field p false fi g.field m (field_named p tags fi mi i m insn target f (ops.Putfield index) program at is names_field) g.is) g.final in
     let here : PutsOnThis p m insn.op target f = (g.frozen mi m at.in_program (sym allowed.0) allowed.1).finals i insn target f at in
     let here : PutsOnThis p m (ops.Putfield index) (targets.Field fi) f = subst (λ t. PutsOnThis p m (ops.Putfield index) t f) names_field (subst (λ op. PutsOnThis p m op target f) is here) in
     (allowed.1, this 1 (here (subst (λ o. is_final_of m.class o ≡ true) (sym g.is) (is_final_field m.class g.field allowed.0 g.final))))

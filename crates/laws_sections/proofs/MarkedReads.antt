@@ -1,13 +1,13 @@
 -- What a marked section reads: an instruction that breaks no rule reads frozen places and those of the section's object or class.
-use Rattle.std.proofs.Common.{◌≡◌, ℕ, zero, suc, ◌≢◌, Bool, true, false, List, [], ◌∷◌, Option, Some, refl, sym, ap, ◌∙◌, subst, arith, ⊎_elim, inl, inr, ◌⊎◌, ◌==◌, slice_get, slice_index, slice_index_or}
+use Rattle.std.proofs.Common.{◌≡◌, ℕ, zero, suc, ◌≢◌, Bool, true, false, List, [], ◌∷◌, Option, Some, refl, sym, ap, ◌∙◌, subst, arith, ⊎_elim, inl, inr, ◌⊎◌, slice_get, slice_index, slice_index_or}
 use Rattle.std.proofs.lemmas.Bool.{cases_eq, eqb-true}
-use Rattle.jvm_types.specs.{Members.is_static, ProgramInvariant.{IsProgram, IsTargetOf, site_in}, declared.{code.{Insn.Insn, Op.Op}, program.{FieldInfo.FieldInfo, MethodInfo.MethodInfo}}}
+use Rattle.jvm_types.specs.{ProgramInvariant.{IsTargetOf, site_in}, declared.{code.{Insn.Insn, Op.Op}, program.{FieldInfo.FieldInfo, MethodInfo.MethodInfo}}}
 use Rattle.jvm_types.specs.declared.program.{Program.Program, Target.Target}
 use Rattle.checked_program.specs.{FrozenPlaces.{IsUse, AreFieldUses, IsFrozenField, IsFrozenStatic, IsFrozenUse, IsGuardedField, IsGuardedUse}, LockTags.TagShape}
-use Rattle.checked_program.specs.Marks.{Callee, callee, Calls, CallsThrough, IsCalledBy, HasMark, section_fault, call_fault, enter_fault, use_fault, element_fault, args_of, is_locking, is_class_locking, is_own_object, is_own_class, class_of_field, class_of_method, BreaksAt, OwnBreaks, itself, called}
+use Rattle.checked_program.specs.Marks.{Callee, callee, Calls, CallsThrough, IsCalledBy, HasMark, section_fault, call_fault, enter_fault, use_fault, element_fault, args_of, is_locking, is_class_locking, is_own_object, is_own_class, class_of_field, class_of_method, BreaksAt, itself, called}
 use Rattle.checked_program.specs.{OwnedArrays.{IsOwnedAt, reads_owned, AreUses}, SectionLaws.{Part, IsSectionPart, AreParts, HasThis, IsOwnStatic, ReadsOnly, ReadLaw}}
 use Rattle.checked_program.specs.{Sections.{Section, section_mode, IsOwn}, TaggedCode.{Tagged, IsAt}, declared.section.{FieldUse.{FieldUse, TheVariants.{Frozen, Guarded, Open}}, Mode.Mode}}
-use Rattle.checked_program.{specs.declared.{section.{Mode.TheVariants.{OnThis, OffThis, OnClass}, Uses.Uses}, tag.Tag.{Tag, TheVariants.{Untagged, This}}}, proofs.FrozenChecks.that_is_this}
+use Rattle.checked_program.{specs.declared.{section.{Mode.TheVariants.{OnThis, OnClass}, Uses.Uses}, tag.Tag.{Tag, TheVariants.{Untagged, This}}}, proofs.FrozenChecks.that_is_this}
 use Rattle.checked_program.proofs.NamedFields.{HasSort, sort_read, sort_read_static, target_named}
 use Rattle.jvm_types.specs.declared.code.Op.TheVariants as ops
 use Rattle.jvm_types.specs.declared.program.Target.TheVariants as targets
@@ -16,15 +16,13 @@ use Rattle.jvm_types.specs.declared.program.Target.TheVariants as targets
 
 pub own_object : (mode : Mode) (t : Tag) → is_own_object mode t ≡ true → (mode ≡ OnThis) × (t ≡ This)
 own_object OnThis t e = (refl, that_is_this t e)
-own_object OffThis t e = absurd (let bad : false ≡ true = e in cc)
-own_object (OnClass class) t e = absurd (let bad : false ≡ true = e in cc)
+own_object mode t e = absurd (let bad : false ≡ true = e in cc)
 
 -- ---- the class of the section
 
 pub own_class : (mode : Mode) (class : ℕ) → is_own_class mode class ≡ true → mode ≡ OnClass class
-own_class OnThis class e = absurd (let bad : false ≡ true = e in cc)
-own_class OffThis class e = absurd (let bad : false ≡ true = e in cc)
 own_class (OnClass c) class e = ap (λ (x : ℕ). OnClass x) (sym (eqb-true class c e))
+own_class mode class e = absurd (let bad : false ≡ true = e in cc)
 
 -- ---- uses
 
@@ -72,8 +70,7 @@ module _ (p : Program) (tags : Tagged) (uses : Uses) (a : AreUses p tags uses) (
   read : (fi : ℕ) (x : FieldUse) (own : Bool) → slice_index_or uses.fields fi Open ≡ x → use_fault x own ≡ 0 → IsFrozenUse p tags fi ⊎ (IsGuardedUse p tags fi × (own ≡ true))
   read fi Frozen own e z = inl (use_at p tags uses.fields fi a.fields Frozen e (λ q. cc))
   read fi Guarded true e z = inr (use_at p tags uses.fields fi a.fields Guarded e (λ q. cc), refl)
-  read fi Guarded false e z = absurd (omega (arith, z))
-  read fi Open own e z = absurd (omega (arith, z))
+  read fi x _ e z = absurd (omega (arith, z))
 
   read_field : (fi : ℕ) → HasSort p fi false → IsFrozenUse p tags fi ⊎ (IsGuardedUse p tags fi × (is_own_object mode (slice_index_or ts 0 Untagged) ≡ true))
       → IsFrozenField p tags fi ⊎ (IsGuardedField p tags fi × (mode ≡ OnThis) × (slice_index vs 0 ≡ o))
@@ -91,9 +88,7 @@ module _ (p : Program) (tags : Tagged) (uses : Uses) (a : AreUses p tags uses) (
   -- an element of an array that `this` owns
   element : (mi i : ℕ) (x : Mode) (owned : Bool) → mode ≡ x → reads_owned uses mi i ≡ owned → element_fault x owned ≡ 0 → (mode ≡ OnThis) × IsOwnedAt p tags mi i 1
   element mi i OnThis true e k z = (e, ((a.elements mi i).0 k).owned)
-  element mi i OnThis false e k z = absurd (omega (arith, z))
-  element mi i OffThis owned e k z = absurd (omega (arith, z))
-  element mi i (OnClass class) owned e k z = absurd (omega (arith, z))
+  element mi i x _ e k z = absurd (omega (arith, z))
 
   reads_only : (mi i : ℕ) (m : MethodInfo) (op : Op) (target : Target) → IsTargetOf p (site_in m) op target → section_fault p uses.fields mode op target ts (reads_owned uses mi i) ≡ 0 → ReadsOnly p tags mode o mi i op target vs
   reads_only mi i m (ops.Putfield n) target named z = omega (arith, z)

@@ -80,8 +80,7 @@ module _ (p : Program) (tags : Tagged) (tagged : AreTagged p tags) where
     own_edge : (depth i j : ℕ) → OwnFrom depth i → IsReachedEdge p tags s.method i j
         → ((m : MethodInfo) (insn : Insn) (target : Target) (f : TagShape) → IsAt p tags s.method i m insn target f → insn.op ≡ ops.Monitorenter → is_own_object OnThis (slice_index_or f.stack 0 Untagged) ≡ true) → OwnFrom depth j
     own_edge depth i j own e enters m insn target g at =
-        let before : AreOwn OnThis depth e.f.held = own e.m e.insn e.target e.f e.from in
-        let brought : AreOwn OnThis depth e.h.held = own_along p e.m OnThis depth e.insn e.other e.target e.f e.h (enters e.m e.insn e.target e.f e.from) e.goes before in
+        let brought : AreOwn OnThis depth e.h.held = own_along p e.m OnThis depth e.insn e.other e.target e.f e.h (enters e.m e.insn e.target e.f e.from) e.goes (own e.m e.insn e.target e.f e.from) in
         let kept : AreOwn OnThis depth e.g.held = subst (AreOwn OnThis depth) (edge_held s.method i j e.m e.insn e.other e.target e.next e.f e.g e.h e.from e.to e.goes) brought in
         subst (λ (x : TagShape). AreOwn OnThis depth x.held) (one_frame p tags s.method j e.m m e.other insn e.next target e.g g e.to at) kept
 
@@ -135,8 +134,7 @@ module _ (p : Program) (tags : Tagged) (tagged : AreTagged p tags) where
     -- a tag is `this` or not, so that it is `this` where it can't but be
     is_this_or : (t : Tag) → (t ≡ This) ⊎ (t ≡ This → ⊥)
     is_this_or This = inl refl
-    is_this_or Untagged = inr (λ e. cc)
-    is_this_or (At n) = inr (λ e. cc)
+    is_this_or t = inr (λ e. cc)
 
     -- a marked block is on `this`, so what follows from that holds
     by_mark : (t : Tag) → (IsOnOwn p tags s.method (Block pc) → t ≡ This) → t ≡ This

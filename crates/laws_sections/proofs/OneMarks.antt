@@ -25,15 +25,13 @@ not_both p tags fi frozen guarded =
     cc
 
 one_use_at : (p : Program) (tags : Tagged) (fi : ℕ) (u v : FieldUse) → IsUse p tags fi u → IsUse p tags fi v → u ≡ v
-one_use_at p tags fi Frozen Frozen a b = refl
-one_use_at p tags fi Guarded Guarded a b = refl
-one_use_at p tags fi Open Open a b = refl
 one_use_at p tags fi Frozen Guarded a b = absurd (not_both p tags fi a b)
 one_use_at p tags fi Guarded Frozen a b = absurd (not_both p tags fi b a)
 one_use_at p tags fi Frozen Open a b = absurd (b.0 a)
 one_use_at p tags fi Open Frozen a b = absurd (a.0 b)
 one_use_at p tags fi Guarded Open a b = absurd (b.1 a)
 one_use_at p tags fi Open Guarded a b = absurd (a.1 b)
+one_use_at p tags fi u v a b = refl
 
 -- lists that have the same item at each index
 same_items : {A : Type 0} (xs ys : List A) → length xs ≡ length ys → ((i : ℕ) (x y : A) → slice_get xs i ≡ Some x → slice_get ys i ≡ Some y → x ≡ y) → xs ≡ ys
@@ -48,10 +46,9 @@ same_items (x ∷ xs) (y ∷ ys) l h =
 -- ---- elements
 
 one_flag : (b c : Bool) (X : Type 0) → (b ≡ true) ↔ X → (c ≡ true) ↔ X → b ≡ c
-one_flag true true X h k = refl
-one_flag false false X h k = refl
 one_flag true false X h k = sym (k.1 (h.0 refl))
 one_flag false true X h k = h.1 (k.0 refl)
+one_flag b c X h k = refl
 
 one_row : (xs ys : List Bool) → length xs ≡ length ys → ((i : ℕ) → slice_index_or xs i false ≡ slice_index_or ys i false) → xs ≡ ys
 one_row [] [] l h = refl

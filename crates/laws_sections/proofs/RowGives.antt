@@ -14,8 +14,6 @@ by_option rows none some None = none
 by_option rows none some (Some x) = some x
 
 few_constant : (p : Program) (pc : ℕ) (target : Target) (op : Op) → length (constant_row p pc target op).gives ≤ 4
-few_constant p pc (targets.Value n) op = omega arith
-few_constant p pc (targets.Class class) op = omega arith
 few_constant p pc (targets.Field f) (ops.Getstatic i) = by_option get_static_row (omega arith) (λ field. omega arith) (slice_get p.fields f)
 few_constant p pc (targets.Field f) (ops.Putstatic i) = by_option put_static_row (omega arith) (λ field. omega arith) (slice_get p.fields f)
 few_constant p pc (targets.Field f) (ops.Getfield i) = by_option get_row (omega arith) (λ field. omega arith) (slice_get p.fields f)
@@ -27,13 +25,4 @@ few_constant p pc target op = omega arith
 
 pub few_given : (p : Program) (m : MethodInfo) (pc : ℕ) (target : Target) (op : Op) → length (row p m pc target op).gives ≤ 4
 few_given p m pc target (ops.Ldc i) = few_constant p pc target (ops.Ldc i)
-few_given p m pc target (ops.LdcW i) = few_constant p pc target (ops.LdcW i)
-few_given p m pc target (ops.Getstatic i) = few_constant p pc target (ops.Getstatic i)
-few_given p m pc target (ops.Putstatic i) = few_constant p pc target (ops.Putstatic i)
-few_given p m pc target (ops.Getfield i) = few_constant p pc target (ops.Getfield i)
-few_given p m pc target (ops.Putfield i) = few_constant p pc target (ops.Putfield i)
-few_given p m pc target (ops.Invokevirtual i) = few_constant p pc target (ops.Invokevirtual i)
-few_given p m pc target (ops.Invokespecial i) = few_constant p pc target (ops.Invokespecial i)
-few_given p m pc target (ops.Invokestatic i) = few_constant p pc target (ops.Invokestatic i)
-few_given p m pc target (ops.New i) = few_constant p pc target (ops.New i)
-few_given p m pc target op = omega arith
+few_given p m pc target op = omega (arith, few_constant p pc target op)

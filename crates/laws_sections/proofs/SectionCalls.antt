@@ -1,9 +1,9 @@
 -- The frames of a section along calls: a section begins, a method is invoked or returns, and none is called twice.
 use Rattle.std.proofs.Common.{◌≡◌, ℕ, ◌<◌, Bool, true, false, List, [], ◌∷◌, length, Some, refl, sym, ap, ◌∙◌, subst, arith, ⊎_elim, ◌↔◌, slice_get, slice_index, slice_index_or}
-use Rattle.jvm_types.specs.declared.{code.{Insn.Insn, Op.Op}, op_row.OpRow.OpRow, program.{MethodInfo.MethodInfo, Program.Program, Target.Target}}
+use Rattle.jvm_types.specs.declared.{code.{Insn.Insn, Op.Op}, program.{MethodInfo.MethodInfo, Program.Program, Target.Target}}
 use Rattle.checked_program.specs.LockTags.{TagShape}
 use Rattle.checked_program.specs.Marks.{Callee, callee, Calls, Invokes, CallsThrough, CallsItself, recurring, called_method, args_of, receiver_tag, is_own_object, mode_if, called_mode}
-use Rattle.checked_program.specs.{SectionLaws.{Part, IsSectionPart, AreParts, IsExit, HasNone, ApartLaw}, Sections.{Section, section_mode, BeginsAt}, TaggedCode.{Tagged, IsAt, onward, row_of}}
+use Rattle.checked_program.specs.{SectionLaws.{Part, IsSectionPart, AreParts, IsExit, HasNone, ApartLaw}, Sections.{Section, BeginsAt}, TaggedCode.{Tagged, IsAt, onward, row_of}}
 use Rattle.checked_program.specs.{Tagging.{tags_after, tags_by_op}, declared.{section.Mode.{Mode, TheVariants.{OnThis, OffThis, OnClass}}, tag.Tag.{Tag, TheVariants.{Untagged, This}}}}
 use Rattle.laws_sections.{specs.FrameLaws.{BeginLaw, IsReceiver, mode_of_call, InvokeLaw, ModeLaw, ReturnLaw, ResumeLaw}, proofs.MarkedReads.{own_object, on_receiver, part_called}}
 use Rattle.laws_sections.proofs.SectionMoves.{move_law}
@@ -109,8 +109,7 @@ resume_law p tags s o j a b parts mode m insn other target next f g h all from t
     leaves : insn.op ≡ ops.Monitorexit → ⊥
     leaves x =
         let call : Calls p tags (callee b.method all.0) b.at (callee a.method mode) = all.2 in
-        let same : call.insn ≡ insn = one_insn p tags b.method b.at call.m m call.insn insn call.target target call.f f call.at from in
-        no_exit call.insn.op call.target a.method call.called (ap (λ (y : Insn). y.op) same ∙ x)
+        no_exit call.insn.op call.target a.method call.called (ap (λ (y : Insn). y.op) (one_insn p tags b.method b.at call.m m call.insn insn call.target target call.f f call.at from) ∙ x)
 
 -- ---- no method is twice among the frames
 

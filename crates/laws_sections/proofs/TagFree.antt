@@ -6,7 +6,7 @@ use Rattle.jvm_types.{specs.declared.{op_row.{Given.TheVariants.{Fresh, Taken, L
 use Rattle.laws_programs.proofs.CodeOrder.{one_number}
 use Rattle.checked_program.specs.{LockTags.{TagShape, same_tag, without, entry_tags, IsTagBelow, AreTagsBelow, IsShapeBelow}, Tagging.{moved_tags, tags_by_op, tags_at_handler}, declared.tag.Tag.Tag}
 use Rattle.checked_program.specs.declared.tag.Tag.TheVariants.{Untagged, This, At}
-use Rattle.laws_sections.{specs.ReachLaws.{OwnTagIsFree, is_held}, proofs.{TagLocal.tag_local_law, TagOrder.one_tag, TagReach.all_have}}
+use Rattle.laws_sections.{specs.ReachLaws.{OwnTagIsFree, is_held}, proofs.{TagLocal.tag_local_law, TagOrder.one_tag, TagReach.{all_have, one_there}}}
 use Rattle.jvm_types.specs.declared.code.Op.TheVariants as ops
 
 -- ---- where a tag is held
@@ -41,9 +41,8 @@ module _ (m : MethodInfo) (frames : List (Option TagShape)) (laid : IsLaidOut m)
 
   -- along an edge
   free_tag : (t u : Tag) → IsTagBelow t u → IsFree t → IsFree u
-  free_tag t Untagged b h = tt
-  free_tag t This b h = tt
   free_tag t (At pc) b h = subst IsFree b h
+  free_tag t u b h = tt
 
   free_tags : (ts us : List Tag) → AreTagsBelow ts us → AllByRecursion IsFree ts → AllByRecursion IsFree us
   free_tags ts [] b h = tt
@@ -125,9 +124,6 @@ module _ (m : MethodInfo) (frames : List (Option TagShape)) (laid : IsLaidOut m)
   made_free i insn f c e h j other g d at k =
       let same : j ≡ i = one_number m j i other insn laid d c at in
       subst (λ (x : TagShape). is_held (At insn.pc) x.held ≡ false) (one_there (slice_get frames i) f g e (ap (slice_get frames) (sym same) ∙ k)) (own_free i insn f c e h)
-    where
-      one_there : (o : Option (Option TagShape)) (g h : TagShape) → o ≡ Some (Some g) → o ≡ Some (Some h) → g ≡ h
-      one_there o g h d e = cc
 
   free_caught : (f : TagShape) → AreFree f → AreFree (tags_at_handler f)
   free_caught f h = record { stack = (tt, tt); locals = h.locals; held = h.held }

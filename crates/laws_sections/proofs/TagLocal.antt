@@ -1,7 +1,7 @@
 -- The local law of tags, from that of visits. Tagging reaches only what typing reaches; so its edges lead to instructions.
 use Rattle.std.{proofs.Common.{◌≡◌, ℕ, zero, suc, Bool, true, false, List, [], ◌∷◌, Option, Some, None, refl, sym, ap, ◌∙◌, subst, ◌==◌, if◌then◌else◌, slice_get}, specs.List.AllByRecursion}
 use Rattle.std.proofs.lemmas.Bool.{or_left, or_right, eq-eqb}
-use Rattle.jvm_types.specs.{CodeGrammar.is_start, CodeTable.{row, can_throw}, Types.{TypeFrame, entry_type_frame}, Verifying.{edges, covering, frame_after, frame_at_handler, HasTyping, IsLaidOut}}
+use Rattle.jvm_types.specs.{CodeGrammar.is_start, CodeTable.{row, can_throw}, Types.{TypeFrame, entry_type_frame}, Verifying.{edges, covering, frame_after, frame_at_handler, IsLaidOut}}
 use Rattle.jvm_types.{specs.declared.{code.Insn.Insn, op_row.OpRow.OpRow, program.{MethodInfo.MethodInfo, Program.Program, Row.Row, Target.Target}, refusal.SRule.SRule}, proofs.EachAfter.all_weaker}
 use Rattle.laws_programs.proofs.{CodeOrder.one_number, EdgeTargets.lands, LocalGoing.{begins, local_law}}
 use Rattle.checked_program.specs.{LockTags.{TagShape, entry_tags, IsShapeBelow}, TagLaws.TagLocalLaw}

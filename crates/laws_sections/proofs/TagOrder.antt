@@ -14,9 +14,8 @@ one_tag (At i) (At j) e = let same : i ≡ j = grind (arith, nat_tests, e) in ap
 one_tag t u e = absurd (cc)
 
 pub own_tag : (t : Tag) → same_tag t t ≡ true
-own_tag Untagged = refl
-own_tag This = refl
 own_tag (At pc) = eq-eqb pc pc refl
+own_tag t = refl
 
 pub one_list : (ts us : List Tag) → same_tags ts us ≡ true → ts ≡ us
 one_list [] [] e = refl
@@ -42,8 +41,7 @@ one_frame f g e =
 
 tag_self : (t : Tag) → IsTagBelow t t
 tag_self Untagged = tt
-tag_self This = refl
-tag_self (At pc) = refl
+tag_self t = refl
 
 tags_self : (ts : List Tag) → AreTagsBelow ts ts
 tags_self [] = tt
@@ -51,8 +49,7 @@ tags_self (t ∷ ts) = (tag_self t, tags_self ts)
 
 tag_trans : (t u x : Tag) → IsTagBelow t u → IsTagBelow u x → IsTagBelow t x
 tag_trans t u Untagged a b = tt
-tag_trans t u This a b = subst (IsTagBelow t) b a
-tag_trans t u (At pc) a b = subst (IsTagBelow t) b a
+tag_trans t u x a b = subst (IsTagBelow t) b a
 
 tags_trans : (ts us xs : List Tag) → AreTagsBelow ts us → AreTagsBelow us xs → AreTagsBelow ts xs
 tags_trans ts us [] a b = tt
@@ -77,14 +74,12 @@ meet_right t u true e = subst (λ (x : Tag). IsTagBelow x t) (one_tag t u e) (ta
 meet_right t u false e = tt
 
 meets_left : (ts us : List Tag) → AreTagsBelow ts (meet_tags ts us)
-meets_left [] us = tt
-meets_left (t ∷ ts) [] = tt
 meets_left (t ∷ ts) (u ∷ us) = (meet_left t (same_tag t u), meets_left ts us)
+meets_left ts us = tt
 
 meets_right : (ts us : List Tag) → AreTagsBelow us (meet_tags ts us)
-meets_right [] us = tt
-meets_right (t ∷ ts) [] = tt
 meets_right (t ∷ ts) (u ∷ us) = (meet_right t u (same_tag t u) refl, meets_right ts us)
+meets_right ts us = tt
 
 -- frames with one held list
 same_held : (g f : TagShape) → tag_meeting.clashes g f ≡ false → g.held ≡ f.held

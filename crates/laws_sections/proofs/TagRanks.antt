@@ -6,7 +6,7 @@ use Rattle.jvm_types.specs.{CodeTable.{row, value_of, locals_after}, Verifying.e
 use Rattle.jvm_types.{specs.declared.{program.{Program.Program, Row.Row, Target.Target}, refusal.SRule.{SRule, TheVariants.{S1, S2, S3, S4}}}, proofs.EachAfter.all_append}
 use Rattle.checked_program.specs.LockTags.{TagShape, same_tag, same_tags, meet_tags, without}
 use Rattle.checked_program.specs.Tagging.{moved_tags, tags_by_op, tags_after, tags_at_handler, catchers, enters_untagged, exits_other, leaves_held, tag_meeting, break_if, acts_at, tag_plan}
-use Rattle.checked_program.specs.{Visits.{Act, Bring}, declared.tag.Tag.{Tag, TheVariants.{Untagged, This, At}}}
+use Rattle.checked_program.specs.{Visits.{Act, Bring}, declared.tag.Tag.{Tag, TheVariants.{Untagged, At}}}
 use Rattle.laws_sections.proofs.{RowGives.few_given, TagOrder.{own_tag, own_tags, one_frame}, VisitsEnd.{BringsUpTo, Ranks}}
 use Rattle.jvm_types.specs.declared.code.Op.TheVariants as ops
 
@@ -25,13 +25,11 @@ frame_rank f = tags_rank f.stack + tags_rank f.locals
 
 rank_some : (t : Tag) → 1 ≤ tag_rank t
 rank_some Untagged = omega arith
-rank_some This = omega arith
-rank_some (At pc) = omega arith
+rank_some t = omega arith
 
 rank_small : (t : Tag) → tag_rank t ≤ 2
 rank_small Untagged = omega arith
-rank_small This = omega arith
-rank_small (At pc) = omega arith
+rank_small t = omega arith
 
 -- ---- where two meet
 
@@ -48,8 +46,7 @@ fall_both false false m n r s h k = omega (arith, h, k)
 
 lost_falls : (t : Tag) → Falls (same_tag t Untagged) 1 (tag_rank t)
 lost_falls Untagged = omega arith
-lost_falls This = omega arith
-lost_falls (At pc) = omega arith
+lost_falls t = omega arith
 
 kept_falls : (t : Tag) (b : Bool) → b ≡ true → Falls b (tag_rank t) (tag_rank t)
 kept_falls t true e = omega arith
@@ -86,9 +83,8 @@ rank_map f [] = omega arith
 rank_map f (g ∷ gs) = omega (arith, rank_small (f g), rank_map f gs)
 
 rank_drop : (n : ℕ) (ts : List Tag) → tags_rank (drop n ts) ≤ tags_rank ts
-rank_drop zero ts = omega arith
-rank_drop (suc n) [] = omega arith
 rank_drop (suc n) (t ∷ ts) = omega (arith, rank_drop n ts)
+rank_drop n ts = omega arith
 
 rank_set : (ts : List Tag) (n : ℕ) (t : Tag) → tags_rank (slice_set ts n t) ≤ tags_rank ts + 1
 rank_set [] n t = omega arith

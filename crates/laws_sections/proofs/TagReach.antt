@@ -4,12 +4,15 @@ use Rattle.jvm_types.specs.{CodeGrammar.is_start, CodeTable.row, Verifying.{edge
 use Rattle.jvm_types.{specs.declared.program.Target.Target, proofs.EachAfter.all_weaker}
 use Rattle.laws_programs.proofs.{CodeOrder.one_number, LocalGoing.{begins, local_law}}
 use Rattle.checked_program.specs.{LockTags.{TagShape, entry_tags, IsShapeBelow}, Tagging.{tags_after, tags_at_handler, catchers, acts_at, tag_plan, HasTagging, IsTagAssignment}, Visits.EdgeFits}
-use Rattle.laws_sections.{specs.ReachLaws.TaggedIsTyped, proofs.{TagLocal.{acts_land, start_at, tag_local}, TagOrder.tag_order, VisitsLocal.{Lands, ActLands, IsClosed, landing, local}}}
+use Rattle.laws_sections.{specs.ReachLaws.TaggedIsTyped, proofs.{TagLocal.{acts_land, start_at, tag_local}, TagOrder.tag_order, VisitsLocal.{Lands, ActLands, landing, local}}}
 
 -- ---- typing reaches what tagging reaches
 
 pub tagged_typed : TaggedIsTyped
 tagged_typed p m types frames laid typed tagged i f e = (tag_local p m types laid (local_law p m types laid typed) frames tagged).live i f e
+
+pub one_there : (o : Option (Option TagShape)) (g h : TagShape) → o ≡ Some (Some g) → o ≡ Some (Some h) → g ≡ h
+one_there o g h d e = cc
 
 -- ---- along the edges of an assignment
 
@@ -59,12 +62,8 @@ module _ (p : Program) (m : MethodInfo) (frames : List (Option TagShape)) (laid 
 
   have_all : HasTagging p m frames → (i : ℕ) (f : TagShape) → slice_get frames i ≡ Some (Some f) → P f
   have_all tagged i f e =
-      let closed : IsClosed (tag_plan p m) HasIt = record { first = first_has; meets = λ i g f a b. a; lands = plan_lands } in
-      let has = (local (tag_plan p m) IsShapeBelow tag_order HasIt closed (begins m laid) frames tagged).live i f e in
+      let has = (local (tag_plan p m) IsShapeBelow tag_order HasIt (record { first = first_has; meets = λ i g f a b. a; lands = plan_lands }) (begins m laid) frames tagged).live i f e in
       subst P (one_there (slice_get frames i) has.0 f has.1 e) has.2
-    where
-      one_there : (o : Option (Option TagShape)) (g h : TagShape) → o ≡ Some (Some g) → o ≡ Some (Some h) → g ≡ h
-      one_there o g h d e = cc
 
 pub all_have : (p : Program) (m : MethodInfo) (frames : List (Option TagShape)) → IsLaidOut m → IsTagAssignment p m frames → (P : TagShape → Type 0) → P (entry_tags m) → ((f g : TagShape) → IsShapeBelow f g → P f → P g) → ((f : TagShape) → P f → P (tags_at_handler f))
     → ((i : ℕ) (insn : Insn) (target : Target) (f : TagShape) → slice_get m.code i ≡ Some insn → slice_get m.targets i ≡ Some target → slice_get frames i ≡ Some (Some f) → P f → P (tags_after insn (row p m insn.pc target insn.op) f))

@@ -1,5 +1,5 @@
 -- What holds of the first instruction of a method, and goes along its edges, holds of each that is reached, whatever its types.
-use Rattle.std.proofs.Common.{◌≡◌, ◌<◌, ℕ, zero, suc, length, Bool, true, List, [], ◌∷◌, map, Option, Some, None, refl, sym, ap, ◌∙◌, subst, ◌==◌, slice_get, get_or}
+use Rattle.std.proofs.Common.{◌≡◌, ◌<◌, ℕ, zero, suc, length, true, List, [], ◌∷◌, Option, Some, None, refl, sym, ◌∙◌, subst, ◌==◌, slice_get, get_or}
 use Rattle.std.{specs.List.{AllByRecursion, list_any}, proofs.lemmas.{Bool.{or_left, or_right, eq-eqb, eqb-true}, Option.{slice_get-get_or, slice_get_within}}}
 use Rattle.jvm_types.specs.{CodeTable.row, Numbers.has_number, Verifying.edges, declared.{code.Insn.Insn, op_row.OpRow.OpRow, program.{MethodInfo.MethodInfo, Program.Program, Row.Row, Target.Target}}}
 use Rattle.jvm_types.specs.declared.refusal.SRule.{SRule}

@@ -12,9 +12,8 @@ use Rattle.laws_sections.proofs.VisitedNodes.{IsFirstOf, Orders, IsBelow, IsRise
 set_to : {B : Type 0} (xs : List B) (i j : ℕ) (x n a : B) → slice_get xs i ≡ Some n → slice_get xs j ≡ Some a → ((a ≡ n) × (slice_get (slice_set xs i x) j ≡ Some x)) ⊎ (slice_get (slice_set xs i x) j ≡ Some a)
 set_to [] i j x n a e f = absurd (cc)
 set_to (b ∷ xs) zero zero x n a e f = inl (cc, refl)
-set_to (b ∷ xs) zero (suc j) x n a e f = inr f
-set_to (b ∷ xs) (suc i) zero x n a e f = inr f
 set_to (b ∷ xs) (suc i) (suc j) x n a e f = set_to xs i j x n a e f
+set_to xs i j x n a e f = inr f
 
 -- ---- none waits
 

@@ -3,6 +3,7 @@
 use Rattle.std.proofs.Common.{◌≡◌, ℕ, zero, suc, length, Bool, true, false, cond, not, ◌&&◌, ◌||◌, List, [], ◌∷◌, Option, Some, None, Result, Ok, refl, sym, ap, ◌∙◌, subst, arith, ◌==◌, slice_get, IsSomeAnd}
 use Rattle.std.{specs.List.{AllByRecursion, AllZip}, proofs.lemmas.{Bool.{or_parts, Decides.nat_tests}, Option.same_Some}}
 use Rattle.jvm_types.{specs.{Numbers.has_number, declared.code.Insn.Insn}, proofs.EachAfter.all_weaker}
+use Rattle.laws_programs.proofs.LocalEdges.{unclashed as none_clashes}
 use Rattle.checked_program.specs.Visits.{Meeting, Act, Break, Bring, PlanNode, joined, edge_brought, edges_brought, clashes_with, meeting_clash, unless_meeting_clash, acted}
 
 -- the first instruction of a pc, by its number
@@ -107,10 +108,6 @@ module _ {A : Type 0} (d : Meeting A) (Below : A → A → Type 0) (order : Orde
   joined_clashes waits None f e = order.own f
   joined_clashes waits (Some g) f e = order.again g f e
 
-  none_here : (t : Bool) (x : ℕ) (more : Option ℕ) → cond t (Some x) more ≡ None → (t ≡ false) × (more ≡ None)
-  none_here true x more e = absurd (cc)
-  none_here false x more e = (refl, e)
-
   pub record Brings (code : List Insn) (tos : List ℕ) (f : A) (to : ℕ) (nodes mid : List (PlanNode A)) : Type 0 where
     pub risen : AreRisen nodes mid
     pub lands : LandsOn code mid f to
@@ -120,7 +117,7 @@ module _ {A : Type 0} (d : Meeting A) (Below : A → A → Type 0) (order : Orde
   one_edge [] tos f to nodes c = record { risen = risen_self nodes; lands = λ j b first e. absurd first; rest = refl }
   one_edge (insn ∷ code) tos f to [] c = record { risen = tt; lands = λ j b first e. absurd (cc); rest = refl }
   one_edge (insn ∷ code) tos f to (node ∷ nodes) c =
-      let parts = none_here ((to == insn.pc || has_number tos insn.pc) && clashes_with d node.frame f) insn.pc (meeting_clash d code (to ∷ tos) f nodes) c in
+      let parts = none_clashes ((to == insn.pc || has_number tos insn.pc) && clashes_with d node.frame f) insn.pc (meeting_clash d code (to ∷ tos) f nodes) c in
       by_test (insn.pc == to) refl parts.0 parts.1 (one_edge code tos f to nodes parts.1)
     where
       same_test : (t : Bool) → (insn.pc == to) ≡ t → (to == insn.pc) ≡ t
@@ -141,7 +138,7 @@ module _ {A : Type 0} (d : Meeting A) (Below : A → A → Type 0) (order : Orde
       fewer_clash [] nodes c = refl
       fewer_clash (x ∷ code) [] c = refl
       fewer_clash (x ∷ code) (n ∷ nodes) c =
-          let parts = none_here ((to == x.pc || has_number tos x.pc) && clashes_with d n.frame f) x.pc (meeting_clash d code (to ∷ tos) f nodes) c in
+          let parts = none_clashes ((to == x.pc || has_number tos x.pc) && clashes_with d n.frame f) x.pc (meeting_clash d code (to ∷ tos) f nodes) c in
           ap (λ t. cond t (Some x.pc) (meeting_clash d code tos f nodes)) (fewer (to == x.pc) (has_number tos x.pc) (clashes_with d n.frame f) parts.0) ∙ fewer_clash code nodes parts.1
 
       both_false : (t u : Bool) → u ≡ false → (t && u) ≡ false

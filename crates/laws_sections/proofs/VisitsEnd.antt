@@ -104,8 +104,7 @@ module _ {A : Type 0} (d : Meeting A) (rank : A → ℕ) (gain most : ℕ) (equa
   met_weight : (g f : A) (waits t : Bool) → d.same g (d.meet g f) ≡ t → weight rank most (Some (d.meet g f)) (waits || not t) ≤ weight rank most (Some g) waits
   met_weight g f true true e = omega (arith, ap rank (equal g (d.meet g f) e))
   met_weight g f false true e = omega (arith, ap rank (equal g (d.meet g f) e))
-  met_weight g f true false e = omega (arith, falls g f e)
-  met_weight g f false false e = omega (arith, falls g f e)
+  met_weight g f waits t e = omega (arith, falls g f e)
 
   new_weight : (f : A) (waits : Bool) → rank f < most → weight rank most (Some f) true ≤ weight rank most None waits
   new_weight f waits e = omega (arith, e)
