@@ -26,21 +26,16 @@ use Rattle.laws_threads.proofs.ThreadMove as moves
 -- ---- a method that is called, or begins a part behind `init`, is none
 
 by_virtual : (a b d : Bool) → not (a || b || d) ≡ true → d ≡ false
-by_virtual true b d e = absurd (cc)
-by_virtual false true d e = absurd (cc)
-by_virtual false false true e = absurd (cc)
 by_virtual false false false e = refl
+by_virtual a b d e = absurd (cc)
 
 by_special : (a d e : Bool) → (not (a || d) && e) ≡ true → d ≡ false
-by_special true d e h = absurd (cc)
-by_special false true e h = absurd (cc)
 by_special false false e h = refl
+by_special a d e h = absurd (cc)
 
 by_static : (a b d : Bool) → (a && not (b || d)) ≡ true → d ≡ false
-by_static false b d e = absurd (cc)
-by_static true true d e = absurd (cc)
-by_static true false true e = absurd (cc)
 by_static true false false e = refl
+by_static a b d e = absurd (cc)
 
 called_none : (p : Program) (site : MethodSite) (pc number : ℕ) (op : Op) (target : Target) (r : OpRow) → called_method op target ≡ Some number → HasRow p site pc target op r → IsNoClassInit p number
 called_none p site pc number (ops.Invokevirtual i) (targets.Method u) r e h m there =
@@ -63,10 +58,9 @@ entry_none p name descriptor number other h m e =
     ap is_class_init_name ((bytes_eq-Decides m.name name).0 (both_are_true (m.class == file_class 0) (bytes_eq m.name name) parts.0).1) ∙ other
 
 pub root_none : (p : Program) (thread part number : ℕ) → IsBehindInit thread part → has_number (part_roots p thread part) number ≡ true → IsNoClassInit p number
-root_none p zero zero number behind h = absurd behind
-root_none p zero (suc zero) number behind h = absurd behind
 root_none p zero (suc (suc part)) number behind h = entry_none p (codes "done") (codes "()V") number refl h
 root_none p (suc thread) part number behind h = entry_none p (codes "run") (codes "(I)V") number refl h
+root_none p thread part number behind h = absurd behind
 
 -- ---- how frames go on
 

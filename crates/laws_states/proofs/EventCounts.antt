@@ -2,7 +2,7 @@
 use Rattle.std.proofs.{Common.{◌≡◌, ◌⊎◌, inl, inr, ℕ, Bool, true, false, cond, List, Option, Some, None, refl, sym, ap, ◌∙◌, subst, ◌==◌, slice_get, option_map}, lemmas.Bool.Decides.Decides-eqb}
 use Rattle.machine_types.specs.{Accesses.found_by, Elision.elided, Events.{wanted, moved}, Frames.went_on, Going.goes_on_if}
 use Rattle.machine_types.specs.{HeldMonitors.{held_at, with_held, without_held, deeper, shallower}, Instructions.printed, LockWords.word_of_lock, Onward.{Onward, after, Running, rooted}}
-use Rattle.machine_types.specs.{Owners.{locks_in, references_of}, Structure.AreHeldOnce, Threads.Thread, declared.{access.Access.TheVariants.Cas, lock.{Held.Held, Kept.Kept}, phase.Phase.Phase}}
+use Rattle.machine_types.specs.{Owners.{locks_in, references_of}, Threads.Thread, declared.{access.Access.TheVariants.Cas, lock.{Held.Held, Kept.Kept}, phase.Phase.Phase}}
 use Rattle.laws_threads.proofs.{HeldLists.{held_monitor, held_put, held_without}, ThreadMove.{Takes, Move, becomes, counting, any_move, same_onward}}
 use Rattle.laws_states.{specs.ChangeLaws.{KeepsFlat, CountsFollow}, proofs.{EventLocks.lock_is, LockPhases.lock_reached, Movers.{KnownSites, LockMover, phase_reaches}}}
 use Rattle.machine_types.specs.declared.lock.Kept.TheVariants as keeps

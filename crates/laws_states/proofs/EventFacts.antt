@@ -8,11 +8,10 @@ use Rattle.laws_states.specs.{RunFacts.{AreThreads, RunFacts}, RunLaws.{EventsKe
 use Rattle.laws_states.proofs.{PartsEvents.at_each, Reached.{leaves_small, RunState, WordLaws}}
 
 set_each : (P : ℕ → Type 0) (words : List ℕ) (w v : ℕ) → P v → ((i : ℕ) → P (slice_index words i)) → (i : ℕ) → P (slice_index (slice_set words w v) i)
-set_each P [] w v h all i = all i
 set_each P (n ∷ ns) zero v h all zero = h
-set_each P (n ∷ ns) zero v h all (suc i) = all (suc i)
 set_each P (n ∷ ns) (suc w) v h all zero = all zero
 set_each P (n ∷ ns) (suc w) v h all (suc i) = set_each P ns w v h (λ j. all (suc j)) i
+set_each P words w v h all i = all i
 
 module _ (laws : WordLaws) (state : RunState) (t : ℕ) where
   open state use {c, cfg, s, marked, threads, facts}

@@ -150,9 +150,8 @@ module _ (sites : KnownSites) (mover : LockMover) where
       by_attempt false = unchanged
 
   entered : (m : ℕ) (k : Claim) → Leaves (words_after s.words (enter_wants m k))
-  entered m (Has h) = unchanged
-  entered m (Tries a) = unchanged
   entered m HasNot = loaded m
+  entered m k = unchanged
 
   looked : (a : Option Attempt) → Leaves (words_after s.words (looks a))
   looked None = unchanged

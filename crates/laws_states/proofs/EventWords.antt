@@ -1,10 +1,10 @@
 -- What an event leaves of the words for locking and of the counters.
 use Rattle.std.proofs.Common.{◌≡◌, ◌≢◌, ◌⊎◌, inl, inr, ℕ, zero, suc, ◌+◌, ◌*◌, ◌<◌, ◌≤◌, ◌^◌, Bool, true, false, List, ◌∷◌, length, Option, Some, None, refl, ap, sym, subst, ◌∙◌, arith, Contains, slice_index, slice_set, ◌==◌, if◌then◌else◌}
 use Rattle.lists.proofs.ListLaws.{same_some}
-use Rattle.jvm_types.specs.{ProgramInvariant.IsProgram, declared.{class_numbers.TheConstants.INT_ARRAY_CLASS, fixed_words.TheConstants.{NEXT_FREE_WORD, NEXT_TICKET_WORD, NEXT_RECORD_WORD}}}
+use Rattle.jvm_types.specs.declared.{class_numbers.TheConstants.INT_ARRAY_CLASS, fixed_words.TheConstants.{NEXT_FREE_WORD, NEXT_TICKET_WORD, NEXT_RECORD_WORD}}
 use Rattle.jvm_types.specs.declared.program.Program.{Program}
 use Rattle.checked_program.specs.MarkedProgram.{MarkedProgram}
-use Rattle.machine_types.specs.{Accesses.{accessed, left_by, performed, words_after}, Events.wanted, FoundWords.{Content, Lock, Owner, Bits, Any, content_at, IsHeader}, Frames.top_of}
+use Rattle.machine_types.specs.{Accesses.{accessed, left_by, performed, words_after}, Events.wanted, FoundWords.{Content, Lock, Owner, Bits, Any, content_at}, Frames.top_of}
 use Rattle.machine_types.specs.{Lawful.within, NewObjects.size_by, PlainMemory.{Object, new_object}, Structure.{IsStructured, Stands}, Threads.Thread, Typed.PhaseHolds}
 use Rattle.machine_types.specs.{Words.{header_word, header_class, header_length, array_size, object_size}, declared.{access.Access.{Access, TheVariants.{Store, Rest}}, phase.Phase.Phase}}
 use Rattle.laws_threads.proofs.ThreadMove.{begun_by}

@@ -41,10 +41,9 @@ module _ (state : HeapState) where
   -- ---- fields
 
   kind_fits : (kind : Kind) (v : ℕ) → KindHolds (HasClass objects) kind v → WordFits c.program (kind_content kind) v
-  kind_fits kinds.Int v h = h
-  kind_fits kinds.Bool v h = h
   kind_fits (kinds.Ref class) v (inl e) = omega (arith, e, is_program.heap_from)
   kind_fits (kinds.Ref class) v (inr k) = inside k.0 v k.1
+  kind_fits kind v h = h
 
   variable_fits : (target : Target) (v : Variable) (f : FieldInfo) → IsNamedField c.program (HasClass objects) target v f → WordFits c.program (variable_content c.program target) (slice_index s.words (variable_word v))
   variable_fits target v f at =

@@ -197,9 +197,8 @@ leave_adds s m access (Tries a) w = by_inner a.inner w
 leave_adds s m access HasNot w = none access 0 0 w
 
 enter_adds : (m : ℕ) (access : Access) (claimed : Claim) → enter_wants m claimed ≡ Some access → AddsFew access 0 0
-enter_adds m access (Has h) w = none access 0 0 w
-enter_adds m access (Tries a) w = none access 0 0 w
 enter_adds m access HasNot w = no_sum access 0 0 _ w refl tt
+enter_adds m access claimed w = none access 0 0 w
 
 element_adds : (word : ℕ) (access : Access) (stored : Option ℕ) → Some (element_wants word stored) ≡ Some access → AddsFew access 0 0
 element_adds word access None w = no_sum access 0 0 _ w refl tt

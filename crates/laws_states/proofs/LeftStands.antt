@@ -137,23 +137,14 @@ module _ (s : Thread) (m : ℕ) (access : Access) (got : ℕ) (number : s.number
   claim_left HasNot w may = no_access (IsLock s.cfg.range) access got may w
 
   entry_left : (claimed : Claim) → enter_wants m claimed ≡ Some access → IsLock s.cfg.range got → IsLock s.cfg.range (left_by access got)
-  entry_left (Has h) w may = no_access (IsLock s.cfg.range) access got may w
-  entry_left (Tries a) w may = no_access (IsLock s.cfg.range) access got may w
   entry_left HasNot w may = loaded (IsLock s.cfg.range) access got may m w
+  entry_left claimed w may = no_access (IsLock s.cfg.range) access got may w
 
 -- ---- waiting bits
 
 bit_is_small : (t : ℕ) → t ≤ 8 → bit_of t < 512
-bit_is_small zero h = omega arith
-bit_is_small (suc zero) h = omega arith
-bit_is_small (suc (suc zero)) h = omega arith
-bit_is_small (suc (suc (suc zero))) h = omega arith
-bit_is_small (suc (suc (suc (suc zero)))) h = omega arith
-bit_is_small (suc (suc (suc (suc (suc zero))))) h = omega arith
-bit_is_small (suc (suc (suc (suc (suc (suc zero)))))) h = omega arith
-bit_is_small (suc (suc (suc (suc (suc (suc (suc zero))))))) h = omega arith
-bit_is_small (suc (suc (suc (suc (suc (suc (suc (suc zero)))))))) h = omega arith
 bit_is_small (suc (suc (suc (suc (suc (suc (suc (suc (suc t))))))))) h = absurd (omega (arith, h))
+bit_is_small t h = omega arith
 
 -- ---- all phases
 

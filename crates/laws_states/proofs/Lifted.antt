@@ -15,10 +15,9 @@ use Rattle.machine_types.specs.declared.phase.Toward.TheVariants as towards
 
 module _ (is more : Classes) (up : (class v : ℕ) → is class v → more class v) where
   pub kind_up : (kind : Kind) (v : ℕ) → KindHolds is kind v → KindHolds more kind v
-  kind_up kinds.Int v h = h
-  kind_up kinds.Bool v h = h
   kind_up (kinds.Ref class) v (inl e) = inl e
   kind_up (kinds.Ref class) v (inr k) = inr (k.0, up k.0 v k.1, k.2)
+  kind_up kind v h = h
 
   pub object_up : (m : ℕ) → IsObject is m → IsObject more m
   object_up m k = (k.0, up k.0 m k.1)

@@ -8,9 +8,8 @@ pub contained_got : {X : Type 0} (xs : List X) (x : X) (k : Contains xs x) → s
 contained_got xs x k = got_contained xs k.0 x k.1 k.2
 
 got_index : {X : Type 0} (xs : List X) (i : ℕ) (x : X) → slice_get xs i ≡ Some x → slice_index_or xs i x ≡ x
-got_index [] i x e = cc
-got_index (y ∷ xs) zero x e = cc
 got_index (y ∷ xs) (suc i) x e = got_index xs i x e
+got_index xs i x e = cc
 
 pub contains_more : {X : Type 0} (y : X) (xs : List X) (x : X) → Contains xs x → Contains (y ∷ xs) x
 contains_more y xs x k = contains_got (y ∷ xs) (suc k.0) x (contained_got xs x k)

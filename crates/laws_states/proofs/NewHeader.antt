@@ -16,9 +16,8 @@ use Rattle.machine_types.specs.declared.phase.Phase.TheVariants as phases
 
 -- null, 0 and false
 zero_holds : (is : Classes) (kind : Kind) (v : ℕ) → v ≡ 0 → KindHolds is kind v
-zero_holds is kinds.Int v e = omega (arith, e)
-zero_holds is kinds.Bool v e = omega (arith, e)
 zero_holds is (kinds.Ref class) v e = inl e
+zero_holds is kind v e = omega (arith, e)
 
 -- a thread that is about to store the header of an object
 pub record Maker : Type 0 where

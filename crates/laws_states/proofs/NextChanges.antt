@@ -1,11 +1,11 @@
 -- The next event of a live thread changes it, phase by phase: its phase, its turns, its count of instructions, or its frames.
-use Rattle.std.proofs.Common.{◌≡◌, ℕ, suc, ◌+◌, nat_lt, Bool, true, false, List, [], ◌∷◌, drop, length, Option, Some, None, refl, sym, ap, subst, ◌∙◌, arith, ◌≢◌, IsSome, slice_get, option_map, if◌then◌else◌}
+use Rattle.std.proofs.Common.{◌≡◌, ℕ, ◌+◌, nat_lt, Bool, true, false, List, [], ◌∷◌, drop, length, Option, Some, None, refl, sym, ap, subst, ◌∙◌, arith, ◌≢◌, IsSome, slice_get, option_map, if◌then◌else◌}
 use Rattle.jvm_types.specs.{Members.is_synchronized, declared.{code.Insn.Insn, outcome.Thrown.{Thrown, TheVariants.StackOverflowError}, program.{MethodInfo.MethodInfo, Program.Program, Row.Row}}}
 use Rattle.jvm_types.specs.declared.program.Target.{Target}
 use Rattle.checked_program.specs.MarkedProgram.{MarkedProgram}
 use Rattle.machine_types.specs.{Elision.{fails, elided}, Events.{thread_started, element_made, moved}}
 use Rattle.machine_types.specs.Frames.{Top, at_pc, top_at, top_in, top_of, frames_of, went_on, has_room, entry_frame, monitor_of, returned, handler_at, caught, pushed}
-use Rattle.machine_types.specs.{Going.{runs, failed_turn, root_over, goes_on, goes_on_if, goes_after, with_phase}, HeldMonitors.{with_held, without_held, deeper, shallower}, Instructions.begun}
+use Rattle.machine_types.specs.{Going.{runs, failed_turn, root_over, goes_on, goes_on_if, goes_after, with_phase}, HeldMonitors.{with_held, without_held, deeper, shallower}}
 use Rattle.machine_types.specs.{Monitors.{takes, grown}, Onward.{Running, Leaving, Uncaught, root_arguments, rooted, back, unwound, handed, Onward}, ReadyObjects.class_of}
 use Rattle.machine_types.specs.{Threads.{Frame, Thread, Attempt}, declared.phase.{After.After, Phase.Phase, Toward.Toward}}
 use Rattle.laws_threads.proofs.ThreadMove.{GoesBy, Checks, LeadsTo, Move, begun_attempt, becomes, counted_at, by_move, looks_in, takes_in, runs_to}

@@ -20,10 +20,8 @@ module _ (v : Locks) (count : ℕ → ℕ) (one owner : ℕ) where
 
   -- nor does another record's owner change
   pub words_apart : (u : ℕ) (l : LockWord) → l ≢ locks.Fat one → hold_by_word u l (set_owner one owner v).owner ≡ hold_by_word u l v.owner
-  words_apart u (locks.Free c) d = refl
-  words_apart u (locks.Held i) d = refl
-  words_apart u (locks.Flagged i) d = refl
   words_apart u (locks.Fat r) d = ap (λ (b : Bool). cond (cond b owner (v.owner r) == u + 1) (HeldFat r) NotHeld) (ne_eqb one r (λ e. d (ap locks.Fat (sym e))))
+  words_apart u l d = refl
 
   knows_same : (u : ℕ) (phase : Phase) → (v.owner one == u + 1) ≡ false → Knows v u phase → Knows (set_owner one owner v) u phase
   knows_same u (phases.Own m r toward) f h = record { unnamed = h.unnamed; below = h.below }

@@ -84,10 +84,9 @@ module _ (c : MarkedProgram) (was : ℕ → Phase) (words : List ℕ) (x : Threa
   part_waits (suc (suc part)) fits may u y e = absurd (cc)
 
   still_there : (part u : ℕ) → IsSome (slice_get (x ∷ workers) u) → IsSome (slice_get (part_begins c.program part x workers) u)
-  still_there zero zero k = refl
   still_there zero (suc u) k = map_some (with_roots (run_roots c.program)) workers u k
-  still_there (suc part) zero k = refl
   still_there (suc part) (suc u) k = k
+  still_there part u k = refl
 
   all_wait : PartFits x.part x.phase workers → (may : Bool) → may_begin_by x.part x.phase workers ≡ may → (u : ℕ) (y : Thread) → slice_get (cond may (part_begins c.program x.part x workers) (x ∷ workers)) u ≡ Some y
       → Waits words u (cond may (counted_of (was u) (slice_get (cond may (part_begins c.program x.part x workers) (x ∷ workers)) u)) (was u))

@@ -4,7 +4,7 @@ use Rattle.lists.proofs.ListLaws.{same_some}
 use Rattle.jvm_types.specs.declared.program.{MethodInfo.MethodInfo, Program.Program}
 use Rattle.laws_programs.specs.RootLaws.{OneMethod}
 use Rattle.checked_program.specs.MarkedProgram.{MarkedProgram, IsMarked}
-use Rattle.machine_types.specs.{Accesses.found_by, Bounds.{FramesFit, IsRooted}, Core.{Core, event_of}, Events.{wanted, thread_started, moved}, Going.goes_on_if, Onward.rooted, Parts.done_roots}
+use Rattle.machine_types.specs.{Accesses.found_by, Bounds.{FramesFit, IsRooted}, Core.{Core, event_of}, Events.{wanted, thread_started, moved}, Going.goes_on_if, Onward.rooted}
 use Rattle.machine_types.{specs.{Threads.{Frame, Thread}, declared.{config.Config.Config, phase.Phase.Phase}}, proofs.Lists.{got_when_set, got_other}}
 use Rattle.laws_threads.specs.{GivenThread.{Given, given_of, GivenIsKept}, RootLaws.RootsAreKept}
 use Rattle.laws_states.{specs.{PartsLaws.EventsKeepParts, PartsStand.{FirstFits, HasReturned, HasFinished, DoneRoots, PartsStand}, RunFacts.AreThreads}, proofs.{DoneRoot.one_done, Lists.same_or_not}}

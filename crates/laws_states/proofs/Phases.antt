@@ -72,9 +72,8 @@ module _ (mover : HeapMover) where
   leave_fits m HasNot e = tt
 
   enter_fits : (m : ℕ) (claimed : Claim) → IsObject (HasClass objects) m → FitsIf c.program objects s Lock (enter_wants m claimed)
-  enter_fits m (Has h) object = tt
-  enter_fits m (Tries a) object = tt
   enter_fits m HasNot object = at_lock state m (Load m) object refl
+  enter_fits m claimed object = tt
 
   phase_fits : (phase : Phase) → IsOldPhase phase → PhaseHolds c (HasClass objects) phase x.frames → PhaseFits phase → Asks c objects phase x.frames x.held → FitsIf c.program objects s (content_at c x phase) (wanted c x phase)
   phase_fits phases.Run old h b k = run_fits state x x.frames h attempt

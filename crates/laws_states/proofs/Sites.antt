@@ -49,13 +49,12 @@ Inside p objects s (Single word) x = HasStatic p word × (x ≡ word)
 
 pub in_block : (p : Program) (objects : List Object) (s : Core) (site : Site) → IsThere p objects s site → Inside p objects s (block site) (site_word site)
 in_block p objects s (Counter word) k = (omega (arith, k.0), omega (arith, k.1))
-in_block p objects s (OwnerOf r) k = (omega arith, omega (arith, k))
-in_block p objects s (BitsOf r) k = (omega arith, omega (arith, k))
 in_block p objects s (LockOf reference) k = record { object = k.0; there = k.1; is = k.2; from = omega arith; to = omega (arith, k.2) }
 in_block p objects s (HeaderOf reference) k = record { object = k.0; there = k.1; is = k.2; from = omega arith; to = omega (arith, k.2) }
 in_block p objects s (ValueOf reference index) k = record { object = k.0; there = k.1; is = k.2; from = omega arith; to = omega (arith, k.2, k.3) }
 in_block p objects s (NewHeaderOf reference) k = record { t = k.0; thread = k.1; word = k.2; there = k.3; made = k.4; from = omega arith; to = omega (arith, size_two p k.2) }
 in_block p objects s (StaticAt word) k = (k, refl)
+in_block p objects s site k = (omega arith, omega (arith, k))
 
 -- ---- blocks are apart
 

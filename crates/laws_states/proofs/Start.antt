@@ -3,7 +3,7 @@
 use Rattle.std.proofs.Common.{◌≡◌, ◌≢◌, inl, inr, ℕ, zero, suc, pos, ◌+◌, ◌-◌, ◌<◌, ◌≤◌, ◌%◌, ◌^◌, Bool, true, false, ◌&&◌, List, [], ◌∷◌, ◌++◌, length, Option, Some, None, refl, ap, sym, subst, ◌∙◌, arith, ◌==◌, nat_lt, nat_le, cond, filter, Contains, slice_get, slice_index, if◌then◌else◌}
 use Rattle.std.{specs.{Int.{w32, cast_unsigned}, List.{AllByRecursion, range_with_len}, Option.option_or}, proofs.lemmas.Bool.Decides.nat_tests}
 use Rattle.lists.proofs.ListLaws.{same_some}
-use Rattle.jvm_types.specs.{ClassNames.is_class, Layout.kept_int, Members.is_static, ProgramInvariant.{IsProgram, words_of}, declared.class_numbers.TheConstants.{CLASS_ITSELF, INT_ARRAY_CLASS}}
+use Rattle.jvm_types.specs.{Layout.kept_int, Members.is_static, ProgramInvariant.{IsProgram, words_of}, declared.class_numbers.TheConstants.{CLASS_ITSELF, INT_ARRAY_CLASS}}
 use Rattle.jvm_types.specs.declared.{fixed_words.TheConstants.{OBJECT_HEAD_WORDS, FIRST_CLASS_WORD, FIRST_READY_WORD}, program.{FieldInfo.FieldInfo, Kind.Kind, Program.Program}}
 use Rattle.laws_programs.proofs.FieldOrder.{one_static_field}
 use Rattle.checked_program.specs.MarkedProgram.{MarkedProgram, IsMarked}

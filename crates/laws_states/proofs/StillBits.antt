@@ -4,7 +4,7 @@ use Rattle.jvm_types.specs.{Numbers.has_flag, declared.{fixed_words.TheConstants
 use Rattle.checked_program.specs.MarkedProgram.{MarkedProgram}
 use Rattle.machine_types.specs.{Accesses.{left_by, words_after}, Events.wanted, FoundWords.{kind_content, field_content, variable_content, effect_content, run_content, leave_content, content_at}}
 use Rattle.machine_types.specs.{Frames.{Top, top_of, effect_at}, Monitors.{Claim, Has, Tries, HasNot, claim}, Owners.Locks, Threads.Thread, Words.bits_word, declared.access.Access.Access}
-use Rattle.machine_types.specs.declared.{access.Access.TheVariants.Load, effect.Effect.{Effect, TheVariants.{Goes, Reads, Writes, Calls, Indexes, Measures, Raises}}, lock.Kept.Kept, phase.Phase.Phase}
+use Rattle.machine_types.specs.declared.{access.Access.TheVariants.Load, effect.Effect.{Effect, TheVariants.{Reads, Writes}}, lock.Kept.Kept, phase.Phase.Phase}
 use Rattle.laws_states.{specs.Sites.{BitsOf, Suits}, proofs.{EventWords.{IsLeft, word_at}, Movers.{KnownSites, HeapMover}, WaitingStep.Changes}}
 use Rattle.jvm_types.specs.declared.program.Kind.TheVariants as kinds
 use Rattle.jvm_types.specs.declared.program.Target.TheVariants as targets

@@ -3,7 +3,7 @@ use Rattle.std.proofs.Common.{◌≡◌, ◌⊎◌, inl, inr, ℕ, suc, ◌+◌,
 use Rattle.std.{specs.List.sum_by, proofs.lemmas.{List.Sums.{sum_by-cons, sum_by-set}, Option.{slice_get_within, get_or_from_slice_get}}}
 use Rattle.lists.proofs.ListLaws.{same_some}
 use Rattle.jvm_types.specs.declared.{fixed_words.TheConstants.{NEXT_FREE_WORD, NEXT_TICKET_WORD, NEXT_RECORD_WORD}, outcome.End.End, program.Program.Program}
-use Rattle.machine_types.specs.{Accesses.accessed, Bounds.{IsBounded, StepsFit, flat_held}, Frames.Top, Threads.Thread, declared.access.Access.{Access, TheVariants.Add}}
+use Rattle.machine_types.specs.{Accesses.accessed, Bounds.{StepsFit, flat_held}, Frames.Top, Threads.Thread, declared.access.Access.{Access, TheVariants.Add}}
 use Rattle.machine_types.specs.declared.{config.Config.Config, phase.Phase.Phase}
 use Rattle.laws_threads.proofs.ThreadMove.{begun_by}
 use Rattle.laws_states.{specs.{Counters.{CountersFit, most_size, drawn_for_flat, instructions_of, taken_of}, RunFacts.HaveWidth}, proofs.CountedEvents.{Counted, drawn_by}}

@@ -34,8 +34,7 @@ module _ (mover : LockMover) where
   of_fat m k r e fat =
       let same : k ≡ r = cc in
       let at = fatly t ((locks_of heap).lock m) (locks_of heap).owner k (own.holds m ∙ hold_fat k (held_at x.held m) fat) in
-      let below = locks_are.below m k at.0 in
-      subst (OwnsRecord (locks_of heap) t) same (record { low = below.1; owner = at.1 })
+      subst (OwnsRecord (locks_of heap) t) same (record { low = (locks_are.below m k at.0).1; owner = at.1 })
 
   pub owned_record : (phase : Phase) (r : ℕ) → record_of phase ≡ Some r → was t ≡ phase → OwnsRecord (locks_of heap) t r
   owned_record (phases.WaitBit m k) r e at = of_fat m k r e (phase_shows mover (phases.WaitBit m k) at).1
@@ -61,11 +60,10 @@ pub record Changes (v : Locks) (words after : List ℕ) (t : ℕ) : Type 0 where
 -- ---- all threads
 
 some_stays : {A : Type 0} (xs : List A) (i j : ℕ) (x : A) → IsSome (slice_get xs j) → IsSome (slice_get (slice_set xs i x) j)
-some_stays [] i j x k = k
 some_stays (y ∷ xs) zero zero x k = refl
-some_stays (y ∷ xs) zero (suc j) x k = k
 some_stays (y ∷ xs) (suc i) zero x k = refl
 some_stays (y ∷ xs) (suc i) (suc j) x k = some_stays xs i j x k
+some_stays xs i j x k = k
 
 -- the words and the thread behind the event, and what it owes of them
 pub record BitsBehind (m : LockMover) : Type 0 where

@@ -46,9 +46,8 @@ pub views_same : (references later words after : List ℕ) → ((m : ℕ) → lo
 views_same references later words after l o n = λ i. record { lock = λ m. l m i; owner = λ r. o r i; next = n i }
 
 pub set_self : (words : List ℕ) (w : ℕ) → slice_set words w (slice_index words w) ≡ words
-set_self [] w = refl
-set_self (x ∷ words) zero = refl
 set_self (x ∷ words) (suc w) = ap (λ (ws : List ℕ). x ∷ ws) (set_self words w)
+set_self words w = refl
 
 pub record_there : (c : MarkedProgram) (objects : List Object) (s : Core) → IsThere c.program objects s (Counter NEXT_RECORD_WORD)
 record_there c objects s = (omega arith, omega arith)

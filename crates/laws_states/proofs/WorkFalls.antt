@@ -38,16 +38,17 @@ one_instruction m steps i t u r f g h turns frames =
 
 -- ---- places
 
-place_small : (held : List Held) (phase : Phase) → chain held phase < 12
-place_small held (phases.Leave m a) = by_held (held_at held m)
+-- what is left of a monitor that is being left
+leaving : (o : Option Held) → (2 < leaving_held o) × (leaving_held o < 11)
+leaving None = (omega arith, omega arith)
+leaving (Some h) = by_kept h.kept
   where
-    by_held : (o : Option Held) → leaving_held o < 12
-    by_held None = omega arith
-    by_held (Some h) = by_kept h.kept
-      where
-        by_kept : (k : Kept) → leaving_work k < 12
-        by_kept (keeps.Flat count) = omega arith
-        by_kept (keeps.Fat r) = omega arith
+    by_kept : (k : Kept) → (2 < leaving_work k) × (leaving_work k < 11)
+    by_kept (keeps.Flat count) = (omega arith, omega arith)
+    by_kept (keeps.Fat r) = (omega arith, omega arith)
+
+place_small : (held : List Held) (phase : Phase) → chain held phase < 12
+place_small held (phases.Leave m a) = omega (arith, (leaving (held_at held m)).1)
 place_small held phase = omega arith
 
 trying_small : (o : Option Attempt) → trying o ≤ 12
@@ -56,29 +57,10 @@ trying_small (Some a) = omega arith
 
 inside_small : (phase : Phase) (o : Option Attempt) → inside phase o ≤ 12
 inside_small phases.Idle o = omega arith
-inside_small phases.Run o = omega arith
-inside_small (phases.Ending e) o = omega arith
-inside_small (phases.Ended e) o = omega arith
-inside_small phase o = trying_small o
+inside_small phase o = omega (arith, trying_small o)
 
 pub small : (y : Thread) → chain y.held y.phase + inside y.phase y.attempt < 24
 small y = omega (arith, place_small y.held y.phase, inside_small y.phase y.attempt)
-
-leaving_far : (o : Option Held) → 2 < leaving_held o
-leaving_far None = omega arith
-leaving_far (Some h) = by_kept h.kept
-  where
-    by_kept : (k : Kept) → 2 < leaving_work k
-    by_kept (keeps.Flat count) = omega arith
-    by_kept (keeps.Fat r) = omega arith
-
-leaving_near : (o : Option Held) → leaving_held o < 11
-leaving_near None = omega arith
-leaving_near (Some h) = by_kept h.kept
-  where
-    by_kept : (k : Kept) → leaving_work k < 11
-    by_kept (keeps.Flat count) = omega arith
-    by_kept (keeps.Fat r) = omega arith
 
 pushed_as_many : (a : ℕ) (frames : List Frame) → length (pushed a frames) ≡ length frames
 pushed_as_many a [] = refl
@@ -221,7 +203,7 @@ module _ (p : Program) (x : Thread) (r : ℕ) (class : Thrown) where
       by_method : (b : Bool) → Throws (goes_on x (if b then Leaving (monitor_of p at.method at.frame) (afters.Unwind r class) (frames_of at) else unwound r class at.below))
       by_method true =
           by_place x (phases.Throw r class) (record x { frames = frames_of at; phase = phases.Leave (monitor_of p at.method at.frame) (afters.Unwind r class) })
-          (as_many rest (length x.frames) (length (frames_of at)) (chains_left x) refl same) (omega (arith, leaving_near (held_at x.held (monitor_of p at.method at.frame))))
+          (as_many rest (length x.frames) (length (frames_of at)) (chains_left x) refl same) (omega (arith, (leaving (held_at x.held (monitor_of p at.method at.frame))).1))
       by_method false = unwinds x (phases.Throw r class) x refl r class at.below fewer
 
 -- ---- all moves but those of an instruction and of a root
@@ -251,7 +233,7 @@ module _ (c : MarkedProgram) (x : Thread) (got : ℕ) where
   place phase = chain x.held phase + inside phase x.attempt
 
   far_left : (m : ℕ) → 2 < leaving_held (held_at x.held m) + trying x.attempt
-  far_left m = omega (arith, leaving_far (held_at x.held m))
+  far_left m = omega (arith, (leaving (held_at x.held m)).0)
 
   goes_less : (phase : Phase) (o : Onward) → GoesBy c.program x got phase o → BeginsNothing phase → Lessens x phase (goes_on x o)
   goes_less _ _ (moves.by_element word stored at found) i = in_as_many x (phases.Element word stored) x refl (went_on c.program at (element_made stored got)) (ap length (frames_are c.program x.frames at found)) (omega arith)
@@ -264,7 +246,7 @@ module _ (c : MarkedProgram) (x : Thread) (got : ℕ) where
 
   fails_less : (phase : Phase) (t : Attempt) → Checks c.program x t phase → BeginsNothing phase → x.attempt ≡ Some t → t.base < length x.frames → Lessens x phase (fails x t)
   fails_less _ t (moves.at_throw r class) i is based = failed x (phases.Throw r class) t is based (omega (arith, ap trying is))
-  fails_less _ t (moves.at_end m a k zero_inner) i is based = failed x (phases.Leave m a) t is based (omega (arith, ap trying is, leaving_far (held_at x.held m)))
+  fails_less _ t (moves.at_end m a k zero_inner) i is based = failed x (phases.Leave m a) t is based (omega (arith, ap trying is, (leaving (held_at x.held m)).0))
   fails_less phase t k i is based = absurd i
 
   leads_less : (phase now : Phase) → LeadsTo c.program x got phase now → BeginsNothing phase → Lessens x phase (with_phase x now)
