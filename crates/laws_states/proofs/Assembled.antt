@@ -1,5 +1,5 @@
 -- The facts of a state when one thread has moved.
-use Rattle.std.proofs.Common.{◌≡◌, ◌≢◌, ◌⊎◌, inl, inr, ℕ, zero, suc, ◌+◌, ◌<◌, ◌≤◌, List, [], ◌∷◌, length, Option, Some, refl, ap, sym, subst, ◌∙◌, arith, Contains, slice_get, slice_index, slice_set}
+use Rattle.std.proofs.Common.{⊎_elim, ◌≡◌, ◌≢◌, ◌⊎◌, inl, inr, ℕ, zero, suc, ◌+◌, ◌<◌, ◌≤◌, List, [], ◌∷◌, length, Option, Some, refl, ap, sym, subst, ◌∙◌, arith, Contains, slice_get, slice_index, slice_set}
 use Rattle.jvm_types.specs.declared.fixed_words.TheConstants.{NEXT_FREE_WORD}
 use Rattle.checked_program.specs.MarkedProgram.{MarkedProgram}
 use Rattle.machine_types.specs.{Core.Core, FoundWords.IsHeader, NewObjects.{size_by, IsNewObject}, ObjectsApart.LieApart, PlainMemory.{Object, object_end, header_of, start_statics}, Threads.Thread}
@@ -14,11 +14,8 @@ got_set [] i j x y e = absurd (cc)
 got_set (z ∷ xs) zero zero x y e = inl (refl, cc)
 got_set (z ∷ xs) zero (suc j) x y e = inr (λ h. omega (arith, h), e)
 got_set (z ∷ xs) (suc i) zero x y e = inr (λ h. omega (arith, h), e)
-got_set (z ∷ xs) (suc i) (suc j) x y e = next (got_set xs i j x y e)
-  where
-    next : ((j ≡ i) × (y ≡ x)) ⊎ ((j ≢ i) × (slice_get xs j ≡ Some y)) → ((suc j ≡ suc i) × (y ≡ x)) ⊎ ((suc j ≢ suc i) × (slice_get xs j ≡ Some y))
-    next (inl h) = inl (ap suc h.0, h.1)
-    next (inr h) = inr (λ e. h.0 (omega (arith, e)), h.1)
+got_set (z ∷ xs) (suc i) (suc j) x y e = ⊎_elim
+    (λ (h : (j ≡ i) × (y ≡ x)). inl (ap suc h.0, h.1)) (λ (h : (j ≢ i) × (slice_get xs j ≡ Some y)). inr (λ e. h.0 (omega (arith, e)), h.1)) (got_set xs i j x y e)
 
 -- ---- what is known of the words and the objects behind the event, for the threads that have not moved
 
@@ -62,11 +59,7 @@ module _ (event : HeapEvent) where
   -- of the thread that has moved, or of another
   module _ (P : Thread → Type 0) where
     of_each : (u : ℕ) (x : Thread) → slice_get (slice_set s.threads t y) u ≡ Some x → P y → (slice_get s.threads u ≡ Some x → u ≢ t → P x) → P x
-    of_each u x e own other = by_side (got_set s.threads t u y x e)
-      where
-        by_side : ((u ≡ t) × (x ≡ y)) ⊎ ((u ≢ t) × (slice_get s.threads u ≡ Some x)) → P x
-        by_side (inl k) = subst P (sym k.1) own
-        by_side (inr k) = other k.1 k.0
+    of_each u x e own other = ⊎_elim (λ (k : (u ≡ t) × (x ≡ y)). subst P (sym k.1) own) (λ (k : (u ≢ t) × (slice_get s.threads u ≡ Some x)). other k.1 k.0) (got_set s.threads t u y x e)
 
   zero_there : (n : ℕ) → slice_index s.words NEXT_FREE_WORD ≤ n → n < c.program.heap → slice_index after n ≡ 0
   zero_there n le lt = behind.unused n le ∙ facts.unused.empty n le lt

@@ -1,5 +1,5 @@
 -- An event keeps what holds of the words in every reached state, and its thread stays lawful.
-use Rattle.std.proofs.{Common.{◌≡◌, ℕ, zero, suc, ◌<◌, ◌^◌, List, [], ◌∷◌, Option, Some, None, refl, ap, ◌∙◌, slice_get, slice_index, slice_set}, lemmas.List.length-set}
+use Rattle.std.proofs.{Common.{◌≡◌, ℕ, zero, suc, ◌<◌, ◌^◌, List, ◌∷◌, Option, Some, None, refl, ap, ◌∙◌, slice_get, slice_index, slice_set}, lemmas.List.length-set}
 use Rattle.machine_types.specs.{Accesses.{accessed, left_by, found_by, words_after}, Core.{event, event_of}, Events.{wanted, moved}, Facts.IsThread, Lawful.IsLawful, Threads.Thread}
 use Rattle.machine_types.specs.declared.access.Access.{Access, TheVariants.Rest}
 use Rattle.laws_threads.specs.{GivenThread.{Given, given_of, GivenIsKept}, LawfulLaws.LawfulIsKept, PartLaws.{PartsFit, EventsFitParts}}

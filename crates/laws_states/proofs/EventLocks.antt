@@ -1,5 +1,5 @@
 -- Whatever event happens, a fat lock stays fat, and a lock gets free by its holder alone.
-use Rattle.std.proofs.Common.{◌≡◌, ◌⊎◌, inl, inr, ℕ, zero, suc, ◌+◌, ◌<◌, nat_lt, Bool, true, false, cond, List, Option, Some, None, refl, sym, ap, ◌∙◌, subst, ◌==◌, slice_index, slice_set}
+use Rattle.std.proofs.Common.{⊎_elim, ◌≡◌, ◌⊎◌, inl, inr, ℕ, zero, suc, ◌+◌, ◌<◌, nat_lt, Bool, true, false, cond, List, Option, Some, None, refl, sym, ap, ◌∙◌, subst, ◌==◌, slice_index, slice_set}
 use Rattle.std.proofs.lemmas.Bool.Decides.{Decides-eqb}
 use Rattle.jvm_types.specs.declared.fixed_words.TheConstants.{NEXT_RECORD_WORD, MONITOR_RECORDS}
 use Rattle.machine_types.specs.{Accesses.words_after, Elision.looks, Events.wanted, FoundWords.leave_content, HeldMonitors.held_at, LockWords.{word_of_lock, lock_of, next_count}}
@@ -102,21 +102,17 @@ module _ (sites : KnownSites) (mover : LockMover) where
     own_lock n kept = flatly t ((locks_in (references_of objects) s.words).lock m) (locks_in (references_of objects) s.words).owner (own.holds m ∙ ap hold_by_list at ∙ ap hold_by_kept kept)
 
     let_go : (n : ℕ) → h.kept ≡ keeps.Flat n → HasObject objects m → Leaves (slice_set s.words m (freed x n))
-    let_go n kept is = by_lock (own_lock n kept)
+    let_go n kept is = ⊎_elim
+        (λ (e : (locks_in (references_of objects) s.words).lock m ≡ locks.Held t). lock_from m (locks.Held t) (locks.Free (next_count n x.cfg.range)) is e (refl, count))
+        (λ (e : (locks_in (references_of objects) s.words).lock m ≡ locks.Flagged t). lock_from m (locks.Flagged t) (locks.Free (next_count n x.cfg.range)) is e (refl, count)) (own_lock n kept)
       where
         count : IsFreed (held_at x.held m) cfg.range (next_count n x.cfg.range)
         count = subst (λ (o : Option Held). IsFreed o cfg.range (next_count n x.cfg.range)) (sym at) (n, kept, ap (λ (g : Config). next_count n g.range) ((threads.own t x there).settings))
 
-        by_lock : ((locks_in (references_of objects) s.words).lock m ≡ locks.Held t) ⊎ ((locks_in (references_of objects) s.words).lock m ≡ locks.Flagged t) → Leaves (slice_set s.words m (freed x n))
-        by_lock (inl e) = lock_from m (locks.Held t) (locks.Free (next_count n x.cfg.range)) is e (refl, count)
-        by_lock (inr e) = lock_from m (locks.Flagged t) (locks.Free (next_count n x.cfg.range)) is e (refl, count)
-
     grows : (n r : ℕ) → h.kept ≡ keeps.Flat n → HasObject objects m → Leaves (slice_set s.words m (word_of_lock (locks.Fat r)))
-    grows n r kept is = by_lock (own_lock n kept)
-      where
-        by_lock : ((locks_in (references_of objects) s.words).lock m ≡ locks.Held t) ⊎ ((locks_in (references_of objects) s.words).lock m ≡ locks.Flagged t) → Leaves (slice_set s.words m (word_of_lock (locks.Fat r)))
-        by_lock (inl e) = lock_from m (locks.Held t) (locks.Fat r) is e refl
-        by_lock (inr e) = lock_from m (locks.Flagged t) (locks.Fat r) is e refl
+    grows n r kept is = ⊎_elim
+        (λ (e : (locks_in (references_of objects) s.words).lock m ≡ locks.Held t). lock_from m (locks.Held t) (locks.Fat r) is e refl)
+        (λ (e : (locks_in (references_of objects) s.words).lock m ≡ locks.Flagged t). lock_from m (locks.Flagged t) (locks.Fat r) is e refl) (own_lock n kept)
 
     record_low : (r : ℕ) → h.kept ≡ keeps.Fat r → r < MONITOR_RECORDS
     record_low r kept =

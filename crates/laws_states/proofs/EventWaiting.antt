@@ -1,5 +1,5 @@
 -- Whatever event happens, who waits is as the waiting bits and the threads say.
-use Rattle.std.proofs.Common.{◌≡◌, ◌≢◌, ◌⊎◌, inl, inr, ℕ, ◌+◌, ◌-◌, ◌^◌, ◌<◌, nat_lt, Bool, true, false, cond, List, length, Option, Some, None, refl, sym, ap, ◌∙◌, subst, arith, ◌==◌, bit_and, bit_or, slice_get, slice_index, slice_set}
+use Rattle.std.proofs.Common.{⊎_elim, ◌≡◌, ◌≢◌, ◌⊎◌, inl, inr, ℕ, ◌+◌, ◌-◌, ◌^◌, ◌<◌, nat_lt, Bool, true, false, cond, List, length, Option, Some, None, refl, sym, ap, ◌∙◌, subst, arith, ◌==◌, bit_and, bit_or, slice_get, slice_index, slice_set}
 use Rattle.std.proofs.lemmas.Bool.{eqb-false}
 use Rattle.jvm_types.specs.{Numbers.has_flag, declared.fixed_words.TheConstants.MONITOR_RECORDS}
 use Rattle.machine_types.specs.{Accesses.{found_by, words_after}, Core.{Core, event_of}, Events.{wanted, moved}, Going.{runs, failed_turn, with_phase}, HeldMonitors.held_at}
@@ -21,25 +21,19 @@ record Written (words : List ℕ) (r value i : ℕ) : Type 0 where
 
 module _ (words : List ℕ) (r value : ℕ) (inside : bits_word r < length words) where
   bits_at : (i : ℕ) → Written words r value i ⊎ (slice_index (slice_set words (bits_word r) value) (bits_word i) ≡ slice_index words (bits_word i))
-  bits_at i = by_number (same_or_not i r)
-    where
-      by_number : (i ≡ r) ⊎ (i ≢ r) → Written words r value i ⊎ (slice_index (slice_set words (bits_word r) value) (bits_word i) ≡ slice_index words (bits_word i))
-      by_number (inl e) = inl (record { is = e; word = ap (λ (n : ℕ). slice_index (slice_set words (bits_word r) value) (bits_word n)) e ∙ set_here words (bits_word r) value inside })
-      by_number (inr d) = inr (set_there words (bits_word r) (bits_word i) value (λ e. d (omega (arith, e))))
+  bits_at i = ⊎_elim
+      (λ (e : i ≡ r). inl (record { is = e; word = ap (λ (n : ℕ). slice_index (slice_set words (bits_word r) value) (bits_word n)) e ∙ set_here words (bits_word r) value inside }))
+      (λ (d : i ≢ r). inr (set_there words (bits_word r) (bits_word i) value (λ e. d (omega (arith, e))))) (same_or_not i r)
 
   bits_less : (i u : ℕ) → (has_flag (bit_of u) value ≡ true → has_flag (bit_of u) (slice_index words (bits_word r)) ≡ true) → is_bit_set (slice_set words (bits_word r) value) i u ≡ true → is_bit_set words i u ≡ true
-  bits_less i u less set = by_record (bits_at i)
-    where
-      by_record : Written words r value i ⊎ (slice_index (slice_set words (bits_word r) value) (bits_word i) ≡ slice_index words (bits_word i)) → is_bit_set words i u ≡ true
-      by_record (inl k) = subst (λ (n : ℕ). is_bit_set words n u ≡ true) (sym k.is) (less (ap (has_flag (bit_of u)) (sym k.word) ∙ set))
-      by_record (inr e) = ap (has_flag (bit_of u)) (sym e) ∙ set
+  bits_less i u less set = ⊎_elim
+      (λ (k : Written words r value i). subst (λ (n : ℕ). is_bit_set words n u ≡ true) (sym k.is) (less (ap (has_flag (bit_of u)) (sym k.word) ∙ set)))
+      (λ (e : slice_index (slice_set words (bits_word r) value) (bits_word i) ≡ slice_index words (bits_word i)). ap (has_flag (bit_of u)) (sym e) ∙ set) (bits_at i)
 
   bits_stay : (i u : ℕ) → (i ≡ r → has_flag (bit_of u) (slice_index words (bits_word r)) ≡ true → has_flag (bit_of u) value ≡ true) → is_bit_set words i u ≡ true → is_bit_set (slice_set words (bits_word r) value) i u ≡ true
-  bits_stay i u stay set = by_record (bits_at i)
-    where
-      by_record : Written words r value i ⊎ (slice_index (slice_set words (bits_word r) value) (bits_word i) ≡ slice_index words (bits_word i)) → is_bit_set (slice_set words (bits_word r) value) i u ≡ true
-      by_record (inl k) = ap (has_flag (bit_of u)) k.word ∙ stay k.is (subst (λ (n : ℕ). is_bit_set words n u ≡ true) k.is set)
-      by_record (inr e) = ap (has_flag (bit_of u)) e ∙ set
+  bits_stay i u stay set = ⊎_elim
+      (λ (k : Written words r value i). ap (has_flag (bit_of u)) k.word ∙ stay k.is (subst (λ (n : ℕ). is_bit_set words n u ≡ true) k.is set))
+      (λ (e : slice_index (slice_set words (bits_word r) value) (bits_word i) ≡ slice_index words (bits_word i)). ap (has_flag (bit_of u)) e ∙ set) (bits_at i)
 
 calm_must : (words : List ℕ) (t : ℕ) (phase : Phase) → IsCalm phase → MustWait words t phase
 calm_must words t (phases.WaitOut m r) k = absurd k

@@ -21,11 +21,7 @@ length_is class count h = omega (arith, h)
 -- ---- an object that is there
 
 pub array_length : (o : Object) → o.class ≡ INT_ARRAY_CLASS → header_length (header_of o) ≡ length o.values
-array_length o e = by_test (o.class == INT_ARRAY_CLASS) (grind (arith, nat_tests, e))
-  where
-    by_test : (b : Bool) → b ≡ true → header_length (header o.class (if b then length o.values else 0)) ≡ length o.values
-    by_test true t = length_is o.class (length o.values) (omega (arith, e))
-    by_test false t = absurd (cc)
+array_length o e = let array : (o.class == INT_ARRAY_CLASS) ≡ true = grind (arith, nat_tests, e) in rw array (length_is o.class (length o.values) (omega (arith, e)))
 
 pub class_small : (o : Object) → o.class < 65536 → header_class (header_of o) ≡ o.class
 class_small o h = class_is o.class (if o.class == INT_ARRAY_CLASS then length o.values else 0) h
@@ -98,11 +94,9 @@ module _ (p : Program) (is_program : IsProgram p) where
       by_test false t = ap (object_size p) is
 
   size_of_array : (count : ℕ) → size_by p (header INT_ARRAY_CLASS count) ≡ array_size count
-  size_of_array count = by_test (header_class (header INT_ARRAY_CLASS count) == INT_ARRAY_CLASS) (grind (arith, nat_tests, class_is INT_ARRAY_CLASS count (omega arith)))
-    where
-      by_test : (b : Bool) → b ≡ true → (if b then array_size (header_length (header INT_ARRAY_CLASS count)) else object_size p (header_class (header INT_ARRAY_CLASS count))) ≡ array_size count
-      by_test true t = ap array_size (length_is INT_ARRAY_CLASS count (omega arith))
-      by_test false t = absurd (cc)
+  size_of_array count =
+      let array : (header_class (header INT_ARRAY_CLASS count) == INT_ARRAY_CLASS) ≡ true = grind (arith, nat_tests, class_is INT_ARRAY_CLASS count (omega arith)) in
+      rw array (ap array_size (length_is INT_ARRAY_CLASS count (omega arith)))
 
   pub class_header : (class : ℕ) → IsClassOf p class → IsHeader p (header class 0)
   class_header class h =

@@ -6,11 +6,7 @@ use Rattle.machine_types.specs.declared.{lock.Held.Held, phase.{After.After, Pha
 use Rattle.laws_threads.proofs.{HeldLists.depth_by, Releases.goes_behind}
 
 once_here : (m : ℕ) → 0 < once_at m m
-once_here m = by_test (m == m) (grind (arith, nat_tests))
-  where
-    by_test : (b : Bool) → b ≡ true → 0 < (if b then 1 else 0)
-    by_test true e = omega arith
-    by_test false e = absurd (cc)
+once_here m = let same : (m == m) ≡ true = grind (arith, nat_tests) in rw same (omega arith)
 
 claimed : (m : ℕ) (held : Option Held) (attempt : Option Attempt) → 0 < depth_by held + tried_depth m attempt → claim_by m held attempt ≢ HasNot
 claimed m (Some h) attempt some = λ e. cc

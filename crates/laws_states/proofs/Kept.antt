@@ -1,5 +1,5 @@
 -- An event, and the begin of a part, keep what the words hold of objects and places.
-use Rattle.std.proofs.Common.{◌≡◌, ◌⊎◌, inl, inr, ℕ, List, [], ◌∷◌, Option, Some, None, refl, ap, sym, subst, ◌∙◌, slice_get, slice_index, slice_set}
+use Rattle.std.proofs.Common.{⊎_elim, ◌≡◌, ◌⊎◌, inl, inr, ℕ, List, [], ◌∷◌, Option, Some, None, refl, ap, sym, subst, ◌∙◌, slice_get, slice_index, slice_set}
 use Rattle.jvm_types.specs.declared.{fixed_words.TheConstants.NEXT_FREE_WORD, program.Program.Program}
 use Rattle.checked_program.specs.MarkedProgram.{MarkedProgram}
 use Rattle.machine_types.specs.{Accesses.{found_by, words_after}, Core.{Core, event_of, next}, Events.{wanted, moved}, FoundWords.content_at, NewObjects.{size_by, IsNewObject}}
@@ -175,37 +175,27 @@ next_keeps c objects was s facts structure = record {
     before u y e = begun c.program s.threads u y e
 
     made_before : (z y : Thread) (a word : ℕ) → Begins z y → y.phase ≡ phases.Made a word → z.phase ≡ phases.Made a word
-    made_before z y a word k m = by_side k.phase
-      where
-        by_side : (y.phase ≡ z.phase) ⊎ StartsOrEnded y.phase → z.phase ≡ phases.Made a word
-        by_side (inl e) = sym e ∙ m
-        by_side (inr fresh) = absurd (subst StartsOrEnded m fresh)
+    made_before z y a word k m = ⊎_elim (λ (e : y.phase ≡ z.phase). sym e ∙ m) (λ (fresh : StartsOrEnded y.phase). absurd (subst StartsOrEnded m fresh)) k.phase
 
     values : (u : ℕ) (y z : Thread) → slice_get (next c s).threads u ≡ Some y → slice_get s.threads u ≡ Some z → Begins z y → ThreadHolds c (HasClass objects) y
     values u y z e g k =
         let typed = facts.typed.threads u z g in
         record {
-          phase = by_side k.phase;
+          phase = ⊎_elim
+              (λ (same : y.phase ≡ z.phase). let typed = facts.typed.threads u z g in subst (λ phase. PhaseHolds c (HasClass objects) phase y.frames) (sym same) (subst (PhaseHolds c (HasClass objects) z.phase) (sym k.frames) typed.phase))
+              (λ (fresh : StartsOrEnded y.phase). no_frame c (was u) y (structure u y e) fresh (HasClass objects)) k.phase;
           attempt = subst (λ attempt. AttemptHolds c (HasClass objects) y.frames attempt) (sym k.attempt) (subst (λ fs. AttemptHolds c (HasClass objects) fs z.attempt) (sym k.frames) typed.attempt);
         }
-      where
-        by_side : (y.phase ≡ z.phase) ⊎ StartsOrEnded y.phase → PhaseHolds c (HasClass objects) y.phase y.frames
-        by_side (inl same) = let typed = facts.typed.threads u z g in subst (λ phase. PhaseHolds c (HasClass objects) phase y.frames) (sym same) (subst (PhaseHolds c (HasClass objects) z.phase) (sym k.frames) typed.phase)
-        by_side (inr fresh) = no_frame c (was u) y (structure u y e) fresh (HasClass objects)
 
     element : (u : ℕ) (y z : Thread) (word : ℕ) (stored : Option ℕ) → slice_get s.threads u ≡ Some z → Begins z y → y.phase ≡ phases.Element word stored → HasElementIn objects stored y.frames
-    element u y z word stored g k m = by_side k.phase
-      where
-        by_side : (y.phase ≡ z.phase) ⊎ StartsOrEnded y.phase → HasElementIn objects stored y.frames
-        by_side (inl same) = subst (HasElementIn objects stored) (sym k.frames) (facts.typed.elements u z word stored g (sym same ∙ m))
-        by_side (inr fresh) = absurd (subst StartsOrEnded m fresh)
+    element u y z word stored g k m = ⊎_elim
+        (λ (same : y.phase ≡ z.phase). subst (HasElementIn objects stored) (sym k.frames) (facts.typed.elements u z word stored g (sym same ∙ m)))
+        (λ (fresh : StartsOrEnded y.phase). absurd (subst StartsOrEnded m fresh)) k.phase
 
     monitors : (u : ℕ) (y z : Thread) → slice_get s.threads u ≡ Some z → Begins z y → HoldsObjects (HasClass objects) y
-    monitors u y z g k = record { held = subst (AllHeld (HasClass objects)) (sym k.held) (facts.monitors u z g).held; waits = by_side k.phase }
-      where
-        by_side : (y.phase ≡ z.phase) ⊎ StartsOrEnded y.phase → IsWaitOn (HasClass objects) y.phase
-        by_side (inl same) = let m = facts.monitors u z g in subst (IsWaitOn (HasClass objects)) (sym same) m.waits
-        by_side (inr fresh) = no_wait (HasClass objects) y.phase fresh
+    monitors u y z g k = record { held = subst (AllHeld (HasClass objects)) (sym k.held) (facts.monitors u z g).held; waits = ⊎_elim
+        (λ (same : y.phase ≡ z.phase). let m = facts.monitors u z g in subst (IsWaitOn (HasClass objects)) (sym same) m.waits)
+        (λ (fresh : StartsOrEnded y.phase). no_wait (HasClass objects) y.phase fresh) k.phase }
 
     new_object_kept : (u : ℕ) (y : Thread) (a word : ℕ) → slice_get (next c s).threads u ≡ Some y → y.phase ≡ phases.Made a word → IsNewObject c.program objects (next c s) a (size_by c.program word)
     new_object_kept u y a word e m =

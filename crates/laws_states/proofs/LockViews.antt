@@ -1,5 +1,5 @@
 -- What the words say of locks, where one of them has changed; and how a thread has a monitor by them.
-use Rattle.std.proofs.{Common.{◌≡◌, ◌≢◌, ◌⊎◌, inl, inr, ℕ, ◌+◌, Bool, true, false, cond, Option, Some, None, refl, sym, ap, ◌∙◌, ◌==◌}, lemmas.Bool.{ne_eqb, Decides.Decides-eqb}}
+use Rattle.std.proofs.{Common.{⊎_elim, ◌≡◌, ◌≢◌, ◌⊎◌, inl, inr, ℕ, ◌+◌, Bool, true, false, cond, Option, Some, None, refl, sym, ap, ◌∙◌, ◌==◌}, lemmas.Bool.{ne_eqb, Decides.Decides-eqb}}
 use Rattle.machine_types.specs.{Owners.{Locks, Hold, NotHeld, HeldFlat, HeldFat, hold_by_word, hold_by_kept, hold_by_list}, declared.lock.{Held.Held, Kept.Kept, LockWord.LockWord}}
 use Rattle.machine_types.proofs.PlainStepLaws.{is_same}
 use Rattle.machine_types.specs.declared.lock.Kept.TheVariants as keeps
@@ -67,18 +67,12 @@ fatly t (locks.Fat k) owner r e = by_test (owner k == t + 1) refl e
 
 -- a flat lock is held by one thread, and is not fat
 pub thin_if_flat : (t : ℕ) (l : LockWord) (owner : ℕ → ℕ) → hold_by_word t l owner ≡ HeldFlat → (r : ℕ) → l ≢ locks.Fat r
-thin_if_flat t l owner h r e = at (flatly t l owner h)
-  where
-    at : (l ≡ locks.Held t) ⊎ (l ≡ locks.Flagged t) → ⊥
-    at (inl g) = cc
-    at (inr g) = cc
+thin_if_flat t l owner h r e = ⊎_elim (λ (g : l ≡ locks.Held t). cc) (λ (g : l ≡ locks.Flagged t). cc) (flatly t l owner h)
 
 pub flat_alone : (t u : ℕ) (l : LockWord) (owner : ℕ → ℕ) → hold_by_word t l owner ≡ HeldFlat → u ≢ t → hold_by_word u l owner ≡ NotHeld
-flat_alone t u l owner h d = at (flatly t l owner h)
-  where
-    at : (l ≡ locks.Held t) ⊎ (l ≡ locks.Flagged t) → hold_by_word u l owner ≡ NotHeld
-    at (inl g) = ap (λ (l : LockWord). hold_by_word u l owner) g ∙ another t u HeldFlat (λ e. d (sym e))
-    at (inr g) = ap (λ (l : LockWord). hold_by_word u l owner) g ∙ another t u HeldFlat (λ e. d (sym e))
+flat_alone t u l owner h d = ⊎_elim
+    (λ (g : l ≡ locks.Held t). ap (λ (l : LockWord). hold_by_word u l owner) g ∙ another t u HeldFlat (λ e. d (sym e)))
+    (λ (g : l ≡ locks.Flagged t). ap (λ (l : LockWord). hold_by_word u l owner) g ∙ another t u HeldFlat (λ e. d (sym e))) (flatly t l owner h)
 
 -- ---- what a thread holds not has no entry
 

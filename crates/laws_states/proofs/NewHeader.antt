@@ -1,5 +1,5 @@
 -- The event that stores the header of a new object: from then on the object is there.
-use Rattle.std.proofs.Common.{◌≡◌, ◌≢◌, ◌⊎◌, inl, inr, ℕ, zero, suc, ◌+◌, ◌-◌, ◌<◌, ◌≤◌, ◌^◌, Bool, true, false, List, ◌∷◌, length, Some, refl, ap, sym, subst, ◌∙◌, arith, ◌==◌, Contains, replicate, slice_get, slice_index, slice_set, if◌then◌else◌}
+use Rattle.std.proofs.Common.{⊎_elim, ◌≡◌, ◌≢◌, ◌⊎◌, inl, inr, ℕ, zero, suc, ◌+◌, ◌-◌, ◌<◌, ◌≤◌, ◌^◌, Bool, true, false, List, ◌∷◌, length, Some, refl, ap, sym, subst, ◌∙◌, arith, ◌==◌, Contains, replicate, slice_get, slice_index, slice_set, if◌then◌else◌}
 use Rattle.std.proofs.lemmas.{Bool.Decides.nat_tests, List.{length-replicate, length-set}}
 use Rattle.lists.proofs.ListLaws.{same_some}
 use Rattle.jvm_types.specs.{Members.is_static, ProgramInvariant.{IsProgram, instances_among}, declared.class_numbers.TheConstants.INT_ARRAY_CLASS}
@@ -59,11 +59,7 @@ module _ (lies : StartLiesApart) (maker : Maker) where
   -- ---- the object lies apart
 
   beside_new : (e : Object) → Contains objects e → IsBeside new e
-  beside_new e l = by_side (k.beside e l)
-    where
-      by_side : (object_end e ≤ a) ⊎ (a + size_by c.program word ≤ e.reference) → IsBeside new e
-      by_side (inl h) = inr h
-      by_side (inr h) = inl (omega (arith, h, ends))
+  beside_new e l = ⊎_elim (λ (h : object_end e ≤ a). inr h) (λ (h : a + size_by c.program word ≤ e.reference). inl (omega (arith, h, ends))) (k.beside e l)
 
   turned : (o e : Object) → IsBeside o e → IsBeside e o
   turned o e (inl h) = inr h
@@ -131,11 +127,8 @@ module _ (lies : StartLiesApart) (maker : Maker) where
 
   -- the words of another object are not the header's
   elsewhere : (o : Object) (n : ℕ) → Contains objects o → o.reference ≤ n → n < object_end o → n ≢ header_word a
-  elsewhere o n l from to e = by_side (k.beside o l)
-    where
-      by_side : (object_end o ≤ a) ⊎ (a + size_by c.program word ≤ o.reference) → ⊥
-      by_side (inl h) = omega (arith, h, e, to)
-      by_side (inr h) = omega (arith, h, e, from, size_two c.program word)
+  elsewhere o n l from to e = ⊎_elim
+      (λ (h : object_end o ≤ a). omega (arith, h, e, to)) (λ (h : a + size_by c.program word ≤ o.reference). omega (arith, h, e, from, size_two c.program word)) (k.beside o l)
 
   -- and a field or an element of the new one is 0
   empty_value : (i : ℕ) → i < length new.values → slice_index after (value_word a i) ≡ 0
@@ -206,19 +199,14 @@ module _ (lies : StartLiesApart) (maker : Maker) where
       sides u z b other differ e m = facts.new_objects.apart t u x z a b word other there e (λ same. differ (sym same)) made m
 
       new_elsewhere : (u : ℕ) (z : Thread) (b other n : ℕ) → u ≢ t → slice_get s.threads u ≡ Some z → z.phase ≡ phases.Made b other → b ≤ n → n < b + size_by c.program other → n ≢ header_word a
-      new_elsewhere u z b other n differ e m from to same = by_side (sides u z b other differ e m)
-        where
-          by_side : (a + size_by c.program word ≤ b) ⊎ (b + size_by c.program other ≤ a) → ⊥
-          by_side (inl h) = omega (arith, h, same, from, size_two c.program word)
-          by_side (inr h) = omega (arith, h, same, to)
+      new_elsewhere u z b other n differ e m from to same = ⊎_elim
+          (λ (h : a + size_by c.program word ≤ b). omega (arith, h, same, from, size_two c.program word))
+          (λ (h : b + size_by c.program other ≤ a). omega (arith, h, same, to)) (sides u z b other differ e m)
 
       beside_of : (j u : ℕ) (z : Thread) (b other : ℕ) → u ≢ t → slice_get s.threads u ≡ Some z → z.phase ≡ phases.Made b other → (o : Object) → slice_get later j ≡ Some o
           → (object_end o ≤ b) ⊎ (b + size_by c.program other ≤ o.reference)
-      beside_of zero u z b other differ e m o g = first (λ y. (object_end y ≤ b) ⊎ (b + size_by c.program other ≤ y.reference)) o g (by_side (sides u z b other differ e m))
-        where
-          by_side : (a + size_by c.program word ≤ b) ⊎ (b + size_by c.program other ≤ a) → (object_end new ≤ b) ⊎ (b + size_by c.program other ≤ new.reference)
-          by_side (inl h) = inl (omega (arith, h, ends))
-          by_side (inr h) = inr h
+      beside_of zero u z b other differ e m o g = first (λ y. (object_end y ≤ b) ⊎ (b + size_by c.program other ≤ y.reference)) o g (⊎_elim
+          (λ (h : a + size_by c.program word ≤ b). inl (omega (arith, h, ends))) (λ (h : b + size_by c.program other ≤ a). inr h) (sides u z b other differ e m))
       beside_of (suc j) u z b other differ e m o g = let other_new = facts.new_objects.each u z b other e m in other_new.beside o (contains_got objects j o g)
 
   pub class_new : HasClass later (header_class word) a

@@ -1,5 +1,5 @@
 -- What the next event of a lawful thread takes is there, phase by phase.
-use Rattle.std.proofs.Common.{◌≡◌, ◌⊎◌, inl, inr, ℕ, ◌<◌, ◌≤◌, true, List, [], ◌∷◌, length, Option, Some, None, refl, ap, subst, ◌∙◌, arith, get_or, IsSome, IsTrue, slice_get, option_map}
+use Rattle.std.proofs.Common.{⊎_elim, ◌≡◌, ◌⊎◌, inl, inr, ℕ, ◌<◌, ◌≤◌, true, List, [], ◌∷◌, length, Option, Some, None, refl, ap, subst, ◌∙◌, arith, get_or, IsSome, IsTrue, slice_get, option_map}
 use Rattle.std.{specs.List.AllByRecursion, proofs.lemmas.Option.slice_get_cases}
 use Rattle.jvm_types.specs.{Numbers.has_number, Verifying.is_return, declared.program.{MethodInfo.MethodInfo, Program.Program}}
 use Rattle.checked_program.specs.MarkedProgram.{MarkedProgram, IsMarked}
@@ -41,11 +41,9 @@ some_frames (f ∷ fs) has = omega arith
 
 has_root : (p : Program) (number part : ℕ) (fs : List Frame) (roots : List ℕ) → FramesFit phases.Start fs roots → AllByRecursion (λ k. IsTrue (has_number (part_roots p number part) k)) roots → HasRoot p roots
 has_root p number part fs [] fit all = absurd fit
-has_root p number part fs (k ∷ roots) fit all = by_place (slice_get_cases p.methods k).1
-  where
-    by_place : ((m : MethodInfo) × (k < length p.methods) × (slice_get p.methods k ≡ Some m) × (get_or p.methods k m ≡ m)) ⊎ ((length p.methods ≤ k) × (slice_get p.methods k ≡ None)) → IsSome (slice_get p.methods k)
-    by_place (inl is) = there (slice_get p.methods k) is.0 is.2
-    by_place (inr past) = absurd (omega (arith, past.0, roots_within p number part k all.0))
+has_root p number part fs (k ∷ roots) fit all = ⊎_elim
+    (λ (is : (m : MethodInfo) × (k < length p.methods) × (slice_get p.methods k ≡ Some m) × (get_or p.methods k m ≡ m)). there (slice_get p.methods k) is.0 is.2)
+    (λ (past : (length p.methods ≤ k) × (slice_get p.methods k ≡ None)). absurd (omega (arith, past.0, roots_within p number part k all.0))) (slice_get_cases p.methods k).1
 
 -- ---- an instruction
 

@@ -1,5 +1,5 @@
 -- Where a part of the run begins, each thread holds what it held.
-use Rattle.std.proofs.Common.{◌≡◌, ◌⊎◌, inl, inr, ℕ, zero, suc, ◌≤◌, Bool, true, false, cond, List, [], ◌∷◌, map, Option, Some, refl, ap, sym, subst, ◌∙◌, arith, slice_get, if◌then◌else◌}
+use Rattle.std.proofs.Common.{⊎_elim, ◌≡◌, ◌⊎◌, inl, inr, ℕ, zero, suc, ◌≤◌, Bool, true, false, cond, List, [], ◌∷◌, map, Option, Some, refl, ap, sym, subst, ◌∙◌, arith, slice_get, if◌then◌else◌}
 use Rattle.std.{specs.List.sum_by, proofs.lemmas.List.Sums.sum_by-cons}
 use Rattle.jvm_types.specs.declared.{outcome.End.End, program.Program.Program}
 use Rattle.machine_types.specs.{Core.{may_begin, with_roots, how_ended, part_begins, next_threads, next}, HeldMonitors.held_at}
@@ -62,11 +62,7 @@ module _ (v : Locks) (count : ℕ → ℕ) (u : ℕ) (z y : Thread) (begins : Be
       by_side (inr fresh) = let plain = fresh_plain was y.phase fresh in stays was owns (counted_by was y.phase) (plain_knows v u (counted_by was y.phase) plain) (plain_saw v count (counted_by was y.phase) plain)
 
 drew_before : (z y : Thread) (r : ℕ) → Begins z y → drawn_by y.phase ≡ Some r → drawn_by z.phase ≡ Some r
-drew_before z y r begins e = by_side begins.phase
-  where
-    by_side : (y.phase ≡ z.phase) ⊎ StartsOrEnded y.phase → drawn_by z.phase ≡ Some r
-    by_side (inl same) = ap drawn_by (sym same) ∙ e
-    by_side (inr fresh) = absurd (fresh_draws_none y.phase r fresh e)
+drew_before z y r begins e = ⊎_elim (λ (same : y.phase ≡ z.phase). ap drawn_by (sym same) ∙ e) (λ (fresh : StartsOrEnded y.phase). absurd (fresh_draws_none y.phase r fresh e)) begins.phase
 
 -- ---- all
 

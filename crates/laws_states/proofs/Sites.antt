@@ -1,5 +1,5 @@
 -- No word stands for two things.
-use Rattle.std.proofs.Common.{◌≡◌, ◌≢◌, ◌⊎◌, inl, inr, ℕ, ◌+◌, ◌<◌, ◌≤◌, List, Some, refl, sym, ap, subst, ◌∙◌, arith, Contains, slice_get, slice_index}
+use Rattle.std.proofs.Common.{⊎_elim, ◌≡◌, ◌≢◌, ◌⊎◌, inl, inr, ℕ, ◌+◌, ◌<◌, ◌≤◌, List, Some, refl, sym, ap, subst, ◌∙◌, arith, Contains, slice_get, slice_index}
 use Rattle.lists.proofs.ListLaws.{same_some}
 use Rattle.jvm_types.specs.{ProgramInvariant.{IsProgram, words_of}, declared.{fixed_words.TheConstants.{FIRST_READY_WORD, NEXT_FREE_WORD}, program.Program.Program}}
 use Rattle.checked_program.specs.MarkedProgram.{MarkedProgram, IsMarked}
@@ -93,11 +93,9 @@ module _ (lies_apart : StartLiesApart) (c : MarkedProgram) (objects : List Objec
           by_side (inr h) = absurd (omega (arith, h, l.to, k.from, k.is))
 
   old_new : (a b x : ℕ) → InObject objects a x → InNew c.program s b x → ⊥
-  old_new a b x k l = by_side ((new_at b x l).beside k.object k.there)
-    where
-      by_side : (object_end k.object ≤ b) ⊎ (b + size_by c.program l.word ≤ k.object.reference) → ⊥
-      by_side (inl h) = omega (arith, h, k.to, l.from)
-      by_side (inr h) = omega (arith, h, l.to, k.from, k.is)
+  old_new a b x k l = ⊎_elim
+      (λ (h : object_end k.object ≤ b). omega (arith, h, k.to, l.from))
+      (λ (h : b + size_by c.program l.word ≤ k.object.reference). omega (arith, h, l.to, k.from, k.is)) ((new_at b x l).beside k.object k.there)
 
   old_single : (a w x : ℕ) → InObject objects a x → HasStatic c.program w → x ≡ w → ⊥
   old_single a w x k v e = by_side (facts.apart.mixed k.there.0 v.1.0 k.object v.0 (contained_got objects k.object k.there) (contained_got (start_statics c.program) v.0 v.1))
@@ -117,11 +115,9 @@ module _ (lies_apart : StartLiesApart) (c : MarkedProgram) (objects : List Objec
     where
       by_thread : (k.t ≡ l.t) ⊎ (k.t ≢ l.t) → a ≡ b
       by_thread (inl e) = made_is k.thread l.thread a b k.word l.word (same_some (sym k.there ∙ (ap (slice_get s.threads) e ∙ l.there))) k.made l.made
-      by_thread (inr n) = by_side (facts.new_objects.apart k.t l.t k.thread l.thread a b k.word l.word k.there l.there n k.made l.made)
-        where
-          by_side : (a + size_by c.program k.word ≤ b) ⊎ (b + size_by c.program l.word ≤ a) → a ≡ b
-          by_side (inl h) = absurd (omega (arith, h, k.to, l.from))
-          by_side (inr h) = absurd (omega (arith, h, l.to, k.from))
+      by_thread (inr n) = ⊎_elim
+          (λ (h : a + size_by c.program k.word ≤ b). absurd (omega (arith, h, k.to, l.from)))
+          (λ (h : b + size_by c.program l.word ≤ a). absurd (omega (arith, h, l.to, k.from))) (facts.new_objects.apart k.t l.t k.thread l.thread a b k.word l.word k.there l.there n k.made l.made)
 
   pub same_block : (b d : Block) (x : ℕ) → In b x → In d x → b ≡ d
   same_block Fixed Fixed x k l = refl

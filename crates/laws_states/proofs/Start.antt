@@ -9,7 +9,7 @@ use Rattle.laws_programs.proofs.FieldOrder.{one_static_field}
 use Rattle.checked_program.specs.MarkedProgram.{MarkedProgram, IsMarked}
 use Rattle.machine_types.specs.{Agreement.{Agrees, IsPending}, Core.{start, start_thread, part_phase}, FoundWords.IsHeader, Ints.word_of, ObjectsApart.{IsBeside, IsOutside, LieApart}}
 use Rattle.machine_types.specs.Parts.{init_roots}
-use Rattle.machine_types.specs.PlainMemory.{Object, StaticValue, object_end, header_of, value_in, has_value, first_value, object_value, static_value, objects_from, class_objects, start_objects, start_statics}
+use Rattle.machine_types.specs.PlainMemory.{Object, StaticValue, object_end, header_of, value_in, first_value, object_value, static_value, objects_from, class_objects, start_objects, start_statics}
 use Rattle.machine_types.specs.{PlainState.{plain_start, value_at}, ReadyObjects.ready_classes, StartLaws.{StartAgrees, StartIsTyped, StartIsUnused, StartLiesApart}}
 use Rattle.machine_types.specs.{StartWords.{statics_of, classes_of}, Threads.Thread, Typed.{Classes, KindHolds, HasClass, PlacesHold}, Words.{header, header_word}, declared.config.Config.Config}
 use Rattle.machine_types.specs.declared.phase.Phase.{Phase}
@@ -54,11 +54,7 @@ module _ (e : Object) (x : ℕ) where
       by_tests false false d p q r out = refl
 
   header_in : x ≡ header_word e.reference → value_in e x ≡ Some (header_of e)
-  header_in at = by_test (x == header_word e.reference) (grind (arith, nat_tests, at))
-    where
-      by_test : (b : Bool) → b ≡ true → (if b then Some (header_of e) else if has_value e x then slice_get e.values (x - first_value e) else None) ≡ Some (header_of e)
-      by_test true t = refl
-      by_test false t = absurd (cc)
+  header_in at = let same : (x == header_word e.reference) ≡ true = grind (arith, nat_tests, at) in rw same refl
 
 outside_all : (objects : List Object) (x : ℕ) → ((i : ℕ) (o : Object) → slice_get objects i ≡ Some o → IsOutside o x) → object_value objects x ≡ None
 outside_all [] x out = refl
@@ -81,14 +77,10 @@ header_at (e ∷ objects) (suc i) o apart g =
 static_at : (statics : List StaticValue) (j : ℕ) (v : StaticValue) → ((i k : ℕ) (a b : StaticValue) → slice_get statics i ≡ Some a → slice_get statics k ≡ Some b → i ≢ k → a.word ≢ b.word) → slice_get statics j ≡ Some v
     → static_value statics v.word ≡ Some v.value
 static_at [] j v differ g = absurd (cc)
-static_at (a ∷ statics) zero v differ g = by_test (a.word == v.word) (grind (arith, nat_tests, ap (λ (z : StaticValue). z.word) same))
-  where
-    same : a ≡ v
-    same = same_some g
-
-    by_test : (b : Bool) → b ≡ true → (if b then Some a.value else static_value statics v.word) ≡ Some v.value
-    by_test true t = ap (λ (z : StaticValue). Some z.value) same
-    by_test false t = absurd (cc)
+static_at (a ∷ statics) zero v differ g =
+    let same : a ≡ v = same_some g in
+    let here : (a.word == v.word) ≡ true = grind (arith, nat_tests, ap (λ (z : StaticValue). z.word) same) in
+    rw here (ap (λ (z : StaticValue). Some z.value) same)
 static_at (a ∷ statics) (suc j) v differ g = by_test (a.word == v.word) refl (static_at statics j v (λ i k x y p q n. differ (suc i) (suc k) x y p q (λ same. n (omega (arith, same)))) g)
   where
     by_test : (b : Bool) → (a.word == v.word) ≡ b → static_value statics v.word ≡ Some v.value → (if b then Some a.value else static_value statics v.word) ≡ Some v.value

@@ -1,5 +1,5 @@
 -- The bits of a word of waiting bits: what setting one, clearing one and looking for the lowest do.
-use Rattle.std.proofs.Common.{◌≡◌, ◌≢◌, ◌⊎◌, inl, inr, ℕ, zero, suc, ◌*◌, ◌^◌, ◌<◌, Bool, true, false, not, cond, List, [], ◌∷◌, Some, refl, sym, ap, ◌∙◌, arith, ◌==◌, bit_and, bit_or, find}
+use Rattle.std.proofs.Common.{⊎_elim, ◌≡◌, ◌≢◌, ◌⊎◌, inl, inr, ℕ, zero, suc, ◌*◌, ◌^◌, ◌<◌, Bool, true, false, not, cond, List, [], ◌∷◌, Some, refl, sym, ap, ◌∙◌, arith, ◌==◌, bit_and, bit_or, find}
 use Rattle.std.{specs.{Int.bit_at, List.{AllByRecursion, range_with_len}, Prelude.unwrap_or}, proofs.lemmas.{Bool.Decides.nat_tests, Nat.pow_pos}}
 use Rattle.std.proofs.lemmas.Nat.Bits.{and_pow, bit_at_and, bit_at_or, bit_at-lt, bit_at-zero, bit_at-pow_same, bit_at-pow_other, same_from_bits_below}
 use Rattle.jvm_types.specs.Numbers.{has_flag}
@@ -82,8 +82,6 @@ all_nine n h (suc (suc (suc (suc (suc (suc (suc (suc (suc i))))))))) lt = absurd
 
 -- of bits of which some is set
 pub lowest_set : (n : ℕ) → n < 2 ^ 9 → n ≢ 0 → has_flag (bit_of (lowest_of n)) n ≡ true
-lowest_set n few some = by_found (found_or_none (λ t. has_flag (bit_of t) n) (range_with_len 0 9))
-  where
-    by_found : (has_flag (bit_of (lowest_of n)) n ≡ true) ⊎ AllByRecursion (λ t. has_flag (bit_of t) n ≡ false) (range_with_len 0 9) → has_flag (bit_of (lowest_of n)) n ≡ true
-    by_found (inl h) = h
-    by_found (inr h) = absurd (some (same_from_bits_below 9 n 0 few (omega arith) (all_nine n h)))
+lowest_set n few some = ⊎_elim
+    (λ (h : has_flag (bit_of (lowest_of n)) n ≡ true). h)
+    (λ (h : AllByRecursion (λ t. has_flag (bit_of t) n ≡ false) (range_with_len 0 9)). absurd (some (same_from_bits_below 9 n 0 few (omega arith) (all_nine n h)))) (found_or_none (λ t. has_flag (bit_of t) n) (range_with_len 0 9))

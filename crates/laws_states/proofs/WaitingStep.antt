@@ -1,5 +1,5 @@
 -- One event of a thread changes the waiting bits of one record: what it has to show of them, and of the thread.
-use Rattle.std.proofs.Common.{◌≡◌, ◌≢◌, ◌⊎◌, inl, inr, ℕ, zero, suc, ◌+◌, ◌<◌, Bool, true, false, cond, List, [], ◌∷◌, Option, Some, None, refl, sym, ap, ◌∙◌, subst, arith, ◌==◌, IsSome, slice_get, slice_set}
+use Rattle.std.proofs.Common.{⊎_elim, ◌≡◌, ◌≢◌, ◌⊎◌, inl, inr, ℕ, zero, suc, ◌+◌, ◌<◌, Bool, true, false, cond, List, ◌∷◌, Option, Some, None, refl, sym, ap, ◌∙◌, subst, arith, ◌==◌, IsSome, slice_get, slice_set}
 use Rattle.std.proofs.lemmas.Bool.{eqb-false, Decides.Decides-eqb}
 use Rattle.jvm_types.specs.declared.fixed_words.TheConstants.{MONITOR_RECORDS}
 use Rattle.machine_types.specs.{HeldMonitors.held_at, Owners.{Locks, HeldFat, hold_by_kept, hold_by_list}, Structure.IsFat}
@@ -99,11 +99,9 @@ module _ (waiter : WaitMover) (behind : BitsBehind waiter.mover) where
       by_number false g = others_wait u z (eqb-false u t g) (sym (set_other s.threads t u y g) ∙ e)
 
   others_there : (r u : ℕ) → r < MONITOR_RECORDS → is_bit_set after r u ≡ true → IsSome (slice_get (slice_set s.threads t y) u)
-  others_there r u low set = by_number (same_or_not u t)
-    where
-      by_number : (u ≡ t) ⊎ (u ≢ t) → IsSome (slice_get (slice_set s.threads t y) u)
-      by_number (inl same) = some_stays s.threads t u y (subst (λ (n : ℕ). IsSome (slice_get s.threads n)) (sym same) (subst (λ (o : Option Thread). IsSome o) (sym there) refl))
-      by_number (inr d) = some_stays s.threads t u y (waiting.others r u low (changes.less r u low d set))
+  others_there r u low set = ⊎_elim
+      (λ (same : u ≡ t). some_stays s.threads t u y (subst (λ (n : ℕ). IsSome (slice_get s.threads n)) (sym same) (subst (λ (o : Option Thread). IsSome o) (sym there) refl)))
+      (λ (d : u ≢ t). some_stays s.threads t u y (waiting.others r u low (changes.less r u low d set))) (same_or_not u t)
 
   pub waited_on : Waiting (counted_phase_at was t (slice_set s.threads t y)) (record { words = after; threads = slice_set s.threads t y })
   waited_on = record { each = each_waits; others = others_there }
