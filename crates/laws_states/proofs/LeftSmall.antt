@@ -104,16 +104,9 @@ leave_is_locking (Tries a) = tt
 leave_is_locking HasNot = tt
 
 pub content_is_locking : (c : MarkedProgram) (s : Thread) (phase : Phase) → IsLockingPhase phase → IsLocking (content_at c s phase)
-content_is_locking c s phases.Idle is = absurd is
-content_is_locking c s phases.Start is = absurd is
 content_is_locking c s phases.Run is = absurd is
-content_is_locking c s (phases.Element word stored) is = absurd is
-content_is_locking c s (phases.Made a word) is = absurd is
-content_is_locking c s (phases.Grow m toward) is = absurd is
-content_is_locking c s (phases.Ending e) is = absurd is
-content_is_locking c s (phases.Ended e) is = absurd is
 content_is_locking c s (phases.Leave m a) is = leave_is_locking (claim s m)
-content_is_locking c s phase is = tt
+content_is_locking c s phase is = is
 
 -- where a word for locking is left as one
 pub left_small : (c : MarkedProgram) (s : Thread) (phase : Phase) (access : Access) (got : ℕ) → s.cfg.range < 2 ^ 61 → wanted c s phase ≡ Some access → Small got → SumFits access got → PhaseStores c s phase

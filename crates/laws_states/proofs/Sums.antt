@@ -65,7 +65,8 @@ module _ (state : LawfulState) (width : HaveWidth state.cfg) where
   pub sums_fit : CountersFit c.program s → (access : Access) (began drew : ℕ) → began ≤ 1 → drew ≤ 1 → AddsFew access began drew → SumFits access (slice_index s.words (accessed access))
   sums_fit counters access began drew one once few w v e =
       let same : Add w v ≡ access = same_some e in
-      subst (λ (a : Access). slice_index s.words (accessed a) + v < 2 ^ 64) same (by_counter (subst (λ (a : Access). AddsFew a began drew) (sym same) few))
+      subst (λ (a : Access). slice_index s.words (accessed a) + v < 2 ^ 64) same
+          (by_word (subst (λ (a : Access). AddsFew a began drew) (sym same) few) (subst (λ (a : Access). AddsFew a began drew) (sym same) few).counted)
     where
       at : (n : ℕ) → w ≡ n → slice_index s.words w ≡ slice_index s.words n
       at n k = ap (slice_index s.words) k
@@ -74,9 +75,6 @@ module _ (state : LawfulState) (width : HaveWidth state.cfg) where
       by_word few (inl k) = omega (arith, at NEXT_FREE_WORD k, few.free k, one, counters.free, instructions_few, marked.checked.program.words, marked.checked.program.heap_to)
       by_word few (inr (inl k)) = omega (arith, at NEXT_TICKET_WORD k, few.tickets k, one, counters.tickets, instructions_few)
       by_word few (inr (inr k)) = omega (arith, at NEXT_RECORD_WORD k, few.records k, once, counters.records, taken_few)
-
-      by_counter : AddsFew (Add w v) began drew → slice_index s.words w + v < 2 ^ 64
-      by_counter few = by_word few few.counted
 
 -- ---- an event
 

@@ -24,14 +24,11 @@ use Rattle.laws_threads.proofs.ThreadMove as moves
 as_many : (a f g n : ℕ) → a + f ≡ n → g ≡ f → a + g ≡ n
 as_many a f g n e h = omega (arith, e, h)
 
-spread : (m k : ℕ) → m * suc k ≡ m * k + m
-spread m k = grind arith
-
 one_instruction : (m steps i t u r f g : ℕ) → i < steps → u ≤ m → g ≤ suc f → (m + 2) * (steps - (i + 1)) + (m - u) + r + g < (m + 2) * (steps - i) + (m - t) + r + f
 one_instruction m steps i t u r f g h turns frames =
     let k : ℕ = steps - (i + 1) in
     let same : steps - i ≡ suc k = omega (arith, h) in
-    rw same (by_sum ((m + 2) * k) ((m + 2) * suc k) (spread (m + 2) k))
+    rw same (by_sum ((m + 2) * k) ((m + 2) * suc k) (grind arith))
   where
     by_sum : (a b : ℕ) → b ≡ a + (m + 2) → a + (m - u) + r + g < b + (m - t) + r + f
     by_sum a b e = omega (arith, e, frames)
