@@ -193,9 +193,12 @@ next_keeps c objects was s facts structure = record {
         (λ (fresh : StartsOrEnded y.phase). absurd (subst StartsOrEnded m fresh)) k.phase
 
     monitors : (u : ℕ) (y z : Thread) → slice_get s.threads u ≡ Some z → Begins z y → HoldsObjects (HasClass objects) y
-    monitors u y z g k = record { held = subst (AllHeld (HasClass objects)) (sym k.held) (facts.monitors u z g).held; waits = ⊎_elim
-        (λ (same : y.phase ≡ z.phase). let m = facts.monitors u z g in subst (IsWaitOn (HasClass objects)) (sym same) m.waits)
-        (λ (fresh : StartsOrEnded y.phase). no_wait (HasClass objects) y.phase fresh) k.phase }
+    monitors u y z g k = record {
+      held = subst (AllHeld (HasClass objects)) (sym k.held) (facts.monitors u z g).held;
+      waits = ⊎_elim
+          (λ (same : y.phase ≡ z.phase). let m = facts.monitors u z g in subst (IsWaitOn (HasClass objects)) (sym same) m.waits)
+          (λ (fresh : StartsOrEnded y.phase). no_wait (HasClass objects) y.phase fresh) k.phase;
+    }
 
     new_object_kept : (u : ℕ) (y : Thread) (a word : ℕ) → slice_get (next c s).threads u ≡ Some y → y.phase ≡ phases.Made a word → IsNewObject c.program objects (next c s) a (size_by c.program word)
     new_object_kept u y a word e m =

@@ -41,9 +41,7 @@ bits_suit_none site lock suits = lock
 -- another counter, or a header, is none of them
 any_is_record : (site : Site) → IsLockSite site → Suits Any site → site_word site ≡ NEXT_RECORD_WORD
 any_is_record (Counter w) lock suits = lock
-any_is_record (LockOf r) lock suits = absurd suits
-any_is_record (OwnerOf r) lock suits = absurd suits
-any_is_record site lock suits = absurd lock
+any_is_record site lock suits = absurd (assumption)
 
 -- ---- accesses that leave them
 

@@ -57,10 +57,7 @@ still_leaves c s phases.Run r access n is suits w = absurd (run_not c.program (t
 still_leaves c s (phases.Leave m a) r access n is suits w = absurd (leave_not (claim s m) r suits)
 still_leaves c s (phases.WaitLook m k depth) r access n is suits w = let same : Load (bits_word k) ≡ access = cc in ap (λ (a : Access). left_by a n) (sym same)
 still_leaves c s (phases.NotifyLook m k) r access n is suits w = let same : Load (bits_word k) ≡ access = cc in ap (λ (a : Access). left_by a n) (sym same)
-still_leaves c s (phases.WaitBit m k) r access n is suits w = absurd is
-still_leaves c s (phases.NotifyOne m k u) r access n is suits w = absurd is
-still_leaves c s (phases.NotifyAll m k) r access n is suits w = absurd is
-still_leaves c s phase r access n is suits w = absurd suits
+still_leaves c s phase r access n is suits w = absurd (assumption)
 
 -- ---- words
 

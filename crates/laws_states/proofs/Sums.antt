@@ -66,7 +66,7 @@ module _ (state : LawfulState) (width : HaveWidth state.cfg) where
   sums_fit counters access began drew one once few w v e =
       let same : Add w v ≡ access = same_some e in
       subst (λ (a : Access). slice_index s.words (accessed a) + v < 2 ^ 64) same
-          (by_word (subst (λ (a : Access). AddsFew a began drew) (sym same) few) (subst (λ (a : Access). AddsFew a began drew) (sym same) few).counted)
+      (by_word (subst (λ (a : Access). AddsFew a began drew) (sym same) few) (subst (λ (a : Access). AddsFew a began drew) (sym same) few).counted)
     where
       at : (n : ℕ) → w ≡ n → slice_index s.words w ≡ slice_index s.words n
       at n k = ap (slice_index s.words) k

@@ -63,9 +63,7 @@ module _ (c : MarkedProgram) (marked : IsMarked c) where
   stored_taken : (m n : MethodInfo) (pc : ℕ) (target : Target) (op : Op) (word v : ℕ) (s : List ℕ) → is_element_op (Some v) op ≡ true → TakenHold n (within c.program) (row c.program m pc target op).takes s
       → IsElementOn word (Some v) s → v < 2 ^ 64
   stored_taken m n pc target ops.Iastore word v (w ∷ i ∷ a ∷ s) e taken on = let small = taken.0 in omega (arith, on.1, small)
-  stored_taken m n pc target ops.Iastore word v (w ∷ i ∷ []) e taken on = absurd on
-  stored_taken m n pc target ops.Iastore word v (w ∷ []) e taken on = absurd on
-  stored_taken m n pc target ops.Iastore word v [] e taken on = absurd on
+  stored_taken m n pc target ops.Iastore word v s e taken on = absurd on
   stored_taken m n pc target op word v s e taken on = absurd (let bad : false ≡ true = e in cc)
 
   pub stored_small : (fs : List Frame) (word v : ℕ) → FramesHold c (within c.program) fs → TopIs c (is_element_op (Some v)) fs → ElementStands word (Some v) fs → v < 2 ^ 64
