@@ -291,11 +291,8 @@ module _ (p : Program) (tags : Tagged) (program : IsProgram p) (all : AreTagged 
         either (inr none) (inr last) = inr (λ o l. ⊎_elim (λ (q : o.fi ≡ n). last o q) (λ (q : o.fi ≢ n). none o (omega (arith, l, q))) (cases_eq o.fi n))
 
     decided : Found ⊎ (Found → ⊥)
-    decided = either (search (length p.fields))
-      where
-        either : Found ⊎ ((o : Found) → o.fi < length p.fields → ⊥) → Found ⊎ (Found → ⊥)
-        either (inl x) = inl x
-        either (inr none) = inr (λ o. none o (slice_get_within p.fields o.fi o.owned.field o.owned.is))
+    decided = ⊎_elim
+        (λ (x : Found). inl x) (λ (none : (o : Found) → o.fi < length p.fields → ⊥). inr (λ o. none o (slice_get_within p.fields o.fi o.owned.field o.owned.is))) (search (length p.fields))
 
 pub owned_is_decided : OwnedIsDecided
 owned_is_decided p tags uses mi i k m insn target f program all a at = decided p tags program all mi i k (record { m = m; insn = insn; target = target; f = f; at = at }) uses a

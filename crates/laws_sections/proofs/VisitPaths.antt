@@ -1,6 +1,6 @@
 -- The course of the visits of any kind: under the last frames each instruction is sound, and what goes along the edges from
 -- the start on holds of every instruction with a frame.
-use Rattle.std.proofs.Common.{◌≡◌, ℕ, zero, suc, length, length-set, Bool, true, false, cond, List, [], ◌∷◌, map, Option, Some, None, Result, Ok, ◌⊎◌, inl, inr, refl, sym, ap, ◌∙◌, subst, ◌==◌, slice_get, slice_set}
+use Rattle.std.proofs.Common.{⊎_elim, ◌≡◌, ℕ, zero, suc, length, length-set, Bool, true, false, cond, List, [], ◌∷◌, map, Option, Some, None, Result, Ok, ◌⊎◌, inl, inr, refl, sym, ap, ◌∙◌, subst, ◌==◌, slice_get, slice_set}
 use Rattle.std.{specs.List.AllByRecursion, proofs.lemmas.{List.length-map, Option.same_Some}}
 use Rattle.jvm_types.{specs.declared.code.Insn.Insn, proofs.EachAfter.all_weaker}
 use Rattle.laws_programs.proofs.LocalGoing.{got_set}
@@ -46,11 +46,9 @@ module _ {A R : Type 0} (p : Plan A R) (Below : A → A → Type 0) (order : Ord
 
   -- soundness looks at frames alone
   lands_cleared : (nodes : List (PlanNode A)) (i : ℕ) (node : PlanNode A) (f : A) (to : ℕ) → slice_get nodes i ≡ Some node → LandsOn p.meeting Below order p.code nodes f to → LandsOn p.meeting Below order p.code (slice_set nodes i (cleared node)) f to
-  lands_cleared nodes i node f to e l j b first k = either (got_set nodes i j (cleared node) b k)
-    where
-      either : ((j ≡ i) × (cleared node ≡ b)) ⊎ (slice_get nodes j ≡ Some b) → IsBelow p.meeting Below order (Some f) b.frame
-      either (inl h) = subst (λ (n : PlanNode A). IsBelow p.meeting Below order (Some f) n.frame) h.1 (l j node first (ap (slice_get nodes) h.0 ∙ e))
-      either (inr h) = l j b first h
+  lands_cleared nodes i node f to e l j b first k = ⊎_elim
+      (λ (h : (j ≡ i) × (cleared node ≡ b)). subst (λ (n : PlanNode A). IsBelow p.meeting Below order (Some f) n.frame) h.1 (l j node first (ap (slice_get nodes) h.0 ∙ e)))
+      (λ (h : slice_get nodes j ≡ Some b). l j b first h) (got_set nodes i j (cleared node) b k)
 
   act_cleared : (nodes : List (PlanNode A)) (i : ℕ) (node : PlanNode A) → slice_get nodes i ≡ Some node → (act : Act A R) → IsActFine p.meeting Below order p.code nodes act → IsActFine p.meeting Below order p.code (slice_set nodes i (cleared node)) act
   act_cleared nodes i node e (Break rule pc) s = s
@@ -217,11 +215,9 @@ module _ {A R : Type 0} (p : Plan A R) (Below : A → A → Type 0) (order : Ord
       unclashed None more e = e
 
   cleared_live : (L : ℕ → A → Type 0) (nodes : List (PlanNode A)) (i : ℕ) (node : PlanNode A) → slice_get nodes i ≡ Some node → AreLive L nodes → AreLive L (slice_set nodes i (cleared node))
-  cleared_live L nodes i node e all j b g k h = either (got_set nodes i j (cleared node) b k)
-    where
-      either : ((j ≡ i) × (cleared node ≡ b)) ⊎ (slice_get nodes j ≡ Some b) → L j g
-      either (inl x) = all j node g (ap (slice_get nodes) x.0 ∙ e) (ap (λ (n : PlanNode A). n.frame) x.1 ∙ h)
-      either (inr x) = all j b g x h
+  cleared_live L nodes i node e all j b g k h = ⊎_elim
+      (λ (x : (j ≡ i) × (cleared node ≡ b)). all j node g (ap (slice_get nodes) x.0 ∙ e) (ap (λ (n : PlanNode A). n.frame) x.1 ∙ h))
+      (λ (x : slice_get nodes j ≡ Some b). all j b g x h) (got_set nodes i j (cleared node) b k)
 
   visited_live : (L : ℕ → A → Type 0) → Meets L → (i : ℕ) (nodes mid : List (PlanNode A)) → AreLive L nodes → ((node : PlanNode A) (f : A) → slice_get nodes i ≡ Some node → node.frame ≡ Some f → ActsLead L (p.acts i f)) → plan_visited p i nodes ≡ Ok mid → AreLive L mid
   visited_live L meets i nodes mid all lead made = by_node (slice_get nodes i) refl made
@@ -243,16 +239,14 @@ module _ {A R : Type 0} (p : Plan A R) (Below : A → A → Type 0) (order : Ord
   framed_on (i ∷ is) nodes last v j f a = framed_on is v.1 last v.3 j f (by_visit (HasFrame j f v.1) i nodes v.1 v.2 (λ node x. onto node x) (λ same. subst (HasFrame j f) same a))
     where
       onto : (node : PlanNode A) → IsVisit i node nodes v.1 → HasFrame j f v.1
-      onto node x = either (set_to nodes i j (cleared node) node a.0 x.there a.1)
+      onto node x = ⊎_elim
+          (λ (h : (a.0 ≡ node) × (slice_get (slice_set nodes i (cleared node)) j ≡ Some (cleared node))). rise (cleared node) h.1 (subst (λ (n : PlanNode A). IsBelow p.meeting Below order (Some f) n.frame) h.0 a.2))
+          (λ (h : slice_get (slice_set nodes i (cleared node)) j ≡ Some a.0). rise a.0 h a.2) (set_to nodes i j (cleared node) node a.0 x.there a.1)
         where
           rise : (c : PlanNode A) → slice_get (slice_set nodes i (cleared node)) j ≡ Some c → IsBelow p.meeting Below order (Some f) c.frame → HasFrame j f v.1
           rise c h l =
               let r = risen_to p.meeting Below order (slice_set nodes i (cleared node)) v.1 j c x.risen h in
               (r.0, r.1, frame_trans p.meeting Below order (Some f) c.frame r.0.frame l r.2)
-
-          either : ((a.0 ≡ node) × (slice_get (slice_set nodes i (cleared node)) j ≡ Some (cleared node))) ⊎ (slice_get (slice_set nodes i (cleared node)) j ≡ Some a.0) → HasFrame j f v.1
-          either (inl h) = rise (cleared node) h.1 (subst (λ (n : PlanNode A). IsBelow p.meeting Below order (Some f) n.frame) h.0 a.2)
-          either (inr h) = rise a.0 h a.2
 
   pub final_frame : (frames : List (Option A)) (s : IsSettled frames) (j : ℕ) (f : A) → HasFrame j f s.last → (g : A) × (slice_get frames j ≡ Some (Some g))
   final_frame frames s j f b =
