@@ -25,4 +25,13 @@ few_constant p pc target op = omega arith
 
 pub few_given : (p : Program) (m : MethodInfo) (pc : ℕ) (target : Target) (op : Op) → length (row p m pc target op).gives ≤ 4
 few_given p m pc target (ops.Ldc i) = few_constant p pc target (ops.Ldc i)
-few_given p m pc target op = omega (arith, few_constant p pc target op)
+few_given p m pc target (ops.LdcW i) = few_constant p pc target (ops.LdcW i)
+few_given p m pc target (ops.Getstatic i) = few_constant p pc target (ops.Getstatic i)
+few_given p m pc target (ops.Putstatic i) = few_constant p pc target (ops.Putstatic i)
+few_given p m pc target (ops.Getfield i) = few_constant p pc target (ops.Getfield i)
+few_given p m pc target (ops.Putfield i) = few_constant p pc target (ops.Putfield i)
+few_given p m pc target (ops.Invokevirtual i) = few_constant p pc target (ops.Invokevirtual i)
+few_given p m pc target (ops.Invokespecial i) = few_constant p pc target (ops.Invokespecial i)
+few_given p m pc target (ops.Invokestatic i) = few_constant p pc target (ops.Invokestatic i)
+few_given p m pc target (ops.New i) = few_constant p pc target (ops.New i)
+few_given p m pc target op = omega arith
