@@ -49,11 +49,7 @@ module _ (p : Program) (objects : List Object) (s : Core) (q : Plain) (t : ℕ) 
 
   -- one that makes an object is another, before and after
   made_before : (u : ℕ) (z : Thread) (a word : ℕ) → slice_get (slice_set s.threads t x) u ≡ Some z → z.phase ≡ phases.Made a word → slice_get s.threads u ≡ Some z
-  made_before u z a word e m = by_side (by_thread u z e)
-    where
-      by_side : ((u ≡ t) × (z ≡ x)) ⊎ ((u ≢ t) × (slice_get s.threads u ≡ Some z)) → slice_get s.threads u ≡ Some z
-      by_side (inl h) = absurd (k.new a word (sym (ap (λ (w : Thread). w.phase) h.1) ∙ m))
-      by_side (inr h) = h.1
+  made_before u z a word e m = elim (by_thread u z e) [ inl h ↦ absurd (k.new a word (sym (ap (λ (w : Thread). w.phase) h.1) ∙ m)) | inr h ↦ h.1 ]
 
   made_after : (u : ℕ) (z : Thread) (a word : ℕ) → slice_get s.threads u ≡ Some z → z.phase ≡ phases.Made a word → slice_get (slice_set s.threads t x) u ≡ Some z
   made_after u z a word e m = got_other s.threads t u x apart ∙ e
@@ -63,16 +59,10 @@ module _ (p : Program) (objects : List Object) (s : Core) (q : Plain) (t : ℕ) 
           let one : z ≡ was = same_some (sym e ∙ ap (slice_get s.threads) h ∙ here) in
           k.old a word (sym (ap (λ (w : Thread). w.phase) one) ∙ m)
 
-  pending_after : (n : ℕ) → IsPending s.threads n → IsPending (slice_set s.threads t x) n
-  pending_after n h = (h.0, h.1, h.2, h.3, made_after h.0 h.1 h.2 h.3 h.4 h.5, h.5, h.6)
-
-  being_made : (reference : ℕ) → IsBeingMade s.threads reference → IsBeingMade (slice_set s.threads t x) reference
-  being_made reference h = (h.0, h.1, h.2, made_after h.0 h.1 reference h.2 h.3 h.4, h.4)
-
   pub stands_beside : StandsBeside p objects (record { words = words; threads = slice_set s.threads t x }) (record q { holdings = holdings; threads = plains; prints = prints })
   stands_beside = record {
     agrees = record {
-      places = λ n v e d. k.places n v e ∙ beside.agrees.places n v e (λ h. d (pending_after n h));
+      places = λ n v e d. k.places n v e ∙ beside.agrees.places n v e (λ h. d ((h.0, h.1, h.2, h.3, made_after h.0 h.1 h.2 h.3 h.4 h.5, h.5, h.6)));
       next = k.next ∙ beside.agrees.next;
       prints = k.printed;
       monitors = k.monitors;
@@ -89,7 +79,7 @@ module _ (p : Program) (objects : List Object) (s : Core) (q : Plain) (t : ℕ) 
     where
       by_side : (e : Object) → IsAmong objects e.reference ⊎ IsBeingMade s.threads e.reference → IsAmong objects e.reference ⊎ IsBeingMade (slice_set s.threads t x) e.reference
       by_side e (inl h) = inl h
-      by_side e (inr h) = inr (being_made e.reference h)
+      by_side e (inr h) = inr ((h.0, h.1, h.2, made_after h.0 h.1 e.reference h.2 h.3 h.4, h.4))
 
       new_object : {a word : ℕ} → IsPlainNew p q a word → IsPlainNew p (record q { holdings = holdings; threads = plains; prints = prints }) a word
       new_object h = record { object = h.object; there = h.there; reference = h.reference; class = h.class; values = h.values; header = h.header }

@@ -25,30 +25,15 @@ module _ (threads : List Thread) (t : ℕ) (x new : Thread)
       ap (λ (y : Thread). y.phase) (sym one) ∙ m
 
   pub pending_on : MakesNone x.phase → (n : ℕ) → IsPending threads n → IsPending later n
-  pending_on none n k = by_thread (same_or_not k.0 t)
-    where
-      by_thread : (k.0 ≡ t) ⊎ (k.0 ≢ t) → IsPending later n
-      by_thread (inl same) = absurd (none k.2 k.3 (own_phase k.0 k.1 k.2 k.3 k.4 k.5 same))
-      by_thread (inr d) = (k.0, k.1, k.2, k.3, got_other threads t k.0 new d ∙ k.4, k.5, k.6)
+  pending_on none n k = elim (same_or_not k.0 t)
+      [ inl same ↦ absurd (none k.2 k.3 (own_phase k.0 k.1 k.2 k.3 k.4 k.5 same)) | inr d ↦ (k.0, k.1, k.2, k.3, got_other threads t k.0 new d ∙ k.4, k.5, k.6) ]
 
   pub making_on : MakesNone x.phase → (a : ℕ) → IsBeingMade threads a → IsBeingMade later a
-  making_on none a k = by_thread (same_or_not k.0 t)
-    where
-      by_thread : (k.0 ≡ t) ⊎ (k.0 ≢ t) → IsBeingMade later a
-      by_thread (inl same) = absurd (none a k.2 (own_phase k.0 k.1 a k.2 k.3 k.4 same))
-      by_thread (inr d) = (k.0, k.1, k.2, got_other threads t k.0 new d ∙ k.3, k.4)
+  making_on none a k = elim (same_or_not k.0 t) [ inl same ↦ absurd (none a k.2 (own_phase k.0 k.1 a k.2 k.3 k.4 same)) | inr d ↦ (k.0, k.1, k.2, got_other threads t k.0 new d ∙ k.3, k.4) ]
 
   -- one that makes an object made it before, but for the thread itself
   pub made_before : (u : ℕ) (z : Thread) (a word : ℕ) → slice_get later u ≡ Some z → z.phase ≡ phases.Made a word → (new.phase ≡ phases.Made a word) ⊎ ((u ≢ t) × (slice_get threads u ≡ Some z))
-  made_before u z a word e m = by_thread (same_or_not u t)
-    where
-      by_thread : (u ≡ t) ⊎ (u ≢ t) → (new.phase ≡ phases.Made a word) ⊎ ((u ≢ t) × (slice_get threads u ≡ Some z))
-      by_thread (inl same) = inl (own_new u z a word e m same)
-      by_thread (inr d) = inr (d, sym (got_other threads t u new d) ∙ e)
+  made_before u z a word e m = elim (same_or_not u t) [ inl same ↦ inl (own_new u z a word e m same) | inr d ↦ inr (d, sym (got_other threads t u new d) ∙ e) ]
 
   pub made_by_others : MakesNone new.phase → (u : ℕ) (z : Thread) (a word : ℕ) → slice_get later u ≡ Some z → z.phase ≡ phases.Made a word → slice_get threads u ≡ Some z
-  made_by_others none u z a word e m = by_thread (made_before u z a word e m)
-    where
-      by_thread : (new.phase ≡ phases.Made a word) ⊎ ((u ≢ t) × (slice_get threads u ≡ Some z)) → slice_get threads u ≡ Some z
-      by_thread (inl f) = absurd (none a word f)
-      by_thread (inr k) = k.1
+  made_by_others none u z a word e m = elim (made_before u z a word e m) [ inl f ↦ absurd (none a word f) | inr k ↦ k.1 ]

@@ -34,29 +34,30 @@ no_extra None phase k = refl
 -- ---- ways to go on
 
 pub ran : (s : Thread) → Calm s (runs s)
-ran s = record { instructions = refl; sections = refl; prints = refl; phase = by_test (nat_lt s.counts.instructions s.cfg.steps) }
-  where
-    by_test : (b : Bool) → IsCalm (if b then phases.Run else phases.Ending ends.Steps)
-    by_test true = tt
-    by_test false = tt
+ran s = record {
+  instructions = refl;
+  sections = refl;
+  prints = refl;
+  phase = elim (nat_lt s.counts.instructions s.cfg.steps) as (λ (b : Bool). IsCalm (if b then phases.Run else phases.Ending ends.Steps))
+      [ true ↦ tt | false ↦ tt ];
+}
 
 pub failed : (s : Thread) (phase : Phase) → IsCalm phase → Calm s (failed_turn s phase)
-failed s phase k = record { instructions = refl; sections = refl; prints = refl; phase = by_test (nat_lt (s.turns + 1) s.cfg.turns) }
-  where
-    by_test : (b : Bool) → IsCalm (if b then phase else phases.Ending ends.Turns)
-    by_test true = k
-    by_test false = tt
+failed s phase k = record {
+  instructions = refl;
+  sections = refl;
+  prints = refl;
+  phase = elim (nat_lt (s.turns + 1) s.cfg.turns) as (λ (b : Bool). IsCalm (if b then phase else phases.Ending ends.Turns))
+      [ true ↦ k | false ↦ tt ];
+}
 
 pub goes : (s : Thread) (o : Onward) → Calm s (goes_on s o)
 goes s (Running frames) = let h = ran (record s { frames = frames }) in record { instructions = refl; sections = refl; prints = refl; phase = h.phase }
 goes s (Throwing x class frames) = record { instructions = refl; sections = refl; prints = refl; phase = tt }
 goes s (Entering m frames) = record { instructions = refl; sections = refl; prints = refl; phase = tt }
 goes s (Leaving m a frames) = record { instructions = refl; sections = refl; prints = refl; phase = tt }
-goes s RootReturned = by_roots s.roots
-  where
-    by_roots : (roots : List ℕ) → Calm s (goes_on (record s { roots = roots }) RootReturned)
-    by_roots [] = record { instructions = refl; sections = refl; prints = refl; phase = tt }
-    by_roots (number ∷ roots) = record { instructions = refl; sections = refl; prints = refl; phase = tt }
+goes s RootReturned = elim s.roots as (λ (roots : List ℕ). Calm s (goes_on (record s { roots = roots }) RootReturned))
+    [ [] ↦ record { instructions = refl; sections = refl; prints = refl; phase = tt } | number ∷ roots ↦ record { instructions = refl; sections = refl; prints = refl; phase = tt } ]
 goes s (Uncaught class) = record { instructions = refl; sections = refl; prints = refl; phase = tt }
 
 pub goes_if : (s : Thread) (o : Option Onward) → IsCalm s.phase → Calm s (goes_on_if s o)

@@ -49,11 +49,8 @@ pub record FirstStep (p : Program) (q after : Plain) (step : PlainStep) (steps :
   pub rest : plain_run p to steps ≡ Some after
 
 pub first_step : (p : Program) (q after : Plain) (step : PlainStep) (steps : List PlainStep) → plain_run p q (step ∷ steps) ≡ Some after → FirstStep p q after step steps
-first_step p q after step steps e = by_step (plain_step p q step) refl e
-  where
-    by_step : (o : Option Plain) → plain_step p q step ≡ o → option_and_then (λ r. plain_run p r steps) o ≡ Some after → FirstStep p q after step steps
-    by_step None f g = absurd (cc)
-    by_step (Some r) f g = record { to = r; first = f; rest = g }
+first_step p q after step steps e = (elim (plain_step p q step) as (λ (o : Option Plain). plain_step p q step ≡ o → option_and_then (λ r. plain_run p r steps) o ≡ Some after → FirstStep p q after step steps)
+    [ None ↦ λ f g. absurd (cc) | Some r ↦ λ f g. record { to = r; first = f; rest = g } ]) refl e
 
 -- a thread x makes its act in its status
 pub first_by : (p : Program) (q after : Plain) (t : ℕ) (x : PlainThread) (act : Act) (status : Status) (more : List Act) → slice_get q.threads t ≡ Some x → x.status ≡ status → plain_run p q (steps_of t (act ∷ more)) ≡ Some after
@@ -98,11 +95,8 @@ calmly extra n s x runs takes h r k =
 -- a monitor that a thread takes is free, and one that it enters again is not
 free_by : (p : Program) (q r : Plain) (t m : ℕ) (x : PlainThread) (o : Option Holding) → depth_for t o ≡ None → plain_entered q t m x o ≡ Some r → is_free o ≡ true
 free_by p q r t m x None d e = refl
-free_by p q r t m x (Some h) d e = by_test (h.holder == t) _ d e
-  where
-    by_test : (b : Bool) (next : Plain) → cond b (Some h.depth) None ≡ None → cond b (Some next) None ≡ Some r → false ≡ true
-    by_test true next f g = absurd (cc)
-    by_test false next f g = absurd (cc)
+free_by p q r t m x (Some h) d e = (elim (h.holder == t) as (λ (b : Bool). (next : Plain) → cond b (Some h.depth) None ≡ None → cond b (Some next) None ≡ Some r → false ≡ true)
+    [ true ↦ λ next f g. absurd (cc) | false ↦ λ next f g. absurd (cc) ]) _ d e
 
 not_free : (t depth : ℕ) (o : Option Holding) → depth_for t o ≡ Some depth → is_free o ≡ false
 not_free t depth None d = absurd (cc)
@@ -177,11 +171,7 @@ module _ (turn : Turn) (after : Plain) (got : ℕ) where
   quiet_release y (keeps.Fat r) = ((refl, refl), tt)
 
   quiet_leave : (y : Thread) (k : Claim) → AreQuiet (leave_acts y k got)
-  quiet_leave y (Has h) = by_depth (nat_lt 1 h.depth)
-    where
-      by_depth : (b : Bool) → AreQuiet (if b then acts.Exit ∷ [] else release_acts y h.kept got)
-      by_depth true = ((refl, refl), tt)
-      by_depth false = quiet_release y h.kept
+  quiet_leave y (Has h) = elim (nat_lt 1 h.depth) as (λ (b : Bool). AreQuiet (if b then acts.Exit ∷ [] else release_acts y h.kept got)) [ true ↦ ((refl, refl), tt) | false ↦ quiet_release y h.kept ]
   quiet_leave y (Tries a) = quiet_if (nat_lt 0 a.inner) acts.Exit refl refl
   quiet_leave y HasNot = tt
 

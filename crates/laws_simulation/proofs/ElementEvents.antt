@@ -29,11 +29,8 @@ pub record Names (objects : List Object) (p : Program) (next : ℕ) (target : Ta
   pub element : HasElement objects array index
 
 null_or_not : (a i : ℕ) (stored : Option ℕ) → 0 < a → (if a == 0 then Throws thrown.NullPointerException else Indexes a i stored) ≡ Indexes a i stored
-null_or_not a i stored h = by_test (a == 0) refl
-  where
-    by_test : (b : Bool) → (a == 0) ≡ b → (if b then Throws thrown.NullPointerException else Indexes a i stored) ≡ Indexes a i stored
-    by_test true e = absurd (grind (arith, nat_tests, e, h))
-    by_test false e = refl
+null_or_not a i stored h = (elim (a == 0) as (λ (b : Bool). (a == 0) ≡ b → (if b then Throws thrown.NullPointerException else Indexes a i stored) ≡ Indexes a i stored)
+    [ true ↦ λ e. absurd (grind (arith, nat_tests, e, h)) | false ↦ λ e. refl ]) refl
 
 names : (objects : List Object) (p : Program) (next : ℕ) (target : Target) (op : Op) (locals stack : List ℕ) (word : ℕ) (stored : Option ℕ) → is_element_op stored op ≡ true → IsElementOn word stored stack → HasElementOn objects stored stack
     → ((o : Object) → Contains objects o → 0 < o.reference) → Names objects p next target op locals stack word stored
@@ -78,15 +75,12 @@ module _ (c : MarkedProgram) (objects : List Object) (x : Thread) where
 
 module _ (c : MarkedProgram) (objects : List Object) (s : Core) (x : Thread) (marked : IsMarked c)
     (heap : HeapFacts c objects s) where
-  some_object : (o : Object) → Contains objects o → 0 < o.reference
-  some_object o k = omega (arith, heap.apart.begin k.0 o (contained_got objects o k))
-
   pub element_in : (word : ℕ) (stored : Option ℕ) (fs : List Frame) → x.frames ≡ fs → ElementStands word stored fs → FramesHold c (HasClass objects) fs → HasElementIn objects stored fs → (test : TopIs c (is_element_op stored) fs) → Element c objects x word stored
   element_in word stored [] e on h k top = absurd on
   element_in word stored (f ∷ fs) e on h k top =
       let j = h.0.stands in
       let op = ap (is_element_op stored) (same_op c marked (HasClass objects) f j top.0) ∙ top.1 in
-      let n = names objects c.program j.insn.next j.target j.insn.op f.locals f.stack word stored op on k some_object in
+      let n = names objects c.program j.insn.next j.target j.insn.op f.locals f.stack word stored op on k (λ o k. omega (arith, heap.apart.begin k.0 o (contained_got objects o k))) in
       let found : top_of c.program (f ∷ fs) ≡ Some (top_here c f fs j) = stand_top c marked f fs j in
       let al = allowed_here c marked (HasClass objects) (out_there c marked objects s heap) f h.0 in
       named f fs e on n.array n.index n.element n.word_is (top_here c f fs j) found n.effect_is (allows n.array n.index (effect_at c.program (top_here c f fs j)) n.effect_is j.method j.insn j.target (row_of c.program j.method j.insn j.target) al)

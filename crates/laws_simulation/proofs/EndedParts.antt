@@ -1,6 +1,7 @@
 -- When a run is over its parts ended as those of the plain state.
 use Rattle.std.proofs.Common.{◌≡◌, ◌≤◌, ◌<◌, inl, inr, ℕ, zero, suc, Bool, true, false, cond, List, [], ◌∷◌, length, Option, Some, None, refl, sym, ap, ◌∙◌, subst, arith, ◌&&◌, if◌then◌else◌, option_map, nat_lt, slice_get}
 use Rattle.std.{specs.List.list_all, proofs.lemmas.Option.slice_get-map}
+use Rattle.std.proofs.lemmas.Bool.{cases_Bool}
 use Rattle.lists.proofs.ListLaws.{same_some}
 use Rattle.jvm_types.specs.declared.{outcome.{End.End, ThreadReport.ThreadReport}, program.Program.Program}
 use Rattle.checked_program.specs.MarkedProgram.{MarkedProgram}
@@ -19,12 +20,8 @@ use Rattle.machine_types.specs.declared.phase.Phase.TheVariants as phases
 
 own_first : (phase : Phase) → is_live phase ≡ false → EndFits (end_or_not_run phase) (slice_get (own_end phase) 0)
 own_first phases.Idle d = refl
-own_first (phases.Ended e) d = at_end e
-  where
-    at_end : (e : End) → EndFits e (slice_get (own_end (phases.Ended e)) 0)
-    at_end ends.Returned = refl
-    at_end (ends.Uncaught x) = refl
-    at_end limit = refl
+own_first (phases.Ended e) d = elim e as (λ (e : End). EndFits e (slice_get (own_end (phases.Ended e)) 0))
+    [ ends.Returned ↦ refl | ends.Uncaught x ↦ refl | limit ↦ refl ]
 own_first phase d = absurd (cc)
 
 one_at_most : (b : Bool) (e : End) → slice_get (cond b (e ∷ []) []) 1 ≡ None
@@ -37,12 +34,8 @@ own_second (phases.Ended e) = one_at_most (has_finished e) e
 own_second phase = refl
 
 own_returned : (phase : Phase) → is_live phase ≡ false → first_is_return (own_end phase) ≡ ended_by has_returned phase
-own_returned (phases.Ended e) d = at_end e
-  where
-    at_end : (e : End) → first_is_return (own_end (phases.Ended e)) ≡ has_returned e
-    at_end ends.Returned = refl
-    at_end (ends.Uncaught x) = refl
-    at_end limit = refl
+own_returned (phases.Ended e) d = elim e as (λ (e : End). first_is_return (own_end (phases.Ended e)) ≡ has_returned e)
+    [ ends.Returned ↦ refl | ends.Uncaught x ↦ refl | limit ↦ refl ]
 own_returned (phases.Ending e) d = absurd (cc)
 own_returned phase d = refl
 
@@ -55,15 +48,11 @@ first_ended p (suc (suc part)) phase first d f = subst (λ (o : Option End). End
 
 -- a thread that a limit ended is not
 limit_not_over : (bit : ℕ → Bool) (status : Status) (Awake : Type 0) → LimitFits bit status Awake → (Awake → is_over status ≡ false) → is_over status ≡ false
-limit_not_over bit status Awake fits awake = by_test (is_over status) refl
+limit_not_over bit status Awake fits awake = elim (cases_Bool (is_over status)) [ inl e ↦ awake (fits.awake (λ m. not_waiting m (bit m) refl e)) | inr e ↦ e ]
   where
     not_waiting : (m : ℕ) (b : Bool) → bit m ≡ b → is_over status ≡ true → bit m ≡ false
     not_waiting m false g e = g
     not_waiting m true g e = let w = fits.waits m g in let no : is_over status ≡ false = ap is_over w.1 in absurd (cc)
-
-    by_test : (b : Bool) → is_over status ≡ b → is_over status ≡ false
-    by_test false e = e
-    by_test true e = awake (fits.awake (λ m. not_waiting m (bit m) refl e))
 
 over_outside : (bit : ℕ → Bool) (x : Thread) (phase : Phase) (status : Status) → is_live phase ≡ false → StatusFits bit x phase status → is_over status ≡ ended_by has_finished phase
 over_outside bit x phases.Idle status d fits = ap is_over fits
@@ -83,7 +72,8 @@ over_outside bit x phase status d fits = absurd (cc)
 
 -- no part ends by itself in an attempt
 not_inside : (c : MarkedProgram) (phase was : Phase) (frames : List Frame) (held : List Held) (a : Attempt) → IsAs phase was → Stands c was frames held (Some a) → AttemptStands c was frames held a → ended_by has_finished phase ≡ false
-not_inside c (phases.Ended e) was frames held a is stands inside = at_end e is
+not_inside c (phases.Ended e) was frames held a is stands inside = (elim e as (λ (e : End). IsLimitAt e (phases.Ended e) was → has_finished e ≡ false)
+    [ ends.Returned ↦ λ k. absurd (none ends.Returned k refl) | ends.Uncaught class ↦ λ k. absurd (none (ends.Uncaught class) k refl) | limit ↦ λ k. refl ]) is
   where
     none : (e : End) → was ≡ phases.Ended e → has_finished e ≡ true → ⊥
     none e k f =
@@ -91,11 +81,6 @@ not_inside c (phases.Ended e) was frames held a is stands inside = at_end e is
         let size : length frames ≡ 0 = ap length empty in
         let based = inside.based in
         omega (arith, size, based)
-
-    at_end : (e : End) → IsLimitAt e (phases.Ended e) was → has_finished e ≡ false
-    at_end ends.Returned k = absurd (none ends.Returned k refl)
-    at_end (ends.Uncaught class) k = absurd (none (ends.Uncaught class) k refl)
-    at_end limit k = refl
 not_inside c phase was frames held a is stands inside = refl
 
 thread_over : (c : MarkedProgram) (bit : ℕ → Bool) (was : Phase) (x : Thread) (y : PlainThread) → is_live x.phase ≡ false → IsStructured c was x → ThreadFits c.program bit x x.attempt y → is_over y.status ≡ ended_by has_finished x.phase
@@ -136,11 +121,7 @@ done_as [] y ws = refl
 done_as (number ∷ roots) y ws = refl
 
 done_is : (p : Program) (q : Plain) → steps.plain_done_end p q ≡ done_by (done_roots p) q.threads
-done_is p q = by_roots (done_roots p) refl
-  where
-    by_roots : (roots : List ℕ) → done_roots p ≡ roots → steps.plain_done_end p q ≡ done_by roots q.threads
-    by_roots [] e = rw e refl
-    by_roots (number ∷ roots) e = rw e refl
+done_is p q = (elim (done_roots p) as (λ (roots : List ℕ). done_roots p ≡ roots → steps.plain_done_end p q ≡ done_by roots q.threads) [ [] ↦ λ e. rw e refl | number ∷ roots ↦ λ e. rw e refl ]) refl
 
 at_part : (p : Program) (n : ℕ) (roots : List ℕ) (phase : Phase) (workers : List Thread) → done_roots p ≡ roots → n ≤ 2 → is_live phase ≡ false → may_begin_by n phase workers ≡ false
     → (2 ≤ n → roots ≡ [] → phase ≡ phases.Ended ends.Returned) → (2 ≤ n → list_all (λ w. ended_by has_finished w.phase) workers ≡ true)

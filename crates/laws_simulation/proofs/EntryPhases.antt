@@ -40,9 +40,6 @@ module _ (lies : StartLiesApart) (scene : Scene) (k : Moving scene.turn) where
   by_words m l e none = free_then q.holdings s.threads beside.agrees.monitors m
       (λ u y there. let owns = facts.owners.each u y there in not_held (held_at y.held m) (sym (owns.holds m) ∙ ap (λ (j : LockWord). hold_by_word u j (owner_at s.words)) e ∙ none u))
 
-  pub nobody_free : (m seen : ℕ) → lock_at (references_of objects) s.words m ≡ locks.Free seen → holding_at q.holdings m ≡ None
-  nobody_free m seen e = by_words m (locks.Free seen) e (λ u. refl)
-
   pub nobody_fat : (m r : ℕ) → lock_at (references_of objects) s.words m ≡ locks.Fat r → owner_at s.words r ≡ 0 → holding_at q.holdings m ≡ None
   nobody_fat m r e none = by_words m (locks.Fat r) e (λ u. not_zero u)
     where
@@ -50,15 +47,6 @@ module _ (lies : StartLiesApart) (scene : Scene) (k : Moving scene.turn) where
       not_zero u = ap (λ (b : Bool). cond b (HeldFat r) NotHeld) (ap (λ (n : ℕ). n == u + 1) none ∙ ne_eqb 0 (u + 1) (λ f. omega (arith, f)))
 
   -- ---- it has the monitor already
-
-  pub enters_deeper : (m : ℕ) (h : Held) → held_at x.held m ≡ Some h → k.z.status ≡ plain.Enter m → Makes k (acts.Enter ∷ []) s.words (runs (record x { held = with_held (deeper h) x.held }))
-  enters_deeper m h e status = steps_as k acts.Enter s.words (runs (record x { held = with_held (deeper h) x.held }))
-      (with_holding (record { monitor = m; holder = t; depth = h.depth + 1 }) q.holdings) (with_status k.z plain.Run)
-      (enters_again c.program q t k.z k.twin m h.depth status (holds_then q.holdings s.threads beside.agrees.monitors t m x h here e))
-      (words_stay objects s q)
-      (alike_put q.holdings s.threads beside.agrees.monitors t x (runs (record x { held = with_held (deeper h) x.held })) here m (deeper h) (held_monitor m x.held h e) refl
-      (λ u d. alone (holding_at q.holdings m) t u h.depth (held_depth_is q.holdings s.threads beside.agrees.monitors t m x h here e) d))
-      refl refl (runs_old (nat_lt x.counts.instructions x.cfg.steps)) (runs_fits k (record x { held = with_held (deeper h) x.held }) refl refl refl)
 
   -- ---- it takes the lock
 
@@ -77,11 +65,8 @@ module _ (lies : StartLiesApart) (scene : Scene) (k : Moving scene.turn) where
 
   pub acquires_it : (words : List ℕ) (m : ℕ) (l : LockWord) → WordsStay objects s q words → k.z.status ≡ plain.Enter m → Makes k [] words (acquires x m l)
   acquires_it words m (locks.Free seen) stay status = to_phase k words (phases.Take m seen) stay tt status
-  acquires_it words m (locks.Held u) stay status = by_test (nat_lt (x.turns + 1) FLAG_FROM)
-    where
-      by_test : (b : Bool) → Makes k [] words (failed_turn x (cond b (phases.Acquire m) (phases.Flag m u)))
-      by_test true = to_wait words m (phases.Acquire m) stay tt status status
-      by_test false = to_wait words m (phases.Flag m u) stay tt status status
+  acquires_it words m (locks.Held u) stay status = elim (nat_lt (x.turns + 1) FLAG_FROM) as (λ (b : Bool). Makes k [] words (failed_turn x (cond b (phases.Acquire m) (phases.Flag m u))))
+      [ true ↦ to_wait words m (phases.Acquire m) stay tt status status | false ↦ to_wait words m (phases.Flag m u) stay tt status status ]
   acquires_it words m (locks.Flagged u) stay status = to_wait words m (phases.Acquire m) stay tt status status
   acquires_it words m (locks.Fat r) stay status = to_phase k words (phases.TakeFat m r) stay tt status
 
@@ -110,11 +95,8 @@ module _ (lies : StartLiesApart) (scene : Scene) (k : Moving scene.turn) where
   })
 
   tries_it : (words : List ℕ) (m n : ℕ) (l : LockWord) → WordsStay objects s q words → k.z.status ≡ plain.Enter m → Makes k [] words (tries x m n l)
-  tries_it words m n (locks.Free seen) stay status = by_test (nat_lt seen x.cfg.range)
-    where
-      by_test : (b : Bool) → Makes k [] words (cond b (begins x x.frames m seen (n + 1)) (with_phase x (phases.Acquire m)))
-      by_test true = begins_it words m seen (n + 1) x.frames stay status refl
-      by_test false = to_phase k words (phases.Acquire m) stay tt status
+  tries_it words m n (locks.Free seen) stay status = elim (nat_lt seen x.cfg.range) as (λ (b : Bool). Makes k [] words (cond b (begins x x.frames m seen (n + 1)) (with_phase x (phases.Acquire m))))
+      [ true ↦ begins_it words m seen (n + 1) x.frames stay status refl | false ↦ to_phase k words (phases.Acquire m) stay tt status ]
   tries_it words m n (locks.Held u) stay status = to_phase k words (phases.Acquire m) stay tt status
   tries_it words m n (locks.Flagged u) stay status = to_phase k words (phases.Acquire m) stay tt status
   tries_it words m n (locks.Fat r) stay status = to_phase k words (phases.Acquire m) stay tt status
@@ -123,7 +105,13 @@ module _ (lies : StartLiesApart) (scene : Scene) (k : Moving scene.turn) where
 
   pub entered : (m n : ℕ) (may : Bool) (o : Option Held) (a : Option Attempt) → held_at x.held m ≡ o → a ≡ None → k.z.status ≡ plain.Enter m
       → Makes k (enter_acts (claim_by m o a)) (words_after s.words (enter_wants m (claim_by m o a))) (enter_moves x m n may (claim_by m o a) (found_by s.words (enter_wants m (claim_by m o a))))
-  entered m n may (Some h) a e none status = enters_deeper m h e status
+  entered m n may (Some h) a e none status = steps_as k acts.Enter s.words (runs (record x { held = with_held (deeper h) x.held }))
+      (with_holding (record { monitor = m; holder = t; depth = h.depth + 1 }) q.holdings) (with_status k.z plain.Run)
+      (enters_again c.program q t k.z k.twin m h.depth status (holds_then q.holdings s.threads beside.agrees.monitors t m x h here e))
+      (words_stay objects s q)
+      (alike_put q.holdings s.threads beside.agrees.monitors t x (runs (record x { held = with_held (deeper h) x.held })) here m (deeper h) (held_monitor m x.held h e) refl
+      (λ u d. alone (holding_at q.holdings m) t u h.depth (held_depth_is q.holdings s.threads beside.agrees.monitors t m x h here e) d))
+      refl refl (runs_old (nat_lt x.counts.instructions x.cfg.steps)) (runs_fits k (record x { held = with_held (deeper h) x.held }) refl refl refl)
   entered m n may None (Some a) e none status = absurd (cc)
   entered m n true None None e none status = tries_it (slice_set s.words m (slice_index s.words m)) m n (lock_of (slice_index s.words m)) (loaded m) status
   entered m n false None None e none status = acquires_it (slice_set s.words m (slice_index s.words m)) m (lock_of (slice_index s.words m)) (loaded m) status
@@ -141,7 +129,7 @@ module _ (lies : StartLiesApart) (scene : Scene) (k : Moving scene.turn) where
           takes_it (slice_set s.words m (word_of_lock (locks.Held x.number))) m (keeps.Flat seen)
           (thin_stays lies scene m (word_of_lock (locks.Held x.number)) object (λ r f. let bad : locks.Free seen ≡ locks.Fat r = sym free ∙ f in cc)
           (λ r f. let bad : locks.Held x.number ≡ locks.Fat r = sym (lock_of_word (locks.Held x.number)) ∙ f in cc))
-          status (nobody_free m seen free)
+          status (by_words m (locks.Free seen) free (λ u. refl))
       by_test false e = to_wait (slice_set s.words m (slice_index s.words m)) m (phases.Acquire m) (loaded m) tt status status
 
   pub flagged : (m u : ℕ) → HasObject objects m → k.z.status ≡ plain.Enter m

@@ -41,11 +41,8 @@ module _ (turn : Turn) where
 
 -- outside attempts nothing is checked
 pub not_checked : (p : Program) (x : Thread) (at : Top) (e : Effect) (got : ℕ) → x.attempt ≡ None → instructed p x at e got ≡ did p x at e got
-not_checked p x at e got none = by_check (is_checked at.frame.pc e)
-  where
-    by_check : (b : Bool) → cond b (if_same x x.attempt got (did p x at e got)) (did p x at e got) ≡ did p x at e got
-    by_check true = ap (λ (a : Option Attempt). if_same x a got (did p x at e got)) none
-    by_check false = refl
+not_checked p x at e got none = elim (is_checked at.frame.pc e) as (λ (b : Bool). cond b (if_same x x.attempt got (did p x at e got)) (did p x at e got) ≡ did p x at e got)
+    [ true ↦ ap (λ (a : Option Attempt). if_same x a got (did p x at e got)) none | false ↦ refl ]
 
 -- ---- accesses that leave the words as they are
 
@@ -90,11 +87,13 @@ gone_on z (Running frames) = record { part = refl; held = refl; attempt = refl; 
 gone_on z (Throwing x class frames) = record { part = refl; held = refl; attempt = refl; makes = λ a word e. cc }
 gone_on z (Entering m frames) = record { part = refl; held = refl; attempt = refl; makes = λ a word e. cc }
 gone_on z (Leaving m a frames) = record { part = refl; held = refl; attempt = refl; makes = λ a word e. cc }
-gone_on z RootReturned = record { part = refl; held = refl; attempt = refl; makes = by_roots z.roots }
-  where
-    by_roots : (roots : List ℕ) (a word : ℕ) → root_over roots ≡ phases.Made a word → ⊥
-    by_roots [] a word e = cc
-    by_roots (number ∷ roots) a word e = cc
+gone_on z RootReturned = record {
+  part = refl;
+  held = refl;
+  attempt = refl;
+  makes = elim z.roots as (λ (roots : List ℕ). (a word : ℕ) → root_over roots ≡ phases.Made a word → ⊥)
+      [ [] ↦ λ a word e. cc | number ∷ roots ↦ λ a word e. cc ];
+}
 gone_on z (Uncaught class) = record { part = refl; held = refl; attempt = refl; makes = λ a word e. cc }
 
 module _ {turn : Turn} (k : Moving turn) where
@@ -119,16 +118,13 @@ module _ {turn : Turn} (k : Moving turn) where
     rests = λ e. absurd (not_ended x.phase k.busy e);
   })
 
-  still_awake : (words : List ℕ) (prints : List Printed) → WordsFit s q words prints → IsAwake (has_wait_bit (references_of q.objects) words t)
-  still_awake words prints w m = w.bits t m ∙ k.awake m
-
   -- one that goes on
   pub goes_beside : (words : List ℕ) (prints : List Printed) (z : Thread) (o : Onward) → WordsFit s q words prints → GoesFrom x z
       → StandsBeside c.program objects (record { words = words; threads = slice_set s.threads t (goes_on z o) }) (record q { threads = slice_set q.threads t (plain.plain_goes_on k.z o); prints = prints })
   goes_beside words prints z o w from =
       let on = gone_on z o in
       let way : IsUnderWay c.program z.part z.roots k.z = subst (λ (part : ℕ). IsUnderWay c.program part z.roots k.z) (sym from.part) (subst (λ (roots : List ℕ). IsUnderWay c.program x.part roots k.z) (sym from.roots) k.under_way) in
-      let fits = going_alike c.program (has_wait_bit (references_of q.objects) words t) (still_awake words prints w) z k.z o way in
+      let fits = going_alike c.program (has_wait_bit (references_of q.objects) words t) (λ m. w.bits t m ∙ k.awake m) z k.z o way in
       becomes words prints (goes_on z o) (plain.plain_goes_on k.z o) w (on.part ∙ from.part) (on.held ∙ from.held) on.makes
       (subst (λ (a : Option Attempt). ThreadFits c.program (has_wait_bit (references_of q.objects) words t) (goes_on z o) a (plain.plain_goes_on k.z o)) (sym (on.attempt ∙ from.attempt)) fits.outside)
       fits.ended

@@ -43,9 +43,6 @@ module _ (lies : StartLiesApart) (scene : Scene) (k : Moving scene.turn) where
   pub thin_when_flat : (m : ℕ) (h : Held) (count : ℕ) → held_at x.held m ≡ Some h → h.kept ≡ keeps.Flat count → (r : ℕ) → lock_at (references_of objects) s.words m ≢ locks.Fat r
   thin_when_flat m h count e f = thin_if_flat t (lock_at (references_of objects) s.words m) (owner_at s.words) (holds_kept m h (keeps.Flat count) e f)
 
-  fat_when_fat : (m : ℕ) (h : Held) (r : ℕ) → held_at x.held m ≡ Some h → h.kept ≡ keeps.Fat r → lock_at (references_of objects) s.words m ≡ locks.Fat r
-  fat_when_fat m h r e f = (fatly t (lock_at (references_of objects) s.words m) (owner_at s.words) r (holds_kept m h (keeps.Fat r) e f)).0
-
   others_not : (m : ℕ) (h : Held) → held_at x.held m ≡ Some h → (u : ℕ) → u ≢ t → depth_for u (holding_at q.holdings m) ≡ None
   others_not m h e u d = alone (holding_at q.holdings m) t u h.depth (held_depth_is q.holdings s.threads beside.agrees.monitors t m x h here e) d
 
@@ -94,7 +91,7 @@ module _ (lies : StartLiesApart) (scene : Scene) (k : Moving scene.turn) where
   released_it : (m : ℕ) (h : Held) (a : After) (o : Onward) (kept : Kept) → h.kept ≡ kept → held_at x.held m ≡ Some h → h.depth ≡ 1 → k.z.status ≡ plain.Leave m a → after c.program x.frames a ≡ Some o
       → Makes k (release_acts x kept (found s.words (release x m kept))) (performed s.words (release x m kept)) (released c.program x m a kept (found s.words (release x m kept)))
   released_it m h a o (keeps.Fat r) f e one status is = leaves_last (slice_set s.words (owner_word r) 0) m h a o
-      (owner_stays lies scene r 0 (low scene m r (fat_when_fat m h r e f))) e one status is
+      (owner_stays lies scene r 0 (low scene m r ((fatly t (lock_at (references_of objects) s.words m) (owner_at s.words) r (holds_kept m h (keeps.Fat r) e f)).0))) e one status is
   released_it m h a o (keeps.Flat count) f e one status is = by_word (slice_index s.words m == word_of_lock (locks.Held x.number))
     where
       by_word : (b : Bool) → Makes k (act_if b acts.Exit) (slice_set s.words m (cond b (freed x count) (slice_index s.words m)))
@@ -135,17 +132,16 @@ module _ (lies : StartLiesApart) (scene : Scene) (k : Moving scene.turn) where
       stay : WordsStay objects s q (slice_set s.words NEXT_RECORD_WORD (slice_index s.words NEXT_RECORD_WORD + 1))
       stay = record_stays lies scene (slice_index s.words NEXT_RECORD_WORD + 1)
 
-      none_left : (toward : Toward) → k.z.status ≡ toward_status m toward → Makes k [] (slice_set s.words NEXT_RECORD_WORD (slice_index s.words NEXT_RECORD_WORD + 1)) (grows_not x m toward)
-      none_left (towards.Leave a) status = to_phase k (slice_set s.words NEXT_RECORD_WORD (slice_index s.words NEXT_RECORD_WORD + 1)) (phases.FlatOut m a) stay tt status
-      none_left towards.Wait status =
-          let h = flat_held (held_at x.held m) flat in
-          to_phase k (slice_set s.words NEXT_RECORD_WORD (slice_index s.words NEXT_RECORD_WORD + 1)) (phases.Ending ends.Records) stay refl
-          (awake_fits (has_wait_bit (references_of q.objects) s.words t) k.z.status (IsWaiter x.held k.z.status) k.awake (m, status, (h.0, h.1)))
-
       by_test : (b : Bool) → Makes k [] (slice_set s.words NEXT_RECORD_WORD (slice_index s.words NEXT_RECORD_WORD + 1))
           (cond b (with_phase x (phases.Own m (slice_index s.words NEXT_RECORD_WORD) toward)) (grows_not x m toward))
       by_test true = to_phase k (slice_set s.words NEXT_RECORD_WORD (slice_index s.words NEXT_RECORD_WORD + 1)) (phases.Own m (slice_index s.words NEXT_RECORD_WORD) toward) stay tt status
-      by_test false = none_left toward status
+      by_test false = (elim toward as (λ (toward : Toward). k.z.status ≡ toward_status m toward → Makes k [] (slice_set s.words NEXT_RECORD_WORD (slice_index s.words NEXT_RECORD_WORD + 1)) (grows_not x m toward)) [
+        | towards.Leave a ↦ λ status. to_phase k (slice_set s.words NEXT_RECORD_WORD (slice_index s.words NEXT_RECORD_WORD + 1)) (phases.FlatOut m a) stay tt status
+        | towards.Wait ↦ λ status.
+            let h = flat_held (held_at x.held m) flat in
+            to_phase k (slice_set s.words NEXT_RECORD_WORD (slice_index s.words NEXT_RECORD_WORD + 1)) (phases.Ending ends.Records) stay refl
+            (awake_fits (has_wait_bit (references_of q.objects) s.words t) k.z.status (IsWaiter x.held k.z.status) k.awake (m, status, (h.0, h.1)))
+      ]) status
 
   pub flat_out : (m n : ℕ) (a : After) (o : Option Held) → held_at x.held m ≡ o → IsFlat o → held_depth m x.held ≡ 1 → k.z.status ≡ plain.Leave m a → (w : Onward) × (after c.program x.frames a ≡ Some w)
       → Makes k (acts.Exit ∷ []) (slice_set s.words m (word_of_lock (locks.Free n))) (lets_go c.program x m a)

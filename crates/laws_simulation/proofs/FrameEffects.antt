@@ -40,9 +40,6 @@ module _ (scene : Scene) (fit : HeapWordsFit) (allowed : EffectsAreAllowed)
   counted : was t ≡ phases.Run
   counted = counts_as turn phases.Run runs
 
-  from : GoesFrom x (begun x)
-  from = record { part = refl; roots = refl; held = refl; attempt = outside }
-
   abbrev moving : Moving turn
   moving = record {
     own = plain_thread;
@@ -66,7 +63,7 @@ module _ (scene : Scene) (fit : HeapWordsFit) (allowed : EffectsAreAllowed)
   does_effect e o access f w leaves value made step one =
       subst (λ (a : Option Access). Does turn a (instructed c.program (begun x) at e) (instruction_acts x e)) (sym w)
       (does_one moving access (instructed c.program (begun x) at e) (instruction_acts x e) acts.Do (found_by s.words access) (begun x) o leaves refl
-      (not_checked c.program (begun x) at e (found_by s.words access) outside ∙ made) one from
+      (not_checked c.program (begun x) at e (found_by s.words access) outside ∙ made) one (record { part = refl; roots = refl; held = refl; attempt = outside })
       (instruction_step c.program q (plain.with_thread q t (plain.plain_goes_on plain_thread.plain o)) t plain_thread.plain x.frames at e (found_by s.words access) (status_fits turn phases.Run runs) (frames_are turn phases.Run runs) at_top f value step))
 
   -- outside attempts nothing is looked at
@@ -74,11 +71,7 @@ module _ (scene : Scene) (fit : HeapWordsFit) (allowed : EffectsAreAllowed)
   no_look = ap looks outside
 
   goes_wants : (to made : ℕ) → effect_wants x at.frame.pc (Goes to made) ≡ None
-  goes_wants to made = by_check (nat_le to at.frame.pc)
-    where
-      by_check : (b : Bool) → cond b (looks x.attempt) None ≡ None
-      by_check true = no_look
-      by_check false = refl
+  goes_wants to made = elim (nat_le to at.frame.pc) as (λ (b : Bool). cond b (looks x.attempt) None ≡ None) [ true ↦ no_look | false ↦ refl ]
 
   allowed_at : (e : Effect) → effect_at c.program at ≡ e → IsAllowed c.program at e
   allowed_at e f =
@@ -125,15 +118,12 @@ module _ (scene : Scene) (fit : HeapWordsFit) (allowed : EffectsAreAllowed)
       holds : AfterHolds c (HasClass objects) afters.Return (frames_of at)
       holds = subst (FramesHold c (HasClass objects)) (tops_stand_law c x.frames _ stands.shown at marked stands.show at_top).1.frames (values turn phases.Run runs)
 
-      by_frames : (fs : List Frame) → plain_instructions.if_left q t plain_thread.plain at (back fs) ≡ plain.plain_goes_on plain_thread.plain (back fs)
-      by_frames [] = refl
-      by_frames (g ∷ fs) = refl
-
       by_flag : (b : Bool) → is_synchronized at.method.flags ≡ b → OnwardShows c (if b then Leaving (monitor_of c.program at.method at.frame) afters.Return (frames_of at) else back (returned c.program at)) stands.shown
           → plain_instructions.if_left q t plain_thread.plain at (if b then Leaving (monitor_of c.program at.method at.frame) afters.Return (frames_of at) else back (returned c.program at))
           ≡ plain.plain_goes_on plain_thread.plain (if b then Leaving (monitor_of c.program at.method at.frame) afters.Return (frames_of at) else back (returned c.program at))
       by_flag true e shows = if_holding (monitor_of c.program at.method at.frame) _ (leaves_held (HasClass objects) c (monitor_of c.program at.method at.frame) (frames_of at) stands.shown x.held marked (depth (monitor_of c.program at.method at.frame)) afters.Return shows holds)
-      by_flag false e shows = by_frames (returned c.program at)
+      by_flag false e shows = elim (returned c.program at) as (λ (fs : List Frame). plain_instructions.if_left q t plain_thread.plain at (back fs) ≡ plain.plain_goes_on plain_thread.plain (back fs))
+          [ [] ↦ refl | g ∷ fs ↦ refl ]
 
   exiting : (m : ℕ) → effect_at c.program at ≡ Leaves m → plain_instructions.plain_leaves c.program q t plain_thread.plain at m ≡ plain.plain_goes_on plain_thread.plain (Leaving m afters.Next (went_on c.program at 0))
   exiting m f =

@@ -60,14 +60,11 @@ one_ends p (suc (suc part)) roots phase e k f = ap (λ (es : List End). ends.Ret
 -- ---- all ways to go on
 
 module _ (p : Program) (bit : ℕ → Bool) (awake : IsAwake bit) where
-  abbrev steps_phase : Bool → Phase
-  steps_phase b = cond b phases.Run (phases.Ending ends.Steps)
-
   -- to the next instruction, unless the limit of instructions is made
   pub runs_alike : (s : Thread) (y : PlainThread) → IsUnderWay p s.part s.roots y → OwnFits p bit (goes_on s (Running s.frames)) (plain.plain_goes_on y (Running s.frames))
   runs_alike s y k = by_test (nat_lt s.counts.instructions s.cfg.steps)
     where
-      by_test : (b : Bool) → OwnFits p bit (record s { phase = steps_phase b }) (plain.plain_goes_on y (Running s.frames))
+      by_test : (b : Bool) → OwnFits p bit (record s { phase = cond b phases.Run (phases.Ending ends.Steps) }) (plain.plain_goes_on y (Running s.frames))
       by_test true = record { outside = record { frames = refl; status = refl; roots = k.roots }; ended = k.ended ∙ sym (none_ends p s.part s.roots phases.Run k.runs refl) }
       by_test false = record {
         outside = record { frames = refl; status = awake_fits bit plain.Run (plain.Run ≡ plain.Run) awake refl; roots = k.roots };

@@ -13,11 +13,7 @@ pub record IsHeld (held : List Held) (m : ℕ) : Type 0 where
   pub is : held_at held m ≡ Some entry
 
 once_here : (m k : ℕ) → k ≡ 1 → once_at m m ≡ k
-once_here m k one = by_test (m == m) (grind (arith, nat_tests))
-  where
-    by_test : (b : Bool) → b ≡ true → cond b 1 0 ≡ k
-    by_test true e = sym one
-    by_test false e = absurd (cc)
+once_here m k one = (elim (m == m) as (λ (b : Bool). b ≡ true → cond b 1 0 ≡ k) [ true ↦ λ e. sym one | false ↦ λ e. absurd (cc) ]) (grind (arith, nat_tests))
 
 some_held : (m : ℕ) (held : List Held) (o : Option Held) → held_at held m ≡ o → 0 < held_depth m held → IsHeld held m
 some_held m held None e lt = absurd (let none : held_depth m held ≡ 0 = depth_none m held e in omega arith)

@@ -40,11 +40,7 @@ holding_put m h (g ∷ hs) = by_test (g.monitor == h.monitor) refl (g.monitor ==
     by_test false t false u more = ap (λ (b : Bool). cond b (Some g) (holding_at (with_holding h hs) m)) u ∙ more
 
 pub holding_without : (m n : ℕ) (hs : List Holding) → holding_at (without_holding n hs) m ≡ cond (n == m) None (holding_at hs m)
-holding_without m n [] = by_test (n == m)
-  where
-    by_test : (b : Bool) → holding_at [] m ≡ cond b (holding_at [] m) (holding_at [] m)
-    by_test true = refl
-    by_test false = refl
+holding_without m n [] = elim (n == m) as (λ (b : Bool). holding_at [] m ≡ cond b (holding_at [] m) (holding_at [] m)) [ true ↦ refl | false ↦ refl ]
 holding_without m n (h ∷ hs) = by_test (h.monitor == n) refl (h.monitor == m) refl (n == m) refl (holding_without m n hs)
   where
     by_test : (b : Bool) → (h.monitor == n) ≡ b → (d : Bool) → (h.monitor == m) ≡ d → (x : Bool) → (n == m) ≡ x → holding_at (without_holding n hs) m ≡ cond (n == m) None (holding_at hs m)
@@ -79,11 +75,8 @@ pub record IsHolding (o : Option Holding) (t m depth : ℕ) : Type 0 where
 
 pub holding_is : (o : Option Holding) (t m depth : ℕ) → depth_for t o ≡ Some depth → IsHolding o t m depth
 holding_is None t m depth e = absurd (cc)
-holding_is (Some h) t m depth e = by_test (h.holder == t) refl e
-  where
-    by_test : (b : Bool) → (h.holder == t) ≡ b → cond b (Some h.depth) None ≡ Some depth → IsHolding (Some h) t m depth
-    by_test true g f = record { holding = h; is = refl; holder = (Decides-eqb h.holder t).0 g; depth_is = cc }
-    by_test false g f = absurd (cc)
+holding_is (Some h) t m depth e = (elim (h.holder == t) as (λ (b : Bool). (h.holder == t) ≡ b → cond b (Some h.depth) None ≡ Some depth → IsHolding (Some h) t m depth)
+    [ true ↦ λ g f. record { holding = h; is = refl; holder = (Decides-eqb h.holder t).0 g; depth_is = cc } | false ↦ λ g f. absurd (cc) ]) refl e
 
 -- where no thread has a depth nobody holds
 pub nobody_holds : (o : Option Holding) → ((t : ℕ) → depth_for t o ≡ None) → o ≡ None
@@ -95,11 +88,8 @@ holder_is o t depth e = let h = holding_is o t 0 depth e in ap (is_holder t) h.i
 
 pub no_holder : (o : Option Holding) (t : ℕ) → depth_for t o ≡ None → is_holder t o ≡ false
 no_holder None t e = refl
-no_holder (Some h) t e = by_test (h.holder == t) refl e
-  where
-    by_test : (b : Bool) → (h.holder == t) ≡ b → cond b (Some h.depth) None ≡ None → (h.holder == t) ≡ false
-    by_test true g f = absurd (cc)
-    by_test false g f = g
+no_holder (Some h) t e = (elim (h.holder == t) as (λ (b : Bool). (h.holder == t) ≡ b → cond b (Some h.depth) None ≡ None → (h.holder == t) ≡ false)
+    [ true ↦ λ g f. absurd (cc) | false ↦ λ g f. g ]) refl e
 
 -- no other thread than the holder has a depth
 pub alone : (o : Option Holding) (t u depth : ℕ) → depth_for t o ≡ Some depth → u ≢ t → depth_for u o ≡ None
@@ -144,11 +134,8 @@ module _ (holdings : List Holding) (threads : List Thread)
     -- by cases on the thread
     pub alike_by : (later : List Holding) → ((m : ℕ) → depth_for t (holding_at later m) ≡ depth_at y.held m) → ((u m : ℕ) → u ≢ t → depth_for u (holding_at later m) ≡ depth_for u (holding_at holdings m))
         → HoldAlike later (slice_set threads t y)
-    alike_by later own others u m = by_thread (same_or_not u t)
-      where
-        by_thread : (u ≡ t) ⊎ (u ≢ t) → depth_for u (holding_at later m) ≡ depth_of (slice_get (slice_set threads t y) u) m
-        by_thread (inl e) = subst (λ (k : ℕ). depth_for k (holding_at later m) ≡ depth_of (slice_get (slice_set threads t y) k) m) (sym e) (now_own later m (own m))
-        by_thread (inr d) = now_else later u m d (others u m d)
+    alike_by later own others u m = elim (same_or_not u t)
+        [ inl e ↦ subst (λ (k : ℕ). depth_for k (holding_at later m) ≡ depth_of (slice_get (slice_set threads t y) k) m) (sym e) (now_own later m (own m)) | inr d ↦ now_else later u m d (others u m d) ]
 
     -- it holds what it held
     pub alike_kept : y.held ≡ x.held → HoldAlike holdings (slice_set threads t y)

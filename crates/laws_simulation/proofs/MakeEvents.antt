@@ -28,9 +28,6 @@ module _ (scene : Scene) where
     abbrev words : List ℕ
     words = slice_set s.words NEXT_FREE_WORD (slice_index s.words NEXT_FREE_WORD + size)
 
-    is_next : slice_index s.words NEXT_FREE_WORD ≡ q.next
-    is_next = scene.beside.agrees.next
-
     has_header : IsHeader c.program word × (size_by c.program word ≡ size)
     has_header = let k = may i in made_header c.program scene.marked.checked.program k.method k.allowed.1 word size k.allowed.4
 
@@ -93,5 +90,5 @@ module _ (scene : Scene) where
         (wants i)
         (acts_are i first)
         (moves i first
-        ∙ ap (λ (a : ℕ). if nat_le (a + size) c.program.heap then record (begun x) { frames = making c.program at; phase = phases.Made a word } else now) is_next)
+        ∙ ap (λ (a : ℕ). if nat_le (a + size) c.program.heap then record (begun x) { frames = making c.program at; phase = phases.Made a word } else now) scene.beside.agrees.next)
         (make_by room refl)

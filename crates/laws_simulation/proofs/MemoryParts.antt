@@ -170,9 +170,6 @@ module _ (scene : Scene) where
   module _ (word : ℕ) (header : IsHeader c.program word) (new : Thread) (old : MakesNone x.phase)
       (making : new.phase ≡ phases.Made q.next word)
       (fits : q.next + size_by c.program word ≤ c.program.heap) where
-    is_program : IsProgram c.program
-    is_program = scene.marked.checked.program
-
     abbrev fresh : Object
     fresh = new_object q.next word (size_by c.program word)
 
@@ -197,18 +194,11 @@ module _ (scene : Scene) where
         set_there s.words NEXT_FREE_WORD n (slice_index s.words NEXT_FREE_WORD + size_by c.program word) (λ e. omega (arith, e, from, begins))
         ∙ scene.facts.heap.unused.empty n (omega (arith, scene.beside.agrees.next, from)) (omega (arith, to, fits))
 
-    in_both : (m : ℕ) → has_number (references_of q.objects) m ≡ true → has_number (references_of (q.objects ++ fresh ∷ [])) m ≡ true
-    in_both m e = let k = has_object q.objects m e in object_has (q.objects ++ fresh ∷ []) m (k.0, contains_before q.objects fresh k.0 k.1, k.2)
-
     in_one : (m : ℕ) → has_number (references_of (q.objects ++ fresh ∷ [])) m ≡ true → (has_number (references_of q.objects) m ≡ true) ⊎ (m ≡ q.next)
     in_one m e = by_place (has_object (q.objects ++ fresh ∷ []) m e)
       where
         by_place : (o : Object) × Contains (q.objects ++ fresh ∷ []) o × (o.reference ≡ m) → (has_number (references_of q.objects) m ≡ true) ⊎ (m ≡ q.next)
-        by_place k = by_side (contained_last q.objects fresh k.0 k.1)
-          where
-            by_side : Contains q.objects k.0 ⊎ (k.0 ≡ fresh) → (has_number (references_of q.objects) m ≡ true) ⊎ (m ≡ q.next)
-            by_side (inl h) = inl (object_has q.objects m (k.0, h, k.2))
-            by_side (inr h) = inr (sym k.2 ∙ ap (λ (o : Object). o.reference) h)
+        by_place k = elim (contained_last q.objects fresh k.0 k.1) [ inl h ↦ inl (object_has q.objects m (k.0, h, k.2)) | inr h ↦ inr (sym k.2 ∙ ap (λ (o : Object). o.reference) h) ]
 
     -- the lock word of the new one is 0, as if it were not there
     made_bits : (u m : ℕ) → has_wait_bit (references_of (q.objects ++ fresh ∷ [])) grown u m ≡ has_wait_bit (references_of q.objects) s.words u m
@@ -219,12 +209,8 @@ module _ (scene : Scene) where
             → cond b (lock_of (slice_index grown m)) (locks.Free 0) ≡ cond d (lock_of (slice_index grown m)) (locks.Free 0)
         same_lock_then true e true f = refl
         same_lock_then false e false f = refl
-        same_lock_then false e true f = let h = in_both m f in absurd (cc)
-        same_lock_then true e false f = by_side (in_one m e)
-          where
-            by_side : (has_number (references_of q.objects) m ≡ true) ⊎ (m ≡ q.next) → lock_of (slice_index grown m) ≡ locks.Free 0
-            by_side (inl h) = absurd (cc)
-            by_side (inr h) = ap lock_of (empty m (omega (arith, h)) (omega (arith, h, two)))
+        same_lock_then false e true f = let h = (let k = has_object q.objects m f in object_has (q.objects ++ fresh ∷ []) m (k.0, contains_before q.objects fresh k.0 k.1, k.2)) in absurd (cc)
+        same_lock_then true e false f = elim (in_one m e) [ inl h ↦ absurd (cc) | inr h ↦ ap lock_of (empty m (omega (arith, h)) (omega (arith, h, two))) ]
 
     sized : header_class word ≢ INT_ARRAY_CLASS → length fresh.values ≡ instances_among (header_class word) c.program.fields
     sized other = by_test (header_class word == INT_ARRAY_CLASS) refl
@@ -244,7 +230,7 @@ module _ (scene : Scene) where
       reference = refl;
       class = refl;
       values = length-replicate {A = ℕ} (size_by c.program word - OBJECT_HEAD_WORDS) 0;
-      header = new_header c.program is_program q.next word header;
+      header = new_header c.program scene.marked.checked.program q.next word header;
     }
 
     old_plain : (a other : ℕ) → IsPlainNew c.program q a other → IsPlainNew c.program with_new a other
@@ -256,9 +242,6 @@ module _ (scene : Scene) where
       values = k.values;
       header = k.header;
     }
-
-    made_one : (a b one other : ℕ) → phases.Made a one ≡ phases.Made b other → (a ≡ b) × (one ≡ other)
-    made_one a b one other e = (cc, cc)
 
     pub makes : Memory turn objects grown with_new new
     makes = record {
@@ -283,11 +266,8 @@ module _ (scene : Scene) where
       where
         by_place : (n u : ℕ) → (IsPending (slice_set s.threads t new) n → ⊥) → (value_at q n ≡ Some u) ⊎ (value_in fresh n ≡ Some u) → slice_index grown n ≡ u
         by_place n u free (inl h) = counted_place (slice_index s.words NEXT_FREE_WORD + size_by c.program word) n u h (λ k. free (pending_on s.threads t x new scene.here old n k))
-        by_place n u free (inr h) = by_word (new_value q.next word (size_by c.program word) n u h)
-          where
-            by_word : ((n ≡ header_word q.next) × (u ≡ header_of fresh)) ⊎ IsZeroIn fresh n u → slice_index grown n ≡ u
-            by_word (inl k) = absurd (free (subst (λ (i : ℕ). IsPending (slice_set s.threads t new) i) (sym k.0) own_header))
-            by_word (inr k) = empty n (omega (arith, k.from)) (omega (arith, k.to, ends)) ∙ sym k.is
+        by_place n u free (inr h) = elim (new_value q.next word (size_by c.program word) n u h)
+            [ inl k ↦ absurd (free (subst (λ (i : ℕ). IsPending (slice_set s.threads t new) i) (sym k.0) own_header)) | inr k ↦ empty n (omega (arith, k.from)) (omega (arith, k.to, ends)) ∙ sym k.is ]
 
         by_object : (e : Object) → Contains q.objects e ⊎ (e ≡ fresh) → IsAmong objects e.reference ⊎ IsBeingMade (slice_set s.threads t new) e.reference
         by_object e (inl h) = still_among new old e.reference (scene.beside.others e h)
@@ -295,7 +275,8 @@ module _ (scene : Scene) where
 
         by_thread : (u : ℕ) (z : Thread) (a other : ℕ) → z.phase ≡ phases.Made a other → (new.phase ≡ phases.Made a other) ⊎ ((u ≢ t) × (slice_get s.threads u ≡ Some z)) → IsPlainNew c.program with_new a other
         by_thread u z a other m (inl h) =
-            let same = made_one q.next a word other (sym making ∙ h) in
+            let both : phases.Made q.next word ≡ phases.Made a other = sym making ∙ h in
+            let same : (q.next ≡ a) × (word ≡ other) = (cc, cc) in
             subst (λ (b : ℕ). IsPlainNew c.program with_new b other) same.0
             (subst (λ (w : ℕ). IsPlainNew c.program with_new q.next w) same.1 new_plain)
         by_thread u z a other m (inr k) = old_plain a other (scene.beside.new_objects u z a other k.1 m)

@@ -139,11 +139,8 @@ module _ {turn : Turn} {phase : Phase} (k : Moment turn phase) where
   -- the thread itself waits nowhere, where no bit but one that was set is set
   pub own_off : (later : List ℕ) → AreRecordsWritten s.words later → ((r : ℕ) → is_bit_set later r t ≡ true → is_bit_set s.words r t ≡ true) → (f : Phase) → was t ≡ f → ((r : ℕ) → MayWait f r → ⊥)
       → (m : ℕ) → has_wait_bit (references_of q.objects) later t m ≡ false
-  own_off later w less f e never m = by_test (has_wait_bit (references_of q.objects) later t m) refl
-    where
-      by_test : (b : Bool) → has_wait_bit (references_of q.objects) later t m ≡ b → b ≡ false
-      by_test true g = let b = set_in later w t m g in absurd (never b.0 ((waits_now f e).only b.0 (fat_low m b.0 b.1) (less b.0 b.2)))
-      by_test false g = refl
+  own_off later w less f e never m = (elim (has_wait_bit (references_of q.objects) later t m) as (λ (b : Bool). has_wait_bit (references_of q.objects) later t m ≡ b → b ≡ false)
+      [ true ↦ λ g. let b = set_in later w t m g in absurd (never b.0 ((waits_now f e).only b.0 (fat_low m b.0 b.1) (less b.0 b.2))) | false ↦ λ g. refl ]) refl
 
   -- ---- the plain machine made no step
 
@@ -186,11 +183,8 @@ module _ {turn : Turn} {phase : Phase} (k : Moment turn phase) where
 
   -- where the bit of u is as it was
   pub bits_else : SitesLieInside → (r v u : ℕ) → r < MONITOR_RECORDS → has_flag (bit_of u) v ≡ is_bit_set s.words r u → (n : ℕ) → is_bit_set (slice_set s.words (bits_word r) v) n u ≡ is_bit_set s.words n u
-  bits_else inside r v u low e n = by_record (same_or_not n r)
-    where
-      by_record : (n ≡ r) ⊎ (n ≢ r) → is_bit_set (slice_set s.words (bits_word r) v) n u ≡ is_bit_set s.words n u
-      by_record (inl f) = subst (λ (i : ℕ). is_bit_set (slice_set s.words (bits_word r) v) i u ≡ is_bit_set s.words i u) (sym f) (bits_here inside r v u low ∙ e)
-      by_record (inr d) = other_bits s.words r v n u d
+  bits_else inside r v u low e n = elim (same_or_not n r)
+      [ inl f ↦ subst (λ (i : ℕ). is_bit_set (slice_set s.words (bits_word r) v) i u ≡ is_bit_set s.words i u) (sym f) (bits_here inside r v u low ∙ e) | inr d ↦ other_bits s.words r v n u d ]
 
   -- bits are cleared
   pub bits_less : SitesLieInside → (r v u : ℕ) → r < MONITOR_RECORDS → (has_flag (bit_of u) v ≡ true → is_bit_set s.words r u ≡ true) → (n : ℕ) → is_bit_set (slice_set s.words (bits_word r) v) n u ≡ true → is_bit_set s.words n u ≡ true

@@ -54,11 +54,7 @@ goes_old s (Running frames) = runs_old (nat_lt s.counts.instructions s.cfg.steps
 goes_old s (Throwing x class frames) = tt
 goes_old s (Entering m frames) = tt
 goes_old s (Leaving m a frames) = tt
-goes_old s RootReturned = by_roots s.roots
-  where
-    by_roots : (roots : List ℕ) → IsOldPhase (goes_on (record s { roots = roots }) RootReturned).phase
-    by_roots [] = tt
-    by_roots (number ∷ roots) = tt
+goes_old s RootReturned = elim s.roots as (λ (roots : List ℕ). IsOldPhase (goes_on (record s { roots = roots }) RootReturned).phase) [ [] ↦ tt | number ∷ roots ↦ tt ]
 goes_old s (Uncaught class) = tt
 
 -- ---- its event stands for acts, leaves words, and makes y of it

@@ -22,13 +22,10 @@ some_number : (test : MethodInfo → Bool) (n : ℕ) (ms : List MethodInfo) (i :
 some_number test n [] i m e t none = cc
 some_number test n (x ∷ ms) i m e t none = by_test i e (test x) refl none (λ j f g. some_number test (suc n) ms j m f t g)
   where
-    same : slice_get (x ∷ ms) 0 ≡ Some m → test x ≡ true
-    same e = ap test (same_some e) ∙ t
-
     by_test : (i : ℕ) → slice_get (x ∷ ms) i ≡ Some m → (b : Bool) → test x ≡ b → (if b then n ∷ numbers_of test (suc n) ms else numbers_of test (suc n) ms) ≡ []
         → ((j : ℕ) → slice_get ms j ≡ Some m → numbers_of test (suc n) ms ≡ [] → ⊥) → ⊥
     by_test i e true h none more = cc
-    by_test zero e false h none more = let clash : true ≡ false = sym (same e) ∙ h in cc
+    by_test zero e false h none more = let clash : true ≡ false = sym (ap test (same_some e) ∙ t) ∙ h in cc
     by_test (suc j) e false h none more = more j e none
 
 no_run_roots : RunIsThere → (c : MarkedProgram) → IsMarked c → 0 < c.program.workers → run_roots c.program ≡ [] → ⊥
@@ -141,17 +138,8 @@ module _ (stands : RunIsThere) (states : States) (x : Thread) (workers : List Th
   first : slice_get s.threads 0 ≡ Some x
   first = ap (λ (xs : List Thread). slice_get xs 0) threads
 
-  behind : (u : ℕ) (z : Thread) → slice_get workers u ≡ Some z → slice_get s.threads (suc u) ≡ Some z
-  behind u z e = ap (λ (xs : List Thread). slice_get xs (suc u)) threads ∙ e
-
-  fit : PartFits x.part x.phase workers
-  fit = subst PartsFit threads facts.threads.parts
-
   outside : x.phase ≡ phases.Ended ends.Returned → x.attempt ≡ None
   outside rests = no_attempt c (was 0) x ends.Returned refl rests (facts.structure 0 x first)
-
-  same_all : StandsBeside c.program objects s q → StandsBeside c.program objects (record s { threads = x ∷ workers }) q
-  same_all k = subst (λ (xs : List Thread). StandsBeside c.program objects (record s { threads = xs }) q) threads k
 
   pairs_by : (ys : List Thread) → Pairs c.program (x ∷ workers) ys → Pairs c.program s.threads ys
   pairs_by ys k = subst (λ (xs : List Thread). Pairs c.program xs ys) (sym threads) k
@@ -163,11 +151,11 @@ module _ (stands : RunIsThere) (states : States) (x : Thread) (workers : List Th
       (λ z e two none. absurd (let one : 1 ≡ z.part = ap (λ (v : Thread). v.part) (same_some e) in omega (arith, two, one)))
     where
       idle : AllByRecursion (λ (w : Thread). w.phase ≡ phases.Idle) workers
-      idle = subst (λ (n : ℕ). PartFits n x.phase workers) part fit
+      idle = subst (λ (n : ℕ). PartFits n x.phase workers) part (subst PartsFit threads facts.threads.parts)
 
       each : (u : ℕ) (z : Thread) → slice_get workers u ≡ Some z → Alike c.program z (with_roots (run_roots c.program) z)
       each u z e =
-          let there = behind u z e in
+          let there = (ap (λ (xs : List Thread). slice_get xs (suc u)) threads ∙ e) in
           let z_idle = all_idle workers u z idle e in
           let own = facts.threads.own (suc u) z there in
           worker_alike c.program z (run_roots c.program) refl
@@ -195,7 +183,7 @@ module _ (stands : RunIsThere) (states : States) (x : Thread) (workers : List Th
     where
       by_test : (b : Bool) → may_begin (x ∷ workers) ≡ b → StandsBeside c.program objects (record s { threads = if b then part_begins c.program x.part x workers else x ∷ workers }) q
       by_test true h = by_part x.part refl h
-      by_test false h = same_all beside
+      by_test false h = subst (λ (xs : List Thread). StandsBeside c.program objects (record s { threads = xs }) q) threads beside
 
 pub next_beside : RunIsThere → NextStandsBeside
 next_beside stands c cfg objects was s q marked facts beside = by_threads s.threads refl

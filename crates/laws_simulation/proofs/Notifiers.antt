@@ -1,6 +1,7 @@
 -- A thread that notifies: it looks for a thread that waits, and wakes one or all.
 use Rattle.std.proofs.Common.{◌≡◌, ◌≢◌, ◌⊎◌, inl, inr, ℕ, ◌-◌, ◌^◌, ◌<◌, nat_lt, Bool, true, false, cond, List, [], ◌∷◌, Option, Some, None, refl, sym, ap, ◌∙◌, subst, arith, IsSome, map, slice_get, slice_index, slice_set, ◌==◌, bit_and, option_map}
 use Rattle.std.{specs.List.list_any, proofs.lemmas.{Bool.Decides.nat_tests, List.{length-map, length-set}, Option.slice_get-map}}
+use Rattle.std.proofs.lemmas.Bool.{cases_Bool}
 use Rattle.jvm_types.specs.Numbers.{has_flag}
 use Rattle.machine_types.specs.{Agreement.{has_wait_bit, ThreadFits}, Going.{with_phase, runs}, History.act_if, Monitors.{bit_of, lowest_of}, Owners.references_of}
 use Rattle.machine_types.specs.{PlainState.{Plain, PlainThread, with_thread, with_status}, PlainSteps.{waits_on, wakes, wakes_one, notified}, Threads.Thread, Waiting.is_bit_set, Words.bits_word}
@@ -44,20 +45,14 @@ module _ {turn : Turn} where
       behind : Plain
       behind = record q { threads = slice_set q.threads t (running y) }
 
-      fat : HasFat objects s.words t m r x
-      fat = owning k t x m r turn.here (counted k (phases.NotifyLook m r) (own_as k)).phase_shows.1
-
       empty : slice_index s.words (bits_word r) ≡ 0
       empty = grind (arith, nat_tests, e)
 
       off : (u : ℕ) → has_wait_bit (references_of q.objects) s.words u m ≡ false
-      off u = bit_now k u m r fat.lock ∙ ap (λ (n : ℕ). has_flag (bit_of u) n) empty
-
-      nobody : list_any (λ w. waits_on m w.status) q.threads ≡ false
-      nobody = none_waits m q.threads (nobody_by_bits c.program s q m turn.beside.agrees off)
+      off u = bit_now k u m r (owning k t x m r turn.here (counted k (phases.NotifyLook m r) (own_as k)).phase_shows.1).lock ∙ ap (λ (n : ℕ). has_flag (bit_of u) n) empty
 
       step : notified q t m y None ≡ Some behind
-      step = ap (λ (b : Bool). cond b None (Some (with_thread q t (with_status y plain.Run)))) nobody
+      step = ap (λ (b : Bool). cond b None (Some (with_thread q t (with_status y plain.Run)))) (none_waits m q.threads (nobody_by_bits c.program s q m turn.beside.agrees off))
 
   pub looked_for : (m r : ℕ) → Moment turn (phases.NotifyLook m r) → StepsBeside c objects s t x q
   looked_for m r k = by_test (slice_index s.words (bits_word r) == 0) refl
@@ -126,11 +121,8 @@ module _ {turn : Turn} where
         w : (w : PlainThread) × (slice_get q.threads u ≡ Some w)
         w = got_same_length s.threads q.threads u z.0 turn.beside.agrees.many z.1
 
-        asleep_now : IsAsleep c objects was q u z.0 m r
-        asleep_now = asleep k u z.0 m r one_apart z.1 one_fat one_set
-
         status : (d : ℕ) × (w.0.status ≡ plain.Waiting m d)
-        status = sleeps k u z.0 w.0 m r z.1 w.1 one_fat one_set asleep_now
+        status = sleeps k u z.0 w.0 m r z.1 w.1 one_fat one_set (asleep k u z.0 m r one_apart z.1 one_fat one_set)
 
         threads : List PlainThread
         threads = slice_set (slice_set q.threads u (wakes m w.0)) t (running y)

@@ -1,6 +1,7 @@
 -- The prints of an outcome are those of the plain state.
 use Rattle.std.proofs.Common.{◌≡◌, ◌⊎◌, inl, inr, ℕ, zero, suc, ◌+◌, Bool, true, false, cond, List, [], ◌∷◌, ◌++◌, length, map, Option, Some, None, refl, sym, ap, ◌∙◌, subst, arith, length-append, ◌==◌, Contains, option_map, slice_get, slice_set}
 use Rattle.std.{specs.List.{sum_by, range_with_len}, proofs.lemmas.{Bool.Decides.Decides-eqb, List.{Elements.{Contains-append_left, Contains-append_right}, Sums.sum_by-cons}, Option.slice_get-map}}
+use Rattle.std.proofs.lemmas.Bool.{cases_Bool}
 use Rattle.lists.proofs.ListLaws.{same_some}
 use Rattle.jvm_types.specs.declared.{outcome.{Print.Print, ThreadReport.ThreadReport}, program.Program.Program}
 use Rattle.checked_program.specs.MarkedProgram.{MarkedProgram}
@@ -17,11 +18,7 @@ last_or : {A : Type 0} (xs : List A) (z x : A) (i : ℕ) → slice_get (xs ++ z 
 last_or [] z x zero e = inr (refl, same_some e)
 last_or [] z x (suc i) e = absurd (cc)
 last_or (y ∷ xs) z x zero e = inl e
-last_or (y ∷ xs) z x (suc i) e = more (last_or xs z x i e)
-  where
-    more : (slice_get xs i ≡ Some x) ⊎ ((i ≡ length xs) × (z ≡ x)) → (slice_get xs i ≡ Some x) ⊎ ((suc i ≡ length (y ∷ xs)) × (z ≡ x))
-    more (inl f) = inl f
-    more (inr f) = inr (let k = f.0 in omega (arith, k), f.1)
+last_or (y ∷ xs) z x (suc i) e = elim (last_or xs z x i e) [ inl f ↦ inl f | inr f ↦ inr (let k = f.0 in omega (arith, k), f.1) ]
 
 sum_map : {A B : Type 0} (f : B → ℕ) (g : A → B) (xs : List A) → sum_by f (map g xs) ≡ sum_by (λ x. f (g x)) xs
 sum_map f g [] = refl
@@ -155,11 +152,8 @@ begun_same p (suc part) x workers = refl
 
 next_same : (p : Program) (threads : List Thread) → map (λ (z : Thread). z.prints) threads ≡ map (λ (z : Thread). z.prints) (next_threads p threads)
 next_same p [] = refl
-next_same p (x ∷ workers) = by_test (may_begin (x ∷ workers))
-  where
-    by_test : (b : Bool) → map (λ (z : Thread). z.prints) (x ∷ workers) ≡ map (λ (z : Thread). z.prints) (cond b (part_begins p x.part x workers) (x ∷ workers))
-    by_test true = begun_same p x.part x workers
-    by_test false = refl
+next_same p (x ∷ workers) = elim (may_begin (x ∷ workers)) as (λ (b : Bool). map (λ (z : Thread). z.prints) (x ∷ workers) ≡ map (λ (z : Thread). z.prints) (cond b (part_begins p x.part x workers) (x ∷ workers)))
+    [ true ↦ begun_same p x.part x workers | false ↦ refl ]
 
 pub next_keeps_prints : NextKeepsPrints
 next_keeps_prints c s q h = prints_of (record s { threads = next_threads c.program s.threads }) q (same_prints s.threads (next_threads c.program s.threads) q.prints (next_same c.program s.threads) (fit_of s q h))

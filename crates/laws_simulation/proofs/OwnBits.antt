@@ -29,11 +29,8 @@ module _ (references : List ℕ) (was : ℕ → Phase) (s : Core) (owners : Owne
       by_lock (locks.Free c) e = refl
       by_lock (locks.Held u) e = refl
       by_lock (locks.Flagged u) e = refl
-      by_lock (locks.Fat r) e = by_test (is_bit_set s.words r t) refl
-        where
-          by_test : (b : Bool) → is_bit_set s.words r t ≡ b → b ≡ false
-          by_test true f = let w = waiting.each t x there in absurd (never_waits (was t) r awake (w.only r (owners.locks_are.below m r e).1 f))
-          by_test false f = refl
+      by_lock (locks.Fat r) e = (elim (is_bit_set s.words r t) as (λ (b : Bool). is_bit_set s.words r t ≡ b → b ≡ false)
+          [ true ↦ λ f. let w = waiting.each t x there in absurd (never_waits (was t) r awake (w.only r (owners.locks_are.below m r e).1 f)) | false ↦ λ f. refl ]) refl
 
   -- a lock names the record of each thread that may wait
   named : (c : MarkedProgram) → Structure c was s.threads → (u r : ℕ) (z : Thread) → slice_get s.threads u ≡ Some z → MayWait (was u) r → ((m : ℕ) → lock_at references s.words m ≢ locks.Fat r) → ⊥
@@ -50,12 +47,9 @@ module _ (references : List ℕ) (was : ℕ → Phase) (s : Core) (owners : Owne
       by_phase phase shown holds knows shows may = may
 
   pub nobody_in : (c : MarkedProgram) → Structure c was s.threads → (r u : ℕ) → r < MONITOR_RECORDS → IsDrawn (locks_in references s.words) r → is_bit_set s.words r u ≡ false
-  nobody_in c structure r u low drawn = by_test (is_bit_set s.words r u) refl
+  nobody_in c structure r u low drawn = (elim (is_bit_set s.words r u) as (λ (b : Bool). is_bit_set s.words r u ≡ b → b ≡ false)
+      [ true ↦ λ f. absurd (by_thread (slice_get s.threads u) refl (waiting.others r u low f) f) | false ↦ λ f. refl ]) refl
     where
       by_thread : (o : Option Thread) → slice_get s.threads u ≡ o → IsSome o → is_bit_set s.words r u ≡ true → ⊥
       by_thread None e k f = absurd (cc)
       by_thread (Some z) e k f = let w = waiting.each u z e in named c structure u r z e (w.only r low f) drawn.unnamed
-
-      by_test : (b : Bool) → is_bit_set s.words r u ≡ b → b ≡ false
-      by_test true f = absurd (by_thread (slice_get s.threads u) refl (waiting.others r u low f) f)
-      by_test false f = refl

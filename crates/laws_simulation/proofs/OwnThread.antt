@@ -59,7 +59,7 @@ module _ (turn : Turn) where
       }
 
   pub part_runs : IsBusy x.phase → PartRuns c.program x.part x.roots
-  part_runs busy = by_number (same_or_not t 0)
+  part_runs busy = elim (same_or_not t 0) [ inl e ↦ by_part x.part refl e | inr n ↦ subst (λ (part : ℕ). PartRuns c.program part x.roots) (sym ((facts.threads.own t x here).part n)) tt ]
     where
       first : t ≡ 0 → slice_get s.threads 0 ≡ Some x
       first e = ap (slice_get s.threads) (sym e) ∙ here
@@ -71,10 +71,6 @@ module _ (turn : Turn) where
         busy_done c.program x.phase x.roots busy (facts.parts.done x (first z) (omega (arith, e))),
         λ none. not_ended x.phase busy (beside.done x (first z) (omega (arith, e)) none),
       )
-
-      by_number : (t ≡ 0) ⊎ (t ≢ 0) → PartRuns c.program x.part x.roots
-      by_number (inl e) = by_part x.part refl e
-      by_number (inr n) = subst (λ (part : ℕ). PartRuns c.program part x.roots) (sym ((facts.threads.own t x here).part n)) tt
 
   pub under_way : IsBusy x.phase → IsUnderWay c.program x.part x.roots own.plain
   under_way busy = record {

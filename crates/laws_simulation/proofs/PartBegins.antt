@@ -16,9 +16,6 @@ pub record Alike (p : Program) (z new : Thread) : Type 0 where
   pub held : new.held ≡ z.held
   pub fits : (bit : ℕ → Bool) (w : PlainThread) → ThreadFits p bit z z.attempt w → w.ended ≡ ends_shown p z.part z.phase → ThreadFits p bit new new.attempt w × (w.ended ≡ ends_shown p new.part new.phase)
 
-as_it_is : (p : Program) (z : Thread) → Alike p z z
-as_it_is p z = record { made = λ a word e. e; makes = λ a word e. e; held = refl; fits = λ bit w f e. (f, e) }
-
 -- each of them in its place
 abbrev pub Pairs : Program → List Thread → List Thread → Type 0
 Pairs p [] [] = Unit {0}
@@ -27,7 +24,7 @@ Pairs p xs ys = ⊥
 
 pub same_pairs : (p : Program) (xs : List Thread) → Pairs p xs xs
 same_pairs p [] = tt
-same_pairs p (x ∷ xs) = (as_it_is p x, same_pairs p xs)
+same_pairs p (x ∷ xs) = ((record { made = λ a word e. e; makes = λ a word e. e; held = refl; fits = λ bit w f e. (f, e) }), same_pairs p xs)
 
 many : (p : Program) (xs ys : List Thread) → Pairs p xs ys → length ys ≡ length xs
 many p [] [] k = refl

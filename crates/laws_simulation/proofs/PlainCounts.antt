@@ -38,11 +38,8 @@ none_along p count t (act ∷ acts) q all =
 -- only the first one does
 pub first_along : (p : Program) (count : Plain → PlainStep → ℕ) (t : ℕ) (act : Act) (acts : List Act) (q : Plain) → NeverCount count t acts
     → count_along p count (steps_of t (act ∷ acts)) q ≡ count q (record { thread = t; act = act })
-first_along p count t act acts q all = let rest = by_step (plain_step p q (record { thread = t; act = act })) in omega (arith, rest)
-  where
-    by_step : (o : Option Plain) → count_from (count_along p count (steps_of t acts)) o ≡ 0
-    by_step None = refl
-    by_step (Some r) = none_along p count t acts r all
+first_along p count t act acts q all = let rest = elim (plain_step p q (record { thread = t; act = act })) as (λ (o : Option Plain). count_from (count_along p count (steps_of t acts)) o ≡ 0)
+    [ None ↦ refl | Some r ↦ none_along p count t acts r all ] in omega (arith, rest)
 
 -- ---- those of other threads
 

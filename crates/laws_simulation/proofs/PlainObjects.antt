@@ -15,11 +15,7 @@ pub last_got : {X : Type 0} (xs : List X) (y : X) (i : ℕ) (x : X) → slice_ge
 last_got [] y zero x e = inr (refl, sym (same_some e))
 last_got [] y (suc i) x e = absurd (cc)
 last_got (z ∷ xs) y zero x e = inl e
-last_got (z ∷ xs) y (suc i) x e = one_on (last_got xs y i x e)
-  where
-    one_on : (slice_get xs i ≡ Some x) ⊎ ((i ≡ length xs) × (x ≡ y)) → (slice_get (z ∷ xs) (suc i) ≡ Some x) ⊎ ((suc i ≡ length (z ∷ xs)) × (x ≡ y))
-    one_on (inl g) = inl g
-    one_on (inr k) = inr (ap suc k.0, k.1)
+last_got (z ∷ xs) y (suc i) x e = elim (last_got xs y i x e) [ inl g ↦ inl g | inr k ↦ inr (ap suc k.0, k.1) ]
 
 pub got_before : {X : Type 0} (xs : List X) (y : X) (i : ℕ) (x : X) → slice_get xs i ≡ Some x → slice_get (xs ++ y ∷ []) i ≡ Some x
 got_before [] y i x e = absurd (cc)
@@ -37,21 +33,13 @@ contains_last {X} xs y = contains_got (xs ++ y ∷ []) (length xs) y (got_last x
     got_last (z ∷ xs) = got_last xs
 
 pub contained_last : {X : Type 0} (xs : List X) (y x : X) → Contains (xs ++ y ∷ []) x → Contains xs x ⊎ (x ≡ y)
-contained_last xs y x k = by_place (last_got xs y k.0 x (contained_got (xs ++ y ∷ []) x k))
-  where
-    by_place : (slice_get xs k.0 ≡ Some x) ⊎ ((k.0 ≡ length xs) × (x ≡ y)) → Contains xs x ⊎ (x ≡ y)
-    by_place (inl g) = inl (contains_got xs k.0 x g)
-    by_place (inr e) = inr e.1
+contained_last xs y x k = elim (last_got xs y k.0 x (contained_got (xs ++ y ∷ []) x k)) [ inl g ↦ inl (contains_got xs k.0 x g) | inr e ↦ inr e.1 ]
 
 -- ---- places
 
 -- what stands there is of an object that was there, or of the new one
 pub added_value : (os : List Object) (o : Object) (x v : ℕ) → object_value (os ++ o ∷ []) x ≡ Some v → (object_value os x ≡ Some v) ⊎ (value_in o x ≡ Some v)
-added_value [] o x v e = inr (by_value (value_in o x) e)
-  where
-    by_value : (a : Option ℕ) → option_or a None ≡ Some v → a ≡ Some v
-    by_value None e = e
-    by_value (Some w) e = e
+added_value [] o x v e = inr (((elim (value_in o x) as (λ (a : Option ℕ). option_or a None ≡ Some v → a ≡ Some v) [ None ↦ λ e. e | Some w ↦ λ e. e ]) e))
 added_value (d ∷ os) o x v e = by_value (value_in d x) (λ g. added_value os o x v g) e
   where
     by_value : (a : Option ℕ) → (object_value (os ++ o ∷ []) x ≡ Some v → (object_value os x ≡ Some v) ⊎ (value_in o x ≡ Some v)) → option_or a (object_value (os ++ o ∷ []) x) ≡ Some v
@@ -63,21 +51,14 @@ pub added_place : (os : List Object) (ss : List StaticValue) (o : Object) (x v :
     → (option_or (object_value os x) (static_value ss x) ≡ Some v) ⊎ (value_in o x ≡ Some v)
 added_place os ss o x v e = by_both (object_value (os ++ o ∷ []) x) (object_value os x) (static_value ss x) (value_in o x) (none_before os) (λ w g. added_value os o x w g) e
   where
-    none_or : (a b : Option ℕ) → option_or a b ≡ None → (a ≡ None) × (b ≡ None)
-    none_or None b e = (refl, e)
-    none_or (Some w) b e = absurd (cc)
-
     none_before : (es : List Object) → object_value (es ++ o ∷ []) x ≡ None → object_value es x ≡ None
     none_before [] e = refl
-    none_before (d ∷ es) e = let k = none_or (value_in d x) (object_value (es ++ o ∷ []) x) e in ap (λ (a : Option ℕ). option_or a (object_value es x)) k.0 ∙ none_before es k.1
+    none_before (d ∷ es) e = let k = (elim (value_in d x) as (λ (a : Option ℕ). (b : Option ℕ) → option_or a b ≡ None → (a ≡ None) × (b ≡ None))
+        [ None ↦ λ b e. (refl, e) | Some w ↦ λ b e. absurd (cc) ]) (object_value (es ++ o ∷ []) x) e in ap (λ (a : Option ℕ). option_or a (object_value es x)) k.0 ∙ none_before es k.1
 
     by_both : (a b s c : Option ℕ) → (a ≡ None → b ≡ None) → ((w : ℕ) → a ≡ Some w → (b ≡ Some w) ⊎ (c ≡ Some w)) → option_or a s ≡ Some v → (option_or b s ≡ Some v) ⊎ (c ≡ Some v)
     by_both None b s c none more e = inl (ap (λ (z : Option ℕ). option_or z s) (none refl) ∙ e)
-    by_both (Some w) b s c none more e = by_side (more w refl)
-      where
-        by_side : (b ≡ Some w) ⊎ (c ≡ Some w) → (option_or b s ≡ Some v) ⊎ (c ≡ Some v)
-        by_side (inl g) = inl (ap (λ (z : Option ℕ). option_or z s) g ∙ e)
-        by_side (inr g) = inr (g ∙ e)
+    by_both (Some w) b s c none more e = elim (more w refl) [ inl g ↦ inl (ap (λ (z : Option ℕ). option_or z s) g ∙ e) | inr g ↦ inr (g ∙ e) ]
 
 -- a field or an element of a new object is 0
 got_zero : (n i v : ℕ) → slice_get (replicate n 0) i ≡ Some v → v ≡ 0

@@ -31,24 +31,17 @@ module _ (o : Object) (x : ℕ) where
   pub lies_inside : (v : ℕ) → value_in o x ≡ Some v → (o.reference < x) × (x < object_end o)
   lies_inside v e = by_header (x == header_word o.reference) refl e
     where
-      by_value : (b : Bool) → has_value o x ≡ b → (if b then slice_get o.values (x - first_value o) else None) ≡ Some v → (o.reference < x) × (x < object_end o)
-      by_value true f e = let l = is_within f in (omega (arith, l.0), l.1)
-      by_value false f e = absurd (cc)
-
       by_header : (b : Bool) → (x == header_word o.reference) ≡ b → (if b then Some (header_of o) else if has_value o x then slice_get o.values (x - first_value o) else None) ≡ Some v → (o.reference < x) × (x < object_end o)
       by_header true f e = let same = (Decides-eqb x (header_word o.reference)).0 f in (omega (arith, same), omega (arith, same))
-      by_header false f e = by_value (has_value o x) refl e
+      by_header false f e = (elim (has_value o x) as (λ (b : Bool). has_value o x ≡ b → (if b then slice_get o.values (x - first_value o) else None) ≡ Some v → (o.reference < x) × (x < object_end o))
+          [ true ↦ λ f e. let l = is_within f in (omega (arith, l.0), l.1) | false ↦ λ f e. absurd (cc) ]) refl e
 
   pub none_outside : (x ≤ o.reference) ⊎ (object_end o ≤ x) → value_in o x ≡ None
-  none_outside k = by_option (value_in o x) refl
+  none_outside k = (elim (value_in o x) as (λ (w : Option ℕ). value_in o x ≡ w → w ≡ None) [ None ↦ λ e. refl | Some v ↦ λ e. absurd (by_side v e k) ]) refl
     where
       by_side : (v : ℕ) → value_in o x ≡ Some v → (x ≤ o.reference) ⊎ (object_end o ≤ x) → ⊥
       by_side v e (inl h) = let l = lies_inside v e in omega (arith, h, l.0)
       by_side v e (inr h) = let l = lies_inside v e in omega (arith, h, l.1)
-
-      by_option : (w : Option ℕ) → value_in o x ≡ w → w ≡ None
-      by_option None e = refl
-      by_option (Some v) e = absurd (by_side v e k)
 
 pub header_in : (o : Object) → value_in o (header_word o.reference) ≡ Some (header_of o)
 header_in o = ap (λ (b : Bool). if b then Some (header_of o) else if has_value o (header_word o.reference) then slice_get o.values (header_word o.reference - first_value o) else None) (is_same (header_word o.reference))
@@ -142,11 +135,8 @@ first_static (r ∷ ss) (suc i) s e = by_first (r.word == s.word) refl (first_st
 module _ (p : Program) (q : Plain) (apart : LieApart p q.objects q.statics q.next) where
   -- where a value was found
   pub found_place : (x v : ℕ) → value_at q x ≡ Some v → IsIn q.objects x v ⊎ IsAt q.statics x v
-  found_place x v e = by_objects (object_value q.objects x) refl e
-    where
-      by_objects : (w : Option ℕ) → object_value q.objects x ≡ w → option_or w (static_value q.statics x) ≡ Some v → IsIn q.objects x v ⊎ IsAt q.statics x v
-      by_objects (Some u) f g = inl (found_object q.objects x v (f ∙ g))
-      by_objects None f g = inr (found_static q.statics x v g)
+  found_place x v e = (elim (object_value q.objects x) as (λ (w : Option ℕ). object_value q.objects x ≡ w → option_or w (static_value q.statics x) ≡ Some v → IsIn q.objects x v ⊎ IsAt q.statics x v)
+      [ Some u ↦ λ f g. inl (found_object q.objects x v (f ∙ g)) | None ↦ λ f g. inr (found_static q.statics x v g) ]) refl e
 
   -- behind the monitor records, and below the number for the next reference
   pub place_low : (x v : ℕ) → value_at q x ≡ Some v → (FIRST_READY_WORD ≤ x) × (x < q.next)
@@ -162,18 +152,10 @@ module _ (p : Program) (q : Plain) (apart : LieApart p q.objects q.statics q.nex
           (omega (arith, low, k.word), omega (arith, high, k.word))
 
   other_object : (i j : ℕ) (o e : Object) (x : ℕ) → slice_get q.objects i ≡ Some o → slice_get q.objects j ≡ Some e → i ≢ j → o.reference ≤ x → x < object_end o → (x < e.reference) ⊎ (object_end e ≤ x)
-  other_object i j o e x f g n from to = by_side (apart.beside i j o e f g n)
-    where
-      by_side : IsBeside o e → (x < e.reference) ⊎ (object_end e ≤ x)
-      by_side (inl h) = inl (omega (arith, h, to))
-      by_side (inr h) = inr (omega (arith, h, from))
+  other_object i j o e x f g n from to = elim (apart.beside i j o e f g n) [ inl h ↦ inl (omega (arith, h, to)) | inr h ↦ inr (omega (arith, h, from)) ]
 
   none_in_other : (i j : ℕ) (o e : Object) (x : ℕ) → slice_get q.objects i ≡ Some o → slice_get q.objects j ≡ Some e → i ≢ j → o.reference ≤ x → x < object_end o → value_in e x ≡ None
-  none_in_other i j o e x f g n from to = by_side (other_object i j o e x f g n from to)
-    where
-      by_side : (x < e.reference) ⊎ (object_end e ≤ x) → value_in e x ≡ None
-      by_side (inl h) = none_outside e x (inl (omega (arith, h)))
-      by_side (inr h) = none_outside e x (inr h)
+  none_in_other i j o e x f g n from to = elim (other_object i j o e x f g n from to) [ inl h ↦ none_outside e x (inl (omega (arith, h))) | inr h ↦ none_outside e x (inr h) ]
 
   -- the lock word of an object is no place
   pub no_lock_place : (o : Object) (v : ℕ) → Contains q.objects o → value_at q o.reference ≡ Some v → ⊥
@@ -192,16 +174,9 @@ module _ (p : Program) (q : Plain) (apart : LieApart p q.objects q.statics q.nex
               omega (arith, l.0, ap (λ (z : Object). z.reference) one)
           by_index (inr n) =
               let l = lies_inside k.object o.reference v k.has in
-              by_side (other_object c.0 k.index o k.object o.reference there k.there n (omega arith) (omega arith)) l.0 l.1
-            where
-              by_side : (o.reference < k.object.reference) ⊎ (object_end k.object ≤ o.reference) → k.object.reference < o.reference → o.reference < object_end k.object → ⊥
-              by_side (inl h) a b = omega (arith, h, a)
-              by_side (inr h) a b = omega (arith, h, b)
-      by_place (inr k) = by_side (apart.mixed c.0 k.index o k.static there k.there)
-        where
-          by_side : IsOutside o k.static.word → ⊥
-          by_side (inl h) = omega (arith, h, k.word)
-          by_side (inr h) = omega (arith, h, k.word)
+              (elim (other_object c.0 k.index o k.object o.reference there k.there n (omega arith) (omega arith)) as (λ _. k.object.reference < o.reference → o.reference < object_end k.object → ⊥)
+              [ inl h ↦ λ a b. omega (arith, h, a) | inr h ↦ λ a b. omega (arith, h, b) ]) l.0 l.1
+      by_place (inr k) = elim (apart.mixed c.0 k.index o k.static there k.there) [ inl h ↦ omega (arith, h, k.word) | inr h ↦ omega (arith, h, k.word) ]
 
   -- a place of an object has its value
   pub value_of_object : (o : Object) (x v : ℕ) → Contains q.objects o → value_in o x ≡ Some v → value_at q x ≡ Some v

@@ -103,11 +103,7 @@ abbrev PrintsNot : Effect → Type 0
 PrintsNot e = value_of e ≡ None
 
 null_prints_not : (a : ℕ) (e : Effect) → PrintsNot e → PrintsNot (unless_null a e)
-null_prints_not a e k = by_test (a == 0)
-  where
-    by_test : (b : Bool) → PrintsNot (cond b (Throws NullPointerException) e)
-    by_test true = refl
-    by_test false = k
+null_prints_not a e k = elim (a == 0) as (λ (b : Bool). PrintsNot (cond b (Throws NullPointerException) e)) [ true ↦ refl | false ↦ k ]
 
 element_prints_not : (p : Program) (next : ℕ) (target : Target) (op : Op) (stored : Option ℕ) (l s : List ℕ) → is_element_op stored op ≡ true → PrintsNot (effect p next target op l s)
 element_prints_not p next target ops.Iaload stored l (i ∷ a ∷ s) k = null_prints_not a (Indexes a i None) refl

@@ -168,12 +168,9 @@ pub other_static : (ss : List StaticValue) (x v y : ℕ) → y ≢ x → static_
 other_static [] x v y n = refl
 other_static (s ∷ ss) x v y n = by_test (other_static ss x v y n) (s.word == x) refl
   where
-    apart : (b : Bool) → (s.word == y) ≡ b → (s.word == x) ≡ true → (if b then Some v else static_value ss y) ≡ (if b then Some s.value else static_value ss y)
-    apart true e t = absurd (n (grind (arith, nat_tests, e, t)))
-    apart false e t = refl
-
     by_test : static_value (static_write ss x v) y ≡ static_value ss y → (b : Bool) → (s.word == x) ≡ b → static_value (if b then record s { value = v } ∷ ss else s ∷ static_write ss x v) y ≡ static_value (s ∷ ss) y
-    by_test more true e = apart (s.word == y) refl e
+    by_test more true e = (elim (s.word == y) as (λ (b : Bool). (s.word == y) ≡ b → (s.word == x) ≡ true → (if b then Some v else static_value ss y) ≡ (if b then Some s.value else static_value ss y))
+        [ true ↦ λ e t. absurd (n (grind (arith, nat_tests, e, t))) | false ↦ λ e t. refl ]) refl e
     by_test more false e = ap (λ (a : Option ℕ). if s.word == y then Some s.value else a) more
 
 pub other_place : (q : Plain) (x v y : ℕ) → y ≢ x → value_at (written q x v) y ≡ value_at q y

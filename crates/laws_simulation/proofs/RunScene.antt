@@ -80,12 +80,9 @@ module _ {turn : Turn} {e : Effect} (i : Instruction turn e) where
   pub makes_none : (a word : ℕ) → x.phase ≡ phases.Made a word → ⊥
   makes_none a word h = let both : phases.Run ≡ phases.Made a word = sym runs ∙ h in cc
 
-  pub wakes : IsAwake (has_wait_bit (references_of q.objects) s.words t)
-  wakes = awake turn phases.Run (counts_as turn phases.Run runs) (λ r h. h)
-
   pub goes : (o : Onward)
       → GoesOn turn (goes_on (begun x) o) (plain.plain_goes_on (own turn).plain o)
-  goes o = going turn (begun x) (own turn).plain o refl turn.outside refl wakes (runs_on turn busy)
+  goes o = going turn (begun x) (own turn).plain o refl turn.outside refl (awake turn phases.Run (counts_as turn phases.Run runs) (λ r h. h)) (runs_on turn busy)
 
   pub may : IsAllowed c objects at e
   may = subst (IsAllowed c objects at) effect (allowed_at turn x.frames (values turn phases.Run runs) at found)

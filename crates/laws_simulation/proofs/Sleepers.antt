@@ -72,11 +72,8 @@ module _ {turn : Turn} {phase : Phase} (k : Moment turn phase) where
 
   -- no thread waits inside an attempt
   outside : (u : ℕ) (z : Thread) (m r depth : ℕ) → slice_get s.threads u ≡ Some z → was u ≡ phases.WaitLook m r depth → z.attempt ≡ None
-  outside u z m r depth g e = by_attempt z.attempt refl (subst (λ (f : Phase). AttemptStandsIn c f z.frames z.held z.attempt) e (turn.facts.structure u z g).attempt)
-    where
-      by_attempt : (a : Option Attempt) → z.attempt ≡ a → AttemptStandsIn c (phases.WaitLook m r depth) z.frames z.held a → z.attempt ≡ None
-      by_attempt None f stands = f
-      by_attempt (Some a) f stands = absurd stands.inside
+  outside u z m r depth g e = (elim z.attempt as (λ (a : Option Attempt). z.attempt ≡ a → AttemptStandsIn c (phases.WaitLook m r depth) z.frames z.held a → z.attempt ≡ None)
+      [ None ↦ λ f stands. f | Some a ↦ λ f stands. absurd stands.inside ]) refl (subst (λ (f : Phase). AttemptStandsIn c f z.frames z.held z.attempt) e (turn.facts.structure u z g).attempt)
 
   pub asleep : (u : ℕ) (z : Thread) (m r : ℕ) → u ≢ t → slice_get s.threads u ≡ Some z → HasFat objects s.words t m r x → is_bit_set s.words r u ≡ true → IsAsleep c objects was q u z m r
   asleep u z m r d g fat set = by_phase (was u) refl ((turn.facts.waiting.each u z g).only r fat.low set)

@@ -18,11 +18,8 @@ use Rattle.machine_types.specs.declared.plain.Act.TheVariants as acts
 -- ---- how a root goes on: the thread is not to begin another one
 
 left_by : (p : Program) (z : Thread) (b : Bool) (frames : List Frame) → DoneRoots p (goes_on z (if b then Running frames else Uncaught StackOverflowError)).phase z.roots → z.roots ≡ []
-left_by p z true frames h = by_test (nat_lt z.counts.instructions z.cfg.steps) h
-  where
-    by_test : (b : Bool) → DoneRoots p (if b then phases.Run else phases.Ending ends.Steps) z.roots → z.roots ≡ []
-    by_test true h = h
-    by_test false h = h
+left_by p z true frames h = (elim (nat_lt z.counts.instructions z.cfg.steps) as (λ (b : Bool). DoneRoots p (if b then phases.Run else phases.Ending ends.Steps) z.roots → z.roots ≡ [])
+    [ true ↦ λ h. h | false ↦ λ h. h ]) h
 left_by p z false frames h = h
 
 roots_on : (z : Thread) (b : Bool) (frames : List Frame) → (goes_on z (if b then Running frames else Uncaught StackOverflowError)).roots ≡ z.roots
@@ -37,14 +34,8 @@ module _ (scene : Scene) (keeps : EventsKeepParts) (starts : scene.x.phase ≡ p
   open scene use {turn, states, c, cfg, objects, was, s, t, x, q}
   open own turn use {plain as y}
 
-  was_so : was t ≡ phases.Start
-  was_so = counts_as turn phases.Start starts
-
   lives : x.phase ≡ phases.Ended ends.Returned → ⊥
   lives h = let both : phases.Start ≡ phases.Ended ends.Returned = sym starts ∙ h in cc
-
-  number_is : x.number ≡ t
-  number_is = let k = scene.facts.threads.own t x scene.here in k.number
 
   status : y.status ≡ start_status x.part
   status = status_fits turn phases.Start starts
@@ -81,7 +72,7 @@ module _ (scene : Scene) (keeps : EventsKeepParts) (starts : scene.x.phase ≡ p
         ap (λ (z : Phase). moved c x z 0) starts
         ∙ (ap (thread_started c.program x) roots
         ∙ (ap (λ (o : Option MethodInfo). goes_on_if begins_as (option_map (rooted c.program x.number number) o)) method
-        ∙ ap (λ (n : ℕ). goes_on begins_as (rooted c.program n number m)) number_is))
+        ∙ ap (λ (n : ℕ). goes_on begins_as (rooted c.program n number m)) (let k = scene.facts.threads.own t x scene.here in k.number)))
 
     root_begins : plain_begun c.program t y (number ∷ rest) ≡ Some (plain.plain_goes_on plain_as onward)
     root_begins = ap (option_map (λ (m : MethodInfo). plain.plain_goes_on plain_as (rooted c.program t number m))) method
@@ -127,11 +118,7 @@ module _ (scene : Scene) (keeps : EventsKeepParts) (starts : scene.x.phase ≡ p
     due_by (suc u) e first = by_number (suc u) e ∙ worker_due u e
 
     no_part : (n : ℕ) → x.part ≡ suc n → t ≡ 0
-    no_part n e = by_side (same_or_not t 0)
-      where
-        by_side : (t ≡ 0) ⊎ (t ≢ 0) → t ≡ 0
-        by_side (inl h) = h
-        by_side (inr d) = let none : x.part ≡ 0 = (let k = scene.facts.threads.own t x scene.here in k.part d) in absurd (omega (arith, e, none))
+    no_part n e = elim (same_or_not t 0) [ inl h ↦ h | inr d ↦ let none : x.part ≡ 0 = (let k = scene.facts.threads.own t x scene.here in k.part d) in absurd (omega (arith, e, none)) ]
 
     first_here : t ≡ 0 → slice_get s.threads 0 ≡ Some x
     first_here e = ap (slice_get s.threads) (sym e) ∙ scene.here
@@ -180,7 +167,7 @@ module _ (scene : Scene) (keeps : EventsKeepParts) (starts : scene.x.phase ≡ p
 
     goes : GoesOn turn now shown
     goes = going turn begins_as plain_as onward refl scene.outside refl
-        (awake turn phases.Start was_so (λ r h. h)) (record { roots = refl; ended = due_now.ended; runs = due_now.runs })
+        (awake turn phases.Start (counts_as turn phases.Start starts) (λ r h. h)) (record { roots = refl; ended = due_now.ended; runs = due_now.runs })
 
     root_steps : StepsBeside c objects s t x q
     root_steps = steps_of_event turn objects None (acts.Begin ∷ []) now

@@ -28,9 +28,6 @@ module _ (scene : Scene) (a word : ℕ) (made : scene.x.phase ≡ phases.Made a 
   stands : value_at q (header_word a) ≡ Some word
   stands = subst (λ (r : ℕ). value_at q (header_word r) ≡ Some word) own.reference (value_of_header c.program q scene.beside.apart own.object own.there ∙ ap Some own.header)
 
-  among : (r : ℕ) → IsAmong objects r → IsAmong later r
-  among r k = (k.0, contains_more (new_object a word (size_by c.program word)) objects k.0 k.1, k.2)
-
   here_or_other : (r : ℕ) → IsBeingMade s.threads r → IsAmong later r ⊎ IsBeingMade (slice_set s.threads t new) r
   here_or_other r k = by_thread (same_or_not k.0 t)
     where
@@ -41,7 +38,7 @@ module _ (scene : Scene) (a word : ℕ) (made : scene.x.phase ≡ phases.Made a 
       by_thread (inr d) = inr (k.0, k.1, k.2, got_other s.threads t k.0 new d ∙ k.3, k.4)
 
   by_object : (e : Object) → IsAmong objects e.reference ⊎ IsBeingMade s.threads e.reference → IsAmong later e.reference ⊎ IsBeingMade (slice_set s.threads t new) e.reference
-  by_object e (inl h) = inl (among e.reference h)
+  by_object e (inl h) = inl ((h.0, contains_more (new_object a word (size_by c.program word)) objects h.0 h.1, h.2))
   by_object e (inr h) = here_or_other e.reference h
 
   -- a header that is pending still, but for this one

@@ -47,23 +47,16 @@ module _ (objects : List Object) (threads : List Thread) (words : List ℕ) (q :
     (others : (e : Object) → Contains q.objects e
     → IsAmong objects e.reference ⊎ IsBeingMade threads e.reference)
     (new : (m : ℕ) → IsBeingMade threads m → slice_index words m ≡ 0) where
-  pub plain_has : (m : ℕ) → HasObject objects m → HasObject q.objects m
-  plain_has m k = let e = known k.0 k.1 in (e.0, e.1, e.2 ∙ k.2)
-
   pub same_lock_in : (m : ℕ) → lock_at (references_of q.objects) words m ≡ lock_at (references_of objects) words m
   same_lock_in m = by_tests (has_number (references_of q.objects) m) refl (has_number (references_of objects) m) refl
     where
       made : HasObject q.objects m → (has_number (references_of objects) m ≡ false) → slice_index words m ≡ 0
-      made k f = by_other (others k.0 k.1)
-        where
-          by_other : IsAmong objects k.0.reference ⊎ IsBeingMade threads k.0.reference → slice_index words m ≡ 0
-          by_other (inl h) = let there = object_has objects m (h.0, h.1, h.2 ∙ k.2) in absurd (cc)
-          by_other (inr h) = new m (subst (IsBeingMade threads) k.2 h)
+      made k f = elim (others k.0 k.1) [ inl h ↦ let there = object_has objects m (h.0, h.1, h.2 ∙ k.2) in absurd (cc) | inr h ↦ new m (subst (IsBeingMade threads) k.2 h) ]
 
       by_tests : (b : Bool) → has_number (references_of q.objects) m ≡ b → (d : Bool) → has_number (references_of objects) m ≡ d → cond b (lock_of (slice_index words m)) (locks.Free 0) ≡ cond d (lock_of (slice_index words m)) (locks.Free 0)
       by_tests true e true f = refl
       by_tests false e false f = refl
-      by_tests false e true f = let there = object_has q.objects m (plain_has m (has_object objects m f)) in absurd (cc)
+      by_tests false e true f = let there = object_has q.objects m (let e = known (has_object objects m f).0 (has_object objects m f).1 in (e.0, e.1, e.2 ∙ (has_object objects m f).2)) in absurd (cc)
       by_tests true e false f = ap lock_of (made (has_object q.objects m e) f)
 
   pub same_wait_bit_in : (t m : ℕ) → has_wait_bit (references_of q.objects) words t m ≡ has_wait_bit (references_of objects) words t m

@@ -49,11 +49,8 @@ module _ (turn : Turn) (begins : IsAtEffect IsOfWaiting turn.c turn.x) where
       nothing : found_by s.words (wanted c x phases.Run) ≡ 0
       nothing = ap (found_by s.words) unwanted
 
-  plain_top : top_of c.program y.frames ≡ Some at
-  plain_top = ap (top_of c.program) (own_frames k) ∙ found
-
   does : (e : Effect) → effect_at c.program at ≡ e → (behind : Plain) → instructed_by c.program q t y at e ≡ Some behind → step_at c.program q t y acts.Do plain.Run ≡ Some behind
-  does e is behind run = ap (plainly.plain_instructed c.program q t y) plain_top ∙ ap (instructed_by c.program q t y at) is ∙ run
+  does e is behind run = ap (plainly.plain_instructed c.program q t y) (ap (top_of c.program) (own_frames k) ∙ found) ∙ ap (instructed_by c.program q t y at) is ∙ run
 
   one_act : (e : Effect) → effect_at c.program at ≡ e → (y2 : PlainThread) → instructed_by c.program q t y at e ≡ Some (with_thread q t y2) → plain_run c.program q (steps_of t (acts.Do ∷ [])) ≡ Some (with_thread q t y2)
   one_act e is y2 run = first_step c.program q (with_thread q t y2) t y acts.Do [] plain.Run twin (own_status k) (does e is (with_thread q t y2) run)

@@ -203,11 +203,7 @@ module _ {turn : Turn} where
 
       -- the record has no owner, so no thread holds the monitor
       no_owner : owner_at s.words r ≡ 0
-      no_owner = by_test (nat_lt r MONITOR_RECORDS)
-        where
-          by_test : (b : Bool) → cond b (slice_index s.words (owner_word r)) 0 ≡ 0
-          by_test true = grind (arith, nat_tests, e)
-          by_test false = refl
+      no_owner = elim (nat_lt r MONITOR_RECORDS) as (λ (b : Bool). cond b (slice_index s.words (owner_word r)) 0 ≡ 0) [ true ↦ grind (arith, nat_tests, e) | false ↦ refl ]
 
       none_has : (u : ℕ) (z : Thread) → slice_get s.threads u ≡ Some z → held_at z.held m ≡ None
       none_has u z g =

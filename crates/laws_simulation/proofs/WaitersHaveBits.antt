@@ -2,6 +2,7 @@
 -- waits on the monitor.
 use Rattle.std.proofs.Common.{◌≡◌, ◌≢◌, ◌⊎◌, inl, inr, ℕ, zero, suc, Bool, true, false, cond, List, [], ◌∷◌, Option, Some, None, refl, sym, ap, ◌∙◌, arith, ⊎_elim, slice_get, slice_index, map, ◌==◌, ◌||◌}
 use Rattle.std.{specs.List.list_any, proofs.lemmas.{Bool.Decides.Decides-eqb, Option.slice_get_cases}}
+use Rattle.std.proofs.lemmas.Bool.{cases_Bool}
 use Rattle.jvm_types.specs.{Numbers.has_flag, declared.{outcome.End.End, program.Program.Program}}
 use Rattle.machine_types.specs.{Agreement.{has_wait_bit, toward_status, waiting_status, start_status, LimitFits, EndingFits, StatusFits, ThreadFits, Agrees}, Core.Core, Monitors.bit_of}
 use Rattle.machine_types.specs.{Owners.{lock_at, references_of}, PlainState.{Status, PlainThread, Plain, with_status}, PlainSteps.{waits_on, woken, wakes}, Threads.{Attempt, Thread}}
@@ -28,18 +29,13 @@ pub bit_of_fat : (references words : List ℕ) (t m r : ℕ) → lock_at referen
 bit_of_fat references words t m r e = ap (bit_by words t) e
 
 pub bit_in : (references words : List ℕ) (t m : ℕ) → has_wait_bit references words t m ≡ true → IsBitIn references words t m
-bit_in references words t m e = by_lock (lock_at references words m) refl e
-  where
-    by_lock : (l : LockWord) → lock_at references words m ≡ l → bit_by words t l ≡ true → IsBitIn references words t m
-    by_lock (locks.Fat r) f g = record { r = r; fat = f; set = g }
-    by_lock (locks.Free c) f g = absurd (cc)
-    by_lock (locks.Held u) f g = absurd (cc)
-    by_lock (locks.Flagged u) f g = absurd (cc)
+bit_in references words t m e = (elim (lock_at references words m) as (λ (l : LockWord). lock_at references words m ≡ l → bit_by words t l ≡ true → IsBitIn references words t m)
+    [ locks.Fat r ↦ λ f g. record { r = r; fat = f; set = g } | locks.Free c ↦ λ f g. absurd (cc) | locks.Held u ↦ λ f g. absurd (cc) | locks.Flagged u ↦ λ f g. absurd (cc) ]) refl e
 
 -- ---- a thread whose plain status is that it waits
 
 limit_waits : (bit : ℕ → Bool) (status : Status) (Awake : Type 0) (m depth : ℕ) → LimitFits bit status Awake → (Awake → status ≡ plain.Waiting m depth → ⊥) → status ≡ plain.Waiting m depth → bit m ≡ true
-limit_waits bit status Awake m depth f never w = by_test (bit m) refl
+limit_waits bit status Awake m depth f never w = elim (cases_Bool (bit m)) [ inl e ↦ e | inr e ↦ absurd (never (f.awake (λ n. off e n (bit n) refl)) w) ]
   where
     off : bit m ≡ false → (n : ℕ) (b : Bool) → bit n ≡ b → bit n ≡ false
     off e n true g =
@@ -48,10 +44,6 @@ limit_waits bit status Awake m depth f never w = by_test (bit m) refl
         let one : m ≡ n = cc in
         let clash : true ≡ false = sym g ∙ ap bit (sym one) ∙ e in cc
     off e n false g = g
-
-    by_test : (b : Bool) → bit m ≡ b → bit m ≡ true
-    by_test true e = e
-    by_test false e = absurd (never (f.awake (λ n. off e n (bit n) refl)) w)
 
 toward_waits : (n : ℕ) (toward : Toward) (status : Status) (m depth : ℕ) → status ≡ toward_status n toward → status ≡ plain.Waiting m depth → ⊥
 toward_waits n (towards.Leave a) status m depth f w = cc
@@ -118,11 +110,8 @@ pub nobody_on_thin : (p : Program) (s : Core) (q : Plain) (m : ℕ) → Agrees p
 nobody_on_thin p s q m a thin u y depth e w = let k = bit_in (references_of q.objects) s.words u m (waiter_has_bit p s q u m depth y a e w) in thin k.r k.fat
 
 waits_by_status : (m : ℕ) (status : Status) → ((depth : ℕ) → status ≡ plain.Waiting m depth → ⊥) → waits_on m status ≡ false
-waits_by_status m (plain.Waiting n depth) never = by_test (n == m) refl
-  where
-    by_test : (b : Bool) → (n == m) ≡ b → b ≡ false
-    by_test true e = absurd (never depth (ap (λ (k : ℕ). plain.Waiting k depth) ((Decides-eqb n m).0 e)))
-    by_test false e = refl
+waits_by_status m (plain.Waiting n depth) never = (elim (n == m) as (λ (b : Bool). (n == m) ≡ b → b ≡ false)
+    [ true ↦ λ e. absurd (never depth (ap (λ (k : ℕ). plain.Waiting k depth) ((Decides-eqb n m).0 e))) | false ↦ λ e. refl ]) refl
 waits_by_status m status never = refl
 
 -- so a notification wakes none
@@ -133,11 +122,8 @@ none_waits m (y ∷ ys) never =
     ap (λ (b : Bool). b || list_any (λ w. waits_on m w.status) ys) first ∙ none_waits m ys (λ u z depth e w. never (suc u) z depth e w)
 
 woken_by_status : (m : ℕ) (status : Status) → ((depth : ℕ) → status ≡ plain.Waiting m depth → ⊥) → woken m status ≡ status
-woken_by_status m (plain.Waiting n depth) never = by_test (n == m) refl
-  where
-    by_test : (b : Bool) → (n == m) ≡ b → cond b (plain.Woken n depth) (plain.Waiting n depth) ≡ plain.Waiting n depth
-    by_test true e = absurd (never depth (ap (λ (k : ℕ). plain.Waiting k depth) ((Decides-eqb n m).0 e)))
-    by_test false e = refl
+woken_by_status m (plain.Waiting n depth) never = (elim (n == m) as (λ (b : Bool). (n == m) ≡ b → cond b (plain.Woken n depth) (plain.Waiting n depth) ≡ plain.Waiting n depth)
+    [ true ↦ λ e. absurd (never depth (ap (λ (k : ℕ). plain.Waiting k depth) ((Decides-eqb n m).0 e))) | false ↦ λ e. refl ]) refl
 woken_by_status m status never = refl
 
 pub stays_asleep : (m : ℕ) (y : PlainThread) → ((depth : ℕ) → y.status ≡ plain.Waiting m depth → ⊥) → wakes m y ≡ y

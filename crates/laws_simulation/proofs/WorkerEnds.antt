@@ -1,6 +1,7 @@
 -- No worker keeps how an earlier part ended.
 use Rattle.std.proofs.Common.{◌≡◌, ℕ, zero, suc, ◌+◌, Bool, true, false, cond, List, [], ◌∷◌, map, Option, Some, None, refl, sym, ap, ◌∙◌, arith, ◌==◌, slice_get, slice_set}
 use Rattle.std.{specs.List.range_with_len, proofs.lemmas.Bool.Decides.Decides-eqb}
+use Rattle.std.proofs.lemmas.Bool.{cases_Bool}
 use Rattle.lists.proofs.ListLaws.{same_some}
 use Rattle.jvm_types.specs.declared.program.Program.{Program}
 use Rattle.checked_program.specs.MarkedProgram.{MarkedProgram}
@@ -22,11 +23,8 @@ kept_by given c s t x got there h u z e some = by_number (u == t) refl
     by_number false d = h u z (sym (set_other s.threads t u (moved c x x.phase got) d) ∙ e) some
 
 pub events_keep_none : GivenIsKept → EventsKeepNone
-events_keep_none given c s t h = by_thread (slice_get s.threads t) refl
-  where
-    by_thread : (o : Option Thread) → slice_get s.threads t ≡ o → WorkersKeepNone (event_of c s t o).threads
-    by_thread None e = h
-    by_thread (Some x) e = kept_by given c s t x (found_by s.words (wanted c x x.phase)) e h
+events_keep_none given c s t h = (elim (slice_get s.threads t) as (λ (o : Option Thread). slice_get s.threads t ≡ o → WorkersKeepNone (event_of c s t o).threads)
+    [ None ↦ λ e. h | Some x ↦ λ e. kept_by given c s t x (found_by s.words (wanted c x x.phase)) e h ]) refl
 
 -- ---- where a part begins
 
@@ -45,11 +43,8 @@ begun p (suc part) x workers h (suc u) z e some = workers_of x workers h u z e
 
 next_none : (p : Program) (threads : List Thread) → WorkersKeepNone threads → WorkersKeepNone (next_threads p threads)
 next_none p [] h = h
-next_none p (x ∷ workers) h = by_test (may_begin (x ∷ workers))
-  where
-    by_test : (b : Bool) → WorkersKeepNone (cond b (part_begins p x.part x workers) (x ∷ workers))
-    by_test true = begun p x.part x workers h
-    by_test false = h
+next_none p (x ∷ workers) h = elim (may_begin (x ∷ workers)) as (λ (b : Bool). WorkersKeepNone (cond b (part_begins p x.part x workers) (x ∷ workers)))
+    [ true ↦ begun p x.part x workers h | false ↦ h ]
 
 pub next_keeps_none : NextKeepsNone
 next_keeps_none c s h = next_none c.program s.threads h
