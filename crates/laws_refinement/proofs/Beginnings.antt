@@ -110,14 +110,11 @@ module _ (entering : Entering) (m count : ℕ) (due : IsAttemptDue entering.c en
         turns = refl;
       }
 
-  found : lock_of (found_by s.words (wanted c x x.phase)) ≡ locks.Free count
-  found = ap lock_of (at_entry c s x m due.tried due.enters due.outside due.not_held ∙ due.is_free) ∙ lock_of_word (locks.Free count)
-
   below_last : nat_lt count x.cfg.range ≡ true
   below_last = lt-ltb count x.cfg.range (subst (λ (k : Config). count < k.range) (sym settings) due.not_last)
 
   moves : moved c x x.phase (found_by s.words (wanted c x x.phase)) ≡ begins x x.frames m count (due.tried + 1)
-  moves = by_found (found_by s.words (wanted c x x.phase)) found
+  moves = by_found (found_by s.words (wanted c x x.phase)) (ap lock_of (at_entry c s x m due.tried due.enters due.outside due.not_held ∙ due.is_free) ∙ lock_of_word (locks.Free count))
     where
       by_found : (got : ℕ) → lock_of got ≡ locks.Free count → moved c x x.phase got ≡ begins x x.frames m count (due.tried + 1)
       by_found got free =

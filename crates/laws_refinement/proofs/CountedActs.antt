@@ -76,9 +76,6 @@ only_step : (p : Program) (o : Option Plain) (r : Plain) → option_and_then (λ
 only_step p None r e = absurd (cc)
 only_step p (Some v) r e = e
 
-steps_to : (p : Program) (q : Plain) (t m : ℕ) (x z : Alone) (act : Act) → Stands q t m x → m ≢ 0 → replay_act p m (value_at q) x act x.thread.status ≡ Some z → plain_step p q (step_by t act) ≡ Some (stands_as q t m z)
-steps_to p q t m x z act f some e = only_step p (plain_step p q (step_by t act)) (stands_as q t m z) (played p q t m (act ∷ []) x z f some (ap (option_and_then (replayed p m (value_at q) [])) e))
-
 -- it leads to where the replay does, and counts what that begins
 pub record Does (p : Program) (q : Plain) (t m : ℕ) (x z : Alone) (act : Act) : Type 0 where
   pub step : plain_step p q (record { thread = t; act = act }) ≡ Some (stands_as q t m z)
@@ -87,7 +84,7 @@ pub record Does (p : Program) (q : Plain) (t m : ℕ) (x z : Alone) (act : Act) 
 
 pub does : (p : Program) (q : Plain) (t m : ℕ) (x z : Alone) (act : Act) → Stands q t m x → m ≢ 0 → replay_act p m (value_at q) x act x.thread.status ≡ Some z → Does p q t m x z act
 does p q t m x z act f some e = record {
-  step = steps_to p q t m x z act f some e;
+  step = only_step p (plain_step p q (step_by t act)) (stands_as q t m z) (played p q t m (act ∷ []) x z f some (ap (option_and_then (replayed p m (value_at q) [])) e));
   runs = runs_by p q t m x z act x.thread.status f refl e;
   takes = takes_by p q t m x z act x.thread.status f refl e;
 }

@@ -26,18 +26,12 @@ never_by false e = absurd (cc)
 
 pub never_runs : (c : MarkedProgram) (a : Attempt) (o : Option Top) (got : ℕ) → run_fate c a o got ≡ Finishes → ⊥
 never_runs c a None got e = absurd (cc)
-never_runs c a (Some at) got e = by_check (is_checked at.frame.pc (effect_at c.program at)) e
-  where
-    by_check : (b : Bool) → cond b (fate_by (is_same a got) GoesOn) GoesOn ≡ Finishes → ⊥
-    by_check true f = never_by (is_same a got) f
-    by_check false f = absurd (cc)
+never_runs c a (Some at) got e = (elim (is_checked at.frame.pc (effect_at c.program at)) as (λ (b : Bool). cond b (fate_by (is_same a got) GoesOn) GoesOn ≡ Finishes → ⊥)
+    [ true ↦ λ f. never_by (is_same a got) f | false ↦ λ f. absurd (cc) ]) e
 
 passed : (b : Bool) → fate_by b Finishes ≡ Finishes → b ≡ true
 passed true e = refl
 passed false e = absurd (cc)
-
-not_more : (n : ℕ) → nat_lt 0 n ≡ false → n ≡ 0
-not_more n e = grind (arith, nat_tests, e)
 
 by_claim : (x : Thread) (a : Attempt) (m : ℕ) (b : After) (got : ℕ) (o : Option Held) → held_at x.held m ≡ o → x.attempt ≡ Some a → leave_fate (claim_by m o x.attempt) got ≡ Finishes → IsDone x a (phases.Leave m b) got
 by_claim x a m b got (Some h) h_is tries e = absurd (cc)
@@ -49,7 +43,7 @@ by_claim x a m b got None none tries e = by_monitor (a.monitor == m) refl (subst
       after_it = b;
       leaves = ap (λ (n : ℕ). phases.Leave n b) (sym same);
       claims = ap (claim x) same ∙ g;
-      outermost = not_more a.inner k;
+      outermost = grind (arith, nat_tests, k);
       same = passed (is_same a got) f;
     }
 
@@ -70,14 +64,8 @@ module _ (c : MarkedProgram) (s : Core) (t : ℕ) (x : Thread) (a : Attempt) (th
   wants : wanted c x x.phase ≡ Some (Load a.monitor)
   wants = ap (wanted c x) d.leaves ∙ ap (leave_wants x a.monitor) d.claims ∙ ap (finish_wants a.monitor) d.outermost
 
-  finds : found_by s.words (wanted c x x.phase) ≡ slice_index s.words a.monitor
-  finds = ap (found_by s.words) wants
-
   pub as_noted : IsAsNoted s.words a
-  as_noted = sym finds ∙ (Decides-eqb (found_by s.words (wanted c x x.phase)) (word_of_lock (locks.Free a.noted))).0 d.same
-
-  words_stay : words_after s.words (wanted c x x.phase) ≡ s.words
-  words_stay = ap (words_after s.words) wants ∙ set_self s.words a.monitor
+  as_noted = sym (ap (found_by s.words) wants) ∙ (Decides-eqb (found_by s.words (wanted c x x.phase)) (word_of_lock (locks.Free a.noted))).0 d.same
 
   moves : (o : Onward) → after c.program x.frames d.after_it ≡ Some o → moved c x x.phase (found_by s.words (wanted c x x.phase)) ≡ goes_on (elided x) o
   moves o goes =
@@ -89,4 +77,4 @@ module _ (c : MarkedProgram) (s : Core) (t : ℕ) (x : Thread) (a : Attempt) (th
       ∙ ap (goes_on_if (elided x)) goes
 
   pub event_is : (o : Onward) → after c.program x.frames d.after_it ≡ Some o → event c s t ≡ record { words = s.words; threads = slice_set s.threads t (goes_on (elided x) o) }
-  event_is o goes = ap (event_of c s t) there ∙ (λ i. record { words = words_stay i; threads = slice_set s.threads t (moves o goes i) })
+  event_is o goes = ap (event_of c s t) there ∙ (λ i. record { words = (ap (words_after s.words) wants ∙ set_self s.words a.monitor) i; threads = slice_set s.threads t (moves o goes i) })

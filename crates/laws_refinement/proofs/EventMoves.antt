@@ -32,10 +32,7 @@ module _ (memory : InstructionsChangeMemory) (laws : AreEventLaws) (elided : Are
   outside : x.attempt ≡ None → MovesIn c objects s t x d q None
   outside e =
       let moves : StepsBeside c objects s t x q = steps_beside laws (record {
-        states = record { c = c; cfg = cfg; objects = objects; was = was; s = s; q = q; marked = turns.marked; facts = turns.facts; beside = beside };
-        t = t;
-        x = x;
-        here = turns.thread;
+        member = record { states = record { c = c; cfg = cfg; objects = objects; was = was; s = s; q = q; marked = turns.marked; facts = turns.facts; beside = beside }; t = t; x = x; here = turns.thread };
         outside = e;
       }) turns.width in
       let stands : StandsToMove c cfg objects was s t x q moves.after =

@@ -52,9 +52,6 @@ module _ (laws : AreEventLaws) (turn : Turn) (width : HaveWidth turn.cfg) where
   locks : LocksPhase x.phase → StepsOf turn
   locks = by_law (λ c x. LocksPhase x.phase) laws.locks
 
-  waits : WaitsPhase x.phase → StepsOf turn
-  waits = by_law (λ c x. WaitsPhase x.phase) laws.wait_phases
-
   by_phase : (phase : Phase) → x.phase ≡ phase → StepsOf turn
   by_phase phases.Run e = begins e
   by_phase phases.Start e = onward (subst GoesOnPhase (sym e) tt)
@@ -71,7 +68,7 @@ module _ (laws : AreEventLaws) (turn : Turn) (width : HaveWidth turn.cfg) where
   by_phase (phases.FlatOut m a) e = locks (subst LocksPhase (sym e) tt)
   by_phase (phases.Own m r toward) e = locks (subst LocksPhase (sym e) tt)
   by_phase (phases.FatIn m r toward) e = locks (subst LocksPhase (sym e) tt)
-  by_phase phase e = waits (subst WaitsPhase (sym e) tt)
+  by_phase phase e = (by_law (λ c x. WaitsPhase x.phase) laws.wait_phases) (subst WaitsPhase (sym e) tt)
 
   pub steps_beside : StepsOf turn
   steps_beside = by_phase x.phase refl

@@ -19,13 +19,10 @@ module _ (c : MarkedProgram) (x y : Thread) (got : ℕ) where
   inside_counts a Fails never k = absurd (never refl)
   inside_counts a Finishes never k = k.2
 
-  not_entering : is_entering y.phase ≡ false → (m tried : ℕ) → y.phase ≡ phases.Enter m tried → ⊥
-  not_entering out m tried e = let bad : true ≡ false = ap is_entering (sym e) ∙ out in absurd (cc)
-
   ends_by : (a : Attempt) (f : Fate) → HasFate x y a f → EndsBy f a y
   ends_by a GoesOn k = (k.0, k.1)
   ends_by a Fails k = k.outside
-  ends_by a Finishes k = (k.0, not_entering k.1)
+  ends_by a Finishes k = (k.0, λ m tried e. let bad : true ≡ false = ap is_entering (sym e) ∙ k.1 in absurd (cc))
 
 module _ (may_do : InsideMayDo) (elements : ElementsInside) (runs : RunsHaveState) (parts : ProgramsKeepThreads) where
   pub attempts_end : AttemptsEnd

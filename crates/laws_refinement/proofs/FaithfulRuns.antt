@@ -120,13 +120,10 @@ module _ (beginning : Beginning) where
     moves : MovesIn c l.objects s t x (slice_index_or pasts t no_past) l.state x.attempt
     moves = event_moves memory laws elided its (slice_index_or pasts t no_past) l.state l.beside (l.owes t x there)
 
-    after_threads : (event c s t).threads ≡ slice_set s.threads t (moved c x x.phase (found_of c s x))
-    after_threads = ap (λ (o : Option Thread). (event_of c s t o).threads) there
-
     -- it is the one that moved, or another that is as it was
     by_thread : (P : ℕ → Thread → Type 0) → P t (moved c x x.phase (found_of c s x)) → ((u : ℕ) (z : Thread) → (u == t) ≡ false → slice_get s.threads u ≡ Some z → P u z)
         → (u : ℕ) (z : Thread) → slice_get (event c s t).threads u ≡ Some z → P u z
-    by_thread P here other u z e = by_number (u == t) refl (ap (λ (threads : List Thread). slice_get threads u) (sym after_threads) ∙ e)
+    by_thread P here other u z e = by_number (u == t) refl (ap (λ (threads : List Thread). slice_get threads u) (sym (ap (λ (o : Option Thread). (event_of c s t o).threads) there)) ∙ e)
       where
         by_number : (b : Bool) → (u == t) ≡ b → slice_get (slice_set s.threads t (moved c x x.phase (found_of c s x))) u ≡ Some z → P u z
         by_number true d f =
@@ -308,9 +305,6 @@ module _ (beginning : Beginning) where
 
   -- ---- a run is faithful
 
-  plain_run_of : (hs : List Happening) → IsPlainRun c cfg hs
-  plain_run_of hs = let l = reached hs in record { state = l.state; run = l.run; agrees = l.beside.agrees; prints = l.prints }
-
   counted_of_all : (hs : List Happening) → AreCounted c cfg hs
   unfolding past
   counted_of_all hs t x e = (reached hs).counts t x e
@@ -325,7 +319,7 @@ module _ (beginning : Beginning) where
 
   faithful : (hs : List Happening) → IsFaithful c cfg hs
   faithful hs = record {
-    plain = λ before rest e. plain_run_of before;
+    plain = λ before rest e. (let l = reached before in record { state = l.state; run = l.run; agrees = l.beside.agrees; prints = l.prints });
     counts = λ before rest e. counted_of_all before;
     silent = λ before rest t e. silent_of before t;
     ends = λ r over. ends_of hs r over;

@@ -24,9 +24,4 @@ module _ (its : BuiltEvent) (fi : ℕ) (field : FieldInfo) (is : slice_get its.c
   -- the word is as it was, or a method of the field's class runs
   pub field_writer : (o : Object) → is_static field.flags ≡ false → Contains objects o → o.class ≡ field.class
       → (slice_index (words_after s.words (wanted c x x.phase)) (value_word o.reference field.index) ≡ slice_index s.words (value_word o.reference field.index)) ⊎ TopIsOf c.program field.class x.frames
-  field_writer o instance here of_class = by_writer (writer_of (place_event its) fi field is instance o here of_class)
-    where
-      by_writer : (slice_index (words_after s.words (wanted c x x.phase)) (value_word o.reference field.index) ≡ slice_index s.words (value_word o.reference field.index)) ⊎ IsWriter (Writer c fi o.reference) x
-          → (slice_index (words_after s.words (wanted c x x.phase)) (value_word o.reference field.index) ≡ slice_index s.words (value_word o.reference field.index)) ⊎ TopIsOf c.program field.class x.frames
-      by_writer (inl same) = inl same
-      by_writer (inr k) = inr (top_of_class o.reference x.frames k.top)
+  field_writer o instance here of_class = elim (writer_of (place_event its) fi field is instance o here of_class) [ inl same ↦ inl same | inr k ↦ inr (top_of_class o.reference x.frames k.top) ]

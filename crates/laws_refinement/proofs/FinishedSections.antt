@@ -12,7 +12,7 @@ use Rattle.laws_threads.proofs.{Releases.goes_behind, ThreadMove.{goes_held, goe
 use Rattle.laws_states.{specs.{HeapFacts.{objects_after, objects_by, objects_of}, SiteLaws.SitesDiffer, Sites.HasObject}, proofs.Lists.{contained_got, same_or_not}}
 use Rattle.laws_states.proofs.{LockViews.not_held, Phases.IsOldPhase, WordViews.{lock_of_word, object_has}}
 use Rattle.laws_simulation.{specs.StandsBeside.{StandsBeside, end_of_done}, proofs.{Assembled.{moved_beside}, GoingOnAlike.{IsUnderWay, OwnFits, going_alike, none_ends}}}
-use Rattle.laws_simulation.proofs.{HoldingsAlike.{depth_is_held, free_then, put_else, without_else}, Landing.never_made, Moving.{goes_old, goes_part}, OwnBits.{IsAwake, no_own_bit}}
+use Rattle.laws_simulation.proofs.{HoldingsAlike.{alike_kept, free_then, put_else, without_else}, Landing.never_made, Moving.{goes_old, goes_part}, OwnBits.{IsAwake, no_own_bit}}
 use Rattle.laws_simulation.proofs.WaitBits.{same_wait_bit}
 use Rattle.laws_refinement.{specs.ElidedSteps.{FinishesBeside, SectionsFinish, found_of}, proofs.{Playing.{Player, has_bit, plain_fits, plain_there}, DoneSections.{IsDone, is_done, as_noted, event_is}, FinishedPlaces.staying_value}}
 use Rattle.laws_refinement.proofs.{PartsUnderWay.part_runs, WholeSections.{IsWhole, whole, holdings_behind, at_end, behind_section, section_acts}}
@@ -104,20 +104,16 @@ module _ (differ : SitesDiffer) (player : Player) (d : IsDone player.x player.a 
     fits_behind : (b : Option Attempt) → b ≡ None → ThreadFits c.program (has_bit player) behind b (plain.plain_goes_on (at_end x a (was t) n twin.ended) goes.0)
     fits_behind b e = subst (λ (o : Option Attempt). ThreadFits c.program (has_bit player) behind o (plain.plain_goes_on (at_end x a (was t) n twin.ended) goes.0)) (sym e) alike.outside
 
-    not_left : (phase : Phase) → phase ≡ phases.Leave a.monitor d.after_it → IsOldPhase phase
-    not_left phase e = subst IsOldPhase (sym e) tt
-
     stands_then : StandsBeside c.program objects (record { words = s.words; threads = slice_set s.threads t behind }) after_all
-    stands_then = moved_beside c.program objects s q t s.words x behind (holdings_behind q.holdings a.monitor t a.inner) (plain.plain_goes_on (at_end x a (was t) n twin.ended) goes.0) q.prints beside there (record {
+    stands_then = moved_beside player.member s.words behind (holdings_behind q.holdings a.monitor t a.inner) (plain.plain_goes_on (at_end x a (was t) n twin.ended) goes.0) q.prints (record {
       fits = fits_behind behind.attempt (goes_attempt (elided x) goes.0);
       ended = alike.ended;
       places = λ i v e. refl;
       next = refl;
       printed = beside.agrees.prints;
       bits = λ u m e. refl;
-      depths = λ m. ap (depth_for t) (same_behind q.holdings a.monitor t a.inner m free) ∙ depth_is_held q.holdings s.threads beside.agrees.monitors t m x there ∙ ap (λ (hs : List Held). depth_at hs m) (sym (goes_held (elided x) goes.0));
-      other_depths = λ u m e. ap (depth_for u) (same_behind q.holdings a.monitor t a.inner m free);
-      old = λ i word e. never_made x.phase i word (not_left x.phase d.leaves) e;
+      alike = λ u m. ap (depth_for u) (same_behind q.holdings a.monitor t a.inner m free) ∙ alike_kept q.holdings s.threads beside.agrees.monitors t x behind there (goes_held (elided x) goes.0) u m;
+      old = λ i word e. never_made x.phase i word (subst IsOldPhase (sym d.leaves) tt) e;
       new = λ i word e. never_made behind.phase i word (goes_old (elided x) goes.0) e;
       part = goes_part (elided x) goes.0;
       rests = λ e. absurd (let bad : phases.Leave a.monitor d.after_it ≡ phases.Ended ends.Returned = sym d.leaves ∙ e in cc);
@@ -171,10 +167,7 @@ pub sections_finish : SitesDiffer → SectionsFinish
 sections_finish differ c cfg objects was frozen own after w later s t x a d q k beside tries owes ends_so =
     let done = is_done c x a x.phase (found_of c s x) tries ends_so in
     let player : Player = record {
-      states = record { c = c; cfg = cfg; objects = objects; was = was; s = s; q = q; marked = k.marked; facts = k.facts; beside = beside };
-      t = t;
-      x = x;
-      here = k.thread;
+      member = record { states = record { c = c; cfg = cfg; objects = objects; was = was; s = s; q = q; marked = k.marked; facts = k.facts; beside = beside }; t = t; x = x; here = k.thread };
       a = a;
       tries = tries;
     } in

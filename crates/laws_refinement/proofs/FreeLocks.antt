@@ -30,22 +30,10 @@ variable_suits_none p target m suits = suits
 
 -- ---- words of locks
 
-held_not_free : (t n : ℕ) → word_of_lock (locks.Held t) ≢ word_of_lock (locks.Free n)
-held_not_free t n e = omega (arith, e)
-
-flagged_not_free : (t n : ℕ) → word_of_lock (locks.Flagged t) ≢ word_of_lock (locks.Free n)
-flagged_not_free t n e = omega (arith, e)
-
-fat_not_free : (r n : ℕ) → word_of_lock (locks.Fat r) ≢ word_of_lock (locks.Free n)
-fat_not_free r n e = omega (arith, e)
-
 -- a release from the noted count or a later one leaves a later one, as the noted one is not the last
 freed_later : (s : Thread) (count n : ℕ) → n ≤ count → n < s.cfg.range → freed s count ≢ word_of_lock (locks.Free n)
-freed_later s count n later last e = by_test (nat_lt count s.cfg.range) e
-  where
-    by_test : (b : Bool) → word_of_lock (locks.Free (if b then count + 1 else s.cfg.range)) ≡ word_of_lock (locks.Free n) → ⊥
-    by_test true e = omega (arith, e, later)
-    by_test false e = omega (arith, e, last)
+freed_later s count n later last e = (elim (nat_lt count s.cfg.range) as (λ (b : Bool). word_of_lock (locks.Free (if b then count + 1 else s.cfg.range)) ≡ word_of_lock (locks.Free n) → ⊥)
+    [ true ↦ λ e. omega (arith, e, later) | false ↦ λ e. omega (arith, e, last) ]) e
 
 -- ---- one word
 
@@ -103,17 +91,11 @@ module _ (c : MarkedProgram) (x : Thread) (m n got : ℕ) (last : n < x.cfg.rang
     finish_leaves b (suc inner) w = no_access WasNoted access got stays w
 
     leave_leaves : (b : ℕ) (held : Option Held) (attempt : Option Attempt) → held_at x.held b ≡ held → leave_wants x b (claim_by b held attempt) ≡ Some access → Suits (leave_content (claim_by b held attempt)) (LockOf m) → WasNoted (left_by access got)
-    leave_leaves b (Some h) attempt e w suits = by_test (nat_lt 1 h.depth) w
-      where
-        by_test : (deep : Bool) → (if deep then None else Some (release x b h.kept)) ≡ Some access → WasNoted (left_by access got)
-        by_test true w = no_access WasNoted access got stays w
-        by_test false w = release_leaves b h h.kept e refl w suits
+    leave_leaves b (Some h) attempt e w suits = (elim (nat_lt 1 h.depth) as (λ (deep : Bool). (if deep then None else Some (release x b h.kept)) ≡ Some access → WasNoted (left_by access got))
+        [ true ↦ λ w. no_access WasNoted access got stays w | false ↦ λ w. release_leaves b h h.kept e refl w suits ]) w
     leave_leaves b None None e w suits = no_access WasNoted access got stays w
-    leave_leaves b None (Some a) e w suits = by_test (a.monitor == b) w
-      where
-        by_test : (tries : Bool) → leave_wants x b (if tries then Tries a else HasNot) ≡ Some access → WasNoted (left_by access got)
-        by_test true w = finish_leaves b a.inner w
-        by_test false w = no_access WasNoted access got stays w
+    leave_leaves b None (Some a) e w suits = (elim (a.monitor == b) as (λ (tries : Bool). leave_wants x b (if tries then Tries a else HasNot) ≡ Some access → WasNoted (left_by access got))
+        [ true ↦ λ w. finish_leaves b a.inner w | false ↦ λ w. no_access WasNoted access got stays w ]) w
 
     -- ---- the lock stays flat where there is no record for it
 
@@ -131,14 +113,14 @@ module _ (c : MarkedProgram) (x : Thread) (m n got : ℕ) (last : n < x.cfg.rang
     phase_leaves (phases.Enter b tried) flat w suits = entry_leaves b _ w
     phase_leaves (phases.Acquire b) flat w suits = loaded WasNoted access got stays b w
     phase_leaves (phases.Take b count) flat w suits =
-        leaves WasNoted access got stays _ w (swapped (word_of_lock (locks.Free count)) (word_of_lock (locks.Held x.number)) (held_not_free x.number n))
+        leaves WasNoted access got stays _ w (swapped (word_of_lock (locks.Free count)) (word_of_lock (locks.Held x.number)) (λ e. omega (arith, e)))
     phase_leaves (phases.Flag b u) flat w suits =
-        leaves WasNoted access got stays _ w (swapped (word_of_lock (locks.Held u)) (word_of_lock (locks.Flagged u)) (flagged_not_free u n))
+        leaves WasNoted access got stays _ w (swapped (word_of_lock (locks.Held u)) (word_of_lock (locks.Flagged u)) (λ e. omega (arith, e)))
     phase_leaves (phases.Leave b after) flat w suits = leave_leaves b (held_at x.held b) x.attempt refl w suits
     phase_leaves (phases.FlatOut b after) flat w suits =
         leaves WasNoted access got stays _ w (flat_out_leaves b (held_at x.held b) refl (flat b after refl) (let same = same_access _ w in sym same))
       where
         same_access : (a : Access) → Some a ≡ Some access → accessed a ≡ accessed access
         same_access a e = let same : a ≡ access = cc in ap accessed same
-    phase_leaves (phases.FatIn b r toward) flat w suits = leaves WasNoted access got stays _ w (never (word_of_lock (locks.Fat r)) (fat_not_free r n))
+    phase_leaves (phases.FatIn b r toward) flat w suits = leaves WasNoted access got stays _ w (never (word_of_lock (locks.Fat r)) (λ e. omega (arith, e)))
     phase_leaves phase flat w suits = absurd suits

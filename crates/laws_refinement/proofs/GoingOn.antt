@@ -49,9 +49,6 @@ pub record Grows (p : Program) (Keeps : (n : ℕ) → Type 0) (words : List ℕ)
 
 -- ---- one act, and a list with more acts
 
-pub one_act : (p : Program) (m : ℕ) (memory : ℕ → Option ℕ) (act : Act) (x y : Alone) → replay_act p m memory x act x.thread.status ≡ Some y → replayed p m memory (act ∷ []) x ≡ Some y
-one_act p m memory act x y e = ap (option_and_then (replayed p m memory [])) e
-
 pub replayed_more : (p : Program) (m : ℕ) (memory : ℕ → Option ℕ) (due acts : List Act) (x y : Alone) → replayed p m memory due x ≡ Some y → replayed p m memory (due ++ acts) x ≡ replayed p m memory acts y
 replayed_more p m memory [] acts x y e = let same : x ≡ y = cc in ap (replayed p m memory acts) same
 replayed_more p m memory (act ∷ due) acts x y e = by_act (replay_act p m memory x act x.thread.status) (λ z. replayed_more p m memory due acts z y) e
@@ -125,5 +122,5 @@ module _ (c : MarkedProgram) (x : Thread) (a : Attempt) (now : Phase) where
       attempt = goes_attempt z (Some o) ∙ tries;
       entry = λ ended j. record { thread = record { frames = alike.frames j; status = plain.Run; roots = alike.roots j; ended = ended }; depth = 1; begun = 0 };
       begun = λ n. none_begun now (with_begun n phase) alike.read;
-      replays = λ memory knows n some ended. one_act c.program a.monitor memory act (at_present x a phase n ended) _ (acted memory knows n some ended);
+      replays = λ memory knows n some ended. (ap (option_and_then (replayed c.program a.monitor memory [])) (acted memory knows n some ended));
     })

@@ -23,11 +23,7 @@ module _ (its : Event) where
   stays_own v k = (let on = turns.goes_on in omega (arith, k.0, on.grows), by_builder)
     where
       by_builder : (b : Builder) → later v ≡ Some b → b.thread ≡ t
-      by_builder b e = by_number (same_or_not b.thread t)
-        where
-          by_number : (b.thread ≡ t) ⊎ (b.thread ≡ t → ⊥) → b.thread ≡ t
-          by_number (inl same) = same
-          by_number (inr other) = k.1 b (turns.goes_on.no_more v b other e)
+      by_builder b e = elim (same_or_not b.thread t) [ inl same ↦ same | inr other ↦ k.1 b (turns.goes_on.no_more v b other e) ]
 
 -- ---- the law
 

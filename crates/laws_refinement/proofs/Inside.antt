@@ -66,18 +66,6 @@ module _ (may_do : InsideMayDo) (elements : ElementsInside) (c : MarkedProgram) 
   abbrev StandsAt : Phase → Type 0
   StandsAt phase = Stands c phase x.frames x.held (Some a) × AttemptStands c phase x.frames x.held a
 
-  at_instruction : StandsAt phases.Run → AtInstruction c x a
-  at_instruction k =
-      let top = top_there c marked x.frames k.0.shown a.base k.0.show k.1.based in
-      record { at = top.0; found = top.1; may = may_do c x.frames x.held a top.0 marked k.1 k.0 top.1 }
-
-  at_element : (word : ℕ) (stored : Option ℕ) → StandsAt (phases.Element word stored)
-      → AtElement c x a stored
-  at_element word stored k =
-      let top = top_there c marked x.frames k.0.shown a.base k.0.show k.1.based in
-      let reads = elements c word stored x.frames x.held a top.0 marked k.1 k.0 top.1 in
-      record { at = top.0; found = top.1; read = reads.read; owned = reads.owned }
-
   -- a part that ended has no frame
   not_ending : (e : End) → StandsAt (phases.Ending e) → ⊥
   not_ending e k = let none : length x.frames ≡ 0 = ap length k.0.phase_shows in let some = k.1.based in omega (arith, none, some)
@@ -86,8 +74,13 @@ module _ (may_do : InsideMayDo) (elements : ElementsInside) (c : MarkedProgram) 
   not_ended e k = let none : length x.frames ≡ 0 = ap length k.0.phase_shows in let some = k.1.based in omega (arith, none, some)
 
   known_at : (phase was : Phase) → IsAs phase was → StandsAt was → KnownInside c x a phase
-  known_at phases.Run was is k = at_instruction (subst StandsAt is k)
-  known_at (phases.Element word stored) was is k = at_element word stored (subst StandsAt is k)
+  known_at phases.Run was is k =
+      let top = top_there c marked x.frames (subst StandsAt is k).0.shown a.base (subst StandsAt is k).0.show (subst StandsAt is k).1.based in
+      record { at = top.0; found = top.1; may = may_do c x.frames x.held a top.0 marked (subst StandsAt is k).1 (subst StandsAt is k).0 top.1 }
+  known_at (phases.Element word stored) was is k =
+      let top = top_there c marked x.frames (subst StandsAt is k).0.shown a.base (subst StandsAt is k).0.show (subst StandsAt is k).1.based in
+      let reads = elements c word stored x.frames x.held a top.0 marked (subst StandsAt is k).1 (subst StandsAt is k).0 top.1 in
+      record { at = top.0; found = top.1; read = reads.read; owned = reads.owned }
   known_at (phases.Throw r class) was is k = tt
   known_at (phases.Enter n tried) was is k = let now = subst StandsAt is k in tries_it x a n attempt now.1.not_held now.1.inside
   known_at (phases.Leave n b) was is k = let now = subst StandsAt is k in tries_it x a n attempt now.1.not_held now.1.inside

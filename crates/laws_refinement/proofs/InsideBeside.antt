@@ -8,7 +8,7 @@ use Rattle.machine_types.specs.{History.{Fate, GoesOn, Fails, Finishes, fate}, P
 use Rattle.machine_types.{specs.{Threads.{Attempt, Thread}, declared.{lock.Held.Held, phase.Phase.Phase}}, proofs.Lists.{set_as_it_is, got_when_set}}
 use Rattle.laws_threads.specs.{EntryFrames.{StepsKeepEntry, ThrowsKeepEntry, LeavesKeepEntry}, InsideEffects.InsideMayDo, InsideMoves.ElementsInside, StateLaws.counted_after}
 use Rattle.laws_states.specs.{HeapFacts.{objects_by, objects_of}, StateLaws.EventsKeepState}
-use Rattle.laws_simulation.{specs.StandsBeside.{StandsBeside, end_of_done, ends_shown, own_end}, proofs.Assembled.{moved_beside}}
+use Rattle.laws_simulation.{specs.StandsBeside.{StandsBeside, end_of_done, ends_shown, own_end}, proofs.{Assembled.moved_beside, HoldingsAlike.alike_kept}}
 use Rattle.laws_refinement.{specs.ElidedSteps.{AttemptsStandBeside, IsNotFinished, found_of}, proofs.{Playing.{Player, has_bit, plain_fits, plain_there}, Inside.{Inside, KnownInside, is_inside}, InsideMoves.{Moves, moves_inside}}}
 use Rattle.laws_refinement.proofs.InsideWords.{words_stay}
 use Rattle.jvm_types.specs.declared.outcome.End.TheVariants as ends
@@ -79,15 +79,14 @@ module _ (player : Player) (y : Thread) (f : Fate) (before : IsStill player.c.pr
   pub same_beside : IsNotFinished f → ((b : Attempt) → y.attempt ≡ Some b → b.base < length y.frames) → IsStill c.program objects y.phase → StandsBeside c.program objects (record { words = s.words; threads = slice_set s.threads t y }) q
   same_beside way based still =
       subst (λ (plains : List PlainThread). StandsBeside c.program objects (record { words = s.words; threads = slice_set s.threads t y }) (record q { threads = plains })) (set_as_it_is q.threads t v (plain_there player).1)
-      (moved_beside c.program objects s q t s.words x y q.holdings v q.prints beside here (record {
+      (moved_beside player.member s.words y q.holdings v q.prints (record {
         fits = fits_still c.program (has_bit player) c x y a f v way m based (plain_fits player);
         ended = beside.ends t x v here (plain_there player).1 ∙ sym (ap (λ (part : ℕ). ends_shown c.program part y.phase) m.keeps.part ∙ ends_alike c.program x.part y.phase x.phase still.own before.own);
         places = λ n w e. refl;
         next = refl;
         printed = beside.agrees.prints;
         bits = λ u n d. refl;
-        depths = λ n. beside.agrees.monitors t n ∙ ap (λ (o : Option Thread). depth_of o n) here ∙ ap (λ (hs : List Held). depth_at hs n) (sym m.keeps.held);
-        other_depths = λ u n d. refl;
+        alike = alike_kept q.holdings s.threads beside.agrees.monitors t x y here m.keeps.held;
         old = before.makes;
         new = still.makes;
         part = m.keeps.part;
@@ -110,10 +109,7 @@ later_by c objects x y a phase Finishes way m inside = absurd way
 pub attempts_stand_beside : InsideMayDo → ElementsInside → StepsKeepEntry → ThrowsKeepEntry → LeavesKeepEntry → EventsKeepState → AttemptsStandBeside
 attempts_stand_beside may_do elements steps throws leaves keep c cfg objects was s t x a q marked width facts beside here tried way =
     let player : Player = record {
-      states = record { c = c; cfg = cfg; objects = objects; was = was; s = s; q = q; marked = marked; facts = facts; beside = beside };
-      t = t;
-      x = x;
-      here = here;
+      member = record { states = record { c = c; cfg = cfg; objects = objects; was = was; s = s; q = q; marked = marked; facts = facts; beside = beside }; t = t; x = x; here = here };
       a = a;
       tries = tried;
     } in

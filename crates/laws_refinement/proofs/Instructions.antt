@@ -79,9 +79,6 @@ module _ (fit : HeapWordsFit) (allowed : EffectsAreAllowed) (trying : Trying) (r
       let frames : FramesHold c (within c.program) x.frames = subst (λ (now : Phase). PhaseHolds c (within c.program) now x.frames) runs (facts.threads.lawful t x here).typed.values.phase in
       subst (IsAllowed c.program at) f (allowed c x.frames at marked frames at_top)
 
-  may_do_at : (e : Effect) → effect_at c.program at ≡ e → MayDo c a.monitor at e
-  may_do_at e f = subst (MayDo c a.monitor at) f (inside_may c x.frames x.held a at marked attempt_stands stands at_top)
-
   -- what is found fits
   fits_phase : (now : Phase) → x.phase ≡ now → IsOfHeap (content_at c x now) → WordFits c.program (content_at c x now) (found_by s.words (wanted c x now))
   fits_phase now e = subst (λ (phase : Phase). IsOfHeap (content_at c x phase) → WordFits c.program (content_at c x phase) (found_by s.words (wanted c x phase))) e (fit c objects s t x marked facts.heap here (facts.threads.lawful t x here))
@@ -179,9 +176,6 @@ module _ (fit : HeapWordsFit) (allowed : EffectsAreAllowed) (trying : Trying) (r
   abbrev its : Effect
   its = effect_at c.program at
 
-  done_so : DoesSo its
-  done_so = does its refl (may_do_at its refl)
-
   abbrev got : ℕ
   got = found_by s.words (effect_wants x at.frame.pc its)
 
@@ -260,17 +254,14 @@ module _ (fit : HeapWordsFit) (allowed : EffectsAreAllowed) (trying : Trying) (r
 
     did_grow : IsStructured c now (did c.program (begun x) at its got)
         → GrowsTo (did c.program (begun x) at its got) (instruction_acts x its got)
-    did_grow = grows_by done_so
+    did_grow = grows_by (does its refl (subst (MayDo c a.monitor at) refl (inside_may c x.frames x.held a at marked attempt_stands stands at_top)))
 
     abbrev By : Fate → Thread → Type 0
     By fate y = ByFate c.program Keeps s.words x a (was t) now phases.Run fate y (instruction_acts x its got)
-
-    at_the_top : IsStructured c now (instructed c.program (begun x) at its got) → By (run_fate c a (Some at) got) (instructed c.program (begun x) at its got)
-    at_the_top = instructed_by (λ y fate. IsStructured c now y → By fate y) c.program a (begun x) at its got tries did_grow (λ k. refl)
 
     abbrev RunsBy : Option Top → Type 0
     RunsBy o = IsStructured c now (ran c.program x o (found_by s.words (run_wants c.program x o)))
         → ByFate c.program Keeps s.words x a (was t) now phases.Run (run_fate c a o (found_by s.words (run_wants c.program x o))) (ran c.program x o (found_by s.words (run_wants c.program x o))) (run_acts c x o (found_by s.words (run_wants c.program x o)))
 
     pub runs_by_fate : RunsBy (top_of c.program x.frames)
-    runs_by_fate = subst RunsBy (sym at_top) at_the_top
+    runs_by_fate = subst RunsBy (sym at_top) (instructed_by (λ y fate. IsStructured c now y → By fate y) c.program a (begun x) at its got tries did_grow (λ k. refl))

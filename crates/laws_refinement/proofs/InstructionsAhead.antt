@@ -126,11 +126,8 @@ module _ (p : Program) (base : ℕ) (f : Frame) (fs : List Frame) (at : Top) (k 
 
   -- or is left
   pub top_is_left : base ≤ length fs → 1 + all_ahead p base fs ≤ all_ahead p base (f ∷ fs)
-  top_is_left based = by_test (nat_le base (length fs)) (grind (arith, nat_tests, based)) some_ahead
-    where
-      by_test : (b : Bool) → b ≡ true → 1 ≤ ahead p f → 1 + all_ahead p base fs ≤ (if b then ahead p f else 0) + all_ahead p base fs
-      by_test true e h = omega (arith, h)
-      by_test false e h = absurd (cc)
+  top_is_left based = (elim (nat_le base (length fs)) as (λ (b : Bool). b ≡ true → 1 ≤ ahead p f → 1 + all_ahead p base fs ≤ (if b then ahead p f else 0) + all_ahead p base fs)
+      [ true ↦ λ e h. omega (arith, h) | false ↦ λ e h. absurd (cc) ]) (grind (arith, nat_tests, based)) some_ahead
 
 -- the frame that called goes on behind its call
 module _ (c : MarkedProgram) (marked : IsMarked c) (base : ℕ) where

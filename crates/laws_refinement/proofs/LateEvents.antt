@@ -160,21 +160,6 @@ module _ (c : MarkedProgram) (marked : IsMarked c) (x : Thread) (a : Attempt) (t
   looks_there : looks x.attempt ≡ Some (Load a.monitor)
   looks_there = ap looks tries
 
-  at_instruction : (got : ℕ) → a.base < length x.frames → AtInstruction c x a → HasInstruction c.program x.frames → WordFits c.program (run_content c.program (top_of c.program x.frames)) got
-      → (run_wants c.program x (top_of c.program x.frames) ≡ Some (Load a.monitor) → is_same a got ≡ false) → Lessens (all_ahead c.program a.base x.frames) 1 (ran c.program x (top_of c.program x.frames) got)
-  at_instruction got based m i fits missed =
-      let at : Top = i.at in
-      let same : frames_of at ≡ x.frames = frames_are c.program x.frames at i.found in
-      let found : top_of c.program (frames_of at) ≡ Some at = ap (top_of c.program) same ∙ i.found in
-      let may : MayDo c a.monitor at (effect_at c.program at) = subst (λ (q : Top). MayDo c a.monitor q (effect_at c.program q)) (same_some (sym m.found ∙ i.found)) m.may in
-      let few : a.base ≤ length at.below = (let long : length (frames_of at) ≡ length x.frames = ap length same in omega (arith, based, long)) in
-      let word : WordFits c.program (effect_content c.program at.target (effect_at c.program at)) got = subst (λ (o : Option Top). WordFits c.program (run_content c.program o) got) i.found fits in
-      let fails_if : is_checked at.frame.pc (effect_at c.program at) ≡ true → is_same a got ≡ false =
-      λ checked. missed (ap (run_wants c.program x) i.found ∙ checked_looks at.frame.pc (effect_at c.program at) checked ∙ looks_there) in
-      subst (λ (fs : List Frame). Lessens (all_ahead c.program a.base fs) 1 (ran c.program x (top_of c.program x.frames) got)) same
-      (subst (λ (o : Option Top). Lessens (all_ahead c.program a.base (frames_of at)) 1 (ran c.program x o got)) (sym i.found)
-      (instruction at (is_top c.program at.frame at.below at found) few same (effect_at c.program at) got fails_if may i.allowed (i.goes_on got word)))
-
   -- ---- an element
 
   reads : (made : ℕ) → a.base < length x.frames → (at : Top) → top_of c.program x.frames ≡ Some at
@@ -195,11 +180,6 @@ module _ (c : MarkedProgram) (marked : IsMarked c) (x : Thread) (a : Attempt) (t
       (Running (went_on c.program at made)) tries (omega (arith, less, one)))
 
   -- ---- monitors
-
-  enters : (m tried n : ℕ) (may : Bool) (k : Claim) (got : ℕ) → k ≡ Tries a → all_ahead c.program a.base x.frames ≤ n → Lessens n 0 (enter_moves x m tried may k got)
-  enters m tried n may k got is h =
-      subst (λ (q : Claim). Lessens n 0 (enter_moves x m tried may q got)) (sym is)
-      (runs_with c.program a n 0 (a.inner + 1) (record x { attempt = Some (record a { inner = a.inner + 1 }) }) refl (omega (arith, h)))
 
   module _ (inner : ℕ) where
     abbrev left : Thread
@@ -233,11 +213,24 @@ module _ (c : MarkedProgram) (marked : IsMarked c) (x : Thread) (a : Attempt) (t
 
   pub late : (phase : Phase) (got : ℕ) → x.phase ≡ phase → KnownInside c x a phase → a.base < length x.frames → (is_live phase ≡ true → HasEvent c x phase) → WordFits c.program (content_at c x phase) got
       → (wanted c x phase ≡ Some (Load a.monitor) → is_same a got ≡ false) → Lessens (left_in c.program a.base phase x.frames) (begun_in phase) (moved c x phase got)
-  late phases.Run got e known based has fits missed = at_instruction got based known (has refl) fits missed
+  late phases.Run got e known based has fits missed =
+      let at : Top = (has refl).at in
+      let same : frames_of at ≡ x.frames = frames_are c.program x.frames at (has refl).found in
+      let found : top_of c.program (frames_of at) ≡ Some at = ap (top_of c.program) same ∙ (has refl).found in
+      let may : MayDo c a.monitor at (effect_at c.program at) = subst (λ (q : Top). MayDo c a.monitor q (effect_at c.program q)) (same_some (sym known.found ∙ (has refl).found)) known.may in
+      let few : a.base ≤ length at.below = (let long : length (frames_of at) ≡ length x.frames = ap length same in omega (arith, based, long)) in
+      let word : WordFits c.program (effect_content c.program at.target (effect_at c.program at)) got = subst (λ (o : Option Top). WordFits c.program (run_content c.program o) got) (has refl).found fits in
+      let fails_if : is_checked at.frame.pc (effect_at c.program at) ≡ true → is_same a got ≡ false =
+      λ checked. missed (ap (run_wants c.program x) (has refl).found ∙ checked_looks at.frame.pc (effect_at c.program at) checked ∙ looks_there) in
+      subst (λ (fs : List Frame). Lessens (all_ahead c.program a.base fs) 1 (ran c.program x (top_of c.program x.frames) got)) same
+      (subst (λ (o : Option Top). Lessens (all_ahead c.program a.base (frames_of at)) 1 (ran c.program x o got)) (sym (has refl).found)
+      (instruction at (is_top c.program at.frame at.below at found) few same (effect_at c.program at) got fails_if may (has refl).allowed ((has refl).goes_on got word)))
   late (phases.Element word stored) got e known based has fits missed =
       reads (element_made stored got) based known.at known.found
   late (phases.Throw r class) got e known based has fits missed = check_fails c.program a 0 0 x x.attempt got _ tries (missed looks_there) (omega arith)
-  late (phases.Enter m tried) got e known based has fits missed = enters m tried (all_ahead c.program a.base x.frames) (may_try c x tried) (claim x m) got known (omega arith)
+  late (phases.Enter m tried) got e known based has fits missed =
+      subst (λ (q : Claim). Lessens (all_ahead c.program a.base x.frames) 0 (enter_moves x m tried (may_try c x tried) q got)) (sym known)
+      (runs_with c.program a (all_ahead c.program a.base x.frames) 0 (a.inner + 1) (record x { attempt = Some (record a { inner = a.inner + 1 }) }) refl (omega arith))
   late (phases.Leave m after) got e known based has fits missed =
       let same : m ≡ a.monitor = sym (tried_at m (held_at x.held m) x.attempt a known).1 in
       let looked : finish_wants m a.inner ≡ Some (Load m) → is_same a got ≡ false = λ w. missed (ap (leave_wants x m) known ∙ w ∙ ap (λ (n : ℕ). Some (Load n)) same) in

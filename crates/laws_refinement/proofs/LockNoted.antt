@@ -61,9 +61,5 @@ module _ (c : MarkedProgram) (cfg : Config) (objects : List Object) (was : ℕ �
         stands.phase_shows.flat
 
     pub noted_before : KnownSites → IsMarked c → IsAsNoted (words_after s.words (wanted c x x.phase)) a → IsAsNoted s.words a
-    noted_before sites marked now = by_cases (word_at (heap_mover c marked objects s facts.heap t x there (facts.threads.lawful t x there)) sites (LockOf a.monitor) has_monitor)
-      where
-        by_cases : (slice_index (words_after s.words (wanted c x x.phase)) a.monitor ≡ slice_index s.words a.monitor) ⊎ IsLeft c s.words x (LockOf a.monitor)
-            → IsAsNoted s.words a
-        by_cases (inl e) = sym e ∙ now
-        by_cases (inr k) = phase_leaves c x a.monitor a.noted (slice_index s.words a.monitor) last kept k.access k.word x.phase flat_out k.wants k.suits (sym k.left ∙ now)
+    noted_before sites marked now = elim (word_at (heap_mover c marked objects s facts.heap t x there (facts.threads.lawful t x there)) sites (LockOf a.monitor) has_monitor)
+        [ inl e ↦ sym e ∙ now | inr k ↦ phase_leaves c x a.monitor a.noted (slice_index s.words a.monitor) last kept k.access k.word x.phase flat_out k.wants k.suits (sym k.left ∙ now) ]

@@ -87,11 +87,7 @@ module _ (was : Phase) where
 
   after_comes : (p : Program) (fs : List Frame) (a : After) → MayCome was (after p fs a)
   after_comes p fs afters.Next = tt
-  after_comes p fs afters.Return = by_top (top_of p fs)
-    where
-      by_top : (top : Option Top) → MayCome was (option_map (λ at. back (returned p at)) top)
-      by_top None = tt
-      by_top (Some at) = back_comes (returned p at)
+  after_comes p fs afters.Return = elim (top_of p fs) as (λ (top : Option Top). MayCome was (option_map (λ at. back (returned p at)) top)) [ None ↦ tt | Some at ↦ back_comes (returned p at) ]
   after_comes p fs (afters.Unwind x class) = unwound_comes x class (drop 1 fs)
 
   rooted_comes : (p : Program) (t number : ℕ) (o : Option MethodInfo) → MayCome was (option_map (rooted p t number) o)

@@ -23,16 +23,10 @@ lost_own b t (Some f) d e own = by_test (same_builder b f) e
     by_test false e = let one : f ≡ d = same_some e in (f, refl, ap (λ (g : Builder). g.thread) one ∙ own)
 
 made_own : (w : World) (t a r height : ℕ) (item : Option Item) (d : Builder) → IsOwn w t a → made_world w a t height item r ≡ Some d → d.thread ≡ t → IsOwn w t r
-made_own w t a r height (Some item) d new e own = by_test (r == a) refl e
-  where
-    by_test : (same : Bool) → (r == a) ≡ same → (if same then Some (builder t height item) else lost_if (builder t height item) (w r)) ≡ Some d → IsOwn w t r
-    by_test true f e = subst (IsOwn w t) (sym ((Decides-eqb r a).0 f)) new
-    by_test false f e = lost_own (builder t height item) t (w r) d e own
-made_own w t a r height None d new e own = by_test (r == a) refl e
-  where
-    by_test : (same : Bool) → (r == a) ≡ same → (if same then None else w r) ≡ Some d → IsOwn w t r
-    by_test true f e = absurd (cc)
-    by_test false f e = (d, e, own)
+made_own w t a r height (Some item) d new e own = (elim (r == a) as (λ (same : Bool). (r == a) ≡ same → (if same then Some (builder t height item) else lost_if (builder t height item) (w r)) ≡ Some d → IsOwn w t r)
+    [ true ↦ λ f e. subst (IsOwn w t) (sym ((Decides-eqb r a).0 f)) new | false ↦ λ f e. lost_own (builder t height item) t (w r) d e own ]) refl e
+made_own w t a r height None d new e own = (elim (r == a) as (λ (same : Bool). (r == a) ≡ same → (if same then None else w r) ≡ Some d → IsOwn w t r)
+    [ true ↦ λ f e. absurd (cc) | false ↦ λ f e. (d, e, own) ]) refl e
 
 -- ---- the receiver of the top frame
 

@@ -15,7 +15,7 @@ module _ (player : Player) (m : ℕ) (a : After) (leaves : player.x.phase ≡ ph
 
   -- where it leaves a monitor
   pub part_runs : PartRuns c.program x.part x.roots
-  part_runs = by_number (same_or_not t 0)
+  part_runs = elim (same_or_not t 0) [ inl e ↦ by_part x.part refl e | inr n ↦ subst (λ (part : ℕ). PartRuns c.program part x.roots) (sym ((facts.threads.own t x here).part n)) tt ]
     where
       first : t ≡ 0 → slice_get s.threads 0 ≡ Some x
       first e = ap (slice_get s.threads) (sym e) ∙ here
@@ -27,7 +27,3 @@ module _ (player : Player) (m : ℕ) (a : After) (leaves : player.x.phase ≡ ph
         subst (λ (phase : Phase). DoneRoots c.program phase x.roots) leaves (facts.parts.done x (first z) (omega (arith, e))),
         λ none. not_ended (beside.done x (first z) (omega (arith, e)) none),
       )
-
-      by_number : (t ≡ 0) ⊎ (t ≢ 0) → PartRuns c.program x.part x.roots
-      by_number (inl e) = by_part x.part refl e
-      by_number (inr n) = subst (λ (part : ℕ). PartRuns c.program part x.roots) (sym ((facts.threads.own t x here).part n)) tt

@@ -109,9 +109,6 @@ module _ (fit : HeapWordsFit) (allowed : EffectsAreAllowed) (trying : Trying) (n
 
   -- ---- an instruction
 
-  runs_inside : x.phase ≡ phases.Run → AtInstruction c x a → EventInside phases.Run
-  runs_inside e k = runs_by_fate fit allowed trying e k.at k.found now
-
   -- ---- an exception
 
   throws_top : (fs : List Frame) (y : ℕ) (class : Thrown) (shown : List ℕ) → PhaseShows c (phases.Throw y class) fs shown x.held (Some a) → (at : Top) × (top_of c.program fs ≡ Some at)
@@ -149,9 +146,6 @@ module _ (fit : HeapWordsFit) (allowed : EffectsAreAllowed) (trying : Trying) (n
   -- ---- an entry of its monitor
 
   module _ (m tried : ℕ) (counted : was t ≡ phases.Enter m tried) (claims : claim x m ≡ Tries a) where
-    on_monitor : m ≡ a.monitor
-    on_monitor = inside_as trying (phases.Enter m tried) counted
-
     abbrev deeper : Thread
     deeper = runs (record x { attempt = Some (record a { inner = a.inner + 1 }) })
 
@@ -167,7 +161,7 @@ module _ (fit : HeapWordsFit) (allowed : EffectsAreAllowed) (trying : Trying) (n
         acted : (memory : ℕ → Option ℕ) (n : ℕ) (ended : List End) → replay_act c.program a.monitor memory (present (phases.Enter m tried) n ended) acts.Enter (plain.Enter m) ≡ Some (at_present deeper (inner_as a (a.inner + 1)) now n ended)
         acted memory n ended =
             let depth : suc a.inner + 1 ≡ suc (a.inner + 1) = omega arith in
-            ap (λ (b : Bool). cond b (Some (enters (present (phases.Enter m tried) n ended))) None) (same_number m a.monitor on_monitor)
+            ap (λ (b : Bool). cond b (Some (enters (present (phases.Enter m tried) n ended))) None) (same_number m a.monitor (inside_as trying (phases.Enter m tried) counted))
             ∙ ap (λ (d : ℕ). goes (record { thread = plain_as x (plain.Enter m) ended; depth = d; begun = n }) (Some (Running x.frames))) depth
             ∙ comes_there c x a now z (Running x.frames) (a.inner + 1) alike (plain.Enter m) ended n
 
@@ -184,9 +178,6 @@ module _ (fit : HeapWordsFit) (allowed : EffectsAreAllowed) (trying : Trying) (n
   is_more n = grind (arith, nat_tests)
 
   module _ (m : ℕ) (e : After) (counted : was t ≡ phases.Leave m e) (claims : claim x m ≡ Tries a) where
-    left_monitor : m ≡ a.monitor
-    left_monitor = inside_as trying (phases.Leave m e) counted
-
     abbrev goes_there : (o : Onward) × (after c.program x.frames e ≡ Some o)
     goes_there = after_there c m e x.frames marked (stands_as trying (phases.Leave m e) counted).phase_shows
 
@@ -206,7 +197,7 @@ module _ (fit : HeapWordsFit) (allowed : EffectsAreAllowed) (trying : Trying) (n
               (at_present (goes_on shallower goes_there.0) (inner_as a n) now begun ended)
           acted memory begun ended =
               let z : Alone = present (phases.Leave m e) begun ended in
-              ap (λ (b : Bool). cond b (leaves c.program z e (suc a.inner)) None) (same_number m a.monitor left_monitor)
+              ap (λ (b : Bool). cond b (leaves c.program z e (suc a.inner)) None) (same_number m a.monitor (inside_as trying (phases.Leave m e) counted))
               ∙ ap (λ (depth : ℕ). leaves c.program z e (suc depth)) inner
               ∙ ap (goes (record z { depth = suc n })) goes_there.1
               ∙ comes_there c x a now shallower goes_there.0 n alike (plain.Leave m e) ended begun
@@ -268,9 +259,6 @@ module _ (fit : HeapWordsFit) (allowed : EffectsAreAllowed) (trying : Trying) (n
         (frames_hold word None is_as counted).0 k.found)
         (subst (TakesOwned c a.monitor) (same_some (sym known.found ∙ k.found)) known.owned)
 
-    header_there : Keeps (header_word k.array)
-    header_there = header_stays trying frames_keep k.at k.found INT_ARRAY_CLASS k.array k.is_array
-
     moves : goes_on_if x (option_map (λ at. Running
         (went_on c.program at (slice_index s.words word))) (top_of c.program x.frames)) ≡ goes_on x
         read_on
@@ -285,9 +273,6 @@ module _ (fit : HeapWordsFit) (allowed : EffectsAreAllowed) (trying : Trying) (n
         alike = going_alike c x a now x a.inner refl attempt_stands.based read_on tries
             (steps_kept c.program x.frames a k.at (Reads (Static 0))
             (slice_index s.words word) read_on k.found refl) stands_so
-
-        one_more : (n : ℕ) → 0 < n → n - 1 + 1 ≡ n
-        one_more n some = omega (arith, some)
 
         found_there : (memory : ℕ → Option ℕ) → Knows Keeps s.words memory
             → reads_only c.program memory k.at (Indexes k.array k.index None)
@@ -315,11 +300,11 @@ module _ (fit : HeapWordsFit) (allowed : EffectsAreAllowed) (trying : Trying) (n
             ∙ ap (λ (o : Option ℕ). goes more
             (option_and_then (λ word. option_and_then (only_on a.monitor)
             (reads_only c.program memory k.at (Indexes k.array k.index None) word)) o))
-            (knows (header_word k.array) header_there)
+            (knows (header_word k.array) (header_stays trying frames_keep k.at k.found INT_ARRAY_CLASS k.array k.is_array))
             ∙ ap (λ (o : Option Onward). goes more (option_and_then (only_on a.monitor) o))
             (found_there memory knows)
             ∙ ap (goes more) alike.only
-            ∙ ap (λ (k : ℕ). goes (record z { begun = k }) (Some read_on)) (one_more n some)
+            ∙ ap (λ (k : ℕ). goes (record z { begun = k }) (Some read_on)) (omega (arith, some))
             ∙ comes_there c x a now x read_on a.inner alike plain.Run ended n
 
     read_inside : EventInside (phases.Element word None)
@@ -348,21 +333,15 @@ module _ (fit : HeapWordsFit) (allowed : EffectsAreAllowed) (trying : Trying) (n
       read : IsElementRead now
       read = limit_read e (phases.Ended e) now tt is_as
 
-  ending_inside : (e : End) → IsLimitAt e (phases.Ending e) (was t) → EventInside (phases.Ending e)
-  ending_inside e k l = limited e (phases.Ending e) (phases.Ended e) refl tt (λ n. refl) k l.is_as
-
-  ended_inside : (e : End) → x.phase ≡ phases.Ended e → IsLimitAt e (phases.Ended e) (was t) → EventInside (phases.Ended e)
-  ended_inside e f k l = limited e (phases.Ended e) x.phase refl tt (λ n. refl) k (subst (λ (phase : Phase). IsAs phase now) f l.is_as)
-
   -- ---- all phases
 
   by_phase : (phase : Phase) → x.phase ≡ phase → IsAs phase (was t) → KnownInside c x a phase → EventInside phase
-  by_phase phases.Run e k known = runs_inside e known
+  by_phase phases.Run e k known = runs_by_fate fit allowed trying e known.at known.found now
   by_phase (phases.Throw y class) e k known = throws_inside y class k
   by_phase (phases.Enter m tried) e k known = enters_inside m tried k known
   by_phase (phases.Leave m after) e k known = leaves_inside m after k known
-  by_phase (phases.Ending reason) e k known = ending_inside reason k
-  by_phase (phases.Ended reason) e k known = ended_inside reason e k
+  by_phase (phases.Ending reason) e k known = λ l. limited reason (phases.Ending reason) (phases.Ended reason) refl tt (λ n. refl) k l.is_as
+  by_phase (phases.Ended reason) e k known = λ l. limited reason (phases.Ended reason) x.phase refl tt (λ n. refl) k (subst (λ (phase : Phase). IsAs phase now) e l.is_as)
   by_phase (phases.Element word stored) e k known = element_inside word stored e k known
   by_phase phase e k known = absurd known
 

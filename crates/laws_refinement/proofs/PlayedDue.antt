@@ -15,47 +15,35 @@ pub record Played (p : Program) (q : Plain) (t m : ℕ) (due more : List Act) (x
 
 -- ---- nothing
 
-at_rest : (p : Program) (q : Plain) (t m : ℕ) (more : List Act) (x y : Alone) → Stands q t m x → m ≢ 0 → x ≡ y → Played p q t m [] more x y
-at_rest p q t m more x y f some e =
-    let here : q ≡ stands_as q t m y = same_some (replay.played p q t m [] x y f some (ap Some e)) in
+-- ---- one act, and those behind it
+
+-- ---- all of them
+
+pub played : (p : Program) (q : Plain) (t m : ℕ) (due more : List Act) (x y : Alone) → Stands q t m x → m ≢ 0 → replayed p m (value_at q) due x ≡ Some y → Played p q t m due more x y
+played p q t m [] more x y f some e =
+    let here : q ≡ stands_as q t m y = same_some (replay.played p q t m [] x y f some (ap Some (same_some e))) in
     let runs : count_along p (run_at t) (steps_of t more) q ≡ count_along p (run_at t) (steps_of t more) (stands_as q t m y) = ap (λ (r : Plain). count_along p (run_at t) (steps_of t more) r) here in
-    let begun : x.begun ≡ y.begun = ap (λ (z : Alone). z.begun) e in
+    let begun : x.begun ≡ y.begun = ap (λ (z : Alone). z.begun) (same_some e) in
     record {
       run = ap (λ (r : Plain). plain_run p r (steps_of t more)) here;
       runs = omega (arith, runs, begun);
       takes = ap (λ (r : Plain). count_along p (take_at t) (steps_of t more) r) here;
     }
-
--- ---- one act, and those behind it
-
-summed : (first rest last x z y : ℕ) → first + x ≡ z → rest + z ≡ last + y → first + rest + x ≡ last + y
-summed first rest last x z y e f = omega (arith, e, f)
-
-none_first : (first rest last : ℕ) → first ≡ 0 → rest ≡ last → first + rest ≡ last
-none_first first rest last e f = omega (arith, e, f)
-
-one_more : (p : Program) (q : Plain) (t m : ℕ) (act : Act) (due more : List Act) (x z y : Alone) → Does p q t m x z act → Played p (stands_as q t m z) t m due more z y → Played p q t m (act ∷ due) more x y
-one_more p q t m act due more x z y one k =
-    let twice : stands_as (stands_as q t m z) t m y ≡ stands_as q t m y = stands_twice q t m z y in
-    let to : plain_step p q (record { thread = t; act = act }) ≡ Some (stands_as q t m z) = one.step in
-    record {
-      run = ap (λ (o : Option Plain). option_and_then (λ r. plain_run p r (steps_of t (due ++ more))) o) to ∙ k.run ∙ ap (λ (r : Plain). plain_run p r (steps_of t more)) twice;
-      runs = ap (λ (o : Option Plain). run_at t q (record { thread = t; act = act }) + count_from (count_along p (run_at t) (steps_of t (due ++ more))) o + x.begun) to
-          ∙ summed (run_at t q (record { thread = t; act = act })) (count_along p (run_at t) (steps_of t (due ++ more)) (stands_as q t m z)) (count_along p (run_at t) (steps_of t more) (stands_as (stands_as q t m z) t m y)) x.begun z.begun y.begun one.runs k.runs
-          ∙ ap (λ (r : Plain). count_along p (run_at t) (steps_of t more) r + y.begun) twice;
-      takes = ap (λ (o : Option Plain). take_at t q (record { thread = t; act = act }) + count_from (count_along p (take_at t) (steps_of t (due ++ more))) o) to
-          ∙ none_first (take_at t q (record { thread = t; act = act })) (count_along p (take_at t) (steps_of t (due ++ more)) (stands_as q t m z)) (count_along p (take_at t) (steps_of t more) (stands_as (stands_as q t m z) t m y)) one.takes k.takes
-          ∙ ap (λ (r : Plain). count_along p (take_at t) (steps_of t more) r) twice;
-    }
-
--- ---- all of them
-
-pub played : (p : Program) (q : Plain) (t m : ℕ) (due more : List Act) (x y : Alone) → Stands q t m x → m ≢ 0 → replayed p m (value_at q) due x ≡ Some y → Played p q t m due more x y
-played p q t m [] more x y f some e = at_rest p q t m more x y f some (same_some e)
 played p q t m (act ∷ due) more x y f some e =
     next (replay_act p m (value_at q) x act x.thread.status) refl e (λ z g. played p (stands_as q t m z) t m due more z y (stands_after q t m x.thread z f.thread) some g)
   where
     next : (o : Option Alone) → replay_act p m (value_at q) x act x.thread.status ≡ o → option_and_then (replayed p m (value_at q) due) o ≡ Some y
         → ((z : Alone) → replayed p m (value_at q) due z ≡ Some y → Played p (stands_as q t m z) t m due more z y) → Played p q t m (act ∷ due) more x y
     next None k g on = absurd (cc)
-    next (Some z) k g on = one_more p q t m act due more x z y (does p q t m x z act f some k) (on z g)
+    next (Some z) k g on =
+        let twice : stands_as (stands_as q t m z) t m y ≡ stands_as q t m y = stands_twice q t m z y in
+        let to : plain_step p q (record { thread = t; act = act }) ≡ Some (stands_as q t m z) = (does p q t m x z act f some k).step in
+        record {
+          run = ap (λ (o : Option Plain). option_and_then (λ r. plain_run p r (steps_of t (due ++ more))) o) to ∙ (on z g).run ∙ ap (λ (r : Plain). plain_run p r (steps_of t more)) twice;
+          runs = ap (λ (o : Option Plain). run_at t q (record { thread = t; act = act }) + count_from (count_along p (run_at t) (steps_of t (due ++ more))) o + x.begun) to
+              ∙ (omega (arith, (does p q t m x z act f some k).runs, (on z g).runs))
+              ∙ ap (λ (r : Plain). count_along p (run_at t) (steps_of t more) r + y.begun) twice;
+          takes = ap (λ (o : Option Plain). take_at t q (record { thread = t; act = act }) + count_from (count_along p (take_at t) (steps_of t (due ++ more))) o) to
+              ∙ (omega (arith, (does p q t m x z act f some k).takes, (on z g).takes))
+              ∙ ap (λ (r : Plain). count_along p (take_at t) (steps_of t more) r) twice;
+        }

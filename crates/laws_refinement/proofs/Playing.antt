@@ -1,15 +1,12 @@
 -- What a law of an attempt and the plain machine begins with: a thread in the attempt, of a reached state that stands beside a plain
 -- one, and its plain thread.
 use Rattle.std.proofs.Common.{◌≡◌, ℕ, Bool, Option, Some, subst, slice_get}
-use Rattle.machine_types.specs.{Agreement.{AttemptFits, ThreadFits, has_wait_bit}, Owners.references_of, PlainState.PlainThread, Threads.{Attempt, Thread}}
-use Rattle.laws_simulation.proofs.{Assembled.got_same_length, Turns.States}
+use Rattle.machine_types.specs.{Agreement.{AttemptFits, ThreadFits, has_wait_bit}, Owners.references_of, PlainState.PlainThread, Threads.Attempt}
+use Rattle.laws_simulation.proofs.{Assembled.got_same_length, Turns.Member}
 
 pub record Player : Type 0 where
-  pub states : States
-  pub open states use *
-  pub t : ℕ
-  pub x : Thread
-  pub here : slice_get s.threads t ≡ Some x
+  pub member : Member
+  pub open member use *
   pub a : Attempt
   pub tries : x.attempt ≡ Some a
 

@@ -51,22 +51,14 @@ each_reached p tags s o (q ∷ r ∷ parts) mode are (suc k) part e = each_reach
 -- ---- the frames
 
 frame_few : (p : Program) (f : Frame) → ahead p f ≤ size_of (slice_get p.methods f.method)
-frame_few p f = by_method (slice_get p.methods f.method)
-  where
-    by_method : (o : Option MethodInfo) → ahead_in f.pc o ≤ size_of o
-    by_method None = omega arith
-    by_method (Some m) = no_more_than f.pc m.code
+frame_few p f = elim (slice_get p.methods f.method) as (λ (o : Option MethodInfo). ahead_in f.pc o ≤ size_of o) [ None ↦ omega arith | Some m ↦ no_more_than f.pc m.code ]
 
 abbrev size_at : Program → ℕ → ℕ
 size_at p u = size_of (slice_get p.methods u)
 
 -- those that count are the frames inside
 counted_inside : (p : Program) (base : ℕ) (fs : List Frame) → all_ahead p base fs ≡ sum_by (ahead p) (take (length fs - base) fs)
-counted_inside p base [] = by_room (0 - base)
-  where
-    by_room : (n : ℕ) → 0 ≡ sum_by (ahead p) (take n [])
-    by_room zero = refl
-    by_room (suc n) = refl
+counted_inside p base [] = elim (0 - base) as (λ (n : ℕ). 0 ≡ sum_by (ahead p) (take n [])) [ zero ↦ refl | suc n ↦ refl ]
 counted_inside p base (f ∷ fs) = by_test (counted_inside p base fs) (nat_le base (length fs)) refl
   where
     by_test : all_ahead p base fs ≡ sum_by (ahead p) (take (length fs - base) fs) → (b : Bool) → nat_le base (length fs) ≡ b → (if b then ahead p f else 0) + all_ahead p base fs ≡ sum_by (ahead p) (take (suc (length fs) - base) (f ∷ fs))
@@ -106,8 +98,4 @@ module _ (apart : ApartLaw) (c : MarkedProgram) (n : ℕ) (a : Attempt) (reach :
       subst (λ (gs : List Frame). sum_by (ahead c.program) gs ≤ n) (sym k.alone) (omega (arith, few, sum, count))
 
   pub reached_ahead : (phase : Phase) (fs : List Frame) (held : List Held) → AttemptStands c phase fs held a → all_ahead c.program a.base fs ≤ n
-  reached_ahead phase fs held k = rw (counted_inside c.program a.base fs) (by_place k.frames)
-    where
-      by_place : Finishes a phase (frames_inside a fs) ⊎ RunsSection c a (frames_inside a fs) → sum_by (ahead c.program) (frames_inside a fs) ≤ n
-      by_place (inl exit) = at_exit phase (frames_inside a fs) exit
-      by_place (inr run) = in_section phase fs held k run
+  reached_ahead phase fs held k = rw (counted_inside c.program a.base fs) ((elim k.frames [ inl exit ↦ at_exit phase (frames_inside a fs) exit | inr run ↦ in_section phase fs held k run ]))

@@ -185,16 +185,13 @@ pub record ReadObject (p : Program) (field : FieldInfo) (stack : List ℕ) (v : 
   pub some : 0 < value
   pub variable : v ≡ variable_of field value
 
-is_some : (a : ℕ) → (a == 0) ≡ false → 0 < a
-is_some a e = grind (arith, nat_tests, e)
-
 read_by_gets : (p : Program) (field : FieldInfo) (stack : List ℕ) (v : Variable) → gets (Some field) stack ≡ Reads v → ReadObject p field stack v
 read_by_gets p field [] v e = absurd (cc)
 read_by_gets p field (value ∷ rest) v e = by_test (value == 0) refl e
   where
     by_test : (b : Bool) → (value == 0) ≡ b → (if b then Throws thrown.NullPointerException else Reads (variable_of field value)) ≡ Reads v → ReadObject p field (value ∷ rest) v
     by_test true g f = absurd (cc)
-    by_test false g f = record { value = value; rest = rest; top = refl; some = is_some value g; variable = same_variable f }
+    by_test false g f = record { value = value; rest = rest; top = refl; some = grind (arith, nat_tests, g); variable = same_variable f }
       where
         same_variable : {u n : Variable} → Reads u ≡ Reads n → n ≡ u
         same_variable q = cc
@@ -204,13 +201,6 @@ read_object p at number i field v target op is e =
     let named : effect p at.insn.next (targets.Field number) (ops.Getfield i) at.frame.locals at.frame.stack ≡ Reads v
     = subst (λ (q : Op). effect p at.insn.next (targets.Field number) q at.frame.locals at.frame.stack ≡ Reads v) op (subst (λ (q : Target). effect p at.insn.next q at.insn.op at.frame.locals at.frame.stack ≡ Reads v) target e) in
     read_by_gets p field at.frame.stack v (subst (λ (o : Option FieldInfo). gets o at.frame.stack ≡ Reads v) is named)
-
-same_instance : (n m i j : ℕ) → Instance n i ≡ Instance m j → n ≡ m
-same_instance n m i j e = ap reference_of e
-  where
-    reference_of : Variable → ℕ
-    reference_of (Instance r k) = r
-    reference_of (Static w) = 0
 
 instance_of : (field : FieldInfo) (reference : ℕ) → is_static field.flags ≡ false → variable_of field reference ≡ Instance reference field.index
 instance_of field reference e = ap (λ (b : Bool). if b then Static field.index else Instance reference field.index) e
@@ -277,14 +267,8 @@ module _ (trying : Trying) (frames_keep : FramesKeep trying.c trying.frozen tryi
       abbrev read : ReadObject c.program names.field at.frame.stack v
       read = read_object c.program at named.number names.constant names.field v named.named names.gets names.is e
 
-      one_field : f ≡ names.field
-      one_field = same_some (sym named.there ∙ names.is)
-
       is_variable : v ≡ Instance read.value names.field.index
       is_variable = read.variable ∙ instance_of names.field read.value names.instance
-
-      one_object : named.reference ≡ read.value
-      one_object = same_instance named.reference read.value f.index names.field.index (sym (instance_of f named.reference instance) ∙ sym named.variable ∙ is_variable)
 
       holder : allowed.IsOf (HasClass objects) f.class named.reference
       holder = named.holder instance
@@ -296,10 +280,13 @@ module _ (trying : Trying) (frames_keep : FramesKeep trying.c trying.frozen tryi
       object = holder.2.0
 
       is_object : object.reference ≡ read.value
-      is_object = holder.2.2 ∙ one_object
+      is_object =
+          let same : Instance named.reference f.index ≡ Instance read.value names.field.index = sym (instance_of f named.reference instance) ∙ sym named.variable ∙ is_variable in
+          let named_one : object.reference ≡ named.reference = holder.2.2 in
+          cc
 
       of_class : object.class ≡ names.field.class
-      of_class = holder.2.3 ∙ files_alone holder.1 f.class (program.fields named.number f named.there).class.0 holder.3 ∙ ap (λ (g : FieldInfo). g.class) one_field
+      of_class = holder.2.3 ∙ files_alone holder.1 f.class (program.fields named.number f named.there).class.0 holder.3 ∙ ap (λ (g : FieldInfo). g.class) (same_some (sym named.there ∙ names.is))
 
       field_at : IsFieldAt c objects w next t named.number (variable_word v) object
       field_at = record {

@@ -1,5 +1,6 @@
 -- The places that stay for a thread stay so after an event of another thread, and keep their words.
 use Rattle.std.proofs.Common.{◌≡◌, ◌≢◌, ◌⊎◌, inl, inr, ℕ, zero, suc, Bool, true, false, List, [], ◌∷◌, Option, Some, None, refl, sym, ap, ◌∙◌, subst, arith, slice_get, slice_index}
+use Rattle.std.proofs.lemmas.Bool.{cases_Bool}
 use Rattle.lists.proofs.ListLaws.{same_some}
 use Rattle.jvm_types.specs.{ClassNames.file_of_class, Members.{is_final, is_private, is_static}, declared.program.FieldInfo.FieldInfo}
 use Rattle.checked_program.specs.SectionLaws.{OwnedIsDecided}
@@ -56,20 +57,6 @@ module _ (its : Event) where
 
     -- ---- a thread that has not begun
 
-    not_idle_inside : (y : Thread) → slice_get s.threads u ≡ Some y → (a : Attempt) → y.attempt ≡ Some a → y.phase ≡ phases.Idle → ⊥
-    not_idle_inside y there a tries idle =
-        let st : IsStructured c (was u) y = facts.structure u y there in
-        let is : was u ≡ phases.Idle = subst (λ (phase : Phase). IsAs phase (was u)) idle st.is_as in
-        let inside : AttemptStands c (was u) y.frames y.held a = subst (AttemptStandsIn c (was u) y.frames y.held) tries st.attempt in
-        subst (IsPhaseInside a.monitor) is inside.inside
-
-    no_frame : (class : ℕ) → x.phase ≡ phases.Idle → IsOfClassInit c class x.frames → ⊥
-    no_frame class idle runs =
-        let st : IsStructured c (was t) x = facts.structure t x turns.thread in
-        let is : was t ≡ phases.Idle = subst (λ (phase : Phase). IsAs phase (was t)) idle st.is_as in
-        let stands : Stands c phases.Idle x.frames x.held x.attempt = subst (λ (phase : Phase). Stands c phase x.frames x.held x.attempt) is st.stands in
-        subst (IsOfClassInit c class) stands.phase_shows runs
-
     -- ---- their words stay
 
     module _ (laws : AreEventFacts) where
@@ -122,8 +109,16 @@ module _ (its : Event) where
               where
                 by_number : (i j : ℕ) → u ≡ i → t ≡ j → ⊥
                 by_number zero zero f g = other (f ∙ sym g)
-                by_number (suc i) j f g = not_idle_inside y there mine tries (makes.no_worker i y (subst (λ (n : ℕ). slice_get s.threads n ≡ Some y) f there))
-                by_number zero (suc j) f g = no_frame class (makes.no_worker j x (subst (λ (n : ℕ). slice_get s.threads n ≡ Some x) g turns.thread)) makes.runs
+                by_number (suc i) j f g =
+                    let st : IsStructured c (was u) y = facts.structure u y there in
+                    let is : was u ≡ phases.Idle = subst (λ (phase : Phase). IsAs phase (was u)) (makes.no_worker i y (subst (λ (n : ℕ). slice_get s.threads n ≡ Some y) f there)) st.is_as in
+                    let inside : AttemptStands c (was u) y.frames y.held mine = subst (AttemptStandsIn c (was u) y.frames y.held) tries st.attempt in
+                    subst (IsPhaseInside mine.monitor) is inside.inside
+                by_number zero (suc j) f g =
+                    let st : IsStructured c (was t) x = facts.structure t x turns.thread in
+                    let is : was t ≡ phases.Idle = subst (λ (phase : Phase). IsAs phase (was t)) (makes.no_worker j x (subst (λ (n : ℕ). slice_get s.threads n ≡ Some x) g turns.thread)) st.is_as in
+                    let stands : Stands c phases.Idle x.frames x.held x.attempt = subst (λ (phase : Phase). Stands c phase x.frames x.held x.attempt) is st.stands in
+                    subst (IsOfClassInit c class) stands.phase_shows makes.runs
 
       -- one number names one field
       same_field : (fi : ℕ) (f g : FieldInfo) → slice_get c.program.fields fi ≡ Some f → slice_get c.program.fields fi ≡ Some g → f ≡ g

@@ -59,13 +59,9 @@ next_passed p (z ∷ workers) t x e = elim (may_begin (z ∷ workers)) as (λ (b
 part_left : (p : Program) (base : ℕ) (x y : Thread) → IsPassed x y → left_in p base y.phase y.frames ≤ left_in p base x.phase x.frames
 part_left p base x y k = rw k.frames (by_phase k.phase)
   where
-    by_roots : (roots : List ℕ) → left_in p base (part_phase roots) x.frames ≤ left_in p base x.phase x.frames
-    by_roots [] = omega arith
-    by_roots (number ∷ roots) = omega arith
-
     by_phase : IsPassedOn x.phase y.phase → left_in p base y.phase x.frames ≤ left_in p base x.phase x.frames
     by_phase (inl e) = rw e (omega arith)
-    by_phase (inr k) = rw k.1 (by_roots k.0)
+    by_phase (inr k) = rw k.1 ((elim k.0 as (λ (roots : List ℕ). left_in p base (part_phase roots) x.frames ≤ left_in p base x.phase x.frames) [ [] ↦ omega arith | number ∷ roots ↦ omega arith ]))
 
 -- ---- what happens next
 

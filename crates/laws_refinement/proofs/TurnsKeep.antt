@@ -1,6 +1,7 @@
 -- Each turn of a stage keeps what holds there, or comes to the next stage; and where no turn comes, the run is over.
 use Rattle.std.proofs.Common.{◌≡◌, ◌≤◌, ◌<◌, ℕ, zero, suc, ◌+◌, Bool, true, false, List, [], ◌∷◌, length, Option, Some, None, refl, sym, ap, subst, ◌∙◌, arith, nat_le, nat_lt, ◌&&◌, if◌then◌else◌, find, slice_get}
 use Rattle.std.{specs.{List.range_with_len, Option.option_or}, proofs.lemmas.{Bool.Decides.nat_tests, Option.slice_get_past}}
+use Rattle.std.proofs.lemmas.Bool.{cases_Bool}
 use Rattle.jvm_types.specs.declared.program.Program.{Program}
 use Rattle.checked_program.specs.MarkedProgram.{MarkedProgram}
 use Rattle.machine_types.specs.{Core.{Core, Of, NextPart, event, is_live_thread, lives, may_begin, may_begin_by, next, next_threads, part_begins}, Faithful.IsOver}
@@ -108,23 +109,17 @@ module _ (given : GivenIsKept) (c : MarkedProgram) (s : Core) where
   init_turn : (order : List ℕ) → IsAlone (λ n. n ≡ 0) s → TurnFits c s (turn_at (First order) s)
   init_turn order h = by_live (lives s 0) refl
     where
-      by_begin : (b : Bool) → lives s 0 ≡ false → may_begin s.threads ≡ b → TurnFits c s (if b then turn_of NextPart (Ordered order) else None)
-      by_begin true dead may = workers_begin c s h dead may
-      by_begin false dead may = over s dead h.workers may
-
       by_live : (b : Bool) → lives s 0 ≡ b → TurnFits c s (if b then turn_of (Of 0) (First order) else part_turn s (Ordered order))
       by_live true live = event_alone given (λ n. n ≡ 0) c s 0 h
-      by_live false dead = by_begin (may_begin s.threads) dead refl
+      by_live false dead = (elim (may_begin s.threads) as (λ (b : Bool). lives s 0 ≡ false → may_begin s.threads ≡ b → TurnFits c s (if b then turn_of NextPart (Ordered order) else None))
+          [ true ↦ λ dead may. workers_begin c s h dead may | false ↦ λ dead may. over s dead h.workers may ]) dead refl
 
   round_fits : (from : ℕ) → IsWaiting s → TurnFits c s (round_turn_from s from)
   round_fits from h = by_worker (option_or (live_from s from) (live_from s 1)) refl
     where
-      by_begin : (b : Bool) → NoWorkerLives s → may_begin s.threads ≡ b → TurnFits c s (if b then turn_of NextPart Last else None)
-      by_begin true dead may = done_begins c s h dead may
-      by_begin false dead may = over s h.first dead may
-
       by_worker : (o : Option ℕ) → option_or (live_from s from) (live_from s 1) ≡ o → TurnFits c s (round_turn s o)
-      by_worker None e = by_begin (may_begin s.threads) (none_live s (second_none (live_from s from) (live_from s 1) e)) refl
+      by_worker None e = (elim (may_begin s.threads) as (λ (b : Bool). NoWorkerLives s → may_begin s.threads ≡ b → TurnFits c s (if b then turn_of NextPart Last else None))
+          [ true ↦ λ dead may. done_begins c s h dead may | false ↦ λ dead may. over s h.first dead may ]) (none_live s (second_none (live_from s from) (live_from s 1) e)) refl
       by_worker (Some t) e = event_waits given c s t h
 
   ordered_fits : (order : List ℕ) → IsWaiting s → TurnFits c s (ordered s order)
@@ -133,15 +128,9 @@ module _ (given : GivenIsKept) (c : MarkedProgram) (s : Core) where
       (elim (is_live_worker s t) as (λ (b : Bool). TurnFits c s (ordered s order) → TurnFits c s (if b then turn_of (Of t) (Ordered order) else ordered s order))
       [ true ↦ λ rest. event_waits given c s t h | false ↦ λ rest. rest ]) (ordered_fits order h)
 
-  done_turn : IsAlone (λ n. 2 ≤ n) s → TurnFits c s (turn_at Last s)
-  done_turn h = by_live (lives s 0) refl
-    where
-      by_live : (b : Bool) → lives s 0 ≡ b → TurnFits c s (if b then turn_of (Of 0) Last else None)
-      by_live true live = event_alone given (λ n. 2 ≤ n) c s 0 h
-      by_live false dead = over s dead h.workers (none_after s.threads h.part)
-
   pub turn_fits : (stage : Stage) → StageFits stage s → TurnFits c s (turn_at stage s)
   turn_fits (First order) h = init_turn order h
   turn_fits (Ordered order) h = ordered_fits order h
   turn_fits (Rounds from) h = round_fits from h
-  turn_fits Last h = done_turn h
+  turn_fits Last h = (elim (lives s 0) as (λ (b : Bool). lives s 0 ≡ b → TurnFits c s (if b then turn_of (Of 0) Last else None))
+      [ true ↦ λ live. event_alone given (λ n. 2 ≤ n) c s 0 h | false ↦ λ dead. over s dead h.workers (none_after s.threads h.part) ]) refl

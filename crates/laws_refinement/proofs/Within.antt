@@ -40,11 +40,8 @@ module _ (s : Thread) where
 
   after_elsewhere : (p : Program) (fs : List Frame) (a : After) → IsElsewhere s → IsElsewhere (goes_on_if s (after p fs a))
   after_elsewhere p fs afters.Next k = in_run (nat_lt s.counts.instructions s.cfg.steps)
-  after_elsewhere p fs afters.Return k = by_top (top_of p fs)
-    where
-      by_top : (top : Option Top) → IsElsewhere (goes_on_if s (option_map (λ at. back (returned p at)) top))
-      by_top None = k
-      by_top (Some at) = back_elsewhere (returned p at)
+  after_elsewhere p fs afters.Return k = elim (top_of p fs) as (λ (top : Option Top). IsElsewhere (goes_on_if s (option_map (λ at. back (returned p at)) top)))
+      [ None ↦ k | Some at ↦ back_elsewhere (returned p at) ]
   after_elsewhere p fs (afters.Unwind x class) k = unwound_elsewhere x class (drop 1 fs)
 
 -- ---- a thread that goes on counts no failure

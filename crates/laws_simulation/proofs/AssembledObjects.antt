@@ -1,10 +1,14 @@
 -- Threads that make objects, where one that makes none goes on.
-use Rattle.std.proofs.Common.{◌≡◌, ◌≢◌, ◌⊎◌, inl, inr, ℕ, List, Some, sym, ap, ◌∙◌, slice_get, slice_set}
+use Rattle.std.proofs.Common.{◌≡◌, ◌≢◌, ◌⊎◌, inl, inr, ℕ, List, Some, sym, ap, ◌∙◌, subst, Contains, slice_get, slice_set}
 use Rattle.lists.proofs.ListLaws.{same_some}
-use Rattle.machine_types.{specs.{Agreement.IsPending, Threads.Thread, declared.phase.Phase.Phase}, proofs.Lists.{got_when_set, got_other}}
+use Rattle.jvm_types.specs.declared.program.Program.{Program}
+use Rattle.machine_types.{specs.{Agreement.IsPending, PlainMemory.Object, PlainState.Plain, Threads.Thread, declared.phase.Phase.Phase}, proofs.Lists.{got_when_set, got_other}}
 use Rattle.laws_states.proofs.Lists.{same_or_not}
-use Rattle.laws_simulation.specs.StandsBeside.{IsBeingMade}
+use Rattle.laws_simulation.specs.StandsBeside.{IsBeingMade, IsPlainNew}
 use Rattle.machine_types.specs.declared.phase.Phase.TheVariants as phases
+
+pub new_again : (p : Program) (q r : Plain) (a word : ℕ) → r.objects ≡ q.objects → IsPlainNew p q a word → IsPlainNew p r a word
+new_again p q r a word e k = record { object = k.object; there = subst (λ (os : List Object). Contains os k.object) (sym e) k.there; reference = k.reference; class = k.class; values = k.values; header = k.header }
 
 abbrev pub MakesNone : Phase → Type 0
 MakesNone phase = (a word : ℕ) → phase ≡ phases.Made a word → ⊥

@@ -25,10 +25,7 @@ allowed_at c phase frames marked holds = tt
 abbrev pub turn_of : {c : MarkedProgram} {cfg : Config} {objects : List Object} {was : ℕ → Phase}
     {s : Core} {t : ℕ} {x : Thread} {q after : Plain} → StandsToMove c cfg objects was s t x q after → Turn
 turn_of {c} {cfg} {objects} {was} {s} {t} {x} {q} h = record {
-  states = record { c = c; cfg = cfg; objects = objects; was = was; s = s; q = q; marked = h.marked; facts = h.facts; beside = h.beside };
-  t = t;
-  x = x;
-  here = h.thread;
+  member = record { states = record { c = c; cfg = cfg; objects = objects; was = was; s = s; q = q; marked = h.marked; facts = h.facts; beside = h.beside }; t = t; x = x; here = h.thread };
   outside = h.outside;
 }
 

@@ -2,14 +2,14 @@
 -- effect each say these.
 use Rattle.std.proofs.Common.{◌≡◌, ℕ, Bool, true, false, cond, List, [], ◌∷◌, length, Option, Some, None, refl, sym, ap, ◌∙◌, subst, slice_index, slice_set, option_and_then}
 use Rattle.jvm_types.specs.declared.{fixed_words.TheConstants.{NEXT_FREE_WORD, NEXT_TICKET_WORD}, program.Program.Program}
-use Rattle.machine_types.specs.{Accesses.{found_by, words_after}, Agreement.{ThreadFits, depth_of, has_wait_bit}, Core.Core, Effects.read_by, Elision.{is_checked, if_same}, Events.{wanted, moved}}
-use Rattle.machine_types.specs.{Frames.{Top, top_of, effect_at}, Going.{goes_on, root_over}, HeldMonitors.depth_at, History.{acts_of, run_acts, instruction_acts, steps_of}}
+use Rattle.machine_types.specs.{Accesses.{found_by, words_after}, Agreement.{ThreadFits, has_wait_bit}, Core.Core, Effects.read_by, Elision.{is_checked, if_same}, Events.{wanted, moved}}
+use Rattle.machine_types.specs.{Frames.{Top, top_of, effect_at}, Going.{goes_on, root_over}, History.{acts_of, run_acts, instruction_acts, steps_of}}
 use Rattle.machine_types.specs.{Instructions.{effect_wants, run_wants, begun, did, instructed, ran}, Onward.{Onward, Running, Throwing, Entering, Leaving, RootReturned, Uncaught}}
 use Rattle.machine_types.specs.{Owners.references_of, PlainMemory.Object, PlainState.{Plain, PlainThread, Status, Printed, value_at}, PlainSteps.{step_at, plain_run}, Threads.{Attempt, Frame, Thread}}
 use Rattle.machine_types.specs.declared.{access.Access.{Access, TheVariants.Load}, effect.Effect.Effect, phase.Phase.Phase, plain.Act.Act}
 use Rattle.laws_states.{specs.HeapFacts.objects_by, proofs.WordViews.set_self}
-use Rattle.laws_simulation.{specs.{StandsBeside.{StandsBeside, ends_shown}, StepsBeside.{IsAtEffect, StepsBeside}}, proofs.Assembled.{moved_beside, one_step, steps_beside}}
-use Rattle.laws_simulation.proofs.{GoingOnAlike.{IsUnderWay, IsAwake, going_alike}, Landing.never_made, OwnThread.{Moving, not_ended}, Turns.Turn}
+use Rattle.laws_simulation.{specs.{StandsBeside.{StandsBeside, ends_shown}, StepsBeside.{IsAtEffect, StepsBeside}}, proofs.{Assembled.{moved_beside, one_step, steps_beside}, HoldingsAlike.alike_kept}}
+use Rattle.laws_simulation.proofs.{GoingOnAlike.{IsUnderWay, going_alike}, Landing.never_made, OwnThread.{Moving, not_ended}, Turns.Turn}
 use Rattle.jvm_types.specs.declared.outcome.End.TheVariants as ends
 use Rattle.machine_types.specs.PlainInstructions as plain_instructions
 use Rattle.machine_types.specs.PlainState as plain
@@ -103,15 +103,14 @@ module _ {turn : Turn} (k : Moving turn) where
   pub becomes : (words : List ℕ) (prints : List Printed) (y : Thread) (plain : PlainThread) → WordsFit s q words prints → y.part ≡ x.part → y.held ≡ x.held → ((a word : ℕ) → y.phase ≡ phases.Made a word → ⊥)
       → ThreadFits c.program (has_wait_bit (references_of q.objects) words t) y y.attempt plain → plain.ended ≡ ends_shown c.program y.part y.phase
       → StandsBeside c.program objects (record { words = words; threads = slice_set s.threads t y }) (record q { threads = slice_set q.threads t plain; prints = prints })
-  becomes words prints y plain w part held makes fits ended = moved_beside c.program objects s q t words x y q.holdings plain prints beside here (record {
+  becomes words prints y plain w part held makes fits ended = moved_beside turn.member words y q.holdings plain prints (record {
     fits = fits;
     ended = ended;
     places = w.places;
     next = w.next;
     printed = w.printed;
     bits = λ u m n. w.bits u m;
-    depths = λ m. beside.agrees.monitors t m ∙ ap (λ (o : Option Thread). depth_of o m) here ∙ ap (λ hs. depth_at hs m) (sym held);
-    other_depths = λ u m n. refl;
+    alike = alike_kept q.holdings s.threads beside.agrees.monitors t x y here held;
     old = λ a word e. never_made x.phase a word k.old e;
     new = makes;
     part = part;

@@ -14,7 +14,7 @@ use Rattle.machine_types.{specs.declared.phase.Phase.Phase, proofs.Lists.set_as_
 use Rattle.laws_threads.{specs.{Allowed.Allowed, TopFrames.{IsAllowed, EffectsAreAllowed}}, proofs.{FramePlaces.tops_stand_law, GoingOn.OnwardShows, Instructions.done_shows}}
 use Rattle.laws_states.{specs.{FoundLaws.{IsOfHeap, HeapWordsFit}, SiteLaws.{SitesDiffer, SitesLieInside}}, proofs.Phases.IsOldPhase}
 use Rattle.laws_simulation.{specs.{StandsBeside.StandsBeside, StepsBeside.{IsAtEffect, IsOfFrames, FrameSteps}}, proofs.Assembled.one_step}
-use Rattle.laws_simulation.proofs.EventSteps.{Does, GoesFrom, LeavesWords, in_effect, not_checked, load_leaves, same_words, becomes, goes_beside, does_one, instruction_step}
+use Rattle.laws_simulation.proofs.EventSteps.{Does, LeavesWords, in_effect, not_checked, load_leaves, same_words, becomes, goes_beside, does_one, instruction_step}
 use Rattle.laws_simulation.proofs.{GoingOnAlike.{awake_fits, none_ends}, HeldToLeave.{IsHeld, leaves_held, exits_held, held_not_null}, HoldingsAlike.is_holder_then}
 use Rattle.laws_simulation.proofs.{OwnThread.{IsBusy, Moving, Own, own, under_way}, PrintWords.print_fits, RunScene.{frames_are, status_fits, values}, Scene.{Scene, awake, by_scene, counts_as}}
 use Rattle.laws_simulation.proofs.TopPlaces.{MayDo, may_do, variable_value, header_value}

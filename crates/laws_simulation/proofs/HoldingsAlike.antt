@@ -1,6 +1,6 @@
 -- What the plain machine's holdings say of who holds a monitor is what the threads' own lists say, also where a thread takes a
 -- monitor or lets it go.
-use Rattle.std.proofs.Common.{◌≡◌, ◌≢◌, ◌⊎◌, inl, inr, ℕ, Bool, true, false, cond, List, [], ◌∷◌, Option, Some, None, refl, sym, ap, ◌∙◌, subst, arith, not, ◌==◌, option_map, slice_get, slice_set}
+use Rattle.std.proofs.Common.{◌≡◌, ◌≢◌, inl, inr, ℕ, Bool, true, false, cond, List, [], ◌∷◌, Option, Some, None, refl, sym, ap, ◌∙◌, subst, arith, not, ◌==◌, option_map, slice_get, slice_set}
 use Rattle.std.proofs.lemmas.Bool.{ne_eqb, Decides.{nat_tests, Decides-eqb}}
 use Rattle.machine_types.specs.{Agreement.{depth_for, depth_of}, HeldMonitors.{held_at, depth_at, with_held, without_held}, PlainState.{Holding, holding_at, with_holding, without_holding, is_holder}}
 use Rattle.machine_types.{specs.{Structure.AreHeldOnce, Threads.Thread, declared.lock.Held.Held}, proofs.{Lists.{got_when_set, got_other}, PlainStepLaws.is_same}}

@@ -1,10 +1,10 @@
 -- The state that an event leads to stands beside a plain state, where the event changes one thread and words of which the plain
 -- machine knows nothing.
-use Rattle.std.proofs.Common.{◌≡◌, ℕ, List, [], ◌∷◌, Option, Some, refl, sym, ap, ◌∙◌, subst, slice_index, slice_set}
+use Rattle.std.proofs.Common.{◌≡◌, ℕ, List, [], ◌∷◌, Some, refl, sym, ◌∙◌, subst, slice_index, slice_set}
 use Rattle.jvm_types.specs.declared.fixed_words.TheConstants.{NEXT_FREE_WORD, NEXT_TICKET_WORD}
-use Rattle.machine_types.specs.{Agreement.{has_wait_bit, ThreadFits, depth_of}, Core.Core, History.steps_of, Owners.references_of, PlainMemory.Object}
+use Rattle.machine_types.specs.{Agreement.{has_wait_bit, ThreadFits}, Core.Core, History.steps_of, Owners.references_of, PlainMemory.Object}
 use Rattle.machine_types.specs.{PlainState.{Plain, PlainThread, Holding, value_at}, PlainSteps.plain_run, Threads.Thread, declared.{phase.Phase.Phase, plain.Act.Act}}
-use Rattle.machine_types.proofs.Lists.{set_as_it_is, got_when_set, got_other}
+use Rattle.machine_types.proofs.Lists.{set_as_it_is}
 use Rattle.laws_states.proofs.Phases.{IsOldPhase}
 use Rattle.laws_simulation.{specs.StandsBeside.{StandsBeside, IsBeingMade, ends_shown}, proofs.{Assembled.moved_beside, HoldingsAlike.HoldAlike, OwnThread.{Moving, not_ended}, Turns.Turn}}
 use Rattle.laws_simulation.proofs.WaitBits.{fits_by, new_lock, same_wait_bit_in}
@@ -48,15 +48,14 @@ module _ {turn : Turn} (k : Moving turn) where
         ∙ sym (same_wait_bit_in objects s.threads s.words q beside.known beside.others (new_lock c.program objects s turn.facts.heap.new_objects) u m)
 
     pub lands : StandsBeside c.program objects (record { words = words; threads = slice_set s.threads t y }) (record q { holdings = later; threads = slice_set q.threads t w })
-    lands = moved_beside c.program objects s q t words x y later w q.prints beside turn.here (record {
+    lands = moved_beside turn.member words y later w q.prints (record {
       fits = fits_by c.program (has_wait_bit (references_of q.objects) s.words t) (has_wait_bit (references_of q.objects) words t) y y.attempt w (bits_same t) on.fits;
       ended = on.ended;
       places = on.stay.places;
       next = on.stay.free;
       printed = on.stay.tickets ∙ beside.agrees.prints;
       bits = λ u m d. bits_same u m;
-      depths = λ m. on.holds t m ∙ ap (λ (o : Option Thread). depth_of o m) (got_when_set s.threads t x y turn.here);
-      other_depths = λ u m d. on.holds u m ∙ ap (λ (o : Option Thread). depth_of o m) (got_other s.threads t u y d) ∙ sym (beside.agrees.monitors u m);
+      alike = on.holds;
       old = λ a word e. never_made x.phase a word k.old e;
       new = λ a word e. never_made y.phase a word on.now e;
       part = on.part;

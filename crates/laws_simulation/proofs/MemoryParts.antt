@@ -2,19 +2,19 @@
 -- header of a new object is stored.
 use Rattle.std.proofs.Common.{◌≡◌, ◌≢◌, ◌⊎◌, inl, inr, ℕ, ◌+◌, ◌-◌, ◌<◌, ◌≤◌, Bool, true, false, cond, List, [], ◌∷◌, ◌++◌, length, Some, refl, sym, ap, subst, ◌∙◌, arith, Contains, slice_get, slice_index, slice_set, ◌==◌, if◌then◌else◌}
 use Rattle.std.proofs.lemmas.{Bool.Decides.nat_tests, List.length-replicate}
-use Rattle.jvm_types.specs.{Numbers.has_number, ProgramInvariant.{IsProgram, instances_among, words_of}, declared.class_numbers.TheConstants.INT_ARRAY_CLASS}
+use Rattle.jvm_types.specs.{Numbers.has_number, ProgramInvariant.{instances_among, words_of}, declared.class_numbers.TheConstants.INT_ARRAY_CLASS}
 use Rattle.jvm_types.specs.declared.fixed_words.TheConstants.{NEXT_FREE_WORD, NEXT_TICKET_WORD, FIRST_READY_WORD, MONITOR_RECORDS, OBJECT_HEAD_WORDS}
 use Rattle.machine_types.specs.{Agreement.{IsPending, has_wait_bit}, FoundWords.IsHeader, LockWords.lock_of, NewObjects.size_by, Owners.{lock_at, references_of}}
-use Rattle.machine_types.specs.{PlainMemory.{Object, header_of, object_write, new_object, object_end, value_in}, PlainState.{Plain, value_at, written}, Threads.Thread}
+use Rattle.machine_types.specs.{PlainMemory.{Object, object_write, new_object, object_end, value_in}, PlainState.{Plain, value_at, written}, Threads.Thread}
 use Rattle.machine_types.{specs.{Words.{header_class, header_length, header_word, bits_word, object_size, array_size}, declared.lock.LockWord.LockWord}, proofs.AttemptsPlain.size_two}
 use Rattle.machine_types.proofs.Lists.{got_when_set}
 use Rattle.laws_threads.proofs.MonitorMoves.{contains_got}
 use Rattle.laws_states.{specs.Sites.{Site, Counter, HeaderOf, ValueOf, NewHeaderOf, StaticAt, site_word, IsThere}, proofs.{Headers.new_header, Lists.{contained_got, same_or_not, set_here, set_there}}}
 use Rattle.laws_states.proofs.{WordSteps.apart_on, WordViews.{object_has, has_object}}
-use Rattle.laws_simulation.{specs.StandsBeside.{IsAmong, IsBeingMade, IsPlainNew}, proofs.AssembledObjects.{MakesNone, pending_on, making_on, made_before, made_by_others}}
-use Rattle.laws_simulation.proofs.{PlainObjects.{contains_before, contains_last, contained_last, added_place, new_value, IsZeroIn, new_end, apart_added}, PlainPlaces.{place_low, no_lock_place}}
+use Rattle.laws_simulation.{specs.StandsBeside.{IsAmong, IsBeingMade, IsPlainNew}, proofs.AssembledObjects.{MakesNone, new_again, pending_on, making_on, made_before, made_by_others}}
+use Rattle.laws_simulation.proofs.{PlainObjects.{contains_before, contains_last, contained_last, added_place, new_value, new_end, apart_added}, PlainPlaces.{place_low, no_lock_place}}
 use Rattle.laws_simulation.proofs.PlainWrites.{shape_reference, shape_class, shape_long, written_from, written_to, written_references, apart_written, other_place, here_place, NoHeader, known_written, header_shaped}
-use Rattle.laws_simulation.proofs.{Scene.{Scene, new_again, Memory}, WaitBits.{bit_by, same_bit, same_lock}}
+use Rattle.laws_simulation.proofs.{Scene.{Scene, Memory}, WaitBits.{bit_by, same_bit, same_lock}}
 use Rattle.machine_types.specs.declared.lock.LockWord.TheVariants as locks
 use Rattle.machine_types.specs.declared.phase.Phase.TheVariants as phases
 

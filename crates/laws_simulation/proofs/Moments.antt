@@ -1,12 +1,12 @@
 -- A thread in no attempt that is about to move, in a reached state, beside the plain thread that it stands for; and what stands
 -- beside when it has moved, and wrote at most a word of a monitor record.
-use Rattle.std.proofs.Common.{◌≡◌, ◌≢◌, ◌⊎◌, inl, inr, ℕ, ◌<◌, ◌≤◌, Bool, true, false, cond, List, ◌∷◌, length, Option, Some, None, refl, sym, ap, ◌∙◌, subst, arith, slice_get, slice_index, slice_set, option_and_then}
+use Rattle.std.proofs.Common.{◌≡◌, ◌≢◌, ℕ, ◌<◌, ◌≤◌, Bool, true, false, cond, List, ◌∷◌, length, Option, Some, None, refl, sym, ap, ◌∙◌, subst, arith, slice_get, slice_index, slice_set, option_and_then}
 use Rattle.jvm_types.specs.{Numbers.has_number, declared.{fixed_words.TheConstants.{NEXT_FREE_WORD, NEXT_TICKET_WORD, FIRST_RECORD_WORD, FIRST_READY_WORD}, program.Program.Program}}
 use Rattle.machine_types.specs.{Accesses.{found_by, words_after}, Agreement.{has_wait_bit, StatusFits, OutsideFits, ThreadFits, frames_shown, roots_shown}, Core.{Core, accessed_by}}
 use Rattle.machine_types.specs.{Events.{wanted, moved}, History.{acts_of, steps_of}, LockWords.lock_of, Owners.{lock_at, references_of}, PlainState.{Status, Plain, PlainThread, Holding}}
 use Rattle.machine_types.specs.{PlainSteps.{step_at, step_of, plain_run}, Structure.IsAs, Threads.{Attempt, Thread}, declared.{phase.Phase.Phase, plain.Act.Act}}
-use Rattle.laws_states.{specs.{HeapFacts.objects_by, Sites.HasObject}, proofs.{Assembled.got_set, Lists.{set_there, contained_got}, WordViews.has_object}}
-use Rattle.laws_simulation.{specs.{StandsBeside.{StandsBeside, ends_shown}, StepsBeside.StepsBeside}, proofs.{Assembled.{got_same_length, stands_beside, steps_beside}, HoldingsAlike.HoldAlike}}
+use Rattle.laws_states.{specs.{HeapFacts.objects_by, Sites.HasObject}, proofs.{Lists.{set_there, contained_got}, WordViews.has_object}}
+use Rattle.laws_simulation.{specs.{StandsBeside.{StandsBeside, ends_shown}, StepsBeside.StepsBeside}, proofs.{Assembled.{IsLater, stands_beside, steps_beside}, HoldingsAlike.HoldAlike}}
 use Rattle.laws_simulation.proofs.{OwnThread.own, PlainPlaces.place_low, Turns.Turn, WaitBits.same_lock}
 use Rattle.jvm_types.specs.declared.outcome.End.TheVariants as ends
 use Rattle.machine_types.specs.declared.lock.LockWord.TheVariants as locks
@@ -43,13 +43,6 @@ first_step p q r t y act acts status g w e =
     ∙ ap (option_and_then (λ (z : Plain). plain_run p z (steps_of t acts))) e
 
 -- ---- what stands beside when the thread has moved
-
--- thread u of the plain state, which was y, fits the words that were left
-pub record IsLater (p : Program) (q : Plain) (words : List ℕ) (threads : List PlainThread) (u : ℕ) (z : Thread) (ended : PlainThread) : Type 0 where
-  pub now : PlainThread
-  pub twin : slice_get threads u ≡ Some now
-  pub fits : ThreadFits p (has_wait_bit (references_of q.objects) words u) z z.attempt now
-  pub ends : now.ended ≡ ended.ended
 
 module _ {turn : Turn} {phase : Phase} (k : Moment turn phase) where
   open turn use {c, objects, was, s, t, x, q}
@@ -95,8 +88,8 @@ module _ {turn : Turn} {phase : Phase} (k : Moment turn phase) where
 
   -- ---- the whole
 
-  -- the thread has become x2, its plain one y2, and these are the words
-  pub record Becomes (later : List ℕ) (x2 : Thread) (y2 : PlainThread) : Type 0 where
+  -- the thread has become x2 and its plain one y2, and these are the words, the holdings and the plain threads
+  pub record Becomes (later : List ℕ) (x2 : Thread) (y2 : PlainThread) (holdings : List Holding) (threads : List PlainThread) : Type 0 where
     pub written : AreRecordsWritten s.words later
     pub old : (a word : ℕ) → phase ≢ phases.Made a word
     pub new : (a word : ℕ) → x2.phase ≢ phases.Made a word
@@ -105,51 +98,30 @@ module _ {turn : Turn} {phase : Phase} (k : Moment turn phase) where
     pub free : x2.attempt ≡ None
     pub fits : OutsideFits c.program (has_wait_bit (references_of q.objects) later t) x2 y2
     pub ended : y2.ended ≡ ends_shown c.program x2.part x2.phase
+    pub alike : HoldAlike holdings (slice_set s.threads t x2)
+    pub many : length threads ≡ length q.threads
+    pub own : slice_get threads t ≡ Some y2
+    pub others : (u : ℕ) (z : Thread) (w : PlainThread) → u ≢ t → slice_get s.threads u ≡ Some z → slice_get q.threads u ≡ Some w → IsLater c.program q later threads u z w
 
-  module _ (later : List ℕ) (x2 : Thread) (y2 : PlainThread) (becomes : Becomes later x2 y2)
-      (holdings : List Holding) (threads : List PlainThread)
-      (alike : HoldAlike holdings (slice_set s.threads t x2))
-      (many : length threads ≡ length q.threads) (own : slice_get threads t ≡ Some y2)
-      (others : (u : ℕ) (z : Thread) (w : PlainThread) → u ≢ t → slice_get s.threads u ≡ Some z
-      → slice_get q.threads u ≡ Some w → IsLater c.program q later threads u z w) where
-    open becomes use {written, old, new, part, rests, free, fits, ended}
-
-    abbrev Both : (u : ℕ) → Thread → PlainThread → Type 0
-    Both u z w = ThreadFits c.program (has_wait_bit (references_of q.objects) later u) z z.attempt w × (w.ended ≡ ends_shown c.program z.part z.phase)
-
-    thread_fits : (u : ℕ) (z : Thread) (w : PlainThread) → slice_get (slice_set s.threads t x2) u ≡ Some z → slice_get threads u ≡ Some w → Both u z w
-    thread_fits u z w g h = by_thread (got_set s.threads t u x2 z g)
-      where
-        own_both : Both t x2 y2
-        own_both = (subst (λ (a : Option Attempt). ThreadFits c.program (has_wait_bit (references_of q.objects) later t) x2 a y2) (sym free) fits, ended)
-
-        by_thread : ((u ≡ t) × (z ≡ x2)) ⊎ ((u ≢ t) × (slice_get s.threads u ≡ Some z)) → Both u z w
-        by_thread (inl e) =
-            let at : slice_get threads t ≡ Some w = subst (λ (i : ℕ). slice_get threads i ≡ Some w) e.0 h in
-            let here : slice_get threads t ≡ Some y2 = own in
-            let same : w ≡ y2 = cc in
-            let one : Both t z w = subst (λ (v : Thread). Both t v w) (sym e.1) (subst (λ (v : PlainThread). Both t x2 v) (sym same) own_both) in
-            subst (λ (i : ℕ). Both i z w) (sym e.0) one
-        by_thread (inr e) =
-            let first = got_same_length threads q.threads u w (sym many) h in
-            let l : IsLater c.program q later threads u z first.0 = others u z first.0 e.0 e.1 first.1 in
-            let there : slice_get threads u ≡ Some l.now = l.twin in
-            let same : l.now ≡ w = cc in
-            subst (λ (v : PlainThread). Both u z v) same (l.fits, l.ends ∙ turn.beside.ends u z first.0 e.1 first.1)
-
-    pub moved_beside : StandsBeside c.program objects (record { words = later; threads = slice_set s.threads t x2 }) (record q { holdings = holdings; threads = threads })
-    moved_beside = stands_beside c.program objects s q t later x x2 holdings threads q.prints turn.beside turn.here (record {
-      places = λ i v e. written.places i (place_low c.program q turn.beside.apart i v e).0;
-      next = written.counters NEXT_FREE_WORD (omega arith);
-      printed = written.counters NEXT_TICKET_WORD (omega arith) ∙ turn.beside.agrees.prints;
-      monitors = alike;
-      many = many;
-      each = thread_fits;
-      old = λ a word e. old a word (sym k.phase_is ∙ e);
-      new = new;
-      part = part;
-      rests = λ e. rests (sym k.phase_is ∙ e);
-    })
+  pub moved_beside : (later : List ℕ) (x2 : Thread) (y2 : PlainThread) (holdings : List Holding) (threads : List PlainThread) → Becomes later x2 y2 holdings threads
+      → StandsBeside c.program objects (record { words = later; threads = slice_set s.threads t x2 }) (record q { holdings = holdings; threads = threads })
+  moved_beside later x2 y2 holdings threads b = stands_beside turn.member later x2 y2 holdings threads q.prints (record {
+    fitting = record {
+      many = b.many;
+      own = b.own;
+      fits = subst (λ (a : Option Attempt). ThreadFits c.program (has_wait_bit (references_of q.objects) later t) x2 a y2) (sym b.free) b.fits;
+      ended = b.ended;
+      others = b.others;
+      part = b.part;
+      rests = λ e. b.rests (sym k.phase_is ∙ e);
+    };
+    places = λ i v e. b.written.places i (place_low c.program q turn.beside.apart i v e).0;
+    next = b.written.counters NEXT_FREE_WORD (omega arith);
+    printed = b.written.counters NEXT_TICKET_WORD (omega arith) ∙ turn.beside.agrees.prints;
+    alike = b.alike;
+    old = λ a word e. b.old a word (sym k.phase_is ∙ e);
+    new = b.new;
+  })
 
   -- ---- the steps
 

@@ -6,7 +6,7 @@ use Rattle.jvm_types.specs.{Numbers.has_flag, declared.{fixed_words.TheConstants
 use Rattle.machine_types.specs.{Agreement.{has_wait_bit, StatusFits, OutsideFits, frames_shown, roots_shown}, Going.runs, HeldMonitors.held_at, Monitors.bit_of}
 use Rattle.machine_types.specs.{Owners.{Knows, lock_at, owner_at, locks_in, references_of, hold_by_kept, hold_by_list, hold_by_word, HeldFat}, Parts.done_roots, PlainMemory.Object}
 use Rattle.machine_types.specs.{PlainState.{Status, Plain, PlainThread, Holding}, Structure.{IsFat, Stands}, Threads.{Frame, Thread}, Waiting.{MayWait, Waits, is_bit_set}}
-use Rattle.machine_types.{specs.{Words.{owner_word, bits_word}, declared.{lock.{Held.Held, LockWord.LockWord}, phase.Phase.Phase}}, proofs.Lists.{got_when_set, got_other}}
+use Rattle.machine_types.{specs.{Words.{owner_word, bits_word}, declared.{lock.{Held.Held, LockWord.LockWord}, phase.Phase.Phase}}, proofs.Lists.{got_when_set, got_other, set_as_it_is}}
 use Rattle.laws_states.{specs.{SiteLaws.SitesLieInside, Sites.BitsOf}, proofs.{Lists.{set_here, set_there, same_or_not}, LockViews.fatly}}
 use Rattle.laws_simulation.{specs.StandsBeside.{StandsBeside, own_end, end_of_done, ends_shown}, proofs.HoldingsAlike.{HoldAlike, alike_kept}}
 use Rattle.laws_simulation.proofs.{Moments.{Moment, AreRecordsWritten, record_written, lock_same, lock_kept, holdings_alike, moved_beside}, OwnThread.own, Turns.Turn, WaitBits.{bit_by, fits_by}}
@@ -142,23 +142,6 @@ module _ {turn : Turn} {phase : Phase} (k : Moment turn phase) where
   own_off later w less f e never m = (elim (has_wait_bit (references_of q.objects) later t m) as (λ (b : Bool). has_wait_bit (references_of q.objects) later t m ≡ b → b ≡ false)
       [ true ↦ λ g. let b = set_in later w t m g in absurd (never b.0 ((waits_now f e).only b.0 (fat_low m b.0 b.1) (less b.0 b.2))) | false ↦ λ g. refl ]) refl
 
-  -- ---- the plain machine made no step
-
-  pub quiet_beside : (later : List ℕ) (x2 : Thread) → AreRecordsWritten s.words later → ((a word : ℕ) → phase ≢ phases.Made a word) → ((a word : ℕ) → x2.phase ≢ phases.Made a word)
-      → x2.part ≡ x.part → (phase ≡ phases.Ended ends.Returned → x2.phase ≡ phases.Ended ends.Returned) → x2.held ≡ x.held → x2.attempt ≡ None
-      → OutsideFits c.program (has_wait_bit (references_of q.objects) later t) x2 y → y.ended ≡ ends_shown c.program x2.part x2.phase
-      → ((u m : ℕ) → u ≢ t → has_wait_bit (references_of q.objects) later u m ≡ has_wait_bit (references_of q.objects) s.words u m)
-      → StandsBeside c.program objects (record { words = later; threads = slice_set s.threads t x2 }) q
-  quiet_beside later x2 w old new part rests held free fits ended same =
-      moved_beside k later x2 y (record { written = w; old = old; new = new; part = part; rests = rests; free = free; fits = fits; ended = ended })
-      q.holdings q.threads (alike_kept q.holdings s.threads (holdings_alike k) t x x2 turn.here held) refl twin
-      (λ u z v d g h. record {
-        now = v;
-        twin = h;
-        fits = fits_by c.program (has_wait_bit (references_of q.objects) s.words u) (has_wait_bit (references_of q.objects) later u) z z.attempt v (λ m. same u m d) (turn.beside.agrees.threads u z v g h);
-        ends = refl;
-      })
-
   -- ---- its thread alone made one
 
   pub alone_beside : (later : List ℕ) (x2 : Thread) (holdings : List Holding) (y2 : PlainThread) → AreRecordsWritten s.words later → ((a word : ℕ) → phase ≢ phases.Made a word) → ((a word : ℕ) → x2.phase ≢ phases.Made a word)
@@ -167,14 +150,36 @@ module _ {turn : Turn} {phase : Phase} (k : Moment turn phase) where
       → ((u m : ℕ) → u ≢ t → has_wait_bit (references_of q.objects) later u m ≡ has_wait_bit (references_of q.objects) s.words u m)
       → StandsBeside c.program objects (record { words = later; threads = slice_set s.threads t x2 }) (record q { holdings = holdings; threads = slice_set q.threads t y2 })
   alone_beside later x2 holdings y2 w old new part rests alike free fits ended same =
-      moved_beside k later x2 y2 (record { written = w; old = old; new = new; part = part; rests = rests; free = free; fits = fits; ended = ended })
-      holdings (slice_set q.threads t y2) alike (length-set q.threads t y2) (got_when_set q.threads t y y2 twin)
-      (λ u z v d g h. record {
-        now = v;
-        twin = got_other q.threads t u y2 d ∙ h;
-        fits = fits_by c.program (has_wait_bit (references_of q.objects) s.words u) (has_wait_bit (references_of q.objects) later u) z z.attempt v (λ m. same u m d) (turn.beside.agrees.threads u z v g h);
-        ends = refl;
+      moved_beside k later x2 y2 holdings (slice_set q.threads t y2) (record {
+        written = w;
+        old = old;
+        new = new;
+        part = part;
+        rests = rests;
+        free = free;
+        fits = fits;
+        ended = ended;
+        alike = alike;
+        many = length-set q.threads t y2;
+        own = got_when_set q.threads t y y2 twin;
+        others = λ u z v d g h. record {
+          now = v;
+          twin = got_other q.threads t u y2 d ∙ h;
+          fits = fits_by c.program (has_wait_bit (references_of q.objects) s.words u) (has_wait_bit (references_of q.objects) later u) z z.attempt v (λ m. same u m d) (turn.beside.agrees.threads u z v g h);
+          ends = refl;
+        };
       })
+
+  -- ---- the plain machine made no step
+
+  pub quiet_beside : (later : List ℕ) (x2 : Thread) → AreRecordsWritten s.words later → ((a word : ℕ) → phase ≢ phases.Made a word) → ((a word : ℕ) → x2.phase ≢ phases.Made a word)
+      → x2.part ≡ x.part → (phase ≡ phases.Ended ends.Returned → x2.phase ≡ phases.Ended ends.Returned) → x2.held ≡ x.held → x2.attempt ≡ None
+      → OutsideFits c.program (has_wait_bit (references_of q.objects) later t) x2 y → y.ended ≡ ends_shown c.program x2.part x2.phase
+      → ((u m : ℕ) → u ≢ t → has_wait_bit (references_of q.objects) later u m ≡ has_wait_bit (references_of q.objects) s.words u m)
+      → StandsBeside c.program objects (record { words = later; threads = slice_set s.threads t x2 }) q
+  quiet_beside later x2 w old new part rests held free fits ended same =
+      subst (λ (ys : List PlainThread). StandsBeside c.program objects (record { words = later; threads = slice_set s.threads t x2 }) (record q { threads = ys })) (set_as_it_is q.threads t y twin)
+      (alone_beside later x2 q.holdings y w old new part rests (alike_kept q.holdings s.threads (holdings_alike k) t x x2 turn.here held) free fits ended same)
 
   -- ---- a word of waiting bits is written
 

@@ -1,16 +1,15 @@
 -- A thread that notifies: it looks for a thread that waits, and wakes one or all.
 use Rattle.std.proofs.Common.{◌≡◌, ◌≢◌, ◌⊎◌, inl, inr, ℕ, ◌-◌, ◌^◌, ◌<◌, nat_lt, Bool, true, false, cond, List, [], ◌∷◌, Option, Some, None, refl, sym, ap, ◌∙◌, subst, arith, IsSome, map, slice_get, slice_index, slice_set, ◌==◌, bit_and, option_map}
-use Rattle.std.{specs.List.list_any, proofs.lemmas.{Bool.Decides.nat_tests, List.{length-map, length-set}, Option.slice_get-map}}
-use Rattle.std.proofs.lemmas.Bool.{cases_Bool}
+use Rattle.std.{proofs.lemmas.{Bool.Decides.nat_tests, List.{length-map, length-set}, Option.slice_get-map}}
 use Rattle.jvm_types.specs.Numbers.{has_flag}
 use Rattle.machine_types.specs.{Agreement.{has_wait_bit, ThreadFits}, Going.{with_phase, runs}, History.act_if, Monitors.{bit_of, lowest_of}, Owners.references_of}
 use Rattle.machine_types.specs.{PlainState.{Plain, PlainThread, with_thread, with_status}, PlainSteps.{waits_on, wakes, wakes_one, notified}, Threads.Thread, Waiting.is_bit_set, Words.bits_word}
 use Rattle.machine_types.{specs.declared.phase.Phase.Phase, proofs.{Lists.{got_when_set, got_other}, PlainStepLaws.is_same}}
 use Rattle.laws_states.{specs.SiteLaws.SitesLieInside, proofs.{Lists.same_or_not, WordViews.set_self}}
-use Rattle.laws_simulation.{specs.StepsBeside.StepsBeside, proofs.{Assembled.got_same_length, BitWords.{low_if_set, clear_here, clear_other}, EventSteps.run_made, HoldingsAlike.alike_kept}}
-use Rattle.laws_simulation.proofs.Moments.{Moment, AreRecordsWritten, IsLater, same_words, first_step, own_status, own_frames, own_roots, own_ends, own_as, holdings_alike, moved_beside, stepped}
+use Rattle.laws_simulation.{specs.StepsBeside.StepsBeside, proofs.{Assembled.{IsLater, got_same_length}, BitWords.{low_if_set, clear_here, clear_other}, EventSteps.run_made, HoldingsAlike.alike_kept}}
+use Rattle.laws_simulation.proofs.Moments.{Moment, AreRecordsWritten, same_words, first_step, own_status, own_frames, own_roots, own_ends, own_as, holdings_alike, moved_beside, stepped}
 use Rattle.laws_simulation.proofs.Moved.{HasFat, ends_alike, run_end, runs_outside, bits_written, counted, waits_now, owning, bit_now, bit_later, bits_kept, own_off, quiet_beside, alone_beside, bits_here, bits_else, bits_less, waits_less}
-use Rattle.laws_simulation.proofs.{OwnThread.own, Sleepers.{IsAsleep, asleep, sleeps, wakes_up}, Turns.Turn, WaitBits.fits_by}
+use Rattle.laws_simulation.proofs.{OwnThread.own, Sleepers.{asleep, sleeps, wakes_up}, Turns.Turn, WaitBits.fits_by}
 use Rattle.laws_simulation.proofs.WaitersHaveBits.{waiter_has_bit, nobody_by_bits, none_waits, stays_asleep}
 use Rattle.jvm_types.specs.declared.outcome.End.TheVariants as ends
 use Rattle.machine_types.specs.PlainState as plain
@@ -100,7 +99,7 @@ module _ {turn : Turn} where
     pub woke_one : StepsBeside c objects s t x q
     woke_one = stepped k OneLater (runs x) (acts.Notify (Some u) ∷ []) behind refl refl refl refl
         (first_step c.program q behind t y (acts.Notify (Some u)) [] (plain.Notify m) twin (own_status k) step)
-        (moved_beside k OneLater (runs x) (running y) (record {
+        (moved_beside k OneLater (runs x) (running y) q.holdings threads (record {
           written = one_written;
           old = λ a word f. cc;
           new = run_made (goes_by x);
@@ -109,11 +108,11 @@ module _ {turn : Turn} where
           free = turn.outside;
           fits = runs_outside c.program (has_wait_bit (references_of q.objects) OneLater t) x (running y) off (own_frames k) refl (own_roots k);
           ended = own_ends k ∙ ends_alike c.program x.part (phases.NotifyOne m r u) (cond (goes_by x) phases.Run (phases.Ending ends.Steps)) (sym (run_end (goes_by x)));
-        }) q.holdings threads
-        (alike_kept q.holdings s.threads (holdings_alike k) t x (runs x) turn.here refl)
-        (length-set (slice_set q.threads u (wakes m w.0)) t (running y) ∙ length-set q.threads u (wakes m w.0))
-        (got_when_set (slice_set q.threads u (wakes m w.0)) t y (running y) (got_other q.threads u t (wakes m w.0) (λ e. one_apart (sym e)) ∙ twin))
-        others)
+          alike = alike_kept q.holdings s.threads (holdings_alike k) t x (runs x) turn.here refl;
+          many = length-set (slice_set q.threads u (wakes m w.0)) t (running y) ∙ length-set q.threads u (wakes m w.0);
+          own = got_when_set (slice_set q.threads u (wakes m w.0)) t y (running y) (got_other q.threads u t (wakes m w.0) (λ e. one_apart (sym e)) ∙ twin);
+          others = others;
+        }))
       where
         z : (z : Thread) × (slice_get s.threads u ≡ Some z)
         z = got_some (slice_get s.threads u) (turn.facts.waiting.others r u one_fat.low one_set)
@@ -184,7 +183,7 @@ module _ {turn : Turn} where
     pub woke_all : StepsBeside c objects s t x q
     woke_all = stepped k AllLater (runs x) (acts.NotifyAll ∷ []) behind refl refl refl refl
         (first_step c.program q behind t y acts.NotifyAll [] (plain.NotifyAll m) twin (own_status k) refl)
-        (moved_beside k AllLater (runs x) (running y) (record {
+        (moved_beside k AllLater (runs x) (running y) q.holdings threads (record {
           written = all_written;
           old = λ a word f. cc;
           new = run_made (goes_by x);
@@ -193,11 +192,11 @@ module _ {turn : Turn} where
           free = turn.outside;
           fits = runs_outside c.program (has_wait_bit (references_of q.objects) AllLater t) x (running y) (own_off k AllLater all_written (all_less t) (phases.NotifyAll m r) (own_as k) (λ i f. f)) (own_frames k) refl (own_roots k);
           ended = own_ends k ∙ ends_alike c.program x.part (phases.NotifyAll m r) (cond (goes_by x) phases.Run (phases.Ending ends.Steps)) (sym (run_end (goes_by x)));
-        }) q.holdings threads
-        (alike_kept q.holdings s.threads (holdings_alike k) t x (runs x) turn.here refl)
-        (length-set (map (wakes m) q.threads) t (running y) ∙ length-map q.threads (wakes m))
-        (got_when_set (map (wakes m) q.threads) t (wakes m y) (running y) (slice_get-map (wakes m) q.threads t ∙ ap (option_map (wakes m)) twin))
-        others)
+          alike = alike_kept q.holdings s.threads (holdings_alike k) t x (runs x) turn.here refl;
+          many = length-set (map (wakes m) q.threads) t (running y) ∙ length-map q.threads (wakes m);
+          own = got_when_set (map (wakes m) q.threads) t (wakes m y) (running y) (slice_get-map (wakes m) q.threads t ∙ ap (option_map (wakes m)) twin);
+          others = others;
+        }))
       where
         threads : List PlainThread
         threads = slice_set (map (wakes m) q.threads) t (running y)

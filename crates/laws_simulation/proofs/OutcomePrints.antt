@@ -1,7 +1,6 @@
 -- The prints of an outcome are those of the plain state.
 use Rattle.std.proofs.Common.{◌≡◌, ◌⊎◌, inl, inr, ℕ, zero, suc, ◌+◌, Bool, true, false, cond, List, [], ◌∷◌, ◌++◌, length, map, Option, Some, None, refl, sym, ap, ◌∙◌, subst, arith, length-append, ◌==◌, Contains, option_map, slice_get, slice_set}
 use Rattle.std.{specs.List.{sum_by, range_with_len}, proofs.lemmas.{Bool.Decides.Decides-eqb, List.{Elements.{Contains-append_left, Contains-append_right}, Sums.sum_by-cons}, Option.slice_get-map}}
-use Rattle.std.proofs.lemmas.Bool.{cases_Bool}
 use Rattle.lists.proofs.ListLaws.{same_some}
 use Rattle.jvm_types.specs.declared.{outcome.{Print.Print, ThreadReport.ThreadReport}, program.Program.Program}
 use Rattle.checked_program.specs.MarkedProgram.{MarkedProgram}

@@ -1,5 +1,5 @@
 -- The plain thread of a thread outside attempts: it is there, has its frames, and its part is under way.
-use Rattle.std.proofs.Common.{◌≡◌, ◌≢◌, ◌⊎◌, inl, inr, ℕ, zero, suc, List, [], ◌∷◌, Option, Some, refl, sym, ap, ◌∙◌, subst, arith, slice_get}
+use Rattle.std.proofs.Common.{◌≡◌, inl, inr, ℕ, zero, suc, List, [], ◌∷◌, Option, Some, refl, sym, ap, ◌∙◌, subst, arith, slice_get}
 use Rattle.jvm_types.specs.declared.program.Program.{Program}
 use Rattle.machine_types.specs.{Agreement.{OutsideFits, ThreadFits, has_wait_bit, roots_shown}, Owners.references_of, PlainState.PlainThread, Threads.Attempt, declared.phase.Phase.Phase}
 use Rattle.laws_states.{specs.PartsStand.DoneRoots, proofs.{Lists.same_or_not, Phases.IsOldPhase}}

@@ -4,7 +4,7 @@ use Rattle.std.proofs.Common.{◌≡◌, ◌≢◌, ◌⊎◌, inl, inr, ℕ, ze
 use Rattle.std.{specs.Option.option_or, proofs.lemmas.Bool.{ne_eqb, Decides.{nat_tests, Decides-eqb}}}
 use Rattle.lists.proofs.ListLaws.{same_some}
 use Rattle.jvm_types.specs.declared.{fixed_words.TheConstants.FIRST_READY_WORD, program.Program.Program}
-use Rattle.machine_types.specs.{ObjectsApart.{IsBeside, IsOutside, LieApart}, PlainMemory.{Object, StaticValue, header_of, first_value, object_end, has_value, value_in, object_value, static_value}}
+use Rattle.machine_types.specs.{ObjectsApart.{IsOutside, LieApart}, PlainMemory.{Object, StaticValue, header_of, first_value, object_end, has_value, value_in, object_value, static_value}}
 use Rattle.machine_types.{specs.{PlainState.{Plain, value_at}, Words.{header_word, value_word}}, proofs.PlainStepLaws.is_same}
 use Rattle.laws_states.proofs.Lists.{contained_got, same_or_not}
 

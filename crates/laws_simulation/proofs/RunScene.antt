@@ -9,7 +9,7 @@ use Rattle.machine_types.specs.{PlainInstructions.instructed_by, PlainMemory.Obj
 use Rattle.machine_types.specs.declared.{effect.Effect.Effect, phase.Phase.Phase}
 use Rattle.laws_threads.{specs.Allowed.Allowed, proofs.{Landing.stand_top, Standings.top_here, TopEffects.allowed_here}}
 use Rattle.laws_states.proofs.Accesses.{out_there}
-use Rattle.laws_simulation.proofs.{Assembled.one_step, GoingOnAlike.{IsAwake, IsUnderWay}, OwnThread.{IsBusy, own, under_way}, Scene.{GoesOn, awake, counts_as, going}, Turns.Turn}
+use Rattle.laws_simulation.proofs.{Assembled.one_step, GoingOnAlike.{IsUnderWay}, OwnThread.{IsBusy, own, under_way}, Scene.{GoesOn, awake, counts_as, going}, Turns.Turn}
 use Rattle.jvm_types.specs.declared.outcome.End.TheVariants as ends
 use Rattle.machine_types.specs.PlainInstructions as steps
 use Rattle.machine_types.specs.PlainState as plain

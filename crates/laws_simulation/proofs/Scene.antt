@@ -1,17 +1,16 @@
 -- An event of a thread that is in no attempt, and what its state and the plain state share: the thread goes on as its plain
 -- thread does, whatever becomes of the memory.
-use Rattle.std.proofs.Common.{◌≡◌, ◌≢◌, ◌⊎◌, inl, inr, ℕ, ◌≤◌, Bool, true, false, List, [], length, Option, Some, None, refl, sym, ap, subst, ◌∙◌, Contains, slice_get, slice_index, slice_set}
+use Rattle.std.proofs.Common.{◌≡◌, ◌⊎◌, ℕ, Bool, true, false, List, length, Option, Some, None, refl, sym, ap, subst, ◌∙◌, Contains, slice_get, slice_index, slice_set}
 use Rattle.std.proofs.lemmas.List.{length-set, set-get_or}
-use Rattle.lists.proofs.ListLaws.{same_some}
-use Rattle.jvm_types.specs.declared.{fixed_words.TheConstants.{NEXT_FREE_WORD, NEXT_TICKET_WORD}, program.Program.Program}
+use Rattle.jvm_types.specs.declared.{fixed_words.TheConstants.{NEXT_FREE_WORD, NEXT_TICKET_WORD}}
 use Rattle.checked_program.specs.MarkedProgram.{MarkedProgram}
-use Rattle.machine_types.specs.{Accesses.{found_by, words_after}, Agreement.{IsPending, ThreadFits, depth_for, depth_of, has_wait_bit}, Core.{Core, event, event_of}, Events.{wanted, moved}}
-use Rattle.machine_types.specs.{Facts.ArePlainObjects, Going.goes_on, HeldMonitors.depth_at, History.{acts_of, steps_of}, ObjectsApart.LieApart, Onward.Onward, Owners.{lock_at, references_of}}
-use Rattle.machine_types.specs.{Parts.done_roots, PlainMemory.Object, PlainState.{Plain, PlainThread, Holding, value_at, holding_at, with_thread}, PlainSteps.plain_run, Structure.IsAs}
-use Rattle.machine_types.specs.{Threads.{Attempt, Thread}, Waiting.MayWait, declared.{access.Access.{Access, TheVariants.Load}, lock.Held.Held, phase.Phase.Phase, plain.Act.Act}}
+use Rattle.machine_types.specs.{Accesses.{found_by, words_after}, Agreement.{IsPending, ThreadFits, depth_for, has_wait_bit}, Core.{Core, event, event_of}, Events.{wanted, moved}}
+use Rattle.machine_types.specs.{Facts.ArePlainObjects, Going.goes_on, History.{acts_of, steps_of}, ObjectsApart.LieApart, Onward.Onward, Owners.{lock_at, references_of}}
+use Rattle.machine_types.specs.{PlainMemory.Object, PlainState.{Plain, PlainThread, Holding, value_at, holding_at, with_thread}, PlainSteps.plain_run, Structure.IsAs}
+use Rattle.machine_types.specs.{Threads.{Attempt, Thread}, Waiting.MayWait, declared.{access.Access.{Access, TheVariants.Load}, phase.Phase.Phase, plain.Act.Act}}
 use Rattle.machine_types.proofs.Lists.{got_when_set, got_other}
-use Rattle.laws_states.{specs.{HeapFacts.{objects_by, objects_of}, SiteLaws.{SitesDiffer, SitesLieInside}}, proofs.Lists.same_or_not}
-use Rattle.laws_simulation.{specs.{StandsBeside.{StandsBeside, IsAmong, IsBeingMade, IsPlainNew, ends_shown}, StepsBeside.{StepsBeside, StepsWhere}}, proofs.EventSteps.gone_on}
+use Rattle.laws_states.{specs.{HeapFacts.{objects_by, objects_of}, SiteLaws.{SitesDiffer, SitesLieInside}}}
+use Rattle.laws_simulation.{specs.{StandsBeside.{StandsBeside, IsAmong, IsBeingMade, IsPlainNew}, StepsBeside.{StepsBeside, StepsWhere}}, proofs.{Assembled.{Fitting, all_rest, each_fits}, AssembledObjects.new_again, EventSteps.gone_on, HoldingsAlike.alike_kept}}
 use Rattle.laws_simulation.proofs.{GoingOnAlike.{IsAwake, IsUnderWay, OwnFits, going_alike}, OwnThread.own, Turns.{StepsOf, Turn, by_turn}, WaitBits.{fits_by, same_lock}, WaitersHaveBits.bit_in}
 use Rattle.jvm_types.specs.declared.outcome.End.TheVariants as ends
 use Rattle.machine_types.specs.PlainState as plain
@@ -29,9 +28,6 @@ pub by_scene : (Holds : MarkedProgram → Thread → Type 0) → SitesDiffer →
     → ((scene : Scene) → Holds scene.c scene.x → StepsOf scene.turn) → StepsWhere Holds
 by_scene Holds differ inside steps = by_turn Holds
     (λ turn holds. steps (record { turn = turn; differ = differ; inside = inside }) holds)
-
-pub new_again : (p : Program) (q r : Plain) (a word : ℕ) → r.objects ≡ q.objects → IsPlainNew p q a word → IsPlainNew p r a word
-new_again p q r a word e k = record { object = k.object; there = subst (λ (os : List Object). Contains os k.object) (sym e) k.there; reference = k.reference; class = k.class; values = k.values; header = k.header }
 
 module _ (turn : Turn) where
   open turn use {c, objects, was, s, t, x, q, facts, beside, here}
@@ -101,64 +97,22 @@ module _ (turn : Turn) where
     plain_threads : after.threads ≡ slice_set q.threads t shown
     plain_threads = ap (λ (ys : List PlainThread). slice_set ys t shown) memory.threads
 
-    own_fits : ThreadFits c.program (has_wait_bit (references_of q.objects) s.words t) new new.attempt shown
-    own_fits = subst (λ (a : Option Attempt). ThreadFits c.program (has_wait_bit (references_of q.objects) s.words t) new a shown) (sym goes.outside) goes.own.outside
-
-    thread_at : (u : ℕ) → u ≢ t → slice_get r.threads u ≡ slice_get s.threads u
-    thread_at u d = got_other s.threads t u new d
-
-    thread_here : slice_get r.threads t ≡ Some new
-    thread_here = got_when_set s.threads t x new here
-
-    plain_at : (u : ℕ) → u ≢ t → slice_get after.threads u ≡ slice_get q.threads u
-    plain_at u d = ap (λ (xs : List PlainThread). slice_get xs u) plain_threads ∙ got_other q.threads t u shown d
-
-    plain_here : slice_get after.threads t ≡ Some shown
-    plain_here = ap (λ (xs : List PlainThread). slice_get xs t) plain_threads ∙ got_when_set q.threads t (own turn).plain shown (own turn).here
-
-    monitors : (u m : ℕ) → depth_for u (holding_at after.holdings m) ≡ depth_of (slice_get r.threads u) m
-    monitors u m = ap (λ (hs : List Holding). depth_for u (holding_at hs m)) memory.holdings ∙ (beside.agrees.monitors u m ∙ by_thread (same_or_not u t))
-      where
-        by_thread : (u ≡ t) ⊎ (u ≢ t) → depth_of (slice_get s.threads u) m ≡ depth_of (slice_get r.threads u) m
-        by_thread (inl same) =
-            ap (λ (v : ℕ). depth_of (slice_get s.threads v) m) same
-            ∙ (ap (λ o. depth_of o m) here
-            ∙ (ap (λ (hs : List Held). depth_at hs m) (sym goes.held)
-            ∙ (sym (ap (λ o. depth_of o m) thread_here)
-            ∙ sym (ap (λ (v : ℕ). depth_of (slice_get r.threads v) m) same))))
-        by_thread (inr d) = sym (ap (λ o. depth_of o m) (thread_at u d))
-
-    fits : (u : ℕ) (z : Thread) (w : PlainThread) → slice_get r.threads u ≡ Some z → slice_get after.threads u ≡ Some w → ThreadFits c.program (has_wait_bit (references_of after.objects) r.words u) z z.attempt w
-    fits u z w e f = fits_by c.program (has_wait_bit (references_of q.objects) s.words u) (has_wait_bit (references_of after.objects) r.words u) z z.attempt w (memory.bits u) (by_thread (same_or_not u t))
-      where
-        by_thread : (u ≡ t) ⊎ (u ≢ t) → ThreadFits c.program (has_wait_bit (references_of q.objects) s.words u) z z.attempt w
-        by_thread (inl same) =
-            let one : new ≡ z = same_some (sym thread_here ∙ (sym (ap (slice_get r.threads) same) ∙ e)) in
-            let two : shown ≡ w = same_some (sym plain_here ∙ (sym (ap (slice_get after.threads) same) ∙ f)) in
-            subst (λ (v : ℕ). ThreadFits c.program (has_wait_bit (references_of q.objects) s.words v) z z.attempt w) (sym same)
-            (subst (λ (z : Thread). ThreadFits c.program (has_wait_bit (references_of q.objects) s.words t) z z.attempt w) one
-            (subst (λ (w : PlainThread). ThreadFits c.program (has_wait_bit (references_of q.objects) s.words t) new new.attempt w) two own_fits))
-        by_thread (inr d) = beside.agrees.threads u z w (sym (thread_at u d) ∙ e) (sym (plain_at u d) ∙ f)
-
-    each_ended : (u : ℕ) (z : Thread) (w : PlainThread) → slice_get r.threads u ≡ Some z → slice_get after.threads u ≡ Some w → w.ended ≡ ends_shown c.program z.part z.phase
-    each_ended u z w e f = by_thread (same_or_not u t)
-      where
-        by_thread : (u ≡ t) ⊎ (u ≢ t) → w.ended ≡ ends_shown c.program z.part z.phase
-        by_thread (inl same) =
-            let one : new ≡ z = same_some (sym thread_here ∙ (sym (ap (slice_get r.threads) same) ∙ e)) in
-            let two : shown ≡ w = same_some (sym plain_here ∙ (sym (ap (slice_get after.threads) same) ∙ f)) in
-            sym (ap (λ (w : PlainThread). w.ended) two) ∙ (goes.own.ended ∙ ap (λ (z : Thread). ends_shown c.program z.part z.phase) one)
-        by_thread (inr d) = beside.ends u z w (sym (thread_at u d) ∙ e) (sym (plain_at u d) ∙ f)
-
-    rested : (z : Thread) → slice_get r.threads 0 ≡ Some z → 2 ≤ z.part → done_roots c.program ≡ [] → z.phase ≡ phases.Ended ends.Returned
-    rested z e two none = by_thread (same_or_not 0 t)
-      where
-        by_thread : (0 ≡ t) ⊎ (0 ≢ t) → z.phase ≡ phases.Ended ends.Returned
-        by_thread (inl same) =
-            let one : new ≡ z = same_some (sym thread_here ∙ (sym (ap (slice_get r.threads) same) ∙ e)) in
-            let was = beside.done x (ap (slice_get s.threads) same ∙ here) (subst (λ (n : ℕ). 2 ≤ n) (sym (ap (λ (w : Thread). w.part) one) ∙ goes.part) two) none in
-            sym (ap (λ (w : Thread). w.phase) one) ∙ absurd (lives was)
-        by_thread (inr d) = beside.done z (sym (thread_at 0 d) ∙ e) two none
+    fitting : Fitting turn.member base words new shown after.threads
+    fitting = record {
+      many = ap (λ (xs : List PlainThread). length xs) plain_threads ∙ length-set q.threads t shown;
+      own = ap (λ (xs : List PlainThread). slice_get xs t) plain_threads ∙ got_when_set q.threads t (own turn).plain shown (own turn).here;
+      fits = fits_by c.program (has_wait_bit (references_of q.objects) s.words t) (has_wait_bit (references_of base.objects) words t) new new.attempt shown (memory.bits t)
+          (subst (λ (a : Option Attempt). ThreadFits c.program (has_wait_bit (references_of q.objects) s.words t) new a shown) (sym goes.outside) goes.own.outside);
+      ended = goes.own.ended;
+      others = λ u z w d g h. record {
+        now = w;
+        twin = ap (λ (xs : List PlainThread). slice_get xs u) plain_threads ∙ got_other q.threads t u shown d ∙ h;
+        fits = fits_by c.program (has_wait_bit (references_of q.objects) s.words u) (has_wait_bit (references_of base.objects) words u) z z.attempt w (memory.bits u) (beside.agrees.threads u z w g h);
+        ends = refl;
+      };
+      part = goes.part;
+      rests = λ e. absurd (lives e);
+    }
 
     pub comes_beside : StandsBeside c.program later r after
     comes_beside = record {
@@ -166,16 +120,16 @@ module _ (turn : Turn) where
         places = memory.places;
         next = memory.next;
         prints = memory.tickets ∙ (beside.agrees.prints ∙ ap (λ ps. length ps) (sym memory.prints));
-        monitors = monitors;
-        many = ap (λ (xs : List PlainThread). length xs) plain_threads ∙ (length-set q.threads t shown ∙ (beside.agrees.many ∙ sym (length-set s.threads t new)));
-        threads = fits;
+        monitors = λ u m. ap (λ (hs : List Holding). depth_for u (holding_at hs m)) memory.holdings ∙ alike_kept q.holdings s.threads beside.agrees.monitors t x new here goes.held u m;
+        many = fitting.many ∙ beside.agrees.many ∙ sym (length-set s.threads t new);
+        threads = λ u z w e f. (each_fits turn.member fitting u z w e f).0;
       };
       known = memory.known;
       others = memory.others;
       new_objects = λ u z a word e m. new_again c.program base after a word refl (memory.new_objects u z a word e m);
       apart = memory.apart;
-      done = rested;
-      ends = each_ended;
+      done = all_rest turn.member fitting;
+      ends = λ u z w e f. (each_fits turn.member fitting u z w e f).1;
     }
 
   -- ---- the steps of an event, by what it wants, by its acts and by what it makes of its thread

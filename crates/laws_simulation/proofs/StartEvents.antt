@@ -1,5 +1,5 @@
 -- The event that begins a root: in the plain machine its part is due.
-use Rattle.std.proofs.Common.{◌≡◌, ◌≢◌, ◌⊎◌, inl, inr, ℕ, zero, suc, nat_lt, ◌≤◌, Bool, true, false, List, [], ◌∷◌, Option, Some, None, refl, sym, ap, subst, ◌∙◌, arith, slice_get, slice_set, option_map, ◌&&◌, drop, if◌then◌else◌, IsTrue}
+use Rattle.std.proofs.Common.{◌≡◌, inl, inr, ℕ, zero, suc, nat_lt, ◌≤◌, Bool, true, false, List, [], ◌∷◌, Option, Some, None, refl, sym, ap, subst, ◌∙◌, arith, slice_get, slice_set, option_map, ◌&&◌, drop, if◌then◌else◌, IsTrue}
 use Rattle.std.specs.List.{list_all, AllByRecursion}
 use Rattle.jvm_types.specs.{Numbers.has_number, declared.{outcome.{End.End, Thrown.TheVariants.StackOverflowError}, program.{MethodInfo.MethodInfo, Program.Program}}}
 use Rattle.machine_types.specs.{Accesses.found_by, Agreement.{roots_shown, start_status}, Bounds.{FramesFit, part_roots}, Core.{event, event_of}, Events.{thread_started, wanted, moved}}

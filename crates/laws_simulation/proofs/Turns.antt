@@ -19,12 +19,17 @@ pub record States : Type 0 where
   pub beside : StandsBeside c.program objects s q
 
 -- with thread t, which is x
-pub record Turn : Type 0 where
+pub record Member : Type 0 where
   pub states : States
   pub open states use *
   pub t : ℕ
   pub x : Thread
   pub here : slice_get s.threads t ≡ Some x
+
+-- in no attempt
+pub record Turn : Type 0 where
+  pub member : Member
+  pub open member use *
   pub outside : x.attempt ≡ None
 
 abbrev pub StepsOf : Turn → Type 0
@@ -34,19 +39,6 @@ StepsOf turn = StepsBeside turn.c turn.objects turn.s turn.t turn.x turn.q
 pub by_turn : (Holds : MarkedProgram → Thread → Type 0)
     → ((turn : Turn) → Holds turn.c turn.x → StepsOf turn) → StepsWhere Holds
 by_turn Holds steps c cfg objects was s t x q marked width facts beside here outside holds = steps (record {
-  states = record {
-    c = c;
-    cfg = cfg;
-    objects = objects;
-    was = was;
-    s = s;
-    q = q;
-    marked = marked;
-    facts = facts;
-    beside = beside;
-  };
-  t = t;
-  x = x;
-  here = here;
+  member = record { states = record { c = c; cfg = cfg; objects = objects; was = was; s = s; q = q; marked = marked; facts = facts; beside = beside }; t = t; x = x; here = here };
   outside = outside;
 }) holds

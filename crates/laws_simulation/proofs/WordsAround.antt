@@ -1,6 +1,5 @@
 -- A write of a lock word, of the owner of a monitor record or of the next record leaves all words that the plain machine knows of.
 use Rattle.std.proofs.{Common.{◌≡◌, ◌≢◌, ℕ, ◌<◌, ◌≤◌, Bool, true, false, cond, Some, refl, sym, ap, ◌∙◌, subst, arith, slice_index, slice_set, ◌==◌}, lemmas.Bool.Decides.Decides-eqb}
-use Rattle.std.proofs.lemmas.Bool.{cases_Bool}
 use Rattle.jvm_types.specs.{Numbers.has_number, declared.fixed_words.TheConstants.{FIRST_READY_WORD, MONITOR_RECORDS, NEXT_FREE_WORD, NEXT_RECORD_WORD, NEXT_TICKET_WORD}}
 use Rattle.machine_types.specs.{Agreement.has_wait_bit, LockWords.lock_of, Owners.{Locks, lock_at, references_of}, PlainState.value_at, StartLaws.StartLiesApart, Waiting.is_bit_set}
 use Rattle.machine_types.{specs.{Words.{bits_word, owner_word}, declared.lock.LockWord.LockWord}, proofs.AttemptsPlain.size_two}
