@@ -7,7 +7,6 @@ use Rattle.laws_states.specs.StateLaws.{ProgramsKeepThreads, RunsHaveState}
 use Rattle.laws_objects.proofs.ThrownInits.{moved_is}
 use Rattle.laws_refinement.{specs.EntryLaws.{EndsBy, HasFailed, AttemptsEnd, FailuresPutBack, OnlyFailuresCount}, proofs.{Beginnings.in_attempt, Inside.Inside, InsideWords.words_stay}}
 use Rattle.laws_refinement.proofs.{OutsideEntries.{is_entering, MovesTo, outside_moves}, Within.{HasFate, inside_moves}}
-use Rattle.machine_types.specs.declared.phase.Phase.TheVariants as phases
 
 module _ (c : MarkedProgram) (x y : Thread) (got : ℕ) where
   outside_counts : (o : Option Attempt) → MovesTo c x y got o → y.counts.failed ≡ x.counts.failed

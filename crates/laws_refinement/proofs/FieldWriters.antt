@@ -2,7 +2,7 @@
 use Rattle.std.proofs.Common.{◌≡◌, ◌⊎◌, inl, inr, ℕ, true, false, List, [], ◌∷◌, Some, subst, Contains, slice_get, slice_index}
 use Rattle.jvm_types.specs.{Members.{is_final, is_private, is_static}, ProgramInvariant.{IsTargetOf, site_in}, declared.{code.Op.Op, program.{FieldInfo.FieldInfo, MethodInfo.MethodInfo, Program.Program}}}
 use Rattle.machine_types.specs.{Accesses.words_after, Events.wanted, PlainMemory.Object, Threads.Frame, Words.value_word}
-use Rattle.laws_objects.proofs.{FieldWriters.{Writer, field_writer as writer_of}, PlaceWriters.{BuiltEvent, IsWriter, TopWrites, names_field, place_event}}
+use Rattle.laws_objects.proofs.{FieldWriters.{Writer, field_writer as writer_of}, PlaceWriters.{BuiltEvent, TopWrites, names_field, place_event}}
 use Rattle.laws_refinement.proofs.FieldRules.{class_of_writer}
 use Rattle.jvm_types.specs.declared.program.Target.TheVariants as targets
 

@@ -3,10 +3,10 @@
 use Rattle.std.proofs.Common.{◌≡◌, ◌≢◌, ◌⊎◌, inl, inr, ℕ, suc, ◌≤◌, false, cond, List, [], ◌∷◌, Option, Some, None, refl, sym, ap, ◌∙◌, subst, arith, slice_index, slice_set}
 use Rattle.jvm_types.specs.declared.fixed_words.TheConstants.{FIRST_READY_WORD, NEXT_FREE_WORD}
 use Rattle.machine_types.specs.{Accesses.found_by, Agreement.{ThreadFits, depth_for}, Attempts.Owes, Core.{Core, event}, Counting.{run_at, take_at, count_along}}
-use Rattle.machine_types.specs.{Elision.elided, Events.wanted, Going.goes_on, HeldMonitors.{depth_at, held_at}, History.{Fate, Finishes, Past, fate, shown_at, shown_by, steps_of}, LockWords.lock_of}
+use Rattle.machine_types.specs.{Elision.elided, Events.wanted, Going.goes_on, HeldMonitors.{held_at}, History.{Fate, Finishes, Past, fate, shown_at, shown_by, steps_of}, LockWords.lock_of}
 use Rattle.machine_types.specs.{Onward.{Onward, after}, OwnedPlaces.Stores, Owners.{hold_by_word, lock_at, owner_at, references_of}, PlainMemory.Object, PlainState.{Plain, PlainThread, Holding, value_at, holding_at}}
 use Rattle.machine_types.specs.{PlainSteps.plain_run, Replay.{replayed, at_entry, at_present}, Structure.{IsAs, Stands}, Threads.{Attempt, Thread}, Typed.{AttemptHolds, HasClass, PhaseHolds}}
-use Rattle.machine_types.{specs.{Worlds.World, declared.{lock.{Held.Held, LockWord.LockWord}, phase.Phase.Phase, plain.Act.Act}}, proofs.AttemptReplay.hold}
+use Rattle.machine_types.{specs.{Worlds.World, declared.{lock.{LockWord.LockWord}, phase.Phase.Phase, plain.Act.Act}}, proofs.AttemptReplay.hold}
 use Rattle.machine_types.proofs.PlainStepLaws.{none_left}
 use Rattle.laws_threads.proofs.{Releases.goes_behind, ThreadMove.{goes_held, goes_attempt}}
 use Rattle.laws_states.{specs.{HeapFacts.{objects_after, objects_by, objects_of}, SiteLaws.SitesDiffer, Sites.HasObject}, proofs.Lists.{contained_got, same_or_not}}

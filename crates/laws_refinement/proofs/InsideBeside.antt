@@ -3,9 +3,9 @@
 use Rattle.std.proofs.Common.{◌≡◌, ℕ, zero, suc, ◌<◌, Bool, true, false, List, [], ◌∷◌, length, Option, Some, refl, sym, ap, ◌∙◌, subst, slice_get, slice_set, if◌then◌else◌}
 use Rattle.jvm_types.specs.declared.{outcome.End.End, program.Program.Program}
 use Rattle.checked_program.specs.MarkedProgram.{MarkedProgram}
-use Rattle.machine_types.specs.{Agreement.{AttemptFits, StatusFits, ThreadFits, depth_of, frames_shown, roots_shown}, Core.{Core, event, event_of}, Events.moved, HeldMonitors.depth_at}
+use Rattle.machine_types.specs.{Agreement.{AttemptFits, StatusFits, ThreadFits, frames_shown, roots_shown}, Core.{Core, event, event_of}, Events.moved}
 use Rattle.machine_types.specs.{History.{Fate, GoesOn, Fails, Finishes, fate}, Parts.{done_roots, has_finished}, PlainMemory.Object, PlainState.{Plain, PlainThread}}
-use Rattle.machine_types.{specs.{Threads.{Attempt, Thread}, declared.{lock.Held.Held, phase.Phase.Phase}}, proofs.Lists.{set_as_it_is, got_when_set}}
+use Rattle.machine_types.{specs.{Threads.{Attempt, Thread}, declared.{phase.Phase.Phase}}, proofs.Lists.{set_as_it_is, got_when_set}}
 use Rattle.laws_threads.specs.{EntryFrames.{StepsKeepEntry, ThrowsKeepEntry, LeavesKeepEntry}, InsideEffects.InsideMayDo, InsideMoves.ElementsInside, StateLaws.counted_after}
 use Rattle.laws_states.specs.{HeapFacts.{objects_by, objects_of}, StateLaws.EventsKeepState}
 use Rattle.laws_simulation.{specs.StandsBeside.{StandsBeside, end_of_done, ends_shown, own_end}, proofs.{Assembled.moved_beside, HoldingsAlike.alike_kept}}

@@ -4,7 +4,7 @@ use Rattle.std.proofs.Common.{◌≡◌, ◌⊎◌, inl, inr, ℕ, suc, ◌+◌,
 use Rattle.jvm_types.specs.declared.{outcome.{End.End, Thrown.{Thrown, TheVariants.ArrayIndexOutOfBoundsException}}, program.{MethodInfo.MethodInfo, Program.Program}}
 use Rattle.machine_types.specs.{Accesses.found_by, Attempts.{IsReadBegun}, Effects.read_by, Events.wanted}
 use Rattle.machine_types.specs.{FoundWords.{WordFits, effect_content, run_content, content_at}, Frames.{Top, frames_of, top_of, effect_at, went, went_on}, Going.{goes_on, goes_on_if, with_phase}}
-use Rattle.machine_types.specs.{History.{Fate, GoesOn, Fails, Finishes, run_fate, instruction_acts, run_acts}, Instructions.{effect_wants, run_wants, begun, did, instructed, ran}}
+use Rattle.machine_types.specs.{History.{Fate, GoesOn, Fails, Finishes, run_fate, instruction_acts, run_acts}, Instructions.{effect_wants, run_wants, begun, did, ran}}
 use Rattle.machine_types.specs.{Ints.low, Lawful.within, Onward.{Onward, Running, Throwing, Entering, Leaving, threw, called, returns, done}, PlainInstructions.got_by}
 use Rattle.machine_types.specs.{ReadyObjects.thrown_of, Replay.{Alone, only_on, reads_only, goes, instructs, replay_act, begun_and_done, status_inside, at_present}}
 use Rattle.machine_types.specs.{Structure.{IsAs, IsStructured, Stands, AttemptStands}, Threads.{Attempt, Thread}, Typed.{FramesHold, PhaseHolds, HasClass}}

@@ -8,14 +8,14 @@ use Rattle.checked_program.specs.MarkedProgram.{MarkedProgram, IsMarked}
 use Rattle.machine_types.specs.{Core.is_live, Elision.{is_checked, is_same, elided, fails, if_same, looks, may_try}, Events.{element_made, wanted, moved}}
 use Rattle.machine_types.specs.{FoundWords.{WordFits, content_at, effect_content, run_content}, Frames.{Top, top_of, frames_of, top_row, frame_on, effect_at, monitor_of, returned, went, went_on}}
 use Rattle.machine_types.specs.{Going.{with_phase, runs, root_over, goes_on, goes_on_if, goes_after}, HeldMonitors.held_at, Instructions.{begun, did, effect_wants, indexed, instructed, ran, run_wants}, Ints.low}
-use Rattle.machine_types.specs.Monitors.{Claim, Tries, claim, enter_moves, finishes, leave_moves, finish_wants, leave_wants}
+use Rattle.machine_types.specs.Monitors.{Claim, enter_moves, finishes, leave_moves, finish_wants, leave_wants}
 use Rattle.machine_types.specs.{Onward.{Onward, Running, Throwing, Entering, Leaving, RootReturned, Uncaught, threw, back, unwound}, ReadyObjects.thrown_of, Threads.{Attempt, Frame, Thread}}
 use Rattle.machine_types.specs.{Words.{header_class, header_length, value_word}, declared.{access.Access.TheVariants.Load, effect.Effect.Effect}}
 use Rattle.machine_types.specs.declared.effect.Effect.TheVariants.{Goes, Throws, Reads, Indexes, Measures, Raises, Calls, Returns, Enters, Leaves, Stuck}
 use Rattle.machine_types.{specs.declared.phase.{After.{After, TheVariants.{Next, Return}}, Phase.Phase}, proofs.PlainPartLaws.frames_are}
 use Rattle.laws_threads.specs.{InsideEffects.MayDo, TopFrames.IsAllowed}
-use Rattle.laws_states.{specs.RunSafety.{GoesOnBy, HasAfter, HasEvent, HasInstruction}, proofs.HeldOrTried.tried_at}
-use Rattle.laws_refinement.{specs.TornRuns.begun_in, proofs.{Inside.{AtInstruction, KnownInside}, InstructionsAhead.{IsTop, all_ahead, is_top, next_is_later, returned_on, top_goes_on, top_is_left}}}
+use Rattle.laws_states.{specs.RunSafety.{GoesOnBy, HasAfter, HasEvent}, proofs.HeldOrTried.tried_at}
+use Rattle.laws_refinement.{specs.TornRuns.begun_in, proofs.{Inside.{KnownInside}, InstructionsAhead.{IsTop, all_ahead, is_top, next_is_later, returned_on, top_goes_on, top_is_left}}}
 use Rattle.jvm_types.specs.declared.outcome.End.TheVariants as ends
 use Rattle.machine_types.specs.declared.phase.After.TheVariants as afters
 use Rattle.machine_types.specs.declared.phase.Phase.TheVariants as phases

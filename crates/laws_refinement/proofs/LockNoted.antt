@@ -1,13 +1,13 @@
 -- Where the lock word of an attempt's monitor is as the attempt noted it after an event of another thread, it was so before; and
 -- where it is so, no thread holds the monitor.
-use Rattle.std.proofs.Common.{◌≡◌, ◌⊎◌, inl, inr, ℕ, ◌<◌, ◌≤◌, Bool, true, false, List, Option, Some, None, refl, sym, ap, ◌∙◌, subst, arith, slice_get, slice_index, if◌then◌else◌}
+use Rattle.std.proofs.Common.{◌≡◌, inl, inr, ℕ, ◌<◌, ◌≤◌, Bool, true, false, List, Option, Some, None, refl, sym, ap, ◌∙◌, subst, arith, slice_get, slice_index, if◌then◌else◌}
 use Rattle.jvm_types.specs.Numbers.{has_number}
 use Rattle.checked_program.specs.MarkedProgram.{MarkedProgram, IsMarked}
 use Rattle.machine_types.specs.{Accesses.words_after, Attempts.IsAsNoted, Core.Core, Events.wanted, Guards.HoldsMonitor, HeldMonitors.held_at, LockWords.{word_of_lock, lock_of}}
 use Rattle.machine_types.specs.{Owners.{Locks, NotHeld, HeldFlat, hold_by_word, hold_by_kept, hold_by_list, AttemptSawIn, IsKeptCount, IsKeptIn, lock_at, locks_in, references_of}, PlainMemory.Object}
 use Rattle.machine_types.specs.{Structure.{IsFlat, IsStructured, Stands}, Threads.{Attempt, Thread}, Typed.{HasClass, AttemptHolds, IsObject}, declared.{config.Config.Config, lock.Held.Held}}
 use Rattle.machine_types.specs.declared.{lock.{Kept.Kept, LockWord.LockWord}, phase.Phase.Phase}
-use Rattle.laws_states.{specs.{Sites.{LockOf, HasObject}, StateFacts.StateFacts}, proofs.EventWords.{IsLeft, word_at}}
+use Rattle.laws_states.{specs.{Sites.{LockOf, HasObject}, StateFacts.StateFacts}, proofs.EventWords.{word_at}}
 use Rattle.laws_states.proofs.{LockViews.{not_held, thin_if_flat}, LockWritten.thin_seen, Movers.{KnownSites, heap_mover}, WordViews.lock_of_word}
 use Rattle.laws_refinement.proofs.FreeLocks.{phase_leaves}
 use Rattle.machine_types.specs.declared.lock.Kept.TheVariants as keeps

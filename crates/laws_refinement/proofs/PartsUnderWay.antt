@@ -1,5 +1,5 @@
 -- The part of a thread in an attempt is under way.
-use Rattle.std.proofs.Common.{◌≡◌, ◌≢◌, ◌⊎◌, inl, inr, ℕ, zero, suc, Some, refl, sym, ap, ◌∙◌, subst, arith, slice_get}
+use Rattle.std.proofs.Common.{◌≡◌, inl, inr, ℕ, zero, suc, Some, refl, sym, ap, ◌∙◌, subst, arith, slice_get}
 use Rattle.machine_types.specs.{declared.{phase.{After.After, Phase.Phase}}}
 use Rattle.laws_states.{specs.{PartsStand.DoneRoots}, proofs.Lists.same_or_not}
 use Rattle.laws_simulation.proofs.{GoingOnAlike.PartRuns, PartsDue.rests_between}

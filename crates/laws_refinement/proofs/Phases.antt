@@ -17,7 +17,7 @@ use Rattle.laws_threads.{specs.{InsideEffects.TakesOwned, InsideMoves.{TopStands
 use Rattle.laws_states.{specs.{FoundLaws.HeapWordsFit}, proofs.PlainMoves.goes_attempt}
 use Rattle.laws_simulation.proofs.{ElementEvents.{Element, element_in, has_element}}
 use Rattle.laws_refinement.{specs.ElidedSteps.next_free, proofs.Attempting.{Trying, StaysNow, attempt_as, stands_as, inside_as, frames_as, holds_as, inside_of}}
-use Rattle.laws_refinement.proofs.{Checks.checked, Inside.{AtElement, AtInstruction, KnownInside}}
+use Rattle.laws_refinement.proofs.{Checks.checked, Inside.{AtElement, KnownInside}}
 use Rattle.laws_refinement.proofs.{GoingOn.{Grows, GoesAlike, IsElementRead, Knows, all_done, inner_as, none_begun, plain_as, comes_there, going_alike, grown}, Instructions.{ByFate, runs_by_fate}, StayPlaces.{element_stays, header_stays, top_array}}
 use Rattle.jvm_types.specs.declared.outcome.End.TheVariants as ends
 use Rattle.machine_types.specs.PlainState as plain

@@ -4,7 +4,7 @@ use Rattle.lists.proofs.ListLaws.{same_some}
 use Rattle.jvm_types.specs.declared.program.Program.{Program}
 use Rattle.machine_types.specs.{Counting.{run_at, take_at, count_from, count_along}, History.steps_of, PlainState.{Plain, value_at}, PlainSteps.{plain_run, plain_step}}
 use Rattle.machine_types.{specs.{Replay.{Alone, replay_act, replayed}, declared.plain.Act.Act}, proofs.AttemptReplay.{stands_as, Stands, stands_after, stands_twice}}
-use Rattle.laws_refinement.proofs.CountedActs.{Does, does}
+use Rattle.laws_refinement.proofs.CountedActs.{does}
 use Rattle.machine_types.proofs.AttemptReplay as replay
 
 -- where x has come to y, with more acts behind

@@ -1,6 +1,6 @@
 -- The frames of an attempt are of different methods, which its section's method is or calls; so no more instructions stand ahead of
 -- them than these methods have.
-use Rattle.std.proofs.Common.{◌≡◌, ◌≢◌, ◌⊎◌, inl, inr, ℕ, zero, suc, ◌+◌, ◌-◌, ◌≤◌, nat_le, Bool, true, false, List, [], ◌∷◌, ◌++◌, length, take, Option, Some, None, refl, sym, ap, subst, ◌∙◌, arith, slice_get, if◌then◌else◌}
+use Rattle.std.proofs.Common.{◌≡◌, ◌≢◌, inl, inr, ℕ, zero, suc, ◌+◌, ◌-◌, ◌≤◌, nat_le, Bool, true, false, List, [], ◌∷◌, ◌++◌, length, take, Option, Some, None, refl, sym, ap, subst, ◌∙◌, arith, slice_get, if◌then◌else◌}
 use Rattle.std.{specs.List.{AllZip, Contains, sum_by}, proofs.lemmas.{Bool.Decides.nat_tests, List.Sums.sum_by-cons}}
 use Rattle.jvm_types.specs.declared.program.{MethodInfo.MethodInfo, Program.Program}
 use Rattle.checked_program.specs.{MarkedProgram.MarkedProgram, Marks.{Calls, callee}, Reach.{HasCall, HasCalls, IsReach, size_of}, SectionLaws.{ApartLaw, HaveOwnMethods, AreParts, HasNone, Part}}
