@@ -1,6 +1,7 @@
 -- The bits of a word of waiting bits, where one is set or cleared.
-use Rattle.std.{proofs.Common.{◌≡◌, ◌≢◌, ℕ, ◌-◌, ◌*◌, ◌^◌, ◌<◌, ◌≤◌, min, max, Bool, true, false, w64, refl, sym, ap, ◌∙◌, arith, not, ◌==◌, bit_and, bit_or, nat_lt}, specs.Int.bit_at}
+use Rattle.std.{proofs.Common.{◌≡◌, ◌≢◌, inl, inr, ℕ, ◌-◌, ◌*◌, ◌^◌, ◌<◌, ◌≤◌, min, max, Bool, true, false, w64, refl, sym, ap, ◌∙◌, arith, not, ◌==◌, bit_and, bit_or, nat_lt}, specs.Int.bit_at}
 use Rattle.std.proofs.{Math.Pow.pow-lt, lemmas.{Bool.Decides.nat_tests, Nat.Bits.{bit_at_and, bit_at_or, bit_at-pow_same, bit_at-pow_other, and_pow, bit_at_not, bit_at-lt, bit_at_above}}}
+use Rattle.std.proofs.lemmas.Bool.{cases_Bool}
 use Rattle.jvm_types.specs.Numbers.{has_flag}
 use Rattle.machine_types.specs.Monitors.{bit_of}
 use Rattle.laws_states.proofs.EventBits.{no_flag}
@@ -13,14 +14,13 @@ pub flag_same : (n k u : ℕ) → bit_at n u ≡ bit_at k u → has_flag (bit_of
 flag_same n k u e = flag_is n u ∙ ap (λ (b : ℕ). not (b * 2 ^ u == 0)) e ∙ sym (flag_is k u)
 
 pub low_if_set : (n u : ℕ) → n < 2 ^ 64 → has_flag (bit_of u) n ≡ true → u < 64
-low_if_set n u small e = by_test (nat_lt u 64) refl
-  where
-    by_test : (b : Bool) → nat_lt u 64 ≡ b → u < 64
-    by_test true f = grind (arith, nat_tests, f)
-    by_test false f =
-        let high : 64 ≤ u = grind (arith, nat_tests, f) in
-        let off : has_flag (bit_of u) n ≡ false = no_flag n u (bit_at_above n 64 u small high) in
-        let clash : true ≡ false = sym e ∙ off in absurd (cc)
+low_if_set n u small e = elim (cases_Bool (nat_lt u 64)) [
+  | inl f ↦ grind (arith, nat_tests, f)
+  | inr f ↦
+      let high : 64 ≤ u = grind (arith, nat_tests, f) in
+      let off : has_flag (bit_of u) n ≡ false = no_flag n u (bit_at_above n 64 u small high) in
+      let clash : true ≡ false = sym e ∙ off in absurd (cc)
+]
 
 -- ---- one bit is set
 
@@ -36,15 +36,14 @@ pub clear_here : (n u : ℕ) → u < 64 → has_flag (bit_of u) (bit_and n (2 ^ 
 clear_here n u l = no_flag (bit_and n (2 ^ 64 - 1 - bit_of u)) u (bit_at_and n (2 ^ 64 - 1 - 2 ^ u) u ∙ ap (λ (b : ℕ). min (bit_at n u) b) (cleared_bit u u l l ∙ ap (λ (b : ℕ). 1 - b) (bit_at-pow_same u)) ∙ omega arith)
 
 pub clear_other : (n u v : ℕ) → n < 2 ^ 64 → u < 64 → v ≢ u → has_flag (bit_of v) (bit_and n (2 ^ 64 - 1 - bit_of u)) ≡ has_flag (bit_of v) n
-clear_other n u v small l d = by_test (nat_lt v 64) refl
-  where
-    by_test : (b : Bool) → nat_lt v 64 ≡ b → has_flag (bit_of v) (bit_and n (2 ^ 64 - 1 - bit_of u)) ≡ has_flag (bit_of v) n
-    by_test true f =
-        let low : v < 64 = grind (arith, nat_tests, f) in
-        let one : bit_at (2 ^ 64 - 1 - 2 ^ u) v ≡ 1 = cleared_bit u v l low ∙ ap (λ (b : ℕ). 1 - b) (bit_at-pow_other u v d) in
-        let bit : bit_at n v < 2 = bit_at-lt n v in
-        flag_same (bit_and n (2 ^ 64 - 1 - bit_of u)) n v (bit_at_and n (2 ^ 64 - 1 - 2 ^ u) v ∙ ap (λ (b : ℕ). min (bit_at n v) b) one ∙ omega arith)
-    by_test false f =
-        let high : 64 ≤ v = grind (arith, nat_tests, f) in
-        let none : bit_at n v ≡ 0 = bit_at_above n 64 v small high in
-        no_flag (bit_and n (2 ^ 64 - 1 - bit_of u)) v (bit_at_and n (2 ^ 64 - 1 - 2 ^ u) v ∙ ap (λ (b : ℕ). min b (bit_at (2 ^ 64 - 1 - 2 ^ u) v)) none ∙ omega arith) ∙ sym (no_flag n v none)
+clear_other n u v small l d = elim (cases_Bool (nat_lt v 64)) [
+  | inl f ↦
+      let low : v < 64 = grind (arith, nat_tests, f) in
+      let one : bit_at (2 ^ 64 - 1 - 2 ^ u) v ≡ 1 = cleared_bit u v l low ∙ ap (λ (b : ℕ). 1 - b) (bit_at-pow_other u v d) in
+      let bit : bit_at n v < 2 = bit_at-lt n v in
+      flag_same (bit_and n (2 ^ 64 - 1 - bit_of u)) n v (bit_at_and n (2 ^ 64 - 1 - 2 ^ u) v ∙ ap (λ (b : ℕ). min (bit_at n v) b) one ∙ omega arith)
+  | inr f ↦
+      let high : 64 ≤ v = grind (arith, nat_tests, f) in
+      let none : bit_at n v ≡ 0 = bit_at_above n 64 v small high in
+      no_flag (bit_and n (2 ^ 64 - 1 - bit_of u)) v (bit_at_and n (2 ^ 64 - 1 - 2 ^ u) v ∙ ap (λ (b : ℕ). min b (bit_at (2 ^ 64 - 1 - 2 ^ u) v)) none ∙ omega arith) ∙ sym (no_flag n v none)
+]

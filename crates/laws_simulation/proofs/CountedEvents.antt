@@ -228,11 +228,10 @@ module _ (turn : Turn) (after : Plain) (got : ℕ) where
 
   notes : (held : Option Held) (act : Act) → is_do act ≡ false → is_enter act ≡ false → Notes held act
   notes None act d e = record { more = []; is = refl; quiet = tt }
-  notes (Some h) act d e = by_kept h.kept refl
-    where
-      by_kept : (k : Kept) → h.kept ≡ k → Notes (Some h) act
-      by_kept (keeps.Flat count) l = record { more = act ∷ []; is = ap (λ (k : Kept). notified_by k act) l; quiet = ((d, e), tt) }
-      by_kept (keeps.Fat r) l = record { more = []; is = ap (λ (k : Kept). notified_by k act) l; quiet = tt }
+  notes (Some h) act d e = (elim h.kept as (λ (k : Kept). h.kept ≡ k → Notes (Some h) act) [
+    | keeps.Flat count ↦ λ l. record { more = act ∷ []; is = ap (λ (k : Kept). notified_by k act) l; quiet = ((d, e), tt) }
+    | keeps.Fat r ↦ λ l. record { more = []; is = ap (λ (k : Kept). notified_by k act) l; quiet = tt }
+  ]) refl
 
   -- ---- the moves of a thread that has begun n instructions then
 

@@ -181,9 +181,6 @@ module _ (scene : Scene) where
     abbrev value : ℕ
     value = slice_index s.words word
 
-    word_value : slice_index s.words (value_word read.array (low read.index)) ≡ slice_index s.words word
-    word_value = ap (slice_index s.words) (sym read.word_is)
-
     abbrev read_now : Thread
     read_now = goes_on x (Running (went_on c.program read.at value))
 
@@ -198,7 +195,7 @@ module _ (scene : Scene) where
         (moves word None phase_is value)
         (record {
           after = with_thread q t read_shown;
-          run = run_is word None phase_is ∙ ap (λ (n : ℕ). Some (with_thread q t (plain.plain_goes_on (y word None phase_is) (Running (went_on c.program read.at n))))) word_value;
+          run = run_is word None phase_is ∙ ap (λ (n : ℕ). Some (with_thread q t (plain.plain_goes_on (y word None phase_is) (Running (went_on c.program read.at n))))) (ap (slice_index s.words) (sym read.word_is));
           beside = comes_beside turn objects (slice_set s.words word value) q read_now read_shown (not_ended x.phase (subst IsBusy (sym phase_is) tt)) (goes word None phase_is value)
               (stays scene (slice_set s.words word value) read_now (looked s.words word) (makes_none word None phase_is) (gone_on x (Running (went_on c.program read.at value))).makes);
         })

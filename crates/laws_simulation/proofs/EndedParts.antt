@@ -56,18 +56,17 @@ limit_not_over bit status Awake fits awake = elim (cases_Bool (is_over status)) 
 
 over_outside : (bit : ℕ → Bool) (x : Thread) (phase : Phase) (status : Status) → is_live phase ≡ false → StatusFits bit x phase status → is_over status ≡ ended_by has_finished phase
 over_outside bit x phases.Idle status d fits = ap is_over fits
-over_outside bit x (phases.Ended e) status d fits = at_end e fits
+over_outside bit x (phases.Ended e) status d fits = (elim e as (λ (e : End). EndingFits bit x.held e status → is_over status ≡ has_finished e) [
+  | ends.Steps ↦ λ f. limit_not_over bit status (status ≡ plain.Run) f (λ k. ap is_over k)
+  | ends.Prints ↦ λ f. limit_not_over bit status (status ≡ plain.Run) f (λ k. ap is_over k)
+  | ends.Records ↦ λ f. limit_not_over bit status (IsWaiter x.held status) f (λ k. ap is_over k.1)
+  | ends.Turns ↦ λ f. limit_not_over bit status (IsTurning status) f turning
+  | e ↦ λ f. ap is_over f
+]) fits
   where
     turning : IsTurning status → is_over status ≡ false
     turning (inl k) = ap is_over k.1
     turning (inr k) = ap is_over k.2
-
-    at_end : (e : End) → EndingFits bit x.held e status → is_over status ≡ has_finished e
-    at_end ends.Steps f = limit_not_over bit status (status ≡ plain.Run) f (λ k. ap is_over k)
-    at_end ends.Prints f = limit_not_over bit status (status ≡ plain.Run) f (λ k. ap is_over k)
-    at_end ends.Records f = limit_not_over bit status (IsWaiter x.held status) f (λ k. ap is_over k.1)
-    at_end ends.Turns f = limit_not_over bit status (IsTurning status) f turning
-    at_end e f = ap is_over f
 over_outside bit x phase status d fits = absurd (cc)
 
 -- no part ends by itself in an attempt

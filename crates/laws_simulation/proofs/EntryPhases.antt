@@ -24,11 +24,8 @@ module _ (lies : StartLiesApart) (scene : Scene) (k : Moving scene.turn) where
 
   -- ---- what the words say
 
-  pub lock_here : (n : ℕ) → HasObject objects n → lock_at (references_of objects) s.words n ≡ lock_of (slice_index s.words n)
-  lock_here n h = ap (λ (b : Bool). cond b (lock_of (slice_index s.words n)) (locks.Free 0)) (object_has objects n h)
-
   pub lock_is : (n : ℕ) (l : LockWord) → HasObject objects n → (slice_index s.words n == word_of_lock l) ≡ true → lock_at (references_of objects) s.words n ≡ l
-  lock_is n l h e = lock_here n h ∙ ap lock_of ((Decides-eqb (slice_index s.words n) (word_of_lock l)).0 e) ∙ lock_of_word l
+  lock_is n l h e = (ap (λ (b : Bool). cond b (lock_of (slice_index s.words n)) (locks.Free 0)) (object_has objects n h)) ∙ ap lock_of ((Decides-eqb (slice_index s.words n) (word_of_lock l)).0 e) ∙ lock_of_word l
 
   -- the words are as they were where one was stored as it was
   pub loaded : (w : ℕ) → WordsStay objects s q (slice_set s.words w (slice_index s.words w))

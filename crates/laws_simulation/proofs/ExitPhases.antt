@@ -166,18 +166,17 @@ module _ (lies : StartLiesApart) (scene : Scene) (k : Moving scene.turn) where
   pub fattened : (m r : ℕ) (toward : Toward) (o : Option Held) → held_at x.held m ≡ o → IsFlat o → k.z.status ≡ toward_status m toward → r < MONITOR_RECORDS → IsDrawn (locks_in (references_of objects) s.words) r
       → Makes k [] (slice_set s.words m (word_of_lock (locks.Fat r))) (fattens x m r toward o)
   fattened m r toward None e flat status l drawn = absurd flat
-  fattened m r toward (Some h) e flat status l drawn = by_toward toward status
+  fattened m r toward (Some h) e flat status l drawn = (elim toward as (λ (toward : Toward). k.z.status ≡ toward_status m toward → Makes k [] (slice_set s.words m (word_of_lock (locks.Fat r))) (fattens x m r toward (Some h))) [
+    | towards.Leave a ↦ λ status.
+        let y : Thread = fattens x m r (towards.Leave a) (Some h) in
+        stays_with k (slice_set s.words m (word_of_lock (locks.Fat r))) y stay (refitted m h (record h { kept = keeps.Fat r }) y e (held_monitor m x.held h e) refl refl) refl refl tt
+        (calm_fits k y tt refl refl refl status)
+    | towards.Wait ↦ λ status.
+        let y : Thread = fattens x m r towards.Wait (Some h) in
+        stays_with k (slice_set s.words m (word_of_lock (locks.Fat r))) y stay (refitted m h (record h { kept = keeps.Fat r }) y e (held_monitor m x.held h e) refl refl) refl refl tt
+        (calm_fits k y tt refl refl refl status)
+  ]) status
     where
       stay : WordsStay objects s q (slice_set s.words m (word_of_lock (locks.Fat r)))
       stay = fat_stays lies scene m (word_of_lock (locks.Fat r)) r (held_object m h e) (thin_when_flat m h flat.0 e flat.1) (lock_of_word (locks.Fat r)) l
           (λ u. nobody_in (references_of objects) was s facts.owners facts.waiting c facts.structure r u l drawn)
-
-      by_toward : (toward : Toward) → k.z.status ≡ toward_status m toward → Makes k [] (slice_set s.words m (word_of_lock (locks.Fat r))) (fattens x m r toward (Some h))
-      by_toward (towards.Leave a) status =
-          let y : Thread = fattens x m r (towards.Leave a) (Some h) in
-          stays_with k (slice_set s.words m (word_of_lock (locks.Fat r))) y stay (refitted m h (record h { kept = keeps.Fat r }) y e (held_monitor m x.held h e) refl refl) refl refl tt
-          (calm_fits k y tt refl refl refl status)
-      by_toward towards.Wait status =
-          let y : Thread = fattens x m r towards.Wait (Some h) in
-          stays_with k (slice_set s.words m (word_of_lock (locks.Fat r))) y stay (refitted m h (record h { kept = keeps.Fat r }) y e (held_monitor m x.held h e) refl refl) refl refl tt
-          (calm_fits k y tt refl refl refl status)

@@ -32,11 +32,10 @@ holding_put m h (g ∷ hs) = by_test (g.monitor == h.monitor) refl (g.monitor ==
         at true d e = refl
         at false true e = absurd (cc)
         at false false e = refl
-    by_test false t true u more = other (h.monitor == m) refl
-      where
-        other : (x : Bool) → (h.monitor == m) ≡ x → cond (g.monitor == m) (Some g) (holding_at (with_holding h hs) m) ≡ cond x (Some h) (Some g)
-        other true e = let one : h.monitor ≡ m = grind (arith, nat_tests, e) in let two : g.monitor ≡ m = grind (arith, nat_tests, u) in absurd (grind (arith, nat_tests, t, one, two))
-        other false e = ap (λ (b : Bool). cond b (Some g) (holding_at (with_holding h hs) m)) u
+    by_test false t true u more = (elim (h.monitor == m) as (λ (x : Bool). (h.monitor == m) ≡ x → cond (g.monitor == m) (Some g) (holding_at (with_holding h hs) m) ≡ cond x (Some h) (Some g)) [
+      | true ↦ λ e. let one : h.monitor ≡ m = grind (arith, nat_tests, e) in let two : g.monitor ≡ m = grind (arith, nat_tests, u) in absurd (grind (arith, nat_tests, t, one, two))
+      | false ↦ λ e. ap (λ (b : Bool). cond b (Some g) (holding_at (with_holding h hs) m)) u
+    ]) refl
     by_test false t false u more = ap (λ (b : Bool). cond b (Some g) (holding_at (with_holding h hs) m)) u ∙ more
 
 pub holding_without : (m n : ℕ) (hs : List Holding) → holding_at (without_holding n hs) m ≡ cond (n == m) None (holding_at hs m)

@@ -39,15 +39,12 @@ module _ (scene : Scene) where
 
   -- ---- words that locks and waiting bits don't stand in
 
-  fat_low : (m r : ℕ) → lock_at (references_of q.objects) s.words m ≡ locks.Fat r → r < MONITOR_RECORDS
-  fat_low m r e = (scene.facts.owners.locks_are.below m r (sym (same_lock c.program objects s q scene.beside.known scene.beside.others scene.facts.heap.new_objects m) ∙ e)).1
-
   -- a word n is set that is no lock word and no waiting bits
   calm_bits : (n v : ℕ) → ((o : Object) → Contains q.objects o → o.reference ≢ n) → ((r : ℕ) → r < MONITOR_RECORDS → bits_word r ≢ n)
       → (u m : ℕ) → has_wait_bit (references_of q.objects) (slice_set s.words n v) u m ≡ has_wait_bit (references_of q.objects) s.words u m
   calm_bits n v lock bits u m =
       same_bit (lock_at (references_of q.objects) s.words m) (lock_at (references_of q.objects) (slice_set s.words n v) m) s.words (slice_set s.words n v) u (by_test (has_number (references_of q.objects) m) refl)
-      (λ r e. set_there s.words n (bits_word r) v (bits r (fat_low m r e)))
+      (λ r e. set_there s.words n (bits_word r) v (bits r ((scene.facts.owners.locks_are.below m r (sym (same_lock c.program objects s q scene.beside.known scene.beside.others scene.facts.heap.new_objects m) ∙ e)).1)))
     where
       by_test : (b : Bool) → has_number (references_of q.objects) m ≡ b → cond b (lock_of (slice_index (slice_set s.words n v) m)) (locks.Free 0) ≡ cond b (lock_of (slice_index s.words m)) (locks.Free 0)
       by_test true e = let k = has_object q.objects m e in ap lock_of (set_there s.words n m v (λ same. lock k.0 k.1 (k.2 ∙ same)))
@@ -91,11 +88,10 @@ module _ (scene : Scene) where
   module _ (site : Site) (value : IsValueSite site) (there : IsThere c.program objects s site)
       (v w : ℕ) (stands : value_at q (site_word site) ≡ Some w) where
     no_header : NoHeader q.objects (site_word site)
-    no_header i o g e = by_side (scene.beside.others o (contains_got q.objects i o g))
-      where
-        by_side : IsAmong objects o.reference ⊎ IsBeingMade s.threads o.reference → ⊥
-        by_side (inl h) = no_header_site site o.reference value (scene.differ c objects s site (HeaderOf o.reference) scene.marked scene.facts.heap there h e)
-        by_side (inr h) = no_new_site site o.reference value (scene.differ c objects s site (NewHeaderOf o.reference) scene.marked scene.facts.heap there h e)
+    no_header i o g e = elim (scene.beside.others o (contains_got q.objects i o g)) [
+      | inl h ↦ no_header_site site o.reference value (scene.differ c objects s site (HeaderOf o.reference) scene.marked scene.facts.heap there h e)
+      | inr h ↦ no_new_site site o.reference value (scene.differ c objects s site (NewHeaderOf o.reference) scene.marked scene.facts.heap there h e)
+    ]
 
     new_written : (a word : ℕ) → IsPlainNew c.program q a word → IsPlainNew c.program (written q (site_word site) v) a word
     new_written a word k =

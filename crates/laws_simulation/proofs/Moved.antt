@@ -104,14 +104,13 @@ module _ {turn : Turn} {phase : Phase} (k : Moment turn phase) where
 
   -- whoever owns the record of a monitor
   pub owning : (u : ℕ) (z : Thread) (m r : ℕ) → slice_get s.threads u ≡ Some z → IsFat r (held_at z.held m) → HasFat objects s.words u m r z
-  owning u z m r got fat = by_held (held_at z.held m) refl fat
-    where
-      by_held : (o : Option Held) → held_at z.held m ≡ o → IsFat r o → HasFat objects s.words u m r z
-      by_held None e f = absurd f
-      by_held (Some h) e f =
-          let holds : hold_by_word u (lock_at (references_of objects) s.words m) (owner_at s.words) ≡ HeldFat r = (turn.facts.owners.each u z got).holds m ∙ ap hold_by_list e ∙ ap hold_by_kept f in
-          let both = fatly u (lock_at (references_of objects) s.words m) (owner_at s.words) r holds in
-          record { held = h; is = e; kept = f; lock = both.0; owner = both.1; low = fat_low m r both.0 }
+  owning u z m r got fat = (elim (held_at z.held m) as (λ (o : Option Held). held_at z.held m ≡ o → IsFat r o → HasFat objects s.words u m r z) [
+    | None ↦ λ e f. absurd f
+    | Some h ↦ λ e f.
+        let holds : hold_by_word u (lock_at (references_of objects) s.words m) (owner_at s.words) ≡ HeldFat r = (turn.facts.owners.each u z got).holds m ∙ ap hold_by_list e ∙ ap hold_by_kept f in
+        let both = fatly u (lock_at (references_of objects) s.words m) (owner_at s.words) r holds in
+        record { held = h; is = e; kept = f; lock = both.0; owner = both.1; low = fat_low m r both.0 }
+  ]) refl fat
 
   -- ---- bits
 
@@ -193,13 +192,12 @@ module _ {turn : Turn} {phase : Phase} (k : Moment turn phase) where
 
   -- bits are cleared
   pub bits_less : SitesLieInside → (r v u : ℕ) → r < MONITOR_RECORDS → (has_flag (bit_of u) v ≡ true → is_bit_set s.words r u ≡ true) → (n : ℕ) → is_bit_set (slice_set s.words (bits_word r) v) n u ≡ true → is_bit_set s.words n u ≡ true
-  bits_less inside r v u low less n set = by_record (same_or_not n r)
-    where
-      by_record : (n ≡ r) ⊎ (n ≢ r) → is_bit_set s.words n u ≡ true
-      by_record (inl f) =
-          let here : is_bit_set (slice_set s.words (bits_word r) v) r u ≡ true = subst (λ (i : ℕ). is_bit_set (slice_set s.words (bits_word r) v) i u ≡ true) f set in
-          subst (λ (i : ℕ). is_bit_set s.words i u ≡ true) (sym f) (less (sym (bits_here inside r v u low) ∙ here))
-      by_record (inr d) = sym (other_bits s.words r v n u d) ∙ set
+  bits_less inside r v u low less n set = elim (same_or_not n r) [
+    | inl f ↦
+        let here : is_bit_set (slice_set s.words (bits_word r) v) r u ≡ true = subst (λ (i : ℕ). is_bit_set (slice_set s.words (bits_word r) v) i u ≡ true) f set in
+        subst (λ (i : ℕ). is_bit_set s.words i u ≡ true) (sym f) (less (sym (bits_here inside r v u low) ∙ here))
+    | inr d ↦ sym (other_bits s.words r v n u d) ∙ set
+  ]
 
   pub waits_less : (later : List ℕ) → AreRecordsWritten s.words later → (u : ℕ) → ((r : ℕ) → is_bit_set later r u ≡ true → is_bit_set s.words r u ≡ true)
       → (n : ℕ) → has_wait_bit (references_of q.objects) later u n ≡ true → has_wait_bit (references_of q.objects) s.words u n ≡ true

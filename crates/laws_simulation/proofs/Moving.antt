@@ -116,12 +116,11 @@ module _ {turn : Turn} (k : Moving turn) where
   -- a turn has failed
   pub turned : (words : List ℕ) (phase : Phase) → WordsStay objects s q words → IsCalm phase → StatusFits (has_wait_bit (references_of q.objects) s.words t) (record x { turns = x.turns + 1; phase = phase }) phase k.z.status → IsTurning k.z.status
       → Makes k [] words (failed_turn x phase)
-  turned words phase stay calm status turning = by_test (nat_lt (x.turns + 1) x.cfg.turns)
-    where
-      by_test : (b : Bool) → Makes k [] words (record x { turns = x.turns + 1; phase = cond b phase (phases.Ending ends.Turns) })
-      by_test true = stays_as words (record x { turns = x.turns + 1; phase = phase }) stay refl refl refl (calm_old phase calm) (calm_fits (record x { turns = x.turns + 1; phase = phase }) calm refl refl refl status)
-      by_test false = stays_as words (record x { turns = x.turns + 1; phase = phases.Ending ends.Turns }) stay refl refl refl tt
-          (calm_fits (record x { turns = x.turns + 1; phase = phases.Ending ends.Turns }) refl refl refl refl (awake_fits (has_wait_bit (references_of q.objects) s.words t) k.z.status (IsTurning k.z.status) k.awake turning))
+  turned words phase stay calm status turning = elim (nat_lt (x.turns + 1) x.cfg.turns) as (λ (b : Bool). Makes k [] words (record x { turns = x.turns + 1; phase = cond b phase (phases.Ending ends.Turns) })) [
+    | true ↦ stays_as words (record x { turns = x.turns + 1; phase = phase }) stay refl refl refl (calm_old phase calm) (calm_fits (record x { turns = x.turns + 1; phase = phase }) calm refl refl refl status)
+    | false ↦ stays_as words (record x { turns = x.turns + 1; phase = phases.Ending ends.Turns }) stay refl refl refl tt
+        (calm_fits (record x { turns = x.turns + 1; phase = phases.Ending ends.Turns }) refl refl refl refl (awake_fits (has_wait_bit (references_of q.objects) s.words t) k.z.status (IsTurning k.z.status) k.awake turning))
+  ]
 
   -- it runs on
   pub runs_fits : (y : Thread) → y.frames ≡ x.frames → y.roots ≡ x.roots → y.part ≡ x.part → OwnFits c.program (has_wait_bit (references_of q.objects) s.words t) (runs y) (plain.with_status k.z plain.Run)

@@ -39,14 +39,13 @@ no_run_roots stands c marked some none =
 -- ---- a worker begins
 
 pub idle_attempt : (c : MarkedProgram) (was : Phase) (z : Thread) → z.phase ≡ phases.Idle → IsStructured c was z → z.attempt ≡ None
-idle_attempt c was z idle k = by_attempt z.attempt refl
-  where
-    by_attempt : (a : Option Attempt) → z.attempt ≡ a → a ≡ None
-    by_attempt None f = refl
-    by_attempt (Some a) f =
-        let was_is : was ≡ phases.Idle = subst (λ (p : Phase). IsAs p was) idle k.is_as in
-        let tried : AttemptStandsIn c was z.frames z.held (Some a) = subst (λ (o : Option Attempt). AttemptStandsIn c was z.frames z.held o) f k.attempt in
-        absurd (subst (IsPhaseInside a.monitor) was_is tried.inside)
+idle_attempt c was z idle k = (elim z.attempt as (λ (a : Option Attempt). z.attempt ≡ a → a ≡ None) [
+  | None ↦ λ f. refl
+  | Some a ↦ λ f.
+      let was_is : was ≡ phases.Idle = subst (λ (p : Phase). IsAs p was) idle k.is_as in
+      let tried : AttemptStandsIn c was z.frames z.held (Some a) = subst (λ (o : Option Attempt). AttemptStandsIn c was z.frames z.held o) f k.attempt in
+      absurd (subst (IsPhaseInside a.monitor) was_is tried.inside)
+]) refl
 
 worker_alike : (p : Program) (z : Thread) (roots : List ℕ) → run_roots p ≡ roots → (roots ≡ [] → ⊥) → z.phase ≡ phases.Idle → z.attempt ≡ None → z.part ≡ 0 → Alike p z (with_roots roots z)
 worker_alike p z [] e some idle outside part = absurd (some refl)
@@ -179,15 +178,11 @@ module _ (stands : RunIsThere) (states : States) (x : Thread) (workers : List Th
   by_part (suc (suc part)) e h = absurd (cc)
 
   pub begun_beside : StandsBeside c.program objects (record s { threads = next_threads c.program (x ∷ workers) }) q
-  begun_beside = by_test (may_begin (x ∷ workers)) refl
-    where
-      by_test : (b : Bool) → may_begin (x ∷ workers) ≡ b → StandsBeside c.program objects (record s { threads = if b then part_begins c.program x.part x workers else x ∷ workers }) q
-      by_test true h = by_part x.part refl h
-      by_test false h = subst (λ (xs : List Thread). StandsBeside c.program objects (record s { threads = xs }) q) threads beside
+  begun_beside = (elim (may_begin (x ∷ workers)) as (λ (b : Bool). may_begin (x ∷ workers) ≡ b → StandsBeside c.program objects (record s { threads = if b then part_begins c.program x.part x workers else x ∷ workers }) q)
+      [ true ↦ λ h. by_part x.part refl h | false ↦ λ h. subst (λ (xs : List Thread). StandsBeside c.program objects (record s { threads = xs }) q) threads beside ]) refl
 
 pub next_beside : RunIsThere → NextStandsBeside
-next_beside stands c cfg objects was s q marked facts beside = by_threads s.threads refl
-  where
-    by_threads : (xs : List Thread) → s.threads ≡ xs → StandsBeside c.program objects (next c s) q
-    by_threads [] e = subst (λ (ys : List Thread). StandsBeside c.program objects (record s { threads = ys }) q) (e ∙ sym (ap (next_threads c.program) e)) beside
-    by_threads (x ∷ workers) e = subst (λ (ys : List Thread). StandsBeside c.program objects (record s { threads = ys }) q) (sym (ap (next_threads c.program) e)) (begun_beside stands (record { c = c; cfg = cfg; objects = objects; was = was; s = s; q = q; marked = marked; facts = facts; beside = beside }) x workers e)
+next_beside stands c cfg objects was s q marked facts beside = (elim s.threads as (λ (xs : List Thread). s.threads ≡ xs → StandsBeside c.program objects (next c s) q) [
+  | [] ↦ λ e. subst (λ (ys : List Thread). StandsBeside c.program objects (record s { threads = ys }) q) (e ∙ sym (ap (next_threads c.program) e)) beside
+  | x ∷ workers ↦ λ e. subst (λ (ys : List Thread). StandsBeside c.program objects (record s { threads = ys }) q) (sym (ap (next_threads c.program) e)) (begun_beside stands (record { c = c; cfg = cfg; objects = objects; was = was; s = s; q = q; marked = marked; facts = facts; beside = beside }) x workers e)
+]) refl

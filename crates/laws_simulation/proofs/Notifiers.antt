@@ -1,6 +1,7 @@
 -- A thread that notifies: it looks for a thread that waits, and wakes one or all.
 use Rattle.std.proofs.Common.{◌≡◌, ◌≢◌, ◌⊎◌, inl, inr, ℕ, ◌-◌, ◌^◌, ◌<◌, nat_lt, Bool, true, false, cond, List, [], ◌∷◌, Option, Some, None, refl, sym, ap, ◌∙◌, subst, arith, IsSome, map, slice_get, slice_index, slice_set, ◌==◌, bit_and, option_map}
 use Rattle.std.{proofs.lemmas.{Bool.Decides.nat_tests, List.{length-map, length-set}, Option.slice_get-map}}
+use Rattle.std.proofs.lemmas.Bool.{cases_Bool}
 use Rattle.jvm_types.specs.Numbers.{has_flag}
 use Rattle.machine_types.specs.{Agreement.{has_wait_bit, ThreadFits}, Going.{with_phase, runs}, History.act_if, Monitors.{bit_of, lowest_of}, Owners.references_of}
 use Rattle.machine_types.specs.{PlainState.{Plain, PlainThread, with_thread, with_status}, PlainSteps.{waits_on, wakes, wakes_one, notified}, Threads.Thread, Waiting.is_bit_set, Words.bits_word}
@@ -54,17 +55,16 @@ module _ {turn : Turn} where
       step = ap (λ (b : Bool). cond b None (Some (with_thread q t (with_status y plain.Run)))) (none_waits m q.threads (nobody_by_bits c.program s q m turn.beside.agrees off))
 
   pub looked_for : (m r : ℕ) → Moment turn (phases.NotifyLook m r) → StepsBeside c objects s t x q
-  looked_for m r k = by_test (slice_index s.words (bits_word r) == 0) refl
+  looked_for m r k = elim (cases_Bool (slice_index s.words (bits_word r) == 0)) [
+    | inl e ↦ none_found m r k e
+    | inr e ↦ stepped k s.words (with_phase x one) [] q refl (ap (λ (b : Bool). act_if b (acts.Notify None)) e) (set_self s.words (bits_word r)) (ap (λ (b : Bool). cond b (runs x) (with_phase x one)) e) refl
+        (quiet_beside k s.words (with_phase x one) (same_words s.words) (λ a word f. cc) (λ a word f. cc) refl (λ g. cc) refl turn.outside
+        (record { frames = own_frames k; status = own_status k; roots = own_roots k })
+        (own_ends k ∙ ends_alike c.program x.part (phases.NotifyLook m r) one refl) (λ u n d. refl))
+  ]
     where
       one : Phase
       one = phases.NotifyOne m r (lowest_of (slice_index s.words (bits_word r)))
-
-      by_test : (b : Bool) → (slice_index s.words (bits_word r) == 0) ≡ b → StepsBeside c objects s t x q
-      by_test true e = none_found m r k e
-      by_test false e = stepped k s.words (with_phase x one) [] q refl (ap (λ (b : Bool). act_if b (acts.Notify None)) e) (set_self s.words (bits_word r)) (ap (λ (b : Bool). cond b (runs x) (with_phase x one)) e) refl
-          (quiet_beside k s.words (with_phase x one) (same_words s.words) (λ a word f. cc) (λ a word f. cc) refl (λ g. cc) refl turn.outside
-          (record { frames = own_frames k; status = own_status k; roots = own_roots k })
-          (own_ends k ∙ ends_alike c.program x.part (phases.NotifyLook m r) one refl) (λ u n d. refl))
 
   -- ---- it wakes one
 
@@ -90,11 +90,8 @@ module _ {turn : Turn} where
     one_low : u < 64
     one_low = low_if_set (slice_index s.words (bits_word r)) u (turn.facts.small (bits_word r)) one_set
 
-    kept_else : (v : ℕ) → v ≢ u → has_flag (bit_of v) OneBits ≡ is_bit_set s.words r v
-    kept_else v d = clear_other (slice_index s.words (bits_word r)) u v (turn.facts.small (bits_word r)) one_low d
-
     bits_same : (v : ℕ) → v ≢ u → (n : ℕ) → has_wait_bit (references_of q.objects) OneLater v n ≡ has_wait_bit (references_of q.objects) s.words v n
-    bits_same v d n = bits_kept k OneLater one_written v (λ i low. bits_else k inside r OneBits v one_fat.low (kept_else v d) i) n
+    bits_same v d n = bits_kept k OneLater one_written v (λ i low. bits_else k inside r OneBits v one_fat.low (clear_other (slice_index s.words (bits_word r)) u v (turn.facts.small (bits_word r)) one_low d) i) n
 
     pub woke_one : StepsBeside c objects s t x q
     woke_one = stepped k OneLater (runs x) (acts.Notify (Some u) ∷ []) behind refl refl refl refl

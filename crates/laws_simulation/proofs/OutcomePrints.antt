@@ -1,6 +1,7 @@
 -- The prints of an outcome are those of the plain state.
 use Rattle.std.proofs.Common.{◌≡◌, ◌⊎◌, inl, inr, ℕ, zero, suc, ◌+◌, Bool, true, false, cond, List, [], ◌∷◌, ◌++◌, length, map, Option, Some, None, refl, sym, ap, ◌∙◌, subst, arith, length-append, ◌==◌, Contains, option_map, slice_get, slice_set}
 use Rattle.std.{specs.List.{sum_by, range_with_len}, proofs.lemmas.{Bool.Decides.Decides-eqb, List.{Elements.{Contains-append_left, Contains-append_right}, Sums.sum_by-cons}, Option.slice_get-map}}
+use Rattle.std.proofs.lemmas.Bool.{cases_Bool}
 use Rattle.lists.proofs.ListLaws.{same_some}
 use Rattle.jvm_types.specs.declared.{outcome.{Print.Print, ThreadReport.ThreadReport}, program.Program.Program}
 use Rattle.checked_program.specs.MarkedProgram.{MarkedProgram}
@@ -47,11 +48,10 @@ pub record Reporter (threads : List Thread) (u : ℕ) (print : Print) : Type 0 w
   pub has : Contains thread.prints print
 
 reporter : (threads : List Thread) (u : ℕ) (print : Print) → Reports threads u print → Reporter threads u print
-reporter threads u print r = by_thread (slice_get threads u) refl (sym (slice_get-map report_of threads u) ∙ r.there)
-  where
-    by_thread : (o : Option Thread) → slice_get threads u ≡ o → option_map report_of o ≡ Some r.report → Reporter threads u print
-    by_thread None e f = absurd (cc)
-    by_thread (Some x) e f = record { thread = x; there = e; has = subst (λ (z : ThreadReport). Contains z.prints print) (sym (same_some f)) r.has }
+reporter threads u print r = (elim (slice_get threads u) as (λ (o : Option Thread). slice_get threads u ≡ o → option_map report_of o ≡ Some r.report → Reporter threads u print) [
+  | None ↦ λ e f. absurd (cc)
+  | Some x ↦ λ e f. record { thread = x; there = e; has = subst (λ (z : ThreadReport). Contains z.prints print) (sym (same_some f)) r.has }
+]) refl (sym (slice_get-map report_of threads u) ∙ r.there)
 
 -- what holds of the threads and of the prints of a plain state
 pub record Fit (threads : List Thread) (ps : List Printed) : Type 0 where
@@ -74,18 +74,17 @@ prints_of s q h = record {
 
 module _ (threads : List Thread) (t : ℕ) (x y : Thread) (there : slice_get threads t ≡ Some x) where
   moved_on : (u : ℕ) (print : Print) → (Contains x.prints print → Contains y.prints print) → Reports threads u print → Reports (slice_set threads t y) u print
-  moved_on u print more r = by_number (u == t) refl
-    where
-      by_number : (b : Bool) → (u == t) ≡ b → Reports (slice_set threads t y) u print
-      by_number true e =
-          let same = (Decides-eqb u t).0 e in
-          let k = reporter threads u print r in
-          let is : x ≡ k.thread = same_some (sym there ∙ ap (slice_get threads) (sym same) ∙ k.there) in
-          reported (slice_set threads t y) u y print (ap (slice_get (slice_set threads t y)) same ∙ got_when_set threads t x y there)
-          (more (subst (λ (z : Thread). Contains z.prints print) (sym is) k.has))
-      by_number false e =
-          let k = reporter threads u print r in
-          reported (slice_set threads t y) u k.thread print (set_other threads t u y e ∙ k.there) k.has
+  moved_on u print more r = elim (cases_Bool (u == t)) [
+    | inl e ↦
+        let same = (Decides-eqb u t).0 e in
+        let k = reporter threads u print r in
+        let is : x ≡ k.thread = same_some (sym there ∙ ap (slice_get threads) (sym same) ∙ k.there) in
+        reported (slice_set threads t y) u y print (ap (slice_get (slice_set threads t y)) same ∙ got_when_set threads t x y there)
+        (more (subst (λ (z : Thread). Contains z.prints print) (sym is) k.has))
+    | inr e ↦
+        let k = reporter threads u print r in
+        reported (slice_set threads t y) u k.thread print (set_other threads t u y e ∙ k.there) k.has
+  ]
 
   sums : prints_in (slice_set threads t y) + length x.prints ≡ prints_in threads + length y.prints
   sums = sum_set (λ (z : Thread). length z.prints) threads t x y there

@@ -23,14 +23,13 @@ never_waits phase r a w = w
 module _ (references : List ℕ) (was : ℕ → Phase) (s : Core) (owners : Owners references was s)
     (waiting : Waiting was s) where
   pub no_own_bit : (t : ℕ) (x : Thread) → slice_get s.threads t ≡ Some x → IsAwake (was t) → (m : ℕ) → has_wait_bit references s.words t m ≡ false
-  no_own_bit t x there awake m = by_lock (lock_at references s.words m) refl
-    where
-      by_lock : (l : LockWord) → lock_at references s.words m ≡ l → bit_by l s.words t ≡ false
-      by_lock (locks.Free c) e = refl
-      by_lock (locks.Held u) e = refl
-      by_lock (locks.Flagged u) e = refl
-      by_lock (locks.Fat r) e = (elim (is_bit_set s.words r t) as (λ (b : Bool). is_bit_set s.words r t ≡ b → b ≡ false)
-          [ true ↦ λ f. let w = waiting.each t x there in absurd (never_waits (was t) r awake (w.only r (owners.locks_are.below m r e).1 f)) | false ↦ λ f. refl ]) refl
+  no_own_bit t x there awake m = (elim (lock_at references s.words m) as (λ (l : LockWord). lock_at references s.words m ≡ l → bit_by l s.words t ≡ false) [
+    | locks.Free c ↦ λ e. refl
+    | locks.Held u ↦ λ e. refl
+    | locks.Flagged u ↦ λ e. refl
+    | locks.Fat r ↦ λ e. (elim (is_bit_set s.words r t) as (λ (b : Bool). is_bit_set s.words r t ≡ b → b ≡ false)
+        [ true ↦ λ f. let w = waiting.each t x there in absurd (never_waits (was t) r awake (w.only r (owners.locks_are.below m r e).1 f)) | false ↦ λ f. refl ]) refl
+  ]) refl
 
   -- a lock names the record of each thread that may wait
   named : (c : MarkedProgram) → Structure c was s.threads → (u r : ℕ) (z : Thread) → slice_get s.threads u ≡ Some z → MayWait (was u) r → ((m : ℕ) → lock_at references s.words m ≢ locks.Fat r) → ⊥

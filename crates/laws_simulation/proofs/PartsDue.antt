@@ -52,17 +52,16 @@ no_limit e was h k = absurd (cc)
 
 -- it is in no attempt
 pub no_attempt : (c : MarkedProgram) (was : Phase) (z : Thread) (e : End) → has_finished e ≡ true → z.phase ≡ phases.Ended e → IsStructured c was z → z.attempt ≡ None
-no_attempt c was z e by_itself ended k = by_attempt z.attempt refl
-  where
-    by_attempt : (a : Option Attempt) → z.attempt ≡ a → a ≡ None
-    by_attempt None f = refl
-    by_attempt (Some a) f =
-        let as_it_is : IsAs (phases.Ended e) was = subst (λ (p : Phase). IsAs p was) ended k.is_as in
-        let was_is : was ≡ phases.Ended e = no_limit e was by_itself as_it_is in
-        let stands = k.stands in
-        let frames : z.frames ≡ [] = subst (λ (p : Phase). PhaseShows c p z.frames stands.shown z.held z.attempt) was_is stands.phase_shows in
-        let tried : AttemptStandsIn c was z.frames z.held (Some a) = subst (λ (o : Option Attempt). AttemptStandsIn c was z.frames z.held o) f k.attempt in
-        absurd (omega (arith, tried.based, ap (λ fs. length fs) frames))
+no_attempt c was z e by_itself ended k = (elim z.attempt as (λ (a : Option Attempt). z.attempt ≡ a → a ≡ None) [
+  | None ↦ λ f. refl
+  | Some a ↦ λ f.
+      let as_it_is : IsAs (phases.Ended e) was = subst (λ (p : Phase). IsAs p was) ended k.is_as in
+      let was_is : was ≡ phases.Ended e = no_limit e was by_itself as_it_is in
+      let stands = k.stands in
+      let frames : z.frames ≡ [] = subst (λ (p : Phase). PhaseShows c p z.frames stands.shown z.held z.attempt) was_is stands.phase_shows in
+      let tried : AttemptStandsIn c was z.frames z.held (Some a) = subst (λ (o : Option Attempt). AttemptStandsIn c was z.frames z.held o) f k.attempt in
+      absurd (omega (arith, tried.based, ap (λ fs. length fs) frames))
+]) refl
 
 over_by : (bit : ℕ → Bool) (held : List Held) (e : End) (status : Status) → has_finished e ≡ true → EndingFits bit held e status → is_over status ≡ true
 over_by bit held ends.Returned status h k = ap is_over k

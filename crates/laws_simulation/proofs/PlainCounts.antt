@@ -28,12 +28,9 @@ pub none_along : (p : Program) (count : Plain → PlainStep → ℕ) (t : ℕ) (
 none_along p count t [] q all = refl
 none_along p count t (act ∷ acts) q all =
     let first = all.0 q in
-    let rest = by_step (plain_step p q (record { thread = t; act = act })) (λ r. none_along p count t acts r all.1) in
+    let rest = (elim (plain_step p q (record { thread = t; act = act })) as (λ (o : Option Plain). ((r : Plain) → count_along p count (steps_of t acts) r ≡ 0) → count_from (count_along p count (steps_of t acts)) o ≡ 0)
+    [ None ↦ λ more. refl | Some r ↦ λ more. more r ]) (λ r. none_along p count t acts r all.1) in
     omega (arith, first, rest)
-  where
-    by_step : (o : Option Plain) → ((r : Plain) → count_along p count (steps_of t acts) r ≡ 0) → count_from (count_along p count (steps_of t acts)) o ≡ 0
-    by_step None more = refl
-    by_step (Some r) more = more r
 
 -- only the first one does
 pub first_along : (p : Program) (count : Plain → PlainStep → ℕ) (t : ℕ) (act : Act) (acts : List Act) (q : Plain) → NeverCount count t acts

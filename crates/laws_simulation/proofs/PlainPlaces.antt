@@ -82,11 +82,10 @@ pub record IsIn (objects : List Object) (x v : ℕ) : Type 0 where
 
 found_object : (os : List Object) (x v : ℕ) → object_value os x ≡ Some v → IsIn os x v
 found_object [] x v e = absurd (cc)
-found_object (o ∷ os) x v e = by_first (value_in o x) refl e (λ f. found_object os x v f)
-  where
-    by_first : (w : Option ℕ) → value_in o x ≡ w → option_or w (object_value os x) ≡ Some v → (object_value os x ≡ Some v → IsIn os x v) → IsIn (o ∷ os) x v
-    by_first (Some u) f g more = record { index = 0; object = o; there = refl; has = f ∙ g }
-    by_first None f g more = let k = more g in record { index = suc k.index; object = k.object; there = k.there; has = k.has }
+found_object (o ∷ os) x v e = (elim (value_in o x) as (λ (w : Option ℕ). value_in o x ≡ w → option_or w (object_value os x) ≡ Some v → (object_value os x ≡ Some v → IsIn os x v) → IsIn (o ∷ os) x v) [
+  | Some u ↦ λ f g more. record { index = 0; object = o; there = refl; has = f ∙ g }
+  | None ↦ λ f g more. let k = more g in record { index = suc k.index; object = k.object; there = k.there; has = k.has }
+]) refl e (λ f. found_object os x v f)
 
 -- the one that has the place, where no other does
 first_object : (os : List Object) (x v i : ℕ) (o : Object) → slice_get os i ≡ Some o → value_in o x ≡ Some v → ((j : ℕ) (e : Object) → slice_get os j ≡ Some e → j ≢ i → value_in e x ≡ None) → object_value os x ≡ Some v
@@ -113,22 +112,18 @@ pub record IsAt (statics : List StaticValue) (x v : ℕ) : Type 0 where
 
 found_static : (ss : List StaticValue) (x v : ℕ) → static_value ss x ≡ Some v → IsAt ss x v
 found_static [] x v e = absurd (cc)
-found_static (s ∷ ss) x v e = by_first (s.word == x) refl e (λ f. found_static ss x v f)
-  where
-    by_first : (b : Bool) → (s.word == x) ≡ b → (if b then Some s.value else static_value ss x) ≡ Some v → (static_value ss x ≡ Some v → IsAt ss x v) → IsAt (s ∷ ss) x v
-    by_first true f g more = record { index = 0; static = s; there = refl; word = (Decides-eqb s.word x).0 f; value = same_some g }
-    by_first false f g more = let k = more g in record { index = suc k.index; static = k.static; there = k.there; word = k.word; value = k.value }
+found_static (s ∷ ss) x v e = (elim (s.word == x) as (λ (b : Bool). (s.word == x) ≡ b → (if b then Some s.value else static_value ss x) ≡ Some v → (static_value ss x ≡ Some v → IsAt ss x v) → IsAt (s ∷ ss) x v) [
+  | true ↦ λ f g more. record { index = 0; static = s; there = refl; word = (Decides-eqb s.word x).0 f; value = same_some g }
+  | false ↦ λ f g more. let k = more g in record { index = suc k.index; static = k.static; there = k.there; word = k.word; value = k.value }
+]) refl e (λ f. found_static ss x v f)
 
 first_static : (ss : List StaticValue) (i : ℕ) (s : StaticValue) → slice_get ss i ≡ Some s → (v : ℕ) × (static_value ss s.word ≡ Some v)
 first_static [] i s e = absurd (cc)
 first_static (r ∷ ss) zero s e =
     let one : r ≡ s = cc in
     (r.value, ap (λ (b : Bool). if b then Some r.value else static_value ss s.word) (ap (λ (z : StaticValue). z.word == s.word) one ∙ is_same s.word))
-first_static (r ∷ ss) (suc i) s e = by_first (r.word == s.word) refl (first_static ss i s e)
-  where
-    by_first : (b : Bool) → (r.word == s.word) ≡ b → (v : ℕ) × (static_value ss s.word ≡ Some v) → (v : ℕ) × ((if b then Some r.value else static_value ss s.word) ≡ Some v)
-    by_first true f k = (r.value, refl)
-    by_first false f k = k
+first_static (r ∷ ss) (suc i) s e = (elim (r.word == s.word) as (λ (b : Bool). (r.word == s.word) ≡ b → (v : ℕ) × (static_value ss s.word ≡ Some v) → (v : ℕ) × ((if b then Some r.value else static_value ss s.word) ≡ Some v))
+    [ true ↦ λ f k. (r.value, refl) | false ↦ λ f k. k ]) refl (first_static ss i s e)
 
 -- ---- all places
 
@@ -140,16 +135,15 @@ module _ (p : Program) (q : Plain) (apart : LieApart p q.objects q.statics q.nex
 
   -- behind the monitor records, and below the number for the next reference
   pub place_low : (x v : ℕ) → value_at q x ≡ Some v → (FIRST_READY_WORD ≤ x) × (x < q.next)
-  place_low x v e = by_place (found_place x v e)
-    where
-      by_place : IsIn q.objects x v ⊎ IsAt q.statics x v → (FIRST_READY_WORD ≤ x) × (x < q.next)
-      by_place (inl k) =
-          let l = lies_inside k.object x v k.has in
-          (omega (arith, apart.begin k.index k.object k.there, l.0), omega (arith, apart.below k.index k.object k.there, l.1))
-      by_place (inr k) =
-          let low = apart.statics_begin k.index k.static k.there in
-          let high = (apart.statics_below k.index k.static k.there).0 in
-          (omega (arith, low, k.word), omega (arith, high, k.word))
+  place_low x v e = elim (found_place x v e) [
+    | inl k ↦
+        let l = lies_inside k.object x v k.has in
+        (omega (arith, apart.begin k.index k.object k.there, l.0), omega (arith, apart.below k.index k.object k.there, l.1))
+    | inr k ↦
+        let low = apart.statics_begin k.index k.static k.there in
+        let high = (apart.statics_below k.index k.static k.there).0 in
+        (omega (arith, low, k.word), omega (arith, high, k.word))
+  ]
 
   other_object : (i j : ℕ) (o e : Object) (x : ℕ) → slice_get q.objects i ≡ Some o → slice_get q.objects j ≡ Some e → i ≢ j → o.reference ≤ x → x < object_end o → (x < e.reference) ⊎ (object_end e ≤ x)
   other_object i j o e x f g n from to = elim (apart.beside i j o e f g n) [ inl h ↦ inl (omega (arith, h, to)) | inr h ↦ inr (omega (arith, h, from)) ]
@@ -165,17 +159,16 @@ module _ (p : Program) (q : Plain) (apart : LieApart p q.objects q.statics q.nex
       there = contained_got q.objects o c
 
       by_place : IsIn q.objects o.reference v ⊎ IsAt q.statics o.reference v → ⊥
-      by_place (inl k) = by_index (same_or_not c.0 k.index)
-        where
-          by_index : (c.0 ≡ k.index) ⊎ (c.0 ≢ k.index) → ⊥
-          by_index (inl same) =
-              let one : o ≡ k.object = same_some (sym there ∙ ap (slice_get q.objects) same ∙ k.there) in
-              let l = lies_inside k.object o.reference v k.has in
-              omega (arith, l.0, ap (λ (z : Object). z.reference) one)
-          by_index (inr n) =
-              let l = lies_inside k.object o.reference v k.has in
-              (elim (other_object c.0 k.index o k.object o.reference there k.there n (omega arith) (omega arith)) as (λ _. k.object.reference < o.reference → o.reference < object_end k.object → ⊥)
-              [ inl h ↦ λ a b. omega (arith, h, a) | inr h ↦ λ a b. omega (arith, h, b) ]) l.0 l.1
+      by_place (inl k) = elim (same_or_not c.0 k.index) [
+        | inl same ↦
+            let one : o ≡ k.object = same_some (sym there ∙ ap (slice_get q.objects) same ∙ k.there) in
+            let l = lies_inside k.object o.reference v k.has in
+            omega (arith, l.0, ap (λ (z : Object). z.reference) one)
+        | inr n ↦
+            let l = lies_inside k.object o.reference v k.has in
+            (elim (other_object c.0 k.index o k.object o.reference there k.there n (omega arith) (omega arith)) as (λ _. k.object.reference < o.reference → o.reference < object_end k.object → ⊥)
+            [ inl h ↦ λ a b. omega (arith, h, a) | inr h ↦ λ a b. omega (arith, h, b) ]) l.0 l.1
+      ]
       by_place (inr k) = elim (apart.mixed c.0 k.index o k.static there k.there) [ inl h ↦ omega (arith, h, k.word) | inr h ↦ omega (arith, h, k.word) ]
 
   -- a place of an object has its value

@@ -132,9 +132,6 @@ module _ (memory : InstructionsChangeMemory) (turn : Turn) (after : Plain) (got 
   open turn use {c, q, t, x as s}
   open own turn use {plain as x, here as there}
 
-  abbrev bit : ℕ → Bool
-  bit = has_wait_bit (references_of q.objects) turn.s.words t
-
   abbrev at_phase : Phase → Thread
   at_phase phase = record s { attempt = None; phase = phase }
 
@@ -149,11 +146,8 @@ module _ (memory : InstructionsChangeMemory) (turn : Turn) (after : Plain) (got 
 
   by_effect : (at : Top) (e : Effect) → effect_at c.program at ≡ e → x.status ≡ plain.Run → top_of c.program x.frames ≡ Some at → plain_run c.program q (steps_of t (history.instruction_acts (at_phase phases.Run) e got)) ≡ Some after
       → after.prints ≡ with_printed t q.prints (option_map (λ (p : Print). p.value) (effect_print (at_phase phases.Run) e got))
-  by_effect at (Indexes array index stored) is status top run = by_test (nat_lt (low index) (header_length got)) run
-    where
-      by_test : (b : Bool) → plain_run c.program q (steps_of t (cond b [] (acts.Do ∷ []))) ≡ Some after → after.prints ≡ q.prints
-      by_test true r = others [] r tt
-      by_test false r = instruction at [] status top r tt ∙ ap (λ (e : Effect). with_printed t q.prints (value_of e)) is
+  by_effect at (Indexes array index stored) is status top run = (elim (nat_lt (low index) (header_length got)) as (λ (b : Bool). plain_run c.program q (steps_of t (cond b [] (acts.Do ∷ []))) ≡ Some after → after.prints ≡ q.prints)
+      [ true ↦ λ r. others [] r tt | false ↦ λ r. instruction at [] status top r tt ∙ ap (λ (e : Effect). with_printed t q.prints (value_of e)) is ]) run
   by_effect at (Prints n) is status top run = by_test (has_print_left s) run
     where
       by_test : (b : Bool) → plain_run c.program q (steps_of t (act_if b acts.Do)) ≡ Some after → after.prints ≡ with_printed t q.prints (option_map (λ (p : Print). p.value) (cond b (Some (record { ticket = got; value = int_of n })) None))
@@ -163,11 +157,10 @@ module _ (memory : InstructionsChangeMemory) (turn : Turn) (after : Plain) (got 
     where
       by_held : (o : Option Held) → plain_run c.program q (steps_of t (history.notify_acts o (acts.Notify None))) ≡ Some after → after.prints ≡ q.prints
       by_held None r = instruction at [] status top r tt ∙ ap (λ (e : Effect). with_printed t q.prints (value_of e)) is
-      by_held (Some h) r = by_kept h.kept r
-        where
-          by_kept : (k : Kept) → plain_run c.program q (steps_of t (notified_by k (acts.Notify None))) ≡ Some after → after.prints ≡ q.prints
-          by_kept (keeps.Flat n) r = instruction at (acts.Notify None ∷ []) status top r (refl, tt) ∙ ap (λ (e : Effect). with_printed t q.prints (value_of e)) is
-          by_kept (keeps.Fat i) r = instruction at [] status top r tt ∙ ap (λ (e : Effect). with_printed t q.prints (value_of e)) is
+      by_held (Some h) r = (elim h.kept as (λ (k : Kept). plain_run c.program q (steps_of t (notified_by k (acts.Notify None))) ≡ Some after → after.prints ≡ q.prints) [
+        | keeps.Flat n ↦ λ r. instruction at (acts.Notify None ∷ []) status top r (refl, tt) ∙ ap (λ (e : Effect). with_printed t q.prints (value_of e)) is
+        | keeps.Fat i ↦ λ r. instruction at [] status top r tt ∙ ap (λ (e : Effect). with_printed t q.prints (value_of e)) is
+      ]) r
   by_effect at (NotifiesAll m) is status top run = by_held (held_at s.held m) run
     where
       by_held : (o : Option Held) → plain_run c.program q (steps_of t (history.notify_acts o acts.NotifyAll)) ≡ Some after → after.prints ≡ q.prints
@@ -201,17 +194,14 @@ module _ (memory : InstructionsChangeMemory) (turn : Turn) (after : Plain) (got 
       runs_not : plain.Throw r class ≡ plain.Run → ⊥
       runs_not e = cc
 
-  pub printed_at : (phase : Phase) → StatusFits bit (at_phase phase) phase x.status → x.frames ≡ frames_shown phase s.frames → ElementShows c.program phase s.frames
+  pub printed_at : (phase : Phase) → StatusFits (has_wait_bit (references_of q.objects) turn.s.words t) (at_phase phase) phase x.status → x.frames ≡ frames_shown phase s.frames → ElementShows c.program phase s.frames
       → plain_run c.program q (steps_of t (acts_of c (at_phase phase) phase got)) ≡ Some after
       → after.prints ≡ with_printed t q.prints (option_map (λ (p : Print). p.value) (new_print c.program (at_phase phase) phase got))
   printed_at phases.Run status frames shows run = by_top (top_of c.program s.frames) (ap (top_of c.program) frames) status run
   printed_at (phases.Element word stored) status frames shows run = element (top_of c.program s.frames) (ap (top_of c.program) frames) shows status run
   printed_at (phases.Throw r class) status frames shows run = thrown r class status run
-  printed_at (phases.Enter m number) status frames shows run = by_held (held_at s.held m) run
-    where
-      by_held : (o : Option Held) → plain_run c.program q (steps_of t (history.enter_acts (claim_by m o None))) ≡ Some after → after.prints ≡ q.prints
-      by_held None r = others [] r tt
-      by_held (Some h) r = others (acts.Enter ∷ []) r (refl, tt)
+  printed_at (phases.Enter m number) status frames shows run = (elim (held_at s.held m) as (λ (o : Option Held). plain_run c.program q (steps_of t (history.enter_acts (claim_by m o None))) ≡ Some after → after.prints ≡ q.prints)
+      [ None ↦ λ r. others [] r tt | Some h ↦ λ r. others (acts.Enter ∷ []) r (refl, tt) ]) run
   printed_at (phases.Take m count) status frames shows run = others _ run (other_if (got == word_of_lock (locks.Free count)) acts.Enter refl)
   printed_at (phases.TakeFat m r) status frames shows run = others _ run (other_if (got == 0) acts.Enter refl)
   printed_at (phases.Leave m a) status frames shows run = by_held (held_at s.held m) run

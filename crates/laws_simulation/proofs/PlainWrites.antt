@@ -146,14 +146,11 @@ got_unset (w ∷ vs) (suc i) (suc j) v n = got_unset vs i j v (λ e. n (ap suc e
 other_in : (o : Object) (x v y : ℕ) → has_value o x ≡ true → y ≢ x → value_in (record o { values = slice_set o.values (x - first_value o) v }) y ≡ value_in o y
 other_in o x v y has n = ap (λ (k : ℕ). value_by o.class o.reference k y (slice_get (slice_set o.values (x - first_value o) v) (y - first_value o))) (length-set o.values (x - first_value o) v) ∙ by_header (y == header_word o.reference)
   where
-    by_has : (b : Bool) → has_value o y ≡ b → (if b then slice_get (slice_set o.values (x - first_value o) v) (y - first_value o) else None) ≡ (if b then slice_get o.values (y - first_value o) else None)
-    by_has true e = got_unset o.values (x - first_value o) (y - first_value o) v (λ (same : y - first_value o ≡ x - first_value o). n (grind (arith, nat_tests, same, e, has)))
-    by_has false e = refl
-
     by_header : (b : Bool) → (if b then Some (header_of o) else if has_value o y then slice_get (slice_set o.values (x - first_value o) v) (y - first_value o) else None)
         ≡ (if b then Some (header_of o) else if has_value o y then slice_get o.values (y - first_value o) else None)
     by_header true = refl
-    by_header false = by_has (has_value o y) refl
+    by_header false = (elim (has_value o y) as (λ (b : Bool). has_value o y ≡ b → (if b then slice_get (slice_set o.values (x - first_value o) v) (y - first_value o) else None) ≡ (if b then slice_get o.values (y - first_value o) else None))
+        [ true ↦ λ e. got_unset o.values (x - first_value o) (y - first_value o) v (λ (same : y - first_value o ≡ x - first_value o). n (grind (arith, nat_tests, same, e, has))) | false ↦ λ e. refl ]) refl
 
 -- every other place is as it was
 pub other_value : (os : List Object) (x v y : ℕ) → y ≢ x → object_value (object_write os x v) y ≡ object_value os y
@@ -188,19 +185,13 @@ here_in : (o : Object) (x v : ℕ) → has_value o x ≡ true → x ≢ header_w
 here_in o x v has n =
     ap (λ (k : ℕ). value_by o.class o.reference k x (slice_get (slice_set o.values (x - first_value o) v) (x - first_value o))) (length-set o.values (x - first_value o) v) ∙ by_header (x == header_word o.reference) refl
   where
-    lower : x - first_value o < length o.values
-    lower = grind (arith, nat_tests, has)
-
     by_header : (b : Bool) → (x == header_word o.reference) ≡ b → (if b then Some (header_of o) else if has_value o x then slice_get (slice_set o.values (x - first_value o) v) (x - first_value o) else None) ≡ Some v
     by_header true e = absurd (n (grind (arith, nat_tests, e)))
-    by_header false e = ap (λ (b : Bool). if b then slice_get (slice_set o.values (x - first_value o) v) (x - first_value o) else None) has ∙ got_set o.values (x - first_value o) v lower
+    by_header false e = ap (λ (b : Bool). if b then slice_get (slice_set o.values (x - first_value o) v) (x - first_value o) else None) has ∙ got_set o.values (x - first_value o) v (grind (arith, nat_tests, has))
 
 not_in : (o : Object) (x : ℕ) → has_value o x ≡ false → x ≢ header_word o.reference → value_in o x ≡ None
-not_in o x has n = by_header (x == header_word o.reference) refl
-  where
-    by_header : (b : Bool) → (x == header_word o.reference) ≡ b → (if b then Some (header_of o) else if has_value o x then slice_get o.values (x - first_value o) else None) ≡ None
-    by_header true e = absurd (n (grind (arith, nat_tests, e)))
-    by_header false e = ap (λ (b : Bool). if b then slice_get o.values (x - first_value o) else None) has
+not_in o x has n = (elim (x == header_word o.reference) as (λ (b : Bool). (x == header_word o.reference) ≡ b → (if b then Some (header_of o) else if has_value o x then slice_get o.values (x - first_value o) else None) ≡ None)
+    [ true ↦ λ e. absurd (n (grind (arith, nat_tests, e))) | false ↦ λ e. ap (λ (b : Bool). if b then slice_get o.values (x - first_value o) else None) has ]) refl
 
 here_value : (os : List Object) (x v : ℕ) → NoHeader os x → IsOrNone (object_value (object_write os x v) x) v
 here_value [] x v n = inl refl

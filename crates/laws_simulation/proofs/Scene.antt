@@ -36,15 +36,14 @@ module _ (turn : Turn) where
 
   pub awake : (phase : Phase) → was t ≡ phase → ((r : ℕ) → MayWait phase r → ⊥)
       → IsAwake (has_wait_bit (references_of q.objects) s.words t)
-  awake phase e none m = by_test (has_wait_bit (references_of q.objects) s.words t m) refl
-    where
-      by_test : (b : Bool) → has_wait_bit (references_of q.objects) s.words t m ≡ b → b ≡ false
-      by_test true f =
-          let k = bit_in (references_of q.objects) s.words t m f in
-          let fat : lock_at (references_of objects) s.words m ≡ locks.Fat k.r = sym (same_lock c.program objects s q beside.known beside.others facts.heap.new_objects m) ∙ k.fat in
-          let waits = facts.waiting.each t x here in
-          absurd (none k.r (subst (λ (z : Phase). MayWait z k.r) e (waits.only k.r (facts.owners.locks_are.below m k.r fat).1 k.set)))
-      by_test false f = refl
+  awake phase e none m = (elim (has_wait_bit (references_of q.objects) s.words t m) as (λ (b : Bool). has_wait_bit (references_of q.objects) s.words t m ≡ b → b ≡ false) [
+    | true ↦ λ f.
+        let k = bit_in (references_of q.objects) s.words t m f in
+        let fat : lock_at (references_of objects) s.words m ≡ locks.Fat k.r = sym (same_lock c.program objects s q beside.known beside.others facts.heap.new_objects m) ∙ k.fat in
+        let waits = facts.waiting.each t x here in
+        absurd (none k.r (subst (λ (z : Phase). MayWait z k.r) e (waits.only k.r (facts.owners.locks_are.below m k.r fat).1 k.set)))
+    | false ↦ λ f. refl
+  ]) refl
 
   -- the phase that counts of a thread that no limit ended
   pub counts_as : (phase : Phase) → x.phase ≡ phase → IsAs phase (was t)

@@ -76,21 +76,20 @@ module _ {turn : Turn} {phase : Phase} (k : Moment turn phase) where
       [ None ↦ λ f stands. f | Some a ↦ λ f stands. absurd stands.inside ]) refl (subst (λ (f : Phase). AttemptStandsIn c f z.frames z.held z.attempt) e (turn.facts.structure u z g).attempt)
 
   pub asleep : (u : ℕ) (z : Thread) (m r : ℕ) → u ≢ t → slice_get s.threads u ≡ Some z → HasFat objects s.words t m r x → is_bit_set s.words r u ≡ true → IsAsleep c objects was q u z m r
-  asleep u z m r d g fat set = by_phase (was u) refl ((turn.facts.waiting.each u z g).only r fat.low set)
-    where
-      by_phase : (f : Phase) → was u ≡ f → MayWait f r → IsAsleep c objects was q u z m r
-      by_phase (phases.WaitOut n i) e one =
-          let stands : Stands c (phases.WaitOut n i) z.frames z.held z.attempt = subst (λ (f : Phase). Stands c f z.frames z.held z.attempt) e (turn.facts.structure u z g).stands in
-          let other : HasFat objects s.words u n i z = owning k u z n i g stands.phase_shows.1 in
-          let owner : owner_at s.words r ≡ u + 1 = ap (owner_at s.words) one ∙ other.owner in
-          let own : owner_at s.words r ≡ t + 1 = fat.owner in
-          absurd (d (omega (arith, owner, own)))
-      by_phase (phases.WaitLook n i depth) e one =
-          let knows : lock_at (references_of objects) s.words n ≡ locks.Fat i = subst (λ (f : Phase). Knows (locks_in (references_of objects) s.words) u f) e (turn.facts.owners.each u z g).knows in
-          let same : n ≡ m = fat_one k n m r (knows ∙ ap locks.Fat (sym one)) fat.lock in
-          let at : was u ≡ phases.WaitLook m r depth = e ∙ ap (λ (j : ℕ). phases.WaitLook j i depth) same ∙ ap (λ (j : ℕ). phases.WaitLook m j depth) (sym one) in
-          record { depth = depth; looks = at; limit = subst (IsAs z.phase) at (turn.facts.structure u z g).is_as; free = outside u z m r depth g at }
-      by_phase f e one = absurd one
+  asleep u z m r d g fat set = (elim (was u) as (λ (f : Phase). was u ≡ f → MayWait f r → IsAsleep c objects was q u z m r) [
+    | phases.WaitOut n i ↦ λ e one.
+        let stands : Stands c (phases.WaitOut n i) z.frames z.held z.attempt = subst (λ (f : Phase). Stands c f z.frames z.held z.attempt) e (turn.facts.structure u z g).stands in
+        let other : HasFat objects s.words u n i z = owning k u z n i g stands.phase_shows.1 in
+        let owner : owner_at s.words r ≡ u + 1 = ap (owner_at s.words) one ∙ other.owner in
+        let own : owner_at s.words r ≡ t + 1 = fat.owner in
+        absurd (d (omega (arith, owner, own)))
+    | phases.WaitLook n i depth ↦ λ e one.
+        let knows : lock_at (references_of objects) s.words n ≡ locks.Fat i = subst (λ (f : Phase). Knows (locks_in (references_of objects) s.words) u f) e (turn.facts.owners.each u z g).knows in
+        let same : n ≡ m = fat_one k n m r (knows ∙ ap locks.Fat (sym one)) fat.lock in
+        let at : was u ≡ phases.WaitLook m r depth = e ∙ ap (λ (j : ℕ). phases.WaitLook j i depth) same ∙ ap (λ (j : ℕ). phases.WaitLook m j depth) (sym one) in
+        record { depth = depth; looks = at; limit = subst (IsAs z.phase) at (turn.facts.structure u z g).is_as; free = outside u z m r depth g at }
+    | f ↦ λ e one. absurd one
+  ]) refl ((turn.facts.waiting.each u z g).only r fat.low set)
 
   -- its plain thread, which waits
   pub sleeper : (u : ℕ) (z : Thread) (w : PlainThread) (m r : ℕ) → slice_get s.threads u ≡ Some z → slice_get q.threads u ≡ Some w → HasFat objects s.words t m r x → is_bit_set s.words r u ≡ true → IsAsleep c objects was q u z m r

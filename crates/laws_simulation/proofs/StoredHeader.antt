@@ -29,13 +29,12 @@ module _ (scene : Scene) (a word : ℕ) (made : scene.x.phase ≡ phases.Made a 
   stands = subst (λ (r : ℕ). value_at q (header_word r) ≡ Some word) own.reference (value_of_header c.program q scene.beside.apart own.object own.there ∙ ap Some own.header)
 
   here_or_other : (r : ℕ) → IsBeingMade s.threads r → IsAmong later r ⊎ IsBeingMade (slice_set s.threads t new) r
-  here_or_other r k = by_thread (same_or_not k.0 t)
-    where
-      by_thread : (k.0 ≡ t) ⊎ (k.0 ≢ t) → IsAmong later r ⊎ IsBeingMade (slice_set s.threads t new) r
-      by_thread (inl same) =
-          let one : x ≡ k.1 = same_some (sym scene.here ∙ (ap (slice_get s.threads) (sym same) ∙ k.3)) in
-          inl (new_object a word (size_by c.program word), contains_first (new_object a word (size_by c.program word)) objects, made_as x k.1 a r word k.2 one made k.4)
-      by_thread (inr d) = inr (k.0, k.1, k.2, got_other s.threads t k.0 new d ∙ k.3, k.4)
+  here_or_other r k = elim (same_or_not k.0 t) [
+    | inl same ↦
+        let one : x ≡ k.1 = same_some (sym scene.here ∙ (ap (slice_get s.threads) (sym same) ∙ k.3)) in
+        inl (new_object a word (size_by c.program word), contains_first (new_object a word (size_by c.program word)) objects, made_as x k.1 a r word k.2 one made k.4)
+    | inr d ↦ inr (k.0, k.1, k.2, got_other s.threads t k.0 new d ∙ k.3, k.4)
+  ]
 
   by_object : (e : Object) → IsAmong objects e.reference ⊎ IsBeingMade s.threads e.reference → IsAmong later e.reference ⊎ IsBeingMade (slice_set s.threads t new) e.reference
   by_object e (inl h) = inl ((h.0, contains_more (new_object a word (size_by c.program word)) objects h.0 h.1, h.2))
@@ -43,13 +42,12 @@ module _ (scene : Scene) (a word : ℕ) (made : scene.x.phase ≡ phases.Made a 
 
   -- a header that is pending still, but for this one
   pending : (n : ℕ) → n ≢ header_word a → IsPending s.threads n → IsPending (slice_set s.threads t new) n
-  pending n d k = by_thread (same_or_not k.0 t)
-    where
-      by_thread : (k.0 ≡ t) ⊎ (k.0 ≢ t) → IsPending (slice_set s.threads t new) n
-      by_thread (inl same) =
-          let one : x ≡ k.1 = same_some (sym scene.here ∙ (ap (slice_get s.threads) (sym same) ∙ k.4)) in
-          absurd (d (k.6 ∙ ap header_word (sym (made_as x k.1 a k.2 word k.3 one made k.5))))
-      by_thread (inr e) = (k.0, k.1, k.2, k.3, got_other s.threads t k.0 new e ∙ k.4, k.5, k.6)
+  pending n d k = elim (same_or_not k.0 t) [
+    | inl same ↦
+        let one : x ≡ k.1 = same_some (sym scene.here ∙ (ap (slice_get s.threads) (sym same) ∙ k.4)) in
+        absurd (d (k.6 ∙ ap header_word (sym (made_as x k.1 a k.2 word k.3 one made k.5))))
+    | inr e ↦ (k.0, k.1, k.2, k.3, got_other s.threads t k.0 new e ∙ k.4, k.5, k.6)
+  ]
 
   by_place : (n u : ℕ) → value_at q n ≡ Some u → (IsPending (slice_set s.threads t new) n → ⊥) → (n ≡ header_word a) ⊎ (n ≢ header_word a) → slice_index (slice_set s.words (header_word a) word) n ≡ u
   by_place n u e free (inl same) =

@@ -108,15 +108,14 @@ module _ (turn : Turn) (begins : IsAtEffect IsOfWaiting turn.c turn.x) where
       thin_if_flat t (lock_at (references_of objects) s.words m) (owner_at s.words) holds r (sym (lock_same k m) ∙ g)
 
   nobody : (m count : ℕ) (h : Held) (status : Status) → held_at x.held m ≡ Some h → h.kept ≡ keeps.Flat count → ((depth : ℕ) → status ≢ plain.Waiting m depth) → NobodyWaits (slice_set q.threads t (Leaves status)) m
-  nobody m count h status e f other u w depth g is = by_thread (same_or_not u t)
-    where
-      by_thread : (u ≡ t) ⊎ (u ≢ t) → ⊥
-      by_thread (inl same) =
-          let here : slice_get (slice_set q.threads t (Leaves status)) t ≡ Some w = subst (λ (i : ℕ). slice_get (slice_set q.threads t (Leaves status)) i ≡ Some w) same g in
-          let there : slice_get (slice_set q.threads t (Leaves status)) t ≡ Some (Leaves status) = got_when_set q.threads t y (Leaves status) twin in
-          let one : Leaves status ≡ w = cc in
-          other depth (ap (λ (v : PlainThread). v.status) one ∙ is)
-      by_thread (inr d) = nobody_on_thin c.program s q m turn.beside.agrees (thin m count h e f) u w depth (sym (got_other q.threads t u (Leaves status) d) ∙ g) is
+  nobody m count h status e f other u w depth g is = elim (same_or_not u t) [
+    | inl same ↦
+        let here : slice_get (slice_set q.threads t (Leaves status)) t ≡ Some w = subst (λ (i : ℕ). slice_get (slice_set q.threads t (Leaves status)) i ≡ Some w) same g in
+        let there : slice_get (slice_set q.threads t (Leaves status)) t ≡ Some (Leaves status) = got_when_set q.threads t y (Leaves status) twin in
+        let one : Leaves status ≡ w = cc in
+        other depth (ap (λ (v : PlainThread). v.status) one ∙ is)
+    | inr d ↦ nobody_on_thin c.program s q m turn.beside.agrees (thin m count h e f) u w depth (sym (got_other q.threads t u (Leaves status) d) ∙ g) is
+  ]
 
   -- the notification is a second step
   second : (status : Status) (act : Act) (e : Effect) → effect_at c.program at ≡ e → instructed_by c.program q t y at e ≡ Some (with_thread q t (Leaves status))
@@ -130,7 +129,12 @@ module _ (turn : Turn) (begins : IsAtEffect IsOfWaiting turn.c turn.x) where
   -- ---- the three
 
   does_wait : (m : ℕ) → effect_at c.program at ≡ Waits m → StepsBeside c objects s t x q
-  does_wait m is = by_held (held_at x.held m) refl
+  does_wait m is = (elim (held_at x.held m) as (λ (o : Option Held). held_at x.held m ≡ o → StepsBeside c objects s t x q) [
+    | None ↦ λ e. by_effect (Waits m) is refl (acts.Do ∷ []) Thrower (with_thread q t PlainThrower) refl
+        (ap (λ (o : Option Held). if_held (begun x) at o (waits Done m)) e)
+        (one_act (Waits m) is PlainThrower (ap (λ (w : PlainThread). Some (with_thread q t w)) (not_holding m (Leaves (plain.Wait m)) e))) thrown
+    | Some h ↦ λ e. by_kept h h.kept e refl
+  ]) refl
     where
       by_kept : (h : Held) (kept : Kept) → held_at x.held m ≡ Some h → h.kept ≡ kept → StepsBeside c objects s t x q
       by_kept h (keeps.Flat count) e f = by_effect (Waits m) is refl (acts.Do ∷ []) (record Done { phase = phases.Grow m towards.Wait; turns = 0 }) (with_thread q t (Leaves (plain.Wait m))) refl
@@ -142,14 +146,14 @@ module _ (turn : Turn) (begins : IsAtEffect IsOfWaiting turn.c turn.x) where
           (one_act (Waits m) is (Leaves (plain.Wait m)) (ap (λ (w : PlainThread). Some (with_thread q t w)) (holding m h (Leaves (plain.Wait m)) e)))
           (done_with (phases.WaitBit m r) 0 (plain.Wait m) (λ a word g. cc) refl refl refl refl)
 
-      by_held : (o : Option Held) → held_at x.held m ≡ o → StepsBeside c objects s t x q
-      by_held None e = by_effect (Waits m) is refl (acts.Do ∷ []) Thrower (with_thread q t PlainThrower) refl
-          (ap (λ (o : Option Held). if_held (begun x) at o (waits Done m)) e)
-          (one_act (Waits m) is PlainThrower (ap (λ (w : PlainThread). Some (with_thread q t w)) (not_holding m (Leaves (plain.Wait m)) e))) thrown
-      by_held (Some h) e = by_kept h h.kept e refl
-
   does_notify : (m : ℕ) → effect_at c.program at ≡ Notifies m → StepsBeside c objects s t x q
-  does_notify m is = by_held (held_at x.held m) refl
+  does_notify m is = (elim (held_at x.held m) as (λ (o : Option Held). held_at x.held m ≡ o → StepsBeside c objects s t x q) [
+    | None ↦ λ e. by_effect (Notifies m) is refl (acts.Do ∷ []) Thrower (with_thread q t PlainThrower)
+        (ap (λ (o : Option Held). notify_acts o (acts.Notify None)) e)
+        (ap (λ (o : Option Held). if_held (begun x) at o (notifies Done (phases.NotifyLook m))) e)
+        (one_act (Notifies m) is PlainThrower (ap (λ (w : PlainThread). Some (with_thread q t w)) (not_holding m (Leaves (plain.Notify m)) e))) thrown
+    | Some h ↦ λ e. by_kept h h.kept e refl
+  ]) refl
     where
       held_step : (h : Held) → held_at x.held m ≡ Some h → instructed_by c.program q t y at (Notifies m) ≡ Some (with_thread q t (Leaves (plain.Notify m)))
       held_step h e = ap (λ (w : PlainThread). Some (with_thread q t w)) (holding m h (Leaves (plain.Notify m)) e)
@@ -169,15 +173,14 @@ module _ (turn : Turn) (begins : IsAtEffect IsOfWaiting turn.c turn.x) where
           (one_act (Notifies m) is (Leaves (plain.Notify m)) (held_step h e))
           (done_with (phases.NotifyLook m r) x.turns (plain.Notify m) (λ a word g. cc) refl refl refl refl)
 
-      by_held : (o : Option Held) → held_at x.held m ≡ o → StepsBeside c objects s t x q
-      by_held None e = by_effect (Notifies m) is refl (acts.Do ∷ []) Thrower (with_thread q t PlainThrower)
-          (ap (λ (o : Option Held). notify_acts o (acts.Notify None)) e)
-          (ap (λ (o : Option Held). if_held (begun x) at o (notifies Done (phases.NotifyLook m))) e)
-          (one_act (Notifies m) is PlainThrower (ap (λ (w : PlainThread). Some (with_thread q t w)) (not_holding m (Leaves (plain.Notify m)) e))) thrown
-      by_held (Some h) e = by_kept h h.kept e refl
-
   does_notify_all : (m : ℕ) → effect_at c.program at ≡ NotifiesAll m → StepsBeside c objects s t x q
-  does_notify_all m is = by_held (held_at x.held m) refl
+  does_notify_all m is = (elim (held_at x.held m) as (λ (o : Option Held). held_at x.held m ≡ o → StepsBeside c objects s t x q) [
+    | None ↦ λ e. by_effect (NotifiesAll m) is refl (acts.Do ∷ []) Thrower (with_thread q t PlainThrower)
+        (ap (λ (o : Option Held). notify_acts o acts.NotifyAll) e)
+        (ap (λ (o : Option Held). if_held (begun x) at o (notifies Done (phases.NotifyAll m))) e)
+        (one_act (NotifiesAll m) is PlainThrower (ap (λ (w : PlainThread). Some (with_thread q t w)) (not_holding m (Leaves (plain.NotifyAll m)) e))) thrown
+    | Some h ↦ λ e. by_kept h h.kept e refl
+  ]) refl
     where
       held_step : (h : Held) → held_at x.held m ≡ Some h → instructed_by c.program q t y at (NotifiesAll m) ≡ Some (with_thread q t (Leaves (plain.NotifyAll m)))
       held_step h e = ap (λ (w : PlainThread). Some (with_thread q t w)) (holding m h (Leaves (plain.NotifyAll m)) e)
@@ -196,13 +199,6 @@ module _ (turn : Turn) (begins : IsAtEffect IsOfWaiting turn.c turn.x) where
       by_kept h (keeps.Fat r) e f = by_effect (NotifiesAll m) is refl (acts.Do ∷ []) (with_phase Done (phases.NotifyAll m r)) (with_thread q t (Leaves (plain.NotifyAll m))) (told h (keeps.Fat r) e f) (moves h (keeps.Fat r) e f)
           (one_act (NotifiesAll m) is (Leaves (plain.NotifyAll m)) (held_step h e))
           (done_with (phases.NotifyAll m r) x.turns (plain.NotifyAll m) (λ a word g. cc) refl refl refl refl)
-
-      by_held : (o : Option Held) → held_at x.held m ≡ o → StepsBeside c objects s t x q
-      by_held None e = by_effect (NotifiesAll m) is refl (acts.Do ∷ []) Thrower (with_thread q t PlainThrower)
-          (ap (λ (o : Option Held). notify_acts o acts.NotifyAll) e)
-          (ap (λ (o : Option Held). if_held (begun x) at o (notifies Done (phases.NotifyAll m))) e)
-          (one_act (NotifiesAll m) is PlainThrower (ap (λ (w : PlainThread). Some (with_thread q t w)) (not_holding m (Leaves (plain.NotifyAll m)) e))) thrown
-      by_held (Some h) e = by_kept h h.kept e refl
 
   pub does_one : (e : Effect) → effect_at c.program at ≡ e → IsOfWaiting e → StepsBeside c objects s t x q
   does_one (Waits m) is h = does_wait m is

@@ -1,6 +1,6 @@
 -- A thread that waits: it sets its bit, gives the monitor up, looks at its bit, and takes the monitor back.
-use Rattle.std.proofs.Common.{◌≡◌, ◌≢◌, inr, ℕ, ◌+◌, nat_lt, Bool, true, false, cond, List, [], ◌∷◌, Some, None, refl, sym, ap, ◌∙◌, arith, slice_get, slice_index, slice_set, ◌==◌, bit_or, if◌then◌else◌}
-use Rattle.std.proofs.lemmas.Bool.{ne_eqb, Decides.nat_tests}
+use Rattle.std.proofs.Common.{◌≡◌, ◌≢◌, inl, inr, ℕ, ◌+◌, nat_lt, Bool, true, false, cond, List, [], ◌∷◌, Some, None, refl, sym, ap, ◌∙◌, arith, slice_get, slice_index, slice_set, ◌==◌, bit_or, if◌then◌else◌}
+use Rattle.std.proofs.lemmas.Bool.{cases_Bool, ne_eqb, Decides.nat_tests}
 use Rattle.jvm_types.specs.{Numbers.has_flag, declared.fixed_words.TheConstants.MONITOR_RECORDS}
 use Rattle.machine_types.specs.{Agreement.{has_wait_bit, waiting_status, depth_for}, Going.{with_phase, failed_turn}, HeldMonitors.{held_at, with_held, without_held}, History.act_if}
 use Rattle.machine_types.specs.{Monitors.{bit_of, goes_to_wait, retakes}, Owners.{lock_at, owner_at, references_of, hold_by_list, hold_by_word, NotHeld, HeldFat}}
@@ -138,7 +138,10 @@ module _ {turn : Turn} where
       status = own_status k ∙ ap (λ (b : Bool). waiting_status b m depth) (bit_now k t m r (knows k (phases.WaitLook m r depth) (own_as k)) ∙ e)
 
   pub looked : (m r depth : ℕ) → Moment turn (phases.WaitLook m r depth) → StepsBeside c objects s t x q
-  looked m r depth k = by_bit (is_bit_set s.words r t) refl
+  looked m r depth k = elim (cases_Bool (is_bit_set s.words r t)) [
+    | inl e ↦ stepped k s.words (failed_turn x (phases.WaitLook m r depth)) [] q refl refl (set_self s.words (bits_word r)) (moves true e) refl (look_on m r depth k e (nat_lt (x.turns + 1) x.cfg.turns))
+    | inr e ↦ stepped k s.words (with_phase x (phases.Retake m r depth)) [] q refl refl (set_self s.words (bits_word r)) (moves false e) refl (to_retake m r depth k e)
+  ]
     where
       after : Bool → Thread
       after b = cond b (failed_turn x (phases.WaitLook m r depth)) (with_phase x (phases.Retake m r depth))
@@ -146,10 +149,6 @@ module _ {turn : Turn} where
       moves : (b : Bool) → is_bit_set s.words r t ≡ b → cond (has_flag (bit_of x.number) (slice_index s.words (bits_word r))) (failed_turn x (phases.WaitLook m r depth)) (with_phase x (phases.Retake m r depth))
           ≡ cond b (failed_turn x (phases.WaitLook m r depth)) (with_phase x (phases.Retake m r depth))
       moves b e = ap (λ (d : Bool). cond d (failed_turn x (phases.WaitLook m r depth)) (with_phase x (phases.Retake m r depth))) (ap (λ (n : ℕ). has_flag (bit_of n) (slice_index s.words (bits_word r))) (own_number k) ∙ e)
-
-      by_bit : (b : Bool) → is_bit_set s.words r t ≡ b → StepsBeside c objects s t x q
-      by_bit true e = stepped k s.words (failed_turn x (phases.WaitLook m r depth)) [] q refl refl (set_self s.words (bits_word r)) (moves true e) refl (look_on m r depth k e (nat_lt (x.turns + 1) x.cfg.turns))
-      by_bit false e = stepped k s.words (with_phase x (phases.Retake m r depth)) [] q refl refl (set_self s.words (bits_word r)) (moves false e) refl (to_retake m r depth k e)
 
   -- ---- it takes the monitor back
 
@@ -224,11 +223,10 @@ module _ {turn : Turn} where
       off n = kept t n ∙ own_off k s.words (same_words s.words) (λ i f. f) (phases.Retake m r depth) (own_as k) (λ i f. f) n
 
   pub took_back : (m r depth : ℕ) → Moment turn (phases.Retake m r depth) → StepsBeside c objects s t x q
-  took_back m r depth k = by_test (slice_index s.words (owner_word r) == 0) refl
-    where
-      by_test : (b : Bool) → (slice_index s.words (owner_word r) == 0) ≡ b → StepsBeside c objects s t x q
-      by_test true e = retook m r depth k e
-      by_test false e = stepped k s.words (failed_turn x (phases.Retake m r depth)) [] q refl (ap (λ (b : Bool). act_if b acts.Retake) e)
-          (ap (λ (b : Bool). slice_set s.words (owner_word r) (if b then x.number + 1 else slice_index s.words (owner_word r))) e ∙ set_self s.words (owner_word r))
-          (ap (λ (b : Bool). cond b (retakes x m r depth) (failed_turn x (phases.Retake m r depth))) e) refl
-          (not_retaken m r depth k (nat_lt (x.turns + 1) x.cfg.turns))
+  took_back m r depth k = elim (cases_Bool (slice_index s.words (owner_word r) == 0)) [
+    | inl e ↦ retook m r depth k e
+    | inr e ↦ stepped k s.words (failed_turn x (phases.Retake m r depth)) [] q refl (ap (λ (b : Bool). act_if b acts.Retake) e)
+        (ap (λ (b : Bool). slice_set s.words (owner_word r) (if b then x.number + 1 else slice_index s.words (owner_word r))) e ∙ set_self s.words (owner_word r))
+        (ap (λ (b : Bool). cond b (retakes x m r depth) (failed_turn x (phases.Retake m r depth))) e) refl
+        (not_retaken m r depth k (nat_lt (x.turns + 1) x.cfg.turns))
+  ]

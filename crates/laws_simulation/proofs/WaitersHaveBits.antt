@@ -65,13 +65,12 @@ ending_waits bit held ends.Turns status m depth f w = limit_waits bit status _ m
 ending_waits bit held e status m depth f w = cc
 
 pub status_waits : (bit : ℕ → Bool) (x : Thread) (phase : Phase) (status : Status) (m depth : ℕ) → StatusFits bit x phase status → status ≡ plain.Waiting m depth → bit m ≡ true
-status_waits bit x (phases.WaitLook n r k) status m depth f w = by_test (bit n) refl f
-  where
-    by_test : (b : Bool) → bit n ≡ b → status ≡ waiting_status b n k → bit m ≡ true
-    by_test true e g =
-        let same : plain.Waiting n k ≡ plain.Waiting m depth = sym g ∙ w in
-        let one : n ≡ m = cc in ap bit (sym one) ∙ e
-    by_test false e g = cc
+status_waits bit x (phases.WaitLook n r k) status m depth f w = (elim (bit n) as (λ (b : Bool). bit n ≡ b → status ≡ waiting_status b n k → bit m ≡ true) [
+  | true ↦ λ e g.
+      let same : plain.Waiting n k ≡ plain.Waiting m depth = sym g ∙ w in
+      let one : n ≡ m = cc in ap bit (sym one) ∙ e
+  | false ↦ λ e g. cc
+]) refl f
 status_waits bit x (phases.Ending e) status m depth f w = ending_waits bit x.held e status m depth f w
 status_waits bit x (phases.Ended e) status m depth f w = ending_waits bit x.held e status m depth f w
 status_waits bit x phases.Start status m depth f w = absurd (start_waits x.part status m depth f w)

@@ -1,5 +1,6 @@
 -- A write of a lock word, of the owner of a monitor record or of the next record leaves all words that the plain machine knows of.
-use Rattle.std.proofs.{Common.{◌≡◌, ◌≢◌, ℕ, ◌<◌, ◌≤◌, Bool, true, false, cond, Some, refl, sym, ap, ◌∙◌, subst, arith, slice_index, slice_set, ◌==◌}, lemmas.Bool.Decides.Decides-eqb}
+use Rattle.std.proofs.{Common.{◌≡◌, ◌≢◌, inl, inr, ℕ, ◌<◌, ◌≤◌, Bool, true, false, cond, Some, refl, sym, ap, ◌∙◌, subst, arith, slice_index, slice_set, ◌==◌}, lemmas.Bool.Decides.Decides-eqb}
+use Rattle.std.proofs.lemmas.Bool.{cases_Bool}
 use Rattle.jvm_types.specs.{Numbers.has_number, declared.fixed_words.TheConstants.{FIRST_READY_WORD, MONITOR_RECORDS, NEXT_FREE_WORD, NEXT_RECORD_WORD, NEXT_TICKET_WORD}}
 use Rattle.machine_types.specs.{Agreement.has_wait_bit, LockWords.lock_of, Owners.{Locks, lock_at, references_of}, PlainState.value_at, StartLaws.StartLiesApart, Waiting.is_bit_set}
 use Rattle.machine_types.{specs.{Words.{bits_word, owner_word}, declared.lock.LockWord.LockWord}, proofs.AttemptsPlain.size_two}
@@ -45,21 +46,19 @@ module _ (scene : Scene) where
   -- a lock that was no fat one, and becomes none
   bits_when_thin : (n value : ℕ) → HasObject objects n → ((r : ℕ) → lock_at (references_of objects) s.words n ≢ locks.Fat r) → ((r : ℕ) → lock_of value ≢ locks.Fat r)
       → (t m : ℕ) → has_wait_bit (references_of objects) (slice_set s.words n value) t m ≡ has_wait_bit (references_of objects) s.words t m
-  bits_when_thin n value k was now t m = by_test (n == m) refl
-    where
-      by_test : (b : Bool) → (n == m) ≡ b → has_wait_bit (references_of objects) (slice_set s.words n value) t m ≡ has_wait_bit (references_of objects) s.words t m
-      by_test true e = ap (λ (l : LockWord). bit_by l (slice_set s.words n value) t) (lock_after n value m true k e) ∙ thin_bit (lock_of value) (slice_set s.words n value) t now ∙ sym (here_bit n t m e was)
-      by_test false e = else_bit n value t m k e
+  bits_when_thin n value k was now t m = elim (cases_Bool (n == m)) [
+    | inl e ↦ ap (λ (l : LockWord). bit_by l (slice_set s.words n value) t) (lock_after n value m true k e) ∙ thin_bit (lock_of value) (slice_set s.words n value) t now ∙ sym (here_bit n t m e was)
+    | inr e ↦ else_bit n value t m k e
+  ]
 
   -- a lock that becomes fat, with a record where nobody waits
   bits_when_fat : (n value r : ℕ) → HasObject objects n → ((k : ℕ) → lock_at (references_of objects) s.words n ≢ locks.Fat k) → lock_of value ≡ locks.Fat r → r < MONITOR_RECORDS → ((t : ℕ) → is_bit_set s.words r t ≡ false)
       → (t m : ℕ) → has_wait_bit (references_of objects) (slice_set s.words n value) t m ≡ has_wait_bit (references_of objects) s.words t m
-  bits_when_fat n value r k was now l none t m = by_test (n == m) refl
-    where
-      by_test : (b : Bool) → (n == m) ≡ b → has_wait_bit (references_of objects) (slice_set s.words n value) t m ≡ has_wait_bit (references_of objects) s.words t m
-      by_test true e = same_bit (locks.Fat r) _ s.words (slice_set s.words n value) t (lock_after n value m true k e ∙ now) (λ j f. bits_apart (LockOf n) value j k (λ g. cc) (let one : r ≡ j = cc in subst (λ (i : ℕ). i < MONITOR_RECORDS) one l))
-          ∙ none t ∙ sym (here_bit n t m e was)
-      by_test false e = else_bit n value t m k e
+  bits_when_fat n value r k was now l none t m = elim (cases_Bool (n == m)) [
+    | inl e ↦ same_bit (locks.Fat r) _ s.words (slice_set s.words n value) t (lock_after n value m true k e ∙ now) (λ j f. bits_apart (LockOf n) value j k (λ g. cc) (let one : r ≡ j = cc in subst (λ (i : ℕ). i < MONITOR_RECORDS) one l))
+        ∙ none t ∙ sym (here_bit n t m e was)
+    | inr e ↦ else_bit n value t m k e
+  ]
 
 -- ---- all words that the plain machine knows of
 

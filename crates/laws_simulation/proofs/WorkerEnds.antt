@@ -1,6 +1,7 @@
 -- No worker keeps how an earlier part ended.
-use Rattle.std.proofs.Common.{◌≡◌, ℕ, zero, suc, ◌+◌, Bool, true, false, cond, List, [], ◌∷◌, map, Option, Some, None, refl, sym, ap, ◌∙◌, arith, ◌==◌, slice_get, slice_set}
+use Rattle.std.proofs.Common.{◌≡◌, inl, inr, ℕ, zero, suc, ◌+◌, Bool, true, false, cond, List, [], ◌∷◌, map, Option, Some, None, refl, sym, ap, ◌∙◌, arith, ◌==◌, slice_get, slice_set}
 use Rattle.std.{specs.List.range_with_len, proofs.lemmas.Bool.Decides.Decides-eqb}
+use Rattle.std.proofs.lemmas.Bool.{cases_Bool}
 use Rattle.lists.proofs.ListLaws.{same_some}
 use Rattle.jvm_types.specs.declared.program.Program.{Program}
 use Rattle.checked_program.specs.MarkedProgram.{MarkedProgram}
@@ -12,14 +13,13 @@ use Rattle.laws_simulation.specs.OutcomeLaws.{WorkersKeepNone, EventsKeepNone, N
 -- ---- an event
 
 kept_by : (given : GivenIsKept) (c : MarkedProgram) (s : Core) (t : ℕ) (x : Thread) (got : ℕ) → slice_get s.threads t ≡ Some x → WorkersKeepNone s.threads → WorkersKeepNone (slice_set s.threads t (moved c x x.phase got))
-kept_by given c s t x got there h u z e some = by_number (u == t) refl
-  where
-    by_number : (b : Bool) → (u == t) ≡ b → z.first ≡ None
-    by_number true d =
-        let same = (Decides-eqb u t).0 d in
-        let is : moved c x x.phase got ≡ z = same_some (sym (got_when_set s.threads t x (moved c x x.phase got) there) ∙ ap (slice_get (slice_set s.threads t (moved c x x.phase got))) (sym same) ∙ e) in
-        sym (ap (λ (w : Thread). w.first) is) ∙ ap (λ (g : Given). g.first) (given c x x.phase got) ∙ h u x (ap (slice_get s.threads) same ∙ there) some
-    by_number false d = h u z (sym (set_other s.threads t u (moved c x x.phase got) d) ∙ e) some
+kept_by given c s t x got there h u z e some = elim (cases_Bool (u == t)) [
+  | inl d ↦
+      let same = (Decides-eqb u t).0 d in
+      let is : moved c x x.phase got ≡ z = same_some (sym (got_when_set s.threads t x (moved c x x.phase got) there) ∙ ap (slice_get (slice_set s.threads t (moved c x x.phase got))) (sym same) ∙ e) in
+      sym (ap (λ (w : Thread). w.first) is) ∙ ap (λ (g : Given). g.first) (given c x x.phase got) ∙ h u x (ap (slice_get s.threads) same ∙ there) some
+  | inr d ↦ h u z (sym (set_other s.threads t u (moved c x x.phase got) d) ∙ e) some
+]
 
 pub events_keep_none : GivenIsKept → EventsKeepNone
 events_keep_none given c s t h = (elim (slice_get s.threads t) as (λ (o : Option Thread). slice_get s.threads t ≡ o → WorkersKeepNone (event_of c s t o).threads)
