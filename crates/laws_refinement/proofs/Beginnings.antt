@@ -110,9 +110,6 @@ module _ (entering : Entering) (m count : ℕ) (due : IsAttemptDue entering.c en
         turns = refl;
       }
 
-  below_last : nat_lt count x.cfg.range ≡ true
-  below_last = lt-ltb count x.cfg.range (subst (λ (k : Config). count < k.range) (sym settings) due.not_last)
-
   moves : moved c x x.phase (found_by s.words (wanted c x x.phase)) ≡ begins x x.frames m count (due.tried + 1)
   moves = by_found (found_by s.words (wanted c x x.phase)) (ap lock_of (at_entry c s x m due.tried due.enters due.outside due.not_held ∙ due.is_free) ∙ lock_of_word (locks.Free count))
     where
@@ -122,7 +119,7 @@ module _ (entering : Entering) (m count : ℕ) (due : IsAttemptDue entering.c en
           ∙ ap (λ (q : Claim). enter_moves x m due.tried (may_try c x due.tried) q got) (claims_none x m due.outside due.not_held)
           ∙ ap (λ (b : Bool). enter_moves x m due.tried b HasNot got) may
           ∙ ap (tries x m due.tried) free
-          ∙ ap (λ (b : Bool). cond b (begins x x.frames m count (due.tried + 1)) (with_phase x (phases.Acquire m))) below_last
+          ∙ ap (λ (b : Bool). cond b (begins x x.frames m count (due.tried + 1)) (with_phase x (phases.Acquire m))) (lt-ltb count x.cfg.range (subst (λ (k : Config). count < k.range) (sym settings) due.not_last))
 
   begun : HasBegunAttempt c x (moved c x x.phase (found_by s.words (wanted c x x.phase))) failed m count
   begun = subst (λ (y : Thread). HasBegunAttempt c x y failed m count) (sym moves) (begun_at x.frames refl)

@@ -65,11 +65,10 @@ module _ (x y : Thread) (a : Attempt) (failed : ℕ) (few : failed ≤ 2) (numbe
 -- ---- an event
 
 pub event_counted : (c : MarkedProgram) (x : Thread) (got failed : ℕ) → ((a : Attempt) → x.attempt ≡ Some a → Inside c x a) → Counts x failed → Counts (moved c x x.phase got) (failed_after c x x.attempt got failed)
-event_counted c x got failed inside k = by_attempt x.attempt refl
-  where
-    by_attempt : (o : Option Attempt) → x.attempt ≡ o → Counts (moved c x x.phase got) (failed_after c x o got failed)
-    by_attempt None e = outside_counted c x (moved c x x.phase got) got failed (moved c x x.phase got).attempt refl (outside_moves c x got e x.phase refl)
-        (subst (λ (o : Option Attempt). KeepsCount o x.phase failed) e k.kept) k.few
-    by_attempt (Some a) e =
-        let kept = subst (λ (o : Option Attempt). KeepsCount o x.phase failed) e k.kept in
-        inside_counted x (moved c x x.phase got) a failed k.few kept.0 kept.1 (fate c x a x.phase got) (inside_moves c x a (inside a e) got)
+event_counted c x got failed inside k = (elim x.attempt as (λ (o : Option Attempt). x.attempt ≡ o → Counts (moved c x x.phase got) (failed_after c x o got failed)) [
+  | None ↦ λ e. outside_counted c x (moved c x x.phase got) got failed (moved c x x.phase got).attempt refl (outside_moves c x got e x.phase refl)
+      (subst (λ (o : Option Attempt). KeepsCount o x.phase failed) e k.kept) k.few
+  | Some a ↦ λ e.
+      let kept = subst (λ (o : Option Attempt). KeepsCount o x.phase failed) e k.kept in
+      inside_counted x (moved c x x.phase got) a failed k.few kept.0 kept.1 (fate c x a x.phase got) (inside_moves c x a (inside a e) got)
+]) refl

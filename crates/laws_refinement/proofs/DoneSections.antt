@@ -35,7 +35,11 @@ passed false e = absurd (cc)
 
 by_claim : (x : Thread) (a : Attempt) (m : ℕ) (b : After) (got : ℕ) (o : Option Held) → held_at x.held m ≡ o → x.attempt ≡ Some a → leave_fate (claim_by m o x.attempt) got ≡ Finishes → IsDone x a (phases.Leave m b) got
 by_claim x a m b got (Some h) h_is tries e = absurd (cc)
-by_claim x a m b got None none tries e = by_monitor (a.monitor == m) refl (subst (λ (k : Option Attempt). leave_fate (claim_by m None k) got ≡ Finishes) tries e)
+by_claim x a m b got None none tries e = (elim (a.monitor == m) as (λ (d : Bool). (a.monitor == m) ≡ d → leave_fate (cond d (Tries a) HasNot) got ≡ Finishes → IsDone x a (phases.Leave m b) got) [
+  | true ↦ λ k f. on_it ((Decides-eqb a.monitor m).0 k) (nat_lt 0 a.inner) refl f
+      (ap (λ (h : Option Held). claim_by m h x.attempt) none ∙ ap (λ (r : Option Attempt). claim_by m None r) tries ∙ ap (λ (d : Bool). cond d (Tries a) HasNot) k)
+  | false ↦ λ k f. absurd (cc)
+]) refl (subst (λ (k : Option Attempt). leave_fate (claim_by m None k) got ≡ Finishes) tries e)
   where
     on_it : a.monitor ≡ m → (d : Bool) → nat_lt 0 a.inner ≡ d → cond d GoesOn (fate_by (is_same a got) Finishes) ≡ Finishes → (claim x m ≡ Tries a) → IsDone x a (phases.Leave m b) got
     on_it same true k f g = absurd (cc)
@@ -46,11 +50,6 @@ by_claim x a m b got None none tries e = by_monitor (a.monitor == m) refl (subst
       outermost = grind (arith, nat_tests, k);
       same = passed (is_same a got) f;
     }
-
-    by_monitor : (d : Bool) → (a.monitor == m) ≡ d → leave_fate (cond d (Tries a) HasNot) got ≡ Finishes → IsDone x a (phases.Leave m b) got
-    by_monitor true k f = on_it ((Decides-eqb a.monitor m).0 k) (nat_lt 0 a.inner) refl f
-        (ap (λ (h : Option Held). claim_by m h x.attempt) none ∙ ap (λ (r : Option Attempt). claim_by m None r) tries ∙ ap (λ (d : Bool). cond d (Tries a) HasNot) k)
-    by_monitor false k f = absurd (cc)
 
 pub is_done : (c : MarkedProgram) (x : Thread) (a : Attempt) (phase : Phase) (got : ℕ) → x.attempt ≡ Some a → fate c x a phase got ≡ Finishes → IsDone x a phase got
 is_done c x a phases.Run got tries e = absurd (never_runs c a (top_of c.program x.frames) got e)

@@ -1,6 +1,7 @@
 -- An event brings no thread to life, and leaves the part of thread 0.
-use Rattle.std.proofs.Common.{◌≡◌, ◌≢◌, ℕ, zero, suc, Bool, true, false, List, [], ◌∷◌, Option, Some, None, refl, sym, ap, subst, ◌∙◌, arith, ◌==◌, slice_get, slice_set}
+use Rattle.std.proofs.Common.{◌≡◌, inl, inr, ◌≢◌, ℕ, zero, suc, Bool, true, false, List, [], ◌∷◌, Option, Some, None, refl, sym, ap, subst, ◌∙◌, arith, ◌==◌, slice_get, slice_set}
 use Rattle.std.proofs.lemmas.Bool.Decides.{nat_tests}
+use Rattle.std.proofs.lemmas.Bool.{cases_Bool}
 use Rattle.checked_program.specs.MarkedProgram.{MarkedProgram}
 use Rattle.machine_types.{specs.{Accesses.found_by, Core.{Core, event, event_of, is_live_thread, lives}, Events.{moved, wanted}, Threads.Thread}, proofs.{Lists.got_other, OnlyLive.only_live_change}}
 use Rattle.laws_threads.specs.GivenThread.{Given, GivenIsKept}
@@ -16,13 +17,12 @@ other_lives c s t u n None e = refl
 other_lives c s t u n (Some x) e = ap is_live_thread (got_other s.threads t u (now c s x) n)
 
 pub none_wakes : (c : MarkedProgram) (s : Core) (t u : ℕ) → lives s u ≡ false → lives (event c s t) u ≡ false
-none_wakes c s t u dead = by_same (u == t) refl
-  where
-    by_same : (b : Bool) → (u == t) ≡ b → lives (event c s t) u ≡ false
-    by_same true e =
-        let same : u ≡ t = grind (arith, nat_tests, e) in
-        ap (λ (r : Core). lives r u) (only_live_change c s t (ap (lives s) (sym same) ∙ dead)) ∙ dead
-    by_same false e = other_lives c s t u (λ same. let no : ⊥ = grind (arith, nat_tests, e, same) in no) (slice_get s.threads t) refl ∙ dead
+none_wakes c s t u dead = elim (cases_Bool (u == t)) [
+  | inl e ↦
+      let same : u ≡ t = grind (arith, nat_tests, e) in
+      ap (λ (r : Core). lives r u) (only_live_change c s t (ap (lives s) (sym same) ∙ dead)) ∙ dead
+  | inr e ↦ other_lives c s t u (λ same. let no : ⊥ = grind (arith, nat_tests, e, same) in no) (slice_get s.threads t) refl ∙ dead
+]
 
 -- ---- the part of thread 0
 

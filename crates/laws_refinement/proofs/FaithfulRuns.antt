@@ -123,15 +123,14 @@ module _ (beginning : Beginning) where
     -- it is the one that moved, or another that is as it was
     by_thread : (P : ℕ → Thread → Type 0) → P t (moved c x x.phase (found_of c s x)) → ((u : ℕ) (z : Thread) → (u == t) ≡ false → slice_get s.threads u ≡ Some z → P u z)
         → (u : ℕ) (z : Thread) → slice_get (event c s t).threads u ≡ Some z → P u z
-    by_thread P here other u z e = by_number (u == t) refl (ap (λ (threads : List Thread). slice_get threads u) (sym (ap (λ (o : Option Thread). (event_of c s t o).threads) there)) ∙ e)
-      where
-        by_number : (b : Bool) → (u == t) ≡ b → slice_get (slice_set s.threads t (moved c x x.phase (found_of c s x))) u ≡ Some z → P u z
-        by_number true d f =
-            let same = (Decides-eqb u t).0 d in
-            let is : moved c x x.phase (found_of c s x) ≡ z = same_some (sym (got_when_set s.threads t x (moved c x x.phase (found_of c s x)) there)
-            ∙ ap (slice_get (slice_set s.threads t (moved c x x.phase (found_of c s x)))) (sym same) ∙ f) in
-            subst (λ (n : ℕ). P n z) (sym same) (subst (λ (v : Thread). P t v) is here)
-        by_number false d f = other u z d (sym (got_other s.threads t u (moved c x x.phase (found_of c s x)) d) ∙ f)
+    by_thread P here other u z e = (elim (u == t) as (λ (b : Bool). (u == t) ≡ b → slice_get (slice_set s.threads t (moved c x x.phase (found_of c s x))) u ≡ Some z → P u z) [
+      | true ↦ λ d f.
+          let same = (Decides-eqb u t).0 d in
+          let is : moved c x x.phase (found_of c s x) ≡ z = same_some (sym (got_when_set s.threads t x (moved c x x.phase (found_of c s x)) there)
+          ∙ ap (slice_get (slice_set s.threads t (moved c x x.phase (found_of c s x)))) (sym same) ∙ f) in
+          subst (λ (n : ℕ). P n z) (sym same) (subst (λ (v : Thread). P t v) is here)
+      | false ↦ λ d f. other u z d (sym (got_other s.threads t u (moved c x x.phase (found_of c s x)) d) ∙ f)
+    ]) refl (ap (λ (threads : List Thread). slice_get threads u) (sym (ap (λ (o : Option Thread). (event_of c s t o).threads) there)) ∙ e)
 
     apart : (u t : ℕ) → (u == t) ≡ false → u ≢ t
     apart u t d e = absurd (grind (arith, nat_tests, d, e))
@@ -274,11 +273,10 @@ module _ (beginning : Beginning) where
 
   one_of : (w : Told) (steps : List PlainStep) (t : ℕ) → Follows w.core w.pasts steps
       → Follows (event c w.core t) (pasts_after c w t (slice_get w.core.threads t)) (steps ++ shown_of c w t (slice_get w.core.threads t))
-  one_of w steps t l = by_thread_of (slice_get w.core.threads t) refl
-    where
-      by_thread_of : (o : Option Thread) → slice_get w.core.threads t ≡ o → Follows (event c w.core t) (pasts_after c w t o) (steps ++ shown_of c w t o)
-      by_thread_of None e = subst (λ (s : Core). Follows s w.pasts (steps ++ [])) (sym (ap (event_of c w.core t) e)) (subst (λ (ss : List PlainStep). Follows w.core w.pasts ss) (sym (append-nil steps)) l)
-      by_thread_of (Some x) e = goes_on w.core w.pasts steps l t x e
+  one_of w steps t l = (elim (slice_get w.core.threads t) as (λ (o : Option Thread). slice_get w.core.threads t ≡ o → Follows (event c w.core t) (pasts_after c w t o) (steps ++ shown_of c w t o)) [
+    | None ↦ λ e. subst (λ (s : Core). Follows s w.pasts (steps ++ [])) (sym (ap (event_of c w.core t) e)) (subst (λ (ss : List PlainStep). Follows w.core w.pasts ss) (sym (append-nil steps)) l)
+    | Some x ↦ λ e. goes_on w.core w.pasts steps l t x e
+  ]) refl
 
   one : (w : Told) (steps : List PlainStep) (h : Happening) → Follows w.core w.pasts steps → Follows (told c w h).core (told c w h).pasts (steps ++ shown c w h)
   one w steps (Of t) l = one_of w steps t l

@@ -24,11 +24,10 @@ use Rattle.machine_types.specs.declared.phase.Phase.TheVariants as phases
 -- ---- holdings: the monitor is free before and behind, and the others are as they were
 
 same_behind : (hs : List Holding) (m t inner n : ℕ) → holding_at hs m ≡ None → holding_at (holdings_behind hs m t inner) n ≡ holding_at hs n
-same_behind hs m t inner n free = by_monitor (same_or_not m n)
-  where
-    by_monitor : (m ≡ n) ⊎ (m ≢ n) → holding_at (holdings_behind hs m t inner) n ≡ holding_at hs n
-    by_monitor (inl e) = subst (λ (i : ℕ). holding_at (holdings_behind hs m t inner) i ≡ holding_at hs i) e (none_left m _ ∙ sym free)
-    by_monitor (inr d) = without_else n m _ d ∙ put_else n (hold m t (suc inner)) _ d ∙ put_else n (hold m t 1) hs d
+same_behind hs m t inner n free = elim (same_or_not m n) [
+  | inl e ↦ subst (λ (i : ℕ). holding_at (holdings_behind hs m t inner) i ≡ holding_at hs i) e (none_left m _ ∙ sym free)
+  | inr d ↦ without_else n m _ d ∙ put_else n (hold m t (suc inner)) _ d ∙ put_else n (hold m t 1) hs d
+]
 
 module _ (differ : SitesDiffer) (player : Player) (d : IsDone player.x player.a player.x.phase (found_by player.s.words (wanted player.c player.x player.x.phase))) where
   open player use {states, c, objects, was, s, t, x, a, q, marked, facts, beside, here as there, tries}
@@ -101,12 +100,9 @@ module _ (differ : SitesDiffer) (player : Player) (d : IsDone player.x player.a 
     alike : OwnFits c.program (has_bit player) behind (plain.plain_goes_on (at_end x a (was t) n twin.ended) goes.0)
     alike = going_alike c.program (has_bit player) awake (elided x) (at_end x a (was t) n twin.ended) goes.0 (under_way n)
 
-    fits_behind : (b : Option Attempt) → b ≡ None → ThreadFits c.program (has_bit player) behind b (plain.plain_goes_on (at_end x a (was t) n twin.ended) goes.0)
-    fits_behind b e = subst (λ (o : Option Attempt). ThreadFits c.program (has_bit player) behind o (plain.plain_goes_on (at_end x a (was t) n twin.ended) goes.0)) (sym e) alike.outside
-
     stands_then : StandsBeside c.program objects (record { words = s.words; threads = slice_set s.threads t behind }) after_all
     stands_then = moved_beside player.member s.words behind (holdings_behind q.holdings a.monitor t a.inner) (plain.plain_goes_on (at_end x a (was t) n twin.ended) goes.0) q.prints (record {
-      fits = fits_behind behind.attempt (goes_attempt (elided x) goes.0);
+      fits = subst (λ (o : Option Attempt). ThreadFits c.program (has_bit player) behind o (plain.plain_goes_on (at_end x a (was t) n twin.ended) goes.0)) (sym (goes_attempt (elided x) goes.0)) alike.outside;
       ended = alike.ended;
       places = λ i v e. refl;
       next = refl;

@@ -86,9 +86,6 @@ module _ (fit : HeapWordsFit) (allowed : EffectsAreAllowed) (its : Event) (d : P
     same_words : (event c s t).words ≡ s.words
     same_words = ap (λ (r : Core). r.words) event_is ∙ words_stay s.words c x a (inside_of trying)
 
-    stays_after : (n : ℕ) → StaysNow trying n → Stays c own_after.stores (objects_after c.program s t objects) later (next_free (event c s t)) t a.monitor n
-    stays_after = still_stays its t (stays_own its) a.monitor
-
     nothing_owed : (past : Past) → past.due ≡ [] → past.pending ≡ 0 → after.attempt ≡ None → OwesAfter after.attempt past
     nothing_owed past due pending none = subst (λ (o : Option Attempt). OwesAfter o past) (sym none) (record { due = due; pending = pending })
 
@@ -100,7 +97,7 @@ module _ (fit : HeapWordsFit) (allowed : EffectsAreAllowed) (its : Event) (d : P
           g.begun d.pending,
           λ noted memory has ended.
               let was_noted : IsAsNoted s.words a = subst (λ (words : List ℕ). slice_index words a.monitor ≡ word_of_lock (locks.Free a.noted)) same_words noted in
-              let knows : Knows (StaysNow trying) s.words memory = λ n k. subst (λ (words : List ℕ). memory n ≡ Some (slice_index words n)) same_words (has n (stays_after n k)) in
+              let knows : Knows (StaysNow trying) s.words memory = λ n k. subst (λ (words : List ℕ). memory n ≡ Some (slice_index words n)) same_words (has n ((still_stays its t (stays_own its) a.monitor) n k)) in
               ap (replayed c.program a.monitor memory (d.due ++ acts)) (g.entry ended)
               ∙ replayed_more c.program a.monitor memory d.due acts (at_entry x a ended) (at_present x a (was t) d.pending ended) (owes.1 was_noted memory knows ended)
               ∙ g.replays memory knows d.pending owes.0 ended,

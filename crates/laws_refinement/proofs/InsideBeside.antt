@@ -32,9 +32,6 @@ pub record IsStill (p : Program) (objects : List Object) (phase : Phase) : Type 
   pub rests : phase ≡ phases.Ended ends.Returned → ⊥
   pub same : objects_by p phase objects ≡ objects
 
-not_finished : (e : End) → has_finished e ≡ false → e ≡ ends.Returned → ⊥
-not_finished e k same = let clash : true ≡ false = sym (ap has_finished same) ∙ k in cc
-
 by_end : (e : End) → has_finished e ≡ false → (if has_finished e then e ∷ [] else []) ≡ []
 by_end e k = ap (λ (b : Bool). if b then e ∷ [] else []) k
 
@@ -46,7 +43,7 @@ still_inside c objects x a (phases.Throw r class) k = record { own = refl; makes
 still_inside c objects x a (phases.Enter n tried) k = record { own = refl; makes = λ r word e. cc; rests = λ e. cc; same = refl }
 still_inside c objects x a (phases.Leave n b) k = record { own = refl; makes = λ r word e. cc; rests = λ e. cc; same = refl }
 still_inside c objects x a (phases.Ending e) k = record { own = by_end e k; makes = λ r word e. cc; rests = λ e. cc; same = refl }
-still_inside c objects x a (phases.Ended e) k = record { own = by_end e k; makes = λ r word e. cc; rests = λ same. not_finished e k (ended_by same); same = refl }
+still_inside c objects x a (phases.Ended e) k = record { own = by_end e k; makes = λ r word e. cc; rests = λ same. (let clash : true ≡ false = sym (ap has_finished (ended_by same)) ∙ k in cc); same = refl }
   where
     ended_by : phases.Ended e ≡ phases.Ended ends.Returned → e ≡ ends.Returned
     ended_by same = cc

@@ -118,11 +118,8 @@ module _ (p : Program) (base : ℕ) (f : Frame) (fs : List Frame) (at : Top) (k 
 
   -- the top frame goes on
   pub top_goes_on : (g : Frame) → base ≤ length fs → g.method ≡ f.method → f.pc < g.pc → 1 + all_ahead p base (g ∷ fs) ≤ all_ahead p base (f ∷ fs)
-  top_goes_on g based same later = by_test (nat_le base (length fs)) (grind (arith, nat_tests, based)) (goes_later g same later)
-    where
-      by_test : (b : Bool) → b ≡ true → suc (ahead p g) ≤ ahead p f → 1 + ((if b then ahead p g else 0) + all_ahead p base fs) ≤ (if b then ahead p f else 0) + all_ahead p base fs
-      by_test true e h = omega (arith, h)
-      by_test false e h = absurd (cc)
+  top_goes_on g based same later = (elim (nat_le base (length fs)) as (λ (b : Bool). b ≡ true → suc (ahead p g) ≤ ahead p f → 1 + ((if b then ahead p g else 0) + all_ahead p base fs) ≤ (if b then ahead p f else 0) + all_ahead p base fs)
+      [ true ↦ λ e h. omega (arith, h) | false ↦ λ e h. absurd (cc) ]) (grind (arith, nat_tests, based)) (goes_later g same later)
 
   -- or is left
   pub top_is_left : base ≤ length fs → 1 + all_ahead p base fs ≤ all_ahead p base (f ∷ fs)

@@ -119,13 +119,8 @@ module _ (c : MarkedProgram) (marked : IsMarked c) (x : Thread) (a : Attempt) (t
 
     indexes : (array index count : ℕ) → Lessens whole 1
         (indexed (begun x) at array index None count)
-    indexes array index count = by_test (nat_lt index count)
-      where
-        by_test : (b : Bool) → Lessens whole 1
-            (if b then with_phase (begun x) (phases.Element (value_word array index) None) else
-            goes_on (begun x) (threw ArrayIndexOutOfBoundsException at))
-        by_test true = comes (value_word array index)
-        by_test false = on (threw ArrayIndexOutOfBoundsException at) (omega (arith, left_behind))
+    indexes array index count = elim (nat_lt index count) as (λ (b : Bool). Lessens whole 1 (if b then with_phase (begun x) (phases.Element (value_word array index) None) else goes_on (begun x) (threw ArrayIndexOutOfBoundsException at)))
+        [ true ↦ comes (value_word array index) | false ↦ on (threw ArrayIndexOutOfBoundsException at) (omega (arith, left_behind)) ]
 
     does : (e : Effect) (got : ℕ) → is_checked at.frame.pc e ≡ false → MayDo c a.monitor at e → IsAllowed c.program at e → GoesOnBy c.program at e got → Lessens whole 1 (did c.program (begun x) at e got)
     does (Goes to made) got free may allowed some =

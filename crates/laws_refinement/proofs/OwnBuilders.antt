@@ -16,11 +16,10 @@ IsOwn w t r = (b : Builder) × (w r ≡ Some b) × (b.thread ≡ t)
 
 lost_own : (b : Builder) (t : ℕ) (o : Option Builder) (d : Builder) → lost_if b o ≡ Some d → d.thread ≡ t → (e : Builder) × (o ≡ Some e) × (e.thread ≡ t)
 lost_own b t None d e own = absurd (cc)
-lost_own b t (Some f) d e own = by_test (same_builder b f) e
-  where
-    by_test : (same : Bool) → (if same then Some (record f { item = Lost }) else Some f) ≡ Some d → (e : Builder) × (Some f ≡ Some e) × (e.thread ≡ t)
-    by_test true e = let one : record f { item = Lost } ≡ d = same_some e in (f, refl, ap (λ (g : Builder). g.thread) one ∙ own)
-    by_test false e = let one : f ≡ d = same_some e in (f, refl, ap (λ (g : Builder). g.thread) one ∙ own)
+lost_own b t (Some f) d e own = (elim (same_builder b f) as (λ (same : Bool). (if same then Some (record f { item = Lost }) else Some f) ≡ Some d → (e : Builder) × (Some f ≡ Some e) × (e.thread ≡ t)) [
+  | true ↦ λ e. let one : record f { item = Lost } ≡ d = same_some e in (f, refl, ap (λ (g : Builder). g.thread) one ∙ own)
+  | false ↦ λ e. let one : f ≡ d = same_some e in (f, refl, ap (λ (g : Builder). g.thread) one ∙ own)
+]) e
 
 made_own : (w : World) (t a r height : ℕ) (item : Option Item) (d : Builder) → IsOwn w t a → made_world w a t height item r ≡ Some d → d.thread ≡ t → IsOwn w t r
 made_own w t a r height (Some item) d new e own = (elim (r == a) as (λ (same : Bool). (r == a) ≡ same → (if same then Some (builder t height item) else lost_if (builder t height item) (w r)) ≡ Some d → IsOwn w t r)

@@ -36,11 +36,10 @@ module _ (may_do : InsideMayDo) (elements : ElementsInside) (c : MarkedProgram) 
   other u apart (Some x) e k = record { few = k.few; kept = λ y f. k.kept y (sym (got_other s.threads u t (moved c x x.phase (found_by s.words (wanted c x x.phase))) apart) ∙ f) }
 
   event_keeps : (u : ℕ) → HasFailedCount s t failed → HasFailedCount (event c s u) t (if u == t then failed_of c s (slice_get s.threads t) failed else failed)
-  event_keeps u k = by_number (u == t) refl
-    where
-      by_number : (b : Bool) → (u == t) ≡ b → HasFailedCount (event c s u) t (if b then failed_of c s (slice_get s.threads t) failed else failed)
-      by_number true e = subst (λ (n : ℕ). HasFailedCount (event c s n) t (failed_of c s (slice_get s.threads t) failed)) (sym ((Decides-eqb u t).0 e)) (own (slice_get s.threads t) refl k)
-      by_number false e = other u (λ k. eqb-false u t e (sym k)) (slice_get s.threads u) refl k
+  event_keeps u k = (elim (u == t) as (λ (b : Bool). (u == t) ≡ b → HasFailedCount (event c s u) t (if b then failed_of c s (slice_get s.threads t) failed else failed)) [
+    | true ↦ λ e. subst (λ (n : ℕ). HasFailedCount (event c s n) t (failed_of c s (slice_get s.threads t) failed)) (sym ((Decides-eqb u t).0 e)) (own (slice_get s.threads t) refl k)
+    | false ↦ λ e. other u (λ k. eqb-false u t e (sym k)) (slice_get s.threads u) refl k
+  ]) refl
 
 -- ---- the begin of a part
 

@@ -47,11 +47,8 @@ begun p (suc (suc n)) x workers t z may fits e = absurd (cc)
 
 pub came_from : (p : Program) (threads : List Thread) (t : ℕ) (z : Thread) → PartsFit threads → slice_get (next_threads p threads) t ≡ Some z → CameFrom threads t z
 came_from p [] t z fits e = record { old = z; there = e; same = as_it_is z z refl }
-came_from p (x ∷ workers) t z fits e = by_test (may_begin (x ∷ workers)) refl e
-  where
-    by_test : (b : Bool) → may_begin (x ∷ workers) ≡ b → slice_get (cond b (part_begins p x.part x workers) (x ∷ workers)) t ≡ Some z → CameFrom (x ∷ workers) t z
-    by_test true m f = begun p x.part x workers t z m fits f
-    by_test false m f = record { old = z; there = f; same = as_it_is z z refl }
+came_from p (x ∷ workers) t z fits e = (elim (may_begin (x ∷ workers)) as (λ (b : Bool). may_begin (x ∷ workers) ≡ b → slice_get (cond b (part_begins p x.part x workers) (x ∷ workers)) t ≡ Some z → CameFrom (x ∷ workers) t z)
+    [ true ↦ λ m f. begun p x.part x workers t z m fits f | false ↦ λ m f. record { old = z; there = f; same = as_it_is z z refl } ]) refl e
 
 pub counted_same : (x z : Thread) (d : Past) (runs takes : ℕ) → x.attempt ≡ None → SameCounts x z → CountsFit x d runs takes → CountsFit z d runs takes
 counted_same x z d runs takes outside same fit =

@@ -1,6 +1,6 @@
 -- Where a thread reads inside an attempt, the place stays as long as the monitor of the section is free.
 use Rattle.std.proofs.Common.{◌≡◌, ◌⊎◌, inl, inr, ℕ, ◌<◌, Bool, true, false, not, List, [], ◌∷◌, length, Option, Some, None, refl, sym, ap, ◌∙◌, subst, arith, ◌==◌, slice_get, slice_index, if◌then◌else◌}
-use Rattle.std.proofs.lemmas.Bool.{or_parts, Decides.nat_tests}
+use Rattle.std.proofs.lemmas.Bool.{cases_Bool, or_parts, Decides.nat_tests}
 use Rattle.lists.proofs.{ListLaws.same_some, TestLaws.is_true}
 use Rattle.jvm_types.specs.{ClassNames.file_of_class, CodeTable.get_row, Members.is_static, ProgramInvariant.{IsProgram, site_in}, Types.{TypeFrame, is_below}}
 use Rattle.jvm_types.specs.{Verifying.{suits, some_taken, some_read, mistypes}, declared.{code.{Insn.Insn, Op.Op}, fixed_words.TheConstants.NEXT_FREE_WORD, op_row.OpRow.OpRow, program.FieldInfo.FieldInfo}}
@@ -306,13 +306,12 @@ module _ (trying : Trying) (frames_keep : FramesKeep trying.c trying.frozen tryi
       field_stays = by_stay names.stays
 
     pub variable_stays : Stays c own.stores objects w next t a.monitor (variable_word v)
-    variable_stays = by_sort (is_static f.flags) refl
-      where
-        by_sort : (b : Bool) → is_static f.flags ≡ b → Stays c own.stores objects w next t a.monitor (variable_word v)
-        by_sort false sort = field_stays sort
-        by_sort true sort =
-            let static : v ≡ Static f.index = named.variable ∙ ap (λ (b : Bool). if b then Static f.index else Instance named.reference f.index) sort in
-            subst (λ (u : Variable). Stays c own.stores objects w next t a.monitor (variable_word u)) (sym static) (static_stays f.index (subst (MayRead c a.monitor) static may))
+    variable_stays = elim (cases_Bool (is_static f.flags)) [
+      | inl sort ↦
+          let static : v ≡ Static f.index = named.variable ∙ ap (λ (b : Bool). if b then Static f.index else Instance named.reference f.index) sort in
+          subst (λ (u : Variable). Stays c own.stores objects w next t a.monitor (variable_word u)) (sym static) (static_stays f.index (subst (MayRead c a.monitor) static may))
+      | inr sort ↦ field_stays sort
+    ]
 
   -- the header of an object
   pub header_stays : (class v : ℕ) → allowed.IsOf (HasClass objects) class v → Stays c own.stores objects w next t a.monitor (header_word v)

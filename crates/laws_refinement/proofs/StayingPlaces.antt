@@ -1,5 +1,6 @@
 -- The places that stay for a thread stay so after an event of another thread, and keep their words.
 use Rattle.std.proofs.Common.{◌≡◌, ◌≢◌, ◌⊎◌, inl, inr, ℕ, zero, suc, Bool, true, false, List, [], ◌∷◌, Option, Some, None, refl, sym, ap, ◌∙◌, subst, arith, slice_get, slice_index}
+use Rattle.std.proofs.lemmas.Bool.{cases_Bool}
 use Rattle.lists.proofs.ListLaws.{same_some}
 use Rattle.jvm_types.specs.{ClassNames.file_of_class, Members.{is_final, is_private, is_static}, declared.program.FieldInfo.FieldInfo}
 use Rattle.checked_program.specs.SectionLaws.{OwnedIsDecided}
@@ -66,15 +67,14 @@ module _ (its : Event) where
 
       -- a word stays, unless the thread is in no attempt and changes it
       unchanged : (place : ℕ) → (x.attempt ≡ None → ChangesWord place s (event c s t) → ⊥) → IsSame place
-      unchanged place never = by_attempt x.attempt refl
+      unchanged place never = (elim x.attempt as (λ (a : Option Attempt). x.attempt ≡ a → IsSame place) [
+        | None ↦ λ e. by_test e (same_or_not _ _)
+        | Some a ↦ λ e. ap (λ (words : List ℕ). slice_index words place) (event_words ∙ words_stay s.words c x a (is_inside may_do elements c its.marked x a e (was t) (facts.structure t x turns.thread)))
+      ]) refl
         where
           by_test : x.attempt ≡ None → IsSame place ⊎ ChangesWord place s (event c s t) → IsSame place
           by_test e (inl same) = same
           by_test e (inr changes) = absurd (never e changes)
-
-          by_attempt : (a : Option Attempt) → x.attempt ≡ a → IsSame place
-          by_attempt None e = by_test e (same_or_not _ _)
-          by_attempt (Some a) e = ap (λ (words : List ℕ). slice_index words place) (event_words ∙ words_stay s.words c x a (is_inside may_do elements c its.marked x a e (was t) (facts.structure t x turns.thread)))
 
       -- no `<init>` that another thread runs is on an object that this one knows
       not_made : (v class : ℕ) → IsOwnOrFinished w (next_free s) u v → is_frozen class ≡ true → x.attempt ≡ None → MakesObject c v x.frames → TopIsOf c.program class x.frames → ⊥

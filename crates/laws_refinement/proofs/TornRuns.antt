@@ -109,11 +109,10 @@ module _ (may_do : InsideMayDo) (elements : ElementsInside) (safe : RunsAreSafe)
     other u apart (Some y) e = as_it_was (event_of c s u (Some y)) (got_other s.threads u t (moved c y y.phase (found_by s.words (wanted c y y.phase))) apart ∙ there)
 
     one : (h : Happening) → IsTorn s.words a → Leaves a (left_of a x) (begun_by s t h) (happened c s h)
-    one (Of u) torn = by_number (u == t) refl
-      where
-        by_number : (b : Bool) → (u == t) ≡ b → Leaves a (left_of a x) (if b then begun_of (slice_get s.threads t) else 0) (happened c s (Of u))
-        by_number true e = subst (λ (v : ℕ). Leaves a (left_of a x) (begun_of (slice_get s.threads t)) (happened c s (Of v))) (sym ((Decides-eqb u t).0 e)) (own torn (slice_get s.threads t) refl)
-        by_number false e = other u (λ same. eqb-false u t e (sym same)) (slice_get s.threads u) refl
+    one (Of u) torn = (elim (u == t) as (λ (b : Bool). (u == t) ≡ b → Leaves a (left_of a x) (if b then begun_of (slice_get s.threads t) else 0) (happened c s (Of u))) [
+      | true ↦ λ e. subst (λ (v : ℕ). Leaves a (left_of a x) (begun_of (slice_get s.threads t)) (happened c s (Of v))) (sym ((Decides-eqb u t).0 e)) (own torn (slice_get s.threads t) refl)
+      | false ↦ λ e. other u (λ same. eqb-false u t e (sym same)) (slice_get s.threads u) refl
+    ]) refl
     one NextPart torn =
         let k = next_passed c.program s.threads t x there in
         (k.0, k.1, goes_on_with c.program a (left_of a x) 0 a.inner k.0 (k.2.attempt ∙ tries) (omega (arith, part_left c.program a.base x k.0 k.2)))
@@ -154,9 +153,6 @@ module _ (may_do : InsideMayDo) (elements : ElementsInside) (safe : RunsAreSafe)
 
 -- ---- the whole
 
-standing : (c : MarkedProgram) (was : Phase) (x : Thread) (a : Attempt) → IsStructured c was x → x.attempt ≡ Some a → AttemptStands c was x.frames x.held a
-standing c was x a k tries = subst (λ (o : Option Attempt). AttemptStandsIn c was x.frames x.held o) tries k.attempt
-
 fewer_below : (p : Program) (base : ℕ) (fs : List Frame) → all_ahead p base (drop 1 fs) ≤ all_ahead p base fs
 fewer_below p base [] = omega arith
 fewer_below p base (f ∷ fs) = omega arith
@@ -173,6 +169,6 @@ pub torn_runs_are_short : InsideMayDo → ElementsInside → RunsAreSafe → Apa
 torn_runs_are_short may_do elements safe apart never c cfg hs more t n a k torn reach =
     let x : Thread = k.thread in
     let at : IsSafe c (core c cfg hs) x = safe c cfg hs t x k.marked k.width k.settings k.there in
-    let whole = reached_ahead apart c n a reach at.lawful.was x.frames x.held (standing c at.lawful.was x a at.lawful.structured k.tries) in
+    let whole = reached_ahead apart c n a reach at.lawful.was x.frames x.held (subst (λ (o : Option Attempt). AttemptStandsIn c at.lawful.was x.frames x.held o) k.tries at.lawful.structured.attempt) in
     let few = each may_do elements safe c cfg k.marked k.width k.settings t never more hs x a k.there k.tries torn in
     omega (arith, few, all_within c.program a.base x.phase x.frames n whole)

@@ -1,6 +1,7 @@
 -- Each turn of a stage keeps what holds there, or comes to the next stage; and where no turn comes, the run is over.
-use Rattle.std.proofs.Common.{◌≡◌, ◌≤◌, ◌<◌, ℕ, zero, suc, ◌+◌, Bool, true, false, List, [], ◌∷◌, length, Option, Some, None, refl, sym, ap, subst, ◌∙◌, arith, nat_le, nat_lt, ◌&&◌, if◌then◌else◌, find, slice_get}
+use Rattle.std.proofs.Common.{◌≡◌, inl, inr, ◌≤◌, ◌<◌, ℕ, zero, suc, ◌+◌, Bool, true, false, List, [], ◌∷◌, length, Option, Some, None, refl, sym, ap, subst, ◌∙◌, arith, nat_le, nat_lt, ◌&&◌, if◌then◌else◌, find, slice_get}
 use Rattle.std.{specs.{List.range_with_len, Option.option_or}, proofs.lemmas.{Bool.Decides.nat_tests, Option.slice_get_past}}
+use Rattle.std.proofs.lemmas.Bool.{cases_Bool}
 use Rattle.jvm_types.specs.declared.program.Program.{Program}
 use Rattle.checked_program.specs.MarkedProgram.{MarkedProgram}
 use Rattle.machine_types.specs.{Core.{Core, Of, NextPart, event, is_live_thread, lives, may_begin, may_begin_by, next, next_threads, part_begins}, Faithful.IsOver}
@@ -31,22 +32,20 @@ begun p x workers n may e =
     ap (λ (k : ℕ). part_begins p k x workers) (sym e) ∙ sym (ap (λ (b : Bool). if b then part_begins p x.part x workers else x ∷ workers) may)
 
 workers_begin : (c : MarkedProgram) (s : Core) → IsAlone (λ n. n ≡ 0) s → lives s 0 ≡ false → may_begin s.threads ≡ true → IsWaiting (next c s)
-workers_begin c s h dead may = by_threads s.threads h.part dead may
-  where
-    by_threads : (xs : List Thread) → PartIs (λ n. n ≡ 0) (with_threads s xs) → lives (with_threads s xs) 0 ≡ false → may_begin xs ≡ true → IsWaiting (next c (with_threads s xs))
-    by_threads [] part dead may = absurd (cc)
-    by_threads (x ∷ workers) part dead may =
-        subst (λ (ys : List Thread). IsWaiting (with_threads s ys)) (begun c.program x workers 0 may (part x refl))
-        (record { part = λ y e. ap part_of (sym e); first = dead })
+workers_begin c s h dead may = (elim s.threads as (λ (xs : List Thread). PartIs (λ n. n ≡ 0) (with_threads s xs) → lives (with_threads s xs) 0 ≡ false → may_begin xs ≡ true → IsWaiting (next c (with_threads s xs))) [
+  | [] ↦ λ part dead may. absurd (cc)
+  | x ∷ workers ↦ λ part dead may.
+      subst (λ (ys : List Thread). IsWaiting (with_threads s ys)) (begun c.program x workers 0 may (part x refl))
+      (record { part = λ y e. ap part_of (sym e); first = dead })
+]) h.part dead may
 
 done_begins : (c : MarkedProgram) (s : Core) → IsWaiting s → NoWorkerLives s → may_begin s.threads ≡ true → IsAlone (λ n. 2 ≤ n) (next c s)
-done_begins c s h dead may = by_threads s.threads h.part dead may
-  where
-    by_threads : (xs : List Thread) → PartIs (λ n. n ≡ 1) (with_threads s xs) → NoWorkerLives (with_threads s xs) → may_begin xs ≡ true → IsAlone (λ n. 2 ≤ n) (next c (with_threads s xs))
-    by_threads [] part dead may = absurd (cc)
-    by_threads (x ∷ workers) part dead may =
-        subst (λ (ys : List Thread). IsAlone (λ n. 2 ≤ n) (with_threads s ys)) (begun c.program x workers 1 may (part x refl))
-        (record { part = λ y e. let two : y.part ≡ 2 = ap part_of (sym e) in omega (arith, two); workers = dead })
+done_begins c s h dead may = (elim s.threads as (λ (xs : List Thread). PartIs (λ n. n ≡ 1) (with_threads s xs) → NoWorkerLives (with_threads s xs) → may_begin xs ≡ true → IsAlone (λ n. 2 ≤ n) (next c (with_threads s xs))) [
+  | [] ↦ λ part dead may. absurd (cc)
+  | x ∷ workers ↦ λ part dead may.
+      subst (λ (ys : List Thread). IsAlone (λ n. 2 ≤ n) (with_threads s ys)) (begun c.program x workers 1 may (part x refl))
+      (record { part = λ y e. let two : y.part ≡ 2 = ap part_of (sym e) in omega (arith, two); workers = dead })
+]) h.part dead may
 
 -- ---- workers of whom none lives
 
@@ -54,30 +53,28 @@ none_passes : (test : ℕ → Bool) (from n i : ℕ) → find test (range_with_l
 none_passes test from zero i e h = absurd (omega (arith, h))
 none_passes test from (suc n) i e h = by_test (test from) refl e (λ k rest room. none_passes test (from + 1) n k rest room)
   where
-    behind : (i : ℕ) → i < suc n → test from ≡ false → ((k : ℕ) → k < n → test ((from + 1) + k) ≡ false) → test (from + i) ≡ false
-    behind zero h fails on = let same : from + 0 ≡ from = omega arith in ap test same ∙ fails
-    behind (suc i) h fails on = let same : from + suc i ≡ (from + 1) + i = omega arith in ap test same ∙ on i (omega (arith, h))
-
     by_test : (b : Bool) → test from ≡ b → (if b then Some from else find test (range_with_len (from + 1) n)) ≡ None
         → ((k : ℕ) → find test (range_with_len (from + 1) n) ≡ None → k < n → test ((from + 1) + k) ≡ false) → test (from + i) ≡ false
     by_test true g e on = absurd (cc)
-    by_test false g e on = behind i h g (λ k room. on k e room)
+    by_test false g e on = (elim i as (λ (i : ℕ). i < suc n → test from ≡ false → ((k : ℕ) → k < n → test ((from + 1) + k) ≡ false) → test (from + i) ≡ false) [
+      | zero ↦ λ h fails on. let same : from + 0 ≡ from = omega arith in ap test same ∙ fails
+      | suc i ↦ λ h fails on. let same : from + suc i ≡ (from + 1) + i = omega arith in ap test same ∙ on i (omega (arith, h))
+    ]) h g (λ k room. on k e room)
 
 none_live : (s : Core) → live_from s 1 ≡ None → NoWorkerLives s
-none_live s e u = by_room (nat_lt u (length s.threads)) refl
+none_live s e u = elim (cases_Bool (nat_lt u (length s.threads))) [
+  | inl h ↦
+      ap (λ (b : Bool). b && lives s (suc u)) (sym one)
+      ∙ ap (λ (t : ℕ). nat_le 1 t && lives s t) (sym next)
+      ∙ none_passes (λ t. nat_le 1 t && lives s t) 1 (length s.threads) u e (grind (arith, nat_tests, h))
+  | inr h ↦ ap is_live_thread (slice_get_past s.threads (suc u) (grind (arith, nat_tests, h)))
+]
   where
     one : nat_le 1 (suc u) ≡ true
     one = grind (arith, nat_tests)
 
     next : 1 + u ≡ suc u
     next = omega arith
-
-    by_room : (b : Bool) → nat_lt u (length s.threads) ≡ b → lives s (suc u) ≡ false
-    by_room true h =
-        ap (λ (b : Bool). b && lives s (suc u)) (sym one)
-        ∙ ap (λ (t : ℕ). nat_le 1 t && lives s t) (sym next)
-        ∙ none_passes (λ t. nat_le 1 t && lives s t) 1 (length s.threads) u e (grind (arith, nat_tests, h))
-    by_room false h = ap is_live_thread (slice_get_past s.threads (suc u) (grind (arith, nat_tests, h)))
 
 second_none : (a b : Option ℕ) → option_or a b ≡ None → b ≡ None
 second_none None b e = e
@@ -106,20 +103,18 @@ none_after (x ∷ workers) part = by_part x.part (part x refl)
 
 module _ (given : GivenIsKept) (c : MarkedProgram) (s : Core) where
   init_turn : (order : List ℕ) → IsAlone (λ n. n ≡ 0) s → TurnFits c s (turn_at (First order) s)
-  init_turn order h = by_live (lives s 0) refl
-    where
-      by_live : (b : Bool) → lives s 0 ≡ b → TurnFits c s (if b then turn_of (Of 0) (First order) else part_turn s (Ordered order))
-      by_live true live = event_alone given (λ n. n ≡ 0) c s 0 h
-      by_live false dead = (elim (may_begin s.threads) as (λ (b : Bool). lives s 0 ≡ false → may_begin s.threads ≡ b → TurnFits c s (if b then turn_of NextPart (Ordered order) else None))
-          [ true ↦ λ dead may. workers_begin c s h dead may | false ↦ λ dead may. over s dead h.workers may ]) dead refl
+  init_turn order h = (elim (lives s 0) as (λ (b : Bool). lives s 0 ≡ b → TurnFits c s (if b then turn_of (Of 0) (First order) else part_turn s (Ordered order))) [
+    | true ↦ λ live. event_alone given (λ n. n ≡ 0) c s 0 h
+    | false ↦ λ dead. (elim (may_begin s.threads) as (λ (b : Bool). lives s 0 ≡ false → may_begin s.threads ≡ b → TurnFits c s (if b then turn_of NextPart (Ordered order) else None))
+        [ true ↦ λ dead may. workers_begin c s h dead may | false ↦ λ dead may. over s dead h.workers may ]) dead refl
+  ]) refl
 
   round_fits : (from : ℕ) → IsWaiting s → TurnFits c s (round_turn_from s from)
-  round_fits from h = by_worker (option_or (live_from s from) (live_from s 1)) refl
-    where
-      by_worker : (o : Option ℕ) → option_or (live_from s from) (live_from s 1) ≡ o → TurnFits c s (round_turn s o)
-      by_worker None e = (elim (may_begin s.threads) as (λ (b : Bool). NoWorkerLives s → may_begin s.threads ≡ b → TurnFits c s (if b then turn_of NextPart Last else None))
-          [ true ↦ λ dead may. done_begins c s h dead may | false ↦ λ dead may. over s h.first dead may ]) (none_live s (second_none (live_from s from) (live_from s 1) e)) refl
-      by_worker (Some t) e = event_waits given c s t h
+  round_fits from h = (elim (option_or (live_from s from) (live_from s 1)) as (λ (o : Option ℕ). option_or (live_from s from) (live_from s 1) ≡ o → TurnFits c s (round_turn s o)) [
+    | None ↦ λ e. (elim (may_begin s.threads) as (λ (b : Bool). NoWorkerLives s → may_begin s.threads ≡ b → TurnFits c s (if b then turn_of NextPart Last else None))
+        [ true ↦ λ dead may. done_begins c s h dead may | false ↦ λ dead may. over s h.first dead may ]) (none_live s (second_none (live_from s from) (live_from s 1) e)) refl
+    | Some t ↦ λ e. event_waits given c s t h
+  ]) refl
 
   ordered_fits : (order : List ℕ) → IsWaiting s → TurnFits c s (ordered s order)
   ordered_fits [] h = round_fits 1 h
