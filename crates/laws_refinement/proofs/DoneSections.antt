@@ -29,10 +29,6 @@ never_runs c a None got e = absurd (cc)
 never_runs c a (Some at) got e = (elim (is_checked at.frame.pc (effect_at c.program at)) as (λ (b : Bool). cond b (fate_by (is_same a got) GoesOn) GoesOn ≡ Finishes → ⊥)
     [ true ↦ λ f. never_by (is_same a got) f | false ↦ λ f. absurd (cc) ]) e
 
-passed : (b : Bool) → fate_by b Finishes ≡ Finishes → b ≡ true
-passed true e = refl
-passed false e = absurd (cc)
-
 by_claim : (x : Thread) (a : Attempt) (m : ℕ) (b : After) (got : ℕ) (o : Option Held) → held_at x.held m ≡ o → x.attempt ≡ Some a → leave_fate (claim_by m o x.attempt) got ≡ Finishes → IsDone x a (phases.Leave m b) got
 by_claim x a m b got (Some h) h_is tries e = absurd (cc)
 by_claim x a m b got None none tries e = (elim (a.monitor == m) as (λ (d : Bool). (a.monitor == m) ≡ d → leave_fate (cond d (Tries a) HasNot) got ≡ Finishes → IsDone x a (phases.Leave m b) got) [
@@ -48,7 +44,7 @@ by_claim x a m b got None none tries e = (elim (a.monitor == m) as (λ (d : Bool
       leaves = ap (λ (n : ℕ). phases.Leave n b) (sym same);
       claims = ap (claim x) same ∙ g;
       outermost = grind (arith, nat_tests, k);
-      same = passed (is_same a got) f;
+      same = (elim (is_same a got) as (λ (b : Bool). fate_by b Finishes ≡ Finishes → b ≡ true) [ true ↦ λ e. refl | false ↦ λ e. absurd (cc) ]) f;
     }
 
 pub is_done : (c : MarkedProgram) (x : Thread) (a : Attempt) (phase : Phase) (got : ℕ) → x.attempt ≡ Some a → fate c x a phase got ≡ Finishes → IsDone x a phase got

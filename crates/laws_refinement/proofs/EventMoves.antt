@@ -79,9 +79,6 @@ module _ (memory : InstructionsChangeMemory) (laws : AreEventLaws) (elided : Are
     by_fate Fails is = under_way Fails is tt refl
     by_fate Finishes is = done is
 
-  by_attempt : (o : Option Attempt) → x.attempt ≡ o → MovesIn c objects s t x d q x.attempt
-  by_attempt None e = subst (MovesIn c objects s t x d q) (sym e) (outside e)
-  by_attempt (Some a) e = by_fate a e (fate c x a x.phase (found_of c s x)) refl
-
   pub event_moves : MovesIn c objects s t x d q x.attempt
-  event_moves = by_attempt x.attempt refl
+  event_moves = (elim x.attempt as (λ (o : Option Attempt). x.attempt ≡ o → MovesIn c objects s t x d q x.attempt)
+      [ None ↦ λ e. subst (MovesIn c objects s t x d q) (sym e) (outside e) | Some a ↦ λ e. by_fate a e (fate c x a x.phase (found_of c s x)) refl ]) refl

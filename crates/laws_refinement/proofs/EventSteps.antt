@@ -20,10 +20,6 @@ kind_of (Notifies m) = inr (inr tt)
 kind_of (NotifiesAll m) = inr (inr tt)
 kind_of e = inl tt
 
-has_frames : (frames : List Frame) (roots : List ℕ) → FramesFit phases.Run frames roots → 0 < length frames
-has_frames [] roots f = absurd f
-has_frames (f ∷ frames) roots k = omega arith
-
 module _ (laws : AreEventLaws) (turn : Turn) (width : HaveWidth turn.cfg) where
   open turn use {c, cfg, objects, was, s, t, x, q, marked, facts, beside, here, outside}
 
@@ -34,7 +30,8 @@ module _ (laws : AreEventLaws) (turn : Turn) (width : HaveWidth turn.cfg) where
   begins e =
       let lawful = facts.threads.lawful t x here in
       let holds = subst (λ (phase : Phase). PhaseHolds c (within c.program) phase x.frames) e lawful.typed.values.phase in
-      let some = has_frames x.frames x.roots (subst (λ (phase : Phase). FramesFit phase x.frames x.roots) e lawful.rooted.frames) in
+      let some = (elim x.frames as (λ (frames : List Frame). (roots : List ℕ) → FramesFit phases.Run frames roots → 0 < length frames)
+      [ [] ↦ λ roots f. absurd f | f ∷ frames ↦ λ roots k. omega arith ]) x.roots (subst (λ (phase : Phase). FramesFit phase x.frames x.roots) e lawful.rooted.frames) in
       let stands : Begun c.program x.frames = frames_stand c x.frames marked holds some in
       by_kind stands (kind_of (effect_at c.program stands.at))
     where

@@ -9,13 +9,13 @@ use Rattle.machine_types.specs.{PlainSteps.plain_run, Replay.{replayed, at_entry
 use Rattle.machine_types.{specs.{Worlds.World, declared.{lock.{LockWord.LockWord}, phase.Phase.Phase, plain.Act.Act}}, proofs.AttemptReplay.hold}
 use Rattle.machine_types.proofs.PlainStepLaws.{none_left}
 use Rattle.laws_threads.proofs.{Releases.goes_behind, ThreadMove.{goes_held, goes_attempt}}
-use Rattle.laws_states.{specs.{HeapFacts.{objects_after, objects_by, objects_of}, SiteLaws.SitesDiffer, Sites.HasObject}, proofs.Lists.{contained_got, same_or_not}}
+use Rattle.laws_states.{specs.{HeapFacts.{objects_after, objects_by, objects_of}, PartsStand.DoneRoots, SiteLaws.SitesDiffer, Sites.HasObject}, proofs.Lists.{contained_got, same_or_not}}
 use Rattle.laws_states.proofs.{LockViews.not_held, Phases.IsOldPhase, WordViews.{lock_of_word, object_has}}
 use Rattle.laws_simulation.{specs.StandsBeside.{StandsBeside, end_of_done}, proofs.{Assembled.{moved_beside}, GoingOnAlike.{IsUnderWay, OwnFits, going_alike, none_ends}}}
-use Rattle.laws_simulation.proofs.{HoldingsAlike.{alike_kept, free_then, put_else, without_else}, Landing.never_made, Moving.{goes_old, goes_part}, OwnBits.{IsAwake, no_own_bit}}
+use Rattle.laws_simulation.proofs.{HoldingsAlike.{alike_kept, free_then, put_else, without_else}, Landing.never_made, Moving.{goes_old, goes_part}, OwnBits.{IsAwake, no_own_bit}, OwnThread.part_runs}
 use Rattle.laws_simulation.proofs.WaitBits.{same_wait_bit}
 use Rattle.laws_refinement.{specs.ElidedSteps.{FinishesBeside, SectionsFinish, found_of}, proofs.{Playing.{Player, has_bit, plain_fits, plain_there}, DoneSections.{IsDone, is_done, as_noted, event_is}, FinishedPlaces.staying_value}}
-use Rattle.laws_refinement.proofs.{PartsUnderWay.part_runs, WholeSections.{IsWhole, whole, holdings_behind, at_end, behind_section, section_acts}}
+use Rattle.laws_refinement.proofs.{WholeSections.{IsWhole, whole, holdings_behind, at_end, behind_section, section_acts}}
 use Rattle.jvm_types.specs.declared.outcome.End.TheVariants as ends
 use Rattle.machine_types.specs.PlainState as plain
 use Rattle.machine_types.specs.declared.lock.LockWord.TheVariants as locks
@@ -70,7 +70,7 @@ module _ (differ : SitesDiffer) (player : Player) (d : IsDone player.x player.a 
 
   under_way : (n : Past) → IsUnderWay c.program x.part x.roots (at_end x a (was t) n twin.ended)
   under_way n =
-      let runs = part_runs player a.monitor d.after_it d.leaves in
+      let runs = part_runs player.member (λ e. let bad : phases.Leave a.monitor d.after_it ≡ phases.Ended ends.Returned = sym d.leaves ∙ e in cc) (subst (λ (phase : Phase). DoneRoots c.program phase x.roots) d.leaves) in
       record {
         roots = refl;
         ended = beside.ends t x twin there (plain_there player).1 ∙ none_ends c.program x.part x.roots x.phase runs (ap (λ (phase : Phase). end_of_done (0 ∷ []) phase) d.leaves);

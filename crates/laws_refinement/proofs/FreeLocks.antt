@@ -20,12 +20,9 @@ kind_suits_none : (k : Kind) (m : ℕ) → Suits (kind_content k) (LockOf m) →
 kind_suits_none (kinds.Ref class) m suits = suits
 kind_suits_none k m suits = suits
 
-field_suits_none : (f : Option FieldInfo) (m : ℕ) → Suits (field_content f) (LockOf m) → ⊥
-field_suits_none None m suits = suits
-field_suits_none (Some f) m suits = kind_suits_none f.kind m suits
-
 variable_suits_none : (p : Program) (target : Target) (m : ℕ) → Suits (variable_content p target) (LockOf m) → ⊥
-variable_suits_none p (targets.Field number) m suits = field_suits_none (slice_get p.fields number) m suits
+variable_suits_none p (targets.Field number) m suits = (elim (slice_get p.fields number) as (λ (f : Option FieldInfo). (m : ℕ) → Suits (field_content f) (LockOf m) → ⊥)
+    [ None ↦ λ m suits. suits | Some f ↦ λ m suits. kind_suits_none f.kind m suits ]) m suits
 variable_suits_none p target m suits = suits
 
 -- ---- words of locks
@@ -66,10 +63,6 @@ module _ (c : MarkedProgram) (x : Thread) (m n got : ℕ) (last : n < x.cfg.rang
     effect_leaves pc target (Writes v word) w suits = absurd (variable_suits_none c.program target m suits)
     effect_leaves pc target e w suits = absurd suits
 
-    run_leaves : (top : Option Top) → run_wants c.program x top ≡ Some access → Suits (run_content c.program top) (LockOf m) → WasNoted (left_by access got)
-    run_leaves None w suits = absurd suits
-    run_leaves (Some top) w suits = effect_leaves top.frame.pc top.target (effect_at c.program top) w suits
-
     -- ---- the monitor is entered or left
 
     entry_leaves : (n : ℕ) (claimed : Claim) → enter_wants n claimed ≡ Some access → WasNoted (left_by access got)
@@ -108,7 +101,8 @@ module _ (c : MarkedProgram) (x : Thread) (m n got : ℕ) (last : n < x.cfg.rang
     -- ---- all phases
 
     pub phase_leaves : (phase : Phase) → ((b : ℕ) (after : _) → phase ≡ phases.FlatOut b after → IsFlat (held_at x.held b)) → wanted c x phase ≡ Some access → Suits (content_at c x phase) (LockOf m) → WasNoted (left_by access got)
-    phase_leaves phases.Run flat w suits = run_leaves (top_of c.program x.frames) w suits
+    phase_leaves phases.Run flat w suits = (elim (top_of c.program x.frames) as (λ (top : Option Top). run_wants c.program x top ≡ Some access → Suits (run_content c.program top) (LockOf m) → WasNoted (left_by access got))
+        [ None ↦ λ w suits. absurd suits | Some top ↦ λ w suits. effect_leaves top.frame.pc top.target (effect_at c.program top) w suits ]) w suits
     phase_leaves (phases.Throw r class) flat w suits = looked WasNoted access got stays x.attempt w
     phase_leaves (phases.Enter b tried) flat w suits = entry_leaves b _ w
     phase_leaves (phases.Acquire b) flat w suits = loaded WasNoted access got stays b w

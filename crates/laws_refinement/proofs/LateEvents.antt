@@ -100,13 +100,10 @@ module _ (c : MarkedProgram) (marked : IsMarked c) (x : Thread) (a : Attempt) (t
     thrown z None some = absurd (cc)
     thrown z (Some class) some = on (Throwing z class (frames_of at)) (omega (arith, left_behind))
 
-    comes_back : (frames : List Frame) → 1 + all_ahead c.program a.base frames ≤ whole → Lessens whole 1 (goes_on (begun x) (back frames))
-    comes_back [] h = on RootReturned (omega (arith, left_behind))
-    comes_back (f ∷ below) h = on (Running (f ∷ below)) h
-
     gives_back : (b : Bool) → Lessens whole 1 (goes_on (begun x) (if b then Leaving (monitor_of c.program at.method at.frame) Return (frames_of at) else back (returned c.program at)))
     gives_back true = on (Leaving (monitor_of c.program at.method at.frame) Return (frames_of at)) left_behind
-    gives_back false = comes_back (returned c.program at) (omega (arith, returned_on c marked a.base at, left_behind))
+    gives_back false = (elim (returned c.program at) as (λ (frames : List Frame). 1 + all_ahead c.program a.base frames ≤ whole → Lessens whole 1 (goes_on (begun x) (back frames)))
+        [ [] ↦ λ h. on RootReturned (omega (arith, left_behind)) | f ∷ below ↦ λ h. on (Running (f ∷ below)) h ]) (omega (arith, returned_on c marked a.base at, left_behind))
 
     -- an element is still to be read
     comes : (word : ℕ) → Lessens whole 1 (with_phase (begun x) (phases.Element word None))

@@ -7,7 +7,6 @@ mod Instructions
 mod Phases
 mod Growth
 pub mod FreeLocks
-pub mod FieldRules
 pub mod FieldWriters
 pub mod OwnBuilders
 pub mod LockNoted
@@ -25,7 +24,6 @@ mod PlayedDue
 mod WholeSections
 mod FinishedPlaces
 mod DoneSections
-mod PartsUnderWay
 mod FinishedSections
 mod OutsideEntries
 mod Within

@@ -16,13 +16,10 @@ finish_look : (m inner : ℕ) → IsLook (finish_wants m inner)
 finish_look m zero = tt
 finish_look m (suc inner) = tt
 
-look_if : (b : Bool) (access : Option Access) → IsLook access → IsLook (cond b access None)
-look_if true access k = k
-look_if false access k = tt
-
 module _ (c : MarkedProgram) (x : Thread) (a : Attempt) where
   effect_look : (pc : ℕ) (at : Top) (e : Effect) → MayDo c a.monitor at e → IsLook (effect_wants x pc e)
-  effect_look pc at (Goes to made) may = look_if (is_checked pc (Goes to made)) (looks x.attempt) (attempt_look x.attempt)
+  effect_look pc at (Goes to made) may = (elim (is_checked pc (Goes to made)) as (λ (b : Bool). (access : Option Access) → IsLook access → IsLook (cond b access None))
+      [ true ↦ λ access k. k | false ↦ λ access k. tt ]) (looks x.attempt) (attempt_look x.attempt)
   effect_look pc at (Calls number) may = attempt_look x.attempt
   effect_look pc at (Reads v) may = tt
   effect_look pc at (Measures array) may = tt

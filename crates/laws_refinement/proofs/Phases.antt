@@ -209,12 +209,9 @@ module _ (fit : HeapWordsFit) (allowed : EffectsAreAllowed) (trying : Trying) (n
     InnerBy i = IsStructured c now (finishes c.program x e a i (found_by s.words (finish_wants m i)))
         → By (phases.Leave m e) (cond (nat_lt 0 i) GoesOn (fate_by (is_same a (found_by s.words (finish_wants m i))) Finishes)) (finishes c.program x e a i (found_by s.words (finish_wants m i))) (act_if (nat_lt 0 i) acts.Exit)
 
-    last_exit : (b : Bool) → By (phases.Leave m e) (fate_by b Finishes) (cond b (goes_after c.program (elided x) e) (fails x a)) []
-    last_exit true = goes_attempt (elided x) (after c.program x.frames e)
-    last_exit false = refl
-
     by_inner : (i : ℕ) → a.inner ≡ i → InnerBy i
-    by_inner zero f k = last_exit (is_same a (found_by s.words (finish_wants m zero)))
+    by_inner zero f k = elim (is_same a (found_by s.words (finish_wants m zero))) as (λ (b : Bool). By (phases.Leave m e) (fate_by b Finishes) (cond b (goes_after c.program (elided x) e) (fails x a)) [])
+        [ true ↦ goes_attempt (elided x) (after c.program x.frames e) | false ↦ refl ]
     by_inner (suc n) f k =
         subst (λ (b : Bool). By (phases.Leave m e) (cond b GoesOn (fate_by (is_same a (found_by s.words (finish_wants m (suc n)))) Finishes)) (goes_after c.program (record x { attempt = Some (record a { inner = n }) }) e) (act_if b acts.Exit)) (sym (is_more n))
         (leave_grows n f k)

@@ -1,7 +1,6 @@
 -- Each turn of a stage keeps what holds there, or comes to the next stage; and where no turn comes, the run is over.
 use Rattle.std.proofs.Common.{◌≡◌, inl, inr, ◌≤◌, ◌<◌, ℕ, zero, suc, ◌+◌, Bool, true, false, List, [], ◌∷◌, length, Option, Some, None, refl, sym, ap, subst, ◌∙◌, arith, nat_le, nat_lt, ◌&&◌, if◌then◌else◌, find, slice_get}
-use Rattle.std.{specs.{List.range_with_len, Option.option_or}, proofs.lemmas.{Bool.Decides.nat_tests, Option.slice_get_past}}
-use Rattle.std.proofs.lemmas.Bool.{cases_Bool}
+use Rattle.std.{specs.{List.range_with_len, Option.option_or}, proofs.lemmas.{Bool.{cases_Bool, Decides.nat_tests}, Option.slice_get_past}}
 use Rattle.jvm_types.specs.declared.program.Program.{Program}
 use Rattle.checked_program.specs.MarkedProgram.{MarkedProgram}
 use Rattle.machine_types.specs.{Core.{Core, Of, NextPart, event, is_live_thread, lives, may_begin, may_begin_by, next, next_threads, part_begins}, Faithful.IsOver}

@@ -26,12 +26,8 @@ abbrev IsElsewhere : Thread → Type 0
 IsElsewhere y = is_entering y.phase ≡ false
 
 module _ (s : Thread) where
-  over_elsewhere : (roots : List ℕ) → is_entering (root_over roots) ≡ false
-  over_elsewhere [] = refl
-  over_elsewhere (number ∷ roots) = refl
-
   back_elsewhere : (fs : List Frame) → IsElsewhere (goes_on s (back fs))
-  back_elsewhere [] = over_elsewhere s.roots
+  back_elsewhere [] = elim s.roots as (λ (roots : List ℕ). is_entering (root_over roots) ≡ false) [ [] ↦ refl | number ∷ roots ↦ refl ]
   back_elsewhere (f ∷ fs) = in_run (nat_lt s.counts.instructions s.cfg.steps)
 
   unwound_elsewhere : (x : ℕ) (class : Thrown) (fs : List Frame) → IsElsewhere (goes_on s (unwound x class fs))

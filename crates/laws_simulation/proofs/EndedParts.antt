@@ -1,7 +1,6 @@
 -- When a run is over its parts ended as those of the plain state.
 use Rattle.std.proofs.Common.{◌≡◌, ◌≤◌, ◌<◌, inl, inr, ℕ, zero, suc, Bool, true, false, cond, List, [], ◌∷◌, length, Option, Some, None, refl, sym, ap, ◌∙◌, subst, arith, ◌&&◌, if◌then◌else◌, option_map, nat_lt, slice_get}
-use Rattle.std.{specs.List.list_all, proofs.lemmas.Option.slice_get-map}
-use Rattle.std.proofs.lemmas.Bool.{cases_Bool}
+use Rattle.std.{specs.List.list_all, proofs.lemmas.{Bool.cases_Bool, Option.slice_get-map}}
 use Rattle.lists.proofs.ListLaws.{same_some}
 use Rattle.jvm_types.specs.declared.{outcome.{End.End, ThreadReport.ThreadReport}, program.Program.Program}
 use Rattle.checked_program.specs.MarkedProgram.{MarkedProgram}

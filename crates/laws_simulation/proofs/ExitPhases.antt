@@ -117,10 +117,6 @@ module _ (lies : StartLiesApart) (scene : Scene) (k : Moving scene.turn) where
           let one : h.depth ≡ 1 = grind (arith, nat_tests, f, some) in
           released_it m h a w.0 h.kept refl e one status w.1
 
-  flat_held : (o : Option Held) → IsFlat o → (h : Held) × (o ≡ Some h)
-  flat_held None f = absurd f
-  flat_held (Some h) f = (h, refl)
-
   pub drew_it : (m : ℕ) (toward : Toward) → k.z.status ≡ toward_status m toward → IsFlat (held_at x.held m)
       → Makes k [] (slice_set s.words NEXT_RECORD_WORD (slice_index s.words NEXT_RECORD_WORD + 1))
       (cond (nat_lt (slice_index s.words NEXT_RECORD_WORD) MONITOR_RECORDS) (with_phase x (phases.Own m (slice_index s.words NEXT_RECORD_WORD) toward)) (grows_not x m toward))
@@ -138,7 +134,7 @@ module _ (lies : StartLiesApart) (scene : Scene) (k : Moving scene.turn) where
       by_test false = (elim toward as (λ (toward : Toward). k.z.status ≡ toward_status m toward → Makes k [] (slice_set s.words NEXT_RECORD_WORD (slice_index s.words NEXT_RECORD_WORD + 1)) (grows_not x m toward)) [
         | towards.Leave a ↦ λ status. to_phase k (slice_set s.words NEXT_RECORD_WORD (slice_index s.words NEXT_RECORD_WORD + 1)) (phases.FlatOut m a) stay tt status
         | towards.Wait ↦ λ status.
-            let h = flat_held (held_at x.held m) flat in
+            let h = (elim (held_at x.held m) as (λ (o : Option Held). IsFlat o → (h : Held) × (o ≡ Some h)) [ None ↦ λ f. absurd f | Some h ↦ λ f. (h, refl) ]) flat in
             to_phase k (slice_set s.words NEXT_RECORD_WORD (slice_index s.words NEXT_RECORD_WORD + 1)) (phases.Ending ends.Records) stay refl
             (awake_fits (has_wait_bit (references_of q.objects) s.words t) k.z.status (IsWaiter x.held k.z.status) k.awake (m, status, (h.0, h.1)))
       ]) status

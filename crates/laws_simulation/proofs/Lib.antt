@@ -26,7 +26,6 @@ pub mod OnwardEvents
 pub mod PartBegins
 pub mod PartsDue
 pub mod Turns
-pub mod RootNumbers
 pub mod RunScene
 pub mod Scene
 pub mod StartEvents
@@ -44,7 +43,6 @@ pub mod LockEvents
 pub mod BitWords
 pub mod Moments
 pub mod Moved
-pub mod EndedThreads
 pub mod Waiters
 pub mod Sleepers
 pub mod Notifiers

@@ -1,7 +1,6 @@
 -- A thread that notifies: it looks for a thread that waits, and wakes one or all.
 use Rattle.std.proofs.Common.{◌≡◌, ◌≢◌, ◌⊎◌, inl, inr, ℕ, ◌-◌, ◌^◌, ◌<◌, nat_lt, Bool, true, false, cond, List, [], ◌∷◌, Option, Some, None, refl, sym, ap, ◌∙◌, subst, arith, IsSome, map, slice_get, slice_index, slice_set, ◌==◌, bit_and, option_map}
-use Rattle.std.{proofs.lemmas.{Bool.Decides.nat_tests, List.{length-map, length-set}, Option.slice_get-map}}
-use Rattle.std.proofs.lemmas.Bool.{cases_Bool}
+use Rattle.std.{proofs.lemmas.{Bool.{cases_Bool, Decides.nat_tests}, List.{length-map, length-set}, Option.slice_get-map}}
 use Rattle.jvm_types.specs.Numbers.{has_flag}
 use Rattle.machine_types.specs.{Agreement.{has_wait_bit, ThreadFits}, Going.{with_phase, runs}, History.act_if, Monitors.{bit_of, lowest_of}, Owners.references_of}
 use Rattle.machine_types.specs.{PlainState.{Plain, PlainThread, with_thread, with_status}, PlainSteps.{waits_on, wakes, wakes_one, notified}, Threads.Thread, Waiting.is_bit_set, Words.bits_word}

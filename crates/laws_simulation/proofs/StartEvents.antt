@@ -6,9 +6,10 @@ use Rattle.machine_types.specs.{Accesses.found_by, Agreement.{roots_shown, start
 use Rattle.machine_types.specs.{Frames.{entry_frame, has_room}, Going.{goes_on, goes_on_if}, History.acts_of, Onward.{Onward, Running, Uncaught, root_arguments, rooted}, Parts.done_roots}
 use Rattle.machine_types.specs.{PlainState.{Plain, PlainThread, with_thread}, PlainSteps.{init_has_returned, is_over, is_due, plain_begins, plain_begun, may_do_done}, Threads.{Frame, Thread}}
 use Rattle.machine_types.{specs.declared.{access.Access.Access, phase.Phase.Phase}, proofs.Lists.got_when_set}
+use Rattle.laws_threads.proofs.KeptRoots.{roots_within, there}
 use Rattle.laws_states.{specs.{HeapFacts.objects_by, PartsLaws.EventsKeepParts, PartsStand.DoneRoots}, proofs.Lists.same_or_not}
 use Rattle.laws_simulation.{specs.{StandsBeside.{ends_shown, end_of_done}, StepsBeside.StepsBeside}, proofs.{Assembled.one_step, EventSteps.gone_on, GoingOnAlike.{PartRuns, ends_before}}}
-use Rattle.laws_simulation.proofs.{MemoryParts.stays, OwnThread.own, PartsDue.{rests_between, idle_workers, first_there, workers_over, init_returned}, RootNumbers.root_there, RunScene.status_fits}
+use Rattle.laws_simulation.proofs.{MemoryParts.stays, OwnThread.own, PartsDue.{rests_between, idle_workers, first_there, workers_over, init_returned}, RunScene.status_fits}
 use Rattle.laws_simulation.proofs.Scene.{Scene, GoesOn, awake, counts_as, going, comes_beside, steps_of_event}
 use Rattle.jvm_types.specs.declared.outcome.End.TheVariants as ends
 use Rattle.machine_types.specs.PlainState as plain
@@ -113,10 +114,6 @@ module _ (scene : Scene) (keeps : EventsKeepParts) (starts : scene.x.phase ≡ p
         let idle = idle_workers s.threads first.0 x u scene.facts.threads.parts first.1 none (ap (slice_get s.threads) (sym e) ∙ scene.here) in
         let both : phases.Start ≡ phases.Idle = sym starts ∙ idle in cc)
 
-    due_by : (n : ℕ) → t ≡ n → (n ≡ 0 → is_due q.threads 0 y.ended ≡ true) → is_due q.threads t y.ended ≡ true
-    due_by zero e first = by_number 0 e ∙ first refl
-    due_by (suc u) e first = by_number (suc u) e ∙ worker_due u e
-
     no_part : (n : ℕ) → x.part ≡ suc n → t ≡ 0
     no_part n e = elim (same_or_not t 0) [ inl h ↦ h | inr d ↦ let none : x.part ≡ 0 = (let k = scene.facts.threads.own t x scene.here in k.part d) in absurd (omega (arith, e, none)) ]
 
@@ -127,7 +124,8 @@ module _ (scene : Scene) (keeps : EventsKeepParts) (starts : scene.x.phase ≡ p
     due_in zero e =
         let none : y.ended ≡ [] = ended ∙ ap (λ (n : ℕ). ends_shown c.program n phases.Start) e in
         record {
-          due = due_by t refl (λ h. ap (is_due q.threads 0) none);
+          due = (elim t as (λ (n : ℕ). t ≡ n → (n ≡ 0 → is_due q.threads 0 y.ended ≡ true) → is_due q.threads t y.ended ≡ true)
+              [ zero ↦ λ e first. by_number 0 e ∙ first refl | suc u ↦ λ e first. by_number (suc u) e ∙ worker_due u e ]) refl (λ h. ap (is_due q.threads 0) none);
           ended = none;
           runs = tt;
           begins_is =
@@ -185,7 +183,7 @@ module _ (scene : Scene) (keeps : EventsKeepParts) (starts : scene.x.phase ≡ p
 
   by_roots : (roots : List ℕ) → x.roots ≡ roots → FramesFit phases.Start x.frames roots → AllByRecursion (λ n. IsTrue (has_number (part_roots c.program x.number x.part) n)) roots → StepsBeside c objects s t x q
   by_roots [] e fit all = absurd fit
-  by_roots (number ∷ rest) e fit all = let m = root_there c.program x.number x.part number all.0 in root_steps (record { number = number; rest = rest; roots = e; m = m.0; method = m.1 })
+  by_roots (number ∷ rest) e fit all = let m = there c.program.methods number (roots_within c.program x.number x.part number all.0) in root_steps (record { number = number; rest = rest; roots = e; m = m.0; method = m.1 })
 
   pub start_steps : StepsBeside c objects s t x q
   start_steps =

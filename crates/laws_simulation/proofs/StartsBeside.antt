@@ -7,20 +7,13 @@ use Rattle.laws_simulation.specs.{StandsBeside.{own_end, ends_shown}, StepsBesid
 use Rattle.machine_types.specs.PlainState as plain
 use Rattle.machine_types.specs.declared.phase.Phase.TheVariants as phases
 
-first_ends : (roots : List ℕ) → (first_thread roots).ended ≡ own_end (part_phase roots)
-first_ends [] = refl
-first_ends (number ∷ roots) = refl
-
 ends : (c : MarkedProgram) (cfg : Config) (t : ℕ) → (plain.plain_start_thread c.program t).ended ≡ ends_shown c.program (start_thread c cfg t).part (start_thread c cfg t).phase
-ends c cfg zero = first_ends (init_roots c.program)
+ends c cfg zero = elim (init_roots c.program) as (λ (roots : List ℕ). (first_thread roots).ended ≡ own_end (part_phase roots)) [ [] ↦ refl | number ∷ roots ↦ refl ]
 ends c cfg (suc t) = refl
 
-no_object : (roots : List ℕ) (a word : ℕ) → part_phase roots ≡ phases.Made a word → ⊥
-no_object [] a word e = cc
-no_object (number ∷ roots) a word e = cc
-
 none_made : (c : MarkedProgram) (cfg : Config) (t a word : ℕ) → (start_thread c cfg t).phase ≡ phases.Made a word → ⊥
-none_made c cfg zero a word e = no_object (init_roots c.program) a word e
+none_made c cfg zero a word e = (elim (init_roots c.program) as (λ (roots : List ℕ). (a word : ℕ) → part_phase roots ≡ phases.Made a word → ⊥)
+    [ [] ↦ λ a word e. cc | number ∷ roots ↦ λ a word e. cc ]) a word e
 none_made c cfg (suc t) a word e = cc
 
 pub start_beside : StartAgrees → StartLiesApart → StartStandsBesidePlain

@@ -1,8 +1,7 @@
 -- A plain thread that waits on a monitor has its bit set in the record of the monitor's lock; so where the lock is not fat nobody
 -- waits on the monitor.
 use Rattle.std.proofs.Common.{◌≡◌, ◌≢◌, ◌⊎◌, inl, inr, ℕ, zero, suc, Bool, true, false, cond, List, [], ◌∷◌, Option, Some, None, refl, sym, ap, ◌∙◌, arith, ⊎_elim, slice_get, slice_index, map, ◌==◌, ◌||◌}
-use Rattle.std.{specs.List.list_any, proofs.lemmas.{Bool.Decides.Decides-eqb, Option.slice_get_cases}}
-use Rattle.std.proofs.lemmas.Bool.{cases_Bool}
+use Rattle.std.{specs.List.list_any, proofs.lemmas.{Bool.{cases_Bool, Decides.Decides-eqb}, Option.slice_get_cases}}
 use Rattle.jvm_types.specs.{Numbers.has_flag, declared.{outcome.End.End, program.Program.Program}}
 use Rattle.machine_types.specs.{Agreement.{has_wait_bit, toward_status, waiting_status, start_status, LimitFits, EndingFits, StatusFits, ThreadFits, Agrees}, Core.Core, Monitors.bit_of}
 use Rattle.machine_types.specs.{Owners.{lock_at, references_of}, PlainState.{Status, PlainThread, Plain, with_status}, PlainSteps.{waits_on, woken, wakes}, Threads.{Attempt, Thread}}
