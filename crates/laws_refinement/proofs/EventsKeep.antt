@@ -1,5 +1,5 @@
 -- An event brings no thread to life, and leaves the part of thread 0.
-use Rattle.std.proofs.Common.{◌≡◌, inl, inr, ◌≢◌, ℕ, zero, suc, Bool, true, false, List, [], ◌∷◌, Option, Some, None, refl, sym, ap, subst, ◌∙◌, arith, ◌==◌, slice_get, slice_set}
+use Rattle.std.proofs.Common.{◌≡◌, inl, inr, ◌≢◌, ℕ, zero, suc, false, List, [], ◌∷◌, Option, Some, None, refl, sym, ap, subst, ◌∙◌, arith, ◌==◌, slice_get, slice_set}
 use Rattle.std.proofs.lemmas.{Bool.cases_Bool, Bool.Decides.{nat_tests}}
 use Rattle.checked_program.specs.MarkedProgram.{MarkedProgram}
 use Rattle.machine_types.{specs.{Accesses.found_by, Core.{Core, event, event_of, is_live_thread, lives}, Events.{moved, wanted}, Threads.Thread}, proofs.{Lists.got_other, OnlyLive.only_live_change}}

@@ -1,6 +1,6 @@
 -- Where a section is done that ran without its lock, its entry, what it did and its exit are a run of the plain machine, to a state
 -- that the new one stands beside.
-use Rattle.std.proofs.Common.{◌≡◌, ◌≢◌, ◌⊎◌, inl, inr, ℕ, suc, ◌≤◌, false, cond, List, [], ◌∷◌, Option, Some, None, refl, sym, ap, ◌∙◌, subst, arith, slice_index, slice_set}
+use Rattle.std.proofs.Common.{◌≡◌, ◌≢◌, inl, inr, ℕ, suc, ◌≤◌, false, cond, List, [], ◌∷◌, Option, Some, None, refl, sym, ap, ◌∙◌, subst, arith, slice_index, slice_set}
 use Rattle.jvm_types.specs.declared.fixed_words.TheConstants.{FIRST_READY_WORD, NEXT_FREE_WORD}
 use Rattle.machine_types.specs.{Accesses.found_by, Agreement.{ThreadFits, depth_for}, Attempts.Owes, Core.{Core, event}, Counting.{run_at, take_at, count_along}}
 use Rattle.machine_types.specs.{Elision.elided, Events.wanted, Going.goes_on, HeldMonitors.{held_at}, History.{Fate, Finishes, Past, fate, shown_at, shown_by, steps_of}, LockWords.lock_of}

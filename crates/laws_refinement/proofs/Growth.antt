@@ -1,6 +1,6 @@
 -- An event keeps the fact on the attempt of its own thread.
 use Rattle.std.proofs.Common.{◌≡◌, inl, inr, ℕ, suc, List, [], ◌++◌, Option, Some, None, refl, sym, ap, ◌∙◌, subst, arith, slice_get, slice_index}
-use Rattle.machine_types.specs.{Attempts.{Stays, IsAsNoted, Owes, OwesNothing}, Core.{Core, accessed_by, event_of, event}, Events.{wanted, moved}}
+use Rattle.machine_types.specs.{Attempts.{IsAsNoted, Owes, OwesNothing}, Core.{Core, accessed_by, event_of, event}, Events.{wanted, moved}}
 use Rattle.machine_types.specs.{History.{Fate, GoesOn, Fails, Finishes, Past, fate, acts_of, past_by, past_after}, LockWords.word_of_lock}
 use Rattle.machine_types.specs.{Replay.{Alone, replayed, begun_and_done, status_inside, at_entry, at_present}, Structure.{IsAs, IsStructured}, Threads.{Attempt, Thread}, Worlds.{Builder, IsOwnOrFinished}}
 use Rattle.machine_types.{specs.declared.{phase.Phase.Phase, plain.Act.Act}, proofs.Lists.got_when_set}

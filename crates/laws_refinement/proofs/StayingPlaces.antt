@@ -1,6 +1,5 @@
 -- The places that stay for a thread stay so after an event of another thread, and keep their words.
 use Rattle.std.proofs.Common.{◌≡◌, ◌≢◌, ◌⊎◌, inl, inr, ℕ, zero, suc, Bool, true, false, List, [], ◌∷◌, Option, Some, None, refl, sym, ap, ◌∙◌, subst, arith, slice_get, slice_index}
-use Rattle.std.proofs.lemmas.Bool.{cases_Bool}
 use Rattle.lists.proofs.ListLaws.{same_some}
 use Rattle.jvm_types.specs.{ClassNames.file_of_class, Members.{is_final, is_private, is_static}, declared.program.FieldInfo.FieldInfo}
 use Rattle.checked_program.specs.SectionLaws.{OwnedIsDecided}

@@ -7,7 +7,7 @@ use Rattle.jvm_types.specs.declared.program.Program.{Program}
 use Rattle.checked_program.specs.{MarkedProgram.{MarkedProgram, IsMarked}, SectionLaws.ApartLaw}
 use Rattle.machine_types.specs.{Accesses.found_by, Core.{Core, Happening, Of, NextPart, core, event_of, happened, how_ended, may_begin, next_threads, part_begins, part_phase, with_roots}}
 use Rattle.machine_types.specs.{Elision.is_same, Events.{wanted, moved}, LockWords.word_of_lock, Parts.{run_roots, done_roots}, Settings.AreSettings}
-use Rattle.machine_types.specs.{Structure.{AttemptStands, AttemptStandsIn, IsStructured}, Threads.{Attempt, Frame, Thread}, declared.{access.Access.TheVariants.Load, config.Config.Config}}
+use Rattle.machine_types.specs.{Structure.{AttemptStandsIn}, Threads.{Attempt, Frame, Thread}, declared.{access.Access.TheVariants.Load, config.Config.Config}}
 use Rattle.machine_types.{specs.declared.phase.Phase.Phase, proofs.Lists.{got_when_set, got_other}}
 use Rattle.laws_threads.specs.{InsideEffects.InsideMayDo, InsideMoves.ElementsInside}
 use Rattle.laws_states.{specs.{RunFacts.HaveWidth, RunSafety.{IsSafe, RunsAreSafe}}, proofs.GrowingRuns.one_more}
