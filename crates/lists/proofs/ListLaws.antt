@@ -1,5 +1,5 @@
 -- Laws of lists and of answers that belong to no crate.
-use Rattle.std.{proofs.{Common.{◌≡◌, List, [], ◌∷◌, ◌++◌, Some, Result, Ok, Err, ◌∙◌, OnOk}, lemmas.List.append_assoc}, specs.List.AllByRecursion}
+use Rattle.std.{proofs.{Common.{◌≡◌, List, [], ◌∷◌, ◌++◌, Some, ◌∙◌}, lemmas.List.append_assoc}, specs.List.AllByRecursion}
 
 -- one item more is read, and the rest is as before
 pub one_more : {A : Type 0} (front : List A) (x : A) (more all : List A) → front ++ x ∷ more ≡ all → (front ++ x ∷ []) ++ more ≡ all
@@ -11,7 +11,3 @@ all_weaker P Q w (x ∷ xs) h = (w x h.0, all_weaker P Q w xs h.1)
 
 pub same_some : {X : Type 0} {x y : X} → Some x ≡ Some y → x ≡ y
 same_some e = cc
-
-pub on_ok : {X E P Q : Type 0} (r : Result X E) → (P → Q) → OnOk r P → OnOk r Q
-on_ok (Ok x) f h = f h
-on_ok (Err e) f h = tt
