@@ -20,12 +20,6 @@ last_got : (xs : List Fan) (y : Fan) → slice_get (xs ++ y ∷ []) (length xs) 
 last_got [] y = refl
 last_got (x ∷ xs) y = last_got xs y
 
-pub empty_more : (lists : List (List Fan)) → AreEmpty lists → AreEmpty (lists ++ [] ∷ [])
-empty_more [] h zero = refl
-empty_more [] h (suc k) = refl
-empty_more (x ∷ lists) h zero = h zero
-empty_more (x ∷ lists) h (suc k) = empty_more lists (λ j. h (suc j)) k
-
 pub no_edges : (g : Graph) (lists : List (List Fan)) → g.into.items ≡ lists → AreEmpty lists → HasNoEdges g
 no_edges g lists e h i k edge =
     let none : fans_to g k ≡ [] = ap (λ l. slice_index_or l k []) e ∙ h k in

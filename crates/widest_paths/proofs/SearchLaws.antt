@@ -10,17 +10,6 @@ use Rattle.widest_paths.specs.declared.graph.Graph.{Graph}
 -- ---- steps one after the other
 
 module _ (g : Graph) where
-  pub widens_none : (widths : List ℕ) (waiting : List (ℕ × ℕ)) → Widens g (λ x level. ⊥) widths waiting widths waiting
-  widens_none widths waiting = record {
-    long = refl;
-    grows = λ i. omega arith;
-    only = λ i level l. inl l;
-    brought = λ i level b l. absurd b;
-    waits = λ k w. w;
-    grown = λ k. inl refl;
-    less = omega arith;
-  }
-
   pub widens_as : (P Q : ℕ → ℕ → Type 0) (a b : List ℕ) (u v : List (ℕ × ℕ)) → ((x level : ℕ) → P x level → Q x level) → ((x level : ℕ) → Q x level → level < slice_index g.levels x → P x level) → Widens g P a u b v → Widens g Q a u b v
   widens_as P Q a b u v to from h = record {
     long = h.long;
@@ -172,8 +161,23 @@ module _ (g : Graph) (labels : List ℕ) (label : ℕ) where
             (h.grown k);
       }
 
-  module _ (old new : List ℕ) (waiting rest later : List (ℕ × ℕ)) (k width : ℕ) (is : IsWidened g labels label old waiting) (taken : IsNodeTaken waiting k rest) (width_is : width ≡ slice_index old k)
-      (h : Widens g (λ x level. IsFanEdge g x k × (level < width)) old rest new later) where
+  -- one turn: node k is taken, and the fans that lead from it widen what they reach
+  pub record Turn : Type 0 where
+    pub old : List ℕ
+    pub new : List ℕ
+    pub waiting : List (ℕ × ℕ)
+    pub rest : List (ℕ × ℕ)
+    pub later : List (ℕ × ℕ)
+    pub k : ℕ
+    pub width : ℕ
+    pub is : IsWidened g labels label old waiting
+    pub taken : IsNodeTaken waiting k rest
+    pub width_is : width ≡ slice_index old k
+    pub widens : Widens g (λ x level. IsFanEdge g x k × (level < width)) old rest new later
+
+  module _ (turn : Turn) where
+    open turn use {old, new, waiting, rest, later, k, width, is, taken, width_is, widens as h}
+
     still_waits : (n : ℕ) → n ≢ k → NodeWaits waiting n → NodeWaits later n
     still_waits n q x =
         let y = Contains-permutation waiting ((taken.0, k) ∷ rest) (x.0, n) taken.1 x.1 in

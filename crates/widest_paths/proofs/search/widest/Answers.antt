@@ -11,12 +11,34 @@ loop-k-init c =
     (subst (λ w. Widens c.args.g.now (λ x level. is_labelled c.args.label (slice_get c.args.labels.now x) ≡ true) c.from_vec-widths.result w c.begin.new.widths (heap_items c.begin.new.waiting)) c.new-waiting.ensures.items c.in_ok-begin.ensures)
 
 pub loop-k-smaller : goal.loop-k-smaller
-loop-k-smaller c = lighter c.args.g.now c.args.labels.now c.args.label c.loop-k.widths c.widen_sources.new.widths (heap_items c.loop-k.waiting) (heap_items c.next.new.waiting) (heap_items c.widen_sources.new.waiting) c.in-Some.k c.number_at-width.result c.loop-k.invariant c.in-Some.ensures
-    c.number_at-width.ensures c.in_ok-widen_sources.ensures
+loop-k-smaller c = lighter c.args.g.now c.args.labels.now c.args.label (record {
+  old = c.loop-k.widths;
+  new = c.widen_sources.new.widths;
+  waiting = heap_items c.loop-k.waiting;
+  rest = heap_items c.next.new.waiting;
+  later = heap_items c.widen_sources.new.waiting;
+  k = c.in-Some.k;
+  width = c.number_at-width.result;
+  is = c.loop-k.invariant;
+  taken = c.in-Some.ensures;
+  width_is = c.number_at-width.ensures;
+  widens = c.in_ok-widen_sources.ensures;
+})
 
 pub loop-k-preserved : goal.loop-k-preserved
-loop-k-preserved c = searched_next c.args.g.now c.args.labels.now c.args.label c.loop-k.widths c.widen_sources.new.widths (heap_items c.loop-k.waiting) (heap_items c.next.new.waiting) (heap_items c.widen_sources.new.waiting) c.in-Some.k c.number_at-width.result c.loop-k.invariant c.in-Some.ensures
-    c.number_at-width.ensures c.in_ok-widen_sources.ensures
+loop-k-preserved c = searched_next c.args.g.now c.args.labels.now c.args.label (record {
+  old = c.loop-k.widths;
+  new = c.widen_sources.new.widths;
+  waiting = heap_items c.loop-k.waiting;
+  rest = heap_items c.next.new.waiting;
+  later = heap_items c.widen_sources.new.waiting;
+  k = c.in-Some.k;
+  width = c.number_at-width.result;
+  is = c.loop-k.invariant;
+  taken = c.in-Some.ensures;
+  width_is = c.number_at-width.ensures;
+  widens = c.in_ok-widen_sources.ensures;
+})
 
 pub returns : goal.returns
 returns c = found_all c.args.g.now c.args.labels.now c.args.label c.loop-k.widths (subst (λ w. IsWidened c.args.g.now c.args.labels.now c.args.label c.loop-k.widths w) c.in_default.ensures c.loop-k.invariant)
