@@ -1,5 +1,5 @@
 -- Numbers of a class file: what their bytes, the high one first, make of them, and the other way round.
-use Rattle.std.{proofs.Common.{◌≡◌, ℕ, ◌+◌, ◌*◌, ◌/◌, ◌%◌, ◌^◌, ◌<◌, List, [], ◌∷◌, ◌++◌, refl, ap, ◌∙◌, arith}, specs.Int.{w16, w32, w64, to_be_bytes, from_be_bytes}}
+use Rattle.std.proofs.Common.{◌≡◌, ℕ, ◌+◌, ◌*◌, ◌/◌, ◌%◌, ◌^◌, ◌<◌, List, [], ◌∷◌, ◌++◌, ap, ◌∙◌, arith}
 use Rattle.jvm_types.specs.Numbers.{u2, u4, u8}
 
 -- ---- the number that the bytes of a number make
@@ -33,33 +33,3 @@ u8_spelled high low lt =
     let p : (high * 4294967296 + low) / 4294967296 ≡ high = omega arith in
     let q : (high * 4294967296 + low) % 4294967296 ≡ low = omega arith in
     ap (λ (n : ℕ). u4 n ++ u4 ((high * 4294967296 + low) % 4294967296)) p ∙ ap (λ (n : ℕ). u4 high ++ u4 n) q
-
--- ---- as the integers of Rust have them
-
-pub u2_be : (n : ℕ) → n < 2 ^ 16 → to_be_bytes w16 n ≡ u2 n
-u2_be n lt = let a : n / 256 % 256 ≡ n / 256 = omega arith in cc
-
-pub u4_be : (n : ℕ) → n < 2 ^ 32 → to_be_bytes w32 n ≡ u4 n
-u4_be n lt =
-    let a : n / 16777216 % 256 ≡ n / 65536 / 256 = omega arith in
-    let c : n / 256 % 256 ≡ n % 65536 / 256 = omega arith in
-    let d : n % 256 ≡ n % 65536 % 256 = omega arith in
-    cc
-
-pub u8_be : (n : ℕ) → n < 2 ^ 64 → to_be_bytes w64 n ≡ u8 n
-u8_be n lt =
-    let a : n / 72057594037927936 % 256 ≡ n / 4294967296 / 65536 / 256 = omega arith in
-    let b : n / 281474976710656 % 256 ≡ n / 4294967296 / 65536 % 256 = omega arith in
-    let c : n / 1099511627776 % 256 ≡ n / 4294967296 % 65536 / 256 = omega arith in
-    let d : n / 4294967296 % 256 ≡ n / 4294967296 % 65536 % 256 = omega arith in
-    let e : n / 16777216 % 256 ≡ n % 4294967296 / 65536 / 256 = omega arith in
-    let f : n / 65536 % 256 ≡ n % 4294967296 / 65536 % 256 = omega arith in
-    let g : n / 256 % 256 ≡ n % 4294967296 % 65536 / 256 = omega arith in
-    let h : n % 256 ≡ n % 4294967296 % 65536 % 256 = omega arith in
-    cc
-
-pub from_be_2 : (a b : ℕ) → from_be_bytes w16 (a ∷ b ∷ []) ≡ a * 256 + b
-from_be_2 a b = refl
-
-pub from_be_4 : (a b c d : ℕ) → from_be_bytes w32 (a ∷ b ∷ c ∷ d ∷ []) ≡ (a * 256 + b) * 65536 + (c * 256 + d)
-from_be_4 a b c d = omega arith

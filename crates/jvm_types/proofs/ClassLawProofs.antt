@@ -28,8 +28,5 @@ faults_inside bytes f fits e = IfErr-at_err (λ g. g.left ≤ length bytes) e (r
 pub spelled_if_read : (bytes : List ℕ) (c : ClassFile) → IsBytes bytes → read_class bytes ≡ Ok c → Spells bytes c
 spelled_if_read bytes c fits e = IfOk-at_ok (Spells bytes) e (read_takes bytes fits).ok
 
-pub read_if_spelled : (bytes : List ℕ) (c : ClassFile) → Spells bytes c → read_class bytes ≡ Ok c
-read_if_spelled bytes c spells = read_again bytes c spells
-
 pub reads_what_is_spelled : ReadsWhatIsSpelled
-reads_what_is_spelled bytes c fits = (spelled_if_read bytes c fits, read_if_spelled bytes c)
+reads_what_is_spelled bytes c fits = (spelled_if_read bytes c fits, read_again bytes c)

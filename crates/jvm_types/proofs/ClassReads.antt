@@ -46,13 +46,13 @@ pub field_reads : (pool : List Constant) → Reads member (IsField pool) (field_
 unfolding field_at
 field_reads pool = member_reads (IsFieldAttr pool) (field_attr_at pool) (field_attr_reads pool) pool
 
-body_from_test : (m : Member) → has_body m ≡ true → HasBody m
+pub body_from_test : (m : Member) → has_body m ≡ true → HasBody m
 body_from_test m e =
     let p = and_parts _ _ e in
     let q = and_parts _ _ p.0 in
     record { one = eqb-true _ _ q.0; not_native = not-true _ q.1; not_abstract = not-true _ p.1 }
 
-test_from_body : (m : Member) → HasBody m → has_body m ≡ true
+pub test_from_body : (m : Member) → HasBody m → has_body m ≡ true
 test_from_body m has = and_from _ _ (and_from _ _ (eq-eqb _ _ has.one) (not_from_false _ has.not_native)) (not_from_false _ has.not_abstract)
 
 pub method_reads : (pool : List Constant) → Reads member (IsMethod pool) (method_at pool)

@@ -143,7 +143,7 @@ no_handler_fault : (all : List Insn) (size number : ℕ) (hs : List Handler) →
 no_handler_fault all size number [] h = refl
 no_handler_fault all size number (row ∷ rows) h = rw (one_row all size row h.0) (no_handler_fault all size (number + 1) rows h.1)
 
-size_holds : (n : ℕ) → 0 < n → n ≤ 65535 → (n == 0 || nat_lt 65535 n) ≡ false
+pub size_holds : (n : ℕ) → 0 < n → n ≤ 65535 → (n == 0 || nat_lt 65535 n) ≡ false
 size_holds n h k = grind (arith, nat_tests)
 
 pub faultless : CodeIsFaultless

@@ -1,18 +1,8 @@
 -- The order of frames: it is one, and where two are of one depth their meet is the least that both are below.
-use Rattle.std.proofs.Common.{◌≡◌, suc, Bool, true, false, List, [], ◌∷◌, length, refl, ap, arith, ◌||◌, ◌&&◌, not}
+use Rattle.std.proofs.{Common.{◌≡◌, suc, Bool, true, false, List, [], ◌∷◌, length, refl, ap, arith, ◌||◌, ◌&&◌, not}, Math.Bool.or-not_self, lemmas.Bool.and_parts}
 use Rattle.lists.proofs.TestLaws.{both_true}
 use Rattle.jvm_types.specs.{Types.{TypeFrame, is_below, meet, all_pairs, meets, frame_below, meet_frames}, declared.typing.VType.VType}
 use Rattle.jvm_types.proofs.TypeOrder.{below_self, below_trans, meet_left, meet_right, meet_least}
-
--- ---- tests
-
-first_holds : (a b : Bool) → (a && b) ≡ true → a ≡ true
-first_holds true b e = refl
-first_holds false b e = absurd (cc)
-
-second_holds : (a b : Bool) → (a && b) ≡ true → b ≡ true
-second_holds true b e = e
-second_holds false b e = absurd (cc)
 
 -- ---- places
 
@@ -24,7 +14,7 @@ pub pairs_length : (ts us : List VType) → all_pairs is_below ts us ≡ true �
 pairs_length [] [] h = refl
 pairs_length [] (u ∷ us) h = absurd (cc)
 pairs_length (t ∷ ts) [] h = absurd (cc)
-pairs_length (t ∷ ts) (u ∷ us) h = ap suc (pairs_length ts us (second_holds (is_below t u) (all_pairs is_below ts us) h))
+pairs_length (t ∷ ts) (u ∷ us) h = ap suc (pairs_length ts us (and_parts (is_below t u) (all_pairs is_below ts us) h).1)
 
 pub pairs_trans : (ts us vs : List VType) → all_pairs is_below ts us ≡ true → all_pairs is_below us vs ≡ true → all_pairs is_below ts vs ≡ true
 pairs_trans [] [] [] h k = refl
@@ -33,8 +23,8 @@ pairs_trans [] (u ∷ us) vs h k = absurd (cc)
 pairs_trans (t ∷ ts) [] vs h k = absurd (cc)
 pairs_trans (t ∷ ts) (u ∷ us) [] h k = absurd (cc)
 pairs_trans (t ∷ ts) (u ∷ us) (v ∷ vs) h k = both_true (is_below t v) (all_pairs is_below ts vs)
-    (below_trans t u v (first_holds (is_below t u) (all_pairs is_below ts us) h) (first_holds (is_below u v) (all_pairs is_below us vs) k))
-    (pairs_trans ts us vs (second_holds (is_below t u) (all_pairs is_below ts us) h) (second_holds (is_below u v) (all_pairs is_below us vs) k))
+    (below_trans t u v (and_parts (is_below t u) (all_pairs is_below ts us) h).0 (and_parts (is_below u v) (all_pairs is_below us vs) k).0)
+    (pairs_trans ts us vs (and_parts (is_below t u) (all_pairs is_below ts us) h).1 (and_parts (is_below u v) (all_pairs is_below us vs) k).1)
 
 pub meets_left : (ts us : List VType) → length ts ≡ length us → all_pairs is_below ts (meets ts us) ≡ true
 meets_left [] us e = refl
@@ -53,26 +43,22 @@ meets_least [] us (v ∷ vs) h k = absurd (cc)
 meets_least (t ∷ ts) us [] h k = absurd (cc)
 meets_least (t ∷ ts) [] (v ∷ vs) h k = absurd (cc)
 meets_least (t ∷ ts) (u ∷ us) (v ∷ vs) h k = both_true (is_below (meet t u) v) (all_pairs is_below (meets ts us) vs)
-    (meet_least t u v (first_holds (is_below t v) (all_pairs is_below ts vs) h) (first_holds (is_below u v) (all_pairs is_below us vs) k))
-    (meets_least ts us vs (second_holds (is_below t v) (all_pairs is_below ts vs) h) (second_holds (is_below u v) (all_pairs is_below us vs) k))
+    (meet_least t u v (and_parts (is_below t v) (all_pairs is_below ts vs) h).0 (and_parts (is_below u v) (all_pairs is_below us vs) k).0)
+    (meets_least ts us vs (and_parts (is_below t v) (all_pairs is_below ts vs) h).1 (and_parts (is_below u v) (all_pairs is_below us vs) k).1)
 
 -- ---- whether `this` is initialised
 
-ready_self : (a : Bool) → (a || not a) ≡ true
-ready_self true = refl
-ready_self false = refl
-
-ready_trans : (a b c : Bool) → (a || not b) ≡ true → (b || not c) ≡ true → (a || not c) ≡ true
+pub ready_trans : (a b c : Bool) → (a || not b) ≡ true → (b || not c) ≡ true → (a || not c) ≡ true
 ready_trans true b c h k = refl
 ready_trans false true c h k = absurd (cc)
 ready_trans false false c h k = k
 
-ready_left : (a b : Bool) → (a || not (a && b)) ≡ true
+pub ready_left : (a b : Bool) → (a || not (a && b)) ≡ true
 ready_left true b = refl
 ready_left false b = refl
 
-ready_right : (a b : Bool) → (b || not (a && b)) ≡ true
-ready_right true b = ready_self b
+pub ready_right : (a b : Bool) → (b || not (a && b)) ≡ true
+ready_right true b = or-not_self b
 ready_right false true = refl
 ready_right false false = refl
 
@@ -88,18 +74,16 @@ parts_below f g s l r = both_true (all_pairs is_below f.stack g.stack && all_pai
     (both_true (all_pairs is_below f.stack g.stack) (all_pairs is_below f.locals g.locals) s l) r
 
 pub stack_below : (f g : TypeFrame) → frame_below f g ≡ true → all_pairs is_below f.stack g.stack ≡ true
-stack_below f g h = first_holds (all_pairs is_below f.stack g.stack) (all_pairs is_below f.locals g.locals)
-    (first_holds (all_pairs is_below f.stack g.stack && all_pairs is_below f.locals g.locals) (f.ready || not g.ready) h)
+stack_below f g h = (and_parts (all_pairs is_below f.stack g.stack) (all_pairs is_below f.locals g.locals) (and_parts (all_pairs is_below f.stack g.stack && all_pairs is_below f.locals g.locals) (f.ready || not g.ready) h).0).0
 
 pub locals_below : (f g : TypeFrame) → frame_below f g ≡ true → all_pairs is_below f.locals g.locals ≡ true
-locals_below f g h = second_holds (all_pairs is_below f.stack g.stack) (all_pairs is_below f.locals g.locals)
-    (first_holds (all_pairs is_below f.stack g.stack && all_pairs is_below f.locals g.locals) (f.ready || not g.ready) h)
+locals_below f g h = (and_parts (all_pairs is_below f.stack g.stack) (all_pairs is_below f.locals g.locals) (and_parts (all_pairs is_below f.stack g.stack && all_pairs is_below f.locals g.locals) (f.ready || not g.ready) h).0).1
 
 pub ready_below : (f g : TypeFrame) → frame_below f g ≡ true → (f.ready || not g.ready) ≡ true
-ready_below f g h = second_holds (all_pairs is_below f.stack g.stack && all_pairs is_below f.locals g.locals) (f.ready || not g.ready) h
+ready_below f g h = (and_parts (all_pairs is_below f.stack g.stack && all_pairs is_below f.locals g.locals) (f.ready || not g.ready) h).1
 
 pub types_self : (f : TypeFrame) → frame_below f f ≡ true
-types_self f = parts_below f f (pairs_self f.stack) (pairs_self f.locals) (ready_self f.ready)
+types_self f = parts_below f f (pairs_self f.stack) (pairs_self f.locals) (or-not_self f.ready)
 
 pub types_trans : (f g h : TypeFrame) → frame_below f g ≡ true → frame_below g h ≡ true → frame_below f h ≡ true
 types_trans f g h a b = parts_below f h (pairs_trans f.stack g.stack h.stack (stack_below f g a) (stack_below g h b))

@@ -46,10 +46,6 @@ pub nowhere_from : {X : Type 0} (check : ℕ → X → Option LinkFault) (number
 nowhere_from check number [] e = tt
 nowhere_from check number (x ∷ xs) e = let parts = neither (check number x) (first_from check (number + 1) xs) e in (parts.0, nowhere_from check (number + 1) xs parts.1)
 
-pub from_weaker : {X : Type 0} (P Q : ℕ → X → Type 0) → ((n : ℕ) (x : X) → P n x → Q n x) → (number : ℕ) (xs : List X) → AllFrom P number xs → AllFrom Q number xs
-from_weaker P Q w number [] h = tt
-from_weaker P Q w number (x ∷ xs) h = (w number x h.0, from_weaker P Q w (number + 1) xs h.1)
-
 pub numbered_one : {X : Type 0} (P : ℕ → X → Type 0) (number : ℕ) (xs : List X) (k : ℕ) (x : X) → AllFrom P number xs → slice_get xs k ≡ Some x → P (number + k) x
 numbered_one P number [] k x h e = absurd cc
 numbered_one P number (y ∷ xs) zero x h e = subst (λ (n : ℕ). P n x) (omega arith) (subst (λ (z : _). P number z) (same_some e) h.0)

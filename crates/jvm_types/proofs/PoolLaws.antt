@@ -37,7 +37,7 @@ entries_take (suc n) false bytes fits =
       };
     }
 
-gap_is : (c : Constant) → is_gap c ≡ true → c ≡ Gap
+pub gap_is : (c : Constant) → is_gap c ≡ true → c ≡ Gap
 gap_is Gap e = refl
 gap_is c e = absurd cc
 

@@ -93,7 +93,7 @@ pub record SameMethod (d : Declared) (m : MethodInfo) : Type 0 where
   pub flags : d.member.flags ≡ m.flags
   pub name : name_of d ≡ m.name
 
-zip_append : {A B : Type 0} (R : A → B → Type 0) (xs us : List A) (ys vs : List B) → AllZip R xs ys → AllZip R us vs → AllZip R (xs ++ us) (ys ++ vs)
+pub zip_append : {A B : Type 0} (R : A → B → Type 0) (xs us : List A) (ys vs : List B) → AllZip R xs ys → AllZip R us vs → AllZip R (xs ++ us) (ys ++ vs)
 zip_append R [] us [] vs h k = k
 zip_append R [] us (y ∷ ys) vs h k = absurd h
 zip_append R (x ∷ xs) us [] vs h k = absurd h

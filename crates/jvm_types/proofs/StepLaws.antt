@@ -1,5 +1,5 @@
 -- What a step reads is spelled so, and what is spelled so is read again, whatever follows.
-use Rattle.std.proofs.Common.{◌≡◌, ℕ, zero, suc, ◌^◌, ◌<◌, ◌≤◌, Bool, true, false, cond, ltb, List, [], ◌∷◌, ◌++◌, length, take, drop, Result, Ok, Err, refl, sym, ap, ◌∙◌, append_assoc, arith, IfOk}
+use Rattle.std.proofs.Common.{◌≡◌, ℕ, zero, suc, ◌^◌, ◌<◌, ◌≤◌, Bool, true, false, cond, ltb, List, [], ◌∷◌, ◌++◌, length, take, drop, get_or, Result, Ok, Err, refl, sym, ap, ◌∙◌, append_assoc, arith, IfOk}
 use Rattle.std.{specs.List.{flat_map, AllByRecursion}, proofs.lemmas.{Bool.{ltb-false, le-ltb}, List.{take_at, drop_at, take-append-drop, length-append, length-take}, Result.IfOk-weaker}}
 use Rattle.jvm_types.specs.{ClassGrammar.{IsByte, IsCounted}, Numbers.{u1, u2, u4}, ReadingSteps.{Fault, fault, ◌>>=◌, fault_unless, u1_at, u2_at, u4_at, byte_run_at, many_at, counted_at}}
 use Rattle.jvm_types.{specs.{Spelling.counted, declared.refusal.CRule.{CRule, TheVariants.C3}}, proofs.ByteOrder.{two_back, u2_spelled, four_back, u4_spelled}}
@@ -27,6 +27,10 @@ on_wanted false rule left f Q h = record { ok = tt }
 
 abbrev pub IsBytes : List ℕ → Type 0
 IsBytes bytes = AllByRecursion IsByte bytes
+
+pub bytes_fit : (bytes : List ℕ) → ((i : ℕ) → get_or bytes i 0 < 256) → IsBytes bytes
+bytes_fit [] h = tt
+bytes_fit (b ∷ bytes) h = (h 0, bytes_fit bytes (λ i. h (suc i)))
 
 -- what a step took from the front
 pub record Took {A : Type 0} (spell : A → List ℕ) (Fits : A → Type 0) (bytes : List ℕ) (x : A × List ℕ) : Type 0 where

@@ -1,5 +1,6 @@
 -- The order of types: it is one, and a meet is the least type that both are below.
 use Rattle.std.{proofs.{Common.{◌≡◌, ℕ, Bool, true, false, List, [], ◌∷◌, refl, ap, sym, subst, ◌∙◌, arith, ◌||◌, ◌==◌, if◌then◌else◌}, lemmas.Bool.Decides.nat_tests}, specs.List.AllByRecursion}
+use Rattle.lists.proofs.ListLaws.{all_weaker}
 use Rattle.jvm_types.specs.{ClassTree.{super_class, ancestors, is_subclass, first_above, common_ancestor}, Numbers.has_number, Types.{is_below, meet, if_same_place}}
 use Rattle.jvm_types.{specs.declared.{class_numbers.TheConstants.OBJECT_CLASS, typing.VType.{VType, TheVariants.{Int, Null, Ref, This, New, Top}}}, proofs.ClassCases.by_class}
 
@@ -26,6 +27,10 @@ pick (x ∷ xs) y h f = by_first (x == y) refl h f.0 (λ g. pick xs y g f.1)
     by_first : {P : Type 0} (t : Bool) → (x == y) ≡ t → (t || has_number xs y) ≡ true → (x ≡ y → P) → (has_number xs y ≡ true → P) → P
     by_first true e h f more = f (grind (arith, nat_tests, e))
     by_first false e h f more = more h
+
+-- what holds of all numbers holds of one among them
+pub picked : (P : ℕ → Type 0) (xs : List ℕ) (y : ℕ) → AllByRecursion P xs → has_number xs y ≡ true → P y
+picked P xs y all there = pick {P = P y} xs y there (all_weaker P (λ x. x ≡ y → P y) (λ x h e. subst P e h) xs all)
 
 abbrev AllIn : List ℕ → List ℕ → Type 0
 AllIn ys xs = AllByRecursion (λ x. has_number ys x ≡ true) xs
