@@ -1,6 +1,6 @@
 -- Laws of the least closed set, and of the state in the course of its computation.
 use Rattle.std.proofs.Common.{◌≡◌, ℕ, zero, suc, ◌+◌, ◌-◌, ◌<◌, ◌≤◌, ◌≢◌, Bool, true, false, not, ◌&&◌, List, [], ◌∷◌, ◌++◌, length, refl, sym, ap, ◌∙◌, subst, arith, ⊎_elim, inl, inr, ◌⊎◌, get_or-set_same, get_or-set_other, replicate, ◌==◌, nat_lt, if◌then◌else◌, slice_index, slice_index_or, slice_set}
-use Rattle.std.proofs.lemmas.{Bool.{cases_eq, cases_lt, eq-eqb, lt-ltb, eqb-true, ne_eqb, le-ltb, Decides.nat_tests}, List.{length-set, length-append}}
+use Rattle.std.proofs.lemmas.{Bool.{and_parts, cases_eq, cases_lt, eq-eqb, lt-ltb, eqb-true, ne_eqb, le-ltb, Decides.nat_tests}, List.{length-set, length-append}}
 use Rattle.graph_closure.specs.{Chains.{IsIn, is_edge_counted, Going, IsChained, weight, zeros, latest}, LeastSet.{one_if, chosen, Settles, settle, IsSpread, IsGraph}}
 
 -- ---- tests
@@ -43,17 +43,6 @@ latest_again to b (suc k) = by_test (slice_index to k == b) refl (latest_again t
     by_test : (t : Bool) → (slice_index to k == b) ≡ t → latest to b (latest to b k) ≡ latest to b k → latest to b (if t then suc k else latest to b k) ≡ (if t then suc k else latest to b k)
     by_test true w more = rw w refl
     by_test false w more = more
-
-pub latest_more : (to : List ℕ) (c e : ℕ) → latest to c (e + 1) ≡ (if slice_index to e == c then e + 1 else latest to c e)
-latest_more to c e = let next : e + 1 ≡ suc e = omega arith in rw next refl
-
-pub lasts_more : (to last : List ℕ) (nodes e : ℕ) → length last ≡ nodes → ((c : ℕ) → c < nodes → slice_index last c ≡ latest to c e)
-    → (c : ℕ) → c < nodes → slice_index (slice_set last (slice_index to e) (e + 1)) c ≡ latest to c (e + 1)
-lasts_more to last nodes e long h c g = rw latest_more (by_test (slice_index to e == c) refl)
-  where
-    by_test : (t : Bool) → (slice_index to e == c) ≡ t → slice_index (slice_set last (slice_index to e) (e + 1)) c ≡ (if t then e + 1 else latest to c e)
-    by_test true w = let same : slice_index to e ≡ c = eqb-true (slice_index to e) c w in let inside : c < length last = omega arith in rw same (rw get_or-set_same refl)
-    by_test false w = let other : c ≢ slice_index to e = λ q. differ_from (slice_index to e) c w (sym q) in rw get_or-set_other (h c g)
 
 -- ---- counts
 
@@ -146,10 +135,6 @@ elsewhere d t u v = rw v (on d)
     on true = refl
     on false = refl
 
-first_part : (d t : Bool) → (d && t) ≡ true → d ≡ true
-first_part true t w = refl
-first_part false t w = w
-
 -- the end: nothing waits
 module _ (from to start need : List ℕ) (done : List Bool) (g : IsGraph (length start) from to) (b : ℕ) (s : Going from to start need [] done b 0) where
   at_end : (a : ℕ) → a < length start → slice_index_or done a false ≡ (slice_index need a == 0)
@@ -233,7 +218,7 @@ counted from to start need work now done b e g l goes is s new = record {
   past = λ x w. zero_stays x (s.past x w);
   waits = waits;
   within = within;
-  derived = λ x i w. ⊎_elim (λ (q : slice_index need x ≡ 0). s.derived x i q) (λ (q : slice_index need x ≢ 0). settle x (is_edge_counted to done b (latest to b e)) (λ k m c. s.derived (slice_index to k) (g.ends k m) (s.past (slice_index to k) (first_part (slice_index_or done (slice_index to k) false) (not ((slice_index to k == b) && nat_lt k (latest to b e))) c))) (omega (arith, left x, w))) (cases_eq (slice_index need x) 0);
+  derived = λ x i w. ⊎_elim (λ (q : slice_index need x ≡ 0). s.derived x i q) (λ (q : slice_index need x ≢ 0). settle x (is_edge_counted to done b (latest to b e)) (λ k m c. s.derived (slice_index to k) (g.ends k m) (s.past (slice_index to k) (and_parts (slice_index_or done (slice_index to k) false) (not ((slice_index to k == b) && nat_lt k (latest to b e))) c).0)) (omega (arith, left x, w))) (cases_eq (slice_index need x) 0);
 }
   where
     a : ℕ
@@ -315,18 +300,7 @@ counted from to start need work now done b e g l goes is s new = record {
 
 -- ---- the work gets less
 
-weight_step : (v : ℕ) (t : Bool) → (v == 1) ≡ t → one_if (nat_lt 0 (v - 1)) + one_if (nat_lt 0 (v - 1)) + one_if t ≤ one_if (nat_lt 0 v) + one_if (nat_lt 0 v)
-weight_step zero true e = absurd (let bad : false ≡ true = e in cc)
-weight_step zero false e = omega arith
-weight_step (suc zero) true e = omega arith
-weight_step (suc zero) false e = absurd (let bad : true ≡ false = e in cc)
-weight_step (suc (suc v)) true e = absurd (let bad : suc (suc v) ≡ 1 = eqb-true (suc (suc v)) 1 e in omega (arith, bad))
-weight_step (suc (suc v)) false e = rw (lt-ltb 0 (suc (suc v) - 1) (omega arith), lt-ltb 0 (suc (suc v)) (omega arith)) (omega arith)
-
 -- ---- the nodes that need nothing
-
-pub zeros_more : (need : List ℕ) (a : ℕ) → zeros need (a + 1) ≡ (if slice_index need a == 0 then zeros need a ++ a ∷ [] else zeros need a)
-zeros_more need a = let next : a + 1 ≡ suc a = omega arith in rw next refl
 
 pub zeros_all : (need : List ℕ) (n a : ℕ) → a < n → slice_index need a ≡ 0 → IsIn a (zeros need n)
 zeros_all need zero a l z = absurd (omega (arith, l))
@@ -384,9 +358,6 @@ pub off_at : (n a : ℕ) → slice_index_or (replicate n false) a false ≡ fals
 off_at zero a = refl
 off_at (suc n) zero = refl
 off_at (suc n) (suc a) = off_at n a
-
-pub weight_popped : (work : List ℕ) (b : ℕ) (need : List ℕ) → weight work need < weight (work ++ b ∷ []) need
-weight_popped work b need = rw length-append (omega arith)
 
 pub first_in : (from to start need old work : List ℕ) (done : List Bool) (c b : ℕ) → old ≡ work ++ b ∷ [] → Going from to start need old done c 0 → (b < length start) × (slice_index need b ≡ 0)
 first_in from to start need old work done c b q s = s.within b (rw q (in_last b work))

@@ -152,10 +152,6 @@ finds_recurring from to start need g s degree a l = (λ z r. grounded from to st
 
 -- ---- what is found, node by node
 
-same_bool : (b : Bool) (P : Type 0) → (b ≡ true → P) → (P → b ≡ false → ⊥) → (b ≡ true) ↔ P
-same_bool true P f g = (f, λ x. refl)
-same_bool false P f g = (f, λ x. absurd (g x refl))
-
 module _ (from to : List ℕ) (into : List Bool) (need : List ℕ) (g : IsGraph (length into) from to) (s : IsSpread from to (map need_unless into) need) where
   starts_long : length (map need_unless into) ≡ length into
   starts_long = length-map into need_unless
@@ -211,13 +207,6 @@ module _ (from to : List ℕ) (n : ℕ) (start need : List ℕ) (g : IsGraph n f
 
 -- ---- degrees
 
-pub chosen_next : (from : List ℕ) (a e : ℕ) → chosen from (λ k. true) a (e + 1) ≡ chosen from (λ k. true) a e + one_if (slice_index from e == a)
-chosen_next from a e = let next : e + 1 ≡ suc e = omega arith in rw next (by_test (slice_index from e == a))
-  where
-    by_test : (t : Bool) → chosen from (λ k. true) a e + one_if (t && true) ≡ chosen from (λ k. true) a e + one_if t
-    by_test true = refl
-    by_test false = refl
-
 pub chosen_few : (from : List ℕ) (a m : ℕ) → chosen from (λ k. true) a m ≤ m
 chosen_few from a zero = omega arith
 chosen_few from a (suc m) = by_test ((slice_index from m == a) && true) (chosen_few from a m)
@@ -228,17 +217,6 @@ chosen_few from a (suc m) = by_test ((slice_index from m == a) && true) (chosen_
 
 none_more : (n : ℕ) → n ≡ n + 0
 none_more n = omega arith
-
-pub counted_more : (from counts : List ℕ) (n e : ℕ) → length counts ≡ n → ((a : ℕ) → a < n → slice_index counts a ≡ chosen from (λ k. true) a e) → slice_index from e < n
-    → (a : ℕ) → a < n → slice_index (slice_set counts (slice_index from e) (slice_index counts (slice_index from e) + 1)) a ≡ chosen from (λ k. true) a (e + 1)
-counted_more from counts n e long upto inside a l = rw chosen_next (by_test (slice_index from e == a) refl)
-  where
-    by_test : (t : Bool) → (slice_index from e == a) ≡ t → slice_index (slice_set counts (slice_index from e) (slice_index counts (slice_index from e) + 1)) a ≡ chosen from (λ k. true) a e + one_if t
-    by_test true w =
-        let same : slice_index from e ≡ a = eqb-true (slice_index from e) a w in
-        let low : a < length counts = omega (arith, l, long) in
-        rw same (rw get_or-set_same (ap (λ k. k + 1) (upto a l)))
-    by_test false w = let other : a ≢ slice_index from e = λ q. differ_from (slice_index from e) a w (sym q) in rw get_or-set_other (let was : slice_index counts a ≡ chosen from (λ k. true) a e = upto a l in was ∙ none_more (chosen from (λ k. true) a e))
 
 -- ---- what a vector shows after its slice was written
 

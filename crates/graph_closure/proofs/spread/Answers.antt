@@ -15,34 +15,44 @@ loop-b-init c =
       );
     }
 
-module _ (from to start need old work : List ℕ) (done : List Bool) (c b : ℕ) (q : old ≡ work ++ b ∷ []) (s : Going from to start need old done c 0) where
+-- a turn: b is taken from the nodes that wait
+record Turn (from to start need : List ℕ) : Type 0 where
+  old : List ℕ
+  work : List ℕ
+  done : List Bool
+  c : ℕ
+  b : ℕ
+  q : old ≡ work ++ b ∷ []
+  s : Going from to start need old done c 0
+
+module _ {from to start need : List ℕ} (turn : Turn from to start need) where
+  open turn use {old, work, done, c, b, q, s}
+
   in_done : b < length done
   in_done = omega (arith, (first_in from to start need old work done c b q s).0, s.all)
 
   in_need : b < length need
   in_need = omega (arith, (first_in from to start need old work done c b q s).0, s.long)
 
+  -- what the taking of b leaves, where it is not done yet
+  begun_at : (now : List Bool) → IsGraph (length start) from to → (slice_index_or done b false ≡ false) × (now ≡ slice_set done b true) → Going from to start need work now b (latest to b (length to))
+  begun_at now g h = subst (λ d. Going from to start need work d b (latest to b (length to))) (sym h.1) (taken from to start need work done c b g (subst (λ w. Going from to start need w done c 0) q s) h.0)
+
+  noted : (now : List Bool) → (slice_index_or done b false ≡ false) × (now ≡ slice_set done b true) → slice_index_or now b false ≡ true
+  noted now h = let inside : b < length done = in_done in rw h.1 (rw get_or-set_same refl)
+
+  -- and where it is
+  seen_at : (now : List Bool) → (slice_index_or done b false ≡ true) × (now ≡ done) → Going from to start need work now c 0
+  seen_at now h = subst (λ d. Going from to start need work d c 0) (sym h.1) (seen from to start need work done c b (subst (λ w. Going from to start need w done c 0) q s) h.0)
+
 pub begin-requires : goal.begin-requires
-begin-requires c = in_done c.args.from.now c.args.to.now c.args.need.now c.loop-b.need c.loop-b.work.items c.next.new.work.items c.loop-b.done.items c.loop-b.invariant.goes.0 c.in-Some.b c.in-Some.ensures c.loop-b.invariant.goes.1
+begin-requires c = in_done (record { old = c.loop-b.work.items; work = c.next.new.work.items; done = c.loop-b.done.items; c = c.loop-b.invariant.goes.0; b = c.in-Some.b; q = c.in-Some.ensures; s = c.loop-b.invariant.goes.1 })
 
 pub release-requires-clause-inside : goal.release-requires-clause-inside
-release-requires-clause-inside c = in_need c.args.from.now c.args.to.now c.args.need.now c.loop-b.need c.loop-b.work.items c.next.new.work.items c.loop-b.done.items c.loop-b.invariant.goes.0 c.in-Some.b c.in-Some.ensures c.loop-b.invariant.goes.1
-
--- what the taking of b leaves, where it is not done yet
-begun_at : (from to start need old work : List ℕ) (done now : List Bool) (c b : ℕ) → IsGraph (length start) from to → old ≡ work ++ b ∷ [] → Going from to start need old done c 0
-    → (slice_index_or done b false ≡ false) × (now ≡ slice_set done b true) → Going from to start need work now b (latest to b (length to))
-begun_at from to start need old work done now c b g q s h = subst (λ d. Going from to start need work d b (latest to b (length to))) (sym h.1) (taken from to start need work done c b g (subst (λ w. Going from to start need w done c 0) q s) h.0)
-
-noted : (from to start need old work : List ℕ) (done now : List Bool) (c b : ℕ) → old ≡ work ++ b ∷ [] → Going from to start need old done c 0
-    → (slice_index_or done b false ≡ false) × (now ≡ slice_set done b true) → slice_index_or now b false ≡ true
-noted from to start need old work done now c b q s h = let inside : b < length done = in_done from to start need old work done c b q s in rw h.1 (rw get_or-set_same refl)
-
-seen_at : (from to start need old work : List ℕ) (done now : List Bool) (c b : ℕ) → old ≡ work ++ b ∷ [] → Going from to start need old done c 0
-    → (slice_index_or done b false ≡ true) × (now ≡ done) → Going from to start need work now c 0
-seen_at from to start need old work done now c b q s h = subst (λ d. Going from to start need work d c 0) (sym h.1) (seen from to start need work done c b (subst (λ w. Going from to start need w done c 0) q s) h.0)
+release-requires-clause-inside c = in_need (record { old = c.loop-b.work.items; work = c.next.new.work.items; done = c.loop-b.done.items; c = c.loop-b.invariant.goes.0; b = c.in-Some.b; q = c.in-Some.ensures; s = c.loop-b.invariant.goes.1 })
 
 pub release-requires-clause-done : goal.release-requires-clause-done
-release-requires-clause-done c = rw c.as_slice-then-begin-2.ensures.value (noted c.args.from.now c.args.to.now c.args.need.now c.loop-b.need c.loop-b.work.items c.next.new.work.items c.loop-b.done.items c.begin.new.done.items c.loop-b.invariant.goes.0 c.in-Some.b c.in-Some.ensures c.loop-b.invariant.goes.1 (c.if-begin.ensures.yes refl))
+release-requires-clause-done c = rw c.as_slice-then-begin-2.ensures.value (noted (record { old = c.loop-b.work.items; work = c.next.new.work.items; done = c.loop-b.done.items; c = c.loop-b.invariant.goes.0; b = c.in-Some.b; q = c.in-Some.ensures; s = c.loop-b.invariant.goes.1 }) c.begin.new.done.items (c.if-begin.ensures.yes refl))
 
 pub loop-b-preserved-in-Continue-branch-4 : goal.loop-b-preserved-in-Continue-branch-4
 loop-b-preserved-in-Continue-branch-4 c =
@@ -53,14 +63,14 @@ loop-b-preserved-in-Continue-branch-4 c =
         c.in-Some.b,
         subst (λ x. Going c.args.from.now c.args.to.now c.args.need.now c.release.new.need c.release.new.work.items x c.in-Some.b 0) d
             (c.in_ok-release.ensures.goes c.args.need.now (sym c.loop-b.invariant.long)
-            (rw d (begun_at c.args.from.now c.args.to.now c.args.need.now c.loop-b.need c.loop-b.work.items c.next.new.work.items c.loop-b.done.items c.begin.new.done.items c.loop-b.invariant.goes.0 c.in-Some.b c.requires.graph c.in-Some.ensures c.loop-b.invariant.goes.1 (c.if-begin.ensures.yes refl)))),
+            (rw d (begun_at (record { old = c.loop-b.work.items; work = c.next.new.work.items; done = c.loop-b.done.items; c = c.loop-b.invariant.goes.0; b = c.in-Some.b; q = c.in-Some.ensures; s = c.loop-b.invariant.goes.1 }) c.begin.new.done.items c.requires.graph (c.if-begin.ensures.yes refl)))),
       );
     }
 
 pub loop-b-preserved : goal.loop-b-preserved
 loop-b-preserved c = record {
   long = c.loop-b.invariant.long;
-  goes = (c.loop-b.invariant.goes.0, seen_at c.args.from.now c.args.to.now c.args.need.now c.loop-b.need c.loop-b.work.items c.next.new.work.items c.loop-b.done.items c.begin.new.done.items c.loop-b.invariant.goes.0 c.in-Some.b c.in-Some.ensures c.loop-b.invariant.goes.1 (c.if-begin.ensures.not refl));
+  goes = (c.loop-b.invariant.goes.0, seen_at (record { old = c.loop-b.work.items; work = c.next.new.work.items; done = c.loop-b.done.items; c = c.loop-b.invariant.goes.0; b = c.in-Some.b; q = c.in-Some.ensures; s = c.loop-b.invariant.goes.1 }) c.begin.new.done.items (c.if-begin.ensures.not refl));
 }
 
 pub returns : goal.returns
