@@ -2,14 +2,10 @@
 use Rattle.std.proofs.Common.{◌≡◌, ℕ, zero, suc, ◌+◌, ◌-◌, ◌<◌, ◌≤◌, Bool, true, false, cond, List, [], ◌∷◌, ◌++◌, length, map, replicate, Some, refl, ap, ◌∙◌, arith, length-append, slice_get}
 use Rattle.std.{specs.Option.option_map, proofs.lemmas.{List.length-map, Option.slice_get-map}}
 use Rattle.jvm_types.specs.{CodeTable.type_of, Members.is_static, Types.receiver_types, declared.{program.MethodInfo.MethodInfo, typing.VType.{VType, TheVariants.Top}}}
+use Rattle.jvm_types.proofs.EachAfter.{front_at}
 use Rattle.laws_programs.{specs.EntryLaws.{receiver_count, ArgumentsFit, EntryFramesFit, EntryHasReceiver, EntryHasArguments, EntryHasNoMore}, proofs.FrameLast.entry_locals}
 
 -- ---- lists
-
-front_at : {X : Type 0} (xs ys : List X) (i : ℕ) (x : X) → slice_get xs i ≡ Some x → slice_get (xs ++ ys) i ≡ Some x
-front_at [] ys i x e = absurd (cc)
-front_at (y ∷ xs) ys zero x e = e
-front_at (y ∷ xs) ys (suc i) x e = front_at xs ys i x e
 
 behind_at : {X : Type 0} (xs ys : List X) (i : ℕ) (x : X) → length xs ≤ i → slice_get ys (i - length xs) ≡ Some x → slice_get (xs ++ ys) i ≡ Some x
 behind_at [] ys i x h e = ap (slice_get ys) (omega arith) ∙ e

@@ -80,7 +80,7 @@ fits_risen code xs ys f to h k = frame_trans (Some f) (frame_at code (frames_of 
 
 -- ---- equal frames
 
-same_types : (t u : VType) → same_type t u ≡ true → t ≡ u
+pub same_types : (t u : VType) → same_type t u ≡ true → t ≡ u
 same_types Int Int e = refl
 same_types Null Null e = refl
 same_types (Ref c) (Ref d) e = let same : c ≡ d = grind (arith, nat_tests, e) in ap Ref same

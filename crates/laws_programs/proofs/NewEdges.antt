@@ -11,9 +11,6 @@ use Rattle.jvm_types.specs.declared.code.Op.TheVariants as ops
 
 -- ---- behind their `new`
 
-behind_top : (pc : ℕ) → IsNewBefore pc Top
-behind_top pc = tt
-
 rises : (pc to : ℕ) → pc ≤ to → (ts : List VType) → AllByRecursion (IsNewBefore pc) ts → AllByRecursion (IsNewBefore to) ts
 rises pc to l [] a = tt
 rises pc to l (t ∷ ts) a = (one t a.0, rises pc to l ts a.1)
