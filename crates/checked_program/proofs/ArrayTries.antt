@@ -4,7 +4,7 @@ use Rattle.jvm_types.specs.{Members.{is_private, is_static, is_final}, declared.
 use Rattle.checked_program.specs.{Colours.{ColourShape, is_coloured, IsColouring}, FrozenPlaces.{IsFrozenField, IsFrozenUse, IsGuardedUse, IsUse}, LockTags.TagShape}
 use Rattle.checked_program.specs.{Marks.{section_fault, Applies, itself, HasMark}, OwnedArrays.{IsOwnedArrayField, IsOwnedAt, owns_arrays, reads_owned, AreUses, UsesArrayWell}}
 use Rattle.checked_program.specs.{Sections.{Section, section_mode}, TaggedCode.{Tagged, IsAt}, declared.section.{FieldUse.{FieldUse, TheVariants.{Frozen, Open}}, Spot.TheVariants.Method, Uses.Uses}}
-use Rattle.checked_program.proofs.{FrozenChecks.{is_frozen, is_written_guarded}, MarkChecks.{first_is, none_applies, not_beyond, none_is_called}}
+use Rattle.checked_program.proofs.{FrozenChecks.{is_frozen, is_written_guarded}, MarkChecks.{section, breaks_own, first_is, none_applies, not_beyond, none_is_called}}
 use Rattle.checked_program.proofs.OwnedChecks.{gets_are_on_this, puts_are_new, are_used_well, elements_are, no_elements, no_elements_long, none_is_set, no_owners, none_owns}
 use Rattle.checked_program.proofs.TriedPrograms.{method, op, names, program, tags_of}
 use Rattle.jvm_types.specs.declared.code.Op.TheVariants as ops
@@ -45,13 +45,6 @@ kept = program fields (makes ∷ set ∷ sum ∷ [])
 
 abbrev leaking : Program
 leaking = program fields (makes ∷ set ∷ sum ∷ leak ∷ [])
-
-abbrev section : ℕ → Section
-section mi = record { method = mi; spot = Method }
-
-breaks_own : (p : Program) (uses : Uses) (mi i n : ℕ) (m : MethodInfo) (insn : Insn) (target : Target) (f : TagShape) → IsAt p (tags_of p) mi i m insn target f
-    → section_fault p uses.fields (section_mode p (section mi)) insn.op target f.stack (reads_owned uses mi i) ≡ n → 0 < n → Applies p (tags_of p) uses (section mi) n
-breaks_own p uses mi i n m insn target f at e some = itself (record { i = i; own = record { m = m; insn = insn; target = target; f = f; at = at }; breaks = record { m = m; insn = insn; target = target; f = f; at = at; fault_is = e; some = some } })
 
 -- ---- the array stays
 

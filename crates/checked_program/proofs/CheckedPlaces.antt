@@ -1,6 +1,6 @@
 -- What holds at each instruction of a checked program.
 use Rattle.std.proofs.Common.{◌≡◌, ℕ, zero, suc, Bool, true, false, cond, not, ◌&&◌, ◌||◌, List, [], ◌∷◌, ◌++◌, take, Option, Some, None, refl, sym, ap, ◌∙◌, subst, append-nil, slice_get}
-use Rattle.std.specs.List.{find, filter}
+use Rattle.std.{specs.List.{find, filter}, proofs.lemmas.Option.same_Some}
 use Rattle.jvm_types.specs.{ClassTree.is_subclass, CodeTable.{arguments, is_init, row, virtual_row, special_row, static_row}, Members.{MethodSite, is_static, is_init_name, is_class_init_name}}
 use Rattle.jvm_types.specs.{ProgramInvariant.{IsTargetOf, site_in}, Types.TypeFrame, Verifying.{IsLaidOut, IsTypingOf, covers}, declared.{code.{Insn.Insn, Op.Op}, op_row.{OpRow.OpRow, Want.Want}}}
 use Rattle.jvm_types.specs.declared.{op_row.Want.TheVariants.{AnObject, ToStart}, program.{MethodInfo.MethodInfo, Program.Program, Row.Row, Target.Target}, typing.Typing.Typing}
@@ -32,13 +32,10 @@ called_fit_all c number m is e =
 
 -- ---- places
 
-some_same : {X : Type 0} {x y : X} → Some x ≡ Some y → x ≡ y
-some_same e = cc
-
 frames_of_typing : (c : CheckedProgram) (number : ℕ) (m : MethodInfo) (typing : Typing) → IsChecked c → slice_get c.program.methods number ≡ Some m → slice_get c.typings number ≡ Some typing → AreFramesOf c.program m typing
 frames_of_typing c number m typing is e t =
     let s = checked_sound c number m is e in
-    subst (λ (x : Typing). AreFramesOf c.program m x) (some_same (sym s.1 ∙ t)) s.2
+    subst (λ (x : Typing). AreFramesOf c.program m x) (same_Some _ _ (sym s.1 ∙ t)) s.2
 
 pub have_places : FramesHavePlaces
 have_places c method pc m typing f is e t d =
@@ -56,7 +53,7 @@ held_at c m frames i insn target f is at =
     let of = frames_of_typing c at.method m at.typing is at.in_program at.its_typing in
     let has : slice_get at.typing.frames i ≡ Some (Some f) = subst (λ (fs : List (Option TypeFrame)). slice_get fs i ≡ Some (Some f)) at.its_frames at.has in
     let there = have_targets c.program at.method i m insn is.program at.in_program at.in_code in
-    let names = subst (λ (t : Target). IsTargetOf c.program (site_in m) insn.op t) (some_same (sym there.1 ∙ at.its_target)) there.2 in
+    let names = subst (λ (t : Target). IsTargetOf c.program (site_in m) insn.op t) (same_Some _ _ (sym there.1 ∙ at.its_target)) there.2 in
     let sound = of.sound.sound i insn target f at.in_code at.its_target has in
     let bounds = frame_law c.program m at.typing.frames of.laid of.typed i f has in
     record {
@@ -101,7 +98,7 @@ static_takes called e = record { receiver = []; is = sym (append-nil (arguments 
 
 -- the method that is named is the one with the number
 same_method : (p : Program) (u number : ℕ) (a b : MethodInfo) → Some u ≡ Some number → slice_get p.methods u ≡ Some a → slice_get p.methods number ≡ Some b → a ≡ b
-same_method p u number a b e f g = some_same (sym f ∙ ap (slice_get p.methods) (some_same e) ∙ g)
+same_method p u number a b e f g = same_Some _ _ (sym f ∙ ap (slice_get p.methods) (same_Some u number e) ∙ g)
 
 row_takes : (p : Program) (site : MethodSite) (pc : ℕ) (op : Op) (target : Target) (r : OpRow) (number : ℕ) (called : MethodInfo) → called_method op target ≡ Some number → slice_get p.methods number ≡ Some called
     → HasRow p site pc target op r → Takes called r

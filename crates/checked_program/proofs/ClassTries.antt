@@ -1,11 +1,12 @@
 -- Sections on a class, tried: two private static fields that static synchronized methods write and read, and the same with one
 -- of them for all to write.
 use Rattle.std.proofs.Common.{◌≡◌, ◌<◌, ◌⊎◌, inl, inr, ℕ, zero, suc, pos, true, false, List, [], ◌∷◌, Some, None, refl, sym, subst, arith, codes, slice_get}
+use Rattle.std.proofs.lemmas.Bool.{false≢true, true≢false}
 use Rattle.jvm_types.specs.{Members.{is_private, is_static, is_final}, declared.{code.Insn.Insn, program.{FieldInfo.FieldInfo, MethodInfo.MethodInfo, Program.Program, Target.Target}}}
 use Rattle.checked_program.specs.{FrozenPlaces.{IsFrozenUse, IsGuardedStatic, IsGuardedUse, IsUse}, LockTags.TagShape, Marks.{section_fault, Applies, itself, HasMark}}
 use Rattle.checked_program.specs.{OwnedArrays.{reads_owned, AreUses}, Sections.{Section, sections, section_mode}, TaggedCode.{Tagged, IsAt}, declared.section.FieldUse.FieldUse}
 use Rattle.checked_program.{specs.declared.section.{FieldUse.TheVariants.{Guarded, Open}, Mode.TheVariants.OnClass, Spot.TheVariants.Method, Uses.Uses}, proofs.FrozenChecks.is_written_static}
-use Rattle.checked_program.proofs.{MarkChecks.{first_is, none_applies, not_beyond, none_is_called}, OwnedChecks.{no_elements, no_owners, none_are_read}}
+use Rattle.checked_program.proofs.{MarkChecks.{section, breaks_own, first_is, none_applies, not_beyond, none_is_called}, OwnedChecks.{no_elements, no_owners, none_are_read}}
 use Rattle.checked_program.proofs.TriedPrograms.{method, op, names, program, tags_of}
 use Rattle.jvm_types.specs.declared.code.Op.TheVariants as ops
 use Rattle.jvm_types.specs.declared.program.Kind.TheVariants as kinds
@@ -27,18 +28,11 @@ sum = method 40 (codes "sum") [] (Some kinds.Int) 2 0
 abbrev with_first : (flags : ℕ) → Program
 with_first flags = program (static_int flags 2070 ∷ static_int 10 2071 ∷ []) (set ∷ sum ∷ [])
 
-abbrev section : ℕ → Section
-section mi = record { method = mi; spot = Method }
-
 both_sections : sections (with_first 10) ≡ section 0 ∷ section 1 ∷ []
 both_sections = refl
 
 on_class : section_mode (with_first 10) (section 1) ≡ OnClass 17
 on_class = refl
-
-breaks_own : (p : Program) (uses : Uses) (mi i n : ℕ) (m : MethodInfo) (insn : Insn) (target : Target) (f : TagShape) → IsAt p (tags_of p) mi i m insn target f
-    → section_fault p uses.fields (section_mode p (section mi)) insn.op target f.stack (reads_owned uses mi i) ≡ n → 0 < n → Applies p (tags_of p) uses (section mi) n
-breaks_own p uses mi i n m insn target f at e some = itself (record { i = i; own = record { m = m; insn = insn; target = target; f = f; at = at }; breaks = record { m = m; insn = insn; target = target; f = f; at = at; fault_is = e; some = some } })
 
 -- ---- both fields private
 
@@ -79,19 +73,13 @@ shared = with_first 8
 that_is_first : (field : FieldInfo) → slice_get shared.fields 0 ≡ Some field → static_int 8 2070 ≡ field
 that_is_first field e = cc
 
-false_true : false ≡ true → ⊥
-false_true h = cc
-
-true_false : true ≡ false → ⊥
-true_false h = cc
-
 not_frozen : IsFrozenUse shared (tags_of shared) 0 → ⊥
-not_frozen (inl f) = true_false (subst (λ (x : FieldInfo). is_static x.flags ≡ false) (sym (that_is_first f.field f.is)) f.instance)
-not_frozen (inr f) = false_true (subst (λ (x : FieldInfo). is_final x.flags ≡ true) (sym (that_is_first f.field f.is)) f.final)
+not_frozen (inl f) = true≢false (subst (λ (x : FieldInfo). is_static x.flags ≡ false) (sym (that_is_first f.field f.is)) f.instance)
+not_frozen (inr f) = false≢true (subst (λ (x : FieldInfo). is_final x.flags ≡ true) (sym (that_is_first f.field f.is)) f.final)
 
 not_guarded : IsGuardedUse shared (tags_of shared) 0 → ⊥
-not_guarded (inl g) = true_false (subst (λ (x : FieldInfo). is_static x.flags ≡ false) (sym (that_is_first g.field g.is)) g.instance)
-not_guarded (inr g) = false_true (subst (λ (x : FieldInfo). is_private x.flags ≡ true) (sym (that_is_first g.field g.is)) g.private)
+not_guarded (inl g) = true≢false (subst (λ (x : FieldInfo). is_static x.flags ≡ false) (sym (that_is_first g.field g.is)) g.instance)
+not_guarded (inr g) = false≢true (subst (λ (x : FieldInfo). is_private x.flags ≡ true) (sym (that_is_first g.field g.is)) g.private)
 
 first_is_open : IsUse shared (tags_of shared) 0 Open
 first_is_open = (not_frozen, not_guarded)

@@ -7,13 +7,13 @@ use Rattle.checked_program.specs.CodeIndex.{statics_below}
 pub few_statics : (p : Program) → IsProgram p → statics_among p.fields ≤ MOST_HEAP
 few_statics p is = omega (arith, is.words, is.heap_to)
 
-abbrev one_static : FieldInfo → ℕ
+abbrev pub one_static : FieldInfo → ℕ
 one_static f = cond (is_static f.flags) 1 0
 
-abbrev one_below : (class : ℕ) → FieldInfo → ℕ
+abbrev pub one_below : (class : ℕ) → FieldInfo → ℕ
 one_below class f = cond (nat_lt f.class class && is_static f.flags) 1 0
 
-one_at_most : (class : ℕ) (f : FieldInfo) → one_below class f ≤ one_static f
+pub one_at_most : (class : ℕ) (f : FieldInfo) → one_below class f ≤ one_static f
 one_at_most class f = by_tests (nat_lt f.class class) (is_static f.flags)
   where
     by_tests : (a b : Bool) → cond (a && b) 1 0 ≤ cond b 1 0

@@ -1,6 +1,6 @@
 -- Tags of locals, of which only the first are kept.
 use Rattle.std.proofs.Common.{◌≡◌, ℕ, zero, suc, ◌+◌, ◌-◌, ◌<◌, ◌≤◌, max, min, Bool, true, false, not, List, [], ◌∷◌, ◌++◌, length, replicate, take, drop, Some, refl, sym, ap, ◌∙◌, append_assoc, arith, ◌||◌, ◌&&◌, nat_lt, if◌then◌else◌, slice_get, slice_set}
-use Rattle.std.proofs.lemmas.{Bool.Decides.nat_tests, List.{length-append, length-replicate, length-map, length-set, set-append_left, map-append, replicate-append-replicate}}
+use Rattle.std.proofs.{Math.Bool.{or-true, or-false}, lemmas.{Bool.Decides.nat_tests, List.{length-append, length-replicate, length-map, length-set, set-append_left, map-append, replicate-append-replicate}}}
 use Rattle.graph_closure.proofs.SpreadLaws.{none_below}
 use Rattle.checked_program.specs.{LockTags.{filled_tags, same_tag, same_tags, meet_tags, without}, declared.tag.Tag.{Tag, TheVariants.{Untagged, At}}}
 
@@ -70,17 +70,9 @@ meet_filled n m ts us e = meet_first ts (n - length ts) m us (omega (arith, e, a
 
 -- and whether that changes them
 
-or_true : (b : Bool) → (b || true) ≡ true
-or_true true = refl
-or_true false = refl
-
-or_false : (b : Bool) → (b || false) ≡ b
-or_false true = refl
-or_false false = refl
-
 one_more : (a fewer c d : Bool) → (fewer || not c) ≡ not d → (fewer || not (a && c)) ≡ not (a && d)
 one_more true fewer c d e = e
-one_more false fewer c d e = or_true fewer
+one_more false fewer c d e = or-true fewer
 
 fewer_more : (m k : ℕ) → nat_lt (suc m) (suc k) ≡ nat_lt m k
 fewer_more m k = grind (arith, nat_tests)
@@ -98,7 +90,7 @@ told_first : (ts : List Tag) (k m : ℕ) (us : List Tag) → m ≡ min (length t
     → (nat_lt m (length ts + k) || not (same_tags (take m ts) (meet_tags (take m ts) us))) ≡ not (same_tags (ts ++ replicate k Untagged) (meet_tags (ts ++ replicate k Untagged) us))
 told_first [] k m us e =
     let all : 0 + k ≡ k = omega arith in
-    rw (all, no_tags m) (or_false (nat_lt m k) ∙ told_untagged k m us (omega (arith, e)))
+    rw (all, no_tags m) (or-false (nat_lt m k) ∙ told_untagged k m us (omega (arith, e)))
 told_first (t ∷ ts) k m [] e =
     let none : m ≡ 0 = omega (arith, e) in
     let more : suc (length ts) + k ≡ suc (length ts + k) = omega arith in
@@ -131,7 +123,7 @@ meet_more (x ∷ xs) (y ∷ ys) zero t u e f =
     rw (same, other) refl
 meet_more (x ∷ xs) (y ∷ ys) (suc i) t u e f = ap (λ l. x ∷ l) (meet_more xs ys i t u e f)
 
-change_more : (changed a b : Bool) → ((changed || not a) || not b) ≡ (changed || not (a && b))
+pub change_more : (changed a b : Bool) → ((changed || not a) || not b) ≡ (changed || not (a && b))
 change_more true a b = refl
 change_more false true b = refl
 change_more false false b = refl

@@ -1,10 +1,21 @@
 -- Tests of a program that is written out, from which its marks follow.
 use Rattle.std.proofs.Common.{◌≡◌, ◌<◌, ◌≤◌, ℕ, Bool, true, false, List, [], ◌∷◌, Option, Some, None, refl, subst, arith, ◌==◌, ◌&&◌, ◌||◌, nat_le, nat_lt, if◌then◌else◌}
 use Rattle.std.proofs.lemmas.Bool.Decides.{nat_tests}
-use Rattle.jvm_types.specs.declared.program.Program.{Program}
+use Rattle.jvm_types.specs.declared.{code.Insn.Insn, program.{MethodInfo.MethodInfo, Program.Program, Target.Target}}
 use Rattle.checked_program.specs.Marks.{Callee, callee, called_method, receiver_tag, called_mode, Calls, CallsThrough, IsCalledBy, section_fault, BreaksAt, CalleeBreaks, CalleeRecurs, Applies, elsewhere, itself, called, recurring, IsOnOwn, turn}
-use Rattle.checked_program.specs.{OwnedArrays.reads_owned, Sections.{Section, section_mode}, TaggedCode.Tagged, declared.section.{Mode.Mode, Uses.Uses}}
-use Rattle.checked_program.proofs.EachReached.{Test, NumberedTest, all_in, in_method, all_numbered, in_numbered}
+use Rattle.checked_program.specs.{LockTags.TagShape, OwnedArrays.reads_owned, Sections.{Section, section_mode}, TaggedCode.{Tagged, IsAt}, declared.section.{Mode.Mode, Spot.TheVariants.Method, Uses.Uses}}
+use Rattle.checked_program.proofs.{EachReached.{Test, NumberedTest, all_in, in_method, all_numbered, in_numbered}, TriedPrograms.tags_of}
+
+-- ---- sections of small programs
+
+-- a synchronized method
+abbrev pub section : ℕ → Section
+section mi = record { method = mi; spot = Method }
+
+-- an instruction of its own breaks a rule
+pub breaks_own : (p : Program) (uses : Uses) (mi i n : ℕ) (m : MethodInfo) (insn : Insn) (target : Target) (f : TagShape) → IsAt p (tags_of p) mi i m insn target f
+    → section_fault p uses.fields (section_mode p (section mi)) insn.op target f.stack (reads_owned uses mi i) ≡ n → 0 < n → Applies p (tags_of p) uses (section mi) n
+breaks_own p uses mi i n m insn target f at e some = itself (record { i = i; own = record { m = m; insn = insn; target = target; f = f; at = at }; breaks = record { m = m; insn = insn; target = target; f = f; at = at; fault_is = e; some = some } })
 
 -- ---- an earlier rule is broken by no instruction
 

@@ -144,7 +144,23 @@ reach_found p mi found is inside are = record {
 
 -- ---- as Rust shows the graph and the set
 
-module _ (p : Program) (mi n : ℕ) (g : Graph) (to from : List ℕ) (into shown : List Bool) (q : g ≡ method_calls p.methods (length p.methods)) (t : to ≡ g.to) (f : from ≡ g.from) (l : n ≡ length p.methods) (i : into ≡ only_one n mi) (s : shown ≡ into) where
+pub record Showing (p : Program) (mi : ℕ) : Type 0 where
+  pub n : ℕ
+  pub g : Graph
+  pub to : List ℕ
+  pub from : List ℕ
+  pub into : List Bool
+  pub shown : List Bool
+  pub graph_is : g ≡ method_calls p.methods (length p.methods)
+  pub to_is : to ≡ g.to
+  pub from_is : from ≡ g.from
+  pub count : n ≡ length p.methods
+  pub into_is : into ≡ only_one n mi
+  pub shown_is : shown ≡ into
+
+module _ (p : Program) (mi : ℕ) (showing : Showing p mi) where
+  open showing use {to, from, shown, graph_is as q, to_is as t, from_is as f, count as l, into_is as i, shown_is as s}
+
   abbrev all_calls : Graph
   all_calls = method_calls p.methods (length p.methods)
 

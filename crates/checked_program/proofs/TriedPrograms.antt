@@ -1,6 +1,7 @@
 -- Small programs that the definitions of this crate are tried on, and the visits that tag a method, computed.
 use Rattle.std.proofs.Common.{ℕ, zero, suc, pos, List, [], ◌∷◌, Option, Some, None, Result, Ok, Err, map, codes}
 use Rattle.jvm_types.specs.declared.{code.{Insn.Insn, Op.Op}, program.{FieldInfo.FieldInfo, Kind.Kind, MethodInfo.MethodInfo, Program.Program, Row.Row, Target.Target}, refusal.SRule.SRule}
+use Rattle.jvm_types.proofs.SampleMethods.{insn}
 use Rattle.checked_program.specs.{LockTags.TagShape, TaggedCode.Tagged, Tagging.tag_plan, Visits.{PlanNode, plan_nodes, next_waiting, plan_visited}}
 use Rattle.jvm_types.specs.declared.code.Op.TheVariants as ops
 use Rattle.jvm_types.specs.declared.program.Kind.TheVariants as kinds
@@ -38,9 +39,6 @@ abbrev pub tags_of : Program → Tagged
 tags_of p = map (λ m. frames_in (tagged p m)) p.methods
 
 -- ---- methods
-
-abbrev pub insn : ℕ → ℕ → Op → Insn
-insn pc next op = record { pc = pc; next = next; op = op }
 
 -- an instruction with what its constant names
 abbrev pub Line : Type 0

@@ -1,13 +1,11 @@
 -- How the fields of small programs may be read: frozen, guarded, or neither.
 use Rattle.std.proofs.Common.{◌≡◌, ◌⊎◌, inl, inr, ℕ, zero, suc, true, false, List, [], ◌∷◌, Some, refl, sym, subst, arith, slice_get}
+use Rattle.std.proofs.lemmas.Bool.{false≢true, true≢false}
 use Rattle.jvm_types.specs.{Members.{is_private, is_static, is_final}, declared.program.{FieldInfo.FieldInfo, Program.Program}}
 use Rattle.checked_program.specs.{FrozenPlaces.{IsFrozenClass, IsFrozenField, IsFrozenUse, IsGuardedField, IsGuardedUse, IsUse}, OwnedArrays.AreUses, declared.section.FieldUse.FieldUse}
 use Rattle.checked_program.{specs.declared.{section.FieldUse.TheVariants.{Frozen, Guarded, Open}, tag.Tag.TheVariants.{Untagged, This}}, proofs.FrozenChecks.{is_frozen, is_written_guarded}}
 use Rattle.checked_program.proofs.OwnedChecks.{no_elements, no_owners, none_are_read}
 use Rattle.checked_program.proofs.TriedPrograms.{many, many_fields, static_object, private_int, one_field, leaking, unlocked, on_another, tags_of}
-
-false_true : false ≡ true → ⊥
-false_true h = cc
 
 -- the constructor of `many` lets its object nowhere
 class_is_frozen : (c : ℕ) → IsFrozenClass many (tags_of many) c
@@ -27,18 +25,15 @@ that_is_static : (field : FieldInfo) → slice_get many_fields 2 ≡ Some field 
 that_is_static field e = cc
 
 is_no_instance : (field : FieldInfo) → slice_get many_fields 2 ≡ Some field → is_static field.flags ≡ false → ⊥
-is_no_instance field e h = true_false (subst (λ (f : FieldInfo). is_static f.flags ≡ false) (sym (that_is_static field e)) h)
-  where
-    true_false : true ≡ false → ⊥
-    true_false h = cc
+is_no_instance field e h = true≢false (subst (λ (f : FieldInfo). is_static f.flags ≡ false) (sym (that_is_static field e)) h)
 
 static_not_frozen : IsFrozenUse many (tags_of many) 2 → ⊥
 static_not_frozen (inl f) = is_no_instance f.field f.is f.instance
-static_not_frozen (inr f) = false_true (subst (λ (x : FieldInfo). is_final x.flags ≡ true) (sym (that_is_static f.field f.is)) f.final)
+static_not_frozen (inr f) = false≢true (subst (λ (x : FieldInfo). is_final x.flags ≡ true) (sym (that_is_static f.field f.is)) f.final)
 
 static_not_guarded : IsGuardedUse many (tags_of many) 2 → ⊥
 static_not_guarded (inl g) = is_no_instance g.field g.is g.instance
-static_not_guarded (inr g) = false_true (subst (λ (x : FieldInfo). is_private x.flags ≡ true) (sym (that_is_static g.field g.is)) g.private)
+static_not_guarded (inr g) = false≢true (subst (λ (x : FieldInfo). is_private x.flags ≡ true) (sym (that_is_static g.field g.is)) g.private)
 
 static_is_open : IsUse many (tags_of many) 2 Open
 static_is_open = (static_not_frozen, static_not_guarded)
@@ -68,10 +63,10 @@ in_one_field : (p : Program) (field : FieldInfo) → p.fields ≡ one_field → 
 in_one_field p field e h = that_is_private field (subst (λ (fs : List FieldInfo). slice_get fs 0 ≡ Some field) e h)
 
 not_final : (field : FieldInfo) → private_int 0 ≡ field → is_final field.flags ≡ true → ⊥
-not_final field e h = false_true (subst (λ (f : FieldInfo). is_final f.flags ≡ true) (sym e) h)
+not_final field e h = false≢true (subst (λ (f : FieldInfo). is_final f.flags ≡ true) (sym e) h)
 
 not_static : (field : FieldInfo) → private_int 0 ≡ field → is_static field.flags ≡ true → ⊥
-not_static field e h = false_true (subst (λ (f : FieldInfo). is_static f.flags ≡ true) (sym e) h)
+not_static field e h = false≢true (subst (λ (f : FieldInfo). is_static f.flags ≡ true) (sym e) h)
 
 not_frozen : (p : Program) → p.fields ≡ one_field → IsFrozenUse p (tags_of p) 0 → ⊥
 not_frozen p e (inl f) = not_final f.field (in_one_field p f.field e f.is) f.final
@@ -86,7 +81,7 @@ class_is_17 field e = subst (λ (f : FieldInfo). f.class ≡ 17) (that_is_privat
 
 -- `this` is stored in a static field
 leaks : IsFrozenClass leaking (tags_of leaking) 17 → ⊥
-leaks f = false_true ((f 0 _ refl refl refl).taken 3 _ _ _ (record { in_program = refl; in_code = refl; names = refl; frames = _; of_method = refl; frame = refl }) 0 (omega arith) refl)
+leaks f = false≢true ((f 0 _ refl refl refl).taken 3 _ _ _ (record { in_program = refl; in_code = refl; names = refl; frames = _; of_method = refl; frame = refl }) 0 (omega arith) refl)
 
 leaked_is_open : IsUse leaking (tags_of leaking) 0 Open
 leaked_is_open = (not_frozen leaking refl, not_guarded leaking refl (λ g. leaks (subst (λ (c : ℕ). IsFrozenClass leaking (tags_of leaking) c) (class_is_17 g.field g.is) g.frozen)))
@@ -95,7 +90,7 @@ leaked_is_open = (not_frozen leaking refl, not_guarded leaking refl (λ g. leaks
 unlocked_is_open : IsUse unlocked (tags_of unlocked) 0 Open
 unlocked_is_open = (
   not_frozen unlocked refl,
-  not_guarded unlocked refl (λ g. false_true (g.written 2 2 _ _ _ _ (record { in_program = refl; in_code = refl; names = refl; frames = _; of_method = refl; frame = refl }) refl).1),
+  not_guarded unlocked refl (λ g. false≢true (g.written 2 2 _ _ _ _ (record { in_program = refl; in_code = refl; names = refl; frames = _; of_method = refl; frame = refl }) refl).1),
 )
 
 -- a write on another object
