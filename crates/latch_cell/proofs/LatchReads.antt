@@ -4,40 +4,42 @@ use Rattle.std.specs.Prelude.{unwrap_or}
 use Rattle.machine_types.specs.{LockWords.{lock_of, is_lock_word}, declared.lock.LockWord.LockWord}
 use Rattle.solero_cell.specs.{CellRules.{IsHeldByWrite}, CellViews.{record_of, noted, has_failed, has_loaded, has_looked, forgot, has_read, has_compared, IsStill}, Histories.{last_count, RecordStands, IsLast, OwnStand}}
 use Rattle.solero_cell.specs.{Stages.{IsLoading, IsJoining}, Steps.{note_of, joining_of, NotedBy, TellsNote, HasCompared}, declared.views.{Moment.{Moment, TheVariants.{AtRest, UnderWay}}, Record.Record, View.View}}
-use Rattle.solero_cell.proofs.{Allowing.LooksTo, Knowing.{calm_seat, nothing_loaded, if_some, is_not_storing}, Looking.{held_now, looks_kept, rests_now}, ReadSteps.{some_note, some_record}, Standing.{at_most_last, last_stands, newest_stands}, Words.{free_word, free_is_lock, next_taken, all_taken}}
+use Rattle.solero_cell.proofs.{Allowing.{LooksTo, Seat}, Knowing.{calm_seat, nothing_loaded, if_some, is_not_storing}, Looking.{held_now, looks_kept, rests_now}, ReadSteps.{some_note, some_record}, Standing.{at_most_last, last_stands, newest_stands}, Words.{free_word, free_is_lock, next_taken, all_taken}}
 use Rattle.latch_cell.specs.{Copies.{latch_count, copy_start}, LatchRules.{count_of, LatchKnowledge, IsLetGo, HasTwoCopies}, LatchSteps.{has_counted, HasCounted, copy_attempt_ended, TellsCopyFinish}}
-use Rattle.latch_cell.proofs.{CopyWords.{copy_long, copy_index}, Latching.{IsCountAt, copy_at, its, next, now, now_is, counted_is, looks, looked}}
+use Rattle.latch_cell.proofs.{CopyWords.{copy_long, copy_index}, Latching.{copies, copy_at, its, next, now, now_is, counted_is, looks, looked}}
 use lib.ListN.{get_elem?}
 use mathlib.Core.{Logic.dite, Option.some}
 use native.Mathlib.Decide.{ℕ_discrete}
 
-module _ (o : Record) (id : ℕ) (v : View) (parts : 0 < v.share.parts) (ws : List ℕ) (views : List View) (s : HasTwoCopies o ws views) (at : get_elem? views id ≡ some v) where
+module _ (o : Record) {id : ℕ} {v : View} (ws : List ℕ) (seat : Seat id v) (s : HasTwoCopies o ws seat.views) where
+  open seat use {views, at, parts}
+
   abbrev Leads : (View → Type 0) → Type 0
   Leads = LooksTo (HasTwoCopies o) ws views id
 
   abbrev mine : LatchKnowledge o s.history ws v
-  mine = its o id v parts ws views s at
+  mine = its o ws seat s
 
   abbrev place : ℕ
-  place = next o id v parts ws views s at
+  place = next o ws seat s
 
   abbrev here : Moment
-  here = now o id v parts ws views s at
+  here = now o ws seat s
 
   -- what a view in the middle of neither a write nor a join makes of the step
   steps : (w : View) → w.share ≡ v.share → w.writes ≡ v.writes → w.looks ≡ v.looks ++ record { place = place; moment = here } ∷ []
       → LatchKnowledge o s.history ws w → v.storing ≡ None → w.storing ≡ None → HasTwoCopies o ws (slice_set views id w)
-  steps w share writes more knows none none' = looked o id v parts ws views s at w share writes (is_not_storing w none' ∙ sym (is_not_storing v none)) knows (looks o id v parts ws views s at w here refl more)
+  steps w share writes more knows none none' = looked o ws seat s w share writes (is_not_storing w none' ∙ sym (is_not_storing v none)) knows (looks o ws seat s w here refl more)
 
   -- ---- a load of the count
 
   pub count_step : IsStill v → Leads (HasCounted v (latch_count ws))
   count_step still =
       let w : View = has_counted place here v in
-      let c = now_is o id v parts ws views s at in
-      let is = counted_is o id v parts ws views s at in (
+      let c = now_is o ws seat s in
+      let is = counted_is o ws seat s in (
         w,
-        steps w refl refl refl (calm_seat (IsCountAt ws) (copy_at o ws) o s.history w mine.opening_is (record { writes = mine.own.writes; latest = mine.own.latest }) (omega (arith, c)) (nothing_loaded (IsCountAt ws) (copy_at o ws) (Some (count_of here)) v.loaded still.loaded) still.storing still.joining) still.storing still.storing,
+        steps w refl refl refl (calm_seat (copies o ws) o s.history w mine.opening_is (record { writes = mine.own.writes; latest = mine.own.latest }) (omega (arith, c)) (nothing_loaded (copies o ws) (Some (count_of here)) v.loaded still.loaded) still.storing still.joining) still.storing still.storing,
         record { place = place; moment = here; view = refl; count_is = is; later = let le = at_most_last o s.history v.latest mine.own.latest in omega (arith, le, s.count) },
       )
 
@@ -49,9 +51,9 @@ module _ (o : Record) (id : ℕ) (v : View) (parts : 0 < v.share.parts) (ws : Li
       let x : ℕ = slice_index ws (start + i) in
       let w : View = has_loaded x v in (
         w,
-        looked o id v parts ws views s at w refl refl refl
-            (calm_seat (IsCountAt ws) (copy_at o ws) o s.history w mine.opening_is (record { writes = mine.own.writes; latest = mine.own.latest }) mine.note more is.storing is.joining)
-            (looks_kept count_of (AtRest o.count) here here views id v w s.seats.looks at refl refl),
+        looked o ws seat s w refl refl refl
+            (calm_seat (copies o ws) o s.history w mine.opening_is (record { writes = mine.own.writes; latest = mine.own.latest }) mine.note more is.storing is.joining)
+            (looks_kept count_of (AtRest o.count) here here seat w s.seats.looks refl refl),
         refl,
       )
     where
@@ -80,7 +82,7 @@ module _ (o : Record) (id : ℕ) (v : View) (parts : 0 < v.share.parts) (ws : Li
       got = record_of (note_of v) v.loaded
 
       knows : (w : View) → w.opening ≡ o → OwnStand o s.history w → w.note ≡ v.note → w.loaded ≡ [] → w.storing ≡ None → w.joining ≡ None → LatchKnowledge o s.history ws w
-      knows w opening own same none storing joining = calm_seat (IsCountAt ws) (copy_at o ws) o s.history w opening own (subst (λ p. IfSome p (λ c. c ≤ last_count o s.history)) (sym same) mine.note) (nothing_loaded (IsCountAt ws) (copy_at o ws) w.note w.loaded none) storing joining
+      knows w opening own same none storing joining = calm_seat (copies o ws) o s.history w opening own (subst (λ p. IfSome p (λ c. c ≤ last_count o s.history)) (sym same) mine.note) (nothing_loaded (copies o ws) w.note w.loaded none) storing joining
 
       same : latch_count ws ≡ note_of v → Leads (TellsCopyFinish is_last v (latch_count ws))
       same e =
@@ -94,7 +96,7 @@ module _ (o : Record) (id : ℕ) (v : View) (parts : 0 < v.share.parts) (ws : Li
               same = λ e'. record {
                 place = place;
                 moment = here;
-                count_is = sym e ∙ counted_is o id v parts ws views s at;
+                count_is = sym e ∙ counted_is o ws seat s;
                 view = refl;
                 seen = record {
                   history = s.history;
@@ -118,7 +120,7 @@ module _ (o : Record) (id : ℕ) (v : View) (parts : 0 < v.share.parts) (ws : Li
           let le : note_of v ≤ last_count o s.history = if_some (λ m. m ≤ last_count o s.history) v.note (note_of v) note mine.note in (
             ended is_last,
             ended_step is_last,
-            record { same = λ e. absurd (n e); other = λ m. record { place = place; moment = here; view = refl; count_is = counted_is o id v parts ws views s at; above = below (note_of v) (latch_count ws) (omega (arith, le, s.count)) m } },
+            record { same = λ e. absurd (n e); other = λ m. record { place = place; moment = here; view = refl; count_is = counted_is o ws seat s; above = below (note_of v) (latch_count ws) (omega (arith, le, s.count)) m } },
           )
         where
           below : (a b : ℕ) → a ≤ b → b ≢ a → a < b
@@ -135,8 +137,8 @@ module _ (o : Record) (id : ℕ) (v : View) (parts : 0 < v.share.parts) (ws : Li
           let w : View = noted place c v in
           let by : NotedBy (lock_of (4 * c)) (4 * c) v w = subst (λ (l : LockWord). NotedBy l (4 * c) v w) (sym (free_word c)) (record { place = place; view = refl; later = at_most_last o s.history v.latest mine.own.latest }) in (
             w,
-            looked o id v parts ws views s at w refl refl refl (calm_seat (IsCountAt ws) (copy_at o ws) o s.history w mine.opening_is (record { writes = mine.own.writes; latest = mine.own.latest }) (omega arith) (nothing_loaded (IsCountAt ws) (copy_at o ws) (Some c) v.loaded still.loaded) still.storing still.joining)
-                (looks o id v parts ws views s at w (AtRest c) (sym (rests_now o s.history (slice_index ws 0) c r.word)) refl),
+            looked o ws seat s w refl refl refl (calm_seat (copies o ws) o s.history w mine.opening_is (record { writes = mine.own.writes; latest = mine.own.latest }) (omega arith) (nothing_loaded (copies o ws) (Some c) v.loaded still.loaded) still.storing still.joining)
+                (looks o ws seat s w (AtRest c) (sym (rests_now o s.history (slice_index ws 0) c r.word)) refl),
             record {
               lock = subst (λ x. is_lock_word x ≡ true) (sym r.word) (free_is_lock c);
               noted = subst (λ x. NotedBy (lock_of x) x v w) (sym r.word) by;
@@ -149,8 +151,8 @@ module _ (o : Record) (id : ℕ) (v : View) (parts : 0 < v.share.parts) (ws : Li
           let w : View = has_failed place (UnderWay c) v in
           let by : NotedBy (lock_of 6) 6 v w = record { place = place; count = c; view = refl; word_is = refl } in (
             w,
-            looked o id v parts ws views s at w refl refl refl (calm_seat (IsCountAt ws) (copy_at o ws) o s.history w mine.opening_is (record { writes = mine.own.writes; latest = mine.own.latest }) mine.note mine.loaded still.storing still.joining)
-                (looks o id v parts ws views s at w (UnderWay c) (sym (held_now o s.history (slice_index ws 0) r.word)) refl),
+            looked o ws seat s w refl refl refl (calm_seat (copies o ws) o s.history w mine.opening_is (record { writes = mine.own.writes; latest = mine.own.latest }) mine.note mine.loaded still.storing still.joining)
+                (looks o ws seat s w (UnderWay c) (sym (held_now o s.history (slice_index ws 0) r.word)) refl),
             record {
               lock = subst (λ x. is_lock_word x ≡ true) (sym r.word) refl;
               noted = subst (λ x. NotedBy (lock_of x) x v w) (sym r.word) by;
@@ -165,8 +167,8 @@ module _ (o : Record) (id : ℕ) (v : View) (parts : 0 < v.share.parts) (ws : Li
       let there : RecordStands o s.history r = if_some (RecordStands o s.history) v.joining r (some_record v.joining is.joining) mine.joining in
       let w : View = has_compared r v in (
         w,
-        looked o id v parts ws views s at w refl refl refl (calm_seat (IsCountAt ws) (copy_at o ws) o s.history w mine.opening_is (record { writes = mine.own.writes; latest = newest_stands o s.history v.latest r mine.own.latest there }) mine.note (nothing_loaded (IsCountAt ws) (copy_at o ws) v.note v.loaded is.loaded) is.storing refl)
-            (looks_kept count_of (AtRest o.count) here here views id v w s.seats.looks at refl refl),
+        looked o ws seat s w refl refl refl (calm_seat (copies o ws) o s.history w mine.opening_is (record { writes = mine.own.writes; latest = newest_stands o s.history v.latest r mine.own.latest there }) mine.note (nothing_loaded (copies o ws) v.note v.loaded is.loaded) is.storing refl)
+            (looks_kept count_of (AtRest o.count) here here seat w s.seats.looks refl refl),
         record {
           view = refl;
           history = s.history;

@@ -3,9 +3,9 @@ use Rattle.std.proofs.Common.{◌≡◌, ℕ, ◌+◌, ◌*◌, ◌<◌, inl, Li
 use Rattle.atomic_table.{specs.Table.{Splits, Joins}, proofs.Lists.{set_else}}
 use Rattle.atomic_table.specs.Seated.{TableId}
 use Rattle.solero_cell.specs.{CellRules.{storing_count}, CellViews.{first_view, halved, newcomer, taken_in, spent, IsStill}, Moments.moment_now, declared.views.{Moment.TheVariants.AtRest, Record.Record, View.View}}
-use Rattle.solero_cell.proofs.{Allowing.{by_words}, Looking.{rests_now}, SeatSteps.{cut_views, cut_sum, seats_cut, halved_knows, newcomer_knows, joined_of, joined_stores, seats_joined, both_know, seats_opened, first_knows}}
+use Rattle.solero_cell.proofs.{Allowing.{Seat, by_words}, Looking.{rests_now}, SeatSteps.{cut_views, cut_sum, seats_cut, halved_knows, newcomer_knows, joined_of, joined_stores, seats_joined, both_know, seats_opened, first_knows}}
 use Rattle.latch_cell.specs.{Copies.{copy_gap}, LatchRules.{count_of, LatchKnowledge, HasTwoCopies}, LatchStages.{IsLatchSeatAt}}
-use Rattle.latch_cell.proofs.{CopyWords.{opening_copy}, Latching.{IsCountAt, copy_at, its, now, locks_as}}
+use Rattle.latch_cell.proofs.{CopyWords.{opening_copy}, Latching.{copies, copy_at, its, now, locks_as}}
 use lib.ListN.{get_elem?}
 use mathlib.Core.Option.{some}
 
@@ -27,15 +27,16 @@ pub latch_splits : {S : Type 0} (o : Record) (id : ℕ) (v : View) → 0 < v.sha
     → Splits {S = S} (by_words (HasTwoCopies o)) id v (halved v) (newcomer v)
 latch_splits o id v parts still s run at =
     let ws = s.words in
-    let mine = its o id v parts ws s.views run at in
+    let seat : Seat id v = record { views = s.views; at = at; parts = parts } in
+    let mine = its o ws seat run in
     record {
       history = run.history;
       long = run.long;
       count = run.count;
       values = run.values;
-      lock = locks_as o run.history ws s.views (cut_views s.views id v at) (cut_sum s.views id v at storing_count refl refl) run.lock;
-      seats = seats_cut s.views id v at o run.history (LatchKnowledge o run.history ws) count_of (now o id v parts ws s.views run at) parts run.seats
-          (halved_knows (IsCountAt ws) (copy_at o ws) o run.history v still mine) (newcomer_knows (IsCountAt ws) (copy_at o ws) o run.history v still mine);
+      lock = locks_as o run.history ws s.views (cut_views seat) (cut_sum seat storing_count refl refl) run.lock;
+      seats = seats_cut seat o run.history (LatchKnowledge o run.history ws) count_of (now o ws seat run) run.seats
+          (halved_knows (copies o ws) o run.history v still mine) (newcomer_knows (copies o ws) o run.history v still mine);
     }
 
 -- ---- a join
@@ -45,14 +46,16 @@ pub latch_joins : {S : Type 0} (o : Record) (id other : ℕ) (v w : View) → 0 
 latch_joins o id other v w parts parts' still still' s run at apart g =
     let ws = s.words in
     let at_other : get_elem? s.views other ≡ some w = sym (set_else s.views id other (taken_in v w) apart) ∙ g in
+    let seat : Seat id v = record { views = s.views; at = at; parts = parts } in
+    let seat' : Seat other w = record { views = s.views; at = at_other; parts = parts' } in
     record {
       history = run.history;
       long = run.long;
       count = run.count;
       values = run.values;
-      lock = locks_as o run.history ws s.views (joined_of s.views id other v w at apart at_other) (joined_stores s.views id other v w at apart at_other still still') run.lock;
-      seats = seats_joined s.views id other v w at apart at_other o run.history (LatchKnowledge o run.history ws) count_of (now o id v parts ws s.views run at) parts run.seats
-          (both_know (IsCountAt ws) (copy_at o ws) o run.history v w (its o id v parts ws s.views run at) (its o other w parts' ws s.views run at_other));
+      lock = locks_as o run.history ws s.views (joined_of seat other w apart at_other) (joined_stores seat other w apart at_other still still') run.lock;
+      seats = seats_joined seat other w apart at_other o run.history (LatchKnowledge o run.history ws) count_of (now o ws seat run) run.seats
+          (both_know (copies o ws) o run.history v w (its o ws seat run) (its o ws seat' run));
     }
 
 -- ---- a new cell
@@ -71,6 +74,6 @@ latch_opening o gap wide =
       count = omega arith;
       values = record { count = refl; values = ap Some (sym (opening_copy (4 * o.count) o.count gap o.values (o.count + 0) wide)) };
       lock = inl (record { word = omega arith; nobody = refl });
-      seats = seats_opened o (LatchKnowledge o [] ws) count_of (moment_now o [] (4 * o.count)) (first_knows (IsCountAt ws) (copy_at o ws) o)
+      seats = seats_opened o (LatchKnowledge o [] ws) count_of (moment_now o [] (4 * o.count)) (first_knows (copies o ws) o)
           (sym (rests_now o [] (4 * o.count) o.count refl ∙ ap AtRest (omega arith)));
     }

@@ -4,35 +4,37 @@ use Rattle.std.{specs.List.{sum_by}, proofs.lemmas.List.{length-set, set-get_or,
 use Rattle.atomic_table.proofs.Lists.{exchanged}
 use Rattle.solero_cell.specs.{CellRules.{HaveLooked, IsUnderWay, one_if, storing_count, is_in_span, IsHeldByWrite}, CellViews.{record_of, has_looked, has_failed, has_taken, has_stored, has_released}, Histories.{History, last_count, IsLast, OwnStand, RecordStands}}
 use Rattle.solero_cell.specs.{Stages.{IsNoted, IsStoring}, Steps.{note_of, storing_of, TellsTake}, Moments.moment_now, declared.views.{Moment.{Moment, TheVariants.{AtRest, UnderWay}}, Record.Record, Storing.Storing, View.View}}
-use Rattle.solero_cell.proofs.{Allowing.{LeadsTo}, Knowing.{calm_seat, nothing_loaded, if_none, if_some, not_storing, is_not_storing, is_storing, still_knows, more_knows}, Looking.{held_now, looks_kept, looks_on, rests_now}, Made.{seats_kept, seats_made}}
+use Rattle.solero_cell.proofs.{Allowing.{LeadsTo, Seat}, Knowing.{calm_seat, nothing_loaded, if_none, if_some, not_storing, is_not_storing, is_storing, still_knows, more_knows}, Looking.{held_now, looks_kept, looks_on, rests_now}, Made.{seats_kept, seats_made}}
 use Rattle.solero_cell.proofs.{ReadSteps.{some_note}, Standing.{at_most_last, last_stands, own_on, all_both, new_last}, Sums.{sum_set, at_most, others_none}, Words.{all_taken}, WriteSteps.{some_storing, one_more, one_stored_as, shorter, some_one}}
 use Rattle.latch_cell.specs.{Copies.{latch_count, copy_start}, LatchRules.{count_of, LatchKnowledge, IsLetGo, HasTwoCopies}, LatchSteps.{has_published, HasPublished, HasLetGo}}
-use Rattle.latch_cell.proofs.{CopyWords.{copy_long, copy_set, head_kept, other_kept, words_kept}, Latching.{IsCountAt, copy_at, its, next, now, now_is, stands, looks, looked}}
+use Rattle.latch_cell.proofs.{CopyWords.{copy_long, copy_set, head_kept, other_kept, words_kept}, Latching.{copies, copy_at, its, next, now, now_is, stands, looks, looked}}
 use lib.ListN.{get_elem?}
 use mathlib.Core.Option.{some}
 use prog.Atomic.{either}
 
-module _ (o : Record) (id : ℕ) (v : View) (parts : 0 < v.share.parts) (ws : List ℕ) (views : List View) (s : HasTwoCopies o ws views) (at : get_elem? views id ≡ some v) where
+module _ (o : Record) {id : ℕ} {v : View} (ws : List ℕ) (seat : Seat id v) (s : HasTwoCopies o ws seat.views) where
+  open seat use {views, at, parts}
+
   abbrev Writes : (i x : ℕ) → (View → Type 0) → Type 0
   Writes = LeadsTo (HasTwoCopies o) ws views id
 
   abbrev mine : LatchKnowledge o s.history ws v
-  mine = its o id v parts ws views s at
+  mine = its o ws seat s
 
   abbrev place : ℕ
-  place = next o id v parts ws views s at
+  place = next o ws seat s
 
   abbrev here : Moment
-  here = now o id v parts ws views s at
+  here = now o ws seat s
 
   here_is : count_of here ≡ last_count o s.history
-  here_is = now_is o id v parts ws views s at
+  here_is = now_is o ws seat s
 
   -- the step looks, and behind it this is so
   looked_on : (h' : History) (ws' : List ℕ) (w : View) (m : Moment) → m ≡ moment_now o h' (slice_index ws' 0) → count_of here ≤ count_of m
       → w.looks ≡ v.looks ++ record { place = place; moment = m } ∷ []
       → HaveLooked count_of (AtRest o.count) (moment_now o h' (slice_index ws' 0)) (slice_set views id w)
-  looked_on h' ws' w m e le more = looks_on count_of (AtRest o.count) here (moment_now o h' (slice_index ws' 0)) views id v w s.seats.looks at m e le more
+  looked_on h' ws' w m e le more = looks_on count_of (AtRest o.count) here (moment_now o h' (slice_index ws' 0)) seat w s.seats.looks m e le more
 
   -- a write of the lock word leaves the count and the copies
   count_kept : (x : ℕ) → latch_count (slice_set ws 0 x) ≡ latch_count ws
@@ -66,7 +68,7 @@ module _ (o : Record) (id : ℕ) (v : View) (parts : 0 < v.share.parts) (ws : Li
           opening_is = mine.opening_is;
           own = record { writes = mine.own.writes; latest = mine.own.latest };
           note = mine.note;
-          loaded = nothing_loaded (IsCountAt ws') (copy_at o ws') v.note v.loaded is.still.loaded;
+          loaded = nothing_loaded (copies o ws') v.note v.loaded is.still.loaded;
           storing = record { note_is = note ∙ ap Some c; stored = refl; long = omega (arith, long) };
           joining = mine.joining;
         } in (
@@ -77,8 +79,8 @@ module _ (o : Record) (id : ℕ) (v : View) (parts : 0 < v.share.parts) (ws : Li
             count = count_kept 6 ∙ s.count;
             values = values_kept ws' (head_kept (length o.values) ws 0 6 (last_count o s.history) (omega arith));
             lock = inr (record { word = lock; one = now });
-            seats = seats_kept o s.history (LatchKnowledge o s.history ws) count_of here views id v w s.seats at refl parts (LatchKnowledge o s.history ws') (moment_now o s.history (slice_index ws' 0)) refl k
-                (λ i u n g q. still_knows o s.history (IsCountAt ws) (IsCountAt ws') (copy_at o ws) (copy_at o ws') u (not_storing u (let most = at_most storing_count views i u g in omega (arith, most, r.nobody))) (λ d le z. left_kept 6 d z) q)
+            seats = seats_kept o s.history (LatchKnowledge o s.history ws) count_of here seat s.seats w refl (LatchKnowledge o s.history ws') (moment_now o s.history (slice_index ws' 0)) refl k
+                (λ i u n g q. still_knows o s.history (copies o ws) (copies o ws') u (not_storing u (let most = at_most storing_count views i u g in omega (arith, most, r.nobody))) (λ d le z. left_kept 6 d z) q)
                 (looked_on s.history ws' w m (ap UnderWay c ∙ sym (held_now o s.history (slice_index ws' 0) lock)) (omega (arith, here_is, c)) refl);
           },
           record { same = λ q. record { place = place; view = refl }; other = λ n. absurd (n (e ∙ is.word_is)) },
@@ -90,11 +92,11 @@ module _ (o : Record) (id : ℕ) (v : View) (parts : 0 < v.share.parts) (ws : Li
     lost : slice_index ws 0 ≢ noted → Writes 0 (slice_index ws 0) (TellsTake xs v (slice_index ws 0))
     lost n =
         let w : View = has_failed place here v in
-        let k = calm_seat (IsCountAt ws) (copy_at o ws) o s.history w mine.opening_is (record { writes = mine.own.writes; latest = mine.own.latest }) mine.note mine.loaded is.still.storing is.still.joining in
+        let k = calm_seat (copies o ws) o s.history w mine.opening_is (record { writes = mine.own.writes; latest = mine.own.latest }) mine.note mine.loaded is.still.storing is.still.joining in
         let kept : slice_set ws 0 (slice_index ws 0) ≡ ws = set-get_or ws 0 0 in (
           w,
-          subst (λ l. HasTwoCopies o l (slice_set views id w)) (sym kept) (looked o id v parts ws views s at w refl refl refl k (looks o id v parts ws views s at w here refl refl)),
-          record { same = λ e. absurd (n (e ∙ sym is.word_is)); other = λ q. record { place = place; moment = here; view = refl; word_is = stands o id v parts ws views s at } },
+          subst (λ l. HasTwoCopies o l (slice_set views id w)) (sym kept) (looked o ws seat s w refl refl refl k (looks o ws seat s w here refl refl)),
+          record { same = λ e. absurd (n (e ∙ sym is.word_is)); other = λ q. record { place = place; moment = here; view = refl; word_is = stands o ws seat s } },
         )
 
     pub take_step : Writes 0 (either (slice_index ws 0 == noted) 6 (slice_index ws 0)) (TellsTake xs v (slice_index ws 0))
@@ -179,7 +181,7 @@ module _ (o : Record) (id : ℕ) (v : View) (parts : 0 < v.share.parts) (ws : Li
           opening_is = mine.opening_is;
           own = record { writes = mine.own.writes; latest = mine.own.latest };
           note = mine.note;
-          loaded = nothing_loaded (IsCountAt ws') (copy_at o ws') v.note v.loaded is.loaded;
+          loaded = nothing_loaded (copies o ws') v.note v.loaded is.loaded;
           storing = subst (IsUnderWay o s.history (copy_at o ws') v.note) (sym (one_stored_as x going.left first going.stored)) (record { note_is = under_way.note_is; stored = at_now; long = omega (arith, n, short, under_way.long, is.stored) });
           joining = mine.joining;
         }
@@ -193,9 +195,9 @@ module _ (o : Record) (id : ℕ) (v : View) (parts : 0 < v.share.parts) (ws : Li
             count = count ∙ s.count;
             values = values_kept ws' copy;
             lock = inr (record { word = lock ∙ held.word; one = still_one w refl });
-            seats = seats_kept o s.history (LatchKnowledge o s.history ws) count_of here views id v w s.seats at refl parts (LatchKnowledge o s.history ws') (moment_now o s.history (slice_index ws' 0)) refl k
-                (λ j u m g q. still_knows o s.history (IsCountAt ws) (IsCountAt ws') (copy_at o ws) (copy_at o ws') u (no_other j u m g) (λ d le e. left d e) q)
-                (looks_kept count_of (AtRest o.count) here (moment_now o s.history (slice_index ws' 0)) views id v w s.seats.looks at (ap (moment_now o s.history) lock) refl);
+            seats = seats_kept o s.history (LatchKnowledge o s.history ws) count_of here seat s.seats w refl (LatchKnowledge o s.history ws') (moment_now o s.history (slice_index ws' 0)) refl k
+                (λ j u m g q. still_knows o s.history (copies o ws) (copies o ws') u (no_other j u m g) (λ d le e. left d e) q)
+                (looks_kept count_of (AtRest o.count) here (moment_now o s.history (slice_index ws' 0)) seat w s.seats.looks (ap (moment_now o s.history) lock) refl);
           },
           refl,
         )
@@ -252,7 +254,7 @@ module _ (o : Record) (id : ℕ) (v : View) (parts : 0 < v.share.parts) (ws : Li
           opening_is = mine.opening_is;
           own = record { writes = all_both o h' v.writes (r ∷ []) own.writes (last_stands o h' r last, tt); latest = last_stands o h' r last };
           note = omega (arith, last.count);
-          loaded = nothing_loaded (IsCountAt ws') (copy_at o ws') (Some (note_of v + 1)) v.loaded is.loaded;
+          loaded = nothing_loaded (copies o ws') (Some (note_of v + 1)) v.loaded is.loaded;
           storing = record { note_is = ap Some last.count; stored = refl; long = omega (arith, full) };
           joining = if_none (RecordStands o h') v.joining is.joining;
         }
@@ -266,8 +268,8 @@ module _ (o : Record) (id : ℕ) (v : View) (parts : 0 < v.share.parts) (ws : Li
             count = count ∙ last.count;
             values = record { count = refl; values = last.values ∙ ap Some copy };
             lock = inr (record { word = lock; one = still_one w refl });
-            seats = seats_made o s.history (LatchKnowledge o s.history ws) count_of here views id v w s.seats at refl parts h' (LatchKnowledge o h' ws') (moment_now o h' (slice_index ws' 0)) k
-                (λ j u d g q. more_knows o s.history (IsCountAt ws) (IsCountAt ws') (copy_at o ws) (copy_at o ws') u (no_other j u d g) (λ e le z. absurd (omega (arith, le, z, count, count_is))) q going.stored)
+            seats = seats_made o s.history (LatchKnowledge o s.history ws) count_of here seat s.seats w refl h' (LatchKnowledge o h' ws') (moment_now o h' (slice_index ws' 0)) k
+                (λ j u d g q. more_knows o s.history (copies o ws) (copies o ws') u (no_other j u d g) (λ e le z. absurd (omega (arith, le, z, count, count_is))) q going.stored)
                 (λ n. let push = sum_by_push (λ (q : Record). one_if (q.count == n)) v.writes r in
                 let between = one_more n o.count (last_count o s.history) (omega arith) in
                 let first : one_if (note_of v + 1 == n) ≡ one_if (last_count o s.history + 1 == n) = ap (λ c. one_if (c + 1 == n)) count_is in
@@ -300,7 +302,7 @@ module _ (o : Record) (id : ℕ) (v : View) (parts : 0 < v.share.parts) (ws : Li
         let one = is_storing v going storing in
         let none : storing_count w ≡ 0 = refl in
         let nobody : sum_by storing_count (slice_set views id w) ≡ 0 = omega (arith, sum, one, none, held.one) in
-        let k = calm_seat (IsCountAt ws') (copy_at o ws') o s.history w mine.opening_is (record { writes = mine.own.writes; latest = mine.own.latest }) mine.note (nothing_loaded (IsCountAt ws') (copy_at o ws') v.note v.loaded is.loaded) refl is.joining in (
+        let k = calm_seat (copies o ws') o s.history w mine.opening_is (record { writes = mine.own.writes; latest = mine.own.latest }) mine.note (nothing_loaded (copies o ws') v.note v.loaded is.loaded) refl is.joining in (
           w,
           record {
             history = s.history;
@@ -308,8 +310,8 @@ module _ (o : Record) (id : ℕ) (v : View) (parts : 0 < v.share.parts) (ws : Li
             count = count_kept (4 * note_of v) ∙ s.count;
             values = values_kept ws' (head_kept (length o.values) ws 0 (4 * note_of v) (last_count o s.history) (omega arith));
             lock = inl (record { word = lock ∙ ap (λ c. 4 * c) count_is; nobody = nobody });
-            seats = seats_kept o s.history (LatchKnowledge o s.history ws) count_of here views id v w s.seats at refl parts (LatchKnowledge o s.history ws') (moment_now o s.history (slice_index ws' 0)) refl k
-                (λ j u n g q. still_knows o s.history (IsCountAt ws) (IsCountAt ws') (copy_at o ws) (copy_at o ws') u (no_other j u n g) (λ d le z. left_kept (4 * note_of v) d z) q)
+            seats = seats_kept o s.history (LatchKnowledge o s.history ws) count_of here seat s.seats w refl (LatchKnowledge o s.history ws') (moment_now o s.history (slice_index ws' 0)) refl k
+                (λ j u n g q. still_knows o s.history (copies o ws) (copies o ws') u (no_other j u n g) (λ d le z. left_kept (4 * note_of v) d z) q)
                 (looked_on s.history ws' w m (ap AtRest count_is ∙ sym (rests_now o s.history (slice_index ws' 0) (note_of v) lock)) (omega (arith, here_is, count_is)) refl);
           },
           record { place = place; view = refl },

@@ -1,12 +1,8 @@
 -- How far a read is, as its view goes on.
 use Rattle.std.proofs.Common.{◌≡◌, ℕ, ◌<◌, List, Bool, Some, refl, sym, ap, subst, ◌∙◌}
-use Rattle.std.specs.Prelude.{unwrap_or}
 use Rattle.solero_cell.specs.{CellViews.{IsStill, record_of, has_looked, forgot, has_read}, Histories.IsRecordSeen, Steps.note_of, declared.views.View.View}
-use Rattle.solero_cell.proofs.Going.{forgot_still, seen_as}
+use Rattle.solero_cell.proofs.Going.{forgot_still, note_is, seen_as}
 use Rattle.latch_cell.specs.{LatchAttempts.{IsBehindCopyGot, IsBehindCopyChanged}, LatchSteps.{HasReadCopy, EndsCopyAttempt, copy_attempt_ended}}
-
-pub note_is : (v : View) (c : ℕ) → v.note ≡ Some c → note_of v ≡ c
-note_is v c n = ap (λ p. unwrap_or p 0) n
 
 pub behind_got : (v u now : View) (c : ℕ) (xs : List ℕ) → u ≡ record v { loaded = xs } → v.note ≡ Some c → IsStill v → HasReadCopy u now → IsBehindCopyGot v c xs now
 behind_got v u now c xs e n still h =

@@ -1,7 +1,7 @@
 -- A seat with the share 1 has taken in all others.
 use Rattle.std.{proofs.{Common.{◌≡◌, ℕ, ◌*◌, ◌-◌, ◌^◌, ◌≤◌, ◌<◌, inl, inr, List, refl, sym, ap, subst, ◌∙◌, arith, slice_index}, lemmas.Nat.{pow-add, pow_pos}}, specs.List.sum_by}
 use Rattle.solero_cell.specs.{Calls.{IsOnlySeat, IsAtEnd, IsWhole}, CellRules.{ViewKnowledge, SeatFits, ShareHistory, HaveDepth, HasOneHistory, in_parts}, CellViews.spent, Histories.History, Moments.{moment_now, time_of}, declared.views.{Moment.{Moment, TheVariants.AtRest}, Record.Record}}
-use Rattle.solero_cell.{specs.declared.views.View.View, proofs.{Looking.looks_kept, Made.looked, ReadSteps.{Looks, its}, Shares.pos_times, Sums.{at_most, others_none}}}
+use Rattle.solero_cell.{specs.declared.views.View.View, proofs.{Allowing.Seat, Looking.looks_kept, Made.looked, ReadSteps.{Looks, its}, Shares.pos_times, Sums.{at_most, others_none}}}
 use lib.ListN.{get_elem?}
 use mathlib.Core.Option.{some}
 
@@ -32,16 +32,16 @@ alone o h Knows time now views number v s here whole i u apart at =
     nobody depth Knows u (others_none (parts_of depth) views number i v u here most apart at) (s.each i u at)
 
 -- a load shows this to a seat
-pub end_step : (o : Record) (number : ℕ) (v : View) → 0 < v.share.parts → v.opening ≡ o
-    → (words : List ℕ) (views : List View) → HasOneHistory o words views → get_elem? views number ≡ some v
-    → Looks o words views number (λ w. (w ≡ v) × IsAtEnd v)
-end_step o number v parts is words views s here =
-    let mine = its o number v parts words views s here in
+pub end_step : (o : Record) {number : ℕ} {v : View} → v.opening ≡ o
+    → (words : List ℕ) (seat : Seat number v) → HasOneHistory o words seat.views → Looks o words seat.views number (λ w. (w ≡ v) × IsAtEnd v)
+end_step o {number} {v} is words seat s =
+    let views = seat.views in
+    let mine = its o words seat s in
     let now : Moment = moment_now o s.history (slice_index words 0) in
-    let kept = looks_kept time_of (AtRest o.count) now now views number v v s.seats.looks here refl refl in
+    let kept = looks_kept time_of (AtRest o.count) now now seat v s.seats.looks refl refl in
     let shows : HasOneHistory v.opening words views = subst (λ (p : Record). HasOneHistory p words views) (sym is) s in (
       v,
-      looked o words views number v v s here refl parts refl refl mine kept,
+      looked o words seat v s refl refl refl mine kept,
       (
         refl,
         record {
@@ -49,8 +49,8 @@ end_step o number v parts is words views s here =
           views = views;
           number = number;
           shows = shows;
-          here = here;
-          whole = alone v.opening shows.history (ViewKnowledge v.opening shows.history words) time_of (moment_now v.opening shows.history (slice_index words 0)) views number v shows.seats here;
+          here = seat.at;
+          whole = alone v.opening shows.history (ViewKnowledge v.opening shows.history words) time_of (moment_now v.opening shows.history (slice_index words 0)) views number v shows.seats seat.at;
         },
       ),
     )

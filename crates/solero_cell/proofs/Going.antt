@@ -91,7 +91,7 @@ begin_loading v c n still = record { noted = ap is_some n; loaded = ap length st
 pub all_loaded : (n : ℕ) (xs : List ℕ) (v w : View) (c : ℕ) → w ≡ record v { loaded = xs } → length xs ≡ n → v.note ≡ Some c → IsStill v → IsLoading n w
 all_loaded n xs v w c e l note still = subst (IsLoading n) (sym e) (record { noted = ap is_some note; loaded = l; storing = still.storing; joining = still.joining })
 
-note_is : (v : View) (c : ℕ) → v.note ≡ Some c → note_of v ≡ c
+pub note_is : (v : View) (c : ℕ) → v.note ≡ Some c → note_of v ≡ c
 note_is v c n = ap (λ p. unwrap_or p 0) n
 
 pub behind_got : (v u now : View) (c : ℕ) (xs : List ℕ) → u ≡ record v { loaded = xs } → v.note ≡ Some c → IsStill v → HasRead u now → IsBehindGot v c xs now

@@ -30,9 +30,19 @@ is_not_storing v e = ap (λ p. one_if (is_some p)) e
 pub is_storing : (v : View) (s : Storing) → v.storing ≡ Some s → storing_count v ≡ 1
 is_storing v s e = ap (λ p. one_if (is_some p)) e
 
--- ---- of any cell: which counts are left, and where the values of a count stand
+-- ---- of any cell
 
-module _ (IsLeft : ℕ → Type 0) (place : ℕ → List ℕ) where
+-- which counts are left, and where the values of a count stand
+pub record Layout : Type 1 where
+  pub IsLeft : ℕ → Type 0
+  pub place : ℕ → List ℕ
+
+abbrev pub Knows : Record → History → Layout → View → Type 0
+Knows o h layout = SeatKnowledge o h layout.IsLeft layout.place
+
+module _ (layout : Layout) where
+  open layout use {IsLeft, place}
+
   -- while a noted count is left, what was loaded is a beginning of its values
   abbrev pub LoadedFits : Option ℕ → List ℕ → Type 0
   LoadedFits p xs = (c : ℕ) → p ≡ Some c → IsLeft c → xs ≡ take (length xs) (place c)
@@ -42,7 +52,7 @@ module _ (IsLeft : ℕ → Type 0) (place : ℕ → List ℕ) where
 
   -- a view that is in the middle of neither a write nor a join
   pub calm_seat : (o : Record) (h : History) (w : View) → w.opening ≡ o → OwnStand o h w → NoteFits o h w.note
-      → LoadedFits w.note w.loaded → w.storing ≡ None → w.joining ≡ None → SeatKnowledge o h IsLeft place w
+      → LoadedFits w.note w.loaded → w.storing ≡ None → w.joining ≡ None → Knows o h layout w
   calm_seat o h w is own note loaded storing joining = record {
     opening_is = is;
     own = own;
@@ -57,31 +67,31 @@ note_on o h xs None n = tt
 note_on o h xs (Some c) n = let long = length-append h (xs ∷ []) in omega (arith, long, n)
 
 -- another one writes: of the counts up to the cell's, what is left was left, and has its values where they were
-module _ (o : Record) (h : History) (IsLeft IsLeft' : ℕ → Type 0) (place place' : ℕ → List ℕ) (u : View) (none : u.storing ≡ None)
-    (left : (c : ℕ) → c ≤ last_count o h → IsLeft' c → IsLeft c × (place c ≡ place' c)) (k : SeatKnowledge o h IsLeft place u) where
-  loads : LoadedFits IsLeft' place' u.note u.loaded
+module _ (o : Record) (h : History) (was now : Layout) (u : View) (none : u.storing ≡ None)
+    (left : (c : ℕ) → c ≤ last_count o h → now.IsLeft c → was.IsLeft c × (was.place c ≡ now.place c)) (k : Knows o h was u) where
+  loads : LoadedFits now u.note u.loaded
   loads c n w =
       let at = left c (if_some (λ m. m ≤ last_count o h) u.note c n k.note) w in
       k.loaded c n at.0 ∙ ap (take (length u.loaded)) at.1
 
-  pub still_knows : SeatKnowledge o h IsLeft' place' u
+  pub still_knows : Knows o h now u
   still_knows = record {
     opening_is = k.opening_is;
     own = k.own;
     note = k.note;
     loaded = loads;
-    storing = if_none (IsUnderWay o h place' u.note) u.storing none;
+    storing = if_none (IsUnderWay o h now.place u.note) u.storing none;
     joining = k.joining;
   }
 
   -- its write stands in the history
-  pub more_knows : (xs : List ℕ) → SeatKnowledge o (h ++ xs ∷ []) IsLeft' place' u
+  pub more_knows : (xs : List ℕ) → Knows o (h ++ xs ∷ []) now u
   more_knows xs = record {
     opening_is = k.opening_is;
     own = own_on o h xs u k.own;
     note = note_on o h xs u.note k.note;
     loaded = loads;
-    storing = if_none (IsUnderWay o (h ++ xs ∷ []) place' u.note) u.storing none;
+    storing = if_none (IsUnderWay o (h ++ xs ∷ []) now.place u.note) u.storing none;
     joining = joining_on o h xs u.joining k.joining;
   }
 
@@ -92,25 +102,5 @@ knows_of Knows v p (inr k) = k.1
 
 -- ---- of this cell, whose count is left while the lock has its free word
 
-abbrev pub IsFreeAt : (words : List ℕ) → ℕ → Type 0
-IsFreeAt ws c = slice_index ws 0 ≡ 4 * c
-
-abbrev pub one_place : (words : List ℕ) → ℕ → List ℕ
-one_place ws c = cell_values ws
-
-pub none_loaded : (ws : List ℕ) (p : Option ℕ) (xs : List ℕ) → xs ≡ [] → LoadedFits (IsFreeAt ws) (one_place ws) p xs
-none_loaded ws = nothing_loaded (IsFreeAt ws) (one_place ws)
-
-pub calm : (o : Record) (h : History) (ws : List ℕ) (w : View) → w.opening ≡ o → OwnStand o h w → NoteFits o h w.note
-    → LoadedFits (IsFreeAt ws) (one_place ws) w.note w.loaded → w.storing ≡ None → w.joining ≡ None → ViewKnowledge o h ws w
-calm o h ws = calm_seat (IsFreeAt ws) (one_place ws) o h
-
--- another one is in the middle of a write, and the lock is not free
-pub held_knows : (o : Record) (h : History) (ws ws' : List ℕ) (u : View) → u.storing ≡ None
-    → ((c : ℕ) → slice_index ws' 0 ≢ 4 * c) → ViewKnowledge o h ws u → ViewKnowledge o h ws' u
-held_knows o h ws ws' u none held k = still_knows o h (IsFreeAt ws) (IsFreeAt ws') (one_place ws) (one_place ws') u none (λ c le w. absurd (held c w)) k
-
--- another one's write has ended
-pub released_knows : (o : Record) (h : History) (ws ws' : List ℕ) (xs : List ℕ) (u : View) → u.storing ≡ None
-    → slice_index ws' 0 ≡ 4 * (last_count o h + 1) → ViewKnowledge o h ws u → ViewKnowledge o (h ++ xs ∷ []) ws' u
-released_knows o h ws ws' xs u none word k = more_knows o h (IsFreeAt ws) (IsFreeAt ws') (one_place ws) (one_place ws') u none (λ c le w. absurd (omega (arith, le, w, word))) k xs
+abbrev pub one_place : (words : List ℕ) → Layout
+one_place ws = record { IsLeft = λ c. slice_index ws 0 ≡ 4 * c; place = λ c. cell_values ws }

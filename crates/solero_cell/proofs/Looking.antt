@@ -4,7 +4,7 @@ use Rattle.std.{specs.List.sum_by, proofs.lemmas.{Bool.Decides.nat_tests, List.S
 use Rattle.atomic_table.proofs.Lists.{at_set, at_snoc, set_else}
 use Rattle.solero_cell.specs.{CellRules.{HaveLooked, looks_at, one_if}, CellViews.{halved, newcomer, taken_in, spent}, Histories.{History, last_count}}
 use Rattle.solero_cell.specs.{Moments.{AllFound, IsRowOfMoments, moment_now, time_of, word_of_moment}, declared.views.{Look.Look, Moment.Moment, Moment.TheVariants.{AtRest, UnderWay}, Record.Record, View.View}}
-use Rattle.solero_cell.proofs.{Standing.got_longer, Sums.sum_set}
+use Rattle.solero_cell.proofs.{Allowing.Seat, Standing.{got_last, got_longer}, Sums.sum_set}
 use lib.ListN.{get_elem?}
 use mathlib.Core.Option.{some}
 
@@ -45,10 +45,6 @@ found_both : (ms : List Moment) (ls ks : List Look) → AllFound ms ls → AllFo
 found_both ms [] ks f g = g
 found_both ms (l ∷ ls) ks f g = (f.0, found_both ms ls ks f.1 g)
 
-got_last : {A : Type 0} (xs : List A) (x : A) → slice_get (xs ++ x ∷ []) (length xs) ≡ Some x
-got_last [] x = refl
-got_last (y ∷ ys) x = got_last ys x
-
 pub none_below : (n : ℕ) → one_if (nat_lt n 0) ≡ 0
 none_below n = grind (arith, nat_tests)
 
@@ -60,7 +56,9 @@ one_place_more n l = grind (arith, nat_tests)
 abbrev pub look_of : ℕ → Moment → Look
 look_of n m = record { place = n; moment = m }
 
-module _ (time : Moment → ℕ) (from before after : Moment) (views : List View) (id : ℕ) (v w : View) (s : HaveLooked time from before views) (at : get_elem? views id ≡ some v) where
+module _ (time : Moment → ℕ) (from before after : Moment) {id : ℕ} {v : View} (seat : Seat id v) (w : View) (s : HaveLooked time from before seat.views) where
+  open seat use {views, at}
+
   -- the seat does not look
   pub looks_kept : after ≡ before → w.looks ≡ v.looks → HaveLooked time from after (slice_set views id w)
   looks_kept now same = record {
@@ -99,20 +97,22 @@ module _ (time : Moment → ℕ) (from before after : Moment) (views : List View
 
 -- ---- a split, and a join
 
-module _ (time : Moment → ℕ) (from now : Moment) (views : List View) (s : HaveLooked time from now views) where
-  pub looks_cut : (id : ℕ) (v : View) → get_elem? views id ≡ some v → HaveLooked time from now (slice_set views id (halved v) ++ newcomer v ∷ [])
+module _ (time : Moment → ℕ) (from now : Moment) {id : ℕ} {v : View} (seat : Seat id v) (s : HaveLooked time from now seat.views) where
+  open seat use {views, at}
+
+  pub looks_cut : HaveLooked time from now (slice_set views id (halved v) ++ newcomer v ∷ [])
   unfolding looks_kept
-  looks_cut id v at =
-      let kept : HaveLooked time from now (slice_set views id (halved v)) = looks_kept time from now now views id v (halved v) s at refl refl in record {
+  looks_cut =
+      let kept : HaveLooked time from now (slice_set views id (halved v)) = looks_kept time from now now seat (halved v) s refl refl in record {
         moments = s.moments;
         way = s.way;
         found = λ i u g. ⊎_elim (λ k. kept.found i u k) (λ k. subst (λ (y : View). AllFound s.moments y.looks) k tt) (at_snoc (slice_set views id (halved v)) (newcomer v) u i g);
         once = λ n. let push = sum_by_push (looks_at n) (slice_set views id (halved v)) (newcomer v) in let before = kept.once n in omega arith;
       }
 
-  pub looks_joined : (id other : ℕ) (v w : View) → get_elem? views id ≡ some v → other ≢ id → get_elem? views other ≡ some w
+  pub looks_joined : (other : ℕ) (w : View) → other ≢ id → get_elem? views other ≡ some w
       → HaveLooked time from now (slice_set (slice_set views id (taken_in v w)) other spent)
-  looks_joined id other v w at apart at_other = record {
+  looks_joined other w apart at_other = record {
     moments = s.moments;
     way = s.way;
     found = λ i u g. ⊎_elim

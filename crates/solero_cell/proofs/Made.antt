@@ -2,7 +2,7 @@
 use Rattle.std.{proofs.Common.{◌≡◌, ◌≢◌, ℕ, ◌+◌, ◌<◌, ◌⊎◌, inl, inr, ⊎_elim, List, length, sym, ap, subst, ◌∙◌, arith, slice_set, ◌==◌, slice_index}, specs.List.sum_by}
 use Rattle.atomic_table.proofs.Lists.{at_set}
 use Rattle.solero_cell.specs.{CellRules.{ViewKnowledge, SeatFits, one_if, times, storing_count, written_count, is_in_span, IsAtRest, IsHeldByWrite, HaveLooked, ShareHistory, HasOneHistory}, Histories.{History, last_count}}
-use Rattle.solero_cell.{specs.{Moments.{time_of, moment_now}, declared.views.{Moment.{Moment, TheVariants.AtRest}, Record.Record, View.View}}, proofs.{Shares.whole_same, Sums.sum_set}}
+use Rattle.solero_cell.{specs.{Moments.{time_of, moment_now}, declared.views.{Moment.{Moment, TheVariants.AtRest}, Record.Record, View.View}}, proofs.{Allowing.Seat, Shares.whole_same, Sums.sum_set}}
 use lib.ListN.{get_elem?}
 use mathlib.Core.Option.{some}
 
@@ -22,15 +22,17 @@ same_stores views id v w at e = let sum = sum_set storing_count views id v w at 
 
 -- ---- the seats of any cell
 
-module _ (o : Record) (h : History) (Knows : View → Type 0) (time : Moment → ℕ) (now : Moment) (views : List View) (id : ℕ) (v w : View)
-    (s : ShareHistory o h Knows time now views) (at : get_elem? views id ≡ some v) (share : w.share ≡ v.share) (parts : 0 < v.share.parts) where
-  pub seats_made : (h' : History) (Knows' : View → Type 0) (now' : Moment) → Knows' w
+module _ (o : Record) (h : History) (Knows : View → Type 0) (time : Moment → ℕ) (now : Moment) {id : ℕ} {v : View} (seat : Seat id v)
+    (s : ShareHistory o h Knows time now seat.views) where
+  open seat use {views, at, parts}
+
+  pub seats_made : (w : View) → w.share ≡ v.share → (h' : History) (Knows' : View → Type 0) (now' : Moment) → Knows' w
       → ((i : ℕ) (u : View) → i ≢ id → get_elem? views i ≡ some u → Knows u → Knows' u)
       → ((n : ℕ) → times n w + one_if (is_in_span n o.count (last_count o h)) ≡ times n v + one_if (is_in_span n o.count (last_count o h')))
       → written_count w + length h ≡ written_count v + length h'
       → HaveLooked time (AtRest o.count) now' (slice_set views id w)
       → ShareHistory o h' Knows' time now' (slice_set views id w)
-  seats_made h' Knows' now' mine others once count looks = record {
+  seats_made w share h' Knows' now' mine others once count looks = record {
     each = each_set Knows Knows' views id w s.each others (inr (subst (λ z. 0 < z) (ap (λ z. z.parts) (sym share)) parts, mine));
     once = λ n. let sum = sum_set (times n) views id v w at in let before = s.once n in let now = once n in omega arith;
     count = let sum = sum_set written_count views id v w at in let before = s.count in omega arith;
@@ -39,18 +41,19 @@ module _ (o : Record) (h : History) (Knows : View → Type 0) (time : Moment →
   }
 
   -- a step that leaves the writes
-  pub seats_kept : (Knows' : View → Type 0) (now' : Moment) → w.writes ≡ v.writes → Knows' w
+  pub seats_kept : (w : View) → w.share ≡ v.share → (Knows' : View → Type 0) (now' : Moment) → w.writes ≡ v.writes → Knows' w
       → ((i : ℕ) (u : View) → i ≢ id → get_elem? views i ≡ some u → Knows u → Knows' u)
       → HaveLooked time (AtRest o.count) now' (slice_set views id w)
       → ShareHistory o h Knows' time now' (slice_set views id w)
-  seats_kept Knows' now' writes mine others looks = seats_made h Knows' now' mine others
+  seats_kept w share Knows' now' writes mine others looks = seats_made w share h Knows' now' mine others
       (λ n. ap (λ (rs : List Record). sum_by (λ r. one_if (r.count == n)) rs + one_if (is_in_span n o.count (last_count o h))) writes)
       (ap (λ (rs : List Record). length rs + length h) writes) looks
 
 -- ---- of this cell
 
-module _ (o : Record) (ws : List ℕ) (views : List View) (id : ℕ) (v w : View)
-    (s : HasOneHistory o ws views) (at : get_elem? views id ≡ some v) (share : w.share ≡ v.share) (parts : 0 < v.share.parts) where
+module _ (o : Record) (ws : List ℕ) {id : ℕ} {v : View} (seat : Seat id v) (w : View) (s : HasOneHistory o ws seat.views) (share : w.share ≡ v.share) where
+  open seat use {views, at}
+
   abbrev pub now_in : (h : History) (words : List ℕ) → Moment
   now_in h words = moment_now o h (slice_index words 0)
 
@@ -66,7 +69,7 @@ module _ (o : Record) (ws : List ℕ) (views : List View) (id : ℕ) (v w : View
     history = h';
     long = long ∙ s.long;
     lock = lock;
-    seats = seats_made o s.history (ViewKnowledge o s.history ws) time_of (now_in s.history ws) views id v w s.seats at share parts h' (ViewKnowledge o h' ws') (now_in h' ws') mine others once count looks;
+    seats = seats_made o s.history (ViewKnowledge o s.history ws) time_of (now_in s.history ws) seat s.seats w share h' (ViewKnowledge o h' ws') (now_in h' ws') mine others once count looks;
   }
 
   -- a step that leaves the words and the writes
@@ -76,7 +79,7 @@ module _ (o : Record) (ws : List ℕ) (views : List View) (id : ℕ) (v w : View
     history = s.history;
     long = s.long;
     lock = ⊎_elim at_rest held s.lock;
-    seats = seats_kept o s.history (ViewKnowledge o s.history ws) time_of (now_in s.history ws) views id v w s.seats at share parts (ViewKnowledge o s.history ws) (now_in s.history ws) writes mine (λ i u n g k. k) looks;
+    seats = seats_kept o s.history (ViewKnowledge o s.history ws) time_of (now_in s.history ws) seat s.seats w share (ViewKnowledge o s.history ws) (now_in s.history ws) writes mine (λ i u n g k. k) looks;
   }
     where
       at_rest : IsAtRest o s.history ws views → IsAtRest o s.history ws (slice_set views id w) ⊎ IsHeldByWrite ws (slice_set views id w)

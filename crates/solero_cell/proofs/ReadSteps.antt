@@ -6,8 +6,8 @@ use Rattle.machine_types.specs.{LockWords.{lock_of, is_lock_word}, declared.lock
 use Rattle.solero_cell.specs.CellRules.{cell_values, ViewKnowledge, IsAtRest, IsHeldByWrite, HaveLooked, HasOneHistory}
 use Rattle.solero_cell.specs.{CellViews.{record_of, noted, has_failed, has_loaded, has_looked, forgot, has_read, has_compared, IsStill}, Histories.{last_count, RecordStands, IsLast, OwnStand}}
 use Rattle.solero_cell.specs.{Stages.{IsLoading, IsJoining}, Steps.{note_of, joining_of, NotedBy, TellsNote, attempt_ended, TellsFinish, HasCompared}, Moments.{moment_now, time_of, word_of_moment}, declared.views.{Moment.Moment, Moment.TheVariants.{AtRest, UnderWay}, Record.Record, View.View}}
-use Rattle.solero_cell.proofs.Allowing.{LooksTo, any_load_allows}
-use Rattle.solero_cell.proofs.{Looking.{held_now, look_of, looks_kept, looks_on, rests_now, time_le, word_now}, Knowing.{calm, knows_of, none_loaded, if_some}, Made.looked, Standing.{at_most_last, last_stands, newest_stands}}
+use Rattle.solero_cell.proofs.Allowing.{Seat, LooksTo, any_load_allows}
+use Rattle.solero_cell.proofs.{Looking.{held_now, look_of, looks_kept, looks_on, rests_now, time_le, word_now}, Knowing.{calm_seat, knows_of, nothing_loaded, one_place, if_some}, Made.looked, Standing.{at_most_last, last_stands, newest_stands}}
 use Rattle.solero_cell.proofs.Words.{free_word, free_is_lock, next_taken, value_index, values_long, all_taken}
 use lib.ListN.{get_elem?}
 use mathlib.Core.{Logic.dite, Option.some}
@@ -19,8 +19,8 @@ rule o s = HasOneHistory o s.words s.views
 abbrev pub Looks : (o : Record) (ws : List ℕ) (views : List View) (id : ℕ) → (View → Type 0) → Type 0
 Looks o = LooksTo (HasOneHistory o)
 
-pub load_allows : {S : Type 0} (o : Record) (slots id i : ℕ) (me : Me S View) (told : ℕ → View → Type 0)
-    → ((ws : List ℕ) (views : List View) → HasOneHistory o ws views → get_elem? views id ≡ some me.0 → Looks o ws views id (told (slice_index ws i)))
+pub load_allows : {S : Type 0} (o : Record) (slots id i : ℕ) (me : Me S View) (told : ℕ → View → Type 0) → 0 < me.0.share.parts
+    → ((ws : List ℕ) (seat : Seat id me.0) → HasOneHistory o ws seat.views → Looks o ws seat.views id (told (slice_index ws i)))
     → Allows (rule o) slots id me i (λ n. n) (λ n w. told n w.0 × (w.1 ≡ me.1))
 load_allows o = any_load_allows (HasOneHistory o)
 
@@ -32,7 +32,9 @@ pub some_record : (p : Option Record) → IsSome p → p ≡ Some (unwrap_or p (
 some_record None n = let bad : false ≡ true = n in absurd (cc)
 some_record (Some r) n = refl
 
-module _ (o : Record) (id : ℕ) (v : View) (parts : 0 < v.share.parts) (ws : List ℕ) (views : List View) (s : HasOneHistory o ws views) (at : get_elem? views id ≡ some v) where
+module _ (o : Record) {id : ℕ} {v : View} (ws : List ℕ) (seat : Seat id v) (s : HasOneHistory o ws seat.views) where
+  open seat use {views, at, parts}
+
   pub its : ViewKnowledge o s.history ws v
   its = knows_of (ViewKnowledge o s.history ws) v parts (s.seats.each id v at)
 
@@ -49,7 +51,7 @@ module _ (o : Record) (id : ℕ) (v : View) (parts : 0 < v.share.parts) (ws : Li
   stands = word_now o s.history (slice_index ws 0) (⊎_elim (λ (r : IsAtRest o s.history ws views). inl r.word) (λ (r : IsHeldByWrite ws views). inr r.word) s.lock)
 
   pub looks : (w : View) (m : Moment) → m ≡ now → w.looks ≡ v.looks ++ look_of next m ∷ [] → HaveLooked time_of (AtRest o.count) now (slice_set views id w)
-  looks w m e more = looks_on time_of (AtRest o.count) now now views id v w s.seats.looks at m e (time_le now m (sym e)) more
+  looks w m e more = looks_on time_of (AtRest o.count) now now seat w s.seats.looks m e (time_le now m (sym e)) more
 
   -- ---- a note load
 
@@ -62,7 +64,7 @@ module _ (o : Record) (id : ℕ) (v : View) (parts : 0 < v.share.parts) (ws : Li
           let w : View = noted next c v in
           let by : NotedBy (lock_of (4 * c)) (4 * c) v w = subst (λ (l : LockWord). NotedBy l (4 * c) v w) (sym (free_word c)) (record { place = next; view = refl; later = at_most_last o s.history v.latest its.own.latest }) in (
             w,
-            looked o ws views id v w s at refl parts refl refl (calm o s.history ws w its.opening_is (record { writes = its.own.writes; latest = its.own.latest }) (omega arith) (none_loaded ws (Some c) v.loaded still.loaded) still.storing still.joining) (looks w (AtRest c) (sym (rests_now o s.history (slice_index ws 0) c r.word)) refl),
+            looked o ws seat w s refl refl refl (calm_seat (one_place ws) o s.history w its.opening_is (record { writes = its.own.writes; latest = its.own.latest }) (omega arith) (nothing_loaded (one_place ws) (Some c) v.loaded still.loaded) still.storing still.joining) (looks w (AtRest c) (sym (rests_now o s.history (slice_index ws 0) c r.word)) refl),
             record {
               lock = subst (λ x. is_lock_word x ≡ true) (sym r.word) (free_is_lock c);
               noted = subst (λ x. NotedBy (lock_of x) x v w) (sym r.word) by;
@@ -75,7 +77,7 @@ module _ (o : Record) (id : ℕ) (v : View) (parts : 0 < v.share.parts) (ws : Li
           let w : View = has_failed next (UnderWay c) v in
           let by : NotedBy (lock_of 6) 6 v w = record { place = next; count = c; view = refl; word_is = refl } in (
             w,
-            looked o ws views id v w s at refl parts refl refl (calm o s.history ws w its.opening_is (record { writes = its.own.writes; latest = its.own.latest }) its.note its.loaded still.storing still.joining) (looks w (UnderWay c) (sym (held_now o s.history (slice_index ws 0) r.word)) refl),
+            looked o ws seat w s refl refl refl (calm_seat (one_place ws) o s.history w its.opening_is (record { writes = its.own.writes; latest = its.own.latest }) its.note its.loaded still.storing still.joining) (looks w (UnderWay c) (sym (held_now o s.history (slice_index ws 0) r.word)) refl),
             record {
               lock = subst (λ x. is_lock_word x ≡ true) (sym r.word) refl;
               noted = subst (λ x. NotedBy (lock_of x) x v w) (sym r.word) by;
@@ -88,7 +90,7 @@ module _ (o : Record) (id : ℕ) (v : View) (parts : 0 < v.share.parts) (ws : Li
   load_step i is lt =
       let x : ℕ = slice_index ws (suc i) in (
         has_loaded x v,
-        looked o ws views id v (has_loaded x v) s at refl parts refl refl (calm o s.history ws (has_loaded x v) its.opening_is (record { writes = its.own.writes; latest = its.own.latest }) its.note more is.storing is.joining) (looks_kept time_of (AtRest o.count) now now views id v (has_loaded x v) s.seats.looks at refl refl),
+        looked o ws seat (has_loaded x v) s refl refl refl (calm_seat (one_place ws) o s.history (has_loaded x v) its.opening_is (record { writes = its.own.writes; latest = its.own.latest }) its.note more is.storing is.joining) (looks_kept time_of (AtRest o.count) now now seat (has_loaded x v) s.seats.looks refl refl),
         refl,
       )
     where
@@ -124,7 +126,7 @@ module _ (o : Record) (id : ℕ) (v : View) (parts : 0 < v.share.parts) (ws : Li
           let last : IsLast o s.history got = record { count = c; values = r.values.values ∙ ap Some (sym all) } in
           let w : View = has_read got (has_looked next (AtRest (note_of v)) (forgot v)) in (
             w,
-            looked o ws views id v w s at refl parts refl refl (calm o s.history ws w its.opening_is (record { writes = its.own.writes; latest = last_stands o s.history got last }) its.note (none_loaded ws v.note [] refl) is.storing is.joining) (looks w (AtRest (note_of v)) (ap AtRest c ∙ sym (rests_now o s.history (slice_index ws 0) (last_count o s.history) r.word)) refl),
+            looked o ws seat w s refl refl refl (calm_seat (one_place ws) o s.history w its.opening_is (record { writes = its.own.writes; latest = last_stands o s.history got last }) its.note (nothing_loaded (one_place ws) v.note [] refl) is.storing is.joining) (looks w (AtRest (note_of v)) (ap AtRest c ∙ sym (rests_now o s.history (slice_index ws 0) (last_count o s.history) r.word)) refl),
             record {
               same = λ e'. record {
                 place = next;
@@ -146,8 +148,8 @@ module _ (o : Record) (id : ℕ) (v : View) (parts : 0 < v.share.parts) (ws : Li
       ended b = attempt_ended b next now (forgot v)
 
       ended_step : (b : Bool) → HasOneHistory o ws (slice_set views id (ended b))
-      ended_step true = looked o ws views id v (ended true) s at refl parts refl refl (calm o s.history ws (ended true) its.opening_is (record { writes = its.own.writes; latest = its.own.latest }) its.note (none_loaded ws v.note [] refl) is.storing is.joining) (looks (ended true) now refl refl)
-      ended_step false = looked o ws views id v (ended false) s at refl parts refl refl (calm o s.history ws (ended false) its.opening_is (record { writes = its.own.writes; latest = its.own.latest }) its.note (none_loaded ws v.note [] refl) is.storing is.joining) (looks (ended false) now refl refl)
+      ended_step true = looked o ws seat (ended true) s refl refl refl (calm_seat (one_place ws) o s.history (ended true) its.opening_is (record { writes = its.own.writes; latest = its.own.latest }) its.note (nothing_loaded (one_place ws) v.note [] refl) is.storing is.joining) (looks (ended true) now refl refl)
+      ended_step false = looked o ws seat (ended false) s refl refl refl (calm_seat (one_place ws) o s.history (ended false) its.opening_is (record { writes = its.own.writes; latest = its.own.latest }) its.note (nothing_loaded (one_place ws) v.note [] refl) is.storing is.joining) (looks (ended false) now refl refl)
 
       other : slice_index ws 0 ≢ 4 * note_of v → Looks o ws views id (TellsFinish is_last v (slice_index ws 0))
       other n = (ended is_last, ended_step is_last, record { same = λ e. absurd (n e); other = λ m. record { place = next; moment = now; view = refl; word_is = stands } })
@@ -160,7 +162,7 @@ module _ (o : Record) (id : ℕ) (v : View) (parts : 0 < v.share.parts) (ws : Li
       let there : RecordStands o s.history r = if_some (RecordStands o s.history) v.joining r (some_record v.joining is.joining) its.joining in
       let w : View = has_compared r v in (
         w,
-        looked o ws views id v w s at refl parts refl refl (calm o s.history ws w its.opening_is (record { writes = its.own.writes; latest = newest_stands o s.history v.latest r its.own.latest there }) its.note (none_loaded ws v.note v.loaded is.loaded) is.storing refl) (looks_kept time_of (AtRest o.count) now now views id v w s.seats.looks at refl refl),
+        looked o ws seat w s refl refl refl (calm_seat (one_place ws) o s.history w its.opening_is (record { writes = its.own.writes; latest = newest_stands o s.history v.latest r its.own.latest there }) its.note (nothing_loaded (one_place ws) v.note v.loaded is.loaded) is.storing refl) (looks_kept time_of (AtRest o.count) now now seat w s.seats.looks refl refl),
         record {
           view = refl;
           history = s.history;

@@ -2,9 +2,9 @@
 use Rattle.std.proofs.Common.{◌≡◌, ◌≢◌, ℕ, zero, suc, ◌+◌, ◌*◌, ◌-◌, ◌^◌, ◌<◌, ◌⊎◌, inl, inr, ⊎_elim, List, [], ◌∷◌, ◌++◌, length-append, None, refl, sym, ap, subst, ◌∙◌, arith, slice_index, slice_set, ◌==◌}
 use Rattle.std.{specs.List.sum_by, proofs.lemmas.{Bool.Decides.nat_tests, List.Sums.{sum_by_push, sum_by-append}}}
 use Rattle.atomic_table.{specs.Table.{Splits, Joins}, proofs.Lists.{at_set, at_snoc, set_else}}
-use Rattle.solero_cell.specs.CellRules.{SeatKnowledge, ViewKnowledge, SeatFits, one_if, times, storing_count, written_count, is_in_span, IsAtRest, IsHeldByWrite, ShareHistory, HasOneHistory}
+use Rattle.solero_cell.specs.CellRules.{ViewKnowledge, SeatFits, one_if, times, storing_count, written_count, is_in_span, IsAtRest, IsHeldByWrite, ShareHistory, HasOneHistory}
 use Rattle.solero_cell.specs.{CellViews.{first_view, halved, newcomer, taken_in, spent, IsStill}, Histories.History, Moments.{AllFound, moment_now, time_of}, declared.views.{Moment.{Moment, TheVariants.AtRest}, Record.Record, View.View}}
-use Rattle.solero_cell.proofs.{Looking.{looks_cut, looks_joined, none_below, rests_now}, Knowing.{IsFreeAt, one_place, calm_seat, nothing_loaded, is_not_storing}, ReadSteps.{rule, its}, Shares.{whole_cut, whole_joined, sum_pos}, Standing.{all_both, opening_stands}, Sums.sum_set}
+use Rattle.solero_cell.proofs.{Allowing.Seat, Looking.{looks_cut, looks_joined, none_below, rests_now}, Knowing.{Knows, Layout, one_place, calm_seat, nothing_loaded, is_not_storing}, ReadSteps.{rule, its}, Shares.{whole_cut, whole_joined, sum_pos}, Standing.{all_both, opening_stands}, Sums.sum_set}
 use lib.ListN.{get_elem?}
 use mathlib.Core.Option.{some, some-injective, some-ne-none}
 
@@ -16,7 +16,9 @@ lock_as o h ws views views' e (inr r) = inr (record { word = r.word; one = e ∙
 
 -- ---- a split
 
-module _ (views : List View) (id : ℕ) (v : View) (at : get_elem? views id ≡ some v) where
+module _ {id : ℕ} {v : View} (seat : Seat id v) where
+  open seat use {views, at, parts}
+
   abbrev pub cut_views : List View
   cut_views = slice_set views id (halved v) ++ newcomer v ∷ []
 
@@ -25,46 +27,44 @@ module _ (views : List View) (id : ℕ) (v : View) (at : get_elem? views id ≡ 
   cut_sum f e z = let set = sum_set f views id v (halved v) at in let push = sum_by_push f (slice_set views id (halved v)) (newcomer v) in omega arith
 
   -- the seats of any cell
-  pub seats_cut : (o : Record) (h : History) (Knows : View → Type 0) (time : Moment → ℕ) (now : Moment) → 0 < v.share.parts
+  pub seats_cut : (o : Record) (h : History) (Knows : View → Type 0) (time : Moment → ℕ) (now : Moment)
       → ShareHistory o h Knows time now views → Knows (halved v) → Knows (newcomer v) → ShareHistory o h Knows time now cut_views
-  seats_cut o h Knows time now parts s left right = record {
+  seats_cut o h Knows time now s left right = record {
     each = λ i u g. ⊎_elim
         (λ k. ⊎_elim (λ m. subst (SeatFits Knows) m.1 (inr (parts, left))) (λ m. s.each i u m.1) (at_set views id i (halved v) u k))
         (λ k. subst (SeatFits Knows) k (inr (parts, right))) (at_snoc (slice_set views id (halved v)) (newcomer v) u i g);
     once = λ n. cut_sum (times n) refl refl ∙ s.once n;
     count = cut_sum written_count refl refl ∙ s.count;
     whole = whole_cut views id v (halved v) (newcomer v) at refl refl s.whole;
-    looks = looks_cut time (AtRest o.count) now views s.looks id v at;
+    looks = looks_cut time (AtRest o.count) now seat s.looks;
   }
 
 -- what a view that is in the middle of nothing knows, both know
-module _ (IsLeft : ℕ → Type 0) (place : ℕ → List ℕ) (o : Record) (h : History) (v : View) (still : IsStill v) (k : SeatKnowledge o h IsLeft place v) where
-  pub halved_knows : SeatKnowledge o h IsLeft place (halved v)
-  halved_knows = calm_seat IsLeft place o h (halved v) k.opening_is (record { writes = k.own.writes; latest = k.own.latest }) k.note k.loaded still.storing still.joining
+module _ (layout : Layout) (o : Record) (h : History) (v : View) (still : IsStill v) (k : Knows o h layout v) where
+  pub halved_knows : Knows o h layout (halved v)
+  halved_knows = calm_seat layout o h (halved v) k.opening_is (record { writes = k.own.writes; latest = k.own.latest }) k.note k.loaded still.storing still.joining
 
-  pub newcomer_knows : SeatKnowledge o h IsLeft place (newcomer v)
-  newcomer_knows = calm_seat IsLeft place o h (newcomer v) k.opening_is (record { writes = tt; latest = k.own.latest }) tt (nothing_loaded IsLeft place None [] refl) refl refl
-
-module _ (o : Record) (id : ℕ) (v : View) (parts : 0 < v.share.parts) (still : IsStill v) (ws : List ℕ) (views : List View) (s : HasOneHistory o ws views) (at : get_elem? views id ≡ some v) where
-  abbrev mine : ViewKnowledge o s.history ws v
-  mine = its o id v parts ws views s at
-
-  pub cut_shows : HasOneHistory o ws (cut_views views id v at)
-  cut_shows = record {
-    history = s.history;
-    long = s.long;
-    lock = lock_as o s.history ws views (cut_views views id v at) (cut_sum views id v at storing_count refl refl) s.lock;
-    seats = seats_cut views id v at o s.history (ViewKnowledge o s.history ws) time_of (moment_now o s.history (slice_index ws 0)) parts s.seats
-        (halved_knows (IsFreeAt ws) (one_place ws) o s.history v still mine) (newcomer_knows (IsFreeAt ws) (one_place ws) o s.history v still mine);
-  }
+  pub newcomer_knows : Knows o h layout (newcomer v)
+  newcomer_knows = calm_seat layout o h (newcomer v) k.opening_is (record { writes = tt; latest = k.own.latest }) tt (nothing_loaded layout None [] refl) refl refl
 
 pub splits : {S : Type 0} (o : Record) (id : ℕ) (v : View) → 0 < v.share.parts → IsStill v
     → Splits {S = S} (rule o) id v (halved v) (newcomer v)
-splits o id v parts still s run at = cut_shows o id v parts still s.words s.views run at
+splits o id v parts still s run at =
+    let ws = s.words in
+    let seat : Seat id v = record { views = s.views; at = at; parts = parts } in
+    let mine = its o ws seat run in record {
+      history = run.history;
+      long = run.long;
+      lock = lock_as o run.history ws s.views (cut_views seat) (cut_sum seat storing_count refl refl) run.lock;
+      seats = seats_cut seat o run.history (ViewKnowledge o run.history ws) time_of (moment_now o run.history (slice_index ws 0)) run.seats
+          (halved_knows (one_place ws) o run.history v still mine) (newcomer_knows (one_place ws) o run.history v still mine);
+    }
 
 -- ---- a join
 
-module _ (views : List View) (id other : ℕ) (v w : View) (at : get_elem? views id ≡ some v) (apart : other ≢ id) (at_other : get_elem? views other ≡ some w) where
+module _ {id : ℕ} {v : View} (seat : Seat id v) (other : ℕ) (w : View) (apart : other ≢ id) (at_other : get_elem? seat.views other ≡ some w) where
+  open seat use {views, at, parts}
+
   abbrev pub joined_of : List View
   joined_of = slice_set (slice_set views id (taken_in v w)) other spent
 
@@ -82,22 +82,22 @@ module _ (views : List View) (id other : ℕ) (v w : View) (at : get_elem? views
       joined_sum storing_count (omega (arith, none, none', of_both)) refl
 
   -- the seats of any cell
-  pub seats_joined : (o : Record) (h : History) (Knows : View → Type 0) (time : Moment → ℕ) (now : Moment) → 0 < v.share.parts
+  pub seats_joined : (o : Record) (h : History) (Knows : View → Type 0) (time : Moment → ℕ) (now : Moment)
       → ShareHistory o h Knows time now views → Knows (taken_in v w) → ShareHistory o h Knows time now joined_of
-  seats_joined o h Knows time now parts s both = record {
+  seats_joined o h Knows time now s both = record {
     each = λ i u g. ⊎_elim (λ k. inl (sym k.1))
         (λ k. ⊎_elim (λ m. subst (SeatFits Knows) m.1 (inr (sum_pos v.share w.share parts, both))) (λ m. s.each i u m.1) (at_set views id i (taken_in v w) u k.1))
         (at_set (slice_set views id (taken_in v w)) other i spent u g);
     once = λ n. joined_sum (times n) (sum_by-append (λ (r : Record). one_if (r.count == n)) v.writes w.writes) refl ∙ s.once n;
     count = joined_sum written_count (length-append v.writes w.writes) refl ∙ s.count;
     whole = whole_joined views id other v w (taken_in v w) at apart at_other refl s.whole;
-    looks = looks_joined time (AtRest o.count) now views s.looks id other v w at apart at_other;
+    looks = looks_joined time (AtRest o.count) now seat s.looks other w apart at_other;
   }
 
 -- what two views know, the one that takes in the other knows
-pub both_know : (IsLeft : ℕ → Type 0) (place : ℕ → List ℕ) (o : Record) (h : History) (v w : View) → SeatKnowledge o h IsLeft place v → SeatKnowledge o h IsLeft place w
-    → SeatKnowledge o h IsLeft place (taken_in v w)
-both_know IsLeft place o h v w one two = record {
+pub both_know : (layout : Layout) (o : Record) (h : History) (v w : View) → Knows o h layout v → Knows o h layout w
+    → Knows o h layout (taken_in v w)
+both_know layout o h v w one two = record {
   opening_is = one.opening_is;
   own = record { writes = all_both o h v.writes w.writes one.own.writes two.own.writes; latest = one.own.latest };
   note = one.note;
@@ -106,21 +106,19 @@ both_know IsLeft place o h v w one two = record {
   joining = two.own.latest;
 }
 
-module _ (o : Record) (id other : ℕ) (v w : View) (parts : 0 < v.share.parts) (parts' : 0 < w.share.parts) (still : IsStill v) (still' : IsStill w)
-    (ws : List ℕ) (views : List View) (s : HasOneHistory o ws views) (at : get_elem? views id ≡ some v) (apart : other ≢ id) (at_other : get_elem? views other ≡ some w) where
-  pub joined_shows : HasOneHistory o ws (joined_of views id other v w at apart at_other)
-  joined_shows = record {
-    history = s.history;
-    long = s.long;
-    lock = lock_as o s.history ws views (joined_of views id other v w at apart at_other) (joined_stores views id other v w at apart at_other still still') s.lock;
-    seats = seats_joined views id other v w at apart at_other o s.history (ViewKnowledge o s.history ws) time_of (moment_now o s.history (slice_index ws 0)) parts s.seats
-        (both_know (IsFreeAt ws) (one_place ws) o s.history v w (its o id v parts ws views s at) (its o other w parts' ws views s at_other));
-  }
-
 pub joins : {S : Type 0} (o : Record) (id other : ℕ) (v w : View) → 0 < v.share.parts → 0 < w.share.parts → IsStill v → IsStill w
     → Joins {S = S} (rule o) id v other w (taken_in v w) spent
 joins o id other v w parts parts' still still' s run at apart g =
-    joined_shows o id other v w parts parts' still still' s.words s.views run at apart (sym (set_else s.views id other (taken_in v w) apart) ∙ g)
+    let ws = s.words in
+    let at_other : get_elem? s.views other ≡ some w = sym (set_else s.views id other (taken_in v w) apart) ∙ g in
+    let seat : Seat id v = record { views = s.views; at = at; parts = parts } in
+    let seat' : Seat other w = record { views = s.views; at = at_other; parts = parts' } in record {
+      history = run.history;
+      long = run.long;
+      lock = lock_as o run.history ws s.views (joined_of seat other w apart at_other) (joined_stores seat other w apart at_other still still') run.lock;
+      seats = seats_joined seat other w apart at_other o run.history (ViewKnowledge o run.history ws) time_of (moment_now o run.history (slice_index ws 0)) run.seats
+          (both_know (one_place ws) o run.history v w (its o ws seat run) (its o ws seat' run));
+    }
 
 -- ---- a new cell
 
@@ -158,14 +156,14 @@ seats_opened o Knows time now knows way = record {
     only (suc i) u g = absurd (some-ne-none u (sym g))
 
 -- what the first seat knows
-pub first_knows : (IsLeft : ℕ → Type 0) (place : ℕ → List ℕ) (o : Record) → SeatKnowledge o [] IsLeft place (first_view o)
-first_knows IsLeft place o = calm_seat IsLeft place o [] (first_view o) refl (record { writes = tt; latest = opening_stands o }) tt (nothing_loaded IsLeft place None [] refl) refl refl
+pub first_knows : (layout : Layout) (o : Record) → Knows o [] layout (first_view o)
+first_knows layout o = calm_seat layout o [] (first_view o) refl (record { writes = tt; latest = opening_stands o }) tt (nothing_loaded layout None [] refl) refl refl
 
 pub opening_shows : (o : Record) → HasOneHistory o (4 * o.count ∷ o.values) (first_view o ∷ [])
 opening_shows o = record {
   history = [];
   long = refl;
   lock = inl (record { word = omega arith; values = record { count = refl; values = refl }; nobody = refl });
-  seats = seats_opened o (ViewKnowledge o [] (4 * o.count ∷ o.values)) time_of (moment_now o [] (4 * o.count)) (first_knows (IsFreeAt (4 * o.count ∷ o.values)) (one_place (4 * o.count ∷ o.values)) o)
+  seats = seats_opened o (ViewKnowledge o [] (4 * o.count ∷ o.values)) time_of (moment_now o [] (4 * o.count)) (first_knows (one_place (4 * o.count ∷ o.values)) o)
       (sym (rests_now o [] (4 * o.count) o.count refl ∙ ap AtRest (omega arith)));
 }

@@ -8,6 +8,10 @@ got_longer [] ys i x e = let bad : None ≡ Some x = e in absurd (cc)
 got_longer (z ∷ zs) ys zero x e = e
 got_longer (z ∷ zs) ys (suc i) x e = got_longer zs ys i x e
 
+pub got_last : {A : Type 0} (xs : List A) (x : A) → slice_get (xs ++ x ∷ []) (length xs) ≡ Some x
+got_last [] x = refl
+got_last (y ∷ ys) x = got_last ys x
+
 pub at_most_last : (o : Record) (h : History) (r : Record) → RecordStands o h r → r.count ≤ last_count o h
 at_most_last o h r s = let lt : s.place < suc (length h) = slice_get_within (o.values ∷ h) s.place r.values s.values in let c = s.count in omega arith
 
@@ -39,12 +43,8 @@ new_last o h xs c e =
     let n : length (h ++ xs ∷ []) ≡ suc (length h) = omega (arith, long) in
     record {
       count = omega (arith, n, e);
-      values = ap (slice_get (o.values ∷ (h ++ xs ∷ []))) n ∙ got_end (o.values ∷ h) xs;
+      values = ap (slice_get (o.values ∷ (h ++ xs ∷ []))) n ∙ got_last (o.values ∷ h) xs;
     }
-  where
-    got_end : (ys : List (List ℕ)) (y : List ℕ) → slice_get (ys ++ y ∷ []) (length ys) ≡ Some y
-    got_end [] y = refl
-    got_end (z ∷ zs) y = got_end zs y
 
 -- ---- lists of records
 

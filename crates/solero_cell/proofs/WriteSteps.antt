@@ -5,8 +5,8 @@ use Rattle.atomic_table.{specs.Table.{Me, Allows}, proofs.Lists.exchanged}
 use Rattle.solero_cell.specs.CellRules.{cell_values, IsUnderWay, ViewKnowledge, one_if, storing_count, is_in_span, IsAtRest, IsHeldByWrite, HasOneHistory}
 use Rattle.solero_cell.specs.{CellViews.{record_of, has_looked, has_failed, has_taken, one_stored, has_stored, has_written, has_released}, Histories.{History, last_count, IsLast, OwnStand}}
 use Rattle.solero_cell.specs.{Stages.{IsNoted, IsStoring}, Steps.{note_of, storing_of, TellsTake, HasWritten}, Moments.{moment_now, time_of}, declared.views.{Moment.Moment, Moment.TheVariants.{AtRest, UnderWay}, Record.Record, Storing.Storing, View.View}}
-use Rattle.solero_cell.proofs.Allowing.{LeadsTo, any_write_allows}
-use Rattle.solero_cell.proofs.{Looking.{held_now, looks_kept, looks_on, rests_now, time_at}, Knowing.{calm, none_loaded, if_some, some_is, not_storing, is_not_storing, is_storing, one_place, held_knows, released_knows}, Made.{looked, made}}
+use Rattle.solero_cell.proofs.Allowing.{Seat, LeadsTo, any_write_allows}
+use Rattle.solero_cell.proofs.{Looking.{held_now, looks_kept, looks_on, rests_now, time_at}, Knowing.{calm_seat, nothing_loaded, if_some, some_is, not_storing, is_not_storing, is_storing, one_place, still_knows, more_knows}, Made.{looked, made}}
 use Rattle.solero_cell.proofs.{ReadSteps.{rule, some_note, its, next, looks, stands}, Standing.{at_most_last, last_stands, own_on, all_both, new_last}, Sums.{sum_set, at_most, others_none}}
 use Rattle.solero_cell.proofs.Words.{values_long, all_taken, lock_set, values_kept, lock_kept, value_set}
 use lib.ListN.{get_elem?}
@@ -16,8 +16,8 @@ use prog.Atomic.{either}
 abbrev pub Leads : (o : Record) (ws : List ℕ) (views : List View) (id i x : ℕ) → (View → Type 0) → Type 0
 Leads o = LeadsTo (HasOneHistory o)
 
-pub write_allows : {S : Type 0} (o : Record) (slots id i : ℕ) (f : ℕ → ℕ) (me : Me S View) (told : ℕ → View → Type 0)
-    → ((ws : List ℕ) (views : List View) → HasOneHistory o ws views → get_elem? views id ≡ some me.0 → Leads o ws views id i (f (slice_index ws i)) (told (slice_index ws i)))
+pub write_allows : {S : Type 0} (o : Record) (slots id i : ℕ) (f : ℕ → ℕ) (me : Me S View) (told : ℕ → View → Type 0) → 0 < me.0.share.parts
+    → ((ws : List ℕ) (seat : Seat id me.0) → HasOneHistory o ws seat.views → Leads o ws seat.views id i (f (slice_index ws i)) (told (slice_index ws i)))
     → Allows (rule o) slots id me i f (λ n w. told n w.0 × (w.1 ≡ me.1))
 write_allows o = any_write_allows (HasOneHistory o)
 
@@ -46,9 +46,11 @@ shorter x (y ∷ left) e = refl
 pub some_one : (a b : ℕ) → Some a ≡ Some b → a ≡ b
 some_one a b e = cc
 
-module _ (o : Record) (id : ℕ) (v : View) (parts : 0 < v.share.parts) (ws : List ℕ) (views : List View) (s : HasOneHistory o ws views) (at : get_elem? views id ≡ some v) where
+module _ (o : Record) {id : ℕ} {v : View} (ws : List ℕ) (seat : Seat id v) (s : HasOneHistory o ws seat.views) where
+  open seat use {views, at, parts}
+
   abbrev mine : ViewKnowledge o s.history ws v
-  mine = its o id v parts ws views s at
+  mine = its o ws seat s
 
   -- ---- a take exchange
 
@@ -58,12 +60,11 @@ module _ (o : Record) (id : ℕ) (v : View) (parts : 0 < v.share.parts) (ws : Li
 
     taken_at : slice_index ws 0 ≡ noted → IsAtRest o s.history ws views → Leads o ws views id 0 6 (TellsTake xs v (slice_index ws 0))
     taken_at e r =
-        let place : ℕ = next o id v parts ws views s at in
+        let place : ℕ = next o ws seat s in
         let w : View = has_taken xs (has_looked place (UnderWay (note_of v)) v) in
         let c : note_of v ≡ last_count o s.history = omega (arith, e, r.word, is.word_is) in
         let ws' : List ℕ = slice_set ws 0 6 in
         let lock : slice_index ws' 0 ≡ 6 = lock_set ws 6 (omega (arith, s.long)) in
-        let not_free : (c : ℕ) → slice_index ws' 0 ≢ 4 * c = λ c e. absurd (omega (arith, e, lock)) in
         let sum = sum_set storing_count views id v w at in
         let none : storing_count v ≡ 0 = is_not_storing v is.still.storing in
         let one : storing_count w ≡ 1 = refl in
@@ -72,14 +73,14 @@ module _ (o : Record) (id : ℕ) (v : View) (parts : 0 < v.share.parts) (ws : Li
           opening_is = mine.opening_is;
           own = record { writes = mine.own.writes; latest = mine.own.latest };
           note = mine.note;
-          loaded = none_loaded ws' v.note v.loaded is.still.loaded;
+          loaded = nothing_loaded (one_place ws') v.note v.loaded is.still.loaded;
           storing = record { note_is = note ∙ ap Some c; stored = refl; long = omega (arith, long) };
           joining = mine.joining;
         } in (
           w,
-          made o ws views id v w s at refl parts ws' s.history (length-set ws 0 6) (inr (record { word = lock; one = now })) k
-              (λ i u n g q. held_knows o s.history ws ws' u (not_storing u (let most = at_most storing_count views i u g in omega (arith, most, r.nobody))) not_free q) (λ n. refl) refl
-              (looks_on time_of (AtRest o.count) (moment_now o s.history (slice_index ws 0)) (moment_now o s.history (slice_index ws' 0)) views id v w s.seats.looks at (UnderWay (note_of v)) (ap UnderWay c ∙ sym (held_now o s.history (slice_index ws' 0) lock)) (time_at (moment_now o s.history (slice_index ws 0)) (AtRest (last_count o s.history)) (UnderWay (note_of v)) (rests_now o s.history (slice_index ws 0) (last_count o s.history) r.word) (omega (arith, c))) refl),
+          made o ws seat w s refl ws' s.history (length-set ws 0 6) (inr (record { word = lock; one = now })) k
+              (λ i u n g q. still_knows o s.history (one_place ws) (one_place ws') u (not_storing u (let most = at_most storing_count views i u g in omega (arith, most, r.nobody))) (λ d le z. absurd (omega (arith, z, lock))) q) (λ n. refl) refl
+              (looks_on time_of (AtRest o.count) (moment_now o s.history (slice_index ws 0)) (moment_now o s.history (slice_index ws' 0)) seat w s.seats.looks (UnderWay (note_of v)) (ap UnderWay c ∙ sym (held_now o s.history (slice_index ws' 0) lock)) (time_at (moment_now o s.history (slice_index ws 0)) (AtRest (last_count o s.history)) (UnderWay (note_of v)) (rests_now o s.history (slice_index ws 0) (last_count o s.history) r.word) (omega (arith, c))) refl),
           record { same = λ q. record { place = place; view = refl }; other = λ n. absurd (n (e ∙ is.word_is)) },
         )
 
@@ -88,14 +89,14 @@ module _ (o : Record) (id : ℕ) (v : View) (parts : 0 < v.share.parts) (ws : Li
 
     lost : slice_index ws 0 ≢ noted → Leads o ws views id 0 (slice_index ws 0) (TellsTake xs v (slice_index ws 0))
     lost n =
-        let place : ℕ = next o id v parts ws views s at in
+        let place : ℕ = next o ws seat s in
         let m : Moment = moment_now o s.history (slice_index ws 0) in
         let w : View = has_failed place m v in
-        let k = calm o s.history ws w mine.opening_is (record { writes = mine.own.writes; latest = mine.own.latest }) mine.note mine.loaded is.still.storing is.still.joining in
+        let k = calm_seat (one_place ws) o s.history w mine.opening_is (record { writes = mine.own.writes; latest = mine.own.latest }) mine.note mine.loaded is.still.storing is.still.joining in
         let kept : slice_set ws 0 (slice_index ws 0) ≡ ws = set-get_or ws 0 0 in (
           w,
-          subst (λ l. HasOneHistory o l (slice_set views id w)) (sym kept) (looked o ws views id v w s at refl parts refl refl k (looks o id v parts ws views s at w m refl refl)),
-          record { same = λ e. absurd (n (e ∙ sym is.word_is)); other = λ q. record { place = place; moment = m; view = refl; word_is = stands o id v parts ws views s at } },
+          subst (λ l. HasOneHistory o l (slice_set views id w)) (sym kept) (looked o ws seat w s refl refl refl k (looks o ws seat s w m refl refl)),
+          record { same = λ e. absurd (n (e ∙ sym is.word_is)); other = λ q. record { place = place; moment = m; view = refl; word_is = stands o ws seat s } },
         )
 
     pub take_step : Leads o ws views id 0 (either (slice_index ws 0 == noted) 6 (slice_index ws 0)) (TellsTake xs v (slice_index ws 0))
@@ -110,8 +111,8 @@ module _ (o : Record) (id : ℕ) (v : View) (parts : 0 < v.share.parts) (ws : Li
     storing : v.storing ≡ Some now
     storing = some_storing v.storing is.storing
 
-    under_way : IsUnderWay o s.history (one_place ws) v.note now
-    under_way = if_some (IsUnderWay o s.history (one_place ws) v.note) v.storing now storing mine.storing
+    under_way : IsUnderWay o s.history (one_place ws).place v.note now
+    under_way = if_some (IsUnderWay o s.history (one_place ws).place v.note) v.storing now storing mine.storing
 
     held_by : IsAtRest o s.history ws views ⊎ IsHeldByWrite ws views → IsHeldByWrite ws views
     held_by (inl r) = let most = at_most storing_count views id v at in let one = is_storing v now storing in absurd (omega (arith, most, one, r.nobody))
@@ -130,7 +131,6 @@ module _ (o : Record) (id : ℕ) (v : View) (parts : 0 < v.share.parts) (ws : Li
         let w : View = has_stored now v in
         let ws' : List ℕ = slice_set ws (suc i) x in
         let lock : slice_index ws' 0 ≡ 6 = lock_kept ws i x ∙ held.word in
-        let not_free : (c : ℕ) → slice_index ws' 0 ≢ 4 * c = λ c e. absurd (omega (arith, e, lock)) in
         let next = one_stored_as x now.left first now.stored in
         let short = shorter x now.left first in
         let long = values_long ws (length o.values) s.long in
@@ -142,19 +142,19 @@ module _ (o : Record) (id : ℕ) (v : View) (parts : 0 < v.share.parts) (ws : Li
         let so_far : now.stored ≡ take i (cell_values ws) = under_way.stored ∙ ap (λ k. take k (cell_values ws)) is.stored in
         let at_now : now.stored ++ x ∷ [] ≡ take (length (now.stored ++ x ∷ [])) (cell_values ws') =
         ap (λ l. l ++ x ∷ []) so_far ∙ sym (value_set ws i x (omega (arith, long, under_way.long, is.stored, short))) ∙ ap (λ k. take k (cell_values ws')) (sym n) in
-        let going : IsUnderWay o s.history (one_place ws') v.note (pair (now.stored ++ x ∷ []) (drop 1 now.left)) = record { note_is = under_way.note_is; stored = at_now; long = omega (arith, n, short, under_way.long, is.stored) } in
+        let going : IsUnderWay o s.history (one_place ws').place v.note (pair (now.stored ++ x ∷ []) (drop 1 now.left)) = record { note_is = under_way.note_is; stored = at_now; long = omega (arith, n, short, under_way.long, is.stored) } in
         let k : ViewKnowledge o s.history ws' w = record {
           opening_is = mine.opening_is;
           own = record { writes = mine.own.writes; latest = mine.own.latest };
           note = mine.note;
-          loaded = none_loaded ws' v.note v.loaded is.loaded;
-          storing = subst (IsUnderWay o s.history (one_place ws') v.note) (sym next) going;
+          loaded = nothing_loaded (one_place ws') v.note v.loaded is.loaded;
+          storing = subst (IsUnderWay o s.history (one_place ws').place v.note) (sym next) going;
           joining = mine.joining;
         } in (
           w,
-          made o ws views id v w s at refl parts ws' s.history (length-set ws (suc i) x) (inr (record { word = lock; one = after })) k
-              (λ j u m g q. held_knows o s.history ws ws' u (no_other j u m g) not_free q) (λ m. refl) refl
-              (looks_kept time_of (AtRest o.count) (moment_now o s.history (slice_index ws 0)) (moment_now o s.history (slice_index ws' 0)) views id v w s.seats.looks at (ap (moment_now o s.history) (lock_kept ws i x)) refl),
+          made o ws seat w s refl ws' s.history (length-set ws (suc i) x) (inr (record { word = lock; one = after })) k
+              (λ j u m g q. still_knows o s.history (one_place ws) (one_place ws') u (no_other j u m g) (λ d le z. absurd (omega (arith, z, lock))) q) (λ m. refl) refl
+              (looks_kept time_of (AtRest o.count) (moment_now o s.history (slice_index ws 0)) (moment_now o s.history (slice_index ws' 0)) seat w s.seats.looks (ap (moment_now o s.history) (lock_kept ws i x)) refl),
           refl,
         )
 
@@ -169,7 +169,7 @@ module _ (o : Record) (id : ℕ) (v : View) (parts : 0 < v.share.parts) (ws : Li
         let c : note_of v ≡ last_count o s.history = some_one (note_of v) (last_count o s.history) (sym note ∙ under_way.note_is) in
         let h' : History = s.history ++ now.stored ∷ [] in
         let r : Record = record_of (note_of v + 1) now.stored in
-        let place : ℕ = next o id v parts ws views s at in
+        let place : ℕ = next o ws seat s in
         let w : View = has_written r (has_looked place (AtRest (note_of v + 1)) (has_released v)) in
         let ws' : List ℕ = slice_set ws 0 (4 * (note_of v + 1)) in
         let lock : slice_index ws' 0 ≡ 4 * (note_of v + 1) = lock_set ws (4 * (note_of v + 1)) (omega (arith, s.long)) in
@@ -187,20 +187,20 @@ module _ (o : Record) (id : ℕ) (v : View) (parts : 0 < v.share.parts) (ws : Li
           nobody = nobody;
         } in
         let le : note_of v ≤ last_count o h' = omega (arith, last.count) in
-        let k = calm o h' ws' w mine.opening_is (record { writes = all_both o h' v.writes (r ∷ []) own.writes (last_stands o h' r last, tt); latest = last_stands o h' r last })
-        (some_is (λ m. m ≤ last_count o h') v.note (note_of v) note le) (none_loaded ws' v.note v.loaded is.loaded) refl is.joining in
+        let k = calm_seat (one_place ws') o h' w mine.opening_is (record { writes = all_both o h' v.writes (r ∷ []) own.writes (last_stands o h' r last, tt); latest = last_stands o h' r last })
+        (some_is (λ m. m ≤ last_count o h') v.note (note_of v) note le) (nothing_loaded (one_place ws') v.note v.loaded is.loaded) refl is.joining in
         let long = length-append s.history (now.stored ∷ []) in
         let more : last_count o h' ≡ last_count o s.history + 1 = omega (arith, long) in (
           w,
-          made o ws views id v w s at refl parts ws' h' (length-set ws 0 (4 * (note_of v + 1))) (inl rest) k
-              (λ j u m g q. released_knows o s.history ws ws' now.stored u (no_other j u m g) (lock ∙ ap (λ n. 4 * (n + 1)) c) q)
+          made o ws seat w s refl ws' h' (length-set ws 0 (4 * (note_of v + 1))) (inl rest) k
+              (λ j u m g q. more_knows o s.history (one_place ws) (one_place ws') u (no_other j u m g) (λ d le z. absurd (omega (arith, le, z, lock, c))) q now.stored)
               (λ n. let push = sum_by_push (λ (q : Record). one_if (q.count == n)) v.writes r in
               let between = one_more n o.count (last_count o s.history) (omega arith) in
               let here : one_if (note_of v + 1 == n) ≡ one_if (last_count o s.history + 1 == n) = ap (λ m. one_if (m + 1 == n)) c in
               let there : one_if (is_in_span n o.count (last_count o h')) ≡ one_if (is_in_span n o.count (last_count o s.history + 1)) = ap (λ m. one_if (is_in_span n o.count m)) more in
               omega (arith, push, between, here, there))
               (let push = length-append v.writes (r ∷ []) in omega (arith, push, long))
-              (looks_on time_of (AtRest o.count) (moment_now o s.history (slice_index ws 0)) (moment_now o h' (slice_index ws' 0)) views id v w s.seats.looks at (AtRest (note_of v + 1)) (ap AtRest last.count ∙ sym (rests_now o h' (slice_index ws' 0) (note_of v + 1) lock)) (time_at (moment_now o s.history (slice_index ws 0)) (UnderWay (last_count o s.history)) (AtRest (note_of v + 1)) (held_now o s.history (slice_index ws 0) held.word) (omega (arith, c))) refl),
+              (looks_on time_of (AtRest o.count) (moment_now o s.history (slice_index ws 0)) (moment_now o h' (slice_index ws' 0)) seat w s.seats.looks (AtRest (note_of v + 1)) (ap AtRest last.count ∙ sym (rests_now o h' (slice_index ws' 0) (note_of v + 1) lock)) (time_at (moment_now o s.history (slice_index ws 0)) (UnderWay (last_count o s.history)) (AtRest (note_of v + 1)) (held_now o s.history (slice_index ws 0) held.word) (omega (arith, c))) refl),
           record {
             place = place;
             view = refl;

@@ -1,6 +1,6 @@
 use Rattle.std.proofs.Common.{length, sym, ap, ◌∙◌}
-use Rattle.solero_cell.{specs.declared.views.View.View, proofs.Going.{all_loaded, begin_loading}}
-use Rattle.latch_cell.{specs.Copies.copy_start, proofs.{LatchSeats.{latch_seat_on}, Reading.{note_is}}}
+use Rattle.solero_cell.{specs.declared.views.View.View, proofs.Going.{all_loaded, begin_loading, note_is}}
+use Rattle.latch_cell.{specs.Copies.copy_start, proofs.LatchSeats.{latch_seat_on}}
 use Rattle.latch_cell.proofs.read.attempt_behind.Goals as goal
 
 pub load_values-requires-clause-loading : goal.load_values-requires-clause-loading

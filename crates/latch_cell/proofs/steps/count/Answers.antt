@@ -8,4 +8,4 @@ load-requires c =
     let shared = c.args.table.now.shared in
     let seat = c.args.seat.now in
     let is = c.requires.seat in
-    (is.of, omega (arith, is.words), any_load_allows (HasTwoCopies shared.key) shared.table_id.slots seat.id 1 seat.me (HasCounted seat.me.0) (λ ws views s at. count_step shared.key seat.id seat.me.0 is.share ws views s at c.requires.still))
+    (is.of, omega (arith, is.words), any_load_allows (HasTwoCopies shared.key) shared.table_id.slots seat.id 1 seat.me (HasCounted seat.me.0) is.share (λ ws at s. count_step shared.key ws at s c.requires.still))

@@ -8,4 +8,4 @@ store-requires c =
     let shared = c.args.table.now.shared in
     let seat = c.args.seat.now in
     let is = c.requires.seat in
-    (is.of, omega (arith, is.words), any_write_allows (HasTwoCopies shared.key) shared.table_id.slots seat.id 0 (λ n. c.word.result) seat.me (λ x. HasLetGo seat.me.0) (λ ws views s at. subst (λ x. LeadsTo (HasTwoCopies shared.key) ws views seat.id 0 x (HasLetGo seat.me.0)) (ap (λ n. 4 * n) (sym c.requires.count.0) ∙ sym c.word.ensures.word) (let_go_step shared.key seat.id seat.me.0 is.share ws views s at 0 c.requires.storing)))
+    (is.of, omega (arith, is.words), any_write_allows (HasTwoCopies shared.key) shared.table_id.slots seat.id 0 (λ n. c.word.result) seat.me (λ x. HasLetGo seat.me.0) is.share (λ ws at s. subst (λ x. LeadsTo (HasTwoCopies shared.key) ws at.views seat.id 0 x (HasLetGo seat.me.0)) (ap (λ n. 4 * n) (sym c.requires.count.0) ∙ sym c.word.ensures.word) (let_go_step shared.key ws at s 0 c.requires.storing)))

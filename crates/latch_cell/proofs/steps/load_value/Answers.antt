@@ -9,4 +9,4 @@ load-requires c =
     let seat = c.args.seat.now in
     let is = c.requires.seat in
     let high : c.args.start + length shared.key.values ≤ latch_words (length shared.key.values) = subst (λ k. k + length shared.key.values ≤ latch_words (length shared.key.values)) (sym c.requires.start) (copy_high (length shared.key.values) (note_of seat.me.0)) in
-    (is.of, omega (arith, is.words, c.requires.within, high), any_load_allows (HasTwoCopies shared.key) shared.table_id.slots seat.id (c.args.start + c.args.i) seat.me (λ x w. w ≡ has_loaded x seat.me.0) (λ ws views s at. load_step shared.key seat.id seat.me.0 is.share ws views s at c.args.i c.args.start c.requires.start c.requires.loading c.requires.within))
+    (is.of, omega (arith, is.words, c.requires.within, high), any_load_allows (HasTwoCopies shared.key) shared.table_id.slots seat.id (c.args.start + c.args.i) seat.me (λ x w. w ≡ has_loaded x seat.me.0) is.share (λ ws at s. load_step shared.key ws at s c.args.i c.args.start c.requires.start c.requires.loading c.requires.within))

@@ -9,4 +9,4 @@ store-requires c =
     let seat = c.args.seat.now in
     let is = c.requires.seat in
     let high : c.args.start + length shared.key.values ≤ latch_words (length shared.key.values) = subst (λ k. k + length shared.key.values ≤ latch_words (length shared.key.values)) (sym c.requires.start) (copy_high (length shared.key.values) (note_of seat.me.0 + 1)) in
-    (is.of, omega (arith, is.words, c.requires.within, high), any_write_allows (HasTwoCopies shared.key) shared.table_id.slots seat.id (c.args.start + c.args.i) (λ n. c.args.value) seat.me (λ x w. w ≡ has_stored (storing_of seat.me.0) seat.me.0) (λ ws views s at. store_step shared.key seat.id seat.me.0 is.share ws views s at c.args.i c.requires.storing.0 c.args.value c.args.start c.requires.start c.requires.storing.1))
+    (is.of, omega (arith, is.words, c.requires.within, high), any_write_allows (HasTwoCopies shared.key) shared.table_id.slots seat.id (c.args.start + c.args.i) (λ n. c.args.value) seat.me (λ x w. w ≡ has_stored (storing_of seat.me.0) seat.me.0) is.share (λ ws at s. store_step shared.key ws at s c.args.i c.requires.storing.0 c.args.value c.args.start c.requires.start c.requires.storing.1))

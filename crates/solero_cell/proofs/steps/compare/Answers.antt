@@ -7,4 +7,4 @@ load-nothing-requires c =
     let shared = c.args.table.now.shared in
     let seat = c.args.seat.now in
     let is = c.requires.seat in
-    (is.of, omega (arith, is.words), load_allows shared.key shared.table_id.slots seat.id 0 seat.me (λ x. HasCompared seat.me.0) (λ ws views s at. compare_step shared.key seat.id seat.me.0 is.share ws views s at c.requires.joining))
+    (is.of, omega (arith, is.words), load_allows shared.key shared.table_id.slots seat.id 0 seat.me (λ x. HasCompared seat.me.0) is.share (λ ws at s. compare_step shared.key ws at s c.requires.joining))

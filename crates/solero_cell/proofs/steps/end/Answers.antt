@@ -7,4 +7,4 @@ load-nothing-requires c =
     let shared = c.args.table.now.shared in
     let seat = c.args.seat.now in
     let is = c.requires.seat in
-    (is.of, omega (arith, is.words), load_allows shared.key shared.table_id.slots seat.id 0 seat.me (λ x w. (w ≡ seat.me.0) × IsAtEnd seat.me.0) (λ ws views s at. end_step shared.key seat.id seat.me.0 is.share is.opening_is ws views s at))
+    (is.of, omega (arith, is.words), load_allows shared.key shared.table_id.slots seat.id 0 seat.me (λ x w. (w ≡ seat.me.0) × IsAtEnd seat.me.0) is.share (λ ws at s. end_step shared.key is.opening_is ws at s))

@@ -7,4 +7,4 @@ load-requires g c =
     let shared = c.args.table.now.shared in
     let seat = c.args.seat.now in
     let is = c.requires.seat in
-    (is.of, omega (arith, is.words), load_allows shared.key shared.table_id.slots seat.id 0 seat.me (TellsFinish g.A.Attempt.is_last seat.me.0) (λ ws views s at. finish_step shared.key seat.id seat.me.0 is.share ws views s at g.A.Attempt.is_last c.requires.loading))
+    (is.of, omega (arith, is.words), load_allows shared.key shared.table_id.slots seat.id 0 seat.me (TellsFinish g.A.Attempt.is_last seat.me.0) is.share (λ ws at s. finish_step shared.key ws at s g.A.Attempt.is_last c.requires.loading))

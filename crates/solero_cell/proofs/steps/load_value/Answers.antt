@@ -7,4 +7,4 @@ load-requires c =
     let shared = c.args.table.now.shared in
     let seat = c.args.seat.now in
     let is = c.requires.seat in
-    (is.of, omega (arith, is.words, c.requires.within), load_allows shared.key shared.table_id.slots seat.id (1 + c.args.i) seat.me (λ x w. w ≡ has_loaded x seat.me.0) (λ ws views s at. load_step_at shared.key seat.id seat.me.0 is.share ws views s at c.args.i (1 + c.args.i) (omega arith) c.requires.loading c.requires.within))
+    (is.of, omega (arith, is.words, c.requires.within), load_allows shared.key shared.table_id.slots seat.id (1 + c.args.i) seat.me (λ x w. w ≡ has_loaded x seat.me.0) is.share (λ ws at s. load_step_at shared.key ws at s c.args.i (1 + c.args.i) (omega arith) c.requires.loading c.requires.within))

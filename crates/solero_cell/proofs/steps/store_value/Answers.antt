@@ -7,4 +7,4 @@ store-requires c =
     let shared = c.args.table.now.shared in
     let seat = c.args.seat.now in
     let is = c.requires.seat in
-    (is.of, omega (arith, is.words, c.requires.within), write_allows shared.key shared.table_id.slots seat.id (1 + c.args.i) (λ n. c.args.value) seat.me (λ x w. w ≡ has_stored (storing_of seat.me.0) seat.me.0) (λ ws views s at. store_step_at shared.key seat.id seat.me.0 is.share ws views s at c.args.i c.requires.storing.0 (1 + c.args.i) c.args.value (omega arith) c.requires.storing.1))
+    (is.of, omega (arith, is.words, c.requires.within), write_allows shared.key shared.table_id.slots seat.id (1 + c.args.i) (λ n. c.args.value) seat.me (λ x w. w ≡ has_stored (storing_of seat.me.0) seat.me.0) is.share (λ ws at s. store_step_at shared.key ws at s c.args.i c.requires.storing.0 (1 + c.args.i) c.args.value (omega arith) c.requires.storing.1))
