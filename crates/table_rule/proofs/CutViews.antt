@@ -2,7 +2,7 @@
 use Rattle.std.proofs.Common.{◌≡◌, ◌≢◌, ℕ, zero, suc, ◌⊎◌, inl, inr, ⊎_elim, List, [], ◌∷◌, ◌++◌, length, length-set, Some, None, refl, sym, ap, ◌∙◌, slice_get, slice_set}
 use Rattle.atomic_table.proofs.Lists.{at_set, set_here, set_else, at_longer, at_last}
 use Rattle.machine_types.specs.Threads.{Thread}
-use Rattle.table_rule.{specs.Views.{View, held_in, IsHeld, AreShown}, proofs.Entries.{no_two, view_within}}
+use Rattle.table_rule.{specs.Views.{View, held_in, IsHeld, AreShown}, proofs.Entries.{Seen, no_two, view_within}}
 use lib.ListN.{get_elem?}
 use mathlib.Core.{Logic.dite, Option.{some, some-injective, some-ne-none}}
 use native.Mathlib.Decide.{ℕ_discrete}
@@ -14,11 +14,17 @@ at_end [] (suc i) r w e = absurd (some-ne-none w (sym e))
 at_end (v ∷ vs) zero r w e = inl e
 at_end (v ∷ vs) (suc i) r w e = ⊎_elim (λ k. inl k) (λ k. inr (ap suc k.0, k.1)) (at_end vs i r w e)
 
-module _ (threads : List Thread) (views : List View) (id t : ℕ) (v left right : View)
-    (shown : AreShown threads views) (at : get_elem? views id ≡ some v)
-    (left_none : held_in left t ≡ None) (left_else : (u : ℕ) → u ≢ t → held_in left u ≡ held_in v u)
-    (right_here : held_in right t ≡ held_in v t)
-    (right_else : (u : ℕ) → u ≢ t → held_in right u ≡ None) where
+-- the right view has the entry t of this one, and the left one has all others
+record IsCut (t : ℕ) (v left right : View) : Type 0 where
+  pub left_none : held_in left t ≡ None
+  pub left_else : (u : ℕ) → u ≢ t → held_in left u ≡ held_in v u
+  pub right_here : held_in right t ≡ held_in v t
+  pub right_else : (u : ℕ) → u ≢ t → held_in right u ≡ None
+
+module _ (seen : Seen) (t : ℕ) (left right : View) (is : IsCut t seen.v left right) where
+  open seen use {threads, views, id, v, shown, at}
+  open is use {left_none, left_else, right_here, right_else}
+
   abbrev cut : List View
   cut = slice_set views id left ++ right ∷ []
 
@@ -89,9 +95,15 @@ module _ (threads : List Thread) (views : List View) (id t : ℕ) (v left right 
       else : h.0 ≢ id → IsHeld cut u z
       else n = (h.0, h.1, stays h.0 h.1 (set_else views id h.0 left n ∙ h.2), h.3)
 
-  pub cut_shows : AreShown threads cut
-  cut_shows = record {
+  both_show : AreShown threads cut
+  both_show = record {
     own = λ i u w z a h. own_was i u z (in_cut i u w z a h);
     once = λ i j u w r y z a b h k. once_was i j u y z (in_cut i u w y a h) (in_cut j u r z b k);
     each = λ u z e. held_cut u z (shown.each u z e);
   }
+
+pub cut_shows : (threads : List Thread) (views : List View) (id t : ℕ) (v left right : View) → AreShown threads views → get_elem? views id ≡ some v
+    → held_in left t ≡ None → ((u : ℕ) → u ≢ t → held_in left u ≡ held_in v u) → held_in right t ≡ held_in v t → ((u : ℕ) → u ≢ t → held_in right u ≡ None)
+    → AreShown threads (slice_set views id left ++ right ∷ [])
+cut_shows threads views id t v left right shown at none else here only =
+    both_show (record { threads = threads; views = views; id = id; v = v; shown = shown; at = at }) t left right (record { left_none = none; left_else = else; right_here = here; right_else = only })

@@ -1,8 +1,10 @@
 -- The threads that a view has, by their numbers, and the views of a table.
 use Rattle.std.proofs.Common.{◌≡◌, ◌≢◌, ℕ, zero, suc, ◌<◌, ◌≤◌, List, [], ◌∷◌, map, length, replicate, Option, Some, None, refl, sym, ap, ◌∙◌, arith, slice_get, slice_set}
 use Rattle.std.proofs.lemmas.List.{get_or-set_same, get_or-set_other, set-get_or}
-use Rattle.machine_types.specs.Threads.{Thread}
-use Rattle.table_rule.specs.Views.{View, held_in}
+use Rattle.atomic_table.proofs.Lists.{set_here}
+use Rattle.checked_program.specs.MarkedProgram.{MarkedProgram}
+use Rattle.machine_types.specs.{Core.core, Threads.Thread, declared.config.Config.Config}
+use Rattle.table_rule.specs.Views.{View, held_in, AreShown, ShowsRun}
 use lib.ListN.{get_elem?}
 use mathlib.Core.Option.{some, some-ne-none}
 
@@ -79,3 +81,33 @@ none_held (suc n) (suc t) = none_held n t
 pub no_two : (o : Option Thread) (x : Thread) → o ≡ None → o ≡ Some x → ⊥
 no_two None x e f = let bad : None ≡ Some x = f in absurd (cc)
 no_two (Some y) x e f = let bad : Some y ≡ None = e in absurd (cc)
+
+-- ---- one of the views of a table
+
+-- which show these threads
+pub record Seen : Type 0 where
+  pub threads : List Thread
+  pub views : List View
+  pub id : ℕ
+  pub v : View
+  pub shown : AreShown threads views
+  pub at : get_elem? views id ≡ some v
+
+-- which show a state of a run
+pub record AtRun (c : MarkedProgram) (cfg : Config) : Type 0 where
+  pub words : List ℕ
+  pub views : List View
+  pub id : ℕ
+  pub v : View
+  pub run : ShowsRun c cfg words views
+  pub at : get_elem? views id ≡ some v
+
+module _ {c : MarkedProgram} {cfg : Config} (place : AtRun c cfg) where
+  open place use {words, views, id, v, run, at}
+
+  abbrev pub seen_at : Seen
+  seen_at = record { threads = (core c cfg run.happenings).threads; views = views; id = id; v = v; shown = run.threads_are; at = at }
+
+  -- it is another one, and they still show one
+  abbrev pub with_view : (w : View) → ShowsRun c cfg words (slice_set views id w) → AtRun c cfg
+  with_view w shows = record { words = words; views = slice_set views id w; id = id; v = w; run = shows; at = set_here views id w (view_within views id v at) }

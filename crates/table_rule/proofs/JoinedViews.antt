@@ -2,18 +2,22 @@
 use Rattle.std.proofs.Common.{◌≡◌, ◌≢◌, ℕ, ◌⊎◌, inl, inr, ⊎_elim, List, Option, Some, None, refl, sym, ap, ◌∙◌, slice_get, slice_set}
 use Rattle.atomic_table.proofs.Lists.{at_set, set_here, set_else}
 use Rattle.machine_types.specs.Threads.{Thread}
-use Rattle.table_rule.{specs.Views.{View, held_in, IsHeld, AreShown}, proofs.Entries.{no_two, view_within}}
+use Rattle.table_rule.{specs.Views.{View, held_in, IsHeld, AreShown}, proofs.Entries.{Seen, no_two, view_within}}
 use lib.ListN.{get_elem?}
 use mathlib.Core.{Logic.dite, Option.{some, some-injective}}
 use native.Mathlib.Decide.{ℕ_discrete}
 
-module _ (threads : List Thread) (views : List View) (id other : ℕ) (v w both spent : View)
-    (shown : AreShown threads views) (at : get_elem? views id ≡ some v)
-    (apart : other ≢ id) (at_other : get_elem? views other ≡ some w)
-    (from : (u : ℕ) (z : Thread) → held_in both u ≡ Some z → (held_in v u ≡ Some z) ⊎ (held_in w u ≡ Some z))
-    (to_left : (u : ℕ) (z : Thread) → held_in v u ≡ Some z → held_in both u ≡ Some z)
-    (to_right : (u : ℕ) (z : Thread) → held_in v u ≡ None → held_in w u ≡ Some z → held_in both u ≡ Some z)
-    (none : (u : ℕ) → held_in spent u ≡ None) where
+-- a view has the threads of two, and of both at one number that of the first
+record IsBoth (v w both : View) : Type 0 where
+  pub from : (u : ℕ) (z : Thread) → held_in both u ≡ Some z → (held_in v u ≡ Some z) ⊎ (held_in w u ≡ Some z)
+  pub to_left : (u : ℕ) (z : Thread) → held_in v u ≡ Some z → held_in both u ≡ Some z
+  pub to_right : (u : ℕ) (z : Thread) → held_in v u ≡ None → held_in w u ≡ Some z → held_in both u ≡ Some z
+
+module _ (seen : Seen) (other : ℕ) (w both spent : View) (apart : other ≢ seen.id) (at_other : get_elem? seen.views other ≡ some w)
+    (is : IsBoth seen.v w both) (none : (u : ℕ) → held_in spent u ≡ None) where
+  open seen use {threads, views, id, v, shown, at}
+  open is use {from, to_left, to_right}
+
   abbrev joined : List View
   joined = slice_set (slice_set views id both) other spent
 
@@ -68,9 +72,16 @@ module _ (threads : List Thread) (views : List View) (id other : ℕ) (v w both 
       else : h.0 ≢ id → h.0 ≢ other → IsHeld joined u z
       else n m = (h.0, h.1, set_else (slice_set views id both) other h.0 spent m ∙ set_else views id h.0 both n ∙ h.2, h.3)
 
-  pub joined_shows : AreShown threads joined
-  joined_shows = record {
+  one_shows : AreShown threads joined
+  one_shows = record {
     own = λ i u r z a h. ⊎_elim (λ k. own_here u z k.1) (λ k. shown.own i u k.2 z k.3 k.4) (in_joined i u r z a h);
     once = λ i j u r q y z a b h k. once_in i j u y z (in_joined i u r y a h) (in_joined j u q z b k);
     each = λ u z e. held_joined u z (shown.each u z e);
   }
+
+pub joined_shows : (threads : List Thread) (views : List View) (id other : ℕ) (v w both spent : View) → AreShown threads views → get_elem? views id ≡ some v
+    → other ≢ id → get_elem? views other ≡ some w → ((u : ℕ) (z : Thread) → held_in both u ≡ Some z → (held_in v u ≡ Some z) ⊎ (held_in w u ≡ Some z))
+    → ((u : ℕ) (z : Thread) → held_in v u ≡ Some z → held_in both u ≡ Some z) → ((u : ℕ) (z : Thread) → held_in v u ≡ None → held_in w u ≡ Some z → held_in both u ≡ Some z)
+    → ((u : ℕ) → held_in spent u ≡ None) → AreShown threads (slice_set (slice_set views id both) other spent)
+joined_shows threads views id other v w both spent shown at apart at_other from left right none =
+    one_shows (record { threads = threads; views = views; id = id; v = v; shown = shown; at = at }) other w both spent apart at_other (record { from = from; to_left = left; to_right = right }) none

@@ -6,15 +6,16 @@ use Rattle.machine_types.specs.{Accesses.{found_by, words_after}, Core.{Core, Ha
 use Rattle.laws_states.{specs.GrowingRuns.behind, proofs.GrowingRuns.{event_is, one_more}}
 use Rattle.local_events.specs.Locals.{AfterLocals}
 use Rattle.table_rule.specs.{TableLaws.{EventsShow, LocalsShow}, Views.{View, held_in, IsHeld, AreShown, ShowsRun, StandsIn}}
-use Rattle.table_rule.proofs.Entries.{got_else, got_here, held_else, held_here, set_held, view_within}
+use Rattle.table_rule.proofs.Entries.{AtRun, Seen, seen_at, with_view, got_else, got_here, held_else, held_here, set_held, view_within}
 use lib.ListN.{get_elem?}
 use mathlib.Core.{Logic.dite, Option.{some, some-injective}}
 use native.Mathlib.Decide.{ℕ_discrete}
 
 -- ---- the thread of a view goes on
 
-module _ (threads : List Thread) (views : List View) (id t : ℕ) (v : View) (x y : Thread)
-    (shown : AreShown threads views) (at : get_elem? views id ≡ some v) (is : held_in v t ≡ Some x) where
+module _ (seen : Seen) (t : ℕ) (x y : Thread) (is : held_in seen.v t ≡ Some x) where
+  open seen use {threads, views, id, v, shown, at}
+
   abbrev more : View
   more = slice_set v t (Some y)
 
@@ -77,10 +78,8 @@ module _ (threads : List Thread) (views : List View) (id t : ℕ) (v : View) (x 
 
 -- ---- an event
 
-module _ (c : MarkedProgram) (cfg : Config) (words : List ℕ) (views : List View) (id t : ℕ) (v : View) (x : Thread)
-    (run : ShowsRun c cfg words views) (at : get_elem? views id ≡ some v) (is : held_in v t ≡ Some x) where
-  hs : List Happening
-  hs = run.happenings
+module _ {c : MarkedProgram} {cfg : Config} (place : AtRun c cfg) (t : ℕ) (x : Thread) (is : held_in place.v t ≡ Some x) where
+  open place use {words, views, id, v, run, at}
 
   abbrev next_run : List Happening
   next_run = run.happenings ++ Of t ∷ []
@@ -111,49 +110,44 @@ module _ (c : MarkedProgram) (cfg : Config) (words : List ℕ) (views : List Vie
     words_are = ap (λ ws. words_after ws (wanted c x x.phase)) run.words_are
         ∙ ap (λ (s : Core). s.words) (sym comes);
     threads_are = subst (λ (ts : List Thread). AreShown ts (slice_set views id (slice_set v t (Some (behind c words x))))) (sym (ap (λ (s : Core). s.threads) comes ∙ ap (λ y. slice_set (core c cfg run.happenings).threads t y) now))
-        (goes_on (core c cfg run.happenings).threads views id t v x (behind c words x) run.threads_are at is);
+        (goes_on (seen_at place) t x (behind c words x) is);
   }
 
 -- ---- events without an access, and then one
 
-abbrev Local : MarkedProgram → Config → List ℕ → List View → (id t : ℕ) → View → Thread → Type 0
-Local c cfg words views id t v y = ShowsRun c cfg words (slice_set views id (slice_set v t (Some y))) × StandsIn c cfg words t y
+abbrev Local : {c : MarkedProgram} {cfg : Config} → AtRun c cfg → (t : ℕ) → Thread → Type 0
+Local {c} {cfg} place t y = ShowsRun c cfg place.words (slice_set place.views place.id (slice_set place.v t (Some y))) × StandsIn c cfg place.words t y
 
 -- nothing has happened yet
-none_yet : (c : MarkedProgram)
-    (cfg : Config) (words : List ℕ) (views : List View) (id t : ℕ) (v : View) (x : Thread)
-    → ShowsRun c cfg words views → get_elem? views id ≡ some v → held_in v t ≡ Some x
-    → Local c cfg words views id t v x
-none_yet c cfg words views id t v x run at is =
-    let same : slice_set v t (Some x) ≡ v = set_held v t (Some x) is in
-    (subst (ShowsRun c cfg words) (sym (ap (slice_set views id) same ∙ set_again views id v at)) run, record { happenings = run.happenings; words_are = run.words_are; at = run.threads_are.own id t v x at is })
+none_yet : {c : MarkedProgram} {cfg : Config} (place : AtRun c cfg) (t : ℕ) (x : Thread) → held_in place.v t ≡ Some x → Local place t x
+none_yet {c} {cfg} place t x is =
+    let run = place.run in
+    let same : slice_set place.v t (Some x) ≡ place.v = set_held place.v t (Some x) is in
+    (subst (ShowsRun c cfg place.words) (sym (ap (slice_set place.views place.id) same ∙ set_again place.views place.id place.v place.at)) run, record { happenings = run.happenings; words_are = run.words_are; at = run.threads_are.own place.id t place.v x place.at is })
 
-many : (k : ℕ)
-    (c : MarkedProgram) (cfg : Config) (words : List ℕ) (views : List View) (id t : ℕ) (v : View) (x y : Thread)
-    → ShowsRun c cfg words views → get_elem? views id ≡ some v → held_in v t ≡ Some x → AfterLocals c x k y
-    → Local c cfg words views id t v y
-many zero c cfg words views id t v x y run at is e = subst (Local c cfg words views id t v) (sym e) (none_yet c cfg words views id t v x run at is)
-many (suc k) c cfg words views id t v x y run at is e =
+-- a thread of a view that is set twice
+set_twice : (views : List View) (id t : ℕ) (v : View) (z y : Thread)
+    → slice_set (slice_set views id (slice_set v t (Some z))) id (slice_set (slice_set v t (Some z)) t (Some y)) ≡ slice_set views id (slice_set v t (Some y))
+set_twice views id t v z y = set-set views id (slice_set v t (Some z)) (slice_set (slice_set v t (Some z)) t (Some y)) ∙ ap (slice_set views id) (set-set v t (Some z) (Some y))
+
+many : (k : ℕ) {c : MarkedProgram} {cfg : Config} (place : AtRun c cfg) (t : ℕ) (x y : Thread) → held_in place.v t ≡ Some x → AfterLocals c x k y → Local place t y
+many zero place t x y is e = subst (Local place t) (sym e) (none_yet place t x is)
+many (suc k) {c} {cfg} place t x y is e =
+    let words = place.words in
     let none : wanted c x x.phase ≡ None = e.0 in
     let z : Thread = behind c words x in
     let same : z ≡ moved c x x.phase 0 = ap (λ o. moved c x x.phase (found_by words o)) none in
-    let w : View = slice_set v t (Some z) in
-    let still : ShowsRun c cfg words (slice_set views id w) = subst (λ o. ShowsRun c cfg (words_after words o) (slice_set views id w)) none (one_event c cfg words views id t v x run at is) in
-    let rest : Local c cfg words (slice_set views id w) id t w y = many k c cfg words (slice_set views id w) id t w z y still (set_here views id w (view_within views id v at)) (held_here v t x z is) (subst (λ q. AfterLocals c q k y) (sym same) e.1) in
-    let flat : slice_set (slice_set views id w) id (slice_set w t (Some y)) ≡ slice_set views id (slice_set v t (Some y)) =
-    set-set views id w (slice_set w t (Some y)) ∙ ap (slice_set views id) (set-set v t (Some z) (Some y)) in
-    (subst (ShowsRun c cfg words) flat rest.0, rest.1)
+    let w : View = slice_set place.v t (Some z) in
+    let still : ShowsRun c cfg words (slice_set place.views place.id w) = subst (λ o. ShowsRun c cfg (words_after words o) (slice_set place.views place.id w)) none (one_event place t x is) in
+    let rest = many k (with_view place w still) t z y (held_here place.v t x z is) (subst (λ q. AfterLocals c q k y) (sym same) e.1) in
+    (subst (ShowsRun c cfg words) (set_twice place.views place.id t place.v z y) rest.0, rest.1)
 
 pub locals_show : LocalsShow
-locals_show c cfg words views id t v x y run at is follows = many follows.0 c cfg words views id t v x y run at is follows.1
+locals_show c cfg words views id t v x y run at is follows = many follows.0 (record { words = words; views = views; id = id; v = v; run = run; at = at }) t x y is follows.1
 
 pub events_show : EventsShow
 events_show c cfg words views id t v x y run at is follows =
-    let local : Local c cfg words views id t v y = locals_show c cfg words views id t v x y run at is follows in
-    let w : View = slice_set v t (Some y) in
-    let here : get_elem? (slice_set views id w) id ≡ some w = set_here views id w (view_within views id v at) in
-    let now : held_in w t ≡ Some y = held_here v t x y is in
-    let flat : slice_set (slice_set views id w) id (slice_set w t (Some (behind c words y))) ≡ slice_set views id (slice_set v t (Some (behind c words y))) =
-    set-set views id w (slice_set w t (Some (behind c words y)))
-    ∙ ap (slice_set views id) (set-set v t (Some y) (Some (behind c words y))) in
-    (subst (ShowsRun c cfg (words_after words (wanted c y y.phase))) flat (one_event c cfg words (slice_set views id w) id t w y local.0 here now), (local.0.happenings ++ Of t ∷ [], stands_behind c cfg words (slice_set views id w) id t w y local.0 here now))
+    let local = locals_show c cfg words views id t v x y run at is follows in
+    let place : AtRun c cfg = with_view (record { words = words; views = views; id = id; v = v; run = run; at = at }) (slice_set v t (Some y)) local.0 in
+    let now : held_in (slice_set v t (Some y)) t ≡ Some y = held_here v t x y is in
+    (subst (ShowsRun c cfg (words_after words (wanted c y y.phase))) (set_twice views id t v y (behind c words y)) (one_event place t y now), (local.0.happenings ++ Of t ∷ [], stands_behind place t y now))

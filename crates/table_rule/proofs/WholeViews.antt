@@ -6,18 +6,16 @@ use Rattle.checked_program.specs.MarkedProgram.{MarkedProgram}
 use Rattle.machine_types.specs.{Core.{Core, Happening, NextPart, core, next_threads}, Threads.Thread, declared.config.Config.Config}
 use Rattle.laws_states.proofs.GrowingRuns.{next_long, one_more, runs_keep_sizes}
 use Rattle.table_rule.specs.Views.{View, held_in, AreShown, ShowsRun, AllFollow, EachFollows, HasThreads, HoldsAll}
-use Rattle.table_rule.proofs.{Entries.{got_there, got_within, held_beyond, held_here, held_else, view_within}, Shown.locals_show}
+use Rattle.table_rule.proofs.{Entries.{AtRun, Seen, seen_at, with_view, got_within, held_beyond, held_here, held_else, view_within}, Shown.locals_show}
 use lib.ListN.{get_elem?}
 use mathlib.Core.{Logic.dite, Option.some}
 use native.Mathlib.Decide.{ℕ_discrete}
 
 -- ---- a view that has all threads
 
-module _ (threads new : List Thread) (views : List View) (id : ℕ) (v w : View)
-    (shown : AreShown threads views) (at : get_elem? views id ≡ some v)
-    (all : (t : ℕ) (x : Thread) → slice_get threads t ≡ Some x → held_in v t ≡ Some x)
-    (holds : HasThreads w new)
-    (there_too : (t : ℕ) (y : Thread) → slice_get new t ≡ Some y → (x : Thread) × (slice_get threads t ≡ Some x)) where
+module _ (seen : Seen) (new : List Thread) (w : View) (all : (t : ℕ) (x : Thread) → slice_get seen.threads t ≡ Some x → held_in seen.v t ≡ Some x) (holds : HasThreads w new) where
+  open seen use {views, id, v, shown, at}
+
   abbrev whole : List View
   whole = slice_set views id w
 
@@ -25,7 +23,7 @@ module _ (threads new : List Thread) (views : List View) (id : ℕ) (v w : View)
       → (i ≡ id) × (held_in w u ≡ Some z)
   here_only i u r z a h = ⊎_elim (λ k. (k.0, ap (λ (q : View). held_in q u) k.1 ∙ h)) (λ k. absurd (k.0 (shown.once i id u r v z z k.1 at h (all u z (shown.own i u r z k.1 h))))) (at_set views id i w r a)
 
-  pub whole_shows : AreShown new whole
+  whole_shows : AreShown new whole
   whole_shows = record {
     own = λ i u r z a h. sym (holds u) ∙ (here_only i u r z a h).1;
     once = λ i j u r q y z a b h k. (here_only i u r y a h).0 ∙ sym (here_only j u q z b k).0;
@@ -39,9 +37,10 @@ none_before c None p k e = refl
 none_before c (Some x) None k e = absurd k
 none_before c (Some x) (Some y) k e = let bad : Some y ≡ None = e in absurd (cc)
 
-module _ (c : MarkedProgram) (cfg : Config) (words : List ℕ) (views : List View) (id : ℕ) (v u : View)
-    (run : ShowsRun c cfg words views) (at : get_elem? views id ≡ some v) (follow : AllFollow c v u) where
-  pub record CaughtUp (n : ℕ) : Type 0 where
+module _ {c : MarkedProgram} {cfg : Config} (place : AtRun c cfg) (u : View) (follow : AllFollow c place.v u) where
+  open place use {words, views, id, v, run, at}
+
+  record CaughtUp (n : ℕ) : Type 0 where
     pub view : View
     pub shows : ShowsRun c cfg words (slice_set views id view)
     pub below : (t : ℕ) → t < n → held_in view t ≡ held_in u t
@@ -73,14 +72,14 @@ module _ (c : MarkedProgram) (cfg : Config) (words : List ℕ) (views : List Vie
   caught_up zero = record { view = v; shows = subst (ShowsRun c cfg words) (sym (set_again views id v at)) run; below = λ t lt. absurd (omega (arith, lt)); from = λ t le. refl }
   caught_up (suc n) = further n (caught_up n) (held_in v n) (held_in u n) refl refl (follow n)
 
-  pub latest : View
+  latest : View
   latest = (caught_up (length u)).view
 
-  pub latest_shows : ShowsRun c cfg words (slice_set views id latest)
+  latest_shows : ShowsRun c cfg words (slice_set views id latest)
   unfolding latest
   latest_shows = (caught_up (length u)).shows
 
-  pub latest_is : (t : ℕ) → held_in latest t ≡ held_in u t
+  latest_is : (t : ℕ) → held_in latest t ≡ held_in u t
   unfolding latest
   latest_is t = by_place (nat_lt t (length u)) refl
     where
@@ -92,54 +91,56 @@ module _ (c : MarkedProgram) (cfg : Config) (words : List ℕ) (views : List Vie
           (caught_up (length u)).from t le ∙ none_before c (held_in v t) (held_in u t) (follow t) none
           ∙ sym none
 
--- ---- all threads of the run
+  -- ---- all threads of the run
 
-module _ (c : MarkedProgram) (cfg : Config) (words : List ℕ) (views : List View) (id : ℕ) (v u : View)
-    (run : ShowsRun c cfg words views) (at : get_elem? views id ≡ some v) (follow : AllFollow c v u) (holds : HoldsAll c u) where
-  now_run : ShowsRun c cfg words (slice_set views id (latest c cfg words views id v u run at follow))
-  now_run = latest_shows c cfg words views id v u run at follow
-
-  now_here :
-      get_elem? (slice_set views id (latest c cfg words views id v u run at follow)) id ≡ some (latest c cfg words views id v u run at follow)
-  now_here = set_here views id (latest c cfg words views id v u run at follow) (view_within views id v at)
+  abbrev now : AtRun c cfg
+  now = with_view place latest latest_shows
 
   -- the run that reaches the words and the states of all its threads
-  pub whole_run : List Happening
-  whole_run = now_run.happenings
+  pub run_of : List Happening
+  run_of = now.run.happenings
 
-  pub whole_words : words ≡ (core c cfg whole_run).words
-  unfolding whole_run
-  whole_words = now_run.words_are
-
-  pub whole_holds : HasThreads u (core c cfg whole_run).threads
-  unfolding whole_run
-  whole_holds t = sym (latest_is c cfg words views id v u run at follow t)
-      ∙ by_entry (held_in (latest c cfg words views id v u run at follow) t) refl
+  has_all : HoldsAll c u → HasThreads u (core c cfg run_of).threads
+  unfolding run_of
+  has_all holds t = sym (latest_is t) ∙ by_entry (held_in latest t) refl
     where
-      by_entry : (o : Option Thread) → held_in (latest c cfg words views id v u run at follow) t ≡ o
-          → held_in (latest c cfg words views id v u run at follow) t ≡ slice_get (core c cfg whole_run).threads t
-      by_entry (Some y) e = e
-          ∙ sym (now_run.threads_are.own id t (latest c cfg words views id v u run at follow) y now_here e)
-      by_entry None e = by_thread (slice_get (core c cfg whole_run).threads t) refl
+      by_entry : (o : Option Thread) → held_in latest t ≡ o → held_in latest t ≡ slice_get (core c cfg run_of).threads t
+      by_entry (Some y) e = e ∙ sym (now.run.threads_are.own id t latest y now.at e)
+      by_entry None e = by_thread (slice_get (core c cfg run_of).threads t) refl
         where
-          by_thread : (p : Option Thread) → slice_get (core c cfg whole_run).threads t ≡ p
-              → held_in (latest c cfg words views id v u run at follow) t ≡ slice_get (core c cfg whole_run).threads t
+          by_thread : (p : Option Thread) → slice_get (core c cfg run_of).threads t ≡ p → held_in latest t ≡ slice_get (core c cfg run_of).threads t
           by_thread None f = e ∙ sym f
           by_thread (Some x) f =
-              let lt = got_within (core c cfg whole_run).threads t x f in
-              let some : IsSome (held_in u t) = holds t (omega (arith, lt, (runs_keep_sizes c cfg whole_run).threads)) in
-              let bad : false ≡ true = subst IsSome (sym (latest_is c cfg words views id v u run at follow t) ∙ e) some in absurd (cc)
+              let lt = got_within (core c cfg run_of).threads t x f in
+              let some : IsSome (held_in u t) = holds t (omega (arith, lt, (runs_keep_sizes c cfg run_of).threads)) in
+              let bad : false ≡ true = subst IsSome (sym (latest_is t) ∙ e) some in absurd (cc)
 
   -- the begin of a part
-  pub part_shows : (w : View) → HasThreads w (next_threads c.program (core c cfg whole_run).threads)
-      → ShowsRun c cfg words (slice_set views id w)
-  unfolding whole_run
-  part_shows w h = record {
-    happenings = whole_run ++ NextPart ∷ [];
-    words_are = whole_words ∙ ap (λ (s : Core). s.words) (sym (one_more c cfg whole_run NextPart));
-    threads_are = subst (λ (ts : List Thread). AreShown ts (slice_set views id w)) (ap (λ (s : Core). s.threads) (sym (one_more c cfg whole_run NextPart)))
-        (subst (AreShown (next_threads c.program (core c cfg whole_run).threads)) (set-set views id (latest c cfg words views id v u run at follow) w)
-        (whole_shows (core c cfg whole_run).threads (next_threads c.program (core c cfg whole_run).threads) (slice_set views id (latest c cfg words views id v u run at follow)) id (latest c cfg words views id v u run at follow) w now_run.threads_are now_here
-        (λ t x e. latest_is c cfg words views id v u run at follow t ∙ whole_holds t ∙ e) h
-        (λ t y e. got_there (core c cfg whole_run).threads t (let lt = got_within (next_threads c.program (core c cfg whole_run).threads) t y e in omega (arith, lt, next_long c.program (core c cfg whole_run).threads)))));
+  begun : HoldsAll c u → (w : View) → HasThreads w (next_threads c.program (core c cfg run_of).threads) → ShowsRun c cfg words (slice_set views id w)
+  unfolding run_of
+  begun holds w h = record {
+    happenings = run_of ++ NextPart ∷ [];
+    words_are = now.run.words_are ∙ ap (λ (s : Core). s.words) (sym (one_more c cfg run_of NextPart));
+    threads_are = subst (λ (ts : List Thread). AreShown ts (slice_set views id w)) (ap (λ (s : Core). s.threads) (sym (one_more c cfg run_of NextPart)))
+        (subst (AreShown (next_threads c.program (core c cfg run_of).threads)) (set-set views id latest w)
+        (whole_shows (seen_at now) (next_threads c.program (core c cfg run_of).threads) w (λ t x e. latest_is t ∙ has_all holds t ∙ e) h));
   }
+
+-- ---- of words and views
+
+abbrev at_run : (c : MarkedProgram) (cfg : Config) (words : List ℕ) (views : List View) (id : ℕ) (v : View) → ShowsRun c cfg words views → get_elem? views id ≡ some v → AtRun c cfg
+at_run c cfg words views id v run at = record { words = words; views = views; id = id; v = v; run = run; at = at }
+
+abbrev pub whole_run : (c : MarkedProgram) (cfg : Config) (words : List ℕ) (views : List View) (id : ℕ) (v u : View)
+    → ShowsRun c cfg words views → get_elem? views id ≡ some v → AllFollow c v u → HoldsAll c u → List Happening
+whole_run c cfg words views id v u run at follow holds = run_of (at_run c cfg words views id v run at) u follow
+
+pub whole_holds : (c : MarkedProgram) (cfg : Config) (words : List ℕ) (views : List View) (id : ℕ) (v u : View)
+    (run : ShowsRun c cfg words views) (at : get_elem? views id ≡ some v) (follow : AllFollow c v u) (holds : HoldsAll c u)
+    → HasThreads u (core c cfg (whole_run c cfg words views id v u run at follow holds)).threads
+whole_holds c cfg words views id v u run at follow holds = has_all (at_run c cfg words views id v run at) u follow holds
+
+pub part_shows : (c : MarkedProgram) (cfg : Config) (words : List ℕ) (views : List View) (id : ℕ) (v u : View)
+    (run : ShowsRun c cfg words views) (at : get_elem? views id ≡ some v) (follow : AllFollow c v u) (holds : HoldsAll c u) (w : View)
+    → HasThreads w (next_threads c.program (core c cfg (whole_run c cfg words views id v u run at follow holds)).threads) → ShowsRun c cfg words (slice_set views id w)
+part_shows c cfg words views id v u run at follow holds = begun (at_run c cfg words views id v run at) u follow holds
