@@ -1,14 +1,13 @@
 -- The steps of a read keep the rule: its loads, and what they tell. And a write's note, and the second load of a join.
 use Rattle.std.proofs.Common.{◌≡◌, ◌≢◌, ℕ, suc, ◌+◌, ◌*◌, ◌<◌, ◌≤◌, ⊎_elim, List, [], ◌∷◌, ◌++◌, length, length-append, take, Bool, true, false, Some, None, IfSome, refl, sym, ap, subst, ◌∙◌, arith, slice_index, slice_set}
-use Rattle.std.specs.Prelude.{unwrap_or}
+use Rattle.std.{specs.Prelude.unwrap_or, proofs.Math.Seq.take-suc}
 use Rattle.machine_types.specs.{LockWords.{lock_of, is_lock_word}, declared.lock.LockWord.LockWord}
 use Rattle.solero_cell.specs.{CellRules.{IsHeldByWrite}, CellViews.{record_of, noted, has_failed, has_loaded, has_looked, forgot, has_read, has_compared, IsStill}, Histories.{last_count, RecordStands, IsLast, OwnStand}}
 use Rattle.solero_cell.specs.{Stages.{IsLoading, IsJoining}, Steps.{note_of, joining_of, NotedBy, TellsNote, HasCompared}, declared.views.{Moment.{Moment, TheVariants.{AtRest, UnderWay}}, Record.Record, View.View}}
-use Rattle.solero_cell.proofs.{Allowing.{LooksTo, Seat}, Knowing.{calm_seat, nothing_loaded, if_some, is_not_storing}, Looking.{held_now, looks_kept, rests_now}, ReadSteps.{some_note, some_record}, Standing.{at_most_last, last_stands, newest_stands}, Words.{free_word, free_is_lock, next_taken, all_taken}}
+use Rattle.solero_cell.proofs.{Allowing.{LooksTo, Seat}, Knowing.{calm_seat, nothing_loaded, if_some, some_value, is_not_storing}, Looking.{held_now, looks_kept, rests_now}, Standing.{at_most_last, is_seen, last_stands, newest_stands}, Words.{free_word, free_is_lock, all_taken}}
 use Rattle.latch_cell.specs.{Copies.{latch_count, copy_start}, LatchRules.{count_of, LatchKnowledge, IsLetGo, HasTwoCopies}, LatchSteps.{has_counted, HasCounted, copy_attempt_ended, TellsCopyFinish}}
 use Rattle.latch_cell.proofs.{CopyWords.{copy_long, copy_index}, Latching.{copies, copy_at, its, next, now, now_is, counted_is, looks, looked}}
-use lib.ListN.{get_elem?}
-use mathlib.Core.{Logic.dite, Option.some}
+use mathlib.Core.{Logic.dite}
 use native.Mathlib.Decide.{ℕ_discrete}
 
 module _ (o : Record) {id : ℕ} {v : View} (ws : List ℕ) (seat : Seat id v) (s : HasTwoCopies o ws seat.views) where
@@ -67,7 +66,7 @@ module _ (o : Record) {id : ℕ} {v : View} (ws : List ℕ) (seat : Seat id v) (
           let long = copy_long (length o.values) ws c s.long in
           ap (λ l. l ++ slice_index ws (start + i) ∷ []) so_far
           ∙ ap (λ x. take i (copy_at o ws c) ++ x ∷ []) (sym x)
-          ∙ sym (next_taken (copy_at o ws c) i (omega (arith, long, lt)))
+          ∙ sym (take-suc (copy_at o ws c) i 0 (omega (arith, long, lt)))
           ∙ ap (λ k. take k (copy_at o ws c)) (sym one)
 
   -- ---- a load of the count again
@@ -76,7 +75,7 @@ module _ (o : Record) {id : ℕ} {v : View} (ws : List ℕ) (seat : Seat id v) (
   again_step is_last is = dite (ℕ_discrete (latch_count ws) (note_of v)) same other
     where
       note : v.note ≡ Some (note_of v)
-      note = some_note v.note is.noted
+      note = some_value 0 v.note is.noted
 
       got : Record
       got = record_of (note_of v) v.loaded
@@ -98,11 +97,7 @@ module _ (o : Record) {id : ℕ} {v : View} (ws : List ℕ) (seat : Seat id v) (
                 moment = here;
                 count_is = sym e ∙ counted_is o ws seat s;
                 view = refl;
-                seen = record {
-                  history = s.history;
-                  own = subst (λ (q : Record). OwnStand q s.history v) (sym mine.opening_is) mine.own;
-                  last = subst (λ (q : Record). IsLast q s.history got) (sym mine.opening_is) last;
-                };
+                seen = is_seen o s.history v got mine.opening_is mine.own last;
               };
               other = λ n. absurd (n e);
             },
@@ -164,7 +159,7 @@ module _ (o : Record) {id : ℕ} {v : View} (ws : List ℕ) (seat : Seat id v) (
   pub compare_step : IsJoining v → Leads (HasCompared v)
   compare_step is =
       let r : Record = joining_of v in
-      let there : RecordStands o s.history r = if_some (RecordStands o s.history) v.joining r (some_record v.joining is.joining) mine.joining in
+      let there : RecordStands o s.history r = if_some (RecordStands o s.history) v.joining r (some_value (record_of 0 []) v.joining is.joining) mine.joining in
       let w : View = has_compared r v in (
         w,
         looked o ws seat s w refl refl refl (calm_seat (copies o ws) o s.history w mine.opening_is (record { writes = mine.own.writes; latest = newest_stands o s.history v.latest r mine.own.latest there }) mine.note (nothing_loaded (copies o ws) v.note v.loaded is.loaded) is.storing refl)

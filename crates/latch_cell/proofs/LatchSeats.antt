@@ -5,7 +5,7 @@ use Rattle.atomic_table.specs.Seated.{TableId}
 use Rattle.solero_cell.specs.{CellRules.{storing_count}, CellViews.{first_view, halved, newcomer, taken_in, spent, IsStill}, Moments.moment_now, declared.views.{Moment.TheVariants.AtRest, Record.Record, View.View}}
 use Rattle.solero_cell.proofs.{Allowing.{Seat, by_words}, Looking.{rests_now}, SeatSteps.{cut_views, cut_sum, seats_cut, halved_knows, newcomer_knows, joined_of, joined_stores, seats_joined, both_know, seats_opened, first_knows}}
 use Rattle.latch_cell.specs.{Copies.{copy_gap}, LatchRules.{count_of, LatchKnowledge, HasTwoCopies}, LatchStages.{IsLatchSeatAt}}
-use Rattle.latch_cell.proofs.{CopyWords.{opening_copy}, Latching.{copies, copy_at, its, now, locks_as}}
+use Rattle.latch_cell.proofs.{CopyWords.{opening_copy}, Latching.{copies, its, now, locks_as}}
 use lib.ListN.{get_elem?}
 use mathlib.Core.Option.{some}
 

@@ -1,11 +1,12 @@
 -- The steps of a write keep the rule: its exchange and its stores, and what they tell.
 use Rattle.std.proofs.Common.{◌≡◌, ◌≢◌, ℕ, suc, ◌+◌, ◌*◌, ◌<◌, ◌≤◌, ◌==◌, ◌⊎◌, inl, inr, ⊎_elim, List, [], ◌∷◌, ◌++◌, length, length-append, take, drop, Some, None, refl, sym, ap, subst, ◌∙◌, arith, slice_index, slice_set, slice_get}
 use Rattle.std.{specs.List.{sum_by}, proofs.lemmas.List.{length-set, set-get_or, get_or-set_same, get_or-set_other, Sums.sum_by_push}}
+use Rattle.lists.proofs.ListLaws.{same_some}
 use Rattle.atomic_table.proofs.Lists.{exchanged}
 use Rattle.solero_cell.specs.{CellRules.{HaveLooked, IsUnderWay, one_if, storing_count, is_in_span, IsHeldByWrite}, CellViews.{record_of, has_looked, has_failed, has_taken, has_stored, has_released}, Histories.{History, last_count, IsLast, OwnStand, RecordStands}}
 use Rattle.solero_cell.specs.{Stages.{IsNoted, IsStoring}, Steps.{note_of, storing_of, TellsTake}, Moments.moment_now, declared.views.{Moment.{Moment, TheVariants.{AtRest, UnderWay}}, Record.Record, Storing.Storing, View.View}}
-use Rattle.solero_cell.proofs.{Allowing.{LeadsTo, Seat}, Knowing.{calm_seat, nothing_loaded, if_none, if_some, not_storing, is_not_storing, is_storing, still_knows, more_knows}, Looking.{held_now, looks_kept, looks_on, rests_now}, Made.{seats_kept, seats_made}}
-use Rattle.solero_cell.proofs.{ReadSteps.{some_note}, Standing.{at_most_last, last_stands, own_on, all_both, new_last}, Sums.{sum_set, at_most, others_none}, Words.{all_taken}, WriteSteps.{some_storing, one_more, one_stored_as, shorter, some_one}}
+use Rattle.solero_cell.proofs.{Allowing.{LeadsTo, Seat}, Knowing.{pair, some_value, calm_seat, nothing_loaded, if_none, if_some, not_storing, is_not_storing, is_storing, still_knows, more_knows}, Looking.{held_now, looks_kept, looks_on, rests_now}, Made.{seats_kept, seats_made}}
+use Rattle.solero_cell.proofs.{Standing.{at_most_last, is_seen, last_stands, own_on, all_both, new_last}, Sums.{sum_set, at_most, others_none}, Words.{all_taken}, WriteSteps.{one_more, one_stored_as, shorter}}
 use Rattle.latch_cell.specs.{Copies.{latch_count, copy_start}, LatchRules.{count_of, LatchKnowledge, IsLetGo, HasTwoCopies}, LatchSteps.{has_published, HasPublished, HasLetGo}}
 use Rattle.latch_cell.proofs.{CopyWords.{copy_long, copy_set, head_kept, other_kept, words_kept}, Latching.{copies, copy_at, its, next, now, now_is, stands, looks, looked}}
 use lib.ListN.{get_elem?}
@@ -51,7 +52,7 @@ module _ (o : Record) {id : ℕ} {v : View} (ws : List ℕ) (seat : Seat id v) (
 
   module _ (noted : ℕ) (xs : List ℕ) (is : IsNoted noted v) (long : length xs ≡ length o.values) where
     note : v.note ≡ Some (note_of v)
-    note = some_note v.note is.noted
+    note = some_value 0 v.note is.noted
 
     taken_at : slice_index ws 0 ≡ noted → IsLetGo o s.history ws views → Writes 0 6 (TellsTake xs v (slice_index ws 0))
     taken_at e r =
@@ -86,9 +87,6 @@ module _ (o : Record) {id : ℕ} {v : View} (ws : List ℕ) (seat : Seat id v) (
           record { same = λ q. record { place = place; view = refl }; other = λ n. absurd (n (e ∙ is.word_is)) },
         )
 
-    taken : slice_index ws 0 ≡ noted → Writes 0 6 (TellsTake xs v (slice_index ws 0))
-    taken e = ⊎_elim (taken_at e) (λ r. absurd (omega (arith, e, r.word, is.word_is))) s.lock
-
     lost : slice_index ws 0 ≢ noted → Writes 0 (slice_index ws 0) (TellsTake xs v (slice_index ws 0))
     lost n =
         let w : View = has_failed place here v in
@@ -100,7 +98,7 @@ module _ (o : Record) {id : ℕ} {v : View} (ws : List ℕ) (seat : Seat id v) (
         )
 
     pub take_step : Writes 0 (either (slice_index ws 0 == noted) 6 (slice_index ws 0)) (TellsTake xs v (slice_index ws 0))
-    take_step = exchanged (slice_index ws 0) noted 6 (λ x. Writes 0 x (TellsTake xs v (slice_index ws 0))) taken lost
+    take_step = exchanged (slice_index ws 0) noted 6 (λ x. Writes 0 x (TellsTake xs v (slice_index ws 0))) (λ e. ⊎_elim (taken_at e) (λ r. absurd (omega (arith, e, r.word, is.word_is))) s.lock) lost
 
   -- ---- while the seat has the lock
 
@@ -109,16 +107,16 @@ module _ (o : Record) {id : ℕ} {v : View} (ws : List ℕ) (seat : Seat id v) (
     going = storing_of v
 
     storing : v.storing ≡ Some going
-    storing = some_storing v.storing is.storing
+    storing = some_value (pair [] []) v.storing is.storing
 
     noted_is : v.note ≡ Some (note_of v)
-    noted_is = some_note v.note is.noted
+    noted_is = some_value 0 v.note is.noted
 
     under_way : IsUnderWay o s.history (copy_at o ws) v.note going
     under_way = if_some (IsUnderWay o s.history (copy_at o ws) v.note) v.storing going storing mine.storing
 
     count_is : note_of v ≡ last_count o s.history
-    count_is = some_one (note_of v) (last_count o s.history) (sym noted_is ∙ under_way.note_is)
+    count_is = same_some (sym noted_is ∙ under_way.note_is)
 
     held_by : IsLetGo o s.history ws views ⊎ IsHeldByWrite ws views → IsHeldByWrite ws views
     held_by (inl r) = let most = at_most storing_count views id v at in let one = is_storing v going storing in absurd (omega (arith, most, one, r.nobody))
@@ -281,11 +279,7 @@ module _ (o : Record) {id : ℕ} {v : View} (ws : List ℕ) (seat : Seat id v) (
           record {
             place = place;
             view = refl;
-            seen = record {
-              history = h';
-              own = subst (λ (q : Record). OwnStand q h' v) (sym mine.opening_is) own;
-              last = subst (λ (q : Record). IsLast q h' r) (sym mine.opening_is) last;
-            };
+            seen = is_seen o h' v r mine.opening_is own last;
             above = let le' = at_most_last o s.history v.latest mine.own.latest in omega (arith, le', count_is);
           },
         )

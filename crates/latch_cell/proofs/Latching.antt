@@ -1,11 +1,9 @@
 -- What each step of a latch cell's seat begins with, and a step that leaves the words.
-use Rattle.std.proofs.Common.{◌≡◌, ℕ, ◌<◌, ◌≤◌, ◌==◌, ◌⊎◌, inl, inr, ⊎_elim, List, ◌∷◌, [], ◌++◌, length, Bool, true, false, refl, sym, subst, ◌∙◌, arith, slice_index, slice_set, if◌then◌else◌}
+use Rattle.std.proofs.Common.{◌≡◌, ℕ, ◌≤◌, ◌==◌, ◌⊎◌, inl, inr, ⊎_elim, List, ◌∷◌, [], ◌++◌, length, Bool, true, false, refl, sym, subst, ◌∙◌, arith, slice_index, slice_set, if◌then◌else◌}
 use Rattle.std.specs.List.{sum_by}
 use Rattle.solero_cell.specs.{CellRules.{HaveLooked, IsHeldByWrite, storing_count}, Histories.{History, last_count}, Moments.{moment_now, word_of_moment}}
 use Rattle.solero_cell.{specs.declared.views.{Moment.{Moment, TheVariants.{AtRest, UnderWay}}, Record.Record, View.View}, proofs.{Allowing.Seat, Knowing.{Layout, knows_of}, Looking.{look_of, looks_on, word_now}, Made.{same_stores, seats_kept}}}
 use Rattle.latch_cell.specs.{Copies.{latch_count, copy_of}, LatchRules.{count_of, LatchKnowledge, IsLetGo, HasTwoCopies}}
-use lib.ListN.{get_elem?}
-use mathlib.Core.Option.{some}
 
 -- the count of the moment that is now
 count_by : (b : Bool) (n : ℕ) → count_of (if b then UnderWay n else AtRest n) ≡ n

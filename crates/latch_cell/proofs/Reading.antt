@@ -1,6 +1,6 @@
 -- How far a read is, as its view goes on.
 use Rattle.std.proofs.Common.{◌≡◌, ℕ, ◌<◌, List, Bool, Some, refl, sym, ap, subst, ◌∙◌}
-use Rattle.solero_cell.specs.{CellViews.{IsStill, record_of, has_looked, forgot, has_read}, Histories.IsRecordSeen, Steps.note_of, declared.views.View.View}
+use Rattle.solero_cell.specs.{CellViews.{IsStill, record_of, has_looked, forgot, has_read}, Histories.IsRecordSeen, declared.views.View.View}
 use Rattle.solero_cell.proofs.Going.{forgot_still, note_is, seen_as}
 use Rattle.latch_cell.specs.{LatchAttempts.{IsBehindCopyGot, IsBehindCopyChanged}, LatchSteps.{HasReadCopy, EndsCopyAttempt, copy_attempt_ended}}
 

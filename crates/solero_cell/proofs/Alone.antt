@@ -1,5 +1,5 @@
 -- A seat with the share 1 has taken in all others.
-use Rattle.std.{proofs.{Common.{◌≡◌, ℕ, ◌*◌, ◌-◌, ◌^◌, ◌≤◌, ◌<◌, inl, inr, List, refl, sym, ap, subst, ◌∙◌, arith, slice_index}, lemmas.Nat.{pow-add, pow_pos}}, specs.List.sum_by}
+use Rattle.std.{proofs.{Common.{◌≡◌, ℕ, ◌*◌, ◌-◌, ◌^◌, ◌≤◌, inl, inr, List, refl, sym, ap, subst, ◌∙◌, arith, slice_index}, lemmas.Nat.{pow-add, pow_pos}}, specs.List.sum_by}
 use Rattle.solero_cell.specs.{Calls.{IsOnlySeat, IsAtEnd, IsWhole}, CellRules.{ViewKnowledge, SeatFits, ShareHistory, HaveDepth, HasOneHistory, in_parts}, CellViews.spent, Histories.History, Moments.{moment_now, time_of}, declared.views.{Moment.{Moment, TheVariants.AtRest}, Record.Record}}
 use Rattle.solero_cell.{specs.declared.views.View.View, proofs.{Allowing.Seat, Looking.looks_kept, Made.looked, ReadSteps.{Looks, its}, Shares.pos_times, Sums.{at_most, others_none}}}
 use lib.ListN.{get_elem?}

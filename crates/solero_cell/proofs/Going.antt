@@ -1,10 +1,10 @@
 -- How far a call is, as its view goes on.
-use Rattle.std.proofs.Common.{◌≡◌, ◌≢◌, ℕ, zero, suc, ◌*◌, ◌<◌, ◌≤◌, List, [], ◌∷◌, ◌++◌, length, take, drop, Bool, Some, None, refl, sym, ap, subst, ◌∙◌, slice_get, slice_set, slice_index_or, arith, is_some}
-use Rattle.std.{specs.Prelude.unwrap_or, proofs.{Math.Seq.take-suc-set, lemmas.List.length-take-le}}
+use Rattle.std.proofs.Common.{◌≡◌, ◌≢◌, ℕ, suc, ◌*◌, ◌<◌, ◌≤◌, List, [], ◌∷◌, ◌++◌, length, take, drop, Bool, Some, refl, sym, ap, subst, ◌∙◌, slice_get, slice_set, slice_index_or, arith, is_some, drop-cons}
+use Rattle.std.{specs.Prelude.unwrap_or, proofs.{Math.Seq.{take-suc, take-suc-set}, lemmas.{List.length-take-le, Option.{get_or_from_slice_get, slice_get_within}}}}
 use Rattle.atomic_table.specs.Seated.{TableId}
 use Rattle.solero_cell.specs.{Attempts.{IsBehindGot, IsBehindChanged}, CellViews.{IsStill, record_of, has_loaded, has_looked, forgot, has_read, has_stored, one_stored, taken_in}}
 use Rattle.solero_cell.specs.{Histories.{AllStand, AreOfOne, IsLast, IsRecordSeen, RecordStands}, Stages.{IsSeatAt, IsLoading, IsStoring}}
-use Rattle.solero_cell.{specs.{Steps.{HasCompared, EndsAttempt, HasRead, note_of, storing_of, attempt_ended}, declared.views.{Moment.TheVariants.AtRest, Record.Record, Storing.Storing, View.View}}, proofs.Standing.{all_left, all_right}}
+use Rattle.solero_cell.{specs.{Steps.{HasCompared, EndsAttempt, HasRead, note_of, storing_of, attempt_ended}, declared.views.{Moment.TheVariants.AtRest, Record.Record, Storing.Storing, View.View}}, proofs.{Knowing.pair, Standing.{all_left, all_right}}}
 
 -- ---- the seat stays at its table
 
@@ -38,17 +38,10 @@ only_value xs (y ∷ z ∷ ys) a b = absurd (omega (arith, b))
 -- ---- stores
 
 drop_first : (xs : List ℕ) (i x : ℕ) → slice_get xs i ≡ Some x → drop i xs ≡ x ∷ drop (suc i) xs
-drop_first [] i x e = let bad : None ≡ Some x = e in absurd (cc)
-drop_first (y ∷ ys) zero x e = let same : y ≡ x = cc in ap (λ z. z ∷ ys) same
-drop_first (y ∷ ys) (suc i) x e = drop_first ys i x e
+drop_first xs i x e = drop-cons xs i 0 (slice_get_within xs i x e) ∙ ap (λ z. z ∷ drop (suc i) xs) (get_or_from_slice_get xs i x 0 e)
 
 take_next : (xs : List ℕ) (i x : ℕ) → slice_get xs i ≡ Some x → take i xs ++ x ∷ [] ≡ take (suc i) xs
-take_next [] i x e = let bad : None ≡ Some x = e in absurd (cc)
-take_next (y ∷ ys) zero x e = let same : y ≡ x = cc in ap (λ z. z ∷ []) (sym same)
-take_next (y ∷ ys) (suc i) x e = ap (λ l. y ∷ l) (take_next ys i x e)
-
-abbrev pair : (stored left : List ℕ) → Storing
-pair stored left = record { stored = stored; left = left }
+take_next xs i x e = sym (take-suc xs i 0 (slice_get_within xs i x e) ∙ ap (λ z. take i xs ++ z ∷ []) (get_or_from_slice_get xs i x 0 e))
 
 abbrev at : (i : ℕ) → List ℕ → View → View
 at i xs v = record v { storing = Some (pair (take i xs) (drop i xs)) }

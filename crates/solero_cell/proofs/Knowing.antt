@@ -1,6 +1,6 @@
 -- What each view knows, when the words or the history change.
-use Rattle.std.proofs.Common.{◌≡◌, ◌≢◌, ℕ, ◌+◌, ◌*◌, ◌<◌, ◌≤◌, inl, inr, List, [], ◌∷◌, ◌++◌, length, length-append, take, Option, Some, None, refl, sym, ap, subst, ◌∙◌, arith, slice_index, IfSome, is_some}
-use Rattle.solero_cell.specs.{CellRules.{cell_values, IsUnderWay, SeatKnowledge, ViewKnowledge, SeatFits, one_if, storing_count}, Histories.{History, last_count, RecordStands, OwnStand}}
+use Rattle.std.proofs.Common.{◌≡◌, ℕ, ◌*◌, ◌<◌, ◌≤◌, inl, inr, List, [], ◌∷◌, ◌++◌, length, length-append, take, Option, Some, None, refl, sym, ap, subst, ◌∙◌, arith, slice_index, IfSome, IsSome, is_some, unwrap_or, true, false}
+use Rattle.solero_cell.specs.{CellRules.{cell_values, IsUnderWay, SeatKnowledge, SeatFits, one_if, storing_count}, Histories.{History, last_count, RecordStands, OwnStand}}
 use Rattle.solero_cell.{specs.declared.views.{Record.Record, Storing.Storing, View.View}, proofs.Standing.{own_on, joining_on}}
 
 abbrev pub NoteFits : Record → History → Option ℕ → Type 0
@@ -15,6 +15,13 @@ module _ {A : Type 0} where
 
   pub some_is : (P : A → Type 0) (p : Option A) (x : A) → p ≡ Some x → P x → IfSome p P
   some_is P p x e k = subst (λ q. IfSome q P) (sym e) k
+
+  pub some_value : (d : A) (p : Option A) → IsSome p → p ≡ Some (unwrap_or p d)
+  some_value d None n = let bad : false ≡ true = n in absurd (cc)
+  some_value d (Some x) n = refl
+
+abbrev pub pair : (stored left : List ℕ) → Storing
+pair stored left = record { stored = stored; left = left }
 
 -- no write of this view is under way
 stores_by : (p : Option Storing) → one_if (is_some p) ≡ 0 → p ≡ None

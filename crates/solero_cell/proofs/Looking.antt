@@ -1,5 +1,5 @@
 -- The looks of all seats at the lock word, when one seat looks once more or none does.
-use Rattle.std.proofs.Common.{◌≡◌, ◌≢◌, ℕ, ◌+◌, ◌*◌, ◌≤◌, ◌==◌, ◌⊎◌, inl, inr, ⊎_elim, List, [], ◌∷◌, ◌++◌, length, length-append, false, Some, refl, sym, ap, subst, ◌∙◌, arith, slice_set, slice_get, nat_lt, if◌then◌else◌}
+use Rattle.std.proofs.Common.{◌≡◌, ◌≢◌, ℕ, ◌+◌, ◌*◌, ◌≤◌, ◌==◌, ◌⊎◌, inl, inr, ⊎_elim, List, [], ◌∷◌, ◌++◌, length, length-append, false, refl, sym, ap, subst, ◌∙◌, arith, slice_set, nat_lt, if◌then◌else◌}
 use Rattle.std.{specs.List.sum_by, proofs.lemmas.{Bool.Decides.nat_tests, List.Sums.{sum_by_push, sum_by-append}}}
 use Rattle.atomic_table.proofs.Lists.{at_set, at_snoc, set_else}
 use Rattle.solero_cell.specs.{CellRules.{HaveLooked, looks_at, one_if}, CellViews.{halved, newcomer, taken_in, spent}, Histories.{History, last_count}}
@@ -28,9 +28,6 @@ held_now o h x e = ap (moment_now o h) e
 pub word_now : (o : Record) (h : History) (x : ℕ) → (x ≡ 4 * last_count o h) ⊎ (x ≡ 6) → x ≡ word_of_moment (moment_now o h x)
 word_now o h x (inl e) = e ∙ ap word_of_moment (sym (rests_now o h x (last_count o h) e))
 word_now o h x (inr e) = e ∙ ap word_of_moment (sym (held_now o h x e))
-
-pub time_le : (m n : Moment) → m ≡ n → time_of m ≤ time_of n
-time_le m n e = subst (λ (x : Moment). time_of m ≤ time_of x) e (omega arith)
 
 pub time_at : (m n k : Moment) → m ≡ n → time_of n ≤ time_of k → time_of m ≤ time_of k
 time_at m n k e le = subst (λ (x : Moment). time_of x ≤ time_of k) (sym e) le

@@ -20,6 +20,12 @@ pub same_stores : (views : List View) (id : ℕ) (v w : View) → get_elem? view
     → sum_by storing_count (slice_set views id w) ≡ sum_by storing_count views
 same_stores views id v w at e = let sum = sum_set storing_count views id v w at in omega arith
 
+-- the lock is as it was where as many writes are under way
+pub lock_as : (o : Record) (h : History) (ws : List ℕ) (views views' : List View) → sum_by storing_count views' ≡ sum_by storing_count views
+    → IsAtRest o h ws views ⊎ IsHeldByWrite ws views → IsAtRest o h ws views' ⊎ IsHeldByWrite ws views'
+lock_as o h ws views views' e (inl r) = inl (record { word = r.word; values = r.values; nobody = e ∙ r.nobody })
+lock_as o h ws views views' e (inr r) = inr (record { word = r.word; one = e ∙ r.one })
+
 -- ---- the seats of any cell
 
 module _ (o : Record) (h : History) (Knows : View → Type 0) (time : Moment → ℕ) (now : Moment) {id : ℕ} {v : View} (seat : Seat id v)
@@ -78,12 +84,6 @@ module _ (o : Record) (ws : List ℕ) {id : ℕ} {v : View} (seat : Seat id v) (
   looked writes e mine looks = record {
     history = s.history;
     long = s.long;
-    lock = ⊎_elim at_rest held s.lock;
+    lock = lock_as o s.history ws views (slice_set views id w) (same_stores views id v w at e) s.lock;
     seats = seats_kept o s.history (ViewKnowledge o s.history ws) time_of (now_in s.history ws) seat s.seats w share (ViewKnowledge o s.history ws) (now_in s.history ws) writes mine (λ i u n g k. k) looks;
   }
-    where
-      at_rest : IsAtRest o s.history ws views → IsAtRest o s.history ws (slice_set views id w) ⊎ IsHeldByWrite ws (slice_set views id w)
-      at_rest r = inl (record { word = r.word; values = r.values; nobody = same_stores views id v w at e ∙ r.nobody })
-
-      held : IsHeldByWrite ws views → IsAtRest o s.history ws (slice_set views id w) ⊎ IsHeldByWrite ws (slice_set views id w)
-      held r = inr (record { word = r.word; one = same_stores views id v w at e ∙ r.one })

@@ -1,36 +1,18 @@
 -- The steps of a read keep the rule: its loads, and what they tell. And the second load of a join.
-use Rattle.std.proofs.Common.{◌≡◌, ◌≢◌, ℕ, suc, ◌*◌, ◌<◌, inl, inr, ⊎_elim, List, [], ◌∷◌, ◌++◌, length, length-append, take, Bool, true, false, Option, Some, None, refl, sym, ap, subst, ◌∙◌, arith, slice_index, slice_set, IsSome}
-use Rattle.std.specs.Prelude.{unwrap_or}
-use Rattle.atomic_table.specs.Table.{State, Me, Allows}
+use Rattle.std.proofs.Common.{◌≡◌, ◌≢◌, ℕ, suc, ◌*◌, ◌<◌, inl, inr, ⊎_elim, List, [], ◌∷◌, ◌++◌, length, length-append, take, Bool, true, false, Some, refl, sym, ap, subst, ◌∙◌, arith, slice_index, slice_set}
+use Rattle.std.proofs.Math.Seq.{take-suc}
 use Rattle.machine_types.specs.{LockWords.{lock_of, is_lock_word}, declared.lock.LockWord.LockWord}
 use Rattle.solero_cell.specs.CellRules.{cell_values, ViewKnowledge, IsAtRest, IsHeldByWrite, HaveLooked, HasOneHistory}
 use Rattle.solero_cell.specs.{CellViews.{record_of, noted, has_failed, has_loaded, has_looked, forgot, has_read, has_compared, IsStill}, Histories.{last_count, RecordStands, IsLast, OwnStand}}
 use Rattle.solero_cell.specs.{Stages.{IsLoading, IsJoining}, Steps.{note_of, joining_of, NotedBy, TellsNote, attempt_ended, TellsFinish, HasCompared}, Moments.{moment_now, time_of, word_of_moment}, declared.views.{Moment.Moment, Moment.TheVariants.{AtRest, UnderWay}, Record.Record, View.View}}
-use Rattle.solero_cell.proofs.Allowing.{Seat, LooksTo, any_load_allows}
-use Rattle.solero_cell.proofs.{Looking.{held_now, look_of, looks_kept, looks_on, rests_now, time_le, word_now}, Knowing.{calm_seat, knows_of, nothing_loaded, one_place, if_some}, Made.looked, Standing.{at_most_last, last_stands, newest_stands}}
-use Rattle.solero_cell.proofs.Words.{free_word, free_is_lock, next_taken, value_index, values_long, all_taken}
-use lib.ListN.{get_elem?}
-use mathlib.Core.{Logic.dite, Option.some}
+use Rattle.solero_cell.proofs.Allowing.{LooksTo, Seat}
+use Rattle.solero_cell.proofs.{Looking.{held_now, look_of, looks_kept, looks_on, rests_now, time_at, word_now}, Knowing.{calm_seat, knows_of, nothing_loaded, one_place, if_some, some_value}, Made.looked, Standing.{at_most_last, is_seen, last_stands, newest_stands}}
+use Rattle.solero_cell.proofs.Words.{free_word, free_is_lock, value_index, values_long, all_taken}
+use mathlib.Core.{Logic.dite}
 use native.Mathlib.Decide.{ℕ_discrete}
-
-abbrev pub rule : {S : Type 0} → Record → State S View → Type 0
-rule o s = HasOneHistory o s.words s.views
 
 abbrev pub Looks : (o : Record) (ws : List ℕ) (views : List View) (id : ℕ) → (View → Type 0) → Type 0
 Looks o = LooksTo (HasOneHistory o)
-
-pub load_allows : {S : Type 0} (o : Record) (slots id i : ℕ) (me : Me S View) (told : ℕ → View → Type 0) → 0 < me.0.share.parts
-    → ((ws : List ℕ) (seat : Seat id me.0) → HasOneHistory o ws seat.views → Looks o ws seat.views id (told (slice_index ws i)))
-    → Allows (rule o) slots id me i (λ n. n) (λ n w. told n w.0 × (w.1 ≡ me.1))
-load_allows o = any_load_allows (HasOneHistory o)
-
-pub some_note : (p : Option ℕ) → IsSome p → p ≡ Some (unwrap_or p 0)
-some_note None n = let bad : false ≡ true = n in absurd (cc)
-some_note (Some c) n = refl
-
-pub some_record : (p : Option Record) → IsSome p → p ≡ Some (unwrap_or p (record_of 0 []))
-some_record None n = let bad : false ≡ true = n in absurd (cc)
-some_record (Some r) n = refl
 
 module _ (o : Record) {id : ℕ} {v : View} (ws : List ℕ) (seat : Seat id v) (s : HasOneHistory o ws seat.views) where
   open seat use {views, at, parts}
@@ -51,7 +33,7 @@ module _ (o : Record) {id : ℕ} {v : View} (ws : List ℕ) (seat : Seat id v) (
   stands = word_now o s.history (slice_index ws 0) (⊎_elim (λ (r : IsAtRest o s.history ws views). inl r.word) (λ (r : IsHeldByWrite ws views). inr r.word) s.lock)
 
   pub looks : (w : View) (m : Moment) → m ≡ now → w.looks ≡ v.looks ++ look_of next m ∷ [] → HaveLooked time_of (AtRest o.count) now (slice_set views id w)
-  looks w m e more = looks_on time_of (AtRest o.count) now now seat w s.seats.looks m e (time_le now m (sym e)) more
+  looks w m e more = looks_on time_of (AtRest o.count) now now seat w s.seats.looks m e (time_at now m m (sym e) (omega arith)) more
 
   -- ---- a note load
 
@@ -102,7 +84,7 @@ module _ (o : Record) {id : ℕ} {v : View} (ws : List ℕ) (seat : Seat id v) (
           let long = values_long ws (length o.values) s.long in
           ap (λ l. l ++ slice_index ws (suc i) ∷ []) so_far
           ∙ ap (λ x. take i (cell_values ws) ++ x ∷ []) (sym (value_index ws i))
-          ∙ sym (next_taken (cell_values ws) i (omega (arith, long, lt)))
+          ∙ sym (take-suc (cell_values ws) i 0 (omega (arith, long, lt)))
           ∙ ap (λ k. take k (cell_values ws)) (sym one)
 
   pub load_step_at : (i j : ℕ) → j ≡ suc i → IsLoading i v → i < length o.values → Looks o ws views id (λ w. w ≡ has_loaded (slice_index ws j) v)
@@ -111,10 +93,10 @@ module _ (o : Record) {id : ℕ} {v : View} (ws : List ℕ) (seat : Seat id v) (
   -- ---- a finish load
 
   pub finish_step : (is_last : Bool) → IsLoading (length o.values) v → Looks o ws views id (TellsFinish is_last v (slice_index ws 0))
-  finish_step is_last is = dite (ℕ_discrete (slice_index ws 0) (4 * note_of v)) same other
+  finish_step is_last is = dite (ℕ_discrete (slice_index ws 0) (4 * note_of v)) (λ e. ⊎_elim (same_at e) (λ r. absurd (omega (arith, e, r.word))) s.lock) other
     where
       note : v.note ≡ Some (note_of v)
-      note = some_note v.note is.noted
+      note = some_value 0 v.note is.noted
 
       got : Record
       got = record_of (note_of v) v.loaded
@@ -131,18 +113,11 @@ module _ (o : Record) {id : ℕ} {v : View} (ws : List ℕ) (seat : Seat id v) (
               same = λ e'. record {
                 place = next;
                 view = refl;
-                seen = record {
-                  history = s.history;
-                  own = subst (λ (q : Record). OwnStand q s.history v) (sym its.opening_is) its.own;
-                  last = subst (λ (q : Record). IsLast q s.history got) (sym its.opening_is) last;
-                };
+                seen = is_seen o s.history v got its.opening_is its.own last;
               };
               other = λ n. absurd (n e);
             },
           )
-
-      same : slice_index ws 0 ≡ 4 * note_of v → Looks o ws views id (TellsFinish is_last v (slice_index ws 0))
-      same e = ⊎_elim (same_at e) (λ r. absurd (omega (arith, e, r.word))) s.lock
 
       ended : Bool → View
       ended b = attempt_ended b next now (forgot v)
@@ -159,7 +134,7 @@ module _ (o : Record) {id : ℕ} {v : View} (ws : List ℕ) (seat : Seat id v) (
   pub compare_step : IsJoining v → Looks o ws views id (HasCompared v)
   compare_step is =
       let r : Record = joining_of v in
-      let there : RecordStands o s.history r = if_some (RecordStands o s.history) v.joining r (some_record v.joining is.joining) its.joining in
+      let there : RecordStands o s.history r = if_some (RecordStands o s.history) v.joining r (some_value (record_of 0 []) v.joining is.joining) its.joining in
       let w : View = has_compared r v in (
         w,
         looked o ws seat w s refl refl refl (calm_seat (one_place ws) o s.history w its.opening_is (record { writes = its.own.writes; latest = newest_stands o s.history v.latest r its.own.latest there }) its.note (nothing_loaded (one_place ws) v.note v.loaded is.loaded) is.storing refl) (looks_kept time_of (AtRest o.count) now now seat w s.seats.looks refl refl),

@@ -1,18 +1,12 @@
 -- A seat that is split, and two that are joined, keep the rule. And a new cell meets it.
-use Rattle.std.proofs.Common.{◌≡◌, ◌≢◌, ℕ, zero, suc, ◌+◌, ◌*◌, ◌-◌, ◌^◌, ◌<◌, ◌⊎◌, inl, inr, ⊎_elim, List, [], ◌∷◌, ◌++◌, length-append, None, refl, sym, ap, subst, ◌∙◌, arith, slice_index, slice_set, ◌==◌}
+use Rattle.std.proofs.Common.{◌≡◌, ◌≢◌, ℕ, zero, suc, ◌+◌, ◌*◌, ◌-◌, ◌^◌, ◌<◌, inl, inr, ⊎_elim, List, [], ◌∷◌, ◌++◌, length-append, None, refl, sym, ap, subst, ◌∙◌, arith, slice_index, slice_set, ◌==◌}
 use Rattle.std.{specs.List.sum_by, proofs.lemmas.{Bool.Decides.nat_tests, List.Sums.{sum_by_push, sum_by-append}}}
 use Rattle.atomic_table.{specs.Table.{Splits, Joins}, proofs.Lists.{at_set, at_snoc, set_else}}
-use Rattle.solero_cell.specs.CellRules.{ViewKnowledge, SeatFits, one_if, times, storing_count, written_count, is_in_span, IsAtRest, IsHeldByWrite, ShareHistory, HasOneHistory}
+use Rattle.solero_cell.specs.CellRules.{ViewKnowledge, SeatFits, one_if, times, storing_count, written_count, is_in_span, ShareHistory, HasOneHistory}
 use Rattle.solero_cell.specs.{CellViews.{first_view, halved, newcomer, taken_in, spent, IsStill}, Histories.History, Moments.{AllFound, moment_now, time_of}, declared.views.{Moment.{Moment, TheVariants.AtRest}, Record.Record, View.View}}
-use Rattle.solero_cell.proofs.{Allowing.Seat, Looking.{looks_cut, looks_joined, none_below, rests_now}, Knowing.{Knows, Layout, one_place, calm_seat, nothing_loaded, is_not_storing}, ReadSteps.{rule, its}, Shares.{whole_cut, whole_joined, sum_pos}, Standing.{all_both, opening_stands}, Sums.sum_set}
+use Rattle.solero_cell.proofs.{Allowing.{Seat, by_words}, Made.lock_as, Looking.{looks_cut, looks_joined, none_below, rests_now}, Knowing.{Knows, Layout, one_place, calm_seat, nothing_loaded, is_not_storing}, ReadSteps.its, Shares.{whole_cut, whole_joined, sum_pos}, Standing.{all_both, opening_stands}, Sums.sum_set}
 use lib.ListN.{get_elem?}
 use mathlib.Core.Option.{some, some-injective, some-ne-none}
-
--- the lock is as it was where as many writes are under way
-lock_as : (o : Record) (h : History) (ws : List ℕ) (views views' : List View) → sum_by storing_count views' ≡ sum_by storing_count views
-    → IsAtRest o h ws views ⊎ IsHeldByWrite ws views → IsAtRest o h ws views' ⊎ IsHeldByWrite ws views'
-lock_as o h ws views views' e (inl r) = inl (record { word = r.word; values = r.values; nobody = e ∙ r.nobody })
-lock_as o h ws views views' e (inr r) = inr (record { word = r.word; one = e ∙ r.one })
 
 -- ---- a split
 
@@ -48,7 +42,7 @@ module _ (layout : Layout) (o : Record) (h : History) (v : View) (still : IsStil
   newcomer_knows = calm_seat layout o h (newcomer v) k.opening_is (record { writes = tt; latest = k.own.latest }) tt (nothing_loaded layout None [] refl) refl refl
 
 pub splits : {S : Type 0} (o : Record) (id : ℕ) (v : View) → 0 < v.share.parts → IsStill v
-    → Splits {S = S} (rule o) id v (halved v) (newcomer v)
+    → Splits {S = S} (by_words (HasOneHistory o)) id v (halved v) (newcomer v)
 splits o id v parts still s run at =
     let ws = s.words in
     let seat : Seat id v = record { views = s.views; at = at; parts = parts } in
@@ -107,7 +101,7 @@ both_know layout o h v w one two = record {
 }
 
 pub joins : {S : Type 0} (o : Record) (id other : ℕ) (v w : View) → 0 < v.share.parts → 0 < w.share.parts → IsStill v → IsStill w
-    → Joins {S = S} (rule o) id v other w (taken_in v w) spent
+    → Joins {S = S} (by_words (HasOneHistory o)) id v other w (taken_in v w) spent
 joins o id other v w parts parts' still still' s run at apart g =
     let ws = s.words in
     let at_other : get_elem? s.views other ≡ some w = sym (set_else s.views id other (taken_in v w) apart) ∙ g in

@@ -1,7 +1,7 @@
 -- Records that stand in a history, and stay where it goes on.
-use Rattle.std.proofs.Common.{◌≡◌, ℕ, zero, suc, ◌+◌, ◌<◌, ◌≤◌, List, [], ◌∷◌, ◌++◌, length, length-append, Bool, true, false, Option, Some, None, refl, ap, ◌∙◌, arith, slice_get, IfSome, if◌then◌else◌, nat_lt}
+use Rattle.std.proofs.Common.{◌≡◌, ℕ, zero, suc, ◌+◌, ◌<◌, ◌≤◌, List, [], ◌∷◌, ◌++◌, length, length-append, Bool, true, false, Option, Some, None, refl, sym, ap, subst, ◌∙◌, arith, slice_get, IfSome, if◌then◌else◌, nat_lt}
 use Rattle.std.proofs.lemmas.Option.{slice_get_within}
-use Rattle.solero_cell.specs.{CellViews.{newest, record_of}, Histories.{History, last_count, RecordStands, AllStand, IsLast, OwnStand}, declared.views.{Record.Record, View.View}}
+use Rattle.solero_cell.specs.{CellViews.{newest, record_of}, Histories.{History, last_count, RecordStands, AllStand, IsLast, IsRecordSeen, OwnStand}, declared.views.{Record.Record, View.View}}
 
 pub got_longer : {A : Type 0} (xs ys : List A) (i : ℕ) (x : A) → slice_get xs i ≡ Some x → slice_get (xs ++ ys) i ≡ Some x
 got_longer [] ys i x e = let bad : None ≡ Some x = e in absurd (cc)
@@ -17,6 +17,10 @@ at_most_last o h r s = let lt : s.place < suc (length h) = slice_get_within (o.v
 
 pub last_stands : (o : Record) (h : History) (r : Record) → IsLast o h r → RecordStands o h r
 last_stands o h r l = record { place = length h; count = l.count; values = l.values }
+
+-- a view whose opening it is has seen a record that ends the history
+pub is_seen : (o : Record) (h : History) (v : View) (r : Record) → v.opening ≡ o → OwnStand o h v → IsLast o h r → IsRecordSeen v r
+is_seen o h v r is own last = record { history = h; own = subst (λ q. OwnStand q h v) (sym is) own; last = subst (λ q. IsLast q h r) (sym is) last }
 
 pub opening_stands : (o : Record) → RecordStands o [] o
 opening_stands o = record { place = 0; count = omega arith; values = refl }

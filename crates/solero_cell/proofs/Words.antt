@@ -1,5 +1,5 @@
 -- The words of a cell when one of them changes, and lock words as numbers.
-use Rattle.std.proofs.{Common.{◌≡◌, ℕ, zero, suc, ◌*◌, ◌/◌, ◌%◌, ◌<◌, List, [], ◌∷◌, ◌++◌, length, take, true, refl, ap, ◌∙◌, arith, slice_index, slice_set}, Math.Seq.{take-suc-set, take-length}}
+use Rattle.std.proofs.{Common.{◌≡◌, ℕ, suc, ◌*◌, ◌/◌, ◌%◌, ◌<◌, List, [], ◌∷◌, ◌++◌, length, take, true, refl, ap, ◌∙◌, arith, slice_index, slice_set}, Math.Seq.{take-suc-set, take-length}}
 use Rattle.std.proofs.lemmas.List.{get_or-set_same, get_or-set_other, drop-set-lt}
 use Rattle.machine_types.specs.{LockWords.{lock_by, lock_of, is_lock_by, is_lock_word}, declared.lock.LockWord.TheVariants.Free}
 use Rattle.solero_cell.specs.CellRules.{cell_values}
@@ -18,11 +18,6 @@ free_is_lock c =
     ap (λ (k : ℕ). is_lock_by k ((4 * c) / 4)) kind
 
 -- ---- values
-
-pub next_taken : (ys : List ℕ) (n : ℕ) → n < length ys → take (suc n) ys ≡ take n ys ++ slice_index ys n ∷ []
-next_taken [] n lt = absurd (omega arith)
-next_taken (y ∷ ys) zero lt = refl
-next_taken (y ∷ ys) (suc n) lt = ap (λ l. y ∷ l) (next_taken ys n (omega arith))
 
 pub value_index : (ws : List ℕ) (n : ℕ) → slice_index (cell_values ws) n ≡ slice_index ws (suc n)
 value_index [] n = refl

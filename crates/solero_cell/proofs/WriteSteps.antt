@@ -1,13 +1,14 @@
 -- The steps of a write keep the rule: its exchange and its stores, and what they tell.
-use Rattle.std.proofs.Common.{◌≡◌, ◌≢◌, ℕ, suc, ◌+◌, ◌*◌, ◌<◌, ◌≤◌, ◌==◌, ◌⊎◌, inl, inr, ⊎_elim, List, [], ◌∷◌, ◌++◌, length, length-append, take, drop, true, false, Option, Some, None, refl, sym, ap, subst, ◌∙◌, arith, slice_index, slice_set, slice_get, IsSome}
-use Rattle.std.{specs.{List.sum_by, Prelude.unwrap_or}, proofs.lemmas.{Bool.Decides.nat_tests, List.{length-set, set-get_or, Sums.sum_by_push}}}
-use Rattle.atomic_table.{specs.Table.{Me, Allows}, proofs.Lists.exchanged}
+use Rattle.std.proofs.Common.{◌≡◌, ◌≢◌, ℕ, suc, ◌+◌, ◌*◌, ◌≤◌, ◌==◌, ◌⊎◌, inl, inr, ⊎_elim, List, [], ◌∷◌, ◌++◌, length, length-append, take, drop, Some, None, refl, sym, ap, subst, ◌∙◌, arith, slice_index, slice_set, slice_get}
+use Rattle.std.{specs.{List.sum_by}, proofs.lemmas.{Bool.Decides.nat_tests, List.{length-set, set-get_or, Sums.sum_by_push}}}
+use Rattle.lists.proofs.ListLaws.{same_some}
+use Rattle.atomic_table.proofs.Lists.{exchanged}
 use Rattle.solero_cell.specs.CellRules.{cell_values, IsUnderWay, ViewKnowledge, one_if, storing_count, is_in_span, IsAtRest, IsHeldByWrite, HasOneHistory}
-use Rattle.solero_cell.specs.{CellViews.{record_of, has_looked, has_failed, has_taken, one_stored, has_stored, has_written, has_released}, Histories.{History, last_count, IsLast, OwnStand}}
+use Rattle.solero_cell.specs.{CellViews.{record_of, has_looked, has_failed, has_taken, one_stored, has_stored, has_written, has_released}, Histories.{History, last_count, IsLast}}
 use Rattle.solero_cell.specs.{Stages.{IsNoted, IsStoring}, Steps.{note_of, storing_of, TellsTake, HasWritten}, Moments.{moment_now, time_of}, declared.views.{Moment.Moment, Moment.TheVariants.{AtRest, UnderWay}, Record.Record, Storing.Storing, View.View}}
-use Rattle.solero_cell.proofs.Allowing.{Seat, LeadsTo, any_write_allows}
-use Rattle.solero_cell.proofs.{Looking.{held_now, looks_kept, looks_on, rests_now, time_at}, Knowing.{calm_seat, nothing_loaded, if_some, some_is, not_storing, is_not_storing, is_storing, one_place, still_knows, more_knows}, Made.{looked, made}}
-use Rattle.solero_cell.proofs.{ReadSteps.{rule, some_note, its, next, looks, stands}, Standing.{at_most_last, last_stands, own_on, all_both, new_last}, Sums.{sum_set, at_most, others_none}}
+use Rattle.solero_cell.proofs.Allowing.{LeadsTo, Seat}
+use Rattle.solero_cell.proofs.{Looking.{held_now, looks_kept, looks_on, rests_now, time_at}, Knowing.{pair, some_value, calm_seat, nothing_loaded, if_some, some_is, not_storing, is_not_storing, is_storing, one_place, still_knows, more_knows}, Made.{looked, made}}
+use Rattle.solero_cell.proofs.{ReadSteps.{its, next, looks, stands}, Standing.{at_most_last, is_seen, last_stands, own_on, all_both, new_last}, Sums.{sum_set, at_most, others_none}}
 use Rattle.solero_cell.proofs.Words.{values_long, all_taken, lock_set, values_kept, lock_kept, value_set}
 use lib.ListN.{get_elem?}
 use mathlib.Core.Option.{some}
@@ -16,23 +17,11 @@ use prog.Atomic.{either}
 abbrev pub Leads : (o : Record) (ws : List ℕ) (views : List View) (id i x : ℕ) → (View → Type 0) → Type 0
 Leads o = LeadsTo (HasOneHistory o)
 
-pub write_allows : {S : Type 0} (o : Record) (slots id i : ℕ) (f : ℕ → ℕ) (me : Me S View) (told : ℕ → View → Type 0) → 0 < me.0.share.parts
-    → ((ws : List ℕ) (seat : Seat id me.0) → HasOneHistory o ws seat.views → Leads o ws seat.views id i (f (slice_index ws i)) (told (slice_index ws i)))
-    → Allows (rule o) slots id me i f (λ n w. told n w.0 × (w.1 ≡ me.1))
-write_allows o = any_write_allows (HasOneHistory o)
-
-pub some_storing : (p : Option Storing) → IsSome p → p ≡ Some (unwrap_or p (record { stored = []; left = [] }))
-some_storing None n = let bad : false ≡ true = n in absurd (cc)
-some_storing (Some c) n = refl
-
 -- the counts above the first, up to one more
 pub one_more : (n first last : ℕ) → first ≤ last → one_if (is_in_span n first (last + 1)) ≡ one_if (is_in_span n first last) + one_if (last + 1 == n)
 one_more n first last le = grind (arith, nat_tests)
 
 -- ---- what a write has stored
-
-abbrev pub pair : (stored left : List ℕ) → Storing
-pair stored left = record { stored = stored; left = left }
 
 pub one_stored_as : (x : ℕ) (left : List ℕ) → slice_get left 0 ≡ Some x → (stored : List ℕ)
     → one_stored (pair stored left) ≡ pair (stored ++ x ∷ []) (drop 1 left)
@@ -42,9 +31,6 @@ one_stored_as x (y ∷ left) e stored = let same : y ≡ x = cc in ap (λ z. pai
 pub shorter : (x : ℕ) (left : List ℕ) → slice_get left 0 ≡ Some x → length left ≡ suc (length (drop 1 left))
 shorter x [] e = let bad : None ≡ Some x = e in absurd (cc)
 shorter x (y ∷ left) e = refl
-
-pub some_one : (a b : ℕ) → Some a ≡ Some b → a ≡ b
-some_one a b e = cc
 
 module _ (o : Record) {id : ℕ} {v : View} (ws : List ℕ) (seat : Seat id v) (s : HasOneHistory o ws seat.views) where
   open seat use {views, at, parts}
@@ -56,7 +42,7 @@ module _ (o : Record) {id : ℕ} {v : View} (ws : List ℕ) (seat : Seat id v) (
 
   module _ (noted : ℕ) (xs : List ℕ) (is : IsNoted noted v) (long : length xs ≡ length o.values) where
     note : v.note ≡ Some (note_of v)
-    note = some_note v.note is.noted
+    note = some_value 0 v.note is.noted
 
     taken_at : slice_index ws 0 ≡ noted → IsAtRest o s.history ws views → Leads o ws views id 0 6 (TellsTake xs v (slice_index ws 0))
     taken_at e r =
@@ -84,9 +70,6 @@ module _ (o : Record) {id : ℕ} {v : View} (ws : List ℕ) (seat : Seat id v) (
           record { same = λ q. record { place = place; view = refl }; other = λ n. absurd (n (e ∙ is.word_is)) },
         )
 
-    taken : slice_index ws 0 ≡ noted → Leads o ws views id 0 6 (TellsTake xs v (slice_index ws 0))
-    taken e = ⊎_elim (taken_at e) (λ r. absurd (omega (arith, e, r.word, is.word_is))) s.lock
-
     lost : slice_index ws 0 ≢ noted → Leads o ws views id 0 (slice_index ws 0) (TellsTake xs v (slice_index ws 0))
     lost n =
         let place : ℕ = next o ws seat s in
@@ -100,7 +83,7 @@ module _ (o : Record) {id : ℕ} {v : View} (ws : List ℕ) (seat : Seat id v) (
         )
 
     pub take_step : Leads o ws views id 0 (either (slice_index ws 0 == noted) 6 (slice_index ws 0)) (TellsTake xs v (slice_index ws 0))
-    take_step = exchanged (slice_index ws 0) noted 6 (λ x. Leads o ws views id 0 x (TellsTake xs v (slice_index ws 0))) taken lost
+    take_step = exchanged (slice_index ws 0) noted 6 (λ x. Leads o ws views id 0 x (TellsTake xs v (slice_index ws 0))) (λ e. ⊎_elim (taken_at e) (λ r. absurd (omega (arith, e, r.word, is.word_is))) s.lock) lost
 
   -- ---- while the seat is in the middle of a write
 
@@ -109,7 +92,7 @@ module _ (o : Record) {id : ℕ} {v : View} (ws : List ℕ) (seat : Seat id v) (
     now = storing_of v
 
     storing : v.storing ≡ Some now
-    storing = some_storing v.storing is.storing
+    storing = some_value (pair [] []) v.storing is.storing
 
     under_way : IsUnderWay o s.history (one_place ws).place v.note now
     under_way = if_some (IsUnderWay o s.history (one_place ws).place v.note) v.storing now storing mine.storing
@@ -165,8 +148,8 @@ module _ (o : Record) {id : ℕ} {v : View} (ws : List ℕ) (seat : Seat id v) (
 
     pub release_step : i ≡ length o.values → Leads o ws views id 0 (4 * (note_of v + 1)) (HasWritten v)
     release_step all =
-        let note = some_note v.note is.noted in
-        let c : note_of v ≡ last_count o s.history = some_one (note_of v) (last_count o s.history) (sym note ∙ under_way.note_is) in
+        let note = some_value 0 v.note is.noted in
+        let c : note_of v ≡ last_count o s.history = same_some (sym note ∙ under_way.note_is) in
         let h' : History = s.history ++ now.stored ∷ [] in
         let r : Record = record_of (note_of v + 1) now.stored in
         let place : ℕ = next o ws seat s in
@@ -204,11 +187,7 @@ module _ (o : Record) {id : ℕ} {v : View} (ws : List ℕ) (seat : Seat id v) (
           record {
             place = place;
             view = refl;
-            seen = record {
-              history = h';
-              own = subst (λ (q : Record). OwnStand q h' v) (sym mine.opening_is) own;
-              last = subst (λ (q : Record). IsLast q h' r) (sym mine.opening_is) last;
-            };
+            seen = is_seen o h' v r mine.opening_is own last;
             above = let le' = at_most_last o s.history v.latest mine.own.latest in omega (arith, le', c);
           },
         )
