@@ -1,6 +1,6 @@
 -- The threads that a view has, by their numbers, and the views of a table.
-use Rattle.std.proofs.Common.{◌≡◌, ◌≢◌, ℕ, zero, suc, ◌<◌, ◌≤◌, List, [], ◌∷◌, map, length, replicate, Option, Some, None, refl, sym, ap, ◌∙◌, arith, slice_get, slice_set}
-use Rattle.std.proofs.lemmas.List.{get_or-set_same, get_or-set_other, set-get_or}
+use Rattle.std.proofs.Common.{◌≡◌, ◌≢◌, ℕ, zero, suc, ◌<◌, List, [], ◌∷◌, map, length, replicate, Option, Some, None, refl, sym, ap, ◌∙◌, arith, slice_get, slice_set}
+use Rattle.std.proofs.lemmas.{List.{get_or-set_same, get_or-set_other, set-get_or}, Option.slice_get_within}
 use Rattle.atomic_table.proofs.Lists.{set_here}
 use Rattle.checked_program.specs.MarkedProgram.{MarkedProgram}
 use Rattle.machine_types.specs.{Core.core, Threads.Thread, declared.config.Config.Config}
@@ -11,23 +11,8 @@ use mathlib.Core.Option.{some, some-ne-none}
 -- ---- a list of threads
 
 module _ {A : Type 0} where
-  pub got_here : (xs : List A) (i : ℕ) (x y : A) → slice_get xs i ≡ Some x
-      → slice_get (slice_set xs i y) i ≡ Some y
-  got_here [] i x y e = cc
-  got_here (z ∷ zs) zero x y e = refl
-  got_here (z ∷ zs) (suc i) x y e = got_here zs i x y e
-
-  pub got_else : (xs : List A) (i j : ℕ) (y : A) → j ≢ i → slice_get (slice_set xs i y) j ≡ slice_get xs j
-  got_else [] i j y n = refl
-  got_else (z ∷ zs) zero zero y n = absurd (n refl)
-  got_else (z ∷ zs) zero (suc j) y n = refl
-  got_else (z ∷ zs) (suc i) zero y n = refl
-  got_else (z ∷ zs) (suc i) (suc j) y n = got_else zs i j y (λ e. n (ap suc e))
-
   pub got_within : (xs : List A) (i : ℕ) (x : A) → slice_get xs i ≡ Some x → i < length xs
-  got_within [] i x e = cc
-  got_within (y ∷ ys) zero x e = omega arith
-  got_within (y ∷ ys) (suc i) x e = let r = got_within ys i x e in omega arith
+  got_within = slice_get_within
 
   pub got_there : (xs : List A) (i : ℕ) → i < length xs → (x : A) × (slice_get xs i ≡ Some x)
   got_there [] i lt = absurd (omega arith)
@@ -45,11 +30,6 @@ pub held_within : (v : View) (t : ℕ) (x : Thread) → held_in v t ≡ Some x �
 held_within [] t x e = cc
 held_within (o ∷ v) zero x e = omega arith
 held_within (o ∷ v) (suc t) x e = let r = held_within v t x e in omega arith
-
-pub held_beyond : (v : View) (t : ℕ) → length v ≤ t → held_in v t ≡ None
-held_beyond [] t le = refl
-held_beyond (o ∷ v) zero le = absurd (omega arith)
-held_beyond (o ∷ v) (suc t) le = held_beyond v t (omega arith)
 
 -- an entry that is set
 pub held_set : (v : View) (t : ℕ) (o : Option Thread) → t < length v → held_in (slice_set v t o) t ≡ o

@@ -3,10 +3,11 @@ use Rattle.std.proofs.{Common.{◌≡◌, ◌≢◌, ℕ, zero, suc, ◌⊎◌, 
 use Rattle.atomic_table.proofs.Lists.{at_set, set_here, set_else, set_again}
 use Rattle.checked_program.specs.MarkedProgram.{MarkedProgram}
 use Rattle.machine_types.specs.{Accesses.{found_by, words_after}, Core.{Core, Happening, Of, core}, Events.{wanted, moved}, Threads.Thread, declared.config.Config.Config}
+use Rattle.machine_types.proofs.Lists.{got_other, got_when_set}
 use Rattle.laws_states.{specs.GrowingRuns.behind, proofs.GrowingRuns.{event_is, one_more}}
 use Rattle.local_events.specs.Locals.{AfterLocals}
 use Rattle.table_rule.specs.{TableLaws.{EventsShow, LocalsShow}, Views.{View, held_in, IsHeld, AreShown, ShowsRun, StandsIn}}
-use Rattle.table_rule.proofs.Entries.{AtRun, Seen, seen_at, with_view, got_else, got_here, held_else, held_here, set_held, view_within}
+use Rattle.table_rule.proofs.Entries.{AtRun, Seen, seen_at, with_view, held_else, held_here, set_held, view_within}
 use lib.ListN.{get_elem?}
 use mathlib.Core.{Logic.dite, Option.{some, some-injective}}
 use native.Mathlib.Decide.{ℕ_discrete}
@@ -64,15 +65,15 @@ module _ (seen : Seen) (t : ℕ) (x y : Thread) (is : held_in seen.v t ≡ Some 
 
   pub goes_on : AreShown (slice_set threads t y) later
   goes_on = record {
-    own = λ i u w z a h. ⊎_elim (λ k. got_else threads t u y k.0 ∙ shown.own i u k.1 z k.2 k.3) (λ k. ap (slice_get (slice_set threads t y)) k.1 ∙ got_here threads t x y (shown.own id t v x at is) ∙ ap Some (sym k.2)) (in_later i u w z a h);
+    own = λ i u w z a h. ⊎_elim (λ k. got_other threads t u y k.0 ∙ shown.own i u k.1 z k.2 k.3) (λ k. ap (slice_get (slice_set threads t y)) k.1 ∙ got_when_set threads t x y (shown.own id t v x at is) ∙ ap Some (sym k.2)) (in_later i u w z a h);
     once = λ i j u w r z q a b h k. ⊎_elim
         (λ l. ⊎_elim (λ m. shown.once i j u l.1 m.1 z q l.2 m.2 l.3 m.3) (λ m. absurd (l.0 m.1)) (in_later j u r q b k))
         (λ l. ⊎_elim (λ m. absurd (m.0 l.1)) (λ m. l.0 ∙ sym m.0) (in_later j u r q b k)) (in_later i u w z a h);
-    each = λ u z e. dite (ℕ_discrete u t) (λ m. is_new u z m e) (λ n. held_later u z n (shown.each u z (sym (got_else threads t u y n) ∙ e)));
+    each = λ u z e. dite (ℕ_discrete u t) (λ m. is_new u z m e) (λ n. held_later u z n (shown.each u z (sym (got_other threads t u y n) ∙ e)));
   }
     where
       is_new : (u : ℕ) (z : Thread) → u ≡ t → slice_get (slice_set threads t y) u ≡ Some z → IsHeld later u z
-      is_new u z m e = let two : Some y ≡ Some z = sym (got_here threads t x y (shown.own id t v x at is))
+      is_new u z m e = let two : Some y ≡ Some z = sym (got_when_set threads t x y (shown.own id t v x at is))
           ∙ ap (slice_get (slice_set threads t y)) (sym m) ∙ e in
           (id, more, here_later, ap (held_in more) m ∙ held_now ∙ two)
 
@@ -91,17 +92,14 @@ module _ {c : MarkedProgram} {cfg : Config} (place : AtRun c cfg) (t : ℕ) (x :
       core c cfg next_run ≡ record { words = words_after (core c cfg run.happenings).words (wanted c x x.phase); threads = slice_set (core c cfg run.happenings).threads t (behind c (core c cfg run.happenings).words x) }
   comes = one_more c cfg run.happenings (Of t) ∙ event_is c (core c cfg run.happenings) t x stands
 
-  same_words : (core c cfg run.happenings).words ≡ words
-  same_words = sym run.words_are
-
   now : behind c (core c cfg run.happenings).words x ≡ behind c words x
-  now = ap (λ ws. behind c ws x) same_words
+  now = ap (λ ws. behind c ws x) (sym run.words_are)
 
   -- the thread is there behind the event
   pub stands_behind : slice_get (core c cfg next_run).threads t ≡ Some (behind c words x)
   stands_behind = ap (λ (s : Core). slice_get s.threads t) comes
       ∙ ap (λ y. slice_get (slice_set (core c cfg run.happenings).threads t y) t) now
-      ∙ got_here (core c cfg run.happenings).threads t x (behind c words x) stands
+      ∙ got_when_set (core c cfg run.happenings).threads t x (behind c words x) stands
 
   pub one_event :
       ShowsRun c cfg (words_after words (wanted c x x.phase)) (slice_set views id (slice_set v t (Some (behind c words x))))

@@ -1,12 +1,12 @@
 -- A view that has all threads of a run, and the begin of a part.
 use Rattle.std.proofs.Common.{◌≡◌, ℕ, zero, suc, ◌<◌, ◌≤◌, ⊎_elim, Bool, true, false, List, [], ◌∷◌, ◌++◌, length, Option, Some, None, refl, sym, ap, subst, ◌∙◌, arith, nat_lt, slice_get, slice_set, IsSome}
-use Rattle.std.proofs.lemmas.{Bool.Decides.nat_tests, List.set-set}
+use Rattle.std.proofs.lemmas.{Bool.Decides.nat_tests, List.{get_or_past, set-set}}
 use Rattle.atomic_table.proofs.Lists.{at_set, set_here, set_again}
 use Rattle.checked_program.specs.MarkedProgram.{MarkedProgram}
 use Rattle.machine_types.specs.{Core.{Core, Happening, NextPart, core, next_threads}, Threads.Thread, declared.config.Config.Config}
-use Rattle.laws_states.proofs.GrowingRuns.{next_long, one_more, runs_keep_sizes}
+use Rattle.laws_states.proofs.GrowingRuns.{one_more, runs_keep_sizes}
 use Rattle.table_rule.specs.Views.{View, held_in, AreShown, ShowsRun, AllFollow, EachFollows, HasThreads, HoldsAll}
-use Rattle.table_rule.proofs.{Entries.{AtRun, Seen, seen_at, with_view, got_within, held_beyond, held_here, held_else, view_within}, Shown.locals_show}
+use Rattle.table_rule.proofs.{Entries.{AtRun, Seen, seen_at, with_view, got_within, held_here, held_else, view_within}, Shown.locals_show}
 use lib.ListN.{get_elem?}
 use mathlib.Core.{Logic.dite, Option.some}
 use native.Mathlib.Decide.{ℕ_discrete}
@@ -54,8 +54,6 @@ module _ {c : MarkedProgram} {cfg : Config} (place : AtRun c cfg) (u : View) (fo
     below = λ t lt. dite (ℕ_discrete t n) (λ same. ap (held_in k.view) same ∙ k.from n (omega arith) ∙ e ∙ sym f ∙ ap (held_in u) (sym same)) (λ ne. k.below t (omega (arith, lt, ne)));
     from = λ t le. k.from t (omega (arith, le));
   }
-  further n k None (Some y) e f m = absurd m
-  further n k (Some x) None e f m = absurd m
   further n k (Some x) (Some y) e f m =
       let here : get_elem? (slice_set views id k.view) id ≡ some k.view = set_here views id k.view (view_within views id v at) in
       let mine : held_in k.view n ≡ Some x = k.from n (omega arith) ∙ e in
@@ -67,6 +65,7 @@ module _ {c : MarkedProgram} {cfg : Config} (place : AtRun c cfg) (u : View) (fo
         from = λ t le. held_else k.view n t (Some y) (λ same. absurd (omega (arith, le, same)))
             ∙ k.from t (omega (arith, le));
       }
+  further n k o p e f m = absurd m
 
   caught_up : (n : ℕ) → CaughtUp n
   caught_up zero = record { view = v; shows = subst (ShowsRun c cfg words) (sym (set_again views id v at)) run; below = λ t lt. absurd (omega (arith, lt)); from = λ t le. refl }
@@ -87,7 +86,7 @@ module _ {c : MarkedProgram} {cfg : Config} (place : AtRun c cfg) (u : View) (fo
       by_place true e = (caught_up (length u)).below t (grind (arith, nat_tests, e))
       by_place false e =
           let le : length u ≤ t = grind (arith, nat_tests, e) in
-          let none : held_in u t ≡ None = held_beyond u t le in
+          let none : held_in u t ≡ None = get_or_past u t None le in
           (caught_up (length u)).from t le ∙ none_before c (held_in v t) (held_in u t) (follow t) none
           ∙ sym none
 
@@ -128,19 +127,17 @@ module _ {c : MarkedProgram} {cfg : Config} (place : AtRun c cfg) (u : View) (fo
 
 -- ---- of words and views
 
-abbrev at_run : (c : MarkedProgram) (cfg : Config) (words : List ℕ) (views : List View) (id : ℕ) (v : View) → ShowsRun c cfg words views → get_elem? views id ≡ some v → AtRun c cfg
-at_run c cfg words views id v run at = record { words = words; views = views; id = id; v = v; run = run; at = at }
+module _ (c : MarkedProgram) (cfg : Config) (words : List ℕ) (views : List View) (id : ℕ) (v u : View) where
+  abbrev place : ShowsRun c cfg words views → get_elem? views id ≡ some v → AtRun c cfg
+  place run at = record { words = words; views = views; id = id; v = v; run = run; at = at }
 
-abbrev pub whole_run : (c : MarkedProgram) (cfg : Config) (words : List ℕ) (views : List View) (id : ℕ) (v u : View)
-    → ShowsRun c cfg words views → get_elem? views id ≡ some v → AllFollow c v u → HoldsAll c u → List Happening
-whole_run c cfg words views id v u run at follow holds = run_of (at_run c cfg words views id v run at) u follow
+  abbrev pub whole_run : ShowsRun c cfg words views → get_elem? views id ≡ some v → AllFollow c v u → HoldsAll c u → List Happening
+  whole_run run at follow holds = run_of (place run at) u follow
 
-pub whole_holds : (c : MarkedProgram) (cfg : Config) (words : List ℕ) (views : List View) (id : ℕ) (v u : View)
-    (run : ShowsRun c cfg words views) (at : get_elem? views id ≡ some v) (follow : AllFollow c v u) (holds : HoldsAll c u)
-    → HasThreads u (core c cfg (whole_run c cfg words views id v u run at follow holds)).threads
-whole_holds c cfg words views id v u run at follow holds = has_all (at_run c cfg words views id v run at) u follow holds
+  pub whole_holds : (run : ShowsRun c cfg words views) (at : get_elem? views id ≡ some v) (follow : AllFollow c v u) (holds : HoldsAll c u)
+      → HasThreads u (core c cfg (whole_run run at follow holds)).threads
+  whole_holds run at follow = has_all (place run at) u follow
 
-pub part_shows : (c : MarkedProgram) (cfg : Config) (words : List ℕ) (views : List View) (id : ℕ) (v u : View)
-    (run : ShowsRun c cfg words views) (at : get_elem? views id ≡ some v) (follow : AllFollow c v u) (holds : HoldsAll c u) (w : View)
-    → HasThreads w (next_threads c.program (core c cfg (whole_run c cfg words views id v u run at follow holds)).threads) → ShowsRun c cfg words (slice_set views id w)
-part_shows c cfg words views id v u run at follow holds = begun (at_run c cfg words views id v run at) u follow holds
+  pub part_shows : (run : ShowsRun c cfg words views) (at : get_elem? views id ≡ some v) (follow : AllFollow c v u) (holds : HoldsAll c u)
+      (w : View) → HasThreads w (next_threads c.program (core c cfg (whole_run run at follow holds)).threads) → ShowsRun c cfg words (slice_set views id w)
+  part_shows run at follow = begun (place run at) u follow
