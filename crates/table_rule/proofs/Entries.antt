@@ -4,7 +4,7 @@ use Rattle.std.proofs.lemmas.{List.{get_or-set_same, get_or-set_other, set-get_o
 use Rattle.atomic_table.proofs.Lists.{set_here}
 use Rattle.checked_program.specs.MarkedProgram.{MarkedProgram}
 use Rattle.machine_types.specs.{Core.core, Threads.Thread, declared.config.Config.Config}
-use Rattle.table_rule.specs.Views.{View, held_in, AreShown, ShowsRun}
+use Rattle.table_rule.specs.Views.{View, held_in, IsHeld, AreShown, ShowsRun}
 use lib.ListN.{get_elem?}
 use mathlib.Core.Option.{some, some-ne-none}
 
@@ -72,6 +72,20 @@ pub record Seen : Type 0 where
   pub v : View
   pub shown : AreShown threads views
   pub at : get_elem? views id ≡ some v
+
+-- an entry was there before, at the place from which it has gone to i
+abbrev pub Was : (seen : Seen) (to : (i t : ℕ) → ℕ) (i t : ℕ) → Thread → Type 0
+Was seen to i t x = (j : ℕ) × (i ≡ to j t) × (v : View) × (get_elem? seen.views j ≡ some v) × (held_in v t ≡ Some x)
+
+-- other views show the same threads, where each entry of theirs was there before
+pub still_shown : (seen : Seen) (views : List View) (to : (i t : ℕ) → ℕ)
+    → ((i t : ℕ) (v : View) (x : Thread) → get_elem? views i ≡ some v → held_in v t ≡ Some x → Was seen to i t x)
+    → ((t : ℕ) (x : Thread) → IsHeld seen.views t x → IsHeld views t x) → AreShown seen.threads views
+still_shown seen views to was held = record {
+  own = λ i t v x a h. let k = was i t v x a h in seen.shown.own k.0 t k.2 x k.3 k.4;
+  once = λ i j t v w x y a b h k. let l = was i t v x a h in let m = was j t w y b k in l.1 ∙ ap (λ n. to n t) (seen.shown.once l.0 m.0 t l.2 m.2 x y l.3 m.3 l.4 m.4) ∙ sym m.1;
+  each = λ t x e. held t x (seen.shown.each t x e);
+}
 
 -- which show a state of a run
 pub record AtRun (c : MarkedProgram) (cfg : Config) : Type 0 where
