@@ -1,13 +1,13 @@
 -- The tests of the rules are met exactly by the classes of the class grammar. That numbers fit their fields is told by the
 -- bytes that spell them: the first byte of a number is one.
 use Rattle.std.proofs.Common.{◌≡◌, ℕ, suc, ◌+◌, ◌/◌, ◌<◌, ◌≤◌, ◌^◌, Bool, true, false, not, ◌&&◌, ◌==◌, List, [], ◌∷◌, ◌++◌, length, codes, refl, sym, subst, ◌∙◌, arith, get_or, nat_lt, nat_le, cond, Decides, count_by}
-use Rattle.std.{specs.List.{AllByRecursion, flat_map, list_all}, proofs.lemmas.Bool.{leb-true, ltb-true, lt-ltb, and_parts, and_from, Decides.{nat_tests, Decides-eqb}}}
+use Rattle.std.{specs.List.{AllByRecursion, flat_map, list_all}, proofs.lemmas.Bool.{not-true, not_from_false, leb-true, ltb-true, lt-ltb, and_parts, and_from, Decides.{nat_tests, Decides-eqb}}}
 use Rattle.jvm_types.specs.ClassGrammar.{IsCounted, Names, IsIndex, is_wide, is_gap, GapsFit, IsUtf8Byte, FieldsFit, IndicesFit, IsPool, IsAttr, IsNamed, IsHandler, IsCodeAttr, IsFieldAttr, IsMethodAttr, IsMember, IsField, codes_of, HasBody, IsMethod, IsClass}
 use Rattle.jvm_types.specs.{Counts.{BodyFits, CodeFits, MemberAttrFits, MemberFits}, Numbers.{u2, u4, has_flag}, ReadingClass.has_body, ReadingPool.names}
 use Rattle.jvm_types.specs.{Spelling.{counted, constant, handler, attr, code_body, member_attr, member, class_file}, declared.class_file.{Attr.Attr, ClassFile.ClassFile, Code.Code, Constant.Constant}}
 use Rattle.jvm_types.specs.declared.class_file.{Constant.TheVariants.{Gap, Utf8, Integer, Float, Long, Double, Class, Text, Field, Method, InterfaceMethod, NameAndType}, Handler.Handler}
 use Rattle.jvm_types.{specs.declared.{class_file.{Member.Member, MemberAttr.MemberAttr}, index_kind.IndexKind.IndexKind}, proofs.EachAfter.sum_first}
-use Rattle.jvm_types.proofs.{IndexLaws.{Names-from_test, test_from_Names, IsTextAt-from_test, test_from_IsTextAt, no_IsTextAt, no_test}, StepLaws.IsBytes}
+use Rattle.jvm_types.proofs.{IndexLaws.{Names-from_test, test_from_Names, IsTextAt-from_test, test_from_IsTextAt, no_IsTextAt, no_test}, ClassReads.{body_from_test, test_from_body}, StepLaws.{IsBytes, bytes_fit}}
 use Rattle.class_writer.specs.Testing.{has_due_gaps, is_utf8_byte, is_constant, is_pool, is_attr, is_handler, is_text_at, is_pool_code, is_field_attr, is_method_attr, has_names, is_field, is_code_attr, is_method, has_version, has_classes, has_members, keeps_rules}
 use Rattle.class_writer.specs.Writing.{IsKnown, IsClassWritten}
 use Rattle.jvm_types.specs.declared.index_kind.IndexKind.TheVariants as kinds
@@ -15,21 +15,9 @@ use Rattle.jvm_types.specs.declared.class_file.MemberAttr.TheVariants as member_
 
 -- ---- tests and lists
 
-not_true : (b : Bool) → not b ≡ true → b ≡ false
-not_true true e = absurd cc
-not_true false e = refl
-
-true_not : (b : Bool) → b ≡ false → not b ≡ true
-true_not true e = absurd cc
-true_not false e = refl
-
 parted : (xs ys : List ℕ) → IsBytes (xs ++ ys) → IsBytes xs × IsBytes ys
 parted [] ys h = (tt, h)
 parted (x ∷ xs) ys h = let p = parted xs ys h.1 in ((h.0, p.0), p.1)
-
-pub bytes_each : (xs : List ℕ) → ((i : ℕ) → get_or xs i 0 < 256) → IsBytes xs
-bytes_each [] h = tt
-bytes_each (x ∷ xs) h = (h 0, bytes_each xs (λ i. h (suc i)))
 
 each_unit : {A : Type 0} (xs : List A) → AllByRecursion (λ x. Unit {0}) xs
 each_unit [] = tt
@@ -87,13 +75,13 @@ gaps_from_test : (due : Bool) (cs : List Constant) → has_due_gaps due cs ≡ t
 gaps_from_test true [] t = absurd cc
 gaps_from_test false [] t = refl
 gaps_from_test true (c ∷ cs) t = let p = and_parts (is_gap c) (has_due_gaps (is_wide c) cs) t in (p.0, gaps_from_test (is_wide c) cs p.1)
-gaps_from_test false (c ∷ cs) t = let p = and_parts (not (is_gap c)) (has_due_gaps (is_wide c) cs) t in (not_true (is_gap c) p.0, gaps_from_test (is_wide c) cs p.1)
+gaps_from_test false (c ∷ cs) t = let p = and_parts (not (is_gap c)) (has_due_gaps (is_wide c) cs) t in (not-true (is_gap c) p.0, gaps_from_test (is_wide c) cs p.1)
 
 test_from_gaps : (due : Bool) (cs : List Constant) → GapsFit due cs → has_due_gaps due cs ≡ true
 test_from_gaps true [] h = absurd cc
 test_from_gaps false [] h = refl
 test_from_gaps true (c ∷ cs) h = and_from (is_gap c) (has_due_gaps (is_wide c) cs) h.0 (test_from_gaps (is_wide c) cs h.1)
-test_from_gaps false (c ∷ cs) h = and_from (not (is_gap c)) (has_due_gaps (is_wide c) cs) (true_not (is_gap c) h.0) (test_from_gaps (is_wide c) cs h.1)
+test_from_gaps false (c ∷ cs) h = and_from (not (is_gap c)) (has_due_gaps (is_wide c) cs) (not_from_false (is_gap c) h.0) (test_from_gaps (is_wide c) cs h.1)
 
 byte_from_test : (b : ℕ) → is_utf8_byte b ≡ true → IsUtf8Byte b
 byte_from_test b t = let p = and_parts (nat_lt 0 b) (nat_lt b 240) t in (ltb-true 0 b p.0, ltb-true b 240 p.1)
@@ -214,7 +202,7 @@ field_attr_from_test pool (member_attrs.ConstantValue name value) t f h =
     (named_from_test (codes "ConstantValue") pool name p.0 h.0, index_from_test kinds.Value pool value p.1 h.1.1.1.1.1.1.0)
 field_attr_from_test pool (member_attrs.Other a) t f h =
     let p = and_parts (is_attr pool a) (not (is_text_at (codes "ConstantValue") pool a.name)) t in
-    (attr_from_test pool a p.0 f h, no_IsTextAt (codes "ConstantValue") pool a.name (not_true (is_text_at (codes "ConstantValue") pool a.name) p.1))
+    (attr_from_test pool a p.0 f h, no_IsTextAt (codes "ConstantValue") pool a.name (not-true (is_text_at (codes "ConstantValue") pool a.name) p.1))
 
 test_from_field_attr : (pool : List Constant) (a : MemberAttr) → IsFieldAttr pool a → is_field_attr pool a ≡ true
 test_from_field_attr pool (member_attrs.Code c) is = absurd is
@@ -222,21 +210,21 @@ test_from_field_attr pool (member_attrs.ConstantValue name value) is =
     and_from (is_text_at (codes "ConstantValue") pool name) (names kinds.Value pool value) (test_from_IsTextAt (codes "ConstantValue") pool name is.0.named) (test_from_Names kinds.Value pool value is.1.names)
 test_from_field_attr pool (member_attrs.Other a) is =
     and_from (is_attr pool a) (not (is_text_at (codes "ConstantValue") pool a.name)) (test_from_attr pool a is.0)
-    (true_not (is_text_at (codes "ConstantValue") pool a.name) (no_test (codes "ConstantValue") pool a.name is.1))
+    (not_from_false (is_text_at (codes "ConstantValue") pool a.name) (no_test (codes "ConstantValue") pool a.name is.1))
 
 method_attr_from_test : (pool : List Constant) (a : MemberAttr) → is_method_attr pool a ≡ true → MemberAttrFits a → IsBytes (member_attr a) → IsMethodAttr pool a
 method_attr_from_test pool (member_attrs.Code c) t f h = code_from_test pool c t f h
 method_attr_from_test pool (member_attrs.ConstantValue name value) t f h = absurd cc
 method_attr_from_test pool (member_attrs.Other a) t f h =
     let p = and_parts (is_attr pool a) (not (is_text_at (codes "Code") pool a.name)) t in
-    (attr_from_test pool a p.0 f h, no_IsTextAt (codes "Code") pool a.name (not_true (is_text_at (codes "Code") pool a.name) p.1))
+    (attr_from_test pool a p.0 f h, no_IsTextAt (codes "Code") pool a.name (not-true (is_text_at (codes "Code") pool a.name) p.1))
 
 test_from_method_attr : (pool : List Constant) (a : MemberAttr) → IsMethodAttr pool a → is_method_attr pool a ≡ true
 test_from_method_attr pool (member_attrs.Code c) is = test_from_code pool c is
 test_from_method_attr pool (member_attrs.ConstantValue name value) is = absurd is
 test_from_method_attr pool (member_attrs.Other a) is =
     and_from (is_attr pool a) (not (is_text_at (codes "Code") pool a.name)) (test_from_attr pool a is.0)
-    (true_not (is_text_at (codes "Code") pool a.name) (no_test (codes "Code") pool a.name is.1))
+    (not_from_false (is_text_at (codes "Code") pool a.name) (no_test (codes "Code") pool a.name is.1))
 
 -- ---- fields and methods
 
@@ -280,22 +268,6 @@ codes_counted (member_attrs.Other a ∷ attrs) =
     let e : count_by is_code_attr attrs ≡ length (codes_of attrs) = codes_counted attrs in
     let f : count_by is_code_attr (member_attrs.Other a ∷ attrs) ≡ 0 + count_by is_code_attr attrs = sum_first one_if_code (member_attrs.Other a) attrs in
     omega (arith, e, f)
-
-body_from_test : (m : Member) → has_body m ≡ true → HasBody m
-body_from_test m t =
-    let p = and_parts ((length (codes_of m.attrs) == 1) && not (has_flag 256 m.flags)) (not (has_flag 1024 m.flags)) t in
-    let q = and_parts (length (codes_of m.attrs) == 1) (not (has_flag 256 m.flags)) p.0 in
-    record {
-      one = (Decides-eqb (length (codes_of m.attrs)) 1).0 q.0;
-      not_native = not_true (has_flag 256 m.flags) q.1;
-      not_abstract = not_true (has_flag 1024 m.flags) p.1;
-    }
-
-test_from_body : (m : Member) → HasBody m → has_body m ≡ true
-test_from_body m is =
-    and_from ((length (codes_of m.attrs) == 1) && not (has_flag 256 m.flags)) (not (has_flag 1024 m.flags))
-    (and_from (length (codes_of m.attrs) == 1) (not (has_flag 256 m.flags)) ((Decides-eqb (length (codes_of m.attrs)) 1).1 is.one) (true_not (has_flag 256 m.flags) is.not_native))
-    (true_not (has_flag 1024 m.flags) is.not_abstract)
 
 method_from_test : (pool : List Constant) (m : Member) → is_method pool m ≡ true → MemberFits m → IsBytes (member m) → IsMethod pool m
 method_from_test pool m t f h =
@@ -363,6 +335,6 @@ test_from_class c is =
 
 pub class_decided : (c : ClassFile) (bytes : List ℕ) (test : Bool) → bytes ≡ class_file c → ((i : ℕ) → get_or bytes i 0 < 256) → IsClassWritten c → length bytes ≤ 1048576 → test ≡ keeps_rules c → Decides test (IsClass c)
 class_decided c bytes test spelled fits written short is = (
-  λ t. class_from_test c (sym is ∙ t) written (subst IsBytes spelled (bytes_each bytes fits)) (subst (λ (x : List ℕ). length x ≤ 1048576) spelled short),
+  λ t. class_from_test c (sym is ∙ t) written (subst IsBytes spelled (bytes_fit bytes fits)) (subst (λ (x : List ℕ). length x ≤ 1048576) spelled short),
   λ class. is ∙ test_from_class c class,
 )
