@@ -1,7 +1,7 @@
 -- The lines of a class make that class.
 use Rattle.std.{proofs.{Common.{◌≡◌, true, List, [], ◌∷◌, ◌++◌, map, drop, refl, sym, ap, arith}, lemmas.List.append-nil}, specs.List.{AllByRecursion, flat_map}}
 use Rattle.jvm_types.specs.{ClassGrammar.{IsByte, IsClass, IsFieldAttr, IsMethodAttr, IsField, IsMethod, GapsFit, is_gap}, declared.class_file.{ClassFile.ClassFile, Code.Code, Constant.Constant}}
-use Rattle.jvm_types.{specs.declared.class_file.{Constant.TheVariants.Gap, Member.Member, MemberAttr.MemberAttr}, proofs.EachAfter.all_weaker}
+use Rattle.jvm_types.{specs.declared.class_file.{Constant.TheVariants.Gap, Member.Member, MemberAttr.MemberAttr}, proofs.{EachAfter.all_weaker, PoolLaws.gap_is}}
 use Rattle.asm_text.specs.{Drafting.{draft, new_draft, no_class, no_member, empty_code, member_of, started_code, with_member, with_member_attr, with_bytes}, Places.{part_of, class_rank}}
 use Rattle.asm_text.specs.declared.items.{Item.{Item, TheVariants.{FileHead, Entry, Interface, MemberHead, Attribute, InitialValue, CodeHead, Row, End}}, MemberKind.MemberKind}
 use Rattle.asm_text.specs.declared.places.ClassPart.{ClassPart}
@@ -96,10 +96,6 @@ members_lead kind part c (m ∷ ms) u b =
     }
 
 -- ---- classes
-
-gap_is : (x : Constant) → is_gap x ≡ true → x ≡ Gap
-gap_is Gap h = refl
-gap_is x h = absurd (cc)
 
 gap_first : (cs : List Constant) → GapsFit true cs → Gap ∷ drop 1 cs ≡ cs
 gap_first [] h = absurd (cc)

@@ -6,10 +6,6 @@ use Rattle.class_reader.specs.{Giving.{Fails, HasPlaceInFile}, declared.items.St
 use Rattle.jvm_types.specs.declared.index_kind.IndexKind.TheVariants as kinds
 use Rattle.class_reader.specs.declared.items.Stop.TheVariants as stops
 
-pub bytes_fit : (bytes : List ℕ) → ((i : ℕ) → get_or bytes i 0 < 256) → IsBytes bytes
-bytes_fit [] h = tt
-bytes_fit (b ∷ bytes) h = (h 0, bytes_fit bytes (λ i. h (suc i)))
-
 pub left_within : {A : Type 0} (n : ℕ) (r : Result A Fault) (f : Fault) → r ≡ Err f → Near n r → f.left ≤ n
 left_within n r f e near = IfErr-at_err (λ g. g.left ≤ n) e near.place
 

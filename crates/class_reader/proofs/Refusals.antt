@@ -1,8 +1,7 @@
 -- What the public clauses say of a reader that gives what reading gives.
 use Rattle.std.proofs.{Common.{◌≡◌, ℕ, ◌-◌, ◌^◌, ◌<◌, ◌≤◌, Bool, true, false, cond, ltb, List, length, get_or, Some, None, Result, Ok, Err, refl, ap, arith}, lemmas.Bool.{ltb-true, ltb-false}}
 use Rattle.jvm_types.specs.{ClassGrammar.Spells, ReadingClass.{class_at, read_class, fault_of, class_fault}, ReadingSteps.{Fault, fault, whole}, declared.class_file.ClassFile.ClassFile}
-use Rattle.jvm_types.{specs.declared.refusal.CRule.{CRule, TheVariants.C10}, proofs.ClassLawProofs.{faults_inside, spelled_if_read, read_if_spelled}}
-use Rattle.class_reader.proofs.PlacesInside.{bytes_fit}
+use Rattle.jvm_types.{specs.declared.refusal.CRule.{CRule, TheVariants.C10}, proofs.{ClassLawProofs.{faults_inside, spelled_if_read}, ClassReads.read_again, StepLaws.bytes_fit}}
 
 pub is_spelled : (bytes : List ℕ) (c : ClassFile) → ((i : ℕ) → get_or bytes i 0 < 256) → read_class bytes ≡ Ok c → Spells bytes c
 is_spelled bytes c fits read = spelled_if_read bytes c (bytes_fit bytes fits) read
@@ -11,13 +10,13 @@ ok_is : (c d : ClassFile) (r : Result ClassFile Fault) → r ≡ Ok c → r ≡ 
 ok_is c d r e h = cc
 
 pub is_only : (bytes : List ℕ) (c : ClassFile) → read_class bytes ≡ Ok c → (d : ClassFile) → Spells bytes d → c ≡ d
-is_only bytes c read d spells = ok_is c d (read_class bytes) read (read_if_spelled bytes d spells)
+is_only bytes c read d spells = ok_is c d (read_class bytes) read (read_again bytes d spells)
 
 not_both : (c : ClassFile) (f : Fault) (r : Result ClassFile Fault) → r ≡ Ok c → r ≡ Err f → ⊥
 not_both c f r e h = absurd cc
 
 pub none_spelled : (bytes : List ℕ) (rule : CRule) (left : ℕ) → read_class bytes ≡ fault rule left → (d : ClassFile) → Spells bytes d → ⊥
-none_spelled bytes rule left read d spells = not_both d (record { rule = rule; left = left }) (read_class bytes) (read_if_spelled bytes d spells) read
+none_spelled bytes rule left read d spells = not_both d (record { rule = rule; left = left }) (read_class bytes) (read_again bytes d spells) read
 
 pub is_first : (bytes : List ℕ) (rule : CRule) (left : ℕ) → read_class bytes ≡ fault rule left → class_fault bytes ≡ Some (rule, length bytes - left)
 unfolding class_fault

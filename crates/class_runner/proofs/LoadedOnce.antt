@@ -5,7 +5,7 @@ use Rattle.std.proofs.lemmas.Option.{none-some}
 use Rattle.jvm_types.specs.{ClassGrammar.{IsClass, Spells}, LinkFaults.{LinkFault, link_fault, IsLinked}, Linkable.IsDecoded, Linked.{code_of, scope_of, linked_methods, program_of}}
 use Rattle.jvm_types.specs.{Members.{Declared, declared_methods}, ReadingClass.{fault_of, class_fault}, Targets.Scope, Verifying.{IsTypingOf, IsRefused}, declared.class_file.ClassFile.ClassFile}
 use Rattle.jvm_types.specs.declared.{code.Insn.Insn, program.{MethodInfo.MethodInfo, Program.Program}, refusal.{Place.Place, Rule.TheVariants.{C, K, L, V, S, A}, SRule.SRule, VRule.VRule}}
-use Rattle.jvm_types.{specs.declared.typing.Typing.Typing, proofs.{ClassLawProofs.{one_class, read_if_spelled}, CodeLaws.faultless, CodeOnce.once}}
+use Rattle.jvm_types.{specs.declared.typing.Typing.Typing, proofs.{ClassLawProofs.one_class, ClassReads.read_again, CodeLaws.faultless, CodeOnce.once}}
 use Rattle.laws_programs.proofs.OneTyping.{one_typing, no_refusal}
 use Rattle.checked_program.specs.{CheckedProgram.AreTypings, MarkedProgram.{MarkedProgram, AreTaggings}, Marks.AreMarks, TaggedCode.tagged_by, Tagging.{IsTaggingOf, IsTagRefused}}
 use Rattle.checked_program.specs.declared.{section.SectionMark.SectionMark, tag.Tags.Tags}
@@ -83,7 +83,7 @@ loaded_once files heap workers c d a b =
 
 is_faultless : (bytes : List ℕ) (c : ClassFile) → Spells bytes c → class_fault bytes ≡ None
 unfolding class_fault
-is_faultless bytes c h = ap (fault_of (length bytes)) (read_if_spelled bytes c h)
+is_faultless bytes c h = ap (fault_of (length bytes)) (read_again bytes c h)
 
 pub no_read_fault : (file : ℕ) (files : List (List ℕ)) (cs : List ClassFile) → AllZip Spells files cs → read_fault file files ≡ None
 no_read_fault file [] cs h = refl

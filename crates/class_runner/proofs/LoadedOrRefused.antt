@@ -64,9 +64,6 @@ all_decoded (d ∷ ds) h = by_fault (code_fault (code_of d.member.attrs).bytes (
 abbrev typing_of : List (Option TypeFrame) → Typing
 typing_of frames = record { frames = frames }
 
-abbrev tags_of : List (Option TagShape) → Tags
-tags_of frames = record { frames = frames }
-
 each : {X : Type 0} (P : X → Type 0) (xs : List X) → ((i : ℕ) (x : X) → slice_get xs i ≡ Some x → P x) → AllByRecursion P xs
 each P [] h = tt
 each P (x ∷ xs) h = (h 0 x refl, each P xs (λ i y e. h (suc i) y e))
@@ -102,7 +99,7 @@ one_typed p m laid = elim (typed_or_refused p m laid) [
 
 one_tagged : (p : Program) (m : MethodInfo) → IsLaidOut m → IsTold (IsTaggingOf p) (IsTagRefused p) m
 one_tagged p m laid = elim (tagged_or_refused p m laid) [
-  | inl (frames, tagged) ↦ inl (tags_of frames, tagged)
+  | inl (frames, tagged) ↦ inl (record { frames = frames }, tagged)
   | inr refused ↦ inr refused
 ]
 

@@ -2,19 +2,10 @@
 use Rattle.std.proofs.Common.{◌≡◌, ℕ, zero, suc, inl, inr, ◌+◌, ◌*◌, ◌<◌, ◌≤◌, List, [], ◌∷◌, ◌++◌, length, get_or, drop, Option, Some, None, refl, subst, ap, append_assoc, append-nil, length-append, add-one, arith, slice_get, IsSomeAnd}
 use Rattle.std.{specs.List.{AllZip, AllByRecursion}, proofs.lemmas.List.{drop_all, length_push}}
 use Rattle.jvm_types.specs.{ClassGrammar.IsClass, LinkFaults.in_method, Members.{Declared, declared_from, declared_by}, declared.class_file.{ClassFile.ClassFile, Constant.Constant, Member.Member}}
-use Rattle.jvm_types.specs.declared.{program.MethodInfo.MethodInfo, refusal.Place.Place}
+use Rattle.jvm_types.{specs.declared.{program.MethodInfo.MethodInfo, refusal.Place.Place}, proofs.EachAfter.drop_got}
 use Rattle.class_runner.{specs.{Loading.IsFirstRefused, Stages.{own_methods, AreFoundSoFar}}, proofs.MethodsDecoded.{declared, files_at}}
 
 -- ---- the method of a number
-
--- what is left of some items: the one of this number, and those behind it
-got_left : {X : Type 0} (xs : List X) (i : ℕ) (x : X) → slice_get xs i ≡ Some x → drop i xs ≡ x ∷ drop (suc i) xs
-got_left [] i x e = absurd cc
-got_left (y ∷ xs) zero x e = let same : y ≡ x = cc in ap (λ (z : _). z ∷ xs) same
-got_left (y ∷ xs) (suc i) x e = got_left xs i x e
-
-left_at : {X : Type 0} (xs : List X) (i : ℕ) (x : X) → slice_get xs i ≡ Some x → drop i xs ≡ x ∷ drop (i + 1) xs
-left_at xs i x e = rw add-one (got_left xs i x e)
 
 some_first : {X : Type 0} (xs : List X) (i : ℕ) → i < length xs → (x : X) × (drop i xs ≡ x ∷ drop (suc i) xs)
 some_first [] i within = absurd (omega arith)
@@ -37,7 +28,7 @@ next_found : {T R : Type 0} (has : MethodInfo → T → Type 0) (refuses : Metho
 next_found has refuses methods d left all found t None e here so_far = absurd here
 next_found has refuses methods d left all found t (Some m) e here so_far =
     let one : length (found ++ t ∷ []) ≡ length found + 1 = length_push found t in
-    let begins : drop (length found) methods ≡ m ∷ drop (length found + 1) methods = left_at methods (length found) m e in
+    let begins : drop (length found) methods ≡ m ∷ drop (length found + 1) methods = drop_got methods (length found) m e in
     record {
       whole = λ rest h. rw append_assoc (so_far.whole (t ∷ rest) (rw begins (here, rw one at h)));
       refused = λ rule place h. so_far.refused rule place (rw begins (inr (t, here, rw one at h)));
@@ -48,7 +39,7 @@ next_refused : {T R : Type 0} (has : MethodInfo → T → Type 0) (refuses : Met
     → slice_get methods (length found) ≡ o → IsRefusedAt refuses o d.file d.place rule place → AreFoundSoFar has refuses methods (d ∷ left) all found → IsFirstRefused has refuses rule all methods place
 next_refused has refuses methods d left all found rule place None got refused so_far = absurd refused.0
 next_refused has refuses methods d left all found rule place (Some m) got refused so_far =
-    let begins : drop (length found) methods ≡ m ∷ drop (length found + 1) methods = left_at methods (length found) m got in
+    let begins : drop (length found) methods ≡ m ∷ drop (length found + 1) methods = drop_got methods (length found) m got in
     so_far.refused rule place (rw begins (inl refused))
 
 pub method_next : {T R : Type 0} (has : MethodInfo → T → Type 0) (refuses : MethodInfo → R → ℕ → Type 0) (methods : List MethodInfo) (file : ℕ) (pool : List Constant) (i : ℕ) (ms : List Member) (left all : List Declared) (found : List T) (t : T)

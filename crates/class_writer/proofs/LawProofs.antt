@@ -1,10 +1,10 @@
 -- Reading and writing undo each other.
 use Rattle.std.proofs.Common.{◌≡◌, ◌⊎◌, inl, inr, ℕ, List, Result, Ok, Err, refl, sym, ap, ◌∙◌}
-use Rattle.jvm_types.{specs.{ClassGrammar.Spells, declared.class_file.ClassFile.ClassFile}, proofs.{ClassLawProofs.{spelled_if_read, read_if_spelled}, CountLaws.classes_fit}}
+use Rattle.jvm_types.{specs.{ClassGrammar.Spells, declared.class_file.ClassFile.ClassFile}, proofs.{ClassLawProofs.spelled_if_read, ClassReads.read_again, CountLaws.classes_fit}}
 use Rattle.class_writer.specs.{Laws.{ReadsWhatWasWritten, WritesWhatWasRead}, Writing.Answers, declared.error.WriteError.{WriteError, TheVariants.{Memory, TooLarge, NoSpelling}}}
 
 pub reads_back : ReadsWhatWasWritten
-reads_back bytes c spells = read_if_spelled bytes c spells
+reads_back bytes c spells = read_again bytes c spells
 
 writes_spelled : (bytes : List ℕ) (c : ClassFile) (answer : Result (List ℕ) WriteError) → Spells bytes c → Answers c answer → (answer ≡ Ok bytes) ⊎ (answer ≡ Err Memory)
 writes_spelled bytes c (Ok written) is spells = inl (ap (λ (x : List ℕ). Ok x) (spells.spelled ∙ sym is.spelled))

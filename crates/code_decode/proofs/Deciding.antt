@@ -2,7 +2,7 @@
 use Rattle.std.proofs.Common.{◌≡◌, ℕ, suc, ◌+◌, ◌<◌, ◌≤◌, ◌^◌, ℤ, Bool, true, false, List, [], ◌∷◌, length, map, Some, None, Result, Ok, Err, refl, sym, ap, subst, arith, slice_index_or, nat_lt, nat_abs, IfOk, IfErr, ◌==◌, ◌||◌}
 use Rattle.std.{specs.List.AllByRecursion, proofs.lemmas.Bool.Decides.nat_tests}
 use Rattle.jvm_types.specs.{CodeFault.{Outline, outlines, all_at, branch_fault, row_fits, handler_fault, or_else, code_fault}, CodeGrammar.IsCode, ReadCode.insns_of}
-use Rattle.jvm_types.{specs.declared.{class_file.Handler.Handler, code.Insn.Insn, refusal.KRule.{KRule, TheVariants.K5}}, proofs.{CodeExact.read_is_code, CodeLaws.faultless, CodeOnce.once}}
+use Rattle.jvm_types.{specs.declared.{class_file.Handler.Handler, code.Insn.Insn, refusal.KRule.{KRule, TheVariants.K5}}, proofs.{CodeExact.read_is_code, CodeLaws.{faultless, size_holds}, CodeOnce.once}}
 use Rattle.code_decode.specs.{Decoding.{outline, AreMarkedAt, branch_starts}, Marking.{all_marked, unmarked_branch, marked_row, unmarked_row, IsCodeDecoded, IsWantOfMemory}}
 use Rattle.code_decode.specs.declared.{error.CodeError.{CodeError, TheVariants.{Memory, Refused}}, sweep.Branching.Branching}
 
@@ -25,19 +25,16 @@ pcs_same : (bs : List Branching) → map (λ (r : Outline). r.pc) (map outline b
 pcs_same [] = refl
 pcs_same (b ∷ bs) = ap (λ ns. b.pc ∷ ns) (pcs_same bs)
 
-sized : (n : ℕ) → 0 < n → n ≤ 65535 → (n == 0 || nat_lt 65535 n) ≡ false
-sized n h k = grind (arith, nat_tests)
-
 pub no_size : (code : List ℕ) (rows : List Handler) → (length code == 0 || nat_lt 65535 (length code)) ≡ true → code_fault code rows ≡ Some (K5, 0)
 no_size code rows e = rw e refl
 
 pub read_fault : (code : List ℕ) (rows : List Handler) (rule : KRule) (at : ℕ) → 0 < length code → length code ≤ 65535 → outlines 0 0 code ≡ Err (rule, at) → code_fault code rows ≡ Some (rule, at)
-read_fault code rows rule at some few e = rw (sized (length code) some few) (rw e refl)
+read_fault code rows rule at some few e = rw (size_holds (length code) some few) (rw e refl)
 
 pub by_marks : (code : List ℕ) (rows : List Handler) (marks : List Bool) (bs : List Branching) → 0 < length code → length code ≤ 65535 → outlines 0 0 code ≡ Ok (map outline bs) → AreMarkedAt marks (branch_starts bs)
     → code_fault code rows ≡ or_else (unmarked_branch marks bs) (unmarked_row marks (length code) 0 rows)
 by_marks code rows marks bs some few e m =
-    rw (sized (length code) some few) (rw e (rw (pcs_same bs) (rw (branch_same marks (branch_starts bs) bs m) (rw (rows_same marks (branch_starts bs) (length code) 0 rows m) refl))))
+    rw (size_holds (length code) some few) (rw e (rw (pcs_same bs) (rw (branch_same marks (branch_starts bs) bs m) (rw (rows_same marks (branch_starts bs) (length code) 0 rows m) refl))))
 
 pub are_bytes : (bytes : List ℕ) → ((i : ℕ) → slice_index_or bytes i 0 < 2 ^ 8) → AllByRecursion (λ b. b < 2 ^ 8) bytes
 are_bytes [] h = tt

@@ -112,7 +112,3 @@ rests_behind p m j pc other target f g nodes c t s h same =
 
 pub same_first : (f g : TypeFrame) (locals others : List VType) → length f.locals ≡ length g.locals → filled (length f.locals) locals ≡ f.locals → filled (length g.locals) others ≡ g.locals → all_pairs same_type locals others ≡ true → f.locals ≡ g.locals
 same_first f g locals others long a b e = sym a ∙ ap (λ ts. filled (length f.locals) ts) (same_lists locals others e) ∙ ap (λ n. filled n others) long ∙ b
-
-pub unwaiting : (waits : Bool) → true ≡ not waits → waits ≡ false
-unwaiting true e = absurd (cc)
-unwaiting false e = refl

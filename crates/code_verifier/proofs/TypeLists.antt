@@ -1,6 +1,7 @@
 -- Lists of types, place by place and from their other end.
 use Rattle.std.proofs.Common.{◌≡◌, ℕ, zero, suc, Bool, true, false, not, List, [], ◌∷◌, ◌++◌, take, drop, Some, refl, ap, ◌||◌, ◌&&◌, if◌then◌else◌, slice_get, slice_set}
 use Rattle.jvm_types.specs.{Types.{same_type, meet, all_pairs, meets}, Verifying.initialised, declared.typing.VType.{VType, TheVariants.Ref}}
+use Rattle.checked_program.proofs.FilledTags.{change_more}
 
 pub initialise_more : (object : VType) (class : ℕ) (ts : List VType) (i : ℕ) (t : VType) → slice_get ts i ≡ Some t
     → take (suc i) (slice_set ts i (if same_type object t then Ref class else t)) ++ initialised object class (drop (suc i) (slice_set ts i (if same_type object t then Ref class else t)))
@@ -19,11 +20,6 @@ meets_more (x ∷ xs) (y ∷ ys) zero t u e f =
     let other : y ≡ u = cc in
     rw (same, other) refl
 meets_more (x ∷ xs) (y ∷ ys) (suc i) t u e f = ap (λ l. x ∷ l) (meets_more xs ys i t u e f)
-
-change_more : (changed a b : Bool) → ((changed || not a) || not b) ≡ (changed || not (a && b))
-change_more true a b = refl
-change_more false true b = refl
-change_more false false b = refl
 
 pub changes_more : (changed : Bool) (ts us : List VType) (i : ℕ) (t u : VType) → slice_get ts i ≡ Some t → slice_get us i ≡ Some u
     → ((changed || not (same_type t (meet t u))) || not (all_pairs same_type (drop (suc i) (slice_set ts i (meet t u))) (meets (drop (suc i) (slice_set ts i (meet t u))) (drop (suc i) us))))

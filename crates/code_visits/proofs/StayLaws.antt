@@ -1,17 +1,13 @@
 -- Nodes that stay as they are where an edge brings a frame.
-use Rattle.std.proofs.Common.{◌≡◌, ℕ, zero, suc, Bool, true, false, not, List, [], ◌∷◌, Some, refl, sym, ap, ◌∙◌, ◌||◌, slice_set}
+use Rattle.std.proofs.{Common.{◌≡◌, ℕ, zero, suc, Bool, true, false, not, List, [], ◌∷◌, Some, refl, sym, ap, ◌∙◌, ◌||◌, slice_set}, Math.Bool.or-false}
 use Rattle.checked_program.specs.Visits.{Meeting, PlanNode, joined}
 use Rattle.code_visits.specs.{Level.IsLawfulMeeting, Waiting.plan_node_at}
-
-pub or_none : (b : Bool) → (b || false) ≡ b
-or_none true = refl
-or_none false = refl
 
 node_stays : {A : Type 0} (d : Meeting A) (width : A → ℕ) (node : PlanNode A) (g f : A) → IsLawfulMeeting d width → Some g ≡ node.frame → d.meet g f ≡ g → joined d node.waits node.frame f ≡ node
 node_stays d width node g f law e s =
     let same : d.same g (d.meet g f) ≡ true = ap (λ h. d.same g h) s ∙ law.same g in
     ap (λ o. joined d node.waits o f) (sym e)
-    ∙ (λ i. record { frame = (ap Some s ∙ e) i; waits = (ap (λ b. node.waits || not b) same ∙ or_none node.waits) i })
+    ∙ (λ i. record { frame = (ap Some s ∙ e) i; waits = (ap (λ b. node.waits || not b) same ∙ or-false node.waits) i })
 
 set_there : {A : Type 0} (nodes : List (PlanNode A)) (i : ℕ) (node : PlanNode A) → node ≡ plan_node_at nodes i → slice_set nodes i node ≡ nodes
 set_there [] i node e = refl

@@ -1,7 +1,8 @@
 -- The order of frames of types in which a meeting goes up, of frames of any number of locals; and what is kept of the nodes of
 -- verification.
-use Rattle.std.proofs.Common.{◌≡◌, ◌≢◌, ℕ, Bool, true, false, not, ◌&&◌, ◌||◌, List, [], ◌∷◌, length, Some, Ok, refl, sym, ap, ◌∙◌, ◌++◌}
+use Rattle.std.proofs.{Common.{◌≡◌, ◌≢◌, ℕ, Bool, true, false, not, ◌&&◌, ◌||◌, List, [], ◌∷◌, length, Some, Ok, refl, sym, ap, ◌∙◌, ◌++◌}, Math.Bool.or-not_self}
 use Rattle.jvm_types.specs.{Types.{TypeFrame, is_below, meet, meets, meet_frames}, Verifying.IsLaidOut, declared.{program.{MethodInfo.MethodInfo, Program.Program}, typing.VType.VType, refusal.VRule.VRule}}
+use Rattle.jvm_types.proofs.FrameOrder.{ready_trans, ready_left, ready_right}
 use Rattle.code_table.specs.PcTables.{Ascend}
 use Rattle.laws_programs.proofs.{LocalRisen.same_frames, Orders.{types_ordered, meet_is_least}}
 use Rattle.checked_program.specs.Visits.{Act, PlanNode, acted}
@@ -43,31 +44,12 @@ list_right [] us = tt
 list_right (t ∷ ts) [] = tt
 list_right (t ∷ ts) (u ∷ us) = (meet_is_least.second t u, list_right ts us)
 
-ready_own : (a : Bool) → (a || not a) ≡ true
-ready_own true = refl
-ready_own false = refl
-
-ready_trans : (a b c : Bool) → (a || not b) ≡ true → (b || not c) ≡ true → (a || not c) ≡ true
-ready_trans true b c h k = refl
-ready_trans false true c h k = absurd (cc)
-ready_trans false false c h k = k
-
-ready_left : (a b : Bool) → (a || not (a && b)) ≡ true
-ready_left true b = refl
-ready_left false b = refl
-
-ready_right : (a b : Bool) → (b || not (a && b)) ≡ true
-ready_right true true = refl
-ready_right true false = refl
-ready_right false true = refl
-ready_right false false = refl
-
 as_deep_as : (g f : TypeFrame) → type_meeting.clashes g f ≡ false → length (meets g.stack f.stack) ≡ length f.stack
 as_deep_as g f e = meets_length g.stack f.stack (as_deep (length g.stack) (length f.stack) e)
 
 pub type_order : Orders type_meeting IsTypedBelow
 type_order = record {
-  self = λ f. record { deep = refl; stack = list_self f.stack; locals = list_self f.locals; ready = ready_own f.ready };
+  self = λ f. record { deep = refl; stack = list_self f.stack; locals = list_self f.locals; ready = or-not_self f.ready };
   trans = λ f g h a b. record {
     deep = a.deep ∙ b.deep;
     stack = list_trans f.stack g.stack h.stack a.stack b.stack;

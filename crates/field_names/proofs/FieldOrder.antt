@@ -2,13 +2,8 @@
 use Rattle.std.{proofs.{Common.{◌≡◌, ℕ, ◌+◌, List, [], ◌∷◌, ◌++◌, cond, map, refl, sym, subst, ◌∙◌}, lemmas.List.map-append}, specs.List.AllZip}
 use Rattle.jvm_types.specs.{ClassNames.text_at, Layout.{class_word_count, fields_from, fields_of}, Members.{Declared, declared_by, declared_from, is_static, name_of}}
 use Rattle.jvm_types.specs.declared.{class_file.{ClassFile.ClassFile, Constant.Constant, Member.{Member as ClassMember}}, program.{FieldInfo.FieldInfo, Program.Program}}
+use Rattle.jvm_types.proofs.ScopeLaws.{zip_append}
 use Rattle.field_names.specs.FieldNames.{all_field_names, IsDeclaredBy, NameFields, NamesAreInOrder}
-
-zip_append : (xs us : List Declared) (ys vs : List FieldInfo) → AllZip IsDeclaredBy xs ys → AllZip IsDeclaredBy us vs → AllZip IsDeclaredBy (xs ++ us) (ys ++ vs)
-zip_append [] us [] vs h k = k
-zip_append [] us (y ∷ ys) vs h k = absurd h
-zip_append (x ∷ xs) us [] vs h k = absurd h
-zip_append (x ∷ xs) us (y ∷ ys) vs h k = (h.0, zip_append xs us ys vs h.1 k)
 
 of_class : (names : List (List ℕ)) (file : ℕ) (pool : List Constant) (number place word : ℕ) (ms : List ClassMember) → AllZip IsDeclaredBy (declared_from file pool number ms) (fields_of names file pool place word ms)
 of_class names file pool number place word [] = tt
@@ -16,7 +11,7 @@ of_class names file pool number place word (m ∷ ms) = (record { class = refl; 
 
 of_classes : (names : List (List ℕ)) (file word : ℕ) (cs : List ClassFile) → AllZip IsDeclaredBy (declared_by (λ c. c.fields) file cs) (fields_from names file word cs)
 of_classes names file word [] = tt
-of_classes names file word (c ∷ cs) = zip_append (declared_from file c.constants 0 c.fields) (declared_by (λ c. c.fields) (file + 1) cs) _ _
+of_classes names file word (c ∷ cs) = zip_append IsDeclaredBy (declared_from file c.constants 0 c.fields) (declared_by (λ c. c.fields) (file + 1) cs) _ _
     (of_class names file c.constants 0 0 (word + 2) c.fields) (of_classes names (file + 1) (word + class_word_count c) cs)
 
 named_in : (file number : ℕ) (pool : List Constant) (ms : List ClassMember) → map (λ m. text_at pool m.name) ms ≡ map name_of (declared_from file pool number ms)

@@ -1,6 +1,6 @@
 -- The names of the files so far.
 use Rattle.std.{proofs.Common.{◌≡◌, ◌<◌, ◌≤◌, ℕ, zero, suc, ◌+◌, List, [], ◌∷◌, ◌++◌, length, drop, refl, sym, ap, subst, ◌∙◌, append_assoc, arith, slice_index_or}, specs.List.AllZip}
-use Rattle.std.proofs.lemmas.List.{append-nil}
+use Rattle.std.proofs.lemmas.List.{append-nil, drop_all}
 use Rattle.jvm_types.specs.{ClassGrammar.Spells, declared.class_file.ClassFile.ClassFile}
 use Rattle.field_names.specs.FieldNames.{field_names_in, all_field_names}
 
@@ -23,14 +23,8 @@ one_more files names more i file h e add so classes all = let left = so classes 
     by_rest [] a is = absurd a
     by_rest (c ∷ cs) a is = (cs, a.1, ap (λ (ns : List (List ℕ)). ns ++ all_field_names cs) (add c a.0) ∙ append_assoc names (field_names_in c) (all_field_names cs) ∙ is)
 
-drop_over : (xs : List (List ℕ)) (i : ℕ) → length xs ≤ i → drop i xs ≡ []
-drop_over [] zero h = refl
-drop_over [] (suc i) h = refl
-drop_over (x ∷ xs) zero h = absurd (omega (arith, h))
-drop_over (x ∷ xs) (suc i) h = drop_over xs i (omega (arith, h))
-
 pub all_named : (files names : List (List ℕ)) (i : ℕ) → length files ≤ i → AreNamed files i names → (classes : List ClassFile) → AllZip Spells files classes → names ≡ all_field_names classes
-all_named files names i h so classes all = let left = so classes all in by_rest left.0 (subst (λ (fs : List (List ℕ)). AllZip Spells fs left.0) (drop_over files i h) left.1) left.2
+all_named files names i h so classes all = let left = so classes all in by_rest left.0 (subst (λ (fs : List (List ℕ)). AllZip Spells fs left.0) (drop_all i files h) left.1) left.2
   where
     by_rest : (rest : List ClassFile) → AllZip Spells [] rest → names ++ all_field_names rest ≡ all_field_names classes → names ≡ all_field_names classes
     by_rest [] a is = sym (append-nil names) ∙ is

@@ -5,25 +5,11 @@ use Rattle.lists.proofs.{ListLaws.same_some, TestLaws.both_are_true}
 use Rattle.jvm_types.specs.{ClassNames.file_class, Members.is_static, ProgramInvariant.{IsProgram, instances_among, statics_among, words_of}, declared.class_numbers.TheConstants.CLASS_ITSELF}
 use Rattle.jvm_types.{specs.declared.{fixed_words.TheConstants.{FIRST_READY_WORD, MONITOR_RECORDS, FIRST_CLASS_WORD}, program.{FieldInfo.FieldInfo, Program.Program}}, proofs.EachAfter.sum_first}
 use Rattle.laws_programs.proofs.FieldOrder.{before_at, statics_inside, statics_apart}
-use Rattle.checked_program.specs.CodeIndex.{statics_below}
+use Rattle.checked_program.{specs.CodeIndex.statics_below, proofs.FewStatics.{one_static, one_below, one_at_most}}
 use Rattle.machine_types.specs.{Ints.word_of, ObjectsApart.{IsBeside, IsOutside}, PlainMemory.{Object, StaticValue, object_end, objects_from, class_objects, start_objects, start_statics}}
 use Rattle.machine_types.{specs.{ReadyObjects.ready_classes, StartLaws.{StartLiesApart, StartIsUnused}, StartWords.{object_words, statics_of, class_words, classes_of}}, proofs.Lists.every}
 
 -- ---- how many static fields there are, and how many of the classes below one
-
-abbrev pub one_static : FieldInfo → ℕ
-one_static f = cond (is_static f.flags) 1 0
-
-abbrev pub one_below : (class : ℕ) → FieldInfo → ℕ
-one_below class f = cond (nat_lt f.class class && is_static f.flags) 1 0
-
-one_at_most : (class : ℕ) (f : FieldInfo) → one_below class f ≤ one_static f
-one_at_most class f = by_tests (nat_lt f.class class) (is_static f.flags)
-  where
-    by_tests : (a b : Bool) → cond (a && b) 1 0 ≤ cond b 1 0
-    by_tests true b = omega arith
-    by_tests false true = omega arith
-    by_tests false false = omega arith
 
 not_below : (class n : ℕ) → class ≤ n → nat_lt n class ≡ false
 not_below class n h = grind (arith, nat_tests, h)

@@ -4,10 +4,10 @@ use Rattle.std.{specs.List.{range_with_len, sum_by}, proofs.lemmas.{Bool.{cases_
 use Rattle.lists.proofs.ListLaws.{same_some}
 use Rattle.jvm_types.specs.{ClassNames.file_class, Members.is_static, ProgramInvariant.{IsProgram, words_of}, declared.class_numbers.TheConstants.INT_ARRAY_CLASS}
 use Rattle.jvm_types.{specs.declared.{fixed_words.TheConstants.{FIRST_CLASS_WORD, FIRST_READY_WORD, MONITOR_RECORDS}, program.{FieldInfo.FieldInfo, Program.Program}}, proofs.EachAfter.sum_first}
-use Rattle.checked_program.specs.CodeIndex.{statics_below}
+use Rattle.checked_program.{specs.CodeIndex.statics_below, proofs.FewStatics.{one_static, one_below}}
 use Rattle.machine_types.specs.{Ints.word_of, PlainMemory.{Object, header_of, start_objects}, ReadyObjects.ready_classes, StartWords.{object_words, statics_of, class_words, classes_of, start_words}}
 use Rattle.machine_types.{specs.Words.{header, header_word}, proofs.Lists.{every, got_below}}
-use Rattle.machine_types.proofs.PlacesAtStart.{one_static, one_below, none_of, all_of, none_below, one_class_more, rises, before_at_least, class_from, class_to, earlier_class, static_word, ready_objects, ready_placed, Stands, is_ready, is_class, stands, front}
+use Rattle.machine_types.proofs.PlacesAtStart.{none_of, all_of, none_below, one_class_more, rises, before_at_least, class_from, class_to, earlier_class, static_word, ready_objects, ready_placed, Stands, is_ready, is_class, stands, front}
 
 -- ---- lists of words
 

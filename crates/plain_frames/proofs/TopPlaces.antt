@@ -2,28 +2,14 @@
 use Rattle.std.proofs.Common.{◌≡◌, ℕ, zero, suc, ◌+◌, ◌≤◌, ◌<◌, length, Bool, true, false, List, [], ◌∷◌, drop, Option, Some, None, refl, sym, ap, ◌∙◌, arith, slice_get, option_map, ◌==◌, if◌then◌else◌}
 use Rattle.std.proofs.lemmas.{List.{drop_more, drop_all}, Option.{slice_get_within, get_or_from_slice_get}}
 use Rattle.jvm_types.specs.declared.{code.Insn.Insn, program.{MethodInfo.MethodInfo, Program.Program, Target.Target}}
+use Rattle.jvm_types.proofs.EachAfter.{item_at, no_item, next_item, drop_got}
 use Rattle.code_table.specs.PcTables.{number_at}
 use Rattle.checked_program.specs.CodeIndex.{number_in}
 use Rattle.machine_types.specs.{Frames.{at_pc, top_at, top_in, top_of}, Threads.Frame}
 
 -- ---- the item at a pc, by the number of the instruction there
 
-item_at : {A : Type 0} → List A → Option ℕ → Option A
-item_at xs None = None
-item_at xs (Some i) = slice_get xs i
-
-no_item : {A : Type 0} (n : Option ℕ) → item_at {A = A} [] n ≡ None
-unfolding item_at
-no_item None = refl
-no_item (Some i) = refl
-
-next_item : {A : Type 0} (x : A) (xs : List A) (n : Option ℕ) → item_at xs n ≡ item_at (x ∷ xs) (option_map suc n)
-unfolding item_at
-next_item x xs None = refl
-next_item x xs (Some i) = refl
-
 at_pc_is : {A : Type 0} (code : List Insn) (xs : List A) (pc : ℕ) → at_pc code xs pc ≡ item_at xs (number_at code pc)
-unfolding item_at
 at_pc_is [] xs pc = refl
 at_pc_is (insn ∷ insns) [] pc = sym (no_item (number_at (insn ∷ insns) pc))
 at_pc_is (insn ∷ insns) (x ∷ xs) pc = by_test (insn.pc == pc) (at_pc_is insns xs pc ∙ next_item x xs (number_at insns pc))
@@ -36,9 +22,6 @@ at_number : {A : Type 0} (code : List Insn) (xs : List A) (pc : ℕ) (n : Option
 at_number code xs pc n e = at_pc_is code xs pc ∙ ap (item_at xs) e
 
 -- ---- the frame at a place
-
-pub drop_got : {A : Type 0} (xs : List A) (i : ℕ) (x : A) → slice_get xs i ≡ Some x → drop i xs ≡ x ∷ drop (i + 1) xs
-drop_got xs i x e = drop_more xs i x (slice_get_within xs i x e) ∙ ap (λ y. y ∷ drop (i + 1) xs) (get_or_from_slice_get xs i x x e)
 
 none_left : {A : Type 0} (xs : List A) (i : ℕ) → slice_get xs i ≡ None → drop i xs ≡ []
 none_left [] zero e = refl
@@ -66,14 +49,12 @@ numbered : (p : Program) (f : Frame) (m : MethodInfo) (n : Option ℕ) → slice
 numbered p f m n is e = rw is at e
 
 pub no_number : (p : Program) (fs : List Frame) (down : ℕ) (f : Frame) (m : MethodInfo) → slice_get fs down ≡ Some f → slice_get p.methods f.method ≡ Some m → number_in (slice_get p.methods f.method) f.pc ≡ None → None ≡ top_of p (drop down fs)
-unfolding item_at
 no_number p fs down f m e is n =
     let none = numbered p f m None is n in
     by_places p fs down f m None None e is (at_number m.code m.code f.pc None none) (at_number m.code m.targets f.pc None none)
 
 by_items : (p : Program) (fs : List Frame) (down : ℕ) (f : Frame) (m : MethodInfo) (n : ℕ) (i : Option Insn) (t : Option Target) → slice_get fs down ≡ Some f → slice_get p.methods f.method ≡ Some m
     → number_in (slice_get p.methods f.method) f.pc ≡ Some n → slice_get m.code n ≡ i → slice_get m.targets n ≡ t → top_at f (drop (down + 1) fs) m i t ≡ top_of p (drop down fs)
-unfolding item_at
 by_items p fs down f m n i t e is at a b =
     let some = numbered p f m (Some n) is at in
     by_places p fs down f m i t e is (at_number m.code m.code f.pc (Some n) some ∙ a) (at_number m.code m.targets f.pc (Some n) some ∙ b)
@@ -94,8 +75,3 @@ pub placed : (p : Program) (fs : List Frame) (down : ℕ) (f : Frame) (m : Metho
     → number_in (slice_get p.methods f.method) f.pc ≡ Some n → slice_get m.code n ≡ Some insn → slice_get m.targets n ≡ Some target
     → Some (record { frame = f; below = drop (down + 1) fs; method = m; insn = insn; target = target }) ≡ top_of p (drop down fs)
 placed p fs down f m n insn target e is at a b = by_items p fs down f m n (Some insn) (Some target) e is at a b
-
-pub there_is : {A : Type 0} (xs : List A) (i : ℕ) → i < length xs → slice_get xs i ≡ None → ⊥
-there_is [] i l e = absurd (omega (arith, l))
-there_is (x ∷ xs) zero l e = cc
-there_is (x ∷ xs) (suc i) l e = there_is xs i (omega (arith, l)) e

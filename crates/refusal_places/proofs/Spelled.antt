@@ -9,9 +9,3 @@ as_many [] [] all = refl
 as_many [] (c ∷ found) all = absurd all
 as_many (b ∷ contents) [] all = absurd all
 as_many (b ∷ contents) (c ∷ found) all = ap suc (as_many contents found all.1)
-
-pub all_dropped : (contents : List (List ℕ)) (i : ℕ) → length contents ≤ i → drop i contents ≡ []
-all_dropped [] zero l = refl
-all_dropped [] (suc i) l = refl
-all_dropped (b ∷ contents) zero l = absurd (omega (arith, l))
-all_dropped (b ∷ contents) (suc i) l = all_dropped contents i (omega (arith, l))

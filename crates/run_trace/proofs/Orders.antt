@@ -1,14 +1,7 @@
 -- The next number of an order: a live worker has its turn, and any other is passed over.
 use Rattle.std.proofs.Common.{◌≡◌, ◌<◌, ◌≤◌, ℕ, zero, suc, ◌+◌, Bool, true, false, List, [], ◌∷◌, length, refl, ap, ◌∙◌, arith, drop, nat_lt, slice_index_or, if◌then◌else◌}
-use Rattle.std.proofs.lemmas.List.{drop_more}
+use Rattle.std.proofs.lemmas.{Bool.and_parts, List.drop_more}
 use Rattle.machine_types.specs.{Core.{Core, Of, lives}, Schedules.{Ordered, is_live_worker, ordered, turn_of}}
-use Rattle.laws_states.proofs.OrdersRun.{second_of}
-
-pub drop_over : (xs : List ℕ) (i : ℕ) → length xs ≤ i → drop i xs ≡ []
-drop_over [] zero h = refl
-drop_over [] (suc i) h = refl
-drop_over (x ∷ xs) zero h = absurd (omega (arith, h))
-drop_over (x ∷ xs) (suc i) h = drop_over xs i (omega (arith, h))
 
 module _ (s : Core) (order : List ℕ) (place t : ℕ) (there : place < length order) (is : slice_index_or order place 0 ≡ t) where
   here : drop place order ≡ t ∷ drop (place + 1) order
@@ -21,4 +14,4 @@ module _ (s : Core) (order : List ℕ) (place t : ℕ) (there : place < length o
   has_no_turn dead = ap (ordered s) here ∙ ap (λ (b : Bool). if b then turn_of (Of t) (Ordered (drop (place + 1) order)) else ordered s (drop (place + 1) order)) dead
 
 pub worker_lives : (s : Core) (t : ℕ) → is_live_worker s t ≡ true → lives s t ≡ true
-worker_lives s t e = second_of (nat_lt 0 t) (lives s t) e
+worker_lives s t e = (and_parts (nat_lt 0 t) (lives s t) e).1

@@ -3,13 +3,11 @@ use Rattle.std.{proofs.{Common.{◌≡◌, ℕ, zero, suc, ◌+◌, ◌==◌, na
 use Rattle.std.proofs.lemmas.Bool.Decides.{nat_tests}
 use Rattle.std.proofs.lemmas.Grind.{flat_map-append}
 use Rattle.std.proofs.lemmas.List.Elements.{filter-append}
+use Rattle.checked_program.proofs.FilledTags.{some_fewer}
 use Rattle.run_trace.specs.{Lines.{TraceLine, is_shown, lines_shown, lines_text, put_text, shown_behind, shown_text, standings_due, with_line}, declared.events.Part.Part}
 
 abbrev no_lines : List TraceLine
 no_lines = []
-
-is_more : (n : ℕ) → nat_lt 0 (suc n) ≡ true
-is_more n = grind (arith, nat_tests)
 
 is_not_first : (n : ℕ) → (suc n == 0) ≡ false
 is_not_first n = grind (arith, nat_tests)
@@ -29,7 +27,7 @@ take_none (suc n) = refl
 
 take_on : (n : ℕ) (xs : List TraceLine) (x : TraceLine) → take n (xs ++ x ∷ []) ≡ take n xs ++ (if nat_lt (length (take n xs)) n then x ∷ [] else [])
 take_on zero xs x = refl
-take_on (suc n) [] x = ap (λ (xs : List TraceLine). x ∷ xs) (take_none n) ∙ ap (λ (b : Bool). if b then x ∷ no_lines else no_lines) (sym (is_more n))
+take_on (suc n) [] x = ap (λ (xs : List TraceLine). x ∷ xs) (take_none n) ∙ ap (λ (b : Bool). if b then x ∷ no_lines else no_lines) (sym (some_fewer n))
 take_on (suc n) (y ∷ ys) x = ap (λ (xs : List TraceLine). y ∷ xs) (take_on n ys x) ∙ ap (λ (b : Bool). (y ∷ take n ys) ++ (if b then x ∷ no_lines else no_lines)) (both_more (length (take n ys)) n)
 
 pub with_more : (o : Option TraceLine) (xs ys : List TraceLine) → with_line o (xs ++ ys) ≡ with_line o xs ++ ys

@@ -1,5 +1,6 @@
 use Rattle.std.{proofs.Common.{sym, ap, ◌∙◌}, specs.Option.option_copied}
-use Rattle.plain_frames.proofs.TopPlaces.{no_frame, no_method, no_number, no_insn, no_target, placed, drop_got}
+use Rattle.jvm_types.proofs.EachAfter.{drop_got}
+use Rattle.plain_frames.proofs.TopPlaces.{no_frame, no_method, no_number, no_insn, no_target, placed}
 use Rattle.plain_frames.proofs.at.at_place.Goals as goal
 
 pub returns-in_err-frame : goal.returns-in_err-frame

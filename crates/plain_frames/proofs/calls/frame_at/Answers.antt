@@ -1,5 +1,5 @@
 use Rattle.std.{proofs.Common.{sym, ap, ◌∙◌}, specs.Option.option_copied}
-use Rattle.plain_frames.proofs.TopPlaces.{drop_got, there_is}
+use Rattle.jvm_types.proofs.EachAfter.{drop_got, there_is}
 use Rattle.plain_frames.proofs.calls.frame_at.Goals as goal
 
 pub returns : goal.returns
