@@ -1,21 +1,13 @@
 -- The roots of a part are methods of the program.
-use Rattle.std.proofs.Common.{◌≡◌, ◌<◌, ℕ, zero, suc, ◌+◌, Bool, true, false, List, [], ◌∷◌, ◌++◌, length, refl, subst, arith, ◌==◌, ◌||◌, IfSome, IsTrue, slice_get, if◌then◌else◌, codes}
-use Rattle.std.{specs.List.AllByRecursion, proofs.lemmas.Bool.{eqb-true, Decides.nat_tests}}
+use Rattle.std.proofs.Common.{◌≡◌, ◌<◌, ℕ, zero, suc, ◌+◌, Bool, true, false, List, [], ◌∷◌, ◌++◌, length, arith, IfSome, IsTrue, slice_get, if◌then◌else◌, codes}
+use Rattle.std.specs.List.{AllByRecursion}
 use Rattle.lists.proofs.ListLaws.{all_weaker}
-use Rattle.jvm_types.specs.{Members.is_class_init_name, Numbers.has_number, declared.program.{MethodInfo.MethodInfo, Program.Program}}
+use Rattle.jvm_types.{specs.{Members.is_class_init_name, Numbers.has_number, declared.program.{MethodInfo.MethodInfo, Program.Program}}, proofs.TypeOrder.picked}
 use Rattle.machine_types.specs.{Bounds.{FramesFit, part_roots}, Parts.{numbers_of, is_entry_named, init_roots}, Threads.Frame, declared.phase.Phase.TheVariants.Start}
 
 all_of : (P : ℕ → Type 0) (xs ys : List ℕ) → AllByRecursion P xs → AllByRecursion P ys → AllByRecursion P (xs ++ ys)
 all_of P [] ys a b = b
 all_of P (x ∷ xs) ys a b = (a.0, all_of P xs ys a.1 b)
-
-first_or_later : (P : ℕ → Type 0) (x : ℕ) (xs : List ℕ) (y : ℕ) (t : Bool) → (x == y) ≡ t → P x → (has_number xs y ≡ true → P y) → (t || has_number xs y) ≡ true → P y
-first_or_later P x xs y true t first later e = subst P (eqb-true x y t) first
-first_or_later P x xs y false t first later e = later e
-
-picked : (P : ℕ → Type 0) (xs : List ℕ) (y : ℕ) → AllByRecursion P xs → has_number xs y ≡ true → P y
-picked P [] y all e = absurd (cc)
-picked P (x ∷ xs) y all e = first_or_later P x xs y (x == y) refl all.0 (picked P xs y all.1) e
 
 numbers_within : (test : MethodInfo → Bool) (n : ℕ) (ms : List MethodInfo) → AllByRecursion (λ k. k < n + length ms) (numbers_of test n ms)
 numbers_within test n [] = tt

@@ -2,9 +2,9 @@
 use Rattle.std.proofs.Common.{◌≡◌, ◌≢◌, ℕ, zero, suc, ◌+◌, ◌≤◌, Bool, true, false, List, [], ◌∷◌, length, drop, Option, Some, None, refl, sym, ◌∙◌, subst, arith, if◌then◌else◌, slice_set, slice_index_or}
 use Rattle.lists.proofs.TestLaws.{both_are_true}
 use Rattle.jvm_types.specs.{Types.{TypeFrame, is_below, same_type, all_pairs}, Verifying.{initialised, after_start}, declared.typing.VType.VType}
+use Rattle.laws_programs.proofs.LocalRisen.{same_types}
 use Rattle.checked_program.specs.MarkedProgram.{MarkedProgram}
 use Rattle.machine_types.specs.{Construction.{IsNoStored, IsArraySlot, SlotsFrom}, OwnedPlaces.Stores, ReadyObjects.out_object, Threads.Frame}
-use Rattle.laws_objects.proofs.Slots.{same_is}
 use Rattle.jvm_types.specs.declared.typing.VType.TheVariants as types
 
 -- ---- slots one by one; where there is none its type says nothing, and its value is null
@@ -101,7 +101,7 @@ no_stored_along stores = record { rises = λ k t u v b h. rises t u v b h; begin
     begins class o t v i n h = by_test (same_type o t) refl
       where
         by_test : (b : Bool) → same_type o t ≡ b → IsNoStored stores (if b then types.Ref class else t) v
-        by_test true e = let same = same_is o t e in as_reference class t v (λ z. i (same ∙ z)) (λ z. n (same ∙ z)) h
+        by_test true e = let same = same_types o t e in as_reference class t v (λ z. i (same ∙ z)) (λ z. n (same ∙ z)) h
         by_test false e = h
 
 pub array_along : (c : MarkedProgram) (stores : Stores) (f : Frame) (number : ℕ) → AlongTypes (IsArraySlot c stores f number)

@@ -1,10 +1,10 @@
 -- What slots are along moves, starts and edges.
 use Rattle.std.proofs.Common.{◌≡◌, ◌≢◌, ℕ, zero, suc, ◌⊎◌, inl, inr, Bool, true, false, List, [], ◌∷◌, ◌++◌, length, map, drop, Option, Some, None, refl, sym, ap, ◌∙◌, subst, arith, ◌==◌, if◌then◌else◌, slice_set, slice_index_or}
 use Rattle.std.{specs.List.AllByRecursion, proofs.lemmas.Bool.Decides.nat_tests}
-use Rattle.lists.proofs.TestLaws.{both_are_true, both_true}
+use Rattle.lists.proofs.TestLaws.{both_are_true}
 use Rattle.jvm_types.specs.{CodeTable.{value_of, stack_after, locals_after}, Types.{is_below, same_type, all_pairs}, Verifying.initialised, declared.op_row.Given.Given}
 use Rattle.jvm_types.specs.declared.{op_row.{Given.TheVariants.{Fresh as Anew, Taken, Local}, OpRow.OpRow}, typing.VType.VType}
-use Rattle.laws_programs.proofs.LocalRisen.{same_lists}
+use Rattle.laws_programs.proofs.LocalRisen.{same_types}
 use Rattle.checked_program.specs.{FrozenPlaces.KeepThis, LockTags.{same_tag, without, IsTagBelow, AreTagsBelow}, declared.tag.Tag.{Tag, TheVariants.{Untagged, This, At}}}
 use Rattle.machine_types.specs.Construction.{if_so, SlotByType, OwnSlot, SlotIs, SlotsAre, StackWith}
 use Rattle.laws_objects.proofs.NoThis.{other_above}
@@ -82,9 +82,6 @@ module _ (R : VType → Tag → ℕ → Type 0) (top : R types.Top Untagged 0) w
     pub local_moves : (w : Option (ℕ × Given)) → IsWriteMade R made w → SlotsAre R (locals_after types.Top (λ t. t) w st lt) (locals_after Untagged (λ t. Untagged) w sg lg) (locals_after 0 (λ t. made) w sv lv)
     local_moves None h = l
     local_moves (Some x) h = slots_set lt lg lv x.0 (value_of types.Top (λ t. t) st lt x.1) (value_of Untagged (λ t. Untagged) sg lg x.1) (value_of 0 (λ t. made) sv lv x.1) (given x.1 h) l
-
-pub same_is : (o t : VType) → same_type o t ≡ true → o ≡ t
-same_is o t e = let both = same_lists (o ∷ []) (t ∷ []) (both_true (same_type o t) true e refl) in cc
 
 -- ---- slots with no `this` go by their type, which is not `this`
 
@@ -183,7 +180,7 @@ module _ (Old : ℕ → Type 0) (null : Old 0) (Fresh : ℕ → ℕ → Type 0) 
   type_started o class t v fine h = by_test (same_type o t) refl
     where
       by_test : (b : Bool) → same_type o t ≡ b → SlotByType Old Fresh young (if b then types.Ref class else t) v
-      by_test true e = fine v (subst (λ (x : VType). SlotByType Old Fresh young x v) (sym (same_is o t e)) h)
+      by_test true e = fine v (subst (λ (x : VType). SlotByType Old Fresh young x v) (sym (same_types o t e)) h)
       by_test false e = h
 
   own_started : (o : VType) (class : ℕ) (t : VType) (g : Tag) (v : ℕ) → ((o ≡ types.This) ⊎ StartFine o) → OwnSlot Old Fresh young receiver t g v → OwnSlot Old Fresh young receiver (if same_type o t then types.Ref class else t) g v
@@ -193,8 +190,8 @@ module _ (Old : ℕ → Type 0) (null : Old 0) (Fresh : ℕ → ℕ → Type 0) 
   ]
     where
       start : (b : Bool) → same_type o t ≡ b → g ≢ This → (t ≢ types.This) × SlotByType Old Fresh young t v → (o ≡ types.This) ⊎ StartFine o → OwnSlot Old Fresh young receiver (if b then types.Ref class else t) g v
-      start true e n p (inl is) = absurd (p.0 (sym (same_is o t e) ∙ is))
-      start true e n p (inr f) = plain_slot Old Fresh young receiver (types.Ref class) g v n (λ x. cc) (f v (subst (λ (x : VType). SlotByType Old Fresh young x v) (sym (same_is o t e)) p.1))
+      start true e n p (inl is) = absurd (p.0 (sym (same_types o t e) ∙ is))
+      start true e n p (inr f) = plain_slot Old Fresh young receiver (types.Ref class) g v n (λ x. cc) (f v (subst (λ (x : VType). SlotByType Old Fresh young x v) (sym (same_types o t e)) p.1))
       start false e n p f = plain_slot Old Fresh young receiver t g v n p.0 p.1
 
   abbrev pub StartOk : Bool → VType → Type 0

@@ -3,19 +3,13 @@ use Rattle.std.proofs.Common.{◌≡◌, ◌≢◌, ◌⊎◌, inl, inr, ℕ, ze
 use Rattle.std.{specs.Option.option_or, proofs.lemmas.{Bool.Decides.nat_tests, List.length-replicate}}
 use Rattle.lists.proofs.ListLaws.{same_some}
 use Rattle.jvm_types.specs.{ProgramInvariant.instances_among, declared.{class_numbers.TheConstants.INT_ARRAY_CLASS, fixed_words.TheConstants.{FIRST_READY_WORD, OBJECT_HEAD_WORDS}}}
-use Rattle.jvm_types.specs.declared.program.Program.{Program}
+use Rattle.jvm_types.{specs.declared.program.Program.Program, proofs.EachAfter.last_got}
 use Rattle.machine_types.specs.ObjectsApart.{IsBeside, IsOutside, LieApart}
 use Rattle.machine_types.specs.{PlainMemory.{Object, StaticValue, header_of, first_value, object_end, has_value, value_in, object_value, static_value, new_object}, Words.header_word}
 use Rattle.laws_threads.proofs.MonitorMoves.{contains_got}
 use Rattle.laws_states.proofs.Lists.{contained_got}
 
 -- ---- a list with one more behind
-
-pub last_got : {X : Type 0} (xs : List X) (y : X) (i : ℕ) (x : X) → slice_get (xs ++ y ∷ []) i ≡ Some x → (slice_get xs i ≡ Some x) ⊎ ((i ≡ length xs) × (x ≡ y))
-last_got [] y zero x e = inr (refl, sym (same_some e))
-last_got [] y (suc i) x e = absurd (cc)
-last_got (z ∷ xs) y zero x e = inl e
-last_got (z ∷ xs) y (suc i) x e = elim (last_got xs y i x e) [ inl g ↦ inl g | inr k ↦ inr (ap suc k.0, k.1) ]
 
 pub got_before : {X : Type 0} (xs : List X) (y : X) (i : ℕ) (x : X) → slice_get xs i ≡ Some x → slice_get (xs ++ y ∷ []) i ≡ Some x
 got_before [] y i x e = absurd (cc)

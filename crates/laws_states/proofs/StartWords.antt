@@ -1,13 +1,13 @@
 -- The words at the start of a run: each lock is free, no record has an owner or a thread that waits, and all are small.
 use Rattle.std.proofs.Common.{◌≡◌, ◌⊎◌, inl, inr, ℕ, zero, suc, ◌+◌, ◌-◌, ◌*◌, ◌<◌, ◌≤◌, ◌^◌, nat_lt, true, List, [], ◌∷◌, ◌++◌, length, Some, refl, sym, ap, subst, ◌∙◌, length-append, append_assoc, arith, flat_map, map, replicate, slice_get, slice_index}
-use Rattle.std.{specs.List.{AllByRecursion, list_all}, proofs.lemmas.{Bool.Decides.nat_tests, List.{length-map, length-replicate}}}
+use Rattle.std.{specs.List.{AllByRecursion, list_all}, proofs.lemmas.{Bool.Decides.nat_tests, List.length-map}}
 use Rattle.lists.proofs.{ListLaws.same_some, TestLaws.both_are_true}
 use Rattle.jvm_types.specs.ProgramInvariant.{IsProgram, words_of}
 use Rattle.jvm_types.specs.declared.{fixed_words.TheConstants.{FIRST_CLASS_WORD, FIRST_READY_WORD, MONITOR_RECORDS, NEXT_FREE_WORD, NEXT_TICKET_WORD, NEXT_RECORD_WORD}, program.FieldInfo.FieldInfo}
 use Rattle.jvm_types.specs.declared.program.Program.{Program}
 use Rattle.machine_types.specs.{Ints.word_of, PlainMemory.{Object, objects_from, class_objects, start_objects}, ReadyObjects.ready_classes}
 use Rattle.machine_types.{specs.{StartWords.{object_words, statics_of, class_words, classes_of, start_words}, Words.{owner_word, bits_word}}, proofs.PlacesAtStart.in_replicated}
-use Rattle.machine_types.proofs.WordsAtStart.{behind, in_front}
+use Rattle.machine_types.proofs.WordsAtStart.{behind, in_front, length_records}
 use Rattle.laws_states.{specs.SharedWords.{IsLock, LocksFit, RecordsFit}, proofs.{LeftStands.word_is_lock, Lists.contained_got}}
 use Rattle.machine_types.specs.declared.lock.LockWord.TheVariants as locks
 
@@ -54,9 +54,6 @@ unused_part p = replicate (p.heap - words_of p) 0
 
 abbrev all_parts : Program → (records : ℕ) → List ℕ
 all_parts p records = records_part p records ++ ready_part ++ class_part p ++ unused_part p
-
-length_records : (p : Program) (records : ℕ) → length (records_part p records) ≡ 4 + records
-length_records p records = omega (arith, length-replicate {A = ℕ} records 0)
 
 from_classes : (p : Program) (records : ℕ) → all_parts p records ≡ (records_part p records ++ ready_part) ++ (class_part p ++ unused_part p)
 from_classes p records = append_assoc (records_part p records ++ ready_part) (class_part p) (unused_part p)

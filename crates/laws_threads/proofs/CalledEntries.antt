@@ -2,14 +2,14 @@
 use Rattle.std.proofs.Common.{◌≡◌, ℕ, zero, suc, ◌-◌, ◌<◌, ◌≤◌, ◌⊎◌, inl, inr, Bool, true, false, List, [], ◌∷◌, ◌++◌, length, Some, ap, sym, subst, ◌∙◌, arith, slice_get, map, reverse, take, replicate, if◌then◌else◌}
 use Rattle.std.{specs.List.AllZip, proofs.lemmas.List.{reverse-append, length-append}}
 use Rattle.jvm_types.specs.{CodeTable.{want_of, type_of, arguments, is_init}, Members.is_static, Types.{TypeFrame, filled, receiver_types}, declared.op_row.{OpRow.OpRow, Want.Want}}
-use Rattle.jvm_types.{specs.declared.{program.{Kind.Kind, MethodInfo.MethodInfo}, typing.{Typing.Typing, VType.{VType, TheVariants.{Ref, This, Top}}}}, proofs.TypeOrder.subclass_self}
+use Rattle.jvm_types.{specs.declared.{program.{Kind.Kind, MethodInfo.MethodInfo}, typing.{Typing.Typing, VType.{VType, TheVariants.{Ref, This, Top}}}}, proofs.{ScopeLaws.zip_append, TypeOrder.subclass_self}}
 use Rattle.laws_programs.proofs.ClassTreeLaws.{files_alone}
 use Rattle.checked_program.specs.{CheckedLaws.receiver_want, LockTags.entry_tags, MarkedProgram.{MarkedProgram, IsMarked, checked_part}, Tagging.IsTaggingOf, declared.tag.Tags.Tags}
 use Rattle.checked_program.proofs.CheckedPlaces.{checked_sound}
 use Rattle.laws_sections.proofs.HiddenThis.{long_arguments}
 use Rattle.machine_types.specs.{Frames.entry_frame, Typed.{Classes, Holds, FrameHolds}}
 use Rattle.laws_threads.{specs.Allowed.{WantHolds, TakenHold}, proofs.{Calls.{CallRow, HasReceiver, deepest_first}, Landing.{tags_at, land}}}
-use Rattle.laws_threads.proofs.{Lists.{zip_has, map_at, zip_length, zip_append, zip_reverse, reverse_map}, Values.ValuesHold}
+use Rattle.laws_threads.proofs.{Lists.{zip_has, map_at, zip_length, zip_reverse, reverse_map}, Values.ValuesHold}
 use Rattle.jvm_types.specs.Types as types
 use Rattle.jvm_types.specs.declared.program.Kind.TheVariants as kinds
 

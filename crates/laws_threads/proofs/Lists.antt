@@ -2,6 +2,7 @@
 use Rattle.std.{proofs.Common.{◌≡◌, ℕ, zero, suc, List, [], ◌∷◌, ◌++◌, length, Some, refl, ap, sym, subst, ◌∙◌, slice_get, map, reverse}, specs.List.{AllZip, AllByRecursion}}
 use Rattle.std.proofs.lemmas.List.{reverse-append, map-append, reverse-reverse}
 use Rattle.lists.proofs.ListLaws.{same_some}
+use Rattle.jvm_types.proofs.ScopeLaws.{zip_append}
 
 -- ---- items
 
@@ -34,11 +35,6 @@ pub zip_length : {A B : Type 0} (R : A → B → Type 0) (xs : List A) (ys : Lis
 zip_length R [] [] f = refl
 zip_length R (x ∷ xs) (y ∷ ys) f = ap suc (zip_length R xs ys f.1)
 zip_length R xs ys f = absurd (assumption)
-
-pub zip_append : {A B : Type 0} (R : A → B → Type 0) (xs zs : List A) (ys ws : List B) → AllZip R xs ys → AllZip R zs ws → AllZip R (xs ++ zs) (ys ++ ws)
-zip_append R [] zs [] ws f g = g
-zip_append R (x ∷ xs) zs (y ∷ ys) ws f g = (f.0, zip_append R xs zs ys ws f.1 g)
-zip_append R xs zs ys ws f g = absurd (assumption)
 
 pub zip_reverse : {A B : Type 0} (R : A → B → Type 0) (xs : List A) (ys : List B) → AllZip R xs ys → AllZip R (reverse xs) (reverse ys)
 zip_reverse R [] [] f = f

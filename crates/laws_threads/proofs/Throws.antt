@@ -16,7 +16,7 @@ use Rattle.machine_types.specs.declared.phase.After.TheVariants as afters
 use Rattle.machine_types.specs.declared.phase.Phase.TheVariants as phases
 
 -- the row that catches has its handler among the catchers
-any_at : {A : Type 0} (test : A → Bool) (xs : List A) (i : ℕ) (x : A) → slice_get xs i ≡ Some x → test x ≡ true → list_any test xs ≡ true
+pub any_at : {A : Type 0} (test : A → Bool) (xs : List A) (i : ℕ) (x : A) → slice_get xs i ≡ Some x → test x ≡ true → list_any test xs ≡ true
 any_at test [] i x e t = absurd (cc)
 any_at test (y ∷ xs) zero x e t = first_true (test y) (list_any test xs) (subst (λ z. test z ≡ true) (sym (same_some e)) t)
 any_at test (y ∷ xs) (suc i) x e t = second_true (test y) (list_any test xs) (any_at test xs i x e t)

@@ -70,7 +70,7 @@ class_part p = flat_map (class_words p.fields) (classes_of p)
 abbrev unused_part : Program → List ℕ
 unused_part p = replicate (p.heap - words_of p) 0
 
-length_records : (p : Program) (records : ℕ) → length (records_part p records) ≡ 4 + records
+pub length_records : (p : Program) (records : ℕ) → length (records_part p records) ≡ 4 + records
 length_records p records = omega (arith, length-replicate {A = ℕ} records 0)
 
 length_before : (p : Program) (records : ℕ) → length (records_part p records ++ ready_part) ≡ 20 + records

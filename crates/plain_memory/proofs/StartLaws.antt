@@ -1,13 +1,10 @@
 -- Objects and static fields at the start.
 use Rattle.std.{proofs.Common.{◌≡◌, ℕ, suc, ◌+◌, ◌-◌, ◌<◌, List, [], ◌∷◌, ◌++◌, length, ap, ◌∙◌, append_assoc, arith}, specs.List.range_with_len}
 use Rattle.jvm_types.specs.declared.{class_numbers.TheConstants.CLASS_ITSELF, fixed_words.TheConstants.OBJECT_HEAD_WORDS, outcome.Thrown.Thrown, program.FieldInfo.FieldInfo}
-use Rattle.machine_types.{specs.{Ints.word_of, PlainMemory.{Object, StaticValue, class_objects}, ReadyObjects.{class_of, ready}, StartWords.statics_of}, proofs.ClassObjects.at_reference}
+use Rattle.machine_types.{specs.{PlainMemory.{Object, class_objects}, ReadyObjects.{class_of, ready}, StartWords.statics_of}, proofs.ClassObjects.at_reference}
 
 abbrev pub ready_object : Thrown → Object
 ready_object x = record { reference = ready x; class = class_of x; values = [] }
-
-abbrev pub start_static : FieldInfo → StaticValue
-start_static f = record { word = f.index; value = word_of f.start }
 
 range_step : (first i count : ℕ) → i < count → range_with_len (first + i) (count - i) ≡ (first + i) ∷ range_with_len (first + (i + 1)) (count - (i + 1))
 range_step first i count l =

@@ -24,7 +24,7 @@ and_false : (b : Bool) → b && false ≡ false
 and_false false = refl
 and_false true = refl
 
-got_same : {A : Type 0} (a b : A) → Some a ≡ Some b → a ≡ b
+pub got_same : {A : Type 0} (a b : A) → Some a ≡ Some b → a ≡ b
 got_same a b e = cc
 
 module _ {A : Type 0} where

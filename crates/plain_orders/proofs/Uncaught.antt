@@ -10,30 +10,19 @@ use Rattle.machine_types.specs.declared.{config.Config.Config, phase.Phase.Phase
 use Rattle.machine_types.specs.declared.phase.Phase.TheVariants as phases
 use Rattle.machine_types.specs.Onward as onward
 use Rattle.machine_types.specs.Onward.{Onward}
+use Rattle.laws_threads.proofs.Throws.{any_at}
 use Rattle.laws_states.specs.PartsStand.{FirstFits}
 use Rattle.laws_simulation.{specs.StandsBeside.{end_of_done, ends_shown, own_end}, proofs.Assembled.got_same_length}
 use Rattle.laws_refinement.specs.RunsStand.{RunStands, RunsStand}
 use Rattle.plain_orders.specs.{LocalSteps.{gone_alone, is_local, onward_alone, stays_live}, Orders.{all_steps, IsLocalRun}, UncaughtRuns.{UncaughtIsCovered, TellsUncaught, has_uncaught_end, is_by_uncaught}}
-use Rattle.plain_orders.proofs.{Covered.each_run_is_seen, OwnSteps.{live_onward, local_steps_are_own}, Runs.same_run, Swaps.{are_local, known, one_state}}
+use Rattle.plain_orders.proofs.{Beside.got_same, Covered.each_run_is_seen, OwnSteps.{live_onward, local_steps_are_own}, Runs.same_run, Swaps.{are_local, known, one_state}}
 
 -- ---- a test of some thread
 
-same_thing : {A : Type 0} (x y : A) → Some x ≡ Some y → x ≡ y
-same_thing x y e = cc
-
 any_kept : {A : Type 0} (f : A → Bool) (xs : List A) (t : ℕ) (x y : A) → slice_get xs t ≡ Some x → f y ≡ f x → list_any f (slice_set xs t y) ≡ list_any f xs
 any_kept f [] t x y e same = absurd (cc)
-any_kept f (z ∷ zs) zero x y e same = ap (λ (b : Bool). b || list_any f zs) (same ∙ ap f (same_thing x z (sym e)))
+any_kept f (z ∷ zs) zero x y e same = ap (λ (b : Bool). b || list_any f zs) (same ∙ ap f (got_same x z (sym e)))
 any_kept f (z ∷ zs) (suc t) x y e same = ap (λ (b : Bool). f z || b) (any_kept f zs t x y e same)
-
-or_true : (b : Bool) → (b || true) ≡ true
-or_true true = refl
-or_true false = refl
-
-any_there : {A : Type 0} (f : A → Bool) (xs : List A) (t : ℕ) (x : A) → slice_get xs t ≡ Some x → f x ≡ true → list_any f xs ≡ true
-any_there f [] t x e is = absurd (cc)
-any_there f (z ∷ zs) zero x e is = ap (λ (b : Bool). b || list_any f zs) (ap f (same_thing z x e) ∙ is)
-any_there f (z ∷ zs) (suc t) x e is = ap (λ (b : Bool). f z || b) (any_there f zs t x e is) ∙ or_true (f z)
 
 -- ---- local steps end no part
 
@@ -102,13 +91,13 @@ module _ (c : MarkedProgram) (cfg : Config) (hs : List Happening) (st : RunStand
   shown_at : (t : ℕ) (x : Thread) → slice_get s.threads t ≡ Some x → list_any is_by_uncaught (ends_shown c.program x.part x.phase) ≡ true → has_uncaught_end st.state ≡ true
   shown_at t x e is =
       let place = got_same_length s.threads st.state.threads t x st.beside.agrees.many e in
-      any_there (λ (y : PlainThread). list_any is_by_uncaught y.ended) st.state.threads t place.0 place.1
+      any_at (λ (y : PlainThread). list_any is_by_uncaught y.ended) st.state.threads t place.0 place.1
       (ap (list_any is_by_uncaught) (st.beside.ends t x place.0 e place.1) ∙ is)
 
   reported : (t : ℕ) (r : ThreadReport) (o : Option Thread) → slice_get s.threads t ≡ o → option_map report_of o ≡ Some r → is_by_uncaught r.end ≡ true → has_uncaught_end st.state ≡ true
   reported t r None e f is = absurd (cc)
   reported t r (Some x) e f is =
-      shown_at t x e (by_first c.program x.part x.phase x.first (first_fits t x e) (ap (λ (z : ThreadReport). is_by_uncaught z.end) (same_thing (report_of x) r f) ∙ is))
+      shown_at t x e (by_first c.program x.part x.phase x.first (first_fits t x e) (ap (λ (z : ThreadReport). is_by_uncaught z.end) (got_same (report_of x) r f) ∙ is))
 
   has_one : TellsUncaught (outcome s) → has_uncaught_end st.state ≡ true
   has_one (inl (t, r, e, is)) = reported t r (slice_get s.threads t) refl (sym (slice_get-map report_of s.threads t) ∙ e) is

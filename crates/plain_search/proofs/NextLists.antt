@@ -10,13 +10,11 @@ use Rattle.machine_types.specs.declared.plain.Act.{Act}
 use Rattle.machine_types.specs.declared.plain.Act.TheVariants as acts
 use Rattle.machine_types.specs.declared.plain.PlainStep.{PlainStep}
 use Rattle.history_rule.specs.Steps.{Played}
+use Rattle.plain_orders.proofs.Swaps.{one_state}
 use Rattle.plain_search.specs.declared.row.Row.{Row}
 use Rattle.plain_search.specs.Nexts.{LeadsLocallyBy, IsNextRow, HasNextBy, HasNexts}
 use Rattle.plain_search.specs.Rows.{IsLonger, IsStateIn, AreStatesIn}
 use Rattle.plain_search.proofs.RowLists.{still_in, last_in, within}
-
-same_state : (o : Option Plain) (a b : Plain) → o ≡ Some a → o ≡ Some b → a ≡ b
-same_state o a b e f = cc
 
 pub still_next : (P : Row → Type 0) (q : Played) (old new : List Row) (step : PlainStep) → IsLonger P old new → HasNextBy q old step → HasNextBy q new step
 still_next P q old new step g h y e = let z = h y e in (z.0, z.1, still_in P old new z.0 g z.2)
@@ -24,7 +22,7 @@ still_next P q old new step g h y e = let z = h y e in (z.0, z.1, still_in P old
 pub added_next : (q : Played) (old new : List Row) (r : Row) → IsNextRow q r → new ≡ old ++ r ∷ [] → HasNextBy q new r.step
 added_next q old new r v e y f =
     let b = v.behind in
-    (r.plain.state, subst (λ (u : Plain). LeadsLocallyBy q u r.plain.state) (same_state (plain_step q.program.program q.state r.step) b.0 y b.1 f) b.2, last_in old new r e)
+    (r.plain.state, subst (λ (u : Plain). LeadsLocallyBy q u r.plain.state) (one_state (plain_step q.program.program q.state r.step) b.0 y b.1 f) b.2, last_in old new r e)
 
 pub none_next : (q : Played) (rows : List Row) (step : PlainStep) → plain_step q.program.program q.state step ≡ None → HasNextBy q rows step
 none_next q rows step t y e = absurd (no y (sym t ∙ e))
