@@ -1,53 +1,31 @@
-use Rattle.std.proofs.Common.{ap, set, List}
+use Rattle.std.proofs.Common.{ap, List}
 use Rattle.machine_types.specs.Threads.{Frame}
-use Rattle.frames.proofs.CallLaws.{no_top, room_left, Rooted, root_frames, root_laid}
+use Rattle.machine_types.specs.Onward.{root_arguments}
+use Rattle.frames.proofs.CallLaws.{room_left, Pushed, pushed_root}
 use Rattle.frames.proofs.frame_stack.FrameStack.push_root.Goals as goal
 
 pub overflow_sub-at : goal.overflow_sub-at
-overflow_sub-at c =
-    let s = c.self.inside in
-    let left = rw (← c.self.view_is) at c.requires.room in
-    (room_left s.program.told (set s.heads.items s.start s.top) s.start s.slots.items s.free c.args.m.now c.self.invariant left).1
+overflow_sub-at c = (room_left c.self.inside c.self.invariant c.args.m.now (rw (← c.self.view_is) at c.requires.room)).1
 
 pub overflow_sub-self : goal.overflow_sub-self
-overflow_sub-self c =
-    let s = c.self.inside in
-    let left = rw (← c.self.view_is) at c.requires.room in
-    (room_left s.program.told (set s.heads.items s.start s.top) s.start s.slots.items s.free c.args.m.now c.self.invariant left).0
+overflow_sub-self c = (room_left c.self.inside c.self.invariant c.args.m.now (rw (← c.self.view_is) at c.requires.room)).0
+
+made : (c : goal.After-self-3-1) → Pushed c.self.inside c.args.number c.args.m.now (root_arguments c.args.t c.args.m.now) c.receiver_at-receiver.result c.lay_root.new.slots.items
+made c = record {
+  laid = c.self.invariant;
+  method_is = rw (← c.self.view_is) at c.requires.method;
+  fits = c.requires.fits;
+  left = rw (← c.self.view_is) at c.requires.room;
+  same = c.lay_root.ensures.length;
+  above = c.lay_root.ensures.above;
+  put = rw c.len.ensures at c.lay_root.ensures.laid;
+  object = rw (c.is_static.ensures, c.as_slice.ensures.value) at c.receiver_at-receiver.ensures;
+}
 
 pub invariant_of-self : goal.invariant_of-self
-invariant_of-self c =
-    let s = c.self.inside in
-    let p = s.program.told in
-    let same = no_top s.heads.items s.start s.top _ (rw (← c.self.view_is) at c.requires.none) in
-    let k : Rooted p s.heads.items s.start s.slots.items s.free c.args.t c.args.number c.args.m.now c.receiver_at-receiver.result c.lay_root.new.slots.items = record {
-      laid = rw same at c.self.invariant;
-      no_frames = rw (← c.self.view_is, same) at c.requires.none;
-      method_is = rw (← c.self.view_is) at c.requires.method;
-      fits = c.requires.fits;
-      left = rw (← c.self.view_is, same) at c.requires.room;
-      same = c.lay_root.ensures.length;
-      above = c.lay_root.ensures.above;
-      put = rw c.len.ensures at c.lay_root.ensures.laid;
-      object = rw (c.is_static.ensures, c.as_slice.ensures.value) at c.receiver_at-receiver.ensures;
-    } in
-    root_laid p s.heads.items s.start s.slots.items s.free c.args.t c.args.number c.args.m.now c.receiver_at-receiver.result c.lay_root.new.slots.items k
+invariant_of-self c = (pushed_root _ _ _ _ _ _ (made c) (rw (← c.self.view_is) at c.requires.none)).laid
 
 pub returns : goal.returns
 returns c =
-    let s = c.self.inside in
-    let p = s.program.told in
-    let same = no_top s.heads.items s.start s.top _ (rw (← c.self.view_is) at c.requires.none) in
-    let k : Rooted p s.heads.items s.start s.slots.items s.free c.args.t c.args.number c.args.m.now c.receiver_at-receiver.result c.lay_root.new.slots.items = record {
-      laid = rw same at c.self.invariant;
-      no_frames = rw (← c.self.view_is, same) at c.requires.none;
-      method_is = rw (← c.self.view_is) at c.requires.method;
-      fits = c.requires.fits;
-      left = rw (← c.self.view_is, same) at c.requires.room;
-      same = c.lay_root.ensures.length;
-      above = c.lay_root.ensures.above;
-      put = rw c.len.ensures at c.lay_root.ensures.laid;
-      object = rw (c.is_static.ensures, c.as_slice.ensures.value) at c.receiver_at-receiver.ensures;
-    } in
-    rw (← c.self.view_is) (ap (λ (fs : List Frame). record { program = p; frames = fs })
-    (root_frames p s.heads.items s.start s.slots.items s.free c.args.t c.args.number c.args.m.now c.receiver_at-receiver.result c.lay_root.new.slots.items k))
+    let p = pushed_root _ _ _ _ _ _ (made c) (rw (← c.self.view_is) at c.requires.none) in
+    rw (← c.self.view_is) (ap (λ (fs : List Frame). record { program = c.self.inside.program.told; frames = fs }) p.frames)
