@@ -1,16 +1,14 @@
 -- Handlers to which a frame need not go: an exception of another instruction, which rests, brought what it is below there.
-use Rattle.std.proofs.Common.{◌≡◌, ◌<◌, ◌≤◌, ◌+◌, ℕ, zero, suc, Bool, true, false, not, ◌&&◌, List, [], ◌∷◌, ◌++◌, drop, length, Option, Some, None, Ok, Err, Result, refl, sym, ap, ◌∙◌, subst, arith, if◌then◌else◌, add-one, slice_get, slice_index_or}
-use Rattle.std.{specs.{List.{AllByRecursion, filter}, Option.IfSome}, proofs.lemmas.List.{drop_more, drop_all}}
-use Rattle.jvm_types.specs.{CodeTable.{row, can_throw}, Verifying.{covers, covering}, declared.{code.Insn.Insn, op_row.OpRow.OpRow, program.{MethodInfo.MethodInfo, Program.Program, Row.Row, Target.Target}, refusal.SRule.SRule}}
+use Rattle.std.proofs.Common.{◌≡◌, ◌<◌, ◌+◌, ℕ, Bool, true, false, not, ◌&&◌, List, [], ◌∷◌, drop, length, Option, Some, None, Ok, Result, refl, sym, ap, ◌∙◌, subst, if◌then◌else◌, slice_get, slice_index_or}
+use Rattle.std.{specs.{List.{AllByRecursion, filter}, Option.IfSome}, proofs.lemmas.List.drop_more}
+use Rattle.jvm_types.specs.{CodeTable.{row, can_throw}, Verifying.{covers, covering}, declared.{code.Insn.Insn, program.{MethodInfo.MethodInfo, Program.Program, Row.Row, Target.Target}, refusal.SRule.SRule}}
 use Rattle.jvm_types.proofs.EachAfter.{all_weaker}
 use Rattle.code_table.specs.PcTables.{Ascend}
-use Rattle.checked_program.specs.{LockTags.{TagShape, IsShapeBelow, IsTagBelow, AreTagsBelow, same_tag, same_tags, meet_tags}, Tagging.{tag_meeting, tag_plan, tag_acts, acts_at, catches_all, until_all, catchers, tags_at_handler}, Visits.{Act, Break, Bring, PlanNode, acted}}
+use Rattle.checked_program.specs.{LockTags.{TagShape, IsShapeBelow, IsTagBelow, AreTagsBelow, same_tag, same_tags, meet_tags}, Tagging.{tag_meeting, tag_plan, tag_acts, acts_at, catches_all, until_all, catchers, tags_at_handler}, Visits.Act}
 use Rattle.checked_program.specs.declared.tag.Tag.{Tag, TheVariants.{Untagged, This, At}}
 use Rattle.laws_sections.proofs.{TagActs.{to_handler, acts_kept}, TagOrder.{tag_order, one_list, own_tag, own_tags}, VisitedNodes.{IsBelow, LandsOn, IsActFine, Sound}}
-use Rattle.code_visits.{specs.{Analyses.AreUnderVisit, Waiting.plan_node_at}, proofs.{ActLaws.{then_acted, leaves_first}, RestLaws.{Absorbs, rest_first, sound_on, taken_sound}}}
-use Rattle.code_visits.specs.{Analyses.Leaves, declared.stop.Stop.Stop}
+use Rattle.code_visits.{specs.{Analyses.AreUnderVisit, Waiting.plan_node_at}, proofs.{ActLaws.then_acted, RestLaws.{Absorbs, rest_first, sound_on, taken_sound}}}
 use Rattle.monitor_tags.specs.{TagVisits.{TagsKept, tags_meet}, Visiting.{Nodes, AreLong, DoRest, DoCatchersRest, does, goes_along, to_handlers, turn_acts}}
-use Rattle.code_visits.specs.declared.stop.Stop.TheVariants as stops
 
 -- ---- a frame that another is below stays where they meet
 
@@ -80,9 +78,8 @@ rest_done m f (row ∷ rows) acts nodes mid e h = ((sound_on tag_meeting IsShape
 
 pub catchers_rest_on : (m : MethodInfo) (kept : Option TagShape) (resting : Option ℕ) (acts : List (Act TagShape SRule)) (nodes mid : Nodes) → does m acts nodes ≡ Ok mid
     → IfSome kept (λ f. IfSome resting (λ at. DoCatchersRest m at f nodes)) → IfSome kept (λ f. IfSome resting (λ at. DoCatchersRest m at f mid))
-catchers_rest_on m None resting acts nodes mid e h = tt
-catchers_rest_on m (Some f) None acts nodes mid e h = tt
 catchers_rest_on m (Some f) (Some at) acts nodes mid e h = rest_done m f (until_all (covering m at)) acts nodes mid e h
+catchers_rest_on m kept resting acts nodes mid e h = tt
 
 while_done : (rests : Bool) (m : MethodInfo) (at : ℕ) (f : TagShape) (rows : List Row) (acts : List (Act TagShape SRule)) (nodes mid : Nodes) → does m acts nodes ≡ Ok mid → RestWhile rests m at f nodes rows → RestWhile rests m at f mid rows
 while_done false m at f rows acts nodes mid e h = tt
@@ -101,26 +98,9 @@ while_behind true m at f nodes row rows h = by_cover (covers at row) h
     by_cover false h = h
     by_cover true h = by_catch (catches_all row) h
 
--- and here
-while_here : (rests : Bool) (m : MethodInfo) (at : ℕ) (f : TagShape) (nodes : Nodes) (row : Row) (rows : List Row) → RestWhile rests m at f nodes (row ∷ rows) → (rests && covers at row) ≡ true → LandsOn tag_meeting IsShapeBelow tag_order m.code nodes f row.handler
-while_here false m at f nodes row rows h e = absurd (cc)
-while_here true m at f nodes row rows h e = by_cover (covers at row) h e
-  where
-    by_catch : (u : Bool) → DoRest m f nodes (if u then row ∷ [] else row ∷ until_all (filter (covers at) rows)) → LandsOn tag_meeting IsShapeBelow tag_order m.code nodes f row.handler
-    by_catch true h = h.0
-    by_catch false h = h.0
-
-    by_cover : (t : Bool) → DoRest m f nodes (until_all (if t then row ∷ filter (covers at) rows else filter (covers at) rows)) → t ≡ true → LandsOn tag_meeting IsShapeBelow tag_order m.code nodes f row.handler
-    by_cover false h e = absurd (cc)
-    by_cover true h e = by_catch (catches_all row) h
-
 -- a handler that rests
 pub rests_here : (m : MethodInfo) (f : TagShape) (to : ℕ) (nodes : Nodes) → Ascend 0 m.code → length nodes ≡ length m.code → LandsOn tag_meeting IsShapeBelow tag_order m.code nodes f to → does m (goes_along (to ∷ []) f ∷ []) nodes ≡ Ok nodes
 rests_here m f to nodes ascend long h = rest_first tag_meeting IsShapeBelow tag_order tags_absorb (λ f. 0) tags_meet m.code ascend nodes (goes_along (to ∷ []) f ∷ []) [] long ((h, tt), tt)
-
--- a row that covers no more than it did
-pub uncovered_turn : (m : MethodInfo) (pc : ℕ) (f : TagShape) (row : Row) (nodes : Nodes) → covers pc row ≡ false → does m (turn_acts pc f row) nodes ≡ Ok nodes
-uncovered_turn m pc f row nodes e = ap (λ (t : Bool). does m (if t then goes_along (row.handler ∷ []) f ∷ [] else []) nodes) e
 
 one_turn : (m : MethodInfo) (pc : ℕ) (f : TagShape) (row : Row) (rows : List Row) (nodes mid : Nodes) → does m (turn_acts pc f row) nodes ≡ Ok mid → (covers pc row && catches_all row) ≡ false
     → does m (to_handlers f (until_all (filter (covers pc) rows))) mid ≡ does m (to_handlers f (until_all (filter (covers pc) (row ∷ rows)))) nodes
@@ -139,37 +119,6 @@ one_turn m pc f row rows nodes mid e n = by_cover (covers pc row) e n
     by_cover : (t : Bool) → does m (if t then act else []) nodes ≡ Ok mid → (t && catches_all row) ≡ false → does m (to_handlers f more) mid ≡ does m (to_handlers f (until_all (if t then row ∷ filter (covers pc) rows else filter (covers pc) rows))) nodes
     by_cover false e n = let same : nodes ≡ mid = cc in ap (λ (ns : Nodes). does m (to_handlers f more) ns) (sym same)
     by_cover true e n = by_catch (catches_all row) e n
-
-last_turn : (m : MethodInfo) (pc : ℕ) (f : TagShape) (row : Row) (rows : List Row) (nodes mid : Nodes) → does m (turn_acts pc f row) nodes ≡ Ok mid → (covers pc row && catches_all row) ≡ true
-    → does m (to_handlers f (until_all (filter (covers pc) (row ∷ rows)))) nodes ≡ Ok mid
-last_turn m pc f row rows nodes mid e n = by_cover (covers pc row) e n
-  where
-    by_catch : (u : Bool) → does m (goes_along (row.handler ∷ []) f ∷ []) nodes ≡ Ok mid → u ≡ true → does m (to_handlers f (if u then row ∷ [] else row ∷ until_all (filter (covers pc) rows))) nodes ≡ Ok mid
-    by_catch true e n = e
-    by_catch false e n = absurd (cc)
-
-    by_cover : (t : Bool) → does m (if t then goes_along (row.handler ∷ []) f ∷ [] else []) nodes ≡ Ok mid → (t && catches_all row) ≡ true → does m (to_handlers f (until_all (if t then row ∷ filter (covers pc) rows else filter (covers pc) rows))) nodes ≡ Ok mid
-    by_cover false e n = absurd (cc)
-    by_cover true e n = by_catch (catches_all row) e n
-
-broken_turn : (m : MethodInfo) (pc : ℕ) (f : TagShape) (row : Row) (rows : List Row) (nodes mid last : Nodes) (e : Stop SRule) → Leaves {B = Bool} (does m (turn_acts pc f row) nodes) mid (Err e)
-    → Leaves {B = Unit {0}} (does m (to_handlers f (until_all (filter (covers pc) (row ∷ rows)))) nodes) last (Err e)
-broken_turn m pc f row rows nodes mid last e h = by_cover (covers pc row) h
-  where
-    act : List (Act TagShape SRule)
-    act = goes_along (row.handler ∷ []) f ∷ []
-
-    by_catch : (u : Bool) → Leaves {B = Bool} (does m act nodes) mid (Err e) → Leaves {B = Unit {0}} (does m (to_handlers f (if u then row ∷ [] else row ∷ until_all (filter (covers pc) rows))) nodes) last (Err e)
-    by_catch true h = leaves_first Bool (Unit {0}) tag_meeting m.code act [] nodes mid last e h
-    by_catch false h = leaves_first Bool (Unit {0}) tag_meeting m.code act (to_handlers f (until_all (filter (covers pc) rows))) nodes mid last e h
-
-    none_broken : (e : Stop SRule) → Leaves {B = Bool} {R = SRule} (Ok nodes) mid (Err e) → Leaves {B = Unit {0}} (does m (to_handlers f (until_all (filter (covers pc) rows))) nodes) last (Err e)
-    none_broken stops.Memory h = tt
-    none_broken (stops.Refused rule pc) h = absurd (cc)
-
-    by_cover : (t : Bool) → Leaves {B = Bool} (does m (if t then act else []) nodes) mid (Err e) → Leaves {B = Unit {0}} (does m (to_handlers f (until_all (if t then row ∷ filter (covers pc) rows else filter (covers pc) rows))) nodes) last (Err e)
-    by_cover false h = none_broken e h
-    by_cover true h = by_catch (catches_all row) h
 
 -- ---- the loop over the rows: what is left of them, from a number on
 
@@ -202,15 +151,6 @@ module _ (turn : RowTurn) (mid : Nodes) where
   here : IsTurn m pc at f rests nodes (item ∷ drop (i + 1) rows) whole
   here = subst (λ (l : List Row). IsTurn m pc at f rests nodes l whole) (drop_more rows i d inside) left
 
-  pub turn_rests : (b : Bool) → b ≡ (rests && covers at item) → b ≡ true → LandsOn tag_meeting IsShapeBelow tag_order m.code nodes f item.handler
-  turn_rests b e h = while_here rests m at f nodes item (drop (i + 1) rows) here.rest (sym e ∙ h)
-
-  pub turn_ends : does m (turn_acts pc f item) nodes ≡ Ok mid → (covers pc item && catches_all item) ≡ true → whole ≡ Ok mid
-  turn_ends e n = sym here.left ∙ last_turn m pc f item (drop (i + 1) rows) nodes mid e n
-
-  pub turn_broken : (last : Nodes) (e : Stop SRule) → Leaves {B = Bool} (does m (turn_acts pc f item) nodes) mid (Err e) → Leaves {B = Unit {0}} whole last (Err e)
-  turn_broken last e h = subst (λ w. Leaves {B = Unit {0}} w last (Err e)) here.left (broken_turn m pc f item (drop (i + 1) rows) nodes mid last e h)
-
   pub turn_on : (b : Bool) → b ≡ (rests && not ((rests && covers at item) && catches_all item)) → does m (turn_acts pc f item) nodes ≡ Ok mid → (covers pc item && catches_all item) ≡ false → AreLong m mid → IsTurn m pc at f b mid (drop (i + 1) rows) whole
   turn_on b q e n level = record {
     rest = subst (λ (x : Bool). RestWhile x m at f mid (drop (i + 1) rows)) (sym q)
@@ -218,9 +158,6 @@ module _ (turn : RowTurn) (mid : Nodes) where
     left = one_turn m pc f item (drop (i + 1) rows) nodes mid e n ∙ here.left;
     level = level;
   }
-
-pub turns_done : (m : MethodInfo) (pc at : ℕ) (f : TagShape) (rests : Bool) (nodes : Nodes) (rows : List Row) (i : ℕ) (whole : Result Nodes (SRule × ℕ)) → length rows ≤ i → IsTurn m pc at f rests nodes (drop i rows) whole → whole ≡ Ok nodes
-turns_done m pc at f rests nodes rows i whole h t = sym t.left ∙ ap (λ (l : List Row). does m (to_handlers f (until_all (filter (covers pc) l))) nodes) (drop_all i rows h)
 
 pub unwaiting : (waits : Bool) → true ≡ not waits → waits ≡ false
 unwaiting true e = absurd (cc)

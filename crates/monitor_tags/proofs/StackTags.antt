@@ -15,15 +15,15 @@ other_length (t ∷ ts) (u ∷ us) e = and_false (same_tag t u) (same_tags ts us
     and_false true b e = e
     and_false false b e = refl
 
+-- a stack from a place on
+pub opened_at : (ts : List Tag) (i : ℕ) (t : Tag) → slice_get ts i ≡ Some t → drop i ts ≡ t ∷ drop (suc i) ts
+opened_at [] i t e = absurd (cc)
+opened_at (x ∷ xs) zero t e = let same : x ≡ t = cc in ap (λ (y : Tag). y ∷ xs) same
+opened_at (x ∷ xs) (suc i) t e = opened_at xs i t e
+
 pub same_place : (ts us : List Tag) (i : ℕ) (t u : Tag) → slice_get ts i ≡ Some t → slice_get us i ≡ Some u
     → same_tags (drop i ts) (drop i us) ≡ (same_tag t u && same_tags (drop (suc i) ts) (drop (suc i) us))
-same_place [] us i t u e f = absurd (cc)
-same_place (x ∷ xs) [] i t u e f = absurd (cc)
-same_place (x ∷ xs) (y ∷ ys) zero t u e f =
-    let same : x ≡ t = cc in
-    let other : y ≡ u = cc in
-    rw (same, other) refl
-same_place (x ∷ xs) (y ∷ ys) (suc i) t u e f = same_place xs ys i t u e f
+same_place ts us i t u e f = rw (opened_at ts i t e, opened_at us i u f) refl
 
 -- ---- the places from the top on
 
@@ -36,12 +36,9 @@ place_more (suc n) (x ∷ xs) (suc i) t h e = place_more n xs i t (omega (arith,
 -- ---- where two of any heights meet
 
 pub meet_top : (n : ℕ) (ts us : List Tag) → n ≡ min (length ts) (length us) → meet_tags (take n ts) us ≡ meet_tags ts us
-meet_top zero [] us e = refl
-meet_top (suc n) [] us e = refl
-meet_top zero (t ∷ ts) [] e = refl
-meet_top (suc n) (t ∷ ts) [] e = refl
 meet_top zero (t ∷ ts) (u ∷ us) e = absurd (omega (arith, e))
 meet_top (suc n) (t ∷ ts) (u ∷ us) e = ap (λ l. (if same_tag t u then t else Untagged) ∷ l) (meet_top n ts us (omega (arith, e)))
+meet_top n ts us e = refl
 
 none_filled : (ts : List Tag) → filled_tags 0 ts ≡ ts
 none_filled ts = let none : 0 - length ts ≡ 0 = omega arith in ap (λ k. ts ++ replicate k Untagged) none ∙ no_more ts

@@ -1,19 +1,14 @@
 -- Frames that stay as they are where they meet others.
-use Rattle.std.proofs.Common.{◌≡◌, ℕ, zero, suc, ◌+◌, Bool, true, List, [], ◌∷◌, drop, Some, refl, sym, ap, ◌∙◌, add-one, ◌&&◌, if◌then◌else◌, slice_get}
+use Rattle.std.proofs.Common.{◌≡◌, ℕ, suc, ◌+◌, Bool, true, List, drop, Some, refl, sym, ap, ◌∙◌, add-one, ◌&&◌, if◌then◌else◌, slice_get}
 use Rattle.checked_program.specs.{LockTags.{TagShape, same_tag, same_tags, meet_tags}, Tagging.tag_meeting, declared.tag.Tag.{Tag, TheVariants.Untagged}}
 use Rattle.laws_sections.proofs.TagOrder.{one_list}
+use Rattle.monitor_tags.proofs.StackTags.{opened_at}
 
 -- ---- tags
 
 stay_more : (ts us : List Tag) (i : ℕ) (t u : Tag) → slice_get ts i ≡ Some t → slice_get us i ≡ Some u
     → same_tags (drop i ts) (meet_tags (drop i ts) (drop i us)) ≡ (same_tag t (if same_tag t u then t else Untagged) && same_tags (drop (suc i) ts) (meet_tags (drop (suc i) ts) (drop (suc i) us)))
-stay_more [] us i t u e f = absurd (cc)
-stay_more (x ∷ xs) [] i t u e f = absurd (cc)
-stay_more (x ∷ xs) (y ∷ ys) zero t u e f =
-    let same : x ≡ t = cc in
-    let other : y ≡ u = cc in
-    rw (same, other) refl
-stay_more (x ∷ xs) (y ∷ ys) (suc i) t u e f = stay_more xs ys i t u e f
+stay_more ts us i t u e f = rw (opened_at ts i t e, opened_at us i u f) refl
 
 pub stay_on : (ts us : List Tag) (i : ℕ) (t u : Tag) (whole : Bool) → slice_get ts i ≡ Some t → slice_get us i ≡ Some u → true ≡ same_tag t (if same_tag t u then t else Untagged)
     → same_tags (drop i ts) (meet_tags (drop i ts) (drop i us)) ≡ whole → same_tags (drop (i + 1) ts) (meet_tags (drop (i + 1) ts) (drop (i + 1) us)) ≡ whole

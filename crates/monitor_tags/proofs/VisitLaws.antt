@@ -1,5 +1,5 @@
 -- One visit, act by act.
-use Rattle.std.proofs.Common.{◌≡◌, ℕ, Bool, true, false, List, [], ◌∷◌, ◌++◌, Option, Some, None, Result, Ok, Err, refl, sym, ap, ◌∙◌, subst, slice_get}
+use Rattle.std.proofs.Common.{◌≡◌, ℕ, Bool, true, false, List, [], ◌∷◌, ◌++◌, Some, Result, Ok, Err, refl, sym, ap, ◌∙◌, subst, slice_get}
 use Rattle.jvm_types.specs.{CodeTable.row, Verifying.edges, declared.{code.Insn.Insn, op_row.OpRow.OpRow, program.{MethodInfo.MethodInfo, Program.Program, Target.Target}, refusal.SRule.SRule}}
 use Rattle.jvm_types.specs.declared.refusal.SRule.TheVariants.{S1, S2, S4}
 use Rattle.checked_program.specs.{LockTags.TagShape, Tagging.{tag_meeting, tag_plan, tag_acts, break_if, catchers, tags_after, tags_at_handler, enters_untagged, exits_other, leaves_held}}
@@ -47,21 +47,3 @@ pub leaves_at : (p : Program) (m : MethodInfo) (i : ℕ) (nodes mid : Nodes) (re
     → slice_get m.code i ≡ Some insn → slice_get m.targets i ≡ Some target → (plan_node_at nodes i).frame ≡ Some f → r ≡ row p m insn.pc target insn.op
     → Leaves (does m (tag_acts m insn r f) nodes) mid result → Leaves (does m (acts_on (tag_plan p m) i (plan_node_at nodes i).frame) nodes) mid result
 leaves_at p m i nodes mid result insn target f r a b d e h = rw (d, a, b, ← e) h
-
-pub unframed : (p : Program) (m : MethodInfo) (i : ℕ) (nodes : Nodes) → (plan_node_at nodes i).frame ≡ None → does m (acts_on (tag_plan p m) i (plan_node_at nodes i).frame) nodes ≡ Ok nodes
-unframed p m i nodes e = rw e refl
-
-pub no_insn : (p : Program) (m : MethodInfo) (i : ℕ) (nodes : Nodes) → slice_get m.code i ≡ None → does m (acts_on (tag_plan p m) i (plan_node_at nodes i).frame) nodes ≡ Ok nodes
-no_insn p m i nodes e = by_frame (plan_node_at nodes i).frame
-  where
-    by_frame : (o : Option TagShape) → does m (acts_on (tag_plan p m) i o) nodes ≡ Ok nodes
-    by_frame None = refl
-    by_frame (Some f) = rw e refl
-
-pub no_target : (p : Program) (m : MethodInfo) (i : ℕ) (nodes : Nodes) → slice_get m.targets i ≡ None → does m (acts_on (tag_plan p m) i (plan_node_at nodes i).frame) nodes ≡ Ok nodes
-no_target p m i nodes e = by_frame (plan_node_at nodes i).frame (slice_get m.code i) refl
-  where
-    by_frame : (o : Option TagShape) (insn : Option Insn) → slice_get m.code i ≡ insn → does m (acts_on (tag_plan p m) i o) nodes ≡ Ok nodes
-    by_frame None insn k = refl
-    by_frame (Some f) None k = rw k refl
-    by_frame (Some f) (Some insn) k = rw (k, e) refl
