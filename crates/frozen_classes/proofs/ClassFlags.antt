@@ -30,8 +30,7 @@ stays_noted flags (Some c) k e = by_test (nat_le (file_class 0) c) (nat_lt (c - 
     by_test true true h = ⊎_elim
         (λ (q : k ≡ c - file_class 0). subst (λ (j : ℕ). slice_index_or (slice_set flags (c - file_class 0) false) j false ≡ false) (sym q) (get_or-set_same flags (c - file_class 0) false false (ltb-true (c - file_class 0) (length flags) h)))
         (λ (q : k ≢ c - file_class 0). get_or-set_other flags (c - file_class 0) k false false q ∙ e) (cases_eq k (c - file_class 0))
-    by_test true false h = e
-    by_test false d h = e
+    by_test b d h = e
 
 noted_here : (flags : List Bool) (k : ℕ) → slice_index_or (class_noted flags (Some (file_class k))) k false ≡ false
 noted_here flags k = by_test (nat_le (file_class 0) (file_class k)) (nat_lt (file_class k - file_class 0) (length flags)) refl refl
@@ -52,8 +51,7 @@ noted_by flags (Some c) k e = by_test (nat_le (file_class 0) c) (nat_lt (c - fil
     by_test true true g x = ⊎_elim
         (λ (q : k ≡ c - file_class 0). let low : file_class 0 ≤ c = leb-true (file_class 0) c g in let same : c ≡ file_class k = omega (arith, q, low) in inr (ap Some same))
         (λ (q : k ≢ c - file_class 0). inl (sym (get_or-set_other flags (c - file_class 0) k false false q) ∙ x)) (cases_eq k (c - file_class 0))
-    by_test true false g x = inl x
-    by_test false d g x = inl x
+    by_test b d g x = inl x
 
 -- ---- the notes of the first methods
 
@@ -91,8 +89,7 @@ leak_parts p (Some m) (Some t) c e = by_test (is_init m) (keeps_all p m t.frames
   where
     by_test : (b d : Bool) → is_init m ≡ b → keeps_all p m t.frames ≡ d → (if b && not d then Some m.class else None) ≡ Some c → Leaks p (Some m) (Some t) c
     by_test true false g h x = record { m = m; t = t; is_m = refl; is_t = refl; class = same_Some m.class c x; init = g; keeps = h }
-    by_test true true g h x = absurd (cc)
-    by_test false d g h x = absurd (cc)
+    by_test b d g h x = absurd (cc)
 leak_parts p (Some m) None c e = absurd (cc)
 leak_parts p None ot c e = absurd (cc)
 
@@ -100,8 +97,7 @@ tags_there : (p : Program) (ms : List MethodInfo) (ts : List Tags) (mi : ℕ) (m
 tags_there p (n ∷ ms) (t ∷ ts) zero m a e = (t, refl)
 tags_there p (n ∷ ms) (t ∷ ts) (suc mi) m a e = tags_there p ms ts mi m a.1 e
 tags_there p [] [] mi m a e = absurd (cc)
-tags_there p [] (t ∷ ts) mi m a e = absurd a
-tags_there p (n ∷ ms) [] mi m a e = absurd a
+tags_there p ms ts mi m a e = absurd a
 
 frames_there : (tags : List Tags) (mi : ℕ) (t : Tags) → slice_get tags mi ≡ Some t → slice_get (tagged_by tags) mi ≡ Some t.frames
 frames_there tags mi t e = slice_get-map (λ (t : Tags). t.frames) tags mi ∙ ap (option_map (λ (t : Tags). t.frames)) e
@@ -109,55 +105,18 @@ frames_there tags mi t e = slice_get-map (λ (t : Tags). t.frames) tags mi ∙ a
 -- ---- all classes
 
 module _ (p : Program) (tags : List Tags) (is : IsProgram p) (tagged : AreTaggings p p.methods tags) where
-  stays_in : (k : ℕ) → slice_index_or (frozen_upto p tags (length p.methods)) k false ≡ true → IsFrozenClass p (tagged_by tags) (file_class k)
-  stays_in k e mi m at class init =
-      let has = tags_there p p.methods tags mi m tagged at in
-      by_test has.0 has.1 (keeps_all p m has.0.frames) refl
-    where
-      by_test : (t : Tags) → slice_get tags mi ≡ Some t → (b : Bool) → keeps_all p m t.frames ≡ b → KeepsInside p (tagged_by tags) mi m
-      by_test t there true h = is_inside p (tagged_by tags) mi m t.frames at (methods_laid_out p mi m is at) (frames_there tags mi t there) h
-      by_test t there false h =
-          let leaks : leak_of p (slice_get p.methods mi) (slice_get tags mi) ≡ Some (file_class k) = rw (at, there, init, h) (ap Some class) in
-          absurd (let bad : true ≡ false = sym e ∙ noted_in p tags (length p.methods) mi k (slice_get_within p.methods mi m at) leaks in cc)
-
-  lets_out : (k : ℕ) → k < length p.names → slice_index_or (frozen_upto p tags (length p.methods)) k false ≡ false → IsFrozenClass p (tagged_by tags) (file_class k) → ⊥
-  lets_out k low e frozen =
-      let some = some_noted p tags (length p.methods) k low e in
-      let leak = leak_parts p (slice_get p.methods some.0) (slice_get tags some.0) (file_class k) some.1 in
-      let all : keeps_all p leak.m leak.t.frames ≡ true = passes_all p (tagged_by tags) some.0 leak.m leak.t.frames leak.is_m (methods_laid_out p some.0 leak.m is leak.is_m) (frames_there tags some.0 leak.t leak.is_t) (frozen some.0 leak.m leak.is_m leak.class leak.init) in
-      let bad : true ≡ false = sym all ∙ leak.keeps in
-      cc
-
-  told : (k : ℕ) (b : Bool) → k < length p.names → slice_index_or (frozen_upto p tags (length p.methods)) k false ≡ b → TellsFrozen p (tagged_by tags) (file_class k) b
-  told k true low e = stays_in k e
-  told k false low e = lets_out k low e
-
-  are_frozen : AreFrozenClasses p (tagged_by tags) (frozen_upto p tags (length p.methods))
-  are_frozen = record {
-    long = upto_long p tags (length p.methods);
-    each = λ k b e. told k b (subst (λ (n : ℕ). k < n) (upto_long p tags (length p.methods)) (slice_get_within (frozen_upto p tags (length p.methods)) k b e)) (get_or_from_slice_get (frozen_upto p tags (length p.methods)) k b false e);
-  }
-
-  -- where the flags are told by an equation
-  pub frozen_shown : (flags : List Bool) (n : ℕ) → n ≡ length p.methods → flags ≡ frozen_upto p tags n → AreFrozenClasses p (tagged_by tags) flags
-  frozen_shown flags n e f = subst (λ (l : List Bool). AreFrozenClasses p (tagged_by tags) l) (sym (f ∙ ap (frozen_upto p tags) e)) are_frozen
-
--- ---- one class
-
-module _ (p : Program) (tags : List Tags) (is : IsProgram p) (tagged : AreTaggings p p.methods tags) (c u : ℕ) where
-  keeps_by : (m : MethodInfo) → slice_get p.methods u ≡ Some m → is_init m ≡ true → leak_of p (slice_get p.methods u) (slice_get tags u) ≡ None → KeepsInside p (tagged_by tags) u m
-  keeps_by m at init e =
+  -- a method keeps `this` inside if it is not told to let it out
+  kept_unless : (u : ℕ) (m : MethodInfo) → slice_get p.methods u ≡ Some m → is_init m ≡ true → (leak_of p (slice_get p.methods u) (slice_get tags u) ≡ Some m.class → ⊥) → KeepsInside p (tagged_by tags) u m
+  kept_unless u m at init none =
       let has = tags_there p p.methods tags u m tagged at in
       by_test has.0 has.1 (keeps_all p m has.0.frames) refl
     where
       by_test : (t : Tags) → slice_get tags u ≡ Some t → (b : Bool) → keeps_all p m t.frames ≡ b → KeepsInside p (tagged_by tags) u m
       by_test t there true h = is_inside p (tagged_by tags) u m t.frames at (methods_laid_out p u m is at) (frames_there tags u t there) h
-      by_test t there false h =
-          let leaks : leak_of p (slice_get p.methods u) (slice_get tags u) ≡ Some m.class = rw (at, there, init, h) refl in
-          absurd (let bad : None ≡ Some m.class = sym e ∙ leaks in cc)
+      by_test t there false h = absurd (none (rw (at, there, init, h) refl))
 
-  out_by : (class : ℕ) → leak_of p (slice_get p.methods u) (slice_get tags u) ≡ Some class → LetsOut p (tagged_by tags) class u
-  out_by class e =
+  out_by : (u class : ℕ) → leak_of p (slice_get p.methods u) (slice_get tags u) ≡ Some class → LetsOut p (tagged_by tags) class u
+  out_by u class e =
       let leak = leak_parts p (slice_get p.methods u) (slice_get tags u) class e in
       record {
         m = leak.m;
@@ -170,21 +129,33 @@ module _ (p : Program) (tags : List Tags) (is : IsProgram p) (tagged : AreTaggin
             cc;
       }
 
+  told : (k : ℕ) (b : Bool) → k < length p.names → slice_index_or (frozen_upto p tags (length p.methods)) k false ≡ b → TellsFrozen p (tagged_by tags) (file_class k) b
+  told k true low e = λ mi m at class init. kept_unless mi m at init (λ leaks.
+      let bad : true ≡ false = sym e ∙ noted_in p tags (length p.methods) mi k (slice_get_within p.methods mi m at) (leaks ∙ ap Some class) in
+      cc)
+  told k false low e = λ frozen.
+      let some = some_noted p tags (length p.methods) k low e in
+      let out = out_by some.0 (file_class k) some.1 in
+      out.lets_out (frozen some.0 out.m out.there out.class out.init)
+
+  are_frozen : AreFrozenClasses p (tagged_by tags) (frozen_upto p tags (length p.methods))
+  are_frozen = record {
+    long = upto_long p tags (length p.methods);
+    each = λ k b e. told k b (subst (λ (n : ℕ). k < n) (upto_long p tags (length p.methods)) (slice_get_within (frozen_upto p tags (length p.methods)) k b e)) (get_or_from_slice_get (frozen_upto p tags (length p.methods)) k b false e);
+  }
+
+  -- where the flags are told by an equation
+  pub frozen_shown : (flags : List Bool) (n : ℕ) → n ≡ length p.methods → flags ≡ frozen_upto p tags n → AreFrozenClasses p (tagged_by tags) flags
+  frozen_shown flags n e f = subst (λ (l : List Bool). AreFrozenClasses p (tagged_by tags) l) (sym (f ∙ ap (frozen_upto p tags) e)) are_frozen
+
   -- a method of the class is tested
-  pub told_out : (leak : Option ℕ) → is_method_of c (slice_get p.methods u) ≡ true → leak ≡ leak_of p (slice_get p.methods u) (slice_get tags u) → TellsOut p (tagged_by tags) c u (is_some leak)
-  told_out None same e = λ m at class init. keeps_by m at init (sym e)
-  told_out (Some class) same e =
-      let out = out_by class (sym e) in
+  pub told_out : (c u : ℕ) (leak : Option ℕ) → is_method_of c (slice_get p.methods u) ≡ true → leak ≡ leak_of p (slice_get p.methods u) (slice_get tags u) → TellsOut p (tagged_by tags) c u (is_some leak)
+  told_out c u None same e = λ m at class init. kept_unless u m at init (λ leaks. let bad : None ≡ Some m.class = e ∙ leaks in cc)
+  told_out c u (Some class) same e =
+      let out = out_by u class (sym e) in
       let test : (out.m.class == c) ≡ true = ap (is_method_of c) (sym out.there) ∙ same in
       let known : out.m.class ≡ c = grind (arith, nat_tests) in
       subst (λ (x : ℕ). LetsOut p (tagged_by tags) x u) (sym out.class ∙ known) out
-
-  -- and one of another class is none
-  pub told_not : is_method_of c (slice_get p.methods u) ≡ false → KeepsIfInit p (tagged_by tags) c u
-  told_not other m at class init = absurd (
-      let test : (m.class == c) ≡ false = ap (is_method_of c) (sym at) ∙ other in
-      let bad : ⊥ = grind (arith, nat_tests) in
-      bad)
 
 -- none of all methods lets its object out
 pub all_kept : (p : Program) (tags : Tagged) (c n : ℕ) → length p.methods ≤ n → ((u : ℕ) → u < n → KeepsIfInit p tags c u) → IsFrozenClass p tags c

@@ -68,18 +68,12 @@ passes_each test oi ot of insn target g a b c e = let there : reached_frame oi o
 
 passes_from : (test : TagShape → Bool) (oi : Option Insn) (ot : Option Target) (of : Option (Option TagShape)) → ((insn : Insn) (target : Target) (g : TagShape) → oi ≡ Some insn → ot ≡ Some target → of ≡ Some (Some g) → test g ≡ true) → passes_test test (reached_frame oi ot of) ≡ true
 passes_from test (Some insn) (Some target) (Some (Some g)) h = h insn target g refl refl refl
-passes_from test (Some insn) (Some target) (Some None) h = refl
-passes_from test (Some insn) (Some target) None h = refl
-passes_from test (Some insn) None of h = refl
-passes_from test None ot of h = refl
+passes_from test oi ot of h = refl
 
 keeps_at_from : (p : Program) (m : MethodInfo) (frames : List (Option TagShape)) (oi : Option Insn) (ot : Option Target) (of : Option (Option TagShape))
     → ((insn : Insn) (target : Target) (f : TagShape) → oi ≡ Some insn → ot ≡ Some target → of ≡ Some (Some f) → keeps_here p m frames insn target (row_of p m insn target) f ≡ true) → keeps_at p m frames oi ot of ≡ true
 keeps_at_from p m frames (Some insn) (Some target) (Some (Some f)) h = h insn target f refl refl refl
-keeps_at_from p m frames (Some insn) (Some target) (Some None) h = refl
-keeps_at_from p m frames (Some insn) (Some target) None h = refl
-keeps_at_from p m frames (Some insn) None of h = refl
-keeps_at_from p m frames None ot of h = refl
+keeps_at_from p m frames oi ot of h = refl
 
 stands : (o : Option Insn) (pc : ℕ) (other : Insn) → IsSomeAnd o (λ insn. insn.pc ≡ pc) → o ≡ Some other → other.pc ≡ pc
 stands (Some insn) pc other h e = subst (λ (i : Insn). i.pc ≡ pc) (same_Some insn other e) h
@@ -91,9 +85,8 @@ stands_to o insn e = rw e refl
 -- ---- the start
 
 none_this : (n k : ℕ) → slice_index_or (replicate n Untagged) k Untagged ≡ This → ⊥
-none_this zero k e = cc
-none_this (suc n) zero e = cc
 none_this (suc n) (suc k) e = none_this n k e
+none_this n k e = cc
 
 entry_from : (b : Bool) (n : ℕ) (us : List Tag) → (b || this_at us 0) ≡ true → KeepThis (if b then replicate n Untagged else This ∷ replicate (n - 1) Untagged) us
 entry_from true n us e k h = absurd (none_this n k h)

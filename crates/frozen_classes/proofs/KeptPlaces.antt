@@ -98,20 +98,17 @@ this_without pc (t ∷ ts) zero = untag_one pc t
 this_without pc (t ∷ ts) (suc k) = this_without pc ts k
 
 dup_stack : (p : Program) (m : MethodInfo) (pc : ℕ) (target : Target) (ts locals : List Tag) (k : ℕ) → this_at (At pc ∷ At pc ∷ without pc ts) k ≡ this_at (stack_after Untagged (λ type. Untagged) (row p m pc target ops.Dup) (Untagged ∷ ts) locals) k
-dup_stack p m pc target ts locals zero = refl
-dup_stack p m pc target ts locals (suc zero) = refl
 dup_stack p m pc target ts locals (suc (suc k)) = this_without pc ts k
+dup_stack p m pc target ts locals k = refl
 
 same_stack : (p : Program) (m : MethodInfo) (target : Target) (pc : ℕ) (op : Op) (ts : List Tag) (f : TagShape) → f.stack ≡ ts → (k : ℕ) → this_at (tags_by_op pc (row p m pc target op) op ts f).stack k ≡ this_at (moved_tags (row p m pc target op) f).stack k
 same_stack p m target pc ops.Dup (Untagged ∷ ts) f e k = subst (λ (l : List Tag). this_at (At pc ∷ At pc ∷ without pc ts) k ≡ this_at (stack_after Untagged (λ type. Untagged) (row p m pc target ops.Dup) l f.locals) k) (sym e) (dup_stack p m pc target ts f.locals k)
 same_stack p m target pc ops.Monitorenter (t ∷ ts) f e k = refl
-same_stack p m target pc ops.Monitorexit ts f e k = refl
 same_stack p m target pc op ts f e k = refl
 
 same_locals : (p : Program) (m : MethodInfo) (target : Target) (pc : ℕ) (op : Op) (ts : List Tag) (f : TagShape) (k : ℕ) → this_at (tags_by_op pc (row p m pc target op) op ts f).locals k ≡ this_at (moved_tags (row p m pc target op) f).locals k
 same_locals p m target pc ops.Dup (Untagged ∷ ts) f k = this_without pc f.locals k
 same_locals p m target pc ops.Monitorenter (t ∷ ts) f k = refl
-same_locals p m target pc ops.Monitorexit ts f k = refl
 same_locals p m target pc op ts f k = refl
 
 -- ---- what it leaves in locals
@@ -148,8 +145,7 @@ locals_within (Some write) f k e = by_test (k == write.0) (nat_lt k (length f.lo
   where
     by_test : (b c : Bool) → nat_lt k (length f.locals) ≡ c → (if b && c then given_this f write.1 else this_at f.locals k) ≡ true → k < length f.locals
     by_test true true h x = ltb-true k (length f.locals) h
-    by_test true false h x = this_within f.locals k x
-    by_test false c h x = this_within f.locals k x
+    by_test b c h x = this_within f.locals k x
 
 -- ---- along an edge
 
