@@ -1,6 +1,6 @@
 -- Lists of numbers of methods.
-use Rattle.std.proofs.Common.{◌≡◌, ℕ, zero, suc, ◌+◌, ◌-◌, ◌<◌, ◌≤◌, Bool, true, false, List, [], ◌∷◌, ◌++◌, length, take, drop, Some, None, refl, sym, ap, ◌∙◌, arith, add-one, append_assoc, length-append, length-drop, slice_get, if◌then◌else◌}
-use Rattle.std.proofs.lemmas.{List.{drop_more, drop-drop, drop-take, take_all}, Option.{slice_get_within, get_or_from_slice_get}}
+use Rattle.std.proofs.Common.{◌≡◌, ℕ, zero, suc, ◌+◌, ◌-◌, ◌<◌, ◌≤◌, Bool, true, false, List, [], ◌∷◌, ◌++◌, length, take, drop, Some, None, refl, sym, ap, ◌∙◌, arith, add-one, append_assoc, length-append, slice_get, if◌then◌else◌}
+use Rattle.std.proofs.lemmas.{List.{drop_more, drop-drop, drop-take}, Option.{slice_get_within, get_or_from_slice_get}}
 use Rattle.jvm_types.specs.declared.program.MethodInfo.{MethodInfo}
 use Rattle.machine_types.specs.Parts.{numbers_of}
 
@@ -37,9 +37,6 @@ rest_left xs begun until l =
     let more : until - begun ≡ 1 + (until - (begun + 1)) = omega (arith, l) in
     let behind : drop 1 (drop begun xs) ≡ drop (begun + 1) xs = drop-drop 1 begun xs in
     rw (more, drop-take 1 (until - (begun + 1)) (drop begun xs), behind) refl
-
-pub all_left : (xs : List ℕ) (later : ℕ) → take (length xs - later) (drop later xs) ≡ drop later xs
-all_left xs later = take_all (length xs - later) (drop later xs) (omega (arith, length-drop later xs))
 
 pub there_is : {A : Type 0} (xs : List A) (i : ℕ) → i < length xs → slice_get xs i ≡ None → ⊥
 there_is [] i l e = absurd (omega (arith, l))

@@ -1,5 +1,3 @@
-use Rattle.std.proofs.Common.{ap, List}
-use Rattle.machine_types.specs.Threads.{Frame}
 use Rattle.frames.proofs.FrameLaws.{popped_frames, popped_laid}
 use Rattle.frames.proofs.frame_stack.FrameStack.pop_frame.Goals as goal
 
@@ -11,4 +9,4 @@ invariant_of-self c =
 pub returns : goal.returns
 returns c =
     let some = rw (← c.self.view_is) at c.requires in
-    rw (← c.self.view_is, c.head_at-self-inside.ensures) (ap (λ (fs : List Frame). record { program = c.self.inside.program.told; frames = fs }) (popped_frames c.self.inside c.self.invariant some))
+    rw (← c.self.view_is, c.head_at-self-inside.ensures) (popped_frames c.self.inside c.self.invariant some)

@@ -1,5 +1,4 @@
-use Rattle.std.proofs.Common.{◌∙◌, ap, List, arith}
-use Rattle.machine_types.specs.Threads.{Frame}
+use Rattle.std.proofs.Common.{◌∙◌, arith}
 use Rattle.frames.proofs.CallLaws.{room_left, Pushed, arguments, arguments_are, pushed_call}
 use Rattle.frames.proofs.frame_stack.FrameStack.push_called.Goals as goal
 
@@ -17,7 +16,7 @@ invariant_of-self c =
     let some = rw (← c.self.view_is) at c.requires.frame in
     let had = rw (← c.self.view_is) at c.requires.given in
     let count = c.argument_count-count.ensures in
-    let k : Pushed c.self.inside c.args.number c.args.m.now (arguments c.self.inside c.self.invariant some c.args.m.now had) c.receiver_at-receiver.result c.lay.new.slots.items = record {
+    let k : Pushed c.self.inside c.args.number c.args.m.now (arguments c.self.inside c.args.m.now) c.receiver_at-receiver.result c.lay.new.slots.items = record {
       laid = c.self.invariant;
       method_is = rw (← c.self.view_is) at c.requires.method;
       fits = c.requires.fits;
@@ -34,7 +33,7 @@ returns c =
     let some = rw (← c.self.view_is) at c.requires.frame in
     let had = rw (← c.self.view_is) at c.requires.given in
     let count = c.argument_count-count.ensures in
-    let k : Pushed c.self.inside c.args.number c.args.m.now (arguments c.self.inside c.self.invariant some c.args.m.now had) c.receiver_at-receiver.result c.lay.new.slots.items = record {
+    let k : Pushed c.self.inside c.args.number c.args.m.now (arguments c.self.inside c.args.m.now) c.receiver_at-receiver.result c.lay.new.slots.items = record {
       laid = c.self.invariant;
       method_is = rw (← c.self.view_is) at c.requires.method;
       fits = c.requires.fits;
@@ -44,5 +43,4 @@ returns c =
       put = (rw count at c.lay.ensures.laid) ∙ arguments_are c.self.inside c.self.invariant some c.args.m.now had;
       object = rw (c.is_static.ensures, c.as_slice.ensures.value) at c.receiver_at-receiver.ensures;
     } in
-    let p = pushed_call c.self.inside c.self.invariant some c.args.m.now had _ _ _ k in
-    rw (← c.self.view_is, count) (ap (λ (fs : List Frame). record { program = c.self.inside.program.told; frames = fs }) p.frames)
+    rw (← c.self.view_is, count) (pushed_call c.self.inside c.self.invariant some c.args.m.now had _ _ _ k).frames

@@ -1,5 +1,3 @@
-use Rattle.std.proofs.Common.{ap, List}
-use Rattle.machine_types.specs.Threads.{Frame}
 use Rattle.machine_types.specs.Onward.{root_arguments}
 use Rattle.frames.proofs.CallLaws.{room_left, Pushed, pushed_root}
 use Rattle.frames.proofs.frame_stack.FrameStack.push_root.Goals as goal
@@ -26,6 +24,4 @@ pub invariant_of-self : goal.invariant_of-self
 invariant_of-self c = (pushed_root _ _ _ _ _ _ (made c) (rw (← c.self.view_is) at c.requires.none)).laid
 
 pub returns : goal.returns
-returns c =
-    let p = pushed_root _ _ _ _ _ _ (made c) (rw (← c.self.view_is) at c.requires.none) in
-    rw (← c.self.view_is) (ap (λ (fs : List Frame). record { program = c.self.inside.program.told; frames = fs }) p.frames)
+returns c = rw (← c.self.view_is) (pushed_root _ _ _ _ _ _ (made c) (rw (← c.self.view_is) at c.requires.none)).frames
