@@ -1,13 +1,9 @@
-use Rattle.std.proofs.Common.{drop, arith, length-drop}
-use Rattle.frames.proofs.FrameLaws.{length_frames, heads_of}
+use Rattle.std.proofs.Common.{arith}
+use Rattle.frames.proofs.FrameLaws.{depth_is}
 use Rattle.frames.proofs.frame_stack.FrameStack.depth.Goals as goal
 
 pub returns-clause-depth : goal.returns-clause-depth
-returns-clause-depth c =
-    let s = c.self.inside in
-    rw (← c.self.view_is) (omega (arith, length_frames (drop s.start (heads_of s)) (drop s.free s.slots.items), length-drop s.start (heads_of s), c.self.invariant.places))
+returns-clause-depth c = rw (← c.self.view_is) (omega (arith, depth_is c.self.inside c.self.invariant))
 
 pub returns-clause-few : goal.returns-clause-few
-returns-clause-few c =
-    let s = c.self.inside in
-    rw (← c.self.view_is) (omega (arith, length_frames (drop s.start (heads_of s)) (drop s.free s.slots.items), length-drop s.start (heads_of s), c.self.invariant.places))
+returns-clause-few c = rw (← c.self.view_is) (omega (arith, depth_is c.self.inside c.self.invariant))
