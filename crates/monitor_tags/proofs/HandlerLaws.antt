@@ -1,10 +1,8 @@
--- The handlers that an exception may go to, row by row.
+-- Where an exception goes to no handler.
 use Rattle.std.{proofs.Common.{◌≡◌, Bool, true, false, [], refl, ap, ◌&&◌, if◌then◌else◌}, specs.List.list_any}
 use Rattle.jvm_types.specs.{CodeTable.can_throw, Verifying.{covers, covering}, declared.{code.Insn.Insn, program.MethodInfo.MethodInfo}}
 use Rattle.handler_rows.proofs.PickedRows.{uncovered}
 use Rattle.checked_program.specs.Tagging.{until_all, catchers}
-
--- ---- whether there are some
 
 pub no_catchers : (m : MethodInfo) (insn : Insn) → (can_throw insn.op && list_any (covers insn.pc) m.rows) ≡ false → catchers m insn ≡ []
 no_catchers m insn e = by_tests (can_throw insn.op) (list_any (covers insn.pc) m.rows) refl e

@@ -158,7 +158,3 @@ module _ (turn : RowTurn) (mid : Nodes) where
     left = one_turn m pc f item (drop (i + 1) rows) nodes mid e n ∙ here.left;
     level = level;
   }
-
-pub unwaiting : (waits : Bool) → true ≡ not waits → waits ≡ false
-unwaiting true e = absurd (cc)
-unwaiting false e = refl
