@@ -1,27 +1,17 @@
 -- The graph of a method has the ways of its instructions that stand in blocks.
-use Rattle.std.proofs.Common.{◌≡◌, ◌≢◌, ℕ, zero, suc, ◌<◌, ◌≤◌, ◌+◌, Bool, true, false, ◌&&◌, List, [], ◌∷◌, ◌++◌, length, Option, Some, None, refl, sym, ap, subst, ◌∙◌, arith, ⊎_elim, inl, inr, ◌⊎◌, nat_lt, ◌==◌, if◌then◌else◌, IsSomeAnd, slice_get, slice_index}
-use Rattle.std.{specs.{List.{AllByRecursion, AllZip}, Option.option_map}, proofs.lemmas.{List.{length-append, get_or_append_left, get_or_push}, Bool.{cases_eq, cases_order, Decides.nat_tests}, Option.{slice_get_within, same_Some}}}
+use Rattle.std.proofs.Common.{◌≡◌, ℕ, zero, suc, ◌<◌, ◌≤◌, ◌+◌, Bool, true, false, ◌&&◌, List, [], ◌∷◌, ◌++◌, length, Option, Some, None, refl, sym, ap, subst, ◌∙◌, arith, ⊎_elim, inl, inr, ◌⊎◌, nat_lt, ◌==◌, if◌then◌else◌, IsSomeAnd, slice_get, slice_index}
+use Rattle.std.{specs.List.{AllByRecursion, AllZip}, proofs.lemmas.{Bool.{cases_order, Decides.nat_tests}, Option.slice_get_within}}
 use Rattle.jvm_types.specs.{CodeTable.can_throw, CodeGrammar.RowFits, Verifying.{edges, covers, IsLaidOut}, declared.{class_file.Handler.Handler, code.Insn.Insn}}
 use Rattle.jvm_types.specs.declared.program.{MethodInfo.MethodInfo, Row.Row, Target.Target}
 use Rattle.laws_programs.{specs.CodeLaws.Begins, proofs.CodeOrder.{ascend, begin, short}}
 use Rattle.code_table.{specs.PcTables.number_at, proofs.NumbersExact.exact}
 use Rattle.graph_closure.specs.Chains.{IsIn}
 use Rattle.checked_program.specs.{LockTags.TagShape, Tagging.catches_all}
-use Rattle.widest_paths.proofs.SearchLaws.{beyond}
 use Rattle.widest_paths.specs.{WidestPaths.{IsInFan, IsFanEdge, AddsEdges, HasNoEdges}, declared.graph.{Fan.Fan, Graph.Graph}}
 use Rattle.guard_analysis.specs.BlockReach.{level_of, level_at, levels_before, open_rows, turns_at, turns_in, turns_before, number_else, fan_of, edges_of, HasFanAt, IsOnward, IsThrown, IsThrownBefore, IsGraphOf}
-use Rattle.guard_analysis.{specs.BlockWalks.{handler_pcs, catch_pcs, way_pcs, ways_at, ways_from, deep_at}, proofs.BlockMarks.{in_append, in_left, in_right, in_mapped, mapped_in}}
+use Rattle.guard_analysis.{specs.BlockWalks.{handler_pcs, catch_pcs, way_pcs, ways_at, ways_from, deep_at}, proofs.{BlockMarks.{in_append, in_left, in_right, in_mapped, mapped_in}, ListsMade.{made_long, made_at, made_past}}}
 
 -- ---- what is added
-
-pub number_within : (code : List Insn) (pc k : ℕ) → number_at code pc ≡ Some k → k < length code
-number_within [] pc k e = absurd (let bad : None ≡ Some k = e in cc)
-number_within (x ∷ code) pc k e = by_test (x.pc == pc) (number_at code pc) e (λ j f. number_within code pc j f)
-  where
-    by_test : (t : Bool) (o : Option ℕ) → (if t then Some 0 else option_map suc o) ≡ Some k → ((j : ℕ) → o ≡ Some j → j < length code) → k < length (x ∷ code)
-    by_test true o q more = let same : 0 ≡ k = same_Some 0 k q in omega (arith, same)
-    by_test false None q more = absurd (let bad : None ≡ Some k = q in cc)
-    by_test false (Some j) q more = let same : suc j ≡ k = same_Some (suc j) k q in let low : j < length code = more j refl in omega (arith, same, low)
 
 pub from_again : (a b : Graph) (fan : Fan) (x : ℕ) → a.turns ≡ b.turns → IsInFan a fan x → IsInFan b fan x
 from_again a b fan x e h = (h.0, h.1, subst (λ l. fan.turn < slice_index l x) e h.2)
@@ -175,18 +165,6 @@ module _ (m : MethodInfo) (laid : IsLaidOut m) where
 
 -- ---- levels and turns
 
-module _ (f : ℕ → ℕ) (before : ℕ → List ℕ) (none : before 0 ≡ []) (more : (i : ℕ) → before (suc i) ≡ before i ++ f i ∷ []) where
-  before_long : (n : ℕ) → length (before n) ≡ n
-  before_long zero = ap length none
-  before_long (suc n) = let rest : length (before n) ≡ n = before_long n in let whole : length (before n ++ f n ∷ []) ≡ length (before n) + 1 = length-append (before n) (f n ∷ []) in ap length (more n) ∙ (omega (arith, rest, whole))
-
-  before_at : (n i : ℕ) → i < n → slice_index (before n) i ≡ f i
-  before_at zero i l = absurd (omega (arith, l))
-  before_at (suc n) i l = ap (λ x. slice_index x i) (more n) ∙ ⊎_elim
-      (λ (q : i ≡ n). get_or_push (before n) (f n) 0 i (before_long n ∙ sym q) ∙ ap f (sym q))
-      (λ (q : i ≢ n). get_or_append_left (before n) (f n ∷ []) 0 i (omega (arith, before_long n, l, q)) ∙ before_at n i (omega (arith, l, q)))
-      (cases_eq i n)
-
 index_in : (xs : List ℕ) (t : ℕ) → t < length xs → IsIn (slice_index xs t) xs
 index_in [] t l = absurd (omega (arith, l))
 index_in (x ∷ xs) zero l = inl refl
@@ -199,10 +177,7 @@ in_index (y ∷ xs) x (inr i) = let r = in_index xs x i in let low : r.0 < lengt
 
 pub deep_level : (depth : ℕ) (oi : Option Insn) (ot : Option Target) (of : Option (Option TagShape)) → deep_at depth oi ot of ≡ nat_lt depth (level_of oi ot of)
 deep_level depth (Some insn) (Some target) (Some (Some f)) = refl
-deep_level depth (Some insn) (Some target) (Some None) = grind (arith, nat_tests)
-deep_level depth (Some insn) (Some target) None = grind (arith, nat_tests)
-deep_level depth (Some insn) None of = grind (arith, nat_tests)
-deep_level depth None ot of = grind (arith, nat_tests)
+deep_level depth oi ot of = grind (arith, nat_tests)
 
 get_none_out : (code : List Insn) (i : ℕ) → slice_get code i ≡ None → length code ≤ i
 get_none_out [] i e = omega arith
@@ -210,7 +185,7 @@ get_none_out (x ∷ code) zero e = absurd (let bad : Some x ≡ None = e in cc)
 get_none_out (x ∷ code) (suc i) e = let h : length code ≤ i = get_none_out code i e in omega (arith, h)
 
 pub levels_long : (m : MethodInfo) (frames : List (Option TagShape)) (n : ℕ) → length (levels_before m frames n) ≡ n
-levels_long m frames n = before_long (λ x. level_at m frames x) (λ k. levels_before m frames k) refl (λ k. refl) n
+levels_long m frames n = made_long (λ x. level_at m frames x) (λ k. levels_before m frames k) refl (λ k. refl) n
 
 -- ---- the whole graph
 
@@ -234,11 +209,11 @@ module _ (made : GraphsMade) (laid : IsLaidOut made.m) where
   levels_are i = ap (λ l. slice_index l i) (thrown.levels ∙ onward.levels ∙ levels) ∙ by_insn (slice_get m.code i) refl
     where
       by_insn : (o : Option Insn) → slice_get m.code i ≡ o → slice_index (levels_before m frames (length m.code)) i ≡ level_at m frames i
-      by_insn (Some insn) e = before_at (λ x. level_at m frames x) (λ n. levels_before m frames n) refl (λ n. refl) (length m.code) i (slice_get_within m.code i insn e)
-      by_insn None e = beyond (levels_before m frames (length m.code)) i (omega (arith, before_long (λ x. level_at m frames x) (λ n. levels_before m frames n) refl (λ n. refl) (length m.code), get_none_out m.code i e)) ∙ sym (ap (λ o. level_of o (slice_get m.targets i) (slice_get frames i)) e)
+      by_insn (Some insn) e = made_at (λ x. level_at m frames x) (λ n. levels_before m frames n) refl (λ n. refl) 0 (length m.code) i (slice_get_within m.code i insn e)
+      by_insn None e = made_past (λ x. level_at m frames x) (λ n. levels_before m frames n) refl (λ n. refl) 0 (length m.code) i (get_none_out m.code i e) ∙ sym (ap (λ o. level_of o (slice_get m.targets i) (slice_get frames i)) e)
 
   turns_are : (i : ℕ) (insn : Insn) → slice_get m.code i ≡ Some insn → slice_index first.turns i ≡ turns_at m.rows insn (level_at m frames i)
-  turns_are i insn e = ap (λ l. slice_index l i) turns ∙ before_at (λ x. turns_in m.rows (slice_get m.code x) (level_at m frames x)) (λ n. turns_before m frames n) refl (λ n. refl) (length m.code) i (slice_get_within m.code i insn e)
+  turns_are i insn e = ap (λ l. slice_index l i) turns ∙ made_at (λ x. turns_in m.rows (slice_get m.code x) (level_at m frames x)) (λ n. turns_before m frames n) refl (λ n. refl) 0 (length m.code) i (slice_get_within m.code i insn e)
       ∙ ap (λ o. turns_in m.rows o (level_at m frames i)) e
 
   module _ (i k : ℕ) (inside : 0 < level_at m frames i) where

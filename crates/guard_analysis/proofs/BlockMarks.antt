@@ -8,7 +8,7 @@ use Rattle.code_table.{specs.PcTables.number_at, proofs.NumbersExact.exact}
 use Rattle.graph_closure.specs.Chains.{IsIn}
 use Rattle.checked_program.specs.{LockTags.{TagShape, is_this}, Marks.{IsOnOwn, HasMark, IsMarkOf}, Sections.{IsDeep, StaysDeep, BeginsAt, IsOwn}}
 use Rattle.checked_program.specs.{TaggedCode.{tagged_by, IsAt, IsReachedEdge, Goes, onward, caught, row_of}, Tagging.{catches_all, until_all, catchers, tags_after, tags_at_handler}}
-use Rattle.checked_program.specs.declared.{section.{Mode.TheVariants.OnThis, Spot.TheVariants.Block, Uses.Uses}, tag.{Tag.{Tag, TheVariants.{Untagged, This, At}}, Tags.Tags}}
+use Rattle.checked_program.specs.declared.{section.{Mode.TheVariants.OnThis, Spot.TheVariants.Block, Uses.Uses}, tag.{Tag.{Tag, TheVariants.{Untagged, This}}, Tags.Tags}}
 use Rattle.frozen_classes.proofs.KeptInside.{stands_to}
 use Rattle.guard_analysis.specs.BlockWalks.{handler_pcs, catch_pcs, way_pcs, ways_from, ways_at, deep_at, is_deep, IsPathInBlock, IsInside}
 use Rattle.guard_analysis.{specs.SectionGrades.{depth_on_this, entry_depth_at, AreGrades, IsBlockMark, section_in}, proofs.CallEdges.{with_tags, frames_there}}
@@ -112,10 +112,7 @@ some_at None pc h = absurd h
 
 is_reached_at : (depth : ℕ) (oi : Option Insn) (ot : Option Target) (of : Option (Option TagShape)) → deep_at depth oi ot of ≡ true → (insn : Insn) × (target : Target) × (f : TagShape) × (oi ≡ Some insn) × (ot ≡ Some target) × (of ≡ Some (Some f)) × (depth < length f.held)
 is_reached_at depth (Some insn) (Some target) (Some (Some f)) e = (insn, target, f, refl, refl, refl, grind (arith, nat_tests))
-is_reached_at depth (Some insn) (Some target) (Some None) e = absurd (let bad : false ≡ true = e in cc)
-is_reached_at depth (Some insn) (Some target) None e = absurd (let bad : false ≡ true = e in cc)
-is_reached_at depth (Some insn) None of e = absurd (let bad : false ≡ true = e in cc)
-is_reached_at depth None ot of e = absurd (let bad : false ≡ true = e in cc)
+is_reached_at depth oi ot of e = absurd (let bad : false ≡ true = e in cc)
 
 pub entry_parts : (oi : Option Insn) (ot : Option Target) (of : Option (Option TagShape)) (depth : ℕ) → depth_on_this oi ot of ≡ Some depth
     → (insn : Insn) × (target : Target) × (f : TagShape) × (oi ≡ Some insn) × (ot ≡ Some target) × (of ≡ Some (Some f)) × (slice_index_or f.stack 0 Untagged ≡ This) × (length f.held ≡ depth)
@@ -124,12 +121,8 @@ entry_parts (Some insn) (Some target) (Some (Some f)) depth e = by_tag (slice_in
     by_tag : (t : Tag) → slice_index_or f.stack 0 Untagged ≡ t → (if is_this t then Some (length f.held) else None) ≡ Some depth
         → (i : Insn) × (k : Target) × (g : TagShape) × (Some insn ≡ Some i) × (Some target ≡ Some k) × (◌≡◌ {A = Option (Option TagShape)} (Some (Some f)) (Some (Some g))) × (slice_index_or g.stack 0 Untagged ≡ This) × (length g.held ≡ depth)
     by_tag This q k = (insn, target, f, refl, refl, refl, q, same_Some (length f.held) depth k)
-    by_tag Untagged q k = absurd (let bad : None ≡ Some depth = k in cc)
-    by_tag (At pc) q k = absurd (let bad : None ≡ Some depth = k in cc)
-entry_parts (Some insn) (Some target) (Some None) depth e = absurd (let bad : None ≡ Some depth = e in cc)
-entry_parts (Some insn) (Some target) None depth e = absurd (let bad : None ≡ Some depth = e in cc)
-entry_parts (Some insn) None of depth e = absurd (let bad : None ≡ Some depth = e in cc)
-entry_parts None ot of depth e = absurd (let bad : None ≡ Some depth = e in cc)
+    by_tag t q k = absurd (let bad : None ≡ Some depth = k in cc)
+entry_parts oi ot of depth e = absurd (let bad : None ≡ Some depth = e in cc)
 
 module _ (p : Program) (tags : List Tags) (is : IsProgram p) (mi : ℕ) (m : MethodInfo) (t : Tags) (at_m : slice_get p.methods mi ≡ Some m) (at_t : slice_get tags mi ≡ Some t) where
   laid : IsLaidOut m

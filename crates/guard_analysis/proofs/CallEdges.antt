@@ -1,5 +1,5 @@
 -- The edges of the graph are the calls of reached instructions.
-use Rattle.std.proofs.Common.{◌≡◌, ℕ, ◌+◌, ◌*◌, ◌/◌, ◌%◌, ◌<◌, Bool, true, false, List, length, Option, Some, None, refl, sym, ap, subst, ◌∙◌, arith, ⊎_elim, ◌⊎◌, nat_lt, if◌then◌else◌, slice_get}
+use Rattle.std.proofs.Common.{◌≡◌, ℕ, ◌+◌, ◌*◌, ◌/◌, ◌%◌, ◌<◌, Bool, true, false, List, length, Option, Some, None, refl, sym, ap, subst, ◌∙◌, arith, nat_lt, if◌then◌else◌, slice_get}
 use Rattle.std.{specs.Option.option_map, proofs.lemmas.{Bool.Decides.nat_tests, Option.{slice_get-map, slice_get_within, same_Some}}}
 use Rattle.jvm_types.specs.{ProgramInvariant.{IsProgram, IsTargetOf, site_in}, declared.{code.{Insn.Insn, Op.Op}, program.{Program.Program, Target.Target}}}
 use Rattle.laws_programs.proofs.CodeOrder.{have_targets}
@@ -30,9 +30,8 @@ any_class (OnClass class) = OnClass 0
 any_class mode = mode
 
 any_class_fits : (mode : Mode) → IsModeFor 0 (any_class mode)
-any_class_fits OnThis = tt
-any_class_fits OffThis = tt
 any_class_fits (OnClass class) = refl
+any_class_fits mode = tt
 
 any_class_number : (mode : Mode) → mode_number (any_class mode) ≡ mode_number mode
 any_class_number OnThis = refl
@@ -68,10 +67,7 @@ pub record AtCall (oi : Option Insn) (ot : Option Target) (of : Option (Option T
 
 pub call_parts : (p : Program) (mode : Mode) (oi : Option Insn) (ot : Option Target) (of : Option (Option TagShape)) (y : ℕ) → call_at p mode oi ot of ≡ Some y → AtCall oi ot of p mode y
 call_parts p mode (Some insn) (Some target) (Some (Some f)) y e = record { insn = insn; target = target; f = f; is_insn = refl; is_target = refl; is_frame = refl; call = e }
-call_parts p mode (Some insn) (Some target) (Some None) y e = absurd (cc)
-call_parts p mode (Some insn) (Some target) None y e = absurd (cc)
-call_parts p mode (Some insn) None of y e = absurd (cc)
-call_parts p mode None ot of y e = absurd (cc)
+call_parts p mode oi ot of y e = absurd (cc)
 
 pub node_parts : (n : ℕ) (o : Option ℕ) (mode : Mode) (y : ℕ) → node_in n o mode ≡ Some y → (u : ℕ) × (o ≡ Some u) × (u < n) × (3 * u + mode_number mode ≡ y)
 node_parts n None mode y e = absurd (cc)

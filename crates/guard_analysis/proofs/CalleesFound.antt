@@ -1,6 +1,6 @@
 -- What the graph of calls finds: which nodes lead to a method that breaks a rule, and which to one that calls itself.
-use Rattle.std.proofs.Common.{◌≡◌, ℕ, zero, suc, ◌+◌, ◌*◌, ◌/◌, ◌<◌, ◌≢◌, Bool, true, false, List, [], ◌∷◌, length, Option, Some, None, refl, sym, ap, subst, ◌∙◌, arith, ⊎_elim, ◌||◌, nat_lt, if◌then◌else◌, slice_get, slice_index_or}
-use Rattle.std.proofs.lemmas.{Bool.{cases_eq, Decides.nat_tests}, List.{length-append, get_or_append_left, get_or_push}, Option.slice_get_within}
+use Rattle.std.proofs.Common.{◌≡◌, ℕ, zero, suc, ◌*◌, ◌/◌, ◌<◌, ◌≢◌, Bool, true, false, List, [], ◌∷◌, length, Option, Some, refl, sym, ap, subst, ◌∙◌, arith, ⊎_elim, ◌||◌, nat_lt, if◌then◌else◌, slice_get, slice_index_or}
+use Rattle.std.proofs.lemmas.{Bool.{cases_eq, Decides.nat_tests}, Option.slice_get_within}
 use Rattle.jvm_types.specs.{Members.{is_static, is_synchronized}, ProgramInvariant.IsProgram, declared.{code.Insn.Insn, program.{MethodInfo.MethodInfo, Program.Program, Target.Target}}}
 use Rattle.graph_closure.specs.{LeastSet.IsGraph, Walks.{IsEdge, Walks, Leads, AreLeading, AreRecurring}}
 use Rattle.checked_program.specs.{FrozenPlaces.locks_class, LockTags.TagShape}
@@ -9,24 +9,18 @@ use Rattle.checked_program.specs.{OwnedArrays.reads_owned, TaggedCode.{Tagged, t
 use Rattle.checked_program.specs.declared.tag.{Tag.Tag, Tags.Tags}
 use Rattle.guard_analysis.specs.CallGraph.{node_of, mode_at, AreCalls, call_graph}
 use Rattle.guard_analysis.specs.Faults.{fault_at, breaks_before, node_breaks, breaking_nodes, LeadsToBreak, LeadsToItself, IsModeFor, FitsMethod, AreCallees}
-use Rattle.guard_analysis.proofs.CallEdges.{half_of, mode_back, node_low, with_tags, frames_there, edges_are_calls}
+use Rattle.guard_analysis.proofs.{CallEdges.{half_of, mode_back, node_low, with_tags, frames_there, edges_are_calls}, ListsMade.{made_long, made_at}}
 
 -- ---- the methods that break a rule
-
-pub breaking_long : (p : Program) (uses : Uses) (tags : List Tags) (class n : ℕ) → length (breaking_nodes p uses tags class n) ≡ n
-breaking_long p uses tags class zero = refl
-breaking_long p uses tags class (suc a) = length-append (breaking_nodes p uses tags class a) _ ∙ ap (λ n. n + 1) (breaking_long p uses tags class a) ∙ omega arith
 
 abbrev node_flag : Program → Uses → List Tags → (class : ℕ) → ℕ → Bool
 node_flag p uses tags class a = node_breaks p uses (a / 3) (slice_get p.methods (a / 3)) (slice_get tags (a / 3)) (mode_at class a)
 
+pub breaking_long : (p : Program) (uses : Uses) (tags : List Tags) (class n : ℕ) → length (breaking_nodes p uses tags class n) ≡ n
+breaking_long p uses tags class n = made_long (node_flag p uses tags class) (breaking_nodes p uses tags class) refl (λ k. refl) n
+
 breaking_at : (p : Program) (uses : Uses) (tags : List Tags) (class n a : ℕ) → a < n → slice_index_or (breaking_nodes p uses tags class n) a false ≡ node_flag p uses tags class a
-breaking_at p uses tags class zero a l = absurd (omega (arith, l))
-breaking_at p uses tags class (suc n) a l = ⊎_elim
-    (λ (q : a ≡ n). get_or_push (breaking_nodes p uses tags class n) (node_flag p uses tags class n) false a (breaking_long p uses tags class n ∙ sym q) ∙ ap (node_flag p uses tags class) (sym q))
-    (λ (q : a ≢ n). let low : a < n = omega (arith, l, q) in
-    get_or_append_left (breaking_nodes p uses tags class n) _ false a (subst (λ m. a < m) (sym (breaking_long p uses tags class n)) low) ∙ breaking_at p uses tags class n a low)
-    (cases_eq a n)
+breaking_at p uses tags class n a l = made_at (node_flag p uses tags class) (breaking_nodes p uses tags class) refl (λ k. refl) false n a l
 
 abbrev the_fault : Program → Uses → (mi : ℕ) → Mode → MethodInfo → List (Option TagShape) → ℕ → ℕ
 the_fault p uses mi mode m frames i = fault_at p uses mi i mode (slice_get m.code i) (slice_get m.targets i) (slice_get frames i)
@@ -62,10 +56,7 @@ pub record AtFault (oi : Option Insn) (ot : Option Target) (of : Option (Option 
 
 pub fault_parts : (p : Program) (uses : Uses) (mi i : ℕ) (mode : Mode) (oi : Option Insn) (ot : Option Target) (of : Option (Option TagShape)) → 0 < fault_at p uses mi i mode oi ot of → AtFault oi ot of p uses mi i mode
 fault_parts p uses mi i mode (Some insn) (Some target) (Some (Some f)) h = record { insn = insn; target = target; f = f; is_insn = refl; is_target = refl; is_frame = refl; same = refl }
-fault_parts p uses mi i mode (Some insn) (Some target) (Some None) h = absurd (omega (arith, h))
-fault_parts p uses mi i mode (Some insn) (Some target) None h = absurd (omega (arith, h))
-fault_parts p uses mi i mode (Some insn) None of h = absurd (omega (arith, h))
-fault_parts p uses mi i mode None ot of h = absurd (omega (arith, h))
+fault_parts p uses mi i mode oi ot of h = absurd (omega (arith, h))
 
 module _ (p : Program) (uses : Uses) (tags : List Tags) (is : IsProgram p) where
   -- of a method with its frames
@@ -84,8 +75,7 @@ module _ (p : Program) (uses : Uses) (tags : List Tags) (is : IsProgram p) where
 
   flag_broken : (b : Callee) (om : Option MethodInfo) (ot : Option Tags) → slice_get p.methods b.method ≡ om → slice_get tags b.method ≡ ot → node_breaks p uses b.method om ot b.mode ≡ true → (i : ℕ) × (n : ℕ) × BreaksAt p (tagged_by tags) uses b i n
   flag_broken b (Some m) (Some t) e f w = let some = some_broken p uses b.method m t.frames b.mode (length m.code) w in (some.0, the_fault p uses b.method b.mode m t.frames some.0, breaks_one b m t some.0 e f some.1)
-  flag_broken b (Some m) None e f w = absurd (let bad : false ≡ true = w in cc)
-  flag_broken b None ot e f w = absurd (let bad : false ≡ true = w in cc)
+  flag_broken b om ot e f w = absurd (let bad : false ≡ true = w in cc)
 
   broken_flag : (b : Callee) (i n : ℕ) → BreaksAt p (tagged_by tags) uses b i n → node_breaks p uses b.method (slice_get p.methods b.method) (slice_get tags b.method) b.mode ≡ true
   broken_flag b i n k =

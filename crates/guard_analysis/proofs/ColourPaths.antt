@@ -6,7 +6,7 @@ use Rattle.jvm_types.{specs.{Numbers.has_number, Verifying.edges, declared.{code
 use Rattle.code_table.{specs.PcTables.Ascend, proofs.PcLaws.ascend_at}
 use Rattle.checked_program.specs.{LockTags.{TagShape, IsShapeBelow}, TaggedCode.{Tagged, IsAt, row_of}, Tagging.{tag_meeting, tag_plan, tags_after, tags_at_handler, catchers, HasTagging}}
 use Rattle.checked_program.specs.Visits.{Act, Break, Bring, PlanNode, joined, edge_brought, edges_brought, meeting_clash, unless_meeting_clash, acted, acts_on, visited_node, plan_visited, nodes_for, plan_nodes, PlanVisits, HasFrames}
-use Rattle.laws_sections.proofs.{HeldTags.first_pc, TagActs.{to_handler, AreKept}, TagOrder.tag_order, TaggedPaths.{each_number, each_handler, framed_there, framed_first, all_settled, last_nodes, tags_there, kept_at, all_reach, IsEdgeTo}}
+use Rattle.laws_sections.proofs.{HeldTags.first_pc, TagActs.{to_handler, AreKept}, TagOrder.tag_order, TaggedPaths.{each_number, each_handler, framed_there, framed_first, all_settled, last_nodes, tags_there, kept_at, all_reach}}
 use Rattle.laws_sections.proofs.{VisitPaths.{IsSettled, ActLeads, AreLive, all_lead, first_live}, VisitedNodes.{IsFirstOf, LandsOn, IsActFine}}
 use Rattle.guard_analysis.specs.{ColourVisits.{colour_meeting, field_colours_after, goes_coloured, colours_at_handlers, colour_acts_at, colour_plan}, declared.colouring.{Colour.Colour, NoRule.NoRule}}
 use Rattle.guard_analysis.{specs.declared.colouring.Colour.TheVariants.Plain, proofs.ColourFrames.{AnyColours, colour_order}}
@@ -226,9 +226,8 @@ module _ (method : ColouredMethod) where
     all_leads i cs holds = by_both (slice_get m.code i) refl (slice_get m.targets i) refl
       where
         by_both : (o : Option Insn) → slice_get m.code i ≡ o → (q : Option Target) → slice_get m.targets i ≡ q → AllByRecursion Leads (colour_acts_at p m o q cs)
-        by_both None c q t = tt
-        by_both (Some insn) c None t = tt
         by_both (Some insn) c (Some target) t = insn_leads i insn target cs c t holds
+        by_both o c q t = tt
 
     pub colours_reached : (i : ℕ) (insn : Insn) (target : Target) (cs : List Colour) → slice_get m.code i ≡ Some insn → slice_get m.targets i ≡ Some target → slice_get frames i ≡ Some (Some cs) → IsReached i insn target cs
     colours_reached i insn target cs c t e =

@@ -1,12 +1,12 @@
 -- The elements that are read of owned arrays, by the colours of the arrays that each method reads; and all that is found.
-use Rattle.std.proofs.Common.{◌≡◌, ◌<◌, ◌≤◌, ◌≢◌, ◌⊎◌, inl, inr, ⊎_elim, ℕ, zero, suc, ◌+◌, Bool, true, false, List, [], ◌∷◌, ◌++◌, length, Option, Some, None, refl, sym, ap, ◌∙◌, subst, arith, ◌==◌, slice_get, slice_index_or}
-use Rattle.std.{specs.List.AllZip, proofs.lemmas.{Bool.{cases_eq, eqb-true, eq-eqb, true≢false, cases_lt}, List.{length-append, get_or_append_left, get_or_past, get_or_push}, Option.{get_or_from_slice_get, same_Some, slice_get_within}}}
+use Rattle.std.proofs.Common.{◌≡◌, ◌<◌, ◌≤◌, ◌≢◌, ◌⊎◌, inl, inr, ℕ, zero, suc, Bool, true, false, List, [], ◌∷◌, length, Option, Some, None, refl, sym, ap, ◌∙◌, subst, arith, ◌==◌, slice_get, slice_index_or}
+use Rattle.std.{specs.List.AllZip, proofs.lemmas.{Bool.{eqb-true, eq-eqb, true≢false, cases_lt}, Option.{get_or_from_slice_get, slice_get_within}}}
 use Rattle.jvm_types.specs.{ProgramInvariant.{IsProgram, IsTargetOf, site_in}, declared.{code.{Insn.Insn, Op.Op}, program.{MethodInfo.MethodInfo, Program.Program, Target.Target}}}
 use Rattle.laws_programs.proofs.CodeOrder.{have_targets}
-use Rattle.checked_program.specs.{Colours.{ColourShape, is_coloured}, MarkedProgram.AreTaggings, SectionLaws.AreTagged, OwnedArrays.{IsOwnedArrayField, IsOwnedAt, ReadsOwned}, TaggedCode.tagged_by, Visits.HasFrames, declared.tag.Tags.Tags}
+use Rattle.checked_program.specs.{Colours.is_coloured, MarkedProgram.AreTaggings, SectionLaws.AreTagged, OwnedArrays.{IsOwnedArrayField, ReadsOwned}, TaggedCode.tagged_by, Visits.HasFrames, declared.tag.Tags.Tags}
 use Rattle.laws_sections.proofs.ArrayColours.{other_class}
 use Rattle.frozen_classes.specs.FrozenClasses.{AreFrozenClasses}
-use Rattle.guard_analysis.specs.{ColourVisits.{colour_plan, is_array_field, is_colour_of, of_field, colour_at}, FieldUses.class_flag, declared.{colouring.Colour.Colour, owned_arrays.Owned.Owned}}
+use Rattle.guard_analysis.specs.{ColourVisits.{colour_plan, is_array_field, is_colour_of, of_field, colour_at}, FieldUses.class_flag, declared.colouring.Colour.Colour}
 use Rattle.guard_analysis.specs.OwnedFound.{colour_read, read_colour, read_colours_before, is_flagged, element_flags_before, code_length, element_rows_before, fields_left_before, owning_before, AreMethodsChecked, AreOwnedFound}
 use Rattle.guard_analysis.{specs.declared.colouring.Colour.TheVariants.{Plain, Of}, proofs.{CheckedMethods.{IsKept, AreKept, methods_kept}, ColourFrames.read_is, ColourPaths.{ColouredMethod, has_colours}, FieldColours.{ColouredField, array_whole, none_of_field, are_there}}}
 use Rattle.guard_analysis.proofs.{FlagsPut.is_set, ListsMade.{made_long, made_at, made_past}, OwnersFound.{left_long, all_tagged, tagging_at, coloured_method, checked_method, found_owned, is_array, owned_may, owned_found}}
@@ -16,9 +16,8 @@ use Rattle.jvm_types.specs.declared.code.Op.TheVariants as ops
 
 zip_by : {A B : Type 0} (R : A → B → Type 0) (xs : List A) (ys : List B) → length xs ≡ length ys → ((i : ℕ) (x : A) (y : B) → slice_get xs i ≡ Some x → slice_get ys i ≡ Some y → R x y) → AllZip R xs ys
 zip_by R [] [] l each = tt
-zip_by R [] (y ∷ ys) l each = absurd (omega (arith, l))
-zip_by R (x ∷ xs) [] l each = absurd (omega (arith, l))
 zip_by R (x ∷ xs) (y ∷ ys) l each = (each 0 x y refl refl, zip_by R xs ys (omega (arith, l)) (λ i a b e f. each (suc i) a b e f))
+zip_by R xs ys l each = absurd (omega (arith, l))
 
 -- ---- one instruction
 

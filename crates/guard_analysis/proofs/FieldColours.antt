@@ -1,9 +1,9 @@
 -- The colours of one array field among those of all: none in a method of another class, and those of each colouring for a field
 -- that is owned.
-use Rattle.std.proofs.Common.{◌≡◌, ℕ, Bool, true, false, not, ◌&&◌, List, [], ◌∷◌, Option, Some, None, refl, sym, ap, ◌∙◌, subst, ◌==◌, slice_get}
+use Rattle.std.proofs.Common.{◌≡◌, ℕ, Bool, true, false, not, ◌&&◌, List, [], Option, Some, refl, sym, ap, ◌∙◌, subst, ◌==◌, slice_get}
 use Rattle.std.proofs.lemmas.{Bool.{and_parts, eqb-true, eq-eqb, not-true}, Option.same_Some}
-use Rattle.jvm_types.specs.{CodeTable.stack_after, Members.{is_private, is_static}, ProgramInvariant.IsProgram, Verifying.edges}
-use Rattle.jvm_types.specs.declared.{class_numbers.TheConstants.INT_ARRAY_CLASS, code.{Insn.Insn, Op.Op}, program.{FieldInfo.FieldInfo, Kind.Kind, Program.Program, Target.Target}}
+use Rattle.jvm_types.specs.{CodeTable.stack_after, Members.{is_private, is_static}, ProgramInvariant.IsProgram}
+use Rattle.jvm_types.specs.declared.{class_numbers.TheConstants.INT_ARRAY_CLASS, code.Insn.Insn, program.{FieldInfo.FieldInfo, Kind.Kind, Program.Program, Target.Target}}
 use Rattle.checked_program.specs.{Colours.{ColourShape, is_read_of, colours_after, IsColouring}, LockTags.TagShape, OwnedArrays.IsOwnedArrayField, SectionLaws.AreTagged, TaggedCode.{IsAt, row_of}}
 use Rattle.checked_program.proofs.NamedFields.{target_named}
 use Rattle.laws_sections.proofs.ArrayColours.{reads_own, NoneOf, none_at_all, none_first, none_after, array_law}
@@ -25,8 +25,7 @@ field_named fi (Of x) e = ap (λ (n : ℕ). Some n) (eqb-true x fi e)
 
 int_array : (kind : Kind) → is_int_array kind ≡ true → kind ≡ kinds.Ref INT_ARRAY_CLASS
 int_array (kinds.Ref class) e = ap (λ (c : ℕ). kinds.Ref c) (eqb-true class INT_ARRAY_CLASS e)
-int_array kinds.Int e = absurd (let bad : false ≡ true = e in cc)
-int_array kinds.Bool e = absurd (let bad : false ≡ true = e in cc)
+int_array kind e = absurd (let bad : false ≡ true = e in cc)
 
 pub record IsArrayField (field : FieldInfo) : Type 0 where
   pub array : field.kind ≡ kinds.Ref INT_ARRAY_CLASS

@@ -4,7 +4,7 @@ use Rattle.std.{specs.List.list_any, proofs.lemmas.{Bool.{cases_eq, Decides.nat_
 use Rattle.jvm_types.specs.{CodeTable.is_init, Members.is_static, ProgramInvariant.{IsProgram, IsTargetOf, site_in}, declared.{code.{Insn.Insn, Op.Op}, program.FieldInfo.FieldInfo}}
 use Rattle.jvm_types.specs.declared.program.{MethodInfo.MethodInfo, Program.Program, Target.Target}
 use Rattle.checked_program.specs.{FrozenPlaces.{PutsGuarded, PutsStatic, WritesGuarded, locks_this, writes_class}, LockTags.{TagShape, is_this}, TaggedCode.{Tagged, IsAt, tagged_by}}
-use Rattle.checked_program.{specs.declared.tag.{Tag.{Tag, TheVariants.{Untagged, This, At}}, Tags.Tags}, proofs.NamedFields.{sort_written, sort_written_static, target_named}}
+use Rattle.checked_program.{specs.declared.tag.{Tag.{Tag, TheVariants.{Untagged, This}}, Tags.Tags}, proofs.NamedFields.{sort_written, sort_written_static, target_named}}
 use Rattle.guard_analysis.specs.FieldUses.{writes_guarded, writes_class_of, unless_guarded, unguarded_write, unguarded_at, field_noted, noted_before, noted_in, unguarded_before}
 use Rattle.guard_analysis.proofs.CallEdges.{with_tags, frames_there}
 use Rattle.jvm_types.specs.declared.code.Op.TheVariants as ops
@@ -16,18 +16,14 @@ abbrev flag : List Bool → ℕ → Bool
 flag flags i = slice_index_or flags i false
 
 pub set_true : (flags : List Bool) (x fi : ℕ) → flag (slice_set flags x true) fi ≡ true → (flag flags fi ≡ true) ⊎ (x ≡ fi)
-set_true [] x fi h = inl h
 set_true (b ∷ bs) zero zero h = inr refl
-set_true (b ∷ bs) zero (suc fi) h = inl h
-set_true (b ∷ bs) (suc x) zero h = inl h
 set_true (b ∷ bs) (suc x) (suc fi) h = ⊎_elim (λ e. inl e) (λ e. inr (ap suc e)) (set_true bs x fi h)
+set_true flags x fi h = inl h
 
 pub set_keeps : (flags : List Bool) (x fi : ℕ) → flag flags fi ≡ true → flag (slice_set flags x true) fi ≡ true
-set_keeps [] x fi h = h
 set_keeps (b ∷ bs) zero zero h = refl
-set_keeps (b ∷ bs) zero (suc fi) h = h
-set_keeps (b ∷ bs) (suc x) zero h = h
 set_keeps (b ∷ bs) (suc x) (suc fi) h = set_keeps bs x fi h
+set_keeps flags x fi h = h
 
 pub set_here : (flags : List Bool) (fi : ℕ) → fi < length flags → flag (slice_set flags fi true) fi ≡ true
 set_here [] fi l = absurd (omega (arith, l))
@@ -35,9 +31,8 @@ set_here (b ∷ bs) zero l = refl
 set_here (b ∷ bs) (suc fi) l = set_here bs fi (omega (arith, l))
 
 pub none_set : (n fi : ℕ) → flag (replicate n false) fi ≡ true → ⊥
-none_set zero fi h = cc
-none_set (suc n) zero h = cc
 none_set (suc n) (suc fi) h = none_set n fi h
+none_set n fi h = cc
 
 pub noted_long : (flags : List Bool) (o : Option ℕ) → length (field_noted flags o) ≡ length flags
 noted_long flags None = refl
@@ -102,17 +97,13 @@ pub record AtWrite (oi : Option Insn) (ot : Option Target) (of : Option (Option 
 
 pub write_parts : (p : Program) (m : MethodInfo) (oi : Option Insn) (ot : Option Target) (of : Option (Option TagShape)) (fi : ℕ) → unguarded_at p m oi ot of ≡ Some fi → AtWrite oi ot of p m fi
 write_parts p m (Some insn) (Some target) (Some (Some f)) fi e = record { insn = insn; target = target; f = f; is_insn = refl; is_target = refl; is_frame = refl; writes = e }
-write_parts p m (Some insn) (Some target) (Some None) fi e = absurd (cc)
-write_parts p m (Some insn) (Some target) None fi e = absurd (cc)
-write_parts p m (Some insn) None of fi e = absurd (cc)
-write_parts p m None ot of fi e = absurd (cc)
+write_parts p m oi ot of fi e = absurd (cc)
 
 -- ---- guards
 
 pub guard_parts : (t : Tag) (b : Bool) → (is_this t && b) ≡ true → (t ≡ This) × (b ≡ true)
 guard_parts This b h = (refl, h)
-guard_parts Untagged b h = absurd (let bad : false ≡ true = h in cc)
-guard_parts (At pc) b h = absurd (let bad : false ≡ true = h in cc)
+guard_parts t b h = absurd (let bad : false ≡ true = h in cc)
 
 pub guard_whole : (t : Tag) (b : Bool) → t ≡ This → b ≡ true → (is_this t && b) ≡ true
 guard_whole t b e h = rw (e, h) refl
@@ -188,13 +179,11 @@ record WritesField (p : Program) (tags : Tagged) (fi mi : ℕ) : Type 0 where
 
 noted_in_long : (p : Program) (om : Option MethodInfo) (ot : Option Tags) (flags : List Bool) → length (noted_in p om ot flags) ≡ length flags
 noted_in_long p (Some m) (Some t) flags = before_long p m t.frames flags (length m.code)
-noted_in_long p (Some m) None flags = refl
-noted_in_long p None ot flags = refl
+noted_in_long p om ot flags = refl
 
 noted_in_keeps : (p : Program) (om : Option MethodInfo) (ot : Option Tags) (flags : List Bool) (fi : ℕ) → flag flags fi ≡ true → flag (noted_in p om ot flags) fi ≡ true
 noted_in_keeps p (Some m) (Some t) flags fi h = before_keeps p m t.frames flags (length m.code) fi h
-noted_in_keeps p (Some m) None flags fi h = h
-noted_in_keeps p None ot flags fi h = h
+noted_in_keeps p om ot flags fi h = h
 
 module _ (p : Program) (tags : List Tags) (is : IsProgram p) where
   all_long : (u : ℕ) → length (unguarded_before p tags u) ≡ length p.fields

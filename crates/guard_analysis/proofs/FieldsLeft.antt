@@ -1,18 +1,18 @@
 -- A field that no instruction of a method of its class puts out has a colouring there, and is read, written and used as an owned
 -- one is.
-use Rattle.std.proofs.Common.{◌≡◌, ◌<◌, ℕ, zero, suc, Bool, true, false, not, ◌&&◌, List, [], ◌∷◌, length, length-set, replicate, Option, Some, None, refl, sym, ap, ◌∙◌, subst, arith, ◌==◌, slice_get, slice_set, slice_index_or}
+use Rattle.std.proofs.Common.{◌≡◌, ℕ, zero, suc, Bool, true, false, not, ◌&&◌, List, [], ◌∷◌, length, length-set, replicate, Option, Some, None, refl, sym, ap, ◌∙◌, subst, arith, ◌==◌, slice_get, slice_index_or}
 use Rattle.std.{specs.List.list_any, proofs.lemmas.{Bool.{and_from, and_parts, eqb-true, eq-eqb, true≢false, not-true}, List.length-replicate, Option.same_Some}}
-use Rattle.jvm_types.specs.{CodeTable.{row, stack_after, locals_after}, Numbers.has_number, ProgramInvariant.IsProgram, Verifying.edges, declared.{code.{Insn.Insn, Op.Op}, op_row.Given.Given}}
-use Rattle.jvm_types.specs.declared.{program.{MethodInfo.MethodInfo, Program.Program, Row.Row, Target.Target}}
+use Rattle.jvm_types.specs.{CodeTable.{stack_after, locals_after}, Numbers.has_number, Verifying.edges, declared.{code.{Insn.Insn, Op.Op}, op_row.Given.Given}}
+use Rattle.jvm_types.specs.declared.program.{MethodInfo.MethodInfo, Program.Program, Target.Target}
 use Rattle.code_table.{specs.PcTables.{number_at, Ascend}, proofs.NumbersExact.number_here}
-use Rattle.checked_program.specs.{Colours.{ColourShape, entry_colours, is_read_of, colours_after, colours_at_handler, is_coloured, IsColouring}, FrozenPlaces.{is_field_of, stands_guarded, PutsGuarded, WritesGuarded}, LockTags.{TagShape, is_this}}
-use Rattle.checked_program.specs.OwnedArrays.{GetsOnThis, is_branched_to, StoresNew, PutsNew, may_take_array, TakesArrayWell, StoresGuarded, UsesArrayWell}
-use Rattle.checked_program.specs.{TaggedCode.{IsAt, row_of}, Tagging.catchers, declared.tag.Tag.TheVariants.{Untagged, This}}
+use Rattle.checked_program.specs.{Colours.{ColourShape, entry_colours, is_read_of, colours_after, colours_at_handler, is_coloured}, FrozenPlaces.{is_field_of, stands_guarded, PutsGuarded}, LockTags.{TagShape, is_this}}
+use Rattle.checked_program.specs.OwnedArrays.{GetsOnThis, StoresNew, PutsNew, may_take_array, TakesArrayWell, StoresGuarded, UsesArrayWell}
+use Rattle.checked_program.specs.{TaggedCode.{IsAt, row_of}, Tagging.catchers, declared.tag.Tag.TheVariants.Untagged}
 use Rattle.checked_program.proofs.FrozenChecks.{that_is_this}
 use Rattle.laws_sections.proofs.ArrayColours.{NoneOf, none_replicate, locals_kept}
-use Rattle.guard_analysis.specs.{ColourVisits.{is_array_field, field_colours_after, is_colour_of, of_field, colour_at}, FieldUses.writes_guarded, OwnedFound.{colours_of, is_making_array, is_newarray, stores_new, branched_flags, handlers_of}}
+use Rattle.guard_analysis.specs.{ColourVisits.{is_array_field, field_colours_after, of_field, colour_at}, FieldUses.writes_guarded, OwnedFound.{colours_of, is_making_array, is_newarray, stores_new, branched_flags}}
 use Rattle.guard_analysis.specs.declared.colouring.Colour.{Colour, TheVariants.Plain}
-use Rattle.guard_analysis.proofs.ColourChecks.{HaveNotOneColour, IsOther, coloured, deeper, BringsOther, GetsOther, PutsOther, UsesOther, InsnOther, uses, takes, onward, caught}
+use Rattle.guard_analysis.proofs.ColourChecks.{IsOther, coloured, deeper, BringsOther, UsesOther, InsnOther, uses, takes, onward, caught}
 use Rattle.guard_analysis.proofs.{ColourFrames.{read_is, after_is}, ColourPaths.{first_stays, shape_of, has_colours}, FieldColours.{ColouredField, field_named}, FieldUseLaws.guard_parts, FlagsPut.is_set, MethodChecks.{branched_is, handler_there, OtherAt}}
 use Rattle.jvm_types.specs.declared.code.Op.TheVariants as ops
 use Rattle.jvm_types.specs.declared.program.Target.TheVariants as targets
@@ -20,29 +20,26 @@ use Rattle.jvm_types.specs.declared.program.Target.TheVariants as targets
 -- ---- lists of flags
 
 same_bit : (x y : Bool) → ((x ≡ y → ⊥) → ⊥) → x ≡ y
-same_bit true true h = refl
-same_bit false false h = refl
 same_bit true false h = absurd (h (λ e. true≢false e))
 same_bit false true h = absurd (h (λ e. true≢false (sym e)))
+same_bit x y h = refl
 
 -- whether they are equal is decided
 same_flags : (xs ys : List Bool) → ((xs ≡ ys → ⊥) → ⊥) → xs ≡ ys
 same_flags [] [] h = refl
-same_flags [] (y ∷ ys) h = absurd (h (λ e. cc))
-same_flags (x ∷ xs) [] h = absurd (h (λ e. cc))
 same_flags (x ∷ xs) (y ∷ ys) h =
     let first : x ≡ y = same_bit x y (λ k. h (λ e. k (cc))) in
     let more : xs ≡ ys = same_flags xs ys (λ k. h (λ e. k (cc))) in
     cc
+same_flags xs ys h = absurd (h (λ e. cc))
 
 none_is_replicate : (n : ℕ) (xs : List Bool) → length xs ≡ n → NoneOf xs → xs ≡ replicate n false
 none_is_replicate zero [] l none = refl
-none_is_replicate zero (x ∷ xs) l none = absurd (omega (arith, l))
-none_is_replicate (suc n) [] l none = absurd (omega (arith, l))
 none_is_replicate (suc n) (x ∷ xs) l none =
     let first : x ≡ false = none 0 in
     let more : xs ≡ replicate n false = none_is_replicate n xs (omega (arith, l)) (λ k. none (suc k)) in
     cc
+none_is_replicate n xs l none = absurd (omega (arith, l))
 
 locals_long : (made : Bool) (w : Option (ℕ × Given)) (stack locals : List Bool) → length (locals_after false (λ type. made) w stack locals) ≡ length locals
 locals_long made None stack locals = refl

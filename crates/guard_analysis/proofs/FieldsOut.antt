@@ -1,19 +1,19 @@
 -- No instruction of any method puts out a field that is owned.
-use Rattle.std.proofs.Common.{◌≡◌, ◌<◌, ℕ, zero, suc, Bool, true, false, not, ◌&&◌, List, [], ◌∷◌, length, replicate, Option, Some, None, refl, sym, ap, ◌∙◌, subst, arith, ◌==◌, slice_get, slice_index_or, IsSomeAnd}
+use Rattle.std.proofs.Common.{◌≡◌, ℕ, suc, Bool, true, false, not, ◌&&◌, List, [], ◌∷◌, length, Option, Some, None, refl, sym, ap, ◌∙◌, subst, arith, ◌==◌, slice_get, slice_index_or, IsSomeAnd}
 use Rattle.std.proofs.lemmas.{Bool.{and_from, and_parts, eqb-true, eq-eqb, true≢false}, List.length-map, Option.same_Some}
-use Rattle.jvm_types.specs.{Numbers.has_number, ProgramInvariant.{IsProgram, IsTargetOf, site_in}, Verifying.{edges, IsLaidOut}, declared.{code.{Insn.Insn, Op.Op}, program.{FieldInfo.FieldInfo, MethodInfo.MethodInfo}}}
-use Rattle.jvm_types.specs.declared.program.{Program.Program, Row.Row, Target.Target}
+use Rattle.jvm_types.specs.{Numbers.has_number, ProgramInvariant.{IsProgram, IsTargetOf, site_in}, Verifying.{edges, IsLaidOut}, declared.{code.{Insn.Insn, Op.Op}, program.MethodInfo.MethodInfo}}
+use Rattle.jvm_types.specs.declared.program.{Program.Program, Target.Target}
 use Rattle.laws_programs.proofs.CodeOrder.{have_targets}
 use Rattle.code_table.{specs.PcTables.{number_at, Ascend}, proofs.NumbersExact.exact}
-use Rattle.checked_program.specs.{Colours.{ColourShape, is_coloured, IsColouring}, FrozenPlaces.{is_field_of, stands_guarded, PutsGuarded}, LockTags.{TagShape, is_this}}
-use Rattle.checked_program.specs.OwnedArrays.{GetsOnThis, is_branched_to, StoresNew, PutsNew, may_take_array, StoresGuarded, UsesArrayWell, IsOwnedArrayField}
-use Rattle.checked_program.specs.{SectionLaws.AreTagged, TaggedCode.{IsAt, row_of}, Tagging.catchers, declared.tag.Tag.TheVariants.{Untagged, This}}
+use Rattle.checked_program.specs.{Colours.{ColourShape, is_coloured}, FrozenPlaces.{is_field_of, stands_guarded, PutsGuarded}, LockTags.{TagShape, is_this}}
+use Rattle.checked_program.specs.OwnedArrays.{GetsOnThis, StoresNew, PutsNew, StoresGuarded, UsesArrayWell, IsOwnedArrayField}
+use Rattle.checked_program.specs.{SectionLaws.AreTagged, TaggedCode.{IsAt, row_of}, Tagging.catchers, declared.tag.Tag.TheVariants.Untagged}
 use Rattle.checked_program.proofs.NamedFields.{target_named}
 use Rattle.laws_sections.proofs.ArrayColours.{reads_own, writes_own, NoneOf, none_at_all, none_first}
 use Rattle.guard_analysis.specs.{ColourVisits.{is_array_field, field_colours_after, is_colour_of, of_field, colour_at}, FieldUses.writes_guarded, OwnedFound.{named_by, colours_of, is_making_array, is_newarray, stores_new, branched_flags, handlers_of}}
 use Rattle.guard_analysis.specs.declared.colouring.Colour.{Colour, TheVariants.Plain}
-use Rattle.guard_analysis.proofs.ColourChecks.{IsOther, coloured, deeper, BringsOther, BringsOtherTo, TakesOther, UsesOther, InsnOther, uses, takes, onward, caught}
-use Rattle.guard_analysis.proofs.{ColourFrames.read_is, ColourPaths.ColouredMethod, FieldColours.{ColouredField, names_field, array_parts, no_class, none_brought, none_of_field, HasColours, colours_brought, are_there}, FieldUseLaws.guard_whole, MethodChecks.{pc_of, branched_is, handler_there, OtherAt}}
+use Rattle.guard_analysis.proofs.ColourChecks.{IsOther, coloured, deeper, BringsOther, UsesOther, InsnOther, uses, takes, onward, caught}
+use Rattle.guard_analysis.proofs.{ColourFrames.read_is, ColourPaths.ColouredMethod, FieldColours.{ColouredField, names_field, no_class, none_brought, none_of_field, colours_brought, are_there}, FieldUseLaws.guard_whole, MethodChecks.{branched_is, handler_there, OtherAt}}
 use Rattle.jvm_types.specs.declared.code.Op.TheVariants as ops
 use Rattle.jvm_types.specs.declared.program.Target.TheVariants as targets
 
@@ -108,12 +108,11 @@ module _ (method : ColouredMethod) (program : IsProgram method.p) (fi : ℕ) (ar
 
     none_same : (xs ys : List Bool) → length xs ≡ length ys → NoneOf xs → NoneOf ys → xs ≡ ys
     none_same [] [] l a b = refl
-    none_same [] (y ∷ ys) l a b = absurd (omega (arith, l))
-    none_same (x ∷ xs) [] l a b = absurd (omega (arith, l))
     none_same (x ∷ xs) (y ∷ ys) l a b =
         let first : x ≡ y = a 0 ∙ sym (b 0) in
         let more : xs ≡ ys = none_same xs ys (omega (arith, l)) (λ k. a (suc k)) (λ k. b (suc k)) in
         cc
+    none_same xs ys l a b = absurd (omega (arith, l))
 
     none_differ : (cs : List Colour) (pc : ℕ) → NoneOf (of_field fi cs) → BringsOther p m frames fi cs pc → ⊥
     none_differ cs pc none b =

@@ -1,13 +1,13 @@
 -- The grade of an instruction is the first rule by which it forbids a section of its method, which runs that so.
-use Rattle.std.proofs.Common.{◌≡◌, ℕ, zero, suc, ◌+◌, ◌*◌, ◌<◌, ◌≤◌, ◌≢◌, Bool, true, false, List, length, Option, Some, None, refl, sym, ap, subst, ◌∙◌, arith, ⊎_elim, if◌then◌else◌, slice_get, slice_index, slice_index_or}
-use Rattle.std.proofs.lemmas.{Bool.cases_eq, List.{length-append, get_or_append_left, get_or_push}, Option.same_Some}
+use Rattle.std.proofs.Common.{◌≡◌, ℕ, zero, suc, ◌+◌, ◌*◌, ◌<◌, ◌≤◌, Bool, true, false, List, length, Option, Some, None, refl, sym, ap, subst, ◌∙◌, arith, if◌then◌else◌, slice_get, slice_index_or}
+use Rattle.std.proofs.lemmas.Option.{same_Some}
 use Rattle.jvm_types.specs.{ProgramInvariant.IsProgram, declared.{code.Op.Op, program.{MethodInfo.MethodInfo, Program.Program, Target.Target}}}
 use Rattle.checked_program.specs.{LockTags.TagShape, Marks.{element_fault, Callee, callee, Calls, BreaksAt, section_fault, enter_fault, call_fault, use_fault, receiver_tag, called_mode, called_method}}
 use Rattle.checked_program.specs.{OwnedArrays.reads_owned, TaggedCode.{Tagged, tagged_by}, declared.section.{FieldUse.{FieldUse, TheVariants.{Frozen, Guarded, Open}}, Mode.{Mode, TheVariants.{OnThis, OffThis, OnClass}}, Uses.Uses}}
 use Rattle.checked_program.specs.declared.tag.{Tag.Tag, Tags.Tags}
 use Rattle.guard_analysis.specs.{CallGraph.{mode_number, node_of, call_at, call_node}, Faults.{fault_at, grade_of, grade_at, grades_before, IsModeFor, AreCallees, LeadsToBreak, LeadsToItself}}
 use Rattle.guard_analysis.{specs.SectionGrades.{Forbids, breaks, calls, recurs, IsGrade, AreGrades}, proofs.CallEdges.{with_tags, frames_there, called_inside, call_parts, node_parts, node_there}}
-use Rattle.guard_analysis.proofs.CalleesFound.{breaks_one, same_callee, fits_called}
+use Rattle.guard_analysis.proofs.{CalleesFound.{breaks_one, same_callee, fits_called}, ListsMade.{made_long, made_at}}
 use Rattle.jvm_types.specs.declared.code.Op.TheVariants as ops
 use Rattle.jvm_types.specs.declared.program.Target.TheVariants as targets
 
@@ -45,8 +45,7 @@ fault_low p uses mode op target stack owned = omega arith
 
 pub forbids_low : (p : Program) (tags : Tagged) (uses : Uses) (mode : Mode) (mi i k : ℕ) → Forbids p tags uses mode mi i k → (0 < k) × (k ≤ 7)
 forbids_low p tags uses mode mi i k (breaks n b) = let low : n ≤ 5 = subst (λ x. x ≤ 5) b.fault_is (fault_low p uses.fields mode b.insn.op b.target b.f.stack (reads_owned uses mi i)) in (b.some, omega (arith, low))
-forbids_low p tags uses mode mi i k (calls first c l) = (omega arith, omega arith)
-forbids_low p tags uses mode mi i k (recurs first c l) = (omega arith, omega arith)
+forbids_low p tags uses mode mi i k e = (omega arith, omega arith)
 
 -- ---- of a method with its frames
 
@@ -129,8 +128,7 @@ module _ (p : Program) (uses : Uses) (tags : List Tags) (is : IsProgram p) (mi :
 
         least : (k : ℕ) → Forbids p (tagged_by tags) uses mode mi i k → suc n ≤ k
         least k (breaks x b) = omega (arith, fault_known mode i x b, e)
-        least k (calls first c l) = omega (arith, low)
-        least k (recurs first c l) = omega (arith, low)
+        least k e = omega (arith, low)
 
     -- where it breaks none and calls none
     by_none : (i : ℕ) → own_fault i ≡ 0 → own_call i ≡ None → Grade i 0
@@ -165,8 +163,7 @@ module _ (p : Program) (uses : Uses) (tags : List Tags) (is : IsProgram p) (mi :
 
         at_least_six : (k : ℕ) → Forbids p (tagged_by tags) uses mode mi i k → 6 ≤ k
         at_least_six k (breaks x b) = absurd (no_break x b)
-        at_least_six k (calls first d l) = omega arith
-        at_least_six k (recurs first d l) = omega arith
+        at_least_six k e = omega arith
 
         at_least_seven : slice_index_or broken y false ≡ false → (k : ℕ) → Forbids p (tagged_by tags) uses mode mi i k → 7 ≤ k
         at_least_seven w k (breaks x b) = absurd (no_break x b)
@@ -197,18 +194,9 @@ module _ (p : Program) (uses : Uses) (tags : List Tags) (is : IsProgram p) (mi :
         by_parts zero (Some y) e c = by_call i y e c (slice_index_or broken y false) (slice_index_or again y false) refl refl
         by_parts (suc n) o e c = by_fault i n e
 
-    grades_long : (n : ℕ) → length (grades_before p uses broken again mode mi m t.frames n) ≡ n
-    grades_long zero = refl
-    grades_long (suc n) = length-append (grades_before p uses broken again mode mi m t.frames n) _ ∙ ap (λ k. k + 1) (grades_long n) ∙ omega arith
-
-    grades_at : (n i : ℕ) → i < n → slice_index (grades_before p uses broken again mode mi m t.frames n) i ≡ grade_at p uses broken again mode mi m t.frames i
-    grades_at zero i l = absurd (omega (arith, l))
-    grades_at (suc n) i l = ⊎_elim
-        (λ (q : i ≡ n). get_or_push (grades_before p uses broken again mode mi m t.frames n) (grade_at p uses broken again mode mi m t.frames n) 0 i (grades_long n ∙ sym q) ∙ ap (grade_at p uses broken again mode mi m t.frames) (sym q))
-        (λ (q : i ≢ n). let low : i < n = omega (arith, l, q) in
-        get_or_append_left (grades_before p uses broken again mode mi m t.frames n) _ 0 i (subst (λ k. i < k) (sym (grades_long n)) low) ∙ grades_at n i low)
-        (cases_eq i n)
-
     pub are_grades : (grades : List ℕ) → grades ≡ grades_before p uses broken again mode mi m t.frames (length m.code) → AreGrades p (tagged_by tags) uses mode mi m grades
     are_grades grades e = subst (AreGrades p (tagged_by tags) uses mode mi m) (sym e)
-        (record { long = grades_long (length m.code); each = λ i l. subst (Grade i) (sym (grades_at (length m.code) i l)) (grade_is i) })
+        (record {
+          long = made_long (grade_at p uses broken again mode mi m t.frames) (grades_before p uses broken again mode mi m t.frames) refl (λ n. refl) (length m.code);
+          each = λ i l. subst (Grade i) (sym (made_at (grade_at p uses broken again mode mi m t.frames) (grades_before p uses broken again mode mi m t.frames) refl (λ n. refl) 0 (length m.code) i l)) (grade_is i);
+        })

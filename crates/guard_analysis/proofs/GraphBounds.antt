@@ -1,5 +1,5 @@
 -- The graph of calls is one of few edges.
-use Rattle.std.{proofs.Common.{◌≡◌, ℕ, zero, suc, ◌+◌, ◌*◌, ◌/◌, ◌<◌, ◌≤◌, List, [], ◌∷◌, length, Option, Some, None, refl, subst, ◌∙◌, arith, slice_get, slice_index}, specs.List.sum_by}
+use Rattle.std.{proofs.Common.{◌≡◌, ℕ, zero, suc, ◌+◌, ◌*◌, ◌/◌, ◌<◌, ◌≤◌, List, [], ◌∷◌, length, Option, Some, refl, subst, ◌∙◌, arith, slice_get, slice_index}, specs.List.sum_by}
 use Rattle.std.proofs.lemmas.List.Sums.{sum_by-cons}
 use Rattle.jvm_types.specs.{ProgramInvariant.IsProgram, declared.program.{MethodInfo.MethodInfo, Program.Program}}
 use Rattle.graph_closure.specs.LeastSet.{IsGraph}
@@ -12,8 +12,7 @@ edges_few p m frames a g (suc i) = omega (arith, with_few a (edges_before p m fr
 
 node_few : (p : Program) (om : Option MethodInfo) (ot : Option Tags) (a : ℕ) (g : Graph) → length (node_edges p om ot a g).from ≤ length g.from + size_of om
 node_few p (Some m) (Some t) a g = edges_few p m t.frames a g (length m.code)
-node_few p (Some m) None a g = omega arith
-node_few p None ot a g = omega arith
+node_few p om ot a g = omega arith
 
 -- ---- all instructions, each counted for the three modes
 

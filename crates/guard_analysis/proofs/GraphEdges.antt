@@ -52,13 +52,11 @@ the_call_past p m frames a i y c = by_insn (slice_get m.code i) refl c
 
 node_alike : (p : Program) (om : Option MethodInfo) (ot : Option Tags) (a : ℕ) (g : Graph) → IsAlike g → IsAlike (node_edges p om ot a g)
 node_alike p (Some m) (Some t) a g l = before_alike p m t.frames a g l (length m.code)
-node_alike p (Some m) None a g l = l
-node_alike p None ot a g l = l
+node_alike p om ot a g l = l
 
 node_kept : (p : Program) (om : Option MethodInfo) (ot : Option Tags) (a : ℕ) (g : Graph) (x y : ℕ) → IsAlike g → IsEdge g.from g.to x y → IsEdge (node_edges p om ot a g).from (node_edges p om ot a g).to x y
 node_kept p (Some m) (Some t) a g x y l e = before_kept p m t.frames a g l (length m.code) x y e
-node_kept p (Some m) None a g x y l e = e
-node_kept p None ot a g x y l e = e
+node_kept p om ot a g x y l e = e
 
 node_added : (p : Program) (om : Option MethodInfo) (ot : Option Tags) (a : ℕ) (g : Graph) (y : ℕ) → IsAlike g → CallAt p om ot a y → IsEdge (node_edges p om ot a g).from (node_edges p om ot a g).to a y
 node_added p om ot a g y l c = rw (c.is_m, c.is_t) (before_added p c.m c.t.frames a g l (length c.m.code) c.i y c.inside c.call)

@@ -1,6 +1,6 @@
 -- Marks one behind the other complete the marks of all sections.
 use Rattle.std.proofs.Common.{◌≡◌, ℕ, zero, suc, ◌+◌, ◌<◌, ◌≤◌, true, List, [], ◌∷◌, ◌++◌, length, map, drop, Option, Some, None, refl, sym, ap, subst, ◌∙◌, arith, append_assoc, if◌then◌else◌, slice_get, slice_index}
-use Rattle.std.{specs.{List.{AllZip, filter_map, cons_option}, Option.option_to_list}, proofs.lemmas.List.map-append}
+use Rattle.std.{specs.{List.{AllZip, filter_map, cons_option}, Option.option_to_list}, proofs.lemmas.List.{map-append, drop_all}}
 use Rattle.jvm_types.specs.{Members.is_synchronized, declared.{code.{Insn.Insn, Op.Op}, program.{MethodInfo.MethodInfo, Program.Program}}}
 use Rattle.checked_program.specs.{LockTags.TagShape, MarkedProgram.AreTaggings, Marks.IsMarkOf, Sections.{Section, block_at, spots_of, sections, sections_from}, TaggedCode.Tagged}
 use Rattle.checked_program.specs.declared.{section.{SectionMark.SectionMark, Spot.{Spot, TheVariants.{Method, Block}}, Uses.Uses}, tag.Tags.Tags}
@@ -49,14 +49,8 @@ module _ (p : Program) (tags : Tagged) (uses : Uses) (mi : ℕ) where
       subst (λ n. Continues p tags uses all (blocks_of (drop n code) ++ rest) new) (sym next)
       (k all (blocks_of (drop (suc i) code) ++ rest) (subst (λ x. Continues p tags uses all x mid) shown (h all rest c)))
 
-  drop_all : {A : Type 0} (xs : List A) (n : ℕ) → length xs ≤ n → drop n xs ≡ []
-  drop_all [] zero l = refl
-  drop_all [] (suc n) l = refl
-  drop_all (x ∷ xs) zero l = absurd (omega (arith, l))
-  drop_all (x ∷ xs) (suc n) l = drop_all xs n (omega (arith, l))
-
   pub blocks_end : (code : List Insn) (i : ℕ) (old new : List SectionMark) → length code ≤ i → MarksUpTo p tags uses mi code i old new → Marks p tags uses (blocks_of code) old new
-  blocks_end code i old new l h all rest c = subst (λ x. Continues p tags uses all (blocks_of x ++ rest) new) (drop_all code i l) (h all rest c)
+  blocks_end code i old new l h all rest c = subst (λ x. Continues p tags uses all (blocks_of x ++ rest) new) (drop_all i code l) (h all rest c)
 
   pub both_marked : (m : MethodInfo) (old mid new : List SectionMark) → Marks p tags uses (map (section_in mi) (whole_of m)) old mid → Marks p tags uses (blocks_of m.code) mid new → Marks p tags uses (map (section_in mi) (spots_of m)) old new
   both_marked m old mid new h k all rest c =

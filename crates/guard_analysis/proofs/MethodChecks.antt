@@ -1,5 +1,5 @@
 -- Where branches lead, as flags; and which fields the checks of all instructions of a method put out.
-use Rattle.std.proofs.Common.{◌≡◌, ◌<◌, ◌≢◌, ℕ, zero, suc, Bool, true, false, List, [], ◌∷◌, length, map, replicate, Option, Some, None, refl, sym, ap, ◌∙◌, subst, arith, ⊎_elim, ◌⊎◌, inl, inr, ◌==◌, ◌||◌, if◌then◌else◌, slice_get}
+use Rattle.std.proofs.Common.{◌≡◌, ◌<◌, ◌≢◌, ℕ, zero, suc, Bool, true, false, List, [], ◌∷◌, length, replicate, Option, Some, None, refl, sym, ap, ◌∙◌, subst, arith, ⊎_elim, ◌⊎◌, inl, inr, ◌==◌, ◌||◌, if◌then◌else◌, slice_get}
 use Rattle.std.{specs.{List.list_any, Option.option_map}, proofs.lemmas.{Bool.{cases_eq, eqb-true, eq-eqb, or_left, or_right}, List.length-replicate, Option.{same_Some, slice_get_within}}}
 use Rattle.jvm_types.specs.{CodeTable.branches_to, Numbers.has_number, declared.{code.Insn.Insn, program.{MethodInfo.MethodInfo, Program.Program, Row.Row, Target.Target}}}
 use Rattle.code_table.{specs.PcTables.{number_at, Ascend}, proofs.NumbersExact.number_here}
@@ -96,10 +96,9 @@ branched_is m i insn up e = by_both (is_set (branched_flags m) i) (is_branched_t
     back h = all.all i (subst (λ (n : ℕ). i < n) (sym (length-replicate (length m.code) false)) (slice_get_within m.code i insn e)) (leads _ _ refl refl h)
 
     by_both : (s t : Bool) → is_set (branched_flags m) i ≡ s → is_branched_to m insn.pc ≡ t → s ≡ t
-    by_both true true f g = refl
-    by_both false false f g = refl
     by_both true false f g = sym (there f) ∙ g
     by_both false true f g = sym f ∙ back g
+    by_both s t f g = refl
 
 -- ---- all instructions of a method
 
@@ -130,12 +129,8 @@ module _ (p : Program) (m : MethodInfo) (tags : List (Option TagShape)) (branche
       that fi a b u s e g h k x = subst (λ (z : Insn). InsnOther p m branched frames i z target (row_of p m z target) f stack fi) (sym e)
           (subst (λ (z : Target). InsnOther p m branched frames i a z (row_of p m a z) f stack fi) (sym g)
           (subst (λ (z : TagShape). InsnOther p m branched frames i a b (row_of p m a b) z stack fi) (sym h) (subst (λ (z : List Colour). InsnOther p m branched frames i a b (row_of p m a b) u z fi) (sym k) x)))
-  puts_at i None ot of os outs = puts_so outs outs (λ fi. ⊥) (λ fi. Parts None ot of os fi i) (puts_none outs) (λ fi x. absurd x) (λ fi x. let e : None ≡ Some x.0 = x.4 in cc)
-  puts_at i (Some insn) None of os outs = puts_so outs outs (λ fi. ⊥) (λ fi. Parts (Some insn) None of os fi i) (puts_none outs) (λ fi x. absurd x) (λ fi x. let e : None ≡ Some x.1 = x.5 in cc)
-  puts_at i (Some insn) (Some target) None os outs = puts_so outs outs (λ fi. ⊥) (λ fi. Parts (Some insn) (Some target) None os fi i) (puts_none outs) (λ fi x. absurd x) (λ fi x. let e : None ≡ Some (Some x.2) = x.6 in cc)
-  puts_at i (Some insn) (Some target) (Some None) os outs = puts_so outs outs (λ fi. ⊥) (λ fi. Parts (Some insn) (Some target) (Some None) os fi i) (puts_none outs) (λ fi x. absurd x) (λ fi x. let e : Some None ≡ Some (Some x.2) = x.6 in cc)
-  puts_at i (Some insn) (Some target) (Some (Some f)) None outs = puts_so outs outs (λ fi. ⊥) (λ fi. Parts (Some insn) (Some target) (Some (Some f)) None fi i) (puts_none outs) (λ fi x. absurd x) (λ fi x. let e : None ≡ Some (Some x.3) = x.7 in cc)
-  puts_at i (Some insn) (Some target) (Some (Some f)) (Some None) outs = puts_so outs outs (λ fi. ⊥) (λ fi. Parts (Some insn) (Some target) (Some (Some f)) (Some None) fi i) (puts_none outs) (λ fi x. absurd x) (λ fi x. let e : Some None ≡ Some (Some x.3) = x.7 in cc)
+  puts_at i oi ot of os outs = puts_so outs outs (λ fi. ⊥) (λ fi. Parts oi ot of os fi i) (puts_none outs) (λ fi x. absurd x)
+      (λ fi x. let a : oi ≡ Some x.0 = x.4 in let b : ot ≡ Some x.1 = x.5 in let c : of ≡ Some (Some x.2) = x.6 in let d : os ≡ Some (Some x.3) = x.7 in cc)
 
   abbrev pub OtherBefore : (fi n : ℕ) → Type 0
   OtherBefore fi n = (i : ℕ) × (i < n) × OtherAt fi i

@@ -1,17 +1,17 @@
 -- The fields that no method puts out are those that own their arrays.
-use Rattle.std.proofs.Common.{◌≡◌, ◌<◌, ◌≤◌, ◌≢◌, ◌⊎◌, inl, inr, ⊎_elim, ℕ, zero, suc, ◌+◌, ◌-◌, Bool, true, false, not, ◌&&◌, List, [], ◌∷◌, ◌++◌, length, replicate, Option, Some, None, refl, sym, ap, ◌∙◌, subst, arith, ◌==◌, nat_lt, slice_get, slice_index_or, IsSomeAnd, MatchOption}
-use Rattle.std.proofs.lemmas.{Bool.{and_from, and_parts, cases_eq, eqb-true, eq-eqb, true≢false, not-true, cases_lt, Decides.nat_tests}, List.{length-append, length-replicate, get_or_append_left, get_or_past, get_or_push}, Option.{same_Some, slice_get_within}, Slice.Zip.AllZip-left}
+use Rattle.std.proofs.Common.{◌≡◌, ◌<◌, ◌≢◌, ◌⊎◌, ⊎_elim, ℕ, zero, suc, ◌-◌, Bool, true, false, not, ◌&&◌, List, length, Option, Some, None, refl, sym, ap, ◌∙◌, subst, arith, ◌==◌, nat_lt, slice_get, IsSomeAnd, MatchOption}
+use Rattle.std.proofs.lemmas.{Bool.{and_from, and_parts, cases_eq, eqb-true, eq-eqb, true≢false, not-true, cases_lt, Decides.nat_tests}, List.length-replicate, Option.{same_Some, slice_get_within}, Slice.Zip.AllZip-left}
 use Rattle.jvm_types.specs.{ClassNames.file_class, ProgramInvariant.{IsProgram, IsFileClass, IsTargetOf, site_in}, declared.{code.{Insn.Insn, Op.Op}, program.{FieldInfo.FieldInfo, MethodInfo.MethodInfo}}}
 use Rattle.jvm_types.specs.declared.program.{Program.Program, Target.Target}
 use Rattle.laws_programs.proofs.CodeOrder.{methods_laid_out}
 use Rattle.code_table.{specs.PcTables.Ascend, proofs.LaidOut.ascend}
-use Rattle.checked_program.specs.{FrozenPlaces.{IsFrozenClass, PutsGuarded}, LockTags.TagShape, MarkedProgram.AreTaggings, OwnedArrays.{GetsOnThis, PutsNew, IsOwnedArrayField}, SectionLaws.AreTagged, TaggedCode.{Tagged, IsAt, tagged_by}}
+use Rattle.checked_program.specs.{FrozenPlaces.{IsFrozenClass, PutsGuarded}, LockTags.TagShape, MarkedProgram.AreTaggings, OwnedArrays.{GetsOnThis, PutsNew, IsOwnedArrayField}, SectionLaws.AreTagged, TaggedCode.{IsAt, tagged_by}}
 use Rattle.checked_program.specs.{Tagging.{HasTagging, IsTaggingOf}, Visits.HasFrames, declared.tag.Tags.Tags}
 use Rattle.checked_program.proofs.NamedFields.{target_named}
 use Rattle.laws_sections.proofs.ArrayColours.{reads_own, writes_own}
 use Rattle.frozen_classes.specs.FrozenClasses.{AreFrozenClasses}
-use Rattle.guard_analysis.specs.{ColourVisits.{is_array_field, colour_plan}, FieldUses.{class_flag, field_noted}, OwnedFound.{branched_flags, may_own, fields_left_before, owning_with, owning_before}, declared.colouring.Colour.Colour}
-use Rattle.guard_analysis.proofs.{CallEdges.{with_tags, frames_there}, CheckedMethods.{IsKept, IsOutIn, AreKept}, ColourPaths.ColouredMethod, FieldColours.{IsArrayField, ColouredField, array_parts, array_whole}, FieldUseLaws.{noted_long, noted_keeps, noted_here}, FieldUsesFound.{is_frozen, not_frozen}}
+use Rattle.guard_analysis.specs.{ColourVisits.{is_array_field, colour_plan}, FieldUses.class_flag, OwnedFound.{branched_flags, may_own, fields_left_before, owning_with, owning_before}, declared.colouring.Colour.Colour}
+use Rattle.guard_analysis.proofs.{CallEdges.frames_there, CheckedMethods.{IsKept, IsOutIn, AreKept}, ColourPaths.ColouredMethod, FieldColours.{IsArrayField, ColouredField, array_parts, array_whole}, FieldUseLaws.{noted_long, noted_keeps, noted_here}, FieldUsesFound.{is_frozen, not_frozen}}
 use Rattle.guard_analysis.proofs.{FieldsLeft.{used_well, reads_well, writes_well, writes_new}, FieldsOut.not_out, FlagsPut.is_set, ListsMade.{made_long, made_at, made_past}, MethodChecks.OtherAt}
 use Rattle.jvm_types.specs.declared.code.Op.TheVariants as ops
 use Rattle.jvm_types.specs.declared.program.Target.TheVariants as targets
@@ -36,13 +36,11 @@ module _ (p : Program) (frozen outs : List Bool) where
 module _ (p : Program) (frozen : List Bool) where
   with_long : (t : Bool) (o : Option FieldInfo) (flags : List Bool) → length (owning_with t o flags) ≡ length flags
   with_long true (Some field) flags = noted_long flags (Some (field.class - file_class 0))
-  with_long true None flags = refl
-  with_long false o flags = refl
+  with_long t o flags = refl
 
   with_keeps : (t : Bool) (o : Option FieldInfo) (flags : List Bool) (k : ℕ) → is_set flags k ≡ true → is_set (owning_with t o flags) k ≡ true
   with_keeps true (Some field) flags k h = noted_keeps flags (Some (field.class - file_class 0)) k h
-  with_keeps true None flags k h = h
-  with_keeps false o flags k h = h
+  with_keeps t o flags k h = h
 
   owning_long : (n : ℕ) → length (owning_before p frozen n) ≡ length frozen
   owning_long zero = length-replicate (length frozen) false
