@@ -1,11 +1,8 @@
 -- Lists of numbers of methods.
 use Rattle.std.proofs.Common.{◌≡◌, ℕ, zero, suc, ◌+◌, ◌-◌, ◌<◌, ◌≤◌, Bool, true, false, List, [], ◌∷◌, ◌++◌, length, take, drop, Some, None, refl, sym, ap, ◌∙◌, arith, add-one, append_assoc, length-append, slice_get, if◌then◌else◌}
-use Rattle.std.proofs.lemmas.{List.{drop_more, drop-drop, drop-take}, Option.{slice_get_within, get_or_from_slice_get}}
-use Rattle.jvm_types.specs.declared.program.MethodInfo.{MethodInfo}
+use Rattle.std.proofs.lemmas.List.{drop-drop, drop-take}
+use Rattle.jvm_types.{specs.declared.program.MethodInfo.MethodInfo, proofs.EachAfter.drop_got}
 use Rattle.machine_types.specs.Parts.{numbers_of}
-
-pub drop_got : {A : Type 0} (xs : List A) (i : ℕ) (x : A) → slice_get xs i ≡ Some x → drop i xs ≡ x ∷ drop (i + 1) xs
-drop_got xs i x e = drop_more xs i x (slice_get_within xs i x e) ∙ ap (λ y. y ∷ drop (i + 1) xs) (get_or_from_slice_get xs i x x e)
 
 added : (test : Bool) (before : List ℕ) (i : ℕ) (rest : List ℕ) → before ++ (if test then i ∷ rest else rest) ≡ (if test then before ++ i ∷ [] else before) ++ rest
 added true before i rest = sym (append_assoc before (i ∷ []) rest)
@@ -37,8 +34,3 @@ rest_left xs begun until l =
     let more : until - begun ≡ 1 + (until - (begun + 1)) = omega (arith, l) in
     let behind : drop 1 (drop begun xs) ≡ drop (begun + 1) xs = drop-drop 1 begun xs in
     rw (more, drop-take 1 (until - (begun + 1)) (drop begun xs), behind) refl
-
-pub there_is : {A : Type 0} (xs : List A) (i : ℕ) → i < length xs → slice_get xs i ≡ None → ⊥
-there_is [] i l e = absurd (omega (arith, l))
-there_is (x ∷ xs) zero l e = cc
-there_is (x ∷ xs) (suc i) l e = there_is xs i (omega (arith, l)) e

@@ -1,6 +1,6 @@
 use Rattle.std.{proofs.Common.{sym, ap, ◌∙◌}, specs.Option.option_copied}
+use Rattle.jvm_types.proofs.EachAfter.{there_is}
 use Rattle.checked_program.{specs.MarkedProgram.checked_part, proofs.CheckedPlaces.called_fit_all}
-use Rattle.frames.proofs.RootLaws.{there_is}
 use Rattle.frames.proofs.thread_state.ThreadState.push_frame.Goals as goal
 
 pub push_frame-requires-clause-fits : goal.push_frame-requires-clause-fits
