@@ -1,7 +1,7 @@
 -- The places of faults lie in the bytes that were read, so offsets are numbers of the machine.
 use Rattle.std.proofs.{Common.{◌≡◌, ℕ, suc, ◌+◌, ◌^◌, ◌<◌, ◌≤◌, List, [], ◌∷◌, length, get_or, Result, Err, arith}, lemmas.Result.IfErr-at_err}
 use Rattle.jvm_types.specs.{ClassGrammar.IsIndex, Numbers.u2, ReadingClass.code_at, ReadingPool.index_at, ReadingSteps.{Fault, whole}, Spelling.code_body, declared.class_file.Constant.Constant}
-use Rattle.jvm_types.proofs.{AttrLaws.AreParts, FaultPlaces.{Near, index_placed, code_placed, filled_near}, StepLaws.IsBytes}
+use Rattle.jvm_types.proofs.{AttrLaws.AreParts, FaultPlaces.{Near, index_placed, code_placed, filled_near}, StepLaws.bytes_fit}
 use Rattle.class_reader.specs.{Giving.{Fails, HasPlaceInFile}, declared.items.Stop.Stop}
 use Rattle.jvm_types.specs.declared.index_kind.IndexKind.TheVariants as kinds
 use Rattle.class_reader.specs.declared.items.Stop.TheVariants as stops
