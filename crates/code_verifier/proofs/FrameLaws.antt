@@ -1,11 +1,11 @@
 -- Frames by the first of their locals, with nothing known of the others.
 use Rattle.std.proofs.Common.{◌≡◌, ℕ, zero, suc, ◌+◌, ◌-◌, ◌≤◌, min, Bool, true, false, not, List, [], ◌∷◌, ◌++◌, length, map, reverse, drop, replicate, Option, Some, refl, sym, ap, ◌∙◌, arith, ◌||◌, ◌&&◌, if◌then◌else◌, slice_set, slice_index_or}
+use Rattle.std.proofs.Math.Bool.{or-false}
 use Rattle.std.{specs.List.list_any, proofs.lemmas.List.{reverse-append, map-append, length-map, length-set, replicate-append-replicate}}
 use Rattle.jvm_types.specs.CodeTable.{value_of, stack_after, locals_after}
 use Rattle.jvm_types.specs.{Types.{TypeFrame, filled, is_uninitialised, is_new, same_type, same_ready, same_frame, all_pairs, meet, meets, meet_frames}, Verifying.{initialised, after_start}}
 use Rattle.jvm_types.specs.declared.{op_row.{Given.{Given, TheVariants.{Fresh, Taken, Local}}, OpRow.OpRow}, typing.VType.{VType, TheVariants.{Int, Null, Ref, This, New, Top}}}
 use Rattle.jvm_types.proofs.FilledLaws.{length_filled}
-use Rattle.code_visits.proofs.StayLaws.{or_none}
 
 -- ---- whether some place has a property
 
@@ -26,14 +26,14 @@ any_append p (x ∷ xs) ys = by_first (p x) (any_append p xs ys)
 pub any_reverse : (p : VType → Bool) (xs : List VType) → list_any p (reverse xs) ≡ list_any p xs
 any_reverse p [] = refl
 any_reverse p (x ∷ xs) = ap (λ l. list_any p l) (reverse-append (x ∷ []) xs) ∙ any_append p (reverse xs) (x ∷ []) ∙ ap (λ b. b || (p x || false)) (any_reverse p xs)
-    ∙ ap (λ b. list_any p xs || b) (or_none (p x)) ∙ or_comm (list_any p xs) (p x)
+    ∙ ap (λ b. list_any p xs || b) (or-false (p x)) ∙ or_comm (list_any p xs) (p x)
 
 any_unknown : (p : VType → Bool) → p Top ≡ false → (k : ℕ) → list_any p (replicate k Top) ≡ false
 any_unknown p e zero = refl
 any_unknown p e (suc k) = rw e (any_unknown p e k)
 
 pub any_filled : (p : VType → Bool) → p Top ≡ false → (n : ℕ) (ts : List VType) → list_any p (filled n ts) ≡ list_any p ts
-any_filled p e n ts = any_append p ts (replicate (n - length ts) Top) ∙ ap (λ b. list_any p ts || b) (any_unknown p e (n - length ts)) ∙ or_none (list_any p ts)
+any_filled p e n ts = any_append p ts (replicate (n - length ts) Top) ∙ ap (λ b. list_any p ts || b) (any_unknown p e (n - length ts)) ∙ or-false (list_any p ts)
 
 -- of a stack, by its slice with the top last, and of locals, by the first of them
 pub any_stack : (p : VType → Bool) (slice stack : List VType) → reverse slice ≡ stack → list_any p slice ≡ list_any p stack

@@ -3,7 +3,7 @@ use Rattle.std.proofs.Common.{◌≡◌, ℕ, suc, ◌+◌, ◌-◌, ◌<◌, Bo
 use Rattle.jvm_types.specs.{ProgramInvariant.IsProgram, declared.program.{MethodInfo.MethodInfo, Program.Program}}
 use Rattle.machine_types.specs.Parts.{numbers_of}
 use Rattle.frames.proofs.FewMethods.{few_methods}
-use Rattle.plain_frames.proofs.TopPlaces.{drop_got}
+use Rattle.jvm_types.proofs.EachAfter.{drop_got}
 
 before_rest : (test : Bool) (n : ℕ) (rest old before : List ℕ) → before ≡ rest ++ old → (if test then n ∷ before else before) ≡ (if test then n ∷ rest else rest) ++ old
 before_rest true n rest old before e = ap (λ (ns : List ℕ). n ∷ ns) e

@@ -1,5 +1,5 @@
 use Rattle.std.{proofs.Common.{sym, ap, ◌∙◌, ◌-◌, arith}, specs.Option.option_copied}
-use Rattle.plain_frames.proofs.TopPlaces.{there_is}
+use Rattle.jvm_types.proofs.EachAfter.{there_is}
 use Rattle.plain_threads.{specs.Roots.is_plain_root, proofs.RootLaws.roots_step}
 use Rattle.plain_threads.proofs.roots.add_roots.Goals as goal
 
