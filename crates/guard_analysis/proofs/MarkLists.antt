@@ -82,7 +82,7 @@ module _ (p : Program) (tags : Tagged) (uses : Uses) where
   append_none (x ∷ xs) = ap (λ l. x ∷ l) (append_none xs)
 
   pub methods_end : (i : ℕ) (marks : List SectionMark) → length p.methods ≤ i → Continues p tags uses (sections p) (sections_from i (drop i p.methods)) marks → AllZip (IsMarkOf p tags uses) (sections p) marks
-  methods_end i marks l h = subst (λ x. AllZip (IsMarkOf p tags uses) (sections p) x) (append_none marks) (h [] (subst (λ x. AllZip (IsMarkOf p tags uses) (sections_from i x) []) (sym (drop_all p tags uses 0 p.methods i l)) tt))
+  methods_end i marks l h = subst (λ x. AllZip (IsMarkOf p tags uses) (sections p) x) (append_none marks) (h [] (subst (λ x. AllZip (IsMarkOf p tags uses) (sections_from i x) []) (sym (drop_all i p.methods l)) tt))
 
 pub taggings_long : (p : Program) (ms : List MethodInfo) (ts : List Tags) → AreTaggings p ms ts → length ms ≤ length ts
 taggings_long p [] ts h = omega arith
