@@ -15,8 +15,10 @@ impl<T> Model for Told<T> {
     ghost also_owns = { λ _. ftrue };
 }
 
-// It owns nothing.
+// It owns nothing, and a borrow of it has nothing in memory either.
 unsafe impl<T: Send> Send for Told<T> {}
+
+unsafe impl<T: Send> Sync for Told<T> {}
 
 impl<T> Told<T> {
     /// Tells of this value.
