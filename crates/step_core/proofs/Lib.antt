@@ -11,8 +11,10 @@ mod TakenFrames
 mod LocalStretches
 mod SectionEvents
 mod SectionTurns
+mod SharedExits
 mod LoopRuns
 mod OpsInCode
 mod OneInstruction
+mod SharedElements
 mod StretchEvents
 mod EntryRuns

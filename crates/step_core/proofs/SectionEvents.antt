@@ -8,7 +8,7 @@ use Rattle.machine_types.specs.{LockWords.{word_of_lock, lock_of}, Monitors.{fre
 use Rattle.machine_types.specs.declared.phase.Phase.TheVariants.{Take}
 use Rattle.laws_threads.specs.HeldLaws.{HeldHasRoom}
 use Rattle.frames.specs.{FrameLists.{Frames, below, top}, KeptAttempts.with_inner}
-use Rattle.step_core.{specs.{Alone.{ThreadWithWords, IsFine, alone, stepped}, Running.running_at, Sections.{IsExitMade, entering}}, proofs.WordsKept.load_keeps}
+use Rattle.step_core.{specs.{Alone.{ThreadWithWords, IsFine, alone, stepped}, Running.running_at, Sections.{IsExitMade, entering}, Sharing.taking}, proofs.WordsKept.load_keeps}
 use Rattle.machine_types.specs.declared.lock.Kept.TheVariants as keeps
 
 lock_of_free : (n : ℕ) → lock_of (word_of_lock (Free n)) ≡ Free n
@@ -54,9 +54,6 @@ begins_attempt c s f count m noted words some held none may word few =
     begins_by c s f count m noted words f.frames refl some held none may word few
 
 -- its event that looks at the lock has been made
-abbrev pub taking : Thread → Frames → (count m noted : ℕ) → Thread
-taking s f count m noted = record (entering s f count m) { phase = Take m noted }
-
 pub looks_to_take : (c : MarkedProgram) (s : Thread) (f : Frames) (count m noted : ℕ) (words : List ℕ)
     → held_at s.held m ≡ None → s.attempt ≡ None → may_try c (entering s f count m) 0 ≡ false
     → slice_index words m ≡ word_of_lock (Free noted)
@@ -173,16 +170,21 @@ lawful_taking : (c : MarkedProgram) (s : Thread) (f : Frames) (count m noted : �
 lawful_taking c s f count m noted words held none locks word fine =
     (subst (λ (b : ThreadWithWords). IsFine c b) (looks_to_take c s f count m noted words held none locks word) fine).lawful
 
+pub room_to_take : (c : MarkedProgram) (s first : Thread) (f : Frames) (count m noted : ℕ)
+    → HeldHasRoom → s.program ≡ c → length f.frames ≤ MOST_FRAMES → first ≡ record s { turns = 0 }
+    → IsLawful c (taking s f count m noted) → length first.held < places_of first.program
+room_to_take c s first f count m noted law same few begun lawful =
+    subst (λ (t : Thread). length t.held < places_of t.program) (sym begun)
+    (subst (λ (d : MarkedProgram). length s.held < places_of d) (sym same)
+    (law c lawful.was (taking s f count m noted) lawful.structured few tt))
+
 pub place_to_take : (c : MarkedProgram) (s first : Thread) (f : Frames) (count m noted : ℕ) (words : List ℕ)
     → HeldHasRoom → s.program ≡ c → length f.frames ≤ MOST_FRAMES → first ≡ record s { turns = 0 }
     → held_at s.held m ≡ None → s.attempt ≡ None → may_try c (entering s f count m) 0 ≡ false
     → slice_index words m ≡ word_of_lock (Free noted)
     → IsFine c (stepped c (alone (entering s f count m) words)) → length first.held < places_of first.program
 place_to_take c s first f count m noted words law same few begun held none locks word fine =
-    let lawful = lawful_taking c s f count m noted words held none locks word fine in
-    subst (λ (t : Thread). length t.held < places_of t.program) (sym begun)
-    (subst (λ (d : MarkedProgram). length s.held < places_of d) (sym same)
-    (law c lawful.was (taking s f count m noted) lawful.structured few tt))
+    room_to_take c s first f count m noted law same few begun (lawful_taking c s f count m noted words held none locks word fine)
 
 pub few_taken : (c : MarkedProgram) (s first : Thread) (f : Frames) (count m noted : ℕ) (words : List ℕ)
     → s.cfg.steps ≤ 4294967295 → first ≡ record s { turns = 0 }

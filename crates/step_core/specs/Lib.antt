@@ -9,3 +9,4 @@ pub mod Passing
 pub mod Sections
 pub mod Nearby
 pub mod Progress
+pub mod Sharing

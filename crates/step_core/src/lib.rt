@@ -11,9 +11,10 @@ mod marked;
 mod moving;
 mod wanting;
 
-pub use ahead::{run_ahead, run_local};
+pub use ahead::{Element, Exit, RunLoop, Sort, run_ahead};
 pub use entry_code::EntryTables;
 pub use halves::{Want, apply_effect, step_or_want};
 pub use instr_effects::perform;
+pub use instr_steps::Place;
 pub use moving::{apply, event, step_local};
 pub use wanting::want;

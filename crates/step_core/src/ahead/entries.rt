@@ -80,7 +80,7 @@ fn enter_section_again(
 
 /// Whether the section that the top frame enters may be tried without its lock.
 #[inline(always)]
-fn may_try(s: &ThreadState, f: &FrameStack, p: &Checked, monitor: u32, count: u32) -> bool
+pub fn may_try(s: &ThreadState, f: &FrameStack, p: &Checked, monitor: u32, count: u32) -> bool
     requires { 0 < length f.now.frames }
     ensures { result ≡ may_try p.now (entering s.now f.now count monitor) 0 }
 {
