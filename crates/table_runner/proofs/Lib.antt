@@ -1,6 +1,9 @@
 mod Accesses
 mod HandedThreads
 mod ManyEvents
+mod OnwardEvents
+mod TouchingLoop
+mod FramesLoop
 pub mod SharedViews
 mod HandsApart
 pub mod SameHands

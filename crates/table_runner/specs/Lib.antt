@@ -2,6 +2,7 @@ pub mod Stepping
 pub mod Accessing
 pub mod Handed
 pub mod Going
+pub mod Onward
 pub mod Sharing
 pub mod Parts
 pub mod Ending

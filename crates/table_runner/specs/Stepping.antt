@@ -64,3 +64,7 @@ pub record MayJoin (table : RunTable) (seat other : RunSeat) (both : View → Vi
   pub some : 0 < table.table_id.words
   pub joins : Joins {S = Unit {0}} (ShowsState table) seat.id seat.view other.id other.view
       (both seat.view other.view) spent
+
+-- the same seat at the same table
+abbrev pub KeepsSeat : RunSeat → RunSeat → Type 0
+KeepsSeat was now = (now.table_id ≡ was.table_id) × (now.id ≡ was.id)

@@ -11,6 +11,7 @@ ghost use Rattle.table_runner.specs.Going.{IsBehindViewAt};
 ghost use Rattle.table_runner.specs.Handed.{steps_behind};
 
 use crate::access::access;
+use crate::going_on::run_on;
 use crate::stepping::{CoreSeat, CoreTable};
 use checked_program::Checked;
 use frames::ThreadState;
@@ -18,7 +19,7 @@ use laws_states::{events_lessen_work, parts_keep_threads, runs_are_safe, runs_ha
 use laws_threads::given_is_kept;
 use std::hint::spin_loop;
 use std::thread::yield_now;
-use step_core::{apply_effect, run_local, step_or_want};
+use step_core::{apply_effect, step_or_want};
 
 /// The next event of thread `t`, which is live, with this state.
 #[inline(always)]
@@ -97,8 +98,8 @@ fn give_way(before: u32, turns: u32) {
     }
 }
 
-/// The next event of thread `t`, which is live, and those behind it that want no access: they leave
-/// less for it to do.
+/// The next event of thread `t`, which is live, and those behind it, as long as it runs and each
+/// goes on by the word that its access finds: they leave less for it to do.
 #[inline(always)]
 fn go_far(s: &mut ThreadState, seat: &mut CoreSeat, table: &CoreTable, p: &Checked, t: u8)
     requires live { is_live s.old.phase ≡ true }
@@ -116,13 +117,11 @@ fn go_far(s: &mut ThreadState, seat: &mut CoreSeat, table: &CoreTable, p: &Check
 {
     given_is_kept();
     runs_are_safe();
-    parts_keep_threads();
-    runs_have_state();
     events_lessen_work();
     let before = s.turns();
     go(s, seat, table, p, t);
     give_way(before, s.turns());
-    run_local(s, p);
+    run_on(s, seat, table, p, table.entries(), t);
 }
 
 /// The events of thread `t` until it is not live. Each of them leaves less for it to do.

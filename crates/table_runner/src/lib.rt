@@ -10,13 +10,16 @@
 mod access;
 mod closing;
 mod events;
+mod going_on;
 mod hands;
 mod opening;
 mod parts;
 mod rule;
 mod running;
+mod sectioning;
 mod sharing;
 mod stepping;
+mod touching;
 mod workers;
 
 pub use hands::Hands;
