@@ -3,8 +3,8 @@ use Rattle.std.proofs.Common.{◌≡◌, ℕ, ◌-◌, ◌*◌, ◌/◌, ◌%◌
 use Rattle.std.{specs.{Int.{w8, w16, w32, is_in_range}, List.{AllByRecursion, flat_map}}, proofs.lemmas.{Bool.Decides.nat_tests, Int.ints}}
 use Rattle.jvm_types.specs.CodeGrammar.{s1, s2, offset, padding_size, spelled_case, SpellsOperands}
 use Rattle.jvm_types.specs.CodeTable.{Form, Plain, Byte, Short, SignedByte, SignedShort, Branch, WideBranch, LocalAndStep, IntArray, Table, Lookup, FormRows, first_row, form_of, constants, loads, stores, stack_moves, arithmetic, control, references}
-use Rattle.jvm_types.specs.{Numbers.{u1, u2, u4, s4}, declared.code.{Case.Case, Cmp.TheVariants.{Eq, Ne, Lt, Ge, Gt, Le}, Op.Op}}
-use Rattle.jvm_types.specs.declared.code.Op.TheVariants.{Nop, AconstNull, Bipush, Sipush, Ldc, LdcW, Iload, Aload, Istore, Astore, Iaload, Iastore, Pop, Pop2, Dup, DupX1, DupX2, Dup2, Swap, Iadd, Isub, Imul, Idiv, Irem, Ineg, Ishl, Ishr, Iushr, Iand, Ior, Ixor, Iinc, I2b, I2c, I2s, If, IfIcmp, IfAcmpeq, IfAcmpne, Ifnull, Ifnonnull, Goto, GotoW, Tableswitch, Lookupswitch, Ireturn, Areturn, Return, Getstatic, Putstatic, Getfield, Putfield, Invokevirtual, Invokespecial, Invokestatic, New, Newarray, Arraylength, Athrow, Monitorenter, Monitorexit}
+use Rattle.jvm_types.specs.{Numbers.{u1, u2, u4, s4}, declared.code.{Case.Case, Op.Op}}
+use Rattle.jvm_types.specs.declared.code.Op.TheVariants.{Iconst, Iload, Aload, Istore, Astore, Iinc, Tableswitch, Lookupswitch}
 use Rattle.asm_text.specs.{CodeLines.{high_of, case_values, operands, names_local, values_of}, Encoding.{low1, low2, low4, way, zero_bytes, ways, pair_ways, operand_bytes}}
 use Rattle.asm_text.specs.{Lines.{Value, Number, Signed, Hex}, Operands.{shape_of, is_target}}
 use lib.IntN.{negsuc}
@@ -55,9 +55,15 @@ rows_hold b (r ∷ rs) h = by_row b r.0 r.1 (first_row rs) h.0 (rows_hold b rs h
 pub same_number : (b k : ℕ) → (b == k) ≡ true → k ≡ b
 same_number b k h = grind (arith, nat_tests)
 
--- the row of one opcode
+-- the row of one opcode, by the operands of its form
 at : (k b : ℕ) (f : Form) → LineLaw k f → RowHolds b (b == k, f)
 at k b f law t = subst (λ (x : ℕ). LineLaw x f) (same_number b k t) law
+
+at_number : (k b : ℕ) (make : ℕ → Op) → ((n : ℕ) → insn_operands k (make n) ≡ pos n ∷ []) → (b == k) ≡ true → (n : ℕ) → insn_operands b (make n) ≡ pos n ∷ []
+at_number k b make law t n = rw (same_number b k t) at law n
+
+at_signed : (k b : ℕ) (make : ℤ → Op) → ((n : ℤ) → insn_operands k (make n) ≡ n ∷ []) → (b == k) ≡ true → (n : ℤ) → insn_operands b (make n) ≡ n ∷ []
+at_signed k b make law t n = rw (same_number b k t) at law n
 
 either_empty : (t : Bool) → map number_of (if t then [] else []) ≡ []
 either_empty true = refl
@@ -66,17 +72,18 @@ either_empty false = refl
 local_empty : (t : Bool) (vs : List Value) → t ≡ true → map number_of (if t then [] else vs) ≡ []
 local_empty t vs h = rw h refl
 
-low_locals : (b : ℕ) → is_in_range 0x1a 0x1d b ≡ true → names_local b ≡ true
-low_locals b h = grind (arith, nat_tests)
+-- an opcode that names its local has no operand
+low_loads : (b : ℕ) → RowHolds b (is_in_range 0x1a 0x1d b, Plain (Iload (b - 0x1a)))
+low_loads b t = local_empty (names_local b) (operands (Iload (b - 0x1a))) (grind (arith, nat_tests, t))
 
-high_locals : (b : ℕ) → is_in_range 0x2a 0x2d b ≡ true → names_local b ≡ true
-high_locals b h = grind (arith, nat_tests)
+high_loads : (b : ℕ) → RowHolds b (is_in_range 0x2a 0x2d b, Plain (Aload (b - 0x2a)))
+high_loads b t = local_empty (names_local b) (operands (Aload (b - 0x2a))) (grind (arith, nat_tests, t))
 
-low_stores : (b : ℕ) → is_in_range 0x3b 0x3e b ≡ true → names_local b ≡ true
-low_stores b h = grind (arith, nat_tests)
+low_stores : (b : ℕ) → RowHolds b (is_in_range 0x3b 0x3e b, Plain (Istore (b - 0x3b)))
+low_stores b t = local_empty (names_local b) (operands (Istore (b - 0x3b))) (grind (arith, nat_tests, t))
 
-high_stores : (b : ℕ) → is_in_range 0x4b 0x4e b ≡ true → names_local b ≡ true
-high_stores b h = grind (arith, nat_tests)
+high_stores : (b : ℕ) → RowHolds b (is_in_range 0x4b 0x4e b, Plain (Astore (b - 0x4b)))
+high_stores b t = local_empty (names_local b) (operands (Astore (b - 0x4b))) (grind (arith, nat_tests, t))
 
 targets_numbers : (targets : List ℕ) → map number_of (map Number targets) ≡ map pos targets
 targets_numbers [] = refl
@@ -93,253 +100,30 @@ lookup_line : (b : ℕ) → names_local b ≡ false → LineLaw b Lookup
 lookup_line b h otherwise cases = rw h (ap (λ (ns : List ℤ). pos otherwise ∷ ns) (cases_numbers cases))
 
 constants_hold : (b : ℕ) → AllByRecursion (RowHolds b) (constants b)
-constants_hold b = (
-  at 0x00 b (Plain Nop) refl,
-  (
-    at 0x01 b (Plain AconstNull) refl,
-    (
-      λ t. either_empty (names_local b),
-      (
-        at 0x10 b (SignedByte Bipush) (λ n. refl),
-        (
-          at 0x11 b (SignedShort Sipush) (λ n. refl),
-          (
-            at 0x12 b (Byte Ldc) (λ n. refl),
-            (
-              at 0x13 b (Short LdcW) (λ n. refl),
-              tt,
-            ),
-          ),
-        ),
-      ),
-    ),
-  ),
-)
+constants_hold b =
+    let ones : RowHolds b (is_in_range 0x02 0x08 b, Plain (Iconst (pos b -ℤ pos 3))) = λ t. either_empty (names_local b) in
+    search (ones, at, at_number, at_signed) depth 12
 
 loads_hold : (b : ℕ) → AllByRecursion (RowHolds b) (loads b)
-loads_hold b = (
-  at 0x15 b (Byte Iload) (λ n. refl),
-  (
-    at 0x19 b (Byte Aload) (λ n. refl),
-    (
-      λ t. local_empty (names_local b) (operands (Iload (b - 0x1a))) (low_locals b t),
-      (
-        λ t. local_empty (names_local b) (operands (Aload (b - 0x2a))) (high_locals b t),
-        (
-          at 0x2e b (Plain Iaload) refl,
-          tt,
-        ),
-      ),
-    ),
-  ),
-)
+loads_hold b = search (at, at_number, low_loads, high_loads) depth 12
 
 stores_hold : (b : ℕ) → AllByRecursion (RowHolds b) (stores b)
-stores_hold b = (
-  at 0x36 b (Byte Istore) (λ n. refl),
-  (
-    at 0x3a b (Byte Astore) (λ n. refl),
-    (
-      λ t. local_empty (names_local b) (operands (Istore (b - 0x3b))) (low_stores b t),
-      (
-        λ t. local_empty (names_local b) (operands (Astore (b - 0x4b))) (high_stores b t),
-        (
-          at 0x4f b (Plain Iastore) refl,
-          tt,
-        ),
-      ),
-    ),
-  ),
-)
+stores_hold b = search (at, at_number, low_stores, high_stores) depth 12
 
 stack_moves_hold : (b : ℕ) → AllByRecursion (RowHolds b) (stack_moves b)
-stack_moves_hold b = (
-  at 0x57 b (Plain Pop) refl,
-  (
-    at 0x58 b (Plain Pop2) refl,
-    (
-      at 0x59 b (Plain Dup) refl,
-      (
-        at 0x5a b (Plain DupX1) refl,
-        (
-          at 0x5b b (Plain DupX2) refl,
-          (
-            at 0x5c b (Plain Dup2) refl,
-            (
-              at 0x5f b (Plain Swap) refl,
-              tt,
-            ),
-          ),
-        ),
-      ),
-    ),
-  ),
-)
+stack_moves_hold b = search (at) depth 12
 
 arithmetic_hold : (b : ℕ) → AllByRecursion (RowHolds b) (arithmetic b)
-arithmetic_hold b = (
-  at 0x60 b (Plain Iadd) refl,
-  (
-    at 0x64 b (Plain Isub) refl,
-    (
-      at 0x68 b (Plain Imul) refl,
-      (
-        at 0x6c b (Plain Idiv) refl,
-        (
-          at 0x70 b (Plain Irem) refl,
-          (
-            at 0x74 b (Plain Ineg) refl,
-            (
-              at 0x78 b (Plain Ishl) refl,
-              (
-                at 0x7a b (Plain Ishr) refl,
-                (
-                  at 0x7c b (Plain Iushr) refl,
-                  (
-                    at 0x7e b (Plain Iand) refl,
-                    (
-                      at 0x80 b (Plain Ior) refl,
-                      (
-                        at 0x82 b (Plain Ixor) refl,
-                        (
-                          at 0x84 b (LocalAndStep Iinc) (λ i n. refl),
-                          (
-                            at 0x91 b (Plain I2b) refl,
-                            (
-                              at 0x92 b (Plain I2c) refl,
-                              (
-                                at 0x93 b (Plain I2s) refl,
-                                tt,
-                              ),
-                            ),
-                          ),
-                        ),
-                      ),
-                    ),
-                  ),
-                ),
-              ),
-            ),
-          ),
-        ),
-      ),
-    ),
-  ),
-)
+arithmetic_hold b = let steps = at 0x84 b (LocalAndStep Iinc) (λ i n. refl) in search (steps, at) depth 24
 
 control_hold : (b : ℕ) → AllByRecursion (RowHolds b) (control b)
-control_hold b = (
-  at 0x99 b (Branch (If Eq)) (λ n. refl),
-  (
-    at 0x9a b (Branch (If Ne)) (λ n. refl),
-    (
-      at 0x9b b (Branch (If Lt)) (λ n. refl),
-      (
-        at 0x9c b (Branch (If Ge)) (λ n. refl),
-        (
-          at 0x9d b (Branch (If Gt)) (λ n. refl),
-          (
-            at 0x9e b (Branch (If Le)) (λ n. refl),
-            (
-              at 0x9f b (Branch (IfIcmp Eq)) (λ n. refl),
-              (
-                at 0xa0 b (Branch (IfIcmp Ne)) (λ n. refl),
-                (
-                  at 0xa1 b (Branch (IfIcmp Lt)) (λ n. refl),
-                  (
-                    at 0xa2 b (Branch (IfIcmp Ge)) (λ n. refl),
-                    (
-                      at 0xa3 b (Branch (IfIcmp Gt)) (λ n. refl),
-                      (
-                        at 0xa4 b (Branch (IfIcmp Le)) (λ n. refl),
-                        (
-                          at 0xa5 b (Branch IfAcmpeq) (λ n. refl),
-                          (
-                            at 0xa6 b (Branch IfAcmpne) (λ n. refl),
-                            (
-                              at 0xa7 b (Branch Goto) (λ n. refl),
-                              (
-                                at 0xaa b Table (table_line 0xaa refl),
-                                (
-                                  at 0xab b Lookup (lookup_line 0xab refl),
-                                  (
-                                    at 0xac b (Plain Ireturn) refl,
-                                    (
-                                      at 0xb0 b (Plain Areturn) refl,
-                                      (
-                                        at 0xb1 b (Plain Return) refl,
-                                        tt,
-                                      ),
-                                    ),
-                                  ),
-                                ),
-                              ),
-                            ),
-                          ),
-                        ),
-                      ),
-                    ),
-                  ),
-                ),
-              ),
-            ),
-          ),
-        ),
-      ),
-    ),
-  ),
-)
+control_hold b =
+    let table = at 0xaa b Table (table_line 0xaa refl) in
+    let lookup = at 0xab b Lookup (lookup_line 0xab refl) in
+    search (table, lookup, at, at_number) depth 32
 
 references_hold : (b : ℕ) → AllByRecursion (RowHolds b) (references b)
-references_hold b = (
-  at 0xb2 b (Short Getstatic) (λ n. refl),
-  (
-    at 0xb3 b (Short Putstatic) (λ n. refl),
-    (
-      at 0xb4 b (Short Getfield) (λ n. refl),
-      (
-        at 0xb5 b (Short Putfield) (λ n. refl),
-        (
-          at 0xb6 b (Short Invokevirtual) (λ n. refl),
-          (
-            at 0xb7 b (Short Invokespecial) (λ n. refl),
-            (
-              at 0xb8 b (Short Invokestatic) (λ n. refl),
-              (
-                at 0xbb b (Short New) (λ n. refl),
-                (
-                  at 0xbc b (IntArray Newarray) refl,
-                  (
-                    at 0xbe b (Plain Arraylength) refl,
-                    (
-                      at 0xbf b (Plain Athrow) refl,
-                      (
-                        at 0xc2 b (Plain Monitorenter) refl,
-                        (
-                          at 0xc3 b (Plain Monitorexit) refl,
-                          (
-                            at 0xc6 b (Branch Ifnull) (λ n. refl),
-                            (
-                              at 0xc7 b (Branch Ifnonnull) (λ n. refl),
-                              (
-                                at 0xc8 b (WideBranch GotoW) (λ n. refl),
-                                tt,
-                              ),
-                            ),
-                          ),
-                        ),
-                      ),
-                    ),
-                  ),
-                ),
-              ),
-            ),
-          ),
-        ),
-      ),
-    ),
-  ),
-)
+references_hold b = search (at, at_number) depth 24
 
 group : (b : ℕ) (t : Bool) (rs : FormRows) (y : Option Form) → AllByRecursion (RowHolds b) rs → LineHolds b y → LineHolds b (if t then first_row rs else y)
 group b true rs y h k = rows_hold b rs h
