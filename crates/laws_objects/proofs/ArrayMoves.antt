@@ -1,6 +1,7 @@
 -- Where an array of an owned field may be behind an instruction: where the colours go.
 use Rattle.std.proofs.Common.{◌≡◌, ℕ, zero, suc, ◌+◌, ◌<◌, Bool, true, false, List, [], ◌∷◌, ◌++◌, length, map, drop, replicate, Option, Some, None, refl, sym, ap, ◌∙◌, subst, arith, slice_set, slice_index_or}
-use Rattle.std.specs.List.{AllByRecursion}
+use Rattle.std.{specs.List.AllByRecursion, proofs.lemmas.List.get_or-drop}
+use Rattle.lists.proofs.ListLaws.{all_weaker}
 use Rattle.jvm_types.specs.{CodeTable.{value_of, stack_after, locals_after}, Numbers.has_number, Verifying.edges}
 use Rattle.jvm_types.specs.declared.{code.Insn.Insn, op_row.{Given.{Given, TheVariants.{Fresh, Taken, Local}}, OpRow.OpRow}, program.Target.Target, typing.VType.VType}
 use Rattle.checked_program.specs.{Colours.{ColourShape, is_read_of, is_coloured, IsColouring}, LockTags.TagShape, MarkedProgram.{MarkedProgram, IsMarked}, OwnedArrays.{may_take_array, IsOwnedArrayField, IsOwnedAt}, SectionLaws.KeepsArray, TaggedCode.{IsAt, row_of}}
@@ -26,10 +27,7 @@ source_is none fresh stack locals rest count same (g ∷ gives) zero = refl
 source_is none fresh stack locals rest count same (g ∷ gives) (suc k) = source_is none fresh stack locals rest count same gives k
 
 pub dropped_at : {A : Type 0} (none : A) (n : ℕ) (xs : List A) (q m : ℕ) → m ≡ n + q → slice_index_or xs m none ≡ slice_index_or (drop n xs) q none
-dropped_at none zero xs q m e = let same : m ≡ q = omega (arith, e) in ap (λ (i : ℕ). slice_index_or xs i none) same
-dropped_at none (suc n) [] q m e = refl
-dropped_at none (suc n) (x ∷ xs) q zero e = absurd (omega (arith, e))
-dropped_at none (suc n) (x ∷ xs) q (suc m) e = dropped_at none n xs q m (omega (arith, e))
+dropped_at none n xs q m e = ap (λ (i : ℕ). slice_index_or xs i none) e ∙ sym (get_or-drop n xs q none)
 
 stack_source : {A : Type 0} (none : A) (fresh : VType → A) (r : OpRow) (stack locals : List A) (k : ℕ)
     → slice_index_or (stack_after none fresh r stack locals) k none ≡ value_of none fresh stack locals (source r.gives (length r.takes) k)
@@ -63,15 +61,11 @@ abbrev pub RowClean : Stores → OpRow → (made : ℕ) → Type 0
 RowClean stores r made = AllByRecursion (GivenClean stores made) r.gives × WriteClean stores made r.writes
 
 pub row_clean : (stores : Stores) (r : OpRow) (made : ℕ) → stores 0 ≡ None → RowOld (IsStoredNowhere stores) r made → RowClean stores r made
-row_clean stores r made null old = (all r.gives old.0, write r.writes old.1)
+row_clean stores r made null old = (all_weaker (GivenOld (IsStoredNowhere stores) made) (GivenClean stores made) one r.gives old.0, write r.writes old.1)
   where
     one : (x : Given) → GivenOld (IsStoredNowhere stores) made x → GivenClean stores made x
     one (Fresh t) h = made_clean stores t made null h
     one x h = tt
-
-    all : (xs : List Given) → AllByRecursion (GivenOld (IsStoredNowhere stores) made) xs → AllByRecursion (GivenClean stores made) xs
-    all [] h = tt
-    all (x ∷ xs) h = (one x h.0, all xs h.1)
 
     write : (o : Option (ℕ × Given)) → WriteOld (IsStoredNowhere stores) made o → WriteClean stores made o
     write None h = tt

@@ -1,5 +1,6 @@
 -- Slots without an array that was stored in an owned field, but for coloured ones: along types, starts and edges.
-use Rattle.std.proofs.Common.{◌≡◌, ◌≢◌, ℕ, zero, suc, ◌+◌, ◌≤◌, Bool, true, false, List, [], ◌∷◌, length, drop, Option, Some, None, refl, sym, ◌∙◌, subst, arith, if◌then◌else◌, slice_set, slice_index_or}
+use Rattle.std.proofs.Common.{◌≡◌, ◌≢◌, ℕ, zero, suc, ◌+◌, ◌≤◌, inl, inr, true, List, [], ◌∷◌, length, drop, Option, Some, None, refl, sym, ◌∙◌, subst, arith, if◌then◌else◌, slice_set, slice_index_or}
+use Rattle.std.proofs.lemmas.Bool.{cases_Bool}
 use Rattle.lists.proofs.TestLaws.{both_are_true}
 use Rattle.jvm_types.specs.{Types.{TypeFrame, is_below, same_type, all_pairs}, Verifying.{initialised, after_start}, declared.typing.VType.VType}
 use Rattle.laws_programs.proofs.LocalRisen.{same_types}
@@ -35,11 +36,7 @@ module _ (Is : (place : ℕ) → VType → (v : ℕ) → Type 0) where
       → SlotsFrom Is m (drop count ts) (drop count vs)
   from_drop zero n m ts vs e a =
       let same : m ≡ n = omega (arith, e) in subst (λ (i : ℕ). SlotsFrom Is i ts vs) (sym same) a
-  from_drop (suc count) n m (t ∷ ts) [] e a = no_values (drop count ts)
-    where
-      no_values : (us : List VType) → SlotsFrom Is m us []
-      no_values [] = tt
-      no_values (u ∷ us) = tt
+  from_drop (suc count) n m (t ∷ ts) [] e a = elim (drop count ts) as (λ (us : List VType). SlotsFrom Is m us []) [ [] ↦ tt | u ∷ us ↦ tt ]
   from_drop (suc count) n m (t ∷ ts) (v ∷ vs) e a = from_drop count (suc n) m ts vs (omega (arith, e)) a.1
   from_drop (suc count) n m [] vs e a = tt
 
@@ -98,11 +95,7 @@ no_stored_along stores = record { rises = λ k t u v b h. rises t u v b h; begin
     as_reference class t v i n h = h
 
     begins : (class : ℕ) (o t : VType) (v : ℕ) → o ≢ types.Int → o ≢ types.Top → IsNoStored stores t v → IsNoStored stores (if same_type o t then types.Ref class else t) v
-    begins class o t v i n h = by_test (same_type o t) refl
-      where
-        by_test : (b : Bool) → same_type o t ≡ b → IsNoStored stores (if b then types.Ref class else t) v
-        by_test true e = let same = same_types o t e in as_reference class t v (λ z. i (same ∙ z)) (λ z. n (same ∙ z)) h
-        by_test false e = h
+    begins class o t v i n h = elim (cases_Bool (same_type o t)) [ inl e ↦ let same = same_types o t e in rw e (as_reference class t v (λ z. i (same ∙ z)) (λ z. n (same ∙ z)) h) | inr e ↦ rw e h ]
 
 pub array_along : (c : MarkedProgram) (stores : Stores) (f : Frame) (number : ℕ) → AlongTypes (IsArraySlot c stores f number)
 array_along c stores f number =

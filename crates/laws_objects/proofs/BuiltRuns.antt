@@ -1,12 +1,13 @@
 -- Every state that a run reaches is as construction says, and an object that is lost in one is so in all that follow.
-use Rattle.std.proofs.Common.{◌≡◌, ℕ, inl, Bool, true, false, List, [], ◌∷◌, ◌++◌, length, Option, Some, None, refl, sym, ap, ◌∙◌, subst, ◌==◌, if◌then◌else◌, slice_get, slice_index}
-use Rattle.std.proofs.lemmas.Bool.{eq-eqb, eqb-true}
+use Rattle.std.proofs.Common.{◌≡◌, ℕ, inl, inr, Bool, true, List, [], ◌∷◌, ◌++◌, length, Option, Some, None, refl, sym, ap, ◌∙◌, subst, ◌==◌, if◌then◌else◌, slice_get, slice_index}
+use Rattle.std.proofs.lemmas.Bool.{cases_Bool, eq-eqb, eqb-true}
 use Rattle.jvm_types.specs.declared.fixed_words.TheConstants.{NEXT_FREE_WORD}
 use Rattle.checked_program.specs.{FrozenPlaces.IsFrozenClass, MarkedProgram.{MarkedProgram, IsMarked}}
 use Rattle.machine_types.specs.{Accesses.{found_by, words_after}, Construction.{Owning, AreFrozen, Construction}}
 use Rattle.machine_types.specs.{Core.{Core, Happening, Of, NextPart, start, event, event_of, next, all_happened, core}, Events.{wanted, moved}, MarkLaws.{HasFrozenTest, HasOwnedTest}}
 use Rattle.machine_types.specs.{OwnedPlaces.nowhere, PlainMemory.{Object, start_objects}, Settings.AreSettings, Standing.tags_of, StartLaws.{StartLiesApart, phase_at_start}, Threads.Thread}
 use Rattle.machine_types.specs.{Worlds.{Begun, Builder, builder, World}, declared.{config.Config.Config, phase.Phase.Phase}}
+use Rattle.laws_threads.proofs.Tests.{either_way}
 use Rattle.laws_threads.specs.{PartLaws.{NextKeepsStructure, counted_next}, StateLaws.{counted_phase_at, counted_after}, StructureLaws.StructureIsKept}
 use Rattle.laws_states.specs.{ChangeLaws.{EventsLeaveOthers, all_objects, run_objects}, HeapFacts.{objects_of, objects_after}, RunFacts.HaveWidth, StateFacts.StateFacts}
 use Rattle.laws_states.{specs.StateLaws.{ProgramsKeepThreads, StartHasState, EventsKeepState, NextKeepsState}, proofs.GrowingRuns.all_append}
@@ -28,20 +29,12 @@ told : (c : MarkedProgram) (frozen : ℕ → Bool) → AreFrozen c frozen → (c
 told c frozen are class is = record {
   frozen = with_class frozen class;
   are = record {
-    those = λ d e. those d (d == class) refl e;
-    with_frozen = λ fi k. also k.field.class (k.field.class == class) (are.with_frozen fi k);
-    with_guarded = λ fi k. also k.field.class (k.field.class == class) (are.with_guarded fi k);
+    those = λ d e. elim (cases_Bool (d == class)) [ inl s ↦ subst (IsFrozenClass c.program (tags_of c)) (sym (eqb-true d class s)) is | inr s ↦ are.those d (rw s at e) ];
+    with_frozen = λ fi k. either_way (λ (b : Bool). (if b then true else frozen k.field.class) ≡ true) (k.field.class == class) refl (are.with_frozen fi k);
+    with_guarded = λ fi k. either_way (λ (b : Bool). (if b then true else frozen k.field.class) ≡ true) (k.field.class == class) refl (are.with_guarded fi k);
   };
   tells = ap (λ (b : Bool). if b then true else frozen class) (eq-eqb class class refl);
 }
-  where
-    those : (d : ℕ) (b : Bool) → (d == class) ≡ b → (if b then true else frozen d) ≡ true → IsFrozenClass c.program (tags_of c) d
-    those d true s e = subst (IsFrozenClass c.program (tags_of c)) (sym (eqb-true d class s)) is
-    those d false s e = are.those d e
-
-    also : (d : ℕ) (b : Bool) → frozen d ≡ true → (if b then true else frozen d) ≡ true
-    also d true e = refl
-    also d false e = e
 
 pub tells_class : HasFrozenTest → (c : MarkedProgram) → IsMarked c → (class : ℕ) → IsFrozenClass c.program (tags_of c) class → TellsClass c class
 tells_class tests c marked class is = let test = tests c marked.marks in told c test.0 test.1 class is

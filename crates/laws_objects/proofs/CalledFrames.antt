@@ -1,7 +1,7 @@
 -- A call: the caller waits, and the called frame has what the caller gave it. An `<init>` of a frozen class begins on what a
 -- `new` of the caller made.
-use Rattle.std.proofs.Common.{◌≡◌, ◌≢◌, ℕ, suc, ◌<◌, Bool, true, false, not, List, [], ◌∷◌, ◌++◌, length, map, drop, Option, Some, None, refl, sym, ap, ◌∙◌, subst, arith, ◌==◌, slice_get, slice_index_or, reverse}
-use Rattle.std.{specs.List.AllByRecursion, proofs.lemmas.Bool.{or_parts, eqb-false, Decides.Decides-eqb}}
+use Rattle.std.proofs.Common.{inl, inr, ◌≡◌, ◌≢◌, ℕ, suc, ◌<◌, Bool, true, false, not, List, [], ◌∷◌, ◌++◌, length, map, drop, Option, Some, None, refl, sym, ap, ◌∙◌, subst, arith, ◌==◌, slice_get, slice_index_or, reverse}
+use Rattle.std.{specs.List.AllByRecursion, proofs.lemmas.Bool.{cases_Bool, or_parts, eqb-false, Decides.Decides-eqb}}
 use Rattle.lists.proofs.TestLaws.{is_true}
 use Rattle.jvm_types.specs.{CodeTable.{arguments, want_of}, Verifying.{suits, some_taken, started}, declared.{code.Op.Op, op_row.Want.Want, program.Target.Target}}
 use Rattle.jvm_types.specs.declared.{op_row.Want.TheVariants.ToStart, program.{Kind.Kind, MethodInfo.MethodInfo}, typing.VType.VType}
@@ -57,11 +57,8 @@ module _ (building : Building) (h : ℕ) (f : Frame) (k : FrameIn building h Run
 
   -- of a method that is no `<init>` of a frozen class, or of one on `this`
   wait_fresh : (young : ℕ → Bool) (receiver : ℕ) (o : Option (VType × ℕ)) → StartsOld young o → (q v : ℕ) → young q ≡ true → w v ≡ Some (builder t h (Made q)) → FreshAtCall w t h receiver o q v
-  wait_fresh young receiver (Some (types.New r, class)) s q v y e = by_test (q == r) refl
-    where
-      by_test : (b : Bool) → (q == r) ≡ b → if_so b (v ≡ receiver) (w v ≡ Some (builder t h (Made q)))
-      by_test true z = absurd (let bad : true ≡ false = sym y ∙ ap young ((Decides-eqb q r).0 z) ∙ s in cc)
-      by_test false z = e
+  wait_fresh young receiver (Some (types.New r, class)) s q v y e =
+      elim (cases_Bool (q == r)) [ inl z ↦ absurd (let bad : true ≡ false = sym y ∙ ap young ((Decides-eqb q r).0 z) ∙ s in cc) | inr z ↦ rw z e ]
   wait_fresh young receiver o s q v y e = e
 
   plain : puts_owned owning.owned k.stands.insn.op k.stands.target ≡ false
@@ -170,10 +167,9 @@ start_slot m R own class (ToStart d ∷ front) us gs vs none l slots s = absurd 
 start_slot m R own class (want ∷ front) (u ∷ us) (g ∷ gs) (v ∷ vs) none l slots s =
     let k = start_slot m R own class front us gs vs none.1 (omega (arith, l)) slots.1 (suits_later m want u (front ++ ToStart class ∷ []) us s) in
     record { type = k.type; tag = k.tag; value = k.value; type_is = k.type_is; tag_is = k.tag_is; value_is = k.value_is; slot = k.slot; suits_it = k.suits_it; begun = k.begun }
-start_slot m R own class front us gs [] none l slots s = absurd (omega (arith, l))
 start_slot m R own class front [] [] (v ∷ vs) none l slots s = absurd slots
-start_slot m R own class front [] (g ∷ gs) (v ∷ vs) none l slots s = absurd slots
-start_slot m R own class front (u ∷ us) [] (v ∷ vs) none l slots s = absurd slots
+start_slot m R own class front [] (g ∷ gs) vs none l slots s = absurd slots
+start_slot m R own class front us gs vs none l slots s = absurd (first_of (assumption, omega (arith, l)))
 
 -- the arguments start nothing
 kinds_start : (ks : List Kind) → AllByRecursion StartsNone (map want_of ks)
@@ -189,7 +185,3 @@ pub none_started : (own : ℕ) (wants : List Want) (us : List VType) → AllByRe
 none_started own (ToStart class ∷ wants) us n = absurd n.0
 none_started own (want ∷ wants) (u ∷ us) n = none_started own wants us n.1
 none_started own wants us n = refl
-
-pub none_append : (front : List Want) (want : Want) → AllByRecursion StartsNone front → StartsNone want → AllByRecursion StartsNone (front ++ want ∷ [])
-none_append [] want a n = (n, tt)
-none_append (x ∷ front) want a n = (a.0, none_append front want a.1 n)

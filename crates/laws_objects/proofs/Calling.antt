@@ -1,10 +1,11 @@
 -- A method is called: the caller waits below the frame of the called method.
-use Rattle.std.proofs.Common.{◌≡◌, ◌≢◌, ℕ, zero, suc, ◌+◌, ◌<◌, ◌≤◌, inl, inr, Bool, true, false, not, ◌&&◌, ◌||◌, List, [], ◌∷◌, ◌++◌, length, Option, Some, None, refl, sym, ap, ◌∙◌, subst, arith, ◌==◌, nat_lt, slice_get, slice_index_or, reverse, take, if◌then◌else◌}
-use Rattle.std.{specs.List.AllByRecursion, proofs.lemmas.{Bool.{cases_Bool, eqb-true, Decides.nat_tests}, List.length-append}}
+use Rattle.std.proofs.Common.{◌≡◌, ◌≢◌, ℕ, suc, ◌+◌, ◌<◌, ◌≤◌, inl, inr, Bool, true, false, not, ◌&&◌, ◌||◌, List, [], ◌∷◌, ◌++◌, length, Option, Some, None, refl, sym, ap, ◌∙◌, subst, arith, ◌==◌, slice_get, slice_index_or, reverse, take, get_or, if◌then◌else◌}
+use Rattle.std.{specs.List.AllByRecursion, proofs.lemmas.{Bool.{cases_Bool, eqb-true, Decides.nat_tests}, List.length-append, Option.{get_or_from_slice_get, slice_get-get_or}}}
 use Rattle.lists.proofs.ListLaws.{same_some}
 use Rattle.jvm_types.specs.{CodeTable.{arguments, is_init}, Members.{MethodSite, is_static, is_init_name, is_class_init_name}, ProgramInvariant.site_in}
 use Rattle.jvm_types.specs.{Verifying.{suits, new_class, is_class_of, started}, declared.{class_numbers.TheConstants.OBJECT_CLASS, code.Op.Op, op_row.{OpRow.OpRow, Want.Want}}}
 use Rattle.jvm_types.specs.declared.{op_row.Want.TheVariants.{AnObject, ToStart}, program.{MethodInfo.MethodInfo, Program.Program, Target.Target}, typing.VType.VType}
+use Rattle.jvm_types.proofs.EachAfter.{all_append}
 use Rattle.laws_programs.{specs.{EntryLaws.receiver_count, TargetLaws.HasRow}, proofs.LocalGoing.at_index}
 use Rattle.checked_program.specs.{CheckedLaws.receiver_want, FrozenPlaces.may_take, MarkedProgram.checked_part, Marks.called_method, declared.tag.Tag.Tag}
 use Rattle.checked_program.{specs.declared.tag.Tag.TheVariants.{Untagged, This}, proofs.CheckedPlaces.called_fit_all}
@@ -13,9 +14,9 @@ use Rattle.machine_types.specs.{Frames.{entry_frame, first_or_null}, OwnedPlaces
 use Rattle.laws_threads.proofs.{Callers.row_of_call, Calls.{CallRow, deepest_first}, Landing.rules_at}
 use Rattle.laws_objects.proofs.{ArrayFrames.{stack_long, slot_of, takes_clean}, ArrayMoves.not_owned, Buildings.{LawfulBuilding, in_world, FrameIn, WaitIn, BelowIn, FramesIn, null}}
 use Rattle.laws_objects.proofs.BuiltEffects.{StartsNone}
-use Rattle.laws_objects.proofs.CalledFrames.{call_stores, call_takes, below_moved, waits_on, caller_waits, begun_world, old_begun, young_waits, below_begun, ReceiverAt, start_slot, arguments_start, none_started, none_append}
+use Rattle.laws_objects.proofs.CalledFrames.{call_stores, call_takes, below_moved, waits_on, caller_waits, begun_world, old_begun, young_waits, below_begun, ReceiverAt, start_slot, arguments_start, none_started}
 use Rattle.laws_objects.proofs.{EnteredFrames.{ArgsOld, args_map, static_args, instance_args, static_enters, instance_enters}, KeptFrames.plain_stack, Landing.{inside_at, no_this_at}}
-use Rattle.laws_objects.proofs.{Moves.{Steps, stays, StartsOld, Suit, suit_at}, Operands.{TakenOld, is_getfield, takes_old}, Slots.plainly}
+use Rattle.laws_objects.proofs.{Moves.{Steps, stays, StartsOld, Suit, suit_at}, Operands.{TakenOld, no_getfield, takes_old}, Slots.plainly}
 use Rattle.laws_objects.proofs.WorldChanges.{finished_known, none_some, given_here, world_given, goes_given, lost_given, not_lost}
 use Rattle.jvm_types.specs.declared.code.Op.TheVariants as ops
 use Rattle.jvm_types.specs.declared.program.Target.TheVariants as targets
@@ -23,20 +24,11 @@ use Rattle.jvm_types.specs.declared.typing.VType.TheVariants as types
 
 -- ---- calls
 
-calls_no_getfield : (op : Op) (target : Target) (number : ℕ) → called_method op target ≡ Some number → is_getfield op ≡ false
-calls_no_getfield (ops.Getfield i) target number e = absurd (let bad : None ≡ Some number = e in cc)
-calls_no_getfield op target number e = refl
-
 calls_take_none : (p : Program) (class : ℕ) (op : Op) (target : Target) (number k : ℕ) → called_method op target ≡ Some number → may_take p class op target k ≡ false
 calls_take_none p class (ops.Invokevirtual i) (targets.Method u) number k e = refl
 calls_take_none p class (ops.Invokespecial i) (targets.Method u) number k e = refl
 calls_take_none p class (ops.Invokestatic i) (targets.Method u) number k e = refl
 calls_take_none p class op target number k e = absurd (let bad : None ≡ Some number = e in cc)
-
-index_got : {A : Type 0} (none : A) (xs : List A) (n : ℕ) (x : A) → slice_get xs n ≡ Some x → slice_index_or xs n none ≡ x
-index_got none [] n x e = absurd (cc)
-index_got none (y ∷ xs) zero x e = same_some e
-index_got none (y ∷ xs) (suc n) x e = index_got none xs n x e
 
 taken_at : (Old : ℕ → Type 0) (front : List Want) (class : ℕ) (s : List ℕ) (v : ℕ) → TakenOld Old (front ++ AnObject class ∷ []) s → slice_get s (length front) ≡ Some v → Old v
 taken_at Old [] class (x ∷ s) v h e = subst Old (same_some e) h.0
@@ -87,16 +79,16 @@ module _ (lawful : LawfulBuilding) (f : Frame) (fs : List Frame) (k : FrameIn la
   call = row_of_call c marked f k.stands number called calls there
 
   tall : length r.takes ≤ length f.stack
-  tall = at_least (length k.stands.types.stack) (length r.takes) (length f.stack) (rules_at c marked f k.stands).rules.takes (stack_long building (length fs) f k)
-    where
-      at_least : (a b d : ℕ) → nat_lt a b ≡ false → a ≡ d → b ≤ d
-      at_least a b d e s = grind (arith, nat_tests, e, s)
+  tall =
+      let e = (rules_at c marked f k.stands).rules.takes in
+      let s = stack_long building (length fs) f k in
+      grind (arith, nat_tests, e, s)
 
   plain_here : puts_owned owning.owned k.stands.insn.op k.stands.target ≡ false
   plain_here = call_stores owning.owned k.stands.insn.op k.stands.target number calls
 
   taken : TakenOld (IsFinished w next) r.takes f.stack
-  taken = takes_old building (length fs) f k (null lawful) (calls_no_getfield k.stands.insn.op k.stands.target number calls) plain_here
+  taken = takes_old building (length fs) f k (null lawful) (no_getfield k.stands.insn.op (call_takes k.stands.insn.op k.stands.target number calls).0) plain_here
 
   taken_clean : TakenOld (IsStoredNowhere owning.stores) r.takes f.stack
   taken_clean = takes_clean building (length fs) f k (call_takes k.stands.insn.op k.stands.target number calls).0
@@ -158,7 +150,7 @@ module _ (lawful : LawfulBuilding) (f : Frame) (fs : List Frame) (k : FrameIn la
         let takes_object : r.takes ≡ arguments called ++ AnObject called.class ∷ [] = takes ∙ ap (λ (b : Bool). arguments called ++ receiver_want b called.class ∷ []) init in
         calls_old (not_built frozen called init) (taken_at (IsFinished w next) (arguments called) called.class f.stack a (subst (λ (ws : List Want). TakenOld (IsFinished w next) ws f.stack) takes_object taken) at)
         (taken_at (IsStoredNowhere owning.stores) (arguments called) called.class f.stack a (subst (λ (ws : List Want). TakenOld (IsStoredNowhere owning.stores) ws f.stack) takes_object taken_clean) at)
-        (nothing_started (subst (AllByRecursion StartsNone) (sym takes_object) (none_append (arguments called) (AnObject called.class) (arguments_start called) tt)))
+        (nothing_started (subst (AllByRecursion StartsNone) (sym takes_object) (all_append StartsNone (arguments called) (AnObject called.class ∷ []) (arguments_start called) (tt, tt))))
 
     -- an `<init>`
     module _ (init : is_init called ≡ true) where
@@ -193,8 +185,8 @@ module _ (lawful : LawfulBuilding) (f : Frame) (fs : List Frame) (k : FrameIn la
           let n : ℕ = length (arguments called) in
           let inside : length (arguments called) < length r.takes = omega (arith, ap (length {A = Want}) takes_start, length-append (arguments called) (ToStart called.class ∷ [])) in
           let slot = slot_of building (length fs) f k n in
-          subst (λ (x : VType). IsNoStored owning.stores x a) (index_got types.Top k.stands.types.stack n u type)
-          (subst (IsNoStored owning.stores (slice_index_or k.stands.types.stack n types.Top)) (index_got 0 f.stack n a at)
+          subst (λ (x : VType). IsNoStored owning.stores x a) (get_or_from_slice_get k.stands.types.stack n u types.Top type)
+          (subst (IsNoStored owning.stores (slice_index_or k.stands.types.stack n types.Top)) (get_or_from_slice_get f.stack n a 0 at)
           (slot.other (not_owned c marked owning.stores f k.stands n inside ((call_takes k.stands.insn.op k.stands.target number calls).1 n))))
 
       -- what a `new` of the caller made
@@ -249,22 +241,19 @@ module _ (lawful : LawfulBuilding) (f : Frame) (fs : List Frame) (k : FrameIn la
               absurd (omega (arith, object, file))
 
       calls_init : Steps w next t (CallKeeps (a ∷ rest))
-      calls_init = by_type p.type refl p.suits_it
+      calls_init = by_type place.type refl place.suits_it
         where
-          p : ReceiverAt m (SlotOf frozen w next t (length fs) Runs m f.receiver) m.class called.class (length (arguments called)) k.stands.types.stack k.stands.tags.stack f.stack (started m.class (arguments called ++ ToStart called.class ∷ []) k.stands.types.stack)
-          p = place
+          by_plain : (builds frozen m ≡ true → place.type ≢ types.This) × SlotByType (IsFinished w next) (IsFresh w t (length fs) Runs) (makes_frozen frozen m) place.type a
+          by_plain = subst (λ (v : ℕ). (builds frozen m ≡ true → place.type ≢ types.This) × SlotByType (IsFinished w next) (IsFresh w t (length fs) Runs) (makes_frozen frozen m) place.type v) (same_some (sym place.value_is ∙ at))
+              (plain (builds frozen m) refl place.type place.tag place.value (λ own. other_tag own place.tag place.tag_is) place.slot)
 
-          by_plain : (builds frozen m ≡ true → p.type ≢ types.This) × SlotByType (IsFinished w next) (IsFresh w t (length fs) Runs) (makes_frozen frozen m) p.type a
-          by_plain = subst (λ (v : ℕ). (builds frozen m ≡ true → p.type ≢ types.This) × SlotByType (IsFinished w next) (IsFresh w t (length fs) Runs) (makes_frozen frozen m) p.type v) (same_some (sym p.value_is ∙ at))
-              (plain (builds frozen m) refl p.type p.tag p.value (λ own. other_tag own p.tag p.tag_is) p.slot)
-
-          by_type : (u : VType) → p.type ≡ u → suits m (ToStart called.class) u ≡ true → Steps w next t (CallKeeps (a ∷ rest))
+          by_type : (u : VType) → place.type ≡ u → suits m (ToStart called.class) u ≡ true → Steps w next t (CallKeeps (a ∷ rest))
           by_type types.This e s =
-              calls_this (frozen called.class) refl (begun_is (Some (types.This, m.class)) (p.begun ∙ ap (λ (x : VType). started m.class (ToStart called.class ∷ []) (x ∷ [])) e)) (p.type_is ∙ ap (λ (x : VType). Some x) e) s
-              (λ own. by_plain.0 own e) (subst (λ (x : VType). SlotByType (IsFinished w next) (IsFresh w t (length fs) Runs) (makes_frozen frozen m) x a) e by_plain.1) (receiver_clean types.This (p.type_is ∙ ap (λ (x : VType). Some x) e))
+              calls_this (frozen called.class) refl (begun_is (Some (types.This, m.class)) (place.begun ∙ ap (λ (x : VType). started m.class (ToStart called.class ∷ []) (x ∷ [])) e)) (place.type_is ∙ ap (λ (x : VType). Some x) e) s
+              (λ own. by_plain.0 own e) (subst (λ (x : VType). SlotByType (IsFinished w next) (IsFresh w t (length fs) Runs) (makes_frozen frozen m) x a) e by_plain.1) (receiver_clean types.This (place.type_is ∙ ap (λ (x : VType). Some x) e))
           by_type (types.New q) e s =
-              calls_new (frozen called.class) refl q s (begun_is (Some (types.New q, called.class)) (p.begun ∙ ap (λ (x : VType). started m.class (ToStart called.class ∷ []) (x ∷ [])) e))
-              (subst (λ (x : VType). SlotByType (IsFinished w next) (IsFresh w t (length fs) Runs) (makes_frozen frozen m) x a) e by_plain.1) (receiver_clean (types.New q) (p.type_is ∙ ap (λ (x : VType). Some x) e))
+              calls_new (frozen called.class) refl q s (begun_is (Some (types.New q, called.class)) (place.begun ∙ ap (λ (x : VType). started m.class (ToStart called.class ∷ []) (x ∷ [])) e))
+              (subst (λ (x : VType). SlotByType (IsFinished w next) (IsFresh w t (length fs) Runs) (makes_frozen frozen m) x a) e by_plain.1) (receiver_clean (types.New q) (place.type_is ∙ ap (λ (x : VType). Some x) e))
           by_type u e s = absurd (cc)
 
     calls_instance : Steps w next t (CallKeeps (a ∷ rest))
@@ -274,7 +263,7 @@ module _ (lawful : LawfulBuilding) (f : Frame) (fs : List Frame) (k : FrameIn la
   calls_it = elim call.by [
     | inl s ↦ let takes = takes_are (arguments called ++ receiver_want (is_init called) called.class ∷ []) s.1 in
         let count : length r.takes ≡ suc (length (arguments called)) = omega (arith, ap (length {A = Want}) takes, length-append (arguments called) (receiver_want (is_init called) called.class ∷ [])) in
-        let v = got (length (arguments called)) f.stack (omega (arith, tall, count)) in
+        let v : (v : ℕ) × (slice_get f.stack (length (arguments called)) ≡ Some v) = (get_or f.stack (length (arguments called)) 0, slice_get-get_or f.stack (length (arguments called)) 0 (omega (arith, tall, count))) in
         let deepest = deepest_first (length (arguments called)) f.stack v.0 v.1 in
         let args : reverse (take (length r.takes) f.stack) ≡ v.0 ∷ deepest.0 = ap (λ (n : ℕ). reverse (take n f.stack)) count ∙ deepest.1 in
         subst (λ (xs : List ℕ). Steps w next t (CallKeeps xs)) (sym args) (calls_instance s.0 takes v.0 deepest.0 v.1 args)
@@ -283,8 +272,3 @@ module _ (lawful : LawfulBuilding) (f : Frame) (fs : List Frame) (k : FrameIn la
     where
       takes_are : (ws : List Want) → call.takes ≡ ws → r.takes ≡ ws
       takes_are ws e = ap (λ (x : OpRow). x.takes) call.is ∙ e
-
-      got : (n : ℕ) (s : List ℕ) → n < length s → (v : ℕ) × (slice_get s n ≡ Some v)
-      got n [] l = absurd (omega (arith, l))
-      got zero (v ∷ s) l = (v, refl)
-      got (suc n) (v ∷ s) l = got n s (omega (arith, l))

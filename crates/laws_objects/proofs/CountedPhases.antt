@@ -1,7 +1,6 @@
 -- What a phase says of the frames and of what it carries, the phase that counts says too.
 use Rattle.std.proofs.Common.{List, subst}
-use Rattle.jvm_types.specs.declared.outcome.End.{End}
-use Rattle.machine_types.specs.{Construction.PhaseKeeps, Structure.{IsLimitAt, IsAs, CountsTurns}, Threads.Frame, declared.phase.Phase.Phase}
+use Rattle.machine_types.specs.{Construction.PhaseKeeps, Structure.{IsAs, CountsTurns}, Threads.Frame, declared.phase.Phase.Phase}
 use Rattle.laws_threads.specs.StructureLaws.{counted_by, turned_from}
 use Rattle.laws_objects.proofs.Buildings.{Building, PhaseIn}
 use Rattle.jvm_types.specs.declared.outcome.End.TheVariants as ends
@@ -18,18 +17,10 @@ module _ (building : Building) (fs : List Frame) where
   turned_fits was is k = assumption
 
   pub counted_fits : (was phase : Phase) → IsAs phase was → PhaseFits building fs was → PhaseFits building fs (counted_by was phase)
-  counted_fits was (phases.Ending e) is k = at_end e is
-    where
-      at_end : (e : End) → IsLimitAt e (phases.Ending e) was → PhaseFits building fs (counted_by was (phases.Ending e))
-      at_end ends.Turns is = turned_fits was is k
-      at_end ends.Records is = k
-      at_end e is = subst (PhaseFits building fs) is k
-  counted_fits was (phases.Ended e) is k = at_end e is
-    where
-      at_end : (e : End) → IsLimitAt e (phases.Ended e) was → PhaseFits building fs (counted_by was (phases.Ended e))
-      at_end ends.Steps is = k
-      at_end ends.Prints is = k
-      at_end ends.Turns is = k
-      at_end ends.Records is = k
-      at_end e is = subst (PhaseFits building fs) is k
+  counted_fits was (phases.Ending ends.Turns) is k = turned_fits was is k
+  counted_fits was (phases.Ending ends.Records) is k = k
+  counted_fits was (phases.Ended ends.Steps) is k = k
+  counted_fits was (phases.Ended ends.Prints) is k = k
+  counted_fits was (phases.Ended ends.Turns) is k = k
+  counted_fits was (phases.Ended ends.Records) is k = k
   counted_fits was phase is k = subst (PhaseFits building fs) is k

@@ -1,5 +1,5 @@
 -- In every run an object is finished by the return of its own `<init>` alone: until then no place and no other thread has it.
-use Rattle.std.proofs.Common.{◌≡◌, ◌≢◌, ℕ, zero, suc, ◌<◌, ◌⊎◌, inl, inr, Bool, true, false, List, [], ◌∷◌, ◌++◌, length, map, Option, Some, None, refl, sym, ap, ◌∙◌, subst, arith, ◌==◌, if◌then◌else◌, slice_get, slice_index}
+use Rattle.std.proofs.Common.{◌≡◌, ◌≢◌, ℕ, zero, suc, ◌<◌, ◌⊎◌, inl, inr, Bool, List, [], ◌∷◌, ◌++◌, length, map, Option, Some, None, refl, sym, ap, ◌∙◌, subst, arith, ◌==◌, if◌then◌else◌, slice_get, slice_index}
 use Rattle.std.proofs.lemmas.Bool.{cases_Bool, eqb-true, eqb-false}
 use Rattle.lists.proofs.ListLaws.{same_some}
 use Rattle.jvm_types.specs.declared.{fixed_words.TheConstants.NEXT_FREE_WORD, program.Program.Program}
@@ -9,7 +9,7 @@ use Rattle.machine_types.specs.{Core.{Core, Happening, Of, NextPart, how_ended, 
 use Rattle.machine_types.specs.{Frames.{Top, top_of, frames_of, given, given_back, returned}, Parts.{run_roots, done_roots}, PlainMemory.Object, Standing.Standing}
 use Rattle.machine_types.specs.{Structure.IsStructured, Threads.{Frame, Attempt, Thread}, Worlds.{Begun, Builder, builder}, declared.{config.Config.Config, phase.Phase.Phase}}
 use Rattle.machine_types.proofs.{Lists.got_when_set, PlainPartLaws.frames_are}
-use Rattle.laws_threads.{specs.{PartLaws.counted_next, StateLaws.counted_after}, proofs.Landing.stand_top}
+use Rattle.laws_threads.{specs.{PartLaws.counted_next, StateLaws.counted_after}, proofs.{Landing.stand_top, Tests.either_way}}
 use Rattle.laws_states.{specs.{ChangeLaws.{all_objects, run_objects}, HeapFacts.objects_after}, proofs.Lists.contained_got}
 use Rattle.laws_objects.{specs.UnfinishedObjects.{ReturnsFrom, NeverReturns, NoOtherHas, FinishedByOwnReturn}, proofs.Buildings.{Building, in_world, PhaseIn, ThreadIn, building_in}}
 use Rattle.laws_objects.proofs.BuiltRuns.{Run, state_of, TellsClass, tells_class, AreBuiltLaws, BuiltThere, LostThere, BuiltIn, event_there, next_there, event_lost, next_lost, nobody_has, reached, lost_behind, core_more, objects_more}
@@ -114,11 +114,8 @@ part_on p (suc part) z workers (suc u) x e = (x, e, record { frames = refl; atte
 
 next_on : (p : Program) (threads : List Thread) (u : ℕ) (x : Thread) → slice_get threads u ≡ Some x → OnThere (next_threads p threads) u x
 next_on p [] u x e = absurd (cc)
-next_on p (z ∷ workers) u x e = by_test (may_begin (z ∷ workers))
-  where
-    by_test : (b : Bool) → OnThere (if b then part_begins p z.part z workers else z ∷ workers) u x
-    by_test true = part_on p z.part z workers u x e
-    by_test false = (x, e, record { frames = refl; attempt = refl })
+next_on p (z ∷ workers) u x e = either_way (λ (b : Bool). OnThere (if b then part_begins p z.part z workers else z ∷ workers) u x) (may_begin (z ∷ workers))
+    (part_on p z.part z workers u x e) (x, e, record { frames = refl; attempt = refl })
 
 -- ---- a state in which it is unfinished
 

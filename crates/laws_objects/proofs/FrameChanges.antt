@@ -1,7 +1,7 @@
 -- What an event makes of the frames of its thread: each stays at its height, of its method and on its receiver, or the top one has
 -- returned, or an exception has left it, or an attempt has failed.
-use Rattle.std.proofs.Common.{◌≡◌, ℕ, suc, ◌+◌, ◌-◌, ◌<◌, ◌⊎◌, inl, inr, Bool, true, false, List, [], ◌∷◌, length, drop, Option, Some, None, refl, sym, ap, ◌∙◌, subst, arith, ◌==◌, option_map, slice_get, if◌then◌else◌}
-use Rattle.std.proofs.lemmas.Bool.{eq-eqb, eqb-true, ne_eqb}
+use Rattle.std.proofs.Common.{◌≡◌, ℕ, ◌+◌, ◌-◌, ◌<◌, ◌⊎◌, inl, inr, Bool, true, false, List, [], ◌∷◌, length, drop, Option, Some, None, refl, sym, ap, ◌∙◌, subst, arith, ◌==◌, option_map, slice_get, if◌then◌else◌}
+use Rattle.std.proofs.lemmas.Bool.{cases_Bool, eq-eqb, eqb-true, ne_eqb}
 use Rattle.lists.proofs.ListLaws.{same_some}
 use Rattle.jvm_types.specs.{Members.is_synchronized, declared.{outcome.Thrown.Thrown, program.{MethodInfo.MethodInfo, Program.Program, Row.Row}}}
 use Rattle.checked_program.specs.MarkedProgram.{MarkedProgram}
@@ -29,11 +29,8 @@ frame_at h (f ∷ fs) = if length fs == h then Some f else frame_at h fs
 
 pub counted_below : (h : ℕ) (fs : List Frame) (f : Frame) → frame_at h fs ≡ Some f → h < length fs
 counted_below h [] f e = absurd (cc)
-counted_below h (g ∷ fs) f e = by_test (length fs == h) refl e (counted_below h fs f)
-  where
-    by_test : (b : Bool) → (length fs == h) ≡ b → (if b then Some g else frame_at h fs) ≡ Some f → (frame_at h fs ≡ Some f → h < length fs) → h < suc (length fs)
-    by_test true t e more = let s = eqb-true (length fs) h t in omega (arith, s)
-    by_test false t e more = let l = more e in omega (arith, l)
+counted_below h (g ∷ fs) f e =
+    elim (cases_Bool (length fs == h)) [ inl t ↦ let s = eqb-true (length fs) h t in omega (arith, s) | inr t ↦ let l = counted_below h fs f (rw t at e) in omega (arith, l) ]
 
 pub top_here : (f : Frame) (fs : List Frame) → frame_at (length fs) (f ∷ fs) ≡ Some f
 top_here f fs = ap (λ (b : Bool). if b then Some f else frame_at (length fs) fs) (eq-eqb (length fs) (length fs) refl)
@@ -42,11 +39,7 @@ pub under : (h : ℕ) (g : Frame) (fs : List Frame) (f : Frame) → frame_at h f
 under h g fs f e = ap (λ (b : Bool). if b then Some g else frame_at h fs) (ne_eqb (length fs) h (let l = counted_below h fs f e in λ s. omega (arith, l, s))) ∙ e
 
 pub top_or : (h : ℕ) (g : Frame) (fs : List Frame) (f : Frame) → frame_at h (g ∷ fs) ≡ Some f → ((length fs ≡ h) × (g ≡ f)) ⊎ (frame_at h fs ≡ Some f)
-top_or h g fs f e = by_test (length fs == h) refl e
-  where
-    by_test : (b : Bool) → (length fs == h) ≡ b → (if b then Some g else frame_at h fs) ≡ Some f → ((length fs ≡ h) × (g ≡ f)) ⊎ (frame_at h fs ≡ Some f)
-    by_test true t e = inl (eqb-true (length fs) h t, same_some e)
-    by_test false t e = inr e
+top_or h g fs f e = elim (cases_Bool (length fs == h)) [ inl t ↦ inl (eqb-true (length fs) h t, same_some (rw t at e)) | inr t ↦ inr (rw t at e) ]
 
 -- ---- frames that stay
 
@@ -123,12 +116,9 @@ module _ (p : Program) (at : Top) where
   -- an exception
   handed_goes : (x : ℕ) (class : Thrown) (o : Option Row) → Stay (frames_of at) (frames_in (handed p x class at o)) ⊎ IsAway x class (frames_of at) (handed p x class at o)
   handed_goes x class (Some r) = inl (in_place at.frame _ at.below (refl, refl))
-  handed_goes x class None = by_flag (is_synchronized at.method.flags)
-    where
-      by_flag : (b : Bool) → Stay (frames_of at) (frames_in (if b then Leaving (monitor_of p at.method at.frame) (afters.Unwind x class) (frames_of at) else unwound x class at.below))
-          ⊎ IsAway x class (frames_of at) (if b then Leaving (monitor_of p at.method at.frame) (afters.Unwind x class) (frames_of at) else unwound x class at.below)
-      by_flag true = inl (stay_same (frames_of at))
-      by_flag false = inr (at.frame, at.below, refl, refl)
+  handed_goes x class None =
+      elim (is_synchronized at.method.flags) as (λ (b : Bool). Stay (frames_of at) (frames_in (if b then Leaving (monitor_of p at.method at.frame) (afters.Unwind x class) (frames_of at) else unwound x class at.below))
+      ⊎ IsAway x class (frames_of at) (if b then Leaving (monitor_of p at.method at.frame) (afters.Unwind x class) (frames_of at) else unwound x class at.below)) [ true ↦ inl (stay_same (frames_of at)) | false ↦ inr (at.frame, at.below, refl, refl) ]
 
 -- ---- a thread goes on
 

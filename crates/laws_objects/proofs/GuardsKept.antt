@@ -175,12 +175,8 @@ module _ (laws : GuardLaws) (turn : BuiltEvent) (outside : turn.x.attempt ≡ No
   ]
 
   static_changed : (fi : ℕ) (g : IsGuardedStatic c.program (tags_of c) fi) → IsWriter (StaticWriter c fi) x → HoldsMonitor (class_monitor c g.field) x ⊎ MakesClass c g.field.class s x
-  static_changed fi g k =
-      by_case (by_writer c (was t) x structured outside (StaticWriter c fi) k (λ fs. IsHeld (class_monitor c g.field) x.held ⊎ IsOfClassInit c g.field.class fs) (λ f fs stands k. guarded_static_top c marked fi f fs x.held stands k static_write g))
-    where
-      by_case : IsHeld (class_monitor c g.field) x.held ⊎ IsOfClassInit c g.field.class x.frames → HoldsMonitor (class_monitor c g.field) x ⊎ MakesClass c g.field.class s x
-      by_case (inl holds) = inl holds
-      by_case (inr init) = inr (makes_class fi g.field.class k init)
+  static_changed fi g k = elim (by_writer c (was t) x structured outside (StaticWriter c fi) k (λ fs. IsHeld (class_monitor c g.field) x.held ⊎ IsOfClassInit c g.field.class fs)
+      (λ f fs stands k. guarded_static_top c marked fi f fs x.held stands k static_write g)) [ inl holds ↦ inl holds | inr init ↦ inr (makes_class fi g.field.class k init) ]
 
   final_changed : (fi : ℕ) (g : IsFrozenStatic c.program fi) → IsWriter (StaticWriter c fi) x → MakesClass c g.field.class s x
   final_changed fi g k =

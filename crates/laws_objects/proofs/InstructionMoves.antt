@@ -1,5 +1,5 @@
 -- The event that begins an instruction keeps what construction says of its thread.
-use Rattle.std.proofs.Common.{◌≡◌, ℕ, ◌+◌, ◌-◌, ◌<◌, inl, inr, Bool, true, false, List, [], ◌∷◌, length, Option, Some, None, refl, sym, ap, ◌∙◌, subst, arith, ◌==◌, if◌then◌else◌}
+use Rattle.std.proofs.Common.{◌≡◌, ℕ, ◌+◌, ◌<◌, inl, inr, Bool, true, false, List, [], ◌∷◌, length, Option, Some, None, refl, sym, ap, ◌∙◌, subst, arith, ◌==◌, if◌then◌else◌}
 use Rattle.std.proofs.lemmas.Bool.{cases_Bool}
 use Rattle.lists.proofs.ListLaws.{same_some}
 use Rattle.jvm_types.specs.{ProgramInvariant.words_of, Verifying.edges, declared.{code.Op.Op, outcome.Thrown.Thrown, program.{FieldInfo.FieldInfo, Kind.Kind, Target.Target}}}
@@ -250,7 +250,7 @@ module _ (moving : Moving) (is : Classes) where
           goes = goes_given k.now next more t next (builder t (length a.below) Header) grows refl (λ o. (let l = o.0 in omega (arith, l))) (λ j h. absurd (let l = (now_is.inside next j h).1 in omega (arith, l)));
           world = λ z. world_given k.now (words_of c.program) next more next (builder t (length a.below) Header) z grows z.room longer;
           lost = lost_given k.now next (builder t (length a.below) Header) (λ b h. absurd (let l = (now_is.inside next b h).1 in omega (arith, l)));
-          fits = (subst (λ (h : ℕ). MadeIn (in_later building (with_builder k.now next (builder t (length a.below) Header)) more) next h (making c.program at)) (sym one_less) keeps_it, tt);
+          fits = (subst (λ (h : ℕ). MadeIn (in_later building (with_builder k.now next (builder t (length a.below) Header)) more) next h (making c.program at)) (omega arith) keeps_it, tt);
         })).moves
       where
         al : AllowedAs (Makes word size)
@@ -270,9 +270,6 @@ module _ (moving : Moving) (is : Classes) where
 
             plain : puts_owned owning.owned a.keeps.stands.insn.op a.keeps.stands.target ≡ false
             plain = stores_none owning.owned a.keeps.stands.insn.op a.keeps.stands.target fits.1
-
-        one_less : length (making c.program at) - 1 ≡ length a.below
-        one_less = omega arith
 
     -- ---- to a phase of a monitor, with the instruction done
 

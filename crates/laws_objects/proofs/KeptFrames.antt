@@ -5,6 +5,7 @@ use Rattle.checked_program.specs.declared.tag.Tag.{Tag}
 use Rattle.machine_types.specs.Construction.{if_so, builds, makes_frozen, SlotsAre, BuilderTurn, Runs, WaitsFor, Throws, FreshAtCall, IsFresh, ReceiverIs, SlotOf, StackWith, StackIs, puts_owned, made_world, turn_by, AfterKeeps, TowardKeeps, PhaseKeeps}
 use Rattle.machine_types.specs.{Elision.put_back, Frames.pushed, Standing.row_at, Structure.operands_in, Threads.{Frame, Attempt}}
 use Rattle.machine_types.specs.{Worlds.{Item, Header, Made, Begun, Unstored, Builder, builder, World, IsFinished, IsOwnOrFinished, with_builder}, declared.phase.{After.After, Phase.Phase, Toward.Toward}}
+use Rattle.laws_threads.proofs.Tests.{either_way}
 use Rattle.laws_objects.proofs.{Buildings.{Building, in_world, in_later, FrameIn, WaitIn, BelowIn, FramesIn, MadeIn, PhaseIn, TriesIn}, Slots.{slots_map, slot_later}}
 use Rattle.laws_objects.proofs.WorldChanges.{given_here, given_keeps, given_none, given_gone, given_back, given_none_back, GivenBack}
 use Rattle.jvm_types.specs.declared.typing.VType.TheVariants as types
@@ -26,11 +27,8 @@ module _ (building : Building) (z : World) (more : ℕ) (old : (v : ℕ) → IsF
   open building use {c, frozen, owning, w, next, t}
 
   at_call_kept : (h receiver : ℕ) (begun : Option (VType × ℕ)) → KeepsAt w z t h → (q v : ℕ) → FreshAtCall w t h receiver begun q v → FreshAtCall z t h receiver begun q v
-  at_call_kept h receiver (Some (types.New r, class)) keeps q v f = by_test (q == r) f
-    where
-      by_test : (b : Bool) → if_so b (v ≡ receiver) (w v ≡ Some (builder t h (Made q))) → if_so b (v ≡ receiver) (z v ≡ Some (builder t h (Made q)))
-      by_test true f = f
-      by_test false f = keeps v (Made q) f
+  at_call_kept h receiver (Some (types.New r, class)) keeps q v f =
+      either_way (λ (b : Bool). if_so b (v ≡ receiver) (w v ≡ Some (builder t h (Made q))) → if_so b (v ≡ receiver) (z v ≡ Some (builder t h (Made q)))) (q == r) (λ e. e) (keeps v (Made q)) f
   at_call_kept h receiver begun keeps q v f = keeps v (Made q) f
 
   fresh_kept : (h : ℕ) (turn : BuilderTurn) → KeepsAt w z t h → (q v : ℕ) → IsFresh w t h turn q v → IsFresh z t h turn q v
@@ -108,11 +106,8 @@ made_keeps w z t h a height None keeps v x e = (elim (v == a) as (λ (b : Bool).
 made_old : (w z : World) (next more a t height : ℕ) (item : Option Item) → ((v : ℕ) → IsFinished w next v → IsFinished z more v) → next ≤ more → (v : ℕ) → IsFinished (made_world w a t height item) next v → IsFinished (made_world z a t height item) more v
 made_old w z next more a t height (Some item) old grows v o =
     ((let l = o.0 in omega (arith, l, grows)), (let e = given_none_back w a (builder t height item) v o.1 in given_none z a (builder t height item) v (old v (o.0, e.1)).1 e.0))
-made_old w z next more a t height None old grows v o = ((let l = o.0 in omega (arith, l, grows)), by_test (v == a) o.1)
-  where
-    by_test : (b : Bool) → (if b then None else w v) ≡ None → (if b then None else z v) ≡ None
-    by_test true e = refl
-    by_test false e = (old v (o.0, e)).1
+made_old w z next more a t height None old grows v o =
+    ((let l = o.0 in omega (arith, l, grows)), either_way (λ (b : Bool). (if b then None else w v) ≡ None → (if b then None else z v) ≡ None) (v == a) (λ e. refl) (λ e. (old v (o.0, e)).1) o.1)
 
 -- ---- what a thread holds
 

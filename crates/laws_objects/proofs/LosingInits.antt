@@ -1,6 +1,6 @@
 -- An object whose `<init>` an exception has left is lost from then on.
-use Rattle.std.proofs.Common.{◌≡◌, ◌≢◌, ℕ, ◌<◌, ◌≤◌, Bool, true, false, List, [], ◌∷◌, length, Some, None, refl, sym, ap, ◌∙◌, subst, arith, ◌==◌, if◌then◌else◌}
-use Rattle.std.proofs.lemmas.Bool.{eq-eqb, eqb-true, ne_eqb}
+use Rattle.std.proofs.Common.{inl, inr, ◌≡◌, ◌≢◌, ℕ, ◌<◌, ◌≤◌, Bool, true, false, List, [], ◌∷◌, length, Some, None, refl, sym, ap, ◌∙◌, subst, arith, ◌==◌, if◌then◌else◌}
+use Rattle.std.proofs.lemmas.Bool.{cases_Bool, eq-eqb, eqb-true, ne_eqb}
 use Rattle.lists.proofs.{ListLaws.same_some, TestLaws.both_true}
 use Rattle.jvm_types.specs.{CodeTable.is_init, ProgramInvariant.words_of, declared.{outcome.Thrown.Thrown, program.MethodInfo.MethodInfo}}
 use Rattle.machine_types.specs.{Construction.{builds, Throws as Loose, BuilderTurn, ReceiverIs}, Going.goes_on, Onward.unwound, Threads.{Frame, Thread}}
@@ -8,7 +8,7 @@ use Rattle.machine_types.specs.{Worlds.{Lost, Begun, Builder, builder, World, Is
 use Rattle.laws_threads.{specs.StructureLaws.counted_by, proofs.ThreadMove.goes_held}
 use Rattle.laws_objects.{specs.UnfinishedObjects.IsInitOn, proofs.{Buildings.{Building, in_world, FrameIn, BelowIn, FramesIn, ThreadIn}, CountedPhases.PhaseFits, FrameChanges.IsUnwound}}
 use Rattle.laws_objects.proofs.{KeptFrames.{KeepsUnder, frames_kept}, Onwards.OnwardKeeps, ThreadMoves.{MovedTo, Sees, AreKnown, held_known, in_none, moved_more_to}, ThrowingFrames.frames_unwound}
-use Rattle.laws_objects.proofs.WorldChanges.{none_some, lost, KeepsLost}
+use Rattle.laws_objects.proofs.WorldChanges.{none_some, goes_by, lost, KeepsLost}
 use Rattle.machine_types.specs.declared.phase.Phase.TheVariants as phases
 use Rattle.jvm_types.specs.declared.outcome.End.TheVariants as ends
 
@@ -35,24 +35,15 @@ module _ (w : World) (v t : ℕ) (b : Builder) (is : w v ≡ Some b) (mine : b.t
   losing_old next u o = (o.0, losing_there w v b u (λ s. none_some (w v) b (subst (λ (x : ℕ). w x ≡ None) s o.1) is) ∙ o.1)
 
   losing_goes : (next : ℕ) → GoesOn w (losing w v b) next next t 0
-  losing_goes next = record {
-    grows = omega arith;
-    finished = λ u o. (losing_old next u o).1;
-    others = λ u j n e. losing_there w v b u (λ s. n (sym (ap (λ (i : Builder). i.thread) (same_builder u j e s)) ∙ mine)) ∙ e;
-    no_more = λ u j n e. losing_back u j e (λ s. n (ap (λ (i : Builder). i.thread) s ∙ mine));
-    lower = λ u j m l e. absurd (omega (arith, l));
-  }
+  losing_goes next = goes_by w (losing w v b) next next t (omega arith) (λ u o. (losing_old next u o).1)
+      (λ u j n e. losing_there w v b u (λ s. n (sym (ap (λ (i : Builder). i.thread) (same_builder u j e s)) ∙ mine)) ∙ e) (λ u j n e. losing_back u j e (λ s. n (ap (λ (i : Builder). i.thread) s ∙ mine)))
 
   losing_world : (first next : ℕ) → IsWorld w first next → IsWorld (losing w v b) first next
   losing_world first next k = record {
     one = λ u x j n e f. k.one u x j n (losing_back u j e (λ s. n (ap (λ (i : Builder). i.item) s))) (losing_back x j f (λ s. n (ap (λ (i : Builder). i.item) s)));
-    inside = λ u j e. by_test u j (u == v) refl e;
+    inside = λ u j e. elim (cases_Bool (u == v)) [ inl s ↦ subst (λ (y : ℕ). (first ≤ y) × (y < next)) (sym (eqb-true u v s)) (k.inside v b is) | inr s ↦ k.inside u j (rw s at e) ];
     room = k.room;
   }
-    where
-      by_test : (u : ℕ) (j : Builder) (x : Bool) → (u == v) ≡ x → (if x then Some (lost b) else w u) ≡ Some j → (first ≤ u) × (u < next)
-      by_test u j true s e = subst (λ (y : ℕ). (first ≤ y) × (y < next)) (sym (eqb-true u v s)) (k.inside v b is)
-      by_test u j false s e = k.inside u j e
 
   losing_lost : KeepsLost w (losing w v b)
   losing_lost u j item e = losing_there w v b u (λ s. unfinished (ap (λ (i : Builder). i.item) (same_builder u j e s) ∙ item)) ∙ e

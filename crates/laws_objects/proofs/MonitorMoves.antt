@@ -124,11 +124,8 @@ module _ (moving : Moving) where
   still s phase frames from hs = subst (λ (p : Phase). Moved building k.now more (counted_by was p) s) (sym phase) (to (counted_by was x.phase) s frames from hs (counted_fits (in_world building k.now) x.frames was x.phase stood.is_as (k.frames, k.phase)))
 
   runs_as : (s : Thread) → s.frames ≡ x.frames → AttemptFrom x.attempt s.attempt → AreKnown w next t s.held → Fits phases.Run → Goal (runs s)
-  runs_as s frames from hs fit = by_left (nat_lt s.counts.instructions s.cfg.steps)
-    where
-      by_left : (left : Bool) → Goal (with_phase s (if left then phases.Run else phases.Ending ends.Steps))
-      by_left true = to phases.Run (with_phase s phases.Run) frames from hs fit
-      by_left false = to phases.Run (with_phase s (phases.Ending ends.Steps)) frames from hs fit
+  runs_as s frames from hs fit = elim (nat_lt s.counts.instructions s.cfg.steps) as (λ (left : Bool). Goal (with_phase s (if left then phases.Run else phases.Ending ends.Steps)))
+      [ true ↦ to phases.Run (with_phase s phases.Run) frames from hs fit | false ↦ to phases.Run (with_phase s (phases.Ending ends.Steps)) frames from hs fit ]
 
   -- the phase in that turns are counted
   turned : (phase : Phase) → was ≡ phase → Fits (turned_from phase) → Fits (turned_from was)

@@ -8,7 +8,7 @@ use Rattle.jvm_types.specs.declared.{op_row.Want.{Want, TheVariants.ToStart}, pr
 use Rattle.jvm_types.specs.declared.typing.VType.{VType}
 use Rattle.checked_program.specs.{LockTags.TagShape, MarkedProgram.{MarkedProgram, IsMarked}, Tagging.{moved_tags, tags_by_op, tags_after}, declared.tag.Tag.{Tag, TheVariants.{Untagged, At}}}
 use Rattle.machine_types.specs.{Construction.{puts_owned, builds, makes_frozen, if_so, SlotByType, SlotIs, SlotsAre, StackWith, Runs, IsFresh, ReceiverIs, SlotOf}, Frames.frame_on}
-use Rattle.machine_types.specs.{Lawful.within, Standing.{Standing, row_at}, Threads.Frame, Worlds.{Made, Begun, Unstored, Builder, builder, World, IsFinished, IsWorld, GoesOn}}
+use Rattle.machine_types.specs.{Lawful.within, Standing.{Standing, row_at}, Threads.Frame, Worlds.{Lost, Made, Begun, Unstored, Builder, builder, World, IsFinished, IsWorld, GoesOn}}
 use Rattle.laws_threads.{specs.Allowed.OneOf, proofs.{FrameMoves.edge_fits, Landing.rules_at, TopEffects.number_in, Typing.edge_at}}
 use Rattle.laws_objects.proofs.{ArraySlots.IsStart, Buildings.{Building, in_world, FrameIn}, KeptFrames.{KeepsUnder, plain_stack}, Landing.{LandsWell, land, joined_onward}}
 use Rattle.laws_objects.proofs.Slots.{IsMade, IsWriteMade, stack_moves, local_moves, top_slot, slot_by, slots_started, slot_retag, slots_without, StartOk}
@@ -55,13 +55,10 @@ module _ (m : MethodInfo) (young : ℕ → Bool) where
   starts wants ts h = inl tt
 
 pub is_start : (m : MethodInfo) (young : ℕ → Bool) (o : Option (VType × ℕ)) → Starts m young o → IsStart o
-is_start m young o (inl s) = by_type o s
-  where
-    by_type : (o : Option (VType × ℕ)) → StartsOld young o → IsStart o
-    by_type None s = tt
-    by_type (Some (types.This, class)) s = tt
-    by_type (Some (types.New q, class)) s = tt
-    by_type o s = absurd s
+is_start m young None s = tt
+is_start m young (Some (types.This, class)) s = tt
+is_start m young (Some (types.New q, class)) s = tt
+is_start m young o (inl s) = absurd s
 is_start m young o (inr y) = subst IsStart (sym y.is) tt
 
 pub suit_at : (c : MarkedProgram) (marked : IsMarked c) (f : Frame) (k : Standing c f) → Suit k.method (row_at c f k).takes k.types.stack
@@ -85,9 +82,7 @@ module _ (Old : ℕ → Type 0) (null : Old 0) (Fresh : ℕ → ℕ → Type 0) 
     slots_without Old null Fresh own young receiver pc ls l us k,
   )
   dup_fine pc (t ∷ []) ls s l held (v ∷ vs) us h k = absurd h.1
-  dup_fine pc (t ∷ u ∷ ts) ls s l held (v ∷ []) us h k = absurd h.1
-  dup_fine pc (t ∷ ts) ls s l held [] us h k = absurd h
-  dup_fine pc [] ls s l held vs us h k = absurd h
+  dup_fine pc ts ls s l held vs us h k = absurd (assumption)
 
   module _ (p : Program) (m : MethodInfo) (pc : ℕ) (target : Target) where
     pub tags_fine : (op : Op) (s l held : List Tag) (ts ls : List VType) (vs us : List ℕ)
@@ -168,6 +163,10 @@ pub record Steps (w : World) (next t : ℕ) (P : World → Type 0) : Type 0 wher
 
 pub stays : (w : World) (next t : ℕ) (P : World → Type 0) → P w → Steps w next t P
 stays w next t P k = record { later = w; goes = goes_same w next next t (omega arith); world = λ first is. is; lost = lost_same w; keeps = k }
+
+-- what stood with this builder of the thread is finished
+abbrev pub drops : (w : World) (next t : ℕ) (b : Builder) (P : World → Type 0) → b.thread ≡ t → b.item ≢ Lost → P (without w b) → Steps w next t P
+drops w next t b P mine other k = record { later = without w b; goes = goes_without w next t b mine; world = λ first is. world_without w first next b is; lost = lost_without w b other; keeps = k }
 
 pub steps_map : (w : World) (next t : ℕ) (P Q : World → Type 0) → ((v : World) → GoesOn w v next next t 0 → P v → Q v) → Steps w next t P → Steps w next t Q
 steps_map w next t P Q f k = record { later = k.later; goes = k.goes; world = k.world; lost = k.lost; keeps = f k.later k.goes k.keeps }
@@ -257,10 +256,5 @@ module _ (building : Building) (h : ℕ) (null : IsFinished building.w building.
       where
         by_start : Starts m (makes_frozen frozen m) (started m.class r.takes k.stands.types.stack) → Steps w next t (λ z. FrameIn (in_world building z) h Runs (frame_on r to made f) × KeepsUnder w z t h)
         by_start (inl old) = stays w next t (λ z. FrameIn (in_world building z) h Runs (frame_on r to made f) × KeepsUnder w z t h) (goes_old makes old, λ i l v x e. e)
-        by_start (inr y) = record {
-          later = without w (builder t h (Made y.pc));
-          goes = goes_without w next t (builder t h (Made y.pc)) refl;
-          world = λ first is. world_without w first next (builder t h (Made y.pc)) is;
-          lost = lost_without w (builder t h (Made y.pc)) (λ e. cc);
-          keeps = (goes_young y makes, λ i l v x e. without_keeps w (builder t h (Made y.pc)) v (builder t i x) e (λ s. (let same : i ≡ h = ap (λ (b : Builder). b.height) s in omega (arith, same, l))));
-        }
+        by_start (inr y) = drops w next t (builder t h (Made y.pc)) (λ z. FrameIn (in_world building z) h Runs (frame_on r to made f) × KeepsUnder w z t h) refl (λ e. cc)
+            (goes_young y makes, λ i l v x e. without_keeps w (builder t h (Made y.pc)) v (builder t i x) e (λ s. (let same : i ≡ h = ap (λ (b : Builder). b.height) s in omega (arith, same, l))))

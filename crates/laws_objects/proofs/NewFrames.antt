@@ -5,31 +5,17 @@ use Rattle.lists.proofs.ListLaws.{same_some}
 use Rattle.jvm_types.specs.{ProgramInvariant.words_of, CodeTable.{row, value_of, stack_after, locals_after}, Types.TypeFrame, Verifying.{started, after_start, frame_after, edges}, declared.{code.{Insn.Insn, Op.Op}, op_row.{Given.{Given, TheVariants.Fresh as Anew}, OpRow.OpRow}, program.{MethodInfo.MethodInfo, Target.Target}, typing.VType.VType}}
 use Rattle.laws_programs.{specs.NewLaws.{IsNewBefore, AreBehind}, proofs.RowsKeep.{IsFine, row_fine}}
 use Rattle.checked_program.specs.{LockTags.TagShape, MarkedProgram.MarkedProgram, TaggedCode.IsAt, Tagging.{moved_tags, tags_by_op, tags_after}, declared.tag.Tag.{Tag, TheVariants.Untagged}}
-use Rattle.machine_types.specs.Construction.{puts_owned, builds, makes_frozen, if_so, SlotByType, SlotIs, SlotsAre, StackWith, Runs, IsFresh, ReceiverIs, SlotOf, IsNoStored, made_world}
+use Rattle.machine_types.specs.Construction.{puts_owned, builds, makes_frozen, if_so, SlotByType, SlotsAre, StackWith, Runs, IsFresh, ReceiverIs, SlotOf, IsNoStored, made_world}
 use Rattle.machine_types.specs.{Frames.{frame_on, making, pushed}, Standing.{Standing, row_at, tags_of}, Threads.Frame}
 use Rattle.machine_types.specs.Worlds.{Item, Header, Made, Begun, Unstored, Builder, builder, World, IsFinished, IsWorld, with_builder}
 use Rattle.laws_threads.{specs.Allowed.{OneOf, MadeAs}, proofs.{Landing.rules_at, Standings.top_here, TopEffects.number_in}}
 use Rattle.laws_objects.proofs.{ArrayFrames.{goes_well, goes_plain}, ArrayMoves.{GivenClean, WriteClean, IsMadeWell}, Buildings.{LawfulBuilding, in_later, FrameIn, BelowIn, FramesIn, MadeIn, null}}
 use Rattle.laws_objects.proofs.{BuiltEffects.StartsNone, CalledFrames.{below_moved, none_started}, EffectOps.{is_putfield, stores_none}, KeptFrames.{below_kept, plain_stack}, Landing.LandsWell}
 use Rattle.laws_objects.proofs.{Moves.{StartsOld, lands_behind, goes_old}, Operands.{is_getfield, no_read}, PutPlaces.{is_newarray, next_puts}}
-use Rattle.laws_objects.proofs.Slots.{slot_by, slots_map_if, slots_drop, IsMade, IsWriteMade, made_slot}
+use Rattle.laws_objects.proofs.Slots.{slot_if, slots_map_if, slots_drop, IsMade, IsWriteMade, made_slot}
 use Rattle.laws_objects.proofs.WorldChanges.{none_from, none_some, given_here, given_keeps, given_none, finished_here, finished_there, world_given, world_finished}
 use Rattle.jvm_types.specs.declared.code.Op.TheVariants as ops
 use Rattle.jvm_types.specs.declared.typing.VType.TheVariants as types
-
--- ---- slots whose `new` stands before this pc
-
-module _ (Old More : ℕ → Type 0) (Fresh Later : ℕ → ℕ → Type 0) (old : (v : ℕ) → Old v → More v) (young : ℕ → Bool) (receiver pc : ℕ) (fresh : (q v : ℕ) → q < pc → Fresh q v → Later q v) where
-  new_behind : (b : Bool) (q v : ℕ) → q < pc → if_so b (Fresh q v) (Old v) → if_so b (Later q v) (More v)
-  new_behind true q v l h = fresh q v l h
-  new_behind false q v l h = old v h
-
-  type_behind : (u : VType) (v : ℕ) → IsNewBefore pc u → SlotByType Old Fresh young u v → SlotByType More Later young u v
-  type_behind (types.New q) v l h = new_behind (young q) q v l h
-  type_behind u v l h = first_of (assumption, search old)
-
-  pub slot_behind : (own : Bool) (u : VType) (g : Tag) (v : ℕ) → IsNewBefore pc u → SlotIs Old Fresh own young receiver u g v → SlotIs More Later own young receiver u g v
-  slot_behind own u g v l h = slot_by Old More Fresh Later young receiver own u u g v (λ n. n) (type_behind u v l) h
 
 -- ---- memory is taken: the object is the next free word
 
@@ -69,10 +55,7 @@ module _ (lawful : LawfulBuilding) (more h : ℕ) (grows : lawful.next < more) (
 
   -- another item than the new one
   apart_from : (x : Item) → x ≢ Made pc → x ≢ Unstored → (y : Item) → item ≡ Some y → builder t h x ≢ builder t h y
-  apart_from x n m y e s = elim (sort y e) [ inl is ↦ n (same ∙ is) | inr is ↦ m (same ∙ is) ]
-    where
-      same : x ≡ y
-      same = ap (λ (b : Builder). b.item) s
+  apart_from x n m y e s = let same : x ≡ y = ap (λ (b : Builder). b.item) s in elim (sort y e) [ inl is ↦ n (same ∙ is) | inr is ↦ m (same ∙ is) ]
 
   fresh_made : (q v : ℕ) → q < pc → w v ≡ Some (builder t h (Made q)) → stored_world v ≡ Some (builder t h (Made q))
   fresh_made q v l e = keeps v h (Made q) e (λ s. (let i : Made q ≡ Header = ap (λ (b : Builder). b.item) s in cc)) item (apart_from (Made q) (λ s. (let j : q ≡ pc = cc in omega (arith, j, l))) (λ s. cc))
@@ -85,7 +68,7 @@ module _ (lawful : LawfulBuilding) (more h : ℕ) (grows : lawful.next < more) (
   module _ (f : Frame) (k : FrameIn building h Runs f) (behind : AreBehind pc k.stands.types) (plain : puts_owned owning.owned k.stands.insn.op k.stands.target ≡ false) where
     moved : (us : List VType) (gs : List Tag) (vs : List ℕ) → AllByRecursion (IsNewBefore pc) us → SlotsAre (SlotOf frozen w next t h Runs k.stands.method f.receiver) us gs vs → SlotsAre (SlotOf frozen stored_world more t h Runs k.stands.method f.receiver) us gs vs
     moved = slots_map_if (IsNewBefore pc) (SlotOf frozen w next t h Runs k.stands.method f.receiver) (SlotOf frozen stored_world more t h Runs k.stands.method f.receiver)
-        (slot_behind (IsFinished w next) (IsFinished stored_world more) (IsFresh w t h Runs) (IsFresh stored_world t h Runs) old_made (makes_frozen frozen k.stands.method) f.receiver pc fresh_made (builds frozen k.stands.method))
+        (slot_if (IsFinished w next) (IsFinished stored_world more) (IsFresh w t h Runs) (IsFresh stored_world t h Runs) (IsNewBefore pc) old_made (makes_frozen frozen k.stands.method) (λ q v l young. fresh_made q v l) f.receiver (builds frozen k.stands.method))
 
     stack_renewed : SlotsAre (SlotOf frozen stored_world more t h Runs k.stands.method f.receiver) k.stands.types.stack k.stands.tags.stack f.stack
     stack_renewed = moved k.stands.types.stack k.stands.tags.stack f.stack behind.stack (plain_stack building h f k plain)

@@ -1,7 +1,6 @@
 -- How a thread goes on keeps what construction says of its frames and of what it carries.
 use Rattle.std.proofs.Common.{◌≡◌, ◌≢◌, ℕ, ◌<◌, Bool, true, false, List, [], ◌∷◌, length, Option, Some, None, refl, sym, ap, ◌∙◌, subst, arith, slice_get, option_map, reverse, take, if◌then◌else◌}
-use Rattle.std.specs.List.{AllByRecursion}
-use Rattle.lists.proofs.{ListLaws.same_some, TestLaws.first_true}
+use Rattle.lists.proofs.{ListLaws.{all_weaker, same_some}, TestLaws.first_true}
 use Rattle.jvm_types.specs.{ClassNames.file_of_class, CodeTable.{can_throw, row}, Members.{MethodSite, is_static, is_synchronized}, ProgramInvariant.{words_of, site_in}, Verifying.{edges, is_return}}
 use Rattle.jvm_types.specs.declared.{code.Op.Op, op_row.{Given.{Given, TheVariants.Fresh as Anew}, OpRow.OpRow}, outcome.Thrown.Thrown, program.FieldInfo.FieldInfo}
 use Rattle.jvm_types.specs.declared.{program.{MethodInfo.MethodInfo, Program.Program, Row.Row, Target.Target}, typing.VType.VType}
@@ -14,7 +13,7 @@ use Rattle.machine_types.specs.{OwnedPlaces.{IsFieldWord, IsStoredAt, IsStoredNo
 use Rattle.machine_types.specs.{Words.{header_class, header_length, class_object}, Worlds.{Begun, Builder, builder, World, IsFinished, IsOwnOrFinished, GoesOn}, declared.effect.{Effect.Effect, Variable.Variable}}
 use Rattle.machine_types.specs.declared.effect.Effect.TheVariants.{Goes, Throws, Reads, Writes, Measures, Raises, Prints, Calls, Returns, Enters, Leaves}
 use Rattle.machine_types.{specs.declared.phase.After.{After, TheVariants.{Next, Return, Unwind}}, proofs.ClassObjects.class_object_below}
-use Rattle.laws_threads.{specs.Allowed.{OneOf, IsNamedField, IsByMachine, Allowed}, proofs.{Landing.{stand_top, rules_at}, Standings.top_here, TopEffects.number_in}}
+use Rattle.laws_threads.{specs.Allowed.{OneOf, IsNamedField, IsByMachine, Allowed}, proofs.{Landing.{stand_top, rules_at}, Standings.top_here, Tests.either_way, TopEffects.number_in}}
 use Rattle.laws_objects.proofs.{ArrayFrames.{takes_clean, goes_plain}, ArrayMoves.{WriteClean, row_clean, ReadsField, IsMadeWell}}
 use Rattle.laws_objects.proofs.Buildings.{Building, LawfulBuilding, in_world, FrameIn, BelowIn, FramesIn, first_finished, null, inside}
 use Rattle.laws_objects.proofs.{BuiltEffects.{KindOld, TypeOld, GivenOld, RowOld, Built, effect_built}, CalledFrames.below_moved, Calling.{CallKeeps, calls_it}}
@@ -64,11 +63,8 @@ module _ (lawful : LawfulBuilding) where
       first_finished w (words_of c.program) next (class_object c.program (file_of_class m.class)) is_world (class_object_below c.program (file_of_class m.class) (omega (arith, class.0, class.1)))
 
   monitor_known : (h number : ℕ) (own : Bool) (m : MethodInfo) (f : Frame) → slice_get c.program.methods number ≡ Some m → ReceiverIs w next t h own f.receiver → IsOwnOrFinished w next t (monitor_of c.program m f)
-  monitor_known h number own m f there e = by_static (is_static m.flags)
-    where
-      by_static : (b : Bool) → IsOwnOrFinished w next t (if b then class_object c.program (file_of_class m.class) else f.receiver)
-      by_static true = finished_known w next t (class_object c.program (file_of_class m.class)) (class_finished number m there)
-      by_static false = receiver_known h own f.receiver e
+  monitor_known h number own m f there e = either_way (λ (b : Bool). IsOwnOrFinished w next t (if b then class_object c.program (file_of_class m.class) else f.receiver)) (is_static m.flags)
+      (finished_known w next t (class_object c.program (file_of_class m.class)) (class_finished number m there)) (receiver_known h own f.receiver e)
 
   -- ---- exceptions
 
@@ -175,12 +171,8 @@ module _ (lawful : LawfulBuilding) where
         of_type type h = absurd h
     given_made made x h = tt
 
-    all_made : (made : ℕ) (xs : List Given) → AllByRecursion (GivenOld (IsFinished w next) made) xs → AllByRecursion (IsMade (SlotOf frozen w next t (length fs) Runs k.stands.method f.receiver) made) xs
-    all_made made [] h = tt
-    all_made made (x ∷ xs) h = (given_made made x h.0, all_made made xs h.1)
-
     row_made : (made : ℕ) → RowOld (IsFinished w next) r made → RowMakes (IsFinished w next) (null lawful) (IsFresh w t (length fs) Runs) (builds frozen k.stands.method) (makes_frozen frozen k.stands.method) f.receiver r made
-    row_made made h = (all_made made r.gives h.0, write r.writes h.1)
+    row_made made h = (all_weaker (GivenOld (IsFinished w next) made) (IsMade (SlotOf frozen w next t (length fs) Runs k.stands.method f.receiver) made) (given_made made) r.gives h.0, write r.writes h.1)
       where
         write : (o : Option (ℕ × Given)) → Rattle.laws_objects.proofs.BuiltEffects.WriteOld (IsFinished w next) made o → Rattle.laws_objects.proofs.Slots.IsWriteMade (SlotOf frozen w next t (length fs) Runs k.stands.method f.receiver) made o
         write None h = tt
@@ -237,11 +229,8 @@ module _ (lawful : LawfulBuilding) where
         entry = entry_frame number m (arguments_of c.program at)
 
         entry_known : (z : World) → GoesOn w z next next t 0 → IsOwnOrFinished z next t entry.receiver → IsOwnOrFinished z next t (monitor_of c.program m entry)
-        entry_known z g own = by_static (is_static m.flags)
-          where
-            by_static : (b : Bool) → IsOwnOrFinished z next t (if b then class_object c.program (file_of_class m.class) else entry.receiver)
-            by_static true = known_on (class_object c.program (file_of_class m.class)) z g (class_finished number m there)
-            by_static false = own
+        entry_known z g own = either_way (λ (b : Bool). IsOwnOrFinished z next t (if b then class_object c.program (file_of_class m.class) else entry.receiver)) (is_static m.flags)
+            (known_on (class_object c.program (file_of_class m.class)) z g (class_finished number m there)) own
 
         by_flag : (s : Bool) → Steps w next t (λ z. OnwardKeeps (in_world building z) (if s then Entering (monitor_of c.program m entry) (entry ∷ waiting c.program at) else Running (entry ∷ waiting c.program at)))
         by_flag true = steps_map w next t (CallKeeps lawful f fs k b number m there calls (arguments_of c.program at)) (λ z. OnwardKeeps (in_world building z) (Entering (monitor_of c.program m entry) (entry ∷ waiting c.program at)))

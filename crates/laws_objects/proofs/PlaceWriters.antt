@@ -38,11 +38,7 @@ place_suits content place is suits = absurd (assumption)
 
 -- a monitor is left at none
 pub leave_of_none : (claimed : Claim) → IsOfPlace (leave_content claimed) → ⊥
-leave_of_none (Has h) is = by_kept h.kept is
-  where
-    by_kept : (k : Kept) → IsOfPlace (leave_content (Has (record h { kept = k }))) → ⊥
-    by_kept (keeps.Flat count) is = is
-    by_kept (keeps.Fat r) is = is
+leave_of_none (Has h) is = (elim h.kept as (λ (k : Kept). IsOfPlace (leave_content (Has (record h { kept = k }))) → ⊥) [ keeps.Flat count ↦ λ is. is | keeps.Fat r ↦ λ is. is ]) is
 leave_of_none claimed is = is
 
 -- ---- the field that an instruction names

@@ -28,11 +28,7 @@ IsPlain ReferencePlace = ⊥
 IsPlain content = Unit {0}
 
 pub leave_plain : (claim : Claim) → IsPlain (leave_content claim)
-leave_plain (Has h) = by_kept h.kept
-  where
-    by_kept : (kept : Kept) → IsPlain (leave_content (Has (record h { kept = kept })))
-    by_kept (keeps.Flat n) = tt
-    by_kept (keeps.Fat r) = tt
+leave_plain (Has h) = elim h.kept as (λ (kept : Kept). IsPlain (leave_content (Has (record h { kept = kept })))) [ keeps.Flat n ↦ tt | keeps.Fat r ↦ tt ]
 leave_plain claim = tt
 
 -- an event, in a world: what is owned, and what was stored before it and behind it
@@ -193,11 +189,8 @@ module _ (change : PlaceChange) where
   effect_places x m insn target r stack pc (Measures a) al left = loaded (header_word a)
   effect_places x m insn target r stack pc (Raises a) al left = loaded (header_word a)
   effect_places x m insn target r stack pc (Makes word size) al left = stored NEXT_FREE_WORD (slice_index s.words NEXT_FREE_WORD + size) (Counter NEXT_FREE_WORD) (omega arith, omega arith) refl tt
-  effect_places x m insn target r stack pc (Prints n) al left = by_test (has_print_left x)
-    where
-      by_test : (b : Bool) → Behind (words_after s.words (if b then Some (Add NEXT_TICKET_WORD 1) else None))
-      by_test true = stored NEXT_TICKET_WORD (slice_index s.words NEXT_TICKET_WORD + 1) (Counter NEXT_TICKET_WORD) (omega arith, omega arith) refl tt
-      by_test false = same_words
+  effect_places x m insn target r stack pc (Prints n) al left = elim (has_print_left x) as (λ (b : Bool). Behind (words_after s.words (if b then Some (Add NEXT_TICKET_WORD 1) else None)))
+      [ true ↦ stored NEXT_TICKET_WORD (slice_index s.words NEXT_TICKET_WORD + 1) (Counter NEXT_TICKET_WORD) (omega arith, omega arith) refl tt | false ↦ same_words ]
   effect_places x m insn target r stack pc e al left = same_words
 
   -- ---- a new object

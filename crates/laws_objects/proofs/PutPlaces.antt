@@ -1,6 +1,6 @@
 -- An array is stored in an owned field right behind the `newarray` that made it: no other instruction leads there, no handler and no call.
 use Rattle.std.proofs.Common.{◌≡◌, ℕ, zero, suc, ◌⊎◌, inl, inr, Bool, true, false, ◌||◌, ◌&&◌, List, [], ◌∷◌, ◌++◌, length, Some, refl, sym, ap, ◌∙◌, subst, arith, ◌==◌, slice_get, if◌then◌else◌}
-use Rattle.std.{specs.List.list_any, proofs.lemmas.Bool.{Decides.nat_tests, false_from_ne_true}}
+use Rattle.std.{specs.List.list_any, proofs.lemmas.Bool.{cases_Bool, Decides.nat_tests, false_from_ne_true}}
 use Rattle.lists.proofs.{ListLaws.same_some, TestLaws.{first_true, second_true}}
 use Rattle.jvm_types.specs.{ClassTree.is_subclass, CodeTable.{branches_to, falls_through}, Numbers.has_number, Verifying.{covers, edges, IsLaidOut}}
 use Rattle.jvm_types.specs.declared.{code.{Insn.Insn, Op.Op}, program.{MethodInfo.MethodInfo, Row.Row, Target.Target}}
@@ -17,25 +17,21 @@ is_newarray op = false
 
 -- ---- branches
 
-in_code : (code : List Insn) (i : ℕ) (insn : Insn) (test : Insn → Bool) → slice_get code i ≡ Some insn → test insn ≡ true → list_any test code ≡ true
-in_code [] i insn test e h = absurd (cc)
-in_code (x ∷ code) zero insn test e h = let same : x ≡ insn = same_some e in first_true (test x) (list_any test code) (subst (λ (y : Insn). test y ≡ true) (sym same) h)
-in_code (x ∷ code) (suc i) insn test e h = second_true (test x) (list_any test code) (in_code code i insn test e h)
+-- an element that passes a test
+pub any_got : {X : Type 0} (test : X → Bool) (xs : List X) (i : ℕ) (x : X) → slice_get xs i ≡ Some x → test x ≡ true → list_any test xs ≡ true
+any_got test [] i x e h = absurd (cc)
+any_got test (y ∷ xs) zero x e h = let same : y ≡ x = same_some e in first_true (test y) (list_any test xs) (subst (λ z. test z ≡ true) (sym same) h)
+any_got test (y ∷ xs) (suc i) x e h = second_true (test y) (list_any test xs) (any_got test xs i x e h)
 
-by_append : (xs ys : List ℕ) (n : ℕ) → has_number (xs ++ ys) n ≡ true → (has_number xs n ≡ true) ⊎ (has_number ys n ≡ true)
+pub by_append : (xs ys : List ℕ) (n : ℕ) → has_number (xs ++ ys) n ≡ true → (has_number xs n ≡ true) ⊎ (has_number ys n ≡ true)
 by_append [] ys n e = inr e
-by_append (x ∷ xs) ys n e = by_test (x == n) refl e (by_append xs ys n)
-  where
-    by_test : (b : Bool) → (x == n) ≡ b → (b || has_number (xs ++ ys) n) ≡ true → (has_number (xs ++ ys) n ≡ true → (has_number xs n ≡ true) ⊎ (has_number ys n ≡ true)) → (has_number (x ∷ xs) n ≡ true) ⊎ (has_number ys n ≡ true)
-    by_test true t e more = inl (first_true (x == n) (has_number xs n) t)
-    by_test false t e more = elim (more e) [ inl h ↦ inl (second_true (x == n) (has_number xs n) h) | inr h ↦ inr h ]
+by_append (x ∷ xs) ys n e = elim (cases_Bool (x == n)) [
+  | inl t ↦ inl (first_true (x == n) (has_number xs n) t)
+  | inr t ↦ elim (by_append xs ys n (rw t at e)) [ inl h ↦ inl (second_true (x == n) (has_number xs n) h) | inr h ↦ inr h ]
+]
 
 by_fall : (b : Bool) (next n : ℕ) → has_number (if b then next ∷ [] else []) n ≡ true → n ≡ next
-by_fall true next n e = by_test (next == n) refl e
-  where
-    by_test : (b : Bool) → (next == n) ≡ b → (b || false) ≡ true → n ≡ next
-    by_test true t e = grind (arith, nat_tests, t)
-    by_test false t e = absurd (cc)
+by_fall true next n e = let t : (next == n || false) ≡ true = e in grind (arith, nat_tests, t)
 by_fall false next n e = absurd (cc)
 
 row_handles : (pc class : ℕ) (rows : List Row) (r : Row) → handler_of pc class rows ≡ Some r → (n : ℕ) → n ≡ r.handler → list_any (λ (q : Row). q.handler == n) rows ≡ true
@@ -64,7 +60,7 @@ module _ (c : MarkedProgram) (marked : IsMarked c) (owning : Owning) (owns : Are
       where
         by_new : StoresNew m j other.pc → ⊥
         by_new s = elim (by_append (branches_to insn.op) (if falls_through insn.op then insn.next ∷ [] else []) other.pc edge) [
-          | inl h ↦ (let bad : true ≡ false = sym (first_true (list_any (λ (x : Insn). has_number (branches_to x.op) other.pc) m.code) (list_any (λ (q : Row). q.handler == other.pc) m.rows) (in_code m.code i insn (λ (x : Insn). has_number (branches_to x.op) other.pc) e h)) ∙ s.only in cc)
+          | inl h ↦ (let bad : true ≡ false = sym (first_true (list_any (λ (x : Insn). has_number (branches_to x.op) other.pc) m.code) (list_any (λ (q : Row). q.handler == other.pc) m.rows) (any_got (λ (x : Insn). has_number (branches_to x.op) other.pc) m.code i insn e h)) ∙ s.only in cc)
           | inr h ↦ by_next (follows m i insn laid e) (by_fall (falls_through insn.op) insn.next other.pc h)
         ]
           where

@@ -8,6 +8,7 @@ use Rattle.machine_types.specs.Construction.{puts_owned, builds, makes_frozen, i
 use Rattle.machine_types.specs.Construction.{made_world, turn_by}
 use Rattle.machine_types.specs.{Elision.put_back, Frames.pushed, OwnedPlaces.{Stores, with_stored, IsStoredAt, IsStoredNowhere}, Standing.{Operands, Thrown, row_at}, Structure.operands_in, Threads.{Frame, Attempt, Thread}}
 use Rattle.machine_types.specs.{Worlds.{Item, Header, Made, Begun, Unstored, Builder, builder, World, IsFinished}, declared.phase.Phase.Phase}
+use Rattle.laws_threads.proofs.Tests.{either_way}
 use Rattle.laws_objects.proofs.{Buildings.{Building, in_world, with_stores, FrameIn, WaitIn, BelowIn, FramesIn, PhaseIn, TriesIn, ThreadIn}, Slots.{slots_map, slot_later, plainly, not_this}}
 use Rattle.laws_objects.proofs.WorldChanges.{none_some, given_keeps, finished_there}
 use Rattle.jvm_types.specs.declared.typing.VType.TheVariants as types
@@ -121,11 +122,8 @@ module _ (building : Building) (new : NewArray building.owning.stores) (is : bui
   TurnApart Throws = Unit {0}
 
   at_call : (h receiver : ℕ) (begun : Option (VType × ℕ)) → receiver ≢ array → (q v : ℕ) → FreshAtCall w t h receiver begun q v → v ≢ array
-  at_call h receiver (Some (types.New r, class)) n q v f = by_test (q == r) f
-    where
-      by_test : (b : Bool) → if_so b (v ≡ receiver) (w v ≡ Some (builder t h (Made q))) → v ≢ array
-      by_test true f = subst (λ (x : ℕ). x ≢ array) (sym f) n
-      by_test false f = built_apart v (builder t h (Made q)) f (item_apart h (Made q) (λ s. cc))
+  at_call h receiver (Some (types.New r, class)) n q v f = either_way (λ (b : Bool). if_so b (v ≡ receiver) (w v ≡ Some (builder t h (Made q))) → v ≢ array) (q == r)
+      (λ f. subst (λ (x : ℕ). x ≢ array) (sym f) n) (λ f. built_apart v (builder t h (Made q)) f (item_apart h (Made q) (λ s. cc))) f
   at_call h receiver begun n q v f = built_apart v (builder t h (Made q)) f (item_apart h (Made q) (λ s. cc))
 
   pub receiver_apart : (h : ℕ) (own : Bool) (r : ℕ) → ReceiverIs w next t h own r → r ≢ array
@@ -228,21 +226,12 @@ module _ (building : Building) (new : NewArray building.owning.stores) (is : bui
   not_mine i x s = differ (ap (λ (b : Builder). b.thread) (sym s))
 
   made_is : (v : World) → v array ≡ Some k → (a height : ℕ) → v a ≡ Some (builder u height Header) → (o : Option Item) → made_world v a u height o array ≡ Some k
-  made_is v e a height h o = by_item o
-    where
-      apart : array ≢ a
-      apart s = (let same : Some (builder u height Header) ≡ Some k = sym h ∙ (ap v (sym s) ∙ e) in let one : builder u height Header ≡ k = cc in not_mine height Header one)
-
-      by_item : (o : Option Item) → made_world v a u height o array ≡ Some k
-      by_item (Some y) = given_keeps v a (builder u height y) array k e apart (λ s. not_mine height y (sym s))
-      by_item None = finished_there v a array apart ∙ e
+  made_is v e a height h o =
+      let apart : array ≢ a = λ s. (let same : Some (builder u height Header) ≡ Some k = sym h ∙ (ap v (sym s) ∙ e) in let one : builder u height Header ≡ k = cc in not_mine height Header one) in
+      elim o as (λ (o : Option Item). made_world v a u height o array ≡ Some k) [ Some y ↦ given_keeps v a (builder u height y) array k e apart (λ s. not_mine height y (sym s)) | None ↦ finished_there v a array apart ∙ e ]
 
   turn_free : (v : World) (e : v array ≡ Some k) (phase : Phase) → TurnApart (before v) new e (turn_by (operands_in phase))
-  turn_free v e phase = by_operands (operands_in phase)
-    where
-      by_operands : (o : Operands) → TurnApart (before v) new e (turn_by o)
-      by_operands Thrown = tt
-      by_operands o = tt
+  turn_free v e phase = elim (operands_in phase) as (λ (o : Operands). TurnApart (before v) new e (turn_by o)) [ Thrown ↦ tt | _ ↦ tt ]
 
   phase_on : (v : World) → v array ≡ Some k → (phase : Phase) (fs : List Frame) → PhaseIn (before v) phase fs → PhaseIn (stored_in v) phase fs
   phase_on v e (phases.Made a header) fs j = record {

@@ -1,11 +1,12 @@
 -- A return: the caller goes on behind its call. Where an `<init>` of a frozen class returns, its object is finished.
 use Rattle.std.proofs.Common.{◌≡◌, ◌≢◌, ℕ, zero, suc, ◌+◌, inl, inr, Bool, true, false, not, ◌&&◌, List, [], ◌∷◌, ◌++◌, length, map, drop, Option, Some, None, refl, sym, ap, ◌∙◌, subst, arith, ◌==◌, slice_get, slice_index_or}
-use Rattle.std.{specs.{List.AllByRecursion, Option.{option_map, option_to_list}}, proofs.lemmas.Bool.{or_parts, eq-eqb, eqb-true, ne_eqb}}
+use Rattle.std.{specs.{List.AllByRecursion, Option.{option_map, option_to_list}}, proofs.lemmas.Bool.{cases_Bool, or_parts, eq-eqb, eqb-true, ne_eqb}}
 use Rattle.lists.proofs.{ListLaws.same_some, TestLaws.is_true}
 use Rattle.jvm_types.specs.{CodeTable.{type_of, arguments, is_init, result_of, value_of, stack_after, locals_after, row}, Numbers.has_number, Types.{TypeFrame, is_below}}
 use Rattle.jvm_types.specs.{Verifying.{suits, some_taken, new_class, started, initialised, after_start, frame_after, edges, is_return}, declared.{code.Op.Op, op_row.Given.Given}}
 use Rattle.jvm_types.specs.declared.{op_row.{Given.TheVariants.Fresh as Anew, OpRow.OpRow, Want.{Want, TheVariants.{AnInt, AnObject, ToStart}}}, program.Kind.Kind}
 use Rattle.jvm_types.specs.declared.{code.Insn.Insn, program.{MethodInfo.MethodInfo, Target.Target}, typing.VType.VType}
+use Rattle.jvm_types.proofs.EachAfter.{all_append}
 use Rattle.laws_programs.{specs.RuleLaws.{ReturnsWell, ReturnsTop}, proofs.RuleUses.returns_suit_all}
 use Rattle.checked_program.specs.{CheckedLaws.receiver_want, Colours.is_read_of, LockTags.TagShape, Marks.called_method, TaggedCode.IsAt, Tagging.moved_tags, declared.tag.Tag.{Tag, TheVariants.Untagged}}
 use Rattle.machine_types.specs.Construction.{puts_owned, builds, makes_frozen, if_so, SlotsAre, Runs, WaitsFor, FreshAtCall, IsFresh, ReceiverIs, SlotOf, IsNoStored, IsArraySlot, SlotsFrom}
@@ -14,10 +15,10 @@ use Rattle.laws_threads.proofs.{Callers.{call_edge, row_of_call}, Calls.CallRow,
 use Rattle.laws_objects.proofs.{ArrayFrames.takes_clean, ArrayMoves.{GivenClean, WriteClean, SourceFine, stack_clean, each_source, dropped_at}}
 use Rattle.laws_objects.proofs.ArraySlots.{IsStart, each_from, no_stored_along, array_along, stack_begun, locals_begun}
 use Rattle.laws_objects.proofs.{Buildings.{Building, LawfulBuilding, in_world, FrameIn, WaitIn, BelowIn, FramesIn, null, inside}, BuiltEffects.{KindOld, StartsNone}}
-use Rattle.laws_objects.proofs.{CalledFrames.{call_takes, below_moved, arguments_start, none_started, none_append}, Calling.class_frozen, KeptFrames.{below_kept, plain_stack}}
-use Rattle.laws_objects.proofs.Moves.{Steps, stays, StartsOld, StartsYoung, Starts, starts, is_start, Suit, suit_at, tags_fine, old_started, lands_behind, receiver_without, slots_finished}
+use Rattle.laws_objects.proofs.{CalledFrames.{call_takes, below_moved, arguments_start, none_started}, Calling.class_frozen, KeptFrames.{below_kept, plain_stack}}
+use Rattle.laws_objects.proofs.Moves.{Steps, stays, drops, StartsOld, StartsYoung, Starts, starts, is_start, Suit, suit_at, tags_fine, old_started, lands_behind, receiver_without, slots_finished}
 use Rattle.laws_objects.proofs.{Operands.{TakenOld, takes_any, no_getfield, takes_old}, PutPlaces.edge_plain, Slots.{slots_map, slots_long, slot_later, made_slot}}
-use Rattle.laws_objects.proofs.WorldChanges.{without, without_gone, without_keeps, finished_without, world_without, goes_without, lost_without}
+use Rattle.laws_objects.proofs.WorldChanges.{without, without_gone, without_keeps, finished_without}
 use Rattle.jvm_types.specs.declared.code.Op.TheVariants as ops
 use Rattle.jvm_types.specs.declared.program.Kind.TheVariants as kinds
 use Rattle.jvm_types.specs.declared.typing.VType.TheVariants as types
@@ -33,11 +34,8 @@ ResultOld Old result vs = ⊥
 top_result : (m : MethodInfo) (Old : ℕ → Type 0) (R : VType → Tag → ℕ → Type 0) (us : List VType) (gs : List Tag) (s : List ℕ) → ReturnsTop m us → SlotsAre R us gs s → ((kind : Kind) (a : ℕ) (rest : List ℕ) → m.result ≡ Some kind → s ≡ a ∷ rest → KindOld Old kind a)
     → (a : ℕ) × (rest : List ℕ) × (s ≡ a ∷ rest) × ResultOld Old m.result (a ∷ [])
 top_result m Old R [] gs s w slots k = absurd (let e = w.top in cc)
-top_result m Old R (u ∷ us) gs [] w slots k = absurd (none gs slots)
-  where
-    none : (gs : List Tag) → SlotsAre R (u ∷ us) gs [] → ⊥
-    none [] h = h
-    none (g ∷ gs) h = h
+top_result m Old R (u ∷ us) [] [] w slots k = absurd slots
+top_result m Old R (u ∷ us) (g ∷ gs) [] w slots k = absurd slots
 top_result m Old R (u ∷ us) gs (a ∷ s) w slots k = (a, s, refl, subst (λ (o : Option Kind). ResultOld Old o (a ∷ [])) (sym w.described) (k w.kind a s w.described refl))
 
 module _ (building : Building) (h : ℕ) (null : IsFinished building.w building.next 0) (f : Frame) (k : FrameIn building h Runs f) where
@@ -105,16 +103,8 @@ module _ (building : Building) (h : ℕ) (null : IsFinished building.w building.
 -- ---- what started stands below the arguments
 
 started_class : (own q d class : ℕ) (front : List Want) (us : List VType) → AllByRecursion StartsNone front → started own (front ++ ToStart class ∷ []) us ≡ Some (types.New q, d) → d ≡ class
-started_class own q d class [] (types.This ∷ us) n e = absurd (let same : types.This ≡ types.New q = ap first_of e in cc)
-  where
-    first_of : Option (VType × ℕ) → VType
-    first_of None = types.This
-    first_of (Some x) = x.0
-started_class own q d class [] (u ∷ us) n e = ap second_of (sym e)
-  where
-    second_of : Option (VType × ℕ) → ℕ
-    second_of None = class
-    second_of (Some x) = x.1
+started_class own q d class [] (types.This ∷ us) n e = absurd (let is : Some (types.This, own) ≡ Some (types.New q, d) = e in let same : types.This ≡ types.New q = ap (λ (x : VType × ℕ). x.0) (same_some is) in cc)
+started_class own q d class [] (u ∷ us) n e = let is : Some (u, class) ≡ Some (types.New q, d) = e in ap (λ (x : VType × ℕ). x.1) (sym (same_some is))
 started_class own q d class (ToStart x ∷ front) us n e = absurd n.0
 started_class own q d class (want ∷ front) (u ∷ us) n e = started_class own q d class front us n.1 e
 started_class own q d class front [] n e = absurd (cc)
@@ -273,11 +263,8 @@ module _ (lawful : LawfulBuilding) (resuming : Resuming lawful) where
   -- ---- of a method that is no `<init>` of a frozen class, or of one on `this`
 
   again : (o : Option (VType × ℕ)) → StartsOld (makes_frozen frozen k.method) o → (q v : ℕ) → makes_frozen frozen k.method q ≡ true → FreshAtCall w t (length gs) receiver o q v → w v ≡ Some (builder t (length gs) (Made q))
-  again (Some (types.New x, class)) s q v y e = by_test (q == x) refl e
-    where
-      by_test : (b : Bool) → (q == x) ≡ b → if_so b (v ≡ receiver) (w v ≡ Some (builder t (length gs) (Made q))) → w v ≡ Some (builder t (length gs) (Made q))
-      by_test true z e = absurd (let bad : true ≡ false = sym y ∙ ap (makes_frozen frozen k.method) (eqb-true q x z) ∙ s in cc)
-      by_test false z e = e
+  again (Some (types.New x, class)) s q v y e =
+      elim (cases_Bool (q == x)) [ inl z ↦ absurd (let bad : true ≡ false = sym y ∙ ap (makes_frozen frozen k.method) (eqb-true q x z) ∙ s in cc) | inr z ↦ rw z at e ]
   again o s q v y e = e
 
   resumes_old : StartsOld (makes_frozen frozen k.method) (started k.method.class r.takes k.types.stack) → FrameIn building (length gs) Runs resumed
@@ -315,7 +302,7 @@ module _ (lawful : LawfulBuilding) (resuming : Resuming lawful) where
         nothing n = let none = none_started k.method.class r.takes k.types.stack n in (let bad : None ≡ Some (types.New y.pc, y.class) = sym none ∙ y.is in cc)
 
         by_init : (b : Bool) → is_init called ≡ b → r.takes ≡ arguments called ++ receiver_want b called.class ∷ [] → builds frozen called ≡ true
-        by_init false e takes = absurd (nothing (subst (AllByRecursion StartsNone) (sym takes) (none_append (arguments called) (AnObject called.class) (arguments_start called) tt)))
+        by_init false e takes = absurd (nothing (subst (AllByRecursion StartsNone) (sym takes) (all_append StartsNone (arguments called) (AnObject called.class ∷ []) (arguments_start called) (tt, tt))))
         by_init true e takes =
             let class : y.class ≡ called.class = started_class k.method.class y.pc y.class called.class (arguments called) k.types.stack (arguments_start called) (ap (λ (ws : List Want). started k.method.class ws k.types.stack) (sym takes) ∙ y.is) in
             ap (λ (b : Bool). b && frozen called.class) e ∙ sym (ap frozen class) ∙ sym (class_frozen frozen (new_class k.method.code k.method.targets y.pc) y.class y.of_class) ∙ y.young_is
@@ -355,10 +342,5 @@ module _ (lawful : LawfulBuilding) (resuming : Resuming lawful) where
     where
       by_start : Starts k.method (makes_frozen frozen k.method) (started k.method.class r.takes k.types.stack) → Steps w next t (λ z. FramesIn (in_world building z) Runs (resumed ∷ gs))
       by_start (inl old) = stays w next t (λ z. FramesIn (in_world building z) Runs (resumed ∷ gs)) (resumes_old old, below_moved building g k.insn.next (result ++ g.stack) g.locals gs below)
-      by_start (inr y) = record {
-        later = without w (builder t (suc (length gs)) Begun);
-        goes = goes_without w next t (builder t (suc (length gs)) Begun) refl;
-        world = λ first is. world_without w first next (builder t (suc (length gs)) Begun) is;
-        lost = lost_without w (builder t (suc (length gs)) Begun) (λ e. cc);
-        keeps = (resumes_young y, below_moved (in_world building (without w (builder t (suc (length gs)) Begun))) g k.insn.next (result ++ g.stack) g.locals gs (below_on y));
-      }
+      by_start (inr y) = drops w next t (builder t (suc (length gs)) Begun) (λ z. FramesIn (in_world building z) Runs (resumed ∷ gs)) refl (λ e. cc)
+          (resumes_young y, below_moved (in_world building (without w (builder t (suc (length gs)) Begun))) g k.insn.next (result ++ g.stack) g.locals gs (below_on y))

@@ -1,7 +1,7 @@
 -- The frame of a root keeps what construction says: it is a static method, no `<init>`, and takes nothing or an int.
-use Rattle.std.proofs.Common.{◌≡◌, ℕ, zero, suc, ◌+◌, ◌≤◌, inl, inr, Bool, true, false, ◌&&◌, ◌||◌, List, [], ◌∷◌, ◌++◌, length, Option, Some, None, refl, ap, sym, subst, ◌∙◌, arith, ◌==◌, nat_lt, codes, bytes_eq, slice_get, option_map, if◌then◌else◌, IsTrue}
+use Rattle.std.proofs.Common.{◌≡◌, ℕ, zero, suc, ◌+◌, ◌≤◌, inl, inr, Bool, true, false, ◌&&◌, List, [], ◌∷◌, ◌++◌, length, Option, Some, None, refl, ap, sym, subst, ◌∙◌, arith, ◌==◌, nat_lt, codes, bytes_eq, slice_get, option_map, if◌then◌else◌, IsTrue}
 use Rattle.std.{specs.List.AllByRecursion, proofs.lemmas.Slice.Eq.bytes_eq-Decides}
-use Rattle.lists.proofs.{ListLaws.same_some, TestLaws.{both_are_true, second_true, first_true}}
+use Rattle.lists.proofs.{ListLaws.same_some, TestLaws.{both_are_true}}
 use Rattle.jvm_types.specs.{ClassNames.file_class, CodeTable.is_init, Members.is_class_init_name, Numbers.has_number}
 use Rattle.jvm_types.specs.declared.{outcome.Thrown.TheVariants.StackOverflowError, program.{Kind.Kind, MethodInfo.MethodInfo, Program.Program}}
 use Rattle.laws_programs.specs.EntryLaws.{receiver_count}
@@ -10,7 +10,7 @@ use Rattle.machine_types.specs.{Bounds.part_roots, Events.thread_started, Frames
 use Rattle.machine_types.specs.{Parts.{numbers_of, is_entry_named, entries_named, init_roots}, Worlds.IsFinished}
 use Rattle.laws_threads.{specs.StructureLaws.StaysStructured, proofs.{Roots.{IsSomeRoot, part_root, numbered}, ThreadMove.counting}}
 use Rattle.laws_objects.proofs.{Buildings.{LawfulBuilding, Moving, in_world, null, sees}, Calling.not_built, EnteredFrames.{ArgsOld, static_enters}, MonitorMoves.{Goal, none_in, held, goes_if, never}}
-use Rattle.laws_objects.proofs.{Moves.stays, Onwards.{OnwardKeeps, IfKeeps}, ThreadMoves.from_same}
+use Rattle.laws_objects.proofs.{Moves.stays, Onwards.{OnwardKeeps, IfKeeps}, PutPlaces.by_append, ThreadMoves.from_same}
 use Rattle.machine_types.specs.declared.phase.Phase.TheVariants as phases
 
 -- ---- the methods with these numbers
@@ -27,12 +27,7 @@ module _ (p : Program) where
       other m (subst (λ (y : MethodInfo). test y ≡ true) same x.passes)
 
   either : (xs ys : List ℕ) → NoInits xs → NoInits ys → NoInits (xs ++ ys)
-  either [] ys f g k m h e = g k m h e
-  either (x ∷ xs) ys f g k m h e = by_first (x == k) refl h (λ rest. either xs ys (λ k m h e. f k m (second_true (x == k) (has_number xs k) h) e) g k m rest e)
-    where
-      by_first : (b : Bool) → (x == k) ≡ b → (b || has_number (xs ++ ys) k) ≡ true → (has_number (xs ++ ys) k ≡ true → is_init m ≡ false) → is_init m ≡ false
-      by_first true t h more = f k m (first_true (x == k) (has_number xs k) t) e
-      by_first false t h more = more h
+  either xs ys f g k m h e = elim (by_append xs ys k h) [ inl i ↦ f k m i e | inr i ↦ g k m i e ]
 
   -- another name
   named : (name : List ℕ) → bytes_eq name (codes "<init>") ≡ false → (m : MethodInfo) → bytes_eq m.name name ≡ true → is_init m ≡ false

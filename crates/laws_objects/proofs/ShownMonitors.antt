@@ -2,12 +2,13 @@
 -- a tag of `this` is held, and where the method is synchronized on it, and that of its class where it is synchronized on that.
 use Rattle.std.proofs.Common.{◌≡◌, ◌⊎◌, inl, inr, ℕ, ◌+◌, ◌<◌, Bool, true, false, not, List, [], ◌∷◌, ◌++◌, map, Option, Some, None, refl, sym, subst, arith, ◌==◌, ◌&&◌, if◌then◌else◌}
 use Rattle.std.specs.List.{list_any}
+use Rattle.lists.proofs.TestLaws.{both_are_true}
 use Rattle.jvm_types.specs.{ClassNames.file_of_class, Members.{is_static, is_synchronized}, declared.program.{MethodInfo.MethodInfo, Program.Program}}
 use Rattle.checked_program.specs.{FrozenPlaces.{locks_this, locks_class}, LockTags.{TagShape, is_this}, MarkedProgram.{MarkedProgram, IsMarked}, declared.tag.Tag.Tag}
 use Rattle.checked_program.specs.declared.tag.Tag.TheVariants.{Untagged, This, At}
 use Rattle.machine_types.specs.{HeldMonitors.held_at, Shown.{tag_value, own_entry, shown_entries, Shows}, Standing.{Standing, Whole}, Structure.{Stands, count_in, held_depth}, Threads.Frame}
 use Rattle.machine_types.specs.{Words.class_object, declared.lock.Held.Held}
-use Rattle.laws_threads.proofs.{Counts.once_in, FramePlaces.one_standing, HeldLists.depth_none}
+use Rattle.laws_threads.proofs.{Counts.once_in, FramePlaces.one_standing, HeldLists.depth_none, Tests.either_way}
 use Rattle.machine_types.specs.declared.phase.Phase.TheVariants as phases
 
 -- ---- counts
@@ -17,11 +18,8 @@ later_counted m n more l = omega (arith, l)
 
 pub front_counted : (m : ℕ) (ns more : List ℕ) → 0 < count_in m ns → 0 < count_in m (ns ++ more)
 front_counted m [] more l = absurd (omega (arith, l))
-front_counted m (n ∷ ns) more l = by_test (n == m) (λ less. front_counted m ns more less) l
-  where
-    by_test : (b : Bool) → (0 < count_in m ns → 0 < count_in m (ns ++ more)) → 0 < (if b then 1 else 0) + count_in m ns → 0 < (if b then 1 else 0) + count_in m (ns ++ more)
-    by_test true on l = omega arith
-    by_test false on l = let less : 0 < count_in m ns = omega (arith, l) in let k = on less in omega (arith, k)
+front_counted m (n ∷ ns) more l = either_way (λ (b : Bool). 0 < (if b then 1 else 0) + count_in m ns → 0 < (if b then 1 else 0) + count_in m (ns ++ more)) (n == m) (λ l. omega arith)
+    (λ l. let less : 0 < count_in m ns = omega (arith, l) in let k = front_counted m ns more less in omega (arith, k)) l
 
 pub back_counted : (m : ℕ) (ns more : List ℕ) → 0 < count_in m more → 0 < count_in m (ns ++ more)
 back_counted m [] more l = l
@@ -45,11 +43,7 @@ method_counted p m f e = by_flags (is_synchronized m.flags) (is_static m.flags) 
 -- ---- what it shows of its class
 
 class_counted : (p : Program) (m : MethodInfo) (f : Frame) → locks_class m ≡ true → 0 < count_in (class_object p (file_of_class m.class)) (own_entry p m f)
-class_counted p m f e = by_flags (is_synchronized m.flags) (is_static m.flags) e
-  where
-    by_flags : (b s : Bool) → (b && s) ≡ true → 0 < count_in (class_object p (file_of_class m.class)) (if b then (if s then class_object p (file_of_class m.class) else f.receiver) ∷ [] else [])
-    by_flags true true e = once_in (class_object p (file_of_class m.class)) []
-    by_flags b s e = absurd (cc)
+class_counted p m f e = let parts = both_are_true (is_synchronized m.flags) (is_static m.flags) e in rw (parts.0, parts.1) (once_in (class_object p (file_of_class m.class)) [])
 
 pub entries_counted : (p : Program) (choice : ℕ → ℕ) (m : MethodInfo) (tags : TagShape) (f : Frame) → (list_any is_this tags.held ≡ true) ⊎ (locks_this m ≡ true) → 0 < count_in f.receiver (shown_entries p choice m tags f)
 entries_counted p choice m tags f (inl e) = front_counted f.receiver (map (tag_value choice f.receiver) tags.held) (own_entry p m f) (tag_counted choice f.receiver tags.held e)

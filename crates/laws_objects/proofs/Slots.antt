@@ -1,6 +1,6 @@
 -- What slots are along moves, starts and edges.
 use Rattle.std.proofs.Common.{◌≡◌, ◌≢◌, ℕ, zero, suc, ◌⊎◌, inl, inr, Bool, true, false, List, [], ◌∷◌, ◌++◌, length, map, drop, Option, Some, None, refl, sym, ap, ◌∙◌, subst, arith, ◌==◌, if◌then◌else◌, slice_set, slice_index_or}
-use Rattle.std.{specs.List.AllByRecursion, proofs.lemmas.Bool.Decides.nat_tests}
+use Rattle.std.{specs.List.AllByRecursion, proofs.lemmas.Bool.{cases_Bool, Decides.nat_tests}}
 use Rattle.lists.proofs.TestLaws.{both_are_true}
 use Rattle.jvm_types.specs.{CodeTable.{value_of, stack_after, locals_after}, Types.{is_below, same_type, all_pairs}, Verifying.initialised, declared.op_row.Given.Given}
 use Rattle.jvm_types.specs.declared.{op_row.{Given.TheVariants.{Fresh as Anew, Taken, Local}, OpRow.OpRow}, typing.VType.VType}
@@ -112,17 +112,22 @@ module _ (Old More : ℕ → Type 0) (Fresh Later : ℕ → ℕ → Type 0) (you
     | inr m ↦ let p = plainly Old Fresh young receiver t g v m h in plain_slot More Later young receiver u g v m (n p.0) (f p.1)
   ]
 
+-- of a type that passes a test
+module _ (Old More : ℕ → Type 0) (Fresh Later : ℕ → ℕ → Type 0) (P : VType → Type 0) (old : (v : ℕ) → Old v → More v) (young : ℕ → Bool) (fresh : (q v : ℕ) → P (types.New q) → young q ≡ true → Fresh q v → Later q v) where
+  new_slot : (b : Bool) (q v : ℕ) → P (types.New q) → young q ≡ b → if_so b (Fresh q v) (Old v) → if_so b (Later q v) (More v)
+  new_slot true q v p e h = fresh q v p e h
+  new_slot false q v p e h = old v h
+
+  by_type : (t : VType) (v : ℕ) → P t → SlotByType Old Fresh young t v → SlotByType More Later young t v
+  by_type (types.New q) v p h = new_slot (young q) q v p refl h
+  by_type t v p h = first_of (assumption, search old)
+
+  pub slot_if : (receiver : ℕ) (own : Bool) (t : VType) (g : Tag) (v : ℕ) → P t → SlotIs Old Fresh own young receiver t g v → SlotIs More Later own young receiver t g v
+  slot_if receiver own t g v p h = slot_by Old More Fresh Later young receiver own t t g v (λ n. n) (by_type t v p) h
+
 module _ (Old More : ℕ → Type 0) (Fresh Later : ℕ → ℕ → Type 0) (old : (v : ℕ) → Old v → More v) (young : ℕ → Bool) (fresh : (q v : ℕ) → young q ≡ true → Fresh q v → Later q v) where
-  new_slot : (b : Bool) (q v : ℕ) → young q ≡ b → if_so b (Fresh q v) (Old v) → if_so b (Later q v) (More v)
-  new_slot true q v e h = fresh q v e h
-  new_slot false q v e h = old v h
-
-  pub by_type : (t : VType) (v : ℕ) → SlotByType Old Fresh young t v → SlotByType More Later young t v
-  by_type (types.New q) v h = new_slot (young q) q v refl h
-  by_type t v h = first_of (assumption, search old)
-
   pub slot_later : (own : Bool) (receiver : ℕ) (t : VType) (g : Tag) (v : ℕ) → SlotIs Old Fresh own young receiver t g v → SlotIs More Later own young receiver t g v
-  slot_later own receiver t g v h = slot_by Old More Fresh Later young receiver own t t g v (λ n. n) (by_type t v) h
+  slot_later own receiver t g v h = slot_if Old More Fresh Later (λ u. Unit {0}) old young (λ q v p. fresh q v) receiver own t g v tt h
 
 -- ---- edges
 
@@ -177,11 +182,8 @@ module _ (Old : ℕ → Type 0) (null : Old 0) (Fresh : ℕ → ℕ → Type 0) 
   StartFine o = (v : ℕ) → SlotByType Old Fresh young o v → Old v
 
   type_started : (o : VType) (class : ℕ) (t : VType) (v : ℕ) → StartFine o → SlotByType Old Fresh young t v → SlotByType Old Fresh young (if same_type o t then types.Ref class else t) v
-  type_started o class t v fine h = by_test (same_type o t) refl
-    where
-      by_test : (b : Bool) → same_type o t ≡ b → SlotByType Old Fresh young (if b then types.Ref class else t) v
-      by_test true e = fine v (subst (λ (x : VType). SlotByType Old Fresh young x v) (sym (same_types o t e)) h)
-      by_test false e = h
+  type_started o class t v fine h =
+      elim (cases_Bool (same_type o t)) [ inl e ↦ rw e (fine v (subst (λ (x : VType). SlotByType Old Fresh young x v) (sym (same_types o t e)) h)) | inr e ↦ rw e h ]
 
   own_started : (o : VType) (class : ℕ) (t : VType) (g : Tag) (v : ℕ) → ((o ≡ types.This) ⊎ StartFine o) → OwnSlot Old Fresh young receiver t g v → OwnSlot Old Fresh young receiver (if same_type o t then types.Ref class else t) g v
   own_started o class t g v fine h = elim (not_this g) [

@@ -9,7 +9,7 @@ use Rattle.machine_types.specs.{Threads.Frame, Typed.{FramesHold, HasClass, HasE
 use Rattle.machine_types.specs.declared.{effect.{Effect.TheVariants.Writes, Variable.{Variable, TheVariants.{Instance, Static}}}}
 use Rattle.laws_threads.{specs.Allowed.IsNamedField, proofs.Landing.rules_at}
 use Rattle.laws_states.specs.Sites.{ValueOf, StaticAt, IsThere}
-use Rattle.laws_objects.proofs.{PlaceWriters.{PlaceEvent, IsWriter, holder_of, names_field, place_writer}, WrittenFields.{Puts, PutsOnClass, field_put}}
+use Rattle.laws_objects.proofs.{PlaceWriters.{PlaceEvent, IsWriter, holder_of, names_field, place_writer}, WrittenFields.{field_put}}
 use Rattle.jvm_types.specs.declared.code.Op.TheVariants as ops
 use Rattle.jvm_types.specs.declared.program.Target.TheVariants as targets
 
@@ -56,11 +56,11 @@ module _ (event : PlaceEvent) (fi : ℕ) (field : FieldInfo) (is : slice_get eve
 
     writes : variable_word v ≡ field.index → StaticWriter c fi f
     writes same =
-        by_put (same_field same) (field_put c.program (site_in k.method) at.number k.insn.next g v n at.there k.insn.op f.locals f.stack (names_field c f k at.number marked at.named) (ap (λ (t : Target). effect c.program k.insn.next t k.insn.op f.locals f.stack) (sym at.named) ∙ e))
-      where
-        by_put : (is_static g.flags ≡ true) × (at.number ≡ fi) → PutsOnClass k.insn.op g v ⊎ Puts k.insn.op g f.stack v → StaticWriter c fi f
-        by_put it (inl put) = record { stands = k; index = put.index; is = put.is; names = at.named ∙ ap (λ (i : ℕ). targets.Field i) it.1 }
-        by_put it (inr put) = absurd (no_putfield put.index put.is it.0)
+        let it = same_field same in
+        elim (field_put c.program (site_in k.method) at.number k.insn.next g v n at.there k.insn.op f.locals f.stack (names_field c f k at.number marked at.named) (ap (λ (t : Target). effect c.program k.insn.next t k.insn.op f.locals f.stack) (sym at.named) ∙ e)) [
+          | inl put ↦ record { stands = k; index = put.index; is = put.is; names = at.named ∙ ap (λ (i : ℕ). targets.Field i) it.1 }
+          | inr put ↦ absurd (no_putfield put.index put.is it.0)
+        ]
 
   -- ---- an element is no static field
 

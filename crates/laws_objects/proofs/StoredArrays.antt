@@ -11,10 +11,10 @@ use Rattle.laws_threads.{specs.Allowed.OneOf, proofs.{Standings.top_here, TopEff
 use Rattle.laws_objects.proofs.{ArrayFrames.takes_clean, ArrayMoves.{GivenClean, WriteClean, SourceFine, stack_clean, each_source, dropped_at}}
 use Rattle.laws_objects.proofs.ArraySlots.{from_drop, each_from, no_stored_along, array_along, stack_begun, locals_begun, IsStart}
 use Rattle.laws_objects.proofs.{Buildings.{Building, FramesIn, Design, LawfulBuilding, in_world, with_stores, FrameIn, BelowIn, null}, BuiltEffects.StartsNone}
-use Rattle.laws_objects.proofs.{CalledFrames.{below_moved, none_started}, KeptFrames.below_kept, Landing.LandsWell, Moves.{Steps, lands_behind, receiver_without}, Operands.{WantOld, TakenOld, takes_any}}
+use Rattle.laws_objects.proofs.{CalledFrames.{below_moved, none_started}, KeptFrames.below_kept, Landing.LandsWell, Moves.{Steps, drops, lands_behind, receiver_without}, Operands.{WantOld, TakenOld, takes_any}}
 use Rattle.laws_objects.proofs.{PutPlaces.{is_newarray, edge_plain}, RestoredFrames.{NewArray, receiver_apart, arrays_from, locals_from, below_on}}
 use Rattle.laws_objects.proofs.Slots.{slots_map, slots_drop, slots_long, slot_later}
-use Rattle.laws_objects.proofs.WorldChanges.{none_some, without, without_gone, without_keeps, finished_without, world_without, goes_without, lost_without}
+use Rattle.laws_objects.proofs.WorldChanges.{none_some, without, without_gone, without_keeps, finished_without}
 use Rattle.jvm_types.specs.declared.code.Op.TheVariants as ops
 use Rattle.jvm_types.specs.declared.program.Kind.TheVariants as kinds
 use Rattle.jvm_types.specs.declared.program.Target.TheVariants as targets
@@ -215,13 +215,8 @@ module _ (lawful : LawfulBuilding) (f : Frame) (fs : List Frame) (k : FrameIn la
       (below_on building it is_new f fs (λ i less s. (let same : i ≡ length fs = ap (λ (x : Builder). x.height) s in omega (arith, same, less))) apart b)
 
   pub stores_it : Steps w next t (λ z. FramesIn (in_world behind z) Runs (went_on c.program (top_here c f fs k.stands) 0))
-  stores_it = record {
-    later = without w (builder t (length fs) Unstored);
-    goes = goes_without w next t (builder t (length fs) Unstored) refl;
-    world = λ first is. world_without w first next (builder t (length fs) Unstored) is;
-    lost = lost_without w (builder t (length fs) Unstored) (λ e. cc);
-    keeps = (frame_stored, below_moved (in_world behind z) f k.stands.insn.next (frame_on (row_at c f k.stands) k.stands.insn.next 0 f).stack (frame_on (row_at c f k.stands) k.stands.insn.next 0 f).locals fs below_stored);
-  }
+  stores_it = drops w next t (builder t (length fs) Unstored) (λ z. FramesIn (in_world behind z) Runs (went_on c.program (top_here c f fs k.stands) 0)) refl (λ e. cc)
+      (frame_stored, below_moved (in_world behind z) f k.stands.insn.next (frame_on (row_at c f k.stands) k.stands.insn.next 0 f).stack (frame_on (row_at c f k.stands) k.stands.insn.next 0 f).locals fs below_stored)
 
   -- it is finished behind it
   pub later_finished : stores_it.later array ≡ None

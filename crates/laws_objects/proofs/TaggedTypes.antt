@@ -2,7 +2,7 @@
 -- many tags as types, and outside an `<init>` no value has the type of an uninitialised `this`.
 use Rattle.std.proofs.Common.{◌≡◌, ℕ, suc, ◌+◌, ◌-◌, Bool, true, false, cond, List, [], ◌∷◌, ◌++◌, length, map, drop, replicate, Option, Some, None, refl, sym, ap, ◌∙◌, subst, arith, if◌then◌else◌, slice_get}
 use Rattle.std.{specs.List.AllByRecursion, proofs.lemmas.List.{length-append, length-map, length-drop, length-set, length-replicate}}
-use Rattle.jvm_types.specs.{CodeGrammar.is_start, CodeTable.{row, is_init, type_of, value_of, stack_after, locals_after}, Members.is_static}
+use Rattle.jvm_types.specs.{CodeGrammar.is_start, CodeTable.{can_throw, row, is_init, type_of, value_of, stack_after, locals_after}, Members.is_static}
 use Rattle.jvm_types.specs.Types.{TypeFrame, frame_below, entry_type_frame, receiver_types}
 use Rattle.jvm_types.specs.{Verifying.{edges, covering, started, after_start, frame_after, frame_at_handler, HasTyping, IsLaidOut}, declared.{code.{Insn.Insn, Op.Op}, op_row.Given.Given}}
 use Rattle.jvm_types.specs.declared.{op_row.OpRow.OpRow, program.{MethodInfo.MethodInfo, Program.Program, Row.Row, Target.Target}, typing.VType.{VType, TheVariants.{Ref, This, Top}}}
@@ -10,8 +10,9 @@ use Rattle.jvm_types.proofs.{EachAfter.all_weaker, FrameOrder.{stack_below, loca
 use Rattle.laws_programs.proofs.{CodeOrder.one_number, EdgeTargets.lands, LocalGoing.{begins, local_law}, VisitsEnd.initialised_length}
 use Rattle.checked_program.specs.LockTags.{TagShape, entry_tags, meet_tags, without, IsShapeBelow}
 use Rattle.checked_program.specs.{Tagging.{moved_tags, tags_by_op, tags_after, catches_all, until_all, catchers, tags_at_handler, acts_at, tag_plan, tag_meeting, HasTagging}, declared.tag.Tag.Tag}
-use Rattle.checked_program.specs.declared.tag.Tag.TheVariants.{Untagged, This as Own, At}
+use Rattle.checked_program.specs.declared.tag.Tag.TheVariants.{Untagged, This as Own}
 use Rattle.laws_sections.proofs.{TagLocal.{acts_land, start_at}, TagOrder.tag_order, VisitsLocal.{Lands, ActLands, IsClosed, local}}
+use Rattle.laws_threads.proofs.Tests.{either_way}
 use Rattle.jvm_types.specs.Verifying as types
 use Rattle.jvm_types.specs.declared.code.Op.TheVariants as ops
 
@@ -48,20 +49,14 @@ module _ (p : Program) (m : MethodInfo) (frames : List (Option TypeFrame)) (laid
   rows_land : (g : TypeFrame) (f : TagShape) (rows : List Row) → P g f → AllByRecursion (λ handler. types.FrameFits m.code frames (frame_at_handler handler g) handler.handler) rows
       → AllByRecursion (λ handler. Lands HasIt m.code (tags_at_handler f) handler.handler) (until_all rows)
   rows_land g f [] k h = tt
-  rows_land g f (handler ∷ rows) k h = by_test (catches_all handler) (fit_lands (frame_at_handler handler g) (tags_at_handler f) handler.handler (caught handler g f k) h.0) (rows_land g f rows k h.1)
-    where
-      by_test : (b : Bool) → Lands HasIt m.code (tags_at_handler f) handler.handler → AllByRecursion (λ handler. Lands HasIt m.code (tags_at_handler f) handler.handler) (until_all rows)
-          → AllByRecursion (λ handler. Lands HasIt m.code (tags_at_handler f) handler.handler) (if b then handler ∷ [] else handler ∷ until_all rows)
-      by_test true one more = (one, tt)
-      by_test false one more = (one, more)
+  rows_land g f (handler ∷ rows) k h =
+      let one = fit_lands (frame_at_handler handler g) (tags_at_handler f) handler.handler (caught handler g f k) h.0 in
+      either_way (λ (b : Bool). AllByRecursion (λ handler. Lands HasIt m.code (tags_at_handler f) handler.handler) (if b then handler ∷ [] else handler ∷ until_all rows)) (catches_all handler) (one, tt) (one, rows_land g f rows k h.1)
 
   catchers_land : (insn : Insn) (g : TypeFrame) (f : TagShape) → P g f → AllByRecursion (λ handler. types.FrameFits m.code frames (frame_at_handler handler g) handler.handler) (covering m insn.pc)
       → AllByRecursion (λ handler. Lands HasIt m.code (tags_at_handler f) handler.handler) (catchers m insn)
-  catchers_land insn g f k h = by_test (Rattle.jvm_types.specs.CodeTable.can_throw insn.op)
-    where
-      by_test : (b : Bool) → AllByRecursion (λ handler. Lands HasIt m.code (tags_at_handler f) handler.handler) (if b then until_all (covering m insn.pc) else [])
-      by_test true = rows_land g f (covering m insn.pc) k h
-      by_test false = tt
+  catchers_land insn g f k h =
+      either_way (λ (b : Bool). AllByRecursion (λ handler. Lands HasIt m.code (tags_at_handler f) handler.handler) (if b then until_all (covering m insn.pc) else [])) (can_throw insn.op) (rows_land g f (covering m insn.pc) k h) tt
 
   plan_lands : (i : ℕ) (f : TagShape) → HasIt i f → AllByRecursion (ActLands HasIt m.code) ((tag_plan p m).acts i f)
   plan_lands i f has = by_both (slice_get m.code i) refl (slice_get m.targets i) refl
@@ -151,14 +146,10 @@ by_op_many p m pc target ops.Dup g f k = by_tags f.stack refl
       locals = without_long pc f.locals ∙ k.locals;
     }
     by_tags ts e = moved
-by_op_many p m pc target ops.Monitorenter g f k = by_tags f.stack
-  where
-    moved : AreAsMany (record { stack = stack_after Top (λ t. t) (row p m pc target ops.Monitorenter) g.stack g.locals; locals = g.locals; ready = g.ready }) (moved_tags (row p m pc target ops.Monitorenter) f)
-    moved = moved_many (row p m pc target ops.Monitorenter) g f k
-
-    by_tags : (ts : List Tag) → AreAsMany (record { stack = stack_after Top (λ t. t) (row p m pc target ops.Monitorenter) g.stack g.locals; locals = g.locals; ready = g.ready }) (tags_by_op pc (row p m pc target ops.Monitorenter) ops.Monitorenter ts f)
-    by_tags [] = moved
-    by_tags (t ∷ ts) = record { stack = moved.stack; locals = moved.locals }
+by_op_many p m pc target ops.Monitorenter g f k =
+    let moved = moved_many (row p m pc target ops.Monitorenter) g f k in
+    elim f.stack as (λ (ts : List Tag). AreAsMany (record { stack = stack_after Top (λ t. t) (row p m pc target ops.Monitorenter) g.stack g.locals; locals = g.locals; ready = g.ready }) (tags_by_op pc (row p m pc target ops.Monitorenter) ops.Monitorenter ts f))
+    [ [] ↦ moved | t ∷ ts ↦ record { stack = moved.stack; locals = moved.locals } ]
 by_op_many p m pc target ops.Monitorexit g f k = let moved = moved_many (row p m pc target ops.Monitorexit) g f k in record { stack = moved.stack; locals = moved.locals }
 by_op_many p m pc target op g f k = moved_many (row p m pc target op) g f k
 

@@ -1,5 +1,5 @@
 -- A thread that has moved keeps what construction says of it, in and outside of an attempt.
-use Rattle.std.proofs.Common.{◌≡◌, ◌≢◌, ℕ, ◌-◌, ◌<◌, ◌≤◌, ◌⊎◌, inl, inr, Bool, true, false, cond, List, [], ◌∷◌, length, drop, Option, Some, None, refl, sym, ap, ◌∙◌, subst, arith, ◌==◌, nat_lt, Contains}
+use Rattle.std.proofs.Common.{◌≡◌, ◌≢◌, ℕ, ◌-◌, ◌<◌, ◌≤◌, ◌⊎◌, inl, inr, Bool, true, false, cond, List, [], ◌∷◌, length, drop, Option, Some, None, refl, sym, ap, ◌∙◌, subst, arith, ◌==◌, nat_lt, Contains, IfSome}
 use Rattle.std.{specs.List.AllByRecursion, proofs.lemmas.Bool.{cases_Bool, eqb-true, eqb-false}}
 use Rattle.jvm_types.specs.ProgramInvariant.{words_of}
 use Rattle.laws_programs.proofs.LocalGoing.{at_index}
@@ -8,11 +8,11 @@ use Rattle.machine_types.specs.{Construction.{Runs, PhaseKeeps}, Elision.put_bac
 use Rattle.machine_types.specs.{HeldMonitors.{held_at, with_held, without_held}, Onward.{Onward, Running, Throwing, Entering, Leaving, RootReturned, Uncaught}}
 use Rattle.machine_types.specs.{Structure.{IsStructured, AttemptStandsIn}, Threads.{Frame, Attempt, Thread}, Worlds.{Lost, Builder, World, IsFinished, IsOwnOrFinished, IsWorld, IsViewOf, GoesOn}}
 use Rattle.machine_types.specs.declared.{lock.Held.Held, phase.Phase.Phase}
-use Rattle.laws_threads.{specs.{EntryFrames.{frames_in, KeepsEntry}, StructureLaws.counted_by}, proofs.ThreadMove.{goes_held, goes_attempt}}
+use Rattle.laws_threads.{specs.{EntryFrames.{frames_in, KeepsEntry}, StructureLaws.counted_by}, proofs.{HeldBounds.{each_put, each_without, found}, ThreadMove.{goes_held, goes_attempt}}}
 use Rattle.laws_states.proofs.Lists.{contained_got, contains_first, contains_more}
 use Rattle.laws_objects.proofs.{Buildings.{Building, in_world, in_later, with_stores, FramesIn, PhaseIn, TriesIn, AttemptIn, ThreadIn}, CountedPhases.PhaseFits}
 use Rattle.laws_objects.proofs.{KeptFrames.{KeepsAt, phase_frames_kept, phase_kept, attempt_kept}, Moves.Steps, Onwards.OnwardKeeps, Views.{IsOwnIn, IsNoneOf, own_or_not, known_on}}
-use Rattle.laws_objects.proofs.WorldChanges.{none_some, goes_same, goes_both, world_same, KeepsLost}
+use Rattle.laws_objects.proofs.WorldChanges.{none_some, goes_by, goes_same, goes_both, world_same, KeepsLost}
 use Rattle.jvm_types.specs.declared.outcome.End.TheVariants as ends
 use Rattle.machine_types.specs.declared.phase.Phase.TheVariants as phases
 
@@ -54,28 +54,13 @@ of_all : {A : Type 0} (P : A → Type 0) (xs : List A) → AllByRecursion P xs �
 of_all P xs all x k = at_index P xs k.0 x all (contained_got xs x k)
 
 pub known_at : (w : World) (next t m : ℕ) (hs : List Held) (h : Held) → AreKnown w next t hs → held_at hs m ≡ Some h → IsOwnOrFinished w next t h.monitor
-known_at w next t m [] h k e = absurd (cc)
-known_at w next t m (g ∷ hs) h k e = by_test (g.monitor == m) e (known_at w next t m hs h k.1)
-  where
-    by_test : (b : Bool) → cond b (Some g) (held_at hs m) ≡ Some h → (held_at hs m ≡ Some h → IsOwnOrFinished w next t h.monitor) → IsOwnOrFinished w next t h.monitor
-    by_test true e more = let same : g ≡ h = cc in subst (λ (x : Held). IsOwnOrFinished w next t x.monitor) same k.0
-    by_test false e more = more e
+known_at w next t m hs h k e = subst (λ (o : Option Held). IfSome o (λ (g : Held). IsOwnOrFinished w next t g.monitor)) e (found (λ (g : Held). IsOwnOrFinished w next t g.monitor) m hs k)
 
 pub known_with : (w : World) (next t : ℕ) (h : Held) (hs : List Held) → IsOwnOrFinished w next t h.monitor → AreKnown w next t hs → AreKnown w next t (with_held h hs)
-known_with w next t h [] n k = (n, tt)
-known_with w next t h (g ∷ hs) n k = by_test (g.monitor == h.monitor) (known_with w next t h hs n k.1)
-  where
-    by_test : (b : Bool) → AreKnown w next t (with_held h hs) → AreKnown w next t (cond b (h ∷ hs) (g ∷ with_held h hs))
-    by_test true more = (n, k.1)
-    by_test false more = (k.0, more)
+known_with w next t h hs n k = each_put (λ (g : Held). IsOwnOrFinished w next t g.monitor) h hs n k
 
 pub known_without : (w : World) (next t m : ℕ) (hs : List Held) → AreKnown w next t hs → AreKnown w next t (without_held m hs)
-known_without w next t m [] k = tt
-known_without w next t m (g ∷ hs) k = by_test (g.monitor == m) (known_without w next t m hs k.1)
-  where
-    by_test : (b : Bool) → AreKnown w next t (without_held m hs) → AreKnown w next t (cond b hs (g ∷ without_held m hs))
-    by_test true more = k.1
-    by_test false more = (k.0, more)
+known_without w next t m hs k = each_without (λ (g : Held). IsOwnOrFinished w next t g.monitor) m hs k
 
 -- ---- attempts
 
@@ -126,13 +111,8 @@ same_view w t o = record { same = λ e v. refl; others = λ v n. refl; own = λ 
 
 module _ (w now : World) (t : ℕ) (o : Option Attempt) (view : IsViewOf now w t o) where
   view_goes : (next : ℕ) → GoesOn w now next next t 0
-  view_goes next = record {
-    grows = omega arith;
-    finished = λ v k. view.others v (λ b e. absurd (none_some (w v) b k.1 e)) ∙ k.1;
-    others = λ v b n e. view.others v (λ d f. (let same : b ≡ d = cc in λ s. n (ap (λ (x : Builder). x.thread) same ∙ s))) ∙ e;
-    no_more = λ v b n e. by_own v b n e (own_or_not w t v);
-    lower = λ v b m l e. absurd (omega (arith, l));
-  }
+  view_goes next = goes_by w now next next t (omega arith) (λ v k. view.others v (λ b e. absurd (none_some (w v) b k.1 e)) ∙ k.1)
+      (λ v b n e. view.others v (λ d f. (let same : b ≡ d = cc in λ s. n (ap (λ (x : Builder). x.thread) same ∙ s))) ∙ e) (λ v b n e. by_own v b n e (own_or_not w t v))
     where
       by_own : (v : ℕ) (b : Builder) → b.thread ≢ t → now v ≡ Some b → IsOwnIn w t v ⊎ IsNoneOf w t v → w v ≡ Some b
       by_own v b n e (inl k) = absurd (n (view.own v k.0 b k.1 k.2 e))
@@ -281,11 +261,10 @@ module _ (building : Building) (was : Phase) (x : Thread) (k : ThreadIn building
   onward_sees s (Throwing e class fs) o = record { later = o.later; goes = o.goes; world = o.world (words_of c.program); lost = o.lost; fits = (o.keeps.1, o.keeps.0) }
   onward_sees s (Entering m fs) o = record { later = o.later; goes = o.goes; world = o.world (words_of c.program); lost = o.lost; fits = (o.keeps.1, o.keeps.0) }
   onward_sees s (Leaving m a fs) o = record { later = o.later; goes = o.goes; world = o.world (words_of c.program); lost = o.lost; fits = (o.keeps.2, (o.keeps.0, o.keeps.1)) }
-  onward_sees s RootReturned o = by_roots s.roots
-    where
-      by_roots : (roots : List ℕ) → Sees (in_world building k.now) next (counted_by was (root_over roots)) (record s { frames = []; phase = root_over roots })
-      by_roots [] = record { later = o.later; goes = o.goes; world = o.world (words_of c.program); lost = o.lost; fits = (tt, tt) }
-      by_roots (number ∷ roots) = record { later = o.later; goes = o.goes; world = o.world (words_of c.program); lost = o.lost; fits = (tt, tt) }
+  onward_sees s RootReturned o = elim s.roots as (λ (roots : List ℕ). Sees (in_world building k.now) next (counted_by was (root_over roots)) (record s { frames = []; phase = root_over roots })) [
+    | [] ↦ record { later = o.later; goes = o.goes; world = o.world (words_of c.program); lost = o.lost; fits = (tt, tt) }
+    | number ∷ roots ↦ record { later = o.later; goes = o.goes; world = o.world (words_of c.program); lost = o.lost; fits = (tt, tt) }
+  ]
   onward_sees s (Uncaught class) o = record { later = o.later; goes = o.goes; world = o.world (words_of c.program); lost = o.lost; fits = (tt, tt) }
 
   pub onward_moves : (s : Thread) (o : Onward) → IsStructured c was x → IsStructured c (counted_by was (goes_on s o).phase) (goes_on s o) → AreKnown w next t s.held → AttemptFrom x.attempt s.attempt → ((a : Attempt) → x.attempt ≡ Some a → KeepsEntry a x.frames o)

@@ -1,17 +1,17 @@
 -- Exceptions: a frame that throws, the frame below it, and a handler.
-use Rattle.std.proofs.Common.{◌≡◌, ℕ, zero, suc, Bool, true, false, ◌||◌, ◌&&◌, not, List, [], ◌∷◌, length, Some, refl, sym, ap, ◌∙◌, subst, arith, ◌==◌, slice_get, if◌then◌else◌}
+use Rattle.std.proofs.Common.{◌≡◌, ℕ, suc, Bool, true, false, ◌||◌, ◌&&◌, not, List, [], ◌∷◌, length, Some, refl, sym, ap, ◌∙◌, subst, arith, ◌==◌, slice_get, if◌then◌else◌}
 use Rattle.std.{specs.List.{AllByRecursion, list_any}, proofs.lemmas.Bool.{or_parts, Decides.nat_tests}}
-use Rattle.lists.proofs.{ListLaws.same_some, TestLaws.{first_true, second_true}}
 use Rattle.jvm_types.specs.{ClassTree.is_subclass, CodeTable.{can_throw, row}, Types.{is_new, is_uninitialised}}
 use Rattle.jvm_types.specs.{Verifying.{some_operand, misuses, frame_at_handler, caught_class, covers, covering, is_return}, declared.{code.Insn.Insn, op_row.OpRow.OpRow, program.{Row.Row, Target.Target}, typing.VType.VType}}
 use Rattle.laws_programs.proofs.{LocalEdges.second_false, LocalGoing.at_index, NewEdges.none_of}
-use Rattle.checked_program.specs.{Colours.{ColourShape, is_coloured}, LockTags.{TagShape, IsShapeBelow}, OwnedArrays.IsOwnedAt, TaggedCode.{IsAt, caught}, Tagging.{until_all, catchers, tags_at_handler}, declared.tag.Tag.Tag}
+use Rattle.checked_program.specs.{Colours.{ColourShape, is_coloured}, LockTags.{TagShape, IsShapeBelow}, OwnedArrays.IsOwnedAt, TaggedCode.{IsAt, caught}, Tagging.{until_all, catchers, tags_at_handler}}
 use Rattle.checked_program.proofs.CheckedPlaces.{catchers_among}
-use Rattle.machine_types.specs.Construction.{builds, makes_frozen, SlotByType, SlotIs, BuilderTurn, Runs, WaitsFor, Throws, IsFresh, SlotOf, IsNoStored, IsNoStoredLocal, SlotsFrom}
+use Rattle.machine_types.specs.Construction.{builds, makes_frozen, BuilderTurn, Runs, WaitsFor, Throws, IsFresh, SlotOf, IsNoStored, IsNoStoredLocal, SlotsFrom}
 use Rattle.machine_types.specs.{Frames.handler_of, OwnedPlaces.{Stores, IsStoredNowhere}, Standing.{Standing, row_at, tags_of}, Threads.Frame, Worlds.IsFinished}
 use Rattle.laws_threads.proofs.{Callers.handler_in, Landing.{rules_at, tag_rules_at}, TypedMoves.handler_found}
-use Rattle.laws_objects.proofs.{ArraySlots.from_map, Buildings.{Building, FrameIn, BelowIn, FramesIn}, Landing.{inside_at, IsJoined, LandsWell, land}, PutPlaces.handler_plain}
-use Rattle.laws_objects.proofs.Slots.{slots_map, slots_map_if, slot_by, slot_later, ref_slot}
+use Rattle.laws_threads.proofs.Tests.{either_way}
+use Rattle.laws_objects.proofs.{ArraySlots.from_map, Buildings.{Building, FrameIn, BelowIn, FramesIn}, Landing.{inside_at, IsJoined, LandsWell, land}, PutPlaces.{any_got, handler_plain}}
+use Rattle.laws_objects.proofs.Slots.{slots_map, slots_map_if, slot_if, slot_later, ref_slot}
 use Rattle.jvm_types.specs.Verifying as types
 use Rattle.jvm_types.specs.CodeTable as table
 use Rattle.jvm_types.specs.declared.typing.VType.TheVariants as vtypes
@@ -52,19 +52,8 @@ module _ (building : Building) where
 
 found_covers : (pc class : ℕ) (rows : List Row) (r : Row) → handler_of pc class rows ≡ Some r → list_any (covers pc) rows ≡ true
 found_covers pc class [] r e = absurd (cc)
-found_covers pc class (q ∷ rows) r e = by_tests (covers pc q) (q.catch_class == 0 || is_subclass class q.catch_class) e (found_covers pc class rows r)
-  where
-    by_tests : (a b : Bool) → (if a && b then Some q else handler_of pc class rows) ≡ Some r → (handler_of pc class rows ≡ Some r → list_any (covers pc) rows ≡ true) → (a || list_any (covers pc) rows) ≡ true
-    by_tests true b e more = refl
-    by_tests false b e more = more e
-
-module _ (Old : ℕ → Type 0) (Fresh Later : ℕ → ℕ → Type 0) (young : ℕ → Bool) (receiver : ℕ) where
-  type_if : (u : VType) (v : ℕ) → is_new u ≡ false → SlotByType Old Fresh young u v → SlotByType Old Later young u v
-  type_if (vtypes.New q) v n h = absurd (cc)
-  type_if u v n h = h
-
-  pub slot_if : (own : Bool) (u : VType) (g : Tag) (v : ℕ) → is_new u ≡ false → SlotIs Old Fresh own young receiver u g v → SlotIs Old Later own young receiver u g v
-  slot_if own u g v n h = slot_by Old Old Fresh Later young receiver own u u g v (λ m. m) (type_if u v n) h
+found_covers pc class (q ∷ rows) r e =
+    either_way (λ (a : Bool). (if a && (q.catch_class == 0 || is_subclass class q.catch_class) then Some q else handler_of pc class rows) ≡ Some r → (a || list_any (covers pc) rows) ≡ true) (covers pc q) (λ e. refl) (found_covers pc class rows r) e
 
 -- where none has what a `new` made
 locals_back : (stores : Stores) (n : ℕ) (us : List VType) (vs : List ℕ) → AllByRecursion (λ u. is_new u ≡ false) us → SlotsFrom (λ place. IsNoStoredLocal stores Throws) n us vs → SlotsFrom (λ place. IsNoStored stores) n us vs
@@ -76,11 +65,6 @@ locals_back stores n (u ∷ us) (v ∷ vs) all a = (back u all.0 a.0, locals_bac
 locals_back stores n us vs all a = tt
 
 -- ---- a handler
-
-any_got : (test : Row → Bool) (rows : List Row) (i : ℕ) (r : Row) → slice_get rows i ≡ Some r → test r ≡ true → list_any test rows ≡ true
-any_got test [] i r e h = absurd (cc)
-any_got test (q ∷ rows) zero r e h = let same : q ≡ r = same_some e in first_true (test q) (list_any test rows) (subst (λ (x : Row). test x ≡ true) (sym same) h)
-any_got test (q ∷ rows) (suc i) r e h = second_true (test q) (list_any test rows) (any_got test rows i r e h)
 
 module _ (building : Building) (h : ℕ) (null : IsFinished building.w building.next 0) where
   open building use {design, c, marked, frozen, owning, owns, w, next, t}
@@ -112,7 +96,7 @@ module _ (building : Building) (h : ℕ) (null : IsFinished building.w building.
       (joined among.0 among.1) (well among.0 among.1) k.receiver
       (ref_slot (IsFinished w next) null (IsFresh w t h Runs) (builds frozen s.method) (makes_frozen frozen s.method) f.receiver (builds frozen s.method) (caught_class r) x old, tt)
       (slots_map_if (λ u. is_new u ≡ false) (SlotOf frozen w next t h Throws s.method f.receiver) (SlotOf frozen w next t h Runs s.method f.receiver)
-      (slot_if (IsFinished w next) (IsFresh w t h Throws) (IsFresh w t h Runs) (makes_frozen frozen s.method) f.receiver (builds frozen s.method)) s.types.locals s.tags.locals f.locals (no_new f s class r here) k.locals)
+      (slot_if (IsFinished w next) (IsFinished w next) (IsFresh w t h Throws) (IsFresh w t h Runs) (λ u. is_new u ≡ false) (λ v o. o) (makes_frozen frozen s.method) (λ q v n. absurd (cc)) f.receiver (builds frozen s.method)) s.types.locals s.tags.locals f.locals (no_new f s class r here) k.locals)
     where
       caught_there : (i : ℕ) → slice_get (until_all (covering k.stands.method k.stands.insn.pc)) i ≡ Some r → (other : Insn) → other.pc ≡ r.handler → list_any (λ handler. handler.handler == other.pc) (catchers k.stands.method k.stands.insn) ≡ true
       caught_there i got other starts =

@@ -23,11 +23,7 @@ moved_is c s t x y here behind =
 
 -- one that returns throws nothing
 back_throws_not : (s : Thread) (fs : List Frame) (x : ℕ) (class : Thrown) → (goes_on s (back fs)).phase ≡ phases.Throw x class → ⊥
-back_throws_not s [] x class = by_roots s.roots
-  where
-    by_roots : (roots : List ℕ) → root_over roots ≡ phases.Throw x class → ⊥
-    by_roots [] e = cc
-    by_roots (number ∷ roots) e = cc
+back_throws_not s [] x class = elim s.roots as (λ (roots : List ℕ). root_over roots ≡ phases.Throw x class → ⊥) [ [] ↦ λ e. cc | number ∷ roots ↦ λ e. cc ]
 back_throws_not s (f ∷ fs) x class = elim (nat_lt s.counts.instructions s.cfg.steps) as (λ (b : Bool). (if b then phases.Run else phases.Ending ends.Steps) ≡ phases.Throw x class → ⊥) [ true ↦ λ e. cc | false ↦ λ e. cc ]
 
 -- frames are more than those below their top

@@ -1,11 +1,11 @@
 -- What is lost, or built by another thread, is in no slot of a thread that an instruction may use, and in no place.
 use Rattle.std.{proofs.Common.{◌≡◌, ◌≢◌, inl, inr, ℕ, Bool, true, false, List, [], ◌∷◌, length, Some, None, refl, sym, ap, ◌∙◌, subst, arith}, specs.List.AllZip}
 use Rattle.jvm_types.specs.{ProgramInvariant.words_of, Types.TypeFrame, declared.{program.Kind.Kind, typing.VType.VType}}
-use Rattle.checked_program.specs.{MarkedProgram.{MarkedProgram, IsMarked}, declared.tag.Tag.{Tag, TheVariants.This}}
+use Rattle.checked_program.specs.{MarkedProgram.{MarkedProgram, IsMarked}, declared.tag.Tag.{Tag}}
 use Rattle.machine_types.specs.Construction.{Owning, puts_owned, if_so, builds, makes_frozen, StackWith, SlotByType, OwnSlot, SlotIs, SlotsAre, Runs, IsFresh, ReceiverIs, FrameKeeps, KindKeeps, PlacesKeep}
 use Rattle.machine_types.specs.{PlainMemory.Object, Standing.Standing, Structure.IsAs, Threads.{Frame, Thread}, Worlds.{Item, Lost, Made, Begun, Unstored, Builder, builder, World, IsFinished, IsWorld}}
 use Rattle.machine_types.specs.declared.phase.Phase.{Phase}
-use Rattle.laws_threads.proofs.FramePlaces.{one_standing_law}
+use Rattle.laws_threads.proofs.{FramePlaces.one_standing_law, Tests.either_way}
 use Rattle.laws_objects.{specs.UnfinishedObjects.{IsOther, UsesNot, KindHasNot, PlacesHaveNot}, proofs.Buildings.{Building, in_world, FramesIn, PhaseIn, ThreadIn, first_finished}}
 use Rattle.laws_objects.proofs.{Slots.{not_this, plainly}, WorldChanges.none_some}
 use Rattle.jvm_types.specs.declared.program.Kind.TheVariants as kinds
@@ -45,13 +45,10 @@ module _ (now : World) (next t v : ℕ) (strange : IsStrange now t v) (null : Is
     abbrev Is : VType → Tag → (word : ℕ) → Type 0
     Is = SlotIs (IsFinished now next) (IsFresh now t h Runs) own young receiver
 
-    new_other : (pc word : ℕ) (y : Bool) → if_so y (now word ≡ Some (builder t h (Made pc))) (IsFinished now next word) → word ≢ v
-    new_other pc word true e = not_built h word (Made pc) (λ s. cc) e
-    new_other pc word false o = not_finished word o
-
     type_other : (u : VType) (word : ℕ) → SlotByType (IsFinished now next) (IsFresh now t h Runs) young u word → IsOther v u word
     type_other types.Null word s = λ e. not_finished 0 null (sym s ∙ e)
-    type_other (types.New pc) word s = new_other pc word (young pc) s
+    type_other (types.New pc) word s =
+        either_way (λ (y : Bool). if_so y (now word ≡ Some (builder t h (Made pc))) (IsFinished now next word) → word ≢ v) (young pc) (not_built h word (Made pc) (λ s. cc)) (not_finished word) s
     type_other u word s = first_of (assumption, search not_finished)
 
     own_other : (ours : own ≡ true) (u : VType) (g : Tag) (word : ℕ) → OwnSlot (IsFinished now next) (IsFresh now t h Runs) young receiver u g word → IsOther v u word

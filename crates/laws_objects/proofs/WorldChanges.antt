@@ -44,6 +44,27 @@ finished_known w next t v o = (o.0, λ b e. absurd (none_some (w v) b o.1 e))
 abbrev pub lost : Builder → Builder
 lost b = record b { item = Lost }
 
+-- ---- one world behind another
+
+-- each builder stood in the one before
+pub world_less : (w z : World) (first next more : ℕ) → IsWorld w first next → next ≤ more → ((v : ℕ) (j : Builder) → z v ≡ Some j → w v ≡ Some j) → IsWorld z first more
+world_less w z first next more is grows back = record {
+  one = λ v u j n e f. is.one v u j n (back v j e) (back u j f);
+  inside = λ v j e. let i = is.inside v j (back v j e) in (i.0, (let u = i.1 in omega (arith, u, grows)));
+  room = (let r = is.room in omega (arith, r, grows));
+}
+
+pub world_same : (w : World) (first next more : ℕ) → IsWorld w first next → next ≤ more → IsWorld w first more
+world_same w first next more is grows = world_less w w first next more is grows (λ v j e. e)
+
+-- with nothing said of lower frames
+pub goes_by : (w z : World) (next more t : ℕ) → next ≤ more → ((v : ℕ) → IsFinished w next v → z v ≡ None) → ((v : ℕ) (j : Builder) → j.thread ≢ t → w v ≡ Some j → z v ≡ Some j)
+    → ((v : ℕ) (j : Builder) → j.thread ≢ t → z v ≡ Some j → w v ≡ Some j) → GoesOn w z next more t 0
+goes_by w z next more t grows finished others no_more = record { grows = grows; finished = finished; others = others; no_more = no_more; lower = λ v j m l e. absurd (omega (arith, l)) }
+
+pub goes_same : (w : World) (next more t : ℕ) → next ≤ more → GoesOn w w next more t 0
+goes_same w next more t grows = goes_by w w next more t grows (λ v o. o.1) (λ v j n e. e) (λ v j n e. e)
+
 -- ---- an object gets a builder
 
 pub given_here : (w : World) (a : ℕ) (k : Builder) → with_builder w a k a ≡ Some k
@@ -85,11 +106,7 @@ lost_none k None e = refl
 lost_none k (Some i) e = (elim (same_builder k i) as (λ (b : Bool). (if b then Some (lost i) else Some i) ≡ None → Some i ≡ None) [ true ↦ λ e. absurd (cc) | false ↦ λ e. absurd (cc) ]) e
 
 pub given_none_back : (w : World) (a : ℕ) (k : Builder) (v : ℕ) → with_builder w a k v ≡ None → (v ≢ a) × (w v ≡ None)
-given_none_back w a k v = by_test (v == a) refl
-  where
-    by_test : (b : Bool) → (v == a) ≡ b → (if b then Some k else lost_if k (w v)) ≡ None → (v ≢ a) × (w v ≡ None)
-    by_test true t e = absurd (cc)
-    by_test false t e = (eqb-false v a t, lost_none k (w v) e)
+given_none_back w a k v e = elim (cases_Bool (v == a)) [ inl t ↦ absurd (let bad : Some k ≡ None = rw t at e in cc) | inr t ↦ (eqb-false v a t, lost_none k (w v) (rw t at e)) ]
 
 -- each builder stands once, whatever stood before
 one_given : (w : World) (a : ℕ) (k : Builder) → ((v u : ℕ) (b : Builder) → b.item ≢ Lost → w v ≡ Some b → w u ≡ Some b → v ≡ u)
@@ -108,34 +125,20 @@ one_given w a k one v u j n e f = both (given_back w a k v j e) (given_back w a 
     both x (inr (inr y)) = absurd (not_lost y.2)
 
 pub world_given : (w : World) (first next more a : ℕ) (k : Builder) → IsWorld w first next → next ≤ more → first ≤ a → a < more → IsWorld (with_builder w a k) first more
-world_given w first next more a k is grows above below = record {
-  one = one_given w a k is.one;
-  inside = λ v b e. inside v b (given_back w a k v b e);
-  room = (let r = is.room in omega (arith, r, grows));
-}
-  where
-    was : (v : ℕ) (b : Builder) → w v ≡ Some b → (first ≤ v) × (v < more)
-    was v b e = let i = is.inside v b e in (i.0, (let u = i.1 in omega (arith, u, grows)))
-
-    inside : (v : ℕ) (b : Builder) → GivenBack w a k v b → (first ≤ v) × (v < more)
-    inside v b (inl x) = let s = x.0 in (omega (arith, s, above), omega (arith, s, below))
-    inside v b (inr (inl x)) = was v b x.1
-    inside v b (inr (inr x)) = was v k x.1
+world_given w first next more a k is grows above below =
+    let later = world_same w first next more is grows in
+    record {
+      one = one_given w a k is.one;
+      inside = λ v b e. elim (given_back w a k v b e) [ inl x ↦ let s = x.0 in (omega (arith, s, above), omega (arith, s, below)) | inr (inl x) ↦ later.inside v b x.1 | inr (inr x) ↦ later.inside v k x.1 ];
+      room = later.room;
+    }
 
 -- t gives a builder of its own to an object that it builds, or that is new
 pub goes_given : (w : World) (next more t a : ℕ) (k : Builder) → next ≤ more → k.thread ≡ t → (IsFinished w next a → ⊥) → ((j : Builder) → w a ≡ Some j → j.thread ≡ t) → GoesOn w (with_builder w a k) next more t 0
-goes_given w next more t a k grows mine new was = record {
-  grows = grows;
-  finished = λ v o. given_none w a k v o.1 (λ e. new (subst (IsFinished w next) e o));
-  others = λ v j n e. given_keeps w a k v j e (λ s. n (was j (subst (λ (x : ℕ). w x ≡ Some j) s e))) (λ s. n (ap (λ (i : Builder). i.thread) s ∙ mine));
-  no_more = λ v j n e. mine_only v j n (given_back w a k v j e);
-  lower = λ v j m l e. absurd (omega (arith, l));
-}
-  where
-    mine_only : (v : ℕ) (j : Builder) → j.thread ≢ t → GivenBack w a k v j → w v ≡ Some j
-    mine_only v j n (inl x) = absurd (n (ap (λ (i : Builder). i.thread) x.1 ∙ mine))
-    mine_only v j n (inr (inl x)) = x.1
-    mine_only v j n (inr (inr x)) = absurd (n (ap (λ (i : Builder). i.thread) x.2 ∙ mine))
+goes_given w next more t a k grows mine new was = goes_by w (with_builder w a k) next more t grows
+    (λ v o. given_none w a k v o.1 (λ e. new (subst (IsFinished w next) e o)))
+    (λ v j n e. given_keeps w a k v j e (λ s. n (was j (subst (λ (x : ℕ). w x ≡ Some j) s e))) (λ s. n (ap (λ (i : Builder). i.thread) s ∙ mine)))
+    (λ v j n e. elim (given_back w a k v j e) [ inl x ↦ absurd (n (ap (λ (i : Builder). i.thread) x.1 ∙ mine)) | inr (inl x) ↦ x.1 | inr (inr x) ↦ absurd (n (ap (λ (i : Builder). i.thread) x.2 ∙ mine)) ])
 
 -- ---- an object is finished
 
@@ -149,44 +152,19 @@ pub finished_back : (w : World) (a v : ℕ) (j : Builder) → finished w a v ≡
 finished_back w a v j = elim (v == a) as (λ (b : Bool). (if b then None else w v) ≡ Some j → w v ≡ Some j) [ true ↦ λ e. absurd (cc) | false ↦ λ e. e ]
 
 pub world_finished : (w : World) (first next more a : ℕ) → IsWorld w first next → next ≤ more → IsWorld (finished w a) first more
-world_finished w first next more a is grows = record {
-  one = λ v u j n e f. is.one v u j n (finished_back w a v j e) (finished_back w a u j f);
-  inside = λ v j e. let i = is.inside v j (finished_back w a v j e) in (i.0, (let u = i.1 in omega (arith, u, grows)));
-  room = (let r = is.room in omega (arith, r, grows));
-}
+world_finished w first next more a is grows = world_less w (finished w a) first next more is grows (finished_back w a)
 
 -- t finishes an object that it builds
 pub goes_finished : (w : World) (next more t a : ℕ) → next ≤ more → ((j : Builder) → w a ≡ Some j → j.thread ≡ t) → GoesOn w (finished w a) next more t 0
-goes_finished w next more t a grows was = record {
-  grows = grows;
-  finished = λ v o. elim (v == a) as (λ (b : Bool). (if b then None else w v) ≡ None) [ true ↦ refl | false ↦ o.1 ];
-  others = λ v j n e. finished_there w a v (λ s. n (was j (subst (λ (x : ℕ). w x ≡ Some j) s e))) ∙ e;
-  no_more = λ v j n e. finished_back w a v j e;
-  lower = λ v j m l e. absurd (omega (arith, l));
-}
-
--- ---- nothing changes
-
-pub goes_same : (w : World) (next more t : ℕ) → next ≤ more → GoesOn w w next more t 0
-goes_same w next more t grows = record { grows = grows; finished = λ v o. o.1; others = λ v j n e. e; no_more = λ v j n e. e; lower = λ v j m l e. e }
-
-pub world_same : (w : World) (first next more : ℕ) → IsWorld w first next → next ≤ more → IsWorld w first more
-world_same w first next more is grows = record {
-  one = is.one;
-  inside = λ v j e. let i = is.inside v j e in (i.0, (let u = i.1 in omega (arith, u, grows)));
-  room = (let r = is.room in omega (arith, r, grows));
-}
+goes_finished w next more t a grows was = goes_by w (finished w a) next more t grows
+    (λ v o. elim (v == a) as (λ (b : Bool). (if b then None else w v) ≡ None) [ true ↦ refl | false ↦ o.1 ])
+    (λ v j n e. finished_there w a v (λ s. n (was j (subst (λ (x : ℕ). w x ≡ Some j) s e))) ∙ e) (λ v j n e. finished_back w a v j e)
 
 -- ---- one change behind another
 
 pub goes_both : (w v u : World) (next more most t : ℕ) → GoesOn w v next more t 0 → GoesOn v u more most t 0 → GoesOn w u next most t 0
-goes_both w v u next more most t a b = record {
-  grows = (let x = a.grows in let y = b.grows in omega (arith, x, y));
-  finished = λ o f. b.finished o ((let l = f.0 in let x = a.grows in omega (arith, l, x)), a.finished o f);
-  others = λ o j n e. b.others o j n (a.others o j n e);
-  no_more = λ o j n e. a.no_more o j n (b.no_more o j n e);
-  lower = λ o j m l e. absurd (omega (arith, l));
-}
+goes_both w v u next more most t a b = goes_by w u next most t (let x = a.grows in let y = b.grows in omega (arith, x, y))
+    (λ o f. b.finished o ((let l = f.0 in let x = a.grows in omega (arith, l, x)), a.finished o f)) (λ o j n e. b.others o j n (a.others o j n e)) (λ o j n e. a.no_more o j n (b.no_more o j n e))
 
 -- ---- what has a builder is finished
 
@@ -217,20 +195,11 @@ without_back w b v j = by_was (w v)
     by_was (Some d) e = (elim (same_builder b d) as (λ (x : Bool). (if x then None else Some d) ≡ Some j → Some d ≡ Some j) [ true ↦ λ e. absurd (cc) | false ↦ λ e. e ]) e
 
 pub world_without : (w : World) (first next : ℕ) (b : Builder) → IsWorld w first next → IsWorld (without w b) first next
-world_without w first next b is = record {
-  one = λ v u j n e f. is.one v u j n (without_back w b v j e) (without_back w b u j f);
-  inside = λ v j e. is.inside v j (without_back w b v j e);
-  room = is.room;
-}
+world_without w first next b is = world_less w (without w b) first next next is (omega arith) (without_back w b)
 
 pub goes_without : (w : World) (next t : ℕ) (b : Builder) → b.thread ≡ t → GoesOn w (without w b) next next t 0
-goes_without w next t b mine = record {
-  grows = omega arith;
-  finished = λ v o. without_none w b v o.1;
-  others = λ v j n e. without_keeps w b v j e (λ s. n (ap (λ (i : Builder). i.thread) s ∙ mine));
-  no_more = λ v j n e. without_back w b v j e;
-  lower = λ v j m l e. absurd (omega (arith, l));
-}
+goes_without w next t b mine = goes_by w (without w b) next next t (omega arith) (λ v o. without_none w b v o.1)
+    (λ v j n e. without_keeps w b v j e (λ s. n (ap (λ (i : Builder). i.thread) s ∙ mine))) (λ v j n e. without_back w b v j e)
 
 -- ---- an object that is lost stays lost
 
