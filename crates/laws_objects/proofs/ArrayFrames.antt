@@ -3,7 +3,7 @@ use Rattle.std.proofs.Common.{◌≡◌, ℕ, suc, ◌+◌, ◌<◌, inl, Bool, 
 use Rattle.std.proofs.lemmas.Bool.{or_parts}
 use Rattle.lists.proofs.TestLaws.{is_true}
 use Rattle.jvm_types.specs.{CodeTable.{stack_after, locals_after}, Numbers.has_number, Types.TypeFrame, Verifying.{suits, some_taken, started, frame_after, edges}}
-use Rattle.jvm_types.specs.declared.{code.Insn.Insn, op_row.{Given.{Given, TheVariants.{Fresh, Taken, Local}}, OpRow.OpRow, Want.{Want, TheVariants.AnObject}}, program.{MethodInfo.MethodInfo, Target.Target}, typing.VType.VType}
+use Rattle.jvm_types.specs.declared.{code.Insn.Insn, op_row.{Given.{Given, TheVariants.{Fresh, Taken, Local}}, Want.{Want, TheVariants.AnObject}}, program.{MethodInfo.MethodInfo, Target.Target}, typing.VType.VType}
 use Rattle.checked_program.specs.{LockTags.TagShape, MarkedProgram.MarkedProgram, OwnedArrays.IsOwnedAt, TaggedCode.IsAt}
 use Rattle.machine_types.specs.Construction.{puts_owned, makes_frozen, Runs, SlotOf, IsNoStored, IsArraySlot, SlotsFrom}
 use Rattle.machine_types.specs.{Frames.frame_on, OwnedPlaces.{Stores, IsStoredNowhere}, Standing.{row_at, tags_of}, Threads.Frame, Worlds.{Unstored, builder}}
@@ -55,9 +55,6 @@ module _ (building : Building) (h : ℕ) (f : Frame) (k : FrameIn building h Run
       (is_made : IsMadeWell c marked owning.stores f k.stands made) where
     abbrev m : MethodInfo
     m = k.stands.method
-
-    abbrev r : OpRow
-    r = row_at c f k.stands
 
     sources : (x : Given) → SourceFine c marked owning.stores f k.stands k.stands.types.stack k.stands.types.locals f.stack f.locals made x
     sources (Fresh type) = tt

@@ -83,9 +83,6 @@ module _ (c : MarkedProgram) (marked : IsMarked c) (stores : Stores) (f : Frame)
   abbrev pub r : OpRow
   r = row_of c.program m insn target
 
-  abbrev pub Clean : ℕ → Type 0
-  Clean v = IsStoredNowhere stores v
-
   -- the instruction reads such a field
   abbrev pub ReadsField : ℕ → Type 0
   ReadsField fi = IsOwnedArrayField c.program (tags_of c) fi × (is_read_of fi insn.op target ≡ true)

@@ -17,9 +17,6 @@ use Rattle.laws_objects.proofs.{PartBegins.next_builds, Unused.{lost_strange, us
 
 -- ---- a test that tells a frozen class
 
-abbrev with_class : (frozen : ℕ → Bool) (class : ℕ) → ℕ → Bool
-with_class frozen class d = if d == class then true else frozen d
-
 pub record TellsClass (c : MarkedProgram) (class : ℕ) : Type 0 where
   pub frozen : ℕ → Bool
   pub are : AreFrozen c frozen
@@ -27,7 +24,7 @@ pub record TellsClass (c : MarkedProgram) (class : ℕ) : Type 0 where
 
 told : (c : MarkedProgram) (frozen : ℕ → Bool) → AreFrozen c frozen → (class : ℕ) → IsFrozenClass c.program (tags_of c) class → TellsClass c class
 told c frozen are class is = record {
-  frozen = with_class frozen class;
+  frozen = λ d. if d == class then true else frozen d;
   are = record {
     those = λ d e. elim (cases_Bool (d == class)) [ inl s ↦ subst (IsFrozenClass c.program (tags_of c)) (sym (eqb-true d class s)) is | inr s ↦ are.those d (rw s at e) ];
     with_frozen = λ fi k. either_way (λ (b : Bool). (if b then true else frozen k.field.class) ≡ true) (k.field.class == class) refl (are.with_frozen fi k);

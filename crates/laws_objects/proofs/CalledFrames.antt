@@ -61,9 +61,6 @@ module _ (building : Building) (h : ℕ) (f : Frame) (k : FrameIn building h Run
       elim (cases_Bool (q == r)) [ inl z ↦ absurd (let bad : true ≡ false = sym y ∙ ap young ((Decides-eqb q r).0 z) ∙ s in cc) | inr z ↦ rw z e ]
   wait_fresh young receiver o s q v y e = e
 
-  plain : puts_owned owning.owned k.stands.insn.op k.stands.target ≡ false
-  plain = call_stores owning.owned k.stands.insn.op k.stands.target callee calls
-
   -- in a world that keeps what it has, where its slots are as it waits
   pub waits_in : (z : World) (receiver : ℕ) (o : Option (VType × ℕ)) → o ≡ started k.stands.method.class (row_at c f k.stands).takes k.stands.types.stack → ((v : ℕ) → IsFinished w next v → IsFinished z next v)
       → ((q v : ℕ) → makes_frozen frozen k.stands.method q ≡ true → w v ≡ Some (builder t h (Made q)) → FreshAtCall z t h receiver o q v) → ReceiverIs z next t h (builds frozen k.stands.method) f.receiver → WaitIn (in_world building z) h callee receiver (waits_on c f k.stands)
@@ -72,7 +69,7 @@ module _ (building : Building) (h : ℕ) (f : Frame) (k : FrameIn building h Run
     keeps = record {
       stands = stands_waiting c f k.stands;
       receiver = own;
-      stack = moved (drop n k.stands.types.stack) (drop n k.stands.tags.stack) (drop n f.stack) (slots_drop (SlotOf frozen w next t h Runs k.stands.method f.receiver) n k.stands.types.stack k.stands.tags.stack f.stack (plain_stack building h f k plain));
+      stack = moved (drop n k.stands.types.stack) (drop n k.stands.tags.stack) (drop n f.stack) (slots_drop (SlotOf frozen w next t h Runs k.stands.method f.receiver) n k.stands.types.stack k.stands.tags.stack f.stack (plain_stack building h f k (call_stores owning.owned k.stands.insn.op k.stands.target callee calls)));
       locals = moved k.stands.types.locals k.stands.tags.locals f.locals k.locals;
       arrays = arrays_wait building h f k;
       no_arrays = k.no_arrays;

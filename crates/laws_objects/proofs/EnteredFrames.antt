@@ -50,14 +50,11 @@ module _ (Old : ℕ → Type 0) where
   -- the receiver stands first
   pub instance_args : (called : MethodInfo) (want : Want) (s args : List ℕ) (a : ℕ) → length (arguments called ++ want ∷ []) ≤ length s → TakenOld Old (arguments called ++ want ∷ []) s
       → reverse (take (length (arguments called ++ want ∷ [])) s) ≡ a ∷ args → ArgsOld Old called.args args
-  instance_args called want s args a l h is = args_zip called.args args (rest (subst (λ (vs : List ℕ). AllZip (WantOld Old) (want ∷ map want_of called.args) vs) is
-      (subst (λ (ws : List Want). AllZip (WantOld Old) ws (reverse (take (length (arguments called ++ want ∷ [])) s))) wants_in_order (in_order (arguments called ++ want ∷ []) s l h))))
-    where
-      wants_in_order : reverse (arguments called ++ want ∷ []) ≡ want ∷ map want_of called.args
-      wants_in_order = reverse-append (arguments called) (want ∷ []) ∙ ap (λ (ws : List Want). want ∷ ws) (reverse_map want_of called.args)
-
-      rest : AllZip (WantOld Old) (want ∷ map want_of called.args) (a ∷ args) → AllZip (WantOld Old) (map want_of called.args) args
-      rest f = f.1
+  instance_args called want s args a l h is =
+      let wants_in_order : reverse (arguments called ++ want ∷ []) ≡ want ∷ map want_of called.args = reverse-append (arguments called) (want ∷ []) ∙ ap (λ (ws : List Want). want ∷ ws) (reverse_map want_of called.args) in
+      let all : AllZip (WantOld Old) (want ∷ map want_of called.args) (a ∷ args) = subst (λ (vs : List ℕ). AllZip (WantOld Old) (want ∷ map want_of called.args) vs) is
+      (subst (λ (ws : List Want). AllZip (WantOld Old) ws (reverse (take (length (arguments called ++ want ∷ [])) s))) wants_in_order (in_order (arguments called ++ want ∷ []) s l h)) in
+      args_zip called.args args all.1
 
 module _ (Old : ℕ → Type 0) (null : Old 0) (Fresh : ℕ → ℕ → Type 0) (own : Bool) (young : ℕ → Bool) (receiver : ℕ) where
   abbrev R : VType → Tag → ℕ → Type 0

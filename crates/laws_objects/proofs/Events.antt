@@ -1,5 +1,5 @@
 -- An event leaves a world in that construction stands again.
-use Rattle.std.proofs.Common.{◌≡◌, ◌≢◌, ℕ, ◌+◌, ◌<◌, ◌≤◌, ◌⊎◌, inl, inr, Bool, true, false, List, [], ◌∷◌, length, Option, Some, None, refl, sym, ap, ◌∙◌, subst, arith, ◌==◌, Contains, slice_get, slice_set, slice_index, if◌then◌else◌}
+use Rattle.std.proofs.Common.{◌≡◌, ◌≢◌, ℕ, ◌+◌, ◌≤◌, ◌⊎◌, inl, inr, Bool, true, false, List, [], ◌∷◌, length, Option, Some, None, refl, sym, ap, ◌∙◌, subst, arith, ◌==◌, Contains, slice_get, slice_set, slice_index, if◌then◌else◌}
 use Rattle.std.proofs.lemmas.Bool.{eqb-true, eqb-false, eq-eqb}
 use Rattle.lists.proofs.ListLaws.{same_some}
 use Rattle.jvm_types.specs.{Members.is_static, ProgramInvariant.{words_of, site_in}, declared.{class_numbers.TheConstants.{INT_ARRAY_CLASS, PRINT_STREAM_CLASS}, code.Op.Op, fixed_words.TheConstants.NEXT_FREE_WORD, outcome.Thrown.Thrown, program.{FieldInfo.FieldInfo, Kind.Kind, Target.Target}}}
@@ -9,7 +9,7 @@ use Rattle.machine_types.specs.{Accesses.{found_by, words_after}, Construction.{
 use Rattle.machine_types.specs.{FoundWords.content_at, Frames.{Top, top_of, effect_at, went_on}, Going.goes_on, Instructions.{run_wants, begun, instructed, ran}, Lawful.IsLawful, Monitors.claim, Onward.Running, OwnedPlaces.{Stores, with_stored, IsStoredNowhere}}
 use Rattle.machine_types.specs.{PlainMemory.Object, ReadyObjects.{class_of, out_object}, Standing.{Standing, row_at, tags_of}, StartLaws.StartLiesApart, Structure.{IsStructured, IsAs, Stands, AttemptStandsIn}, Threads.{Frame, Thread}}
 use Rattle.machine_types.specs.{Typed.{IsNullOr, KindHolds, FrameHolds, FramesHold, PhaseHolds, HasClass}, Words.{value_word, variable_word}, Worlds.{Lost, Unstored, Builder, builder, World, IsFinished, IsWorld, GoesOn}, declared.{effect.Effect.Effect, phase.Phase.Phase}}
-use Rattle.machine_types.specs.declared.effect.{Effect.TheVariants.Writes, Variable.{Variable, TheVariants.{Instance, Static}}}
+use Rattle.machine_types.specs.declared.effect.{Effect.TheVariants.Writes, Variable.{Variable}}
 use Rattle.laws_threads.{specs.{Allowed.{Allowed, IsNamedField}, StateLaws.{counted_of, counted_phase_at}, StructureLaws.{StructureIsKept, counted_by}}, proofs.{Landing.{stand_top, rules_at}, Standings.top_here, ThreadMove.counting}}
 use Rattle.laws_states.{specs.{HeapFacts.{objects_by, objects_of}, Sites.ReachesIf}, proofs.{Accesses.{element_site, out_there}, Assembled.got_set, Lists.contained_got, NewHeader.behind_new, Places.same_object}}
 use Rattle.laws_states.proofs.{Movers.{HeapMover, heap_mover, heap_state}, Phases.{IsOldPhase, old_fits, events_reach}, WordSteps.words_go_on}
@@ -19,6 +19,7 @@ use Rattle.laws_objects.proofs.{EffectOps.FitsOp, FrameChanges.IsUnwound, Instru
 use Rattle.laws_objects.proofs.{MonitorMoves.fits, Onwards.{built_here, built_clean, fits_op}, Operands.is_getfield, PhaseMoves.{moves_keep, allowed, run_known}}
 use Rattle.laws_objects.proofs.Places.{PlaceChange, leave_plain, same_words, plain, element, old_kind, IsLeft, WritesFine, effect_places, made_places}
 use Rattle.laws_objects.proofs.{RestoredFrames.{NewArray, kept_there, stored_on, at_on, nowhere_on, thread_on, thread_sees}, ThreadMoves.Moved, UnreturnedInits.away_frames}
+use Rattle.laws_objects.proofs.PlaceWriters.{instance_word}
 use Rattle.laws_objects.proofs.{Views.{other_keeps, other_lost}, WorldChanges.{none_from, none_some, goes_same}}
 use Rattle.jvm_types.specs.declared.code.Op.TheVariants as ops
 use Rattle.jvm_types.specs.declared.outcome.Thrown.TheVariants as outcomes
@@ -420,20 +421,11 @@ module _ (lies : StartLiesApart) (structure : StructureIsKept) (state : BuiltSta
 
       left : IsLeft (change behind it.moves.later it.moves.goes on arrays_are) a.keeps.stands.target v put
       left field named = (
-        subst (λ (kind : Kind). KindKeeps it.moves.later more kind put) (sym (kind_is field named)) (below, ap it.moves.later it.value ∙ it.finished),
+        subst (λ (kind : Kind). KindKeeps it.moves.later more kind put) (sym (kind_is field named)) ((let i = con.world.inside it.array (builder t (length a.below) Unstored) is_new in let l = i.1 in omega (arith, l, grows, it.value)), ap it.moves.later it.value ∙ it.finished),
         λ static.
-            subst (λ (d : Bool). PlaceStores behind (value_word named.reference field.index) d field.kind put) (sym (ap owning.owned (number_is field named) ∙ it.owned)) (inr (stored_here ∙ ap (λ (n : ℕ). Some n) (at_word static))),
+            subst (λ (d : Bool). PlaceStores behind (value_word named.reference field.index) d field.kind put) (sym (ap owning.owned (number_is field named) ∙ it.owned)) (inr (ap behind it.value ∙ rw (eq-eqb it.array it.array refl) refl ∙ ap (λ (n : ℕ). Some n) (instance_word c objects a.keeps.stands.target v field named static))),
         λ static. absurd (let bad : true ≡ false = sym static ∙ (ap (λ (y : FieldInfo). is_static y.flags) (field_is field named) ∙ array_field.instance) in cc),
       )
-        where
-          below : put < more
-          below = (let i = con.world.inside it.array (builder t (length a.below) Unstored) is_new in let l = i.1 in omega (arith, l, grows, it.value))
-
-          stored_here : behind put ≡ Some (variable_word v)
-          stored_here = ap behind it.value ∙ rw (eq-eqb it.array it.array refl) refl
-
-          at_word : is_static field.flags ≡ false → variable_word v ≡ value_word named.reference field.index
-          at_word static = ap variable_word named.variable ∙ ap (λ (z : Bool). variable_word (if z then Static field.index else Instance named.reference field.index)) static
 
       writes : (f : Frame) (fs : List Frame) → WritesAt behind it.moves.later it.moves.goes (it.moves.world con.world) null_behind on arrays_are f fs
       writes f fs kept b h q here_too e_too =

@@ -1,5 +1,6 @@
 -- An event that changes a field of an object is a `putfield` of that field on that object.
 use Rattle.std.proofs.Common.{◌≡◌, ◌⊎◌, inl, inr, ℕ, Bool, true, false, List, [], ◌∷◌, Some, refl, sym, ap, ◌∙◌, arith, Contains, slice_get, slice_index, if◌then◌else◌}
+use Rattle.std.proofs.lemmas.Bool.{cases_Bool}
 use Rattle.jvm_types.specs.{CodeTable.row, Members.is_static, ProgramInvariant.{IsProgram, site_in}, declared.{class_numbers.TheConstants.INT_ARRAY_CLASS, code.Op.Op, program.FieldInfo.FieldInfo}}
 use Rattle.jvm_types.specs.declared.program.{MethodInfo.MethodInfo, Target.Target}
 use Rattle.laws_programs.proofs.{ClassTreeLaws.leaves_alone, FieldOrder.one_instance_field}
@@ -11,7 +12,7 @@ use Rattle.machine_types.specs.declared.{effect.{Effect.TheVariants.Writes, Vari
 use Rattle.laws_threads.{specs.Allowed.{IsNamedField, TakenHold}, proofs.{Onwards.same_op, TopEffects.taken_here}}
 use Rattle.laws_states.{specs.Sites.{Site, ValueOf, StaticAt, IsThere}, proofs.Accesses.out_there}
 use Rattle.laws_states.proofs.{Lists.contained_got, Places.same_object}
-use Rattle.laws_objects.proofs.{PlaceWriters.{PlaceEvent, IsWriter, holder_of, has_field, names_field, place_writer}, WrittenFields.field_put}
+use Rattle.laws_objects.proofs.{PlaceWriters.{PlaceEvent, IsWriter, holder_of, has_field, names_field, place_writer, instance_word, static_word}, WrittenFields.field_put}
 use Rattle.jvm_types.specs.declared.code.Op.TheVariants as ops
 use Rattle.jvm_types.specs.declared.program.Target.TheVariants as targets
 
@@ -27,13 +28,10 @@ pub record Writer (c : MarkedProgram) (fi reference : ℕ) (f : Frame) : Type 0 
 -- ---- one variable of a reference
 
 one_reference : (f : FieldInfo) (v : Variable) (a b : ℕ) → is_static f.flags ≡ false → v ≡ variable_of f a → v ≡ variable_of f b → a ≡ b
-one_reference f v a b flag e h = same_instance (sym (of_flag a) ∙ (sym e ∙ h) ∙ of_flag b)
+one_reference f v a b flag e h = let same : Instance a f.index ≡ Instance b f.index = sym (of_flag a) ∙ (sym e ∙ h) ∙ of_flag b in cc
   where
     of_flag : (r : ℕ) → variable_of f r ≡ Instance r f.index
     of_flag r = ap (λ (t : Bool). if t then Static f.index else Instance r f.index) flag
-
-    same_instance : Instance a f.index ≡ Instance b f.index → a ≡ b
-    same_instance e = cc
 
 module _ (event : PlaceEvent) (fi : ℕ) (field : FieldInfo) (is : slice_get event.mover.state.c.program.fields fi ≡ Some field) (instance : is_static field.flags ≡ false) (o : Object) (here : Contains event.mover.state.objects o) (of_class : o.class ≡ field.class) where
   open event.mover use {t, x, state}
@@ -58,21 +56,20 @@ module _ (event : PlaceEvent) (fi : ℕ) (field : FieldInfo) (is : slice_get eve
 
   module _ (target : Target) (v : Variable) (f : FieldInfo) (at : IsNamedField c.program (HasClass objects) target v f) where
     same_place : variable_word v ≡ value_word o.reference field.index → IsThisField at.number f at.reference
-    same_place word = by_flag (is_static f.flags) refl (ap variable_word (sym at.variable) ∙ word)
-      where
-        by_flag : (b : Bool) → is_static f.flags ≡ b → variable_word (if b then Static f.index else Instance at.reference f.index) ≡ value_word o.reference field.index → IsThisField at.number f at.reference
-        by_flag true flag e =
-            let k = heap.apart.there at.number f at.there flag in
-            let site : StaticAt f.index ≡ ValueOf o.reference field.index = differ c objects s (StaticAt f.index) (ValueOf o.reference field.index) marked heap (k.0, k.1, k.2) is_there e in
-            absurd (cc)
-        by_flag false flag e =
-            let from = holder_of state at.number f at.reference at.there flag (at.holder flag) in
-            let site : ValueOf at.reference f.index ≡ ValueOf o.reference field.index = differ c objects s (ValueOf at.reference f.index) (ValueOf o.reference field.index) marked heap from.there is_there e in
-            let reference : at.reference ≡ o.reference = cc in
-            let index : f.index ≡ field.index = cc in
-            let one : from.object ≡ o = same_object c.program objects _ heap.apart from.object o from.known here (from.is ∙ reference) in
-            let classes : f.class ≡ field.class = sym from.of_class ∙ (ap (λ (e : Object). e.class) one ∙ of_class) in
-            record { instance_too = flag; number_is = one_instance_field c.program at.number fi f field is_program at.there is classes flag instance index; reference_is = reference }
+    same_place word = elim (cases_Bool (is_static f.flags)) [
+      | inl flag ↦
+          let k = heap.apart.there at.number f at.there flag in
+          let site : StaticAt f.index ≡ ValueOf o.reference field.index = differ c objects s (StaticAt f.index) (ValueOf o.reference field.index) marked heap (k.0, k.1, k.2) is_there (sym (static_word c objects target v f at flag) ∙ word) in
+          absurd (cc)
+      | inr flag ↦
+          let from = holder_of state at.number f at.reference at.there flag (at.holder flag) in
+          let site : ValueOf at.reference f.index ≡ ValueOf o.reference field.index = differ c objects s (ValueOf at.reference f.index) (ValueOf o.reference field.index) marked heap from.there is_there (sym (instance_word c objects target v f at flag) ∙ word) in
+          let reference : at.reference ≡ o.reference = cc in
+          let index : f.index ≡ field.index = cc in
+          let one : from.object ≡ o = same_object c.program objects _ heap.apart from.object o from.known here (from.is ∙ reference) in
+          let classes : f.class ≡ field.class = sym from.of_class ∙ (ap (λ (e : Object). e.class) one ∙ of_class) in
+          record { instance_too = flag; number_is = one_instance_field c.program at.number fi f field is_program at.there is classes flag instance index; reference_is = reference }
+    ]
 
   -- ---- an instruction
 

@@ -5,7 +5,7 @@ use Rattle.std.proofs.lemmas.Bool.{cases_Bool, eq-eqb, eqb-true, ne_eqb}
 use Rattle.lists.proofs.ListLaws.{same_some}
 use Rattle.jvm_types.specs.{Members.is_synchronized, declared.{outcome.Thrown.Thrown, program.{MethodInfo.MethodInfo, Program.Program, Row.Row}}}
 use Rattle.checked_program.specs.MarkedProgram.{MarkedProgram}
-use Rattle.machine_types.specs.{Construction.{Throws as Loose, PhaseKeeps}, Elision.{put_back, fails, elided}, Events.{element_made, moved}}
+use Rattle.machine_types.specs.{Construction.{Throws as Loose, PhaseKeeps}, Elision.{put_back, elided}, Events.{element_made, moved}}
 use Rattle.machine_types.specs.Frames.{Top, top_of, frames_of, went, went_on, waiting, taken_from, making, pushed, has_room, entry_frame, arguments_of, monitor_of, returned, handler_at}
 use Rattle.machine_types.specs.{Going.{runs, goes_on, goes_on_if}, HeldMonitors.{held_at, with_held, without_held, shallower}, Instructions.{made, printed}}
 use Rattle.machine_types.specs.{Onward.{Onward, Running, Throwing, Entering, Leaving, threw, entered, called, rooted, back, unwound, handed, after, done}, ReadyObjects.{class_of, thrown_of}}
@@ -238,9 +238,6 @@ module _ (c : MarkedProgram) (was : Phase) (x : Thread) where
         carries = carried v class refl;
       })))
 
-  fails_so : (a : Attempt) → x.attempt ≡ Some a → (y : Thread) → y.frames ≡ put_back a x.frames → y.attempt ≡ None → Go y
-  fails_so a tried y frames ended = inr (inr (inr (record { attempt = a; tried = tried; frames = frames; ended = ended })))
-
   same : (y : Thread) → y.frames ≡ x.frames → y.attempt ≡ x.attempt → Go y
   same y frames attempt = still y frames (subst (AttemptFrom x.attempt) (sym attempt) (from_same x.attempt))
 
@@ -279,9 +276,6 @@ module _ (c : MarkedProgram) (was : Phase) (x : Thread) where
     goes_next : (at : Top) → top_of c.program x.frames ≡ Some at → (made : ℕ) → Go (goes_on s (Running (went_on c.program at made)))
     goes_next at top made = onward at top (Running (went_on c.program at made)) (inl (went_goes c.program at at.insn.next made)) (λ a. steps_kept c.program x.frames a at (Goes at.insn.next made) 0 (Running (went_on c.program at made)) top refl)
 
-    goes_still : Go (goes_on s (Running x.frames))
-    goes_still = on s stood (Running x.frames) (stay_same x.frames) (λ a. leaves_kept c.program x.frames a afters.Next (Running x.frames) refl)
-
     pushed_goes : (v : ℕ) (fs : List Frame) → x.frames ≡ fs → Go (goes_on s (Running (pushed v fs)))
     pushed_goes v [] e = on s stood (Running []) (subst (Stay x.frames) e (stay_same x.frames)) (λ b l m. absurd (omega (arith, m)))
     pushed_goes v (f ∷ below) e = on s stood (Running (pushed v (f ∷ below)))
@@ -317,7 +311,7 @@ module _ (c : MarkedProgram) (was : Phase) (x : Thread) where
     goes_go _ _ (moves.by_object a word) is = pushed_goes a x.frames refl
     goes_go _ _ (moves.by_handler v class at top) is = throws_on v class
         (record { finished = λ w next t k. subst (λ (p : Phase). PhaseKeeps w next t p) is k; frames = λ b k. subst (λ (p : Phase). PhaseIn b p x.frames) is k }) at top
-    goes_go phase o k is = goes_still
+    goes_go phase o k is = on s stood (Running x.frames) (stay_same x.frames) (λ a. leaves_kept c.program x.frames a afters.Next (Running x.frames) refl)
 
     -- the next root, with no frame yet
     starts_go : x.frames ≡ [] → (y : Thread) → Stood y → (o : Option Onward) → Go (goes_on_if y o)
@@ -346,16 +340,14 @@ module _ (c : MarkedProgram) (was : Phase) (x : Thread) where
     begins_go : (m noted tried : ℕ) (f : Frame) (below : List Frame) → x.frames ≡ f ∷ below → x.attempt ≡ None → Go (runs (record s { attempt = Some (begun_attempt m noted tried f below) }))
     begins_go m noted tried f below e none =
         let a : Attempt = begun_attempt m noted tried f below in
-        inl (record { frames = stay_same x.frames; tries = subst (λ (o : Option Attempt). TriesGo o (Some a) x.frames x.frames) (sym none) (refl, subst (λ (fs : List Frame). put_back a fs ≡ fs) (sym e) (whole f below)) })
-      where
-        whole : (f : Frame) (below : List Frame) → f ∷ drop (length (f ∷ below) - length below) (f ∷ below) ≡ f ∷ below
-        whole f below = let one : length (f ∷ below) - length below ≡ 1 = omega arith in ap (λ (n : ℕ). f ∷ drop n (f ∷ below)) one
+        let one : length (f ∷ below) - length below ≡ 1 = omega arith in
+        inl (record { frames = stay_same x.frames; tries = subst (λ (o : Option Attempt). TriesGo o (Some a) x.frames x.frames) (sym none) (refl, subst (λ (fs : List Frame). put_back a fs ≡ fs) (sym e) (ap (λ (n : ℕ). f ∷ drop n (f ∷ below)) one)) })
 
     -- ---- each of them
 
     move_goes : (phase : Phase) (k : Move c s got phase) → IsAs phase was → Stands c was x.frames x.held x.attempt → AttemptStandsIn c was x.frames x.held x.attempt → Go (becomes c s got phase k)
     move_goes phase (moves.goes o k) is stands inside = goes_go phase o k is
-    move_goes phase (moves.fails_in t e d k) is stands inside = fails_so t e (fails s t) refl refl
+    move_goes phase (moves.fails_in t e d k) is stands inside = inr (inr (inr (record { attempt = t; tried = e; frames = refl; ended = refl })))
     move_goes _ (moves.makes at word size top e t) is stands inside = makes_go at top _ refl refl
     move_goes _ (moves.prints at v top e t) is stands inside = did_so at top (goes_on (printed s got v) (Running (went_on c.program at 0))) refl refl
     move_goes _ (moves.asks_to_wait at m h now top e l k) is stands inside = did_so at top _ refl refl

@@ -157,10 +157,8 @@ module _ (laws : GuardLaws) (turn : BuiltEvent) (outside : turn.x.attempt ≡ No
 
   writer : (fi : ℕ) (o : Object) → Contains objects o → Changes fi c o s (event c s t) → (field : FieldInfo) → slice_get c.program.fields fi ≡ Some field → is_static field.flags ≡ false → IsWriter (Writer c fi o.reference) x
   writer fi o here k field is instance =
+      let instance_too : is_static k.field.flags ≡ false = subst (λ (f : FieldInfo). is_static f.flags ≡ false) (same_some (sym is ∙ k.is)) instance in
       changer (Writer c fi o.reference) (value_word o.reference k.field.index) k.changes (field_writer (place_event turn) fi k.field k.is instance_too o here k.of_class)
-    where
-      instance_too : is_static k.field.flags ≡ false
-      instance_too = subst (λ (f : FieldInfo). is_static f.flags ≡ false) (same_some (sym is ∙ k.is)) instance
 
   on_class : (fi : ℕ) (field : FieldInfo) → slice_get c.program.fields fi ≡ Some field → is_static field.flags ≡ true → ChangesWord field.index s (event c s t) → IsWriter (StaticWriter c fi) x
   on_class fi field is static changes = changer (StaticWriter c fi) field.index changes (static_writer (place_event turn) fi field is static)

@@ -59,9 +59,6 @@ module _ (moving : Moving) (is : Classes) where
   abbrev pub Goal : Thread → Type 0
   Goal y = Moved building k.now more (counted_by was y.phase) y
 
-  also : (y : Thread) → Moved building k.now next (counted_by was y.phase) y → Goal y
-  also y m = moved_more building k.now more (counted_by was y.phase) y is_world grows m
-
   -- ---- what is known of the frame at the top, and of the word that its instruction finds
 
   pub record KnownTop (got : ℕ) : Type 0 where
@@ -122,22 +119,17 @@ module _ (moving : Moving) (is : Classes) where
     -- ---- it goes on, within the structure that it has
 
     onward : (y : Thread) (o : Onward) → y.attempt ≡ x.attempt → y.held ≡ x.held → StaysStructured c was (goes_on y o) → ((a : Attempt) → x.attempt ≡ Some a → KeepsEntry a x.frames o) → Steps k.now next t (λ z. OnwardKeeps (in_world building z) o) → Goal (goes_on y o)
-    onward y o attempt hs stands keeps step = also (goes_on y o)
+    onward y o attempt hs stands keeps step = moved_more building k.now more (counted_by was (goes_on y o).phase) (goes_on y o) is_world grows
         (onward_moves building was x k is_world y o stood stands (subst (AreKnown w next t) (sym hs) held) (subst (AttemptFrom x.attempt) (sym attempt) (from_same x.attempt)) keeps step)
 
     outside_keeps : (o : Onward) → x.attempt ≡ None → (a : Attempt) → x.attempt ≡ Some a → KeepsEntry a x.frames o
     outside_keeps o none a some = absurd (let bad : None ≡ Some a = sym none ∙ some in cc)
 
-    found_as : (e : Effect) → effect_at c.program at ≡ e → FoundOld (sees moving) is a.keeps.stands.target e got
-    found_as e same = subst (λ (e : Effect). FoundOld (sees moving) is a.keeps.stands.target e got) same a.found
-
-    stored_as : (e : Effect) → effect_at c.program at ≡ e → FoundStored (sees moving) is a.frame a.keeps.stands e got
-    stored_as e same = subst (λ (e : Effect). FoundStored (sees moving) is a.frame a.keeps.stands e got) same a.stored
-
     does_plain : (e : Effect) (o : Onward) → puts_owned owning.owned a.keeps.stands.insn.op a.keeps.stands.target ≡ false → effect_at c.program at ≡ e → done c.program at e got ≡ Some o → StaysStructured c was (goes_on s o) → Goal (goes_on s o)
     does_plain e o plain same d stands = onward s o refl refl stands (λ b some. steps_kept c.program x.frames b at e got o (top_is got a) d)
         (subst (IfKeeps (in_world building k.now)) d
-        (does_it (sees moving) a.frame a.below a.keeps a.waits is e got plain (allowed_as e same) (built_as e same plain) (clean_as e same) (fits_as e same) (found_as e same) (stored_as e same)))
+        (does_it (sees moving) a.frame a.below a.keeps a.waits is e got plain (allowed_as e same) (built_as e same plain) (clean_as e same) (fits_as e same)
+        (subst (λ (e : Effect). FoundOld (sees moving) is a.keeps.stands.target e got) same a.found) (subst (λ (e : Effect). FoundStored (sees moving) is a.frame a.keeps.stands e got) same a.stored)))
 
     -- ---- a new array is stored in an owned field
 
@@ -170,11 +162,8 @@ module _ (moving : Moving) (is : Classes) where
         by_stack : (vs : List ℕ) → a.frame.stack ≡ vs → puts (Some own.field) vs ≡ Writes v put → (array : ℕ) × (rest : List ℕ) × (a.frame.stack ≡ array ∷ rest) × (put ≡ array)
         by_stack [] e h = absurd (cc)
         by_stack (array ∷ []) e h = absurd (cc)
-        by_stack (array ∷ b ∷ rest) e h = (array, b ∷ rest, e, by_null (b == 0) h)
-          where
-            by_null : (z : Bool) → (if z then Throws thrown.NullPointerException else Writes (variable_of own.field b) (kept own.field.kind array)) ≡ Writes v put → put ≡ array
-            by_null true h = absurd (cc)
-            by_null false h = (let same : kept own.field.kind array ≡ put = cc in sym same ∙ ap (λ (kind : Kind). kept kind array) own.array)
+        by_stack (array ∷ b ∷ rest) e h = (array, b ∷ rest, e, (elim (b == 0) as (λ (z : Bool). (if z then Throws thrown.NullPointerException else Writes (variable_of own.field b) (kept own.field.kind array)) ≡ Writes v put → put ≡ array)
+            [ true ↦ λ h. absurd (cc) | false ↦ λ h. (let same : kept own.field.kind array ≡ put = cc in sym same ∙ ap (λ (kind : Kind). kept kind array) own.array) ]) h)
 
     pub stores_as : (v : Variable) (put : ℕ) → effect_at c.program at ≡ Writes v put → puts_owned owning.owned a.keeps.stands.insn.op a.keeps.stands.target ≡ true → StoresNewArray v put (goes_on s (Running (went_on c.program at 0)))
     stores_as v put same puts =

@@ -1,19 +1,19 @@
 -- The moves of a thread, but those of an instruction and of a root, keep what construction says of it.
 use Rattle.std.proofs.Common.{◌≡◌, ℕ, ◌+◌, ◌-◌, inl, inr, Bool, true, false, List, [], ◌∷◌, ◌++◌, length, Option, Some, None, refl, sym, ap, ◌∙◌, subst, arith, ◌==◌, nat_lt, option_map, if◌then◌else◌}
 use Rattle.std.proofs.lemmas.Bool.{cases_Bool, eqb-true, eqb-false}
-use Rattle.jvm_types.specs.{CodeTable.{row, branches_to, falls_through}, ProgramInvariant.words_of, declared.{code.Op.Op, outcome.End.End, program.{MethodInfo.MethodInfo, Program.Program}}}
+use Rattle.jvm_types.specs.{CodeTable.{row, branches_to, falls_through}, declared.{code.Op.Op, outcome.End.End, program.{MethodInfo.MethodInfo, Program.Program}}}
 use Rattle.jvm_types.specs.declared.program.Target.{Target}
 use Rattle.machine_types.specs.{Construction.{Runs, made_world}, Elision.{fails, elided}, Frames.{went_on, top_of, pushed, Top, handler_at}}
 use Rattle.machine_types.specs.{Going.{with_phase, runs, failed_turn, goes_on, goes_on_if, goes_after}, HeldMonitors.{held_at, with_held, without_held, deeper, shallower}, Ints.low}
 use Rattle.machine_types.specs.{Monitors.{HasNot, claim, takes, lets_go, fattens, goes_to_wait, retakes, lowest_of}, Onward.{Onward, Running, after, handed}, OwnedPlaces.IsStoredNowhere, ReadyObjects.class_of}
 use Rattle.machine_types.specs.{Structure.{Stands, AttemptStandsIn, IsPhaseInside, IsLimitAt, TopIs, AfterShows, is_element_op, IsAs}, Threads.{Frame, Attempt, Thread}, Words.value_word}
-use Rattle.machine_types.specs.{Worlds.{Item, Header, Builder, builder, World, IsFinished, IsOwnOrFinished, IsWorld, IsViewOf, with_builder, finished}, declared.lock.{Held.Held, Kept.Kept}}
+use Rattle.machine_types.specs.{Worlds.{Item, Header, Builder, builder, World, IsFinished, IsOwnOrFinished, IsViewOf, with_builder, finished}, declared.lock.{Held.Held, Kept.Kept}}
 use Rattle.machine_types.specs.declared.{effect.Effect.TheVariants.Goes, phase.{After.After, Phase.Phase, Toward.Toward}}
 use Rattle.laws_threads.{specs.{Allowed.OneOf, EntryFrames.KeepsEntry, StructureLaws.{StaysStructured, counted_by, turned_from}}, proofs.{EntryKept.{steps_kept, throws_kept, leaves_kept}, Landing.stand_top}}
 use Rattle.laws_threads.proofs.{MonitorEntries.none_tried, ThreadMove.{Looks, LeadsTo, TurnsTo, Takes, GivesUp, begun_attempt, counting, takes_in, gives_up_in}, Turns.outside as none_outside}
 use Rattle.laws_objects.proofs.{Buildings.{LawfulBuilding, Moving, in_world, FramesIn, MadeIn, sees}, BuiltEffects.RowOld, CountedPhases.{PhaseFits, counted_fits}, EffectOps.IsUsual, Moves.Steps}
 use Rattle.laws_objects.proofs.Onwards.{OnwardKeeps, IfKeeps, runs_usual, dispatches, goes_after_it, same_op}
-use Rattle.laws_objects.proofs.ThreadMoves.{Moved, AreKnown, AttemptFrom, deeper_from, EntryKept, from_same, entry_same, now_world, held_known, moved_on, failed, begun, onward_moves, moved_more, known_at, known_with, known_without}
+use Rattle.laws_objects.proofs.ThreadMoves.{Moved, AreKnown, AttemptFrom, deeper_from, EntryKept, from_same, entry_same, held_known, moved_on, failed, begun, onward_moves, moved_more, known_at, known_with, known_without}
 use Rattle.laws_objects.proofs.WorldChanges.{none_some, goes_same, goes_given, goes_finished, world_given, world_finished, lost_given, lost_finished, lost_same, not_lost}
 use Rattle.jvm_types.specs.declared.code.Op.TheVariants as ops
 use Rattle.jvm_types.specs.declared.outcome.End.TheVariants as ends
@@ -103,9 +103,6 @@ module _ (moving : Moving) where
 
   pub held : AreKnown w next t x.held
   held = held_known building was x k is_world
-
-  now_is : IsWorld k.now (words_of c.program) next
-  now_is = now_world building was x k is_world
 
   back : (v : ℕ) → IsOwnOrFinished k.now next t v → IsOwnOrFinished w next t v
   back v o = known_back w k.now next t x.attempt v k.now_is o

@@ -12,7 +12,7 @@ use Rattle.machine_types.specs.{Lawful.within, Standing.{Standing, row_at}, Thre
 use Rattle.laws_threads.{specs.Allowed.OneOf, proofs.{FrameMoves.edge_fits, Landing.rules_at, TopEffects.number_in, Typing.edge_at}}
 use Rattle.laws_objects.proofs.{ArraySlots.IsStart, Buildings.{Building, in_world, FrameIn}, KeptFrames.{KeepsUnder, plain_stack}, Landing.{LandsWell, land, joined_onward}}
 use Rattle.laws_objects.proofs.Slots.{IsMade, IsWriteMade, stack_moves, local_moves, top_slot, slot_by, slots_started, slot_retag, slots_without, StartOk}
-use Rattle.laws_objects.proofs.WorldChanges.{without, without_gone, without_keeps, finished_without, world_without, goes_without, goes_same, KeepsLost, lost_same, lost_without}
+use Rattle.laws_objects.proofs.WorldChanges.{without, without_gone, without_keeps, finished_without, without_back, world_less, goes_without, goes_same, KeepsLost, lost_same, lost_without}
 use Rattle.jvm_types.specs.declared.code.Op.TheVariants as ops
 use Rattle.jvm_types.specs.declared.typing.VType.TheVariants as types
 
@@ -43,13 +43,11 @@ module _ (m : MethodInfo) (young : ℕ → Bool) where
   abbrev pub Starts : Option (VType × ℕ) → Type 0
   Starts o = StartsOld young o ⊎ StartsYoung m young o
 
-  new_starts : (q class : ℕ) → is_class_of (new_class m.code m.targets q) class ≡ true → Starts (Some (types.New q, class))
-  new_starts q class e = elim (cases_Bool (young q)) [ inl y ↦ inr (record { pc = q; class = class; is = refl; young_is = y; of_class = e }) | inr y ↦ inl y ]
-
   pub starts : (wants : List Want) (ts : List VType) → Suit m wants ts → Starts (started m.class wants ts)
   starts (ToStart class ∷ wants) (types.This ∷ ts) h = inl tt
   starts (ToStart class ∷ wants) (types.New q ∷ ts) h =
-      new_starts q class (is_true (is_class_of (new_class m.code m.targets q) class) (or_parts (not (is_class_of (new_class m.code m.targets q) class)) (some_taken (λ want t. not (suits m want t)) wants ts) h).0)
+      let e = is_true (is_class_of (new_class m.code m.targets q) class) (or_parts (not (is_class_of (new_class m.code m.targets q) class)) (some_taken (λ want t. not (suits m want t)) wants ts) h).0 in
+      elim (cases_Bool (young q)) [ inl y ↦ inr (record { pc = q; class = class; is = refl; young_is = y; of_class = e }) | inr y ↦ inl y ]
   starts (ToStart class ∷ wants) (t ∷ ts) h = absurd (cc)
   starts (want ∷ wants) (t ∷ ts) h = starts wants ts (suits_later m want t wants ts h)
   starts wants ts h = inl tt
@@ -166,7 +164,7 @@ stays w next t P k = record { later = w; goes = goes_same w next next t (omega a
 
 -- what stood with this builder of the thread is finished
 abbrev pub drops : (w : World) (next t : ℕ) (b : Builder) (P : World → Type 0) → b.thread ≡ t → b.item ≢ Lost → P (without w b) → Steps w next t P
-drops w next t b P mine other k = record { later = without w b; goes = goes_without w next t b mine; world = λ first is. world_without w first next b is; lost = lost_without w b other; keeps = k }
+drops w next t b P mine other k = record { later = without w b; goes = goes_without w next t b mine; world = λ first is. world_less w (without w b) first next next is (omega arith) (without_back w b); lost = lost_without w b other; keeps = k }
 
 pub steps_map : (w : World) (next t : ℕ) (P Q : World → Type 0) → ((v : World) → GoesOn w v next next t 0 → P v → Q v) → Steps w next t P → Steps w next t Q
 steps_map w next t P Q f k = record { later = k.later; goes = k.goes; world = k.world; lost = k.lost; keeps = f k.later k.goes k.keeps }

@@ -2,7 +2,7 @@
 use Rattle.std.proofs.Common.{◌≡◌, ◌≢◌, ℕ, ◌<◌, ◌⊎◌, inl, inr, Bool, true, false, List, [], ◌∷◌, ◌++◌, length, map, drop, Option, Some, None, refl, sym, ap, ◌∙◌, subst, arith, option_map}
 use Rattle.std.specs.List.{AllByRecursion}
 use Rattle.lists.proofs.ListLaws.{same_some}
-use Rattle.jvm_types.specs.{ProgramInvariant.words_of, CodeTable.{row, value_of, stack_after, locals_after}, Types.TypeFrame, Verifying.{started, after_start, frame_after, edges}, declared.{code.{Insn.Insn, Op.Op}, op_row.{Given.{Given, TheVariants.Fresh as Anew}, OpRow.OpRow}, program.{MethodInfo.MethodInfo, Target.Target}, typing.VType.VType}}
+use Rattle.jvm_types.specs.{ProgramInvariant.words_of, CodeTable.{row, value_of, stack_after, locals_after}, Types.TypeFrame, Verifying.{started, after_start, frame_after, edges}, declared.{code.{Insn.Insn, Op.Op}, op_row.{Given.{Given, TheVariants.Fresh as Anew}}, program.{MethodInfo.MethodInfo, Target.Target}, typing.VType.VType}}
 use Rattle.laws_programs.{specs.NewLaws.{IsNewBefore, AreBehind}, proofs.RowsKeep.{IsFine, row_fine}}
 use Rattle.checked_program.specs.{LockTags.TagShape, MarkedProgram.MarkedProgram, TaggedCode.IsAt, Tagging.{moved_tags, tags_by_op, tags_after}, declared.tag.Tag.{Tag, TheVariants.Untagged}}
 use Rattle.machine_types.specs.Construction.{puts_owned, builds, makes_frozen, if_so, SlotByType, SlotsAre, StackWith, Runs, IsFresh, ReceiverIs, SlotOf, IsNoStored, made_world}
@@ -23,9 +23,6 @@ use Rattle.jvm_types.specs.declared.typing.VType.TheVariants as types
 abbrev pub IsNewItem : (pc : ℕ) → Option Item → Type 0
 IsNewItem pc item = (x : Item) → item ≡ Some x → (x ≡ Made pc) ⊎ (x ≡ Unstored)
 
-new_item : (pc : ℕ) (item : Option Item) → IsNewItem pc item → item ≡ Some Begun → ⊥
-new_item pc item sort e = elim (sort Begun e) [ inl same ↦ cc | inr same ↦ cc ]
-
 module _ (lawful : LawfulBuilding) (more h : ℕ) (grows : lawful.next < more) (pc : ℕ) (item : Option Item) (sort : IsNewItem pc item) where
   open lawful use {building, design, c, frozen, owning, w, next, t, is_world}
 
@@ -36,11 +33,8 @@ module _ (lawful : LawfulBuilding) (more h : ℕ) (grows : lawful.next < more) (
   abbrev pub stored_world : World
   stored_world = made_world (with_builder w next (builder t h Header)) next t h item
 
-  fresh_word : w next ≡ None
-  fresh_word = none_from (w next) (λ b e. (let l = (is_world.inside next b e).1 in omega (arith, l)))
-
   not_new : (v : ℕ) (k : Builder) → w v ≡ Some k → v ≢ next
-  not_new v k e s = none_some (w next) k fresh_word (subst (λ (x : ℕ). w x ≡ Some k) s e)
+  not_new v k e s = none_some (w next) k (none_from (w next) (λ b e. (let l = (is_world.inside next b e).1 in omega (arith, l)))) (subst (λ (x : ℕ). w x ≡ Some k) s e)
 
   keeps : (v i : ℕ) (x : Item) → w v ≡ Some (builder t i x) → builder t i x ≢ builder t h Header → (o : Option Item) → ((y : Item) → o ≡ Some y → builder t i x ≢ builder t h y) → made_world header_world next t h o v ≡ Some (builder t i x)
   keeps v i x e n (Some y) m = given_keeps header_world next (builder t h y) v (builder t i x) (given_keeps w next (builder t h Header) v (builder t i x) e (not_new v (builder t i x) e) n) (not_new v (builder t i x) e) (m y refl)
@@ -107,9 +101,6 @@ module _ (lawful : LawfulBuilding) (more h : ℕ) (grows : lawful.next < more) (
     abbrev m : MethodInfo
     m = k.stands.method
 
-    abbrev r : OpRow
-    r = row_at c f k.stands
-
     stack_is : stack_after 0 (λ t. next) (row_at c f k.stands) f.stack f.locals ≡ next ∷ drop (length (row_at c f k.stands).takes) f.stack
     stack_is = ap (λ (xs : List Given). map (value_of 0 (λ t. next) f.stack f.locals) xs ++ drop (length (row_at c f k.stands).takes) f.stack) gives
 
@@ -150,9 +141,6 @@ module _ (lawful : LawfulBuilding) (more h : ℕ) (grows : lawful.next < more) (
           ap (λ (op : Op). tags_by_op k.stands.insn.pc (row_at c f k.stands) op k.stands.tags.stack k.stands.tags) is_array
           ∙ ap (λ (xs : List Given). record (moved_tags (row_at c f k.stands) k.stands.tags) { stack = map (value_of Untagged (λ t. Untagged) k.stands.tags.stack k.stands.tags.locals) xs ++ drop (length (row_at c f k.stands).takes) k.stands.tags.stack }) gives
           ∙ ap (λ (o : Option (ℕ × Given)). record { stack = Untagged ∷ drop (length (row_at c f k.stands).takes) k.stands.tags.stack; locals = locals_after Untagged (λ t. Untagged) o k.stands.tags.stack k.stands.tags.locals; held = k.stands.tags.held }) writes
-
-      abbrev Slots : VType → Tag → ℕ → Type 0
-      Slots = SlotOf frozen stored_world more t h Runs k.stands.method f.receiver
 
       abbrev Stack : TypeFrame → TagShape → List ℕ → Type 0
       Stack a g vs = StackWith (SlotOf frozen stored_world more t h Runs k.stands.method f.receiver) (λ v. stored_world v ≡ Some (builder t h Unstored)) true a.stack g.stack vs
@@ -234,7 +222,7 @@ module _ (lawful : LawfulBuilding) (more : ℕ) (grows : lawful.next < more) (f 
         → MadeIn (in_later building (with_builder w next (builder t (length fs) Header)) more) next (length fs) (making c.program (top_here c f fs k.stands))
     makes_as pc item sort behind well other slot = record {
       item = item;
-      not_begun = new_item pc item sort;
+      not_begun = λ e. elim (sort Begun e) [ inl same ↦ cc | inr same ↦ cc ];
       now = given_here w next (builder t (length fs) Header);
       keep = made_frames pc item sort (made_pushed lawful more (length fs) grows pc item sort f k type edge behind gives writes none plain well other slot);
     }

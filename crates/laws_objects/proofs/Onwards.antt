@@ -1,5 +1,5 @@
 -- How a thread goes on keeps what construction says of its frames and of what it carries.
-use Rattle.std.proofs.Common.{◌≡◌, ◌≢◌, ℕ, ◌<◌, Bool, true, false, List, [], ◌∷◌, length, Option, Some, None, refl, sym, ap, ◌∙◌, subst, arith, slice_get, option_map, reverse, take, if◌then◌else◌}
+use Rattle.std.proofs.Common.{◌≡◌, ◌≢◌, ℕ, ◌<◌, Bool, true, false, List, [], ◌∷◌, length, Option, Some, None, refl, sym, ap, ◌∙◌, subst, arith, slice_get, option_map, if◌then◌else◌}
 use Rattle.lists.proofs.{ListLaws.{all_weaker, same_some}, TestLaws.first_true}
 use Rattle.jvm_types.specs.{ClassNames.file_of_class, CodeTable.{can_throw, row}, Members.{MethodSite, is_static, is_synchronized}, ProgramInvariant.{words_of, site_in}, Verifying.{edges, is_return}}
 use Rattle.jvm_types.specs.declared.{code.Op.Op, op_row.{Given.{Given, TheVariants.Fresh as Anew}, OpRow.OpRow}, outcome.Thrown.Thrown, program.FieldInfo.FieldInfo}
@@ -222,9 +222,6 @@ module _ (lawful : LawfulBuilding) where
     calls_keep : (number : ℕ) (m : MethodInfo) → slice_get c.program.methods number ≡ Some m → called_method k.stands.insn.op k.stands.target ≡ Some number → Steps w next t (λ z. OnwardKeeps (in_world building z) (called c.program at number m))
     calls_keep number m there calls = by_room (has_room c.program (f ∷ fs) m)
       where
-        args : List ℕ
-        args = reverse (take (length r.takes) f.stack)
-
         entry : Frame
         entry = entry_frame number m (arguments_of c.program at)
 

@@ -18,7 +18,7 @@ use Rattle.laws_states.{specs.HeapFacts.HeapFacts, proofs.{Accesses.out_there, L
 use Rattle.laws_objects.proofs.{ArrayMoves.ReadsField, Buildings.{Moving, in_world, FrameIn, BelowIn, FramesIn, sees}, BuiltEffects.KindOld, EffectOps.{FitsOp, is_putfield}}
 use Rattle.laws_objects.proofs.InstructionMoves.{Gets, KnownTop, known_top, by_top, does_as, refuses_as, nobody_as, prints_as, makes_as, waits_as, asks_as}
 use Rattle.laws_objects.proofs.MonitorMoves.{fits, stays_as, fails_as, throws_as, element_as, made_as, notified_as, leads_as, turned_as, again_as, inside_as, begins_as, takes_as, gives_up_as, outer_as, inner_as, elided_as, fattens_as, waits_as as waits_in, retakes_as}
-use Rattle.laws_objects.proofs.{Onwards.{FoundOld, FoundStored, fits_op}, RootMoves.starts_as, ThreadMoves.Moved, WorldChanges.none_some}
+use Rattle.laws_objects.proofs.{Onwards.{FoundOld, FoundStored, fits_op}, PlaceWriters.{instance_word, static_word}, RootMoves.starts_as, ThreadMoves.Moved, WorldChanges.none_some}
 use Rattle.jvm_types.specs.declared.code.Op.TheVariants as ops
 use Rattle.jvm_types.specs.declared.outcome.Thrown.TheVariants as outcomes
 use Rattle.jvm_types.specs.declared.program.Kind.TheVariants as kinds
@@ -144,10 +144,10 @@ module _ (moving : Moving) (objects : List Object) (s : Core) (facts : HeapFacts
 
       -- the tags of `this` on the stack
       on_this : HasThis f.receiver kf.stands.tags.stack f.stack
-      on_this = of_stands (subst (λ (fs : List Frame). Stands c phases.Run fs x.held x.attempt) there (subst (λ (p : Phase). Stands c p x.frames x.held x.attempt) is_run stood.stands))
-        where
-          of_stands : Stands c phases.Run (f ∷ fs) x.held x.attempt → HasThis f.receiver kf.stands.tags.stack f.stack
-          of_stands stands = let shows = top_shows c marked Whole f fs stands.shown stands.show in stack_this c marked f kf.stands shows.0 shows.1
+      on_this =
+          let stands : Stands c phases.Run (f ∷ fs) x.held x.attempt = subst (λ (fs : List Frame). Stands c phases.Run fs x.held x.attempt) there (subst (λ (p : Phase). Stands c p x.frames x.held x.attempt) is_run stood.stands) in
+          let shows = top_shows c marked Whole f fs stands.shown stands.show in
+          stack_this c marked f kf.stands shows.0 shows.1
 
       abbrev Reads_it : ℕ → Type 0
       Reads_it n = ReadsField c marked owning.stores f kf.stands n
@@ -166,12 +166,6 @@ module _ (moving : Moving) (objects : List Object) (s : Core) (facts : HeapFacts
             let object = holder.2.0 in
             subst (λ (a : ℕ). PlaceStores owning.stores (value_word a field.index) (owning.owned named.number) field.kind (slice_index s.words (value_word a field.index))) holder.2.2
             (places.arrays object named.number field holder.2.1 named.there static (holder.2.3 ∙ class))
-
-        instance_word : is_static field.flags ≡ false → variable_word v ≡ value_word named.reference field.index
-        instance_word static = ap variable_word named.variable ∙ ap (λ (b : Bool). variable_word (if b then Static field.index else Instance named.reference field.index)) static
-
-        static_word : is_static field.flags ≡ true → variable_word v ≡ field.index
-        static_word static = ap variable_word named.variable ∙ ap (λ (b : Bool). variable_word (if b then Static field.index else Instance named.reference field.index)) static
 
         -- the reference is the one on the stack
         on_stack : (op : Op) (stack : List ℕ) (n : ℕ) (i : ℕ) → op ≡ ops.Getfield i → kf.stands.insn.op ≡ op → f.stack ≡ stack → is_static field.flags ≡ false → slice_index f.stack 0 ≡ named.reference
@@ -197,7 +191,9 @@ module _ (moving : Moving) (objects : List Object) (s : Core) (facts : HeapFacts
           where
             by_op : (op : Op) → kf.stands.insn.op ≡ op → (target : Target) → kf.stands.target ≡ target → is_read_of n op target ≡ true → IsStoredAt owning.stores word (slice_index s.words (variable_word v))
             by_op (ops.Getfield i) e (targets.Field other) g h =
-                let same_number : named.number ≡ n = number_of (sym named.named ∙ g) (eqb-true other n h) in
+                let both : targets.Field named.number ≡ targets.Field other = sym named.named ∙ g in
+                let one_number : named.number ≡ other = cc in
+                let same_number : named.number ≡ n = one_number ∙ eqb-true other n h in
                 let owned : owning.owned named.number ≡ true = ap owning.owned same_number ∙ owns.all n reads.0 in
                 let one : field ≡ reads.0.field = same_some (sym named.there ∙ (ap (slice_get c.program.fields) same_number ∙ reads.0.is)) in
                 let two : field ≡ is.field = same_some (sym named.there ∙ (ap (slice_get c.program.fields) same_number ∙ is.is)) in
@@ -206,21 +202,18 @@ module _ (moving : Moving) (objects : List Object) (s : Core) (facts : HeapFacts
                 let this : slice_index f.stack 0 ≡ f.receiver = on_this 0 (gets_this (eqb-true other n h)) in
                 let reference : named.reference ≡ f.receiver = sym (on_stack (ops.Getfield i) f.stack n i refl e refl static) ∙ this in
                 let place : value_word named.reference field.index ≡ word = (λ j. value_word (reference j) ((two j).index)) ∙ sym is.place in
-                subst (λ (x : ℕ). IsStoredAt owning.stores word (slice_index s.words x)) (sym (instance_word static))
+                subst (λ (x : ℕ). IsStoredAt owning.stores word (slice_index s.words x)) (sym (instance_word c objects kf.stands.target v field named static))
                 (subst (λ (x : ℕ). IsStoredAt owning.stores x (slice_index s.words (value_word named.reference field.index))) place
                 (subst (λ (b : Bool). PlaceStores owning.stores (value_word named.reference field.index) b field.kind (slice_index s.words (value_word named.reference field.index))) owned (at_place static)))
-              where
-                number_of : targets.Field named.number ≡ targets.Field other → other ≡ n → named.number ≡ n
-                number_of e h = (let same : named.number ≡ other = cc in same ∙ h)
             by_op op e target g h = absurd (let bad : false ≡ true = h in cc)
 
         reads_none : ((n : ℕ) → Reads_it n → ⊥) → KindOld (IsStoredNowhere owning.stores) field.kind (slice_index s.words (variable_word v))
         reads_none none = by_flag (is_static field.flags) refl
           where
             by_flag : (b : Bool) → is_static field.flags ≡ b → KindOld (IsStoredNowhere owning.stores) field.kind (slice_index s.words (variable_word v))
-            by_flag true e = subst (λ (x : ℕ). KindOld (IsStoredNowhere owning.stores) field.kind (slice_index s.words x)) (sym (static_word e)) (place_kind field.kind field.index (slice_index s.words field.index) (places.static_arrays named.number field named.there e))
+            by_flag true e = subst (λ (x : ℕ). KindOld (IsStoredNowhere owning.stores) field.kind (slice_index s.words x)) (sym (static_word c objects kf.stands.target v field named e)) (place_kind field.kind field.index (slice_index s.words field.index) (places.static_arrays named.number field named.there e))
             by_flag false e =
-                subst (λ (x : ℕ). KindOld (IsStoredNowhere owning.stores) field.kind (slice_index s.words x)) (sym (instance_word e))
+                subst (λ (x : ℕ). KindOld (IsStoredNowhere owning.stores) field.kind (slice_index s.words x)) (sym (instance_word c objects kf.stands.target v field named e))
                 (place_kind field.kind (value_word named.reference field.index) (slice_index s.words (value_word named.reference field.index))
                 (subst (λ (b : Bool). PlaceStores owning.stores (value_word named.reference field.index) b field.kind (slice_index s.words (value_word named.reference field.index))) (false_from_ne_true (owning.owned named.number) (λ h. none named.number (owns.those named.number h, reads))) (at_place e)))
               where

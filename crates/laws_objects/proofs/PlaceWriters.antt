@@ -1,14 +1,14 @@
 -- An event that changes the word of a place is an instruction that writes this place.
-use Rattle.std.proofs.Common.{◌≡◌, ◌⊎◌, inl, inr, ℕ, ◌<◌, List, [], ◌∷◌, false, length, Option, Some, None, refl, sym, ap, ◌∙◌, subst, arith, Contains, slice_get, slice_index}
+use Rattle.std.proofs.Common.{◌≡◌, ◌⊎◌, inl, inr, ℕ, ◌<◌, Bool, true, if◌then◌else◌, List, [], ◌∷◌, false, length, Option, Some, None, refl, sym, ap, ◌∙◌, subst, arith, Contains, slice_get, slice_index}
 use Rattle.lists.proofs.ListLaws.{same_some}
-use Rattle.jvm_types.specs.{Members.is_static, ProgramInvariant.{IsTargetOf, instances_among, site_in}, declared.program.FieldInfo.FieldInfo}
+use Rattle.jvm_types.specs.{Members.is_static, ProgramInvariant.{IsTargetOf, instances_among, site_in}, declared.program.{FieldInfo.FieldInfo, Target.Target}}
 use Rattle.laws_programs.proofs.{ClassTreeLaws.files_alone, CodeOrder.have_targets, FieldOrder.instances_inside}
 use Rattle.checked_program.specs.{MarkedProgram.{MarkedProgram, IsMarked}, TaggedCode.row_of}
 use Rattle.machine_types.specs.{Accesses.{accessed, left_by, words_after}, Effects.effect, Events.wanted}
 use Rattle.machine_types.specs.{FoundWords.{Content, IntPlace, ReferencePlace, effect_content, run_content, leave_content, content_at}, Frames.{Top, top_of, effect_at}}
 use Rattle.machine_types.specs.{Instructions.{effect_wants, run_wants}, Monitors.{Claim, Has, claim}, PlainMemory.Object, Standing.Standing}
 use Rattle.machine_types.specs.{Structure.{IsStructured, Stands, TopIs, is_element_op}, Threads.{Frame, Thread}, Typed.{FramesHold, HasClass, HasElementIn, ElementStands, PhaseHolds}}
-use Rattle.machine_types.specs.{Words.variable_word, declared.{access.Access.{Access, TheVariants.Store}, effect.{Effect.{Effect, TheVariants.{Reads, Writes}}, Variable.Variable}, lock.Kept.Kept}}
+use Rattle.machine_types.specs.{Words.{value_word, variable_word}, declared.{access.Access.{Access, TheVariants.Store}, effect.{Effect.{Effect, TheVariants.{Reads, Writes}}, Variable.{Variable, TheVariants.{Instance, Static}}}, lock.Kept.Kept}}
 use Rattle.machine_types.specs.declared.phase.Phase.{Phase}
 use Rattle.laws_threads.{specs.Allowed.{IsOf, IsNamedField, Allowed}, proofs.{Landing.stand_top, Standings.top_here, TopEffects.allowed_here}}
 use Rattle.laws_states.{specs.Sites.{Site, ValueOf, StaticAt, site_word, IsThere, Suits}, proofs.Accesses.out_there}
@@ -48,6 +48,15 @@ names_field c f k number marked named =
     let found = have_targets c.program f.method k.number k.method k.insn marked.checked.program k.at.in_program k.at.in_code in
     let target : found.0 ≡ k.target = same_some (sym found.1 ∙ k.at.names) in
     subst (IsTargetOf c.program (site_in k.method) k.insn.op) (target ∙ named) found.2
+
+-- ---- the word of a field that an instruction names
+
+module _ (c : MarkedProgram) (objects : List Object) (target : Target) (v : Variable) (f : FieldInfo) (named : IsNamedField c.program (HasClass objects) target v f) where
+  pub instance_word : is_static f.flags ≡ false → variable_word v ≡ value_word named.reference f.index
+  instance_word static = ap variable_word named.variable ∙ ap (λ (b : Bool). variable_word (if b then Static f.index else Instance named.reference f.index)) static
+
+  pub static_word : is_static f.flags ≡ true → variable_word v ≡ f.index
+  static_word static = ap variable_word named.variable ∙ ap (λ (b : Bool). variable_word (if b then Static f.index else Instance named.reference f.index)) static
 
 -- ---- the place of an instance field
 

@@ -130,10 +130,6 @@ module _ (building : Building) (new : NewArray building.owning.stores) (is : bui
   receiver_apart h true r e = built_apart r (builder t h Begun) e (item_apart h Begun (λ s. cc))
   receiver_apart h false r e = old_apart r e
 
-  -- slots, as they are apart
-  abbrev Slot : (Fresh : ℕ → ℕ → Type 0) → MethodInfo → (receiver : ℕ) → VType → Tag → ℕ → Type 0
-  Slot Fresh m receiver = SlotIs (λ v. v ≢ array) Fresh (builds frozen m) (makes_frozen frozen m) receiver
-
   slots_apart : (h : ℕ) (turn : BuilderTurn) (Fresh : ℕ → ℕ → Type 0) → ((q v : ℕ) → IsFresh w t h turn q v → Fresh q v) → (m : MethodInfo) (receiver : ℕ) (ts : List VType) (gs : List Tag) (vs : List ℕ)
       → SlotsAre (SlotOf frozen w next t h turn m receiver) ts gs vs → SlotsAre (SlotIs (λ v. v ≢ array) Fresh (builds frozen m) (makes_frozen frozen m) receiver) ts gs vs
   slots_apart h turn Fresh fresh m receiver ts gs vs = slots_map (SlotOf frozen w next t h turn m receiver) (SlotIs (λ v. v ≢ array) Fresh (builds frozen m) (makes_frozen frozen m) receiver)
@@ -230,9 +226,6 @@ module _ (building : Building) (new : NewArray building.owning.stores) (is : bui
       let apart : array ≢ a = λ s. (let same : Some (builder u height Header) ≡ Some k = sym h ∙ (ap v (sym s) ∙ e) in let one : builder u height Header ≡ k = cc in not_mine height Header one) in
       elim o as (λ (o : Option Item). made_world v a u height o array ≡ Some k) [ Some y ↦ given_keeps v a (builder u height y) array k e apart (λ s. not_mine height y (sym s)) | None ↦ finished_there v a array apart ∙ e ]
 
-  turn_free : (v : World) (e : v array ≡ Some k) (phase : Phase) → TurnApart (before v) new e (turn_by (operands_in phase))
-  turn_free v e phase = elim (operands_in phase) as (λ (o : Operands). TurnApart (before v) new e (turn_by o)) [ Thrown ↦ tt | _ ↦ tt ]
-
   phase_on : (v : World) → v array ≡ Some k → (phase : Phase) (fs : List Frame) → PhaseIn (before v) phase fs → PhaseIn (stored_in v) phase fs
   phase_on v e (phases.Made a header) fs j = record {
     item = j.item;
@@ -240,7 +233,7 @@ module _ (building : Building) (new : NewArray building.owning.stores) (is : bui
     now = j.now;
     keep = frames_on (before (made_world v a u (length fs - 1) j.item)) new (made_is v e a (length fs - 1) j.now j.item) Runs (pushed a fs) tt (λ i l. not_mine i Unstored) j.keep;
   }
-  phase_on v e phase fs j = frames_on (before v) new e (turn_by (operands_in phase)) fs (turn_free v e phase) (λ i l. not_mine i Unstored) j
+  phase_on v e phase fs j = frames_on (before v) new e (turn_by (operands_in phase)) fs (elim (operands_in phase) as (λ (o : Operands). TurnApart (before v) new e (turn_by o)) [ Thrown ↦ tt | _ ↦ tt ]) (λ i l. not_mine i Unstored) j
 
   attempt_on : (v : World) → v array ≡ Some k → (fs : List Frame) (o : Option Attempt) → TriesIn (before v) fs o → TriesIn (stored_in v) fs o
   attempt_on v e fs None j = tt

@@ -1,10 +1,9 @@
 -- The frame of a root keeps what construction says: it is a static method, no `<init>`, and takes nothing or an int.
-use Rattle.std.proofs.Common.{◌≡◌, ℕ, zero, suc, ◌+◌, ◌≤◌, inl, inr, Bool, true, false, ◌&&◌, List, [], ◌∷◌, ◌++◌, length, Option, Some, None, refl, ap, sym, subst, ◌∙◌, arith, ◌==◌, nat_lt, codes, bytes_eq, slice_get, option_map, if◌then◌else◌, IsTrue}
+use Rattle.std.proofs.Common.{◌≡◌, ℕ, zero, suc, inl, inr, Bool, true, false, ◌&&◌, List, [], ◌∷◌, length, Option, Some, None, refl, ap, sym, subst, ◌∙◌, arith, ◌==◌, nat_lt, codes, bytes_eq, slice_get, option_map, if◌then◌else◌, IsTrue}
 use Rattle.std.{specs.List.AllByRecursion, proofs.lemmas.Slice.Eq.bytes_eq-Decides}
 use Rattle.lists.proofs.{ListLaws.same_some, TestLaws.{both_are_true}}
 use Rattle.jvm_types.specs.{ClassNames.file_class, CodeTable.is_init, Members.is_class_init_name, Numbers.has_number}
 use Rattle.jvm_types.specs.declared.{outcome.Thrown.TheVariants.StackOverflowError, program.{Kind.Kind, MethodInfo.MethodInfo, Program.Program}}
-use Rattle.laws_programs.specs.EntryLaws.{receiver_count}
 use Rattle.checked_program.{specs.MarkedProgram.checked_part, proofs.CheckedPlaces.called_fit_all}
 use Rattle.machine_types.specs.{Bounds.part_roots, Events.thread_started, Frames.{has_room, entry_frame}, Onward.{Running, Uncaught, root_arguments, rooted}, OwnedPlaces.IsStoredNowhere}
 use Rattle.machine_types.specs.{Parts.{numbers_of, is_entry_named, entries_named, init_roots}, Worlds.IsFinished}
@@ -26,9 +25,6 @@ module _ (p : Program) where
       let same : x.method ≡ m = same_some (sym there ∙ e) in
       other m (subst (λ (y : MethodInfo). test y ≡ true) same x.passes)
 
-  either : (xs ys : List ℕ) → NoInits xs → NoInits ys → NoInits (xs ++ ys)
-  either xs ys f g k m h e = elim (by_append xs ys k h) [ inl i ↦ f k m i e | inr i ↦ g k m i e ]
-
   -- another name
   named : (name : List ℕ) → bytes_eq name (codes "<init>") ≡ false → (m : MethodInfo) → bytes_eq m.name name ≡ true → is_init m ≡ false
   named name other m e = ap (λ (n : List ℕ). bytes_eq n (codes "<init>")) ((bytes_eq-Decides m.name name).0 e) ∙ other
@@ -39,7 +35,10 @@ module _ (p : Program) where
       named name other m (both_are_true (m.class == file_class 0) (bytes_eq m.name name) parts.0).1))
 
   inits : NoInits (init_roots p)
-  inits = either (numbers_of (λ m. is_class_init_name m.name) 0 p.methods) (entries_named p (codes "init") (codes "()V")) (of_numbers (λ m. is_class_init_name m.name) (named (codes "<clinit>") refl)) (entries (codes "init") (codes "()V") refl)
+  inits k m h e = elim (by_append (numbers_of (λ m. is_class_init_name m.name) 0 p.methods) (entries_named p (codes "init") (codes "()V")) k h) [
+    | inl i ↦ of_numbers (λ m. is_class_init_name m.name) (named (codes "<clinit>") refl) k m i e
+    | inr i ↦ entries (codes "init") (codes "()V") refl k m i e
+  ]
 
   pub no_init : (number part k : ℕ) (m : MethodInfo) → has_number (part_roots p number part) k ≡ true → slice_get p.methods k ≡ Some m → is_init m ≡ false
   no_init zero zero k m h e = inits k m h e
@@ -55,9 +54,6 @@ module _ (lawful : LawfulBuilding) where
   root_keeps : (thread part number : ℕ) (m : MethodInfo) → has_number (part_roots c.program thread part) number ≡ true → slice_get c.program.methods number ≡ Some m → OnwardKeeps building (rooted c.program thread number m)
   root_keeps thread part number m h e = by_room (has_room c.program [] m)
     where
-      fits : receiver_count m + length m.args ≤ m.max_locals
-      fits = called_fit_all (checked_part c) number m marked.checked e
-
       args_old : (Old : ℕ → Type 0) → IsSomeRoot m → ArgsOld Old m.args (root_arguments thread m)
       args_old Old (inl r) = subst (λ (args : List Kind). ArgsOld Old args (if nat_lt 0 (length args) then thread ∷ [] else [])) (sym r.args) tt
       args_old Old (inr r) = subst (λ (args : List Kind). ArgsOld Old args (if nat_lt 0 (length args) then thread ∷ [] else [])) (sym r.args) tt
@@ -65,7 +61,7 @@ module _ (lawful : LawfulBuilding) where
       by_room : (b : Bool) → OnwardKeeps building (if b then Running (entry_frame number m (root_arguments thread m) ∷ []) else Uncaught StackOverflowError)
       by_room true =
           let root = part_root c.program marked.checked.program thread part number m h e in
-          (static_enters building 0 (null lawful) number m e (root_arguments thread m) (elim root [ inl r ↦ r.static | inr r ↦ r.static ]) (not_built frozen m (no_init c.program thread part number m h e)) (omega (arith, fits)) (args_old (IsFinished w next) root) (args_old (IsStoredNowhere owning.stores) root), tt)
+          (static_enters building 0 (null lawful) number m e (root_arguments thread m) (elim root [ inl r ↦ r.static | inr r ↦ r.static ]) (not_built frozen m (no_init c.program thread part number m h e)) (omega (arith, called_fit_all (checked_part c) number m marked.checked e)) (args_old (IsFinished w next) root) (args_old (IsStoredNowhere owning.stores) root), tt)
       by_room false = tt
 
   root_if : (thread part number : ℕ) → has_number (part_roots c.program thread part) number ≡ true → IfKeeps building (option_map (rooted c.program thread number) (slice_get c.program.methods number))

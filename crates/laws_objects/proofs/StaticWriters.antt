@@ -1,15 +1,16 @@
 -- An event that changes a static field is a `putstatic` of that field.
-use Rattle.std.proofs.Common.{◌≡◌, ◌⊎◌, inl, inr, ℕ, Bool, true, false, List, [], ◌∷◌, Some, refl, sym, ap, ◌∙◌, subst, slice_get, slice_index, if◌then◌else◌}
+use Rattle.std.proofs.Common.{◌≡◌, ◌⊎◌, inl, inr, ℕ, true, false, List, [], ◌∷◌, Some, sym, ap, ◌∙◌, subst, slice_get, slice_index}
+use Rattle.std.proofs.lemmas.Bool.{cases_Bool}
 use Rattle.lists.proofs.ListLaws.{same_some}
 use Rattle.jvm_types.specs.{CodeTable.put_row, Members.is_static, ProgramInvariant.site_in, declared.{code.Op.Op, program.{FieldInfo.FieldInfo, Target.Target}}}
 use Rattle.laws_programs.{specs.TargetLaws.{HasRow, NamesField}, proofs.FieldOrder.one_static_field}
 use Rattle.checked_program.specs.{MarkedProgram.MarkedProgram, TaggedCode.row_of}
 use Rattle.machine_types.specs.{Accesses.words_after, Effects.effect, Events.wanted, Standing.Standing, Structure.{TopIs, is_element_op}}
 use Rattle.machine_types.specs.{Threads.Frame, Typed.{FramesHold, HasClass, HasElementIn, HasElementOn, ElementStands, IsElementOn}, Words.variable_word}
-use Rattle.machine_types.specs.declared.{effect.{Effect.TheVariants.Writes, Variable.{Variable, TheVariants.{Instance, Static}}}}
+use Rattle.machine_types.specs.declared.{effect.{Effect.TheVariants.Writes, Variable.{Variable}}}
 use Rattle.laws_threads.{specs.Allowed.IsNamedField, proofs.Landing.rules_at}
 use Rattle.laws_states.specs.Sites.{ValueOf, StaticAt, IsThere}
-use Rattle.laws_objects.proofs.{PlaceWriters.{PlaceEvent, IsWriter, holder_of, names_field, place_writer}, WrittenFields.{field_put}}
+use Rattle.laws_objects.proofs.{PlaceWriters.{PlaceEvent, IsWriter, holder_of, names_field, place_writer, instance_word, static_word}, WrittenFields.{field_put}}
 use Rattle.jvm_types.specs.declared.code.Op.TheVariants as ops
 use Rattle.jvm_types.specs.declared.program.Target.TheVariants as targets
 
@@ -33,14 +34,13 @@ module _ (event : PlaceEvent) (fi : ℕ) (field : FieldInfo) (is : slice_get eve
   module _ (f : Frame) (k : Standing c f) (v : Variable) (n : ℕ) (e : effect c.program k.insn.next k.target k.insn.op f.locals f.stack ≡ Writes v n) (g : FieldInfo) (at : IsNamedField c.program (HasClass objects) k.target v g) where
     -- the word of the variable is that of one field
     same_field : variable_word v ≡ field.index → (is_static g.flags ≡ true) × (at.number ≡ fi)
-    same_field word = by_flag (is_static g.flags) refl (ap variable_word (sym at.variable) ∙ word)
-      where
-        by_flag : (b : Bool) → is_static g.flags ≡ b → variable_word (if b then Static g.index else Instance at.reference g.index) ≡ field.index → (is_static g.flags ≡ true) × (at.number ≡ fi)
-        by_flag true flag e = (flag, one_static_field c.program at.number fi g field marked.checked.program at.there is flag static e)
-        by_flag false flag e =
-            let from = holder_of state at.number g at.reference at.there flag (at.holder flag) in
-            let site : ValueOf at.reference g.index ≡ StaticAt field.index = differ c objects s (ValueOf at.reference g.index) (StaticAt field.index) marked heap from.there is_there e in
-            absurd (cc)
+    same_field word = elim (cases_Bool (is_static g.flags)) [
+      | inl flag ↦ (flag, one_static_field c.program at.number fi g field marked.checked.program at.there is flag static (sym (static_word c objects k.target v g at flag) ∙ word))
+      | inr flag ↦
+          let from = holder_of state at.number g at.reference at.there flag (at.holder flag) in
+          let site : ValueOf at.reference g.index ≡ StaticAt field.index = differ c objects s (ValueOf at.reference g.index) (StaticAt field.index) marked heap from.there is_there (sym (instance_word c objects k.target v g at flag) ∙ word) in
+          absurd (cc)
+    ]
 
     -- a `putfield` names no static field
     no_putfield : (index : ℕ) → k.insn.op ≡ ops.Putfield index → is_static g.flags ≡ true → ⊥

@@ -2,7 +2,7 @@
 use Rattle.std.proofs.Common.{◌≡◌, ◌≢◌, ℕ, ◌+◌, inl, Bool, true, false, List, [], ◌∷◌, ◌++◌, length, map, drop, Option, Some, None, refl, sym, ap, ◌∙◌, subst, arith, slice_index_or}
 use Rattle.std.specs.List.{AllByRecursion}
 use Rattle.jvm_types.specs.{CodeTable.{row, want_of, put_row, value_of, stack_after, locals_after}, Numbers.has_number, Types.TypeFrame, Verifying.{started, after_start, frame_after, edges}, declared.{class_numbers.TheConstants.INT_ARRAY_CLASS, code.Op.Op}}
-use Rattle.jvm_types.specs.declared.{op_row.{Given.Given, OpRow.OpRow}, program.{Kind.Kind, MethodInfo.MethodInfo}, typing.VType.VType}
+use Rattle.jvm_types.specs.declared.{op_row.{Given.Given, OpRow.OpRow}, program.{Kind.Kind}, typing.VType.VType}
 use Rattle.checked_program.specs.{Colours.is_read_of, LockTags.TagShape, OwnedArrays.IsOwnedArrayField, Tagging.{moved_tags, tags_by_op, tags_after}, declared.tag.Tag.{Tag, TheVariants.Untagged}}
 use Rattle.machine_types.specs.Construction.{puts_owned, builds, makes_frozen, SlotsAre, StackWith, Runs, IsFresh, SlotOf, IsNoStored, IsArraySlot, SlotsFrom}
 use Rattle.machine_types.specs.{Frames.{frame_on, went_on}, OwnedPlaces.{with_stored, IsStoredNowhere}, Standing.{Standing, row_at, tags_of}, Threads.Frame}
@@ -52,12 +52,6 @@ module _ (lawful : LawfulBuilding) (f : Frame) (fs : List Frame) (k : FrameIn la
 
   abbrev pub new : Builder
   new = builder t (length fs) Unstored
-
-  abbrev m : MethodInfo
-  m = k.stands.method
-
-  abbrev r : OpRow
-  r = row_at c f k.stands
 
   puts : puts_owned owning.owned k.stands.insn.op k.stands.target ≡ true
   puts = (λ i. puts_owned owning.owned (op_is i) (target_is i)) ∙ is_owned

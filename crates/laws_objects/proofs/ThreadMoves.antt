@@ -130,9 +130,6 @@ module _ (w now : World) (t : ℕ) (o : Option Attempt) (view : IsViewOf now w t
       by_was v n None e = by_later v (view.others v n ∙ e) (later v) refl ∙ sym e
       by_was v n (Some d) e = goes.others v d (n d e) (view.others v n ∙ e) ∙ sym e
 
-  view_same : o ≡ None → now ≡ w
-  view_same e = λ i. λ v. view.same e v i
-
 -- ---- a thread
 
 module _ (building : Building) (was : Phase) (x : Thread) (k : ThreadIn building was x) (is_world : IsWorld building.w (words_of building.c.program) building.next) where
@@ -217,7 +214,7 @@ module _ (building : Building) (was : Phase) (x : Thread) (k : ThreadIn building
   pub begun : (m tried : ℕ) (a : Attempt) (f : Frame) (below : List Frame) (y : Thread) → was ≡ phases.Enter m tried → x.attempt ≡ None → x.frames ≡ f ∷ below → y.frames ≡ x.frames → y.held ≡ x.held → y.attempt ≡ Some a → a.monitor ≡ m → a.base ≡ length below → a.entry ≡ f
       → Moved building k.now next phases.Run y
   begun m tried a f below y is none there frames held e monitor base entry =
-      let back : k.now ≡ w = view_same w k.now t x.attempt k.now_is none in
+      let back : k.now ≡ w = (λ i. λ v. k.now_is.same none v i) in
       let stood : FramesIn building Runs x.frames = subst (λ (z : World). FramesIn (in_world building z) Runs x.frames) back (subst (λ (phase : Phase). PhaseIn (in_world building k.now) phase x.frames) is k.frames) in
       let known : IsOwnOrFinished w next t m = subst (λ (z : World). IsOwnOrFinished z next t m) back (subst (PhaseKeeps k.now next t) is k.phase) in
       let one : length (f ∷ below) - length below ≡ 1 = omega arith in

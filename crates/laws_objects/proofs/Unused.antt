@@ -42,9 +42,6 @@ module _ (now : World) (next t v : ℕ) (strange : IsStrange now t v) (null : Is
   other_so u word n = n
 
   module _ (h : ℕ) (own : Bool) (young : ℕ → Bool) (receiver : ℕ) (receives : ReceiverIs now next t h own receiver) where
-    abbrev Is : VType → Tag → (word : ℕ) → Type 0
-    Is = SlotIs (IsFinished now next) (IsFresh now t h Runs) own young receiver
-
     type_other : (u : VType) (word : ℕ) → SlotByType (IsFinished now next) (IsFresh now t h Runs) young u word → IsOther v u word
     type_other types.Null word s = λ e. not_finished 0 null (sym s ∙ e)
     type_other (types.New pc) word s =

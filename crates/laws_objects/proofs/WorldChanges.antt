@@ -194,9 +194,6 @@ without_back w b v j = by_was (w v)
     by_was None e = e
     by_was (Some d) e = (elim (same_builder b d) as (λ (x : Bool). (if x then None else Some d) ≡ Some j → Some d ≡ Some j) [ true ↦ λ e. absurd (cc) | false ↦ λ e. e ]) e
 
-pub world_without : (w : World) (first next : ℕ) (b : Builder) → IsWorld w first next → IsWorld (without w b) first next
-world_without w first next b is = world_less w (without w b) first next next is (omega arith) (without_back w b)
-
 pub goes_without : (w : World) (next t : ℕ) (b : Builder) → b.thread ≡ t → GoesOn w (without w b) next next t 0
 goes_without w next t b mine = goes_by w (without w b) next next t (omega arith) (λ v o. without_none w b v o.1)
     (λ v j n e. without_keeps w b v j e (λ s. n (ap (λ (i : Builder). i.thread) s ∙ mine))) (λ v j n e. without_back w b v j e)
