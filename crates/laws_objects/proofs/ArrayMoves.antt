@@ -153,13 +153,10 @@ module _ (c : MarkedProgram) (marked : IsMarked c) (stores : Stores) (f : Frame)
         slot : (k : ℕ) (x : Given) → source (row_of c.program m insn target).gives (length (row_of c.program m insn target).takes) k ≡ x → SourceFine x
             → IsArraySlot c stores (record f { pc = pc; stack = map (value_of 0 (λ t. made) sv lv) (row_of c.program m insn target).gives ++ rest; locals = locals }) j k (value_of types.Top (λ t. t) ts lt x) (value_of 0 (λ t. made) sv lv x)
         slot k (Fresh t) e fine = record {
-          owned = λ o word is. is_made.read o.fi (o.owned, sym (coloured_as o) ∙ o.coloured) word is;
+          owned = λ o word is. is_made.read o.fi (o.owned, sym (coloured_by k o.fi o.colours o.colouring ∙ ap (value_of false (λ type. is_read_of o.fi insn.op target) (o.colours i).stack (o.colours i).locals) e) ∙ o.coloured) word is;
           other = λ none. subst (GivenClean stores made) e (each_source (GivenClean stores made) (length (row_of c.program m insn target).takes) (λ q. tt) (row_of c.program m insn target).gives (is_made.other (λ fi reads. none (here fi reads))).0 k);
         }
           where
-            coloured_as : (o : IsOwnedAt c.program (tags_of c) f.method j k) → is_coloured (o.colours j).stack k ≡ is_read_of o.fi insn.op target
-            coloured_as o = coloured_by k o.fi o.colours o.colouring ∙ ap (value_of false (λ type. is_read_of o.fi insn.op target) (o.colours i).stack (o.colours i).locals) e
-
             here : (fi : ℕ) → ReadsField fi → IsOwnedAt c.program (tags_of c) f.method j k
             here fi reads =
                 let class = reads_own c.program fi reads.0.field m insn.op target reads.0.is reads.0.private (target_named c.program (tags_of c) f.method i m insn target u marked.checked.program at) reads.1 in
@@ -171,16 +168,13 @@ module _ (c : MarkedProgram) (marked : IsMarked c) (stores : Stores) (f : Frame)
                   colouring = used.colouring;
                   coloured = coloured_by k fi used.colours used.colouring ∙ (ap (value_of false (λ type. is_read_of fi insn.op target) (used.colours i).stack (used.colours i).locals) e ∙ reads.1);
                 }
-        slot k (Taken q) e fine = record { owned = λ o word is. fine.owned (back o) word is; other = λ none. fine.other (λ o. none (forth o)) }
+        slot k (Taken q) e fine = record {
+          owned = λ o word is. fine.owned (record { fi = o.fi; owned = o.owned; colours = o.colours; colouring = o.colouring; coloured = sym (as_before o.fi o.colours o.colouring) ∙ o.coloured }) word is;
+          other = λ none. fine.other (λ o. none (record { fi = o.fi; owned = o.owned; colours = o.colours; colouring = o.colouring; coloured = as_before o.fi o.colours o.colouring ∙ o.coloured }));
+        }
           where
             as_before : (fi : ℕ) (colours : ℕ → ColourShape) → IsColouring c.program (tags_of c) f.method fi colours → is_coloured (colours j).stack k ≡ is_coloured (colours i).stack q
             as_before fi colours colouring = coloured_by k fi colours colouring ∙ ap (value_of false (λ type. is_read_of fi insn.op target) (colours i).stack (colours i).locals) e
-
-            back : IsOwnedAt c.program (tags_of c) f.method j k → IsOwnedAt c.program (tags_of c) f.method i q
-            back o = record { fi = o.fi; owned = o.owned; colours = o.colours; colouring = o.colouring; coloured = sym (as_before o.fi o.colours o.colouring) ∙ o.coloured }
-
-            forth : IsOwnedAt c.program (tags_of c) f.method i q → IsOwnedAt c.program (tags_of c) f.method j k
-            forth o = record { fi = o.fi; owned = o.owned; colours = o.colours; colouring = o.colouring; coloured = as_before o.fi o.colours o.colouring ∙ o.coloured }
         slot k (Local y) e fine = record { owned = λ o word is. absurd (none o); other = λ none. fine }
           where
             none : IsOwnedAt c.program (tags_of c) f.method j k → ⊥

@@ -225,20 +225,19 @@ module _ (lawful : LawfulBuilding) (f : Frame) (fs : List Frame) (k : FrameIn la
       calls_this : (y : Bool) → frozen called.class ≡ y → started m.class r.takes k.stands.types.stack ≡ Some (types.This, m.class) → slice_get k.stands.types.stack (length (arguments called)) ≡ Some types.This
           → ((called.class == m.class) || (called.class == OBJECT_CLASS)) ≡ true → (builds frozen m ≡ true → ⊥) → IsFinished w next a → IsStoredNowhere owning.stores a → Steps w next t (CallKeeps (a ∷ rest))
       calls_this false e begun type suits_it own old clean = calls_old (built frozen called init ∙ e) old clean (subst (StartsOld (makes_frozen frozen m)) (sym begun) tt)
-      calls_this true e begun type suits_it own old clean = absurd (by_class (called.class == m.class) refl suits_it)
-        where
-          by_class : (b : Bool) → (called.class == m.class) ≡ b → (b || (called.class == OBJECT_CLASS)) ≡ true → ⊥
-          by_class true q h = elim (cases_Bool (is_init m)) [
-            | inl i ↦ own (built frozen m i ∙ sym (ap frozen same) ∙ e)
-            | inr i ↦ at_index (λ u. u ≢ types.This) k.stands.types.stack (length (arguments called)) types.This (no_this_at design f k.stands i).stack type refl
-          ]
-            where
-              same : called.class ≡ m.class
-              same = grind (arith, nat_tests, q)
-          by_class false q h =
-              let object : called.class ≡ OBJECT_CLASS = grind (arith, nat_tests, h) in
-              let file : 17 ≤ called.class = (marked.checked.program.methods number called there).class.0 in
-              absurd (omega (arith, object, file))
+      calls_this true e begun type suits_it own old clean = absurd (elim (cases_Bool (called.class == m.class)) [
+        | inl q ↦
+            let same : called.class ≡ m.class = grind (arith, nat_tests, q) in
+            elim (cases_Bool (is_init m)) [
+              | inl i ↦ own (built frozen m i ∙ sym (ap frozen same) ∙ e)
+              | inr i ↦ at_index (λ u. u ≢ types.This) k.stands.types.stack (length (arguments called)) types.This (no_this_at design f k.stands i).stack type refl
+            ]
+        | inr q ↦
+            let here : (false || (called.class == OBJECT_CLASS)) ≡ true = rw q at suits_it in
+            let object : called.class ≡ OBJECT_CLASS = grind (arith, nat_tests, here) in
+            let file : 17 ≤ called.class = (marked.checked.program.methods number called there).class.0 in
+            omega (arith, object, file)
+      ])
 
       calls_init : Steps w next t (CallKeeps (a ∷ rest))
       calls_init = by_type place.type refl place.suits_it

@@ -76,10 +76,6 @@ stores_none owned (ops.Putfield i) target e = absurd (cc)
 stores_none owned op target e = refl
 
 pub get_writes : (p : Program) (m : MethodInfo) (pc : ℕ) (target : Target) (op : Op) → is_getfield op ≡ true → (row p m pc target op).writes ≡ None
-get_writes p m pc (targets.Field fi) (ops.Getfield i) e = by_field (slice_get p.fields fi)
-  where
-    by_field : (o : Option FieldInfo) → (get_row o).writes ≡ None
-    by_field None = refl
-    by_field (Some field) = refl
+get_writes p m pc (targets.Field fi) (ops.Getfield i) e = elim (slice_get p.fields fi) as (λ (o : Option FieldInfo). (get_row o).writes ≡ None) [ None ↦ refl | Some field ↦ refl ]
 get_writes p m pc target (ops.Getfield i) e = refl
 get_writes p m pc target op e = absurd (let bad : false ≡ true = e in cc)

@@ -1,6 +1,6 @@
 -- An event that changes an element of an array that an object owns is an `iastore` of a method that runs on the object.
-use Rattle.std.proofs.Common.{◌≡◌, ◌⊎◌, inl, inr, ℕ, ◌<◌, Bool, true, false, not, List, [], ◌∷◌, length, Some, None, refl, sym, ap, ◌∙◌, subst, arith, ⊎_elim, ◌||◌, Contains, slice_index, if◌then◌else◌}
-use Rattle.std.{specs.List.AllZip, proofs.lemmas.Bool.or_parts}
+use Rattle.std.proofs.Common.{◌≡◌, ◌⊎◌, inl, inr, ℕ, ◌<◌, Bool, true, false, not, List, [], ◌∷◌, length, Some, None, refl, sym, ap, ◌∙◌, subst, arith, ⊎_elim, ◌||◌, Contains, slice_index}
+use Rattle.std.{specs.List.AllZip, proofs.lemmas.Bool.{cases_Bool, or_parts}}
 use Rattle.lists.proofs.{ListLaws.same_some, TestLaws.is_true}
 use Rattle.jvm_types.specs.{CodeTable.row, Members.is_static, ProgramInvariant.IsProgram, Types.{TypeFrame, is_below}, Verifying.{suits, some_taken, some_read, mistypes}, declared.{class_numbers.TheConstants.INT_ARRAY_CLASS, code.{Insn.Insn, Op.Op}}}
 use Rattle.jvm_types.specs.declared.{op_row.Want.Want, program.{FieldInfo.FieldInfo, MethodInfo.MethodInfo, Program.Program, Target.Target}, typing.VType.VType}
@@ -8,11 +8,11 @@ use Rattle.checked_program.specs.{MarkedProgram.MarkedProgram, OwnedArrays.{IsOw
 use Rattle.machine_types.specs.{Accesses.words_after, Construction.{IsArraySlot, IsNoStored, Runs, SlotsFrom}}
 use Rattle.machine_types.specs.{Events.wanted, OwnedPlaces.{Stores, IsElementOf}, PlainMemory.Object, Standing.{Standing, tags_of}}
 use Rattle.machine_types.specs.{Structure.{IsAs, TopIs, is_element_op}, Threads.{Frame, Thread}, Typed.{FramesHold, Holds, HasClass, HasElementIn, HasElementOn, ElementStands, IsElementOn}}
-use Rattle.machine_types.specs.{Words.{value_word, variable_word}, declared.{effect.Variable.{Variable, TheVariants.{Instance, Static}}, phase.Phase.Phase}}
+use Rattle.machine_types.specs.{Words.{value_word, variable_word}, declared.{effect.Variable.{Variable}, phase.Phase.Phase}}
 use Rattle.laws_threads.{specs.Allowed.IsNamedField, proofs.{FramePlaces.one_standing, Landing.rules_at, Standings.{are_tagged, one_insn}}}
 use Rattle.laws_states.{specs.Sites.{ValueOf, StaticAt, IsThere}, proofs.{Lists.contained_got, Movers.HeapState, Places.same_object}}
 use Rattle.laws_objects.proofs.{Buildings.{Building, in_world, FrameIn, FramesIn, PhaseIn, ThreadIn, building_in}, ColouredFrames.{coloured_class, coloured_instance}}
-use Rattle.laws_objects.proofs.PlaceWriters.{BuiltEvent, place_event, IsWriter, TopWrites, has_field, holder_of, place_changer}
+use Rattle.laws_objects.proofs.PlaceWriters.{BuiltEvent, place_event, TopWrites, has_field, holder_of, place_changer, instance_word, static_word}
 use Rattle.jvm_types.specs.declared.code.Op.TheVariants as ops
 use Rattle.jvm_types.specs.declared.typing.VType.TheVariants as types
 use Rattle.machine_types.specs.declared.phase.Phase.TheVariants as phases
@@ -117,29 +117,24 @@ module _ (decided : OwnedIsDecided) (event : BuiltEvent) (fi word : ℕ) (o : Ob
   no_field : (target : Target) (v : Variable) (f : FieldInfo)
       → IsNamedField c.program (HasClass objects) target v f
       → variable_word v ≡ value_word e.array.reference e.index → ⊥
-  no_field target v f at same = by_flag (is_static f.flags) refl
-      (ap variable_word (sym at.variable) ∙ same)
-    where
-      by_flag : (b : Bool) → is_static f.flags ≡ b
-          → variable_word (if b then Static f.index else Instance at.reference f.index) ≡ value_word
-          e.array.reference e.index → ⊥
-      by_flag true flag q =
-          let k = heap.apart.there at.number f at.there flag in
-          let site : StaticAt f.index ≡ ValueOf e.array.reference e.index =
-          differ c objects s (StaticAt f.index) (ValueOf e.array.reference e.index) marked heap
-          (k.0, k.1, k.2) is_there q in
-          cc
-      by_flag false flag q =
-          let from = holder_of heap_state at.number f at.reference at.there flag
-          (at.holder flag) in
-          let site : ValueOf at.reference f.index ≡ ValueOf e.array.reference e.index =
-          differ c objects s (ValueOf at.reference f.index)
-          (ValueOf e.array.reference e.index) marked heap from.there is_there q in
-          let reference : at.reference ≡ e.array.reference = cc in
-          let one : from.object ≡ e.array = same_object c.program objects _ heap.apart from.object
-          e.array from.known e.there (from.is ∙ reference) in
-          let file = (program.fields at.number f at.there).class.0 in
-          omega (arith, file, from.of_class, ap (λ (b : Object). b.class) one, array_class)
+  no_field target v f at same = elim (cases_Bool (is_static f.flags)) [
+    | inl flag ↦
+        let k = heap.apart.there at.number f at.there flag in
+        let site : StaticAt f.index ≡ ValueOf e.array.reference e.index =
+        differ c objects s (StaticAt f.index) (ValueOf e.array.reference e.index) marked heap
+        (k.0, k.1, k.2) is_there (sym (static_word c objects target v f at flag) ∙ same) in
+        cc
+    | inr flag ↦
+        let from = holder_of heap_state at.number f at.reference at.there flag (at.holder flag) in
+        let site : ValueOf at.reference f.index ≡ ValueOf e.array.reference e.index =
+        differ c objects s (ValueOf at.reference f.index) (ValueOf e.array.reference e.index)
+        marked heap from.there is_there (sym (instance_word c objects target v f at flag) ∙ same) in
+        let reference : at.reference ≡ e.array.reference = cc in
+        let one : from.object ≡ e.array = same_object c.program objects _ heap.apart from.object
+        e.array from.known e.there (from.is ∙ reference) in
+        let file = (program.fields at.number f at.there).class.0 in
+        omega (arith, file, from.of_class, ap (λ (b : Object). b.class) one, array_class)
+  ]
 
   -- ---- the frame that stores
 
@@ -266,19 +261,15 @@ module _ (decided : OwnedIsDecided) (event : BuiltEvent) (fi word : ℕ) (o : Ob
       frames : FramesIn seen Runs x.frames
       frames = subst (λ (phase : Phase). PhaseIn seen phase x.frames) (subst (λ (phase : Phase). IsAs phase (was t)) q (place_event event).structured.is_as) keeps.frames
 
-  abbrev Stay : Type 0
-  Stay = slice_index (words_after s.words (wanted c x x.phase)) (value_word e.array.reference e.index) ≡ slice_index s.words (value_word e.array.reference e.index)
-
   -- the word is as it was, or the thread stores it
   pub element_writer : (slice_index (words_after s.words (wanted c x x.phase)) word ≡ slice_index s.words word) ⊎ StoresElement c o word x
   element_writer = subst (λ (n : ℕ). (slice_index (words_after s.words (wanted c x x.phase)) n ≡ slice_index s.words n) ⊎ StoresElement c o word x) (sym e.place)
-      (by_change (place_changer (place_event event) (ValueOf e.array.reference e.index) tt is_there (λ f. ⊥) (StoresElement c o word x) (λ f k v n is g at same. no_field k.target v g at same) stores))
+      (elim (place_changer (place_event event) (ValueOf e.array.reference e.index) tt is_there (λ f. ⊥) (StoresElement c o word x) (λ f k v n is g at same. no_field k.target v g at same) stores) [
+        | inl still ↦ inl still
+        | inr (inl writer) ↦ absurd (never x.frames writer.top)
+        | inr (inr stored) ↦ inr stored
+      ])
     where
       never : (fs : List Frame) → TopWrites (λ f. ⊥) fs → ⊥
       never [] k = k
       never (f ∷ fs) k = k
-
-      by_change : Stay ⊎ IsWriter (λ f. ⊥) x ⊎ StoresElement c o word x → Stay ⊎ StoresElement c o word x
-      by_change (inl still) = inl still
-      by_change (inr (inl writer)) = absurd (never x.frames writer.top)
-      by_change (inr (inr stored)) = inr stored

@@ -1,6 +1,6 @@
 -- An event leaves a world in that construction stands again.
 use Rattle.std.proofs.Common.{◌≡◌, ◌≢◌, ℕ, ◌+◌, ◌≤◌, ◌⊎◌, inl, inr, Bool, true, false, List, [], ◌∷◌, length, Option, Some, None, refl, sym, ap, ◌∙◌, subst, arith, ◌==◌, Contains, slice_get, slice_set, slice_index, if◌then◌else◌}
-use Rattle.std.proofs.lemmas.Bool.{eqb-true, eqb-false, eq-eqb}
+use Rattle.std.proofs.lemmas.Bool.{cases_Bool, eqb-true, eqb-false, eq-eqb}
 use Rattle.lists.proofs.ListLaws.{same_some}
 use Rattle.jvm_types.specs.{Members.is_static, ProgramInvariant.{words_of, site_in}, declared.{class_numbers.TheConstants.{INT_ARRAY_CLASS, PRINT_STREAM_CLASS}, code.Op.Op, fixed_words.TheConstants.NEXT_FREE_WORD, outcome.Thrown.Thrown, program.{FieldInfo.FieldInfo, Kind.Kind, Target.Target}}}
 use Rattle.laws_programs.{specs.TargetLaws.HasRow, proofs.ClassTreeLaws.leaves_alone}
@@ -13,7 +13,7 @@ use Rattle.machine_types.specs.declared.effect.{Effect.TheVariants.Writes, Varia
 use Rattle.laws_threads.{specs.{Allowed.{Allowed, IsNamedField}, StateLaws.{counted_of, counted_phase_at}, StructureLaws.{StructureIsKept, counted_by}}, proofs.{Landing.{stand_top, rules_at}, Standings.top_here, ThreadMove.counting}}
 use Rattle.laws_states.{specs.{HeapFacts.{objects_by, objects_of}, Sites.ReachesIf}, proofs.{Accesses.{element_site, out_there}, Assembled.got_set, Lists.contained_got, NewHeader.behind_new, Places.same_object}}
 use Rattle.laws_states.proofs.{Movers.{HeapMover, heap_mover, heap_state}, Phases.{IsOldPhase, old_fits, events_reach}, WordSteps.words_go_on}
-use Rattle.laws_objects.{specs.ConstructionLaws.{BuildsOn, EventsKeepConstruction}, proofs.ArraySlots.StoresFine}
+use Rattle.laws_objects.{specs.ConstructionLaws.{EventsKeepConstruction}, proofs.ArraySlots.StoresFine}
 use Rattle.laws_objects.proofs.{Buildings.{Building, Moving, in_world, with_stores, FrameIn, BelowIn, FramesIn, ThreadIn, Constructed, BuiltState, building_in, sees}, BuiltEffects.{KindOld, Built}}
 use Rattle.laws_objects.proofs.{EffectOps.FitsOp, FrameChanges.IsUnwound, InstructionMoves.{IsOutside, none_outside, KnownTop, StoresNewArray, stores_as}, LostObjects.{SeenByAll, LostIn}}
 use Rattle.laws_objects.proofs.{MonitorMoves.fits, Onwards.{built_here, built_clean, fits_op}, Operands.is_getfield, PhaseMoves.{moves_keep, allowed, run_known}}
@@ -401,20 +401,13 @@ module _ (lies : StartLiesApart) (structure : StructureIsKept) (state : BuiltSta
 
       -- what is stored is an array
       array_there : (o : Object) × (Contains objects o) × (o.reference ≡ it.array) × (o.class ≡ INT_ARRAY_CLASS)
-      array_there = by_value (subst (λ (kind : Kind). KindHolds (HasClass objects) kind put) (kind_is allowed_it.1 allowed_it.2) allowed_it.3)
-        where
-          by_value : IsNullOr (HasClass objects) INT_ARRAY_CLASS put → (o : Object) × (Contains objects o) × (o.reference ≡ it.array) × (o.class ≡ INT_ARRAY_CLASS)
-          by_value (inl z) = absurd (zero_apart (sym z ∙ it.value))
-          by_value (inr k) =
-              let class : k.0 ≡ INT_ARRAY_CLASS = leaves_alone k.0 INT_ARRAY_CLASS refl k.2 in
-              (k.1.0, k.1.1, k.1.2 ∙ it.value, k.1.3 ∙ class)
+      array_there =
+          let held : IsNullOr (HasClass objects) INT_ARRAY_CLASS put = subst (λ (kind : Kind). KindHolds (HasClass objects) kind put) (kind_is allowed_it.1 allowed_it.2) allowed_it.3 in
+          elim held [ inl z ↦ absurd (zero_apart (sym z ∙ it.value)) | inr k ↦ (k.1.0, k.1.1, k.1.2 ∙ it.value, k.1.3 ∙ leaves_alone k.0 INT_ARRAY_CLASS refl k.2) ]
 
       arrays_are : (n word : ℕ) → behind n ≡ Some word → (o : Object) × (Contains objects o) × (o.reference ≡ n) × (o.class ≡ INT_ARRAY_CLASS)
-      arrays_are n word = by_test (n == it.array) refl
-        where
-          by_test : (z : Bool) → (n == it.array) ≡ z → (if z then Some (variable_word v) else owning.stores n) ≡ Some word → (o : Object) × (Contains objects o) × (o.reference ≡ n) × (o.class ≡ INT_ARRAY_CLASS)
-          by_test true q h = let k = array_there in (k.0, k.1, k.2 ∙ sym (eqb-true n it.array q), k.3)
-          by_test false q h = con.places.stored n word h
+      arrays_are n word h =
+          elim (cases_Bool (n == it.array)) [ inl q ↦ let k = array_there in (k.0, k.1, k.2 ∙ sym (eqb-true n it.array q), k.3) | inr q ↦ con.places.stored n word (rw q at h) ]
 
       null_behind : behind 0 ≡ None
       null_behind = kept_there owning.stores new 0 zero_apart ∙ fine.null
@@ -476,13 +469,8 @@ module _ (lies : StartLiesApart) (structure : StructureIsKept) (state : BuiltSta
       by_thread None e = no_thread e
       by_thread (Some x) e = of_thread x e
 
-  builds : BuildsOn c objects was s t frozen owning w
-  builds = record { later = builds_for.later; goes_on = builds_for.goes_on; stores = builds_for.stores; kept = builds_for.kept; keeps = builds_for.keeps }
-
 pub events_keep : StartLiesApart → StructureIsKept → EventsKeepConstruction
-events_keep lies structure c cfg objects was s t frozen owning w marked width facts con = builds lies structure (record {
-  constructed = record { c = c; frozen = frozen; owning = owning; w = w; was = was; objects = objects; s = s; con = con };
-  cfg = cfg;
-  marked = marked;
-  facts = facts;
-}) t
+events_keep lies structure c cfg objects was s t frozen owning w marked width facts con =
+    let state : BuiltState = record { constructed = record { c = c; frozen = frozen; owning = owning; w = w; was = was; objects = objects; s = s; con = con }; cfg = cfg; marked = marked; facts = facts } in
+    let b = builds_for lies structure state t in
+    record { later = b.later; goes_on = b.goes_on; stores = b.stores; kept = b.kept; keeps = b.keeps }

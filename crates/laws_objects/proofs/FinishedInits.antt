@@ -1,16 +1,16 @@
 -- In every run an object is finished by the return of its own `<init>` alone: until then no place and no other thread has it.
-use Rattle.std.proofs.Common.{◌≡◌, ◌≢◌, ℕ, zero, suc, ◌<◌, ◌⊎◌, inl, inr, Bool, List, [], ◌∷◌, ◌++◌, length, map, Option, Some, None, refl, sym, ap, ◌∙◌, subst, arith, ◌==◌, if◌then◌else◌, slice_get, slice_index}
-use Rattle.std.proofs.lemmas.Bool.{cases_Bool, eqb-true, eqb-false}
+use Rattle.std.proofs.Common.{◌≡◌, ◌≢◌, ℕ, zero, suc, ◌<◌, ◌⊎◌, inl, inr, Bool, List, [], ◌∷◌, ◌++◌, length, Option, Some, None, refl, sym, ap, ◌∙◌, subst, arith, ◌==◌, slice_get, slice_index, get_or, arith}
+use Rattle.std.proofs.lemmas.{Bool.{cases_Bool, eqb-true, eqb-false}, Option.{slice_get_within, slice_get-get_or}}
 use Rattle.lists.proofs.ListLaws.{same_some}
-use Rattle.jvm_types.specs.declared.{fixed_words.TheConstants.NEXT_FREE_WORD, program.Program.Program}
+use Rattle.jvm_types.specs.declared.{fixed_words.TheConstants.NEXT_FREE_WORD}
 use Rattle.checked_program.specs.MarkedProgram.{MarkedProgram}
 use Rattle.machine_types.specs.Accesses.{found_by}
-use Rattle.machine_types.specs.{Core.{Core, Happening, Of, NextPart, how_ended, with_roots, part_begins, next_threads, may_begin, event, event_of, next, all_happened, core}, Events.{wanted, moved}}
-use Rattle.machine_types.specs.{Frames.{Top, top_of, frames_of, given, given_back, returned}, Parts.{run_roots, done_roots}, PlainMemory.Object, Standing.Standing}
+use Rattle.machine_types.specs.{Core.{Core, Happening, Of, NextPart, event, event_of, next, all_happened, core}, Events.{wanted, moved}}
+use Rattle.machine_types.specs.{Frames.{Top, top_of, frames_of, given, given_back, returned}, PlainMemory.Object, Standing.Standing}
 use Rattle.machine_types.specs.{Structure.IsStructured, Threads.{Frame, Attempt, Thread}, Worlds.{Begun, Builder, builder}, declared.{config.Config.Config, phase.Phase.Phase}}
 use Rattle.machine_types.proofs.{Lists.got_when_set, PlainPartLaws.frames_are}
-use Rattle.laws_threads.{specs.{PartLaws.counted_next, StateLaws.counted_after}, proofs.{Landing.stand_top, Tests.either_way}}
-use Rattle.laws_states.{specs.{ChangeLaws.{all_objects, run_objects}, HeapFacts.objects_after}, proofs.Lists.contained_got}
+use Rattle.laws_threads.{specs.{PartLaws.counted_next, StateLaws.counted_after}, proofs.{Landing.stand_top}}
+use Rattle.laws_states.{specs.{ChangeLaws.{all_objects, run_objects}, HeapFacts.objects_after}, proofs.{BegunThreads.{begun as begun_there}, GrowingRuns.next_long, Lists.contained_got}}
 use Rattle.laws_objects.{specs.UnfinishedObjects.{ReturnsFrom, NeverReturns, NoOtherHas, FinishedByOwnReturn}, proofs.Buildings.{Building, in_world, PhaseIn, ThreadIn, building_in}}
 use Rattle.laws_objects.proofs.BuiltRuns.{Run, state_of, TellsClass, tells_class, AreBuiltLaws, BuiltThere, LostThere, BuiltIn, event_there, next_there, event_lost, next_lost, nobody_has, reached, lost_behind, core_more, objects_more}
 use Rattle.laws_objects.proofs.{FrameChanges.{frame_at, under, top_here, in_place, TriesGo, IsUnwound, FramesGo, frames_go}, ThreadMoves.BasedIn}
@@ -82,40 +82,14 @@ module _ (building : Building) (h v : ℕ) (was : Phase) (x : Thread) (keeps : T
       by_place : Splits c frozen h v r.at.frame r.at.below → IsInside c frozen h v y ⊎ HasLeft y
       by_place (inl p) = absurd (never r.at r.top p.1 frames)
       by_place (inr k) = inl (inside_behind y low high r.tries (subst (HasInit c frozen h v) (sym frames) (returned_has r.at there k)))
-  goes_inside y low high (inr (inr (inl u))) never = by_place (init_splits c frozen h v u.frame u.below (subst (HasInit c frozen h v) u.frames inside.now))
-    where
-      by_place : Splits c frozen h v u.frame u.below → IsInside c frozen h v y ⊎ HasLeft y
-      by_place (inl p) = inr (left y u high p.0 p.1)
-      by_place (inr k) = inl (inside_behind y low high u.tries (subst (HasInit c frozen h v) (sym (ap (λ (z : Thread). z.frames) u.is ∙ away_frames u.from u.thrown u.class u.below)) k))
+  goes_inside y low high (inr (inr (inl u))) never = elim (init_splits c frozen h v u.frame u.below (subst (HasInit c frozen h v) u.frames inside.now)) [
+    | inl p ↦ inr (left y u high p.0 p.1)
+    | inr k ↦ inl (inside_behind y low high u.tries (subst (HasInit c frozen h v) (sym (ap (λ (z : Thread). z.frames) u.is ∙ away_frames u.from u.thrown u.class u.below)) k))
+  ]
   goes_inside y low high (inr (inr (inr f))) never = inl (record {
     now = subst (HasInit c frozen h v) (sym f.frames) (subst (λ (o : Option Attempt). HasBack c frozen h v o x.frames) f.tried inside.goes_back);
     goes_back = subst (λ (o : Option Attempt). HasBack c frozen h v o y.frames) (sym f.ended) tt;
   })
-
--- ---- where a part begins its frames are as they were
-
-record SameInside (x y : Thread) : Type 0 where
-  frames : y.frames ≡ x.frames
-  attempt : y.attempt ≡ x.attempt
-
-abbrev OnThere : List Thread → (u : ℕ) → Thread → Type 0
-OnThere threads u x = (y : Thread) × (slice_get threads u ≡ Some y) × SameInside x y
-
-mapped_on : (roots : List ℕ) (xs : List Thread) (u : ℕ) (x : Thread) → slice_get xs u ≡ Some x → OnThere (map (with_roots roots) xs) u x
-mapped_on roots [] u x e = absurd (cc)
-mapped_on roots (z ∷ xs) zero x e = (with_roots roots z, refl, (let same : z ≡ x = same_some e in record { frames = ap (λ (y : Thread). y.frames) same; attempt = ap (λ (y : Thread). y.attempt) same }))
-mapped_on roots (z ∷ xs) (suc u) x e = mapped_on roots xs u x e
-
-part_on : (p : Program) (part : ℕ) (z : Thread) (workers : List Thread) (u : ℕ) (x : Thread) → slice_get (z ∷ workers) u ≡ Some x → OnThere (part_begins p part z workers) u x
-part_on p zero z workers zero x e = (record z { part = 1; first = how_ended z.phase }, refl, (let same : z ≡ x = same_some e in record { frames = ap (λ (y : Thread). y.frames) same; attempt = ap (λ (y : Thread). y.attempt) same }))
-part_on p zero z workers (suc u) x e = mapped_on (run_roots p) workers u x e
-part_on p (suc part) z workers zero x e = (with_roots (done_roots p) (record z { part = 2 }), refl, (let same : z ≡ x = same_some e in record { frames = ap (λ (y : Thread). y.frames) same; attempt = ap (λ (y : Thread). y.attempt) same }))
-part_on p (suc part) z workers (suc u) x e = (x, e, record { frames = refl; attempt = refl })
-
-next_on : (p : Program) (threads : List Thread) (u : ℕ) (x : Thread) → slice_get threads u ≡ Some x → OnThere (next_threads p threads) u x
-next_on p [] u x e = absurd (cc)
-next_on p (z ∷ workers) u x e = either_way (λ (b : Bool). OnThere (if b then part_begins p z.part z workers else z ∷ workers) u x) (may_begin (z ∷ workers))
-    (part_on p z.part z workers u x e) (x, e, record { frames = refl; attempt = refl })
 
 -- ---- a state in which it is unfinished
 
@@ -181,14 +155,20 @@ module _ (run : Run) (t h v : ℕ) where
 
     next_part : InsideThere c cfg frozen t h v objects (counted_next c was s) (next c s)
     next_part =
-        let on = next_on c.program s.threads t k.thread k.here in
+        let many = slice_get_within s.threads t k.thread k.here in
+        let y : Thread = get_or (next c s).threads t k.thread in
+        let there : slice_get (next c s).threads t ≡ Some y = slice_get-get_or (next c s).threads t k.thread (omega (arith, many, next_long c.program s.threads)) in
+        let b = begun_there c.program s.threads t y there in
+        let same : b.0 ≡ k.thread = same_some (sym b.1 ∙ k.here) in
+        let frames : y.frames ≡ k.thread.frames = b.2.frames ∙ ap (λ (z : Thread). z.frames) same in
+        let attempt : y.attempt ≡ k.thread.attempt = b.2.attempt ∙ ap (λ (z : Thread). z.attempt) same in
         record {
           there = next_there run objects was s k.there;
-          thread = on.0;
-          here = on.1;
+          thread = y;
+          here = there;
           inside = record {
-            now = subst (HasInit c frozen h v) (sym on.2.frames) k.inside.now;
-            goes_back = subst (λ (o : Option Attempt). HasBack c frozen h v o on.0.frames) (sym on.2.attempt) (subst (HasBack c frozen h v k.thread.attempt) (sym on.2.frames) k.inside.goes_back);
+            now = subst (HasInit c frozen h v) (sym frames) k.inside.now;
+            goes_back = subst (λ (o : Option Attempt). HasBack c frozen h v o y.frames) (sym attempt) (subst (HasBack c frozen h v k.thread.attempt) (sym frames) k.inside.goes_back);
           };
         }
 

@@ -133,6 +133,12 @@ tries_from None (Some b) fs gs from k = absurd from
 tries_from (Some a) (Some b) fs gs from k = (from.1, from.2, k a)
 tries_from o None fs gs from k = tt
 
+-- none begins where a frame has gone
+pub none_begun : (o p : Option Attempt) (fs gs : List Frame) → TriesGo o p fs gs → o ≡ None → length gs < length fs → p ≡ None
+none_begun None (Some b) fs gs tries e l = absurd (omega (arith, l, ap length tries.0))
+none_begun (Some a) (Some b) fs gs tries e l = absurd (cc)
+none_begun o None fs gs tries e l = refl
+
 pub record StaysSo (x y : Thread) : Type 0 where
   pub frames : Stay x.frames y.frames
   pub tries : TriesGo x.attempt y.attempt x.frames y.frames

@@ -77,6 +77,10 @@ module _ (c : MarkedProgram) (marked : IsMarked c) (fi : ℕ) (f : Frame) (fs : 
 
 -- ---- the thread whose top frame it is
 
+by_top : (c : MarkedProgram) (held : List Held) (IsSuch : Frame → Type 0) (P : List Frame → Type 0) → ((f : Frame) (fs : List Frame) → Stands c phases.Run (f ∷ fs) held None → IsSuch f → P (f ∷ fs)) → (fs : List Frame) → Stands c phases.Run fs held None → TopWrites IsSuch fs → P fs
+by_top c held IsSuch P each [] stands k = absurd k
+by_top c held IsSuch P each (f ∷ fs) stands k = each f fs stands k
+
 module _ (c : MarkedProgram) (was : Phase) (x : Thread) (structured : IsStructured c was x) (outside : x.attempt ≡ None) (IsSuch : Frame → Type 0) (k : IsWriter IsSuch x) where
   stands_running : Stands c phases.Run x.frames x.held None
   stands_running =
@@ -84,11 +88,7 @@ module _ (c : MarkedProgram) (was : Phase) (x : Thread) (structured : IsStructur
       subst (λ (a : Option Attempt). Stands c phases.Run x.frames x.held a) outside (subst (λ (phase : Phase). Stands c phase x.frames x.held x.attempt) running.is_as structured.stands)
 
   pub by_writer : (P : List Frame → Type 0) → ((f : Frame) (fs : List Frame) → Stands c phases.Run (f ∷ fs) x.held None → IsSuch f → P (f ∷ fs)) → P x.frames
-  by_writer P each = by_frames x.frames stands_running k.top
-    where
-      by_frames : (fs : List Frame) → Stands c phases.Run fs x.held None → TopWrites IsSuch fs → P fs
-      by_frames [] stands k = absurd k
-      by_frames (f ∷ fs) stands k = each f fs stands k
+  by_writer P each = by_top c x.held IsSuch P each x.frames stands_running k.top
 
 -- ---- the thread that stores an element
 
@@ -119,13 +119,10 @@ module _ (c : MarkedProgram) (was : Phase) (x : Thread) (structured : IsStructur
 
   pub element_stored : IsMarked c → ElementWriteLaw
       → HoldsMonitor o.reference x ⊎ MakesObject c o.reference x.frames
-  element_stored marked law = by_frames x.frames stands_before k.top
-    where
-      by_frames : (fs : List Frame) → Stands c phases.Run fs x.held None
-          → TopWrites (ElementWriter c o) fs → IsHeld o.reference x.held ⊎ MakesObject c o.reference
-          fs
-      by_frames [] stands top = absurd top
-      by_frames (f ∷ fs) stands top = element_top c marked o f fs x.held stands top law
+  element_stored marked law = by_top c x.held (ElementWriter c o)
+      (λ fs. IsHeld o.reference x.held ⊎ MakesObject c o.reference fs)
+      (λ f fs stands top. element_top c marked o f fs x.held stands top law)
+      x.frames stands_before k.top
 
 -- ---- the law
 

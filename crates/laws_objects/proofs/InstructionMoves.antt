@@ -252,13 +252,9 @@ module _ (moving : Moving) (is : Classes) where
         longer = let sizes = made_size c marked a.keeps.stands.method al.1 word size al.4 in omega (arith, gets.1, sizes.0)
 
         keeps_it : MadeIn (in_later building (with_builder k.now next (builder t (length a.below) Header)) more) next (length a.below) (making c.program at)
-        keeps_it = makes_it (sees moving) more longer a.frame a.below a.keeps a.waits al.1 word size al.0 al.2 al.3 al.4 (built_as (Makes word size) same plain) fits
-          where
-            fits : (is_getfield a.keeps.stands.insn.op ≡ false) × (is_putfield a.keeps.stands.insn.op ≡ false)
-            fits = fits_as (Makes word size) same
-
-            plain : puts_owned owning.owned a.keeps.stands.insn.op a.keeps.stands.target ≡ false
-            plain = stores_none owning.owned a.keeps.stands.insn.op a.keeps.stands.target fits.1
+        keeps_it =
+            let fits : (is_getfield a.keeps.stands.insn.op ≡ false) × (is_putfield a.keeps.stands.insn.op ≡ false) = fits_as (Makes word size) same in
+            makes_it (sees moving) more longer a.frame a.below a.keeps a.waits al.1 word size al.0 al.2 al.3 al.4 (built_as (Makes word size) same (stores_none owning.owned a.keeps.stands.insn.op a.keeps.stands.target fits.1)) fits
 
     -- ---- to a phase of a monitor, with the instruction done
 

@@ -4,10 +4,10 @@ use Rattle.jvm_types.specs.declared.{program.MethodInfo.MethodInfo, typing.VType
 use Rattle.checked_program.specs.declared.tag.Tag.{Tag}
 use Rattle.machine_types.specs.Construction.{if_so, builds, makes_frozen, SlotsAre, BuilderTurn, Runs, WaitsFor, Throws, FreshAtCall, IsFresh, ReceiverIs, SlotOf, StackWith, StackIs, puts_owned, made_world, turn_by, AfterKeeps, TowardKeeps, PhaseKeeps}
 use Rattle.machine_types.specs.{Elision.put_back, Frames.pushed, Standing.row_at, Structure.operands_in, Threads.{Frame, Attempt}}
-use Rattle.machine_types.specs.{Worlds.{Item, Header, Made, Begun, Unstored, Builder, builder, World, IsFinished, IsOwnOrFinished, with_builder}, declared.phase.{After.After, Phase.Phase, Toward.Toward}}
+use Rattle.machine_types.specs.{Worlds.{Item, Header, Made, Begun, Unstored, Builder, builder, World, IsFinished, IsOwnOrFinished}, declared.phase.{After.After, Phase.Phase, Toward.Toward}}
 use Rattle.laws_threads.proofs.Tests.{either_way}
 use Rattle.laws_objects.proofs.{Buildings.{Building, in_world, in_later, FrameIn, WaitIn, BelowIn, FramesIn, MadeIn, PhaseIn, TriesIn}, Slots.{slots_map, slot_later}}
-use Rattle.laws_objects.proofs.WorldChanges.{given_here, given_keeps, given_none, given_gone, given_back, given_none_back, GivenBack}
+use Rattle.laws_objects.proofs.WorldChanges.{given_here, given_keeps, given_none, given_gone, given_back, given_none_back}
 use Rattle.jvm_types.specs.declared.typing.VType.TheVariants as types
 use Rattle.machine_types.specs.declared.phase.After.TheVariants as afters
 use Rattle.machine_types.specs.declared.phase.Phase.TheVariants as phases
@@ -90,17 +90,15 @@ module _ (building : Building) where
 -- ---- the same with the object of a header that is still to be stored
 
 made_keeps : (w z : World) (t h a height : ℕ) (item : Option Item) → KeepsAt w z t h → KeepsAt (made_world w a t height item) (made_world z a t height item) t h
-made_keeps w z t h a height (Some item) keeps v x e = by_given (given_back w a k v (builder t h x) e)
-  where
-    k : Builder
-    k = builder t height item
-
-    by_given : GivenBack w a k v (builder t h x) → with_builder z a k v ≡ Some (builder t h x)
-    by_given (inl g) = rw (g.0, g.1) (given_here z a k)
-    by_given (inr (inl g)) = given_keeps z a k v (builder t h x) (keeps v x g.1) g.0 g.2
-    by_given (inr (inr g)) =
-        let is : builder t h k.item ≡ k = rw (ap (λ (i : Builder). i.thread) g.2, ap (λ (i : Builder). i.height) g.2) refl in
-        given_gone z a k v (subst (λ (i : Builder). z v ≡ Some i) is (keeps v k.item (subst (λ (i : Builder). w v ≡ Some i) (sym is) g.1))) g.0 ∙ ap (λ (i : Builder). Some i) (sym g.2)
+made_keeps w z t h a height (Some item) keeps v x e =
+    let k : Builder = builder t height item in
+    elim (given_back w a k v (builder t h x) e) [
+      | inl g ↦ rw (g.0, g.1) (given_here z a k)
+      | inr (inl g) ↦ given_keeps z a k v (builder t h x) (keeps v x g.1) g.0 g.2
+      | inr (inr g) ↦
+          let is : builder t h k.item ≡ k = rw (ap (λ (i : Builder). i.thread) g.2, ap (λ (i : Builder). i.height) g.2) refl in
+          given_gone z a k v (subst (λ (i : Builder). z v ≡ Some i) is (keeps v k.item (subst (λ (i : Builder). w v ≡ Some i) (sym is) g.1))) g.0 ∙ ap (λ (i : Builder). Some i) (sym g.2)
+    ]
 made_keeps w z t h a height None keeps v x e = (elim (v == a) as (λ (b : Bool). (if b then None else w v) ≡ Some (builder t h x) → (if b then None else z v) ≡ Some (builder t h x)) [ true ↦ λ e. e | false ↦ λ e. keeps v x e ]) e
 
 made_old : (w z : World) (next more a t height : ℕ) (item : Option Item) → ((v : ℕ) → IsFinished w next v → IsFinished z more v) → next ≤ more → (v : ℕ) → IsFinished (made_world w a t height item) next v → IsFinished (made_world z a t height item) more v

@@ -155,11 +155,10 @@ module _ (moving : Moving) where
     changed now fit = to now (with_phase s now) refl (from_same x.attempt) held fit
 
     turns_as : (phase : Phase) → Fits (counted_by was phase) → Fits (turned_from was) → Goal (failed_turn s phase)
-    turns_as phase fit turned = by_left (nat_lt (x.turns + 1) x.cfg.turns)
-      where
-        by_left : (left : Bool) → Goal (record s { turns = x.turns + 1; phase = if left then phase else phases.Ending ends.Turns })
-        by_left true = to (counted_by was phase) (record s { turns = x.turns + 1; phase = phase }) refl (from_same x.attempt) held fit
-        by_left false = to (turned_from was) (record s { turns = x.turns + 1; phase = phases.Ending ends.Turns }) refl (from_same x.attempt) held turned
+    turns_as phase fit turned = elim (nat_lt (x.turns + 1) x.cfg.turns) as (λ (left : Bool). Goal (record s { turns = x.turns + 1; phase = if left then phase else phases.Ending ends.Turns })) [
+      | true ↦ to (counted_by was phase) (record s { turns = x.turns + 1; phase = phase }) refl (from_same x.attempt) held fit
+      | false ↦ to (turned_from was) (record s { turns = x.turns + 1; phase = phases.Ending ends.Turns }) refl (from_same x.attempt) held turned
+    ]
 
     -- ---- what is thrown, an element and a new object
 
@@ -233,7 +232,8 @@ module _ (moving : Moving) where
     inside_as m tried a q e = runs_as (record s { attempt = Some (record a { inner = a.inner + 1 }) }) refl (deeper_from x.attempt a (a.inner + 1) q) held ((fits (phases.Enter m tried) e).0, tt)
 
     pub begins_as : (m tried noted : ℕ) (f : Frame) (below : List Frame) → x.frames ≡ f ∷ below → claim x m ≡ HasNot → was ≡ phases.Enter m tried → Goal (runs (record s { attempt = Some (begun_attempt m noted tried f below) }))
-    begins_as m tried noted f below there free e = by_left (nat_lt n x.cfg.steps)
+    begins_as m tried noted f below there free e = elim (nat_lt n x.cfg.steps) as (λ (left : Bool). Goal (record s { attempt = Some a; phase = if left then phases.Run else phases.Ending ends.Steps }))
+        [ true ↦ begin (record s { attempt = Some a; phase = phases.Run }) refl refl refl | false ↦ begin (record s { attempt = Some a; phase = phases.Ending ends.Steps }) refl refl refl ]
       where
         a : Attempt
         a = begun_attempt m noted tried f below
@@ -243,10 +243,6 @@ module _ (moving : Moving) where
 
         begin : (y : Thread) → y.frames ≡ x.frames → y.held ≡ x.held → y.attempt ≡ Some a → Moved building k.now more phases.Run y
         begin y frames hs attempt = moved_more building k.now more phases.Run y is_world grows (begun building was x k is_world m tried a f below y e none there frames hs attempt refl refl refl)
-
-        by_left : (left : Bool) → Goal (record s { attempt = Some a; phase = if left then phases.Run else phases.Ending ends.Steps })
-        by_left true = begin (record s { attempt = Some a; phase = phases.Run }) refl refl refl
-        by_left false = begin (record s { attempt = Some a; phase = phases.Ending ends.Steps }) refl refl refl
 
     pub takes_as : (m : ℕ) (kept : Kept) (phase : Phase) → Takes got m phase kept → IsAs phase was → Goal (takes s m kept)
     takes_as m kept phase took e =

@@ -11,7 +11,7 @@ use Rattle.machine_types.specs.Worlds.{Item, Header, Made, Begun, Unstored, Buil
 use Rattle.laws_threads.{specs.Allowed.{OneOf, MadeAs}, proofs.{Landing.rules_at, Standings.top_here, TopEffects.number_in}}
 use Rattle.laws_objects.proofs.{ArrayFrames.{goes_well, goes_plain}, ArrayMoves.{GivenClean, WriteClean, IsMadeWell}, Buildings.{LawfulBuilding, in_later, FrameIn, BelowIn, FramesIn, MadeIn, null}}
 use Rattle.laws_objects.proofs.{BuiltEffects.StartsNone, CalledFrames.{below_moved, none_started}, EffectOps.{is_putfield, stores_none}, KeptFrames.{below_kept, plain_stack}, Landing.LandsWell}
-use Rattle.laws_objects.proofs.{Moves.{StartsOld, lands_behind, goes_old}, Operands.{is_getfield, no_read}, PutPlaces.{is_newarray, next_puts}}
+use Rattle.laws_objects.proofs.{Moves.{StartsOld, lands_behind, goes_old}, Operands.{is_getfield, no_read}, PutPlaces.{is_newarray, newarray_is, next_puts}}
 use Rattle.laws_objects.proofs.Slots.{slot_if, slots_map_if, slots_drop, IsMade, IsWriteMade, made_slot}
 use Rattle.laws_objects.proofs.WorldChanges.{none_from, none_some, given_here, given_keeps, given_none, finished_here, finished_there, world_given, world_finished}
 use Rattle.jvm_types.specs.declared.code.Op.TheVariants as ops
@@ -275,13 +275,6 @@ module _ (lawful : LawfulBuilding) (more : ℕ) (grows : lawful.next < more) (f 
           slot false e = rw e (grows, here lawful more (length fs) grows q (item_of q false) (sort_of q false) None)
   makes_it (types.Ref class) word size edge gives writes sort none op = by_op (is_newarray k.stands.insn.op) refl
     where
-      array : is_newarray k.stands.insn.op ≡ true → k.stands.insn.op ≡ ops.Newarray
-      array e = by_name k.stands.insn.op e
-        where
-          by_name : (x : Op) → is_newarray x ≡ true → x ≡ ops.Newarray
-          by_name ops.Newarray e = refl
-          by_name x e = absurd (let bad : false ≡ true = e in cc)
-
       finished_one : LandsWell design false (frame_on (row_at c f k.stands) k.stands.insn.next next f) k.stands.method (frame_after k.stands.method (row_at c f k.stands) k.stands.types)
           → MadeIn (in_later building (with_builder w next (builder t (length fs) Header)) more) next (length fs) (making c.program (top_here c f fs k.stands))
       finished_one well = makes_as (types.Ref class) edge gives writes none op.0 op.1 k.stands.insn.pc None (no_item k.stands.insn.pc) (rules_at c marked f k.stands).behind well (λ s. cc)
@@ -300,6 +293,6 @@ module _ (lawful : LawfulBuilding) (more : ℕ) (grows : lawful.next < more) (f 
 
           by_puts : (puts : Bool) → ((j : ℕ) (other : Insn) (target : Target) (u : TagShape) → IsAt c.program (tags_of c) f.method j k.stands.method other target u → other.pc ≡ k.stands.insn.next → puts_owned owning.owned other.op target ≡ puts)
               → MadeIn (in_later building (with_builder w next (builder t (length fs) Header)) more) next (length fs) (making c.program (top_here c f fs k.stands))
-          by_puts true put = makes_unstored (types.Ref class) edge gives writes none op.0 op.1 (array e) (well true put)
+          by_puts true put = makes_unstored (types.Ref class) edge gives writes none op.0 op.1 (newarray_is k.stands.insn.op e) (well true put)
           by_puts false put = finished_one (well false put)
   makes_it type word size edge gives writes sort none op = absurd sort

@@ -75,11 +75,9 @@ module _ (lawful : LawfulBuilding) where
   hands : (x : ℕ) (class : Thrown) (f : Frame) (fs : List Frame) (k : FrameIn building (length fs) Loose f) → BelowIn building f fs → IsFinished w next x → IsStoredNowhere owning.stores x → can_throw k.stands.insn.op ≡ true
       → (o : Option Row) → handler_of f.pc (class_of class) k.stands.method.rows ≡ o → OnwardKeeps building (handed c.program x class (top_here c f fs k.stands) o)
   hands x class f fs k b old clean throws (Some r) e = (handled building (length fs) (null lawful) f k x (class_of class) r throws old clean e, below_moved building f r.handler (x ∷ []) f.locals fs b)
-  hands x class f fs k b old clean throws None e = by_flag (is_synchronized k.stands.method.flags)
-    where
-      by_flag : (s : Bool) → OnwardKeeps building (if s then Leaving (monitor_of c.program k.stands.method f) (Unwind x class) (f ∷ fs) else unwound x class fs)
-      by_flag true = (monitor_known (length fs) f.method (builds frozen k.stands.method) k.stands.method f k.stands.at.in_program k.receiver, old, (k, b))
-      by_flag false = ends_above x class f fs old b
+  hands x class f fs k b old clean throws None e =
+      either_way (λ (s : Bool). OnwardKeeps building (if s then Leaving (monitor_of c.program k.stands.method f) (Unwind x class) (f ∷ fs) else unwound x class fs)) (is_synchronized k.stands.method.flags)
+      (monitor_known (length fs) f.method (builds frozen k.stands.method) k.stands.method f k.stands.at.in_program k.receiver, old, (k, b)) (ends_above x class f fs old b)
 
   -- two places of a frame are one
   pub same_op : (f : Frame) (k h : Standing c f) → k.insn.op ≡ h.insn.op
@@ -119,11 +117,9 @@ module _ (lawful : LawfulBuilding) where
 
   pub goes_out : (f : Frame) (fs : List Frame) (k : FrameIn building (length fs) Runs f) → BelowIn building f fs → is_return k.stands.insn.op ≡ true
       → Steps w next t (λ z. OnwardKeeps (in_world building z) (returns c.program (top_here c f fs k.stands)))
-  goes_out f fs k b r = by_flag (is_synchronized k.stands.method.flags)
-    where
-      by_flag : (s : Bool) → Steps w next t (λ z. OnwardKeeps (in_world building z) (if s then Leaving (monitor_of c.program k.stands.method f) Return (f ∷ fs) else back (returned c.program (top_here c f fs k.stands))))
-      by_flag true = stays w next t (λ z. OnwardKeeps (in_world building z) (Leaving (monitor_of c.program k.stands.method f) Return (f ∷ fs))) (monitor_known (length fs) f.method (builds frozen k.stands.method) k.stands.method f k.stands.at.in_program k.receiver, tt, (k, b))
-      by_flag false = goes_below f fs k b r
+  goes_out f fs k b r =
+      either_way (λ (s : Bool). Steps w next t (λ z. OnwardKeeps (in_world building z) (if s then Leaving (monitor_of c.program k.stands.method f) Return (f ∷ fs) else back (returned c.program (top_here c f fs k.stands))))) (is_synchronized k.stands.method.flags)
+      (stays w next t (λ z. OnwardKeeps (in_world building z) (Leaving (monitor_of c.program k.stands.method f) Return (f ∷ fs))) (monitor_known (length fs) f.method (builds frozen k.stands.method) k.stands.method f k.stands.at.in_program k.receiver, tt, (k, b))) (goes_below f fs k b r)
 
   -- ---- when a monitor was left
 
@@ -220,7 +216,8 @@ module _ (lawful : LawfulBuilding) where
 
     -- a call
     calls_keep : (number : ℕ) (m : MethodInfo) → slice_get c.program.methods number ≡ Some m → called_method k.stands.insn.op k.stands.target ≡ Some number → Steps w next t (λ z. OnwardKeeps (in_world building z) (called c.program at number m))
-    calls_keep number m there calls = by_room (has_room c.program (f ∷ fs) m)
+    calls_keep number m there calls = either_way (λ (room : Bool). Steps w next t (λ z. OnwardKeeps (in_world building z) (if room then entered c.program m (entry_frame number m (arguments_of c.program at)) (waiting c.program at) else threw thrown.StackOverflowError at)))
+        (has_room c.program (f ∷ fs) m) (by_flag (is_synchronized m.flags)) (stays w next t (λ z. OnwardKeeps (in_world building z) (threw thrown.StackOverflowError at)) (throws_it thrown.StackOverflowError tt))
       where
         entry : Frame
         entry = entry_frame number m (arguments_of c.program at)
@@ -234,10 +231,6 @@ module _ (lawful : LawfulBuilding) where
             (λ z g p. (entry_known z g p.1, p.0)) (calls_it lawful f fs k b number m there calls)
         by_flag false = steps_map w next t (CallKeeps lawful f fs k b number m there calls (arguments_of c.program at)) (λ z. OnwardKeeps (in_world building z) (Running (entry_frame number m (arguments_of c.program at) ∷ waiting c.program at)))
             (λ z g p. p.0) (calls_it lawful f fs k b number m there calls)
-
-        by_room : (room : Bool) → Steps w next t (λ z. OnwardKeeps (in_world building z) (if room then entered c.program m (entry_frame number m (arguments_of c.program at)) (waiting c.program at) else threw thrown.StackOverflowError at))
-        by_room true = by_flag (is_synchronized m.flags)
-        by_room false = stays w next t (λ z. OnwardKeeps (in_world building z) (threw thrown.StackOverflowError at)) (throws_it thrown.StackOverflowError tt)
 
     call_named : (site : MethodSite) (pc number : ℕ) (op : Op) (target : Target) (row : OpRow) → HasRow c.program site pc target op row → target ≡ targets.Method number → called_method op target ≡ Some number
     call_named site pc number op target row h e = subst (λ (x : Target). called_method op x ≡ Some number) (sym e) (by_op op (subst (λ (x : Target). HasRow c.program site pc x op row) e h))

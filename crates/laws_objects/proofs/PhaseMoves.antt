@@ -1,10 +1,10 @@
 -- Each event of a thread keeps what construction says of it.
-use Rattle.std.proofs.Common.{◌≡◌, ℕ, ◌+◌, Bool, true, false, List, [], ◌∷◌, length, Option, Some, refl, sym, ap, ◌∙◌, subst, arith, drop, ◌==◌, slice_get, slice_index, if◌then◌else◌, IsTrue}
-use Rattle.std.{specs.List.{AllZip, AllByRecursion}, proofs.lemmas.Bool.{eqb-true, eq-eqb, false_from_ne_true}}
+use Rattle.std.proofs.Common.{inl, inr, ◌≡◌, ℕ, ◌+◌, Bool, true, false, List, [], ◌∷◌, length, Option, Some, refl, sym, ap, ◌∙◌, subst, arith, drop, ◌==◌, slice_get, slice_index, if◌then◌else◌, IsTrue}
+use Rattle.std.{specs.List.{AllZip, AllByRecursion}, proofs.lemmas.Bool.{cases_Bool, eqb-true, eq-eqb, false_from_ne_true}}
 use Rattle.lists.proofs.ListLaws.{same_some}
 use Rattle.jvm_types.specs.{Members.is_static, Numbers.has_number, ProgramInvariant.site_in, Types.TypeFrame, declared.{code.Op.Op, fixed_words.TheConstants.NEXT_FREE_WORD, outcome.Thrown.Thrown, program.FieldInfo.FieldInfo}}
 use Rattle.jvm_types.specs.declared.program.{Kind.Kind, MethodInfo.MethodInfo, Target.Target}
-use Rattle.laws_programs.{specs.TargetLaws.HasRow, proofs.ClassTreeLaws.files_alone}
+use Rattle.laws_programs.{specs.TargetLaws.HasRow}
 use Rattle.checked_program.specs.{Colours.is_read_of, MarkedProgram.{MarkedProgram, IsMarked}, OwnedArrays.GetsOnThis, SectionLaws.HasThis}
 use Rattle.machine_types.specs.{Accesses.{found_by, words_after}, Bounds.{IsRooted, part_roots}, Construction.{puts_owned, Runs, KindKeeps, PlaceStores, PlacesKeep}}
 use Rattle.machine_types.specs.{Core.Core, Effects.{effect, gets, variable_of}, Events.{element_made, moved}, Frames.{Top, top_of, effect_at, went_on, making}, Going.goes_on, HeldMonitors.held_at}
@@ -14,11 +14,11 @@ use Rattle.machine_types.specs.{Words.{value_word, variable_word}, Worlds.{World
 use Rattle.machine_types.specs.declared.{effect.Variable.TheVariants.{Instance, Static}, phase.Phase.Phase}
 use Rattle.laws_threads.{specs.{Allowed.{IsNamedField, Allowed}, StructureLaws.{StaysStructured, counted_by}}, proofs.{FramePlaces.one_standing_law, Landing.{stand_top, rules_at}, Standings.top_here}}
 use Rattle.laws_threads.proofs.{Inside.{stack_this, top_shows}, ThreadMove.{GoesBy, Refuses, IsNotify, Move, becomes, counting, any_move, tried_attempt}, TopEffects.allowed_here}
-use Rattle.laws_states.{specs.HeapFacts.HeapFacts, proofs.{Accesses.out_there, Lists.set_here}}
+use Rattle.laws_states.{specs.HeapFacts.HeapFacts, proofs.{Accesses.out_there, Lists.set_here, Movers.heap_state}}
 use Rattle.laws_objects.proofs.{ArrayMoves.ReadsField, Buildings.{Moving, in_world, FrameIn, BelowIn, FramesIn, sees}, BuiltEffects.KindOld, EffectOps.{FitsOp, is_putfield}}
 use Rattle.laws_objects.proofs.InstructionMoves.{Gets, KnownTop, known_top, by_top, does_as, refuses_as, nobody_as, prints_as, makes_as, waits_as, asks_as}
 use Rattle.laws_objects.proofs.MonitorMoves.{fits, stays_as, fails_as, throws_as, element_as, made_as, notified_as, leads_as, turned_as, again_as, inside_as, begins_as, takes_as, gives_up_as, outer_as, inner_as, elided_as, fattens_as, waits_as as waits_in, retakes_as}
-use Rattle.laws_objects.proofs.{Onwards.{FoundOld, FoundStored, fits_op}, PlaceWriters.{instance_word, static_word}, RootMoves.starts_as, ThreadMoves.Moved, WorldChanges.none_some}
+use Rattle.laws_objects.proofs.{Onwards.{FoundOld, FoundStored, fits_op}, PlaceWriters.{holder_of, instance_word, static_word}, RootMoves.starts_as, ThreadMoves.Moved, WorldChanges.none_some}
 use Rattle.jvm_types.specs.declared.code.Op.TheVariants as ops
 use Rattle.jvm_types.specs.declared.outcome.Thrown.TheVariants as outcomes
 use Rattle.jvm_types.specs.declared.program.Kind.TheVariants as kinds
@@ -118,16 +118,13 @@ module _ (moving : Moving) (objects : List Object) (s : Core) (facts : HeapFacts
 
   field_found : (target : Target) (v : Variable) (f : FieldInfo) → IsNamedField c.program (HasClass objects) target v f → KindOld (IsFinished k.now next) f.kind (slice_index s.words (variable_word v))
   field_found target v f at = kind_map (IsFinished k.now next) w next (λ v o. (o.0, k.now_is.others v (λ b e. absurd (none_some (w v) b o.1 e)) ∙ o.1)) f.kind (slice_index s.words (variable_word v))
-      (subst (λ (u : Variable). KindKeeps w next f.kind (slice_index s.words (variable_word u))) (sym at.variable) (by_flag (is_static f.flags) refl))
-    where
-      by_flag : (b : Bool) → is_static f.flags ≡ b → KindKeeps w next f.kind (slice_index s.words (variable_word (if b then Static f.index else Instance at.reference f.index)))
-      by_flag true e = places.statics at.number f at.there e
-      by_flag false e =
-          let holder = at.holder e in
-          let from = (marked.checked.program.fields at.number f at.there).class.0 in
-          let class : holder.1 ≡ f.class = files_alone holder.1 f.class from holder.3 in
-          let object = holder.2.0 in
-          subst (λ (a : ℕ). KindKeeps w next f.kind (slice_index s.words (value_word a f.index))) holder.2.2 (places.fields object at.number f holder.2.1 at.there e (holder.2.3 ∙ class))
+      (elim (cases_Bool (is_static f.flags)) [
+        | inl e ↦ subst (λ (n : ℕ). KindKeeps w next f.kind (slice_index s.words n)) (sym (static_word c objects target v f at e)) (places.statics at.number f at.there e)
+        | inr e ↦
+            let holder = holder_of (heap_state c marked objects s facts) at.number f at.reference at.there e (at.holder e) in
+            subst (λ (n : ℕ). KindKeeps w next f.kind (slice_index s.words n)) (sym (instance_word c objects target v f at e))
+            (subst (λ (a : ℕ). KindKeeps w next f.kind (slice_index s.words (value_word a f.index))) holder.is (places.fields holder.object at.number f holder.known at.there e holder.of_class))
+      ])
 
   module _ (here : x.phase ≡ phases.Run) (is_run : was ≡ phases.Run) where
     module _ (f : Frame) (fs : List Frame) (there : x.frames ≡ f ∷ fs) (kf : FrameIn (in_world building k.now) (length fs) Runs f) (b : BelowIn (in_world building k.now) f fs) (h : FrameHolds c (HasClass objects) 0 f) where
@@ -160,12 +157,9 @@ module _ (moving : Moving) (objects : List Object) (s : Core) (facts : HeapFacts
         -- where the field is one of an object
         at_place : is_static field.flags ≡ false → PlaceStores owning.stores (value_word named.reference field.index) (owning.owned named.number) field.kind (slice_index s.words (value_word named.reference field.index))
         at_place static =
-            let holder = named.holder static in
-            let from = (marked.checked.program.fields named.number field named.there).class.0 in
-            let class : holder.1 ≡ field.class = files_alone holder.1 field.class from holder.3 in
-            let object = holder.2.0 in
-            subst (λ (a : ℕ). PlaceStores owning.stores (value_word a field.index) (owning.owned named.number) field.kind (slice_index s.words (value_word a field.index))) holder.2.2
-            (places.arrays object named.number field holder.2.1 named.there static (holder.2.3 ∙ class))
+            let holder = holder_of (heap_state c marked objects s facts) named.number field named.reference named.there static (named.holder static) in
+            subst (λ (a : ℕ). PlaceStores owning.stores (value_word a field.index) (owning.owned named.number) field.kind (slice_index s.words (value_word a field.index))) holder.is
+            (places.arrays holder.object named.number field holder.known named.there static holder.of_class)
 
         -- the reference is the one on the stack
         on_stack : (op : Op) (stack : List ℕ) (n : ℕ) (i : ℕ) → op ≡ ops.Getfield i → kf.stands.insn.op ≡ op → f.stack ≡ stack → is_static field.flags ≡ false → slice_index f.stack 0 ≡ named.reference
@@ -176,15 +170,14 @@ module _ (moving : Moving) (objects : List Object) (s : Core) (facts : HeapFacts
 
             by_stack : (vs : List ℕ) → f.stack ≡ vs → gets (Some field) vs ≡ Reads v → slice_index f.stack 0 ≡ named.reference
             by_stack [] e h = absurd (cc)
-            by_stack (a ∷ vs) e h = ap (λ (l : List ℕ). slice_index l 0) e ∙ by_null (a == 0) h
-              where
-                by_null : (z : Bool) → (if z then Throws outcomes.NullPointerException else Reads (variable_of field a)) ≡ Reads v → a ≡ named.reference
-                by_null true h = absurd (cc)
-                by_null false h =
-                    let one : variable_of field a ≡ v = cc in
-                    let of_flag : (r : ℕ) → variable_of field r ≡ Instance r field.index = λ r. ap (λ (t : Bool). if t then Static field.index else Instance r field.index) static in
-                    let both : Instance a field.index ≡ Instance named.reference field.index = sym (of_flag a) ∙ (one ∙ (named.variable ∙ of_flag named.reference)) in
-                    cc
+            by_stack (a ∷ vs) e h = ap (λ (l : List ℕ). slice_index l 0) e ∙ (elim (a == 0) as (λ (z : Bool). (if z then Throws outcomes.NullPointerException else Reads (variable_of field a)) ≡ Reads v → a ≡ named.reference) [
+              | true ↦ λ h. absurd (cc)
+              | false ↦ λ h.
+                  let one : variable_of field a ≡ v = cc in
+                  let of_flag : (r : ℕ) → variable_of field r ≡ Instance r field.index = λ r. ap (λ (t : Bool). if t then Static field.index else Instance r field.index) static in
+                  let both : Instance a field.index ≡ Instance named.reference field.index = sym (of_flag a) ∙ (one ∙ (named.variable ∙ of_flag named.reference)) in
+                  cc
+            ]) h
 
         reads_own_array : (n : ℕ) → Reads_it n → (word : ℕ) → IsFieldWord c n f.receiver word → IsStoredAt owning.stores word (slice_index s.words (variable_word v))
         reads_own_array n reads word is = by_op kf.stands.insn.op refl kf.stands.target refl reads.1

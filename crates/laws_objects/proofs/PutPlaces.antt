@@ -15,6 +15,10 @@ abbrev pub is_newarray : Op → Bool
 is_newarray ops.Newarray = true
 is_newarray op = false
 
+pub newarray_is : (op : Op) → is_newarray op ≡ true → op ≡ ops.Newarray
+newarray_is ops.Newarray e = refl
+newarray_is op e = absurd (let bad : false ≡ true = e in cc)
+
 -- ---- branches
 
 -- an element that passes a test

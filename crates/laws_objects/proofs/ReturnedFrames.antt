@@ -8,7 +8,7 @@ use Rattle.jvm_types.specs.declared.{op_row.{Given.TheVariants.Fresh as Anew, Op
 use Rattle.jvm_types.specs.declared.{code.Insn.Insn, program.{MethodInfo.MethodInfo, Target.Target}, typing.VType.VType}
 use Rattle.jvm_types.proofs.EachAfter.{all_append}
 use Rattle.laws_programs.{specs.RuleLaws.{ReturnsWell, ReturnsTop}, proofs.RuleUses.returns_suit_all}
-use Rattle.checked_program.specs.{CheckedLaws.receiver_want, Colours.is_read_of, LockTags.TagShape, Marks.called_method, TaggedCode.IsAt, Tagging.moved_tags, declared.tag.Tag.{Tag, TheVariants.Untagged}}
+use Rattle.checked_program.specs.{CheckedLaws.receiver_want, LockTags.TagShape, TaggedCode.IsAt, Tagging.moved_tags, declared.tag.Tag.{Tag, TheVariants.Untagged}}
 use Rattle.machine_types.specs.Construction.{puts_owned, builds, makes_frozen, if_so, SlotsAre, Runs, WaitsFor, FreshAtCall, IsFresh, ReceiverIs, SlotOf, IsNoStored, IsArraySlot, SlotsFrom}
 use Rattle.machine_types.specs.{Frames.given_back, OwnedPlaces.IsStoredNowhere, Standing.{Standing, row_at, tags_of}, Threads.Frame, Worlds.{Made, Begun, Builder, builder, World, IsFinished}}
 use Rattle.laws_threads.proofs.{Callers.{call_edge, row_of_call}, Calls.CallRow, Landing.rules_at, TopEffects.number_in}
@@ -17,7 +17,7 @@ use Rattle.laws_objects.proofs.ArraySlots.{IsStart, each_from, no_stored_along, 
 use Rattle.laws_objects.proofs.{Buildings.{Building, LawfulBuilding, in_world, FrameIn, WaitIn, BelowIn, FramesIn, null, inside}, BuiltEffects.{KindOld, StartsNone}}
 use Rattle.laws_objects.proofs.{CalledFrames.{call_takes, below_moved, arguments_start, none_started}, Calling.class_frozen, KeptFrames.{below_kept, plain_stack}}
 use Rattle.laws_objects.proofs.Moves.{Steps, stays, drops, StartsOld, StartsYoung, Starts, starts, is_start, Suit, suit_at, tags_fine, old_started, lands_behind, receiver_without, slots_finished}
-use Rattle.laws_objects.proofs.{Operands.{TakenOld, takes_any, no_getfield, takes_old}, PutPlaces.edge_plain, Slots.{slots_map, slots_long, slot_later, made_slot}}
+use Rattle.laws_objects.proofs.{Operands.{TakenOld, takes_any, no_read, no_getfield, takes_old}, PutPlaces.edge_plain, Slots.{slots_map, slots_long, slot_later, made_slot}}
 use Rattle.laws_objects.proofs.WorldChanges.{without, without_gone, without_keeps, finished_without}
 use Rattle.jvm_types.specs.declared.code.Op.TheVariants as ops
 use Rattle.jvm_types.specs.declared.program.Kind.TheVariants as kinds
@@ -194,10 +194,6 @@ module _ (lawful : LawfulBuilding) (resuming : Resuming lawful) where
   is_begun_type : IsStart (started k.method.class r.takes k.types.stack)
   is_begun_type = is_start k.method (makes_frozen frozen k.method) (started k.method.class r.takes k.types.stack) (starts k.method (makes_frozen frozen k.method) r.takes k.types.stack (suit_at c marked g k))
 
-  no_read : (fi : ℕ) (op : Op) (target : Target) → called_method op target ≡ Some number → is_read_of fi op target ≡ true → ⊥
-  no_read fi (ops.Getfield i) target e h = (let bad : None ≡ Some number = e in cc)
-  no_read fi op target e h = (let bad : false ≡ true = h in cc)
-
   kind_type : (kind : Kind) (v : ℕ) → KindOld (IsStoredNowhere owning.stores) kind v → IsNoStored owning.stores (type_of kind) v
   kind_type (kinds.Ref class) v h = h
   kind_type kind v h = tt
@@ -233,7 +229,7 @@ module _ (lawful : LawfulBuilding) (resuming : Resuming lawful) where
         (subst (λ (vs : List ℕ). SlotsFrom (IsArraySlot c owning.stores (record g { pc = wait.keeps.stands.insn.next; stack = vs ++ g.stack }) j) 0 (stack_after types.Top (λ t. t) r k.types.stack k.types.locals) (vs ++ g.stack)) same
         (stack_clean c marked owning.stores g k k.types.stack k.types.locals (padded (length r.takes) g.stack) g.locals made.0 k.insn.next g.stack g.locals
         (λ q. at_padded (length r.takes) g.stack q (length r.takes + q) refl)
-        (record { read = λ fi reads word is. absurd (no_read fi k.insn.op k.target wait.calls reads.1); other = λ none. (clean, written); written = written })
+        (record { read = λ fi reads word is. absurd (no_read fi k.insn.op k.target (no_getfield k.insn.op (call_takes k.insn.op k.target number wait.calls).0) reads.1); other = λ none. (clean, written); written = written })
         j other target u at edge
         (each_source (SourceFine c marked owning.stores g k k.types.stack k.types.locals (padded (length r.takes) g.stack) g.locals made.0) (length r.takes) slot_behind r.gives
         (subst (AllByRecursion (SourceFine c marked owning.stores g k k.types.stack k.types.locals (padded (length r.takes) g.stack) g.locals made.0)) (sym gives_are) (fresh_only _ (λ t. tt) called.result)))))

@@ -1,7 +1,7 @@
 -- Where an instruction begins outside attempts, the thread holds each monitor that its top frame shows: that of its receiver where
 -- a tag of `this` is held, and where the method is synchronized on it, and that of its class where it is synchronized on that.
-use Rattle.std.proofs.Common.{◌≡◌, ◌⊎◌, inl, inr, ℕ, ◌+◌, ◌<◌, Bool, true, false, not, List, [], ◌∷◌, ◌++◌, map, Option, Some, None, refl, sym, subst, arith, ◌==◌, ◌&&◌, if◌then◌else◌}
-use Rattle.std.specs.List.{list_any}
+use Rattle.std.proofs.Common.{◌≡◌, ◌⊎◌, inl, inr, ℕ, ◌+◌, ◌<◌, Bool, true, false, not, List, [], ◌∷◌, ◌++◌, map, Option, Some, None, refl, sym, subst, arith, ◌==◌, if◌then◌else◌}
+use Rattle.std.{specs.List.list_any, proofs.lemmas.Bool.cases_Bool}
 use Rattle.lists.proofs.TestLaws.{both_are_true}
 use Rattle.jvm_types.specs.{ClassNames.file_of_class, Members.{is_static, is_synchronized}, declared.program.{MethodInfo.MethodInfo, Program.Program}}
 use Rattle.checked_program.specs.{FrozenPlaces.{locks_this, locks_class}, LockTags.{TagShape, is_this}, MarkedProgram.{MarkedProgram, IsMarked}, declared.tag.Tag.Tag}
@@ -34,11 +34,9 @@ tag_counted choice receiver (Untagged ∷ held) e = later_counted receiver 0 (ma
 tag_counted choice receiver (At pc ∷ held) e = later_counted receiver (choice pc) (map (tag_value choice receiver) held) (tag_counted choice receiver held e)
 
 method_counted : (p : Program) (m : MethodInfo) (f : Frame) → locks_this m ≡ true → 0 < count_in f.receiver (own_entry p m f)
-method_counted p m f e = by_flags (is_synchronized m.flags) (is_static m.flags) e
-  where
-    by_flags : (b s : Bool) → (b && not s) ≡ true → 0 < count_in f.receiver (if b then (if s then class_object p (file_of_class m.class) else f.receiver) ∷ [] else [])
-    by_flags true false e = once_in f.receiver []
-    by_flags b s e = absurd (cc)
+method_counted p m f e =
+    let parts = both_are_true (is_synchronized m.flags) (not (is_static m.flags)) e in
+    elim (cases_Bool (is_static m.flags)) [ inl s ↦ absurd (let bad : false ≡ true = rw s at parts.1 in cc) | inr s ↦ rw (parts.0, s) (once_in f.receiver []) ]
 
 -- ---- what it shows of its class
 

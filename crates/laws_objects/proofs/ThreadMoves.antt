@@ -1,5 +1,5 @@
 -- A thread that has moved keeps what construction says of it, in and outside of an attempt.
-use Rattle.std.proofs.Common.{◌≡◌, ◌≢◌, ℕ, ◌-◌, ◌<◌, ◌≤◌, ◌⊎◌, inl, inr, Bool, true, false, cond, List, [], ◌∷◌, length, drop, Option, Some, None, refl, sym, ap, ◌∙◌, subst, arith, ◌==◌, nat_lt, Contains, IfSome}
+use Rattle.std.proofs.Common.{◌≡◌, ◌≢◌, ℕ, ◌-◌, ◌<◌, ◌≤◌, ◌⊎◌, inl, inr, Bool, cond, List, [], ◌∷◌, length, drop, Option, Some, None, refl, sym, ap, ◌∙◌, subst, arith, ◌==◌, nat_lt, Contains, IfSome}
 use Rattle.std.{specs.List.AllByRecursion, proofs.lemmas.Bool.{cases_Bool, eqb-true, eqb-false}}
 use Rattle.jvm_types.specs.ProgramInvariant.{words_of}
 use Rattle.laws_programs.proofs.LocalGoing.{at_index}
@@ -8,7 +8,7 @@ use Rattle.machine_types.specs.{Construction.{Runs, PhaseKeeps}, Elision.put_bac
 use Rattle.machine_types.specs.{HeldMonitors.{held_at, with_held, without_held}, Onward.{Onward, Running, Throwing, Entering, Leaving, RootReturned, Uncaught}}
 use Rattle.machine_types.specs.{Structure.{IsStructured, AttemptStandsIn}, Threads.{Frame, Attempt, Thread}, Worlds.{Lost, Builder, World, IsFinished, IsOwnOrFinished, IsWorld, IsViewOf, GoesOn}}
 use Rattle.machine_types.specs.declared.{lock.Held.Held, phase.Phase.Phase}
-use Rattle.laws_threads.{specs.{EntryFrames.{frames_in, KeepsEntry}, StructureLaws.counted_by}, proofs.{HeldBounds.{each_put, each_without, found}, ThreadMove.{goes_held, goes_attempt}}}
+use Rattle.laws_threads.{specs.{EntryFrames.{frames_in, KeepsEntry}, StructureLaws.counted_by}, proofs.{HeldBounds.{each_put, each_without, found}, Tests.either_way, ThreadMove.{goes_held, goes_attempt}}}
 use Rattle.laws_states.proofs.Lists.{contained_got, contains_first, contains_more}
 use Rattle.laws_objects.proofs.{Buildings.{Building, in_world, in_later, with_stores, FramesIn, PhaseIn, TriesIn, AttemptIn, ThreadIn}, CountedPhases.PhaseFits}
 use Rattle.laws_objects.proofs.{KeptFrames.{KeepsAt, phase_frames_kept, phase_kept, attempt_kept}, Moves.Steps, Onwards.OnwardKeeps, Views.{IsOwnIn, IsNoneOf, own_or_not, known_on}}
@@ -190,25 +190,29 @@ module _ (building : Building) (was : Phase) (x : Thread) (k : ThreadIn building
           }
       by_both o e None f from entry = (in_none owning.stores next now y f held s).moves
 
+  -- into the world as it was
+  as_it_was : (phase : Phase) (y : Thread) → y.held ≡ x.held → PhaseIn building phase y.frames → PhaseKeeps w next t phase → TriesIn building y.frames y.attempt → Moved building k.now next phase y
+  as_it_was phase y held frames keeps tries = record {
+    later = w;
+    goes = goes_same w next next t (omega arith);
+    world = λ z. z;
+    keeps = record {
+      now = w;
+      now_is = same_view w t y.attempt;
+      now_world = λ z. z;
+      frames = frames;
+      phase = keeps;
+      held = subst (λ (hs : List Held). (h : Held) → Contains hs h → IsOwnOrFinished w next t h.monitor) (sym held) k.held;
+      attempt = tries;
+    };
+    lost = λ v b item e f. (e, e);
+  }
+
   -- an attempt fails
   pub failed : (a : Attempt) (y : Thread) → x.attempt ≡ Some a → y.frames ≡ put_back a x.frames → y.held ≡ x.held → y.attempt ≡ None → Moved building k.now next (phases.Enter a.monitor a.number) y
   failed a y e frames held none =
       let kept : AttemptIn building x.frames a = subst (TriesIn building x.frames) e k.attempt in
-      record {
-        later = w;
-        goes = goes_same w next next t (omega arith);
-        world = λ z. z;
-        keeps = record {
-          now = w;
-          now_is = same_view w t y.attempt;
-          now_world = λ z. z;
-          frames = subst (FramesIn building Runs) (sym frames) kept.goes_back;
-          phase = kept.monitor;
-          held = subst (λ (hs : List Held). (h : Held) → Contains hs h → IsOwnOrFinished w next t h.monitor) (sym held) k.held;
-          attempt = subst (TriesIn building y.frames) (sym none) tt;
-        };
-        lost = λ v b item e f. (e, e);
-      }
+      as_it_was (phases.Enter a.monitor a.number) y held (subst (FramesIn building Runs) (sym frames) kept.goes_back) kept.monitor (subst (TriesIn building y.frames) (sym none) tt)
 
   -- an attempt begins
   pub begun : (m tried : ℕ) (a : Attempt) (f : Frame) (below : List Frame) (y : Thread) → was ≡ phases.Enter m tried → x.attempt ≡ None → x.frames ≡ f ∷ below → y.frames ≡ x.frames → y.held ≡ x.held → y.attempt ≡ Some a → a.monitor ≡ m → a.base ≡ length below → a.entry ≡ f
@@ -219,39 +223,22 @@ module _ (building : Building) (was : Phase) (x : Thread) (k : ThreadIn building
       let known : IsOwnOrFinished w next t m = subst (λ (z : World). IsOwnOrFinished z next t m) back (subst (PhaseKeeps k.now next t) is k.phase) in
       let one : length (f ∷ below) - length below ≡ 1 = omega arith in
       let whole : put_back a y.frames ≡ x.frames = ap (put_back a) (frames ∙ there) ∙ (λ i. entry i ∷ drop (length (f ∷ below) - base i) (f ∷ below)) ∙ ap (λ (n : ℕ). f ∷ drop n (f ∷ below)) one ∙ sym there in
-      record {
-        later = w;
-        goes = goes_same w next next t (omega arith);
-        world = λ z. z;
-        keeps = record {
-          now = w;
-          now_is = same_view w t y.attempt;
-          now_world = λ z. z;
-          frames = subst (FramesIn building Runs) (sym frames) stood;
-          phase = tt;
-          held = subst (λ (hs : List Held). (h : Held) → Contains hs h → IsOwnOrFinished w next t h.monitor) (sym held) k.held;
-          attempt = subst (TriesIn building y.frames) (sym e) (record { monitor = subst (IsOwnOrFinished w next t) (sym monitor) known; goes_back = subst (FramesIn building Runs) (sym whole) stood });
-        };
-        lost = λ v b item e f. (e, e);
-      }
+      as_it_was phases.Run y held (subst (FramesIn building Runs) (sym frames) stood) tt
+      (subst (TriesIn building y.frames) (sym e) (record { monitor = subst (IsOwnOrFinished w next t) (sym monitor) known; goes_back = subst (FramesIn building Runs) (sym whole) stood }))
 
   -- ---- it goes on
 
   runs_sees : (s : Thread) (fs : List Frame) → Steps k.now next t (λ z. FramesIn (in_world building z) Runs fs) → Sees (in_world building k.now) next (counted_by was (runs (record s { frames = fs })).phase) (runs (record s { frames = fs }))
-  runs_sees s fs o = by_limit (nat_lt s.counts.instructions s.cfg.steps)
-    where
-      by_limit : (left : Bool) → Sees (in_world building k.now) next (counted_by was (cond left phases.Run (phases.Ending ends.Steps))) (record s { frames = fs; phase = cond left phases.Run (phases.Ending ends.Steps) })
-      by_limit true = record { later = o.later; goes = o.goes; world = o.world (words_of c.program); lost = o.lost; fits = (o.keeps, tt) }
-      by_limit false = record { later = o.later; goes = o.goes; world = o.world (words_of c.program); lost = o.lost; fits = (o.keeps, tt) }
+  runs_sees s fs o = either_way (λ (left : Bool). Sees (in_world building k.now) next (counted_by was (cond left phases.Run (phases.Ending ends.Steps))) (record s { frames = fs; phase = cond left phases.Run (phases.Ending ends.Steps) })) (nat_lt s.counts.instructions s.cfg.steps)
+      (record { later = o.later; goes = o.goes; world = o.world (words_of c.program); lost = o.lost; fits = (o.keeps, tt) })
+      (record { later = o.later; goes = o.goes; world = o.world (words_of c.program); lost = o.lost; fits = (o.keeps, tt) })
 
   -- outside an attempt, where other arrays were stored then
   pub runs_to : (after : Stores) (s : Thread) (fs : List Frame) (o : Steps k.now next t (λ z. FramesIn (in_world (with_stores building after) z) Runs fs)) → s.attempt ≡ None → AreKnown w next t s.held
       → MovedTo (with_stores building after) k.now next (counted_by was (runs (record s { frames = fs })).phase) (runs (record s { frames = fs })) o.later
-  runs_to after s fs o none held = by_limit (nat_lt s.counts.instructions s.cfg.steps)
-    where
-      by_limit : (left : Bool) → MovedTo (with_stores building after) k.now next (counted_by was (cond left phases.Run (phases.Ending ends.Steps))) (record s { frames = fs; phase = cond left phases.Run (phases.Ending ends.Steps) }) o.later
-      by_limit true = in_none after next phases.Run (record s { frames = fs; phase = phases.Run }) none held (record { later = o.later; goes = o.goes; world = o.world (words_of c.program); lost = o.lost; fits = (o.keeps, tt) })
-      by_limit false = in_none after next (counted_by was (phases.Ending ends.Steps)) (record s { frames = fs; phase = phases.Ending ends.Steps }) none held (record { later = o.later; goes = o.goes; world = o.world (words_of c.program); lost = o.lost; fits = (o.keeps, tt) })
+  runs_to after s fs o none held = either_way (λ (left : Bool). MovedTo (with_stores building after) k.now next (counted_by was (cond left phases.Run (phases.Ending ends.Steps))) (record s { frames = fs; phase = cond left phases.Run (phases.Ending ends.Steps) }) o.later) (nat_lt s.counts.instructions s.cfg.steps)
+      (in_none after next phases.Run (record s { frames = fs; phase = phases.Run }) none held (record { later = o.later; goes = o.goes; world = o.world (words_of c.program); lost = o.lost; fits = (o.keeps, tt) }))
+      (in_none after next (counted_by was (phases.Ending ends.Steps)) (record s { frames = fs; phase = phases.Ending ends.Steps }) none held (record { later = o.later; goes = o.goes; world = o.world (words_of c.program); lost = o.lost; fits = (o.keeps, tt) }))
 
   pub onward_sees : (s : Thread) (o : Onward) → Steps k.now next t (λ z. OnwardKeeps (in_world building z) o) → Sees (in_world building k.now) next (counted_by was (goes_on s o).phase) (goes_on s o)
   onward_sees s (Running fs) o = runs_sees s fs o

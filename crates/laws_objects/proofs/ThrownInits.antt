@@ -1,16 +1,16 @@
 -- Once the `<init>` of a frozen class has thrown, nobody has its object.
-use Rattle.std.proofs.Common.{◌≡◌, ℕ, inl, inr, Bool, true, false, List, [], ◌∷◌, ◌++◌, length, Option, Some, None, refl, sym, ap, ◌∙◌, subst, arith, nat_lt, if◌then◌else◌, slice_get}
+use Rattle.std.proofs.Common.{◌≡◌, ℕ, inl, inr, Bool, true, false, List, [], ◌∷◌, ◌++◌, length, Option, Some, None, sym, ap, ◌∙◌, subst, arith, nat_lt, if◌then◌else◌, slice_get}
 use Rattle.lists.proofs.ListLaws.{same_some}
 use Rattle.jvm_types.specs.declared.{outcome.Thrown.Thrown, program.MethodInfo.MethodInfo}
 use Rattle.checked_program.specs.MarkedProgram.{MarkedProgram}
 use Rattle.machine_types.specs.{Accesses.found_by, Construction.Throws as Loose, Core.{Core, Happening, Of, event, event_of, all_happened, core}, Events.{wanted, moved}}
-use Rattle.machine_types.specs.{Frames.returned, Going.{root_over, goes_on}, Onward.back, PlainMemory.Object, Threads.{Frame, Attempt, Thread}, Worlds.{Begun, builder}}
+use Rattle.machine_types.specs.{Frames.returned, Going.{root_over, goes_on}, Onward.back, PlainMemory.Object, Threads.{Frame, Thread}, Worlds.{Begun, builder}}
 use Rattle.machine_types.{specs.declared.phase.Phase.Phase, proofs.Lists.got_when_set}
 use Rattle.laws_threads.specs.StateLaws.{counted_after}
 use Rattle.laws_states.specs.{ChangeLaws.run_objects, HeapFacts.objects_after}
 use Rattle.laws_objects.{specs.UnfinishedObjects.{IsInitOn, ThrowsOut, NobodyHas, ThrownInitsLeaveNoUse}, proofs.Buildings.{Building, in_world, FramesIn, ThreadIn, building_in}}
 use Rattle.laws_objects.proofs.BuiltRuns.{Run, state_of, TellsClass, tells_class, AreBuiltLaws, BuiltThere, LostThere, BuiltIn, reached, all_lost, lost_behind, core_more, objects_more}
-use Rattle.laws_objects.proofs.{FrameChanges.{frame_at, counted_below, top_here, Stay, TriesGo, IsUnwound, FramesGo, frames_go}, LosingInits.init_begun, WorldChanges.none_some}
+use Rattle.laws_objects.proofs.{FrameChanges.{frame_at, counted_below, top_here, none_begun, Stay, IsUnwound, FramesGo, frames_go}, LosingInits.init_begun, WorldChanges.none_some}
 use Rattle.jvm_types.specs.declared.outcome.End.TheVariants as ends
 use Rattle.machine_types.specs.declared.phase.Phase.TheVariants as phases
 
@@ -42,20 +42,13 @@ module _ (c : MarkedProgram) (was : Phase) (v : ℕ) (s : Core) (t : ℕ) (k : T
     pub ended : k.later.attempt ≡ None
     pub init : IsInitOn c v unwound.frame
 
-  ended : (o : Option Attempt) → k.later.attempt ≡ o → TriesGo k.thread.attempt k.later.attempt k.thread.frames k.later.frames → k.later.attempt ≡ None
-  ended None e tries = e
-  ended (Some b) e tries =
-      let begun : TriesGo None (Some b) k.thread.frames k.later.frames = subst (λ (o : Option Attempt). TriesGo None o k.thread.frames k.later.frames) e (subst (λ (o : Option Attempt). TriesGo o k.later.attempt k.thread.frames k.later.frames) k.outside tries) in
-      let long : length k.below ≡ length (k.frame ∷ k.below) = ap length (sym k.gone ∙ begun.0 ∙ k.frames) in
-      absurd (omega (arith, long))
-
   top_of_both : (f : Frame) (below : List Frame) → k.thread.frames ≡ f ∷ below → k.frame ≡ f
   top_of_both f below e = let same : k.frame ∷ k.below ≡ f ∷ below = sym k.frames ∙ e in cc
 
   pub goes_away : FramesGo c was k.thread k.later → GoesAway
   goes_away (inl stays) = absurd (no_fewer k.thread.frames k.below k.frame k.frames (subst (Stay k.thread.frames) k.gone stays.frames))
   goes_away (inr (inl r)) = absurd (back_throws_not r.from (returned c.program r.at) k.thrown k.class (ap (λ (z : Thread). z.phase) (sym r.is) ∙ k.throws))
-  goes_away (inr (inr (inl u))) = record { unwound = u; ended = ended k.later.attempt refl u.tries; init = subst (IsInitOn c v) (top_of_both u.frame u.below u.frames) k.init }
+  goes_away (inr (inr (inl u))) = record { unwound = u; ended = none_begun k.thread.attempt k.later.attempt k.thread.frames k.later.frames u.tries k.outside (omega (arith, ap length k.gone, ap length k.frames)); init = subst (IsInitOn c v) (top_of_both u.frame u.below u.frames) k.init }
   goes_away (inr (inr (inr failed))) = absurd (none_some k.thread.attempt failed.attempt k.outside failed.tried)
 
 -- ---- every run

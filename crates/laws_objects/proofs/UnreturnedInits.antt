@@ -8,7 +8,7 @@ use Rattle.machine_types.specs.{Elision.put_back, Going.goes_on, Onward.{back, u
 use Rattle.machine_types.specs.{Worlds.{Item, Begun, Lost, Builder, builder}, declared.phase.Phase.Phase}
 use Rattle.laws_objects.{specs.UnfinishedObjects.IsInitOn, proofs.Buildings.{Building, in_world, BelowIn, FramesIn, PhaseIn, AttemptIn, TriesIn, ThreadIn}}
 use Rattle.laws_objects.proofs.{FrameChanges.{frame_at, counted_below, top_or, in_place, Stay, TriesGo}, LosingInits.init_begun, ThreadMoves.{BasedIn, based_in}}
-use Rattle.laws_objects.proofs.WorldChanges.{GivenBack, given_back, finished_back}
+use Rattle.laws_objects.proofs.WorldChanges.{given_back, finished_back}
 use Rattle.machine_types.specs.declared.phase.Phase.TheVariants as phases
 
 -- ---- some frame at a height is an `<init>` of a class that the test tells, on the object v
@@ -60,12 +60,11 @@ module _ (building : Building) (h v : ℕ) where
 
   -- also before the header of a new object is stored
   made_begun : (a height : ℕ) (item : Option Item) → (item ≡ Some Begun → ⊥) → made_world w a t height item v ≡ Some (builder t h Begun) → w v ≡ Some (builder t h Begun)
-  made_begun a height (Some x) other e = by_given (given_back w a (builder t height x) v (builder t h Begun) e)
-    where
-      by_given : GivenBack w a (builder t height x) v (builder t h Begun) → w v ≡ Some (builder t h Begun)
-      by_given (inl g) = absurd (other (ap (λ (b : Builder). Some b.item) (sym g.1)))
-      by_given (inr (inl g)) = g.1
-      by_given (inr (inr g)) = absurd (let i : Begun ≡ Lost = ap (λ (b : Builder). b.item) g.2 in cc)
+  made_begun a height (Some x) other e = elim (given_back w a (builder t height x) v (builder t h Begun) e) [
+    | inl g ↦ absurd (other (ap (λ (b : Builder). Some b.item) (sym g.1)))
+    | inr (inl g) ↦ g.1
+    | inr (inr g) ↦ absurd (let i : Begun ≡ Lost = ap (λ (b : Builder). b.item) g.2 in cc)
+  ]
   made_begun a height None other e = finished_back w a v (builder t h Begun) e
 
 module _ (building : Building) (h v : ℕ) where

@@ -69,9 +69,7 @@ module _ (now : World) (next t v : ℕ) (strange : IsStrange now t v) (null : Is
     stack_other : (puts : Bool) (us : List VType) (gs : List Tag) (words : List ℕ)
         → StackWith (SlotIs (IsFinished now next) (IsFresh now t h Runs) own young receiver) (λ word. now word ≡ Some (builder t h Unstored)) puts us gs words → AllZip (IsOther v) us words
     stack_other true (u ∷ us) (g ∷ gs) (word ∷ words) s = (other_so u word (not_built h word Unstored (λ e. cc) s.0), slots_other us gs words s.1)
-    stack_other true [] gs words s = slots_other [] gs words s
-    stack_other false us gs words s = slots_other us gs words s
-    stack_other true (u ∷ us) gs words s = absurd s
+    stack_other puts us gs words s = slots_other us gs words s
 
   -- ---- a frame, wherever it is said to stand
 

@@ -37,11 +37,9 @@ puts_static_of f (n ∷ stack) v word e = same_variable (variable_of f 0) v (kep
 puts_of : (i : ℕ) (f : FieldInfo) (stack : List ℕ) (v : Variable) (word : ℕ) → puts (Some f) stack ≡ Writes v word → Puts (ops.Putfield i) f stack v
 puts_of i f [] v word e = absurd (cc)
 puts_of i f (n ∷ []) v word e = absurd (cc)
-puts_of i f (n ∷ a ∷ stack) v word e = by_test (a == 0) e
-  where
-    by_test : (b : Bool) → (if b then Throws thrown.NullPointerException else Writes (variable_of f a) (kept f.kind n)) ≡ Writes v word → Puts (ops.Putfield i) f (n ∷ a ∷ stack) v
-    by_test true e = absurd (cc)
-    by_test false e = record { index = i; is = refl; variable = same_variable (variable_of f a) v (kept f.kind n) word e }
+puts_of i f (n ∷ a ∷ stack) v word e =
+    (elim (a == 0) as (λ (b : Bool). (if b then Throws thrown.NullPointerException else Writes (variable_of f a) (kept f.kind n)) ≡ Writes v word → Puts (ops.Putfield i) f (n ∷ a ∷ stack) v)
+    [ true ↦ λ e. absurd (cc) | false ↦ λ e. record { index = i; is = refl; variable = same_variable (variable_of f a) v (kept f.kind n) word e } ]) e
 
 -- an instruction that names the field, and writes a variable
 module _ (p : Program) (site : MethodSite) (number next : ℕ) (f : FieldInfo) (v : Variable) (word : ℕ) (there : slice_get p.fields number ≡ Some f) where
