@@ -53,9 +53,6 @@ module _ (building : Building) (h : ℕ) (f : Frame) (k : FrameIn building h Run
 
   module _ (to made : ℕ) (edge : has_number (edges k.stands.insn) to ≡ true)
       (is_made : IsMadeWell c marked owning.stores f k.stands made) where
-    abbrev m : MethodInfo
-    m = k.stands.method
-
     sources : (x : Given) → SourceFine c marked owning.stores f k.stands k.stands.types.stack k.stands.types.locals f.stack f.locals made x
     sources (Fresh type) = tt
     sources (Taken q) = slot_of q

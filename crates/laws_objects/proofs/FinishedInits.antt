@@ -13,7 +13,7 @@ use Rattle.laws_threads.{specs.{PartLaws.counted_next, StateLaws.counted_after},
 use Rattle.laws_states.{specs.{ChangeLaws.{all_objects, run_objects}, HeapFacts.objects_after}, proofs.{BegunThreads.{begun as begun_there}, GrowingRuns.next_long, Lists.contained_got}}
 use Rattle.laws_objects.{specs.UnfinishedObjects.{ReturnsFrom, NeverReturns, NoOtherHas, FinishedByOwnReturn}, proofs.Buildings.{Building, in_world, PhaseIn, ThreadIn, building_in}}
 use Rattle.laws_objects.proofs.BuiltRuns.{Run, state_of, TellsClass, tells_class, AreBuiltLaws, BuiltThere, LostThere, BuiltIn, event_there, next_there, event_lost, next_lost, nobody_has, reached, lost_behind, core_more, objects_more}
-use Rattle.laws_objects.proofs.{FrameChanges.{frame_at, under, top_here, in_place, TriesGo, IsUnwound, FramesGo, frames_go}, ThreadMoves.BasedIn}
+use Rattle.laws_objects.proofs.{FrameChanges.{frame_at, under, top_here, in_place, none_begun, TriesGo, IsUnwound, FramesGo, frames_go}, ThreadMoves.BasedIn}
 use Rattle.laws_objects.proofs.UnreturnedInits.{IsYoung, HasInit, init_stays, init_splits, Splits, HasBack, IsInside, world_begun, put_back_low, based_of, has_back_on, back_frames, away_frames}
 use Rattle.laws_objects.proofs.Unused.{others_strange, uses_not, places_have_not}
 use Rattle.machine_types.specs.declared.phase.Phase.TheVariants as phases
@@ -57,10 +57,7 @@ module _ (building : Building) (h v : ℕ) (was : Phase) (x : Thread) (keeps : T
 
       by_attempts : (o : Option Attempt) → x.attempt ≡ o → (p : Option Attempt) → y.attempt ≡ p → y.attempt ≡ None
       by_attempts o q None r = r
-      by_attempts None q (Some b) r =
-          let tries : TriesGo None (Some b) x.frames y.frames = subst (λ (p : Option Attempt). TriesGo None p x.frames y.frames) r (subst (λ (o : Option Attempt). TriesGo o y.attempt x.frames y.frames) q u.tries) in
-          let long : length u.below ≡ length (u.frame ∷ u.below) = ap length (sym frames ∙ tries.0 ∙ u.frames) in
-          absurd (omega (arith, long))
+      by_attempts None q p r = none_begun x.attempt y.attempt x.frames y.frames u.tries q (omega (arith, ap length frames, ap length u.frames))
       by_attempts (Some a) q (Some b) r =
           let tries : TriesGo (Some a) (Some b) x.frames y.frames = subst (λ (p : Option Attempt). TriesGo (Some a) p x.frames y.frames) r (subst (λ (o : Option Attempt). TriesGo o y.attempt x.frames y.frames) q u.tries) in
           let low = put_back_low c frozen h v a x.frames (subst (λ (o : Option Attempt). HasBack c frozen h v o x.frames) q inside.goes_back) in

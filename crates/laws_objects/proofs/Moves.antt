@@ -1,10 +1,10 @@
 -- A frame that goes on behind its instruction. An `<init>` of a class that no file has, as that of Object, finishes its object.
-use Rattle.std.proofs.Common.{◌≡◌, ◌≢◌, ℕ, ◌<◌, ◌⊎◌, inl, inr, Bool, true, false, not, List, [], ◌∷◌, Option, Some, None, refl, sym, ap, ◌∙◌, subst, arith, ◌==◌, if◌then◌else◌}
+use Rattle.std.proofs.Common.{◌++◌, length, map, drop, ◌≡◌, ◌≢◌, ℕ, ◌<◌, ◌⊎◌, inl, inr, Bool, true, false, not, List, [], ◌∷◌, Option, Some, None, refl, sym, ap, ◌∙◌, subst, arith, ◌==◌, if◌then◌else◌}
 use Rattle.std.{specs.List.AllByRecursion, proofs.lemmas.Bool.{cases_Bool, or_parts, eqb-true, eqb-false}}
 use Rattle.lists.proofs.TestLaws.{is_true}
-use Rattle.jvm_types.specs.{CodeTable.{row, stack_after, locals_after}, Numbers.has_number, Types.{TypeFrame, same_type}}
+use Rattle.jvm_types.specs.{CodeTable.{row, value_of, stack_after, locals_after}, Numbers.has_number, Types.{TypeFrame, same_type}}
 use Rattle.jvm_types.specs.{Verifying.{suits, some_taken, some_read, new_class, is_class_of, started, initialised, after_start, frame_after, edges}, declared.{code.Op.Op, op_row.OpRow.OpRow}}
-use Rattle.jvm_types.specs.declared.{op_row.Want.{Want, TheVariants.ToStart}, program.{MethodInfo.MethodInfo, Program.Program, Target.Target}}
+use Rattle.jvm_types.specs.declared.{op_row.{Given.Given, Want.{Want, TheVariants.ToStart}}, program.{MethodInfo.MethodInfo, Program.Program, Target.Target}}
 use Rattle.jvm_types.specs.declared.typing.VType.{VType}
 use Rattle.checked_program.specs.{LockTags.TagShape, MarkedProgram.{MarkedProgram, IsMarked}, Tagging.{moved_tags, tags_by_op, tags_after}, declared.tag.Tag.{Tag, TheVariants.{Untagged, At}}}
 use Rattle.machine_types.specs.{Construction.{puts_owned, builds, makes_frozen, if_so, SlotByType, SlotIs, SlotsAre, StackWith, Runs, IsFresh, ReceiverIs, SlotOf}, Frames.frame_on}
@@ -186,6 +186,26 @@ module _ (building : Building) (h : ℕ) (null : IsFinished building.w building.
       let edge_is : has_number (edges s.insn) to ≡ true = number_in (edges s.insn) to edge in
       land building h null puts g s.method s.frames s.at.frames a (tags_after s.insn (row_at c f s) s.tags) s.at.in_program s.types_of_method s.at.of_method
       (edge_at s.method (within c.program) s.method.code s.frames a (edges s.insn) to (rules_at c marked f s).sound.edges_fit edge) (edge_fits c marked f s to edge_is) (joined_onward design f g s refl edge_is) well receiver stands kept
+
+-- behind an instruction whose row gives these values, writes no local and starts nothing
+module _ (c : MarkedProgram) (f : Frame) (k : Standing c f) (xs : List Given) (gives : (row_at c f k).gives ≡ xs) (writes : (row_at c f k).writes ≡ None) (nothing : started k.method.class (row_at c f k).takes k.types.stack ≡ None)
+    (by_row : tags_by_op k.insn.pc (row_at c f k) k.insn.op k.tags.stack k.tags ≡ moved_tags (row_at c f k) k.tags) where
+  abbrev before : TypeFrame
+  before = record { stack = stack_after types.Top (λ t. t) (row_at c f k) k.types.stack k.types.locals; locals = locals_after types.Top (λ t. t) (row_at c f k).writes k.types.stack k.types.locals; ready = k.types.ready }
+
+  after_is : frame_after k.method (row_at c f k) k.types ≡ before
+  after_is = ap (λ o. after_start o before) nothing
+
+  pub given_stack : (P : List VType → List Tag → List ℕ → Type 0) (made : ℕ) → P (map (value_of types.Top (λ t. t) k.types.stack k.types.locals) xs ++ drop (length (row_at c f k).takes) k.types.stack) (map (value_of Untagged (λ t. Untagged) k.tags.stack k.tags.locals) xs ++ drop (length (row_at c f k).takes) k.tags.stack)
+      (map (value_of 0 (λ t. made) f.stack f.locals) xs ++ drop (length (row_at c f k).takes) f.stack)
+      → P (frame_after k.method (row_at c f k) k.types).stack (tags_after k.insn (row_at c f k) k.tags).stack (stack_after 0 (λ t. made) (row_at c f k) f.stack f.locals)
+  given_stack P made h =
+      rw (after_is, by_row) (subst (λ (ys : List Given). P (map (value_of types.Top (λ t. t) k.types.stack k.types.locals) ys ++ drop (length (row_at c f k).takes) k.types.stack) (map (value_of Untagged (λ t. Untagged) k.tags.stack k.tags.locals) ys ++ drop (length (row_at c f k).takes) k.tags.stack)
+      (map (value_of 0 (λ t. made) f.stack f.locals) ys ++ drop (length (row_at c f k).takes) f.stack)) (sym gives) h)
+
+  pub given_locals : (P : List VType → List Tag → List ℕ → Type 0) (made : ℕ) → P k.types.locals k.tags.locals f.locals → P (frame_after k.method (row_at c f k) k.types).locals (tags_after k.insn (row_at c f k) k.tags).locals (locals_after 0 (λ t. made) (row_at c f k).writes f.stack f.locals)
+  given_locals P made h =
+      rw (after_is, by_row) (subst (λ (o : Option (ℕ × Given)). P (locals_after types.Top (λ t. t) o k.types.stack k.types.locals) (locals_after Untagged (λ t. Untagged) o k.tags.stack k.tags.locals) (locals_after 0 (λ t. made) o f.stack f.locals)) (sym writes) h)
 
 module _ (building : Building) (h : ℕ) (null : IsFinished building.w building.next 0) (inside : (v : ℕ) (b : Builder) → building.w v ≡ Some b → v < building.next) where
   open building use {design, c, marked, frozen, owning, w, next, t}

@@ -2,16 +2,16 @@
 use Rattle.std.proofs.Common.{◌≡◌, ◌≢◌, ℕ, ◌<◌, ◌⊎◌, inl, inr, Bool, true, false, List, [], ◌∷◌, ◌++◌, length, map, drop, Option, Some, None, refl, sym, ap, ◌∙◌, subst, arith, option_map}
 use Rattle.std.specs.List.{AllByRecursion}
 use Rattle.lists.proofs.ListLaws.{same_some}
-use Rattle.jvm_types.specs.{ProgramInvariant.words_of, CodeTable.{row, value_of, stack_after, locals_after}, Types.TypeFrame, Verifying.{started, after_start, frame_after, edges}, declared.{code.{Insn.Insn, Op.Op}, op_row.{Given.{Given, TheVariants.Fresh as Anew}}, program.{MethodInfo.MethodInfo, Target.Target}, typing.VType.VType}}
+use Rattle.jvm_types.specs.{ProgramInvariant.words_of, CodeTable.{row, value_of, stack_after, locals_after}, Verifying.{started, frame_after, edges}, declared.{code.{Insn.Insn, Op.Op}, op_row.{Given.{Given, TheVariants.Fresh as Anew}}, program.{Target.Target}, typing.VType.VType}}
 use Rattle.laws_programs.{specs.NewLaws.{IsNewBefore, AreBehind}, proofs.RowsKeep.{IsFine, row_fine}}
-use Rattle.checked_program.specs.{LockTags.TagShape, MarkedProgram.MarkedProgram, TaggedCode.IsAt, Tagging.{moved_tags, tags_by_op, tags_after}, declared.tag.Tag.{Tag, TheVariants.Untagged}}
+use Rattle.checked_program.specs.{LockTags.TagShape, MarkedProgram.MarkedProgram, TaggedCode.IsAt, Tagging.{moved_tags, tags_by_op}, declared.tag.Tag.{Tag, TheVariants.Untagged}}
 use Rattle.machine_types.specs.Construction.{puts_owned, builds, makes_frozen, if_so, SlotByType, SlotsAre, StackWith, Runs, IsFresh, ReceiverIs, SlotOf, IsNoStored, made_world}
 use Rattle.machine_types.specs.{Frames.{frame_on, making, pushed}, Standing.{Standing, row_at, tags_of}, Threads.Frame}
 use Rattle.machine_types.specs.Worlds.{Item, Header, Made, Begun, Unstored, Builder, builder, World, IsFinished, IsWorld, with_builder}
 use Rattle.laws_threads.{specs.Allowed.{OneOf, MadeAs}, proofs.{Landing.rules_at, Standings.top_here, TopEffects.number_in}}
 use Rattle.laws_objects.proofs.{ArrayFrames.{goes_well, goes_plain}, ArrayMoves.{GivenClean, WriteClean, IsMadeWell}, Buildings.{LawfulBuilding, in_later, FrameIn, BelowIn, FramesIn, MadeIn, null}}
 use Rattle.laws_objects.proofs.{BuiltEffects.StartsNone, CalledFrames.{below_moved, none_started}, EffectOps.{is_putfield, stores_none}, KeptFrames.{below_kept, plain_stack}, Landing.LandsWell}
-use Rattle.laws_objects.proofs.{Moves.{StartsOld, lands_behind, goes_old}, Operands.{is_getfield, no_read}, PutPlaces.{is_newarray, newarray_is, next_puts}}
+use Rattle.laws_objects.proofs.{Moves.{StartsOld, lands_behind, goes_old, given_stack, given_locals}, Operands.{is_getfield, no_read}, PutPlaces.{is_newarray, newarray_is, next_puts}}
 use Rattle.laws_objects.proofs.Slots.{slot_if, slots_map_if, slots_drop, IsMade, IsWriteMade, made_slot}
 use Rattle.laws_objects.proofs.WorldChanges.{none_from, none_some, given_here, given_keeps, given_none, finished_here, finished_there, world_given, world_finished}
 use Rattle.jvm_types.specs.declared.code.Op.TheVariants as ops
@@ -98,9 +98,6 @@ module _ (lawful : LawfulBuilding) (more h : ℕ) (grows : lawful.next < more) (
 
   module _ (f : Frame) (k : FrameIn building h Runs f) (type : VType) (edge : OneOf (edges k.stands.insn) k.stands.insn.next) (behind : AreBehind pc k.stands.types) (gives : (row_at c f k.stands).gives ≡ Anew type ∷ []) (writes : (row_at c f k.stands).writes ≡ None)
       (none : AllByRecursion StartsNone (row_at c f k.stands).takes) (plain : puts_owned owning.owned k.stands.insn.op k.stands.target ≡ false) where
-    abbrev m : MethodInfo
-    m = k.stands.method
-
     stack_is : stack_after 0 (λ t. next) (row_at c f k.stands) f.stack f.locals ≡ next ∷ drop (length (row_at c f k.stands).takes) f.stack
     stack_is = ap (λ (xs : List Given). map (value_of 0 (λ t. next) f.stack f.locals) xs ++ drop (length (row_at c f k.stands).takes) f.stack) gives
 
@@ -127,42 +124,18 @@ module _ (lawful : LawfulBuilding) (more h : ℕ) (grows : lawful.next < more) (
 
     -- an array that is stored next
     module _ (is_array : k.stands.insn.op ≡ ops.Newarray) where
-      abbrev before : TypeFrame
-      before = record { stack = stack_after types.Top (λ t. t) (row_at c f k.stands) k.stands.types.stack k.stands.types.locals; locals = locals_after types.Top (λ t. t) (row_at c f k.stands).writes k.stands.types.stack k.stands.types.locals; ready = k.stands.types.ready }
-
-      types_are : frame_after k.stands.method (row_at c f k.stands) k.stands.types ≡ record { stack = type ∷ drop (length (row_at c f k.stands).takes) k.stands.types.stack; locals = k.stands.types.locals; ready = k.stands.types.ready }
-      types_are =
-          ap (λ o. after_start o before) nothing
-          ∙ ap (λ (xs : List Given). record before { stack = map (value_of types.Top (λ t. t) k.stands.types.stack k.stands.types.locals) xs ++ drop (length (row_at c f k.stands).takes) k.stands.types.stack }) gives
-          ∙ ap (λ (o : Option (ℕ × Given)). record { stack = type ∷ drop (length (row_at c f k.stands).takes) k.stands.types.stack; locals = locals_after types.Top (λ t. t) o k.stands.types.stack k.stands.types.locals; ready = k.stands.types.ready }) writes
-
-      tags_are : tags_after k.stands.insn (row_at c f k.stands) k.stands.tags ≡ record { stack = Untagged ∷ drop (length (row_at c f k.stands).takes) k.stands.tags.stack; locals = k.stands.tags.locals; held = k.stands.tags.held }
-      tags_are =
-          ap (λ (op : Op). tags_by_op k.stands.insn.pc (row_at c f k.stands) op k.stands.tags.stack k.stands.tags) is_array
-          ∙ ap (λ (xs : List Given). record (moved_tags (row_at c f k.stands) k.stands.tags) { stack = map (value_of Untagged (λ t. Untagged) k.stands.tags.stack k.stands.tags.locals) xs ++ drop (length (row_at c f k.stands).takes) k.stands.tags.stack }) gives
-          ∙ ap (λ (o : Option (ℕ × Given)). record { stack = Untagged ∷ drop (length (row_at c f k.stands).takes) k.stands.tags.stack; locals = locals_after Untagged (λ t. Untagged) o k.stands.tags.stack k.stands.tags.locals; held = k.stands.tags.held }) writes
-
-      abbrev Stack : TypeFrame → TagShape → List ℕ → Type 0
-      Stack a g vs = StackWith (SlotOf frozen stored_world more t h Runs k.stands.method f.receiver) (λ v. stored_world v ≡ Some (builder t h Unstored)) true a.stack g.stack vs
-
-      abbrev Locals : TypeFrame → TagShape → List ℕ → Type 0
-      Locals a g vs = SlotsAre (SlotOf frozen stored_world more t h Runs k.stands.method f.receiver) a.locals g.locals vs
-
       pub made_unstored : LandsWell design true (frame_on (row_at c f k.stands) k.stands.insn.next next f) k.stands.method (frame_after k.stands.method (row_at c f k.stands) k.stands.types)
           → stored_world next ≡ Some (builder t h Unstored) → FrameIn (in_later building stored_world more) h Runs (record f { pc = k.stands.insn.next; stack = next ∷ drop (length (row_at c f k.stands).takes) f.stack })
       made_unstored well is =
           let n : ℕ = length (row_at c f k.stands).takes in
-          let stack : Stack (record { stack = type ∷ drop n k.stands.types.stack; locals = k.stands.types.locals; ready = k.stands.types.ready }) (record { stack = Untagged ∷ drop n k.stands.tags.stack; locals = k.stands.tags.locals; held = k.stands.tags.held }) (next ∷ drop n f.stack)
+          let by_row : tags_by_op k.stands.insn.pc (row_at c f k.stands) k.stands.insn.op k.stands.tags.stack k.stands.tags ≡ moved_tags (row_at c f k.stands) k.stands.tags = ap (λ (op : Op). tags_by_op k.stands.insn.pc (row_at c f k.stands) op k.stands.tags.stack k.stands.tags) is_array in
+          let stack : StackWith (SlotOf frozen stored_world more t h Runs k.stands.method f.receiver) (λ v. stored_world v ≡ Some (builder t h Unstored)) true (type ∷ drop n k.stands.types.stack) (Untagged ∷ drop n k.stands.tags.stack) (next ∷ drop n f.stack)
           = (is, slots_drop (SlotOf frozen stored_world more t h Runs k.stands.method f.receiver) n k.stands.types.stack k.stands.tags.stack f.stack (stack_renewed f k behind plain)) in
           subst (λ (g : Frame). FrameIn (in_later building stored_world more) h Runs g) same
           (lands_behind (in_later building stored_world more) h (old_made 0 (null lawful)) f k.stands k.stands.insn.next (frame_on (row_at c f k.stands) k.stands.insn.next next f).stack (frame_on (row_at c f k.stands) k.stands.insn.next next f).locals edge true
           well (receiver_made (builds frozen k.stands.method) f.receiver k.receiver)
-          (subst (λ (a : TypeFrame). Stack a (tags_after k.stands.insn (row_at c f k.stands) k.stands.tags) (stack_after 0 (λ t. next) (row_at c f k.stands) f.stack f.locals)) (sym types_are)
-          (subst (λ (g : TagShape). Stack (record { stack = type ∷ drop n k.stands.types.stack; locals = k.stands.types.locals; ready = k.stands.types.ready }) g (stack_after 0 (λ t. next) (row_at c f k.stands) f.stack f.locals)) (sym tags_are)
-          (subst (Stack (record { stack = type ∷ drop n k.stands.types.stack; locals = k.stands.types.locals; ready = k.stands.types.ready }) (record { stack = Untagged ∷ drop n k.stands.tags.stack; locals = k.stands.tags.locals; held = k.stands.tags.held })) (sym stack_is) stack)))
-          (subst (λ (a : TypeFrame). Locals a (tags_after k.stands.insn (row_at c f k.stands) k.stands.tags) (locals_after 0 (λ t. next) (row_at c f k.stands).writes f.stack f.locals)) (sym types_are)
-          (subst (λ (g : TagShape). Locals (record { stack = type ∷ drop n k.stands.types.stack; locals = k.stands.types.locals; ready = k.stands.types.ready }) g (locals_after 0 (λ t. next) (row_at c f k.stands).writes f.stack f.locals)) (sym tags_are)
-          (subst (Locals (record { stack = type ∷ drop n k.stands.types.stack; locals = k.stands.types.locals; ready = k.stands.types.ready }) (record { stack = Untagged ∷ drop n k.stands.tags.stack; locals = k.stands.tags.locals; held = k.stands.tags.held })) (sym locals_are) (locals_renewed f k behind plain)))))
+          (given_stack c f k.stands (Anew type ∷ []) gives writes nothing by_row (StackWith (SlotOf frozen stored_world more t h Runs k.stands.method f.receiver) (λ v. stored_world v ≡ Some (builder t h Unstored)) true) next stack)
+          (given_locals c f k.stands (Anew type ∷ []) gives writes nothing by_row (SlotsAre (SlotOf frozen stored_world more t h Runs k.stands.method f.receiver)) next (locals_renewed f k behind plain)))
 
 -- ---- in a frame
 

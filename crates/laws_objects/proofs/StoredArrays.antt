@@ -1,9 +1,9 @@
 -- A new array is stored in an owned field of its object: it is finished then, and no frame has it any more.
-use Rattle.std.proofs.Common.{◌≡◌, ◌≢◌, ℕ, ◌+◌, inl, Bool, true, false, List, [], ◌∷◌, ◌++◌, length, map, drop, Option, Some, None, refl, sym, ap, ◌∙◌, subst, arith, slice_index_or}
+use Rattle.std.proofs.Common.{◌≡◌, ◌≢◌, ℕ, ◌+◌, inl, Bool, true, false, List, [], ◌∷◌, length, drop, Option, Some, None, refl, sym, ap, ◌∙◌, subst, arith, slice_index_or}
 use Rattle.std.specs.List.{AllByRecursion}
-use Rattle.jvm_types.specs.{CodeTable.{row, want_of, put_row, value_of, stack_after, locals_after}, Numbers.has_number, Types.TypeFrame, Verifying.{started, after_start, frame_after, edges}, declared.{class_numbers.TheConstants.INT_ARRAY_CLASS, code.Op.Op}}
+use Rattle.jvm_types.specs.{CodeTable.{row, want_of, put_row, stack_after, locals_after}, Numbers.has_number, Types.TypeFrame, Verifying.{started, frame_after, edges}, declared.{class_numbers.TheConstants.INT_ARRAY_CLASS, code.Op.Op}}
 use Rattle.jvm_types.specs.declared.{op_row.{Given.Given, OpRow.OpRow}, program.{Kind.Kind}, typing.VType.VType}
-use Rattle.checked_program.specs.{Colours.is_read_of, LockTags.TagShape, OwnedArrays.IsOwnedArrayField, Tagging.{moved_tags, tags_by_op, tags_after}, declared.tag.Tag.{Tag, TheVariants.Untagged}}
+use Rattle.checked_program.specs.{Colours.is_read_of, OwnedArrays.IsOwnedArrayField, Tagging.{moved_tags, tags_by_op}, declared.tag.Tag.{Tag}}
 use Rattle.machine_types.specs.Construction.{puts_owned, builds, makes_frozen, SlotsAre, StackWith, Runs, IsFresh, SlotOf, IsNoStored, IsArraySlot, SlotsFrom}
 use Rattle.machine_types.specs.{Frames.{frame_on, went_on}, OwnedPlaces.{with_stored, IsStoredNowhere}, Standing.{Standing, row_at, tags_of}, Threads.Frame}
 use Rattle.machine_types.specs.Worlds.{Made, Begun, Unstored, Builder, builder, World, IsFinished}
@@ -11,7 +11,7 @@ use Rattle.laws_threads.{specs.Allowed.OneOf, proofs.{Standings.top_here, TopEff
 use Rattle.laws_objects.proofs.{ArrayFrames.takes_clean, ArrayMoves.{GivenClean, WriteClean, SourceFine, stack_clean, each_source, dropped_at}}
 use Rattle.laws_objects.proofs.ArraySlots.{from_drop, each_from, no_stored_along, array_along, stack_begun, locals_begun, IsStart}
 use Rattle.laws_objects.proofs.{Buildings.{Building, FramesIn, Design, LawfulBuilding, in_world, with_stores, FrameIn, BelowIn, null}, BuiltEffects.StartsNone}
-use Rattle.laws_objects.proofs.{CalledFrames.{below_moved, none_started}, KeptFrames.below_kept, Landing.LandsWell, Moves.{Steps, drops, lands_behind, receiver_without}, Operands.{WantOld, TakenOld, takes_any}}
+use Rattle.laws_objects.proofs.{CalledFrames.{below_moved, none_started}, KeptFrames.below_kept, Landing.LandsWell, Moves.{Steps, drops, given_stack, given_locals, lands_behind, receiver_without}, Operands.{WantOld, TakenOld, takes_any}}
 use Rattle.laws_objects.proofs.{PutPlaces.{is_newarray, edge_plain}, RestoredFrames.{NewArray, receiver_apart, arrays_from, locals_from, below_on}}
 use Rattle.laws_objects.proofs.Slots.{slots_map, slots_drop, slots_long, slot_later}
 use Rattle.laws_objects.proofs.WorldChanges.{none_some, without, without_gone, without_keeps, finished_without}
@@ -53,12 +53,9 @@ module _ (lawful : LawfulBuilding) (f : Frame) (fs : List Frame) (k : FrameIn la
   abbrev pub new : Builder
   new = builder t (length fs) Unstored
 
-  puts : puts_owned owning.owned k.stands.insn.op k.stands.target ≡ true
-  puts = (λ i. puts_owned owning.owned (op_is i) (target_is i)) ∙ is_owned
-
   top : (w array ≡ Some new) × SlotsAre (SlotOf frozen w next t (length fs) Runs k.stands.method f.receiver) (drop 2 k.stands.types.stack) (drop 2 k.stands.tags.stack) (drop 2 f.stack)
   top = split (SlotOf frozen w next t (length fs) Runs k.stands.method f.receiver) (λ v. w v ≡ Some (builder t (length fs) Unstored)) k.stands.types.stack k.stands.tags.stack f.stack array rest
-      (subst (λ (b : Bool). StackWith (SlotOf frozen w next t (length fs) Runs k.stands.method f.receiver) (λ v. w v ≡ Some (builder t (length fs) Unstored)) b k.stands.types.stack k.stands.tags.stack f.stack) puts k.stack) stack_is
+      (subst (λ (b : Bool). StackWith (SlotOf frozen w next t (length fs) Runs k.stands.method f.receiver) (λ v. w v ≡ Some (builder t (length fs) Unstored)) b k.stands.types.stack k.stands.tags.stack f.stack) ((λ i. puts_owned owning.owned (op_is i) (target_is i)) ∙ is_owned) k.stack) stack_is
 
   pub is_new : w array ≡ Some new
   is_new = top.0
@@ -118,23 +115,8 @@ module _ (lawful : LawfulBuilding) (f : Frame) (fs : List Frame) (k : FrameIn la
   abbrev n : ℕ
   n = length (row_at c f k.stands).takes
 
-  types_are : frame_after k.stands.method (row_at c f k.stands) k.stands.types ≡ record { stack = drop (length (row_at c f k.stands).takes) k.stands.types.stack; locals = k.stands.types.locals; ready = k.stands.types.ready }
-  types_are =
-      ap (λ o. after_start o before) nothing
-      ∙ ap (λ (xs : List Given). record before { stack = map (value_of types.Top (λ t. t) k.stands.types.stack k.stands.types.locals) xs ++ drop (length (row_at c f k.stands).takes) k.stands.types.stack }) gives_none
-      ∙ ap (λ (o : Option (ℕ × Given)). record { stack = drop (length (row_at c f k.stands).takes) k.stands.types.stack; locals = locals_after types.Top (λ t. t) o k.stands.types.stack k.stands.types.locals; ready = k.stands.types.ready }) writes_none
-
-  tags_are : tags_after k.stands.insn (row_at c f k.stands) k.stands.tags ≡ record { stack = drop (length (row_at c f k.stands).takes) k.stands.tags.stack; locals = k.stands.tags.locals; held = k.stands.tags.held }
-  tags_are =
-      ap (λ (op : Op). tags_by_op k.stands.insn.pc (row_at c f k.stands) op k.stands.tags.stack k.stands.tags) op_is
-      ∙ ap (λ (xs : List Given). record (moved_tags (row_at c f k.stands) k.stands.tags) { stack = map (value_of Untagged (λ t. Untagged) k.stands.tags.stack k.stands.tags.locals) xs ++ drop (length (row_at c f k.stands).takes) k.stands.tags.stack }) gives_none
-      ∙ ap (λ (o : Option (ℕ × Given)). record { stack = drop (length (row_at c f k.stands).takes) k.stands.tags.stack; locals = locals_after Untagged (λ t. Untagged) o k.stands.tags.stack k.stands.tags.locals; held = k.stands.tags.held }) writes_none
-
-  values_are : stack_after 0 (λ t. 0) (row_at c f k.stands) f.stack f.locals ≡ drop (length (row_at c f k.stands).takes) f.stack
-  values_are = ap (λ (xs : List Given). map (value_of 0 (λ t. 0) f.stack f.locals) xs ++ drop (length (row_at c f k.stands).takes) f.stack) gives_none
-
-  locals_are : locals_after 0 (λ t. 0) (row_at c f k.stands).writes f.stack f.locals ≡ f.locals
-  locals_are = ap (λ (o : Option (ℕ × Given)). locals_after 0 (λ t. 0) o f.stack f.locals) writes_none
+  by_row : tags_by_op k.stands.insn.pc (row_at c f k.stands) k.stands.insn.op k.stands.tags.stack k.stands.tags ≡ moved_tags (row_at c f k.stands) k.stands.tags
+  by_row = ap (λ (op : Op). tags_by_op k.stands.insn.pc (row_at c f k.stands) op k.stands.tags.stack k.stands.tags) op_is
 
   apart : f.receiver ≢ array
   apart = receiver_apart building it is_new (length fs) (builds frozen k.stands.method) f.receiver k.receiver
@@ -147,9 +129,6 @@ module _ (lawful : LawfulBuilding) (f : Frame) (fs : List Frame) (k : FrameIn la
   arrays_below = arrays_from building it is_new (length fs) f k.stands.method apart k.stands.number Runs fresh_apart (length (row_at c f k.stands).takes)
       (drop (length (row_at c f k.stands).takes) k.stands.types.stack) (drop (length (row_at c f k.stands).takes) k.stands.tags.stack) (drop (length (row_at c f k.stands).takes) f.stack) below_two
       (from_drop (IsArraySlot c owning.stores f k.stands.number) (length (row_at c f k.stands).takes) 0 (length (row_at c f k.stands).takes) k.stands.types.stack f.stack (omega arith) k.arrays)
-
-  locals_stay : SlotsFrom (λ place. IsNoStored (with_stored owning.stores array word)) 0 k.stands.types.locals f.locals
-  locals_stay = locals_from building it is_new (length fs) f k.stands.method apart k.stands.number Runs fresh_apart 0 k.stands.types.locals k.stands.tags.locals f.locals k.locals k.no_arrays
 
   edge_is : has_number (edges k.stands.insn) k.stands.insn.next ≡ true
   edge_is = number_in (edges k.stands.insn) k.stands.insn.next edge
@@ -181,25 +160,17 @@ module _ (lawful : LawfulBuilding) (f : Frame) (fs : List Frame) (k : FrameIn la
         (each_source (SourceFine c marked behind.owning.stores f k.stands k.stands.types.stack k.stands.types.locals f.stack f.locals 0) (length (row_at c f k.stands).takes) slot_there (row_at c f k.stands).gives
         (subst (AllByRecursion (SourceFine c marked behind.owning.stores f k.stands k.stands.types.stack k.stands.types.locals f.stack f.locals 0)) (sym gives_none) tt)));
     locals = locals_begun (λ place. IsNoStored behind.owning.stores) (no_stored_along behind.owning.stores) (started k.stands.method.class (row_at c f k.stands).takes k.stands.types.stack) started_none before 0 (frame_on (row_at c f k.stands) k.stands.insn.next 0 f).locals
-        (subst (λ (o : Option (ℕ × Given)). SlotsFrom (λ place. IsNoStored behind.owning.stores) 0 (locals_after types.Top (λ t. t) o k.stands.types.stack k.stands.types.locals) (locals_after 0 (λ t. 0) o f.stack f.locals)) (sym writes_none) locals_stay);
+        (subst (λ (o : Option (ℕ × Given)). SlotsFrom (λ place. IsNoStored behind.owning.stores) 0 (locals_after types.Top (λ t. t) o k.stands.types.stack k.stands.types.locals) (locals_after 0 (λ t. 0) o f.stack f.locals)) (sym writes_none)
+        (locals_from building it is_new (length fs) f k.stands.method apart k.stands.number Runs fresh_apart 0 k.stands.types.locals k.stands.tags.locals f.locals k.locals k.no_arrays));
   }
-
-  abbrev After : TypeFrame
-  After = record { stack = drop (length (row_at c f k.stands).takes) k.stands.types.stack; locals = k.stands.types.locals; ready = k.stands.types.ready }
-
-  abbrev Tags : TagShape
-  Tags = record { stack = drop (length (row_at c f k.stands).takes) k.stands.tags.stack; locals = k.stands.tags.locals; held = k.stands.tags.held }
 
   frame_stored : FrameIn (in_world behind z) (length fs) Runs (frame_on (row_at c f k.stands) k.stands.insn.next 0 f)
   frame_stored =
       lands_behind (in_world behind z) (length fs) (finished_without w next new 0 (null lawful)) f k.stands k.stands.insn.next (frame_on (row_at c f k.stands) k.stands.insn.next 0 f).stack (frame_on (row_at c f k.stands) k.stands.insn.next 0 f).locals put.edge false
       well (receiver_without w next t (length fs) new (λ s. (let i : Begun ≡ Unstored = ap (λ (x : Builder). x.item) s in cc)) (builds frozen k.stands.method) f.receiver k.receiver)
-      (subst (λ (a : TypeFrame). SlotsAre (SlotOf frozen z next t (length fs) Runs k.stands.method f.receiver) a.stack (tags_after k.stands.insn (row_at c f k.stands) k.stands.tags).stack (stack_after 0 (λ t. 0) (row_at c f k.stands) f.stack f.locals)) (sym types_are)
-      (subst (λ (g : TagShape). SlotsAre (SlotOf frozen z next t (length fs) Runs k.stands.method f.receiver) After.stack g.stack (stack_after 0 (λ t. 0) (row_at c f k.stands) f.stack f.locals)) (sym tags_are)
-      (subst (SlotsAre (SlotOf frozen z next t (length fs) Runs k.stands.method f.receiver) After.stack Tags.stack) (sym values_are) (slots_on After.stack Tags.stack (drop (length (row_at c f k.stands).takes) f.stack) below_two))))
-      (subst (λ (a : TypeFrame). SlotsAre (SlotOf frozen z next t (length fs) Runs k.stands.method f.receiver) a.locals (tags_after k.stands.insn (row_at c f k.stands) k.stands.tags).locals (locals_after 0 (λ t. 0) (row_at c f k.stands).writes f.stack f.locals)) (sym types_are)
-      (subst (λ (g : TagShape). SlotsAre (SlotOf frozen z next t (length fs) Runs k.stands.method f.receiver) After.locals g.locals (locals_after 0 (λ t. 0) (row_at c f k.stands).writes f.stack f.locals)) (sym tags_are)
-      (subst (SlotsAre (SlotOf frozen z next t (length fs) Runs k.stands.method f.receiver) After.locals Tags.locals) (sym locals_are) (slots_on After.locals Tags.locals f.locals k.locals))))
+      (given_stack c f k.stands [] gives_none writes_none nothing by_row (SlotsAre (SlotOf frozen z next t (length fs) Runs k.stands.method f.receiver)) 0
+      (slots_on (drop (length (row_at c f k.stands).takes) k.stands.types.stack) (drop (length (row_at c f k.stands).takes) k.stands.tags.stack) (drop (length (row_at c f k.stands).takes) f.stack) below_two))
+      (given_locals c f k.stands [] gives_none writes_none nothing by_row (SlotsAre (SlotOf frozen z next t (length fs) Runs k.stands.method f.receiver)) 0 (slots_on k.stands.types.locals k.stands.tags.locals f.locals k.locals))
 
   -- ---- all frames
 

@@ -95,11 +95,10 @@ abbrev pub GivenBack : World → (a : ℕ) → Builder → (v : ℕ) → Builder
 GivenBack w a k v j = ((v ≡ a) × (j ≡ k)) ⊎ ((v ≢ a) × (w v ≡ Some j) × (j ≢ k)) ⊎ ((v ≢ a) × (w v ≡ Some k) × (j ≡ lost k))
 
 pub given_back : (w : World) (a : ℕ) (k : Builder) (v : ℕ) (j : Builder) → with_builder w a k v ≡ Some j → GivenBack w a k v j
-given_back w a k v j = by_test (v == a) refl
-  where
-    by_test : (b : Bool) → (v == a) ≡ b → (if b then Some k else lost_if k (w v)) ≡ Some j → GivenBack w a k v j
-    by_test true t e = inl (eqb-true v a t, cc)
-    by_test false t e = elim (lost_back k j (w v) e) [ inl x ↦ inr (inl (eqb-false v a t, x.0, x.1)) | inr x ↦ inr (inr (eqb-false v a t, x.0, x.1)) ]
+given_back w a k v j e = elim (cases_Bool (v == a)) [
+  | inl t ↦ inl (eqb-true v a t, (let same : Some k ≡ Some j = rw t at e in cc))
+  | inr t ↦ elim (lost_back k j (w v) (rw t at e)) [ inl x ↦ inr (inl (eqb-false v a t, x.0, x.1)) | inr x ↦ inr (inr (eqb-false v a t, x.0, x.1)) ]
+]
 
 lost_none : (k : Builder) (o : Option Builder) → lost_if k o ≡ None → o ≡ None
 lost_none k None e = refl
