@@ -239,12 +239,9 @@ module _ (lies : StartLiesApart) (structure : StructureIsKept) (state : BuiltSta
       other : (u : ℕ) (y : Thread) → u ≢ t → slice_get s.threads u ≡ Some y → Kept own_behind IsLost moves.later more u (was u) y
       other u y apart f = record {
         keeps = other_keeps (own_building u) moves.later more t moves.goes apart (was u) y con.world (others u y apart f).0;
-        lost = λ v b l. other_lost (own_building u) moves.later more t moves.goes apart (was u) y con.world (others u y apart f).0 v b l.before l.was_so l.behind (as_seen v b l.before (l.other_views u y f apart));
+        lost = λ v b l. other_lost (own_building u) moves.later more t moves.goes apart (was u) y con.world (others u y apart f).0 v b l.before l.was_so l.behind
+            (elim (l.other_views u y f apart) [ inl n ↦ inl n | inr e ↦ inr ((λ i. (others u y apart f).1 i v) ∙ e) ]);
       }
-        where
-          as_seen : (v : ℕ) (b before : Builder) → (before.thread ≢ u) ⊎ ((con.each u y f).now v ≡ Some b) → (before.thread ≢ u) ⊎ ((others u y apart f).0.now v ≡ Some b)
-          as_seen v b before (inl n) = inl n
-          as_seen v b before (inr e) = inr ((λ i. (others u y apart f).1 i v) ∙ e)
 
       pub by_number : (u : ℕ) (y : Thread) → slice_get (slice_set s.threads t now) u ≡ Some y → (b : Bool) → (u == t) ≡ b
           → Kept own_behind IsLost moves.later more u (if b then counted_of (was t) (slice_get (slice_set s.threads t now) t) else was u) y

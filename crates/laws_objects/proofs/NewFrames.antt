@@ -1,6 +1,7 @@
 -- A new object: its frame lacks it until its header is stored, and then has it.
 use Rattle.std.proofs.Common.{◌≡◌, ◌≢◌, ℕ, ◌<◌, ◌⊎◌, inl, inr, Bool, true, false, List, [], ◌∷◌, ◌++◌, length, map, drop, Option, Some, None, refl, sym, ap, ◌∙◌, subst, arith, option_map}
 use Rattle.std.specs.List.{AllByRecursion}
+use Rattle.std.proofs.lemmas.Bool.{cases_Bool}
 use Rattle.lists.proofs.ListLaws.{same_some}
 use Rattle.jvm_types.specs.{ProgramInvariant.words_of, CodeTable.{row, value_of, stack_after, locals_after}, Verifying.{started, frame_after, edges}, declared.{code.{Insn.Insn, Op.Op}, op_row.{Given.{Given, TheVariants.Fresh as Anew}}, program.{Target.Target}, typing.VType.VType}}
 use Rattle.laws_programs.{specs.NewLaws.{IsNewBefore, AreBehind}, proofs.RowsKeep.{IsFine, row_fine}}
@@ -227,45 +228,33 @@ module _ (lawful : LawfulBuilding) (more : ℕ) (grows : lawful.next < more) (f 
 
   pub makes_it : (type : VType) (word size : ℕ) → OneOf (edges k.stands.insn) k.stands.insn.next → (row_at c f k.stands).gives ≡ Anew type ∷ [] → (row_at c f k.stands).writes ≡ None → MadeAs c.program k.stands.method type word size
       → AllByRecursion StartsNone (row_at c f k.stands).takes → (is_getfield k.stands.insn.op ≡ false) × (is_putfield k.stands.insn.op ≡ false) → MadeIn (in_later building (with_builder w next (builder t (length fs) Header)) more) next (length fs) (making c.program (top_here c f fs k.stands))
-  makes_it (types.New q) word size edge gives writes sort none op = by_young (makes_frozen frozen k.stands.method q) refl
+  makes_it (types.New q) word size edge gives writes sort none op =
+      let behind : AreBehind q k.stands.types = subst (λ (pc : ℕ). AreBehind pc k.stands.types) (sym (type_pc c f k.stands q gives)) (rules_at c marked f k.stands).behind in
+      makes_as (types.New q) edge gives writes none op.0 op.1 q (item_of q (makes_frozen frozen k.stands.method q)) (sort_of q (makes_frozen frozen k.stands.method q)) behind
+      (usual_well (types.New q) edge gives writes none op.0 op.1 (no_array k.stands.insn.op gives)) (λ s. cc) (slot (makes_frozen frozen k.stands.method q) refl)
     where
-      behind : AreBehind q k.stands.types
-      behind = subst (λ (pc : ℕ). AreBehind pc k.stands.types) (sym (type_pc c f k.stands q gives)) (rules_at c marked f k.stands).behind
+      no_array : (x : Op) → (row c.program k.stands.method k.stands.insn.pc k.stands.target x).gives ≡ Anew (types.New q) ∷ [] → is_newarray x ≡ false
+      no_array ops.Newarray e = absurd (cc)
+      no_array x e = refl
 
-      well : LandsWell design false (frame_on (row_at c f k.stands) k.stands.insn.next next f) k.stands.method (frame_after k.stands.method (row_at c f k.stands) k.stands.types)
-      well = usual_well (types.New q) edge gives writes none op.0 op.1 (no_array k.stands.insn.op gives)
-        where
-          no_array : (x : Op) → (row c.program k.stands.method k.stands.insn.pc k.stands.target x).gives ≡ Anew (types.New q) ∷ [] → is_newarray x ≡ false
-          no_array ops.Newarray e = absurd (cc)
-          no_array x e = refl
-
-      by_young : (y : Bool) → makes_frozen frozen k.stands.method q ≡ y → MadeIn (in_later building (with_builder w next (builder t (length fs) Header)) more) next (length fs) (making c.program (top_here c f fs k.stands))
-      by_young y e = makes_as (types.New q) edge gives writes none op.0 op.1 q (item_of q y) (sort_of q y) behind well (λ s. cc) (slot y e)
-        where
-          slot : (y : Bool) → makes_frozen frozen k.stands.method q ≡ y
-              → if_so (makes_frozen frozen k.stands.method q) (stored_world lawful more (length fs) grows q (item_of q y) (sort_of q y) next ≡ Some (builder t (length fs) (Made q))) (IsFinished (stored_world lawful more (length fs) grows q (item_of q y) (sort_of q y)) more next)
-          slot true e = rw e (here lawful more (length fs) grows q (item_of q true) (sort_of q true) (Some (Made q)))
-          slot false e = rw e (grows, here lawful more (length fs) grows q (item_of q false) (sort_of q false) None)
-  makes_it (types.Ref class) word size edge gives writes sort none op = by_op (is_newarray k.stands.insn.op) refl
+      slot : (y : Bool) → makes_frozen frozen k.stands.method q ≡ y
+          → if_so (makes_frozen frozen k.stands.method q) (stored_world lawful more (length fs) grows q (item_of q y) (sort_of q y) next ≡ Some (builder t (length fs) (Made q))) (IsFinished (stored_world lawful more (length fs) grows q (item_of q y) (sort_of q y)) more next)
+      slot true e = rw e (here lawful more (length fs) grows q (item_of q true) (sort_of q true) (Some (Made q)))
+      slot false e = rw e (grows, here lawful more (length fs) grows q (item_of q false) (sort_of q false) None)
+  makes_it (types.Ref class) word size edge gives writes sort none op = elim (cases_Bool (is_newarray k.stands.insn.op)) [
+    | inl e ↦
+        let after = next_puts c marked owning owns f.method k.stands.number k.stands.method k.stands.insn k.stands.at.in_program k.stands.at.in_code in
+        by_puts e after.0 after.1
+    | inr e ↦ finished_one (usual_well (types.Ref class) edge gives writes none op.0 op.1 e)
+  ]
     where
       finished_one : LandsWell design false (frame_on (row_at c f k.stands) k.stands.insn.next next f) k.stands.method (frame_after k.stands.method (row_at c f k.stands) k.stands.types)
           → MadeIn (in_later building (with_builder w next (builder t (length fs) Header)) more) next (length fs) (making c.program (top_here c f fs k.stands))
       finished_one well = makes_as (types.Ref class) edge gives writes none op.0 op.1 k.stands.insn.pc None (no_item k.stands.insn.pc) (rules_at c marked f k.stands).behind well (λ s. cc)
           (grows, here lawful more (length fs) grows k.stands.insn.pc None (no_item k.stands.insn.pc) None)
 
-      by_op : (b : Bool) → is_newarray k.stands.insn.op ≡ b → MadeIn (in_later building (with_builder w next (builder t (length fs) Header)) more) next (length fs) (making c.program (top_here c f fs k.stands))
-      by_op false e = finished_one (usual_well (types.Ref class) edge gives writes none op.0 op.1 e)
-      by_op true e = by_puts after.0 after.1
-        where
-          after : (puts : Bool) × ((j : ℕ) (other : Insn) (target : Target) (u : TagShape) → IsAt c.program (tags_of c) f.method j k.stands.method other target u → other.pc ≡ k.stands.insn.next → puts_owned owning.owned other.op target ≡ puts)
-          after = next_puts c marked owning owns f.method k.stands.number k.stands.method k.stands.insn k.stands.at.in_program k.stands.at.in_code
-
-          well : (puts : Bool) → ((j : ℕ) (other : Insn) (target : Target) (u : TagShape) → IsAt c.program (tags_of c) f.method j k.stands.method other target u → other.pc ≡ k.stands.insn.next → puts_owned owning.owned other.op target ≡ puts)
-              → LandsWell design puts (frame_on (row_at c f k.stands) k.stands.insn.next next f) k.stands.method (frame_after k.stands.method (row_at c f k.stands) k.stands.types)
-          well puts put = goes_well building (length fs) f k k.stands.insn.next next (number_in (edges k.stands.insn) k.stands.insn.next edge) (made_well (types.Ref class) op.0 gives writes) puts put
-
-          by_puts : (puts : Bool) → ((j : ℕ) (other : Insn) (target : Target) (u : TagShape) → IsAt c.program (tags_of c) f.method j k.stands.method other target u → other.pc ≡ k.stands.insn.next → puts_owned owning.owned other.op target ≡ puts)
-              → MadeIn (in_later building (with_builder w next (builder t (length fs) Header)) more) next (length fs) (making c.program (top_here c f fs k.stands))
-          by_puts true put = makes_unstored (types.Ref class) edge gives writes none op.0 op.1 (newarray_is k.stands.insn.op e) (well true put)
-          by_puts false put = finished_one (well false put)
+      by_puts : is_newarray k.stands.insn.op ≡ true → (puts : Bool) → ((j : ℕ) (other : Insn) (target : Target) (u : TagShape) → IsAt c.program (tags_of c) f.method j k.stands.method other target u → other.pc ≡ k.stands.insn.next → puts_owned owning.owned other.op target ≡ puts)
+          → MadeIn (in_later building (with_builder w next (builder t (length fs) Header)) more) next (length fs) (making c.program (top_here c f fs k.stands))
+      by_puts e true put = makes_unstored (types.Ref class) edge gives writes none op.0 op.1 (newarray_is k.stands.insn.op e) (goes_well building (length fs) f k k.stands.insn.next next (number_in (edges k.stands.insn) k.stands.insn.next edge) (made_well (types.Ref class) op.0 gives writes) true put)
+      by_puts e false put = finished_one (goes_well building (length fs) f k k.stands.insn.next next (number_in (edges k.stands.insn) k.stands.insn.next edge) (made_well (types.Ref class) op.0 gives writes) false put)
   makes_it type word size edge gives writes sort none op = absurd sort

@@ -112,11 +112,7 @@ same_view w t o = record { same = λ e v. refl; others = λ v n. refl; own = λ 
 module _ (w now : World) (t : ℕ) (o : Option Attempt) (view : IsViewOf now w t o) where
   view_goes : (next : ℕ) → GoesOn w now next next t 0
   view_goes next = goes_by w now next next t (omega arith) (λ v k. view.others v (λ b e. absurd (none_some (w v) b k.1 e)) ∙ k.1)
-      (λ v b n e. view.others v (λ d f. (let same : b ≡ d = cc in λ s. n (ap (λ (x : Builder). x.thread) same ∙ s))) ∙ e) (λ v b n e. by_own v b n e (own_or_not w t v))
-    where
-      by_own : (v : ℕ) (b : Builder) → b.thread ≢ t → now v ≡ Some b → IsOwnIn w t v ⊎ IsNoneOf w t v → w v ≡ Some b
-      by_own v b n e (inl k) = absurd (n (view.own v k.0 b k.1 k.2 e))
-      by_own v b n e (inr k) = sym (view.others v k) ∙ e
+      (λ v b n e. view.others v (λ d f. (let same : b ≡ d = cc in λ s. n (ap (λ (x : Builder). x.thread) same ∙ s))) ∙ e) (λ v b n e. elim (own_or_not w t v) [ inl k ↦ absurd (n (view.own v k.0 b k.1 k.2 e)) | inr k ↦ sym (view.others v k) ∙ e ])
 
   -- as long as the attempt goes on
   view_on : (later : World) (first next : ℕ) (b : Attempt) → GoesOn now later next next t 0 → IsWorld later first next → IsViewOf later w t (Some b)

@@ -30,7 +30,7 @@ known_on w later next more t u goes v k = ((let l = k.0 in let g = goes.grows in
   where
     was : (b : Builder) → b.thread ≢ u → later v ≡ Some b → (o : Option Builder) → w v ≡ o → ⊥
     was b n e None f = none_some (later v) b (goes.finished v (k.0, f)) e
-    was b n e (Some d) f = elim (cases_Bool (d.thread == t)) [
+    was b n e (Some d) f = let mine : d.thread ≡ u = k.1 d f in elim (cases_Bool (d.thread == t)) [
       | inl o ↦  -- its builder is t, and so u is; b is another's, who built it before
           let before = goes.no_more v b (λ s. n (s ∙ sym (eqb-true d.thread t o) ∙ mine)) e in
           let same : d ≡ b = cc in
@@ -39,9 +39,6 @@ known_on w later next more t u goes v k = ((let l = k.0 in let g = goes.grows in
           let same : d ≡ b = cc in
           n (sym (ap (λ (x : Builder). x.thread) same) ∙ mine)
     ]
-      where
-        mine : d.thread ≡ u
-        mine = k.1 d f
 
 pub finished_on : (w later : World) (next more t : ℕ) → GoesOn w later next more t 0 → (v : ℕ) → IsFinished w next v → IsFinished later more v
 finished_on w later next more t goes v k = ((let l = k.0 in let g = goes.grows in omega (arith, l, g)), goes.finished v k)
@@ -84,14 +81,10 @@ module _ (building : Building) (later : World) (more t : ℕ) (goes : GoesOn bui
 
     merged_view : IsViewOf (merged u w now later) later u attempt
     merged_view = record {
-      same = λ none v. by_own v none (own_or_not w u v);
+      same = λ none v. elim (own_or_not w u v) [ inl k ↦ merged_own v k ∙ view.same none v ∙ k.1 ∙ sym (own_later v k.0 k.2 k.1) | inr n ↦ merged_rest v n ];
       others = λ v n. merged_rest v (λ b e m. n b (own_later v b m e) m);
       own = λ v b d e m f. let was = own_before v b m e in view.own v b d was m (sym (merged_own v (b, was, m)) ∙ f);
     }
-      where
-        by_own : (v : ℕ) → attempt ≡ None → IsOwnIn w u v ⊎ IsNoneOf w u v → merged u w now later v ≡ later v
-        by_own v none (inl k) = merged_own v k ∙ view.same none v ∙ k.1 ∙ sym (own_later v k.0 k.2 k.1)
-        by_own v none (inr n) = merged_rest v n
 
     merged_world : (first : ℕ) → IsWorld now first next → IsWorld later first more → IsWorld (merged u w now later) first more
     merged_world first a b = record {
@@ -145,9 +138,6 @@ module _ (building : Building) (later : World) (more t : ℕ) (goes : GoesOn bui
   pub other_lost : (was : Phase) (x : Thread) (world : IsWorld w (words_of c.program) next) (k : ThreadIn building was x) (v : ℕ) (b before : Builder) → w v ≡ Some before → later v ≡ Some b → (before.thread ≢ u) ⊎ (k.now v ≡ Some b)
       → (other_keeps was x world k).now v ≡ Some b
   unfolding other_keeps
-  other_lost was x world k v b before e f g = ap (λ (o : Option Builder). own_or u o (k.now v) (later v)) e ∙ by_view (before.thread == u) refl g
-    where
-      by_view : (y : Bool) → (before.thread == u) ≡ y → (before.thread ≢ u) ⊎ (k.now v ≡ Some b) → (if y then k.now v else later v) ≡ Some b
-      by_view true s (inl n) = absurd (n (eqb-true before.thread u s))
-      by_view true s (inr g) = g
-      by_view false s g = f
+  other_lost was x world k v b before e f g =
+      let rest : (if before.thread == u then k.now v else later v) ≡ Some b = elim (cases_Bool (before.thread == u)) [ inl s ↦ rw s (elim g [ inl n ↦ absurd (n (eqb-true before.thread u s)) | inr h ↦ h ]) | inr s ↦ rw s f ] in
+      ap (λ (o : Option Builder). own_or u o (k.now v) (later v)) e ∙ rest
