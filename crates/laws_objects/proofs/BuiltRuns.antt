@@ -13,7 +13,7 @@ use Rattle.laws_states.specs.{ChangeLaws.{EventsLeaveOthers, all_objects, run_ob
 use Rattle.laws_states.{specs.StateLaws.{ProgramsKeepThreads, StartHasState, EventsKeepState, NextKeepsState}, proofs.GrowingRuns.all_append}
 use Rattle.laws_objects.{specs.{ConstructionLaws.{no_builders, StartHasConstruction}, UnfinishedObjects.{IsInitOn, NobodyHas}}, proofs.Buildings.{ThreadIn, BuiltState, building_in}}
 use Rattle.laws_objects.proofs.{Events.{BuildsFor, builds_for, unwound_stores, usual_built, usual_loses, grows}, FrameChanges.IsUnwound, LosingInits.{losing_here, leaves_lost}, LostObjects.LostIn}
-use Rattle.laws_objects.proofs.{PartBegins.next_builds, Unused.{lost_strange, uses_not, places_have_not}, WorldChanges.lost}
+use Rattle.laws_objects.proofs.{PartBegins.next_builds, Unused.{uses_not, places_have_not}, WorldChanges.lost}
 
 -- ---- a test that tells a frozen class
 
@@ -124,7 +124,7 @@ module _ (run : Run) where
   pub nobody_has : (objects : List Object) (was : ℕ → Phase) (s : Core) (v : ℕ) → LostThere c cfg frozen v objects was s → NobodyHas c v objects s
   nobody_has objects was s v k = record {
     places = places_have_not c k.there.owning k.there.world (slice_index s.words NEXT_FREE_WORD) v objects s.words k.builder k.lost.is k.there.built.places;
-    threads = λ u x here. (let keeps = k.there.built.each u x here in uses_not (building_in (state_of objects was s k.there) u) v (was u) x keeps k.there.built.world (k.there.facts.structure u x here).is_as (lost_strange keeps.now u v k.builder (k.lost.seen u x here) k.lost.item));
+    threads = λ u x here. (let keeps = k.there.built.each u x here in uses_not (building_in (state_of objects was s k.there) u) v (was u) x keeps k.there.built.world (k.there.facts.structure u x here).is_as (record { built = k.builder; is = k.lost.seen u x here; other = λ h y n s. n (sym (ap (λ (i : Builder). i.item) s) ∙ k.lost.item) }));
   }
 
   -- whatever happens

@@ -1,5 +1,5 @@
 -- An event that changes an element of an array that an object owns is an `iastore` of a method that runs on the object.
-use Rattle.std.proofs.Common.{◌≡◌, ◌⊎◌, inl, inr, ℕ, ◌<◌, Bool, true, false, not, List, [], ◌∷◌, length, Some, None, refl, sym, ap, ◌∙◌, subst, arith, ⊎_elim, ◌||◌, Contains, slice_index}
+use Rattle.std.proofs.Common.{◌≡◌, ◌⊎◌, inl, inr, ℕ, Bool, true, false, not, List, [], ◌∷◌, length, Some, None, refl, sym, ap, ◌∙◌, subst, arith, ⊎_elim, ◌||◌, Contains, slice_index}
 use Rattle.std.{specs.List.AllZip, proofs.lemmas.Bool.{cases_Bool, or_parts}}
 use Rattle.lists.proofs.{ListLaws.same_some, TestLaws.is_true}
 use Rattle.jvm_types.specs.{CodeTable.row, Members.is_static, ProgramInvariant.IsProgram, Types.{TypeFrame, is_below}, Verifying.{suits, some_taken, some_read, mistypes}, declared.{class_numbers.TheConstants.INT_ARRAY_CLASS, code.{Insn.Insn, Op.Op}}}
@@ -108,10 +108,6 @@ module _ (decided : OwnedIsDecided) (event : BuiltEvent) (fi word : ℕ) (o : Ob
       ap (λ (b : Object). b.class) (same_object c.program objects _ heap.apart e.array k.0 e.there
       k.1 (sym k.2)) ∙ k.3
 
-  some_array : 0 < e.array.reference
-  some_array = let begins = heap.apart.begin e.there.0 e.array
-      (contained_got objects e.array e.there) in omega (arith, begins)
-
   -- ---- a field is no element of it
 
   no_field : (target : Target) (v : Variable) (f : FieldInfo)
@@ -188,7 +184,7 @@ module _ (decided : OwnedIsDecided) (event : BuiltEvent) (fi word : ℕ) (o : Ob
       same_word : value_word f.receiver coloured.owned.field.index ≡ e.field_word
       same_word = elim (slot.on.owned coloured (value_word f.receiver coloured.owned.field.index)
           (record { field = coloured.owned.field; is = coloured.owned.is; place = refl })) [
-            | inl null ↦ absurd (omega (arith, null, reference, some_array))
+            | inl null ↦ absurd (let begins = heap.apart.begin e.there.0 e.array (contained_got objects e.array e.there) in omega (arith, null, reference, begins))
             | inr is ↦ same_some (sym is ∙ stored)
           ]
 

@@ -15,7 +15,7 @@ use Rattle.laws_objects.{specs.UnfinishedObjects.{ReturnsFrom, NeverReturns, NoO
 use Rattle.laws_objects.proofs.BuiltRuns.{Run, state_of, TellsClass, tells_class, AreBuiltLaws, BuiltThere, LostThere, BuiltIn, event_there, next_there, event_lost, next_lost, nobody_has, reached, lost_behind, core_more, objects_more}
 use Rattle.laws_objects.proofs.{FrameChanges.{frame_at, under, top_here, in_place, none_begun, TriesGo, IsUnwound, FramesGo, frames_go}, ThreadMoves.BasedIn}
 use Rattle.laws_objects.proofs.UnreturnedInits.{IsYoung, HasInit, init_stays, init_splits, Splits, HasBack, IsInside, world_begun, put_back_low, based_of, has_back_on, back_frames, away_frames}
-use Rattle.laws_objects.proofs.Unused.{others_strange, uses_not, places_have_not}
+use Rattle.laws_objects.proofs.Unused.{uses_not, places_have_not}
 use Rattle.machine_types.specs.declared.phase.Phase.TheVariants as phases
 
 -- ---- the thread behind an event of its own
@@ -112,7 +112,7 @@ module _ (run : Run) (t h v : ℕ) where
       threads = λ u x apart here. (
           let keeps = k.there.built.each u x here in
           let seen : keeps.now v ≡ Some (builder t h Begun) = keeps.now_is.others v (λ b e. (let same : builder t h Begun ≡ b = same_some (sym begun ∙ e) in λ z. apart (sym z ∙ sym (ap (λ (i : Builder). i.thread) same)))) ∙ begun in
-          uses_not (building_in (state_of run objects was s k.there) u) v (was u) x keeps k.there.built.world (k.there.facts.structure u x here).is_as (others_strange keeps.now u v (builder t h Begun) seen (λ e. apart (sym e)))
+          uses_not (building_in (state_of run objects was s k.there) u) v (was u) x keeps k.there.built.world (k.there.facts.structure u x here).is_as (record { built = builder t h Begun; is = seen; other = λ i y n s. apart (sym (ap (λ (j : Builder). j.thread) s)) })
           );
     }
 

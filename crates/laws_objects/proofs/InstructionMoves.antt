@@ -162,8 +162,10 @@ module _ (moving : Moving) (is : Classes) where
         by_stack : (vs : List ℕ) → a.frame.stack ≡ vs → puts (Some own.field) vs ≡ Writes v put → (array : ℕ) × (rest : List ℕ) × (a.frame.stack ≡ array ∷ rest) × (put ≡ array)
         by_stack [] e h = absurd (cc)
         by_stack (array ∷ []) e h = absurd (cc)
-        by_stack (array ∷ b ∷ rest) e h = (array, b ∷ rest, e, (elim (b == 0) as (λ (z : Bool). (if z then Throws thrown.NullPointerException else Writes (variable_of own.field b) (kept own.field.kind array)) ≡ Writes v put → put ≡ array)
-            [ true ↦ λ h. absurd (cc) | false ↦ λ h. (let same : kept own.field.kind array ≡ put = cc in sym same ∙ ap (λ (kind : Kind). kept kind array) own.array) ]) h)
+        by_stack (array ∷ b ∷ rest) e h =
+            let same : put ≡ array = (elim (b == 0) as (λ (z : Bool). (if z then Throws thrown.NullPointerException else Writes (variable_of own.field b) (kept own.field.kind array)) ≡ Writes v put → put ≡ array)
+            [ true ↦ λ h. absurd (cc) | false ↦ λ h. (let same : kept own.field.kind array ≡ put = cc in sym same ∙ ap (λ (kind : Kind). kept kind array) own.array) ]) h in
+            (array, b ∷ rest, e, same)
 
     pub stores_as : (v : Variable) (put : ℕ) → effect_at c.program at ≡ Writes v put → puts_owned owning.owned a.keeps.stands.insn.op a.keeps.stands.target ≡ true → StoresNewArray v put (goes_on s (Running (went_on c.program at 0)))
     stores_as v put same puts =

@@ -162,10 +162,6 @@ module _ (moving : Moving) where
 
     -- ---- what is thrown, an element and a new object
 
-    -- where it is in no attempt
-    goes_outside : (o : Onward) → x.attempt ≡ None → StaysStructured c was (goes_on s o) → IfKeeps (in_world building k.now) (Some o) → Goal (goes_on s o)
-    goes_outside o none stands keeps = goes_if s (Some o) refl refl (from_same x.attempt) held stands (never (Some o) none) keeps
-
     pub throws_as : (v : ℕ) (class : outcomes.Thrown) (at : Top) → IsStoredNowhere owning.stores v → top_of c.program x.frames ≡ Some at → was ≡ phases.Throw v class → StaysStructured c was (goes_on s (handed c.program v class at (handler_at (class_of class) at))) → Goal (goes_on s (handed c.program v class at (handler_at (class_of class) at)))
     throws_as v class at clean top e stands =
         goes_if s (Some (handed c.program v class at (handler_at (class_of class) at))) refl refl (from_same x.attempt) held stands
@@ -180,7 +176,8 @@ module _ (moving : Moving) where
         (element_if (sees moving) stored value x.frames (fits (phases.Element word stored) e).0 (at_phase (phases.Element word stored) e).phase_shows))
 
     pub made_as : (a word : ℕ) → was ≡ phases.Made a word → StaysStructured c was (goes_on s (Running (pushed a x.frames))) → Goal (goes_on s (Running (pushed a x.frames)))
-    made_as a word e stands = goes_outside (Running (pushed a x.frames)) (none_in (phases.Made a word) (λ m q. q) e) stands (made_if (sees moving) a x.frames (fits (phases.Made a word) e).0)
+    made_as a word e stands = goes_if s (Some (Running (pushed a x.frames))) refl refl (from_same x.attempt) held stands (never (Some (Running (pushed a x.frames))) (none_in (phases.Made a word) (λ m q. q) e))
+        (made_if (sees moving) a x.frames (fits (phases.Made a word) e).0)
 
     pub notified_as : (phase : Phase) → was ≡ phase → (Fits phase → Fits phases.Run) → Goal (runs s)
     notified_as phase e fit = runs_as s refl (from_same x.attempt) held (fit (fits phase e))

@@ -1,7 +1,7 @@
 -- A new object: its frame lacks it until its header is stored, and then has it.
 use Rattle.std.proofs.Common.{◌≡◌, ◌≢◌, ℕ, ◌<◌, ◌⊎◌, inl, inr, Bool, true, false, List, [], ◌∷◌, ◌++◌, length, map, drop, Option, Some, None, refl, sym, ap, ◌∙◌, subst, arith, option_map}
 use Rattle.std.specs.List.{AllByRecursion}
-use Rattle.std.proofs.lemmas.Bool.{cases_Bool}
+use Rattle.std.proofs.lemmas.Bool.{cases_Bool, eq-eqb}
 use Rattle.lists.proofs.ListLaws.{same_some}
 use Rattle.jvm_types.specs.{ProgramInvariant.words_of, CodeTable.{row, value_of, stack_after, locals_after}, Verifying.{started, frame_after, edges}, declared.{code.{Insn.Insn, Op.Op}, op_row.{Given.{Given, TheVariants.Fresh as Anew}}, program.{Target.Target}, typing.VType.VType}}
 use Rattle.laws_programs.{specs.NewLaws.{IsNewBefore, AreBehind}, proofs.RowsKeep.{IsFine, row_fine}}
@@ -14,7 +14,7 @@ use Rattle.laws_objects.proofs.{ArrayFrames.{goes_well, goes_plain}, ArrayMoves.
 use Rattle.laws_objects.proofs.{BuiltEffects.StartsNone, CalledFrames.{below_moved, none_started}, EffectOps.{is_putfield, stores_none}, KeptFrames.{below_kept, plain_stack}, Landing.LandsWell}
 use Rattle.laws_objects.proofs.{Moves.{StartsOld, lands_behind, goes_old, given_stack, given_locals}, Operands.{is_getfield, no_read}, PutPlaces.{is_newarray, newarray_is, next_puts}}
 use Rattle.laws_objects.proofs.Slots.{slot_if, slots_map_if, slots_drop, IsMade, IsWriteMade, made_slot}
-use Rattle.laws_objects.proofs.WorldChanges.{none_from, none_some, given_here, given_keeps, given_none, finished_here, finished_there, world_given, world_finished}
+use Rattle.laws_objects.proofs.WorldChanges.{none_from, none_some, given_here, given_keeps, given_none, finished_there, world_given, world_finished}
 use Rattle.jvm_types.specs.declared.code.Op.TheVariants as ops
 use Rattle.jvm_types.specs.declared.typing.VType.TheVariants as types
 
@@ -83,7 +83,7 @@ module _ (lawful : LawfulBuilding) (more h : ℕ) (grows : lawful.next < more) (
 
   here : (o : Option Item) → made_world header_world next t h o next ≡ option_map (builder t h) o
   here (Some y) = given_here header_world next (builder t h y)
-  here None = finished_here header_world next
+  here None = rw (eq-eqb next next refl) refl
 
   inside_made : (o : Option Item) (v : ℕ) (b : Builder) → made_world header_world next t h o v ≡ Some b → v < more
   inside_made o v b e = ((stored o).inside v b e).1

@@ -12,7 +12,7 @@ use Rattle.machine_types.specs.{Words.{value_word, variable_word}, declared.{acc
 use Rattle.machine_types.specs.declared.phase.Phase.{Phase}
 use Rattle.laws_threads.{specs.Allowed.{IsOf, IsNamedField, Allowed}, proofs.{Landing.stand_top, Standings.top_here, TopEffects.allowed_here}}
 use Rattle.laws_states.{specs.Sites.{Site, ValueOf, StaticAt, site_word, IsThere, Suits}, proofs.Accesses.out_there}
-use Rattle.laws_states.proofs.{EventWords.{IsLeft, word_at}, LeftStands.loaded, Lists.contained_got, Movers.{HeapState, HeapMover, KnownSites, heap_mover}}
+use Rattle.laws_states.proofs.{EventWords.{word_at}, LeftStands.loaded, Lists.contained_got, Movers.{HeapState, HeapMover, KnownSites, heap_mover}}
 use Rattle.laws_objects.proofs.Buildings.{BuiltState}
 use Rattle.jvm_types.specs.declared.program.Target.TheVariants as targets
 use Rattle.machine_types.specs.declared.lock.Kept.TheVariants as keeps
@@ -177,14 +177,11 @@ module _ (event : PlaceEvent) where
         let stands : Stands c (phases.Element w (Some v)) x.frames x.held x.attempt = subst (λ (phase : Phase). Stands c phase x.frames x.held x.attempt) k.is_as structured.stands in
         stands.phase_shows
 
-    by_left : IsLeft c s.words x place → Stays ⊎ IsWriter IsSuch x ⊎ Stored
-    by_left k = elim (phase_writes k.access (slice_index s.words (site_word place)) k.word x.phase refl k.wants (place_suits (content_at c x x.phase) place is_place k.suits) (heap.typed.threads t x there).phase at_element) [
-      | inl e ↦ inl (k.left ∙ e)
-      | inr wrote ↦ inr wrote
-    ]
-
     pub place_changer : Stays ⊎ IsWriter IsSuch x ⊎ Stored
-    place_changer = elim (word_at mover sites place is_there) [ inl e ↦ inl e | inr k ↦ by_left k ]
+    place_changer = elim (word_at mover sites place is_there) [
+      | inl e ↦ inl e
+      | inr k ↦ elim (phase_writes k.access (slice_index s.words (site_word place)) k.word x.phase refl k.wants (place_suits (content_at c x x.phase) place is_place k.suits) (heap.typed.threads t x there).phase at_element) [ inl e ↦ inl (k.left ∙ e) | inr wrote ↦ inr wrote ]
+    ]
 
   -- of a place that is no element
   module _ (place : Site) (is_place : IsPlace place) (is_there : IsThere c.program objects s place) (IsSuch : Frame → Type 0) (writes : Write place IsSuch)

@@ -335,6 +335,8 @@ module _ (lawful : LawfulBuilding) (resuming : Resuming lawful) where
     where
       by_start : Starts k.method (makes_frozen frozen k.method) (started k.method.class r.takes k.types.stack) → Steps w next t (λ z. FramesIn (in_world building z) Runs (resumed ∷ gs))
       by_start (inl old) = stays w next t (λ z. FramesIn (in_world building z) Runs (resumed ∷ gs)) (resumes_old old, below_moved building g k.insn.next (result ++ g.stack) g.locals gs below)
-      by_start (inr y) = drops w next t (builder t (suc (length gs)) Begun) (λ z. FramesIn (in_world building z) Runs (resumed ∷ gs)) refl (λ e. cc)
-          (resumes_young y, below_moved (in_world building (without w (builder t (suc (length gs)) Begun))) g k.insn.next (result ++ g.stack) g.locals gs (below_kept building (without w (builder t (suc (length gs)) Begun)) next (finished_without w next (builder t (suc (length gs)) Begun)) g gs
-          (λ i less v x e. without_keeps w (builder t (suc (length gs)) Begun) v (builder t i x) e (λ s. (let n : i ≡ suc (length gs) = ap (λ (b : Builder). b.height) s in omega (arith, n, less)))) below))
+      by_start (inr y) =
+          let stay = below_kept building (without w (builder t (suc (length gs)) Begun)) next (finished_without w next (builder t (suc (length gs)) Begun)) g gs
+          (λ i less v x e. without_keeps w (builder t (suc (length gs)) Begun) v (builder t i x) e (λ s. (let n : i ≡ suc (length gs) = ap (λ (b : Builder). b.height) s in omega (arith, n, less)))) below in
+          drops w next t (builder t (suc (length gs)) Begun) (λ z. FramesIn (in_world building z) Runs (resumed ∷ gs)) refl (λ e. cc)
+          (resumes_young y, below_moved (in_world building (without w (builder t (suc (length gs)) Begun))) g k.insn.next (result ++ g.stack) g.locals gs stay)

@@ -1,5 +1,5 @@
 -- A thread that has moved keeps what construction says of it, in and outside of an attempt.
-use Rattle.std.proofs.Common.{◌≡◌, ◌≢◌, ℕ, ◌-◌, ◌<◌, ◌≤◌, ◌⊎◌, inl, inr, Bool, cond, List, [], ◌∷◌, length, drop, Option, Some, None, refl, sym, ap, ◌∙◌, subst, arith, ◌==◌, nat_lt, Contains, IfSome}
+use Rattle.std.proofs.Common.{◌≡◌, ◌≢◌, ℕ, ◌-◌, ◌<◌, ◌≤◌, inl, inr, Bool, cond, List, [], ◌∷◌, length, drop, Option, Some, None, refl, sym, ap, ◌∙◌, subst, arith, ◌==◌, nat_lt, Contains, IfSome}
 use Rattle.std.{specs.List.AllByRecursion, proofs.lemmas.Bool.{cases_Bool, eqb-true, eqb-false}}
 use Rattle.jvm_types.specs.ProgramInvariant.{words_of}
 use Rattle.laws_programs.proofs.LocalGoing.{at_index}
@@ -11,7 +11,7 @@ use Rattle.machine_types.specs.declared.{lock.Held.Held, phase.Phase.Phase}
 use Rattle.laws_threads.{specs.{EntryFrames.{frames_in, KeepsEntry}, StructureLaws.counted_by}, proofs.{HeldBounds.{each_put, each_without, found}, Tests.either_way, ThreadMove.{goes_held, goes_attempt}}}
 use Rattle.laws_states.proofs.Lists.{contained_got, contains_first, contains_more}
 use Rattle.laws_objects.proofs.{Buildings.{Building, in_world, in_later, with_stores, FramesIn, PhaseIn, TriesIn, AttemptIn, ThreadIn}, CountedPhases.PhaseFits}
-use Rattle.laws_objects.proofs.{KeptFrames.{KeepsAt, phase_frames_kept, phase_kept, attempt_kept}, Moves.Steps, Onwards.OnwardKeeps, Views.{IsOwnIn, IsNoneOf, own_or_not, known_on}}
+use Rattle.laws_objects.proofs.{KeptFrames.{KeepsAt, phase_frames_kept, phase_kept, attempt_kept}, Moves.Steps, Onwards.OnwardKeeps, Views.{own_or_not, known_on}}
 use Rattle.laws_objects.proofs.WorldChanges.{none_some, goes_by, goes_same, goes_both, world_same, KeepsLost}
 use Rattle.jvm_types.specs.declared.outcome.End.TheVariants as ends
 use Rattle.machine_types.specs.declared.phase.Phase.TheVariants as phases

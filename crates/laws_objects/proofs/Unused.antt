@@ -1,5 +1,5 @@
 -- What is lost, or built by another thread, is in no slot of a thread that an instruction may use, and in no place.
-use Rattle.std.{proofs.Common.{◌≡◌, ◌≢◌, inl, inr, ℕ, Bool, true, false, List, [], ◌∷◌, length, Some, None, refl, sym, ap, ◌∙◌, subst, arith}, specs.List.AllZip}
+use Rattle.std.{proofs.Common.{◌≡◌, ◌≢◌, inl, inr, ℕ, Bool, true, false, List, [], ◌∷◌, length, Some, None, refl, sym, ◌∙◌, subst, arith}, specs.List.AllZip}
 use Rattle.jvm_types.specs.{ProgramInvariant.words_of, Types.TypeFrame, declared.{program.Kind.Kind, typing.VType.VType}}
 use Rattle.checked_program.specs.{MarkedProgram.{MarkedProgram, IsMarked}, declared.tag.Tag.{Tag}}
 use Rattle.machine_types.specs.Construction.{Owning, puts_owned, if_so, builds, makes_frozen, StackWith, SlotByType, OwnSlot, SlotIs, SlotsAre, Runs, IsFresh, ReceiverIs, FrameKeeps, KindKeeps, PlacesKeep}
@@ -17,12 +17,6 @@ pub record IsStrange (now : World) (t v : ℕ) : Type 0 where
   pub built : Builder
   pub is : now v ≡ Some built
   pub other : (h : ℕ) (x : Item) → x ≢ Lost → built ≢ builder t h x
-
-pub lost_strange : (now : World) (t v : ℕ) (b : Builder) → now v ≡ Some b → b.item ≡ Lost → IsStrange now t v
-lost_strange now t v b e lost = record { built = b; is = e; other = λ h x n s. n (sym (ap (λ (i : Builder). i.item) s) ∙ lost) }
-
-pub others_strange : (now : World) (t v : ℕ) (b : Builder) → now v ≡ Some b → b.thread ≢ t → IsStrange now t v
-others_strange now t v b e apart = record { built = b; is = e; other = λ h x n s. apart (ap (λ (i : Builder). i.thread) s) }
 
 module _ (now : World) (next t v : ℕ) (strange : IsStrange now t v) (null : IsFinished now next 0) where
   not_finished : (word : ℕ) → IsFinished now next word → word ≢ v

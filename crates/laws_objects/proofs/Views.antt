@@ -1,5 +1,5 @@
 -- What a thread sees of the world, as another thread's event or one of its own changes it.
-use Rattle.std.proofs.Common.{◌≡◌, ◌≢◌, ℕ, ◌≤◌, ◌<◌, ◌⊎◌, inl, inr, Bool, true, false, Option, Some, None, refl, sym, ap, ◌∙◌, subst, arith, ◌==◌, if◌then◌else◌}
+use Rattle.std.proofs.Common.{◌≡◌, ◌≢◌, ℕ, ◌≤◌, ◌<◌, ◌⊎◌, inl, inr, Bool, Option, Some, None, refl, sym, ap, ◌∙◌, subst, arith, ◌==◌, if◌then◌else◌}
 use Rattle.std.proofs.lemmas.Bool.{cases_Bool, true_from_ne_false, eq-eqb, eqb-true, ne_eqb, eqb-false}
 use Rattle.jvm_types.specs.ProgramInvariant.{words_of}
 use Rattle.machine_types.specs.{Threads.{Attempt, Thread}, Worlds.{Lost, Builder, builder, World, IsFinished, IsOwnOrFinished, IsWorld, IsViewOf, GoesOn}}

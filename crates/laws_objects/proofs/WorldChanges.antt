@@ -141,9 +141,6 @@ goes_given w next more t a k grows mine new was = goes_by w (with_builder w a k)
 
 -- ---- an object is finished
 
-pub finished_here : (w : World) (a : ℕ) → finished w a a ≡ None
-finished_here w a = rw (eq-eqb a a refl) refl
-
 pub finished_there : (w : World) (a v : ℕ) → v ≢ a → finished w a v ≡ w v
 finished_there w a v n = rw (ne_eqb v a n) refl
 
