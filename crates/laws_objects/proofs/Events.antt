@@ -460,11 +460,7 @@ module _ (lies : StartLiesApart) (structure : StructureIsKept) (state : BuiltSta
         by_phase phase here e = usual_thread (λ run. absurd (let bad : phase ≡ phases.Run = sym here ∙ run in cc))
 
   pub builds_for : BuildsFor (slice_get s.threads t)
-  builds_for = by_thread (slice_get s.threads t) refl
-    where
-      by_thread : (o : Option Thread) → slice_get s.threads t ≡ o → BuildsFor o
-      by_thread None e = no_thread e
-      by_thread (Some x) e = of_thread x e
+  builds_for = (elim (slice_get s.threads t) as (λ (o : Option Thread). slice_get s.threads t ≡ o → BuildsFor o) [ None ↦ λ e. no_thread e | Some x ↦ λ e. of_thread x e ]) refl
 
 pub events_keep : StartLiesApart → StructureIsKept → EventsKeepConstruction
 events_keep lies structure c cfg objects was s t frozen owning w marked width facts con =

@@ -46,26 +46,24 @@ module _ (lawful : LawfulBuilding) where
   -- ---- a new object
 
   made_if : (a : ℕ) (fs : List Frame) → MadeIn building a (length fs - 1) fs → Steps w next t (λ z. OnwardKeeps (in_world building z) (Running (pushed a fs)))
-  made_if a fs k = by_item k.item k.keep
-    where
-      h : ℕ
-      h = length fs - 1
-
-      by_item : (o : Option Item) → FramesIn (in_world building (made_world w a t h o)) Runs (pushed a fs) → Steps w next t (λ z. OnwardKeeps (in_world building z) (Running (pushed a fs)))
-      by_item (Some y) keep = record {
-        later = with_builder w a (builder t h y);
-        goes = goes_given w next next t a (builder t h y) (omega arith) refl (λ o. none_some (w a) (builder t h Header) o.1 k.now) (λ j e. (let same : builder t h Header ≡ j = cc in ap (λ (x : Builder). x.thread) (sym same)));
-        world = λ first is. (let i = is.inside a (builder t h Header) k.now in world_given w first next next a (builder t h y) is (omega arith) i.0 i.1);
-        lost = lost_given w a (builder t h y) (λ b e. not_lost (w a) (builder t h Header) b (λ z. cc) k.now e);
-        keeps = keep;
-      }
-      by_item None keep = record {
-        later = finished w a;
-        goes = goes_finished w next next t a (omega arith) (λ j e. (let same : builder t h Header ≡ j = cc in ap (λ (x : Builder). x.thread) (sym same)));
-        world = λ first is. world_finished w first next next a is (omega arith);
-        lost = lost_finished w a (λ b e. not_lost (w a) (builder t h Header) b (λ z. cc) k.now e);
-        keeps = keep;
-      }
+  made_if a fs k =
+      let h : ℕ = length fs - 1 in
+      (elim k.item as (λ (o : Option Item). FramesIn (in_world building (made_world w a t (length fs - 1) o)) Runs (pushed a fs) → Steps w next t (λ z. OnwardKeeps (in_world building z) (Running (pushed a fs)))) [
+        | Some y ↦ λ keep. record {
+          later = with_builder w a (builder t h y);
+          goes = goes_given w next next t a (builder t h y) (omega arith) refl (λ o. none_some (w a) (builder t h Header) o.1 k.now) (λ j e. (let same : builder t h Header ≡ j = cc in ap (λ (x : Builder). x.thread) (sym same)));
+          world = λ first is. (let i = is.inside a (builder t h Header) k.now in world_given w first next next a (builder t h y) is (omega arith) i.0 i.1);
+          lost = lost_given w a (builder t h y) (λ b e. not_lost (w a) (builder t h Header) b (λ z. cc) k.now e);
+          keeps = keep;
+        }
+        | None ↦ λ keep. record {
+          later = finished w a;
+          goes = goes_finished w next next t a (omega arith) (λ j e. (let same : builder t h Header ≡ j = cc in ap (λ (x : Builder). x.thread) (sym same)));
+          world = λ first is. world_finished w first next next a is (omega arith);
+          lost = lost_finished w a (λ b e. not_lost (w a) (builder t h Header) b (λ z. cc) k.now e);
+          keeps = keep;
+        }
+      ]) k.keep
 
 -- ---- what is a thread's own or finished as it sees the world is so in the world
 
@@ -277,14 +275,12 @@ module _ (moving : Moving) where
     -- ---- inflation and waiting
 
     pub fattens_as : (m r : ℕ) (toward : Toward) (h : Held) → held_at x.held m ≡ Some h → was ≡ phases.FatIn m r toward → Goal (fattens s m r toward (Some h))
-    fattens_as m r toward h f e = by_toward toward (fits (phases.FatIn m r toward) e)
-      where
-        own : IsOwnOrFinished w next t h.monitor
-        own = known_at w next t m x.held h held f
-
-        by_toward : (toward : Toward) → Fits (phases.FatIn m r toward) → Goal (fattens s m r toward (Some h))
-        by_toward (towards.Leave a) fit = to (phases.Leave m a) (fattens s m r (towards.Leave a) (Some h)) refl (from_same x.attempt) (known_with w next t (record h { kept = keeps.Fat r }) x.held own held) fit
-        by_toward towards.Wait fit = to (phases.WaitBit m r) (fattens s m r towards.Wait (Some h)) refl (from_same x.attempt) (known_with w next t (record h { kept = keeps.Fat r }) x.held own held) (fit.0, fit.1.0)
+    fattens_as m r toward h f e =
+        let own : IsOwnOrFinished w next t h.monitor = known_at w next t m x.held h held f in
+        (elim toward as (λ (toward : Toward). Fits (phases.FatIn m r toward) → Goal (fattens s m r toward (Some h))) [
+          | towards.Leave a ↦ λ fit. to (phases.Leave m a) (fattens s m r (towards.Leave a) (Some h)) refl (from_same x.attempt) (known_with w next t (record h { kept = keeps.Fat r }) x.held own held) fit
+          | towards.Wait ↦ λ fit. to (phases.WaitBit m r) (fattens s m r towards.Wait (Some h)) refl (from_same x.attempt) (known_with w next t (record h { kept = keeps.Fat r }) x.held own held) (fit.0, fit.1.0)
+        ]) (fits (phases.FatIn m r toward) e)
 
     pub waits_as : (m r : ℕ) (h : Held) → was ≡ phases.WaitOut m r → Goal (goes_to_wait s m r (Some h))
     waits_as m r h e = to (phases.WaitLook m r h.depth) (goes_to_wait s m r (Some h)) refl (from_same x.attempt) (known_without w next t m x.held held) (fits (phases.WaitOut m r) e)

@@ -65,11 +65,8 @@ module _ (lawful : LawfulBuilding) where
       by_room false = tt
 
   root_if : (thread part number : ℕ) → has_number (part_roots c.program thread part) number ≡ true → IfKeeps building (option_map (rooted c.program thread number) (slice_get c.program.methods number))
-  root_if thread part number h = by_method (slice_get c.program.methods number) refl
-    where
-      by_method : (o : Option MethodInfo) → slice_get c.program.methods number ≡ o → IfKeeps building (option_map (rooted c.program thread number) o)
-      by_method None e = tt
-      by_method (Some m) e = stays w next t (λ z. OnwardKeeps (in_world building z) (rooted c.program thread number m)) (root_keeps thread part number m h e)
+  root_if thread part number h = (elim (slice_get c.program.methods number) as (λ (o : Option MethodInfo). slice_get c.program.methods number ≡ o → IfKeeps building (option_map (rooted c.program thread number) o))
+      [ None ↦ λ e. tt | Some m ↦ λ e. stays w next t (λ z. OnwardKeeps (in_world building z) (rooted c.program thread number m)) (root_keeps thread part number m h e) ]) refl
 
 -- ---- a part begins with them
 

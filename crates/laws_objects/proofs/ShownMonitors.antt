@@ -50,11 +50,8 @@ entries_counted p choice m tags f (inr e) = back_counted f.receiver (map (tag_va
 -- ---- what is shown is held
 
 held_of : (m : ℕ) (held : List Held) → 0 < held_depth m held → (h : Held) × (held_at held m ≡ Some h)
-held_of m held l = by_held (held_at held m) refl
-  where
-    by_held : (o : Option Held) → held_at held m ≡ o → (h : Held) × (held_at held m ≡ Some h)
-    by_held None e = absurd (omega (arith, l, depth_none m held e))
-    by_held (Some h) e = (h, e)
+held_of m held l = (elim (held_at held m) as (λ (o : Option Held). held_at held m ≡ o → (h : Held) × (held_at held m ≡ Some h))
+    [ None ↦ λ e. absurd (omega (arith, l, depth_none m held e)) | Some h ↦ λ e. (h, e) ]) refl
 
 module _ (c : MarkedProgram) (marked : IsMarked c) where
   shown_held : (m : ℕ) (f : Frame) (fs : List Frame) (held : List Held) (stands : Stands c phases.Run (f ∷ fs) held None) → 0 < count_in m stands.show.0 → (h : Held) × (held_at held m ≡ Some h)

@@ -63,11 +63,8 @@ module _ (building : Building) (later : World) (more t : ℕ) (goes : GoesOn bui
     merged_own v k = ap (λ o. own_or u o (now v) (later v)) k.1 ∙ ap (λ (x : Bool). if x then now v else later v) (eq-eqb k.0.thread u k.2)
 
     merged_rest : (v : ℕ) → IsNoneOf w u v → merged u w now later v ≡ later v
-    merged_rest v n = by_was (w v) refl
-      where
-        by_was : (o : Option Builder) → w v ≡ o → own_or u o (now v) (later v) ≡ later v
-        by_was None e = refl
-        by_was (Some b) e = ap (λ (x : Bool). if x then now v else later v) (ne_eqb b.thread u (n b e))
+    merged_rest v n = (elim (w v) as (λ (o : Option Builder). w v ≡ o → own_or u o (now v) (later v) ≡ later v)
+        [ None ↦ λ e. refl | Some b ↦ λ e. ap (λ (x : Bool). if x then now v else later v) (ne_eqb b.thread u (n b e)) ]) refl
 
     merged_by : (v : ℕ) (P : Option Builder → Type 0) → (IsOwnIn w u v → P (now v)) → (IsNoneOf w u v → P (later v)) → P (merged u w now later v)
     merged_by v P own rest = elim (own_or_not w u v) [ inl k ↦ subst P (sym (merged_own v k)) (own k) | inr n ↦ subst P (sym (merged_rest v n)) (rest n) ]
@@ -111,11 +108,10 @@ module _ (building : Building) (later : World) (more t : ℕ) (goes : GoesOn bui
     merged_old v k = ((let l = k.0 in let g = goes.grows in omega (arith, l, g)), merged_by v (λ (o : Option Builder). o ≡ None) (λ o. k.1) (λ n. goes.finished v (k.0, sym (view.others v n) ∙ k.1)))
 
     merged_known : (v : ℕ) → IsOwnOrFinished now next u v → IsOwnOrFinished (merged u w now later) more u v
-    merged_known v k = ((let l = k.0 in let g = goes.grows in omega (arith, l, g)), λ b. merged_by v (λ (o : Option Builder). o ≡ Some b → b.thread ≡ u) (λ o. k.1 b) (λ n e. by_now b n e (now v) refl))
-      where
-        by_now : (b : Builder) → IsNoneOf w u v → later v ≡ Some b → (o : Option Builder) → now v ≡ o → b.thread ≡ u
-        by_now b n e None f = absurd (none_some (later v) b (goes.finished v (k.0, sym (view.others v n) ∙ f)) e)
-        by_now b n e (Some d) f = absurd (n d (sym (view.others v n) ∙ f) (k.1 d f))
+    merged_known v k = ((let l = k.0 in let g = goes.grows in omega (arith, l, g)), λ b. merged_by v (λ (o : Option Builder). o ≡ Some b → b.thread ≡ u) (λ o. k.1 b) (λ n e. (elim (now v) as (λ (o : Option Builder). now v ≡ o → b.thread ≡ u) [
+      | None ↦ λ f. absurd (none_some (later v) b (goes.finished v (k.0, sym (view.others v n) ∙ f)) e)
+      | Some d ↦ λ f. absurd (n d (sym (view.others v n) ∙ f) (k.1 d f))
+    ]) refl))
 
   -- ---- so it keeps what it has
 

@@ -184,11 +184,8 @@ pub finished_without : (w : World) (next : ℕ) (b : Builder) (v : ℕ) → IsFi
 finished_without w next b v o = (o.0, without_none w b v o.1)
 
 pub without_back : (w : World) (b : Builder) (v : ℕ) (j : Builder) → without w b v ≡ Some j → w v ≡ Some j
-without_back w b v j = by_was (w v)
-  where
-    by_was : (o : Option Builder) → drop_if b o ≡ Some j → o ≡ Some j
-    by_was None e = e
-    by_was (Some d) e = (elim (same_builder b d) as (λ (x : Bool). (if x then None else Some d) ≡ Some j → Some d ≡ Some j) [ true ↦ λ e. absurd (cc) | false ↦ λ e. e ]) e
+without_back w b v j = elim (w v) as (λ (o : Option Builder). drop_if b o ≡ Some j → o ≡ Some j)
+    [ None ↦ λ e. e | Some d ↦ elim (same_builder b d) as (λ (x : Bool). (if x then None else Some d) ≡ Some j → Some d ≡ Some j) [ true ↦ λ e. absurd (cc) | false ↦ λ e. e ] ]
 
 pub goes_without : (w : World) (next t : ℕ) (b : Builder) → b.thread ≡ t → GoesOn w (without w b) next next t 0
 goes_without w next t b mine = goes_by w (without w b) next next t (omega arith) (λ v o. without_none w b v o.1)
