@@ -124,7 +124,8 @@ module _ (run : Run) where
   pub nobody_has : (objects : List Object) (was : ℕ → Phase) (s : Core) (v : ℕ) → LostThere c cfg frozen v objects was s → NobodyHas c v objects s
   nobody_has objects was s v k = record {
     places = places_have_not c k.there.owning k.there.world (slice_index s.words NEXT_FREE_WORD) v objects s.words k.builder k.lost.is k.there.built.places;
-    threads = λ u x here. (let keeps = k.there.built.each u x here in uses_not (building_in (state_of objects was s k.there) u) v (was u) x keeps k.there.built.world (k.there.facts.structure u x here).is_as (record { built = k.builder; is = k.lost.seen u x here; other = λ h y n s. n (sym (ap (λ (i : Builder). i.item) s) ∙ k.lost.item) }));
+    threads = λ u x here. (let keeps = k.there.built.each u x here in uses_not (building_in (state_of objects was s k.there) u) v (was u) x keeps k.there.built.world (k.there.facts.structure u x here).is_as
+        (record { built = k.builder; is = k.lost.seen u x here; other = λ h y n s. n (sym (ap (λ (i : Builder). i.item) s) ∙ k.lost.item) }));
   }
 
   -- whatever happens

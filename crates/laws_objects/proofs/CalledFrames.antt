@@ -69,7 +69,8 @@ module _ (building : Building) (h : ℕ) (f : Frame) (k : FrameIn building h Run
     keeps = record {
       stands = stands_waiting c f k.stands;
       receiver = own;
-      stack = moved (drop n k.stands.types.stack) (drop n k.stands.tags.stack) (drop n f.stack) (slots_drop (SlotOf frozen w next t h Runs k.stands.method f.receiver) n k.stands.types.stack k.stands.tags.stack f.stack (plain_stack building h f k (call_stores owning.owned k.stands.insn.op k.stands.target callee calls)));
+      stack = moved (drop n k.stands.types.stack) (drop n k.stands.tags.stack) (drop n f.stack)
+          (slots_drop (SlotOf frozen w next t h Runs k.stands.method f.receiver) n k.stands.types.stack k.stands.tags.stack f.stack (plain_stack building h f k (call_stores owning.owned k.stands.insn.op k.stands.target callee calls)));
       locals = moved k.stands.types.locals k.stands.tags.locals f.locals k.locals;
       arrays = arrays_wait building h f k;
       no_arrays = k.no_arrays;

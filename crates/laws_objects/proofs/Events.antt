@@ -411,9 +411,11 @@ module _ (lies : StartLiesApart) (structure : StructureIsKept) (state : BuiltSta
 
       left : IsLeft (change behind it.moves.later it.moves.goes on arrays_are) a.keeps.stands.target v put
       left field named = (
-        subst (λ (kind : Kind). KindKeeps it.moves.later more kind put) (sym (kind_is field named)) ((let i = con.world.inside it.array (builder t (length a.below) Unstored) is_new in let l = i.1 in omega (arith, l, grows, it.value)), ap it.moves.later it.value ∙ it.finished),
+        subst (λ (kind : Kind). KindKeeps it.moves.later more kind put) (sym (kind_is field named))
+            ((let i = con.world.inside it.array (builder t (length a.below) Unstored) is_new in let l = i.1 in omega (arith, l, grows, it.value)), ap it.moves.later it.value ∙ it.finished),
         λ static.
-            subst (λ (d : Bool). PlaceStores behind (value_word named.reference field.index) d field.kind put) (sym (ap owning.owned (number_is field named) ∙ it.owned)) (inr (ap behind it.value ∙ rw (eq-eqb it.array it.array refl) refl ∙ ap (λ (n : ℕ). Some n) (instance_word c objects a.keeps.stands.target v field named static))),
+            subst (λ (d : Bool). PlaceStores behind (value_word named.reference field.index) d field.kind put) (sym (ap owning.owned (number_is field named) ∙ it.owned))
+            (inr (ap behind it.value ∙ rw (eq-eqb it.array it.array refl) refl ∙ ap (λ (n : ℕ). Some n) (instance_word c objects a.keeps.stands.target v field named static))),
         λ static. absurd (let bad : true ≡ false = sym static ∙ (ap (λ (y : FieldInfo). is_static y.flags) (field_is field named) ∙ array_field.instance) in cc),
       )
 

@@ -112,7 +112,8 @@ module _ (run : Run) (t h v : ℕ) where
       threads = λ u x apart here. (
           let keeps = k.there.built.each u x here in
           let seen : keeps.now v ≡ Some (builder t h Begun) = keeps.now_is.others v (λ b e. (let same : builder t h Begun ≡ b = same_some (sym begun ∙ e) in λ z. apart (sym z ∙ sym (ap (λ (i : Builder). i.thread) same)))) ∙ begun in
-          uses_not (building_in (state_of run objects was s k.there) u) v (was u) x keeps k.there.built.world (k.there.facts.structure u x here).is_as (record { built = builder t h Begun; is = seen; other = λ i y n s. apart (sym (ap (λ (j : Builder). j.thread) s)) })
+          uses_not (building_in (state_of run objects was s k.there) u) v (was u) x keeps k.there.built.world (k.there.facts.structure u x here).is_as
+          (record { built = builder t h Begun; is = seen; other = λ i y n s. apart (sym (ap (λ (j : Builder). j.thread) s)) })
           );
     }
 

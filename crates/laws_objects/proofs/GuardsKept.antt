@@ -77,7 +77,8 @@ module _ (c : MarkedProgram) (marked : IsMarked c) (fi : ℕ) (f : Frame) (fs : 
 
 -- ---- the thread whose top frame it is
 
-by_top : (c : MarkedProgram) (held : List Held) (IsSuch : Frame → Type 0) (P : List Frame → Type 0) → ((f : Frame) (fs : List Frame) → Stands c phases.Run (f ∷ fs) held None → IsSuch f → P (f ∷ fs)) → (fs : List Frame) → Stands c phases.Run fs held None → TopWrites IsSuch fs → P fs
+by_top : (c : MarkedProgram) (held : List Held) (IsSuch : Frame → Type 0) (P : List Frame → Type 0) → ((f : Frame) (fs : List Frame) → Stands c phases.Run (f ∷ fs) held None → IsSuch f → P (f ∷ fs))
+    → (fs : List Frame) → Stands c phases.Run fs held None → TopWrites IsSuch fs → P fs
 by_top c held IsSuch P each [] stands k = absurd k
 by_top c held IsSuch P each (f ∷ fs) stands k = each f fs stands k
 

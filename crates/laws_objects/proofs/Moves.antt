@@ -203,7 +203,8 @@ module _ (c : MarkedProgram) (f : Frame) (k : Standing c f) (xs : List Given) (g
       rw (after_is, by_row) (subst (λ (ys : List Given). P (map (value_of types.Top (λ t. t) k.types.stack k.types.locals) ys ++ drop (length (row_at c f k).takes) k.types.stack) (map (value_of Untagged (λ t. Untagged) k.tags.stack k.tags.locals) ys ++ drop (length (row_at c f k).takes) k.tags.stack)
       (map (value_of 0 (λ t. made) f.stack f.locals) ys ++ drop (length (row_at c f k).takes) f.stack)) (sym gives) h)
 
-  pub given_locals : (P : List VType → List Tag → List ℕ → Type 0) (made : ℕ) → P k.types.locals k.tags.locals f.locals → P (frame_after k.method (row_at c f k) k.types).locals (tags_after k.insn (row_at c f k) k.tags).locals (locals_after 0 (λ t. made) (row_at c f k).writes f.stack f.locals)
+  pub given_locals : (P : List VType → List Tag → List ℕ → Type 0) (made : ℕ) → P k.types.locals k.tags.locals f.locals
+      → P (frame_after k.method (row_at c f k) k.types).locals (tags_after k.insn (row_at c f k) k.tags).locals (locals_after 0 (λ t. made) (row_at c f k).writes f.stack f.locals)
   given_locals P made h =
       rw (after_is, by_row) (subst (λ (o : Option (ℕ × Given)). P (locals_after types.Top (λ t. t) o k.types.stack k.types.locals) (locals_after Untagged (λ t. Untagged) o k.tags.stack k.tags.locals) (locals_after 0 (λ t. made) o f.stack f.locals)) (sym writes) h)
 

@@ -129,7 +129,8 @@ module _ (lawful : LawfulBuilding) (more h : ℕ) (grows : lawful.next < more) (
           → stored_world next ≡ Some (builder t h Unstored) → FrameIn (in_later building stored_world more) h Runs (record f { pc = k.stands.insn.next; stack = next ∷ drop (length (row_at c f k.stands).takes) f.stack })
       made_unstored well is =
           let n : ℕ = length (row_at c f k.stands).takes in
-          let by_row : tags_by_op k.stands.insn.pc (row_at c f k.stands) k.stands.insn.op k.stands.tags.stack k.stands.tags ≡ moved_tags (row_at c f k.stands) k.stands.tags = ap (λ (op : Op). tags_by_op k.stands.insn.pc (row_at c f k.stands) op k.stands.tags.stack k.stands.tags) is_array in
+          let by_row : tags_by_op k.stands.insn.pc (row_at c f k.stands) k.stands.insn.op k.stands.tags.stack k.stands.tags ≡ moved_tags (row_at c f k.stands) k.stands.tags
+          = ap (λ (op : Op). tags_by_op k.stands.insn.pc (row_at c f k.stands) op k.stands.tags.stack k.stands.tags) is_array in
           let stack : StackWith (SlotOf frozen stored_world more t h Runs k.stands.method f.receiver) (λ v. stored_world v ≡ Some (builder t h Unstored)) true (type ∷ drop n k.stands.types.stack) (Untagged ∷ drop n k.stands.tags.stack) (next ∷ drop n f.stack)
           = (is, slots_drop (SlotOf frozen stored_world more t h Runs k.stands.method f.receiver) n k.stands.types.stack k.stands.tags.stack f.stack (stack_renewed f k behind plain)) in
           subst (λ (g : Frame). FrameIn (in_later building stored_world more) h Runs g) same
@@ -255,6 +256,7 @@ module _ (lawful : LawfulBuilding) (more : ℕ) (grows : lawful.next < more) (f 
 
       by_puts : is_newarray k.stands.insn.op ≡ true → (puts : Bool) → ((j : ℕ) (other : Insn) (target : Target) (u : TagShape) → IsAt c.program (tags_of c) f.method j k.stands.method other target u → other.pc ≡ k.stands.insn.next → puts_owned owning.owned other.op target ≡ puts)
           → MadeIn (in_later building (with_builder w next (builder t (length fs) Header)) more) next (length fs) (making c.program (top_here c f fs k.stands))
-      by_puts e true put = makes_unstored (types.Ref class) edge gives writes none op.0 op.1 (newarray_is k.stands.insn.op e) (goes_well building (length fs) f k k.stands.insn.next next (number_in (edges k.stands.insn) k.stands.insn.next edge) (made_well (types.Ref class) op.0 gives writes) true put)
+      by_puts e true put = makes_unstored (types.Ref class) edge gives writes none op.0 op.1 (newarray_is k.stands.insn.op e)
+          (goes_well building (length fs) f k k.stands.insn.next next (number_in (edges k.stands.insn) k.stands.insn.next edge) (made_well (types.Ref class) op.0 gives writes) true put)
       by_puts e false put = finished_one (goes_well building (length fs) f k k.stands.insn.next next (number_in (edges k.stands.insn) k.stands.insn.next edge) (made_well (types.Ref class) op.0 gives writes) false put)
   makes_it type word size edge gives writes sort none op = absurd sort

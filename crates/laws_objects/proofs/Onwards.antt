@@ -119,7 +119,8 @@ module _ (lawful : LawfulBuilding) where
       → Steps w next t (λ z. OnwardKeeps (in_world building z) (returns c.program (top_here c f fs k.stands)))
   goes_out f fs k b r =
       either_way (λ (s : Bool). Steps w next t (λ z. OnwardKeeps (in_world building z) (if s then Leaving (monitor_of c.program k.stands.method f) Return (f ∷ fs) else back (returned c.program (top_here c f fs k.stands))))) (is_synchronized k.stands.method.flags)
-      (stays w next t (λ z. OnwardKeeps (in_world building z) (Leaving (monitor_of c.program k.stands.method f) Return (f ∷ fs))) (monitor_known (length fs) f.method (builds frozen k.stands.method) k.stands.method f k.stands.at.in_program k.receiver, tt, (k, b))) (goes_below f fs k b r)
+      (stays w next t (λ z. OnwardKeeps (in_world building z) (Leaving (monitor_of c.program k.stands.method f) Return (f ∷ fs)))
+      (monitor_known (length fs) f.method (builds frozen k.stands.method) k.stands.method f k.stands.at.in_program k.receiver, tt, (k, b))) (goes_below f fs k b r)
 
   -- ---- when a monitor was left
 

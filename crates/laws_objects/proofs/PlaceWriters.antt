@@ -180,7 +180,8 @@ module _ (event : PlaceEvent) where
     pub place_changer : Stays ⊎ IsWriter IsSuch x ⊎ Stored
     place_changer = elim (word_at mover sites place is_there) [
       | inl e ↦ inl e
-      | inr k ↦ elim (phase_writes k.access (slice_index s.words (site_word place)) k.word x.phase refl k.wants (place_suits (content_at c x x.phase) place is_place k.suits) (heap.typed.threads t x there).phase at_element) [ inl e ↦ inl (k.left ∙ e) | inr wrote ↦ inr wrote ]
+      | inr k ↦ elim (phase_writes k.access (slice_index s.words (site_word place)) k.word x.phase refl k.wants (place_suits (content_at c x x.phase) place is_place k.suits) (heap.typed.threads t x there).phase at_element)
+          [ inl e ↦ inl (k.left ∙ e) | inr wrote ↦ inr wrote ]
     ]
 
   -- of a place that is no element

@@ -90,7 +90,8 @@ module _ (change : PlaceChange) where
     at : (P : ℕ → Type 0) (mine : Site) → IsThere c.program objects s mine → P (slice_index s.words (site_word mine)) → (LeftKeeps mine value → P value) → P (slice_index (slice_set s.words word value) (site_word mine))
     at P mine is old new = elim (same_or_not (site_word mine) word) [
       | inl e ↦ let one : mine ≡ site = sites_apart lies c objects s mine site marked facts is there (e ∙ word_is) in
-          subst P (sym (ap (slice_index (slice_set s.words word value)) e ∙ set_here s.words word value (subst (λ (n : ℕ). n < length s.words) (sym word_is) (sites_inside lies c objects s site marked facts there)))) (new (subst (λ (x : Site). LeftKeeps x value) (sym one) left))
+          subst P (sym (ap (slice_index (slice_set s.words word value)) e ∙ set_here s.words word value
+          (subst (λ (n : ℕ). n < length s.words) (sym word_is) (sites_inside lies c objects s site marked facts there)))) (new (subst (λ (x : Site). LeftKeeps x value) (sym one) left))
       | inr n ↦ subst P (sym (set_there s.words word (site_word mine) value n)) old
     ]
 

@@ -15,6 +15,7 @@ abbrev pub is_newarray : Op → Bool
 is_newarray ops.Newarray = true
 is_newarray op = false
 
+-- no other instruction is one
 pub newarray_is : (op : Op) → is_newarray op ≡ true → op ≡ ops.Newarray
 newarray_is ops.Newarray e = refl
 newarray_is op e = absurd (let bad : false ≡ true = e in cc)

@@ -60,8 +60,11 @@ module _ (lawful : LawfulBuilding) where
 
       by_room : (b : Bool) → OnwardKeeps building (if b then Running (entry_frame number m (root_arguments thread m) ∷ []) else Uncaught StackOverflowError)
       by_room true =
-          let root = part_root c.program marked.checked.program thread part number m h e in
-          (static_enters building 0 (null lawful) number m e (root_arguments thread m) (elim root [ inl r ↦ r.static | inr r ↦ r.static ]) (not_built frozen m (no_init c.program thread part number m h e)) (omega (arith, called_fit_all (checked_part c) number m marked.checked e)) (args_old (IsFinished w next) root) (args_old (IsStoredNowhere owning.stores) root), tt)
+          let root = part_root c.program marked.checked.program thread part number m h e in (
+            static_enters building 0 (null lawful) number m e (root_arguments thread m) (elim root [ inl r ↦ r.static | inr r ↦ r.static ])
+                (not_built frozen m (no_init c.program thread part number m h e)) (omega (arith, called_fit_all (checked_part c) number m marked.checked e)) (args_old (IsFinished w next) root) (args_old (IsStoredNowhere owning.stores) root),
+            tt,
+          )
       by_room false = tt
 
   root_if : (thread part number : ℕ) → has_number (part_roots c.program thread part) number ≡ true → IfKeeps building (option_map (rooted c.program thread number) (slice_get c.program.methods number))

@@ -225,14 +225,16 @@ module _ (building : Building) (was : Phase) (x : Thread) (k : ThreadIn building
   -- ---- it goes on
 
   runs_sees : (s : Thread) (fs : List Frame) → Steps k.now next t (λ z. FramesIn (in_world building z) Runs fs) → Sees (in_world building k.now) next (counted_by was (runs (record s { frames = fs })).phase) (runs (record s { frames = fs }))
-  runs_sees s fs o = either_way (λ (left : Bool). Sees (in_world building k.now) next (counted_by was (cond left phases.Run (phases.Ending ends.Steps))) (record s { frames = fs; phase = cond left phases.Run (phases.Ending ends.Steps) })) (nat_lt s.counts.instructions s.cfg.steps)
+  runs_sees s fs o = either_way (λ (left : Bool). Sees (in_world building k.now) next (counted_by was (cond left phases.Run (phases.Ending ends.Steps))) (record s { frames = fs; phase = cond left phases.Run (phases.Ending ends.Steps) }))
+      (nat_lt s.counts.instructions s.cfg.steps)
       (record { later = o.later; goes = o.goes; world = o.world (words_of c.program); lost = o.lost; fits = (o.keeps, tt) })
       (record { later = o.later; goes = o.goes; world = o.world (words_of c.program); lost = o.lost; fits = (o.keeps, tt) })
 
   -- outside an attempt, where other arrays were stored then
   pub runs_to : (after : Stores) (s : Thread) (fs : List Frame) (o : Steps k.now next t (λ z. FramesIn (in_world (with_stores building after) z) Runs fs)) → s.attempt ≡ None → AreKnown w next t s.held
       → MovedTo (with_stores building after) k.now next (counted_by was (runs (record s { frames = fs })).phase) (runs (record s { frames = fs })) o.later
-  runs_to after s fs o none held = either_way (λ (left : Bool). MovedTo (with_stores building after) k.now next (counted_by was (cond left phases.Run (phases.Ending ends.Steps))) (record s { frames = fs; phase = cond left phases.Run (phases.Ending ends.Steps) }) o.later) (nat_lt s.counts.instructions s.cfg.steps)
+  runs_to after s fs o none held = either_way (λ (left : Bool). MovedTo (with_stores building after) k.now next (counted_by was (cond left phases.Run (phases.Ending ends.Steps))) (record s { frames = fs; phase = cond left phases.Run (phases.Ending ends.Steps) }) o.later)
+      (nat_lt s.counts.instructions s.cfg.steps)
       (in_none after next phases.Run (record s { frames = fs; phase = phases.Run }) none held (record { later = o.later; goes = o.goes; world = o.world (words_of c.program); lost = o.lost; fits = (o.keeps, tt) }))
       (in_none after next (counted_by was (phases.Ending ends.Steps)) (record s { frames = fs; phase = phases.Ending ends.Steps }) none held (record { later = o.later; goes = o.goes; world = o.world (words_of c.program); lost = o.lost; fits = (o.keeps, tt) }))
 

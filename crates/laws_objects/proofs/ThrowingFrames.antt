@@ -96,7 +96,8 @@ module _ (building : Building) (h : ℕ) (null : IsFinished building.w building.
       (joined among.0 among.1) (well among.0 among.1) k.receiver
       (ref_slot (IsFinished w next) null (IsFresh w t h Runs) (builds frozen s.method) (makes_frozen frozen s.method) f.receiver (builds frozen s.method) (caught_class r) x old, tt)
       (slots_map_if (λ u. is_new u ≡ false) (SlotOf frozen w next t h Throws s.method f.receiver) (SlotOf frozen w next t h Runs s.method f.receiver)
-      (slot_if (IsFinished w next) (IsFinished w next) (IsFresh w t h Throws) (IsFresh w t h Runs) (λ u. is_new u ≡ false) (λ v o. o) (makes_frozen frozen s.method) (λ q v n. absurd (cc)) f.receiver (builds frozen s.method)) s.types.locals s.tags.locals f.locals (no_new f s class r here) k.locals)
+      (slot_if (IsFinished w next) (IsFinished w next) (IsFresh w t h Throws) (IsFresh w t h Runs)
+      (λ u. is_new u ≡ false) (λ v o. o) (makes_frozen frozen s.method) (λ q v n. absurd (cc)) f.receiver (builds frozen s.method)) s.types.locals s.tags.locals f.locals (no_new f s class r here) k.locals)
     where
       caught_there : (i : ℕ) → slice_get (until_all (covering k.stands.method k.stands.insn.pc)) i ≡ Some r → (other : Insn) → other.pc ≡ r.handler → list_any (λ handler. handler.handler == other.pc) (catchers k.stands.method k.stands.insn) ≡ true
       caught_there i got other starts =

@@ -48,7 +48,11 @@ module _ (c : MarkedProgram) (was : Phase) (v : ℕ) (s : Core) (t : ℕ) (k : T
   pub goes_away : FramesGo c was k.thread k.later → GoesAway
   goes_away (inl stays) = absurd (no_fewer k.thread.frames k.below k.frame k.frames (subst (Stay k.thread.frames) k.gone stays.frames))
   goes_away (inr (inl r)) = absurd (back_throws_not r.from (returned c.program r.at) k.thrown k.class (ap (λ (z : Thread). z.phase) (sym r.is) ∙ k.throws))
-  goes_away (inr (inr (inl u))) = record { unwound = u; ended = none_begun k.thread.attempt k.later.attempt k.thread.frames k.later.frames u.tries k.outside (omega (arith, ap length k.gone, ap length k.frames)); init = subst (IsInitOn c v) (top_of_both u.frame u.below u.frames) k.init }
+  goes_away (inr (inr (inl u))) = record {
+    unwound = u;
+    ended = none_begun k.thread.attempt k.later.attempt k.thread.frames k.later.frames u.tries k.outside (omega (arith, ap length k.gone, ap length k.frames));
+    init = subst (IsInitOn c v) (top_of_both u.frame u.below u.frames) k.init;
+  }
   goes_away (inr (inr (inr failed))) = absurd (none_some k.thread.attempt failed.attempt k.outside failed.tried)
 
 -- ---- every run

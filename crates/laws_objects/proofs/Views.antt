@@ -108,10 +108,13 @@ module _ (building : Building) (later : World) (more t : ℕ) (goes : GoesOn bui
     merged_old v k = ((let l = k.0 in let g = goes.grows in omega (arith, l, g)), merged_by v (λ (o : Option Builder). o ≡ None) (λ o. k.1) (λ n. goes.finished v (k.0, sym (view.others v n) ∙ k.1)))
 
     merged_known : (v : ℕ) → IsOwnOrFinished now next u v → IsOwnOrFinished (merged u w now later) more u v
-    merged_known v k = ((let l = k.0 in let g = goes.grows in omega (arith, l, g)), λ b. merged_by v (λ (o : Option Builder). o ≡ Some b → b.thread ≡ u) (λ o. k.1 b) (λ n e. (elim (now v) as (λ (o : Option Builder). now v ≡ o → b.thread ≡ u) [
-      | None ↦ λ f. absurd (none_some (later v) b (goes.finished v (k.0, sym (view.others v n) ∙ f)) e)
-      | Some d ↦ λ f. absurd (n d (sym (view.others v n) ∙ f) (k.1 d f))
-    ]) refl))
+    merged_known v k = (
+      (let l = k.0 in let g = goes.grows in omega (arith, l, g)),
+      λ b. merged_by v (λ (o : Option Builder). o ≡ Some b → b.thread ≡ u) (λ o. k.1 b) (λ n e. (elim (now v) as (λ (o : Option Builder). now v ≡ o → b.thread ≡ u) [
+        | None ↦ λ f. absurd (none_some (later v) b (goes.finished v (k.0, sym (view.others v n) ∙ f)) e)
+        | Some d ↦ λ f. absurd (n d (sym (view.others v n) ∙ f) (k.1 d f))
+      ]) refl),
+    )
 
   -- ---- so it keeps what it has
 
