@@ -9,7 +9,7 @@ use Rattle.checked_program.specs.{LockTags.{TagShape, entry_tags}, TaggedCode.Is
 use Rattle.machine_types.specs.{Construction.{builds, makes_frozen, SlotIs, SlotsAre, Runs, IsFresh, ReceiverIs, SlotOf, IsNoStored, SlotsFrom}, Frames.{entry_frame, first_or_null}, OwnedPlaces.{Stores, IsStoredNowhere}, Standing.tags_of}
 use Rattle.machine_types.specs.Worlds.{IsFinished}
 use Rattle.laws_threads.proofs.{Lists.{zip_reverse, reverse_map}, MarkedMethods.method_at}
-use Rattle.laws_objects.proofs.{Buildings.{Building, FrameIn}, Landing.{IsJoined, land}, Operands.{WantOld, TakenOld}, PutPlaces.first_plain, Slots.{top_slot, ref_slot}}
+use Rattle.laws_objects.proofs.{Buildings.{Building, FrameIn}, Landing.{IsJoined, land}, Operands.{WantOld, TakenOld}, PutPlaces.first_plain, Slots.{top_slot, made_slot, ref_slot}}
 use Rattle.jvm_types.specs.Types as types
 use Rattle.jvm_types.specs.declared.program.Kind.TheVariants as kinds
 use Rattle.jvm_types.specs.declared.typing.VType.TheVariants as vtypes
@@ -61,8 +61,7 @@ module _ (Old : ℕ → Type 0) (null : Old 0) (Fresh : ℕ → ℕ → Type 0) 
   R = SlotIs Old Fresh own young receiver
 
   int_slot : (o : Bool) (v : ℕ) → SlotIs Old Fresh o young receiver vtypes.Int Untagged v
-  int_slot true v = tt
-  int_slot false v = tt
+  int_slot o v = made_slot Old null Fresh own young receiver o vtypes.Int v (λ e. cc) tt
 
   rest_slots : (n : ℕ) → SlotsAre R (replicate n vtypes.Top) (replicate n Untagged) (replicate n 0)
   rest_slots zero = tt

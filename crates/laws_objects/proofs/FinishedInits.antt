@@ -14,7 +14,7 @@ use Rattle.laws_states.{specs.{ChangeLaws.{all_objects, run_objects}, HeapFacts.
 use Rattle.laws_objects.{specs.UnfinishedObjects.{ReturnsFrom, NeverReturns, NoOtherHas, FinishedByOwnReturn}, proofs.Buildings.{Building, in_world, PhaseIn, ThreadIn, building_in}}
 use Rattle.laws_objects.proofs.BuiltRuns.{Run, state_of, TellsClass, tells_class, AreBuiltLaws, BuiltThere, LostThere, BuiltIn, event_there, next_there, event_lost, next_lost, nobody_has, reached, lost_behind, core_more, objects_more}
 use Rattle.laws_objects.proofs.{FrameChanges.{frame_at, under, top_here, in_place, none_begun, TriesGo, IsUnwound, FramesGo, frames_go}, ThreadMoves.BasedIn}
-use Rattle.laws_objects.proofs.UnreturnedInits.{IsYoung, HasInit, init_stays, init_splits, Splits, HasBack, IsInside, world_begun, put_back_low, based_of, has_back_on, back_frames, away_frames}
+use Rattle.laws_objects.proofs.UnreturnedInits.{IsYoung, HasInit, init_stays, init_splits, HasBack, IsInside, world_begun, put_back_low, based_of, has_back_on, back_frames, away_frames}
 use Rattle.laws_objects.proofs.Unused.{uses_not, places_have_not}
 use Rattle.machine_types.specs.declared.phase.Phase.TheVariants as phases
 
@@ -68,17 +68,16 @@ module _ (building : Building) (h v : ℕ) (was : Phase) (x : Thread) (keeps : T
 
   pub goes_inside : (y : Thread) → BasedIn x.attempt x.frames → BasedIn y.attempt y.frames → FramesGo c was x y → ((at : Top) → top_of c.program x.frames ≡ Some at → IsYoung c frozen v at.frame → y.frames ≡ returned c.program at → ⊥) → IsInside c frozen h v y ⊎ HasLeft y
   goes_inside y low high (inl stays) never = inl (inside_behind y low high stays.tries (init_stays c frozen h v x.frames y.frames stays.frames inside.now))
-  goes_inside y low high (inr (inl r)) never = by_place (init_splits c frozen h v r.at.frame r.at.below (subst (HasInit c frozen h v) there inside.now))
+  goes_inside y low high (inr (inl r)) never = elim (init_splits c frozen h v r.at.frame r.at.below (subst (HasInit c frozen h v) there inside.now)) [
+    | inl p ↦ absurd (never r.at r.top p.1 frames)
+    | inr k ↦ inl (inside_behind y low high r.tries (subst (HasInit c frozen h v) (sym frames) (returned_has r.at there k)))
+  ]
     where
       there : x.frames ≡ frames_of r.at
       there = sym (frames_are c.program x.frames r.at r.top)
 
       frames : y.frames ≡ returned c.program r.at
       frames = ap (λ (z : Thread). z.frames) r.is ∙ back_frames r.from (returned c.program r.at)
-
-      by_place : Splits c frozen h v r.at.frame r.at.below → IsInside c frozen h v y ⊎ HasLeft y
-      by_place (inl p) = absurd (never r.at r.top p.1 frames)
-      by_place (inr k) = inl (inside_behind y low high r.tries (subst (HasInit c frozen h v) (sym frames) (returned_has r.at there k)))
   goes_inside y low high (inr (inr (inl u))) never = elim (init_splits c frozen h v u.frame u.below (subst (HasInit c frozen h v) u.frames inside.now)) [
     | inl p ↦ inr (left y u high p.0 p.1)
     | inr k ↦ inl (inside_behind y low high u.tries (subst (HasInit c frozen h v) (sym (ap (λ (z : Thread). z.frames) u.is ∙ away_frames u.from u.thrown u.class u.below)) k))

@@ -231,5 +231,4 @@ module _ (Old : ℕ → Type 0) (null : Old 0) (Fresh : ℕ → ℕ → Type 0) 
   made_slot false t v n h = h
 
   pub ref_slot : (o : Bool) (c v : ℕ) → Old v → SlotIs Old Fresh o young receiver (types.Ref c) Untagged v
-  ref_slot true c v h = h
-  ref_slot false c v h = h
+  ref_slot o c v h = made_slot o (types.Ref c) v (λ e. cc) h
