@@ -1,5 +1,5 @@
 -- An array is stored in an owned field right behind the `newarray` that made it: no other instruction leads there, no handler and no call.
-use Rattle.std.proofs.Common.{◌≡◌, ℕ, zero, suc, ◌⊎◌, inl, inr, Bool, true, false, ◌||◌, ◌&&◌, List, [], ◌∷◌, ◌++◌, length, Some, refl, sym, ap, ◌∙◌, subst, arith, ◌==◌, slice_get, if◌then◌else◌}
+use Rattle.std.proofs.Common.{◌≡◌, ℕ, suc, ◌⊎◌, inl, inr, Bool, true, false, ◌||◌, ◌&&◌, List, [], ◌∷◌, ◌++◌, length, Some, refl, sym, ap, ◌∙◌, subst, arith, ◌==◌, slice_get, if◌then◌else◌}
 use Rattle.std.{specs.List.list_any, proofs.lemmas.Bool.{cases_Bool, Decides.nat_tests, false_from_ne_true}}
 use Rattle.lists.proofs.{ListLaws.same_some, TestLaws.{first_true, second_true}}
 use Rattle.jvm_types.specs.{ClassTree.is_subclass, CodeTable.{branches_to, falls_through}, Numbers.has_number, Verifying.{covers, edges, IsLaidOut}}
@@ -7,7 +7,7 @@ use Rattle.jvm_types.specs.declared.{code.{Insn.Insn, Op.Op}, program.{MethodInf
 use Rattle.laws_programs.proofs.CodeOrder.{one_number, short, follows, have_targets}
 use Rattle.checked_program.specs.{LockTags.TagShape, MarkedProgram.{MarkedProgram, IsMarked}, OwnedArrays.{StoresNew, PutsNew}, TaggedCode.IsAt}
 use Rattle.machine_types.specs.{Construction.{Owning, AreOwned, puts_owned}, Frames.handler_of, Standing.tags_of}
-use Rattle.laws_threads.proofs.MarkedMethods.{method_at}
+use Rattle.laws_threads.proofs.{MarkedMethods.method_at, Throws.any_at}
 use Rattle.jvm_types.specs.declared.code.Op.TheVariants as ops
 use Rattle.jvm_types.specs.declared.program.Target.TheVariants as targets
 
@@ -21,12 +21,6 @@ newarray_is ops.Newarray e = refl
 newarray_is op e = absurd (let bad : false ≡ true = e in cc)
 
 -- ---- branches
-
--- an element that passes a test
-pub any_got : {X : Type 0} (test : X → Bool) (xs : List X) (i : ℕ) (x : X) → slice_get xs i ≡ Some x → test x ≡ true → list_any test xs ≡ true
-any_got test [] i x e h = absurd (cc)
-any_got test (y ∷ xs) zero x e h = let same : y ≡ x = same_some e in first_true (test y) (list_any test xs) (subst (λ z. test z ≡ true) (sym same) h)
-any_got test (y ∷ xs) (suc i) x e h = second_true (test y) (list_any test xs) (any_got test xs i x e h)
 
 pub by_append : (xs ys : List ℕ) (n : ℕ) → has_number (xs ++ ys) n ≡ true → (has_number xs n ≡ true) ⊎ (has_number ys n ≡ true)
 by_append [] ys n e = inr e
@@ -65,7 +59,7 @@ module _ (c : MarkedProgram) (marked : IsMarked c) (owning : Owning) (owns : Are
       where
         by_new : StoresNew m j other.pc → ⊥
         by_new s = elim (by_append (branches_to insn.op) (if falls_through insn.op then insn.next ∷ [] else []) other.pc edge) [
-          | inl h ↦ (let bad : true ≡ false = sym (first_true (list_any (λ (x : Insn). has_number (branches_to x.op) other.pc) m.code) (list_any (λ (q : Row). q.handler == other.pc) m.rows) (any_got (λ (x : Insn). has_number (branches_to x.op) other.pc) m.code i insn e h)) ∙ s.only in cc)
+          | inl h ↦ (let bad : true ≡ false = sym (first_true (list_any (λ (x : Insn). has_number (branches_to x.op) other.pc) m.code) (list_any (λ (q : Row). q.handler == other.pc) m.rows) (any_at (λ (x : Insn). has_number (branches_to x.op) other.pc) m.code i insn e h)) ∙ s.only in cc)
           | inr h ↦ by_next (follows m i insn laid e) (by_fall (falls_through insn.op) insn.next other.pc h)
         ]
           where

@@ -8,9 +8,8 @@ use Rattle.checked_program.specs.{Colours.{ColourShape, is_coloured}, LockTags.{
 use Rattle.checked_program.proofs.CheckedPlaces.{catchers_among}
 use Rattle.machine_types.specs.Construction.{builds, makes_frozen, BuilderTurn, Runs, WaitsFor, Throws, IsFresh, SlotOf, IsNoStored, IsNoStoredLocal, SlotsFrom}
 use Rattle.machine_types.specs.{Frames.handler_of, OwnedPlaces.{Stores, IsStoredNowhere}, Standing.{Standing, row_at, tags_of}, Threads.Frame, Worlds.IsFinished}
-use Rattle.laws_threads.proofs.{Callers.handler_in, Landing.{rules_at, tag_rules_at}, TypedMoves.handler_found}
-use Rattle.laws_threads.proofs.Tests.{either_way}
-use Rattle.laws_objects.proofs.{ArraySlots.from_map, Buildings.{Building, FrameIn, BelowIn, FramesIn}, Landing.{inside_at, IsJoined, LandsWell, land}, PutPlaces.{any_got, handler_plain}}
+use Rattle.laws_threads.proofs.{Callers.handler_in, Landing.{rules_at, tag_rules_at}, Tests.either_way, Throws.any_at, TypedMoves.handler_found}
+use Rattle.laws_objects.proofs.{ArraySlots.from_map, Buildings.{Building, FrameIn, BelowIn, FramesIn}, Landing.{inside_at, IsJoined, LandsWell, land}, PutPlaces.handler_plain}
 use Rattle.laws_objects.proofs.Slots.{slots_map, slots_map_if, slot_if, slot_later, ref_slot}
 use Rattle.jvm_types.specs.Verifying as types
 use Rattle.jvm_types.specs.CodeTable as table
@@ -102,7 +101,7 @@ module _ (building : Building) (h : ℕ) (null : IsFinished building.w building.
       caught_there : (i : ℕ) → slice_get (until_all (covering k.stands.method k.stands.insn.pc)) i ≡ Some r → (other : Insn) → other.pc ≡ r.handler → list_any (λ handler. handler.handler == other.pc) (catchers k.stands.method k.stands.insn) ≡ true
       caught_there i got other starts =
           let s = k.stands in
-          let any : list_any (λ handler. handler.handler == other.pc) (until_all (covering s.method s.insn.pc)) ≡ true = any_got (λ handler. handler.handler == other.pc) (until_all (covering s.method s.insn.pc)) i r got (grind (arith, nat_tests, starts)) in
+          let any : list_any (λ handler. handler.handler == other.pc) (until_all (covering s.method s.insn.pc)) ≡ true = any_at (λ handler. handler.handler == other.pc) (until_all (covering s.method s.insn.pc)) i r got (grind (arith, nat_tests, starts)) in
           subst (λ b. list_any (λ handler. handler.handler == other.pc) (if b then until_all (covering s.method s.insn.pc) else []) ≡ true) (sym throws) any
 
       joined : (i : ℕ) → slice_get (until_all (covering k.stands.method k.stands.insn.pc)) i ≡ Some r → IsJoined design (record f { pc = r.handler; stack = x ∷ [] }) k.stands.method (tags_at_handler k.stands.tags)
