@@ -25,22 +25,10 @@ turned_calm (phases.Take m count) k = tt
 turned_calm was k = k
 
 pub counted_calm : (was now : Phase) → IsCalm was → IsCalm now → IsCalm (counted_by was now)
-counted_calm was (phases.Ending e) old k = at_end e
-  where
-    at_end : (e : End) → IsCalm (counted_by was (phases.Ending e))
-    at_end ends.Steps = tt
-    at_end ends.Prints = tt
-    at_end ends.Turns = turned_calm was old
-    at_end ends.Records = old
-    at_end e = tt
-counted_calm was (phases.Ended e) old k = at_end e
-  where
-    at_end : (e : End) → IsCalm (counted_by was (phases.Ended e))
-    at_end ends.Steps = old
-    at_end ends.Prints = old
-    at_end ends.Turns = old
-    at_end ends.Records = old
-    at_end e = tt
+counted_calm was (phases.Ending e) old k = (elim e as (λ (e : End). IsCalm (counted_by was (phases.Ending e)))
+    [ ends.Steps ↦ tt | ends.Prints ↦ tt | ends.Turns ↦ turned_calm was old | ends.Records ↦ old | e ↦ tt ])
+counted_calm was (phases.Ended e) old k = (elim e as (λ (e : End). IsCalm (counted_by was (phases.Ended e)))
+    [ ends.Steps ↦ old | ends.Prints ↦ old | ends.Turns ↦ old | ends.Records ↦ old | e ↦ tt ])
 counted_calm was now old k = k
 
 -- ---- all moves but those that set a bit, or look for one to clear

@@ -129,11 +129,8 @@ module _ (p : Program) where
 
   after_none : (fs : List Frame) (a : After) → AreNone fs → GoNone (after p fs a)
   after_none fs afters.Next k = k
-  after_none fs afters.Return k = by_top_frame (top_of p fs) refl
-    where
-      by_top_frame : (o : Option Top) → top_of p fs ≡ o → GoNone (option_map (λ at. back (returned p at)) o)
-      by_top_frame None e = tt
-      by_top_frame (Some at) e = back_none (returned p at) (returned_none at (top_none fs at e k))
+  after_none fs afters.Return k = (elim (top_of p fs) as (λ (o : Option Top). top_of p fs ≡ o → GoNone (option_map (λ at. back (returned p at)) o))
+      [ None ↦ λ e. tt | Some at ↦ λ e. back_none (returned p at) (returned_none at (top_none fs at e k)) ]) refl
   after_none fs (afters.Unwind x class) k = unwound_none x class (drop 1 fs) (dropped 1 fs k)
 
   -- the method that an effect calls

@@ -127,11 +127,8 @@ module _ (c : MarkedProgram) (s : Thread) (got began i : ℕ) (few : s.counts.in
   move_counts _ (moves.gives_up m a moves.flat_out) e h = let one = flat_of m s.held h in onward (phases.FlatOut m a) (record (counting i s) { held = without_held m s.held }) (after c.program s.frames a) refl (omega (arith, one))
     where
       flat_of : (m : ℕ) (hs : List Held) → IsFlat (held_at hs m) → flat_held (without_held m hs) + 1 ≡ flat_held hs
-      flat_of m hs f = by_entry (held_at hs m) refl f
-        where
-          by_entry : (o : Option Held) → held_at hs m ≡ o → IsFlat o → flat_held (without_held m hs) + 1 ≡ flat_held hs
-          by_entry None e f = absurd f
-          by_entry (Some g) e f = let left = flat_left m hs g e in let one = flat_is_one g f in omega (arith, left, one)
+      flat_of m hs f = (elim (held_at hs m) as (λ (o : Option Held). held_at hs m ≡ o → IsFlat o → flat_held (without_held m hs) + 1 ≡ flat_held hs)
+          [ None ↦ λ e f. absurd f | Some g ↦ λ e f. let left = flat_left m hs g e in let one = flat_is_one g f in omega (arith, left, one) ]) refl f
   move_counts _ (moves.leaves_outer m a g l t) e h = let same = refitted m s.held g (g.depth - 1) l in onward (phases.Leave m a) (record (counting i s) { held = with_held (shallower g) s.held }) (after c.program s.frames a) refl (omega (arith, same))
   move_counts _ (moves.leaves_inside m a t inner k l) e h = as_before (phases.Leave m a) (record (counting i s) { attempt = Some (record t { inner = inner }) }) (after c.program s.frames a) refl refl refl (omega arith)
   move_counts _ (moves.finishes_try m a t k l y) e h = as_before (phases.Leave m a) (elided (counting i s)) (after c.program s.frames a) refl refl refl (omega arith)

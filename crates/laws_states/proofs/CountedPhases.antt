@@ -14,22 +14,10 @@ turned_keeps P acquire (phases.Take m count) k = acquire m
 turned_keeps P acquire was k = k
 
 pub counted_keeps : (P : Phase → Type 0) → P phases.Run → ((m : ℕ) → P (phases.Acquire m)) → (was phase : Phase) → IsAs phase was → P was → P (counted_by was phase)
-counted_keeps P run acquire was (phases.Ending e) is k = at_end e is
-  where
-    at_end : (e : End) → IsLimitAt e (phases.Ending e) was → P (counted_by was (phases.Ending e))
-    at_end ends.Steps is = run
-    at_end ends.Prints is = run
-    at_end ends.Turns is = turned_keeps P acquire was k
-    at_end ends.Records is = k
-    at_end e is = subst P is k
-counted_keeps P run acquire was (phases.Ended e) is k = at_end e is
-  where
-    at_end : (e : End) → IsLimitAt e (phases.Ended e) was → P (counted_by was (phases.Ended e))
-    at_end ends.Steps is = k
-    at_end ends.Prints is = k
-    at_end ends.Turns is = k
-    at_end ends.Records is = k
-    at_end e is = subst P is k
+counted_keeps P run acquire was (phases.Ending e) is k = (elim e as (λ (e : End). IsLimitAt e (phases.Ending e) was → P (counted_by was (phases.Ending e)))
+    [ ends.Steps ↦ λ is. run | ends.Prints ↦ λ is. run | ends.Turns ↦ λ is. turned_keeps P acquire was k | ends.Records ↦ λ is. k | e ↦ λ is. subst P is k ]) is
+counted_keeps P run acquire was (phases.Ended e) is k = (elim e as (λ (e : End). IsLimitAt e (phases.Ended e) was → P (counted_by was (phases.Ended e)))
+    [ ends.Steps ↦ λ is. k | ends.Prints ↦ λ is. k | ends.Turns ↦ λ is. k | ends.Records ↦ λ is. k | e ↦ λ is. subst P is k ]) is
 counted_keeps P run acquire was phase is k = subst P is k
 
 -- ---- records that are drawn
@@ -110,20 +98,8 @@ plain_draws_none phase is = refl
 
 -- from a plain phase to one
 pub counted_plain : (was phase : Phase) → IsPlain was → IsPlain phase → IsPlain (counted_by was phase)
-counted_plain was (phases.Ending e) old new = at_end e
-  where
-    at_end : (e : End) → IsPlain (counted_by was (phases.Ending e))
-    at_end ends.Steps = tt
-    at_end ends.Prints = tt
-    at_end ends.Turns = turned_keeps IsPlain (λ m. tt) was old
-    at_end ends.Records = old
-    at_end e = tt
-counted_plain was (phases.Ended e) old new = at_end e
-  where
-    at_end : (e : End) → IsPlain (counted_by was (phases.Ended e))
-    at_end ends.Steps = old
-    at_end ends.Prints = old
-    at_end ends.Turns = old
-    at_end ends.Records = old
-    at_end e = tt
+counted_plain was (phases.Ending e) old new = (elim e as (λ (e : End). IsPlain (counted_by was (phases.Ending e)))
+    [ ends.Steps ↦ tt | ends.Prints ↦ tt | ends.Turns ↦ turned_keeps IsPlain (λ m. tt) was old | ends.Records ↦ old | e ↦ tt ])
+counted_plain was (phases.Ended e) old new = (elim e as (λ (e : End). IsPlain (counted_by was (phases.Ended e)))
+    [ ends.Steps ↦ old | ends.Prints ↦ old | ends.Turns ↦ old | ends.Records ↦ old | e ↦ tt ])
 counted_plain was phase old new = new

@@ -9,11 +9,8 @@ use Rattle.machine_types.specs.Parts.{numbers_of, is_entry_named, done_roots}
 
 none_passes : (test : MethodInfo → Bool) (n : ℕ) (ms : List MethodInfo) → ((i : ℕ) (m : MethodInfo) → slice_get ms i ≡ Some m → test m ≡ true → ⊥) → numbers_of test n ms ≡ []
 none_passes test n [] none = refl
-none_passes test n (m ∷ ms) none = by_test (test m) refl (none_passes test (suc n) ms (λ i x e t. none (suc i) x e t))
-  where
-    by_test : (b : Bool) → test m ≡ b → numbers_of test (suc n) ms ≡ [] → (if b then n ∷ numbers_of test (suc n) ms else numbers_of test (suc n) ms) ≡ []
-    by_test true e more = absurd (none 0 m refl e)
-    by_test false e more = more
+none_passes test n (m ∷ ms) none = (elim (test m) as (λ (b : Bool). test m ≡ b → numbers_of test (suc n) ms ≡ [] → (if b then n ∷ numbers_of test (suc n) ms else numbers_of test (suc n) ms) ≡ [])
+    [ true ↦ λ e more. absurd (none 0 m refl e) | false ↦ λ e more. more ]) refl (none_passes test (suc n) ms (λ i x e t. none (suc i) x e t))
 
 abbrev OnePasses : (MethodInfo → Bool) → List MethodInfo → Type 0
 OnePasses test ms = (i j : ℕ) (m other : MethodInfo) → slice_get ms i ≡ Some m → slice_get ms j ≡ Some other → test m ≡ true → test other ≡ true → i ≡ j

@@ -18,13 +18,8 @@ no_flag n u e = ap (λ (k : ℕ). not (k == 0)) (and_pow n u ∙ ap (λ (b : ℕ
 
 -- the bits of few threads
 few_set : (n u : ℕ) → n < 2 ^ 9 → has_flag (bit_of u) n ≡ true → u < 9
-few_set n u few set = by_place (nat_lt u 9) refl
-  where
-    by_place : (b : Bool) → nat_lt u 9 ≡ b → u < 9
-    by_place true e = grind (arith, nat_tests, e)
-    by_place false e =
-        let bad : true ≡ false = sym set ∙ no_flag n u (bit_at_above n 9 u few (grind (arith, nat_tests, e))) in
-        absurd (cc)
+few_set n u few set = (elim (nat_lt u 9) as (λ (b : Bool). nat_lt u 9 ≡ b → u < 9)
+    [ true ↦ λ e. grind (arith, nat_tests, e) | false ↦ λ e. let bad : true ≡ false = sym set ∙ no_flag n u (bit_at_above n 9 u few (grind (arith, nat_tests, e))) in absurd (cc) ]) refl
 
 -- the others stay
 others_stay : (n u w : ℕ) → u < 9 → w < 9 → u ≢ w → has_flag (bit_of u) n ≡ true → has_flag (bit_of u) (bit_and n (2 ^ 64 - 1 - bit_of w)) ≡ true

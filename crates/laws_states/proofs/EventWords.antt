@@ -36,11 +36,8 @@ counter_suits content w h = absurd h
 -- ---- what a thread stores
 
 pub some_words : (a : ℕ) (p : Program) (word : ℕ) → a < a + size_by p word
-some_words a p word = by_test (header_class word == INT_ARRAY_CLASS)
-  where
-    by_test : (b : Bool) → a < a + (if b then array_size (header_length word) else object_size p (header_class word))
-    by_test true = omega arith
-    by_test false = omega arith
+some_words a p word = (elim (header_class word == INT_ARRAY_CLASS) as (λ (b : Bool). a < a + (if b then array_size (header_length word) else object_size p (header_class word)))
+    [ true ↦ omega arith | false ↦ omega arith ])
 
 -- an event has left the word of the site so
 pub record IsLeft (c : MarkedProgram) (words : List ℕ) (x : Thread) (site : Site) : Type 0 where
@@ -137,7 +134,8 @@ module _ (mover : HeapMover) where
           subst (IsLock x.cfg.range) (sym (stays ∙ (new.empty a (omega arith) (some_words a c.program word)))) (word_is_lock x.cfg.range (locks.Free 0) (omega arith))
 
       pub locks_fit : LocksFit x.cfg.range objects s.words → LocksFit x.cfg.range (objects_by c.program x.phase objects) after
-      locks_fit h = by_phase x.phase refl
+      locks_fit h = (elim x.phase as (λ (phase : Phase). x.phase ≡ phase → LocksFit x.cfg.range (objects_by c.program phase objects) after)
+          [ phases.Made a word ↦ λ e. more a word e | phase ↦ λ e. old ]) refl
         where
           old : (o : Object) → Contains objects o → IsLock x.cfg.range (slice_index after o.reference)
           old o is = old_lock o is (h o is)
@@ -145,10 +143,6 @@ module _ (mover : HeapMover) where
           more : (a word : ℕ) → x.phase ≡ phases.Made a word → (o : Object) → Contains (new_object a word (size_by c.program word) ∷ objects) o → IsLock x.cfg.range (slice_index after o.reference)
           more a word e o (zero, lt, is) = let same : new_object a word (size_by c.program word) ≡ o = is in subst (λ (y : Object). IsLock x.cfg.range (slice_index after y.reference)) same (new_lock a word e)
           more a word e o (suc i, lt, is) = old o (i, omega (arith, lt), is)
-
-          by_phase : (phase : Phase) → x.phase ≡ phase → LocksFit x.cfg.range (objects_by c.program phase objects) after
-          by_phase (phases.Made a word) e = more a word e
-          by_phase phase e = old
 
     -- ---- counters
 

@@ -116,11 +116,8 @@ module _ (state : HeapState) where
   -- ---- all phases
 
   no_heap_left : (claimed : Claim) → IsOfHeap (leave_content claimed) → ⊥
-  no_heap_left (Has h) heap = by_kept h.kept heap
-    where
-      by_kept : (kept : Kept) → IsOfHeap (leave_content (Has (record h { kept = kept }))) → ⊥
-      by_kept (keeps.Flat n) heap = heap
-      by_kept (keeps.Fat r) heap = heap
+  no_heap_left (Has h) heap = (elim h.kept as (λ (kept : Kept). IsOfHeap (leave_content (Has (record h { kept = kept }))) → ⊥)
+      [ keeps.Flat n ↦ λ heap. heap | keeps.Fat r ↦ λ heap. heap ]) heap
   no_heap_left (Tries a) heap = heap
   no_heap_left HasNot heap = heap
 

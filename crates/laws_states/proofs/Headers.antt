@@ -44,11 +44,8 @@ numbered (suc (suc (suc (suc (suc (suc (suc (suc (suc (suc (suc zero))))))))))) 
 numbered (suc (suc (suc (suc (suc (suc (suc (suc (suc (suc (suc (suc k)))))))))))) class e = absurd (cc)
 
 pub thrown_is : (d : ℕ) (class : Thrown) → thrown_of d ≡ Some class → class_of class ≡ d
-thrown_is d class e = by_test (nat_lt d 4) refl e
-  where
-    by_test : (b : Bool) → nat_lt d 4 ≡ b → (if b then None else slice_get throwables (d - 4)) ≡ Some class → class_of class ≡ d
-    by_test true t e = absurd (cc)
-    by_test false t e = let from : 4 ≤ d = grind (arith, nat_tests, t) in omega (arith, numbered (d - 4) class e, from)
+thrown_is d class e = (elim (nat_lt d 4) as (λ (b : Bool). nat_lt d 4 ≡ b → (if b then None else slice_get throwables (d - 4)) ≡ Some class → class_of class ≡ d)
+    [ true ↦ λ t e. absurd (cc) | false ↦ λ t e. let from : 4 ≤ d = grind (arith, nat_tests, t) in omega (arith, numbered (d - 4) class e, from) ]) refl e
 
 got_some : {X : Type 0} (xs : List X) (i : ℕ) → i < length xs → IsSome (slice_get xs i)
 got_some [] i h = absurd (omega (arith, h))
@@ -59,11 +56,8 @@ pub throwable_small : (d : ℕ) → is_throwable d ≡ true → (4 ≤ d) × (d 
 throwable_small d e = (grind (arith, nat_tests, e), grind (arith, nat_tests, e))
 
 pub thrown_some : (d : ℕ) → is_throwable d ≡ true → IsSome (thrown_of d)
-thrown_some d e = by_test (nat_lt d 4) refl
-  where
-    by_test : (b : Bool) → nat_lt d 4 ≡ b → IsSome (if b then None else slice_get throwables (d - 4))
-    by_test true t = absurd (let from = (throwable_small d e).0 in grind (arith, nat_tests, t, from))
-    by_test false t = got_some throwables (d - 4) (omega (arith, (throwable_small d e).1))
+thrown_some d e = (elim (nat_lt d 4) as (λ (b : Bool). nat_lt d 4 ≡ b → IsSome (if b then None else slice_get throwables (d - 4)))
+    [ true ↦ λ t. absurd (let from = (throwable_small d e).0 in grind (arith, nat_tests, t, from)) | false ↦ λ t. got_some throwables (d - 4) (omega (arith, (throwable_small d e).1)) ]) refl
 
 -- ---- an object that is made
 

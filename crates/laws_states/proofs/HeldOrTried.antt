@@ -11,11 +11,8 @@ once_here m = let same : (m == m) ≡ true = grind (arith, nat_tests) in rw same
 claimed : (m : ℕ) (held : Option Held) (attempt : Option Attempt) → 0 < depth_by held + tried_depth m attempt → claim_by m held attempt ≢ HasNot
 claimed m (Some h) attempt some = λ e. cc
 claimed m None None some = absurd (omega (arith, some))
-claimed m None (Some a) some = by_test (a.monitor == m) some
-  where
-    by_test : (b : Bool) → 0 < 0 + (if b then a.inner + 1 else 0) → (if b then Tries a else HasNot) ≢ HasNot
-    by_test true some = λ e. cc
-    by_test false some = absurd (omega (arith, some))
+claimed m None (Some a) some = (elim (a.monitor == m) as (λ (b : Bool). 0 < 0 + (if b then a.inner + 1 else 0) → (if b then Tries a else HasNot) ≢ HasNot)
+    [ true ↦ λ some. λ e. cc | false ↦ λ some. absurd (omega (arith, some)) ]) some
 
 -- its entry is shown, or it is the exit's own
 pub leaves_claimed : (is : Classes) (c : MarkedProgram) (m : ℕ) (a : After) (fs : List Frame) (held : List Held) (attempt : Option Attempt) → IsMarked c → Stands c (Leave m a) fs held attempt → AfterHolds c is a fs
@@ -27,10 +24,5 @@ leaves_claimed is c m a fs held attempt marked k holds =
 pub tried_at : (m : ℕ) (held : Option Held) (attempt : Option Attempt) (a : Attempt) → claim_by m held attempt ≡ Tries a → (attempt ≡ Some a) × (a.monitor ≡ m)
 tried_at m (Some h) attempt a e = absurd (cc)
 tried_at m None None a e = absurd (cc)
-tried_at m None (Some b) a e = by_test (b.monitor == m) refl e
-  where
-    by_test : (t : Bool) → (b.monitor == m) ≡ t → (if t then Tries b else HasNot) ≡ Tries a → (Some b ≡ Some a) × (a.monitor ≡ m)
-    by_test true t e =
-        let one : b ≡ a = cc in
-        (ap Some one, subst (λ (k : Attempt). k.monitor ≡ m) one (grind (arith, nat_tests, t)))
-    by_test false t e = absurd (cc)
+tried_at m None (Some b) a e = (elim (b.monitor == m) as (λ (t : Bool). (b.monitor == m) ≡ t → (if t then Tries b else HasNot) ≡ Tries a → (Some b ≡ Some a) × (a.monitor ≡ m))
+    [ true ↦ λ t e. let one : b ≡ a = cc in (ap Some one, subst (λ (k : Attempt). k.monitor ≡ m) one (grind (arith, nat_tests, t))) | false ↦ λ t e. absurd (cc) ]) refl e

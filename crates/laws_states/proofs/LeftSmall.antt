@@ -95,11 +95,7 @@ IsLockingPhase (phases.Ended e) = ⊥
 IsLockingPhase phase = Unit {0}
 
 leave_is_locking : (claimed : Claim) → IsLocking (leave_content claimed)
-leave_is_locking (Has h) = by_kept h.kept
-  where
-    by_kept : (k : Kept) → IsLocking (leave_content (Has (record h { kept = k })))
-    by_kept (keeps.Flat n) = tt
-    by_kept (keeps.Fat r) = tt
+leave_is_locking (Has h) = (elim h.kept as (λ (k : Kept). IsLocking (leave_content (Has (record h { kept = k })))) [ keeps.Flat n ↦ tt | keeps.Fat r ↦ tt ])
 leave_is_locking (Tries a) = tt
 leave_is_locking HasNot = tt
 
@@ -175,18 +171,12 @@ effect_adds p target s access pc e fits w = none access 1 0 w
 leave_adds : (s : Thread) (m : ℕ) (access : Access) (claimed : Claim) → leave_wants s m claimed ≡ Some access → AddsFew access 0 0
 leave_adds s m access (Has h) w = by_depth (nat_lt 1 h.depth) w
   where
-    by_kept : (k : Kept) → Some (release s m k) ≡ Some access → AddsFew access 0 0
-    by_kept (keeps.Flat n) w = no_sum access 0 0 _ w refl tt
-    by_kept (keeps.Fat r) w = no_sum access 0 0 _ w refl tt
-
     by_depth : (b : Bool) → (if b then None else Some (release s m h.kept)) ≡ Some access → AddsFew access 0 0
     by_depth true w = none access 0 0 w
-    by_depth false w = by_kept h.kept w
-leave_adds s m access (Tries a) w = by_inner a.inner w
-  where
-    by_inner : (inner : ℕ) → finish_wants m inner ≡ Some access → AddsFew access 0 0
-    by_inner zero w = no_sum access 0 0 _ w refl tt
-    by_inner (suc inner) w = none access 0 0 w
+    by_depth false w = (elim h.kept as (λ (k : Kept). Some (release s m k) ≡ Some access → AddsFew access 0 0)
+        [ keeps.Flat n ↦ λ w. no_sum access 0 0 _ w refl tt | keeps.Fat r ↦ λ w. no_sum access 0 0 _ w refl tt ]) w
+leave_adds s m access (Tries a) w = (elim a.inner as (λ (inner : ℕ). finish_wants m inner ≡ Some access → AddsFew access 0 0)
+    [ zero ↦ λ w. no_sum access 0 0 _ w refl tt | suc inner ↦ λ w. none access 0 0 w ]) w
 leave_adds s m access HasNot w = none access 0 0 w
 
 enter_adds : (m : ℕ) (access : Access) (claimed : Claim) → enter_wants m claimed ≡ Some access → AddsFew access 0 0
@@ -253,11 +243,8 @@ effect_only_adds p target s access got pc (Goes to made) fits w any = absurd (no
 effect_only_adds p target s access got pc (Calls number) fits w any = absurd (not_locking Lock any tt)
 effect_only_adds p target s access got pc (Writes v word) fits w any = absurd (not_place (effect_content p target (Writes v word)) any fits.0)
 effect_only_adds p target s access got pc (Makes word size) fits w any = adds_by access got _ w (omega arith)
-effect_only_adds p target s access got pc (Prints n) fits w any = by_limit (has_print_left s) w
-  where
-    by_limit : (b : Bool) → (if b then Some (Add NEXT_TICKET_WORD 1) else None) ≡ Some access → OnlyAdds access got
-    by_limit true w = adds_by access got _ w (omega arith)
-    by_limit false w = nowhere access got w
+effect_only_adds p target s access got pc (Prints n) fits w any = (elim (has_print_left s) as (λ (b : Bool). (if b then Some (Add NEXT_TICKET_WORD 1) else None) ≡ Some access → OnlyAdds access got)
+    [ true ↦ λ w. adds_by access got _ w (omega arith) | false ↦ λ w. nowhere access got w ]) w
 effect_only_adds p target s access got pc (Reads v) fits w any = adds_by access got _ w (omega arith)
 effect_only_adds p target s access got pc (Indexes array index stored) fits w any = adds_by access got _ w (omega arith)
 effect_only_adds p target s access got pc (Measures array) fits w any = adds_by access got _ w (omega arith)

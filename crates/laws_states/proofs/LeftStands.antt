@@ -53,11 +53,8 @@ word_is_lock range (locks.Flagged t) fits = record {
 }
 
 next_in_range : (count range : ℕ) → next_count count range ≤ range
-next_in_range count range = by_test (nat_lt count range) refl
-  where
-    by_test : (b : Bool) → nat_lt count range ≡ b → (if b then count + 1 else range) ≤ range
-    by_test true e = grind (arith, nat_tests, e)
-    by_test false e = omega arith
+next_in_range count range = (elim (nat_lt count range) as (λ (b : Bool). nat_lt count range ≡ b → (if b then count + 1 else range) ≤ range)
+    [ true ↦ λ e. grind (arith, nat_tests, e) | false ↦ λ e. omega arith ]) refl
 
 freed_is_lock : (s : Thread) (count : ℕ) → IsLock s.cfg.range (freed s count)
 freed_is_lock s count = word_is_lock s.cfg.range (locks.Free (next_count count s.cfg.range)) (next_in_range count s.cfg.range)
@@ -65,11 +62,7 @@ freed_is_lock s count = word_is_lock s.cfg.range (locks.Free (next_count count s
 -- ---- accesses
 
 swapped : (P : ℕ → Type 0) (is v n : ℕ) → P v → P n → P (if n == is then v else n)
-swapped P is v n h k = by_test (n == is)
-  where
-    by_test : (b : Bool) → P (if b then v else n)
-    by_test true = h
-    by_test false = k
+swapped P is v n h k = (elim (n == is) as (λ (b : Bool). P (if b then v else n)) [ true ↦ h | false ↦ k ])
 
 module _ (P : ℕ → Type 0) (access : Access) (got : ℕ) (may : P got) where
   pub leaves : (a : Access) → Some a ≡ Some access → P (left_by a got) → P (left_by access got)

@@ -18,11 +18,8 @@ use Rattle.machine_types.specs.declared.phase.Phase.TheVariants as phases
 -- ---- what is reached
 
 pub lock_reached : (p : Program) (objects : List Object) (s : Core) (a : Access) → IsAccessOf p objects s Lock a → HasObject objects (accessed a)
-lock_reached p objects s a k = by_site k.site k.there k.word k.suits
-  where
-    by_site : (site : Site) → IsThere p objects s site → accessed a ≡ site_word site → Suits Lock site → HasObject objects (accessed a)
-    by_site (LockOf n) there word suits = subst (HasObject objects) (sym word) there
-    by_site site there word suits = absurd suits
+lock_reached p objects s a k = (elim k.site as (λ (site : Site). IsThere p objects s site → accessed a ≡ site_word site → Suits Lock site → HasObject objects (accessed a))
+    [ LockOf n ↦ λ there word suits. subst (HasObject objects) (sym word) there | site ↦ λ there word suits. absurd suits ]) k.there k.word k.suits
 
 -- ---- an entry of the held list that is as it was, but for the depth
 

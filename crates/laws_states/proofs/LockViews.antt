@@ -30,40 +30,22 @@ another t u h d = ap (λ (b : Bool). cond b h NotHeld) (ne_eqb t u d)
 
 pub flatly : (t : ℕ) (l : LockWord) (owner : ℕ → ℕ) → hold_by_word t l owner ≡ HeldFlat → (l ≡ locks.Held t) ⊎ (l ≡ locks.Flagged t)
 flatly t (locks.Free c) owner e = absurd (cc)
-flatly t (locks.Held u) owner e = by_test (u == t) refl e
-  where
-    by_test : (b : Bool) → (u == t) ≡ b → cond b HeldFlat NotHeld ≡ HeldFlat → (locks.Held u ≡ locks.Held t) ⊎ (locks.Held u ≡ locks.Flagged t)
-    by_test true g e = inl (ap locks.Held ((Decides-eqb u t).0 g))
-    by_test false g e = absurd (cc)
-flatly t (locks.Flagged u) owner e = by_test (u == t) refl e
-  where
-    by_test : (b : Bool) → (u == t) ≡ b → cond b HeldFlat NotHeld ≡ HeldFlat → (locks.Flagged u ≡ locks.Held t) ⊎ (locks.Flagged u ≡ locks.Flagged t)
-    by_test true g e = inr (ap locks.Flagged ((Decides-eqb u t).0 g))
-    by_test false g e = absurd (cc)
-flatly t (locks.Fat r) owner e = by_test (owner r == t + 1) e
-  where
-    by_test : (b : Bool) → cond b (HeldFat r) NotHeld ≡ HeldFlat → (locks.Fat r ≡ locks.Held t) ⊎ (locks.Fat r ≡ locks.Flagged t)
-    by_test true e = absurd (cc)
-    by_test false e = absurd (cc)
+flatly t (locks.Held u) owner e = (elim (u == t) as (λ (b : Bool). (u == t) ≡ b → cond b HeldFlat NotHeld ≡ HeldFlat → (locks.Held u ≡ locks.Held t) ⊎ (locks.Held u ≡ locks.Flagged t))
+    [ true ↦ λ g e. inl (ap locks.Held ((Decides-eqb u t).0 g)) | false ↦ λ g e. absurd (cc) ]) refl e
+flatly t (locks.Flagged u) owner e = (elim (u == t) as (λ (b : Bool). (u == t) ≡ b → cond b HeldFlat NotHeld ≡ HeldFlat → (locks.Flagged u ≡ locks.Held t) ⊎ (locks.Flagged u ≡ locks.Flagged t))
+    [ true ↦ λ g e. inr (ap locks.Flagged ((Decides-eqb u t).0 g)) | false ↦ λ g e. absurd (cc) ]) refl e
+flatly t (locks.Fat r) owner e = (elim (owner r == t + 1) as (λ (b : Bool). cond b (HeldFat r) NotHeld ≡ HeldFlat → (locks.Fat r ≡ locks.Held t) ⊎ (locks.Fat r ≡ locks.Flagged t))
+    [ true ↦ λ e. absurd (cc) | false ↦ λ e. absurd (cc) ]) e
 
 -- the lock is fat, and the thread owns its record
 pub fatly : (t : ℕ) (l : LockWord) (owner : ℕ → ℕ) (r : ℕ) → hold_by_word t l owner ≡ HeldFat r → (l ≡ locks.Fat r) × (owner r ≡ t + 1)
 fatly t (locks.Free c) owner r e = absurd (cc)
-fatly t (locks.Held u) owner r e = by_test (u == t) e
-  where
-    by_test : (b : Bool) → cond b HeldFlat NotHeld ≡ HeldFat r → (locks.Held u ≡ locks.Fat r) × (owner r ≡ t + 1)
-    by_test true e = absurd (cc)
-    by_test false e = absurd (cc)
-fatly t (locks.Flagged u) owner r e = by_test (u == t) e
-  where
-    by_test : (b : Bool) → cond b HeldFlat NotHeld ≡ HeldFat r → (locks.Flagged u ≡ locks.Fat r) × (owner r ≡ t + 1)
-    by_test true e = absurd (cc)
-    by_test false e = absurd (cc)
-fatly t (locks.Fat k) owner r e = by_test (owner k == t + 1) refl e
-  where
-    by_test : (b : Bool) → (owner k == t + 1) ≡ b → cond b (HeldFat k) NotHeld ≡ HeldFat r → (locks.Fat k ≡ locks.Fat r) × (owner r ≡ t + 1)
-    by_test true g e = let same : k ≡ r = cc in (ap locks.Fat same, ap owner (sym same) ∙ (Decides-eqb (owner k) (t + 1)).0 g)
-    by_test false g e = absurd (cc)
+fatly t (locks.Held u) owner r e = (elim (u == t) as (λ (b : Bool). cond b HeldFlat NotHeld ≡ HeldFat r → (locks.Held u ≡ locks.Fat r) × (owner r ≡ t + 1))
+    [ true ↦ λ e. absurd (cc) | false ↦ λ e. absurd (cc) ]) e
+fatly t (locks.Flagged u) owner r e = (elim (u == t) as (λ (b : Bool). cond b HeldFlat NotHeld ≡ HeldFat r → (locks.Flagged u ≡ locks.Fat r) × (owner r ≡ t + 1))
+    [ true ↦ λ e. absurd (cc) | false ↦ λ e. absurd (cc) ]) e
+fatly t (locks.Fat k) owner r e = (elim (owner k == t + 1) as (λ (b : Bool). (owner k == t + 1) ≡ b → cond b (HeldFat k) NotHeld ≡ HeldFat r → (locks.Fat k ≡ locks.Fat r) × (owner r ≡ t + 1))
+    [ true ↦ λ g e. let same : k ≡ r = cc in (ap locks.Fat same, ap owner (sym same) ∙ (Decides-eqb (owner k) (t + 1)).0 g) | false ↦ λ g e. absurd (cc) ]) refl e
 
 -- a flat lock is held by one thread, and is not fat
 pub thin_if_flat : (t : ℕ) (l : LockWord) (owner : ℕ → ℕ) → hold_by_word t l owner ≡ HeldFlat → (r : ℕ) → l ≢ locks.Fat r
@@ -78,8 +60,4 @@ flat_alone t u l owner h d = ⊎_elim
 
 pub not_held : (o : Option Held) → hold_by_list o ≡ NotHeld → o ≡ None
 not_held None e = refl
-not_held (Some h) e = by_kept h.kept e
-  where
-    by_kept : (k : Kept) → hold_by_kept k ≡ NotHeld → Some h ≡ None
-    by_kept (keeps.Flat c) e = absurd (cc)
-    by_kept (keeps.Fat r) e = absurd (cc)
+not_held (Some h) e = (elim h.kept as (λ (k : Kept). hold_by_kept k ≡ NotHeld → Some h ≡ None) [ keeps.Flat c ↦ λ e. absurd (cc) | keeps.Fat r ↦ λ e. absurd (cc) ]) e

@@ -23,26 +23,17 @@ seen_any l seen count h = h
 
 module _ (v : Locks) (count : ℕ → ℕ) (n k : ℕ) (l : LockWord) (thin : (r : ℕ) → v.lock n ≢ locks.Fat r) (grows : count n ≤ k) where
   pub seen_after : (m seen : ℕ) → IsSeen (v.lock m) seen (count m) → IsSeen ((set_lock n l v).lock m) seen (recounted n k count m)
-  seen_after m seen h = by_test (n == m) refl
-    where
-      by_test : (b : Bool) → (n == m) ≡ b → IsSeen (cond b l (v.lock m)) seen (cond b k (count m))
-      by_test true e =
-          seen_any l seen k (omega (arith, (thin_seen (v.lock n) seen (count n) thin (subst (λ (i : ℕ). IsSeen (v.lock i) seen (count i)) (sym ((Decides-eqb n m).0 e)) h)), grows))
-      by_test false e = h
+  seen_after m seen h = (elim (n == m) as (λ (b : Bool). (n == m) ≡ b → IsSeen (cond b l (v.lock m)) seen (cond b k (count m))) [
+    | true ↦ λ e. seen_any l seen k (omega (arith, (thin_seen (v.lock n) seen (count n) thin (subst (λ (i : ℕ). IsSeen (v.lock i) seen (count i)) (sym ((Decides-eqb n m).0 e)) h)), grows))
+    | false ↦ λ e. h
+  ]) refl
 
   drawn_after : (r : ℕ) → l ≢ locks.Fat r → IsDrawn v r → IsDrawn (set_lock n l v) r
-  drawn_after r d h = record { unnamed = λ m. by_test m (n == m); below = h.below }
-    where
-      by_test : (m : ℕ) (b : Bool) → cond b l (v.lock m) ≢ locks.Fat r
-      by_test m true = d
-      by_test m false = h.unnamed m
+  drawn_after r d h = record { unnamed = λ m. (elim (n == m) as (λ (b : Bool). cond b l (v.lock m) ≢ locks.Fat r) [ true ↦ d | false ↦ h.unnamed m ]); below = h.below }
 
   still_fat : (m r : ℕ) → v.lock m ≡ locks.Fat r → (set_lock n l v).lock m ≡ locks.Fat r
-  still_fat m r h = by_test (n == m) refl
-    where
-      by_test : (b : Bool) → (n == m) ≡ b → cond b l (v.lock m) ≡ locks.Fat r
-      by_test true e = absurd (thin r (ap v.lock ((Decides-eqb n m).0 e) ∙ h))
-      by_test false e = h
+  still_fat m r h = (elim (n == m) as (λ (b : Bool). (n == m) ≡ b → cond b l (v.lock m) ≡ locks.Fat r)
+      [ true ↦ λ e. absurd (thin r (ap v.lock ((Decides-eqb n m).0 e) ∙ h)) | false ↦ λ e. h ]) refl
 
   pub knows_after : (u : ℕ) (phase : Phase) → ((r : ℕ) → drawn_by phase ≡ Some r → l ≢ locks.Fat r) → Knows v u phase → Knows (set_lock n l v) u phase
   knows_after u (phases.Own m r toward) d h = drawn_after r (d r refl) h
@@ -138,11 +129,8 @@ put_holds h hs n m e = ap hold_by_list (held_put m h hs) ∙ ap (λ (i : ℕ). h
     by_test false = refl
 
 pub drop_holds : (hs : List Held) (n m : ℕ) → AreHeldOnce hs → hold_by_list (held_at (without_held n hs) m) ≡ cond (n == m) NotHeld (hold_by_list (held_at hs m))
-drop_holds hs n m a = ap hold_by_list (held_without m n hs a) ∙ by_test (n == m)
-  where
-    by_test : (b : Bool) → hold_by_list (cond b None (held_at hs m)) ≡ cond b NotHeld (hold_by_list (held_at hs m))
-    by_test true = refl
-    by_test false = refl
+drop_holds hs n m a = ap hold_by_list (held_without m n hs a) ∙ (elim (n == m) as (λ (b : Bool). hold_by_list (cond b None (held_at hs m)) ≡ cond b NotHeld (hold_by_list (held_at hs m)))
+    [ true ↦ refl | false ↦ refl ])
 
 pub put_keeps : (h : Held) (hs : List Held) (n k m : ℕ) (count : ℕ → ℕ) → h.monitor ≡ n → IsKeptIn (Some h) k → IsKeptIn (held_at hs m) (count m) → IsKeptIn (held_at (with_held h hs) m) (recounted n k count m)
 put_keeps h hs n k m count e one more = subst (λ (q : Option Held). IsKeptIn q (recounted n k count m)) (sym (held_put m h hs ∙ ap (λ (i : ℕ). cond (i == m) (Some h) (held_at hs m)) e)) (by_test (n == m))

@@ -12,11 +12,8 @@ use Rattle.laws_states.specs.WorkLeft.{all_work, EventsLessenAllWork}
 
 finds_passing : (test : ℕ → Bool) (xs : List ℕ) (t : ℕ) → find test xs ≡ Some t → test t ≡ true
 finds_passing test [] t e = absurd (cc)
-finds_passing test (x ∷ xs) t e = by_test (test x) refl e (λ e. finds_passing test xs t e)
-  where
-    by_test : (b : Bool) → test x ≡ b → (if b then Some x else find test xs) ≡ Some t → (find test xs ≡ Some t → test t ≡ true) → test t ≡ true
-    by_test true k e more = let same : x ≡ t = cc in subst (λ (n : ℕ). test n ≡ true) same k
-    by_test false k e more = more e
+finds_passing test (x ∷ xs) t e = (elim (test x) as (λ (b : Bool). test x ≡ b → (if b then Some x else find test xs) ≡ Some t → (find test xs ≡ Some t → test t ≡ true) → test t ≡ true)
+    [ true ↦ λ k e more. let same : x ≡ t = cc in subst (λ (n : ℕ). test n ≡ true) same k | false ↦ λ k e more. more e ]) refl e (λ e. finds_passing test xs t e)
 
 from_lives : (s : Core) (from t : ℕ) → live_from s from ≡ Some t → lives s t ≡ true
 from_lives s from t e = (and_parts (nat_le from t) (lives s t) (finds_passing (λ k. nat_le from k && lives s k) (range_with_len 1 (length s.threads)) t e)).1
@@ -60,11 +57,8 @@ module _ (c : MarkedProgram) (states : KeptStates c) where
 
   -- the next part, where it may begin
   part_next : (stage after : Stage) (s : Core) → turn_at stage s ≡ part_turn s after → Good s → ((r : Core) → Good r → Runs after r) → Runs stage s
-  part_next stage after s e good more = by_begin (may_begin s.threads) e
-    where
-      by_begin : (b : Bool) → turn_at stage s ≡ (if b then turn_of NextPart after else None) → Runs stage s
-      by_begin true e = goes_on c stage after s NextPart e (more (next c s) (by_part s good))
-      by_begin false e = stops c stage s e
+  part_next stage after s e good more = (elim (may_begin s.threads) as (λ (b : Bool). turn_at stage s ≡ (if b then turn_of NextPart after else None) → Runs stage s)
+      [ true ↦ λ e. goes_on c stage after s NextPart e (more (next c s) (by_part s good)) | false ↦ λ e. stops c stage s e ]) e
 
   last_runs : (n : ℕ) (s : Core) → Good s → all_work s < n → Runs Last s
   last_runs zero s good h = absurd (omega (arith, h))

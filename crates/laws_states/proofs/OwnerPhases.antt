@@ -257,11 +257,8 @@ module _ (sites : KnownSites) (mover : LockMover) where
       on_view mover (phases.FatIn m r toward) o _ _ y (recounted m (count m) count)
       (lock_view differ inside c objects s marked facts m (word_of_lock (locks.Fat r)) (lock_reached c.program objects s (Store m (word_of_lock (locks.Fat r))) reach) ∙ ap (λ (l : LockWord). set_lock m l (locks_in (references_of objects) s.words)) (lock_of_word (locks.Fat r)))
       (fat_in mover (phases.FatIn m r toward) o y (counted_by (phases.FatIn m r toward) (grown m r toward)) m r h o.knows.0 low o.knows.1 refl e (ap hold_by_kept flat.1)
-      (record { held_is = refl; attempt = refl; cfg = refl; locked = omega arith }) (grown_plain toward))
-    where
-      grown_plain : (toward : Toward) → IsPlain (counted_by (phases.FatIn m r toward) (grown m r toward))
-      grown_plain (towards.Leave after_it) = tt
-      grown_plain towards.Wait = tt
+      (record { held_is = refl; attempt = refl; cfg = refl; locked = omega arith }) (elim toward as (λ (toward : Toward). IsPlain (counted_by (phases.FatIn m r toward) (grown m r toward)))
+      [ towards.Leave after_it ↦ tt | towards.Wait ↦ tt ]))
 
   -- ---- a wait gives the monitor up
 

@@ -12,11 +12,8 @@ module _ (v : Locks) (count : ℕ → ℕ) (one owner : ℕ) where
   words_same u (locks.Free c) e f = refl
   words_same u (locks.Held i) e f = refl
   words_same u (locks.Flagged i) e f = refl
-  words_same u (locks.Fat r) e f = by_test (one == r) refl
-    where
-      by_test : (b : Bool) → (one == r) ≡ b → cond (cond b owner (v.owner r) == u + 1) (HeldFat r) NotHeld ≡ cond (v.owner r == u + 1) (HeldFat r) NotHeld
-      by_test true g = ap (λ (b : Bool). cond b (HeldFat r) NotHeld) (e ∙ sym f ∙ ap (λ (i : ℕ). v.owner i == u + 1) ((Decides-eqb one r).0 g))
-      by_test false g = refl
+  words_same u (locks.Fat r) e f = (elim (one == r) as (λ (b : Bool). (one == r) ≡ b → cond (cond b owner (v.owner r) == u + 1) (HeldFat r) NotHeld ≡ cond (v.owner r == u + 1) (HeldFat r) NotHeld)
+      [ true ↦ λ g. ap (λ (b : Bool). cond b (HeldFat r) NotHeld) (e ∙ sym f ∙ ap (λ (i : ℕ). v.owner i == u + 1) ((Decides-eqb one r).0 g)) | false ↦ λ g. refl ]) refl
 
   -- nor does another record's owner change
   pub words_apart : (u : ℕ) (l : LockWord) → l ≢ locks.Fat one → hold_by_word u l (set_owner one owner v).owner ≡ hold_by_word u l v.owner

@@ -23,11 +23,8 @@ pub record Became (x y : Thread) (held : List Held) (taken : ℕ) : Type 0 where
   pub locked : y.counts.locked ≡ x.counts.locked + taken
 
 pub recount_same : (n m : ℕ) (count : ℕ → ℕ) → recounted n (count n) count m ≡ count m
-recount_same n m count = by_test (n == m) refl
-  where
-    by_test : (b : Bool) → (n == m) ≡ b → cond b (count n) (count m) ≡ count m
-    by_test true e = ap count ((Decides-eqb n m).0 e)
-    by_test false e = refl
+recount_same n m count = (elim (n == m) as (λ (b : Bool). (n == m) ≡ b → cond b (count n) (count m) ≡ count m)
+    [ true ↦ λ e. ap count ((Decides-eqb n m).0 e) | false ↦ λ e. refl ]) refl
 
 flat_once : (h : Hold) → one_if_flat h ≤ 1
 flat_once NotHeld = omega arith
@@ -148,12 +145,9 @@ module _ (mover : LockMover) (was : Phase) (o : OwnsAs mover was) (y : Thread) (
       one_more true e = let same = counts in omega (arith, same)
       one_more false e = let same = counts in let up : x.cfg.range ≤ c = grind (arith, nat_tests, e) in omega (arith, same, up)
 
-      in_range : (b : Bool) → nat_lt c x.cfg.range ≡ b → (if b then c + 1 else x.cfg.range) ≤ x.cfg.range
-      in_range true e = let up : c < x.cfg.range = grind (arith, nat_tests, e) in omega (arith, up)
-      in_range false e = omega arith
-
       within : (b : Bool) (m : ℕ) → cond b (next_count c x.cfg.range) (count m) ≤ x.cfg.range
-      within true m = in_range (nat_lt c x.cfg.range) refl
+      within true m = (elim (nat_lt c x.cfg.range) as (λ (b : Bool). nat_lt c x.cfg.range ≡ b → (if b then c + 1 else x.cfg.range) ≤ x.cfg.range)
+          [ true ↦ λ e. let up : c < x.cfg.range = grind (arith, nat_tests, e) in omega (arith, up) | false ↦ λ e. omega arith ]) refl
       within false m = most m
 
       few : (m : ℕ) (q : Bool) → (n == m) ≡ q → hold_by_list (held_at y.held m) ≡ cond q NotHeld (hold_by_list (held_at x.held m))

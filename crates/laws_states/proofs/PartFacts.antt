@@ -80,11 +80,8 @@ part_same p (suc (suc part)) x workers fits may = cc
 
 next_same : (p : Program) (threads : List Thread) → PartsFit threads → SameSums threads (next_threads p threads)
 next_same p [] fits = same_sums []
-next_same p (x ∷ workers) fits = by_test (may_begin (x ∷ workers)) refl
-  where
-    by_test : (b : Bool) → may_begin (x ∷ workers) ≡ b → SameSums (x ∷ workers) (if b then part_begins p x.part x workers else x ∷ workers)
-    by_test true may = part_same p x.part x workers fits may
-    by_test false may = same_sums (x ∷ workers)
+next_same p (x ∷ workers) fits = (elim (may_begin (x ∷ workers)) as (λ (b : Bool). may_begin (x ∷ workers) ≡ b → SameSums (x ∷ workers) (if b then part_begins p x.part x workers else x ∷ workers))
+    [ true ↦ λ may. part_same p x.part x workers fits may | false ↦ λ may. same_sums (x ∷ workers) ]) refl
 
 pub next_keeps_counters : NextKeepsCounters
 next_keeps_counters c s parts fit =
@@ -103,11 +100,8 @@ module _ (c : MarkedProgram) (cfg : Config) (s : Core) (threads : AreThreads c c
 
   structure : Structure c was s.threads
   unfolding was was_of
-  structure t x e = by_thread (slice_get s.threads t) (threads.lawful t) e
-    where
-      by_thread : (o : Option Thread) (k : (y : Thread) → o ≡ Some y → IsLawful c y) → o ≡ Some x → IsStructured c (was_of c o k) x
-      by_thread None k e = absurd (cc)
-      by_thread (Some y) k e = let same : y ≡ x = cc in subst (λ (z : Thread). IsStructured c (k y refl).was z) same (k y refl).structured
+  structure t x e = (elim (slice_get s.threads t) as (λ (o : Option Thread). (k : (y : Thread) → o ≡ Some y → IsLawful c y) → o ≡ Some x → IsStructured c (was_of c o k) x)
+      [ None ↦ λ k e. absurd (cc) | Some y ↦ λ k e. let same : y ≡ x = cc in subst (λ (z : Thread). IsStructured c (k y refl).was z) same (k y refl).structured ]) (threads.lawful t) e
 
 pub next_keeps_facts : NextKeepsStructure → NextKeepsHeap → NextKeepsCounters → NextKeepsFacts
 next_keeps_facts keep heap counters c cfg s threads facts = record {

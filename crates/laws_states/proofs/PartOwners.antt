@@ -25,11 +25,8 @@ module _ (f : Thread → ℕ) (roots_same : (roots : List ℕ) (x : Thread) → 
 
   pub next_sum : (p : Program) (threads : List Thread) → sum_by f (next_threads p threads) ≡ sum_by f threads
   next_sum p [] = refl
-  next_sum p (x ∷ workers) = by_test (may_begin (x ∷ workers))
-    where
-      by_test : (b : Bool) → sum_by f (if b then part_begins p x.part x workers else x ∷ workers) ≡ sum_by f (x ∷ workers)
-      by_test true = part_sum p x.part x workers
-      by_test false = refl
+  next_sum p (x ∷ workers) = (elim (may_begin (x ∷ workers)) as (λ (b : Bool). sum_by f (if b then part_begins p x.part x workers else x ∷ workers) ≡ sum_by f (x ∷ workers))
+      [ true ↦ part_sum p x.part x workers | false ↦ refl ])
 
 -- ---- one thread
 

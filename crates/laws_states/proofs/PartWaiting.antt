@@ -25,14 +25,8 @@ counted_waits words u was (phases.Ending e) is k = at_end e is
     at_end ends.Turns is = turned_waits words u was k
     at_end ends.Records is = k
     at_end e is = subst (Waits words u) is k
-counted_waits words u was (phases.Ended e) is k = at_end e is
-  where
-    at_end : (e : End) → IsLimitAt e (phases.Ended e) was → Waits words u (counted_by was (phases.Ended e))
-    at_end ends.Steps is = k
-    at_end ends.Prints is = k
-    at_end ends.Turns is = k
-    at_end ends.Records is = k
-    at_end e is = subst (Waits words u) is k
+counted_waits words u was (phases.Ended e) is k = (elim e as (λ (e : End). IsLimitAt e (phases.Ended e) was → Waits words u (counted_by was (phases.Ended e)))
+    [ ends.Steps ↦ λ is. k | ends.Prints ↦ λ is. k | ends.Turns ↦ λ is. k | ends.Records ↦ λ is. k | e ↦ λ is. subst (Waits words u) is k ]) is
 counted_waits words u was phase is k = subst (Waits words u) is k
 
 -- and when a thread's end is told

@@ -94,11 +94,8 @@ module _ (p : Program) (x : Thread) (workers : List Thread) (old : PartsStand p 
   part_stands (suc (suc part)) e true f = absurd (cc)
 
 pub next_keeps_parts : NextKeepsParts
-next_keeps_parts c s stand = by_threads s.threads stand
-  where
-    by_threads : (threads : List Thread) → PartsStand c.program threads → PartsStand c.program (next_threads c.program threads)
-    by_threads [] k = k
-    by_threads (x ∷ workers) k = part_stands c.program x workers k x.part refl (may_begin_by x.part x.phase workers) refl
+next_keeps_parts c s stand = (elim s.threads as (λ (threads : List Thread). PartsStand c.program threads → PartsStand c.program (next_threads c.program threads))
+    [ [] ↦ λ k. k | x ∷ workers ↦ λ k. part_stands c.program x workers k x.part refl (may_begin_by x.part x.phase workers) refl ]) stand
 
 -- ---- attempts
 

@@ -61,11 +61,8 @@ module _ (site : Site) (lock : IsLockSite site) (access : Access) (got : ℕ) (a
   effect_leaves p s pc target (Measures array) fits w suits = loaded (Same got) access got refl _ w
   effect_leaves p s pc target (Raises x) fits w suits = loaded (Same got) access got refl _ w
   effect_leaves p s pc target (Makes word size) fits w suits = counter_not (Add NEXT_FREE_WORD size) w (λ e. absurd (omega (arith, e))) suits
-  effect_leaves p s pc target (Prints n) fits w suits = by_limit (has_print_left s) w
-    where
-      by_limit : (b : Bool) → cond b (Some (Add NEXT_TICKET_WORD 1)) None ≡ Some access → left_by access got ≡ got
-      by_limit true w = counter_not (Add NEXT_TICKET_WORD 1) w (λ e. absurd (omega (arith, e))) suits
-      by_limit false w = no_access (Same got) access got refl w
+  effect_leaves p s pc target (Prints n) fits w suits = (elim (has_print_left s) as (λ (b : Bool). cond b (Some (Add NEXT_TICKET_WORD 1)) None ≡ Some access → left_by access got ≡ got)
+      [ true ↦ λ w. counter_not (Add NEXT_TICKET_WORD 1) w (λ e. absurd (omega (arith, e))) suits | false ↦ λ w. no_access (Same got) access got refl w ]) w
   effect_leaves p s pc target e fits w suits = no_access (Same got) access got refl w
 
   run_leaves : (p : Program) (s : Thread) (top : Option Top) → ((x : Top) → top ≡ Some x → StoresFit p x.target (effect_at p x)) → run_wants p s top ≡ Some access → Suits (run_content p top) site → left_by access got ≡ got

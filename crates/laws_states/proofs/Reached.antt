@@ -116,12 +116,13 @@ module _ (laws : WordLaws) (state : RunState) where
     leaves_small a e = left_small_by a e (subst (ReachesIf c.program facts.objects s (content_at c x x.phase)) e reaches)
 
     pub fits_so : AccessFits c s x
-    fits_so = record { inside = by_access (wanted c x x.phase) reaches; sum = by_sum (wanted c x x.phase) refl; found = found_fits }
+    fits_so = record {
+      inside = (elim (wanted c x x.phase) as (λ (o : Option Access). ReachesIf c.program facts.objects s (content_at c x x.phase) o → IfSome o (λ a. accessed a < length s.words))
+          [ None ↦ λ k. tt | Some a ↦ λ k. lies_inside a k ]) reaches;
+      sum = by_sum (wanted c x x.phase) refl;
+      found = found_fits;
+    }
       where
-        by_access : (o : Option Access) → ReachesIf c.program facts.objects s (content_at c x x.phase) o → IfSome o (λ a. accessed a < length s.words)
-        by_access None k = tt
-        by_access (Some a) k = lies_inside a k
-
         by_sum : (o : Option Access) → wanted c x x.phase ≡ o → IfSome o (λ a. left_by a (slice_index s.words (accessed a)) < 2 ^ 64)
         by_sum None e = tt
         by_sum (Some a) e = leaves_small a e

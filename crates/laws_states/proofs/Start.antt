@@ -146,11 +146,8 @@ module _ (p : Program) (is_program : IsProgram p) where
   start_header : (o : Object) → Contains (start_objects p) o → IsHeader p (header_of o)
   start_header o k =
       let s = start_object k.0 o (contained_got (start_objects p) o k) in
-      subst (IsHeader p) (sym (none_counted (o.class == INT_ARRAY_CLASS) (ap (λ (vs : List ℕ). length vs) s.empty))) s.header
-    where
-      none_counted : (b : Bool) → length o.values ≡ 0 → header o.class (if b then length o.values else 0) ≡ header o.class 0
-      none_counted true e = ap (header o.class) e
-      none_counted false e = refl
+      subst (IsHeader p) (sym ((elim (o.class == INT_ARRAY_CLASS) as (λ (b : Bool). length o.values ≡ 0 → header o.class (if b then length o.values else 0) ≡ header o.class 0)
+      [ true ↦ λ e. ap (header o.class) e | false ↦ λ e. refl ]) (ap (λ (vs : List ℕ). length vs) s.empty))) s.header
 
 -- ---- the threads
 

@@ -35,11 +35,8 @@ run_not p None r suits = suits
 run_not p (Some at) r suits = effect_not p at.target (effect_at p at) r suits
 
 leave_not : (k : Claim) (r : ℕ) → Suits (leave_content k) (BitsOf r) → ⊥
-leave_not (Has h) r suits = by_kept h.kept suits
-  where
-    by_kept : (k : Kept) → Suits (leave_content (Has (record h { kept = k }))) (BitsOf r) → ⊥
-    by_kept (keeps.Flat c) suits = suits
-    by_kept (keeps.Fat k) suits = suits
+leave_not (Has h) r suits = (elim h.kept as (λ (k : Kept). Suits (leave_content (Has (record h { kept = k }))) (BitsOf r) → ⊥)
+    [ keeps.Flat c ↦ λ suits. suits | keeps.Fat k ↦ λ suits. suits ]) suits
 leave_not (Tries a) r suits = suits
 leave_not HasNot r suits = suits
 

@@ -22,11 +22,8 @@ lock_of_word (locks.Flagged t) = by_parts (4 * (t + 1) + 3) 3 (t + 1) (omega ari
 number_got : (objects : List Object) (i : ℕ) (o : Object) → slice_get objects i ≡ Some o → has_number (references_of objects) o.reference ≡ true
 number_got [] i o e = absurd (cc)
 number_got (x ∷ xs) zero o e = let same : x ≡ o = cc in subst (λ (z : Object). x.reference == z.reference || has_number (references_of xs) z.reference ≡ true) same (ap (λ (b : Bool). b || has_number (references_of xs) x.reference) (is_same x.reference))
-number_got (x ∷ xs) (suc i) o e = by_test (x.reference == o.reference) (number_got xs i o e)
-  where
-    by_test : (b : Bool) → has_number (references_of xs) o.reference ≡ true → b || has_number (references_of xs) o.reference ≡ true
-    by_test true k = refl
-    by_test false k = k
+number_got (x ∷ xs) (suc i) o e = (elim (x.reference == o.reference) as (λ (b : Bool). has_number (references_of xs) o.reference ≡ true → b || has_number (references_of xs) o.reference ≡ true)
+    [ true ↦ λ k. refl | false ↦ λ k. k ]) (number_got xs i o e)
 
 pub object_has : (objects : List Object) (m : ℕ) → HasObject objects m → has_number (references_of objects) m ≡ true
 object_has objects m k = subst (λ (n : ℕ). has_number (references_of objects) n ≡ true) k.2 (number_got objects k.1.0 k.0 (contained_got objects k.0 k.1))

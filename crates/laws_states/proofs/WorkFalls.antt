@@ -38,11 +38,8 @@ one_instruction m steps i t u r f g h turns frames =
 -- what is left of a monitor that is being left
 leaving : (o : Option Held) → (2 < leaving_held o) × (leaving_held o < 11)
 leaving None = (omega arith, omega arith)
-leaving (Some h) = by_kept h.kept
-  where
-    by_kept : (k : Kept) → (2 < leaving_work k) × (leaving_work k < 11)
-    by_kept (keeps.Flat count) = (omega arith, omega arith)
-    by_kept (keeps.Fat r) = (omega arith, omega arith)
+leaving (Some h) = (elim h.kept as (λ (k : Kept). (2 < leaving_work k) × (leaving_work k < 11))
+    [ keeps.Flat count ↦ (omega arith, omega arith) | keeps.Fat r ↦ (omega arith, omega arith) ])
 
 place_small : (held : List Held) (phase : Phase) → chain held phase < 12
 place_small held (phases.Leave m a) = omega (arith, (leaving (held_at held m)).1)
@@ -86,11 +83,8 @@ module _ (x : Thread) (phase : Phase) where
   to_phase now h = by_place (with_phase x now) refl h
 
   ran_on : (s : Thread) → chains_left s ≡ chains_left x → 2 < chain x.held phase + inside phase x.attempt → Lessens (runs s)
-  ran_on s e h = by_limit (nat_lt s.counts.instructions s.cfg.steps)
-    where
-      by_limit : (b : Bool) → Lessens (with_phase s (if b then phases.Run else phases.Ending ends.Steps))
-      by_limit true = by_place (with_phase s phases.Run) e (omega (arith, h))
-      by_limit false = by_place (with_phase s (phases.Ending ends.Steps)) e (omega (arith, h))
+  ran_on s e h = (elim (nat_lt s.counts.instructions s.cfg.steps) as (λ (b : Bool). Lessens (with_phase s (if b then phases.Run else phases.Ending ends.Steps)))
+      [ true ↦ by_place (with_phase s phases.Run) e (omega (arith, h)) | false ↦ by_place (with_phase s (phases.Ending ends.Steps)) e (omega (arith, h)) ])
 
   turned : (now : Phase) → x.turns < x.cfg.turns → Lessens (failed_turn x now)
   turned now h = by_chains (failed_turn x now) (omega (arith, h))
@@ -143,7 +137,8 @@ module _ (x : Thread) (phase : Phase) where
 
 starts : (p : Program) (x : Thread) (roots : List ℕ) → x.roots ≡ roots → HasRoot p roots → Lessens x phases.Start (thread_started p x roots)
 starts p x [] e has = absurd has
-starts p x (number ∷ roots) e has = by_method (slice_get p.methods number) has
+starts p x (number ∷ roots) e has = (elim (slice_get p.methods number) as (λ (o : Option MethodInfo). IsSome o → Lessens x phases.Start (goes_on_if y (option_map (rooted p x.number number) o)))
+    [ None ↦ λ has. absurd (cc) | Some m ↦ λ has. by_room m (has_room p [] m) ]) has
   where
     one : length x.roots ≡ suc (length roots)
     one = ap length e
@@ -157,10 +152,6 @@ starts p x (number ∷ roots) e has = by_method (slice_get p.methods number) has
     by_room : (m : MethodInfo) (b : Bool) → Lessens x phases.Start (goes_on y (if b then Running (entry_frame number m (root_arguments x.number m) ∷ []) else Uncaught StackOverflowError))
     by_room m true = by_chains x phases.Start (goes_on y (Running (entry_frame number m (root_arguments x.number m) ∷ []))) (omega (arith, one))
     by_room m false = by_chains x phases.Start (goes_on y (Uncaught StackOverflowError)) (omega (arith, one))
-
-    by_method : (o : Option MethodInfo) → IsSome o → Lessens x phases.Start (goes_on_if y (option_map (rooted p x.number number) o))
-    by_method None has = absurd (cc)
-    by_method (Some m) has = by_room m (has_room p [] m)
 
 -- ---- an instruction
 
