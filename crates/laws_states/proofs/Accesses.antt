@@ -198,8 +198,8 @@ module _ (state : HeapState) where
 
   effect_fits : (x : Thread) (m : MethodInfo) (insn : Insn) (target : Target) (r : OpRow) (stack : List ℕ) (pc : ℕ) (e : Effect) → AttemptHolds c (HasClass objects) x.frames x.attempt → Allowed c.program m (HasClass objects) insn target r stack e
       → FitsIf c.program objects s (effect_content c.program target e) (effect_wants x pc e)
-  effect_fits x m insn target r stack pc (Goes to made) h al = (elim (nat_le to pc) as (λ (b : Bool). FitsIf c.program objects s Lock (if b then looks x.attempt else None))
-      [ true ↦ look_fits x.frames x.attempt h | false ↦ tt ])
+  effect_fits x m insn target r stack pc (Goes to made) h al = elim (nat_le to pc) as (λ (b : Bool). FitsIf c.program objects s Lock (if b then looks x.attempt else None))
+      [ true ↦ look_fits x.frames x.attempt h | false ↦ tt ]
   effect_fits x m insn target r stack pc (Calls number) h al = look_fits x.frames x.attempt h
   effect_fits x m insn target r stack pc (Reads v) h al = reads_fit target v al.1 al.2
   effect_fits x m insn target r stack pc (Writes v n) h al = writes_fit target v al.1 n al.2 al.3
@@ -207,8 +207,8 @@ module _ (state : HeapState) where
   effect_fits x m insn target r stack pc (Measures a) h al = loads (HeaderOf a) Header (header_word a) (header_there INT_ARRAY_CLASS a al.1) tt tt refl
   effect_fits x m insn target r stack pc (Raises a) h al = loads (HeaderOf a) ThrowableHeader (header_word a) (header_there THROWABLE_CLASS a al.1) tt tt refl
   effect_fits x m insn target r stack pc (Makes word size) h al = record { site = Counter NEXT_FREE_WORD; there = (omega arith, omega arith); word = refl; suits = tt; old = tt; left = λ e. omega arith }
-  effect_fits x m insn target r stack pc (Prints n) h al = (elim (has_print_left x) as (λ (b : Bool). FitsIf c.program objects s Any (if b then Some (Add NEXT_TICKET_WORD 1) else None))
-      [ true ↦ record { site = Counter NEXT_TICKET_WORD; there = (omega arith, omega arith); word = refl; suits = tt; old = tt; left = λ e. absurd (omega (arith, e)) } | false ↦ tt ])
+  effect_fits x m insn target r stack pc (Prints n) h al = elim (has_print_left x) as (λ (b : Bool). FitsIf c.program objects s Any (if b then Some (Add NEXT_TICKET_WORD 1) else None))
+      [ true ↦ record { site = Counter NEXT_TICKET_WORD; there = (omega arith, omega arith); word = refl; suits = tt; old = tt; left = λ e. absurd (omega (arith, e)) } | false ↦ tt ]
   effect_fits x m insn target r stack pc Stuck h al = absurd al
   effect_fits x m insn target r stack pc e h al = tt
 

@@ -6,6 +6,7 @@ use Rattle.machine_types.specs.{Elision.elided, Events.moved, Frames.went_on, Go
 use Rattle.machine_types.specs.{Onward.{Onward, Running, rooted, after}, Threads.Thread, declared.{lock.Kept.Kept, phase.Phase.Phase}}
 use Rattle.laws_threads.specs.StructureLaws.{turned_from, counted_by}
 use Rattle.laws_threads.proofs.ThreadMove.{LeadsTo, TurnsTo, Asks, WaitsFrom, Move, becomes, by_move, of_mover, runs_to, turns_to, IsOnward, onward_if_to}
+use Rattle.laws_states.proofs.CountedPhases.{turned_keeps, counted_either}
 use Rattle.jvm_types.specs.declared.outcome.End.TheVariants as ends
 use Rattle.machine_types.specs.declared.phase.Phase.TheVariants as phases
 use Rattle.machine_types.specs.declared.phase.Toward.TheVariants as towards
@@ -17,19 +18,8 @@ IsCalm (phases.WaitOut m r) = ⊥
 IsCalm (phases.NotifyOne m r u) = ⊥
 IsCalm phase = Unit {0}
 
--- ---- the phase that counts
-
-turned_calm : (was : Phase) → IsCalm was → IsCalm (turned_from was)
-turned_calm (phases.Enter m tried) k = tt
-turned_calm (phases.Take m count) k = tt
-turned_calm was k = k
-
 pub counted_calm : (was now : Phase) → IsCalm was → IsCalm now → IsCalm (counted_by was now)
-counted_calm was (phases.Ending e) old k = (elim e as (λ (e : End). IsCalm (counted_by was (phases.Ending e)))
-    [ ends.Steps ↦ tt | ends.Prints ↦ tt | ends.Turns ↦ turned_calm was old | ends.Records ↦ old | e ↦ tt ])
-counted_calm was (phases.Ended e) old k = (elim e as (λ (e : End). IsCalm (counted_by was (phases.Ended e)))
-    [ ends.Steps ↦ old | ends.Prints ↦ old | ends.Turns ↦ old | ends.Records ↦ old | e ↦ tt ])
-counted_calm was now old k = k
+counted_calm was now old k = counted_either IsCalm tt was now old (turned_keeps IsCalm (λ m. tt) was old) k
 
 -- ---- all moves but those that set a bit, or look for one to clear
 

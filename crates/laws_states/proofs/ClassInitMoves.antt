@@ -16,7 +16,7 @@ use Rattle.machine_types.specs.{Threads.{Frame, Attempt, Thread}, Words.header_c
 use Rattle.machine_types.specs.declared.{effect.Effect.TheVariants.{Goes, Throws, Reads, Writes, Measures, Raises, Prints, Calls, Returns, Enters, Leaves}, lock.Held.Held, phase.After.After}
 use Rattle.machine_types.{specs.declared.phase.Phase.Phase, proofs.PlainPartLaws.frames_are}
 use Rattle.laws_threads.{specs.EntryFrames.frames_in, proofs.{EffectsOfInsns.{Fits, IsCalling}, Roots.numbered, ShownFrames.{by_top, fits_at, holds_at}}}
-use Rattle.laws_threads.proofs.ThreadMove.{GoesBy, Move, becomes, counting, any_move, tried_attempt}
+use Rattle.laws_threads.proofs.ThreadMove.{GoesBy, Move, becomes, counting, any_move, if_either, if_mapped, tried_attempt}
 use Rattle.laws_states.specs.ClassInits.{IsNoClassInit, RunsNoClassInit, IsBehindInit}
 use Rattle.jvm_types.specs.declared.code.Op.TheVariants as ops
 use Rattle.jvm_types.specs.declared.program.Target.TheVariants as targets
@@ -86,10 +86,6 @@ module _ (p : Program) where
   top_none : (fs : List Frame) (at : Top) → top_of p fs ≡ Some at → AreNone fs → AreNone (frames_of at)
   top_none fs at e k = subst AreNone (sym (frames_are p fs at e)) k
 
-  by_test : (b : Bool) (o w : Onward) → AreNone (frames_in o) → AreNone (frames_in w) → AreNone (frames_in (if b then o else w))
-  by_test true o w k l = k
-  by_test false o w k l = l
-
   back_none : (fs : List Frame) → AreNone fs → AreNone (frames_in (back fs))
   back_none [] k = tt
   back_none (f ∷ fs) k = k
@@ -106,7 +102,7 @@ module _ (p : Program) where
       below (Some next) e = top_none at.below next e k.1
 
   returns_none : (at : Top) → AreNone (frames_of at) → AreNone (frames_in (returns p at))
-  returns_none at k = by_test (is_synchronized at.method.flags) (Leaving (monitor_of p at.method at.frame) afters.Return (frames_of at)) (back (returned p at)) k (back_none (returned p at) (returned_none at k))
+  returns_none at k = if_either (λ (o : Onward). AreNone (frames_in o)) (is_synchronized at.method.flags) (Leaving (monitor_of p at.method at.frame) afters.Return (frames_of at)) (back (returned p at)) k (back_none (returned p at) (returned_none at k))
 
   unwound_none : (x : ℕ) (class : Thrown) (fs : List Frame) → AreNone fs → AreNone (frames_in (unwound x class fs))
   unwound_none x class [] k = tt
@@ -115,17 +111,13 @@ module _ (p : Program) where
   handed_none : (x : ℕ) (class : Thrown) (at : Top) (row : Option Row) → AreNone (frames_of at) → AreNone (frames_in (handed p x class at row))
   handed_none x class at (Some r) k = k
   handed_none x class at None k =
-      by_test (is_synchronized at.method.flags) (Leaving (monitor_of p at.method at.frame) (afters.Unwind x class) (frames_of at)) (unwound x class at.below) k (unwound_none x class at.below k.1)
+      if_either (λ (o : Onward). AreNone (frames_in o)) (is_synchronized at.method.flags) (Leaving (monitor_of p at.method at.frame) (afters.Unwind x class) (frames_of at)) (unwound x class at.below) k (unwound_none x class at.below k.1)
 
   enters_none : (at : Top) (number : ℕ) (m : MethodInfo) → IsNoClassInit p number → AreNone (frames_of at) → AreNone (frames_in (called p at number m))
   enters_none at number m none k =
-      by_test (has_room p (frames_of at) m) (entered p m (entry_frame number m (arguments_of p at)) (waiting p at)) (threw StackOverflowError at)
-      (by_test (is_synchronized m.flags) (Entering (monitor_of p m (entry_frame number m (arguments_of p at))) (entry_frame number m (arguments_of p at) ∷ waiting p at)) (Running (entry_frame number m (arguments_of p at) ∷ waiting p at)) (none, k) (none, k))
+      if_either (λ (o : Onward). AreNone (frames_in o)) (has_room p (frames_of at) m) (entered p m (entry_frame number m (arguments_of p at)) (waiting p at)) (threw StackOverflowError at)
+      (if_either (λ (o : Onward). AreNone (frames_in o)) (is_synchronized m.flags) (Entering (monitor_of p m (entry_frame number m (arguments_of p at))) (entry_frame number m (arguments_of p at) ∷ waiting p at)) (Running (entry_frame number m (arguments_of p at) ∷ waiting p at)) (none, k) (none, k))
       k
-
-  if_some : {A : Type 0} (o : Option A) (more : A → Onward) → ((a : A) → AreNone (frames_in (more a))) → GoNone (option_map more o)
-  if_some None more k = tt
-  if_some (Some a) more k = k a
 
   after_none : (fs : List Frame) (a : After) → AreNone fs → GoNone (after p fs a)
   after_none fs afters.Next k = k
@@ -139,18 +131,10 @@ module _ (p : Program) where
   CallsNone e = Unit {0}
 
   done_none : (at : Top) (e : Effect) (got : ℕ) → CallsNone e → AreNone (frames_of at) → GoNone (done p at e got)
-  done_none at (Goes to made) got none k = k
-  done_none at (Throws x) got none k = k
-  done_none at (Reads v) got none k = k
-  done_none at (Writes v word) got none k = k
-  done_none at (Measures array) got none k = k
-  done_none at (Raises x) got none k = if_some (thrown_of (header_class got)) (λ class. Throwing x class (frames_of at)) (λ class. k)
-  done_none at (Prints n) got none k = k
-  done_none at (Calls number) got none k = if_some (slice_get p.methods number) (called p at number) (λ m. enters_none at number m none k)
+  done_none at (Raises x) got none k = if_mapped (λ (o : Onward). AreNone (frames_in o)) (thrown_of (header_class got)) (λ class. Throwing x class (frames_of at)) (λ class. k)
+  done_none at (Calls number) got none k = if_mapped (λ (o : Onward). AreNone (frames_in o)) (slice_get p.methods number) (called p at number) (λ m. enters_none at number m none k)
   done_none at Returns got none k = returns_none at k
-  done_none at (Enters m) got none k = k
-  done_none at (Leaves m) got none k = k
-  done_none at e got none k = tt
+  done_none at e got none k = assumption
 
   -- ---- a thread goes on
 
@@ -191,7 +175,7 @@ module _ (c : MarkedProgram) (s : Thread) (got : ℕ) (h : RunsNoClassInit c.pro
 
   starts_none : (number : ℕ) (rest : List ℕ) → s.roots ≡ number ∷ rest → (o : Option MethodInfo) → GoNone c.program (option_map (rooted c.program s.number number) o)
   starts_none number rest e None = tt
-  starts_none number rest e (Some m) = by_test c.program (has_room c.program [] m) (Running (entry_frame number m (root_arguments s.number m) ∷ [])) (Uncaught StackOverflowError) (roots number rest e, tt) tt
+  starts_none number rest e (Some m) = if_either (λ (o : Onward). AreNone c.program (frames_in o)) (has_room c.program [] m) (Running (entry_frame number m (root_arguments s.number m) ∷ [])) (Uncaught StackOverflowError) (roots number rest e, tt) tt
 
   move_none : (was : Phase) (k : Move c s got was) → RunsNoClassInit c.program (becomes c s got was k)
   move_none was (moves.stays k) = h

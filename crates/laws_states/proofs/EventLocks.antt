@@ -120,8 +120,8 @@ module _ (sites : KnownSites) (mover : LockMover) where
         (owners.locks_are.below m r fat.0).1
 
     by_kept : (k : Kept) → h.kept ≡ k → ReachesIf c.program objects s (leave_content (Has (record h { kept = k }))) (Some (release x m k)) → Leaves (words_after s.words (Some (release x m k)))
-    by_kept (keeps.Flat n) kept k = (elim (slice_index s.words m == word_of_lock (locks.Held x.number)) as (λ (b : Bool). Leaves (slice_set s.words m (cond b (freed x n) (slice_index s.words m))))
-        [ true ↦ let_go n kept (lock_reached c.program objects s (Cas m (word_of_lock (locks.Held x.number)) (freed x n)) k) | false ↦ loaded m ])
+    by_kept (keeps.Flat n) kept k = elim (slice_index s.words m == word_of_lock (locks.Held x.number)) as (λ (b : Bool). Leaves (slice_set s.words m (cond b (freed x n) (slice_index s.words m))))
+        [ true ↦ let_go n kept (lock_reached c.program objects s (Cas m (word_of_lock (locks.Held x.number)) (freed x n)) k) | false ↦ loaded m ]
     by_kept (keeps.Fat r) kept k = owner_written r 0 (record_low r kept)
 
     by_depth : (b : Bool) → ReachesIf c.program objects s (leave_content (Has h)) (cond b None (Some (release x m h.kept))) → Leaves (words_after s.words (cond b None (Some (release x m h.kept))))
@@ -136,8 +136,8 @@ module _ (sites : KnownSites) (mover : LockMover) where
       → Leaves (words_after s.words (leave_wants x m (claim_by m held attempt)))
   left m (Some h) attempt at k = by_depth m h at (nat_lt 1 h.depth) k
   left m None None at k = unchanged
-  left m None (Some q) at k = (elim (q.monitor == m) as (λ (b : Bool). Leaves (words_after s.words (leave_wants x m (cond b (Tries q) HasNot))))
-      [ true ↦ finished m q.inner | false ↦ unchanged ])
+  left m None (Some q) at k = elim (q.monitor == m) as (λ (b : Bool). Leaves (words_after s.words (leave_wants x m (cond b (Tries q) HasNot))))
+      [ true ↦ finished m q.inner | false ↦ unchanged ]
 
   entered : (m : ℕ) (k : Claim) → Leaves (words_after s.words (enter_wants m k))
   entered m HasNot = loaded m

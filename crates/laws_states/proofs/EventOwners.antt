@@ -14,15 +14,6 @@ use Rattle.laws_states.proofs.{PlainMoves.{same_look, Plainly, moves_plainly}, Q
 use Rattle.jvm_types.specs.declared.outcome.End.TheVariants as ends
 use Rattle.machine_types.specs.declared.phase.Phase.TheVariants as phases
 
--- ---- the end of a thread
-
-pub ended_keeps : (P : Phase → Type 0) (was : Phase) (e : End) → P was → P (phases.Ended e) → P (counted_by was (phases.Ended e))
-ended_keeps P was ends.Steps k m = k
-ended_keeps P was ends.Prints k m = k
-ended_keeps P was ends.Turns k m = k
-ended_keeps P was ends.Records k m = k
-ended_keeps P was e k m = m
-
 -- ---- what an instruction leaves of a thread
 
 record Kept (x y : Thread) : Type 0 where
@@ -97,7 +88,8 @@ module _ (sites : KnownSites) (given : GivenIsKept) (mover : LockMover) where
       (at (λ p. Knows (locks_in (references_of objects) s.words) t p) own.knows tt) (at (λ p. PhaseSaw (locks_in (references_of objects) s.words) owners.count p) own.take tt) (at (λ p. (i : ℕ) → drawn_by p ≡ Some i → drawn_by (was t) ≡ Some i) (λ i d. d) (λ i d. absurd (cc)))
     where
       at : (P : Phase → Type 0) → P (was t) → P (phases.Ended e) → P (counted_by (was t) y.phase)
-      at P k m = subst (λ (p : Phase). P (counted_by (was t) p)) (sym ph) (ended_keeps P (was t) e k m)
+      at P k m = subst (λ (p : Phase). P (counted_by (was t) p)) (sym ph) ((elim e as (λ (e : End). P (phases.Ended e) → P (counted_by (was t) (phases.Ended e)))
+          [ ends.Steps ↦ λ m. k | ends.Prints ↦ λ m. k | ends.Turns ↦ λ m. k | ends.Records ↦ λ m. k | e ↦ λ m. m ]) m)
 
   -- ---- all phases
 

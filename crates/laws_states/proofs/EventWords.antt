@@ -36,8 +36,8 @@ counter_suits content w h = absurd h
 -- ---- what a thread stores
 
 pub some_words : (a : ℕ) (p : Program) (word : ℕ) → a < a + size_by p word
-some_words a p word = (elim (header_class word == INT_ARRAY_CLASS) as (λ (b : Bool). a < a + (if b then array_size (header_length word) else object_size p (header_class word)))
-    [ true ↦ omega arith | false ↦ omega arith ])
+some_words a p word = elim (header_class word == INT_ARRAY_CLASS) as (λ (b : Bool). a < a + (if b then array_size (header_length word) else object_size p (header_class word)))
+    [ true ↦ omega arith | false ↦ omega arith ]
 
 -- an event has left the word of the site so
 pub record IsLeft (c : MarkedProgram) (words : List ℕ) (x : Thread) (site : Site) : Type 0 where

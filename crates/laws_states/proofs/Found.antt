@@ -69,15 +69,12 @@ module _ (state : HeapState) where
 
   effect_found : (x : Thread) (m : MethodInfo) (insn : Insn) (target : Target) (r : OpRow) (stack : List ℕ) (pc : ℕ) (e : Effect) → Allowed c.program m (HasClass objects) insn target r stack e → IsOfHeap (effect_content c.program target e)
       → WordFits c.program (effect_content c.program target e) (found_by s.words (effect_wants x pc e))
-  effect_found x m insn target r stack pc (Goes to made) al heap = absurd heap
-  effect_found x m insn target r stack pc (Calls number) al heap = absurd heap
   effect_found x m insn target r stack pc (Reads v) al heap = variable_fits target v al.1 al.2
   effect_found x m insn target r stack pc (Writes v n) al heap = variable_fits target v al.1 al.2
   effect_found x m insn target r stack pc (Indexes a i stored) al heap = header_fits INT_ARRAY_CLASS a al.1
   effect_found x m insn target r stack pc (Measures a) al heap = header_fits INT_ARRAY_CLASS a al.1
   effect_found x m insn target r stack pc (Raises a) al heap = (header_fits THROWABLE_CLASS a al.1, (let t = thrown_class a al.1 in subst (λ d. IsSome (thrown_of d)) (sym t.1) (thrown_some al.1.1 t.0)))
-  effect_found x m insn target r stack pc Stuck al heap = absurd al
-  effect_found x m insn target r stack pc e al heap = tt
+  effect_found x m insn target r stack pc e al heap = first_of (assumption, grind arith)
 
   run_found : (x : Thread) (fs : List Frame) → FramesHold c (HasClass objects) fs → IsOfHeap (run_content c.program (top_of c.program fs))
       → WordFits c.program (run_content c.program (top_of c.program fs)) (found_by s.words (run_wants c.program x (top_of c.program fs)))
@@ -131,13 +128,7 @@ module _ (mover : HeapMover) where
       let k = asked mover (phases.Element word stored) e in
       element_found state word stored (element_site state word stored x.frames h.0 h.1 k.0 k.1)
   found_fits (phases.Leave m a) e heap = absurd (no_heap_left state (claim x m) heap)
-  found_fits phases.Idle e heap = tt
-  found_fits phases.Start e heap = tt
-  found_fits (phases.Made a word) e heap = tt
-  found_fits (phases.Grow m toward) e heap = tt
-  found_fits (phases.Ending y) e heap = tt
-  found_fits (phases.Ended y) e heap = tt
-  found_fits phase e heap = absurd heap
+  found_fits phase e heap = first_of (assumption, grind arith)
 
 pub heap_fits : HeapWordsFit
 heap_fits c objects s t x marked facts there lawful = found_fits (heap_mover c marked objects s facts t x there lawful) x.phase refl

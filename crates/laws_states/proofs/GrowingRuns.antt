@@ -60,8 +60,8 @@ begins_long p (suc part) x workers = refl
 
 pub next_long : (p : Program) (threads : List Thread) → length (next_threads p threads) ≡ length threads
 next_long p [] = refl
-next_long p (x ∷ workers) = (elim (may_begin (x ∷ workers)) as (λ (b : Bool). length (cond b (part_begins p x.part x workers) (x ∷ workers)) ≡ length (x ∷ workers))
-    [ true ↦ begins_long p x.part x workers | false ↦ refl ])
+next_long p (x ∷ workers) = elim (may_begin (x ∷ workers)) as (λ (b : Bool). length (cond b (part_begins p x.part x workers) (x ∷ workers)) ≡ length (x ∷ workers))
+    [ true ↦ begins_long p x.part x workers | false ↦ refl ]
 
 happened_threads : (c : MarkedProgram) (s : Core) (h : Happening) → length (happened c s h).threads ≡ length s.threads
 happened_threads c s (Of t) = event_threads c s t (slice_get s.threads t)

@@ -10,7 +10,7 @@ use Rattle.machine_types.specs.{Onward.{Onward, Running, Throwing, Entering, Lea
 use Rattle.machine_types.specs.{Words.{header_class, header_length}, declared.effect.Effect.Effect}
 use Rattle.machine_types.specs.declared.effect.Effect.TheVariants.{Goes, Throws, Reads, Writes, Indexes, Measures, Raises, Makes, Prints, Calls, Returns, Enters, Leaves, Waits, Notifies, NotifiesAll, Stuck}
 use Rattle.machine_types.{specs.declared.{lock.{Held.Held, Kept.Kept}, phase.{After.TheVariants.{Next, Return}, Phase.Phase}}, proofs.PlainPartLaws.frames_are}
-use Rattle.laws_threads.specs.EntryFrames.{frames_in}
+use Rattle.laws_threads.{specs.EntryFrames.frames_in, proofs.ThreadMove.if_either}
 use Rattle.machine_types.specs.declared.lock.Kept.TheVariants as keeps
 use Rattle.machine_types.specs.declared.phase.Phase.TheVariants as phases
 
@@ -35,10 +35,6 @@ module _ (s : Thread) where
     pub roots : y.roots ≡ s.roots
     pub turns : y.turns ≤ s.turns
     pub frames : length y.frames ≤ suc (length s.frames)
-
-  either : (b : Bool) (y z : Thread) → Follows y → Follows z → Follows (if b then y else z)
-  either true y z h k = h
-  either false y z h k = k
 
   as_many : s.turns ≤ s.turns
   as_many = omega arith
@@ -99,9 +95,9 @@ module _ (s : Thread) where
     notified phase (keeps.Fat r) = record { cfg = refl; instructions = refl; roots = refl; turns = as_many; frames = one }
 
     does : (e : Effect) (got : ℕ) → Follows (did p s at e got)
-    does (Indexes array index stored) got = either (nat_lt (low index) (header_length got)) _ _ (record { cfg = refl; instructions = refl; roots = refl; turns = as_many; frames = omega arith }) (goes (threw ArrayIndexOutOfBoundsException at) one)
-    does (Makes word size) got = either (nat_le (got + size) p.heap) _ _ (record { cfg = refl; instructions = refl; roots = refl; turns = as_many; frames = one }) (goes (threw OutOfMemoryError at) one)
-    does (Prints n) got = either (has_print_left s) _ _ (record { cfg = refl; instructions = refl; roots = refl; turns = as_many; frames = one }) (record { cfg = refl; instructions = refl; roots = refl; turns = as_many; frames = omega arith })
+    does (Indexes array index stored) got = if_either Follows (nat_lt (low index) (header_length got)) _ _ (record { cfg = refl; instructions = refl; roots = refl; turns = as_many; frames = omega arith }) (goes (threw ArrayIndexOutOfBoundsException at) one)
+    does (Makes word size) got = if_either Follows (nat_le (got + size) p.heap) _ _ (record { cfg = refl; instructions = refl; roots = refl; turns = as_many; frames = one }) (goes (threw OutOfMemoryError at) one)
+    does (Prints n) got = if_either Follows (has_print_left s) _ _ (record { cfg = refl; instructions = refl; roots = refl; turns = as_many; frames = one }) (record { cfg = refl; instructions = refl; roots = refl; turns = as_many; frames = omega arith })
     does (Waits m) got = if_holds (held_at s.held m) (waits (record s { frames = went_on p at 0 }) m) (waited m)
     does (Notifies m) got = if_holds (held_at s.held m) (notifies (record s { frames = went_on p at 0 }) (phases.NotifyLook m)) (notified (phases.NotifyLook m))
     does (NotifiesAll m) got = if_holds (held_at s.held m) (notifies (record s { frames = went_on p at 0 }) (phases.NotifyAll m)) (notified (phases.NotifyAll m))
@@ -119,10 +115,10 @@ module _ (s : Thread) where
 
     looks_first : (a : Option Attempt) (got : ℕ) (y : Thread) → Follows y → Follows (if_same s a got y)
     looks_first None got y h = h
-    looks_first (Some a) got y h = either (is_same a got) y (fails s a) h (record { cfg = refl; instructions = refl; roots = refl; turns = as_many; frames = put_back_few a s.frames })
+    looks_first (Some a) got y h = if_either Follows (is_same a got) y (fails s a) h (record { cfg = refl; instructions = refl; roots = refl; turns = as_many; frames = put_back_few a s.frames })
 
     instruction : (e : Effect) (got : ℕ) → Follows (instructed p s at e got)
-    instruction e got = either (is_checked at.frame.pc e) _ _ (looks_first s.attempt got _ (does e got)) (does e got)
+    instruction e got = if_either Follows (is_checked at.frame.pc e) _ _ (looks_first s.attempt got _ (does e got)) (does e got)
 
 -- the thread counts it first
 pub runs_follow : (p : Program) (x : Thread) (at : Top) (got : ℕ) → top_of p x.frames ≡ Some at → Follows (begun x) (ran p x (Some at) got)

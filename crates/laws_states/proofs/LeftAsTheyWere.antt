@@ -30,8 +30,8 @@ module _ {A : Type 0} (of : Thread → A) (rooted : (roots : List ℕ) (x : Thre
 
   next_left : (threads : List Thread) → map of (next_threads p threads) ≡ map of threads
   next_left [] = refl
-  next_left (x ∷ workers) = (elim (may_begin (x ∷ workers)) as (λ (b : Bool). map of (if b then part_begins p x.part x workers else x ∷ workers) ≡ map of (x ∷ workers))
-      [ true ↦ part_left x.part x workers | false ↦ refl ])
+  next_left (x ∷ workers) = elim (may_begin (x ∷ workers)) as (λ (b : Bool). map of (if b then part_begins p x.part x workers else x ∷ workers) ≡ map of (x ∷ workers))
+      [ true ↦ part_left x.part x workers | false ↦ refl ]
 
 pub parts_leave_words : PartsLeaveWords
 parts_leave_words c s = record {

@@ -95,7 +95,7 @@ IsLockingPhase (phases.Ended e) = ⊥
 IsLockingPhase phase = Unit {0}
 
 leave_is_locking : (claimed : Claim) → IsLocking (leave_content claimed)
-leave_is_locking (Has h) = (elim h.kept as (λ (k : Kept). IsLocking (leave_content (Has (record h { kept = k })))) [ keeps.Flat n ↦ tt | keeps.Fat r ↦ tt ])
+leave_is_locking (Has h) = elim h.kept as (λ (k : Kept). IsLocking (leave_content (Has (record h { kept = k })))) [ keeps.Flat n ↦ tt | keeps.Fat r ↦ tt ]
 leave_is_locking (Tries a) = tt
 leave_is_locking HasNot = tt
 
@@ -194,27 +194,14 @@ adds_few c s phases.Run access w fits = by_top (top_of c.program s.frames) fits 
     by_top None fits w = none access 0 0 w
     by_top (Some at) fits w = effect_adds c.program at.target s access at.frame.pc (effect_at c.program at) (fits at refl) w
 adds_few c s (phases.Element word stored) access w fits = element_adds word access stored w
-adds_few c s (phases.Made a word) access w fits = no_sum access 0 0 _ w refl tt
 adds_few c s (phases.Throw x class) access w fits = looks_adds access 0 0 s.attempt w
 adds_few c s (phases.Enter m n) access w fits = enter_adds m access (claim s m) w
-adds_few c s (phases.Acquire m) access w fits = no_sum access 0 0 _ w refl tt
-adds_few c s (phases.Take m n) access w fits = no_sum access 0 0 _ w refl tt
-adds_few c s (phases.Flag m u) access w fits = no_sum access 0 0 _ w refl tt
-adds_few c s (phases.TakeFat m r) access w fits = no_sum access 0 0 _ w refl tt
 adds_few c s (phases.Leave m a) access w fits = leave_adds s m access (claim s m) w
 adds_few c s (phases.Grow m toward) access w fits = by_access access 0 1 _ w (record { counted = inr (inr refl); free = λ k. absurd (omega (arith, k)); tickets = λ k. absurd (omega (arith, k)); records = λ k. omega arith })
-adds_few c s (phases.FlatOut m a) access w fits = no_sum access 0 0 _ w refl tt
-adds_few c s (phases.Own m r toward) access w fits = no_sum access 0 0 _ w refl tt
-adds_few c s (phases.FatIn m r toward) access w fits = no_sum access 0 0 _ w refl tt
-adds_few c s (phases.WaitBit m r) access w fits = no_sum access 0 0 _ w refl tt
-adds_few c s (phases.WaitOut m r) access w fits = no_sum access 0 0 _ w refl tt
-adds_few c s (phases.WaitLook m r depth) access w fits = no_sum access 0 0 _ w refl tt
-adds_few c s (phases.Retake m r depth) access w fits = no_sum access 0 0 _ w refl tt
-adds_few c s (phases.NotifyLook m r) access w fits = no_sum access 0 0 _ w refl tt
-adds_few c s (phases.NotifyOne m r u) access w fits = no_sum access 0 0 _ w refl tt
-adds_few c s (phases.NotifyAll m r) access w fits = no_sum access 0 0 _ w refl tt
-adds_few c s (phases.Ending e) access w fits = no_sum access 0 0 _ w refl tt
-adds_few c s phase access w fits = absurd (cc)
+adds_few c s phases.Idle access w fits = absurd (cc)
+adds_few c s phases.Start access w fits = absurd (cc)
+adds_few c s (phases.Ended e) access w fits = absurd (cc)
+adds_few c s phase access w fits = no_sum access 0 0 _ w refl tt
 
 -- ---- a counter is only added to
 

@@ -21,8 +21,11 @@ use Rattle.machine_types.specs.declared.phase.Phase.TheVariants as phases
 pub by_parts : (word kind upper : ℕ) → word % 4 ≡ kind → word / 4 ≡ upper → lock_of word ≡ lock_by kind upper
 by_parts word kind upper e f = ap (λ (k : ℕ). lock_by k (word / 4)) e ∙ ap (λ (n : ℕ). lock_by kind n) f
 
-is_by_parts : (word kind upper : ℕ) → word % 4 ≡ kind → word / 4 ≡ upper → is_lock_by kind upper ≡ true → is_lock_word word ≡ true
-is_by_parts word kind upper e f is = ap (λ (k : ℕ). is_lock_by k (word / 4)) e ∙ ap (λ (n : ℕ). is_lock_by kind n) f ∙ is
+lock_by_parts : (range word kind upper : ℕ) → word % 4 ≡ kind → word / 4 ≡ upper → is_lock_by kind upper ≡ true → CountsTo range (lock_by kind upper) → IsLock range word
+lock_by_parts range word kind upper e f is counts = record {
+  is = ap (λ (k : ℕ). is_lock_by k (word / 4)) e ∙ ap (λ (n : ℕ). is_lock_by kind n) f ∙ is;
+  counts = subst (CountsTo range) (sym (by_parts word kind upper e f)) counts;
+}
 
 -- of a thread that there may be, of a record that there is, with a count up to the last one
 abbrev pub LockFits : (range : ℕ) → LockWord → Type 0
@@ -35,22 +38,10 @@ thread_fits : (t : ℕ) → t ≤ 8 → nat_lt 0 (t + 1) && nat_le (t + 1) 9 ≡
 thread_fits t few = grind (arith, nat_tests, few)
 
 pub word_is_lock : (range : ℕ) (lock : LockWord) → LockFits range lock → IsLock range (word_of_lock lock)
-word_is_lock range (locks.Free c) fits = record {
-  is = is_by_parts (4 * c) 0 c (omega arith) (omega arith) refl;
-  counts = subst (CountsTo range) (sym (by_parts (4 * c) 0 c (omega arith) (omega arith))) fits;
-}
-word_is_lock range (locks.Fat r) fits = record {
-  is = is_by_parts (4 * r + 1) 1 r (omega arith) (omega arith) (grind (arith, nat_tests, fits));
-  counts = subst (CountsTo range) (sym (by_parts (4 * r + 1) 1 r (omega arith) (omega arith))) tt;
-}
-word_is_lock range (locks.Held t) fits = record {
-  is = is_by_parts (4 * (t + 1) + 2) 2 (t + 1) (omega arith) (omega arith) (thread_fits t fits);
-  counts = subst (CountsTo range) (sym (by_parts (4 * (t + 1) + 2) 2 (t + 1) (omega arith) (omega arith))) tt;
-}
-word_is_lock range (locks.Flagged t) fits = record {
-  is = is_by_parts (4 * (t + 1) + 3) 3 (t + 1) (omega arith) (omega arith) (thread_fits t fits);
-  counts = subst (CountsTo range) (sym (by_parts (4 * (t + 1) + 3) 3 (t + 1) (omega arith) (omega arith))) tt;
-}
+word_is_lock range (locks.Free c) fits = lock_by_parts range (4 * c) 0 c (omega arith) (omega arith) refl fits
+word_is_lock range (locks.Fat r) fits = lock_by_parts range (4 * r + 1) 1 r (omega arith) (omega arith) (grind (arith, nat_tests, fits)) tt
+word_is_lock range (locks.Held t) fits = lock_by_parts range (4 * (t + 1) + 2) 2 (t + 1) (omega arith) (omega arith) (thread_fits t fits) tt
+word_is_lock range (locks.Flagged t) fits = lock_by_parts range (4 * (t + 1) + 3) 3 (t + 1) (omega arith) (omega arith) (thread_fits t fits) tt
 
 next_in_range : (count range : ℕ) → next_count count range ≤ range
 next_in_range count range = (elim (nat_lt count range) as (λ (b : Bool). nat_lt count range ≡ b → (if b then count + 1 else range) ≤ range)
@@ -62,7 +53,7 @@ freed_is_lock s count = word_is_lock s.cfg.range (locks.Free (next_count count s
 -- ---- accesses
 
 swapped : (P : ℕ → Type 0) (is v n : ℕ) → P v → P n → P (if n == is then v else n)
-swapped P is v n h k = (elim (n == is) as (λ (b : Bool). P (if b then v else n)) [ true ↦ h | false ↦ k ])
+swapped P is v n h k = elim (n == is) as (λ (b : Bool). P (if b then v else n)) [ true ↦ h | false ↦ k ]
 
 module _ (P : ℕ → Type 0) (access : Access) (got : ℕ) (may : P got) where
   pub leaves : (a : Access) → Some a ≡ Some access → P (left_by a got) → P (left_by access got)

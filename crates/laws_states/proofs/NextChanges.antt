@@ -46,12 +46,12 @@ is_behind (phases.Throw x class) = true
 is_behind phase = runs_or_ends phase
 
 ran_on : (s : Thread) → runs_or_ends (runs s).phase ≡ true
-ran_on s = (elim (nat_lt s.counts.instructions s.cfg.steps) as (λ (b : Bool). runs_or_ends (if b then phases.Run else phases.Ending ends.Steps) ≡ true)
-    [ true ↦ refl | false ↦ refl ])
+ran_on s = elim (nat_lt s.counts.instructions s.cfg.steps) as (λ (b : Bool). runs_or_ends (if b then phases.Run else phases.Ending ends.Steps) ≡ true)
+    [ true ↦ refl | false ↦ refl ]
 
 ran_behind : (s : Thread) → is_behind (runs s).phase ≡ true
-ran_behind s = (elim (nat_lt s.counts.instructions s.cfg.steps) as (λ (b : Bool). is_behind (if b then phases.Run else phases.Ending ends.Steps) ≡ true)
-    [ true ↦ refl | false ↦ refl ])
+ran_behind s = elim (nat_lt s.counts.instructions s.cfg.steps) as (λ (b : Bool). is_behind (if b then phases.Run else phases.Ending ends.Steps) ≡ true)
+    [ true ↦ refl | false ↦ refl ]
 
 over_behind : (roots : List ℕ) → is_behind (root_over roots) ≡ true
 over_behind [] = refl

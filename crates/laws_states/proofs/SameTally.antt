@@ -1,5 +1,5 @@
 -- What most events leave of a thread: what it holds, how many locks it took, and how many instructions it began.
-use Rattle.std.proofs.Common.{◌≡◌, ℕ, zero, suc, List, Option, Some, refl}
+use Rattle.std.proofs.Common.{◌≡◌, ℕ, zero, suc, List, Option, Some, refl, arith}
 use Rattle.jvm_types.specs.declared.program.Program.{Program}
 use Rattle.checked_program.specs.MarkedProgram.{MarkedProgram}
 use Rattle.machine_types.specs.{Elision.{is_same, fails, elided}, Events.moved, Going.{goes_on_if, goes_after}, Monitors.finishes, Onward.{Onward, after}, Threads.{Thread, Attempt}}
@@ -36,16 +36,7 @@ tally_moved c s got was (moves.goes o k) n = goes_if s (Some o)
 tally_moved c s got _ (moves.starts number roots e) n = goes_if _ _
 tally_moved c s got was (moves.takes_lock m kept k) n = absurd (takes_in (λ (w : Phase). KeepsTally w → ⊥) got m was kept k (λ count n. n) (λ r n. n) n)
 tally_moved c s got was (moves.gives_up m a k) n = absurd (gives_up_in (λ (w : Phase). KeepsTally w → ⊥) s m a was k (λ n. n) (λ n. n) n)
-tally_moved c s got _ (moves.enters_again m tried h l) n = absurd n
-tally_moved c s got _ (moves.enters_inside m tried t k) n = absurd n
-tally_moved c s got _ (moves.begins_to_try m tried noted f below e y l t free) n = absurd n
-tally_moved c s got _ (moves.leaves_outer m a h l t) n = absurd n
-tally_moved c s got _ (moves.leaves_inside m a t inner k e) n = absurd n
-tally_moved c s got _ (moves.finishes_try m a t k e y) n = absurd n
-tally_moved c s got _ (moves.fattens_lock m r toward h l) n = absurd n
-tally_moved c s got _ (moves.gives_up_to_wait m r h l) n = absurd n
-tally_moved c s got _ (moves.retakes_lock m r depth e) n = absurd n
-tally_moved c s got was k n = refl
+tally_moved c s got was k n = first_of (cc, grind arith)
 
 -- from the thread that has counted its instruction
 pub same_tally : (c : MarkedProgram) (s : Thread) (phase : Phase) (got : ℕ) → KeepsTally phase → tally_of (moved c s phase got) ≡ tally_of (mover c.program phase s)

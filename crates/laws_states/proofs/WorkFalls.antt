@@ -38,8 +38,8 @@ one_instruction m steps i t u r f g h turns frames =
 -- what is left of a monitor that is being left
 leaving : (o : Option Held) → (2 < leaving_held o) × (leaving_held o < 11)
 leaving None = (omega arith, omega arith)
-leaving (Some h) = (elim h.kept as (λ (k : Kept). (2 < leaving_work k) × (leaving_work k < 11))
-    [ keeps.Flat count ↦ (omega arith, omega arith) | keeps.Fat r ↦ (omega arith, omega arith) ])
+leaving (Some h) = elim h.kept as (λ (k : Kept). (2 < leaving_work k) × (leaving_work k < 11))
+    [ keeps.Flat count ↦ (omega arith, omega arith) | keeps.Fat r ↦ (omega arith, omega arith) ]
 
 place_small : (held : List Held) (phase : Phase) → chain held phase < 12
 place_small held (phases.Leave m a) = omega (arith, (leaving (held_at held m)).1)
@@ -69,10 +69,6 @@ module _ (x : Thread) (phase : Phase) where
   abbrev Lessens : Thread → Type 0
   Lessens y = work_left y < work_in x phase
 
-  either : (b : Bool) (y z : Thread) → Lessens y → Lessens z → Lessens (if b then y else z)
-  either true y z h k = h
-  either false y z h k = k
-
   by_chains : (y : Thread) → chains_left y < chains_left x → Lessens y
   by_chains y h = omega (arith, h, (small y))
 
@@ -83,8 +79,8 @@ module _ (x : Thread) (phase : Phase) where
   to_phase now h = by_place (with_phase x now) refl h
 
   ran_on : (s : Thread) → chains_left s ≡ chains_left x → 2 < chain x.held phase + inside phase x.attempt → Lessens (runs s)
-  ran_on s e h = (elim (nat_lt s.counts.instructions s.cfg.steps) as (λ (b : Bool). Lessens (with_phase s (if b then phases.Run else phases.Ending ends.Steps)))
-      [ true ↦ by_place (with_phase s phases.Run) e (omega (arith, h)) | false ↦ by_place (with_phase s (phases.Ending ends.Steps)) e (omega (arith, h)) ])
+  ran_on s e h = elim (nat_lt s.counts.instructions s.cfg.steps) as (λ (b : Bool). Lessens (with_phase s (if b then phases.Run else phases.Ending ends.Steps)))
+      [ true ↦ by_place (with_phase s phases.Run) e (omega (arith, h)) | false ↦ by_place (with_phase s (phases.Ending ends.Steps)) e (omega (arith, h)) ]
 
   turned : (now : Phase) → x.turns < x.cfg.turns → Lessens (failed_turn x now)
   turned now h = by_chains (failed_turn x now) (omega (arith, h))
