@@ -31,8 +31,7 @@ GoesCalm phase = Unit {0}
 
 onward_calm : (phase : Phase) → IsOnward phase → IsCalm phase
 onward_calm (phases.WaitOut m r) n = n
-onward_calm (phases.NotifyOne m r u) n = n
-onward_calm phase n = tt
+onward_calm phase n = assumption
 
 -- also where something was asked of them before
 pub runs_counted : (was : Phase) (s : Thread) → IsCalm (counted_by was (runs s).phase)
@@ -43,20 +42,20 @@ goes_calm = onward_if_to IsCalm onward_calm
 
 leads_calm : (p : Program) (s : Thread) (got : ℕ) (was now : Phase) → LeadsTo p s got was now → GoesCalm was → IsCalm now
 leads_calm p s got _ _ (moves.to_wait_out m r) n = n
-leads_calm p s got _ _ (moves.to_notify_one m r e) n = n
-leads_calm p s got was now k n = tt
+leads_calm p s got was now k n = assumption
 
 turns_calm : (s : Thread) (got : ℕ) (was now : Phase) → TurnsTo s got was now → IsCalm now
 turns_calm s got was _ (moves.looks_again m k) = tt
 turns_calm s got was now k = tt
 
-waits_calm : (m : ℕ) (kept : Kept) (now : Phase) → WaitsFrom m kept now → IsCalm now
-waits_calm m _ _ (moves.grows_first count) = tt
-waits_calm m _ _ (moves.waits_fat r) = tt
+-- where a wait and a notification begin
+pub waits_in : (P : Phase → Type 0) (m : ℕ) (kept : Kept) (now : Phase) → WaitsFrom m kept now → P (phases.Grow m towards.Wait) → ((r : ℕ) → P (phases.WaitBit m r)) → P now
+waits_in P m _ _ (moves.grows_first count) h k = h
+waits_in P m _ _ (moves.waits_fat r) h k = k r
 
-asks_calm : (m : ℕ) (kept : Kept) (now : Phase) → Asks m kept now → IsCalm now
-asks_calm m _ _ (moves.looks_who r) = tt
-asks_calm m _ _ (moves.clears_all r) = tt
+pub asks_in : (P : Phase → Type 0) (m : ℕ) (kept : Kept) (now : Phase) → Asks m kept now → ((r : ℕ) → P (phases.NotifyLook m r)) → ((r : ℕ) → P (phases.NotifyAll m r)) → P now
+asks_in P m _ _ (moves.looks_who r) h k = h r
+asks_in P m _ _ (moves.clears_all r) h k = k r
 
 calm_moved : (c : MarkedProgram) (s : Thread) (got : ℕ) (was : Phase) (k : Move c s got was) → GoesCalm was → IsCalm s.phase → IsCalm (becomes c s got was k).phase
 calm_moved c s got was (moves.stays k) n h = h
@@ -64,8 +63,8 @@ calm_moved c s got was (moves.goes o k) n h = goes_calm s (Some o) h
 calm_moved c s got was (moves.leads now k) n h = leads_calm c.program s got was now k n
 calm_moved c s got was (moves.turns now k) n h = turns_to IsCalm s now (turns_calm s got was now k) tt
 calm_moved c s got _ (moves.prints at i e l t) n h = goes_calm (printed s got i) (Some (Running (went_on c.program at 0))) h
-calm_moved c s got _ (moves.asks_to_wait at m e now f l t k) n h = waits_calm m e.kept now k
-calm_moved c s got _ (moves.asks at m e now f y l k) n h = asks_calm m e.kept now k
+calm_moved c s got _ (moves.asks_to_wait at m e now f l t k) n h = waits_in IsCalm m e.kept now k tt (λ r. tt)
+calm_moved c s got _ (moves.asks at m e now f y l k) n h = asks_in IsCalm m e.kept now k (λ r. tt) (λ r. tt)
 calm_moved c s got _ (moves.enters_again m tried e l) n h = runs_to IsCalm s tt tt
 calm_moved c s got _ (moves.enters_inside m tried t k) n h = runs_to IsCalm s tt tt
 calm_moved c s got _ (moves.begins_to_try m tried noted f below e y l t free) n h = runs_to IsCalm s tt tt

@@ -1,5 +1,5 @@
 -- Whatever event happens, the waiting bits of a record are changed by its owner alone.
-use Rattle.std.proofs.Common.{◌≡◌, ◌⊎◌, inl, inr, ℕ, ◌+◌, ◌-◌, ◌*◌, ◌^◌, ◌<◌, ◌≤◌, nat_lt, Bool, true, false, not, Some, refl, sym, ap, ◌∙◌, subst, arith, ◌≢◌, ◌==◌, bit_and, bit_or, slice_index, slice_set}
+use Rattle.std.proofs.Common.{⊎_elim, ◌≡◌, ◌⊎◌, inl, inr, ℕ, ◌+◌, ◌-◌, ◌*◌, ◌^◌, ◌<◌, ◌≤◌, nat_lt, Bool, true, false, not, Some, refl, sym, ap, ◌∙◌, subst, arith, ◌≢◌, ◌==◌, bit_and, bit_or, slice_index, slice_set}
 use Rattle.std.{specs.Int.bit_at, proofs.lemmas.{Bool.Decides.nat_tests, Grind.and_not_bit, Nat.{pow_below, Bits.{and_pow, bit_at_above, bit_at-pow_other}}}}
 use Rattle.jvm_types.specs.{Numbers.has_flag, declared.fixed_words.TheConstants.MONITOR_RECORDS}
 use Rattle.machine_types.specs.{Accesses.words_after, Events.wanted, Monitors.bit_of, Owners.owner_at, Structure.IsAs, Waiting.is_bit_set, Words.bits_word, declared.phase.Phase.Phase}
@@ -61,27 +61,23 @@ module _ (sites : KnownSites) (mover : LockMover) (records : RecordsFit mover.st
       there k other = set_there s.words (bits_word r) (bits_word k) value (λ e. other (omega (arith, e)))
 
       set_at : (k u : ℕ) → (k ≡ r) ⊎ (k ≢ r) → is_bit_set s.words k u ≡ false → is_bit_set (slice_set s.words (bits_word r) value) k u ≡ true → (u ≡ t) × (owner_at s.words k ≡ t + 1) × Sets phase k
-      set_at k u (inl same) out in' = subst (λ (n : ℕ). is_bit_set s.words n u ≡ false → is_bit_set (slice_set s.words (bits_word r) value) n u ≡ true → (u ≡ t) × (owner_at s.words n ≡ t + 1) × Sets phase n) (sym same) at_record out in'
-        where
-          at_record : is_bit_set s.words r u ≡ false → is_bit_set (slice_set s.words (bits_word r) value) r u ≡ true → (u ≡ t) × (owner_at s.words r ≡ t + 1) × Sets phase r
-          at_record o i = let k = sets u o (ap (has_flag (bit_of u)) (sym here) ∙ i) in (k.0, owner, k.1)
+      set_at k u (inl same) out in' = subst (λ (n : ℕ). is_bit_set s.words n u ≡ false → is_bit_set (slice_set s.words (bits_word r) value) n u ≡ true → (u ≡ t) × (owner_at s.words n ≡ t + 1) × Sets phase n) (sym same)
+          (λ o i. let k = sets u o (ap (has_flag (bit_of u)) (sym here) ∙ i) in (k.0, owner, k.1)) out in'
       set_at k u (inr other) out in' = let bad : false ≡ true = sym out ∙ ap (has_flag (bit_of u)) (sym (there k other)) ∙ in' in absurd (cc)
 
       cleared_at : (k u : ℕ) → (k ≡ r) ⊎ (k ≢ r) → is_bit_set s.words k u ≡ true → is_bit_set (slice_set s.words (bits_word r) value) k u ≡ false → (owner_at s.words k ≡ t + 1) × Clears phase k u
-      cleared_at k u (inl same) in' out = subst (λ (n : ℕ). is_bit_set s.words n u ≡ true → is_bit_set (slice_set s.words (bits_word r) value) n u ≡ false → (owner_at s.words n ≡ t + 1) × Clears phase n u) (sym same) at_record in' out
-        where
-          at_record : is_bit_set s.words r u ≡ true → is_bit_set (slice_set s.words (bits_word r) value) r u ≡ false → (owner_at s.words r ≡ t + 1) × Clears phase r u
-          at_record i o = (owner, clears u i (ap (has_flag (bit_of u)) (sym here) ∙ o))
+      cleared_at k u (inl same) in' out = subst (λ (n : ℕ). is_bit_set s.words n u ≡ true → is_bit_set (slice_set s.words (bits_word r) value) n u ≡ false → (owner_at s.words n ≡ t + 1) × Clears phase n u) (sym same)
+          (λ i o. (owner, clears u i (ap (has_flag (bit_of u)) (sym here) ∙ o))) in' out
       cleared_at k u (inr other) in' out = let bad : true ≡ false = sym in' ∙ ap (has_flag (bit_of u)) (sym (there k other)) ∙ out in absurd (cc)
 
   wait_set : (m r : ℕ) → x.phase ≡ phases.WaitBit m r → was t ≡ phases.WaitBit m r → Done (phases.WaitBit m r)
   wait_set m r e k = written (phases.WaitBit m r) r (bit_or (slice_index s.words (bits_word r)) (bit_of x.number)) (fits_bounds mover (phases.WaitBit m r) e) k refl
-      (λ u out in'. (by_number u (same_or_not u t) out in', refl))
+      (λ u out in'. (
+        ⊎_elim (λ (same : u ≡ t). same)
+            (λ (other : u ≢ t). let bad : false ≡ true = sym out ∙ set_other (slice_index s.words (bits_word r)) x.number u (λ q. other (q ∙ number)) in' in absurd (cc)) (same_or_not u t),
+        refl,
+      ))
       (λ u in' out. let bad : true ≡ false = sym (set_keeps (slice_index s.words (bits_word r)) x.number u in') ∙ out in absurd (cc))
-    where
-      by_number : (u : ℕ) → (u ≡ t) ⊎ (u ≢ t) → has_flag (bit_of u) (slice_index s.words (bits_word r)) ≡ false → has_flag (bit_of u) (bit_or (slice_index s.words (bits_word r)) (bit_of x.number)) ≡ true → u ≡ t
-      by_number u (inl same) out in' = same
-      by_number u (inr other) out in' = let bad : false ≡ true = sym out ∙ set_other (slice_index s.words (bits_word r)) x.number u (λ q. other (q ∙ number)) in' in absurd (cc)
 
   one_cleared : (m r w : ℕ) → x.phase ≡ phases.NotifyOne m r w → was t ≡ phases.NotifyOne m r w → Done (phases.NotifyOne m r w)
   one_cleared m r w e k = written (phases.NotifyOne m r w) r (bit_and (slice_index s.words (bits_word r)) (2 ^ 64 - 1 - bit_of w)) low k refl

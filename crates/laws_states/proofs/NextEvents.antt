@@ -52,16 +52,10 @@ has_caller p [] given fits = tt
 has_caller p (f ∷ fs) given fits = there _ _ fits.stands.found
 
 goes_on_by : (p : Program) (at : Top) (e : Effect) (got : ℕ) → IsAllowed p at e → (is_return at.insn.op ≡ true → HasCaller p at.below) → WordFits p (effect_content p at.target e) got → GoesOnBy p at e got
-goes_on_by p at (Indexes a i stored) got allowed caller fits = tt
 goes_on_by p at (Raises x) got allowed caller fits = mapped _ _ fits.1
-goes_on_by p at (Makes word size) got allowed caller fits = tt
 goes_on_by p at (Calls number) got allowed caller fits = mapped _ _ (there _ _ allowed.there)
 goes_on_by p at Returns got allowed caller fits = caller allowed
-goes_on_by p at (Waits m) got allowed caller fits = tt
-goes_on_by p at (Notifies m) got allowed caller fits = tt
-goes_on_by p at (NotifiesAll m) got allowed caller fits = tt
-goes_on_by p at Stuck got allowed caller fits = absurd allowed
-goes_on_by p at e got allowed caller fits = refl
+goes_on_by p at e got allowed caller fits = first_of (assumption, cc, grind arith)
 
 module _ (c : MarkedProgram) (marked : IsMarked c) where
   has_instruction : (fs : List Frame) → FramesHold c (within c.program) fs → HasFrame fs → HasInstruction c.program fs

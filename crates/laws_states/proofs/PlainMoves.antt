@@ -5,7 +5,7 @@ use Rattle.checked_program.specs.MarkedProgram.{MarkedProgram}
 use Rattle.machine_types.specs.{Elision.{is_same, elided}, Events.moved, Frames.went_on, Going.{goes_on, goes_on_if}, Instructions.printed, Monitors.finishes, Onward.{Onward, Running, RootReturned}}
 use Rattle.machine_types.specs.{Owners.{Locks, IsSeen, AttemptSawIn}, Threads.{Thread, Attempt}, declared.{config.Config.Config, lock.Kept.Kept, phase.{After.After, Phase.Phase}}}
 use Rattle.laws_threads.proofs.ThreadMove.{LeadsTo, TurnsTo, Asks, WaitsFrom, Move, becomes, counting, any_move, if_either, looks_in, takes_in, gives_up_in, over_to, same_onward}
-use Rattle.laws_states.proofs.CountedPhases.{IsPlain}
+use Rattle.laws_states.proofs.{CalmMoves.{waits_in, asks_in}, CountedPhases.IsPlain}
 use Rattle.jvm_types.specs.declared.outcome.End.TheVariants as ends
 use Rattle.machine_types.specs.declared.phase.Phase.TheVariants as phases
 use Rattle.laws_threads.proofs.ThreadMove as moves
@@ -76,14 +76,6 @@ turns_never s got was _ (moves.looks_again m k) n = looks_in NeverPlain m was k 
 turns_never s got was _ (moves.flags m u k e) n = looks_in NeverPlain m was k (λ tried n. n) (λ n. n) n
 turns_never s got was now k n = n
 
-waits_plain : (m : ℕ) (kept : Kept) (now : Phase) → WaitsFrom m kept now → IsPlain now
-waits_plain m _ _ (moves.grows_first count) = tt
-waits_plain m _ _ (moves.waits_fat r) = tt
-
-asks_plain : (m : ℕ) (kept : Kept) (now : Phase) → Asks m kept now → IsPlain now
-asks_plain m _ _ (moves.looks_who r) = tt
-asks_plain m _ _ (moves.clears_all r) = tt
-
 plain_moved : (c : MarkedProgram) (s : Thread) (got : ℕ) (was : Phase) (k : Move c s got was) → GoesPlain was → IsPlain s.phase → Plainly s.attempt (becomes c s got was k)
 plain_moved c s got was (moves.stays k) n h = record { phase = h; attempt = same_look s.attempt }
 plain_moved c s got was (moves.goes o k) n h = goes s.attempt s o (same_look s.attempt)
@@ -92,8 +84,8 @@ plain_moved c s got was (moves.leads now k) n h = record { phase = leads_plain c
 plain_moved c s got was (moves.turns now k) n h = absurd (turns_never s got was now k n)
 plain_moved c s got _ (moves.makes at word size e f t) n h = record { phase = tt; attempt = same_look s.attempt }
 plain_moved c s got _ (moves.prints at i e f t) n h = goes s.attempt (printed s got i) (Running (went_on c.program at 0)) (same_look s.attempt)
-plain_moved c s got _ (moves.asks_to_wait at m e now f l t k) n h = record { phase = waits_plain m e.kept now k; attempt = same_look s.attempt }
-plain_moved c s got _ (moves.asks at m e now f y l k) n h = record { phase = asks_plain m e.kept now k; attempt = same_look s.attempt }
+plain_moved c s got _ (moves.asks_to_wait at m e now f l t k) n h = record { phase = waits_in IsPlain m e.kept now k tt (λ r. tt); attempt = same_look s.attempt }
+plain_moved c s got _ (moves.asks at m e now f y l k) n h = record { phase = asks_in IsPlain m e.kept now k (λ r. tt) (λ r. tt); attempt = same_look s.attempt }
 plain_moved c s got _ (moves.starts number roots e) n h = goes_if s.attempt (record s { roots = roots }) _ h (same_look s.attempt)
 plain_moved c s got was (moves.takes_lock m kept k) n h = absurd (takes_in NeverPlain got m was kept k (λ count n. n) (λ r n. n) n)
 plain_moved c s got was (moves.gives_up m a k) n h = absurd (gives_up_in NeverPlain s m a was k (λ n. n) (λ n. n) n)

@@ -1,14 +1,14 @@
 -- What a thread becomes where it neither makes an object nor is about to read or store an element: the monitors that it holds
 -- stay objects.
-use Rattle.std.{proofs.Common.{◌≡◌, ℕ, List, Option, Some, refl, sym, subst}, specs.List.AllByRecursion}
+use Rattle.std.{proofs.Common.{◌≡◌, ℕ, List, Option, Some, refl, sym, subst, arith}, specs.List.AllByRecursion}
 use Rattle.jvm_types.specs.declared.program.Program.{Program}
 use Rattle.checked_program.specs.MarkedProgram.{MarkedProgram}
 use Rattle.machine_types.specs.{Elision.elided, Frames.went_on, Going.{runs, goes_on, goes_on_if}, HeldMonitors.{held_at, with_held, without_held, deeper, shallower}, Instructions.printed}
 use Rattle.machine_types.specs.{Monitors.grown, Onward.{Onward, Running, after}, Threads.Thread, Typed.{Classes, IsObject}, declared.{lock.{Held.Held, Kept.Kept}, phase.{After.After, Phase.Phase}}}
 use Rattle.machine_types.specs.declared.phase.Toward.{Toward}
 use Rattle.laws_threads.proofs.{HeldBounds.{each_put, each_without, found}, HeldLists.held_monitor}
-use Rattle.laws_threads.proofs.ThreadMove.{Lacks, LeadsTo, TurnsTo, Takes, GivesUp, Asks, WaitsFrom, Move, becomes, runs_to, turns_to, same_onward, IsOnward, onward_to, onward_if_to}
-use Rattle.laws_states.proofs.Phases.{some_of}
+use Rattle.laws_threads.proofs.ThreadMove.{Lacks, LeadsTo, TurnsTo, Takes, GivesUp, Asks, WaitsFrom, Move, becomes, takes_in, gives_up_in, runs_to, turns_to, same_onward, IsOnward, onward_to, onward_if_to}
+use Rattle.laws_states.proofs.{CalmMoves.{waits_in, asks_in}, Phases.some_of}
 use Rattle.machine_types.specs.declared.lock.Kept.TheVariants as keeps
 use Rattle.machine_types.specs.declared.phase.Phase.TheVariants as phases
 use Rattle.machine_types.specs.declared.phase.Toward.TheVariants as towards
@@ -51,10 +51,7 @@ module _ (is : Classes) where
 
   onward_quiet : (phase : Phase) → IsOnward phase → QuietPhase is phase
   onward_quiet (phases.Element word stored) n = n
-  onward_quiet (phases.Made a word) n = n
-  onward_quiet (phases.WaitLook m r depth) n = absurd n
-  onward_quiet (phases.Retake m r depth) n = absurd n
-  onward_quiet phase n = tt
+  onward_quiet phase n = first_of (assumption, grind arith)
 
   goes_quiet : (s : Thread) (o : Option Onward) → AllHeld is s.held → QuietPhase is s.phase → Quiet is (goes_on_if s o)
   goes_quiet s o h q = record { held = subst (AllHeld is) (sym (same_onward (λ (s : Thread). s.held) (λ s frames phase turns. refl) s o)) h; phase = onward_if_to (QuietPhase is) onward_quiet s o q }
@@ -69,10 +66,6 @@ module _ (is : Classes) where
   lacks_quiet c s got _ (moves.no_place word stored e) n = n
   lacks_quiet c s got was k n = tt
 
-  gives_up_quiet : (s : Thread) (m : ℕ) (a : After) (was : Phase) → GivesUp s m a was → QuietPhase is was
-  gives_up_quiet s m a _ (moves.on_leave e l t) = tt
-  gives_up_quiet s m a _ moves.flat_out = tt
-
   leads_quiet : (p : Program) (s : Thread) (got : ℕ) (was now : Phase) → LeadsTo p s got was now → IsNoElement now → KnowsObject was → QuietPhase is now
   leads_quiet p s got _ _ (moves.to_retake m r depth e) n k = k
   leads_quiet p s got _ _ (moves.to_element at array index stored e f t) n k = n
@@ -82,18 +75,6 @@ module _ (is : Classes) where
   turns_quiet s got _ _ (moves.waits_on m r depth e) k = k
   turns_quiet s got _ _ (moves.retakes_not m r depth e) k = k
   turns_quiet s got was now m k = tt
-
-  waits_quiet : (m : ℕ) (kept : Kept) (now : Phase) → WaitsFrom m kept now → QuietPhase is now
-  waits_quiet m _ _ (moves.grows_first count) = tt
-  waits_quiet m _ _ (moves.waits_fat r) = tt
-
-  asks_quiet : (m : ℕ) (kept : Kept) (now : Phase) → Asks m kept now → QuietPhase is now
-  asks_quiet m _ _ (moves.looks_who r) = tt
-  asks_quiet m _ _ (moves.clears_all r) = tt
-
-  takes_object : (got m : ℕ) (was : Phase) (kept : Kept) → Takes got m was kept → KnowsObject was → IsObject is m
-  takes_object got m _ _ (moves.a_flat count t) k = k
-  takes_object got m _ _ (moves.a_fat r t) k = k
 
   held_is : (hs : List Held) (m : ℕ) (h : Held) → AllHeld is hs → held_at hs m ≡ Some h → IsObject is h.monitor
   held_is hs m h all e = some_of (λ (g : Held). IsObject is g.monitor) (held_at hs m) h e (found (λ g. IsObject is g.monitor) m hs all)
@@ -112,13 +93,13 @@ module _ (is : Classes) where
   quiet_moved c s got was (moves.turns now k) n h o same = record { held = h; phase = turns_to (QuietPhase is) s now (turns_quiet s got was now k o) tt }
   quiet_moved c s got _ (moves.makes at word size e f t) n h o same = absurd n
   quiet_moved c s got _ (moves.prints at i e l t) n h o same = on_quiet (printed s got i) (Running (went_on c.program at 0)) h
-  quiet_moved c s got _ (moves.asks_to_wait at m e now f l t k) n h o same = record { held = h; phase = waits_quiet m e.kept now k }
-  quiet_moved c s got _ (moves.asks at m e now f y l k) n h o same = record { held = h; phase = asks_quiet m e.kept now k }
+  quiet_moved c s got _ (moves.asks_to_wait at m e now f l t k) n h o same = record { held = h; phase = waits_in (QuietPhase is) m e.kept now k tt (λ r. tt) }
+  quiet_moved c s got _ (moves.asks at m e now f y l k) n h o same = record { held = h; phase = asks_in (QuietPhase is) m e.kept now k (λ r. tt) (λ r. tt) }
   quiet_moved c s got _ (moves.enters_again m tried e l) n h o same = runs_quiet (record s { held = with_held (deeper e) s.held }) (put_one (deeper e) s.held (held_is s.held m e h l) h)
   quiet_moved c s got _ (moves.enters_inside m tried t k) n h o same = runs_quiet (record s { attempt = _ }) h
   quiet_moved c s got _ (moves.begins_to_try m tried noted f below e y l t free) n h o same = runs_quiet (record s { attempt = _ }) h
-  quiet_moved c s got was (moves.takes_lock m kept k) n h o same = let e : Held = record { monitor = m; kept = kept; depth = 1 } in runs_quiet (record s { held = with_held e s.held; counts = _ }) (put_one e s.held (takes_object got m was kept k o) h)
-  quiet_moved c s got was (moves.gives_up m a k) n h o same = goes_quiet (record s { held = without_held m s.held }) (after c.program s.frames a) (without_one m s.held h) (subst (QuietPhase is) (sym same) (gives_up_quiet s m a was k))
+  quiet_moved c s got was (moves.takes_lock m kept k) n h o same = let e : Held = record { monitor = m; kept = kept; depth = 1 } in runs_quiet (record s { held = with_held e s.held; counts = _ }) (put_one e s.held (takes_in (λ (w : Phase). KnowsObject w → IsObject is m) got m was kept k (λ count o. o) (λ r o. o) o) h)
+  quiet_moved c s got was (moves.gives_up m a k) n h o same = goes_quiet (record s { held = without_held m s.held }) (after c.program s.frames a) (without_one m s.held h) (subst (QuietPhase is) (sym same) (gives_up_in (QuietPhase is) s m a was k tt tt))
   quiet_moved c s got _ (moves.leaves_outer m a e l t) n h o same = goes_quiet (record s { held = with_held (shallower e) s.held }) (after c.program s.frames a) (put_one (shallower e) s.held (held_is s.held m e h l) h) (subst (QuietPhase is) (sym same) tt)
   quiet_moved c s got _ (moves.leaves_inside m a t inner k e) n h o same = goes_quiet (record s { attempt = _ }) (after c.program s.frames a) h (subst (QuietPhase is) (sym same) tt)
   quiet_moved c s got _ (moves.finishes_try m a t k e y) n h o same = goes_quiet (elided s) (after c.program s.frames a) h (subst (QuietPhase is) (sym same) tt)

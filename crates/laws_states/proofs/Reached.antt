@@ -27,12 +27,9 @@ zero_stands range content = tt
 site_stands : (p : Program) (objects : List Object) (s : Core) (range : ℕ) → LocksFit range objects s.words → RecordsFit s.words → (content : Content) (site : Site) → Suits content site → IsThere p objects s site
     → MayStand range content (slice_index s.words (site_word site))
 site_stands p objects s range fit records Lock (LockOf reference) suits there = subst (λ (n : ℕ). IsLock range (slice_index s.words n)) there.2 (fit there.0 there.1)
-site_stands p objects s range fit records Lock site suits there = absurd suits
 site_stands p objects s range fit records Owner (OwnerOf r) suits there = records.owners r there
-site_stands p objects s range fit records Owner site suits there = absurd suits
 site_stands p objects s range fit records Bits (BitsOf r) suits there = records.bits r there
-site_stands p objects s range fit records Bits site suits there = absurd suits
-site_stands p objects s range fit records content site suits there = tt
+site_stands p objects s range fit records content site suits there = first_of (assumption, grind arith)
 
 -- what is known of the word that an event accesses
 pub record WordLaws : Type 0 where

@@ -6,6 +6,7 @@ use Rattle.machine_types.specs.{Elision.{elided, may_try, enters_marked}, Events
 use Rattle.machine_types.specs.{Instructions.{begun, printed}, Monitors.{Tries, claim}, Onward.{Onward, Running, RootReturned, Uncaught, rooted, root_arguments, after}}
 use Rattle.machine_types.specs.{Threads.{Attempt, Thread}, declared.{lock.Kept.Kept, phase.Phase.Phase}}
 use Rattle.laws_threads.proofs.ThreadMove.{LeadsTo, TurnsTo, Asks, WaitsFrom, Move, becomes, tried_attempt, each_move, runs_to, turns_to, over_to}
+use Rattle.laws_states.proofs.CalmMoves.{waits_in, asks_in}
 use Rattle.jvm_types.specs.declared.outcome.End.TheVariants as ends
 use Rattle.machine_types.specs.declared.phase.Phase.TheVariants as phases
 use Rattle.machine_types.specs.declared.phase.Toward.TheVariants as towards
@@ -57,14 +58,6 @@ turns_fit : (s : Thread) (got : ℕ) (was now : Phase) → TurnsTo s got was now
 turns_fit s got was _ (moves.looks_again m k) = tt
 turns_fit s got was now k = tt
 
-waits_fit : (m : ℕ) (kept : Kept) (now : Phase) (roots : List ℕ) → WaitsFrom m kept now → RootFits now roots
-waits_fit m _ _ roots (moves.grows_first count) = tt
-waits_fit m _ _ roots (moves.waits_fat r) = tt
-
-asks_fit : (m : ℕ) (kept : Kept) (now : Phase) (roots : List ℕ) → Asks m kept now → RootFits now roots
-asks_fit m _ _ roots (moves.looks_who r) = tt
-asks_fit m _ _ roots (moves.clears_all r) = tt
-
 -- a thread that is in no attempt, and may begin none, where it is bare
 pub record BareThread : Type 1 where
   pub s : Thread
@@ -95,8 +88,8 @@ module _ (c : MarkedProgram) (thread : BareThread) (got : ℕ) where
   stays_moved was (moves.turns now k) ns w f = record { keeps = keeps_all; fits = turns_to (λ (phase : Phase). RootFits phase s.roots) s now (turns_fit s got was now k) tt }
   stays_moved _ (moves.makes at word size e l t) ns w f = record { keeps = keeps_all; fits = tt }
   stays_moved _ (moves.prints at n e l t) ns w f = goes s.roots Bare (printed s got n) (Running _) keeps_all
-  stays_moved _ (moves.asks_to_wait at m h now e l t k) ns w f = record { keeps = keeps_all; fits = waits_fit m h.kept now s.roots k }
-  stays_moved _ (moves.asks at m h now e y l k) ns w f = record { keeps = keeps_all; fits = asks_fit m h.kept now s.roots k }
+  stays_moved _ (moves.asks_to_wait at m h now e l t k) ns w f = record { keeps = keeps_all; fits = waits_in (λ (p : Phase). RootFits p s.roots) m h.kept now k tt (λ r. tt) }
+  stays_moved _ (moves.asks at m h now e y l k) ns w f = record { keeps = keeps_all; fits = asks_in (λ (p : Phase). RootFits p s.roots) m h.kept now k (λ r. tt) (λ r. tt) }
   stays_moved _ (moves.enters_again m n h l) ns w f = running s.roots Bare (record s { held = _ }) keeps_all
   stays_moved _ (moves.enters_inside m n t k) ns w f = running s.roots Bare (record s { attempt = _ }) (record { same = refl; none = claims_none m t k })
   stays_moved _ (moves.begins_to_try m n noted x below e may l t free) ns w f = running s.roots Bare (record s { attempt = _ }) (record { same = refl; none = never_tries n may })

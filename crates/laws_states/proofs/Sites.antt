@@ -139,33 +139,24 @@ module _ (lies_apart : StartLiesApart) (c : MarkedProgram) (objects : List Objec
 
   -- ---- and so are the sites of one block
 
-  one_old : (a b : ℕ) → Old a ≡ Old b → a ≡ b
-  one_old a b e = cc
+  abbrev reference_of : Block → ℕ
+  reference_of (Old reference) = reference
+  reference_of b = 0
 
   pub one_site : (site other : Site) → IsThere c.program objects s site → IsThere c.program objects s other → block site ≡ block other → site_word site ≡ site_word other → site ≡ other
   one_site (Counter w) (Counter v) k l b e = ap Counter e
-  one_site (Counter w) (OwnerOf r) k l b e = absurd (omega (arith, k.1, e))
-  one_site (Counter w) (BitsOf r) k l b e = absurd (omega (arith, k.1, e))
-  one_site (OwnerOf r) (Counter w) k l b e = absurd (omega (arith, l.1, e))
   one_site (OwnerOf r) (OwnerOf q) k l b e = ap OwnerOf (omega (arith, e))
-  one_site (OwnerOf r) (BitsOf q) k l b e = absurd (omega (arith, e))
-  one_site (BitsOf r) (Counter w) k l b e = absurd (omega (arith, l.1, e))
-  one_site (BitsOf r) (OwnerOf q) k l b e = absurd (omega (arith, e))
   one_site (BitsOf r) (BitsOf q) k l b e = ap BitsOf (omega (arith, e))
   one_site (LockOf x) (LockOf y) k l b e = ap LockOf e
-  one_site (LockOf x) (HeaderOf y) k l b e = absurd (omega (arith, one_old x y b, e))
-  one_site (LockOf x) (ValueOf y j) k l b e = absurd (omega (arith, one_old x y b, e))
-  one_site (HeaderOf x) (LockOf y) k l b e = absurd (omega (arith, one_old x y b, e))
-  one_site (HeaderOf x) (HeaderOf y) k l b e = ap HeaderOf (one_old x y b)
-  one_site (HeaderOf x) (ValueOf y j) k l b e = absurd (omega (arith, one_old x y b, e))
-  one_site (ValueOf x i) (LockOf y) k l b e = absurd (omega (arith, one_old x y b, e))
-  one_site (ValueOf x i) (HeaderOf y) k l b e = absurd (omega (arith, one_old x y b, e))
+  one_site (HeaderOf x) (HeaderOf y) k l b e = ap HeaderOf (ap reference_of b)
   one_site (ValueOf x i) (ValueOf y j) k l b e =
-      let one = one_old x y b in
+      let one : x ≡ y = ap reference_of b in
       ap (λ z. ValueOf z i) one ∙ ap (ValueOf y) (omega (arith, one, e))
   one_site (NewHeaderOf x) (NewHeaderOf y) k l b e = ap NewHeaderOf (omega (arith, e))
   one_site (StaticAt w) (StaticAt v) k l b e = ap StaticAt e
-  one_site site other k l b e = absurd (cc)
+  one_site (Counter w) other k l b e = absurd (first_of (cc, omega (arith, k.1, e)))
+  one_site site (Counter v) k l b e = absurd (first_of (cc, omega (arith, l.1, e)))
+  one_site site other k l b e = absurd (first_of (cc, omega (arith, ap reference_of b, e)))
 
   -- ---- below the next free word
 
