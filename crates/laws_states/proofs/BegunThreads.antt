@@ -41,8 +41,6 @@ part_begun p (suc part) x workers (suc u) y e = (y, e, same_thread y)
 
 pub begun : (p : Program) (threads : List Thread) (u : ℕ) (y : Thread) → slice_get (next_threads p threads) u ≡ Some y → (z : Thread) × (slice_get threads u ≡ Some z) × Begins z y
 begun p [] u y e = absurd (cc)
-begun p (x ∷ workers) u y e = by_test (may_begin (x ∷ workers)) e
-  where
-    by_test : (b : Bool) → slice_get (if b then part_begins p x.part x workers else x ∷ workers) u ≡ Some y → (z : Thread) × (slice_get (x ∷ workers) u ≡ Some z) × Begins z y
-    by_test true e = part_begun p x.part x workers u y e
-    by_test false e = (y, e, same_thread y)
+begun p (x ∷ workers) u y e = (elim (may_begin (x ∷ workers)) as
+    (λ (b : Bool). slice_get (if b then part_begins p x.part x workers else x ∷ workers) u ≡ Some y → (z : Thread) × (slice_get (x ∷ workers) u ≡ Some z) × Begins z y)
+    [ true ↦ λ e. part_begun p x.part x workers u y e | false ↦ λ e. (y, e, same_thread y) ]) e

@@ -26,7 +26,9 @@ start_puts_first c cfg t x e behind = subst (λ (y : Thread). RunsNoClassInit c.
 -- ---- an event
 
 pub events_put_first : GivenIsKept → EventsPutInitsFirst
-events_put_first given c cfg s t marked threads first = all_kept (slice_get s.threads t) refl
+events_put_first given c cfg s t marked threads first = (elim (slice_get s.threads t) as
+    (λ (o : Option Thread). slice_get s.threads t ≡ o → ClassInitsComeFirst c.program (event_of c s t o).threads)
+    [ None ↦ λ e. first | Some x ↦ λ e. at_each s.threads t x (now x) (λ u y. IsBehindInit u y.part → RunsNoClassInit c.program y) e (now_none x e) first ]) refl
   where
     now : Thread → Thread
     now x = moved c x x.phase (found_by s.words (wanted c x x.phase))
@@ -43,10 +45,6 @@ events_put_first given c cfg s t marked threads first = all_kept (slice_get s.th
         let was_behind : IsBehindInit t x.part = subst (IsBehindInit t) (ap (λ (g : Given). g.part) (given c x x.phase (found_by s.words (wanted c x x.phase)))) behind in
         let lawful = threads.lawful t x there in
         moved_none c marked lawful.was x (found_by s.words (wanted c x x.phase)) lawful.structured (first t x there was_behind) (roots_none x there was_behind)
-
-    all_kept : (o : Option Thread) → slice_get s.threads t ≡ o → ClassInitsComeFirst c.program (event_of c s t o).threads
-    all_kept None e = first
-    all_kept (Some x) e = at_each s.threads t x (now x) (λ u y. IsBehindInit u y.part → RunsNoClassInit c.program y) e (now_none x e) first
 
 -- ---- where a part begins
 

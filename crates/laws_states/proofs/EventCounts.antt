@@ -35,11 +35,9 @@ module _ (sites : KnownSites) (mover : LockMover) where
   put_again m h k at same_monitor same_kept = put k (λ n e. inl (subst (λ (o : Option Held). KeepsFlat o n) (sym (ap (held_at x.held) (same_monitor ∙ held_monitor m x.held h at) ∙ at)) (sym same_kept ∙ e)))
 
   drop_one : (n : ℕ) → Follows (without_held n x.held)
-  drop_one n = λ m k e. at m k (n == m) (subst (λ (o : Option Held). KeepsFlat o k) (held_without m n x.held structured.stands.once) e)
-    where
-      at : (m k : ℕ) (b : Bool) → KeepsFlat (cond b None (held_at x.held m)) k → KeepsFlat (held_at x.held m) k ⊎ ((locks_in (references_of objects) s.words).lock m ≡ locks.Free k)
-      at m k true e = absurd e
-      at m k false e = inl e
+  drop_one n = λ m k e. (elim (n == m) as
+      (λ (b : Bool). KeepsFlat (cond b None (held_at x.held m)) k → KeepsFlat (held_at x.held m) k ⊎ ((locks_in (references_of objects) s.words).lock m ≡ locks.Free k))
+      [ true ↦ λ e. absurd e | false ↦ λ e. inl e ]) (subst (λ (o : Option Held). KeepsFlat o k) (held_without m n x.held structured.stands.once) e)
 
   -- as it goes on
   behind : (y : Thread) (o : Option Onward) → Follows y.held → Follows (goes_on_if y o).held

@@ -41,11 +41,9 @@ same_locks : (v w : Locks) (t range : ℕ) (held : List Held) → ((m : ℕ) →
 same_locks v w t range held same = all_follow v w t range held (λ m. inl (same m))
 
 one_lock : (v : Locks) (t range : ℕ) (held : List Held) (n : ℕ) (l : LockWord) → LockGoes t range (held_at held n) (v.lock n) l → LocksFollow v (set_lock n l v) t range held
-one_lock v t range held n l go = all_follow v (set_lock n l v) t range held (λ m. by_test m (n == m) refl)
-  where
-    by_test : (m : ℕ) (b : Bool) → (n == m) ≡ b → (cond b l (v.lock m) ≡ v.lock m) ⊎ LockGoes t range (held_at held m) (v.lock m) (cond b l (v.lock m))
-    by_test m true e = inr (subst (λ (i : ℕ). LockGoes t range (held_at held i) (v.lock i) l) ((Decides-eqb n m).0 e) go)
-    by_test m false e = inl refl
+one_lock v t range held n l go = all_follow v (set_lock n l v) t range held (λ m. (elim (n == m) as
+    (λ (b : Bool). (n == m) ≡ b → (cond b l (v.lock m) ≡ v.lock m) ⊎ LockGoes t range (held_at held m) (v.lock m) (cond b l (v.lock m)))
+    [ true ↦ λ e. inr (subst (λ (i : ℕ). LockGoes t range (held_at held i) (v.lock i) l) ((Decides-eqb n m).0 e) go) | false ↦ λ e. inl refl ]) refl)
 
 -- ---- all phases
 

@@ -170,11 +170,9 @@ unmoved state t e = record {
 }
 
 pub events_keep_owners : SitesDiffer → SitesLieInside → EventsReachSites → GivenIsKept → EventsKeepOwners
-events_keep_owners differ inside reach given c cfg objects was s t marked heap threads structure owners = by_thread (slice_get s.threads t) refl
+events_keep_owners differ inside reach given c cfg objects was s t marked heap threads structure owners = (elim (slice_get s.threads t) as
+    (λ (o : Option Thread). slice_get s.threads t ≡ o → Owners (references_of (objects_of c.program o objects)) (counted_phase_at was t (event_of c s t o).threads) (event_of c s t o))
+    [ None ↦ λ e. unmoved state t e | Some x ↦ λ e. thread_kept (known_sites differ inside reach) given (mover_of state t x e) ]) refl
   where
     state : LockState
     state = record { base = lawful_state c cfg objects s marked heap threads; was = was; structure = structure; owners = owners }
-
-    by_thread : (o : Option Thread) → slice_get s.threads t ≡ o → Owners (references_of (objects_of c.program o objects)) (counted_phase_at was t (event_of c s t o).threads) (event_of c s t o)
-    by_thread None e = unmoved state t e
-    by_thread (Some x) e = thread_kept (known_sites differ inside reach) given (mover_of state t x e)

@@ -120,11 +120,9 @@ module _ (keeps : StructureIsKept) (lies : StartLiesApart) (mover : HeapMover) w
       by_phase (inr k) = new_kept k.0 k.1 k.2
 
 pub events_keep : StructureIsKept → StartLiesApart → EventsKeepHeap
-events_keep keeps lies c objects s t marked facts lawful = by_thread (slice_get s.threads t) refl
-  where
-    by_thread : (o : Option Thread) → slice_get s.threads t ≡ o → HeapFacts c (objects_of c.program o objects) (event_of c s t o)
-    by_thread None e = facts
-    by_thread (Some x) e = thread_kept keeps lies (heap_mover c marked objects s facts t x e (lawful x e))
+events_keep keeps lies c objects s t marked facts lawful = (elim (slice_get s.threads t) as
+    (λ (o : Option Thread). slice_get s.threads t ≡ o → HeapFacts c (objects_of c.program o objects) (event_of c s t o))
+    [ None ↦ λ e. facts | Some x ↦ λ e. thread_kept keeps lies (heap_mover c marked objects s facts t x e (lawful x e)) ]) refl
 
 -- ---- the begin of a part
 

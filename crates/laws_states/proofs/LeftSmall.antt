@@ -188,11 +188,9 @@ element_adds word access None w = no_sum access 0 0 _ w refl tt
 element_adds word access (Some v) w = no_sum access 0 0 _ w refl tt
 
 pub adds_few : (c : MarkedProgram) (s : Thread) (phase : Phase) (access : Access) → wanted c s phase ≡ Some access → PhaseStores c s phase → AddsFew access (begun_by phase (top_of c.program s.frames)) (drawn_by phase)
-adds_few c s phases.Run access w fits = by_top (top_of c.program s.frames) fits w
-  where
-    by_top : (at : Option Top) → ((x : Top) → at ≡ Some x → StoresFit c.program x.target (effect_at c.program x)) → run_wants c.program s at ≡ Some access → AddsFew access (begun_by phases.Run at) 0
-    by_top None fits w = none access 0 0 w
-    by_top (Some at) fits w = effect_adds c.program at.target s access at.frame.pc (effect_at c.program at) (fits at refl) w
+adds_few c s phases.Run access w fits = (elim (top_of c.program s.frames) as
+    (λ (at : Option Top). ((x : Top) → at ≡ Some x → StoresFit c.program x.target (effect_at c.program x)) → run_wants c.program s at ≡ Some access → AddsFew access (begun_by phases.Run at) 0)
+    [ None ↦ λ fits w. none access 0 0 w | Some at ↦ λ fits w. effect_adds c.program at.target s access at.frame.pc (effect_at c.program at) (fits at refl) w ]) fits w
 adds_few c s (phases.Element word stored) access w fits = element_adds word access stored w
 adds_few c s (phases.Throw x class) access w fits = looks_adds access 0 0 s.attempt w
 adds_few c s (phases.Enter m n) access w fits = enter_adds m access (claim s m) w

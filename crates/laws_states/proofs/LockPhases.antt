@@ -121,11 +121,9 @@ module _ (mover : LockMover) (was : Phase) (o : OwnsAs mover was) where
       )
 
   tried : (m n : ℕ) (l : LockWord) → IsPlain was → IsPlain x.phase → (locks_in (references_of objects) s.words).lock m ≡ l → Result s.words (tries x m n l)
-  tried m n (locks.Free seen) old now e = by_test (nat_lt seen x.cfg.range) refl
-    where
-      by_test : (b : Bool) → nat_lt seen x.cfg.range ≡ b → Result s.words (cond b (begins x x.frames m seen (n + 1)) (record x { phase = phases.Acquire m }))
-      by_test true f = began m seen (n + 1) x.frames refl old now e f
-      by_test false f = plain _ refl refl (omega arith) (same_look x.attempt) tt
+  tried m n (locks.Free seen) old now e = (elim (nat_lt seen x.cfg.range) as
+      (λ (b : Bool). nat_lt seen x.cfg.range ≡ b → Result s.words (cond b (begins x x.frames m seen (n + 1)) (record x { phase = phases.Acquire m })))
+      [ true ↦ λ f. began m seen (n + 1) x.frames refl old now e f | false ↦ λ f. plain _ refl refl (omega arith) (same_look x.attempt) tt ]) refl
   tried m n l old now e = plain _ refl refl (omega arith) (same_look x.attempt) tt
 
   pub refitted : (h k : Held) (n : ℕ) (y : Thread) → held_at x.held n ≡ Some h → k.monitor ≡ h.monitor → k.kept ≡ h.kept → Became x y (with_held k x.held) 0 → IsPlain (counted_by was y.phase) → Result s.words y

@@ -122,26 +122,20 @@ module _ (v : Locks) (count : ℕ → ℕ) (n k : ℕ) (l : LockWord) (thin : (r
 -- ---- what is held when an entry is put or taken away
 
 pub put_holds : (h : Held) (hs : List Held) (n m : ℕ) → h.monitor ≡ n → hold_by_list (held_at (with_held h hs) m) ≡ cond (n == m) (hold_by_kept h.kept) (hold_by_list (held_at hs m))
-put_holds h hs n m e = ap hold_by_list (held_put m h hs) ∙ ap (λ (i : ℕ). hold_by_list (cond (i == m) (Some h) (held_at hs m))) e ∙ by_test (n == m)
-  where
-    by_test : (b : Bool) → hold_by_list (cond b (Some h) (held_at hs m)) ≡ cond b (hold_by_kept h.kept) (hold_by_list (held_at hs m))
-    by_test true = refl
-    by_test false = refl
+put_holds h hs n m e = ap hold_by_list (held_put m h hs) ∙ ap (λ (i : ℕ). hold_by_list (cond (i == m) (Some h) (held_at hs m))) e ∙ (elim (n == m) as
+    (λ (b : Bool). hold_by_list (cond b (Some h) (held_at hs m)) ≡ cond b (hold_by_kept h.kept) (hold_by_list (held_at hs m)))
+    [ true ↦ refl | false ↦ refl ])
 
 pub drop_holds : (hs : List Held) (n m : ℕ) → AreHeldOnce hs → hold_by_list (held_at (without_held n hs) m) ≡ cond (n == m) NotHeld (hold_by_list (held_at hs m))
 drop_holds hs n m a = ap hold_by_list (held_without m n hs a) ∙ (elim (n == m) as (λ (b : Bool). hold_by_list (cond b None (held_at hs m)) ≡ cond b NotHeld (hold_by_list (held_at hs m)))
     [ true ↦ refl | false ↦ refl ])
 
 pub put_keeps : (h : Held) (hs : List Held) (n k m : ℕ) (count : ℕ → ℕ) → h.monitor ≡ n → IsKeptIn (Some h) k → IsKeptIn (held_at hs m) (count m) → IsKeptIn (held_at (with_held h hs) m) (recounted n k count m)
-put_keeps h hs n k m count e one more = subst (λ (q : Option Held). IsKeptIn q (recounted n k count m)) (sym (held_put m h hs ∙ ap (λ (i : ℕ). cond (i == m) (Some h) (held_at hs m)) e)) (by_test (n == m))
-  where
-    by_test : (b : Bool) → IsKeptIn (cond b (Some h) (held_at hs m)) (cond b k (count m))
-    by_test true = one
-    by_test false = more
+put_keeps h hs n k m count e one more = subst (λ (q : Option Held). IsKeptIn q (recounted n k count m)) (sym (held_put m h hs ∙ ap (λ (i : ℕ). cond (i == m) (Some h) (held_at hs m)) e)) (elim (n == m) as
+    (λ (b : Bool). IsKeptIn (cond b (Some h) (held_at hs m)) (cond b k (count m)))
+    [ true ↦ one | false ↦ more ])
 
 pub drop_keeps : (hs : List Held) (n k m : ℕ) (count : ℕ → ℕ) → AreHeldOnce hs → IsKeptIn (held_at hs m) (count m) → IsKeptIn (held_at (without_held n hs) m) (recounted n k count m)
-drop_keeps hs n k m count a more = subst (λ (q : Option Held). IsKeptIn q (recounted n k count m)) (sym (held_without m n hs a)) (by_test (n == m))
-  where
-    by_test : (b : Bool) → IsKeptIn (cond b None (held_at hs m)) (cond b k (count m))
-    by_test true = tt
-    by_test false = more
+drop_keeps hs n k m count a more = subst (λ (q : Option Held). IsKeptIn q (recounted n k count m)) (sym (held_without m n hs a)) (elim (n == m) as
+    (λ (b : Bool). IsKeptIn (cond b None (held_at hs m)) (cond b k (count m)))
+    [ true ↦ tt | false ↦ more ])

@@ -120,11 +120,9 @@ module _ (c : MarkedProgram) (x : Thread) (r : ℕ) (class : Thrown) where
 
   hands : x.phase ≡ phases.Throw r class → (at : Top) (o : Option Row) → x.frames ≢ at.below → goes_on x (handed c.program r class at o) ≢ x
   hands e at (Some row) fewer = by_kind runs_or_ends x _ (phases.Throw r class) e refl (ran_on (record x { frames = caught row r at }))
-  hands e at None fewer = by_method (is_synchronized at.method.flags)
-    where
-      by_method : (b : Bool) → goes_on x (if b then Leaving (monitor_of c.program at.method at.frame) (afters.Unwind r class) (frames_of at) else unwound r class at.below) ≢ x
-      by_method true = by_phase x _ (phases.Throw r class) (phases.Leave (monitor_of c.program at.method at.frame) (afters.Unwind r class)) e refl (λ q. cc)
-      by_method false = unwinds e at.below fewer
+  hands e at None fewer = elim (is_synchronized at.method.flags) as
+      (λ (b : Bool). goes_on x (if b then Leaving (monitor_of c.program at.method at.frame) (afters.Unwind r class) (frames_of at) else unwound r class at.below) ≢ x)
+      [ true ↦ by_phase x _ (phases.Throw r class) (phases.Leave (monitor_of c.program at.method at.frame) (afters.Unwind r class)) e refl (λ q. cc) | false ↦ unwinds e at.below fewer ]
 
 -- ---- all moves but those of an instruction and of a root
 

@@ -101,8 +101,6 @@ next_threads_are c cfg s h = by_threads s.threads h
   where
     by_threads : (ts : List Thread) → AreThreadsOf c cfg s ts → AreThreadsOf c cfg s (next_threads c.program ts)
     by_threads [] k = k
-    by_threads (x ∷ workers) k = by_test (may_begin (x ∷ workers)) refl
-      where
-        by_test : (b : Bool) → may_begin (x ∷ workers) ≡ b → AreThreadsOf c cfg s (if b then part_begins c.program x.part x workers else x ∷ workers)
-        by_test true may = part_run c cfg s x workers x.part refl k may
-        by_test false may = k
+    by_threads (x ∷ workers) k = (elim (may_begin (x ∷ workers)) as
+        (λ (b : Bool). may_begin (x ∷ workers) ≡ b → AreThreadsOf c cfg s (if b then part_begins c.program x.part x workers else x ∷ workers))
+        [ true ↦ λ may. part_run c cfg s x workers x.part refl k may | false ↦ λ may. k ]) refl

@@ -62,11 +62,9 @@ module _ (c : MarkedProgram) (states : KeptStates c) where
 
   last_runs : (n : ℕ) (s : Core) → Good s → all_work s < n → Runs Last s
   last_runs zero s good h = absurd (omega (arith, h))
-  last_runs (suc n) s good h = by_live (lives s 0) refl refl (λ r g l. last_runs n r g l)
-    where
-      by_live : (b : Bool) → lives s 0 ≡ b → turn_at Last s ≡ (if b then turn_of (Of 0) Last else None) → ((r : Core) → Good r → all_work r < n → Runs Last r) → Runs Last s
-      by_live true live e more = event_next n Last Last s 0 good live h e more
-      by_live false live e more = stops c Last s e
+  last_runs (suc n) s good h = (elim (lives s 0) as
+      (λ (b : Bool). lives s 0 ≡ b → turn_at Last s ≡ (if b then turn_of (Of 0) Last else None) → ((r : Core) → Good r → all_work r < n → Runs Last r) → Runs Last s)
+      [ true ↦ λ live e more. event_next n Last Last s 0 good live h e more | false ↦ λ live e more. stops c Last s e ]) refl refl (λ r g l. last_runs n r g l)
 
   rounds_run : (n : ℕ) (s : Core) (from : ℕ) → Good s → all_work s < n → Runs (Rounds from) s
   rounds_run zero s from good h = absurd (omega (arith, h))

@@ -4,7 +4,7 @@ use Rattle.jvm_types.specs.declared.{fixed_words.TheConstants.{NEXT_RECORD_WORD,
 use Rattle.machine_types.specs.{Accesses.{found_by, words_after}, Elision.{is_same, fails, elided}, FoundWords.{Lock, leave_content}, Going.{failed_turn, with_phase, goes_on_if, goes_after}}
 use Rattle.machine_types.specs.{HeldMonitors.{held_at, with_held, without_held, shallower}, LockWords.{word_of_lock, next_count}}
 use Rattle.machine_types.specs.Monitors.{Has, Tries, HasNot, claim_by, takes, freed, release, leave_wants, leave_moves, released, finish_wants, finishes, lets_go, grows_not, count_kept, fattens, grown, goes_to_wait, retakes}
-use Rattle.machine_types.specs.{Onward.{Onward, after}, Owners.{hold_by_kept, hold_by_list, drawn_by, locks_in, references_of}, Structure.{IsFlat, IsFat}, Threads.{Attempt, Thread}}
+use Rattle.machine_types.specs.{Onward.{Onward, after}, Owners.{Knows, PhaseSaw, hold_by_kept, hold_by_list, drawn_by, locks_in, references_of}, Structure.{IsFlat, IsFat}, Threads.{Attempt, Thread}}
 use Rattle.machine_types.specs.{Words.owner_word, declared.{access.Access.TheVariants.{Store, Cas}, lock.{Held.Held, Kept.Kept, LockWord.LockWord}, phase.{After.After, Phase.Phase, Toward.Toward}}}
 use Rattle.laws_threads.{specs.StructureLaws.counted_by, proofs.ThreadMove.{if_either, same_onward}}
 use Rattle.laws_states.{specs.Sites.{HasObject, IsAccessOf, ReachesIf}, proofs.CountedPhases.{IsPlain, plain_knows, plain_saw, plain_draws_none, counted_plain}}
@@ -67,10 +67,6 @@ module _ (sites : KnownSites) (mover : LockMover) where
       view = lock_view differ inside c objects s marked facts m (word_of_lock (locks.Held x.number)) there
           ∙ ap (λ (l : LockWord). set_lock m l (locks_in (references_of objects) s.words)) (lock_of_word (locks.Held x.number) ∙ ap locks.Held number)
 
-      turned : (b : Bool) → IsPlain (counted_by (phases.Take m seen) (cond b (phases.Acquire m) (phases.Ending ends.Turns)))
-      turned true = tt
-      turned false = tt
-
       by_test : (b : Bool) → (slice_index s.words m == word_of_lock (locks.Free seen)) ≡ b → Makes (phases.Take m seen) o (slice_set s.words m (cond b (word_of_lock (locks.Held x.number)) (slice_index s.words m)))
           (cond b (takes x m (keeps.Flat seen)) (failed_turn x (phases.Acquire m)))
       by_test true e = on_view mover (phases.Take m seen) o _ _ (takes x m (keeps.Flat seen)) (recounted m (count m) count) view
@@ -78,7 +74,9 @@ module _ (sites : KnownSites) (mover : LockMover) where
           (lock_is mover (phases.Take m seen) o m (locks.Free seen) there e)
           (record { held_is = refl; attempt = refl; cfg = refl; locked = refl }) (runs_counted (phases.Take m seen) (nat_lt x.counts.instructions x.cfg.steps)))
       by_test false e = loaded mover (phases.Take m seen) o m (failed_turn x (phases.Acquire m))
-          (plain mover (phases.Take m seen) o (failed_turn x (phases.Acquire m)) refl refl (omega arith) (same_look x.attempt) (turned (nat_lt (x.turns + 1) x.cfg.turns)))
+          (plain mover (phases.Take m seen) o (failed_turn x (phases.Acquire m)) refl refl (omega arith) (same_look x.attempt) (elim (nat_lt (x.turns + 1) x.cfg.turns) as
+          (λ (b : Bool). IsPlain (counted_by (phases.Take m seen) (cond b (phases.Acquire m) (phases.Ending ends.Turns))))
+          [ true ↦ tt | false ↦ tt ]))
 
   -- ---- a flag
 
@@ -100,57 +98,47 @@ module _ (sites : KnownSites) (mover : LockMover) where
 
   -- ---- a record without an owner
 
+  -- it has failed to get it, and tries again
+  turned : (was : Phase) (o : OwnsAs mover was) → counted_by was was ≡ was → counted_by was (phases.Ending ends.Turns) ≡ was → Makes was o s.words (failed_turn x was)
+  turned was o again over = elim (nat_lt (x.turns + 1) x.cfg.turns) as (λ (b : Bool). Makes was o s.words (record x { turns = x.turns + 1; phase = cond b was (phases.Ending ends.Turns) }))
+      [ true ↦ at was again | false ↦ at (phases.Ending ends.Turns) over ]
+    where
+      at : (now : Phase) → counted_by was now ≡ was → Makes was o s.words (record x { turns = x.turns + 1; phase = now })
+      at now e = knowing mover was o (record x { turns = x.turns + 1; phase = now }) refl refl refl refl
+          (subst (Knows (locks_in (references_of objects) s.words) t) (sym e) o.knows) (subst (PhaseSaw (locks_in (references_of objects) s.words) count) (sym e) o.take) (λ i d. subst (λ (p : Phase). drawn_by p ≡ Some i) e d)
+
+  -- or it has got it
+  got_record : (was : Phase) (m r depth taken : ℕ) (y : Thread) (o : OwnsAs mover was) → (locks_in (references_of objects) s.words).lock m ≡ locks.Fat r
+      → Became x y (with_held (record { monitor = m; kept = keeps.Fat r; depth = depth }) x.held) taken → IsPlain (counted_by was y.phase) → Makes was o s.words (failed_turn x was)
+      → Makes was o (slice_set s.words (owner_word r) (cond (slice_index s.words (owner_word r) == 0) (x.number + 1) (slice_index s.words (owner_word r)))) (cond (slice_index s.words (owner_word r) == 0) y (failed_turn x was))
+  got_record was m r depth taken y o fat became plain failed = by_test (slice_index s.words (owner_word r) == 0) refl
+    where
+      low : r < MONITOR_RECORDS
+      low = (locks_are.below m r fat).1
+
+      by_test : (b : Bool) → (slice_index s.words (owner_word r) == 0) ≡ b → Makes was o (slice_set s.words (owner_word r) (cond b (x.number + 1) (slice_index s.words (owner_word r)))) (cond b y (failed_turn x was))
+      by_test true e = on_view mover was o _ _ y count
+          (owner_view differ inside c objects s marked facts r (x.number + 1) low ∙ ap (λ (n : ℕ). set_owner r (n + 1) (locks_in (references_of objects) s.words)) number)
+          (record_taken mover was o y (counted_by was y.phase) m r depth taken fat (owner_none mover was o r low e) became plain)
+      by_test false e = loaded mover was o (owner_word r) (failed_turn x was) failed
+
   pub took_fat : (m r : ℕ) (o : OwnsAs mover (phases.TakeFat m r))
       → Makes (phases.TakeFat m r) o (slice_set s.words (owner_word r) (cond (slice_index s.words (owner_word r) == 0) (x.number + 1) (slice_index s.words (owner_word r))))
       (cond (slice_index s.words (owner_word r) == 0) (takes x m (keeps.Fat r)) (failed_turn x (phases.TakeFat m r)))
-  took_fat m r o = by_test (slice_index s.words (owner_word r) == 0) refl
-    where
-      low : r < MONITOR_RECORDS
-      low = (locks_are.below m r o.knows).1
-
-      turned : (b : Bool) → Makes (phases.TakeFat m r) o s.words (record x { turns = x.turns + 1; phase = cond b (phases.TakeFat m r) (phases.Ending ends.Turns) })
-      turned true = knowing mover (phases.TakeFat m r) o _ refl refl refl refl o.knows tt (λ i e. e)
-      turned false = knowing mover (phases.TakeFat m r) o _ refl refl refl refl o.knows tt (λ i e. e)
-
-      by_test : (b : Bool) → (slice_index s.words (owner_word r) == 0) ≡ b → Makes (phases.TakeFat m r) o (slice_set s.words (owner_word r) (cond b (x.number + 1) (slice_index s.words (owner_word r)))) (cond b (takes x m (keeps.Fat r)) (failed_turn x (phases.TakeFat m r)))
-      by_test true e = on_view mover (phases.TakeFat m r) o _ _ (takes x m (keeps.Fat r)) count
-          (owner_view differ inside c objects s marked facts r (x.number + 1) low ∙ ap (λ (n : ℕ). set_owner r (n + 1) (locks_in (references_of objects) s.words)) number)
-          (record_taken mover (phases.TakeFat m r) o (takes x m (keeps.Fat r)) (counted_by (phases.TakeFat m r) (takes x m (keeps.Fat r)).phase) m r 1 1 o.knows
-          (owner_none mover (phases.TakeFat m r) o r low e)
-          (record { held_is = refl; attempt = refl; cfg = refl; locked = refl }) (runs_counted (phases.TakeFat m r) (nat_lt x.counts.instructions x.cfg.steps)))
-      by_test false e = loaded mover (phases.TakeFat m r) o (owner_word r) (failed_turn x (phases.TakeFat m r))
-          (turned (nat_lt (x.turns + 1) x.cfg.turns))
+  took_fat m r o = got_record (phases.TakeFat m r) m r 1 1 (takes x m (keeps.Fat r)) o o.knows (record { held_is = refl; attempt = refl; cfg = refl; locked = refl })
+      (runs_counted (phases.TakeFat m r) (nat_lt x.counts.instructions x.cfg.steps)) (turned (phases.TakeFat m r) o refl refl)
 
   pub retook : (m r depth : ℕ) (o : OwnsAs mover (phases.Retake m r depth))
       → Makes (phases.Retake m r depth) o (slice_set s.words (owner_word r) (cond (slice_index s.words (owner_word r) == 0) (x.number + 1) (slice_index s.words (owner_word r))))
       (cond (slice_index s.words (owner_word r) == 0) (retakes x m r depth) (failed_turn x (phases.Retake m r depth)))
-  retook m r depth o = by_test (slice_index s.words (owner_word r) == 0) refl
-    where
-      low : r < MONITOR_RECORDS
-      low = (locks_are.below m r o.knows).1
-
-      turned : (b : Bool) → Makes (phases.Retake m r depth) o s.words (record x { turns = x.turns + 1; phase = cond b (phases.Retake m r depth) (phases.Ending ends.Turns) })
-      turned true = knowing mover (phases.Retake m r depth) o _ refl refl refl refl o.knows tt (λ i e. e)
-      turned false = knowing mover (phases.Retake m r depth) o _ refl refl refl refl o.knows tt (λ i e. e)
-
-      by_test : (b : Bool) → (slice_index s.words (owner_word r) == 0) ≡ b → Makes (phases.Retake m r depth) o (slice_set s.words (owner_word r) (cond b (x.number + 1) (slice_index s.words (owner_word r)))) (cond b (retakes x m r depth) (failed_turn x (phases.Retake m r depth)))
-      by_test true e = on_view mover (phases.Retake m r depth) o _ _ (retakes x m r depth) count
-          (owner_view differ inside c objects s marked facts r (x.number + 1) low ∙ ap (λ (n : ℕ). set_owner r (n + 1) (locks_in (references_of objects) s.words)) number)
-          (record_taken mover (phases.Retake m r depth) o (retakes x m r depth) (counted_by (phases.Retake m r depth) (retakes x m r depth).phase) m r depth 0 o.knows
-          (owner_none mover (phases.Retake m r depth) o r low e)
-          (record { held_is = refl; attempt = refl; cfg = refl; locked = omega arith }) (runs_counted (phases.Retake m r depth) (nat_lt x.counts.instructions x.cfg.steps)))
-      by_test false e = loaded mover (phases.Retake m r depth) o (owner_word r) (failed_turn x (phases.Retake m r depth))
-          (turned (nat_lt (x.turns + 1) x.cfg.turns))
+  retook m r depth o = got_record (phases.Retake m r depth) m r depth 0 (retakes x m r depth) o o.knows (record { held_is = refl; attempt = refl; cfg = refl; locked = omega arith })
+      (runs_counted (phases.Retake m r depth) (nat_lt x.counts.instructions x.cfg.steps)) (turned (phases.Retake m r depth) o refl refl)
 
   -- ---- a thread that waits looks
 
   pub waited : (m r depth : ℕ) (flag : Bool) (o : OwnsAs mover (phases.WaitLook m r depth)) → Makes (phases.WaitLook m r depth) o s.words (cond flag (failed_turn x (phases.WaitLook m r depth)) (with_phase x (phases.Retake m r depth)))
   waited m r depth false o = knowing mover (phases.WaitLook m r depth) o (with_phase x (phases.Retake m r depth)) refl refl refl refl o.knows tt (λ i e. e)
-  waited m r depth true o = turned (nat_lt (x.turns + 1) x.cfg.turns)
-    where
-      turned : (b : Bool) → Makes (phases.WaitLook m r depth) o s.words (record x { turns = x.turns + 1; phase = cond b (phases.WaitLook m r depth) (phases.Ending ends.Turns) })
-      turned true = knowing mover (phases.WaitLook m r depth) o _ refl refl refl refl o.knows tt (λ i e. e)
-      turned false = knowing mover (phases.WaitLook m r depth) o _ refl refl refl refl o.knows tt (λ i e. e)
+  waited m r depth true o = turned (phases.WaitLook m r depth) o refl refl
 
   -- ---- a monitor is left
 
@@ -198,7 +186,9 @@ module _ (sites : KnownSites) (mover : LockMover) where
           (became_after x (with_held (shallower h) x.held) (after c.program x.frames after_it)) (goes_plain (with_held (shallower h) x.held) (after c.program x.frames after_it) (phases.Leave m after_it) tt now)
       by_depth false reach = by_kept h.kept refl reach
   left m after_it None None o now e f reach = plain mover (phases.Leave m after_it) o x refl refl (omega arith) (same_look x.attempt) (counted_plain (phases.Leave m after_it) x.phase tt now)
-  left m after_it None (Some q) o now e f reach = by_attempt (q.monitor == m)
+  left m after_it None (Some q) o now e f reach = elim (q.monitor == m) as
+      (λ (b : Bool). Makes (phases.Leave m after_it) o (words_after s.words (leave_wants x m (cond b (Tries q) HasNot))) (leave_moves c.program x m after_it (cond b (Tries q) HasNot) (found_by s.words (leave_wants x m (cond b (Tries q) HasNot)))))
+      [ true ↦ by_inner q.inner | false ↦ plain mover (phases.Leave m after_it) o x refl refl (omega arith) (same_look x.attempt) (counted_plain (phases.Leave m after_it) x.phase tt now) ]
     where
       by_inner : (inner : ℕ) → Makes (phases.Leave m after_it) o (words_after s.words (finish_wants m inner)) (finishes c.program x after_it q inner (found_by s.words (finish_wants m inner)))
       by_inner zero = loaded mover (phases.Leave m after_it) o m _
@@ -206,10 +196,6 @@ module _ (sites : KnownSites) (mover : LockMover) where
           (finished c.program x after_it q zero (slice_index s.words m) now f) tt)
       by_inner (suc inner) = by_tally mover (phases.Leave m after_it) o _ (tallies.finished c.program x after_it q (suc inner) 0) (finished_cfg c.program x after_it q (suc inner) 0)
           (finished c.program x after_it q (suc inner) 0 now f) tt
-
-      by_attempt : (b : Bool) → Makes (phases.Leave m after_it) o (words_after s.words (leave_wants x m (cond b (Tries q) HasNot))) (leave_moves c.program x m after_it (cond b (Tries q) HasNot) (found_by s.words (leave_wants x m (cond b (Tries q) HasNot))))
-      by_attempt true = by_inner q.inner
-      by_attempt false = plain mover (phases.Leave m after_it) o x refl refl (omega arith) (same_look x.attempt) (counted_plain (phases.Leave m after_it) x.phase tt now)
 
   -- ---- a flat lock that cannot grow is left as it is
 

@@ -122,7 +122,9 @@ module _ (mover : LockMover) (was : Phase) (o : OwnsAs mover was) (y : Thread) (
 
   pub let_go : (n c : ℕ) (h : Held) → held_at x.held n ≡ Some h → h.kept ≡ keeps.Flat c → AreHeldOnce x.held → Became x y (without_held n x.held) 0 → IsPlain now
       → Owes v (set_lock n (locks.Free (next_count c x.cfg.range)) v) count (recounted n (next_count c x.cfg.range) count) t was now x y
-  let_go n c h k f once b plain = lock_written v count n (next_count c x.cfg.range) (locks.Free (next_count c x.cfg.range)) (thin_if_flat t (v.lock n) v.owner flat) (grows (nat_lt c x.cfg.range) refl) t was now x y a o b.cfg
+  let_go n c h k f once b plain = lock_written v count n (next_count c x.cfg.range) (locks.Free (next_count c x.cfg.range)) (thin_if_flat t (v.lock n) v.owner flat) ((elim (nat_lt c x.cfg.range) as
+      (λ (b : Bool). nat_lt c x.cfg.range ≡ b → count n ≤ (if b then c + 1 else x.cfg.range))
+      [ true ↦ λ e. let same = counts in omega (arith, same) | false ↦ λ e. most n ]) refl) t was now x y a o b.cfg
       (λ i e. absurd (cc)) (λ i e. absurd (cc)) (λ i e. let same : next_count c x.cfg.range ≡ i = cc in sym same)
       (λ u d. (sym (flat_alone t u (v.lock n) v.owner flat d), inl (flat_alone t u (v.lock n) v.owner flat d)))
       (dropped n once b)
@@ -136,10 +138,6 @@ module _ (mover : LockMover) (was : Phase) (o : OwnsAs mover was) (y : Thread) (
 
       counts : c ≡ count n
       counts = subst (λ (q : Kept). IsKeptIn (Some (record h { kept = q })) (count n)) f (subst (λ (q : Option Held). IsKeptIn q (count n)) k (o.keeps_count n))
-
-      grows : (b : Bool) → nat_lt c x.cfg.range ≡ b → count n ≤ (if b then c + 1 else x.cfg.range)
-      grows true e = let same = counts in omega (arith, same)
-      grows false e = most n
 
       one_more : (b : Bool) → nat_lt c x.cfg.range ≡ b → (if b then c + 1 else x.cfg.range) ≤ count n + 1
       one_more true e = let same = counts in omega (arith, same)
@@ -282,11 +280,9 @@ module _ (mover : LockMover) (was : Phase) (o : OwnsAs mover was) (y : Thread) (
       by_test m false e = words_apart v count r (t + 1) t (v.lock m) (λ g. eqb-false n m e (a.one n m r f g)) ∙ o.holds m
 
       saved : (m : ℕ) → IsKeptIn (held_at (with_held (record { monitor = n; kept = keeps.Fat r; depth = depth }) x.held) m) (count m)
-      saved m = subst (λ (q : Option Held). IsKeptIn q (count m)) (sym (held_put m (record { monitor = n; kept = keeps.Fat r; depth = depth }) x.held)) (at (n == m))
-        where
-          at : (q : Bool) → IsKeptIn (cond q (Some (record { monitor = n; kept = keeps.Fat r; depth = depth })) (held_at x.held m)) (count m)
-          at true = tt
-          at false = o.keeps_count m
+      saved m = subst (λ (q : Option Held). IsKeptIn q (count m)) (sym (held_put m (record { monitor = n; kept = keeps.Fat r; depth = depth }) x.held)) (elim (n == m) as
+          (λ (q : Bool). IsKeptIn (cond q (Some (record { monitor = n; kept = keeps.Fat r; depth = depth })) (held_at x.held m)) (count m))
+          [ true ↦ tt | false ↦ o.keeps_count m ])
 
   -- ---- a record that the thread owns loses its owner
 
@@ -295,17 +291,15 @@ module _ (mover : LockMover) (was : Phase) (o : OwnsAs mover was) (y : Thread) (
   record_left n r h k f once b knows take none = owner_written v count r 0 t was now x y a o b.cfg
       (λ u e. (ne_eqb 0 (u + 1) (λ q. absurd (omega (arith, q))), ap (λ (i : ℕ). i == u + 1) fat.1 ∙ ne_eqb (t + 1) (u + 1) (λ q. e (omega (arith, q)))))
       (λ m. by_test m (n == m) refl ∙ sym (dropped n once b m))
-      (λ m. subst (λ (hs : List Held). IsKeptIn (held_at hs m) (count m)) (sym b.held_is) (subst (λ (q : Option Held). IsKeptIn q (count m)) (sym (held_without m n x.held once)) (saved m (n == m))))
+      (λ m. subst (λ (hs : List Held). IsKeptIn (held_at hs m) (count m)) (sym b.held_is) (subst (λ (q : Option Held). IsKeptIn q (count m)) (sym (held_without m n x.held once)) (elim (n == m) as
+      (λ (q : Bool). IsKeptIn (cond q None (held_at x.held m)) (count m))
+      [ true ↦ tt | false ↦ o.keeps_count m ])))
       (knows (set_owner r 0 v) fat.0) (take (set_owner r 0 v)) b.attempt (λ i e. absurd (none i e))
       most
       (λ m. no_flat b NotHeld refl m (n == m) (dropped n once b m))
     where
       fat : (v.lock n ≡ locks.Fat r) × (v.owner r ≡ t + 1)
       fat = fatly t (v.lock n) v.owner r (o.holds n ∙ ap hold_by_list k ∙ ap hold_by_kept f)
-
-      saved : (m : ℕ) (q : Bool) → IsKeptIn (cond q None (held_at x.held m)) (count m)
-      saved m true = tt
-      saved m false = o.keeps_count m
 
       by_test : (m : ℕ) (q : Bool) → (n == m) ≡ q → hold_by_word t (v.lock m) (set_owner r 0 v).owner ≡ cond q NotHeld (hold_by_list (held_at x.held m))
       by_test m true e =

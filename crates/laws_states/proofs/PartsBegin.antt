@@ -110,8 +110,6 @@ next_makes_none c s none = by_threads s.threads none
   where
     by_threads : (threads : List Thread) → ((t : ℕ) (y : Thread) → slice_get threads t ≡ Some y → y.attempt ≡ None) → (t : ℕ) (y : Thread) → slice_get (next_threads c.program threads) t ≡ Some y → y.attempt ≡ None
     by_threads [] k = k
-    by_threads (x ∷ workers) k = by_test (may_begin (x ∷ workers))
-      where
-        by_test : (b : Bool) → (t : ℕ) (y : Thread) → slice_get (if b then part_begins c.program x.part x workers else x ∷ workers) t ≡ Some y → y.attempt ≡ None
-        by_test true = part_none c.program x.part x workers k
-        by_test false = k
+    by_threads (x ∷ workers) k = elim (may_begin (x ∷ workers)) as
+        (λ (b : Bool). (t : ℕ) (y : Thread) → slice_get (if b then part_begins c.program x.part x workers else x ∷ workers) t ≡ Some y → y.attempt ≡ None)
+        [ true ↦ part_none c.program x.part x workers k | false ↦ k ]

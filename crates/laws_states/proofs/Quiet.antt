@@ -103,11 +103,12 @@ module _ (is : Classes) where
   quiet_moved c s got _ (moves.leaves_outer m a e l t) n h o same = goes_quiet (record s { held = with_held (shallower e) s.held }) (after c.program s.frames a) (put_one (shallower e) s.held (held_is s.held m e h l) h) (subst (QuietPhase is) (sym same) tt)
   quiet_moved c s got _ (moves.leaves_inside m a t inner k e) n h o same = goes_quiet (record s { attempt = _ }) (after c.program s.frames a) h (subst (QuietPhase is) (sym same) tt)
   quiet_moved c s got _ (moves.finishes_try m a t k e y) n h o same = goes_quiet (elided s) (after c.program s.frames a) h (subst (QuietPhase is) (sym same) tt)
-  quiet_moved c s got _ (moves.fattens_lock m r toward e l) n h o same = record { held = put_one (record e { kept = keeps.Fat r }) s.held (held_is s.held m e h l) h; phase = grown_quiet toward }
-    where
-      grown_quiet : (toward : Toward) → QuietPhase is (grown m r toward)
-      grown_quiet (towards.Leave a) = tt
-      grown_quiet towards.Wait = tt
+  quiet_moved c s got _ (moves.fattens_lock m r toward e l) n h o same = record {
+    held = put_one (record e { kept = keeps.Fat r }) s.held (held_is s.held m e h l) h;
+    phase = (elim toward as
+        (λ (toward : Toward). QuietPhase is (grown m r toward))
+        [ towards.Leave a ↦ tt | towards.Wait ↦ tt ]);
+  }
   quiet_moved c s got _ (moves.gives_up_to_wait m r e l) n h o same = record { held = without_one m s.held h; phase = subst (IsObject is) (held_monitor m s.held e l) (held_is s.held m e h l) }
   quiet_moved c s got _ (moves.retakes_lock m r depth e) n h o same = let b : Held = record { monitor = m; kept = keeps.Fat r; depth = depth } in runs_quiet (record s { held = with_held b s.held }) (put_one b s.held o h)
   quiet_moved c s got _ (moves.starts number roots e) n h o same = goes_quiet (record s { roots = roots }) _ h (subst (QuietPhase is) (sym same) tt)

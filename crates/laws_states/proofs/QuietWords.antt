@@ -100,11 +100,9 @@ module _ (sites : KnownSites) (mover : HeapMover) (quiet : IsQuiet mover.x.phase
           made_apart a word e f = let same : NewHeaderOf a ≡ Counter NEXT_RECORD_WORD = sites.differ c objects s (NewHeaderOf a) (Counter NEXT_RECORD_WORD) marked facts (t, x, word, there, e) (record_there c objects s) f in cc
 
   old_lock : (m : ℕ) → lock_at (references_of objects) (words_after s.words (wanted c x x.phase)) m ≡ lock_at (references_of objects) s.words m
-  old_lock m = by_test (has_number (references_of objects) m) refl
-    where
-      by_test : (b : Bool) → has_number (references_of objects) m ≡ b → cond b (lock_of (slice_index (words_after s.words (wanted c x x.phase)) m)) (locks.Free 0) ≡ cond b (lock_of (slice_index s.words m)) (locks.Free 0)
-      by_test true e = ap lock_of (same_word (LockOf m) tt (has_object objects m e))
-      by_test false e = refl
+  old_lock m = (elim (has_number (references_of objects) m) as
+      (λ (b : Bool). has_number (references_of objects) m ≡ b → cond b (lock_of (slice_index (words_after s.words (wanted c x x.phase)) m)) (locks.Free 0) ≡ cond b (lock_of (slice_index s.words m)) (locks.Free 0))
+      [ true ↦ λ e. ap lock_of (same_word (LockOf m) tt (has_object objects m e)) | false ↦ λ e. refl ]) refl
 
   -- the lock of a new object is free
   new_lock : (a word : ℕ) → x.phase ≡ phases.Made a word → (m : ℕ) → lock_at (a ∷ references_of objects) (words_after s.words (wanted c x x.phase)) m ≡ lock_at (references_of objects) s.words m
@@ -129,15 +127,11 @@ module _ (sites : KnownSites) (mover : HeapMover) (quiet : IsQuiet mover.x.phase
       by_test false f old = old
 
   pub quiet_view : locks_in (references_of (objects_by c.program x.phase objects)) (words_after s.words (wanted c x x.phase)) ≡ locks_in (references_of objects) s.words
-  quiet_view = views_same (references_of objects) (references_of (objects_by c.program x.phase objects)) s.words (words_after s.words (wanted c x x.phase)) (by_phase x.phase refl) owner (same_word (Counter NEXT_RECORD_WORD) refl (record_there c objects s))
+  quiet_view = views_same (references_of objects) (references_of (objects_by c.program x.phase objects)) s.words (words_after s.words (wanted c x x.phase)) ((elim x.phase as
+      (λ (phase : Phase). x.phase ≡ phase → (m : ℕ) → lock_at (references_of (objects_by c.program phase objects)) (words_after s.words (wanted c x x.phase)) m ≡ lock_at (references_of objects) s.words m)
+      [ phases.Made a word ↦ λ e m. new_lock a word e m | phase ↦ λ e m. old_lock m ]) refl) owner (same_word (Counter NEXT_RECORD_WORD) refl (record_there c objects s))
     where
-      by_phase : (phase : Phase) → x.phase ≡ phase → (m : ℕ) → lock_at (references_of (objects_by c.program phase objects)) (words_after s.words (wanted c x x.phase)) m ≡ lock_at (references_of objects) s.words m
-      by_phase (phases.Made a word) e m = new_lock a word e m
-      by_phase phase e m = old_lock m
-
       owner : (r : ℕ) → owner_at (words_after s.words (wanted c x x.phase)) r ≡ owner_at s.words r
-      owner r = by_test (nat_lt r MONITOR_RECORDS) refl
-        where
-          by_test : (b : Bool) → nat_lt r MONITOR_RECORDS ≡ b → cond b (slice_index (words_after s.words (wanted c x x.phase)) (owner_word r)) 0 ≡ cond b (slice_index s.words (owner_word r)) 0
-          by_test true e = let low : r < MONITOR_RECORDS = grind (arith, nat_tests, e) in same_word (OwnerOf r) tt low
-          by_test false e = refl
+      owner r = (elim (nat_lt r MONITOR_RECORDS) as
+          (λ (b : Bool). nat_lt r MONITOR_RECORDS ≡ b → cond b (slice_index (words_after s.words (wanted c x x.phase)) (owner_word r)) 0 ≡ cond b (slice_index s.words (owner_word r)) 0)
+          [ true ↦ λ e. let low : r < MONITOR_RECORDS = grind (arith, nat_tests, e) in same_word (OwnerOf r) tt low | false ↦ λ e. refl ]) refl

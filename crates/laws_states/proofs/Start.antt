@@ -30,12 +30,10 @@ filtered {A} test (x ∷ xs) i y e = by_test (test x) refl e (λ i e. filtered t
     later : IsFrom test xs y → IsFrom test (x ∷ xs) y
     later k = (suc k.0, k.1, k.2)
 
-    by_index : (i : ℕ) → test x ≡ true → slice_get (x ∷ filter test xs) i ≡ Some y → ((i : ℕ) → slice_get (filter test xs) i ≡ Some y → IsFrom test xs y) → IsFrom test (x ∷ xs) y
-    by_index zero t e more = let same : x ≡ y = same_some e in (zero, e, subst (λ z. test z ≡ true) same t)
-    by_index (suc i) t e more = later (more i e)
-
     by_test : (b : Bool) → test x ≡ b → slice_get (cond b (x ∷ filter test xs) (filter test xs)) i ≡ Some y → ((i : ℕ) → slice_get (filter test xs) i ≡ Some y → IsFrom test xs y) → IsFrom test (x ∷ xs) y
-    by_test true t e more = by_index i t e more
+    by_test true t e more = (elim i as
+        (λ (i : ℕ). test x ≡ true → slice_get (x ∷ filter test xs) i ≡ Some y → ((i : ℕ) → slice_get (filter test xs) i ≡ Some y → IsFrom test xs y) → IsFrom test (x ∷ xs) y)
+        [ zero ↦ λ t e more. let same : x ≡ y = same_some e in (zero, e, subst (λ z. test z ≡ true) same t) | suc i ↦ λ t e more. later (more i e) ]) t e more
     by_test false t e more = later (more i e)
 
 -- ---- the value that the plain memory has at a place

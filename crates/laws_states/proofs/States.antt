@@ -101,10 +101,8 @@ unfolding core
 no_attempts begin on_event on_next begin_none event_none next_none c cfg hs marked width parts never =
     each (start c cfg) hs (state_at_start begin c cfg marked parts) (begin_none c cfg)
   where
-    one : (s : Core) (h : Happening) → IsInState c cfg s → HaveNoAttempts s → HaveNoAttempts (happened c s h)
-    one s (Of t) k none = event_none c cfg s t never k.facts.threads k.facts.parts none
-    one s NextPart k none = next_none c s none
-
     each : (s : Core) (hs : List Happening) → IsInState c cfg s → HaveNoAttempts s → HaveNoAttempts (all_happened c s hs)
     each s [] k none = none
-    each s (h ∷ hs) k none = each (happened c s h) hs (state_goes_on on_event on_next c cfg marked width parts s h k) (one s h k none)
+    each s (h ∷ hs) k none = each (happened c s h) hs (state_goes_on on_event on_next c cfg marked width parts s h k) ((elim h as
+        (λ (h : Happening). IsInState c cfg s → HaveNoAttempts s → HaveNoAttempts (happened c s h))
+        [ Of t ↦ λ k none. event_none c cfg s t never k.facts.threads k.facts.parts none | NextPart ↦ λ k none. next_none c s none ]) k none)

@@ -50,15 +50,13 @@ none_set u = refl
 
 found_or_none : (f : ℕ → Bool) (xs : List ℕ) → (f (unwrap_or (find f xs) 0) ≡ true) ⊎ AllByRecursion (λ x. f x ≡ false) xs
 found_or_none f [] = inr tt
-found_or_none f (x ∷ xs) = by_test (f x) refl (found_or_none f xs)
+found_or_none f (x ∷ xs) = (elim (f x) as
+    (λ (b : Bool). f x ≡ b → (f (unwrap_or (find f xs) 0) ≡ true) ⊎ AllByRecursion (λ x. f x ≡ false) xs → (f (unwrap_or (cond b (Some x) (find f xs)) 0) ≡ true) ⊎ AllByRecursion (λ x. f x ≡ false) (x ∷ xs))
+    [ true ↦ λ e rest. inl e | false ↦ λ e rest. by_rest e rest ]) refl (found_or_none f xs)
   where
     by_rest : f x ≡ false → (f (unwrap_or (find f xs) 0) ≡ true) ⊎ AllByRecursion (λ x. f x ≡ false) xs → (f (unwrap_or (find f xs) 0) ≡ true) ⊎ AllByRecursion (λ x. f x ≡ false) (x ∷ xs)
     by_rest e (inl h) = inl h
     by_rest e (inr h) = inr (e, h)
-
-    by_test : (b : Bool) → f x ≡ b → (f (unwrap_or (find f xs) 0) ≡ true) ⊎ AllByRecursion (λ x. f x ≡ false) xs → (f (unwrap_or (cond b (Some x) (find f xs)) 0) ≡ true) ⊎ AllByRecursion (λ x. f x ≡ false) (x ∷ xs)
-    by_test true e rest = inl e
-    by_test false e rest = by_rest e rest
 
 no_bit : (n u : ℕ) → has_flag (bit_of u) n ≡ false → bit_at n u ≡ bit_at 0 u
 no_bit n u e = by_bit (bit_at n u) refl (bit_at-lt n u) ∙ sym (bit_at-zero u)

@@ -56,18 +56,14 @@ module _ (differ : SitesDiffer) (inside : SitesLieInside) (c : MarkedProgram) (o
   other_site site other value k l d = set_there s.words (site_word site) (site_word other) value (λ e. d (differ c objects s site other marked heap k l (sym e)))
 
   locks_apart : (site : Site) (value : ℕ) → IsThere c.program objects s site → ((m : ℕ) → site ≢ LockOf m) → (m : ℕ) → lock_at (references_of objects) (slice_set s.words (site_word site) value) m ≡ lock_at (references_of objects) s.words m
-  locks_apart site value k d m = by_test (has_number (references_of objects) m) refl
-    where
-      by_test : (b : Bool) → has_number (references_of objects) m ≡ b → cond b (lock_of (slice_index (slice_set s.words (site_word site) value) m)) (locks.Free 0) ≡ cond b (lock_of (slice_index s.words m)) (locks.Free 0)
-      by_test true e = ap lock_of (other_site site (LockOf m) value k (has_object objects m e) (d m))
-      by_test false e = refl
+  locks_apart site value k d m = (elim (has_number (references_of objects) m) as
+      (λ (b : Bool). has_number (references_of objects) m ≡ b → cond b (lock_of (slice_index (slice_set s.words (site_word site) value) m)) (locks.Free 0) ≡ cond b (lock_of (slice_index s.words m)) (locks.Free 0))
+      [ true ↦ λ e. ap lock_of (other_site site (LockOf m) value k (has_object objects m e) (d m)) | false ↦ λ e. refl ]) refl
 
   owners_apart : (site : Site) (value : ℕ) → IsThere c.program objects s site → (r : ℕ) → site ≢ OwnerOf r → owner_at (slice_set s.words (site_word site) value) r ≡ owner_at s.words r
-  owners_apart site value k r d = by_test (nat_lt r MONITOR_RECORDS) refl
-    where
-      by_test : (b : Bool) → nat_lt r MONITOR_RECORDS ≡ b → cond b (slice_index (slice_set s.words (site_word site) value) (owner_word r)) 0 ≡ cond b (slice_index s.words (owner_word r)) 0
-      by_test true e = let low : r < MONITOR_RECORDS = grind (arith, nat_tests, e) in other_site site (OwnerOf r) value k low d
-      by_test false e = refl
+  owners_apart site value k r d = (elim (nat_lt r MONITOR_RECORDS) as
+      (λ (b : Bool). nat_lt r MONITOR_RECORDS ≡ b → cond b (slice_index (slice_set s.words (site_word site) value) (owner_word r)) 0 ≡ cond b (slice_index s.words (owner_word r)) 0)
+      [ true ↦ λ e. let low : r < MONITOR_RECORDS = grind (arith, nat_tests, e) in other_site site (OwnerOf r) value k low d | false ↦ λ e. refl ]) refl
 
   pub lock_view : (n value : ℕ) → HasObject objects n → locks_in (references_of objects) (slice_set s.words n value) ≡ set_lock n (lock_of value) (locks_in (references_of objects) s.words)
   lock_view n value k = λ i. record { lock = λ m. lock m i; owner = λ r. owner r i; next = next i }

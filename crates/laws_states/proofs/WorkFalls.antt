@@ -110,11 +110,9 @@ module _ (x : Thread) (phase : Phase) where
     goes_behind p afters.Return k far =
         let few : length (returned p k.0) < length s.frames = omega (arith, (ap length (frames_are p s.frames k.0 k.1)), returned_fewer p k.0) in
         subst (λ (o : Option Top). Lessens (goes_on_if s (option_map (λ at. back (returned p at)) o))) (sym k.1) (comes_back (returned p k.0) few)
-    goes_behind p (afters.Unwind r class) k far = unwinds r class (drop 1 s.frames) (one_less s.frames k)
-      where
-        one_less : (frames : List Frame) → IsSome (top_of p frames) → length (drop 1 frames) < length frames
-        one_less [] has = absurd (cc)
-        one_less (f ∷ below) has = let same : length (drop 1 (f ∷ below)) ≡ length below = refl in omega (arith, same)
+    goes_behind p (afters.Unwind r class) k far = unwinds r class (drop 1 s.frames) ((elim s.frames as
+        (λ (frames : List Frame). IsSome (top_of p frames) → length (drop 1 frames) < length frames)
+        [ [] ↦ λ has. absurd (cc) | f ∷ below ↦ λ has. let same : length (drop 1 (f ∷ below)) ≡ length below = refl in omega (arith, same) ]) k)
 
   -- a failure, far from the end of a chain
   failed : (a : Attempt) → x.attempt ≡ Some a → a.base < length x.frames → 12 < chain x.held phase + inside phase x.attempt → Lessens (fails x a)
