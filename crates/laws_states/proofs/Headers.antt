@@ -1,6 +1,6 @@
 -- Headers: of an object that is there, and of one that is made.
-use Rattle.std.proofs.Common.{◌≡◌, ℕ, zero, suc, ◌+◌, ◌-◌, ◌<◌, ◌≤◌, Bool, true, false, not, ◌&&◌, List, [], ◌∷◌, length, Some, None, refl, ap, sym, subst, ◌∙◌, arith, ◌==◌, nat_lt, replicate, slice_get, if◌then◌else◌, IsSome}
-use Rattle.std.proofs.lemmas.{Bool.Decides.nat_tests, List.length-replicate}
+use Rattle.std.proofs.Common.{◌≡◌, ℕ, zero, suc, ◌+◌, ◌-◌, ◌<◌, ◌≤◌, Bool, true, false, not, ◌&&◌, List, [], ◌∷◌, length, Some, None, refl, ap, sym, subst, ◌∙◌, arith, ◌==◌, nat_lt, replicate, option_map, slice_get, if◌then◌else◌, IsSome}
+use Rattle.std.{specs.List.range_with_len, proofs.lemmas.{Bool.Decides.nat_tests, List.{length-replicate, FromFn.get_or-range_with_len}, Option.{get_or_from_slice_get, slice_get-map, slice_get_within}}}
 use Rattle.jvm_types.specs.{ClassNames.{is_class, is_throwable}, Members.is_static, ProgramInvariant.{IsProgram, IsClassOf, instances_among}, declared.class_numbers.TheConstants.INT_ARRAY_CLASS}
 use Rattle.jvm_types.specs.declared.{fixed_words.TheConstants.OBJECT_HEAD_WORDS, limits.TheConstants.MOST_FILES, outcome.Thrown.Thrown, program.{FieldInfo.FieldInfo, MethodInfo.MethodInfo}}
 use Rattle.jvm_types.specs.declared.{program.Program.Program, typing.VType.{VType, TheVariants.{Ref, New}}}
@@ -29,19 +29,7 @@ class_small o h = class_is o.class (if o.class == INT_ARRAY_CLASS then length o.
 -- ---- throwables
 
 numbered : (k : ℕ) (class : Thrown) → slice_get throwables k ≡ Some class → class_of class ≡ 4 + k
-numbered zero _ e = let same : thrown.Throwable ≡ _ = cc in sym (ap class_of same)
-numbered (suc zero) _ e = let same : thrown.Exception ≡ _ = cc in sym (ap class_of same)
-numbered (suc (suc zero)) _ e = let same : thrown.Error ≡ _ = cc in sym (ap class_of same)
-numbered (suc (suc (suc zero))) _ e = let same : thrown.RuntimeException ≡ _ = cc in sym (ap class_of same)
-numbered (suc (suc (suc (suc zero)))) _ e = let same : thrown.InterruptedException ≡ _ = cc in sym (ap class_of same)
-numbered (suc (suc (suc (suc (suc zero))))) _ e = let same : thrown.ArithmeticException ≡ _ = cc in sym (ap class_of same)
-numbered (suc (suc (suc (suc (suc (suc zero)))))) _ e = let same : thrown.NullPointerException ≡ _ = cc in sym (ap class_of same)
-numbered (suc (suc (suc (suc (suc (suc (suc zero))))))) _ e = let same : thrown.ArrayIndexOutOfBoundsException ≡ _ = cc in sym (ap class_of same)
-numbered (suc (suc (suc (suc (suc (suc (suc (suc zero)))))))) _ e = let same : thrown.NegativeArraySizeException ≡ _ = cc in sym (ap class_of same)
-numbered (suc (suc (suc (suc (suc (suc (suc (suc (suc zero))))))))) _ e = let same : thrown.IllegalMonitorStateException ≡ _ = cc in sym (ap class_of same)
-numbered (suc (suc (suc (suc (suc (suc (suc (suc (suc (suc zero)))))))))) _ e = let same : thrown.OutOfMemoryError ≡ _ = cc in sym (ap class_of same)
-numbered (suc (suc (suc (suc (suc (suc (suc (suc (suc (suc (suc zero))))))))))) _ e = let same : thrown.StackOverflowError ≡ _ = cc in sym (ap class_of same)
-numbered (suc (suc (suc (suc (suc (suc (suc (suc (suc (suc (suc (suc k)))))))))))) class e = absurd (cc)
+numbered k class e = sym (get_or_from_slice_get (range_with_len 4 12) k (class_of class) 0 (slice_get-map class_of throwables k ∙ ap (option_map class_of) e)) ∙ get_or-range_with_len 4 12 k 0 (slice_get_within throwables k class e)
 
 pub thrown_is : (d : ℕ) (class : Thrown) → thrown_of d ≡ Some class → class_of class ≡ d
 thrown_is d class e = (elim (nat_lt d 4) as (λ (b : Bool). nat_lt d 4 ≡ b → (if b then None else slice_get throwables (d - 4)) ≡ Some class → class_of class ≡ d)

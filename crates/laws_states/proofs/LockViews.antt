@@ -1,9 +1,11 @@
 -- What the words say of locks, where one of them has changed; and how a thread has a monitor by them.
 use Rattle.std.proofs.{Common.{⊎_elim, ◌≡◌, ◌≢◌, ◌⊎◌, inl, inr, ℕ, ◌+◌, Bool, true, false, cond, Option, Some, None, refl, sym, ap, ◌∙◌, ◌==◌}, lemmas.Bool.{ne_eqb, Decides.Decides-eqb}}
-use Rattle.machine_types.specs.{Owners.{Locks, Hold, NotHeld, HeldFlat, HeldFat, hold_by_word, hold_by_kept, hold_by_list}, declared.lock.{Held.Held, Kept.Kept, LockWord.LockWord}}
+use Rattle.machine_types.specs.Owners.{Locks, Hold, NotHeld, HeldFlat, HeldFat, hold_by_word, hold_by_kept, hold_by_list, drawn_by, IsDrawn, Knows, IsSeen, PhaseSaw, AttemptSawIn}
+use Rattle.machine_types.specs.{Threads.Attempt, declared.{config.Config.Config, lock.{Held.Held, Kept.Kept, LockWord.LockWord}, phase.Phase.Phase}}
 use Rattle.machine_types.proofs.PlainStepLaws.{is_same}
 use Rattle.machine_types.specs.declared.lock.Kept.TheVariants as keeps
 use Rattle.machine_types.specs.declared.lock.LockWord.TheVariants as locks
+use Rattle.machine_types.specs.declared.phase.Phase.TheVariants as phases
 
 abbrev pub set_lock : (n : ℕ) → LockWord → Locks → Locks
 set_lock n l v = record v { lock = λ m. cond (n == m) l (v.lock m) }
@@ -61,3 +63,23 @@ flat_alone t u l owner h d = ⊎_elim
 pub not_held : (o : Option Held) → hold_by_list o ≡ NotHeld → o ≡ None
 not_held None e = refl
 not_held (Some h) e = (elim h.kept as (λ (k : Kept). hold_by_kept k ≡ NotHeld → Some h ≡ None) [ keeps.Flat c ↦ λ e. absurd (cc) | keeps.Fat r ↦ λ e. absurd (cc) ]) e
+
+-- ---- what a phase knows, and it or an attempt saw, where the words are others
+
+pub knows_by : (v w : Locks) (u : ℕ) (phase : Phase) → ((r : ℕ) → drawn_by phase ≡ Some r → IsDrawn v r → IsDrawn w r) → ((r : ℕ) → drawn_by phase ≡ Some r → v.owner r ≡ u + 1 → w.owner r ≡ u + 1)
+    → ((m r : ℕ) → v.lock m ≡ locks.Fat r → w.lock m ≡ locks.Fat r) → Knows v u phase → Knows w u phase
+knows_by v w u (phases.Own m r toward) drawn owner fat h = drawn r refl h
+knows_by v w u (phases.FatIn m r toward) drawn owner fat h = (drawn r refl h.0, owner r refl h.1)
+knows_by v w u (phases.TakeFat m r) drawn owner fat h = fat m r h
+knows_by v w u (phases.WaitLook m r depth) drawn owner fat h = fat m r h
+knows_by v w u (phases.Retake m r depth) drawn owner fat h = fat m r h
+knows_by v w u phase drawn owner fat h = tt
+
+module _ (v w : Locks) (count more : ℕ → ℕ) (saw : (m seen : ℕ) → IsSeen (v.lock m) seen (count m) → IsSeen (w.lock m) seen (more m)) where
+  pub phase_by : (phase : Phase) → PhaseSaw v count phase → PhaseSaw w more phase
+  phase_by (phases.Take m seen) h = saw m seen h
+  phase_by phase h = tt
+
+  pub attempt_by : (cfg : Config) (a : Option Attempt) → AttemptSawIn v count cfg a → AttemptSawIn w more cfg a
+  attempt_by cfg None h = tt
+  attempt_by cfg (Some a) h = record { seen = saw a.monitor a.noted h.seen; not_last = h.not_last }

@@ -5,7 +5,7 @@ use Rattle.machine_types.specs.HeldMonitors.{held_at, with_held, without_held}
 use Rattle.machine_types.specs.Owners.{Locks, NotHeld, hold_by_word, hold_by_kept, hold_by_list, drawn_by, IsDrawn, Knows, IsSeen, PhaseSaw, AttemptSawIn, IsKeptIn, Owns, AreLocks}
 use Rattle.machine_types.specs.{Structure.AreHeldOnce, Threads.{Attempt, Thread}, declared.{config.Config.Config, lock.{Held.Held, LockWord.LockWord}, phase.Phase.Phase}}
 use Rattle.laws_threads.proofs.HeldLists.{held_put, held_without}
-use Rattle.laws_states.proofs.{LockViews.{set_lock, recounted, not_held}, OwnersStep.{Owes, flat_in}}
+use Rattle.laws_states.proofs.{LockViews.{set_lock, recounted, not_held, knows_by, phase_by, attempt_by}, OwnersStep.{Owes, flat_in}}
 use Rattle.machine_types.specs.declared.lock.LockWord.TheVariants as locks
 use Rattle.machine_types.specs.declared.phase.Phase.TheVariants as phases
 
@@ -36,20 +36,7 @@ module _ (v : Locks) (count : ℕ → ℕ) (n k : ℕ) (l : LockWord) (thin : (r
       [ true ↦ λ e. absurd (thin r (ap v.lock ((Decides-eqb n m).0 e) ∙ h)) | false ↦ λ e. h ]) refl
 
   pub knows_after : (u : ℕ) (phase : Phase) → ((r : ℕ) → drawn_by phase ≡ Some r → l ≢ locks.Fat r) → Knows v u phase → Knows (set_lock n l v) u phase
-  knows_after u (phases.Own m r toward) d h = drawn_after r (d r refl) h
-  knows_after u (phases.FatIn m r toward) d h = (drawn_after r (d r refl) h.0, h.1)
-  knows_after u (phases.TakeFat m r) d h = still_fat m r h
-  knows_after u (phases.WaitLook m r depth) d h = still_fat m r h
-  knows_after u (phases.Retake m r depth) d h = still_fat m r h
-  knows_after u phase d h = tt
-
-  pub take_after : (phase : Phase) → PhaseSaw v count phase → PhaseSaw (set_lock n l v) (recounted n k count) phase
-  take_after (phases.Take m seen) h = seen_after m seen h
-  take_after phase h = tt
-
-  pub attempt_after : (cfg : Config) (a : Option Attempt) → AttemptSawIn v count cfg a → AttemptSawIn (set_lock n l v) (recounted n k count) cfg a
-  attempt_after cfg None h = tt
-  attempt_after cfg (Some a) h = record { seen = seen_after a.monitor a.noted h.seen; not_last = h.not_last }
+  knows_after u phase d h = knows_by v (set_lock n l v) u phase (λ r e k. drawn_after r (d r e) k) (λ r e k. k) still_fat h
 
   others_after : (u : ℕ) (was phase : Phase) (z : Thread) → hold_by_word u l v.owner ≡ hold_by_word u (v.lock n) v.owner → (hold_by_word u (v.lock n) v.owner ≡ NotHeld) ⊎ (k ≡ count n) → ((r : ℕ) → l ≡ locks.Fat r → drawn_by was ≡ Some r)
       → Owns v count u phase z → ((r : ℕ) → drawn_by was ≡ Some r → drawn_by phase ≡ Some r → ⊥) → Owns (set_lock n l v) (recounted n k count) u phase z
@@ -57,8 +44,8 @@ module _ (v : Locks) (count : ℕ → ℕ) (n k : ℕ) (l : LockWord) (thin : (r
     holds = λ m. holds m (n == m) refl;
     knows = knows_after u phase (λ r e f. d r (draws r f) e) o.knows;
     keeps_count = λ m. keeps m (n == m) refl quiet;
-    take = take_after phase o.take;
-    attempt = attempt_after z.cfg z.attempt o.attempt;
+    take = phase_by v (set_lock n l v) count (recounted n k count) seen_after phase o.take;
+    attempt = attempt_by v (set_lock n l v) count (recounted n k count) seen_after z.cfg z.attempt o.attempt;
   }
     where
       holds : (m : ℕ) (b : Bool) → (n == m) ≡ b → hold_by_word u (cond b l (v.lock m)) v.owner ≡ hold_by_list (held_at z.held m)
@@ -105,7 +92,7 @@ module _ (v : Locks) (count : ℕ → ℕ) (n k : ℕ) (l : LockWord) (thin : (r
       keeps_count = keeps;
       take = take;
       attempt = subst (λ (g : Config). AttemptSawIn (set_lock n l v) (recounted n k count) g y.attempt) (sym cfg)
-          (subst (λ (q : Option Attempt). AttemptSawIn (set_lock n l v) (recounted n k count) x.cfg q) (sym attempt) (attempt_after x.cfg x.attempt o.attempt));
+          (subst (λ (q : Option Attempt). AttemptSawIn (set_lock n l v) (recounted n k count) x.cfg q) (sym attempt) (attempt_by v (set_lock n l v) count (recounted n k count) seen_after x.cfg x.attempt o.attempt));
     };
     others = λ u phase z d owns apart. others_after u was phase z (mine u d).0 (mine u d).1 draws owns apart;
     words = words_after named freed a;

@@ -2,7 +2,7 @@
 use Rattle.std.proofs.{Common.{◌≡◌, ◌≢◌, inl, ℕ, ◌+◌, ◌≤◌, Bool, true, false, cond, Option, Some, None, refl, sym, ap, ◌∙◌, subst, ◌==◌}, lemmas.Bool.{ne_eqb, Decides.Decides-eqb}}
 use Rattle.machine_types.specs.{HeldMonitors.held_at, Owners.{Locks, NotHeld, HeldFat, hold_by_word, hold_by_list, drawn_by, Knows, PhaseSaw, AttemptSawIn, IsKeptIn, Owns, AreLocks}}
 use Rattle.machine_types.{specs.{Threads.{Attempt, Thread}, declared.{config.Config.Config, lock.LockWord.LockWord, phase.Phase.Phase}}, proofs.PlainStepLaws.is_same}
-use Rattle.laws_states.proofs.{LockViews.set_owner, OwnersStep.{Owes, flat_in}}
+use Rattle.laws_states.proofs.{LockViews.{set_owner, knows_by, phase_by, attempt_by}, OwnersStep.{Owes, flat_in}}
 use Rattle.machine_types.specs.declared.lock.LockWord.TheVariants as locks
 use Rattle.machine_types.specs.declared.phase.Phase.TheVariants as phases
 
@@ -21,28 +21,15 @@ module _ (v : Locks) (count : ℕ → ℕ) (one owner : ℕ) where
   words_apart u l d = refl
 
   knows_same : (u : ℕ) (phase : Phase) → (v.owner one == u + 1) ≡ false → Knows v u phase → Knows (set_owner one owner v) u phase
-  knows_same u (phases.Own m r toward) f h = record { unnamed = h.unnamed; below = h.below }
-  knows_same u (phases.FatIn m r toward) f h = (record { unnamed = h.0.unnamed; below = h.0.below }, by_test (one == r) refl)
+  knows_same u phase f h = knows_by v (set_owner one owner v) u phase (λ r d k. record { unnamed = k.unnamed; below = k.below }) (λ r d e. owned r e (one == r) refl) (λ m r e. e) h
     where
-      by_test : (b : Bool) → (one == r) ≡ b → cond b owner (v.owner r) ≡ u + 1
-      by_test true g = let owned : (v.owner one == u + 1) ≡ true = ap (λ (i : ℕ). i == u + 1) (ap v.owner ((Decides-eqb one r).0 g) ∙ h.1) ∙ is_same (u + 1) in absurd (cc)
-      by_test false g = h.1
-  knows_same u (phases.TakeFat m r) f h = h
-  knows_same u (phases.WaitLook m r depth) f h = h
-  knows_same u (phases.Retake m r depth) f h = h
-  knows_same u phase f h = tt
-
-  pub take_same : (phase : Phase) → PhaseSaw v count phase → PhaseSaw (set_owner one owner v) count phase
-  take_same (phases.Take m seen) h = h
-  take_same phase h = tt
-
-  pub attempt_same : (cfg : Config) (a : Option Attempt) → AttemptSawIn v count cfg a → AttemptSawIn (set_owner one owner v) count cfg a
-  attempt_same cfg None h = tt
-  attempt_same cfg (Some a) h = record { seen = h.seen; not_last = h.not_last }
+      owned : (r : ℕ) → v.owner r ≡ u + 1 → (b : Bool) → (one == r) ≡ b → cond b owner (v.owner r) ≡ u + 1
+      owned r e true g = let owned : (v.owner one == u + 1) ≡ true = ap (λ (i : ℕ). i == u + 1) (ap v.owner ((Decides-eqb one r).0 g) ∙ e) ∙ is_same (u + 1) in absurd (cc)
+      owned r e false g = e
 
   pub own_attempt : (x y : Thread) → y.cfg ≡ x.cfg → y.attempt ≡ x.attempt → AttemptSawIn v count x.cfg x.attempt → AttemptSawIn (set_owner one owner v) count y.cfg y.attempt
   own_attempt x y cfg attempt h = subst (λ (g : Config). AttemptSawIn (set_owner one owner v) count g y.attempt) (sym cfg)
-      (subst (λ (q : Option Attempt). AttemptSawIn (set_owner one owner v) count x.cfg q) (sym attempt) (attempt_same x.cfg x.attempt h))
+      (subst (λ (q : Option Attempt). AttemptSawIn (set_owner one owner v) count x.cfg q) (sym attempt) (attempt_by v (set_owner one owner v) count count (λ m seen k. k) x.cfg x.attempt h))
 
   pub owner_written : (t : ℕ) (was now : Phase) (x y : Thread) → AreLocks v count → Owns v count t was x → y.cfg ≡ x.cfg
       → ((u : ℕ) → u ≢ t → ((owner == u + 1) ≡ false) × ((v.owner one == u + 1) ≡ false))
@@ -58,8 +45,8 @@ module _ (v : Locks) (count : ℕ → ℕ) (one owner : ℕ) where
       holds = λ m. words_same u (v.lock m) (apart u d).0 (apart u d).1 ∙ owns.holds m;
       knows = knows_same u phase (apart u d).1 owns.knows;
       keeps_count = owns.keeps_count;
-      take = take_same phase owns.take;
-      attempt = attempt_same z.cfg z.attempt owns.attempt;
+      take = phase_by v (set_owner one owner v) count count (λ m seen k. k) phase owns.take;
+      attempt = attempt_by v (set_owner one owner v) count count (λ m seen k. k) z.cfg z.attempt owns.attempt;
     };
     words = record { one = a.one; below = a.below; free = a.free };
     draws = λ i e. inl (draws i e);

@@ -8,8 +8,8 @@ use Rattle.machine_types.specs.{Structure.AreHeldOnce, Threads.{Attempt, Thread}
 use Rattle.machine_types.proofs.PlainStepLaws.{is_same}
 use Rattle.laws_threads.proofs.HeldLists.{held_monitor, held_put, held_without}
 use Rattle.laws_states.proofs.{CountedPhases.{IsPlain, plain_knows, plain_saw, plain_draws_none}, Movers.{LockMover, OwnsAs, locks_of}}
-use Rattle.laws_states.proofs.LockViews.{set_lock, set_owner, set_next, recounted, itself, another, fatly, thin_if_flat, flat_alone}
-use Rattle.laws_states.proofs.{LockWritten.{lock_written, put_holds, drop_holds, put_keeps, drop_keeps}, OwnerWritten.{owner_written, words_apart, take_same, own_attempt, attempt_same}}
+use Rattle.laws_states.proofs.LockViews.{set_lock, set_owner, set_next, recounted, itself, another, fatly, thin_if_flat, flat_alone, knows_by, phase_by, attempt_by}
+use Rattle.laws_states.proofs.{LockWritten.{lock_written, put_holds, drop_holds, put_keeps, drop_keeps}, OwnerWritten.{owner_written, words_apart, own_attempt}}
 use Rattle.laws_states.proofs.OwnersStep.{Owes, flat_in}
 use Rattle.machine_types.specs.declared.lock.Kept.TheVariants as keeps
 use Rattle.machine_types.specs.declared.lock.LockWord.TheVariants as locks
@@ -191,22 +191,6 @@ module _ (mover : LockMover) (was : Phase) (o : OwnsAs mover was) (y : Thread) (
   further : (i : ℕ) → IsDrawn v i → IsDrawn (set_next (v.next + 1) v) i
   further i h = record { unnamed = h.unnamed; below = let below = h.below in omega (arith, below) }
 
-  next_knows : (u : ℕ) (phase : Phase) → Knows v u phase → Knows (set_next (v.next + 1) v) u phase
-  next_knows u (phases.Own m i toward) h = further i h
-  next_knows u (phases.FatIn m i toward) h = (further i h.0, h.1)
-  next_knows u (phases.TakeFat m i) h = h
-  next_knows u (phases.WaitLook m i depth) h = h
-  next_knows u (phases.Retake m i depth) h = h
-  next_knows u phase h = tt
-
-  next_take : (phase : Phase) → PhaseSaw v count phase → PhaseSaw (set_next (v.next + 1) v) count phase
-  next_take (phases.Take m seen) h = h
-  next_take phase h = tt
-
-  next_attempt : (cfg : Config) (q : Option Attempt) → AttemptSawIn v count cfg q → AttemptSawIn (set_next (v.next + 1) v) count cfg q
-  next_attempt cfg None h = tt
-  next_attempt cfg (Some q) h = record { seen = h.seen; not_last = h.not_last }
-
   pub drawn_next : Became x y x.held 0 → Knows (set_next (v.next + 1) v) t now → PhaseSaw (set_next (v.next + 1) v) count now → ((i : ℕ) → drawn_by now ≡ Some i → v.next ≤ i) → Owes v (set_next (v.next + 1) v) count count t was now x y
   drawn_next b knows take draws = record {
     own = record {
@@ -214,9 +198,15 @@ module _ (mover : LockMover) (was : Phase) (o : OwnsAs mover was) (y : Thread) (
       knows = knows;
       keeps_count = λ m. subst (λ (hs : List Held). IsKeptIn (held_at hs m) (count m)) (sym b.held_is) (o.keeps_count m);
       take = take;
-      attempt = next_attempt y.cfg y.attempt (same_attempt b.cfg b.attempt);
+      attempt = attempt_by v (set_next (v.next + 1) v) count count (λ m seen k. k) y.cfg y.attempt (same_attempt b.cfg b.attempt);
     };
-    others = λ u phase z e owns apart. record { holds = owns.holds; knows = next_knows u phase owns.knows; keeps_count = owns.keeps_count; take = next_take phase owns.take; attempt = next_attempt z.cfg z.attempt owns.attempt };
+    others = λ u phase z e owns apart. record {
+      holds = owns.holds;
+      knows = knows_by v (set_next (v.next + 1) v) u phase (λ r d k. further r k) (λ r d k. k) (λ m r k. k) owns.knows;
+      keeps_count = owns.keeps_count;
+      take = phase_by v (set_next (v.next + 1) v) count count (λ m seen k. k) phase owns.take;
+      attempt = attempt_by v (set_next (v.next + 1) v) count count (λ m seen k. k) z.cfg z.attempt owns.attempt;
+    };
     words = record { one = a.one; below = λ m r e. (let below = (a.below m r e).0 in omega (arith, below), (a.below m r e).1); free = a.free };
     draws = λ i e. inr (draws i e);
     within = most;
@@ -240,24 +230,17 @@ module _ (mover : LockMover) (was : Phase) (o : OwnsAs mover was) (y : Thread) (
     };
     others = λ u phase z e owns apart. record {
       holds = λ m. words_apart v count r (t + 1) u (v.lock m) (dr.unnamed m) ∙ owns.holds m;
-      knows = known u phase (λ g. apart r d g) owns.knows;
+      knows = knows_by v (set_owner r (t + 1) v) u phase (λ i e k. record { unnamed = k.unnamed; below = k.below })
+          (λ i e k. ap (λ (b : Bool). cond b (t + 1) (v.owner i)) (ne_eqb r i (λ q. apart r d (e ∙ ap Some (sym q)))) ∙ k) (λ m i k. k) owns.knows;
       keeps_count = owns.keeps_count;
-      take = take_same v count r (t + 1) phase owns.take;
-      attempt = attempt_same v count r (t + 1) z.cfg z.attempt owns.attempt;
+      take = phase_by v (set_owner r (t + 1) v) count count (λ m seen k. k) phase owns.take;
+      attempt = attempt_by v (set_owner r (t + 1) v) count count (λ m seen k. k) z.cfg z.attempt owns.attempt;
     };
     words = record { one = a.one; below = a.below; free = a.free };
     draws = λ i e. inl (draws i e);
     within = most;
     few = λ m. let same : flat_in m y ≡ flat_in m x = ap one_if_flat (held_kept b m) in let locked = b.locked in omega (arith, same, locked);
   }
-    where
-      known : (u : ℕ) (phase : Phase) → (drawn_by phase ≡ Some r → ⊥) → Knows v u phase → Knows (set_owner r (t + 1) v) u phase
-      known u (phases.Own m i toward) never h = record { unnamed = h.unnamed; below = h.below }
-      known u (phases.FatIn m i toward) never h = (record { unnamed = h.0.unnamed; below = h.0.below }, ap (λ (b : Bool). cond b (t + 1) (v.owner i)) (ne_eqb r i (λ e. never (ap Some (sym e)))) ∙ h.1)
-      known u (phases.TakeFat m i) never h = h
-      known u (phases.WaitLook m i depth) never h = h
-      known u (phases.Retake m i depth) never h = h
-      known u phase never h = tt
 
   -- ---- a record without an owner gets one
 

@@ -1,8 +1,9 @@
 -- The bits of a word of waiting bits: what setting one, clearing one and looking for the lowest do.
 use Rattle.std.proofs.Common.{⊎_elim, ◌≡◌, ◌≢◌, ◌⊎◌, inl, inr, ℕ, zero, suc, ◌*◌, ◌^◌, ◌<◌, Bool, true, false, not, cond, List, [], ◌∷◌, Some, refl, sym, ap, ◌∙◌, arith, ◌==◌, bit_and, bit_or, find}
-use Rattle.std.{specs.{Int.bit_at, List.{AllByRecursion, range_with_len}, Prelude.unwrap_or}, proofs.lemmas.{Bool.Decides.nat_tests, Nat.pow_pos}}
+use Rattle.std.{specs.{Int.bit_at, List.{AllByRecursion, range_with_len}, Prelude.unwrap_or}, proofs.lemmas.{Bool.Decides.nat_tests, List.FromFn.get_or-range_with_len, Nat.pow_pos, Option.slice_get_read}}
 use Rattle.std.proofs.lemmas.Nat.Bits.{and_pow, bit_at_and, bit_at_or, bit_at-lt, bit_at-zero, bit_at-pow_same, bit_at-pow_other, same_from_bits_below}
 use Rattle.jvm_types.specs.Numbers.{has_flag}
+use Rattle.laws_programs.proofs.LocalGoing.{at_index}
 use Rattle.machine_types.specs.Monitors.{bit_of, lowest_of}
 
 -- ---- a flag is one bit
@@ -67,16 +68,7 @@ no_bit n u e = by_bit (bit_at n u) refl (bit_at-lt n u) ∙ sym (bit_at-zero u)
     by_bit (suc (suc b)) g lt = absurd (omega (arith, lt))
 
 all_nine : (n : ℕ) → AllByRecursion (λ t. has_flag (bit_of t) n ≡ false) (range_with_len 0 9) → (i : ℕ) → i < 9 → bit_at n i ≡ bit_at 0 i
-all_nine n h zero lt = no_bit n 0 h.0
-all_nine n h (suc zero) lt = no_bit n 1 h.1.0
-all_nine n h (suc (suc zero)) lt = no_bit n 2 h.1.1.0
-all_nine n h (suc (suc (suc zero))) lt = no_bit n 3 h.1.1.1.0
-all_nine n h (suc (suc (suc (suc zero)))) lt = no_bit n 4 h.1.1.1.1.0
-all_nine n h (suc (suc (suc (suc (suc zero))))) lt = no_bit n 5 h.1.1.1.1.1.0
-all_nine n h (suc (suc (suc (suc (suc (suc zero)))))) lt = no_bit n 6 h.1.1.1.1.1.1.0
-all_nine n h (suc (suc (suc (suc (suc (suc (suc zero))))))) lt = no_bit n 7 h.1.1.1.1.1.1.1.0
-all_nine n h (suc (suc (suc (suc (suc (suc (suc (suc zero)))))))) lt = no_bit n 8 h.1.1.1.1.1.1.1.1.0
-all_nine n h (suc (suc (suc (suc (suc (suc (suc (suc (suc i))))))))) lt = absurd (omega (arith, lt))
+all_nine n h i lt = no_bit n i (at_index (λ t. has_flag (bit_of t) n ≡ false) (range_with_len 0 9) i i h (slice_get_read (range_with_len 0 9) 9 i i refl lt (omega (arith, get_or-range_with_len 0 9 i i lt))))
 
 -- of bits of which some is set
 pub lowest_set : (n : ℕ) → n < 2 ^ 9 → n ≢ 0 → has_flag (bit_of (lowest_of n)) n ≡ true
