@@ -7,10 +7,10 @@ use Rattle.checked_program.specs.MarkedProgram.{MarkedProgram}
 use Rattle.machine_types.specs.{Accesses.found_by, Bounds.part_roots, Core.{start_thread, event_of, may_begin, may_begin_by, with_roots, how_ended, part_begins, next_threads}}
 use Rattle.machine_types.specs.{Events.{wanted, moved}, Guards.{IsOfClassInit, MakesClass}, Lawful.IsLawful, Parts.{run_roots, done_roots}, Threads.{Attempt, Frame, Thread}}
 use Rattle.machine_types.{specs.declared.config.Config.Config, proofs.AtStart.is_start_thread}
-use Rattle.laws_threads.{specs.{GivenThread.{Given, GivenIsKept}, PartLaws.{PartFits, PartsFit}}, proofs.{Lists.mapped_at, PartSteps.one_idle}}
+use Rattle.laws_threads.{specs.{GivenThread.{Given, GivenIsKept}, PartLaws.{PartFits, PartsFit}}, proofs.PartSteps.one_idle}
 use Rattle.laws_states.specs.ClassInits.{IsNoClassInit, RunsNoClassInit, IsBehindInit, ClassInitsComeFirst}
 use Rattle.laws_states.{specs.{PartsLaws.{StartPutsInitsFirst, EventsPutInitsFirst, NextPutsInitsFirst, ClassInitsRunAlone}}, proofs.ClassInitMoves.{root_none, moved_none}}
-use Rattle.laws_states.proofs.{PartLawful.{IsBetween, has_returned as is_returned, between_frames, between_attempt}, PartsEvents.at_each}
+use Rattle.laws_states.proofs.{Lists.{first_each, mapped_each}, PartLawful.{IsBetween, has_returned as is_returned, between_frames, between_attempt}, PartsEvents.at_each}
 use Rattle.jvm_types.specs.declared.outcome.End.TheVariants as ends
 use Rattle.machine_types.specs.declared.phase.Phase.TheVariants as phases
 
@@ -53,11 +53,8 @@ module _ (c : MarkedProgram) (x : Thread) (workers : List Thread) (lawful : IsLa
   seen = record x { part = 1; first = how_ended x.phase }
 
   workers_first : ClassInitsComeFirst c.program (seen ∷ map (with_roots (run_roots c.program)) workers)
-  workers_first zero y e behind = let same : seen ≡ y = same_some e in absurd (subst (λ (z : Thread). IsBehindInit 0 z.part) (sym same) behind)
-  workers_first (suc u) y e behind =
-      let from = mapped_at (with_roots (run_roots c.program)) workers u y e in
-      let old = first (suc u) from.0 from.1 tt in
-      subst (λ (z : Thread). RunsNoClassInit c.program z) from.2 (record { frames = old.frames; entry = old.entry })
+  workers_first = mapped_each (λ u z. IsBehindInit u z.part → RunsNoClassInit c.program z) seen (with_roots (run_roots c.program)) workers (λ behind. absurd behind)
+      (λ u w e behind. let old = first (suc u) w e tt in record { frames = old.frames; entry = old.entry })
 
   abbrev last : Thread
   last = with_roots (done_roots c.program) (record x { part = 2 })
@@ -70,8 +67,7 @@ module _ (c : MarkedProgram) (x : Thread) (workers : List Thread) (lawful : IsLa
       }
 
   done_first : x.phase ≡ phases.Ended ends.Returned → ClassInitsComeFirst c.program (last ∷ workers)
-  done_first ended zero y e behind = subst (λ (z : Thread). RunsNoClassInit c.program z) (same_some e) (last_none ended)
-  done_first ended (suc u) y e behind = first (suc u) y e behind
+  done_first ended = first_each (λ u z. IsBehindInit u z.part → RunsNoClassInit c.program z) last workers (λ behind. last_none ended) (λ u. first (suc u))
 
   part_first : (part : ℕ) → PartFits part x.phase workers → (may : Bool) → may_begin_by part x.phase workers ≡ may → ClassInitsComeFirst c.program (if may then part_begins c.program part x workers else x ∷ workers)
   part_first part fits false e = first

@@ -73,19 +73,21 @@ module _ (lies : StartLiesApart) (maker : Maker) where
       by_test true e = absurd (other (grind (arith, nat_tests, e)))
       by_test false e = length-replicate {A = ℕ} (object_size c.program (header_class word) - OBJECT_HEAD_WORDS) 0 ∙ omega arith
 
-  -- of the first one of the objects
-  first : (P : Object → Type 0) (o : Object) → slice_get later 0 ≡ Some o → P new → P o
-  first P o e h = subst P (same_some e) h
+  -- of each object: of the new one, and of those that were there
+  of_each : (P : Object → Type 0) → P new → ((i : ℕ) (o : Object) → slice_get objects i ≡ Some o → P o) → (i : ℕ) (o : Object) → slice_get later i ≡ Some o → P o
+  of_each P here more zero o g = subst P (same_some g) here
+  of_each P here more (suc i) o g = more i o g
 
   apart_new : LieApart c.program later (start_statics c.program) (slice_index s.words NEXT_FREE_WORD)
   apart_new = record {
     beside = beside;
     differ = facts.apart.differ;
-    mixed = mixed;
-    begin = begin;
-    below = below;
-    inside = inside;
-    sized = sized;
+    mixed = λ i j o v g h. of_each (λ z. IsOutside z v.word)
+        (inl (omega (arith, (static_low lies c objects s marked facts v.word (v, contains_got (start_statics c.program) j v h, refl)).1, k.begins))) (λ i o g. facts.apart.mixed i j o v g h) i o g;
+    begin = of_each (λ z. FIRST_READY_WORD ≤ z.reference) (omega (arith, k.begins)) facts.apart.begin;
+    below = of_each (λ z. object_end z ≤ slice_index s.words NEXT_FREE_WORD) (omega (arith, k.below, ends)) facts.apart.below;
+    inside = of_each (λ z. object_end z ≤ c.program.heap) (omega (arith, k.inside, ends)) facts.apart.inside;
+    sized = of_each (λ z. z.class ≢ INT_ARRAY_CLASS → length z.values ≡ instances_among z.class c.program.fields) sized_new facts.apart.sized;
     statics_begin = facts.apart.statics_begin;
     statics_below = facts.apart.statics_below;
     there = facts.apart.there;
@@ -93,29 +95,9 @@ module _ (lies : StartLiesApart) (maker : Maker) where
     where
       beside : (i j : ℕ) (o e : Object) → slice_get later i ≡ Some o → slice_get later j ≡ Some e → i ≢ j → IsBeside o e
       beside zero zero o e g h n = absurd (n refl)
-      beside zero (suc j) o e g h n = first (λ z. IsBeside z e) o g (beside_new e (contains_got objects j e h))
-      beside (suc i) zero o e g h n = first (λ z. IsBeside o z) e h (turned new o (beside_new o (contains_got objects i o g)))
+      beside zero (suc j) o e g h n = subst (λ (z : Object). IsBeside z e) (same_some g) (beside_new e (contains_got objects j e h))
+      beside (suc i) zero o e g h n = subst (λ (z : Object). IsBeside o z) (same_some h) (turned new o (beside_new o (contains_got objects i o g)))
       beside (suc i) (suc j) o e g h n = facts.apart.beside i j o e g h (λ same. n (ap suc same))
-
-      mixed : (i j : ℕ) (o : Object) (v : StaticValue) → slice_get later i ≡ Some o → slice_get (start_statics c.program) j ≡ Some v → IsOutside o v.word
-      mixed zero j o v g h = first (λ z. IsOutside z v.word) o g (inl (omega (arith, (static_low lies c objects s marked facts v.word (v, contains_got (start_statics c.program) j v h, refl)).1, k.begins)))
-      mixed (suc i) j o v g h = facts.apart.mixed i j o v g h
-
-      begin : (i : ℕ) (o : Object) → slice_get later i ≡ Some o → FIRST_READY_WORD ≤ o.reference
-      begin zero o g = first (λ z. FIRST_READY_WORD ≤ z.reference) o g (omega (arith, k.begins))
-      begin (suc i) o g = facts.apart.begin i o g
-
-      below : (i : ℕ) (o : Object) → slice_get later i ≡ Some o → object_end o ≤ slice_index s.words NEXT_FREE_WORD
-      below zero o g = first (λ z. object_end z ≤ slice_index s.words NEXT_FREE_WORD) o g (omega (arith, k.below, ends))
-      below (suc i) o g = facts.apart.below i o g
-
-      inside : (i : ℕ) (o : Object) → slice_get later i ≡ Some o → object_end o ≤ c.program.heap
-      inside zero o g = first (λ z. object_end z ≤ c.program.heap) o g (omega (arith, k.inside, ends))
-      inside (suc i) o g = facts.apart.inside i o g
-
-      sized : (i : ℕ) (o : Object) → slice_get later i ≡ Some o → o.class ≢ INT_ARRAY_CLASS → length o.values ≡ instances_among o.class c.program.fields
-      sized zero o g = first (λ z. z.class ≢ INT_ARRAY_CLASS → length z.values ≡ instances_among z.class c.program.fields) o g sized_new
-      sized (suc i) o g = facts.apart.sized i o g
 
   -- ---- places
 
@@ -136,22 +118,20 @@ module _ (lies : StartLiesApart) (maker : Maker) where
 
   places_new : PlacesHold c.program later after
   places_new = record {
-    headers = λ o l. headers_of l.0 o (contained_got later o l);
+    headers = λ o l. of_each (λ z. slice_index after (header_word z.reference) ≡ header_of z)
+        (set_here s.words (header_word a) word (omega (arith, k.inside, size_two c.program word, facts.unused.many)) ∙ sym (new_header c.program is_program a word header))
+        (λ i o g. let l = contains_got objects i o g in unchanged (header_word o.reference) (elsewhere o (header_word o.reference) l (omega arith) (omega arith)) ∙ facts.typed.places.headers o l)
+        l.0 o (contained_got later o l);
     fields = λ o number f l g n class. fields_of l.0 o number f (contained_got later o l) g n class;
-    elements = λ o i l array lt. elements_of l.0 o i (contained_got later o l) array lt;
+    elements = λ o i l. of_each (λ z. z.class ≡ INT_ARRAY_CLASS → i < length z.values → slice_index after (value_word z.reference i) < 2 ^ 32) (λ array lt. omega (arith, empty_value i lt))
+        (λ j o g array lt. let l = contains_got objects j o g in subst (λ v. v < 2 ^ 32) (sym (unchanged (value_word o.reference i) (elsewhere o (value_word o.reference i) l (omega arith) (omega (arith, lt))))) (facts.typed.places.elements o i l array lt))
+        l.0 o (contained_got later o l);
     statics = λ number f g e. statics_of number f g e;
   }
     where
-      headers_of : (j : ℕ) (o : Object) → slice_get later j ≡ Some o → slice_index after (header_word o.reference) ≡ header_of o
-      headers_of zero o g = first (λ z. slice_index after (header_word z.reference) ≡ header_of z) o g
-          (set_here s.words (header_word a) word (omega (arith, k.inside, size_two c.program word, facts.unused.many)) ∙ sym (new_header c.program is_program a word header))
-      headers_of (suc j) o g =
-          let l = contains_got objects j o g in
-          unchanged (header_word o.reference) (elsewhere o (header_word o.reference) l (omega arith) (omega arith)) ∙ facts.typed.places.headers o l
-
       fields_of : (j : ℕ) (o : Object) (number : ℕ) (f : FieldInfo) → slice_get later j ≡ Some o → slice_get c.program.fields number ≡ Some f → is_static f.flags ≡ false → o.class ≡ f.class
           → KindHolds (HasClass later) f.kind (slice_index after (value_word o.reference f.index))
-      fields_of zero o number f g e n class = first (λ z. z.class ≡ f.class → KindHolds (HasClass later) f.kind (slice_index after (value_word z.reference f.index))) o g
+      fields_of zero o number f g e n class = subst (λ (z : Object). z.class ≡ f.class → KindHolds (HasClass later) f.kind (slice_index after (value_word z.reference f.index))) (same_some g)
           (λ class. zero_holds (HasClass later) f.kind (slice_index after (value_word a f.index)) (empty_value f.index (inside_new class))) class
         where
           inside_new : new.class ≡ f.class → f.index < length new.values
@@ -164,12 +144,6 @@ module _ (lies : StartLiesApart) (maker : Maker) where
           let inside : f.index < length o.values = subst (λ i. f.index < i) (sym sized) (subst (λ d. f.index < instances_among d c.program.fields) (sym class) (instances_inside c.program number f is_program e n)) in
           let same = unchanged (value_word o.reference f.index) (elsewhere o (value_word o.reference f.index) l (omega arith) (omega (arith, inside))) in
           subst (KindHolds (HasClass later) f.kind) (sym same) (kind_up (HasClass objects) (HasClass later) up_class f.kind (slice_index s.words (value_word o.reference f.index)) (facts.typed.places.fields o number f l e n class))
-
-      elements_of : (j : ℕ) (o : Object) (i : ℕ) → slice_get later j ≡ Some o → o.class ≡ INT_ARRAY_CLASS → i < length o.values → slice_index after (value_word o.reference i) < 2 ^ 32
-      elements_of zero o i g array lt = first (λ z. i < length z.values → slice_index after (value_word z.reference i) < 2 ^ 32) o g (λ lt. omega (arith, empty_value i lt)) lt
-      elements_of (suc j) o i g array lt =
-          let l = contains_got objects j o g in
-          subst (λ v. v < 2 ^ 32) (sym (unchanged (value_word o.reference i) (elsewhere o (value_word o.reference i) l (omega arith) (omega (arith, lt))))) (facts.typed.places.elements o i l array lt)
 
       statics_of : (number : ℕ) (f : FieldInfo) → slice_get c.program.fields number ≡ Some f → is_static f.flags ≡ true → KindHolds (HasClass later) f.kind (slice_index after f.index)
       statics_of number f e s_is =
@@ -186,15 +160,14 @@ module _ (lies : StartLiesApart) (maker : Maker) where
     unused = λ n le. unchanged n (λ e. omega (arith, e, le, k.below, size_two c.program word));
     apart = apart_new;
     places = places_new;
-    headers = λ o l. headers_of l.0 o (contained_got later o l);
+    headers = λ o l. of_each (λ z. IsHeader c.program (header_of z)) (subst (IsHeader c.program) (sym (new_header c.program is_program a word header)) header)
+        (λ i o g. facts.headers o (contains_got objects i o g)) l.0 o (contained_got later o l);
     new = λ u z b other n differ e m from to. unchanged n (new_elsewhere u z b other n differ e m from to);
-    beside = λ u z b other differ e m o l. beside_of l.0 u z b other differ e m o (contained_got later o l);
+    beside = λ u z b other differ e m o l. of_each (λ y. (object_end y ≤ b) ⊎ (b + size_by c.program other ≤ y.reference))
+        (⊎_elim (λ (h : a + size_by c.program word ≤ b). inl (omega (arith, h, ends))) (λ (h : b + size_by c.program other ≤ a). inr h) (sides u z b other differ e m))
+        (λ i o g. let other_new = facts.new_objects.each u z b other e m in other_new.beside o (contains_got objects i o g)) l.0 o (contained_got later o l);
   }
     where
-      headers_of : (j : ℕ) (o : Object) → slice_get later j ≡ Some o → IsHeader c.program (header_of o)
-      headers_of zero o g = first (λ z. IsHeader c.program (header_of z)) o g (subst (IsHeader c.program) (sym (new_header c.program is_program a word header)) header)
-      headers_of (suc j) o g = facts.headers o (contains_got objects j o g)
-
       sides : (u : ℕ) (z : Thread) (b other : ℕ) → u ≢ t → slice_get s.threads u ≡ Some z → z.phase ≡ phases.Made b other → (a + size_by c.program word ≤ b) ⊎ (b + size_by c.program other ≤ a)
       sides u z b other differ e m = facts.new_objects.apart t u x z a b word other there e (λ same. differ (sym same)) made m
 
@@ -202,12 +175,6 @@ module _ (lies : StartLiesApart) (maker : Maker) where
       new_elsewhere u z b other n differ e m from to same = ⊎_elim
           (λ (h : a + size_by c.program word ≤ b). omega (arith, h, same, from, size_two c.program word))
           (λ (h : b + size_by c.program other ≤ a). omega (arith, h, same, to)) (sides u z b other differ e m)
-
-      beside_of : (j u : ℕ) (z : Thread) (b other : ℕ) → u ≢ t → slice_get s.threads u ≡ Some z → z.phase ≡ phases.Made b other → (o : Object) → slice_get later j ≡ Some o
-          → (object_end o ≤ b) ⊎ (b + size_by c.program other ≤ o.reference)
-      beside_of zero u z b other differ e m o g = first (λ y. (object_end y ≤ b) ⊎ (b + size_by c.program other ≤ y.reference)) o g (⊎_elim
-          (λ (h : a + size_by c.program word ≤ b). inl (omega (arith, h, ends))) (λ (h : b + size_by c.program other ≤ a). inr h) (sides u z b other differ e m))
-      beside_of (suc j) u z b other differ e m o g = let other_new = facts.new_objects.each u z b other e m in other_new.beside o (contains_got objects j o g)
 
   pub class_new : HasClass later (header_class word) a
   class_new = (new, contains_first new objects, refl, refl)

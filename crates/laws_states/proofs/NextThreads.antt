@@ -6,8 +6,8 @@ use Rattle.laws_programs.proofs.LocalGoing.{at_index}
 use Rattle.checked_program.specs.MarkedProgram.{MarkedProgram}
 use Rattle.machine_types.specs.{Bounds.part_roots, Core.{Core, may_begin, may_begin_by, how_ended, next, next_threads, part_begins, with_roots}, Facts.IsThread, Lawful.IsLawful}
 use Rattle.machine_types.{specs.{Parts.{run_roots, done_roots}, Threads.Thread, declared.{config.Config.Config, phase.Phase.Phase}}, proofs.AtStart.all_among}
-use Rattle.laws_threads.{specs.PartLaws.PartFits, proofs.{Lists.mapped_at, PartSteps.returned}}
-use Rattle.laws_states.{specs.RunFacts.AreThreads, proofs.PartLawful.{IsBetween, is_idle, has_returned as is_returned, lawful_anew, lawful_seen}}
+use Rattle.laws_threads.{specs.PartLaws.PartFits, proofs.PartSteps.returned}
+use Rattle.laws_states.{specs.RunFacts.AreThreads, proofs.{Lists.{first_each, mapped_each}, PartLawful.{IsBetween, is_idle, has_returned as is_returned, lawful_anew, lawful_seen}}}
 use Rattle.jvm_types.specs.declared.outcome.End.TheVariants as ends
 use Rattle.machine_types.specs.declared.phase.Phase.TheVariants as phases
 
@@ -56,39 +56,22 @@ AreThreadsOf c cfg s ts = AreThreads c cfg (record s { threads = ts })
 workers_run : (c : MarkedProgram) (cfg : Config) (s : Core) (x : Thread) (workers : List Thread) → AreThreadsOf c cfg s (x ∷ workers) → x.part ≡ 0 → x.phase ≡ phases.Ended ends.Returned → AreThreadsOf c cfg s (seen x ∷ map (begun c) workers)
 workers_run c cfg s x workers h e over = record {
   count = ap suc (length-map workers (begun c)) ∙ h.count;
-  own = λ t y g. thread_at t y g;
-  lawful = λ t y g. lawful_at t y g;
+  own = mapped_each (IsThread c cfg) (seen x) (begun c) workers (seen_is c cfg x (h.own 0 x refl) e (h.lawful 0 x refl)) (λ i w g. worker_is c cfg i w (h.own (suc i) w g) (idle_at i w g) (h.lawful (suc i) w g));
+  lawful = mapped_each (λ t y. IsLawful c y) (seen x) (begun c) workers (lawful_seen c x (how_ended x.phase) (h.own 0 x refl).number e (h.lawful 0 x refl))
+      (λ i w g. worker_lawful c cfg i w (h.own (suc i) w g) (idle_at i w g) (h.lawful (suc i) w g));
   parts = over;
 }
   where
     idle_at : (i : ℕ) (w : Thread) → slice_get workers i ≡ Some w → w.phase ≡ phases.Idle
     idle_at i w g = at_index (λ w. w.phase ≡ phases.Idle) workers i w (subst (λ (n : ℕ). PartFits n x.phase workers) e h.parts) g
 
-    thread_at : (t : ℕ) (y : Thread) → slice_get (seen x ∷ map (begun c) workers) t ≡ Some y → IsThread c cfg t y
-    thread_at zero y g = let same : seen x ≡ y = cc in subst (IsThread c cfg 0) same (seen_is c cfg x (h.own 0 x refl) e (h.lawful 0 x refl))
-    thread_at (suc i) y g = let w = mapped_at (begun c) workers i y g in
-        subst (IsThread c cfg (suc i)) w.2 (worker_is c cfg i w.0 (h.own (suc i) w.0 w.1) (idle_at i w.0 w.1) (h.lawful (suc i) w.0 w.1))
-
-    lawful_at : (t : ℕ) (y : Thread) → slice_get (seen x ∷ map (begun c) workers) t ≡ Some y → IsLawful c y
-    lawful_at zero y g = let same : seen x ≡ y = cc in subst (IsLawful c) same (lawful_seen c x (how_ended x.phase) (h.own 0 x refl).number e (h.lawful 0 x refl))
-    lawful_at (suc i) y g = let w = mapped_at (begun c) workers i y g in
-        subst (IsLawful c) w.2 (worker_lawful c cfg i w.0 (h.own (suc i) w.0 w.1) (idle_at i w.0 w.1) (h.lawful (suc i) w.0 w.1))
-
 done_runs : (c : MarkedProgram) (cfg : Config) (s : Core) (x : Thread) (workers : List Thread) → AreThreadsOf c cfg s (x ∷ workers) → x.phase ≡ phases.Ended ends.Returned → AreThreadsOf c cfg s (last c x ∷ workers)
 done_runs c cfg s x workers h over = record {
   count = h.count;
-  own = λ t y g. thread_at t y g;
-  lawful = λ t y g. lawful_at t y g;
+  own = first_each (IsThread c cfg) (last c x) workers (last_is c cfg x (h.own 0 x refl) over (h.lawful 0 x refl)) (λ i. h.own (suc i));
+  lawful = first_each (λ t y. IsLawful c y) (last c x) workers (last_lawful c cfg x (h.own 0 x refl) over (h.lawful 0 x refl)) (λ i. h.lawful (suc i));
   parts = tt;
 }
-  where
-    thread_at : (t : ℕ) (y : Thread) → slice_get (last c x ∷ workers) t ≡ Some y → IsThread c cfg t y
-    thread_at zero y g = let same : last c x ≡ y = cc in subst (IsThread c cfg 0) same (last_is c cfg x (h.own 0 x refl) over (h.lawful 0 x refl))
-    thread_at (suc i) y g = h.own (suc i) y g
-
-    lawful_at : (t : ℕ) (y : Thread) → slice_get (last c x ∷ workers) t ≡ Some y → IsLawful c y
-    lawful_at zero y g = let same : last c x ≡ y = cc in subst (IsLawful c) same (last_lawful c cfg x (h.own 0 x refl) over (h.lawful 0 x refl))
-    lawful_at (suc i) y g = h.lawful (suc i) y g
 
 part_run : (c : MarkedProgram) (cfg : Config) (s : Core) (x : Thread) (workers : List Thread) (n : ℕ) → x.part ≡ n → AreThreadsOf c cfg s (x ∷ workers) → may_begin_by n x.phase workers ≡ true → AreThreadsOf c cfg s (part_begins c.program n x workers)
 part_run c cfg s x workers zero e k may = workers_run c cfg s x workers k e (returned x.phase may)

@@ -5,8 +5,9 @@ use Rattle.checked_program.specs.MarkedProgram.{MarkedProgram}
 use Rattle.machine_types.specs.Core.{start, start_thread, part_phase, ended_by, may_begin_by, may_begin, with_roots, how_ended, part_begins, next_threads}
 use Rattle.machine_types.specs.{Parts.{init_roots, run_roots, done_roots, has_returned, has_finished}, Threads.Thread, declared.{config.Config.Config, phase.Phase.Phase}}
 use Rattle.machine_types.proofs.AtStart.{is_start_thread}
-use Rattle.laws_threads.proofs.{Lists.mapped_at, PartSteps.one_of_all}
+use Rattle.laws_threads.proofs.PartSteps.{one_of_all}
 use Rattle.laws_states.specs.{PartsLaws.{StartStandsInParts, NextKeepsParts, StartHasNoAttempts, NextMakesNoAttempts}, PartsStand.{FirstFits, HasReturned, HasFinished, DoneRoots, PartsStand}}
+use Rattle.laws_states.proofs.Lists.{first_each, mapped_each}
 use Rattle.jvm_types.specs.declared.outcome.End.TheVariants as ends
 use Rattle.machine_types.specs.declared.phase.Phase.TheVariants as phases
 
@@ -60,12 +61,8 @@ module _ (p : Program) (x : Thread) (workers : List Thread) (old : PartsStand p 
     few = λ y e. let same : seen ≡ y = cc in subst (λ (z : Thread). z.part ≤ 2) same (omega arith);
     workers = λ y z u e late f. let same : seen ≡ y = cc in absurd (subst (λ (z : Thread). 2 ≤ z.part → ⊥) same (λ k. absurd (omega (arith, k))) late);
     done = λ y e late. let same : seen ≡ y = cc in absurd (subst (λ (z : Thread). 2 ≤ z.part → ⊥) same (λ k. absurd (omega (arith, k))) late);
-    returned = back;
+    returned = mapped_each (λ t z. HasReturned z.phase → z.roots ≡ []) seen (with_roots (run_roots p)) workers (old.returned 0 x refl) (λ t w e. part_returned (run_roots p));
   }
-    where
-      back : (t : ℕ) (y : Thread) → slice_get (seen ∷ map (with_roots (run_roots p)) workers) t ≡ Some y → HasReturned y.phase → y.roots ≡ []
-      back zero y e = let same : seen ≡ y = cc in subst (λ (z : Thread). HasReturned z.phase → z.roots ≡ []) same (old.returned 0 x refl)
-      back (suc t) y e = let from = mapped_at (with_roots (run_roots p)) workers t y e in subst (λ (z : Thread). HasReturned z.phase → z.roots ≡ []) from.2 (part_returned (run_roots p))
 
   abbrev last : Thread
   last = with_roots (done_roots p) (record x { part = 2 })
@@ -80,12 +77,8 @@ module _ (p : Program) (x : Thread) (workers : List Thread) (old : PartsStand p 
     few = λ y e. let same : last ≡ y = cc in subst (λ (z : Thread). z.part ≤ 2) same (omega arith);
     workers = λ y z u e late f. has_ended z.phase (one_of_all (λ w. ended_by has_finished w.phase) workers u z all f);
     done = λ y e late. let same : last ≡ y = cc in subst (λ (z : Thread). DoneRoots p z.phase z.roots) same (done_first (done_roots p) refl);
-    returned = back;
+    returned = first_each (λ t z. HasReturned z.phase → z.roots ≡ []) last workers (part_returned (done_roots p)) (λ t. old.returned (suc t));
   }
-    where
-      back : (t : ℕ) (y : Thread) → slice_get (last ∷ workers) t ≡ Some y → HasReturned y.phase → y.roots ≡ []
-      back zero y e = let same : last ≡ y = cc in subst (λ (z : Thread). HasReturned z.phase → z.roots ≡ []) same (part_returned (done_roots p))
-      back (suc t) y e = old.returned (suc t) y e
 
   part_stands : (part : ℕ) → x.part ≡ part → (may : Bool) → may_begin_by part x.phase workers ≡ may → PartsStand p (if may then part_begins p part x workers else x ∷ workers)
   part_stands part e false f = old
@@ -100,10 +93,8 @@ next_keeps_parts c s stand = (elim s.threads as (λ (threads : List Thread). Par
 -- ---- attempts
 
 part_none : (p : Program) (part : ℕ) (x : Thread) (workers : List Thread) → ((t : ℕ) (y : Thread) → slice_get (x ∷ workers) t ≡ Some y → y.attempt ≡ None) → (t : ℕ) (y : Thread) → slice_get (part_begins p part x workers) t ≡ Some y → y.attempt ≡ None
-part_none p zero x workers none zero y e = let same : record x { part = 1; first = how_ended x.phase } ≡ y = cc in subst (λ (z : Thread). z.attempt ≡ None) same (none 0 x refl)
-part_none p zero x workers none (suc t) y e = let from = mapped_at (with_roots (run_roots p)) workers t y e in subst (λ (z : Thread). z.attempt ≡ None) from.2 (none (suc t) from.0 from.1)
-part_none p (suc part) x workers none zero y e = let same : with_roots (done_roots p) (record x { part = 2 }) ≡ y = cc in subst (λ (z : Thread). z.attempt ≡ None) same (none 0 x refl)
-part_none p (suc part) x workers none (suc t) y e = none (suc t) y e
+part_none p zero x workers none = mapped_each (λ t z. z.attempt ≡ None) (record x { part = 1; first = how_ended x.phase }) (with_roots (run_roots p)) workers (none 0 x refl) (λ t. none (suc t))
+part_none p (suc part) x workers none = first_each (λ t z. z.attempt ≡ None) (with_roots (done_roots p) (record x { part = 2 })) workers (none 0 x refl) (λ t. none (suc t))
 
 pub next_makes_none : NextMakesNoAttempts
 next_makes_none c s none = by_threads s.threads none
