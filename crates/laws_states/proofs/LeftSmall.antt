@@ -1,5 +1,5 @@
 -- What an event leaves of a word is below 2^64, and what it adds to a counter is little.
-use Rattle.std.proofs.Common.{◌≡◌, ◌⊎◌, inl, inr, ℕ, zero, suc, ◌+◌, ◌*◌, ◌/◌, ◌%◌, ◌^◌, ◌<◌, ◌≤◌, nat_lt, nat_le, Bool, true, false, Option, Some, None, refl, subst, arith, if◌then◌else◌}
+use Rattle.std.proofs.Common.{◌≡◌, ◌⊎◌, inl, inr, ℕ, zero, suc, ◌+◌, ◌*◌, ◌/◌, ◌%◌, ◌^◌, ◌<◌, ◌≤◌, nat_lt, nat_le, Bool, true, false, Option, Some, None, refl, sym, subst, arith, if◌then◌else◌}
 use Rattle.std.proofs.lemmas.Bool.Decides.{nat_tests}
 use Rattle.lists.proofs.ListLaws.{same_some}
 use Rattle.jvm_types.specs.declared.{fixed_words.TheConstants.{NEXT_FREE_WORD, NEXT_TICKET_WORD, NEXT_RECORD_WORD}, program.{Program.Program, Target.Target}}
@@ -7,11 +7,11 @@ use Rattle.checked_program.specs.MarkedProgram.{MarkedProgram}
 use Rattle.machine_types.specs.{Accesses.{accessed, left_by}, Elision.looks, Events.{element_wants, wanted}}
 use Rattle.machine_types.specs.{FoundWords.{Content, Lock, Owner, Bits, Any, effect_content, run_content, leave_content, content_at}, Frames.{Top, top_of, effect_at}}
 use Rattle.machine_types.specs.{Instructions.{has_print_left, effect_wants, run_wants}, LockWords.{lock_by, is_lock_by}}
-use Rattle.machine_types.specs.{Monitors.{Claim, Has, Tries, HasNot, claim, enter_wants, finish_wants, leave_wants, release}, Threads.{Attempt, Thread}, declared.access.Access.Access}
-use Rattle.machine_types.specs.declared.{access.Access.TheVariants.Add, effect.Effect.{Effect, TheVariants.{Goes, Reads, Writes, Indexes, Measures, Raises, Makes, Prints, Calls}}}
+use Rattle.machine_types.specs.{Monitors.{Claim, Has, Tries, HasNot, claim, enter_wants, finish_wants, leave_wants, release}, Threads.{Attempt, Thread}, Words.variable_word, declared.access.Access.Access}
+use Rattle.machine_types.specs.declared.{access.Access.TheVariants.{Load, Store, Add}, effect.Effect.{Effect, TheVariants.{Goes, Reads, Writes, Indexes, Measures, Raises, Makes, Prints, Calls}}}
 use Rattle.machine_types.specs.declared.{lock.Kept.Kept, phase.Phase.Phase}
 use Rattle.laws_threads.proofs.ThreadMove.{begun_by}
-use Rattle.laws_states.{specs.{Counters.most_size, SharedWords.{CountsTo, IsLock, MayStand}}, proofs.{CountedEvents.drawn_by, LeftStands.{leaves, no_access, loaded, looked, checked}}}
+use Rattle.laws_states.{specs.{Counters.most_size, SharedWords.{CountsTo, IsLock, MayStand}}, proofs.{CountedEvents.drawn_by, LeftStands.{Wants, loads, writes, makes, prints, run_wanted, leaves, no_access, loaded}}}
 use Rattle.laws_states.proofs.TopStores.{IsPlace, StoresFit}
 use Rattle.machine_types.specs.declared.lock.Kept.TheVariants as keeps
 use Rattle.machine_types.specs.declared.phase.Phase.TheVariants as phases
@@ -35,33 +35,15 @@ Small n = n < 2 ^ 64
 abbrev pub SumFits : Access → (got : ℕ) → Type 0
 SumFits access got = (w v : ℕ) → Some (Add w v) ≡ Some access → got + v < 2 ^ 64
 
-module _ (s : Thread) (access : Access) (got : ℕ) (small : got < 2 ^ 64) (sum : SumFits access got) where
-  added_small : (w v : ℕ) → Some (Add w v) ≡ Some access → Small (left_by access got)
-  added_small w v e = leaves Small access got small (Add w v) e (sum w v e)
+effect_small : (p : Program) (target : Target) (e : Effect) (access : Access) (got : ℕ) → Wants e access → got < 2 ^ 64 → SumFits access got → StoresFit p target e → Small (left_by access got)
+effect_small p target _ _ got (loads e w) small sum fits = small
+effect_small p target _ _ got (writes v word) small sum fits = fits.1
+effect_small p target _ _ got (makes word size) small sum fits = sum NEXT_FREE_WORD size refl
+effect_small p target _ _ got (prints n) small sum fits = sum NEXT_TICKET_WORD 1 refl
 
-  print_small : (b : Bool) → (if b then Some (Add NEXT_TICKET_WORD 1) else None) ≡ Some access → Small (left_by access got)
-  print_small true e = added_small NEXT_TICKET_WORD 1 e
-  print_small false e = no_access Small access got small e
-
-  effect_small : (p : Program) (target : Target) (pc : ℕ) (e : Effect) → StoresFit p target e → effect_wants s pc e ≡ Some access → Small (left_by access got)
-  effect_small p target pc (Goes to made) fits w = checked Small access got small (nat_le to pc) s.attempt w
-  effect_small p target pc (Calls number) fits w = looked Small access got small s.attempt w
-  effect_small p target pc (Reads v) fits w = loaded Small access got small _ w
-  effect_small p target pc (Writes v word) fits w = leaves Small access got small _ w fits.1
-  effect_small p target pc (Indexes array index stored) fits w = loaded Small access got small _ w
-  effect_small p target pc (Measures array) fits w = loaded Small access got small _ w
-  effect_small p target pc (Raises x) fits w = loaded Small access got small _ w
-  effect_small p target pc (Makes word size) fits w = added_small NEXT_FREE_WORD size w
-  effect_small p target pc (Prints n) fits w = print_small (has_print_left s) w
-  effect_small p target pc e fits w = no_access Small access got small w
-
-  run_small : (p : Program) (at : Option Top) → ((x : Top) → at ≡ Some x → StoresFit p x.target (effect_at p x)) → run_wants p s at ≡ Some access → Small (left_by access got)
-  run_small p None fits w = no_access Small access got small w
-  run_small p (Some at) fits w = effect_small p at.target at.frame.pc (effect_at p at) (fits at refl) w
-
-  element_small : (word : ℕ) (stored : Option ℕ) → ((v : ℕ) → stored ≡ Some v → v < 2 ^ 64) → Some (element_wants word stored) ≡ Some access → Small (left_by access got)
-  element_small word None fits w = loaded Small access got small word w
-  element_small word (Some v) fits w = leaves Small access got small _ w (fits v refl)
+element_small : (access : Access) (got : ℕ) → got < 2 ^ 64 → (word : ℕ) (stored : Option ℕ) → ((v : ℕ) → stored ≡ Some v → v < 2 ^ 64) → Some (element_wants word stored) ≡ Some access → Small (left_by access got)
+element_small access got small word None fits w = loaded Small access got small word w
+element_small access got small word (Some v) fits w = leaves Small access got small _ w (fits v refl)
 
 -- what a phase stores fits a word
 abbrev pub PhaseStores : MarkedProgram → Thread → Phase → Type 0
@@ -109,10 +91,10 @@ pub left_small : (c : MarkedProgram) (s : Thread) (phase : Phase) (access : Acce
     → MayStand s.cfg.range (content_at c s phase) (left_by access got) → Small (left_by access got)
 left_small c s phases.Idle access got few w small sum fits left = no_access Small access got small w
 left_small c s phases.Start access got few w small sum fits left = no_access Small access got small w
-left_small c s phases.Run access got few w small sum fits left = run_small s access got small sum c.program (top_of c.program s.frames) fits w
-left_small c s (phases.Element word stored) access got few w small sum fits left = element_small s access got small sum word stored fits w
+left_small c s phases.Run access got few w small sum fits left = let k = run_wanted c.program s access (top_of c.program s.frames) w in effect_small c.program k.0.target (effect_at c.program k.0) access got k.2 small sum (fits k.0 k.1)
+left_small c s (phases.Element word stored) access got few w small sum fits left = element_small access got small word stored fits w
 left_small c s (phases.Made a word) access got few w small sum fits left = leaves Small access got small _ w fits
-left_small c s (phases.Grow m toward) access got few w small sum fits left = added_small s access got small sum NEXT_RECORD_WORD 1 w
+left_small c s (phases.Grow m toward) access got few w small sum fits left = leaves Small access got small _ w (sum NEXT_RECORD_WORD 1 w)
 left_small c s (phases.Ending e) access got few w small sum fits left = leaves Small access got small _ w small
 left_small c s (phases.Ended e) access got few w small sum fits left = no_access Small access got small w
 left_small c s phase access got few w small sum fits left = may_small s.cfg.range (left_by access got) (content_at c s phase) few (content_is_locking c s phase tt) left
@@ -148,25 +130,11 @@ module _ (access : Access) (began drew : ℕ) where
   looks_adds None e = none e
   looks_adds (Some a) e = no_sum _ e refl tt
 
-  checked_adds : (b : Bool) (a : Option Attempt) → (if b then looks a else None) ≡ Some access → AddsFew access began drew
-  checked_adds true a e = looks_adds a e
-  checked_adds false a e = none e
-
-effect_adds : (p : Program) (target : Target) (s : Thread) (access : Access) (pc : ℕ) (e : Effect) → StoresFit p target e → effect_wants s pc e ≡ Some access → AddsFew access 1 0
-effect_adds p target s access pc (Goes to made) fits w = checked_adds access 1 0 (nat_le to pc) s.attempt w
-effect_adds p target s access pc (Calls number) fits w = looks_adds access 1 0 s.attempt w
-effect_adds p target s access pc (Reads v) fits w = no_sum access 1 0 _ w refl tt
-effect_adds p target s access pc (Writes v word) fits w = no_sum access 1 0 _ w refl tt
-effect_adds p target s access pc (Indexes array index stored) fits w = no_sum access 1 0 _ w refl tt
-effect_adds p target s access pc (Measures array) fits w = no_sum access 1 0 _ w refl tt
-effect_adds p target s access pc (Raises x) fits w = no_sum access 1 0 _ w refl tt
-effect_adds p target s access pc (Makes word size) fits w = by_access access 1 0 _ w (record { counted = inl refl; free = λ k. omega (arith, fits); tickets = λ k. absurd (omega (arith, k)); records = λ k. absurd (omega (arith, k)) })
-effect_adds p target s access pc (Prints n) fits w = by_limit (has_print_left s) w
-  where
-    by_limit : (b : Bool) → (if b then Some (Add NEXT_TICKET_WORD 1) else None) ≡ Some access → AddsFew access 1 0
-    by_limit true w = by_access access 1 0 _ w (record { counted = inr (inl refl); free = λ k. absurd (omega (arith, k)); tickets = λ k. omega arith; records = λ k. absurd (omega (arith, k)) })
-    by_limit false w = none access 1 0 w
-effect_adds p target s access pc e fits w = none access 1 0 w
+effect_adds : (p : Program) (target : Target) (e : Effect) (access : Access) → Wants e access → StoresFit p target e → AddsFew access 1 0
+effect_adds p target _ _ (loads e w) fits = no_sum (Load w) 1 0 (Load w) refl refl tt
+effect_adds p target _ _ (writes v word) fits = no_sum (Store (variable_word v) word) 1 0 (Store (variable_word v) word) refl refl tt
+effect_adds p target _ _ (makes word size) fits = record { counted = inl refl; free = λ k. omega (arith, fits); tickets = λ k. absurd (omega (arith, k)); records = λ k. absurd (omega (arith, k)) }
+effect_adds p target _ _ (prints n) fits = record { counted = inr (inl refl); free = λ k. absurd (omega (arith, k)); tickets = λ k. omega arith; records = λ k. absurd (omega (arith, k)) }
 
 leave_adds : (s : Thread) (m : ℕ) (access : Access) (claimed : Claim) → leave_wants s m claimed ≡ Some access → AddsFew access 0 0
 leave_adds s m access (Has h) w = by_depth (nat_lt 1 h.depth) w
@@ -188,9 +156,9 @@ element_adds word access None w = no_sum access 0 0 _ w refl tt
 element_adds word access (Some v) w = no_sum access 0 0 _ w refl tt
 
 pub adds_few : (c : MarkedProgram) (s : Thread) (phase : Phase) (access : Access) → wanted c s phase ≡ Some access → PhaseStores c s phase → AddsFew access (begun_by phase (top_of c.program s.frames)) (drawn_by phase)
-adds_few c s phases.Run access w fits = (elim (top_of c.program s.frames) as
-    (λ (at : Option Top). ((x : Top) → at ≡ Some x → StoresFit c.program x.target (effect_at c.program x)) → run_wants c.program s at ≡ Some access → AddsFew access (begun_by phases.Run at) 0)
-    [ None ↦ λ fits w. none access 0 0 w | Some at ↦ λ fits w. effect_adds c.program at.target s access at.frame.pc (effect_at c.program at) (fits at refl) w ]) fits w
+adds_few c s phases.Run access w fits =
+    let k = run_wanted c.program s access (top_of c.program s.frames) w in
+    subst (λ (o : Option Top). AddsFew access (begun_by phases.Run o) 0) (sym k.1) (effect_adds c.program k.0.target (effect_at c.program k.0) access k.2 (fits k.0 k.1))
 adds_few c s (phases.Element word stored) access w fits = element_adds word access stored w
 adds_few c s (phases.Throw x class) access w fits = looks_adds access 0 0 s.attempt w
 adds_few c s (phases.Enter m n) access w fits = enter_adds m access (claim s m) w
@@ -223,28 +191,19 @@ abbrev pub IsMade : Phase → Type 0
 IsMade (phases.Made a word) = Unit {0}
 IsMade phase = ⊥
 
-effect_only_adds : (p : Program) (target : Target) (s : Thread) (access : Access) (got pc : ℕ) (e : Effect) → StoresFit p target e → effect_wants s pc e ≡ Some access → effect_content p target e ≡ Any → OnlyAdds access got
-effect_only_adds p target s access got pc (Goes to made) fits w any = absurd (not_locking Lock any tt)
-effect_only_adds p target s access got pc (Calls number) fits w any = absurd (not_locking Lock any tt)
-effect_only_adds p target s access got pc (Writes v word) fits w any = absurd (not_place (effect_content p target (Writes v word)) any fits.0)
-effect_only_adds p target s access got pc (Makes word size) fits w any = adds_by access got _ w (omega arith)
-effect_only_adds p target s access got pc (Prints n) fits w any = (elim (has_print_left s) as (λ (b : Bool). (if b then Some (Add NEXT_TICKET_WORD 1) else None) ≡ Some access → OnlyAdds access got)
-    [ true ↦ λ w. adds_by access got _ w (omega arith) | false ↦ λ w. nowhere access got w ]) w
-effect_only_adds p target s access got pc (Reads v) fits w any = adds_by access got _ w (omega arith)
-effect_only_adds p target s access got pc (Indexes array index stored) fits w any = adds_by access got _ w (omega arith)
-effect_only_adds p target s access got pc (Measures array) fits w any = adds_by access got _ w (omega arith)
-effect_only_adds p target s access got pc (Raises x) fits w any = adds_by access got _ w (omega arith)
-effect_only_adds p target s access got pc e fits w any = nowhere access got w
+effect_only_adds : (p : Program) (target : Target) (e : Effect) (access : Access) (got : ℕ) → Wants e access → StoresFit p target e → effect_content p target e ≡ Any → OnlyAdds access got
+effect_only_adds p target _ _ got (writes v word) fits any = absurd (not_place (effect_content p target (Writes v word)) any fits.0)
+effect_only_adds p target _ _ got (loads e w) fits any = omega arith
+effect_only_adds p target _ _ got (makes word size) fits any = omega arith
+effect_only_adds p target _ _ got (prints n) fits any = omega arith
 
 -- but where a header is stored for the first time
 pub only_adds : (c : MarkedProgram) (s : Thread) (phase : Phase) (access : Access) (got : ℕ) → wanted c s phase ≡ Some access → PhaseStores c s phase → content_at c s phase ≡ Any → (IsMade phase → ⊥) → OnlyAdds access got
 only_adds c s phases.Idle access got w fits any not_made = nowhere access got w
 only_adds c s phases.Start access got w fits any not_made = nowhere access got w
-only_adds c s phases.Run access got w fits any not_made = by_top (top_of c.program s.frames) fits w any
-  where
-    by_top : (at : Option Top) → ((x : Top) → at ≡ Some x → StoresFit c.program x.target (effect_at c.program x)) → run_wants c.program s at ≡ Some access → run_content c.program at ≡ Any → OnlyAdds access got
-    by_top None fits w any = nowhere access got w
-    by_top (Some at) fits w any = effect_only_adds c.program at.target s access got at.frame.pc (effect_at c.program at) (fits at refl) w any
+only_adds c s phases.Run access got w fits any not_made =
+    let k = run_wanted c.program s access (top_of c.program s.frames) w in
+    effect_only_adds c.program k.0.target (effect_at c.program k.0) access got k.2 (fits k.0 k.1) (subst (λ (o : Option Top). run_content c.program o ≡ Any) k.1 any)
 only_adds c s (phases.Element word stored) access got w fits any not_made = absurd (not_place _ any tt)
 only_adds c s (phases.Made a word) access got w fits any not_made = absurd (not_made tt)
 only_adds c s (phases.Grow m toward) access got w fits any not_made = adds_by access got _ w (omega arith)

@@ -2,13 +2,13 @@
 use Rattle.std.proofs.Common.{◌≡◌, ℕ, zero, suc, ◌+◌, ◌-◌, ◌*◌, ◌/◌, ◌%◌, ◌^◌, ◌<◌, ◌≤◌, nat_lt, nat_le, Bool, true, false, ◌&&◌, Option, Some, None, refl, sym, ap, ◌∙◌, subst, arith, ◌==◌, bit_and, bit_or, if◌then◌else◌}
 use Rattle.std.proofs.lemmas.{Bool.Decides.nat_tests, Nat.{or_lt, and_le_l}}
 use Rattle.lists.proofs.ListLaws.{same_some}
-use Rattle.jvm_types.specs.declared.{fixed_words.TheConstants.MONITOR_RECORDS, program.{FieldInfo.FieldInfo, Kind.Kind, Program.Program, Target.Target}}
+use Rattle.jvm_types.specs.declared.{fixed_words.TheConstants.{NEXT_FREE_WORD, NEXT_TICKET_WORD, MONITOR_RECORDS}, program.{FieldInfo.FieldInfo, Kind.Kind, Program.Program, Target.Target}}
 use Rattle.machine_types.specs.{Accesses.left_by, Bounds.PhaseFits, Elision.looks, Events.wanted}
-use Rattle.machine_types.specs.{FoundWords.{kind_content, field_content, variable_content, effect_content, run_content, leave_content, content_at}, Frames.{Top, top_of, effect_at}}
-use Rattle.machine_types.specs.{HeldMonitors.held_at, Instructions.{effect_wants, run_wants}, LockWords.{word_of_lock, lock_by, lock_of, is_lock_by, is_lock_word, next_count}}
+use Rattle.machine_types.specs.{FoundWords.{Content, IntPlace, ReferencePlace, Any, kind_content, field_content, variable_content, effect_content, run_content, leave_content, content_at}, Frames.{Top, top_of, effect_at}}
+use Rattle.machine_types.specs.{HeldMonitors.held_at, Instructions.{has_print_left, effect_wants, run_wants}, LockWords.{word_of_lock, lock_by, lock_of, is_lock_by, is_lock_word, next_count}}
 use Rattle.machine_types.specs.{Monitors.{Claim, Has, Tries, HasNot, claim, count_kept, enter_wants, finish_wants, freed, leave_wants, release, bit_of}, Threads.{Attempt, Thread}}
-use Rattle.machine_types.specs.declared.{access.Access.{Access, TheVariants.Load}, effect.Effect.{Effect, TheVariants.{Goes, Reads, Writes, Calls}}, lock.{Held.Held, Kept.Kept, LockWord.LockWord}}
-use Rattle.machine_types.specs.declared.phase.Phase.{Phase}
+use Rattle.machine_types.specs.declared.{access.Access.{Access, TheVariants.{Load, Store, Add}}, effect.{Effect.Effect, Variable.Variable}, lock.{Held.Held, Kept.Kept, LockWord.LockWord}}
+use Rattle.machine_types.specs.{Words.variable_word, declared.{effect.Effect.TheVariants.{Goes, Reads, Writes, Indexes, Measures, Raises, Makes, Prints, Calls}, phase.Phase.Phase}}
 use Rattle.laws_states.specs.{LeftWords.LeftMayStand, SharedWords.{CountsTo, IsLock, MayStand}}
 use Rattle.jvm_types.specs.declared.program.Kind.TheVariants as kinds
 use Rattle.jvm_types.specs.declared.program.Target.TheVariants as targets
@@ -73,26 +73,59 @@ module _ (P : ℕ → Type 0) (access : Access) (got : ℕ) (may : P got) where
   checked true a e = looked a e
   checked false a e = no_access e
 
+-- ---- the access that an instruction begins with
+
+pub data Wants : Effect → Access → Type 0 where
+  loads : (e : Effect) (w : ℕ) → Wants e (Load w)
+  writes : (v : Variable) (word : ℕ) → Wants (Writes v word) (Store (variable_word v) word)
+  makes : (word size : ℕ) → Wants (Makes word size) (Add NEXT_FREE_WORD size)
+  prints : (n : ℕ) → Wants (Prints n) (Add NEXT_TICKET_WORD 1)
+
+looks_wanted : (e : Effect) (access : Access) (a : Option Attempt) → looks a ≡ Some access → Wants e access
+looks_wanted e access None w = absurd (cc)
+looks_wanted e access (Some a) w = subst (Wants e) (same_some w) (loads e a.monitor)
+
+effect_wanted : (s : Thread) (access : Access) (pc : ℕ) (e : Effect) → effect_wants s pc e ≡ Some access → Wants e access
+effect_wanted s access pc (Goes to made) w = (elim (nat_le to pc) as (λ (b : Bool). (if b then looks s.attempt else None) ≡ Some access → Wants (Goes to made) access)
+    [ true ↦ λ w. looks_wanted (Goes to made) access s.attempt w | false ↦ λ w. absurd (cc) ]) w
+effect_wanted s access pc (Calls number) w = looks_wanted (Calls number) access s.attempt w
+effect_wanted s access pc (Reads v) w = subst (Wants (Reads v)) (same_some w) (loads (Reads v) _)
+effect_wanted s access pc (Writes v word) w = subst (Wants (Writes v word)) (same_some w) (writes v word)
+effect_wanted s access pc (Indexes array index stored) w = subst (Wants (Indexes array index stored)) (same_some w) (loads (Indexes array index stored) _)
+effect_wanted s access pc (Measures array) w = subst (Wants (Measures array)) (same_some w) (loads (Measures array) _)
+effect_wanted s access pc (Raises x) w = subst (Wants (Raises x)) (same_some w) (loads (Raises x) _)
+effect_wanted s access pc (Makes word size) w = subst (Wants (Makes word size)) (same_some w) (makes word size)
+effect_wanted s access pc (Prints n) w = (elim (has_print_left s) as (λ (b : Bool). (if b then Some (Add NEXT_TICKET_WORD 1) else None) ≡ Some access → Wants (Prints n) access)
+    [ true ↦ λ w. subst (Wants (Prints n)) (same_some w) (prints n) | false ↦ λ w. absurd (cc) ]) w
+effect_wanted s access pc e w = absurd (cc)
+
+-- with the instruction
+pub run_wanted : (p : Program) (s : Thread) (access : Access) (top : Option Top) → run_wants p s top ≡ Some access → (x : Top) × (top ≡ Some x) × Wants (effect_at p x) access
+run_wanted p s access None w = absurd (cc)
+run_wanted p s access (Some x) w = (x, refl, effect_wanted s access x.frame.pc (effect_at p x) w)
+
 -- ---- an instruction looks at a lock word; its other accesses are of other words
 
-kind_may : (range : ℕ) (k : Kind) (n : ℕ) → MayStand range (kind_content k) n
-kind_may range (kinds.Ref class) n = tt
-kind_may range k n = tt
+-- what a variable's word may be
+module _ (P : Content → Type 0) (int : P IntPlace) (reference : P ReferencePlace) (any : P Any) where
+  kind_in : (k : Kind) → P (kind_content k)
+  kind_in (kinds.Ref class) = reference
+  kind_in k = int
 
-field_may : (range : ℕ) (f : Option FieldInfo) (n : ℕ) → MayStand range (field_content f) n
-field_may range None n = tt
-field_may range (Some f) n = kind_may range f.kind n
+  field_in : (f : Option FieldInfo) → P (field_content f)
+  field_in None = any
+  field_in (Some f) = kind_in f.kind
 
-variable_may : (range : ℕ) (p : Program) (target : Target) (n : ℕ) → MayStand range (variable_content p target) n
-variable_may range p (targets.Field number) n = field_may range _ n
-variable_may range p target n = tt
+  pub variable_in : (p : Program) (target : Target) → P (variable_content p target)
+  variable_in p (targets.Field number) = field_in _
+  variable_in p target = any
 
 module _ (p : Program) (s : Thread) (access : Access) (got : ℕ) where
   effect_leaves : (pc : ℕ) (target : Target) (e : Effect) → effect_wants s pc e ≡ Some access → MayStand s.cfg.range (effect_content p target e) got → MayStand s.cfg.range (effect_content p target e) (left_by access got)
   effect_leaves pc target (Goes to made) w may = checked (IsLock s.cfg.range) access got may (nat_le to pc) s.attempt w
   effect_leaves pc target (Calls number) w may = looked (IsLock s.cfg.range) access got may s.attempt w
-  effect_leaves pc target (Reads v) w may = variable_may s.cfg.range p target (left_by access got)
-  effect_leaves pc target (Writes v word) w may = variable_may s.cfg.range p target (left_by access got)
+  effect_leaves pc target (Reads v) w may = variable_in (λ (content : Content). MayStand s.cfg.range content (left_by access got)) tt tt tt p target
+  effect_leaves pc target (Writes v word) w may = variable_in (λ (content : Content). MayStand s.cfg.range content (left_by access got)) tt tt tt p target
   effect_leaves pc target e w may = tt
 
   run_leaves : (at : Option Top) → run_wants p s at ≡ Some access → MayStand s.cfg.range (run_content p at) got → MayStand s.cfg.range (run_content p at) (left_by access got)

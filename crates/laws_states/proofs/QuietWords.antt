@@ -1,6 +1,7 @@
 -- Most events change nothing of what the words say of locks.
-use Rattle.std.proofs.Common.{◌≡◌, ◌≢◌, ◌⊎◌, inl, inr, ℕ, ◌<◌, nat_lt, nat_le, Bool, true, false, cond, ◌∷◌, Option, Some, None, refl, sym, ap, ◌∙◌, arith, slice_index, ◌==◌, ◌||◌}
+use Rattle.std.proofs.Common.{◌≡◌, ◌≢◌, ◌⊎◌, inl, inr, ℕ, ◌<◌, nat_lt, nat_le, Bool, true, false, cond, ◌∷◌, Option, Some, None, refl, sym, ap, ◌∙◌, subst, arith, slice_index, ◌==◌, ◌||◌}
 use Rattle.std.proofs.lemmas.Bool.Decides.{nat_tests, Decides-eqb}
+use Rattle.lists.proofs.ListLaws.{same_some}
 use Rattle.jvm_types.specs.{Numbers.has_number, declared.{fixed_words.TheConstants.{NEXT_FREE_WORD, NEXT_TICKET_WORD, NEXT_RECORD_WORD, MONITOR_RECORDS}, program.{Program.Program, Target.Target}}}
 use Rattle.checked_program.specs.MarkedProgram.{MarkedProgram}
 use Rattle.machine_types.specs.{Accesses.{accessed, left_by, words_after}, Events.wanted, FoundWords.{Content, Bits, IntPlace, ReferencePlace, Any, effect_content, run_content, content_at}}
@@ -8,7 +9,7 @@ use Rattle.machine_types.specs.{Frames.{Top, top_of, effect_at}, Instructions.{h
 use Rattle.machine_types.specs.{Threads.Thread, Words.{owner_word, header_word}, declared.{access.Access.{Access, TheVariants.{Store, Add}}, effect.Effect.Effect}}
 use Rattle.machine_types.specs.declared.{effect.Effect.TheVariants.{Goes, Reads, Writes, Calls, Indexes, Measures, Raises, Makes, Prints}, phase.Phase.Phase}
 use Rattle.laws_states.{specs.{HeapFacts.objects_by, Sites.{Site, Counter, OwnerOf, LockOf, NewHeaderOf, site_word, IsThere, Suits}}, proofs.EventWords.{IsLeft, phase_stores, word_at, some_words}}
-use Rattle.laws_states.proofs.{LeftSmall.PhaseStores, LeftStands.{no_access, loaded, looked, checked}, Lists.set_there, Movers.{KnownSites, HeapMover}, TopStores.{IsPlace, StoresFit}}
+use Rattle.laws_states.proofs.{LeftSmall.PhaseStores, LeftStands.{Wants, loads, writes, makes, prints, run_wanted}, Lists.set_there, Movers.{KnownSites, HeapMover}, TopStores.{IsPlace, StoresFit}}
 use Rattle.laws_states.proofs.WordViews.{has_object, views_same, record_there}
 use Rattle.machine_types.specs.declared.lock.LockWord.TheVariants as locks
 use Rattle.machine_types.specs.declared.phase.Phase.TheVariants as phases
@@ -37,29 +38,15 @@ any_is_record site lock suits = absurd (assumption)
 
 -- ---- accesses that leave them
 
-abbrev Same : (got : ℕ) → ℕ → Type 0
-Same got n = n ≡ got
+module _ (site : Site) (lock : IsLockSite site) (got : ℕ) where
+  counter_not : (a : Access) → accessed a ≡ site_word site → accessed a ≢ NEXT_RECORD_WORD → Suits Any site → left_by a got ≡ got
+  counter_not a at d suits = absurd (d (at ∙ any_is_record site lock suits))
 
-module _ (site : Site) (lock : IsLockSite site) (access : Access) (got : ℕ) (at : accessed access ≡ site_word site) where
-  counter_not : (a : Access) → Some a ≡ Some access → accessed a ≢ NEXT_RECORD_WORD → Suits Any site → left_by access got ≡ got
-  counter_not a e d suits = let same : a ≡ access = cc in absurd (d (ap accessed same ∙ at ∙ any_is_record site lock suits))
-
-  effect_leaves : (p : Program) (s : Thread) (pc : ℕ) (target : Target) (e : Effect) → StoresFit p target e → effect_wants s pc e ≡ Some access → Suits (effect_content p target e) site → left_by access got ≡ got
-  effect_leaves p s pc target (Goes to made) fits w suits = checked (Same got) access got refl (nat_le to pc) s.attempt w
-  effect_leaves p s pc target (Calls number) fits w suits = looked (Same got) access got refl s.attempt w
-  effect_leaves p s pc target (Reads v) fits w suits = loaded (Same got) access got refl _ w
-  effect_leaves p s pc target (Writes v word) fits w suits = absurd (place_suits_none (effect_content p target (Writes v word)) site fits.0 lock suits)
-  effect_leaves p s pc target (Indexes array index stored) fits w suits = loaded (Same got) access got refl _ w
-  effect_leaves p s pc target (Measures array) fits w suits = loaded (Same got) access got refl _ w
-  effect_leaves p s pc target (Raises x) fits w suits = loaded (Same got) access got refl _ w
-  effect_leaves p s pc target (Makes word size) fits w suits = counter_not (Add NEXT_FREE_WORD size) w (λ e. absurd (omega (arith, e))) suits
-  effect_leaves p s pc target (Prints n) fits w suits = (elim (has_print_left s) as (λ (b : Bool). cond b (Some (Add NEXT_TICKET_WORD 1)) None ≡ Some access → left_by access got ≡ got)
-      [ true ↦ λ w. counter_not (Add NEXT_TICKET_WORD 1) w (λ e. absurd (omega (arith, e))) suits | false ↦ λ w. no_access (Same got) access got refl w ]) w
-  effect_leaves p s pc target e fits w suits = no_access (Same got) access got refl w
-
-  run_leaves : (p : Program) (s : Thread) (top : Option Top) → ((x : Top) → top ≡ Some x → StoresFit p x.target (effect_at p x)) → run_wants p s top ≡ Some access → Suits (run_content p top) site → left_by access got ≡ got
-  run_leaves p s None fits w suits = no_access (Same got) access got refl w
-  run_leaves p s (Some x) fits w suits = effect_leaves p s x.frame.pc x.target (effect_at p x) (fits x refl) w suits
+  effect_leaves : (p : Program) (target : Target) (e : Effect) (a : Access) → Wants e a → accessed a ≡ site_word site → StoresFit p target e → Suits (effect_content p target e) site → left_by a got ≡ got
+  effect_leaves p target _ _ (loads e w) at fits suits = refl
+  effect_leaves p target _ _ (writes v word) at fits suits = absurd (place_suits_none (effect_content p target (Writes v word)) site fits.0 lock suits)
+  effect_leaves p target _ _ (makes word size) at fits suits = counter_not (Add NEXT_FREE_WORD size) at (λ e. absurd (omega (arith, e))) suits
+  effect_leaves p target _ _ (prints n) at fits suits = counter_not (Add NEXT_TICKET_WORD 1) at (λ e. absurd (omega (arith, e))) suits
 
 -- ---- phases
 
@@ -74,9 +61,11 @@ IsQuiet phase = ⊥
 
 quiet_leaves : (c : MarkedProgram) (s : Thread) (phase : Phase) (site : Site) (access : Access) (got : ℕ) → IsQuiet phase → PhaseStores c s phase → ((a word : ℕ) → phase ≡ phases.Made a word → header_word a ≢ NEXT_RECORD_WORD)
     → IsLockSite site → wanted c s phase ≡ Some access → Suits (content_at c s phase) site → accessed access ≡ site_word site → left_by access got ≡ got
-quiet_leaves c s phases.Run site access got quiet fits apart lock w suits at = run_leaves site lock access got at c.program s (top_of c.program s.frames) fits w suits
+quiet_leaves c s phases.Run site access got quiet fits apart lock w suits at =
+    let k = run_wanted c.program s access (top_of c.program s.frames) w in
+    effect_leaves site lock got c.program k.0.target (effect_at c.program k.0) access k.2 at (fits k.0 k.1) (subst (λ (o : Option Top). Suits (run_content c.program o) site) k.1 suits)
 quiet_leaves c s (phases.Element word stored) site access got quiet fits apart lock w suits at = absurd (place_suits_none IntPlace site tt lock suits)
-quiet_leaves c s (phases.Made a word) site access got quiet fits apart lock w suits at = counter_not site lock access got at (Store (header_word a) word) w (apart a word refl) suits
+quiet_leaves c s (phases.Made a word) site access got quiet fits apart lock w suits at = counter_not site lock got access at (λ e. apart a word refl (ap accessed (same_some w) ∙ e)) suits
 quiet_leaves c s (phases.WaitBit m r) site access got quiet fits apart lock w suits at = absurd (bits_suit_none site lock suits)
 quiet_leaves c s (phases.NotifyOne m r u) site access got quiet fits apart lock w suits at = absurd (bits_suit_none site lock suits)
 quiet_leaves c s (phases.NotifyAll m r) site access got quiet fits apart lock w suits at = absurd (bits_suit_none site lock suits)

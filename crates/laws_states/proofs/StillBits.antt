@@ -2,10 +2,10 @@
 use Rattle.std.proofs.Common.{◌≡◌, ◌⊎◌, inl, inr, ℕ, ◌<◌, ◌^◌, List, Option, Some, None, sym, ap, ◌∙◌, subst, slice_get, slice_index}
 use Rattle.jvm_types.specs.{Numbers.has_flag, declared.{fixed_words.TheConstants.MONITOR_RECORDS, program.{FieldInfo.FieldInfo, Kind.Kind, Program.Program, Target.Target}}}
 use Rattle.checked_program.specs.MarkedProgram.{MarkedProgram}
-use Rattle.machine_types.specs.{Accesses.{left_by, words_after}, Events.wanted, FoundWords.{kind_content, field_content, variable_content, effect_content, run_content, leave_content, content_at}}
+use Rattle.machine_types.specs.{Accesses.{left_by, words_after}, Events.wanted, FoundWords.{Content, effect_content, run_content, leave_content, content_at}}
 use Rattle.machine_types.specs.{Frames.{Top, top_of, effect_at}, Monitors.{Claim, Has, Tries, HasNot, claim}, Owners.Locks, Threads.Thread, Words.bits_word, declared.access.Access.Access}
 use Rattle.machine_types.specs.declared.{access.Access.TheVariants.Load, effect.Effect.{Effect, TheVariants.{Reads, Writes}}, lock.Kept.Kept, phase.Phase.Phase}
-use Rattle.laws_states.{specs.Sites.{BitsOf, Suits}, proofs.{EventWords.{IsLeft, word_at}, Movers.{KnownSites, HeapMover}, WaitingStep.Changes}}
+use Rattle.laws_states.{specs.Sites.{BitsOf, Suits}, proofs.{EventWords.{IsLeft, word_at}, LeftStands.variable_in, Movers.{KnownSites, HeapMover}, WaitingStep.Changes}}
 use Rattle.jvm_types.specs.declared.program.Kind.TheVariants as kinds
 use Rattle.jvm_types.specs.declared.program.Target.TheVariants as targets
 use Rattle.machine_types.specs.declared.lock.Kept.TheVariants as keeps
@@ -13,21 +13,9 @@ use Rattle.machine_types.specs.declared.phase.Phase.TheVariants as phases
 
 -- ---- no instruction accesses them, nor does a release
 
-kind_not : (k : Kind) (r : ℕ) → Suits (kind_content k) (BitsOf r) → ⊥
-kind_not (kinds.Ref class) r suits = suits
-kind_not k r suits = suits
-
-field_not : (f : Option FieldInfo) (r : ℕ) → Suits (field_content f) (BitsOf r) → ⊥
-field_not None r suits = suits
-field_not (Some f) r suits = kind_not f.kind r suits
-
-variable_not : (p : Program) (target : Target) (r : ℕ) → Suits (variable_content p target) (BitsOf r) → ⊥
-variable_not p (targets.Field number) r suits = field_not (slice_get p.fields number) r suits
-variable_not p target r suits = suits
-
 effect_not : (p : Program) (target : Target) (e : Effect) (r : ℕ) → Suits (effect_content p target e) (BitsOf r) → ⊥
-effect_not p target (Reads v) r suits = variable_not p target r suits
-effect_not p target (Writes v word) r suits = variable_not p target r suits
+effect_not p target (Reads v) r suits = variable_in (λ (content : Content). Suits content (BitsOf r) → ⊥) (λ s. s) (λ s. s) (λ s. s) p target suits
+effect_not p target (Writes v word) r suits = variable_in (λ (content : Content). Suits content (BitsOf r) → ⊥) (λ s. s) (λ s. s) (λ s. s) p target suits
 effect_not p target e r suits = suits
 
 run_not : (p : Program) (top : Option Top) (r : ℕ) → Suits (run_content p top) (BitsOf r) → ⊥
