@@ -2,7 +2,8 @@
 use Rattle.std.proofs.Common.{◌≡◌, ◌⊎◌, inl, inr, ℕ, zero, suc, Bool, true, false, List, [], ◌∷◌, map, Some, refl, subst, slice_get, if◌then◌else◌}
 use Rattle.lists.proofs.ListLaws.{same_some}
 use Rattle.jvm_types.specs.declared.program.Program.{Program}
-use Rattle.machine_types.specs.{Core.{part_phase, may_begin, with_roots, part_begins, next_threads}, Parts.{run_roots, done_roots}, Threads.Thread, declared.phase.Phase.Phase}
+use Rattle.machine_types.specs.{Core.{part_phase, may_begin, with_roots, how_ended, part_begins, next_threads}, Parts.{run_roots, done_roots}, Threads.Thread, declared.phase.Phase.Phase}
+use Rattle.laws_states.proofs.Lists.{first_each, mapped_each}
 use Rattle.jvm_types.specs.declared.outcome.End.TheVariants as ends
 use Rattle.machine_types.specs.declared.phase.Phase.TheVariants as phases
 
@@ -28,16 +29,11 @@ fresh_phase (number ∷ roots) = tt
 with_part : (x y : Thread) (roots : List ℕ) → y.frames ≡ x.frames → y.held ≡ x.held → y.attempt ≡ x.attempt → y.cfg ≡ x.cfg → Begins x (with_roots roots y)
 with_part x y roots f h a c = record { frames = f; held = h; attempt = a; cfg = c; phase = inr (fresh_phase roots) }
 
-mapped : (roots : List ℕ) (xs : List Thread) (u : ℕ) (y : Thread) → slice_get (map (with_roots roots) xs) u ≡ Some y → (x : Thread) × (slice_get xs u ≡ Some x) × Begins x y
-mapped roots [] u y e = absurd (cc)
-mapped roots (x ∷ xs) zero y e = (x, refl, subst (Begins x) (same_some e) (with_part x x roots refl refl refl refl))
-mapped roots (x ∷ xs) (suc u) y e = mapped roots xs u y e
-
 part_begun : (p : Program) (part : ℕ) (x : Thread) (workers : List Thread) (u : ℕ) (y : Thread) → slice_get (part_begins p part x workers) u ≡ Some y → (z : Thread) × (slice_get (x ∷ workers) u ≡ Some z) × Begins z y
-part_begun p zero x workers zero y e = (x, refl, subst (Begins x) (same_some e) (record { frames = refl; held = refl; attempt = refl; cfg = refl; phase = inl refl }))
-part_begun p zero x workers (suc u) y e = mapped (run_roots p) workers u y e
-part_begun p (suc part) x workers zero y e = (x, refl, subst (Begins x) (same_some e) (with_part x (record x { part = 2 }) (done_roots p) refl refl refl refl))
-part_begun p (suc part) x workers (suc u) y e = (y, e, same_thread y)
+part_begun p zero x workers = mapped_each (λ u y. (z : Thread) × (slice_get (x ∷ workers) u ≡ Some z) × Begins z y) (record x { part = 1; first = how_ended x.phase }) (with_roots (run_roots p)) workers
+    (x, refl, record { frames = refl; held = refl; attempt = refl; cfg = refl; phase = inl refl }) (λ u w e. (w, e, with_part w w (run_roots p) refl refl refl refl))
+part_begun p (suc part) x workers = first_each (λ u y. (z : Thread) × (slice_get (x ∷ workers) u ≡ Some z) × Begins z y) (with_roots (done_roots p) (record x { part = 2 })) workers
+    (x, refl, with_part x (record x { part = 2 }) (done_roots p) refl refl refl refl) (λ u w e. (w, e, same_thread w))
 
 pub begun : (p : Program) (threads : List Thread) (u : ℕ) (y : Thread) → slice_get (next_threads p threads) u ≡ Some y → (z : Thread) × (slice_get threads u ≡ Some z) × Begins z y
 begun p [] u y e = absurd (cc)

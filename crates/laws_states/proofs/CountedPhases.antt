@@ -32,13 +32,11 @@ counted_either P run was phase old turned new = new
 
 turns_draw_none : (was : Phase) (r : ℕ) → CountsTurns was → drawn_by was ≡ Some r → ⊥
 turns_draw_none (phases.Own m k toward) r is e = is
-turns_draw_none (phases.FatIn m k toward) r is e = is
-turns_draw_none was r is e = cc
+turns_draw_none was r is e = first_of (assumption, cc)
 
 waits_draw_none : (was : Phase) (r : ℕ) → DrawsToWait was → drawn_by was ≡ Some r → ⊥
 waits_draw_none (phases.Own m k toward) r is e = is
-waits_draw_none (phases.FatIn m k toward) r is e = is
-waits_draw_none was r is e = cc
+waits_draw_none was r is e = first_of (assumption, cc)
 
 limit_draws : (e : End) (phase was : Phase) (r : ℕ) → IsLimitAt e phase was → drawn_by was ≡ Some r → drawn_by phase ≡ Some r
 limit_draws ends.Turns phase was r is d = absurd (turns_draw_none was r is d)

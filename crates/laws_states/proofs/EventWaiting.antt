@@ -37,8 +37,7 @@ module _ (words : List ℕ) (r value : ℕ) (inside : bits_word r < length words
 
 calm_must : (words : List ℕ) (t : ℕ) (phase : Phase) → IsCalm phase → MustWait words t phase
 calm_must words t (phases.WaitOut m r) k = absurd k
-calm_must words t (phases.NotifyOne m r u) k = absurd k
-calm_must words t phase k = tt
+calm_must words t phase k = first_of (assumption, grind arith)
 
 module _ (sites : KnownSites) (waiter : WaitMover) where
   open waiter use {records, waiting, mover, mover.{t, x, there, lawful, structured, number, own, state.{was, owners, base.heap.{c, objects, s, facts}}}}
@@ -98,12 +97,8 @@ module _ (sites : KnownSites) (waiter : WaitMover) where
       stays i u small d set = bits_stay s.words r (bit_or (slice_index s.words (bits_word r)) (bit_of x.number)) (there_inside r few) i u (λ g. set_keeps (slice_index s.words (bits_word r)) x.number u) set
 
       only : (i : ℕ) → i < MONITOR_RECORDS → is_bit_set (slice_set s.words (bits_word r) (bit_or (slice_index s.words (bits_word r)) (bit_of x.number))) i t ≡ true → i ≡ r
-      only i small set = by_record (bits_at s.words r (bit_or (slice_index s.words (bits_word r)) (bit_of x.number)) (there_inside r few) i)
-        where
-          by_record : Written s.words r (bit_or (slice_index s.words (bits_word r)) (bit_of x.number)) i
-              ⊎ (slice_index (slice_set s.words (bits_word r) (bit_or (slice_index s.words (bits_word r)) (bit_of x.number))) (bits_word i) ≡ slice_index s.words (bits_word i)) → i ≡ r
-          by_record (inl w) = w.is
-          by_record (inr same) = absurd ((waits_as (phases.WaitBit m r) k).only i small (ap (has_flag (bit_of t)) (sym same) ∙ set))
+      only i small set = elim (bits_at s.words r (bit_or (slice_index s.words (bits_word r)) (bit_of x.number)) (there_inside r few) i)
+          [ inl w ↦ w.is | inr same ↦ absurd ((waits_as (phases.WaitBit m r) k).only i small (ap (has_flag (bit_of t)) (sym same) ∙ set)) ]
 
       must : is_bit_set (slice_set s.words (bits_word r) (bit_or (slice_index s.words (bits_word r)) (bit_of x.number))) r t ≡ true
       must = ap (has_flag (bit_of t)) (set_here s.words (bits_word r) (bit_or (slice_index s.words (bits_word r)) (bit_of x.number)) (there_inside r few))

@@ -1,5 +1,5 @@
 -- What an event leaves of the words for locking and of the counters.
-use Rattle.std.proofs.Common.{◌≡◌, ◌≢◌, ◌⊎◌, inl, inr, ℕ, zero, suc, ◌+◌, ◌*◌, ◌<◌, ◌≤◌, ◌^◌, Bool, true, false, List, ◌∷◌, length, Option, Some, None, refl, ap, sym, subst, ◌∙◌, arith, Contains, slice_index, slice_set, ◌==◌, if◌then◌else◌}
+use Rattle.std.proofs.Common.{⊎_elim, ◌≡◌, ◌≢◌, ◌⊎◌, inl, inr, ℕ, zero, suc, ◌+◌, ◌*◌, ◌<◌, ◌≤◌, ◌^◌, Bool, true, false, List, ◌∷◌, length, Option, Some, None, refl, ap, sym, subst, ◌∙◌, arith, Contains, slice_index, slice_set, ◌==◌, if◌then◌else◌}
 use Rattle.lists.proofs.ListLaws.{same_some}
 use Rattle.jvm_types.specs.declared.{class_numbers.TheConstants.INT_ARRAY_CLASS, fixed_words.TheConstants.{NEXT_FREE_WORD, NEXT_TICKET_WORD, NEXT_RECORD_WORD}}
 use Rattle.jvm_types.specs.declared.program.Program.{Program}
@@ -74,24 +74,23 @@ module _ (mover : HeapMover) where
     touched : (a : Access) → wanted c x x.phase ≡ Some a → performed s.words a ≡ slice_set s.words (accessed a) (left_by a (slice_index s.words (accessed a)))
         → IsAccessOf c.program objects s (content_at c x x.phase) a → (site : Site) → IsThere c.program objects s site
         → (slice_index after (site_word site) ≡ slice_index s.words (site_word site)) ⊎ IsLeft c s.words x site
-    touched a e p k site is = by_word (same_or_not (site_word site) (accessed a))
+    touched a e p k site is = elim (same_or_not (site_word site) (accessed a)) [
+      | inr d ↦ inl (ap (λ (ws : List ℕ). slice_index ws (site_word site)) sets ∙ set_there s.words (accessed a) (site_word site) (left_by a (slice_index s.words (accessed a))) d)
+      | inl d ↦
+          let here : slice_index (slice_set s.words (accessed a) (left_by a (slice_index s.words (accessed a)))) (accessed a) ≡ left_by a (slice_index s.words (accessed a)) =
+          set_here s.words (accessed a) _ (subst (λ (n : ℕ). n < length s.words) (sym k.word) (inside c objects s k.site marked facts k.there)) in
+          inr (record {
+            access = a;
+            wants = e;
+            suits = subst (Suits (content_at c x x.phase)) (differ c objects s k.site site marked facts k.there is (sym k.word ∙ sym d)) k.suits;
+            word = sym d;
+            left = ap (λ (ws : List ℕ). slice_index ws (site_word site)) sets
+                ∙ subst (λ (n : ℕ). slice_index (slice_set s.words (accessed a) (left_by a (slice_index s.words (accessed a)))) n ≡ left_by a (slice_index s.words n)) (sym d) here;
+          })
+    ]
       where
         sets : after ≡ slice_set s.words (accessed a) (left_by a (slice_index s.words (accessed a)))
         sets = ap (words_after s.words) e ∙ p
-
-        by_word : (site_word site ≡ accessed a) ⊎ (site_word site ≢ accessed a) → (slice_index after (site_word site) ≡ slice_index s.words (site_word site)) ⊎ IsLeft c s.words x site
-        by_word (inr d) = inl (ap (λ (ws : List ℕ). slice_index ws (site_word site)) sets ∙ set_there s.words (accessed a) (site_word site) (left_by a (slice_index s.words (accessed a))) d)
-        by_word (inl d) =
-            let here : slice_index (slice_set s.words (accessed a) (left_by a (slice_index s.words (accessed a)))) (accessed a) ≡ left_by a (slice_index s.words (accessed a)) =
-            set_here s.words (accessed a) _ (subst (λ (n : ℕ). n < length s.words) (sym k.word) (inside c objects s k.site marked facts k.there)) in
-            inr (record {
-              access = a;
-              wants = e;
-              suits = subst (Suits (content_at c x x.phase)) (differ c objects s k.site site marked facts k.there is (sym k.word ∙ sym d)) k.suits;
-              word = sym d;
-              left = ap (λ (ws : List ℕ). slice_index ws (site_word site)) sets
-                  ∙ subst (λ (n : ℕ). slice_index (slice_set s.words (accessed a) (left_by a (slice_index s.words (accessed a)))) n ≡ left_by a (slice_index s.words n)) (sym d) here;
-            })
 
     pub word_at : (site : Site) → IsThere c.program objects s site → (slice_index after (site_word site) ≡ slice_index s.words (site_word site)) ⊎ IsLeft c s.words x site
     word_at site is = by_access (wanted c x x.phase) refl (reach c objects s t x marked facts there lawful)
@@ -107,15 +106,14 @@ module _ (mover : HeapMover) where
       -- where the content of the event's access is that of the site
       stands : (site : Site) (content : Content) → IsThere c.program objects s site → (Suits (content_at c x x.phase) site → content_at c x x.phase ≡ content)
           → MayStand x.cfg.range content (slice_index s.words (site_word site)) → MayStand x.cfg.range content (slice_index after (site_word site))
-      stands site content is suits may = by_cases (word_at site is)
-        where
-          by_cases : (slice_index after (site_word site) ≡ slice_index s.words (site_word site)) ⊎ IsLeft c s.words x site → MayStand x.cfg.range content (slice_index after (site_word site))
-          by_cases (inl e) = subst (MayStand x.cfg.range content) (sym e) may
-          by_cases (inr k) =
-              let same : content_at c x x.phase ≡ content = suits k.suits in
-              let found : MayStand x.cfg.range (content_at c x x.phase) (slice_index s.words (site_word site)) = subst (λ (n : Content). MayStand x.cfg.range n (slice_index s.words (site_word site))) (sym same) may in
-              subst (MayStand x.cfg.range content) (sym k.left) (subst (λ (n : Content). MayStand x.cfg.range n (left_by k.access (slice_index s.words (site_word site)))) same
-              (leaves c x k.access (slice_index s.words (site_word site)) (few_threads mover) lawful.bounded k.wants found))
+      stands site content is suits may = elim (word_at site is) [
+        | inl e ↦ subst (MayStand x.cfg.range content) (sym e) may
+        | inr k ↦
+            let same : content_at c x x.phase ≡ content = suits k.suits in
+            let found : MayStand x.cfg.range (content_at c x x.phase) (slice_index s.words (site_word site)) = subst (λ (n : Content). MayStand x.cfg.range n (slice_index s.words (site_word site))) (sym same) may in
+            subst (MayStand x.cfg.range content) (sym k.left) (subst (λ (n : Content). MayStand x.cfg.range n (left_by k.access (slice_index s.words (site_word site)))) same
+            (leaves c x k.access (slice_index s.words (site_word site)) (few_threads mover) lawful.bounded k.wants found))
+      ]
 
       pub records_fit : RecordsFit s.words → RecordsFit after
       records_fit h = record {
@@ -147,9 +145,13 @@ module _ (mover : HeapMover) where
     -- ---- counters
 
     -- it is added to, or nothing is done to it
-    counter_left : (w : ℕ) → IsThere c.program objects s (Counter w) → (slice_index after w ≡ slice_index s.words w)
-        ⊎ ((access : Access) × (wanted c x x.phase ≡ Some access) × (accessed access ≡ w) × (slice_index after w ≤ slice_index s.words w + added access))
-    counter_left w is = by_cases (word_at (Counter w) is)
+    grows : (w most : ℕ) → IsThere c.program objects s (Counter w) → ((access : Access) → wanted c x x.phase ≡ Some access → accessed access ≡ w → added access ≤ most) → slice_index after w ≤ slice_index s.words w + most
+    grows w most is few = ⊎_elim (λ (e : slice_index after w ≡ slice_index s.words w). omega (arith, e))
+        (λ (k : IsLeft c s.words x (Counter w)).
+        let only = only_adds c x x.phase k.access (slice_index s.words w) k.wants phase_stores (counter_suits (content_at c x x.phase) w k.suits) (made_not k x.phase refl) in
+        let less = few k.access k.wants k.word in
+        let left : slice_index after w ≡ left_by k.access (slice_index s.words w) = k.left in
+        omega (arith, left, only, less)) (word_at (Counter w) is)
       where
         made_not : IsLeft c s.words x (Counter w) → (phase : Phase) → x.phase ≡ phase → IsMade phase → ⊥
         made_not k (phases.Made a word) e made =
@@ -157,21 +159,6 @@ module _ (mover : HeapMover) where
             let sites : NewHeaderOf a ≡ Counter w = differ c objects s (NewHeaderOf a) (Counter w) marked facts (t, x, word, there, e) is (ap accessed (same_some wants) ∙ k.word) in
             absurd (cc)
         made_not k phase e made = absurd made
-
-        by_cases : (slice_index after w ≡ slice_index s.words w) ⊎ IsLeft c s.words x (Counter w) → (slice_index after w ≡ slice_index s.words w)
-            ⊎ ((access : Access) × (wanted c x x.phase ≡ Some access) × (accessed access ≡ w) × (slice_index after w ≤ slice_index s.words w + added access))
-        by_cases (inl e) = inl e
-        by_cases (inr k) =
-            let only = only_adds c x x.phase k.access (slice_index s.words w) k.wants phase_stores (counter_suits (content_at c x x.phase) w k.suits) (made_not k x.phase refl) in
-            inr (k.access, k.wants, k.word, subst (λ (n : ℕ). n ≤ slice_index s.words w + added k.access) (sym k.left) only)
-
-    grows : (w most : ℕ) → IsThere c.program objects s (Counter w) → ((access : Access) → wanted c x x.phase ≡ Some access → accessed access ≡ w → added access ≤ most) → slice_index after w ≤ slice_index s.words w + most
-    grows w most is few = by_cases (counter_left w is)
-      where
-        by_cases : (slice_index after w ≡ slice_index s.words w) ⊎ ((access : Access) × (wanted c x x.phase ≡ Some access) × (accessed access ≡ w) × (slice_index after w ≤ slice_index s.words w + added access))
-            → slice_index after w ≤ slice_index s.words w + most
-        by_cases (inl e) = omega (arith, e)
-        by_cases (inr k) = let less : added k.0 ≤ most = few k.0 k.1 k.2 in let left = k.3 in omega (arith, left, less)
 
     abbrev pub began : ℕ
     began = begun_by x.phase (top_of c.program x.frames)

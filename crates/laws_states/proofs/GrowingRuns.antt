@@ -18,6 +18,11 @@ pub one_more : OneMoreHappens
 unfolding core
 one_more c cfg front h = all_append c (start c cfg) front (h ∷ [])
 
+-- what each happening keeps
+pub along : (P : Core → Type 0) (c : MarkedProgram) → ((s : Core) (h : Happening) → P s → P (happened c s h)) → (s : Core) (hs : List Happening) → P s → P (all_happened c s hs)
+along P c keeps s [] k = k
+along P c keeps s (h ∷ hs) k = along P c keeps (happened c s h) hs (keeps s h k)
+
 -- what an event of a thread of a state leaves
 pub event_is : (c : MarkedProgram) (s : Core) (t : ℕ) (x : Thread) → slice_get s.threads t ≡ Some x → event c s t ≡ record { words = words_after s.words (wanted c x x.phase); threads = slice_set s.threads t (behind c s.words x) }
 event_is c s t x e = ap (event_of c s t) e
@@ -44,10 +49,6 @@ happened_words : (c : MarkedProgram) (s : Core) (h : Happening) → length (happ
 happened_words c s (Of t) = event_words c s t (slice_get s.threads t)
 happened_words c s NextPart = refl
 
-all_words : (c : MarkedProgram) (s : Core) (hs : List Happening) → length (all_happened c s hs).words ≡ length s.words
-all_words c s [] = refl
-all_words c s (h ∷ hs) = all_words c (happened c s h) hs ∙ happened_words c s h
-
 -- ---- threads
 
 event_threads : (c : MarkedProgram) (s : Core) (t : ℕ) (o : Option Thread) → length (event_of c s t o).threads ≡ length s.threads
@@ -67,13 +68,9 @@ happened_threads : (c : MarkedProgram) (s : Core) (h : Happening) → length (ha
 happened_threads c s (Of t) = event_threads c s t (slice_get s.threads t)
 happened_threads c s NextPart = next_long c.program s.threads
 
-all_threads : (c : MarkedProgram) (s : Core) (hs : List Happening) → length (all_happened c s hs).threads ≡ length s.threads
-all_threads c s [] = refl
-all_threads c s (h ∷ hs) = all_threads c (happened c s h) hs ∙ happened_threads c s h
-
 pub runs_keep_sizes : RunsKeepSizes
 unfolding core
 runs_keep_sizes c cfg hs = record {
-  words = all_words c (start c cfg) hs;
-  threads = all_threads c (start c cfg) hs ∙ length-map-range_with_len (start_thread c cfg) 0 (c.program.workers + 1);
+  words = along (λ s. length s.words ≡ length (start c cfg).words) c (λ s h k. happened_words c s h ∙ k) (start c cfg) hs refl;
+  threads = along (λ s. length s.threads ≡ c.program.workers + 1) c (λ s h k. happened_threads c s h ∙ k) (start c cfg) hs (length-map-range_with_len (start_thread c cfg) 0 (c.program.workers + 1));
 }

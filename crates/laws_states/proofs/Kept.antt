@@ -112,12 +112,7 @@ module _ (keeps : StructureIsKept) (lies : StartLiesApart) (mover : HeapMover) w
         (assembled (record { before = mover.state; later = later; t = t; after = after; y = now; behind = subst (Behind c objects later s t) (sym words_are) behind; became = new_became }))
 
   thread_kept : HeapFacts c (objects_by c.program x.phase objects) state
-  thread_kept = by_phase (new_or_old x.phase)
-    where
-      by_phase : IsOldPhase x.phase ⊎ ((a : ℕ) × (word : ℕ) × (x.phase ≡ phases.Made a word))
-          → HeapFacts c (objects_by c.program x.phase objects) state
-      by_phase (inl old) = old_kept old
-      by_phase (inr k) = new_kept k.0 k.1 k.2
+  thread_kept = elim (new_or_old x.phase) [ inl old ↦ old_kept old | inr k ↦ new_kept k.0 k.1 k.2 ]
 
 pub events_keep : StructureIsKept → StartLiesApart → EventsKeepHeap
 events_keep keeps lies c objects s t marked facts lawful = (elim (slice_get s.threads t) as

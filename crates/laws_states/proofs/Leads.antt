@@ -40,12 +40,6 @@ has_on objects None (j ∷ b ∷ s) a i on e k = record { object = k.object; the
 has_on objects (Some v) (w ∷ j ∷ b ∷ s) a i on e k = record { object = k.object; there = k.there; is = k.is ∙ sym on; below = (let same : j ≡ i = omega (arith, e.0, on) in subst (λ n. n < length k.object.values) (sym same) k.below) }
 has_on objects stored stack a i on e k = absurd (assumption)
 
-stored_is : (w v : ℕ) (a b : Option ℕ) → phases.Element w a ≡ phases.Element v b → a ≡ b
-stored_is w v a b e = cc
-
-made_is : (a b w v : ℕ) → phases.Made a w ≡ phases.Made b v → (a ≡ b) × (w ≡ v)
-made_is a b w v e = (cc, cc)
-
 -- ---- a new object
 
 pub record MadeNow (p : Program) (s : Core) (after : List ℕ) (a word : ℕ) : Type 0 where
@@ -64,8 +58,7 @@ module _ (state : HeapState) (after : List ℕ) where
 
   waits_of : (phase : Phase) → QuietPhase (HasClass objects) phase → IsWaitOn (HasClass objects) phase
   waits_of (phases.WaitLook m r depth) q = q
-  waits_of (phases.Retake m r depth) q = q
-  waits_of phase q = tt
+  waits_of phase q = assumption
 
   pub quiet_leads : (x : Thread) → Quiet (HasClass objects) x → Leads c objects s after x
   quiet_leads x q = record {
@@ -94,7 +87,7 @@ module _ (state : HeapState) (after : List ℕ) where
         let has : HasElementIn objects stored x.frames = subst (HasElementIn objects stored) (sym there) (has_on objects stored f.stack a (low i) on e (record { object = k.2.0; there = k.2.1; is = k.2.2; below = below })) in
         record {
           monitors = record { held = held; waits = tt };
-          element = λ word v e. subst (λ z. HasElementIn objects z x.frames) (stored_is (value_word a (low i)) word stored v e) has;
+          element = λ word v e. let same : stored ≡ v = cc in subst (λ z. HasElementIn objects z x.frames) same has;
           made = λ b word e. absurd (cc);
         }
 
@@ -106,7 +99,7 @@ module _ (state : HeapState) (after : List ℕ) where
         record {
           monitors = record { held = held; waits = tt };
           element = λ w v e. absurd (cc);
-          made = λ b w e. let same = made_is got b word w e in subst (λ z. MadeNow c.program s after z w) same.0 (subst (MadeNow c.program s after got) same.1 now);
+          made = λ b w e. let at : got ≡ b = cc in let is : word ≡ w = cc in subst (λ z. MadeNow c.program s after z w) at (subst (MadeNow c.program s after got) is now);
         }
 
     -- what the instruction may do
@@ -178,9 +171,7 @@ module _ (state : HeapState) where
   knows : (phase : Phase) (fs : List Frame) → PhaseHolds c (HasClass objects) phase fs → IsWaitOn (HasClass objects) phase → KnowsObject (HasClass objects) phase
   knows (phases.Take m count) fs h w = h.0
   knows (phases.TakeFat m r) fs h w = h.0
-  knows (phases.WaitLook m r depth) fs h w = w
-  knows (phases.Retake m r depth) fs h w = w
-  knows phase fs h w = tt
+  knows phase fs h w = assumption
 
   finds : (x : Thread) (phase : Phase) → Finds state (words_after s.words (wanted c x phase)) phase x.frames (found_by s.words (wanted c x phase))
   finds x phases.Run = λ at found. subst (λ (o : Option Top). Gets state (words_after s.words (run_wants c.program x o)) (effect_at c.program at) (found_by s.words (run_wants c.program x o))) (sym found) (gets x at.frame.pc (effect_at c.program at))

@@ -120,17 +120,11 @@ module _ (P : Content → Type 0) (int : P IntPlace) (reference : P ReferencePla
   variable_in p (targets.Field number) = field_in _
   variable_in p target = any
 
-module _ (p : Program) (s : Thread) (access : Access) (got : ℕ) where
-  effect_leaves : (pc : ℕ) (target : Target) (e : Effect) → effect_wants s pc e ≡ Some access → MayStand s.cfg.range (effect_content p target e) got → MayStand s.cfg.range (effect_content p target e) (left_by access got)
-  effect_leaves pc target (Goes to made) w may = checked (IsLock s.cfg.range) access got may (nat_le to pc) s.attempt w
-  effect_leaves pc target (Calls number) w may = looked (IsLock s.cfg.range) access got may s.attempt w
-  effect_leaves pc target (Reads v) w may = variable_in (λ (content : Content). MayStand s.cfg.range content (left_by access got)) tt tt tt p target
-  effect_leaves pc target (Writes v word) w may = variable_in (λ (content : Content). MayStand s.cfg.range content (left_by access got)) tt tt tt p target
-  effect_leaves pc target e w may = tt
-
-  run_leaves : (at : Option Top) → run_wants p s at ≡ Some access → MayStand s.cfg.range (run_content p at) got → MayStand s.cfg.range (run_content p at) (left_by access got)
-  run_leaves None w may = tt
-  run_leaves (Some at) w may = effect_leaves at.frame.pc at.target (effect_at p at) w may
+effect_leaves : (range : ℕ) (p : Program) (target : Target) (e : Effect) (access : Access) (got : ℕ) → Wants e access → MayStand range (effect_content p target e) got → MayStand range (effect_content p target e) (left_by access got)
+effect_leaves range p target _ _ got (loads e w) may = may
+effect_leaves range p target _ _ got (writes v word) may = variable_in (λ (content : Content). MayStand range content (left_by (Store (variable_word v) word) got)) tt tt tt p target
+effect_leaves range p target _ _ got (makes word size) may = tt
+effect_leaves range p target _ _ got (prints n) may = tt
 
 -- ---- a monitor is left
 
@@ -178,7 +172,10 @@ left_may_stand c s access got number b w may = by_phase s.phase b.phase w may
     range = s.cfg.range
 
     by_phase : (phase : Phase) → PhaseFits phase → wanted c s phase ≡ Some access → MayStand s.cfg.range (content_at c s phase) got → MayStand s.cfg.range (content_at c s phase) (left_by access got)
-    by_phase phases.Run f w may = run_leaves c.program s access got (top_of c.program s.frames) w may
+    by_phase phases.Run f w may =
+        let k = run_wanted c.program s access (top_of c.program s.frames) w in
+        subst (λ (o : Option Top). MayStand s.cfg.range (run_content c.program o) (left_by access got)) (sym k.1)
+        (effect_leaves s.cfg.range c.program k.0.target (effect_at c.program k.0) access got k.2 (subst (λ (o : Option Top). MayStand s.cfg.range (run_content c.program o) got) k.1 may))
     by_phase (phases.Throw x class) f w may = looked (IsLock s.cfg.range) access got may s.attempt w
     by_phase (phases.Enter m tried) f w may = entry_left s m access got number (claim s m) w may
     by_phase (phases.Acquire m) f w may = loaded (IsLock s.cfg.range) access got may m w

@@ -9,11 +9,9 @@ use Rattle.machine_types.specs.declared.phase.Phase.TheVariants as phases
 module _ (v : Locks) (count : ℕ → ℕ) (one owner : ℕ) where
   -- a thread that owns the record neither before nor after has all as before
   words_same : (u : ℕ) (l : LockWord) → (owner == u + 1) ≡ false → (v.owner one == u + 1) ≡ false → hold_by_word u l (set_owner one owner v).owner ≡ hold_by_word u l v.owner
-  words_same u (locks.Free c) e f = refl
-  words_same u (locks.Held i) e f = refl
-  words_same u (locks.Flagged i) e f = refl
   words_same u (locks.Fat r) e f = (elim (one == r) as (λ (b : Bool). (one == r) ≡ b → cond (cond b owner (v.owner r) == u + 1) (HeldFat r) NotHeld ≡ cond (v.owner r == u + 1) (HeldFat r) NotHeld)
       [ true ↦ λ g. ap (λ (b : Bool). cond b (HeldFat r) NotHeld) (e ∙ sym f ∙ ap (λ (i : ℕ). v.owner i == u + 1) ((Decides-eqb one r).0 g)) | false ↦ λ g. refl ]) refl
+  words_same u l e f = refl
 
   -- nor does another record's owner change
   pub words_apart : (u : ℕ) (l : LockWord) → l ≢ locks.Fat one → hold_by_word u l (set_owner one owner v).owner ≡ hold_by_word u l v.owner

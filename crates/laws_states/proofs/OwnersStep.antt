@@ -67,12 +67,11 @@ module _ (mover : LockMover) (owed : Owed mover) where
           owes.others u (was u) z (eqb-false u t g) (owners.each u z old) (was_apart u z g old)
 
   drew : (u : ℕ) (z : Thread) → (u == t) ≡ false → slice_get s.threads u ≡ Some z → (r : ℕ) → drawn_by y.phase ≡ Some r → drawn_by z.phase ≡ Some r → ⊥
-  drew u z g e r a b = by_old (owes.draws r (counted_draws (was t) y.phase r a))
-    where
-      by_old : (drawn_by (was t) ≡ Some r) ⊎ ((locks_of mover.state.base.heap).next ≤ r) → ⊥
-      by_old (inl d) = let st = structure t x there in owners.apart t u x z there e (λ q. eqb-false u t g (sym q)) r (was_draws x.phase (was t) r st.is_as d) b
-      by_old (inr d) =
-          absurd (omega (arith, (drawn_below (locks_of mover.state.base.heap) u r (was u) (owners.each u z e).knows (phase_draws z.phase (was u) r (structure u z e).is_as b)), d))
+  drew u z g e r a b = elim (owes.draws r (counted_draws (was t) y.phase r a)) [
+    | inl d ↦ let st = structure t x there in owners.apart t u x z there e (λ q. eqb-false u t g (sym q)) r (was_draws x.phase (was t) r st.is_as d) b
+    | inr d ↦
+        absurd (omega (arith, (drawn_below (locks_of mover.state.base.heap) u r (was u) (owners.each u z e).knows (phase_draws z.phase (was u) r (structure u z e).is_as b)), d))
+  ]
 
   pub owned_on : Owners later (counted_phase_at was t (slice_set s.threads t y)) (record { words = after; threads = slice_set s.threads t y })
   owned_on = record {

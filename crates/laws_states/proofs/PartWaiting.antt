@@ -4,8 +4,8 @@ use Rattle.jvm_types.specs.declared.{fixed_words.TheConstants.MONITOR_RECORDS, o
 use Rattle.checked_program.specs.MarkedProgram.{MarkedProgram}
 use Rattle.machine_types.specs.{Core.{part_phase, may_begin_by, may_begin, with_roots, how_ended, part_begins, next_threads}, Parts.{run_roots, done_roots}, Structure.{IsLimitAt, IsAs, Structure}}
 use Rattle.machine_types.specs.{Threads.Thread, Waiting.{is_bit_set, MayWait, Waits, Waiting}, declared.phase.Phase.Phase}
-use Rattle.laws_threads.{specs.{PartLaws.{PartFits, PartsFit}, StateLaws.counted_of, StructureLaws.{turned_from, counted_by}}, proofs.{Lists.mapped_at, PartSteps.one_idle}}
-use Rattle.laws_states.{specs.WaitingLaws.NextKeepsWaiting, proofs.CountedPhases.counted_keeps}
+use Rattle.laws_threads.{specs.{PartLaws.{PartFits, PartsFit}, StateLaws.counted_of, StructureLaws.{turned_from, counted_by}}, proofs.PartSteps.one_idle}
+use Rattle.laws_states.{specs.WaitingLaws.NextKeepsWaiting, proofs.{CountedPhases.counted_keeps, Lists.{first_each, mapped_each}}}
 use Rattle.jvm_types.specs.declared.outcome.End.TheVariants as ends
 use Rattle.machine_types.specs.declared.phase.Phase.TheVariants as phases
 
@@ -21,11 +21,8 @@ counted_waits words u was phase is k = counted_keeps (Waits words u) was phase i
 
 -- and when a thread's end is told
 pub ended_waits : (words : List ℕ) (u : ℕ) (was : Phase) (e : End) → IsAs (phases.Ending e) was → Waits words u was → Waits words u (counted_by was (phases.Ended e))
-ended_waits words u was ends.Steps is k = k
-ended_waits words u was ends.Prints is k = k
-ended_waits words u was ends.Turns is k = k
-ended_waits words u was ends.Records is k = k
-ended_waits words u was e is k = let at : Waits words u (phases.Ending e) = subst (Waits words u) is k in record { only = at.only; must = tt }
+ended_waits words u was e is k = (elim e as (λ (e : End). IsAs (phases.Ending e) was → Waits words u (counted_by was (phases.Ended e)))
+    [ ends.Steps ↦ λ is. k | ends.Prints ↦ λ is. k | ends.Turns ↦ λ is. k | ends.Records ↦ λ is. k | e ↦ λ is. record { only = (subst (Waits words u) is k).only; must = tt } ]) is
 
 -- ---- a thread whose part begins
 
@@ -56,16 +53,11 @@ module _ (c : MarkedProgram) (was : ℕ → Phase) (words : List ℕ) (x : Threa
   anew u y roots e rests = begins_none words u (was u) y.phase roots rests (structure u y e).is_as (each u y e)
 
   part_waits : (part : ℕ) → PartFits part x.phase workers → may_begin_by part x.phase workers ≡ true → (u : ℕ) (y : Thread) → slice_get (part_begins c.program part x workers) u ≡ Some y → Waits words u (counted_by (was u) y.phase)
-  part_waits zero fits may zero y e = as_it_was 0 x y refl (let same : record x { part = 1; first = how_ended x.phase } ≡ y = cc in ap (λ (z : Thread). z.phase) (sym same))
-  part_waits zero fits may (suc u) y e =
-      let from = mapped_at (with_roots (run_roots c.program)) workers u y e in
-      let idle : from.0.phase ≡ phases.Idle = one_idle workers u from.0 fits from.1 in
-      subst (λ (z : Thread). Waits words (suc u) (counted_by (was (suc u)) z.phase)) from.2 (anew (suc u) from.0 (run_roots c.program) from.1 (subst Rests (sym idle) is_idle))
-  part_waits (suc zero) fits may zero y e =
-      let same : with_roots (done_roots c.program) (record x { part = 2 }) ≡ y = cc in
-      subst (λ (z : Thread). Waits words 0 (counted_by (was 0) z.phase)) same (anew 0 x (done_roots c.program) refl (subst Rests (sym fits) has_returned))
-  part_waits (suc zero) fits may (suc u) y e = as_it_was (suc u) y y e refl
-  part_waits (suc (suc part)) fits may u y e = absurd (cc)
+  part_waits zero fits may = mapped_each (λ u z. Waits words u (counted_by (was u) z.phase)) (record x { part = 1; first = how_ended x.phase }) (with_roots (run_roots c.program)) workers (as_it_was 0 x (record x { part = 1; first = how_ended x.phase }) refl refl)
+      (λ u w e. let idle : w.phase ≡ phases.Idle = one_idle workers u w fits e in anew (suc u) w (run_roots c.program) e (subst Rests (sym idle) is_idle))
+  part_waits (suc zero) fits may = first_each (λ u z. Waits words u (counted_by (was u) z.phase)) (with_roots (done_roots c.program) (record x { part = 2 })) workers
+      (anew 0 x (done_roots c.program) refl (subst Rests (sym fits) has_returned)) (λ u w e. as_it_was (suc u) w w e refl)
+  part_waits (suc (suc part)) fits may = absurd (cc)
 
   still_there : (part u : ℕ) → IsSome (slice_get (x ∷ workers) u) → IsSome (slice_get (part_begins c.program part x workers) u)
   still_there zero (suc u) k = map_some (with_roots (run_roots c.program)) workers u k

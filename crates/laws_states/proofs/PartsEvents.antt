@@ -16,13 +16,12 @@ use Rattle.machine_types.specs.declared.phase.Phase.TheVariants as phases
 
 pub at_each : (threads : List Thread) (t : ℕ) (x now : Thread) (P : (u : ℕ) → Thread → Type 0) → slice_get threads t ≡ Some x → P t now → ((u : ℕ) (y : Thread) → slice_get threads u ≡ Some y → P u y)
     → (u : ℕ) (y : Thread) → slice_get (slice_set threads t now) u ≡ Some y → P u y
-at_each threads t x now P there here others u y e = by_number (same_or_not u t)
-  where
-    by_number : (u ≡ t) ⊎ (u ≢ t) → P u y
-    by_number (inl k) =
-        let at : slice_get (slice_set threads t now) t ≡ Some y = subst (λ (n : ℕ). slice_get (slice_set threads t now) n ≡ Some y) k e in
-        subst (λ (n : ℕ). P n y) (sym k) (subst (P t) (same_some (sym (got_when_set threads t x now there) ∙ at)) here)
-    by_number (inr d) = others u y (sym (got_other threads t u now d) ∙ e)
+at_each threads t x now P there here others u y e = elim (same_or_not u t) [
+  | inl k ↦
+      let at : slice_get (slice_set threads t now) t ≡ Some y = subst (λ (n : ℕ). slice_get (slice_set threads t now) n ≡ Some y) k e in
+      subst (λ (n : ℕ). P n y) (sym k) (subst (P t) (same_some (sym (got_when_set threads t x now there) ∙ at)) here)
+  | inr d ↦ others u y (sym (got_other threads t u now d) ∙ e)
+]
 
 -- ---- roots by the phase
 

@@ -29,15 +29,11 @@ SiteHolds p objects least site v = Unit {0}
 -- ---- one object at each reference
 
 pub same_object : (p : Program) (objects : List Object) (next : ℕ) → LieApart p objects (start_statics p) next → (o e : Object) → Contains objects o → Contains objects e → o.reference ≡ e.reference → o ≡ e
-same_object p objects next apart o e k l same = by_index (same_or_not k.0 l.0)
-  where
-    by_index : (k.0 ≡ l.0) ⊎ (k.0 ≢ l.0) → o ≡ e
-    by_index (inl i) = same_some (sym (contained_got objects o k) ∙ (ap (slice_get objects) i ∙ contained_got objects e l))
-    by_index (inr n) = by_side (apart.beside k.0 l.0 o e (contained_got objects o k) (contained_got objects e l) n)
-      where
-        by_side : IsBeside o e → o ≡ e
-        by_side (inl h) = absurd (omega (arith, h, same))
-        by_side (inr h) = absurd (omega (arith, h, same))
+same_object p objects next apart o e k l same = elim (same_or_not k.0 l.0) [
+  | inl i ↦ same_some (sym (contained_got objects o k) ∙ (ap (slice_get objects) i ∙ contained_got objects e l))
+  | inr n ↦ elim (apart.beside k.0 l.0 o e (contained_got objects o k) (contained_got objects e l) n)
+      [ inl h ↦ absurd (omega (arith, h, same)) | inr h ↦ absurd (omega (arith, h, same)) ]
+]
 
 -- ---- places are typed just where each site is
 

@@ -68,13 +68,11 @@ module _ (is : Classes) where
 
   leads_quiet : (p : Program) (s : Thread) (got : ℕ) (was now : Phase) → LeadsTo p s got was now → IsNoElement now → KnowsObject was → QuietPhase is now
   leads_quiet p s got _ _ (moves.to_retake m r depth e) n k = k
-  leads_quiet p s got _ _ (moves.to_element at array index stored e f t) n k = n
-  leads_quiet p s got was now m n k = tt
+  leads_quiet p s got was now m n k = assumption
 
   turns_quiet : (s : Thread) (got : ℕ) (was now : Phase) → TurnsTo s got was now → KnowsObject was → QuietPhase is now
   turns_quiet s got _ _ (moves.waits_on m r depth e) k = k
-  turns_quiet s got _ _ (moves.retakes_not m r depth e) k = k
-  turns_quiet s got was now m k = tt
+  turns_quiet s got was now m k = assumption
 
   held_is : (hs : List Held) (m : ℕ) (h : Held) → AllHeld is hs → held_at hs m ≡ Some h → IsObject is h.monitor
   held_is hs m h all e = some_of (λ (g : Held). IsObject is g.monitor) (held_at hs m) h e (found (λ g. IsObject is g.monitor) m hs all)

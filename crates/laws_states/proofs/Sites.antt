@@ -81,16 +81,12 @@ module _ (lies_apart : StartLiesApart) (c : MarkedProgram) (objects : List Objec
   new_begins reference x k = omega (arith, (new_at reference x k).begins, k.from)
 
   old_old : (a b x : ℕ) → InObject objects a x → InObject objects b x → a ≡ b
-  old_old a b x k l = by_index (same_or_not k.there.0 l.there.0)
-    where
-      by_index : (k.there.0 ≡ l.there.0) ⊎ (k.there.0 ≢ l.there.0) → a ≡ b
-      by_index (inl e) =
-          sym k.is ∙ (ap (λ (o : Object). o.reference) (same_some (sym (contained_got objects k.object k.there) ∙ (ap (slice_get objects) e ∙ contained_got objects l.object l.there))) ∙ l.is)
-      by_index (inr n) = by_side (facts.apart.beside k.there.0 l.there.0 k.object l.object (contained_got objects k.object k.there) (contained_got objects l.object l.there) n)
-        where
-          by_side : IsBeside k.object l.object → a ≡ b
-          by_side (inl h) = absurd (omega (arith, h, k.to, l.from, l.is))
-          by_side (inr h) = absurd (omega (arith, h, l.to, k.from, k.is))
+  old_old a b x k l = elim (same_or_not k.there.0 l.there.0) [
+    | inl e ↦
+        sym k.is ∙ (ap (λ (o : Object). o.reference) (same_some (sym (contained_got objects k.object k.there) ∙ (ap (slice_get objects) e ∙ contained_got objects l.object l.there))) ∙ l.is)
+    | inr n ↦ elim (facts.apart.beside k.there.0 l.there.0 k.object l.object (contained_got objects k.object k.there) (contained_got objects l.object l.there) n)
+        [ inl h ↦ absurd (omega (arith, h, k.to, l.from, l.is)) | inr h ↦ absurd (omega (arith, h, l.to, k.from, k.is)) ]
+  ]
 
   old_new : (a b x : ℕ) → InObject objects a x → InNew c.program s b x → ⊥
   old_new a b x k l = ⊎_elim
@@ -98,11 +94,8 @@ module _ (lies_apart : StartLiesApart) (c : MarkedProgram) (objects : List Objec
       (λ (h : b + size_by c.program l.word ≤ k.object.reference). omega (arith, h, l.to, k.from, k.is)) ((new_at b x l).beside k.object k.there)
 
   old_single : (a w x : ℕ) → InObject objects a x → HasStatic c.program w → x ≡ w → ⊥
-  old_single a w x k v e = by_side (facts.apart.mixed k.there.0 v.1.0 k.object v.0 (contained_got objects k.object k.there) (contained_got (start_statics c.program) v.0 v.1))
-    where
-      by_side : IsOutside k.object v.0.word → ⊥
-      by_side (inl h) = omega (arith, h, v.2, e, k.from, k.is)
-      by_side (inr h) = omega (arith, h, v.2, e, k.to)
+  old_single a w x k v e = elim (facts.apart.mixed k.there.0 v.1.0 k.object v.0 (contained_got objects k.object k.there) (contained_got (start_statics c.program) v.0 v.1))
+      [ inl h ↦ omega (arith, h, v.2, e, k.from, k.is) | inr h ↦ omega (arith, h, v.2, e, k.to) ]
 
   made_is : (x y : Thread) (a b word other : ℕ) → x ≡ y → x.phase ≡ phases.Made a word → y.phase ≡ phases.Made b other → a ≡ b
   made_is x y a b word other e h k = made_same (sym h ∙ (ap (λ (z : Thread). z.phase) e ∙ k))
@@ -111,13 +104,12 @@ module _ (lies_apart : StartLiesApart) (c : MarkedProgram) (objects : List Objec
       made_same e = cc
 
   new_new : (a b x : ℕ) → InNew c.program s a x → InNew c.program s b x → a ≡ b
-  new_new a b x k l = by_thread (same_or_not k.t l.t)
-    where
-      by_thread : (k.t ≡ l.t) ⊎ (k.t ≢ l.t) → a ≡ b
-      by_thread (inl e) = made_is k.thread l.thread a b k.word l.word (same_some (sym k.there ∙ (ap (slice_get s.threads) e ∙ l.there))) k.made l.made
-      by_thread (inr n) = ⊎_elim
-          (λ (h : a + size_by c.program k.word ≤ b). absurd (omega (arith, h, k.to, l.from)))
-          (λ (h : b + size_by c.program l.word ≤ a). absurd (omega (arith, h, l.to, k.from))) (facts.new_objects.apart k.t l.t k.thread l.thread a b k.word l.word k.there l.there n k.made l.made)
+  new_new a b x k l = elim (same_or_not k.t l.t) [
+    | inl e ↦ made_is k.thread l.thread a b k.word l.word (same_some (sym k.there ∙ (ap (slice_get s.threads) e ∙ l.there))) k.made l.made
+    | inr n ↦ ⊎_elim
+        (λ (h : a + size_by c.program k.word ≤ b). absurd (omega (arith, h, k.to, l.from)))
+        (λ (h : b + size_by c.program l.word ≤ a). absurd (omega (arith, h, l.to, k.from))) (facts.new_objects.apart k.t l.t k.thread l.thread a b k.word l.word k.there l.there n k.made l.made)
+  ]
 
   pub same_block : (b d : Block) (x : ℕ) → In b x → In d x → b ≡ d
   same_block Fixed Fixed x k l = refl

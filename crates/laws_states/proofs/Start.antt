@@ -165,9 +165,7 @@ fresh_part (number ∷ roots) = tt
 
 fresh_wait : (is : Classes) (phase : Phase) → IsFreshPhase phase → IsWaitOn is phase
 fresh_wait is phases.Idle k = tt
-fresh_wait is phases.Start k = tt
-fresh_wait is (phases.Ended e) k = tt
-fresh_wait is phase k = absurd k
+fresh_wait is phase k = first_of (assumption, grind arith)
 
 module _ (c : MarkedProgram) (cfg : Config) where
   is_fresh : (n : ℕ) → IsFresh (start_thread c cfg n)

@@ -2,7 +2,7 @@
 use Rattle.std.proofs.Common.{◌≡◌, ◌⊎◌, inl, inr, ℕ, zero, suc, ◌+◌, ◌-◌, ◌*◌, ◌<◌, ◌≤◌, ◌^◌, nat_lt, true, List, [], ◌∷◌, ◌++◌, length, Some, refl, sym, ap, subst, ◌∙◌, length-append, append_assoc, arith, flat_map, map, replicate, slice_get, slice_index}
 use Rattle.std.{specs.List.{AllByRecursion, list_all}, proofs.lemmas.{Bool.Decides.nat_tests, List.length-map}}
 use Rattle.lists.proofs.{ListLaws.same_some, TestLaws.both_are_true}
-use Rattle.jvm_types.specs.ProgramInvariant.{IsProgram, words_of}
+use Rattle.jvm_types.{specs.ProgramInvariant.{IsProgram, words_of}, proofs.EachAfter.all_append}
 use Rattle.jvm_types.specs.declared.{fixed_words.TheConstants.{FIRST_CLASS_WORD, FIRST_READY_WORD, MONITOR_RECORDS, NEXT_FREE_WORD, NEXT_TICKET_WORD, NEXT_RECORD_WORD}, program.FieldInfo.FieldInfo}
 use Rattle.jvm_types.specs.declared.program.Program.{Program}
 use Rattle.machine_types.specs.{Ints.word_of, PlainMemory.{Object, objects_from, class_objects, start_objects}, ReadyObjects.ready_classes}
@@ -73,13 +73,12 @@ split (y ∷ xs) ys zero x e = inl e
 split (y ∷ xs) ys (suc i) x e = split xs ys i x e
 
 locks_by : (p : Program) (records i : ℕ) (o : Object) → records ≡ 2 * MONITOR_RECORDS → slice_get (start_objects p) i ≡ Some o → slice_index (all_parts p records) o.reference ≡ 0
-locks_by p records i o many e = by_part (split (objects_from FIRST_READY_WORD ready_classes) (class_objects p.fields FIRST_CLASS_WORD (classes_of p)) i o e)
-  where
-    by_part : (slice_get (objects_from FIRST_READY_WORD ready_classes) i ≡ Some o) ⊎ ((j : ℕ) × (slice_get (class_objects p.fields FIRST_CLASS_WORD (classes_of p)) j ≡ Some o)) → slice_index (all_parts p records) o.reference ≡ 0
-    by_part (inl k) = free_in (all_parts p records) (records_part p records) (ready_part ++ (class_part p ++ unused_part p)) FIRST_READY_WORD o (from_ready p records) (omega (arith, many, length_records p records))
-        (ready_free FIRST_READY_WORD ready_classes (class_part p ++ unused_part p) i o k)
-    by_part (inr k) = free_in (all_parts p records) (records_part p records ++ ready_part) (class_part p ++ unused_part p) FIRST_CLASS_WORD o (from_classes p records)
-        (omega (arith, many, length-append (records_part p records) ready_part, length_records p records)) (class_free p.fields FIRST_CLASS_WORD (classes_of p) (unused_part p) k.0 o k.1)
+locks_by p records i o many e = elim (split (objects_from FIRST_READY_WORD ready_classes) (class_objects p.fields FIRST_CLASS_WORD (classes_of p)) i o e) [
+  | inl k ↦ free_in (all_parts p records) (records_part p records) (ready_part ++ (class_part p ++ unused_part p)) FIRST_READY_WORD o (from_ready p records) (omega (arith, many, length_records p records))
+      (ready_free FIRST_READY_WORD ready_classes (class_part p ++ unused_part p) i o k)
+  | inr k ↦ free_in (all_parts p records) (records_part p records ++ ready_part) (class_part p ++ unused_part p) FIRST_CLASS_WORD o (from_classes p records)
+      (omega (arith, many, length-append (records_part p records) ready_part, length_records p records)) (class_free p.fields FIRST_CLASS_WORD (classes_of p) (unused_part p) k.0 o k.1)
+]
 
 pub locks_at_start : (p : Program) (range : ℕ) → LocksFit range (start_objects p) (start_words p)
 locks_at_start p range o k = subst (IsLock range) (sym (locks_by p (2 * MONITOR_RECORDS) k.0 o refl (contained_got (start_objects p) o k))) (word_is_lock range (locks.Free 0) (omega arith))
@@ -109,10 +108,6 @@ records_at_start p = record { owners = λ r lt. owner r lt; bits = λ r lt. bits
 abbrev Small : ℕ → Type 0
 Small n = n < 2 ^ 64
 
-all_append : (xs ys : List ℕ) → AllByRecursion Small xs → AllByRecursion Small ys → AllByRecursion Small (xs ++ ys)
-all_append [] ys h k = k
-all_append (x ∷ xs) ys h k = (h.0, all_append xs ys h.1 k)
-
 all_zeros : (n : ℕ) → AllByRecursion Small (replicate n 0)
 all_zeros zero = tt
 all_zeros (suc n) = (omega arith, all_zeros n)
@@ -127,13 +122,13 @@ all_statics (f ∷ fields) = (omega arith, all_statics fields)
 
 all_classes : (fields : List FieldInfo) (classes : List ℕ) → AllByRecursion Small (flat_map (class_words fields) classes)
 all_classes fields [] = tt
-all_classes fields (class ∷ classes) = all_append (class_words fields class) (flat_map (class_words fields) classes) (omega arith, (omega arith, all_statics (statics_of fields class))) (all_classes fields classes)
+all_classes fields (class ∷ classes) = all_append Small (class_words fields class) (flat_map (class_words fields) classes) (omega arith, (omega arith, all_statics (statics_of fields class))) (all_classes fields classes)
 
 all_parts_small : (p : Program) (records : ℕ) → IsProgram p → AllByRecursion Small (all_parts p records)
 all_parts_small p records is =
     let first : AllByRecursion Small (records_part p records) = (omega arith, (omega (arith, is.words, is.heap_to), (omega arith, (omega arith, all_zeros records)))) in
-    all_append (records_part p records ++ ready_part ++ class_part p) (unused_part p)
-    (all_append (records_part p records ++ ready_part) (class_part p) (all_append (records_part p records) ready_part first (all_tested ready_part refl)) (all_classes p.fields (classes_of p)))
+    all_append Small (records_part p records ++ ready_part ++ class_part p) (unused_part p)
+    (all_append Small (records_part p records ++ ready_part) (class_part p) (all_append Small (records_part p records) ready_part first (all_tested ready_part refl)) (all_classes p.fields (classes_of p)))
     (all_zeros (p.heap - words_of p))
 
 small_at : (words : List ℕ) → AllByRecursion Small words → (i : ℕ) → slice_index words i < 2 ^ 64

@@ -9,6 +9,7 @@ use Rattle.laws_states.specs.KeptWords.{StartLocksFit, EventsKeepLocks, StartRec
 use Rattle.laws_states.specs.OwnersLaws.{EventsKeepOwners, NextKeepsOwners}
 use Rattle.laws_states.specs.PartsLaws.{StartStandsInParts, EventsKeepParts, NextKeepsParts, StartPutsInitsFirst, EventsPutInitsFirst, NextPutsInitsFirst, HaveNoAttempts, StartHasNoAttempts, EventsMakeNoAttempts, NextMakesNoAttempts, NoAttempts}
 use Rattle.laws_states.specs.{RunFacts.{HaveWidth, RunFacts}, RunLaws.{StartHasRunFacts, EventsKeepFacts, EventsKeepThreads, PartsKeepThreads}}
+use Rattle.laws_states.proofs.GrowingRuns.{along}
 use Rattle.laws_states.specs.{StateLaws.{StatesHaveFacts, StartHasState, EventsKeepState, NextKeepsState, IsInState, RunsHaveState}, WaitingLaws.{EventsKeepWaiting, NextKeepsWaiting}}
 
 pub states_have_facts : StatesHaveFacts
@@ -88,21 +89,15 @@ state_goes_on on_event on_next c cfg marked width parts s NextPart k =
 pub runs_have_state : StartHasState → EventsKeepState → NextKeepsState → RunsHaveState
 unfolding core
 runs_have_state begin on_event on_next c cfg hs marked width parts =
-    each (start c cfg) hs (state_at_start begin c cfg marked parts)
-  where
-    each : (s : Core) (hs : List Happening) → IsInState c cfg s → IsInState c cfg (all_happened c s hs)
-    each s [] k = k
-    each s (h ∷ hs) k = each (happened c s h) hs (state_goes_on on_event on_next c cfg marked width parts s h k)
+    along (IsInState c cfg) c (state_goes_on on_event on_next c cfg marked width parts) (start c cfg) hs (state_at_start begin c cfg marked parts)
 
 -- ---- attempts
 
 pub no_attempts : StartHasState → EventsKeepState → NextKeepsState → StartHasNoAttempts → EventsMakeNoAttempts → NextMakesNoAttempts → NoAttempts
 unfolding core
 no_attempts begin on_event on_next begin_none event_none next_none c cfg hs marked width parts never =
-    each (start c cfg) hs (state_at_start begin c cfg marked parts) (begin_none c cfg)
+    (along (λ s. IsInState c cfg s × HaveNoAttempts s) c one (start c cfg) hs (state_at_start begin c cfg marked parts, begin_none c cfg)).1
   where
-    each : (s : Core) (hs : List Happening) → IsInState c cfg s → HaveNoAttempts s → HaveNoAttempts (all_happened c s hs)
-    each s [] k none = none
-    each s (h ∷ hs) k none = each (happened c s h) hs (state_goes_on on_event on_next c cfg marked width parts s h k) ((elim h as
-        (λ (h : Happening). IsInState c cfg s → HaveNoAttempts s → HaveNoAttempts (happened c s h))
-        [ Of t ↦ λ k none. event_none c cfg s t never k.facts.threads k.facts.parts none | NextPart ↦ λ k none. next_none c s none ]) k none)
+    one : (s : Core) (h : Happening) → IsInState c cfg s × HaveNoAttempts s → IsInState c cfg (happened c s h) × HaveNoAttempts (happened c s h)
+    one s (Of t) k = (state_goes_on on_event on_next c cfg marked width parts s (Of t) k.0, event_none c cfg s t never k.0.facts.threads k.0.facts.parts k.1)
+    one s NextPart k = (state_goes_on on_event on_next c cfg marked width parts s NextPart k.0, next_none c s k.1)

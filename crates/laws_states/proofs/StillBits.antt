@@ -59,12 +59,8 @@ module _ (sites : KnownSites) (mover : HeapMover) where
   open mover use {x, state.{c, s}}
 
   same_here : IsStill x.phase → SameBits s.words (words_after s.words (wanted c x x.phase))
-  same_here still r low = by_cases (word_at mover sites (BitsOf r) low)
-    where
-      by_cases : (slice_index (words_after s.words (wanted c x x.phase)) (bits_word r) ≡ slice_index s.words (bits_word r)) ⊎ IsLeft c s.words x (BitsOf r)
-          → slice_index (words_after s.words (wanted c x x.phase)) (bits_word r) ≡ slice_index s.words (bits_word r)
-      by_cases (inl e) = e
-      by_cases (inr k) = k.left ∙ still_leaves c x x.phase r k.access (slice_index s.words (bits_word r)) still k.suits k.wants
+  same_here still r low = elim (word_at mover sites (BitsOf r) low)
+      [ inl e ↦ e | inr k ↦ k.left ∙ still_leaves c x x.phase r k.access (slice_index s.words (bits_word r)) still k.suits k.wants ]
 
   pub still_bits : (phase : Phase) → x.phase ≡ phase → IsStill phase → SameBits s.words (words_after s.words (wanted c x phase))
   still_bits phase e = subst (λ (p : Phase). IsStill p → SameBits s.words (words_after s.words (wanted c x p))) e same_here

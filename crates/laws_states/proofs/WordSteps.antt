@@ -59,15 +59,14 @@ module _ (lies : StartLiesApart) (state : HeapState) where
     low = block_low lies c objects s marked facts (block fits.site) (accessed access) site_in
 
     each_site : (site : Site) → IsThere c.program objects s site → SiteHolds c.program objects (slice_index s.words NEXT_FREE_WORD) site (slice_index set (site_word site))
-    each_site site k = by_word (same_or_not (site_word site) (accessed access))
-      where
-        by_word : (site_word site ≡ accessed access) ⊎ (site_word site ≢ accessed access) → SiteHolds c.program objects (slice_index s.words NEXT_FREE_WORD) site (slice_index set (site_word site))
-        by_word (inl e) =
-            let one : site ≡ fits.site = sites_apart lies c objects s site fits.site marked facts k fits.there (e ∙ fits.word) in
-            let is : slice_index set (site_word site) ≡ value = ap (slice_index set) e ∙ set_here s.words (accessed access) value (omega (arith, low.2, facts.unused.many)) in
-            subst (SiteHolds c.program objects (slice_index s.words NEXT_FREE_WORD) site) (sym is) (subst (λ x. SiteHolds c.program objects (slice_index s.words NEXT_FREE_WORD) x value) (sym one) fits.left)
-        by_word (inr n) =
-            subst (SiteHolds c.program objects (slice_index s.words NEXT_FREE_WORD) site) (sym (set_there s.words (accessed access) (site_word site) value n)) (site_typed c.program is_program objects s.words site facts.typed.places)
+    each_site site k = elim (same_or_not (site_word site) (accessed access)) [
+      | inl e ↦
+          let one : site ≡ fits.site = sites_apart lies c objects s site fits.site marked facts k fits.there (e ∙ fits.word) in
+          let is : slice_index set (site_word site) ≡ value = ap (slice_index set) e ∙ set_here s.words (accessed access) value (omega (arith, low.2, facts.unused.many)) in
+          subst (SiteHolds c.program objects (slice_index s.words NEXT_FREE_WORD) site) (sym is) (subst (λ x. SiteHolds c.program objects (slice_index s.words NEXT_FREE_WORD) x value) (sym one) fits.left)
+      | inr n ↦
+          subst (SiteHolds c.program objects (slice_index s.words NEXT_FREE_WORD) site) (sym (set_there s.words (accessed access) (site_word site) value n)) (site_typed c.program is_program objects s.words site facts.typed.places)
+    ]
 
     words_set : WordsGoOn c objects s set
     words_set = record {

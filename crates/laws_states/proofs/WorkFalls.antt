@@ -201,14 +201,12 @@ no_some (Some a) e has = cc
 
 -- what an event takes is there
 pub lacks_none : (c : MarkedProgram) (x : Thread) (got : ℕ) (phase : Phase) → Lacks c x got phase → BeginsNothing phase → HasEvent c x phase → ⊥
-lacks_none c x got _ moves.idle i has = has
-lacks_none c x got _ (moves.over e) i has = has
 lacks_none c x got _ (moves.no_place word stored e) i has = no_some (top_of c.program x.frames) e has
 lacks_none c x got _ (moves.no_catcher r class e) i has = no_some (dispatched c.program r class x.frames) (ap (option_map (λ at. handed c.program r class at (handler_at (class_of class) at))) e) has
 lacks_none c x got _ (moves.no_claim m a e) i has = has.0 e
 lacks_none c x got _ (moves.not_fat m r toward e) i has = no_some (held_at x.held m) e has
 lacks_none c x got _ (moves.not_waiting m r e) i has = no_some (held_at x.held m) e has
-lacks_none c x got _ k i has = i
+lacks_none c x got _ k i has = assumption
 
 module _ (c : MarkedProgram) (x : Thread) (got : ℕ) where
   abbrev place : Phase → ℕ
