@@ -99,10 +99,7 @@ pub record ElementSite (objects : List Object) (word : ℕ) (stored : Option ℕ
   pub value : StoredHolds stored
 
 module _ (state : HeapState) where
-  open state use {c, marked, objects, s, facts}
-
-  is_program : IsProgram c.program
-  is_program = marked.checked.program
+  open state use {c, marked, marked.checked.program as is_program, objects, s, facts}
 
   -- ---- by what stands at the word
 

@@ -7,7 +7,7 @@ use Rattle.machine_types.specs.Monitors.{Claim, Has, Tries, HasNot, claim, claim
 use Rattle.machine_types.specs.{Owners.{Locks, hold_by_kept, hold_by_list, locks_in, references_of}, Structure.{IsAs, IsFlat}, Threads.Attempt, Words.{owner_word, bits_word}}
 use Rattle.machine_types.specs.declared.{access.Access.TheVariants.{Store, Cas}, config.Config.Config, lock.{Held.Held, Kept.Kept, LockWord.LockWord}, phase.Phase.Phase}
 use Rattle.laws_states.{specs.{ChangeLaws.{IsFreed, LockGoes, LocksFollow}, HeapFacts.objects_by, Sites.{HasObject, ReachesIf}}, proofs.{LockPhases.lock_reached, LockViews.{set_lock, flatly, fatly}}}
-use Rattle.laws_states.proofs.{Movers.{KnownSites, LockMover, on_heap, fits_bounds, phase_shows, phase_reaches}, QuietWords.{IsQuiet, quiet_view}}
+use Rattle.laws_states.proofs.{Movers.{KnownSites, LockMover, on_heap, fits_bounds, phase_shows, phase_reaches}, QuietWords.{IsQuiet, quiet_at}}
 use Rattle.laws_states.proofs.WordViews.{lock_of_word, object_has, set_self, lock_view, owner_view, next_view}
 use Rattle.machine_types.specs.declared.lock.Kept.TheVariants as keeps
 use Rattle.machine_types.specs.declared.lock.LockWord.TheVariants as locks
@@ -65,11 +65,7 @@ module _ (sites : KnownSites) (mover : LockMover) where
   loaded w = subst (λ (words : List ℕ). Leaves words) (sym (set_self s.words w)) unchanged
 
   quietly : (phase : Phase) → x.phase ≡ phase → IsQuiet phase → Done phase
-  quietly phase e is = same_locks _ _ t cfg.range x.held (λ m. ap (λ (w : Locks). w.lock m) (view is))
-    where
-      view : IsQuiet phase → locks_in (references_of (objects_by c.program phase objects)) (words_after s.words (wanted c x phase)) ≡ locks_in (references_of objects) s.words
-      view = subst (λ (p : Phase). IsQuiet p → locks_in (references_of (objects_by c.program p objects)) (words_after s.words (wanted c x p)) ≡ locks_in (references_of objects) s.words) e
-          (λ q. quiet_view sites (on_heap mover) q)
+  quietly phase e is = same_locks _ _ t cfg.range x.held (λ m. ap (λ (w : Locks). w.lock m) (quiet_at sites (on_heap mover) phase e is))
 
   owner_written : (r value : ℕ) → r < MONITOR_RECORDS → Leaves (slice_set s.words (owner_word r) value)
   owner_written r value low = same_locks _ _ t cfg.range x.held (λ m. ap (λ (w : Locks). w.lock m) (owner_view differ inside c objects s marked facts r value low))

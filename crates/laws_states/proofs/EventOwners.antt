@@ -10,7 +10,7 @@ use Rattle.laws_states.specs.{HeapFacts.{objects_by, objects_of}, OwnersLaws.Eve
 use Rattle.laws_states.proofs.{CountedPhases.{IsPlain, counted_plain}, LockPhases.{plain, knowing, loaded, lock_here, lock_reached, acquired, entered}}
 use Rattle.laws_states.proofs.Movers.{KnownSites, LockState, LockMover, OwnsAs, mover_of, on_heap, locks_of, fits_bounds, phase_shows, phase_reaches, known_sites, lawful_state, phase_stays}
 use Rattle.laws_states.proofs.{OwnerPhases.{runs_counted, took, flagged, took_fat, retook, waited, left, flat_out, drawn, owned, fattened, gone_out}, OwnersStep.{Owes, owned_on}}
-use Rattle.laws_states.proofs.{PlainMoves.{same_look, Plainly, moves_plainly}, QuietWords.{IsQuiet, quiet_view}, SameTally.{Tally, tally_of, same_tally}}
+use Rattle.laws_states.proofs.{PlainMoves.{same_look, Plainly, moves_plainly}, QuietWords.{IsQuiet, quiet_at}, SameTally.{Tally, tally_of, same_tally}}
 use Rattle.jvm_types.specs.declared.outcome.End.TheVariants as ends
 use Rattle.machine_types.specs.declared.phase.Phase.TheVariants as phases
 
@@ -51,12 +51,8 @@ module _ (sites : KnownSites) (given : GivenIsKept) (mover : LockMover) where
 
   -- ---- quiet phases
 
-  quiet_at : (phase : Phase) → x.phase ≡ phase → IsQuiet phase → locks_in (references_of (objects_by c.program phase objects)) (words_after s.words (wanted c x phase)) ≡ locks_in (references_of objects) s.words
-  quiet_at phase e = subst (λ (p : Phase). IsQuiet p → locks_in (references_of (objects_by c.program p objects)) (words_after s.words (wanted c x p)) ≡ locks_in (references_of objects) s.words) e
-      (λ q. quiet_view sites (on_heap mover) q)
-
   quietly : (phase : Phase) → x.phase ≡ phase → IsQuiet phase → OwesOf (was t) (locks_in (references_of objects) s.words) (moved c x phase (found_by s.words (wanted c x phase))) → Done phase
-  quietly phase e is h = subst (λ (w : Locks). OwesOf (was t) w (moved c x phase (found_by s.words (wanted c x phase)))) (sym (quiet_at phase e is)) h
+  quietly phase e is h = subst (λ (w : Locks). OwesOf (was t) w (moved c x phase (found_by s.words (wanted c x phase)))) (sym (quiet_at sites (on_heap mover) phase e is)) h
 
   plainly : (phase : Phase) → was t ≡ phase → (got : ℕ) → (moved c x phase got).held ≡ x.held → x.counts.locked ≤ (moved c x phase got).counts.locked → Plainly x.attempt (moved c x phase got) → IsPlain phase
       → OwesOf (was t) (locks_in (references_of objects) s.words) (moved c x phase got)

@@ -30,10 +30,7 @@ length_found c marked objects s facts a k =
     ap header_length (header_found c objects s facts INT_ARRAY_CLASS a k) ∙ array_length k.2.0 (k.2.3 ∙ (leaves_alone k.1 INT_ARRAY_CLASS refl k.3))
 
 module _ (state : HeapState) where
-  open state use {c, marked, objects, s, facts}
-
-  is_program : IsProgram c.program
-  is_program = marked.checked.program
+  open state use {c, marked, marked.checked.program as is_program, objects, s, facts}
 
   pub inside : (class v : ℕ) → HasClass objects class v → v < c.program.heap
   inside class v k = omega (arith, facts.apart.inside k.1.0 k.0 (contained_got objects k.0 k.1), k.2)

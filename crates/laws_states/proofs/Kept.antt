@@ -84,9 +84,6 @@ module _ (keeps : StructureIsKept) (lies : StartLiesApart) (mover : HeapMover) w
     abbrev later : List Object
     later = new_object a word (size_by c.program word) ∷ objects
 
-    words_are : after ≡ slice_set s.words (header_word a) word
-    words_are = ap (λ phase. words_after s.words (wanted c x phase)) made
-
     behind : Behind c objects later s t (slice_set s.words (header_word a) word)
     behind = behind_new lies maker
 
@@ -109,7 +106,7 @@ module _ (keeps : StructureIsKept) (lies : StartLiesApart) (mover : HeapMover) w
     new_kept : HeapFacts c (objects_by c.program x.phase objects) state
     new_kept =
         subst (λ os. HeapFacts c os state) (sym (ap (λ phase. objects_by c.program phase objects) made))
-        (assembled (record { before = mover.state; later = later; t = t; after = after; y = now; behind = subst (Behind c objects later s t) (sym words_are) behind; became = new_became }))
+        (assembled (record { before = mover.state; later = later; t = t; after = after; y = now; behind = subst (Behind c objects later s t) (sym (ap (λ phase. words_after s.words (wanted c x phase)) made)) behind; became = new_became }))
 
   thread_kept : HeapFacts c (objects_by c.program x.phase objects) state
   thread_kept = elim (new_or_old x.phase) [ inl old ↦ old_kept old | inr k ↦ new_kept k.0 k.1 k.2 ]

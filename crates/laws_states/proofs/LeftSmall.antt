@@ -184,9 +184,6 @@ module _ (access : Access) (got : ℕ) where
 not_place : (content : Content) → content ≡ Any → IsPlace content → ⊥
 not_place content e is = subst IsPlace e is
 
-not_locking : (content : Content) → content ≡ Any → IsLocking content → ⊥
-not_locking content e is = subst IsLocking e is
-
 abbrev pub IsMade : Phase → Type 0
 IsMade (phases.Made a word) = Unit {0}
 IsMade phase = ⊥
@@ -209,4 +206,4 @@ only_adds c s (phases.Made a word) access got w fits any not_made = absurd (not_
 only_adds c s (phases.Grow m toward) access got w fits any not_made = adds_by access got _ w (omega arith)
 only_adds c s (phases.Ending e) access got w fits any not_made = adds_by access got _ w (omega arith)
 only_adds c s (phases.Ended e) access got w fits any not_made = nowhere access got w
-only_adds c s phase access got w fits any not_made = absurd (not_locking (content_at c s phase) any (content_is_locking c s phase tt))
+only_adds c s phase access got w fits any not_made = absurd (subst IsLocking any (content_is_locking c s phase tt))

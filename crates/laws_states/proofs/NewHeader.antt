@@ -27,10 +27,7 @@ pub record Maker : Type 0 where
   pub made : mover.x.phase ≡ phases.Made a word
 
 module _ (lies : StartLiesApart) (maker : Maker) where
-  open maker use {a, word, made, mover.{t, x, there, state.{c, marked, objects, s, facts}}}
-
-  is_program : IsProgram c.program
-  is_program = marked.checked.program
+  open maker use {a, word, made, mover.{t, x, there, state.{c, marked, marked.checked.program as is_program, objects, s, facts}}}
 
   abbrev new : Object
   new = new_object a word (size_by c.program word)

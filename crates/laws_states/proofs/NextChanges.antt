@@ -27,10 +27,6 @@ by_kind test x y was e out in' = λ same.
     let same_kind : true ≡ false = sym in' ∙ ap (λ (s : Thread). test s.phase) same ∙ ap test e ∙ out in
     cc
 
-one_more_turn : (x : Thread) (phase : Phase) → failed_turn x phase ≢ x
-one_more_turn x phase = λ same.
-    omega (arith, (ap (λ (s : Thread). s.turns) same))
-
 -- ---- where a thread goes on
 
 -- with its next instruction, or it ends
@@ -165,7 +161,7 @@ module _ (c : MarkedProgram) (x : Thread) (got : ℕ) where
   move_changes phase (moves.goes o k) i e has = goes_changed phase o k i e
   move_changes phase (moves.fails_in t f d k) i e has = by_phase x (fails x t) phase (phases.Enter t.monitor t.number) e refl (checks_differ phase t k i)
   move_changes phase (moves.leads now k) i e has = by_phase x (with_phase x now) phase now e refl (leads_differ phase now k i)
-  move_changes phase (moves.turns now k) i e has = one_more_turn x now
+  move_changes phase (moves.turns now k) i e has = λ same. omega (arith, (ap (λ (s : Thread). s.turns) same))
   move_changes _ (moves.enters_again m tried h l) i e has = runs_changed (phases.Enter m tried) e refl (record x { held = with_held (deeper h) x.held })
   move_changes _ (moves.enters_inside m tried t k) i e has = runs_changed (phases.Enter m tried) e refl (record x { attempt = Some (record t { inner = t.inner + 1 }) })
   move_changes _ (moves.begins_to_try m tried noted f below l y g t free) i e has = runs_changed (phases.Enter m tried) e refl (record x { attempt = Some (begun_attempt m noted tried f below) })

@@ -188,9 +188,6 @@ module _ (mover : LockMover) (was : Phase) (o : OwnsAs mover was) (y : Thread) (
 
   -- ---- a record is drawn
 
-  further : (i : ℕ) → IsDrawn v i → IsDrawn (set_next (v.next + 1) v) i
-  further i h = record { unnamed = h.unnamed; below = let below = h.below in omega (arith, below) }
-
   pub drawn_next : Became x y x.held 0 → Knows (set_next (v.next + 1) v) t now → PhaseSaw (set_next (v.next + 1) v) count now → ((i : ℕ) → drawn_by now ≡ Some i → v.next ≤ i) → Owes v (set_next (v.next + 1) v) count count t was now x y
   drawn_next b knows take draws = record {
     own = record {
@@ -202,7 +199,7 @@ module _ (mover : LockMover) (was : Phase) (o : OwnsAs mover was) (y : Thread) (
     };
     others = λ u phase z e owns apart. record {
       holds = owns.holds;
-      knows = knows_by v (set_next (v.next + 1) v) u phase (λ r d k. further r k) (λ r d k. k) (λ m r k. k) owns.knows;
+      knows = knows_by v (set_next (v.next + 1) v) u phase (λ r d k. record { unnamed = k.unnamed; below = let below = k.below in omega (arith, below) }) (λ r d k. k) (λ m r k. k) owns.knows;
       keeps_count = owns.keeps_count;
       take = phase_by v (set_next (v.next + 1) v) count count (λ m seen k. k) phase owns.take;
       attempt = attempt_by v (set_next (v.next + 1) v) count count (λ m seen k. k) z.cfg z.attempt owns.attempt;

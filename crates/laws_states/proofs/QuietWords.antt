@@ -124,3 +124,10 @@ module _ (sites : KnownSites) (mover : HeapMover) (quiet : IsQuiet mover.x.phase
       owner r = (elim (nat_lt r MONITOR_RECORDS) as
           (λ (b : Bool). nat_lt r MONITOR_RECORDS ≡ b → cond b (slice_index (words_after s.words (wanted c x x.phase)) (owner_word r)) 0 ≡ cond b (slice_index s.words (owner_word r)) 0)
           [ true ↦ λ e. let low : r < MONITOR_RECORDS = grind (arith, nat_tests, e) in same_word (OwnerOf r) tt low | false ↦ λ e. refl ]) refl
+
+-- in the phase that the thread is in
+pub quiet_at : KnownSites → (mover : HeapMover) (phase : Phase) → mover.x.phase ≡ phase → IsQuiet phase
+    → locks_in (references_of (objects_by mover.state.c.program phase mover.state.objects)) (words_after mover.state.s.words (wanted mover.state.c mover.x phase)) ≡ locks_in (references_of mover.state.objects) mover.state.s.words
+quiet_at sites mover phase e = subst
+    (λ (p : Phase). IsQuiet p → locks_in (references_of (objects_by mover.state.c.program p mover.state.objects)) (words_after mover.state.s.words (wanted mover.state.c mover.x p)) ≡ locks_in (references_of mover.state.objects) mover.state.s.words) e
+    (λ q. quiet_view sites mover q)

@@ -62,8 +62,7 @@ module _ (lies_apart : StartLiesApart) (c : MarkedProgram) (objects : List Objec
   abbrev In : Block → ℕ → Type 0
   In b x = Inside c.program objects s b x
 
-  is_program : IsProgram c.program
-  is_program = marked.checked.program
+  open marked use {checked.program as is_program}
 
   pub static_low : (word : ℕ) → HasStatic c.program word → (FIRST_READY_WORD ≤ word) × (word < words_of c.program)
   static_low word k =
@@ -98,10 +97,7 @@ module _ (lies_apart : StartLiesApart) (c : MarkedProgram) (objects : List Objec
       [ inl h ↦ omega (arith, h, v.2, e, k.from, k.is) | inr h ↦ omega (arith, h, v.2, e, k.to) ]
 
   made_is : (x y : Thread) (a b word other : ℕ) → x ≡ y → x.phase ≡ phases.Made a word → y.phase ≡ phases.Made b other → a ≡ b
-  made_is x y a b word other e h k = made_same (sym h ∙ (ap (λ (z : Thread). z.phase) e ∙ k))
-    where
-      made_same : phases.Made a word ≡ phases.Made b other → a ≡ b
-      made_same e = cc
+  made_is x y a b word other e h k = let same : phases.Made a word ≡ phases.Made b other = sym h ∙ (ap (λ (z : Thread). z.phase) e ∙ k) in cc
 
   new_new : (a b x : ℕ) → InNew c.program s a x → InNew c.program s b x → a ≡ b
   new_new a b x k l = elim (same_or_not k.t l.t) [

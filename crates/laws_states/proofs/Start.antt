@@ -175,14 +175,8 @@ module _ (c : MarkedProgram) (cfg : Config) where
   fresh_thread : (t : ℕ) (x : Thread) → slice_get (start c cfg).threads t ≡ Some x → IsFresh x
   fresh_thread t x e = let k = mapped_at (start_thread c cfg) (range_with_len 0 (c.program.workers + 1)) t x e in subst IsFresh k.2 (is_fresh k.0)
 
-  no_element : (t : ℕ) (x : Thread) (word : ℕ) (stored : Option ℕ) → slice_get (start c cfg).threads t ≡ Some x → x.phase ≡ phases.Element word stored → ⊥
-  no_element t x word stored e m = let k = fresh_thread t x e in subst IsFreshPhase m k.phase
-
-  none_made : (t : ℕ) (x : Thread) (a word : ℕ) → slice_get (start c cfg).threads t ≡ Some x → x.phase ≡ phases.Made a word → ⊥
-  none_made t x a word e m = let k = fresh_thread t x e in subst IsFreshPhase m k.phase
-
-  none_pending : (x : ℕ) → IsPending (start c cfg).threads x → ⊥
-  none_pending x k = none_made k.0 k.1 k.2 k.3 k.4 k.5
+  fresh_at : (t : ℕ) (x : Thread) (phase : Phase) → slice_get (start c cfg).threads t ≡ Some x → x.phase ≡ phase → IsFreshPhase phase
+  fresh_at t x phase e m = let k = fresh_thread t x e in subst IsFreshPhase m k.phase
 
 -- ---- the whole
 
@@ -195,18 +189,13 @@ record KnownStart : Type 0 where
 
 module _ (laws : KnownStart) (c : MarkedProgram) (cfg : Config) (marked : IsMarked c) where
   open laws use {lies, agrees, unused, types}
-
-  is_program : IsProgram c.program
-  is_program = marked.checked.program
+  open marked use {checked.program as is_program}
 
   apart : LieApart c.program (start_objects c.program) (start_statics c.program) (words_of c.program)
   apart = lies c.program is_program
 
-  agree : Agrees c.program (start c cfg) (plain_start c.program)
-  agree = agrees c cfg is_program
-
   found : (x v : ℕ) → value_at (plain_start c.program) x ≡ Some v → slice_index (start c cfg).words x ≡ v
-  found x v e = let a = agree in a.places x v e (none_pending c cfg x)
+  found x v e = let a = agrees c cfg is_program in a.places x v e (λ k. fresh_at c cfg k.0 k.1 (phases.Made k.2 k.3) k.4 k.5)
 
   header_found : (o : Object) → Contains (start_objects c.program) o → slice_index (start c cfg).words (header_word o.reference) ≡ header_of o
   header_found o k =
@@ -259,15 +248,15 @@ module _ (laws : KnownStart) (c : MarkedProgram) (cfg : Config) (marked : IsMark
     begins = omega arith;
     typed = record {
       threads = types c cfg (start_objects c.program);
-      elements = λ t x word stored e m. absurd (no_element c cfg t x word stored e m);
+      elements = λ t x word stored e m. absurd (fresh_at c cfg t x (phases.Element word stored) e m);
       places = places;
     };
     new_objects = record {
-      each = λ t x a word e m. absurd (none_made c cfg t x a word e m);
-      apart = λ t u x y a b word other e f n m l. absurd (none_made c cfg t x a word e m);
+      each = λ t x a word e m. absurd (fresh_at c cfg t x (phases.Made a word) e m);
+      apart = λ t u x y a b word other e f n m l. absurd (fresh_at c cfg t x (phases.Made a word) e m);
     };
     headers = start_header c.program is_program;
-    new_headers = λ t x a word e m. absurd (none_made c cfg t x a word e m);
+    new_headers = λ t x a word e m. absurd (fresh_at c cfg t x (phases.Made a word) e m);
     monitors = λ t x e. let k = fresh_thread c cfg t x e in record { held = subst (AllHeld (HasClass (start_objects c.program))) (sym k.held) tt; waits = fresh_wait (HasClass (start_objects c.program)) x.phase k.phase };
   }
 

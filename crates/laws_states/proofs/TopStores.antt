@@ -31,8 +31,7 @@ field_is_place : (p : Program) (is : Classes) (target : Target) (v : _) (f : Fie
 field_is_place p is target v f at = subst (λ (t : Target). IsPlace (variable_content p t)) (sym at.named) (subst (λ (o : Option FieldInfo). IsPlace (field_content o)) (sym at.there) (kind_is_place f.kind))
 
 module _ (c : MarkedProgram) (marked : IsMarked c) where
-  is_program : IsProgram c.program
-  is_program = marked.checked.program
+  open marked use {checked.program as is_program}
 
   value_small : (k : Kind) (v : ℕ) → KindHolds (within c.program) k v → v < 2 ^ 64
   value_small (kinds.Ref class) v (inl e) = omega (arith, e)

@@ -37,10 +37,7 @@ no_new_block (NewHeaderOf b) a old e = old
 no_new_block site a old e = cc
 
 module _ (lies : StartLiesApart) (state : HeapState) where
-  open state use {c, marked, objects, s, facts}
-
-  is_program : IsProgram c.program
-  is_program = marked.checked.program
+  open state use {c, marked, marked.checked.program as is_program, objects, s, facts}
 
   pub as_they_are : WordsGoOn c objects s s.words
   as_they_are = record { long = refl; free = omega arith; unused = λ n le. refl; places = facts.typed.places; new = λ a n k. refl }
