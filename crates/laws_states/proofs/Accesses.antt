@@ -1,7 +1,7 @@
 -- Which word each event accesses, and that what it leaves there is what has to stand there.
 use Rattle.std.proofs.Common.{◌≡◌, ℕ, ◌<◌, ◌≤◌, ◌^◌, Bool, true, false, List, [], ◌∷◌, length, Option, Some, None, refl, ap, sym, subst, ◌∙◌, arith, ◌==◌, nat_le, Contains, slice_index, if◌then◌else◌}
 use Rattle.std.proofs.lemmas.Bool.Decides.{nat_tests}
-use Rattle.jvm_types.specs.{Members.is_static, ProgramInvariant.{IsProgram, instances_among}, declared.class_numbers.TheConstants.{INT_ARRAY_CLASS, PRINT_STREAM_CLASS, THROWABLE_CLASS}}
+use Rattle.jvm_types.specs.{Members.is_static, ProgramInvariant.{instances_among}, declared.class_numbers.TheConstants.{INT_ARRAY_CLASS, PRINT_STREAM_CLASS, THROWABLE_CLASS}}
 use Rattle.jvm_types.specs.declared.{code.{Insn.Insn, Op.Op}, fixed_words.TheConstants.{FIRST_READY_WORD, NEXT_FREE_WORD, NEXT_TICKET_WORD, NEXT_RECORD_WORD, MONITOR_RECORDS}, op_row.OpRow.OpRow}
 use Rattle.jvm_types.specs.declared.program.{FieldInfo.FieldInfo, Kind.Kind, MethodInfo.MethodInfo, Program.Program, Target.Target}
 use Rattle.laws_programs.proofs.{ClassTreeLaws.{leaves_alone, files_alone}, FieldOrder.instances_inside}

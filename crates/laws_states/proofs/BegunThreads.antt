@@ -1,6 +1,5 @@
 -- Where a part of the run begins, each thread is as it was, but for the roots and the phase that its part begins with.
-use Rattle.std.proofs.Common.{◌≡◌, ◌⊎◌, inl, inr, ℕ, zero, suc, Bool, true, false, List, [], ◌∷◌, map, Some, refl, subst, slice_get, if◌then◌else◌}
-use Rattle.lists.proofs.ListLaws.{same_some}
+use Rattle.std.proofs.Common.{◌≡◌, ◌⊎◌, inl, inr, ℕ, zero, suc, Bool, true, false, List, [], ◌∷◌, Some, refl, slice_get, if◌then◌else◌}
 use Rattle.jvm_types.specs.declared.program.Program.{Program}
 use Rattle.machine_types.specs.{Core.{part_phase, may_begin, with_roots, how_ended, part_begins, next_threads}, Parts.{run_roots, done_roots}, Threads.Thread, declared.phase.Phase.Phase}
 use Rattle.laws_states.proofs.Lists.{first_each, mapped_each}

@@ -1,13 +1,12 @@
 -- From most phases a thread comes to one in which nothing is asked of waiting bits.
 use Rattle.std.proofs.Common.{ℕ, Option, Some, option_map, slice_get}
-use Rattle.jvm_types.specs.declared.{outcome.End.End, program.Program.Program}
+use Rattle.jvm_types.specs.declared.{program.Program.Program}
 use Rattle.checked_program.specs.MarkedProgram.{MarkedProgram}
 use Rattle.machine_types.specs.{Elision.elided, Events.moved, Frames.went_on, Going.{runs, goes_on_if}, HeldMonitors.{with_held, without_held, shallower}, Instructions.printed}
 use Rattle.machine_types.specs.{Onward.{Onward, Running, rooted, after}, Threads.Thread, declared.{lock.Kept.Kept, phase.Phase.Phase}}
-use Rattle.laws_threads.specs.StructureLaws.{turned_from, counted_by}
+use Rattle.laws_threads.specs.StructureLaws.{counted_by}
 use Rattle.laws_threads.proofs.ThreadMove.{LeadsTo, TurnsTo, Asks, WaitsFrom, Move, becomes, by_move, of_mover, runs_to, turns_to, IsOnward, onward_if_to}
 use Rattle.laws_states.proofs.CountedPhases.{turned_keeps, counted_either}
-use Rattle.jvm_types.specs.declared.outcome.End.TheVariants as ends
 use Rattle.machine_types.specs.declared.phase.Phase.TheVariants as phases
 use Rattle.machine_types.specs.declared.phase.Toward.TheVariants as towards
 use Rattle.laws_threads.proofs.ThreadMove as moves

@@ -1,5 +1,5 @@
 -- An event brings a thread no frame of a `<clinit>`, unless a root of its is one: no instruction calls one (JVMS 2.9).
-use Rattle.std.proofs.Common.{◌≡◌, ℕ, zero, suc, ◌+◌, ◌-◌, Bool, true, false, not, ◌&&◌, ◌||◌, List, [], ◌∷◌, drop, length, Option, Some, None, refl, ap, sym, subst, ◌∙◌, arith, ◌==◌, codes, bytes_eq, option_map, slice_get, IfSome, if◌then◌else◌}
+use Rattle.std.proofs.Common.{◌≡◌, ℕ, zero, suc, ◌+◌, ◌-◌, Bool, true, false, not, ◌&&◌, ◌||◌, List, [], ◌∷◌, drop, length, Option, Some, None, refl, ap, sym, subst, ◌∙◌, arith, ◌==◌, codes, bytes_eq, option_map, slice_get, IfSome}
 use Rattle.std.{specs.List.AllByRecursion, proofs.lemmas.Slice.Eq.bytes_eq-Decides}
 use Rattle.lists.proofs.{ListLaws.same_some, TestLaws.both_are_true}
 use Rattle.jvm_types.specs.{ClassNames.file_class, Members.{MethodSite, is_static, is_synchronized, is_init_name, is_class_init_name}, Numbers.has_number, ProgramInvariant.site_in}
@@ -13,7 +13,7 @@ use Rattle.machine_types.specs.{Going.{goes_on, goes_on_if, goes_after}, HeldMon
 use Rattle.machine_types.specs.Onward.{Onward, Running, Throwing, Entering, Leaving, RootReturned, Uncaught, threw, done, entered, called, rooted, root_arguments, back, returns, unwound, handed, after}
 use Rattle.machine_types.specs.{Parts.{is_entry_named, entries_named}, ReadyObjects.{class_of, thrown_of}, Shown.Show, Standing.Operands, Structure.{IsStructured, operands_in}}
 use Rattle.machine_types.specs.{Threads.{Frame, Attempt, Thread}, Words.header_class, declared.effect.Effect.Effect}
-use Rattle.machine_types.specs.declared.{effect.Effect.TheVariants.{Goes, Throws, Reads, Writes, Measures, Raises, Prints, Calls, Returns, Enters, Leaves}, lock.Held.Held, phase.After.After}
+use Rattle.machine_types.specs.declared.{effect.Effect.TheVariants.{Raises, Calls, Returns}, lock.Held.Held, phase.After.After}
 use Rattle.machine_types.{specs.declared.phase.Phase.Phase, proofs.PlainPartLaws.frames_are}
 use Rattle.laws_threads.{specs.EntryFrames.frames_in, proofs.{EffectsOfInsns.{Fits, IsCalling}, Roots.numbered, ShownFrames.{by_top, fits_at, holds_at}}}
 use Rattle.laws_threads.proofs.ThreadMove.{GoesBy, Move, becomes, counting, any_move, if_either, if_mapped, tried_attempt}
@@ -37,16 +37,16 @@ by_static : (a b d : Bool) → (a && not (b || d)) ≡ true → d ≡ false
 by_static true false false e = refl
 by_static a b d e = absurd (cc)
 
+named_none : (p : Program) (u number : ℕ) (h m : MethodInfo) → slice_get p.methods u ≡ Some h → Some u ≡ Some number → slice_get p.methods number ≡ Some m → is_class_init_name h.name ≡ false → is_class_init_name m.name ≡ false
+named_none p u number h m at e there none = subst (λ (m : MethodInfo). is_class_init_name m.name ≡ false) (same_some (sym at ∙ ap (slice_get p.methods) (same_some e) ∙ there)) none
+
 called_none : (p : Program) (site : MethodSite) (pc number : ℕ) (op : Op) (target : Target) (r : OpRow) → called_method op target ≡ Some number → HasRow p site pc target op r → IsNoClassInit p number
 called_none p site pc number (ops.Invokevirtual i) (targets.Method u) r e h m there =
-    let same : h.method ≡ m = same_some (sym h.there ∙ ap (slice_get p.methods) (same_some e) ∙ there) in
-    subst (λ (m : MethodInfo). is_class_init_name m.name ≡ false) same (by_virtual (is_static h.method.flags) (is_init_name h.method.name) (is_class_init_name h.method.name) h.fits)
+    named_none p u number h.method m h.there e there (by_virtual (is_static h.method.flags) (is_init_name h.method.name) (is_class_init_name h.method.name) h.fits)
 called_none p site pc number (ops.Invokespecial i) (targets.Method u) r e h m there =
-    let same : h.method ≡ m = same_some (sym h.there ∙ ap (slice_get p.methods) (same_some e) ∙ there) in
-    subst (λ (m : MethodInfo). is_class_init_name m.name ≡ false) same (by_special (is_static h.method.flags) (is_class_init_name h.method.name) _ h.fits)
+    named_none p u number h.method m h.there e there (by_special (is_static h.method.flags) (is_class_init_name h.method.name) _ h.fits)
 called_none p site pc number (ops.Invokestatic i) (targets.Method u) r e h m there =
-    let same : h.method ≡ m = same_some (sym h.there ∙ ap (slice_get p.methods) (same_some e) ∙ there) in
-    subst (λ (m : MethodInfo). is_class_init_name m.name ≡ false) same (by_static (is_static h.method.flags) (is_init_name h.method.name) (is_class_init_name h.method.name) h.fits)
+    named_none p u number h.method m h.there e there (by_static (is_static h.method.flags) (is_init_name h.method.name) (is_class_init_name h.method.name) h.fits)
 called_none p site pc number op target r e h m there = absurd (let bad : None ≡ Some number = e in cc)
 
 entry_none : (p : Program) (name descriptor : List ℕ) (number : ℕ) → is_class_init_name name ≡ false → has_number (entries_named p name descriptor) number ≡ true → IsNoClassInit p number

@@ -8,7 +8,6 @@ use Rattle.machine_types.specs.{Threads.{Thread, Attempt}, declared.{lock.{Held.
 use Rattle.laws_threads.proofs.HeldBounds.{flat, flat_put, flat_without, flat_refit}
 use Rattle.laws_threads.proofs.ThreadMove.{Lacks, GoesBy, Checks, LeadsTo, TurnsTo, Move, becomes, counting, begun_by, counted_move, looks_in, takes_in}
 use Rattle.laws_states.{specs.Counters.drawn_for_flat, proofs.SameTally.{Tally, goes_if}}
-use Rattle.jvm_types.specs.declared.outcome.End.TheVariants as ends
 use Rattle.machine_types.specs.declared.lock.Kept.TheVariants as keeps
 use Rattle.machine_types.specs.declared.phase.Phase.TheVariants as phases
 use Rattle.laws_threads.proofs.ThreadMove as moves

@@ -1,5 +1,5 @@
 -- The phase that counts, and phases that know nothing of locks.
-use Rattle.std.proofs.Common.{◌≡◌, ℕ, Some, None, refl, sym, ap, ◌∙◌, subst, arith}
+use Rattle.std.proofs.Common.{◌≡◌, ℕ, Some, None, sym, ap, ◌∙◌, subst, arith}
 use Rattle.jvm_types.specs.declared.outcome.End.{End}
 use Rattle.machine_types.specs.{Owners.{Locks, Knows, PhaseSaw, drawn_by}, Structure.{IsLimitAt, IsAs, CountsTurns, DrawsToWait}, declared.phase.Phase.Phase}
 use Rattle.laws_threads.specs.StructureLaws.{turned_from, counted_by}

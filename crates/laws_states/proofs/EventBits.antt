@@ -1,5 +1,5 @@
 -- Whatever event happens, the waiting bits of a record are changed by its owner alone.
-use Rattle.std.proofs.Common.{⊎_elim, ◌≡◌, ◌⊎◌, inl, inr, ℕ, ◌+◌, ◌-◌, ◌*◌, ◌^◌, ◌<◌, ◌≤◌, nat_lt, Bool, true, false, not, Some, refl, sym, ap, ◌∙◌, subst, arith, ◌≢◌, ◌==◌, bit_and, bit_or, slice_index, slice_set}
+use Rattle.std.proofs.Common.{⊎_elim, ◌≡◌, ◌⊎◌, inl, inr, ℕ, ◌+◌, ◌-◌, ◌*◌, ◌^◌, ◌<◌, nat_lt, Bool, true, false, not, Some, refl, sym, ap, ◌∙◌, subst, arith, ◌≢◌, ◌==◌, bit_and, bit_or, slice_index, slice_set}
 use Rattle.std.{specs.Int.bit_at, proofs.lemmas.{Bool.Decides.nat_tests, Grind.and_not_bit, Nat.{pow_below, Bits.{and_pow, bit_at_above, bit_at-pow_other}}}}
 use Rattle.jvm_types.specs.{Numbers.has_flag, declared.fixed_words.TheConstants.MONITOR_RECORDS}
 use Rattle.machine_types.specs.{Accesses.words_after, Events.wanted, Monitors.bit_of, Owners.owner_at, Structure.IsAs, Waiting.is_bit_set, Words.bits_word, declared.phase.Phase.Phase}

@@ -153,9 +153,6 @@ module _ (sites : KnownSites) (mover : LockMover) where
   made_fat m r (Some h) at flat is = grows m h at flat.0 r flat.1 is
 
   pub locks_by_phase : (phase : Phase) → x.phase ≡ phase → IsAs phase (was t) → Done phase
-  locks_by_phase phases.Run e k = quietly phases.Run e tt
-  locks_by_phase (phases.Element word stored) e k = quietly (phases.Element word stored) e tt
-  locks_by_phase (phases.Made a word) e k = quietly (phases.Made a word) e tt
   locks_by_phase (phases.Throw z class) e k = looked x.attempt
   locks_by_phase (phases.Enter m n) e k = entered m (claim x m)
   locks_by_phase (phases.Acquire m) e k = loaded m
@@ -170,11 +167,12 @@ module _ (sites : KnownSites) (mover : LockMover) where
       (lock_reached c.program objects s (Store m (freed x (count_kept (held_at x.held m)))) (phase_reaches mover sites (phases.FlatOut m after) e))
   locks_by_phase (phases.Own m r toward) e k = owner_written r _ (fits_bounds mover (phases.Own m r toward) e)
   locks_by_phase (phases.FatIn m r toward) e k = made_fat m r (held_at x.held m) refl (phase_shows mover (phases.FatIn m r toward) k).flat (lock_reached c.program objects s (Store m (word_of_lock (locks.Fat r))) (phase_reaches mover sites (phases.FatIn m r toward) e))
-  locks_by_phase (phases.WaitBit m r) e k = quietly (phases.WaitBit m r) e tt
   locks_by_phase (phases.WaitOut m r) e k = owner_written r 0 (fits_bounds mover (phases.WaitOut m r) e)
   locks_by_phase (phases.WaitLook m r depth) e k = loaded (bits_word r)
   locks_by_phase (phases.Retake m r depth) e k = owner_written r _ (fits_bounds mover (phases.Retake m r depth) e)
   locks_by_phase (phases.NotifyLook m r) e k = loaded (bits_word r)
-  locks_by_phase (phases.NotifyOne m r u) e k = quietly (phases.NotifyOne m r u) e tt
-  locks_by_phase (phases.NotifyAll m r) e k = quietly (phases.NotifyAll m r) e tt
-  locks_by_phase phase e k = unchanged
+  locks_by_phase phases.Idle e k = unchanged
+  locks_by_phase phases.Start e k = unchanged
+  locks_by_phase (phases.Ending reason) e k = unchanged
+  locks_by_phase (phases.Ended reason) e k = unchanged
+  locks_by_phase phase e k = quietly phase e tt

@@ -1,7 +1,7 @@
 -- What an event finds of headers, fields and elements is what stands there.
 use Rattle.std.proofs.Common.{◌≡◌, ℕ, ◌<◌, ◌^◌, inl, inr, true, List, [], ◌∷◌, length, Option, Some, None, refl, ap, sym, subst, ◌∙◌, arith, slice_index, IsSome}
 use Rattle.lists.proofs.ListLaws.{same_some}
-use Rattle.jvm_types.specs.{ClassNames.is_throwable, ProgramInvariant.IsProgram, declared.{class_numbers.TheConstants.{INT_ARRAY_CLASS, THROWABLE_CLASS}, code.Insn.Insn, op_row.OpRow.OpRow}}
+use Rattle.jvm_types.specs.{ClassNames.is_throwable, declared.{class_numbers.TheConstants.{INT_ARRAY_CLASS, THROWABLE_CLASS}, code.Insn.Insn, op_row.OpRow.OpRow}}
 use Rattle.jvm_types.specs.declared.{outcome.Thrown.Thrown, program.{FieldInfo.FieldInfo, Kind.Kind, MethodInfo.MethodInfo, Target.Target}}
 use Rattle.laws_programs.proofs.ClassTreeLaws.{leaves_alone, throwables_below}
 use Rattle.checked_program.specs.{MarkedProgram.{MarkedProgram, IsMarked}, TaggedCode.row_of}
@@ -9,7 +9,7 @@ use Rattle.machine_types.specs.{Accesses.found_by, Core.Core, Events.{element_wa
 use Rattle.machine_types.specs.{FoundWords.{IsHeader, WordFits, kind_content, variable_content, effect_content, run_content, leave_content, content_at}, Frames.{Top, top_of, effect_at}}
 use Rattle.machine_types.specs.{Instructions.{effect_wants, run_wants}, Monitors.{Claim, Has, Tries, HasNot, claim}, PlainMemory.{Object, header_of}, ReadyObjects.{class_of, thrown_of}}
 use Rattle.machine_types.specs.{Threads.{Frame, Thread}, Typed.{KindHolds, FramesHold, HasClass, PhaseHolds}, Words.{header_class, header_length, header_word, variable_word}}
-use Rattle.machine_types.specs.declared.{effect.{Effect.{Effect, TheVariants.{Goes, Reads, Writes, Indexes, Measures, Raises, Calls, Stuck}}, Variable.Variable}, lock.Kept.Kept, phase.Phase.Phase}
+use Rattle.machine_types.specs.declared.{effect.{Effect.{Effect, TheVariants.{Reads, Writes, Indexes, Measures, Raises}}, Variable.Variable}, lock.Kept.Kept, phase.Phase.Phase}
 use Rattle.laws_threads.{specs.Allowed.{IsOf, IsNamedField, Allowed}, proofs.{KeptPhases.PhaseFinds, Landing.stand_top, Onwards.FoundHolds, Standings.top_here, TopEffects.allowed_here}}
 use Rattle.laws_states.{specs.{FoundLaws.{IsOfHeap, HeapWordsFit}, HeapFacts.HeapFacts}, proofs.Accesses.{out_there, read_holds, content_is, ElementSite, element_site, element_small}}
 use Rattle.laws_states.proofs.{Headers.{array_length, class_small, thrown_is, thrown_some, throwable_small}, Lists.contained_got, Movers.{HeapState, HeapMover, heap_mover}, Phases.asked}

@@ -8,7 +8,6 @@ use Rattle.checked_program.proofs.FewFields.{counts_few}
 use Rattle.machine_types.specs.{FoundWords.IsHeader, NewObjects.size_by, PlainMemory.{Object, header_of, new_object}, ReadyObjects.{class_of, thrown_of, throwables}}
 use Rattle.machine_types.specs.Words.{header, header_class, header_length, object_size, array_size}
 use Rattle.laws_threads.specs.Allowed.{MadeAs}
-use Rattle.jvm_types.specs.declared.outcome.Thrown.TheVariants as thrown
 
 -- ---- a class and a length
 

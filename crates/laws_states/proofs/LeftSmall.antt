@@ -1,14 +1,14 @@
 -- What an event leaves of a word is below 2^64, and what it adds to a counter is little.
-use Rattle.std.proofs.Common.{◌≡◌, ◌⊎◌, inl, inr, ℕ, zero, suc, ◌+◌, ◌*◌, ◌/◌, ◌%◌, ◌^◌, ◌<◌, ◌≤◌, nat_lt, nat_le, Bool, true, false, Option, Some, None, refl, sym, subst, arith, if◌then◌else◌}
+use Rattle.std.proofs.Common.{◌≡◌, ◌⊎◌, inl, inr, ℕ, zero, suc, ◌+◌, ◌*◌, ◌/◌, ◌%◌, ◌^◌, ◌<◌, ◌≤◌, nat_lt, Bool, true, false, Option, Some, None, refl, sym, subst, arith, if◌then◌else◌}
 use Rattle.std.proofs.lemmas.Bool.Decides.{nat_tests}
 use Rattle.lists.proofs.ListLaws.{same_some}
 use Rattle.jvm_types.specs.declared.{fixed_words.TheConstants.{NEXT_FREE_WORD, NEXT_TICKET_WORD, NEXT_RECORD_WORD}, program.{Program.Program, Target.Target}}
 use Rattle.checked_program.specs.MarkedProgram.{MarkedProgram}
 use Rattle.machine_types.specs.{Accesses.{accessed, left_by}, Elision.looks, Events.{element_wants, wanted}}
 use Rattle.machine_types.specs.{FoundWords.{Content, Lock, Owner, Bits, Any, effect_content, run_content, leave_content, content_at}, Frames.{Top, top_of, effect_at}}
-use Rattle.machine_types.specs.{Instructions.{has_print_left, effect_wants, run_wants}, LockWords.{lock_by, is_lock_by}}
+use Rattle.machine_types.specs.{LockWords.{lock_by, is_lock_by}}
 use Rattle.machine_types.specs.{Monitors.{Claim, Has, Tries, HasNot, claim, enter_wants, finish_wants, leave_wants, release}, Threads.{Attempt, Thread}, Words.variable_word, declared.access.Access.Access}
-use Rattle.machine_types.specs.declared.{access.Access.TheVariants.{Load, Store, Add}, effect.Effect.{Effect, TheVariants.{Goes, Reads, Writes, Indexes, Measures, Raises, Makes, Prints, Calls}}}
+use Rattle.machine_types.specs.declared.{access.Access.TheVariants.{Load, Store, Add}, effect.Effect.{Effect, TheVariants.{Writes}}}
 use Rattle.machine_types.specs.declared.{lock.Kept.Kept, phase.Phase.Phase}
 use Rattle.laws_threads.proofs.ThreadMove.{begun_by}
 use Rattle.laws_states.{specs.{Counters.most_size, SharedWords.{CountsTo, IsLock, MayStand}}, proofs.{CountedEvents.drawn_by, LeftStands.{Wants, loads, writes, makes, prints, run_wanted, leaves, no_access, loaded}}}

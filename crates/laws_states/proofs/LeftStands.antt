@@ -1,11 +1,11 @@
 -- What an event leaves of a word of a lock or of a record, phase by phase.
-use Rattle.std.proofs.Common.{◌≡◌, ℕ, zero, suc, ◌+◌, ◌-◌, ◌*◌, ◌/◌, ◌%◌, ◌^◌, ◌<◌, ◌≤◌, nat_lt, nat_le, Bool, true, false, ◌&&◌, Option, Some, None, refl, sym, ap, ◌∙◌, subst, arith, ◌==◌, bit_and, bit_or, if◌then◌else◌}
+use Rattle.std.proofs.Common.{◌≡◌, ℕ, zero, suc, ◌+◌, ◌-◌, ◌*◌, ◌/◌, ◌%◌, ◌^◌, ◌<◌, ◌≤◌, nat_lt, nat_le, Bool, true, false, ◌&&◌, Option, Some, None, refl, sym, ap, ◌∙◌, subst, arith, ◌==◌, if◌then◌else◌}
 use Rattle.std.proofs.lemmas.{Bool.Decides.nat_tests, Nat.{or_lt, and_le_l}}
 use Rattle.lists.proofs.ListLaws.{same_some}
 use Rattle.jvm_types.specs.declared.{fixed_words.TheConstants.{NEXT_FREE_WORD, NEXT_TICKET_WORD, MONITOR_RECORDS}, program.{FieldInfo.FieldInfo, Kind.Kind, Program.Program, Target.Target}}
 use Rattle.machine_types.specs.{Accesses.left_by, Bounds.PhaseFits, Elision.looks, Events.wanted}
 use Rattle.machine_types.specs.{FoundWords.{Content, IntPlace, ReferencePlace, Any, kind_content, field_content, variable_content, effect_content, run_content, leave_content, content_at}, Frames.{Top, top_of, effect_at}}
-use Rattle.machine_types.specs.{HeldMonitors.held_at, Instructions.{has_print_left, effect_wants, run_wants}, LockWords.{word_of_lock, lock_by, lock_of, is_lock_by, is_lock_word, next_count}}
+use Rattle.machine_types.specs.{HeldMonitors.held_at, Instructions.{has_print_left, effect_wants, run_wants}, LockWords.{word_of_lock, lock_by, lock_of, is_lock_by, next_count}}
 use Rattle.machine_types.specs.{Monitors.{Claim, Has, Tries, HasNot, claim, count_kept, enter_wants, finish_wants, freed, leave_wants, release, bit_of}, Threads.{Attempt, Thread}}
 use Rattle.machine_types.specs.declared.{access.Access.{Access, TheVariants.{Load, Store, Add}}, effect.{Effect.Effect, Variable.Variable}, lock.{Held.Held, Kept.Kept, LockWord.LockWord}}
 use Rattle.machine_types.specs.{Words.variable_word, declared.{effect.Effect.TheVariants.{Goes, Reads, Writes, Indexes, Measures, Raises, Makes, Prints, Calls}, phase.Phase.Phase}}

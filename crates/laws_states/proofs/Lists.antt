@@ -1,5 +1,5 @@
 -- Items that lists contain, by their indexes, and words that are set.
-use Rattle.std.proofs.Common.{◌≡◌, ◌≢◌, ◌⊎◌, ℕ, zero, suc, ◌<◌, List, ◌∷◌, map, length, Some, refl, subst, arith, Contains, slice_get, slice_index, slice_set}
+use Rattle.std.proofs.Common.{◌≡◌, ◌≢◌, ◌⊎◌, ℕ, zero, suc, ◌<◌, List, ◌∷◌, map, length, Some, refl, subst, Contains, slice_get, slice_index, slice_set}
 use Rattle.std.proofs.lemmas.{Bool.cases_eq, List.{get_or-set_same, get_or-set_other}}
 use Rattle.lists.proofs.ListLaws.{same_some}
 use Rattle.machine_types.proofs.Lists.{got_contained}

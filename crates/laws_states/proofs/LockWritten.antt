@@ -7,7 +7,6 @@ use Rattle.machine_types.specs.{Structure.AreHeldOnce, Threads.{Attempt, Thread}
 use Rattle.laws_threads.proofs.HeldLists.{held_put, held_without}
 use Rattle.laws_states.proofs.{LockViews.{set_lock, recounted, not_held, knows_by, phase_by, attempt_by}, OwnersStep.{Owes, flat_in}}
 use Rattle.machine_types.specs.declared.lock.LockWord.TheVariants as locks
-use Rattle.machine_types.specs.declared.phase.Phase.TheVariants as phases
 
 -- ---- counts that were seen
 

@@ -2,11 +2,11 @@
 use Rattle.std.proofs.Common.{⊎_elim, ◌≡◌, ◌≢◌, ◌⊎◌, inl, inr, ℕ, zero, suc, ◌+◌, ◌-◌, ◌<◌, ◌≤◌, ◌^◌, Bool, true, false, List, ◌∷◌, length, Some, refl, ap, sym, subst, ◌∙◌, arith, ◌==◌, Contains, replicate, slice_get, slice_index, slice_set, if◌then◌else◌}
 use Rattle.std.proofs.lemmas.{Bool.Decides.nat_tests, List.{length-replicate, length-set}}
 use Rattle.lists.proofs.ListLaws.{same_some}
-use Rattle.jvm_types.specs.{Members.is_static, ProgramInvariant.{IsProgram, instances_among}, declared.class_numbers.TheConstants.INT_ARRAY_CLASS}
+use Rattle.jvm_types.specs.{Members.is_static, ProgramInvariant.{instances_among}, declared.class_numbers.TheConstants.INT_ARRAY_CLASS}
 use Rattle.jvm_types.specs.declared.{fixed_words.TheConstants.{OBJECT_HEAD_WORDS, FIRST_READY_WORD, NEXT_FREE_WORD}, program.{FieldInfo.FieldInfo, Kind.Kind}}
 use Rattle.laws_programs.proofs.FieldOrder.{instances_inside, statics_inside}
 use Rattle.machine_types.specs.{FoundWords.IsHeader, NewObjects.{size_by, IsNewObject}, ObjectsApart.{IsBeside, IsOutside, LieApart}}
-use Rattle.machine_types.specs.{PlainMemory.{Object, StaticValue, object_end, header_of, new_object, start_statics}, StartLaws.StartLiesApart, Threads.Thread}
+use Rattle.machine_types.specs.{PlainMemory.{Object, object_end, header_of, new_object, start_statics}, StartLaws.StartLiesApart, Threads.Thread}
 use Rattle.machine_types.specs.{Typed.{Classes, KindHolds, HasClass, PlacesHold}, Words.{header_class, header_length, header_word, value_word, object_size, array_size}}
 use Rattle.machine_types.proofs.AttemptsPlain.{size_two}
 use Rattle.laws_threads.proofs.MonitorMoves.{contains_got}

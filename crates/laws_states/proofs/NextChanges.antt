@@ -5,7 +5,7 @@ use Rattle.jvm_types.specs.declared.program.Target.{Target}
 use Rattle.checked_program.specs.MarkedProgram.{MarkedProgram}
 use Rattle.machine_types.specs.{Elision.{fails, elided}, Events.{thread_started, element_made, moved}}
 use Rattle.machine_types.specs.Frames.{Top, at_pc, top_at, top_in, top_of, frames_of, went_on, has_room, entry_frame, monitor_of, returned, handler_at, caught, pushed}
-use Rattle.machine_types.specs.{Going.{runs, failed_turn, root_over, goes_on, goes_on_if, goes_after, with_phase}, HeldMonitors.{with_held, without_held, deeper, shallower}}
+use Rattle.machine_types.specs.{Going.{runs, root_over, goes_on, goes_on_if, goes_after, with_phase}, HeldMonitors.{with_held, without_held, deeper, shallower}}
 use Rattle.machine_types.specs.{Monitors.{takes, grown}, Onward.{Running, Leaving, Uncaught, root_arguments, rooted, back, unwound, handed, Onward}, ReadyObjects.class_of}
 use Rattle.machine_types.specs.{Threads.{Frame, Thread, Attempt}, declared.phase.{After.After, Phase.Phase, Toward.Toward}}
 use Rattle.laws_threads.proofs.ThreadMove.{GoesBy, Checks, LeadsTo, Move, begun_attempt, becomes, counted_at, by_move, looks_in, takes_in, runs_to}

@@ -1,11 +1,11 @@
 -- What the next event of a lawful thread takes is there, phase by phase.
-use Rattle.std.proofs.Common.{⊎_elim, ◌≡◌, ◌⊎◌, inl, inr, ℕ, ◌<◌, ◌≤◌, true, List, [], ◌∷◌, length, Option, Some, None, refl, ap, subst, ◌∙◌, arith, get_or, IsSome, IsTrue, slice_get, option_map}
+use Rattle.std.proofs.Common.{⊎_elim, ◌≡◌, ℕ, ◌<◌, ◌≤◌, true, List, [], ◌∷◌, length, Option, Some, None, refl, ap, subst, ◌∙◌, arith, get_or, IsSome, IsTrue, slice_get, option_map}
 use Rattle.std.{specs.List.AllByRecursion, proofs.lemmas.Option.slice_get_cases}
 use Rattle.jvm_types.specs.{Numbers.has_number, Verifying.is_return, declared.program.{MethodInfo.MethodInfo, Program.Program}}
 use Rattle.checked_program.specs.MarkedProgram.{MarkedProgram, IsMarked}
 use Rattle.machine_types.specs.{Bounds.{FramesFit, part_roots}, Core.is_live, FoundWords.{WordFits, effect_content}, Frames.{Top, top_of, effect_at, handler_at}, HeldMonitors.held_at}
 use Rattle.machine_types.specs.{Lawful.{IsLawful, within}, Onward.handed, ReadyObjects.class_of, Structure.{HasFrame, IsFlat, IsFat, AfterShows, Stands, IsAs}, Threads.{Frame, Thread}}
-use Rattle.machine_types.specs.{Typed.{AfterHolds, FramesHold, PhaseHolds}, declared.effect.Effect.{Effect, TheVariants.{Indexes, Raises, Makes, Calls, Returns, Waits, Notifies, NotifiesAll, Stuck}}}
+use Rattle.machine_types.specs.{Typed.{AfterHolds, FramesHold, PhaseHolds}, declared.effect.Effect.{Effect, TheVariants.{Raises, Calls, Returns}}}
 use Rattle.machine_types.specs.declared.{lock.Held.Held, phase.{After.{After, TheVariants.{Next, Return, Unwind}}, Phase.Phase}}
 use Rattle.laws_threads.{specs.TopFrames.{BelowFits, IsAllowed}, proofs.{Callers.returns_fit, KeptRoots.roots_within, Landing.stand_top, Onwards.same_op, Standings.top_here}}
 use Rattle.laws_threads.proofs.{TopEffects.effects_allowed, TopStand.{thrown_stand, made_stand}}

@@ -5,7 +5,7 @@ use Rattle.jvm_types.specs.Numbers.{has_number}
 use Rattle.laws_programs.proofs.LocalGoing.{at_index}
 use Rattle.checked_program.specs.MarkedProgram.{MarkedProgram}
 use Rattle.machine_types.specs.{Bounds.part_roots, Core.{Core, may_begin, may_begin_by, how_ended, next, next_threads, part_begins, with_roots}, Facts.IsThread, Lawful.IsLawful}
-use Rattle.machine_types.{specs.{Parts.{run_roots, done_roots}, Threads.Thread, declared.{config.Config.Config, phase.Phase.Phase}}, proofs.AtStart.all_among}
+use Rattle.machine_types.{specs.{Parts.{run_roots, done_roots}, Threads.Thread, declared.{config.Config.Config}}, proofs.AtStart.all_among}
 use Rattle.laws_threads.{specs.PartLaws.PartFits, proofs.PartSteps.returned}
 use Rattle.laws_states.{specs.RunFacts.AreThreads, proofs.{Lists.{first_each, mapped_each}, PartLawful.{IsBetween, is_idle, has_returned as is_returned, lawful_anew, lawful_seen}}}
 use Rattle.jvm_types.specs.declared.outcome.End.TheVariants as ends

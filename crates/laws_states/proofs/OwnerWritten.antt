@@ -1,10 +1,9 @@
 -- A write of the owner of a record by a thread: what it has to show.
-use Rattle.std.proofs.{Common.{◌≡◌, ◌≢◌, inl, ℕ, ◌+◌, ◌≤◌, Bool, true, false, cond, Option, Some, None, refl, sym, ap, ◌∙◌, subst, ◌==◌}, lemmas.Bool.{ne_eqb, Decides.Decides-eqb}}
+use Rattle.std.proofs.{Common.{◌≡◌, ◌≢◌, inl, ℕ, ◌+◌, ◌≤◌, Bool, true, false, cond, Option, Some, refl, sym, ap, ◌∙◌, subst, ◌==◌}, lemmas.Bool.{ne_eqb, Decides.Decides-eqb}}
 use Rattle.machine_types.specs.{HeldMonitors.held_at, Owners.{Locks, NotHeld, HeldFat, hold_by_word, hold_by_list, drawn_by, Knows, PhaseSaw, AttemptSawIn, IsKeptIn, Owns, AreLocks}}
 use Rattle.machine_types.{specs.{Threads.{Attempt, Thread}, declared.{config.Config.Config, lock.LockWord.LockWord, phase.Phase.Phase}}, proofs.PlainStepLaws.is_same}
 use Rattle.laws_states.proofs.{LockViews.{set_owner, knows_by, phase_by, attempt_by}, OwnersStep.{Owes, flat_in}}
 use Rattle.machine_types.specs.declared.lock.LockWord.TheVariants as locks
-use Rattle.machine_types.specs.declared.phase.Phase.TheVariants as phases
 
 module _ (v : Locks) (count : ℕ → ℕ) (one owner : ℕ) where
   -- a thread that owns the record neither before nor after has all as before

@@ -13,7 +13,6 @@ use Rattle.laws_states.proofs.{LockWritten.{lock_written, put_holds, drop_holds,
 use Rattle.laws_states.proofs.OwnersStep.{Owes, flat_in}
 use Rattle.machine_types.specs.declared.lock.Kept.TheVariants as keeps
 use Rattle.machine_types.specs.declared.lock.LockWord.TheVariants as locks
-use Rattle.machine_types.specs.declared.phase.Phase.TheVariants as phases
 
 -- what became of a thread, that now holds these monitors
 pub record Became (x y : Thread) (held : List Held) (taken : ℕ) : Type 0 where

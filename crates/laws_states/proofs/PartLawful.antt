@@ -1,5 +1,5 @@
 -- The begin of a part keeps threads lawful.
-use Rattle.std.{proofs.Common.{◌≡◌, ℕ, List, [], ◌∷◌, Option, Some, None, refl, sym, subst, arith, ◌⊎◌, inl, inr, IsTrue}, specs.List.AllByRecursion}
+use Rattle.std.{proofs.Common.{◌≡◌, ℕ, List, [], ◌∷◌, Option, Some, None, refl, sym, subst, arith, IsTrue}, specs.List.AllByRecursion}
 use Rattle.jvm_types.specs.{Numbers.has_number, declared.outcome.End.End}
 use Rattle.checked_program.specs.MarkedProgram.{MarkedProgram}
 use Rattle.machine_types.specs.{Bounds.{IsBounded, IsRooted, part_roots}, Core.{part_phase, with_roots}, Lawful.{IsLawful, IsTypedWithin}, Structure.{IsStructured, IsAs, Stands, AttemptStandsIn}}

@@ -1,5 +1,5 @@
 -- Where a part of the run begins, each thread holds what it held.
-use Rattle.std.proofs.Common.{⊎_elim, ◌≡◌, ◌⊎◌, inl, inr, ℕ, zero, suc, ◌≤◌, Bool, true, false, cond, List, [], ◌∷◌, map, Option, Some, refl, ap, sym, subst, ◌∙◌, arith, slice_get, if◌then◌else◌}
+use Rattle.std.proofs.Common.{⊎_elim, ◌≡◌, inl, inr, ℕ, zero, suc, ◌≤◌, Bool, true, false, cond, List, [], ◌∷◌, map, Option, Some, refl, ap, sym, subst, ◌∙◌, arith, slice_get, if◌then◌else◌}
 use Rattle.std.{specs.List.sum_by, proofs.lemmas.List.Sums.sum_by-cons}
 use Rattle.jvm_types.specs.declared.{outcome.End.End, program.Program.Program}
 use Rattle.machine_types.specs.{Core.{may_begin, with_roots, how_ended, part_begins, next_threads, next}, HeldMonitors.held_at}

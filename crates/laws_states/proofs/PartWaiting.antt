@@ -1,8 +1,8 @@
 -- Where a part of the run begins, nobody waits who did not: the threads of the part waited for it.
-use Rattle.std.proofs.Common.{◌≡◌, ℕ, zero, suc, ◌<◌, Bool, true, false, cond, List, [], ◌∷◌, map, Option, Some, refl, ap, sym, subst, IsSome, slice_get}
+use Rattle.std.proofs.Common.{◌≡◌, ℕ, zero, suc, ◌<◌, Bool, true, false, cond, List, [], ◌∷◌, map, Option, Some, refl, sym, subst, IsSome, slice_get}
 use Rattle.jvm_types.specs.declared.{fixed_words.TheConstants.MONITOR_RECORDS, outcome.End.End}
 use Rattle.checked_program.specs.MarkedProgram.{MarkedProgram}
-use Rattle.machine_types.specs.{Core.{part_phase, may_begin_by, may_begin, with_roots, how_ended, part_begins, next_threads}, Parts.{run_roots, done_roots}, Structure.{IsLimitAt, IsAs, Structure}}
+use Rattle.machine_types.specs.{Core.{part_phase, may_begin_by, may_begin, with_roots, how_ended, part_begins, next_threads}, Parts.{run_roots, done_roots}, Structure.{IsAs, Structure}}
 use Rattle.machine_types.specs.{Threads.Thread, Waiting.{is_bit_set, MayWait, Waits, Waiting}, declared.phase.Phase.Phase}
 use Rattle.laws_threads.{specs.{PartLaws.{PartFits, PartsFit}, StateLaws.counted_of, StructureLaws.{turned_from, counted_by}}, proofs.PartSteps.one_idle}
 use Rattle.laws_states.{specs.WaitingLaws.NextKeepsWaiting, proofs.{CountedPhases.counted_keeps, Lists.{first_each, mapped_each}}}

@@ -1,10 +1,10 @@
 -- The types of places, site by site.
-use Rattle.std.proofs.Common.{◌≡◌, ◌≢◌, ◌⊎◌, inl, inr, ℕ, ◌<◌, ◌≤◌, ◌^◌, true, false, List, length, Some, refl, sym, ap, subst, ◌∙◌, arith, Contains, slice_get, slice_index}
+use Rattle.std.proofs.Common.{◌≡◌, inl, inr, ℕ, ◌<◌, ◌≤◌, ◌^◌, true, false, List, length, Some, refl, sym, ap, subst, ◌∙◌, arith, Contains, slice_get, slice_index}
 use Rattle.lists.proofs.ListLaws.{same_some}
 use Rattle.jvm_types.specs.{Members.is_static, ProgramInvariant.{IsProgram, instances_among}, declared.{class_numbers.TheConstants.INT_ARRAY_CLASS, fixed_words.TheConstants.NEXT_FREE_WORD}}
 use Rattle.jvm_types.specs.declared.program.{FieldInfo.FieldInfo, Program.Program}
 use Rattle.laws_programs.proofs.FieldOrder.{instances_inside, one_instance_field, one_static_field}
-use Rattle.machine_types.specs.{Core.Core, ObjectsApart.{IsBeside, LieApart}, PlainMemory.{Object, header_of, start_statics}, Typed.{KindHolds, HasClass, PlacesHold}, Words.{header_word, value_word}}
+use Rattle.machine_types.specs.{Core.Core, ObjectsApart.{LieApart}, PlainMemory.{Object, header_of, start_statics}, Typed.{KindHolds, HasClass, PlacesHold}, Words.{header_word, value_word}}
 use Rattle.laws_states.{specs.Sites.{Site, Counter, HeaderOf, ValueOf, StaticAt, site_word, IsThere}, proofs.Lists.{contained_got, same_or_not}}
 
 -- ---- what a word has to be where it stands

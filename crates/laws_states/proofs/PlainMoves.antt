@@ -3,7 +3,7 @@ use Rattle.std.proofs.Common.{◌≡◌, ℕ, zero, suc, ◌<◌, nat_lt, Bool, 
 use Rattle.jvm_types.specs.declared.program.Program.{Program}
 use Rattle.checked_program.specs.MarkedProgram.{MarkedProgram}
 use Rattle.machine_types.specs.{Elision.{is_same, elided}, Events.moved, Frames.went_on, Going.{goes_on, goes_on_if}, Instructions.printed, Monitors.finishes, Onward.{Onward, Running, RootReturned}}
-use Rattle.machine_types.specs.{Owners.{Locks, IsSeen, AttemptSawIn}, Threads.{Thread, Attempt}, declared.{config.Config.Config, lock.Kept.Kept, phase.{After.After, Phase.Phase}}}
+use Rattle.machine_types.specs.{Owners.{Locks, IsSeen, AttemptSawIn}, Threads.{Thread, Attempt}, declared.{config.Config.Config, phase.{After.After, Phase.Phase}}}
 use Rattle.laws_threads.proofs.ThreadMove.{LeadsTo, TurnsTo, Asks, WaitsFrom, Move, becomes, counting, any_move, if_either, looks_in, takes_in, gives_up_in, over_to, same_onward}
 use Rattle.laws_states.proofs.{CalmMoves.{waits_in, asks_in}, CountedPhases.IsPlain}
 use Rattle.jvm_types.specs.declared.outcome.End.TheVariants as ends

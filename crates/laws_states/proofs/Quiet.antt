@@ -4,7 +4,7 @@ use Rattle.std.{proofs.Common.{◌≡◌, ℕ, List, Option, Some, refl, sym, su
 use Rattle.jvm_types.specs.declared.program.Program.{Program}
 use Rattle.checked_program.specs.MarkedProgram.{MarkedProgram}
 use Rattle.machine_types.specs.{Elision.elided, Frames.went_on, Going.{runs, goes_on, goes_on_if}, HeldMonitors.{held_at, with_held, without_held, deeper, shallower}, Instructions.printed}
-use Rattle.machine_types.specs.{Monitors.grown, Onward.{Onward, Running, after}, Threads.Thread, Typed.{Classes, IsObject}, declared.{lock.{Held.Held, Kept.Kept}, phase.{After.After, Phase.Phase}}}
+use Rattle.machine_types.specs.{Monitors.grown, Onward.{Onward, Running, after}, Threads.Thread, Typed.{Classes, IsObject}, declared.{lock.{Held.Held}, phase.{Phase.Phase}}}
 use Rattle.machine_types.specs.declared.phase.Toward.{Toward}
 use Rattle.laws_threads.proofs.{HeldBounds.{each_put, each_without, found}, HeldLists.held_monitor}
 use Rattle.laws_threads.proofs.ThreadMove.{Lacks, LeadsTo, TurnsTo, Takes, GivesUp, Asks, WaitsFrom, Move, becomes, takes_in, gives_up_in, runs_to, turns_to, same_onward, IsOnward, onward_to, onward_if_to}

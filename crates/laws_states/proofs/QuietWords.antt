@@ -1,13 +1,13 @@
 -- Most events change nothing of what the words say of locks.
-use Rattle.std.proofs.Common.{◌≡◌, ◌≢◌, ◌⊎◌, inl, inr, ℕ, ◌<◌, nat_lt, nat_le, Bool, true, false, cond, ◌∷◌, Option, Some, None, refl, sym, ap, ◌∙◌, subst, arith, slice_index, ◌==◌, ◌||◌}
+use Rattle.std.proofs.Common.{◌≡◌, ◌≢◌, ◌⊎◌, inl, inr, ℕ, ◌<◌, nat_lt, Bool, true, false, cond, ◌∷◌, Option, Some, refl, sym, ap, ◌∙◌, subst, arith, slice_index, ◌==◌, ◌||◌}
 use Rattle.std.proofs.lemmas.Bool.Decides.{nat_tests, Decides-eqb}
 use Rattle.lists.proofs.ListLaws.{same_some}
 use Rattle.jvm_types.specs.{Numbers.has_number, declared.{fixed_words.TheConstants.{NEXT_FREE_WORD, NEXT_TICKET_WORD, NEXT_RECORD_WORD, MONITOR_RECORDS}, program.{Program.Program, Target.Target}}}
 use Rattle.checked_program.specs.MarkedProgram.{MarkedProgram}
 use Rattle.machine_types.specs.{Accesses.{accessed, left_by, words_after}, Events.wanted, FoundWords.{Content, Bits, IntPlace, ReferencePlace, Any, effect_content, run_content, content_at}}
-use Rattle.machine_types.specs.{Frames.{Top, top_of, effect_at}, Instructions.{has_print_left, effect_wants, run_wants}, LockWords.lock_of, Owners.{lock_at, owner_at, locks_in, references_of}}
-use Rattle.machine_types.specs.{Threads.Thread, Words.{owner_word, header_word}, declared.{access.Access.{Access, TheVariants.{Store, Add}}, effect.Effect.Effect}}
-use Rattle.machine_types.specs.declared.{effect.Effect.TheVariants.{Goes, Reads, Writes, Calls, Indexes, Measures, Raises, Makes, Prints}, phase.Phase.Phase}
+use Rattle.machine_types.specs.{Frames.{Top, top_of, effect_at}, LockWords.lock_of, Owners.{lock_at, owner_at, locks_in, references_of}}
+use Rattle.machine_types.specs.{Threads.Thread, Words.{owner_word, header_word}, declared.{access.Access.{Access, TheVariants.{Add}}, effect.Effect.Effect}}
+use Rattle.machine_types.specs.declared.{effect.Effect.TheVariants.{Writes}, phase.Phase.Phase}
 use Rattle.laws_states.{specs.{HeapFacts.objects_by, Sites.{Site, Counter, OwnerOf, LockOf, NewHeaderOf, site_word, IsThere, Suits}}, proofs.EventWords.{IsLeft, phase_stores, word_at, some_words}}
 use Rattle.laws_states.proofs.{LeftSmall.PhaseStores, LeftStands.{Wants, loads, writes, makes, prints, run_wanted}, Lists.set_there, Movers.{KnownSites, HeapMover}, TopStores.{IsPlace, StoresFit}}
 use Rattle.laws_states.proofs.WordViews.{has_object, views_same, record_there}

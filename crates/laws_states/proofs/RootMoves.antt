@@ -4,7 +4,7 @@ use Rattle.jvm_types.specs.declared.{limits.TheConstants.MOST_ATTEMPTS, outcome.
 use Rattle.checked_program.specs.MarkedProgram.{MarkedProgram}
 use Rattle.machine_types.specs.{Elision.{elided, may_try, enters_marked}, Events.moved, Frames.{has_room, entry_frame}, Going.{runs, goes_on, goes_on_if}, HeldMonitors.held_at}
 use Rattle.machine_types.specs.{Instructions.{begun, printed}, Monitors.{Tries, claim}, Onward.{Onward, Running, RootReturned, Uncaught, rooted, root_arguments, after}}
-use Rattle.machine_types.specs.{Threads.{Attempt, Thread}, declared.{lock.Kept.Kept, phase.Phase.Phase}}
+use Rattle.machine_types.specs.{Threads.{Attempt, Thread}, declared.{phase.Phase.Phase}}
 use Rattle.laws_threads.proofs.ThreadMove.{LeadsTo, TurnsTo, Asks, WaitsFrom, Move, becomes, tried_attempt, each_move, runs_to, turns_to, over_to}
 use Rattle.laws_states.proofs.CalmMoves.{waits_in, asks_in}
 use Rattle.jvm_types.specs.declared.outcome.End.TheVariants as ends

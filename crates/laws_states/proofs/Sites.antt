@@ -1,9 +1,9 @@
 -- No word stands for two things.
-use Rattle.std.proofs.Common.{⊎_elim, ◌≡◌, ◌≢◌, ◌⊎◌, inl, inr, ℕ, ◌+◌, ◌<◌, ◌≤◌, List, Some, refl, sym, ap, subst, ◌∙◌, arith, Contains, slice_get, slice_index}
+use Rattle.std.proofs.Common.{⊎_elim, ◌≡◌, inl, inr, ℕ, ◌+◌, ◌<◌, ◌≤◌, List, Some, refl, sym, ap, subst, ◌∙◌, arith, Contains, slice_get, slice_index}
 use Rattle.lists.proofs.ListLaws.{same_some}
-use Rattle.jvm_types.specs.{ProgramInvariant.{IsProgram, words_of}, declared.{fixed_words.TheConstants.{FIRST_READY_WORD, NEXT_FREE_WORD}, program.Program.Program}}
+use Rattle.jvm_types.specs.{ProgramInvariant.{words_of}, declared.{fixed_words.TheConstants.{FIRST_READY_WORD, NEXT_FREE_WORD}, program.Program.Program}}
 use Rattle.checked_program.specs.MarkedProgram.{MarkedProgram, IsMarked}
-use Rattle.machine_types.specs.{Core.Core, NewObjects.{size_by, IsNewObject}, ObjectsApart.{IsBeside, IsOutside, LieApart}, PlainMemory.{Object, object_end, start_objects, start_statics}}
+use Rattle.machine_types.specs.{Core.Core, NewObjects.{size_by, IsNewObject}, ObjectsApart.{LieApart}, PlainMemory.{Object, object_end, start_objects, start_statics}}
 use Rattle.machine_types.{specs.{StartLaws.StartLiesApart, Threads.Thread}, proofs.AttemptsPlain.size_two}
 use Rattle.laws_states.specs.{HeapFacts.HeapFacts, SiteLaws.{SitesDiffer, SitesLieInside}}
 use Rattle.laws_states.{specs.Sites.{Site, Counter, OwnerOf, BitsOf, LockOf, HeaderOf, ValueOf, NewHeaderOf, StaticAt, site_word, HasStatic, IsThere}, proofs.Lists.{contained_got, same_or_not}}

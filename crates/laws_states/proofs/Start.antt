@@ -1,13 +1,13 @@
 -- What the words hold of objects and places at the start of a run. Headers and static fields are found by the plain machine's
 -- start, with which the words agree.
-use Rattle.std.proofs.Common.{◌≡◌, ◌≢◌, inl, inr, ℕ, zero, suc, pos, ◌+◌, ◌-◌, ◌<◌, ◌≤◌, ◌%◌, ◌^◌, Bool, true, false, ◌&&◌, List, [], ◌∷◌, ◌++◌, length, Option, Some, None, refl, ap, sym, subst, ◌∙◌, arith, ◌==◌, nat_lt, nat_le, cond, filter, Contains, slice_get, slice_index, if◌then◌else◌}
+use Rattle.std.proofs.Common.{◌≡◌, ◌≢◌, inl, inr, ℕ, zero, suc, pos, ◌+◌, ◌-◌, ◌<◌, ◌≤◌, ◌%◌, ◌^◌, Bool, true, false, ◌&&◌, List, [], ◌∷◌, ◌++◌, length, Some, None, refl, ap, sym, subst, ◌∙◌, arith, ◌==◌, nat_lt, nat_le, cond, filter, Contains, slice_get, slice_index, if◌then◌else◌}
 use Rattle.std.{specs.{Int.{w32, cast_unsigned}, List.{AllByRecursion, range_with_len}, Option.option_or}, proofs.lemmas.Bool.Decides.nat_tests}
 use Rattle.lists.proofs.ListLaws.{same_some}
 use Rattle.jvm_types.specs.{Layout.kept_int, Members.is_static, ProgramInvariant.{IsProgram, words_of}, declared.class_numbers.TheConstants.{CLASS_ITSELF, INT_ARRAY_CLASS}}
 use Rattle.jvm_types.specs.declared.{fixed_words.TheConstants.{OBJECT_HEAD_WORDS, FIRST_CLASS_WORD, FIRST_READY_WORD}, program.{FieldInfo.FieldInfo, Kind.Kind, Program.Program}}
 use Rattle.laws_programs.proofs.FieldOrder.{one_static_field}
 use Rattle.checked_program.specs.MarkedProgram.{MarkedProgram, IsMarked}
-use Rattle.machine_types.specs.{Agreement.{Agrees, IsPending}, Core.{start, start_thread, part_phase}, FoundWords.IsHeader, Ints.word_of, ObjectsApart.{IsBeside, IsOutside, LieApart}}
+use Rattle.machine_types.specs.{Core.{start, start_thread, part_phase}, FoundWords.IsHeader, Ints.word_of, ObjectsApart.{IsBeside, IsOutside, LieApart}}
 use Rattle.machine_types.specs.Parts.{init_roots}
 use Rattle.machine_types.specs.PlainMemory.{Object, StaticValue, object_end, header_of, value_in, first_value, object_value, static_value, objects_from, class_objects, start_objects, start_statics}
 use Rattle.machine_types.specs.{PlainState.{plain_start, value_at}, ReadyObjects.ready_classes, StartLaws.{StartAgrees, StartIsTyped, StartIsUnused, StartLiesApart}}

@@ -1,7 +1,6 @@
 -- The facts on states hold at the start, and stay, so they hold in every state that a run reaches.
-use Rattle.std.proofs.Common.{List, [], ◌∷◌}
 use Rattle.checked_program.specs.MarkedProgram.{MarkedProgram, IsMarked}
-use Rattle.machine_types.specs.{Core.{Core, Happening, Of, NextPart, start, happened, all_happened, core}, Owners.references_of, PlainMemory.start_objects}
+use Rattle.machine_types.specs.{Core.{Core, Happening, Of, NextPart, start, happened, core}, Owners.references_of, PlainMemory.start_objects}
 use Rattle.machine_types.specs.{StartLaws.{phase_at_start, StartIsStructured, StartOwns, StartWaits}, declared.config.Config.Config}
 use Rattle.laws_threads.specs.{PartLaws.{counted_next, NextKeepsStructure}, StateLaws.{counted_after, EventsKeepStructure}}
 use Rattle.laws_states.specs.{HeapFacts.objects_after, HeapLaws.{StartHasHeap, EventsKeepHeap, NextKeepsHeap}}

@@ -1,13 +1,11 @@
 -- Most events leave the waiting bits as they are.
-use Rattle.std.proofs.Common.{◌≡◌, ◌⊎◌, inl, inr, ℕ, ◌<◌, ◌^◌, List, Option, Some, None, sym, ap, ◌∙◌, subst, slice_get, slice_index}
-use Rattle.jvm_types.specs.{Numbers.has_flag, declared.{fixed_words.TheConstants.MONITOR_RECORDS, program.{FieldInfo.FieldInfo, Kind.Kind, Program.Program, Target.Target}}}
+use Rattle.std.proofs.Common.{◌≡◌, inl, inr, ℕ, ◌<◌, ◌^◌, List, Option, Some, None, sym, ap, ◌∙◌, subst, slice_index}
+use Rattle.jvm_types.specs.{Numbers.has_flag, declared.{fixed_words.TheConstants.MONITOR_RECORDS, program.{Program.Program, Target.Target}}}
 use Rattle.checked_program.specs.MarkedProgram.{MarkedProgram}
 use Rattle.machine_types.specs.{Accesses.{left_by, words_after}, Events.wanted, FoundWords.{Content, effect_content, run_content, leave_content, content_at}}
 use Rattle.machine_types.specs.{Frames.{Top, top_of, effect_at}, Monitors.{Claim, Has, Tries, HasNot, claim}, Owners.Locks, Threads.Thread, Words.bits_word, declared.access.Access.Access}
 use Rattle.machine_types.specs.declared.{access.Access.TheVariants.Load, effect.Effect.{Effect, TheVariants.{Reads, Writes}}, lock.Kept.Kept, phase.Phase.Phase}
-use Rattle.laws_states.{specs.Sites.{BitsOf, Suits}, proofs.{EventWords.{IsLeft, word_at}, LeftStands.variable_in, Movers.{KnownSites, HeapMover}, WaitingStep.Changes}}
-use Rattle.jvm_types.specs.declared.program.Kind.TheVariants as kinds
-use Rattle.jvm_types.specs.declared.program.Target.TheVariants as targets
+use Rattle.laws_states.{specs.Sites.{BitsOf, Suits}, proofs.{EventWords.{word_at}, LeftStands.variable_in, Movers.{KnownSites, HeapMover}, WaitingStep.Changes}}
 use Rattle.machine_types.specs.declared.lock.Kept.TheVariants as keeps
 use Rattle.machine_types.specs.declared.phase.Phase.TheVariants as phases
 

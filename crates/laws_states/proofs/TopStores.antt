@@ -1,7 +1,7 @@
 -- What an instruction stores, and how large an object is that it makes.
 use Rattle.std.proofs.Common.{◌≡◌, ℕ, ◌<◌, ◌≤◌, ◌^◌, inl, inr, true, false, List, [], ◌∷◌, Option, Some, ap, sym, subst, ◌∙◌, arith}
 use Rattle.lists.proofs.ListLaws.{same_some}
-use Rattle.jvm_types.specs.{CodeTable.row, ProgramInvariant.IsProgram, declared.{code.Op.Op, program.{FieldInfo.FieldInfo, Kind.Kind, MethodInfo.MethodInfo, Program.Program, Target.Target}}}
+use Rattle.jvm_types.specs.{CodeTable.row, declared.{code.Op.Op, program.{FieldInfo.FieldInfo, Kind.Kind, MethodInfo.MethodInfo, Program.Program, Target.Target}}}
 use Rattle.jvm_types.specs.declared.typing.VType.{VType, TheVariants.{Ref, New}}
 use Rattle.checked_program.{specs.{MarkedProgram.{MarkedProgram, IsMarked}, TaggedCode.row_of}, proofs.FewFields.few_fields}
 use Rattle.machine_types.specs.{FoundWords.{Content, IntPlace, ReferencePlace, kind_content, field_content, variable_content}, Frames.{Top, top_of, effect_at}, Lawful.within, ReadyObjects.out_object}

@@ -1,5 +1,5 @@
 -- One event of a thread changes the waiting bits of one record: what it has to show of them, and of the thread.
-use Rattle.std.proofs.Common.{⊎_elim, ◌≡◌, ◌≢◌, ◌⊎◌, inl, inr, ℕ, zero, suc, ◌+◌, ◌<◌, Bool, true, false, cond, List, ◌∷◌, Option, Some, None, refl, sym, ap, ◌∙◌, subst, arith, ◌==◌, IsSome, slice_get, slice_set}
+use Rattle.std.proofs.Common.{⊎_elim, ◌≡◌, ◌≢◌, ℕ, zero, suc, ◌+◌, ◌<◌, Bool, true, false, cond, List, ◌∷◌, Option, Some, None, refl, sym, ap, ◌∙◌, subst, arith, ◌==◌, IsSome, slice_get, slice_set}
 use Rattle.std.proofs.lemmas.Bool.{eqb-false, Decides.Decides-eqb}
 use Rattle.jvm_types.specs.declared.fixed_words.TheConstants.{MONITOR_RECORDS}
 use Rattle.machine_types.specs.{HeldMonitors.held_at, Owners.{Locks, HeldFat, hold_by_kept, hold_by_list}, Structure.IsFat}

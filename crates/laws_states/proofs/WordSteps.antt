@@ -1,6 +1,6 @@
 -- What an access leaves of all words: places keep their types, unused words and those of new objects stay as they are.
-use Rattle.std.proofs.{Common.{◌≡◌, ◌≢◌, ◌⊎◌, inl, inr, ℕ, ◌<◌, ◌≤◌, List, length, Option, Some, None, refl, ap, sym, subst, ◌∙◌, arith, slice_index, slice_set}, lemmas.List.length-set}
-use Rattle.jvm_types.specs.{ProgramInvariant.IsProgram, declared.{fixed_words.TheConstants.NEXT_FREE_WORD, program.Program.Program}}
+use Rattle.std.proofs.{Common.{◌≡◌, inl, inr, ℕ, ◌<◌, ◌≤◌, List, length, Option, Some, None, refl, ap, sym, subst, ◌∙◌, arith, slice_index, slice_set}, lemmas.List.length-set}
+use Rattle.jvm_types.specs.{declared.{fixed_words.TheConstants.NEXT_FREE_WORD, program.Program.Program}}
 use Rattle.checked_program.specs.MarkedProgram.{MarkedProgram}
 use Rattle.machine_types.specs.{Accesses.{accessed, left_by, words_after}, Core.Core, FoundWords.Content, ObjectsApart.LieApart, PlainMemory.{Object, StaticValue}, StartLaws.StartLiesApart}
 use Rattle.machine_types.specs.{Typed.PlacesHold, declared.access.Access.{Access, TheVariants.Rest}}

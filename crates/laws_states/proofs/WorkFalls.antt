@@ -116,16 +116,14 @@ module _ (x : Thread) (phase : Phase) where
 
   -- a failure, far from the end of a chain
   failed : (a : Attempt) → x.attempt ≡ Some a → a.base < length x.frames → 12 < chain x.held phase + inside phase x.attempt → Lessens (fails x a)
-  failed a is based far = by_frames (put_back_fewer a x.frames based)
+  failed a is based far = at_most (chains_left (fails x a)) (chains_left x) (chain x.held phase + inside phase x.attempt)
+      (no_more ((x.cfg.turns + 2) * (x.cfg.steps - x.counts.instructions) + (x.cfg.turns - x.turns) + 2 * length x.roots) (length x.frames) (suc (length (drop (length x.frames - a.base) x.frames))) (put_back_fewer a x.frames based)) far
     where
-      by_frames : suc (length (drop (length x.frames - a.base) x.frames)) ≤ length x.frames → Lessens (fails x a)
-      by_frames few = at_most (chains_left (fails x a)) (chains_left x) (chain x.held phase + inside phase x.attempt) (no_more ((x.cfg.turns + 2) * (x.cfg.steps - x.counts.instructions) + (x.cfg.turns - x.turns) + 2 * length x.roots) (length x.frames) (suc (length (drop (length x.frames - a.base) x.frames))) few) far
-        where
-          no_more : (n f g : ℕ) → g ≤ f → n + g ≤ n + f
-          no_more n f g h = omega (arith, h)
+      no_more : (n f g : ℕ) → g ≤ f → n + g ≤ n + f
+      no_more n f g h = omega (arith, h)
 
-          at_most : (n k p : ℕ) → n ≤ k → 12 < p → 24 * n + (6 + 0) < 24 * k + p
-          at_most n k p h l = omega (arith, h, l)
+      at_most : (n k p : ℕ) → n ≤ k → 12 < p → 24 * n + (6 + 0) < 24 * k + p
+      at_most n k p h l = omega (arith, h, l)
 
 -- ---- the next root
 

@@ -1,5 +1,5 @@
 -- What an event takes of the work of its thread it takes of that of all.
-use Rattle.std.{proofs.Common.{◌≡◌, ℕ, ◌+◌, ◌-◌, ◌*◌, ◌<◌, ◌≤◌, true, List, length, Option, Some, None, refl, arith, slice_get, slice_set}, specs.List.sum_by}
+use Rattle.std.{proofs.Common.{◌≡◌, ℕ, ◌+◌, ◌-◌, ◌*◌, ◌<◌, ◌≤◌, true, length, Option, Some, None, refl, arith, slice_get}}
 use Rattle.checked_program.specs.MarkedProgram.{MarkedProgram, IsMarked}
 use Rattle.machine_types.specs.{Accesses.found_by, Core.{Core, event_of, is_live_thread}, Events.{wanted, moved}, Threads.Thread, declared.config.Config.Config}
 use Rattle.laws_states.{specs.{RunFacts.AreThreads, WorkLeft.{chain, inside, work_left, all_work, EventsLessenWork, EventsLessenAllWork, WorkIsBounded}}, proofs.{Sums.sum_set, WorkFalls.small}}
