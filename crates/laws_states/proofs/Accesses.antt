@@ -7,7 +7,7 @@ use Rattle.jvm_types.specs.declared.program.{FieldInfo.FieldInfo, Kind.Kind, Met
 use Rattle.laws_programs.proofs.{ClassTreeLaws.{leaves_alone, files_alone}, FieldOrder.instances_inside}
 use Rattle.checked_program.specs.{MarkedProgram.{MarkedProgram, IsMarked}, TaggedCode.row_of}
 use Rattle.machine_types.specs.{Accesses.{accessed, left_by}, Core.Core, Effects.effect, Elision.looks, Events.element_wants}
-use Rattle.machine_types.specs.FoundWords.{Content, Lock, Owner, Bits, Header, ThrowableHeader, IntPlace, Any, kind_content, field_content, variable_content, effect_content, run_content}
+use Rattle.machine_types.specs.FoundWords.{Content, Lock, Owner, Bits, Header, ThrowableHeader, IntPlace, ReferencePlace, Any, kind_content, field_content, variable_content, effect_content, run_content}
 use Rattle.machine_types.specs.{Frames.{top_of, effect_at}, Instructions.{has_print_left, effect_wants, run_wants}, PlainMemory.{Object, start_objects}, ReadyObjects.out_object}
 use Rattle.machine_types.specs.{Structure.{TopIs, is_element_op}, Threads.{Frame, Attempt, Thread}}
 use Rattle.machine_types.specs.Typed.{Classes, KindHolds, FramesHold, IsElementOn, ElementStands, HasElement, HasElementOn, HasElementIn, HasClass, IsObject, AttemptHolds}
@@ -45,13 +45,9 @@ FitsIf p objects s content (Some access) = FitsAccess p objects s content access
 
 -- ---- fields and elements suit their kinds
 
-value_suits : (kind : Kind) (reference index : ℕ) → Suits (kind_content kind) (ValueOf reference index)
-value_suits kinds.Int reference index = tt
-value_suits kind reference index = tt
-
-static_suits : (kind : Kind) (word : ℕ) → Suits (kind_content kind) (StaticAt word)
-static_suits kinds.Int word = tt
-static_suits kind word = tt
+kind_suits : (kind : Kind) (site : Site) → Suits IntPlace site → Suits ReferencePlace site → Suits (kind_content kind) site
+kind_suits (kinds.Ref class) site int reference = reference
+kind_suits kind site int reference = int
 
 -- an element that is read or to be stored is one of an array
 abbrev ReadsArray : Classes → Option ℕ → List ℕ → Type 0
@@ -150,7 +146,7 @@ module _ (state : HeapState) where
             site = StaticAt f.index;
             there = (k.0, k.1, k.2);
             old = tt;
-            suits = static_suits f.kind f.index;
+            suits = kind_suits f.kind (StaticAt f.index) tt tt;
             word = refl;
             stored = λ n h. static_stored c.program is_program objects (slice_index s.words NEXT_FREE_WORD) facts.apart at.number f at.there n e h;
             holds = facts.typed.places.statics at.number f at.there e;
@@ -167,7 +163,7 @@ module _ (state : HeapState) where
             site = ValueOf at.reference f.index;
             there = (object, there, holder.2.2, below);
             old = tt;
-            suits = value_suits f.kind at.reference f.index;
+            suits = kind_suits f.kind (ValueOf at.reference f.index) tt tt;
             word = refl;
             stored = λ n h. subst (λ a. IsValue c.program objects a f.index n) holder.2.2 (field_stored c.program is_program objects (slice_index s.words NEXT_FREE_WORD) facts.apart at.number f at.there object n there of_class e h);
             holds = subst (λ a. KindHolds (HasClass objects) f.kind (slice_index s.words (value_word a f.index))) holder.2.2 (facts.typed.places.fields object at.number f there at.there e of_class);

@@ -73,7 +73,6 @@ calm_moved c s got _ (moves.leaves_outer m a e l t) n h = goes_calm (record s { 
 calm_moved c s got _ (moves.leaves_inside m a t inner k e) n h = goes_calm (record s { attempt = Some (record t { inner = inner }) }) (after c.program s.frames a) h
 calm_moved c s got _ (moves.finishes_try m a t k e y) n h = goes_calm (elided s) (after c.program s.frames a) h
 calm_moved c s got _ (moves.fattens_lock m r (towards.Leave a) e l) n h = tt
-calm_moved c s got _ (moves.fattens_lock m r towards.Wait e l) n h = tt
 calm_moved c s got _ (moves.retakes_lock m r depth e) n h = runs_to IsCalm s tt tt
 calm_moved c s got _ (moves.starts number roots e) n h = goes_calm (record s { roots = roots }) (option_map (rooted c.program s.number number) (slice_get c.program.methods number)) h
 calm_moved c s got _ k n h = tt

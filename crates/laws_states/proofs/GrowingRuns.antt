@@ -1,12 +1,12 @@
 -- A run with one happening more, and that its states keep their sizes.
-use Rattle.std.proofs.Common.{◌≡◌, ℕ, zero, suc, ◌+◌, Bool, true, false, cond, List, [], ◌∷◌, ◌++◌, length, length-set, Option, Some, None, refl, ap, ◌∙◌, slice_get, slice_set}
+use Rattle.std.proofs.Common.{◌≡◌, ℕ, zero, suc, ◌+◌, Bool, true, false, cond, List, [], ◌∷◌, ◌++◌, length, length-set, Option, Some, None, refl, sym, ap, ◌∙◌, slice_get, slice_set}
 use Rattle.std.proofs.lemmas.List.{length-map, FromFn.length-map-range_with_len}
 use Rattle.jvm_types.specs.declared.program.Program.{Program}
 use Rattle.checked_program.specs.MarkedProgram.{MarkedProgram}
 use Rattle.machine_types.specs.Accesses.{accessed, performed, words_after}
 use Rattle.machine_types.specs.Core.{Core, Happening, Of, NextPart, all_happened, core, event, event_of, happened, may_begin, next_threads, part_begins, start, start_thread, with_roots}
 use Rattle.machine_types.{specs.{Events.wanted, Parts.run_roots, Threads.Thread, declared.access.Access.{Access, TheVariants.Rest}}, proofs.Lists.got_when_set}
-use Rattle.laws_states.specs.GrowingRuns.{OneMoreHappens, RunsKeepSizes, behind, ThreadsStayOfRuns}
+use Rattle.laws_states.{specs.GrowingRuns.{OneMoreHappens, RunsKeepSizes, behind, ThreadsStayOfRuns}, proofs.LeftAsTheyWere.next_left}
 
 -- ---- one happening more
 
@@ -55,14 +55,8 @@ event_threads : (c : MarkedProgram) (s : Core) (t : ℕ) (o : Option Thread) →
 event_threads c s t None = refl
 event_threads c s t (Some x) = length-set s.threads t _
 
-begins_long : (p : Program) (part : ℕ) (x : Thread) (workers : List Thread) → length (part_begins p part x workers) ≡ length (x ∷ workers)
-begins_long p zero x workers = ap suc (length-map workers (with_roots (run_roots p)))
-begins_long p (suc part) x workers = refl
-
 pub next_long : (p : Program) (threads : List Thread) → length (next_threads p threads) ≡ length threads
-next_long p [] = refl
-next_long p (x ∷ workers) = elim (may_begin (x ∷ workers)) as (λ (b : Bool). length (cond b (part_begins p x.part x workers) (x ∷ workers)) ≡ length (x ∷ workers))
-    [ true ↦ begins_long p x.part x workers | false ↦ refl ]
+next_long p threads = sym (length-map (next_threads p threads) (λ (x : Thread). x.number)) ∙ ap length (next_left (λ (x : Thread). x.number) (λ roots x. refl) (λ x part first. refl) p threads) ∙ length-map threads (λ (x : Thread). x.number)
 
 happened_threads : (c : MarkedProgram) (s : Core) (h : Happening) → length (happened c s h).threads ≡ length s.threads
 happened_threads c s (Of t) = event_threads c s t (slice_get s.threads t)

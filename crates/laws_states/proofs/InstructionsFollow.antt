@@ -36,18 +36,12 @@ module _ (s : Thread) where
     pub turns : y.turns ≤ s.turns
     pub frames : length y.frames ≤ suc (length s.frames)
 
-  as_many : s.turns ≤ s.turns
-  as_many = omega arith
-
-  none : 0 ≤ s.turns
-  none = omega arith
-
   stays : Follows s
-  stays = record { cfg = refl; instructions = refl; roots = refl; turns = as_many; frames = omega arith }
+  stays = record { cfg = refl; instructions = refl; roots = refl; turns = omega arith; frames = omega arith }
 
   goes : (o : Onward) → length (frames_in o) ≤ suc (length s.frames) → Follows (goes_on s o)
-  goes (Entering m frames) h = record { cfg = refl; instructions = refl; roots = refl; turns = none; frames = h }
-  goes o h = record { cfg = refl; instructions = refl; roots = refl; turns = as_many; frames = h }
+  goes (Entering m frames) h = record { cfg = refl; instructions = refl; roots = refl; turns = omega arith; frames = h }
+  goes o h = record { cfg = refl; instructions = refl; roots = refl; turns = omega arith; frames = h }
 
   -- ---- an instruction
 
@@ -87,17 +81,17 @@ module _ (s : Thread) where
     if_holds (Some h) more k = k h.kept
 
     waited : (m : ℕ) (k : Kept) → Follows (waits (record s { frames = went_on p at 0 }) m k)
-    waited m (keeps.Flat c) = record { cfg = refl; instructions = refl; roots = refl; turns = none; frames = one }
-    waited m (keeps.Fat r) = record { cfg = refl; instructions = refl; roots = refl; turns = none; frames = one }
+    waited m (keeps.Flat c) = record { cfg = refl; instructions = refl; roots = refl; turns = omega arith; frames = one }
+    waited m (keeps.Fat r) = record { cfg = refl; instructions = refl; roots = refl; turns = omega arith; frames = one }
 
     notified : (phase : ℕ → Phase) (k : Kept) → Follows (notifies (record s { frames = went_on p at 0 }) phase k)
-    notified phase (keeps.Flat c) = record { cfg = refl; instructions = refl; roots = refl; turns = as_many; frames = one }
-    notified phase (keeps.Fat r) = record { cfg = refl; instructions = refl; roots = refl; turns = as_many; frames = one }
+    notified phase (keeps.Flat c) = record { cfg = refl; instructions = refl; roots = refl; turns = omega arith; frames = one }
+    notified phase (keeps.Fat r) = record { cfg = refl; instructions = refl; roots = refl; turns = omega arith; frames = one }
 
     does : (e : Effect) (got : ℕ) → Follows (did p s at e got)
-    does (Indexes array index stored) got = if_either Follows (nat_lt (low index) (header_length got)) _ _ (record { cfg = refl; instructions = refl; roots = refl; turns = as_many; frames = omega arith }) (goes (threw ArrayIndexOutOfBoundsException at) one)
-    does (Makes word size) got = if_either Follows (nat_le (got + size) p.heap) _ _ (record { cfg = refl; instructions = refl; roots = refl; turns = as_many; frames = one }) (goes (threw OutOfMemoryError at) one)
-    does (Prints n) got = if_either Follows (has_print_left s) _ _ (record { cfg = refl; instructions = refl; roots = refl; turns = as_many; frames = one }) (record { cfg = refl; instructions = refl; roots = refl; turns = as_many; frames = omega arith })
+    does (Indexes array index stored) got = if_either Follows (nat_lt (low index) (header_length got)) _ _ (record { cfg = refl; instructions = refl; roots = refl; turns = omega arith; frames = omega arith }) (goes (threw ArrayIndexOutOfBoundsException at) one)
+    does (Makes word size) got = if_either Follows (nat_le (got + size) p.heap) _ _ (record { cfg = refl; instructions = refl; roots = refl; turns = omega arith; frames = one }) (goes (threw OutOfMemoryError at) one)
+    does (Prints n) got = if_either Follows (has_print_left s) _ _ (record { cfg = refl; instructions = refl; roots = refl; turns = omega arith; frames = one }) (record { cfg = refl; instructions = refl; roots = refl; turns = omega arith; frames = omega arith })
     does (Waits m) got = if_holds (held_at s.held m) (waits (record s { frames = went_on p at 0 }) m) (waited m)
     does (Notifies m) got = if_holds (held_at s.held m) (notifies (record s { frames = went_on p at 0 }) (phases.NotifyLook m)) (notified (phases.NotifyLook m))
     does (NotifiesAll m) got = if_holds (held_at s.held m) (notifies (record s { frames = went_on p at 0 }) (phases.NotifyAll m)) (notified (phases.NotifyAll m))
@@ -115,7 +109,7 @@ module _ (s : Thread) where
 
     looks_first : (a : Option Attempt) (got : ℕ) (y : Thread) → Follows y → Follows (if_same s a got y)
     looks_first None got y h = h
-    looks_first (Some a) got y h = if_either Follows (is_same a got) y (fails s a) h (record { cfg = refl; instructions = refl; roots = refl; turns = as_many; frames = put_back_few a s.frames })
+    looks_first (Some a) got y h = if_either Follows (is_same a got) y (fails s a) h (record { cfg = refl; instructions = refl; roots = refl; turns = omega arith; frames = put_back_few a s.frames })
 
     instruction : (e : Effect) (got : ℕ) → Follows (instructed p s at e got)
     instruction e got = if_either Follows (is_checked at.frame.pc e) _ _ (looks_first s.attempt got _ (does e got)) (does e got)

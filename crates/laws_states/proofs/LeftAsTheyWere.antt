@@ -28,7 +28,7 @@ module _ {A : Type 0} (of : Thread → A) (rooted : (roots : List ℕ) (x : Thre
   part_left zero x workers = λ i. counted x 1 (how_ended x.phase) i ∷ workers_left (run_roots p) workers i
   part_left (suc part) x workers = ap (λ y. y ∷ map of workers) (rooted (done_roots p) (record x { part = 2 }) ∙ counted x 2 x.first)
 
-  next_left : (threads : List Thread) → map of (next_threads p threads) ≡ map of threads
+  pub next_left : (threads : List Thread) → map of (next_threads p threads) ≡ map of threads
   next_left [] = refl
   next_left (x ∷ workers) = elim (may_begin (x ∷ workers)) as (λ (b : Bool). map of (if b then part_begins p x.part x workers else x ∷ workers) ≡ map of (x ∷ workers))
       [ true ↦ part_left x.part x workers | false ↦ refl ]

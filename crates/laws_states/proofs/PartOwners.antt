@@ -1,32 +1,20 @@
 -- Where a part of the run begins, each thread holds what it held.
 use Rattle.std.proofs.Common.{⊎_elim, ◌≡◌, inl, inr, ℕ, zero, suc, ◌≤◌, Bool, true, false, cond, List, [], ◌∷◌, map, Option, Some, refl, ap, sym, subst, ◌∙◌, arith, slice_get, if◌then◌else◌}
-use Rattle.std.{specs.List.sum_by, proofs.lemmas.List.Sums.sum_by-cons}
+use Rattle.std.{specs.List.{sum, sum_by}, proofs.lemmas.List.Sums.sum-map}
 use Rattle.jvm_types.specs.declared.{outcome.End.End, program.Program.Program}
 use Rattle.machine_types.specs.{Core.{may_begin, with_roots, how_ended, part_begins, next_threads, next}, HeldMonitors.held_at}
 use Rattle.machine_types.specs.{Owners.{Locks, locks_in, hold_by_list, drawn_by, Knows, PhaseSaw, AttemptSawIn, IsKeptIn, Owns, one_if_flat}, Parts.{run_roots, done_roots}}
 use Rattle.machine_types.specs.{Structure.IsAs, Threads.{Attempt, Thread}, declared.{config.Config.Config, lock.Held.Held, phase.Phase.Phase}}
 use Rattle.laws_threads.specs.{PartLaws.counted_next, StateLaws.counted_of, StructureLaws.counted_by}
-use Rattle.laws_states.{specs.OwnersLaws.NextKeepsOwners, proofs.{BegunThreads.{StartsOrEnded, Begins, begun}, CountedPhases.{turned_keeps, counted_keeps, IsPlain, plain_knows, plain_saw}}}
+use Rattle.laws_states.{specs.OwnersLaws.NextKeepsOwners, proofs.{BegunThreads.{StartsOrEnded, Begins, begun}, LeftAsTheyWere.next_left, CountedPhases.{turned_keeps, counted_keeps, IsPlain, plain_knows, plain_saw}}}
 use Rattle.jvm_types.specs.declared.outcome.End.TheVariants as ends
 use Rattle.machine_types.specs.declared.phase.Phase.TheVariants as phases
 
 -- ---- sums over threads stay
 
-module _ (f : Thread → ℕ) (roots_same : (roots : List ℕ) (x : Thread) → f (with_roots roots x) ≡ f x) (part_same : (n : ℕ) (first : Option End) (x : Thread) → f (record x { part = n; first = first }) ≡ f x) where
-  workers_sum : (roots : List ℕ) (xs : List Thread) → sum_by f (map (with_roots roots) xs) ≡ sum_by f xs
-  workers_sum roots [] = refl
-  workers_sum roots (x ∷ xs) = omega (arith, sum_by-cons f x xs, sum_by-cons f (with_roots roots x) (map (with_roots roots) xs), roots_same roots x, workers_sum roots xs)
-
-  part_sum : (p : Program) (part : ℕ) (x : Thread) (workers : List Thread) → sum_by f (part_begins p part x workers) ≡ sum_by f (x ∷ workers)
-  part_sum p zero x workers = omega (arith, sum_by-cons f x workers, sum_by-cons f (record x { part = 1; first = how_ended x.phase }) (map (with_roots (run_roots p)) workers), part_same 1 (how_ended x.phase) x, workers_sum (run_roots p) workers)
-  part_sum p (suc part) x workers =
-      let z : Thread = record x { part = 2 } in
-      omega (arith, sum_by-cons f x workers, sum_by-cons f (with_roots (done_roots p) z) workers, roots_same (done_roots p) z, part_same 2 x.first x)
-
-  pub next_sum : (p : Program) (threads : List Thread) → sum_by f (next_threads p threads) ≡ sum_by f threads
-  next_sum p [] = refl
-  next_sum p (x ∷ workers) = elim (may_begin (x ∷ workers)) as (λ (b : Bool). sum_by f (if b then part_begins p x.part x workers else x ∷ workers) ≡ sum_by f (x ∷ workers))
-      [ true ↦ part_sum p x.part x workers | false ↦ refl ]
+next_sum : (f : Thread → ℕ) → ((roots : List ℕ) (x : Thread) → f (with_roots roots x) ≡ f x) → ((x : Thread) (part : ℕ) (first : Option End) → f (record x { part = part; first = first }) ≡ f x)
+    → (p : Program) (threads : List Thread) → sum_by f (next_threads p threads) ≡ sum_by f threads
+next_sum f rooted counted p threads = sym (sum-map f (next_threads p threads)) ∙ ap sum (next_left f rooted counted p threads) ∙ sum-map f threads
 
 -- ---- one thread
 

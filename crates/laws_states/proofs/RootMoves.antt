@@ -86,7 +86,6 @@ module _ (c : MarkedProgram) (thread : BareThread) (got : ℕ) where
   stays_moved was (moves.fails_in t e d k) ns w f = record { keeps = record { same = refl; none = λ q. refl }; fits = tt }
   stays_moved was (moves.leads now k) ns w f = record { keeps = keeps_all; fits = leads_fits c.program s got was now k w }
   stays_moved was (moves.turns now k) ns w f = record { keeps = keeps_all; fits = turns_to (λ (phase : Phase). RootFits phase s.roots) s now (turns_fit s got was now k) tt }
-  stays_moved _ (moves.makes at word size e l t) ns w f = record { keeps = keeps_all; fits = tt }
   stays_moved _ (moves.prints at n e l t) ns w f = goes s.roots Bare (printed s got n) (Running _) keeps_all
   stays_moved _ (moves.asks_to_wait at m h now e l t k) ns w f = record { keeps = keeps_all; fits = waits_in (λ (p : Phase). RootFits p s.roots) m h.kept now k tt (λ r. tt) }
   stays_moved _ (moves.asks at m h now e y l k) ns w f = record { keeps = keeps_all; fits = asks_in (λ (p : Phase). RootFits p s.roots) m h.kept now k (λ r. tt) (λ r. tt) }
@@ -99,10 +98,9 @@ module _ (c : MarkedProgram) (thread : BareThread) (got : ℕ) where
   stays_moved _ (moves.leaves_inside m a t inner k e) ns w f = goes_if s.roots Bare (record s { attempt = _ }) (after c.program s.frames a) f (record { same = refl; none = claims_none m t k })
   stays_moved _ (moves.finishes_try m a t k e y) ns w f = goes_if s.roots Bare (elided s) (after c.program s.frames a) f (record { same = refl; none = λ q. refl })
   stays_moved _ (moves.fattens_lock m r (towards.Leave a) h l) ns w f = record { keeps = keeps_all; fits = tt }
-  stays_moved _ (moves.fattens_lock m r towards.Wait h l) ns w f = record { keeps = keeps_all; fits = tt }
-  stays_moved _ (moves.gives_up_to_wait m r h l) ns w f = record { keeps = keeps_all; fits = tt }
   stays_moved _ (moves.retakes_lock m r depth e) ns w f = running s.roots Bare (record s { held = _ }) keeps_all
   stays_moved _ (moves.starts number roots e) ns w f = absurd ns
+  stays_moved _ k ns w f = record { keeps = keeps_all; fits = tt }
 
 module _ (c : MarkedProgram) (thread : BareThread) (got : ℕ) where
   open thread use {s, Bare, none}
