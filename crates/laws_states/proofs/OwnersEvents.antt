@@ -63,17 +63,14 @@ module _ (mover : LockMover) (was : Phase) (o : OwnsAs mover was) (y : Thread) (
 
   pub take_won : (n c : ℕ) → v.lock n ≡ locks.Free c → Became x y (with_held (record { monitor = n; kept = keeps.Flat c; depth = 1 }) x.held) 1 → IsPlain now
       → Owes v (set_lock n (locks.Held t) v) count (recounted n (count n) count) t was now x y
-  take_won n c f b plain = lock_written v count n (count n) (locks.Held t) (λ i e. none_fat (sym f ∙ e)) (omega arith) t was now x y a o b.cfg
+  take_won n c f b plain = lock_written v count n (count n) (locks.Held t) (λ i e. let bad : locks.Free c ≡ locks.Fat i = sym f ∙ e in cc) (omega arith) t was now x y a o b.cfg
       (λ i e. absurd (cc)) (λ i e. absurd (cc)) (λ i e. absurd (cc))
       (λ u d. (another t u HeldFlat (λ e. d (sym e)) ∙ sym (ap (λ (l : LockWord). hold_by_word u l v.owner) f), inr refl))
       holds keeps_it
       (plain_knows (set_lock n (locks.Held t) v) t now plain) (plain_saw (set_lock n (locks.Held t) v) (recounted n (count n) count) now plain) b.attempt (λ i e. none_drawn now i plain e)
       (λ m. subst (λ (i : ℕ). i ≤ x.cfg.range) (sym (recount_same n m count)) (most m))
-      (λ m. let same = recount_same n m count in let locked = b.locked in let once = few_at m in omega (arith, same, locked, once))
+      (λ m. let same = recount_same n m count in let locked = b.locked in let once = flat_once (hold_by_list (held_at y.held m)) in omega (arith, same, locked, once))
     where
-      none_fat : {i : ℕ} → locks.Free c ≡ locks.Fat i → ⊥
-      none_fat e = cc
-
       holds : (m : ℕ) → hold_by_list (held_at y.held m) ≡ cond (n == m) (hold_by_word t (locks.Held t) v.owner) (hold_by_list (held_at x.held m))
       holds m = ap (λ (hs : List Held). hold_by_list (held_at hs m)) b.held_is ∙ put_holds (record { monitor = n; kept = keeps.Flat c; depth = 1 }) x.held n m refl
           ∙ ap (λ (h : Hold). cond (n == m) h (hold_by_list (held_at x.held m))) (sym (itself t HeldFlat))
@@ -81,9 +78,6 @@ module _ (mover : LockMover) (was : Phase) (o : OwnsAs mover was) (y : Thread) (
       keeps_it : (m : ℕ) → IsKeptIn (held_at y.held m) (recounted n (count n) count m)
       keeps_it m = subst (λ (hs : List Held). IsKeptIn (held_at hs m) (recounted n (count n) count m)) (sym b.held_is)
           (put_keeps (record { monitor = n; kept = keeps.Flat c; depth = 1 }) x.held n (count n) m count refl (a.free n c f) (o.keeps_count m))
-
-      few_at : (m : ℕ) → flat_in m y ≤ flat_in m x + 1
-      few_at m = let once = flat_once (hold_by_list (held_at y.held m)) in omega (arith, once)
 
   -- ---- a lock that another thread holds is flagged
 
@@ -101,7 +95,7 @@ module _ (mover : LockMover) (was : Phase) (o : OwnsAs mover was) (y : Thread) (
   no_flat b l none m false g = omega (arith, ap one_if_flat g, b.locked)
 
   pub flag_won : (n u : ℕ) → v.lock n ≡ locks.Held u → Became x y x.held 0 → IsPlain now → Owes v (set_lock n (locks.Flagged u) v) count (recounted n (count n) count) t was now x y
-  flag_won n u f b plain = lock_written v count n (count n) (locks.Flagged u) (λ i e. none_fat (sym f ∙ e)) (omega arith) t was now x y a o b.cfg
+  flag_won n u f b plain = lock_written v count n (count n) (locks.Flagged u) (λ i e. let bad : locks.Held u ≡ locks.Fat i = sym f ∙ e in cc) (omega arith) t was now x y a o b.cfg
       (λ i e. absurd (cc)) (λ i e. absurd (cc)) (λ i e. absurd (cc))
       (λ z d. (sym (ap (λ (l : LockWord). hold_by_word z l v.owner) f), inr refl))
       (λ m. ap (λ (hs : List Held). hold_by_list (held_at hs m)) b.held_is ∙ same m (n == m) refl)
@@ -110,9 +104,6 @@ module _ (mover : LockMover) (was : Phase) (o : OwnsAs mover was) (y : Thread) (
       (λ m. subst (λ (i : ℕ). i ≤ x.cfg.range) (sym (recount_same n m count)) (most m))
       (λ m. let same = recount_same n m count in let locked = b.locked in let flat : flat_in m y ≡ flat_in m x = ap (λ (hs : List Held). one_if_flat (hold_by_list (held_at hs m))) b.held_is in omega (arith, same, locked, flat))
     where
-      none_fat : {i : ℕ} → locks.Held u ≡ locks.Fat i → ⊥
-      none_fat e = cc
-
       same : (m : ℕ) (b : Bool) → (n == m) ≡ b → hold_by_list (held_at x.held m) ≡ cond b (cond (u == t) HeldFlat NotHeld) (hold_by_list (held_at x.held m))
       same m true e = sym (o.holds m) ∙ ap (λ (i : ℕ). hold_by_word t (v.lock i) v.owner) (sym ((Decides-eqb n m).0 e)) ∙ ap (λ (l : LockWord). hold_by_word t l v.owner) f
       same m false e = refl

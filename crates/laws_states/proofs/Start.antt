@@ -1,8 +1,8 @@
 -- What the words hold of objects and places at the start of a run. Headers and static fields are found by the plain machine's
 -- start, with which the words agree.
 use Rattle.std.proofs.Common.{◌≡◌, ◌≢◌, inl, inr, ℕ, zero, suc, pos, ◌+◌, ◌-◌, ◌<◌, ◌≤◌, ◌%◌, ◌^◌, Bool, true, false, ◌&&◌, List, [], ◌∷◌, ◌++◌, length, Some, None, refl, ap, sym, subst, ◌∙◌, arith, ◌==◌, nat_lt, nat_le, cond, filter, Contains, slice_get, slice_index, if◌then◌else◌}
-use Rattle.std.{specs.{Int.{w32, cast_unsigned}, List.{AllByRecursion, range_with_len}, Option.option_or}, proofs.lemmas.Bool.Decides.nat_tests}
-use Rattle.lists.proofs.ListLaws.{same_some}
+use Rattle.std.{specs.{Int.{w32, cast_unsigned}, List.{AllByRecursion, list_all, range_with_len}, Option.option_or}, proofs.lemmas.Bool.Decides.nat_tests}
+use Rattle.lists.proofs.{ListLaws.same_some, TestLaws.both_are_true}
 use Rattle.jvm_types.specs.{Layout.kept_int, Members.is_static, ProgramInvariant.{IsProgram, words_of}, declared.class_numbers.TheConstants.{CLASS_ITSELF, INT_ARRAY_CLASS}}
 use Rattle.jvm_types.specs.declared.{fixed_words.TheConstants.{OBJECT_HEAD_WORDS, FIRST_CLASS_WORD, FIRST_READY_WORD}, program.{FieldInfo.FieldInfo, Kind.Kind, Program.Program}}
 use Rattle.laws_programs.proofs.FieldOrder.{one_static_field}
@@ -109,20 +109,12 @@ module _ (p : Program) (is_program : IsProgram p) where
     },
   )
 
-  ready_are : AllByRecursion IsStartClass ready_classes
-  ready_are = (
-    built_in _ (omega arith) (omega arith),
-    (
-      built_in _ (omega arith) (omega arith),
-      (
-        built_in _ (omega arith) (omega arith),
-        (
-          built_in _ (omega arith) (omega arith),
-          (built_in _ (omega arith) (omega arith), (built_in _ (omega arith) (omega arith), (built_in _ (omega arith) (omega arith), (built_in _ (omega arith) (omega arith), tt)))),
-        ),
-      ),
-    ),
-  )
+  ready_are : (classes : List ℕ) → list_all (λ n. nat_lt 0 n && nat_lt n CLASS_ITSELF) classes ≡ true → AllByRecursion IsStartClass classes
+  ready_are [] e = tt
+  ready_are (class ∷ classes) e =
+      let all = both_are_true (nat_lt 0 class && nat_lt class CLASS_ITSELF) (list_all (λ n. nat_lt 0 n && nat_lt n CLASS_ITSELF) classes) e in
+      let one = both_are_true (nat_lt 0 class) (nat_lt class CLASS_ITSELF) all.0 in
+      let from = one.0 in let to = one.1 in (built_in class (grind (arith, nat_tests, from)) (grind (arith, nat_tests, to)), ready_are classes all.1)
 
   of_class : (reference class : ℕ) (o : Object) → IsStartClass class → record { reference = reference; class = class; values = [] } ≡ o → IsStartObject p o
   of_class reference class o k same = subst (IsStartObject p) same (record { empty = refl; low = k.0; header = k.1 })
@@ -139,7 +131,7 @@ module _ (p : Program) (is_program : IsProgram p) where
   of_classes fields reference (class ∷ classes) (suc i) o e = of_classes fields (reference + OBJECT_HEAD_WORDS + length (statics_of fields class)) classes i o e
 
   start_object : (i : ℕ) (o : Object) → slice_get (start_objects p) i ≡ Some o → IsStartObject p o
-  start_object i o e = from_classes FIRST_READY_WORD ready_classes (class_objects p.fields FIRST_CLASS_WORD (classes_of p)) i o ready_are (of_classes p.fields FIRST_CLASS_WORD (classes_of p)) e
+  start_object i o e = from_classes FIRST_READY_WORD ready_classes (class_objects p.fields FIRST_CLASS_WORD (classes_of p)) i o (ready_are ready_classes refl) (of_classes p.fields FIRST_CLASS_WORD (classes_of p)) e
 
   start_header : (o : Object) → Contains (start_objects p) o → IsHeader p (header_of o)
   start_header o k =
