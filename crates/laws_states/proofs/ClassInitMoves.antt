@@ -37,7 +37,8 @@ by_static : (a b d : Bool) → (a && not (b || d)) ≡ true → d ≡ false
 by_static true false false e = refl
 by_static a b d e = absurd (cc)
 
-named_none : (p : Program) (u number : ℕ) (h m : MethodInfo) → slice_get p.methods u ≡ Some h → Some u ≡ Some number → slice_get p.methods number ≡ Some m → is_class_init_name h.name ≡ false → is_class_init_name m.name ≡ false
+named_none : (p : Program) (u number : ℕ) (h m : MethodInfo) → slice_get p.methods u ≡ Some h → Some u ≡ Some number → slice_get p.methods number ≡ Some m
+    → is_class_init_name h.name ≡ false → is_class_init_name m.name ≡ false
 named_none p u number h m at e there none = subst (λ (m : MethodInfo). is_class_init_name m.name ≡ false) (same_some (sym at ∙ ap (slice_get p.methods) (same_some e) ∙ there)) none
 
 called_none : (p : Program) (site : MethodSite) (pc number : ℕ) (op : Op) (target : Target) (r : OpRow) → called_method op target ≡ Some number → HasRow p site pc target op r → IsNoClassInit p number
@@ -71,6 +72,9 @@ module _ (p : Program) where
   abbrev EntryIsNone : Option Attempt → Type 0
   EntryIsNone o = IfSome o (λ a. IsNoClassInit p a.entry.method)
 
+  abbrev OnNone : Onward → Type 0
+  OnNone o = AreNone (frames_in o)
+
   abbrev GoNone : Option Onward → Type 0
   GoNone o = IfSome o (λ o. AreNone (frames_in o))
 
@@ -102,7 +106,7 @@ module _ (p : Program) where
       below (Some next) e = top_none at.below next e k.1
 
   returns_none : (at : Top) → AreNone (frames_of at) → AreNone (frames_in (returns p at))
-  returns_none at k = if_either (λ (o : Onward). AreNone (frames_in o)) (is_synchronized at.method.flags) (Leaving (monitor_of p at.method at.frame) afters.Return (frames_of at)) (back (returned p at)) k (back_none (returned p at) (returned_none at k))
+  returns_none at k = if_either OnNone (is_synchronized at.method.flags) (Leaving (monitor_of p at.method at.frame) afters.Return (frames_of at)) (back (returned p at)) k (back_none (returned p at) (returned_none at k))
 
   unwound_none : (x : ℕ) (class : Thrown) (fs : List Frame) → AreNone fs → AreNone (frames_in (unwound x class fs))
   unwound_none x class [] k = tt
@@ -111,12 +115,12 @@ module _ (p : Program) where
   handed_none : (x : ℕ) (class : Thrown) (at : Top) (row : Option Row) → AreNone (frames_of at) → AreNone (frames_in (handed p x class at row))
   handed_none x class at (Some r) k = k
   handed_none x class at None k =
-      if_either (λ (o : Onward). AreNone (frames_in o)) (is_synchronized at.method.flags) (Leaving (monitor_of p at.method at.frame) (afters.Unwind x class) (frames_of at)) (unwound x class at.below) k (unwound_none x class at.below k.1)
+      if_either OnNone (is_synchronized at.method.flags) (Leaving (monitor_of p at.method at.frame) (afters.Unwind x class) (frames_of at)) (unwound x class at.below) k (unwound_none x class at.below k.1)
 
   enters_none : (at : Top) (number : ℕ) (m : MethodInfo) → IsNoClassInit p number → AreNone (frames_of at) → AreNone (frames_in (called p at number m))
   enters_none at number m none k =
-      if_either (λ (o : Onward). AreNone (frames_in o)) (has_room p (frames_of at) m) (entered p m (entry_frame number m (arguments_of p at)) (waiting p at)) (threw StackOverflowError at)
-      (if_either (λ (o : Onward). AreNone (frames_in o)) (is_synchronized m.flags) (Entering (monitor_of p m (entry_frame number m (arguments_of p at))) (entry_frame number m (arguments_of p at) ∷ waiting p at)) (Running (entry_frame number m (arguments_of p at) ∷ waiting p at)) (none, k) (none, k))
+      if_either OnNone (has_room p (frames_of at) m) (entered p m (entry_frame number m (arguments_of p at)) (waiting p at)) (threw StackOverflowError at)
+      (if_either OnNone (is_synchronized m.flags) (Entering (monitor_of p m (entry_frame number m (arguments_of p at))) (entry_frame number m (arguments_of p at) ∷ waiting p at)) (Running (entry_frame number m (arguments_of p at) ∷ waiting p at)) (none, k) (none, k))
       k
 
   after_none : (fs : List Frame) (a : After) → AreNone fs → GoNone (after p fs a)
@@ -131,8 +135,8 @@ module _ (p : Program) where
   CallsNone e = Unit {0}
 
   done_none : (at : Top) (e : Effect) (got : ℕ) → CallsNone e → AreNone (frames_of at) → GoNone (done p at e got)
-  done_none at (Raises x) got none k = if_mapped (λ (o : Onward). AreNone (frames_in o)) (thrown_of (header_class got)) (λ class. Throwing x class (frames_of at)) (λ class. k)
-  done_none at (Calls number) got none k = if_mapped (λ (o : Onward). AreNone (frames_in o)) (slice_get p.methods number) (called p at number) (λ m. enters_none at number m none k)
+  done_none at (Raises x) got none k = if_mapped OnNone (thrown_of (header_class got)) (λ class. Throwing x class (frames_of at)) (λ class. k)
+  done_none at (Calls number) got none k = if_mapped OnNone (slice_get p.methods number) (called p at number) (λ m. enters_none at number m none k)
   done_none at Returns got none k = returns_none at k
   done_none at e got none k = assumption
 
@@ -175,7 +179,7 @@ module _ (c : MarkedProgram) (s : Thread) (got : ℕ) (h : RunsNoClassInit c.pro
 
   starts_none : (number : ℕ) (rest : List ℕ) → s.roots ≡ number ∷ rest → (o : Option MethodInfo) → GoNone c.program (option_map (rooted c.program s.number number) o)
   starts_none number rest e None = tt
-  starts_none number rest e (Some m) = if_either (λ (o : Onward). AreNone c.program (frames_in o)) (has_room c.program [] m) (Running (entry_frame number m (root_arguments s.number m) ∷ [])) (Uncaught StackOverflowError) (roots number rest e, tt) tt
+  starts_none number rest e (Some m) = if_either (OnNone c.program) (has_room c.program [] m) (Running (entry_frame number m (root_arguments s.number m) ∷ [])) (Uncaught StackOverflowError) (roots number rest e, tt) tt
 
   move_none : (was : Phase) (k : Move c s got was) → RunsNoClassInit c.program (becomes c s got was k)
   move_none was (moves.stays k) = h

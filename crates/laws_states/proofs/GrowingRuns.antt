@@ -1,11 +1,11 @@
 -- A run with one happening more, and that its states keep their sizes.
-use Rattle.std.proofs.Common.{◌≡◌, ℕ, zero, suc, ◌+◌, Bool, true, false, cond, List, [], ◌∷◌, ◌++◌, length, length-set, Option, Some, None, refl, sym, ap, ◌∙◌, slice_get, slice_set}
+use Rattle.std.proofs.Common.{◌≡◌, ℕ, ◌+◌, List, [], ◌∷◌, ◌++◌, length, length-set, Option, Some, None, refl, sym, ap, ◌∙◌, slice_get, slice_set}
 use Rattle.std.proofs.lemmas.List.{length-map, FromFn.length-map-range_with_len}
 use Rattle.jvm_types.specs.declared.program.Program.{Program}
 use Rattle.checked_program.specs.MarkedProgram.{MarkedProgram}
 use Rattle.machine_types.specs.Accesses.{accessed, performed, words_after}
-use Rattle.machine_types.specs.Core.{Core, Happening, Of, NextPart, all_happened, core, event, event_of, happened, may_begin, next_threads, part_begins, start, start_thread, with_roots}
-use Rattle.machine_types.{specs.{Events.wanted, Parts.run_roots, Threads.Thread, declared.access.Access.{Access, TheVariants.Rest}}, proofs.Lists.got_when_set}
+use Rattle.machine_types.specs.Core.{Core, Happening, Of, NextPart, all_happened, core, event, event_of, happened, next_threads, start, start_thread}
+use Rattle.machine_types.{specs.{Events.wanted, Threads.Thread, declared.access.Access.{Access, TheVariants.Rest}}, proofs.Lists.got_when_set}
 use Rattle.laws_states.{specs.GrowingRuns.{OneMoreHappens, RunsKeepSizes, behind, ThreadsStayOfRuns}, proofs.LeftAsTheyWere.next_left}
 
 -- ---- one happening more
@@ -56,7 +56,8 @@ event_threads c s t None = refl
 event_threads c s t (Some x) = length-set s.threads t _
 
 pub next_long : (p : Program) (threads : List Thread) → length (next_threads p threads) ≡ length threads
-next_long p threads = sym (length-map (next_threads p threads) (λ (x : Thread). x.number)) ∙ ap length (next_left (λ (x : Thread). x.number) (λ roots x. refl) (λ x part first. refl) p threads) ∙ length-map threads (λ (x : Thread). x.number)
+next_long p threads = sym (length-map (next_threads p threads) (λ (x : Thread). x.number))
+    ∙ ap length (next_left (λ (x : Thread). x.number) (λ roots x. refl) (λ x part first. refl) p threads) ∙ length-map threads (λ (x : Thread). x.number)
 
 happened_threads : (c : MarkedProgram) (s : Core) (h : Happening) → length (happened c s h).threads ≡ length s.threads
 happened_threads c s (Of t) = event_threads c s t (slice_get s.threads t)

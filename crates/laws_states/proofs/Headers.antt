@@ -28,7 +28,8 @@ class_small o h = class_is o.class (if o.class == INT_ARRAY_CLASS then length o.
 -- ---- throwables
 
 numbered : (k : ℕ) (class : Thrown) → slice_get throwables k ≡ Some class → class_of class ≡ 4 + k
-numbered k class e = sym (get_or_from_slice_get (range_with_len 4 12) k (class_of class) 0 (slice_get-map class_of throwables k ∙ ap (option_map class_of) e)) ∙ get_or-range_with_len 4 12 k 0 (slice_get_within throwables k class e)
+numbered k class e = sym (get_or_from_slice_get (range_with_len 4 12) k (class_of class) 0 (slice_get-map class_of throwables k ∙ ap (option_map class_of) e))
+    ∙ get_or-range_with_len 4 12 k 0 (slice_get_within throwables k class e)
 
 pub thrown_is : (d : ℕ) (class : Thrown) → thrown_of d ≡ Some class → class_of class ≡ d
 thrown_is d class e = (elim (nat_lt d 4) as (λ (b : Bool). nat_lt d 4 ≡ b → (if b then None else slice_get throwables (d - 4)) ≡ Some class → class_of class ≡ d)

@@ -41,7 +41,8 @@ effect_small p target _ _ got (writes v word) small sum fits = fits.1
 effect_small p target _ _ got (makes word size) small sum fits = sum NEXT_FREE_WORD size refl
 effect_small p target _ _ got (prints n) small sum fits = sum NEXT_TICKET_WORD 1 refl
 
-element_small : (access : Access) (got : ℕ) → got < 2 ^ 64 → (word : ℕ) (stored : Option ℕ) → ((v : ℕ) → stored ≡ Some v → v < 2 ^ 64) → Some (element_wants word stored) ≡ Some access → Small (left_by access got)
+element_small : (access : Access) (got : ℕ) → got < 2 ^ 64 → (word : ℕ) (stored : Option ℕ)
+    → ((v : ℕ) → stored ≡ Some v → v < 2 ^ 64) → Some (element_wants word stored) ≡ Some access → Small (left_by access got)
 element_small access got small word None fits w = loaded Small access got small word w
 element_small access got small word (Some v) fits w = leaves Small access got small _ w (fits v refl)
 
@@ -91,7 +92,9 @@ pub left_small : (c : MarkedProgram) (s : Thread) (phase : Phase) (access : Acce
     → MayStand s.cfg.range (content_at c s phase) (left_by access got) → Small (left_by access got)
 left_small c s phases.Idle access got few w small sum fits left = no_access Small access got small w
 left_small c s phases.Start access got few w small sum fits left = no_access Small access got small w
-left_small c s phases.Run access got few w small sum fits left = let k = run_wanted c.program s access (top_of c.program s.frames) w in effect_small c.program k.0.target (effect_at c.program k.0) access got k.2 small sum (fits k.0 k.1)
+left_small c s phases.Run access got few w small sum fits left =
+    let k = run_wanted c.program s access (top_of c.program s.frames) w in
+    effect_small c.program k.0.target (effect_at c.program k.0) access got k.2 small sum (fits k.0 k.1)
 left_small c s (phases.Element word stored) access got few w small sum fits left = element_small access got small word stored fits w
 left_small c s (phases.Made a word) access got few w small sum fits left = leaves Small access got small _ w fits
 left_small c s (phases.Grow m toward) access got few w small sum fits left = leaves Small access got small _ w (sum NEXT_RECORD_WORD 1 w)

@@ -120,7 +120,8 @@ module _ (P : Content → Type 0) (int : P IntPlace) (reference : P ReferencePla
   variable_in p (targets.Field number) = field_in _
   variable_in p target = any
 
-effect_leaves : (range : ℕ) (p : Program) (target : Target) (e : Effect) (access : Access) (got : ℕ) → Wants e access → MayStand range (effect_content p target e) got → MayStand range (effect_content p target e) (left_by access got)
+effect_leaves : (range : ℕ) (p : Program) (target : Target) (e : Effect) (access : Access) (got : ℕ) → Wants e access → MayStand range (effect_content p target e) got
+    → MayStand range (effect_content p target e) (left_by access got)
 effect_leaves range p target _ _ got (loads e w) may = may
 effect_leaves range p target _ _ got (writes v word) may = variable_in (λ (content : Content). MayStand range content (left_by (Store (variable_word v) word) got)) tt tt tt p target
 effect_leaves range p target _ _ got (makes word size) may = tt

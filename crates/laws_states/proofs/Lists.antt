@@ -20,7 +20,8 @@ pub first_each : {X : Type 0} (P : ℕ → X → Type 0) (y : X) (xs : List X) �
 first_each P y xs h k zero z e = subst (P 0) (same_some e) h
 first_each P y xs h k (suc u) z e = k u z e
 
-pub mapped_each : {X : Type 0} (P : ℕ → X → Type 0) (y : X) (f : X → X) (xs : List X) → P 0 y → ((u : ℕ) (x : X) → slice_get xs u ≡ Some x → P (suc u) (f x)) → (u : ℕ) (z : X) → slice_get (y ∷ map f xs) u ≡ Some z → P u z
+pub mapped_each : {X : Type 0} (P : ℕ → X → Type 0) (y : X) (f : X → X) (xs : List X) → P 0 y
+    → ((u : ℕ) (x : X) → slice_get xs u ≡ Some x → P (suc u) (f x)) → (u : ℕ) (z : X) → slice_get (y ∷ map f xs) u ≡ Some z → P u z
 mapped_each P y f xs h k = first_each P y (map f xs) h (λ u z e. let from = mapped_at f xs u z e in subst (P (suc u)) from.2 (k u from.0 from.1))
 
 -- ---- two numbers

@@ -1,9 +1,9 @@
 -- Where a part of the run begins, each thread holds what it held.
-use Rattle.std.proofs.Common.{⊎_elim, ◌≡◌, inl, inr, ℕ, zero, suc, ◌≤◌, Bool, true, false, cond, List, [], ◌∷◌, map, Option, Some, refl, ap, sym, subst, ◌∙◌, arith, slice_get, if◌then◌else◌}
+use Rattle.std.proofs.Common.{⊎_elim, ◌≡◌, inl, inr, ℕ, ◌≤◌, Bool, true, false, cond, List, Option, Some, refl, ap, sym, subst, ◌∙◌, arith, slice_get}
 use Rattle.std.{specs.List.{sum, sum_by}, proofs.lemmas.List.Sums.sum-map}
 use Rattle.jvm_types.specs.declared.{outcome.End.End, program.Program.Program}
-use Rattle.machine_types.specs.{Core.{may_begin, with_roots, how_ended, part_begins, next_threads, next}, HeldMonitors.held_at}
-use Rattle.machine_types.specs.{Owners.{Locks, locks_in, hold_by_list, drawn_by, Knows, PhaseSaw, AttemptSawIn, IsKeptIn, Owns, one_if_flat}, Parts.{run_roots, done_roots}}
+use Rattle.machine_types.specs.{Core.{may_begin, with_roots, next_threads, next}, HeldMonitors.held_at}
+use Rattle.machine_types.specs.{Owners.{Locks, locks_in, hold_by_list, drawn_by, Knows, PhaseSaw, AttemptSawIn, IsKeptIn, Owns, one_if_flat}}
 use Rattle.machine_types.specs.{Structure.IsAs, Threads.{Attempt, Thread}, declared.{config.Config.Config, lock.Held.Held, phase.Phase.Phase}}
 use Rattle.laws_threads.specs.{PartLaws.counted_next, StateLaws.counted_of, StructureLaws.counted_by}
 use Rattle.laws_states.{specs.OwnersLaws.NextKeepsOwners, proofs.{BegunThreads.{StartsOrEnded, Begins, begun}, LeftAsTheyWere.next_left, CountedPhases.{turned_keeps, counted_keeps, IsPlain, plain_knows, plain_saw}}}

@@ -53,7 +53,8 @@ module _ (c : MarkedProgram) (was : ℕ → Phase) (words : List ℕ) (x : Threa
   anew u y roots e rests = begins_none words u (was u) y.phase roots rests (structure u y e).is_as (each u y e)
 
   part_waits : (part : ℕ) → PartFits part x.phase workers → may_begin_by part x.phase workers ≡ true → (u : ℕ) (y : Thread) → slice_get (part_begins c.program part x workers) u ≡ Some y → Waits words u (counted_by (was u) y.phase)
-  part_waits zero fits may = mapped_each (λ u z. Waits words u (counted_by (was u) z.phase)) (record x { part = 1; first = how_ended x.phase }) (with_roots (run_roots c.program)) workers (as_it_was 0 x (record x { part = 1; first = how_ended x.phase }) refl refl)
+  part_waits zero fits may = mapped_each (λ u z. Waits words u (counted_by (was u) z.phase)) (record x { part = 1; first = how_ended x.phase }) (with_roots (run_roots c.program)) workers
+      (as_it_was 0 x (record x { part = 1; first = how_ended x.phase }) refl refl)
       (λ u w e. let idle : w.phase ≡ phases.Idle = one_idle workers u w fits e in anew (suc u) w (run_roots c.program) e (subst Rests (sym idle) is_idle))
   part_waits (suc zero) fits may = first_each (λ u z. Waits words u (counted_by (was u) z.phase)) (with_roots (done_roots c.program) (record x { part = 2 })) workers
       (anew 0 x (done_roots c.program) refl (subst Rests (sym fits) has_returned)) (λ u w e. as_it_was (suc u) w w e refl)
