@@ -105,8 +105,9 @@ module _ (keeps : StructureIsKept) (lies : StartLiesApart) (mover : HeapMover) w
 
     new_kept : HeapFacts c (objects_by c.program x.phase objects) state
     new_kept =
+        let words : after ≡ slice_set s.words (header_word a) word = ap (λ phase. words_after s.words (wanted c x phase)) made in
         subst (λ os. HeapFacts c os state) (sym (ap (λ phase. objects_by c.program phase objects) made))
-        (assembled (record { before = mover.state; later = later; t = t; after = after; y = now; behind = subst (Behind c objects later s t) (sym (ap (λ phase. words_after s.words (wanted c x phase)) made)) behind; became = new_became }))
+        (assembled (record { before = mover.state; later = later; t = t; after = after; y = now; behind = subst (Behind c objects later s t) (sym words) behind; became = new_became }))
 
   thread_kept : HeapFacts c (objects_by c.program x.phase objects) state
   thread_kept = elim (new_or_old x.phase) [ inl old ↦ old_kept old | inr k ↦ new_kept k.0 k.1 k.2 ]

@@ -121,7 +121,9 @@ module _ (lies : StartLiesApart) (maker : Maker) where
         l.0 o (contained_got later o l);
     fields = λ o number f l g n class. fields_of l.0 o number f (contained_got later o l) g n class;
     elements = λ o i l. of_each (λ z. z.class ≡ INT_ARRAY_CLASS → i < length z.values → slice_index after (value_word z.reference i) < 2 ^ 32) (λ array lt. omega (arith, empty_value i lt))
-        (λ j o g array lt. let l = contains_got objects j o g in subst (λ v. v < 2 ^ 32) (sym (unchanged (value_word o.reference i) (elsewhere o (value_word o.reference i) l (omega arith) (omega (arith, lt))))) (facts.typed.places.elements o i l array lt))
+        (λ j o g array lt.
+        let l = contains_got objects j o g in
+        subst (λ v. v < 2 ^ 32) (sym (unchanged (value_word o.reference i) (elsewhere o (value_word o.reference i) l (omega arith) (omega (arith, lt))))) (facts.typed.places.elements o i l array lt))
         l.0 o (contained_got later o l);
     statics = λ number f g e. statics_of number f g e;
   }

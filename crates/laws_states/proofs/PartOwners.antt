@@ -41,7 +41,8 @@ module _ (v : Locks) (count : ℕ → ℕ) (u : ℕ) (z y : Thread) (begins : Be
   counted_stays : (was : Phase) → Owns v count u was z → IsAs z.phase was → Owns v count u (counted_by was y.phase) y
   counted_stays was owns is_as = elim begins.phase [
     | inl e ↦ subst (λ (phase : Phase). Owns v count u (counted_by was phase) y) (sym e)
-        (stays was owns (counted_by was z.phase) (counted_keeps (Knows v u) was z.phase is_as owns.knows (turned_keeps (Knows v u) (λ m. tt) was owns.knows)) (counted_keeps (PhaseSaw v count) was z.phase is_as owns.take (turned_keeps (PhaseSaw v count) (λ m. tt) was owns.take)))
+        (stays was owns (counted_by was z.phase) (counted_keeps (Knows v u) was z.phase is_as owns.knows (turned_keeps (Knows v u) (λ m. tt) was owns.knows))
+        (counted_keeps (PhaseSaw v count) was z.phase is_as owns.take (turned_keeps (PhaseSaw v count) (λ m. tt) was owns.take)))
     | inr fresh ↦ let plain = fresh_plain was y.phase fresh in stays was owns (counted_by was y.phase) (plain_knows v u (counted_by was y.phase) plain) (plain_saw v count (counted_by was y.phase) plain)
   ]
 

@@ -96,8 +96,11 @@ module _ (is : Classes) where
   quiet_moved c s got _ (moves.enters_again m tried e l) n h o same = runs_quiet (record s { held = with_held (deeper e) s.held }) (put_one (deeper e) s.held (held_is s.held m e h l) h)
   quiet_moved c s got _ (moves.enters_inside m tried t k) n h o same = runs_quiet (record s { attempt = _ }) h
   quiet_moved c s got _ (moves.begins_to_try m tried noted f below e y l t free) n h o same = runs_quiet (record s { attempt = _ }) h
-  quiet_moved c s got was (moves.takes_lock m kept k) n h o same = let e : Held = record { monitor = m; kept = kept; depth = 1 } in runs_quiet (record s { held = with_held e s.held; counts = _ }) (put_one e s.held (takes_in (λ (w : Phase). KnowsObject w → IsObject is m) got m was kept k (λ count o. o) (λ r o. o) o) h)
-  quiet_moved c s got was (moves.gives_up m a k) n h o same = goes_quiet (record s { held = without_held m s.held }) (after c.program s.frames a) (without_one m s.held h) (subst (QuietPhase is) (sym same) (gives_up_in (QuietPhase is) s m a was k tt tt))
+  quiet_moved c s got was (moves.takes_lock m kept k) n h o same =
+      let e : Held = record { monitor = m; kept = kept; depth = 1 } in
+      runs_quiet (record s { held = with_held e s.held; counts = _ }) (put_one e s.held (takes_in (λ (w : Phase). KnowsObject w → IsObject is m) got m was kept k (λ count o. o) (λ r o. o) o) h)
+  quiet_moved c s got was (moves.gives_up m a k) n h o same =
+      goes_quiet (record s { held = without_held m s.held }) (after c.program s.frames a) (without_one m s.held h) (subst (QuietPhase is) (sym same) (gives_up_in (QuietPhase is) s m a was k tt tt))
   quiet_moved c s got _ (moves.leaves_outer m a e l t) n h o same = goes_quiet (record s { held = with_held (shallower e) s.held }) (after c.program s.frames a) (put_one (shallower e) s.held (held_is s.held m e h l) h) (subst (QuietPhase is) (sym same) tt)
   quiet_moved c s got _ (moves.leaves_inside m a t inner k e) n h o same = goes_quiet (record s { attempt = _ }) (after c.program s.frames a) h (subst (QuietPhase is) (sym same) tt)
   quiet_moved c s got _ (moves.finishes_try m a t k e y) n h o same = goes_quiet (elided s) (after c.program s.frames a) h (subst (QuietPhase is) (sym same) tt)

@@ -68,7 +68,8 @@ no_bit n u e = by_bit (bit_at n u) refl (bit_at-lt n u) ∙ sym (bit_at-zero u)
     by_bit (suc (suc b)) g lt = absurd (omega (arith, lt))
 
 all_nine : (n : ℕ) → AllByRecursion (λ t. has_flag (bit_of t) n ≡ false) (range_with_len 0 9) → (i : ℕ) → i < 9 → bit_at n i ≡ bit_at 0 i
-all_nine n h i lt = no_bit n i (at_index (λ t. has_flag (bit_of t) n ≡ false) (range_with_len 0 9) i i h (slice_get_read (range_with_len 0 9) 9 i i refl lt (omega (arith, get_or-range_with_len 0 9 i i lt))))
+all_nine n h i lt = no_bit n i
+    (at_index (λ t. has_flag (bit_of t) n ≡ false) (range_with_len 0 9) i i h (slice_get_read (range_with_len 0 9) 9 i i refl lt (omega (arith, get_or-range_with_len 0 9 i i lt))))
 
 -- of bits of which some is set
 pub lowest_set : (n : ℕ) → n < 2 ^ 9 → n ≢ 0 → has_flag (bit_of (lowest_of n)) n ≡ true
