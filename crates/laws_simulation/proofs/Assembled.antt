@@ -1,7 +1,8 @@
 -- A state whose thread t has moved stands beside a plain state whose thread t has, where objects and static fields stay as
 -- they are.
-use Rattle.std.proofs.Common.{◌≡◌, ◌≢◌, inl, inr, ℕ, zero, suc, ◌≤◌, List, [], ◌∷◌, length, Option, Some, refl, sym, ap, ◌∙◌, subst, arith, slice_get, slice_index, slice_set, option_and_then}
-use Rattle.std.proofs.lemmas.List.{length-set}
+use Rattle.std.proofs.Common.{◌≡◌, ◌≢◌, inl, inr, ℕ, zero, suc, ◌≤◌, List, [], ◌∷◌, length, Option, Some, refl, sym, ap, ◌∙◌, subst, arith, slice_get, slice_index, slice_set, map, None, option_map, option_and_then}
+use Rattle.std.proofs.lemmas.{List.length-set, Option.slice_get-map}
+use Rattle.lists.proofs.ListLaws.{same_some}
 use Rattle.jvm_types.specs.declared.{fixed_words.TheConstants.{NEXT_FREE_WORD, NEXT_TICKET_WORD}, program.Program.Program}
 use Rattle.machine_types.specs.{Accesses.{found_by, words_after}, Agreement.{ThreadFits, has_wait_bit}, Core.{Core, event, event_of}, Events.{wanted, moved}}
 use Rattle.machine_types.specs.{History.{acts_of, steps_of}, Owners.references_of, Parts.done_roots, PlainMemory.Object}
@@ -20,6 +21,11 @@ got_same_length xs [] i x e g = absurd (omega (arith, e, got_below xs i x g))
 got_same_length [] (y ∷ ys) i x e g = absurd (omega (arith, e))
 got_same_length (x ∷ xs) (y ∷ ys) zero z e g = (y, refl)
 got_same_length (x ∷ xs) (y ∷ ys) (suc i) z e g = got_same_length xs ys i z (omega (arith, e)) g
+
+-- lists that are the same by f
+pub mapped_from : {A B : Type 0} (f : A → B) (xs ys : List A) → map f ys ≡ map f xs → (i : ℕ) (y : A) → slice_get ys i ≡ Some y → (x : A) × (slice_get xs i ≡ Some x) × (f y ≡ f x)
+mapped_from {A} f xs ys same i y g = (elim (slice_get xs i) as (λ (o : Option A). slice_get xs i ≡ o → option_map f o ≡ Some (f y) → (x : A) × (slice_get xs i ≡ Some x) × (f y ≡ f x))
+    [ None ↦ λ e h. absurd (cc) | Some x ↦ λ e h. (x, e, sym (same_some h)) ]) refl (sym (slice_get-map f xs i) ∙ ap (λ zs. slice_get zs i) (sym same) ∙ slice_get-map f ys i ∙ ap (option_map f) g)
 
 -- ---- what is asked of all threads
 

@@ -1,7 +1,7 @@
 -- What becomes of the memory: it stays, a place is written, the number for the next reference rises, an object is made, or the
 -- header of a new object is stored.
 use Rattle.std.proofs.Common.{◌≡◌, ◌≢◌, ◌⊎◌, inl, inr, ℕ, ◌+◌, ◌-◌, ◌<◌, ◌≤◌, Bool, true, false, cond, List, [], ◌∷◌, ◌++◌, length, Some, refl, sym, ap, subst, ◌∙◌, arith, Contains, slice_get, slice_index, slice_set, ◌==◌, if◌then◌else◌}
-use Rattle.std.proofs.lemmas.{Bool.Decides.nat_tests, List.length-replicate}
+use Rattle.std.proofs.lemmas.{Bool.Decides.nat_tests, List.{length-replicate, Elements.{Contains-append_left, Contains-append_right}}}
 use Rattle.jvm_types.specs.{Numbers.has_number, ProgramInvariant.{instances_among, words_of}, declared.class_numbers.TheConstants.INT_ARRAY_CLASS}
 use Rattle.jvm_types.specs.declared.fixed_words.TheConstants.{NEXT_FREE_WORD, NEXT_TICKET_WORD, FIRST_READY_WORD, MONITOR_RECORDS, OBJECT_HEAD_WORDS}
 use Rattle.machine_types.specs.{Agreement.{IsPending, has_wait_bit}, FoundWords.IsHeader, LockWords.lock_of, NewObjects.size_by, Owners.{lock_at, references_of}}
@@ -12,7 +12,7 @@ use Rattle.laws_threads.proofs.MonitorMoves.{contains_got}
 use Rattle.laws_states.{specs.Sites.{Site, Counter, HeaderOf, ValueOf, NewHeaderOf, StaticAt, site_word, IsThere}, proofs.{Headers.new_header, Lists.{contained_got, same_or_not, set_here, set_there}}}
 use Rattle.laws_states.proofs.{WordSteps.apart_on, WordViews.{object_has, has_object}}
 use Rattle.laws_simulation.{specs.StandsBeside.{IsAmong, IsBeingMade, IsPlainNew}, proofs.AssembledObjects.{MakesNone, new_again, pending_on, making_on, made_before, made_by_others}}
-use Rattle.laws_simulation.proofs.{PlainObjects.{contains_before, contains_last, contained_last, added_place, new_value, new_end, apart_added}, PlainPlaces.{place_low, no_lock_place}}
+use Rattle.laws_simulation.proofs.{PlainObjects.{contained_last, added_place, new_value, new_end, apart_added}, PlainPlaces.{place_low, no_lock_place}}
 use Rattle.laws_simulation.proofs.PlainWrites.{shape_reference, shape_class, shape_long, written_from, written_to, written_references, apart_written, other_place, here_place, NoHeader, known_written, header_shaped}
 use Rattle.laws_simulation.proofs.{Scene.{Scene, Memory}, WaitBits.{bit_by, same_bit, same_lock}}
 use Rattle.machine_types.specs.declared.lock.LockWord.TheVariants as locks
@@ -205,7 +205,7 @@ module _ (scene : Scene) where
             → cond b (lock_of (slice_index grown m)) (locks.Free 0) ≡ cond d (lock_of (slice_index grown m)) (locks.Free 0)
         same_lock_then true e true f = refl
         same_lock_then false e false f = refl
-        same_lock_then false e true f = let h = (let k = has_object q.objects m f in object_has (q.objects ++ fresh ∷ []) m (k.0, contains_before q.objects fresh k.0 k.1, k.2)) in absurd (cc)
+        same_lock_then false e true f = let h = (let k = has_object q.objects m f in object_has (q.objects ++ fresh ∷ []) m (k.0, Contains-append_left q.objects (fresh ∷ []) k.0 k.1, k.2)) in absurd (cc)
         same_lock_then true e false f = elim (in_one m e) [ inl h ↦ absurd (cc) | inr h ↦ ap lock_of (empty m (omega (arith, h)) (omega (arith, h, two))) ]
 
     sized : header_class word ≢ INT_ARRAY_CLASS → length fresh.values ≡ instances_among (header_class word) c.program.fields
@@ -222,7 +222,7 @@ module _ (scene : Scene) where
     new_plain : IsPlainNew c.program with_new q.next word
     new_plain = record {
       object = fresh;
-      there = contains_last q.objects fresh;
+      there = Contains-append_right q.objects (fresh ∷ []) fresh (0, omega arith, refl);
       reference = refl;
       class = refl;
       values = length-replicate {A = ℕ} (size_by c.program word - OBJECT_HEAD_WORDS) 0;
@@ -232,7 +232,7 @@ module _ (scene : Scene) where
     old_plain : (a other : ℕ) → IsPlainNew c.program q a other → IsPlainNew c.program with_new a other
     old_plain a other k = record {
       object = k.object;
-      there = contains_before q.objects fresh k.object k.there;
+      there = Contains-append_left q.objects (fresh ∷ []) k.object k.there;
       reference = k.reference;
       class = k.class;
       values = k.values;
@@ -248,7 +248,7 @@ module _ (scene : Scene) where
       places = λ n u e free. by_place n u free (added_place q.objects q.statics fresh n u e);
       next = set_here s.words NEXT_FREE_WORD (slice_index s.words NEXT_FREE_WORD + size_by c.program word) counter_inside ∙ ap (λ (k : ℕ). k + size_by c.program word) scene.beside.agrees.next;
       tickets = set_there s.words NEXT_FREE_WORD NEXT_TICKET_WORD (slice_index s.words NEXT_FREE_WORD + size_by c.program word) (λ e. omega (arith, e));
-      known = λ o k. let e = scene.beside.known o k in (e.0, contains_before q.objects fresh e.0 e.1, e.2, e.3, e.4);
+      known = λ o k. let e = scene.beside.known o k in (e.0, Contains-append_left q.objects (fresh ∷ []) e.0 e.1, e.2, e.3, e.4);
       others = λ e k. by_object e (contained_last q.objects fresh e k);
       new_objects = λ u z a other e m. by_thread u z a other m (made_before s.threads t x new scene.here u z a other e m);
       apart = apart_added c.program q.objects q.statics q.next (q.next + size_by c.program word) fresh (record {

@@ -3,22 +3,15 @@ use Rattle.std.proofs.Common.{◌≡◌, ◌⊎◌, inl, inr, ℕ, zero, suc, �
 use Rattle.std.{specs.List.{sum_by, range_with_len}, proofs.lemmas.{Bool.Decides.Decides-eqb, List.{Elements.{Contains-append_left, Contains-append_right}, Sums.sum_by-cons}, Option.slice_get-map}}
 use Rattle.std.proofs.lemmas.Bool.{cases_Bool}
 use Rattle.lists.proofs.ListLaws.{same_some}
-use Rattle.jvm_types.specs.declared.{outcome.{Print.Print, ThreadReport.ThreadReport}, program.Program.Program}
+use Rattle.jvm_types.{specs.declared.{outcome.{Print.Print, ThreadReport.ThreadReport}, program.Program.Program}, proofs.EachAfter.last_got}
 use Rattle.checked_program.specs.MarkedProgram.{MarkedProgram}
 use Rattle.machine_types.specs.{Core.{Core, start_thread, start, may_begin, with_roots, part_begins, next_threads, report_of, outcome}, Faithful.PrintsFit, PlainState.{Plain, Printed}, Threads.Thread}
 use Rattle.machine_types.{specs.declared.config.Config.Config, proofs.Lists.got_when_set}
 use Rattle.laws_threads.proofs.StateSteps.{set_other}
 use Rattle.laws_states.proofs.Sums.{sum_set}
-use Rattle.laws_simulation.{specs.OutcomeLaws.{NextKeepsPrints, StartHasPrints}, proofs.{CountedEvents.with_print, PlainPrints.with_printed}}
+use Rattle.laws_simulation.{specs.OutcomeLaws.{NextKeepsPrints, StartHasPrints}, proofs.{Assembled.mapped_from, CountedEvents.with_print, PlainPrints.with_printed}}
 
 -- ---- lists
-
--- the last item, or one before it
-last_or : {A : Type 0} (xs : List A) (z x : A) (i : ℕ) → slice_get (xs ++ z ∷ []) i ≡ Some x → (slice_get xs i ≡ Some x) ⊎ ((i ≡ length xs) × (z ≡ x))
-last_or [] z x zero e = inr (refl, same_some e)
-last_or [] z x (suc i) e = absurd (cc)
-last_or (y ∷ xs) z x zero e = inl e
-last_or (y ∷ xs) z x (suc i) e = elim (last_or xs z x i e) [ inl f ↦ inl f | inr f ↦ inr (let k = f.0 in omega (arith, k), f.1) ]
 
 sum_map : {A B : Type 0} (f : B → ℕ) (g : A → B) (xs : List A) → sum_by f (map g xs) ≡ sum_by (λ x. f (g x)) xs
 sum_map f g [] = refl
@@ -97,7 +90,7 @@ module _ (threads : List Thread) (t : ℕ) (x y : Thread) (there : slice_get thr
 
   pub printed_one : (ps later : List Printed) (print : Print) → y.prints ≡ x.prints ++ print ∷ [] → later ≡ ps ++ record { thread = t; value = print.value } ∷ [] → print.ticket ≡ length ps → Fit threads ps → Fit (slice_set threads t y) later
   printed_one ps later print new e ticket h = subst (λ (qs : List Printed). Fit (slice_set threads t y) qs) (sym e) (record {
-    each = λ i z g. by_place i z (last_or ps (record { thread = t; value = print.value }) z i g);
+    each = λ i z g. by_place i z (last_got ps (record { thread = t; value = print.value }) i z g);
     no_more =
         let k = sums in let n = h.no_more in
         let l : length y.prints ≡ length (x.prints ++ print ∷ []) = ap length new in
@@ -112,9 +105,9 @@ module _ (threads : List Thread) (t : ℕ) (x y : Thread) (there : slice_get thr
       has_new : Contains y.prints print
       has_new = subst (λ (ls : List Print). Contains ls print) (sym new) (Contains-append_right x.prints (print ∷ []) print (0, omega arith, refl))
 
-      by_place : (i : ℕ) (z : Printed) → (slice_get ps i ≡ Some z) ⊎ ((i ≡ length ps) × (record { thread = t; value = print.value } ≡ z)) → Reports (slice_set threads t y) z.thread (record { ticket = i; value = z.value })
+      by_place : (i : ℕ) (z : Printed) → (slice_get ps i ≡ Some z) ⊎ ((i ≡ length ps) × (z ≡ record { thread = t; value = print.value })) → Reports (slice_set threads t y) z.thread (record { ticket = i; value = z.value })
       by_place i z (inl g) = moved_on z.thread (record { ticket = i; value = z.value }) (grown _) (h.each i z g)
-      by_place i z (inr g) = subst (λ (w : Printed). Reports (slice_set threads t y) w.thread (record { ticket = i; value = w.value })) g.1
+      by_place i z (inr g) = subst (λ (w : Printed). Reports (slice_set threads t y) w.thread (record { ticket = i; value = w.value })) (sym g.1)
           (subst (λ (n : ℕ). Reports (slice_set threads t y) t (record { ticket = n; value = print.value })) (ticket ∙ sym g.0)
           (reported (slice_set threads t y) t y print (got_when_set threads t x y there) has_new))
 
@@ -128,17 +121,12 @@ module _ (threads : List Thread) (t : ℕ) (x y : Thread) (there : slice_get thr
 -- each thread has printed the same
 same_prints : (threads later : List Thread) (ps : List Printed) → map (λ (x : Thread). x.prints) threads ≡ map (λ (x : Thread). x.prints) later → Fit threads ps → Fit later ps
 same_prints threads later ps same h = record {
-  each = λ i z e. kept z.thread (record { ticket = i; value = z.value }) (reporter threads z.thread _ (h.each i z e));
+  each = λ i z e.
+      let r = reporter threads z.thread (record { ticket = i; value = z.value }) (h.each i z e) in
+      let x = mapped_from (λ (x : Thread). x.prints) later threads same z.thread r.thread r.there in
+      reported later z.thread x.0 (record { ticket = i; value = z.value }) x.1 (subst (λ (ls : List Print). Contains ls (record { ticket = i; value = z.value })) x.2 r.has);
   no_more = sym (sum_map length (λ (x : Thread). x.prints) later) ∙ ap (sum_by length) (sym same) ∙ sum_map length (λ (x : Thread). x.prints) threads ∙ h.no_more;
 }
-  where
-    kept : (u : ℕ) (print : Print) → Reporter threads u print → Reports later u print
-    kept u print r = by_thread (slice_get later u) refl (sym (slice_get-map (λ (x : Thread). x.prints) later u) ∙ ap (λ (ls : List (List Print)). slice_get ls u) (sym same)
-        ∙ slice_get-map (λ (x : Thread). x.prints) threads u ∙ ap (option_map (λ (x : Thread). x.prints)) r.there)
-      where
-        by_thread : (o : Option Thread) → slice_get later u ≡ o → option_map (λ (x : Thread). x.prints) o ≡ Some r.thread.prints → Reports later u print
-        by_thread None e f = absurd (cc)
-        by_thread (Some x) e f = reported later u x print e (subst (λ (ls : List Print). Contains ls print) (sym (same_some f)) r.has)
 
 roots_print_none : (roots : List ℕ) (workers : List Thread) → map (λ (x : Thread). x.prints) workers ≡ map (λ (x : Thread). x.prints) (map (with_roots roots) workers)
 roots_print_none roots [] = refl

@@ -11,21 +11,6 @@ use Rattle.laws_states.proofs.Lists.{contained_got}
 
 -- ---- a list with one more behind
 
-pub got_before : {X : Type 0} (xs : List X) (y : X) (i : ℕ) (x : X) → slice_get xs i ≡ Some x → slice_get (xs ++ y ∷ []) i ≡ Some x
-got_before [] y i x e = absurd (cc)
-got_before (z ∷ xs) y zero x e = e
-got_before (z ∷ xs) y (suc i) x e = got_before xs y i x e
-
-pub contains_before : {X : Type 0} (xs : List X) (y x : X) → Contains xs x → Contains (xs ++ y ∷ []) x
-contains_before xs y x k = contains_got (xs ++ y ∷ []) k.0 x (got_before xs y k.0 x (contained_got xs x k))
-
-pub contains_last : {X : Type 0} (xs : List X) (y : X) → Contains (xs ++ y ∷ []) y
-contains_last {X} xs y = contains_got (xs ++ y ∷ []) (length xs) y (got_last xs)
-  where
-    got_last : (xs : List X) → slice_get (xs ++ y ∷ []) (length xs) ≡ Some y
-    got_last [] = refl
-    got_last (z ∷ xs) = got_last xs
-
 pub contained_last : {X : Type 0} (xs : List X) (y x : X) → Contains (xs ++ y ∷ []) x → Contains xs x ⊎ (x ≡ y)
 contained_last xs y x k = elim (last_got xs y k.0 x (contained_got (xs ++ y ∷ []) x k)) [ inl g ↦ inl (contains_got xs k.0 x g) | inr e ↦ inr e.1 ]
 

@@ -12,20 +12,7 @@ use Rattle.laws_states.proofs.Lists.{contained_got, same_or_not}
 
 module _ (o : Object) (x : ℕ) where
   is_within : has_value o x ≡ true → (first_value o ≤ x) × (x < object_end o)
-  is_within e = both (nat_le (first_value o) x) (nat_lt x (object_end o)) refl refl e
-    where
-      both : (a b : Bool) → nat_le (first_value o) x ≡ a → nat_lt x (object_end o) ≡ b → (a && b) ≡ true → (first_value o ≤ x) × (x < object_end o)
-      both true true f g h = (grind (arith, nat_tests, f), grind (arith, nat_tests, g))
-      both true false f g h = absurd (cc)
-      both false b f g h = absurd (cc)
-
-  not_within : (object_end o ≤ x) ⊎ (x < first_value o) → has_value o x ≡ false
-  not_within k = by_test (has_value o x) refl k
-    where
-      by_test : (b : Bool) → has_value o x ≡ b → (object_end o ≤ x) ⊎ (x < first_value o) → b ≡ false
-      by_test true e (inl h) = let l = is_within e in absurd (omega (arith, h, l.0, l.1))
-      by_test true e (inr h) = let l = is_within e in absurd (omega (arith, h, l.0, l.1))
-      by_test false e k = refl
+  is_within e = (grind (arith, nat_tests, e), grind (arith, nat_tests, e))
 
   -- the place of a value lies inside its object, and not at its reference
   pub lies_inside : (v : ℕ) → value_in o x ≡ Some v → (o.reference < x) × (x < object_end o)
@@ -46,31 +33,13 @@ module _ (o : Object) (x : ℕ) where
 pub header_in : (o : Object) → value_in o (header_word o.reference) ≡ Some (header_of o)
 header_in o = ap (λ (b : Bool). if b then Some (header_of o) else if has_value o (header_word o.reference) then slice_get o.values (header_word o.reference - first_value o) else None) (is_same (header_word o.reference))
 
-pub got_some : (xs : List ℕ) (i : ℕ) → i < length xs → (v : ℕ) × (slice_get xs i ≡ Some v)
-got_some [] i lt = absurd (omega (arith, lt))
-got_some (x ∷ xs) zero lt = (x, refl)
-got_some (x ∷ xs) (suc i) lt = got_some xs i (omega (arith, lt))
-
 pub value_in_object : (o : Object) (i : ℕ) → i < length o.values → value_in o (value_word o.reference i) ≡ slice_get o.values i
 value_in_object o i lt =
-    ap (λ (b : Bool). if b then Some (header_of o) else if has_value o at then slice_get o.values (at - first_value o) else None) (ne_eqb at (header_word o.reference) (λ e. omega (arith, e)))
-    ∙ ap (λ (b : Bool). if b then slice_get o.values (at - first_value o) else None) (has_it (has_value o at) refl)
+    let has : has_value o (value_word o.reference i) ≡ true = grind (arith, nat_tests, lt) in
+    let index : value_word o.reference i - first_value o ≡ i = omega arith in
+    ap (λ (b : Bool). if b then Some (header_of o) else if has_value o (value_word o.reference i) then slice_get o.values (value_word o.reference i - first_value o) else None) (ne_eqb (value_word o.reference i) (header_word o.reference) (λ e. omega (arith, e)))
+    ∙ ap (λ (b : Bool). if b then slice_get o.values (value_word o.reference i - first_value o) else None) has
     ∙ ap (slice_get o.values) index
-  where
-    at : ℕ
-    at = value_word o.reference i
-
-    index : value_word o.reference i - first_value o ≡ i
-    index = omega arith
-
-    le : nat_le (first_value o) (value_word o.reference i) ≡ true
-    le = grind (arith, nat_tests)
-
-    below : nat_lt (value_word o.reference i) (object_end o) ≡ true
-    below = let l : value_word o.reference i < object_end o = omega (arith, lt) in grind (arith, nat_tests, l)
-
-    has_it : (b : Bool) → has_value o at ≡ b → b ≡ true
-    has_it b e = sym e ∙ ap (λ (d : Bool). d && nat_lt (value_word o.reference i) (object_end o)) le ∙ below
 
 -- ---- some objects
 
@@ -166,8 +135,7 @@ module _ (p : Program) (q : Plain) (apart : LieApart p q.objects q.statics q.nex
             omega (arith, l.0, ap (λ (z : Object). z.reference) one)
         | inr n ↦
             let l = lies_inside k.object o.reference v k.has in
-            (elim (other_object c.0 k.index o k.object o.reference there k.there n (omega arith) (omega arith)) as (λ _. k.object.reference < o.reference → o.reference < object_end k.object → ⊥)
-            [ inl h ↦ λ a b. omega (arith, h, a) | inr h ↦ λ a b. omega (arith, h, b) ]) l.0 l.1
+            elim (other_object c.0 k.index o k.object o.reference there k.there n (omega arith) (omega arith)) [ inl h ↦ omega (arith, h, l.0) | inr h ↦ omega (arith, h, l.1) ]
       ]
       by_place (inr k) = elim (apart.mixed c.0 k.index o k.static there k.there) [ inl h ↦ omega (arith, h, k.word) | inr h ↦ omega (arith, h, k.word) ]
 

@@ -1,5 +1,6 @@
 -- At each place of an object and of a static field the plain machine has the value that stands in the word.
-use Rattle.std.proofs.Common.{◌≡◌, ℕ, zero, suc, Bool, true, false, cond, List, [], ◌∷◌, filter, map, Some, refl, sym, ap, ◌∙◌, subst, arith, slice_get, slice_index}
+use Rattle.std.proofs.Common.{◌≡◌, ℕ, zero, suc, Bool, true, false, cond, List, [], ◌∷◌, filter, map, Some, refl, sym, ap, ◌∙◌, subst, arith, slice_get, slice_index, get_or}
+use Rattle.std.proofs.lemmas.Option.{slice_get-get_or}
 use Rattle.lists.proofs.ListLaws.{same_some}
 use Rattle.jvm_types.specs.{Members.is_static, declared.program.{FieldInfo.FieldInfo, Program.Program}}
 use Rattle.checked_program.specs.MarkedProgram.{MarkedProgram, IsMarked}
@@ -7,7 +8,7 @@ use Rattle.machine_types.specs.{Agreement.IsPending, Core.Core, Ints.word_of, Pl
 use Rattle.machine_types.{specs.Words.{header_word, value_word}, proofs.PlacesAtStart.statics_in}
 use Rattle.laws_states.specs.{HeapFacts.HeapFacts, SiteLaws.SitesDiffer, Sites.{Site, Counter, OwnerOf, BitsOf, LockOf, HeaderOf, ValueOf, NewHeaderOf, StaticAt, site_word, HasStatic, IsThere}}
 use Rattle.laws_states.proofs.Lists.{contained_got}
-use Rattle.laws_simulation.{specs.StandsBeside.StandsBeside, proofs.PlainPlaces.{got_some, value_in_object, value_of_object, value_of_header, value_of_static}}
+use Rattle.laws_simulation.{specs.StandsBeside.StandsBeside, proofs.PlainPlaces.{value_in_object, value_of_object, value_of_header, value_of_static}}
 
 -- ---- static fields of the program
 
@@ -49,13 +50,7 @@ IsPlace site = ⊥
 
 no_new : (site : Site) (a : ℕ) → IsPlace site → site ≡ NewHeaderOf a → ⊥
 no_new (NewHeaderOf b) a k e = k
-no_new (HeaderOf reference) a k e = cc
-no_new (ValueOf reference index) a k e = cc
-no_new (StaticAt word) a k e = cc
-no_new (Counter word) a k e = k
-no_new (OwnerOf r) a k e = k
-no_new (BitsOf r) a k e = k
-no_new (LockOf reference) a k e = k
+no_new site a k e = cc
 
 module _ (p : Program) (objects : List Object) (s : Core) (q : Plain)
     (beside : StandsBeside p objects s q) where
@@ -66,21 +61,17 @@ module _ (p : Program) (objects : List Object) (s : Core) (q : Plain)
       (header_of e.0, subst (λ (n : ℕ). value_at q (header_word n) ≡ Some (header_of e.0)) (e.2 ∙ there.2) (value_of_header p q beside.apart e.0 e.1))
   has_a_value (ValueOf reference index) k there =
       let e = beside.known there.0 there.1 in
-      let v = got_some e.0.values index (omega (arith, e.4, there.3)) in (
-        v.0,
-        subst (λ (n : ℕ). value_at q (value_word n index) ≡ Some v.0) (e.2 ∙ there.2)
-            (value_of_object p q beside.apart e.0 (value_word e.0.reference index) v.0 e.1 (value_in_object e.0 index (omega (arith, e.4, there.3)) ∙ v.1)),
+      let v = get_or e.0.values index 0 in (
+        v,
+        subst (λ (n : ℕ). value_at q (value_word n index) ≡ Some v) (e.2 ∙ there.2)
+            (value_of_object p q beside.apart e.0 (value_word e.0.reference index) v e.1 (value_in_object e.0 index (omega (arith, e.4, there.3)) ∙ slice_get-get_or e.0.values index 0 (omega (arith, e.4, there.3)))),
       )
   has_a_value (StaticAt word) k there =
       let f = static_field p word there in
       let w = beside.apart.there f.number f.field f.there f.static in
       let v = value_of_static p q beside.apart w.0 w.1 in
       (v.0, subst (λ (n : ℕ). value_at q n ≡ Some v.0) (w.2 ∙ f.word_is) v.1)
-  has_a_value (Counter word) k there = absurd k
-  has_a_value (OwnerOf r) k there = absurd k
-  has_a_value (BitsOf r) k there = absurd k
-  has_a_value (LockOf reference) k there = absurd k
-  has_a_value (NewHeaderOf reference) k there = absurd k
+  has_a_value site k there = absurd k
 
 -- and the word has it too
 pub value_found : SitesDiffer → (c : MarkedProgram) (objects : List Object) (s : Core) (q : Plain) → IsMarked c → HeapFacts c objects s → StandsBeside c.program objects s q
