@@ -1,5 +1,5 @@
 -- The bits of a word of waiting bits, where one is set or cleared.
-use Rattle.std.{proofs.Common.{◌≡◌, ◌≢◌, inl, inr, ℕ, ◌-◌, ◌*◌, ◌^◌, ◌<◌, ◌≤◌, min, max, Bool, true, false, w64, refl, sym, ap, ◌∙◌, arith, not, ◌==◌, bit_and, bit_or, nat_lt}, specs.Int.bit_at}
+use Rattle.std.{proofs.Common.{◌≡◌, ◌≢◌, inl, inr, ℕ, ◌-◌, ◌*◌, ◌^◌, ◌<◌, ◌≤◌, min, max, true, false, w64, sym, ap, ◌∙◌, arith, not, ◌==◌, bit_and, bit_or, nat_lt}, specs.Int.bit_at}
 use Rattle.std.proofs.{Math.Pow.pow-lt, lemmas.{Bool.Decides.nat_tests, Nat.Bits.{bit_at_and, bit_at_or, bit_at-pow_same, bit_at-pow_other, and_pow, bit_at_not, bit_at-lt, bit_at_above}}}
 use Rattle.std.proofs.lemmas.Bool.{cases_Bool}
 use Rattle.jvm_types.specs.Numbers.{has_flag}

@@ -1,6 +1,6 @@
 -- What stands beside when a thread has moved: where the plain machine made no step, where one of its threads did, and where the
 -- thread goes on to its next instruction.
-use Rattle.std.proofs.Common.{◌≡◌, ◌≢◌, ◌⊎◌, inl, inr, ℕ, zero, suc, ◌+◌, ◌<◌, nat_lt, Bool, true, false, cond, List, [], ◌∷◌, Option, Some, None, refl, sym, ap, ◌∙◌, subst, arith, slice_get, slice_set}
+use Rattle.std.proofs.Common.{◌≡◌, ◌≢◌, inl, inr, ℕ, zero, suc, ◌+◌, ◌<◌, nat_lt, Bool, true, false, cond, List, [], ◌∷◌, Option, Some, None, refl, sym, ap, ◌∙◌, subst, arith, slice_get, slice_set}
 use Rattle.std.proofs.lemmas.List.{length-set}
 use Rattle.jvm_types.specs.{Numbers.has_flag, declared.{fixed_words.TheConstants.MONITOR_RECORDS, outcome.End.End, program.Program.Program}}
 use Rattle.machine_types.specs.{Agreement.{has_wait_bit, StatusFits, OutsideFits, frames_shown, roots_shown}, Going.runs, HeldMonitors.held_at, Monitors.bit_of}

@@ -1,6 +1,6 @@
 -- Where the plain machine has values: the header and the values of an object, and the static fields. All of these lie behind
 -- the monitor records and below the number for the next reference, and none is a reference, where the lock word stands.
-use Rattle.std.proofs.Common.{◌≡◌, ◌≢◌, ◌⊎◌, inl, inr, ℕ, zero, suc, ◌-◌, ◌<◌, ◌≤◌, nat_lt, nat_le, Bool, true, false, List, [], ◌∷◌, length, Option, Some, None, refl, sym, ap, ◌∙◌, subst, arith, Contains, slice_get, ◌==◌, ◌&&◌, if◌then◌else◌}
+use Rattle.std.proofs.Common.{◌≡◌, ◌≢◌, ◌⊎◌, inl, inr, ℕ, zero, suc, ◌-◌, ◌<◌, ◌≤◌, Bool, true, false, List, [], ◌∷◌, length, Option, Some, None, refl, sym, ap, ◌∙◌, subst, arith, Contains, slice_get, ◌==◌, if◌then◌else◌}
 use Rattle.std.{specs.Option.option_or, proofs.lemmas.Bool.{ne_eqb, Decides.{nat_tests, Decides-eqb}}}
 use Rattle.lists.proofs.ListLaws.{same_some}
 use Rattle.jvm_types.specs.declared.{fixed_words.TheConstants.FIRST_READY_WORD, program.Program.Program}

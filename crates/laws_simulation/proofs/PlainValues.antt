@@ -6,7 +6,7 @@ use Rattle.jvm_types.specs.{Members.is_static, declared.program.{FieldInfo.Field
 use Rattle.checked_program.specs.MarkedProgram.{MarkedProgram, IsMarked}
 use Rattle.machine_types.specs.{Agreement.IsPending, Core.Core, Ints.word_of, PlainMemory.{Object, StaticValue, header_of, start_statics}, PlainState.{Plain, value_at}}
 use Rattle.machine_types.{specs.Words.{header_word, value_word}, proofs.PlacesAtStart.statics_in}
-use Rattle.laws_states.specs.{HeapFacts.HeapFacts, SiteLaws.SitesDiffer, Sites.{Site, Counter, OwnerOf, BitsOf, LockOf, HeaderOf, ValueOf, NewHeaderOf, StaticAt, site_word, HasStatic, IsThere}}
+use Rattle.laws_states.specs.{HeapFacts.HeapFacts, SiteLaws.SitesDiffer, Sites.{Site, HeaderOf, ValueOf, NewHeaderOf, StaticAt, site_word, HasStatic, IsThere}}
 use Rattle.laws_states.proofs.Lists.{contained_got}
 use Rattle.laws_simulation.{specs.StandsBeside.StandsBeside, proofs.PlainPlaces.{value_in_object, value_of_object, value_of_header, value_of_static}}
 

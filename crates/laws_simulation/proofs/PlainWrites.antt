@@ -1,5 +1,5 @@
 -- What stands at the places of the plain machine when one is written, and that its objects and static fields still lie apart.
-use Rattle.std.proofs.Common.{◌≡◌, ◌≢◌, ◌⊎◌, inl, inr, ℕ, zero, suc, ◌+◌, ◌-◌, ◌<◌, ◌≤◌, Bool, true, false, List, [], ◌∷◌, length, Option, Some, None, refl, ap, sym, subst, ◌∙◌, arith, ◌==◌, ◌&&◌, nat_le, nat_lt, slice_get, slice_set, map, get_or, if◌then◌else◌}
+use Rattle.std.proofs.Common.{◌≡◌, ◌≢◌, ◌⊎◌, inl, inr, ℕ, suc, ◌+◌, ◌-◌, ◌<◌, ◌≤◌, Bool, true, false, List, [], ◌∷◌, length, Option, Some, None, refl, ap, sym, subst, ◌∙◌, arith, ◌==◌, ◌&&◌, nat_le, nat_lt, slice_get, slice_set, map, get_or, if◌then◌else◌}
 use Rattle.std.{specs.Option.option_or, proofs.lemmas.{Bool.Decides.nat_tests, List.length-set, Option.slice_get-get_or}}
 use Rattle.lists.proofs.ListLaws.{same_some}
 use Rattle.jvm_types.specs.{ProgramInvariant.instances_among, declared.{class_numbers.TheConstants.INT_ARRAY_CLASS, fixed_words.TheConstants.FIRST_READY_WORD, program.Program.Program}}

@@ -1,6 +1,6 @@
 -- A call of `wait`, `notify` or `notifyAll`: the plain machine does the instruction, and on a flat lock also the notification,
 -- since nobody waits there.
-use Rattle.std.proofs.{Common.{◌≡◌, ◌≢◌, ◌⊎◌, inl, inr, ℕ, nat_lt, Bool, false, cond, List, [], ◌∷◌, Option, Some, None, refl, sym, ap, ◌∙◌, subst, slice_get, slice_set}, lemmas.List.set-set}
+use Rattle.std.proofs.{Common.{◌≡◌, ◌≢◌, inl, inr, ℕ, nat_lt, Bool, false, cond, List, [], ◌∷◌, Option, Some, None, refl, sym, ap, ◌∙◌, subst, slice_get, slice_set}, lemmas.List.set-set}
 use Rattle.jvm_types.specs.declared.outcome.Thrown.TheVariants.{IllegalMonitorStateException}
 use Rattle.machine_types.specs.{Accesses.{found_by, words_after}, Agreement.{has_wait_bit, StatusFits, OutsideFits, frames_shown, roots_shown}, Events.wanted, Frames.{Top, top_of, effect_at, went_on}}
 use Rattle.machine_types.specs.{Going.{with_phase, runs, goes_on}, HeldMonitors.held_at, History.{run_acts, instruction_acts, notified_by, notify_acts, steps_of}}
