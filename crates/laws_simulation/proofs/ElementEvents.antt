@@ -4,15 +4,15 @@ use Rattle.std.proofs.lemmas.Bool.Decides.{nat_tests}
 use Rattle.jvm_types.specs.declared.{class_numbers.TheConstants.INT_ARRAY_CLASS, code.{Insn.Insn, Op.Op}, fixed_words.TheConstants.NEXT_FREE_WORD, op_row.OpRow.OpRow}
 use Rattle.jvm_types.specs.declared.{outcome.Thrown.TheVariants.ArrayIndexOutOfBoundsException, program.{MethodInfo.MethodInfo, Program.Program, Target.Target}}
 use Rattle.checked_program.specs.{MarkedProgram.{MarkedProgram, IsMarked}, TaggedCode.row_of}
-use Rattle.machine_types.specs.{Core.Core, Effects.effect, Events.{element_made, wanted, moved}, Frames.{Top, top_of, effect_at, went_on}, Going.{goes_on, goes_on_if}, History.{acts_of, steps_of}, Ints.low}
-use Rattle.machine_types.specs.{Onward.{Running, threw}, PlainInstructions.{plain_did, indexed_in, plain_instructed, instructed_by}, PlainMemory.Object}
+use Rattle.machine_types.specs.{Core.Core, Effects.effect, Events.{element_made, moved}, Frames.{Top, top_of, effect_at, went_on}, Going.{goes_on, goes_on_if}, History.{steps_of}, Ints.low}
+use Rattle.machine_types.specs.{Onward.{Onward, Running, threw}, PlainInstructions.{plain_did, indexed_in, plain_instructed, instructed_by}, PlainMemory.Object}
 use Rattle.machine_types.specs.{PlainState.{Plain, PlainThread, value_at, written, with_thread}, PlainSteps.{step_at, plain_run}, Structure.{PhaseShows, TopIs, is_element_op}, Threads.{Frame, Thread}}
 use Rattle.machine_types.specs.{Typed.{FramesHold, HasClass, IsElementOn, ElementStands, HasElement, HasElementOn, HasElementIn}, Words.{header_length, header_word, value_word}}
 use Rattle.machine_types.specs.declared.{access.Access.TheVariants.{Load, Store}, effect.Effect.{Effect, TheVariants.{Throws, Indexes}}, phase.Phase.Phase}
 use Rattle.laws_threads.{specs.Allowed.{Allowed, IsOf}, proofs.{Landing.stand_top, Onwards.same_op, Standings.top_here, TopEffects.allowed_here}}
-use Rattle.laws_states.{specs.{HeapFacts.{HeapFacts, objects_by}, Sites.{HeaderOf, ValueOf}}, proofs.{Accesses.out_there, Found.length_found, Lists.contained_got, Places.same_object}}
-use Rattle.laws_simulation.{specs.StepsBeside.StepsBeside, proofs.{Assembled.one_step, EventSteps.gone_on, MemoryParts.{stays, writes}, OwnThread.{IsBusy, own, not_ended}, PlainValues.value_found}}
-use Rattle.laws_simulation.proofs.{RunScene.{runs_on, frames_are, status_fits, values}, Scene.{Scene, GoesOn, Memory, awake, counts_as, going, comes_beside, steps_of_event, looked}}
+use Rattle.laws_states.{specs.{HeapFacts.{HeapFacts}, Sites.{HeaderOf, ValueOf}}, proofs.{Accesses.out_there, Found.length_found, Lists.contained_got, Places.same_object}}
+use Rattle.laws_simulation.{specs.StepsBeside.StepsBeside, proofs.{Assembled.one_step, EventSteps.gone_on, MemoryParts.{stays, writes}, OwnThread.{IsBusy, own, under_way}, PlainValues.value_found}}
+use Rattle.laws_simulation.proofs.{RunScene.{frames_are, status_fits, values}, Scene.{Scene, GoesOn, Memory, awake, counts_as, going, steps_in, looked}}
 use Rattle.jvm_types.specs.declared.code.Op.TheVariants as ops
 use Rattle.jvm_types.specs.declared.outcome.Thrown.TheVariants as thrown
 use Rattle.machine_types.specs.PlainState as plain
@@ -157,7 +157,7 @@ module _ (scene : Scene) where
 
     goes : (made : ℕ) → GoesOn turn (goes_on x (Running (went_on c.program k.at made))) (plain.plain_goes_on y (Running (went_on c.program k.at made)))
     goes made = going turn x y (Running (went_on c.program k.at made)) refl scene.outside refl
-        (awake turn (phases.Element word stored) was_so (λ r h. h)) (runs_on turn (subst IsBusy (sym phase_is) tt))
+        (awake turn (phases.Element word stored) was_so (λ r h. h)) (under_way turn (subst IsBusy (sym phase_is) tt))
 
     run_is : plain_run c.program q (steps_of t (acts.Do ∷ [])) ≡ Some (indexed_in c.program q t y k.at place stored (slice_index s.words place))
     run_is = one_step c.program q (indexed_in c.program q t y k.at place stored (slice_index s.words place)) t y acts.Do (own turn).here
@@ -169,70 +169,20 @@ module _ (scene : Scene) where
         ∙ (ap (λ (b : Bool). if b then option_map (indexed_in c.program q t y k.at place stored) (value_at q place) else Some (with_thread q t (plain.plain_goes_on y (threw ArrayIndexOutOfBoundsException k.at)))) has_it
         ∙ ap (option_map (indexed_in c.program q t y k.at place stored)) stands))))))
 
-    moves : (got : ℕ) → moved c x x.phase got ≡ goes_on x (Running (went_on c.program k.at (element_made stored got)))
-    moves got = ap (λ (z : Phase). moved c x z got) phase_is ∙ ap (λ (o : Option Top). goes_on_if x (option_map (λ (at : Top). Running (went_on c.program at (element_made stored got))) o)) k.found
-
-  -- ---- an element that is read
-
-  module _ (word : ℕ) (phase_is : x.phase ≡ phases.Element word None) where
-    abbrev read : Element c objects x word None
-    read = k word None phase_is
-
-    abbrev value : ℕ
-    value = slice_index s.words word
-
-    abbrev read_now : Thread
-    read_now = goes_on x (Running (went_on c.program read.at value))
-
-    abbrev read_shown : PlainThread
-    read_shown = plain.plain_goes_on (y word None phase_is) (Running (went_on c.program read.at value))
-
-    pub read_steps : StepsBeside c objects s t x q
-    read_steps = steps_of_event turn objects (Some (Load word)) (acts.Do ∷ []) read_now
-        (ap (λ (z : Phase). objects_by c.program z objects) phase_is)
-        (ap (wanted c x) phase_is)
-        (ap (λ (z : Phase). acts_of c x z value) phase_is)
-        (moves word None phase_is value)
-        (record {
-          after = with_thread q t read_shown;
-          run = run_is word None phase_is ∙ ap (λ (n : ℕ). Some (with_thread q t (plain.plain_goes_on (y word None phase_is) (Running (went_on c.program read.at n))))) (ap (slice_index s.words) (sym read.word_is));
-          beside = comes_beside turn objects (slice_set s.words word value) q read_now read_shown (not_ended x.phase (subst IsBusy (sym phase_is) tt)) (goes word None phase_is value)
-              (stays scene (slice_set s.words word value) read_now (looked s.words word) (makes_none word None phase_is) (gone_on x (Running (went_on c.program read.at value))).makes);
-        })
-
-  -- ---- an element that is stored
-
-  module _ (word v : ℕ) (phase_is : x.phase ≡ phases.Element word (Some v)) where
-    abbrev store : Element c objects x word (Some v)
-    store = k word (Some v) phase_is
-
-    abbrev at_word : ℕ
-    at_word = value_word store.array (low store.index)
-
-    abbrev store_now : Thread
-    store_now = goes_on x (Running (went_on c.program store.at 0))
-
-    abbrev store_shown : PlainThread
-    store_shown = plain.plain_goes_on (y word (Some v) phase_is) (Running (went_on c.program store.at 0))
-
-    store_memory : Memory turn objects (slice_set s.words word v) (written q word v) store_now
-    store_memory = subst (λ (n : ℕ). Memory turn objects (slice_set s.words n v) (written q n v) store_now) (sym store.word_is)
-        (writes scene (ValueOf store.array (low store.index)) tt (store.element.object, store.element.there, store.element.is, store.element.below) v (slice_index s.words at_word) (stands word (Some v) phase_is) store_now
-        (makes_none word (Some v) phase_is) (gone_on x (Running (went_on c.program store.at 0))).makes)
-
-    pub store_steps : StepsBeside c objects s t x q
-    store_steps = steps_of_event turn objects (Some (Store word v)) (acts.Do ∷ []) store_now
-        (ap (λ (z : Phase). objects_by c.program z objects) phase_is)
-        (ap (wanted c x) phase_is)
-        (ap (λ (z : Phase). acts_of c x z (slice_index s.words word)) phase_is)
-        (moves word (Some v) phase_is (slice_index s.words word))
-        (record {
-          after = with_thread (written q word v) t store_shown;
-          run = run_is word (Some v) phase_is ∙ ap (λ (n : ℕ). Some (with_thread (written q n v) t store_shown)) (sym store.word_is);
-          beside = comes_beside turn objects (slice_set s.words word v) (written q word v) store_now store_shown (not_ended x.phase (subst IsBusy (sym phase_is) tt))
-              (goes word (Some v) phase_is 0) store_memory;
-        })
+    moves : (got : ℕ) → moved c x (phases.Element word stored) got ≡ goes_on x (Running (went_on c.program k.at (element_made stored got)))
+    moves got = ap (λ (o : Option Top). goes_on_if x (option_map (λ (at : Top). Running (went_on c.program at (element_made stored got))) o)) k.found
 
   pub element_steps : (word : ℕ) (stored : Option ℕ) → x.phase ≡ phases.Element word stored → StepsBeside c objects s t x q
-  element_steps word None phase_is = read_steps word phase_is
-  element_steps word (Some v) phase_is = store_steps word v phase_is
+  element_steps word None phase_is =
+      let e = k word None phase_is in
+      let o : Onward = Running (went_on c.program e.at (slice_index s.words word)) in
+      steps_in turn (phases.Element word None) phase_is objects (Some (Load word)) (acts.Do ∷ []) q (goes_on x o) (plain.plain_goes_on (own turn).plain o) refl refl refl (moves word None phase_is (slice_index s.words word)) (λ h. cc)
+      (run_is word None phase_is ∙ ap (λ (n : ℕ). Some (with_thread q t (plain.plain_goes_on (own turn).plain (Running (went_on c.program e.at n))))) (ap (slice_index s.words) (sym e.word_is)))
+      (goes word None phase_is (slice_index s.words word)) (stays scene (slice_set s.words word (slice_index s.words word)) (goes_on x o) (looked s.words word) (makes_none word None phase_is) (gone_on x o).makes)
+  element_steps word (Some v) phase_is =
+      let e = k word (Some v) phase_is in
+      let o : Onward = Running (went_on c.program e.at 0) in
+      steps_in turn (phases.Element word (Some v)) phase_is objects (Some (Store word v)) (acts.Do ∷ []) (written q word v) (goes_on x o) (plain.plain_goes_on (own turn).plain o) refl refl refl (moves word (Some v) phase_is (slice_index s.words word)) (λ h. cc)
+      (run_is word (Some v) phase_is ∙ ap (λ (n : ℕ). Some (with_thread (written q n v) t (plain.plain_goes_on (own turn).plain o))) (sym e.word_is))
+      (goes word (Some v) phase_is 0) (subst (λ (n : ℕ). Memory turn objects (slice_set s.words n v) (written q n v) (goes_on x o)) (sym e.word_is)
+      (writes scene (ValueOf e.array (low e.index)) tt (e.element.object, e.element.there, e.element.is, e.element.below) v (slice_index s.words (value_word e.array (low e.index))) (stands word (Some v) phase_is) (goes_on x o) (makes_none word (Some v) phase_is) (gone_on x o).makes))

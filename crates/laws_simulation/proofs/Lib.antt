@@ -13,7 +13,6 @@ pub mod WaitersHaveBits
 pub mod EventSteps
 pub mod TopPlaces
 mod HeldToLeave
-mod PrintWords
 pub mod FrameEffects
 pub mod ElementEvents
 pub mod HeaderEvents

@@ -1,11 +1,11 @@
 -- What becomes of the memory: it stays, a place is written, the number for the next reference rises, an object is made, or the
 -- header of a new object is stored.
-use Rattle.std.proofs.Common.{◌≡◌, ◌≢◌, ◌⊎◌, inl, inr, ℕ, ◌+◌, ◌-◌, ◌<◌, ◌≤◌, Bool, true, false, cond, List, [], ◌∷◌, ◌++◌, length, Some, refl, sym, ap, subst, ◌∙◌, arith, Contains, slice_get, slice_index, slice_set, ◌==◌, if◌then◌else◌}
+use Rattle.std.proofs.Common.{◌≡◌, ◌≢◌, ◌⊎◌, inl, inr, ℕ, ◌+◌, ◌-◌, ◌<◌, ◌≤◌, Bool, true, false, cond, List, [], ◌∷◌, ◌++◌, length, Some, refl, sym, ap, subst, ◌∙◌, arith, Contains, length-append, slice_get, slice_index, slice_set, ◌==◌, if◌then◌else◌}
 use Rattle.std.proofs.lemmas.{Bool.Decides.nat_tests, List.{length-replicate, Elements.{Contains-append_left, Contains-append_right}}}
 use Rattle.jvm_types.specs.{Numbers.has_number, ProgramInvariant.{instances_among, words_of}, declared.class_numbers.TheConstants.INT_ARRAY_CLASS}
-use Rattle.jvm_types.specs.declared.fixed_words.TheConstants.{NEXT_FREE_WORD, NEXT_TICKET_WORD, FIRST_READY_WORD, MONITOR_RECORDS, OBJECT_HEAD_WORDS}
+use Rattle.jvm_types.specs.declared.fixed_words.TheConstants.{NEXT_FREE_WORD, NEXT_TICKET_WORD, FIRST_READY_WORD, FIRST_RECORD_WORD, MONITOR_RECORDS, OBJECT_HEAD_WORDS}
 use Rattle.machine_types.specs.{Agreement.{IsPending, has_wait_bit}, FoundWords.IsHeader, LockWords.lock_of, NewObjects.size_by, Owners.{lock_at, references_of}}
-use Rattle.machine_types.specs.{PlainMemory.{Object, object_write, new_object, object_end, value_in}, PlainState.{Plain, value_at, written}, Threads.Thread}
+use Rattle.machine_types.specs.{PlainMemory.{Object, object_write, new_object, object_end, value_in}, PlainState.{Plain, Printed, value_at, written}, Threads.Thread}
 use Rattle.machine_types.{specs.{Words.{header_class, header_length, header_word, bits_word, object_size, array_size}, declared.lock.LockWord.LockWord}, proofs.AttemptsPlain.size_two}
 use Rattle.machine_types.proofs.Lists.{got_when_set}
 use Rattle.laws_threads.proofs.MonitorMoves.{contains_got}
@@ -70,13 +70,11 @@ module _ (scene : Scene) where
 
   pub stays : (words : List ℕ) (new : Thread) → words ≡ s.words → MakesNone x.phase → MakesNone new.phase → Memory turn objects words q new
   stays words new same old none = subst (λ (ws : List ℕ). Memory turn objects ws q new) (sym same) (record {
-    threads = refl;
-    holdings = refl;
-    prints = refl;
+    base_is = refl;
     bits = λ u m. refl;
     places = λ n v e free. scene.beside.agrees.places n v e (λ h. free (pending_on s.threads t x new scene.here old n h));
     next = scene.beside.agrees.next;
-    tickets = refl;
+    printed = scene.beside.agrees.prints;
     known = scene.beside.known;
     others = λ e k. still_among new old e.reference (scene.beside.others e k);
     new_objects = λ u z a word e m. scene.beside.new_objects u z a word (made_by_others s.threads t x new scene.here none u z a word e m) m;
@@ -112,13 +110,11 @@ module _ (scene : Scene) where
 
     pub writes : (new : Thread) → MakesNone x.phase → MakesNone new.phase → Memory turn objects (slice_set s.words (site_word site) v) (written q (site_word site) v) new
     writes new old none = record {
-      threads = refl;
-      holdings = refl;
-      prints = refl;
+      base_is = refl;
       bits = λ u m. ap (λ (rs : List ℕ). has_wait_bit rs (slice_set s.words (site_word site) v) u m) (written_references q.objects (site_word site) v) ∙ place_bits (site_word site) w v stands u m;
       places = λ n u e free. by_place n u e (λ h. free (pending_on s.threads t x new scene.here old n h)) (same_or_not n (site_word site));
       next = place_counter (site_word site) w v stands NEXT_FREE_WORD (omega arith) ∙ scene.beside.agrees.next;
-      tickets = place_counter (site_word site) w v stands NEXT_TICKET_WORD (omega arith);
+      printed = place_counter (site_word site) w v stands NEXT_TICKET_WORD (omega arith) ∙ scene.beside.agrees.prints;
       known = known_written objects q (site_word site) v scene.beside.known;
       others = λ e k. other_written new old e k;
       new_objects = λ u z a word e m. new_written a word (scene.beside.new_objects u z a word (made_by_others s.threads t x new scene.here none u z a word e m) m);
@@ -134,27 +130,43 @@ module _ (scene : Scene) where
 
   -- ---- the number for the next reference rises
 
-  counter_bits : (v u m : ℕ) → has_wait_bit (references_of q.objects) (slice_set s.words NEXT_FREE_WORD v) u m ≡ has_wait_bit (references_of q.objects) s.words u m
-  counter_bits v = calm_bits NEXT_FREE_WORD v (λ o k same. omega (arith, reference_low o k, same)) (λ r low same. omega (arith, same))
+  counter_bits : (i v u m : ℕ) → i < FIRST_RECORD_WORD → has_wait_bit (references_of q.objects) (slice_set s.words i v) u m ≡ has_wait_bit (references_of q.objects) s.words u m
+  counter_bits i v u m low = calm_bits i v (λ o k same. omega (arith, reference_low o k, same, low)) (λ r k same. omega (arith, same, low)) u m
 
-  counted_place : (v n u : ℕ) → value_at q n ≡ Some u → (IsPending s.threads n → ⊥) → slice_index (slice_set s.words NEXT_FREE_WORD v) n ≡ u
-  counted_place v n u e free = set_there s.words NEXT_FREE_WORD n v (λ same. omega (arith, same, (place_low c.program q scene.beside.apart n u e).0)) ∙ scene.beside.agrees.places n u e free
+  counted_place : (i v n u : ℕ) → i < FIRST_RECORD_WORD → value_at q n ≡ Some u → (IsPending s.threads n → ⊥) → slice_index (slice_set s.words i v) n ≡ u
+  counted_place i v n u low e free = set_there s.words i n v (λ same. omega (arith, same, low, (place_low c.program q scene.beside.apart n u e).0)) ∙ scene.beside.agrees.places n u e free
 
   counter_inside : NEXT_FREE_WORD < length s.words
   counter_inside = scene.inside c objects s (Counter NEXT_FREE_WORD) scene.marked scene.facts.heap (omega arith, omega arith)
+
+  -- a print raises the next ticket
+  pub prints : (print : Printed) (new : Thread) → MakesNone x.phase → MakesNone new.phase
+      → Memory turn objects (slice_set s.words NEXT_TICKET_WORD (slice_index s.words NEXT_TICKET_WORD + 1)) (record q { prints = q.prints ++ print ∷ [] }) new
+  prints print new old none =
+      let v = slice_index s.words NEXT_TICKET_WORD + 1 in
+      let long : length (q.prints ++ print ∷ []) ≡ length q.prints + 1 = length-append q.prints (print ∷ []) in
+      record {
+        base_is = refl;
+        bits = λ u m. counter_bits NEXT_TICKET_WORD v u m (omega arith);
+        places = λ n u e free. counted_place NEXT_TICKET_WORD v n u (omega arith) e (λ h. free (pending_on s.threads t x new scene.here old n h));
+        next = set_there s.words NEXT_TICKET_WORD NEXT_FREE_WORD v (λ e. omega (arith, e)) ∙ scene.beside.agrees.next;
+        printed = set_here s.words NEXT_TICKET_WORD v (scene.inside c objects s (Counter NEXT_TICKET_WORD) scene.marked scene.facts.heap (omega arith, omega arith)) ∙ omega (arith, scene.beside.agrees.prints, long);
+        known = scene.beside.known;
+        others = λ e k. still_among new old e.reference (scene.beside.others e k);
+        new_objects = λ u z a word e m. new_again c.program q (record q { prints = q.prints ++ print ∷ [] }) a word refl (scene.beside.new_objects u z a word (made_by_others s.threads t x new scene.here none u z a word e m) m);
+        apart = scene.beside.apart;
+      }
 
   pub rises : (size : ℕ) (new : Thread) → MakesNone x.phase → MakesNone new.phase
       → Memory turn objects (slice_set s.words NEXT_FREE_WORD (slice_index s.words NEXT_FREE_WORD + size)) (record q { next = q.next + size }) new
   rises size new old none =
       let v = slice_index s.words NEXT_FREE_WORD + size in
       record {
-        threads = refl;
-        holdings = refl;
-        prints = refl;
-        bits = counter_bits (slice_index s.words NEXT_FREE_WORD + size);
-        places = λ n u e free. counted_place v n u e (λ h. free (pending_on s.threads t x new scene.here old n h));
+        base_is = refl;
+        bits = λ u m. counter_bits NEXT_FREE_WORD v u m (omega arith);
+        places = λ n u e free. counted_place NEXT_FREE_WORD v n u (omega arith) e (λ h. free (pending_on s.threads t x new scene.here old n h));
         next = set_here s.words NEXT_FREE_WORD v counter_inside ∙ ap (λ (k : ℕ). k + size) scene.beside.agrees.next;
-        tickets = set_there s.words NEXT_FREE_WORD NEXT_TICKET_WORD v (λ e. omega (arith, e));
+        printed = set_there s.words NEXT_FREE_WORD NEXT_TICKET_WORD v (λ e. omega (arith, e)) ∙ scene.beside.agrees.prints;
         known = scene.beside.known;
         others = λ e k. still_among new old e.reference (scene.beside.others e k);
         new_objects = λ u z a word e m. new_again c.program q (record q { next = q.next + size }) a word refl (scene.beside.new_objects u z a word (made_by_others s.threads t x new scene.here none u z a word e m) m);
@@ -199,7 +211,7 @@ module _ (scene : Scene) where
     -- the lock word of the new one is 0, as if it were not there
     made_bits : (u m : ℕ) → has_wait_bit (references_of (q.objects ++ fresh ∷ [])) grown u m ≡ has_wait_bit (references_of q.objects) s.words u m
     made_bits u m =
-        ap (λ (l : LockWord). bit_by l grown u) (same_lock_then (has_number (references_of (q.objects ++ fresh ∷ [])) m) refl (has_number (references_of q.objects) m) refl) ∙ counter_bits (slice_index s.words NEXT_FREE_WORD + size_by c.program word) u m
+        ap (λ (l : LockWord). bit_by l grown u) (same_lock_then (has_number (references_of (q.objects ++ fresh ∷ [])) m) refl (has_number (references_of q.objects) m) refl) ∙ counter_bits NEXT_FREE_WORD (slice_index s.words NEXT_FREE_WORD + size_by c.program word) u m (omega arith)
       where
         same_lock_then : (b : Bool) → has_number (references_of (q.objects ++ fresh ∷ [])) m ≡ b → (d : Bool) → has_number (references_of q.objects) m ≡ d
             → cond b (lock_of (slice_index grown m)) (locks.Free 0) ≡ cond d (lock_of (slice_index grown m)) (locks.Free 0)
@@ -241,13 +253,11 @@ module _ (scene : Scene) where
 
     pub makes : Memory turn objects grown with_new new
     makes = record {
-      threads = refl;
-      holdings = refl;
-      prints = refl;
+      base_is = refl;
       bits = made_bits;
       places = λ n u e free. by_place n u free (added_place q.objects q.statics fresh n u e);
       next = set_here s.words NEXT_FREE_WORD (slice_index s.words NEXT_FREE_WORD + size_by c.program word) counter_inside ∙ ap (λ (k : ℕ). k + size_by c.program word) scene.beside.agrees.next;
-      tickets = set_there s.words NEXT_FREE_WORD NEXT_TICKET_WORD (slice_index s.words NEXT_FREE_WORD + size_by c.program word) (λ e. omega (arith, e));
+      printed = set_there s.words NEXT_FREE_WORD NEXT_TICKET_WORD (slice_index s.words NEXT_FREE_WORD + size_by c.program word) (λ e. omega (arith, e)) ∙ scene.beside.agrees.prints;
       known = λ o k. let e = scene.beside.known o k in (e.0, Contains-append_left q.objects (fresh ∷ []) e.0 e.1, e.2, e.3, e.4);
       others = λ e k. by_object e (contained_last q.objects fresh e k);
       new_objects = λ u z a other e m. by_thread u z a other m (made_before s.threads t x new scene.here u z a other e m);
@@ -261,7 +271,7 @@ module _ (scene : Scene) where
     }
       where
         by_place : (n u : ℕ) → (IsPending (slice_set s.threads t new) n → ⊥) → (value_at q n ≡ Some u) ⊎ (value_in fresh n ≡ Some u) → slice_index grown n ≡ u
-        by_place n u free (inl h) = counted_place (slice_index s.words NEXT_FREE_WORD + size_by c.program word) n u h (λ k. free (pending_on s.threads t x new scene.here old n k))
+        by_place n u free (inl h) = counted_place NEXT_FREE_WORD (slice_index s.words NEXT_FREE_WORD + size_by c.program word) n u (omega arith) h (λ k. free (pending_on s.threads t x new scene.here old n k))
         by_place n u free (inr h) = elim (new_value q.next word (size_by c.program word) n u h)
             [ inl k ↦ absurd (free (subst (λ (i : ℕ). IsPending (slice_set s.threads t new) i) (sym k.0) own_header)) | inr k ↦ empty n (omega (arith, k.from)) (omega (arith, k.to, ends)) ∙ sym k.is ]
 

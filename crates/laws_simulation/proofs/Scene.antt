@@ -70,13 +70,11 @@ module _ (turn : Turn) where
   -- ---- what becomes of the memory: base is the plain state but for its thread
 
   pub record Memory (later : List Object) (words : List ℕ) (base : Plain) (new : Thread) : Type 0 where
-    pub threads : base.threads ≡ q.threads
-    pub holdings : base.holdings ≡ q.holdings
-    pub prints : base.prints ≡ q.prints
+    pub base_is : record base { objects = q.objects; statics = q.statics; next = q.next; prints = q.prints } ≡ q
     pub bits : (u m : ℕ) → has_wait_bit (references_of base.objects) words u m ≡ has_wait_bit (references_of q.objects) s.words u m
     pub places : (n v : ℕ) → value_at base n ≡ Some v → (IsPending (slice_set s.threads t new) n → ⊥) → slice_index words n ≡ v
     pub next : slice_index words NEXT_FREE_WORD ≡ base.next
-    pub tickets : slice_index words NEXT_TICKET_WORD ≡ slice_index s.words NEXT_TICKET_WORD
+    pub printed : slice_index words NEXT_TICKET_WORD ≡ length base.prints
     pub known : ArePlainObjects later base
     pub others : (e : Object) → Contains base.objects e → IsAmong later e.reference ⊎ IsBeingMade (slice_set s.threads t new) e.reference
     pub new_objects : (u : ℕ) (z : Thread) (a word : ℕ) → slice_get (slice_set s.threads t new) u ≡ Some z → z.phase ≡ phases.Made a word → IsPlainNew c.program base a word
@@ -94,7 +92,7 @@ module _ (turn : Turn) where
     after = with_thread base t shown
 
     plain_threads : after.threads ≡ slice_set q.threads t shown
-    plain_threads = ap (λ (ys : List PlainThread). slice_set ys t shown) memory.threads
+    plain_threads = ap (λ (r : Plain). slice_set r.threads t shown) memory.base_is
 
     fitting : Fitting turn.member base words new shown after.threads
     fitting = record {
@@ -118,8 +116,8 @@ module _ (turn : Turn) where
       agrees = record {
         places = memory.places;
         next = memory.next;
-        prints = memory.tickets ∙ (beside.agrees.prints ∙ ap (λ ps. length ps) (sym memory.prints));
-        monitors = λ u m. ap (λ (hs : List Holding). depth_for u (holding_at hs m)) memory.holdings ∙ alike_kept q.holdings s.threads beside.agrees.monitors t x new here goes.held u m;
+        prints = memory.printed;
+        monitors = λ u m. ap (λ (r : Plain). depth_for u (holding_at r.holdings m)) memory.base_is ∙ alike_kept q.holdings s.threads beside.agrees.monitors t x new here goes.held u m;
         many = fitting.many ∙ beside.agrees.many ∙ sym (length-set s.threads t new);
         threads = λ u z w e f. (each_fits turn.member fitting u z w e f).0;
       };
@@ -131,27 +129,25 @@ module _ (turn : Turn) where
       ends = λ u z w e f. (each_fits turn.member fitting u z w e f).1;
     }
 
-  -- ---- the steps of an event, by what it wants, by its acts and by what it makes of its thread
+  -- ---- the steps of an event, by its phase: what it wants, its acts, and what becomes of its thread, of the plain one and of the memory
 
-  pub record StepsBy (later : List Object) (access : Option Access) (acts : List Act) (new : Thread) : Type 0 where
-    pub after : Plain
-    pub run : plain_run c.program q (steps_of t acts) ≡ Some after
-    pub beside : StandsBeside c.program later (record { words = words_after s.words access; threads = slice_set s.threads t new }) after
-
-  pub steps_of_event : (later : List Object) (access : Option Access) (acts : List Act) (new : Thread) → objects_by c.program x.phase objects ≡ later → wanted c x x.phase ≡ access
-      → acts_of c x x.phase (found_by s.words access) ≡ acts → moved c x x.phase (found_by s.words access) ≡ new → StepsBy later access acts new → StepsBeside c objects s t x q
-  steps_of_event later access acts new objects_are wants acts_are moves k = record {
-    after = k.after;
-    run = ap (λ (a : Option Access). plain_run c.program q (steps_of t (acts_of c x x.phase (found_by s.words a)))) wants ∙ (ap (λ (acted : List Act). plain_run c.program q (steps_of t acted)) acts_are ∙ k.run);
+  pub steps_in : (phase : Phase) → x.phase ≡ phase → (later : List Object) (access : Option Access) (acts : List Act) (base : Plain) (new : Thread) (shown : PlainThread)
+      → objects_by c.program phase objects ≡ later → wanted c x phase ≡ access → acts_of c x phase (found_by s.words access) ≡ acts → moved c x phase (found_by s.words access) ≡ new
+      → (phase ≡ phases.Ended ends.Returned → ⊥) → plain_run c.program q (steps_of t acts) ≡ Some (with_thread base t shown) → GoesOn new shown → Memory later (words_after s.words access) base new → StepsBeside c objects s t x q
+  steps_in phase is later access acts base new shown objects_are wants acts_are moves lives run goes memory = record {
+    after = with_thread base t shown;
+    run = ap (λ (z : Phase). plain_run c.program q (steps_of t (acts_of c x z (found_by s.words (wanted c x z))))) is
+        ∙ (ap (λ (a : Option Access). plain_run c.program q (steps_of t (acts_of c x phase (found_by s.words a)))) wants ∙ (ap (λ (acted : List Act). plain_run c.program q (steps_of t acted)) acts_are ∙ run));
     beside =
-        subst (λ (os : List Object). StandsBeside c.program os (event c s t) k.after) (sym (ap (λ (o : Option Thread). objects_of c.program o objects) here ∙ objects_are))
-        (subst (λ (r : Core). StandsBeside c.program later r k.after) (sym (ap (event_of c s t) here ∙ state_is)) k.beside);
+        subst (λ (os : List Object). StandsBeside c.program os (event c s t) (with_thread base t shown)) (sym (ap (λ (o : Option Thread). objects_of c.program o objects) here ∙ (ap (λ (z : Phase). objects_by c.program z objects) is ∙ objects_are)))
+        (subst (λ (r : Core). StandsBeside c.program later r (with_thread base t shown)) (sym (ap (event_of c s t) here ∙ state_is)) (comes_beside later (words_after s.words access) base new shown (λ e. lives (sym is ∙ e)) goes memory));
   }
     where
       state_is : event_of c s t (Some x) ≡ record { words = words_after s.words access; threads = slice_set s.threads t new }
       state_is =
-          ap (λ (a : Option Access). record { words = words_after s.words a; threads = slice_set s.threads t (moved c x x.phase (found_by s.words a)) }) wants
-          ∙ ap (λ (z : Thread). record { words = words_after s.words access; threads = slice_set s.threads t z }) moves
+          ap (λ (z : Phase). record { words = words_after s.words (wanted c x z); threads = slice_set s.threads t (moved c x z (found_by s.words (wanted c x z))) }) is
+          ∙ (ap (λ (a : Option Access). record { words = words_after s.words a; threads = slice_set s.threads t (moved c x phase (found_by s.words a)) }) wants
+          ∙ ap (λ (z : Thread). record { words = words_after s.words access; threads = slice_set s.threads t z }) moves)
 
 -- ---- an access that only looks
 

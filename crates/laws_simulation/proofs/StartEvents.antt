@@ -3,14 +3,14 @@ use Rattle.std.proofs.Common.{◌≡◌, inl, inr, ℕ, zero, suc, nat_lt, ◌�
 use Rattle.std.specs.List.{list_all, AllByRecursion}
 use Rattle.jvm_types.specs.{Numbers.has_number, declared.{outcome.{End.End, Thrown.TheVariants.StackOverflowError}, program.{MethodInfo.MethodInfo, Program.Program}}}
 use Rattle.machine_types.specs.{Accesses.found_by, Agreement.{roots_shown, start_status}, Bounds.{FramesFit, part_roots}, Core.{event, event_of}, Events.{thread_started, wanted, moved}}
-use Rattle.machine_types.specs.{Frames.{entry_frame, has_room}, Going.{goes_on, goes_on_if}, History.acts_of, Onward.{Onward, Running, Uncaught, root_arguments, rooted}, Parts.done_roots}
+use Rattle.machine_types.specs.{Frames.{entry_frame, has_room}, Going.{goes_on, goes_on_if}, Onward.{Onward, Running, Uncaught, root_arguments, rooted}, Parts.done_roots}
 use Rattle.machine_types.specs.{PlainState.{Plain, PlainThread, with_thread}, PlainSteps.{init_has_returned, is_over, is_due, plain_begins, plain_begun, may_do_done}, Threads.{Frame, Thread}}
-use Rattle.machine_types.{specs.declared.{access.Access.Access, phase.Phase.Phase}, proofs.Lists.got_when_set}
+use Rattle.machine_types.{specs.declared.{phase.Phase.Phase}, proofs.Lists.got_when_set}
 use Rattle.laws_threads.proofs.KeptRoots.{roots_within, there}
-use Rattle.laws_states.{specs.{HeapFacts.objects_by, PartsLaws.EventsKeepParts, PartsStand.DoneRoots}, proofs.Lists.same_or_not}
+use Rattle.laws_states.{specs.{PartsLaws.EventsKeepParts, PartsStand.DoneRoots}, proofs.Lists.same_or_not}
 use Rattle.laws_simulation.{specs.{StandsBeside.{ends_shown, end_of_done}, StepsBeside.StepsBeside}, proofs.{Assembled.one_step, EventSteps.gone_on, GoingOnAlike.{PartRuns, ends_before}}}
 use Rattle.laws_simulation.proofs.{MemoryParts.stays, OwnThread.own, PartsDue.{rests_between, idle_workers, first_there, workers_over, init_returned}, RunScene.status_fits}
-use Rattle.laws_simulation.proofs.Scene.{Scene, GoesOn, awake, counts_as, going, comes_beside, steps_of_event}
+use Rattle.laws_simulation.proofs.Scene.{Scene, GoesOn, awake, counts_as, going, steps_in}
 use Rattle.jvm_types.specs.declared.outcome.End.TheVariants as ends
 use Rattle.machine_types.specs.PlainState as plain
 use Rattle.machine_types.specs.declared.phase.Phase.TheVariants as phases
@@ -68,12 +68,11 @@ module _ (scene : Scene) (keeps : EventsKeepParts) (starts : scene.x.phase ≡ p
     abbrev plain_as : PlainThread
     plain_as = record y { roots = rest }
 
-    moves : moved c x x.phase 0 ≡ goes_on begins_as onward
+    moves : moved c x phases.Start 0 ≡ goes_on begins_as onward
     moves =
-        ap (λ (z : Phase). moved c x z 0) starts
-        ∙ (ap (thread_started c.program x) roots
+        ap (thread_started c.program x) roots
         ∙ (ap (λ (o : Option MethodInfo). goes_on_if begins_as (option_map (rooted c.program x.number number) o)) method
-        ∙ ap (λ (n : ℕ). goes_on begins_as (rooted c.program n number m)) (let k = scene.facts.threads.own t x scene.here in k.number)))
+        ∙ ap (λ (n : ℕ). goes_on begins_as (rooted c.program n number m)) (let k = scene.facts.threads.own t x scene.here in k.number))
 
     root_begins : plain_begun c.program t y (number ∷ rest) ≡ Some (plain.plain_goes_on plain_as onward)
     root_begins = ap (option_map (λ (m : MethodInfo). plain.plain_goes_on plain_as (rooted c.program t number m))) method
@@ -83,7 +82,7 @@ module _ (scene : Scene) (keeps : EventsKeepParts) (starts : scene.x.phase ≡ p
     after : (event c s t).threads ≡ slice_set s.threads t (goes_on begins_as onward)
     after =
         ap (λ (o : Option Thread). (event_of c s t o).threads) scene.here
-        ∙ (ap (λ (a : Option Access). slice_set s.threads t (moved c x x.phase (found_by s.words a))) (ap (wanted c x) starts)
+        ∙ (ap (λ (z : Phase). slice_set s.threads t (moved c x z (found_by s.words (wanted c x z)))) starts
         ∙ ap (slice_set s.threads t) moves)
 
     none_left : t ≡ 0 → 2 ≤ x.part → rest ≡ []
@@ -168,18 +167,10 @@ module _ (scene : Scene) (keeps : EventsKeepParts) (starts : scene.x.phase ≡ p
         (awake turn phases.Start (counts_as turn phases.Start starts) (λ r h. h)) (record { roots = refl; ended = due_now.ended; runs = due_now.runs })
 
     root_steps : StepsBeside c objects s t x q
-    root_steps = steps_of_event turn objects None (acts.Begin ∷ []) now
-        (ap (λ (z : Phase). objects_by c.program z objects) starts)
-        (ap (wanted c x) starts)
-        (ap (λ (z : Phase). acts_of c x z 0) starts)
-        moves
-        (record {
-          after = with_thread q t shown;
-          run = one_step c.program q (with_thread q t shown) t y acts.Begin (own turn).here
-              (ap (λ (b : Bool). if b then option_map (with_thread q t) (plain_begins c.program t y y.status) else None) due_now.due ∙ ap (option_map (with_thread q t)) due_now.begins_is);
-          beside = comes_beside turn objects s.words q now shown lives goes
-              (stays scene s.words now refl (λ a word h. let both : phases.Start ≡ phases.Made a word = sym starts ∙ h in cc) (gone_on begins_as onward).makes);
-        })
+    root_steps = steps_in turn phases.Start starts objects None (acts.Begin ∷ []) q now shown refl refl refl moves (λ h. cc)
+        (one_step c.program q (with_thread q t shown) t y acts.Begin (own turn).here
+        (ap (λ (b : Bool). if b then option_map (with_thread q t) (plain_begins c.program t y y.status) else None) due_now.due ∙ ap (option_map (with_thread q t)) due_now.begins_is))
+        goes (stays scene s.words now refl (λ a word h. let both : phases.Start ≡ phases.Made a word = sym starts ∙ h in cc) (gone_on begins_as onward).makes)
 
   by_roots : (roots : List ℕ) → x.roots ≡ roots → FramesFit phases.Start x.frames roots → AllByRecursion (λ n. IsTrue (has_number (part_roots c.program x.number x.part) n)) roots → StepsBeside c objects s t x q
   by_roots [] e fit all = absurd fit

@@ -68,13 +68,11 @@ module _ (scene : Scene) (a word : ℕ) (made : scene.x.phase ≡ phases.Made a 
 
   pub stored : Memory turn (new_object a word (size_by c.program word) ∷ objects) (slice_set s.words (header_word a) word) q new
   stored = record {
-    threads = refl;
-    holdings = refl;
-    prints = refl;
+    base_is = refl;
     bits = place_bits scene (header_word a) word word stands;
     places = λ n u e free. by_place n u e free (same_or_not n (header_word a));
     next = place_counter scene (header_word a) word word stands NEXT_FREE_WORD (omega arith) ∙ scene.beside.agrees.next;
-    tickets = place_counter scene (header_word a) word word stands NEXT_TICKET_WORD (omega arith);
+    printed = place_counter scene (header_word a) word word stands NEXT_TICKET_WORD (omega arith) ∙ scene.beside.agrees.prints;
     known = λ o k. known_by o (first_or_more (new_object a word (size_by c.program word)) objects o k);
     others = λ e k. by_object e (scene.beside.others e k);
     new_objects = λ u z b other e m. scene.beside.new_objects u z b other (made_by_others s.threads t x new scene.here none u z b other e m) m;

@@ -2,13 +2,12 @@
 use Rattle.std.proofs.Common.{◌≡◌, ℕ, Bool, List, [], ◌∷◌, Option, Some, None, refl, sym, ap, subst, ◌∙◌, option_map}
 use Rattle.jvm_types.specs.{CodeTable.can_throw, declared.{code.Op.Op, outcome.Thrown.Thrown}}
 use Rattle.checked_program.specs.MarkedProgram.{MarkedProgram, IsMarked}
-use Rattle.machine_types.specs.{Elision.{looks, if_same}, Events.{wanted, moved}, Frames.{Top, top_of, handler_at}, Going.{goes_on, goes_on_if}, History.acts_of, Onward.{Onward, handed, dispatched}}
+use Rattle.machine_types.specs.{Elision.{looks, if_same}, Frames.{Top, top_of, handler_at}, Going.{goes_on, goes_on_if}, Onward.{Onward, handed, dispatched}}
 use Rattle.machine_types.specs.{PlainState.{Plain, PlainThread, with_thread}, PlainSteps.step_at, ReadyObjects.class_of, Structure.{TopIs, PhaseShows}, Threads.{Frame, Attempt, Thread}}
 use Rattle.machine_types.specs.declared.phase.Phase.{Phase}
 use Rattle.laws_threads.proofs.{Landing.stand_top, Standings.top_here}
-use Rattle.laws_states.specs.HeapFacts.{objects_by}
-use Rattle.laws_simulation.{specs.StepsBeside.StepsBeside, proofs.{Assembled.one_step, EventSteps.gone_on, MemoryParts.stays, OwnThread.{IsBusy, own, not_ended}}}
-use Rattle.laws_simulation.proofs.{RunScene.{runs_on, frames_are, status_fits}, Scene.{Scene, GoesOn, awake, counts_as, going, comes_beside, steps_of_event}}
+use Rattle.laws_simulation.{specs.StepsBeside.StepsBeside, proofs.{Assembled.one_step, EventSteps.gone_on, MemoryParts.stays, OwnThread.{IsBusy, own, under_way}}}
+use Rattle.laws_simulation.proofs.{RunScene.{frames_are, status_fits}, Scene.{Scene, GoesOn, awake, counts_as, going, steps_in}}
 use Rattle.machine_types.specs.PlainState as plain
 use Rattle.machine_types.specs.declared.phase.Phase.TheVariants as phases
 use Rattle.machine_types.specs.declared.plain.Act.TheVariants as acts
@@ -47,20 +46,13 @@ module _ (scene : Scene) (e : ℕ) (class : Thrown)
 
   goes : GoesOn turn now shown
   goes = going turn x y onward refl scene.outside refl
-      (awake turn (phases.Throw e class) was_so (λ r h. h)) (runs_on turn (subst IsBusy (sym throws) tt))
+      (awake turn (phases.Throw e class) was_so (λ r h. h)) (under_way turn (subst IsBusy (sym throws) tt))
 
   pub throw_steps : StepsBeside c objects s t x q
-  throw_steps = steps_of_event turn objects None (acts.Do ∷ []) now
-      (ap (λ (z : Phase). objects_by c.program z objects) throws)
-      (ap (wanted c x) throws ∙ ap looks scene.outside)
-      (ap (λ (z : Phase). acts_of c x z 0) throws)
-      (ap (λ (z : Phase). moved c x z 0) throws ∙ (ap (λ (a : Option Attempt). if_same x a 0 (goes_on_if x (dispatched c.program e class x.frames))) scene.outside ∙ ap (goes_on_if x) dispatches))
-      (record {
-        after = with_thread q t shown;
-        run = one_step c.program q (with_thread q t shown) t y acts.Do (own turn).here
-            (ap (step_at c.program q t y acts.Do) (status_fits turn (phases.Throw e class) throws)
-            ∙ (ap (λ (fs : List Frame). option_map (λ o. with_thread q t (plain.plain_goes_on y o)) (dispatched c.program e class fs)) (frames_are turn (phases.Throw e class) throws)
-            ∙ ap (option_map (λ o. with_thread q t (plain.plain_goes_on y o))) dispatches));
-        beside = comes_beside turn objects s.words q now shown (not_ended x.phase (subst IsBusy (sym throws) tt)) goes
-            (stays scene s.words now refl (λ a word h. let both : phases.Throw e class ≡ phases.Made a word = sym throws ∙ h in cc) (gone_on x onward).makes);
-      })
+  throw_steps = steps_in turn (phases.Throw e class) throws objects None (acts.Do ∷ []) q now shown refl (ap looks scene.outside) refl
+      (ap (λ (a : Option Attempt). if_same x a 0 (goes_on_if x (dispatched c.program e class x.frames))) scene.outside ∙ ap (goes_on_if x) dispatches) (λ h. cc)
+      (one_step c.program q (with_thread q t shown) t y acts.Do (own turn).here
+      (ap (step_at c.program q t y acts.Do) (status_fits turn (phases.Throw e class) throws)
+      ∙ (ap (λ (fs : List Frame). option_map (λ o. with_thread q t (plain.plain_goes_on y o)) (dispatched c.program e class fs)) (frames_are turn (phases.Throw e class) throws)
+      ∙ ap (option_map (λ o. with_thread q t (plain.plain_goes_on y o))) dispatches)))
+      goes (stays scene s.words now refl (λ a word h. let both : phases.Throw e class ≡ phases.Made a word = sym throws ∙ h in cc) (gone_on x onward).makes)

@@ -1,14 +1,15 @@
 -- An instruction that writes a field.
-use Rattle.std.proofs.Common.{◌≡◌, ℕ, [], ◌∷◌, Option, Some, sym, ap, subst, ◌∙◌, slice_index, slice_set, option_map}
+use Rattle.std.proofs.Common.{◌≡◌, ℕ, [], ◌∷◌, Option, Some, refl, sym, ap, subst, ◌∙◌, slice_index, slice_set, option_map}
 use Rattle.jvm_types.specs.declared.program.Kind.{Kind}
-use Rattle.machine_types.specs.{FoundWords.{Content, kind_content, variable_content, run_content, content_at, effect_content}, Frames.went_on, Going.goes_on, Instructions.begun, Onward.Running}
+use Rattle.machine_types.specs.{Events.wanted, FoundWords.{Content, kind_content, variable_content, run_content, content_at, effect_content}, Frames.went_on, Going.goes_on, Instructions.begun, Onward.Running}
 use Rattle.machine_types.specs.{PlainState.{Plain, PlainThread, value_at, written, with_thread}, Threads.Thread, Words.variable_word, declared.access.Access.{Access, TheVariants.Store}}
-use Rattle.machine_types.specs.declared.{effect.{Effect.TheVariants.Writes, Variable.Variable}, phase.Phase.Phase}
-use Rattle.laws_states.{specs.{HeapFacts.objects_by, Sites.{Site, ValueOf, StaticAt, site_word, Suits, IsAccessOf, ReachesIf}}, proofs.{Accesses.content_is, Phases.events_reach}}
+use Rattle.machine_types.specs.declared.{effect.{Effect.TheVariants.Writes, Variable.Variable}}
+use Rattle.laws_states.{specs.{Sites.{Site, ValueOf, StaticAt, site_word, Suits, IsAccessOf, ReachesIf}}, proofs.{Accesses.content_is, Phases.events_reach}}
 use Rattle.laws_simulation.{specs.StepsBeside.StepsBeside, proofs.{EventSteps.gone_on, MemoryParts.{IsValueSite, writes}, OwnThread.own, PlainValues.{IsPlace, value_found}}}
-use Rattle.laws_simulation.proofs.{RunScene.{Instruction, lives, makes_none, goes, may, wants, acts_are, moves, does}, Scene.{Scene, Memory, comes_beside, steps_of_event}}
+use Rattle.laws_simulation.proofs.{RunScene.{Instruction, makes_none, goes, may, wants, acts_are, moves, does}, Scene.{Scene, Memory, steps_in}}
 use Rattle.jvm_types.specs.declared.program.Kind.TheVariants as kinds
 use Rattle.machine_types.specs.PlainState as plain
+use Rattle.machine_types.specs.declared.phase.Phase.TheVariants as phases
 use Rattle.machine_types.specs.declared.plain.Act.TheVariants as acts
 
 -- ---- a variable is a field or a static field
@@ -44,13 +45,13 @@ module _ (scene : Scene) where
         let content : content_at c x x.phase ≡ variable_content c.program at.target =
         ap (content_at c x) runs ∙ (ap (run_content c.program) found ∙ ap (effect_content c.program at.target) effect) in
         subst (λ (k : Content). ReachesIf c.program objects s k (Some (Store (variable_word v) word))) content
-        (subst (λ (a : Option Access). ReachesIf c.program objects s (content_at c x x.phase) a) (wants i) k)
+        (subst (λ (a : Option Access). ReachesIf c.program objects s (content_at c x x.phase) a) (ap (wanted c x) runs ∙ wants i) k)
 
     value : IsValueSite reach.site
     value =
         let k = may i in
-        let f = k.allowed.1 in
-        let same : variable_content c.program at.target ≡ kind_content f.kind = ap (variable_content c.program) k.target_is ∙ content_is c scene.marked objects s scene.facts.heap k.target v f k.allowed.2 in
+        let f = k.1 in
+        let same : variable_content c.program at.target ≡ kind_content f.kind = content_is c scene.marked objects s scene.facts.heap at.target v f k.2 in
         value_site f.kind reach.site (subst (λ (z : Content). Suits z reach.site) same reach.suits)
 
     stands : value_at q (site_word reach.site) ≡ Some (slice_index s.words (site_word reach.site))
@@ -68,15 +69,7 @@ module _ (scene : Scene) where
         (makes_none i) (gone_on (begun x) (Running (went_on c.program at 0))).makes)
 
     pub write_steps : StepsBeside c objects s t x q
-    write_steps = steps_of_event turn objects (Some (Store (variable_word v) word)) (acts.Do ∷ []) now
-        (ap (λ (z : Phase). objects_by c.program z objects) runs)
-        (wants i)
-        (acts_are i (slice_index s.words (variable_word v)))
-        (moves i (slice_index s.words (variable_word v)))
-        (record {
-          after = with_thread (written q (variable_word v) word) t shown;
-          run = does i (with_thread (written q (variable_word v) word) t shown)
-              (ap (option_map (λ (w : ℕ). with_thread (written q (variable_word v) word) t shown)) (ap (value_at q) reach.word ∙ stands));
-          beside = comes_beside turn objects (slice_set s.words (variable_word v) word) (written q (variable_word v) word) now shown
-              (lives i) (goes i (Running (went_on c.program at 0))) memory;
-        })
+    write_steps = steps_in turn phases.Run runs objects (Some (Store (variable_word v) word)) (acts.Do ∷ []) (written q (variable_word v) word) now shown
+        refl (wants i) (acts_are i (slice_index s.words (variable_word v))) (moves i (slice_index s.words (variable_word v))) (λ h. cc)
+        (does i (with_thread (written q (variable_word v) word) t shown) (ap (option_map (λ (w : ℕ). with_thread (written q (variable_word v) word) t shown)) (ap (value_at q) reach.word ∙ stands)))
+        (goes i (Running (went_on c.program at 0))) memory
