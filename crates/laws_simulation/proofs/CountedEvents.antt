@@ -3,9 +3,9 @@ use Rattle.std.proofs.Common.{◌≡◌, ℕ, ◌+◌, nat_lt, Bool, true, false
 use Rattle.std.specs.List.{AllByRecursion}
 use Rattle.jvm_types.specs.declared.{outcome.{End.End, Print.Print, Thrown.Thrown}, program.Program.Program}
 use Rattle.machine_types.specs.{Agreement.{StatusFits, frames_shown, depth_for, depth_of, has_wait_bit}, Counting.{is_free, one_if, run_at, take_at, count_along, extra_of}}
-use Rattle.machine_types.specs.{Events.{moved, element_made}, Frames.{Top, top_of, effect_at, went_on, pushed}, Going.{with_phase, goes_on_if, goes_on, failed_turn, runs}}
+use Rattle.machine_types.specs.{Events.{moved, element_made}, Frames.{Top, top_of, effect_at, went_on}, Going.{with_phase, goes_on_if, goes_on, failed_turn, runs}}
 use Rattle.machine_types.specs.{HeldMonitors.{held_at, depth_at, with_held, deeper, shallower, without_held}, History.{acts_of, steps_of, act_if, notified_by, release_acts, leave_acts}}
-use Rattle.machine_types.specs.{Instructions.{has_print_left, printed}, Ints.{low, int_of}, LockWords.word_of_lock, Monitors.{takes, claim_by, Claim, Has, Tries, HasNot, claim, lowest_of}}
+use Rattle.machine_types.specs.{Instructions.{has_print_left, printed}, Ints.{low, int_of}, LockWords.word_of_lock, Monitors.{takes, claim_by, Claim, Has, Tries, HasNot, claim}}
 use Rattle.machine_types.specs.{Onward.{Running, threw, Onward}, Owners.references_of, PlainInstructions.plain_instructed, PlainState.{Plain, PlainThread, Status, Holding, holding_at}}
 use Rattle.machine_types.specs.{PlainSteps.{plain_run, plain_step, plain_entered, step_at, step_of}, Threads.{Frame, Thread, Attempt}, Words.value_word, declared.effect.Effect.Effect}
 use Rattle.machine_types.specs.declared.{effect.Effect.TheVariants.{Indexes, Makes, Prints, Waits, Notifies, NotifiesAll, Stuck}, lock.{Held.Held, Kept.Kept}, phase.Phase.Phase, plain.Act.Act}
@@ -132,9 +132,7 @@ begins_none phase o k = refl
 
 none_is_calm : (phase : Phase) → CountsNone phase → IsCalm phase
 none_is_calm (phases.Element word stored) k = absurd k
-none_is_calm (phases.Ending e) k = absurd k
-none_is_calm (phases.Ended e) k = absurd k
-none_is_calm phase k = tt
+none_is_calm phase k = first_of (assumption, grind arith)
 
 -- s is the thread, and x its plain one
 module _ (turn : Turn) (after : Plain) (got : ℕ) where
@@ -175,14 +173,8 @@ module _ (turn : Turn) (after : Plain) (got : ℕ) where
   quiet_leave y (Tries a) = quiet_if (nat_lt 0 a.inner) acts.Exit refl refl
   quiet_leave y HasNot = tt
 
-  quiet_acts : (phase : Phase) → CountsNone phase → (y : Thread) → AreQuiet (acts_of c y phase got)
+  pub quiet_acts : (phase : Phase) → CountsNone phase → (y : Thread) → AreQuiet (acts_of c y phase got)
   quiet_acts phases.Start k y = ((refl, refl), tt)
-  quiet_acts phases.Run k y = absurd k
-  quiet_acts (phases.Element word stored) k y = absurd k
-  quiet_acts (phases.Throw r class) k y = absurd k
-  quiet_acts (phases.Enter m number) k y = absurd k
-  quiet_acts (phases.Take m count) k y = absurd k
-  quiet_acts (phases.TakeFat m r) k y = absurd k
   quiet_acts (phases.Leave m a) k y = quiet_leave y (claim y m)
   quiet_acts (phases.FlatOut m a) k y = ((refl, refl), tt)
   quiet_acts (phases.WaitOut m r) k y = ((refl, refl), tt)
@@ -190,7 +182,7 @@ module _ (turn : Turn) (after : Plain) (got : ℕ) where
   quiet_acts (phases.NotifyLook m r) k y = quiet_if (got == 0) (acts.Notify None) refl refl
   quiet_acts (phases.NotifyOne m r u) k y = ((refl, refl), tt)
   quiet_acts (phases.NotifyAll m r) k y = ((refl, refl), tt)
-  quiet_acts phase k y = tt
+  quiet_acts phase k y = first_of (assumption, grind arith)
 
   -- ---- what a step counts
 
@@ -367,9 +359,7 @@ module _ (turn : Turn) (after : Plain) (got : ℕ) where
     by_done at e found same silent k y h = one_more at e found same [] (does_one e silent at (subst (IsAllowed c.program at) same (k.allowed at found)) (at_phase phases.Run)) tt (prints_not e silent (at_phase phases.Run)) k.status k.count y h
 
     stays_tells : (phase : Phase) → Lacks c (now phase) got phase → Knows phase → Tells phase (now phase)
-    stays_tells _ moves.idle k = quietly phases.Idle (now phases.Idle) tt (changed (now phases.Idle) phases.Idle tt) k.count
     stays_tells _ (moves.over e) k = let count : s.counts.instructions + 0 ≡ n = k.count in record { prints = refl; instructions = omega (arith, count); sections = omega arith }
-    stays_tells _ (moves.no_root r) k = quietly phases.Start (now phases.Start) tt (changed (now phases.Start) phases.Start tt) k.count
     stays_tells _ (moves.no_instruction none) k =
         subst (λ (o : Option Top). s.counts.instructions + begun_by phases.Run o ≡ n → Tallied 0 (at_phase phases.Run) (now phases.Run) (runs_of (history.run_acts c (at_phase phases.Run) o got)) (takes_of (history.run_acts c (at_phase phases.Run) o got)) (top_print c.program (at_phase phases.Run) o got)) (sym none)
         (λ e. no_act phases.Run (now phases.Run) (changed (now phases.Run) phases.Run tt) e) k.count
@@ -377,34 +367,20 @@ module _ (turn : Turn) (after : Plain) (got : ℕ) where
     stays_tells _ (moves.no_place word stored none) k =
         let step = first_by c.program q after t x acts.Do plain.Run [] there k.status k.run in absurd (no_element none k.frames step.0 step.1)
     stays_tells _ (moves.no_catcher v class none) k = throws v class (now (phases.Throw v class)) k.status k.count (changed (now (phases.Throw v class)) (phases.Throw v class) tt)
-    stays_tells _ (moves.no_claim m a free) k = quietly (phases.Leave m a) (now (phases.Leave m a)) tt (changed (now (phases.Leave m a)) (phases.Leave m a) tt) k.count
-    stays_tells _ (moves.not_fat m r toward none) k = quietly (phases.FatIn m r toward) (now (phases.FatIn m r toward)) tt (changed (now (phases.FatIn m r toward)) (phases.FatIn m r toward) tt) k.count
-    stays_tells _ (moves.not_waiting m r none) k = quietly (phases.WaitOut m r) (now (phases.WaitOut m r)) tt (changed (now (phases.WaitOut m r)) (phases.WaitOut m r) tt) k.count
+    stays_tells phase l k = quietly phase (now phase) tt (changed (now phase) phase tt) k.count
 
     goes_tells : (phase : Phase) (o : Onward) → GoesBy c.program (now phase) got phase o → Knows phase → Tells phase (goes_on (now phase) o)
     goes_tells _ o (moves.by_effect at e _ found same silent d) k = by_done at e found same silent k (goes_on (now phases.Run) o) (goes (now phases.Run) o)
     goes_tells _ _ (moves.by_machine at class found why) k = refuses at class found why k.status k.count (goes_on (now phases.Run) (threw class at)) (goes (now phases.Run) (threw class at))
     goes_tells _ _ (moves.by_nobody at m count h found y l kept) k = notes_one m at found y k.status k.count (goes_on (now phases.Run) (Running (went_on c.program at 0))) (goes (now phases.Run) (Running (went_on c.program at 0)))
     goes_tells _ _ (moves.by_element word stored at found) k = element word stored (goes_on (now (phases.Element word stored)) (Running (went_on c.program at (element_made stored got)))) k.status k.count (goes (now (phases.Element word stored)) (Running (went_on c.program at (element_made stored got))))
-    goes_tells _ _ (moves.by_object a word) k = quietly (phases.Made a word) _ tt (goes (now (phases.Made a word)) (Running (pushed a s.frames))) k.count
     goes_tells _ o (moves.by_handler v class at found) k = throws v class (goes_on (now (phases.Throw v class)) o) k.status k.count (goes (now (phases.Throw v class)) o)
-    goes_tells _ _ (moves.by_none m r e) k = quietly (phases.NotifyLook m r) _ tt (goes (now (phases.NotifyLook m r)) (Running s.frames)) k.count
-    goes_tells _ _ (moves.by_one m r u) k = quietly (phases.NotifyOne m r u) _ tt (goes (now (phases.NotifyOne m r u)) (Running s.frames)) k.count
-    goes_tells _ _ (moves.by_all m r) k = quietly (phases.NotifyAll m r) _ tt (goes (now (phases.NotifyAll m r)) (Running s.frames)) k.count
+    goes_tells phase o l k = quietly phase (goes_on (now phase) o) tt (goes (now phase) o) k.count
 
     leads_tells : (phase next : Phase) → LeadsTo c.program (now phase) got phase next → Knows phase → Tells phase (with_phase (now phase) next)
     leads_tells _ _ (moves.to_acquire m number free) k = looks_on m number (with_phase (now (phases.Enter m number)) (phases.Acquire m)) free k.count (changed (now (phases.Enter m number)) (phases.Acquire m) tt)
     leads_tells phase _ (moves.to_take m count look e) k = looks m phase (with_phase (now phase) (phases.Take m count)) look k.count (changed (now phase) (phases.Take m count) tt)
     leads_tells phase _ (moves.to_take_fat m r look e) k = looks m phase (with_phase (now phase) (phases.TakeFat m r)) look k.count (changed (now phase) (phases.TakeFat m r) tt)
-    leads_tells _ _ (moves.from_flag m u) k = quietly (phases.Flag m u) _ tt (changed (now (phases.Flag m u)) (phases.Acquire m) tt) k.count
-    leads_tells _ _ (moves.to_grow m count a h e last l) k = quietly (phases.Leave m a) _ tt (changed (now (phases.Leave m a)) (phases.Grow m (towards.Leave a)) tt) k.count
-    leads_tells _ _ (moves.to_own m toward e) k = quietly (phases.Grow m toward) _ tt (changed (now (phases.Grow m toward)) (phases.Own m got toward) tt) k.count
-    leads_tells _ _ (moves.to_flat_out m a e) k = quietly (phases.Grow m (towards.Leave a)) _ tt (changed (now (phases.Grow m (towards.Leave a))) (phases.FlatOut m a) tt) k.count
-    leads_tells _ _ (moves.to_no_record m e) k = quietly (phases.Grow m towards.Wait) _ tt (changed (now (phases.Grow m towards.Wait)) (phases.Ending ends.Records) tt) k.count
-    leads_tells _ _ (moves.to_fat_in m r toward) k = quietly (phases.Own m r toward) _ tt (changed (now (phases.Own m r toward)) (phases.FatIn m r toward) tt) k.count
-    leads_tells _ _ (moves.to_wait_out m r) k = quietly (phases.WaitBit m r) _ tt (changed (now (phases.WaitBit m r)) (phases.WaitOut m r) tt) k.count
-    leads_tells _ _ (moves.to_retake m r depth e) k = quietly (phases.WaitLook m r depth) _ tt (changed (now (phases.WaitLook m r depth)) (phases.Retake m r depth) tt) k.count
-    leads_tells _ _ (moves.to_notify_one m r e) k = quietly (phases.NotifyLook m r) _ tt (changed (now (phases.NotifyLook m r)) (phases.NotifyOne m r (lowest_of got)) tt) k.count
     leads_tells _ _ (moves.to_end e) k = let same = same_extra e in let count : s.counts.instructions + 0 ≡ n = k.count in record { prints = refl; instructions = omega (arith, same, count); sections = omega arith }
     -- an element that is there is read or stored later
     leads_tells _ _ (moves.to_element at array index stored found same there) k =
@@ -416,6 +392,7 @@ module _ (turn : Turn) (after : Plain) (got : ℕ) where
         let one = begins at found k.count in
         runs_as at (Prints v) found same [] None (ap (λ (b : Bool). act_if b acts.Do) none) (ap (λ (b : Bool). if b then Some (record { ticket = got; value = int_of v }) else None) none) (with_phase (now phases.Run) (phases.Ending ends.Prints))
         (record { prints = refl; instructions = omega (arith, one); sections = omega arith })
+    leads_tells phase next l k = quietly phase (with_phase (now phase) next) tt (changed (now phase) next tt) k.count
 
     turns_tells : (phase next : Phase) → TurnsTo (now phase) got phase next → Knows phase → Tells phase (failed_turn (now phase) next)
     turns_tells phase _ (moves.looks_again m look) k = looks m phase (failed_turn (now phase) (phases.Acquire m)) look k.count (failed (now phase) (phases.Acquire m) tt)
@@ -424,8 +401,7 @@ module _ (turn : Turn) (after : Plain) (got : ℕ) where
         (no_act (phases.Take m count) (failed_turn (now (phases.Take m count)) (phases.Acquire m)) (failed (now (phases.Take m count)) (phases.Acquire m) tt) k.count)
     turns_tells _ _ (moves.takes_not_fat m r e) k = subst (λ (b : Bool). Tallied 0 (at_phase (phases.TakeFat m r)) (failed_turn (now (phases.TakeFat m r)) (phases.TakeFat m r)) (runs_of (act_if b acts.Enter)) (takes_of (act_if b acts.Enter)) None) (sym e)
         (no_act (phases.TakeFat m r) (failed_turn (now (phases.TakeFat m r)) (phases.TakeFat m r)) (failed (now (phases.TakeFat m r)) (phases.TakeFat m r) tt) k.count)
-    turns_tells _ _ (moves.waits_on m r depth e) k = quietly (phases.WaitLook m r depth) _ tt (failed (now (phases.WaitLook m r depth)) (phases.WaitLook m r depth) tt) k.count
-    turns_tells _ _ (moves.retakes_not m r depth e) k = quietly (phases.Retake m r depth) _ tt (failed (now (phases.Retake m r depth)) (phases.Retake m r depth) tt) k.count
+    turns_tells phase next l k = quietly phase (failed_turn (now phase) next) tt (failed (now phase) next tt) k.count
 
     waits_calm : (m : ℕ) (kept : Kept) (next : Phase) → WaitsFrom m kept next → IsCalm next
     waits_calm m _ _ (moves.grows_first count) = tt

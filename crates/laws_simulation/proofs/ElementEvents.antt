@@ -43,23 +43,14 @@ names objects p next target ops.Iastore locals (w ∷ i ∷ a ∷ stack) word (S
   word_is = on.0;
   element = k;
 }
-names objects p next target ops.Iaload locals [] word None t on k some = absurd on
-names objects p next target ops.Iaload locals (i ∷ []) word None t on k some = absurd on
-names objects p next target ops.Iastore locals [] word (Some v) t on k some = absurd on
-names objects p next target ops.Iastore locals (w ∷ []) word (Some v) t on k some = absurd on
-names objects p next target ops.Iastore locals (w ∷ i ∷ []) word (Some v) t on k some = absurd on
-names objects p next target op locals stack word None t on k some = absurd (cc)
-names objects p next target op locals stack word (Some v) t on k some = absurd (cc)
+names objects p next target op locals stack word None t on k some = absurd (first_of (assumption, cc))
+names objects p next target op locals stack word (Some v) t on k some = absurd (first_of (assumption, cc))
 
 -- one word stands there
 one_on : (w v : ℕ) (stored : Option ℕ) (stack : List ℕ) → IsElementOn w stored stack → IsElementOn v stored stack → w ≡ v
 one_on w v None (i ∷ a ∷ stack) e f = e ∙ sym f
 one_on w v (Some n) (u ∷ i ∷ a ∷ stack) e f = e.0 ∙ sym f.0
-one_on w v None [] e f = absurd e
-one_on w v None (i ∷ []) e f = absurd e
-one_on w v (Some n) [] e f = absurd e
-one_on w v (Some n) (u ∷ []) e f = absurd e
-one_on w v (Some n) (u ∷ i ∷ []) e f = absurd e
+one_on w v stored stack e f = absurd (assumption)
 
 -- the instruction that the event ends, with the element at the word
 module _ (c : MarkedProgram) (objects : List Object) (x : Thread) where
@@ -78,32 +69,28 @@ module _ (c : MarkedProgram) (objects : List Object) (s : Core) (x : Thread) (ma
   pub element_in : (word : ℕ) (stored : Option ℕ) (fs : List Frame) → x.frames ≡ fs → ElementStands word stored fs → FramesHold c (HasClass objects) fs → HasElementIn objects stored fs → (test : TopIs c (is_element_op stored) fs) → Element c objects x word stored
   element_in word stored [] e on h k top = absurd on
   element_in word stored (f ∷ fs) e on h k top =
+      let allows : (array index : ℕ) (z : Effect) → z ≡ Indexes array index stored → (m : MethodInfo) (insn : Insn) (target : Target) (r : OpRow) → Allowed c.program m (HasClass objects) insn target r f.stack z → IsOf (HasClass objects) INT_ARRAY_CLASS array × IsElementOn (value_word array (low index)) stored f.stack =
+          λ array index z e m insn target r al. let k : Allowed c.program m (HasClass objects) insn target r f.stack (Indexes array index stored) = subst (λ (w : Effect). Allowed c.program m (HasClass objects) insn target r f.stack w) e al in (k.1, k.2) in
+      let named : (f : Frame) (fs : List Frame) → x.frames ≡ f ∷ fs → IsElementOn word stored f.stack → (array index : ℕ) → HasElement objects array index → word ≡ value_word array index → (at : Top) → top_of c.program (f ∷ fs) ≡ Some at → effect_at c.program at ≡ Indexes array index stored → IsOf (HasClass objects) INT_ARRAY_CLASS array × IsElementOn (value_word array (low index)) stored f.stack → Element c objects x word stored =
+          λ f fs e on array index k is at found effect_is al. 
+          let here : word ≡ value_word array (low index) = one_on word (value_word array (low index)) stored f.stack on al.1 in
+          let same : low index ≡ index = omega (arith, here, is) in
+          record {
+          at = at;
+          found = ap (top_of c.program) e ∙ found;
+          array = array;
+          index = index;
+          effect_is = effect_is;
+          word_is = here;
+          element = subst (λ (n : ℕ). HasElement objects array n) (sym same) k;
+          is_array = al.0;
+          } in
       let j = h.0.stands in
       let op = ap (is_element_op stored) (same_op c marked (HasClass objects) f j top.0) ∙ top.1 in
       let n = names objects c.program j.insn.next j.target j.insn.op f.locals f.stack word stored op on k (λ o k. omega (arith, heap.apart.begin k.0 o (contained_got objects o k))) in
       let found : top_of c.program (f ∷ fs) ≡ Some (top_here c f fs j) = stand_top c marked f fs j in
       let al = allowed_here c marked (HasClass objects) (out_there c marked objects s heap) f h.0 in
       named f fs e on n.array n.index n.element n.word_is (top_here c f fs j) found n.effect_is (allows n.array n.index (effect_at c.program (top_here c f fs j)) n.effect_is j.method j.insn j.target (row_of c.program j.method j.insn j.target) al)
-    where
-      allows : (array index : ℕ) (z : Effect) → z ≡ Indexes array index stored → (m : MethodInfo) (insn : Insn) (target : Target) (r : OpRow) → Allowed c.program m (HasClass objects) insn target r f.stack z
-          → IsOf (HasClass objects) INT_ARRAY_CLASS array × IsElementOn (value_word array (low index)) stored f.stack
-      allows array index z e m insn target r al = let k : Allowed c.program m (HasClass objects) insn target r f.stack (Indexes array index stored) = subst (λ (w : Effect). Allowed c.program m (HasClass objects) insn target r f.stack w) e al in (k.1, k.2)
-
-      named : (f : Frame) (fs : List Frame) → x.frames ≡ f ∷ fs → IsElementOn word stored f.stack → (array index : ℕ) → HasElement objects array index → word ≡ value_word array index
-          → (at : Top) → top_of c.program (f ∷ fs) ≡ Some at → effect_at c.program at ≡ Indexes array index stored → IsOf (HasClass objects) INT_ARRAY_CLASS array × IsElementOn (value_word array (low index)) stored f.stack → Element c objects x word stored
-      named f fs e on array index k is at found effect_is al =
-          let here : word ≡ value_word array (low index) = one_on word (value_word array (low index)) stored f.stack on al.1 in
-          let same : low index ≡ index = omega (arith, here, is) in
-          record {
-            at = at;
-            found = ap (top_of c.program) e ∙ found;
-            array = array;
-            index = index;
-            effect_is = effect_is;
-            word_is = here;
-            element = subst (λ (n : ℕ). HasElement objects array n) (sym same) k;
-            is_array = al.0;
-          }
 
   -- the array has it
   pub has_element : (word : ℕ) (stored : Option ℕ) (k : Element c objects x word stored)

@@ -9,7 +9,7 @@ use Rattle.machine_types.specs.{Core.{is_live, is_live_thread, ended_by, may_beg
 use Rattle.machine_types.specs.{Parts.{done_roots, has_returned, has_finished}, PlainState.{Plain, PlainThread, Status}, PlainSteps.{first_is_return, is_over, is_done_due, end_at, first_end}}
 use Rattle.machine_types.specs.{Structure.{IsLimitAt, IsAs, Stands, AttemptStands, AttemptStandsIn, IsStructured}, Threads.{Attempt, Frame, Thread}, declared.{lock.Held.Held, phase.Phase.Phase}}
 use Rattle.laws_states.specs.PartsStand.{FirstFits, HasFinished, PartsStand}
-use Rattle.laws_simulation.{specs.{OutcomeLaws.EndsAreThose, StandsBeside.{own_end, end_of_done, ends_shown}}, proofs.Assembled.got_same_length}
+use Rattle.laws_simulation.{specs.{OutcomeLaws.EndsAreThose, StandsBeside.{own_end, end_of_done, ends_shown}}, proofs.{Assembled.got_same_length, PartsDue.all_true}}
 use Rattle.jvm_types.specs.declared.outcome.End.TheVariants as ends
 use Rattle.machine_types.specs.PlainState as plain
 use Rattle.machine_types.specs.PlainSteps as steps
@@ -95,10 +95,6 @@ same_all f g [] [] e all = refl
 same_all f g [] (y ∷ ys) e all = absurd (omega (arith, e))
 same_all f g (x ∷ xs) [] e all = absurd (omega (arith, e))
 same_all f g (x ∷ xs) (y ∷ ys) e all = ap (λ (b : Bool). b && list_all g ys) (all 0 x y refl refl) ∙ ap (λ (b : Bool). f x && b) (same_all f g xs ys (omega (arith, e)) (λ i v w h k. all (suc i) v w h k))
-
-all_true : {A : Type 0} (f : A → Bool) (xs : List A) → ((i : ℕ) (x : A) → slice_get xs i ≡ Some x → f x ≡ true) → list_all f xs ≡ true
-all_true f [] all = refl
-all_true f (x ∷ xs) all = ap (λ (b : Bool). b && list_all f xs) (all 0 x refl) ∙ all_true f xs (λ i v e. all (suc i) v e)
 
 has_finished_all : (phase : Phase) → HasFinished phase → ended_by has_finished phase ≡ true
 has_finished_all (phases.Ended e) f = f

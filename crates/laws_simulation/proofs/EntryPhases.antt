@@ -43,8 +43,6 @@ module _ (lies : StartLiesApart) (scene : Scene) (k : Moving scene.turn) where
       not_zero : (u : ℕ) → hold_by_word u (locks.Fat r) (owner_at s.words) ≡ NotHeld
       not_zero u = ap (λ (b : Bool). cond b (HeldFat r) NotHeld) (ap (λ (n : ℕ). n == u + 1) none ∙ ne_eqb 0 (u + 1) (λ f. omega (arith, f)))
 
-  -- ---- it has the monitor already
-
   -- ---- it takes the lock
 
   pub takes_it : (words : List ℕ) (m : ℕ) (kept : Kept) → WordsStay objects s q words → k.z.status ≡ plain.Enter m → holding_at q.holdings m ≡ None → Makes k (acts.Enter ∷ []) words (takes x m kept)

@@ -1,9 +1,9 @@
 -- A thread leaves a monitor, or makes its lock fat.
-use Rattle.std.proofs.Common.{◌≡◌, ◌≢◌, ℕ, suc, ◌+◌, ◌-◌, ◌<◌, nat_lt, Bool, true, false, cond, List, [], ◌∷◌, Option, Some, None, refl, sym, ap, ◌∙◌, subst, arith, slice_index, slice_set, option_map, ◌==◌}
+use Rattle.std.proofs.Common.{◌≡◌, ◌≢◌, ℕ, suc, ◌+◌, ◌-◌, ◌<◌, nat_lt, Bool, true, false, cond, List, [], ◌∷◌, Option, Some, None, refl, sym, ap, ◌∙◌, subst, arith, slice_index, slice_set, ◌==◌}
 use Rattle.std.proofs.lemmas.Bool.Decides.{nat_tests, Decides-eqb}
 use Rattle.jvm_types.specs.declared.fixed_words.TheConstants.{MONITOR_RECORDS, NEXT_RECORD_WORD}
 use Rattle.machine_types.specs.{Accesses.{found, found_by, performed, words_after}, Agreement.{IsWaiter, depth_for, has_wait_bit, toward_status}, Going.{with_phase, goes_on, goes_on_if, goes_after}}
-use Rattle.machine_types.specs.{HeldMonitors.{held_at, depth_at, with_held, without_held, shallower}, History.{act_if, steps_of, leave_acts, release_acts}, LockWords.{word_of_lock, next_count}}
+use Rattle.machine_types.specs.{HeldMonitors.{held_at, with_held, without_held, shallower}, History.{act_if, steps_of, leave_acts, release_acts}, LockWords.{word_of_lock, next_count}}
 use Rattle.machine_types.specs.{Monitors.{claim_by, leave_wants, leave_moves, release, released, freed, lets_go, grows_not, fattens}, Onward.{Onward, after}}
 use Rattle.machine_types.specs.Owners.{IsDrawn, hold_by_word, hold_by_kept, hold_by_list, lock_at, owner_at, locks_in, references_of}
 use Rattle.machine_types.specs.{PlainState.{Plain, Holding, holding_at, held_by, with_holding, without_holding, with_thread}, PlainSteps.{left, plain_run}, Shown.Show, StartLaws.StartLiesApart}
@@ -12,7 +12,7 @@ use Rattle.machine_types.specs.declared.{lock.{Held.Held, Kept.Kept}, phase.{Aft
 use Rattle.laws_threads.proofs.{HeldBounds.{found as found_held}, HeldLists.{held_monitor, held_positive, held_put, depth_some}, Releases.goes_behind, ThreadMove.{goes_held, goes_attempt}}
 use Rattle.laws_states.{specs.Sites.HasObject, proofs.{LockViews.{fatly, thin_if_flat}, Phases.some_of, WordViews.lock_of_word}}
 use Rattle.laws_simulation.proofs.{EntryPhases.loaded, GoingOnAlike.{awake_fits, going_alike}}
-use Rattle.laws_simulation.proofs.{HoldingsAlike.{HoldAlike, alone, held_depth_is, depth_is_held, holds_then, alike_by, alike_put, alike_dropped}, Landing.{WordsStay, Makes, words_stay}}
+use Rattle.laws_simulation.proofs.{HoldingsAlike.{HoldAlike, alone, held_depth_is, holds_then, alike_set, alike_put, alike_dropped}, Landing.{WordsStay, Makes, words_stay}}
 use Rattle.laws_simulation.proofs.{LockPlain.exits, Moving.{stays_with, steps_as, calm_fits, to_phase, stays_itself, goes_part, goes_old}, OwnBits.nobody_in, OwnThread.Moving, Scene.Scene}
 use Rattle.laws_simulation.proofs.WordsAround.{low, thin_stays, fat_stays, owner_stays, record_stays}
 use Rattle.jvm_types.specs.declared.outcome.End.TheVariants as ends
@@ -122,9 +122,6 @@ module _ (lies : StartLiesApart) (scene : Scene) (k : Moving scene.turn) where
       (cond (nat_lt (slice_index s.words NEXT_RECORD_WORD) MONITOR_RECORDS) (with_phase x (phases.Own m (slice_index s.words NEXT_RECORD_WORD) toward)) (grows_not x m toward))
   drew_it m toward status flat = by_test (nat_lt (slice_index s.words NEXT_RECORD_WORD) MONITOR_RECORDS)
     where
-      words : List ℕ
-      words = slice_set s.words NEXT_RECORD_WORD (slice_index s.words NEXT_RECORD_WORD + 1)
-
       stay : WordsStay objects s q (slice_set s.words NEXT_RECORD_WORD (slice_index s.words NEXT_RECORD_WORD + 1))
       stay = record_stays lies scene (slice_index s.words NEXT_RECORD_WORD + 1)
 
@@ -150,14 +147,13 @@ module _ (lies : StartLiesApart) (scene : Scene) (k : Moving scene.turn) where
 
   -- an entry at the same depth
   refitted : (m : ℕ) (h g : Held) (y : Thread) → held_at x.held m ≡ Some h → g.monitor ≡ m → g.depth ≡ h.depth → y.held ≡ with_held g x.held → HoldAlike q.holdings (slice_set s.threads t y)
-  refitted m h g y e at deep f = alike_by q.holdings s.threads beside.agrees.monitors t x y here q.holdings (λ n. own n (m == n) refl) (λ u n d. refl)
+  refitted m h g y e at deep f = alike_set q.holdings s.threads beside.agrees.monitors t x y here q.holdings m (holding_at q.holdings m) (Some g) (λ n. same n (m == n) refl)
+      (λ n. ap (λ (hs : List Held). held_at hs n) f ∙ held_put n g x.held ∙ ap (λ (a : ℕ). cond (a == n) (Some g) (held_at x.held n)) at)
+      (held_depth_is q.holdings s.threads beside.agrees.monitors t m x h here e ∙ ap Some (sym deep)) (λ u d. refl)
     where
-      own : (n : ℕ) (b : Bool) → (m == n) ≡ b → depth_for t (holding_at q.holdings n) ≡ depth_at y.held n
-      own n b i = depth_is_held q.holdings s.threads beside.agrees.monitors t n x here ∙ sym (ap (λ (hs : List Held). depth_at hs n) f ∙ ap (option_map (λ (j : Held). j.depth)) (held_put n g x.held ∙ ap (λ (d : Bool). cond d (Some g) (held_at x.held n)) (ap (λ (a : ℕ). a == n) at ∙ i)) ∙ by_test b i)
-        where
-          by_test : (b : Bool) → (m == n) ≡ b → option_map (λ (j : Held). j.depth) (cond b (Some g) (held_at x.held n)) ≡ depth_at x.held n
-          by_test true i = ap Some deep ∙ sym (ap (option_map (λ (j : Held). j.depth)) (ap (held_at x.held) (sym ((Decides-eqb m n).0 i)) ∙ e))
-          by_test false i = refl
+      same : (n : ℕ) (b : Bool) → (m == n) ≡ b → holding_at q.holdings n ≡ cond b (holding_at q.holdings m) (holding_at q.holdings n)
+      same n true i = ap (holding_at q.holdings) (sym ((Decides-eqb m n).0 i))
+      same n false i = refl
 
   pub fattened : (m r : ℕ) (toward : Toward) (o : Option Held) → held_at x.held m ≡ o → IsFlat o → k.z.status ≡ toward_status m toward → r < MONITOR_RECORDS → IsDrawn (locks_in (references_of objects) s.words) r
       → Makes k [] (slice_set s.words m (word_of_lock (locks.Fat r))) (fattens x m r toward o)

@@ -36,9 +36,7 @@ module _ (is : Classes) (c : MarkedProgram) (m : ℕ) (fs : List Frame) (shown :
 -- and an object, so it is not null
 pub held_not_null : (c : MarkedProgram) (objects : List Object) (s : Core) (t : ℕ) (x : Thread) (m : ℕ) → HeapFacts c objects s → slice_get s.threads t ≡ Some x → IsHeld x.held m → (m == 0) ≡ false
 held_not_null c objects s t x m heap here k =
+    let some : (n a : ℕ) → n ≡ a → FIRST_READY_WORD ≤ n → (a == 0) ≡ false = λ n a e h. grind (arith, nat_tests, e, h) in
     let object : IsObject (HasClass objects) k.entry.monitor = some_of (λ (g : Held). IsObject (HasClass objects) g.monitor) (held_at x.held m) k.entry k.is (found (λ g. IsObject (HasClass objects) g.monitor) m x.held (heap.monitors t x here).held) in
     let low : FIRST_READY_WORD ≤ object.1.0.reference = heap.apart.begin object.1.1.0 object.1.0 (contained_got objects object.1.0 object.1.1) in
     some (object.1.0.reference) m (object.1.2 ∙ held_monitor m x.held k.entry k.is) low
-  where
-    some : (n a : ℕ) → n ≡ a → FIRST_READY_WORD ≤ n → (a == 0) ≡ false
-    some n a e h = grind (arith, nat_tests, e, h)

@@ -11,10 +11,6 @@ use Rattle.laws_states.proofs.Lists.{same_or_not}
 abbrev pub HoldAlike : List Holding → List Thread → Type 0
 HoldAlike holdings threads = (t m : ℕ) → depth_for t (holding_at holdings m) ≡ depth_of (slice_get threads t) m
 
--- ---- numbers
-
--- ---- one thread of a list is changed
-
 -- ---- holdings, where one is put or taken away
 
 pub holding_put : (m : ℕ) (h : Holding) (hs : List Holding) → holding_at (with_holding h hs) m ≡ cond (h.monitor == m) (Some h) (holding_at hs m)
@@ -140,42 +136,29 @@ module _ (holdings : List Holding) (threads : List Thread)
     pub alike_kept : y.held ≡ x.held → HoldAlike holdings (slice_set threads t y)
     alike_kept e = alike_by holdings (λ m. depth_is_held t m x there ∙ ap (λ (hs : List Held). depth_at hs m) (sym e)) (λ u m d. refl)
 
+    -- what is held of n has changed alike
+    pub alike_set : (later : List Holding) (n : ℕ) (h : Option Holding) (e : Option Held) → ((m : ℕ) → holding_at later m ≡ cond (n == m) h (holding_at holdings m)) → ((m : ℕ) → held_at y.held m ≡ cond (n == m) e (held_at x.held m))
+        → depth_for t h ≡ option_map (λ (g : Held). g.depth) e → ((u : ℕ) → u ≢ t → depth_for u h ≡ depth_for u (holding_at holdings n)) → HoldAlike later (slice_set threads t y)
+    alike_set later n h e now held own others = alike_by later (λ m. own_of m (n == m) refl) (λ u m d. other_of u m d (n == m) refl)
+      where
+        own_of : (m : ℕ) (b : Bool) → (n == m) ≡ b → depth_for t (holding_at later m) ≡ depth_at y.held m
+        own_of m true f = ap (depth_for t) (now m ∙ ap (λ (d : Bool). cond d h (holding_at holdings m)) f) ∙ own ∙ sym (ap (option_map (λ (g : Held). g.depth)) (held m ∙ ap (λ (d : Bool). cond d e (held_at x.held m)) f))
+        own_of m false f = ap (depth_for t) (now m ∙ ap (λ (d : Bool). cond d h (holding_at holdings m)) f) ∙ depth_is_held t m x there ∙ sym (ap (option_map (λ (g : Held). g.depth)) (held m ∙ ap (λ (d : Bool). cond d e (held_at x.held m)) f))
+
+        other_of : (u m : ℕ) → u ≢ t → (b : Bool) → (n == m) ≡ b → depth_for u (holding_at later m) ≡ depth_for u (holding_at holdings m)
+        other_of u m d true f = ap (depth_for u) (now m ∙ ap (λ (b : Bool). cond b h (holding_at holdings m)) f) ∙ others u d ∙ ap (λ (k : ℕ). depth_for u (holding_at holdings k)) ((Decides-eqb n m).0 f)
+        other_of u m d false f = ap (depth_for u) (now m ∙ ap (λ (b : Bool). cond b h (holding_at holdings m)) f)
+
     -- it holds n at another depth, and no other thread does
     pub alike_put : (n : ℕ) (h : Held) → h.monitor ≡ n → y.held ≡ with_held h x.held → ((u : ℕ) → u ≢ t → depth_for u (holding_at holdings n) ≡ None)
         → HoldAlike (with_holding (record { monitor = n; holder = t; depth = h.depth }) holdings) (slice_set threads t y)
-    alike_put n h at e none = alike_by (with_holding (record { monitor = n; holder = t; depth = h.depth }) holdings) (λ m. own m (n == m) refl) (λ u m d. others u m d (n == m) refl)
-      where
-        one : Holding
-        one = record { monitor = n; holder = t; depth = h.depth }
-
-        held : (m : ℕ) (b : Bool) → (n == m) ≡ b → depth_at y.held m ≡ option_map (λ (g : Held). g.depth) (cond b (Some h) (held_at x.held m))
-        held m b f = ap (λ (hs : List Held). depth_at hs m) e ∙ ap (option_map (λ (g : Held). g.depth)) (held_put m h x.held ∙ ap (λ (d : Bool). cond d (Some h) (held_at x.held m)) (ap (λ (k : ℕ). k == m) at ∙ f))
-
-        now : (m : ℕ) (b : Bool) → (n == m) ≡ b → holding_at (with_holding (record { monitor = n; holder = t; depth = h.depth }) holdings) m ≡ cond b (Some (record { monitor = n; holder = t; depth = h.depth })) (holding_at holdings m)
-        now m b f = holding_put m (record { monitor = n; holder = t; depth = h.depth }) holdings ∙ ap (λ (d : Bool). cond d (Some (record { monitor = n; holder = t; depth = h.depth })) (holding_at holdings m)) f
-
-        own : (m : ℕ) (b : Bool) → (n == m) ≡ b → depth_for t (holding_at (with_holding (record { monitor = n; holder = t; depth = h.depth }) holdings) m) ≡ depth_at y.held m
-        own m true f = ap (depth_for t) (now m true f) ∙ own_depth t (record { monitor = n; holder = t; depth = h.depth }) refl ∙ sym (held m true f)
-        own m false f = ap (depth_for t) (now m false f) ∙ depth_is_held t m x there ∙ sym (held m false f)
-
-        others : (u m : ℕ) → u ≢ t → (b : Bool) → (n == m) ≡ b → depth_for u (holding_at (with_holding (record { monitor = n; holder = t; depth = h.depth }) holdings) m) ≡ depth_for u (holding_at holdings m)
-        others u m d true f = ap (depth_for u) (now m true f) ∙ other_depth u (record { monitor = n; holder = t; depth = h.depth }) (λ g. d (sym g)) ∙ sym (ap (λ (k : ℕ). depth_for u (holding_at holdings k)) (sym ((Decides-eqb n m).0 f)) ∙ none u d)
-        others u m d false f = ap (depth_for u) (now m false f)
+    alike_put n h at e none =
+        let one : Holding = record { monitor = n; holder = t; depth = h.depth } in
+        alike_set (with_holding one holdings) n (Some one) (Some h) (λ m. holding_put m one holdings)
+        (λ m. ap (λ (hs : List Held). held_at hs m) e ∙ held_put m h x.held ∙ ap (λ (k : ℕ). cond (k == m) (Some h) (held_at x.held m)) at)
+        (own_depth t one refl) (λ u d. other_depth u one (λ g. d (sym g)) ∙ sym (none u d))
 
     -- it has let n go
     pub alike_dropped : (n : ℕ) → y.held ≡ without_held n x.held → AreHeldOnce x.held → ((u : ℕ) → u ≢ t → depth_for u (holding_at holdings n) ≡ None) → HoldAlike (without_holding n holdings) (slice_set threads t y)
-    alike_dropped n e once none = alike_by (without_holding n holdings) (λ m. own m (n == m) refl) (λ u m d. others u m d (n == m) refl)
-      where
-        held : (m : ℕ) (b : Bool) → (n == m) ≡ b → depth_at y.held m ≡ option_map (λ (g : Held). g.depth) (cond b None (held_at x.held m))
-        held m b f = ap (λ (hs : List Held). depth_at hs m) e ∙ ap (option_map (λ (g : Held). g.depth)) (held_without m n x.held once ∙ ap (λ (d : Bool). cond d None (held_at x.held m)) f)
-
-        now : (m : ℕ) (b : Bool) → (n == m) ≡ b → holding_at (without_holding n holdings) m ≡ cond b None (holding_at holdings m)
-        now m b f = holding_without m n holdings ∙ ap (λ (d : Bool). cond d None (holding_at holdings m)) f
-
-        own : (m : ℕ) (b : Bool) → (n == m) ≡ b → depth_for t (holding_at (without_holding n holdings) m) ≡ depth_at y.held m
-        own m true f = ap (depth_for t) (now m true f) ∙ sym (held m true f)
-        own m false f = ap (depth_for t) (now m false f) ∙ depth_is_held t m x there ∙ sym (held m false f)
-
-        others : (u m : ℕ) → u ≢ t → (b : Bool) → (n == m) ≡ b → depth_for u (holding_at (without_holding n holdings) m) ≡ depth_for u (holding_at holdings m)
-        others u m d true f = ap (depth_for u) (now m true f) ∙ sym (ap (λ (k : ℕ). depth_for u (holding_at holdings k)) (sym ((Decides-eqb n m).0 f)) ∙ none u d)
-        others u m d false f = ap (depth_for u) (now m false f)
+    alike_dropped n e once none = alike_set (without_holding n holdings) n None None (λ m. holding_without m n holdings)
+        (λ m. ap (λ (hs : List Held). held_at hs m) e ∙ held_without m n x.held once) refl (λ u d. sym (none u d))

@@ -15,10 +15,7 @@ use Rattle.machine_types.specs.declared.phase.Toward.TheVariants as towards
 
 locks_busy : (phase : Phase) → LocksPhase phase → IsBusy phase
 locks_busy phases.Idle k = k
-locks_busy phases.Start k = k
-locks_busy (phases.Ending e) k = k
-locks_busy (phases.Ended e) k = k
-locks_busy phase k = tt
+locks_busy phase k = first_of (assumption, cc)
 
 locks_old : (phase : Phase) → LocksPhase phase → IsOldPhase phase
 locks_old (phases.Made a word) k = k

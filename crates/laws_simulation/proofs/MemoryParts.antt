@@ -26,13 +26,11 @@ IsValueSite site = ⊥
 
 no_header_site : (site : Site) (reference : ℕ) → IsValueSite site → site ≡ HeaderOf reference → ⊥
 no_header_site (ValueOf a i) reference k e = cc
-no_header_site (StaticAt word) reference k e = cc
-no_header_site site reference k e = absurd k
+no_header_site site reference k e = first_of (assumption, cc)
 
 no_new_site : (site : Site) (reference : ℕ) → IsValueSite site → site ≡ NewHeaderOf reference → ⊥
 no_new_site (ValueOf a i) reference k e = cc
-no_new_site (StaticAt word) reference k e = cc
-no_new_site site reference k e = absurd k
+no_new_site site reference k e = first_of (assumption, cc)
 
 module _ (scene : Scene) where
   open scene use {turn, c, objects, s, t, x, q}

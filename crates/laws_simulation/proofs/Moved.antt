@@ -131,9 +131,7 @@ module _ {turn : Turn} {phase : Phase} (k : Moment turn phase) where
     where
       by_lock : (l : LockWord) → lock_at (references_of q.objects) s.words m ≡ l → has_wait_bit (references_of q.objects) later u m ≡ has_wait_bit (references_of q.objects) s.words u m
       by_lock (locks.Fat r) e = let at : lock_at (references_of objects) s.words m ≡ locks.Fat r = sym (lock_same k m) ∙ e in bit_later later w u m r at ∙ same r (fat_low m r at) ∙ sym (bit_now u m r at)
-      by_lock (locks.Free n) e = ap (λ (l : LockWord). bit_by l later u) (lock_kept k later w m ∙ e) ∙ sym (ap (λ (l : LockWord). bit_by l s.words u) e)
-      by_lock (locks.Held n) e = ap (λ (l : LockWord). bit_by l later u) (lock_kept k later w m ∙ e) ∙ sym (ap (λ (l : LockWord). bit_by l s.words u) e)
-      by_lock (locks.Flagged n) e = ap (λ (l : LockWord). bit_by l later u) (lock_kept k later w m ∙ e) ∙ sym (ap (λ (l : LockWord). bit_by l s.words u) e)
+      by_lock lock e = ap (λ (l : LockWord). bit_by l later u) (lock_kept k later w m ∙ e) ∙ sym (ap (λ (l : LockWord). bit_by l s.words u) e)
 
   -- the thread itself waits nowhere, where no bit but one that was set is set
   pub own_off : (later : List ℕ) → AreRecordsWritten s.words later → ((r : ℕ) → is_bit_set later r t ≡ true → is_bit_set s.words r t ≡ true) → (f : Phase) → was t ≡ f → ((r : ℕ) → MayWait f r → ⊥)

@@ -1,5 +1,5 @@
 -- A thread in no attempt that is about to move by its phase, with its plain thread; and what becomes of both.
-use Rattle.std.proofs.Common.{◌≡◌, ℕ, ◌+◌, nat_lt, Bool, true, false, cond, List, [], ◌∷◌, Option, Some, None, refl, sym, ap, ◌∙◌, subst, slice_set}
+use Rattle.std.proofs.Common.{◌≡◌, ℕ, ◌+◌, nat_lt, Bool, true, false, cond, List, [], ◌∷◌, Option, Some, None, refl, sym, ap, ◌∙◌, subst, arith, slice_set}
 use Rattle.jvm_types.specs.declared.program.Program.{Program}
 use Rattle.machine_types.specs.{Agreement.{StatusFits, OutsideFits, ThreadFits, IsTurning, has_wait_bit, frames_shown, roots_shown}, Going.{with_phase, runs, failed_turn, goes_on}, History.steps_of}
 use Rattle.machine_types.specs.{Onward.{Onward, Running, Throwing, Entering, Leaving, RootReturned, Uncaught}, Owners.references_of, Parts.has_finished, PlainState.{Plain, PlainThread, Holding}}
@@ -28,8 +28,7 @@ calm_frames phase frames k = refl
 
 calm_roots : (p : Program) (part : ℕ) (phase : Phase) (roots : List ℕ) → IsCalm phase → roots_shown p part phase roots ≡ roots
 calm_roots p part phases.Idle roots k = absurd k
-calm_roots p part phases.Start roots k = absurd k
-calm_roots p part phase roots k = refl
+calm_roots p part phase roots k = first_of (cc, grind arith)
 
 calm_ends : (phase : Phase) → IsCalm phase → end_of_done (0 ∷ []) phase ≡ []
 calm_ends (phases.Ending e) k = ap (λ (b : Bool). cond b (e ∷ []) []) k

@@ -145,32 +145,27 @@ module _ (stands : RunIsThere) (states : States) (x : Thread) (workers : List Th
 
   -- the workers' part
   run_begins : x.part ≡ 0 → x.phase ≡ phases.Ended ends.Returned → StandsBeside c.program objects (record s { threads = workers_begin c.program x workers }) q
-  run_begins part rests = begins_beside states (workers_begin c.program x workers)
-      (pairs_by (workers_begin c.program x workers) (init_alike c.program x (how_ended x.phase) rests (outside rests) part, workers_alike c.program workers each))
-      (λ z e two none. absurd (let one : 1 ≡ z.part = ap (λ (v : Thread). v.part) (same_some e) in omega (arith, two, one)))
-    where
-      idle : AllByRecursion (λ (w : Thread). w.phase ≡ phases.Idle) workers
-      idle = subst (λ (n : ℕ). PartFits n x.phase workers) part (subst PartsFit threads facts.threads.parts)
-
-      each : (u : ℕ) (z : Thread) → slice_get workers u ≡ Some z → Alike c.program z (with_roots (run_roots c.program) z)
-      each u z e =
+  run_begins part rests =
+      let idle : AllByRecursion (λ (w : Thread). w.phase ≡ phases.Idle) workers = subst (λ (n : ℕ). PartFits n x.phase workers) part (subst PartsFit threads facts.threads.parts) in
+      let each : (u : ℕ) (z : Thread) → slice_get workers u ≡ Some z → Alike c.program z (with_roots (run_roots c.program) z) =
+          λ u z e. 
           let there = (ap (λ (xs : List Thread). slice_get xs (suc u)) threads ∙ e) in
           let z_idle = all_idle workers u z idle e in
           let own = facts.threads.own (suc u) z there in
           worker_alike c.program z (run_roots c.program) refl
-          (no_run_roots stands c marked (omega (arith, got_below s.threads (suc u) z there, facts.threads.count))) z_idle (idle_attempt c (was (suc u)) z z_idle (facts.structure (suc u) z there)) (own.part (λ h. omega (arith, h)))
+          (no_run_roots stands c marked (omega (arith, got_below s.threads (suc u) z there, facts.threads.count))) z_idle (idle_attempt c (was (suc u)) z z_idle (facts.structure (suc u) z there)) (own.part (λ h. omega (arith, h))) in
+      begins_beside states (workers_begin c.program x workers)
+      (pairs_by (workers_begin c.program x workers) (init_alike c.program x (how_ended x.phase) rests (outside rests) part, workers_alike c.program workers each))
+      (λ z e two none. absurd (let one : 1 ≡ z.part = ap (λ (v : Thread). v.part) (same_some e) in omega (arith, two, one)))
 
   -- `done`
   done_begin : x.part ≡ 1 → StandsBeside c.program objects (record s { threads = done_begins c.program x workers }) q
-  done_begin part = begins_beside states (done_begins c.program x workers)
+  done_begin part =
+      let rests : x.phase ≡ phases.Ended ends.Returned = rests_between s.threads x facts.threads.parts first part in
+      let none_left : x.roots ≡ [] = facts.parts.returned 0 x first (subst HasReturned (sym rests) tt) in
+      begins_beside states (done_begins c.program x workers)
       (pairs_by (done_begins c.program x workers) (done_alike c.program x (done_roots c.program) refl rests (outside rests) part none_left, same_pairs c.program workers))
       (λ z e two none. ap (λ (v : Thread). v.phase) (sym (same_some e)) ∙ ap part_phase none)
-    where
-      rests : x.phase ≡ phases.Ended ends.Returned
-      rests = rests_between s.threads x facts.threads.parts first part
-
-      none_left : x.roots ≡ []
-      none_left = facts.parts.returned 0 x first (subst HasReturned (sym rests) tt)
 
   by_part : (part : ℕ) → x.part ≡ part → may_begin_by part x.phase workers ≡ true → StandsBeside c.program objects (record s { threads = part_begins c.program part x workers }) q
   by_part zero e h = run_begins e (returned x.phase h)

@@ -33,25 +33,20 @@ module _ {turn : Turn} where
   -- ---- it looks for one that waits
 
   none_found : (m r : ℕ) (k : Moment turn (phases.NotifyLook m r)) → (slice_index s.words (bits_word r) == 0) ≡ true → StepsBeside c objects s t x q
-  none_found m r k e = stepped k s.words (runs x) (acts.Notify None ∷ []) behind refl (ap (λ (b : Bool). act_if b (acts.Notify None)) e) (set_self s.words (bits_word r))
+  none_found m r k e =
+      let behind : Plain = record q { threads = slice_set q.threads t (running y) } in
+      let empty : slice_index s.words (bits_word r) ≡ 0 = grind (arith, nat_tests, e) in
+      let off : (u : ℕ) → has_wait_bit (references_of q.objects) s.words u m ≡ false =
+          λ u. bit_now k u m r (owning k t x m r turn.here (counted k (phases.NotifyLook m r) (own_as k)).phase_shows.1).lock ∙ ap (λ (n : ℕ). has_flag (bit_of u) n) empty in
+      let step : notified q t m y None ≡ Some behind =
+          ap (λ (b : Bool). cond b None (Some (with_thread q t (with_status y plain.Run)))) (none_waits m q.threads (nobody_by_bits c.program s q m turn.beside.agrees off)) in
+      stepped k s.words (runs x) (acts.Notify None ∷ []) behind refl (ap (λ (b : Bool). act_if b (acts.Notify None)) e) (set_self s.words (bits_word r))
       (ap (λ (b : Bool). cond b (runs x) (with_phase x (phases.NotifyOne m r (lowest_of (slice_index s.words (bits_word r)))))) e)
       (first_step c.program q behind t y (acts.Notify None) [] (plain.Notify m) twin (own_status k) step)
       (alone_beside k s.words (runs x) q.holdings (running y) (same_words s.words) (λ a word f. cc) (λ a word. run_made (goes_by x) a word) refl (λ g. cc)
       (alike_kept q.holdings s.threads (holdings_alike k) t x (runs x) turn.here refl) turn.outside
       (runs_outside c.program (has_wait_bit (references_of q.objects) s.words t) x (running y) (own_off k s.words (same_words s.words) (λ i f. f) (phases.NotifyLook m r) (own_as k) (λ i f. f)) (own_frames k) refl (own_roots k))
       (own_ends k ∙ ends_alike c.program x.part (phases.NotifyLook m r) (cond (goes_by x) phases.Run (phases.Ending ends.Steps)) (sym (run_end (goes_by x)))) (λ u n d. refl))
-    where
-      behind : Plain
-      behind = record q { threads = slice_set q.threads t (running y) }
-
-      empty : slice_index s.words (bits_word r) ≡ 0
-      empty = grind (arith, nat_tests, e)
-
-      off : (u : ℕ) → has_wait_bit (references_of q.objects) s.words u m ≡ false
-      off u = bit_now k u m r (owning k t x m r turn.here (counted k (phases.NotifyLook m r) (own_as k)).phase_shows.1).lock ∙ ap (λ (n : ℕ). has_flag (bit_of u) n) empty
-
-      step : notified q t m y None ≡ Some behind
-      step = ap (λ (b : Bool). cond b None (Some (with_thread q t (with_status y plain.Run)))) (none_waits m q.threads (nobody_by_bits c.program s q m turn.beside.agrees off))
 
   pub looked_for : (m r : ℕ) → Moment turn (phases.NotifyLook m r) → StepsBeside c objects s t x q
   looked_for m r k = elim (cases_Bool (slice_index s.words (bits_word r) == 0)) [

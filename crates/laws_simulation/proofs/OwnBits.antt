@@ -24,11 +24,9 @@ module _ (references : List ℕ) (was : ℕ → Phase) (s : Core) (owners : Owne
     (waiting : Waiting was s) where
   pub no_own_bit : (t : ℕ) (x : Thread) → slice_get s.threads t ≡ Some x → IsAwake (was t) → (m : ℕ) → has_wait_bit references s.words t m ≡ false
   no_own_bit t x there awake m = (elim (lock_at references s.words m) as (λ (l : LockWord). lock_at references s.words m ≡ l → bit_by l s.words t ≡ false) [
-    | locks.Free c ↦ λ e. refl
-    | locks.Held u ↦ λ e. refl
-    | locks.Flagged u ↦ λ e. refl
     | locks.Fat r ↦ λ e. (elim (is_bit_set s.words r t) as (λ (b : Bool). is_bit_set s.words r t ≡ b → b ≡ false)
         [ true ↦ λ f. let w = waiting.each t x there in absurd (never_waits (was t) r awake (w.only r (owners.locks_are.below m r e).1 f)) | false ↦ λ f. refl ]) refl
+    | lock ↦ λ e. refl
   ]) refl
 
   -- a lock names the record of each thread that may wait

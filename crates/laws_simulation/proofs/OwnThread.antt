@@ -19,15 +19,11 @@ IsBusy phase = Unit {0}
 
 busy_ends : (phase : Phase) → IsBusy phase → end_of_done (0 ∷ []) phase ≡ []
 busy_ends phases.Idle k = absurd k
-busy_ends phases.Start k = absurd k
-busy_ends (phases.Ending e) k = absurd k
-busy_ends (phases.Ended e) k = absurd k
-busy_ends phase k = refl
+busy_ends phase k = first_of (cc, grind arith)
 
 busy_roots : (p : Program) (part : ℕ) (phase : Phase) (roots : List ℕ) → IsBusy phase → roots_shown p part phase roots ≡ roots
 busy_roots p part phases.Idle roots k = absurd k
-busy_roots p part phases.Start roots k = absurd k
-busy_roots p part phase roots k = refl
+busy_roots p part phase roots k = first_of (cc, grind arith)
 
 busy_done : (p : Program) (phase : Phase) (roots : List ℕ) → IsBusy phase → DoneRoots p phase roots → roots ≡ []
 busy_done p phases.Start roots k d = absurd k

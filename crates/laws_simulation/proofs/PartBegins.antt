@@ -48,10 +48,9 @@ onto p (z ∷ xs) [] k u x e = absurd k
 
 depths : (p : Program) (xs ys : List Thread) → Pairs p xs ys → (u m : ℕ) → depth_of (slice_get xs u) m ≡ depth_of (slice_get ys u) m
 depths p [] [] k u m = refl
-depths p (x ∷ xs) (y ∷ ys) k zero m = let a = k.0 in ap (λ (hs : List Held). depth_at hs m) (sym (held_is a))
-  where
-    held_is : Alike p x y → y.held ≡ x.held
-    held_is a = a.held
+depths p (x ∷ xs) (y ∷ ys) k zero m =
+    let held_is : Alike p x y → y.held ≡ x.held = λ a. a.held in
+    let a = k.0 in ap (λ (hs : List Held). depth_at hs m) (sym (held_is a))
 depths p (x ∷ xs) (y ∷ ys) k (suc u) m = depths p xs ys k.1 u m
 depths p [] (y ∷ ys) k u m = absurd k
 depths p (x ∷ xs) [] k u m = absurd k

@@ -74,13 +74,13 @@ pub first_returned : (threads : List PlainThread) (y : PlainThread) → slice_ge
 first_returned [] y e h = absurd (cc)
 first_returned (w ∷ workers) y e h = let one : w ≡ y = cc in ap (λ (v : PlainThread). first_is_return v.ended) one ∙ h
 
-all_over : (ys : List PlainThread) → ((i : ℕ) (w : PlainThread) → slice_get ys i ≡ Some w → is_over w.status ≡ true) → list_all (λ (w : PlainThread). is_over w.status) ys ≡ true
-all_over [] each = refl
-all_over (y ∷ ys) each = ap (λ (b : Bool). b && list_all (λ (w : PlainThread). is_over w.status) ys) (each 0 y refl) ∙ all_over ys (λ i w e. each (suc i) w e)
+pub all_true : {A : Type 0} (f : A → Bool) (xs : List A) → ((i : ℕ) (x : A) → slice_get xs i ≡ Some x → f x ≡ true) → list_all f xs ≡ true
+all_true f [] all = refl
+all_true f (x ∷ xs) all = ap (λ (b : Bool). b && list_all f xs) (all 0 x refl) ∙ all_true f xs (λ i v e. all (suc i) v e)
 
 all_behind : (ys : List PlainThread) → ((i : ℕ) (w : PlainThread) → slice_get ys (suc i) ≡ Some w → is_over w.status ≡ true) → list_all (λ (w : PlainThread). is_over w.status) (drop 1 ys) ≡ true
 all_behind [] each = refl
-all_behind (y ∷ ys) each = all_over ys each
+all_behind (y ∷ ys) each = all_true (λ (w : PlainThread). is_over w.status) ys each
 
 module _ (states : States) where
   open states use {c, was, s, q, facts, beside}

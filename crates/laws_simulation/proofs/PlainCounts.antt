@@ -42,10 +42,9 @@ first_along p count t act acts q all = let rest = elim (plain_step p q (record {
 
 other_count : (test : Act → Status → Bool) (t u : ℕ) (act : Act) (o : Option PlainThread) → u ≢ t → step_count test u (record { thread = t; act = act }) o ≡ 0
 other_count test t u act None d = refl
-other_count test t u act (Some x) d = ap (λ (b : Bool). one_if (b && test act x.status)) (apart t u d)
-  where
-    apart : (t u : ℕ) → u ≢ t → (t == u) ≡ false
-    apart t u d = grind (arith, nat_tests, d)
+other_count test t u act (Some x) d =
+    let apart : (t u : ℕ) → u ≢ t → (t == u) ≡ false = λ t u d. grind (arith, nat_tests, d) in
+    ap (λ (b : Bool). one_if (b && test act x.status)) (apart t u d)
 
 pub others_are_not_counted : OthersAreNotCounted
 others_are_not_counted p t u acts q d = record {
@@ -92,10 +91,9 @@ not_taken t q act e = no_count (is_take q.holdings) t t act (slice_get q.threads
 -- ---- an act of a thread x of number t
 
 itself : (t : ℕ) (b : Bool) → one_if ((t == t) && b) ≡ one_if b
-itself t b = ap (λ (s : Bool). one_if (s && b)) (same t)
-  where
-    same : (t : ℕ) → (t == t) ≡ true
-    same t = grind (arith, nat_tests)
+itself t b =
+    let same : (t : ℕ) → (t == t) ≡ true = λ t. grind (arith, nat_tests) in
+    ap (λ (s : Bool). one_if (s && b)) (same t)
 
 pub did_run : (t : ℕ) (q : Plain) (x : PlainThread) → slice_get q.threads t ≡ Some x → x.status ≡ plain.Run → run_at t q (record { thread = t; act = acts.Do }) ≡ 1
 did_run t q x e s = ap (step_count is_instruction t (record { thread = t; act = acts.Do })) e ∙ itself t (is_instruction acts.Do x.status) ∙ ap (λ (status : Status). one_if (is_instruction acts.Do status)) s

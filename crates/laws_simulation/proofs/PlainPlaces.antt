@@ -142,14 +142,10 @@ module _ (p : Program) (q : Plain) (apart : LieApart p q.objects q.statics q.nex
   -- a place of an object has its value
   pub value_of_object : (o : Object) (x v : ℕ) → Contains q.objects o → value_in o x ≡ Some v → value_at q x ≡ Some v
   value_of_object o x v c e =
+      let there : slice_get q.objects c.0 ≡ Some o = contained_got q.objects o c in
+      let l : (o.reference < x) × (x < object_end o) = lies_inside o x v e in
       ap (λ (w : Option ℕ). option_or w (static_value q.statics x))
       (first_object q.objects x v c.0 o there e (λ j d h n. none_in_other c.0 j o d x there h (λ k. n (sym k)) (omega (arith, l.0)) l.1))
-    where
-      there : slice_get q.objects c.0 ≡ Some o
-      there = contained_got q.objects o c
-
-      l : (o.reference < x) × (x < object_end o)
-      l = lies_inside o x v e
 
   pub value_of_header : (o : Object) → Contains q.objects o → value_at q (header_word o.reference) ≡ Some (header_of o)
   value_of_header o c = value_of_object o (header_word o.reference) (header_of o) c (header_in o)

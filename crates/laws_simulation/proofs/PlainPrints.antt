@@ -12,7 +12,7 @@ use Rattle.machine_types.specs.{Threads.{Frame, Thread}, Words.{header_length, v
 use Rattle.machine_types.specs.declared.{effect.Effect.TheVariants.{Writes, Indexes, Makes, Prints, Returns, Leaves, Waits, Notifies, NotifiesAll, Stuck, Throws}, lock.{Held.Held, Kept.Kept}}
 use Rattle.machine_types.specs.declared.{phase.Phase.Phase, plain.Act.Act}
 use Rattle.laws_threads.proofs.Landing.{stand_top}
-use Rattle.laws_simulation.proofs.{CountedEvents.{first_by, first_step, effect_print, top_print, new_print}, OwnThread.own, PlainCounts.is_do, Turns.Turn}
+use Rattle.laws_simulation.proofs.{CountedEvents.{AreQuiet, quiet_acts, first_by, first_step, effect_print, top_print, new_print}, OwnThread.own, PlainCounts.is_do, Turns.Turn}
 use Rattle.jvm_types.specs.declared.code.Op.TheVariants as ops
 use Rattle.machine_types.specs.History as history
 use Rattle.machine_types.specs.PlainState as plain
@@ -82,10 +82,9 @@ AreOthers acts = AllByRecursion (λ act. is_do act ≡ false) acts
 
 other_prints : (memory : InstructionsChangeMemory) (p : Program) (q r : Plain) (t : ℕ) (act : Act) (o : Option PlainThread) → slice_get q.threads t ≡ o → step_of p q t act o ≡ Some r → is_do act ≡ false → r.prints ≡ q.prints
 other_prints memory p q r t act None e s d = absurd (cc)
-other_prints memory p q r t act (Some x) e s d = (memory p q r t x act (record { thread = e; to = ap (step_of p q t act) e ∙ s }) (λ k. no_do act d k.0)).prints
-  where
-    no_do : (act : Act) → is_do act ≡ false → act ≡ acts.Do → ⊥
-    no_do act d k = let is : is_do act ≡ true = ap is_do k in cc
+other_prints memory p q r t act (Some x) e s d =
+    let no_do : (act : Act) → is_do act ≡ false → act ≡ acts.Do → ⊥ = λ act d k. let is : is_do act ≡ true = ap is_do k in cc in
+    (memory p q r t x act (record { thread = e; to = ap (step_of p q t act) e ∙ s }) (λ k. no_do act d k.0)).prints
 
 others_print : (memory : InstructionsChangeMemory) (p : Program) (t : ℕ) (more : List Act) (q r : Plain) → plain_run p q (steps_of t more) ≡ Some r → AreOthers more → r.prints ≡ q.prints
 others_print memory p t [] q r run k = sym (ap (λ (w : Plain). w.prints) (same_some run))
@@ -97,6 +96,10 @@ other_if : (b : Bool) (act : Act) → is_do act ≡ false → AreOthers (act_if 
 other_if true act d = (d, tt)
 other_if false act d = tt
 
+others_of : (acts : List Act) → AreQuiet acts → AreOthers acts
+others_of [] k = tt
+others_of (act ∷ acts) k = (k.0.0, others_of acts k.1)
+
 -- ---- no element is printed
 
 abbrev PrintsNot : Effect → Type 0
@@ -107,14 +110,9 @@ null_prints_not a e k = elim (a == 0) as (λ (b : Bool). PrintsNot (cond b (Thro
 
 element_prints_not : (p : Program) (next : ℕ) (target : Target) (op : Op) (stored : Option ℕ) (l s : List ℕ) → is_element_op stored op ≡ true → PrintsNot (effect p next target op l s)
 element_prints_not p next target ops.Iaload stored l (i ∷ a ∷ s) k = null_prints_not a (Indexes a i None) refl
-element_prints_not p next target ops.Iaload stored l (i ∷ []) k = refl
-element_prints_not p next target ops.Iaload stored l [] k = refl
 element_prints_not p next target ops.Iastore stored l (v ∷ i ∷ a ∷ s) k = null_prints_not a (Indexes a i (Some v)) refl
-element_prints_not p next target ops.Iastore stored l (v ∷ i ∷ []) k = refl
-element_prints_not p next target ops.Iastore stored l (v ∷ []) k = refl
-element_prints_not p next target ops.Iastore stored l [] k = refl
-element_prints_not p next target op None l s k = absurd (cc)
-element_prints_not p next target op (Some v) l s k = absurd (cc)
+element_prints_not p next target op None l s k = cc
+element_prints_not p next target op (Some v) l s k = cc
 
 abbrev pub ElementShows : Program → Phase → List Frame → Type 0
 ElementShows p (phases.Element word stored) frames = (at : Top) → top_of p frames ≡ Some at → value_of (effect_at p at) ≡ None
@@ -187,12 +185,10 @@ module _ (memory : InstructionsChangeMemory) (turn : Turn) (after : Plain) (got 
 
   thrown : (r : ℕ) (class : _) → x.status ≡ plain.Throw r class → plain_run c.program q (steps_of t (acts.Do ∷ [])) ≡ Some after → after.prints ≡ q.prints
   thrown r class status run =
+      let runs_not : plain.Throw r class ≡ plain.Run → ⊥ = λ e. cc in
       let f = first_step c.program q after (record { thread = t; act = acts.Do }) [] run in
       others_print memory c.program t [] f.to after f.rest tt
       ∙ (memory c.program q f.to t x acts.Do (record { thread = there; to = f.first }) (λ k. runs_not (sym status ∙ k.1))).prints
-    where
-      runs_not : plain.Throw r class ≡ plain.Run → ⊥
-      runs_not e = cc
 
   pub printed_at : (phase : Phase) → StatusFits (has_wait_bit (references_of q.objects) turn.s.words t) (at_phase phase) phase x.status → x.frames ≡ frames_shown phase s.frames → ElementShows c.program phase s.frames
       → plain_run c.program q (steps_of t (acts_of c (at_phase phase) phase got)) ≡ Some after
@@ -204,24 +200,6 @@ module _ (memory : InstructionsChangeMemory) (turn : Turn) (after : Plain) (got 
       [ None ↦ λ r. others [] r tt | Some h ↦ λ r. others (acts.Enter ∷ []) r (refl, tt) ]) run
   printed_at (phases.Take m count) status frames shows run = others _ run (other_if (got == word_of_lock (locks.Free count)) acts.Enter refl)
   printed_at (phases.TakeFat m r) status frames shows run = others _ run (other_if (got == 0) acts.Enter refl)
-  printed_at (phases.Leave m a) status frames shows run = by_held (held_at s.held m) run
-    where
-      quiet_release : (k : Kept) → AreOthers (release_acts (at_phase (phases.Leave m a)) k got)
-      quiet_release (keeps.Flat n) = other_if (got == word_of_lock (locks.Held s.number)) acts.Exit refl
-      quiet_release (keeps.Fat r) = (refl, tt)
-
-      quiet_leave : (b : Bool) (more : List Act) → AreOthers more → AreOthers (cond b (acts.Exit ∷ []) more)
-      quiet_leave true more k = (refl, tt)
-      quiet_leave false more k = k
-
-      by_held : (o : Option Held) → plain_run c.program q (steps_of t (history.leave_acts (at_phase (phases.Leave m a)) (claim_by m o None) got)) ≡ Some after → after.prints ≡ q.prints
-      by_held None r = others [] r tt
-      by_held (Some h) r = others _ r (quiet_leave (nat_lt 1 h.depth) _ (quiet_release h.kept))
-  printed_at phases.Start status frames shows run = others (acts.Begin ∷ []) run (refl, tt)
-  printed_at (phases.FlatOut m a) status frames shows run = others (acts.Exit ∷ []) run (refl, tt)
-  printed_at (phases.WaitOut m r) status frames shows run = others (acts.Wait ∷ []) run (refl, tt)
-  printed_at (phases.Retake m r depth) status frames shows run = others _ run (other_if (got == 0) acts.Retake refl)
-  printed_at (phases.NotifyLook m r) status frames shows run = others _ run (other_if (got == 0) (acts.Notify None) refl)
-  printed_at (phases.NotifyOne m r u) status frames shows run = others (acts.Notify (Some u) ∷ []) run (refl, tt)
-  printed_at (phases.NotifyAll m r) status frames shows run = others (acts.NotifyAll ∷ []) run (refl, tt)
-  printed_at phase status frames shows run = others [] run tt
+  printed_at (phases.Ending e) status frames shows run = others [] run tt
+  printed_at (phases.Ended e) status frames shows run = others [] run tt
+  printed_at phase status frames shows run = others (acts_of c (at_phase phase) phase got) run (others_of (acts_of c (at_phase phase) phase got) (quiet_acts turn after got phase tt (at_phase phase)))

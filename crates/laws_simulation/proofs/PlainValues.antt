@@ -77,8 +77,6 @@ module _ (p : Program) (objects : List Object) (s : Core) (q : Plain)
 pub value_found : SitesDiffer → (c : MarkedProgram) (objects : List Object) (s : Core) (q : Plain) → IsMarked c → HeapFacts c objects s → StandsBeside c.program objects s q
     → (site : Site) → IsPlace site → IsThere c.program objects s site → value_at q (site_word site) ≡ Some (slice_index s.words (site_word site))
 value_found differ c objects s q marked heap beside site k there =
+    let stored : IsPending s.threads (site_word site) → ⊥ = λ h. no_new site h.2 k (differ c objects s site (NewHeaderOf h.2) marked heap there (h.0, h.1, h.3, h.4, h.5) h.6) in
     let v = has_a_value c.program objects s q beside site k there in
     v.1 ∙ ap Some (sym (beside.agrees.places (site_word site) v.0 v.1 stored))
-  where
-    stored : IsPending s.threads (site_word site) → ⊥
-    stored h = no_new site h.2 k (differ c objects s site (NewHeaderOf h.2) marked heap there (h.0, h.1, h.3, h.4, h.5) h.6)

@@ -10,10 +10,9 @@ use Rattle.laws_simulation.proofs.{PlainPlaces.value_of_header, Scene.{Scene, Me
 use Rattle.machine_types.specs.declared.phase.Phase.TheVariants as phases
 
 made_as : (x y : Thread) (a b word other : ℕ) → x ≡ y → x.phase ≡ phases.Made a word → y.phase ≡ phases.Made b other → a ≡ b
-made_as x y a b word other e h k = same (sym h ∙ (ap (λ (z : Thread). z.phase) e ∙ k))
-  where
-    same : phases.Made a word ≡ phases.Made b other → a ≡ b
-    same e = cc
+made_as x y a b word other e h k =
+    let same : phases.Made a word ≡ phases.Made b other → a ≡ b = λ e. cc in
+    same (sym h ∙ (ap (λ (z : Thread). z.phase) e ∙ k))
 
 module _ (scene : Scene) (a word : ℕ) (made : scene.x.phase ≡ phases.Made a word)
     (new : Thread) (none : MakesNone new.phase) where

@@ -19,17 +19,13 @@ bit_by lock words t = by_lock lock
     by_lock lock = false
 
 pub thin_bit : (l : LockWord) (words : List ℕ) (t : ℕ) → ((r : ℕ) → l ≢ locks.Fat r) → bit_by l words t ≡ false
-thin_bit (locks.Free c) words t d = refl
-thin_bit (locks.Held u) words t d = refl
-thin_bit (locks.Flagged u) words t d = refl
 thin_bit (locks.Fat r) words t d = absurd (d r refl)
+thin_bit lock words t d = refl
 
 -- a fat lock whose waiting bits are the same
 pub kept_bit : (l : LockWord) (words after : List ℕ) (t : ℕ) → ((r : ℕ) → l ≡ locks.Fat r → slice_index after (bits_word r) ≡ slice_index words (bits_word r)) → bit_by l after t ≡ bit_by l words t
-kept_bit (locks.Free c) words after t e = refl
-kept_bit (locks.Held u) words after t e = refl
-kept_bit (locks.Flagged u) words after t e = refl
 kept_bit (locks.Fat r) words after t e = ap (λ (bits : ℕ). has_flag (bit_of t) bits) (e r refl)
+kept_bit lock words after t e = refl
 
 pub same_bit : (l k : LockWord) (words after : List ℕ) (t : ℕ) → k ≡ l → ((r : ℕ) → l ≡ locks.Fat r → slice_index after (bits_word r) ≡ slice_index words (bits_word r)) → bit_by k after t ≡ bit_by l words t
 same_bit l k words after t e f = ap (λ (j : LockWord). bit_by j after t) e ∙ kept_bit l words after t f

@@ -37,17 +37,13 @@ module _ (turn : Turn) (begins : IsAtEffect IsOfWaiting turn.c turn.x) where
   by_effect : (e : Effect) → effect_at c.program at ≡ e → effect_wants x at.frame.pc e ≡ None → (acts : List Act) (x2 : Thread) (behind : Plain) → instruction_acts x e 0 ≡ acts → instructed c.program (begun x) at e 0 ≡ x2
       → plain_run c.program q (steps_of t acts) ≡ Some behind → StandsBeside c.program objects (record { words = s.words; threads = slice_set s.threads t x2 }) behind → StepsBeside c objects s t x q
   by_effect e is none acts x2 behind ea em run beside =
+      let unwanted : wanted c x phases.Run ≡ None = ap (run_wants c.program x) found ∙ ap (effect_wants x at.frame.pc) is ∙ none in
+      let nothing : found_by s.words (wanted c x phases.Run) ≡ 0 = ap (found_by s.words) unwanted in
       stepped k s.words x2 acts behind refl
       (ap (run_acts c x (top_of c.program x.frames)) nothing ∙ ap (λ (o : Option Top). run_acts c x o 0) found ∙ ap (λ (f : Effect). instruction_acts x f 0) is ∙ ea)
       (ap (words_after s.words) unwanted)
       (ap (ran c.program x (top_of c.program x.frames)) nothing ∙ ap (λ (o : Option Top). ran c.program x o 0) found ∙ ap (λ (f : Effect). instructed c.program (begun x) at f 0) is ∙ em)
       run beside
-    where
-      unwanted : wanted c x phases.Run ≡ None
-      unwanted = ap (run_wants c.program x) found ∙ ap (effect_wants x at.frame.pc) is ∙ none
-
-      nothing : found_by s.words (wanted c x phases.Run) ≡ 0
-      nothing = ap (found_by s.words) unwanted
 
   does : (e : Effect) → effect_at c.program at ≡ e → (behind : Plain) → instructed_by c.program q t y at e ≡ Some behind → step_at c.program q t y acts.Do plain.Run ≡ Some behind
   does e is behind run = ap (plainly.plain_instructed c.program q t y) (ap (top_of c.program) (own_frames k) ∙ found) ∙ ap (instructed_by c.program q t y at) is ∙ run

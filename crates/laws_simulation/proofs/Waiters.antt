@@ -29,23 +29,16 @@ module _ {turn : Turn} where
   -- ---- it sets its bit
 
   pub bit_set : SitesLieInside → (m r : ℕ) → Moment turn (phases.WaitBit m r) → StepsBeside c objects s t x q
-  bit_set inside m r k = stepped k later (with_phase x (phases.WaitOut m r)) [] q refl refl refl refl refl
+  bit_set inside m r k =
+      let value : ℕ = bit_or (slice_index s.words (bits_word r)) (bit_of x.number) in
+      let later : List ℕ = slice_set s.words (bits_word r) value in
+      let fat : HasFat objects s.words t m r x = owning k t x m r turn.here (counted k (phases.WaitBit m r) (own_as k)).phase_shows.1 in
+      let same : (u : ℕ) → u ≢ t → has_flag (bit_of u) value ≡ is_bit_set s.words r u = λ u d. set_other (slice_index s.words (bits_word r)) x.number u (λ e. d (e ∙ own_number k)) in
+      stepped k later (with_phase x (phases.WaitOut m r)) [] q refl refl refl refl refl
       (quiet_beside k later (with_phase x (phases.WaitOut m r)) (bits_written s.words r value fat.low) (λ a word e. cc) (λ a word e. cc) refl (λ g. cc) refl turn.outside
       (record { frames = own_frames k; status = own_status k; roots = own_roots k })
       (own_ends k ∙ ends_alike c.program x.part (phases.WaitBit m r) (phases.WaitOut m r) refl)
       (λ u n d. bits_kept k later (bits_written s.words r value fat.low) u (λ i low. bits_else k inside r value u fat.low (same u d) i) n))
-    where
-      value : ℕ
-      value = bit_or (slice_index s.words (bits_word r)) (bit_of x.number)
-
-      later : List ℕ
-      later = slice_set s.words (bits_word r) value
-
-      fat : HasFat objects s.words t m r x
-      fat = owning k t x m r turn.here (counted k (phases.WaitBit m r) (own_as k)).phase_shows.1
-
-      same : (u : ℕ) → u ≢ t → has_flag (bit_of u) value ≡ is_bit_set s.words r u
-      same u d = set_other (slice_index s.words (bits_word r)) x.number u (λ e. d (e ∙ own_number k))
 
   -- ---- it gives the monitor up
 
@@ -108,34 +101,27 @@ module _ {turn : Turn} where
   look_on m r depth k e true = quiet_beside k s.words (Turned x true (phases.WaitLook m r depth)) (same_words s.words) (λ a word f. cc) (λ a word f. cc) refl (λ g. cc) refl turn.outside
       (record { frames = own_frames k; status = own_status k; roots = own_roots k })
       (own_ends k ∙ ends_alike c.program x.part (phases.WaitLook m r depth) (phases.WaitLook m r depth) refl) (λ u n d. refl)
-  look_on m r depth k e false = quiet_beside k s.words (Turned x false (phases.WaitLook m r depth)) (same_words s.words) (λ a word f. cc) (λ a word f. cc) refl (λ g. cc) refl turn.outside
-      (record { frames = own_frames k; status = record { waits = waits; awake = λ none. absurd (let clash : true ≡ false = sym bit ∙ none m in cc) }; roots = own_roots k })
-      (own_ends k ∙ ends_alike c.program x.part (phases.WaitLook m r depth) (phases.Ending ends.Turns) refl) (λ u n d. refl)
-    where
-      fat : lock_at (references_of objects) s.words m ≡ locks.Fat r
-      fat = knows k (phases.WaitLook m r depth) (own_as k)
-
-      bit : has_wait_bit (references_of q.objects) s.words t m ≡ true
-      bit = bit_now k t m r fat ∙ e
-
-      status : y.status ≡ plain.Waiting m depth
-      status = own_status k ∙ ap (λ (b : Bool). waiting_status b m depth) bit
-
-      waits : (n : ℕ) → has_wait_bit (references_of q.objects) s.words t n ≡ true → (d : ℕ) × (y.status ≡ plain.Waiting n d)
-      waits n g =
+  look_on m r depth k e false =
+      let fat : lock_at (references_of objects) s.words m ≡ locks.Fat r = knows k (phases.WaitLook m r depth) (own_as k) in
+      let bit : has_wait_bit (references_of q.objects) s.words t m ≡ true = bit_now k t m r fat ∙ e in
+      let status : y.status ≡ plain.Waiting m depth = own_status k ∙ ap (λ (b : Bool). waiting_status b m depth) bit in
+      let waits : (n : ℕ) → has_wait_bit (references_of q.objects) s.words t n ≡ true → (d : ℕ) × (y.status ≡ plain.Waiting n d) =
+          λ n g. 
           let b = set_in k s.words (same_words s.words) t n g in
           let one : b.0 ≡ r = (waits_now k (phases.WaitLook m r depth) (own_as k)).only b.0 (fat_low k n b.0 b.1) b.2 in
           let same : m ≡ n = fat_one k m n r fat (b.1 ∙ ap locks.Fat one) in
-          (depth, status ∙ ap (λ (i : ℕ). plain.Waiting i depth) same)
+          (depth, status ∙ ap (λ (i : ℕ). plain.Waiting i depth) same) in
+      quiet_beside k s.words (Turned x false (phases.WaitLook m r depth)) (same_words s.words) (λ a word f. cc) (λ a word f. cc) refl (λ g. cc) refl turn.outside
+      (record { frames = own_frames k; status = record { waits = waits; awake = λ none. absurd (let clash : true ≡ false = sym bit ∙ none m in cc) }; roots = own_roots k })
+      (own_ends k ∙ ends_alike c.program x.part (phases.WaitLook m r depth) (phases.Ending ends.Turns) refl) (λ u n d. refl)
 
   to_retake : (m r depth : ℕ) (k : Moment turn (phases.WaitLook m r depth)) → is_bit_set s.words r t ≡ false
       → StandsBeside c.program objects (record { words = s.words; threads = slice_set s.threads t (with_phase x (phases.Retake m r depth)) }) q
-  to_retake m r depth k e = quiet_beside k s.words (with_phase x (phases.Retake m r depth)) (same_words s.words) (λ a word f. cc) (λ a word f. cc) refl (λ g. cc) refl turn.outside
+  to_retake m r depth k e =
+      let status : y.status ≡ plain.Woken m depth = own_status k ∙ ap (λ (b : Bool). waiting_status b m depth) (bit_now k t m r (knows k (phases.WaitLook m r depth) (own_as k)) ∙ e) in
+      quiet_beside k s.words (with_phase x (phases.Retake m r depth)) (same_words s.words) (λ a word f. cc) (λ a word f. cc) refl (λ g. cc) refl turn.outside
       (record { frames = own_frames k; status = status; roots = own_roots k })
       (own_ends k ∙ ends_alike c.program x.part (phases.WaitLook m r depth) (phases.Retake m r depth) refl) (λ u n d. refl)
-    where
-      status : y.status ≡ plain.Woken m depth
-      status = own_status k ∙ ap (λ (b : Bool). waiting_status b m depth) (bit_now k t m r (knows k (phases.WaitLook m r depth) (own_as k)) ∙ e)
 
   pub looked : (m r depth : ℕ) → Moment turn (phases.WaitLook m r depth) → StepsBeside c objects s t x q
   looked m r depth k = elim (cases_Bool (is_bit_set s.words r t)) [
@@ -165,7 +151,30 @@ module _ {turn : Turn} where
       off n = own_off k s.words (same_words s.words) (λ i e. e) (phases.Retake m r depth) (own_as k) (λ i e. e) n
 
   retook : (m r depth : ℕ) (k : Moment turn (phases.Retake m r depth)) → (slice_index s.words (owner_word r) == 0) ≡ true → StepsBeside c objects s t x q
-  retook m r depth k e = stepped k later (retakes x m r depth) (acts.Retake ∷ []) behind refl (ap (λ (b : Bool). act_if b acts.Retake) e)
+  retook m r depth k e =
+      let fat : lock_at (references_of objects) s.words m ≡ locks.Fat r = knows k (phases.Retake m r depth) (own_as k) in
+      let goes : Bool = nat_lt x.counts.instructions x.cfg.steps in
+      let later : List ℕ = slice_set s.words (owner_word r) (x.number + 1) in
+      let written : AreRecordsWritten s.words later = owner_written s.words r (x.number + 1) (fat_low k m r fat) in
+      let entry : Held = record { monitor = m; kept = keeps.Fat r; depth = depth } in
+      let one : Holding = record { monitor = m; holder = t; depth = depth } in
+      let y2 : PlainThread = with_status y plain.Run in
+      let behind : Plain = record q { holdings = with_holding one q.holdings; threads = slice_set q.threads t y2 } in
+      -- the record has no owner, so no thread holds the monitor
+      let no_owner : owner_at s.words r ≡ 0 =
+          elim (nat_lt r MONITOR_RECORDS) as (λ (b : Bool). cond b (slice_index s.words (owner_word r)) 0 ≡ 0) [ true ↦ grind (arith, nat_tests, e) | false ↦ refl ] in
+      let none_has : (u : ℕ) (z : Thread) → slice_get s.threads u ≡ Some z → held_at z.held m ≡ None =
+          λ u z g. 
+          let holds : hold_by_word u (lock_at (references_of objects) s.words m) (owner_at s.words) ≡ hold_by_list (held_at z.held m) = (turn.facts.owners.each u z g).holds m in
+          let none : hold_by_word u (lock_at (references_of objects) s.words m) (owner_at s.words) ≡ NotHeld = ap (λ (l : LockWord). hold_by_word u l (owner_at s.words)) fat ∙ ap (λ (b : Bool). cond b (HeldFat r) NotHeld) (ne_eqb (owner_at s.words r) (u + 1) (λ f. absurd (omega (arith, f, no_owner)))) in
+          not_held (held_at z.held m) (sym holds ∙ none) in
+      let nobody : holding_at q.holdings m ≡ None = free_then q.holdings s.threads (holdings_alike k) m none_has in
+      let step : retaken q t m depth y (holding_at q.holdings m) ≡ Some behind = ap (retaken q t m depth y) nobody in
+      let kept : (u n : ℕ) → has_wait_bit (references_of q.objects) later u n ≡ has_wait_bit (references_of q.objects) s.words u n =
+          λ u n. bits_kept k later written u (λ i low. owner_keeps_bits s.words r (x.number + 1) i u) n in
+      let off : (n : ℕ) → has_wait_bit (references_of q.objects) later t n ≡ false =
+          λ n. kept t n ∙ own_off k s.words (same_words s.words) (λ i f. f) (phases.Retake m r depth) (own_as k) (λ i f. f) n in
+      stepped k later (retakes x m r depth) (acts.Retake ∷ []) behind refl (ap (λ (b : Bool). act_if b acts.Retake) e)
       (ap (λ (b : Bool). slice_set s.words (owner_word r) (if b then x.number + 1 else slice_index s.words (owner_word r))) e)
       (ap (λ (b : Bool). cond b (retakes x m r depth) (failed_turn x (phases.Retake m r depth))) e)
       (first_step c.program q behind t y acts.Retake [] (plain.Woken m depth) twin (own_status k) step)
@@ -175,52 +184,6 @@ module _ {turn : Turn} where
       (runs_outside c.program (has_wait_bit (references_of q.objects) later t) (record x { held = with_held entry x.held }) y2 off (own_frames k) refl (own_roots k))
       (own_ends k ∙ ends_alike c.program x.part (phases.Retake m r depth) (cond goes phases.Run (phases.Ending ends.Steps)) (sym (run_end goes)))
       (λ u n d. kept u n))
-    where
-      fat : lock_at (references_of objects) s.words m ≡ locks.Fat r
-      fat = knows k (phases.Retake m r depth) (own_as k)
-
-      goes : Bool
-      goes = nat_lt x.counts.instructions x.cfg.steps
-
-      later : List ℕ
-      later = slice_set s.words (owner_word r) (x.number + 1)
-
-      written : AreRecordsWritten s.words later
-      written = owner_written s.words r (x.number + 1) (fat_low k m r fat)
-
-      entry : Held
-      entry = record { monitor = m; kept = keeps.Fat r; depth = depth }
-
-      one : Holding
-      one = record { monitor = m; holder = t; depth = depth }
-
-      y2 : PlainThread
-      y2 = with_status y plain.Run
-
-      behind : Plain
-      behind = record q { holdings = with_holding one q.holdings; threads = slice_set q.threads t y2 }
-
-      -- the record has no owner, so no thread holds the monitor
-      no_owner : owner_at s.words r ≡ 0
-      no_owner = elim (nat_lt r MONITOR_RECORDS) as (λ (b : Bool). cond b (slice_index s.words (owner_word r)) 0 ≡ 0) [ true ↦ grind (arith, nat_tests, e) | false ↦ refl ]
-
-      none_has : (u : ℕ) (z : Thread) → slice_get s.threads u ≡ Some z → held_at z.held m ≡ None
-      none_has u z g =
-          let holds : hold_by_word u (lock_at (references_of objects) s.words m) (owner_at s.words) ≡ hold_by_list (held_at z.held m) = (turn.facts.owners.each u z g).holds m in
-          let none : hold_by_word u (lock_at (references_of objects) s.words m) (owner_at s.words) ≡ NotHeld = ap (λ (l : LockWord). hold_by_word u l (owner_at s.words)) fat ∙ ap (λ (b : Bool). cond b (HeldFat r) NotHeld) (ne_eqb (owner_at s.words r) (u + 1) (λ f. absurd (omega (arith, f, no_owner)))) in
-          not_held (held_at z.held m) (sym holds ∙ none)
-
-      nobody : holding_at q.holdings m ≡ None
-      nobody = free_then q.holdings s.threads (holdings_alike k) m none_has
-
-      step : retaken q t m depth y (holding_at q.holdings m) ≡ Some behind
-      step = ap (retaken q t m depth y) nobody
-
-      kept : (u n : ℕ) → has_wait_bit (references_of q.objects) later u n ≡ has_wait_bit (references_of q.objects) s.words u n
-      kept u n = bits_kept k later written u (λ i low. owner_keeps_bits s.words r (x.number + 1) i u) n
-
-      off : (n : ℕ) → has_wait_bit (references_of q.objects) later t n ≡ false
-      off n = kept t n ∙ own_off k s.words (same_words s.words) (λ i f. f) (phases.Retake m r depth) (own_as k) (λ i f. f) n
 
   pub took_back : (m r depth : ℕ) → Moment turn (phases.Retake m r depth) → StepsBeside c objects s t x q
   took_back m r depth k = elim (cases_Bool (slice_index s.words (owner_word r) == 0)) [

@@ -1,11 +1,12 @@
 -- A plain thread that waits on a monitor has its bit set in the record of the monitor's lock; so where the lock is not fat nobody
 -- waits on the monitor.
-use Rattle.std.proofs.Common.{◌≡◌, ◌≢◌, ◌⊎◌, inl, inr, ℕ, zero, suc, Bool, true, false, cond, List, [], ◌∷◌, Option, Some, None, refl, sym, ap, ◌∙◌, arith, ⊎_elim, slice_get, slice_index, map, ◌==◌, ◌||◌}
+use Rattle.std.proofs.Common.{◌≡◌, ◌≢◌, ◌⊎◌, inl, inr, ℕ, zero, suc, Bool, true, false, cond, List, [], ◌∷◌, Option, Some, None, refl, sym, ap, ◌∙◌, arith, ⊎_elim, slice_get, map, ◌==◌, ◌||◌}
 use Rattle.std.{specs.List.list_any, proofs.lemmas.{Bool.{cases_Bool, Decides.Decides-eqb}, Option.slice_get_cases}}
-use Rattle.jvm_types.specs.{Numbers.has_flag, declared.{outcome.End.End, program.Program.Program}}
-use Rattle.machine_types.specs.{Agreement.{has_wait_bit, toward_status, waiting_status, start_status, LimitFits, EndingFits, StatusFits, ThreadFits, Agrees}, Core.Core, Monitors.bit_of}
+use Rattle.jvm_types.specs.{declared.{outcome.End.End, program.Program.Program}}
+use Rattle.machine_types.specs.{Agreement.{has_wait_bit, toward_status, waiting_status, start_status, LimitFits, EndingFits, StatusFits, ThreadFits, Agrees}, Core.Core}
 use Rattle.machine_types.specs.{Owners.{lock_at, references_of}, PlainState.{Status, PlainThread, Plain, with_status}, PlainSteps.{waits_on, woken, wakes}, Threads.{Attempt, Thread}}
-use Rattle.machine_types.{specs.{Waiting.is_bit_set, Words.bits_word, declared.{lock.{Held.Held, LockWord.LockWord}, phase.{Phase.Phase, Toward.Toward}}}, proofs.Lists.got_below}
+use Rattle.machine_types.{specs.{Waiting.is_bit_set, declared.{lock.{Held.Held, LockWord.LockWord}, phase.{Phase.Phase, Toward.Toward}}}, proofs.Lists.got_below}
+use Rattle.laws_simulation.proofs.WaitBits.{bit_by}
 use Rattle.jvm_types.specs.declared.outcome.End.TheVariants as ends
 use Rattle.machine_types.specs.declared.lock.LockWord.TheVariants as locks
 use Rattle.machine_types.specs.PlainState as plain
@@ -20,16 +21,12 @@ pub record IsBitIn (references words : List ℕ) (t m : ℕ) : Type 0 where
   pub fat : lock_at references words m ≡ locks.Fat r
   pub set : is_bit_set words r t ≡ true
 
-abbrev pub bit_by : (words : List ℕ) (t : ℕ) → LockWord → Bool
-bit_by words t (locks.Fat r) = has_flag (bit_of t) (slice_index words (bits_word r))
-bit_by words t lock = false
-
 pub bit_of_fat : (references words : List ℕ) (t m r : ℕ) → lock_at references words m ≡ locks.Fat r → has_wait_bit references words t m ≡ is_bit_set words r t
-bit_of_fat references words t m r e = ap (bit_by words t) e
+bit_of_fat references words t m r e = ap (λ (l : LockWord). bit_by l words t) e
 
 pub bit_in : (references words : List ℕ) (t m : ℕ) → has_wait_bit references words t m ≡ true → IsBitIn references words t m
-bit_in references words t m e = (elim (lock_at references words m) as (λ (l : LockWord). lock_at references words m ≡ l → bit_by words t l ≡ true → IsBitIn references words t m)
-    [ locks.Fat r ↦ λ f g. record { r = r; fat = f; set = g } | locks.Free c ↦ λ f g. absurd (cc) | locks.Held u ↦ λ f g. absurd (cc) | locks.Flagged u ↦ λ f g. absurd (cc) ]) refl e
+bit_in references words t m e = (elim (lock_at references words m) as (λ (l : LockWord). lock_at references words m ≡ l → bit_by l words t ≡ true → IsBitIn references words t m)
+    [ locks.Fat r ↦ λ f g. record { r = r; fat = f; set = g } | lock ↦ λ f g. absurd (cc) ]) refl e
 
 -- ---- a thread whose plain status is that it waits
 

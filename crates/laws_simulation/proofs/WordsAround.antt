@@ -84,26 +84,23 @@ module _ (lies : StartLiesApart) (scene : Scene) where
   no_place : (n a v : ℕ) → HasObject q.objects n → value_at q a ≡ Some v → a ≢ n
   no_place n a v k e f = no_lock_place c.program q beside.apart k.0 v k.1 (ap (value_at q) (k.2 ∙ sym f) ∙ e)
 
-  -- a lock that was no fat one, and becomes none
-  pub thin_stays : (n value : ℕ) → HasObject objects n → ((r : ℕ) → lock_at (references_of objects) s.words n ≢ locks.Fat r) → ((r : ℕ) → lock_of value ≢ locks.Fat r) → WordsStay objects s q (slice_set s.words n value)
-  thin_stays n value k was now = record {
+  lock_stays : (n value : ℕ) → HasObject objects n → ((t m : ℕ) → has_wait_bit (references_of objects) (slice_set s.words n value) t m ≡ has_wait_bit (references_of objects) s.words t m) → WordsStay objects s q (slice_set s.words n value)
+  lock_stays n value k bits = record {
     places = λ a v e. set_there s.words n a value (no_place n a v (plain_object n k) e);
     free = set_there s.words n NEXT_FREE_WORD value (λ e. let high = lock_high n k in omega (arith, e, high));
     tickets = set_there s.words n NEXT_TICKET_WORD value (λ e. let high = lock_high n k in omega (arith, e, high));
     new = λ m h. set_there s.words n m value (new_apart (LockOf n) m k (λ e. cc) h);
-    bits = bits_when_thin scene n value k was now;
+    bits = bits;
   }
+
+  -- a lock that was no fat one, and becomes none
+  pub thin_stays : (n value : ℕ) → HasObject objects n → ((r : ℕ) → lock_at (references_of objects) s.words n ≢ locks.Fat r) → ((r : ℕ) → lock_of value ≢ locks.Fat r) → WordsStay objects s q (slice_set s.words n value)
+  thin_stays n value k was now = lock_stays n value k (bits_when_thin scene n value k was now)
 
   -- one that becomes fat, with a record where nobody waits
   pub fat_stays : (n value r : ℕ) → HasObject objects n → ((k : ℕ) → lock_at (references_of objects) s.words n ≢ locks.Fat k) → lock_of value ≡ locks.Fat r → r < MONITOR_RECORDS → ((t : ℕ) → is_bit_set s.words r t ≡ false)
       → WordsStay objects s q (slice_set s.words n value)
-  fat_stays n value r k was now l none = record {
-    places = λ a v e. set_there s.words n a value (no_place n a v (plain_object n k) e);
-    free = set_there s.words n NEXT_FREE_WORD value (λ e. let high = lock_high n k in omega (arith, e, high));
-    tickets = set_there s.words n NEXT_TICKET_WORD value (λ e. let high = lock_high n k in omega (arith, e, high));
-    new = λ m h. set_there s.words n m value (new_apart (LockOf n) m k (λ e. cc) h);
-    bits = bits_when_fat scene n value r k was now l none;
-  }
+  fat_stays n value r k was now l none = lock_stays n value k (bits_when_fat scene n value r k was now l none)
 
   -- ---- an owner, and the next record
 

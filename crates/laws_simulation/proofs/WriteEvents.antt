@@ -15,12 +15,8 @@ use Rattle.machine_types.specs.declared.plain.Act.TheVariants as acts
 -- ---- a variable is a field or a static field
 
 value_site : (kind : Kind) (site : Site) → Suits (kind_content kind) site → IsValueSite site
-value_site kinds.Int (ValueOf reference index) k = tt
-value_site kinds.Int (StaticAt word) k = tt
-value_site kinds.Bool (ValueOf reference index) k = tt
-value_site kinds.Bool (StaticAt word) k = tt
-value_site (kinds.Ref class) (ValueOf reference index) k = tt
-value_site (kinds.Ref class) (StaticAt word) k = tt
+value_site kind (ValueOf reference index) k = tt
+value_site kind (StaticAt word) k = tt
 value_site kinds.Int site k = absurd k
 value_site kinds.Bool site k = absurd k
 value_site (kinds.Ref class) site k = absurd k
