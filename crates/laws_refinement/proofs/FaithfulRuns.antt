@@ -1,6 +1,6 @@
 -- A run stands for a plain run, event by event, with the objects that are under construction and with what is due of attempts.
 use Rattle.std.proofs.Common.{◌≡◌, ◌≢◌, ℕ, ◌+◌, Bool, true, false, List, [], ◌∷◌, ◌++◌, length, Option, Some, None, refl, sym, ap, ◌∙◌, subst, arith, append_assoc, ◌==◌, replicate, slice_get, slice_set, slice_index, slice_index_or, if◌then◌else◌}
-use Rattle.std.{specs.List.range_with_len, proofs.lemmas.{Bool.Decides.{nat_tests, Decides-eqb}, List.{append-nil, get_or-set_other, get_or-set_same, length-replicate, length-set}, Option.slice_get_within}}
+use Rattle.std.{proofs.lemmas.{Bool.Decides.{nat_tests, Decides-eqb}, List.{append-nil, get_or-set_other, get_or-set_same, length-replicate, length-set}, Option.slice_get_within}}
 use Rattle.lists.proofs.ListLaws.{same_some}
 use Rattle.jvm_types.specs.declared.fixed_words.TheConstants.{NEXT_FREE_WORD}
 use Rattle.checked_program.specs.MarkedProgram.{MarkedProgram, IsMarked}
@@ -264,7 +264,7 @@ module _ (beginning : Beginning) where
         let nothing : OwesNothing (slice_index_or (replicate (c.program.workers + 1) no_past) t no_past) =
         subst OwesNothing (sym (all_one (c.program.workers + 1) t no_past)) (record { due = refl; pending = refl }) in
         owes_none c nowhere (start_objects c.program) no_builders (start c cfg) t (phase_at_start c cfg t) x x.attempt (slice_index_or (replicate (c.program.workers + 1) no_past) t no_past) (laws.start_untried c cfg t x e) nothing;
-    counts = λ t x e. subst (λ (p : Past). Counted c [] t x p) (sym (all_one (c.program.workers + 1) t no_past)) (counted_at_start c cfg (range_with_len 0 (c.program.workers + 1)) t x e);
+    counts = λ t x e. subst (λ (p : Past). Counted c [] t x p) (sym (all_one (c.program.workers + 1) t no_past)) (counted_at_start c cfg t x e);
     prints = start_has_prints c cfg;
     keep_none = start_keeps_none c cfg;
   }

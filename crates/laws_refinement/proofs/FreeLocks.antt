@@ -112,9 +112,7 @@ module _ (c : MarkedProgram) (x : Thread) (m n got : ℕ) (last : n < x.cfg.rang
         leaves WasNoted access got stays _ w (swapped (word_of_lock (locks.Held u)) (word_of_lock (locks.Flagged u)) (λ e. omega (arith, e)))
     phase_leaves (phases.Leave b after) flat w suits = leave_leaves b (held_at x.held b) x.attempt refl w suits
     phase_leaves (phases.FlatOut b after) flat w suits =
+        let same_access : (a : Access) → Some a ≡ Some access → accessed a ≡ accessed access = λ a e. let same : a ≡ access = cc in ap accessed same in
         leaves WasNoted access got stays _ w (flat_out_leaves b (held_at x.held b) refl (flat b after refl) (let same = same_access _ w in sym same))
-      where
-        same_access : (a : Access) → Some a ≡ Some access → accessed a ≡ accessed access
-        same_access a e = let same : a ≡ access = cc in ap accessed same
     phase_leaves (phases.FatIn b r toward) flat w suits = leaves WasNoted access got stays _ w (never (word_of_lock (locks.Fat r)) (λ e. omega (arith, e)))
     phase_leaves phase flat w suits = absurd suits

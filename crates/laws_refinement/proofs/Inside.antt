@@ -67,11 +67,8 @@ module _ (may_do : InsideMayDo) (elements : ElementsInside) (c : MarkedProgram) 
   StandsAt phase = Stands c phase x.frames x.held (Some a) × AttemptStands c phase x.frames x.held a
 
   -- a part that ended has no frame
-  not_ending : (e : End) → StandsAt (phases.Ending e) → ⊥
-  not_ending e k = let none : length x.frames ≡ 0 = ap length k.0.phase_shows in let some = k.1.based in omega (arith, none, some)
-
-  not_ended : (e : End) → StandsAt (phases.Ended e) → ⊥
-  not_ended e k = let none : length x.frames ≡ 0 = ap length k.0.phase_shows in let some = k.1.based in omega (arith, none, some)
+  no_frame : x.frames ≡ [] → a.base < length x.frames → ⊥
+  no_frame none some = let long : length x.frames ≡ 0 = ap length none in omega (arith, long, some)
 
   known_at : (phase was : Phase) → IsAs phase was → StandsAt was → KnownInside c x a phase
   known_at phases.Run was is k =
@@ -84,8 +81,8 @@ module _ (may_do : InsideMayDo) (elements : ElementsInside) (c : MarkedProgram) 
   known_at (phases.Throw r class) was is k = tt
   known_at (phases.Enter n tried) was is k = let now = subst StandsAt is k in tries_it x a n attempt now.1.not_held now.1.inside
   known_at (phases.Leave n b) was is k = let now = subst StandsAt is k in tries_it x a n attempt now.1.not_held now.1.inside
-  known_at (phases.Ending e) was is k = by_limit e (phases.Ending e) was is (λ same. not_ending e (subst StandsAt same k))
-  known_at (phases.Ended e) was is k = by_limit e (phases.Ended e) was is (λ same. not_ended e (subst StandsAt same k))
+  known_at (phases.Ending e) was is k = by_limit e (phases.Ending e) was is (λ same. no_frame (subst StandsAt same k).0.phase_shows (subst StandsAt same k).1.based)
+  known_at (phases.Ended e) was is k = by_limit e (phases.Ended e) was is (λ same. no_frame (subst StandsAt same k).0.phase_shows (subst StandsAt same k).1.based)
   known_at phase was is k = let now = subst StandsAt is k in now.1.inside
 
   pub is_inside : (was : Phase) → IsStructured c was x → Inside c x a

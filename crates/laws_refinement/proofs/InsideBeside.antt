@@ -36,18 +36,12 @@ by_end : (e : End) → has_finished e ≡ false → (if has_finished e then e �
 by_end e k = ap (λ (b : Bool). if b then e ∷ [] else []) k
 
 still_inside : (c : MarkedProgram) (objects : List Object) (x : Thread) (a : Attempt) (phase : Phase) → KnownInside c x a phase → IsStill c.program objects phase
-still_inside c objects x a phases.Run k = record { own = refl; makes = λ r word e. cc; rests = λ e. cc; same = refl }
-still_inside c objects x a (phases.Element word stored) k =
-    record { own = refl; makes = λ r v e. cc; rests = λ e. cc; same = refl }
-still_inside c objects x a (phases.Throw r class) k = record { own = refl; makes = λ r word e. cc; rests = λ e. cc; same = refl }
-still_inside c objects x a (phases.Enter n tried) k = record { own = refl; makes = λ r word e. cc; rests = λ e. cc; same = refl }
-still_inside c objects x a (phases.Leave n b) k = record { own = refl; makes = λ r word e. cc; rests = λ e. cc; same = refl }
 still_inside c objects x a (phases.Ending e) k = record { own = by_end e k; makes = λ r word e. cc; rests = λ e. cc; same = refl }
-still_inside c objects x a (phases.Ended e) k = record { own = by_end e k; makes = λ r word e. cc; rests = λ same. (let clash : true ≡ false = sym (ap has_finished (ended_by same)) ∙ k in cc); same = refl }
-  where
-    ended_by : phases.Ended e ≡ phases.Ended ends.Returned → e ≡ ends.Returned
-    ended_by same = cc
-still_inside c objects x a phase k = absurd k
+still_inside c objects x a (phases.Ended e) k =
+    let ended_by : phases.Ended e ≡ phases.Ended ends.Returned → e ≡ ends.Returned = λ same. cc in
+    record { own = by_end e k; makes = λ r word e. cc; rests = λ same. (let clash : true ≡ false = sym (ap has_finished (ended_by same)) ∙ k in cc); same = refl }
+still_inside c objects x a (phases.Made r word) k = absurd k
+still_inside c objects x a phase k = record { own = refl; makes = λ r word e. cc; rests = λ e. cc; same = refl }
 
 -- ---- the thread still fits its plain thread
 

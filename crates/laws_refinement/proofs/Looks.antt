@@ -2,7 +2,7 @@
 use Rattle.std.proofs.Common.{ℕ, zero, suc, Bool, true, false, cond, Option, Some, None, refl, sym, subst}
 use Rattle.checked_program.specs.MarkedProgram.{MarkedProgram}
 use Rattle.machine_types.specs.{Elision.{looks, is_checked}, Events.{element_wants, wanted}, Frames.{Top, effect_at}, Instructions.{effect_wants, run_wants}, Monitors.{Claim, enter_wants, leave_wants, finish_wants}}
-use Rattle.machine_types.specs.{Threads.{Attempt, Thread}, declared.{access.Access.Access, effect.Effect.{Effect, TheVariants.{Goes, Reads, Writes, Indexes, Measures, Raises, Makes, Prints, Calls}}}}
+use Rattle.machine_types.specs.{Threads.{Attempt, Thread}, declared.{access.Access.Access, effect.Effect.{Effect, TheVariants.{Goes, Prints, Calls}}}}
 use Rattle.machine_types.specs.declared.phase.Phase.{Phase}
 use Rattle.laws_threads.specs.InsideEffects.{MayDo}
 use Rattle.laws_refinement.{specs.Entries.{IsLook, OnlyLooks}, proofs.Inside.KnownInside}
@@ -21,15 +21,8 @@ module _ (c : MarkedProgram) (x : Thread) (a : Attempt) where
   effect_look pc at (Goes to made) may = (elim (is_checked pc (Goes to made)) as (λ (b : Bool). (access : Option Access) → IsLook access → IsLook (cond b access None))
       [ true ↦ λ access k. k | false ↦ λ access k. tt ]) (looks x.attempt) (attempt_look x.attempt)
   effect_look pc at (Calls number) may = attempt_look x.attempt
-  effect_look pc at (Reads v) may = tt
-  effect_look pc at (Measures array) may = tt
-  effect_look pc at (Raises r) may = tt
-  effect_look pc at (Writes v word) may = absurd may
-  effect_look pc at (Indexes array index None) may = tt
-  effect_look pc at (Indexes array index (Some v)) may = absurd may
-  effect_look pc at (Makes word size) may = absurd may
   effect_look pc at (Prints n) may = absurd may
-  effect_look pc at e may = tt
+  effect_look pc at e may = assumption
 
   pub only_looks : (phase : Phase) → KnownInside c x a phase → OnlyLooks phase (wanted c x phase)
   only_looks phases.Run k = subst (λ (o : Option Top). IsLook (run_wants c.program x o)) (sym k.found) (effect_look k.at.frame.pc k.at (effect_at c.program k.at) k.may)

@@ -103,10 +103,9 @@ module _ (p : Program) (tags : Tagged) (uses : Uses) (method pc : ℕ) where
         by_test false same (suc k) below e more = more k (omega (arith, below)) e
 
 pub enters_by_mark : (c : MarkedProgram) → IsMarked c → (frames : List Frame) → IsAtMarked c frames → enters_marked c frames ≡ true
-enters_by_mark c marked frames at = subst (λ (fs : List Frame). enters_marked c fs ≡ true) (sym at.is) (passes
+enters_by_mark c marked frames at =
+    let spot : at.mark.spot ≡ entered_at at.frame.pc = is_entered at.mark.spot at.frame.pc at.spot in
+    subst (λ (fs : List Frame). enters_marked c fs ≡ true) (sym at.is) (passes
     c.program (tags_of c) marked.marks.uses at.frame.method at.frame.pc at.mark at.of_method spot
     (is_free c.program (tags_of c) marked.marks.uses at.frame.method at.frame.pc at.mark at.of_method spot (sections c.program) c.marks marked.marks.each at.there.0 at.there.1 at.there.2 at.none)
     (sections c.program) c.marks marked.marks.each at.there.0 at.there.1 at.there.2)
-  where
-    spot : at.mark.spot ≡ entered_at at.frame.pc
-    spot = is_entered at.mark.spot at.frame.pc at.spot

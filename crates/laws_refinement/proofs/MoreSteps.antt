@@ -1,10 +1,11 @@
 -- What behind some steps of the plain machine, or at the start, is known of steps and counts.
-use Rattle.std.proofs.Common.{◌≡◌, ℕ, zero, suc, ◌+◌, List, [], ◌∷◌, ◌++◌, map, Option, Some, None, refl, ap, subst, arith, replicate, option_and_then, slice_get, slice_index_or}
+use Rattle.std.proofs.Common.{◌≡◌, ℕ, zero, suc, ◌+◌, List, [], ◌∷◌, ◌++◌, Option, Some, None, refl, ap, subst, arith, replicate, option_and_then, slice_get, slice_index_or}
 use Rattle.lists.proofs.ListLaws.{same_some}
 use Rattle.jvm_types.specs.declared.program.Program.{Program}
 use Rattle.checked_program.specs.MarkedProgram.{MarkedProgram}
-use Rattle.machine_types.specs.{Core.start_thread, Counting.{count_from, count_along, CountsFit}, History.{Past, no_past}, Parts.init_roots, PlainState.Plain, PlainSteps.{plain_step, plain_run}}
+use Rattle.machine_types.specs.{Core.{start, start_thread}, Counting.{count_from, count_along, CountsFit}, History.{Past, no_past}, Parts.init_roots, PlainState.Plain, PlainSteps.{plain_step, plain_run}}
 use Rattle.machine_types.specs.{Threads.Thread, declared.{config.Config.Config, plain.PlainStep.PlainStep}}
+use Rattle.machine_types.proofs.AtStart.{is_start_thread}
 use Rattle.laws_simulation.proofs.PlainCounts.{counts_append}
 use Rattle.laws_refinement.proofs.SameCounts.{part_extra}
 
@@ -39,7 +40,5 @@ fits_at_start : (c : MarkedProgram) (cfg : Config) (n : ℕ) → CountsFit (star
 fits_at_start c cfg zero = let none = part_extra (init_roots c.program) in record { instructions = omega (arith, none); sections = refl }
 fits_at_start c cfg (suc n) = record { instructions = refl; sections = refl }
 
-pub counted_at_start : (c : MarkedProgram) (cfg : Config) (ns : List ℕ) (t : ℕ) (x : Thread) → slice_get (map (start_thread c cfg) ns) t ≡ Some x → CountsFit x no_past 0 0
-counted_at_start c cfg [] t x e = absurd (cc)
-counted_at_start c cfg (n ∷ ns) zero x e = subst (λ (z : Thread). CountsFit z no_past 0 0) (same_some e) (fits_at_start c cfg n)
-counted_at_start c cfg (n ∷ ns) (suc t) x e = counted_at_start c cfg ns t x e
+pub counted_at_start : (c : MarkedProgram) (cfg : Config) (t : ℕ) (x : Thread) → slice_get (start c cfg).threads t ≡ Some x → CountsFit x no_past 0 0
+counted_at_start c cfg t x e = subst (λ (z : Thread). CountsFit z no_past 0 0) (is_start_thread c cfg t x e) (fits_at_start c cfg t)

@@ -1,10 +1,12 @@
 -- Where a part of the run may begin, no thread is in an attempt.
-use Rattle.std.{proofs.Common.{◌≡◌, ℕ, zero, suc, Bool, true, false, cond, List, [], ◌∷◌, Some, None, refl, ap, subst, slice_get}, specs.List.{AllByRecursion, list_all}}
-use Rattle.lists.proofs.{ListLaws.same_some, TestLaws.both_are_true}
+use Rattle.std.{proofs.Common.{◌≡◌, ℕ, zero, suc, Bool, true, false, cond, List, [], ◌∷◌, Some, None, refl, ap, subst, slice_get}}
+use Rattle.lists.proofs.{ListLaws.same_some}
 use Rattle.jvm_types.specs.declared.program.Program.{Program}
+use Rattle.laws_programs.proofs.LocalGoing.{at_index}
 use Rattle.checked_program.specs.MarkedProgram.{MarkedProgram}
 use Rattle.machine_types.specs.{Core.{ended_by, may_begin_by, may_begin, part_begins, next_threads}, Parts.{has_returned, has_finished}, Structure.{IsStructured, Structure}, Threads.Thread}
 use Rattle.machine_types.specs.declared.phase.Phase.{Phase}
+use Rattle.machine_types.proofs.Lists.{every}
 use Rattle.laws_threads.specs.PartLaws.{PartFits, PartsFit}
 use Rattle.laws_simulation.proofs.{NextBeside.idle_attempt, PartsDue.no_attempt}
 use Rattle.jvm_types.specs.declared.outcome.End.TheVariants as ends
@@ -23,22 +25,12 @@ returned_finished phase e = absurd (cc)
 
 -- ---- all of them
 
-one_idle : (workers : List Thread) (u : ℕ) (z : Thread) → AllByRecursion (λ w. w.phase ≡ phases.Idle) workers → slice_get workers u ≡ Some z → z.phase ≡ phases.Idle
-one_idle [] u z all e = absurd (cc)
-one_idle (y ∷ workers) zero z all e = subst (λ (w : Thread). w.phase ≡ phases.Idle) (same_some e) all.0
-one_idle (y ∷ workers) (suc u) z all e = one_idle workers u z all.1 e
-
-one_finished : (workers : List Thread) (u : ℕ) (z : Thread) → list_all (λ w. ended_by has_finished w.phase) workers ≡ true → slice_get workers u ≡ Some z → ended_by has_finished z.phase ≡ true
-one_finished [] u z all e = absurd (cc)
-one_finished (y ∷ workers) zero z all e = subst (λ (w : Thread). ended_by has_finished w.phase ≡ true) (same_some e) (both_are_true (ended_by has_finished y.phase) (list_all (λ w. ended_by has_finished w.phase) workers) all).0
-one_finished (y ∷ workers) (suc u) z all e = one_finished workers u z (both_are_true (ended_by has_finished y.phase) (list_all (λ w. ended_by has_finished w.phase) workers) all).1 e
-
 module _ (c : MarkedProgram) (was : ℕ → Phase) (x : Thread) (workers : List Thread) (structure : Structure c was (x ∷ workers)) where
   by_part : (part : ℕ) → may_begin_by part x.phase workers ≡ true → PartFits part x.phase workers → (t : ℕ) (z : Thread) → slice_get (x ∷ workers) t ≡ Some z → z.attempt ≡ None
   by_part zero may fits zero z e = subst (λ (w : Thread). w.attempt ≡ None) (same_some e) (ended_untried c (was 0) x x.phase refl (returned_finished x.phase may) (structure 0 x refl))
-  by_part zero may fits (suc u) z e = idle_attempt c (was (suc u)) z (one_idle workers u z fits e) (structure (suc u) z e)
+  by_part zero may fits (suc u) z e = idle_attempt c (was (suc u)) z (at_index (λ (w : Thread). w.phase ≡ phases.Idle) workers u z fits e) (structure (suc u) z e)
   by_part (suc zero) may fits zero z e = subst (λ (w : Thread). w.attempt ≡ None) (same_some e) (no_attempt c (was 0) x ends.Returned refl fits (structure 0 x refl))
-  by_part (suc zero) may fits (suc u) z e = ended_untried c (was (suc u)) z z.phase refl (one_finished workers u z may e) (structure (suc u) z e)
+  by_part (suc zero) may fits (suc u) z e = ended_untried c (was (suc u)) z z.phase refl (every (λ (w : Thread). ended_by has_finished w.phase) workers may u z e) (structure (suc u) z e)
   by_part (suc (suc part)) may fits t z e = absurd (cc)
 
 pub none_tries : (c : MarkedProgram) (was : ℕ → Phase) (threads : List Thread) → may_begin threads ≡ true → PartsFit threads → Structure c was threads → (t : ℕ) (z : Thread) → slice_get threads t ≡ Some z → z.attempt ≡ None

@@ -44,22 +44,17 @@ after_there c m afters.Return (f ∷ fs) marked k =
 
 turn_runs : (phase : Phase) → CountsTurns phase → status_inside phase ≡ plain.Run
 turn_runs (phases.Acquire m) k = refl
-turn_runs (phases.Take m count) k = refl
-turn_runs (phases.Flag m u) k = refl
-turn_runs (phases.TakeFat m r) k = refl
-turn_runs (phases.WaitLook m r depth) k = refl
-turn_runs (phases.Retake m r depth) k = refl
-turn_runs phase k = absurd k
+turn_runs phase k = first_of (cc, grind arith)
 
 draw_runs : (phase : Phase) → DrawsToWait phase → status_inside phase ≡ plain.Run
 draw_runs (phases.Grow m toward) k = refl
 draw_runs phase k = absurd k
 
 limit_runs : (e : End) (phase was : Phase) → status_inside phase ≡ plain.Run → IsLimitAt e phase was → status_inside was ≡ plain.Run
-limit_runs ends.Steps phase was r k = ap status_inside k
-limit_runs ends.Prints phase was r k = ap status_inside k
 limit_runs ends.Turns phase was r k = turn_runs was k
 limit_runs ends.Records phase was r k = draw_runs was k
+limit_runs ends.Steps phase was r k = ap status_inside k
+limit_runs ends.Prints phase was r k = ap status_inside k
 limit_runs e phase was r k = ap status_inside k ∙ r
 
 -- nor does it leave an element to be read
@@ -107,8 +102,6 @@ module _ (fit : HeapWordsFit) (allowed : EffectsAreAllowed) (trying : Trying) (n
   abbrev present : Phase → (n : ℕ) (ended : List End) → Alone
   present phase n ended = at_present x a phase n ended
 
-  -- ---- an instruction
-
   -- ---- an exception
 
   throws_top : (fs : List Frame) (y : ℕ) (class : Thrown) (shown : List ℕ) → PhaseShows c (phases.Throw y class) fs shown x.held (Some a) → (at : Top) × (top_of c.program fs ≡ Some at)
@@ -126,19 +119,17 @@ module _ (fit : HeapWordsFit) (allowed : EffectsAreAllowed) (trying : Trying) (n
     dispatches = ap (option_map (λ at. handed c.program y class at (handler_at (class_of class) at))) its_top.1
 
     throw_grows : IsStructured c now (goes_on_if x (dispatched c.program y class x.frames)) → Grown (phases.Throw y class) (goes_on_if x (dispatched c.program y class x.frames)) (acts.Do ∷ [])
-    throw_grows k = subst (λ (o : Option Onward). Grown (phases.Throw y class) (goes_on_if x o) (acts.Do ∷ [])) (sym dispatches) its_grown
-      where
-        alike : GoesAlike c x a now x its_onward
-        alike = going_alike c x a now x a.inner refl attempt_stands.based its_onward tries (throws_kept c.program x.frames a y class its_onward dispatches) (subst (λ (o : Option Onward). IsStructured c now (goes_on_if x o)) dispatches k)
-
-        acted : (memory : ℕ → Option ℕ) (n : ℕ) (ended : List End) → replay_act c.program a.monitor memory (present (phases.Throw y class) n ended) acts.Do (plain.Throw y class) ≡ Some (at_present (goes_on x its_onward) a now n ended)
-        acted memory n ended =
+    throw_grows k =
+        let alike : GoesAlike c x a now x its_onward =
+            going_alike c x a now x a.inner refl attempt_stands.based its_onward tries (throws_kept c.program x.frames a y class its_onward dispatches) (subst (λ (o : Option Onward). IsStructured c now (goes_on_if x o)) dispatches k) in
+        let acted : (memory : ℕ → Option ℕ) (n : ℕ) (ended : List End) → replay_act c.program a.monitor memory (present (phases.Throw y class) n ended) acts.Do (plain.Throw y class) ≡ Some (at_present (goes_on x its_onward) a now n ended) =
+            λ memory n ended. 
             ap (λ (o : Option Onward). goes (present (phases.Throw y class) n ended) (option_and_then (only_on a.monitor) o)) dispatches
             ∙ ap (goes (present (phases.Throw y class) n ended)) alike.only
-            ∙ comes_there c x a now x its_onward a.inner alike (plain.Throw y class) ended n
-
-        its_grown : Grown (phases.Throw y class) (goes_on x its_onward) (acts.Do ∷ [])
-        its_grown = grown c x a now x its_onward a.inner alike Keeps s.words (was t) (phases.Throw y class) acts.Do counted tries (λ memory knows n some ended. acted memory n ended)
+            ∙ comes_there c x a now x its_onward a.inner alike (plain.Throw y class) ended n in
+        let its_grown : Grown (phases.Throw y class) (goes_on x its_onward) (acts.Do ∷ []) =
+            grown c x a now x its_onward a.inner alike Keeps s.words (was t) (phases.Throw y class) acts.Do counted tries (λ memory knows n some ended. acted memory n ended) in
+        subst (λ (o : Option Onward). Grown (phases.Throw y class) (goes_on_if x o) (acts.Do ∷ [])) (sym dispatches) its_grown
 
     throws_inside : EventInside (phases.Throw y class)
     throws_inside = checked (λ z f. IsStructured c now z → By (phases.Throw y class) f z (acts.Do ∷ [])) a x (goes_on_if x (dispatched c.program y class x.frames)) (found_in (phases.Throw y class)) x.attempt tries throw_grows (λ k. refl)
@@ -150,20 +141,16 @@ module _ (fit : HeapWordsFit) (allowed : EffectsAreAllowed) (trying : Trying) (n
     deeper = runs (record x { attempt = Some (record a { inner = a.inner + 1 }) })
 
     enter_grows : IsStructured c now deeper → Grown (phases.Enter m tried) deeper (acts.Enter ∷ [])
-    enter_grows k = grown c x a now z (Running x.frames) (a.inner + 1) alike Keeps s.words (was t) (phases.Enter m tried) acts.Enter counted refl (λ memory knows n some ended. acted memory n ended)
-      where
-        z : Thread
-        z = record x { attempt = Some (inner_as a (a.inner + 1)) }
-
-        alike : GoesAlike c x a now z (Running x.frames)
-        alike = going_alike c x a now z (a.inner + 1) refl attempt_stands.based (Running x.frames) refl (λ before behind. refl) k
-
-        acted : (memory : ℕ → Option ℕ) (n : ℕ) (ended : List End) → replay_act c.program a.monitor memory (present (phases.Enter m tried) n ended) acts.Enter (plain.Enter m) ≡ Some (at_present deeper (inner_as a (a.inner + 1)) now n ended)
-        acted memory n ended =
+    enter_grows k =
+        let z : Thread = record x { attempt = Some (inner_as a (a.inner + 1)) } in
+        let alike : GoesAlike c x a now z (Running x.frames) = going_alike c x a now z (a.inner + 1) refl attempt_stands.based (Running x.frames) refl (λ before behind. refl) k in
+        let acted : (memory : ℕ → Option ℕ) (n : ℕ) (ended : List End) → replay_act c.program a.monitor memory (present (phases.Enter m tried) n ended) acts.Enter (plain.Enter m) ≡ Some (at_present deeper (inner_as a (a.inner + 1)) now n ended) =
+            λ memory n ended. 
             let depth : suc a.inner + 1 ≡ suc (a.inner + 1) = omega arith in
             ap (λ (b : Bool). cond b (Some (enters (present (phases.Enter m tried) n ended))) None) (same_number m a.monitor (inside_as trying (phases.Enter m tried) counted))
             ∙ ap (λ (d : ℕ). goes (record { thread = plain_as x (plain.Enter m) ended; depth = d; begun = n }) (Some (Running x.frames))) depth
-            ∙ comes_there c x a now z (Running x.frames) (a.inner + 1) alike (plain.Enter m) ended n
+            ∙ comes_there c x a now z (Running x.frames) (a.inner + 1) alike (plain.Enter m) ended n in
+        grown c x a now z (Running x.frames) (a.inner + 1) alike Keeps s.words (was t) (phases.Enter m tried) acts.Enter counted refl (λ memory knows n some ended. acted memory n ended)
 
     abbrev EnterBy : Claim → Type 0
     EnterBy q = IsStructured c now (enter_moves x m tried (may_try c x tried) q (found_by s.words (enter_wants m q)))
@@ -186,24 +173,19 @@ module _ (fit : HeapWordsFit) (allowed : EffectsAreAllowed) (trying : Trying) (n
       shallower = record x { attempt = Some (record a { inner = n }) }
 
       leave_grows : IsStructured c now (goes_after c.program shallower e) → Grown (phases.Leave m e) (goes_after c.program shallower e) (acts.Exit ∷ [])
-      leave_grows k = subst (λ (o : Option Onward). Grown (phases.Leave m e) (goes_on_if shallower o) (acts.Exit ∷ [])) (sym goes_there.1) its_grown
-        where
-          alike : GoesAlike c x a now shallower goes_there.0
-          alike = going_alike c x a now shallower n refl attempt_stands.based goes_there.0 refl (leaves_kept c.program x.frames a e goes_there.0 goes_there.1) (subst (λ (o : Option Onward). IsStructured c now (goes_on_if shallower o)) goes_there.1 k)
-
-          acted : (memory : ℕ → Option ℕ) (begun : ℕ) (ended : List End)
-              → replay_act c.program a.monitor memory
-              (present (phases.Leave m e) begun ended) acts.Exit (plain.Leave m e) ≡ Some
-              (at_present (goes_on shallower goes_there.0) (inner_as a n) now begun ended)
-          acted memory begun ended =
+      leave_grows k =
+          let alike : GoesAlike c x a now shallower goes_there.0 =
+              going_alike c x a now shallower n refl attempt_stands.based goes_there.0 refl (leaves_kept c.program x.frames a e goes_there.0 goes_there.1) (subst (λ (o : Option Onward). IsStructured c now (goes_on_if shallower o)) goes_there.1 k) in
+          let acted : (memory : ℕ → Option ℕ) (begun : ℕ) (ended : List End) → replay_act c.program a.monitor memory (present (phases.Leave m e) begun ended) acts.Exit (plain.Leave m e) ≡ Some (at_present (goes_on shallower goes_there.0) (inner_as a n) now begun ended) =
+              λ memory begun ended. 
               let z : Alone = present (phases.Leave m e) begun ended in
               ap (λ (b : Bool). cond b (leaves c.program z e (suc a.inner)) None) (same_number m a.monitor (inside_as trying (phases.Leave m e) counted))
               ∙ ap (λ (depth : ℕ). leaves c.program z e (suc depth)) inner
               ∙ ap (goes (record z { depth = suc n })) goes_there.1
-              ∙ comes_there c x a now shallower goes_there.0 n alike (plain.Leave m e) ended begun
-
-          its_grown : Grown (phases.Leave m e) (goes_on shallower goes_there.0) (acts.Exit ∷ [])
-          its_grown = grown c x a now shallower goes_there.0 n alike Keeps s.words (was t) (phases.Leave m e) acts.Exit counted refl (λ memory knows begun some ended. acted memory begun ended)
+              ∙ comes_there c x a now shallower goes_there.0 n alike (plain.Leave m e) ended begun in
+          let its_grown : Grown (phases.Leave m e) (goes_on shallower goes_there.0) (acts.Exit ∷ []) =
+              grown c x a now shallower goes_there.0 n alike Keeps s.words (was t) (phases.Leave m e) acts.Exit counted refl (λ memory knows begun some ended. acted memory begun ended) in
+          subst (λ (o : Option Onward). Grown (phases.Leave m e) (goes_on_if shallower o) (acts.Exit ∷ [])) (sym goes_there.1) its_grown
 
     abbrev InnerBy : ℕ → Type 0
     InnerBy i = IsStructured c now (finishes c.program x e a i (found_by s.words (finish_wants m i)))
@@ -264,30 +246,22 @@ module _ (fit : HeapWordsFit) (allowed : EffectsAreAllowed) (trying : Trying) (n
 
     read_grows : IsStructured c now (goes_on x read_on)
         → Grown (phases.Element word None) (goes_on x read_on) (acts.Do ∷ [])
-    read_grows stands_so = grown c x a now x read_on a.inner alike Keeps s.words (was t) (phases.Element word None) acts.Do counted tries acted
-      where
-        alike : GoesAlike c x a now x read_on
-        alike = going_alike c x a now x a.inner refl attempt_stands.based read_on tries
+    read_grows stands_so =
+        let alike : GoesAlike c x a now x read_on =
+            going_alike c x a now x a.inner refl attempt_stands.based read_on tries
             (steps_kept c.program x.frames a k.at (Reads (Static 0))
-            (slice_index s.words word) read_on k.found refl) stands_so
-
-        found_there : (memory : ℕ → Option ℕ) → Knows Keeps s.words memory
-            → reads_only c.program memory k.at (Indexes k.array k.index None)
-            (slice_index s.words (header_word k.array)) ≡ Some read_on
-        found_there memory knows =
+            (slice_index s.words word) read_on k.found refl) stands_so in
+        let found_there : (memory : ℕ → Option ℕ) → Knows Keeps s.words memory → reads_only c.program memory k.at (Indexes k.array k.index None) (slice_index s.words (header_word k.array)) ≡ Some read_on =
+            λ memory knows. 
             ap (λ (b : Bool). if b then option_map (λ v. Running (went_on c.program k.at v))
             (memory (value_word k.array (low k.index))) else Some
             (threw ArrayIndexOutOfBoundsException k.at))
             (has_element c objects s x marked facts.heap word None k)
             ∙ ap (λ (n : ℕ). option_map (λ v. Running (went_on c.program k.at v)) (memory n))
             (sym k.word_is)
-            ∙ ap (option_map (λ v. Running (went_on c.program k.at v))) (knows word element_there)
-
-        acted : (memory : ℕ → Option ℕ) → Knows Keeps s.words memory → (n : ℕ) → 0 < n
-            → (ended : List End) → replay_act c.program a.monitor memory
-            (present (phases.Element word None) n ended) acts.Do plain.Run ≡ Some
-            (at_present (goes_on x read_on) a now n ended)
-        acted memory knows n some ended =
+            ∙ ap (option_map (λ v. Running (went_on c.program k.at v))) (knows word element_there) in
+        let acted : (memory : ℕ → Option ℕ) → Knows Keeps s.words memory → (n : ℕ) → 0 < n → (ended : List End) → replay_act c.program a.monitor memory (present (phases.Element word None) n ended) acts.Do plain.Run ≡ Some (at_present (goes_on x read_on) a now n ended) =
+            λ memory knows n some ended. 
             let z : Alone = present (phases.Element word None) n ended in
             let more : Alone = record z { begun = n - 1 + 1 } in
             ap (instructs c.program a.monitor memory z) k.found
@@ -302,7 +276,8 @@ module _ (fit : HeapWordsFit) (allowed : EffectsAreAllowed) (trying : Trying) (n
             (found_there memory knows)
             ∙ ap (goes more) alike.only
             ∙ ap (λ (k : ℕ). goes (record z { begun = k }) (Some read_on)) (omega (arith, some))
-            ∙ comes_there c x a now x read_on a.inner alike plain.Run ended n
+            ∙ comes_there c x a now x read_on a.inner alike plain.Run ended n in
+        grown c x a now x read_on a.inner alike Keeps s.words (was t) (phases.Element word None) acts.Do counted tries acted
 
     read_inside : EventInside (phases.Element word None)
     read_inside stands_so = subst (λ (y : Thread). Grown (phases.Element word None) y (acts.Do ∷ []))

@@ -13,12 +13,6 @@ pub record Played (p : Program) (q : Plain) (t m : ℕ) (due more : List Act) (x
   pub runs : count_along p (run_at t) (steps_of t (due ++ more)) q + x.begun ≡ count_along p (run_at t) (steps_of t more) (stands_as q t m y) + y.begun
   pub takes : count_along p (take_at t) (steps_of t (due ++ more)) q ≡ count_along p (take_at t) (steps_of t more) (stands_as q t m y)
 
--- ---- nothing
-
--- ---- one act, and those behind it
-
--- ---- all of them
-
 pub played : (p : Program) (q : Plain) (t m : ℕ) (due more : List Act) (x y : Alone) → Stands q t m x → m ≢ 0 → replayed p m (value_at q) due x ≡ Some y → Played p q t m due more x y
 played p q t m [] more x y f some e =
     let here : q ≡ stands_as q t m y = same_some (replay.played p q t m [] x y f some (ap Some (same_some e))) in

@@ -39,9 +39,7 @@ pub gets_field : (p : Program) (tags : Tagged) (site : MethodSite) (pc : ℕ) (m
     → HasRow p site pc (targets.Field number) op r → ReadsOnly p tags mode o mi i op (targets.Field number) stack → GetsField p tags mode o number op r stack
 gets_field p tags site pc mode o mi k number f (ops.Getfield i) r stack there instance row h = record { field = row.field; is = row.there; instance = row.sort; constant = i; gets = refl; row = row.its; stays = h }
 gets_field p tags site pc mode o mi k number f (ops.Getstatic i) r stack there instance row h = absurd (no_static p number get_static_row r f there instance row)
-gets_field p tags site pc mode o mi k number f (ops.Putstatic i) r stack there instance row h = absurd h
-gets_field p tags site pc mode o mi k number f (ops.Putfield i) r stack there instance row h = absurd h
-gets_field p tags site pc mode o mi k number f op r stack there instance row h = absurd row
+gets_field p tags site pc mode o mi k number f op r stack there instance row h = absurd (assumption)
 
 -- ---- who builds its object
 

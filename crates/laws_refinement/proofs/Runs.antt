@@ -19,16 +19,12 @@ module _ (may_do : InsideMayDo) (elements : ElementsInside) (c : MarkedProgram) 
   -- of the thread itself
   own : (o : Option Thread) → slice_get s.threads t ≡ o → HasFailedCount s t failed → HasFailedCount (event_of c s t o) t (failed_of c s o failed)
   own None e k = k
-  own (Some x) e k = record { few = now.few; kept = λ y f. subst (λ (z : Thread). KeepsCount z.attempt z.phase later) (same_some (sym (got_when_set s.threads t x (moved c x x.phase got) e) ∙ f)) now.kept }
-    where
-      got : ℕ
-      got = found_by s.words (wanted c x x.phase)
-
-      later : ℕ
-      later = failed_of c s (Some x) failed
-
-      now : Counts (moved c x x.phase got) later
-      now = event_counted c x got failed (λ a tries. is_inside may_do elements c marked x a tries (was t) (structure t x e)) (record { few = k.few; kept = k.kept x e })
+  own (Some x) e k =
+      let got : ℕ = found_by s.words (wanted c x x.phase) in
+      let later : ℕ = failed_of c s (Some x) failed in
+      let now : Counts (moved c x x.phase got) later =
+          event_counted c x got failed (λ a tries. is_inside may_do elements c marked x a tries (was t) (structure t x e)) (record { few = k.few; kept = k.kept x e }) in
+      record { few = now.few; kept = λ y f. subst (λ (z : Thread). KeepsCount z.attempt z.phase later) (same_some (sym (got_when_set s.threads t x (moved c x x.phase got) e) ∙ f)) now.kept }
 
   -- of another one
   other : (u : ℕ) → t ≢ u → (o : Option Thread) → slice_get s.threads u ≡ o → HasFailedCount s t failed → HasFailedCount (event_of c s u o) t failed

@@ -86,8 +86,7 @@ record FirstSlot (Is : VType → Tag → (v : ℕ) → Type 0) (ts : List VType)
 first_slot : (Is : VType → Tag → (v : ℕ) → Type 0) (ts : List VType) (tags : List Tag) (v : ℕ) (vs : List ℕ) → SlotsAre Is ts tags (v ∷ vs) → FirstSlot Is ts v
 first_slot Is (type ∷ ts) (tag ∷ tags) v vs h = record { type = type; tag = tag; more = ts; first = refl; is = h.0 }
 first_slot Is [] [] v vs h = absurd h
-first_slot Is [] (tag ∷ tags) v vs h = absurd h
-first_slot Is (type ∷ ts) [] v vs h = absurd h
+first_slot Is ts tags v vs h = absurd h
 
 -- the object of a field is an object on the stack
 top_suits : (m : MethodInfo) (r : OpRow) (field : FieldInfo) (g : TypeFrame) (type : VType) (more : List VType) → r ≡ get_row (Some field) → g.stack ≡ type ∷ more → mistypes m r g ≡ false → is_below type (types.Ref field.class) ≡ true
@@ -117,11 +116,8 @@ second : (Is : VType → Tag → (v : ℕ) → Type 0) (On : (place : ℕ) → V
     → SlotsFrom On 0 ts (i ∷ a ∷ rest) → (type : VType) × On 1 type a
 second Is On (first ∷ type ∷ ts) (g ∷ h ∷ gs) i a rest are on = (type, on.1.0)
 second Is On (first ∷ []) (g ∷ []) i a rest are on = absurd are.1
-second Is On (first ∷ []) (g ∷ h ∷ gs) i a rest are on = absurd are.1
-second Is On (first ∷ type ∷ ts) (g ∷ []) i a rest are on = absurd are.1
 second Is On [] [] i a rest are on = absurd are
-second Is On [] (g ∷ gs) i a rest are on = absurd are
-second Is On (first ∷ ts) [] i a rest are on = absurd are
+second Is On ts gs i a rest are on = absurd (assumption)
 
 element_reads : (op : Op) → is_element_op None op ≡ true → op ≡ ops.Iaload
 element_reads ops.Iaload e = refl
@@ -163,8 +159,7 @@ module _ (c : MarkedProgram) (frozen : ℕ → Bool) (own : Owning) (now : World
         on = subst (λ (m : MethodInfo). is_static m.flags ≡ false
             → HasClass objects m.class f.receiver) one.method holds.0.receiver;
       }
-  by_stack f below (i ∷ []) is keep holds top has on l = absurd on
-  by_stack f below [] is keep holds top has on l = absurd on
+  by_stack f below stack is keep holds top has on l = absurd on
 
   pub top_array : (fs : List Frame) (at : Top) → FramesKeep c frozen own now next t Runs fs
       → FramesHold c (HasClass objects) fs → TopIs c (is_element_op None) fs

@@ -54,8 +54,6 @@ module _ (its : Event) where
         by_thread b e (inl same) = by_world b e same (w v) refl
         by_thread b e (inr d) = own b (turns.goes_on.no_more v b d e)
 
-    -- ---- a thread that has not begun
-
     -- ---- their words stay
 
     module _ (laws : AreEventFacts) where

@@ -82,27 +82,17 @@ module _ (may_do : InsideMayDo) (elements : ElementsInside) (safe : RunsAreSafe)
 
     own : IsTorn s.words a → (o : Option Thread) → slice_get s.threads t ≡ o → Leaves a (left_of a x) (begun_of o) (event_of c s t o)
     own torn None e = absurd (let bad : None ≡ Some x = sym e ∙ there in cc)
-    own torn (Some y) e = subst (λ (z : Thread). Leaves a (left_of a x) (begun_in z.phase) (event_of c s t (Some z))) (same_some (sym there ∙ e)) (now, got_when_set s.threads t x now there, falls)
-      where
-        got : ℕ
-        got = found_by s.words (wanted c x x.phase)
-
-        now : Thread
-        now = moved c x x.phase got
-
-        k : IsSafe c s x
-        k = safe c cfg front t x marked width set there
-
-        inside : Inside c x a
-        inside = is_inside may_do elements c marked x a tries k.lawful.was k.lawful.structured
-
-        missed : wanted c x x.phase ≡ Some (Load a.monitor) → is_same a got ≡ false
-        missed w =
+    own torn (Some y) e =
+        let got : ℕ = found_by s.words (wanted c x x.phase) in
+        let now : Thread = moved c x x.phase got in
+        let k : IsSafe c s x = safe c cfg front t x marked width set there in
+        let inside : Inside c x a = is_inside may_do elements c marked x a tries k.lawful.was k.lawful.structured in
+        let missed : wanted c x x.phase ≡ Some (Load a.monitor) → is_same a got ≡ false =
+            λ w. 
             let word : got ≡ slice_index s.words a.monitor = ap (found_by s.words) w in
-            ne_eqb got (word_of_lock (locks.Free a.noted)) (λ same. torn (sym word ∙ same))
-
-        falls : Falls c.program a (left_of a x) (begun_in x.phase) now
-        falls = late c marked x a tries x.phase got refl inside.known inside.based k.goes k.access.found missed
+            ne_eqb got (word_of_lock (locks.Free a.noted)) (λ same. torn (sym word ∙ same)) in
+        let falls : Falls c.program a (left_of a x) (begun_in x.phase) now = late c marked x a tries x.phase got refl inside.known inside.based k.goes k.access.found missed in
+        subst (λ (z : Thread). Leaves a (left_of a x) (begun_in z.phase) (event_of c s t (Some z))) (same_some (sym there ∙ e)) (now, got_when_set s.threads t x now there, falls)
 
     other : (u : ℕ) → t ≢ u → (o : Option Thread) → slice_get s.threads u ≡ o → Leaves a (left_of a x) 0 (event_of c s u o)
     other u apart None e = as_it_was s there
