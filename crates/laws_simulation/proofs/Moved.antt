@@ -2,14 +2,14 @@
 -- thread goes on to its next instruction.
 use Rattle.std.proofs.Common.{◌≡◌, ◌≢◌, inl, inr, ℕ, zero, suc, ◌+◌, ◌<◌, nat_lt, Bool, true, false, cond, List, [], ◌∷◌, Option, Some, None, refl, sym, ap, ◌∙◌, subst, arith, slice_get, slice_set}
 use Rattle.std.proofs.lemmas.List.{length-set}
-use Rattle.jvm_types.specs.{Numbers.has_flag, declared.{fixed_words.TheConstants.MONITOR_RECORDS, outcome.End.End, program.Program.Program}}
-use Rattle.machine_types.specs.{Agreement.{has_wait_bit, StatusFits, OutsideFits, frames_shown, roots_shown}, Going.runs, HeldMonitors.held_at, Monitors.bit_of}
+use Rattle.jvm_types.specs.{Numbers.has_flag, declared.{fixed_words.TheConstants.{MONITOR_RECORDS, NEXT_FREE_WORD, NEXT_TICKET_WORD}, outcome.End.End, program.Program.Program}}
+use Rattle.machine_types.specs.{Agreement.{has_wait_bit, StatusFits, OutsideFits, ThreadFits, frames_shown, roots_shown}, Going.runs, HeldMonitors.held_at, Monitors.bit_of}
 use Rattle.machine_types.specs.{Owners.{Knows, lock_at, owner_at, locks_in, references_of, hold_by_kept, hold_by_list, hold_by_word, HeldFat}, Parts.done_roots, PlainMemory.Object}
-use Rattle.machine_types.specs.{PlainState.{Status, Plain, PlainThread, Holding}, Structure.{IsFat, Stands}, Threads.{Frame, Thread}, Waiting.{MayWait, Waits, is_bit_set}}
+use Rattle.machine_types.specs.{PlainState.{Status, Plain, PlainThread, Holding}, Structure.{IsFat, Stands}, Threads.{Attempt, Frame, Thread}, Waiting.{MayWait, Waits, is_bit_set}}
 use Rattle.machine_types.{specs.{Words.{owner_word, bits_word}, declared.{lock.{Held.Held, LockWord.LockWord}, phase.Phase.Phase}}, proofs.Lists.{got_when_set, got_other, set_as_it_is}}
 use Rattle.laws_states.{specs.{SiteLaws.SitesLieInside, Sites.BitsOf}, proofs.{Lists.{set_here, set_there, same_or_not}, LockViews.fatly}}
-use Rattle.laws_simulation.{specs.StandsBeside.{StandsBeside, own_end, end_of_done, ends_shown}, proofs.HoldingsAlike.{HoldAlike, alike_kept}}
-use Rattle.laws_simulation.proofs.{Moments.{Moment, AreRecordsWritten, record_written, lock_same, lock_kept, holdings_alike, moved_beside}, OwnThread.own, Turns.Turn, WaitBits.{bit_by, fits_by}}
+use Rattle.laws_simulation.{specs.StandsBeside.{StandsBeside, own_end, end_of_done, ends_shown}, proofs.{Assembled.moved_beside, GoingOnAlike.awake_fits, HoldingsAlike.{HoldAlike, alike_kept}}}
+use Rattle.laws_simulation.proofs.{Moments.{Moment, AreRecordsWritten, record_written, lock_same, lock_kept, holdings_alike}, OwnThread.own, PlainPlaces.place_low, Turns.Turn, WaitBits.{bit_by, fits_by}}
 use Rattle.laws_simulation.proofs.WaitersHaveBits.{bit_in, bit_of_fat}
 use Rattle.jvm_types.specs.declared.outcome.End.TheVariants as ends
 use Rattle.machine_types.specs.PlainState as plain
@@ -31,30 +31,13 @@ ends_alike p (suc (suc n)) a b e = ap (λ (es : List End). ends.Returned ∷ es)
 
 -- ---- a thread that goes on to its next instruction
 
-run_status : (bit : ℕ → Bool) (z : Thread) (b : Bool) → ((m : ℕ) → bit m ≡ false) → StatusFits bit z (cond b phases.Run (phases.Ending ends.Steps)) plain.Run
-run_status bit z true off = refl
-run_status bit z false off = record { waits = λ m e. absurd (let clash : true ≡ false = sym e ∙ off m in cc); awake = λ none. refl }
-
-run_frames : (frames : List Frame) (b : Bool) → frames ≡ frames_shown (cond b phases.Run (phases.Ending ends.Steps)) frames
-run_frames frames true = refl
-run_frames frames false = refl
-
-run_roots : (p : Program) (part : ℕ) (roots : List ℕ) (b : Bool) → roots ≡ roots_shown p part (cond b phases.Run (phases.Ending ends.Steps)) roots
-run_roots p part roots true = refl
-run_roots p part roots false = refl
-
 pub run_end : (b : Bool) → own_end (cond b phases.Run (phases.Ending ends.Steps)) ≡ []
 run_end true = refl
 run_end false = refl
 
 pub runs_outside : (p : Program) (bit : ℕ → Bool) (z : Thread) (w : PlainThread) → ((m : ℕ) → bit m ≡ false) → w.frames ≡ z.frames → w.status ≡ plain.Run → w.roots ≡ z.roots → OutsideFits p bit (runs z) w
-runs_outside p bit z w off frames status roots =
-    let b : Bool = nat_lt z.counts.instructions z.cfg.steps in
-    record {
-      frames = frames ∙ run_frames z.frames b;
-      status = subst (λ (k : Status). StatusFits bit (runs z) (runs z).phase k) (sym status) (run_status bit (runs z) b off);
-      roots = roots ∙ run_roots p z.part z.roots b;
-    }
+runs_outside p bit z w off frames status roots = elim (nat_lt z.counts.instructions z.cfg.steps) as (λ (b : Bool). OutsideFits p bit (record z { phase = cond b phases.Run (phases.Ending ends.Steps) }) w)
+    [ true ↦ record { frames = frames; status = status; roots = roots } | false ↦ record { frames = frames; status = awake_fits bit w.status (w.status ≡ plain.Run) off status; roots = roots } ]
 
 -- ---- the words of records
 
@@ -146,26 +129,19 @@ module _ {turn : Turn} {phase : Phase} (k : Moment turn phase) where
       → OutsideFits c.program (has_wait_bit (references_of q.objects) later t) x2 y2 → y2.ended ≡ ends_shown c.program x2.part x2.phase
       → ((u m : ℕ) → u ≢ t → has_wait_bit (references_of q.objects) later u m ≡ has_wait_bit (references_of q.objects) s.words u m)
       → StandsBeside c.program objects (record { words = later; threads = slice_set s.threads t x2 }) (record q { holdings = holdings; threads = slice_set q.threads t y2 })
-  alone_beside later x2 holdings y2 w old new part rests alike free fits ended same =
-      moved_beside k later x2 y2 holdings (slice_set q.threads t y2) (record {
-        written = w;
-        old = old;
-        new = new;
-        part = part;
-        rests = rests;
-        free = free;
-        fits = fits;
-        ended = ended;
-        alike = alike;
-        many = length-set q.threads t y2;
-        own = got_when_set q.threads t y y2 twin;
-        others = λ u z v d g h. record {
-          now = v;
-          twin = got_other q.threads t u y2 d ∙ h;
-          fits = fits_by c.program (has_wait_bit (references_of q.objects) s.words u) (has_wait_bit (references_of q.objects) later u) z z.attempt v (λ m. same u m d) (turn.beside.agrees.threads u z v g h);
-          ends = refl;
-        };
-      })
+  alone_beside later x2 holdings y2 w old new part rests alike free fits ended same = moved_beside turn.member later x2 holdings y2 q.prints (record {
+    fits = subst (λ (a : Option Attempt). ThreadFits c.program (has_wait_bit (references_of q.objects) later t) x2 a y2) (sym free) fits;
+    ended = ended;
+    places = λ i v e. w.places i (place_low c.program q turn.beside.apart i v e).0;
+    next = w.counters NEXT_FREE_WORD (omega arith);
+    printed = w.counters NEXT_TICKET_WORD (omega arith) ∙ turn.beside.agrees.prints;
+    bits = same;
+    alike = alike;
+    old = λ a word e. old a word (sym k.phase_is ∙ e);
+    new = new;
+    part = part;
+    rests = λ e. rests (sym k.phase_is ∙ e);
+  })
 
   -- ---- the plain machine made no step
 

@@ -3,7 +3,7 @@ use Rattle.std.proofs.Common.{◌≡◌, ℕ, zero, suc, ◌<◌, Bool, true, fa
 use Rattle.std.{specs.List.AllByRecursion, proofs.lemmas.Bool.{and_from, and_parts, eq-eqb}}
 use Rattle.lists.proofs.ListLaws.{same_some}
 use Rattle.jvm_types.specs.{ClassNames.file_class, declared.{outcome.End.End, program.{MethodInfo.MethodInfo, Program.Program}}}
-use Rattle.laws_programs.specs.RootLaws.{RunIsThere}
+use Rattle.laws_programs.{specs.RootLaws.RunIsThere, proofs.LocalGoing.at_index}
 use Rattle.checked_program.specs.MarkedProgram.{MarkedProgram, IsMarked}
 use Rattle.machine_types.specs.Agreement.{OutsideFits, ThreadFits, StatusFits, frames_shown, roots_shown, start_status}
 use Rattle.machine_types.specs.Core.{part_phase, may_begin, may_begin_by, how_ended, with_roots, workers_begin, done_begins, part_begins, next_threads, next}
@@ -125,11 +125,6 @@ workers_alike : (p : Program) (workers : List Thread) → ((u : ℕ) (z : Thread
 workers_alike p [] each = tt
 workers_alike p (z ∷ workers) each = (each 0 z refl, workers_alike p workers (λ u w e. each (suc u) w e))
 
-all_idle : (workers : List Thread) (u : ℕ) (z : Thread) → AllByRecursion (λ (w : Thread). w.phase ≡ phases.Idle) workers → slice_get workers u ≡ Some z → z.phase ≡ phases.Idle
-all_idle [] u z all e = absurd (cc)
-all_idle (w ∷ workers) zero z all e = ap (λ (v : Thread). v.phase) (sym (same_some e)) ∙ all.0
-all_idle (w ∷ workers) (suc u) z all e = all_idle workers u z all.1 e
-
 module _ (stands : RunIsThere) (states : States) (x : Thread) (workers : List Thread)
     (threads : states.s.threads ≡ x ∷ workers) where
   open states use {c, objects, was, s, q, marked, facts, beside}
@@ -150,7 +145,7 @@ module _ (stands : RunIsThere) (states : States) (x : Thread) (workers : List Th
       let each : (u : ℕ) (z : Thread) → slice_get workers u ≡ Some z → Alike c.program z (with_roots (run_roots c.program) z) =
           λ u z e. 
           let there = (ap (λ (xs : List Thread). slice_get xs (suc u)) threads ∙ e) in
-          let z_idle = all_idle workers u z idle e in
+          let z_idle = at_index (λ (w : Thread). w.phase ≡ phases.Idle) workers u z idle e in
           let own = facts.threads.own (suc u) z there in
           worker_alike c.program z (run_roots c.program) refl
           (no_run_roots stands c marked (omega (arith, got_below s.threads (suc u) z there, facts.threads.count))) z_idle (idle_attempt c (was (suc u)) z z_idle (facts.structure (suc u) z there)) (own.part (λ h. omega (arith, h))) in

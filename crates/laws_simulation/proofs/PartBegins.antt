@@ -63,17 +63,14 @@ module _ (states : States) (threads : List Thread)
     → done_roots states.c.program ≡ [] → x.phase ≡ phases.Ended ends.Returned) where
   open states use {c, objects, s, q, beside}
 
+  makes_on : {z new : Thread} {a word : ℕ} → Alike c.program z new → z.phase ≡ phases.Made a word → new.phase ≡ phases.Made a word
+  makes_on {z} {new} {a} {word} alike e = alike.makes a word e
+
   pending_on : (n : ℕ) → IsPending s.threads n → IsPending threads n
   pending_on n k = let y = onto c.program s.threads threads pairs k.0 k.1 k.4 in (k.0, y.0, k.2, k.3, y.1, makes_on y.2 k.5, k.6)
-    where
-      makes_on : {z new : Thread} {a word : ℕ} → Alike c.program z new → z.phase ≡ phases.Made a word → new.phase ≡ phases.Made a word
-      makes_on {z} {new} {a} {word} alike e = alike.makes a word e
 
   making_on : (a : ℕ) → IsBeingMade s.threads a → IsBeingMade threads a
   making_on a k = let y = onto c.program s.threads threads pairs k.0 k.1 k.3 in (k.0, y.0, k.2, y.1, makes_on y.2 k.4)
-    where
-      makes_on : {z new : Thread} {a word : ℕ} → Alike c.program z new → z.phase ≡ phases.Made a word → new.phase ≡ phases.Made a word
-      makes_on {z} {new} {a} {word} alike e = alike.makes a word e
 
   pub begins_beside : StandsBeside c.program objects (record s { threads = threads }) q
   begins_beside = record {

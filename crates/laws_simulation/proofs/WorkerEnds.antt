@@ -5,7 +5,7 @@ use Rattle.lists.proofs.ListLaws.{same_some}
 use Rattle.jvm_types.specs.declared.program.Program.{Program}
 use Rattle.checked_program.specs.MarkedProgram.{MarkedProgram}
 use Rattle.machine_types.specs.{Accesses.found_by, Core.{Core, start_thread, event_of, may_begin, with_roots, part_begins, next_threads}, Events.{wanted, moved}, Parts.run_roots, Threads.Thread}
-use Rattle.machine_types.{specs.declared.config.Config.Config, proofs.Lists.got_when_set}
+use Rattle.machine_types.{specs.declared.config.Config.Config, proofs.{AtStart.is_start_thread, Lists.got_when_set}}
 use Rattle.laws_threads.{specs.GivenThread.{Given, GivenIsKept}, proofs.StateSteps.set_other}
 use Rattle.laws_simulation.specs.OutcomeLaws.{WorkersKeepNone, EventsKeepNone, NextKeepsNone, StartKeepsNone}
 
@@ -53,10 +53,5 @@ first_at_start : (c : MarkedProgram) (cfg : Config) (n : ℕ) → (start_thread 
 first_at_start c cfg zero = refl
 first_at_start c cfg (suc n) = refl
 
-started : (c : MarkedProgram) (cfg : Config) (ns : List ℕ) (t : ℕ) (x : Thread) → slice_get (map (start_thread c cfg) ns) t ≡ Some x → x.first ≡ None
-started c cfg [] t x e = absurd (cc)
-started c cfg (n ∷ ns) zero x e = sym (ap (λ (w : Thread). w.first) (same_some e)) ∙ first_at_start c cfg n
-started c cfg (n ∷ ns) (suc t) x e = started c cfg ns t x e
-
 pub start_keeps_none : StartKeepsNone
-start_keeps_none c cfg t x e some = started c cfg (range_with_len 0 (c.program.workers + 1)) t x e
+start_keeps_none c cfg t x e some = ap (λ (w : Thread). w.first) (sym (is_start_thread c cfg t x e)) ∙ first_at_start c cfg t
