@@ -142,59 +142,39 @@ module _ (turn : Turn) (begins : IsAtEffect IsOfWaiting turn.c turn.x) where
           (one_act (Waits m) is (Leaves (plain.Wait m)) (ap (λ (w : PlainThread). Some (with_thread q t w)) (holding m h (Leaves (plain.Wait m)) e)))
           (done_with (phases.WaitBit m r) 0 (plain.Wait m) (λ a word g. cc) refl refl refl refl)
 
-  does_notify : (m : ℕ) → effect_at c.program at ≡ Notifies m → StepsBeside c objects s t x q
-  does_notify m is = (elim (held_at x.held m) as (λ (o : Option Held). held_at x.held m ≡ o → StepsBeside c objects s t x q) [
-    | None ↦ λ e. by_effect (Notifies m) is refl (acts.Do ∷ []) Thrower (with_thread q t PlainThrower)
-        (ap (λ (o : Option Held). notify_acts o (acts.Notify None)) e)
-        (ap (λ (o : Option Held). if_held (begun x) at o (notifies Done (phases.NotifyLook m))) e)
-        (one_act (Notifies m) is PlainThrower (ap (λ (w : PlainThread). Some (with_thread q t w)) (not_holding m (Leaves (plain.Notify m)) e))) thrown
-    | Some h ↦ λ e. by_kept h h.kept e refl
+  -- a notification, by its effect, its act on a flat lock, and the phase of its thread on a fat one
+  notifying : (m : ℕ) (e : Effect) (act : Act) (status : Status) (to : ℕ → Phase) → effect_at c.program at ≡ e → effect_wants x at.frame.pc e ≡ None → instruction_acts x e 0 ≡ notify_acts (held_at x.held m) act
+      → instructed c.program (begun x) at e 0 ≡ if_held (begun x) at (held_at x.held m) (notifies Done to) → instructed_by c.program q t y at e ≡ Some (with_thread q t (plainly.if_plain_held q t m y at (Leaves status)))
+      → ((depth : ℕ) → status ≢ plain.Waiting m depth)
+      → (NobodyWaits (slice_set q.threads t (Leaves status)) m → step_at c.program (with_thread q t (Leaves status)) t (Leaves status) act status ≡ Some (with_thread (with_thread q t (Leaves status)) t (Leaves plain.Run)))
+      → ((r : ℕ) → StandsBeside c.program objects (record { words = s.words; threads = slice_set s.threads t (with_phase Done (to r)) }) (with_thread q t (Leaves status))) → StepsBeside c objects s t x q
+  notifying m e act status to is none acts_are moves plain_is awake told stands = (elim (held_at x.held m) as (λ (o : Option Held). held_at x.held m ≡ o → StepsBeside c objects s t x q) [
+    | None ↦ λ g. by_effect e is none (acts.Do ∷ []) Thrower (with_thread q t PlainThrower) (acts_are ∙ ap (λ (o : Option Held). notify_acts o act) g) (moves ∙ ap (λ (o : Option Held). if_held (begun x) at o (notifies Done to)) g)
+        (one_act e is PlainThrower (plain_is ∙ ap (λ (w : PlainThread). Some (with_thread q t w)) (not_holding m (Leaves status) g))) thrown
+    | Some h ↦ λ g. by_kept h h.kept g refl
   ]) refl
     where
-      held_step : (h : Held) → held_at x.held m ≡ Some h → instructed_by c.program q t y at (Notifies m) ≡ Some (with_thread q t (Leaves (plain.Notify m)))
-      held_step h e = ap (λ (w : PlainThread). Some (with_thread q t w)) (holding m h (Leaves (plain.Notify m)) e)
+      acts_by : (h : Held) (kept : Kept) → held_at x.held m ≡ Some h → h.kept ≡ kept → instruction_acts x e 0 ≡ notified_by kept act
+      acts_by h kept g f = acts_are ∙ ap (λ (o : Option Held). notify_acts o act) g ∙ ap (λ (l : Kept). notified_by l act) f
 
-      moves : (h : Held) (kept : Kept) → held_at x.held m ≡ Some h → h.kept ≡ kept → if_held (begun x) at (held_at x.held m) (notifies Done (phases.NotifyLook m)) ≡ notifies Done (phases.NotifyLook m) kept
-      moves h kept e f = ap (λ (o : Option Held). if_held (begun x) at o (notifies Done (phases.NotifyLook m))) e ∙ ap (notifies Done (phases.NotifyLook m)) f
-
-      told : (h : Held) (kept : Kept) → held_at x.held m ≡ Some h → h.kept ≡ kept → notify_acts (held_at x.held m) (acts.Notify None) ≡ notified_by kept (acts.Notify None)
-      told h kept e f = ap (λ (o : Option Held). notify_acts o (acts.Notify None)) e ∙ ap (λ (g : Kept). notified_by g (acts.Notify None)) f
+      moves_by : (h : Held) (kept : Kept) → held_at x.held m ≡ Some h → h.kept ≡ kept → instructed c.program (begun x) at e 0 ≡ notifies Done to kept
+      moves_by h kept g f = moves ∙ ap (λ (o : Option Held). if_held (begun x) at o (notifies Done to)) g ∙ ap (notifies Done to) f
 
       by_kept : (h : Held) (kept : Kept) → held_at x.held m ≡ Some h → h.kept ≡ kept → StepsBeside c objects s t x q
-      by_kept h (keeps.Flat count) e f = by_effect (Notifies m) is refl (acts.Do ∷ acts.Notify None ∷ []) (runs Done) (with_thread q t (Leaves plain.Run)) (told h (keeps.Flat count) e f) (moves h (keeps.Flat count) e f)
-          (second (plain.Notify m) (acts.Notify None) (Notifies m) is (held_step h e)
-          (ap (λ (b : Bool). cond b None (Some (with_thread (with_thread q t (Leaves (plain.Notify m))) t (Leaves plain.Run)))) (none_waits m (slice_set q.threads t (Leaves (plain.Notify m))) (nobody m count h (plain.Notify m) e f (λ depth g. cc)))))
-          runs_on
-      by_kept h (keeps.Fat r) e f = by_effect (Notifies m) is refl (acts.Do ∷ []) (with_phase Done (phases.NotifyLook m r)) (with_thread q t (Leaves (plain.Notify m))) (told h (keeps.Fat r) e f) (moves h (keeps.Fat r) e f)
-          (one_act (Notifies m) is (Leaves (plain.Notify m)) (held_step h e))
-          (done_with (phases.NotifyLook m r) x.turns (plain.Notify m) (λ a word g. cc) refl refl refl refl)
+      by_kept h (keeps.Flat count) g f = by_effect e is none (acts.Do ∷ act ∷ []) (runs Done) (with_thread q t (Leaves plain.Run)) (acts_by h (keeps.Flat count) g f) (moves_by h (keeps.Flat count) g f)
+          (second status act e is (plain_is ∙ ap (λ (w : PlainThread). Some (with_thread q t w)) (holding m h (Leaves status) g)) (told (nobody m count h status g f awake))) runs_on
+      by_kept h (keeps.Fat r) g f = by_effect e is none (acts.Do ∷ []) (with_phase Done (to r)) (with_thread q t (Leaves status)) (acts_by h (keeps.Fat r) g f) (moves_by h (keeps.Fat r) g f)
+          (one_act e is (Leaves status) (plain_is ∙ ap (λ (w : PlainThread). Some (with_thread q t w)) (holding m h (Leaves status) g))) (stands r)
+
+  does_notify : (m : ℕ) → effect_at c.program at ≡ Notifies m → StepsBeside c objects s t x q
+  does_notify m is = notifying m (Notifies m) (acts.Notify None) (plain.Notify m) (phases.NotifyLook m) is refl refl refl refl (λ depth g. cc)
+      (λ none. ap (λ (b : Bool). cond b None (Some (with_thread (with_thread q t (Leaves (plain.Notify m))) t (Leaves plain.Run)))) (none_waits m (slice_set q.threads t (Leaves (plain.Notify m))) none))
+      (λ r. done_with (phases.NotifyLook m r) x.turns (plain.Notify m) (λ a word g. cc) refl refl refl refl)
 
   does_notify_all : (m : ℕ) → effect_at c.program at ≡ NotifiesAll m → StepsBeside c objects s t x q
-  does_notify_all m is = (elim (held_at x.held m) as (λ (o : Option Held). held_at x.held m ≡ o → StepsBeside c objects s t x q) [
-    | None ↦ λ e. by_effect (NotifiesAll m) is refl (acts.Do ∷ []) Thrower (with_thread q t PlainThrower)
-        (ap (λ (o : Option Held). notify_acts o acts.NotifyAll) e)
-        (ap (λ (o : Option Held). if_held (begun x) at o (notifies Done (phases.NotifyAll m))) e)
-        (one_act (NotifiesAll m) is PlainThrower (ap (λ (w : PlainThread). Some (with_thread q t w)) (not_holding m (Leaves (plain.NotifyAll m)) e))) thrown
-    | Some h ↦ λ e. by_kept h h.kept e refl
-  ]) refl
-    where
-      held_step : (h : Held) → held_at x.held m ≡ Some h → instructed_by c.program q t y at (NotifiesAll m) ≡ Some (with_thread q t (Leaves (plain.NotifyAll m)))
-      held_step h e = ap (λ (w : PlainThread). Some (with_thread q t w)) (holding m h (Leaves (plain.NotifyAll m)) e)
-
-      moves : (h : Held) (kept : Kept) → held_at x.held m ≡ Some h → h.kept ≡ kept → if_held (begun x) at (held_at x.held m) (notifies Done (phases.NotifyAll m)) ≡ notifies Done (phases.NotifyAll m) kept
-      moves h kept e f = ap (λ (o : Option Held). if_held (begun x) at o (notifies Done (phases.NotifyAll m))) e ∙ ap (notifies Done (phases.NotifyAll m)) f
-
-      told : (h : Held) (kept : Kept) → held_at x.held m ≡ Some h → h.kept ≡ kept → notify_acts (held_at x.held m) acts.NotifyAll ≡ notified_by kept acts.NotifyAll
-      told h kept e f = ap (λ (o : Option Held). notify_acts o acts.NotifyAll) e ∙ ap (λ (g : Kept). notified_by g acts.NotifyAll) f
-
-      by_kept : (h : Held) (kept : Kept) → held_at x.held m ≡ Some h → h.kept ≡ kept → StepsBeside c objects s t x q
-      by_kept h (keeps.Flat count) e f = by_effect (NotifiesAll m) is refl (acts.Do ∷ acts.NotifyAll ∷ []) (runs Done) (with_thread q t (Leaves plain.Run)) (told h (keeps.Flat count) e f) (moves h (keeps.Flat count) e f)
-          (second (plain.NotifyAll m) acts.NotifyAll (NotifiesAll m) is (held_step h e)
-          (ap (λ (ws : List PlainThread). Some (with_thread (record q { threads = ws }) t (Leaves plain.Run))) (none_woken m (slice_set q.threads t (Leaves (plain.NotifyAll m))) (nobody m count h (plain.NotifyAll m) e f (λ depth g. cc)))))
-          runs_on
-      by_kept h (keeps.Fat r) e f = by_effect (NotifiesAll m) is refl (acts.Do ∷ []) (with_phase Done (phases.NotifyAll m r)) (with_thread q t (Leaves (plain.NotifyAll m))) (told h (keeps.Fat r) e f) (moves h (keeps.Fat r) e f)
-          (one_act (NotifiesAll m) is (Leaves (plain.NotifyAll m)) (held_step h e))
-          (done_with (phases.NotifyAll m r) x.turns (plain.NotifyAll m) (λ a word g. cc) refl refl refl refl)
+  does_notify_all m is = notifying m (NotifiesAll m) acts.NotifyAll (plain.NotifyAll m) (phases.NotifyAll m) is refl refl refl refl (λ depth g. cc)
+      (λ none. ap (λ (ws : List PlainThread). Some (with_thread (record q { threads = ws }) t (Leaves plain.Run))) (none_woken m (slice_set q.threads t (Leaves (plain.NotifyAll m))) none))
+      (λ r. done_with (phases.NotifyAll m r) x.turns (plain.NotifyAll m) (λ a word g. cc) refl refl refl refl)
 
   pub does_one : (e : Effect) → effect_at c.program at ≡ e → IsOfWaiting e → StepsBeside c objects s t x q
   does_one (Waits m) is h = does_wait m is

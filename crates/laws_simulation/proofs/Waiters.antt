@@ -43,56 +43,31 @@ module _ {turn : Turn} where
   -- ---- it gives the monitor up
 
   pub given_up : (m r : ℕ) → Moment turn (phases.WaitOut m r) → StepsBeside c objects s t x q
-  given_up m r k = stepped k later x2 (acts.Wait ∷ []) behind refl refl refl (ap (goes_to_wait x m r) fat.is)
+  given_up m r k =
+      let stands : Stands c (phases.WaitOut m r) x.frames x.held x.attempt = counted k (phases.WaitOut m r) (own_as k) in
+      let fat : HasFat objects s.words t m r x = owning k t x m r turn.here stands.phase_shows.1 in
+      let later : List ℕ = slice_set s.words (owner_word r) 0 in
+      let written : AreRecordsWritten s.words later = owner_written s.words r 0 fat.low in
+      let x2 : Thread = record x { held = without_held m x.held; phase = phases.WaitLook m r fat.held.depth } in
+      let y2 : PlainThread = with_status y (plain.Waiting m fat.held.depth) in
+      let behind : Plain = record q { holdings = without_holding m q.holdings; threads = slice_set q.threads t y2 } in
+      let depth : depth_for t (holding_at q.holdings m) ≡ Some fat.held.depth = held_depth_is q.holdings s.threads (holdings_alike k) t m x fat.held turn.here fat.is in
+      let holds : IsHolding (holding_at q.holdings m) t m fat.held.depth = holds_then q.holdings s.threads (holdings_alike k) t m x fat.held turn.here fat.is in
+      let step : waited q t m y (holding_at q.holdings m) ≡ Some behind =
+          ap (waited q t m y) holds.is
+          ∙ ap (λ (b : Bool). cond b (Some (with_thread (let_go q m) t (with_status y (plain.Waiting m holds.holding.depth)))) None) (ap (λ (n : ℕ). n == t) holds.holder ∙ is_same t)
+          ∙ ap (λ (d : ℕ). Some (with_thread (let_go q m) t (with_status y (plain.Waiting m d)))) holds.depth_is in
+      let kept : (u n : ℕ) → has_wait_bit (references_of q.objects) later u n ≡ has_wait_bit (references_of q.objects) s.words u n =
+          λ u n. bits_kept k later written u (λ i low. owner_keeps_bits s.words r 0 i u) n in
+      let bit : has_wait_bit (references_of q.objects) later t m ≡ true = kept t m ∙ bit_now k t m r fat.lock ∙ (waits_now k (phases.WaitOut m r) (own_as k)).must in
+      stepped k later x2 (acts.Wait ∷ []) behind refl refl refl (ap (goes_to_wait x m r) fat.is)
       (first_step c.program q behind t y acts.Wait [] (plain.Wait m) twin (own_status k) step)
       (alone_beside k later x2 (without_holding m q.holdings) y2 written (λ a word e. cc) (λ a word e. cc) refl (λ g. cc)
       (alike_dropped q.holdings s.threads (holdings_alike k) t x x2 turn.here m refl stands.once (λ u d. alone (holding_at q.holdings m) t u fat.held.depth depth d))
       turn.outside
-      (record { frames = own_frames k; status = status (has_wait_bit (references_of q.objects) later t m) bit; roots = own_roots k })
+      (record { frames = own_frames k; status = ap (λ (b : Bool). waiting_status b m fat.held.depth) (sym bit); roots = own_roots k })
       (own_ends k ∙ ends_alike c.program x.part (phases.WaitOut m r) (phases.WaitLook m r fat.held.depth) refl)
       (λ u n d. kept u n))
-    where
-      stands : Stands c (phases.WaitOut m r) x.frames x.held x.attempt
-      stands = counted k (phases.WaitOut m r) (own_as k)
-
-      fat : HasFat objects s.words t m r x
-      fat = owning k t x m r turn.here stands.phase_shows.1
-
-      later : List ℕ
-      later = slice_set s.words (owner_word r) 0
-
-      written : AreRecordsWritten s.words later
-      written = owner_written s.words r 0 fat.low
-
-      x2 : Thread
-      x2 = record x { held = without_held m x.held; phase = phases.WaitLook m r fat.held.depth }
-
-      y2 : PlainThread
-      y2 = with_status y (plain.Waiting m fat.held.depth)
-
-      behind : Plain
-      behind = record q { holdings = without_holding m q.holdings; threads = slice_set q.threads t y2 }
-
-      depth : depth_for t (holding_at q.holdings m) ≡ Some fat.held.depth
-      depth = held_depth_is q.holdings s.threads (holdings_alike k) t m x fat.held turn.here fat.is
-
-      holds : IsHolding (holding_at q.holdings m) t m fat.held.depth
-      holds = holds_then q.holdings s.threads (holdings_alike k) t m x fat.held turn.here fat.is
-
-      step : waited q t m y (holding_at q.holdings m) ≡ Some behind
-      step = ap (waited q t m y) holds.is
-          ∙ ap (λ (b : Bool). cond b (Some (with_thread (let_go q m) t (with_status y (plain.Waiting m holds.holding.depth)))) None) (ap (λ (n : ℕ). n == t) holds.holder ∙ is_same t)
-          ∙ ap (λ (d : ℕ). Some (with_thread (let_go q m) t (with_status y (plain.Waiting m d)))) holds.depth_is
-
-      kept : (u n : ℕ) → has_wait_bit (references_of q.objects) later u n ≡ has_wait_bit (references_of q.objects) s.words u n
-      kept u n = bits_kept k later written u (λ i low. owner_keeps_bits s.words r 0 i u) n
-
-      bit : has_wait_bit (references_of q.objects) later t m ≡ true
-      bit = kept t m ∙ bit_now k t m r fat.lock ∙ (waits_now k (phases.WaitOut m r) (own_as k)).must
-
-      status : (b : Bool) → b ≡ true → plain.Waiting m fat.held.depth ≡ waiting_status b m fat.held.depth
-      status true e = refl
-      status false e = absurd (cc)
 
   -- ---- it looks at its bit
 
@@ -129,9 +104,6 @@ module _ {turn : Turn} where
     | inr e ↦ stepped k s.words (with_phase x (phases.Retake m r depth)) [] q refl refl (set_self s.words (bits_word r)) (moves false e) refl (to_retake m r depth k e)
   ]
     where
-      after : Bool → Thread
-      after b = cond b (failed_turn x (phases.WaitLook m r depth)) (with_phase x (phases.Retake m r depth))
-
       moves : (b : Bool) → is_bit_set s.words r t ≡ b → cond (has_flag (bit_of x.number) (slice_index s.words (bits_word r))) (failed_turn x (phases.WaitLook m r depth)) (with_phase x (phases.Retake m r depth))
           ≡ cond b (failed_turn x (phases.WaitLook m r depth)) (with_phase x (phases.Retake m r depth))
       moves b e = ap (λ (d : Bool). cond d (failed_turn x (phases.WaitLook m r depth)) (with_phase x (phases.Retake m r depth))) (ap (λ (n : ℕ). has_flag (bit_of n) (slice_index s.words (bits_word r))) (own_number k) ∙ e)
