@@ -218,7 +218,7 @@ module _ (turn : Turn) (after : Plain) (got : ℕ) where
     pub is : history.notify_acts held act ≡ acts.Do ∷ more
     pub quiet : AreQuiet more
 
-  notes : (held : Option Held) (act : Act) → is_do act ≡ false → is_enter act ≡ false → Notes held act
+  pub notes : (held : Option Held) (act : Act) → is_do act ≡ false → is_enter act ≡ false → Notes held act
   notes None act d e = record { more = []; is = refl; quiet = tt }
   notes (Some h) act d e = (elim h.kept as (λ (k : Kept). h.kept ≡ k → Notes (Some h) act) [
     | keeps.Flat count ↦ λ l. record { more = act ∷ []; is = ap (λ (k : Kept). notified_by k act) l; quiet = ((d, e), tt) }

@@ -12,7 +12,7 @@ use Rattle.machine_types.specs.{Threads.{Frame, Thread}, Words.{header_length, v
 use Rattle.machine_types.specs.declared.{effect.Effect.TheVariants.{Writes, Indexes, Makes, Prints, Returns, Leaves, Waits, Notifies, NotifiesAll, Stuck, Throws}, lock.{Held.Held, Kept.Kept}}
 use Rattle.machine_types.specs.declared.{phase.Phase.Phase, plain.Act.Act}
 use Rattle.laws_threads.proofs.Landing.{stand_top}
-use Rattle.laws_simulation.proofs.{CountedEvents.{AreQuiet, quiet_acts, first_by, first_step, effect_print, top_print, new_print}, OwnThread.own, PlainCounts.is_do, Turns.Turn}
+use Rattle.laws_simulation.proofs.{CountedEvents.{AreQuiet, quiet_acts, notes, first_by, first_step, effect_print, top_print, new_print}, OwnThread.own, PlainCounts.is_do, Turns.Turn}
 use Rattle.jvm_types.specs.declared.code.Op.TheVariants as ops
 use Rattle.machine_types.specs.History as history
 use Rattle.machine_types.specs.PlainState as plain
@@ -151,23 +151,12 @@ module _ (memory : InstructionsChangeMemory) (turn : Turn) (after : Plain) (got 
       by_test : (b : Bool) → plain_run c.program q (steps_of t (act_if b acts.Do)) ≡ Some after → after.prints ≡ with_printed t q.prints (option_map (λ (p : Print). p.value) (cond b (Some (record { ticket = got; value = int_of n })) None))
       by_test true r = instruction at [] status top r tt ∙ ap (λ (e : Effect). with_printed t q.prints (value_of e)) is
       by_test false r = others [] r tt
-  by_effect at (Notifies m) is status top run = by_held (held_at s.held m) run
-    where
-      by_held : (o : Option Held) → plain_run c.program q (steps_of t (history.notify_acts o (acts.Notify None))) ≡ Some after → after.prints ≡ q.prints
-      by_held None r = instruction at [] status top r tt ∙ ap (λ (e : Effect). with_printed t q.prints (value_of e)) is
-      by_held (Some h) r = (elim h.kept as (λ (k : Kept). plain_run c.program q (steps_of t (notified_by k (acts.Notify None))) ≡ Some after → after.prints ≡ q.prints) [
-        | keeps.Flat n ↦ λ r. instruction at (acts.Notify None ∷ []) status top r (refl, tt) ∙ ap (λ (e : Effect). with_printed t q.prints (value_of e)) is
-        | keeps.Fat i ↦ λ r. instruction at [] status top r tt ∙ ap (λ (e : Effect). with_printed t q.prints (value_of e)) is
-      ]) r
-  by_effect at (NotifiesAll m) is status top run = by_held (held_at s.held m) run
-    where
-      by_held : (o : Option Held) → plain_run c.program q (steps_of t (history.notify_acts o acts.NotifyAll)) ≡ Some after → after.prints ≡ q.prints
-      by_held None r = instruction at [] status top r tt ∙ ap (λ (e : Effect). with_printed t q.prints (value_of e)) is
-      by_held (Some h) r = by_kept h.kept r
-        where
-          by_kept : (k : Kept) → plain_run c.program q (steps_of t (notified_by k acts.NotifyAll)) ≡ Some after → after.prints ≡ q.prints
-          by_kept (keeps.Flat n) r = instruction at (acts.NotifyAll ∷ []) status top r (refl, tt) ∙ ap (λ (e : Effect). with_printed t q.prints (value_of e)) is
-          by_kept (keeps.Fat i) r = instruction at [] status top r tt ∙ ap (λ (e : Effect). with_printed t q.prints (value_of e)) is
+  by_effect at (Notifies m) is status top run =
+      let k = notes turn after got (held_at s.held m) (acts.Notify None) refl refl in
+      instruction at k.more status top (subst (λ (all : List Act). plain_run c.program q (steps_of t all) ≡ Some after) k.is run) (others_of k.more k.quiet) ∙ ap (λ (e : Effect). with_printed t q.prints (value_of e)) is
+  by_effect at (NotifiesAll m) is status top run =
+      let k = notes turn after got (held_at s.held m) acts.NotifyAll refl refl in
+      instruction at k.more status top (subst (λ (all : List Act). plain_run c.program q (steps_of t all) ≡ Some after) k.is run) (others_of k.more k.quiet) ∙ ap (λ (e : Effect). with_printed t q.prints (value_of e)) is
   by_effect at Stuck is status top run = others [] run tt
   by_effect at e is status top run = instruction at [] status top run tt ∙ ap (λ (e : Effect). with_printed t q.prints (value_of e)) is
 
