@@ -70,21 +70,21 @@ module _ (c : MarkedProgram) (objects : List Object) (s : Core) (x : Thread) (ma
   element_in word stored [] e on h k top = absurd on
   element_in word stored (f ∷ fs) e on h k top =
       let allows : (array index : ℕ) (z : Effect) → z ≡ Indexes array index stored → (m : MethodInfo) (insn : Insn) (target : Target) (r : OpRow) → Allowed c.program m (HasClass objects) insn target r f.stack z → IsOf (HasClass objects) INT_ARRAY_CLASS array × IsElementOn (value_word array (low index)) stored f.stack =
-          λ array index z e m insn target r al. let k : Allowed c.program m (HasClass objects) insn target r f.stack (Indexes array index stored) = subst (λ (w : Effect). Allowed c.program m (HasClass objects) insn target r f.stack w) e al in (k.1, k.2) in
+      λ array index z e m insn target r al. let k : Allowed c.program m (HasClass objects) insn target r f.stack (Indexes array index stored) = subst (λ (w : Effect). Allowed c.program m (HasClass objects) insn target r f.stack w) e al in (k.1, k.2) in
       let named : (f : Frame) (fs : List Frame) → x.frames ≡ f ∷ fs → IsElementOn word stored f.stack → (array index : ℕ) → HasElement objects array index → word ≡ value_word array index → (at : Top) → top_of c.program (f ∷ fs) ≡ Some at → effect_at c.program at ≡ Indexes array index stored → IsOf (HasClass objects) INT_ARRAY_CLASS array × IsElementOn (value_word array (low index)) stored f.stack → Element c objects x word stored =
-          λ f fs e on array index k is at found effect_is al. 
-          let here : word ≡ value_word array (low index) = one_on word (value_word array (low index)) stored f.stack on al.1 in
-          let same : low index ≡ index = omega (arith, here, is) in
-          record {
-          at = at;
-          found = ap (top_of c.program) e ∙ found;
-          array = array;
-          index = index;
-          effect_is = effect_is;
-          word_is = here;
-          element = subst (λ (n : ℕ). HasElement objects array n) (sym same) k;
-          is_array = al.0;
-          } in
+      λ f fs e on array index k is at found effect_is al.
+      let here : word ≡ value_word array (low index) = one_on word (value_word array (low index)) stored f.stack on al.1 in
+      let same : low index ≡ index = omega (arith, here, is) in
+      record {
+        at = at;
+        found = ap (top_of c.program) e ∙ found;
+        array = array;
+        index = index;
+        effect_is = effect_is;
+        word_is = here;
+        element = subst (λ (n : ℕ). HasElement objects array n) (sym same) k;
+        is_array = al.0;
+      } in
       let j = h.0.stands in
       let op = ap (is_element_op stored) (same_op c marked (HasClass objects) f j top.0) ∙ top.1 in
       let n = names objects c.program j.insn.next j.target j.insn.op f.locals f.stack word stored op on k (λ o k. omega (arith, heap.apart.begin k.0 o (contained_got objects o k))) in

@@ -117,27 +117,27 @@ module _ (lies : StartLiesApart) (scene : Scene) (k : Moving scene.turn) where
       (cond (slice_index s.words m == word_of_lock (locks.Free seen)) (takes x m (keeps.Flat seen)) (failed_turn x (phases.Acquire m)))
   took m seen object status = (elim (slice_index s.words m == word_of_lock (locks.Free seen)) as (λ (b : Bool). (slice_index s.words m == word_of_lock (locks.Free seen)) ≡ b
       → Makes k (act_if b acts.Enter) (slice_set s.words m (cond b (word_of_lock (locks.Held x.number)) (slice_index s.words m))) (cond b (takes x m (keeps.Flat seen)) (failed_turn x (phases.Acquire m)))) [
-    | true ↦ λ e.
-        let free : lock_at (references_of objects) s.words m ≡ locks.Free seen = lock_is m (locks.Free seen) object e in
-        takes_it (slice_set s.words m (word_of_lock (locks.Held x.number))) m (keeps.Flat seen)
-        (thin_stays lies scene m (word_of_lock (locks.Held x.number)) object (λ r f. let bad : locks.Free seen ≡ locks.Fat r = sym free ∙ f in cc)
-        (λ r f. let bad : locks.Held x.number ≡ locks.Fat r = sym (lock_of_word (locks.Held x.number)) ∙ f in cc))
-        status (by_words m (locks.Free seen) free (λ u. refl))
-    | false ↦ λ e. to_wait (slice_set s.words m (slice_index s.words m)) m (phases.Acquire m) (loaded m) tt status status
-  ]) refl
+        | true ↦ λ e.
+            let free : lock_at (references_of objects) s.words m ≡ locks.Free seen = lock_is m (locks.Free seen) object e in
+            takes_it (slice_set s.words m (word_of_lock (locks.Held x.number))) m (keeps.Flat seen)
+            (thin_stays lies scene m (word_of_lock (locks.Held x.number)) object (λ r f. let bad : locks.Free seen ≡ locks.Fat r = sym free ∙ f in cc)
+            (λ r f. let bad : locks.Held x.number ≡ locks.Fat r = sym (lock_of_word (locks.Held x.number)) ∙ f in cc))
+            status (by_words m (locks.Free seen) free (λ u. refl))
+        | false ↦ λ e. to_wait (slice_set s.words m (slice_index s.words m)) m (phases.Acquire m) (loaded m) tt status status
+      ]) refl
 
   pub flagged : (m u : ℕ) → HasObject objects m → k.z.status ≡ plain.Enter m
       → Makes k [] (slice_set s.words m (cond (slice_index s.words m == word_of_lock (locks.Held u)) (word_of_lock (locks.Flagged u)) (slice_index s.words m))) (with_phase x (phases.Acquire m))
   flagged m u object status = (elim (slice_index s.words m == word_of_lock (locks.Held u)) as (λ (b : Bool). (slice_index s.words m == word_of_lock (locks.Held u)) ≡ b
       → Makes k [] (slice_set s.words m (cond b (word_of_lock (locks.Flagged u)) (slice_index s.words m))) (with_phase x (phases.Acquire m))) [
-    | true ↦ λ e.
-        let held : lock_at (references_of objects) s.words m ≡ locks.Held u = lock_is m (locks.Held u) object e in
-        to_phase k (slice_set s.words m (word_of_lock (locks.Flagged u))) (phases.Acquire m)
-        (thin_stays lies scene m (word_of_lock (locks.Flagged u)) object (λ r f. let bad : locks.Held u ≡ locks.Fat r = sym held ∙ f in cc)
-        (λ r f. let bad : locks.Flagged u ≡ locks.Fat r = sym (lock_of_word (locks.Flagged u)) ∙ f in cc))
-        tt status
-    | false ↦ λ e. to_phase k (slice_set s.words m (slice_index s.words m)) (phases.Acquire m) (loaded m) tt status
-  ]) refl
+        | true ↦ λ e.
+            let held : lock_at (references_of objects) s.words m ≡ locks.Held u = lock_is m (locks.Held u) object e in
+            to_phase k (slice_set s.words m (word_of_lock (locks.Flagged u))) (phases.Acquire m)
+            (thin_stays lies scene m (word_of_lock (locks.Flagged u)) object (λ r f. let bad : locks.Held u ≡ locks.Fat r = sym held ∙ f in cc)
+            (λ r f. let bad : locks.Flagged u ≡ locks.Fat r = sym (lock_of_word (locks.Flagged u)) ∙ f in cc))
+            tt status
+        | false ↦ λ e. to_phase k (slice_set s.words m (slice_index s.words m)) (phases.Acquire m) (loaded m) tt status
+      ]) refl
 
   low_record : (r : ℕ) → r < MONITOR_RECORDS → nat_lt r MONITOR_RECORDS ≡ true
   low_record r l = grind (arith, nat_tests, l)

@@ -1,8 +1,8 @@
 -- The plain steps by which a thread enters a monitor and leaves it.
-use Rattle.std.proofs.Common.{◌≡◌, ℕ, ◌+◌, Bool, true, cond, [], ◌∷◌, Option, Some, None, refl, ap, ◌∙◌, ◌==◌, option_map, option_and_then, slice_get}
+use Rattle.std.proofs.Common.{◌≡◌, ℕ, ◌+◌, Bool, true, cond, [], ◌∷◌, Option, Some, None, ap, ◌∙◌, ◌==◌, option_map, slice_get}
 use Rattle.jvm_types.specs.declared.program.Program.{Program}
 use Rattle.machine_types.specs.{History.steps_of, Onward.{Onward, after}, PlainState.{Plain, PlainThread, Holding, Status, holding_at, held_by, with_thread, with_status, plain_goes_on}}
-use Rattle.machine_types.{specs.{PlainSteps.{plain_entered, left, exited, step_at, step_of, plain_run}, declared.{phase.After.After, plain.Act.Act}}, proofs.PlainStepLaws.is_same}
+use Rattle.machine_types.{specs.{PlainSteps.{plain_entered, left, exited, step_at, plain_run}, declared.{phase.After.After}}, proofs.PlainStepLaws.is_same}
 use Rattle.laws_simulation.proofs.{Assembled.one_step, HoldingsAlike.IsHolding}
 use Rattle.machine_types.specs.PlainState as plain
 use Rattle.machine_types.specs.declared.plain.Act.TheVariants as acts

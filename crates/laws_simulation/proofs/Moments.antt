@@ -130,7 +130,7 @@ module _ {turn : Turn} {phase : Phase} (k : Moment turn phase) where
       → StandsBeside c.program objects (record { words = later; threads = slice_set s.threads t x2 }) behind → StepsBeside c objects s t x q
   stepped later x2 acts behind none ea ew em run beside =
       let state_is : accessed_by s t (wanted c x x.phase) (moved c x x.phase (found_by s.words (wanted c x x.phase))) ≡ record { words = later; threads = slice_set s.threads t x2 } =
-          ap (λ (f : Phase). accessed_by s t (wanted c x f) (moved c x f (found_by s.words (wanted c x f)))) k.phase_is ∙ λ i. record { words = ew i; threads = slice_set s.threads t (em i) } in
+      ap (λ (f : Phase). accessed_by s t (wanted c x f) (moved c x f (found_by s.words (wanted c x f)))) k.phase_is ∙ λ i. record { words = ew i; threads = slice_set s.threads t (em i) } in
       steps_beside turn behind (ap (λ (f : Phase). objects_by c.program f objects) k.phase_is ∙ none)
       (ap (λ (f : Phase). plain_run c.program q (steps_of t (acts_of c x f (found_by s.words (wanted c x f))))) k.phase_is ∙ ap (λ (l : List Act). plain_run c.program q (steps_of t l)) ea ∙ run)
       (subst (λ (r : Core). StandsBeside c.program objects r behind) (sym state_is) beside)

@@ -1,15 +1,14 @@
 -- What stands beside when a thread has moved: where the plain machine made no step, where one of its threads did, and where the
 -- thread goes on to its next instruction.
 use Rattle.std.proofs.Common.{◌≡◌, ◌≢◌, inl, inr, ℕ, zero, suc, ◌+◌, ◌<◌, nat_lt, Bool, true, false, cond, List, [], ◌∷◌, Option, Some, None, refl, sym, ap, ◌∙◌, subst, arith, slice_get, slice_set}
-use Rattle.std.proofs.lemmas.List.{length-set}
 use Rattle.jvm_types.specs.{Numbers.has_flag, declared.{fixed_words.TheConstants.{MONITOR_RECORDS, NEXT_FREE_WORD, NEXT_TICKET_WORD}, outcome.End.End, program.Program.Program}}
-use Rattle.machine_types.specs.{Agreement.{has_wait_bit, StatusFits, OutsideFits, ThreadFits, frames_shown, roots_shown}, Going.runs, HeldMonitors.held_at, Monitors.bit_of}
+use Rattle.machine_types.specs.{Agreement.{has_wait_bit, OutsideFits, ThreadFits}, Going.runs, HeldMonitors.held_at, Monitors.bit_of}
 use Rattle.machine_types.specs.{Owners.{Knows, lock_at, owner_at, locks_in, references_of, hold_by_kept, hold_by_list, hold_by_word, HeldFat}, Parts.done_roots, PlainMemory.Object}
-use Rattle.machine_types.specs.{PlainState.{Status, Plain, PlainThread, Holding}, Structure.{IsFat, Stands}, Threads.{Attempt, Frame, Thread}, Waiting.{MayWait, Waits, is_bit_set}}
-use Rattle.machine_types.{specs.{Words.{owner_word, bits_word}, declared.{lock.{Held.Held, LockWord.LockWord}, phase.Phase.Phase}}, proofs.Lists.{got_when_set, got_other, set_as_it_is}}
+use Rattle.machine_types.specs.{PlainState.{Status, Plain, PlainThread, Holding}, Structure.{IsFat, Stands}, Threads.{Attempt, Thread}, Waiting.{MayWait, Waits, is_bit_set}}
+use Rattle.machine_types.{specs.{Words.{owner_word, bits_word}, declared.{lock.{Held.Held, LockWord.LockWord}, phase.Phase.Phase}}, proofs.Lists.{set_as_it_is}}
 use Rattle.laws_states.{specs.{SiteLaws.SitesLieInside, Sites.BitsOf}, proofs.{Lists.{set_here, set_there, same_or_not}, LockViews.fatly}}
 use Rattle.laws_simulation.{specs.StandsBeside.{StandsBeside, own_end, end_of_done, ends_shown}, proofs.{Assembled.moved_beside, GoingOnAlike.awake_fits, HoldingsAlike.{HoldAlike, alike_kept}}}
-use Rattle.laws_simulation.proofs.{Moments.{Moment, AreRecordsWritten, record_written, lock_same, lock_kept, holdings_alike}, OwnThread.own, PlainPlaces.place_low, Turns.Turn, WaitBits.{bit_by, fits_by}}
+use Rattle.laws_simulation.proofs.{Moments.{Moment, AreRecordsWritten, record_written, lock_same, lock_kept, holdings_alike}, OwnThread.own, PlainPlaces.place_low, Turns.Turn, WaitBits.{bit_by}}
 use Rattle.laws_simulation.proofs.WaitersHaveBits.{bit_in, bit_of_fat}
 use Rattle.jvm_types.specs.declared.outcome.End.TheVariants as ends
 use Rattle.machine_types.specs.PlainState as plain

@@ -143,12 +143,12 @@ module _ (stands : RunIsThere) (states : States) (x : Thread) (workers : List Th
   run_begins part rests =
       let idle : AllByRecursion (λ (w : Thread). w.phase ≡ phases.Idle) workers = subst (λ (n : ℕ). PartFits n x.phase workers) part (subst PartsFit threads facts.threads.parts) in
       let each : (u : ℕ) (z : Thread) → slice_get workers u ≡ Some z → Alike c.program z (with_roots (run_roots c.program) z) =
-          λ u z e. 
-          let there = (ap (λ (xs : List Thread). slice_get xs (suc u)) threads ∙ e) in
-          let z_idle = at_index (λ (w : Thread). w.phase ≡ phases.Idle) workers u z idle e in
-          let own = facts.threads.own (suc u) z there in
-          worker_alike c.program z (run_roots c.program) refl
-          (no_run_roots stands c marked (omega (arith, got_below s.threads (suc u) z there, facts.threads.count))) z_idle (idle_attempt c (was (suc u)) z z_idle (facts.structure (suc u) z there)) (own.part (λ h. omega (arith, h))) in
+      λ u z e.
+      let there = (ap (λ (xs : List Thread). slice_get xs (suc u)) threads ∙ e) in
+      let z_idle = at_index (λ (w : Thread). w.phase ≡ phases.Idle) workers u z idle e in
+      let own = facts.threads.own (suc u) z there in
+      worker_alike c.program z (run_roots c.program) refl
+      (no_run_roots stands c marked (omega (arith, got_below s.threads (suc u) z there, facts.threads.count))) z_idle (idle_attempt c (was (suc u)) z z_idle (facts.structure (suc u) z there)) (own.part (λ h. omega (arith, h))) in
       begins_beside states (workers_begin c.program x workers)
       (pairs_by (workers_begin c.program x workers) (init_alike c.program x (how_ended x.phase) rests (outside rests) part, workers_alike c.program workers each))
       (λ z e two none. absurd (let one : 1 ≡ z.part = ap (λ (v : Thread). v.part) (same_some e) in omega (arith, two, one)))

@@ -37,9 +37,9 @@ module _ {turn : Turn} where
       let behind : Plain = record q { threads = slice_set q.threads t (running y) } in
       let empty : slice_index s.words (bits_word r) ≡ 0 = grind (arith, nat_tests, e) in
       let off : (u : ℕ) → has_wait_bit (references_of q.objects) s.words u m ≡ false =
-          λ u. bit_now k u m r (owning k t x m r turn.here (counted k (phases.NotifyLook m r) (own_as k)).phase_shows.1).lock ∙ ap (λ (n : ℕ). has_flag (bit_of u) n) empty in
+      λ u. bit_now k u m r (owning k t x m r turn.here (counted k (phases.NotifyLook m r) (own_as k)).phase_shows.1).lock ∙ ap (λ (n : ℕ). has_flag (bit_of u) n) empty in
       let step : notified q t m y None ≡ Some behind =
-          ap (λ (b : Bool). cond b None (Some (with_thread q t (with_status y plain.Run)))) (none_waits m q.threads (nobody_by_bits c.program s q m turn.beside.agrees off)) in
+      ap (λ (b : Bool). cond b None (Some (with_thread q t (with_status y plain.Run)))) (none_waits m q.threads (nobody_by_bits c.program s q m turn.beside.agrees off)) in
       stepped k s.words (runs x) (acts.Notify None ∷ []) behind refl (ap (λ (b : Bool). act_if b (acts.Notify None)) e) (set_self s.words (bits_word r))
       (ap (λ (b : Bool). cond b (runs x) (with_phase x (phases.NotifyOne m r (lowest_of (slice_index s.words (bits_word r)))))) e)
       (first_step c.program q behind t y (acts.Notify None) [] (plain.Notify m) twin (own_status k) step)

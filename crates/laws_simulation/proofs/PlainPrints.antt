@@ -9,14 +9,13 @@ use Rattle.machine_types.specs.{History.{acts_of, steps_of, act_if, notified_by,
 use Rattle.machine_types.specs.{Owners.references_of, PlainInstructions.{plain_did, indexed_in, plain_instructed, got_by}, PlainLaws.InstructionsChangeMemory}
 use Rattle.machine_types.specs.{PlainState.{Plain, PlainThread, Printed, Status, value_at, with_thread, plain_goes_on}, PlainSteps.{plain_run, step_of}, Structure.{TopIs, is_element_op}}
 use Rattle.machine_types.specs.{Threads.{Frame, Thread}, Words.{header_length, value_word, variable_word}, declared.effect.Effect.Effect}
-use Rattle.machine_types.specs.declared.{effect.Effect.TheVariants.{Writes, Indexes, Makes, Prints, Returns, Leaves, Waits, Notifies, NotifiesAll, Stuck, Throws}, lock.{Held.Held, Kept.Kept}}
+use Rattle.machine_types.specs.declared.{effect.Effect.TheVariants.{Writes, Indexes, Makes, Prints, Returns, Leaves, Waits, Notifies, NotifiesAll, Stuck, Throws}, lock.{Held.Held}}
 use Rattle.machine_types.specs.declared.{phase.Phase.Phase, plain.Act.Act}
 use Rattle.laws_threads.proofs.Landing.{stand_top}
 use Rattle.laws_simulation.proofs.{CountedEvents.{AreQuiet, quiet_acts, notes, first_by, first_step, effect_print, top_print, new_print}, OwnThread.own, PlainCounts.is_do, Turns.Turn}
 use Rattle.jvm_types.specs.declared.code.Op.TheVariants as ops
 use Rattle.machine_types.specs.History as history
 use Rattle.machine_types.specs.PlainState as plain
-use Rattle.machine_types.specs.declared.lock.Kept.TheVariants as keeps
 use Rattle.machine_types.specs.declared.lock.LockWord.TheVariants as locks
 use Rattle.machine_types.specs.declared.phase.Phase.TheVariants as phases
 use Rattle.machine_types.specs.declared.plain.Act.TheVariants as acts

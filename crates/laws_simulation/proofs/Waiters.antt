@@ -54,11 +54,11 @@ module _ {turn : Turn} where
       let depth : depth_for t (holding_at q.holdings m) ≡ Some fat.held.depth = held_depth_is q.holdings s.threads (holdings_alike k) t m x fat.held turn.here fat.is in
       let holds : IsHolding (holding_at q.holdings m) t m fat.held.depth = holds_then q.holdings s.threads (holdings_alike k) t m x fat.held turn.here fat.is in
       let step : waited q t m y (holding_at q.holdings m) ≡ Some behind =
-          ap (waited q t m y) holds.is
-          ∙ ap (λ (b : Bool). cond b (Some (with_thread (let_go q m) t (with_status y (plain.Waiting m holds.holding.depth)))) None) (ap (λ (n : ℕ). n == t) holds.holder ∙ is_same t)
-          ∙ ap (λ (d : ℕ). Some (with_thread (let_go q m) t (with_status y (plain.Waiting m d)))) holds.depth_is in
+      ap (waited q t m y) holds.is
+      ∙ ap (λ (b : Bool). cond b (Some (with_thread (let_go q m) t (with_status y (plain.Waiting m holds.holding.depth)))) None) (ap (λ (n : ℕ). n == t) holds.holder ∙ is_same t)
+      ∙ ap (λ (d : ℕ). Some (with_thread (let_go q m) t (with_status y (plain.Waiting m d)))) holds.depth_is in
       let kept : (u n : ℕ) → has_wait_bit (references_of q.objects) later u n ≡ has_wait_bit (references_of q.objects) s.words u n =
-          λ u n. bits_kept k later written u (λ i low. owner_keeps_bits s.words r 0 i u) n in
+      λ u n. bits_kept k later written u (λ i low. owner_keeps_bits s.words r 0 i u) n in
       let bit : has_wait_bit (references_of q.objects) later t m ≡ true = kept t m ∙ bit_now k t m r fat.lock ∙ (waits_now k (phases.WaitOut m r) (own_as k)).must in
       stepped k later x2 (acts.Wait ∷ []) behind refl refl refl (ap (goes_to_wait x m r) fat.is)
       (first_step c.program q behind t y acts.Wait [] (plain.Wait m) twin (own_status k) step)
@@ -81,11 +81,11 @@ module _ {turn : Turn} where
       let bit : has_wait_bit (references_of q.objects) s.words t m ≡ true = bit_now k t m r fat ∙ e in
       let status : y.status ≡ plain.Waiting m depth = own_status k ∙ ap (λ (b : Bool). waiting_status b m depth) bit in
       let waits : (n : ℕ) → has_wait_bit (references_of q.objects) s.words t n ≡ true → (d : ℕ) × (y.status ≡ plain.Waiting n d) =
-          λ n g. 
-          let b = set_in k s.words (same_words s.words) t n g in
-          let one : b.0 ≡ r = (waits_now k (phases.WaitLook m r depth) (own_as k)).only b.0 (fat_low k n b.0 b.1) b.2 in
-          let same : m ≡ n = fat_one k m n r fat (b.1 ∙ ap locks.Fat one) in
-          (depth, status ∙ ap (λ (i : ℕ). plain.Waiting i depth) same) in
+      λ n g.
+      let b = set_in k s.words (same_words s.words) t n g in
+      let one : b.0 ≡ r = (waits_now k (phases.WaitLook m r depth) (own_as k)).only b.0 (fat_low k n b.0 b.1) b.2 in
+      let same : m ≡ n = fat_one k m n r fat (b.1 ∙ ap locks.Fat one) in
+      (depth, status ∙ ap (λ (i : ℕ). plain.Waiting i depth) same) in
       quiet_beside k s.words (Turned x false (phases.WaitLook m r depth)) (same_words s.words) (λ a word f. cc) (λ a word f. cc) refl (λ g. cc) refl turn.outside
       (record { frames = own_frames k; status = record { waits = waits; awake = λ none. absurd (let clash : true ≡ false = sym bit ∙ none m in cc) }; roots = own_roots k })
       (own_ends k ∙ ends_alike c.program x.part (phases.WaitLook m r depth) (phases.Ending ends.Turns) refl) (λ u n d. refl)
@@ -134,18 +134,18 @@ module _ {turn : Turn} where
       let behind : Plain = record q { holdings = with_holding one q.holdings; threads = slice_set q.threads t y2 } in
       -- the record has no owner, so no thread holds the monitor
       let no_owner : owner_at s.words r ≡ 0 =
-          elim (nat_lt r MONITOR_RECORDS) as (λ (b : Bool). cond b (slice_index s.words (owner_word r)) 0 ≡ 0) [ true ↦ grind (arith, nat_tests, e) | false ↦ refl ] in
+      elim (nat_lt r MONITOR_RECORDS) as (λ (b : Bool). cond b (slice_index s.words (owner_word r)) 0 ≡ 0) [ true ↦ grind (arith, nat_tests, e) | false ↦ refl ] in
       let none_has : (u : ℕ) (z : Thread) → slice_get s.threads u ≡ Some z → held_at z.held m ≡ None =
-          λ u z g. 
-          let holds : hold_by_word u (lock_at (references_of objects) s.words m) (owner_at s.words) ≡ hold_by_list (held_at z.held m) = (turn.facts.owners.each u z g).holds m in
-          let none : hold_by_word u (lock_at (references_of objects) s.words m) (owner_at s.words) ≡ NotHeld = ap (λ (l : LockWord). hold_by_word u l (owner_at s.words)) fat ∙ ap (λ (b : Bool). cond b (HeldFat r) NotHeld) (ne_eqb (owner_at s.words r) (u + 1) (λ f. absurd (omega (arith, f, no_owner)))) in
-          not_held (held_at z.held m) (sym holds ∙ none) in
+      λ u z g.
+      let holds : hold_by_word u (lock_at (references_of objects) s.words m) (owner_at s.words) ≡ hold_by_list (held_at z.held m) = (turn.facts.owners.each u z g).holds m in
+      let none : hold_by_word u (lock_at (references_of objects) s.words m) (owner_at s.words) ≡ NotHeld = ap (λ (l : LockWord). hold_by_word u l (owner_at s.words)) fat ∙ ap (λ (b : Bool). cond b (HeldFat r) NotHeld) (ne_eqb (owner_at s.words r) (u + 1) (λ f. absurd (omega (arith, f, no_owner)))) in
+      not_held (held_at z.held m) (sym holds ∙ none) in
       let nobody : holding_at q.holdings m ≡ None = free_then q.holdings s.threads (holdings_alike k) m none_has in
       let step : retaken q t m depth y (holding_at q.holdings m) ≡ Some behind = ap (retaken q t m depth y) nobody in
       let kept : (u n : ℕ) → has_wait_bit (references_of q.objects) later u n ≡ has_wait_bit (references_of q.objects) s.words u n =
-          λ u n. bits_kept k later written u (λ i low. owner_keeps_bits s.words r (x.number + 1) i u) n in
+      λ u n. bits_kept k later written u (λ i low. owner_keeps_bits s.words r (x.number + 1) i u) n in
       let off : (n : ℕ) → has_wait_bit (references_of q.objects) later t n ≡ false =
-          λ n. kept t n ∙ own_off k s.words (same_words s.words) (λ i f. f) (phases.Retake m r depth) (own_as k) (λ i f. f) n in
+      λ n. kept t n ∙ own_off k s.words (same_words s.words) (λ i f. f) (phases.Retake m r depth) (own_as k) (λ i f. f) n in
       stepped k later (retakes x m r depth) (acts.Retake ∷ []) behind refl (ap (λ (b : Bool). act_if b acts.Retake) e)
       (ap (λ (b : Bool). slice_set s.words (owner_word r) (if b then x.number + 1 else slice_index s.words (owner_word r))) e)
       (ap (λ (b : Bool). cond b (retakes x m r depth) (failed_turn x (phases.Retake m r depth))) e)

@@ -1,6 +1,6 @@
 -- No worker keeps how an earlier part ended.
-use Rattle.std.proofs.Common.{◌≡◌, inl, inr, ℕ, zero, suc, ◌+◌, Bool, true, false, cond, List, [], ◌∷◌, map, Option, Some, None, refl, sym, ap, ◌∙◌, arith, ◌==◌, slice_get, slice_set}
-use Rattle.std.{specs.List.range_with_len, proofs.lemmas.Bool.{cases_Bool, Decides.Decides-eqb}}
+use Rattle.std.proofs.Common.{◌≡◌, inl, inr, ℕ, zero, suc, Bool, true, false, cond, List, [], ◌∷◌, map, Option, Some, None, refl, sym, ap, ◌∙◌, arith, ◌==◌, slice_get, slice_set}
+use Rattle.std.{proofs.lemmas.Bool.{cases_Bool, Decides.Decides-eqb}}
 use Rattle.lists.proofs.ListLaws.{same_some}
 use Rattle.jvm_types.specs.declared.program.Program.{Program}
 use Rattle.checked_program.specs.MarkedProgram.{MarkedProgram}
