@@ -25,11 +25,8 @@ module _ (p : Program) (at : Top) (got m : ℕ) (fs : List Frame) where
   did_enter s e k = ap (goes_on_if s) k
 
   instructed_goes : (x : Thread) (e : Effect) → ((a : Attempt) → x.attempt ≡ Some a → cond (is_checked at.frame.pc e) (fate_by (is_same a got) GoesOn) GoesOn ≡ Fails → ⊥) → instructed p (begun x) at e got ≡ did p (begun x) at e got
-  instructed_goes x e = by_check (is_checked at.frame.pc e)
-    where
-      by_check : (b : Bool) → ((a : Attempt) → x.attempt ≡ Some a → cond b (fate_by (is_same a got) GoesOn) GoesOn ≡ Fails → ⊥) → cond b (if_same (begun x) x.attempt got (did p (begun x) at e got)) (did p (begun x) at e got) ≡ did p (begun x) at e got
-      by_check true never = if_same_goes (begun x) (did p (begun x) at e got) x.attempt got never
-      by_check false never = refl
+  instructed_goes x e never = (elim (is_checked at.frame.pc e) as (λ (b : Bool). ((a : Attempt) → x.attempt ≡ Some a → cond b (fate_by (is_same a got) GoesOn) GoesOn ≡ Fails → ⊥) → cond b (if_same (begun x) x.attempt got (did p (begun x) at e got)) (did p (begun x) at e got) ≡ did p (begun x) at e got)
+      [ true ↦ λ never. if_same_goes (begun x) (did p (begun x) at e got) x.attempt got never | false ↦ λ never. refl ]) never
 
 module _ (c : MarkedProgram) (x : Thread) (got : ℕ) (at : Top) (m : ℕ) (fs : List Frame) (is_run : x.phase ≡ phases.Run) (top : top_of c.program x.frames ≡ Some at) where
   fate_there : (a : Attempt) → fate c x a x.phase got ≡ run_fate c a (Some at) got

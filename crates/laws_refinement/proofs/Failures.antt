@@ -43,16 +43,8 @@ module _ (may_do : InsideMayDo) (elements : ElementsInside) (runs : RunsHaveStat
 
   pub only_failures_count : OnlyFailuresCount
   only_failures_count c cfg hs t x y marked width settings here there never =
-      subst (λ (z : Thread). z.counts.failed ≡ x.counts.failed) (moved_is c s t x y here there) (by_attempt x.attempt refl)
-    where
-      s : Core
-      s = core c cfg hs
-
-      got : ℕ
-      got = found_by s.words (wanted c x x.phase)
-
-      by_attempt : (o : Option Attempt) → x.attempt ≡ o → (moved c x x.phase got).counts.failed ≡ x.counts.failed
-      by_attempt None e = outside_counts c x (moved c x x.phase got) got (moved c x x.phase got).attempt (outside_moves c x got e x.phase refl)
-      by_attempt (Some a) e =
-          inside_counts c x (moved c x x.phase got) got a (fate c x a x.phase got) (never a e)
-          (inside_moves c x a (in_attempt may_do elements runs parts c cfg hs t x a marked width settings here e) got)
+      let got : ℕ = found_by (core c cfg hs).words (wanted c x x.phase) in
+      subst (λ (z : Thread). z.counts.failed ≡ x.counts.failed) (moved_is c (core c cfg hs) t x y here there) ((elim x.attempt as (λ (o : Option Attempt). x.attempt ≡ o → (moved c x x.phase got).counts.failed ≡ x.counts.failed) [
+        | None ↦ λ e. outside_counts c x (moved c x x.phase got) got (moved c x x.phase got).attempt (outside_moves c x got e x.phase refl)
+        | Some a ↦ λ e. inside_counts c x (moved c x x.phase got) got a (fate c x a x.phase got) (never a e) (inside_moves c x a (in_attempt may_do elements runs parts c cfg hs t x a marked width settings here e) got)
+      ]) refl)

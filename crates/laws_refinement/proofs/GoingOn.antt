@@ -51,12 +51,8 @@ pub record Grows (p : Program) (Keeps : (n : ℕ) → Type 0) (words : List ℕ)
 
 pub replayed_more : (p : Program) (m : ℕ) (memory : ℕ → Option ℕ) (due acts : List Act) (x y : Alone) → replayed p m memory due x ≡ Some y → replayed p m memory (due ++ acts) x ≡ replayed p m memory acts y
 replayed_more p m memory [] acts x y e = let same : x ≡ y = cc in ap (replayed p m memory acts) same
-replayed_more p m memory (act ∷ due) acts x y e = by_act (replay_act p m memory x act x.thread.status) (λ z. replayed_more p m memory due acts z y) e
-  where
-    by_act : (o : Option Alone) → ((z : Alone) → replayed p m memory due z ≡ Some y → replayed p m memory (due ++ acts) z ≡ replayed p m memory acts y)
-        → option_and_then (replayed p m memory due) o ≡ Some y → option_and_then (replayed p m memory (due ++ acts)) o ≡ replayed p m memory acts y
-    by_act None more f = absurd (cc)
-    by_act (Some z) more f = more z f
+replayed_more p m memory (act ∷ due) acts x y e = (elim (replay_act p m memory x act x.thread.status) as (λ (o : Option Alone). option_and_then (replayed p m memory due) o ≡ Some y → option_and_then (replayed p m memory (due ++ acts)) o ≡ replayed p m memory acts y)
+    [ None ↦ λ f. absurd (cc) | Some z ↦ λ f. replayed_more p m memory due acts z y f ]) e
 
 -- ---- how a thread goes on
 

@@ -137,11 +137,8 @@ module _ (c : MarkedProgram) (marked : IsMarked c) (x : Thread) (a : Attempt) (t
 
     -- behind its check, where it has one, which fails
     instruction : (e : Effect) (got : ℕ) → (is_checked at.frame.pc e ≡ true → is_same a got ≡ false) → MayDo c a.monitor at e → IsAllowed c.program at e → GoesOnBy c.program at e got → Lessens whole 1 (instructed c.program (begun x) at e got)
-    instruction e got missed may allowed some = by_check (is_checked at.frame.pc e) refl
-      where
-        by_check : (b : Bool) → is_checked at.frame.pc e ≡ b → Lessens whole 1 (if b then if_same (begun x) x.attempt got (did c.program (begun x) at e got) else did c.program (begun x) at e got)
-        by_check true checked = check_fails c.program a whole 1 (begun x) x.attempt got _ tries (missed checked) (omega (arith, left_behind))
-        by_check false free = does e got free may allowed some
+    instruction e got missed may allowed some = (elim (is_checked at.frame.pc e) as (λ (b : Bool). is_checked at.frame.pc e ≡ b → Lessens whole 1 (if b then if_same (begun x) x.attempt got (did c.program (begun x) at e got) else did c.program (begun x) at e got))
+        [ true ↦ λ checked. check_fails c.program a whole 1 (begun x) x.attempt got _ tries (missed checked) (omega (arith, left_behind)) | false ↦ λ free. does e got free may allowed some ]) refl
 
   -- an instruction that is checked looks at the lock word
   checked_looks : (pc : ℕ) (e : Effect) → is_checked pc e ≡ true → effect_wants x pc e ≡ looks x.attempt

@@ -13,12 +13,8 @@ use Rattle.laws_refinement.proofs.SameCounts.{part_extra}
 
 pub run_on : (p : Program) (xs ys : List PlainStep) (q r : Plain) → plain_run p q xs ≡ Some r → plain_run p q (xs ++ ys) ≡ plain_run p r ys
 run_on p [] ys q r e = ap (λ (z : Plain). plain_run p z ys) (same_some e)
-run_on p (step ∷ xs) ys q r e = by_step (plain_step p q step) e (λ z f. run_on p xs ys z r f)
-  where
-    by_step : (o : Option Plain) → option_and_then (λ z. plain_run p z xs) o ≡ Some r → ((z : Plain) → plain_run p z xs ≡ Some r → plain_run p z (xs ++ ys) ≡ plain_run p r ys)
-        → option_and_then (λ z. plain_run p z (xs ++ ys)) o ≡ plain_run p r ys
-    by_step None f more = absurd (cc)
-    by_step (Some z) f more = more z f
+run_on p (step ∷ xs) ys q r e = (elim (plain_step p q step) as (λ (o : Option Plain). option_and_then (λ z. plain_run p z xs) o ≡ Some r → option_and_then (λ z. plain_run p z (xs ++ ys)) o ≡ plain_run p r ys)
+    [ None ↦ λ f. absurd (cc) | Some z ↦ λ f. run_on p xs ys z r f ]) e
 
 pub count_on : (p : Program) (count : Plain → PlainStep → ℕ) (xs ys : List PlainStep) (q r : Plain) → plain_run p q xs ≡ Some r → count_along p count (xs ++ ys) q ≡ count_along p count xs q + count_along p count ys r
 count_on p count xs ys q r e =
