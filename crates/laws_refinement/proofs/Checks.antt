@@ -9,11 +9,8 @@ use Rattle.machine_types.specs.declared.phase.Phase.TheVariants as phases
 
 -- behind a check the thread z is y, or its attempt fails
 pub checked : (P : Thread → Fate → Type 0) (a : Attempt) (z y : Thread) (got : ℕ) (o : Option Attempt) → o ≡ Some a → P y GoesOn → P (fails z a) Fails → P (if_same z o got y) (fate_by (is_same a got) GoesOn)
-checked P a z y got o e goes back = subst (λ (o : Option Attempt). P (if_same z o got y) (fate_by (is_same a got) GoesOn)) (sym e) (by_test (is_same a got))
-  where
-    by_test : (b : Bool) → P (cond b y (fails z a)) (fate_by b GoesOn)
-    by_test true = goes
-    by_test false = back
+checked P a z y got o e goes back = subst (λ (o : Option Attempt). P (if_same z o got y) (fate_by (is_same a got) GoesOn)) (sym e)
+    (elim (is_same a got) as (λ (b : Bool). P (cond b y (fails z a)) (fate_by b GoesOn)) [ true ↦ goes | false ↦ back ])
 
 pub instructed_by : (P : Thread → Fate → Type 0) (p : Program) (a : Attempt) (z : Thread) (at : Top) (e : Effect) (got : ℕ) → z.attempt ≡ Some a → P (did p z at e got) GoesOn → P (fails z a) Fails
     → P (instructed p z at e got) (cond (is_checked at.frame.pc e) (fate_by (is_same a got) GoesOn) GoesOn)

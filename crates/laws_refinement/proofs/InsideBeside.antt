@@ -8,7 +8,7 @@ use Rattle.machine_types.specs.{History.{Fate, GoesOn, Fails, Finishes, fate}, P
 use Rattle.machine_types.{specs.{Threads.{Attempt, Thread}, declared.{phase.Phase.Phase}}, proofs.Lists.{set_as_it_is, got_when_set}}
 use Rattle.laws_threads.specs.{EntryFrames.{StepsKeepEntry, ThrowsKeepEntry, LeavesKeepEntry}, InsideEffects.InsideMayDo, InsideMoves.ElementsInside, StateLaws.counted_after}
 use Rattle.laws_states.specs.{HeapFacts.{objects_by, objects_of}, StateLaws.EventsKeepState}
-use Rattle.laws_simulation.{specs.StandsBeside.{StandsBeside, end_of_done, ends_shown, own_end}, proofs.{Assembled.moved_beside, HoldingsAlike.alike_kept}}
+use Rattle.laws_simulation.{specs.StandsBeside.{StandsBeside, end_of_done, ends_shown, own_end}, proofs.{Assembled.moved_beside, HoldingsAlike.alike_kept, Moved.ends_alike}}
 use Rattle.laws_refinement.{specs.ElidedSteps.{AttemptsStandBeside, IsNotFinished, found_of}, proofs.{Playing.{Player, has_bit, plain_fits, plain_there}, Inside.{Inside, KnownInside, is_inside}, InsideMoves.{Moves, moves_inside}}}
 use Rattle.laws_refinement.proofs.InsideWords.{words_stay}
 use Rattle.jvm_types.specs.declared.outcome.End.TheVariants as ends
@@ -16,15 +16,6 @@ use Rattle.machine_types.specs.PlainState as plain
 use Rattle.machine_types.specs.declared.phase.Phase.TheVariants as phases
 
 -- ---- inside an attempt a part neither ends by itself nor makes an object
-
-ends_alike : (p : Program) (part : ℕ) (later before : Phase) → own_end later ≡ [] → own_end before ≡ [] → ends_shown p part later ≡ ends_shown p part before
-ends_alike p zero later before e f = e ∙ sym f
-ends_alike p (suc zero) later before e f = refl
-ends_alike p (suc (suc part)) later before e f = ap (λ (es : List End). ends.Returned ∷ es) (by_roots (done_roots p))
-  where
-    by_roots : (roots : List ℕ) → end_of_done roots later ≡ end_of_done roots before
-    by_roots [] = refl
-    by_roots (number ∷ roots) = e ∙ sym f
 
 pub record IsStill (p : Program) (objects : List Object) (phase : Phase) : Type 0 where
   pub own : own_end phase ≡ []
@@ -72,7 +63,7 @@ module _ (player : Player) (y : Thread) (f : Fate) (before : IsStill player.c.pr
       subst (λ (plains : List PlainThread). StandsBeside c.program objects (record { words = s.words; threads = slice_set s.threads t y }) (record q { threads = plains })) (set_as_it_is q.threads t v (plain_there player).1)
       (moved_beside player.member s.words y q.holdings v q.prints (record {
         fits = fits_still c.program (has_bit player) c x y a f v way m based (plain_fits player);
-        ended = beside.ends t x v here (plain_there player).1 ∙ sym (ap (λ (part : ℕ). ends_shown c.program part y.phase) m.keeps.part ∙ ends_alike c.program x.part y.phase x.phase still.own before.own);
+        ended = beside.ends t x v here (plain_there player).1 ∙ sym (ap (λ (part : ℕ). ends_shown c.program part y.phase) m.keeps.part ∙ ends_alike c.program x.part y.phase x.phase (still.own ∙ sym before.own));
         places = λ n w e. refl;
         next = refl;
         printed = beside.agrees.prints;

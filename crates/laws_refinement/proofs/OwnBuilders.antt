@@ -1,6 +1,6 @@
 -- The object that an `<init>` of a frozen class is on is built by the thread that runs it.
 use Rattle.std.proofs.{Common.{◌≡◌, ℕ, ◌-◌, Bool, true, false, List, [], ◌∷◌, length, Option, Some, None, refl, sym, ap, ◌∙◌, subst, ◌==◌, ◌&&◌, if◌then◌else◌}, lemmas.Bool.Decides.Decides-eqb}
-use Rattle.lists.proofs.ListLaws.{same_some}
+use Rattle.lists.proofs.{ListLaws.same_some, TestLaws.both_true}
 use Rattle.jvm_types.specs.{CodeTable.is_init, declared.program.MethodInfo.MethodInfo}
 use Rattle.checked_program.specs.MarkedProgram.{MarkedProgram}
 use Rattle.machine_types.specs.{Construction.{Owning, builds, ReceiverIs, FramesKeep, PhaseKeepsFrames, ThreadKeeps, BuilderTurn, Runs, turn_by, made_world}, Frames.pushed, Guards.MakesObject}
@@ -30,18 +30,13 @@ made_own w t a r height None d new e own = (elim (r == a) as (λ (same : Bool). 
 -- ---- the receiver of the top frame
 
 module _ (c : MarkedProgram) (frozen : ℕ → Bool) (own : Owning) (next t r class : ℕ) (is_frozen : frozen class ≡ true) where
-  both : (a b : Bool) → a ≡ true → b ≡ true → (a && b) ≡ true
-  both true true e f = refl
-  both true false e f = f
-  both false b e f = e
-
   top_builds : (w : World) (turn : BuilderTurn) (fs : List Frame) → FramesKeep c frozen own w next t turn fs → MakesObject c r fs → TopIsOf c.program class fs → IsOwn w t r
   top_builds w turn [] k makes top = absurd makes
   top_builds w turn (f ∷ fs) k (m, there, init, receiver) (n, known, of_class) =
       let method = k.0.stands.method in
       let first : m ≡ method = same_some (sym there ∙ k.0.stands.at.in_program) in
       let second : n ≡ method = same_some (sym known ∙ k.0.stands.at.in_program) in
-      let builds_it : builds frozen method ≡ true = both (is_init method) (frozen method.class) (ap is_init (sym first) ∙ init) (ap frozen (ap (λ (g : MethodInfo). g.class) (sym second) ∙ sym of_class) ∙ is_frozen) in
+      let builds_it : builds frozen method ≡ true = both_true (is_init method) (frozen method.class) (ap is_init (sym first) ∙ init) (ap frozen (ap (λ (g : MethodInfo). g.class) (sym second) ∙ sym of_class) ∙ is_frozen) in
       let begun : ReceiverIs w next t (length fs) true f.receiver = subst (λ (own : Bool). ReceiverIs w next t (length fs) own f.receiver) builds_it k.0.receiver in
       (builder t (length fs) Begun, ap w (sym receiver) ∙ begun, refl)
 

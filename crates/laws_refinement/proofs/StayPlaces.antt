@@ -182,14 +182,8 @@ pub record ReadObject (p : Program) (field : FieldInfo) (stack : List ℕ) (v : 
 
 read_by_gets : (p : Program) (field : FieldInfo) (stack : List ℕ) (v : Variable) → gets (Some field) stack ≡ Reads v → ReadObject p field stack v
 read_by_gets p field [] v e = absurd (cc)
-read_by_gets p field (value ∷ rest) v e = by_test (value == 0) refl e
-  where
-    by_test : (b : Bool) → (value == 0) ≡ b → (if b then Throws thrown.NullPointerException else Reads (variable_of field value)) ≡ Reads v → ReadObject p field (value ∷ rest) v
-    by_test true g f = absurd (cc)
-    by_test false g f = record { value = value; rest = rest; top = refl; some = grind (arith, nat_tests, g); variable = same_variable f }
-      where
-        same_variable : {u n : Variable} → Reads u ≡ Reads n → n ≡ u
-        same_variable q = cc
+read_by_gets p field (value ∷ rest) v e = (elim (value == 0) as (λ (b : Bool). (value == 0) ≡ b → (if b then Throws thrown.NullPointerException else Reads (variable_of field value)) ≡ Reads v → ReadObject p field (value ∷ rest) v)
+    [ true ↦ λ g f. absurd (cc) | false ↦ λ g f. record { value = value; rest = rest; top = refl; some = grind (arith, nat_tests, g); variable = cc } ]) refl e
 
 read_object : (p : Program) (at : Top) (number i : ℕ) (field : FieldInfo) (v : Variable) → at.target ≡ targets.Field number → at.insn.op ≡ ops.Getfield i → slice_get p.fields number ≡ Some field → effect_at p at ≡ Reads v → ReadObject p field at.frame.stack v
 read_object p at number i field v target op is e =
