@@ -35,10 +35,10 @@ module _ (c : MarkedProgram) (x : Thread) (got : ℕ) (at : Top) (m : ℕ) (fs :
   to_enter : done c.program at (effect_at c.program at) got ≡ Some (Entering m fs) → ((a : Attempt) → x.attempt ≡ Some a → fate c x a x.phase got ≡ Fails → ⊥) → IsToEnter x (moved c x x.phase got) m fs
   to_enter comes never =
       let moves : moved c x x.phase got ≡ goes_on (begun x) (Entering m fs) =
-          ap (λ (phase : Phase). moved c x phase got) is_run
-          ∙ ap (λ (o : Option Top). ran c.program x o got) top
-          ∙ instructed_goes c.program at got m fs x (effect_at c.program at) (λ a tries failed. never a tries (fate_there a ∙ failed))
-          ∙ did_enter c.program at got m fs (begun x) (effect_at c.program at) comes in
+      ap (λ (phase : Phase). moved c x phase got) is_run
+      ∙ ap (λ (o : Option Top). ran c.program x o got) top
+      ∙ instructed_goes c.program at got m fs x (effect_at c.program at) (λ a tries failed. never a tries (fate_there a ∙ failed))
+      ∙ did_enter c.program at got m fs (begun x) (effect_at c.program at) comes in
       subst (λ (y : Thread). IsToEnter x y m fs) (sym moves) (record { enters = refl; frames = refl; turns = refl; held = refl; attempt = refl })
 
 pub instructions_enter : InstructionsEnter

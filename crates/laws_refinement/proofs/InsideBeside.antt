@@ -1,14 +1,14 @@
 -- While a section that was entered without its lock is not done, its thread stands for one that is still about to enter: the same
 -- plain state stands beside.
-use Rattle.std.proofs.Common.{◌≡◌, ℕ, zero, suc, ◌<◌, Bool, true, false, List, [], ◌∷◌, length, Option, Some, refl, sym, ap, ◌∙◌, subst, slice_get, slice_set, if◌then◌else◌}
+use Rattle.std.proofs.Common.{◌≡◌, ℕ, ◌<◌, Bool, true, false, List, [], ◌∷◌, length, Option, Some, refl, sym, ap, ◌∙◌, subst, slice_get, slice_set, if◌then◌else◌}
 use Rattle.jvm_types.specs.declared.{outcome.End.End, program.Program.Program}
 use Rattle.checked_program.specs.MarkedProgram.{MarkedProgram}
 use Rattle.machine_types.specs.{Agreement.{AttemptFits, StatusFits, ThreadFits, frames_shown, roots_shown}, Core.{Core, event, event_of}, Events.moved}
-use Rattle.machine_types.specs.{History.{Fate, GoesOn, Fails, Finishes, fate}, Parts.{done_roots, has_finished}, PlainMemory.Object, PlainState.{Plain, PlainThread}}
+use Rattle.machine_types.specs.{History.{Fate, GoesOn, Fails, Finishes, fate}, Parts.{has_finished}, PlainMemory.Object, PlainState.{Plain, PlainThread}}
 use Rattle.machine_types.{specs.{Threads.{Attempt, Thread}, declared.{phase.Phase.Phase}}, proofs.Lists.{set_as_it_is, got_when_set}}
 use Rattle.laws_threads.specs.{EntryFrames.{StepsKeepEntry, ThrowsKeepEntry, LeavesKeepEntry}, InsideEffects.InsideMayDo, InsideMoves.ElementsInside, StateLaws.counted_after}
 use Rattle.laws_states.specs.{HeapFacts.{objects_by, objects_of}, StateLaws.EventsKeepState}
-use Rattle.laws_simulation.{specs.StandsBeside.{StandsBeside, end_of_done, ends_shown, own_end}, proofs.{Assembled.moved_beside, HoldingsAlike.alike_kept, Moved.ends_alike}}
+use Rattle.laws_simulation.{specs.StandsBeside.{StandsBeside, ends_shown, own_end}, proofs.{Assembled.moved_beside, HoldingsAlike.alike_kept, Moved.ends_alike}}
 use Rattle.laws_refinement.{specs.ElidedSteps.{AttemptsStandBeside, IsNotFinished, found_of}, proofs.{Playing.{Player, has_bit, plain_fits, plain_there}, Inside.{Inside, KnownInside, is_inside}, InsideMoves.{Moves, moves_inside}}}
 use Rattle.laws_refinement.proofs.InsideWords.{words_stay}
 use Rattle.jvm_types.specs.declared.outcome.End.TheVariants as ends

@@ -1,5 +1,5 @@
 -- The object that an `<init>` of a frozen class is on is built by the thread that runs it.
-use Rattle.std.proofs.{Common.{◌≡◌, ℕ, ◌-◌, Bool, true, false, List, [], ◌∷◌, length, Option, Some, None, refl, sym, ap, ◌∙◌, subst, ◌==◌, ◌&&◌, if◌then◌else◌}, lemmas.Bool.Decides.Decides-eqb}
+use Rattle.std.proofs.{Common.{◌≡◌, ℕ, ◌-◌, Bool, true, false, List, [], ◌∷◌, length, Option, Some, None, refl, sym, ap, ◌∙◌, subst, ◌==◌, if◌then◌else◌}, lemmas.Bool.Decides.Decides-eqb}
 use Rattle.lists.proofs.{ListLaws.same_some, TestLaws.both_true}
 use Rattle.jvm_types.specs.{CodeTable.is_init, declared.program.MethodInfo.MethodInfo}
 use Rattle.checked_program.specs.MarkedProgram.{MarkedProgram}

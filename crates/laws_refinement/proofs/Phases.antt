@@ -121,14 +121,14 @@ module _ (fit : HeapWordsFit) (allowed : EffectsAreAllowed) (trying : Trying) (n
     throw_grows : IsStructured c now (goes_on_if x (dispatched c.program y class x.frames)) → Grown (phases.Throw y class) (goes_on_if x (dispatched c.program y class x.frames)) (acts.Do ∷ [])
     throw_grows k =
         let alike : GoesAlike c x a now x its_onward =
-            going_alike c x a now x a.inner refl attempt_stands.based its_onward tries (throws_kept c.program x.frames a y class its_onward dispatches) (subst (λ (o : Option Onward). IsStructured c now (goes_on_if x o)) dispatches k) in
+        going_alike c x a now x a.inner refl attempt_stands.based its_onward tries (throws_kept c.program x.frames a y class its_onward dispatches) (subst (λ (o : Option Onward). IsStructured c now (goes_on_if x o)) dispatches k) in
         let acted : (memory : ℕ → Option ℕ) (n : ℕ) (ended : List End) → replay_act c.program a.monitor memory (present (phases.Throw y class) n ended) acts.Do (plain.Throw y class) ≡ Some (at_present (goes_on x its_onward) a now n ended) =
-            λ memory n ended. 
-            ap (λ (o : Option Onward). goes (present (phases.Throw y class) n ended) (option_and_then (only_on a.monitor) o)) dispatches
-            ∙ ap (goes (present (phases.Throw y class) n ended)) alike.only
-            ∙ comes_there c x a now x its_onward a.inner alike (plain.Throw y class) ended n in
+        λ memory n ended.
+        ap (λ (o : Option Onward). goes (present (phases.Throw y class) n ended) (option_and_then (only_on a.monitor) o)) dispatches
+        ∙ ap (goes (present (phases.Throw y class) n ended)) alike.only
+        ∙ comes_there c x a now x its_onward a.inner alike (plain.Throw y class) ended n in
         let its_grown : Grown (phases.Throw y class) (goes_on x its_onward) (acts.Do ∷ []) =
-            grown c x a now x its_onward a.inner alike Keeps s.words (was t) (phases.Throw y class) acts.Do counted tries (λ memory knows n some ended. acted memory n ended) in
+        grown c x a now x its_onward a.inner alike Keeps s.words (was t) (phases.Throw y class) acts.Do counted tries (λ memory knows n some ended. acted memory n ended) in
         subst (λ (o : Option Onward). Grown (phases.Throw y class) (goes_on_if x o) (acts.Do ∷ [])) (sym dispatches) its_grown
 
     throws_inside : EventInside (phases.Throw y class)
@@ -145,11 +145,11 @@ module _ (fit : HeapWordsFit) (allowed : EffectsAreAllowed) (trying : Trying) (n
         let z : Thread = record x { attempt = Some (inner_as a (a.inner + 1)) } in
         let alike : GoesAlike c x a now z (Running x.frames) = going_alike c x a now z (a.inner + 1) refl attempt_stands.based (Running x.frames) refl (λ before behind. refl) k in
         let acted : (memory : ℕ → Option ℕ) (n : ℕ) (ended : List End) → replay_act c.program a.monitor memory (present (phases.Enter m tried) n ended) acts.Enter (plain.Enter m) ≡ Some (at_present deeper (inner_as a (a.inner + 1)) now n ended) =
-            λ memory n ended. 
-            let depth : suc a.inner + 1 ≡ suc (a.inner + 1) = omega arith in
-            ap (λ (b : Bool). cond b (Some (enters (present (phases.Enter m tried) n ended))) None) (same_number m a.monitor (inside_as trying (phases.Enter m tried) counted))
-            ∙ ap (λ (d : ℕ). goes (record { thread = plain_as x (plain.Enter m) ended; depth = d; begun = n }) (Some (Running x.frames))) depth
-            ∙ comes_there c x a now z (Running x.frames) (a.inner + 1) alike (plain.Enter m) ended n in
+        λ memory n ended.
+        let depth : suc a.inner + 1 ≡ suc (a.inner + 1) = omega arith in
+        ap (λ (b : Bool). cond b (Some (enters (present (phases.Enter m tried) n ended))) None) (same_number m a.monitor (inside_as trying (phases.Enter m tried) counted))
+        ∙ ap (λ (d : ℕ). goes (record { thread = plain_as x (plain.Enter m) ended; depth = d; begun = n }) (Some (Running x.frames))) depth
+        ∙ comes_there c x a now z (Running x.frames) (a.inner + 1) alike (plain.Enter m) ended n in
         grown c x a now z (Running x.frames) (a.inner + 1) alike Keeps s.words (was t) (phases.Enter m tried) acts.Enter counted refl (λ memory knows n some ended. acted memory n ended)
 
     abbrev EnterBy : Claim → Type 0
@@ -175,16 +175,16 @@ module _ (fit : HeapWordsFit) (allowed : EffectsAreAllowed) (trying : Trying) (n
       leave_grows : IsStructured c now (goes_after c.program shallower e) → Grown (phases.Leave m e) (goes_after c.program shallower e) (acts.Exit ∷ [])
       leave_grows k =
           let alike : GoesAlike c x a now shallower goes_there.0 =
-              going_alike c x a now shallower n refl attempt_stands.based goes_there.0 refl (leaves_kept c.program x.frames a e goes_there.0 goes_there.1) (subst (λ (o : Option Onward). IsStructured c now (goes_on_if shallower o)) goes_there.1 k) in
+          going_alike c x a now shallower n refl attempt_stands.based goes_there.0 refl (leaves_kept c.program x.frames a e goes_there.0 goes_there.1) (subst (λ (o : Option Onward). IsStructured c now (goes_on_if shallower o)) goes_there.1 k) in
           let acted : (memory : ℕ → Option ℕ) (begun : ℕ) (ended : List End) → replay_act c.program a.monitor memory (present (phases.Leave m e) begun ended) acts.Exit (plain.Leave m e) ≡ Some (at_present (goes_on shallower goes_there.0) (inner_as a n) now begun ended) =
-              λ memory begun ended. 
-              let z : Alone = present (phases.Leave m e) begun ended in
-              ap (λ (b : Bool). cond b (leaves c.program z e (suc a.inner)) None) (same_number m a.monitor (inside_as trying (phases.Leave m e) counted))
-              ∙ ap (λ (depth : ℕ). leaves c.program z e (suc depth)) inner
-              ∙ ap (goes (record z { depth = suc n })) goes_there.1
-              ∙ comes_there c x a now shallower goes_there.0 n alike (plain.Leave m e) ended begun in
+          λ memory begun ended.
+          let z : Alone = present (phases.Leave m e) begun ended in
+          ap (λ (b : Bool). cond b (leaves c.program z e (suc a.inner)) None) (same_number m a.monitor (inside_as trying (phases.Leave m e) counted))
+          ∙ ap (λ (depth : ℕ). leaves c.program z e (suc depth)) inner
+          ∙ ap (goes (record z { depth = suc n })) goes_there.1
+          ∙ comes_there c x a now shallower goes_there.0 n alike (plain.Leave m e) ended begun in
           let its_grown : Grown (phases.Leave m e) (goes_on shallower goes_there.0) (acts.Exit ∷ []) =
-              grown c x a now shallower goes_there.0 n alike Keeps s.words (was t) (phases.Leave m e) acts.Exit counted refl (λ memory knows begun some ended. acted memory begun ended) in
+          grown c x a now shallower goes_there.0 n alike Keeps s.words (was t) (phases.Leave m e) acts.Exit counted refl (λ memory knows begun some ended. acted memory begun ended) in
           subst (λ (o : Option Onward). Grown (phases.Leave m e) (goes_on_if shallower o) (acts.Exit ∷ [])) (sym goes_there.1) its_grown
 
     abbrev InnerBy : ℕ → Type 0
@@ -248,35 +248,35 @@ module _ (fit : HeapWordsFit) (allowed : EffectsAreAllowed) (trying : Trying) (n
         → Grown (phases.Element word None) (goes_on x read_on) (acts.Do ∷ [])
     read_grows stands_so =
         let alike : GoesAlike c x a now x read_on =
-            going_alike c x a now x a.inner refl attempt_stands.based read_on tries
-            (steps_kept c.program x.frames a k.at (Reads (Static 0))
-            (slice_index s.words word) read_on k.found refl) stands_so in
+        going_alike c x a now x a.inner refl attempt_stands.based read_on tries
+        (steps_kept c.program x.frames a k.at (Reads (Static 0))
+        (slice_index s.words word) read_on k.found refl) stands_so in
         let found_there : (memory : ℕ → Option ℕ) → Knows Keeps s.words memory → reads_only c.program memory k.at (Indexes k.array k.index None) (slice_index s.words (header_word k.array)) ≡ Some read_on =
-            λ memory knows. 
-            ap (λ (b : Bool). if b then option_map (λ v. Running (went_on c.program k.at v))
-            (memory (value_word k.array (low k.index))) else Some
-            (threw ArrayIndexOutOfBoundsException k.at))
-            (has_element c objects s x marked facts.heap word None k)
-            ∙ ap (λ (n : ℕ). option_map (λ v. Running (went_on c.program k.at v)) (memory n))
-            (sym k.word_is)
-            ∙ ap (option_map (λ v. Running (went_on c.program k.at v))) (knows word element_there) in
+        λ memory knows.
+        ap (λ (b : Bool). if b then option_map (λ v. Running (went_on c.program k.at v))
+        (memory (value_word k.array (low k.index))) else Some
+        (threw ArrayIndexOutOfBoundsException k.at))
+        (has_element c objects s x marked facts.heap word None k)
+        ∙ ap (λ (n : ℕ). option_map (λ v. Running (went_on c.program k.at v)) (memory n))
+        (sym k.word_is)
+        ∙ ap (option_map (λ v. Running (went_on c.program k.at v))) (knows word element_there) in
         let acted : (memory : ℕ → Option ℕ) → Knows Keeps s.words memory → (n : ℕ) → 0 < n → (ended : List End) → replay_act c.program a.monitor memory (present (phases.Element word None) n ended) acts.Do plain.Run ≡ Some (at_present (goes_on x read_on) a now n ended) =
-            λ memory knows n some ended. 
-            let z : Alone = present (phases.Element word None) n ended in
-            let more : Alone = record z { begun = n - 1 + 1 } in
-            ap (instructs c.program a.monitor memory z) k.found
-            ∙ ap (λ (e : Effect). goes more (option_and_then
-            (λ word. option_and_then (only_on a.monitor)
-            (reads_only c.program memory k.at e word)) (got_by memory (read_by e)))) k.effect_is
-            ∙ ap (λ (o : Option ℕ). goes more
-            (option_and_then (λ word. option_and_then (only_on a.monitor)
-            (reads_only c.program memory k.at (Indexes k.array k.index None) word)) o))
-            (knows (header_word k.array) (header_stays trying frames_keep k.at k.found INT_ARRAY_CLASS k.array k.is_array))
-            ∙ ap (λ (o : Option Onward). goes more (option_and_then (only_on a.monitor) o))
-            (found_there memory knows)
-            ∙ ap (goes more) alike.only
-            ∙ ap (λ (k : ℕ). goes (record z { begun = k }) (Some read_on)) (omega (arith, some))
-            ∙ comes_there c x a now x read_on a.inner alike plain.Run ended n in
+        λ memory knows n some ended.
+        let z : Alone = present (phases.Element word None) n ended in
+        let more : Alone = record z { begun = n - 1 + 1 } in
+        ap (instructs c.program a.monitor memory z) k.found
+        ∙ ap (λ (e : Effect). goes more (option_and_then
+        (λ word. option_and_then (only_on a.monitor)
+        (reads_only c.program memory k.at e word)) (got_by memory (read_by e)))) k.effect_is
+        ∙ ap (λ (o : Option ℕ). goes more
+        (option_and_then (λ word. option_and_then (only_on a.monitor)
+        (reads_only c.program memory k.at (Indexes k.array k.index None) word)) o))
+        (knows (header_word k.array) (header_stays trying frames_keep k.at k.found INT_ARRAY_CLASS k.array k.is_array))
+        ∙ ap (λ (o : Option Onward). goes more (option_and_then (only_on a.monitor) o))
+        (found_there memory knows)
+        ∙ ap (goes more) alike.only
+        ∙ ap (λ (k : ℕ). goes (record z { begun = k }) (Some read_on)) (omega (arith, some))
+        ∙ comes_there c x a now x read_on a.inner alike plain.Run ended n in
         grown c x a now x read_on a.inner alike Keeps s.words (was t) (phases.Element word None) acts.Do counted tries acted
 
     read_inside : EventInside (phases.Element word None)

@@ -23,7 +23,7 @@ module _ (may_do : InsideMayDo) (elements : ElementsInside) (c : MarkedProgram) 
       let got : ℕ = found_by s.words (wanted c x x.phase) in
       let later : ℕ = failed_of c s (Some x) failed in
       let now : Counts (moved c x x.phase got) later =
-          event_counted c x got failed (λ a tries. is_inside may_do elements c marked x a tries (was t) (structure t x e)) (record { few = k.few; kept = k.kept x e }) in
+      event_counted c x got failed (λ a tries. is_inside may_do elements c marked x a tries (was t) (structure t x e)) (record { few = k.few; kept = k.kept x e }) in
       record { few = now.few; kept = λ y f. subst (λ (z : Thread). KeepsCount z.attempt z.phase later) (same_some (sym (got_when_set s.threads t x (moved c x x.phase got) e) ∙ f)) now.kept }
 
   -- of another one

@@ -88,9 +88,9 @@ module _ (may_do : InsideMayDo) (elements : ElementsInside) (safe : RunsAreSafe)
         let k : IsSafe c s x = safe c cfg front t x marked width set there in
         let inside : Inside c x a = is_inside may_do elements c marked x a tries k.lawful.was k.lawful.structured in
         let missed : wanted c x x.phase ≡ Some (Load a.monitor) → is_same a got ≡ false =
-            λ w. 
-            let word : got ≡ slice_index s.words a.monitor = ap (found_by s.words) w in
-            ne_eqb got (word_of_lock (locks.Free a.noted)) (λ same. torn (sym word ∙ same)) in
+        λ w.
+        let word : got ≡ slice_index s.words a.monitor = ap (found_by s.words) w in
+        ne_eqb got (word_of_lock (locks.Free a.noted)) (λ same. torn (sym word ∙ same)) in
         let falls : Falls c.program a (left_of a x) (begun_in x.phase) now = late c marked x a tries x.phase got refl inside.known inside.based k.goes k.access.found missed in
         subst (λ (z : Thread). Leaves a (left_of a x) (begun_in z.phase) (event_of c s t (Some z))) (same_some (sym there ∙ e)) (now, got_when_set s.threads t x now there, falls)
 
