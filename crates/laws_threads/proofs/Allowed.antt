@@ -1,11 +1,11 @@
 -- The effect of each instruction is one that its row allows, where its operands are what the row takes.
-use Rattle.std.proofs.Common.{◌≡◌, ℕ, ◌<◌, ◌^◌, ◌⊎◌, inl, inr, Bool, true, false, not, List, [], ◌∷◌, ◌++◌, length, Option, Some, None, refl, ap, sym, subst, ◌∙◌, arith, nat_lt, ◌==◌, ◌||◌, slice_get, slice_index, if◌then◌else◌, IsSomeAnd}
+use Rattle.std.proofs.Common.{◌≡◌, ℕ, ◌<◌, ◌^◌, ◌⊎◌, inl, inr, Bool, true, false, List, [], ◌∷◌, ◌++◌, length, Option, Some, None, refl, ap, sym, subst, ◌∙◌, arith, nat_lt, ◌==◌, ◌||◌, slice_get, slice_index, IsSomeAnd}
 use Rattle.std.proofs.lemmas.Bool.Decides.{nat_tests}
 use Rattle.lists.proofs.ListLaws.{all_weaker}
 use Rattle.jvm_types.specs.CodeTable.{row, type_of, want_of, constant_row, stack_row, get_static_row, put_static_row, get_row, put_row}
 use Rattle.jvm_types.specs.{Members.{is_static, MethodSite, field_rule}, Numbers.has_number, ProgramInvariant.{IsClassOf, IsFieldTarget, IsTargetOf, site_in}, Verifying.{edges, new_class}}
 use Rattle.jvm_types.specs.declared.{class_numbers.TheConstants.{OBJECT_CLASS, INT_ARRAY_CLASS, PRINT_STREAM_CLASS, THROWABLE_CLASS}, code.{Insn.Insn, Op.Op}, op_row.{Given.{Given, TheVariants.Fresh}, OpRow.OpRow, Want.{Want, TheVariants.AnObject}}}
-use Rattle.jvm_types.specs.declared.{outcome.Thrown.Thrown, program.{FieldInfo.FieldInfo, Kind.Kind, MethodInfo.MethodInfo, Program.Program, Target.Target}, refusal.LRule.{LRule, TheVariants.L2}}
+use Rattle.jvm_types.specs.declared.{outcome.Thrown.Thrown, program.{FieldInfo.FieldInfo, Kind.Kind, MethodInfo.MethodInfo, Program.Program, Target.Target}}
 use Rattle.jvm_types.proofs.TypeOrder.{subclass_self}
 use Rattle.laws_programs.proofs.TargetRows.{targets_rows}
 use Rattle.machine_types.specs.{Effects.{variable_of, kept, at_local, effect}, Ints.{low, word_of, added}, ReadyObjects.out_object, Typed.{Classes, IsNullOr, KindHolds, Holds, IsElementOn}}
@@ -47,13 +47,9 @@ module _ (p : Program) (m : MethodInfo) (is : Classes) (stack : List ℕ) where
   an_object a class e (inl h) = absurd (grind (arith, nat_tests, e, h))
   an_object a class e (inr h) = (grind (arith, nat_tests, e), h.0, h.1, h.2)
 
-  rule_holds : (test : Bool) (rule : LRule) (rest : Option LRule) → (if test then Some rule else rest) ≡ None → test ≡ false
-  rule_holds true rule rest e = absurd (cc)
-  rule_holds false rule rest e = refl
-
   is_static_of : (static writes : Bool) (site : MethodSite) (class flags : ℕ) → field_rule static writes site class flags ≡ None → is_static flags ≡ static
-  is_static_of true writes site class flags e = either_way (λ (b : Bool). not b ≡ false → b ≡ true) (is_static flags) (λ e. refl) (λ e. absurd (cc)) (rule_holds (not (is_static flags)) L2 _ e)
-  is_static_of false writes site class flags e = rule_holds (is_static flags) L2 _ e
+  is_static_of true writes site class flags e = grind (arith, nat_tests, e)
+  is_static_of false writes site class flags e = grind (arith, nat_tests, e)
 
   kind_given : (kind : Kind) (v : ℕ) → KindHolds is kind v → Holds m is (type_of kind) v
   kind_given kinds.Int v h = h
@@ -174,10 +170,7 @@ module _ (p : Program) (m : MethodInfo) (is : Classes) (stack : List ℕ) where
 
     -- the local is there
     at_its_local : (target : Target) (op : Op) (i : ℕ) (l : List ℕ) (e : Effect) → i < length l → Allows (at op) target (row p m pc target op) e → Allows (at op) target (row p m pc target op) (at_local i l e)
-    at_its_local target op i l e h k = rw (test_is h) k
-      where
-        test_is : i < length l → nat_lt i (length l) ≡ true
-        test_is h = grind (arith, nat_tests, h)
+    at_its_local target op i l e h k = let there : nat_lt i (length l) ≡ true = grind (arith, nat_tests, h) in rw there k
 
     pub effect_allowed : (target : Target) (op : Op) (l s : List ℕ) → stack ≡ s → Operands (row p m pc target op) l s → MakesAt target → IsTargetOf p (site_in m) op target
         → Allows (at op) target (row p m pc target op) (effect p next target op l s)

@@ -1,5 +1,5 @@
 -- An attempt stands as its top frame goes along an edge, calls, returns to the frame below, or ends by an exception.
-use Rattle.std.proofs.Common.{false, ◌≡◌, ◌≢◌, inr, ⊎_elim, ℕ, ◌-◌, ◌<◌, ◌≤◌, true, List, [], ◌∷◌, ◌++◌, length, take, Some, refl, sym, ap, ◌∙◌, subst, arith, ◌==◌, ◌||◌, slice_get, if◌then◌else◌}
+use Rattle.std.proofs.Common.{false, ◌≡◌, ◌≢◌, inr, ⊎_elim, ℕ, ◌-◌, ◌<◌, ◌≤◌, true, List, [], ◌∷◌, ◌++◌, length, take, Some, refl, sym, ap, ◌∙◌, subst, arith, ◌==◌, slice_get, if◌then◌else◌}
 use Rattle.std.proofs.lemmas.Bool.{cases_eq, Decides.nat_tests}
 use Rattle.lists.proofs.{ListLaws.same_some, TestLaws.second_true}
 use Rattle.jvm_types.specs.{CodeTable.{branches_to, falls_through}, Members.is_synchronized, Numbers.has_number, Verifying.edges, declared.{code.Insn.Insn, outcome.Thrown.Thrown, program.MethodInfo.MethodInfo}}

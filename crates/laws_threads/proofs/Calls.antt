@@ -1,8 +1,8 @@
 -- What a call takes and gives, and that its receiver is there and not null.
-use Rattle.std.proofs.Common.{◌≡◌, ℕ, zero, suc, ◌+◌, ◌<◌, ◌⊎◌, inl, inr, Bool, true, false, not, ◌||◌, List, [], ◌∷◌, ◌++◌, length, Option, Some, None, refl, ap, sym, subst, ◌∙◌, arith, ◌==◌, slice_get, take, reverse, if◌then◌else◌}
-use Rattle.std.proofs.lemmas.{Bool.Decides.nat_tests, List.{length-map, length-reverse, length-append, reverse-append}}
+use Rattle.std.proofs.Common.{◌≡◌, ℕ, zero, suc, ◌+◌, ◌<◌, ◌⊎◌, inl, inr, Bool, true, false, List, [], ◌∷◌, ◌++◌, length, Option, Some, None, refl, ap, sym, subst, ◌∙◌, arith, ◌==◌, slice_get, take, reverse, if◌then◌else◌}
+use Rattle.std.proofs.lemmas.{Bool.Decides.nat_tests, List.{length-append, reverse-append}}
 use Rattle.lists.proofs.ListLaws.{same_some}
-use Rattle.jvm_types.specs.{CodeTable.{arguments, want_of, is_init, result_of, stack_row, virtual_row, special_row, static_row}, Members.{MethodSite, is_static, is_init_name, is_class_init_name}}
+use Rattle.jvm_types.specs.{CodeTable.{arguments, is_init, result_of, stack_row, virtual_row, special_row, static_row}, Members.{MethodSite, is_static, is_init_name, is_class_init_name}}
 use Rattle.jvm_types.specs.declared.{code.Op.Op, op_row.{OpRow.OpRow, Want.{Want, TheVariants.{AnObject, ToStart}}}, outcome.Thrown.TheVariants.NullPointerException, program.MethodInfo.MethodInfo}
 use Rattle.jvm_types.specs.declared.program.Program.{Program}
 use Rattle.laws_programs.specs.{EntryLaws.receiver_count, TargetLaws.HasRow}

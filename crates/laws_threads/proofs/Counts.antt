@@ -1,7 +1,8 @@
 -- Lists with the same counts are as long as one another.
-use Rattle.std.proofs.Common.{◌≡◌, ℕ, zero, suc, ◌+◌, ◌<◌, Bool, true, false, List, [], ◌∷◌, ◌++◌, length, replicate, refl, sym, ap, ◌∙◌, subst, arith, ◌==◌, if◌then◌else◌}
+use Rattle.std.proofs.Common.{◌≡◌, ℕ, zero, suc, ◌+◌, ◌<◌, Bool, List, [], ◌∷◌, ◌++◌, length, replicate, refl, sym, ap, ◌∙◌, subst, arith, ◌==◌, if◌then◌else◌}
 use Rattle.std.proofs.lemmas.Bool.Decides.{nat_tests}
 use Rattle.machine_types.specs.Structure.{count_in, once_at}
+use Rattle.laws_threads.proofs.Tests.{either_way}
 
 -- a list without one item
 record IsWithout (x : ℕ) (xs ys : List ℕ) : Type 0 where
@@ -10,18 +11,13 @@ record IsWithout (x : ℕ) (xs ys : List ℕ) : Type 0 where
 
 taken_out : (x : ℕ) (xs : List ℕ) → 0 < count_in x xs → (ys : List ℕ) × IsWithout x xs ys
 taken_out x [] l = absurd (omega (arith, l))
-taken_out x (y ∷ xs) l = by_test (y == x) refl (taken_out x xs)
-  where
-    by_test : (b : Bool) → (y == x) ≡ b → (0 < count_in x xs → (ys : List ℕ) × IsWithout x xs ys) → (ys : List ℕ) × IsWithout x (y ∷ xs) ys
-    by_test true e more = let same : y ≡ x = grind (arith, nat_tests, e) in (xs, record { shorter = refl; counts = λ n. ap (λ z. once_at z n + count_in n xs) same })
-    by_test false e more =
-        let some : 0 < (if false then 1 else 0) + count_in x xs = subst (λ (b : Bool). 0 < (if b then 1 else 0) + count_in x xs) e l in
-        let r = more (omega (arith, some)) in
-        (y ∷ r.0, record { shorter = ap suc r.1.shorter; counts = λ n. let k = r.1.counts n in omega (arith, k) })
+taken_out x (y ∷ xs) l = either_way (λ (b : Bool). (y == x) ≡ b → (ys : List ℕ) × IsWithout x (y ∷ xs) ys) (y == x)
+    (λ e. (xs, record { shorter = refl; counts = λ n. grind (arith, nat_tests, e) }))
+    (λ e. let r = taken_out x xs (grind (arith, nat_tests, l, e)) in (y ∷ r.0, record { shorter = ap suc r.1.shorter; counts = λ n. let k = r.1.counts n in omega (arith, k) })) refl
 
 -- an item is in its list
 pub once_in : (x : ℕ) (xs : List ℕ) → 0 < count_in x (x ∷ xs)
-once_in x xs = let e : (x == x) ≡ true = grind (arith, nat_tests) in rw e (omega arith)
+once_in x xs = grind (arith, nat_tests)
 
 same_length : (n : ℕ) (xs ys : List ℕ) → length xs ≡ n → ((m : ℕ) → count_in m xs ≡ count_in m ys) → length xs ≡ length ys
 same_length n [] [] l e = refl
@@ -35,19 +31,8 @@ same_length (suc n) (x ∷ xs) ys l e =
     omega (arith, rest, r.1.shorter)
 
 count_more : (m x k : ℕ) (xs : List ℕ) → count_in m (replicate k x ++ xs) ≡ (if x == m then k else 0) + count_in m xs
-count_more m x k xs = by_test (x == m) refl
-  where
-    all : (k : ℕ) → (x == m) ≡ true → count_in m (replicate k x ++ xs) ≡ k + count_in m xs
-    all zero e = omega arith
-    all (suc k) e = let r = all k e in rw e (omega (arith, r))
-
-    none : (k : ℕ) → (x == m) ≡ false → count_in m (replicate k x ++ xs) ≡ count_in m xs
-    none zero e = refl
-    none (suc k) e = let r = none k e in rw e (omega (arith, r))
-
-    by_test : (b : Bool) → (x == m) ≡ b → count_in m (replicate k x ++ xs) ≡ (if b then k else 0) + count_in m xs
-    by_test true e = all k e
-    by_test false e = let r = none k e in omega (arith, r)
+count_more m x zero xs = grind (arith, nat_tests)
+count_more m x (suc k) xs = grind (arith, nat_tests, count_more m x k xs)
 
 length_more : (x k : ℕ) (xs : List ℕ) → length (replicate k x ++ xs) ≡ k + length xs
 length_more x zero xs = omega arith

@@ -1,8 +1,8 @@
 -- Where frames stand: the instruction of a pc is one, and an edge leads to one.
-use Rattle.std.proofs.{Common.{◌≡◌, ℕ, zero, suc, true, false, cond, List, [], ◌∷◌, Option, Some, None, refl, sym, ap, ◌∙◌, subst, arith, ◌==◌, slice_get, IsSomeAnd}, lemmas.Bool.or_parts}
+use Rattle.std.proofs.{Common.{◌≡◌, ℕ, zero, suc, true, cond, List, [], ◌∷◌, Option, Some, None, refl, sym, ap, ◌∙◌, subst, arith, ◌==◌, slice_get, IsSomeAnd}}
 use Rattle.std.proofs.lemmas.Bool.Decides.{nat_tests}
 use Rattle.lists.proofs.ListLaws.{same_some}
-use Rattle.jvm_types.specs.{CodeGrammar.is_start, Verifying.IsLaidOut, declared.{code.Insn.Insn, program.MethodInfo.MethodInfo}}
+use Rattle.jvm_types.specs.{Verifying.IsLaidOut, declared.{code.Insn.Insn, program.MethodInfo.MethodInfo}}
 use Rattle.laws_programs.proofs.{CodeOrder.{one_number, have_targets}, EdgeTargets.not_first, LeastFrames.{AreDistinct, distinct}}
 use Rattle.checked_program.specs.{LockTags.{TagShape, IsShapeBelow}, MarkedProgram.{MarkedProgram, IsMarked}, TaggedCode.row_of, Tagging.IsTagSound, Visits.{frame_at_pc, EdgeFits}}
 use Rattle.laws_sections.proofs.TagReach.{tagged_typed}

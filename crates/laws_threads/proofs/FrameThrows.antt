@@ -1,6 +1,7 @@
 -- Exceptions: to a handler, or out of a frame.
-use Rattle.std.{proofs.Common.{◌≡◌, ℕ, Bool, true, false, cond, not, ◌&&◌, ◌||◌, List, [], ◌∷◌, ◌++◌, Some, None, refl, sym, ap, ◌∙◌, subst, ◌==◌}, specs.List.{AllByRecursion, list_any, filter}}
-use Rattle.jvm_types.specs.{ClassTree.is_subclass, CodeTable.can_throw, Verifying.{is_return, covers, covering}, declared.{code.Insn.Insn, program.{MethodInfo.MethodInfo, Program.Program, Row.Row}}}
+use Rattle.std.proofs.lemmas.Bool.Decides.{nat_tests}
+use Rattle.std.{proofs.Common.{◌≡◌, ℕ, arith, Bool, true, false, cond, not, ◌&&◌, ◌||◌, List, [], ◌∷◌, ◌++◌, Some, None, refl, sym, ap, ◌∙◌, subst}, specs.List.{AllByRecursion, list_any, filter}}
+use Rattle.jvm_types.specs.{CodeTable.can_throw, Verifying.{is_return, covers, covering}, declared.{code.Insn.Insn, program.{MethodInfo.MethodInfo, Program.Program, Row.Row}}}
 use Rattle.jvm_types.specs.declared.program.Target.{Target}
 use Rattle.laws_programs.proofs.LocalGoing.{at_index}
 use Rattle.checked_program.specs.{LockTags.IsShapeBelow, MarkedProgram.{MarkedProgram, IsMarked}, Tagging.{catches_all, until_all, tags_at_handler}, Visits.EdgeFits}
@@ -41,23 +42,10 @@ throws_law c fs shown at is e s t =
 -- where none catches there is none that catches all
 pub none_catches : (pc class : ℕ) (rows : List Row) → handler_of pc class rows ≡ None → list_any catches_all (filter (covers pc) rows) ≡ false
 none_catches pc class [] e = refl
-none_catches pc class (x ∷ rows) e = by_cover (covers pc x) e (none_catches pc class rows)
-  where
-    by_catch : (b d : Bool) → cond (b || d) (Some x) (handler_of pc class rows) ≡ None → (handler_of pc class rows ≡ None → list_any catches_all (filter (covers pc) rows) ≡ false) → (b || list_any catches_all (filter (covers pc) rows)) ≡ false
-    by_catch true d e more = absurd (cc)
-    by_catch false true e more = absurd (cc)
-    by_catch false false e more = more e
-
-    by_cover : (a : Bool) → cond (a && (x.catch_class == 0 || is_subclass class x.catch_class)) (Some x) (handler_of pc class rows) ≡ None → (handler_of pc class rows ≡ None → list_any catches_all (filter (covers pc) rows) ≡ false)
-        → list_any catches_all (cond a (x ∷ filter (covers pc) rows) (filter (covers pc) rows)) ≡ false
-    by_cover true e more = by_catch (x.catch_class == 0) (is_subclass class x.catch_class) e more
-    by_cover false e more = more e
+none_catches pc class (x ∷ rows) e = grind (arith, nat_tests, e, none_catches pc class rows)
 
 pub may_leave_by : (a b d : Bool) → b ≡ true → d ≡ false → (a || (b && not d)) ≡ true
-may_leave_by true b d e f = refl
-may_leave_by false true false e f = refl
-may_leave_by false true true e f = absurd (cc)
-may_leave_by false false d e f = absurd (cc)
+may_leave_by a b d e f = grind (arith, nat_tests, e, f)
 
 module _ (c : MarkedProgram) (is : IsMarked c) where
   -- ---- to a handler

@@ -1,9 +1,8 @@
 -- The bounds of what a thread holds, when a monitor is put on the held list or taken from it.
-use Rattle.std.{proofs.{Common.{◌≡◌, ℕ, ◌+◌, ◌≤◌, Bool, true, false, List, [], ◌∷◌, Some, refl, subst, arith, ◌==◌, IfSome, if◌then◌else◌}, lemmas.Bool.Decides.nat_tests}, specs.List.AllByRecursion}
-use Rattle.machine_types.specs.{Bounds.{KeptFits, flat_held}, HeldMonitors.{held_at, with_held, without_held}, declared.lock.{Held.Held, Kept.Kept}}
+use Rattle.std.{proofs.{Common.{◌≡◌, ℕ, ◌+◌, ◌≤◌, Bool, List, [], ◌∷◌, Some, arith, ◌==◌, IfSome, if◌then◌else◌}, lemmas.Bool.Decides.nat_tests}, specs.List.AllByRecursion}
+use Rattle.machine_types.specs.{Bounds.{KeptFits, flat_held}, HeldMonitors.{held_at, with_held, without_held}, declared.lock.{Held.Held}}
 use Rattle.laws_threads.proofs.HeldLists.{held_monitor}
 use Rattle.laws_threads.proofs.Tests.{either_way}
-use Rattle.machine_types.specs.declared.lock.Kept.TheVariants as keeps
 
 -- ---- each monitor
 
@@ -31,39 +30,21 @@ flat h = flat_held (h ∷ [])
 
 pub flat_put : (e : Held) (hs : List Held) → flat_held (with_held e hs) ≤ flat e + flat_held hs
 flat_put e [] = omega arith
-flat_put e (g ∷ hs) = either_way (λ (b : Bool). flat_held (with_held e hs) ≤ flat e + flat_held hs → flat_held (if b then e ∷ hs else g ∷ with_held e hs) ≤ flat e + flat_held (g ∷ hs)) (g.monitor == e.monitor)
-    (λ more. omega arith)
-    (λ more. omega arith) (flat_put e hs)
+flat_put e (g ∷ hs) = grind (arith, nat_tests, flat_put e hs)
 
 pub flat_without : (m : ℕ) (hs : List Held) → flat_held (without_held m hs) ≤ flat_held hs
 flat_without m [] = omega arith
-flat_without m (g ∷ hs) = either_way (λ (b : Bool). flat_held (without_held m hs) ≤ flat_held hs → flat_held (if b then hs else g ∷ without_held m hs) ≤ flat_held (g ∷ hs)) (g.monitor == m)
-    (λ more. omega arith)
-    (λ more. omega arith) (flat_without m hs)
+flat_without m (g ∷ hs) = grind (arith, nat_tests, flat_without m hs)
 
 -- what stands in place of the entry of its monitor
 pub flat_refit : (m : ℕ) (hs : List Held) (h e : Held) → held_at hs m ≡ Some h → e.monitor ≡ h.monitor → flat_held (with_held e hs) + flat h ≡ flat e + flat_held hs
 flat_refit m [] h e found same = absurd (cc)
-flat_refit m (g ∷ hs) h e found same = by_test (g.monitor == m) refl found (g.monitor == e.monitor) refl (λ found. flat_refit m hs h e found same)
-  where
-    at : e.monitor ≡ m
-    at = subst (λ (i : ℕ). e.monitor ≡ i) (held_monitor m (g ∷ hs) h found) same
-
-    by_test : (b : Bool) → (g.monitor == m) ≡ b → (if b then Some g else held_at hs m) ≡ Some h → (d : Bool) → (g.monitor == e.monitor) ≡ d
-        → (held_at hs m ≡ Some h → flat_held (with_held e hs) + flat h ≡ flat e + flat_held hs) → flat_held (if d then e ∷ hs else g ∷ with_held e hs) + flat h ≡ flat e + flat_held (g ∷ hs)
-    by_test true t f true u more = let one : g ≡ h = cc in subst (λ (x : Held). flat_held (e ∷ hs) + flat x ≡ flat e + flat_held (g ∷ hs)) one (omega arith)
-    by_test true t f false u more = let k = at in absurd (grind (arith, nat_tests, t, u, k))
-    by_test false t f true u more = let k = at in absurd (grind (arith, nat_tests, t, u, k))
-    by_test false t f false u more = let k = more f in omega arith
+flat_refit m (g ∷ hs) h e found same = grind (arith, nat_tests, found, same, held_monitor m (g ∷ hs) h found, λ (f : held_at hs m ≡ Some h). flat_refit m hs h e f same)
 
 -- ---- one lock is at most one flat lock
 
 pub flat_at_most_one : (h : Held) → flat h ≤ 1
-flat_at_most_one h = by_kept h.kept
-  where
-    by_kept : (kept : Kept) → flat (record h { kept = kept }) ≤ 1
-    by_kept (keeps.Flat c) = omega arith
-    by_kept (keeps.Fat r) = omega arith
+flat_at_most_one h = grind arith
 
 -- ---- all bounds of what is held
 

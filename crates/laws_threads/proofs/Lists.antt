@@ -1,5 +1,5 @@
 -- Items of lists, and lists whose items are related.
-use Rattle.std.{proofs.Common.{◌≡◌, ℕ, zero, suc, List, [], ◌∷◌, ◌++◌, length, Some, refl, ap, sym, subst, ◌∙◌, slice_get, map, reverse}, specs.List.{AllZip, AllByRecursion}}
+use Rattle.std.{proofs.Common.{◌≡◌, ℕ, zero, suc, List, [], ◌∷◌, ◌++◌, length, Some, refl, ap, sym, subst, ◌∙◌, slice_get, map, reverse}, specs.List.{AllZip}}
 use Rattle.std.proofs.lemmas.List.{reverse-append, map-append, reverse-reverse}
 use Rattle.lists.proofs.ListLaws.{same_some}
 use Rattle.jvm_types.proofs.ScopeLaws.{zip_append}

@@ -1,12 +1,12 @@
 -- A thread enters a monitor.
-use Rattle.std.proofs.{Common.{◌≡◌, ℕ, ◌+◌, Bool, true, false, cond, List, ◌∷◌, length, Option, Some, None, refl, sym, ap, subst, arith, ◌==◌}, lemmas.Bool.eq-eqb}
+use Rattle.std.proofs.lemmas.Bool.Decides.{nat_tests}
+use Rattle.std.proofs.{Common.{◌≡◌, ℕ, ◌+◌, true, cond, List, ◌∷◌, length, Option, Some, None, refl, sym, ap, subst, arith, ◌==◌}}
 use Rattle.checked_program.specs.MarkedProgram.{MarkedProgram, IsMarked}
-use Rattle.machine_types.specs.{Elision.enters_marked, Going.{with_phase, runs, failed_turn}, HeldMonitors.{held_at, with_held, deeper}, Monitors.{Tries, HasNot, claim_by, takes}}
-use Rattle.machine_types.specs.{Structure.{Stands, AttemptStands, AttemptStandsIn, held_depth, tried_depth, once_at}, Threads.{Frame, Attempt, Thread}, declared.lock.{Held.Held, Kept.Kept}}
+use Rattle.machine_types.specs.{Elision.enters_marked, Going.{with_phase, runs, failed_turn}, HeldMonitors.{held_at, with_held, deeper}, Monitors.{HasNot, claim_by, takes}}
+use Rattle.machine_types.specs.{Structure.{Stands, AttemptStands, AttemptStandsIn, tried_depth, once_at}, Threads.{Frame, Attempt, Thread}, declared.lock.{Held.Held, Kept.Kept}}
 use Rattle.machine_types.specs.declared.phase.Phase.{Phase}
 use Rattle.laws_threads.{specs.{InsideMoves.{BeginsAttempt, EntersInside}, StructureLaws.{StaysStructured, turned_from}}, proofs.GoingOn.entered_frame}
-use Rattle.laws_threads.proofs.{HeldLists.{held_monitor, depth_some, depth_none, raised, once_put}, Turns.{TurnsIn, running, turning, no_attempt, held_outside}}
-use Rattle.laws_threads.proofs.Tests.{either_way}
+use Rattle.laws_threads.proofs.{HeldLists.{held_monitor, depth_some, depth_none, depth_put, once_put}, Turns.{TurnsIn, running, turning, no_attempt, held_outside}}
 use Rattle.machine_types.specs.declared.phase.Phase.TheVariants as phases
 
 -- ---- the lock is looked at, taken or flagged: the phases of that are alike
@@ -55,10 +55,9 @@ module _ (c : MarkedProgram) (s : Thread) (m : ℕ) where
   turned_back count k = turning c (phases.Take m count) s (phases.Acquire m) (acquire_turns k) (acquire_turns k)
 
   pub turned_back_fat : (r : ℕ) → Stands c (phases.Acquire m) s.frames s.held s.attempt → StaysStructured c (phases.TakeFat m r) (failed_turn s (phases.TakeFat m r))
-  turned_back_fat r k = turning c (phases.TakeFat m r) s (phases.TakeFat m r) turns turns
-    where
-      turns : TurnsIn c (phases.TakeFat m r) s
-      turns = record { counts = tt; stands = to_take_fat r k; inside = no_attempt c (phases.TakeFat m r) s.frames s.held s.attempt k.phase_shows.no_attempt }
+  turned_back_fat r k =
+      let turns : TurnsIn c (phases.TakeFat m r) s = record { counts = tt; stands = to_take_fat r k; inside = no_attempt c (phases.TakeFat m r) s.frames s.held s.attempt k.phase_shows.no_attempt } in
+      turning c (phases.TakeFat m r) s (phases.TakeFat m r) turns turns
 
   pub looks_at_lock : (was : Phase) → Stands c (phases.Acquire m) s.frames s.held s.attempt → StaysStructured c was (with_phase s (phases.Acquire m))
   looks_at_lock was k = record { is_as = refl; stands = k; attempt = no_attempt c (phases.Acquire m) s.frames s.held s.attempt k.phase_shows.no_attempt }
@@ -70,45 +69,33 @@ module _ (c : MarkedProgram) (s : Thread) (m : ℕ) where
       entry : Held
       entry = record { monitor = m; kept = kept; depth = 1 }
 
-      raised_at : (n : ℕ) → held_depth n (with_held entry s.held) ≡ held_depth n s.held + once_at m n
-      raised_at n = let none : held_depth m s.held ≡ 0 = depth_none m s.held k.phase_shows.not_held in raised m n entry s.held refl (omega arith)
-
       stands : Stands c phases.Run s.frames (with_held entry s.held) s.attempt
       stands = record {
         shown = k.shown;
         show = k.show;
-        depths = λ n. let d = k.depths n in let more = raised_at n in omega arith;
+        depths = λ n. let d = k.depths n in grind (arith, nat_tests, d, depth_put n entry s.held, depth_none m s.held k.phase_shows.not_held);
         once = once_put entry s.held (omega arith) k.once;
         phase_shows = entered_frame c m s.frames k.phase_shows.entry.enters;
       }
 
 -- ---- an entry begins
 
-tried_deeper : (b : Bool) (inner : ℕ) → cond b (inner + 1 + 1) 0 ≡ cond b (inner + 1) 0 + cond b 1 0
-tried_deeper true inner = omega arith
-tried_deeper false inner = omega arith
-
 -- the attempt at a phase that enters a monitor is one on it: there is none where the monitor is neither held nor tried
 pub none_tried : (c : MarkedProgram) (m tried : ℕ) (fs : List Frame) (held : List Held) (h : Option Held) (o : Option Attempt) → claim_by m h o ≡ HasNot → AttemptStandsIn c (phases.Enter m tried) fs held o → o ≡ None
 none_tried c m tried fs held (Some h) o e k = absurd (cc)
 none_tried c m tried fs held None None e k = refl
-none_tried c m tried fs held None (Some a) e k = absurd (either_way (λ (b : Bool). b ≡ true → cond b (Tries a) HasNot ≡ HasNot → ⊥) (a.monitor == m)
-    (λ f e. cc)
-    (λ f e. cc) (eq-eqb a.monitor m (sym k.inside)) e)
+none_tried c m tried fs held None (Some a) e k = absurd (grind (arith, nat_tests, e, k.inside))
 
 -- the monitor is held
 module _ (begin : BeginsAttempt) (entered_again : EntersInside) (c : MarkedProgram) (s : Thread) (m tried : ℕ) (k : Stands c (phases.Enter m tried) s.frames s.held s.attempt) (inside : AttemptStandsIn c (phases.Enter m tried) s.frames s.held s.attempt) where
   pub again : (h : Held) → held_at s.held m ≡ Some h → StaysStructured c (phases.Enter m tried) (runs (record s { held = with_held (deeper h) s.held }))
   again h e = running c (phases.Enter m tried) (record s { held = with_held (deeper h) s.held }) stands (no_attempt c phases.Run s.frames (with_held (deeper h) s.held) s.attempt (held_outside c (phases.Enter m tried) m h s.frames s.held s.attempt (λ n same. same) e inside))
     where
-      raised_at : (n : ℕ) → held_depth n (with_held (deeper h) s.held) ≡ held_depth n s.held + once_at m n
-      raised_at n = raised m n (deeper h) s.held (held_monitor m s.held h e) (ap (λ (i : ℕ). i + 1) (sym (depth_some m s.held h e)))
-
       stands : Stands c phases.Run s.frames (with_held (deeper h) s.held) s.attempt
       stands = record {
         shown = k.shown;
         show = k.show;
-        depths = λ n. let d = k.depths n in let more = raised_at n in omega arith;
+        depths = λ n. let d = k.depths n in grind (arith, nat_tests, d, depth_put n (deeper h) s.held, held_monitor m s.held h e, depth_some m s.held h e);
         once = once_put (deeper h) s.held (omega arith) k.once;
         phase_shows = entered_frame c m s.frames k.phase_shows.enters;
       }
@@ -148,7 +135,7 @@ module _ (begin : BeginsAttempt) (entered_again : EntersInside) (c : MarkedProgr
       stands = record {
         shown = k.shown;
         show = k.show;
-        depths = λ n. let d = k.depths n in let now : tried_depth n s.attempt ≡ tried_depth n (Some a) = ap (tried_depth n) e in let here : once_at m n ≡ once_at a.monitor n = ap (λ (i : ℕ). once_at i n) (sym on) in let more = tried_deeper (a.monitor == n) a.inner in omega arith;
+        depths = λ n. grind (arith, nat_tests, k.depths n, ap (tried_depth n) e, on);
         once = k.once;
         phase_shows = entered_frame c m s.frames k.phase_shows.enters;
       }

@@ -1,5 +1,5 @@
 -- A thread leaves a monitor.
-use Rattle.std.proofs.Common.{◌≡◌, ℕ, suc, ◌+◌, ◌<◌, Bool, true, false, cond, List, [], ◌∷◌, drop, Option, Some, None, refl, sym, ap, ◌∙◌, subst, arith, ◌==◌, nat_lt, option_map}
+use Rattle.std.proofs.Common.{◌≡◌, ℕ, suc, ◌+◌, ◌<◌, true, false, List, [], ◌∷◌, drop, Option, Some, None, refl, sym, ap, ◌∙◌, subst, arith, nat_lt, option_map}
 use Rattle.std.{proofs.lemmas.Bool.{ltb-true, Decides.nat_tests}}
 use Rattle.checked_program.specs.MarkedProgram.{MarkedProgram, IsMarked}
 use Rattle.machine_types.specs.{Elision.elided, Frames.{Top, frames_of, returned}, Going.{with_phase, goes_on, goes_on_if, goes_after}, HeldMonitors.{held_at, with_held, without_held, shallower}}
@@ -42,14 +42,6 @@ module _ (is : Classes) (c : MarkedProgram) (marked : IsMarked c) (m : ℕ) (sho
       record { onward = unwound x class (drop 1 fs); is = refl; rest = k.0; counts = less_shown k.0 k.1; shows = unwound_shows c x class (drop 1 fs) k.0 k.2 k.3 }
 
 -- ---- one entry is given up
-
-last_try : (b : Bool) (inner : ℕ) → inner ≡ 0 → cond b (inner + 1) 0 ≡ cond b 1 0
-last_try true inner e = omega arith
-last_try false inner e = refl
-
-one_try : (b : Bool) (inner less : ℕ) → inner ≡ suc less → cond b (inner + 1) 0 ≡ cond b (less + 1) 0 + cond b 1 0
-one_try true inner less e = omega arith
-one_try false inner less e = refl
 
 module _ (is : Classes) (c : MarkedProgram) (marked : IsMarked c) (was : Phase) (m : ℕ) (a : After) (s : Thread) where
   -- what it has left is what is shown without one entry, and the exit itself
@@ -110,16 +102,10 @@ module _ (is : Classes) (c : MarkedProgram) (marked : IsMarked c) (was : Phase) 
   module _ (t : Attempt) (e : s.attempt ≡ Some t) (on : t.monitor ≡ m) where
     pub left_elided : t.inner ≡ 0 → StaysStructured c was (goes_after c.program (elided s) a)
     left_elided f = left is c marked was m a (elided s) k.shown
-        (record { show = k.show; leaves = k.phase_shows; holds = holds; once = k.once; depths = λ n. let d = k.depths n in let tried : tried_depth n s.attempt ≡ tried_depth n (Some t) = ap (tried_depth n) e in let one = tried_once n in omega arith })
+        (record { show = k.show; leaves = k.phase_shows; holds = holds; once = k.once; depths = λ n. grind (arith, nat_tests, k.depths n, ap (tried_depth n) e, f, on) })
         (λ onward rest e shows. tt)
-      where
-        tried_once : (n : ℕ) → tried_depth n (Some t) ≡ once_at m n
-        tried_once n = last_try (t.monitor == n) t.inner f ∙ ap (λ (i : ℕ). once_at i n) on
 
     pub left_inside : (inner : ℕ) → t.inner ≡ suc inner → StaysStructured c was (goes_after c.program (record s { attempt = Some (record t { inner = inner }) }) a)
     left_inside inner f = left is c marked was m a (record s { attempt = Some (record t { inner = inner }) }) k.shown
-        (record { show = k.show; leaves = k.phase_shows; holds = holds; once = k.once; depths = λ n. let d = k.depths n in let tried : tried_depth n s.attempt ≡ tried_depth n (Some t) = ap (tried_depth n) e in let less = tried_less n in omega arith })
+        (record { show = k.show; leaves = k.phase_shows; holds = holds; once = k.once; depths = λ n. grind (arith, nat_tests, k.depths n, ap (tried_depth n) e, f, on) })
         (λ onward rest g shows. leaves_inside c m a s.frames s.held t inner onward marked (subst (λ (o : Option Attempt). AttemptStandsIn c (phases.Leave m a) s.frames s.held o) e inside) (subst (λ (o : Option Attempt). Stands c (phases.Leave m a) s.frames s.held o) e k) f g (onward_stands c onward rest shows))
-      where
-        tried_less : (n : ℕ) → tried_depth n (Some t) ≡ tried_depth n (Some (record t { inner = inner })) + once_at m n
-        tried_less n = one_try (t.monitor == n) t.inner inner f ∙ ap (λ (i : ℕ). cond (t.monitor == n) (inner + 1) 0 + once_at i n) on

@@ -1,6 +1,6 @@
 -- Where a section begins: at pc 0 no tag is held, and right behind a `monitorenter` the tag that it took is the innermost.
-use Rattle.std.proofs.Common.{◌≡◌, ◌⊎◌, inl, inr, ⊎_elim, ℕ, suc, ◌<◌, true, false, List, [], ◌∷◌, ◌++◌, length, Option, Some, None, refl, sym, ap, ◌∙◌, subst, arith, ◌==◌, ◌||◌, IsSomeAnd, slice_get, if◌then◌else◌}
-use Rattle.std.proofs.lemmas.{Bool.{cases_order, Decides.nat_tests}, Option.slice_get-get_or}
+use Rattle.std.proofs.Common.{◌≡◌, ◌⊎◌, inl, inr, ℕ, suc, ◌<◌, true, false, List, [], ◌∷◌, ◌++◌, length, Option, Some, None, refl, sym, ap, ◌∙◌, subst, arith, ◌==◌, IsSomeAnd, slice_get, if◌then◌else◌}
+use Rattle.std.proofs.lemmas.{Bool.{Decides.nat_tests}, Option.slice_get-get_or}
 use Rattle.lists.proofs.ListLaws.{same_some}
 use Rattle.jvm_types.specs.{CodeTable.{branches_to, falls_through}, Numbers.has_number, Verifying.{IsLaidOut, edges}, declared.{code.{Insn.Insn, Op.Op}, op_row.OpRow.OpRow}}
 use Rattle.jvm_types.specs.declared.program.{MethodInfo.MethodInfo, Target.Target}
@@ -43,26 +43,12 @@ module _ (c : MarkedProgram) (marked : IsMarked c) where
 
   -- an instruction at the pc before that of the frame is that `monitorenter`
   pub just_before : (f : Frame) (k : Standing c f) (e : Entered c f k) (j : ℕ) (other : Insn) → slice_get k.method.code j ≡ Some other → suc other.pc ≡ f.pc → j ≡ e.at
-  just_before f k e j other there p = ⊎_elim
-      (λ (h : j ≡ e.at). h)
-      (λ (h : (j < e.at) ⊎ (e.at < j)). ⊎_elim
-      (λ (l : j < e.at). absurd (let up : other.pc < e.insn.pc = ascend k.method j e.at other e.insn (laid c marked f k) there e.there l in omega (arith, up, p, later, e.next)))
-      (λ (l : e.at < j). ⊎_elim
-      (λ (same : j ≡ k.number). absurd (let pcs : other.pc ≡ k.insn.pc = one_pc same in omega (arith, pcs, p, here)))
-      (λ (h : (j < k.number) ⊎ (k.number < j)). ⊎_elim
-      (λ (q : j < k.number). absurd (let b = e.before in omega (arith, q, l, b)))
-      (λ (q : k.number < j). absurd (let up : k.insn.pc < other.pc = ascend k.method k.number j k.insn other (laid c marked f k) k.at.in_code there q in omega (arith, up, p, here))) h)
-      (cases_order j k.number)) h)
-      (cases_order j e.at)
-    where
-      later : e.insn.pc < e.insn.next
-      later = next_later k.method e.at e.insn (laid c marked f k) e.there
-
-      here : k.insn.pc ≡ f.pc
-      here = k.pc_is
-
-      one_pc : j ≡ k.number → other.pc ≡ k.insn.pc
-      one_pc same = ap (λ (x : Insn). x.pc) (same_some (sym there ∙ ap (λ n. slice_get k.method.code n) same ∙ k.at.in_code))
+  just_before f k e j other there p =
+      let laid = laid c marked f k in
+      let low = ascend k.method j e.at other e.insn laid there e.there in
+      let high = ascend k.method k.number j k.insn other laid k.at.in_code there in
+      let same : j ≡ k.number → other.pc ≡ k.insn.pc = λ same. ap (λ (x : Insn). x.pc) (same_some (sym there ∙ ap (λ n. slice_get k.method.code n) same ∙ k.at.in_code)) in
+      grind (arith, low, high, same, next_later k.method e.at e.insn laid e.there, e.next, k.pc_is, p, e.before)
 
   -- ---- tags
 

@@ -1,5 +1,6 @@
 -- How many entries frames show hangs on where they stand alone. So the outermost exit of an attempt is known by its place.
-use Rattle.std.proofs.{Common.{◌≡◌, ℕ, ◌+◌, Bool, true, false, List, [], ◌∷◌, length, map, Some, refl, sym, ap, ◌∙◌, arith, ◌==◌, if◌then◌else◌}, lemmas.List.{length-append, length-map}}
+use Rattle.std.proofs.lemmas.Bool.Decides.{nat_tests}
+use Rattle.std.proofs.{Common.{◌≡◌, ℕ, ◌+◌, Bool, List, [], ◌∷◌, length, map, Some, refl, sym, ap, ◌∙◌, arith, if◌then◌else◌}, lemmas.List.{length-append, length-map}}
 use Rattle.jvm_types.specs.{Members.is_synchronized, declared.program.{MethodInfo.MethodInfo, Program.Program}}
 use Rattle.checked_program.specs.{LockTags.TagShape, MarkedProgram.{MarkedProgram, IsMarked}}
 use Rattle.machine_types.specs.{Frames.monitor_of, Shown.{tag_value, own_entry, Shows, ShowBelow, Show}, Standing.{Operands, Whole}, Structure.{count_in, once_at, held_depth, tried_depth}}
@@ -45,12 +46,5 @@ module _ (c : MarkedProgram) (marked : IsMarked c) where
       let rest = same_below f.method a.entry.method below s.1 t.1 s.4 t.4 in
       let first : length shown ≡ length s.0 + length s.1 = ap length s.2 ∙ length-append s.0 s.1 in
       let second : length back ≡ length t.0 + length t.1 = ap length t.2 ∙ length-append t.0 t.1 in
-      let longer : length shown ≡ a.inner + length back = longer_by shown back a.monitor a.inner more in
+      let longer : length shown ≡ a.inner + length back = longer_by shown back a.monitor a.inner (λ m. grind (arith, nat_tests, counts m, counted m)) in
       omega (arith, own, rest, first, second, longer)
-    where
-      more : (m : ℕ) → count_in m shown ≡ (if a.monitor == m then a.inner else 0) + count_in m back
-      more m = by_test (a.monitor == m) (counts m) (counted m)
-        where
-          by_test : (b : Bool) → count_in m shown ≡ held_depth m held + (if b then a.inner + 1 else 0) → count_in m back ≡ held_depth m held + (if b then 1 else 0) → count_in m shown ≡ (if b then a.inner else 0) + count_in m back
-          by_test true e g = omega (arith, e, g)
-          by_test false e g = omega (arith, e, g)

@@ -4,7 +4,6 @@ use Rattle.std.{specs.List.AllByRecursion, proofs.lemmas.Bool.Decides.nat_tests}
 use Rattle.jvm_types.specs.{CodeTable.{value_of, stack_after, locals_after}, declared.{op_row.{Given.{Given, TheVariants.{Fresh, Taken, Local}}, OpRow.OpRow}, typing.VType.VType}}
 use Rattle.checked_program.specs.{LockTags.{same_tag, without, IsTagBelow, AreTagsBelow}, declared.tag.Tag.{Tag, TheVariants.{Untagged, This, At}}}
 use Rattle.machine_types.specs.Shown.{tag_value, HasValue, HaveValues}
-use Rattle.laws_threads.proofs.Tests.{either_way}
 
 module _ (choice : ℕ → ℕ) (receiver : ℕ) where
   weaker_one : (t u : Tag) (v : ℕ) → IsTagBelow t u → HasValue choice receiver t v → HasValue choice receiver u v
@@ -86,4 +85,4 @@ module _ (choice : ℕ → ℕ) (receiver pc v : ℕ) where
   values_kept (t ∷ ts) h = let one = value_kept t h.0 in let more = values_kept ts h.1 in cc
 
   pub chosen_there : v ≡ chosen pc v choice pc
-  chosen_there = either_way (λ (b : Bool). b ≡ true → v ≡ cond b v (choice pc)) (pc == pc) (λ e. refl) (λ e. absurd (cc)) (grind (arith, nat_tests))
+  chosen_there = grind (arith, nat_tests)

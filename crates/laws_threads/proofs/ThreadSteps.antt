@@ -1,5 +1,5 @@
 -- Each event of a thread keeps its locking structured.
-use Rattle.std.proofs.Common.{◌≡◌, inl, inr, ℕ, ◌<◌, Bool, true, false, cond, List, [], ◌∷◌, ◌++◌, Option, Some, None, refl, sym, ap, ◌∙◌, subst, arith, ◌+◌, nat_lt, slice_get, option_map, ◌&&◌, IsTrue}
+use Rattle.std.proofs.Common.{◌≡◌, inl, inr, ℕ, Bool, true, false, cond, List, [], ◌∷◌, ◌++◌, Option, Some, None, refl, sym, ap, ◌∙◌, subst, arith, ◌+◌, nat_lt, slice_get, option_map, ◌&&◌, IsTrue}
 use Rattle.std.specs.List.{AllByRecursion}
 use Rattle.lists.proofs.TestLaws.{both_are_true}
 use Rattle.jvm_types.specs.{Members.is_synchronized, Numbers.has_number, declared.{limits.TheConstants.MOST_ATTEMPTS, outcome.{End.End, Thrown.TheVariants.StackOverflowError}}}

@@ -1,5 +1,5 @@
 -- An attempt stands as an exception goes to a handler, or leaves the top frame.
-use Rattle.std.proofs.Common.{◌≡◌, ℕ, zero, suc, slice_get, Bool, true, false, ◌&&◌, ◌||◌, List, [], ◌∷◌, Option, Some, None, refl, sym, ap, ◌∙◌, subst, arith, ◌==◌, if◌then◌else◌}
+use Rattle.std.proofs.Common.{◌≡◌, ℕ, zero, suc, slice_get, Bool, true, false, List, [], ◌∷◌, Option, Some, None, refl, sym, ap, ◌∙◌, subst, arith, ◌==◌, if◌then◌else◌}
 use Rattle.std.{specs.List.list_any, proofs.lemmas.Bool.Decides.nat_tests}
 use Rattle.lists.proofs.{ListLaws.same_some, TestLaws.{first_true, second_true}}
 use Rattle.jvm_types.specs.{CodeTable.can_throw, Members.is_synchronized, Verifying.{covering, is_return}, declared.{code.Insn.Insn, outcome.Thrown.Thrown}}

@@ -1,5 +1,5 @@
 -- Values and the order of types; what a row asks of values is there under a typing.
-use Rattle.std.proofs.Common.{◌≡◌, ℕ, zero, suc, ◌⊎◌, inl, inr, Bool, true, false, not, ◌||◌, ◌&&◌, List, [], ◌∷◌, length, Option, Some, None, refl, ap, sym, subst, ◌∙◌, arith, nat_lt, ◌==◌, slice_set, slice_index_or, map, drop, ◌++◌}
+use Rattle.std.proofs.Common.{◌≡◌, ℕ, zero, suc, ◌⊎◌, inl, inr, Bool, true, false, not, ◌||◌, List, [], ◌∷◌, length, Option, Some, None, refl, ap, sym, subst, ◌∙◌, arith, nat_lt, ◌==◌, slice_set, slice_index_or, map, drop, ◌++◌}
 use Rattle.std.{specs.List.{AllZip, AllByRecursion}, proofs.lemmas.Bool.{or_parts, Decides.nat_tests}}
 use Rattle.lists.proofs.TestLaws.{is_true, both_are_true}
 use Rattle.jvm_types.specs.{ClassTree.is_subclass, CodeTable.{value_of, stack_after, locals_after}, Members.is_static, Types.{TypeFrame, is_below, all_pairs, frame_below}}

@@ -1,10 +1,10 @@
 -- A thread makes a lock fat, waits and notifies.
-use Rattle.std.proofs.{Common.{◌≡◌, ℕ, ◌+◌, Bool, true, false, cond, Option, Some, None, refl, sym, subst, arith, ◌==◌}, lemmas.Bool.Decides.nat_tests}
+use Rattle.std.proofs.{Common.{◌≡◌, ℕ, Option, Some, None, refl, sym, subst, arith}, lemmas.Bool.Decides.nat_tests}
 use Rattle.checked_program.specs.MarkedProgram.{MarkedProgram}
 use Rattle.machine_types.specs.{Going.{with_phase, runs, failed_turn}, HeldMonitors.{held_at, with_held, without_held}, Monitors.{grows_not, fattens, goes_to_wait, retakes}}
-use Rattle.machine_types.specs.{Structure.{IsFlat, IsFat, Stands, held_depth}, Threads.Thread, declared.{lock.Held.Held, phase.Toward.Toward}}
+use Rattle.machine_types.specs.{Structure.{IsFlat, IsFat, Stands}, Threads.Thread, declared.{lock.Held.Held, phase.Toward.Toward}}
 use Rattle.laws_threads.specs.StructureLaws.{StaysStructured}
-use Rattle.laws_threads.proofs.HeldLists.{depth_some, depth_none, depth_put, depth_without, depth_at_same, held_monitor, held_there, held_positive, none_held, once_put, once_without, refitted_depth}
+use Rattle.laws_threads.proofs.HeldLists.{depth_some, depth_none, depth_put, depth_without, held_monitor, held_there, held_positive, none_held, once_put, once_without, refitted_depth}
 use Rattle.laws_threads.proofs.Turns.{TurnsIn, running, turning, no_attempt}
 use Rattle.machine_types.specs.declared.lock.Kept.TheVariants as keeps
 use Rattle.machine_types.specs.declared.phase.Phase.TheVariants as phases
@@ -59,34 +59,26 @@ module _ (c : MarkedProgram) (s : Thread) (m r : ℕ) (none : s.attempt ≡ None
   given_up None e k = absurd (subst (λ (o : Option Held). IsFat r o) e k.phase_shows.1)
   given_up (Some h) e k = record { is_as = refl; stands = stands; attempt = no_attempt c (phases.WaitLook m r h.depth) s.frames (without_held m s.held) s.attempt none }
     where
-      less : (n : ℕ) (b : Bool) → (m == n) ≡ b → held_depth n (without_held m s.held) ≡ cond b 0 (held_depth n s.held) → held_depth n s.held ≡ held_depth n (without_held m s.held) + cond b h.depth 0
-      less n true f x = let same : m ≡ n = grind (arith, nat_tests, f) in let at : held_depth m s.held ≡ held_depth n s.held = depth_at_same m n s.held same in let deep : held_depth m s.held ≡ h.depth = depth_some m s.held h e in omega arith
-      less n false f x = omega arith
-
       stands : Stands c (phases.WaitLook m r h.depth) s.frames (without_held m s.held) s.attempt
       stands = record {
         shown = k.shown;
         show = k.show;
-        depths = λ n. let d = k.depths n in let x = less n (m == n) refl (depth_without n m s.held k.once) in omega arith;
+        depths = λ n. let d = k.depths n in grind (arith, nat_tests, d, depth_without n m s.held k.once, depth_some m s.held h e);
         once = once_without m s.held k.once;
         phase_shows = record { frame = k.phase_shows.0; not_held = none_held m s.held k.once; some = held_positive m s.held h k.once e };
       }
 
   -- the bit is set still, or it is not
   pub waits_on : (depth : ℕ) → Stands c (phases.WaitLook m r depth) s.frames s.held s.attempt → StaysStructured c (phases.WaitLook m r depth) (failed_turn s (phases.WaitLook m r depth))
-  waits_on depth k = turning c (phases.WaitLook m r depth) s (phases.WaitLook m r depth) turns turns
-    where
-      turns : TurnsIn c (phases.WaitLook m r depth) s
-      turns = record { counts = tt; stands = k; inside = no_attempt c (phases.WaitLook m r depth) s.frames s.held s.attempt none }
+  waits_on depth k = let turns : TurnsIn c (phases.WaitLook m r depth) s = record { counts = tt; stands = k; inside = no_attempt c (phases.WaitLook m r depth) s.frames s.held s.attempt none } in
+      turning c (phases.WaitLook m r depth) s (phases.WaitLook m r depth) turns turns
 
   pub to_retake : (depth : ℕ) → Stands c (phases.WaitLook m r depth) s.frames s.held s.attempt → StaysStructured c (phases.WaitLook m r depth) (with_phase s (phases.Retake m r depth))
   to_retake depth k = record { is_as = refl; stands = record { shown = k.shown; show = k.show; depths = k.depths; once = k.once; phase_shows = k.phase_shows }; attempt = no_attempt c (phases.Retake m r depth) s.frames s.held s.attempt none }
 
   pub retakes_not : (depth : ℕ) → Stands c (phases.Retake m r depth) s.frames s.held s.attempt → StaysStructured c (phases.Retake m r depth) (failed_turn s (phases.Retake m r depth))
-  retakes_not depth k = turning c (phases.Retake m r depth) s (phases.Retake m r depth) turns turns
-    where
-      turns : TurnsIn c (phases.Retake m r depth) s
-      turns = record { counts = tt; stands = k; inside = no_attempt c (phases.Retake m r depth) s.frames s.held s.attempt none }
+  retakes_not depth k = let turns : TurnsIn c (phases.Retake m r depth) s = record { counts = tt; stands = k; inside = no_attempt c (phases.Retake m r depth) s.frames s.held s.attempt none } in
+      turning c (phases.Retake m r depth) s (phases.Retake m r depth) turns turns
 
   -- the monitor is taken back
   pub retaken : (depth : ℕ) → Stands c (phases.Retake m r depth) s.frames s.held s.attempt → StaysStructured c (phases.Retake m r depth) (retakes s m r depth)
@@ -95,15 +87,11 @@ module _ (c : MarkedProgram) (s : Thread) (m r : ℕ) (none : s.attempt ≡ None
       entry : Held
       entry = record { monitor = m; kept = keeps.Fat r; depth = depth }
 
-      more : (n : ℕ) (b : Bool) → (m == n) ≡ b → held_depth n (with_held entry s.held) ≡ cond b depth (held_depth n s.held) → held_depth n (with_held entry s.held) ≡ held_depth n s.held + cond b depth 0
-      more n true f x = let same : m ≡ n = grind (arith, nat_tests, f) in let at : held_depth m s.held ≡ held_depth n s.held = depth_at_same m n s.held same in let zero_deep : held_depth m s.held ≡ 0 = depth_none m s.held k.phase_shows.not_held in omega arith
-      more n false f x = omega arith
-
       stands : Stands c phases.Run s.frames (with_held entry s.held) s.attempt
       stands = record {
         shown = k.shown;
         show = k.show;
-        depths = λ n. let d = k.depths n in let x = more n (m == n) refl (depth_put n entry s.held) in omega arith;
+        depths = λ n. let d = k.depths n in grind (arith, nat_tests, d, depth_put n entry s.held, depth_none m s.held k.phase_shows.not_held);
         once = once_put entry s.held k.phase_shows.some k.once;
         phase_shows = k.phase_shows.frame;
       }
