@@ -8,7 +8,7 @@ use Rattle.laws_sections.proofs.SectionCalls.{no_exit}
 use Rattle.machine_types.specs.{Elision.put_back, Frames.{top_of, given}, Onward.{back, unwound}, Standing.Standing, Structure.{IsPhaseInside, AttemptStands, RunsSection, frames_inside}}
 use Rattle.machine_types.specs.{Threads.{Frame, Attempt}, declared.{lock.Held.Held, phase.Phase.Phase}}
 use Rattle.laws_threads.{specs.InsideMoves.{GoesOnInside, OnwardStands}, proofs.{FramesInside.{one_more, put_back_over}, Inside.{base_below, stands_on}}}
-use Rattle.laws_threads.proofs.{SectionFrames.{Runs, Caller, IsExitOf, section_of_runs, moved, caller}, Standings.top_is}
+use Rattle.laws_threads.proofs.{SectionFrames.{Runs, Caller, IsExitOf, section_of_runs, moved, caller}, FramePlaces.has_top}
 use Rattle.laws_threads.proofs.Base.{entry_of, of_synchronized}
 use Rattle.laws_threads.proofs.EffectOps.{call_falls}
 use Rattle.jvm_types.specs.declared.code.Op.TheVariants as ops
@@ -69,7 +69,7 @@ module _ (c : MarkedProgram) (marked : IsMarked c) (phase : Phase) (f : Frame) (
   pub returned_on : (below : List Frame) (n : ℕ) (result : List ℕ) (k : AttemptStands c phase (f ∷ below) held a) → Runs c a f (frames_inside a below) → (a.base ≡ length below → ⊥) → OnwardStands c (back (given result (top_of c.program below)))
       → GoesOnInside c (back (given result (top_of c.program below))) held (record a { inner = n })
   returned_on [] n result k r never st = absurd (never (let l = k.based in omega (arith, l)))
-  returned_on (b ∷ more) n result k r never st = subst (λ o. GoesOnInside c (back (given result o)) held (record a { inner = n })) (sym (top_is c marked b more kb)) (goes (subst (λ o. OnwardStands c (back (given result o))) (top_is c marked b more kb) st))
+  returned_on (b ∷ more) n result k r never st = subst (λ o. GoesOnInside c (back (given result o)) held (record a { inner = n })) (sym (has_top c marked b more kb)) (goes (subst (λ o. OnwardStands c (back (given result o))) (has_top c marked b more kb) st))
     where
       low : a.base ≤ length more
       low = not_base b more (base_below a f (b ∷ more) k.based) never

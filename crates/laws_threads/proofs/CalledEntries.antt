@@ -8,7 +8,7 @@ use Rattle.checked_program.specs.{CheckedLaws.receiver_want, LockTags.entry_tags
 use Rattle.checked_program.proofs.CheckedPlaces.{checked_sound}
 use Rattle.laws_sections.proofs.HiddenThis.{long_arguments}
 use Rattle.machine_types.specs.{Frames.entry_frame, Typed.{Classes, Holds, FrameHolds}}
-use Rattle.laws_threads.{specs.Allowed.{WantHolds, TakenHold}, proofs.{Calls.{CallRow, HasReceiver, deepest_first}, Landing.{tags_at, land}}}
+use Rattle.laws_threads.{specs.Allowed.{WantHolds, TakenHold}, proofs.{Calls.{CallRow, HasReceiver, deepest_first}, Landing.land, MarkedMethods.method_at}}
 use Rattle.laws_threads.proofs.{Lists.{zip_has, map_at, zip_length, zip_reverse, reverse_map}, Values.ValuesHold}
 use Rattle.jvm_types.specs.Types as types
 use Rattle.jvm_types.specs.declared.program.Kind.TheVariants as kinds
@@ -118,8 +118,5 @@ module _ (c : MarkedProgram) (marked : IsMarked c) (is : Classes) where
   pub enters : (number : ℕ) (called : MethodInfo) (vs : List ℕ) → slice_get c.program.methods number ≡ Some called → ValuesHold called is (types.entry_type_frame called) (entry_frame number called vs)
       → FrameHolds c is 0 (entry_frame number called vs)
   enters number called vs e values =
-      let s = checked_sound (checked_part c) number called marked.checked e in
-      let tag = zip_has (IsTaggingOf c.program) c.program.methods c.tags number called marked.tags e in
-      let typings = map_at (λ (t : Typing). t.frames) c.typings number s.0 s.1 in
-      let tags = map_at (λ (t : Tags). t.frames) c.tags number tag.0 tag.1 in
-      land c marked is (entry_frame number called vs) called s.0.frames tag.0.frames (types.entry_type_frame called) (entry_tags called) e typings tags s.2.sound.entry (tags_at c marked number called tag.0.frames e tags).entry values
+      let a = method_at c marked number called e in
+      land c marked is (entry_frame number called vs) called a.frames a.tags (types.entry_type_frame called) (entry_tags called) e a.its_types a.its_tags a.holds.types.entry a.holds.sound.entry values

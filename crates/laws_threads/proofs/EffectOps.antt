@@ -70,14 +70,9 @@ module _ (c : MarkedProgram) (m : ℕ) where
         }
 
     got_own : (fi : ℕ) (field : FieldInfo) → slice_get c.program.fields fi ≡ Some field → IsFrozenStatic c.program fi ⊎ IsOwnStatic c.program (tags_of c) mode fi → MayRead c m (variable_of field 0)
-    got_own fi field e h = by_test (is_static field.flags) (own_sort fi field e h)
-      where
-        stays : IsStayingStatic c m field.index
-        stays = own_static fi field e h
-
-        by_test : (b : Bool) → b ≡ true → MayRead c m (if b then Static field.index else Instance 0 field.index)
-        by_test true q = stays
-        by_test false q = absurd (cc)
+    got_own fi field e h = either_way (λ (b : Bool). b ≡ true → MayRead c m (if b then Static field.index else Instance 0 field.index)) (is_static field.flags)
+        (λ q. own_static fi field e h)
+        (λ q. absurd (cc)) (own_sort fi field e h)
 
     got_field : (fi a : ℕ) (field : FieldInfo) → slice_get c.program.fields fi ≡ Some field → is_static field.flags ≡ false → IsFrozenField c.program (tags_of c) fi ⊎ (IsGuardedField c.program (tags_of c) fi × (a ≡ m)) → MayRead c m (variable_of field a)
     got_field fi a field e sort stays = either_way (λ (b : Bool). b ≡ false → MayRead c m (if b then Static field.index else Instance a field.index)) (is_static field.flags)

@@ -19,9 +19,6 @@ depth_some m hs h e = ap depth_by e
 pub depth_none : (m : ℕ) (hs : List Held) → held_at hs m ≡ None → held_depth m hs ≡ 0
 depth_none m hs e = ap depth_by e
 
-pub depth_at_same : (n m : ℕ) (hs : List Held) → n ≡ m → held_depth n hs ≡ held_depth m hs
-depth_at_same n m hs e = ap (λ (i : ℕ). held_depth i hs) e
-
 -- what is held is entered
 pub held_positive : (m : ℕ) (hs : List Held) (h : Held) → AreHeldOnce hs → held_at hs m ≡ Some h → 0 < h.depth
 held_positive m [] h a e = absurd (cc)
@@ -60,11 +57,6 @@ once_without n (g ∷ hs) a = either_way (λ (b : Bool). AreHeldOnce (cond b hs 
 
 pub none_held : (n : ℕ) (hs : List Held) → AreHeldOnce hs → held_at (without_held n hs) n ≡ None
 none_held n hs a = grind (arith, nat_tests, held_without n n hs a)
-
--- ---- one entry more
-
-pub raised : (n m : ℕ) (h : Held) (hs : List Held) → h.monitor ≡ n → h.depth ≡ held_depth n hs + 1 → held_depth m (with_held h hs) ≡ held_depth m hs + once_at n m
-raised n m h hs e k = grind (arith, nat_tests, depth_put m h hs, e, k)
 
 -- ---- one entry less
 

@@ -13,9 +13,9 @@ use Rattle.machine_types.specs.Onward.{Onward, Running, Throwing, Entering, Leav
 use Rattle.machine_types.specs.{Parts.{numbers_of, entries_named, init_roots}, ReadyObjects.{class_of, thrown_of}, Structure.HasFrame, Threads.{Frame, Attempt, Thread}, Words.header_class}
 use Rattle.machine_types.specs.declared.{effect.Effect.{Effect, TheVariants.{Raises, Calls, Returns}}, lock.{Held.Held, Kept.Kept}}
 use Rattle.machine_types.specs.declared.phase.{After.After, Phase.Phase, Toward.Toward}
-use Rattle.laws_threads.{specs.RootLaws.RootsAreKept, proofs.ThreadMove.{looks_in, takes_in, if_either, if_mapped, GoesBy, LeadsTo, TurnsTo, GivesUp, Asks, WaitsFrom, Move, becomes, mover, by_move, of_mover, runs_to, turns_to}}
+use Rattle.laws_threads.{specs.RootLaws.RootsAreKept, proofs.ThreadMove.{looks_in, takes_in, if_either, if_mapped, GoesBy, LeadsTo, TurnsTo, GivesUp, Asks, WaitsFrom, Move, becomes, mover, by_move, of_mover, runs_to, over_to, turns_to}}
 use Rattle.laws_threads.proofs.GoingOn.{pushed_frame}
-use Rattle.laws_threads.proofs.Roots.{numbered}
+use Rattle.laws_threads.proofs.Roots.{numbered, numbers_in}
 use Rattle.jvm_types.specs.declared.outcome.End.TheVariants as ends
 use Rattle.machine_types.specs.declared.phase.After.TheVariants as afters
 use Rattle.machine_types.specs.declared.phase.Phase.TheVariants as phases
@@ -52,18 +52,10 @@ module _ (p : Program) where
   in_phase s phase n k = record { roots = k.roots; frames = framed phase s.frames s.roots n k.frame }
 
   running : (s : Thread) → Stays s → IsRooted p (runs s)
-  running s k = in_phase s (if nat_lt s.counts.instructions s.cfg.steps then phases.Run else phases.Ending ends.Steps) (by_limit (nat_lt s.counts.instructions s.cfg.steps)) k
-    where
-      by_limit : (b : Bool) → IsNoStart (if b then phases.Run else phases.Ending ends.Steps)
-      by_limit true = tt
-      by_limit false = tt
+  running s k = in_phase s (runs s).phase (runs_to IsNoStart s tt tt) k
 
   over : (s : Thread) → AreRoots p s.number s.part s.roots → IsRooted p (goes_on s RootReturned)
-  over s r = record { roots = r; frames = by_roots s.roots }
-    where
-      by_roots : (roots : List ℕ) → FramesFit (root_over roots) [] roots
-      by_roots [] = tt
-      by_roots (root ∷ roots) = refl
+  over s r = record { roots = r; frames = over_to (λ (phase : Phase). FramesFit phase [] s.roots) s.roots (λ e. tt) (λ number rest e. subst (FramesFit phases.Start []) (sym e) refl) }
 
   goes : (s : Thread) (o : Onward) → AreRoots p s.number s.part s.roots → OnwardFits o → IsRooted p (goes_on s o)
   goes s (Running fs) r f = running (record s { frames = fs }) (record { roots = r; frame = f })
@@ -109,32 +101,19 @@ module _ (p : Program) where
 
 -- ---- the next root
 
-number_first : (a b : Bool) {P : Type 0} → (a || b) ≡ true → (a ≡ true → P) → (b ≡ true → P) → P
-number_first true b e f g = f refl
-number_first false b e f g = g e
-
 -- the number of a method that passes a test is one of the program
-numbers_within : (test : MethodInfo → Bool) (n : ℕ) (ms : List MethodInfo) (k : ℕ) → has_number (numbers_of test n ms) k ≡ true → k < n + length ms
-numbers_within test n ms k e = let x = numbered test ms n k e in let low = slice_get_within ms x.at x.method x.there in omega (arith, x.number, low)
+numbers_within : (test : MethodInfo → Bool) (ms : List MethodInfo) (k : ℕ) → has_number (numbers_of test 0 ms) k ≡ true → k < length ms
+numbers_within test ms k e = let x = numbered test ms 0 k e in omega (arith, x.number, slice_get_within ms x.at x.method x.there)
 
-numbers_in : (xs ys : List ℕ) (k : ℕ) {P : Type 0} → has_number (xs ++ ys) k ≡ true → (has_number xs k ≡ true → P) → (has_number ys k ≡ true → P) → P
-numbers_in [] ys k e f g = g e
-numbers_in (x ∷ xs) ys k e f g = number_first (x == k) (has_number (xs ++ ys) k) e (λ t. f (first_true (x == k) (has_number xs k) t)) (λ t. numbers_in xs ys k t (λ t. f (second_true (x == k) (has_number xs k) t)) g)
+inits_within : (p : Program) (k : ℕ) → has_number (init_roots p) k ≡ true → k < length p.methods
+inits_within p k e = numbers_in (numbers_of (λ m. is_class_init_name m.name) 0 p.methods) (entries_named p (codes "init") (codes "()V")) k e (numbers_within _ p.methods k) (numbers_within _ p.methods k)
 
 -- a root of a part is the number of a method
 pub roots_within : (p : Program) (number part k : ℕ) → has_number (part_roots p number part) k ≡ true → k < length p.methods
-roots_within p number part k e = by_part number part e
-  where
-    at_start : has_number (init_roots p) k ≡ true → k < length p.methods
-    at_start e = numbers_in (numbers_of (λ m. is_class_init_name m.name) 0 p.methods) (entries_named p (codes "init") (codes "()V")) k e
-        (λ e. let few : k < 0 + length p.methods = numbers_within _ 0 p.methods k e in omega arith)
-        (λ e. let few : k < 0 + length p.methods = numbers_within _ 0 p.methods k e in omega arith)
-
-    by_part : (number part : ℕ) → has_number (part_roots p number part) k ≡ true → k < length p.methods
-    by_part zero zero e = at_start e
-    by_part zero (suc zero) e = at_start e
-    by_part zero (suc (suc part)) e = let few : k < 0 + length p.methods = numbers_within _ 0 p.methods k e in omega arith
-    by_part (suc number) part e = let few : k < 0 + length p.methods = numbers_within _ 0 p.methods k e in omega arith
+roots_within p zero zero k e = inits_within p k e
+roots_within p zero (suc zero) k e = inits_within p k e
+roots_within p zero (suc (suc part)) k e = numbers_within _ p.methods k e
+roots_within p (suc number) part k e = numbers_within _ p.methods k e
 
 pub there : (ms : List MethodInfo) (k : ℕ) → k < length ms → (m : MethodInfo) × (slice_get ms k ≡ Some m)
 there [] k h = absurd (omega arith)
@@ -220,11 +199,9 @@ module _ (c : MarkedProgram) (s : Thread) (got : ℕ) (h : IsRooted c.program s)
   moved_framed _ (moves.leaves_outer m a e l t) f = left_framed (with_held (shallower e) s.held) s.attempt s.counts a (frame_in (phases.Leave m a) s.frames s.roots tt f)
   moved_framed _ (moves.leaves_inside m a t inner k e) f = left_framed s.held (Some (record t { inner = inner })) s.counts a (frame_in (phases.Leave m a) s.frames s.roots tt f)
   moved_framed _ (moves.finishes_try m a t k e y) f = left_framed s.held None (record s.counts { elided = s.counts.elided + 1 }) a (frame_in (phases.Leave m a) s.frames s.roots tt f)
-  moved_framed _ (moves.fattens_lock m r toward e l) f = record { roots = h.roots; frames = grown_framed toward }
-    where
-      grown_framed : (toward : Toward) → FramesFit (grown m r toward) s.frames s.roots
-      grown_framed (towards.Leave a) = framed (phases.Leave m a) s.frames s.roots tt (frame_in (phases.FatIn m r toward) s.frames s.roots tt f)
-      grown_framed towards.Wait = framed (phases.WaitBit m r) s.frames s.roots tt (frame_in (phases.FatIn m r toward) s.frames s.roots tt f)
+  moved_framed _ (moves.fattens_lock m r toward e l) f = record { roots = h.roots; frames = elim toward as (λ to. FramesFit (grown m r to) s.frames s.roots) [
+    towards.Leave a ↦ framed (phases.Leave m a) s.frames s.roots tt (frame_in (phases.FatIn m r toward) s.frames s.roots tt f) |
+    towards.Wait ↦ framed (phases.WaitBit m r) s.frames s.roots tt (frame_in (phases.FatIn m r toward) s.frames s.roots tt f) ] }
   moved_framed _ (moves.gives_up_to_wait m r e l) f = record { roots = h.roots; frames = framed (phases.WaitLook m r e.depth) s.frames s.roots tt (frame_in (phases.WaitOut m r) s.frames s.roots tt f) }
   moved_framed _ (moves.starts number roots e) f = subst (IsRooted c.program) (ap (thread_started c.program s) e) (begun_root c.program s s.roots h.roots f)
   moved_framed was k f = record { roots = h.roots; frames = runs_framed was tt f }

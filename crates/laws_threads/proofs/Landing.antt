@@ -7,13 +7,11 @@ use Rattle.checked_program.specs.{CheckedLaws.{AreFramesOf, IsPlace, HoldsAtInst
 use Rattle.checked_program.{specs.Tagging.IsTagAssignment, proofs.CheckedPlaces.{checked_sound, places_hold_all}}
 use Rattle.laws_sections.proofs.VisitsLocal.{landing}
 use Rattle.machine_types.specs.{Frames.top_of, Standing.{Standing, tags_of}, Threads.Frame, Typed.{Classes, FrameHolds}}
-use Rattle.laws_threads.proofs.{FramePlaces.has_top, Lists.mapped_at, Values.{ValuesHold, values_below}}
+use Rattle.laws_threads.proofs.{FramePlaces.{has_top, sound_at}, Lists.mapped_at, Values.{ValuesHold, values_below}}
 use Rattle.laws_threads.proofs.MarkedMethods.{method_at}
 use Rattle.jvm_types.specs.Verifying as types
 use Rattle.checked_program.specs.Tagging as tagging
 use Rattle.checked_program.specs.Visits as visits
-
--- ---- the item of a pc
 
 -- ---- where frames stand
 
@@ -35,11 +33,6 @@ module _ (c : MarkedProgram) (marked : IsMarked c) where
       let same : there.0 ≡ s.0 = same_some (sym there.1 ∙ s.1) in
       (s.0, s.1, sym there.2 ∙ ap (λ (t : Typing). t.frames) same, s.2)
 
-  pub tags_at : (number : ℕ) (m : MethodInfo) (frames : List (Option TagShape)) → slice_get c.program.methods number ≡ Some m → slice_get (tags_of c) number ≡ Some frames → IsTagAssignment c.program m frames
-  tags_at number m frames e t =
-      let a = method_at c marked number m e in
-      subst (λ (fs : List (Option TagShape)). IsTagAssignment c.program m fs) (same_some (sym a.its_tags ∙ t)) a.holds.sound
-
   pub place_of : (f : Frame) (k : Standing c f) → IsPlace (checked_part c) k.method k.frames k.number k.insn k.target k.types
   place_of f k =
       let t = types_at f.method k.method k.frames k.at.in_program k.types_of_method in
@@ -49,7 +42,7 @@ module _ (c : MarkedProgram) (marked : IsMarked c) where
   rules_at f k = places_hold_all (checked_part c) k.method k.frames k.number k.insn k.target k.types marked.checked (place_of f k)
 
   pub tag_rules_at : (f : Frame) (k : Standing c f) → tagging.IsTagSound k.method k.insn (row_of c.program k.method k.insn k.target) k.at.frames k.tags
-  tag_rules_at f k = (tags_at f.method k.method k.at.frames k.at.in_program k.at.of_method).sound k.number k.insn k.target k.tags k.at.in_code k.at.names k.at.frame
+  tag_rules_at f k = sound_at c marked f k
 
   -- ---- where a frame lands
 

@@ -7,7 +7,7 @@ use Rattle.machine_types.specs.{Frames.{top_of, given, given_back, returned}, On
 use Rattle.machine_types.specs.{Structure.{IsLeaving, Stands, AttemptStands, Finishes, frames_inside, operands_after, TopLeaves, count_in, held_depth, tried_depth}, Threads.{Frame, Attempt}}
 use Rattle.machine_types.specs.declared.{lock.Held.Held, phase.After.After}
 use Rattle.laws_threads.{specs.InsideMoves.{GoesOnInside, OnwardStands, LeavesInside}, proofs.{AttemptMoves.{stands_inner, only_entry, returned_on, unwound_on}, Base.{entry_of, as_many, none_inside}}}
-use Rattle.laws_threads.proofs.{Inside.runs_inside, SectionFrames.Runs, Standings.{top_is, one_tags}}
+use Rattle.laws_threads.proofs.{Inside.runs_inside, SectionFrames.Runs, FramePlaces.has_top, Standings.one_tags}
 use Rattle.machine_types.specs.declared.phase.After.TheVariants as afters
 use Rattle.machine_types.specs.declared.phase.Phase.TheVariants as phases
 
@@ -49,7 +49,7 @@ leaves_inside c m afters.Return (f ∷ below) held a n onward marked k s inner g
     let result = given_back r.stands.insn.op f.stack in
     lands c held (record a { inner = n }) (back (given result (top_of c.program below))) onward
     (λ l. returned_on c marked (phases.Leave m afters.Return) f held a below n result k r (not_entry c marked m afters.Return held a n inner f below k s r (λ p. let d = s.depths p in omega (arith, d)) none) l)
-    (sym (ap (option_map (λ at. back (returned c.program at))) (top_is c marked f below r.stands)) ∙ goes) st
+    (sym (ap (option_map (λ at. back (returned c.program at))) (has_top c marked f below r.stands)) ∙ goes) st
 leaves_inside c m (afters.Unwind x class) (f ∷ below) held a n onward marked k s inner goes st =
     let r = top_runs c marked m (afters.Unwind x class) held a n inner f below k in
     let none = none_held c marked m (afters.Unwind x class) held a n inner f below _ r s.phase_shows in

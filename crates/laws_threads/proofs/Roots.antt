@@ -1,4 +1,5 @@
 -- The frame of a root is typed: it is a static method that takes nothing or the number of the thread.
+use Rattle.laws_threads.proofs.Tests.{either_way}
 use Rattle.std.proofs.Common.{◌≡◌, ℕ, zero, suc, ◌+◌, ◌<◌, ◌^◌, ◌⊎◌, inl, inr, Bool, true, false, ◌&&◌, ◌||◌, List, [], ◌∷◌, ◌++◌, length, Option, Some, None, refl, ap, sym, subst, ◌∙◌, arith, ◌==◌, nat_lt, codes, bytes_eq, slice_get, map, option_map, if◌then◌else◌, IsTrue}
 use Rattle.std.{specs.List.{AllZip, AllByRecursion}, proofs.lemmas.{Bool.Decides.nat_tests, Slice.Eq.bytes_eq-Decides}}
 use Rattle.lists.proofs.{ListLaws.same_some, TestLaws.{both_true, both_are_true, first_true, second_true}}
@@ -34,6 +35,13 @@ numbered test (m ∷ ms) n k e = by_test (test m) refl e (numbered test ms (suc 
     by_test : (b : Bool) → test m ≡ b → has_number (if b then n ∷ numbers_of test (suc n) ms else numbers_of test (suc n) ms) k ≡ true → (has_number (numbers_of test (suc n) ms) k ≡ true → Numbered test ms (suc n) k) → Numbered test (m ∷ ms) n k
     by_test true t e more = by_here (n == k) refl t e more
     by_test false t e more = later (more e)
+
+-- a number of one list or the other
+pub numbers_in : (xs ys : List ℕ) (k : ℕ) {P : Type 0} → has_number (xs ++ ys) k ≡ true → (has_number xs k ≡ true → P) → (has_number ys k ≡ true → P) → P
+numbers_in [] ys k e f g = g e
+numbers_in (x ∷ xs) ys k {P} e f g = either_way (λ (b : Bool). (b || has_number (xs ++ ys) k) ≡ true → ((b || has_number xs k) ≡ true → P) → P) (x == k)
+    (λ e f. f refl)
+    (λ e f. numbers_in xs ys k e f g) e f
 
 -- ---- what they take
 
@@ -75,12 +83,7 @@ module _ (p : Program) (is : IsProgram p) where
       root k m e (subst (λ (y : MethodInfo). test y ≡ true) same x.passes)
 
   either : (xs ys : List ℕ) → Roots xs → Roots ys → Roots (xs ++ ys)
-  either [] ys f g k m h e = g k m h e
-  either (x ∷ xs) ys f g k m h e = by_first (x == k) refl h (λ rest. either xs ys (λ k m h e. f k m (second_true (x == k) (has_number xs k) h) e) g k m rest e)
-    where
-      by_first : (b : Bool) → (x == k) ≡ b → (b || has_number (xs ++ ys) k) ≡ true → (has_number (xs ++ ys) k ≡ true → IsSomeRoot m) → IsSomeRoot m
-      by_first true t h more = f k m (first_true (x == k) (has_number xs k) t) e
-      by_first false t h more = more h
+  either xs ys f g k m h e = numbers_in xs ys k h (λ h. f k m h e) (λ h. g k m h e)
 
   same_text : (text other : List ℕ) → bytes_eq text other ≡ true → text ≡ other
   same_text text other e = (bytes_eq-Decides text other).0 e

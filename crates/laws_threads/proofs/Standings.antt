@@ -30,12 +30,9 @@ module _ (c : MarkedProgram) (marked : IsMarked c) where
   pub at_of : (f g : Frame) (k : Standing c f) (l : Standing c g) → f.method ≡ g.method → IsAt c.program (tags_of c) f.method l.number k.method l.insn l.target l.tags
   at_of f g k l e = subst (λ (m : MethodInfo). IsAt c.program (tags_of c) f.method l.number m l.insn l.target l.tags) (sym (one_method f g k l e)) (subst (λ mi. IsAt c.program (tags_of c) mi l.number l.method l.insn l.target l.tags) (sym e) l.at)
 
-  pub top_is : (f : Frame) (below : List Frame) (k : Standing c f) → top_of c.program (f ∷ below) ≡ Some (top_here c f below k)
-  top_is f below k = has_top c marked f below k
-
   -- so the top of a thread is what stands there
   pub top_at_standing : (f : Frame) (below : List Frame) (k : Standing c f) (at : Top) → top_of c.program (f ∷ below) ≡ Some at → top_here c f below k ≡ at
-  top_at_standing f below k at e = let same : Some (top_here c f below k) ≡ Some at = sym (top_is f below k) ∙ e in same_some same
+  top_at_standing f below k at e = same_some (sym (has_top c marked f below k) ∙ e)
 
 -- a frame stands where one of the same method and pc does
 abbrev pub stands_too : (c : MarkedProgram) (f : Frame) (stack locals : List ℕ) → Standing c f → Standing c (record f { stack = stack; locals = locals })

@@ -47,12 +47,9 @@ module _ (begin : BeginsAttempt) (entered_again : EntersInside) (c : MarkedProgr
       (λ g. let same : u ≡ t = grind (arith, nat_tests, g) in let bad : Some y ≡ None = sym f ∙ ap (slice_get s.threads) same ∙ e in absurd (cc))
       (λ g. structure u y f) refl
 
-  event_keeps : ((x : Thread) → slice_get s.threads t ≡ Some x → ThreadHolds c (HasClass objects) x × IsRooted c.program x) → Structure c (counted_phase_at was t (event c s t).threads) (event c s t).threads
-  event_keeps k = by_thread (slice_get s.threads t) refl
-    where
-      by_thread : (o : Option Thread) → slice_get s.threads t ≡ o → Structure c (counted_phase_at was t (event_of c s t o).threads) (event_of c s t o).threads
-      by_thread None e = unmoved e
-      by_thread (Some x) e = moved_thread x (found_by s.words (wanted c x x.phase)) e (k x e)
-
 pub events_keep : BeginsAttempt → EntersInside → EventsKeepStructure
-events_keep begin entered_again c objects was s t marked structure k = event_keeps begin entered_again c objects was s t marked structure k
+events_keep begin entered_again c objects was s t marked structure k = by_thread (slice_get s.threads t) refl
+  where
+    by_thread : (o : Option Thread) → slice_get s.threads t ≡ o → Structure c (counted_phase_at was t (event_of c s t o).threads) (event_of c s t o).threads
+    by_thread None e = unmoved begin entered_again c objects was s t marked structure e
+    by_thread (Some x) e = moved_thread begin entered_again c objects was s t marked structure x (found_by s.words (wanted c x x.phase)) e (k x e)

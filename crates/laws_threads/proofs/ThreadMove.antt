@@ -1,5 +1,6 @@
 -- What an event makes of its thread: one of these moves, each with what led to it. A law that every event keeps something is a
 -- match on them.
+use Rattle.std.proofs.lemmas.Bool.Decides.{nat_tests}
 use Rattle.std.proofs.Common.{◌≡◌, ℕ, zero, suc, ◌+◌, ◌==◌, nat_lt, Bool, true, false, List, [], ◌∷◌, length, Option, Some, None, refl, sym, subst, arith, nat_le, slice_get, option_map, ◌&&◌, if◌then◌else◌, IfSome}
 use Rattle.std.proofs.lemmas.Bool.{cond_both, Decides.Decides-eqb}
 use Rattle.lists.proofs.TestLaws.{both_are_true}
@@ -215,9 +216,7 @@ tried_attempt m None (Some b) a e = either_way (λ (t : Bool). (if t then Tries 
 pub tried_monitor : (m : ℕ) (held : Option Held) (attempt : Option Attempt) (a : Attempt) → claim_by m held attempt ≡ Tries a → a.monitor ≡ m
 tried_monitor m (Some h) attempt a e = absurd (cc)
 tried_monitor m None None a e = absurd (cc)
-tried_monitor m None (Some b) a e = either_way (λ (t : Bool). (b.monitor == m) ≡ t → (if t then Tries b else HasNot) ≡ Tries a → a.monitor ≡ m) (b.monitor == m)
-    (λ t e. let same : b ≡ a = cc in subst (λ (x : Attempt). x.monitor ≡ m) same ((Decides-eqb b.monitor m).0 t))
-    (λ t e. absurd (cc)) refl e
+tried_monitor m None (Some b) a e = grind (arith, nat_tests, e)
 
 pub not_held : (m : ℕ) (held : Option Held) (attempt : Option Attempt) → claim_by m held attempt ≡ HasNot → held ≡ None
 not_held m (Some h) attempt e = absurd (cc)
@@ -241,28 +240,23 @@ module _ (c : MarkedProgram) (s : Thread) (got : ℕ) where
     if_held_made m None e k more f = thrown_made IllegalMonitorStateException k
     if_held_made m (Some h) e k more f = f h e
 
-    waits_made : (m : ℕ) → effect_at c.program at ≡ Waits m → (h : Held) → held_at s.held m ≡ Some h → Made phases.Run (waits (record s { frames = went_on c.program at 0 }) m h.kept)
-    waits_made m is h e = by_kept h.kept refl
-      where
-        by_kept : (k : Kept) → h.kept ≡ k → Made phases.Run (waits (record s { frames = went_on c.program at 0 }) m k)
-        by_kept (keeps.Flat count) l = record { move = asks_to_wait at m h (phases.Grow m towards.Wait) found is e (subst (λ (k : Kept). WaitsFrom m k (phases.Grow m towards.Wait)) (sym l) (grows_first count)); is = refl }
-        by_kept (keeps.Fat r) l = record { move = asks_to_wait at m h (phases.WaitBit m r) found is e (subst (λ (k : Kept). WaitsFrom m k (phases.WaitBit m r)) (sym l) (waits_fat r)); is = refl }
+    waits_made : (m : ℕ) → effect_at c.program at ≡ Waits m → (h : Held) → held_at s.held m ≡ Some h → (k : Kept) → h.kept ≡ k → Made phases.Run (waits (record s { frames = went_on c.program at 0 }) m k)
+    waits_made m is h e (keeps.Flat count) l = record { move = asks_to_wait at m h (phases.Grow m towards.Wait) found is e (subst (λ (k : Kept). WaitsFrom m k (phases.Grow m towards.Wait)) (sym l) (grows_first count)); is = refl }
+    waits_made m is h e (keeps.Fat r) l = record { move = asks_to_wait at m h (phases.WaitBit m r) found is e (subst (λ (k : Kept). WaitsFrom m k (phases.WaitBit m r)) (sym l) (waits_fat r)); is = refl }
 
-    notifies_made : (m : ℕ) (phase : ℕ → Phase) → IsNotify c.program at m → ((r : ℕ) → Asks m (keeps.Fat r) (phase r)) → (h : Held) → held_at s.held m ≡ Some h → Made phases.Run (notifies (record s { frames = went_on c.program at 0 }) phase h.kept)
-    notifies_made m phase y asked h e = by_kept h.kept refl
-      where
-        by_kept : (k : Kept) → h.kept ≡ k → Made phases.Run (notifies (record s { frames = went_on c.program at 0 }) phase k)
-        by_kept (keeps.Flat count) l = record { move = goes (Running (went_on c.program at 0)) (by_nobody at m count h found y e l); is = refl }
-        by_kept (keeps.Fat r) l = record { move = asks at m h (phase r) found y e (subst (λ (k : Kept). Asks m k (phase r)) (sym l) (asked r)); is = refl }
+    notifies_made : (m : ℕ) (phase : ℕ → Phase) → IsNotify c.program at m → ((r : ℕ) → Asks m (keeps.Fat r) (phase r)) → (h : Held) → held_at s.held m ≡ Some h → (k : Kept) → h.kept ≡ k
+        → Made phases.Run (notifies (record s { frames = went_on c.program at 0 }) phase k)
+    notifies_made m phase y asked h e (keeps.Flat count) l = record { move = goes (Running (went_on c.program at 0)) (by_nobody at m count h found y e l); is = refl }
+    notifies_made m phase y asked h e (keeps.Fat r) l = record { move = asks at m h (phase r) found y e (subst (λ (k : Kept). Asks m k (phase r)) (sym l) (asked r)); is = refl }
 
     did_made : (e : Effect) → effect_at c.program at ≡ e → Made phases.Run (did c.program s at e got)
     did_made (Indexes array index stored) is = cond_both (nat_lt (low index) (header_length got)) _ _ (Made phases.Run)
         (λ t. record { move = leads (phases.Element (value_word array (low index)) stored) (to_element at array index stored found is t); is = refl }) (λ t. thrown_made ArrayIndexOutOfBoundsException (past_end array index stored is t))
     did_made (Makes word size) is = cond_both (nat_le (got + size) c.program.heap) _ _ (Made phases.Run) (λ t. record { move = makes at word size found is t; is = refl }) (λ t. thrown_made OutOfMemoryError (no_memory word size is))
     did_made (Prints n) is = cond_both (has_print_left s) _ _ (Made phases.Run) (λ t. record { move = prints at n found is t; is = refl }) (λ t. record { move = leads (phases.Ending ends.Prints) (to_no_print at n found is t); is = refl })
-    did_made (Waits m) is = if_held_made m (held_at s.held m) refl (waits_unheld m is) (waits (record s { frames = went_on c.program at 0 }) m) (waits_made m is)
-    did_made (Notifies m) is = if_held_made m (held_at s.held m) refl (notifies_unheld m (of_one is)) (notifies (record s { frames = went_on c.program at 0 }) (phases.NotifyLook m)) (notifies_made m (phases.NotifyLook m) (of_one is) looks_who)
-    did_made (NotifiesAll m) is = if_held_made m (held_at s.held m) refl (notifies_unheld m (of_all is)) (notifies (record s { frames = went_on c.program at 0 }) (phases.NotifyAll m)) (notifies_made m (phases.NotifyAll m) (of_all is) clears_all)
+    did_made (Waits m) is = if_held_made m (held_at s.held m) refl (waits_unheld m is) (waits (record s { frames = went_on c.program at 0 }) m) (λ h e. waits_made m is h e h.kept refl)
+    did_made (Notifies m) is = if_held_made m (held_at s.held m) refl (notifies_unheld m (of_one is)) (notifies (record s { frames = went_on c.program at 0 }) (phases.NotifyLook m)) (λ h e. notifies_made m (phases.NotifyLook m) (of_one is) looks_who h e h.kept refl)
+    did_made (NotifiesAll m) is = if_held_made m (held_at s.held m) refl (notifies_unheld m (of_all is)) (notifies (record s { frames = went_on c.program at 0 }) (phases.NotifyAll m)) (λ h e. notifies_made m (phases.NotifyAll m) (of_all is) clears_all h e h.kept refl)
     did_made e is = done_made e is tt (done c.program at e got) refl
 
   -- behind a check
@@ -396,11 +390,7 @@ pub by_move : (P : Thread → Type 0) (c : MarkedProgram) (s : Thread) (phase : 
 by_move P c s phase got f = let k = moved_is c s phase got in subst P (sym k.is) (f k.move)
 
 pub of_mover : (P : Thread → Type 0) (p : Program) (phase : Phase) (s : Thread) → P s → P (begun s) → P (mover p phase s)
-of_mover P p phases.Run s h k = by_top (top_of p s.frames)
-  where
-    by_top : (o : Option Top) → P (counted_at o s)
-    by_top None = h
-    by_top (Some at) = k
+of_mover P p phases.Run s h k = elim (top_of p s.frames) as (λ o. P (counted_at o s)) [ None ↦ h | Some at ↦ k ]
 of_mover P p phase s h k = h
 
 pub each_move : (P : Thread → Type 0) (c : MarkedProgram) (s : Thread) (phase : Phase) (got : ℕ) → ((k : Move c s got phase) → P (becomes c s got phase k)) → ((k : Move c (begun s) got phase) → P (becomes c (begun s) got phase k)) → P (moved c s phase got)
@@ -421,19 +411,13 @@ begun_by phase at = 0
 
 pub counted_move : (P : Thread → Type 0) (c : MarkedProgram) (s : Thread) (phase : Phase) (got : ℕ)
     → ((n : ℕ) → s.counts.instructions + begun_by phase (top_of c.program s.frames) ≡ n → (k : Move c (counting n s) got phase) → P (becomes c (counting n s) got phase k)) → P (moved c s phase got)
-counted_move P c s phase got f = by_move P c s phase got (by_count phase (f s.counts.instructions) (f (s.counts.instructions + 1)))
+counted_move P c s phase got f = by_move P c s phase got (by_phase phase f)
   where
-    by_count : (phase : Phase) → (s.counts.instructions + begun_by phase (top_of c.program s.frames) ≡ s.counts.instructions → (k : Move c s got phase) → P (becomes c s got phase k))
-        → (s.counts.instructions + begun_by phase (top_of c.program s.frames) ≡ s.counts.instructions + 1 → (k : Move c (begun s) got phase) → P (becomes c (begun s) got phase k))
+    by_phase : (phase : Phase) → ((n : ℕ) → s.counts.instructions + begun_by phase (top_of c.program s.frames) ≡ n → (k : Move c (counting n s) got phase) → P (becomes c (counting n s) got phase k))
         → (k : Move c (mover c.program phase s) got phase) → P (becomes c (mover c.program phase s) got phase k)
-    by_count phases.Run f g = by_top (top_of c.program s.frames) f g
-      where
-        by_top : (o : Option Top) → (s.counts.instructions + begun_by phases.Run o ≡ s.counts.instructions → (k : Move c s got phases.Run) → P (becomes c s got phases.Run k))
-            → (s.counts.instructions + begun_by phases.Run o ≡ s.counts.instructions + 1 → (k : Move c (begun s) got phases.Run) → P (becomes c (begun s) got phases.Run k))
-            → (k : Move c (counted_at o s) got phases.Run) → P (becomes c (counted_at o s) got phases.Run k)
-        by_top None f g = f (omega arith)
-        by_top (Some at) f g = g refl
-    by_count phase f g = f (omega arith)
+    by_phase phases.Run f = (elim (top_of c.program s.frames) as (λ o. ((n : ℕ) → s.counts.instructions + begun_by phases.Run o ≡ n → (k : Move c (counting n s) got phases.Run) → P (becomes c (counting n s) got phases.Run k))
+        → (k : Move c (counted_at o s) got phases.Run) → P (becomes c (counted_at o s) got phases.Run k)) [ None ↦ λ f. f s.counts.instructions (omega arith) | Some at ↦ λ f. f (s.counts.instructions + 1) refl ]) f
+    by_phase phase f = f s.counts.instructions (omega arith)
 
 -- either way
 pub if_either : {A : Type 0} (P : A → Type 0) (b : Bool) (x y : A) → P x → P y → P (if b then x else y)

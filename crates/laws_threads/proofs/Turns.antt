@@ -27,14 +27,9 @@ to_turn c was s (phases.Ended e) k = absurd k.counts
 to_turn c was s phase k = record { is_as = refl; stands = k.stands; attempt = k.inside }
 
 pub turning : (c : MarkedProgram) (was : Phase) (s : Thread) (phase : Phase) → TurnsIn c phase s → TurnsIn c (turned_from was) s → StaysStructured c was (failed_turn s phase)
-turning c was s phase k limit = by_limit (nat_lt (s.turns + 1) s.cfg.turns)
-  where
-    counted : Thread
-    counted = record s { turns = s.turns + 1 }
-
-    by_limit : (left : Bool) → StaysStructured c was (with_phase counted (cond left phase (phases.Ending ends.Turns)))
-    by_limit true = to_turn c was counted phase (record { counts = k.counts; stands = k.stands; inside = k.inside })
-    by_limit false = record { is_as = limit.counts; stands = limit.stands; attempt = limit.inside }
+turning c was s phase k limit = either_way (λ (left : Bool). StaysStructured c was (record s { turns = s.turns + 1; phase = cond left phase (phases.Ending ends.Turns) })) (nat_lt (s.turns + 1) s.cfg.turns)
+    (to_turn c was (record s { turns = s.turns + 1 }) phase (record { counts = k.counts; stands = k.stands; inside = k.inside }))
+    (record { is_as = limit.counts; stands = limit.stands; attempt = limit.inside })
 
 -- ---- outside an attempt
 

@@ -10,19 +10,12 @@ use Rattle.checked_program.specs.{LockTags.IsShapeBelow, MarkedProgram.{MarkedPr
 use Rattle.checked_program.proofs.CheckedPlaces.{catchers_among}
 use Rattle.machine_types.specs.{Frames.{frame_on, given_back, handler_of}, Standing.Standing, Threads.Frame, Typed.{Classes, Holds, FrameHolds, WaitHolds}}
 use Rattle.laws_threads.{specs.Allowed.{OneOf, HasRowTypes}, proofs.{Callers.{handler_in, call_edge}, Calls.CallRow, Landing.{rules_at, tag_rules_at, land}}}
-use Rattle.laws_threads.proofs.{Typing.{start_holds, started_frame, values_after}, Values.{ValuesHold, holds_below, rest_holds}}
+use Rattle.laws_threads.proofs.{Standings.stands_too, Typing.{all_at, start_holds, started_frame, values_after}, Values.{ValuesHold, holds_below, rest_holds}}
 use Rattle.laws_threads.proofs.Tests.{either_way}
 use Rattle.jvm_types.specs.Verifying as types
 use Rattle.jvm_types.specs.declared.code.Op.TheVariants as ops
 use Rattle.jvm_types.specs.declared.program.Kind.TheVariants as kinds
 use Rattle.checked_program.specs.Visits as visits
-
--- ---- edges
-
-all_at : (P : ℕ → Type 0) (tos : List ℕ) (to : ℕ) → AllByRecursion P tos → OneOf tos to → P to
-all_at P (x ∷ xs) to all (inl e) = subst P (sym e) all.0
-all_at P (x ∷ xs) to all (inr h) = all_at P xs to all.1 h
-all_at P [] to all h = absurd h
 
 -- ---- results
 
@@ -104,17 +97,13 @@ module _ (c : MarkedProgram) (marked : IsMarked c) (is : Classes) where
 
   -- ---- a call
 
-  -- the same place, with another stack
-  abbrev pub also_stands : (f : Frame) (stack : List ℕ) → Standing c f → Standing c (record f { stack = stack })
-  also_stands f stack k = record { number = k.number; method = k.method; insn = k.insn; target = k.target; tags = k.tags; at = k.at; frames = k.frames; types_of_method = k.types_of_method; types = k.types; types_are = k.types_are; pc_is = k.pc_is }
-
   pub waits : (f : Frame) (h : FrameHolds c is 0 f) (number : ℕ) → called_method h.stands.insn.op h.stands.target ≡ Some number
       → WaitHolds c is number (record f { stack = drop (length (row_of c.program h.stands.method h.stands.insn h.stands.target).takes) f.stack })
   waits f h number e =
       let count = length (row_of c.program h.stands.method h.stands.insn h.stands.target).takes in
       record {
         count = count;
-        holds = record { stands = also_stands f (drop count f.stack) h.stands; stack = rest_holds h.stands.method is count h.stands.types.stack f.stack h.stack; locals = h.locals; receiver = h.receiver };
+        holds = record { stands = stands_too c f (drop count f.stack) f.locals h.stands; stack = rest_holds h.stands.method is count h.stands.types.stack f.stack h.stack; locals = h.locals; receiver = h.receiver };
         calls = e;
         taken = refl;
       }

@@ -11,6 +11,12 @@ use Rattle.machine_types.specs.{Frames.frame_on, Threads.Frame, Typed.{Classes, 
 use Rattle.laws_threads.{specs.Allowed.{TakenHold, HasRowTypes, OneOf}, proofs.Values.{same_class, ValuesHold, taken_hold, moved_stack, moved_locals}}
 use Rattle.laws_threads.proofs.Tests.{either_way}
 
+-- what holds of each edge
+pub all_at : (P : ℕ → Type 0) (tos : List ℕ) (to : ℕ) → AllByRecursion P tos → OneOf tos to → P to
+all_at P (x ∷ xs) to all (inl e) = subst P (sym e) all.0
+all_at P (x ∷ xs) to all (inr h) = all_at P xs to all.1 h
+all_at P [] to all h = absurd h
+
 module _ (m : MethodInfo) (is : Classes) where
   -- ---- the object that an `<init>` is called on
 
@@ -74,6 +80,4 @@ module _ (m : MethodInfo) (is : Classes) where
       (record { stack = moved_stack m is r g.stack g.locals f.stack f.locals made k.stack k.locals h; locals = moved_locals m is r g.stack g.locals f.stack f.locals made k.stack k.locals h; receiver = k.receiver })
 
   pub edge_at : (code : List Insn) (frames : List (Option TypeFrame)) (g : TypeFrame) (tos : List ℕ) (to : ℕ) → AllByRecursion (FrameFits code frames g) tos → OneOf tos to → FrameFits code frames g to
-  edge_at code frames g (x ∷ xs) to all (inl e) = subst (FrameFits code frames g) (sym e) all.0
-  edge_at code frames g (x ∷ xs) to all (inr h) = edge_at code frames g xs to all.1 h
-  edge_at code frames g [] to all h = absurd h
+  edge_at code frames g tos to all one = all_at (FrameFits code frames g) tos to all one
