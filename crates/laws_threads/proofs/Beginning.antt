@@ -1,4 +1,5 @@
 -- An attempt stands as it begins: its frame is at the first own instruction of a marked section, on its receiver.
+use Rattle.laws_threads.proofs.Tests.{either_way}
 use Rattle.std.proofs.Common.{◌≡◌, ◌≢◌, ◌⊎◌, inl, inr, ⊎_elim, ℕ, zero, suc, Bool, true, false, cond, List, [], ◌∷◌, ◌++◌, length, map, Option, Some, None, refl, sym, ap, ◌∙◌, subst, arith, slice_get, slice_index_or, if◌then◌else◌}
 use Rattle.std.proofs.lemmas.Bool.{cases_eq}
 use Rattle.lists.proofs.ListLaws.{same_some}
@@ -146,11 +147,8 @@ begins marked_mark c m tried noted number f below held marked stands not_held en
     of_method first on =
         let spot : (section_of a).spot ≡ Method = ap entered_at first in
         let mode : section_mode c.program (section_of a) ≡ mode_of_method (Some k.method) = ap (mode_of_spot (slice_get c.program.methods f.method)) spot ∙ ap mode_of_method k.at.in_program in
-        sym on ∙ by_static (is_static k.method.flags) ∙ ap (mode_monitor c.program f.receiver) (sym mode)
-      where
-        by_static : (b : Bool) → cond b (class_object c.program (file_of_class k.method.class)) f.receiver ≡ mode_monitor c.program f.receiver (if b then OnClass k.method.class else OnThis)
-        by_static true = refl
-        by_static false = refl
+        sym on ∙ either_way (λ (b : Bool). cond b (class_object c.program (file_of_class k.method.class)) f.receiver ≡ mode_monitor c.program f.receiver (if b then OnClass k.method.class else OnThis)) (is_static k.method.flags) refl refl
+        ∙ ap (mode_monitor c.program f.receiver) (sym mode)
 
     found : Begins
     found = ⊎_elim

@@ -64,20 +64,9 @@ module _ (c : MarkedProgram) (marked : IsMarked c) (f : Frame) (h : FrameHolds c
       record {
         caller = top_here c g gs k;
         stands = stands_here c marked (within c.program) g gs w.count w.holds;
-        room = omega (
-          arith,
-          few,
-          no_less k.method.max_stack (length k.types.stack - length (row_of c.program k.method k.insn k.target).takes + length (row_of c.program k.method k.insn k.target).gives) rules.rules.gives,
-          ap (λ (x : OpRow). length x.gives) call.is,
-          same,
-          length-drop w.count k.types.stack,
-          w.taken,
-        );
+        room = grind (arith, nat_tests, few, rules.rules.gives, ap (λ (x : OpRow). length x.gives) call.is, same, length-drop w.count k.types.stack, w.taken);
         begins = (goes_to c marked g gs k k.insn.next (call_edge k.insn k.target f.method w.calls)).begins;
       }
-    where
-      no_less : (x y : ℕ) → nat_lt x y ≡ false → y ≤ x
-      no_less x y e = grind (arith, nat_tests, e)
 
   pub below_fits : (fs : List Frame) → HoldBelow c (within c.program) f.method fs → BelowFits c.program fs (given_back h.stands.insn.op f.stack)
   below_fits [] b = tt
@@ -121,13 +110,9 @@ module _ (c : MarkedProgram) (marked : IsMarked c) where
 
 pub handlers_fit : HandlersFit
 handlers_fit c [] at class r marked h e catches = absurd (cc)
-handlers_fit c (f ∷ fs) at class r marked h e catches = by_kind h.0
+handlers_fit c (f ∷ fs) at class r marked h e catches = elim h.0 as (λ (_ : ThrownHolds c (within c.program) f). HandlerFits at r) [ inl k ↦ of_top k.stands | inr w ↦ of_top w.1.holds.stands ]
   where
     of_top : (k : Standing c f) → HandlerFits at r
     of_top k =
         let same : top_here c f fs k ≡ at = same_some (sym (stand_top c marked f fs k) ∙ e) in
         subst (λ (x : Top). HandlerFits x r) same (handler_fits c marked f fs k class r (subst (λ (x : Top). handler_at class x ≡ Some r) (sym same) catches))
-
-    by_kind : ThrownHolds c (within c.program) f → HandlerFits at r
-    by_kind (inl k) = of_top k.stands
-    by_kind (inr w) = of_top w.1.holds.stands

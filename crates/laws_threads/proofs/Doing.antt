@@ -1,4 +1,5 @@
 -- What an instruction does keeps the types of its thread's frames, whatever its effect.
+use Rattle.std.proofs.lemmas.Bool.{cond_both}
 use Rattle.std.proofs.Common.{◌≡◌, ℕ, ◌<◌, inl, Bool, true, false, List, ◌∷◌, length, Option, Some, None, refl, sym, subst, arith, slice_get, drop, option_map, if◌then◌else◌}
 use Rattle.jvm_types.specs.{ClassNames.file_of_class, Members.{is_static, is_synchronized, MethodSite}, ProgramInvariant.site_in, Verifying.edges, declared.class_numbers.TheConstants.CLASS_ITSELF}
 use Rattle.jvm_types.specs.declared.{code.Op.Op, op_row.OpRow.OpRow, outcome.Thrown.Thrown, program.{MethodInfo.MethodInfo, Program.Program, Target.Target}}
@@ -9,7 +10,7 @@ use Rattle.machine_types.specs.{Onward.{Running, Throwing, Entering, threw, ente
 use Rattle.machine_types.specs.{Typed.{Classes, FrameHolds, HoldBelow, FramesHold, IsObject}, Words.{class_object, header_class, header_length}, declared.effect.Effect.Effect}
 use Rattle.machine_types.specs.declared.effect.Effect.TheVariants.{Goes, Throws, Reads, Writes, Measures, Raises, Prints, Calls, Returns, Enters, Leaves}
 use Rattle.laws_threads.{specs.Allowed.{OneOf, HasRowTypes, IsByMachine, Allowed}, proofs.{CalledEntries.{call_values, enters}, Calls.{call_row, call_receiver}, Landing.rules_at}}
-use Rattle.laws_threads.proofs.{Onwards.{keeps_all, keeps_top, keeps_push, HasObjects, FoundHolds, Onwards, IfOnwards, goes_out}, Standings.top_here, TopEffects.taken_here, TypedMoves.{goes, waits}}
+use Rattle.laws_threads.proofs.{Onwards.{Keeps, keeps_all, keeps_top, keeps_push, HasObjects, FoundHolds, Onwards, IfOnwards, goes_out}, Standings.top_here, ThreadMove.if_either, TopEffects.taken_here, TypedMoves.{goes, waits}}
 use Rattle.laws_threads.proofs.Values.{ValuesHold}
 use Rattle.laws_threads.proofs.Tests.{either_way}
 use Rattle.jvm_types.specs.declared.code.Op.TheVariants as ops
@@ -40,7 +41,10 @@ module _ (c : MarkedProgram) (marked : IsMarked c) (is : Classes) (has : HasObje
 
   module _ (number : ℕ) (m : MethodInfo) (t : h.stands.target ≡ targets.Method number) (e : slice_get c.program.methods number ≡ Some m)
       (calls : effect c.program h.stands.insn.next h.stands.target h.stands.insn.op f.locals f.stack ≡ Calls number) where
-    entry_values : ValuesHold m is (types.entry_type_frame m) (entry_frame number m (arguments_of c.program (top_here c f fs h.stands)))
+    abbrev frame : Frame
+    frame = entry_frame number m (arguments_of c.program (top_here c f fs h.stands))
+
+    entry_values : ValuesHold m is (types.entry_type_frame m) frame
     entry_values =
         let k = h.stands in
         let r : OpRow = row_of c.program k.method k.insn k.target in
@@ -58,47 +62,31 @@ module _ (c : MarkedProgram) (marked : IsMarked c) (is : Classes) (has : HasObje
         (call_named c.program (site_in k.method) k.insn.pc number k.insn.op r (subst (λ (x : Target). HasRow c.program (site_in k.method) k.insn.pc x k.insn.op r) t (rules_at c marked f k).has_row))
 
     -- the receiver of the new frame lies in the heap, also the 0 of a static method
-    entry_inside : (entry_frame number m (arguments_of c.program (top_here c f fs h.stands))).receiver < c.program.heap
-    entry_inside = either_way (λ (s : Bool). is_static m.flags ≡ s → (entry_frame number m (arguments_of c.program (top_here c f fs h.stands))).receiver < c.program.heap) (is_static m.flags)
+    entry_inside : frame.receiver < c.program.heap
+    entry_inside = either_way (λ (s : Bool). is_static m.flags ≡ s → frame.receiver < c.program.heap) (is_static m.flags)
         (λ s. subst (λ b. (if b then 0 else first_or_null (arguments_of c.program (top_here c f fs h.stands))) < c.program.heap) (sym s) (omega (arith, marked.checked.program.heap_from)))
         (λ s. has.inside m.class _ (entry_values.receiver s)) refl
 
     -- the monitor of the new frame, where its method is synchronized, is an object that is there
-    entry_object : IsObject is (monitor_of c.program m (entry_frame number m (arguments_of c.program (top_here c f fs h.stands))))
-    entry_object = by_flag (is_static m.flags) refl
-      where
-        at : (s : Bool) → ℕ
-        at s = if s then class_object c.program (file_of_class m.class) else (entry_frame number m (arguments_of c.program (top_here c f fs h.stands))).receiver
-
-        by_flag : (s : Bool) → is_static m.flags ≡ s → IsObject is (at (is_static m.flags))
-        by_flag true s =
-            let class = (marked.checked.program.methods number m e).class in
-            subst (λ b. IsObject is (at b)) (sym s) (CLASS_ITSELF, has.classes (file_of_class m.class) (omega (arith, class)))
-        by_flag false s = subst (λ b. IsObject is (at b)) (sym s) (m.class, entry_values.receiver s)
+    entry_object : IsObject is (monitor_of c.program m frame)
+    entry_object = cond_both (is_static m.flags) _ _ (IsObject is)
+        (λ s. let class = (marked.checked.program.methods number m e).class in (CLASS_ITSELF, has.classes (file_of_class m.class) (omega (arith, class)))) (λ s. (m.class, entry_values.receiver s))
 
     calls_it : Onwards c is (f ∷ fs) (called c.program (top_here c f fs h.stands) number m)
-    calls_it = by_room (has_room c.program (f ∷ fs) m)
+    calls_it = if_either (Onwards c is (f ∷ fs)) (has_room c.program (f ∷ fs) m) (entered c.program m frame (waiting c.program (top_here c f fs h.stands))) (threw thrown.StackOverflowError (top_here c f fs h.stands))
+        (if_either (Onwards c is (f ∷ fs)) (is_synchronized m.flags) (Entering (monitor_of c.program m frame) (frame ∷ waiting c.program (top_here c f fs h.stands))) (Running (frame ∷ waiting c.program (top_here c f fs h.stands)))
+        (record { holds = (entry_object, typed); keeps = pushed; inside = λ all. (entry_inside, all) })
+        (record { holds = typed; keeps = pushed; inside = λ all. (entry_inside, all) }))
+        (throws_it thrown.StackOverflowError tt)
       where
-        typed : FramesHold c is (entry_frame number m (arguments_of c.program (top_here c f fs h.stands)) ∷ record f { stack = drop (length (row_of c.program h.stands.method h.stands.insn h.stands.target).takes) f.stack } ∷ fs)
+        waiting_frame : Frame
+        waiting_frame = record f { stack = drop (length (row_of c.program h.stands.method h.stands.insn h.stands.target).takes) f.stack }
+
+        typed : FramesHold c is (frame ∷ waiting_frame ∷ fs)
         typed = (enters c marked is number m (arguments_of c.program (top_here c f fs h.stands)) e entry_values, (waits c marked is f h number call_names, b))
 
-        by_flag : (s : Bool) → is_synchronized m.flags ≡ s
-            → Onwards c is (f ∷ fs) (if s then Entering (monitor_of c.program m (entry_frame number m (arguments_of c.program (top_here c f fs h.stands)))) (entry_frame number m (arguments_of c.program (top_here c f fs h.stands)) ∷ waiting c.program (top_here c f fs h.stands))
-            else Running (entry_frame number m (arguments_of c.program (top_here c f fs h.stands)) ∷ waiting c.program (top_here c f fs h.stands)))
-        by_flag true s = record {
-          holds = (entry_object, typed);
-          keeps = keeps_push f (entry_frame number m (arguments_of c.program (top_here c f fs h.stands))) (record f { stack = drop (length (row_of c.program h.stands.method h.stands.insn h.stands.target).takes) f.stack }) fs;
-          inside = λ all. (entry_inside, all);
-        }
-        by_flag false s = record {
-          holds = typed;
-          keeps = keeps_push f (entry_frame number m (arguments_of c.program (top_here c f fs h.stands))) (record f { stack = drop (length (row_of c.program h.stands.method h.stands.insn h.stands.target).takes) f.stack }) fs;
-          inside = λ all. (entry_inside, all);
-        }
-
-        by_room : (room : Bool) → Onwards c is (f ∷ fs) (if room then entered c.program m (entry_frame number m (arguments_of c.program (top_here c f fs h.stands))) (waiting c.program (top_here c f fs h.stands)) else threw thrown.StackOverflowError (top_here c f fs h.stands))
-        by_room true = by_flag (is_synchronized m.flags) refl
-        by_room false = throws_it thrown.StackOverflowError tt
+        pushed : Keeps (f ∷ fs) (frame ∷ waiting_frame ∷ fs)
+        pushed = keeps_push f frame waiting_frame fs
 
   -- ---- an exception that the program throws
 

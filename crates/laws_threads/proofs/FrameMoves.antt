@@ -29,6 +29,10 @@ dup_is : (op : Op) → is_dup op ≡ true → op ≡ ops.Dup
 dup_is ops.Dup e = refl
 dup_is op e = absurd (cc)
 
+-- the tags behind a `dup` at a pc
+abbrev marked_by : (pc : ℕ) → TagShape → List Tag → TagShape
+marked_by pc was ts = record { stack = At pc ∷ At pc ∷ without pc ts; locals = without pc was.locals; held = was.held }
+
 abbrev dup_row : OpRow
 dup_row = record { takes = any_values 1; gives = Taken 0 ∷ Taken 0 ∷ []; reads = None; writes = None }
 
@@ -60,46 +64,30 @@ module _ (c : MarkedProgram) (is : IsMarked c) where
   -- a `dup` of an untagged value: its tag has that value from then on
   pub doubled : (f : Frame) (own : List ℕ) (top : Shows c Whole f own) (to made : ℕ) → top.stands.insn.op ≡ ops.Dup → has_number (edges top.stands.insn) to ≡ true → Shows c Whole (frame_on (the_row f top.stands) to made f) own
   doubled f own top to made dup edge =
-      by_tags top.stands.tags.stack refl (subst (λ (op : Op). EdgeFits IsShapeBelow top.stands.method.code top.stands.at.frames (tags_by_op top.stands.insn.pc (the_row f top.stands) op top.stands.tags.stack top.stands.tags) to) dup (edge_fits f top.stands to edge)) top.stack
+      by_tags top.stands.tags.stack (subst (λ (op : Op). EdgeFits IsShapeBelow top.stands.method.code top.stands.at.frames (tags_by_op top.stands.insn.pc (the_row f top.stands) op top.stands.tags.stack top.stands.tags) to) dup (edge_fits f top.stands to edge)) top.stack
     where
-      on_stack : (v : ℕ) (vs : List ℕ) (ts : List Tag) → HaveValues top.choice f.receiver ts vs
-          → HaveValues (chosen top.stands.insn.pc v top.choice) f.receiver (At top.stands.insn.pc ∷ At top.stands.insn.pc ∷ without top.stands.insn.pc ts) (stack_after 0 (λ type. made) dup_row (v ∷ vs) f.locals)
-      on_stack v vs ts h = (chosen_there top.choice f.receiver top.stands.insn.pc v, (chosen_there top.choice f.receiver top.stands.insn.pc v, rechosen top.choice f.receiver top.stands.insn.pc v ts vs h))
-
-      tagged : (v : ℕ) (vs : List ℕ) (ts : List Tag) → f.stack ≡ v ∷ vs → HaveValues top.choice f.receiver ts vs
-          → EdgeFits IsShapeBelow top.stands.method.code top.stands.at.frames (record { stack = At top.stands.insn.pc ∷ At top.stands.insn.pc ∷ without top.stands.insn.pc ts; locals = without top.stands.insn.pc top.stands.tags.locals; held = top.stands.tags.held }) to
+      by_stack : (vs : List ℕ) (ts : List Tag) → f.stack ≡ vs → HaveValues top.choice f.receiver (Untagged ∷ ts) vs → EdgeFits IsShapeBelow top.stands.method.code top.stands.at.frames (marked_by top.stands.insn.pc top.stands.tags ts) to
           → Shows c Whole (frame_on (the_row f top.stands) to made f) own
-      tagged v vs ts e h fits =
+      by_stack [] ts e h fits = absurd h
+      by_stack (v ∷ vs) ts e h fits =
           subst (λ (x : OpRow). Shows c Whole (frame_on x to made f) own) (sym (ap (λ (op : Op). row c.program top.stands.method top.stands.insn.pc top.stands.target op) dup))
-          (again f own top (record { stack = At top.stands.insn.pc ∷ At top.stands.insn.pc ∷ without top.stands.insn.pc ts; locals = without top.stands.insn.pc top.stands.tags.locals; held = top.stands.tags.held }) (chosen top.stands.insn.pc v top.choice) to f.locals (stack_after 0 (λ type. made) dup_row f.stack f.locals) fits
+          (again f own top (marked_by top.stands.insn.pc top.stands.tags ts) (chosen top.stands.insn.pc v top.choice) to f.locals (stack_after 0 (λ type. made) dup_row f.stack f.locals) fits
           (rechosen top.choice f.receiver top.stands.insn.pc v top.stands.tags.locals f.locals top.locals)
-          (subst (λ (ws : List ℕ). HaveValues (chosen top.stands.insn.pc v top.choice) f.receiver (At top.stands.insn.pc ∷ At top.stands.insn.pc ∷ without top.stands.insn.pc ts) (stack_after 0 (λ type. made) dup_row ws f.locals)) (sym e) (on_stack v vs ts h))
+          (subst (λ (ws : List ℕ). HaveValues (chosen top.stands.insn.pc v top.choice) f.receiver (At top.stands.insn.pc ∷ At top.stands.insn.pc ∷ without top.stands.insn.pc ts) (stack_after 0 (λ type. made) dup_row ws f.locals)) (sym e)
+          (chosen_there top.choice f.receiver top.stands.insn.pc v, (chosen_there top.choice f.receiver top.stands.insn.pc v, rechosen top.choice f.receiver top.stands.insn.pc v ts vs h.1)))
           (values_kept top.choice f.receiver top.stands.insn.pc v top.stands.tags.held
           (free_at c.program top.stands.method top.stands.at.frames top.stands.frames (of_standing c is f top.stands) top.stands.number top.stands.insn top.stands.tags top.stands.at.in_code top.stands.at.frame)))
 
-      by_stack : (vs : List ℕ) (ts : List Tag) → f.stack ≡ vs → HaveValues top.choice f.receiver (Untagged ∷ ts) vs
-          → EdgeFits IsShapeBelow top.stands.method.code top.stands.at.frames (record { stack = At top.stands.insn.pc ∷ At top.stands.insn.pc ∷ without top.stands.insn.pc ts; locals = without top.stands.insn.pc top.stands.tags.locals; held = top.stands.tags.held }) to
+      by_tags : (ts : List Tag) → EdgeFits IsShapeBelow top.stands.method.code top.stands.at.frames (tags_by_op top.stands.insn.pc (the_row f top.stands) ops.Dup ts top.stands.tags) to → HaveValues top.choice f.receiver ts f.stack
           → Shows c Whole (frame_on (the_row f top.stands) to made f) own
-      by_stack [] ts e h fits = absurd h
-      by_stack (v ∷ vs) ts e h fits = tagged v vs ts e h.1 fits
-
-      by_tags : (ts : List Tag) → top.stands.tags.stack ≡ ts → EdgeFits IsShapeBelow top.stands.method.code top.stands.at.frames (tags_by_op top.stands.insn.pc (the_row f top.stands) ops.Dup top.stands.tags.stack top.stands.tags) to
-          → HaveValues top.choice f.receiver top.stands.tags.stack f.stack → Shows c Whole (frame_on (the_row f top.stands) to made f) own
-      by_tags ts e fits h = cases ts (subst (λ (us : List Tag). EdgeFits IsShapeBelow top.stands.method.code top.stands.at.frames (tags_by_op top.stands.insn.pc (the_row f top.stands) ops.Dup us top.stands.tags) to) e fits) (subst (λ (us : List Tag). HaveValues top.choice f.receiver us f.stack) e h)
-        where
-          cases : (ts : List Tag) → EdgeFits IsShapeBelow top.stands.method.code top.stands.at.frames (tags_by_op top.stands.insn.pc (the_row f top.stands) ops.Dup ts top.stands.tags) to → HaveValues top.choice f.receiver ts f.stack
-              → Shows c Whole (frame_on (the_row f top.stands) to made f) own
-          cases (Untagged ∷ ts) fits h = by_stack f.stack ts refl h fits
-          cases ts fits h = by_row f own top to made fits
+      by_tags (Untagged ∷ ts) fits h = by_stack f.stack ts refl h fits
+      by_tags ts fits h = by_row f own top to made fits
 
   pub moved : (f : Frame) (own : List ℕ) (top : Shows c Whole f own) (to made : ℕ) → is_lock_op top.stands.insn.op ≡ false → has_number (edges top.stands.insn) to ≡ true → Shows c Whole (frame_on (the_row f top.stands) to made f) own
-  moved f own top to made free edge = by_test (is_dup top.stands.insn.op) refl
-    where
-      by_test : (b : Bool) → is_dup top.stands.insn.op ≡ b → Shows c Whole (frame_on (the_row f top.stands) to made f) own
-      by_test true e = doubled f own top to made (dup_is top.stands.insn.op e) edge
-      by_test false e =
-          by_row f own top to made
-          (subst (λ (g : TagShape). EdgeFits IsShapeBelow top.stands.method.code top.stands.at.frames g to) (plain_after top.stands.insn.pc (the_row f top.stands) top.stands.insn.op top.stands.tags.stack top.stands.tags free e) (edge_fits f top.stands to edge))
+  moved f own top to made free edge = either_way (λ (b : Bool). is_dup top.stands.insn.op ≡ b → Shows c Whole (frame_on (the_row f top.stands) to made f) own) (is_dup top.stands.insn.op)
+      (λ e. doubled f own top to made (dup_is top.stands.insn.op e) edge)
+      (λ e. by_row f own top to made (subst (λ (g : TagShape). EdgeFits IsShapeBelow top.stands.method.code top.stands.at.frames g to)
+          (plain_after top.stands.insn.pc (the_row f top.stands) top.stands.insn.op top.stands.tags.stack top.stands.tags free e) (edge_fits f top.stands to edge))) refl
 
   -- ---- a new object
 

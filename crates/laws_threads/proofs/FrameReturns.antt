@@ -152,11 +152,6 @@ module _ (c : MarkedProgram) (is : IsMarked c) where
       subst (λ (o : Option Top). Show c Whole (given (given_back k.insn.op f.stack) o) rest) (sym (has_top c is g gs w.shows.stands))
       (b.0, b.1, b.2, resumed f.method g b.0 w k.method k.at.in_program (given_back k.insn.op f.stack) many, b.4)
 
-  pub left_by_return : (f : Frame) (below : List Frame) (own rest : List ℕ) (top : Shows c Whole f own) → ShowBelow c f.method below rest → is_return top.stands.insn.op ≡ true → HasReturned top.stands.insn.op f.stack
-      → IsLeft c (top_by c is f below top.stands) is_return Whole (returned c.program (top_by c is f below top.stands)) (own ++ rest)
-  left_by_return f below own rest top b r h =
-      left Whole Whole is_return f below own rest top (returned c.program (top_by c is f below top.stands)) (first_true (is_return top.stands.insn.op) _ r) r (returned_show f below rest top.stands b r h)
-
   -- ---- behind the release of a lock
 
   top_got : {A : Type 0} (types : List A) (s : List ℕ) (t : A) → length s ≡ length types → slice_get types 0 ≡ Some t → HasTop s
@@ -183,7 +178,8 @@ returns_law c fs shown at is e s g =
     by_top c is Whole (λ fs shown (at : Top). effect_at c.program at ≡ Returns → IsLeft c at is_return Whole (returned c.program at) shown)
     (λ f below own rest top b g.
     let fits = subst (effects.Fits c.program top.stands.method top.stands.insn top.stands.target f.stack) g (fits_at c is f below top.stands) in
-    left_by_return c is f below own rest top b fits.0 fits.1) fs shown at e s g
+    left c is Whole Whole is_return f below own rest top (returned c.program (top_by c is f below top.stands)) (first_true (is_return top.stands.insn.op) _ fits.0) fits.0
+        (returned_show c is f below rest top.stands b fits.0 fits.1)) fs shown at e s g
 
 pub return_behind_law : ReturnsBehindRelease
 return_behind_law c fs shown at m is e s h l =

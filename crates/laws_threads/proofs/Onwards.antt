@@ -13,7 +13,7 @@ use Rattle.machine_types.specs.{ReadyObjects.{ready, class_of, thrown_of, out_ob
 use Rattle.machine_types.specs.Typed.{Classes, KindHolds, FrameHolds, WaitHolds, HoldBelow, FramesHold, ThrownHolds, FramesThrown, IsException, AfterHolds, IsObject}
 use Rattle.machine_types.specs.{Words.{class_object, header_class, header_length}, declared.{effect.Effect.{Effect, TheVariants.{Reads, Measures, Raises}}, phase.After.After}}
 use Rattle.machine_types.specs.declared.phase.After.TheVariants.{Next, Return, Unwind}
-use Rattle.laws_threads.{specs.Allowed.{IsNamedField, IsByMachine}, proofs.{Callers.row_of_call, Landing.{stand_top, rules_at}, Standings.top_here, TypedMoves.{given_holds, resumes, catches}}}
+use Rattle.laws_threads.{specs.Allowed.{IsNamedField, IsByMachine}, proofs.{Callers.row_of_call, Landing.{stand_top, rules_at}, Standings.top_here, ThreadMove.if_either, TypedMoves.{given_holds, resumes, catches}}}
 use Rattle.jvm_types.specs.declared.outcome.Thrown.TheVariants as thrown
 
 -- ---- what lies below a section
@@ -114,11 +114,8 @@ module _ (c : MarkedProgram) (marked : IsMarked c) (is : Classes) where
       keeps = keeps_top f (record f { pc = r.handler; stack = x ∷ [] }) fs;
       inside = λ all. all;
     }
-    hands count h throws None e = by_flag (is_synchronized h.stands.method.flags)
-      where
-        by_flag : (s : Bool) → Onwards c is (f ∷ fs) (if s then Leaving (monitor_of c.program h.stands.method f) (Unwind x class) (f ∷ fs) else unwound x class fs)
-        by_flag true = record { holds = (k, (thrown, b)); keeps = keeps_all (f ∷ fs); inside = λ all. all }
-        by_flag false = ends_above x class f fs k b
+    hands count h throws None e = if_either (Onwards c is (f ∷ fs)) (is_synchronized h.stands.method.flags) (Leaving (monitor_of c.program h.stands.method f) (Unwind x class) (f ∷ fs)) (unwound x class fs)
+        (record { holds = (k, (thrown, b)); keeps = keeps_all (f ∷ fs); inside = λ all. all }) (ends_above x class f fs k b)
 
     dispatches_at : (count : ℕ) (h : FrameHolds c is count f) → can_throw h.stands.insn.op ≡ true → IfOnwards c is (f ∷ fs) (dispatched c.program x class (f ∷ fs))
     dispatches_at count h throws =
@@ -156,11 +153,8 @@ module _ (c : MarkedProgram) (marked : IsMarked c) (is : Classes) where
         by_below (g ∷ gs) b = goes_back g gs r b.0 b.1
 
     pub goes_out : is_return h.stands.insn.op ≡ true → HoldBelow c is f.method fs → Onwards c is (f ∷ fs) (returns c.program (top_here c f fs h.stands))
-    goes_out r b = by_flag (is_synchronized h.stands.method.flags)
-      where
-        by_flag : (s : Bool) → Onwards c is (f ∷ fs) (if s then Leaving (monitor_of c.program h.stands.method f) Return (f ∷ fs) else back (returned c.program (top_here c f fs h.stands)))
-        by_flag true = record { holds = (h, b); keeps = keeps_all (f ∷ fs); inside = λ all. all }
-        by_flag false = goes_below r b
+    goes_out r b = if_either (Onwards c is (f ∷ fs)) (is_synchronized h.stands.method.flags) (Leaving (monitor_of c.program h.stands.method f) Return (f ∷ fs)) (back (returned c.program (top_here c f fs h.stands)))
+        (record { holds = (h, b); keeps = keeps_all (f ∷ fs); inside = λ all. all }) (goes_below r b)
 
   -- ---- when a monitor was left
 

@@ -1,4 +1,5 @@
 -- An attempt stands behind each instruction that may stand inside it.
+use Rattle.std.proofs.lemmas.Bool.{cond_both}
 use Rattle.std.proofs.Common.{◌≡◌, inl, inr, ⊎_elim, ℕ, ◌≤◌, Bool, true, false, List, [], ◌∷◌, length, Option, Some, None, refl, sym, ap, ◌∙◌, subst, arith, slice_get, option_map, if◌then◌else◌}
 use Rattle.lists.proofs.{ListLaws.same_some, TestLaws.first_true}
 use Rattle.jvm_types.specs.{CodeTable.falls_through, Members.is_synchronized, Numbers.has_number, ProgramInvariant.site_in, Verifying.{edges, is_return}, declared.code.{Insn.Insn, Op.Op}}
@@ -15,7 +16,7 @@ use Rattle.laws_threads.proofs.{AttemptMoves.{not_alone, next_edge, stands_inner
 use Rattle.laws_threads.proofs.{CallOps.is_receiver, EffectOps.{Does, GoesElsewhere, goes_behind, OnlyLeaves, exit_leaves}, FrameReturns.leaves_none}
 use Rattle.laws_threads.proofs.FramesInside.{one_more, put_back_over, alone_inside}
 use Rattle.laws_threads.proofs.{Inside.{InAttempt, base_below, runs_inside, stands_on, stays, stack_this, top_shows, top_does, takes_owned, locking, calls_on, leaves_on, not_finished}, Leaves.lands}
-use Rattle.laws_threads.proofs.{SectionFrames.{Runs, IsExitOf, moved, invoked, reads, row_stands}, Standings.{top_here, top_at_standing, stands_too, one_insn}}
+use Rattle.laws_threads.proofs.{SectionFrames.{Runs, IsExitOf, moved, invoked, reads, row_stands}, Standings.{top_here, top_at_standing, stands_too, one_insn}, ThreadMove.if_either}
 use Rattle.jvm_types.specs.declared.code.Op.TheVariants as ops
 use Rattle.machine_types.specs.declared.phase.After.TheVariants as afters
 use Rattle.machine_types.specs.declared.phase.Phase.TheVariants as phases
@@ -121,27 +122,25 @@ module _ (c : MarkedProgram) (marked : IsMarked c) (thread : InAttempt c phases.
         let frames : frames_inside a (g ∷ caller ∷ below) ≡ g ∷ caller ∷ frames_inside a below = one_more a g (caller ∷ below) over ∙ ap (λ fs. g ∷ fs) (one_more a caller below low) in
         stands_inner c phases.Run other (f ∷ below) (g ∷ caller ∷ below) held a a.inner k inside (omega (arith, low)) (put_back_over a g (caller ∷ below) over ∙ put_back_top a f caller below low) (subst (RunsSection c a) (sym frames) runs)
 
-    entering : (b : Bool) → is_synchronized callee.flags ≡ b → OnwardStands c (if b then Entering (monitor_of c.program callee g) (g ∷ caller ∷ below) else Running (g ∷ caller ∷ below)) → GoesOnInside c (if b then Entering (monitor_of c.program callee g) (g ∷ caller ∷ below) else Running (g ∷ caller ∷ below)) held a
-    entering true q l = calls (phases.Enter (monitor_of c.program callee g) 0) l (calls_on c marked phases.Run f below held a k r this number d callee there q)
-    entering false q l = calls phases.Run l tt
-
-    invokes : (b : Bool) → OnwardStands c (if b then entered c.program callee g (waiting c.program top) else threw StackOverflowError top) → GoesOnInside c (if b then entered c.program callee g (waiting c.program top) else threw StackOverflowError top) held a
-    invokes true l = entering (is_synchronized callee.flags) refl l
-    invokes false l = throws (ready StackOverflowError) StackOverflowError
+    invokes : OnwardStands c (called c.program top number callee) → GoesOnInside c (called c.program top number callee) held a
+    invokes = if_either (λ o. OnwardStands c o → GoesOnInside c o held a) (has_room c.program (frames_of top) callee) (entered c.program callee g (waiting c.program top)) (threw StackOverflowError top)
+        (cond_both (is_synchronized callee.flags) (Entering (monitor_of c.program callee g) (g ∷ caller ∷ below)) (Running (g ∷ caller ∷ below)) (λ o. OnwardStands c o → GoesOnInside c o held a)
+        (λ q l. calls (phases.Enter (monitor_of c.program callee g) 0) l (calls_on c marked phases.Run f below held a k r this number d callee there q)) (λ q l. calls phases.Run l tt))
+        (λ l. throws (ready StackOverflowError) StackOverflowError)
 
   called_by : (number : ℕ) (o : Option MethodInfo) → slice_get c.program.methods number ≡ o → DoesIt (Calls number) → (result : Onward) → option_map (called c.program top number) o ≡ Some result → OnwardStands c result → GoesOnInside c result held a
   called_by number None there d result e l = absurd (cc)
-  called_by number (Some callee) there d result e l = lands c held a (called c.program top number callee) result (invokes number callee there d (has_room c.program (frames_of top) callee)) e l
+  called_by number (Some callee) there d result e l = lands c held a (called c.program top number callee) result (invokes number callee there d) e l
 
   -- ---- returns
 
   none_held : is_return r.stands.insn.op ≡ true → r.stands.tags.held ≡ []
   none_held q = leaves_none c marked f r.stands (first_true (is_return r.stands.insn.op) _ q)
 
-  returns_by : (b : Bool) → is_synchronized r.stands.method.flags ≡ b → DoesIt Returns → OnwardStands c (if b then Leaving (monitor_of c.program r.stands.method f) afters.Return (f ∷ below) else back (returned c.program top))
-      → GoesOnInside c (if b then Leaving (monitor_of c.program r.stands.method f) afters.Return (f ∷ below) else back (returned c.program top)) held a
-  returns_by true q d l = stays c phases.Run (phases.Leave (monitor_of c.program r.stands.method f) afters.Return) f below held a k (locking c marked phases.Run f below held a k (frames_inside a below) r (none_held d) q) (not_finished a (frames_inside a (f ∷ below)))
-  returns_by false q d l = returned_on c marked phases.Run f held a below a.inner (given_back r.stands.insn.op f.stack) k r (not_alone c marked phases.Run f held a below k r (none_held d) q) l
+  returns_by : DoesIt Returns → OnwardStands c (returns c.program top) → GoesOnInside c (returns c.program top) held a
+  returns_by d = cond_both (is_synchronized r.stands.method.flags) (Leaving (monitor_of c.program r.stands.method f) afters.Return (f ∷ below)) (back (returned c.program top)) (λ o. OnwardStands c o → GoesOnInside c o held a)
+      (λ q l. stays c phases.Run (phases.Leave (monitor_of c.program r.stands.method f) afters.Return) f below held a k (locking c marked phases.Run f below held a k (frames_inside a below) r (none_held d) q) (not_finished a (frames_inside a (f ∷ below))))
+      (λ q l. returned_on c marked phases.Run f held a below a.inner (given_back r.stands.insn.op f.stack) k r (not_alone c marked phases.Run f held a below k r (none_held d) q) l)
 
   -- ---- all effects
 
@@ -152,7 +151,7 @@ module _ (c : MarkedProgram) (marked : IsMarked c) (thread : InAttempt c phases.
   onwards (Measures array) is d edge got result e l = lands c held a (Running (went_on c.program top (header_length got))) result (goes_on (Measures array) (header_length got) is (λ x. x) (λ x. x)) e l
   onwards (Raises x) is d edge got result e l = raises (thrown_of (header_class got)) x result e
   onwards (Calls number) is d edge got result e l = called_by number (slice_get c.program.methods number) refl d result e l
-  onwards Returns is d edge got result e l = lands c held a (returns c.program top) result (returns_by (is_synchronized r.stands.method.flags) refl d) e l
+  onwards Returns is d edge got result e l = lands c held a (returns c.program top) result (returns_by d) e l
   onwards (Enters n) is d edge got result e l = lands c held a (Entering n (went_on c.program top 0)) result (enters n is d) e l
   onwards (Leaves n) is d edge got result e l = lands c held a (Leaving n afters.Next (went_on c.program top 0)) result (leaves n is d) e l
   onwards w is d edge got result e l = absurd (first_of (assumption, cc))

@@ -1,4 +1,5 @@
 -- An attempt stands as an exception goes to a handler, or leaves the top frame.
+use Rattle.std.proofs.lemmas.Bool.{cond_both}
 use Rattle.std.proofs.Common.{◌≡◌, ℕ, zero, suc, slice_get, Bool, true, false, List, [], ◌∷◌, Option, Some, None, refl, sym, ap, ◌∙◌, subst, arith, ◌==◌, if◌then◌else◌}
 use Rattle.std.{specs.List.list_any, proofs.lemmas.Bool.Decides.nat_tests}
 use Rattle.lists.proofs.{ListLaws.same_some, TestLaws.{first_true, second_true}}
@@ -63,14 +64,11 @@ module _ (c : MarkedProgram) (marked : IsMarked c) (x : ℕ) (class : Thrown) (t
       leaves_none c marked f r.stands (may_leave_by (is_return insn.op) (can_throw insn.op) (list_any catches_all (covering m insn.pc)) throws (none_catches insn.pc (class_of class) m.rows at))
 
   by_none : handler_of f.pc (class_of class) r.stands.method.rows ≡ None → GoesOnInside c (handed c.program x class top None) held a
-  by_none e = by_flag (is_synchronized r.stands.method.flags) refl
-    where
-      none : r.stands.tags.held ≡ []
-      none = none_held e
-
-      by_flag : (b : Bool) → is_synchronized r.stands.method.flags ≡ b → GoesOnInside c (if b then Leaving (monitor_of c.program r.stands.method f) (afters.Unwind x class) (f ∷ below) else unwound x class below) held a
-      by_flag true q = stays c (phases.Throw x class) (phases.Leave (monitor_of c.program r.stands.method f) (afters.Unwind x class)) f below held a k (locking c marked (phases.Throw x class) f below held a k (frames_inside a below) r none q) never_finished
-      by_flag false q = unwound_on c marked (phases.Throw x class) f held a below a.inner x class k r (not_alone c marked (phases.Throw x class) f held a below k r none q)
+  by_none e =
+      let none = none_held e in
+      cond_both (is_synchronized r.stands.method.flags) (Leaving (monitor_of c.program r.stands.method f) (afters.Unwind x class) (f ∷ below)) (unwound x class below) (λ o. GoesOnInside c o held a)
+      (λ q. stays c (phases.Throw x class) (phases.Leave (monitor_of c.program r.stands.method f) (afters.Unwind x class)) f below held a k (locking c marked (phases.Throw x class) f below held a k (frames_inside a below) r none q) never_finished)
+      (λ q. unwound_on c marked (phases.Throw x class) f held a below a.inner x class k r (not_alone c marked (phases.Throw x class) f held a below k r none q))
 
   by_handler : (o : Option Row) → handler_of f.pc (class_of class) r.stands.method.rows ≡ o → OnwardStands c (handed c.program x class top o) → GoesOnInside c (handed c.program x class top o) held a
   by_handler (Some row) e l = by_row row e l

@@ -1,4 +1,5 @@
 -- The effect of the instruction at which typed frames stand is allowed, and what it names is there.
+use Rattle.std.proofs.lemmas.Bool.{cond_both}
 use Rattle.std.proofs.Common.{◌≡◌, ℕ, ◌+◌, ◌<◌, ◌≤◌, ◌^◌, ◌⊎◌, inl, inr, Bool, true, false, List, [], ◌∷◌, ◌++◌, length, Some, refl, ap, sym, subst, ◌∙◌, arith, ◌==◌, slice_get, slice_index, take, reverse, if◌then◌else◌}
 use Rattle.std.proofs.lemmas.{Bool.Decides.nat_tests, Option.get_or_from_slice_get}
 use Rattle.lists.proofs.{ListLaws.same_some, TestLaws.{first_true, second_true}}
@@ -74,17 +75,11 @@ module _ (c : MarkedProgram) (marked : IsMarked c) where
   of_heap class v o = (o.0, o.2)
 
   variable_small : (target : Target) (v : Variable) (f : FieldInfo) → IsNamedField c.program (within c.program) target v f → variable_word v < 2 ^ 32
-  variable_small target v f at = subst (λ (w : Variable). variable_word w < 2 ^ 32) (sym at.variable) (by_flag (is_static f.flags) refl)
-    where
-      is : IsProgram c.program
-      is = marked.checked.program
-
-      by_flag : (b : Bool) → is_static f.flags ≡ b → variable_word (if b then Static f.index else Instance at.reference f.index) < 2 ^ 32
-      by_flag true e = let inside = statics_inside c.program at.number f is at.there e in omega (arith, inside.1, is.words, is.heap_to)
-      by_flag false e =
-          let inside = instances_inside c.program at.number f is at.there e in
-          let holder = at.holder e in
-          omega (arith, inside, few_fields c.program f.class is, holder.2, is.heap_to)
+  variable_small target v f at =
+      let is = marked.checked.program in
+      subst (λ (w : Variable). variable_word w < 2 ^ 32) (sym at.variable) (cond_both (is_static f.flags) _ _ (λ (w : Variable). variable_word w < 2 ^ 32)
+      (λ e. let inside = statics_inside c.program at.number f is at.there e in omega (arith, inside.1, is.words, is.heap_to))
+      (λ e. let inside = instances_inside c.program at.number f is at.there e in let holder = at.holder e in omega (arith, inside, few_fields c.program f.class is, holder.2, is.heap_to)))
 
   pub made_size : (m : MethodInfo) (type : VType) (word size : ℕ) → MadeAs c.program m type word size → (2 ≤ size) × (size < 2 ^ 32)
   made_size m (New pc) word size h = (omega (arith, h.4), omega (arith, h.4, few_fields c.program h.0 marked.checked.program))
@@ -153,21 +148,13 @@ module _ (c : MarkedProgram) (marked : IsMarked c) where
           arguments = omega (arith, count, fits.takes);
           locals = called_fit_all (checked_part c) number called marked.checked e;
           receiver = λ s. call_inside called number e r call taken s (has s);
-          entry = by_flag (is_static called.flags) refl (λ s. call_inside called number e r call taken s (has s)) has count;
+          entry = cond_both (is_static called.flags) _ _ (λ n. n < c.program.heap) (λ s. omega (arith, marked.checked.program.heap_from)) (λ s.
+              let v = has s in
+              let one : receiver_count called ≡ 1 = ap (λ b. if b then 0 else 1) s in
+              let first = receiver_first (length called.args) (length r.takes) f.stack v.0 v.1 (omega (arith, count, one)) in
+              let index = get_or_from_slice_get f.stack (length called.args) v.0 0 v.1 in
+              subst (λ (n : ℕ). n < c.program.heap) (index ∙ sym first) (call_inside called number e r call taken s v).1);
         }
-      where
-        r : OpRow
-        r = row_of c.program h.stands.method h.stands.insn h.stands.target
-
-        by_flag : (b : Bool) → is_static called.flags ≡ b → (is_static called.flags ≡ false → IsReference c.program (slice_index f.stack (length called.args))) → (is_static called.flags ≡ false → HasReceiver called f.stack)
-            → length r.takes ≡ receiver_count called + length called.args → (if b then 0 else first_or_null (reverse (take (length r.takes) f.stack))) < c.program.heap
-        by_flag true s inside has count = omega (arith, marked.checked.program.heap_from)
-        by_flag false s inside has count =
-            let v = has s in
-            let one : receiver_count called ≡ 1 = ap (λ b. if b then 0 else 1) s in
-            let first = receiver_first (length called.args) (length r.takes) f.stack v.0 v.1 (omega (arith, count, one)) in
-            let index = get_or_from_slice_get f.stack (length called.args) v.0 0 v.1 in
-            subst (λ (n : ℕ). n < c.program.heap) (index ∙ sym first) (inside s).1
 
     allowed_as : (e : Effect) → effect_at c.program (top_here c f fs h.stands) ≡ e
         → Allowed c.program h.stands.method (within c.program) h.stands.insn h.stands.target (row_of c.program h.stands.method h.stands.insn h.stands.target) f.stack e → IsAllowed c.program (top_here c f fs h.stands) e
@@ -180,11 +167,7 @@ module _ (c : MarkedProgram) (marked : IsMarked c) where
     allowed_as (Prints n) e a = (goes_to c marked f fs h.stands h.stands.insn.next a.0, a.1)
     allowed_as (Calls number) e a = call_fits number a.0 a.1 a.2 e
     allowed_as Returns e a = a
-    allowed_as (Leaves m) e a = (goes_to c marked f fs h.stands h.stands.insn.next a.0, left a.1)
-      where
-        left : IsNullOr (within c.program) OBJECT_CLASS m → m < c.program.heap
-        left (inl z) = omega (arith, z, marked.checked.program.heap_from)
-        left (inr o) = o.1
+    allowed_as (Leaves m) e a = (goes_to c marked f fs h.stands h.stands.insn.next a.0, elim a.1 as (λ (_ : IsNullOr (within c.program) OBJECT_CLASS m). m < c.program.heap) [ inl z ↦ omega (arith, z, marked.checked.program.heap_from) | inr o ↦ o.1 ])
     allowed_as Stuck e a = absurd a
     allowed_as w e a = (goes_to c marked f fs h.stands h.stands.insn.next a.0, of_heap _ _ a.1)
 
